@@ -1,0 +1,62 @@
+-- What the text of an address reads as.
+use Rattle.std.proofs.Common.{◌≡◌, ℕ, zero, suc, ◌+◌, ◌*◌, ◌/◌, ◌%◌, ◌<◌, List, [], ◌∷◌, length, Some, refl, ap, ◌∙◌, arith}
+use Rattle.std.specs.Prelude.{slice_index}
+use Rattle.std.specs.List.{AllByRecursion}
+use Rattle.std.proofs.lemmas.Grind.{common_steps}
+use Rattle.apd_base.specs.declared.address.Addr.{Addr}
+use Rattle.apd_base.specs.Addr.{IsAddr, IsText, text_of, hex_digit, digit_value_of, byte_value, byte_from}
+
+-- a digit is read as it was written
+value-digit : (d : ℕ) → d < 16 → digit_value_of (hex_digit d) ≡ Some d
+value-digit d h = grind (arith, common_steps)
+
+whole : (b : ℕ) → b / 16 * 16 + b % 16 ≡ b
+whole b = omega arith
+
+-- and so is a byte
+pub value-byte : (b : ℕ) → b < 256 → byte_value (hex_digit (b / 16)) (hex_digit (b % 16)) ≡ Some b
+value-byte b h =
+    let high : b / 16 < 16 = omega arith in
+    let low : b % 16 < 16 = omega arith in
+    (λ i. byte_from (value-digit (b / 16) high i) (value-digit (b % 16) low i)) ∙ ap Some (whole b)
+
+-- what holds of each place holds of every place below six
+below_six : (P : ℕ → Type 0) → P 0 → P 1 → P 2 → P 3 → P 4 → P 5 → (i : ℕ) → i < 6 → P i
+below_six P a b c d e f zero lt = a
+below_six P a b c d e f (suc zero) lt = b
+below_six P a b c d e f (suc (suc zero)) lt = c
+below_six P a b c d e f (suc (suc (suc zero))) lt = d
+below_six P a b c d e f (suc (suc (suc (suc zero)))) lt = e
+below_six P a b c d e f (suc (suc (suc (suc (suc zero))))) lt = f
+below_six P a b c d e f (suc (suc (suc (suc (suc (suc n)))))) lt = absurd (omega arith)
+
+below_five : (P : ℕ → Type 0) → P 0 → P 1 → P 2 → P 3 → P 4 → (i : ℕ) → i < 5 → P i
+below_five P a b c d e zero lt = a
+below_five P a b c d e (suc zero) lt = b
+below_five P a b c d e (suc (suc zero)) lt = c
+below_five P a b c d e (suc (suc (suc zero))) lt = d
+below_five P a b c d e (suc (suc (suc (suc zero)))) lt = e
+below_five P a b c d e (suc (suc (suc (suc (suc n))))) lt = absurd (omega arith)
+
+-- the text of six bytes reads as them
+six : (bytes : List ℕ) → length bytes ≡ 6 → AllByRecursion (λ b. b < 256) bytes → IsText (text_of (record { 0 = bytes })) bytes
+six [] n h = absurd (omega arith)
+six (a ∷ []) n h = absurd (omega arith)
+six (a ∷ b ∷ []) n h = absurd (omega arith)
+six (a ∷ b ∷ c ∷ []) n h = absurd (omega arith)
+six (a ∷ b ∷ c ∷ d ∷ []) n h = absurd (omega arith)
+six (a ∷ b ∷ c ∷ d ∷ e ∷ []) n h = absurd (omega arith)
+six (a ∷ b ∷ c ∷ d ∷ e ∷ f ∷ []) n (ha, (hb, (hc, (hd, (he, (hf, _)))))) =
+    let bytes = a ∷ b ∷ c ∷ d ∷ e ∷ f ∷ [] in
+    let text = text_of (record { 0 = bytes }) in
+    record {
+      long = refl;
+      six = refl;
+      pairs = below_six (λ i. byte_value (slice_index text (3 * i)) (slice_index text (3 * i + 1)) ≡ Some (slice_index bytes i))
+          (value-byte a ha) (value-byte b hb) (value-byte c hc) (value-byte d hd) (value-byte e he) (value-byte f hf);
+      colons = below_five (λ i. slice_index text (3 * i + 2) ≡ 58) refl refl refl refl refl;
+    }
+six (a ∷ b ∷ c ∷ d ∷ e ∷ f ∷ g ∷ more) n h = absurd (omega arith)
+
+pub text_reads : (a : Addr) → IsAddr a → IsText (text_of a) a.0
+text_reads a h = six a.0 h.0 h.1

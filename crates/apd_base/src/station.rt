@@ -1,0 +1,98 @@
+//! What a table holds of a station and of a BSSID.
+ghost use Rattle.std.specs.Prelude.{◌≡◌, ◌≤◌, ◌↔◌, ℕ, IsTrue, IsSome, IfSome};
+ghost use Rattle.apd_base.specs.Mode.{mode_number};
+
+/// The state of a station in the table of a BSSID (IEEE Std 802.11-2016, 11.3.1: a station in no row
+/// is in state 1, the others are in states 2 and 4).
+#[derive(Clone, Copy, Debug, PartialEq, Eq)]
+pub enum Station {
+    Authenticated,
+    Associated(Association),
+}
+
+/// The fields of an association: its identifier, and the Capability Information and Listen Interval
+/// that the station asked with (IEEE Std 802.11-2016, 9.4.1.4 and 9.4.1.6).
+#[derive(Clone, Copy, Debug, PartialEq, Eq)]
+pub struct Association {
+    pub aid: Aid,
+    pub capability: u16,
+    pub listen: u16,
+}
+
+/// An association identifier, from 1 to 2007 (IEEE Std 802.11-2016, 9.4.1.8).
+#[derive(Clone, Copy, Debug, PartialEq, Eq)]
+pub struct Aid {
+    pub number: u16,
+    pub ghost low: { 1 ≤ number },
+    pub ghost high: { number ≤ 2007 },
+}
+
+impl Aid {
+    /// The identifier of a number, exactly where it is from 1 to 2007.
+    pub fn new(number: u16) -> Option<Aid>
+        ensures some { IsSome result ↔ ((1 ≤ number) × (number ≤ 2007)) }
+        ensures number { IfSome result (λ aid. aid.number ≡ number) }
+    {
+        if 1 <= number && number <= 2007 {
+            Some(Aid { number })
+        } else {
+            None
+        }
+    }
+}
+
+/// One of a BSSID's two lists of addresses.
+#[derive(Clone, Copy, Debug, PartialEq, Eq, PartialOrd, Ord)]
+pub enum Which {
+    Accept,
+    Deny,
+}
+
+/// What becomes of a station that is on neither list of its BSSID: the values of `macaddr_acl`.
+#[derive(Clone, Copy, Debug, PartialEq, Eq)]
+pub enum AclMode {
+    /// 0: it is allowed. Only stations on the deny list, and not on the accept list, are denied.
+    AcceptUnlessDenied,
+    /// 1: it is denied. Only stations on the accept list are allowed.
+    DenyUnlessAccepted,
+}
+
+impl AclMode {
+    /// Its number, as files and records have it.
+    pub fn number(self) -> u8
+        ensures { result ≡ mode_number self }
+    {
+        match self {
+            AclMode::AcceptUnlessDenied => 0,
+            AclMode::DenyUnlessAccepted => 1,
+        }
+    }
+}
+
+/// The greatest number of stations that may authenticate at a BSSID, at most 2007.
+#[derive(Clone, Copy, Debug, PartialEq, Eq)]
+pub struct StationLimit {
+    pub count: u16,
+    pub ghost in_range: { count ≤ 2007 },
+}
+
+impl StationLimit {
+    /// The limit of a number, exactly where it is at most 2007.
+    pub fn new(count: u16) -> Option<StationLimit>
+        ensures some { IsSome result ↔ (count ≤ 2007) }
+        ensures count { IfSome result (λ limit. limit.count ≡ count) }
+    {
+        if count <= 2007 {
+            Some(StationLimit { count })
+        } else {
+            None
+        }
+    }
+}
+
+/// A BSSID's policy.
+#[derive(Clone, Copy, Debug, PartialEq, Eq)]
+pub struct Policy {
+    pub mode: AclMode,
+    pub max: StationLimit,
+}
