@@ -18,12 +18,13 @@ use Rattle.apd_base.specs.declared.station.AclMode.TheVariants.{AcceptUnlessDeni
 use Rattle.apd_base.specs.declared.station.StationLimit.{StationLimit}
 use Rattle.apd_base.specs.declared.station.Policy.{Policy}
 use Rattle.apd_base.specs.Addr.{bssid_cmp, station_cmp, coded_addr, coded_bssid}
+use Rattle.apd_base.specs.declared.limits.TheConstants.{MAX_STATIONS}
 use Rattle.apd_base.specs.Mode.{mode_number}
 use Rattle.apd_base.specs.State.{State, which_number, list_cmp}
 
 abbrev pub coded_aid : Coded Aid
 coded_aid =
-    code_by ((n : ℕ) × ((1 ≤ n) × (n ≤ 2007))) (coded_sub coded_ℕ (λ n. (1 ≤ n) × (n ≤ 2007)) (λ n. ×_prop le_prop le_prop))
+    code_by ((n : ℕ) × ((1 ≤ n) × (n ≤ MAX_STATIONS))) (coded_sub coded_ℕ (λ n. (1 ≤ n) × (n ≤ MAX_STATIONS)) (λ n. ×_prop le_prop le_prop))
     (λ aid. (aid.number, (aid.low, aid.high))) (λ p. record { number = p.0; low = p.1.0; high = p.1.1 }) (λ _. refl)
 
 abbrev pub coded_association : Coded Association
@@ -59,7 +60,7 @@ coded_mode = code_by ℕ coded_ℕ mode_number mode_from mode_from-mode_number
 
 abbrev pub coded_limit : Coded StationLimit
 coded_limit =
-    code_by ((n : ℕ) × (n ≤ 2007)) (coded_sub coded_ℕ (λ n. n ≤ 2007) (λ n. le_prop))
+    code_by ((n : ℕ) × (n ≤ MAX_STATIONS)) (coded_sub coded_ℕ (λ n. n ≤ MAX_STATIONS) (λ n. le_prop))
     (λ limit. (limit.count, limit.in_range)) (λ p. record { count = p.0; in_range = p.1 }) (λ _. refl)
 
 abbrev pub coded_policy : Coded Policy

@@ -14,3 +14,6 @@ pub use address::{Addr, Bssid};
 pub use moment::Moment;
 pub use sequence::Sequence;
 pub use station::{AclMode, Aid, Association, Policy, Station, StationLimit, Which};
+
+#[cfg(test)]
+mod tests;

@@ -1,5 +1,5 @@
 //! Lists inside values that contracts compare.
-ghost use Rattle.std.specs.Prelude.{◌≡◌, [], ◌∷◌, ◌++◌, ◌==◌, OnOk, OnErr, length};
+ghost use Rattle.std.specs.Prelude.{◌≡◌, [], ◌∷◌, ◌++◌, ◌==◌, OnOk, OnErr, length, take};
 
 use std::alloc::{AllocError, Global};
 use std::marker::Model;
@@ -70,5 +70,23 @@ impl<T> Sequence<T> {
     {
         self.items.push(item)?;
         Ok(())
+    }
+
+    /// Moves the items of another list to the end, or leaves both as they were.
+    pub fn append(&mut self, other: &mut Sequence<T>) -> Result<(), AllocError>
+        ensures ok { OnOk result (self.new ≡ self.old ++ other.old) }
+        ensures emptied { OnOk result (other.new ≡ []) }
+        ensures err { OnErr result ((self.new ≡ self.old) × (other.new ≡ other.old)) }
+    {
+        self.items.append(&mut other.items)
+    }
+
+    /// Keeps the first items alone, as many as this. It takes no memory.
+    pub fn truncate(&mut self, len: usize)
+    where
+        T: Drop,
+        ensures { self.new ≡ take len self.old }
+    {
+        self.items.truncate(len);
     }
 }

@@ -1,6 +1,9 @@
 //! What a table holds of a station and of a BSSID.
 ghost use Rattle.std.specs.Prelude.{◌≡◌, ◌≤◌, ◌↔◌, ℕ, IsTrue, IsSome, IfSome};
 ghost use Rattle.apd_base.specs.Mode.{mode_number};
+ghost use Rattle.apd_base.specs.declared.limits.TheConstants.{MAX_STATIONS};
+
+use crate::limits::MAX_STATIONS;
 
 /// The state of a station in the table of a BSSID (IEEE Std 802.11-2016, 11.3.1: a station in no row
 /// is in state 1, the others are in states 2 and 4).
@@ -24,16 +27,16 @@ pub struct Association {
 pub struct Aid {
     pub number: u16,
     pub ghost low: { 1 ≤ number },
-    pub ghost high: { number ≤ 2007 },
+    pub ghost high: { number ≤ MAX_STATIONS },
 }
 
 impl Aid {
     /// The identifier of a number, exactly where it is from 1 to 2007.
     pub fn new(number: u16) -> Option<Aid>
-        ensures some { IsSome result ↔ ((1 ≤ number) × (number ≤ 2007)) }
+        ensures some { IsSome result ↔ ((1 ≤ number) × (number ≤ MAX_STATIONS)) }
         ensures number { IfSome result (λ aid. aid.number ≡ number) }
     {
-        if 1 <= number && number <= 2007 {
+        if 1 <= number && number as usize <= MAX_STATIONS {
             Some(Aid { number })
         } else {
             None
@@ -73,16 +76,16 @@ impl AclMode {
 #[derive(Clone, Copy, Debug, PartialEq, Eq)]
 pub struct StationLimit {
     pub count: u16,
-    pub ghost in_range: { count ≤ 2007 },
+    pub ghost in_range: { count ≤ MAX_STATIONS },
 }
 
 impl StationLimit {
     /// The limit of a number, exactly where it is at most 2007.
     pub fn new(count: u16) -> Option<StationLimit>
-        ensures some { IsSome result ↔ (count ≤ 2007) }
+        ensures some { IsSome result ↔ (count ≤ MAX_STATIONS) }
         ensures count { IfSome result (λ limit. limit.count ≡ count) }
     {
-        if count <= 2007 {
+        if count as usize <= MAX_STATIONS {
             Some(StationLimit { count })
         } else {
             None

@@ -1,0 +1,248 @@
+-- Steps, and lists of them, answer as a fold over the accepted requests.
+use Rattle.std.proofs.Common.{◌≡◌, ℕ, ◌+◌, ◌-◌, ◌^◌, ◌<◌, ◌≤◌, Bool, true, false, cond, not, ◌&&◌, ◌||◌, eqb, leb, List, [], ◌∷◌, ◌++◌, length, take, get_or, Option, Some, None, Result, Ok, Err, ◌⊎◌, inl, inr, refl, sym, ap, subst, ◌∙◌, IsSome, append_assoc, arith, add-one}
+use Rattle.std.specs.Prelude.{map as list_map, filter}
+use Rattle.std.specs.Option.{is_some, is_none}
+use Rattle.std.specs.Ordering.{eq_by_cmp}
+use Rattle.std.specs.FinMap as map
+use Rattle.std.proofs.lemmas.List.{append-nil}
+use Rattle.std.proofs.lemmas.Bool.{leb-false}
+use Rattle.std.proofs.Math.Seq.{take-suc}
+use Rattle.apd_base.specs.declared.address.Bssid.{Bssid}
+use Rattle.apd_base.specs.declared.limits.TheConstants.{MAX_BSS}
+use Rattle.apd_base.specs.Addr.{bssid_cmp}
+use Rattle.apd_base.specs.State.{State, policy_at}
+use Rattle.apd_base.proofs.AddrLaws.{bssid_total, bssid_exact}
+use Rattle.apd_base.proofs.MapLaws.{one_or_apart, tied}
+use Rattle.apd_conf.specs.declared.conf.Conf.{Conf}
+use Rattle.apd_conf.specs.Confs.{conf_at}
+use Rattle.apd_frame.specs.declared.reasons.Ignored.{Ignored}
+use Rattle.apd_mlme.specs.declared.event.Event.{Event}
+use Rattle.apd_mlme.specs.declared.event.Event.TheVariants.{Heard, Configure}
+use Rattle.apd_mlme.specs.declared.decision.Recipient.{Recipient}
+use Rattle.apd_mlme.specs.declared.decision.Recipient.TheVariants.{Radio}
+use Rattle.apd_mlme.specs.declared.decision.Out.{Out}
+use Rattle.apd_mlme.specs.Outs.{is_same, outs_to}
+use Rattle.apd_mlme.specs.Rules.{verdict, IsFit, bssid_of}
+use Rattle.apd_mlme.specs.Run.{run, outs_run, AreFit}
+use Rattle.apd_mlme.specs.Verdict.{is_nothing}
+use Rattle.apd_mlme.proofs.OutsLaws.{outs_to-append}
+use Rattle.apd.specs.declared.plain.Input.{Input}
+use Rattle.apd.specs.declared.plain.Accepted.{Accepted}
+use Rattle.apd.specs.declared.plain.Accepted.TheVariants.{Stopped, Quiet, Entry}
+use Rattle.apd.specs.declared.plain.QuietReason.{QuietReason}
+use Rattle.apd.specs.declared.plain.QuietReason.TheVariants as quiet
+use Rattle.apd.specs.declared.plain.Step.{Step}
+use Rattle.apd.specs.declared.plain.Step.TheVariants.{Accept, Settle, Hand}
+use Rattle.apd.specs.declared.plain.Told.{Told}
+use Rattle.apd.specs.declared.plain.Told.TheVariants.{Accepted as AcceptedAs, Settled, Handed, NoMemory}
+use Rattle.apd.specs.declared.plain.World.{World}
+use Rattle.apd.specs.World.{event_of, unfit, lacks_policy, is_one_too_many, decided, judged, accepted, entered_if, after_request, with_entry, held, settled, handed}
+use Rattle.apd.specs.Steps.{IsStep, events_of, if_event, given}
+use Rattle.apd.specs.Run.{AreSteps, IsAnswered, Answers, all_events, all_given}
+use Rattle.apd.proofs.Handing.{others}
+
+-- events in two parts
+run-append : (confs : List Conf) (es fs : List Event) (s : State) → run s confs (es ++ fs) ≡ run (run s confs es) confs fs
+run-append confs [] fs s = refl
+run-append confs (e ∷ es) fs s = run-append confs es fs (verdict s confs e).state
+
+outs_run-append : (r : Recipient) (confs : List Conf) (es fs : List Event) (s : State) → outs_run r s confs (es ++ fs) ≡ outs_run r s confs es ++ outs_run r (run s confs es) confs fs
+outs_run-append r confs [] fs s = refl
+outs_run-append r confs (e ∷ es) fs s =
+    ap (λ os. outs_to r (verdict s confs e).outs ++ os) (outs_run-append r confs es fs (verdict s confs e).state)
+    ∙ sym (append_assoc (outs_to r (verdict s confs e).outs) (outs_run r (verdict s confs e).state confs es) _)
+
+fit-append : (confs : List Conf) (es fs : List Event) (s : State) → AreFit s confs es → AreFit (run s confs es) confs fs → AreFit s confs (es ++ fs)
+fit-append confs [] fs s a b = b
+fit-append confs (e ∷ es) fs s a b = (a.0, fit-append confs es fs (verdict s confs e).state a.1 b)
+
+-- nothing happens
+same_answered : (w : World) → IsAnswered [] (λ _. []) w w
+same_answered w = record { fit = tt; front = refl; confs = refl; outs = λ r. sym (append-nil (held r w)) }
+
+-- one after the other
+then_answered : (es fs : List Event) (g h : Recipient → List Out) (a b c : World) → IsAnswered es g a b → IsAnswered fs h b c → IsAnswered (es ++ fs) (λ r. g r ++ h r) a c
+then_answered es fs g h a b c past step =
+    let confs = past.confs in
+    let at : (fs : List Event) → run b.front b.confs fs ≡ run (run a.front a.confs es) a.confs fs = λ fs. λ i. run (past.front i) (confs i) fs in
+    record {
+      fit = fit-append a.confs es fs a.front past.fit (subst (λ cs. AreFit (run a.front a.confs es) cs fs) confs (subst (λ s. AreFit s b.confs fs) past.front step.fit));
+      front = step.front ∙ at fs ∙ sym (run-append a.confs es fs a.front);
+      confs = step.confs ∙ confs;
+      outs = λ r.
+          append_assoc (g r) (h r) (held r c)
+          ∙ ap (λ os. g r ++ os) (step.outs r)
+          ∙ sym (append_assoc (g r) (held r b) (outs_run r b.front b.confs fs))
+          ∙ ap (λ os. os ++ outs_run r b.front b.confs fs) (past.outs r)
+          ∙ append_assoc (held r a) (outs_run r a.front a.confs es) (outs_run r b.front b.confs fs)
+          ∙ (λ i. held r a ++ (outs_run r a.front a.confs es ++ outs_run r (past.front i) (confs i) fs))
+          ∙ ap (λ os. held r a ++ os) (sym (outs_run-append r a.confs es fs a.front));
+    }
+
+-- where no reason is against it, an event is fit
+some_not_none : {A : Type 0} (o : Option A) → is_none o ≡ false → IsSome o
+some_not_none None e = cc
+some_not_none (Some x) e = refl
+
+no_reason : (a b c : Bool) (x y z : QuietReason) → cond a (Some x) (cond b (Some y) (cond c (Some z) None)) ≡ None → (a ≡ false) × (b ≡ false) × (c ≡ false)
+no_reason true b c x y z e = cc
+no_reason false true c x y z e = cc
+no_reason false false true x y z e = cc
+no_reason false false false x y z e = (refl, refl, refl)
+
+room : {A : Type 0} (o : Option A) (n : ℕ) → (is_none o && leb MAX_BSS n) ≡ false → IsSome o ⊎ (n < MAX_BSS)
+room None n e = inr (leb-false MAX_BSS n e)
+room (Some x) n e = inl refl
+
+fit_of : (s : State) (confs : List Conf) (e : Event) → unfit s confs e ≡ None → IsFit s confs e
+fit_of s confs (Heard b frame) h =
+    let parts = no_reason (is_none (conf_at confs b)) (is_none (policy_at s b)) false quiet.NoInterface quiet.NoPolicy quiet.TooManyBss h in
+    (some_not_none (conf_at confs b) parts.0, some_not_none (policy_at s b) parts.1)
+fit_of s confs (Configure b) h =
+    let parts = no_reason (is_none (conf_at confs b)) false (is_none (policy_at s b) && leb MAX_BSS (map.len s.policies)) quiet.NoInterface quiet.NoPolicy quiet.TooManyBss h in
+    (some_not_none (conf_at confs b) parts.0, room (policy_at s b) (map.len s.policies) parts.2)
+
+-- an entry is held for its recipients
+entry_answered : (w : World) (e : Event) → IsFit w.front w.confs e → IsAnswered (e ∷ []) (λ _. []) w (with_entry w e)
+entry_answered w e fit = record {
+  fit = (fit, tt);
+  front = refl;
+  confs = refl;
+  outs = λ r.
+      ap (outs_to r) (sym (append_assoc w.released w.waiting (verdict w.front w.confs e).outs))
+      ∙ outs_to-append r (w.released ++ w.waiting) (verdict w.front w.confs e).outs
+      ∙ ap (λ os. held r w ++ os) (sym (append-nil (outs_to r (verdict w.front w.confs e).outs)));
+}
+
+-- only a fit event gives an entry
+entry_fit : (w : World) (e : Event) (t : Bool) (k : ℕ) → cond t Stopped (decided w e (unfit w.front w.confs e)) ≡ Entry k → unfit w.front w.confs e ≡ None
+entry_fit w e true k h = cc
+entry_fit w e false k h = elim (unfit w.front w.confs e) as (λ o. decided w e o ≡ Entry k → o ≡ None) [ None ↦ λ _. refl | Some reason ↦ λ quiet_entry. cc ] h
+
+never : (w : World) (reason : Ignored) (t : Bool) (k : ℕ) → cond t Stopped (judged w (Err reason)) ≡ Entry k → ⊥
+never w reason true k h = cc
+never w reason false k h = cc
+
+-- the world after a request by its answer
+entered : (w : World) (i : Input) (x : Result Event Ignored) (answer : Accepted) → event_of i ≡ x → accepted w i ≡ answer → (new : World) → new ≡ entered_if w x answer → IsAnswered (events_of (Accept i) (AcceptedAs answer)) (λ _. []) w new
+entered w i (Ok e) (Entry k) event answer new is =
+    let fit : unfit w.front w.confs e ≡ None = entry_fit w e (eqb w.last (2 ^ 64 - 1)) k (ap (λ x. cond (eqb w.last (2 ^ 64 - 1)) Stopped (judged w x)) (sym event) ∙ answer) in
+    subst (λ x. IsAnswered (if_event x) (λ _. []) w new) (sym event)
+        (subst (λ n. IsAnswered (e ∷ []) (λ _. []) w n) (sym is) (entry_answered w e (fit_of w.front w.confs e fit)))
+entered w i (Err reason) (Entry k) event answer new is =
+    absurd (never w reason (eqb w.last (2 ^ 64 - 1)) k (ap (λ x. cond (eqb w.last (2 ^ 64 - 1)) Stopped (judged w x)) (sym event) ∙ answer))
+entered w i (Ok e) Stopped event answer new is = subst (λ n. IsAnswered [] (λ _. []) w n) (sym is) (same_answered w)
+entered w i (Err reason) Stopped event answer new is = subst (λ n. IsAnswered [] (λ _. []) w n) (sym is) (same_answered w)
+entered w i (Ok e) (Quiet why) event answer new is = subst (λ n. IsAnswered [] (λ _. []) w n) (sym is) (same_answered w)
+entered w i (Err reason) (Quiet why) event answer new is = subst (λ n. IsAnswered [] (λ _. []) w n) (sym is) (same_answered w)
+
+request_answered : (w : World) (i : Input) (answer : Accepted) (new : World) → answer ≡ accepted w i → new ≡ after_request w i → IsAnswered (events_of (Accept i) (AcceptedAs answer)) (λ _. []) w new
+request_answered w i answer new told is = entered w i (event_of i) answer refl (sym told) new (is ∙ ap (entered_if w (event_of i)) (sym told))
+
+settle_answered : (w new : World) → new ≡ settled w → IsAnswered [] (λ _. []) w new
+settle_answered w new is = subst (λ n. IsAnswered [] (λ _. []) w n) (sym is) (record {
+  fit = tt;
+  front = refl;
+  confs = refl;
+  outs = λ r. ap (outs_to r) (append-nil (w.released ++ w.waiting)) ∙ sym (append-nil (held r w));
+})
+
+-- what is handed to a recipient and what is kept
+same_recipient : (r q : Recipient) → (r ≡ q) ⊎ (is_same r q ≡ false)
+same_recipient (Radio b) (Radio c) = elim (one_or_apart bssid_total bssid_exact b c) [ inl same ↦ inl (ap Radio same) | inr apart ↦ inr apart ]
+
+itself : (r : Recipient) → is_same r r ≡ true
+itself (Radio b) = tied bssid_total bssid_exact b
+
+differ : {A : Type 0} (t : Bool) → t ≡ false → t ≡ true → A
+differ t f h = cc
+
+none_to : (r : Recipient) (xs : List (Recipient × Out)) → outs_to r (others r xs) ≡ []
+none_to r [] = refl
+none_to r (x ∷ xs) =
+    elim (is_same r x.0) as (λ t. is_same r x.0 ≡ t → outs_to r (cond (not t) (x ∷ others r xs) (others r xs)) ≡ []) [
+      | true ↦ λ _. none_to r xs
+      | false ↦ λ e. ap (λ t. list_map (λ (z : Recipient × Out). z.1) (cond t (x ∷ filter (λ z. is_same r z.0) (others r xs)) (filter (λ z. is_same r z.0) (others r xs)))) e ∙ none_to r xs
+    ] refl
+
+-- an out to one recipient is to no other
+not_both : (r q p : Recipient) → is_same r q ≡ false → is_same r p ≡ true → is_same q p ≡ false
+not_both r q p apart e =
+    elim (same_recipient q p) [
+      | inl same ↦ absurd (differ (is_same r p) (ap (is_same r) (sym same) ∙ apart) e)
+      | inr ne ↦ ne
+    ]
+
+all_to : (r q : Recipient) (xs : List (Recipient × Out)) → is_same r q ≡ false → outs_to r (others q xs) ≡ outs_to r xs
+all_to r q [] apart = refl
+all_to r q (x ∷ xs) apart =
+    elim (is_same r x.0) as (λ t. is_same r x.0 ≡ t → outs_to r (others q (x ∷ xs)) ≡ list_map (λ (z : Recipient × Out). z.1) (cond t (x ∷ filter (λ z. is_same r z.0) xs) (filter (λ z. is_same r z.0) xs))) [
+      | true ↦ λ e.
+          ap (λ t. outs_to r (cond (not t) (x ∷ others q xs) (others q xs))) (not_both r q x.0 apart e)
+          ∙ ap (λ t. list_map (λ (z : Recipient × Out). z.1) (cond t (x ∷ filter (λ z. is_same r z.0) (others q xs)) (filter (λ z. is_same r z.0) (others q xs)))) e
+          ∙ ap (λ os. x.1 ∷ os) (all_to r q xs apart)
+      | false ↦ λ e.
+          elim (is_same q x.0) as (λ u. outs_to r (cond (not u) (x ∷ others q xs) (others q xs)) ≡ outs_to r xs) [
+            | true ↦ all_to r q xs apart
+            | false ↦ ap (λ t. list_map (λ (z : Recipient × Out). z.1) (cond t (x ∷ filter (λ z. is_same r z.0) (others q xs)) (filter (λ z. is_same r z.0) (others q xs)))) e ∙ all_to r q xs apart
+          ]
+    ] refl
+
+hand_outs : (q r : Recipient) (w : World) → cond (is_same r q) (outs_to q w.released) [] ++ held r (handed q w) ≡ held r w ++ []
+hand_outs q r w =
+    ap (λ os. cond (is_same r q) (outs_to q w.released) [] ++ os) (outs_to-append r (others q w.released) w.waiting)
+    ∙ elim (same_recipient r q) [
+      | inl same ↦ subst (λ (z : Recipient). cond (is_same r z) (outs_to z w.released) [] ++ (outs_to r (others z w.released) ++ outs_to r w.waiting) ≡ outs_to r w.released ++ outs_to r w.waiting) same
+          (ap (λ t. cond t (outs_to r w.released) [] ++ (outs_to r (others r w.released) ++ outs_to r w.waiting)) (itself r)
+          ∙ ap (λ os. outs_to r w.released ++ (os ++ outs_to r w.waiting)) (none_to r w.released))
+      | inr apart ↦ ap (λ t. cond t (outs_to q w.released) [] ++ (outs_to r (others q w.released) ++ outs_to r w.waiting)) apart
+          ∙ ap (λ os. os ++ outs_to r w.waiting) (all_to r q w.released apart)
+    ]
+    ∙ sym (outs_to-append r w.released w.waiting)
+    ∙ sym (append-nil (held r w))
+
+hand_answered : (q : Recipient) (outs : List Out) (w new : World) → outs ≡ outs_to q w.released → new ≡ handed q w → IsAnswered [] (λ r. given r (Hand q) (Handed outs)) w new
+hand_answered q outs w new told is =
+    subst (λ n. IsAnswered [] (λ r. given r (Hand q) (Handed outs)) w n) (sym is) (subst (λ os. IsAnswered [] (λ r. given r (Hand q) (Handed os)) w (handed q w)) (sym told) (record {
+      fit = tt;
+      front = refl;
+      confs = refl;
+      outs = λ r. hand_outs q r w;
+    }))
+
+lack_answered : (w new : World) → new ≡ w → IsAnswered [] (λ _. []) w new
+lack_answered w new is = subst (λ n. IsAnswered [] (λ _. []) w n) (sym is) (same_answered w)
+
+step_answered : (x : Step) (t : Told) (a b : World) → IsStep x t a b → IsAnswered (events_of x t) (λ r. given r x t) a b
+step_answered (Accept i) (AcceptedAs answer) a b h = request_answered a i answer b h.0 h.1
+step_answered (Accept i) NoMemory a b h = lack_answered a b h
+step_answered Settle Settled a b h = settle_answered a b h
+step_answered Settle NoMemory a b h = lack_answered a b h
+step_answered (Hand q) (Handed outs) a b h = hand_answered q outs a b h.0 h.1
+step_answered (Hand q) NoMemory a b h = lack_answered a b h
+step_answered (Accept i) Settled a b h = absurd h
+step_answered (Accept i) (Handed outs) a b h = absurd h
+step_answered Settle (AcceptedAs answer) a b h = absurd h
+step_answered Settle (Handed outs) a b h = absurd h
+step_answered (Hand q) (AcceptedAs answer) a b h = absurd h
+step_answered (Hand q) Settled a b h = absurd h
+
+pub steps_answered : (steps : List Step) (tolds : List Told) (a c : World) → AreSteps steps tolds a c → Answers steps tolds a c
+steps_answered [] [] a c h = lack_answered a c h
+steps_answered (x ∷ xs) (t ∷ ts) a c h = then_answered (events_of x t) (all_events xs ts) (λ r. given r x t) (λ r. all_given r xs ts) a h.0 c (step_answered x t a h.0 h.1) (steps_answered xs ts h.0 c h.2)
+steps_answered [] (t ∷ ts) a c h = absurd h
+steps_answered (x ∷ xs) [] a c h = absurd h
+
+-- a step more
+pub steps_push : (steps : List Step) (tolds : List Told) (x : Step) (t : Told) (a b c : World) → AreSteps steps tolds a b → IsStep x t b c → AreSteps (steps ++ x ∷ []) (tolds ++ t ∷ []) a c
+steps_push [] [] x t a b c past step = (c, subst (λ w. IsStep x t w c) past step, refl)
+steps_push (y ∷ ys) (u ∷ us) x t a b c past step = (past.0, past.1, steps_push ys us x t past.0 b c past.2 step)
+steps_push [] (u ∷ us) x t a b c past step = absurd past
+steps_push (y ∷ ys) [] x t a b c past step = absurd past
+
+pub steps_more : (steps : List Step) (i : ℕ) (ts us : List Told) (d : Step) (t : Told) (a b c : World)
+    → AreSteps (take i steps) ts a b → i < length steps → IsStep (get_or steps i d) t b c → us ≡ ts ++ t ∷ [] → AreSteps (take (i + 1) steps) us a c
+steps_more steps i ts us d t a b c past lt step now =
+    let x = get_or steps i d in
+    let more : take (i + 1) steps ≡ take i steps ++ x ∷ [] = ap (λ n. take n steps) (add-one i) ∙ take-suc steps i d lt in
+    subst (λ vs. AreSteps (take (i + 1) steps) vs a c) (sym now) (subst (λ xs. AreSteps xs (ts ++ t ∷ []) a c) (sym more) (steps_push (take i steps) ts x t a b c past step))

@@ -1,0 +1,4 @@
+pub mod Run
+pub mod Start
+pub mod Steps
+pub mod World

@@ -1,0 +1,365 @@
+//! The daemon in one value, in memory: requests are accepted, settled and answered one step at a
+//! time.
+ghost use Rattle.std.specs.Prelude.{◌≡◌, ◌+◌, ◌-◌, ◌^◌, ◌<◌, ◌++◌, IfOk, OnOk, OnErr, IfNone};
+ghost use Rattle.apd_table.specs.Change.{meaning, meaning_of};
+ghost use Rattle.apd_table.specs.Sound.{Sound, StaySound};
+ghost use Rattle.apd_mlme.specs.Outs.{outs_to};
+ghost use Rattle.apd_mlme.specs.Rules.{IsFit};
+ghost use Rattle.apd.specs.Run.{AreSteps, Answers};
+ghost use Rattle.apd.specs.Start.{configure_steps, hand_steps, flush_steps, start_steps};
+ghost use Rattle.apd.specs.World.{event_of, unfit};
+
+use apd_base::limits::MAX_BSS;
+use apd_base::{Bssid, Sequence};
+use apd_conf::Confs;
+use apd_frame::{Ignored, decode};
+use apd_mlme::{Decision, Event, Out, Recipient, decide};
+use apd_table::{Change, Table, TableFault};
+use std::alloc::{AllocError, Global};
+use std::{fmt, mem};
+
+/// A request to the daemon.
+#[derive(Clone, Copy, Debug)]
+pub enum Input<'a> {
+    /// The radio of the BSSID received these bytes, without their frame check sequence.
+    Received(Bssid, &'a [u8]),
+    /// The BSSID is to start with its configuration.
+    Configure(Bssid),
+}
+
+/// Why a request is no entry and changes nothing.
+#[derive(Clone, Copy, Debug, PartialEq, Eq)]
+pub enum QuietReason {
+    /// The bytes are no frame for this BSSID.
+    Ignored(Ignored),
+    /// The BSSID is not configured.
+    NoInterface,
+    /// The BSSID has no policy row: it was not started.
+    NoPolicy,
+    /// The BSSID would be the ninth.
+    TooManyBss,
+    /// Nothing would change, and nothing leave.
+    Nothing,
+}
+
+/// The answer to a request: the first of these that holds.
+#[derive(Clone, Copy, Debug, PartialEq, Eq)]
+pub enum Accepted {
+    /// All numbers of entries were given.
+    Stopped,
+    Quiet(QuietReason),
+    /// The request is the entry of this number. They count from 1.
+    Entry(u64),
+}
+
+/// One step of the daemon.
+#[derive(Clone, Copy, Debug)]
+pub enum Step<'a> {
+    /// Accepts a request.
+    Accept(Input<'a>),
+    /// Settles all entries: from now on what leaves because of them may be handed out.
+    Settle,
+    /// Hands out what was settled for the recipient.
+    Hand(Recipient),
+}
+
+/// What a step told.
+#[derive(Debug, Drop)]
+pub enum Told {
+    Accepted(Accepted),
+    Settled,
+    Handed(Sequence<Out>),
+    /// Memory ran out, and the step changed nothing.
+    NoMemory,
+}
+
+/// The daemon: its configurations, the table after all entries, the number of the last of them, and
+/// what is to be handed out: of settled entries, and of those that wait to be settled.
+#[derive(Drop)]
+pub struct World {
+    confs: Confs,
+    front: Table,
+    last: u64,
+    released: Sequence<(Recipient, Out)>,
+    waiting: Sequence<(Recipient, Out)>,
+}
+
+/// The event of a request, or why its frame is ignored.
+fn event_of(input: Input<'_>) -> Result<Event, Ignored>
+    ensures { result ≡ event_of input.entry }
+{
+    match input {
+        Input::Received(bssid, bytes) => match decode(bytes, bssid) {
+            Ok(frame) => Ok(Event::Heard(bssid, frame)),
+            Err(reason) => Err(reason),
+        },
+        Input::Configure(bssid) => Ok(Event::Configure(bssid)),
+    }
+}
+
+/// Why there is no verdict on an event.
+fn unfit(table: &Table, confs: &Confs, event: Event) -> Option<QuietReason>
+    ensures reason { result ≡ unfit table.now confs.now event }
+    ensures fit { IfNone result (IsFit table.now confs.now event) }
+{
+    let bssid = event.bssid();
+    if confs.with_bssid(bssid).is_none() {
+        return Some(QuietReason::NoInterface);
+    }
+    if table.policy(bssid).is_some() {
+        return None;
+    }
+    match event {
+        Event::Heard(..) => Some(QuietReason::NoPolicy),
+        Event::Configure(_) if table.bss_count() >= MAX_BSS => Some(QuietReason::TooManyBss),
+        Event::Configure(_) => None,
+    }
+}
+
+/// Makes a change that leaves a sound table, or lacks memory and leaves the table as it was.
+fn change(table: &mut Table, change: &Change) -> Result<(), AllocError>
+    requires { Sound (meaning change.now table.old) }
+    ensures ok { OnOk result (table.new ≡ meaning change.now table.old) }
+    ensures err { OnErr result (table.new ≡ table.old) }
+{
+    match table.apply(change) {
+        Ok(()) => Ok(()),
+        Err(TableFault::NoMemory) => Err(AllocError),
+        Err(TableFault::Invalid) => unreachable!(),
+    }
+}
+
+/// Makes changes one after another, or lacks memory and leaves the table as it was. One change is
+/// made in place; more are made on a copy, so that none of them stands alone.
+fn change_all(alloc: Global, table: &mut Table, changes: &[Change]) -> Result<(), AllocError>
+    requires { StaySound changes.now table.old }
+    ensures ok { OnOk result (table.new ≡ meaning_of changes.now table.old) }
+    ensures err { OnErr result (table.new ≡ table.old) }
+{
+    if let [only] = changes {
+        return change(table, only);
+    }
+    let mut next = table.copy(alloc)?;
+    for each in changes {
+        change(&mut next, each)?;
+    }
+    *table = next;
+    Ok(())
+}
+
+impl World {
+    ghost use Rattle.apd.specs.World.{begun, accepted, after_request, with_entry, settled, handed};
+
+    /// A daemon of these configurations, with no entry and an empty table. It takes no memory.
+    pub fn new(alloc: Global, confs: Confs) -> World
+        ensures { result ≡ begun confs }
+    {
+        World {
+            confs,
+            front: Table::new(alloc),
+            last: 0,
+            released: Sequence::new(alloc),
+            waiting: Sequence::new(alloc),
+        }
+    }
+
+    /// The configurations.
+    pub fn confs(&self) -> &Confs
+        ensures { result.now ≡ self.now.confs }
+    {
+        &self.confs
+    }
+
+    /// Accepts a request: the first answer that holds. Only an entry changes anything.
+    pub fn accept(&mut self, alloc: Global, input: Input<'_>) -> Result<Accepted, AllocError>
+        ensures answer { IfOk result (λ answer. answer ≡ accepted self.old input.entry) }
+        ensures ok { OnOk result (self.new ≡ after_request self.old input.entry) }
+        ensures err { OnErr result (self.new ≡ self.old) }
+    {
+        if self.last == u64::MAX {
+            return Ok(Accepted::Stopped);
+        }
+        let event = match event_of(input) {
+            Ok(event) => event,
+            Err(reason) => return Ok(Accepted::Quiet(QuietReason::Ignored(reason))),
+        };
+        match unfit(&self.front, &self.confs, event) {
+            Some(reason) => return Ok(Accepted::Quiet(reason)),
+            None => {}
+        }
+        let decision = decide(alloc, &self.front, &self.confs, event)?;
+        if decision.is_nothing() {
+            return Ok(Accepted::Quiet(QuietReason::Nothing));
+        }
+        self.enter(alloc, decision)?;
+        Ok(Accepted::Entry(self.last))
+    }
+
+    /// Makes an entry of a decision.
+    fn enter(&mut self, alloc: Global, decision: Decision) -> Result<(), AllocError>
+        requires sound { StaySound decision.changes self.old.front }
+        requires number { self.old.last < 2 ^ 64 - 1 }
+        ensures ok { OnOk result (self.new ≡ record self.old { front = meaning_of decision.changes self.old.front; last = self.old.last + 1; waiting = self.old.waiting ++ decision.outs }) }
+        ensures err { OnErr result (self.new ≡ self.old) }
+    {
+        let Decision { changes, mut outs } = decision;
+        let kept = self.waiting.len();
+        self.waiting.append(&mut outs)?;
+        if let Err(lack) = change_all(alloc, &mut self.front, changes.as_slice()) {
+            self.waiting.truncate(kept);
+            return Err(lack);
+        }
+        self.last += 1;
+        Ok(())
+    }
+
+    /// Settles all entries.
+    pub fn settle(&mut self) -> Result<(), AllocError>
+        ensures ok { OnOk result (self.new ≡ settled self.old) }
+        ensures err { OnErr result (self.new ≡ self.old) }
+    {
+        self.released.append(&mut self.waiting)
+    }
+
+    /// Hands out what was settled for a recipient and not handed out yet, in order.
+    pub fn hand(&mut self, alloc: Global, to: Recipient) -> Result<Sequence<Out>, AllocError>
+        ensures outs { IfOk result (λ outs. outs ≡ outs_to to self.old.released) }
+        ensures ok { OnOk result (self.new ≡ handed to self.old) }
+        ensures err { OnErr result (self.new ≡ self.old) }
+    {
+        let mut outs = Vec::with_capacity(alloc, self.released.len())?;
+        let mut others = Vec::with_capacity(alloc, self.released.len())?;
+        let released = mem::replace(&mut self.released, Sequence::new(alloc));
+        for (recipient, out) in released.into_vec() {
+            if to.is_same(recipient) {
+                outs.push_reserved(out);
+            } else {
+                others.push_reserved((recipient, out));
+            }
+        }
+        self.released = Sequence::from_vec(others);
+        Ok(Sequence::from_vec(outs))
+    }
+}
+
+impl World {
+    ghost use Rattle.apd.specs.Steps.{IsStep};
+
+    /// One step.
+    pub fn step(&mut self, alloc: Global, step: &Step<'_>) -> Told
+        ensures { IsStep step.now result self.old self.new }
+    {
+        match *step {
+            Step::Accept(input) => match self.accept(alloc, input) {
+                Ok(answer) => Told::Accepted(answer),
+                Err(_) => Told::NoMemory,
+            },
+            Step::Settle => match self.settle() {
+                Ok(()) => Told::Settled,
+                Err(_) => Told::NoMemory,
+            },
+            Step::Hand(to) => match self.hand(alloc, to) {
+                Ok(outs) => Told::Handed(outs),
+                Err(_) => Told::NoMemory,
+            },
+        }
+    }
+}
+
+/// Makes steps in order, and answers what each told: one answer a step. Its own want of memory comes
+/// before the first step.
+///
+/// What recipients are handed is determined by the accepted requests: see `Answers` in
+/// `specs/Run.antt`.
+pub fn drive(
+    alloc: Global,
+    world: &mut World,
+    steps: &[Step<'_>],
+) -> Result<Vec<Told>, AllocError>
+    ensures steps { IfOk result (λ tolds. AreSteps steps.now tolds.items world.old world.new) }
+    ensures answers { IfOk result (λ tolds. Answers steps.now tolds.items world.old world.new) }
+    ensures err { OnErr result (world.new ≡ world.old) }
+{
+    let mut tolds = Vec::with_capacity(alloc, steps.len())?;
+    for step in steps {
+        tolds.push_reserved(world.step(alloc, step));
+    }
+    Ok(tolds)
+}
+
+/// The steps that hand out to each radio, in the order of the configurations.
+pub fn hand_steps(alloc: Global, confs: &Confs) -> Result<Vec<Step<'static>>, AllocError>
+    ensures { IfOk result (λ steps. steps.items ≡ hand_steps confs.now) }
+{
+    confs
+        .list()
+        .iter()
+        .map(|conf| Step::Hand(Recipient::Radio(conf.bssid)))
+        .collect(alloc)
+}
+
+/// The steps that settle all entries and then hand out to each radio.
+pub fn flush_steps(alloc: Global, confs: &Confs) -> Result<Vec<Step<'static>>, AllocError>
+    ensures { IfOk result (λ steps. steps.items ≡ flush_steps confs.now) }
+{
+    let mut steps = Vec::new(alloc);
+    steps.push(Step::Settle)?;
+    steps.append(&mut hand_steps(alloc, confs)?)?;
+    Ok(steps)
+}
+
+/// The steps that configure each interface, in their order.
+fn configure_steps(alloc: Global, confs: &Confs) -> Result<Vec<Step<'static>>, AllocError>
+    ensures { IfOk result (λ steps. steps.items ≡ configure_steps confs.now) }
+{
+    confs
+        .list()
+        .iter()
+        .map(|conf| Step::Accept(Input::Configure(conf.bssid)))
+        .collect(alloc)
+}
+
+/// The steps that start each interface with its configuration, in their order, and then flush.
+pub fn start_steps(alloc: Global, confs: &Confs) -> Result<Vec<Step<'static>>, AllocError>
+    ensures { IfOk result (λ steps. steps.items ≡ start_steps confs.now) }
+{
+    let mut steps = configure_steps(alloc, confs)?;
+    steps.append(&mut flush_steps(alloc, confs)?)?;
+    Ok(steps)
+}
+
+impl World {
+    ghost use Rattle.apd.specs.Run.{AreSteps};
+    ghost use Rattle.apd.specs.Start.{start_steps};
+
+    /// Makes the steps of `start_steps`, and answers what each told.
+    pub fn start(&mut self, alloc: Global) -> Result<Vec<Told>, AllocError>
+        ensures steps { IfOk result (λ tolds. AreSteps (start_steps self.old.confs) tolds.items self.old self.new) }
+        ensures err { OnErr result (self.new ≡ self.old) }
+    {
+        let steps = start_steps(alloc, &self.confs)?;
+        drive(alloc, self, steps.as_slice())
+    }
+}
+
+impl fmt::Display for QuietReason {
+    fn fmt<W: fmt::Write>(&self, f: &mut fmt::Formatter<W>) -> fmt::Result {
+        match self {
+            QuietReason::Ignored(reason) => write!(f, "{reason}"),
+            QuietReason::NoInterface => f.write_str("nointerface"),
+            QuietReason::NoPolicy => f.write_str("nopolicy"),
+            QuietReason::TooManyBss => f.write_str("toomanybss"),
+            QuietReason::Nothing => f.write_str("nothing"),
+        }
+    }
+}
+
+impl fmt::Display for Accepted {
+    fn fmt<W: fmt::Write>(&self, f: &mut fmt::Formatter<W>) -> fmt::Result {
+        match self {
+            Accepted::Stopped => f.write_str("stopped"),
+            Accepted::Quiet(reason) => write!(f, "quiet {reason}"),
+            Accepted::Entry(number) => write!(f, "entry {number}"),
+        }
+    }
+}

@@ -1,0 +1,226 @@
+//! Scripts: requests as text, one a line, and what they are answered.
+//!
+//! | Line | What it does, and prints |
+//! |---|---|
+//! | `rx <interface> <hex>` | the radio of the interface received this frame; prints `entry <n>`, `quiet <word>` or `stopped` |
+//! | `hand` | hands out to each radio what was settled for it: `<interface> install <addr> <aid>`, `<interface> remove <addr>`, `<interface> tx <hex>` |
+//! | `flush` | settles all entries, and then does as `hand` |
+//!
+//! Lines end at a newline, and the last needs none. Blanks among the digits are skipped, and an empty
+//! line is. Any other line, and an interface that is not configured, ends the script.
+
+use crate::plain::{Input, Step, Told, World, drive, flush_steps, hand_steps};
+use apd_base::limits::MAX_SCRIPT;
+use apd_conf::InterfaceName;
+use apd_mlme::{Out, Recipient};
+use std::alloc::{AllocError, Global};
+use std::io::{self, BufRead, ErrorKind, Read, Write};
+use thiserror::Error;
+
+/// What ends a script before its last line. What stands before it was done and printed.
+#[derive(Clone, Copy, Debug, PartialEq, Eq, Error)]
+pub enum ScriptFault {
+    /// The line of this number, counted from 1, is no line of a script, or names an interface that
+    /// is not configured.
+    #[error("bad line {0}")]
+    BadLine(u64),
+    /// The script can't be read, or has more than 16,777,216 bytes.
+    #[error("reader fault")]
+    Reader,
+    #[error("writer fault")]
+    Writer,
+    #[error("out of memory")]
+    NoMemory,
+}
+
+impl From<AllocError> for ScriptFault {
+    fn from(_: AllocError) -> ScriptFault {
+        ScriptFault::NoMemory
+    }
+}
+
+fn reader_fault(error: io::Error) -> ScriptFault {
+    match error.kind() {
+        ErrorKind::OutOfMemory => ScriptFault::NoMemory,
+        _ => ScriptFault::Reader,
+    }
+}
+
+fn writer_fault(error: io::Error) -> ScriptFault {
+    match error.kind() {
+        ErrorKind::OutOfMemory => ScriptFault::NoMemory,
+        _ => ScriptFault::Writer,
+    }
+}
+
+/// A line of a script.
+enum Line<'a> {
+    Empty,
+    Received { interface: &'a [u8], digits: &'a [u8] },
+    Hand,
+    Flush,
+}
+
+/// Reads a line, without the newline at its end.
+fn parse_line(text: &[u8]) -> Option<Line<'_>> {
+    match text {
+        b"" => Some(Line::Empty),
+        b"hand" => Some(Line::Hand),
+        b"flush" => Some(Line::Flush),
+        [b'r', b'x', b' ', rest @ ..] => {
+            let end = rest
+                .iter()
+                .position(|byte| *byte == b' ')
+                .unwrap_or(rest.len());
+            let (interface, digits) = rest.split_at(end);
+            Some(Line::Received { interface, digits })
+        }
+        _ => None,
+    }
+}
+
+/// The bytes of hexadecimal digits, among which blanks are skipped; none where the digits are odd in
+/// number or something else stands among them.
+fn parse_frame(alloc: Global, text: &[u8]) -> Result<Option<Vec<u8>>, AllocError> {
+    let digits: Vec<u8> = text
+        .iter()
+        .copied()
+        .filter(|byte| *byte != b' ')
+        .collect(alloc)?;
+    match hex::decode(alloc, digits.as_slice()) {
+        Ok(frame) => Ok(Some(frame)),
+        Err(hex::FromHexError::OutOfMemory) => Err(AllocError),
+        Err(_) => Ok(None),
+    }
+}
+
+fn write_out<W: Write>(
+    alloc: Global,
+    writer: &mut W,
+    interface: &InterfaceName,
+    out: &Out,
+) -> Result<(), ScriptFault> {
+    let line = match out {
+        Out::Install(addr, aid) => {
+            let number = aid.number;
+            format!(in alloc; "{interface} install {addr} {number}\n")?
+        }
+        Out::Remove(addr) => format!(in alloc; "{interface} remove {addr}\n")?,
+        Out::Frame(frame) => {
+            let digits = hex::encode(alloc, frame.as_slice())?;
+            format!(in alloc; "{interface} tx {digits}\n")?
+        }
+    };
+    writer.write_all(line.as_bytes()).map_err(writer_fault)
+}
+
+/// A script that is run on a world, and what it prints.
+#[derive(Drop)]
+struct Run<W: Write + Drop> {
+    alloc: Global,
+    world: World,
+    writer: W,
+}
+
+impl<W: Write + Drop> Run<W> {
+    /// Prints what a step told.
+    fn print(&mut self, step: &Step<'_>, told: &Told) -> Result<(), ScriptFault> {
+        match (step, told) {
+            (_, Told::NoMemory) => Err(ScriptFault::NoMemory),
+            (_, Told::Accepted(answer)) => {
+                let line = format!(in self.alloc; "{answer}\n")?;
+                self.writer.write_all(line.as_bytes()).map_err(writer_fault)
+            }
+            (Step::Hand(Recipient::Radio(bssid)), Told::Handed(outs)) => {
+                if let Some(conf) = self.world.confs().with_bssid(*bssid) {
+                    for out in outs.as_slice() {
+                        write_out(self.alloc, &mut self.writer, &conf.interface, out)?;
+                    }
+                }
+                Ok(())
+            }
+            _ => Ok(()),
+        }
+    }
+
+    /// Makes steps, and prints what they told.
+    fn make(&mut self, steps: &[Step<'_>]) -> Result<(), ScriptFault> {
+        let tolds = drive(self.alloc, &mut self.world, steps)?;
+        for (step, told) in steps.iter().zip(tolds.as_slice()) {
+            self.print(step, told)?;
+        }
+        Ok(())
+    }
+
+    /// Starts the world, and prints what it handed out and not what it accepted.
+    fn start(&mut self) -> Result<(), ScriptFault> {
+        let steps = crate::plain::start_steps(self.alloc, self.world.confs())?;
+        let tolds = self.world.start(self.alloc)?;
+        for (step, told) in steps.iter().zip(tolds.as_slice()) {
+            if !matches!(told, Told::Accepted(_)) {
+                self.print(step, told)?;
+            }
+        }
+        Ok(())
+    }
+
+    /// Runs the line of a number.
+    fn line(&mut self, number: u64, text: &[u8]) -> Result<(), ScriptFault> {
+        match parse_line(text) {
+            None => Err(ScriptFault::BadLine(number)),
+            Some(Line::Empty) => Ok(()),
+            Some(Line::Hand) => {
+                let steps = hand_steps(self.alloc, self.world.confs())?;
+                self.make(steps.as_slice())
+            }
+            Some(Line::Flush) => {
+                let steps = flush_steps(self.alloc, self.world.confs())?;
+                self.make(steps.as_slice())
+            }
+            Some(Line::Received { interface, digits }) => {
+                let Some(conf) = self.world.confs().with_interface(interface) else {
+                    return Err(ScriptFault::BadLine(number));
+                };
+                let bssid = conf.bssid;
+                let Some(frame) = parse_frame(self.alloc, digits)? else {
+                    return Err(ScriptFault::BadLine(number));
+                };
+                self.make(&[Step::Accept(Input::Received(bssid, frame.as_slice()))])
+            }
+        }
+    }
+}
+
+/// Starts a world, runs a script on it, line by line as it comes, and hands the world back. It reads
+/// at most 16,777,217 bytes, and a script that has so many is refused as `Reader`.
+pub fn run_script<R: BufRead + Drop, W: Write + Drop>(
+    alloc: Global,
+    world: World,
+    reader: R,
+    writer: W,
+) -> Result<World, ScriptFault> {
+    let mut run = Run {
+        alloc,
+        world,
+        writer,
+    };
+    run.start()?;
+    let mut reader = reader.take(MAX_SCRIPT as u64 + 1);
+    let mut text = Vec::new(alloc);
+    let mut length = 0usize;
+    for number in 1..u64::MAX {
+        text.clear();
+        let read = reader
+            .read_until(b'\n', &mut text)
+            .map_err(reader_fault)?;
+        length = length.saturating_add(read);
+        if length > MAX_SCRIPT {
+            return Err(ScriptFault::Reader);
+        }
+        if read == 0 {
+            break;
+        }
+        run.line(number, text.strip_suffix(b"\n").unwrap_or(text.as_slice()))?;
+    }
+    Ok(run.world)
+}

@@ -1,0 +1,158 @@
+use crate::plain::World;
+use crate::script::{ScriptFault, run_script};
+use apd_base::limits::MAX_SCRIPT;
+use apd_conf::{Conf, Confs};
+use std::alloc::Global;
+use std::io::{self, BufReader, Read, Write};
+use std::test::Fail;
+
+/// The daemon with the built-in configuration: wlan0 at 02:00:00:00:00:01.
+fn world(alloc: Global) -> Result<World, Fail> {
+    let mut list = Vec::new(alloc);
+    list.push(Conf::built_in(alloc)?)?;
+    Ok(World::new(alloc, Confs::new(list)?))
+}
+
+/// Runs a script, and gives how it ended and what it printed.
+fn printed(alloc: Global, script: &[u8]) -> Result<(Option<ScriptFault>, Vec<u8>), Fail> {
+    let mut out = Vec::new(alloc);
+    let fault = run_script(alloc, world(alloc)?, script, &mut out).err();
+    Ok((fault, out))
+}
+
+#[test]
+fn an_authentication_is_answered_once_it_is_flushed(rt: HostRuntime) -> Result<(), Fail> {
+    for (script, want) in [
+        // Open System, the first frame, in either case and with blanks among the digits.
+        (
+            b"rx wlan0 b000 0000 020000000001 0200000000AA 020000000001 1000 0000 0100 00 0 0\nflush".as_slice(),
+            b"entry 2\nwlan0 tx b00000000200000000aa0200000000010200000000010000000002000000\n".as_slice(),
+        ),
+        // Nothing is handed out before.
+        (
+            b"rx wlan0 b00000000200000000010200000000aa0200000000011000000001000000\nhand\n",
+            b"entry 2\n",
+        ),
+        // Another algorithm, and the greatest transaction number.
+        (
+            b"rx wlan0 b00000000200000000010200000000aa02000000000110000100ffff0000\n\nflush\n",
+            b"entry 2\nwlan0 tx b00000000200000000aa0200000000010200000000010000010000000d00\n",
+        ),
+        // Out of sequence.
+        (
+            b"rx wlan0 b00000000200000000010200000000aa0200000000011000000003000000\nflush\nflush\nhand\n",
+            b"entry 2\nwlan0 tx b00000000200000000aa0200000000010200000000010000000004000e00\n",
+        ),
+        // No frames: of 23 bytes, and of none.
+        (
+            b"rx wlan0 b00000000200000000010200000000aa02000000000110\nrx wlan0\nrx wlan0 \n",
+            b"quiet short\nquiet short\nquiet short\n",
+        ),
+    ] {
+        let (fault, out) = printed(rt.alloc(), script)?;
+        assert_eq!(rt; fault, None);
+        assert_eq!(rt; out.as_slice(), want);
+    }
+    Ok(())
+}
+
+#[test]
+fn the_first_bad_line_ends_a_script(rt: HostRuntime) -> Result<(), Fail> {
+    for (script, line) in [
+        (b"\nrx wlan0 b0\nflish\nflush".as_slice(), 3),
+        (b"rx wlan0 b", 1),
+        (b"rx wlan0 b0\tb0", 1),
+        (b"rx wlan1 b0", 1),
+        (b"rx", 1),
+        (b"rx ", 1),
+        (b"rx  wlan0 b0", 1),
+        (b"flush ", 1),
+        (b"flush\r\n", 1),
+        (b"take", 1),
+    ] {
+        let (fault, _) = printed(rt.alloc(), script)?;
+        assert_eq!(rt; fault, Some(ScriptFault::BadLine(line)));
+    }
+    let (_, out) = printed(rt.alloc(), b"rx wlan0\nx\n")?;
+    assert_eq!(rt; out.as_slice(), b"quiet short\n".as_slice());
+    Ok(())
+}
+
+#[test]
+fn frames_of_2305_bytes_are_too_long(rt: HostRuntime) -> Result<(), Fail> {
+    let alloc = rt.alloc();
+    for (bytes, want) in [(2304, b"quiet subtype\n".as_slice()), (2305, b"quiet long\n")] {
+        let mut script = Vec::new(alloc);
+        script.extend_from_slice(b"rx wlan0 d00000000200000000010200000000aa0200000000011000")?;
+        for _ in 24..bytes {
+            script.extend_from_slice(b"00")?;
+        }
+        let (fault, out) = printed(alloc, script.as_slice())?;
+        assert_eq!(rt; fault, None);
+        assert_eq!(rt; out.as_slice(), want);
+    }
+    Ok(())
+}
+
+/// A writer that takes a number of lines, and then fails.
+#[derive(Drop)]
+struct Narrow(usize);
+
+impl Write for Narrow {
+    fn write(&mut self, buf: &[u8]) -> io::Result<usize> {
+        if self.0 == 0 {
+            return Err(io::Error::from(io::ErrorKind::BrokenPipe));
+        }
+        self.0 -= 1;
+        Ok(buf.len())
+    }
+
+    fn flush(&mut self) -> io::Result<()> {
+        Ok(())
+    }
+}
+
+/// A reader that gives a line and then fails.
+#[derive(Drop)]
+struct Broken(bool);
+
+impl Read for Broken {
+    fn read(&mut self, buf: &mut [u8]) -> io::Result<usize> {
+        if self.0 {
+            return Err(io::Error::from(io::ErrorKind::BrokenPipe));
+        }
+        self.0 = true;
+        match buf.first_mut() {
+            Some(byte) => {
+                *byte = b'\n';
+                Ok(1)
+            }
+            None => Ok(0),
+        }
+    }
+}
+
+#[test]
+fn faults_of_the_reader_and_the_writer_end_a_script(rt: HostRuntime) -> Result<(), Fail> {
+    let alloc = rt.alloc();
+    let script = b"rx wlan0\nrx wlan0\nflush\n";
+    let fault = run_script(alloc, world(alloc)?, script.as_slice(), Narrow(1)).err();
+    assert_eq!(rt; fault, Some(ScriptFault::Writer));
+    let reader = BufReader::new(alloc, Broken(false))?;
+    let fault = run_script(alloc, world(alloc)?, reader, Narrow(0)).err();
+    assert_eq!(rt; fault, Some(ScriptFault::Reader));
+    Ok(())
+}
+
+#[test]
+fn a_script_has_at_most_16_mib(rt: HostRuntime) -> Result<(), Fail> {
+    let alloc = rt.alloc();
+    for (bytes, want) in [
+        (MAX_SCRIPT as u64, ScriptFault::BadLine(1)),
+        (MAX_SCRIPT as u64 + 1, ScriptFault::Reader),
+    ] {
+        let reader = BufReader::new(alloc, io::repeat(b'x').take(bytes))?;
+        assert_eq!(rt; run_script(alloc, world(alloc)?, reader, Narrow(0)).err(), Some(want));
+    }
+    Ok(())
+}

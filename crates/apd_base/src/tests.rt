@@ -1,0 +1,38 @@
+use crate::address::Addr;
+use crate::rows;
+use crate::sequence::Sequence;
+use std::test::Fail;
+
+const STATION: Addr = Addr([2, 0, 0, 0, 0, 0xaa]);
+
+#[test]
+fn an_address_is_written_in_lower_case_and_read_in_either(rt: HostRuntime) -> Result<(), Fail> {
+    let mut text = Vec::new(rt.alloc());
+    STATION.write_text(&mut text)?;
+    assert_eq!(rt; text.as_slice(), b"02:00:00:00:00:aa".as_slice());
+    assert_eq!(rt; format!(in rt.alloc(); "{STATION}")?.as_str(), "02:00:00:00:00:aa");
+    assert_eq!(rt; Addr::parse(b"02:00:00:00:00:AA"), Some(STATION));
+    for wrong in [
+        b"2:00:00:00:00:aa".as_slice(),
+        b"02-00-00-00-00-aa",
+        b"02:00:00:00:00:aa ",
+        b"02:00:00:00:00:a:",
+        b"",
+    ] {
+        assert_eq!(rt; Addr::parse(wrong), None);
+    }
+    Ok(())
+}
+
+#[test]
+fn lists_and_rows_take_items_where_memory_is_ample(rt: HostRuntime) -> Result<(), Fail> {
+    let mut list = Sequence::new(rt.alloc());
+    list.push(7u8)?;
+    assert_eq!(rt; list.as_slice(), [7].as_slice());
+    let mut entries = Vec::new(rt.alloc());
+    rows::put(&mut entries, 2u8, 'b')?;
+    rows::put(&mut entries, 1, 'a')?;
+    rows::put(&mut entries, 2, 'c')?;
+    assert_eq!(rt; entries.as_slice(), [(1, 'a'), (2, 'c')].as_slice());
+    Ok(())
+}

@@ -1,0 +1,3 @@
+pub mod ConfLaws
+pub mod Refusals
+pub mod Repeats

@@ -1,0 +1,7 @@
+use Rattle.std.proofs.Common.{ℕ, ◌<◌}
+use Rattle.apd_conf.specs.Confs.{IsRepeatedAt, interfaces}
+use Rattle.apd_conf.proofs.confs.repeated_interface.Given as goal
+
+-- no place so far is repeated
+abbrev pub invariant-loop-place : goal.invariant-loop-place
+invariant-loop-place l = (p : ℕ) → p < l.place → ¬ (IsRepeatedAt (interfaces l.list) p)

@@ -1,0 +1,6 @@
+pub mod Auth
+pub mod BuiltIn
+pub mod Codes
+pub mod Conf
+pub mod Confs
+pub mod Names

@@ -1,0 +1,136 @@
+//! The configuration of one radio.
+ghost use Rattle.std.specs.Prelude.{◌≡◌, IfOk};
+ghost use Rattle.apd_conf.specs.BuiltIn.{built_in};
+ghost use Rattle.apd_conf.specs.Conf.{policy_of};
+
+use crate::{AuthAlgs, FileName, HwMode, IgnoreBroadcastSsid, InterfaceName, Ssid};
+use apd_base::{AclMode, Addr, Bssid, Policy, StationLimit};
+use std::alloc::{AllocError, Global};
+
+/// The configuration of one radio. A field has the name, and the unit, that it has in a file.
+#[derive(Debug, Drop)]
+pub struct Conf {
+    /// The network interface.
+    pub interface: InterfaceName,
+    /// The radio's address.
+    pub bssid: Bssid,
+    /// The network's name.
+    pub ssid: Ssid,
+    /// The band and rates.
+    pub hw_mode: HwMode,
+    /// The channel, 0 to 196.
+    pub channel: u8,
+    /// From one beacon to the next, 15 to 65535 time units of 1024 microseconds (IEEE Std 802.11-2016,
+    /// 9.4.1.3).
+    pub beacon_int: u16,
+    /// The greatest number of stations.
+    pub max_num_sta: StationLimit,
+    /// The authentication algorithms that are taken.
+    pub auth_algs: AuthAlgs,
+    /// After how much silence a station is put out, 1 to 2147483647 seconds.
+    pub ap_max_inactivity: u32,
+    /// Whether a probe request for any network is left unanswered.
+    pub ignore_broadcast_ssid: IgnoreBroadcastSsid,
+    /// The greatest listen interval that a station may ask for, in beacon intervals (IEEE Std
+    /// 802.11-2016, 9.4.1.6).
+    pub max_listen_interval: u16,
+    /// What becomes of a station that is on neither list.
+    pub macaddr_acl: AclMode,
+    /// The file of the addresses that are accepted.
+    pub accept_mac_file: Option<FileName>,
+    /// The file of the addresses that are denied.
+    pub deny_mac_file: Option<FileName>,
+}
+
+fn copied(file: &Option<FileName>, alloc: Global) -> Result<Option<FileName>, AllocError>
+    ensures { IfOk result (λ copy. copy ≡ file.now) }
+{
+    let Some(file) = file else {
+        return Ok(None);
+    };
+    Ok(Some(file.copy(alloc)?))
+}
+
+impl Conf {
+    /// The configuration of a daemon that was given no file.
+    pub fn built_in(alloc: Global) -> Result<Conf, AllocError>
+        ensures { IfOk result (λ conf. conf ≡ built_in) }
+    {
+        Ok(Conf {
+            interface: InterfaceName::new("wlan0", alloc)?,
+            bssid: Bssid(Addr([2, 0, 0, 0, 0, 1])),
+            ssid: Ssid::new(b"net", alloc)?,
+            hw_mode: HwMode::G,
+            channel: 6,
+            beacon_int: 100,
+            max_num_sta: StationLimit { count: 2007 },
+            auth_algs: AuthAlgs::OpenAndShared,
+            ap_max_inactivity: 300,
+            ignore_broadcast_ssid: IgnoreBroadcastSsid::No,
+            max_listen_interval: u16::MAX,
+            macaddr_acl: AclMode::AcceptUnlessDenied,
+            accept_mac_file: None,
+            deny_mac_file: None,
+        })
+    }
+
+    /// A second one of it.
+    pub fn copy(&self, alloc: Global) -> Result<Conf, AllocError>
+        ensures { IfOk result (λ conf. conf ≡ self.now) }
+    {
+        Ok(Conf {
+            interface: self.interface.copy(alloc)?,
+            bssid: self.bssid,
+            ssid: self.ssid.copy(alloc)?,
+            hw_mode: self.hw_mode,
+            channel: self.channel,
+            beacon_int: self.beacon_int,
+            max_num_sta: self.max_num_sta,
+            auth_algs: self.auth_algs,
+            ap_max_inactivity: self.ap_max_inactivity,
+            ignore_broadcast_ssid: self.ignore_broadcast_ssid,
+            max_listen_interval: self.max_listen_interval,
+            macaddr_acl: self.macaddr_acl,
+            accept_mac_file: copied(&self.accept_mac_file, alloc)?,
+            deny_mac_file: copied(&self.deny_mac_file, alloc)?,
+        })
+    }
+
+    /// What the table of stations has to know of its BSSID. It takes no memory.
+    pub fn policy(&self) -> Policy
+        ensures { result ≡ policy_of self.now }
+    {
+        Policy {
+            mode: self.macaddr_acl,
+            max: self.max_num_sta,
+        }
+    }
+}
+
+#[cfg(test)]
+mod tests {
+    use super::*;
+    use std::test::Fail;
+
+    #[test]
+    fn built_in_is_the_example(rt: HostRuntime) -> Result<(), Fail> {
+        let conf = Conf::built_in(rt.alloc())?.copy(rt.alloc())?;
+        let interface = format!(in rt.alloc(); "{}", conf.interface)?;
+        assert_eq!(rt; interface.as_str(), "wlan0");
+        let bssid = format!(in rt.alloc(); "{}", conf.bssid.0)?;
+        assert_eq!(rt; bssid.as_str(), "02:00:00:00:00:01");
+        assert_eq!(rt; conf.ssid.as_bytes(), b"net".as_slice());
+        assert_eq!(rt; conf.hw_mode, HwMode::G);
+        assert_eq!(rt; conf.channel, 6);
+        assert_eq!(rt; conf.beacon_int, 100);
+        assert_eq!(rt; conf.auth_algs, AuthAlgs::OpenAndShared);
+        assert!(rt; conf.auth_algs.open());
+        assert_eq!(rt; conf.ap_max_inactivity, 300);
+        assert_eq!(rt; conf.ignore_broadcast_ssid, IgnoreBroadcastSsid::No);
+        assert_eq!(rt; conf.max_listen_interval, 65535);
+        assert_eq!(rt; conf.policy().max.count, 2007);
+        assert_eq!(rt; conf.policy().mode, AclMode::AcceptUnlessDenied);
+        assert!(rt; conf.accept_mac_file.is_none() && conf.deny_mac_file.is_none());
+        Ok(())
+    }
+}

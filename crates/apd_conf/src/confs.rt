@@ -1,0 +1,219 @@
+//! The configurations of the daemon's radios.
+ghost use Rattle.std.specs.Prelude.{◌≡◌, ◌↔◌, ℕ, List, slice_get, Err, IsOk, IfOk, OnOk, IfErr, IfSome, IfNone};
+ghost use Rattle.std.specs.Option.{option_copied};
+ghost use Rattle.apd_conf.specs.Confs.{interfaces, bssids, IsLeastRepeated, AreDistinct, AreConfs, IsRefused, conf_at, conf_named};
+ghost use Rattle.apd_conf.specs.declared.confs_fault.ConfsFault.{ConfsFault as Fault};
+ghost use Rattle.apd_conf.specs.declared.conf.Conf.{Conf as Configuration};
+ghost use Rattle.apd_base.specs.declared.address.Bssid.{Bssid as Address};
+
+use crate::{Conf, ConfsFault};
+use apd_base::Bssid;
+use apd_base::limits::MAX_BSS;
+use std::alloc::{AllocError, Global};
+use std::marker::Model;
+
+/// The configurations of a daemon's radios, in the order in which they were given: 1 to 8 of them, no
+/// two with one interface, and no two with one BSSID. Contracts see the list.
+#[derive(Debug, Drop)]
+pub struct Confs {
+    list: Vec<Conf>,
+}
+
+impl Model for Confs {
+    ghost use Rattle.std.specs.Prelude.{List};
+    ghost use Rattle.apd_conf.specs.declared.conf.Conf.{Conf};
+    ghost use Rattle.apd_conf.specs.Codes.{coded_confs};
+
+    ghost Value = { List Conf };
+
+    ghost coded = { coded_confs };
+
+    ghost use Rattle.apd_conf.specs.Confs.{AreConfs};
+
+    ghost view = { λ a. a.list.items };
+
+    ghost invariant = { λ a. AreConfs a.list.items };
+}
+
+fn at_bssid(list: &[Conf], bssid: Bssid) -> Option<&Conf>
+    ensures { option_copied result ≡ conf_at list.now bssid }
+{
+    list.iter().find(|conf| bssid.cmp(&conf.bssid).is_eq())
+}
+
+fn at_interface<'a>(list: &'a [Conf], name: &[u8]) -> Option<&'a Conf>
+    ensures { option_copied result ≡ conf_named list.now name.now }
+{
+    list.iter()
+        .find(|conf| name.cmp(&conf.interface.as_bytes()).is_eq())
+}
+
+fn repeated_interface(list: &[Conf]) -> Option<usize>
+    ensures some { IfSome result (IsLeastRepeated (interfaces list.now)) }
+    ensures none { IfNone result (AreDistinct (interfaces list.now)) }
+{
+    for (place, conf) in list.iter().enumerate() {
+        if at_interface(&list[..place], conf.interface.as_bytes()).is_some() {
+            return Some(place);
+        }
+    }
+    None
+}
+
+fn repeated_bssid(list: &[Conf]) -> Option<usize>
+    ensures some { IfSome result (IsLeastRepeated (bssids list.now)) }
+    ensures none { IfNone result (AreDistinct (bssids list.now)) }
+{
+    for (place, conf) in list.iter().enumerate() {
+        if at_bssid(&list[..place], conf.bssid).is_some() {
+            return Some(place);
+        }
+    }
+    None
+}
+
+fn copies(list: &[Conf], alloc: Global) -> Result<Vec<Conf>, AllocError>
+    ensures { IfOk result (λ copies. copies.items ≡ list.now) }
+{
+    let mut copies = Vec::with_capacity(alloc, list.len())?;
+    for conf in list {
+        copies.push(conf.copy(alloc)?)?;
+    }
+    Ok(copies)
+}
+
+fn check(list: &[Conf]) -> Result<(), ConfsFault>
+    ensures ok { OnOk result (AreConfs list.now) }
+    ensures err { IfErr result (IsRefused list.now) }
+{
+    if list.is_empty() {
+        return Err(ConfsFault::Empty);
+    }
+    if list.len() > MAX_BSS {
+        return Err(ConfsFault::TooMany);
+    }
+    if let Some(place) = repeated_interface(list) {
+        return Err(ConfsFault::SameInterface(place));
+    }
+    if let Some(place) = repeated_bssid(list) {
+        return Err(ConfsFault::SameBssid(place));
+    }
+    Ok(())
+}
+
+impl Confs {
+    /// The configurations of a list, if there are 1 to 8 and no interface and no BSSID is given twice;
+    /// else the first of the faults that holds. It takes no memory.
+    pub fn new(list: Vec<Conf>) -> Result<Confs, ConfsFault>
+        ensures ok { IsOk result ↔ AreConfs list.items }
+        ensures confs { IfOk result (λ confs. confs ≡ list.items) }
+        ensures err { (fault : Fault) → ((result ≡ Err fault) ↔ IsRefused list.items fault) }
+    {
+        check(&list)?;
+        Ok(Confs { list })
+    }
+
+    /// The configurations in their order. It takes no memory.
+    pub fn list(&self) -> &[Conf]
+        ensures list { result.now ≡ self.now }
+        ensures confs { AreConfs result.now }
+    {
+        self.list.as_slice()
+    }
+
+    /// The configuration of a BSSID, if there is one. It takes no memory.
+    pub fn with_bssid(&self, bssid: Bssid) -> Option<&Conf>
+        ensures { option_copied result ≡ conf_at self.now bssid }
+    {
+        at_bssid(&self.list, bssid)
+    }
+
+    /// The configuration of an interface, by the bytes of its name, if there is one. It takes no memory.
+    pub fn with_interface(&self, name: &[u8]) -> Option<&Conf>
+        ensures { option_copied result ≡ conf_named self.now name.now }
+    {
+        at_interface(&self.list, name)
+    }
+
+    /// A second list of them.
+    pub fn copy(&self, alloc: Global) -> Result<Confs, AllocError>
+        ensures { IfOk result (λ confs. confs ≡ self.now) }
+    {
+        Ok(Confs {
+            list: copies(&self.list, alloc)?,
+        })
+    }
+}
+
+/// What is found for a BSSID or an interface has it; and each configuration of a daemon is found by its
+/// own.
+pub fn look_up_laws()
+    ensures bssid { (confs : List Configuration) (bssid : Address) (conf : Configuration) → conf_at confs bssid ≡ Some conf → conf.bssid ≡ bssid }
+    ensures own_bssid { (confs : List Configuration) → AreConfs confs → (place : ℕ) (conf : Configuration) → slice_get confs place ≡ Some conf → conf_at confs conf.bssid ≡ Some conf }
+    ensures interface { (confs : List Configuration) (name : List ℕ) (conf : Configuration) → conf_named confs name ≡ Some conf → conf.interface ≡ name }
+    ensures own_interface { (confs : List Configuration) → AreConfs confs → (place : ℕ) (conf : Configuration) → slice_get confs place ≡ Some conf → conf_named confs conf.interface ≡ Some conf }
+{}
+
+#[cfg(test)]
+mod tests {
+    use super::*;
+    use crate::InterfaceName;
+    use apd_base::Addr;
+    use std::process::Abort;
+    use std::test::Fail;
+
+    // Radios with these interfaces, and with these last bytes of their BSSIDs.
+    fn radios(rt: &impl Abort, alloc: Global, of: &[(&str, u8)]) -> Result<Vec<Conf>, Fail> {
+        let mut list = Vec::new(alloc);
+        for (name, last) in of {
+            assert!(rt; InterfaceName::is_name(name));
+            let mut conf = Conf::built_in(alloc)?;
+            conf.interface = InterfaceName::new(name, alloc)?;
+            conf.bssid = Bssid(Addr([2, 0, 0, 0, 0, *last]));
+            list.push(conf)?;
+        }
+        Ok(list)
+    }
+
+    #[test]
+    fn refusals_in_their_order(rt: HostRuntime) -> Result<(), Fail> {
+        let nine = [("a", 1); 9];
+        for (of, want) in [
+            ([].as_slice(), ConfsFault::Empty),
+            (nine.as_slice(), ConfsFault::TooMany),
+            (
+                [("a", 1), ("b", 1), ("a", 2), ("b", 3)].as_slice(),
+                ConfsFault::SameInterface(2),
+            ),
+            (
+                [("a", 1), ("b", 2), ("c", 2), ("d", 1)].as_slice(),
+                ConfsFault::SameBssid(2),
+            ),
+        ] {
+            let answer = Confs::new(radios(&rt, rt.alloc(), of)?);
+            assert_eq!(rt; answer.err(), Some(want));
+        }
+        Ok(())
+    }
+
+    #[test]
+    fn eight_are_taken(rt: HostRuntime) -> Result<(), Fail> {
+        let of = [
+            ("a", 1),
+            ("b", 2),
+            ("c", 3),
+            ("d", 4),
+            ("e", 5),
+            ("f", 6),
+            ("g", 7),
+            ("h", 8),
+        ];
+        let confs = Confs::new(radios(&rt, rt.alloc(), &of)?)?.copy(rt.alloc())?;
+        assert_eq!(rt; confs.list().len(), 8);
+        let third = confs.with_bssid(Bssid(Addr([2, 0, 0, 0, 0, 3])));
+        assert_eq!(rt; third.map(|conf| conf.interface.as_str()), Some("c"));
+        let last = confs.with_interface(b"h");
+        assert_eq!(rt; last.map(|conf| conf.bssid.0.0[5]), Some(8));
+        Ok(())
+    }
+}

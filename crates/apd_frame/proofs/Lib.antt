@@ -1,0 +1,2 @@
+pub mod FirstReason
+pub mod Fields

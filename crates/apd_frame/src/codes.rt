@@ -1,0 +1,42 @@
+//! Status codes and reason codes.
+ghost use Rattle.std.specs.Prelude.{◌≡◌};
+ghost use Rattle.apd_frame.specs.Wire.{status_code};
+
+/// A status code that is sent, by its name in IEEE Std 802.11-2016, 9.4.1.9, Table 9-46.
+#[derive(Clone, Copy, Debug, PartialEq, Eq)]
+pub enum Status {
+    /// 0: successful.
+    Success,
+    /// 1: unspecified failure.
+    RefusedReasonUnspecified,
+    /// 13: the authentication algorithm is not supported.
+    NotSupportedAuthAlgorithm,
+    /// 14: the authentication transaction sequence number is not the one expected.
+    TransactionSequenceError,
+    /// 17: the access point can't serve more stations.
+    DeniedNoMoreStas,
+}
+
+impl Status {
+    /// Its code (9.4.1.9, Table 9-46).
+    pub fn code(self) -> u16
+        ensures { result ≡ status_code self }
+    {
+        match self {
+            Status::Success => 0,
+            Status::RefusedReasonUnspecified => 1,
+            Status::NotSupportedAuthAlgorithm => 13,
+            Status::TransactionSequenceError => 14,
+            Status::DeniedNoMoreStas => 17,
+        }
+    }
+}
+
+/// A reason code (IEEE Std 802.11-2016, 9.4.1.7, Table 9-45): any number.
+#[derive(Clone, Copy, Debug, PartialEq, Eq)]
+pub struct Reason(pub u16);
+
+impl Reason {
+    /// 1: unspecified reason.
+    pub const UNSPECIFIED: Reason = Reason(1);
+}

@@ -1,0 +1,135 @@
+-- What an authentication request leaves.
+use Rattle.std.proofs.Common.{◌≡◌, ◌≢◌, ℕ, ◌<◌, Bool, true, false, cond, not, ◌&&◌, eqb, leb, List, [], ◌∷◌, Option, Some, None, ◌⊎◌, inl, inr, refl, sym, ap, subst, ◌∙◌, IsTrue, IsSome, arith}
+use Rattle.std.specs.Option.{is_some}
+use Rattle.std.specs.Prelude.{map as list_map}
+use Rattle.std.specs.Ordering.{eq_by_cmp}
+use Rattle.std.specs.FinMap as map
+use Rattle.std.proofs.lemmas.Bool.{and_parts, leb-false}
+use Rattle.apd_base.specs.declared.address.Addr.{Addr}
+use Rattle.apd_base.specs.declared.address.Bssid.{Bssid}
+use Rattle.apd_base.specs.declared.station.Policy.{Policy}
+use Rattle.apd_base.specs.declared.station.Station.{Station}
+use Rattle.apd_base.specs.declared.station.Station.TheVariants.{Authenticated}
+use Rattle.apd_base.specs.Addr.{bssid_cmp, station_cmp}
+use Rattle.apd_base.specs.State.{State, station_at, policy_at, aid_of, aid_at, count}
+use Rattle.apd_base.proofs.AddrLaws.{station_total, station_exact}
+use Rattle.apd_base.proofs.MapLaws.{one_or_apart, get_inserted, get_insert_other}
+use Rattle.apd_frame.specs.declared.received.Authentication.{Authentication}
+use Rattle.apd_frame.specs.declared.codes.Status.{Status}
+use Rattle.apd_frame.specs.declared.codes.Status.TheVariants.{Success, RefusedReasonUnspecified, NotSupportedAuthAlgorithm, TransactionSequenceError, DeniedNoMoreStas}
+use Rattle.apd_conf.specs.declared.conf.Conf.{Conf}
+use Rattle.apd_conf.specs.Auth.{allows_open}
+use Rattle.apd_table.specs.Allowed.{allowed}
+use Rattle.apd_table.specs.Can.{CanPut}
+use Rattle.apd_table.specs.Change.{meaning_of, put_station}
+use Rattle.apd_table.specs.Sound.{Sound, StaySound}
+use Rattle.apd_table.proofs.Put.{sound_put}
+use Rattle.apd_mlme.specs.declared.decision.Recipient.TheVariants.{Radio}
+use Rattle.apd_mlme.specs.Authentication.{is_known, greatest, is_full, first_status, refusals, auth_status, is_success, is_admitted, auth_verdict, auth_response}
+use Rattle.apd_mlme.specs.Driver.{driven, DriverMap}
+use Rattle.apd_mlme.specs.Outs.{sent, outs_to, is_same}
+use Rattle.apd_mlme.specs.Told.{IsToldTruly}
+
+-- the status is success only where no line holds
+none_holds : (a b c d : Bool) → is_success (first_status ((a, NotSupportedAuthAlgorithm) ∷ (b, TransactionSequenceError) ∷ (c, RefusedReasonUnspecified) ∷ (d, DeniedNoMoreStas) ∷ [])) ≡ true → (c ≡ false) × (d ≡ false)
+none_holds true b c d e = cc
+none_holds false true c d e = cc
+none_holds false false true d e = cc
+none_holds false false false true e = cc
+none_holds false false false false e = (refl, refl)
+
+not_false : (t : Bool) → not t ≡ false → t ≡ true
+not_false true e = refl
+not_false false e = cc
+
+not_and : (a b : Bool) → a ≡ true → (a && b) ≡ false → b ≡ false
+not_and true b e f = f
+not_and false b e f = cc
+
+room : (o : Option Policy) (n : ℕ) → leb (greatest o) n ≡ false → n < 2007
+room None n e = let low = leb-false 0 n e in absurd (omega arith)
+room (Some p) n e = let low = leb-false p.max.count n e in let high = p.max.in_range in omega arith
+
+nothing_there : (o : Option Station) → not (is_some o) ≡ true → aid_of o ≡ None
+nothing_there None e = refl
+nothing_there (Some x) e = cc
+
+module _ (s : State) (conf : Conf) (b : Bssid) (request : Authentication) where
+  abbrev admitted : Bool
+  admitted = is_admitted s conf b request
+
+  abbrev new : State
+  new = put_station b request.sender Authenticated s
+
+  can_put : IsSome (policy_at s b) → admitted ≡ true → CanPut s b request.sender Authenticated
+  can_put policy e =
+      let parts = and_parts (is_success (auth_status s conf b request)) (not (is_known s b request)) e in
+      let none = none_holds (not (eqb request.algorithm 0 && allows_open conf.auth_algs)) (not (eqb request.transaction 1)) (not (allowed s b request.sender)) (not (is_known s b request) && is_full s b) parts.0 in
+      record {
+        identified = tt;
+        allowed = (policy, not_false _ none.0);
+        room = inr (room (policy_at s b) (count s b) (not_and _ (is_full s b) parts.1 none.1));
+      }
+
+  pub auth_meaning : meaning_of (auth_verdict s conf b request).changes s ≡ (auth_verdict s conf b request).state
+  auth_meaning = elim admitted as (λ t. admitted ≡ t → meaning_of (auth_verdict s conf b request).changes s ≡ (auth_verdict s conf b request).state) [
+    | true ↦ λ e. rw e refl
+    | false ↦ λ e. rw e refl
+  ] refl
+
+  pub auth_sound : IsSome (policy_at s b) → Sound s → StaySound (auth_verdict s conf b request).changes s
+  auth_sound policy sound = elim admitted as (λ t. admitted ≡ t → StaySound (auth_verdict s conf b request).changes s) [
+    | true ↦ λ e. rw e (sound, sound_put s b request.sender Authenticated sound (can_put policy e))
+    | false ↦ λ e. rw e sound
+  ] refl
+
+  -- a station that is admitted had no identifier, and has none
+  put_aid : admitted ≡ true → (c : Bssid) (d : Addr) → aid_at new c d ≡ aid_at s c d
+  put_aid e c d =
+      let parts = and_parts (is_success (auth_status s conf b request)) (not (is_known s b request)) e in
+      let key : Bssid × Addr = (b, request.sender) in
+      elim (one_or_apart station_total station_exact (c, d) key) [
+        | inl same ↦ ap (λ k. aid_of (map.get new.stations k)) same ∙ ap aid_of (get_inserted station_total station_exact s.stations key Authenticated)
+            ∙ sym (nothing_there (station_at s b request.sender) parts.1) ∙ ap (λ k. aid_of (map.get s.stations k)) (sym same)
+        | inr apart ↦ ap aid_of (get_insert_other station_total station_exact s.stations key Authenticated (c, d) apart)
+      ]
+
+  pub auth_aid : (c : Bssid) (d : Addr) → aid_at (auth_verdict s conf b request).state c d ≡ aid_at s c d
+  auth_aid c d = elim admitted as (λ t. admitted ≡ t → aid_at (auth_verdict s conf b request).state c d ≡ aid_at s c d) [
+    | true ↦ λ e. rw e (put_aid e c d)
+    | false ↦ λ e. rw e refl
+  ] refl
+
+  -- the one out is a frame, which leaves each driver as it is
+  sent_alone : (c : Bssid) (m : DriverMap) (d : Addr) → driven (outs_to (Radio c) (auth_verdict s conf b request).outs) m d ≡ m d
+  sent_alone c m d = elim (eq_by_cmp bssid_cmp c b) as (λ t. driven (list_map (λ x. x.1) (cond t (sent (auth_response b request (auth_status s conf b request)) ∷ []) [])) m d ≡ m d) [ true ↦ refl | false ↦ refl ]
+
+  pub auth_driver : (c : Bssid) (d : Addr) → driven (outs_to (Radio c) (auth_verdict s conf b request).outs) (aid_at s c) d ≡ aid_at (auth_verdict s conf b request).state c d
+  auth_driver c d = sent_alone c (aid_at s c) d ∙ sym (auth_aid c d)
+
+  status_success : (status : Status) → is_success status ≡ true → status ≡ Success
+  status_success Success e = refl
+  status_success RefusedReasonUnspecified e = cc
+  status_success NotSupportedAuthAlgorithm e = cc
+  status_success TransactionSequenceError e = cc
+  status_success DeniedNoMoreStas e = cc
+
+  known_some : (o : Option Station) → not (is_some o) ≡ false → IsSome o
+  known_some None e = cc
+  known_some (Some x) e = refl
+
+  -- success leaves the sender in the table, whether it was admitted or known before
+  told_success : auth_status s conf b request ≡ Success → IsSome (station_at (auth_verdict s conf b request).state b request.sender)
+  told_success status = elim admitted as (λ t. admitted ≡ t → IsSome (station_at (auth_verdict s conf b request).state b request.sender)) [
+    | true ↦ λ e. rw e (ap is_some (get_inserted station_total station_exact s.stations (b, request.sender) Authenticated))
+    | false ↦ λ e. rw e (known_some (station_at s b request.sender) (not_and (is_success (auth_status s conf b request)) (not (is_known s b request)) (ap is_success status) e))
+  ] refl
+
+  told_refused : auth_status s conf b request ≢ Success → (auth_verdict s conf b request).state ≡ s
+  told_refused refused = elim admitted as (λ t. admitted ≡ t → (auth_verdict s conf b request).state ≡ s) [
+    | true ↦ λ e. absurd (refused (status_success (auth_status s conf b request) (and_parts (is_success (auth_status s conf b request)) (not (is_known s b request)) e).0))
+    | false ↦ λ e. rw e refl
+  ] refl
+
+  pub auth_told : IsToldTruly s b request (auth_verdict s conf b request)
+  auth_told = record { status = auth_status s conf b request; answer = refl; success = told_success; refused = told_refused }

@@ -1,0 +1,4 @@
+pub mod AuthenticationLaws
+pub mod ConfigurationLaws
+pub mod OutsLaws
+pub mod VerdictLaws

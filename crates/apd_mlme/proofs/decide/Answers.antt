@@ -1,0 +1,11 @@
+use Rattle.apd_mlme.proofs.VerdictLaws.{decided_meaning, decided_sound, decided_driver}
+use Rattle.apd_mlme.proofs.decide.Goals as goal
+
+pub returns-clause-meaning : goal.returns-clause-meaning
+returns-clause-meaning c = decided_meaning c.args.table.now c.args.confs.now c.args.event c.judge.result c.judge.ensures.changes
+
+pub returns-clause-sound : goal.returns-clause-sound
+returns-clause-sound c = decided_sound c.args.table.now c.args.confs.now c.args.event c.judge.result c.requires c.sound.ensures c.judge.ensures.changes
+
+pub returns-clause-driver : goal.returns-clause-driver
+returns-clause-driver c = decided_driver c.args.table.now c.args.confs.now c.args.event c.judge.result c.judge.ensures.outs

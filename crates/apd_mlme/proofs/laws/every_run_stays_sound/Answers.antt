@@ -1,0 +1,5 @@
+use Rattle.apd_mlme.proofs.VerdictLaws.{run_sound}
+use Rattle.apd_mlme.proofs.laws.every_run_stays_sound.Goals as goal
+
+pub returns : goal.returns
+returns c = λ s confs events. run_sound confs events s

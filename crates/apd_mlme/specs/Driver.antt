@@ -1,0 +1,32 @@
+-- A radio's driver as a map from the stations that it was told to take in, to their association identifiers.
+use Rattle.std.specs.Prelude.{◌≡◌, ℕ, List, [], ◌∷◌, Option, None, Some, if◌then◌else◌}
+use Rattle.std.specs.Ordering.{eq_by_cmp}
+use Rattle.apd_base.specs.declared.address.Addr.{Addr}
+use Rattle.apd_base.specs.declared.address.Bssid.{Bssid}
+use Rattle.apd_base.specs.Addr.{addr_cmp}
+use Rattle.apd_base.specs.State.{State, aid_at}
+use Rattle.apd_mlme.specs.declared.decision.Recipient.{Recipient}
+use Rattle.apd_mlme.specs.declared.decision.Recipient.TheVariants.{Radio}
+use Rattle.apd_mlme.specs.declared.decision.Out.{Out}
+use Rattle.apd_mlme.specs.declared.decision.Out.TheVariants.{Install, Remove, Frame}
+use Rattle.apd_mlme.specs.Outs.{outs_to}
+
+-- what a driver has at each address
+abbrev pub DriverMap : Type 0
+DriverMap = Addr → Option ℕ
+
+-- a driver's map after an out: a frame leaves it as it is
+abbrev pub driven_by : Out → DriverMap → DriverMap
+driven_by (Install a aid) driver = λ d. if eq_by_cmp addr_cmp a d then Some aid.number else driver d
+driven_by (Remove a) driver = λ d. if eq_by_cmp addr_cmp a d then None else driver d
+driven_by (Frame bytes) driver = driver
+
+-- after outs, one after the other
+abbrev pub driven : List Out → DriverMap → DriverMap
+driven [] driver = driver
+driven (out ∷ outs) driver = driven outs (driven_by out driver)
+
+-- where a driver had the associated stations of its BSSID under their identifiers, it has them after the outs to its radio
+abbrev pub FollowsDrivers : List (Recipient × Out) → State → State → Type 0
+FollowsDrivers outs old new =
+    (b : Bssid) (a : Addr) → driven (outs_to (Radio b) outs) (aid_at old b) a ≡ aid_at new b a

@@ -1,0 +1,15 @@
+-- What an event brings about: the state after it, the changes that lead there, in order, and the outs, in order.
+use Rattle.std.specs.Prelude.{List, Bool, length, ◌==◌, ◌&&◌}
+use Rattle.apd_base.specs.State.{State}
+use Rattle.apd_table.specs.declared.change.Change.{Change}
+use Rattle.apd_mlme.specs.declared.decision.Recipient.{Recipient}
+use Rattle.apd_mlme.specs.declared.decision.Out.{Out}
+
+pub record Verdict : Type 0 where
+  pub state : State
+  pub changes : List Change
+  pub outs : List (Recipient × Out)
+
+-- whether nothing changes and nothing leaves
+abbrev pub is_nothing : Verdict → Bool
+is_nothing v = (length v.changes == 0) && (length v.outs == 0)

@@ -1,0 +1,63 @@
+//! What the station management entity decides.
+ghost use Rattle.std.specs.Prelude.{◌≡◌, ◌==◌, ◌&&◌, length, IfOk};
+ghost use Rattle.apd_mlme.specs.Outs.{sent};
+
+use apd_base::{Addr, Aid, Bssid, Sequence};
+use apd_frame::{Reply, encode};
+use apd_table::Change;
+use std::alloc::{AllocError, Global};
+
+/// Who an out is for.
+#[derive(Clone, Copy, Debug, PartialEq, Eq)]
+pub enum Recipient {
+    /// The radio of the BSSID.
+    Radio(Bssid),
+}
+
+/// Something that leaves: a call of a radio's driver, or a frame for it to send.
+#[derive(Debug, Drop)]
+pub enum Out {
+    /// The driver takes the station in, under its association identifier.
+    Install(Addr, Aid),
+    /// The driver lets the station go.
+    Remove(Addr),
+    /// The frame is sent, without its frame check sequence.
+    Frame(Sequence<u8>),
+}
+
+/// What an event brings about: changes of the table, in order, and what leaves because of them.
+#[derive(Debug, Drop)]
+pub struct Decision {
+    pub changes: Sequence<Change>,
+    pub outs: Sequence<(Recipient, Out)>,
+}
+
+impl Decision {
+    /// Whether nothing changes and nothing leaves.
+    pub fn is_nothing(&self) -> bool
+        ensures { result ≡ ((length self.now.changes == 0) && (length self.now.outs == 0)) }
+    {
+        self.changes.is_empty() && self.outs.is_empty()
+    }
+}
+
+/// The frame of a reply, for the radio of its BSSID to send.
+pub(crate) fn sent(alloc: Global, reply: &Reply) -> Result<(Recipient, Out), AllocError>
+    ensures { IfOk result (λ out. out ≡ sent reply.now) }
+{
+    let frame = Sequence::from_vec(encode(alloc, reply)?);
+    Ok((Recipient::Radio(reply.bssid), Out::Frame(frame)))
+}
+
+impl Recipient {
+    ghost use Rattle.apd_mlme.specs.Outs.{is_same};
+
+    /// Whether they are one.
+    pub fn is_same(self, other: Recipient) -> bool
+        ensures { result ≡ is_same self other }
+    {
+        let Recipient::Radio(own) = self;
+        let Recipient::Radio(bssid) = other;
+        own.cmp(&bssid).is_eq()
+    }
+}

@@ -1,0 +1,164 @@
+-- The rows that a mode denies, and what is left once they are dropped.
+use Rattle.std.proofs.Common.{◌≡◌, ◌<◌, Bool, true, false, cond, not, ◌&&◌, ◌||◌, List, [], ◌∷◌, ◌++◌, map as list_map, filter, Option, Some, None, ◌⊎◌, inl, inr, refl, sym, ap, subst, ◌∙◌, IsSome, IsTrue}
+use Rattle.std.proofs.lemmas.Bool.{and_parts}
+use Rattle.std.specs.List.{list_any}
+use Rattle.std.specs.declared.cmp.Ordering.{Ordering}
+use Rattle.std.specs.declared.cmp.Ordering.TheVariants.{Less, Equal, Greater}
+use Rattle.std.specs.Ordering.{eq_by_cmp, is_eq, ordering_then}
+use Rattle.std.specs.FinMap as map
+use Rattle.std.specs.FinMap.{get-remove}
+use Rattle.apd_base.specs.declared.address.Addr.{Addr}
+use Rattle.apd_base.specs.declared.address.Bssid.{Bssid}
+use Rattle.apd_base.specs.declared.station.AclMode.{AclMode}
+use Rattle.apd_base.specs.declared.station.Policy.{Policy}
+use Rattle.apd_base.specs.declared.station.Station.{Station}
+use Rattle.apd_base.specs.Addr.{addr_cmp, bssid_cmp}
+use Rattle.apd_base.proofs.AddrLaws.{addr_total, addr_exact, bssid_total, bssid_exact, station_total, station_exact}
+use Rattle.apd_base.proofs.MapLaws.{one_or_apart, tied, passes_any, any_passes}
+use Rattle.apd_base.specs.State.{State, station_at, policy_at}
+use Rattle.apd_table.specs.Allowed.{allowed_in, is_denied_row, denied_by}
+use Rattle.apd_table.specs.Can.{CanSet}
+use Rattle.apd_table.specs.Change.{drop_station, set_policy, meaning, meaning_of}
+use Rattle.apd_table.specs.Sound.{Sound, StaySound}
+use Rattle.apd_table.specs.declared.change.Change.{Change}
+use Rattle.apd_table.specs.declared.change.Change.TheVariants.{Drop}
+use Rattle.apd_table.proofs.Dropped.{sound_drop}
+use Rattle.apd_table.proofs.PolicySet.{sound_set}
+
+-- whether an address is among some
+abbrev pub is_among : Addr → List Addr → Bool
+is_among a as' = list_any (eq_by_cmp addr_cmp a) as'
+
+-- dropping the rows of some addresses of a BSSID, one after the other
+abbrev pub drops : Bssid → List Addr → List Change
+drops b as' = list_map (λ a. Drop b a) as'
+
+any_mapped : {X Y : Type 0} (q : Y → Bool) (f : X → Y) (p : X → Bool) (xs : List X) → list_any q (list_map f (filter p xs)) ≡ list_any (λ x. p x && q (f x)) xs
+any_mapped q f p [] = refl
+any_mapped q f p (x ∷ xs) =
+    elim (p x) as (λ t. list_any q (list_map f (cond t (x ∷ filter p xs) (filter p xs))) ≡ ((t && q (f x)) || list_any (λ y. p y && q (f y)) xs)) [
+      | true ↦ ap (λ t. q (f x) || t) (any_mapped q f p xs)
+      | false ↦ any_mapped q f p xs
+    ]
+
+yes_and : (t u : Bool) → t ≡ true → u ≡ true → (t && u) ≡ true
+yes_and true u e f = f
+yes_and false u e f = cc
+
+not_yes : (t : Bool) → not t ≡ true → t ≡ false
+not_yes true e = cc
+not_yes false e = refl
+
+not_no : (t : Bool) → t ≡ false → not t ≡ true
+not_no true e = cc
+not_no false e = refl
+
+both_ways : {A : Type 0} (t : Bool) → t ≡ false → t ≡ true → A
+both_ways t f h = cc
+
+module _ (s : State) (b : Bssid) (mode : AclMode) where
+  abbrev among_row : Addr → (Bssid × Addr) × Station → Bool
+  among_row a row = is_denied_row s b mode row && eq_by_cmp addr_cmp a row.0.1
+
+  among_rows : (a : Addr) → is_among a (denied_by s b mode) ≡ list_any (among_row a) (map.entries s.stations)
+  among_rows a = any_mapped (eq_by_cmp addr_cmp a) (λ row. row.0.1) (is_denied_row s b mode) (map.entries s.stations)
+
+  -- a station with a row that the mode would deny is among those
+  pub among_denied : (a : Addr) (x : Station) → station_at s b a ≡ Some x → allowed_in s b a mode ≡ false → is_among a (denied_by s b mode) ≡ true
+  among_denied a x row denied =
+      among_rows a
+      ∙ passes_any station_total station_exact (among_row a) s.stations (b, a) x row
+      (yes_and _ _ (yes_and _ _ (tied bssid_total bssid_exact b) (not_no _ denied)) (tied addr_total addr_exact a))
+
+  same_bssid : (c : Bssid) → eq_by_cmp bssid_cmp b c ≡ true → b ≡ c
+  same_bssid c e = elim (one_or_apart bssid_total bssid_exact b c) [ inl same ↦ same | inr ne ↦ both_ways _ ne e ]
+
+  same_addr : (a c : Addr) → eq_by_cmp addr_cmp a c ≡ true → a ≡ c
+  same_addr a c e = elim (one_or_apart addr_total addr_exact a c) [ inl same ↦ same | inr ne ↦ both_ways _ ne e ]
+
+  -- and no other address is
+  pub denied_among : (a : Addr) → is_among a (denied_by s b mode) ≡ true → ((x : Station) × (station_at s b a ≡ Some x)) × (allowed_in s b a mode ≡ false)
+  denied_among a h =
+      let found = any_passes station_total station_exact (among_row a) s.stations (sym (among_rows a) ∙ h) in
+      let test = and_parts (is_denied_row s b mode (found.0, found.1)) (eq_by_cmp addr_cmp a (found.0).1) found.3 in
+      let denied = and_parts (eq_by_cmp bssid_cmp b (found.0).0) (not (allowed_in s b (found.0).1 mode)) test.0 in
+      let bssid : b ≡ (found.0).0 = same_bssid (found.0).0 denied.0 in
+      let addr : a ≡ (found.0).1 = same_addr a (found.0).1 test.1 in
+      ((found.1, (λ i. station_at s (bssid i) (addr i)) ∙ found.2), ap (λ c. allowed_in s b c mode) addr ∙ not_yes _ denied.1)
+
+-- changes in two parts
+pub meaning_of-append : (xs ys : List Change) (s : State) → meaning_of (xs ++ ys) s ≡ meaning_of ys (meaning_of xs s)
+meaning_of-append [] ys s = refl
+meaning_of-append (x ∷ xs) ys s = meaning_of-append xs ys (meaning x s)
+
+-- the lists and the policies stay as they are
+pub drops_lists : (b : Bssid) (as' : List Addr) (s : State) → (meaning_of (drops b as') s).lists ≡ s.lists
+drops_lists b [] s = refl
+drops_lists b (a ∷ as') s = drops_lists b as' (drop_station b a s)
+
+pub drops_policies : (b : Bssid) (as' : List Addr) (s : State) → (meaning_of (drops b as') s).policies ≡ s.policies
+drops_policies b [] s = refl
+drops_policies b (a ∷ as') s = drops_policies b as' (drop_station b a s)
+
+one_key : (r q : Ordering) → is_eq (ordering_then r q) ≡ (is_eq r && is_eq q)
+one_key Less q = refl
+one_key Equal q = refl
+one_key Greater q = refl
+
+nothing_taken : {A : Type 0} (t : Bool) (o : Option A) → o ≡ cond (t && false) None o
+nothing_taken true o = refl
+nothing_taken false o = refl
+
+two_taken : {A : Type 0} (t u v : Bool) (o : Option A) → cond (t && v) None (cond (t && u) None o) ≡ cond (t && (u || v)) None o
+two_taken true true true o = refl
+two_taken true true false o = refl
+two_taken true false v o = refl
+two_taken false u v o = refl
+
+-- of the rows those of these addresses at the BSSID are gone
+pub drops_station : (b : Bssid) (as' : List Addr) (s : State) (c : Bssid) (d : Addr) →
+    station_at (meaning_of (drops b as') s) c d ≡ cond (eq_by_cmp bssid_cmp c b && is_among d as') None (station_at s c d)
+drops_station b [] s c d = nothing_taken (eq_by_cmp bssid_cmp c b) (station_at s c d)
+drops_station b (a ∷ as') s c d =
+    let here = eq_by_cmp bssid_cmp c b in
+    let one : station_at (drop_station b a s) c d ≡ cond (here && eq_by_cmp addr_cmp d a) None (station_at s c d) =
+    get-remove station_total s.stations (b, a) (c, d) ∙ ap (λ t. cond t None (station_at s c d)) (one_key (bssid_cmp c b) (addr_cmp d a)) in
+    drops_station b as' (drop_station b a s) c d
+    ∙ ap (λ o. cond (here && is_among d as') None o) one
+    ∙ two_taken here (eq_by_cmp addr_cmp d a) (is_among d as') (station_at s c d)
+
+pub drops_sound : (b : Bssid) (as' : List Addr) (s : State) → Sound s → Sound (meaning_of (drops b as') s)
+drops_sound b [] s sound = sound
+drops_sound b (a ∷ as') s sound = drops_sound b as' (drop_station b a s) (sound_drop s b a sound)
+
+-- changes behind the drops need to be looked at only from there
+pub drops_stay : (b : Bssid) (as' : List Addr) (rest : List Change) (s : State) → Sound s → StaySound rest (meaning_of (drops b as') s) → StaySound (drops b as' ++ rest) s
+drops_stay b [] rest s sound h = h
+drops_stay b (a ∷ as') rest s sound h = (sound, drops_stay b as' rest (drop_station b a s) (sound_drop s b a sound) h)
+
+left_allowed : {A : Type 0} (t u v : Bool) (o : Option A) → t ≡ true → (v ≡ false → IsSome o → u ≡ true) → IsSome (cond (t && u) None o) → v ≡ true
+left_allowed t u true o e f h = refl
+left_allowed true true false o e f h = cc
+left_allowed true false false o e f h = f refl h
+left_allowed false u false o e f h = cc
+
+some_row : (s : State) (b : Bssid) (mode : AclMode) (a : Addr) (o : Option Station) → station_at s b a ≡ o → allowed_in s b a mode ≡ false → IsSome o → is_among a (denied_by s b mode) ≡ true
+some_row s b mode a None e denied h = cc
+some_row s b mode a (Some x) e denied h = among_denied s b mode a x e denied
+
+-- once those that its mode denies are dropped, a policy may be set
+pub can_set_dropped : (s : State) (b : Bssid) (p : Policy) → IsSome (policy_at s b) ⊎ (map.len s.policies < 8) → CanSet (meaning_of (drops b (denied_by s b p.mode)) s) b p
+can_set_dropped s b p room =
+    let denied = denied_by s b p.mode in
+    record {
+      room = subst (λ m. IsSome (map.get m b) ⊎ (map.len m < 8)) (sym (drops_policies b denied s)) room;
+      allowed = λ a h. subst (λ l. IsTrue (allowed_in (record s { lists = l }) b a p.mode)) (sym (drops_lists b denied s))
+          (left_allowed (eq_by_cmp bssid_cmp b b) (is_among a denied) (allowed_in s b a p.mode) (station_at s b a) (tied bssid_total bssid_exact b)
+          (λ no_more row. some_row s b p.mode a (station_at s b a) refl no_more row)
+          (subst IsSome (drops_station b denied s b a) h));
+    }
+
+pub sound_set_dropped : (s : State) (b : Bssid) (p : Policy) → Sound s → IsSome (policy_at s b) ⊎ (map.len s.policies < 8) → Sound (set_policy b p (meaning_of (drops b (denied_by s b p.mode)) s))
+sound_set_dropped s b p sound room =
+    let denied = denied_by s b p.mode in
+    sound_set (meaning_of (drops b denied) s) b p (drops_sound b denied s sound) (can_set_dropped s b p room)

@@ -1,0 +1,64 @@
+-- The state without rows is sound.
+use Rattle.std.proofs.Common.{◌≡◌, ℕ, ◌≤◌, Bool, true, false, cond, Option, Some, None, refl, sym, ap, ◌∙◌, IsSome, arith}
+use Rattle.std.specs.Option.{is_some}
+use Rattle.std.specs.Ordering.{eq_by_cmp}
+use Rattle.std.specs.Cmp.{IsTotalOrder}
+use Rattle.std.specs.declared.cmp.Ordering.{Ordering}
+use Rattle.std.specs.FinMap as map
+use Rattle.std.specs.FinMap.{IsAntisymmetric, get-empty, get-retain_keys, len-empty, same_map}
+use Rattle.apd_base.specs.Sets as set
+use Rattle.apd_base.specs.declared.address.Addr.{Addr}
+use Rattle.apd_base.specs.declared.address.Bssid.{Bssid}
+use Rattle.apd_base.specs.declared.station.Station.{Station}
+use Rattle.apd_base.specs.declared.station.Which.{Which}
+use Rattle.apd_base.specs.declared.station.Policy.{Policy}
+use Rattle.apd_base.specs.Addr.{station_cmp, bssid_cmp}
+use Rattle.apd_base.proofs.AddrLaws.{station_total, station_exact}
+use Rattle.apd_base.proofs.StateLaws.{list_total, list_exact}
+use Rattle.apd_base.specs.State.{empty_state, station_at, aid_of, aid_at, list_cmp, is_row_of}
+use Rattle.apd_table.specs.Sound.{Sound}
+
+none_either : {X : Type 0} (t : Bool) → ◌≡◌ {A = Option X} (cond t None None) None
+none_either true = refl
+none_either false = refl
+
+no_part : {K : Type 0} (X : Type 0) {R : K → K → Ordering} (o : IsTotalOrder R) (exact : IsAntisymmetric R) (p : K → Bool) → map.len (map.retain_keys (map.empty {X = X} {R = R}) p) ≡ 0
+no_part {K} X {R} o exact p =
+    ap map.len (same_map o exact (map.retain_keys (map.empty {X = X} {R = R}) p) map.empty (λ q.
+    get-retain_keys map.empty p q (λ x t. ap p (sym (exact q x t))) ∙ ap (λ v. cond (p q) v None) (get-empty R q) ∙ none_either (p q) ∙ sym (get-empty R q)))
+    ∙ len-empty R X
+
+none_is : {A B : Type 0} (o : Option A) → o ≡ None → IsSome o → B
+none_is None e h = cc
+none_is (Some x) e h = cc
+
+some_is : {B : Type 0} (o : Option ℕ) (i : ℕ) → o ≡ None → o ≡ Some i → B
+some_is o i e h = cc
+
+few : (n m : ℕ) → n ≡ 0 → n ≤ m
+few n m e = omega arith
+
+no_station : (b : Bssid) (a : Addr) → station_at empty_state b a ≡ None
+no_station b a = get-empty station_cmp (b, a)
+
+no_aid : (b : Bssid) (a : Addr) → aid_at empty_state b a ≡ None
+no_aid b a = ap aid_of (no_station b a)
+
+pub no_list_row : (b : Bssid) (w : Which) (a : Addr) → set.contains (map.empty {X = Unit {0}} {R = list_cmp}) (b, w, a) ≡ false
+no_list_row b w a = ap is_some (get-empty list_cmp (b, w, a))
+
+not_listed : {B : Type 0} (t : Bool) → t ≡ false → t ≡ true → B
+not_listed t e h = cc
+
+pub sound_empty : Sound empty_state
+sound_empty = record {
+  identifiers = λ b a i h. some_is (aid_at empty_state b a) i (no_aid b a) h;
+  distinct = λ b a c i h k. some_is (aid_at empty_state b a) i (no_aid b a) h;
+  one_association = λ b c a h k. none_is (aid_at empty_state b a) (no_aid b a) h;
+  stations_have_policy = λ b a h. none_is (station_at empty_state b a) (no_station b a) h;
+  lists_have_policy = λ b w a h. not_listed _ (no_list_row b w a) h;
+  none_denied = λ b a h. none_is (station_at empty_state b a) (no_station b a) h;
+  few_bss = few _ 8 (len-empty bssid_cmp Policy);
+  few_stations = λ b. few _ 2007 (no_part Station station_total station_exact (λ k. eq_by_cmp bssid_cmp b k.0));
+  few_listed = λ b w. few _ 1024 (no_part (Unit {0}) list_total list_exact (is_row_of b w));
+}

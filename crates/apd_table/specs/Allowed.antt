@@ -1,0 +1,39 @@
+-- Which stations the policy of a BSSID allows.
+use Rattle.std.specs.Prelude.{ℕ, Bool, not, ◌&&◌, ◌||◌, ◌==◌, List, map as list_map, filter, Option, Some, None}
+use Rattle.std.specs.Ordering.{eq_by_cmp}
+use Rattle.std.specs.FinMap as map
+use Rattle.apd_base.specs.Sets as set
+use Rattle.apd_base.specs.declared.address.Addr.{Addr}
+use Rattle.apd_base.specs.declared.address.Bssid.{Bssid}
+use Rattle.apd_base.specs.declared.station.Station.{Station}
+use Rattle.apd_base.specs.declared.station.AclMode.{AclMode}
+use Rattle.apd_base.specs.declared.station.Policy.{Policy}
+use Rattle.apd_base.specs.declared.station.Which.TheVariants.{Accept, Deny}
+use Rattle.apd_base.specs.Addr.{bssid_cmp}
+use Rattle.apd_base.specs.Mode.{mode_number}
+use Rattle.apd_base.specs.State.{State, policy_at}
+
+-- in this mode: an address of the accept list; or one that is not in the deny list, where the mode is 0
+abbrev pub allowed_in : State → Bssid → Addr → AclMode → Bool
+allowed_in s b a mode = set.contains s.lists (b, Accept, a) || (not (set.contains s.lists (b, Deny, a)) && (mode_number mode == 0))
+
+-- under a policy; where there is none there is no mode, and the accept list alone counts
+abbrev pub allowed_under : State → Bssid → Addr → Option Policy → Bool
+allowed_under s b a None = set.contains s.lists (b, Accept, a)
+allowed_under s b a (Some policy) = allowed_in s b a policy.mode
+
+-- under the policy of the BSSID
+abbrev pub allowed : State → Bssid → Addr → Bool
+allowed s b a = allowed_under s b a (policy_at s b)
+
+-- whether a row is one of the BSSID that this mode would deny
+abbrev pub is_denied_row : State → Bssid → AclMode → (Bssid × Addr) × Station → Bool
+is_denied_row s b mode row = eq_by_cmp bssid_cmp b row.0.0 && not (allowed_in s b row.0.1 mode)
+
+-- the addresses of those rows, rising
+abbrev pub denied_by : State → Bssid → AclMode → List Addr
+denied_by s b mode = list_map (λ row. row.0.1) (filter (is_denied_row s b mode) (map.entries s.stations))
+
+-- the number of a policy's mode and its greatest number of stations
+abbrev pub mode_and_max : Policy → ℕ × ℕ
+mode_and_max policy = (mode_number policy.mode, policy.max.count)

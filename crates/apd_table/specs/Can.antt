@@ -1,0 +1,27 @@
+-- What a change needs so that a sound state stays sound.
+use Rattle.std.specs.Prelude.{◌≡◌, ℕ, ◌<◌, Some, IsSome, IfSome, IsTrue, ◌⊎◌}
+use Rattle.std.specs.FinMap as map
+use Rattle.apd_base.specs.declared.address.Addr.{Addr}
+use Rattle.apd_base.specs.declared.address.Bssid.{Bssid}
+use Rattle.apd_base.specs.declared.station.Station.{Station}
+use Rattle.apd_base.specs.declared.station.Policy.{Policy}
+use Rattle.apd_base.specs.State.{State, station_at, policy_at, aid_of, aid_at, count}
+use Rattle.apd_table.specs.Allowed.{allowed, allowed_in}
+
+-- the station may be associated at the BSSID with the identifier
+pub record MayHave (s : State) (b : Bssid) (a : Addr) (i : ℕ) : Type 0 where
+  -- no other station of the BSSID has the identifier
+  pub free : (c : Addr) → aid_at s b c ≡ Some i → a ≡ c
+  -- the station is associated at no other BSSID
+  pub alone : (c : Bssid) → IsSome (aid_at s c a) → b ≡ c
+
+-- a station's row
+pub record CanPut (s : State) (b : Bssid) (a : Addr) (v : Station) : Type 0 where
+  pub identified : IfSome (aid_of (Some v)) (MayHave s b a)
+  pub allowed : IsSome (policy_at s b) × IsTrue (allowed s b a)
+  pub room : IsSome (station_at s b a) ⊎ (count s b < 2007)
+
+-- a BSSID's policy
+pub record CanSet (s : State) (b : Bssid) (p : Policy) : Type 0 where
+  pub room : IsSome (policy_at s b) ⊎ (map.len s.policies < 8)
+  pub allowed : (a : Addr) → IsSome (station_at s b a) → IsTrue (allowed_in s b a p.mode)
