@@ -8,13 +8,13 @@ use Rattle.apd.specs.declared.plain.Input.{Input}
 use Rattle.apd.specs.declared.plain.Accepted.TheVariants.{Stopped, Quiet, Entry}
 use Rattle.apd.specs.declared.plain.QuietReason.TheVariants as quiet
 use Rattle.apd.specs.declared.plain.World.{World}
-use Rattle.apd.specs.World.{event_of, unfit, decided, judged, accepted, entered_if, after_request, with_entry}
+use Rattle.apd.specs.World.{event_of, unfit, answer_to_fit, answer_to, accepted, world_after, after_request, with_entry}
 
 module _ (w : World) (i : Input) (e : Event) (more : eqb w.last (2 ^ 64 - 1) ≡ false) (event : event_of i ≡ Ok e) (fit : unfit w.front w.confs e ≡ None) (something : is_nothing (verdict w.front w.confs e) ≡ false) where
   pub entry_answer : accepted w i ≡ Entry (w.last + 1)
   entry_answer =
-      ap (λ t. cond t Stopped (judged w (event_of i))) more ∙ ap (judged w) event ∙ ap (decided w e) fit
+      ap (λ t. cond t Stopped (answer_to w (event_of i))) more ∙ ap (answer_to w) event ∙ ap (answer_to_fit w e) fit
       ∙ ap (λ t. cond t (Quiet quiet.Nothing) (Entry (w.last + 1))) something
 
   pub entry_world : after_request w i ≡ with_entry w e
-  entry_world = ap (λ r. entered_if w r (accepted w i)) event ∙ ap (entered_if w (Ok e)) entry_answer
+  entry_world = ap (λ r. world_after w r (accepted w i)) event ∙ ap (world_after w (Ok e)) entry_answer

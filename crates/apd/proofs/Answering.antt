@@ -1,5 +1,5 @@
 -- Steps, and lists of them, answer as a fold over the accepted requests.
-use Rattle.std.proofs.Common.{◌≡◌, ℕ, ◌+◌, ◌-◌, ◌^◌, ◌<◌, ◌≤◌, Bool, true, false, cond, not, ◌&&◌, ◌||◌, eqb, leb, List, [], ◌∷◌, ◌++◌, length, take, get_or, Option, Some, None, Result, Ok, Err, ◌⊎◌, inl, inr, refl, sym, ap, subst, ◌∙◌, IsSome, append_assoc, arith, add-one}
+use Rattle.std.proofs.Common.{◌≡◌, ℕ, ◌+◌, ◌-◌, ◌^◌, ◌<◌, ◌≤◌, Bool, true, false, cond, not, ◌&&◌, ◌||◌, eqb, leb, List, [], ◌∷◌, ◌++◌, length, take, get_or, Option, Some, None, Result, Ok, Err, IfOk, OnErr, Vec, Global, ◌⊎◌, inl, inr, refl, sym, ap, subst, ◌∙◌, IsSome, append_assoc, arith, add-one}
 use Rattle.std.specs.Prelude.{map as list_map, filter}
 use Rattle.std.specs.Option.{is_some, is_none}
 use Rattle.std.specs.Ordering.{eq_by_cmp}
@@ -36,9 +36,9 @@ use Rattle.apd.specs.declared.plain.Step.TheVariants.{Accept, Settle, Hand}
 use Rattle.apd.specs.declared.plain.Told.{Told}
 use Rattle.apd.specs.declared.plain.Told.TheVariants.{Accepted as AcceptedAs, Settled, Handed, NoMemory}
 use Rattle.apd.specs.declared.plain.World.{World}
-use Rattle.apd.specs.World.{event_of, unfit, lacks_policy, is_one_too_many, decided, judged, accepted, entered_if, after_request, with_entry, held, settled, handed}
+use Rattle.apd.specs.World.{event_of, unfit, lacks_policy, is_one_too_many, answer_to_fit, answer_to, accepted, world_after, after_request, with_entry, held, settled, handed}
 use Rattle.apd.specs.Steps.{IsStep, events_of, if_event, given}
-use Rattle.apd.specs.Run.{AreSteps, IsAnswered, Answers, all_events, all_given}
+use Rattle.apd.specs.Run.{AreSteps, IsReached, IsAnswered, Answers, all_events, all_given}
 use Rattle.apd.proofs.Handing.{others}
 
 -- events in two parts
@@ -115,29 +115,29 @@ entry_answered w e fit = record {
 }
 
 -- only a fit event gives an entry
-entry_fit : (w : World) (e : Event) (t : Bool) (k : ℕ) → cond t Stopped (decided w e (unfit w.front w.confs e)) ≡ Entry k → unfit w.front w.confs e ≡ None
+entry_fit : (w : World) (e : Event) (t : Bool) (k : ℕ) → cond t Stopped (answer_to_fit w e (unfit w.front w.confs e)) ≡ Entry k → unfit w.front w.confs e ≡ None
 entry_fit w e true k h = cc
-entry_fit w e false k h = elim (unfit w.front w.confs e) as (λ o. decided w e o ≡ Entry k → o ≡ None) [ None ↦ λ _. refl | Some reason ↦ λ quiet_entry. cc ] h
+entry_fit w e false k h = elim (unfit w.front w.confs e) as (λ o. answer_to_fit w e o ≡ Entry k → o ≡ None) [ None ↦ λ _. refl | Some reason ↦ λ quiet_entry. cc ] h
 
-never : (w : World) (reason : Ignored) (t : Bool) (k : ℕ) → cond t Stopped (judged w (Err reason)) ≡ Entry k → ⊥
+never : (w : World) (reason : Ignored) (t : Bool) (k : ℕ) → cond t Stopped (answer_to w (Err reason)) ≡ Entry k → ⊥
 never w reason true k h = cc
 never w reason false k h = cc
 
 -- the world after a request by its answer
-entered : (w : World) (i : Input) (x : Result Event Ignored) (answer : Accepted) → event_of i ≡ x → accepted w i ≡ answer → (new : World) → new ≡ entered_if w x answer → IsAnswered (events_of (Accept i) (AcceptedAs answer)) (λ _. []) w new
+entered : (w : World) (i : Input) (x : Result Event Ignored) (answer : Accepted) → event_of i ≡ x → accepted w i ≡ answer → (new : World) → new ≡ world_after w x answer → IsAnswered (events_of (Accept i) (AcceptedAs answer)) (λ _. []) w new
 entered w i (Ok e) (Entry k) event answer new is =
-    let fit : unfit w.front w.confs e ≡ None = entry_fit w e (eqb w.last (2 ^ 64 - 1)) k (ap (λ x. cond (eqb w.last (2 ^ 64 - 1)) Stopped (judged w x)) (sym event) ∙ answer) in
+    let fit : unfit w.front w.confs e ≡ None = entry_fit w e (eqb w.last (2 ^ 64 - 1)) k (ap (λ x. cond (eqb w.last (2 ^ 64 - 1)) Stopped (answer_to w x)) (sym event) ∙ answer) in
     subst (λ x. IsAnswered (if_event x) (λ _. []) w new) (sym event)
-        (subst (λ n. IsAnswered (e ∷ []) (λ _. []) w n) (sym is) (entry_answered w e (fit_of w.front w.confs e fit)))
+    (subst (λ n. IsAnswered (e ∷ []) (λ _. []) w n) (sym is) (entry_answered w e (fit_of w.front w.confs e fit)))
 entered w i (Err reason) (Entry k) event answer new is =
-    absurd (never w reason (eqb w.last (2 ^ 64 - 1)) k (ap (λ x. cond (eqb w.last (2 ^ 64 - 1)) Stopped (judged w x)) (sym event) ∙ answer))
+    absurd (never w reason (eqb w.last (2 ^ 64 - 1)) k (ap (λ x. cond (eqb w.last (2 ^ 64 - 1)) Stopped (answer_to w x)) (sym event) ∙ answer))
 entered w i (Ok e) Stopped event answer new is = subst (λ n. IsAnswered [] (λ _. []) w n) (sym is) (same_answered w)
 entered w i (Err reason) Stopped event answer new is = subst (λ n. IsAnswered [] (λ _. []) w n) (sym is) (same_answered w)
 entered w i (Ok e) (Quiet why) event answer new is = subst (λ n. IsAnswered [] (λ _. []) w n) (sym is) (same_answered w)
 entered w i (Err reason) (Quiet why) event answer new is = subst (λ n. IsAnswered [] (λ _. []) w n) (sym is) (same_answered w)
 
 request_answered : (w : World) (i : Input) (answer : Accepted) (new : World) → answer ≡ accepted w i → new ≡ after_request w i → IsAnswered (events_of (Accept i) (AcceptedAs answer)) (λ _. []) w new
-request_answered w i answer new told is = entered w i (event_of i) answer refl (sym told) new (is ∙ ap (entered_if w (event_of i)) (sym told))
+request_answered w i answer new told is = entered w i (event_of i) answer refl (sym told) new (is ∙ ap (world_after w (event_of i)) (sym told))
 
 settle_answered : (w new : World) → new ≡ settled w → IsAnswered [] (λ _. []) w new
 settle_answered w new is = subst (λ n. IsAnswered [] (λ _. []) w n) (sym is) (record {
@@ -246,3 +246,28 @@ steps_more steps i ts us d t a b c past lt step now =
     let x = get_or steps i d in
     let more : take (i + 1) steps ≡ take i steps ++ x ∷ [] = ap (λ n. take n steps) (add-one i) ∙ take-suc steps i d lt in
     subst (λ vs. AreSteps (take (i + 1) steps) vs a c) (sym now) (subst (λ xs. AreSteps xs (ts ++ t ∷ []) a c) (sym more) (steps_push (take i steps) ts x t a b c past step))
+
+-- no step, some steps, and some more
+pub reached_itself : (w : World) → IsReached w w
+reached_itself w = record { steps = []; tolds = []; taken = refl }
+
+pub reached_unchanged : (a b : World) → b ≡ a → IsReached a b
+reached_unchanged a b e = record { steps = []; tolds = []; taken = e }
+
+steps_append : (xs ys : List Step) (ts us : List Told) (a b c : World) → AreSteps xs ts a b → AreSteps ys us b c → AreSteps (xs ++ ys) (ts ++ us) a c
+steps_append [] ys [] us a b c past more = subst (λ w. AreSteps ys us w c) past more
+steps_append (x ∷ xs) ys (t ∷ ts) us a b c past more = (past.0, past.1, steps_append xs ys ts us past.0 b c past.2 more)
+steps_append [] ys (t ∷ ts) us a b c past more = absurd past
+steps_append (x ∷ xs) ys [] us a b c past more = absurd past
+
+pub reached_then : (a b c : World) → IsReached a b → IsReached b c → IsReached a c
+reached_then a b c past more = record {
+  steps = past.steps ++ more.steps;
+  tolds = past.tolds ++ more.tolds;
+  taken = steps_append past.steps more.steps past.tolds more.tolds a b c past.taken more.taken;
+}
+
+-- what driving leaves, whether it lacked memory or not
+pub reached_driven : {E : Type 0} (steps : List Step) (r : Result (Vec Told Global) E) (a b : World) → IfOk r (λ tolds. AreSteps steps tolds.items a b) → OnErr r (b ≡ a) → IsReached a b
+reached_driven steps (Ok tolds) a b ok err = record { steps = steps; tolds = tolds.items; taken = ok }
+reached_driven steps (Err lack) a b ok err = reached_unchanged a b err

@@ -17,6 +17,12 @@ AreSteps (step ∷ steps) (told ∷ tolds) old new = (mid : World) × IsStep ste
 AreSteps [] (told ∷ tolds) old new = ⊥
 AreSteps (step ∷ steps) [] old new = ⊥
 
+-- steps lead from one world to another
+pub record IsReached (old new : World) : Type 0 where
+  pub steps : List Step
+  pub tolds : List Told
+  pub taken : AreSteps steps tolds old new
+
 -- the events of the steps that told an entry, in order
 abbrev pub all_events : List Step → List Told → List Event
 all_events [] tolds = []

@@ -25,8 +25,8 @@ use Rattle.apd.specs.declared.plain.Accepted.TheVariants.{Stopped, Quiet, Entry}
 use Rattle.apd.specs.declared.plain.World.{World}
 
 -- no row, no entry, nothing to hand out
-abbrev pub begun : List Conf → World
-begun confs = record { confs = confs; front = empty_state; last = 0; released = []; waiting = [] }
+abbrev pub new_world : List Conf → World
+new_world confs = record { confs = confs; front = empty_state; last = 0; released = []; waiting = [] }
 
 -- what is held for a recipient, in order: nobody was given it yet
 abbrev pub held : Recipient → World → List Out
@@ -58,17 +58,17 @@ unfit s confs e =
     else if is_one_too_many s e then Some quiet.TooManyBss
     else None
 
-abbrev pub decided : World → Event → Option QuietReason → Accepted
-decided w e (Some reason) = Quiet reason
-decided w e None = if is_nothing (verdict w.front w.confs e) then Quiet quiet.Nothing else Entry (w.last + 1)
+abbrev pub answer_to_fit : World → Event → Option QuietReason → Accepted
+answer_to_fit w e (Some reason) = Quiet reason
+answer_to_fit w e None = if is_nothing (verdict w.front w.confs e) then Quiet quiet.Nothing else Entry (w.last + 1)
 
-abbrev pub judged : World → Result Event Ignored → Accepted
-judged w (Err reason) = Quiet (quiet.Ignored reason)
-judged w (Ok e) = decided w e (unfit w.front w.confs e)
+abbrev pub answer_to : World → Result Event Ignored → Accepted
+answer_to w (Err reason) = Quiet (quiet.Ignored reason)
+answer_to w (Ok e) = answer_to_fit w e (unfit w.front w.confs e)
 
 -- the answer to a request: the first that holds
 abbrev pub accepted : World → Input → Accepted
-accepted w i = if w.last == 2 ^ 64 - 1 then Stopped else judged w (event_of i)
+accepted w i = if w.last == 2 ^ 64 - 1 then Stopped else answer_to w (event_of i)
 
 -- the world with an entry more
 abbrev pub with_entry : World → Event → World
@@ -83,11 +83,17 @@ abbrev pub handed : Recipient → World → World
 handed r w = record w { released = filter (λ x. not (is_same r x.0)) w.released }
 
 -- the world after a request: with its entry, or as it was
-abbrev pub entered_if : World → Result Event Ignored → Accepted → World
-entered_if w (Ok e) (Entry number) = with_entry w e
-entered_if w (Ok e) Stopped = w
-entered_if w (Ok e) (Quiet reason) = w
-entered_if w (Err reason) answer = w
+abbrev pub world_after : World → Result Event Ignored → Accepted → World
+world_after w (Ok e) (Entry number) = with_entry w e
+world_after w (Ok e) Stopped = w
+world_after w (Ok e) (Quiet reason) = w
+world_after w (Err reason) answer = w
 
 abbrev pub after_request : World → Input → World
-after_request w i = entered_if w (event_of i) (accepted w i)
+after_request w i = world_after w (event_of i) (accepted w i)
+
+-- only an entry changes anything
+abbrev pub ChangesAsEntryOnly : Accepted → World → World → Type 0
+ChangesAsEntryOnly (Entry number) old new = Unit {0}
+ChangesAsEntryOnly Stopped old new = new ≡ old
+ChangesAsEntryOnly (Quiet reason) old new = new ≡ old

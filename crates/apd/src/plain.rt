@@ -47,6 +47,7 @@ pub enum QuietReason {
 pub enum Accepted {
     /// All numbers of entries were given.
     Stopped,
+    /// The request is no entry: nothing changes, and nothing leaves.
     Quiet(QuietReason),
     /// The request is the entry of this number. They count from 1.
     Entry(u64),
@@ -67,7 +68,9 @@ pub enum Step<'a> {
 #[derive(Debug, Drop)]
 pub enum Told {
     Accepted(Accepted),
+    /// All entries are settled.
     Settled,
+    /// What was settled for the recipient and not handed out before, in order.
     Handed(Sequence<Out>),
     /// Memory ran out, and the step changed nothing.
     NoMemory,
@@ -129,15 +132,17 @@ fn change(table: &mut Table, change: &Change) -> Result<(), AllocError>
     }
 }
 
-/// Makes changes one after another, or lacks memory and leaves the table as it was. One change is
-/// made in place; more are made on a copy, so that none of them stands alone.
+/// Makes changes one after another, or lacks memory and leaves the table as it was. No change and one
+/// are made in place; more are made on a copy, so that none of them stands alone.
 fn change_all(alloc: Global, table: &mut Table, changes: &[Change]) -> Result<(), AllocError>
     requires { StaySound changes.now table.old }
     ensures ok { OnOk result (table.new ≡ meaning_of changes.now table.old) }
     ensures err { OnErr result (table.new ≡ table.old) }
 {
-    if let [only] = changes {
-        return change(table, only);
+    match changes {
+        [] => return Ok(()),
+        [only] => return change(table, only),
+        _ => {}
     }
     let mut next = table.copy(alloc)?;
     for each in changes {
@@ -148,11 +153,11 @@ fn change_all(alloc: Global, table: &mut Table, changes: &[Change]) -> Result<()
 }
 
 impl World {
-    ghost use Rattle.apd.specs.World.{begun, accepted, after_request, with_entry, settled, handed};
+    ghost use Rattle.apd.specs.World.{new_world, accepted, after_request, ChangesAsEntryOnly, settled, handed};
 
     /// A daemon of these configurations, with no entry and an empty table. It takes no memory.
     pub fn new(alloc: Global, confs: Confs) -> World
-        ensures { result ≡ begun confs }
+        ensures { result ≡ new_world confs }
     {
         World {
             confs,
@@ -174,6 +179,7 @@ impl World {
     pub fn accept(&mut self, alloc: Global, input: Input<'_>) -> Result<Accepted, AllocError>
         ensures answer { IfOk result (λ answer. answer ≡ accepted self.old input.entry) }
         ensures ok { OnOk result (self.new ≡ after_request self.old input.entry) }
+        ensures silence { IfOk result (λ answer. ChangesAsEntryOnly answer self.old self.new) }
         ensures err { OnErr result (self.new ≡ self.old) }
     {
         if self.last == u64::MAX {
@@ -205,9 +211,9 @@ impl World {
         let Decision { changes, mut outs } = decision;
         let kept = self.waiting.len();
         self.waiting.append(&mut outs)?;
-        if let Err(lack) = change_all(alloc, &mut self.front, changes.as_slice()) {
+        if let Err(error) = change_all(alloc, &mut self.front, changes.as_slice()) {
             self.waiting.truncate(kept);
-            return Err(lack);
+            return Err(error);
         }
         self.last += 1;
         Ok(())
@@ -271,11 +277,7 @@ impl World {
 ///
 /// What recipients are handed is determined by the accepted requests: see `Answers` in
 /// `specs/Run.antt`.
-pub fn drive(
-    alloc: Global,
-    world: &mut World,
-    steps: &[Step<'_>],
-) -> Result<Vec<Told>, AllocError>
+pub fn drive(alloc: Global, world: &mut World, steps: &[Step<'_>]) -> Result<Vec<Told>, AllocError>
     ensures steps { IfOk result (λ tolds. AreSteps steps.now tolds.items world.old world.new) }
     ensures answers { IfOk result (λ tolds. Answers steps.now tolds.items world.old world.new) }
     ensures err { OnErr result (world.new ≡ world.old) }
@@ -329,16 +331,20 @@ pub fn start_steps(alloc: Global, confs: &Confs) -> Result<Vec<Step<'static>>, A
 }
 
 impl World {
-    ghost use Rattle.apd.specs.Run.{AreSteps};
+    ghost use Rattle.apd.specs.Run.{AreSteps, Answers};
     ghost use Rattle.apd.specs.Start.{start_steps};
 
-    /// Makes the steps of `start_steps`, and answers what each told.
-    pub fn start(&mut self, alloc: Global) -> Result<Vec<Told>, AllocError>
-        ensures steps { IfOk result (λ tolds. AreSteps (start_steps self.old.confs) tolds.items self.old self.new) }
+    /// Configures each interface, settles and hands out: makes the steps of `start_steps`, and answers
+    /// them with what each told.
+    pub fn start(&mut self, alloc: Global) -> Result<(Vec<Step<'static>>, Vec<Told>), AllocError>
+        ensures started { IfOk result (λ made. made.0.items ≡ start_steps self.old.confs) }
+        ensures steps { IfOk result (λ made. AreSteps made.0.items made.1.items self.old self.new) }
+        ensures answers { IfOk result (λ made. Answers made.0.items made.1.items self.old self.new) }
         ensures err { OnErr result (self.new ≡ self.old) }
     {
         let steps = start_steps(alloc, &self.confs)?;
-        drive(alloc, self, steps.as_slice())
+        let tolds = drive(alloc, self, steps.as_slice())?;
+        Ok((steps, tolds))
     }
 }
 

@@ -9,6 +9,9 @@
 //! Lines end at a newline, and the last needs none. Blanks among the digits are skipped, and an empty
 //! line is. Any other line, and an interface that is not configured, ends the script.
 
+ghost use Rattle.std.specs.Prelude.{◌≡◌, IfOk};
+ghost use Rattle.apd.specs.Run.{IsReached};
+
 use crate::plain::{Input, Step, Told, World, drive, flush_steps, hand_steps};
 use apd_base::limits::MAX_SCRIPT;
 use apd_conf::InterfaceName;
@@ -56,7 +59,10 @@ fn writer_fault(error: io::Error) -> ScriptFault {
 /// A line of a script.
 enum Line<'a> {
     Empty,
-    Received { interface: &'a [u8], digits: &'a [u8] },
+    Received {
+        interface: &'a [u8],
+        digits: &'a [u8],
+    },
     Hand,
     Flush,
 }
@@ -94,7 +100,8 @@ fn parse_frame(alloc: Global, text: &[u8]) -> Result<Option<Vec<u8>>, AllocError
     }
 }
 
-fn write_out<W: Write>(
+/// Prints what leaves for the radio of an interface.
+pub fn write_out<W: Write>(
     alloc: Global,
     writer: &mut W,
     interface: &InterfaceName,
@@ -124,9 +131,10 @@ struct Run<W: Write + Drop> {
 
 impl<W: Write + Drop> Run<W> {
     /// Prints what a step told.
-    fn print(&mut self, step: &Step<'_>, told: &Told) -> Result<(), ScriptFault> {
+    fn print(&mut self, step: &Step<'_>, told: &Told) -> Result<(), ScriptFault>
+        ensures { self.new.world ≡ self.old.world }
+    {
         match (step, told) {
-            (_, Told::NoMemory) => Err(ScriptFault::NoMemory),
             (_, Told::Accepted(answer)) => {
                 let line = format!(in self.alloc; "{answer}\n")?;
                 self.writer.write_all(line.as_bytes()).map_err(writer_fault)
@@ -143,29 +151,50 @@ impl<W: Write + Drop> Run<W> {
         }
     }
 
-    /// Makes steps, and prints what they told.
-    fn make(&mut self, steps: &[Step<'_>]) -> Result<(), ScriptFault> {
-        let tolds = drive(self.alloc, &mut self.world, steps)?;
-        for (step, told) in steps.iter().zip(tolds.as_slice()) {
-            self.print(step, told)?;
+    /// Prints what steps told, the answers to requests only where they are asked for. A step that lacked
+    /// memory is a fault, told once all others are printed.
+    fn print_all(
+        &mut self,
+        steps: &[Step<'_>],
+        tolds: &[Told],
+        answers: bool,
+    ) -> Result<(), ScriptFault>
+        ensures { self.new.world ≡ self.old.world }
+    {
+        let mut lacked = false;
+        for (step, told) in steps.iter().zip(tolds) {
+            match told {
+                Told::NoMemory => lacked = true,
+                Told::Accepted(_) if !answers => {}
+                _ => self.print(step, told)?,
+            }
+        }
+        if lacked {
+            return Err(ScriptFault::NoMemory);
         }
         Ok(())
+    }
+
+    /// Makes steps, and prints what they told.
+    fn make(&mut self, steps: &[Step<'_>]) -> Result<(), ScriptFault>
+        ensures { IsReached self.old.world self.new.world }
+    {
+        let tolds = drive(self.alloc, &mut self.world, steps)?;
+        self.print_all(steps, tolds.as_slice(), true)
     }
 
     /// Starts the world, and prints what it handed out and not what it accepted.
-    fn start(&mut self) -> Result<(), ScriptFault> {
-        let steps = crate::plain::start_steps(self.alloc, self.world.confs())?;
-        let tolds = self.world.start(self.alloc)?;
-        for (step, told) in steps.iter().zip(tolds.as_slice()) {
-            if !matches!(told, Told::Accepted(_)) {
-                self.print(step, told)?;
-            }
-        }
-        Ok(())
+    fn start(&mut self) -> Result<(), ScriptFault>
+        ensures { IsReached self.old.world self.new.world }
+    {
+        let (steps, tolds) = self.world.start(self.alloc)?;
+        self.print_all(steps.as_slice(), tolds.as_slice(), false)
     }
 
     /// Runs the line of a number.
-    fn line(&mut self, number: u64, text: &[u8]) -> Result<(), ScriptFault> {
+    fn line(&mut self, number: u64, text: &[u8]) -> Result<(), ScriptFault>
+        ensures { IsReached self.old.world self.new.world }
+    {
         match parse_line(text) {
             None => Err(ScriptFault::BadLine(number)),
             Some(Line::Empty) => Ok(()),
@@ -191,14 +220,17 @@ impl<W: Write + Drop> Run<W> {
     }
 }
 
-/// Starts a world, runs a script on it, line by line as it comes, and hands the world back. It reads
-/// at most 16,777,217 bytes, and a script that has so many is refused as `Reader`.
+/// Starts a world, runs a script on it, line by line as it comes, and hands the world back, which steps
+/// led to. It reads at most 16,777,217 bytes, and a script that has so many is refused as `Reader`. A
+/// fault ends the script and gives the world up; what was told before is printed.
 pub fn run_script<R: BufRead + Drop, W: Write + Drop>(
     alloc: Global,
     world: World,
     reader: R,
     writer: W,
-) -> Result<World, ScriptFault> {
+) -> Result<World, ScriptFault>
+    ensures { IfOk result (λ new. IsReached world new) }
+{
     let mut run = Run {
         alloc,
         world,
@@ -210,9 +242,7 @@ pub fn run_script<R: BufRead + Drop, W: Write + Drop>(
     let mut length = 0usize;
     for number in 1..u64::MAX {
         text.clear();
-        let read = reader
-            .read_until(b'\n', &mut text)
-            .map_err(reader_fault)?;
+        let read = reader.read_until(b'\n', &mut text).map_err(reader_fault)?;
         length = length.saturating_add(read);
         if length > MAX_SCRIPT {
             return Err(ScriptFault::Reader);

@@ -1,7 +1,9 @@
-use crate::plain::World;
-use crate::script::{ScriptFault, run_script};
+use crate::plain::{Accepted, QuietReason, World};
+use crate::script::{ScriptFault, run_script, write_out};
 use apd_base::limits::MAX_SCRIPT;
-use apd_conf::{Conf, Confs};
+use apd_base::{Addr, Aid, Bssid};
+use apd_conf::{Conf, Confs, InterfaceName};
+use apd_mlme::Out;
 use std::alloc::Global;
 use std::io::{self, BufReader, Read, Write};
 use std::test::Fail;
@@ -81,7 +83,10 @@ fn the_first_bad_line_ends_a_script(rt: HostRuntime) -> Result<(), Fail> {
 #[test]
 fn frames_of_2305_bytes_are_too_long(rt: HostRuntime) -> Result<(), Fail> {
     let alloc = rt.alloc();
-    for (bytes, want) in [(2304, b"quiet subtype\n".as_slice()), (2305, b"quiet long\n")] {
+    for (bytes, want) in [
+        (2304, b"quiet subtype\n".as_slice()),
+        (2305, b"quiet long\n"),
+    ] {
         let mut script = Vec::new(alloc);
         script.extend_from_slice(b"rx wlan0 d00000000200000000010200000000aa0200000000011000")?;
         for _ in 24..bytes {
@@ -152,7 +157,68 @@ fn a_script_has_at_most_16_mib(rt: HostRuntime) -> Result<(), Fail> {
         (MAX_SCRIPT as u64 + 1, ScriptFault::Reader),
     ] {
         let reader = BufReader::new(alloc, io::repeat(b'x').take(bytes))?;
-        assert_eq!(rt; run_script(alloc, world(alloc)?, reader, Narrow(0)).err(), Some(want));
+        assert_eq!(rt;
+            run_script(alloc, world(alloc)?, reader, Narrow(0)).err(),
+            Some(want)
+        );
+    }
+    Ok(())
+}
+
+#[test]
+fn radios_are_handed_their_own_in_the_order_of_configuration(rt: HostRuntime) -> Result<(), Fail> {
+    let alloc = rt.alloc();
+    let mut second = Conf::built_in(alloc)?;
+    second.interface = InterfaceName::new("wlan1", alloc)?;
+    second.bssid = Bssid(Addr([2, 0, 0, 0, 0, 0]));
+    let mut list = Vec::new(alloc);
+    list.push(Conf::built_in(alloc)?)?;
+    list.push(second)?;
+    let world = World::new(alloc, Confs::new(list)?);
+    let script =
+        b"rx wlan1 b00000000200000000000200000000aa0200000000001000000001000000\nrx wlan0 b00000000200000000010200000000aa0200000000011000000001000000\nflush\n";
+    let mut out = Vec::new(alloc);
+    assert!(rt; run_script(alloc, world, script.as_slice(), &mut out).is_ok());
+    let want =
+        b"entry 3\nentry 4\nwlan0 tx b00000000200000000aa0200000000010200000000010000000002000000\nwlan1 tx b00000000200000000aa0200000000000200000000000000000002000000\n";
+    assert_eq!(rt; out.as_slice(), want.as_slice());
+    Ok(())
+}
+
+#[test]
+fn driver_calls_and_faults_are_printed_in_these_words(rt: HostRuntime) -> Result<(), Fail> {
+    let alloc = rt.alloc();
+    let name = InterfaceName::new("wlan0", alloc)?;
+    let station = Addr([2, 0, 0, 0, 0, 0xaa]);
+    let mut out = Vec::new(alloc);
+    if let Some(aid) = Aid::new(7) {
+        assert!(rt; write_out(alloc, &mut out, &name, &Out::Install(station, aid)).is_ok());
+    }
+    assert!(rt; write_out(alloc, &mut out, &name, &Out::Remove(station)).is_ok());
+    assert_eq!(rt;
+        out.as_slice(),
+        b"wlan0 install 02:00:00:00:00:aa 7\nwlan0 remove 02:00:00:00:00:aa\n".as_slice()
+    );
+    for (fault, want) in [
+        (ScriptFault::BadLine(12), "bad line 12"),
+        (ScriptFault::Reader, "reader fault"),
+        (ScriptFault::Writer, "writer fault"),
+        (ScriptFault::NoMemory, "out of memory"),
+    ] {
+        assert_eq!(rt; format!(in alloc; "{fault}")?.as_str(), want);
+    }
+    for (answer, want) in [
+        (Accepted::Stopped, "stopped"),
+        (Accepted::Entry(12), "entry 12"),
+        (
+            Accepted::Quiet(QuietReason::NoInterface),
+            "quiet nointerface",
+        ),
+        (Accepted::Quiet(QuietReason::NoPolicy), "quiet nopolicy"),
+        (Accepted::Quiet(QuietReason::TooManyBss), "quiet toomanybss"),
+        (Accepted::Quiet(QuietReason::Nothing), "quiet nothing"),
+    ] {
+        assert_eq!(rt; format!(in alloc; "{answer}")?.as_str(), want);
     }
     Ok(())
 }

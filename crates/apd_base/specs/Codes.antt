@@ -30,7 +30,7 @@ coded_aid =
 abbrev pub coded_association : Coded Association
 coded_association =
     code_by (Aid × (ℕ × ℕ)) (coded× coded_aid (coded× coded_ℕ coded_ℕ))
-    (λ a. (a.aid, (a.capability, a.listen))) (λ p. record { aid = p.0; capability = p.1.0; listen = p.1.1 }) (λ _. refl)
+    (λ a. (a.aid, (a.capability, a.listen_interval))) (λ p. record { aid = p.0; capability = p.1.0; listen_interval = p.1.1 }) (λ _. refl)
 
 abbrev pub association_of : Station → Option Association
 association_of Authenticated = None

@@ -12,8 +12,5 @@ SetOf R = FinMap R (Unit {0})
 abbrev pub contains : {K : Type 0} {R : K → K → Ordering} → SetOf R → K → Bool
 contains s k = map.contains_key s k
 
-abbrev pub with_item : {K : Type 0} {R : K → K → Ordering} → SetOf R → K → SetOf R
-with_item s k = map.insert s k tt
-
 abbrev pub coded_set : {K : Type 0} {R : K → K → Ordering} → Coded K → Coded (SetOf R)
 coded_set k = code k

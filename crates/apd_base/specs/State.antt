@@ -1,4 +1,4 @@
--- The state of an access point (D1 in short: what is journalled): the station rows by (BSSID,
+-- The state of an access point: the station rows by (BSSID,
 -- address), the list rows, and each BSSID's policy.
 use Rattle.std.specs.Prelude.{ℕ, Bool, ◌&&◌, Option, Some, None, IsTrue}
 use Rattle.std.specs.declared.cmp.Ordering.{Ordering}

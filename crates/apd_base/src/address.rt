@@ -47,7 +47,7 @@ fn byte_of(high: u8, low: u8) -> Option<u8>
 }
 
 impl Addr {
-    /// Reads exactly six pairs of hexadecimal digits, of either case, joined by `:`.
+    /// Reads exactly six pairs of hexadecimal digits, of either case, joined by `:`. It takes no memory.
     pub fn parse(text: &[u8]) -> Option<Addr>
         ensures address { IfSome result (λ a. IsText text.now a.0) }
         ensures none { IfNone result ((bytes : List ℕ) → IsText text.now bytes → ⊥) }
@@ -103,7 +103,7 @@ impl Addr {
     }
 
     /// Whether it is a group's address, as the broadcast address is: the Individual/Group bit, which
-    /// is bit 0 of the first byte (IEEE Std 802.11-2016, 9.2.4.3.2).
+    /// is bit 0 of the first byte (IEEE Std 802.11-2016, 9.2.4.3.3).
     pub fn is_group(&self) -> bool
         ensures { IsTrue result ↔ (slice_index self.now.0 0 % 2 ≡ 1) }
     {

@@ -17,7 +17,8 @@ pub const MAX_FRAME: usize = 2304;
 /// Bytes of a control command without the newline at its end (own).
 pub const MAX_COMMAND: usize = 4096;
 
-/// Accepted requests whose answers are not yet all handed out (own).
+/// Accepted requests that are kept: each until it is settled and all that leaves because of it was
+/// handed out (own).
 pub const MAX_KEPT: usize = 4096;
 
 /// Bytes of the records of one group, which becomes durable as a whole (own).

@@ -4,8 +4,8 @@ ghost use Rattle.std.specs.Prelude.{◌≡◌, [], ◌∷◌, ◌++◌, ◌==◌
 use std::alloc::{AllocError, Global};
 use std::marker::Model;
 
-/// A vector that contracts see as the list of its items: two of them are equal where their items
-/// are, however much room each has.
+/// A vector that contracts see as the list of its items: in a contract two of them are equal where
+/// their items are, however much room each has.
 #[derive(Debug, Drop)]
 pub struct Sequence<T> {
     items: Vec<T>,
@@ -43,18 +43,21 @@ impl<T> Sequence<T> {
         self.items
     }
 
+    /// The number of items.
     pub fn len(&self) -> usize
         ensures { result ≡ length self.now }
     {
         self.items.len()
     }
 
+    /// Whether there is none.
     pub fn is_empty(&self) -> bool
         ensures { result ≡ (length self.now == 0) }
     {
         self.items.is_empty()
     }
 
+    /// The items.
     pub fn as_slice(&self) -> &[T]
         ensures { result.now ≡ self.now }
     {

@@ -9,7 +9,9 @@ use crate::limits::MAX_STATIONS;
 /// is in state 1, the others are in states 2 and 4).
 #[derive(Clone, Copy, Debug, PartialEq, Eq)]
 pub enum Station {
+    /// State 2: it may associate.
     Authenticated,
+    /// State 4.
     Associated(Association),
 }
 
@@ -18,8 +20,10 @@ pub enum Station {
 #[derive(Clone, Copy, Debug, PartialEq, Eq)]
 pub struct Association {
     pub aid: Aid,
+    /// As the bits of its field.
     pub capability: u16,
-    pub listen: u16,
+    /// In beacon intervals.
+    pub listen_interval: u16,
 }
 
 /// An association identifier, from 1 to 2007 (IEEE Std 802.11-2016, 9.4.1.8).
@@ -47,7 +51,9 @@ impl Aid {
 /// One of a BSSID's two lists of addresses.
 #[derive(Clone, Copy, Debug, PartialEq, Eq, PartialOrd, Ord)]
 pub enum Which {
+    /// Stations that are allowed in each mode.
     Accept,
+    /// Stations that are denied, unless they are on the accept list too.
     Deny,
 }
 
@@ -72,7 +78,8 @@ impl AclMode {
     }
 }
 
-/// The greatest number of stations that may authenticate at a BSSID, at most 2007.
+/// From how many rows of a BSSID on a new station is refused, at most 2007. There may be more rows than
+/// that, where it was lowered.
 #[derive(Clone, Copy, Debug, PartialEq, Eq)]
 pub struct StationLimit {
     pub count: u16,
@@ -93,7 +100,7 @@ impl StationLimit {
     }
 }
 
-/// A BSSID's policy.
+/// A BSSID's policy: which stations it allows, and how many.
 #[derive(Clone, Copy, Debug, PartialEq, Eq)]
 pub struct Policy {
     pub mode: AclMode,

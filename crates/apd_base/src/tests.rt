@@ -10,7 +10,10 @@ fn an_address_is_written_in_lower_case_and_read_in_either(rt: HostRuntime) -> Re
     let mut text = Vec::new(rt.alloc());
     STATION.write_text(&mut text)?;
     assert_eq!(rt; text.as_slice(), b"02:00:00:00:00:aa".as_slice());
-    assert_eq!(rt; format!(in rt.alloc(); "{STATION}")?.as_str(), "02:00:00:00:00:aa");
+    assert_eq!(rt;
+        format!(in rt.alloc(); "{STATION}")?.as_str(),
+        "02:00:00:00:00:aa"
+    );
     assert_eq!(rt; Addr::parse(b"02:00:00:00:00:AA"), Some(STATION));
     for wrong in [
         b"2:00:00:00:00:aa".as_slice(),
@@ -29,10 +32,18 @@ fn lists_and_rows_take_items_where_memory_is_ample(rt: HostRuntime) -> Result<()
     let mut list = Sequence::new(rt.alloc());
     list.push(7u8)?;
     assert_eq!(rt; list.as_slice(), [7].as_slice());
+    let mut more = Sequence::from_vec([8u8, 9].to_vec(rt.alloc())?);
+    list.append(&mut more)?;
+    assert!(rt; more.is_empty());
+    assert_eq!(rt; list.len(), 3);
+    list.truncate(2);
+    assert_eq!(rt; list.into_vec().as_slice(), [7, 8].as_slice());
     let mut entries = Vec::new(rt.alloc());
     rows::put(&mut entries, 2u8, 'b')?;
     rows::put(&mut entries, 1, 'a')?;
     rows::put(&mut entries, 2, 'c')?;
     assert_eq!(rt; entries.as_slice(), [(1, 'a'), (2, 'c')].as_slice());
+    rows::remove(&mut entries, &1);
+    assert_eq!(rt; entries.as_slice(), [(2, 'c')].as_slice());
     Ok(())
 }

@@ -6,6 +6,7 @@ use Rattle.apd_base.specs.declared.station.AclMode.{AclMode}
 use Rattle.apd_base.specs.declared.station.StationLimit.{StationLimit}
 use Rattle.apd_base.specs.Addr.{coded_bssid}
 use Rattle.apd_base.specs.Codes.{coded_limit, coded_mode}
+use Rattle.apd_conf.specs.Auth.{algs_number}
 use Rattle.apd_conf.specs.declared.conf.Conf.{Conf}
 use Rattle.apd_conf.specs.declared.hw_mode.HwMode.{HwMode}
 use Rattle.apd_conf.specs.declared.hw_mode.HwMode.TheVariants.{A, B, G}
@@ -32,15 +33,11 @@ band_from-band_number G = refl
 abbrev pub coded_band : Coded HwMode
 coded_band = code_by ℕ coded_ℕ band_number band_from band_from-band_number
 
-abbrev pub algs_number : AuthAlgs → ℕ
-algs_number Open = 0
-algs_number Shared = 1
-algs_number OpenAndShared = 2
-
 abbrev pub algs_from : ℕ → AuthAlgs
 algs_from zero = Open
-algs_from (suc zero) = Shared
-algs_from (suc (suc n)) = OpenAndShared
+algs_from (suc zero) = Open
+algs_from (suc (suc zero)) = Shared
+algs_from (suc (suc (suc n))) = OpenAndShared
 
 pub algs_from-algs_number : (a : AuthAlgs) → algs_from (algs_number a) ≡ a
 algs_from-algs_number Open = refl

@@ -16,7 +16,7 @@ pub enum AuthAlgs {
 
 impl AuthAlgs {
     /// Whether Open System is among them.
-    pub fn open(self) -> bool
+    pub fn allows_open(self) -> bool
         ensures { result ≡ allows_open self }
     {
         self != AuthAlgs::Shared

@@ -18,16 +18,17 @@ pub struct Conf {
     pub ssid: Ssid,
     /// The band and rates.
     pub hw_mode: HwMode,
-    /// The channel, 0 to 196.
+    /// The channel. Files have 0 to 196; the type keeps no range.
     pub channel: u8,
-    /// From one beacon to the next, 15 to 65535 time units of 1024 microseconds (IEEE Std 802.11-2016,
-    /// 9.4.1.3).
+    /// From one beacon to the next, in time units of 1024 microseconds (IEEE Std 802.11-2016, 9.4.1.3).
+    /// Files have 15 to 65535; the type keeps no range.
     pub beacon_int: u16,
-    /// The greatest number of stations.
+    /// From how many stations on a new one is refused, 0 to 2007.
     pub max_num_sta: StationLimit,
     /// The authentication algorithms that are taken.
     pub auth_algs: AuthAlgs,
-    /// After how much silence a station is put out, 1 to 2147483647 seconds.
+    /// After how many seconds of silence a station is disassociated, and after as many again
+    /// deauthenticated. Files have 1 to 2147483647; the type keeps no range.
     pub ap_max_inactivity: u32,
     /// Whether a probe request for any network is left unanswered.
     pub ignore_broadcast_ssid: IgnoreBroadcastSsid,
@@ -124,13 +125,30 @@ mod tests {
         assert_eq!(rt; conf.channel, 6);
         assert_eq!(rt; conf.beacon_int, 100);
         assert_eq!(rt; conf.auth_algs, AuthAlgs::OpenAndShared);
-        assert!(rt; conf.auth_algs.open());
+        assert!(rt; conf.auth_algs.allows_open());
         assert_eq!(rt; conf.ap_max_inactivity, 300);
         assert_eq!(rt; conf.ignore_broadcast_ssid, IgnoreBroadcastSsid::No);
         assert_eq!(rt; conf.max_listen_interval, 65535);
         assert_eq!(rt; conf.policy().max.count, 2007);
         assert_eq!(rt; conf.policy().mode, AclMode::AcceptUnlessDenied);
         assert!(rt; conf.accept_mac_file.is_none() && conf.deny_mac_file.is_none());
+        Ok(())
+    }
+
+    #[test]
+    fn a_copy_has_the_names_of_both_list_files(rt: HostRuntime) -> Result<(), Fail> {
+        let mut conf = Conf::built_in(rt.alloc())?;
+        assert!(rt; FileName::is_name("a/accept"));
+        assert!(rt; !FileName::is_name(""));
+        conf.accept_mac_file = Some(FileName::new("a/accept", rt.alloc())?);
+        conf.deny_mac_file = Some(FileName::new("deny", rt.alloc())?);
+        let copy = conf.copy(rt.alloc())?;
+        let accept = copy.accept_mac_file.as_ref().ok_or("no accept file")?;
+        let deny = copy.deny_mac_file.as_ref().ok_or("no deny file")?;
+        assert_eq!(rt; accept.as_str(), "a/accept");
+        assert_eq!(rt; deny.as_bytes(), b"deny".as_slice());
+        let printed = format!(in rt.alloc(); "{deny}")?;
+        assert_eq!(rt; printed.as_str(), "deny");
         Ok(())
     }
 }

@@ -76,6 +76,10 @@ impl InterfaceName {
 }
 
 impl fmt::Display for InterfaceName {
+    ghost use Rattle.std.specs.Prelude.{Some};
+
+    ghost output = { λ name. Some name };
+
     fn fmt<W: fmt::Write>(&self, f: &mut fmt::Formatter<W>) -> fmt::Result {
         f.write_str(self.text.as_str())
     }

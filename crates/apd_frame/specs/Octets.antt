@@ -100,7 +100,7 @@ is_probe_request f = is_management f && (subtype f == 4)
 abbrev pub is_authentication : List ℕ → Bool
 is_authentication f = is_management f && (subtype f == 11)
 
--- a group's address: bit 0 of its first octet is 1; the broadcast address has all bits 1 (9.2.4.3.2)
+-- a group's address: bit 0 of its first octet is 1; the broadcast address has all bits 1 (9.2.4.3.3)
 abbrev pub is_group_address : Addr → Bool
 is_group_address a = slice_index a.0 0 % 2 == 1
 

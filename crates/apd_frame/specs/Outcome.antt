@@ -11,7 +11,7 @@ use Rattle.apd_frame.specs.declared.received.Frame.TheVariants.{Auth}
 use Rattle.apd_frame.specs.declared.received.Authentication.{Authentication}
 use Rattle.apd_frame.specs.Octets.{protocol_version, frame_type, to_ds, from_ds, more_fragments, protected_frame, order, fragment_number, sender, receiver, bssid, algorithm_number, transaction_number, status_field, is_management, is_data, is_probe_request, is_authentication, is_group_address, is_same_address, broadcast}
 
--- an address is the radio's own, or the broadcast address where a probe request may have it (9.3.3.10)
+-- an address is the radio's own, or the broadcast address where a probe request may have it (9.3.3.2, 9.2.4.3.4)
 abbrev pub is_for : List ℕ → Bssid → Addr → Bool
 is_for f own a = is_same_address a own.0 || (is_probe_request f && is_same_address a broadcast)
 

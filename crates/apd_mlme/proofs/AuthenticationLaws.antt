@@ -4,7 +4,7 @@ use Rattle.std.specs.Option.{is_some}
 use Rattle.std.specs.Prelude.{map as list_map}
 use Rattle.std.specs.Ordering.{eq_by_cmp}
 use Rattle.std.specs.FinMap as map
-use Rattle.std.proofs.lemmas.Bool.{and_parts, leb-false}
+use Rattle.std.proofs.lemmas.Bool.{and_parts, eqb-true, leb-false}
 use Rattle.apd_base.specs.declared.address.Addr.{Addr}
 use Rattle.apd_base.specs.declared.address.Bssid.{Bssid}
 use Rattle.apd_base.specs.declared.station.Policy.{Policy}
@@ -13,7 +13,7 @@ use Rattle.apd_base.specs.declared.station.Station.TheVariants.{Authenticated}
 use Rattle.apd_base.specs.Addr.{bssid_cmp, station_cmp}
 use Rattle.apd_base.specs.State.{State, station_at, policy_at, aid_of, aid_at, count}
 use Rattle.apd_base.proofs.AddrLaws.{station_total, station_exact}
-use Rattle.apd_base.proofs.MapLaws.{one_or_apart, get_inserted, get_insert_other}
+use Rattle.apd_base.proofs.MapLaws.{one_or_apart, apart, get_inserted, get_insert_other}
 use Rattle.apd_frame.specs.declared.received.Authentication.{Authentication}
 use Rattle.apd_frame.specs.declared.codes.Status.{Status}
 use Rattle.apd_frame.specs.declared.codes.Status.TheVariants.{Success, RefusedReasonUnspecified, NotSupportedAuthAlgorithm, TransactionSequenceError, DeniedNoMoreStas}
@@ -25,18 +25,18 @@ use Rattle.apd_table.specs.Change.{meaning_of, put_station}
 use Rattle.apd_table.specs.Sound.{Sound, StaySound}
 use Rattle.apd_table.proofs.Put.{sound_put}
 use Rattle.apd_mlme.specs.declared.decision.Recipient.TheVariants.{Radio}
-use Rattle.apd_mlme.specs.Authentication.{is_known, greatest, is_full, first_status, refusals, auth_status, is_success, is_admitted, auth_verdict, auth_response}
+use Rattle.apd_mlme.specs.Authentication.{is_known, station_limit, is_full, first_status, refusals, auth_status, is_success, is_admitted, auth_verdict, auth_response}
 use Rattle.apd_mlme.specs.Driver.{driven, DriverMap}
 use Rattle.apd_mlme.specs.Outs.{sent, outs_to, is_same}
 use Rattle.apd_mlme.specs.Told.{IsToldTruly}
 
 -- the status is success only where no line holds
-none_holds : (a b c d : Bool) → is_success (first_status ((a, NotSupportedAuthAlgorithm) ∷ (b, TransactionSequenceError) ∷ (c, RefusedReasonUnspecified) ∷ (d, DeniedNoMoreStas) ∷ [])) ≡ true → (c ≡ false) × (d ≡ false)
-none_holds true b c d e = cc
-none_holds false true c d e = cc
-none_holds false false true d e = cc
-none_holds false false false true e = cc
-none_holds false false false false e = (refl, refl)
+all_pass : (a b c d : Bool) → is_success (first_status ((a, NotSupportedAuthAlgorithm) ∷ (b, TransactionSequenceError) ∷ (c, RefusedReasonUnspecified) ∷ (d, DeniedNoMoreStas) ∷ [])) ≡ true → (a ≡ false) × (b ≡ false) × (c ≡ false) × (d ≡ false)
+all_pass true b c d e = cc
+all_pass false true c d e = cc
+all_pass false false true d e = cc
+all_pass false false false true e = cc
+all_pass false false false false e = (refl, refl, refl, refl)
 
 not_false : (t : Bool) → not t ≡ false → t ≡ true
 not_false true e = refl
@@ -46,7 +46,7 @@ not_and : (a b : Bool) → a ≡ true → (a && b) ≡ false → b ≡ false
 not_and true b e f = f
 not_and false b e f = cc
 
-room : (o : Option Policy) (n : ℕ) → leb (greatest o) n ≡ false → n < 2007
+room : (o : Option Policy) (n : ℕ) → leb (station_limit o) n ≡ false → n < 2007
 room None n e = let low = leb-false 0 n e in absurd (omega arith)
 room (Some p) n e = let low = leb-false p.max.count n e in let high = p.max.in_range in omega arith
 
@@ -64,11 +64,11 @@ module _ (s : State) (conf : Conf) (b : Bssid) (request : Authentication) where
   can_put : IsSome (policy_at s b) → admitted ≡ true → CanPut s b request.sender Authenticated
   can_put policy e =
       let parts = and_parts (is_success (auth_status s conf b request)) (not (is_known s b request)) e in
-      let none = none_holds (not (eqb request.algorithm 0 && allows_open conf.auth_algs)) (not (eqb request.transaction 1)) (not (allowed s b request.sender)) (not (is_known s b request) && is_full s b) parts.0 in
+      let none = all_pass (not (eqb request.algorithm 0 && allows_open conf.auth_algs)) (not (eqb request.transaction 1)) (not (allowed s b request.sender)) (not (is_known s b request) && is_full s b) parts.0 in
       record {
         identified = tt;
-        allowed = (policy, not_false _ none.0);
-        room = inr (room (policy_at s b) (count s b) (not_and _ (is_full s b) parts.1 none.1));
+        allowed = (policy, not_false _ none.2);
+        room = inr (room (policy_at s b) (count s b) (not_and _ (is_full s b) parts.1 none.3));
       }
 
   pub auth_meaning : meaning_of (auth_verdict s conf b request).changes s ≡ (auth_verdict s conf b request).state
@@ -131,5 +131,41 @@ module _ (s : State) (conf : Conf) (b : Bssid) (request : Authentication) where
     | false ↦ λ e. rw e refl
   ] refl
 
+  -- what success says of the request
+  told_deserved : auth_status s conf b request ≡ Success → IsTrue (allowed s b request.sender) × (request.algorithm ≡ 0) × (request.transaction ≡ 1)
+  told_deserved status =
+      let none = all_pass (not (eqb request.algorithm 0 && allows_open conf.auth_algs)) (not (eqb request.transaction 1)) (not (allowed s b request.sender)) (not (is_known s b request) && is_full s b) (ap is_success status) in
+      (not_false _ none.2, eqb-true request.algorithm 0 (and_parts (eqb request.algorithm 0) (allows_open conf.auth_algs) (not_false _ none.0)).0, eqb-true request.transaction 1 (not_false _ none.1))
+
+  same_state : admitted ≡ false → (auth_verdict s conf b request).state ≡ s
+  same_state e = rw e refl
+
+  never_admitted : (t u : Bool) (o : Option Station) → u ≡ not (is_some o) → IsSome o → (t && u) ≡ false
+  never_admitted true u None e h = cc
+  never_admitted true u (Some x) e h = e
+  never_admitted false u o e h = refl
+
+  told_others : (c : Bssid) (d : Addr) → ¬ ((c ≡ b) × (d ≡ request.sender)) → station_at (auth_verdict s conf b request).state c d ≡ station_at s c d
+  told_others c d other = elim admitted as (λ t. admitted ≡ t → station_at (auth_verdict s conf b request).state c d ≡ station_at s c d) [
+    | true ↦ λ e. rw e (get_insert_other station_total station_exact s.stations (b, request.sender) Authenticated (c, d) (apart station_total station_exact (c, d) (b, request.sender) (λ e. other (ap (λ k. k.0) e, ap (λ k. k.1) e))))
+    | false ↦ λ e. rw e refl
+  ] refl
+
+  told_lists : (auth_verdict s conf b request).state.lists ≡ s.lists
+  told_lists = elim admitted as (λ t. admitted ≡ t → (auth_verdict s conf b request).state.lists ≡ s.lists) [ true ↦ λ e. rw e refl | false ↦ λ e. rw e refl ] refl
+
+  told_policies : (auth_verdict s conf b request).state.policies ≡ s.policies
+  told_policies = elim admitted as (λ t. admitted ≡ t → (auth_verdict s conf b request).state.policies ≡ s.policies) [ true ↦ λ e. rw e refl | false ↦ λ e. rw e refl ] refl
+
   pub auth_told : IsToldTruly s b request (auth_verdict s conf b request)
-  auth_told = record { status = auth_status s conf b request; answer = refl; success = told_success; refused = told_refused }
+  auth_told = record {
+    status = auth_status s conf b request;
+    answer = refl;
+    success = told_success;
+    deserved = told_deserved;
+    refused = told_refused;
+    stays = λ known. same_state (never_admitted (is_success (auth_status s conf b request)) (not (is_known s b request)) (station_at s b request.sender) refl known);
+    others = told_others;
+    lists = told_lists;
+    policies = told_policies;
+  }

@@ -26,7 +26,7 @@ use Rattle.apd_mlme.specs.declared.decision.Recipient.{Recipient}
 use Rattle.apd_mlme.specs.declared.decision.Recipient.TheVariants.{Radio}
 use Rattle.apd_mlme.specs.declared.decision.Out.{Out}
 use Rattle.apd_mlme.specs.declared.decision.Out.TheVariants.{Remove}
-use Rattle.apd_mlme.specs.Configuration.{configure_verdict, deauthentication, farewell, stays}
+use Rattle.apd_mlme.specs.Configuration.{configure_verdict, deauthentication, outs_of_drop, stays}
 use Rattle.apd_mlme.specs.Driver.{driven, DriverMap}
 use Rattle.apd_mlme.specs.Outs.{outs_to, sent}
 use Rattle.apd_mlme.proofs.OutsLaws.{outs_to-append, driven-append}
@@ -109,10 +109,10 @@ module _ (s : State) (conf : Conf) (b : Bssid) where
       ap (λ m. aid_of (map.get m (c, d))) (sym kept_stations) ∙ ap aid_of (drops_station b denied s c d)
       ∙ elim (eq_by_cmp bssid_cmp c b && is_among d denied) as (λ t. aid_of (cond t None (station_at s c d)) ≡ cond t None (aid_at s c d)) [ true ↦ refl | false ↦ refl ]
 
-  -- a farewell takes its station out of the driver's map, where it was associated
-  farewell_driver : (a : Addr) (c : Bssid) (m : DriverMap) (d : Addr) →
-      driven (outs_to (Radio c) (farewell s b a)) m d ≡ cond (eq_by_cmp bssid_cmp c b && (is_some (aid_at s b a) && eq_by_cmp addr_cmp a d)) None (m d)
-  farewell_driver a c m d =
+  -- a drop takes its station out of the driver's map, where it was associated
+  outs_of_drop_driver : (a : Addr) (c : Bssid) (m : DriverMap) (d : Addr) →
+      driven (outs_to (Radio c) (outs_of_drop s b a)) m d ≡ cond (eq_by_cmp bssid_cmp c b && (is_some (aid_at s b a) && eq_by_cmp addr_cmp a d)) None (m d)
+  outs_of_drop_driver a c m d =
       let frame = sent (deauthentication b a) in
       elim (is_some (aid_at s b a)) as (λ u. driven (outs_to (Radio c) ((cond u ((Radio b, Remove a) ∷ []) []) ++ frame ∷ [])) m d ≡ cond (eq_by_cmp bssid_cmp c b && (u && eq_by_cmp addr_cmp a d)) None (m d)) [
         | true ↦ elim (eq_by_cmp bssid_cmp c b) as (λ t. driven (list_map (λ (z : Recipient × Out). z.1) (cond t ((Radio b, Remove a) ∷ cond t (frame ∷ []) []) (cond t (frame ∷ []) []))) m d ≡ cond (t && eq_by_cmp addr_cmp a d) None (m d)) [ true ↦ refl | false ↦ refl ]
@@ -127,24 +127,24 @@ module _ (s : State) (conf : Conf) (b : Bssid) where
             ∙ ap (λ t. is_some (aid_at s b d) && t) (sym ((eq_by_cmp_equiv addr_total).symm d a ∙ apart))
       ]
 
-  -- farewells take out those that are on the list
-  farewells : (as' : List Addr) (c : Bssid) (m : DriverMap) (d : Addr) →
-      driven (outs_to (Radio c) (flat_map (farewell s b) as')) m d ≡ cond (eq_by_cmp bssid_cmp c b && (is_some (aid_at s b d) && is_among d as')) None (m d)
-  farewells [] c m d = nothing_taken (eq_by_cmp bssid_cmp c b) (is_some (aid_at s b d)) (m d)
-  farewells (a ∷ as') c m d =
-      let first = outs_to (Radio c) (farewell s b a) in
+  -- drops take out those that are on the list
+  all_dropped : (as' : List Addr) (c : Bssid) (m : DriverMap) (d : Addr) →
+      driven (outs_to (Radio c) (flat_map (outs_of_drop s b) as')) m d ≡ cond (eq_by_cmp bssid_cmp c b && (is_some (aid_at s b d) && is_among d as')) None (m d)
+  all_dropped [] c m d = nothing_taken (eq_by_cmp bssid_cmp c b) (is_some (aid_at s b d)) (m d)
+  all_dropped (a ∷ as') c m d =
+      let first = outs_to (Radio c) (outs_of_drop s b a) in
       let here = eq_by_cmp bssid_cmp c b in
       let one : driven first m d ≡ cond (here && (is_some (aid_at s b d) && eq_by_cmp addr_cmp d a)) None (m d) =
-      farewell_driver a c m d ∙ ap (λ t. cond (here && t) None (m d)) (same_station a d) in
-      ap (λ outs. driven outs m d) (outs_to-append (Radio c) (farewell s b a) (flat_map (farewell s b) as'))
-      ∙ ap (λ (f : DriverMap). f d) (driven-append first (outs_to (Radio c) (flat_map (farewell s b) as')) m)
-      ∙ farewells as' c (driven first m) d
+      outs_of_drop_driver a c m d ∙ ap (λ t. cond (here && t) None (m d)) (same_station a d) in
+      ap (λ outs. driven outs m d) (outs_to-append (Radio c) (outs_of_drop s b a) (flat_map (outs_of_drop s b) as'))
+      ∙ ap (λ (f : DriverMap). f d) (driven-append first (outs_to (Radio c) (flat_map (outs_of_drop s b) as')) m)
+      ∙ all_dropped as' c (driven first m) d
       ∙ ap (λ o. cond (here && (is_some (aid_at s b d) && is_among d as')) None o) one
       ∙ two_taken here (is_some (aid_at s b d)) (eq_by_cmp addr_cmp d a) (is_among d as') (m d)
 
   pub configure_driver : (c : Bssid) (d : Addr) → driven (outs_to (Radio c) (configure_verdict s conf b).outs) (aid_at s c) d ≡ aid_at (configure_verdict s conf b).state c d
   configure_driver c d =
-      farewells denied c (aid_at s c) d
+      all_dropped denied c (aid_at s c) d
       ∙ elim (one_or_apart bssid_total bssid_exact c b) [
         | inl same ↦ subst (λ (z : Bssid). cond (eq_by_cmp bssid_cmp z b && (is_some (aid_at s b d) && is_among d denied)) None (aid_at s z d) ≡ cond (eq_by_cmp bssid_cmp z b && is_among d denied) None (aid_at s z d)) (sym same)
             (known_or_none (eq_by_cmp bssid_cmp b b) (is_among d denied) (aid_at s b d))

@@ -28,7 +28,7 @@ use Rattle.apd_mlme.specs.declared.decision.Recipient.TheVariants.{Radio}
 use Rattle.apd_mlme.specs.declared.decision.Out.{Out}
 use Rattle.apd_mlme.specs.declared.decision.Decision.{Decision}
 use Rattle.apd_mlme.specs.Authentication.{auth_verdict}
-use Rattle.apd_mlme.specs.Configuration.{configure_verdict, farewell}
+use Rattle.apd_mlme.specs.Configuration.{configure_verdict, outs_of_drop}
 use Rattle.apd_mlme.specs.Driver.{driven, DriverMap, FollowsDrivers}
 use Rattle.apd_mlme.specs.Outs.{outs_to}
 use Rattle.apd_mlme.specs.Rules.{verdict, verdict_under, bssid_of, IsFit}
@@ -94,6 +94,6 @@ pub decided_sound : {E : Type 0} (s : State) (confs : List Conf) (e : Event) (r 
 decided_sound s confs e (Ok d) fit sound h = subst (λ changes. StaySound changes s) (sym h) (verdict_sound s confs e fit sound)
 decided_sound s confs e (Err lack) fit sound h = tt
 
-pub decided_driver : {E : Type 0} (s : State) (confs : List Conf) (e : Event) (r : Result Decision E) → IfOk r (λ d. d.outs ≡ (verdict s confs e).outs) → IfOk r (λ d. FollowsDrivers d.outs s (verdict s confs e).state)
-decided_driver s confs e (Ok d) h = λ b a. ap (λ outs. driven (outs_to (Radio b) outs) (aid_at s b) a) h ∙ verdict_driver s confs e b a
+pub decided_driver : {E : Type 0} (s : State) (confs : List Conf) (e : Event) (r : Result Decision E) → IfOk r (λ d. d.outs ≡ (verdict s confs e).outs) → IfOk r (λ d. FollowsDrivers confs d.outs s (verdict s confs e).state)
+decided_driver s confs e (Ok d) h = λ b _ a. ap (λ outs. driven (outs_to (Radio b) outs) (aid_at s b) a) h ∙ verdict_driver s confs e b a
 decided_driver s confs e (Err lack) h = tt

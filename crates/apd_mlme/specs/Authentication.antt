@@ -23,13 +23,13 @@ abbrev pub is_known : State → Bssid → Authentication → Bool
 is_known s b request = is_some (station_at s b request.sender)
 
 -- the greatest number of stations that the BSSID's policy lets authenticate
-abbrev pub greatest : Option Policy → ℕ
-greatest None = 0
-greatest (Some policy) = policy.max.count
+abbrev pub station_limit : Option Policy → ℕ
+station_limit None = 0
+station_limit (Some policy) = policy.max.count
 
 -- whether the BSSID has as many rows as its policy lets authenticate, or more
 abbrev pub is_full : State → Bssid → Bool
-is_full s b = nat_le (greatest (policy_at s b)) (count s b)
+is_full s b = nat_le (station_limit (policy_at s b)) (count s b)
 
 -- the status of the first line that holds, or success
 abbrev pub first_status : List (Bool × Status) → Status

@@ -21,13 +21,13 @@ use Rattle.apd_mlme.specs.declared.decision.Out.TheVariants.{Remove}
 use Rattle.apd_mlme.specs.Outs.{sent}
 use Rattle.apd_mlme.specs.Verdict.{Verdict}
 
--- a station is told that its authentication is at an end (11.3.4.5), with the reason code 1, unspecified
+-- a station is told that its authentication is at an end (11.3.4.4), with the reason code 1, unspecified
 abbrev pub deauthentication : Bssid → Addr → Reply
 deauthentication b a = record { to = a; bssid = b; body = Deauth (record { 0 = 1 }) }
 
 -- what leaves for a station whose row is dropped: the driver lets it go, where it was associated, and it is told
-abbrev pub farewell : State → Bssid → Addr → List (Recipient × Out)
-farewell s b a =
+abbrev pub outs_of_drop : State → Bssid → Addr → List (Recipient × Out)
+outs_of_drop s b a =
     (if is_some (aid_at s b a) then (Radio b, Remove a) ∷ [] else []) ++ sent (deauthentication b a) ∷ []
 
 -- a row stays where it is another BSSID's, or its station is allowed in the new mode
@@ -42,5 +42,5 @@ configure_verdict s conf b =
     record {
       state = record s { stations = maps.retain_keys s.stations (stays s b conf.macaddr_acl); policies = maps.insert s.policies b (policy_of conf) };
       changes = map (λ a. Drop b a) denied ++ Policy b (policy_of conf) ∷ [];
-      outs = flat_map (farewell s b) denied;
+      outs = flat_map (outs_of_drop s b) denied;
     }

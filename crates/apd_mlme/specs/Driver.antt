@@ -1,10 +1,12 @@
 -- A radio's driver as a map from the stations that it was told to take in, to their association identifiers.
-use Rattle.std.specs.Prelude.{◌≡◌, ℕ, List, [], ◌∷◌, Option, None, Some, if◌then◌else◌}
+use Rattle.std.specs.Prelude.{◌≡◌, ℕ, List, [], ◌∷◌, Option, None, Some, IsSome, if◌then◌else◌}
 use Rattle.std.specs.Ordering.{eq_by_cmp}
 use Rattle.apd_base.specs.declared.address.Addr.{Addr}
 use Rattle.apd_base.specs.declared.address.Bssid.{Bssid}
 use Rattle.apd_base.specs.Addr.{addr_cmp}
 use Rattle.apd_base.specs.State.{State, aid_at}
+use Rattle.apd_conf.specs.declared.conf.Conf.{Conf}
+use Rattle.apd_conf.specs.Confs.{conf_at}
 use Rattle.apd_mlme.specs.declared.decision.Recipient.{Recipient}
 use Rattle.apd_mlme.specs.declared.decision.Recipient.TheVariants.{Radio}
 use Rattle.apd_mlme.specs.declared.decision.Out.{Out}
@@ -26,7 +28,8 @@ abbrev pub driven : List Out → DriverMap → DriverMap
 driven [] driver = driver
 driven (out ∷ outs) driver = driven outs (driven_by out driver)
 
--- where a driver had the associated stations of its BSSID under their identifiers, it has them after the outs to its radio
-abbrev pub FollowsDrivers : List (Recipient × Out) → State → State → Type 0
-FollowsDrivers outs old new =
-    (b : Bssid) (a : Addr) → driven (outs_to (Radio b) outs) (aid_at old b) a ≡ aid_at new b a
+-- where the driver of a configured BSSID had its associated stations under their identifiers, it has them after the outs to
+-- its radio
+abbrev pub FollowsDrivers : List Conf → List (Recipient × Out) → State → State → Type 0
+FollowsDrivers confs outs old new =
+    (b : Bssid) → IsSome (conf_at confs b) → (a : Addr) → driven (outs_to (Radio b) outs) (aid_at old b) a ≡ aid_at new b a

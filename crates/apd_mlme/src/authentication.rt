@@ -25,7 +25,7 @@ fn is_full(table: &Table, bssid: Bssid) -> bool
 fn status_of(table: &Table, conf: &Conf, bssid: Bssid, request: &Authentication) -> Status
     ensures { result ≡ auth_status table.now conf.now bssid request.now }
 {
-    if !(request.algorithm == OPEN_SYSTEM && conf.auth_algs.open()) {
+    if !(request.algorithm == OPEN_SYSTEM && conf.auth_algs.allows_open()) {
         return Status::NotSupportedAuthAlgorithm;
     }
     if request.transaction != 1 {

@@ -1,6 +1,6 @@
 //! The start of a BSSID with its configuration (own).
 ghost use Rattle.std.specs.Prelude.{◌≡◌, ◌++◌, IfOk, OnOk};
-ghost use Rattle.apd_mlme.specs.Configuration.{configure_verdict, deauthentication, farewell};
+ghost use Rattle.apd_mlme.specs.Configuration.{configure_verdict, deauthentication, outs_of_drop};
 
 use crate::decision::{Decision, Out, Recipient, sent};
 use apd_base::{Addr, Bssid, Sequence, Station};
@@ -22,14 +22,14 @@ fn deauthentication(bssid: Bssid, addr: Addr) -> Reply
 }
 
 /// Adds what leaves for a station whose row is dropped.
-fn push_farewell(
+fn push_outs_of_drop(
     alloc: Global,
     table: &Table,
     bssid: Bssid,
     addr: Addr,
     outs: &mut Sequence<(Recipient, Out)>,
 ) -> Result<(), AllocError>
-    ensures { OnOk result (outs.new ≡ outs.old ++ farewell table.now bssid addr) }
+    ensures { OnOk result (outs.new ≡ outs.old ++ outs_of_drop table.now bssid addr) }
 {
     if let Some(Station::Associated(_)) = table.get(bssid, addr) {
         outs.push((Recipient::Radio(bssid), Out::Remove(addr)))?;
@@ -53,7 +53,7 @@ pub fn configure(
     let mut outs = Sequence::new(alloc);
     for addr in denied.as_slice() {
         changes.push(Change::Drop { bssid, addr: *addr })?;
-        push_farewell(alloc, table, bssid, *addr, &mut outs)?;
+        push_outs_of_drop(alloc, table, bssid, *addr, &mut outs)?;
     }
     changes.push(Change::Policy {
         bssid,

@@ -28,7 +28,9 @@ pub enum Out {
 /// What an event brings about: changes of the table, in order, and what leaves because of them.
 #[derive(Debug, Drop)]
 pub struct Decision {
+    /// In an order in which each of them leaves a sound table.
     pub changes: Sequence<Change>,
+    /// In the order in which each recipient gets its own.
     pub outs: Sequence<(Recipient, Out)>,
 }
 
@@ -52,7 +54,7 @@ pub(crate) fn sent(alloc: Global, reply: &Reply) -> Result<(Recipient, Out), All
 impl Recipient {
     ghost use Rattle.apd_mlme.specs.Outs.{is_same};
 
-    /// Whether they are one.
+    /// Whether they are one, by the order of their BSSIDs, as definitions compare them.
     pub fn is_same(self, other: Recipient) -> bool
         ensures { result ≡ is_same self other }
     {

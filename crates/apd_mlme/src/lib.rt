@@ -14,17 +14,16 @@ pub mod decision;
 pub mod event;
 pub mod laws;
 
-pub use decision::{Decision, Out, Recipient};
-pub use event::Event;
-
 use apd_conf::Confs;
 use apd_frame::Frame;
 use apd_table::Table;
+pub use decision::{Decision, Out, Recipient};
+pub use event::Event;
 use std::alloc::{AllocError, Global};
 
 /// What a fit event brings about: its changes, in an order in which each of them leaves a sound
 /// table, and its outs. A frame is fit where its BSSID is configured and has a policy row; a start,
-/// where the BSSID is configured, and has a policy row or is among the first eight.
+/// where the BSSID is configured, and has a policy row or fewer than eight BSSIDs have one.
 pub fn decide(
     alloc: Global,
     table: &Table,
@@ -39,14 +38,14 @@ pub fn decide(
     ensures meaning { IfOk result (λ d. meaning_of d.changes table.now ≡ (verdict table.now confs.now event).state) }
     ensures sound { IfOk result (λ d. StaySound d.changes table.now) }
 
-    // What leaves keeps each radio's driver at the associated stations of its BSSID.
-    ensures driver { IfOk result (λ d. FollowsDrivers d.outs table.now (verdict table.now confs.now event).state) }
+    // What leaves keeps the driver of each configured BSSID at its associated stations.
+    ensures driver { IfOk result (λ d. FollowsDrivers confs.now d.outs table.now (verdict table.now confs.now event).state) }
 {
     table.sound();
-    judge(alloc, table, confs, event)
+    decide_fit(alloc, table, confs, event)
 }
 
-fn judge(
+fn decide_fit(
     alloc: Global,
     table: &Table,
     confs: &Confs,
@@ -64,6 +63,3 @@ fn judge(
         Event::Configure(bssid) => configuration::configure(alloc, table, conf, bssid),
     }
 }
-
-#[cfg(test)]
-mod tests;

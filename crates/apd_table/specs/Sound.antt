@@ -26,10 +26,6 @@ pub record Sound (s : State) : Type 0 where
   pub few_stations : (b : Bssid) → count s b ≤ 2007
   pub few_listed : (b : Bssid) (w : Which) → list_count s b w ≤ 1024
 
--- an associated station of the BSSID has the identifier
-abbrev pub IsTaken : State → Bssid → ℕ → Type 0
-IsTaken s b i = (a : Addr) × (aid_at s b a ≡ Some i)
-
 -- each front of the changes leaves a sound state
 abbrev pub StaySound : List Change → State → Type 0
 StaySound [] s = Sound s

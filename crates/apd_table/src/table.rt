@@ -89,7 +89,8 @@ impl Table {
         self.stations.get(bssid, addr)
     }
 
-    /// The number of the mode of a BSSID's policy, and its greatest number of stations.
+    /// The number of the mode of a BSSID's policy, and from how many stations on a new one is refused;
+    /// `None` exactly where it has no policy row.
     pub fn policy(&self, bssid: Bssid) -> Option<(u8, u16)>
         ensures { result ≡ option_map mode_and_max (policy_at self.now bssid) }
     {
@@ -147,7 +148,7 @@ impl Table {
     }
 
     /// Makes a change, exactly where the state after it is sound; else the answer is `Invalid`, and
-    /// the table is as it was, as it is where memory lacks. It lacks only for a new row.
+    /// nothing changed. `NoMemory` comes only where a row must be added, and changes nothing either.
     pub fn apply(&mut self, change: &Change) -> Result<(), TableFault>
         ensures ok { OnOk result (self.new ≡ meaning change.now self.old) }
         ensures sound { OnOk result (Sound (meaning change.now self.old)) }

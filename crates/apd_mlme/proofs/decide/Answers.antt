@@ -2,10 +2,10 @@ use Rattle.apd_mlme.proofs.VerdictLaws.{decided_meaning, decided_sound, decided_
 use Rattle.apd_mlme.proofs.decide.Goals as goal
 
 pub returns-clause-meaning : goal.returns-clause-meaning
-returns-clause-meaning c = decided_meaning c.args.table.now c.args.confs.now c.args.event c.judge.result c.judge.ensures.changes
+returns-clause-meaning c = decided_meaning c.args.table.now c.args.confs.now c.args.event c.decide_fit.result c.decide_fit.ensures.changes
 
 pub returns-clause-sound : goal.returns-clause-sound
-returns-clause-sound c = decided_sound c.args.table.now c.args.confs.now c.args.event c.judge.result c.requires c.sound.ensures c.judge.ensures.changes
+returns-clause-sound c = decided_sound c.args.table.now c.args.confs.now c.args.event c.decide_fit.result c.requires c.sound.ensures c.decide_fit.ensures.changes
 
 pub returns-clause-driver : goal.returns-clause-driver
-returns-clause-driver c = decided_driver c.args.table.now c.args.confs.now c.args.event c.judge.result c.judge.ensures.outs
+returns-clause-driver c = decided_driver c.args.table.now c.args.confs.now c.args.event c.decide_fit.result c.decide_fit.ensures.outs

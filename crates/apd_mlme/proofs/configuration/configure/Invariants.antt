@@ -2,12 +2,12 @@ use Rattle.std.proofs.Common.{◌≡◌, take}
 use Rattle.std.specs.Prelude.{map}
 use Rattle.std.specs.List.{flat_map}
 use Rattle.apd_table.specs.declared.change.Change.TheVariants.{Drop}
-use Rattle.apd_mlme.specs.Configuration.{farewell}
+use Rattle.apd_mlme.specs.Configuration.{outs_of_drop}
 use Rattle.apd_mlme.proofs.configuration.configure.Given as goal
 
 -- the changes and outs so far are those of the addresses so far
 abbrev pub invariant-loop-addr : goal.invariant-loop-addr
 invariant-loop-addr l = record {
   changes : l.changes ≡ map (λ a. Drop l.bssid a) (take l.addr-index l.addr-items);
-  outs : l.outs ≡ flat_map (farewell l.table l.bssid) (take l.addr-index l.addr-items);
+  outs : l.outs ≡ flat_map (outs_of_drop l.table l.bssid) (take l.addr-index l.addr-items);
 }

@@ -1,0 +1,17 @@
+use Rattle.apd.proofs.Answering.{reached_itself}
+use Rattle.apd.proofs.script.Run.line.Goals as goal
+
+pub returns-in_default : goal.returns-in_default
+returns-in_default g c = reached_itself c.args.self.now.world
+
+pub returns-in_default-2 : goal.returns-in_default-2
+returns-in_default-2 g c = reached_itself c.args.self.now.world
+
+pub returns-in_err-frame-in-Some-Received : goal.returns-in_err-frame-in-Some-Received
+returns-in_err-frame-in-Some-Received g c = reached_itself c.args.self.now.world
+
+pub returns-in-None : goal.returns-in-None
+returns-in-None g c = reached_itself c.args.self.now.world
+
+pub returns-in-Some-Empty : goal.returns-in-Some-Empty
+returns-in-Some-Empty g c = reached_itself c.args.self.now.world

@@ -1,0 +1,9 @@
+use Rattle.std.proofs.Common.{arith}
+use Rattle.std.proofs.lemmas.Grind.{common_steps}
+use Rattle.apd_disk.specs.Mem.{length-reads}
+use Rattle.apd_disk.proofs.mem.MemDisk.crash.Goals as goal
+
+pub copy_from_slice-requires : goal.copy_from_slice-requires
+copy_from_slice-requires c =
+    let d = c.args.self in
+    grind (arith, common_steps, length-reads d.initial.items d.calls.items d.bytes.items d.stands d.fit, c.deref.ensures.value, c.deref.ensures.len)

@@ -1,0 +1,26 @@
+use Rattle.apd_disk.proofs.Calls.{elapses_push, sync_stands, sync_fits, sync_only, sync_stop}
+use Rattle.apd_disk.proofs.mem.MemDiskDisk.sync.Goals as goal
+use Rattle.apd_disk.specs.declared.call.Call.TheVariants.{Sync}
+
+pub invariant_of-self : goal.invariant_of-self
+invariant_of-self c =
+    let d = c.args.self.now in
+    record {
+      stands = sync_stands d.initial.items d.calls.items c.record.new.calls.items d.bytes.items d.stands d.fit c.in-Ok.ensures.ok;
+      fit = sync_fits d.initial.items d.calls.items c.record.new.calls.items d.bytes.items d.stands d.fit c.in-Ok.ensures.ok;
+    }
+
+pub returns-in-Ok-clause-durable : goal.returns-in-Ok-clause-durable
+returns-in-Ok-clause-durable c =
+    let d = c.args.self.now in
+    sync_only d.initial.items d.calls.items c.record.new.calls.items d.bytes.items d.stands d.fit c.in-Ok.ensures.ok
+
+pub returns-in-Ok-clause-stop : goal.returns-in-Ok-clause-stop
+returns-in-Ok-clause-stop c =
+    let d = c.args.self.now in
+    sync_stop d.initial.items d.calls.items c.record.new.calls.items d.bytes.items d.stands d.fit c.in-Ok.ensures.ok
+
+pub returns-in-Ok-clause-time : goal.returns-in-Ok-clause-time
+returns-in-Ok-clause-time c =
+    let d = c.args.self.now in
+    elapses_push d.initial.items d.calls.items c.record.new.calls.items Sync c.in-Ok.ensures.ok

@@ -1,0 +1,46 @@
+-- What the calls of a disk do to its bytes, and to what a stop may leave.
+use Rattle.std.specs.Prelude.{◌<◌, ◌≡◌, ◌⊎◌, ℕ, ◌+◌, ◌^◌, ◌≤◌, List, ◌++◌, length, take, drop, Result, OnErr}
+
+-- the image with these bytes at this place
+abbrev pub overwritten : List ℕ → ℕ → List ℕ → List ℕ
+overwritten image at bytes = take at image ++ bytes ++ drop (at + length bytes) image
+
+-- any bytes in a range of n, the same outside it
+pub record TornWithin (at n : ℕ) (old new : List ℕ) : Type 0 where
+  pub before : take at new ≡ take at old
+  pub after : drop (at + n) new ≡ drop (at + n) old
+  pub same_length : length new ≡ length old
+
+-- this image and no other
+abbrev pub Only : List ℕ → (List ℕ → Type 0) → Type 0
+Only image images = (c : List ℕ) → images c → c ≡ image
+
+-- no image but these
+abbrev pub Within : (List ℕ → Type 0) → (List ℕ → Type 0) → Type 0
+Within images others = (c : List ℕ) → images c → others c
+
+-- each of the new images comes from one of the old by a step
+abbrev pub Follows : (List ℕ → List ℕ → Type 0) → (List ℕ → Type 0) → (List ℕ → Type 0) → Type 0
+Follows step old new = (c : List ℕ) → new c → (d : List ℕ) × old d × step d c
+
+-- Time goes on: what a stop since t may have left is what it might have left before the call, or since its start.
+pub record Elapses (before now : ℕ) (past since : ℕ → List ℕ → Type 0) : Type 0 where
+  pub later : before ≤ now
+  pub nothing_else : (t : ℕ) (c : List ℕ) → t ≤ before → since t c → past t c ⊎ since before c
+  pub keeps : (t : ℕ) (c : List ℕ) → t ≤ before → past t c → since t c
+
+-- the count rose; one at its greatest number stays there, and is taken as risen
+abbrev pub Rises : ℕ → ℕ → Type 0
+Rises before now = before + 1 < 2 ^ 64 → before < now
+
+-- the count doesn't fall, and a fault is told only where it rose
+pub record Counts {T E : Type 0} (before now : ℕ) (result : Result T E) : Type 0 where
+  pub later : before ≤ now
+  pub rises : OnErr result (Rises before now)
+
+-- A stop at any moment since old leaves an image that has P.
+pub record LeavesOnly {D : Type 0} (moment : D → ℕ) (left_since : D → ℕ → List ℕ → Type 0) (old new : D) (P : List ℕ → Type 0) : Type 0 where
+  pub later : moment old ≤ moment new
+  pub each : (c : List ℕ) → left_since new (moment old) c → P c
+  -- for a run that began earlier
+  pub before : (t : ℕ) (c : List ℕ) → t ≤ moment old → left_since new t c → left_since old t c ⊎ P c

@@ -1,0 +1,148 @@
+//! A disk that fails for good after some calls.
+ghost use Rattle.std.specs.Prelude.{◌≡◌, ◌≤◌, ◌+◌, ◌-◌, ◌^◌, ◌↔◌, length, take, drop, min, OnOk, Some};
+ghost use Rattle.apd_disk.specs.Disk.{overwritten, TornWithin, Only, Within, Follows, Elapses, Counts};
+ghost use Rattle.apd_disk.specs.Faults.{FuseCall};
+
+use crate::fault::fail;
+use crate::{Disk, DiskFault};
+
+/// Passes some calls on. The next is passed on too, and answered as failed; later ones are failed and not
+/// passed on. Reads, writes and syncs count alike.
+#[derive(Drop)]
+pub struct FuseDisk<D: Disk> {
+    inner: D,
+    passes: Option<u64>,
+    failures: u64,
+}
+
+impl<D: Disk> FuseDisk<D> {
+    /// A fuse that passes this many calls before the one that fails.
+    pub fn new(inner: D, calls: u64) -> Self
+        ensures inner { result.inner ≡ inner }
+        ensures calls { result.passes ≡ Some calls }
+        ensures failures { result.failures ≡ 0 }
+    {
+        FuseDisk {
+            inner,
+            passes: Some(calls),
+            failures: 0,
+        }
+    }
+
+    /// The disk inside, as the calls left it.
+    pub fn into_inner(self) -> D
+        ensures { result ≡ self.inner }
+    {
+        let FuseDisk {
+            inner,
+            passes: _,
+            failures: _,
+        } = self;
+        inner
+    }
+}
+
+impl<D: Disk> Disk for FuseDisk<D> {
+    ghost honest = { λ d. D.honest d.inner };
+
+    ghost reads = { λ d. D.reads d.inner };
+
+    ghost may_leave = { λ d. D.may_leave d.inner };
+
+    ghost moment = { λ d. D.moment d.inner };
+
+    ghost left_since = { λ d. D.left_since d.inner };
+
+    ghost size = { λ d. D.size d.inner };
+
+    ghost failed = { λ d. min (D.failed d.inner + d.failures) (2 ^ 64 - 1) };
+
+    ghost reads_may_be_left = { λ d h. D.reads_may_be_left d.inner h };
+
+    ghost counts_now = { λ d t c h le left. D.counts_now d.inner t c h le left };
+
+    ghost only_now = { λ d c h left. D.only_now d.inner c h left };
+
+    ghost same_size = { λ d t c h left. D.same_size d.inner t c h left };
+
+    fn len(&self) -> usize {
+        self.inner.len()
+    }
+
+    fn failures(&self) -> u64 {
+        self.inner.failures().saturating_add(self.failures)
+    }
+
+    fn read_at(&mut self, at: usize, buf: &mut [u8]) -> Result<(), DiskFault>
+        requires { at + length buf.old ≤ D.size self.old.inner }
+        ensures size { D.size self.new.inner ≡ D.size self.old.inner }
+        ensures count { Counts (min (D.failed self.old.inner + self.old.failures) (2 ^ 64 - 1)) (min (D.failed self.new.inner + self.new.failures) (2 ^ 64 - 1)) result }
+        ensures honest { D.honest self.old.inner ↔ D.honest self.new.inner }
+        ensures bytes { D.honest self.old.inner → OnOk result (buf.new ≡ take (length buf.old) (drop at (D.reads self.old.inner))) }
+        ensures reads { D.honest self.old.inner → OnOk result (D.reads self.new.inner ≡ D.reads self.old.inner) }
+        ensures stop { D.honest self.old.inner → Within (D.left_since self.new.inner (D.moment self.old.inner)) (D.may_leave self.old.inner) }
+        ensures time { D.honest self.old.inner → Elapses (D.moment self.old.inner) (D.moment self.new.inner) (D.left_since self.old.inner) (D.left_since self.new.inner) }
+        ensures passed { FuseCall D.failed self.old.inner self.new.inner self.old.passes self.new.passes result }
+    {
+        match self.passes {
+            Some(0) => {
+                self.passes = None;
+                let _ = self.inner.read_at(at, buf);
+                fail(&mut self.failures)
+            }
+            Some(calls) => {
+                self.passes = Some(calls - 1);
+                self.inner.read_at(at, buf)
+            }
+            None => fail(&mut self.failures),
+        }
+    }
+
+    fn write_at(&mut self, at: usize, bytes: &[u8]) -> Result<(), DiskFault>
+        requires { at + length bytes.now ≤ D.size self.old.inner }
+        ensures size { D.size self.new.inner ≡ D.size self.old.inner }
+        ensures count { Counts (min (D.failed self.old.inner + self.old.failures) (2 ^ 64 - 1)) (min (D.failed self.new.inner + self.new.failures) (2 ^ 64 - 1)) result }
+        ensures honest { D.honest self.old.inner ↔ D.honest self.new.inner }
+        ensures written { D.honest self.old.inner → OnOk result (D.reads self.new.inner ≡ overwritten (D.reads self.old.inner) at bytes.now) }
+        ensures stop { D.honest self.old.inner → Follows (TornWithin at (length bytes.now)) (D.may_leave self.old.inner) (D.left_since self.new.inner (D.moment self.old.inner)) }
+        ensures time { D.honest self.old.inner → Elapses (D.moment self.old.inner) (D.moment self.new.inner) (D.left_since self.old.inner) (D.left_since self.new.inner) }
+        ensures passed { FuseCall D.failed self.old.inner self.new.inner self.old.passes self.new.passes result }
+    {
+        match self.passes {
+            Some(0) => {
+                self.passes = None;
+                let _ = self.inner.write_at(at, bytes);
+                fail(&mut self.failures)
+            }
+            Some(calls) => {
+                self.passes = Some(calls - 1);
+                self.inner.write_at(at, bytes)
+            }
+            None => fail(&mut self.failures),
+        }
+    }
+
+    fn sync(&mut self) -> Result<(), DiskFault>
+        ensures size { D.size self.new.inner ≡ D.size self.old.inner }
+        ensures count { Counts (min (D.failed self.old.inner + self.old.failures) (2 ^ 64 - 1)) (min (D.failed self.new.inner + self.new.failures) (2 ^ 64 - 1)) result }
+        ensures honest { D.honest self.old.inner ↔ D.honest self.new.inner }
+        ensures durable { D.honest self.old.inner → OnOk result (Only (D.reads self.old.inner) (D.may_leave self.new.inner)) }
+        ensures reads { D.honest self.old.inner → OnOk result (D.reads self.new.inner ≡ D.reads self.old.inner) }
+        ensures stop { D.honest self.old.inner → Within (D.left_since self.new.inner (D.moment self.old.inner)) (D.may_leave self.old.inner) }
+        ensures time { D.honest self.old.inner → Elapses (D.moment self.old.inner) (D.moment self.new.inner) (D.left_since self.old.inner) (D.left_since self.new.inner) }
+        ensures passed { FuseCall D.failed self.old.inner self.new.inner self.old.passes self.new.passes result }
+    {
+        match self.passes {
+            Some(0) => {
+                self.passes = None;
+                let _ = self.inner.sync();
+                fail(&mut self.failures)
+            }
+            Some(calls) => {
+                self.passes = Some(calls - 1);
+                self.inner.sync()
+            }
+            None => fail(&mut self.failures),
+        }
+    }
+}

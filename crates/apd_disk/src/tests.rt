@@ -1,0 +1,144 @@
+// What no clause says: that calls succeed where memory is ample, what a real file does, and printed text.
+ghost use Rattle.std.specs.Prelude.{◌≡◌, ◌≤◌};
+
+use crate::{Call, Disk, DiskFault, FileDisk, FuseDisk, MemDisk, OnceDisk, Torn};
+use apd_base::limits::DEVICE_LENGTH;
+use std::fs::{self, File};
+use std::io::ErrorKind;
+use std::test::Fail;
+
+const FOLDER: &str = "apd_disk_store";
+
+const STORE: &str = "apd_disk_store/store";
+
+const OTHER_FOLDER: &str = "apd_disk_short";
+
+const SHORT: &str = "apd_disk_short/store";
+
+#[test]
+fn a_fault_prints_its_text(rt: HostRuntime) -> Result<(), Fail> {
+    assert_eq!(rt;
+        format!(in rt.alloc(); "{DiskFault}")?.as_str(),
+        "device fault"
+    );
+    Ok(())
+}
+
+#[test]
+fn a_crash_of_each_kind(rt: HostRuntime) -> Result<(), Fail> {
+    for (torn, want) in [
+        (Torn::Old, [10, 21, 22, 13, 14, 15, 16, 17]),
+        (Torn::New, [10, 21, 32, 43, 44, 15, 16, 17]),
+        (Torn::Byte(0x7f), [10, 21, 0x7f, 0x7f, 0x7f, 15, 16, 17]),
+    ] {
+        let bytes = vec![in rt.alloc(); 10u8, 11, 12, 13, 14, 15, 16, 17]?;
+        let mut disk = MemDisk::new(rt.alloc(), bytes)?;
+        disk.write_at(1, &[21, 22])?;
+        disk.sync()?;
+        disk.write_at(2, &[32, 33])?;
+        disk.write_at(3, &[43, 44])?;
+        assert!(rt; matches!(disk.calls().last(), Some(Call::Write(3, _))));
+        let stopped = disk.crash(torn);
+        assert_eq!(rt; stopped.bytes(), want.as_slice(), "{torn:?}");
+        assert_eq!(rt; stopped.calls().len(), 0);
+    }
+    Ok(())
+}
+
+// Five calls, and whether each succeeded.
+fn commit<D: Disk>(disk: &mut D) -> [bool; 5]
+    requires { 2 ≤ D.size disk.old }
+    ensures { D.size disk.new ≡ D.size disk.old }
+{
+    let mut byte = [0];
+    [
+        disk.read_at(0, &mut byte).is_ok(),
+        disk.write_at(1, &[7]).is_ok(),
+        disk.sync().is_ok(),
+        disk.write_at(0, &[8]).is_ok(),
+        disk.sync().is_ok(),
+    ]
+}
+
+#[test]
+fn a_fuse_at_each_of_ten_calls(rt: HostRuntime) -> Result<(), Fail> {
+    for passes in 0..10u64 {
+        let bytes = vec![in rt.alloc(); 0u8, 0]?;
+        let mut disk = FuseDisk::new(MemDisk::new(rt.alloc(), bytes)?, passes);
+        let first = commit(&mut disk);
+        let second = commit(&mut disk);
+        for (i, succeeded) in (0..).zip(first.iter().chain(&second)) {
+            assert_eq!(rt; *succeeded, i < passes, "call {i} of a fuse of {passes}");
+        }
+        assert_eq!(rt; disk.failures(), 10 - passes);
+        assert_eq!(rt; disk.into_inner().calls().len() as u64, passes + 1);
+    }
+    Ok(())
+}
+
+#[test]
+fn a_chosen_call_fails_once(rt: HostRuntime) -> Result<(), Fail> {
+    for before in 0..10u64 {
+        let bytes = vec![in rt.alloc(); 0u8, 0]?;
+        let mut disk = OnceDisk::new(MemDisk::new(rt.alloc(), bytes)?, before);
+        let first = commit(&mut disk);
+        let second = commit(&mut disk);
+        for (i, succeeded) in (0..).zip(first.iter().chain(&second)) {
+            assert_eq!(rt; *succeeded, i != before, "call {i} where {before} fails");
+        }
+        assert_eq!(rt; disk.failures(), 1);
+        let inner = disk.into_inner();
+        assert_eq!(rt; inner.calls().len(), 9);
+        assert_eq!(rt; inner.bytes(), [8, 7].as_slice());
+    }
+    Ok(())
+}
+
+#[test]
+fn a_file_is_made_closed_opened_and_read(rt: HostRuntime) -> Result<(), Fail> {
+    let _ = fs::remove_dir_all(&rt, FOLDER);
+    fs::create_dir(&rt, FOLDER)?;
+    let mut disk = FileDisk::create(&rt, STORE)?;
+    disk.write_at(2_097_213, b"end")?;
+    disk.sync()?;
+    assert_eq!(rt;
+        FileDisk::open(&rt, STORE).err().map(|e| e.kind()),
+        Some(ErrorKind::WouldBlock)
+    );
+    drop(disk);
+    assert_eq!(rt;
+        FileDisk::create(&rt, STORE).err().map(|e| e.kind()),
+        Some(ErrorKind::AlreadyExists)
+    );
+    let mut disk = FileDisk::open(&rt, STORE)?;
+    assert_eq!(rt; disk.len() as u64, DEVICE_LENGTH);
+    let mut bytes = [1; 5];
+    disk.read_at(2_097_211, &mut bytes)?;
+    assert_eq!(rt; bytes, *b"\0\0end");
+    assert_eq!(rt; disk.failures(), 0);
+    fs::remove_dir_all(&rt, FOLDER)?;
+    Ok(())
+}
+
+#[test]
+fn a_file_that_is_shorter_missing_or_a_folder(rt: HostRuntime) -> Result<(), Fail> {
+    let _ = fs::remove_dir_all(&rt, OTHER_FOLDER);
+    fs::create_dir(&rt, OTHER_FOLDER)?;
+    assert_eq!(rt;
+        FileDisk::open(&rt, SHORT).err().map(|e| e.kind()),
+        Some(ErrorKind::NotFound)
+    );
+    assert_eq!(rt;
+        FileDisk::open(&rt, OTHER_FOLDER).err().map(|e| e.kind()),
+        Some(ErrorKind::IsADirectory)
+    );
+    fs::write(&rt, SHORT, b"12345".as_slice())?;
+    let mut disk = FileDisk::open(&rt, SHORT)?;
+    assert_eq!(rt; disk.len(), 5);
+    File::options().write(true).open(&rt, SHORT)?.set_len(3)?;
+    let mut bytes = [0; 4];
+    assert_eq!(rt; disk.read_at(1, &mut bytes), Err(DiskFault));
+    assert_eq!(rt; disk.failures(), 1);
+    fs::remove_dir_all(&rt, OTHER_FOLDER)?;
+    Ok(())
+}
