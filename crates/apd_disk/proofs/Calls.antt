@@ -3,7 +3,8 @@ use Rattle.std.proofs.Common.{◌≡◌, ◌≤◌, ◌+◌, ◌⊎◌, inl, inr
 use Rattle.std.proofs.lemmas.List.{take_all, take-append-le, length_push}
 use Rattle.std.proofs.lemmas.Bool.{and_parts, and_from, le-leb, cases_lt}
 use Rattle.apd_disk.specs.Disk.{overwritten, TornWithin, Elapses}
-use Rattle.apd_disk.specs.Mem.{reads_after, all_fit, Leaves, LeftAfter, LeftBetween, TornFrom, reads_left, only_last}
+use Rattle.apd_disk.specs.Mem.{reads_after, all_fit, Leaves, LeftAfter, LeftBetween, TornFrom}
+use Rattle.apd_disk.specs.MemLaws.{reads_left, only_last}
 use Rattle.apd_disk.specs.declared.call.Call.{Call}
 use Rattle.apd_disk.specs.declared.call.Call.TheVariants.{Read, Write, Sync}
 

@@ -4,7 +4,8 @@ use Rattle.std.proofs.lemmas.List.{append_assoc, drop_all, length-take-le, get_o
 use Rattle.std.proofs.Math.Bool.{or-true, or-false}
 use Rattle.std.proofs.lemmas.Bool.{and_from, and_left, and_right, le-leb, le-ltb, lt-leb, lt-ltb, cases_lt}
 use Rattle.apd_disk.specs.Disk.{overwritten, TornWithin}
-use Rattle.apd_disk.specs.Mem.{reads_after, all_fit, Leaves, LeftAfter, TornFrom, synced_after, is_unsynced, torn_byte, torn_write, covers, IsCrashImage, first_fits, length-overwritten, torn_overwritten, leaves_length}
+use Rattle.apd_disk.specs.Mem.{reads_after, all_fit, Leaves, LeftAfter, TornFrom, synced_after, is_unsynced, torn_byte, torn_write, covers, IsCrashImage}
+use Rattle.apd_disk.specs.MemLaws.{first_fits, length-overwritten, torn_overwritten, leaves_length}
 use Rattle.apd_disk.specs.declared.call.Call.{Call}
 use Rattle.apd_disk.specs.declared.call.Call.TheVariants.{Read, Write, Sync}
 use Rattle.apd_disk.specs.declared.torn.Torn.{Torn}

@@ -1,4 +1,4 @@
--- A write into the middle of an image of three parts.
+-- A write into the middle of an image of three parts, for those who lay out an image, as a store.
 use Rattle.std.proofs.Common.{◌≡◌, ◌+◌, ℕ, List, ◌++◌, length, take, drop, sym, ◌∙◌, ap, arith, length-append, length-drop, take-append-drop}
 use Rattle.std.proofs.lemmas.List.{append_assoc, take_at, drop_at, drop-drop, length-take-le}
 use Rattle.apd_disk.specs.Disk.{overwritten, TornWithin}

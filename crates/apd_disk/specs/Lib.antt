@@ -1,3 +1,4 @@
 pub mod Disk
 pub mod Faults
 pub mod Mem
+pub mod MemLaws

@@ -83,6 +83,9 @@ pub trait Disk {
     /// Since this moment there is no other.
     ghost only_now: { (disk : Self) (c : List ℕ) → honest disk → left_since disk (moment disk) c → may_leave disk c };
 
+    /// A stop since a later moment is one since an earlier moment.
+    ghost since_earlier: { (disk : Self) (t u : ℕ) (c : List ℕ) → honest disk → t ≤ u → left_since disk u c → left_since disk t c };
+
     /// Each image has the disk's length.
     ghost same_size: { (disk : Self) (t : ℕ) (c : List ℕ) → honest disk → left_since disk t c → length c ≡ size disk };
 }

@@ -59,7 +59,7 @@ impl FileDisk {
     /// it.
     ///
     /// Errors: the file system's own, `AlreadyExists` where there is such a file or folder. Where it was
-    /// made but could not be filled or locked, it is removed again.
+    /// made but could not be locked, filled or made durable, it is removed again, if that succeeds.
     pub fn create<P: AsPath>(files: &impl Files<File = File>, path: P) -> io::Result<FileDisk>
         ensures length { IfOk result (λ d. d.len ≡ DEVICE_LENGTH) }
         ensures failures { IfOk result (λ d. d.failures ≡ 0) }
@@ -81,11 +81,11 @@ impl FileDisk {
         ensures failures { IfOk result (λ d. d.failures ≡ 0) }
     {
         let file = File::options().read(true).write(true).open(files, path)?;
+        file.try_lock()?;
         let metadata = file.metadata()?;
         if !metadata.is_file() {
             return Err(ErrorKind::InvalidInput.into());
         }
-        file.try_lock()?;
         Ok(fresh(file, metadata.len() as usize))
     }
 }
@@ -110,6 +110,8 @@ impl Disk for FileDisk {
     ghost counts_now = { λ d t c h le left. absurd h };
 
     ghost only_now = { λ d c h left. absurd h };
+
+    ghost since_earlier = { λ d t u c h le left. absurd h };
 
     ghost same_size = { λ d t c h left. absurd h };
 

@@ -1,6 +1,6 @@
 //! A disk that fails for good after some calls.
-ghost use Rattle.std.specs.Prelude.{◌≡◌, ◌≤◌, ◌+◌, ◌-◌, ◌^◌, ◌↔◌, length, take, drop, min, OnOk, Some};
-ghost use Rattle.apd_disk.specs.Disk.{overwritten, TornWithin, Only, Within, Follows, Elapses, Counts};
+ghost use Rattle.std.specs.Prelude.{◌≡◌, ◌≤◌, ◌+◌, ◌-◌, ◌^◌, ◌↔◌, length, take, drop, min, OnOk, Some, ◌⊎◌};
+ghost use Rattle.apd_disk.specs.Disk.{overwritten, TornWithin, Only, Within, Follows, Elapses, Counts, Rises};
 ghost use Rattle.apd_disk.specs.Faults.{FuseCall};
 
 use crate::fault::fail;
@@ -11,7 +11,9 @@ use crate::{Disk, DiskFault};
 #[derive(Drop)]
 pub struct FuseDisk<D: Disk> {
     inner: D,
+    // How many calls are still passed on before the one that fails; none once it has failed.
     passes: Option<u64>,
+    // The calls that failed here, whatever the inner disk did: where it failed the same call, both count.
     failures: u64,
 }
 
@@ -42,6 +44,8 @@ impl<D: Disk> FuseDisk<D> {
     }
 }
 
+// A method with an `ensures` of its own has its clauses in place of the trait's. So each one here repeats
+// the trait's, of the disk inside, beside the clause that is its own (`passed`, `passed_on`).
 impl<D: Disk> Disk for FuseDisk<D> {
     ghost honest = { λ d. D.honest d.inner };
 
@@ -63,6 +67,8 @@ impl<D: Disk> Disk for FuseDisk<D> {
 
     ghost only_now = { λ d c h left. D.only_now d.inner c h left };
 
+    ghost since_earlier = { λ d t u c h le left. D.since_earlier d.inner t u c h le left };
+
     ghost same_size = { λ d t c h left. D.same_size d.inner t c h left };
 
     fn len(&self) -> usize {
@@ -83,6 +89,7 @@ impl<D: Disk> Disk for FuseDisk<D> {
         ensures stop { D.honest self.old.inner → Within (D.left_since self.new.inner (D.moment self.old.inner)) (D.may_leave self.old.inner) }
         ensures time { D.honest self.old.inner → Elapses (D.moment self.old.inner) (D.moment self.new.inner) (D.left_since self.old.inner) (D.left_since self.new.inner) }
         ensures passed { FuseCall D.failed self.old.inner self.new.inner self.old.passes self.new.passes result }
+        ensures passed_on { D.honest self.old.inner → self.old.passes ≡ Some 0 → (buf.new ≡ take (length buf.old) (drop at (D.reads self.old.inner))) ⊎ Rises (D.failed self.old.inner) (D.failed self.new.inner) }
     {
         match self.passes {
             Some(0) => {
@@ -107,6 +114,7 @@ impl<D: Disk> Disk for FuseDisk<D> {
         ensures stop { D.honest self.old.inner → Follows (TornWithin at (length bytes.now)) (D.may_leave self.old.inner) (D.left_since self.new.inner (D.moment self.old.inner)) }
         ensures time { D.honest self.old.inner → Elapses (D.moment self.old.inner) (D.moment self.new.inner) (D.left_since self.old.inner) (D.left_since self.new.inner) }
         ensures passed { FuseCall D.failed self.old.inner self.new.inner self.old.passes self.new.passes result }
+        ensures passed_on { D.honest self.old.inner → self.old.passes ≡ Some 0 → (D.reads self.new.inner ≡ overwritten (D.reads self.old.inner) at bytes.now) ⊎ Rises (D.failed self.old.inner) (D.failed self.new.inner) }
     {
         match self.passes {
             Some(0) => {
@@ -131,6 +139,7 @@ impl<D: Disk> Disk for FuseDisk<D> {
         ensures stop { D.honest self.old.inner → Within (D.left_since self.new.inner (D.moment self.old.inner)) (D.may_leave self.old.inner) }
         ensures time { D.honest self.old.inner → Elapses (D.moment self.old.inner) (D.moment self.new.inner) (D.left_since self.old.inner) (D.left_since self.new.inner) }
         ensures passed { FuseCall D.failed self.old.inner self.new.inner self.old.passes self.new.passes result }
+        ensures passed_on { D.honest self.old.inner → self.old.passes ≡ Some 0 → Only (D.reads self.old.inner) (D.may_leave self.new.inner) ⊎ Rises (D.failed self.old.inner) (D.failed self.new.inner) }
     {
         match self.passes {
             Some(0) => {

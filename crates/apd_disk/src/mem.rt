@@ -1,7 +1,8 @@
 //! A disk in memory, which keeps what it held at first and each call that it has served.
 ghost use Rattle.std.specs.Prelude.{◌≡◌, ◌≤◌, ◌+◌, ◌↔◌, ◌++◌, ◌∷◌, [], ℕ, List, length, take, drop, replicate, IsTrue, OnErr, OnOk, IfOk};
 ghost use Rattle.apd_disk.specs.Disk.{overwritten, TornWithin, Only, Within, Follows, Elapses, Counts};
-ghost use Rattle.apd_disk.specs.Mem.{reads_after, all_fit, LeftAfter, LeftBetween, IsCrashImage, torn_write, reads_left, now_left, only_last, left_length};
+ghost use Rattle.apd_disk.specs.Mem.{reads_after, all_fit, LeftAfter, LeftBetween, IsCrashImage, torn_write};
+ghost use Rattle.apd_disk.specs.MemLaws.{reads_left, now_left, only_last, earlier_left, left_length};
 ghost use Rattle.apd_disk.specs.declared.call.Call.TheVariants.{Read, Write, Sync};
 
 use crate::fault::fail;
@@ -181,6 +182,8 @@ impl Disk for MemDisk {
 
     ghost only_now = { λ d c h left. only_last d.initial.items d.calls.items c left };
 
+    ghost since_earlier = { λ d t u c h le left. earlier_left d.initial.items d.calls.items t u c le left };
+
     ghost same_size = { λ d t c h left. left_length d.initial.items d.calls.items d.bytes.items t c d.stands d.fit left };
 
     fn len(&self) -> usize {
@@ -196,6 +199,7 @@ impl Disk for MemDisk {
         ensures count { Counts self.old.failures self.new.failures result }
         ensures recorded { OnOk result (self.new.calls.items ≡ self.old.calls.items ++ Read at (length buf.old) ∷ []) }
         ensures unrecorded { OnErr result (self.new.calls.items ≡ self.old.calls.items) }
+        ensures initial { self.new.initial.items ≡ self.old.initial.items }
         ensures kept { self.new.bytes.items ≡ self.old.bytes.items }
         ensures bytes { OnOk result (buf.new ≡ take (length buf.old) (drop at self.old.bytes.items)) }
         ensures untouched { OnErr result (buf.new ≡ buf.old) }
@@ -218,6 +222,7 @@ impl Disk for MemDisk {
         ensures count { Counts self.old.failures self.new.failures result }
         ensures recorded { OnOk result (self.new.calls.items ≡ self.old.calls.items ++ Write at bytes.now ∷ []) }
         ensures unrecorded { OnErr result (self.new.calls.items ≡ self.old.calls.items) }
+        ensures initial { self.new.initial.items ≡ self.old.initial.items }
         ensures written { OnOk result (self.new.bytes.items ≡ overwritten self.old.bytes.items at bytes.now) }
         ensures unwritten { OnErr result (self.new.bytes.items ≡ self.old.bytes.items) }
         ensures stop { Follows (TornWithin at (length bytes.now)) (LeftAfter self.old.initial.items self.old.calls.items) (LeftBetween self.new.initial.items self.new.calls.items (length self.old.calls.items)) }
@@ -236,6 +241,7 @@ impl Disk for MemDisk {
         ensures count { Counts self.old.failures self.new.failures result }
         ensures recorded { OnOk result (self.new.calls.items ≡ self.old.calls.items ++ Sync ∷ []) }
         ensures unrecorded { OnErr result (self.new.calls.items ≡ self.old.calls.items) }
+        ensures initial { self.new.initial.items ≡ self.old.initial.items }
         ensures kept { self.new.bytes.items ≡ self.old.bytes.items }
         ensures durable { OnOk result (Only self.old.bytes.items (LeftAfter self.new.initial.items self.new.calls.items)) }
         ensures stop { Within (LeftBetween self.new.initial.items self.new.calls.items (length self.old.calls.items)) (LeftAfter self.old.initial.items self.old.calls.items) }

@@ -11,6 +11,7 @@ use crate::{Disk, DiskFault};
 #[derive(Drop)]
 pub struct OnceDisk<D: Disk> {
     inner: D,
+    // How many calls come before the one that fails; none once it has failed.
     before: Option<u64>,
     failures: u64,
 }
@@ -42,6 +43,8 @@ impl<D: Disk> OnceDisk<D> {
     }
 }
 
+// A method with an `ensures` of its own has its clauses in place of the trait's. So each one here repeats
+// the trait's, of the disk inside, beside the clause that is its own (`passed`).
 impl<D: Disk> Disk for OnceDisk<D> {
     ghost honest = { λ d. D.honest d.inner };
 
@@ -62,6 +65,8 @@ impl<D: Disk> Disk for OnceDisk<D> {
     ghost counts_now = { λ d t c h le left. D.counts_now d.inner t c h le left };
 
     ghost only_now = { λ d c h left. D.only_now d.inner c h left };
+
+    ghost since_earlier = { λ d t u c h le left. D.since_earlier d.inner t u c h le left };
 
     ghost same_size = { λ d t c h left. D.same_size d.inner t c h left };
 
@@ -85,6 +90,7 @@ impl<D: Disk> Disk for OnceDisk<D> {
         ensures passed { OnceCall D.failed self.old.inner self.new.inner self.old.before self.new.before result }
     {
         match self.before {
+            None => self.inner.read_at(at, buf),
             Some(0) => {
                 self.before = None;
                 fail(&mut self.failures)
@@ -93,7 +99,6 @@ impl<D: Disk> Disk for OnceDisk<D> {
                 self.before = Some(calls - 1);
                 self.inner.read_at(at, buf)
             }
-            None => self.inner.read_at(at, buf),
         }
     }
 
@@ -108,6 +113,7 @@ impl<D: Disk> Disk for OnceDisk<D> {
         ensures passed { OnceCall D.failed self.old.inner self.new.inner self.old.before self.new.before result }
     {
         match self.before {
+            None => self.inner.write_at(at, bytes),
             Some(0) => {
                 self.before = None;
                 fail(&mut self.failures)
@@ -116,7 +122,6 @@ impl<D: Disk> Disk for OnceDisk<D> {
                 self.before = Some(calls - 1);
                 self.inner.write_at(at, bytes)
             }
-            None => self.inner.write_at(at, bytes),
         }
     }
 
@@ -131,6 +136,7 @@ impl<D: Disk> Disk for OnceDisk<D> {
         ensures passed { OnceCall D.failed self.old.inner self.new.inner self.old.before self.new.before result }
     {
         match self.before {
+            None => self.inner.sync(),
             Some(0) => {
                 self.before = None;
                 fail(&mut self.failures)
@@ -139,7 +145,6 @@ impl<D: Disk> Disk for OnceDisk<D> {
                 self.before = Some(calls - 1);
                 self.inner.sync()
             }
-            None => self.inner.sync(),
         }
     }
 }

@@ -45,6 +45,18 @@ fn a_crash_of_each_kind(rt: HostRuntime) -> Result<(), Fail> {
     Ok(())
 }
 
+#[test]
+fn a_crash_after_a_first_write_and_after_a_crash(rt: HostRuntime) -> Result<(), Fail> {
+    let bytes = vec![in rt.alloc(); 10u8, 11]?;
+    let mut disk = MemDisk::new(rt.alloc(), bytes)?;
+    disk.write_at(0, &[20])?;
+    let mut disk = disk.crash(Torn::Old);
+    assert_eq!(rt; disk.bytes(), [10, 11].as_slice());
+    disk.write_at(1, &[21])?;
+    assert_eq!(rt; disk.crash(Torn::New).bytes(), [10, 21].as_slice());
+    Ok(())
+}
+
 // Five calls, and whether each succeeded.
 fn commit<D: Disk>(disk: &mut D) -> [bool; 5]
     requires { 2 ≤ D.size disk.old }
@@ -58,6 +70,24 @@ fn commit<D: Disk>(disk: &mut D) -> [bool; 5]
         disk.write_at(0, &[8]).is_ok(),
         disk.sync().is_ok(),
     ]
+}
+
+// With memory to spare each call is served. It says more where an allocation fails (`rt try --test --fail-alloc N`):
+// the call that could not be recorded is counted, and left bytes and record as they were.
+#[test]
+fn a_call_that_is_refused_memory_does_nothing(rt: HostRuntime) -> Result<(), Fail> {
+    let bytes = vec![in rt.alloc(); 0u8, 0]?;
+    let mut disk = MemDisk::new(rt.alloc(), bytes)?;
+    let first = commit(&mut disk);
+    let second = commit(&mut disk);
+    let served = first.iter().chain(&second).filter(|s| **s).count();
+    let refused = first.iter().chain(&second).filter(|s| !**s).count();
+    assert_eq!(rt; disk.calls().len(), served);
+    assert_eq!(rt; disk.failures() as usize, refused);
+    let low = if first[3] || second[3] { 8 } else { 0 };
+    let high = if first[1] || second[1] { 7 } else { 0 };
+    assert_eq!(rt; disk.bytes(), [low, high].as_slice());
+    Ok(())
 }
 
 #[test]
@@ -105,6 +135,7 @@ fn a_file_is_made_closed_opened_and_read(rt: HostRuntime) -> Result<(), Fail> {
         FileDisk::open(&rt, STORE).err().map(|e| e.kind()),
         Some(ErrorKind::WouldBlock)
     );
+    assert_eq!(rt; disk.failures(), 0);
     drop(disk);
     assert_eq!(rt;
         FileDisk::create(&rt, STORE).err().map(|e| e.kind()),
