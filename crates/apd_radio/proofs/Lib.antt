@@ -1,0 +1,8 @@
+mod Digits
+mod Lines
+mod Parts
+mod Reading
+mod RoundTrip
+mod Unique
+mod Words
+mod Written

@@ -1,0 +1,10 @@
+-- The parts of a station's text: an address of 17 bytes, a blank and digits.
+use Rattle.std.proofs.Common.{◌≡◌, ℕ, ◌+◌, ◌-◌, List, ◌∷◌, ◌++◌, length, take, drop, ap, sym, ◌∙◌}
+use Rattle.std.proofs.lemmas.List.{take_at, take_rest}
+use Rattle.std.proofs.Math.Seq.{drop-append-add}
+
+pub first_is : (text first digits : List ℕ) → text ≡ first ++ 32 ∷ digits → length first ≡ 17 → take 17 text ≡ first
+first_is text first digits e n = ap (take 17) e ∙ take_at first (32 ∷ digits) 17 n
+
+pub digits_are : (text first digits : List ℕ) → text ≡ first ++ 32 ∷ digits → length first ≡ 17 → take (length text - 18) (drop 18 text) ≡ digits
+digits_are text first digits e n = take_rest text 18 ∙ ap (drop 18) e ∙ ap (λ k. drop (k + 1) (first ++ 32 ∷ digits)) (sym n) ∙ drop-append-add first (32 ∷ digits) 1

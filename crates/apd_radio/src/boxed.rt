@@ -1,0 +1,39 @@
+//! A boxed radio is a radio.
+use crate::radio::{Radio, RadioFault};
+use apd_base::Addr;
+
+impl Radio for Box<dyn Radio + Send> {
+    ghost stations = { λ b. (Radio-box b).stations b.value };
+
+    ghost faults = { λ b. (Radio-box b).faults b.value };
+
+    ghost frames = { λ b. (Radio-box b).frames b.value };
+
+    fn poll(&mut self) -> Result<Option<Vec<u8>>, RadioFault> {
+        (**self).poll()
+    }
+
+    fn install(&mut self, addr: Addr, aid: u16) -> Result<(), RadioFault> {
+        (**self).install(addr, aid)
+    }
+
+    fn remove(&mut self, addr: Addr) -> Result<(), RadioFault> {
+        (**self).remove(addr)
+    }
+
+    fn transmit(&mut self, frame: &[u8]) -> Result<(), RadioFault> {
+        (**self).transmit(frame)
+    }
+
+    fn take_down(&mut self) {
+        (**self).take_down();
+    }
+
+    fn installed(&self, addr: Addr) -> Option<u16> {
+        (**self).installed(addr)
+    }
+
+    fn failures(&self) -> u64 {
+        (**self).failures()
+    }
+}

@@ -1,0 +1,25 @@
+//! Radios: a driver is a map of installed stations to their identifiers, from which frames come and
+//! to which frames go.
+#![tactic(auto)]
+
+pub mod boxed;
+pub mod call;
+pub mod identifiers;
+pub mod laws;
+mod log;
+pub mod radio;
+pub mod recording;
+pub mod replaying;
+pub mod sim;
+pub mod udp_sim;
+
+pub use call::Call;
+pub use identifiers::Identifiers;
+pub use radio::{Radio, RadioFault};
+pub use recording::Recording;
+pub use replaying::{ReplayFault, Replaying};
+pub use sim::Sim;
+pub use udp_sim::{SocketFault, UdpSim};
+
+#[cfg(test)]
+mod tests;

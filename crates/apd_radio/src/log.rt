@@ -1,0 +1,108 @@
+//! What a recording writes.
+ghost use Rattle.std.specs.Prelude.{◌≡◌, false, OnOk};
+ghost use Rattle.std.specs.Io.KnownBytes.{Appends};
+ghost use Rattle.apd_radio.specs.Recordings.{Records, with_newline};
+ghost use Rattle.apd_radio.specs.Calls.{line_of};
+ghost use Rattle.apd_radio.specs.declared.call.Call.TheVariants as calls;
+
+use apd_base::Addr;
+use std::alloc::Global;
+use std::io;
+use std::io::Write;
+
+fn write_received<W: Write>(alloc: Global, writer: &mut W, frame: &[u8]) -> io::Result<()>
+    ensures { OnOk result (Appends (W.contents writer.old) (W.contents writer.new) (with_newline (line_of (calls.Received frame.now)))) }
+{
+    let digits = hex::encode(alloc, frame)?;
+    writeln!(writer, "rx {digits}")
+}
+
+fn write_sent<W: Write>(alloc: Global, writer: &mut W, frame: &[u8]) -> io::Result<()>
+    ensures { OnOk result (Appends (W.contents writer.old) (W.contents writer.new) (with_newline (line_of (calls.Sent frame.now)))) }
+{
+    let digits = hex::encode(alloc, frame)?;
+    writeln!(writer, "tx {digits}")
+}
+
+fn write_installed<W: Write>(writer: &mut W, addr: Addr, aid: u16) -> io::Result<()>
+    ensures { OnOk result (Appends (W.contents writer.old) (W.contents writer.new) (with_newline (line_of (calls.Installed addr aid)))) }
+{
+    writer.write_all(b"install ")?;
+    writer.write_all(&addr.text())?;
+    writeln!(writer, " {aid}")
+}
+
+fn write_removed<W: Write>(writer: &mut W, addr: Addr) -> io::Result<()>
+    ensures { OnOk result (Appends (W.contents writer.old) (W.contents writer.new) (with_newline (line_of (calls.Removed addr)))) }
+{
+    writer.write_all(b"remove ")?;
+    writer.write_all(&addr.text())?;
+    writer.write_all(b"\n")
+}
+
+fn write_down<W: Write>(writer: &mut W) -> io::Result<()>
+    ensures { OnOk result (Appends (W.contents writer.old) (W.contents writer.new) (with_newline (line_of calls.Down))) }
+{
+    writer.write_all(b"down\n")
+}
+
+/// Writes the lines of a recording, until a write fails.
+#[derive(Drop)]
+pub struct Log<W: Write + Drop> {
+    writer: W,
+    ended: bool,
+    alloc: Global,
+}
+
+impl<W: Write + Drop> Log<W> {
+    pub fn new(alloc: Global, writer: W) -> Log<W>
+        ensures writer { result.writer ≡ writer }
+        ensures begun { result.ended ≡ false }
+    {
+        Log {
+            writer,
+            ended: false,
+            alloc,
+        }
+    }
+
+    pub fn received(&mut self, frame: &[u8])
+        ensures { Records self.old.ended (W.contents self.old.writer) (calls.Received frame.now) self.new.ended (W.contents self.new.writer) }
+    {
+        if !self.ended {
+            self.ended = write_received(self.alloc, &mut self.writer, frame).is_err();
+        }
+    }
+
+    pub fn installed(&mut self, addr: Addr, aid: u16)
+        ensures { Records self.old.ended (W.contents self.old.writer) (calls.Installed addr aid) self.new.ended (W.contents self.new.writer) }
+    {
+        if !self.ended {
+            self.ended = write_installed(&mut self.writer, addr, aid).is_err();
+        }
+    }
+
+    pub fn removed(&mut self, addr: Addr)
+        ensures { Records self.old.ended (W.contents self.old.writer) (calls.Removed addr) self.new.ended (W.contents self.new.writer) }
+    {
+        if !self.ended {
+            self.ended = write_removed(&mut self.writer, addr).is_err();
+        }
+    }
+
+    pub fn sent(&mut self, frame: &[u8])
+        ensures { Records self.old.ended (W.contents self.old.writer) (calls.Sent frame.now) self.new.ended (W.contents self.new.writer) }
+    {
+        if !self.ended {
+            self.ended = write_sent(self.alloc, &mut self.writer, frame).is_err();
+        }
+    }
+
+    pub fn down(&mut self)
+        ensures { Records self.old.ended (W.contents self.old.writer) (calls.Down) self.new.ended (W.contents self.new.writer) }
+    {
+        if !self.ended {
+            self.ended = write_down(&mut self.writer).is_err();
+        }
+    }
+}

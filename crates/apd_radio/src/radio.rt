@@ -1,0 +1,102 @@
+//! What a radio's driver is.
+ghost use Rattle.std.specs.Prelude.{◌≡◌, IfOk, OnOk, OnErr, ℕ, ◌≤◌, List, Option, None};
+ghost use Rattle.std.specs.Option.{option_map};
+ghost use Rattle.std.specs.FinMap as map;
+ghost use Rattle.apd_base.specs.Addr.{addr_cmp};
+ghost use Rattle.apd_radio.specs.Faults.{HasRisen};
+ghost use Rattle.apd_radio.specs.Frames.{Polls};
+
+use apd_base::Addr;
+use std::alloc::AllocError;
+use thiserror::Error;
+
+/// Why a radio did not do what it was asked for. Its map is then as it was.
+#[derive(Clone, Copy, PartialEq, Eq, Debug, Error)]
+pub enum RadioFault {
+    /// The device failed, and the count of its failures went up, or stood at its greatest value.
+    #[error("device fault")]
+    Device = 1,
+    /// Memory ran out.
+    #[error("out of memory")]
+    NoMemory,
+}
+
+impl From<AllocError> for RadioFault {
+    ghost use Rattle.apd_radio.specs.declared.radio.RadioFault.TheVariants.{NoMemory};
+
+    ghost from_gives = { λ _ fault. fault ≡ NoMemory };
+
+    fn from(_error: AllocError) -> RadioFault {
+        RadioFault::NoMemory
+    }
+}
+
+/// The driver of one radio: it receives and sends frames, and knows the stations that are installed,
+/// each by its address and its association identifier (IEEE Std 802.11-2016, 9.4.1.8).
+///
+/// A call that answers a fault leaves the stations as they were. `Device` is told only where the count of
+/// failures rose in that call, or stood at its greatest value.
+pub trait Radio: Drop {
+    /// The installed addresses, with their identifiers.
+    ghost stations: { Self → map.FinMap addr_cmp ℕ };
+
+    /// How many calls failed in the device. A count of 2^64 - 1 stays, and is taken as risen.
+    ghost faults: { Self → ℕ };
+
+    /// The frames that it is going to give, where they are known.
+    ghost frames: { Self → Option (List (List ℕ)) } = { λ _. None };
+
+    /// The next frame that was received, without its frame check sequence, if one waits.
+    ///
+    /// Errors: `Device`, `NoMemory`.
+    fn poll(&mut self) -> Result<Option<Vec<u8>>, RadioFault>
+        ensures next { IfOk result (λ got. Polls (frames self.old) (option_map (λ frame. frame.items) got) (frames self.new)) }
+        ensures unknown { OnErr result ((frames self.old ≡ None) × (frames self.new ≡ None)) }
+        ensures same { stations self.new ≡ stations self.old }
+        ensures device { result ≡ Err RadioFault.Device → HasRisen (faults self.old) (faults self.new) }
+        ensures count { faults self.old ≤ faults self.new };
+
+    /// Installs a station, over what was installed at its address.
+    ///
+    /// Errors: `Device`, `NoMemory`.
+    fn install(&mut self, addr: Addr, aid: u16) -> Result<(), RadioFault>
+        ensures ok { OnOk result (stations self.new ≡ map.insert (stations self.old) addr aid) }
+        ensures err { OnErr result (stations self.new ≡ stations self.old) }
+        ensures kept { frames self.new ≡ frames self.old }
+        ensures device { result ≡ Err RadioFault.Device → HasRisen (faults self.old) (faults self.new) }
+        ensures count { faults self.old ≤ faults self.new };
+
+    /// Takes a station out, if it is installed. It takes no memory.
+    ///
+    /// Errors: `Device`.
+    fn remove(&mut self, addr: Addr) -> Result<(), RadioFault>
+        ensures ok { OnOk result (stations self.new ≡ map.remove (stations self.old) addr) }
+        ensures err { OnErr result (stations self.new ≡ stations self.old) }
+        ensures kept { frames self.new ≡ frames self.old }
+        ensures only_device { OnErr result (result ≡ Err RadioFault.Device) }
+        ensures device { result ≡ Err RadioFault.Device → HasRisen (faults self.old) (faults self.new) }
+        ensures count { faults self.old ≤ faults self.new };
+
+    /// Sends a frame, without its frame check sequence.
+    ///
+    /// Errors: `Device`, `NoMemory`; the frame is then lost.
+    fn transmit(&mut self, frame: &[u8]) -> Result<(), RadioFault>
+        ensures same { stations self.new ≡ stations self.old }
+        ensures kept { frames self.new ≡ frames self.old }
+        ensures device { result ≡ Err RadioFault.Device → HasRisen (faults self.old) (faults self.new) }
+        ensures count { faults self.old ≤ faults self.new };
+
+    /// Takes all stations out. It takes no memory and can't fail.
+    fn take_down(&mut self)
+        ensures empty { stations self.new ≡ map.empty }
+        ensures kept { frames self.new ≡ frames self.old }
+        ensures count { faults self.old ≤ faults self.new };
+
+    /// The identifier of an installed station. It takes no memory.
+    fn installed(&self, addr: Addr) -> Option<u16>
+        ensures { result ≡ map.get (stations self.now) addr };
+
+    /// How many calls failed in the device. It takes no memory.
+    fn failures(&self) -> u64
+        ensures { result ≡ faults self.now };
+}

@@ -1,0 +1,70 @@
+//! A radio in memory alone.
+ghost use Rattle.std.specs.Prelude.{◌≡◌};
+ghost use Rattle.std.specs.FinMap as map;
+
+use crate::identifiers::Identifiers;
+use crate::radio::{Radio, RadioFault};
+use apd_base::Addr;
+use std::alloc::Global;
+
+/// A radio that receives nothing and sends nothing.
+pub struct Sim {
+    stations: Identifiers,
+}
+
+impl Sim {
+    /// A radio without stations. It takes no memory.
+    pub fn new(alloc: Global) -> Sim
+        ensures { result.stations ≡ map.empty }
+    {
+        Sim {
+            stations: Identifiers::new(alloc),
+        }
+    }
+}
+
+impl Drop for Sim {
+    fn drop(self) {
+        let Sim { mut stations } = self;
+        stations.clear();
+    }
+}
+
+impl Radio for Sim {
+    ghost use Rattle.std.specs.Prelude.{Some, []};
+
+    ghost stations = { λ radio. radio.stations };
+
+    ghost faults = { λ _. 0 };
+
+    ghost frames = { λ _. Some [] };
+
+    fn poll(&mut self) -> Result<Option<Vec<u8>>, RadioFault> {
+        Ok(None)
+    }
+
+    fn install(&mut self, addr: Addr, aid: u16) -> Result<(), RadioFault> {
+        Ok(self.stations.insert(addr, aid)?)
+    }
+
+    fn remove(&mut self, addr: Addr) -> Result<(), RadioFault> {
+        self.stations.remove(addr);
+        Ok(())
+    }
+
+    fn transmit(&mut self, _frame: &[u8]) -> Result<(), RadioFault> {
+        Ok(())
+    }
+
+    fn take_down(&mut self) {
+        self.stations.clear();
+    }
+
+    fn installed(&self, addr: Addr) -> Option<u16> {
+        self.stations.get(addr)
+    }
+
+    fn failures(&self) -> u64 {
+        0
+    }
+}
