@@ -2,8 +2,8 @@
 use Rattle.std.proofs.Common.{◌≡◌, ℕ, zero, suc, ◌+◌, ◌<◌, ◌≤◌, List, [], ◌∷◌, length, drop, get_or, refl, sym, ap, subst, ◌∙◌, arith, add-one}
 use Rattle.std.proofs.Math.Seq.{drop-cons}
 use Rattle.apd_base.specs.State.{State}
-use Rattle.apd_table.specs.declared.change.Change.{Change}
-use Rattle.apd_table.specs.Change.{meaning, meaning_of}
+use Rattle.apd_record.specs.declared.change.Change.{Change}
+use Rattle.apd_record.specs.Meaning.{meaning, meaning_of}
 use Rattle.apd_table.specs.Sound.{Sound, StaySound}
 
 pub stay_first : (changes : List Change) (s : State) → StaySound changes s → Sound s

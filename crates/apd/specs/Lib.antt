@@ -1,4 +1,5 @@
 pub mod Run
 pub mod Start
 pub mod Steps
+pub mod Texts
 pub mod World

@@ -1,8 +1,9 @@
-use apd_base::{AclMode, Addr, Bssid, Station};
+use apd_base::{AclMode, Addr, Bssid, Station, Which};
 use apd_conf::{Conf, Confs};
 use apd_frame::{Authentication, Frame};
 use apd_mlme::{Decision, Event, Out, decide};
-use apd_table::{Change, Table};
+use apd_record::Change;
+use apd_table::Table;
 use std::alloc::Global;
 use std::process::Abort;
 use std::test::Fail;
@@ -91,5 +92,33 @@ fn a_start_in_mode_1_ends_a_station_that_mode_0_let_in(rt: HostRuntime) -> Resul
         _ => assert!(rt; false, "no frame"),
     }
     assert_eq!(rt; table.get(RADIO, STATION), None);
+    Ok(())
+}
+
+/// The station on a list of the radio.
+fn listed(which: Which) -> Change {
+    Change::ListAdd {
+        bssid: RADIO,
+        which,
+        addr: STATION,
+    }
+}
+
+#[test]
+fn lists_say_who_is_let_in(rt: HostRuntime) -> Result<(), Fail> {
+    let alloc = rt.alloc();
+    let mut table = Table::new(alloc);
+    let open = confs(alloc, AclMode::AcceptUnlessDenied)?;
+    start(&rt, alloc, &mut table, &open)?;
+    table.apply(&listed(Which::Deny))?;
+    authenticate(&rt, alloc, &mut table, &open)?;
+    assert_eq!(rt; table.get(RADIO, STATION), None);
+    table.apply(&listed(Which::Accept))?;
+    authenticate(&rt, alloc, &mut table, &open)?;
+    assert_eq!(rt; table.get(RADIO, STATION), Some(Station::Authenticated));
+
+    let closed = confs(alloc, AclMode::DenyUnlessAccepted)?;
+    start(&rt, alloc, &mut table, &closed)?;
+    assert_eq!(rt; table.get(RADIO, STATION), Some(Station::Authenticated));
     Ok(())
 }

@@ -8,6 +8,9 @@ mod script;
 #[cfg(test)]
 mod tests;
 
+ghost use Rattle.std.specs.Prelude.{◌≡◌};
+ghost use Rattle.apd.specs.declared.ProgramFault.TheVariants.{NoMemory};
+
 use apd_conf::{Conf, Confs, ConfsFault};
 use clap::Command;
 use clap::error::ErrorKind;
@@ -47,6 +50,8 @@ enum ProgramFault {
 }
 
 impl From<AllocError> for ProgramFault {
+    ghost from_gives = { λ _ fault. fault ≡ NoMemory };
+
     fn from(_: AllocError) -> ProgramFault {
         ProgramFault::NoMemory
     }

@@ -1,7 +1,7 @@
 //! The daemon in one value, in memory: requests are accepted, settled and answered one step at a
 //! time.
 ghost use Rattle.std.specs.Prelude.{◌≡◌, ◌+◌, ◌-◌, ◌^◌, ◌<◌, ◌++◌, IfOk, OnOk, OnErr, IfNone};
-ghost use Rattle.apd_table.specs.Change.{meaning, meaning_of};
+ghost use Rattle.apd_record.specs.Meaning.{meaning, meaning_of};
 ghost use Rattle.apd_table.specs.Sound.{Sound, StaySound};
 ghost use Rattle.apd_mlme.specs.Outs.{outs_to};
 ghost use Rattle.apd_mlme.specs.Rules.{IsFit};
@@ -14,7 +14,8 @@ use apd_base::{Bssid, Sequence};
 use apd_conf::Confs;
 use apd_frame::{Ignored, decode};
 use apd_mlme::{Decision, Event, Out, Recipient, decide};
-use apd_table::{Change, Table, TableFault};
+use apd_record::Change;
+use apd_table::{Table, TableFault};
 use std::alloc::{AllocError, Global};
 use std::{fmt, mem};
 
@@ -349,6 +350,11 @@ impl World {
 }
 
 impl fmt::Display for QuietReason {
+    ghost use Rattle.std.specs.Prelude.{Some};
+    ghost use Rattle.apd.specs.Texts.{quiet_word};
+
+    ghost output = { λ reason. Some (quiet_word reason) };
+
     fn fmt<W: fmt::Write>(&self, f: &mut fmt::Formatter<W>) -> fmt::Result {
         match self {
             QuietReason::Ignored(reason) => write!(f, "{reason}"),
@@ -361,6 +367,11 @@ impl fmt::Display for QuietReason {
 }
 
 impl fmt::Display for Accepted {
+    ghost use Rattle.std.specs.Prelude.{Some};
+    ghost use Rattle.apd.specs.Texts.{accepted_text};
+
+    ghost output = { λ answer. Some (accepted_text answer) };
+
     fn fmt<W: fmt::Write>(&self, f: &mut fmt::Formatter<W>) -> fmt::Result {
         match self {
             Accepted::Stopped => f.write_str("stopped"),

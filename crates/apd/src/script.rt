@@ -11,6 +11,7 @@
 
 ghost use Rattle.std.specs.Prelude.{◌≡◌, IfOk};
 ghost use Rattle.apd.specs.Run.{IsReached};
+ghost use Rattle.apd.specs.declared.script.ScriptFault.TheVariants.{NoMemory};
 
 use crate::plain::{Input, Step, Told, World, drive, flush_steps, hand_steps};
 use apd_base::limits::MAX_SCRIPT;
@@ -37,6 +38,8 @@ pub enum ScriptFault {
 }
 
 impl From<AllocError> for ScriptFault {
+    ghost from_gives = { λ _ fault. fault ≡ NoMemory };
+
     fn from(_: AllocError) -> ScriptFault {
         ScriptFault::NoMemory
     }

@@ -21,7 +21,7 @@ use Rattle.apd_conf.specs.declared.conf.Conf.{Conf}
 use Rattle.apd_conf.specs.Auth.{allows_open}
 use Rattle.apd_table.specs.Allowed.{allowed}
 use Rattle.apd_table.specs.Can.{CanPut}
-use Rattle.apd_table.specs.Change.{meaning_of, put_station}
+use Rattle.apd_record.specs.Meaning.{meaning_of, put_station}
 use Rattle.apd_table.specs.Sound.{Sound, StaySound}
 use Rattle.apd_table.proofs.Put.{sound_put}
 use Rattle.apd_mlme.specs.declared.decision.Recipient.TheVariants.{Radio}

@@ -18,9 +18,9 @@ use Rattle.apd_base.proofs.MapLaws.{one_or_apart, tied}
 use Rattle.apd_conf.specs.declared.conf.Conf.{Conf}
 use Rattle.apd_conf.specs.Conf.{policy_of}
 use Rattle.apd_table.specs.Allowed.{allowed_in, denied_by}
-use Rattle.apd_table.specs.Change.{meaning_of}
+use Rattle.apd_record.specs.Meaning.{meaning_of}
 use Rattle.apd_table.specs.Sound.{Sound, StaySound}
-use Rattle.apd_table.specs.declared.change.Change.TheVariants.{Policy}
+use Rattle.apd_record.specs.declared.change.Change.TheVariants.{Policy}
 use Rattle.apd_table.proofs.Denied.{is_among, drops, among_denied, denied_among, meaning_of-append, drops_lists, drops_policies, drops_station, drops_sound, drops_stay, sound_set_dropped}
 use Rattle.apd_mlme.specs.declared.decision.Recipient.{Recipient}
 use Rattle.apd_mlme.specs.declared.decision.Recipient.TheVariants.{Radio}

@@ -1,4 +1,5 @@
 pub mod AuthenticationLaws
 pub mod ConfigurationLaws
+mod LengthLaws
 pub mod OutsLaws
 pub mod VerdictLaws

@@ -17,9 +17,9 @@ use Rattle.apd_conf.specs.Confs.{conf_at}
 use Rattle.apd_frame.specs.declared.received.Frame.TheVariants.{Auth}
 use Rattle.apd_frame.specs.declared.received.Authentication.{Authentication}
 use Rattle.apd_table.specs.Allowed.{denied_by}
-use Rattle.apd_table.specs.Change.{meaning, meaning_of}
+use Rattle.apd_record.specs.Meaning.{meaning, meaning_of}
 use Rattle.apd_table.specs.Sound.{Sound, StaySound}
-use Rattle.apd_table.specs.declared.change.Change.{Change}
+use Rattle.apd_record.specs.declared.change.Change.{Change}
 use Rattle.apd_table.proofs.Denied.{is_among}
 use Rattle.apd_mlme.specs.declared.event.Event.{Event}
 use Rattle.apd_mlme.specs.declared.event.Event.TheVariants.{Heard, Configure}

@@ -13,7 +13,7 @@ use Rattle.apd_frame.specs.declared.replies.Reply.{Reply}
 use Rattle.apd_frame.specs.declared.replies.ReplyBody.TheVariants.{Auth}
 use Rattle.apd_conf.specs.declared.conf.Conf.{Conf}
 use Rattle.apd_conf.specs.Auth.{allows_open}
-use Rattle.apd_table.specs.declared.change.Change.TheVariants.{Put}
+use Rattle.apd_record.specs.declared.change.Change.TheVariants.{Put}
 use Rattle.apd_table.specs.Allowed.{allowed}
 use Rattle.apd_mlme.specs.Outs.{sent}
 use Rattle.apd_mlme.specs.Verdict.{Verdict}

@@ -12,7 +12,7 @@ use Rattle.apd_conf.specs.declared.conf.Conf.{Conf}
 use Rattle.apd_conf.specs.Conf.{policy_of}
 use Rattle.apd_frame.specs.declared.replies.Reply.{Reply}
 use Rattle.apd_frame.specs.declared.replies.ReplyBody.TheVariants.{Deauth}
-use Rattle.apd_table.specs.declared.change.Change.TheVariants.{Drop, Policy}
+use Rattle.apd_record.specs.declared.change.Change.TheVariants.{Drop, Policy}
 use Rattle.apd_table.specs.Allowed.{allowed_in, denied_by}
 use Rattle.apd_mlme.specs.declared.decision.Recipient.{Recipient}
 use Rattle.apd_mlme.specs.declared.decision.Recipient.TheVariants.{Radio}

@@ -1,7 +1,7 @@
 -- What an event brings about: the state after it, the changes that lead there, in order, and the outs, in order.
 use Rattle.std.specs.Prelude.{List, Bool, length, ◌==◌, ◌&&◌}
 use Rattle.apd_base.specs.State.{State}
-use Rattle.apd_table.specs.declared.change.Change.{Change}
+use Rattle.apd_record.specs.declared.change.Change.{Change}
 use Rattle.apd_mlme.specs.declared.decision.Recipient.{Recipient}
 use Rattle.apd_mlme.specs.declared.decision.Out.{Out}
 

@@ -7,7 +7,8 @@ use crate::decision::{Decision, sent};
 use apd_base::{Bssid, Sequence, Station};
 use apd_conf::Conf;
 use apd_frame::{Authentication, Reply, ReplyBody, Status};
-use apd_table::{Change, Table};
+use apd_record::Change;
+use apd_table::Table;
 use std::alloc::{AllocError, Global};
 
 /// The number of the Open System algorithm (9.4.1.1).

@@ -6,7 +6,8 @@ use crate::decision::{Decision, Out, Recipient, sent};
 use apd_base::{Addr, Bssid, Sequence, Station};
 use apd_conf::Conf;
 use apd_frame::{Reason, Reply, ReplyBody};
-use apd_table::{Change, Table};
+use apd_record::Change;
+use apd_table::Table;
 use std::alloc::{AllocError, Global};
 
 fn deauthentication(bssid: Bssid, addr: Addr) -> Reply

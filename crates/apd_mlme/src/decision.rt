@@ -4,8 +4,12 @@ ghost use Rattle.apd_mlme.specs.Outs.{sent};
 
 use apd_base::{Addr, Aid, Bssid, Sequence};
 use apd_frame::{Reply, encode};
-use apd_table::Change;
+use apd_record::Change;
 use std::alloc::{AllocError, Global};
+
+/// The most bytes that the records of one event's changes have: those of a first start with two full
+/// lists, one policy and 2,048 addresses.
+pub const MAX_RECORDS: usize = 28_682;
 
 /// Who an out is for.
 #[derive(Clone, Copy, Debug, PartialEq, Eq)]

@@ -7,7 +7,7 @@ ghost use Rattle.apd_conf.specs.Confs.{conf_at};
 ghost use Rattle.apd_conf.specs.declared.conf.Conf.{Conf};
 ghost use Rattle.apd_frame.specs.declared.received.Authentication.{Authentication};
 ghost use Rattle.apd_frame.specs.declared.received.Frame.TheVariants.{Auth};
-ghost use Rattle.apd_table.specs.Change.{meaning_of};
+ghost use Rattle.apd_record.specs.Meaning.{meaning_of};
 ghost use Rattle.apd_table.specs.Sound.{Sound, StaySound};
 ghost use Rattle.apd_mlme.specs.Driver.{FollowsDrivers};
 ghost use Rattle.apd_mlme.specs.Rules.{verdict, IsFit};

@@ -17,7 +17,7 @@ use Rattle.apd_base.specs.State.{State, aid_of, aid_at, station_at}
 use Rattle.apd_table.specs.Can.{MayHave}
 use Rattle.apd_table.specs.Rows.{is_clash}
 
-aid_from : (o : Option Station) (i : ℕ) → aid_of o ≡ Some i → (x : Association) × (o ≡ Some (Associated x)) × (x.aid.number ≡ i)
+pub aid_from : (o : Option Station) (i : ℕ) → aid_of o ≡ Some i → (x : Association) × (o ≡ Some (Associated x)) × (x.aid.number ≡ i)
 aid_from None i e = cc
 aid_from (Some Authenticated) i e = cc
 aid_from (Some (Associated x)) i e = (x, refl, cc)

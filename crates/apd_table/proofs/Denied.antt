@@ -18,10 +18,10 @@ use Rattle.apd_base.proofs.MapLaws.{one_or_apart, tied, passes_any, any_passes}
 use Rattle.apd_base.specs.State.{State, station_at, policy_at}
 use Rattle.apd_table.specs.Allowed.{allowed_in, is_denied_row, denied_by}
 use Rattle.apd_table.specs.Can.{CanSet}
-use Rattle.apd_table.specs.Change.{drop_station, set_policy, meaning, meaning_of}
+use Rattle.apd_record.specs.Meaning.{drop_station, set_policy, meaning, meaning_of}
 use Rattle.apd_table.specs.Sound.{Sound, StaySound}
-use Rattle.apd_table.specs.declared.change.Change.{Change}
-use Rattle.apd_table.specs.declared.change.Change.TheVariants.{Drop}
+use Rattle.apd_record.specs.declared.change.Change.{Change}
+use Rattle.apd_record.specs.declared.change.Change.TheVariants.{Drop}
 use Rattle.apd_table.proofs.Dropped.{sound_drop}
 use Rattle.apd_table.proofs.PolicySet.{sound_set}
 

@@ -11,7 +11,7 @@ use Rattle.apd_base.specs.Addr.{bssid_cmp}
 use Rattle.apd_base.proofs.AddrLaws.{station_total, station_exact}
 use Rattle.apd_base.proofs.MapLaws.{one_or_apart, get_removed, get_remove_other, retain_keys-remove}
 use Rattle.apd_base.specs.State.{State, station_at, aid_of, aid_at, count, stations_of}
-use Rattle.apd_table.specs.Change.{drop_station}
+use Rattle.apd_record.specs.Meaning.{drop_station}
 use Rattle.apd_table.specs.Sound.{Sound}
 
 none_is : {A B : Type 0} (o : Option A) → o ≡ None → IsSome o → B

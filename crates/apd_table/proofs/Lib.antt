@@ -1,7 +1,15 @@
+mod AllowedLaws
+mod BssLaws
+mod BssWrites
 mod Clashes
+mod DeniedRows
 pub mod Denied
 pub mod Dropped
-mod Empty
-mod NoLists
+pub mod Empty
+mod Firsts
+pub mod ListChanges
+mod ListCounts
+mod ListSets
 pub mod PolicySet
 pub mod Put
+mod Takens

@@ -13,7 +13,7 @@ use Rattle.apd_base.proofs.MapLaws.{one_or_apart, get_inserted, get_insert_other
 use Rattle.apd_base.specs.State.{State, station_at, policy_at}
 use Rattle.apd_table.specs.Allowed.{allowed, allowed_in, allowed_under}
 use Rattle.apd_table.specs.Can.{CanSet}
-use Rattle.apd_table.specs.Change.{set_policy}
+use Rattle.apd_record.specs.Meaning.{set_policy}
 use Rattle.apd_table.specs.Sound.{Sound}
 
 module _ (s : State) (b : Bssid) (p : Policy) where

@@ -14,7 +14,7 @@ use Rattle.apd_base.specs.declared.station.Station.TheVariants.{Authenticated, A
 use Rattle.apd_base.specs.State.{State, station_at, policy_at, aid_of, aid_at, count, stations_of}
 use Rattle.apd_table.specs.Allowed.{allowed}
 use Rattle.apd_table.specs.Can.{MayHave, CanPut}
-use Rattle.apd_table.specs.Change.{put_station}
+use Rattle.apd_record.specs.Meaning.{put_station}
 use Rattle.apd_table.specs.Sound.{Sound}
 
 -- an identifier keeps its range by its type

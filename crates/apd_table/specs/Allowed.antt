@@ -1,5 +1,5 @@
 -- Which stations the policy of a BSSID allows.
-use Rattle.std.specs.Prelude.{ℕ, Bool, not, ◌&&◌, ◌||◌, ◌==◌, List, map as list_map, filter, Option, Some, None}
+use Rattle.std.specs.Prelude.{ℕ, Bool, false, not, ◌&&◌, List, map as list_map, filter, Option, Some, None}
 use Rattle.std.specs.Ordering.{eq_by_cmp}
 use Rattle.std.specs.FinMap as map
 use Rattle.apd_base.specs.Sets as set
@@ -12,19 +12,28 @@ use Rattle.apd_base.specs.declared.station.Which.TheVariants.{Accept, Deny}
 use Rattle.apd_base.specs.Addr.{bssid_cmp}
 use Rattle.apd_base.specs.Mode.{mode_number}
 use Rattle.apd_base.specs.State.{State, policy_at}
+use Rattle.apd_acl.specs.Policy.{is_allowed}
 
--- in this mode: an address of the accept list; or one that is not in the deny list, where the mode is 0
+-- in this mode, by the lists of the BSSID
 abbrev pub allowed_in : State → Bssid → Addr → AclMode → Bool
-allowed_in s b a mode = set.contains s.lists (b, Accept, a) || (not (set.contains s.lists (b, Deny, a)) && (mode_number mode == 0))
+allowed_in s b a mode = is_allowed mode (set.contains s.lists (b, Accept, a)) (set.contains s.lists (b, Deny, a))
 
 -- under a policy; where there is none there is no mode, and the accept list alone counts
 abbrev pub allowed_under : State → Bssid → Addr → Option Policy → Bool
 allowed_under s b a None = set.contains s.lists (b, Accept, a)
 allowed_under s b a (Some policy) = allowed_in s b a policy.mode
 
+abbrev pub allowed_unaccepted_under : State → Bssid → Addr → Option Policy → Bool
+allowed_unaccepted_under s b a None = false
+allowed_unaccepted_under s b a (Some policy) = is_allowed policy.mode false (set.contains s.lists (b, Deny, a))
+
 -- under the policy of the BSSID
 abbrev pub allowed : State → Bssid → Addr → Bool
 allowed s b a = allowed_under s b a (policy_at s b)
+
+-- and if its accept list were empty
+abbrev pub allowed_unaccepted : State → Bssid → Addr → Bool
+allowed_unaccepted s b a = allowed_unaccepted_under s b a (policy_at s b)
 
 -- whether a row is one of the BSSID that this mode would deny
 abbrev pub is_denied_row : State → Bssid → AclMode → (Bssid × Addr) × Station → Bool

@@ -3,9 +3,12 @@ use Rattle.std.specs.Prelude.{◌≡◌, ℕ, ◌<◌, Some, IsSome, IfSome, IsT
 use Rattle.std.specs.FinMap as map
 use Rattle.apd_base.specs.declared.address.Addr.{Addr}
 use Rattle.apd_base.specs.declared.address.Bssid.{Bssid}
+use Rattle.apd_base.specs.declared.limits.TheConstants.{MAX_BSS, MAX_STATIONS, MAX_LISTED}
 use Rattle.apd_base.specs.declared.station.Station.{Station}
 use Rattle.apd_base.specs.declared.station.Policy.{Policy}
-use Rattle.apd_base.specs.State.{State, station_at, policy_at, aid_of, aid_at, count}
+use Rattle.apd_base.specs.declared.station.Which.{Which}
+use Rattle.apd_base.specs.State.{State, station_at, policy_at, aid_of, aid_at, count, list_count, IsListed}
+use Rattle.apd_record.specs.Meaning.{add_to_list, take_from_list, clear_list}
 use Rattle.apd_table.specs.Allowed.{allowed, allowed_in}
 
 -- the station may be associated at the BSSID with the identifier
@@ -19,9 +22,26 @@ pub record MayHave (s : State) (b : Bssid) (a : Addr) (i : ℕ) : Type 0 where
 pub record CanPut (s : State) (b : Bssid) (a : Addr) (v : Station) : Type 0 where
   pub identified : IfSome (aid_of (Some v)) (MayHave s b a)
   pub allowed : IsSome (policy_at s b) × IsTrue (allowed s b a)
-  pub room : IsSome (station_at s b a) ⊎ (count s b < 2007)
+  pub room : IsSome (station_at s b a) ⊎ (count s b < MAX_STATIONS)
 
 -- a BSSID's policy
 pub record CanSet (s : State) (b : Bssid) (p : Policy) : Type 0 where
-  pub room : IsSome (policy_at s b) ⊎ (map.len s.policies < 8)
+  pub room : IsSome (policy_at s b) ⊎ (map.len s.policies < MAX_BSS)
   pub allowed : (a : Addr) → IsSome (station_at s b a) → IsTrue (allowed_in s b a p.mode)
+
+-- each station with a row at the BSSID is allowed there
+abbrev pub NoneDenied : State → Bssid → Type 0
+NoneDenied s b = (a : Addr) → IsSome (station_at s b a) → IsTrue (allowed s b a)
+
+-- an address more in a list
+pub record CanAdd (s : State) (b : Bssid) (w : Which) (a : Addr) : Type 0 where
+  pub policy : IsSome (policy_at s b)
+  pub room : IsListed s b w a ⊎ (list_count s b w < MAX_LISTED)
+  pub allowed : NoneDenied (add_to_list b w a s) b
+
+-- one less, and none
+abbrev pub CanTake : State → Bssid → Which → Addr → Type 0
+CanTake s b w a = NoneDenied (take_from_list b w a s) b
+
+abbrev pub CanClear : State → Bssid → Which → Type 0
+CanClear s b w = NoneDenied (clear_list b w s) b

@@ -1,6 +1,9 @@
 pub mod Allowed
+pub mod BssRows
+pub mod BssState
 pub mod Can
-pub mod Change
+pub mod LeastFree
+pub mod NewRow
 pub mod Rows
 pub mod Sound
 pub mod Table

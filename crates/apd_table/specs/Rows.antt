@@ -1,11 +1,16 @@
 -- Station rows one by one.
-use Rattle.std.specs.Prelude.{ℕ, Bool, false, ◌&&◌, not, ◌==◌, if◌then◌else◌}
+use Rattle.std.specs.Prelude.{◌≡◌, ℕ, ◌<◌, ◌≤◌, Bool, true, false, cond, ◌&&◌, not, ◌==◌, if◌then◌else◌, List, [], ◌∷◌, Option, Some, None}
 use Rattle.std.specs.Ordering.{eq_by_cmp}
 use Rattle.apd_base.specs.declared.address.Addr.{Addr}
 use Rattle.apd_base.specs.declared.address.Bssid.{Bssid}
+use Rattle.apd_base.specs.declared.station.AclMode.{AclMode}
 use Rattle.apd_base.specs.declared.station.Station.{Station}
 use Rattle.apd_base.specs.declared.station.Station.TheVariants.{Authenticated, Associated}
+use Rattle.apd_base.specs.declared.station.Which.TheVariants.{Deny}
 use Rattle.apd_base.specs.Addr.{bssid_cmp, addr_cmp}
+use Rattle.apd_acl.specs.Lists.{has, allowed}
+use Rattle.apd_acl.specs.Policy.{is_allowed}
+use Rattle.apd_acl.specs.declared.lists.Lists.{Lists}
 
 abbrev pub is_row_of : Bssid → (Bssid × Addr) × Station → Bool
 is_row_of b row = eq_by_cmp bssid_cmp b row.0.0
@@ -15,3 +20,33 @@ is_row_of b row = eq_by_cmp bssid_cmp b row.0.0
 abbrev pub is_clash : Bssid → Addr → ℕ → (Bssid × Addr) × Station → Bool
 is_clash b a i (key, Authenticated) = false
 is_clash b a i (key, Associated x) = if eq_by_cmp bssid_cmp b key.0 then (not (eq_by_cmp addr_cmp a key.1) && (x.aid.number == i)) else eq_by_cmp addr_cmp a key.1
+
+-- whether a row has the identifier at the BSSID
+abbrev pub has_aid : Bssid → ℕ → (Bssid × Addr) × Station → Bool
+has_aid b i (key, Authenticated) = false
+has_aid b i (key, Associated x) = eq_by_cmp bssid_cmp b key.0 && (x.aid.number == i)
+
+-- the least number from 1 to 2007 that is not marked
+pub record IsLeastUnmarked (marked : ℕ → Bool) (i : ℕ) : Type 0 where
+  pub low : 1 ≤ i
+  pub high : i ≤ 2007
+  pub free : marked i ≡ false
+  pub smaller : (j : ℕ) → 1 ≤ j → j < i → marked j ≡ true
+
+-- the first row of a BSSID among some
+abbrev pub first_of : Bssid → List ((Bssid × Addr) × Station) → Option (Addr × Station)
+first_of b [] = None
+first_of b (row ∷ rows) = cond (is_row_of b row) (Some (row.0.1, row.1)) (first_of b rows)
+
+-- a row, if it is one of the BSSID
+abbrev pub if_row_of : Bssid → Option ((Bssid × Addr) × Station) → Option (Addr × Station)
+if_row_of b None = None
+if_row_of b (Some row) = cond (is_row_of b row) (Some (row.0.1, row.1)) None
+
+-- whether a row is one of the BSSID that these lists and this mode deny, and whether it is one that they
+-- would deny if the accept list were empty
+abbrev pub is_denied_row_by : Lists → AclMode → Bssid → (Bssid × Addr) × Station → Bool
+is_denied_row_by lists mode b row = is_row_of b row && not (allowed lists row.0.1 mode)
+
+abbrev pub is_denied_unaccepted : Lists → AclMode → Bssid → (Bssid × Addr) × Station → Bool
+is_denied_unaccepted lists mode b row = is_row_of b row && not (is_allowed mode false (has lists Deny row.0.1))

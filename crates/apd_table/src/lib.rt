@@ -1,11 +1,11 @@
-//! The table of an access point: its stations and its policies, in a sound state, and the changes
-//! that it takes.
+//! The table of an access point: its stations, its lists and its policies, in a sound state, and the
+//! changes that it takes.
 #![tactic(auto)]
 
-pub mod change;
-mod policies;
+mod bss_rows;
+mod denials;
 mod stations;
 pub mod table;
+mod writes;
 
-pub use change::Change;
 pub use table::{Table, TableFault};

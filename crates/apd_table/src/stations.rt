@@ -1,13 +1,16 @@
 //! The station rows, in the order of (BSSID, address).
-ghost use Rattle.std.specs.Prelude.{◌≡◌, OnOk, OnErr, IsOk, IsSome, IfOk, T, count_by, filter, map as list_map};
-ghost use Rattle.std.specs.List.{list_any};
+ghost use Rattle.std.specs.Prelude.{◌≡◌, ◌≢◌, ℕ, ◌<◌, ◌≤◌, ◌||◌, ◌==◌, Some, None, false, true, OnOk, OnErr, IsOk, IsSome, IfOk, IfSome, IfNone, MatchOption, T, count_by, slice_index_or};
+ghost use Rattle.std.specs.List.{list_any, slice_get};
+ghost use Rattle.std.specs.declared.cmp.Ordering.TheVariants.{Less};
 ghost use Rattle.std.specs.FinMap as map;
 ghost use Rattle.std.specs.Coded.{coded×};
 ghost use Rattle.std.specs.Ordering.{eq_by_cmp};
-ghost use Rattle.apd_base.specs.Addr.{bssid_cmp, station_cmp, coded_addr, coded_bssid};
+ghost use Rattle.apd_acl.specs.Least.{IsLeast, IsLeastAbove};
+ghost use Rattle.apd_base.specs.Addr.{addr_cmp, bssid_cmp, station_cmp, coded_addr, coded_bssid};
 ghost use Rattle.apd_base.specs.Codes.{coded_station};
+ghost use Rattle.apd_base.specs.declared.address.Addr.{Addr};
 ghost use Rattle.apd_base.specs.declared.station.Station.{Station};
-ghost use Rattle.apd_table.specs.Rows.{is_row_of, is_clash};
+ghost use Rattle.apd_table.specs.Rows.{is_row_of, is_clash, has_aid, first_of, if_row_of, IsLeastUnmarked};
 
 use apd_base::{Addr, Bssid, Station, rows};
 use std::alloc::{AllocError, Global};
@@ -38,27 +41,6 @@ fn count_of(rows: &[((Bssid, Addr), Station)], bssid: Bssid) -> usize
         .count()
 }
 
-// The addresses of the rows of a BSSID.
-fn addresses_of(
-    alloc: Global,
-    rows: &[((Bssid, Addr), Station)],
-    bssid: Bssid,
-) -> Result<Vec<Addr>, AllocError>
-    ensures { IfOk result (λ v. v.items ≡ list_map (λ row. row.0.1) (filter (is_row_of bssid) rows.now)) }
-{
-    rows.iter()
-        .filter(|row| bssid.cmp(&row.0.0).is_eq())
-        .map(|row| row.0.1)
-        .collect(alloc)
-}
-
-// Whether a BSSID has a row.
-fn any_of(rows: &[((Bssid, Addr), Station)], bssid: Bssid) -> bool
-    ensures { result ≡ list_any (is_row_of bssid) rows.now }
-{
-    rows.iter().any(|row| bssid.cmp(&row.0.0).is_eq())
-}
-
 // Whether a row keeps the station from being associated with the identifier.
 fn clashes_in(rows: &[((Bssid, Addr), Station)], bssid: Bssid, addr: Addr, aid: u16) -> bool
     ensures { result ≡ list_any (is_clash bssid addr aid) rows.now }
@@ -79,6 +61,84 @@ fn is_clash(row: &((Bssid, Addr), Station), bssid: Bssid, addr: Addr, aid: u16) 
             }
         }
     }
+}
+
+// The first row of a BSSID.
+fn first_of(rows: &[((Bssid, Addr), Station)], bssid: Bssid) -> Option<(Addr, Station)>
+    ensures { result ≡ first_of bssid rows.now }
+{
+    for row in rows {
+        if bssid.cmp(&row.0.0).is_eq() {
+            return Some((row.0.1, row.1));
+        }
+    }
+    None
+}
+
+// The row at a place, if it is one of the BSSID.
+fn row_at(rows: &[((Bssid, Addr), Station)], bssid: Bssid, place: usize) -> Option<(Addr, Station)>
+    ensures { result ≡ if_row_of bssid (slice_get rows.now place) }
+{
+    if place >= rows.len() {
+        return None;
+    }
+    let row = &rows[place];
+    if bssid.cmp(&row.0.0).is_eq() {
+        Some((row.0.1, row.1))
+    } else {
+        None
+    }
+}
+
+// At each place from 1 on, whether that identifier is on a row of the BSSID.
+fn taken_in(rows: &[((Bssid, Addr), Station)], bssid: Bssid) -> [bool; 2008]
+    ensures { (i : ℕ) → i < 2008 → slice_index_or result i false ≡ list_any (has_aid bssid i) rows.now }
+{
+    let mut taken = [false; 2008];
+    for row in rows {
+        mark(&mut taken, row, bssid);
+    }
+    taken
+}
+
+// Marks the identifier of a row of the BSSID.
+fn mark(taken: &mut [bool; 2008], row: &((Bssid, Addr), Station), bssid: Bssid)
+    ensures { (i : ℕ) → i < 2008 → slice_index_or taken.new i false ≡ (slice_index_or taken.old i false || has_aid bssid i row.now) }
+{
+    if let Some(aid) = aid_at(row, bssid) {
+        if aid < 2008 {
+            taken[aid as usize] = true;
+        }
+    }
+}
+
+// The identifier of a row of the BSSID.
+fn aid_at(row: &((Bssid, Addr), Station), bssid: Bssid) -> Option<u16>
+    ensures { MatchOption result ((i : ℕ) → has_aid bssid i row.now ≡ false) (λ aid. (i : ℕ) → has_aid bssid i row.now ≡ (aid == i)) }
+{
+    match row.1 {
+        Station::Associated(association) => {
+            if bssid.cmp(&row.0.0).is_eq() {
+                Some(association.aid.number)
+            } else {
+                None
+            }
+        }
+        Station::Authenticated => None,
+    }
+}
+
+// The least place from 1 on that is not taken.
+fn least_place(taken: &[bool; 2008]) -> Option<u16>
+    ensures some { IfSome result (IsLeastUnmarked (λ i. slice_index_or taken.now i false)) }
+    ensures none { IfNone result ((j : ℕ) → 1 ≤ j → j ≤ 2007 → slice_index_or taken.now j false ≡ true) }
+{
+    for i in 1..2008u16 {
+        if !taken[i as usize] {
+            return Some(i);
+        }
+    }
+    None
 }
 
 impl Stations {
@@ -138,18 +198,40 @@ impl Stations {
         count_of(&self.rows, bssid)
     }
 
-    /// Whether a BSSID has a row.
-    pub fn any(&self, bssid: Bssid) -> bool
-        ensures { result ≡ list_any (is_row_of bssid) (map.entries self.now) }
+    /// How many rows there are.
+    pub fn len(&self) -> usize
+        ensures { result ≡ map.len self.now }
     {
-        any_of(self.entries(), bssid)
+        self.rows.len()
     }
 
-    /// The addresses, rising, of the rows of a BSSID.
-    pub fn addresses(&self, alloc: Global, bssid: Bssid) -> Result<Vec<Addr>, AllocError>
-        ensures { IfOk result (λ v. v.items ≡ list_map (λ row. row.0.1) (filter (is_row_of bssid) (map.entries self.now))) }
+    /// The row of the least address of a BSSID.
+    pub fn first(&self, bssid: Bssid) -> Option<(Addr, Station)>
+        ensures least { IfSome result (λ x. IsLeast (λ a. IsSome (map.get self.now (bssid, a))) x.0) }
+        ensures row { IfSome result (λ x. map.get self.now (bssid, x.0) ≡ Some x.1) }
+        ensures none { IfNone result ((a : Addr) → map.get self.now (bssid, a) ≡ None) }
     {
-        addresses_of(alloc, self.entries(), bssid)
+        first_of(&self.rows, bssid)
+    }
+
+    /// The row of the least address of a BSSID above another.
+    pub fn next(&self, bssid: Bssid, addr: Addr) -> Option<(Addr, Station)>
+        ensures least { IfSome result (λ x. IsLeastAbove addr (λ a. IsSome (map.get self.now (bssid, a))) x.0) }
+        ensures row { IfSome result (λ x. map.get self.now (bssid, x.0) ≡ Some x.1) }
+        ensures none { IfNone result ((a : Addr) → IsSome (map.get self.now (bssid, a)) → addr_cmp addr a ≢ Less) }
+    {
+        match rows::place(&self.rows, &(bssid, addr)) {
+            Ok(place) => row_at(&self.rows, bssid, place + 1),
+            Err(place) => row_at(&self.rows, bssid, place),
+        }
+    }
+
+    /// The least number from 1 to 2007 that is not the identifier of a row of the BSSID.
+    pub fn least_free(&self, bssid: Bssid) -> Option<u16>
+        ensures some { IfSome result (IsLeastUnmarked (λ i. list_any (has_aid bssid i) (map.entries self.now))) }
+        ensures none { IfNone result ((j : ℕ) → 1 ≤ j → j ≤ 2007 → list_any (has_aid bssid j) (map.entries self.now) ≡ true) }
+    {
+        least_place(&taken_in(self.entries(), bssid))
     }
 
     /// Whether a row keeps a station from being associated at a BSSID with an identifier: another

@@ -1,23 +1,36 @@
 //! A table, seen as the state of an access point.
-ghost use Rattle.std.specs.Prelude.{◌≡◌, ◌<◌, ◌⊎◌, OnOk, OnErr, IsOk, IfOk, IsSome, IsTrue, ◌↔◌, Err, None};
+ghost use Rattle.std.specs.Prelude.{◌≡◌, ◌≢◌, ℕ, ◌<◌, ◌≤◌, ◌⊎◌, ◌↔◌, OnOk, OnErr, IsOk, IfOk, IsSome, IfSome, IfNone, IsTrue, Some, None, Err};
+ghost use Rattle.std.specs.List.{slice_get};
 ghost use Rattle.std.specs.Option.{option_map};
+ghost use Rattle.std.specs.declared.cmp.Ordering.TheVariants.{Less};
 ghost use Rattle.std.specs.FinMap as map;
+ghost use Rattle.apd_base.specs.Addr.{addr_cmp};
+ghost use Rattle.apd_base.specs.Sets.{contains};
 ghost use Rattle.apd_base.specs.declared.address.Addr.{Addr};
 ghost use Rattle.apd_base.specs.declared.address.Bssid.{Bssid};
-ghost use Rattle.apd_base.specs.State.{station_at, policy_at, count, empty_state};
-ghost use Rattle.apd_table.specs.Allowed.{allowed, allowed_in, denied_by, mode_and_max};
-ghost use Rattle.apd_table.specs.Can.{CanPut, CanSet, MayHave};
-ghost use Rattle.apd_table.specs.Change.{meaning, put_station, drop_station, set_policy, IsNewRow};
+ghost use Rattle.apd_base.specs.declared.limits.TheConstants.{MAX_BSS, MAX_STATIONS, MAX_LISTED};
+ghost use Rattle.apd_base.specs.declared.station.Which.{Which};
+ghost use Rattle.apd_base.specs.declared.station.Which.TheVariants.{Accept};
+ghost use Rattle.apd_base.specs.State.{station_at, policy_at, count, list_count, IsListed, empty_state};
+ghost use Rattle.apd_acl.specs.Least.{IsLeast, IsLeastAbove};
+ghost use Rattle.apd_acl.specs.Lists.{has, list_of};
+ghost use Rattle.apd_record.specs.Meaning.{meaning, put_station, drop_station, add_to_list, take_from_list, clear_list, set_policy};
+ghost use Rattle.apd_record.specs.declared.change.Change.TheVariants.{Drop};
+ghost use Rattle.apd_table.specs.Allowed.{allowed, allowed_in, allowed_unaccepted, denied_by, mode_and_max};
+ghost use Rattle.apd_table.specs.Can.{CanPut, CanSet, CanAdd, CanTake, CanClear, MayHave, NoneDenied};
+ghost use Rattle.apd_table.specs.LeastFree.{IsLeastFree, IsTaken};
+ghost use Rattle.apd_table.specs.NewRow.{IsNewRow};
 ghost use Rattle.apd_table.specs.Sound.{Sound};
-ghost use Rattle.apd_table.specs.declared.change.Change.TheVariants.{Drop};
 ghost use Rattle.apd_table.specs.declared.table.TableFault.{TableFault};
 ghost use Rattle.apd_table.specs.declared.table.TableFault.TheVariants.{NoMemory};
 
-use crate::change::Change;
-use crate::policies::Policies;
+use crate::bss_rows::BssRows;
+use crate::denials;
 use crate::stations::Stations;
-use apd_base::limits::{MAX_BSS, MAX_STATIONS};
-use apd_base::{AclMode, Addr, Bssid, Policy, Station};
+use apd_acl::{Lists, policy};
+use apd_base::limits::{MAX_BSS, MAX_LISTED, MAX_STATIONS};
+use apd_base::{AclMode, Addr, Bssid, Policy, Station, Which};
+use apd_record::Change;
 use std::alloc::{AllocError, Global};
 use std::marker::Model;
 use thiserror::Error;
@@ -41,11 +54,11 @@ impl From<AllocError> for TableFault {
     }
 }
 
-/// The stations and the policies of an access point, in a sound state.
+/// The stations, the lists and the policies of an access point, in a sound state.
 #[derive(Drop)]
 pub struct Table {
     stations: Stations,
-    policies: Policies,
+    bss: BssRows,
 }
 
 impl Model for Table {
@@ -70,7 +83,7 @@ impl Table {
     {
         Table {
             stations: Stations::new(alloc),
-            policies: Policies::new(alloc),
+            bss: BssRows::new(alloc),
         }
     }
 
@@ -78,7 +91,7 @@ impl Table {
     pub fn sound(&self)
         ensures { Sound self.now }
     {
-        let _ = &self.policies;
+        let _ = &self.bss;
     }
 
     /// The row of a station at a BSSID. It takes no memory, as none of the
@@ -94,8 +107,62 @@ impl Table {
     pub fn policy(&self, bssid: Bssid) -> Option<(u8, u16)>
         ensures { result ≡ option_map mode_and_max (policy_at self.now bssid) }
     {
-        let policy = self.policies.get(bssid)?;
+        let policy = self.bss.get(bssid)?.policy;
         Some((policy.mode.number(), policy.max.count))
+    }
+
+    /// The lists of a BSSID; `None` exactly where it has no policy row, and then it has no list row
+    /// either.
+    pub fn lists(&self, bssid: Bssid) -> Option<&Lists>
+        ensures policy { IsSome result ↔ IsSome (policy_at self.now bssid) }
+        ensures rows { IfSome result (λ lists. (w : Which) (a : Addr) → has lists.now w a ≡ contains self.now.lists (bssid, w, a)) }
+        ensures counts { IfSome result (λ lists. (w : Which) → map.len (list_of lists.now w) ≡ list_count self.now bssid w) }
+    {
+        Some(&self.bss.get(bssid)?.lists)
+    }
+
+    /// The row of the least address of a BSSID: the address and the station; `None` exactly where it
+    /// has no station row.
+    pub fn first(&self, bssid: Bssid) -> Option<(Addr, Station)>
+        ensures least { IfSome result (λ x. IsLeast (λ a. IsSome (station_at self.now bssid a)) x.0) }
+        ensures row { IfSome result (λ x. station_at self.now bssid x.0 ≡ Some x.1) }
+        ensures none { IfNone result ((a : Addr) → station_at self.now bssid a ≡ None) }
+    {
+        self.stations.first(bssid)
+    }
+
+    /// The row of the least address of a BSSID above this one, which need not have a row; `None`
+    /// exactly where there is none above it.
+    pub fn next(&self, bssid: Bssid, addr: Addr) -> Option<(Addr, Station)>
+        ensures least { IfSome result (λ x. IsLeastAbove addr (λ a. IsSome (station_at self.now bssid a)) x.0) }
+        ensures row { IfSome result (λ x. station_at self.now bssid x.0 ≡ Some x.1) }
+        ensures none { IfNone result ((a : Addr) → IsSome (station_at self.now bssid a) → addr_cmp addr a ≢ Less) }
+    {
+        self.stations.next(bssid, addr)
+    }
+
+    /// The least association identifier that no station of a BSSID has; `None` exactly where each from
+    /// 1 to 2007 is some station's.
+    pub fn least_free(&self, bssid: Bssid) -> Option<u16>
+        ensures some { IfSome result (IsLeastFree self.now bssid) }
+        ensures none { IfNone result ((i : ℕ) → 1 ≤ i → i ≤ MAX_STATIONS → IsTaken self.now bssid i) }
+    {
+        self.stations.least_free(bssid)
+    }
+
+    /// The BSSID at a place, counted from 0, among those with a policy, which rise; `None` exactly
+    /// where there are no more than that many.
+    pub fn bss(&self, place: usize) -> Option<Bssid>
+        ensures { result ≡ slice_get (map.keys self.now.policies) place }
+    {
+        self.bss.at(place)
+    }
+
+    /// How many station rows there are, of all BSSIDs.
+    pub fn rows(&self) -> usize
+        ensures { result ≡ map.len self.now.stations }
+    {
+        self.stations.len()
     }
 
     /// How many stations have a row at a BSSID.
@@ -109,15 +176,15 @@ impl Table {
     pub fn bss_count(&self) -> usize
         ensures { result ≡ map.len self.now.policies }
     {
-        self.policies.len()
+        self.bss.len()
     }
 
     /// Whether the policy of a BSSID allows a station.
     pub fn allowed(&self, bssid: Bssid, addr: Addr) -> bool
         ensures { result ≡ allowed self.now bssid addr }
     {
-        match self.policies.get(bssid) {
-            Some(policy) => self.allows_unlisted(policy.mode),
+        match self.bss.get(bssid) {
+            Some(bss) => bss.lists.allowed(addr, bss.policy.mode),
             None => false,
         }
     }
@@ -131,9 +198,9 @@ impl Table {
     ) -> Result<Vec<Addr>, AllocError>
         ensures { IfOk result (λ v. v.items ≡ denied_by self.now bssid mode) }
     {
-        match mode {
-            AclMode::AcceptUnlessDenied => Ok(Vec::new(alloc)),
-            AclMode::DenyUnlessAccepted => self.stations.addresses(alloc, bssid),
+        match self.bss.get(bssid) {
+            Some(bss) => denials::denied(alloc, self.stations.entries(), bssid, &bss.lists, mode),
+            None => Ok(Vec::new(alloc)),
         }
     }
 
@@ -143,17 +210,19 @@ impl Table {
     {
         Ok(Table {
             stations: self.stations.copy(alloc)?,
-            policies: self.policies.copy(alloc)?,
+            bss: self.bss.copy(alloc)?,
         })
     }
 
     /// Makes a change, exactly where the state after it is sound; else the answer is `Invalid`, and
-    /// nothing changed. `NoMemory` comes only where a row must be added, and changes nothing either.
+    /// nothing changed. `NoMemory` comes only where that state is sound and a row must be added, and
+    /// changes nothing either: so `Drop`, `ListDel` and `ListClear` never lack memory.
     pub fn apply(&mut self, change: &Change) -> Result<(), TableFault>
         ensures ok { OnOk result (self.new ≡ meaning change.now self.old) }
         ensures sound { OnOk result (Sound (meaning change.now self.old)) }
         ensures invalid { result ≡ Err TableFault.Invalid → ¬ (Sound (meaning change.now self.old)) }
         ensures memory { result ≡ Err TableFault.NoMemory → IsNewRow change.now self.old }
+        ensures wanted { result ≡ Err TableFault.NoMemory → Sound (meaning change.now self.old) }
         ensures drop { (b : Bssid) (a : Addr) → change.now ≡ Drop b a → IsOk result }
         ensures err { OnErr result (self.new ≡ self.old) }
     {
@@ -167,17 +236,11 @@ impl Table {
                 self.drop_station(bssid, addr);
                 Ok(())
             }
+            Change::ListAdd { bssid, which, addr } => self.add(bssid, which, addr),
+            Change::ListDel { bssid, which, addr } => self.take(bssid, which, addr),
+            Change::ListClear { bssid, which } => self.clear(bssid, which),
             Change::Policy { bssid, policy } => self.set(bssid, policy),
         }
-    }
-
-    // Whether a mode allows a station that is on neither list, which is each one while a table has no
-    // list rows.
-    fn allows_unlisted(&self, mode: AclMode) -> bool
-        ensures { (b : Bssid) (a : Addr) → result ≡ allowed_in self.now b a mode }
-    {
-        let _ = &self.stations;
-        mode.number() == 0
     }
 
     // Whether the identifier is free at the BSSID, and the station's only one.
@@ -187,16 +250,22 @@ impl Table {
         !self.stations.clashes(bssid, addr, aid)
     }
 
+    fn has_policy(&self, bssid: Bssid) -> bool
+        ensures { IsTrue result ↔ IsSome (policy_at self.now bssid) }
+    {
+        self.bss.get(bssid).is_some()
+    }
+
     // Whether the BSSID has a policy, and it allows the station.
     fn allows(&self, bssid: Bssid, addr: Addr) -> bool
         ensures { IsTrue result ↔ (IsSome (policy_at self.now bssid) × IsTrue (allowed self.now bssid addr)) }
     {
-        self.policies.get(bssid).is_some() && self.allowed(bssid, addr)
+        self.has_policy(bssid) && self.allowed(bssid, addr)
     }
 
     // Whether the BSSID has a row for the station, or room for one more.
     fn has_room(&self, bssid: Bssid, addr: Addr) -> bool
-        ensures { IsTrue result ↔ (IsSome (station_at self.now bssid addr) ⊎ (count self.now bssid < 2007)) }
+        ensures { IsTrue result ↔ (IsSome (station_at self.now bssid addr) ⊎ (count self.now bssid < MAX_STATIONS)) }
     {
         self.get(bssid, addr).is_some() || self.count(bssid) < MAX_STATIONS
     }
@@ -215,23 +284,113 @@ impl Table {
     fn denies_none(&self, bssid: Bssid, mode: AclMode) -> bool
         ensures { IsTrue result ↔ ((a : Addr) → IsSome (station_at self.now bssid a) → IsTrue (allowed_in self.now bssid a mode)) }
     {
-        match mode {
-            AclMode::AcceptUnlessDenied => true,
-            AclMode::DenyUnlessAccepted => !self.stations.any(bssid),
+        match self.bss.get(bssid) {
+            Some(bss) => !denials::any_denied(self.stations.entries(), bssid, &bss.lists, mode),
+            None => true,
         }
     }
 
     // Whether the BSSID has a policy, or there is room for one more.
     fn has_place(&self, bssid: Bssid) -> bool
-        ensures { IsTrue result ↔ (IsSome (policy_at self.now bssid) ⊎ (map.len self.now.policies < 8)) }
+        ensures { IsTrue result ↔ (IsSome (policy_at self.now bssid) ⊎ (map.len self.now.policies < MAX_BSS)) }
     {
-        self.policies.get(bssid).is_some() || self.policies.len() < MAX_BSS
+        self.has_policy(bssid) || self.bss.len() < MAX_BSS
     }
 
     fn can_set(&self, bssid: Bssid, policy: Policy) -> bool
         ensures { IsTrue result ↔ CanSet self.now bssid policy }
     {
         self.has_place(bssid) && self.denies_none(bssid, policy.mode)
+    }
+
+    // Whether a list of the BSSID has the address.
+    fn is_listed(&self, bssid: Bssid, which: Which, addr: Addr) -> bool
+        ensures { result ≡ contains self.now.lists (bssid, which, addr) }
+    {
+        match self.bss.get(bssid) {
+            Some(bss) => bss.lists.has(which, addr),
+            None => false,
+        }
+    }
+
+    // Whether a list of the BSSID has the address, or room for one more.
+    fn has_list_room(&self, bssid: Bssid, which: Which, addr: Addr) -> bool
+        ensures { IsTrue result ↔ (IsListed self.now bssid which addr ⊎ (list_count self.now bssid which < MAX_LISTED)) }
+    {
+        match self.bss.get(bssid) {
+            Some(bss) => bss.lists.has(which, addr) || bss.lists.len(which) < MAX_LISTED,
+            None => true,
+        }
+    }
+
+    // Whether no station row is denied once a list has an address more. Adding to the deny list can deny
+    // the station itself alone, and only where it is not accepted.
+    fn may_list(&self, bssid: Bssid, which: Which, addr: Addr) -> bool
+        ensures { IsTrue result ↔ NoneDenied (add_to_list bssid which addr self.now) bssid }
+    {
+        self.sound();
+        match which {
+            Which::Accept => true,
+            Which::Deny => {
+                self.get(bssid, addr).is_none() || self.is_listed(bssid, Which::Accept, addr)
+            }
+        }
+    }
+
+    fn can_add(&self, bssid: Bssid, which: Which, addr: Addr) -> bool
+        ensures { IsTrue result ↔ CanAdd self.now bssid which addr }
+    {
+        self.has_policy(bssid)
+            && self.has_list_room(bssid, which, addr)
+            && self.may_list(bssid, which, addr)
+    }
+
+    // Whether the BSSID has a policy that allows the station if it is not accepted.
+    fn allows_unaccepted(&self, bssid: Bssid, addr: Addr) -> bool
+        ensures { result ≡ allowed_unaccepted self.now bssid addr }
+    {
+        match self.bss.get(bssid) {
+            Some(bss) => {
+                policy::is_allowed(bss.policy.mode, false, bss.lists.has(Which::Deny, addr))
+            }
+            None => false,
+        }
+    }
+
+    // Whether no station row is denied once a list has an address less.
+    fn can_take(&self, bssid: Bssid, which: Which, addr: Addr) -> bool
+        ensures { IsTrue result ↔ CanTake self.now bssid which addr }
+    {
+        self.sound();
+        match which {
+            Which::Accept => {
+                self.get(bssid, addr).is_none() || self.allows_unaccepted(bssid, addr)
+            }
+            Which::Deny => true,
+        }
+    }
+
+    // Whether no station row is denied once the accept list is empty.
+    fn can_clear_accept(&self, bssid: Bssid) -> bool
+        ensures { IsTrue result ↔ CanClear self.now bssid Accept }
+    {
+        match self.bss.get(bssid) {
+            Some(bss) => {
+                let rows = self.stations.entries();
+                !denials::any_denied_unaccepted(rows, bssid, &bss.lists, bss.policy.mode)
+            }
+            None => true,
+        }
+    }
+
+    fn can_clear(&self, bssid: Bssid, which: Which) -> bool
+        ensures { IsTrue result ↔ CanClear self.now bssid which }
+    {
+        self.sound();
+        match which {
+            Which::Accept => self.can_clear_accept(bssid),
+            Which::Deny => true,
+        }
     }
 
     fn drop_station(&mut self, bssid: Bssid, addr: Addr)
@@ -246,6 +405,7 @@ impl Table {
         ensures sound { OnOk result (Sound (put_station bssid addr station self.old)) }
         ensures invalid { result ≡ Err TableFault.Invalid → ¬ (Sound (put_station bssid addr station self.old)) }
         ensures memory { result ≡ Err TableFault.NoMemory → station_at self.old bssid addr ≡ None }
+        ensures wanted { result ≡ Err TableFault.NoMemory → Sound (put_station bssid addr station self.old) }
         ensures err { OnErr result (self.new ≡ self.old) }
     {
         if !self.can_put(bssid, addr, station) {
@@ -260,12 +420,56 @@ impl Table {
         ensures sound { OnOk result (Sound (set_policy bssid policy self.old)) }
         ensures invalid { result ≡ Err TableFault.Invalid → ¬ (Sound (set_policy bssid policy self.old)) }
         ensures memory { result ≡ Err TableFault.NoMemory → policy_at self.old bssid ≡ None }
+        ensures wanted { result ≡ Err TableFault.NoMemory → Sound (set_policy bssid policy self.old) }
         ensures err { OnErr result (self.new ≡ self.old) }
     {
         if !self.can_set(bssid, policy) {
             return Err(TableFault::Invalid);
         }
-        self.policies.put(bssid, policy)?;
+        self.bss.set(bssid, policy)?;
+        Ok(())
+    }
+
+    fn add(&mut self, bssid: Bssid, which: Which, addr: Addr) -> Result<(), TableFault>
+        ensures ok { OnOk result (self.new ≡ add_to_list bssid which addr self.old) }
+        ensures sound { OnOk result (Sound (add_to_list bssid which addr self.old)) }
+        ensures invalid { result ≡ Err TableFault.Invalid → ¬ (Sound (add_to_list bssid which addr self.old)) }
+        ensures memory { result ≡ Err TableFault.NoMemory → ¬ (IsListed self.old bssid which addr) }
+        ensures wanted { result ≡ Err TableFault.NoMemory → Sound (add_to_list bssid which addr self.old) }
+        ensures err { OnErr result (self.new ≡ self.old) }
+    {
+        if !self.can_add(bssid, which, addr) {
+            return Err(TableFault::Invalid);
+        }
+        self.bss.add(bssid, which, addr)?;
+        Ok(())
+    }
+
+    fn take(&mut self, bssid: Bssid, which: Which, addr: Addr) -> Result<(), TableFault>
+        ensures ok { OnOk result (self.new ≡ take_from_list bssid which addr self.old) }
+        ensures sound { OnOk result (Sound (take_from_list bssid which addr self.old)) }
+        ensures invalid { OnErr result (¬ (Sound (take_from_list bssid which addr self.old))) }
+        ensures memory { result ≢ Err TableFault.NoMemory }
+        ensures err { OnErr result (self.new ≡ self.old) }
+    {
+        if !self.can_take(bssid, which, addr) {
+            return Err(TableFault::Invalid);
+        }
+        self.bss.remove(bssid, which, addr);
+        Ok(())
+    }
+
+    fn clear(&mut self, bssid: Bssid, which: Which) -> Result<(), TableFault>
+        ensures ok { OnOk result (self.new ≡ clear_list bssid which self.old) }
+        ensures sound { OnOk result (Sound (clear_list bssid which self.old)) }
+        ensures invalid { OnErr result (¬ (Sound (clear_list bssid which self.old))) }
+        ensures memory { result ≢ Err TableFault.NoMemory }
+        ensures err { OnErr result (self.new ≡ self.old) }
+    {
+        if !self.can_clear(bssid, which) {
+            return Err(TableFault::Invalid);
+        }
+        self.bss.clear(bssid, which);
         Ok(())
     }
 }
@@ -273,43 +477,114 @@ impl Table {
 #[cfg(test)]
 mod tests {
     use super::*;
-    use apd_base::StationLimit;
+    use apd_base::{Aid, Association, StationLimit};
     use std::test::Fail;
+
+    const BSSID: Bssid = Bssid(Addr([2, 0, 0, 0, 0, 1]));
+
+    const FIRST: Addr = Addr([2, 0, 0, 0, 0, 0xaa]);
+
+    const SECOND: Addr = Addr([2, 0, 0, 0, 0, 0xbb]);
+
+    fn policy_of(bssid: Bssid, mode: AclMode) -> Result<Change, Fail> {
+        let max = StationLimit::new(2007).ok_or("limit")?;
+        let policy = Policy { mode, max };
+        Ok(Change::Policy { bssid, policy })
+    }
+
+    fn associated(addr: Addr, number: u16) -> Result<Change, Fail> {
+        let station = Station::Associated(Association {
+            aid: Aid::new(number).ok_or("identifier")?,
+            capability: 1,
+            listen_interval: 5,
+        });
+        Ok(Change::Put {
+            bssid: BSSID,
+            addr,
+            station,
+        })
+    }
+
+    fn authenticated(addr: Addr) -> Change {
+        Change::Put {
+            bssid: BSSID,
+            addr,
+            station: Station::Authenticated,
+        }
+    }
 
     // No clause says that a change can be made: memory may lack.
     #[test]
-    fn changes_are_made_and_read_back(rt: HostRuntime) -> Result<(), Fail> {
-        let alloc = rt.alloc();
-        let Some(max) = StationLimit::new(2007) else {
-            return Err(Fail::from("limit"));
-        };
-        let bssid = Bssid(Addr([2, 0, 0, 0, 0, 1]));
-        let addr = Addr([2, 0, 0, 0, 0, 0xaa]);
-        let set = |mode: AclMode| Change::Policy {
-            bssid,
-            policy: Policy { mode, max },
-        };
-        let put = Change::Put {
-            bssid,
-            addr,
-            station: Station::Authenticated,
-        };
-        let mut table = Table::new(alloc);
+    fn stations_and_policies_are_changed(rt: HostRuntime) -> Result<(), Fail> {
+        let open = policy_of(BSSID, AclMode::AcceptUnlessDenied)?;
+        let closed = policy_of(BSSID, AclMode::DenyUnlessAccepted)?;
+        let mut table = Table::new(rt.alloc());
+        let put = authenticated(FIRST);
         assert_eq!(rt; table.apply(&put), Err(TableFault::Invalid));
-        assert_eq!(rt; table.apply(&set(AclMode::AcceptUnlessDenied)), Ok(()));
-        assert!(rt; table.allowed(bssid, addr));
+        assert_eq!(rt; table.apply(&open), Ok(()));
         assert_eq!(rt; table.apply(&put), Ok(()));
-        assert_eq!(rt; table.get(bssid, addr), Some(Station::Authenticated));
-        assert_eq!(rt; table.policy(bssid), Some((0, 2007)));
-        assert_eq!(rt; (table.count(bssid), table.bss_count()), (1, 1));
-        let closed = set(AclMode::DenyUnlessAccepted);
+        assert_eq!(rt; table.get(BSSID, FIRST), Some(Station::Authenticated));
+        assert_eq!(rt; table.policy(BSSID), Some((0, 2007)));
         assert_eq!(rt; table.apply(&closed), Err(TableFault::Invalid));
-        let denied = table.denied_by(alloc, bssid, AclMode::DenyUnlessAccepted)?;
-        assert_eq!(rt; denied.as_slice(), [addr].as_slice());
-        let copy = table.copy(alloc)?;
-        assert_eq!(rt; table.apply(&Change::Drop { bssid, addr }), Ok(()));
+        let denied = table.denied_by(rt.alloc(), BSSID, AclMode::DenyUnlessAccepted)?;
+        assert_eq!(rt; denied.as_slice(), [FIRST].as_slice());
+        let copy = table.copy(rt.alloc())?;
+        let drop = Change::Drop {
+            bssid: BSSID,
+            addr: FIRST,
+        };
+        assert_eq!(rt; table.apply(&drop), Ok(()));
         assert_eq!(rt; table.apply(&closed), Ok(()));
-        assert_eq!(rt; (table.count(bssid), copy.count(bssid)), (0, 1));
+        assert_eq!(rt; (table.count(BSSID), copy.count(BSSID)), (0, 1));
+        Ok(())
+    }
+
+    #[test]
+    fn lists_are_changed(rt: HostRuntime) -> Result<(), Fail> {
+        let bssid = BSSID;
+        let addr = FIRST;
+        let add = |which: Which| Change::ListAdd { bssid, which, addr };
+        let take = |which: Which| Change::ListDel { bssid, which, addr };
+        let mut table = Table::new(rt.alloc());
+        assert_eq!(rt; table.apply(&take(Which::Accept)), Ok(()));
+        assert_eq!(rt; table.apply(&add(Which::Accept)), Err(TableFault::Invalid));
+        let open = policy_of(BSSID, AclMode::AcceptUnlessDenied)?;
+        assert_eq!(rt; table.apply(&open), Ok(()));
+        assert_eq!(rt; table.apply(&authenticated(addr)), Ok(()));
+        assert_eq!(rt; table.apply(&add(Which::Deny)), Err(TableFault::Invalid));
+        assert_eq!(rt; table.apply(&add(Which::Accept)), Ok(()));
+        assert_eq!(rt; table.apply(&add(Which::Deny)), Ok(()));
+        let clear = Change::ListClear {
+            bssid,
+            which: Which::Accept,
+        };
+        assert_eq!(rt; table.apply(&clear), Err(TableFault::Invalid));
+        assert_eq!(rt; table.apply(&take(Which::Accept)), Err(TableFault::Invalid));
+        let lists = table.lists(bssid).ok_or("lists")?;
+        assert_eq!(rt; (lists.len(Which::Accept), lists.len(Which::Deny)), (1, 1));
+        assert!(rt; table.allowed(bssid, addr));
+        assert_eq!(rt; table.apply(&take(Which::Deny)), Ok(()));
+        assert_eq!(rt; table.apply(&clear), Ok(()));
+        Ok(())
+    }
+
+    #[test]
+    fn rows_are_told(rt: HostRuntime) -> Result<(), Fail> {
+        let mut table = Table::new(rt.alloc());
+        let open = policy_of(BSSID, AclMode::AcceptUnlessDenied)?;
+        assert_eq!(rt; table.apply(&open), Ok(()));
+        assert_eq!(rt; table.apply(&associated(SECOND, 1)?), Ok(()));
+        assert_eq!(rt; table.least_free(BSSID), Some(2));
+        assert_eq!(rt; table.apply(&authenticated(FIRST)), Ok(()));
+        assert_eq!(rt; table.first(BSSID), Some((FIRST, Station::Authenticated)));
+        let (next, _) = table.next(BSSID, FIRST).ok_or("next")?;
+        assert_eq!(rt; next, SECOND);
+        assert_eq!(rt; table.next(BSSID, SECOND), None);
+        assert_eq!(rt; (table.bss(0), table.bss(1)), (Some(BSSID), None));
+        assert_eq!(rt;
+            (table.rows(), table.count(BSSID), table.bss_count()),
+            (2, 2, 1)
+        );
         Ok(())
     }
 

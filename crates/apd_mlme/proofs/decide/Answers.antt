@@ -1,4 +1,5 @@
 use Rattle.apd_mlme.proofs.VerdictLaws.{decided_meaning, decided_sound, decided_driver}
+use Rattle.apd_mlme.proofs.LengthLaws.{decided_length}
 use Rattle.apd_mlme.proofs.decide.Goals as goal
 
 pub returns-clause-meaning : goal.returns-clause-meaning
@@ -9,3 +10,6 @@ returns-clause-sound c = decided_sound c.args.table.now c.args.confs.now c.args.
 
 pub returns-clause-driver : goal.returns-clause-driver
 returns-clause-driver c = decided_driver c.args.table.now c.args.confs.now c.args.event c.decide_fit.result c.decide_fit.ensures.outs
+
+pub returns-clause-records : goal.returns-clause-records
+returns-clause-records c = decided_length c.args.table.now c.args.confs.now c.args.event c.decide_fit.result c.sound.ensures c.decide_fit.ensures.changes c.decide_fit.ensures.known

@@ -1,5 +1,5 @@
 use Rattle.std.proofs.Common.{◌≡◌, drop}
-use Rattle.apd_table.specs.Change.{meaning_of}
+use Rattle.apd_record.specs.Meaning.{meaning_of}
 use Rattle.apd_table.specs.Sound.{StaySound}
 use Rattle.apd.proofs.plain.change_all.Given as goal
 

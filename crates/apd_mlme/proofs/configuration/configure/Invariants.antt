@@ -1,7 +1,7 @@
 use Rattle.std.proofs.Common.{◌≡◌, take}
 use Rattle.std.specs.Prelude.{map}
 use Rattle.std.specs.List.{flat_map}
-use Rattle.apd_table.specs.declared.change.Change.TheVariants.{Drop}
+use Rattle.apd_record.specs.declared.change.Change.TheVariants.{Drop}
 use Rattle.apd_mlme.specs.Configuration.{outs_of_drop}
 use Rattle.apd_mlme.proofs.configuration.configure.Given as goal
 

@@ -1,21 +1,11 @@
-use Rattle.std.proofs.Common.{◌≡◌, map as list_map, filter, IfOk, sym, ap, subst, ◌∙◌}
-use Rattle.std.specs.FinMap as map
+use Rattle.std.proofs.Common.{sym, ap, ◌∙◌}
 use Rattle.apd_base.specs.State.{State}
 use Rattle.apd_table.specs.Allowed.{denied_by}
-use Rattle.apd_table.specs.Rows.{is_row_of}
-use Rattle.apd_table.proofs.NoLists.{none_denied, all_denied}
+use Rattle.apd_table.specs.Table.{state_of}
+use Rattle.apd_table.proofs.DeniedRows.{none_denied_by}
 use Rattle.apd_table.proofs.table.Table.denied_by.Goals as goal
 
-pub returns-in-AcceptUnlessDenied : goal.returns-in-AcceptUnlessDenied
-returns-in-AcceptUnlessDenied c =
-    c.new.ensures.items
-    ∙ sym (none_denied c.args.self.now (ap (λ s. s.lists) (sym c.self.view_is)) c.args.bssid)
-    ∙ ap (denied_by c.args.self.now c.args.bssid) (sym c.in-AcceptUnlessDenied.is)
-
-pub returns-in-DenyUnlessAccepted : goal.returns-in-DenyUnlessAccepted
-returns-in-DenyUnlessAccepted c =
-    subst (λ l. IfOk c.addresses.result (λ v. v.items ≡ l))
-    (ap (λ (s : State). list_map (λ row. row.0.1) (filter (is_row_of c.args.bssid) (map.entries s.stations))) c.self.view_is
-    ∙ sym (all_denied c.args.self.now (ap (λ s. s.lists) (sym c.self.view_is)) c.args.bssid)
-    ∙ ap (denied_by c.args.self.now c.args.bssid) (sym c.in-DenyUnlessAccepted.is))
-    c.addresses.ensures
+pub returns-in-None : goal.returns-in-None
+returns-in-None c =
+    c.new.ensures.items ∙ sym (none_denied_by (state_of c.self.inside) c.args.bssid c.args.mode c.self.invariant c.in-None.ensures.policy)
+    ∙ ap (λ (s : State). denied_by s c.args.bssid c.args.mode) c.self.view_is

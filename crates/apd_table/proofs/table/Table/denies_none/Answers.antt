@@ -1,14 +1,20 @@
-use Rattle.std.proofs.Common.{sym, ap, ◌∙◌}
+use Rattle.std.proofs.Common.{ap, ◌∙◌}
 use Rattle.std.specs.List.{list_any}
-use Rattle.std.specs.FinMap as map
-use Rattle.apd_base.specs.State.{State}
-use Rattle.apd_table.specs.Rows.{is_row_of}
-use Rattle.apd_table.proofs.NoLists.{all_allowed_iff}
+use Rattle.apd_acl.specs.Lists.{allowed}
+use Rattle.apd_acl.specs.Policy.{is_allowed}
+use Rattle.apd_base.specs.declared.station.Which.TheVariants.{Accept, Deny}
+use Rattle.apd_table.specs.Allowed.{allowed_in}
+use Rattle.apd_table.specs.Rows.{is_denied_row_by}
+use Rattle.apd_table.specs.Table.{state_of}
+use Rattle.apd_table.proofs.DeniedRows.{all_pass_as}
 use Rattle.apd_table.proofs.table.Table.denies_none.Goals as goal
 
-pub returns-in-DenyUnlessAccepted : goal.returns-in-DenyUnlessAccepted
-returns-in-DenyUnlessAccepted c =
-    let t = c.any.result in
-    rw c.in-DenyUnlessAccepted.is
-    (all_allowed_iff c.args.self.now (ap (λ s. s.lists) (sym c.self.view_is)) c.args.bssid t
-    (c.any.ensures ∙ ap (λ (s : State). list_any (is_row_of c.args.bssid) (map.entries s.stations)) c.self.view_is))
+pub returns-in-Some : goal.returns-in-Some
+returns-in-Some c =
+    let s = state_of c.self.inside in
+    let b = c.args.bssid in
+    let mode = c.args.mode in
+    let lists = c.in-Some.bss.now.lists in
+    rw (← c.self.view_is) (all_pass_as s b (λ a. allowed lists a mode) (λ a. allowed_in s b a mode)
+    (λ a i. is_allowed mode (c.in-Some.ensures.lists Accept a i) (c.in-Some.ensures.lists Deny a i))
+    c.any_denied.result (c.any_denied.ensures ∙ ap (list_any (is_denied_row_by lists mode b)) c.entries.ensures))

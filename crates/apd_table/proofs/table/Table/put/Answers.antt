@@ -16,3 +16,6 @@ invariant_of-self-2 c =
 
 pub returns-clause-sound : goal.returns-clause-sound
 returns-clause-sound c = sound_put c.args.self.now c.args.bssid c.args.addr c.args.station (rw (← c.self.view_is) c.self.invariant) (c.can_put.ensures.0 c.if-not-can_put.false)
+
+pub returns-in_err-put-clause-wanted : goal.returns-in_err-put-clause-wanted
+returns-in_err-put-clause-wanted c _ = sound_put c.args.self.now c.args.bssid c.args.addr c.args.station (rw (← c.self.view_is) c.self.invariant) (c.can_put.ensures.0 c.if-not-can_put.false)

@@ -12,7 +12,10 @@ pub invariant_of-self-2 : goal.invariant_of-self-2
 invariant_of-self-2 c =
     let s = state_of c.self.inside in
     let can : CanSet s c.args.bssid c.args.policy = rw c.self.view_is (c.can_set.ensures.0 c.if-not-can_set.false) in
-    rw c.in_ok-put.ensures.ok (sound_set s c.args.bssid c.args.policy c.self.invariant can)
+    rw c.in_ok-set.ensures.ok (sound_set s c.args.bssid c.args.policy c.self.invariant can)
 
 pub returns-clause-sound : goal.returns-clause-sound
 returns-clause-sound c = sound_set c.args.self.now c.args.bssid c.args.policy (rw (← c.self.view_is) c.self.invariant) (c.can_set.ensures.0 c.if-not-can_set.false)
+
+pub returns-in_err-set-clause-wanted : goal.returns-in_err-set-clause-wanted
+returns-in_err-set-clause-wanted c _ = sound_set c.args.self.now c.args.bssid c.args.policy (rw (← c.self.view_is) c.self.invariant) (c.can_set.ensures.0 c.if-not-can_set.false)

@@ -1,0 +1,2 @@
+pub mod Above
+mod Addresses

@@ -1,0 +1,12 @@
+use Rattle.apd_base.proofs.AddrLaws.{addr_total, addr_exact}
+use Rattle.apd_base.proofs.RowsMaps.{put_sorted, put_means, found_place}
+use Rattle.apd_acl.proofs.address_set.AddressSet.add.Goals as goal
+
+pub invariant_of-self : goal.invariant_of-self
+invariant_of-self c = put_sorted addr_total addr_exact c.args.addr tt c.self.inside.rows.items c.put.new.rows.items c.self.invariant c.put.result c.put.ensures.ok c.put.ensures.err
+
+pub returns-clause-ok : goal.returns-clause-ok
+returns-clause-ok c = rw (← c.self.view_is) (put_means addr_total addr_exact c.args.addr tt c.self.inside.rows.items c.put.new.rows.items c.self.invariant c.put.result c.put.ensures.ok)
+
+pub returns-clause-over : goal.returns-clause-over
+returns-clause-over c found = c.put.ensures.over (found_place addr_total addr_exact c.args.addr c.self.inside.rows.items c.self.invariant (rw c.self.view_is found))

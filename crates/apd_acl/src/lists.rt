@@ -1,0 +1,153 @@
+//! A BSSID's accept list and its deny list.
+ghost use Rattle.std.specs.Prelude.{◌≡◌, ◌≢◌, OnOk, OnErr, IsOk, IfOk, IfSome, IfNone, IsTrue};
+ghost use Rattle.std.specs.declared.cmp.Ordering.TheVariants.{Less};
+ghost use Rattle.std.specs.FinMap as map;
+ghost use Rattle.apd_base.specs.Addr.{addr_cmp};
+ghost use Rattle.apd_base.specs.declared.address.Addr.{Addr};
+ghost use Rattle.apd_acl.specs.Least.{IsLeast, IsLeastAbove};
+ghost use Rattle.apd_acl.specs.Lists.{list_of, has, allowed, added, removed, cleared, no_lists};
+
+use crate::address_set::AddressSet;
+use crate::policy::is_allowed;
+use apd_base::{AclMode, Addr, Which};
+use std::alloc::{AllocError, Global};
+
+/// The two lists of a BSSID. The readers take no memory.
+#[derive(Drop)]
+pub struct Lists {
+    accept: AddressSet,
+    deny: AddressSet,
+}
+
+impl Lists {
+    /// Two lists without an address. It takes no memory.
+    pub fn new(alloc: Global) -> Lists
+        ensures { result ≡ no_lists }
+    {
+        Lists {
+            accept: AddressSet::new(alloc),
+            deny: AddressSet::new(alloc),
+        }
+    }
+
+    /// The same lists once more.
+    pub fn copy(&self, alloc: Global) -> Result<Lists, AllocError>
+        ensures { IfOk result (λ lists. lists ≡ self.now) }
+    {
+        Ok(Lists {
+            accept: self.accept.copy(alloc)?,
+            deny: self.deny.copy(alloc)?,
+        })
+    }
+
+    fn list(&self, which: Which) -> &AddressSet
+        ensures { result.now ≡ list_of self.now which }
+    {
+        match which {
+            Which::Accept => &self.accept,
+            Which::Deny => &self.deny,
+        }
+    }
+
+    /// Whether a list has an address.
+    pub fn has(&self, which: Which, addr: Addr) -> bool
+        ensures { result ≡ has self.now which addr }
+    {
+        self.list(which).contains(addr)
+    }
+
+    /// How many addresses a list has.
+    pub fn len(&self, which: Which) -> usize
+        ensures { result ≡ map.len (list_of self.now which) }
+    {
+        self.list(which).len()
+    }
+
+    /// The least address of a list; `None` exactly where it has none.
+    pub fn least(&self, which: Which) -> Option<Addr>
+        ensures some { IfSome result (IsLeast (λ a. IsTrue (has self.now which a))) }
+        ensures none { IfNone result ((a : Addr) → ¬ (IsTrue (has self.now which a))) }
+    {
+        self.list(which).least()
+    }
+
+    /// The least address of a list above this one, which need not be in it; `None` exactly where there
+    /// is none above it.
+    pub fn after(&self, which: Which, addr: Addr) -> Option<Addr>
+        ensures some { IfSome result (IsLeastAbove addr (λ a. IsTrue (has self.now which a))) }
+        ensures none { IfNone result ((a : Addr) → IsTrue (has self.now which a) → addr_cmp addr a ≢ Less) }
+    {
+        self.list(which).after(addr)
+    }
+
+    /// Whether a station is allowed in a mode.
+    pub fn allowed(&self, addr: Addr, mode: AclMode) -> bool
+        ensures { result ≡ allowed self.now addr mode }
+    {
+        is_allowed(mode, self.accept.contains(addr), self.deny.contains(addr))
+    }
+
+    /// Puts an address into a list, or leaves both as they were. It lacks memory only for an address
+    /// that the list has not.
+    pub fn add(&mut self, which: Which, addr: Addr) -> Result<(), AllocError>
+        ensures ok { OnOk result (self.new ≡ added self.old which addr) }
+        ensures err { OnErr result (self.new ≡ self.old) }
+        ensures over { IsTrue (has self.old which addr) → IsOk result }
+    {
+        match which {
+            Which::Accept => self.accept.add(addr),
+            Which::Deny => self.deny.add(addr),
+        }
+    }
+
+    /// Takes an address out of a list, if it is there. It takes no memory.
+    pub fn remove(&mut self, which: Which, addr: Addr)
+        ensures { self.new ≡ removed self.old which addr }
+    {
+        match which {
+            Which::Accept => self.accept.remove(addr),
+            Which::Deny => self.deny.remove(addr),
+        }
+    }
+
+    /// Takes each address out of a list. It takes no memory.
+    pub fn clear(&mut self, which: Which)
+        ensures { self.new ≡ cleared self.old which }
+    {
+        match which {
+            Which::Accept => self.accept.clear(),
+            Which::Deny => self.deny.clear(),
+        }
+    }
+}
+
+#[cfg(test)]
+mod tests {
+    use super::*;
+    use std::test::Fail;
+
+    const FIRST: Addr = Addr([2, 0, 0, 0, 0, 1]);
+
+    const SECOND: Addr = Addr([2, 0, 0, 0, 0, 2]);
+
+    // No clause says that an address can be added, nor that lists can be copied: memory may lack.
+    #[test]
+    fn addresses_are_added_where_memory_is_ample(rt: HostRuntime) -> Result<(), Fail> {
+        let mut lists = Lists::new(rt.alloc());
+        lists.add(Which::Deny, SECOND)?;
+        lists.add(Which::Deny, FIRST)?;
+        lists.add(Which::Deny, SECOND)?;
+        lists.add(Which::Accept, FIRST)?;
+        let copy = lists.copy(rt.alloc())?;
+        lists.remove(Which::Deny, FIRST);
+        lists.clear(Which::Accept);
+        assert_eq!(rt; (copy.len(Which::Deny), copy.len(Which::Accept)), (2, 1));
+        assert_eq!(rt; (lists.len(Which::Deny), lists.len(Which::Accept)), (1, 0));
+        assert_eq!(rt; copy.least(Which::Deny), Some(FIRST));
+        assert_eq!(rt; copy.after(Which::Deny, FIRST), Some(SECOND));
+        assert_eq!(rt; copy.after(Which::Deny, SECOND), None);
+        assert!(rt; copy.allowed(FIRST, AclMode::AcceptUnlessDenied));
+        assert!(rt; !copy.allowed(SECOND, AclMode::AcceptUnlessDenied));
+        Ok(())
+    }
+}

@@ -1,0 +1,108 @@
+-- The rows of BSSIDs in order, as policy rows and list rows.
+use Rattle.std.proofs.Common.{◌≡◌, ℕ, zero, suc, Bool, true, false, cond, ◌&&◌, ◌||◌, List, [], ◌∷◌, length, map as list_map, Some, refl, sym, ap, subst, ◌∙◌, T}
+use Rattle.std.specs.List.{list_any, slice_get}
+use Rattle.std.specs.Option.{option_map, is_some}
+use Rattle.std.specs.Ordering.{eq_by_cmp, is_lt}
+use Rattle.std.specs.FinMap as map
+use Rattle.std.specs.FinMap.{find, is_sorted, from_sorted, entries-from_sorted, len-entries, empty_of_len, get-from_sorted, get-empty, contains_key-keys}
+use Rattle.std.specs.FinMap.Entries.{below_all}
+use Rattle.apd_base.specs.Sets.{SetOf, contains}
+use Rattle.apd_base.specs.Addr.{addr_cmp, bssid_cmp}
+use Rattle.apd_base.specs.State.{list_cmp, which_cmp}
+use Rattle.apd_base.specs.declared.address.Addr.{Addr}
+use Rattle.apd_base.specs.declared.address.Bssid.{Bssid}
+use Rattle.apd_base.specs.declared.station.Policy.{Policy}
+use Rattle.apd_base.specs.declared.station.Which.{Which}
+use Rattle.apd_base.specs.declared.station.Which.TheVariants.{Accept, Deny}
+use Rattle.apd_base.proofs.AddrLaws.{bssid_total}
+use Rattle.apd_base.proofs.RowsLaws.{find_tied_head, is_sorted_tail}
+use Rattle.apd_base.proofs.StateLaws.{list_total, list_exact}
+use Rattle.apd_acl.specs.Lists.{list_of, has}
+use Rattle.apd_acl.specs.declared.lists.Lists.{Lists}
+use Rattle.apd_table.specs.BssRows.{add_rows, list_rows, policy_of, policy_rows, state_of_rows, no_bss, is_listed_in}
+use Rattle.apd_table.specs.declared.bss_rows.Bss.{Bss}
+use Rattle.apd_table.proofs.ListSets.{contains-insert, same_row}
+
+find-policy_rows : (b : Bssid) (xs : List (Bssid × Bss)) → find bssid_cmp b (policy_rows xs) ≡ option_map policy_of (find bssid_cmp b xs)
+find-policy_rows b [] = refl
+find-policy_rows b (x ∷ xs) =
+    elim (eq_by_cmp bssid_cmp b x.0) as (λ t. cond t (Some x.1.policy) (find bssid_cmp b (policy_rows xs)) ≡ option_map policy_of (cond t (Some x.1) (find bssid_cmp b xs))) [
+      | true ↦ refl
+      | false ↦ find-policy_rows b xs
+    ]
+
+below-policy_rows : (b : Bssid) (xs : List (Bssid × Bss)) → below_all bssid_cmp b (policy_rows xs) ≡ below_all bssid_cmp b xs
+below-policy_rows b [] = refl
+below-policy_rows b (x ∷ xs) = ap (λ t. is_lt (bssid_cmp b x.0) && t) (below-policy_rows b xs)
+
+same_sorted : (xs : List (Bssid × Bss)) → is_sorted bssid_cmp (policy_rows xs) ≡ is_sorted bssid_cmp xs
+same_sorted [] = refl
+same_sorted (x ∷ xs) = λ i. below-policy_rows x.0 xs i && same_sorted xs i
+
+pub sorted-policy_rows : (xs : List (Bssid × Bss)) → T (is_sorted bssid_cmp xs) → T (is_sorted bssid_cmp (policy_rows xs))
+sorted-policy_rows xs h = subst T (sym (same_sorted xs)) h
+
+-- a BSSID's policy is that of its row
+pub get-policy_rows : (xs : List (Bssid × Bss)) → T (is_sorted bssid_cmp xs) → (b : Bssid) → map.get (from_sorted {R = bssid_cmp} (policy_rows xs)) b ≡ option_map policy_of (find bssid_cmp b xs)
+get-policy_rows xs h b = get-from_sorted bssid_cmp (policy_rows xs) b (sorted-policy_rows xs h) ∙ find-policy_rows b xs
+
+-- there are as many, of the same BSSIDs
+length-policy_rows : (xs : List (Bssid × Bss)) → length (policy_rows xs) ≡ length xs
+length-policy_rows [] = refl
+length-policy_rows (x ∷ xs) = ap suc (length-policy_rows xs)
+
+pub len-policy_rows : (xs : List (Bssid × Bss)) → T (is_sorted bssid_cmp xs) → map.len (from_sorted {R = bssid_cmp} (policy_rows xs)) ≡ length xs
+len-policy_rows xs h = len-entries _ ∙ ap length (entries-from_sorted bssid_cmp (policy_rows xs) (sorted-policy_rows xs h)) ∙ length-policy_rows xs
+
+same_keys : (xs : List (Bssid × Bss)) (place : ℕ) → slice_get (list_map (λ (row : Bssid × Policy). row.0) (policy_rows xs)) place ≡ option_map (λ (row : Bssid × Bss). row.0) (slice_get xs place)
+same_keys [] place = refl
+same_keys (x ∷ xs) zero = refl
+same_keys (x ∷ xs) (suc place) = same_keys xs place
+
+pub keys-policy_rows : (xs : List (Bssid × Bss)) → T (is_sorted bssid_cmp xs) → (place : ℕ) → slice_get (map.keys (from_sorted {R = bssid_cmp} (policy_rows xs))) place ≡ option_map (λ (row : Bssid × Bss). row.0) (slice_get xs place)
+keys-policy_rows xs h place =
+    ap (λ rows. slice_get (list_map (λ (row : Bssid × Policy). row.0) rows) place) (entries-from_sorted bssid_cmp (policy_rows xs) (sorted-policy_rows xs h)) ∙ same_keys xs place
+
+pub no_rows : state_of_rows [] ≡ no_bss
+no_rows = λ i. record { lists = map.empty; policies = empty_of_len (from_sorted {R = bssid_cmp} (policy_rows [])) (len-policy_rows [] tt) i }
+
+spread : (e f g l s : Bool) → ((e && (f && g)) || ((e && (f && l)) || s)) ≡ ((e && (f && (g || l))) || s)
+spread true true true l s = refl
+spread true true false l s = refl
+spread true false g l s = refl
+spread false f g l s = refl
+
+none_added : (e f s : Bool) → s ≡ ((e && (f && false)) || s)
+none_added true true s = refl
+none_added true false s = refl
+none_added false f s = refl
+
+contains-add_rows : (c : Bssid) (v : Which) (xs : List Addr) (s : SetOf list_cmp) (b : Bssid) (w : Which) (a : Addr)
+    → contains (add_rows c v xs s) (b, w, a) ≡ ((eq_by_cmp bssid_cmp b c && (eq_by_cmp which_cmp w v && list_any (eq_by_cmp addr_cmp a) xs)) || contains s (b, w, a))
+contains-add_rows c v [] s b w a = none_added (eq_by_cmp bssid_cmp b c) (eq_by_cmp which_cmp w v) _
+contains-add_rows c v (x ∷ xs) s b w a =
+    contains-insert list_total list_exact (add_rows c v xs s) (c, v, x) (b, w, a)
+    ∙ (λ i. same_row b c w v a x i || contains-add_rows c v xs s b w a i)
+    ∙ spread (eq_by_cmp bssid_cmp b c) (eq_by_cmp which_cmp w v) (eq_by_cmp addr_cmp a x) _ _
+
+or-false : (t : Bool) → (t || false) ≡ t
+or-false true = refl
+or-false false = refl
+
+of_lists : (x : Lists) (w : Which) (a : Addr) (s : Bool) → s ≡ false
+    → ((eq_by_cmp which_cmp w Accept && list_any (eq_by_cmp addr_cmp a) (map.keys (list_of x Accept))) || ((eq_by_cmp which_cmp w Deny && list_any (eq_by_cmp addr_cmp a) (map.keys (list_of x Deny))) || s)) ≡ has x w a
+of_lists x Accept a s none = ap (λ t. list_any (eq_by_cmp addr_cmp a) (map.keys (list_of x Accept)) || t) none ∙ or-false _ ∙ sym (contains_key-keys (list_of x Accept) a)
+of_lists x Deny a s none = ap (λ t. list_any (eq_by_cmp addr_cmp a) (map.keys (list_of x Deny)) || t) none ∙ or-false _ ∙ sym (contains_key-keys (list_of x Deny) a)
+
+-- the list rows of a BSSID are those of its row
+pub contains-list_rows : (xs : List (Bssid × Bss)) (b : Bssid) (w : Which) (a : Addr) → T (is_sorted bssid_cmp xs) → contains (list_rows xs) (b, w, a) ≡ is_listed_in (find bssid_cmp b xs) w a
+contains-list_rows [] b w a h = ap is_some (get-empty list_cmp (b, w, a))
+contains-list_rows (x ∷ xs) b w a h =
+    let rest = contains-list_rows xs b w a (is_sorted_tail bssid_total x xs h) in
+    let whole = contains-add_rows x.0 Accept (map.keys (list_of x.1.lists Accept)) _ b w a ∙ ap (λ t. (eq_by_cmp bssid_cmp b x.0 && (eq_by_cmp which_cmp w Accept && list_any (eq_by_cmp addr_cmp a) (map.keys (list_of x.1.lists Accept)))) || t) (contains-add_rows x.0 Deny (map.keys (list_of x.1.lists Deny)) (list_rows xs) b w a) in
+    whole ∙ elim (eq_by_cmp bssid_cmp b x.0) as (λ e. eq_by_cmp bssid_cmp b x.0 ≡ e →
+    ((e && (eq_by_cmp which_cmp w Accept && list_any (eq_by_cmp addr_cmp a) (map.keys (list_of x.1.lists Accept)))) || ((e && (eq_by_cmp which_cmp w Deny && list_any (eq_by_cmp addr_cmp a) (map.keys (list_of x.1.lists Deny)))) || contains (list_rows xs) (b, w, a)))
+    ≡ is_listed_in (cond e (Some x.1) (find bssid_cmp b xs)) w a) [
+      | true ↦ λ e. of_lists x.1.lists w a _ (rest ∙ ap (λ o. is_listed_in o w a) (find_tied_head bssid_total b x xs h e))
+      | false ↦ λ e. rest
+    ] refl

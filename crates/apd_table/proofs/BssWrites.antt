@@ -1,0 +1,276 @@
+-- What a write into the row of a BSSID makes of the list rows and the policy rows.
+use Rattle.std.proofs.Common.{◌≡◌, ℕ, suc, ◌+◌, Bool, true, false, cond, not, ◌&&◌, ◌||◌, List, [], ◌∷◌, Option, Some, None, Result, Ok, Err, OnOk, OnErr, IsSome, inl, inr, refl, sym, ap, subst, ◌∙◌, T, arith, slice_index_or, slice_set}
+use Rattle.std.specs.List.{slice_get}
+use Rattle.std.specs.Option.{option_map, is_some}
+use Rattle.std.specs.Ordering.{eq_by_cmp, is_eq}
+use Rattle.std.specs.Cmp.{IsTotalOrder}
+use Rattle.std.specs.declared.cmp.Ordering.{Ordering}
+use Rattle.std.specs.declared.cmp.Ordering.TheVariants.{Less, Equal, Greater}
+use Rattle.std.specs.FinMap as map
+use Rattle.std.specs.FinMap.{find, is_sorted, from_sorted, IsAntisymmetric, get-empty, get-insert, same_map}
+use Rattle.std.specs.FinMap.Entries.{find-put}
+use Rattle.std.proofs.lemmas.Option.{get_or_from_slice_get}
+use Rattle.apd_base.specs.Rows.{place, later, by_order, put_at, value_at}
+use Rattle.apd_base.specs.Sets.{SetOf, contains}
+use Rattle.apd_base.specs.Addr.{addr_cmp, bssid_cmp}
+use Rattle.apd_base.specs.State.{list_cmp, which_cmp, is_row_of}
+use Rattle.apd_base.specs.declared.address.Addr.{Addr}
+use Rattle.apd_base.specs.declared.address.Bssid.{Bssid}
+use Rattle.apd_base.specs.declared.station.Policy.{Policy}
+use Rattle.apd_base.specs.declared.station.Which.{Which}
+use Rattle.apd_base.specs.declared.station.Which.TheVariants.{Accept, Deny}
+use Rattle.apd_base.proofs.AddrLaws.{bssid_total, bssid_exact}
+use Rattle.apd_base.proofs.MapLaws.{one_or_apart, tied}
+use Rattle.apd_base.proofs.RowsLaws.{put-place, find-place}
+use Rattle.apd_base.proofs.RowsMaps.{sorted_put_at}
+use Rattle.apd_base.proofs.StateLaws.{list_total, list_exact}
+use Rattle.apd_acl.specs.Lists.{has, no_lists}
+use Rattle.apd_table.specs.BssRows.{list_rows, state_of_rows, policy_of, policy_rows, is_listed_in, with_policy, with_added, with_removed, with_cleared, at_row}
+use Rattle.apd_table.specs.BssState.{BssState}
+use Rattle.apd_table.specs.declared.bss_rows.Bss.{Bss}
+use Rattle.apd_table.proofs.BssLaws.{get-policy_rows, contains-list_rows}
+use Rattle.apd_table.proofs.ListSets.{same_set, insert_here, insert_elsewhere, remove_here, remove_elsewhere, clear_here, clear_elsewhere, has_added, has_removed, has_cleared}
+
+one_more : (i : ℕ) → 1 + i ≡ suc i
+one_more i = omega arith
+
+err_ok : {A : Type 0} (i j : ℕ) → ◌≡◌ {A = Result ℕ ℕ} (Err i) (Ok j) → A
+err_ok i j e = cc
+
+same_ok : (i j : ℕ) → ◌≡◌ {A = Result ℕ ℕ} (Ok i) (Ok j) → i ≡ j
+same_ok i j e = cc
+
+-- the entry at the place of a key
+module _ {K X : Type 0} {R : K → K → Ordering} (o : IsTotalOrder R) (exact : IsAntisymmetric R) where
+  abbrev pub EntryAt : K → List (K × X) → ℕ → Type 0
+  EntryAt k es i = (x : X) × (slice_get es i ≡ Some (k, x)) × (find R k es ≡ Some x)
+
+  deeper : (k : K) (e : K × X) (es : List (K × X)) → R k e.0 ≡ Greater → (p : Result ℕ ℕ) → ((j : ℕ) → p ≡ Ok j → EntryAt k es j) → (i : ℕ) → later 1 p ≡ Ok i → EntryAt k (e ∷ es) i
+  deeper k e es g (Err j) rest i is = err_ok (1 + j) i is
+  deeper k e es g (Ok j) rest i is =
+      let found = rest j refl in
+      (found.0, ap (slice_get (e ∷ es)) (sym (same_ok (1 + j) i is) ∙ one_more j) ∙ found.1, ap (λ r. cond (is_eq r) (Some e.1) (find R k es)) g ∙ found.2)
+
+  pub entry_at : (k : K) (es : List (K × X)) (i : ℕ) → place R k es ≡ Ok i → EntryAt k es i
+  entry_at k [] i is = err_ok 0 i is
+  entry_at k (e ∷ es) i is =
+      elim (R k e.0) as (λ r. R k e.0 ≡ r → by_order r (Err 0) (Ok 0) (later 1 (place R k es)) ≡ Ok i → EntryAt k (e ∷ es) i) [
+        | Less ↦ λ p q. err_ok 0 i q
+        | Equal ↦ λ p q. (
+          e.1,
+          ap (slice_get (e ∷ es)) (sym (same_ok 0 i q)) ∙ ap (λ x. Some (x, e.1)) (sym (exact k e.0 p)),
+          ap (λ x. cond (eq_by_cmp R x e.0) (Some e.1) (find R x es)) (exact k e.0 p) ∙ ap (λ t. cond t (Some e.1) (find R e.0 es)) (tied o exact e.0),
+        )
+        | Greater ↦ λ p q. deeper k e es p (place R k es) (λ j is'. entry_at k es j is') i q
+      ] refl is
+
+  pub absent_at : (k : K) (es : List (K × X)) → T (is_sorted R es) → (i : ℕ) → place R k es ≡ Err i → find R k es ≡ None
+  absent_at k es h i is = find-place o k es h ∙ ap (value_at es) is
+
+abbrev pub Row : Type 0
+Row = Bssid × Bss
+
+map_cond : (t : Bool) (y : Bss) (r : Option Bss) → option_map policy_of (cond t (Some y) r) ≡ cond t (Some (policy_of y)) (option_map policy_of r)
+map_cond true y r = refl
+map_cond false y r = refl
+
+listed_cond : (t : Bool) (y : Bss) (r : Option Bss) (w : Which) (a : Addr) → is_listed_in (cond t (Some y) r) w a ≡ cond t (has y.lists w a) (is_listed_in r w a)
+listed_cond true y r w a = refl
+listed_cond false y r w a = refl
+
+module _ (xs : List Row) (sorted : T (is_sorted bssid_cmp xs)) (b : Bssid) where
+  abbrev pub written : Bss → List Row
+  written y = put_at xs b y (place bssid_cmp b xs)
+
+  abbrev old_policies : map.FinMap bssid_cmp Policy
+  old_policies = from_sorted (policy_rows xs)
+
+  pub sorted_written : (y : Bss) → T (is_sorted bssid_cmp (written y))
+  sorted_written y = sorted_put_at bssid_total bssid_exact b y xs sorted
+
+  find_written : (y : Bss) (c : Bssid) → find bssid_cmp c (written y) ≡ cond (eq_by_cmp bssid_cmp c b) (Some y) (find bssid_cmp c xs)
+  find_written y c = ap (find bssid_cmp c) (sym (put-place bssid_total bssid_exact b y xs)) ∙ find-put bssid_cmp bssid_total c b y xs
+
+  get_written : (y : Bss) (c : Bssid) → map.get (from_sorted {R = bssid_cmp} (policy_rows (written y))) c ≡ cond (eq_by_cmp bssid_cmp c b) (Some (policy_of y)) (map.get old_policies c)
+  get_written y c =
+      get-policy_rows (written y) (sorted_written y) c ∙ ap (option_map policy_of) (find_written y c) ∙ map_cond (eq_by_cmp bssid_cmp c b) y (find bssid_cmp c xs)
+      ∙ ap (cond (eq_by_cmp bssid_cmp c b) (Some (policy_of y))) (sym (get-policy_rows xs sorted c))
+
+  pub policies_set : (y : Bss) → from_sorted {R = bssid_cmp} (policy_rows (written y)) ≡ map.insert old_policies b (policy_of y)
+  policies_set y = same_map bssid_total bssid_exact _ _ (λ c. get_written y c ∙ sym (get-insert bssid_total old_policies b (policy_of y) c))
+
+  contains_written : (y : Bss) (c : Bssid) (w : Which) (a : Addr) → contains (list_rows (written y)) (c, w, a) ≡ cond (eq_by_cmp bssid_cmp c b) (has y.lists w a) (contains (list_rows xs) (c, w, a))
+  contains_written y c w a =
+      contains-list_rows (written y) c w a (sorted_written y) ∙ ap (λ r. is_listed_in r w a) (find_written y c) ∙ listed_cond (eq_by_cmp bssid_cmp c b) y (find bssid_cmp c xs) w a
+      ∙ ap (cond (eq_by_cmp bssid_cmp c b) (has y.lists w a)) (sym (contains-list_rows xs c w a sorted))
+
+  -- the list rows are these where at the BSSID they are those of the row written, and elsewhere the old ones
+  lists_become : (y : Bss) (l : SetOf list_cmp) → ((v : Which) (d : Addr) → contains l (b, v, d) ≡ has y.lists v d)
+      → ((c : Bssid) → eq_by_cmp bssid_cmp c b ≡ false → (v : Which) (d : Addr) → contains l (c, v, d) ≡ contains (list_rows xs) (c, v, d)) → list_rows (written y) ≡ l
+  lists_become y l here elsewhere = same_set list_total list_exact (list_rows (written y)) l (λ q.
+      contains_written y q.0 q.1 q.2 ∙ elim (one_or_apart bssid_total bssid_exact q.0 b) [
+        | inl e ↦ ap (λ t. cond t (has y.lists q.1 q.2) (contains (list_rows xs) q)) (ap (λ c. eq_by_cmp bssid_cmp c b) e ∙ tied bssid_total bssid_exact b)
+            ∙ sym (here q.1 q.2) ∙ ap (λ c. contains l (c, q.1, q.2)) (sym e)
+        | inr apart ↦ ap (λ t. cond t (has y.lists q.1 q.2) (contains (list_rows xs) q)) apart ∙ sym (elsewhere q.0 apart q.1 q.2)
+      ])
+
+  -- a new row, with empty lists
+  module _ (none : find bssid_cmp b xs ≡ None) where
+    not_listed : (v : Which) (d : Addr) → contains (list_rows xs) (b, v, d) ≡ false
+    not_listed v d = contains-list_rows xs b v d sorted ∙ ap (λ r. is_listed_in r v d) none
+
+    pub lists_new : (y : Bss) → ((v : Which) (d : Addr) → has y.lists v d ≡ false) → list_rows (written y) ≡ list_rows xs
+    lists_new y empty = lists_become y (list_rows xs) (λ v d. not_listed v d ∙ sym (empty v d)) (λ c apart v d. refl)
+
+    -- without a row there is nothing to take out
+    and-false : (t u : Bool) → u ≡ false → (t && u) ≡ u
+    and-false true u e = refl
+    and-false false u e = sym e
+
+    same_lists : (l : SetOf list_cmp) → ((v : Which) (d : Addr) → contains l (b, v, d) ≡ contains (list_rows xs) (b, v, d))
+        → ((c : Bssid) → eq_by_cmp bssid_cmp c b ≡ false → (v : Which) (d : Addr) → contains l (c, v, d) ≡ contains (list_rows xs) (c, v, d)) → list_rows xs ≡ l
+    same_lists l here elsewhere = same_set list_total list_exact (list_rows xs) l (λ q.
+        elim (one_or_apart bssid_total bssid_exact q.0 b) [
+          | inl e ↦ ap (λ c. contains (list_rows xs) (c, q.1, q.2)) e ∙ sym (here q.1 q.2) ∙ ap (λ c. contains l (c, q.1, q.2)) (sym e)
+          | inr apart ↦ sym (elsewhere q.0 apart q.1 q.2)
+        ])
+
+    pub nothing_removed : (w : Which) (a : Addr) → list_rows xs ≡ map.remove (list_rows xs) (b, w, a)
+    nothing_removed w a = same_lists _ (λ v d. remove_here (list_rows xs) b w a v d ∙ and-false _ _ (not_listed v d)) (λ c apart v d. remove_elsewhere (list_rows xs) b w c apart v d a)
+
+    pub nothing_cleared : (w : Which) → list_rows xs ≡ map.retain_keys (list_rows xs) (λ row. not (is_row_of b w row))
+    nothing_cleared w = same_lists _ (λ v d. clear_here (list_rows xs) b w v d ∙ and-false _ _ (not_listed v d)) (λ c apart v d. clear_elsewhere (list_rows xs) b w c apart v d)
+
+  -- the row there was
+  module _ (x : Bss) (found : find bssid_cmp b xs ≡ Some x) where
+    listed_here : (v : Which) (d : Addr) → contains (list_rows xs) (b, v, d) ≡ has x.lists v d
+    listed_here v d = contains-list_rows xs b v d sorted ∙ ap (λ r. is_listed_in r v d) found
+
+    policies_kept : (y : Bss) → policy_of y ≡ policy_of x → from_sorted {R = bssid_cmp} (policy_rows (written y)) ≡ old_policies
+    policies_kept y same = same_map bssid_total bssid_exact _ _ (λ c. get_written y c ∙ elim (one_or_apart bssid_total bssid_exact c b) [
+      | inl e ↦ ap (λ t. cond t (Some (policy_of y)) (map.get old_policies c)) (ap (λ d. eq_by_cmp bssid_cmp d b) e ∙ tied bssid_total bssid_exact b)
+          ∙ ap Some same ∙ sym (ap (map.get old_policies) e ∙ get-policy_rows xs sorted b ∙ ap (option_map policy_of) found)
+      | inr apart ↦ ap (λ t. cond t (Some (policy_of y)) (map.get old_policies c)) apart
+    ])
+
+    pub lists_kept : (p : Policy) → list_rows (written (with_policy p x)) ≡ list_rows xs
+    lists_kept p = lists_become (with_policy p x) (list_rows xs) listed_here (λ c apart v d. refl)
+
+    pub policies_added : (w : Which) (a : Addr) → from_sorted {R = bssid_cmp} (policy_rows (written (with_added w a x))) ≡ old_policies
+    policies_added w a = policies_kept (with_added w a x) refl
+
+    pub policies_removed : (w : Which) (a : Addr) → from_sorted {R = bssid_cmp} (policy_rows (written (with_removed w a x))) ≡ old_policies
+    policies_removed w a = policies_kept (with_removed w a x) refl
+
+    pub policies_cleared : (w : Which) → from_sorted {R = bssid_cmp} (policy_rows (written (with_cleared w x))) ≡ old_policies
+    policies_cleared w = policies_kept (with_cleared w x) refl
+
+    pub lists_added : (w : Which) (a : Addr) → list_rows (written (with_added w a x)) ≡ map.insert (list_rows xs) (b, w, a) tt
+    lists_added w a = lists_become (with_added w a x) _
+        (λ v d. insert_here (list_rows xs) b w a v d ∙ ap (λ t. (eq_by_cmp which_cmp v w && eq_by_cmp addr_cmp d a) || t) (listed_here v d) ∙ sym (has_added x.lists a d w v))
+        (λ c apart v d. insert_elsewhere (list_rows xs) b w c apart v d a)
+
+    pub lists_removed : (w : Which) (a : Addr) → list_rows (written (with_removed w a x)) ≡ map.remove (list_rows xs) (b, w, a)
+    lists_removed w a = lists_become (with_removed w a x) _
+        (λ v d. remove_here (list_rows xs) b w a v d ∙ ap (λ t. not (eq_by_cmp which_cmp v w && eq_by_cmp addr_cmp d a) && t) (listed_here v d) ∙ sym (has_removed x.lists a d w v))
+        (λ c apart v d. remove_elsewhere (list_rows xs) b w c apart v d a)
+
+    pub lists_cleared : (w : Which) → list_rows (written (with_cleared w x)) ≡ map.retain_keys (list_rows xs) (λ row. not (is_row_of b w row))
+    lists_cleared w = lists_become (with_cleared w x) _
+        (λ v d. clear_here (list_rows xs) b w v d ∙ ap (λ t. not (eq_by_cmp which_cmp w v) && t) (listed_here v d) ∙ sym (has_cleared x.lists w v d))
+        (λ c apart v d. clear_elsewhere (list_rows xs) b w c apart v d)
+
+-- the rows after a write at the place of a BSSID
+pub write_is : (xs : List Row) (b : Bssid) (at : ℕ) (is : Ok at ≡ place bssid_cmp b xs) (write : Bss → Bss) (x : Bss) → slice_get xs at ≡ Some (b, x)
+    → (ys : List Row) → ((d : Row) → ys ≡ slice_set xs at (at_row write (slice_index_or xs at d))) → ys ≡ put_at xs b (write x) (place bssid_cmp b xs)
+write_is xs b at is write x entry ys h =
+    h (b, x) ∙ ap (λ row. slice_set xs at (at_row write row)) (get_or_from_slice_get xs at (b, x) (b, x) entry) ∙ ap (put_at xs b (write x)) is
+
+none_has : (v : Which) (d : Addr) → has no_lists v d ≡ false
+none_has Accept d = ap is_some (get-empty addr_cmp d)
+none_has Deny d = ap is_some (get-empty addr_cmp d)
+
+-- the states that these writes leave
+abbrev pub policies_with : Bssid → Policy → BssState → BssState
+policies_with b p s = record s { policies = map.insert s.policies b p }
+
+abbrev pub lists_with : Bssid → Which → Addr → BssState → BssState
+lists_with b w a s = record s { lists = map.insert s.lists (b, w, a) tt }
+
+abbrev pub lists_without : Bssid → Which → Addr → BssState → BssState
+lists_without b w a s = record s { lists = map.remove s.lists (b, w, a) }
+
+abbrev pub lists_clear : Bssid → Which → BssState → BssState
+lists_clear b w s = record s { lists = map.retain_keys s.lists (λ row. not (is_row_of b w row)) }
+
+module _ (xs : List Row) (sorted : T (is_sorted bssid_cmp xs)) (b : Bssid) where
+  pub state_new : find bssid_cmp b xs ≡ None → (p : Policy) → state_of_rows (put_at xs b (record { policy = p; lists = no_lists }) (place bssid_cmp b xs)) ≡ policies_with b p (state_of_rows xs)
+  state_new none p =
+      let y : Bss = record { policy = p; lists = no_lists } in
+      λ i. record { lists = lists_new xs sorted b none y (λ v d. none_has v d) i; policies = policies_set xs sorted b y i }
+
+  module _ (x : Bss) (found : find bssid_cmp b xs ≡ Some x) where
+    pub state_set : (p : Policy) → state_of_rows (put_at xs b (with_policy p x) (place bssid_cmp b xs)) ≡ policies_with b p (state_of_rows xs)
+    state_set p = λ i. record { lists = lists_kept xs sorted b x found p i; policies = policies_set xs sorted b (with_policy p x) i }
+
+    pub state_added : (w : Which) (a : Addr) → state_of_rows (put_at xs b (with_added w a x) (place bssid_cmp b xs)) ≡ lists_with b w a (state_of_rows xs)
+    state_added w a = λ i. record { lists = lists_added xs sorted b x found w a i; policies = policies_added xs sorted b x found w a i }
+
+    pub state_removed : (w : Which) (a : Addr) → state_of_rows (put_at xs b (with_removed w a x) (place bssid_cmp b xs)) ≡ lists_without b w a (state_of_rows xs)
+    state_removed w a = λ i. record { lists = lists_removed xs sorted b x found w a i; policies = policies_removed xs sorted b x found w a i }
+
+    pub state_cleared : (w : Which) → state_of_rows (put_at xs b (with_cleared w x) (place bssid_cmp b xs)) ≡ lists_clear b w (state_of_rows xs)
+    state_cleared w = λ i. record { lists = lists_cleared xs sorted b x found w i; policies = policies_cleared xs sorted b x found w i }
+
+  pub same_removed : find bssid_cmp b xs ≡ None → (w : Which) (a : Addr) → state_of_rows xs ≡ lists_without b w a (state_of_rows xs)
+  same_removed none w a = λ i. record { lists = nothing_removed xs sorted b none w a i; policies = from_sorted (policy_rows xs) }
+
+  pub same_cleared : find bssid_cmp b xs ≡ None → (w : Which) → state_of_rows xs ≡ lists_clear b w (state_of_rows xs)
+  same_cleared none w = λ i. record { lists = nothing_cleared xs sorted b none w i; policies = from_sorted (policy_rows xs) }
+
+  -- a write at the place where the BSSID's row is
+  module _ (at : ℕ) (is : Ok at ≡ place bssid_cmp b xs) (write : Bss → Bss) (ys : List Row) where
+    abbrev pub IsWrite : Type 0
+    IsWrite = (d : Row) → ys ≡ slice_set xs at (at_row write (slice_index_or xs at d))
+
+    abbrev pub row : EntryAt bssid_total bssid_exact b xs at
+    row = entry_at bssid_total bssid_exact b xs at (sym is)
+
+    pub rows_are : IsWrite → ys ≡ put_at xs b (write (row.0)) (place bssid_cmp b xs)
+    rows_are h = write_is xs b at is write row.0 row.1 ys h
+
+    pub sorted_after : IsWrite → T (is_sorted bssid_cmp ys)
+    sorted_after h = subst (λ zs. T (is_sorted bssid_cmp zs)) (sym (rows_are h)) (sorted_written xs sorted b (write row.0))
+
+    -- a write that may lack memory
+    pub sorted_either : {E : Type 0} (r : Result (Unit {0}) E) → OnOk r IsWrite → OnErr r (ys ≡ xs) → T (is_sorted bssid_cmp ys)
+    sorted_either (Ok u) ok err = sorted_after ok
+    sorted_either (Err e) ok err = subst (λ zs. T (is_sorted bssid_cmp zs)) (sym err) sorted
+
+  pub added_on_ok : {E : Type 0} (at : ℕ) (is : Ok at ≡ place bssid_cmp b xs) (w : Which) (a : Addr) (ys : List Row) (r : Result (Unit {0}) E)
+      → OnOk r (IsWrite at is (with_added w a) ys) → OnOk r (state_of_rows ys ≡ lists_with b w a (state_of_rows xs))
+  added_on_ok at is w a ys (Ok u) ok =
+      ap state_of_rows (rows_are at is (with_added w a) ys ok) ∙ state_added (row at is (with_added w a) ys).0 (row at is (with_added w a) ys).2 w a
+  added_on_ok at is w a ys (Err e) ok = tt
+
+  pub on_err : {E : Type 0} (ys : List Row) (r : Result (Unit {0}) E) → OnErr r (ys ≡ xs) → OnErr r (state_of_rows ys ≡ state_of_rows xs)
+  on_err ys (Ok u) err = tt
+  on_err ys (Err e) err = ap state_of_rows err
+
+  -- what the row's own list has, the list rows have
+  pub has_row : (at : ℕ) (is : Ok at ≡ place bssid_cmp b xs) (w : Which) (a : Addr) → contains (list_rows xs) (b, w, a) ≡ true → (d : Row) → has (slice_index_or xs at d).1.lists w a ≡ true
+  has_row at is w a h d =
+      let e = entry_at bssid_total bssid_exact b xs at (sym is) in
+      ap (λ (r : Row). has r.1.lists w a) (get_or_from_slice_get xs at (b, e.0) d e.1) ∙ sym (contains-list_rows xs b w a sorted ∙ ap (λ r. is_listed_in r w a) e.2) ∙ h
+
+  none_some : {A B : Type 0} (o : Option A) → o ≡ None → IsSome o → B
+  none_some None e h = cc
+  none_some (Some x) e h = cc
+
+  -- a BSSID with a policy has a row
+  pub has_place : {A : Type 0} (at : ℕ) → Err at ≡ place bssid_cmp b xs → IsSome (map.get (from_sorted {R = bssid_cmp} (policy_rows xs)) b) → A
+  has_place at is h = none_some _ (get-policy_rows xs sorted b ∙ ap (option_map policy_of) (absent_at bssid_total bssid_exact b xs sorted at (sym is))) h
+
+-- a new row in its place
+pub sorted_new : (xs : List Row) (sorted : T (is_sorted bssid_cmp xs)) (b : Bssid) (at : ℕ) → Err at ≡ place bssid_cmp b xs → (y : Bss) (ys : List Row) → ys ≡ put_at xs b y (Err at) → T (is_sorted bssid_cmp ys)
+sorted_new xs sorted b at is y ys h = subst (λ zs. T (is_sorted bssid_cmp zs)) (sym (h ∙ ap (put_at xs b y) is)) (sorted_written xs sorted b y)

@@ -1,0 +1,178 @@
+-- The first row of a BSSID among rows in order is that of its least address, and the row behind the place of a
+-- station, where it is one of the BSSID, that of its least address above.
+use Rattle.std.proofs.Common.{◌≡◌, ◌≢◌, Bool, true, false, cond, List, [], ◌∷◌, Option, Some, None, MatchOption, Result, IsSome, IfSome, IfNone, inl, inr, refl, sym, ap, subst, ◌∙◌, T, ℕ}
+use Rattle.std.specs.declared.cmp.Ordering.{Ordering}
+use Rattle.std.specs.declared.cmp.Ordering.TheVariants.{Less, Equal, Greater}
+use Rattle.std.specs.Ordering.{eq_by_cmp, is_eq, ordering_then, ordering_reverse}
+use Rattle.std.specs.Cmp.{tied_itself}
+use Rattle.std.specs.FinMap as map
+use Rattle.std.specs.FinMap.{find, is_sorted, from_sorted, get-from_sorted}
+use Rattle.apd_base.specs.Rows.{place}
+use Rattle.apd_base.specs.declared.address.Addr.{Addr}
+use Rattle.apd_base.specs.declared.address.Bssid.{Bssid}
+use Rattle.apd_base.specs.declared.station.Station.{Station}
+use Rattle.apd_base.specs.Addr.{addr_cmp, bssid_cmp, station_cmp}
+use Rattle.apd_base.proofs.AddrLaws.{bssid_total, bssid_exact, station_total, station_exact}
+use Rattle.apd_base.proofs.MapLaws.{one_or_apart}
+use Rattle.apd_base.proofs.RowsLaws.{is_sorted_tail}
+use Rattle.apd_acl.specs.Least.{IsLeast, IsLeastAbove}
+use Rattle.apd_acl.proofs.Above.{found_head, head_least, above_at, above_is, IsAbove, NoneAbove}
+use Rattle.apd_table.specs.Rows.{is_row_of, first_of, if_row_of}
+
+abbrev pub Row : Type 0
+Row = (Bssid × Addr) × Station
+
+is_eq-then : (r o : Ordering) → is_eq r ≡ false → is_eq (ordering_then r o) ≡ false
+is_eq-then Less o e = refl
+is_eq-then Equal o e = cc
+is_eq-then Greater o e = refl
+
+none_some : {A : Type 0} (P : Type 0) (v : A) → None ≡ Some v → P
+none_some P v e = cc
+
+value_of : {A : Type 0} (o : Option A) → IsSome o → (x : A) × (o ≡ Some x)
+value_of None h = cc
+value_of (Some x) h = (x, refl)
+
+is_some_of : {A : Type 0} (o : Option A) (x : A) → o ≡ Some x → IsSome o
+is_some_of o x e = cc
+
+both_ways : {A : Type 0} (t : Bool) → t ≡ false → t ≡ true → A
+both_ways t f h = cc
+
+-- a row of another BSSID is passed over
+skip : (b : Bssid) (c : Addr) (row : Row) (rows : List Row) → eq_by_cmp bssid_cmp b row.0.0 ≡ false → find station_cmp (b, c) (row ∷ rows) ≡ find station_cmp (b, c) rows
+skip b c row rows ne = ap (λ t. cond t (Some row.1) (find station_cmp (b, c) rows)) (is_eq-then (bssid_cmp b row.0.0) (addr_cmp c row.0.1) ne)
+
+-- at one BSSID the addresses decide
+at_bss : (b : Bssid) (a c : Addr) → station_cmp (b, a) (b, c) ≡ addr_cmp a c
+at_bss b a c = ap (λ r. ordering_then r (addr_cmp a c)) (tied_itself bssid_total b)
+
+same_bssid : (b c : Bssid) → eq_by_cmp bssid_cmp b c ≡ true → b ≡ c
+same_bssid b c e = elim (one_or_apart bssid_total bssid_exact b c) [ inl same ↦ same | inr ne ↦ both_ways _ ne e ]
+
+-- the row that is first, in order
+abbrev Least : Bssid → Addr → Station → List Row → Type 0
+Least b a v rows = (find station_cmp (b, a) rows ≡ Some v) × ((c : Addr) (w : Station) → find station_cmp (b, c) rows ≡ Some w → addr_cmp a c ≢ Greater)
+
+kept : (b : Bssid) (row : Row) (rows : List Row) → is_row_of b row ≡ false → (r : Option (Addr × Station)) → MatchOption r ((c : Addr) → find station_cmp (b, c) rows ≡ None) (λ x. Least b x.0 x.1 rows)
+    → MatchOption r ((c : Addr) → find station_cmp (b, c) (row ∷ rows) ≡ None) (λ x. Least b x.0 x.1 (row ∷ rows))
+kept b row rows ne None none = λ c. skip b c row rows ne ∙ none c
+kept b row rows ne (Some x) least = (skip b x.0 row rows ne ∙ least.0, λ c w f. least.1 c w (sym (skip b c row rows ne) ∙ f))
+
+first_least : (b : Bssid) (rows : List Row) → T (is_sorted station_cmp rows) → MatchOption (first_of b rows) ((c : Addr) → find station_cmp (b, c) rows ≡ None) (λ x. Least b x.0 x.1 rows)
+first_least b [] h = λ c. refl
+first_least b (row ∷ rows) h =
+    let rest = first_least b rows (is_sorted_tail station_total row rows h) in
+    elim (is_row_of b row) as (λ t. is_row_of b row ≡ t → MatchOption (cond t (Some (row.0.1, row.1)) (first_of b rows)) ((c : Addr) → find station_cmp (b, c) (row ∷ rows) ≡ None) (λ x. Least b x.0 x.1 (row ∷ rows))) [
+      | true ↦ λ t.
+          let key : ◌≡◌ {A = Bssid × Addr} (b, row.0.1) row.0 = λ i. (same_bssid b row.0.0 t i, row.0.1) in (
+            ap (λ k. find station_cmp k (row ∷ rows)) key ∙ found_head station_total station_exact row rows,
+            λ c w f. subst (λ r. r ≢ Greater) (ap (λ k. station_cmp k (b, c)) (sym key) ∙ at_bss b row.0.1 c) (head_least station_total station_exact row rows h (b, c) w f),
+          )
+      | false ↦ λ t. kept b row rows t (first_of b rows) rest
+    ] refl
+
+-- what the map of these rows has
+module _ (b : Bssid) (rows : List Row) (h : T (is_sorted station_cmp rows)) where
+  abbrev pub at : Addr → Option Station
+  at c = map.get (from_sorted {R = station_cmp} rows) (b, c)
+
+  at_is : (c : Addr) → at c ≡ find station_cmp (b, c) rows
+  at_is c = get-from_sorted station_cmp rows (b, c) h
+
+  found : (c : Addr) → IsSome (at c) → (x : Station) × (find station_cmp (b, c) rows ≡ Some x)
+  found c s = (let v = value_of (at c) s in (v.0, sym (at_is c) ∙ v.1))
+
+  module _ (r : Option (Addr × Station)) (is : r ≡ first_of b rows) where
+    least_of : MatchOption r ((c : Addr) → find station_cmp (b, c) rows ≡ None) (λ x. Least b x.0 x.1 rows)
+    least_of = subst (λ o. MatchOption o ((c : Addr) → find station_cmp (b, c) rows ≡ None) (λ x. Least b x.0 x.1 rows)) (sym is) (first_least b rows h)
+
+  as_least : (r : Option (Addr × Station)) → MatchOption r ((c : Addr) → find station_cmp (b, c) rows ≡ None) (λ x. Least b x.0 x.1 rows) → IfSome r (λ x. IsLeast (λ c. IsSome (at c)) x.0)
+  as_least None m = tt
+  as_least (Some x) m = record { has = is_some_of (at x.0) x.1 (at_is x.0 ∙ m.0); least = λ c s. (let v = found c s in m.1 c v.0 v.1) }
+
+  as_row : (r : Option (Addr × Station)) → MatchOption r ((c : Addr) → find station_cmp (b, c) rows ≡ None) (λ x. Least b x.0 x.1 rows) → IfSome r (λ x. at x.0 ≡ Some x.1)
+  as_row None m = tt
+  as_row (Some x) m = at_is x.0 ∙ m.0
+
+  as_none : (r : Option (Addr × Station)) → MatchOption r ((c : Addr) → find station_cmp (b, c) rows ≡ None) (λ x. Least b x.0 x.1 rows) → IfNone r ((c : Addr) → at c ≡ None)
+  as_none None m = λ c. at_is c ∙ m c
+  as_none (Some x) m = tt
+
+  pub first_is_least : (r : Option (Addr × Station)) (is : r ≡ first_of b rows) → IfSome r (λ x. IsLeast (λ c. IsSome (at c)) x.0)
+  first_is_least r is = as_least r (least_of r is)
+
+  pub first_is_row : (r : Option (Addr × Station)) (is : r ≡ first_of b rows) → IfSome r (λ x. at x.0 ≡ Some x.1)
+  first_is_row r is = as_row r (least_of r is)
+
+  pub first_is_none : (r : Option (Addr × Station)) (is : r ≡ first_of b rows) → IfNone r ((c : Addr) → at c ≡ None)
+  first_is_none r is = as_none r (least_of r is)
+
+less_then : (r q : Ordering) → ordering_then r q ≡ Less → is_eq r ≡ false → r ≡ Less
+less_then Less q e n = refl
+less_then Equal q e n = cc
+less_then Greater q e n = e
+
+greater_then : (r q : Ordering) → r ≡ Greater → ordering_then r q ≡ Greater
+greater_then r q e = ap (λ o. ordering_then o q) e
+
+-- the next row
+module _ (b : Bssid) (a : Addr) (rows : List Row) (h : T (is_sorted station_cmp rows)) where
+  abbrev Above : Option Row → Type 0
+  Above r = MatchOption r (NoneAbove station_total station_exact (b, a) rows) (IsAbove station_total station_exact (b, a) rows)
+
+  abbrev Next : Addr × Station → Type 0
+  Next x = (at b rows h x.0 ≡ Some x.1) × IsLeastAbove a (λ c. IsSome (at b rows h c)) x.0
+
+  abbrev NoNext : Type 0
+  NoNext = (c : Addr) → IsSome (at b rows h c) → addr_cmp a c ≢ Less
+
+  -- a row of another BSSID above the station stands behind all of this BSSID
+  beyond : (e : Row) → is_row_of b e ≡ false → IsAbove station_total station_exact (b, a) rows e → NoNext
+  beyond e other is c s l =
+      let v = found b rows h c s in
+      let above : bssid_cmp b e.0.0 ≡ Less = less_then (bssid_cmp b e.0.0) (addr_cmp a e.0.1) is.above other in
+      let below : bssid_cmp e.0.0 b ≡ Greater = bssid_total.antisymm e.0.0 b ∙ ap ordering_reverse above in
+      is.least (b, c) v.0 v.1 (at_bss b a c ∙ l) (greater_then (bssid_cmp e.0.0 b) (addr_cmp e.0.1 c) below)
+
+  next_row : (e : Row) → is_row_of b e ≡ true → IsAbove station_total station_exact (b, a) rows e → Next (e.0.1, e.1)
+  next_row e mine is =
+      let key : ◌≡◌ {A = Bssid × Addr} e.0 (b, e.0.1) = λ i. (sym (same_bssid b e.0.0 mine) i, e.0.1) in
+      let row : find station_cmp (b, e.0.1) rows ≡ Some e.1 = ap (λ k. find station_cmp k rows) (sym key) ∙ is.entry in (
+        at_is b rows h e.0.1 ∙ row,
+        record {
+          has = (is_some_of (at b rows h e.0.1) e.1 (at_is b rows h e.0.1 ∙ row), sym (ap (station_cmp (b, a)) key ∙ at_bss b a e.0.1) ∙ is.above);
+          least = λ c p. (let v = found b rows h c p.0 in subst (λ r. r ≢ Greater) (ap (λ k. station_cmp k (b, c)) key ∙ at_bss b e.0.1 c) (is.least (b, c) v.0 v.1 (at_bss b a c ∙ p.1)));
+        },
+      )
+
+  next_of : (r : Option Row) → Above r → MatchOption (if_row_of b r) NoNext Next
+  next_of None none = λ c s l. (let v = found b rows h c s in none (b, c) v.0 v.1 (at_bss b a c ∙ l))
+  next_of (Some e) is =
+      elim (is_row_of b e) as (λ t. is_row_of b e ≡ t → MatchOption (cond t (Some (e.0.1, e.1)) None) NoNext Next) [ true ↦ λ t. next_row e t is | false ↦ λ t. beyond e t is ] refl
+
+  as_next : (r : Option (Addr × Station)) → MatchOption r NoNext Next → IfSome r (λ x. IsLeastAbove a (λ c. IsSome (at b rows h c)) x.0)
+  as_next None m = tt
+  as_next (Some x) m = m.1
+
+  as_next_row : (r : Option (Addr × Station)) → MatchOption r NoNext Next → IfSome r (λ x. at b rows h x.0 ≡ Some x.1)
+  as_next_row None m = tt
+  as_next_row (Some x) m = m.0
+
+  as_no_next : (r : Option (Addr × Station)) → MatchOption r NoNext Next → IfNone r NoNext
+  as_no_next None m = m
+  as_no_next (Some x) m = tt
+
+  module _ (p : Result ℕ ℕ) (is : p ≡ place station_cmp (b, a) rows) (r : Option (Addr × Station)) (gives : r ≡ if_row_of b (above_at rows p)) where
+    next_is : MatchOption r NoNext Next
+    next_is = subst (λ o. MatchOption o NoNext Next) (sym (gives ∙ ap (λ q. if_row_of b (above_at rows q)) is)) (next_of (above_at rows (place station_cmp (b, a) rows)) (above_is station_total station_exact (b, a) rows h))
+
+    pub next_is_least : IfSome r (λ x. IsLeastAbove a (λ c. IsSome (at b rows h c)) x.0)
+    next_is_least = as_next r next_is
+
+    pub next_is_row : IfSome r (λ x. at b rows h x.0 ≡ Some x.1)
+    next_is_row = as_next_row r next_is
+
+    pub next_is_none : IfNone r NoNext
+    next_is_none = as_no_next r next_is

@@ -1,0 +1,124 @@
+-- List rows as a set: what an address more, an address less and an empty list make of it.
+use Rattle.std.proofs.Common.{◌≡◌, Bool, true, false, cond, not, ◌&&◌, ◌||◌, Option, Some, None, refl, sym, ap, ◌∙◌}
+use Rattle.std.specs.Option.{is_some}
+use Rattle.std.specs.declared.cmp.Ordering.{Ordering}
+use Rattle.std.specs.declared.cmp.Ordering.TheVariants.{Less, Equal, Greater}
+use Rattle.std.specs.Ordering.{eq_by_cmp, is_eq, ordering_then}
+use Rattle.std.specs.Cmp.{IsTotalOrder, eq_by_cmp_equiv}
+use Rattle.std.specs.FinMap as map
+use Rattle.std.specs.FinMap.{IsAntisymmetric, get-empty, get-insert, get-remove, get-retain_keys, same_map}
+use Rattle.apd_base.specs.Sets.{SetOf, contains}
+use Rattle.apd_base.specs.Addr.{addr_cmp, bssid_cmp}
+use Rattle.apd_base.specs.State.{list_cmp, which_cmp, is_row_of}
+use Rattle.apd_base.specs.declared.address.Addr.{Addr}
+use Rattle.apd_base.specs.declared.address.Bssid.{Bssid}
+use Rattle.apd_base.specs.declared.station.Which.{Which}
+use Rattle.apd_base.specs.declared.station.Which.TheVariants.{Accept, Deny}
+use Rattle.apd_base.proofs.AddrLaws.{addr_total, addr_exact, bssid_total, bssid_exact}
+use Rattle.apd_base.proofs.MapLaws.{tied}
+use Rattle.apd_base.proofs.StateLaws.{list_total, list_exact}
+use Rattle.apd_acl.specs.Lists.{has, added, removed, cleared}
+use Rattle.apd_acl.specs.declared.lists.Lists.{Lists}
+
+some_or : (t : Bool) (o : Option (Unit {0})) → is_some (cond t (Some tt) o) ≡ (t || is_some o)
+some_or true o = refl
+some_or false o = refl
+
+none_and : (t : Bool) (o : Option (Unit {0})) → is_some (cond t None o) ≡ (not t && is_some o)
+none_and true o = refl
+none_and false o = refl
+
+some_and : (t : Bool) (o : Option (Unit {0})) → is_some (cond t o None) ≡ (t && is_some o)
+some_and true o = refl
+some_and false o = refl
+
+same_unit : (o p : Option (Unit {0})) → is_some o ≡ is_some p → o ≡ p
+same_unit None None e = refl
+same_unit None (Some x) e = cc
+same_unit (Some x) None e = cc
+same_unit (Some x) (Some y) e = refl
+
+module _ {K : Type 0} {R : K → K → Ordering} (o : IsTotalOrder R) (exact : IsAntisymmetric R) where
+  pub contains-insert : (s : SetOf R) (k q : K) → contains (map.insert s k tt) q ≡ (eq_by_cmp R q k || contains s q)
+  contains-insert s k q = ap is_some (get-insert o s k tt q) ∙ some_or (eq_by_cmp R q k) (map.get s q)
+
+  pub contains-remove : (s : SetOf R) (k q : K) → contains (map.remove s k) q ≡ (not (eq_by_cmp R q k) && contains s q)
+  contains-remove s k q = ap is_some (get-remove o s k q) ∙ none_and (eq_by_cmp R q k) (map.get s q)
+
+  pub contains-retain_keys : (s : SetOf R) (p : K → Bool) (q : K) → contains (map.retain_keys s p) q ≡ (p q && contains s q)
+  contains-retain_keys s p q = ap is_some (get-retain_keys s p q (λ x t. ap p (sym (exact q x t)))) ∙ some_and (p q) (map.get s q)
+
+  -- sets with the same items are one
+  pub same_set : (s t : SetOf R) → ((q : K) → contains s q ≡ contains t q) → s ≡ t
+  same_set s t h = same_map o exact s t (λ q. same_unit (map.get s q) (map.get t q) (h q))
+
+is_eq-then : (r q : Ordering) → is_eq (ordering_then r q) ≡ (is_eq r && is_eq q)
+is_eq-then Less q = refl
+is_eq-then Equal q = refl
+is_eq-then Greater q = refl
+
+pub same_row : (b c : Bssid) (w v : Which) (a x : Addr) → eq_by_cmp list_cmp (b, w, a) (c, v, x) ≡ (eq_by_cmp bssid_cmp b c && (eq_by_cmp which_cmp w v && eq_by_cmp addr_cmp a x))
+same_row b c w v a x = is_eq-then (bssid_cmp b c) _ ∙ ap (λ t. eq_by_cmp bssid_cmp b c && t) (is_eq-then (which_cmp w v) (addr_cmp a x))
+
+module _ (s : SetOf list_cmp) (b : Bssid) (w : Which) where
+  abbrev with_row : Addr → SetOf list_cmp
+  with_row a = map.insert s (b, w, a) tt
+
+  abbrev without_row : Addr → SetOf list_cmp
+  without_row a = map.remove s (b, w, a)
+
+  abbrev without_rows : SetOf list_cmp
+  without_rows = map.retain_keys s (λ row. not (is_row_of b w row))
+
+  -- at the BSSID
+  pub insert_here : (a : Addr) (v : Which) (d : Addr) → contains (with_row a) (b, v, d) ≡ ((eq_by_cmp which_cmp v w && eq_by_cmp addr_cmp d a) || contains s (b, v, d))
+  insert_here a v d =
+      contains-insert list_total list_exact s (b, w, a) (b, v, d) ∙ ap (λ t. t || contains s (b, v, d)) (same_row b b v w d a)
+      ∙ ap (λ t. (t && (eq_by_cmp which_cmp v w && eq_by_cmp addr_cmp d a)) || contains s (b, v, d)) (tied bssid_total bssid_exact b)
+
+  pub remove_here : (a : Addr) (v : Which) (d : Addr) → contains (without_row a) (b, v, d) ≡ (not (eq_by_cmp which_cmp v w && eq_by_cmp addr_cmp d a) && contains s (b, v, d))
+  remove_here a v d =
+      contains-remove list_total list_exact s (b, w, a) (b, v, d) ∙ ap (λ t. not t && contains s (b, v, d)) (same_row b b v w d a)
+      ∙ ap (λ t. not (t && (eq_by_cmp which_cmp v w && eq_by_cmp addr_cmp d a)) && contains s (b, v, d)) (tied bssid_total bssid_exact b)
+
+  pub clear_here : (v : Which) (d : Addr) → contains without_rows (b, v, d) ≡ (not (eq_by_cmp which_cmp w v) && contains s (b, v, d))
+  clear_here v d =
+      contains-retain_keys list_total list_exact s (λ row. not (is_row_of b w row)) (b, v, d)
+      ∙ ap (λ t. not (t && eq_by_cmp which_cmp w v) && contains s (b, v, d)) (tied bssid_total bssid_exact b)
+
+  -- and at each other one
+  module _ (c : Bssid) (apart : eq_by_cmp bssid_cmp c b ≡ false) (v : Which) (d : Addr) where
+    pub insert_elsewhere : (a : Addr) → contains (with_row a) (c, v, d) ≡ contains s (c, v, d)
+    insert_elsewhere a =
+        contains-insert list_total list_exact s (b, w, a) (c, v, d) ∙ ap (λ t. t || contains s (c, v, d)) (same_row c b v w d a)
+        ∙ ap (λ t. (t && (eq_by_cmp which_cmp v w && eq_by_cmp addr_cmp d a)) || contains s (c, v, d)) apart
+
+    pub remove_elsewhere : (a : Addr) → contains (without_row a) (c, v, d) ≡ contains s (c, v, d)
+    remove_elsewhere a =
+        contains-remove list_total list_exact s (b, w, a) (c, v, d) ∙ ap (λ t. not t && contains s (c, v, d)) (same_row c b v w d a)
+        ∙ ap (λ t. not (t && (eq_by_cmp which_cmp v w && eq_by_cmp addr_cmp d a)) && contains s (c, v, d)) apart
+
+    pub clear_elsewhere : contains without_rows (c, v, d) ≡ contains s (c, v, d)
+    clear_elsewhere =
+        contains-retain_keys list_total list_exact s (λ row. not (is_row_of b w row)) (c, v, d)
+        ∙ ap (λ t. not (t && eq_by_cmp which_cmp w v) && contains s (c, v, d)) ((eq_by_cmp_equiv bssid_total).symm b c ∙ apart)
+
+-- the same of a BSSID's own lists
+module _ (lists : Lists) (a d : Addr) where
+  pub has_added : (w v : Which) → has (added lists w a) v d ≡ ((eq_by_cmp which_cmp v w && eq_by_cmp addr_cmp d a) || has lists v d)
+  has_added Accept Accept = contains-insert addr_total addr_exact _ a d
+  has_added Accept Deny = refl
+  has_added Deny Accept = refl
+  has_added Deny Deny = contains-insert addr_total addr_exact _ a d
+
+  pub has_removed : (w v : Which) → has (removed lists w a) v d ≡ (not (eq_by_cmp which_cmp v w && eq_by_cmp addr_cmp d a) && has lists v d)
+  has_removed Accept Accept = contains-remove addr_total addr_exact _ a d
+  has_removed Accept Deny = refl
+  has_removed Deny Accept = refl
+  has_removed Deny Deny = contains-remove addr_total addr_exact _ a d
+
+pub has_cleared : (lists : Lists) (w v : Which) (d : Addr) → has (cleared lists w) v d ≡ (not (eq_by_cmp which_cmp w v) && has lists v d)
+has_cleared lists Accept Accept d = ap is_some (get-empty addr_cmp d)
+has_cleared lists Accept Deny d = refl
+has_cleared lists Deny Accept d = refl
+has_cleared lists Deny Deny d = ap is_some (get-empty addr_cmp d)

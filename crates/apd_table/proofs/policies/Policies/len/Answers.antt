@@ -1,9 +1,0 @@
-use Rattle.std.proofs.Common.{length, sym, ap, ◌∙◌}
-use Rattle.std.specs.FinMap as map
-use Rattle.apd_base.specs.Addr.{bssid_cmp}
-use Rattle.apd_table.proofs.policies.Policies.len.Goals as goal
-
-pub returns : goal.returns
-returns c =
-    c.len.ensures ∙ c.self.inside.rows.ok.0
-    ∙ sym (map.len-entries _ ∙ ap length (map.entries-from_sorted bssid_cmp c.self.inside.rows.items c.self.invariant)) ∙ ap map.len c.self.view_is

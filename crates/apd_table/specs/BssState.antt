@@ -1,0 +1,19 @@
+-- The part of a state that does not speak of stations.
+use Rattle.std.specs.Prelude.{refl}
+use Rattle.std.specs.FinMap as map
+use Rattle.std.specs.FinMap.{FinMap}
+use Rattle.std.specs.Coded.{Coded, code_by, coded×}
+use Rattle.apd_base.specs.Sets.{SetOf, coded_set}
+use Rattle.apd_base.specs.Addr.{bssid_cmp, coded_bssid}
+use Rattle.apd_base.specs.Codes.{coded_list_row, coded_policy}
+use Rattle.apd_base.specs.State.{list_cmp}
+use Rattle.apd_base.specs.declared.station.Policy.{Policy}
+
+pub record BssState : Type 0 where
+  pub lists : SetOf list_cmp
+  pub policies : FinMap bssid_cmp Policy
+
+abbrev pub coded_bss_state : Coded BssState
+coded_bss_state =
+    code_by (SetOf list_cmp × FinMap bssid_cmp Policy) (coded× (coded_set coded_list_row) (map.code coded_bssid coded_policy))
+    (λ s. (s.lists, s.policies)) (λ p. record { lists = p.0; policies = p.1 }) (λ _. refl)
