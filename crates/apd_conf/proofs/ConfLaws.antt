@@ -6,7 +6,7 @@ use Rattle.std.proofs.lemmas.Option.{slice_get-map}
 use Rattle.std.specs.Coded.{le_prop}
 use Rattle.apd_base.specs.declared.station.StationLimit.{StationLimit}
 use Rattle.apd_conf.specs.BuiltIn.{built_in}
-use Rattle.std.proofs.Common.{ap, zero, suc, arith, ◌<◌, ◌≤◌, ◌≡◌, ℕ, Bool, true, false, cond, List, [], ◌∷◌, Some, inl, inr, refl, sym, subst, ◌∙◌}
+use Rattle.std.proofs.Common.{ap, zero, suc, arith, ◌<◌, ◌≤◌, ◌≡◌, ℕ, Bool, true, false, cond, List, [], ◌∷◌, Some, None, inl, inr, refl, sym, subst, ◌∙◌}
 use Rattle.std.specs.List.{find}
 use Rattle.std.specs.Ordering.{nat_cmp, eq_by_cmp}
 use Rattle.std.specs.Cmp.{IsTotalOrder}
@@ -15,6 +15,7 @@ use Rattle.std.specs.FinMap.{IsAntisymmetric}
 use Rattle.std.specs.declared.cmp.Ordering.{Ordering}
 use Rattle.std.proofs.lemmas.Cmp.{nat_list_cmp_total}
 use Rattle.std.proofs.lemmas.Map.Lookups.{exact_bytes}
+use Rattle.apd_base.specs.declared.address.Addr.{Addr}
 use Rattle.apd_base.specs.declared.address.Bssid.{Bssid}
 use Rattle.apd_base.specs.Addr.{bssid_cmp}
 use Rattle.apd_base.proofs.AddrLaws.{bssid_total, bssid_exact}
@@ -22,7 +23,7 @@ use Rattle.apd_base.proofs.MapLaws.{one_or_apart, tied}
 use Rattle.apd_conf.specs.declared.conf.Conf.{Conf}
 use Rattle.apd_conf.specs.Confs.{conf_at, conf_named, AreConfs, IsRepeatedAt}
 
-same_limit : (a b : StationLimit) → a.count ≡ b.count → a ≡ b
+pub same_limit : (a b : StationLimit) → a.count ≡ b.count → a ≡ b
 same_limit a b e = ap (λ (p : (n : ℕ) × (n ≤ 2007)). record { count = p.0; in_range = p.1 }) (Σ_prop_path {B = λ n. n ≤ 2007} (λ n. le_prop) {u = (a.count, a.in_range)} {v = (b.count, b.in_range)} e)
 
 same_some : {A : Type 0} (x y : A) → Some x ≡ Some y → x ≡ y
@@ -63,8 +64,10 @@ pub interface-conf_named : (confs : List Conf) (name : List ℕ) (c : Conf) → 
 interface-conf_named confs name c f = sym (name_same name c.interface (find_passes (λ (d : Conf). eq_by_cmp (slice_cmp nat_cmp) name d.interface) confs c f))
 
 -- a configuration with the values of the built-in one
-pub built_in_from : (name ssid : List ℕ) (limit : StationLimit) → name ≡ codes "wlan0" → ssid ≡ codes "net" → limit.count ≡ 2007 → record built_in { interface = name; ssid = ssid; max_num_sta = limit } ≡ built_in
-built_in_from name ssid limit n s l = λ i. record built_in { interface = n i; ssid = s i; max_num_sta = same_limit limit built_in.max_num_sta l i }
+pub built_in_from : (name ssid : List ℕ) (limit : StationLimit) (accept deny : List Addr) → name ≡ codes "wlan0" → ssid ≡ codes "net" → limit.count ≡ 2007 → accept ≡ [] → deny ≡ []
+    → record built_in { interface = name; ssid = ssid; max_num_sta = limit; accept = accept; deny = deny } ≡ built_in
+built_in_from name ssid limit accept deny n s l a d =
+    λ i. record built_in { interface = n i; ssid = s i; max_num_sta = same_limit limit built_in.max_num_sta l i; accept = a i; deny = d i }
 
 own : {X A : Type 0} (eq : A → A → Bool) (part : X → A) → ((a b : A) → eq a b ≡ true → a ≡ b) → ((a : A) → eq a a ≡ true) → (xs : List X) (place : ℕ) (x : X)
     → slice_get xs place ≡ Some x → ¬ (IsRepeatedAt (map part xs) place) → find (λ y. eq (part x) (part y)) xs ≡ Some x
@@ -87,3 +90,41 @@ conf_at-own confs h place c at = own (eq_by_cmp bssid_cmp) (λ (d : Conf). d.bss
 -- and by its own interface
 pub conf_named-own : (confs : List Conf) → AreConfs confs → (place : ℕ) (c : Conf) → slice_get confs place ≡ Some c → conf_named confs c.interface ≡ Some c
 conf_named-own confs h place c at = own (eq_by_cmp (slice_cmp nat_cmp)) (λ (d : Conf). d.interface) name_same name_itself confs place c at (h.interfaces place)
+
+find_place : {X : Type 0} (test : X → Bool) (xs : List X) (x : X) → find test xs ≡ Some x → (place : ℕ) × (slice_get xs place ≡ Some x)
+find_place test [] x f = cc
+find_place test (y ∷ ys) x f =
+    elim (test y) as (λ b. cond b (Some y) (find test ys) ≡ Some x → (place : ℕ) × (slice_get (y ∷ ys) place ≡ Some x)) [
+      | true ↦ λ g. (zero, g)
+      | false ↦ λ g. let later = find_place test ys x g in (suc later.0, later.1)
+    ] f
+
+find_fails : {X : Type 0} (test : X → Bool) (xs : List X) → find test xs ≡ None → (place : ℕ) (x : X) → slice_get xs place ≡ Some x → test x ≡ false
+find_fails test [] none place x at = cc
+find_fails test (y ∷ ys) none zero x at =
+    elim (test y) as (λ b. test y ≡ b → cond b (Some y) (find test ys) ≡ None → test x ≡ false) [
+      | true ↦ λ t g. cc
+      | false ↦ λ t g. subst (λ z. test z ≡ false) (same_some y x at) t
+    ] refl none
+find_fails test (y ∷ ys) none (suc place) x at =
+    elim (test y) as (λ b. cond b (Some y) (find test ys) ≡ None → test x ≡ false) [
+      | true ↦ λ g. cc
+      | false ↦ λ g. find_fails test ys g place x at
+    ] none
+
+-- what is found stands in the list
+pub listed_at : (confs : List Conf) (b : Bssid) (c : Conf) → conf_at confs b ≡ Some c → (place : ℕ) × (slice_get confs place ≡ Some c)
+listed_at confs b c f = find_place (λ (d : Conf). eq_by_cmp bssid_cmp b d.bssid) confs c f
+
+pub listed_named : (confs : List Conf) (name : List ℕ) (c : Conf) → conf_named confs name ≡ Some c → (place : ℕ) × (slice_get confs place ≡ Some c)
+listed_named confs name c f = find_place (λ (d : Conf). eq_by_cmp (slice_cmp nat_cmp) name d.interface) confs c f
+
+-- where none is found, none in the list has it
+pub none_at : (confs : List Conf) (b : Bssid) → conf_at confs b ≡ None → (place : ℕ) (c : Conf) → slice_get confs place ≡ Some c → c.bssid ≡ b → ⊥
+none_at confs b none place c at e =
+    not_both (eq_by_cmp bssid_cmp b c.bssid) (subst (λ x. eq_by_cmp bssid_cmp b x ≡ true) (sym e) (bssid_itself b)) (find_fails (λ (d : Conf). eq_by_cmp bssid_cmp b d.bssid) confs none place c at)
+
+pub none_named : (confs : List Conf) (name : List ℕ) → conf_named confs name ≡ None → (place : ℕ) (c : Conf) → slice_get confs place ≡ Some c → c.interface ≡ name → ⊥
+none_named confs name none place c at e =
+    not_both (eq_by_cmp (slice_cmp nat_cmp) name c.interface) (subst (λ x. eq_by_cmp (slice_cmp nat_cmp) name x ≡ true) (sym e) (name_itself name))
+    (find_fails (λ (d : Conf). eq_by_cmp (slice_cmp nat_cmp) name d.interface) confs none place c at)

@@ -1,3 +1,11 @@
+pub mod AddressLaws
 pub mod ConfLaws
+pub mod LineLaws
+pub mod LinesLaws
+pub mod ListLaws
 pub mod Refusals
 pub mod Repeats
+pub mod SettingLaws
+pub mod TableLaws
+pub mod TextLaws
+pub mod FileLaws

@@ -23,4 +23,6 @@ built_in = record {
   macaddr_acl = AcceptUnlessDenied;
   accept_mac_file = None;
   deny_mac_file = None;
+  accept = [];
+  deny = [];
 }

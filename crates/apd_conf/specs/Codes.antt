@@ -4,7 +4,8 @@ use Rattle.std.specs.Coded.{Coded, code_by, coded×, coded_ℕ, coded_list, code
 use Rattle.apd_base.specs.declared.address.Bssid.{Bssid}
 use Rattle.apd_base.specs.declared.station.AclMode.{AclMode}
 use Rattle.apd_base.specs.declared.station.StationLimit.{StationLimit}
-use Rattle.apd_base.specs.Addr.{coded_bssid}
+use Rattle.apd_base.specs.declared.address.Addr.{Addr}
+use Rattle.apd_base.specs.Addr.{coded_addr, coded_bssid}
 use Rattle.apd_base.specs.Codes.{coded_limit, coded_mode}
 use Rattle.apd_conf.specs.Auth.{algs_number}
 use Rattle.apd_conf.specs.declared.conf.Conf.{Conf}
@@ -68,7 +69,7 @@ coded_quiet = code_by ℕ coded_ℕ quiet_number quiet_from quiet_from-quiet_num
 abbrev pub coded_bytes : Coded (List ℕ)
 coded_bytes = coded_list coded_ℕ
 
--- its names; what its radio does; what its stations may do
+-- its names; what its radio does; what its stations may do; its lists
 abbrev pub Names : Type 0
 Names = List ℕ × (Bssid × (List ℕ × (Option (List ℕ) × Option (List ℕ))))
 
@@ -87,16 +88,22 @@ coded_radio = coded× coded_band (coded× coded_ℕ (coded× coded_ℕ coded_qui
 abbrev pub coded_stations : Coded Stations
 coded_stations = coded× coded_limit (coded× coded_algs (coded× coded_ℕ (coded× coded_ℕ coded_mode)))
 
-abbrev pub parts_of : Conf → Names × (Radio × Stations)
+abbrev pub Lists : Type 0
+Lists = List Addr × List Addr
+
+abbrev pub coded_lists : Coded Lists
+coded_lists = coded× (coded_list coded_addr) (coded_list coded_addr)
+
+abbrev pub parts_of : Conf → Names × (Radio × (Stations × Lists))
 parts_of c = (
   (c.interface, (c.bssid, (c.ssid, (c.accept_mac_file, c.deny_mac_file)))),
   (
     (c.hw_mode, (c.channel, (c.beacon_int, c.ignore_broadcast_ssid))),
-    (c.max_num_sta, (c.auth_algs, (c.ap_max_inactivity, (c.max_listen_interval, c.macaddr_acl)))),
+    ((c.max_num_sta, (c.auth_algs, (c.ap_max_inactivity, (c.max_listen_interval, c.macaddr_acl)))), (c.accept, c.deny)),
   ),
 )
 
-abbrev pub conf_from : Names × (Radio × Stations) → Conf
+abbrev pub conf_from : Names × (Radio × (Stations × Lists)) → Conf
 conf_from p = record {
   interface = p.0.0;
   bssid = p.0.1.0;
@@ -107,15 +114,17 @@ conf_from p = record {
   channel = p.1.0.1.0;
   beacon_int = p.1.0.1.1.0;
   ignore_broadcast_ssid = p.1.0.1.1.1;
-  max_num_sta = p.1.1.0;
-  auth_algs = p.1.1.1.0;
-  ap_max_inactivity = p.1.1.1.1.0;
-  max_listen_interval = p.1.1.1.1.1.0;
-  macaddr_acl = p.1.1.1.1.1.1;
+  max_num_sta = p.1.1.0.0;
+  auth_algs = p.1.1.0.1.0;
+  ap_max_inactivity = p.1.1.0.1.1.0;
+  max_listen_interval = p.1.1.0.1.1.1.0;
+  macaddr_acl = p.1.1.0.1.1.1.1;
+  accept = p.1.1.1.0;
+  deny = p.1.1.1.1;
 }
 
 abbrev pub coded_conf : Coded Conf
-coded_conf = code_by (Names × (Radio × Stations)) (coded× coded_names (coded× coded_radio coded_stations)) parts_of conf_from (λ _. refl)
+coded_conf = code_by (Names × (Radio × (Stations × Lists))) (coded× coded_names (coded× coded_radio (coded× coded_stations coded_lists))) parts_of conf_from (λ _. refl)
 
 abbrev pub coded_confs : Coded (List Conf)
 coded_confs = coded_list coded_conf

@@ -2,5 +2,11 @@ pub mod Auth
 pub mod BuiltIn
 pub mod Codes
 pub mod Conf
+pub mod ConfFile
 pub mod Confs
+pub mod Faults
+pub mod Lines
+pub mod ListFile
 pub mod Names
+pub mod Table
+pub mod Values

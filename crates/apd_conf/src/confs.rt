@@ -1,5 +1,5 @@
 //! The configurations of the daemon's radios.
-ghost use Rattle.std.specs.Prelude.{◌≡◌, ◌↔◌, ℕ, List, slice_get, Err, IsOk, IfOk, OnOk, IfErr, IfSome, IfNone};
+ghost use Rattle.std.specs.Prelude.{◌≡◌, ◌≢◌, None, ◌↔◌, ℕ, List, slice_get, Err, IsOk, IfOk, OnOk, IfErr, IfSome, IfNone};
 ghost use Rattle.std.specs.Option.{option_copied};
 ghost use Rattle.apd_conf.specs.Confs.{interfaces, bssids, IsLeastRepeated, AreDistinct, AreConfs, IsRefused, conf_at, conf_named};
 ghost use Rattle.apd_conf.specs.declared.confs_fault.ConfsFault.{ConfsFault as Fault};
@@ -145,13 +145,17 @@ impl Confs {
     }
 }
 
-/// What is found for a BSSID or an interface has it; and each configuration of a daemon is found by its
-/// own.
+/// What is found for a BSSID or an interface has it and stands in the list; where none is found, none in
+/// the list has it; and each configuration of a daemon is found by its own.
 pub fn look_up_laws()
     ensures bssid { (confs : List Configuration) (bssid : Address) (conf : Configuration) → conf_at confs bssid ≡ Some conf → conf.bssid ≡ bssid }
     ensures own_bssid { (confs : List Configuration) → AreConfs confs → (place : ℕ) (conf : Configuration) → slice_get confs place ≡ Some conf → conf_at confs conf.bssid ≡ Some conf }
     ensures interface { (confs : List Configuration) (name : List ℕ) (conf : Configuration) → conf_named confs name ≡ Some conf → conf.interface ≡ name }
     ensures own_interface { (confs : List Configuration) → AreConfs confs → (place : ℕ) (conf : Configuration) → slice_get confs place ≡ Some conf → conf_named confs conf.interface ≡ Some conf }
+    ensures bssid_listed { (confs : List Configuration) (bssid : Address) (conf : Configuration) → conf_at confs bssid ≡ Some conf → (place : ℕ) × (slice_get confs place ≡ Some conf) }
+    ensures interface_listed { (confs : List Configuration) (name : List ℕ) (conf : Configuration) → conf_named confs name ≡ Some conf → (place : ℕ) × (slice_get confs place ≡ Some conf) }
+    ensures no_bssid { (confs : List Configuration) (bssid : Address) → conf_at confs bssid ≡ None → (place : ℕ) (conf : Configuration) → slice_get confs place ≡ Some conf → conf.bssid ≢ bssid }
+    ensures no_interface { (confs : List Configuration) (name : List ℕ) → conf_named confs name ≡ None → (place : ℕ) (conf : Configuration) → slice_get confs place ≡ Some conf → conf.interface ≢ name }
 {}
 
 #[cfg(test)]
@@ -166,7 +170,7 @@ mod tests {
     fn radios(rt: &impl Abort, alloc: Global, of: &[(&str, u8)]) -> Result<Vec<Conf>, Fail> {
         let mut list = Vec::new(alloc);
         for (name, last) in of {
-            assert!(rt; InterfaceName::is_name(name));
+            assert!(rt; InterfaceName::is_name(name.as_bytes()));
             let mut conf = Conf::built_in(alloc)?;
             conf.interface = InterfaceName::new(name, alloc)?;
             conf.bssid = Bssid(Addr([2, 0, 0, 0, 0, *last]));

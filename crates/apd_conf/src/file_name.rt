@@ -1,5 +1,6 @@
 //! Names of files.
-ghost use Rattle.std.specs.Prelude.{◌≡◌, IsTrue, IfOk};
+ghost use Rattle.std.specs.Prelude.{◌≡◌, ◌&&◌, IsTrue, IfOk};
+ghost use Rattle.std.specs.Str.{is_utf8};
 ghost use Rattle.apd_conf.specs.Names.{is_file_name};
 
 use std::alloc::{AllocError, Global};
@@ -41,6 +42,17 @@ impl FileName {
         Ok(FileName {
             text: String::from_str(alloc, text)?,
         })
+    }
+
+    /// The name that bytes are.
+    pub fn from_bytes(bytes: &[u8], alloc: Global) -> Result<FileName, AllocError>
+        requires { IsTrue (is_utf8 bytes.now && is_file_name bytes.now) }
+        ensures { IfOk result (λ name. name ≡ bytes.now) }
+    {
+        let Ok(text) = str::from_utf8(bytes) else {
+            unreachable!();
+        };
+        FileName::new(text, alloc)
     }
 
     /// Its text. It takes no memory.

@@ -33,11 +33,10 @@ fn are_visible(bytes: &[u8]) -> bool
 }
 
 impl InterfaceName {
-    /// Whether a text may be the name of an interface.
-    pub fn is_name(text: &str) -> bool
-        ensures { result ≡ is_interface_name text.now }
+    /// Whether bytes may be the name of an interface. It takes no memory.
+    pub fn is_name(bytes: &[u8]) -> bool
+        ensures { result ≡ is_interface_name bytes.now }
     {
-        let bytes = text.as_bytes();
         1 <= bytes.len() && bytes.len() <= 15 && are_visible(bytes)
     }
 
@@ -49,6 +48,17 @@ impl InterfaceName {
         Ok(InterfaceName {
             text: String::from_str(alloc, text)?,
         })
+    }
+
+    /// The name that bytes are.
+    pub fn from_bytes(bytes: &[u8], alloc: Global) -> Result<InterfaceName, AllocError>
+        requires { IsTrue (is_interface_name bytes.now) }
+        ensures { IfOk result (λ name. name ≡ bytes.now) }
+    {
+        let Ok(text) = str::from_utf8(bytes) else {
+            unreachable!();
+        };
+        InterfaceName::new(text, alloc)
     }
 
     /// Its text. It takes no memory.

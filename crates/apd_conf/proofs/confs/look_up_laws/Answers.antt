@@ -1,4 +1,4 @@
-use Rattle.apd_conf.proofs.ConfLaws.{bssid-conf_at, conf_at-own, interface-conf_named, conf_named-own}
+use Rattle.apd_conf.proofs.ConfLaws.{bssid-conf_at, conf_at-own, interface-conf_named, conf_named-own, listed_at, listed_named, none_at, none_named}
 use Rattle.apd_conf.proofs.confs.look_up_laws.Goals as goal
 
 pub returns : goal.returns
@@ -7,4 +7,8 @@ returns c = record {
   own_bssid = conf_at-own;
   interface = interface-conf_named;
   own_interface = conf_named-own;
+  bssid_listed = listed_at;
+  interface_listed = listed_named;
+  no_bssid = none_at;
+  no_interface = none_named;
 }

@@ -1,0 +1,5 @@
+use Rattle.apd_conf.proofs.TableLaws.{rule-channel}
+use Rattle.apd_conf.proofs.fields.channel.Goals as goal
+
+pub number-requires-clause-rule : goal.number-requires-clause-rule
+number-requires-clause-rule c = rule-channel

@@ -1,0 +1,96 @@
+-- List files: each line adds an address to the list so far, or takes one away.
+use Rattle.std.specs.Prelude.{◌≡◌, ℕ, ◌+◌, ◌*◌, ◌==◌, ◌&&◌, ◌||◌, Bool, true, nat_lt, ◌≤◌, List, [], ◌∷◌, length, take, drop, map, fold, slice_get, slice_index, AllPairs, Option, Some, None, if◌then◌else◌}
+use Rattle.std.specs.List.{list_all}
+use Rattle.std.specs.Option.{option_map}
+use Rattle.std.specs.FinMap as finmap
+use Rattle.std.specs.declared.cmp.Ordering.TheVariants.{Less}
+use Rattle.apd_base.specs.Sets.{SetOf}
+use Rattle.apd_base.specs.Addr.{addr_cmp, byte_value}
+use Rattle.apd_base.specs.declared.address.Addr.{Addr}
+use Rattle.apd_conf.specs.declared.list_file.Edit.{Edit}
+use Rattle.apd_conf.specs.declared.list_file.Edit.TheVariants.{Skip, Add, Remove}
+use Rattle.apd_conf.specs.declared.list_fault.ListFault.{ListFault}
+use Rattle.apd_conf.specs.declared.list_fault.ListFault.TheVariants.{BadAddress, TooMany, NoMemory}
+use Rattle.apd_conf.specs.Lines.{is_skipped}
+use Rattle.apd_conf.specs.Faults.{IsFirstFault, IsFaultless}
+
+-- the byte of the pair of digits number i, and what stands behind that pair
+abbrev pub pair_at : List ℕ → ℕ → Option ℕ
+pair_at text i = byte_value (slice_index text (3 * i)) (slice_index text (3 * i + 1))
+
+abbrev pub is_joined_at : List ℕ → ℕ → Bool
+is_joined_at text i = slice_index text (3 * i + 2) == 58
+
+abbrev pub with_front : Option ℕ → Option (List ℕ) → Option (List ℕ)
+with_front (Some x) (Some xs) = Some (x ∷ xs)
+with_front (Some x) None = None
+with_front None xs = None
+
+-- all of them, if each is there
+abbrev pub all_of : List (Option ℕ) → Option (List ℕ)
+all_of [] = Some []
+all_of (x ∷ xs) = with_front x (all_of xs)
+
+abbrev pub is_joined : List ℕ → Bool
+is_joined text = list_all (is_joined_at text) (0 ∷ 1 ∷ 2 ∷ 3 ∷ 4 ∷ [])
+
+-- the address that a text is: six pairs of digits joined by ':'
+unfoldable pub address_of : List ℕ → Option Addr
+address_of text =
+    if length text == 17 && is_joined text
+    then option_map (λ bytes. record { 0 = bytes }) (all_of (map (pair_at text) (0 ∷ 1 ∷ 2 ∷ 3 ∷ 4 ∷ 5 ∷ [])))
+    else None
+
+-- the end, or a blank or a tab and anything
+abbrev pub is_end : List ℕ → Bool
+is_end [] = true
+is_end (b ∷ bs) = b == 32 || b == 9
+
+-- the address at the front of a text, and then the end
+abbrev pub address_at : List ℕ → Option Addr
+address_at text = if is_end (drop 17 text) then address_of (take 17 text) else None
+
+-- what a line does, if it is one of a list file: a '-' in front takes the address away
+unfoldable pub edit_of : List ℕ → Option Edit
+edit_of line =
+    if is_skipped line then Some Skip
+    else (if slice_index line 0 == 45 then option_map Remove (address_at (drop 1 line)) else option_map Add (address_at line))
+
+abbrev pub edited : SetOf addr_cmp → Option Edit → SetOf addr_cmp
+edited set None = set
+edited set (Some Skip) = set
+edited set (Some (Add a)) = finmap.insert set a tt
+edited set (Some (Remove a)) = finmap.remove set a
+
+-- the addresses after these lines, of none before them
+abbrev pub listed : List (List ℕ) → SetOf addr_cmp
+listed lines = fold (λ set line. edited set (edit_of line)) finmap.empty lines
+
+-- the fault of a line whose place is n, with the list after it: it does nothing that a line can do, or makes
+-- more than 1024 addresses
+abbrev pub fault_of : ℕ → Option Edit → SetOf addr_cmp → Option ListFault
+fault_of n None after = Some (BadAddress (n + 1))
+fault_of n (Some edit) after = if nat_lt 1024 (finmap.len after) then Some TooMany else None
+
+abbrev pub fault_by : ℕ → Option (List ℕ) → SetOf addr_cmp → Option ListFault
+fault_by n None after = None
+fault_by n (Some line) after = fault_of n (edit_of line) after
+
+abbrev pub fault_at : List (List ℕ) → ℕ → Option ListFault
+fault_at lines n = fault_by n (slice_get lines n) (listed (take (n + 1) lines))
+
+-- what is read where no line is faulty: the addresses in their order
+pub record IsListOf (lines : List (List ℕ)) (list : List Addr) : Type 0 where
+  pub faultless : IsFaultless (fault_at lines)
+  pub addresses : list ≡ finmap.keys (listed lines)
+
+-- what is told where one is, or memory runs out
+abbrev pub IsFaultOf : List (List ℕ) → ListFault → Type 0
+IsFaultOf lines (BadAddress n) = IsFirstFault (fault_at lines) (BadAddress n)
+IsFaultOf lines TooMany = IsFirstFault (fault_at lines) TooMany
+IsFaultOf lines NoMemory = Unit {0}
+
+-- what is read of every list file: at most 1024 addresses, each below those behind it
+pub record IsList (list : List Addr) : Type 0 where
+  pub few : length list ≤ 1024
+  pub rising : AllPairs (λ a b. addr_cmp a b ≡ Less) list

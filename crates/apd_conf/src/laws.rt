@@ -1,0 +1,25 @@
+//! What a file gives is settled by its lines, memory aside.
+ghost use Rattle.std.specs.Prelude.{◌≡◌, ◌≢◌, ℕ, List};
+ghost use Rattle.apd_base.specs.declared.address.Addr.{Addr as Address};
+ghost use Rattle.apd_conf.specs.declared.conf.Conf.{Conf as Configuration};
+ghost use Rattle.apd_conf.specs.declared.conf_fault.ConfFault.{ConfFault as Fault};
+ghost use Rattle.apd_conf.specs.declared.conf_fault.ConfFault.TheVariants as faults;
+ghost use Rattle.apd_conf.specs.declared.list_fault.ListFault.{ListFault as FaultOfList};
+ghost use Rattle.apd_conf.specs.declared.list_fault.ListFault.TheVariants as list_faults;
+ghost use Rattle.apd_conf.specs.ConfFile as confs;
+ghost use Rattle.apd_conf.specs.ListFile as lists;
+
+/// The lines of a configuration file give one configuration or one fault, and never both, unless memory
+/// runs out.
+pub fn conf_file_laws()
+    ensures one_conf { (lines : List (List ℕ)) (a b : Configuration) → confs.IsConfOf lines a → confs.IsConfOf lines b → a ≡ b }
+    ensures one_fault { (lines : List (List ℕ)) (a b : Fault) → confs.IsFaultOf lines a → confs.IsFaultOf lines b → a ≢ faults.NoMemory → b ≢ faults.NoMemory → a ≡ b }
+    ensures not_both { (lines : List (List ℕ)) (conf : Configuration) (fault : Fault) → confs.IsConfOf lines conf → confs.IsFaultOf lines fault → fault ≡ faults.NoMemory }
+{}
+
+/// The same of a list file.
+pub fn list_file_laws()
+    ensures one_list { (lines : List (List ℕ)) (a b : List Address) → lists.IsListOf lines a → lists.IsListOf lines b → a ≡ b }
+    ensures one_fault { (lines : List (List ℕ)) (a b : FaultOfList) → lists.IsFaultOf lines a → lists.IsFaultOf lines b → a ≢ list_faults.NoMemory → b ≢ list_faults.NoMemory → a ≡ b }
+    ensures not_both { (lines : List (List ℕ)) (list : List Address) (fault : FaultOfList) → lists.IsListOf lines list → lists.IsFaultOf lines fault → fault ≡ list_faults.NoMemory }
+{}
