@@ -1,0 +1,4 @@
+pub mod Growth
+pub mod Halves
+pub mod Once
+pub mod Parsing
