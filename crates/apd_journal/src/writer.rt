@@ -23,8 +23,8 @@ pub fn fits(place: usize, length: usize) -> bool
 /// The bytes of a batch's group as they are written behind its closed gate at this place: the length of
 /// its records, the records, and the next group's gate, closed. Want of memory is the only error.
 ///
-/// The length is written in four bytes: of a greater one, which fits no half, the lowest four bytes. A
-/// place at the end of the numbers is its own next one.
+/// The length has four bytes: of a greater one, which fits no half, they are the lowest four. A place at
+/// the end of the numbers is its own next one. It takes memory twice: for the records, and for all bytes.
 pub fn plan(alloc: Global, batch: &Batch, place: usize) -> Result<Plan, AllocError>
     ensures place { IfOk result (λ plan. plan.place ≡ min (place + 1) (2 ^ 64 - 1)) }
     ensures bytes { IfOk result (λ plan. plan.bytes ≡ planned_bytes batch.now.changes) }
