@@ -24,7 +24,7 @@ use Rattle.apd_record.proofs.Parts.{tag_of, bssid_of, body_of, record_parts, bss
 
 -- ---- fields
 
-same_aid : (x y : Aid) → x.number ≡ y.number → x ≡ y
+pub same_aid : (x y : Aid) → x.number ≡ y.number → x ≡ y
 same_aid x y e =
     let low = Σ_prop_path {B = λ n. (1 ≤ n) × (n ≤ 2007)} (λ n. ×_prop le_prop le_prop) {u = (x.number, (x.low, x.high))} {v = (y.number, (y.low, y.high))} e in
     ap (λ (p : (n : ℕ) × ((1 ≤ n) × (n ≤ 2007))). record { number = p.0; low = p.1.0; high = p.1.1 }) low

@@ -1,12 +1,12 @@
 //! From changes to their records.
-ghost use Rattle.std.specs.Prelude.{◌≡◌, ◌≤◌, ◌-◌, ◌^◌, ◌++◌, length, min, IfOk, OnOk};
+ghost use Rattle.std.specs.Prelude.{◌≡◌, ◌≤◌, ◌-◌, ◌^◌, ◌∷◌, ◌++◌, length, min, IfOk, OnOk};
 ghost use Rattle.apd_base.specs.State.{which_number};
 ghost use Rattle.apd_record.specs.Ranges.{AreChanges};
 ghost use Rattle.apd_record.specs.Record.{station_bytes, record_of, records_of};
 
 use crate::change::Change;
 use crate::known::known_changes;
-use apd_base::{Addr, Station, Which};
+use apd_base::{Addr, Bssid, Station, Which};
 use std::alloc::{AllocError, Global};
 
 /// The number of bytes of an address.
@@ -72,6 +72,29 @@ fn write_station(bytes: &mut Vec<u8>, station: &Station) -> Result<(), AllocErro
     }
 }
 
+/// What each record begins with: its tag and its BSSID.
+fn write_front(bytes: &mut Vec<u8>, tag: u8, bssid: Bssid) -> Result<(), AllocError>
+    ensures { OnOk result (bytes.new.items ≡ bytes.old.items ++ tag ∷ bssid.0.0) }
+{
+    bytes.push(tag)?;
+    bytes.extend_from_slice(&bssid.0.0)
+}
+
+/// The record of a row of a list: added with tag 3, taken away with tag 4.
+fn write_list_row(
+    bytes: &mut Vec<u8>,
+    tag: u8,
+    bssid: Bssid,
+    which: Which,
+    addr: Addr,
+) -> Result<(), AllocError>
+    ensures { OnOk result (bytes.new.items ≡ bytes.old.items ++ tag ∷ bssid.0.0 ++ which_number which ∷ addr.0) }
+{
+    write_front(bytes, tag, bssid)?;
+    bytes.push(number_of(which))?;
+    bytes.extend_from_slice(&addr.0)
+}
+
 fn write_record(bytes: &mut Vec<u8>, change: &Change) -> Result<(), AllocError>
     ensures { OnOk result (bytes.new.items ≡ bytes.old.items ++ record_of change.now) }
 {
@@ -81,41 +104,26 @@ fn write_record(bytes: &mut Vec<u8>, change: &Change) -> Result<(), AllocError>
             addr,
             station,
         } => {
-            bytes.push(1)?;
-            bytes.extend_from_slice(&bssid.0.0)?;
+            write_front(bytes, 1, *bssid)?;
             bytes.extend_from_slice(&addr.0)?;
-            write_station(bytes, station)?;
+            write_station(bytes, station)
         }
         Change::Drop { bssid, addr } => {
-            bytes.push(2)?;
-            bytes.extend_from_slice(&bssid.0.0)?;
-            bytes.extend_from_slice(&addr.0)?;
+            write_front(bytes, 2, *bssid)?;
+            bytes.extend_from_slice(&addr.0)
         }
-        Change::ListAdd { bssid, which, addr } => {
-            bytes.push(3)?;
-            bytes.extend_from_slice(&bssid.0.0)?;
-            bytes.push(number_of(*which))?;
-            bytes.extend_from_slice(&addr.0)?;
-        }
-        Change::ListDel { bssid, which, addr } => {
-            bytes.push(4)?;
-            bytes.extend_from_slice(&bssid.0.0)?;
-            bytes.push(number_of(*which))?;
-            bytes.extend_from_slice(&addr.0)?;
-        }
+        Change::ListAdd { bssid, which, addr } => write_list_row(bytes, 3, *bssid, *which, *addr),
+        Change::ListDel { bssid, which, addr } => write_list_row(bytes, 4, *bssid, *which, *addr),
         Change::ListClear { bssid, which } => {
-            bytes.push(5)?;
-            bytes.extend_from_slice(&bssid.0.0)?;
-            bytes.push(number_of(*which))?;
+            write_front(bytes, 5, *bssid)?;
+            Ok(bytes.push(number_of(*which))?)
         }
         Change::Policy { bssid, policy } => {
-            bytes.push(6)?;
-            bytes.extend_from_slice(&bssid.0.0)?;
+            write_front(bytes, 6, *bssid)?;
             bytes.push(policy.mode.number())?;
-            bytes.extend_from_slice(&policy.max.count.to_le_bytes())?;
+            bytes.extend_from_slice(&policy.max.count.to_le_bytes())
         }
     }
-    Ok(())
 }
 
 /// The records of changes, one behind another, or want of memory. It takes memory once, before the

@@ -100,7 +100,7 @@ pub drops_policies : (b : Bssid) (as' : List Addr) (s : State) → (meaning_of (
 drops_policies b [] s = refl
 drops_policies b (a ∷ as') s = drops_policies b as' (drop_station b a s)
 
-one_key : (r q : Ordering) → is_eq (ordering_then r q) ≡ (is_eq r && is_eq q)
+pub one_key : (r q : Ordering) → is_eq (ordering_then r q) ≡ (is_eq r && is_eq q)
 one_key Less q = refl
 one_key Equal q = refl
 one_key Greater q = refl

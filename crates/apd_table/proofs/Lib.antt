@@ -12,4 +12,4 @@ mod ListCounts
 mod ListSets
 pub mod PolicySet
 pub mod Put
-mod Takens
+pub mod Takens

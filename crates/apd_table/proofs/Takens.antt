@@ -19,7 +19,7 @@ both_ways : (t : Bool) → t ≡ false → t ≡ true → ⊥
 both_ways t f h = cc
 
 module _ (s : State) (b : Bssid) where
-  abbrev marked : ℕ → Bool
+  abbrev pub marked : ℕ → Bool
   marked i = list_any (has_aid b i) (map.entries s.stations)
 
   taken_from : (i : ℕ) (k : Bssid × Addr) (v : Station) → map.get s.stations k ≡ Some v → has_aid b i (k, v) ≡ true → IsTaken s b i
@@ -31,10 +31,10 @@ module _ (s : State) (b : Bssid) where
         | inr ne ↦ absurd (both_ways _ ne parts.0)
       ]
 
-  taken_of : (i : ℕ) → marked i ≡ true → IsTaken s b i
+  pub taken_of : (i : ℕ) → marked i ≡ true → IsTaken s b i
   taken_of i e = (let found = any_passes station_total station_exact (has_aid b i) s.stations e in taken_from i found.0 found.1 found.2 found.3)
 
-  free_of : (i : ℕ) → marked i ≡ false → (a : Addr) → aid_at s b a ≢ Some i
+  pub free_of : (i : ℕ) → marked i ≡ false → (a : Addr) → aid_at s b a ≢ Some i
   free_of i none a h =
       let x = aid_from (station_at s b a) i h in
       let test : has_aid b i ((b, a), Associated x.0) ≡ true = λ j. tied bssid_total bssid_exact b j && eq-eqb (x.0).aid.number i x.2 j in
