@@ -1,0 +1,178 @@
+-- The current half of a store's bytes.
+use Rattle.std.proofs.Common.{◌≡◌, ◌<◌, ◌↔◌, ◌^◌, ◌-◌, ◌⊎◌, inr, ⊎_elim, ℕ, IsTrue, nat_lt, true, List, ◌∷◌, ◌++◌, length, take, drop, refl, sym, ◌∙◌, ap, subst, arith, length-drop, take-append-drop}
+use Rattle.std.proofs.lemmas.List.{drop-drop, length-take-le, take_rest}
+use Rattle.std.specs.Prelude.{Result, Ok, Err, IfOk, OnErr}
+use Rattle.std.proofs.lemmas.Bool.{lt-ltb, ltb-true}
+use Rattle.std.specs.Int.{to_le_bytes, w64}
+use Rattle.apd_base.specs.State.{State, empty_state}
+use Rattle.apd_record.specs.Meaning.{meaning_of}
+use Rattle.apd_record.specs.declared.change.Change.{Change}
+use Rattle.apd_table.specs.Sound.{StaySound}
+use Rattle.apd_journal.specs.Half.{HalfHolds}
+use Rattle.apd_journal.proofs.Once.{half_once}
+use Rattle.apd_journal.specs.declared.writer.TheConstants.{HALF_LENGTH}
+use Rattle.apd_store.specs.Image.{magic, IsStore, IsOpen, IsBehind, HalfShows, IsCurrent, ShowsNone, IsMarked}
+use Rattle.apd_store.specs.Layout.{IsFound}
+use Rattle.apd_store.specs.declared.half.Half.{Half}
+use Rattle.apd_store.specs.declared.half.Half.TheVariants.{A, B}
+use Rattle.apd_store.specs.declared.fault.StoreFault.{StoreFault}
+use Rattle.apd_store.specs.declared.fault.StoreFault.TheVariants.{NotAStore, Damaged, NoMemory}
+use Rattle.apd_store.specs.declared.reading.Found.{Found}
+use Rattle.apd_store.proofs.Unique.{holds_open, open_once, shown_current}
+
+abbrev pub HasCurrent : List ℕ → List ℕ → Type 0
+HasCurrent half other = (epoch : ℕ) × IsOpen half epoch × IsBehind other epoch
+
+-- the epoch behind an open gate
+pub opens : (half behind : List ℕ) (epoch : ℕ) → half ≡ 1 ∷ (to_le_bytes w64 epoch ++ behind) → epoch < 2 ^ 64 → IsOpen half epoch
+opens half behind epoch is fits = record { behind = behind; is = is; epoch_fits = fits }
+
+abbrev pub IsShut : List ℕ → Type 0
+IsShut half = (epoch : ℕ) (rest : List ℕ) → half ≡ 1 ∷ (to_le_bytes w64 epoch ++ rest) → ⊥
+
+pub both_open : (half other : List ℕ) (e f : ℕ) → IsOpen half e → IsOpen other f → IsTrue (nat_lt f e) ↔ HasCurrent half other
+both_open half other e f first second = (
+  λ less. (e, first, λ g third. subst (λ (n : ℕ). n < e) (open_once other f g second third) (ltb-true f e less)),
+  λ current. lt-ltb f e (subst (λ (n : ℕ). f < n) (open_once half current.0 e current.1 first) (current.2 f second)),
+)
+
+pub other_shut : (half other : List ℕ) (e : ℕ) → IsOpen half e → IsShut other → IsTrue true ↔ HasCurrent half other
+other_shut half other e first shut = (λ _. (e, first, λ g third. absurd (shut g third.behind third.is)), λ _. refl)
+
+-- a half whose changes leave an unsound state shows none
+pub unsound : (half : List ℕ) (epoch place : ℕ) (changes : List Change) → HalfHolds half epoch changes place → ¬ StaySound changes empty_state → (e gate : ℕ) (state : State) → HalfShows half e gate state → ⊥
+unsound half epoch place changes holds bad e gate state x =
+    bad (subst (λ (l : List Change). StaySound l empty_state) (half_once half e epoch x.changes changes gate place x.holds holds).1 x.sound)
+
+pub shows : (half : List ℕ) (epoch place : ℕ) (changes : List Change) (state : State) → HalfHolds half epoch changes place → state ≡ meaning_of changes empty_state → StaySound changes empty_state → (e : ℕ) × HalfShows half e place state
+shows half epoch place changes state holds is sound = (epoch, record { changes = changes; holds = holds; sound = sound; state_is = sym is })
+
+-- ---- an image by its bytes
+
+module _ (image : List ℕ) (marked : IsMarked image) where
+  abbrev reserved : List ℕ
+  reserved = take 56 (drop 8 image)
+
+  abbrev half_a : List ℕ
+  half_a = take HALF_LENGTH (drop 64 image)
+
+  abbrev half_b : List ℕ
+  half_b = drop HALF_LENGTH (drop 64 image)
+
+  image_is : image ≡ magic ++ (reserved ++ (half_a ++ half_b))
+  image_is =
+      sym (take-append-drop 8 image) ∙ ap (λ (l : List ℕ). l ++ drop 8 image) marked.1
+      ∙ ap (λ (l : List ℕ). magic ++ l) (sym (take-append-drop 56 (drop 8 image))
+      ∙ ap (λ (l : List ℕ). take 56 (drop 8 image) ++ l) (drop-drop 56 8 image ∙ sym (take-append-drop HALF_LENGTH (drop 64 image))))
+
+  reserved_length : length reserved ≡ 56
+  reserved_length = length-take-le 56 (drop 8 image) (omega (arith, length-drop 8 image, marked.0))
+
+  a_length : length half_a ≡ HALF_LENGTH
+  a_length = length-take-le HALF_LENGTH (drop 64 image) (omega (arith, length-drop 64 image, marked.0))
+
+  b_length : length half_b ≡ HALF_LENGTH
+  b_length = omega (arith, length-drop HALF_LENGTH (drop 64 image), length-drop 64 image, marked.0)
+
+  store : IsStore image half_a half_b
+  store = record { reserved = reserved; is = image_is; reserved_length = reserved_length; a_length = a_length; b_length = b_length }
+
+  abbrev pub HoldsNone : List ℕ → Type 0
+  HoldsNone half = (epoch gate : ℕ) (state : State) → HalfShows half epoch gate state → ⊥
+
+  shows_none : ((gate : ℕ) (state : State) → IsCurrent half_a half_b gate state → ⊥) → ((gate : ℕ) (state : State) → IsCurrent half_b half_a gate state → ⊥) → ShowsNone image
+  shows_none not_a not_b state shows = ⊎_elim (not_a shows.gate state) (not_b shows.gate state) (shown_current image half_a half_b state store shows)
+
+  not_current : (half other : List ℕ) → (HasCurrent half other → ⊥) → (gate : ℕ) (state : State) → IsCurrent half other gate state → ⊥
+  not_current half other none gate state x = none (x.epoch, holds_open half x.epoch x.shows.changes gate x.shows.holds, x.behind)
+
+  -- neither half is the current one
+  pub none_current : (HasCurrent half_a half_b → ⊥) → (HasCurrent half_b half_a → ⊥) → ShowsNone image
+  none_current no_a no_b = shows_none (not_current half_a half_b no_a) (not_current half_b half_a no_b)
+
+  not_behind : (half other : List ℕ) → HasCurrent half other → (gate : ℕ) (state : State) → IsCurrent other half gate state → ⊥
+  not_behind half other current gate state x =
+      let open_other = holds_open other x.epoch x.shows.changes gate x.shows.holds in
+      absurd (omega (arith, current.2 x.epoch open_other, x.behind current.0 current.1))
+
+  -- the current half shows no state
+  pub damaged_a : HasCurrent half_a half_b → HoldsNone half_a → ShowsNone image
+  damaged_a current none = shows_none (λ gate state x. none x.epoch gate state x.shows) (not_behind half_a half_b current)
+
+  pub damaged_b : HasCurrent half_b half_a → HoldsNone half_b → ShowsNone image
+  damaged_b current none = shows_none (not_behind half_b half_a current) (λ gate state x. none x.epoch gate state x.shows)
+
+  -- it shows one
+  current_of : (half other : List ℕ) (gate : ℕ) (state : State) → HasCurrent half other → (epoch : ℕ) × HalfShows half epoch gate state → IsCurrent half other gate state
+  current_of half other gate state current found =
+      let same : current.0 ≡ found.0 = open_once half current.0 found.0 current.1 (holds_open half found.0 found.1.changes gate found.1.holds) in
+      record { epoch = found.0; shows = found.1; behind = subst (IsBehind other) same current.2 }
+
+  pub found_a : (gate : ℕ) (state : State) → HasCurrent half_a half_b → (epoch : ℕ) × HalfShows half_a epoch gate state → IsFound image A gate state
+  found_a gate state current found = record {
+    reserved = reserved;
+    half = half_a;
+    other = half_b;
+    parts = record { reserved_length = reserved_length; half_length = a_length; other_length = b_length };
+    is = image_is;
+    current = current_of half_a half_b gate state current found;
+  }
+
+  pub found_b : (gate : ℕ) (state : State) → HasCurrent half_b half_a → (epoch : ℕ) × HalfShows half_b epoch gate state → IsFound image B gate state
+  found_b gate state current found = record {
+    reserved = reserved;
+    half = half_b;
+    other = half_a;
+    parts = record { reserved_length = reserved_length; half_length = b_length; other_length = a_length };
+    is = image_is;
+    current = current_of half_b half_a gate state current found;
+  }
+
+  -- ---- what was read of the halves, as the code has them
+  module _ (a b : List ℕ) (a_is : a ≡ half_a) (b_is : b ≡ half_b) (r : Result Found StoreFault) where
+    at_halves : (P : List ℕ → List ℕ → Type 0) → P a b → P half_a half_b
+    at_halves P p = subst (λ (l : List ℕ). P l half_b) a_is (subst (λ (l : List ℕ). P a l) b_is p)
+
+    ok_found_a : (r : Result Found StoreFault) → HasCurrent half_a half_b → IfOk r (λ f. f.half ≡ A) → IfOk r (λ f. (e : ℕ) × HalfShows half_a e f.gate f.table) → IfOk r (λ f. IsFound image f.half f.gate f.table)
+    ok_found_a (Ok f) current side shown = subst (λ (h : Half). IsFound image h f.gate f.table) (sym side) (found_a f.gate f.table current shown)
+    ok_found_a (Err e) current side shown = tt
+
+    ok_found_b : (r : Result Found StoreFault) → HasCurrent half_b half_a → IfOk r (λ f. f.half ≡ B) → IfOk r (λ f. (e : ℕ) × HalfShows half_b e f.gate f.table) → IfOk r (λ f. IsFound image f.half f.gate f.table)
+    ok_found_b (Ok f) current side shown = subst (λ (h : Half). IsFound image h f.gate f.table) (sym side) (found_b f.gate f.table current shown)
+    ok_found_b (Err e) current side shown = tt
+
+    pub read_a : HasCurrent a b → IfOk r (λ f. f.half ≡ A) → IfOk r (λ f. (e : ℕ) × HalfShows a e f.gate f.table) → IfOk r (λ f. IsFound image f.half f.gate f.table)
+    read_a current side shown = ok_found_a r (at_halves HasCurrent current) side (subst (λ (l : List ℕ). IfOk r (λ f. (e : ℕ) × HalfShows l e f.gate f.table)) a_is shown)
+
+    pub read_b : HasCurrent b a → IfOk r (λ f. f.half ≡ B) → IfOk r (λ f. (e : ℕ) × HalfShows b e f.gate f.table) → IfOk r (λ f. IsFound image f.half f.gate f.table)
+    read_b current side shown = ok_found_b r (at_halves (λ (x y : List ℕ). HasCurrent y x) current) side (subst (λ (l : List ℕ). IfOk r (λ f. (e : ℕ) × HalfShows l e f.gate f.table)) b_is shown)
+
+    pub damaged_first : HasCurrent a b → HoldsNone a → ShowsNone image
+    damaged_first current none = damaged_a (at_halves HasCurrent current) (subst HoldsNone a_is none)
+
+    pub damaged_second : HasCurrent b a → HoldsNone b → ShowsNone image
+    damaged_second current none = damaged_b (at_halves (λ (x y : List ℕ). HasCurrent y x) current) (subst HoldsNone b_is none)
+
+    pub damaged_both : (HasCurrent a b → ⊥) → (HasCurrent b a → ⊥) → ShowsNone image
+    damaged_both no_a no_b = none_current (at_halves (λ (x y : List ℕ). HasCurrent x y → ⊥) no_a) (at_halves (λ (x y : List ℕ). HasCurrent y x → ⊥) no_b)
+
+    not_marked : (r : Result Found StoreFault) → OnErr r ((r ≡ Err Damaged) ⊎ (r ≡ Err NoMemory)) → r ≡ Err NotAStore → ⊥
+    not_marked (Ok f) only is = cc
+    not_marked (Err e) only is = ⊎_elim (λ d. let x : Err Damaged ≡ Err NotAStore = sym d ∙ is in cc) (λ d. let x : Err NoMemory ≡ Err NotAStore = sym d ∙ is in cc) only
+
+    more : (r : Result Found StoreFault) → OnErr r ((r ≡ Err Damaged) ⊎ (r ≡ Err NoMemory)) → OnErr r ((r ≡ Err NotAStore) ⊎ (r ≡ Err Damaged) ⊎ (r ≡ Err NoMemory))
+    more (Ok f) only = tt
+    more (Err e) only = inr only
+
+    pub is_a_store : OnErr r ((r ≡ Err Damaged) ⊎ (r ≡ Err NoMemory)) → r ≡ Err NotAStore → ⊥
+    is_a_store = not_marked r
+
+    pub among_three : OnErr r ((r ≡ Err Damaged) ⊎ (r ≡ Err NoMemory)) → OnErr r ((r ≡ Err NotAStore) ⊎ (r ≡ Err Damaged) ⊎ (r ≡ Err NoMemory))
+    among_three = more r
+
+-- the halves as slices of the bytes
+pub slice_a : (image front : List ℕ) → front ≡ take HALF_LENGTH (take (length image - 64) (drop 64 image)) → front ≡ take HALF_LENGTH (drop 64 image)
+slice_a image front is = is ∙ ap (λ (l : List ℕ). take HALF_LENGTH l) (take_rest image 64)
+
+pub slice_b : (image back : List ℕ) → back ≡ drop HALF_LENGTH (take (length image - 64) (drop 64 image)) → back ≡ drop HALF_LENGTH (drop 64 image)
+slice_b image back is = is ∙ ap (λ (l : List ℕ). drop HALF_LENGTH l) (take_rest image 64)

@@ -1,0 +1,7 @@
+mod Current
+mod Found
+mod Heads
+mod Parts
+mod Replayed
+mod Steps
+mod Unique

@@ -1,0 +1,190 @@
+-- What a stop within each call of a batch shows.
+use Rattle.std.proofs.Common.{◌≡◌, ◌≢◌, ◌≤◌, ◌+◌, inl, inr, ⊎_elim, ℕ, Bool, IsTrue, List, [], ◌∷◌, length, get_or, refl, sym, ◌∙◌, ap, subst, arith}
+use Rattle.std.specs.Prelude.{◌↔◌, Result, Ok, Err, OnOk, IfOk, IsOk, MatchResult}
+use Rattle.std.proofs.lemmas.Bool.{cases_eq}
+use Rattle.apd_base.specs.State.{State}
+use Rattle.apd_record.specs.Record.{records_of}
+use Rattle.apd_record.specs.declared.change.Change.{Change}
+use Rattle.apd_disk.specs.Disk.{overwritten, TornWithin, Only, Follows}
+use Rattle.apd_journal.specs.Half.{planned_bytes}
+use Rattle.apd_disk.specs.declared.fault.DiskFault.{DiskFault}
+use Rattle.apd_store.specs.Image.{IsCurrent, Shows}
+use Rattle.apd_store.specs.Layout.{start_of, image_of, AreParts, IsFound}
+use Rattle.apd_store.specs.Phases.{made}
+use Rattle.apd_store.specs.Commit.{laid, opened, AreTorn, AtPhase, IsIdle, IsCommitting, MayShow}
+use Rattle.apd_store.specs.declared.fault.StoreFault.{StoreFault}
+use Rattle.apd_store.specs.declared.fault.StoreFault.TheVariants.{Device}
+use Rattle.apd_store.specs.declared.half.Half.{Half}
+use Rattle.apd_journal.proofs.Growth.{length-planned}
+use Rattle.apd_store.specs.declared.phase.Phase.{Phase}
+use Rattle.apd_store.specs.declared.phase.Phase.TheVariants.{Idle, WriteGroup, SyncGroup, OpenGate, SyncGate, Done, Failed}
+use Rattle.apd_store.specs.declared.store.Store.{Store}
+use Rattle.apd_store.proofs.Parts.{written_in_half, torn_in_half}
+use Rattle.apd_store.proofs.Current.{image_shows, found_shows, same_parts, current_behind, laid_fits, laid_length, laid_current, opened_length, opened_current, torn_gate, gate_before_end}
+
+pub idle_shows : {D : Type 0} (reads : D → List ℕ) (may_leave : D → List ℕ → Type 0) (store : Store D) (state : State) → IsIdle reads may_leave store state → (c : List ℕ) → may_leave store.device c → Shows c state
+idle_shows reads may_leave store state s c left = subst (λ (l : List ℕ). Shows l state) (sym (s.durable c left)) (found_shows (reads store.device) store.half store.gate state s.found)
+
+module _ {D : Type 0} (reads : D → List ℕ) (may_leave : D → List ℕ → Type 0) (store : Store D) (state after : State) (s : IsCommitting reads may_leave store state after) where
+  abbrev group : List Change
+  group = store.batch.changes
+
+  abbrev image : List ℕ → List ℕ
+  image h = image_of store.half s.reserved h s.other
+
+  room : store.gate + length (records_of group) + 6 ≤ length s.half
+  room = omega (arith, s.room, s.parts.half_length)
+
+  -- ---- the halves on the way
+
+  before_is : IsCurrent s.half s.other store.gate state
+  before_is = s.current
+
+  shows_half : (h : List ℕ) (gate : ℕ) (now : State) → length h ≡ length s.half → IsCurrent h s.other gate now → Shows (image_of store.half s.reserved h s.other) now
+  shows_half h gate now same current = image_shows store.half s.reserved h s.other gate now (same_parts s.reserved s.half h s.other s.parts same) current
+
+  torn_group_shows : (h : List ℕ) → TornWithin (store.gate + 1) (length (planned_bytes group)) s.half h → Shows (image_of store.half s.reserved h s.other) state
+  torn_group_shows h torn = shows_half h store.gate state torn.same_length (current_behind s.half s.other store.gate state s.current h torn.before)
+
+  laid_shows : Shows (image_of store.half s.reserved (laid s.half store.gate group) s.other) state
+  laid_shows = shows_half (laid s.half store.gate group) store.gate state (laid_length s.half s.other store.gate state s.current group after s.group s.sound s.after_is room) (laid_current s.half s.other store.gate state s.current group after s.group s.sound s.after_is room)
+
+  opened_shows : Shows (image_of store.half s.reserved (opened s.half store.gate group) s.other) after
+  opened_shows = shows_half (opened s.half store.gate group) (store.gate + 5 + length (records_of group)) after (opened_length s.half s.other store.gate state s.current group after s.group s.sound s.after_is room) (opened_current s.half s.other store.gate state s.current group after s.group s.sound s.after_is room)
+
+  torn_gate_shows : (calls : ℕ) → 2 ≤ calls → (h : List ℕ) → TornWithin store.gate 1 (laid s.half store.gate group) h → MayShow calls state after (image_of store.half s.reserved h s.other)
+  torn_gate_shows calls late h torn = ⊎_elim
+      (λ is. inr (late, subst (λ (l : List ℕ). Shows (image_of store.half s.reserved l s.other) after) (sym is) opened_shows))
+      (λ current. inl (shows_half h store.gate state (torn.same_length ∙ laid_length s.half s.other store.gate state s.current group after s.group s.sound s.after_is room) current))
+      (torn_gate s.half s.other store.gate state s.current group after s.group s.sound s.after_is room h torn (cases_eq (get_or h store.gate 0) 1))
+
+  -- ---- the calls
+
+  abbrev At : Phase → Type 0
+  At phase = AtPhase phase store.half s.reserved s.half s.other store.gate group (reads store.device) (may_leave store.device)
+
+  pub at_phase : (phase : Phase) → store.phase ≡ phase → AtPhase phase store.half s.reserved s.half s.other store.gate store.batch.changes (reads store.device) (may_leave store.device)
+  at_phase phase is = subst (λ (p : Phase). AtPhase p store.half s.reserved s.half s.other store.gate store.batch.changes (reads store.device) (may_leave store.device)) is s.at
+
+  group_fits : (store.gate + 1) + length (planned_bytes group) ≤ length s.half
+  group_fits = laid_fits s.half s.other store.gate state s.current group after s.group s.sound s.after_is room
+
+  module _ (at : ℕ) (bytes : List ℕ) (at_is : at ≡ start_of store.half + store.plan.place) (bytes_are : bytes ≡ store.plan.bytes) where
+    place_is : at ≡ start_of store.half + (store.gate + 1)
+    place_is = at_is ∙ ap (λ (n : ℕ). start_of store.half + n) s.place
+
+    planned : bytes ≡ planned_bytes group
+    planned = bytes_are ∙ s.bytes
+
+    pub write_images : store.phase ≡ WriteGroup → (during : List ℕ → Type 0) → Follows (TornWithin at (length bytes)) (may_leave store.device) during → AreTorn store.half s.reserved s.half s.other (store.gate + 1) (length (planned_bytes store.batch.changes)) during
+    write_images is during follows c left =
+        let from = follows c left in
+        let d_is : from.0 ≡ image_of store.half s.reserved s.half s.other = (at_phase WriteGroup is).1 from.0 from.1 ∙ (at_phase WriteGroup is).0 in
+        torn_in_half s.reserved s.half s.other s.parts (store.gate + 1) (length (planned_bytes group)) group_fits store.half c
+        (subst (λ (l : List ℕ). TornWithin (start_of store.half + (store.gate + 1)) (length l) (image_of store.half s.reserved s.half s.other) c) planned
+        (subst (λ (n : ℕ). TornWithin n (length bytes) (image_of store.half s.reserved s.half s.other) c) place_is
+        (subst (λ (l : List ℕ). TornWithin at (length bytes) l c) d_is from.2)))
+
+    pub write_reads : store.phase ≡ WriteGroup → (now : List ℕ) → now ≡ overwritten (reads store.device) at bytes → now ≡ image_of store.half s.reserved (laid s.half store.gate store.batch.changes) s.other
+    write_reads is now written =
+        written ∙ (λ i. overwritten ((at_phase WriteGroup is).0 i) (place_is i) (planned i))
+        ∙ written_in_half s.reserved s.half s.other s.parts (store.gate + 1) (length (planned_bytes group)) group_fits store.half (planned_bytes group) refl
+
+    pub during_write : store.phase ≡ WriteGroup → (during : List ℕ → Type 0) → Follows (TornWithin at (length bytes)) (may_leave store.device) during → (c : List ℕ) → during c → MayShow (made store.phase) state after c
+    during_write is during follows c left =
+        let found = write_images is during follows c left in
+        inl (subst (λ (l : List ℕ). Shows l state) (sym found.2) (torn_group_shows found.0 found.1))
+
+  module _ (at : ℕ) (at_is : at ≡ start_of store.half + store.gate) where
+    laid_parts : AreParts s.reserved (laid s.half store.gate group) s.other
+    laid_parts = same_parts s.reserved s.half (laid s.half store.gate group) s.other s.parts (laid_length s.half s.other store.gate state s.current group after s.group s.sound s.after_is room)
+
+    gate_fits : store.gate + 1 ≤ length (laid s.half store.gate group)
+    gate_fits = omega (arith, gate_before_end s.half s.other store.gate state s.current, laid_length s.half s.other store.gate state s.current group after s.group s.sound s.after_is room)
+
+    pub gate_images : store.phase ≡ OpenGate → (during : List ℕ → Type 0) → Follows (TornWithin at 1) (may_leave store.device) during → AreTorn store.half s.reserved (laid s.half store.gate store.batch.changes) s.other store.gate 1 during
+    gate_images is during follows c left =
+        let from = follows c left in
+        let d_is : from.0 ≡ image_of store.half s.reserved (laid s.half store.gate group) s.other = (at_phase OpenGate is).1 from.0 from.1 ∙ (at_phase OpenGate is).0 in
+        torn_in_half s.reserved (laid s.half store.gate group) s.other laid_parts store.gate 1 gate_fits store.half c
+        (subst (λ (n : ℕ). TornWithin n 1 (image_of store.half s.reserved (laid s.half store.gate group) s.other) c) at_is
+        (subst (λ (l : List ℕ). TornWithin at 1 l c) d_is from.2))
+
+    pub gate_reads : store.phase ≡ OpenGate → (now : List ℕ) → now ≡ overwritten (reads store.device) at (1 ∷ []) → now ≡ image_of store.half s.reserved (opened s.half store.gate store.batch.changes) s.other
+    gate_reads is now written =
+        written ∙ (λ i. overwritten ((at_phase OpenGate is).0 i) (at_is i) (1 ∷ []))
+        ∙ written_in_half s.reserved (laid s.half store.gate group) s.other laid_parts store.gate 1 gate_fits store.half (1 ∷ []) refl
+
+    pub during_gate : store.phase ≡ OpenGate → (during : List ℕ → Type 0) → Follows (TornWithin at 1) (may_leave store.device) during → (c : List ℕ) → during c → MayShow (made store.phase) state after c
+    during_gate is during follows c left =
+        let found = gate_images is during follows c left in
+        subst (MayShow (made store.phase) state after) (sym found.2) (torn_gate_shows (made store.phase) (subst (λ (p : Phase). 2 ≤ made p) (sym is) (omega arith)) found.0 found.1)
+
+  -- what a stop now shows, when this call is next
+  shows_at : (phase : Phase) → AtPhase phase store.half s.reserved s.half s.other store.gate store.batch.changes (reads store.device) (may_leave store.device) → (c : List ℕ) → may_leave store.device c → MayShow (made phase) state after c
+  shows_at WriteGroup (is, only) c left = inl (subst (λ (l : List ℕ). Shows l state) (sym (only c left ∙ is)) (shows_half s.half store.gate state refl s.current))
+  shows_at SyncGroup (is, torn) c left = let found = torn c left in inl (subst (λ (l : List ℕ). Shows l state) (sym found.2) (torn_group_shows found.0 found.1))
+  shows_at OpenGate (is, only) c left = inl (subst (λ (l : List ℕ). Shows l state) (sym (only c left ∙ is)) laid_shows)
+  shows_at SyncGate (is, torn) c left = let found = torn c left in subst (MayShow 3 state after) (sym found.2) (torn_gate_shows 3 (omega arith) found.0 found.1)
+  shows_at Done (is, only) c left = inr (omega arith, subst (λ (l : List ℕ). Shows l after) (sym (only c left ∙ is)) opened_shows)
+  shows_at Idle at c left = absurd at
+  shows_at Failed at c left = absurd at
+
+  pub now_shows : (c : List ℕ) → may_leave store.device c → MayShow (made store.phase) state after c
+  now_shows c left = shows_at store.phase s.at c left
+
+  pub done_shows : store.phase ≡ Done → (c : List ℕ) → may_leave store.device c → Shows c after
+  done_shows is c left = subst (λ (l : List ℕ). Shows l after) (sym ((at_phase Done is).1 c left ∙ (at_phase Done is).0)) opened_shows
+
+  -- the batch goes on, over another device in another phase
+  pub moves : (device : D) (phase : Phase) → AtPhase phase store.half s.reserved s.half s.other store.gate store.batch.changes (reads device) (may_leave device)
+      → IsCommitting reads may_leave (record store { device = device; phase = phase }) state after
+  moves device phase at = record {
+    reserved = s.reserved;
+    half = s.half;
+    other = s.other;
+    parts = s.parts;
+    current = s.current;
+    group = s.group;
+    sound = s.sound;
+    after_is = s.after_is;
+    room = s.room;
+    place = s.place;
+    bytes = s.bytes;
+    at = at;
+  }
+
+  -- the receipt is taken
+  pub settles : (now : Store D) → store.phase ≡ Done → now.device ≡ store.device → now.half ≡ store.half → now.gate ≡ store.gate + length store.plan.bytes → now.phase ≡ Idle → IsIdle reads may_leave now after
+  settles now is device half gate phase =
+      let here = at_phase Done is in
+      let longer : store.gate + 5 + length (records_of group) ≡ now.gate = omega (arith, gate, ap length s.bytes, length-planned group) in
+      let found : IsFound (reads store.device) store.half now.gate after = record {
+        reserved = s.reserved;
+        half = opened s.half store.gate group;
+        other = s.other;
+        parts = same_parts s.reserved s.half (opened s.half store.gate group) s.other s.parts (opened_length s.half s.other store.gate state s.current group after s.group s.sound s.after_is room);
+        is = here.0;
+        current = subst (λ (n : ℕ). IsCurrent (opened s.half store.gate group) s.other n after) longer (opened_current s.half s.other store.gate state s.current group after s.group s.sound s.after_is room);
+      } in
+      record {
+        found = subst (λ (h : Half). IsFound (reads now.device) h now.gate after) (sym half) (subst (λ (d : D). IsFound (reads d) store.half now.gate after) (sym device) found);
+        durable = subst (λ (d : D). Only (reads d) (may_leave d)) (sym device) here.1;
+        phase = phase;
+      }
+
+-- what `moved` ensures
+abbrev pub Moved : Result (Unit {0}) DiskFault → Phase → Phase → Result Bool StoreFault → Type 0
+Moved done next phase result = MatchResult done (λ _. (phase ≡ next) × IfOk result (λ more. IsTrue more ↔ (next ≢ Done)) × IsOk result) (λ _. (phase ≡ Failed) × (result ≡ Err Device))
+
+on_ok : (result : Result Bool StoreFault) (Q : Type 0) → Q → OnOk result Q
+on_ok (Ok b) Q q = q
+on_ok (Err e) Q q = tt
+
+pub moved_on : (done : Result (Unit {0}) DiskFault) (next phase : Phase) (result : Result Bool StoreFault) (A : Type 0) (P : Phase → Type 0) → Moved done next phase result → OnOk done A → (A → P next) → OnOk result (P phase)
+moved_on (Ok u) next phase result A P moved a go = on_ok result (P phase) (subst P (sym moved.0) (go a))
+moved_on (Err e) next phase result A P moved a go = subst (λ (r : Result Bool StoreFault). OnOk r (P phase)) (sym moved.1) tt
+
+pub both : (done : Result (Unit {0}) DiskFault) (A B : Type 0) → OnOk done A → OnOk done B → OnOk done (A × B)
+both (Ok u) A B a b = (a, b)
+both (Err e) A B a b = tt

@@ -1,0 +1,68 @@
+-- An image shows one state at most.
+use Rattle.std.proofs.Common.{◌≡◌, ◌⊎◌, ⊎_elim, ℕ, List, ◌∷◌, ◌++◌, take, drop, sym, ◌∙◌, ap, subst, arith, length-append}
+use Rattle.std.proofs.lemmas.List.{append_assoc, take_at, drop_at}
+use Rattle.std.proofs.lemmas.Nat.{from_le_bytes-to_le_bytes_8}
+use Rattle.std.specs.Int.{from_le_bytes, w64}
+use Rattle.apd_base.specs.State.{State, empty_state}
+use Rattle.apd_record.specs.Meaning.{meaning_of}
+use Rattle.apd_record.specs.declared.change.Change.{Change}
+use Rattle.apd_journal.specs.Half.{HalfHolds, block_of, groups_of}
+use Rattle.apd_journal.specs.declared.writer.TheConstants.{HALF_LENGTH}
+use Rattle.apd_journal.proofs.Once.{front_split, half_once}
+use Rattle.apd_store.specs.Image.{magic, IsStore, IsOpen, HalfShows, IsCurrent, Shows}
+
+-- a half that holds changes is open
+pub holds_open : (half : List ℕ) (epoch : ℕ) (changes : List Change) (place : ℕ) → HalfHolds half epoch changes place → IsOpen half epoch
+holds_open half epoch changes place h =
+    let f = h.is_front in
+    let tail = h.gate ∷ h.behind in
+    record {
+      behind = block_of f.snapshot ++ (groups_of f.groups ++ tail);
+      is = h.is ∙ ap (λ (l : List ℕ). l ++ tail) f.is ∙ front_split epoch f.snapshot f.groups tail;
+      epoch_fits = f.epoch_fits;
+    }
+
+-- and has one epoch
+pub open_once : (half : List ℕ) (e f : ℕ) → IsOpen half e → IsOpen half f → e ≡ f
+open_once half e f x y =
+    sym (from_le_bytes-to_le_bytes_8 e x.epoch_fits) ∙ ap (λ (l : List ℕ). from_le_bytes w64 (drop 1 l)) (sym x.is ∙ y.is) ∙ from_le_bytes-to_le_bytes_8 f y.epoch_fits
+
+pub half_shows_once : (half : List ℕ) (e f p q : ℕ) (s t : State) → HalfShows half e p s → HalfShows half f q t → s ≡ t
+half_shows_once half e f p q s t x y =
+    sym x.state_is ∙ ap (λ (l : List Change). meaning_of l empty_state) (half_once half e f x.changes y.changes p q x.holds y.holds).1 ∙ y.state_is
+
+-- of two halves one is the current one
+pub one_current : (a b : List ℕ) (p q : ℕ) (s t : State) → IsCurrent a b p s → ¬ IsCurrent b a q t
+one_current a b p q s t x y =
+    let second = x.behind y.epoch (holds_open b y.epoch y.shows.changes q y.shows.holds) in
+    let first = y.behind x.epoch (holds_open a x.epoch x.shows.changes p x.shows.holds) in
+    absurd (omega (arith, first, second))
+
+module _ (image a b : List ℕ) (s : IsStore image a b) where
+  behind_reserved : drop 64 image ≡ a ++ b
+  behind_reserved = ap (λ (l : List ℕ). drop 64 l) (s.is ∙ sym (append_assoc magic s.reserved (a ++ b))) ∙ drop_at (magic ++ s.reserved) (a ++ b) 64 (omega (arith, length-append magic s.reserved, s.reserved_length))
+
+  pub half_a : take HALF_LENGTH (drop 64 image) ≡ a
+  half_a = ap (λ (l : List ℕ). take HALF_LENGTH l) behind_reserved ∙ take_at a b HALF_LENGTH s.a_length
+
+  pub half_b : drop HALF_LENGTH (drop 64 image) ≡ b
+  half_b = ap (λ (l : List ℕ). drop HALF_LENGTH l) behind_reserved ∙ drop_at a b HALF_LENGTH s.a_length
+
+-- the current half of an image whose halves are these
+pub shown_current : (image a b : List ℕ) (s : State) → IsStore image a b → (x : Shows image s) → IsCurrent a b x.gate s ⊎ IsCurrent b a x.gate s
+shown_current image a b s store x =
+    let same_a : x.a ≡ a = sym (half_a image x.a x.b x.store) ∙ half_a image a b store in
+    let same_b : x.b ≡ b = sym (half_b image x.a x.b x.store) ∙ half_b image a b store in
+    subst (λ (l : List ℕ). IsCurrent l b x.gate s ⊎ IsCurrent b l x.gate s) same_a (subst (λ (l : List ℕ). IsCurrent x.a l x.gate s ⊎ IsCurrent l x.a x.gate s) same_b x.current)
+
+pub shows_once : (image : List ℕ) (s t : State) → Shows image s → Shows image t → s ≡ t
+shows_once image s t x y = ⊎_elim
+    (λ one. ⊎_elim
+    (λ two. half_shows_once x.a one.epoch two.epoch x.gate y.gate s t one.shows two.shows)
+    (λ two. absurd (one_current x.a x.b x.gate y.gate s t one two))
+    (shown_current image x.a x.b t x.store y))
+    (λ one. ⊎_elim
+    (λ two. absurd (one_current x.b x.a x.gate y.gate s t one two))
+    (λ two. half_shows_once x.b one.epoch two.epoch x.gate y.gate s t one.shows two.shows)
+    (shown_current image x.a x.b t x.store y))
+    x.current

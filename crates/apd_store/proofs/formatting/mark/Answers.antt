@@ -1,0 +1,29 @@
+use Rattle.std.proofs.Common.{ℕ, List, sym, ◌∙◌}
+use Rattle.apd_disk.proofs.Moments.{one_call, quiet_call}
+use Rattle.apd_base.specs.State.{empty_state}
+use Rattle.apd_store.specs.Image.{Shows, IsMarked}
+use Rattle.apd_store.proofs.Heads.{mark_images, mark_found, on_map}
+use Rattle.apd_store.proofs.formatting.mark.Goals as goal
+
+pub returns-in_err-write_at-clause-any_moment : goal.returns-in_err-write_at-clause-any_moment
+returns-in_err-write_at-clause-any_moment g c = λ h heads only.
+    let d = g.D.Disk in
+    one_call d.moment d.left_since c.args.device.now c.write_at.new.self (λ i. IsMarked i → Shows i empty_state) (c.write_at.ensures.time h)
+    (mark_images (d.reads c.args.device.now) (d.may_leave c.args.device.now) (d.left_since c.write_at.new.self (d.moment c.args.device.now)) heads only (c.write_at.ensures.stop h))
+
+pub returns-clause-any_moment : goal.returns-clause-any_moment
+returns-clause-any_moment g c = λ h heads only.
+    let d = g.D.Disk in
+    let P = λ (i : List ℕ). IsMarked i → Shows i empty_state in
+    let mid = c.write_at.new.self in
+    let here = c.write_at.ensures.honest.0 h in
+    let first = one_call d.moment d.left_since c.args.device.now mid P (c.write_at.ensures.time h)
+    (mark_images (d.reads c.args.device.now) (d.may_leave c.args.device.now) (d.left_since mid (d.moment c.args.device.now)) heads only (c.write_at.ensures.stop h)) in
+    quiet_call d.moment d.left_since d.may_leave c.args.device.now mid c.sync.new.self P (λ t i le left. g.met.D.Disk.counts_now mid t i here le left) first (c.sync.ensures.time here) (c.sync.ensures.stop here)
+
+pub returns-clause-found : goal.returns-clause-found
+returns-clause-found g c = λ h heads only.
+    let d = g.D.Disk in
+    let here = c.write_at.ensures.honest.0 h in
+    on_map c.sync.result _ _ _ (c.sync.ensures.reads here) (c.sync.ensures.durable here)
+    (λ same durable. (mark_found (d.reads c.args.device.now) (d.reads c.sync.new.self) heads (same ∙ c.in_ok-write_at.ensures.written h), λ i left. durable i left ∙ sym same))

@@ -1,0 +1,47 @@
+-- An image by its current half.
+use Rattle.std.specs.Prelude.{◌≡◌, ℕ, List, [], ◌∷◌, ◌++◌, length, take, drop}
+use Rattle.apd_base.specs.declared.limits.TheConstants.{DEVICE_LENGTH}
+use Rattle.apd_base.specs.State.{State}
+use Rattle.apd_journal.specs.declared.writer.TheConstants.{HALF_LENGTH}
+use Rattle.apd_store.specs.Image.{magic, IsCurrent}
+use Rattle.apd_store.specs.declared.half.Half.{Half}
+use Rattle.apd_store.specs.declared.half.Half.TheVariants.{A, B}
+
+-- the place of a half's first byte
+abbrev pub start_of : Half → ℕ
+start_of A = 64
+start_of B = 1048640
+
+-- the image with this half on its side, beside the other
+abbrev pub image_of : Half → List ℕ → List ℕ → List ℕ → List ℕ
+image_of A reserved half other = magic ++ (reserved ++ (half ++ other))
+image_of B reserved half other = magic ++ (reserved ++ (other ++ half))
+
+-- they have the lengths of a store's parts
+pub record AreParts (reserved half other : List ℕ) : Type 0 where
+  pub reserved_length : length reserved ≡ 56
+  pub half_length : length half ≡ HALF_LENGTH
+  pub other_length : length other ≡ HALF_LENGTH
+
+-- the half on this side is the current one, and shows the state up to its closed gate at this place
+pub record IsFound (image : List ℕ) (side : Half) (gate : ℕ) (state : State) : Type 0 where
+  pub reserved : List ℕ
+  pub half : List ℕ
+  pub other : List ℕ
+  pub parts : AreParts reserved half other
+  pub is : image ≡ image_of side reserved half other
+  pub current : IsCurrent half other gate state
+
+-- half A of a new store: open, epoch 1, an empty snapshot and a closed gate
+abbrev pub head_a : List ℕ
+head_a = 1 ∷ 1 ∷ 0 ∷ 0 ∷ 0 ∷ 0 ∷ 0 ∷ 0 ∷ 0 ∷ 0 ∷ 0 ∷ 0 ∷ 0 ∷ 0 ∷ []
+
+-- half B: closed, epoch 0, an empty snapshot
+abbrev pub head_b : List ℕ
+head_b = 0 ∷ 0 ∷ 0 ∷ 0 ∷ 0 ∷ 0 ∷ 0 ∷ 0 ∷ 0 ∷ 0 ∷ 0 ∷ 0 ∷ 0 ∷ []
+
+-- both heads stand in an image of the store's length
+pub record HasHeads (image : List ℕ) : Type 0 where
+  pub size : length image ≡ DEVICE_LENGTH
+  pub a : take 14 (drop 64 image) ≡ head_a
+  pub b : take 13 (drop 1048640 image) ≡ head_b

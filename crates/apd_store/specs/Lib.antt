@@ -1,0 +1,5 @@
+pub mod Commit
+pub mod Image
+pub mod Layout
+pub mod Outside
+pub mod Phases

@@ -1,0 +1,120 @@
+//! Formatting: no magic stands while the heads of the halves are written.
+ghost use Rattle.std.specs.Prelude.{◌≡◌, ◌≢◌, ◌≤◌, ◌↔◌, ◌⊎◌, ℕ, List, take, OnOk, IfOk, IfErr};
+ghost use Rattle.apd_base.specs.declared.limits.TheConstants.{DEVICE_LENGTH};
+ghost use Rattle.apd_base.specs.State.{empty_state};
+ghost use Rattle.apd_disk.specs.Disk.{Only, Counts, Rises, LeavesOnly};
+ghost use Rattle.apd_store.specs.Image.{magic, Shows, IsMarked, MayBeMade};
+ghost use Rattle.apd_store.specs.Layout.{HasHeads, IsFound};
+ghost use Rattle.apd_store.specs.Commit.{IsIdle, IsInside};
+ghost use Rattle.apd_store.specs.Outside.{device_of, phase_of};
+ghost use Rattle.apd_store.specs.declared.half.Half.TheVariants.{A};
+
+use crate::fault::StoreFault;
+use crate::half::{Half, START_A, START_B};
+use crate::phase::Phase;
+use crate::reading::MAGIC;
+use crate::store::Store;
+use apd_base::limits::DEVICE_LENGTH;
+use apd_disk::{Disk, DiskFault};
+use std::alloc::Global;
+
+// Open, with epoch 1, an empty snapshot and the first group's gate, which is closed.
+const HEAD_A: [u8; 14] = [1, 1, 0, 0, 0, 0, 0, 0, 0, 0, 0, 0, 0, 0];
+
+// Closed, with epoch 0 and an empty snapshot.
+const HEAD_B: [u8; 13] = [0; 13];
+
+/// Writes zeros over the magic, where it stands.
+fn unmark<D: Disk>(device: &mut D) -> Result<(), DiskFault>
+    requires { D.size device.old ≡ DEVICE_LENGTH }
+    ensures size { D.size device.new ≡ D.size device.old }
+    ensures count { Counts (D.failed device.old) (D.failed device.new) result }
+    ensures honest { D.honest device.old ↔ D.honest device.new }
+    ensures any_moment { D.honest device.old → LeavesOnly D.moment D.left_since device.old device.new (λ c. IsMarked c → D.may_leave device.old c) }
+    ensures unmarked { D.honest device.old → OnOk result ((take 8 (D.reads device.new) ≢ magic) × Only (D.reads device.new) (D.may_leave device.new)) }
+{
+    device.sync()?;
+    let mut first = [0; 8];
+    device.read_at(0, &mut first)?;
+    if first == MAGIC {
+        device.write_at(0, &[0; 8])?;
+        device.sync()?;
+    }
+    Ok(())
+}
+
+/// Writes both heads, where no magic stands.
+fn write_heads<D: Disk>(device: &mut D) -> Result<(), DiskFault>
+    requires { D.size device.old ≡ DEVICE_LENGTH }
+    ensures size { D.size device.new ≡ D.size device.old }
+    ensures count { Counts (D.failed device.old) (D.failed device.new) result }
+    ensures honest { D.honest device.old ↔ D.honest device.new }
+    ensures any_moment { D.honest device.old → take 8 (D.reads device.old) ≢ magic → Only (D.reads device.old) (D.may_leave device.old)
+        → LeavesOnly D.moment D.left_since device.old device.new (λ c. take 8 c ≢ magic) }
+    ensures heads { D.honest device.old → take 8 (D.reads device.old) ≢ magic → Only (D.reads device.old) (D.may_leave device.old)
+        → OnOk result (HasHeads (D.reads device.new) × (take 8 (D.reads device.new) ≢ magic) × Only (D.reads device.new) (D.may_leave device.new)) }
+{
+    device.write_at(START_A, &HEAD_A)?;
+    device.write_at(START_B, &HEAD_B)?;
+    device.sync()
+}
+
+/// Writes the magic before the heads.
+fn mark<D: Disk>(device: &mut D) -> Result<(), DiskFault>
+    requires { D.size device.old ≡ DEVICE_LENGTH }
+    ensures size { D.size device.new ≡ D.size device.old }
+    ensures count { Counts (D.failed device.old) (D.failed device.new) result }
+    ensures honest { D.honest device.old ↔ D.honest device.new }
+    ensures any_moment { D.honest device.old → HasHeads (D.reads device.old) → Only (D.reads device.old) (D.may_leave device.old)
+        → LeavesOnly D.moment D.left_since device.old device.new (λ c. IsMarked c → Shows c empty_state) }
+    ensures found { D.honest device.old → HasHeads (D.reads device.old) → Only (D.reads device.old) (D.may_leave device.old)
+        → OnOk result (IsFound (D.reads device.new) A 13 empty_state × Only (D.reads device.new) (D.may_leave device.new)) }
+{
+    device.write_at(0, &MAGIC)?;
+    device.sync()
+}
+
+/// The whole of it: each part is at most four calls.
+fn lay_out<D: Disk>(device: &mut D) -> Result<(), DiskFault>
+    requires { D.size device.old ≡ DEVICE_LENGTH }
+    ensures size { D.size device.new ≡ D.size device.old }
+    ensures count { Counts (D.failed device.old) (D.failed device.new) result }
+    ensures honest { D.honest device.old ↔ D.honest device.new }
+    ensures any_moment { D.honest device.old → LeavesOnly D.moment D.left_since device.old device.new (MayBeMade (D.may_leave device.old)) }
+    ensures found { D.honest device.old → OnOk result (IsFound (D.reads device.new) A 13 empty_state × Only (D.reads device.new) (D.may_leave device.new)) }
+{
+    unmark(device)?;
+    write_heads(device)?;
+    mark(device)
+}
+
+/// Makes the device a store of the empty table, whatever it held. A stop within it leaves an image that could
+/// be left before, one that is no store, or one that shows the empty table. It takes no memory.
+///
+/// Errors, with the device handed back: `NotAStore` exactly where its length is not 2,097,216 bytes, and
+/// nothing is then done; `Device` where it failed in this call.
+pub fn format<D: Disk>(alloc: Global, device: D) -> Result<Store<D>, (D, StoreFault)>
+    ensures inside { IfOk result (λ store. IsInside D.size store) }
+    ensures empty { D.honest device → IfOk result (λ store. IsIdle D.reads D.may_leave store empty_state) }
+    ensures ready { IfOk result (λ store. phase_of store ≡ Phase.Idle) }
+    ensures shown { D.honest device → IfOk result (λ store. (c : List ℕ) → D.may_leave (device_of store) c → Shows c empty_state) }
+    ensures any_moment { D.honest device → IfOk result (λ store. LeavesOnly D.moment D.left_since device (device_of store) (MayBeMade (D.may_leave device))) }
+    ensures any_moment_err { D.honest device → IfErr result (λ e. LeavesOnly D.moment D.left_since device e.0 (MayBeMade (D.may_leave device))) }
+    ensures honest { IfOk result (λ store. D.honest device ↔ D.honest (device_of store)) }
+    ensures honest_err { IfErr result (λ e. D.honest device ↔ D.honest e.0) }
+    ensures length { OnOk result (D.size device ≡ DEVICE_LENGTH) }
+    ensures not_a_store { IfErr result (λ e. (e.1 ≡ StoreFault.NotAStore) ↔ (D.size device ≢ DEVICE_LENGTH)) }
+    ensures untouched { IfErr result (λ e. e.1 ≡ StoreFault.NotAStore → e.0 ≡ device) }
+    ensures only { IfErr result (λ e. (e.1 ≡ StoreFault.NotAStore) ⊎ (e.1 ≡ StoreFault.Device)) }
+    ensures device { IfErr result (λ e. e.1 ≡ StoreFault.Device → Rises (D.failed device) (D.failed e.0)) }
+    ensures count { IfOk result (λ store. D.failed device ≤ D.failed (device_of store)) }
+{
+    let mut device = device;
+    if device.len() != DEVICE_LENGTH as usize {
+        return Err((device, StoreFault::NotAStore));
+    }
+    let Ok(()) = lay_out(&mut device) else {
+        return Err((device, StoreFault::Device));
+    };
+    Ok(Store::new(alloc, device, Half::A, 13))
+}
