@@ -16,13 +16,12 @@ use Rattle.apd_base.proofs.MapLaws.{one_or_apart, tied}
 use Rattle.apd_conf.specs.declared.conf.Conf.{Conf}
 use Rattle.apd_conf.specs.Confs.{conf_at}
 use Rattle.apd_frame.specs.declared.reasons.Ignored.{Ignored}
-use Rattle.apd_mlme.specs.declared.event.Event.{Event}
-use Rattle.apd_mlme.specs.declared.event.Event.TheVariants.{Heard, Configure}
+use Rattle.apd_mlme.specs.Happening.{Happening}
 use Rattle.apd_mlme.specs.declared.decision.Recipient.{Recipient}
 use Rattle.apd_mlme.specs.declared.decision.Recipient.TheVariants.{Radio}
 use Rattle.apd_mlme.specs.declared.decision.Out.{Out}
 use Rattle.apd_mlme.specs.Outs.{is_same, outs_to}
-use Rattle.apd_mlme.specs.Rules.{verdict, IsFit, bssid_of}
+use Rattle.apd_mlme.specs.Rules.{verdict, IsFit}
 use Rattle.apd_mlme.specs.Run.{run, outs_run, AreFit}
 use Rattle.apd_mlme.specs.Verdict.{is_nothing}
 use Rattle.apd_mlme.proofs.OutsLaws.{outs_to-append}
@@ -36,23 +35,23 @@ use Rattle.apd.specs.declared.plain.Step.TheVariants.{Accept, Settle, Hand}
 use Rattle.apd.specs.declared.plain.Told.{Told}
 use Rattle.apd.specs.declared.plain.Told.TheVariants.{Accepted as AcceptedAs, Settled, Handed, NoMemory}
 use Rattle.apd.specs.declared.plain.World.{World}
-use Rattle.apd.specs.World.{event_of, unfit, lacks_policy, is_one_too_many, answer_to_fit, answer_to, accepted, world_after, after_request, with_entry, held, settled, handed}
-use Rattle.apd.specs.Steps.{IsStep, events_of, if_event, given}
-use Rattle.apd.specs.Run.{AreSteps, IsReached, IsAnswered, Answers, all_events, all_given}
+use Rattle.apd.specs.World.{happening_of, entered_by, accepted, world_after, after_request, with_entry, held, settled, handed}
+use Rattle.apd.specs.Steps.{IsStep, entered, given}
+use Rattle.apd.specs.Run.{AreSteps, IsReached, IsAnswered, Answers, all_entered, all_given}
 use Rattle.apd.proofs.Handing.{others}
 
 -- events in two parts
-run-append : (confs : List Conf) (es fs : List Event) (s : State) → run s confs (es ++ fs) ≡ run (run s confs es) confs fs
+run-append : (confs : List Conf) (es fs : List Happening) (s : State) → run s confs (es ++ fs) ≡ run (run s confs es) confs fs
 run-append confs [] fs s = refl
 run-append confs (e ∷ es) fs s = run-append confs es fs (verdict s confs e).state
 
-outs_run-append : (r : Recipient) (confs : List Conf) (es fs : List Event) (s : State) → outs_run r s confs (es ++ fs) ≡ outs_run r s confs es ++ outs_run r (run s confs es) confs fs
+outs_run-append : (r : Recipient) (confs : List Conf) (es fs : List Happening) (s : State) → outs_run r s confs (es ++ fs) ≡ outs_run r s confs es ++ outs_run r (run s confs es) confs fs
 outs_run-append r confs [] fs s = refl
 outs_run-append r confs (e ∷ es) fs s =
     ap (λ os. outs_to r (verdict s confs e).outs ++ os) (outs_run-append r confs es fs (verdict s confs e).state)
     ∙ sym (append_assoc (outs_to r (verdict s confs e).outs) (outs_run r (verdict s confs e).state confs es) _)
 
-fit-append : (confs : List Conf) (es fs : List Event) (s : State) → AreFit s confs es → AreFit (run s confs es) confs fs → AreFit s confs (es ++ fs)
+fit-append : (confs : List Conf) (es fs : List Happening) (s : State) → AreFit s confs es → AreFit (run s confs es) confs fs → AreFit s confs (es ++ fs)
 fit-append confs [] fs s a b = b
 fit-append confs (e ∷ es) fs s a b = (a.0, fit-append confs es fs (verdict s confs e).state a.1 b)
 
@@ -61,10 +60,10 @@ same_answered : (w : World) → IsAnswered [] (λ _. []) w w
 same_answered w = record { fit = tt; front = refl; confs = refl; outs = λ r. sym (append-nil (held r w)) }
 
 -- one after the other
-then_answered : (es fs : List Event) (g h : Recipient → List Out) (a b c : World) → IsAnswered es g a b → IsAnswered fs h b c → IsAnswered (es ++ fs) (λ r. g r ++ h r) a c
+then_answered : (es fs : List Happening) (g h : Recipient → List Out) (a b c : World) → IsAnswered es g a b → IsAnswered fs h b c → IsAnswered (es ++ fs) (λ r. g r ++ h r) a c
 then_answered es fs g h a b c past step =
     let confs = past.confs in
-    let at : (fs : List Event) → run b.front b.confs fs ≡ run (run a.front a.confs es) a.confs fs = λ fs. λ i. run (past.front i) (confs i) fs in
+    let at : (fs : List Happening) → run b.front b.confs fs ≡ run (run a.front a.confs es) a.confs fs = λ fs. λ i. run (past.front i) (confs i) fs in
     record {
       fit = fit-append a.confs es fs a.front past.fit (subst (λ cs. AreFit (run a.front a.confs es) cs fs) confs (subst (λ s. AreFit s b.confs fs) past.front step.fit));
       front = step.front ∙ at fs ∙ sym (run-append a.confs es fs a.front);
@@ -79,31 +78,8 @@ then_answered es fs g h a b c past step =
           ∙ ap (λ os. held r a ++ os) (sym (outs_run-append r a.confs es fs a.front));
     }
 
--- where no reason is against it, an event is fit
-some_not_none : {A : Type 0} (o : Option A) → is_none o ≡ false → IsSome o
-some_not_none None e = cc
-some_not_none (Some x) e = refl
-
-no_reason : (a b c : Bool) (x y z : QuietReason) → cond a (Some x) (cond b (Some y) (cond c (Some z) None)) ≡ None → (a ≡ false) × (b ≡ false) × (c ≡ false)
-no_reason true b c x y z e = cc
-no_reason false true c x y z e = cc
-no_reason false false true x y z e = cc
-no_reason false false false x y z e = (refl, refl, refl)
-
-room : {A : Type 0} (o : Option A) (n : ℕ) → (is_none o && leb MAX_BSS n) ≡ false → IsSome o ⊎ (n < MAX_BSS)
-room None n e = inr (leb-false MAX_BSS n e)
-room (Some x) n e = inl refl
-
-fit_of : (s : State) (confs : List Conf) (e : Event) → unfit s confs e ≡ None → IsFit s confs e
-fit_of s confs (Heard b frame) h =
-    let parts = no_reason (is_none (conf_at confs b)) (is_none (policy_at s b)) false quiet.NoInterface quiet.NoPolicy quiet.TooManyBss h in
-    (some_not_none (conf_at confs b) parts.0, some_not_none (policy_at s b) parts.1)
-fit_of s confs (Configure b) h =
-    let parts = no_reason (is_none (conf_at confs b)) false (is_none (policy_at s b) && leb MAX_BSS (map.len s.policies)) quiet.NoInterface quiet.NoPolicy quiet.TooManyBss h in
-    (some_not_none (conf_at confs b) parts.0, room (policy_at s b) (map.len s.policies) parts.2)
-
 -- an entry is held for its recipients
-entry_answered : (w : World) (e : Event) → IsFit w.front w.confs e → IsAnswered (e ∷ []) (λ _. []) w (with_entry w e)
+entry_answered : (w : World) (e : Happening) → IsFit w.front w.confs e → IsAnswered (e ∷ []) (λ _. []) w (with_entry w e)
 entry_answered w e fit = record {
   fit = (fit, tt);
   front = refl;
@@ -114,30 +90,19 @@ entry_answered w e fit = record {
       ∙ ap (λ os. held r w ++ os) (sym (append-nil (outs_to r (verdict w.front w.confs e).outs)));
 }
 
--- only a fit event gives an entry
-entry_fit : (w : World) (e : Event) (t : Bool) (k : ℕ) → cond t Stopped (answer_to_fit w e (unfit w.front w.confs e)) ≡ Entry k → unfit w.front w.confs e ≡ None
-entry_fit w e true k h = cc
-entry_fit w e false k h = elim (unfit w.front w.confs e) as (λ o. answer_to_fit w e o ≡ Entry k → o ≡ None) [ None ↦ λ _. refl | Some reason ↦ λ quiet_entry. cc ] h
-
-never : (w : World) (reason : Ignored) (t : Bool) (k : ℕ) → cond t Stopped (answer_to w (Err reason)) ≡ Entry k → ⊥
-never w reason true k h = cc
-never w reason false k h = cc
-
 -- the world after a request by its answer
-entered : (w : World) (i : Input) (x : Result Event Ignored) (answer : Accepted) → event_of i ≡ x → accepted w i ≡ answer → (new : World) → new ≡ world_after w x answer → IsAnswered (events_of (Accept i) (AcceptedAs answer)) (λ _. []) w new
-entered w i (Ok e) (Entry k) event answer new is =
-    let fit : unfit w.front w.confs e ≡ None = entry_fit w e (eqb w.last (2 ^ 64 - 1)) k (ap (λ x. cond (eqb w.last (2 ^ 64 - 1)) Stopped (answer_to w x)) (sym event) ∙ answer) in
-    subst (λ x. IsAnswered (if_event x) (λ _. []) w new) (sym event)
-    (subst (λ n. IsAnswered (e ∷ []) (λ _. []) w n) (sym is) (entry_answered w e (fit_of w.front w.confs e fit)))
-entered w i (Err reason) (Entry k) event answer new is =
-    absurd (never w reason (eqb w.last (2 ^ 64 - 1)) k (ap (λ x. cond (eqb w.last (2 ^ 64 - 1)) Stopped (answer_to w x)) (sym event) ∙ answer))
-entered w i (Ok e) Stopped event answer new is = subst (λ n. IsAnswered [] (λ _. []) w n) (sym is) (same_answered w)
-entered w i (Err reason) Stopped event answer new is = subst (λ n. IsAnswered [] (λ _. []) w n) (sym is) (same_answered w)
-entered w i (Ok e) (Quiet why) event answer new is = subst (λ n. IsAnswered [] (λ _. []) w n) (sym is) (same_answered w)
-entered w i (Err reason) (Quiet why) event answer new is = subst (λ n. IsAnswered [] (λ _. []) w n) (sym is) (same_answered w)
+request_entered : (w : World) (asked : Result Happening Ignored) (answer : Accepted) → AreFit w.front w.confs (entered_by answer asked) → IsAnswered (entered_by answer asked) (λ _. []) w (world_after w asked answer)
+request_entered w (Ok e) (Entry k) fit = entry_answered w e fit.0
+request_entered w (Err reason) (Entry k) fit = same_answered w
+request_entered w (Ok e) Stopped fit = same_answered w
+request_entered w (Err reason) Stopped fit = same_answered w
+request_entered w (Ok e) (Quiet why) fit = same_answered w
+request_entered w (Err reason) (Quiet why) fit = same_answered w
 
-request_answered : (w : World) (i : Input) (answer : Accepted) (new : World) → answer ≡ accepted w i → new ≡ after_request w i → IsAnswered (events_of (Accept i) (AcceptedAs answer)) (λ _. []) w new
-request_answered w i answer new told is = entered w i (event_of i) answer refl (sym told) new (is ∙ ap (world_after w (event_of i)) (sym told))
+request_answered : (w : World) (i : Input) (answer : Accepted) (new : World) → answer ≡ accepted w i → new ≡ after_request w i → AreFit w.front w.confs (entered_by answer (happening_of i)) → IsAnswered (entered_by answer (happening_of i)) (λ _. []) w new
+request_answered w i answer new told is fit =
+    subst (λ n. IsAnswered (entered_by answer (happening_of i)) (λ _. []) w n) (sym (is ∙ ap (world_after w (happening_of i)) (sym told)))
+    (request_entered w (happening_of i) answer fit)
 
 settle_answered : (w new : World) → new ≡ settled w → IsAnswered [] (λ _. []) w new
 settle_answered w new is = subst (λ n. IsAnswered [] (λ _. []) w n) (sym is) (record {
@@ -201,9 +166,9 @@ hand_outs q r w =
     ∙ sym (outs_to-append r w.released w.waiting)
     ∙ sym (append-nil (held r w))
 
-hand_answered : (q : Recipient) (outs : List Out) (w new : World) → outs ≡ outs_to q w.released → new ≡ handed q w → IsAnswered [] (λ r. given r (Hand q) (Handed outs)) w new
+hand_answered : (q : Recipient) (outs : List Out) (w new : World) → outs ≡ outs_to q w.released → new ≡ handed q w → IsAnswered [] (λ r. given r (Handed q outs)) w new
 hand_answered q outs w new told is =
-    subst (λ n. IsAnswered [] (λ r. given r (Hand q) (Handed outs)) w n) (sym is) (subst (λ os. IsAnswered [] (λ r. given r (Hand q) (Handed os)) w (handed q w)) (sym told) (record {
+    subst (λ n. IsAnswered [] (λ r. given r (Handed q outs)) w n) (sym is) (subst (λ os. IsAnswered [] (λ r. given r (Handed q os)) w (handed q w)) (sym told) (record {
       fit = tt;
       front = refl;
       confs = refl;
@@ -213,23 +178,23 @@ hand_answered q outs w new told is =
 lack_answered : (w new : World) → new ≡ w → IsAnswered [] (λ _. []) w new
 lack_answered w new is = subst (λ n. IsAnswered [] (λ _. []) w n) (sym is) (same_answered w)
 
-step_answered : (x : Step) (t : Told) (a b : World) → IsStep x t a b → IsAnswered (events_of x t) (λ r. given r x t) a b
-step_answered (Accept i) (AcceptedAs answer) a b h = request_answered a i answer b h.0 h.1
+step_answered : (x : Step) (t : Told) (a b : World) → IsStep x t a b → IsAnswered (entered x t) (λ r. given r t) a b
+step_answered (Accept i) (AcceptedAs answer) a b h = request_answered a i answer b h.0 h.1 h.2
 step_answered (Accept i) NoMemory a b h = lack_answered a b h
 step_answered Settle Settled a b h = settle_answered a b h
 step_answered Settle NoMemory a b h = lack_answered a b h
-step_answered (Hand q) (Handed outs) a b h = hand_answered q outs a b h.0 h.1
+step_answered (Hand q) (Handed p outs) a b h = subst (λ z. IsAnswered [] (λ r. given r (Handed z outs)) a b) (sym h.0) (hand_answered q outs a b h.1 h.2)
 step_answered (Hand q) NoMemory a b h = lack_answered a b h
 step_answered (Accept i) Settled a b h = absurd h
-step_answered (Accept i) (Handed outs) a b h = absurd h
+step_answered (Accept i) (Handed q outs) a b h = absurd h
 step_answered Settle (AcceptedAs answer) a b h = absurd h
-step_answered Settle (Handed outs) a b h = absurd h
+step_answered Settle (Handed q outs) a b h = absurd h
 step_answered (Hand q) (AcceptedAs answer) a b h = absurd h
 step_answered (Hand q) Settled a b h = absurd h
 
 pub steps_answered : (steps : List Step) (tolds : List Told) (a c : World) → AreSteps steps tolds a c → Answers steps tolds a c
 steps_answered [] [] a c h = lack_answered a c h
-steps_answered (x ∷ xs) (t ∷ ts) a c h = then_answered (events_of x t) (all_events xs ts) (λ r. given r x t) (λ r. all_given r xs ts) a h.0 c (step_answered x t a h.0 h.1) (steps_answered xs ts h.0 c h.2)
+steps_answered (x ∷ xs) (t ∷ ts) a c h = then_answered (entered x t) (all_entered xs ts) (λ r. given r t) (λ r. all_given r ts) a h.0 c (step_answered x t a h.0 h.1) (steps_answered xs ts h.0 c h.2)
 steps_answered [] (t ∷ ts) a c h = absurd h
 steps_answered (x ∷ xs) [] a c h = absurd h
 

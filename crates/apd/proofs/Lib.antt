@@ -1,4 +1,5 @@
 pub mod Accepting
 pub mod Answering
 pub mod Changing
+pub mod Configuring
 pub mod Handing

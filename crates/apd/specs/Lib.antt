@@ -1,3 +1,4 @@
+pub mod Configured
 pub mod Run
 pub mod Start
 pub mod Steps

@@ -1,5 +1,5 @@
-use apd_base::{AclMode, Addr, Bssid, Station, Which};
-use apd_conf::{Conf, Confs};
+use apd_base::{AclMode, Addr, Aid, Association, Bssid, Sequence, Station, Which};
+use apd_conf::{Conf, Confs, read_list};
 use apd_frame::{Authentication, Frame};
 use apd_mlme::{Decision, Event, Out, decide};
 use apd_record::Change;
@@ -26,20 +26,38 @@ fn confs(alloc: Global, mode: AclMode) -> Result<Confs, Fail> {
     Ok(Confs::new(list)?)
 }
 
-/// Decides the start of the radio, and makes its changes.
+/// Decides the start of the radio with these list files, and makes its changes.
+fn start_with(
+    rt: &impl Abort,
+    alloc: Global,
+    table: &mut Table,
+    confs: &Confs,
+    [accept_file, deny_file]: [&[u8]; 2],
+) -> Result<Decision, Fail> {
+    let accept = read_list(alloc, accept_file)?;
+    let deny = read_list(alloc, deny_file)?;
+    assert!(rt; confs.with_bssid(RADIO).is_some());
+    assert!(rt; table.bss_count() < 8);
+    let event = Event::Configure {
+        bssid: RADIO,
+        accept: accept.as_slice(),
+        deny: deny.as_slice(),
+    };
+    let decision = decide(alloc, table, confs, event)?;
+    for change in decision.changes.as_slice() {
+        table.apply(change)?;
+    }
+    Ok(decision)
+}
+
+/// The same without list files.
 fn start(
     rt: &impl Abort,
     alloc: Global,
     table: &mut Table,
     confs: &Confs,
 ) -> Result<Decision, Fail> {
-    assert!(rt; confs.with_bssid(RADIO).is_some());
-    assert!(rt; table.bss_count() < 8);
-    let decision = decide(alloc, table, confs, Event::Configure(RADIO))?;
-    for change in decision.changes.as_slice() {
-        table.apply(change)?;
-    }
-    Ok(decision)
+    start_with(rt, alloc, table, confs, [b"", b""])
 }
 
 /// Decides an authentication request of the station, and makes its changes.
@@ -48,7 +66,7 @@ fn authenticate(
     alloc: Global,
     table: &mut Table,
     confs: &Confs,
-) -> Result<(), Fail> {
+) -> Result<Decision, Fail> {
     let request = Authentication {
         sender: STATION,
         algorithm: 0,
@@ -66,7 +84,15 @@ fn authenticate(
     for change in decision.changes.as_slice() {
         table.apply(change)?;
     }
-    Ok(())
+    Ok(decision)
+}
+
+/// Whether an out is this frame.
+fn is_frame(out: &Out, want: &[u8]) -> bool {
+    match out {
+        Out::Frame(frame) => frame.as_slice() == want,
+        Out::Install(..) | Out::Remove(_) => false,
+    }
 }
 
 #[test]
@@ -87,10 +113,7 @@ fn a_start_in_mode_1_ends_a_station_that_mode_0_let_in(rt: HostRuntime) -> Resul
     };
     assert_eq!(rt; decision.changes.as_slice()[0], drop);
     assert_eq!(rt; decision.outs.len(), 1);
-    match &decision.outs.as_slice()[0].1 {
-        Out::Frame(frame) => assert_eq!(rt; frame.as_slice(), DEAUTHENTICATION.as_slice()),
-        _ => assert!(rt; false, "no frame"),
-    }
+    assert!(rt; is_frame(&decision.outs.as_slice()[0].1, &DEAUTHENTICATION));
     assert_eq!(rt; table.get(RADIO, STATION), None);
     Ok(())
 }
@@ -120,5 +143,150 @@ fn lists_say_who_is_let_in(rt: HostRuntime) -> Result<(), Fail> {
     let closed = confs(alloc, AclMode::DenyUnlessAccepted)?;
     start(&rt, alloc, &mut table, &closed)?;
     assert_eq!(rt; table.get(RADIO, STATION), Some(Station::Authenticated));
+    Ok(())
+}
+
+/// An address in a list of the radio.
+fn added(which: Which, last: u8) -> Change {
+    Change::ListAdd {
+        bssid: RADIO,
+        which,
+        addr: Addr([2, 0, 0, 0, 0, last]),
+    }
+}
+
+fn first(changes: &Sequence<Change>) -> Option<Change> {
+    changes.as_slice().first().copied()
+}
+
+#[test]
+fn lists_come_with_the_first_start_alone(rt: HostRuntime) -> Result<(), Fail> {
+    let alloc = rt.alloc();
+    let mut table = Table::new(alloc);
+    let confs = confs(alloc, AclMode::AcceptUnlessDenied)?;
+    let accept = b"02:00:00:00:00:bb\n02:00:00:00:00:aa\n".as_slice();
+    let deny = b"02:00:00:00:00:cc\n".as_slice();
+    let began = start_with(&rt, alloc, &mut table, &confs, [accept, deny])?;
+    assert_eq!(rt; began.changes.len(), 4);
+    assert_eq!(rt; began.changes.as_slice()[1], added(Which::Accept, 0xaa));
+    assert_eq!(rt; began.changes.as_slice()[2], added(Which::Accept, 0xbb));
+    assert_eq!(rt; began.changes.as_slice()[3], added(Which::Deny, 0xcc));
+
+    let later = start_with(&rt, alloc, &mut table, &confs, [deny, accept])?;
+    assert_eq!(rt; later.changes.len(), 1);
+    assert_eq!(rt; first(&later.changes), first(&began.changes));
+    Ok(())
+}
+
+/// An authentication response to the station: Open System, transaction number 2, status 17.
+const NO_MORE_STATIONS: [u8; 30] = [
+    0xb0, 0, 0, 0, 2, 0, 0, 0, 0, 0xaa, 2, 0, 0, 0, 0, 1, 2, 0, 0, 0, 0, 1, 0, 0, 0, 0, 2, 0, 17, 0,
+];
+
+/// A station that is associated under an identifier.
+fn member(aid: Aid) -> Change {
+    let [low, high] = aid.number.to_le_bytes();
+    let association = Association {
+        aid,
+        capability: 0x431,
+        listen_interval: 10,
+    };
+    Change::Put {
+        bssid: RADIO,
+        addr: Addr([2, 0, 0, 1, high, low]),
+        station: Station::Associated(association),
+    }
+}
+
+#[test]
+fn the_2008th_station_finds_no_room(rt: HostRuntime) -> Result<(), Fail> {
+    let alloc = rt.alloc();
+    let mut table = Table::new(alloc);
+    let open = confs(alloc, AclMode::AcceptUnlessDenied)?;
+    start(&rt, alloc, &mut table, &open)?;
+    for number in 1..=2007 {
+        if number == 2007 {
+            assert_eq!(rt; table.least_free(RADIO), Some(2007));
+        }
+        if let Some(aid) = Aid::new(number) {
+            table.apply(&member(aid))?;
+        }
+    }
+    assert_eq!(rt; table.count(RADIO), 2007);
+    assert_eq!(rt; table.least_free(RADIO), None);
+    let decision = authenticate(&rt, alloc, &mut table, &open)?;
+    assert_eq!(rt; decision.changes.len(), 0);
+    assert_eq!(rt; decision.outs.len(), 1);
+    assert!(rt; is_frame(&decision.outs.as_slice()[0].1, &NO_MORE_STATIONS));
+    assert_eq!(rt; table.count(RADIO), 2007);
+    Ok(())
+}
+
+/// Whether an out lets this station go.
+fn is_removal(out: &Out, station: Addr) -> bool {
+    match out {
+        Out::Remove(addr) => *addr == station,
+        Out::Install(..) | Out::Frame(_) => false,
+    }
+}
+
+/// Decides the silence of the station, and makes its changes.
+fn expire(
+    rt: &impl Abort,
+    alloc: Global,
+    table: &mut Table,
+    confs: &Confs,
+) -> Result<Decision, Fail> {
+    assert!(rt; confs.with_bssid(RADIO).is_some());
+    assert!(rt; table.policy(RADIO).is_some());
+    let event = Event::Expire {
+        bssid: RADIO,
+        addr: STATION,
+    };
+    let decision = decide(alloc, table, confs, event)?;
+    for change in decision.changes.as_slice() {
+        table.apply(change)?;
+    }
+    Ok(decision)
+}
+
+/// A disassociation of the station with reason 4, and a deauthentication with reason 2.
+const INACTIVE: [u8; 26] = [
+    0xa0, 0, 0, 0, 2, 0, 0, 0, 0, 0xaa, 2, 0, 0, 0, 0, 1, 2, 0, 0, 0, 0, 1, 0, 0, 4, 0,
+];
+
+const NO_LONGER_AUTHENTICATED: [u8; 26] = [
+    0xc0, 0, 0, 0, 2, 0, 0, 0, 0, 0xaa, 2, 0, 0, 0, 0, 1, 2, 0, 0, 0, 0, 1, 0, 0, 2, 0,
+];
+
+#[test]
+fn silence_ends_an_association_and_then_an_authentication(rt: HostRuntime) -> Result<(), Fail> {
+    let alloc = rt.alloc();
+    let mut table = Table::new(alloc);
+    let open = confs(alloc, AclMode::AcceptUnlessDenied)?;
+    start(&rt, alloc, &mut table, &open)?;
+    if let Some(aid) = Aid::new(1) {
+        let association = Association {
+            aid,
+            capability: 0x431,
+            listen_interval: 10,
+        };
+        table.apply(&Change::Put {
+            bssid: RADIO,
+            addr: STATION,
+            station: Station::Associated(association),
+        })?;
+    }
+    let first = expire(&rt, alloc, &mut table, &open)?;
+    assert_eq!(rt; first.outs.len(), 2);
+    assert!(rt; is_removal(&first.outs.as_slice()[0].1, STATION));
+    assert!(rt; is_frame(&first.outs.as_slice()[1].1, &INACTIVE));
+    assert_eq!(rt; table.get(RADIO, STATION), Some(Station::Authenticated));
+    let second = expire(&rt, alloc, &mut table, &open)?;
+    assert_eq!(rt; second.outs.len(), 1);
+    assert!(rt; is_frame(&second.outs.as_slice()[0].1, &NO_LONGER_AUTHENTICATED));
+    assert_eq!(rt; table.get(RADIO, STATION), None);
+    let third = expire(&rt, alloc, &mut table, &open)?;
+    assert!(rt; third.is_nothing());
     Ok(())
 }

@@ -1,48 +1,73 @@
-//! `apd`: an access point daemon. So far it runs scripts over a table in memory.
+//! `apd`: an access point daemon. So far it runs scripts over a table in memory, and makes stores.
 #![tactic(auto)]
 
+mod configuration_files;
+#[cfg(test)]
+mod configuration_tests;
 #[cfg(test)]
 mod decision_tests;
 mod plain;
 mod script;
+mod store_file;
+#[cfg(test)]
+mod store_file_tests;
 #[cfg(test)]
 mod tests;
 
 ghost use Rattle.std.specs.Prelude.{◌≡◌};
 ghost use Rattle.apd.specs.declared.ProgramFault.TheVariants.{NoMemory};
 
-use apd_conf::{Conf, Confs, ConfsFault};
-use clap::Command;
 use clap::error::ErrorKind;
+use clap::{Arg, ArgAction, Command};
+use configuration_files::{ConfigurationFault, read_configurations};
 use plain::World;
 use script::{ScriptFault, run_script};
 use std::alloc::{AllocError, Global};
+use std::fs::File;
 use std::io::{self, BufReader};
 use std::process::ExitCode;
-use std::rt::Env;
+use std::rt::{Env, Files};
+use store_file::{FormatFault, format_file};
 use thiserror::Error;
 
 /// The command line.
 fn command<'a>(alloc: Global) -> Result<Command<'a>, AllocError> {
-    let script = Command::new(alloc, "script").about(
-        "Runs a script from standard input on a daemon in memory, with the built-in configuration",
-    );
+    let files = Arg::new(alloc, "CONF")
+        .num_args(0..)
+        .action(ArgAction::Append)
+        .help(
+            "Configuration files, one for each interface; the built-in configuration without any",
+        );
+    let script = Command::new(alloc, "script")
+        .about("Runs a script from standard input on a daemon in memory")
+        .arg(files)?;
+    let store = Arg::new(alloc, "STORE")
+        .required(true)
+        .help("The store's file, which is made where there is none");
+    let format = Command::new(alloc, "format")
+        .about("Makes a file a store of the empty table, whatever store it was")
+        .arg(store)?;
     Ok(
         Command::new(alloc, "apd")
             .bin_name("apd")?
             .about("An access point daemon whose promises are proved")
             .subcommand_required(true)
+            .subcommand(format)?
             .subcommand(script)?,
     )
 }
 
 /// What ends the program with status 1.
-#[derive(Clone, Copy, Debug, PartialEq, Eq, Error)]
+#[derive(Debug, Drop, Error)]
 enum ProgramFault {
     #[error("{0}")]
-    Confs(ConfsFault),
+    Configuration(ConfigurationFault),
     #[error("{0}")]
     Script(ScriptFault),
+    #[error("{0}")]
+    Format(FormatFault),
+    #[error("writer fault")]
+    Writer,
     #[error("out of memory")]
     NoMemory,
     #[error("no command line")]
@@ -66,42 +91,63 @@ impl From<io::Error> for ProgramFault {
     }
 }
 
-/// The text that `clap` has for a command line that is wrong, or that asks for help.
-fn usage(rt: &(impl Env + AllocGlobal)) -> Result<Option<clap::Error>, ProgramFault> {
-    let alloc = rt.alloc();
-    let words: Vec<String> = std::env::args(rt)?.collect(alloc)?;
-    if let Err(error) = command(alloc)?.try_get_matches_from(words.as_slice()) {
-        return Ok(Some(error));
-    }
-    Ok(None)
-}
-
-/// The daemon with the built-in configuration.
-fn built_in_world(alloc: Global) -> Result<World, ProgramFault> {
-    let mut list = Vec::new(alloc);
-    list.push(Conf::built_in(alloc)?).map_err(AllocError::from)?;
-    let confs = Confs::new(list).map_err(ProgramFault::Confs)?;
-    Ok(World::new(alloc, confs))
-}
-
-/// Runs the script on standard input.
-fn run(rt: &(impl Input + Print + AllocGlobal)) -> Result<(), ProgramFault> {
-    let world = built_in_world(rt.alloc())?;
+/// Runs the script on standard input, with the configurations of these files.
+fn run_script_of_input(
+    rt: &(impl Input + Print + Files + AllocGlobal),
+    names: &[&str],
+) -> Result<(), ProgramFault> {
+    let confs = read_configurations(rt, names).map_err(ProgramFault::Configuration)?;
+    let world = World::new(rt.alloc(), confs);
     let reader = BufReader::new(rt.alloc(), rt.reader())?;
     run_script(rt.alloc(), world, reader, io::writer(rt)).map_err(ProgramFault::Script)?;
     Ok(())
 }
 
+/// Makes the file of this name a new store, and says so.
+fn format_and_print(
+    rt: &(impl Print + Files<File = File> + AllocGlobal),
+    name: &str,
+) -> Result<(), ProgramFault> {
+    format_file(rt, name).map_err(ProgramFault::Format)?;
+    match println!(rt; "formatted") {
+        Ok(()) => Ok(()),
+        Err(_) => Err(ProgramFault::Writer),
+    }
+}
+
+/// Does what the command line says, or gives the text that `clap` has for one that is wrong, or that asks
+/// for help.
+fn run(
+    rt: &(impl Env + Input + Print + Files<File = File> + AllocGlobal),
+) -> Result<Option<clap::Error>, ProgramFault> {
+    let alloc = rt.alloc();
+    let words: Vec<String> = std::env::args(rt)?.collect(alloc)?;
+    let matches = match command(alloc)?.try_get_matches_from(words.as_slice()) {
+        Ok(matches) => matches,
+        Err(error) => return Ok(Some(error)),
+    };
+    if let Some(format) = matches.subcommand_matches("format") {
+        format_and_print(rt, format.get_str("STORE").unwrap_or(""))?;
+        return Ok(None);
+    }
+    let names = matches
+        .subcommand_matches("script")
+        .and_then(|script| script.get_strs("CONF"))
+        .unwrap_or(&[]);
+    run_script_of_input(rt, names)?;
+    Ok(None)
+}
+
 /// The exit status is 0 where all went well, 1 for a fault, 2 for a wrong command line or a call for
 /// help.
 fn main(rt: HostRuntime) -> io::Result<ExitCode> {
-    let done = match usage(&rt) {
+    let done = match run(&rt) {
         Ok(Some(error)) if error.kind() == ErrorKind::OutOfMemory => Err(ProgramFault::NoMemory),
         Ok(Some(error)) => {
             rt.eprint(error)?;
             return Ok(ExitCode::from(2));
         }
-        Ok(None) => run(&rt),
+        Ok(None) => Ok(()),
         Err(fault) => Err(fault),
     };
     match done {

@@ -4,14 +4,15 @@ ghost use Rattle.std.specs.Prelude.{◌≡◌, ◌+◌, ◌-◌, ◌^◌, ◌<�
 ghost use Rattle.apd_record.specs.Meaning.{meaning, meaning_of};
 ghost use Rattle.apd_table.specs.Sound.{Sound, StaySound};
 ghost use Rattle.apd_mlme.specs.Outs.{outs_to};
+ghost use Rattle.apd_mlme.specs.Happening.{happening};
 ghost use Rattle.apd_mlme.specs.Rules.{IsFit};
 ghost use Rattle.apd.specs.Run.{AreSteps, Answers};
-ghost use Rattle.apd.specs.Start.{configure_steps, hand_steps, flush_steps, start_steps};
-ghost use Rattle.apd.specs.World.{event_of, unfit};
+ghost use Rattle.apd.specs.Start.{AreStarts, AreStartSteps, hand_steps, flush_steps};
+ghost use Rattle.apd.specs.World.{happened, happening_of, HasLists, unfit};
 
 use apd_base::limits::MAX_BSS;
 use apd_base::{Bssid, Sequence};
-use apd_conf::Confs;
+use apd_conf::{AddressList, Confs};
 use apd_frame::{Ignored, decode};
 use apd_mlme::{Decision, Event, Out, Recipient, decide};
 use apd_record::Change;
@@ -24,8 +25,12 @@ use std::{fmt, mem};
 pub enum Input<'a> {
     /// The radio of the BSSID received these bytes, without their frame check sequence.
     Received(Bssid, &'a [u8]),
-    /// The BSSID is to start with its configuration.
-    Configure(Bssid),
+    /// The BSSID is to start with its configuration, and with these lists of its list files.
+    Configure {
+        bssid: Bssid,
+        accept: &'a AddressList,
+        deny: &'a AddressList,
+    },
 }
 
 /// Why a request is no entry and changes nothing.
@@ -72,7 +77,7 @@ pub enum Told {
     /// All entries are settled.
     Settled,
     /// What was settled for the recipient and not handed out before, in order.
-    Handed(Sequence<Out>),
+    Handed(Recipient, Sequence<Out>),
     /// Memory ran out, and the step changed nothing.
     NoMemory,
 }
@@ -89,22 +94,31 @@ pub struct World {
 }
 
 /// The event of a request, or why its frame is ignored.
-fn event_of(input: Input<'_>) -> Result<Event, Ignored>
-    ensures { result ≡ event_of input.entry }
+fn event_of(input: Input<'_>) -> Result<Event<'_>, Ignored>
+    ensures happening { happened result ≡ happening_of input.entry }
+    ensures lists { IfOk result (λ event. HasLists (happening event)) }
 {
     match input {
         Input::Received(bssid, bytes) => match decode(bytes, bssid) {
             Ok(frame) => Ok(Event::Heard(bssid, frame)),
             Err(reason) => Err(reason),
         },
-        Input::Configure(bssid) => Ok(Event::Configure(bssid)),
+        Input::Configure {
+            bssid,
+            accept,
+            deny,
+        } => Ok(Event::Configure {
+            bssid,
+            accept: accept.as_slice(),
+            deny: deny.as_slice(),
+        }),
     }
 }
 
 /// Why there is no verdict on an event.
-fn unfit(table: &Table, confs: &Confs, event: Event) -> Option<QuietReason>
-    ensures reason { result ≡ unfit table.now confs.now event }
-    ensures fit { IfNone result (IsFit table.now confs.now event) }
+fn unfit(table: &Table, confs: &Confs, event: Event<'_>) -> Option<QuietReason>
+    ensures reason { result ≡ unfit table.now confs.now (happening event.entry) }
+    ensures fit { HasLists (happening event.entry) → IfNone result (IsFit table.now confs.now (happening event.entry)) }
 {
     let bssid = event.bssid();
     if confs.with_bssid(bssid).is_none() {
@@ -114,9 +128,9 @@ fn unfit(table: &Table, confs: &Confs, event: Event) -> Option<QuietReason>
         return None;
     }
     match event {
-        Event::Heard(..) => Some(QuietReason::NoPolicy),
-        Event::Configure(_) if table.bss_count() >= MAX_BSS => Some(QuietReason::TooManyBss),
-        Event::Configure(_) => None,
+        Event::Heard(..) | Event::Expire { .. } => Some(QuietReason::NoPolicy),
+        Event::Configure { .. } if table.bss_count() >= MAX_BSS => Some(QuietReason::TooManyBss),
+        Event::Configure { .. } => None,
     }
 }
 
@@ -154,7 +168,8 @@ fn change_all(alloc: Global, table: &mut Table, changes: &[Change]) -> Result<()
 }
 
 impl World {
-    ghost use Rattle.apd.specs.World.{new_world, accepted, after_request, ChangesAsEntryOnly, settled, handed};
+    ghost use Rattle.apd_mlme.specs.Run.{AreFit};
+    ghost use Rattle.apd.specs.World.{new_world, accepted, after_request, happening_of, entered_by, ChangesAsEntryOnly, settled, handed};
 
     /// A daemon of these configurations, with no entry and an empty table. It takes no memory.
     pub fn new(alloc: Global, confs: Confs) -> World
@@ -180,6 +195,7 @@ impl World {
     pub fn accept(&mut self, alloc: Global, input: Input<'_>) -> Result<Accepted, AllocError>
         ensures answer { IfOk result (λ answer. answer ≡ accepted self.old input.entry) }
         ensures ok { OnOk result (self.new ≡ after_request self.old input.entry) }
+        ensures fit { IfOk result (λ answer. AreFit self.old.front self.old.confs (entered_by answer (happening_of input.entry))) }
         ensures silence { IfOk result (λ answer. ChangesAsEntryOnly answer self.old self.new) }
         ensures err { OnErr result (self.new ≡ self.old) }
     {
@@ -266,7 +282,7 @@ impl World {
                 Err(_) => Told::NoMemory,
             },
             Step::Hand(to) => match self.hand(alloc, to) {
-                Ok(outs) => Told::Handed(outs),
+                Ok(outs) => Told::Handed(to, outs),
                 Err(_) => Told::NoMemory,
             },
         }
@@ -311,20 +327,25 @@ pub fn flush_steps(alloc: Global, confs: &Confs) -> Result<Vec<Step<'static>>, A
     Ok(steps)
 }
 
-/// The steps that configure each interface, in their order.
-fn configure_steps(alloc: Global, confs: &Confs) -> Result<Vec<Step<'static>>, AllocError>
-    ensures { IfOk result (λ steps. steps.items ≡ configure_steps confs.now) }
+/// The steps that configure each interface with its lists, in their order.
+fn configure_steps(alloc: Global, confs: &Confs) -> Result<Vec<Step<'_>>, AllocError>
+    ensures { IfOk result (λ steps. AreStarts confs.now steps.items) }
 {
-    confs
-        .list()
-        .iter()
-        .map(|conf| Step::Accept(Input::Configure(conf.bssid)))
-        .collect(alloc)
+    let mut steps = Vec::new(alloc);
+    for conf in confs.list() {
+        steps.push(Step::Accept(Input::Configure {
+            bssid: conf.bssid,
+            accept: &conf.accept,
+            deny: &conf.deny,
+        }))?;
+    }
+    Ok(steps)
 }
 
-/// The steps that start each interface with its configuration, in their order, and then flush.
-pub fn start_steps(alloc: Global, confs: &Confs) -> Result<Vec<Step<'static>>, AllocError>
-    ensures { IfOk result (λ steps. steps.items ≡ start_steps confs.now) }
+/// The steps that start each interface with its configuration and its lists, in their order, and then
+/// flush.
+fn start_steps(alloc: Global, confs: &Confs) -> Result<Vec<Step<'_>>, AllocError>
+    ensures { IfOk result (λ steps. AreStartSteps confs.now steps.items) }
 {
     let mut steps = configure_steps(alloc, confs)?;
     steps.append(&mut flush_steps(alloc, confs)?)?;
@@ -332,20 +353,18 @@ pub fn start_steps(alloc: Global, confs: &Confs) -> Result<Vec<Step<'static>>, A
 }
 
 impl World {
-    ghost use Rattle.apd.specs.Run.{AreSteps, Answers};
-    ghost use Rattle.apd.specs.Start.{start_steps};
+    ghost use Rattle.apd.specs.Start.{IsStart};
 
-    /// Configures each interface, settles and hands out: makes the steps of `start_steps`, and answers
-    /// them with what each told.
-    pub fn start(&mut self, alloc: Global) -> Result<(Vec<Step<'static>>, Vec<Told>), AllocError>
-        ensures started { IfOk result (λ made. made.0.items ≡ start_steps self.old.confs) }
-        ensures steps { IfOk result (λ made. AreSteps made.0.items made.1.items self.old self.new) }
-        ensures answers { IfOk result (λ made. Answers made.0.items made.1.items self.old self.new) }
+    /// Configures each interface with its lists, settles, and hands out to each radio, in the order of
+    /// the configurations. Answers what each of these steps told. Its own want of memory comes before the
+    /// first step.
+    pub fn start(&mut self, alloc: Global) -> Result<Vec<Told>, AllocError>
+        ensures ok { IfOk result (λ tolds. IsStart tolds.items self.old self.new) }
         ensures err { OnErr result (self.new ≡ self.old) }
     {
-        let steps = start_steps(alloc, &self.confs)?;
-        let tolds = drive(alloc, self, steps.as_slice())?;
-        Ok((steps, tolds))
+        let confs = self.confs.copy(alloc)?;
+        let steps = start_steps(alloc, &confs)?;
+        drive(alloc, self, steps.as_slice())
     }
 }
 

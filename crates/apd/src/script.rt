@@ -134,15 +134,15 @@ struct Run<W: Write + Drop> {
 
 impl<W: Write + Drop> Run<W> {
     /// Prints what a step told.
-    fn print(&mut self, step: &Step<'_>, told: &Told) -> Result<(), ScriptFault>
+    fn print(&mut self, told: &Told) -> Result<(), ScriptFault>
         ensures { self.new.world ≡ self.old.world }
     {
-        match (step, told) {
-            (_, Told::Accepted(answer)) => {
+        match told {
+            Told::Accepted(answer) => {
                 let line = format!(in self.alloc; "{answer}\n")?;
                 self.writer.write_all(line.as_bytes()).map_err(writer_fault)
             }
-            (Step::Hand(Recipient::Radio(bssid)), Told::Handed(outs)) => {
+            Told::Handed(Recipient::Radio(bssid), outs) => {
                 if let Some(conf) = self.world.confs().with_bssid(*bssid) {
                     for out in outs.as_slice() {
                         write_out(self.alloc, &mut self.writer, &conf.interface, out)?;
@@ -156,20 +156,15 @@ impl<W: Write + Drop> Run<W> {
 
     /// Prints what steps told, the answers to requests only where they are asked for. A step that lacked
     /// memory is a fault, told once all others are printed.
-    fn print_all(
-        &mut self,
-        steps: &[Step<'_>],
-        tolds: &[Told],
-        answers: bool,
-    ) -> Result<(), ScriptFault>
+    fn print_all(&mut self, tolds: &[Told], answers: bool) -> Result<(), ScriptFault>
         ensures { self.new.world ≡ self.old.world }
     {
         let mut lacked = false;
-        for (step, told) in steps.iter().zip(tolds) {
+        for told in tolds {
             match told {
                 Told::NoMemory => lacked = true,
                 Told::Accepted(_) if !answers => {}
-                _ => self.print(step, told)?,
+                _ => self.print(told)?,
             }
         }
         if lacked {
@@ -183,15 +178,15 @@ impl<W: Write + Drop> Run<W> {
         ensures { IsReached self.old.world self.new.world }
     {
         let tolds = drive(self.alloc, &mut self.world, steps)?;
-        self.print_all(steps, tolds.as_slice(), true)
+        self.print_all(tolds.as_slice(), true)
     }
 
     /// Starts the world, and prints what it handed out and not what it accepted.
     fn start(&mut self) -> Result<(), ScriptFault>
         ensures { IsReached self.old.world self.new.world }
     {
-        let (steps, tolds) = self.world.start(self.alloc)?;
-        self.print_all(steps.as_slice(), tolds.as_slice(), false)
+        let tolds = self.world.start(self.alloc)?;
+        self.print_all(tolds.as_slice(), false)
     }
 
     /// Runs the line of a number.

@@ -2,10 +2,9 @@
 ghost use Rattle.std.specs.Prelude.{◌≡◌, IfOk};
 ghost use Rattle.apd_conf.specs.BuiltIn.{built_in};
 ghost use Rattle.apd_conf.specs.Conf.{policy_of};
-ghost use Rattle.apd_conf.specs.ListFile.{IsList};
 
-use crate::{AuthAlgs, FileName, HwMode, IgnoreBroadcastSsid, InterfaceName, Ssid};
-use apd_base::{AclMode, Addr, Bssid, Policy, Sequence, StationLimit};
+use crate::{AddressList, AuthAlgs, FileName, HwMode, IgnoreBroadcastSsid, InterfaceName, Ssid};
+use apd_base::{AclMode, Addr, Bssid, Policy, StationLimit};
 use std::alloc::{AllocError, Global};
 
 /// The configuration of one radio. A field has the name, and the unit, that it has in a file.
@@ -42,10 +41,10 @@ pub struct Conf {
     pub accept_mac_file: Option<FileName>,
     /// The file of the addresses that are denied.
     pub deny_mac_file: Option<FileName>,
-    /// The addresses of its accept file, in their order and without doubles; none until `set_lists`.
-    pub accept: Sequence<Addr>,
-    /// The addresses of its deny file, in the same way.
-    pub deny: Sequence<Addr>,
+    /// The addresses of its accept file; none until `set_lists`.
+    pub accept: AddressList,
+    /// The addresses of its deny file; none until `set_lists`.
+    pub deny: AddressList,
 }
 
 fn copied(file: &Option<FileName>, alloc: Global) -> Result<Option<FileName>, AllocError>
@@ -55,12 +54,6 @@ fn copied(file: &Option<FileName>, alloc: Global) -> Result<Option<FileName>, Al
         return Ok(None);
     };
     Ok(Some(file.copy(alloc)?))
-}
-
-fn listed(list: &Sequence<Addr>, alloc: Global) -> Result<Sequence<Addr>, AllocError>
-    ensures { IfOk result (λ copy. copy ≡ list.now) }
-{
-    Ok(Sequence::from_vec(Vec::from_slice(alloc, list.as_slice())?))
 }
 
 impl Conf {
@@ -83,8 +76,8 @@ impl Conf {
             macaddr_acl: AclMode::AcceptUnlessDenied,
             accept_mac_file: None,
             deny_mac_file: None,
-            accept: Sequence::new(alloc),
-            deny: Sequence::new(alloc),
+            accept: AddressList::new(alloc),
+            deny: AddressList::new(alloc),
         })
     }
 
@@ -107,15 +100,13 @@ impl Conf {
             macaddr_acl: self.macaddr_acl,
             accept_mac_file: copied(&self.accept_mac_file, alloc)?,
             deny_mac_file: copied(&self.deny_mac_file, alloc)?,
-            accept: listed(&self.accept, alloc)?,
-            deny: listed(&self.deny, alloc)?,
+            accept: self.accept.copy(alloc)?,
+            deny: self.deny.copy(alloc)?,
         })
     }
 
     /// Gives it the addresses of its two list files, as `read_list` reads them. It takes no memory.
-    pub fn set_lists(&mut self, accept: Sequence<Addr>, deny: Sequence<Addr>)
-        requires accept { IsList accept }
-        requires deny { IsList deny }
+    pub fn set_lists(&mut self, accept: AddressList, deny: AddressList)
         ensures { self.new ≡ record self.old { accept = accept; deny = deny } }
     {
         self.accept = accept;

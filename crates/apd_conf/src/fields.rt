@@ -24,9 +24,10 @@ use crate::rule::{
 };
 use crate::values::number_of;
 use crate::{
-    AuthAlgs, Conf, ConfFault, FileName, HwMode, IgnoreBroadcastSsid, InterfaceName, Required, Ssid,
+    AddressList, AuthAlgs, Conf, ConfFault, FileName, HwMode, IgnoreBroadcastSsid, InterfaceName,
+    Required, Ssid,
 };
-use apd_base::{AclMode, Bssid, Sequence, StationLimit};
+use apd_base::{AclMode, Bssid, StationLimit};
 use std::alloc::{AllocError, Global};
 
 // The value of a name, which its rule takes.
@@ -218,7 +219,7 @@ pub(crate) fn conf_from(alloc: Global, file: &[u8]) -> Result<Conf, ConfFault>
         macaddr_acl: macaddr_acl(file),
         accept_mac_file: file_name(b"accept_mac_file", file, alloc)?,
         deny_mac_file: file_name(b"deny_mac_file", file, alloc)?,
-        accept: Sequence::new(alloc),
-        deny: Sequence::new(alloc),
+        accept: AddressList::new(alloc),
+        deny: AddressList::new(alloc),
     })
 }

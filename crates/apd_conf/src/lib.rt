@@ -1,6 +1,7 @@
 //! The configuration of the daemon: one for each of its radios.
 #![tactic(auto)]
 
+pub mod address_list;
 pub mod auth_algs;
 pub mod conf;
 pub mod conf_fault;
@@ -20,6 +21,7 @@ pub mod rule;
 pub mod ssid;
 mod values;
 
+pub use address_list::AddressList;
 pub use auth_algs::AuthAlgs;
 pub use conf::Conf;
 pub use conf_fault::{ConfFault, Required};

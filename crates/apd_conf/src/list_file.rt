@@ -6,10 +6,10 @@ ghost use Rattle.apd_base.specs.Addr.{addr_cmp};
 ghost use Rattle.apd_conf.specs.Lines.{lines};
 ghost use Rattle.apd_conf.specs.ListFile.{address_of, is_end, address_at, edit_of, edited, IsListOf, IsList, IsFaultOf};
 
-use crate::ListFault;
+use crate::{AddressList, ListFault};
 use crate::lines::{is_skipped, lines_of};
 use apd_base::limits::MAX_LISTED;
-use apd_base::{Addr, Sequence, rows};
+use apd_base::{Addr, rows};
 use std::alloc::{AllocError, Global};
 
 // What a line of a list file does to the list so far.
@@ -78,10 +78,10 @@ fn apply(list: &mut Vec<(Addr, ())>, edit: Edit) -> Result<(), AllocError>
     Ok(())
 }
 
-fn addresses(alloc: Global, list: &[(Addr, ())]) -> Result<Sequence<Addr>, AllocError>
-    ensures { IfOk result (λ addresses. addresses ≡ map (λ row. row.0) list.now) }
+fn addresses(alloc: Global, list: &[(Addr, ())]) -> Result<Vec<Addr>, AllocError>
+    ensures { IfOk result (λ addresses. addresses.items ≡ map (λ row. row.0) list.now) }
 {
-    let mut addresses = Sequence::new(alloc);
+    let mut addresses = Vec::new(alloc);
     for (addr, ()) in list {
         addresses.push(*addr)?;
     }
@@ -93,7 +93,7 @@ fn addresses(alloc: Global, list: &[(Addr, ())]) -> Result<Sequence<Addr>, Alloc
 /// # Errors
 ///
 /// The fault of the first faulty line, or memory runs out.
-pub fn read_list(alloc: Global, file: &[u8]) -> Result<Sequence<Addr>, ListFault>
+pub fn read_list(alloc: Global, file: &[u8]) -> Result<AddressList, ListFault>
     ensures ok { IfOk result (IsListOf (lines file.now)) }
     ensures list { IfOk result IsList }
     ensures err { IfErr result (IsFaultOf (lines file.now)) }
@@ -110,7 +110,7 @@ pub fn read_list(alloc: Global, file: &[u8]) -> Result<Sequence<Addr>, ListFault
             return Err(ListFault::TooMany);
         }
     }
-    Ok(addresses(alloc, &list)?)
+    Ok(AddressList::from_vec(addresses(alloc, &list)?))
 }
 
 #[cfg(test)]

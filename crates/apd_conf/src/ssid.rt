@@ -41,9 +41,10 @@ impl Ssid {
         })
     }
 
-    /// Its bytes. It takes no memory.
+    /// Its bytes, 1 to 32. It takes no memory.
     pub fn as_bytes(&self) -> &[u8]
-        ensures { result.now ≡ self.now }
+        ensures bytes { result.now ≡ self.now }
+        ensures name { IsTrue (is_ssid self.now) }
     {
         self.bytes.as_slice()
     }

@@ -1,12 +1,13 @@
 -- The fields of what is written.
-use Rattle.std.proofs.Common.{◌≡◌, ℕ, ◌^◌, ◌<◌, List, [], ◌∷◌, length, refl, arith, lit<}
+use Rattle.std.proofs.Common.{◌≡◌, ℕ, ◌^◌, ◌<◌, Option, Some, None, List, [], ◌∷◌, length, refl, arith, lit<}
 use Rattle.std.proofs.lemmas.Nat.{from_le_bytes-to_le_bytes_2}
+use Rattle.apd_base.specs.declared.station.Aid.{Aid}
 use Rattle.apd_frame.specs.declared.codes.Status.{Status}
-use Rattle.apd_frame.specs.declared.codes.Status.TheVariants.{Success, RefusedReasonUnspecified, NotSupportedAuthAlgorithm, TransactionSequenceError, DeniedNoMoreStas}
+use Rattle.apd_frame.specs.declared.codes.Status.TheVariants.{Success, RefusedReasonUnspecified, NotSupportedAuthAlgorithm, TransactionSequenceError, DeniedNoMoreStas, DeniedListenIntervalTooLarge}
 use Rattle.apd_frame.specs.declared.replies.Reply.{Reply}
 use Rattle.apd_frame.specs.declared.replies.ReplyBody.{ReplyBody}
-use Rattle.apd_frame.specs.declared.replies.ReplyBody.TheVariants.{Auth, Deauth}
-use Rattle.apd_frame.specs.Wire.{wire, status_code, HasNumbers, IsReply, Carries}
+use Rattle.apd_frame.specs.declared.replies.ReplyBody.TheVariants.{Auth, Assoc, Reassoc, Probe, Disassoc, Deauth}
+use Rattle.apd_frame.specs.Wire.{wire, status_code, aid_field, HasNumbers, IsReply, Carries, CarriesBody}
 
 -- what holds of six cells holds of a list of length six
 for_six : (P : List ℕ → Type 0) → ((a b c d e f : ℕ) → P (a ∷ b ∷ c ∷ d ∷ e ∷ f ∷ [])) → (xs : List ℕ) → length xs ≡ 6 → P xs
@@ -25,12 +26,44 @@ status_small RefusedReasonUnspecified = lit< tt
 status_small NotSupportedAuthAlgorithm = lit< tt
 status_small TransactionSequenceError = lit< tt
 status_small DeniedNoMoreStas = lit< tt
+status_small DeniedListenIntervalTooLarge = lit< tt
+
+aid_small : (aid : Option Aid) → aid_field aid < 2 ^ 16
+aid_small None = lit< tt
+aid_small (Some aid) = let high = aid.high in omega arith
 
 abbrev reply_of : List ℕ → List ℕ → ReplyBody → Reply
 reply_of to own b = record { to = record { 0 = to }; bssid = record { 0 = record { 0 = own } }; body = b }
 
 abbrev IsCarried : ReplyBody → List ℕ → List ℕ → Type 0
 IsCarried b to own = Carries (wire (reply_of to own b)) (reply_of to own b)
+
+abbrev IsBodyCarried : ReplyBody → List ℕ → List ℕ → Type 0
+IsBodyCarried b to own = CarriesBody (wire (reply_of to own b)) b
+
+body_cells : (b : ReplyBody) → HasNumbers b → (t u v w x y g h i j k l : ℕ) → IsBodyCarried b (t ∷ u ∷ v ∷ w ∷ x ∷ y ∷ []) (g ∷ h ∷ i ∷ j ∷ k ∷ l ∷ [])
+body_cells (Auth algorithm transaction status) n t u v w x y g h i j k l =
+    (refl, from_le_bytes-to_le_bytes_2 algorithm n.0, from_le_bytes-to_le_bytes_2 transaction n.1, from_le_bytes-to_le_bytes_2 (status_code status) (status_small status))
+body_cells (Assoc response) n t u v w x y g h i j k l = record {
+  capability_at = refl;
+  status_at = from_le_bytes-to_le_bytes_2 (status_code response.status) (status_small response.status);
+  aid_at = from_le_bytes-to_le_bytes_2 (aid_field response.aid) (aid_small response.aid);
+  elements_at = refl;
+}
+body_cells (Reassoc response) n t u v w x y g h i j k l = record {
+  capability_at = refl;
+  status_at = from_le_bytes-to_le_bytes_2 (status_code response.status) (status_small response.status);
+  aid_at = from_le_bytes-to_le_bytes_2 (aid_field response.aid) (aid_small response.aid);
+  elements_at = refl;
+}
+body_cells (Probe beacon_interval ssid rates channel) n t u v w x y g h i j k l = record {
+  timestamp_at = refl;
+  beacon_interval_at = from_le_bytes-to_le_bytes_2 beacon_interval n.0;
+  capability_at = refl;
+  elements_at = refl;
+}
+body_cells (Disassoc reason) n t u v w x y g h i j k l = (refl, from_le_bytes-to_le_bytes_2 reason.0 n)
+body_cells (Deauth reason) n t u v w x y g h i j k l = (refl, from_le_bytes-to_le_bytes_2 reason.0 n)
 
 cells : (b : ReplyBody) → HasNumbers b → (t u v w x y g h i j k l : ℕ) → IsCarried b (t ∷ u ∷ v ∷ w ∷ x ∷ y ∷ []) (g ∷ h ∷ i ∷ j ∷ k ∷ l ∷ [])
 cells (Auth algorithm transaction status) n t u v w x y g h i j k l = record {
@@ -43,7 +76,55 @@ cells (Auth algorithm transaction status) n t u v w x y g h i j k l = record {
   sender_at = refl;
   bssid_at = refl;
   no_sequence = refl;
-  body_at = (refl, from_le_bytes-to_le_bytes_2 algorithm n.0, from_le_bytes-to_le_bytes_2 transaction n.1, from_le_bytes-to_le_bytes_2 (status_code status) (status_small status));
+  body_at = body_cells (Auth algorithm transaction status) n t u v w x y g h i j k l;
+}
+cells (Assoc response) n t u v w x y g h i j k l = record {
+  version_zero = refl;
+  management = refl;
+  subtype_at = refl;
+  no_flag = refl;
+  no_duration = refl;
+  receiver_at = refl;
+  sender_at = refl;
+  bssid_at = refl;
+  no_sequence = refl;
+  body_at = body_cells (Assoc response) n t u v w x y g h i j k l;
+}
+cells (Reassoc response) n t u v w x y g h i j k l = record {
+  version_zero = refl;
+  management = refl;
+  subtype_at = refl;
+  no_flag = refl;
+  no_duration = refl;
+  receiver_at = refl;
+  sender_at = refl;
+  bssid_at = refl;
+  no_sequence = refl;
+  body_at = body_cells (Reassoc response) n t u v w x y g h i j k l;
+}
+cells (Probe beacon_interval ssid rates channel) n t u v w x y g h i j k l = record {
+  version_zero = refl;
+  management = refl;
+  subtype_at = refl;
+  no_flag = refl;
+  no_duration = refl;
+  receiver_at = refl;
+  sender_at = refl;
+  bssid_at = refl;
+  no_sequence = refl;
+  body_at = body_cells (Probe beacon_interval ssid rates channel) n t u v w x y g h i j k l;
+}
+cells (Disassoc reason) n t u v w x y g h i j k l = record {
+  version_zero = refl;
+  management = refl;
+  subtype_at = refl;
+  no_flag = refl;
+  no_duration = refl;
+  receiver_at = refl;
+  sender_at = refl;
+  bssid_at = refl;
+  no_sequence = refl;
+  body_at = body_cells (Disassoc reason) n t u v w x y g h i j k l;
 }
 cells (Deauth reason) n t u v w x y g h i j k l = record {
   version_zero = refl;
@@ -55,7 +136,7 @@ cells (Deauth reason) n t u v w x y g h i j k l = record {
   sender_at = refl;
   bssid_at = refl;
   no_sequence = refl;
-  body_at = (refl, from_le_bytes-to_le_bytes_2 reason.0 n);
+  body_at = body_cells (Deauth reason) n t u v w x y g h i j k l;
 }
 
 pub carried : (reply : Reply) → IsReply reply → Carries (wire reply) reply

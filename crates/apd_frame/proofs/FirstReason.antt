@@ -1,10 +1,10 @@
--- The first element of a list that passes a test, by its place; and the first reason of the table, by its rank.
+-- The first element of a list that passes a test, by its place; and the first of the reasons, by its rank.
 use Rattle.std.proofs.Common.{◌≡◌, ℕ, zero, suc, ◌<◌, Bool, true, false, cond, List, [], ◌∷◌, Some, None, refl, sym, ◌∙◌, ap, arith}
 use Rattle.std.specs.List.{find, slice_get}
 use Rattle.std.specs.Prelude.{IsTrue}
 use Rattle.apd_frame.specs.declared.reasons.Ignored.{Ignored}
 use Rattle.apd_frame.specs.declared.reasons.Ignored.TheVariants.{TooLong, Short, Version, Class, Fragment, Flags, Direction, Sender, Receiver, OtherBss, Subtype, Body}
-use Rattle.apd_frame.specs.Outcome.{table, rank}
+use Rattle.apd_frame.specs.Outcome.{reasons, rank}
 
 -- none of the first i passes
 abbrev pub NoneBefore : {X : Type 0} → (X → Bool) → List X → ℕ → Type 0
@@ -67,8 +67,12 @@ found_at : {X : Type 0} (p : X → Bool) (xs : List X) (x : X) → find p xs ≡
 found_at p [] x e = cc
 found_at p (z ∷ zs) x e = found_more p z zs x (found_at p zs x) (p z) refl e
 
--- a reason's rank is its place in the table
-at_rank : (r : Ignored) → slice_get table (rank r) ≡ Some r
+-- what is found passes
+pub found_passes : {X : Type 0} (p : X → Bool) (xs : List X) (x : X) → find p xs ≡ Some x → IsTrue (p x)
+found_passes p xs x e = (found_at p xs x e).1.passes
+
+-- a reason's rank is its place in order
+at_rank : (r : Ignored) → slice_get reasons (rank r) ≡ Some r
 at_rank TooLong = refl
 at_rank Short = refl
 at_rank Version = refl
@@ -85,7 +89,7 @@ at_rank Body = refl
 some_same : (r q : Ignored) → Some r ≡ Some q → rank q ≡ rank r
 some_same r q e = let same : q ≡ r = cc in ap rank same
 
-rank_at : (i : ℕ) (q : Ignored) → slice_get table i ≡ Some q → rank q ≡ i
+rank_at : (i : ℕ) (q : Ignored) → slice_get reasons i ≡ Some q → rank q ≡ i
 rank_at zero q e = some_same TooLong q e
 rank_at (suc zero) q e = some_same Short q e
 rank_at (suc (suc zero)) q e = some_same Version q e
@@ -108,23 +112,23 @@ not_both : (b : Bool) → b ≡ false → ¬ (IsTrue b)
 not_both b e h = cc
 
 -- the reason that is found is the first by rank that holds
-pub told_first : (p : Ignored → Bool) (r : Ignored) → IsTrue (p r) → ((q : Ignored) → rank q < rank r → ¬ (IsTrue (p q))) → find p table ≡ Some r
+pub told_first : (p : Ignored → Bool) (r : Ignored) → IsTrue (p r) → ((q : Ignored) → rank q < rank r → ¬ (IsTrue (p q))) → find p reasons ≡ Some r
 told_first p r here before =
-    first_at p table r (rank r) (at_rank r) here
+    first_at p reasons r (rank r) (at_rank r) here
     (λ j y lt g. let e : rank y ≡ j = rank_at j y g in let lt' : rank y < rank r = omega arith in false_from (p y) (before y lt'))
 
-pub told_none : (p : Ignored → Bool) → ((q : Ignored) → ¬ (IsTrue (p q))) → find p table ≡ None
-told_none p h = all_none p table (λ j y g. false_from (p y) (h y))
+pub told_none : (p : Ignored → Bool) → ((q : Ignored) → ¬ (IsTrue (p q))) → find p reasons ≡ None
+told_none p h = all_none p reasons (λ j y g. false_from (p y) (h y))
 
-pub first_holds : (p : Ignored → Bool) (r : Ignored) → find p table ≡ Some r → IsTrue (p r)
-first_holds p r e = (found_at p table r e).1.passes
+pub first_holds : (p : Ignored → Bool) (r : Ignored) → find p reasons ≡ Some r → IsTrue (p r)
+first_holds p r e = found_passes p reasons r e
 
-pub none_earlier : (p : Ignored → Bool) (r : Ignored) → find p table ≡ Some r → (q : Ignored) → rank q < rank r → ¬ (IsTrue (p q))
+pub none_earlier : (p : Ignored → Bool) (r : Ignored) → find p reasons ≡ Some r → (q : Ignored) → rank q < rank r → ¬ (IsTrue (p q))
 none_earlier p r e q lt =
-    let found = found_at p table r e in
+    let found = found_at p reasons r e in
     let i : rank r ≡ found.0 = rank_at found.0 r found.1.here in
     let lt' : rank q < found.0 = omega arith in
     not_both (p q) (found.1.before (rank q) q lt' (at_rank q))
 
-pub none_holds : (p : Ignored → Bool) → find p table ≡ None → (q : Ignored) → ¬ (IsTrue (p q))
-none_holds p e q = not_both (p q) (none_at p table e (rank q) q (at_rank q))
+pub none_holds : (p : Ignored → Bool) → find p reasons ≡ None → (q : Ignored) → ¬ (IsTrue (p q))
+none_holds p e q = not_both (p q) (none_at p reasons e (rank q) q (at_rank q))

@@ -1,2 +1,4 @@
-pub mod FirstReason
+pub mod ElementLaws
 pub mod Fields
+pub mod FirstReason
+pub mod Says

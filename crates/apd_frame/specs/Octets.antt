@@ -1,7 +1,8 @@
 -- The fields of a management or data frame by the place of their octets (IEEE Std 802.11-2016, 9.2.4,
 -- 9.3.2.1, 9.3.3). Octet 0 is sent first, bit 0 of an octet is its lowest, and a number of two octets has
 -- the lower one in front (9.2.2). What a short list lacks counts as 0.
-use Rattle.std.specs.Prelude.{ℕ, Bool, ◌+◌, ◌/◌, ◌%◌, ◌^◌, ◌==◌, ◌&&◌, List, [], ◌∷◌, slice_index}
+use Rattle.std.specs.Prelude.{ℕ, Bool, ◌+◌, ◌/◌, ◌%◌, ◌^◌, ◌==◌, ◌&&◌, List, [], ◌∷◌, drop, take, slice_index}
+use Rattle.std.specs.Int.{from_le_bytes, w64}
 use Rattle.std.specs.Str.{bytes_eq}
 use Rattle.apd_base.specs.Number.{u16_at}
 use Rattle.apd_base.specs.declared.address.Addr.{Addr}
@@ -83,11 +84,57 @@ transaction_number f = u16_at f 26
 abbrev pub status_field : List ℕ → ℕ
 status_field f = u16_at f 28
 
--- the body of a Deauthentication frame (9.3.3.13): Reason Code (9.4.1.7)
+-- the body of a Disassociation and of a Deauthentication frame (9.3.3.5, 9.3.3.13): Reason Code (9.4.1.7)
 abbrev pub reason_field : List ℕ → ℕ
 reason_field f = u16_at f 24
 
--- management and data frames, and those of them that are told apart (9.2.4.1.3, Table 9-1)
+-- the body of an Association and of a Reassociation Request frame (9.3.3.6, 9.3.3.8): Capability Information
+-- (9.4.1.4) and Listen Interval (9.4.1.6); elements follow, in the latter behind Current AP Address (9.4.1.5)
+abbrev pub capability_information : List ℕ → ℕ
+capability_information f = u16_at f 24
+
+abbrev pub listen_interval : List ℕ → ℕ
+listen_interval f = u16_at f 26
+
+abbrev pub association_elements : List ℕ → List ℕ
+association_elements f = drop 28 f
+
+abbrev pub current_ap_address : List ℕ → Addr
+current_ap_address f = address_at f 28
+
+abbrev pub reassociation_elements : List ℕ → List ℕ
+reassociation_elements f = drop 34 f
+
+-- the body of a Probe Request frame (9.3.3.10): elements alone
+abbrev pub probe_elements : List ℕ → List ℕ
+probe_elements f = drop 24 f
+
+-- the body of an Association and of a Reassociation Response frame (9.3.3.7, 9.3.3.9): Capability Information,
+-- Status Code, AID (9.4.1.8) and elements
+abbrev pub response_status : List ℕ → ℕ
+response_status f = u16_at f 26
+
+abbrev pub response_aid : List ℕ → ℕ
+response_aid f = u16_at f 28
+
+abbrev pub response_elements : List ℕ → List ℕ
+response_elements f = drop 30 f
+
+-- the body of a Probe Response frame (9.3.3.11): Timestamp (9.4.1.10), Beacon Interval (9.4.1.3), Capability
+-- Information and elements
+abbrev pub timestamp : List ℕ → ℕ
+timestamp f = from_le_bytes w64 (take 8 (drop 24 f))
+
+abbrev pub beacon_interval_field : List ℕ → ℕ
+beacon_interval_field f = u16_at f 32
+
+abbrev pub probe_capability : List ℕ → ℕ
+probe_capability f = u16_at f 34
+
+abbrev pub probe_response_elements : List ℕ → List ℕ
+probe_response_elements f = drop 36 f
+
+-- management and data frames, and the one kind that is told apart in the header (9.2.4.1.3, Table 9-1)
 abbrev pub is_management : List ℕ → Bool
 is_management f = frame_type f == 0
 
@@ -96,9 +143,6 @@ is_data f = frame_type f == 2
 
 abbrev pub is_probe_request : List ℕ → Bool
 is_probe_request f = is_management f && (subtype f == 4)
-
-abbrev pub is_authentication : List ℕ → Bool
-is_authentication f = is_management f && (subtype f == 11)
 
 -- a group's address: bit 0 of its first octet is 1; the broadcast address has all bits 1 (9.2.4.3.3)
 abbrev pub is_group_address : Addr → Bool

@@ -15,6 +15,8 @@ pub enum Status {
     TransactionSequenceError,
     /// 17: the access point can't serve more stations.
     DeniedNoMoreStas,
+    /// 51: the listen interval is too large.
+    DeniedListenIntervalTooLarge,
 }
 
 impl Status {
@@ -28,6 +30,7 @@ impl Status {
             Status::NotSupportedAuthAlgorithm => 13,
             Status::TransactionSequenceError => 14,
             Status::DeniedNoMoreStas => 17,
+            Status::DeniedListenIntervalTooLarge => 51,
         }
     }
 }
@@ -39,4 +42,12 @@ pub struct Reason(pub u16);
 impl Reason {
     /// 1: unspecified reason.
     pub const UNSPECIFIED: Reason = Reason(1);
+    /// 2: the authentication is no longer valid.
+    pub const INVALID_AUTHENTICATION: Reason = Reason(2);
+    /// 4: the station was silent for too long.
+    pub const INACTIVITY: Reason = Reason(4);
+    /// 6: a class 2 frame from a station that is not authenticated.
+    pub const INVALID_CLASS2_FRAME: Reason = Reason(6);
+    /// 7: a class 3 frame from a station that is not associated.
+    pub const INVALID_CLASS3_FRAME: Reason = Reason(7);
 }

@@ -1,87 +1,125 @@
 //! From bytes to a frame, or to the reason why they are ignored.
-ghost use Rattle.std.specs.Prelude.{◌≡◌, ◌≤◌, ◌↔◌, ℕ, List, Result, IfNone, length};
+ghost use Rattle.std.specs.Prelude.{◌≡◌, ◌+◌, ◌≤◌, ◌↔◌, ℕ, List, Option, None, Some, Result, IfOk, MatchResult, length};
 ghost use Rattle.std.specs.List.{find};
 ghost use Rattle.apd_base.specs.declared.address.Bssid.{Bssid as Own};
-ghost use Rattle.apd_frame.specs.declared.reasons.Ignored.{Ignored as Reason};
-ghost use Rattle.apd_frame.specs.declared.received.Frame.{Frame as Received};
-ghost use Rattle.apd_frame.specs.Outcome.{holds, table, outcome, IsOutcome};
+ghost use Rattle.apd_frame.specs.declared.reasons.Ignored.{Ignored as WhyIgnored};
+ghost use Rattle.apd_frame.specs.Contents.{Contents, contents, received};
+ghost use Rattle.apd_frame.specs.Kinds.{fixed_octets, kind_of};
+ghost use Rattle.apd_frame.specs.Outcome.{contents_at, holds, outcome, reasons, IsOutcome};
 
+use crate::codes::Reason;
 use crate::header::{
-    HEADER, address_at, is_authentication, is_flagged, is_for, is_fragment, is_group_or_own,
-    is_management, is_other_class, is_other_direction, protocol_version,
+    HEADER, address_at, is_flagged, is_for, is_fragment, is_group_or_own, is_management,
+    is_other_class, is_other_direction, protocol_version, rest_from,
 };
+use crate::kind::Kind;
 use crate::reasons::Ignored;
-use crate::received::{Authentication, Frame};
+use crate::received::{Association, Authentication, Frame, Probe, Reassociation};
 use apd_base::Bssid;
 use apd_base::limits::MAX_FRAME;
 use apd_base::number::u16_at;
 
-/// The bytes of an authentication frame's body (IEEE Std 802.11-2016, 9.3.3.12): three numbers.
-const AUTHENTICATION: usize = 6;
-
-/// The first reason for which bytes are ignored.
-fn reason_of(bytes: &[u8], own: Bssid) -> Option<Ignored>
-    ensures reason { result ≡ find (holds bytes.now own) table }
-    ensures whole { IfNone result (30 ≤ length bytes.now) }
+/// The kind of a frame, or the first reason for which it is ignored.
+fn kind_or_reason(bytes: &[u8], own: Bssid) -> Result<Kind, Ignored>
+    ensures first { MatchResult result
+        (λ kind. (find (holds bytes.now own) reasons ≡ None) × (kind_of bytes.now ≡ Some kind))
+        (λ reason. find (holds bytes.now own) reasons ≡ Some reason) }
+    ensures whole { IfOk result (λ kind. 24 + fixed_octets kind ≤ length bytes.now) }
 {
     if bytes.len() > MAX_FRAME {
-        return Some(Ignored::TooLong);
+        return Err(Ignored::TooLong);
     }
     if bytes.len() < HEADER {
-        return Some(Ignored::Short);
+        return Err(Ignored::Short);
     }
     if protocol_version(bytes) != 0 {
-        return Some(Ignored::Version);
+        return Err(Ignored::Version);
     }
     if is_other_class(bytes) {
-        return Some(Ignored::Class);
+        return Err(Ignored::Class);
     }
     if is_fragment(bytes) {
-        return Some(Ignored::Fragment);
+        return Err(Ignored::Fragment);
     }
     if is_flagged(bytes) {
-        return Some(Ignored::Flags);
+        return Err(Ignored::Flags);
     }
     if is_other_direction(bytes) {
-        return Some(Ignored::Direction);
+        return Err(Ignored::Direction);
     }
     if is_group_or_own(address_at(bytes, 10), own) {
-        return Some(Ignored::Sender);
+        return Err(Ignored::Sender);
     }
     if !is_for(bytes, own, address_at(bytes, 4)) {
-        return Some(Ignored::Receiver);
+        return Err(Ignored::Receiver);
     }
     if is_management(bytes) && !is_for(bytes, own, address_at(bytes, 16)) {
-        return Some(Ignored::OtherBss);
+        return Err(Ignored::OtherBss);
     }
-    if !is_authentication(bytes) {
-        return Some(Ignored::Subtype);
+    let Some(kind) = Kind::of(bytes) else {
+        return Err(Ignored::Subtype);
+    };
+    if bytes.len() < HEADER + kind.fixed_length() {
+        return Err(Ignored::Body);
     }
-    if bytes.len() < HEADER + AUTHENTICATION {
-        return Some(Ignored::Body);
+    Ok(kind)
+}
+
+/// The frame of a kind whose fields are these bytes.
+fn frame_of(bytes: &[u8], kind: Kind) -> Frame<'_>
+    requires { 24 + fixed_octets kind ≤ length bytes.now }
+    ensures { contents result ≡ contents_at kind bytes.now }
+{
+    let sender = address_at(bytes, 10);
+    match kind {
+        Kind::Uplink => Frame::Uplink { sender },
+        Kind::AssociationRequest => Frame::Assoc(Association {
+            sender,
+            capability: u16_at(bytes, 24),
+            listen_interval: u16_at(bytes, 26),
+            elements: rest_from(bytes, 28),
+        }),
+        Kind::ReassociationRequest => Frame::Reassoc(Reassociation {
+            sender,
+            capability: u16_at(bytes, 24),
+            listen_interval: u16_at(bytes, 26),
+            current_ap: address_at(bytes, 28),
+            elements: rest_from(bytes, 34),
+        }),
+        Kind::ProbeRequest => Frame::Probe(Probe {
+            sender,
+            elements: rest_from(bytes, HEADER),
+        }),
+        Kind::Disassociation => Frame::Disassoc {
+            sender,
+            reason: Reason(u16_at(bytes, 24)),
+        },
+        Kind::Authentication => Frame::Auth(Authentication {
+            sender,
+            algorithm: u16_at(bytes, 24),
+            transaction: u16_at(bytes, 26),
+            status: u16_at(bytes, 28),
+        }),
+        Kind::Deauthentication => Frame::Deauth {
+            sender,
+            reason: Reason(u16_at(bytes, 24)),
+        },
     }
-    None
 }
 
 /// What bytes are to the radio of a BSSID: the first reason of [`Ignored`] that holds, or the frame.
-pub fn decode(bytes: &[u8], own: Bssid) -> Result<Frame, Ignored>
-    ensures { result ≡ outcome bytes.now own }
+/// Nothing is copied: its elements are a slice of the bytes. It takes no memory.
+pub fn decode(bytes: &[u8], own: Bssid) -> Result<Frame<'_>, Ignored>
+    ensures { received result ≡ outcome bytes.now own }
 {
-    if let Some(reason) = reason_of(bytes, own) {
-        return Err(reason);
-    }
-    Ok(Frame::Auth(Authentication {
-        sender: address_at(bytes, 10),
-        algorithm: u16_at(bytes, 24),
-        transaction: u16_at(bytes, 26),
-        status: u16_at(bytes, 28),
-    }))
+    let kind = kind_or_reason(bytes, own)?;
+    Ok(frame_of(bytes, kind))
 }
 
 /// Of any bytes exactly one outcome holds, and it is what [`decode`] answers: a reason that holds
-/// while none before it does, or, where no reason holds, the frame whose fields stand in their
-/// places.
+/// while none before it does, or, where no reason holds, what the frame says, each field in its
+/// place.
 pub fn exactly_one_outcome()
-    ensures { (f : List ℕ) (own : Own) (x : Result Received Reason) →
+    ensures { (f : List ℕ) (own : Own) (x : Result Contents WhyIgnored) →
         IsOutcome f own x ↔ (x ≡ outcome f own) }
 {}

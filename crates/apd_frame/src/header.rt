@@ -1,6 +1,6 @@
 //! The fields of a frame's header (IEEE Std 802.11-2016, 9.2.4), and what is asked of them.
-ghost use Rattle.std.specs.Prelude.{◌≡◌, ◌+◌, ◌<◌, ◌≤◌, ◌&&◌, ◌||◌, ◌==◌, not, length};
-ghost use Rattle.apd_frame.specs.Octets.{address_at, bit, fragment_number, frame_type, from_ds, is_authentication, is_data, is_group_address, is_management, is_probe_request, is_same_address, more_fragments, order, protected_frame, protocol_version, subtype, to_ds};
+ghost use Rattle.std.specs.Prelude.{◌≡◌, ◌+◌, ◌<◌, ◌≤◌, ◌&&◌, ◌||◌, ◌==◌, not, drop, length};
+ghost use Rattle.apd_frame.specs.Octets.{address_at, bit, fragment_number, frame_type, from_ds, is_data, is_group_address, is_management, is_probe_request, is_same_address, more_fragments, order, protected_frame, protocol_version, subtype, to_ds};
 ghost use Rattle.apd_frame.specs.Outcome.{is_for};
 
 use apd_base::{Addr, Bssid};
@@ -32,7 +32,7 @@ fn frame_type(bytes: &[u8]) -> u8
     bytes[0] / 4 % 4
 }
 
-fn subtype(bytes: &[u8]) -> u8
+pub(crate) fn subtype(bytes: &[u8]) -> u8
     requires { 24 ≤ length bytes.now }
     ensures { result ≡ subtype bytes.now }
 {
@@ -53,6 +53,14 @@ pub(crate) fn address_at(bytes: &[u8], place: usize) -> Addr
     ])
 }
 
+/// The bytes from a place on.
+pub(crate) fn rest_from(bytes: &[u8], place: usize) -> &[u8]
+    requires { place ≤ length bytes.now }
+    ensures { result.now ≡ drop place bytes.now }
+{
+    &bytes[place..]
+}
+
 pub(crate) fn is_management(bytes: &[u8]) -> bool
     requires { 24 ≤ length bytes.now }
     ensures { result ≡ is_management bytes.now }
@@ -60,7 +68,7 @@ pub(crate) fn is_management(bytes: &[u8]) -> bool
     frame_type(bytes) == 0
 }
 
-fn is_data(bytes: &[u8]) -> bool
+pub(crate) fn is_data(bytes: &[u8]) -> bool
     requires { 24 ≤ length bytes.now }
     ensures { result ≡ is_data bytes.now }
 {
@@ -72,13 +80,6 @@ fn is_probe_request(bytes: &[u8]) -> bool
     ensures { result ≡ is_probe_request bytes.now }
 {
     is_management(bytes) && subtype(bytes) == 4
-}
-
-pub(crate) fn is_authentication(bytes: &[u8]) -> bool
-    requires { 24 ≤ length bytes.now }
-    ensures { result ≡ is_authentication bytes.now }
-{
-    is_management(bytes) && subtype(bytes) == 11
 }
 
 pub(crate) fn is_other_class(bytes: &[u8]) -> bool

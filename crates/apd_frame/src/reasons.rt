@@ -26,9 +26,10 @@ pub enum Ignored {
     /// Address 3 of a management frame is not the radio's own; in a probe request it may be the
     /// broadcast address.
     OtherBss,
-    /// Not an authentication frame: no other kind is known yet.
+    /// A management frame that is no request to associate, reassociate or find a network, and no
+    /// disassociation, authentication or deauthentication.
     Subtype,
-    /// The body is shorter than its fixed fields.
+    /// The body is shorter than the fixed fields of its kind.
     Body,
 }
 

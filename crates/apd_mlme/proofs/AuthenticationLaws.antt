@@ -1,8 +1,9 @@
 -- What an authentication request leaves.
-use Rattle.std.proofs.Common.{◌≡◌, ◌≢◌, ℕ, ◌<◌, Bool, true, false, cond, not, ◌&&◌, eqb, leb, List, [], ◌∷◌, Option, Some, None, ◌⊎◌, inl, inr, refl, sym, ap, subst, ◌∙◌, IsTrue, IsSome, arith}
+use Rattle.std.proofs.Common.{◌≡◌, ◌≢◌, ℕ, ◌<◌, Bool, true, false, cond, not, ◌&&◌, eqb, leb, [], ◌∷◌, Option, Some, None, inl, inr, refl, sym, ap, ◌∙◌, IsTrue, IsSome, arith}
 use Rattle.std.specs.Option.{is_some}
 use Rattle.std.specs.Prelude.{map as list_map}
 use Rattle.std.specs.Ordering.{eq_by_cmp}
+use Rattle.std.specs.List.{AllByRecursion}
 use Rattle.std.specs.FinMap as map
 use Rattle.std.proofs.lemmas.Bool.{and_parts, eqb-true, leb-false}
 use Rattle.apd_base.specs.declared.address.Addr.{Addr}
@@ -10,13 +11,12 @@ use Rattle.apd_base.specs.declared.address.Bssid.{Bssid}
 use Rattle.apd_base.specs.declared.station.Policy.{Policy}
 use Rattle.apd_base.specs.declared.station.Station.{Station}
 use Rattle.apd_base.specs.declared.station.Station.TheVariants.{Authenticated}
-use Rattle.apd_base.specs.Addr.{bssid_cmp, station_cmp}
+use Rattle.apd_base.specs.Addr.{bssid_cmp}
 use Rattle.apd_base.specs.State.{State, station_at, policy_at, aid_of, aid_at, count}
 use Rattle.apd_base.proofs.AddrLaws.{station_total, station_exact}
 use Rattle.apd_base.proofs.MapLaws.{one_or_apart, apart, get_inserted, get_insert_other}
 use Rattle.apd_frame.specs.declared.received.Authentication.{Authentication}
-use Rattle.apd_frame.specs.declared.codes.Status.{Status}
-use Rattle.apd_frame.specs.declared.codes.Status.TheVariants.{Success, RefusedReasonUnspecified, NotSupportedAuthAlgorithm, TransactionSequenceError, DeniedNoMoreStas}
+use Rattle.apd_frame.specs.declared.codes.Status.TheVariants.{Success}
 use Rattle.apd_conf.specs.declared.conf.Conf.{Conf}
 use Rattle.apd_conf.specs.Auth.{allows_open}
 use Rattle.apd_table.specs.Allowed.{allowed}
@@ -25,26 +25,13 @@ use Rattle.apd_record.specs.Meaning.{meaning_of, put_station}
 use Rattle.apd_table.specs.Sound.{Sound, StaySound}
 use Rattle.apd_table.proofs.Put.{sound_put}
 use Rattle.apd_mlme.specs.declared.decision.Recipient.TheVariants.{Radio}
-use Rattle.apd_mlme.specs.Authentication.{is_known, station_limit, is_full, first_status, refusals, auth_status, is_success, is_admitted, auth_verdict, auth_response}
+use Rattle.apd_mlme.specs.Authentication.{is_known, station_limit, is_full, refusals, auth_status, is_admitted, auth_verdict, auth_response}
 use Rattle.apd_mlme.specs.Driver.{driven, DriverMap}
-use Rattle.apd_mlme.specs.Outs.{sent, outs_to, is_same}
+use Rattle.apd_mlme.specs.Outs.{sent, outs_to}
+use Rattle.apd_mlme.specs.Refusals.{is_success}
 use Rattle.apd_mlme.specs.Told.{IsToldTruly}
-
--- the status is success only where no line holds
-all_pass : (a b c d : Bool) → is_success (first_status ((a, NotSupportedAuthAlgorithm) ∷ (b, TransactionSequenceError) ∷ (c, RefusedReasonUnspecified) ∷ (d, DeniedNoMoreStas) ∷ [])) ≡ true → (a ≡ false) × (b ≡ false) × (c ≡ false) × (d ≡ false)
-all_pass true b c d e = cc
-all_pass false true c d e = cc
-all_pass false false true d e = cc
-all_pass false false false true e = cc
-all_pass false false false false e = (refl, refl, refl, refl)
-
-not_false : (t : Bool) → not t ≡ false → t ≡ true
-not_false true e = refl
-not_false false e = cc
-
-not_and : (a b : Bool) → a ≡ true → (a && b) ≡ false → b ≡ false
-not_and true b e f = f
-not_and false b e f = cc
+use Rattle.apd_mlme.proofs.RefusalLaws.{none_holds, not_and, status_success}
+use Rattle.apd_mlme.proofs.Cases.{not_false}
 
 room : (o : Option Policy) (n : ℕ) → leb (station_limit o) n ≡ false → n < 2007
 room None n e = let low = leb-false 0 n e in absurd (omega arith)
@@ -61,14 +48,18 @@ module _ (s : State) (conf : Conf) (b : Bssid) (request : Authentication) where
   abbrev new : State
   new = put_station b request.sender Authenticated s
 
+  -- success says that none of the lines holds
+  no_reason : is_success (auth_status s conf b request) ≡ true → AllByRecursion (λ line. line.0 ≡ false) (refusals s conf b request)
+  no_reason e = none_holds (refusals s conf b request) (refl, (refl, (refl, (refl, tt)))) e
+
   can_put : IsSome (policy_at s b) → admitted ≡ true → CanPut s b request.sender Authenticated
   can_put policy e =
       let parts = and_parts (is_success (auth_status s conf b request)) (not (is_known s b request)) e in
-      let none = all_pass (not (eqb request.algorithm 0 && allows_open conf.auth_algs)) (not (eqb request.transaction 1)) (not (allowed s b request.sender)) (not (is_known s b request) && is_full s b) parts.0 in
+      let none = no_reason parts.0 in
       record {
         identified = tt;
-        allowed = (policy, not_false _ none.2);
-        room = inr (room (policy_at s b) (count s b) (not_and _ (is_full s b) parts.1 none.3));
+        allowed = (policy, not_false _ none.1.1.0);
+        room = inr (room (policy_at s b) (count s b) (not_and _ (is_full s b) parts.1 none.1.1.1.0));
       }
 
   pub auth_meaning : meaning_of (auth_verdict s conf b request).changes s ≡ (auth_verdict s conf b request).state
@@ -107,13 +98,6 @@ module _ (s : State) (conf : Conf) (b : Bssid) (request : Authentication) where
   pub auth_driver : (c : Bssid) (d : Addr) → driven (outs_to (Radio c) (auth_verdict s conf b request).outs) (aid_at s c) d ≡ aid_at (auth_verdict s conf b request).state c d
   auth_driver c d = sent_alone c (aid_at s c) d ∙ sym (auth_aid c d)
 
-  status_success : (status : Status) → is_success status ≡ true → status ≡ Success
-  status_success Success e = refl
-  status_success RefusedReasonUnspecified e = cc
-  status_success NotSupportedAuthAlgorithm e = cc
-  status_success TransactionSequenceError e = cc
-  status_success DeniedNoMoreStas e = cc
-
   known_some : (o : Option Station) → not (is_some o) ≡ false → IsSome o
   known_some None e = cc
   known_some (Some x) e = refl
@@ -134,8 +118,8 @@ module _ (s : State) (conf : Conf) (b : Bssid) (request : Authentication) where
   -- what success says of the request
   told_deserved : auth_status s conf b request ≡ Success → IsTrue (allowed s b request.sender) × (request.algorithm ≡ 0) × (request.transaction ≡ 1)
   told_deserved status =
-      let none = all_pass (not (eqb request.algorithm 0 && allows_open conf.auth_algs)) (not (eqb request.transaction 1)) (not (allowed s b request.sender)) (not (is_known s b request) && is_full s b) (ap is_success status) in
-      (not_false _ none.2, eqb-true request.algorithm 0 (and_parts (eqb request.algorithm 0) (allows_open conf.auth_algs) (not_false _ none.0)).0, eqb-true request.transaction 1 (not_false _ none.1))
+      let none = no_reason (ap is_success status) in
+      (not_false _ none.1.1.0, eqb-true request.algorithm 0 (and_parts (eqb request.algorithm 0) (allows_open conf.auth_algs) (not_false _ none.0)).0, eqb-true request.transaction 1 (not_false _ none.1.0))
 
   same_state : admitted ≡ false → (auth_verdict s conf b request).state ≡ s
   same_state e = rw e refl

@@ -1,40 +1,53 @@
 -- How many bytes the records of a verdict have.
-use Rattle.std.proofs.Common.{◌≡◌, ℕ, suc, arith, ◌+◌, ◌*◌, ◌≤◌, Bool, true, false, cond, ◌&&◌, not, List, [], ◌∷◌, ◌++◌, Option, Some, None, Result, Ok, Err, IfOk, length, refl, sym, ap, subst, ◌∙◌}
-use Rattle.std.specs.Prelude.{map as list_map, filter}
+use Rattle.std.proofs.Common.{◌≡◌, suc, arith, ◌+◌, ◌*◌, ◌≤◌, Bool, true, false, cond, ◌&&◌, not, List, [], ◌∷◌, ◌++◌, Option, Some, None, Result, Ok, Err, IfOk, length, refl, sym, ap, subst, ◌∙◌, append-nil}
+use Rattle.std.specs.Option.{is_some}
+use Rattle.std.specs.Prelude.{filter}
 use Rattle.std.specs.Ordering.{eq_by_cmp}
 use Rattle.std.specs.FinMap as map
 use Rattle.std.specs.Int.{to_le_bytes, w16}
 use Rattle.std.proofs.lemmas.List.{length-append, length-map}
+use Rattle.std.proofs.lemmas.List.Sums.{length-filter, count_by-le-length}
 use Rattle.apd_base.specs.declared.address.Addr.{Addr}
 use Rattle.apd_base.specs.declared.address.Bssid.{Bssid}
 use Rattle.apd_base.specs.declared.station.AclMode.{AclMode}
+use Rattle.apd_base.specs.declared.station.Aid.{Aid}
 use Rattle.apd_base.specs.declared.station.Policy.{Policy as BssPolicy}
+use Rattle.apd_base.specs.declared.station.Which.{Which}
+use Rattle.apd_base.specs.declared.station.Which.TheVariants.{Accept, Deny}
 use Rattle.apd_base.specs.declared.station.Station.{Station}
-use Rattle.apd_base.specs.declared.station.Station.TheVariants.{Authenticated}
-use Rattle.apd_base.specs.Addr.{bssid_cmp, station_cmp}
+use Rattle.apd_base.specs.declared.station.Station.TheVariants.{Authenticated, Associated}
+use Rattle.apd_base.specs.Addr.{bssid_cmp}
 use Rattle.apd_base.specs.Mode.{mode_number}
-use Rattle.apd_base.specs.State.{State, count}
+use Rattle.apd_base.specs.State.{State, station_at, policy_at, aid_at, which_number, count}
 use Rattle.apd_base.proofs.AddrLaws.{station_total, station_exact}
 use Rattle.apd_base.proofs.RowsMaps.{entries-retain_keys}
 use Rattle.apd_conf.specs.declared.conf.Conf.{Conf}
 use Rattle.apd_conf.specs.Conf.{policy_of}
 use Rattle.apd_conf.specs.Confs.{conf_at}
+use Rattle.apd_conf.specs.ListFile.{IsList}
 use Rattle.apd_frame.specs.declared.received.Authentication.{Authentication}
-use Rattle.apd_frame.specs.declared.received.Frame.TheVariants.{Auth}
+use Rattle.apd_frame.specs.Contents.{Contents, AssociationRequest, authentication, association_request, reassociation_request, probe_request, disassociation, deauthentication, uplink}
 use Rattle.apd_record.specs.Ranges.{IsChange, AreChanges}
 use Rattle.apd_record.specs.Record.{station_bytes, record_of, records_of}
 use Rattle.apd_record.specs.declared.change.Change.{Change}
-use Rattle.apd_record.specs.declared.change.Change.TheVariants.{Put, Drop, Policy}
+use Rattle.apd_record.specs.declared.change.Change.TheVariants.{Put, Drop, ListAdd, Policy}
 use Rattle.apd_table.specs.Allowed.{allowed_in, denied_by, is_denied_row}
 use Rattle.apd_table.specs.Sound.{Sound}
 use Rattle.apd_table.proofs.Denied.{drops}
 use Rattle.apd_mlme.specs.declared.decision.Decision.{Decision}
 use Rattle.apd_mlme.specs.declared.decision.TheConstants.{MAX_RECORDS}
-use Rattle.apd_mlme.specs.declared.event.Event.{Event}
-use Rattle.apd_mlme.specs.declared.event.Event.TheVariants.{Heard, Configure}
+use Rattle.apd_mlme.specs.Happening.{Happening, Heard, Expire, Configure, bssid_of}
+use Rattle.apd_mlme.specs.declared.association.Kind.{Kind}
+use Rattle.apd_mlme.specs.declared.association.Kind.TheVariants.{Association, Reassociation}
+use Rattle.apd_mlme.specs.Association.{without_current_ap, association_status, association_response, elsewhere, put_backs, row_of, associated, accepted, association_of}
+use Rattle.apd_mlme.specs.Departure.{disassociation_of, deauthentication_of, data_of}
+use Rattle.apd_mlme.specs.Identifiers.{identifier_for}
+use Rattle.apd_mlme.specs.Inactivity.{inactivity_of}
+use Rattle.apd_mlme.specs.Refusals.{is_success}
+use Rattle.apd_mlme.specs.Verdict.{Verdict, only_sent}
 use Rattle.apd_mlme.specs.Authentication.{auth_verdict, is_admitted}
-use Rattle.apd_mlme.specs.Configuration.{configure_verdict}
-use Rattle.apd_mlme.specs.Rules.{verdict, verdict_under, bssid_of}
+use Rattle.apd_mlme.specs.Configuration.{configure_verdict, later_start, first_start, first_changes, additions}
+use Rattle.apd_mlme.specs.Rules.{verdict, verdict_under, heard_verdict, IsFit}
 
 -- what passes two tests is no more than what passes one
 fewer : {X : Type 0} (p q : X → Bool) (xs : List X) → length (filter (λ x. p x && q x) xs) ≤ length (filter p xs)
@@ -79,14 +92,26 @@ policy_length b p known =
     let first = known.0 in
     omega arith
 
-put_length : (b : Bssid) (a : Addr) → IsChange (Put b a Authenticated) → length (record_of (Put b a Authenticated)) ≡ 20
-put_length b a known =
-    let whole : length (record_of (Put b a Authenticated)) ≡ suc (length (b.0.0 ++ a.0 ++ station_bytes Authenticated)) = refl in
-    let all = length-append (b.0.0 ++ a.0) (station_bytes Authenticated) in
+seven_bytes : (station : Station) → length (station_bytes station) ≡ 7
+seven_bytes Authenticated = refl
+seven_bytes (Associated x) = refl
+
+put_length : (b : Bssid) (a : Addr) (station : Station) → IsChange (Put b a station) → length (record_of (Put b a station)) ≡ 20
+put_length b a station known =
+    let whole : length (record_of (Put b a station)) ≡ suc (length (b.0.0 ++ a.0 ++ station_bytes station)) = refl in
+    let all = length-append (b.0.0 ++ a.0) (station_bytes station) in
     let parts = length-append b.0.0 a.0 in
-    let seven : length (station_bytes Authenticated) ≡ 7 = refl in
+    let seven = seven_bytes station in
     let first = known.0.0 in
     let second = known.1.0 in
+    omega arith
+
+put_backs_length : (a : Addr) (bssids : List Bssid) (rest : List Change) → AreChanges (put_backs a bssids ++ rest) → length (records_of (put_backs a bssids ++ rest)) ≡ 20 * length bssids + length (records_of rest)
+put_backs_length a [] rest known = let none : length {A = Bssid} [] ≡ 0 = refl in omega arith
+put_backs_length a (b ∷ bssids) rest known =
+    let one = put_length b a Authenticated known.0 in
+    let more = put_backs_length a bssids rest known.1 in
+    let whole = length-append (record_of (Put b a Authenticated)) (records_of (put_backs a bssids ++ rest)) in
     omega arith
 
 drops_length : (b : Bssid) (as' : List Addr) (rest : List Change) → AreChanges (drops b as' ++ rest) → length (records_of (drops b as' ++ rest)) ≡ 13 * length as' + length (records_of rest)
@@ -97,26 +122,64 @@ drops_length b (a ∷ as') rest known =
     let whole = length-append (record_of (Drop b a)) (records_of (drops b as' ++ rest)) in
     omega arith
 
+add_length : (b : Bssid) (w : Which) (a : Addr) → IsChange (ListAdd b w a) → length (record_of (ListAdd b w a)) ≡ 14
+add_length b w a known =
+    let whole : length (record_of (ListAdd b w a)) ≡ suc (length (b.0.0 ++ which_number w ∷ a.0)) = refl in
+    let parts = length-append b.0.0 (which_number w ∷ a.0) in
+    let more : length (which_number w ∷ a.0) ≡ suc (length a.0) = refl in
+    let first = known.0.0 in
+    let second = known.1.0 in
+    omega arith
+
+additions_length : (b : Bssid) (w : Which) (as' : List Addr) (rest : List Change) → AreChanges (additions b w as' ++ rest) → length (records_of (additions b w as' ++ rest)) ≡ 14 * length as' + length (records_of rest)
+additions_length b w [] rest known = let none : length {A = Addr} [] ≡ 0 = refl in omega arith
+additions_length b w (a ∷ as') rest known =
+    let one = add_length b w a known.0 in
+    let more = additions_length b w as' rest known.1 in
+    let whole = length-append (record_of (ListAdd b w a)) (records_of (additions b w as' ++ rest)) in
+    omega arith
+
+rest_known : (b : Bssid) (w : Which) (as' : List Addr) (rest : List Change) → AreChanges (additions b w as' ++ rest) → AreChanges rest
+rest_known b w [] rest known = known
+rest_known b w (a ∷ as') rest known = rest_known b w as' rest known.1
+
 last_known : (b : Bssid) (as' : List Addr) (x : Change) → AreChanges (drops b as' ++ x ∷ []) → IsChange x
 last_known b [] x known = known.0
 last_known b (a ∷ as') x known = last_known b as' x known.1
 
-module _ (s : State) where
-  admitted_length : (b : Bssid) (a : Addr) → AreChanges (Put b a Authenticated ∷ []) → length (records_of (Put b a Authenticated ∷ [])) ≤ MAX_RECORDS
-  admitted_length b a known =
-      let one = put_length b a known.0 in
-      let whole = length-append (record_of (Put b a Authenticated)) [] in
-      omega arith
+last_put : (a : Addr) (bssids : List Bssid) (x : Change) → AreChanges (put_backs a bssids ++ x ∷ []) → IsChange x
+last_put a [] x known = known.0
+last_put a (b ∷ bssids) x known = last_put a bssids x known.1
 
-  auth_length : (conf : Conf) (b : Bssid) (request : Authentication) → AreChanges (auth_verdict s conf b request).changes → length (records_of (auth_verdict s conf b request).changes) ≤ MAX_RECORDS
+none_long : length (records_of []) ≤ MAX_RECORDS
+none_long = omega arith
+
+one_put : (b : Bssid) (a : Addr) (station : Station) → AreChanges (Put b a station ∷ []) → length (records_of (Put b a station ∷ [])) ≤ MAX_RECORDS
+one_put b a station known =
+    let one = put_length b a station known.0 in
+    let whole = length-append (record_of (Put b a station)) [] in
+    omega arith
+
+one_drop : (b : Bssid) (a : Addr) → AreChanges (Drop b a ∷ []) → length (records_of (Drop b a ∷ [])) ≤ MAX_RECORDS
+one_drop b a known =
+    let one = drop_length b a known.0 in
+    let whole = length-append (record_of (Drop b a)) [] in
+    omega arith
+
+-- a verdict whose changes have few enough bytes, where they can be written
+abbrev pub IsShort : Verdict → Type 0
+IsShort v = AreChanges v.changes → length (records_of v.changes) ≤ MAX_RECORDS
+
+module _ (s : State) where
+  auth_length : (conf : Conf) (b : Bssid) (request : Authentication) → IsShort (auth_verdict s conf b request)
   auth_length conf b request =
       elim (is_admitted s conf b request) as (λ t. AreChanges (cond t (Put b request.sender Authenticated ∷ []) []) → length (records_of (cond t (Put b request.sender Authenticated ∷ []) [])) ≤ MAX_RECORDS) [
-        | true ↦ λ known. admitted_length b request.sender known
-        | false ↦ λ known. omega arith
+        | true ↦ one_put b request.sender Authenticated
+        | false ↦ λ known. none_long
       ]
 
-  configure_length : (conf : Conf) (b : Bssid) → Sound s → AreChanges (configure_verdict s conf b).changes → length (records_of (configure_verdict s conf b).changes) ≤ MAX_RECORDS
-  configure_length conf b sound known =
+  later_length : (conf : Conf) (b : Bssid) → Sound s → AreChanges (later_start s conf b).changes → length (records_of (later_start s conf b).changes) ≤ MAX_RECORDS
+  later_length conf b sound known =
       let denied = denied_by s b conf.macaddr_acl in
       let few = denied_few s b conf.macaddr_acl in
       let rows = sound.few_stations b in
@@ -125,12 +188,89 @@ module _ (s : State) where
       let whole = length-append (record_of (Policy b (policy_of conf))) [] in
       omega arith
 
-  under_length : (o : Option Conf) (e : Event) → Sound s → AreChanges (verdict_under s o e).changes → length (records_of (verdict_under s o e).changes) ≤ MAX_RECORDS
-  under_length (Some conf) (Heard b (Auth request)) sound known = auth_length conf b request known
-  under_length (Some conf) (Configure b) sound known = configure_length conf b sound known
-  under_length None (Heard b frame) sound known = omega arith
-  under_length None (Configure b) sound known = omega arith
+  first_length : (conf : Conf) (b : Bssid) (accept deny : List Addr) → IsList accept → IsList deny → AreChanges (first_changes conf b accept deny) → length (records_of (first_changes conf b accept deny)) ≤ MAX_RECORDS
+  first_length conf b accept deny accept_list deny_list known =
+      let denials = additions b Deny deny in
+      let first = policy_length b (policy_of conf) known.0 in
+      let more = additions_length b Accept accept denials known.1 in
+      let same = append-nil denials in
+      let last = additions_length b Deny deny [] (subst AreChanges (sym same) (rest_known b Accept accept denials known.1)) in
+      let end : length (records_of (denials ++ [])) ≡ length (records_of denials) = ap (λ changes. length (records_of changes)) same in
+      let whole = length-append (record_of (Policy b (policy_of conf))) (records_of (additions b Accept accept ++ denials)) in
+      let few_accepted = accept_list.few in
+      let few_denied = deny_list.few in
+      omega arith
 
-pub decided_length : {E : Type 0} (s : State) (confs : List Conf) (e : Event) (r : Result Decision E) → Sound s → IfOk r (λ d. d.changes ≡ (verdict s confs e).changes) → IfOk r (λ d. AreChanges d.changes) → IfOk r (λ d. length (records_of d.changes) ≤ MAX_RECORDS)
-decided_length s confs e (Ok d) sound h known = rw h (under_length s (conf_at confs (bssid_of e)) e sound (subst AreChanges h known))
-decided_length s confs e (Err lack) sound h known = tt
+  configure_length : (conf : Conf) (b : Bssid) (accept deny : List Addr) → IsList accept → IsList deny → Sound s
+      → AreChanges (configure_verdict s conf b accept deny).changes → length (records_of (configure_verdict s conf b accept deny).changes) ≤ MAX_RECORDS
+  configure_length conf b accept deny accept_list deny_list sound =
+      elim (is_some (policy_at s b)) as (λ t. let changes = (cond t (later_start s conf b) (first_start s conf b accept deny)).changes in AreChanges changes → length (records_of changes) ≤ MAX_RECORDS) [
+        | true ↦ later_length conf b sound
+        | false ↦ first_length conf b accept deny accept_list deny_list
+      ]
+
+  -- at most one row at each of the eight BSSIDs
+  associated_length : (confs : List Conf) (conf : Conf) (b : Bssid) (kind : Kind) (request : AssociationRequest) (aid : Aid) → Sound s → IsShort (associated s confs conf b kind request aid)
+  associated_length confs conf b kind request aid sound known =
+      let a = request.sender in
+      let here = Put b a (row_of request aid) in
+      let others = elsewhere s b a in
+      let all = put_backs_length a others (here ∷ []) known in
+      let last = put_length b a (row_of request aid) (last_put a others here known) in
+      let whole = length-append (record_of here) [] in
+      let filtered = length-filter (λ c. not (eq_by_cmp bssid_cmp b c) && is_some (aid_at s c a)) (map.keys s.policies) in
+      let fewer = count_by-le-length (λ c. not (eq_by_cmp bssid_cmp b c) && is_some (aid_at s c a)) (map.keys s.policies) in
+      let keys = length-map (map.entries s.policies) (λ row. row.0) in
+      let entries = map.len-entries s.policies in
+      let few = sound.few_bss in
+      omega arith
+
+  accepted_length : (confs : List Conf) (conf : Conf) (b : Bssid) (kind : Kind) (request : AssociationRequest) (o : Option Aid) → Sound s → IsShort (accepted s confs conf b kind request o)
+  accepted_length confs conf b kind request None sound known = none_long
+  accepted_length confs conf b kind request (Some aid) sound known = associated_length confs conf b kind request aid sound known
+
+  association_length : (confs : List Conf) (conf : Conf) (b : Bssid) (kind : Kind) (request : AssociationRequest) (o : Option Station) → Sound s → IsShort (association_of s confs conf b kind request o)
+  association_length confs conf b kind request None sound = λ known. none_long
+  association_length confs conf b kind request (Some row) sound =
+      elim (is_success (association_status conf request)) as (λ t. IsShort (cond t (accepted s confs conf b kind request (identifier_for s b (Some row))) (only_sent s (association_response conf b kind request.sender (association_status conf request) None)))) [
+        | true ↦ accepted_length confs conf b kind request (identifier_for s b (Some row)) sound
+        | false ↦ λ known. none_long
+      ]
+
+  disassociation_length : (b : Bssid) (a : Addr) (o : Option Station) → IsShort (disassociation_of s b a o)
+  disassociation_length b a None known = none_long
+  disassociation_length b a (Some Authenticated) known = none_long
+  disassociation_length b a (Some (Associated x)) known = one_put b a Authenticated known
+
+  deauthentication_length : (b : Bssid) (a : Addr) (o : Option Station) → IsShort (deauthentication_of s b a o)
+  deauthentication_length b a None known = none_long
+  deauthentication_length b a (Some row) known = one_drop b a known
+
+  data_length : (b : Bssid) (a : Addr) (o : Option Station) → IsShort (data_of s b a o)
+  data_length b a None known = none_long
+  data_length b a (Some Authenticated) known = none_long
+  data_length b a (Some (Associated x)) known = none_long
+
+  inactivity_length : (b : Bssid) (a : Addr) (o : Option Station) → IsShort (inactivity_of s b a o)
+  inactivity_length b a None known = none_long
+  inactivity_length b a (Some Authenticated) known = one_drop b a known
+  inactivity_length b a (Some (Associated x)) known = one_put b a Authenticated known
+
+  heard_length : (confs : List Conf) (conf : Conf) (b : Bssid) (f : Contents) → Sound s → IsShort (heard_verdict s confs conf b f)
+  heard_length confs conf b (authentication request) sound = auth_length conf b request
+  heard_length confs conf b (association_request request) sound = association_length confs conf b Association request (station_at s b request.sender) sound
+  heard_length confs conf b (reassociation_request request) sound = association_length confs conf b Reassociation (without_current_ap request) (station_at s b request.sender) sound
+  heard_length confs conf b (probe_request request) sound = λ known. none_long
+  heard_length confs conf b (disassociation a reason) sound = disassociation_length b a (station_at s b a)
+  heard_length confs conf b (deauthentication a reason) sound = deauthentication_length b a (station_at s b a)
+  heard_length confs conf b (uplink a) sound = data_length b a (station_at s b a)
+
+  under_length : (confs : List Conf) (o : Option Conf) (h : Happening) → IsFit s confs h → Sound s → IsShort (verdict_under s confs o h)
+  under_length confs None h fit sound = λ known. none_long
+  under_length confs (Some conf) (Heard b f) fit sound = heard_length confs conf b f sound
+  under_length confs (Some conf) (Expire b a) fit sound = inactivity_length b a (station_at s b a)
+  under_length confs (Some conf) (Configure b accept deny) fit sound = configure_length conf b accept deny fit.2 fit.3 sound
+
+pub decided_length : {E : Type 0} (s : State) (confs : List Conf) (h : Happening) (r : Result Decision E) → IsFit s confs h → Sound s → IfOk r (λ d. d.changes ≡ (verdict s confs h).changes) → IfOk r (λ d. AreChanges d.changes) → IfOk r (λ d. length (records_of d.changes) ≤ MAX_RECORDS)
+decided_length s confs h (Ok d) fit sound same known = rw same (under_length s confs (conf_at confs (bssid_of h)) h fit sound (subst AreChanges same known))
+decided_length s confs h (Err lack) fit sound same known = tt

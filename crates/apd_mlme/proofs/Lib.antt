@@ -1,5 +1,17 @@
+mod AnsweredLaws
+mod AssociationLaws
 pub mod AuthenticationLaws
-pub mod ConfigurationLaws
+mod Cases
+mod DriverLaws
+mod ElsewhereLaws
+mod FirstLaws
+mod IdentifierLaws
+mod LaterLaws
 mod LengthLaws
 pub mod OutsLaws
+mod RadioLaws
+mod RefusalLaws
+mod RowLaws
+mod StartLaws
+mod TruthLaws
 pub mod VerdictLaws

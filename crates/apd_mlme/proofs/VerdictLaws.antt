@@ -1,99 +1,193 @@
 -- The laws of every verdict, and of runs.
-use Rattle.std.proofs.Common.{◌≡◌, ℕ, ◌<◌, Bool, true, false, cond, ◌&&◌, ◌||◌, List, [], ◌∷◌, ◌++◌, Option, Some, None, Result, Ok, Err, IfOk, ◌⊎◌, inl, inr, refl, sym, ap, subst, ◌∙◌, IsSome, append_assoc}
-use Rattle.std.specs.Prelude.{map as list_map, filter}
-use Rattle.std.specs.List.{flat_map}
+use Rattle.std.proofs.Common.{◌≡◌, Bool, true, false, cond, List, [], ◌∷◌, Option, Some, None, Result, Ok, Err, IfOk, refl, sym, ap, subst, ◌∙◌, IsSome}
 use Rattle.std.specs.Option.{is_some}
-use Rattle.std.specs.Ordering.{eq_by_cmp}
-use Rattle.std.specs.Cmp.{eq_by_cmp_equiv}
-use Rattle.std.specs.FinMap as map
 use Rattle.apd_base.specs.declared.address.Addr.{Addr}
 use Rattle.apd_base.specs.declared.address.Bssid.{Bssid}
-use Rattle.apd_base.specs.Addr.{addr_cmp, bssid_cmp}
-use Rattle.apd_base.specs.State.{State, policy_at, aid_at}
-use Rattle.apd_base.proofs.AddrLaws.{addr_total, addr_exact, bssid_total, bssid_exact}
-use Rattle.apd_base.proofs.MapLaws.{one_or_apart, tied}
+use Rattle.apd_base.specs.declared.station.Station.{Station}
+use Rattle.apd_base.specs.declared.station.Station.TheVariants.{Authenticated, Associated}
+use Rattle.apd_base.specs.State.{State, station_at, policy_at}
 use Rattle.apd_conf.specs.declared.conf.Conf.{Conf}
 use Rattle.apd_conf.specs.Confs.{conf_at}
-use Rattle.apd_frame.specs.declared.received.Frame.TheVariants.{Auth}
+use Rattle.apd_frame.specs.Contents.{Contents, authentication, association_request, reassociation_request, probe_request, disassociation, deauthentication, uplink}
+use Rattle.apd_frame.specs.declared.codes.TheConstants.Reason.{INVALID_AUTHENTICATION, INACTIVITY, INVALID_CLASS2_FRAME, INVALID_CLASS3_FRAME}
 use Rattle.apd_frame.specs.declared.received.Authentication.{Authentication}
-use Rattle.apd_table.specs.Allowed.{denied_by}
+use Rattle.apd_record.specs.declared.change.Change.{Change}
 use Rattle.apd_record.specs.Meaning.{meaning, meaning_of}
 use Rattle.apd_table.specs.Sound.{Sound, StaySound}
-use Rattle.apd_record.specs.declared.change.Change.{Change}
-use Rattle.apd_table.proofs.Denied.{is_among}
-use Rattle.apd_mlme.specs.declared.event.Event.{Event}
-use Rattle.apd_mlme.specs.declared.event.Event.TheVariants.{Heard, Configure}
-use Rattle.apd_mlme.specs.declared.decision.Recipient.{Recipient}
-use Rattle.apd_mlme.specs.declared.decision.Recipient.TheVariants.{Radio}
-use Rattle.apd_mlme.specs.declared.decision.Out.{Out}
+use Rattle.apd_mlme.specs.declared.association.Kind.TheVariants.{Association, Reassociation}
 use Rattle.apd_mlme.specs.declared.decision.Decision.{Decision}
-use Rattle.apd_mlme.specs.Authentication.{auth_verdict}
-use Rattle.apd_mlme.specs.Configuration.{configure_verdict, outs_of_drop}
-use Rattle.apd_mlme.specs.Driver.{driven, DriverMap, FollowsDrivers}
-use Rattle.apd_mlme.specs.Outs.{outs_to}
-use Rattle.apd_mlme.specs.Rules.{verdict, verdict_under, bssid_of, IsFit}
+use Rattle.apd_mlme.specs.Association.{without_current_ap}
+use Rattle.apd_mlme.specs.Departure.{disassociation_of, deauthentication_of, data_of}
+use Rattle.apd_mlme.specs.Driver.{FollowsDrivers}
+use Rattle.apd_mlme.specs.Happening.{Happening, Heard, Expire, Configure, bssid_of}
+use Rattle.apd_mlme.specs.Inactivity.{inactivity_of}
+use Rattle.apd_mlme.specs.Leaving as told
+use Rattle.apd_mlme.specs.Outs.{sent}
+use Rattle.apd_mlme.specs.ProbeRequest.{is_answered, probe_response}
+use Rattle.apd_mlme.specs.Rules.{verdict, verdict_under, heard_verdict, IsFit}
 use Rattle.apd_mlme.specs.Run.{run, AreFit}
 use Rattle.apd_mlme.specs.Told.{IsToldTruly}
 use Rattle.apd_mlme.specs.Verdict.{Verdict}
+use Rattle.apd_mlme.proofs.AssociationLaws.{association_meaning, association_sound, association_follows}
 use Rattle.apd_mlme.proofs.AuthenticationLaws.{auth_meaning, auth_sound, auth_driver, auth_told}
-use Rattle.apd_mlme.proofs.ConfigurationLaws.{configure_meaning, configure_sound, configure_driver}
+use Rattle.apd_mlme.proofs.RowLaws.{Follows, only_sent_follows, put_back_stays, dropped_stays, removed_follows, end_follows, removal_follows, drop_follows}
+use Rattle.apd_mlme.proofs.StartLaws.{configure_meaning, configure_sound, configure_driver}
 
-module _ (s : State) where
-  under_meaning : (o : Option Conf) (e : Event) → meaning_of (verdict_under s o e).changes s ≡ (verdict_under s o e).state
-  under_meaning (Some conf) (Heard b (Auth request)) = auth_meaning s conf b request
-  under_meaning (Some conf) (Configure b) = configure_meaning s conf b
-  under_meaning None (Heard b frame) = refl
-  under_meaning None (Configure b) = refl
+module _ (s : State) (confs : List Conf) where
+  abbrev heard : Conf → Bssid → Contents → Verdict
+  heard conf b f = heard_verdict s confs conf b f
 
-  pub verdict_meaning : (confs : List Conf) (e : Event) → meaning_of (verdict s confs e).changes s ≡ (verdict s confs e).state
-  verdict_meaning confs e = under_meaning (conf_at confs (bssid_of e)) e
+  -- ---- the changes lead to the state
+  disassociation_meaning : (b : Bssid) (a : Addr) (o : Option Station) → meaning_of (disassociation_of s b a o).changes s ≡ (disassociation_of s b a o).state
+  disassociation_meaning b a None = refl
+  disassociation_meaning b a (Some Authenticated) = refl
+  disassociation_meaning b a (Some (Associated x)) = refl
 
-  under_sound : (confs : List Conf) (o : Option Conf) (e : Event) → IsFit s confs e → Sound s → StaySound (verdict_under s o e).changes s
-  under_sound confs (Some conf) (Heard b (Auth request)) fit sound = auth_sound s conf b request fit.1 sound
-  under_sound confs (Some conf) (Configure b) fit sound = configure_sound s conf b fit.1 sound
-  under_sound confs None (Heard b frame) fit sound = sound
-  under_sound confs None (Configure b) fit sound = sound
+  deauthentication_meaning : (b : Bssid) (a : Addr) (o : Option Station) → meaning_of (deauthentication_of s b a o).changes s ≡ (deauthentication_of s b a o).state
+  deauthentication_meaning b a None = refl
+  deauthentication_meaning b a (Some row) = refl
 
-  pub verdict_sound : (confs : List Conf) (e : Event) → IsFit s confs e → Sound s → StaySound (verdict s confs e).changes s
-  verdict_sound confs e = under_sound confs (conf_at confs (bssid_of e)) e
+  data_meaning : (b : Bssid) (a : Addr) (o : Option Station) → meaning_of (data_of s b a o).changes s ≡ (data_of s b a o).state
+  data_meaning b a None = refl
+  data_meaning b a (Some Authenticated) = refl
+  data_meaning b a (Some (Associated x)) = refl
 
-  under_driver : (o : Option Conf) (e : Event) (c : Bssid) (d : Addr) → driven (outs_to (Radio c) (verdict_under s o e).outs) (aid_at s c) d ≡ aid_at (verdict_under s o e).state c d
-  under_driver (Some conf) (Heard b (Auth request)) c d = auth_driver s conf b request c d
-  under_driver (Some conf) (Configure b) c d = configure_driver s conf b c d
-  under_driver None (Heard b frame) c d = refl
-  under_driver None (Configure b) c d = refl
+  inactivity_meaning : (b : Bssid) (a : Addr) (o : Option Station) → meaning_of (inactivity_of s b a o).changes s ≡ (inactivity_of s b a o).state
+  inactivity_meaning b a None = refl
+  inactivity_meaning b a (Some Authenticated) = refl
+  inactivity_meaning b a (Some (Associated x)) = refl
 
-  pub verdict_driver : (confs : List Conf) (e : Event) (c : Bssid) (d : Addr) → driven (outs_to (Radio c) (verdict s confs e).outs) (aid_at s c) d ≡ aid_at (verdict s confs e).state c d
-  verdict_driver confs e = under_driver (conf_at confs (bssid_of e)) e
+  heard_meaning : (conf : Conf) (b : Bssid) (f : Contents) → meaning_of (heard conf b f).changes s ≡ (heard conf b f).state
+  heard_meaning conf b (authentication request) = auth_meaning s conf b request
+  heard_meaning conf b (association_request request) = association_meaning s confs conf b Association request
+  heard_meaning conf b (reassociation_request request) = association_meaning s confs conf b Reassociation (without_current_ap request)
+  heard_meaning conf b (probe_request request) = refl
+  heard_meaning conf b (disassociation a reason) = disassociation_meaning b a (station_at s b a)
+  heard_meaning conf b (deauthentication a reason) = deauthentication_meaning b a (station_at s b a)
+  heard_meaning conf b (uplink a) = data_meaning b a (station_at s b a)
 
-  under_told : (o : Option Conf) (b : Bssid) (request : Authentication) → IsSome o → IsToldTruly s b request (verdict_under s o (Heard b (Auth request)))
+  under_meaning : (o : Option Conf) (h : Happening) → meaning_of (verdict_under s confs o h).changes s ≡ (verdict_under s confs o h).state
+  under_meaning None h = refl
+  under_meaning (Some conf) (Heard b f) = heard_meaning conf b f
+  under_meaning (Some conf) (Expire b a) = inactivity_meaning b a (station_at s b a)
+  under_meaning (Some conf) (Configure b accept deny) = configure_meaning s conf b accept deny
+
+  pub meaning_in : (h : Happening) → meaning_of (verdict s confs h).changes s ≡ (verdict s confs h).state
+  meaning_in h = under_meaning (conf_at confs (bssid_of h)) h
+
+  pub unchanged_in : (h : Happening) → (verdict s confs h).changes ≡ [] → (verdict s confs h).state ≡ s
+  unchanged_in h none = sym (meaning_in h) ∙ ap (λ changes. meaning_of changes s) none
+
+  -- ---- each of them leaves a sound state
+  disassociation_sound : Sound s → (b : Bssid) (a : Addr) (o : Option Station) → station_at s b a ≡ o → StaySound (disassociation_of s b a o).changes s
+  disassociation_sound sound b a None at = sound
+  disassociation_sound sound b a (Some Authenticated) at = sound
+  disassociation_sound sound b a (Some (Associated x)) at = put_back_stays s b a [] (ap is_some at) sound
+
+  deauthentication_sound : Sound s → (b : Bssid) (a : Addr) (o : Option Station) → StaySound (deauthentication_of s b a o).changes s
+  deauthentication_sound sound b a None = sound
+  deauthentication_sound sound b a (Some row) = dropped_stays s b a [] sound
+
+  data_sound : Sound s → (b : Bssid) (a : Addr) (o : Option Station) → StaySound (data_of s b a o).changes s
+  data_sound sound b a None = sound
+  data_sound sound b a (Some Authenticated) = sound
+  data_sound sound b a (Some (Associated x)) = sound
+
+  inactivity_sound : Sound s → (b : Bssid) (a : Addr) (o : Option Station) → station_at s b a ≡ o → StaySound (inactivity_of s b a o).changes s
+  inactivity_sound sound b a None at = sound
+  inactivity_sound sound b a (Some Authenticated) at = dropped_stays s b a [] sound
+  inactivity_sound sound b a (Some (Associated x)) at = put_back_stays s b a [] (ap is_some at) sound
+
+  heard_sound : Sound s → (conf : Conf) (b : Bssid) (f : Contents) → IsSome (policy_at s b) → StaySound (heard conf b f).changes s
+  heard_sound sound conf b (authentication request) policy = auth_sound s conf b request policy sound
+  heard_sound sound conf b (association_request request) policy = association_sound s confs conf b Association request sound
+  heard_sound sound conf b (reassociation_request request) policy = association_sound s confs conf b Reassociation (without_current_ap request) sound
+  heard_sound sound conf b (probe_request request) policy = sound
+  heard_sound sound conf b (disassociation a reason) policy = disassociation_sound sound b a (station_at s b a) refl
+  heard_sound sound conf b (deauthentication a reason) policy = deauthentication_sound sound b a (station_at s b a)
+  heard_sound sound conf b (uplink a) policy = data_sound sound b a (station_at s b a)
+
+  under_sound : (o : Option Conf) (h : Happening) → IsFit s confs h → Sound s → StaySound (verdict_under s confs o h).changes s
+  under_sound None h fit sound = sound
+  under_sound (Some conf) (Heard b f) fit sound = heard_sound sound conf b f fit.1
+  under_sound (Some conf) (Expire b a) fit sound = inactivity_sound sound b a (station_at s b a) refl
+  under_sound (Some conf) (Configure b accept deny) fit sound = configure_sound s conf b accept deny fit.1 fit.2 fit.3 sound
+
+  pub sound_in : (h : Happening) → IsFit s confs h → Sound s → StaySound (verdict s confs h).changes s
+  sound_in h = under_sound (conf_at confs (bssid_of h)) h
+
+  -- ---- the drivers follow
+  module _ (c : Bssid) (configured : IsSome (conf_at confs c)) where
+    disassociation_follows : (b : Bssid) (a : Addr) (o : Option Station) → Follows c s (disassociation_of s b a o)
+    disassociation_follows b a None = only_sent_follows c s (told.deauthentication b a INVALID_CLASS2_FRAME)
+    disassociation_follows b a (Some Authenticated) = λ d. refl
+    disassociation_follows b a (Some (Associated x)) = removed_follows s b a c
+
+    deauthentication_follows : (b : Bssid) (a : Addr) (o : Option Station) → Follows c s (deauthentication_of s b a o)
+    deauthentication_follows b a None = λ d. refl
+    deauthentication_follows b a (Some row) = removal_follows s b a c
+
+    data_follows : (b : Bssid) (a : Addr) (o : Option Station) → Follows c s (data_of s b a o)
+    data_follows b a None = only_sent_follows c s (told.deauthentication b a INVALID_CLASS3_FRAME)
+    data_follows b a (Some Authenticated) = only_sent_follows c s (told.disassociation b a INVALID_CLASS3_FRAME)
+    data_follows b a (Some (Associated x)) = λ d. refl
+
+    inactivity_follows : (b : Bssid) (a : Addr) (o : Option Station) → Follows c s (inactivity_of s b a o)
+    inactivity_follows b a None = λ d. refl
+    inactivity_follows b a (Some Authenticated) = drop_follows s b a c INVALID_AUTHENTICATION
+    inactivity_follows b a (Some (Associated x)) = end_follows s b a c INACTIVITY
+
+    probe_follows : (conf : Conf) (b : Bssid) (a : Addr) (t : Bool) → Follows c s (record { state = s; changes = []; outs = cond t (sent (probe_response conf b a) ∷ []) [] })
+    probe_follows conf b a true = only_sent_follows c s (probe_response conf b a)
+    probe_follows conf b a false = λ d. refl
+
+    heard_follows : (conf : Conf) (b : Bssid) (f : Contents) → Follows c s (heard conf b f)
+    heard_follows conf b (authentication request) = auth_driver s conf b request c
+    heard_follows conf b (association_request request) = association_follows s confs conf b Association request c configured
+    heard_follows conf b (reassociation_request request) = association_follows s confs conf b Reassociation (without_current_ap request) c configured
+    heard_follows conf b (probe_request request) = probe_follows conf b request.sender (is_answered conf request.elements)
+    heard_follows conf b (disassociation a reason) = disassociation_follows b a (station_at s b a)
+    heard_follows conf b (deauthentication a reason) = deauthentication_follows b a (station_at s b a)
+    heard_follows conf b (uplink a) = data_follows b a (station_at s b a)
+
+    under_follows : (o : Option Conf) (h : Happening) → Follows c s (verdict_under s confs o h)
+    under_follows None h = λ d. refl
+    under_follows (Some conf) (Heard b f) = heard_follows conf b f
+    under_follows (Some conf) (Expire b a) = inactivity_follows b a (station_at s b a)
+    under_follows (Some conf) (Configure b accept deny) = configure_driver s conf b accept deny c
+
+  pub follows_in : (h : Happening) → FollowsDrivers confs (verdict s confs h).outs s (verdict s confs h).state
+  follows_in h = λ c configured. under_follows c configured (conf_at confs (bssid_of h)) h
+
+  -- ---- what an authentication response tells
+  under_told : (o : Option Conf) (b : Bssid) (request : Authentication) → IsSome o → IsToldTruly s b request (verdict_under s confs o (Heard b (authentication request)))
   under_told (Some conf) b request h = auth_told s conf b request
   under_told None b request h = cc
 
-  pub verdict_told : (confs : List Conf) (b : Bssid) (request : Authentication) → IsSome (conf_at confs b) → IsToldTruly s b request (verdict s confs (Heard b (Auth request)))
-  verdict_told confs b request = under_told (conf_at confs b) b request
+  pub told_in : (b : Bssid) (request : Authentication) → IsSome (conf_at confs b) → IsToldTruly s b request (verdict s confs (Heard b (authentication request)))
+  told_in b request = under_told (conf_at confs b) b request
 
 -- the last state of a row of sound states
 pub stay_end : (changes : List Change) (s : State) → StaySound changes s → Sound (meaning_of changes s)
 stay_end [] s h = h
 stay_end (change ∷ changes) s h = stay_end changes (meaning change s) h.1
 
-pub after_sound : (s : State) (confs : List Conf) (e : Event) → IsFit s confs e → Sound s → Sound (verdict s confs e).state
-after_sound s confs e fit sound = subst Sound (verdict_meaning s confs e) (stay_end (verdict s confs e).changes s (verdict_sound s confs e fit sound))
+pub after_sound : (s : State) (confs : List Conf) (h : Happening) → IsFit s confs h → Sound s → Sound (verdict s confs h).state
+after_sound s confs h fit sound = subst Sound (meaning_in s confs h) (stay_end (verdict s confs h).changes s (sound_in s confs h fit sound))
 
-pub run_sound : (confs : List Conf) (events : List Event) (s : State) → AreFit s confs events → Sound s → Sound (run s confs events)
+pub run_sound : (confs : List Conf) (hs : List Happening) (s : State) → AreFit s confs hs → Sound s → Sound (run s confs hs)
 run_sound confs [] s fit sound = sound
-run_sound confs (e ∷ events) s fit sound = run_sound confs events (verdict s confs e).state fit.1 (after_sound s confs e fit.0 sound)
+run_sound confs (h ∷ hs) s fit sound = run_sound confs hs (verdict s confs h).state fit.1 (after_sound s confs h fit.0 sound)
 
 -- the same of a decision that has the verdict's changes and outs
-pub decided_meaning : {E : Type 0} (s : State) (confs : List Conf) (e : Event) (r : Result Decision E) → IfOk r (λ d. d.changes ≡ (verdict s confs e).changes) → IfOk r (λ d. meaning_of d.changes s ≡ (verdict s confs e).state)
-decided_meaning s confs e (Ok d) h = ap (λ changes. meaning_of changes s) h ∙ verdict_meaning s confs e
-decided_meaning s confs e (Err lack) h = tt
+pub decided_meaning : {E : Type 0} (s : State) (confs : List Conf) (h : Happening) (r : Result Decision E) → IfOk r (λ d. d.changes ≡ (verdict s confs h).changes) → IfOk r (λ d. meaning_of d.changes s ≡ (verdict s confs h).state)
+decided_meaning s confs h (Ok d) same = ap (λ changes. meaning_of changes s) same ∙ meaning_in s confs h
+decided_meaning s confs h (Err lack) same = tt
 
-pub decided_sound : {E : Type 0} (s : State) (confs : List Conf) (e : Event) (r : Result Decision E) → IsFit s confs e → Sound s → IfOk r (λ d. d.changes ≡ (verdict s confs e).changes) → IfOk r (λ d. StaySound d.changes s)
-decided_sound s confs e (Ok d) fit sound h = subst (λ changes. StaySound changes s) (sym h) (verdict_sound s confs e fit sound)
-decided_sound s confs e (Err lack) fit sound h = tt
+pub decided_sound : {E : Type 0} (s : State) (confs : List Conf) (h : Happening) (r : Result Decision E) → IsFit s confs h → Sound s → IfOk r (λ d. d.changes ≡ (verdict s confs h).changes) → IfOk r (λ d. StaySound d.changes s)
+decided_sound s confs h (Ok d) fit sound same = subst (λ changes. StaySound changes s) (sym same) (sound_in s confs h fit sound)
+decided_sound s confs h (Err lack) fit sound same = tt
 
-pub decided_driver : {E : Type 0} (s : State) (confs : List Conf) (e : Event) (r : Result Decision E) → IfOk r (λ d. d.outs ≡ (verdict s confs e).outs) → IfOk r (λ d. FollowsDrivers confs d.outs s (verdict s confs e).state)
-decided_driver s confs e (Ok d) h = λ b _ a. ap (λ outs. driven (outs_to (Radio b) outs) (aid_at s b) a) h ∙ verdict_driver s confs e b a
-decided_driver s confs e (Err lack) h = tt
+pub decided_driver : {E : Type 0} (s : State) (confs : List Conf) (h : Happening) (r : Result Decision E) → IfOk r (λ d. d.outs ≡ (verdict s confs h).outs) → IfOk r (λ d. FollowsDrivers confs d.outs s (verdict s confs h).state)
+decided_driver s confs h (Ok d) same = subst (λ outs. FollowsDrivers confs outs s (verdict s confs h).state) (sym same) (follows_in s confs h)
+decided_driver s confs h (Err lack) same = tt

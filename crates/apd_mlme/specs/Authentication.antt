@@ -1,6 +1,6 @@
 -- An authentication request (IEEE Std 802.11-2016, 11.3.4.3 and 12.3.3.2.3): what the destination of
 -- an Open System authentication decides.
-use Rattle.std.specs.Prelude.{◌≡◌, ℕ, ◌+◌, ◌%◌, Bool, true, false, not, ◌&&◌, ◌==◌, nat_le, List, [], ◌∷◌, Option, None, Some, is_some, if◌then◌else◌}
+use Rattle.std.specs.Prelude.{ℕ, ◌+◌, ◌%◌, Bool, not, ◌&&◌, ◌==◌, nat_le, List, [], ◌∷◌, Option, None, Some, is_some, if◌then◌else◌}
 use Rattle.std.specs.FinMap as map
 use Rattle.apd_base.specs.declared.address.Bssid.{Bssid}
 use Rattle.apd_base.specs.declared.station.Policy.{Policy}
@@ -8,7 +8,7 @@ use Rattle.apd_base.specs.declared.station.Station.TheVariants.{Authenticated}
 use Rattle.apd_base.specs.State.{State, station_at, policy_at, count}
 use Rattle.apd_frame.specs.declared.received.Authentication.{Authentication}
 use Rattle.apd_frame.specs.declared.codes.Status.{Status}
-use Rattle.apd_frame.specs.declared.codes.Status.TheVariants.{Success, RefusedReasonUnspecified, NotSupportedAuthAlgorithm, TransactionSequenceError, DeniedNoMoreStas}
+use Rattle.apd_frame.specs.declared.codes.Status.TheVariants.{RefusedReasonUnspecified, NotSupportedAuthAlgorithm, TransactionSequenceError, DeniedNoMoreStas}
 use Rattle.apd_frame.specs.declared.replies.Reply.{Reply}
 use Rattle.apd_frame.specs.declared.replies.ReplyBody.TheVariants.{Auth}
 use Rattle.apd_conf.specs.declared.conf.Conf.{Conf}
@@ -16,6 +16,7 @@ use Rattle.apd_conf.specs.Auth.{allows_open}
 use Rattle.apd_record.specs.declared.change.Change.TheVariants.{Put}
 use Rattle.apd_table.specs.Allowed.{allowed}
 use Rattle.apd_mlme.specs.Outs.{sent}
+use Rattle.apd_mlme.specs.Refusals.{first_status, is_success}
 use Rattle.apd_mlme.specs.Verdict.{Verdict}
 
 -- whether the sender has a row at the BSSID
@@ -30,11 +31,6 @@ station_limit (Some policy) = policy.max.count
 -- whether the BSSID has as many rows as its policy lets authenticate, or more
 abbrev pub is_full : State → Bssid → Bool
 is_full s b = nat_le (station_limit (policy_at s b)) (count s b)
-
--- the status of the first line that holds, or success
-abbrev pub first_status : List (Bool × Status) → Status
-first_status [] = Success
-first_status (line ∷ lines) = if line.0 then line.1 else first_status lines
 
 -- the reasons to refuse, in the order in which they are looked for (own), with their status codes
 abbrev pub refusals : State → Conf → Bssid → Authentication → List (Bool × Status)
@@ -51,13 +47,6 @@ refusals s conf b request =
 
 abbrev pub auth_status : State → Conf → Bssid → Authentication → Status
 auth_status s conf b request = first_status (refusals s conf b request)
-
-abbrev pub is_success : Status → Bool
-is_success Success = true
-is_success RefusedReasonUnspecified = false
-is_success NotSupportedAuthAlgorithm = false
-is_success TransactionSequenceError = false
-is_success DeniedNoMoreStas = false
 
 -- the response: the algorithm of the request, the next number of the exchange, and the status
 abbrev pub auth_response : Bssid → Authentication → Status → Reply

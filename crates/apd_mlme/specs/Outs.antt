@@ -1,7 +1,6 @@
 -- Outs, and those of one recipient.
-use Rattle.std.specs.Prelude.{Bool, List, [], ◌∷◌, map, filter}
+use Rattle.std.specs.Prelude.{Bool, List, map, filter}
 use Rattle.std.specs.Ordering.{eq_by_cmp}
-use Rattle.apd_base.specs.declared.address.Bssid.{Bssid}
 use Rattle.apd_base.specs.Addr.{bssid_cmp}
 use Rattle.apd_frame.specs.declared.replies.Reply.{Reply}
 use Rattle.apd_frame.specs.Wire.{wire}

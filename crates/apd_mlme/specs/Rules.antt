@@ -1,33 +1,49 @@
--- The verdict on each event, and the events on which there is one.
-use Rattle.std.specs.Prelude.{◌<◌, ℕ, List, [], Option, None, Some, IsSome, ◌⊎◌}
+-- The verdict on what happens, and where there is one.
+use Rattle.std.specs.Prelude.{◌<◌, List, Option, None, Some, IsSome, ◌⊎◌}
 use Rattle.std.specs.FinMap as maps
-use Rattle.apd_base.specs.State.{State, policy_at}
+use Rattle.apd_base.specs.declared.address.Bssid.{Bssid}
 use Rattle.apd_base.specs.declared.limits.TheConstants.{MAX_BSS}
+use Rattle.apd_base.specs.State.{State, policy_at}
 use Rattle.apd_conf.specs.declared.conf.Conf.{Conf}
 use Rattle.apd_conf.specs.Confs.{conf_at}
-use Rattle.apd_frame.specs.declared.received.Frame.TheVariants.{Auth}
-use Rattle.apd_mlme.specs.declared.event.Event.{Event}
-use Rattle.apd_mlme.specs.declared.event.Event.TheVariants.{Heard, Configure}
-use Rattle.apd_base.specs.declared.address.Bssid.{Bssid}
-use Rattle.apd_mlme.specs.Verdict.{Verdict}
+use Rattle.apd_conf.specs.ListFile.{IsList}
+use Rattle.apd_frame.specs.Contents.{Contents}
+use Rattle.apd_frame.specs.Contents as frame
+use Rattle.apd_mlme.specs.declared.association.Kind.TheVariants.{Association, Reassociation}
+use Rattle.apd_mlme.specs.Association.{association_verdict, without_current_ap}
 use Rattle.apd_mlme.specs.Authentication.{auth_verdict}
 use Rattle.apd_mlme.specs.Configuration.{configure_verdict}
+use Rattle.apd_mlme.specs.Departure.{disassociation_verdict, deauthentication_verdict, data_verdict}
+use Rattle.apd_mlme.specs.Happening.{Happening, Heard, Expire, Configure, bssid_of}
+use Rattle.apd_mlme.specs.Inactivity.{inactivity_verdict}
+use Rattle.apd_mlme.specs.ProbeRequest.{probe_verdict}
+use Rattle.apd_mlme.specs.Verdict.{Verdict, nothing}
 
-abbrev pub bssid_of : Event → Bssid
-bssid_of (Heard b frame) = b
-bssid_of (Configure b) = b
-
--- the BSSID is configured; a frame needs its policy row, and a start a policy row or room for one
-abbrev pub IsFit : State → List Conf → Event → Type 0
+-- the BSSID is configured; a frame or a silence needs its policy row, and a start a policy row or room for one, and lists as
+-- list files give them
+abbrev pub IsFit : State → List Conf → Happening → Type 0
 IsFit s confs (Heard b frame) = IsSome (conf_at confs b) × IsSome (policy_at s b)
-IsFit s confs (Configure b) = IsSome (conf_at confs b) × (IsSome (policy_at s b) ⊎ (maps.len s.policies < MAX_BSS))
+IsFit s confs (Expire b a) = IsSome (conf_at confs b) × IsSome (policy_at s b)
+IsFit s confs (Configure b accept deny) =
+    IsSome (conf_at confs b) × (IsSome (policy_at s b) ⊎ (maps.len s.policies < MAX_BSS)) × IsList accept × IsList deny
 
-abbrev pub verdict_under : State → Option Conf → Event → Verdict
-verdict_under s (Some conf) (Heard b (Auth request)) = auth_verdict s conf b request
-verdict_under s (Some conf) (Configure b) = configure_verdict s conf b
+-- each frame has its rule
+abbrev pub heard_verdict : State → List Conf → Conf → Bssid → Contents → Verdict
+heard_verdict s confs conf b (frame.authentication request) = auth_verdict s conf b request
+heard_verdict s confs conf b (frame.association_request request) = association_verdict s confs conf b Association request
+heard_verdict s confs conf b (frame.reassociation_request request) =
+    association_verdict s confs conf b Reassociation (without_current_ap request)
+heard_verdict s confs conf b (frame.probe_request request) = probe_verdict s conf b request
+heard_verdict s confs conf b (frame.disassociation a reason) = disassociation_verdict s b a
+heard_verdict s confs conf b (frame.deauthentication a reason) = deauthentication_verdict s b a
+heard_verdict s confs conf b (frame.uplink a) = data_verdict s b a
+
+abbrev pub verdict_under : State → List Conf → Option Conf → Happening → Verdict
+verdict_under s confs (Some conf) (Heard b frame) = heard_verdict s confs conf b frame
+verdict_under s confs (Some conf) (Expire b a) = inactivity_verdict s b a
+verdict_under s confs (Some conf) (Configure b accept deny) = configure_verdict s conf b accept deny
 -- not fit: nothing
-verdict_under s None (Heard b frame) = record { state = s; changes = []; outs = [] }
-verdict_under s None (Configure b) = record { state = s; changes = []; outs = [] }
+verdict_under s confs None h = nothing s
 
-abbrev pub verdict : State → List Conf → Event → Verdict
-verdict s confs event = verdict_under s (conf_at confs (bssid_of event)) event
+abbrev pub verdict : State → List Conf → Happening → Verdict
+verdict s confs h = verdict_under s confs (conf_at confs (bssid_of h)) h

@@ -1,14 +1,24 @@
 -- What an event brings about: the state after it, the changes that lead there, in order, and the outs, in order.
-use Rattle.std.specs.Prelude.{List, Bool, length, ◌==◌, ◌&&◌}
+use Rattle.std.specs.Prelude.{List, [], ◌∷◌, Bool, length, ◌==◌, ◌&&◌}
 use Rattle.apd_base.specs.State.{State}
+use Rattle.apd_frame.specs.declared.replies.Reply.{Reply}
 use Rattle.apd_record.specs.declared.change.Change.{Change}
 use Rattle.apd_mlme.specs.declared.decision.Recipient.{Recipient}
 use Rattle.apd_mlme.specs.declared.decision.Out.{Out}
+use Rattle.apd_mlme.specs.Outs.{sent}
 
 pub record Verdict : Type 0 where
   pub state : State
   pub changes : List Change
   pub outs : List (Recipient × Out)
+
+-- nothing changes and nothing leaves
+abbrev pub nothing : State → Verdict
+nothing s = record { state = s; changes = []; outs = [] }
+
+-- nothing changes, and one frame leaves
+abbrev pub only_sent : State → Reply → Verdict
+only_sent s reply = record { state = s; changes = []; outs = sent reply ∷ [] }
 
 -- whether nothing changes and nothing leaves
 abbrev pub is_nothing : Verdict → Bool

@@ -1,64 +1,106 @@
-//! The start of a BSSID with its configuration (own).
-ghost use Rattle.std.specs.Prelude.{◌≡◌, ◌++◌, IfOk, OnOk};
-ghost use Rattle.apd_mlme.specs.Configuration.{configure_verdict, deauthentication, outs_of_drop};
+//! The start of a BSSID with its configuration and its lists (own).
+ghost use Rattle.std.specs.Prelude.{◌≡◌, ◌++◌, [], IfOk, OnOk};
+ghost use Rattle.apd_conf.specs.Conf.{policy_of};
+ghost use Rattle.apd_record.specs.declared.change.Change.TheVariants.{Policy};
+ghost use Rattle.apd_mlme.specs.Configuration.{configure_verdict, later_start, first_changes, additions};
 
-use crate::decision::{Decision, Out, Recipient, sent};
-use apd_base::{Addr, Bssid, Sequence, Station};
+use crate::decision::Decision;
+use crate::leaving::push_outs_of_drop;
+use apd_base::{Addr, Bssid, Sequence, Which};
 use apd_conf::Conf;
-use apd_frame::{Reason, Reply, ReplyBody};
+use apd_frame::Reason;
 use apd_record::Change;
 use apd_table::Table;
 use std::alloc::{AllocError, Global};
 
-fn deauthentication(bssid: Bssid, addr: Addr) -> Reply
-    ensures { result ≡ deauthentication bssid addr }
+/// The policy row of a configuration.
+fn policy_row(conf: &Conf, bssid: Bssid) -> Change
+    ensures { result ≡ Policy bssid (policy_of conf.now) }
 {
-    Reply {
-        to: addr,
+    Change::Policy {
         bssid,
-        body: ReplyBody::Deauth {
-            reason: Reason::UNSPECIFIED,
-        },
+        policy: conf.policy(),
     }
 }
 
-/// Adds what leaves for a station whose row is dropped.
-fn push_outs_of_drop(
-    alloc: Global,
-    table: &Table,
-    bssid: Bssid,
-    addr: Addr,
-    outs: &mut Sequence<(Recipient, Out)>,
-) -> Result<(), AllocError>
-    ensures { OnOk result (outs.new ≡ outs.old ++ outs_of_drop table.now bssid addr) }
-{
-    if let Some(Station::Associated(_)) = table.get(bssid, addr) {
-        outs.push((Recipient::Radio(bssid), Out::Remove(addr)))?;
-    }
-    outs.push(sent(alloc, &deauthentication(bssid, addr))?)
-}
-
-/// What the start of a BSSID brings about: its policy row, and before it the end of each station
-/// that the policy denies.
-pub fn configure(
+/// What the start of a BSSID with a policy row brings about: its policy row, and before it the end of
+/// each station that the policy denies by the stored lists.
+fn later_start(
     alloc: Global,
     table: &Table,
     conf: &Conf,
     bssid: Bssid,
 ) -> Result<Decision, AllocError>
-    ensures changes { IfOk result (λ d. d.changes ≡ (configure_verdict table.now conf.now bssid).changes) }
-    ensures outs { IfOk result (λ d. d.outs ≡ (configure_verdict table.now conf.now bssid).outs) }
+    ensures changes { IfOk result (λ d. d.changes ≡ (later_start table.now conf.now bssid).changes) }
+    ensures outs { IfOk result (λ d. d.outs ≡ (later_start table.now conf.now bssid).outs) }
 {
     let denied = table.denied_by(alloc, bssid, conf.macaddr_acl)?;
     let mut changes = Sequence::new(alloc);
     let mut outs = Sequence::new(alloc);
     for addr in denied.as_slice() {
         changes.push(Change::Drop { bssid, addr: *addr })?;
-        push_outs_of_drop(alloc, table, bssid, *addr, &mut outs)?;
+        push_outs_of_drop(alloc, table, bssid, *addr, Reason::UNSPECIFIED, &mut outs)?;
     }
-    changes.push(Change::Policy {
-        bssid,
-        policy: conf.policy(),
-    })?;
+    changes.push(policy_row(conf, bssid))?;
     Ok(Decision { changes, outs })
+}
+
+/// Adds the changes that put addresses into a list, one for each, in their order.
+fn push_additions(
+    bssid: Bssid,
+    which: Which,
+    addresses: &[Addr],
+    changes: &mut Sequence<Change>,
+) -> Result<(), AllocError>
+    ensures { OnOk result (changes.new ≡ changes.old ++ additions bssid which addresses.now) }
+{
+    for addr in addresses {
+        changes.push(Change::ListAdd {
+            bssid,
+            which,
+            addr: *addr,
+        })?;
+    }
+    Ok(())
+}
+
+/// What the start of a BSSID without a policy row brings about: the row, and then its two lists.
+fn first_start(
+    alloc: Global,
+    conf: &Conf,
+    bssid: Bssid,
+    accept: &[Addr],
+    deny: &[Addr],
+) -> Result<Decision, AllocError>
+    ensures changes { IfOk result (λ d. d.changes ≡ first_changes conf.now bssid accept.now deny.now) }
+    ensures outs { IfOk result (λ d. d.outs ≡ []) }
+{
+    let policy = policy_row(conf, bssid);
+    let mut changes = Sequence::new(alloc);
+    changes.push(policy)?;
+    push_additions(bssid, Which::Accept, accept, &mut changes)?;
+    push_additions(bssid, Which::Deny, deny, &mut changes)?;
+    Ok(Decision {
+        changes,
+        outs: Sequence::new(alloc),
+    })
+}
+
+/// What the start of a BSSID brings about. Its lists count where it has no policy row yet; where it has
+/// one, the stored lists stay.
+pub fn configure(
+    alloc: Global,
+    table: &Table,
+    conf: &Conf,
+    bssid: Bssid,
+    accept: &[Addr],
+    deny: &[Addr],
+) -> Result<Decision, AllocError>
+    ensures changes { IfOk result (λ d. d.changes ≡ (configure_verdict table.now conf.now bssid accept.now deny.now).changes) }
+    ensures outs { IfOk result (λ d. d.outs ≡ (configure_verdict table.now conf.now bssid accept.now deny.now).outs) }
+{
+    match table.policy(bssid) {
+        Some(_) => later_start(alloc, table, conf, bssid),
+        None => first_start(alloc, conf, bssid, accept, deny),
+    }
 }

@@ -1,28 +1,39 @@
 //! What the station management entity is asked to decide.
 ghost use Rattle.std.specs.Prelude.{◌≡◌};
 
-use apd_base::Bssid;
+use apd_base::{Addr, Bssid};
 use apd_frame::Frame;
 
 /// An event at one of the BSSIDs.
 #[derive(Clone, Copy, Debug, PartialEq, Eq)]
-pub enum Event {
+pub enum Event<'a> {
     /// A frame was received by the radio of the BSSID.
-    Heard(Bssid, Frame),
-    /// The BSSID starts with its configuration.
-    Configure(Bssid),
+    Heard(Bssid, Frame<'a>),
+    /// Nothing was heard from a station for too long.
+    Expire {
+        bssid: Bssid,
+        addr: Addr,
+    },
+    /// The BSSID starts with its configuration. The lists are those of its list files, rising, without
+    /// doubles and of at most 1024 addresses; they count where it has no policy row yet.
+    Configure {
+        bssid: Bssid,
+        accept: &'a [Addr],
+        deny: &'a [Addr],
+    },
 }
 
-impl Event {
-    ghost use Rattle.apd_mlme.specs.Rules.{bssid_of};
+impl Event<'_> {
+    ghost use Rattle.apd_mlme.specs.Happening.{happening, bssid_of};
 
     /// The BSSID at which it happens.
     pub fn bssid(&self) -> Bssid
-        ensures { result ≡ bssid_of self.now }
+        ensures { result ≡ bssid_of (happening self.now) }
     {
         match *self {
             Event::Heard(bssid, _) => bssid,
-            Event::Configure(bssid) => bssid,
+            Event::Expire { bssid, .. } => bssid,
+            Event::Configure { bssid, .. } => bssid,
         }
     }
 }

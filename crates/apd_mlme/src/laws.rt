@@ -1,44 +1,83 @@
 //! What a reader of clause 11.3 may rely on, whatever the daemon is asked: each law is the contract of
 //! a function that does nothing.
-ghost use Rattle.std.specs.Prelude.{◌≡◌, List, IsSome};
-ghost use Rattle.apd_base.specs.State.{State};
+ghost use Rattle.std.specs.Prelude.{◌≡◌, List, [], Some, IsSome};
+ghost use Rattle.apd_base.specs.State.{State, station_at};
+ghost use Rattle.apd_base.specs.declared.address.Addr.{Addr};
 ghost use Rattle.apd_base.specs.declared.address.Bssid.{Bssid};
 ghost use Rattle.apd_conf.specs.Confs.{conf_at};
 ghost use Rattle.apd_conf.specs.declared.conf.Conf.{Conf};
 ghost use Rattle.apd_frame.specs.declared.received.Authentication.{Authentication};
-ghost use Rattle.apd_frame.specs.declared.received.Frame.TheVariants.{Auth};
+ghost use Rattle.apd_frame.specs.Contents.{AssociationRequest, ReassociationRequest, association_request, authentication, reassociation_request};
 ghost use Rattle.apd_record.specs.Meaning.{meaning_of};
 ghost use Rattle.apd_table.specs.Sound.{Sound, StaySound};
+ghost use Rattle.apd_mlme.specs.Answered.{IsAnsweredTruly};
+ghost use Rattle.apd_mlme.specs.Association.{without_current_ap};
 ghost use Rattle.apd_mlme.specs.Driver.{FollowsDrivers};
+ghost use Rattle.apd_mlme.specs.Happening.{Happening, Heard, bssid_of};
+ghost use Rattle.apd_mlme.specs.Identifiers.{identifier_for};
 ghost use Rattle.apd_mlme.specs.Rules.{verdict, IsFit};
 ghost use Rattle.apd_mlme.specs.Run.{run, AreFit};
+ghost use Rattle.apd_mlme.specs.Started.{IsStartedBy};
+ghost use Rattle.apd_mlme.specs.declared.association.Kind.TheVariants.{Association, Reassociation};
 ghost use Rattle.apd_mlme.specs.Told.{IsToldTruly};
-ghost use Rattle.apd_mlme.specs.declared.event.Event.{Event};
-ghost use Rattle.apd_mlme.specs.declared.event.Event.TheVariants.{Heard};
+ghost use Rattle.apd_mlme.specs.Truth.{AreSo, AreThere};
 
 /// Making the changes of an event in turn leads to the state that its rule says, and each of them
-/// leaves a sound state.
+/// leaves a sound state. An event without changes leaves every row as it was.
 pub fn changes_lead_to_the_state()
-    ensures meaning { (s : State) (confs : List Conf) (e : Event) → meaning_of (verdict s confs e).changes s ≡ (verdict s confs e).state }
-    ensures sound { (s : State) (confs : List Conf) (e : Event) → IsFit s confs e → Sound s → StaySound (verdict s confs e).changes s }
+    ensures meaning { (s : State) (confs : List Conf) (h : Happening) → meaning_of (verdict s confs h).changes s ≡ (verdict s confs h).state }
+    ensures sound { (s : State) (confs : List Conf) (h : Happening) → IsFit s confs h → Sound s → StaySound (verdict s confs h).changes s }
+    ensures unchanged { (s : State) (confs : List Conf) (h : Happening) → (verdict s confs h).changes ≡ [] → (verdict s confs h).state ≡ s }
 {}
 
 /// Whatever fit events come, the state stays sound: identifiers are from 1 to 2007 and no two stations
 /// of a BSSID have the same one, an address is associated at one BSSID at most, and no station has a
 /// row that the policy denies.
 pub fn every_run_stays_sound()
-    ensures { (s : State) (confs : List Conf) (events : List Event) → AreFit s confs events → Sound s → Sound (run s confs events) }
+    ensures { (s : State) (confs : List Conf) (hs : List Happening) → AreFit s confs hs → Sound s → Sound (run s confs hs) }
 {}
 
 /// An authentication request is answered by one frame, to its sender. It says success only where the
 /// sender is in the table then, and the policy allows it; where it says anything else every row is as
 /// it was. A station in the table stays as it is, and so does every other station.
 pub fn told_only_when_so()
-    ensures { (s : State) (confs : List Conf) (b : Bssid) (request : Authentication) → IsSome (conf_at confs b) → IsToldTruly s b request (verdict s confs (Heard b (Auth request))) }
+    ensures { (s : State) (confs : List Conf) (b : Bssid) (request : Authentication) → IsSome (conf_at confs b) → IsToldTruly s b request (verdict s confs (Heard b (authentication request))) }
 {}
 
 /// A driver that has the associated stations of its BSSID, which is configured, has them after each
 /// event.
 pub fn drivers_follow()
-    ensures { (s : State) (confs : List Conf) (e : Event) → FollowsDrivers confs (verdict s confs e).outs s (verdict s confs e).state }
+    ensures { (s : State) (confs : List Conf) (h : Happening) → FollowsDrivers confs (verdict s confs h).outs s (verdict s confs h).state }
+{}
+
+/// The lists that come with the first start of a BSSID are its lists from then on, and those of a later
+/// start change nothing: the stored ones stay. Each station that the new policy denies is gone, and every
+/// other is as it was.
+pub fn lists_come_with_the_first_start()
+    ensures { (s : State) (confs : List Conf) (h : Happening) → Sound s → IsStartedBy (conf_at confs (bssid_of h)) h s (verdict s confs h).state }
+{}
+
+/// A station with a row at a BSSID never lacks an identifier: at most 2007 stations have rows there, so
+/// where it is not associated itself one is free.
+pub fn an_identifier_is_left()
+    ensures { (s : State) (b : Bssid) (a : Addr) → Sound s → IsSome (station_at s b a) → IsSome (identifier_for s b (station_at s b a)) }
+{}
+
+/// An association or a reassociation request of a station with a row is answered by one response, the
+/// last out. It says success only where the sender is associated then, at this BSSID and no other, with
+/// the identifier that it is told and that nobody else of the BSSID has; where it says anything else
+/// every row is as it was.
+pub fn a_member_is_told_so()
+    ensures association { (s : State) (confs : List Conf) (conf : Conf) (b : Bssid) (request : AssociationRequest) → conf_at confs b ≡ Some conf → Sound s → IsSome (station_at s b request.sender) → IsAnsweredTruly s conf b Association request (verdict s confs (Heard b (association_request request))) }
+    ensures reassociation { (s : State) (confs : List Conf) (conf : Conf) (b : Bssid) (request : ReassociationRequest) → conf_at confs b ≡ Some conf → Sound s → IsSome (station_at s b request.sender) → IsAnsweredTruly s conf b Reassociation (without_current_ap request) (verdict s confs (Heard b (reassociation_request request))) }
+{}
+
+/// Whatever happens, all that leaves is so in the state after: each frame is that of a reply to a
+/// station, and where it says success the station has its row, or is associated with the identifier that
+/// the frame carries; one that is told of a disassociation is not associated, and one that is told of a
+/// deauthentication has no row. A driver takes in who is associated, under the same identifier, and lets
+/// go who is not. And nothing leaves for a BSSID that is not configured.
+pub fn what_leaves_is_so()
+    ensures so { (s : State) (confs : List Conf) (h : Happening) → Sound s → AreSo (verdict s confs h).state (verdict s confs h).outs }
+    ensures there { (s : State) (confs : List Conf) (h : Happening) → AreThere confs (verdict s confs h).outs }
 {}

@@ -3,50 +3,61 @@
 #![tactic(auto)]
 
 ghost use Rattle.std.specs.Prelude.{◌≡◌, ◌≤◌, length, IfOk};
+ghost use Rattle.apd_frame.specs.Contents.{contents};
 ghost use Rattle.apd_record.specs.Meaning.{meaning_of};
 ghost use Rattle.apd_record.specs.Ranges.{AreChanges};
 ghost use Rattle.apd_record.specs.Record.{records_of};
 ghost use Rattle.apd_table.specs.Sound.{StaySound};
 ghost use Rattle.apd_mlme.specs.Driver.{FollowsDrivers};
 ghost use Rattle.apd_mlme.specs.declared.decision.TheConstants.{MAX_RECORDS};
-ghost use Rattle.apd_mlme.specs.Rules.{verdict, IsFit};
+ghost use Rattle.apd_mlme.specs.Happening.{happening};
+ghost use Rattle.apd_mlme.specs.Rules.{verdict, heard_verdict, IsFit};
 
+mod association;
 mod authentication;
 mod configuration;
 pub mod decision;
+mod departure;
 pub mod event;
+mod inactivity;
 pub mod laws;
+mod leaving;
+mod offer;
+mod probe_request;
 
-use apd_conf::Confs;
+use apd_base::Bssid;
+use apd_conf::{Conf, Confs};
 use apd_frame::Frame;
 use apd_record::known_changes;
 use apd_table::Table;
+use association::Kind;
 pub use decision::{Decision, Out, Recipient};
 pub use event::Event;
 use std::alloc::{AllocError, Global};
 
 /// What a fit event brings about: its changes, in an order in which each of them leaves a sound
 /// table, and its outs. A frame is fit where its BSSID is configured and has a policy row; a start,
-/// where the BSSID is configured, and has a policy row or fewer than eight BSSIDs have one.
+/// where the BSSID is configured, has a policy row or fewer than eight BSSIDs have one, and both lists
+/// rise without doubles and have at most 1024 addresses.
 pub fn decide(
     alloc: Global,
     table: &Table,
     confs: &Confs,
-    event: Event,
+    event: Event<'_>,
 ) -> Result<Decision, AllocError>
-    requires { IsFit table.now confs.now event }
-    ensures changes { IfOk result (λ d. d.changes ≡ (verdict table.now confs.now event).changes) }
-    ensures outs { IfOk result (λ d. d.outs ≡ (verdict table.now confs.now event).outs) }
+    requires { IsFit table.now confs.now (happening event) }
+    ensures changes { IfOk result (λ d. d.changes ≡ (verdict table.now confs.now (happening event.entry)).changes) }
+    ensures outs { IfOk result (λ d. d.outs ≡ (verdict table.now confs.now (happening event.entry)).outs) }
 
     // What the changes mean is the state after the event, and each of them leaves a sound state.
-    ensures meaning { IfOk result (λ d. meaning_of d.changes table.now ≡ (verdict table.now confs.now event).state) }
+    ensures meaning { IfOk result (λ d. meaning_of d.changes table.now ≡ (verdict table.now confs.now (happening event.entry)).state) }
     ensures sound { IfOk result (λ d. StaySound d.changes table.now) }
 
     // The records of its changes have at most 28,682 bytes.
     ensures records { IfOk result (λ d. length (records_of d.changes) ≤ MAX_RECORDS) }
 
     // What leaves keeps the driver of each configured BSSID at its associated stations.
-    ensures driver { IfOk result (λ d. FollowsDrivers confs.now d.outs table.now (verdict table.now confs.now event).state) }
+    ensures driver { IfOk result (λ d. FollowsDrivers confs.now d.outs table.now (verdict table.now confs.now (happening event.entry)).state) }
 {
     table.sound();
     decide_fit(alloc, table, confs, event)
@@ -56,20 +67,52 @@ fn decide_fit(
     alloc: Global,
     table: &Table,
     confs: &Confs,
-    event: Event,
+    event: Event<'_>,
 ) -> Result<Decision, AllocError>
-    requires { IsFit table.now confs.now event }
-    ensures changes { IfOk result (λ d. d.changes ≡ (verdict table.now confs.now event).changes) }
-    ensures outs { IfOk result (λ d. d.outs ≡ (verdict table.now confs.now event).outs) }
+    requires { IsFit table.now confs.now (happening event) }
+    ensures changes { IfOk result (λ d. d.changes ≡ (verdict table.now confs.now (happening event.entry)).changes) }
+    ensures outs { IfOk result (λ d. d.outs ≡ (verdict table.now confs.now (happening event.entry)).outs) }
     ensures known { IfOk result (λ d. AreChanges d.changes) }
 {
     let conf = confs.with_bssid(event.bssid()).unwrap();
     let decision = match event {
-        Event::Heard(bssid, Frame::Auth(request)) => {
-            authentication::answer(alloc, table, conf, bssid, &request)?
-        }
-        Event::Configure(bssid) => configuration::configure(alloc, table, conf, bssid)?,
+        Event::Heard(bssid, frame) => heard(alloc, table, confs, conf, bssid, frame)?,
+        Event::Expire { bssid, addr } => inactivity::expired(alloc, table, bssid, addr)?,
+        Event::Configure {
+            bssid,
+            accept,
+            deny,
+        } => configuration::configure(alloc, table, conf, bssid, accept, deny)?,
     };
     known_changes(decision.changes.as_slice());
     Ok(decision)
+}
+
+fn heard(
+    alloc: Global,
+    table: &Table,
+    confs: &Confs,
+    conf: &Conf,
+    bssid: Bssid,
+    frame: Frame<'_>,
+) -> Result<Decision, AllocError>
+    ensures changes { IfOk result (λ d. d.changes ≡ (heard_verdict table.now confs.now conf.now bssid (contents frame.entry)).changes) }
+    ensures outs { IfOk result (λ d. d.outs ≡ (heard_verdict table.now confs.now conf.now bssid (contents frame.entry)).outs) }
+{
+    match frame {
+        Frame::Auth(request) => authentication::answer(alloc, table, conf, bssid, &request),
+        Frame::Assoc(request) => {
+            let kind = Kind::Association;
+            association::answer(alloc, table, confs, conf, bssid, kind, &request)
+        }
+        Frame::Reassoc(request) => {
+            let kind = Kind::Reassociation;
+            let request = association::without_current_ap(request);
+            association::answer(alloc, table, confs, conf, bssid, kind, &request)
+        }
+        Frame::Probe(request) => probe_request::answer(alloc, conf, bssid, &request),
+        Frame::Disassoc { sender, .. } => departure::disassociated(alloc, table, bssid, sender),
+        Frame::Deauth { sender, .. } => departure::deauthenticated(alloc, table, bssid, sender),
+        Frame::Uplink { sender } => departure::data(alloc, table, bssid, sender),
+    }
 }

@@ -1,6 +1,7 @@
 use Rattle.std.proofs.Common.{◌+◌, ap, subst, ◌∙◌}
 use Rattle.std.proofs.lemmas.List.{take_all}
 use Rattle.apd.specs.Run.{AreSteps}
+use Rattle.apd.specs.Steps.{IsStep}
 use Rattle.apd.proofs.Answering.{steps_more, steps_answered}
 use Rattle.apd.proofs.plain.drive.Goals as goal
 
@@ -8,7 +9,8 @@ pub loop-step-preserved : goal.loop-step-preserved
 loop-step-preserved c =
     let past = c.loop-step.invariant in
     record {
-      steps = steps_more c.args.steps.now c.loop-step.step-index c.loop-step.tolds.items c.push_reserved.new.self.items _ c.step.result c.args.world.now c.loop-step.world c.step.new.self past.steps c.loop-step-test.true c.step.ensures c.push_reserved.ensures.items;
+      steps = steps_more c.args.steps.now c.loop-step.step-index c.loop-step.tolds.items c.push_reserved.new.self.items c.step-item.result c.step.result c.args.world.now c.loop-step.world c.step.new.self past.steps c.loop-step-test.true
+          (subst (λ x. IsStep x c.step.result c.loop-step.world c.step.new.self) c.step-item.is c.step.ensures) c.push_reserved.ensures.items;
       room = c.push_reserved.ensures.capacity ∙ past.room;
       told = c.push_reserved.ensures.len ∙ ap (λ n. n + 1) past.told;
     }

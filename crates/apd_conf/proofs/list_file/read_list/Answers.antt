@@ -52,13 +52,19 @@ loop-line-preserved c =
           c.loop-line.list.items c.apply.new.list.items c.apply.ensures.sorted c.loop-line.invariant.addresses c.in_ok-apply.ensures.ok (omega arith) c.loop-line.invariant.faultless;
     }
 
+pub from_vec-requires : goal.from_vec-requires
+from_vec-requires c =
+    is_list c.loop-line.list.items c.in_ok-addresses.field-0.items c.loop-line.invariant.sorted c.loop-line.invariant.within
+    (c.in_ok-addresses.ensures ∙ ap (map (λ (row : Addr × Unit {0}). row.0)) c.deref.ensures.value)
+
 pub returns-clause-ok : goal.returns-clause-ok
 returns-clause-ok c =
-    whole_list (lines c.args.file.now) c.loop-line.number c.loop-line.list.items c.in_ok-addresses.field-0
+    whole_list (lines c.args.file.now) c.loop-line.number c.loop-line.list.items c.from_vec.result
     (at_end (lines c.args.file.now) c.loop-line.number c.loop-line.invariant.few (sym c.loop-line.invariant.left ∙ c.in-None.ensures.steps.0))
-    c.loop-line.invariant.sorted c.loop-line.invariant.addresses c.loop-line.invariant.faultless (c.in_ok-addresses.ensures ∙ ap (map (λ (row : Addr × Unit {0}). row.0)) c.deref.ensures.value)
+    c.loop-line.invariant.sorted c.loop-line.invariant.addresses c.loop-line.invariant.faultless
+    (c.from_vec.ensures ∙ c.in_ok-addresses.ensures ∙ ap (map (λ (row : Addr × Unit {0}). row.0)) c.deref.ensures.value)
 
 pub returns-clause-list : goal.returns-clause-list
 returns-clause-list c =
-    is_list c.loop-line.list.items c.in_ok-addresses.field-0 c.loop-line.invariant.sorted c.loop-line.invariant.within
-    (c.in_ok-addresses.ensures ∙ ap (map (λ (row : Addr × Unit {0}). row.0)) c.deref.ensures.value)
+    is_list c.loop-line.list.items c.from_vec.result c.loop-line.invariant.sorted c.loop-line.invariant.within
+    (c.from_vec.ensures ∙ c.in_ok-addresses.ensures ∙ ap (map (λ (row : Addr × Unit {0}). row.0)) c.deref.ensures.value)

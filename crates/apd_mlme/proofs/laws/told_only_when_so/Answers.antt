@@ -1,5 +1,5 @@
-use Rattle.apd_mlme.proofs.VerdictLaws.{verdict_told}
+use Rattle.apd_mlme.proofs.VerdictLaws.{told_in}
 use Rattle.apd_mlme.proofs.laws.told_only_when_so.Goals as goal
 
 pub returns : goal.returns
-returns c = verdict_told
+returns c = told_in

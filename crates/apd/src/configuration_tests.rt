@@ -1,0 +1,174 @@
+use crate::ProgramFault;
+use crate::configuration_files::{ConfigurationFault, read_configurations};
+use crate::plain::World;
+use crate::script::run_script;
+use apd_conf::{AddressList, ConfFault, Confs, ConfsFault, ListFault, read_conf, read_list};
+use std::alloc::Global;
+use std::fs;
+use std::rt::Files;
+use std::test::Fail;
+
+/// The lines that every configuration of wlan0 has.
+const RADIO: &str = "interface=wlan0\nbssid=02:00:00:00:00:01\nssid=net\n";
+
+/// An authentication request of the station 02:00:00:00:00:aa at wlan0.
+const REQUEST: &str =
+    "rx wlan0 b00000000200000000010200000000aa0200000000011000000001000000\nflush\n";
+
+/// Where the tests' files stand.
+const FOLDER: &str = "configuration_files_of_a_test";
+
+/// What a script prints on a daemon of these configurations.
+fn printed(alloc: Global, confs: Confs, script: &str) -> Result<Vec<u8>, Fail> {
+    let mut out = Vec::new(alloc);
+    let world = World::new(alloc, confs);
+    if let Err(fault) = run_script(alloc, world, script.as_bytes(), &mut out) {
+        return Err(Fail::from(format!(in alloc; "{fault}")?));
+    }
+    Ok(out)
+}
+
+#[test]
+fn the_policy_answers_authentications(rt: HostRuntime) -> Result<(), Fail> {
+    let alloc = rt.alloc();
+    let station = "02:00:00:00:00:aa";
+    for (line, accept, deny, body) in [
+        // No room: status 17.
+        ("max_num_sta=0", "", "", "000002001100"),
+        // Neither on a list nor allowed by the mode: status 1.
+        ("macaddr_acl=1", "", "", "000002000100"),
+        // On the deny list: status 1.
+        ("macaddr_acl=0", "", station, "000002000100"),
+        // On the accept list: status 0, also where it is on both.
+        ("macaddr_acl=1", station, "", "000002000000"),
+        ("macaddr_acl=0", station, station, "000002000000"),
+    ] {
+        let text = format!(in alloc; "{RADIO}{line}\n")?;
+        let mut conf = read_conf(alloc, text.as_bytes())?;
+        let accept = read_list(alloc, accept.as_bytes())?;
+        let deny = read_list(alloc, deny.as_bytes())?;
+        conf.set_lists(accept, deny);
+        let mut list = Vec::new(alloc);
+        list.push(conf)?;
+        let out = printed(alloc, Confs::new(list)?, REQUEST)?;
+        let want = format!(in alloc;
+            "entry 2\nwlan0 tx b00000000200000000aa0200000000010200000000010000{body}\n"
+        )?;
+        assert_eq!(rt; out.as_slice(), want.as_bytes(), "{line}");
+    }
+    Ok(())
+}
+
+#[test]
+fn each_radio_starts_with_its_own_lists(rt: HostRuntime) -> Result<(), Fail> {
+    let alloc = rt.alloc();
+    let mut list = Vec::new(alloc);
+    for (name, last, deny) in [("wlan0", 1, "02:00:00:00:00:aa"), ("wlan1", 2, "")] {
+        let text = format!(in alloc; "interface={name}\nbssid=02:00:00:00:00:0{last}\nssid=net")?;
+        let mut conf = read_conf(alloc, text.as_bytes())?;
+        let deny = read_list(alloc, deny.as_bytes())?;
+        conf.set_lists(AddressList::new(alloc), deny);
+        list.push(conf)?;
+    }
+    let script =
+        "rx wlan0 b00000000200000000010200000000aa0200000000011000000001000000\nrx wlan1 b00000000200000000020200000000aa0200000000021000000001000000\nflush\n";
+    let out = printed(alloc, Confs::new(list)?, script)?;
+    let want =
+        b"entry 3\nentry 4\nwlan0 tx b00000000200000000aa0200000000010200000000010000000002000100\nwlan1 tx b00000000200000000aa0200000000020200000000020000000002000000\n";
+    assert_eq!(rt; out.as_slice(), want.as_slice());
+    Ok(())
+}
+
+/// Why files are no configurations, as it is printed.
+fn fault_text<R: Files + AllocGlobal>(rt: &R, names: &[&str]) -> Result<String, Fail> {
+    match read_configurations(rt, names) {
+        Ok(_) => Ok(String::new(rt.alloc())),
+        Err(fault) => {
+            let fault = ProgramFault::Configuration(fault);
+            Ok(format!(in rt.alloc(); "{fault}")?)
+        }
+    }
+}
+
+#[test]
+fn files_are_read_in_turn_and_the_first_fault_is_told(rt: HostRuntime) -> Result<(), Fail> {
+    let _ = fs::remove_dir_all(&rt, FOLDER);
+    fs::create_dir(&rt, FOLDER)?;
+    for (name, text) in [
+        (
+            "good",
+            "interface=wlan0\nbssid=02:00:00:00:00:01\nssid=net\naccept_mac_file=configuration_files_of_a_test/list\n",
+        ),
+        (
+            "other",
+            "interface=wlan1\nbssid=02:00:00:00:00:02\nssid=net\n",
+        ),
+        ("list", "02:00:00:00:00:aa\n"),
+        ("faulty_list", "02:00:00:00:00:aa\nx\n"),
+        (
+            "faulty",
+            "interface=wlan0\nfoo\naccept_mac_file=configuration_files_of_a_test/none\n",
+        ),
+        (
+            "bad_accept",
+            "interface=wlan2\nbssid=02:00:00:00:00:03\nssid=net\naccept_mac_file=configuration_files_of_a_test/faulty_list\ndeny_mac_file=configuration_files_of_a_test/none\n",
+        ),
+        (
+            "no_deny",
+            "interface=wlan2\nbssid=02:00:00:00:00:03\nssid=net\ndeny_mac_file=configuration_files_of_a_test/none\n",
+        ),
+    ] {
+        let path = format!(in rt.alloc(); "{FOLDER}/{name}")?;
+        fs::write(&rt, path.as_str(), text)?;
+    }
+    let good = "configuration_files_of_a_test/good";
+    let other = "configuration_files_of_a_test/other";
+    let faulty = "configuration_files_of_a_test/faulty";
+    let bad_accept = "configuration_files_of_a_test/bad_accept";
+    let no_deny = "configuration_files_of_a_test/no_deny";
+    for (names, want) in [
+        ([good, other].as_slice(), ""),
+        (&[good, "none", faulty], "cannot read none"),
+        (&[good, faulty, "none"], "line 2: no '='"),
+        (&[good, bad_accept, "none"], "line 2: bad address"),
+        (
+            &[no_deny, faulty],
+            "cannot read configuration_files_of_a_test/none",
+        ),
+        (&[good, other, good], "interface given twice"),
+        (&[FOLDER], "cannot read configuration_files_of_a_test"),
+    ] {
+        assert_eq!(rt; fault_text(&rt, names)?.as_str(), want);
+    }
+    if let Ok(confs) = read_configurations(&rt, &[other, good]) {
+        assert_eq!(rt; confs.list().len(), 2);
+        assert_eq!(rt; confs.list()[1].accept.as_slice().len(), 1);
+        assert_eq!(rt; confs.list()[1].deny.as_slice().len(), 0);
+    }
+    fs::remove_dir_all(&rt, FOLDER)?;
+    Ok(())
+}
+
+#[test]
+fn faults_of_configurations_are_printed_in_these_words(rt: HostRuntime) -> Result<(), Fail> {
+    let alloc = rt.alloc();
+    for (fault, want) in [
+        (
+            ConfigurationFault::Conf(ConfFault::Security(2)),
+            "line 2: security is not supported",
+        ),
+        (
+            ConfigurationFault::List(ListFault::TooMany),
+            "too many addresses",
+        ),
+        (
+            ConfigurationFault::Confs(ConfsFault::SameBssid(1)),
+            "bssid given twice",
+        ),
+        (ConfigurationFault::NoMemory, "out of memory"),
+    ] {
+        let fault = ProgramFault::Configuration(fault);
+        assert_eq!(rt; format!(in alloc; "{fault}")?.as_str(), want);
+    }
+    Ok(())
+}

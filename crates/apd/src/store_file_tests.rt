@@ -1,0 +1,72 @@
+use crate::ProgramFault;
+use crate::store_file::{FormatFault, format_file};
+use apd_disk::FileDisk;
+use apd_store::{StoreFault, recover};
+use std::fs::{self, File};
+use std::rt::Files;
+use std::test::Fail;
+
+/// The bytes of a new store where they are not zero: the magic, half A's gate and its epoch.
+const MAGIC: &[u8] = b"RAPSTOR1";
+
+fn bytes_of(
+    rt: &(impl Files<File = File> + AllocGlobal),
+    name: &str,
+) -> Result<(usize, Vec<u8>), Fail> {
+    let bytes = fs::read(rt, name)?;
+    let front = Vec::from_slice(rt.alloc(), bytes.get(..80).unwrap_or(&[]))?;
+    Ok((bytes.len(), front))
+}
+
+#[test]
+fn a_file_becomes_an_empty_store(rt: HostRuntime) -> Result<(), Fail> {
+    let name = "store_of_a_test";
+    let _ = fs::remove_file(&rt, name);
+    // Where there is none, and over what is there.
+    for _ in 0..2 {
+        let done = format_file(&rt, name);
+        assert!(rt; done.is_ok());
+        let (length, front) = bytes_of(&rt, name)?;
+        assert_eq!(rt; length, 2_097_216);
+        assert_eq!(rt; &front[..8], MAGIC);
+        assert_eq!(rt; &front[64..78], [1, 1, 0, 0, 0, 0, 0, 0, 0, 0, 0, 0, 0, 0].as_slice());
+        let disk = FileDisk::open(&rt, name)?;
+        match recover(rt.alloc(), disk) {
+            Ok((_, table)) => assert_eq!(rt; table.rows(), 0),
+            Err((_, fault)) => assert!(rt; false, "{fault}"),
+        }
+    }
+    fs::remove_file(&rt, name)?;
+    Ok(())
+}
+
+#[test]
+fn faults_of_a_store_s_file_are_printed_in_these_words(rt: HostRuntime) -> Result<(), Fail> {
+    let alloc = rt.alloc();
+    let name = "no_store_of_a_test";
+    fs::write(&rt, name, b"RAPSTOR1")?;
+    let short = match format_file(&rt, name) {
+        Err(FormatFault::Store(fault)) => fault,
+        _ => return Err(Fail::from("a short file was taken")),
+    };
+    assert_eq!(rt; short, StoreFault::NotAStore);
+    let (length, _) = bytes_of(&rt, name)?;
+    assert_eq!(rt; length, 8);
+    fs::remove_file(&rt, name)?;
+    for (fault, text) in [
+        (FormatFault::Store(short), "not a store"),
+        (FormatFault::Store(StoreFault::Device), "device fault"),
+        (FormatFault::NoMemory, "out of memory"),
+    ] {
+        assert_eq!(rt; format!(in alloc; "{fault}")?.as_str(), text);
+    }
+    match format_file(&rt, "no_folder_of_a_test/store") {
+        Err(fault) => {
+            let told = ProgramFault::Format(fault);
+            let text = format!(in alloc; "{told}")?;
+            assert_eq!(rt; text.as_str(), "cannot read no_folder_of_a_test/store");
+        }
+        Ok(()) => assert!(rt; false, "it was made"),
+    }
+    Ok(())
+}

@@ -1,0 +1,21 @@
+use Rattle.std.proofs.Common.{◌≡◌, ℕ, Option, Some, IfSome, subst}
+use Rattle.apd_base.specs.declared.address.Bssid.{Bssid}
+use Rattle.apd_base.specs.declared.station.Aid.{Aid}
+use Rattle.apd_base.specs.State.{State}
+use Rattle.apd_table.specs.LeastFree.{IsLeastFree}
+use Rattle.apd_mlme.specs.Identifiers.{least_free}
+use Rattle.apd_mlme.proofs.IdentifierLaws.{one_is_left, found_least}
+use Rattle.apd_mlme.proofs.association.least_free.Goals as goal
+
+pub unwrap-number-requires : goal.unwrap-number-requires
+unwrap-number-requires c = one_is_left c.args.table.now c.args.bssid c.sound.ensures c.args.sender c.requires.known c.requires.without c.least_free.result c.least_free.ensures.none
+
+-- the number that was found, as an identifier
+found : (s : State) (b : Bssid) (r : Option ℕ) (n : ℕ) (o : Option Aid) (aid : Aid) → IfSome r (IsLeastFree s b) → r ≡ Some n → IfSome o (λ x. x.number ≡ n) → o ≡ Some aid → least_free s b ≡ Some aid
+found s b r n o aid least is number was =
+    let first : IsLeastFree s b n = subst (λ q. IfSome q (IsLeastFree s b)) is least in
+    let second : aid.number ≡ n = subst (λ q. IfSome q (λ (x : Aid). x.number ≡ n)) was number in
+    found_least s b n aid first second
+
+pub returns : goal.returns
+returns c = found c.args.table.now c.args.bssid c.least_free.result c.unwrap-number.result c.new.result c.unwrap.result c.least_free.ensures.some c.unwrap-number.ensures c.new.ensures.number c.unwrap.ensures

@@ -1,0 +1,61 @@
+-- What an association or a reassociation response tells its station.
+use Rattle.std.specs.Prelude.{◌≡◌, ◌≢◌, ◌≤◌, List, [], ◌∷◌, ◌++◌, Option, Some, None, IsSome, IsTrue, IfSome, IsSomeAnd}
+use Rattle.apd_base.specs.declared.address.Addr.{Addr}
+use Rattle.apd_base.specs.declared.address.Bssid.{Bssid}
+use Rattle.apd_base.specs.declared.station.Aid.{Aid}
+use Rattle.apd_base.specs.declared.station.Station.{Station}
+use Rattle.apd_base.specs.declared.station.Station.TheVariants.{Authenticated}
+use Rattle.apd_base.specs.State.{State, station_at, aid_at}
+use Rattle.apd_conf.specs.declared.conf.Conf.{Conf}
+use Rattle.apd_frame.specs.Contents.{AssociationRequest}
+use Rattle.apd_frame.specs.Elements.{well_formed, first_with}
+use Rattle.apd_frame.specs.declared.codes.Status.{Status}
+use Rattle.apd_frame.specs.declared.codes.Status.TheVariants.{Success}
+use Rattle.apd_frame.specs.declared.element.TheConstants.{SSID, SUPPORTED_RATES}
+use Rattle.apd_table.specs.LeastFree.{IsLeastFree}
+use Rattle.apd_mlme.specs.declared.association.Kind.{Kind}
+use Rattle.apd_mlme.specs.declared.decision.Recipient.{Recipient}
+use Rattle.apd_mlme.specs.declared.decision.Out.{Out}
+use Rattle.apd_mlme.specs.Association.{association_response, row_of}
+use Rattle.apd_mlme.specs.Outs.{sent}
+use Rattle.apd_mlme.specs.Verdict.{Verdict}
+
+-- the station is associated at the BSSID, with this identifier and with what it asked; no other station of the BSSID has the
+-- identifier, and the station is associated nowhere else
+pub record IsMember (s : State) (b : Bssid) (request : AssociationRequest) (aid : Aid) : Type 0 where
+  pub row : station_at s b request.sender ≡ Some (row_of request aid)
+  pub nobody_else : (d : Addr) → aid_at s b d ≡ Some aid.number → d ≡ request.sender
+  pub nowhere_else : (c : Bssid) → IsSome (aid_at s c request.sender) → c ≡ b
+
+-- what a request needs to be accepted
+pub record IsAcceptable (conf : Conf) (request : AssociationRequest) : Type 0 where
+  pub whole : IsTrue (well_formed request.elements)
+  pub named : first_with SSID request.elements ≡ Some conf.ssid
+  pub rated : IsSome (first_with SUPPORTED_RATES request.elements)
+  pub often : request.listen_interval ≤ conf.max_listen_interval
+
+-- a row that is left to a station which associates with another BSSID
+abbrev pub only_authenticated : Option Station → Option Station
+only_authenticated None = None
+only_authenticated (Some row) = Some Authenticated
+
+-- the last out is the response to the sender, and it says how the sender stands
+pub record IsAnsweredTruly (s : State) (conf : Conf) (b : Bssid) (kind : Kind) (request : AssociationRequest) (v : Verdict) : Type 0 where
+  pub status : Status
+  pub aid : Option Aid
+  pub before : List (Recipient × Out)
+  pub answer : v.outs ≡ before ++ sent (association_response conf b kind request.sender status aid) ∷ []
+  -- success, and an identifier, are told to a member that asked as it must
+  pub success : status ≡ Success → IsSomeAnd aid (IsMember v.state b request)
+  pub deserved : status ≡ Success → IsAcceptable conf request
+  -- a station that was associated here keeps its identifier, and any other gets the least that was free
+  pub kept : status ≡ Success → IsSome (aid_at s b request.sender) → aid_at v.state b request.sender ≡ aid_at s b request.sender
+  pub least : status ≡ Success → aid_at s b request.sender ≡ None → IfSome aid (λ x. IsLeastFree s b x.number)
+  -- at every other BSSID it is authenticated at most, where it has a row
+  pub elsewhere : status ≡ Success → (c : Bssid) → c ≢ b → station_at v.state c request.sender ≡ only_authenticated (station_at s c request.sender)
+  -- anything else is told alone, without an identifier, and leaves every row as it was
+  pub refused : status ≢ Success → (v.state ≡ s) × (aid ≡ None) × (before ≡ [])
+  -- every other station stays as it is
+  pub others : (c : Bssid) (d : Addr) → d ≢ request.sender → station_at v.state c d ≡ station_at s c d
+  pub lists : v.state.lists ≡ s.lists
+  pub policies : v.state.policies ≡ s.policies

@@ -1,0 +1,54 @@
+-- An association or an authentication comes to its end: what a station is told where the access point ends it (IEEE Std
+-- 802.11-2016, 11.3.4.4 and 11.3.5.8), and what becomes of its row.
+use Rattle.std.specs.Prelude.{List, [], ◌∷◌, ◌++◌, is_some, if◌then◌else◌}
+use Rattle.std.specs.FinMap as maps
+use Rattle.apd_base.specs.declared.address.Addr.{Addr}
+use Rattle.apd_base.specs.declared.address.Bssid.{Bssid}
+use Rattle.apd_base.specs.declared.station.Station.TheVariants.{Authenticated}
+use Rattle.apd_base.specs.State.{State, aid_at}
+use Rattle.apd_frame.specs.declared.codes.Reason.{Reason}
+use Rattle.apd_frame.specs.declared.replies.Reply.{Reply}
+use Rattle.apd_frame.specs.declared.replies.ReplyBody.TheVariants.{Disassoc, Deauth}
+use Rattle.apd_record.specs.declared.change.Change.TheVariants.{Put, Drop}
+use Rattle.apd_mlme.specs.declared.decision.Recipient.{Recipient}
+use Rattle.apd_mlme.specs.declared.decision.Recipient.TheVariants.{Radio}
+use Rattle.apd_mlme.specs.declared.decision.Out.{Out}
+use Rattle.apd_mlme.specs.declared.decision.Out.TheVariants.{Remove}
+use Rattle.apd_mlme.specs.Outs.{sent}
+use Rattle.apd_mlme.specs.Verdict.{Verdict}
+
+-- a station is told that its association is at an end
+abbrev pub disassociation : Bssid → Addr → Reason → Reply
+disassociation b a reason = record { to = a; bssid = b; body = Disassoc reason }
+
+-- or its authentication
+abbrev pub deauthentication : Bssid → Addr → Reason → Reply
+deauthentication b a reason = record { to = a; bssid = b; body = Deauth reason }
+
+-- the driver lets a station go, where it was associated
+abbrev pub removal : State → Bssid → Addr → List (Recipient × Out)
+removal s b a = if is_some (aid_at s b a) then (Radio b, Remove a) ∷ [] else []
+
+-- what leaves for a station that was associated and is so no more
+abbrev pub outs_of_end : Bssid → Addr → Reason → List (Recipient × Out)
+outs_of_end b a reason = (Radio b, Remove a) ∷ sent (disassociation b a reason) ∷ []
+
+-- what leaves for a station whose row is dropped
+abbrev pub outs_of_drop : State → Bssid → Addr → Reason → List (Recipient × Out)
+outs_of_drop s b a reason = removal s b a ++ sent (deauthentication b a reason) ∷ []
+
+-- the station has a row as authenticated, and every other row is kept
+abbrev pub put_back : State → Bssid → Addr → List (Recipient × Out) → Verdict
+put_back s b a outs = record {
+  state = record s { stations = maps.insert s.stations (b, a) Authenticated };
+  changes = Put b a Authenticated ∷ [];
+  outs = outs;
+}
+
+-- the station has no row, and every other row is kept
+abbrev pub dropped : State → Bssid → Addr → List (Recipient × Out) → Verdict
+dropped s b a outs = record {
+  state = record s { stations = maps.remove s.stations (b, a) };
+  changes = Drop b a ∷ [];
+  outs = outs;
+}

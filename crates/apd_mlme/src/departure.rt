@@ -1,0 +1,82 @@
+//! What a station brings about that leaves, or that sends data (IEEE Std 802.11-2016, 11.3.5.9, 11.3.4.5
+//! and 11.3.3).
+ghost use Rattle.std.specs.Prelude.{◌≡◌, IfOk};
+ghost use Rattle.apd_mlme.specs.Departure.{data_verdict, deauthentication_verdict, disassociation_verdict};
+
+use crate::decision::{Decision, Out, Recipient};
+use crate::leaving::{deauthentication, disassociation, dropped, push_removal, put_back};
+use apd_base::{Addr, Bssid, Sequence, Station};
+use apd_frame::Reason;
+use apd_table::Table;
+use std::alloc::{AllocError, Global};
+
+/// What a disassociation from a station brings about.
+pub fn disassociated(
+    alloc: Global,
+    table: &Table,
+    bssid: Bssid,
+    sender: Addr,
+) -> Result<Decision, AllocError>
+    ensures changes { IfOk result (λ d. d.changes ≡ (disassociation_verdict table.now bssid sender).changes) }
+    ensures outs { IfOk result (λ d. d.outs ≡ (disassociation_verdict table.now bssid sender).outs) }
+{
+    match table.get(bssid, sender) {
+        Some(Station::Associated(_)) => {
+            let mut outs = Sequence::new(alloc);
+            outs.push((Recipient::Radio(bssid), Out::Remove(sender)))?;
+            put_back(alloc, bssid, sender, outs)
+        }
+        Some(Station::Authenticated) => Ok(Decision::nothing(alloc)),
+        None => {
+            Decision::only_sent(
+                alloc,
+                &deauthentication(bssid, sender, Reason::INVALID_CLASS2_FRAME),
+            )
+        }
+    }
+}
+
+/// What a deauthentication from a station brings about.
+pub fn deauthenticated(
+    alloc: Global,
+    table: &Table,
+    bssid: Bssid,
+    sender: Addr,
+) -> Result<Decision, AllocError>
+    ensures changes { IfOk result (λ d. d.changes ≡ (deauthentication_verdict table.now bssid sender).changes) }
+    ensures outs { IfOk result (λ d. d.outs ≡ (deauthentication_verdict table.now bssid sender).outs) }
+{
+    if table.get(bssid, sender).is_none() {
+        return Ok(Decision::nothing(alloc));
+    }
+    let mut outs = Sequence::new(alloc);
+    push_removal(table, bssid, sender, &mut outs)?;
+    dropped(alloc, bssid, sender, outs)
+}
+
+/// What data from a station bring about.
+pub fn data(
+    alloc: Global,
+    table: &Table,
+    bssid: Bssid,
+    sender: Addr,
+) -> Result<Decision, AllocError>
+    ensures changes { IfOk result (λ d. d.changes ≡ (data_verdict table.now bssid sender).changes) }
+    ensures outs { IfOk result (λ d. d.outs ≡ (data_verdict table.now bssid sender).outs) }
+{
+    match table.get(bssid, sender) {
+        Some(Station::Associated(_)) => Ok(Decision::nothing(alloc)),
+        Some(Station::Authenticated) => {
+            Decision::only_sent(
+                alloc,
+                &disassociation(bssid, sender, Reason::INVALID_CLASS3_FRAME),
+            )
+        }
+        None => {
+            Decision::only_sent(
+                alloc,
+                &deauthentication(bssid, sender, Reason::INVALID_CLASS3_FRAME),
+            )
+        }
+    }
+}

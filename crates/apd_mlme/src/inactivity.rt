@@ -1,0 +1,35 @@
+//! The end of a station that was silent for too long (own).
+ghost use Rattle.std.specs.Prelude.{◌≡◌, IfOk};
+ghost use Rattle.apd_mlme.specs.Inactivity.{inactivity_verdict};
+
+use crate::decision::Decision;
+use crate::leaving::{dropped, push_outs_of_drop, push_outs_of_end, put_back};
+use apd_base::{Addr, Bssid, Sequence, Station};
+use apd_frame::Reason;
+use apd_table::Table;
+use std::alloc::{AllocError, Global};
+
+/// What the silence of a station brings about. Without a row it is nothing.
+pub fn expired(
+    alloc: Global,
+    table: &Table,
+    bssid: Bssid,
+    addr: Addr,
+) -> Result<Decision, AllocError>
+    ensures changes { IfOk result (λ d. d.changes ≡ (inactivity_verdict table.now bssid addr).changes) }
+    ensures outs { IfOk result (λ d. d.outs ≡ (inactivity_verdict table.now bssid addr).outs) }
+{
+    let mut outs = Sequence::new(alloc);
+    match table.get(bssid, addr) {
+        Some(Station::Associated(_)) => {
+            push_outs_of_end(alloc, bssid, addr, Reason::INACTIVITY, &mut outs)?;
+            put_back(alloc, bssid, addr, outs)
+        }
+        Some(Station::Authenticated) => {
+            let reason = Reason::INVALID_AUTHENTICATION;
+            push_outs_of_drop(alloc, table, bssid, addr, reason, &mut outs)?;
+            dropped(alloc, bssid, addr, outs)
+        }
+        None => Ok(Decision::nothing(alloc)),
+    }
+}
