@@ -6,8 +6,11 @@ use std::fs::{self, File};
 use std::rt::Files;
 use std::test::Fail;
 
-/// The bytes of a new store where they are not zero: the magic, half A's gate and its epoch.
+/// What a store begins with.
 const MAGIC: &[u8] = b"RAPSTOR1";
+
+/// What the first half of a new store begins with: open, epoch 1, no snapshot, and a closed gate.
+const HEAD: &[u8] = &[1, 1, 0, 0, 0, 0, 0, 0, 0, 0, 0, 0, 0, 0];
 
 fn bytes_of(
     rt: &(impl Files<File = File> + AllocGlobal),
@@ -16,6 +19,21 @@ fn bytes_of(
     let bytes = fs::read(rt, name)?;
     let front = Vec::from_slice(rt.alloc(), bytes.get(..80).unwrap_or(&[]))?;
     Ok((bytes.len(), front))
+}
+
+/// The number of station rows in the store of a file.
+fn rows_of(rt: &(impl Files<File = File> + AllocGlobal), name: &str) -> Result<usize, Fail> {
+    let disk = FileDisk::open(rt, name)?;
+    match recover(rt.alloc(), disk) {
+        Ok(found) => {
+            let (_store, table) = found;
+            Ok(table.rows())
+        }
+        Err(refusal) => {
+            let (_disk, fault) = refusal;
+            Err(Fail::from(format!(in rt.alloc(); "{fault}")?))
+        }
+    }
 }
 
 #[test]
@@ -28,13 +46,9 @@ fn a_file_becomes_an_empty_store(rt: HostRuntime) -> Result<(), Fail> {
         assert!(rt; done.is_ok());
         let (length, front) = bytes_of(&rt, name)?;
         assert_eq!(rt; length, 2_097_216);
-        assert_eq!(rt; &front[..8], MAGIC);
-        assert_eq!(rt; &front[64..78], [1, 1, 0, 0, 0, 0, 0, 0, 0, 0, 0, 0, 0, 0].as_slice());
-        let disk = FileDisk::open(&rt, name)?;
-        match recover(rt.alloc(), disk) {
-            Ok((_, table)) => assert_eq!(rt; table.rows(), 0),
-            Err((_, fault)) => assert!(rt; false, "{fault}"),
-        }
+        assert_eq!(rt; front.get(..8), Some(MAGIC));
+        assert_eq!(rt; front.get(64..78), Some(HEAD));
+        assert_eq!(rt; rows_of(&rt, name)?, 0);
     }
     fs::remove_file(&rt, name)?;
     Ok(())

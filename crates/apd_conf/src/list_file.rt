@@ -6,8 +6,8 @@ ghost use Rattle.apd_base.specs.Addr.{addr_cmp};
 ghost use Rattle.apd_conf.specs.Lines.{lines};
 ghost use Rattle.apd_conf.specs.ListFile.{address_of, is_end, address_at, edit_of, edited, IsListOf, IsList, IsFaultOf};
 
-use crate::{AddressList, ListFault};
 use crate::lines::{is_skipped, lines_of};
+use crate::{AddressList, ListFault};
 use apd_base::limits::MAX_LISTED;
 use apd_base::{Addr, rows};
 use std::alloc::{AllocError, Global};
