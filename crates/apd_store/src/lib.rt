@@ -16,3 +16,6 @@ pub use formatting::format;
 pub use laws::an_image_shows_one_state;
 pub use recovery::recover;
 pub use store::{Receipt, Store};
+
+#[cfg(test)]
+mod tests;

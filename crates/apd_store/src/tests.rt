@@ -1,0 +1,461 @@
+// What no clause says: that calls succeed where memory is ample, the bytes of a store, and printed text.
+ghost use Rattle.std.specs.Prelude.{IfOk};
+ghost use Rattle.apd_store.specs.Commit.{IsInside};
+
+use super::*;
+use apd_base::{AclMode, Addr, Aid, Association, Bssid, Policy, Sequence, Station, StationLimit};
+use apd_disk::{Call, Disk, FuseDisk, MemDisk, Torn};
+use apd_journal::Batch;
+use apd_record::Change;
+use apd_table::Table;
+use std::alloc::{AllocError, Global};
+use std::test::Fail;
+
+const BSSID: Bssid = Bssid(Addr([2, 0, 0, 0, 0, 1]));
+
+const STATION: Addr = Addr([2, 0, 0, 0, 0, 0xaa]);
+
+const LENGTH: usize = 2_097_216;
+
+// Half A from its first byte on, after a policy and an authenticated station.
+const TWO_GROUPS: [u8; 54] = [
+    1, 1, 0, 0, 0, 0, 0, 0, 0, 0, 0, 0, 0, // the gate, the epoch and the snapshot
+    1, 10, 0, 0, 0, 6, 2, 0, 0, 0, 0, 1, 0, 0xd7, 7, // at 77
+    1, 20, 0, 0, 0, 1, 2, 0, 0, 0, 0, 1, 2, 0, 0, 0, 0, 0xaa, 1, 0, 0, 0, 0, 0, 0, // at 92
+    0, // at 117
+];
+
+// No clause says what the disk holds: a proof would go through two million bytes.
+fn blank_disk(alloc: Global, size: usize) -> Result<MemDisk, AllocError> {
+    MemDisk::new(alloc, vec![in alloc; 0u8; size]?)
+}
+
+fn write_bytes(disk: &mut MemDisk, at: usize, bytes: &[u8]) -> Result<(), Fail> {
+    if at > disk.len() || bytes.len() > disk.len() - at {
+        return Err(Fail::from("outside the disk"));
+    }
+    disk.write_at(at, bytes)?;
+    disk.sync()?;
+    Ok(())
+}
+
+fn policy() -> Result<Change, Fail> {
+    Ok(Change::Policy {
+        bssid: BSSID,
+        policy: Policy {
+            mode: AclMode::AcceptUnlessDenied,
+            max: StationLimit::new(2007).ok_or("2007 is a limit")?,
+        },
+    })
+}
+
+fn put(station: Station) -> Change {
+    Change::Put {
+        bssid: BSSID,
+        addr: STATION,
+        station,
+    }
+}
+
+fn associated() -> Result<Change, Fail> {
+    Ok(put(Station::Associated(Association {
+        aid: Aid::new(1).ok_or("1 is an identifier")?,
+        capability: 0x0431,
+        listen_interval: 10,
+    })))
+}
+
+fn batch_of(alloc: Global, number: u64, change: Change) -> Result<Batch, AllocError> {
+    let mut changes = Sequence::new(alloc);
+    changes.push(change)?;
+    Ok(Batch {
+        first: number,
+        last: number,
+        changes,
+    })
+}
+
+// Begins a batch of one change.
+fn begin<D: Disk>(
+    alloc: Global,
+    store: &mut Store<D>,
+    number: u64,
+    change: Change,
+) -> Result<(), Fail>
+    requires { IsInside D.size store.old }
+    ensures { IsInside D.size store.new }
+{
+    let batch = batch_of(alloc, number, change)?;
+    match store.begin(batch, &Table::new(alloc)) {
+        Ok(()) => Ok(()),
+        Err((_, fault)) => Err(Fail::from(fault)),
+    }
+}
+
+// Why a batch of one change is refused.
+fn refusal<D: Disk>(alloc: Global, store: &mut Store<D>, change: Change) -> Result<StoreFault, Fail>
+    requires { IsInside D.size store.old }
+    ensures { IsInside D.size store.new }
+{
+    match store.begin(batch_of(alloc, 9, change)?, &Table::new(alloc)) {
+        Ok(()) => Err(Fail::from("begun")),
+        Err((_batch, fault)) => Ok(fault),
+    }
+}
+
+// Makes the two calls that lay the group down.
+fn lay_down<D: Disk>(store: &mut Store<D>) -> Result<bool, StoreFault>
+    requires { IsInside D.size store.old }
+    ensures { IsInside D.size store.new }
+{
+    store.next_call()?;
+    store.next_call()
+}
+
+// Commits a batch of one change.
+fn commit<D: Disk>(
+    alloc: Global,
+    store: &mut Store<D>,
+    number: u64,
+    change: Change,
+) -> Result<Receipt, Fail>
+    requires { IsInside D.size store.old }
+    ensures { IsInside D.size store.new }
+{
+    begin(alloc, store, number, change)?;
+    lay_down(store)?;
+    store.next_call()?;
+    if store.next_call()? {
+        return Err(Fail::from("a fifth call"));
+    }
+    match store.finish() {
+        Some(receipt) => Ok(receipt),
+        None => Err(Fail::from("no receipt")),
+    }
+}
+
+fn formatted<D: Disk>(alloc: Global, disk: D) -> Result<Store<D>, Fail>
+where
+    D: Drop,
+    ensures { IfOk result (λ store. IsInside D.size store) }
+{
+    match format(alloc, disk) {
+        Ok(store) => Ok(store),
+        Err((_, fault)) => Err(Fail::from(fault)),
+    }
+}
+
+// Makes as many calls.
+fn advance<D: Disk>(store: &mut Store<D>, calls: u64) -> Result<(), StoreFault>
+    requires { IsInside D.size store.old }
+    ensures { IsInside D.size store.new }
+{
+    for _call in 0..calls {
+        store.next_call()?;
+    }
+    Ok(())
+}
+
+// Commits one row, as many times.
+fn put_again<D: Disk>(alloc: Global, store: &mut Store<D>, times: u64) -> Result<(), Fail>
+    requires { IsInside D.size store.old }
+    ensures { IsInside D.size store.new }
+{
+    for number in 0..times {
+        commit(alloc, store, number, put(Station::Authenticated))?;
+    }
+    Ok(())
+}
+
+// The device, formatted, after a policy, an authenticated station and its association, as far as they are wanted.
+// Generic, as all that asks for room in the device: no proof then meets its length.
+fn committed<D: Disk>(alloc: Global, disk: D, commits: u64) -> Result<D, Fail>
+where
+    D: Drop,
+{
+    let mut store = formatted(alloc, disk)?;
+    if commits == 0 {
+        return Ok(store.into_device());
+    }
+    commit(alloc, &mut store, 1, policy()?)?;
+    if commits == 1 {
+        return Ok(store.into_device());
+    }
+    commit(alloc, &mut store, 2, put(Station::Authenticated))?;
+    if commits == 2 {
+        return Ok(store.into_device());
+    }
+    commit(alloc, &mut store, 3, associated()?)?;
+    Ok(store.into_device())
+}
+
+// The device after a policy and as many calls of a station's commit.
+fn committing<D: Disk>(alloc: Global, disk: D, calls: u64) -> Result<D, Fail>
+where
+    D: Drop,
+{
+    let mut store = formatted(alloc, disk)?;
+    commit(alloc, &mut store, 1, policy()?)?;
+    begin(alloc, &mut store, 2, put(Station::Authenticated))?;
+    advance(&mut store, calls)?;
+    Ok(store.into_device())
+}
+
+// What is told where a call of a recovery or of the commit behind it fails, and the device.
+fn failing<D: Disk>(alloc: Global, disk: D) -> Result<(StoreFault, D), Fail>
+where
+    D: Drop,
+{
+    let (mut store, _table) = match recover(alloc, disk) {
+        Ok(found) => found,
+        Err((disk, fault)) => return Ok((fault, disk)),
+    };
+    begin(alloc, &mut store, 2, put(Station::Authenticated))?;
+    if advance(&mut store, 4) != Err(StoreFault::Device) || !store.failed() {
+        return Err(Fail::from("no fault"));
+    }
+    let fault = refusal(alloc, &mut store, policy()?)?;
+    Ok((fault, store.into_device()))
+}
+
+// Why a second batch is refused while one is under way.
+fn busy<D: Disk>(alloc: Global, disk: D) -> Result<StoreFault, Fail>
+where
+    D: Drop,
+{
+    let mut store = formatted(alloc, disk)?;
+    begin(alloc, &mut store, 1, policy()?)?;
+    refusal(alloc, &mut store, policy()?)
+}
+
+// Why a row is refused behind a policy and as many groups of one row.
+fn full<D: Disk>(alloc: Global, disk: D, rows: u64) -> Result<StoreFault, Fail>
+where
+    D: Drop,
+{
+    let mut store = formatted(alloc, disk)?;
+    commit(alloc, &mut store, 1, policy()?)?;
+    put_again(alloc, &mut store, rows)?;
+    refusal(alloc, &mut store, put(Station::Authenticated))
+}
+
+fn device(alloc: Global, commits: u64) -> Result<MemDisk, Fail> {
+    committed(alloc, blank_disk(alloc, LENGTH)?, commits)
+}
+
+// What the table of a device says of the station's BSSID and of the station, or why there is none.
+type Seen = Result<(Option<(u8, u16)>, Option<Station>), StoreFault>;
+
+fn seen(alloc: Global, disk: MemDisk) -> Seen {
+    match recover(alloc, disk) {
+        Ok((_store, table)) => Ok((table.policy(BSSID), table.get(BSSID, STATION))),
+        Err((_disk, fault)) => Err(fault),
+    }
+}
+
+// What is seen after a stop in the commit of a station, once as many of its calls were made.
+fn stopped(alloc: Global, calls: u64, torn: Torn) -> Result<Seen, Fail> {
+    let disk = committing(alloc, blank_disk(alloc, LENGTH)?, calls)?;
+    Ok(seen(alloc, disk.crash(torn)))
+}
+
+// What is seen where these bytes stand at this place.
+fn changed(alloc: Global, disk: &MemDisk, place: usize, bytes: &[u8]) -> Result<Seen, Fail> {
+    let mut changed = MemDisk::new(alloc, Vec::from_slice(alloc, disk.bytes())?)?;
+    write_bytes(&mut changed, place, bytes)?;
+    Ok(seen(alloc, changed))
+}
+
+// What is seen of a half A with a policy and a station, and a half B of this epoch with another policy.
+fn two_halves(alloc: Global, epoch: u8) -> Result<Seen, Fail> {
+    let mut disk = blank_disk(alloc, LENGTH)?;
+    write_bytes(&mut disk, 0, b"RAPSTOR1")?;
+    write_bytes(&mut disk, 64, &TWO_GROUPS)?;
+    write_bytes(
+        &mut disk,
+        1_048_640,
+        &[1, epoch, 0, 0, 0, 0, 0, 0, 0, 10, 0, 0, 0],
+    )?;
+    write_bytes(&mut disk, 1_048_653, &[6, 2, 0, 0, 0, 0, 1, 1, 9, 0, 0])?;
+    Ok(seen(alloc, disk))
+}
+
+// What is seen of a store of a policy after this many calls of another format; none where it was not stopped.
+fn stopped_format(alloc: Global, passes: u64) -> Result<Option<Seen>, Fail> {
+    match format(alloc, FuseDisk::new(device(alloc, 1)?, passes)) {
+        Ok(_store) => Ok(None),
+        Err((fuse, StoreFault::Device)) => Ok(Some(seen(alloc, fuse.into_inner()))),
+        Err((_fuse, fault)) => Err(Fail::from(fault)),
+    }
+}
+
+// What is told and seen where the call after as many others fails, of a recovery and then a commit.
+fn failing_after(alloc: Global, passes: u64) -> Result<(StoreFault, Seen), Fail> {
+    let (fault, fuse) = failing(alloc, FuseDisk::new(device(alloc, 1)?, passes))?;
+    Ok((fault, seen(alloc, fuse.into_inner())))
+}
+
+#[test]
+fn the_first_bytes_and_the_calls_of_a_commit(rt: HostRuntime) -> Result<(), Fail> {
+    let disk = device(rt.alloc(), 2)?;
+    assert_eq!(rt; disk.bytes().get(..8), Some(b"RAPSTOR1".as_slice()));
+    assert_eq!(rt; disk.bytes().get(64..118), Some(TWO_GROUPS.as_slice()));
+    // Seven calls of the format, and four of each commit.
+    let calls = disk.calls();
+    assert_eq!(rt; calls.len(), 15);
+    assert!(rt; matches!(calls.get(11), Some(Call::Write(93, _))));
+    assert!(rt; matches!(calls.get(12), Some(Call::Sync)));
+    assert!(rt; matches!(calls.get(13), Some(Call::Write(92, _))));
+    assert!(rt; matches!(calls.get(14), Some(Call::Sync)));
+    Ok(())
+}
+
+#[test]
+fn a_stop_at_each_call_of_a_commit(rt: HostRuntime) -> Result<(), Fail> {
+    for (calls, torn, station) in [
+        (0, Torn::Byte(1), None),
+        (1, Torn::Byte(1), None),
+        (2, Torn::Old, None),
+        (2, Torn::New, None),
+        (3, Torn::Old, None),
+        (3, Torn::Byte(0x7f), None),
+        (3, Torn::Byte(1), Some(Station::Authenticated)),
+        (4, Torn::Old, Some(Station::Authenticated)),
+    ] {
+        let found = stopped(rt.alloc(), calls, torn)?;
+        assert_eq!(rt;
+            found,
+            Ok((Some((0, 2007)), station)),
+            "{torn:?} after {calls}"
+        );
+    }
+    Ok(())
+}
+
+#[test]
+fn devices_that_are_no_stores(rt: HostRuntime) -> Result<(), Fail> {
+    let alloc = rt.alloc();
+    for length in [0, 2_097_215, 2_097_216, 2_097_217] {
+        let found = seen(alloc, blank_disk(alloc, length)?);
+        assert_eq!(rt; found, Err(StoreFault::NotAStore), "{length}");
+    }
+    let short = blank_disk(alloc, 2_097_215)?;
+    assert!(rt; matches!(format(alloc, short), Err((_, StoreFault::NotAStore))));
+    Ok(())
+}
+
+#[test]
+fn two_open_halves(rt: HostRuntime) -> Result<(), Fail> {
+    let alloc = rt.alloc();
+    let older = Ok((Some((0, 2007)), Some(Station::Authenticated)));
+    assert_eq!(rt; two_halves(alloc, 0)?, older);
+    assert_eq!(rt; two_halves(alloc, 1)?, Err(StoreFault::Damaged));
+    assert_eq!(rt; two_halves(alloc, 2)?, Ok((Some((1, 9)), None)));
+    Ok(())
+}
+
+#[test]
+fn changed_bytes(rt: HostRuntime) -> Result<(), Fail> {
+    let alloc = rt.alloc();
+    let disk = device(alloc, 3)?;
+    let same = seen(alloc, device(alloc, 3)?);
+    assert!(rt; matches!(same, Ok((Some((0, 2007)), Some(Station::Associated(_))))));
+    let row = Some((0, 2007));
+    for (place, byte, found) in [
+        (0, 0, Err(StoreFault::NotAStore)),
+        (7, 0x32, Err(StoreFault::NotAStore)),
+        (8, 7, same),
+        (63, 7, same),
+        (64, 0, Err(StoreFault::Damaged)),
+        (77, 0, Ok((None, None))),
+        // The policy's BSSID becomes another one: the station has none.
+        (87, 9, Err(StoreFault::Damaged)),
+        (92, 2, Ok((row, None))),
+        (110, 3, Err(StoreFault::Damaged)),
+        (117, 0, Ok((row, Some(Station::Authenticated)))),
+        // A group of no records. What is behind the closed gate, and half B, are not looked at.
+        (142, 1, same),
+        (143, 255, same),
+        (1_048_641, 9, same),
+    ] {
+        assert_eq!(rt;
+            changed(alloc, &disk, place, &[byte])?,
+            found,
+            "{byte} at {place}"
+        );
+    }
+    let long = changed(alloc, &disk, 142, &[1, 1, 0, 1, 0])?;
+    assert_eq!(rt; long, Err(StoreFault::Damaged));
+    Ok(())
+}
+
+#[test]
+fn each_call_that_fails(rt: HostRuntime) -> Result<(), Fail> {
+    let before = Ok((Some((0, 2007)), None));
+    let after = Ok((Some((0, 2007)), Some(Station::Authenticated)));
+    for (passes, fault, found) in [
+        (0, StoreFault::Device, before),
+        (1, StoreFault::Device, before),
+        (2, StoreFault::Failed, before),
+        (3, StoreFault::Failed, before),
+        (4, StoreFault::Failed, after),
+        (5, StoreFault::Failed, after),
+    ] {
+        assert_eq!(rt;
+            failing_after(rt.alloc(), passes)?,
+            (fault, found),
+            "{passes}"
+        );
+    }
+    Ok(())
+}
+
+#[test]
+fn each_call_of_a_format_that_fails(rt: HostRuntime) -> Result<(), Fail> {
+    let before = Ok((Some((0, 2007)), None));
+    for (passes, found) in [
+        (0, Some(before)),
+        (1, Some(before)),
+        (2, Some(Err(StoreFault::NotAStore))),
+        (6, Some(Err(StoreFault::NotAStore))),
+        (7, Some(Ok((None, None)))),
+        (8, Some(Ok((None, None)))),
+        (9, None),
+    ] {
+        assert_eq!(rt; stopped_format(rt.alloc(), passes)?, found, "{passes}");
+    }
+    Ok(())
+}
+
+#[test]
+fn a_store_that_is_busy_or_full(rt: HostRuntime) -> Result<(), Fail> {
+    let alloc = rt.alloc();
+    assert_eq!(rt;
+        busy(alloc, blank_disk(alloc, LENGTH)?)?,
+        StoreFault::NotIdle
+    );
+    // A policy's group leaves the closed gate at 28; the group of a row has 25 bytes.
+    assert_eq!(rt;
+        full(alloc, blank_disk(alloc, LENGTH)?, 41_941)?,
+        StoreFault::Full
+    );
+    Ok(())
+}
+
+#[test]
+fn texts(rt: HostRuntime) -> Result<(), Fail> {
+    for (fault, text) in [
+        (StoreFault::NotAStore, "not a store"),
+        (StoreFault::Damaged, "damaged store"),
+        (StoreFault::Device, "device fault"),
+        (StoreFault::Failed, "store has failed"),
+        (StoreFault::Full, "store is full"),
+        (StoreFault::Worn, "store is worn out"),
+        (StoreFault::NotIdle, "a batch is in flight"),
+        (StoreFault::BadBatch, "batch does not fit"),
+        (StoreFault::NoMemory, "out of memory"),
+    ] {
+        assert_eq!(rt; format!(in rt.alloc(); "{fault}")?.as_str(), text);
+    }
+    Ok(())
+}
