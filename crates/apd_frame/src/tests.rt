@@ -1,6 +1,7 @@
 use crate::*;
 use apd_base::{Addr, Aid, Bssid};
 use std::alloc::{AllocError, Global};
+use std::process::Abort;
 use std::test::Fail;
 
 const OWN: Bssid = Bssid(Addr([2, 0, 0, 0, 0, 1]));
@@ -34,70 +35,77 @@ fn framed(
     Ok(frame)
 }
 
+// A frame of this kind, with these fields behind its header and then the elements, is decoded as this one.
+fn decodes(
+    rt: &impl Abort,
+    alloc: Global,
+    control: [u8; 2],
+    fixed: &[u8],
+    frame: Frame<'_>,
+) -> Result<(), Fail> {
+    let bytes = framed(alloc, control, fixed, &ELEMENTS)?;
+    assert_eq!(rt; decode(bytes.as_slice(), OWN), Ok(frame));
+    assert_eq!(rt; frame.sender(), STATION);
+    Ok(())
+}
+
 #[test]
-fn decodes_one_frame_of_each_kind(rt: HostRuntime) -> Result<(), Fail> {
+fn decodes_each_request(rt: HostRuntime) -> Result<(), Fail> {
     let elements = ELEMENTS.as_slice();
+    let association = Association {
+        sender: STATION,
+        capability: 0x0431,
+        listen_interval: 10,
+        elements,
+    };
+    let reassociation = Reassociation {
+        sender: STATION,
+        capability: 0x0431,
+        listen_interval: 10,
+        current_ap: OTHER_AP,
+        elements,
+    };
+    let probe = Probe {
+        sender: STATION,
+        elements,
+    };
+    let authentication = Authentication {
+        sender: STATION,
+        algorithm: 0,
+        transaction: 1,
+        status: 0,
+    };
     for (control, fixed, frame) in [
+        (0x00, [0x31, 4, 10, 0].as_slice(), Frame::Assoc(association)),
         (
-            [0x00, 0],
-            [0x31, 4, 10, 0].as_slice(),
-            Frame::Assoc(Association {
-                sender: STATION,
-                capability: 0x0431,
-                listen_interval: 10,
-                elements,
-            }),
-        ),
-        (
-            [0x20, 0],
+            0x20,
             &[0x31, 4, 10, 0, 2, 0, 0, 0, 0, 2],
-            Frame::Reassoc(Reassociation {
-                sender: STATION,
-                capability: 0x0431,
-                listen_interval: 10,
-                current_ap: OTHER_AP,
-                elements,
-            }),
+            Frame::Reassoc(reassociation),
         ),
-        (
-            [0x40, 0],
-            &[],
-            Frame::Probe(Probe {
-                sender: STATION,
-                elements,
-            }),
-        ),
-        (
-            [0xa0, 0],
-            &[8, 0],
-            Frame::Disassoc {
-                sender: STATION,
-                reason: Reason(8),
-            },
-        ),
-        (
-            [0xb0, 0],
-            &[0, 0, 1, 0, 0, 0],
-            Frame::Auth(Authentication {
-                sender: STATION,
-                algorithm: 0,
-                transaction: 1,
-                status: 0,
-            }),
-        ),
-        (
-            [0xc0, 0],
-            &[3, 0],
-            Frame::Deauth {
-                sender: STATION,
-                reason: Reason(3),
-            },
-        ),
+        (0x40, &[], Frame::Probe(probe)),
+        (0xb0, &[0, 0, 1, 0, 0, 0], Frame::Auth(authentication)),
+    ] {
+        decodes(&rt, rt.alloc(), [control, 0], fixed, frame)?;
+    }
+    Ok(())
+}
+
+#[test]
+fn decodes_departures_and_data(rt: HostRuntime) -> Result<(), Fail> {
+    let disassociation = Frame::Disassoc {
+        sender: STATION,
+        reason: Reason(8),
+    };
+    let deauthentication = Frame::Deauth {
+        sender: STATION,
+        reason: Reason(3),
+    };
+    for (control, fixed, frame) in [
+        ([0xa0, 0], [8, 0].as_slice(), disassociation),
+        ([0xc0, 0], &[3, 0], deauthentication),
         ([0x88, 0x41], &[], Frame::Uplink { sender: STATION }),
     ] {
-        let bytes = framed(rt.alloc(), control, fixed, elements)?;
-        assert_eq!(rt; decode(bytes.as_slice(), OWN), Ok(frame));
-        assert_eq!(rt; frame.sender(), STATION);
+        decodes(&rt, rt.alloc(), control, fixed, frame)?;
     }
     Ok(())
 }
@@ -247,9 +255,30 @@ fn encoded(alloc: Global, body: ReplyBody) -> Result<Vec<u8>, AllocError> {
     encode(alloc, &reply)
 }
 
+// A reply of this body to the station is a frame of this kind with these bytes behind its header.
+fn encodes(
+    rt: &impl Abort,
+    alloc: Global,
+    body: ReplyBody,
+    kind: u8,
+    want: &[u8],
+) -> Result<(), Fail> {
+    const ADDRESSES: [u8; 18] = [2, 0, 0, 0, 0, 0xaa, 2, 0, 0, 0, 0, 1, 2, 0, 0, 0, 0, 1];
+    let frame = encoded(alloc, body)?;
+    assert_eq!(rt; frame.get(..4), Some([kind, 0, 0, 0].as_slice()));
+    assert_eq!(rt; frame.get(4..22), Some(ADDRESSES.as_slice()));
+    assert_eq!(rt; frame.get(22..24), Some([0, 0].as_slice()));
+    assert_eq!(rt; frame.get(24..), Some(want));
+    Ok(())
+}
+
 #[test]
 fn encodes_each_reply(rt: HostRuntime) -> Result<(), Fail> {
-    const ADDRESSES: [u8; 18] = [2, 0, 0, 0, 0, 0xaa, 2, 0, 0, 0, 0, 1, 2, 0, 0, 0, 0, 1];
+    let authentication = ReplyBody::Auth {
+        algorithm: 0,
+        transaction: 2,
+        status: Status::Success,
+    };
     let accepted = AssociationResponse {
         status: Status::Success,
         aid: Aid::new(1),
@@ -261,15 +290,7 @@ fn encodes_each_reply(rt: HostRuntime) -> Result<(), Fail> {
         rates: Rates::Ofdm,
     };
     for (body, first, want) in [
-        (
-            ReplyBody::Auth {
-                algorithm: 0,
-                transaction: 2,
-                status: Status::Success,
-            },
-            0xb0,
-            [0, 0, 2, 0, 0, 0].as_slice(),
-        ),
+        (authentication, 0xb0, [0, 0, 2, 0, 0, 0].as_slice()),
         (
             ReplyBody::Assoc(accepted),
             0x10,
@@ -280,28 +301,22 @@ fn encodes_each_reply(rt: HostRuntime) -> Result<(), Fail> {
             0x30,
             &[1, 0, 51, 0, 0, 0, 1, 3, 0x8c, 0x98, 0xb0],
         ),
-        (
-            ReplyBody::Disassoc {
-                reason: Reason::INACTIVITY,
-            },
-            0xa0,
-            &[4, 0],
-        ),
-        (
-            ReplyBody::Deauth {
-                reason: Reason::INVALID_CLASS2_FRAME,
-            },
-            0xc0,
-            &[6, 0],
-        ),
     ] {
-        let frame = encoded(rt.alloc(), body)?;
-        assert_eq!(rt; frame.get(..4), Some([first, 0, 0, 0].as_slice()));
-        assert_eq!(rt; frame.get(4..22), Some(ADDRESSES.as_slice()));
-        assert_eq!(rt; frame.get(22..24), Some([0, 0].as_slice()));
-        assert_eq!(rt; frame.get(24..), Some(want));
+        encodes(&rt, rt.alloc(), body, first, want)?;
     }
     Ok(())
+}
+
+#[test]
+fn encodes_what_ends_an_association_or_an_authentication(rt: HostRuntime) -> Result<(), Fail> {
+    let disassociation = ReplyBody::Disassoc {
+        reason: Reason::INACTIVITY,
+    };
+    let deauthentication = ReplyBody::Deauth {
+        reason: Reason::INVALID_CLASS2_FRAME,
+    };
+    encodes(&rt, rt.alloc(), disassociation, 0xa0, &[4, 0])?;
+    encodes(&rt, rt.alloc(), deauthentication, 0xc0, &[6, 0])
 }
 
 #[test]
