@@ -87,6 +87,7 @@ module _ (initial : List ℕ) (calls after : List Call) (call : Call) (is : afte
       let longer : length after ≡ length calls + 1 = ap length is ∙ length_push calls call in
       record {
         later = omega (arith, longer);
+        by_one = omega (arith, longer);
         nothing_else = λ t c le left. ⊎_elim
             (λ before. inl before)
             (λ last. inr (length after, omega (arith, longer), omega arith, subst (λ (l : List Call). LeftAfter initial l c) (sym (take_all (length after) after (omega arith))) (subst (λ (l : List Call). LeftAfter initial l c) (sym is) last)))

@@ -26,6 +26,8 @@ Follows step old new = (c : List ℕ) → new c → (d : List ℕ) × old d × s
 -- Time goes on: what a stop since t may have left is what it might have left before the call, or since its start.
 pub record Elapses (before now : ℕ) (past since : ℕ → List ℕ → Type 0) : Type 0 where
   pub later : before ≤ now
+  -- a call takes it on by one at most: so whoever makes calls can say how many
+  pub by_one : now ≤ before + 1
   pub nothing_else : (t : ℕ) (c : List ℕ) → t ≤ before → since t c → past t c ⊎ since before c
   pub keeps : (t : ℕ) (c : List ℕ) → t ≤ before → past t c → since t c
 

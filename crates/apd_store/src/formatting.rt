@@ -1,5 +1,5 @@
 //! Formatting: no magic stands while the heads of the halves are written.
-ghost use Rattle.std.specs.Prelude.{◌≡◌, ◌≢◌, ◌≤◌, ◌↔◌, ◌⊎◌, ℕ, List, take, OnOk, IfOk, IfErr};
+ghost use Rattle.std.specs.Prelude.{◌≡◌, ◌≢◌, ◌≤◌, ◌+◌, ◌↔◌, ◌⊎◌, ℕ, List, take, OnOk, IfOk, IfErr};
 ghost use Rattle.apd_base.specs.declared.limits.TheConstants.{DEVICE_LENGTH};
 ghost use Rattle.apd_base.specs.State.{empty_state};
 ghost use Rattle.apd_disk.specs.Disk.{Only, Counts, Rises, LeavesOnly};
@@ -30,6 +30,7 @@ fn unmark<D: Disk>(device: &mut D) -> Result<(), DiskFault>
     ensures size { D.size device.new ≡ D.size device.old }
     ensures count { Counts (D.failed device.old) (D.failed device.new) result }
     ensures honest { D.honest device.old ↔ D.honest device.new }
+    ensures calls { D.honest device.old → D.moment device.new ≤ D.moment device.old + 4 }
     ensures any_moment { D.honest device.old → LeavesOnly D.moment D.left_since device.old device.new (λ c. IsMarked c → D.may_leave device.old c) }
     ensures unmarked { D.honest device.old → OnOk result ((take 8 (D.reads device.new) ≢ magic) × Only (D.reads device.new) (D.may_leave device.new)) }
 {
@@ -49,6 +50,7 @@ fn write_heads<D: Disk>(device: &mut D) -> Result<(), DiskFault>
     ensures size { D.size device.new ≡ D.size device.old }
     ensures count { Counts (D.failed device.old) (D.failed device.new) result }
     ensures honest { D.honest device.old ↔ D.honest device.new }
+    ensures calls { D.honest device.old → D.moment device.new ≤ D.moment device.old + 3 }
     ensures any_moment { D.honest device.old → take 8 (D.reads device.old) ≢ magic → Only (D.reads device.old) (D.may_leave device.old)
         → LeavesOnly D.moment D.left_since device.old device.new (λ c. take 8 c ≢ magic) }
     ensures heads { D.honest device.old → take 8 (D.reads device.old) ≢ magic → Only (D.reads device.old) (D.may_leave device.old)
@@ -65,6 +67,7 @@ fn mark<D: Disk>(device: &mut D) -> Result<(), DiskFault>
     ensures size { D.size device.new ≡ D.size device.old }
     ensures count { Counts (D.failed device.old) (D.failed device.new) result }
     ensures honest { D.honest device.old ↔ D.honest device.new }
+    ensures calls { D.honest device.old → D.moment device.new ≤ D.moment device.old + 2 }
     ensures any_moment { D.honest device.old → HasHeads (D.reads device.old) → Only (D.reads device.old) (D.may_leave device.old)
         → LeavesOnly D.moment D.left_since device.old device.new (λ c. IsMarked c → Shows c empty_state) }
     ensures found { D.honest device.old → HasHeads (D.reads device.old) → Only (D.reads device.old) (D.may_leave device.old)
@@ -80,6 +83,7 @@ fn lay_out<D: Disk>(device: &mut D) -> Result<(), DiskFault>
     ensures size { D.size device.new ≡ D.size device.old }
     ensures count { Counts (D.failed device.old) (D.failed device.new) result }
     ensures honest { D.honest device.old ↔ D.honest device.new }
+    ensures calls { D.honest device.old → D.moment device.new ≤ D.moment device.old + 9 }
     ensures any_moment { D.honest device.old → LeavesOnly D.moment D.left_since device.old device.new (MayBeMade (D.may_leave device.old)) }
     ensures found { D.honest device.old → OnOk result (IsFound (D.reads device.new) A 13 empty_state × Only (D.reads device.new) (D.may_leave device.new)) }
 {
@@ -100,6 +104,8 @@ pub fn format<D: Disk>(alloc: Global, device: D) -> Result<Store<D>, (D, StoreFa
     ensures shown { D.honest device → IfOk result (λ store. (c : List ℕ) → D.may_leave (device_of store) c → Shows c empty_state) }
     ensures any_moment { D.honest device → IfOk result (λ store. LeavesOnly D.moment D.left_since device (device_of store) (MayBeMade (D.may_leave device))) }
     ensures any_moment_err { D.honest device → IfErr result (λ e. LeavesOnly D.moment D.left_since device e.0 (MayBeMade (D.may_leave device))) }
+    ensures calls { D.honest device → IfOk result (λ store. D.moment (device_of store) ≤ D.moment device + 9) }
+    ensures calls_err { D.honest device → IfErr result (λ e. D.moment e.0 ≤ D.moment device + 9) }
     ensures honest { IfOk result (λ store. D.honest device ↔ D.honest (device_of store)) }
     ensures honest_err { IfErr result (λ e. D.honest device ↔ D.honest e.0) }
     ensures length { OnOk result (D.size device ≡ DEVICE_LENGTH) }

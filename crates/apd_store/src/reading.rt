@@ -40,6 +40,7 @@ pub(crate) struct Found {
 }
 
 /// What the bytes of the half on this side show.
+#[tactic(auto, using(crate::proofs::Found::shows))]
 fn read_half(alloc: Global, half: Half, bytes: &[u8]) -> Result<Found, StoreFault>
     ensures half { IfOk result (λ found. found.half ≡ half) }
     ensures shows { IfOk result (λ found. (epoch : ℕ) × HalfShows bytes.now epoch found.gate found.table) }

@@ -1,5 +1,5 @@
 //! Recovery: from a device to a store and its table.
-ghost use Rattle.std.specs.Prelude.{◌≡◌, ◌≢◌, ◌≤◌, ◌↔◌, ◌⊎◌, ℕ, List, length, OnOk, IfOk, IfErr, OnErr, IsErrOf, Err};
+ghost use Rattle.std.specs.Prelude.{◌≡◌, ◌≢◌, ◌≤◌, ◌+◌, ◌↔◌, ◌⊎◌, ℕ, List, length, OnOk, IfOk, IfErr, OnErr, IsErrOf, Err};
 ghost use Rattle.apd_base.specs.declared.limits.TheConstants.{DEVICE_LENGTH};
 ghost use Rattle.apd_disk.specs.Disk.{Only, Rises, LeavesOnly};
 ghost use Rattle.apd_store.specs.Image.{Shows, ShowsNone, IsMarked};
@@ -32,6 +32,7 @@ fn read_device<D: Disk>(alloc: Global, device: &mut D) -> Result<Vec<u8>, StoreF
     ensures bytes { D.honest device.old → IfOk result (λ bytes. bytes.items ≡ D.reads device.old) }
     ensures reads { D.honest device.old → OnOk result (D.reads device.new ≡ D.reads device.old) }
     ensures durable { D.honest device.old → result ≢ Err StoreFault.Device → Only (D.reads device.old) (D.may_leave device.new) }
+    ensures calls { D.honest device.old → D.moment device.new ≤ D.moment device.old + 2 }
     ensures any_moment { D.honest device.old → LeavesOnly D.moment D.left_since device.old device.new (D.may_leave device.old) }
     ensures not_a_store { result ≡ Err StoreFault.NotAStore → D.size device.old ≢ DEVICE_LENGTH }
     ensures memory { result ≡ Err StoreFault.NoMemory → D.size device.old ≡ DEVICE_LENGTH }
@@ -66,11 +67,14 @@ pub fn recover<D: Disk>(alloc: Global, device: D) -> Result<(Store<D>, Table), (
     ensures ready { IfOk result (λ found. phase_of found.0 ≡ Phase.Idle) }
     ensures shown { D.honest device → IfOk result (λ found. Shows (D.reads device) found.1) }
     ensures idle { D.honest device → IfOk result (λ found. IsIdle D.reads D.may_leave found.0 found.1) }
+    ensures reads { D.honest device → IfOk result (λ found. D.reads (device_of found.0) ≡ D.reads device) }
     ensures not_a_store { D.honest device → IfErr result (λ e. e.1 ≡ StoreFault.NotAStore → ¬ IsMarked (D.reads device)) }
     ensures damaged { D.honest device → IfErr result (λ e. e.1 ≡ StoreFault.Damaged → IsMarked (D.reads device) × ShowsNone (D.reads device)) }
     ensures any_moment { D.honest device → IfOk result (λ found. LeavesOnly D.moment D.left_since device (device_of found.0) (D.may_leave device)) }
     ensures any_moment_err { D.honest device → IfErr result (λ e. LeavesOnly D.moment D.left_since device e.0 (D.may_leave device)) }
     ensures durable_err { D.honest device → IfErr result (λ e. e.1 ≢ StoreFault.Device → Only (D.reads device) (D.may_leave e.0)) }
+    ensures calls { D.honest device → IfOk result (λ found. D.moment (device_of found.0) ≤ D.moment device + 2) }
+    ensures calls_err { D.honest device → IfErr result (λ e. D.moment e.0 ≤ D.moment device + 2) }
     ensures honest { IfOk result (λ found. D.honest device ↔ D.honest (device_of found.0)) }
     ensures honest_err { IfErr result (λ e. D.honest device ↔ D.honest e.0) }
     ensures length { OnOk result (D.size device ≡ DEVICE_LENGTH) }

@@ -184,7 +184,8 @@ impl<D: Disk> Store<D> {
         ensures on { (state after : State) → D.honest (device_of self.old) → IsCommitting D.reads D.may_leave self.old state after
             → OnOk result (IsCommitting D.reads D.may_leave self.new state after) }
 
-        // It makes the call that is next.
+        // It makes the call that is next, and no other: each call takes the device's moment on by one at most.
+        ensures one_call { D.honest (device_of self.old) → D.moment (device_of self.new) ≤ D.moment (device_of self.old) + 1 }
         ensures step { OnOk result (phase_of self.new ≡ next_phase (phase_of self.old)) }
         ensures rest { ¬ IsUnderWay (phase_of self.old) → self.new ≡ self.old }
         ensures batch { batch_of self.new ≡ batch_of self.old }

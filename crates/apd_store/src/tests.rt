@@ -92,14 +92,15 @@ fn begin<D: Disk>(
     }
 }
 
-// Why a batch of one change is refused.
+// Why a batch of one change is refused. It is handed back.
 fn refusal<D: Disk>(alloc: Global, store: &mut Store<D>, change: Change) -> Result<StoreFault, Fail>
     requires { IsInside D.size store.old }
     ensures { IsInside D.size store.new }
 {
     match store.begin(batch_of(alloc, 9, change)?, &Table::new(alloc)) {
         Ok(()) => Err(Fail::from("begun")),
-        Err((_batch, fault)) => Ok(fault),
+        Err((batch, fault)) if batch.first == 9 && batch.changes.len() == 1 => Ok(fault),
+        Err(_) => Err(Fail::from("another batch")),
     }
 }
 
@@ -129,7 +130,8 @@ fn commit<D: Disk>(
         return Err(Fail::from("a fifth call"));
     }
     match store.finish() {
-        Some(receipt) => Ok(receipt),
+        Some(receipt) if receipt.batch().first == number => Ok(receipt),
+        Some(_) => Err(Fail::from("another batch")),
         None => Err(Fail::from("no receipt")),
     }
 }
@@ -201,6 +203,25 @@ where
     Ok(store.into_device())
 }
 
+// The device, formatted once more.
+fn formatted_again<D: Disk>(alloc: Global, disk: D) -> Result<D, Fail>
+where
+    D: Drop,
+{
+    Ok(formatted(alloc, disk)?.into_device())
+}
+
+// The device, recovered.
+fn recovered<D: Disk>(alloc: Global, disk: D) -> Result<D, Fail>
+where
+    D: Drop,
+{
+    match recover(alloc, disk) {
+        Ok((store, _table)) => Ok(store.into_device()),
+        Err((_disk, fault)) => Err(Fail::from(fault)),
+    }
+}
+
 // What is told where a call of a recovery or of the commit behind it fails, and the device.
 fn failing<D: Disk>(alloc: Global, disk: D) -> Result<(StoreFault, D), Fail>
 where
@@ -241,6 +262,27 @@ where
 
 fn device(alloc: Global, commits: u64) -> Result<MemDisk, Fail> {
     committed(alloc, blank_disk(alloc, LENGTH)?, commits)
+}
+
+// A call by its place and how many bytes it reads or writes.
+#[derive(Clone, Copy, Debug, PartialEq, Eq)]
+enum Made {
+    Read(usize, usize),
+    Write(usize, usize),
+    Sync,
+}
+
+// The calls that a disk has served behind this many.
+fn made_after(alloc: Global, disk: &MemDisk, calls: usize) -> Result<Vec<Made>, AllocError> {
+    let mut made = Vec::new(alloc);
+    for call in disk.calls().iter().skip(calls) {
+        made.push(match call {
+            Call::Read(at, length) => Made::Read(*at, *length),
+            Call::Write(at, bytes) => Made::Write(*at, bytes.len()),
+            Call::Sync => Made::Sync,
+        })?;
+    }
+    Ok(made)
 }
 
 // What the table of a device says of the station's BSSID and of the station, or why there is none.
@@ -296,17 +338,67 @@ fn failing_after(alloc: Global, passes: u64) -> Result<(StoreFault, Seen), Fail>
 }
 
 #[test]
-fn the_first_bytes_and_the_calls_of_a_commit(rt: HostRuntime) -> Result<(), Fail> {
+fn the_first_bytes(rt: HostRuntime) -> Result<(), Fail> {
     let disk = device(rt.alloc(), 2)?;
-    assert_eq!(rt; disk.bytes().get(..8), Some(b"RAPSTOR1".as_slice()));
-    assert_eq!(rt; disk.bytes().get(64..118), Some(TWO_GROUPS.as_slice()));
-    // Seven calls of the format, and four of each commit.
-    let calls = disk.calls();
-    assert_eq!(rt; calls.len(), 15);
-    assert!(rt; matches!(calls.get(11), Some(Call::Write(93, _))));
-    assert!(rt; matches!(calls.get(12), Some(Call::Sync)));
-    assert!(rt; matches!(calls.get(13), Some(Call::Write(92, _))));
-    assert!(rt; matches!(calls.get(14), Some(Call::Sync)));
+    let bytes = disk.bytes();
+    let groups = TWO_GROUPS;
+    assert!(rt; bytes.starts_with(b"RAPSTOR1"));
+    assert_eq!(rt; bytes.get(64..118), Some(groups.as_slice()));
+    Ok(())
+}
+
+// Each `next_call` is one call of the device at most, and none is left after the fourth.
+#[test]
+fn the_calls_of_a_commit(rt: HostRuntime) -> Result<(), Fail> {
+    let alloc = rt.alloc();
+    let all = [
+        Made::Write(93, 25),
+        Made::Sync,
+        Made::Write(92, 1),
+        Made::Sync,
+    ];
+    for (calls, many) in [(0, 0), (1, 1), (2, 2), (3, 3), (4, 4), (5, 4)] {
+        let disk = committing(alloc, blank_disk(alloc, LENGTH)?, calls)?;
+        // Behind seven calls of the format and four of the policy's commit.
+        let made = made_after(alloc, &disk, 11)?;
+        assert_eq!(rt; Some(made.as_slice()), all.get(..many), "{calls}");
+    }
+    Ok(())
+}
+
+// Nothing is written but the heads and the magic, which is overwritten first where it stands.
+#[test]
+fn the_calls_of_a_format(rt: HostRuntime) -> Result<(), Fail> {
+    let alloc = rt.alloc();
+    let first = [Made::Sync, Made::Read(0, 8)];
+    let unmarking = [Made::Write(0, 8), Made::Sync];
+    let last = [
+        Made::Write(64, 14),
+        Made::Write(1_048_640, 13),
+        Made::Sync,
+        Made::Write(0, 8),
+        Made::Sync,
+    ];
+    let new = made_after(alloc, &device(alloc, 0)?, 0)?;
+    assert_eq!(rt; new.get(..2), Some(first.as_slice()));
+    assert_eq!(rt; new.get(2..), Some(last.as_slice()));
+    let again = made_after(alloc, &formatted_again(alloc, device(alloc, 0)?)?, 7)?;
+    assert_eq!(rt; again.get(..2), Some(first.as_slice()));
+    assert_eq!(rt; again.get(2..4), Some(unmarking.as_slice()));
+    assert_eq!(rt; again.get(4..), Some(last.as_slice()));
+    Ok(())
+}
+
+// It begins with a sync, reads each byte once, and writes nothing.
+#[test]
+fn the_calls_of_a_recovery(rt: HostRuntime) -> Result<(), Fail> {
+    let alloc = rt.alloc();
+    let disk = recovered(alloc, device(alloc, 0)?)?;
+    let made = made_after(alloc, &disk, 7)?;
+    assert_eq!(rt;
+        made.as_slice(),
+        [Made::Sync, Made::Read(0, LENGTH)].as_slice()
+    );
     Ok(())
 }
 
@@ -355,6 +447,22 @@ fn two_open_halves(rt: HostRuntime) -> Result<(), Fail> {
 }
 
 #[test]
+fn each_byte_of_the_magic(rt: HostRuntime) -> Result<(), Fail> {
+    let alloc = rt.alloc();
+    let disk = device(alloc, 2)?;
+    for place in 0..9 {
+        let found = changed(alloc, &disk, place, &[7])?;
+        if place < 8 {
+            assert_eq!(rt; found, Err(StoreFault::NotAStore), "{place}");
+        } else {
+            let same = Ok((Some((0, 2007)), Some(Station::Authenticated)));
+            assert_eq!(rt; found, same, "{place}");
+        }
+    }
+    Ok(())
+}
+
+#[test]
 fn changed_bytes(rt: HostRuntime) -> Result<(), Fail> {
     let alloc = rt.alloc();
     let disk = device(alloc, 3)?;
@@ -362,9 +470,7 @@ fn changed_bytes(rt: HostRuntime) -> Result<(), Fail> {
     assert!(rt; matches!(same, Ok((Some((0, 2007)), Some(Station::Associated(_))))));
     let row = Some((0, 2007));
     for (place, byte, found) in [
-        (0, 0, Err(StoreFault::NotAStore)),
         (7, 0x32, Err(StoreFault::NotAStore)),
-        (8, 7, same),
         (63, 7, same),
         (64, 0, Err(StoreFault::Damaged)),
         (77, 0, Ok((None, None))),

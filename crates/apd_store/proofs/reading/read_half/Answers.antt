@@ -1,11 +1,10 @@
 use Rattle.std.proofs.Common.{List, ◌∙◌, ap, subst}
 use Rattle.std.specs.Prelude.{Err}
-use Rattle.apd_record.specs.Meaning.{meaning_of}
 use Rattle.apd_base.specs.State.{empty_state}
 use Rattle.apd_record.specs.declared.change.Change.{Change}
 use Rattle.apd_table.specs.Sound.{StaySound}
 use Rattle.apd_journal.specs.Half.{HalfHolds}
-use Rattle.apd_store.proofs.Found.{unsound, shows}
+use Rattle.apd_store.proofs.Found.{unsound}
 use Rattle.apd_store.proofs.reading.read_half.Goals as goal
 
 pub returns-in_default-clause-damaged : goal.returns-in_default-clause-damaged
@@ -17,11 +16,3 @@ returns-in-Err-Invalid-clause-damaged c = λ e.
     let holds : HalfHolds c.args.bytes.now groups.epoch groups.changes groups.gate = rw c.in-Some.is at c.in_ok-groups.ensures.some in
     unsound c.args.bytes.now groups.epoch groups.gate groups.changes holds
     (subst (λ (l : List Change). ¬ StaySound l empty_state) c.as_slice.ensures (c.table_of.ensures.invalid (c.in-Err-Invalid.is ∙ ap Err c.in-Err-Invalid.field-0-is)))
-
-pub returns-in-Ok-clause-shows : goal.returns-in-Ok-clause-shows
-returns-in-Ok-clause-shows c =
-    let groups = c.in-Some.groups in
-    let holds : HalfHolds c.args.bytes.now groups.epoch groups.changes groups.gate = rw c.in-Some.is at c.in_ok-groups.ensures.some in
-    shows c.args.bytes.now groups.epoch groups.gate groups.changes c.in-Ok.table holds
-    (c.in-Ok.ensures.ok ∙ ap (λ (l : List Change). meaning_of l empty_state) c.as_slice.ensures)
-    (subst (λ (l : List Change). StaySound l empty_state) c.as_slice.ensures c.in-Ok.ensures.sound)
