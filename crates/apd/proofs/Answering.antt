@@ -15,7 +15,7 @@ use Rattle.apd_base.proofs.AddrLaws.{bssid_total, bssid_exact}
 use Rattle.apd_base.proofs.MapLaws.{one_or_apart, tied}
 use Rattle.apd_conf.specs.declared.conf.Conf.{Conf}
 use Rattle.apd_conf.specs.Confs.{conf_at}
-use Rattle.apd_frame.specs.declared.reasons.Ignored.{Ignored}
+use Rattle.apd_base.specs.declared.moment.Moment.{Moment}
 use Rattle.apd_mlme.specs.Happening.{Happening}
 use Rattle.apd_mlme.specs.declared.decision.Recipient.{Recipient}
 use Rattle.apd_mlme.specs.declared.decision.Recipient.TheVariants.{Radio}
@@ -35,10 +35,11 @@ use Rattle.apd.specs.declared.plain.Step.TheVariants.{Accept, Settle, Hand}
 use Rattle.apd.specs.declared.plain.Told.{Told}
 use Rattle.apd.specs.declared.plain.Told.TheVariants.{Accepted as AcceptedAs, Settled, Handed, NoMemory}
 use Rattle.apd.specs.declared.plain.World.{World}
-use Rattle.apd.specs.World.{happening_of, entered_by, accepted, world_after, after_request, with_entry, held, settled, handed}
-use Rattle.apd.specs.Steps.{IsStep, entered, given}
+use Rattle.apd.specs.World.{happening_of, entered_by, accepted, world_after, after_request, with_entry, with_sender, held, settled, handed}
+use Rattle.apd.specs.Steps.{IsStep, after, entered, given}
 use Rattle.apd.specs.Run.{AreSteps, IsReached, IsAnswered, Answers, all_entered, all_given}
 use Rattle.apd.proofs.Handing.{others}
+use Rattle.apd.proofs.Hearing.{after_sender, after_entry}
 
 -- events in two parts
 run-append : (confs : List Conf) (es fs : List Happening) (s : State) → run s confs (es ++ fs) ≡ run (run s confs es) confs fs
@@ -57,7 +58,7 @@ fit-append confs (e ∷ es) fs s a b = (a.0, fit-append confs es fs (verdict s c
 
 -- nothing happens
 same_answered : (w : World) → IsAnswered [] (λ _. []) w w
-same_answered w = record { fit = tt; front = refl; confs = refl; outs = λ r. sym (append-nil (held r w)) }
+same_answered w = record { fit = tt; front = refl; confs = refl; outs = λ r. sym (append-nil (held r w)); moments = λ h. h }
 
 -- one after the other
 then_answered : (es fs : List Happening) (g h : Recipient → List Out) (a b c : World) → IsAnswered es g a b → IsAnswered fs h b c → IsAnswered (es ++ fs) (λ r. g r ++ h r) a c
@@ -76,11 +77,12 @@ then_answered es fs g h a b c past step =
           ∙ append_assoc (held r a) (outs_run r a.front a.confs es) (outs_run r b.front b.confs fs)
           ∙ (λ i. held r a ++ (outs_run r a.front a.confs es ++ outs_run r (past.front i) (confs i) fs))
           ∙ ap (λ os. held r a ++ os) (sym (outs_run-append r a.confs es fs a.front));
+      moments = λ h. step.moments (past.moments h);
     }
 
 -- an entry is held for its recipients
-entry_answered : (w : World) (e : Happening) → IsFit w.front w.confs e → IsAnswered (e ∷ []) (λ _. []) w (with_entry w e)
-entry_answered w e fit = record {
+entry_answered : (w : World) (m : Moment) (e : Happening) → IsFit w.front w.confs e → IsAnswered (e ∷ []) (λ _. []) w (with_sender m e (with_entry w m e))
+entry_answered w m e fit = record {
   fit = (fit, tt);
   front = refl;
   confs = refl;
@@ -88,21 +90,28 @@ entry_answered w e fit = record {
       ap (outs_to r) (sym (append_assoc w.released w.waiting (verdict w.front w.confs e).outs))
       ∙ outs_to-append r (w.released ++ w.waiting) (verdict w.front w.confs e).outs
       ∙ ap (λ os. held r w ++ os) (sym (append-nil (outs_to r (verdict w.front w.confs e).outs)));
+  moments = after_entry m w.confs e w.front w.heard;
 }
 
--- the world after a request by its answer
-request_entered : (w : World) (asked : Result Happening Ignored) (answer : Accepted) → AreFit w.front w.confs (entered_by answer asked) → IsAnswered (entered_by answer asked) (λ _. []) w (world_after w asked answer)
-request_entered w (Ok e) (Entry k) fit = entry_answered w e fit.0
-request_entered w (Err reason) (Entry k) fit = same_answered w
-request_entered w (Ok e) Stopped fit = same_answered w
-request_entered w (Err reason) Stopped fit = same_answered w
-request_entered w (Ok e) (Quiet why) fit = same_answered w
-request_entered w (Err reason) (Quiet why) fit = same_answered w
+-- a frame that is no entry is heard
+quiet_answered : (w : World) (m : Moment) (e : Happening) → IsAnswered [] (λ _. []) w (with_sender m e w)
+quiet_answered w m e = record { fit = tt; front = refl; confs = refl; outs = λ r. sym (append-nil (held r w)); moments = after_sender m e w.front w.heard }
 
-request_answered : (w : World) (i : Input) (answer : Accepted) (new : World) → answer ≡ accepted w i → new ≡ after_request w i → AreFit w.front w.confs (entered_by answer (happening_of i)) → IsAnswered (entered_by answer (happening_of i)) (λ _. []) w new
-request_answered w i answer new told is fit =
-    subst (λ n. IsAnswered (entered_by answer (happening_of i)) (λ _. []) w n) (sym (is ∙ ap (world_after w (happening_of i)) (sym told)))
-    (request_entered w (happening_of i) answer fit)
+-- the world after a request by its answer
+request_entered : (w : World) (m : Moment) (asked : Result Happening QuietReason) (answer : Accepted) → AreFit w.front w.confs (entered_by answer asked)
+    → IsAnswered (entered_by answer asked) (λ _. []) w (world_after w m asked answer)
+request_entered w m (Ok e) (Entry k) fit = entry_answered w m e fit.0
+request_entered w m (Err reason) (Entry k) fit = same_answered w
+request_entered w m (Ok e) Stopped fit = same_answered w
+request_entered w m (Err reason) Stopped fit = same_answered w
+request_entered w m (Ok e) (Quiet why) fit = quiet_answered w m e
+request_entered w m (Err reason) (Quiet why) fit = same_answered w
+
+request_answered : (w : World) (m : Moment) (i : Input) (answer : Accepted) (new : World) → answer ≡ accepted w m i → new ≡ after_request w m i
+    → AreFit w.front w.confs (entered_by answer (happening_of w m i)) → IsAnswered (entered_by answer (happening_of w m i)) (λ _. []) w new
+request_answered w m i answer new told is fit =
+    subst (λ n. IsAnswered (entered_by answer (happening_of w m i)) (λ _. []) w n) (sym (is ∙ ap (world_after w m (happening_of w m i)) (sym told)))
+    (request_entered w m (happening_of w m i) answer fit)
 
 settle_answered : (w new : World) → new ≡ settled w → IsAnswered [] (λ _. []) w new
 settle_answered w new is = subst (λ n. IsAnswered [] (λ _. []) w n) (sym is) (record {
@@ -110,6 +119,7 @@ settle_answered w new is = subst (λ n. IsAnswered [] (λ _. []) w n) (sym is) (
   front = refl;
   confs = refl;
   outs = λ r. ap (outs_to r) (append-nil (w.released ++ w.waiting)) ∙ sym (append-nil (held r w));
+  moments = λ h. h;
 })
 
 -- what is handed to a recipient and what is kept
@@ -173,28 +183,31 @@ hand_answered q outs w new told is =
       front = refl;
       confs = refl;
       outs = λ r. hand_outs q r w;
+      moments = λ h. h;
     }))
 
 lack_answered : (w new : World) → new ≡ w → IsAnswered [] (λ _. []) w new
 lack_answered w new is = subst (λ n. IsAnswered [] (λ _. []) w n) (sym is) (same_answered w)
 
-step_answered : (x : Step) (t : Told) (a b : World) → IsStep x t a b → IsAnswered (entered x t) (λ r. given r t) a b
-step_answered (Accept i) (AcceptedAs answer) a b h = request_answered a i answer b h.0 h.1 h.2
-step_answered (Accept i) NoMemory a b h = lack_answered a b h
-step_answered Settle Settled a b h = settle_answered a b h
-step_answered Settle NoMemory a b h = lack_answered a b h
-step_answered (Hand q) (Handed p outs) a b h = subst (λ z. IsAnswered [] (λ r. given r (Handed z outs)) a b) (sym h.0) (hand_answered q outs a b h.1 h.2)
-step_answered (Hand q) NoMemory a b h = lack_answered a b h
-step_answered (Accept i) Settled a b h = absurd h
-step_answered (Accept i) (Handed q outs) a b h = absurd h
-step_answered Settle (AcceptedAs answer) a b h = absurd h
-step_answered Settle (Handed q outs) a b h = absurd h
-step_answered (Hand q) (AcceptedAs answer) a b h = absurd h
-step_answered (Hand q) Settled a b h = absurd h
+step_answered : (x : Step) (t : Told) (a b : World) → IsStep x t a b → IsAnswered (entered x t a) (λ r. given r t) a b
+step_answered (Accept i m) (AcceptedAs answer) a b h = request_answered a m i answer b h.0.0 h.1 h.0.1
+step_answered (Accept i m) NoMemory a b h = lack_answered a b h.1
+step_answered Settle Settled a b h = settle_answered a b h.1
+step_answered Settle NoMemory a b h = lack_answered a b h.1
+step_answered (Hand q) (Handed p outs) a b h = subst (λ z. IsAnswered [] (λ r. given r (Handed z outs)) a b) (sym h.0.0) (hand_answered q outs a b h.0.1 h.1)
+step_answered (Hand q) NoMemory a b h = lack_answered a b h.1
+step_answered (Accept i m) Settled a b h = absurd h.0
+step_answered (Accept i m) (Handed q outs) a b h = absurd h.0
+step_answered Settle (AcceptedAs answer) a b h = absurd h.0
+step_answered Settle (Handed q outs) a b h = absurd h.0
+step_answered (Hand q) (AcceptedAs answer) a b h = absurd h.0
+step_answered (Hand q) Settled a b h = absurd h.0
 
 pub steps_answered : (steps : List Step) (tolds : List Told) (a c : World) → AreSteps steps tolds a c → Answers steps tolds a c
 steps_answered [] [] a c h = lack_answered a c h
-steps_answered (x ∷ xs) (t ∷ ts) a c h = then_answered (entered x t) (all_entered xs ts) (λ r. given r t) (λ r. all_given r ts) a h.0 c (step_answered x t a h.0 h.1) (steps_answered xs ts h.0 c h.2)
+steps_answered (x ∷ xs) (t ∷ ts) a c h =
+    subst (λ w. IsAnswered (entered x t a ++ all_entered xs ts w) (λ r. all_given r (t ∷ ts)) a c) h.1.1
+    (then_answered (entered x t a) (all_entered xs ts h.0) (λ r. given r t) (λ r. all_given r ts) a h.0 c (step_answered x t a h.0 h.1) (steps_answered xs ts h.0 c h.2))
 steps_answered [] (t ∷ ts) a c h = absurd h
 steps_answered (x ∷ xs) [] a c h = absurd h
 

@@ -3,3 +3,5 @@ pub mod Answering
 pub mod Changing
 pub mod Configuring
 pub mod Handing
+pub mod Hearing
+pub mod Ticking

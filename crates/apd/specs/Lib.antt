@@ -1,4 +1,5 @@
 pub mod Configured
+pub mod Heard
 pub mod Run
 pub mod Start
 pub mod Steps

@@ -8,8 +8,9 @@ use Rattle.apd_mlme.specs.Run.{run, outs_run, AreFit}
 use Rattle.apd.specs.declared.plain.Step.{Step}
 use Rattle.apd.specs.declared.plain.Told.{Told}
 use Rattle.apd.specs.declared.plain.World.{World}
+use Rattle.apd.specs.Heard.{AreMomentsOf}
 use Rattle.apd.specs.World.{held}
-use Rattle.apd.specs.Steps.{IsStep, entered, given}
+use Rattle.apd.specs.Steps.{IsStep, after, entered, given}
 
 -- one step after the other, each telling one answer
 abbrev pub AreSteps : List Step → List Told → World → World → Type 0
@@ -24,24 +25,26 @@ pub record IsReached (old new : World) : Type 0 where
   pub tolds : List Told
   pub taken : AreSteps steps tolds old new
 
--- what happened by the steps that told an entry, in order
-abbrev pub all_entered : List Step → List Told → List Happening
-all_entered [] tolds = []
-all_entered (step ∷ steps) [] = []
-all_entered (step ∷ steps) (told ∷ tolds) = entered step told ++ all_entered steps tolds
+-- what happened by the steps that told an entry, in order; what happens by a tick is read off the world before it
+abbrev pub all_entered : List Step → List Told → World → List Happening
+all_entered [] tolds w = []
+all_entered (step ∷ steps) [] w = []
+all_entered (step ∷ steps) (told ∷ tolds) w = entered step told w ++ all_entered steps tolds (after step told w)
 
 -- what a recipient was handed, in order
 abbrev pub all_given : Recipient → List Told → List Out
 all_given r tolds = flat_map (given r) tolds
 
 -- the table after what happened is the state that it leads to, and what each recipient was given, and then what is held for
--- it, is what was held for it before, and then the outs of what happened
+-- it, is what was held for it before, and then the outs of what happened; where exactly the rows of the table had a moment,
+-- exactly its rows have one
 pub record IsAnswered (hs : List Happening) (given : Recipient → List Out) (old new : World) : Type 0 where
   pub fit : AreFit old.front old.confs hs
   pub front : new.front ≡ run old.front old.confs hs
   pub confs : new.confs ≡ old.confs
   pub outs : (r : Recipient) → given r ++ held r new ≡ held r old ++ outs_run r old.front old.confs hs
+  pub moments : AreMomentsOf old.front old.heard → AreMomentsOf new.front new.heard
 
 -- the answers that are handed out are those of a fold over the accepted requests, in order
 abbrev pub Answers : List Step → List Told → World → World → Type 0
-Answers steps tolds old new = IsAnswered (all_entered steps tolds) (λ r. all_given r tolds) old new
+Answers steps tolds old new = IsAnswered (all_entered steps tolds old) (λ r. all_given r tolds) old new

@@ -12,29 +12,45 @@ use Rattle.apd.specs.declared.plain.Told.TheVariants.{Accepted as AcceptedAs, Se
 use Rattle.apd.specs.declared.plain.World.{World}
 use Rattle.apd.specs.World.{accepted, after_request, happening_of, entered_by, settled, handed}
 
--- a step tells its answer and leaves the world that goes with it, or tells that memory ran out and leaves all as it was; what
--- is entered is fit
+-- the world that a step leaves, by what it told: that which goes with its answer, or the same where memory ran out
+abbrev pub after : Step → Told → World → World
+after (Accept i m) (AcceptedAs answer) w = after_request w m i
+after Settle Settled w = settled w
+after (Hand r) (Handed q outs) w = handed r w
+after step NoMemory w = w
+-- these don't come
+after (Accept i m) Settled w = w
+after (Accept i m) (Handed q outs) w = w
+after Settle (AcceptedAs answer) w = w
+after Settle (Handed q outs) w = w
+after (Hand r) (AcceptedAs answer) w = w
+after (Hand r) Settled w = w
+
+-- a step tells its answer, or that memory ran out; what is entered is fit
+abbrev pub IsTold : Step → Told → World → Type 0
+IsTold (Accept i m) (AcceptedAs answer) w = (answer ≡ accepted w m i) × AreFit w.front w.confs (entered_by answer (happening_of w m i))
+IsTold Settle Settled w = Unit {0}
+IsTold (Hand r) (Handed q outs) w = (q ≡ r) × (outs ≡ outs_to r w.released)
+IsTold step NoMemory w = Unit {0}
+IsTold (Accept i m) Settled w = ⊥
+IsTold (Accept i m) (Handed q outs) w = ⊥
+IsTold Settle (AcceptedAs answer) w = ⊥
+IsTold Settle (Handed q outs) w = ⊥
+IsTold (Hand r) (AcceptedAs answer) w = ⊥
+IsTold (Hand r) Settled w = ⊥
+
+-- and leaves the world that goes with it
 abbrev pub IsStep : Step → Told → World → World → Type 0
-IsStep (Accept i) (AcceptedAs answer) old new =
-    (answer ≡ accepted old i) × (new ≡ after_request old i) × AreFit old.front old.confs (entered_by answer (happening_of i))
-IsStep Settle Settled old new = new ≡ settled old
-IsStep (Hand r) (Handed q outs) old new = (q ≡ r) × (outs ≡ outs_to r old.released) × (new ≡ handed r old)
-IsStep step NoMemory old new = new ≡ old
-IsStep (Accept i) Settled old new = ⊥
-IsStep (Accept i) (Handed q outs) old new = ⊥
-IsStep Settle (AcceptedAs answer) old new = ⊥
-IsStep Settle (Handed q outs) old new = ⊥
-IsStep (Hand r) (AcceptedAs answer) old new = ⊥
-IsStep (Hand r) Settled old new = ⊥
+IsStep step told old new = IsTold step told old × (new ≡ after step told old)
 
 -- what a step entered, by what it told
-abbrev pub entered : Step → Told → List Happening
-entered (Accept i) (AcceptedAs answer) = entered_by answer (happening_of i)
-entered (Accept i) Settled = []
-entered (Accept i) (Handed q outs) = []
-entered (Accept i) NoMemory = []
-entered Settle told = []
-entered (Hand r) told = []
+abbrev pub entered : Step → Told → World → List Happening
+entered (Accept i m) (AcceptedAs answer) w = entered_by answer (happening_of w m i)
+entered (Accept i m) Settled w = []
+entered (Accept i m) (Handed q outs) w = []
+entered (Accept i m) NoMemory w = []
+entered Settle told w = []
+entered (Hand r) told w = []
 
 -- what a recipient was handed, by what a step told
 abbrev pub given : Recipient → Told → List Out

@@ -1,8 +1,10 @@
 -- The daemon in memory, and what each of its calls answers and leaves.
 use Rattle.std.specs.Prelude.{◌≡◌, ℕ, ◌+◌, ◌-◌, ◌^◌, Bool, true, false, not, ◌&&◌, ◌==◌, nat_le, List, [], ◌∷◌, ◌++◌, filter, Option, None, Some, is_none, Result, Ok, Err, if◌then◌else◌}
 use Rattle.std.specs.FinMap as maps
+use Rattle.apd_base.specs.declared.address.Addr.{Addr}
 use Rattle.apd_base.specs.declared.address.Bssid.{Bssid}
 use Rattle.apd_base.specs.declared.limits.TheConstants.{MAX_BSS}
+use Rattle.apd_base.specs.declared.moment.Moment.{Moment}
 use Rattle.apd_base.specs.State.{State, policy_at, empty_state}
 use Rattle.apd_conf.specs.declared.conf.Conf.{Conf}
 use Rattle.apd_conf.specs.Confs.{conf_at}
@@ -24,26 +26,40 @@ use Rattle.apd.specs.declared.plain.QuietReason.TheVariants as quiet
 use Rattle.apd.specs.declared.plain.Accepted.{Accepted}
 use Rattle.apd.specs.declared.plain.Accepted.TheVariants.{Stopped, Quiet, Entry}
 use Rattle.apd.specs.declared.plain.World.{World}
+use Rattle.apd.specs.Heard.{due, heard_by, heard_by_changes}
 
 -- no row, no entry, nothing to hand out
 abbrev pub new_world : List Conf → World
-new_world confs = record { confs = confs; front = empty_state; last = 0; released = []; waiting = [] }
+new_world confs = record { confs = confs; front = empty_state; heard = maps.empty; last = 0; released = []; waiting = [] }
 
 -- what is held for a recipient, in order: nobody was given it yet
 abbrev pub held : Recipient → World → List Out
 held r w = outs_to r (w.released ++ w.waiting)
 
-abbrev pub heard : Bssid → Result Contents Ignored → Result Happening Ignored
-heard b (Ok frame) = Ok (Heard b frame)
-heard b (Err reason) = Err reason
+abbrev pub unless_ignored : Bssid → Result Contents Ignored → Result Happening QuietReason
+unless_ignored b (Ok frame) = Ok (Heard b frame)
+unless_ignored b (Err reason) = Err (quiet.Ignored reason)
 
--- what happened, by a request, or why its frame is ignored
-abbrev pub happening_of : Input → Result Happening Ignored
-happening_of (input.Received b bytes) = heard b (outcome bytes.now b)
-happening_of (input.Configure b accept deny) = Ok (Configure b accept.now deny.now)
+abbrev pub expiry : Option (Bssid × Addr) → Result Happening QuietReason
+expiry None = Err quiet.Nothing
+expiry (Some row) = Ok (Expire row.0 row.1)
+
+-- what a request says, whatever the world is, or why it is no entry; a tick says nothing
+abbrev pub said_by : Input → Option (Result Happening QuietReason)
+said_by (input.Received b bytes) = Some (unless_ignored b (outcome bytes.now b))
+said_by input.Tick = None
+said_by (input.Configure b accept deny) = Some (Ok (Configure b accept.now deny.now))
+
+abbrev pub or_due : World → Moment → Option (Result Happening QuietReason) → Result Happening QuietReason
+or_due w m None = expiry (due w.confs m w.heard)
+or_due w m (Some said) = said
+
+-- what happens by a request: what it says, and by a tick the row that is due expires
+abbrev pub happening_of : World → Moment → Input → Result Happening QuietReason
+happening_of w m i = or_due w m (said_by i)
 
 -- the same of an event
-abbrev pub happened : Result Event Ignored → Result Happening Ignored
+abbrev pub happened : Result Event QuietReason → Result Happening QuietReason
 happened (Ok event) = Ok (happening event)
 happened (Err reason) = Err reason
 
@@ -76,17 +92,23 @@ abbrev pub answer_to_fit : World → Happening → Option QuietReason → Accept
 answer_to_fit w h (Some reason) = Quiet reason
 answer_to_fit w h None = if is_nothing (verdict w.front w.confs h) then Quiet quiet.Nothing else Entry (w.last + 1)
 
-abbrev pub answer_to : World → Result Happening Ignored → Accepted
-answer_to w (Err reason) = Quiet (quiet.Ignored reason)
+abbrev pub answer_to : World → Result Happening QuietReason → Accepted
+answer_to w (Err reason) = Quiet reason
 answer_to w (Ok h) = answer_to_fit w h (unfit w.front w.confs h)
 
--- the answer to a request: the first that holds
-abbrev pub accepted : World → Input → Accepted
-accepted w i = if w.last == 2 ^ 64 - 1 then Stopped else answer_to w (happening_of i)
+-- the answer to a request at a moment: the first that holds
+abbrev pub accepted : World → Moment → Input → Accepted
+accepted w m i = if w.last == 2 ^ 64 - 1 then Stopped else answer_to w (happening_of w m i)
 
--- the world with an entry more
-abbrev pub with_entry : World → Happening → World
-with_entry w h = let v = verdict w.front w.confs h in record w { front = v.state; last = w.last + 1; waiting = w.waiting ++ v.outs }
+-- the world with an entry more; the rows that it puts were heard at its moment
+abbrev pub with_entry : World → Moment → Happening → World
+with_entry w m h =
+    let v = verdict w.front w.confs h in
+    record w { front = v.state; heard = heard_by_changes m v.changes w.heard; last = w.last + 1; waiting = w.waiting ++ v.outs }
+
+-- and so was the sender of a frame
+abbrev pub with_sender : Moment → Happening → World → World
+with_sender m h w = record w { heard = heard_by m h w.heard }
 
 -- once all entries are settled
 abbrev pub settled : World → World
@@ -97,24 +119,30 @@ abbrev pub handed : Recipient → World → World
 handed r w = record w { released = filter (λ x. not (is_same r x.0)) w.released }
 
 -- what an answer enters
-abbrev pub entered_by : Accepted → Result Happening Ignored → List Happening
+abbrev pub entered_by : Accepted → Result Happening QuietReason → List Happening
 entered_by Stopped asked = []
 entered_by (Quiet reason) asked = []
 entered_by (Entry number) (Ok h) = h ∷ []
 entered_by (Entry number) (Err reason) = []
 
--- the world after a request: with its entry, or as it was
-abbrev pub world_after : World → Result Happening Ignored → Accepted → World
-world_after w (Ok h) (Entry number) = with_entry w h
-world_after w (Ok h) Stopped = w
-world_after w (Ok h) (Quiet reason) = w
-world_after w (Err reason) answer = w
+-- the world by the answer to what happened: with its entry, or as it was
+abbrev pub entered_world : Accepted → World → Moment → Happening → World
+entered_world (Entry number) w m h = with_entry w m h
+entered_world (Quiet reason) w m h = w
+entered_world Stopped w m h = w
 
-abbrev pub after_request : World → Input → World
-after_request w i = world_after w (happening_of i) (accepted w i)
+-- the world after a request; a frame that is not ignored was heard, also where it is no entry
+abbrev pub world_after : World → Moment → Result Happening QuietReason → Accepted → World
+world_after w m (Ok h) Stopped = w
+world_after w m (Ok h) (Quiet reason) = with_sender m h w
+world_after w m (Ok h) (Entry number) = with_sender m h (with_entry w m h)
+world_after w m (Err reason) answer = w
 
--- only an entry changes anything
+abbrev pub after_request : World → Moment → Input → World
+after_request w m i = world_after w m (happening_of w m i) (accepted w m i)
+
+-- only an entry changes more than the moments at which stations were heard
 abbrev pub ChangesAsEntryOnly : Accepted → World → World → Type 0
 ChangesAsEntryOnly (Entry number) old new = Unit {0}
 ChangesAsEntryOnly Stopped old new = new ≡ old
-ChangesAsEntryOnly (Quiet reason) old new = new ≡ old
+ChangesAsEntryOnly (Quiet reason) old new = new ≡ record old { heard = new.heard }

@@ -1,11 +1,15 @@
 //! `apd`: an access point daemon. So far it runs scripts over a table in memory, and makes stores.
 #![tactic(auto)]
 
+#[cfg(test)]
+mod association_tests;
 mod configuration_files;
 #[cfg(test)]
 mod configuration_tests;
 #[cfg(test)]
 mod decision_tests;
+mod laws;
+mod moments;
 mod plain;
 mod script;
 mod store_file;

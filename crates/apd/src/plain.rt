@@ -1,6 +1,7 @@
 //! The daemon in one value, in memory: requests are accepted, settled and answered one step at a
 //! time.
-ghost use Rattle.std.specs.Prelude.{◌≡◌, ◌+◌, ◌-◌, ◌^◌, ◌<◌, ◌++◌, IfOk, OnOk, OnErr, IfNone};
+ghost use Rattle.std.specs.Prelude.{◌≡◌, ◌+◌, ◌-◌, ◌^◌, ◌<◌, ◌++◌, IfOk, IfSome, OnOk, OnErr, IfNone};
+ghost use Rattle.std.specs.Option.{option_map};
 ghost use Rattle.apd_record.specs.Meaning.{meaning, meaning_of};
 ghost use Rattle.apd_table.specs.Sound.{Sound, StaySound};
 ghost use Rattle.apd_mlme.specs.Outs.{outs_to};
@@ -8,10 +9,11 @@ ghost use Rattle.apd_mlme.specs.Happening.{happening};
 ghost use Rattle.apd_mlme.specs.Rules.{IsFit};
 ghost use Rattle.apd.specs.Run.{AreSteps, Answers};
 ghost use Rattle.apd.specs.Start.{AreStarts, AreStartSteps, hand_steps, flush_steps};
-ghost use Rattle.apd.specs.World.{happened, happening_of, HasLists, unfit};
+ghost use Rattle.apd.specs.World.{happened, happening_of, expiry, said_by, HasLists, unfit};
 
+use crate::moments::Moments;
 use apd_base::limits::MAX_BSS;
-use apd_base::{Bssid, Sequence};
+use apd_base::{Addr, Bssid, Moment, Sequence};
 use apd_conf::{AddressList, Confs};
 use apd_frame::{Ignored, decode};
 use apd_mlme::{Decision, Event, Out, Recipient, decide};
@@ -25,6 +27,8 @@ use std::{fmt, mem};
 pub enum Input<'a> {
     /// The radio of the BSSID received these bytes, without their frame check sequence.
     Received(Bssid, &'a [u8]),
+    /// Time passes: the first station that is silent for too long is to go.
+    Tick,
     /// The BSSID is to start with its configuration, and with these lists of its list files.
     Configure {
         bssid: Bssid,
@@ -62,8 +66,8 @@ pub enum Accepted {
 /// One step of the daemon.
 #[derive(Clone, Copy, Debug)]
 pub enum Step<'a> {
-    /// Accepts a request.
-    Accept(Input<'a>),
+    /// Accepts a request at a moment.
+    Accept(Input<'a>, Moment),
     /// Settles all entries: from now on what leaves because of them may be handed out.
     Settle,
     /// Hands out what was settled for the recipient.
@@ -82,36 +86,49 @@ pub enum Told {
     NoMemory,
 }
 
-/// The daemon: its configurations, the table after all entries, the number of the last of them, and
-/// what is to be handed out: of settled entries, and of those that wait to be settled.
+/// The daemon: its configurations, the table after all entries, when each of its stations was heard last,
+/// the number of the last entry, and what is to be handed out: of settled entries, and of those that wait
+/// to be settled.
 #[derive(Drop)]
 pub struct World {
     confs: Confs,
     front: Table,
+    heard: Moments,
     last: u64,
     released: Sequence<(Recipient, Out)>,
     waiting: Sequence<(Recipient, Out)>,
 }
 
-/// The event of a request, or why its frame is ignored.
-fn event_of(input: Input<'_>) -> Result<Event<'_>, Ignored>
-    ensures happening { happened result ≡ happening_of input.entry }
-    ensures lists { IfOk result (λ event. HasLists (happening event)) }
+/// The event of a station that is silent for too long, if there is one.
+fn expiry(due: Option<(Bssid, Addr)>) -> Result<Event<'static>, QuietReason>
+    ensures { happened result ≡ expiry due }
+{
+    match due {
+        Some((bssid, addr)) => Ok(Event::Expire { bssid, addr }),
+        None => Err(QuietReason::Nothing),
+    }
+}
+
+/// The event of a request other than a tick, or why its frame is ignored; none of a tick.
+fn event_said(input: Input<'_>) -> Option<Result<Event<'_>, QuietReason>>
+    ensures happening { option_map happened result ≡ said_by input.entry }
+    ensures lists { IfSome result (λ said. IfOk said (λ event. HasLists (happening event))) }
 {
     match input {
         Input::Received(bssid, bytes) => match decode(bytes, bssid) {
-            Ok(frame) => Ok(Event::Heard(bssid, frame)),
-            Err(reason) => Err(reason),
+            Ok(frame) => Some(Ok(Event::Heard(bssid, frame))),
+            Err(reason) => Some(Err(QuietReason::Ignored(reason))),
         },
+        Input::Tick => None,
         Input::Configure {
             bssid,
             accept,
             deny,
-        } => Ok(Event::Configure {
+        } => Some(Ok(Event::Configure {
             bssid,
             accept: accept.as_slice(),
             deny: deny.as_slice(),
-        }),
+        })),
     }
 }
 
@@ -169,15 +186,18 @@ fn change_all(alloc: Global, table: &mut Table, changes: &[Change]) -> Result<()
 
 impl World {
     ghost use Rattle.apd_mlme.specs.Run.{AreFit};
-    ghost use Rattle.apd.specs.World.{new_world, accepted, after_request, happening_of, entered_by, ChangesAsEntryOnly, settled, handed};
+    ghost use Rattle.apd.specs.Heard.{heard_by_changes, AreMomentsOf};
+    ghost use Rattle.apd.specs.World.{new_world, accepted, after_request, answer_to, entered_by, entered_world, happening_of, ChangesAsEntryOnly, settled, handed};
 
     /// A daemon of these configurations, with no entry and an empty table. It takes no memory.
     pub fn new(alloc: Global, confs: Confs) -> World
-        ensures { result ≡ new_world confs }
+        ensures world { result ≡ new_world confs }
+        ensures moments { AreMomentsOf result.front result.heard }
     {
         World {
             confs,
             front: Table::new(alloc),
+            heard: Moments::new(alloc),
             last: 0,
             released: Sequence::new(alloc),
             waiting: Sequence::new(alloc),
@@ -191,21 +211,57 @@ impl World {
         &self.confs
     }
 
-    /// Accepts a request: the first answer that holds. Only an entry changes anything.
-    pub fn accept(&mut self, alloc: Global, input: Input<'_>) -> Result<Accepted, AllocError>
-        ensures answer { IfOk result (λ answer. answer ≡ accepted self.old input.entry) }
-        ensures ok { OnOk result (self.new ≡ after_request self.old input.entry) }
-        ensures fit { IfOk result (λ answer. AreFit self.old.front self.old.confs (entered_by answer (happening_of input.entry))) }
+    /// The event of a request at a moment, or why it is no entry.
+    fn event_of<'a>(&self, input: Input<'a>, moment: Moment) -> Result<Event<'a>, QuietReason>
+        ensures happening { happened result ≡ happening_of self.now moment input.entry }
+        ensures lists { IfOk result (λ event. HasLists (happening event)) }
+    {
+        match event_said(input) {
+            Some(said) => said,
+            None => expiry(self.heard.due(&self.confs, moment)),
+        }
+    }
+
+    /// Accepts a request at a moment: the first answer that holds. Only an entry changes anything but when
+    /// stations were heard.
+    pub fn accept(
+        &mut self,
+        alloc: Global,
+        input: Input<'_>,
+        moment: Moment,
+    ) -> Result<Accepted, AllocError>
+        ensures answer { IfOk result (λ answer. answer ≡ accepted self.old moment input.entry) }
+        ensures ok { OnOk result (self.new ≡ after_request self.old moment input.entry) }
+        ensures fit { IfOk result (λ answer. AreFit self.old.front self.old.confs (entered_by answer (happening_of self.old moment input.entry))) }
         ensures silence { IfOk result (λ answer. ChangesAsEntryOnly answer self.old self.new) }
         ensures err { OnErr result (self.new ≡ self.old) }
     {
         if self.last == u64::MAX {
             return Ok(Accepted::Stopped);
         }
-        let event = match event_of(input) {
+        let event = match self.event_of(input, moment) {
             Ok(event) => event,
-            Err(reason) => return Ok(Accepted::Quiet(QuietReason::Ignored(reason))),
+            Err(reason) => return Ok(Accepted::Quiet(reason)),
         };
+        let answer = self.accept_event(alloc, event, moment)?;
+        self.heard.hear_sender(event, moment);
+        Ok(answer)
+    }
+
+    /// Decides an event, and makes an entry of the decision.
+    fn accept_event(
+        &mut self,
+        alloc: Global,
+        event: Event<'_>,
+        moment: Moment,
+    ) -> Result<Accepted, AllocError>
+        requires lists { HasLists (happening event) }
+        requires number { self.old.last < 2 ^ 64 - 1 }
+        ensures answer { IfOk result (λ answer. answer ≡ answer_to self.old (Ok (happening event.entry))) }
+        ensures ok { IfOk result (λ answer. self.new ≡ entered_world answer self.old moment (happening event.entry)) }
+        ensures fit { IfOk result (λ answer. AreFit self.old.front self.old.confs (entered_by answer (Ok (happening event.entry)))) }
+        ensures err { OnErr result (self.new ≡ self.old) }
+    {
         match unfit(&self.front, &self.confs, event) {
             Some(reason) => return Ok(Accepted::Quiet(reason)),
             None => {}
@@ -214,24 +270,26 @@ impl World {
         if decision.is_nothing() {
             return Ok(Accepted::Quiet(QuietReason::Nothing));
         }
-        self.enter(alloc, decision)?;
+        self.enter(alloc, decision, moment)?;
         Ok(Accepted::Entry(self.last))
     }
 
     /// Makes an entry of a decision.
-    fn enter(&mut self, alloc: Global, decision: Decision) -> Result<(), AllocError>
+    fn enter(&mut self, alloc: Global, decision: Decision, moment: Moment) -> Result<(), AllocError>
         requires sound { StaySound decision.changes self.old.front }
         requires number { self.old.last < 2 ^ 64 - 1 }
-        ensures ok { OnOk result (self.new ≡ record self.old { front = meaning_of decision.changes self.old.front; last = self.old.last + 1; waiting = self.old.waiting ++ decision.outs }) }
+        ensures ok { OnOk result (self.new ≡ record self.old { front = meaning_of decision.changes self.old.front; heard = heard_by_changes moment decision.changes self.old.heard; last = self.old.last + 1; waiting = self.old.waiting ++ decision.outs }) }
         ensures err { OnErr result (self.new ≡ self.old) }
     {
         let Decision { changes, mut outs } = decision;
+        let heard = self.heard.after(alloc, changes.as_slice(), moment)?;
         let kept = self.waiting.len();
         self.waiting.append(&mut outs)?;
         if let Err(error) = change_all(alloc, &mut self.front, changes.as_slice()) {
             self.waiting.truncate(kept);
             return Err(error);
         }
+        self.heard = heard;
         self.last += 1;
         Ok(())
     }
@@ -273,7 +331,7 @@ impl World {
         ensures { IsStep step.now result self.old self.new }
     {
         match *step {
-            Step::Accept(input) => match self.accept(alloc, input) {
+            Step::Accept(input, moment) => match self.accept(alloc, input, moment) {
                 Ok(answer) => Told::Accepted(answer),
                 Err(_) => Told::NoMemory,
             },
@@ -327,27 +385,32 @@ pub fn flush_steps(alloc: Global, confs: &Confs) -> Result<Vec<Step<'static>>, A
     Ok(steps)
 }
 
-/// The steps that configure each interface with its lists, in their order.
-fn configure_steps(alloc: Global, confs: &Confs) -> Result<Vec<Step<'_>>, AllocError>
-    ensures { IfOk result (λ steps. AreStarts confs.now steps.items) }
+/// The steps that configure each interface with its lists at a moment, in their order.
+fn configure_steps(
+    alloc: Global,
+    confs: &Confs,
+    moment: Moment,
+) -> Result<Vec<Step<'_>>, AllocError>
+    ensures { IfOk result (λ steps. AreStarts confs.now moment steps.items) }
 {
     let mut steps = Vec::new(alloc);
     for conf in confs.list() {
-        steps.push(Step::Accept(Input::Configure {
+        let input = Input::Configure {
             bssid: conf.bssid,
             accept: &conf.accept,
             deny: &conf.deny,
-        }))?;
+        };
+        steps.push(Step::Accept(input, moment))?;
     }
     Ok(steps)
 }
 
-/// The steps that start each interface with its configuration and its lists, in their order, and then
-/// flush.
-fn start_steps(alloc: Global, confs: &Confs) -> Result<Vec<Step<'_>>, AllocError>
-    ensures { IfOk result (λ steps. AreStartSteps confs.now steps.items) }
+/// The steps that start each interface with its configuration and its lists at a moment, in their order,
+/// and then flush.
+fn start_steps(alloc: Global, confs: &Confs, moment: Moment) -> Result<Vec<Step<'_>>, AllocError>
+    ensures { IfOk result (λ steps. AreStartSteps confs.now moment steps.items) }
 {
-    let mut steps = configure_steps(alloc, confs)?;
+    let mut steps = configure_steps(alloc, confs, moment)?;
     steps.append(&mut flush_steps(alloc, confs)?)?;
     Ok(steps)
 }
@@ -355,15 +418,15 @@ fn start_steps(alloc: Global, confs: &Confs) -> Result<Vec<Step<'_>>, AllocError
 impl World {
     ghost use Rattle.apd.specs.Start.{IsStart};
 
-    /// Configures each interface with its lists, settles, and hands out to each radio, in the order of
-    /// the configurations. Answers what each of these steps told. Its own want of memory comes before the
-    /// first step.
-    pub fn start(&mut self, alloc: Global) -> Result<Vec<Told>, AllocError>
-        ensures ok { IfOk result (λ tolds. IsStart tolds.items self.old self.new) }
+    /// Configures each interface with its lists at a moment, settles, and hands out to each radio, in the
+    /// order of the configurations. Answers what each of these steps told. Its own want of memory comes
+    /// before the first step.
+    pub fn start(&mut self, alloc: Global, moment: Moment) -> Result<Vec<Told>, AllocError>
+        ensures ok { IfOk result (λ tolds. IsStart moment tolds.items self.old self.new) }
         ensures err { OnErr result (self.new ≡ self.old) }
     {
         let confs = self.confs.copy(alloc)?;
-        let steps = start_steps(alloc, &confs)?;
+        let steps = start_steps(alloc, &confs, moment)?;
         drive(alloc, self, steps.as_slice())
     }
 }

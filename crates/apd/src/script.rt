@@ -3,6 +3,7 @@
 //! | Line | What it does, and prints |
 //! |---|---|
 //! | `rx <interface> <hex>` | the radio of the interface received this frame; prints `entry <n>`, `quiet <word>` or `stopped` |
+//! | `tick <ms>` | the moment is this one from now on, in milliseconds: 1 to 20 decimal digits, below 2^64; it is 0 at first. The first station that is silent for too long goes; prints as `rx` does |
 //! | `hand` | hands out to each radio what was settled for it: `<interface> install <addr> <aid>`, `<interface> remove <addr>`, `<interface> tx <hex>` |
 //! | `flush` | settles all entries, and then does as `hand` |
 //!
@@ -14,6 +15,7 @@ ghost use Rattle.apd.specs.Run.{IsReached};
 ghost use Rattle.apd.specs.declared.script.ScriptFault.TheVariants.{NoMemory};
 
 use crate::plain::{Input, Step, Told, World, drive, flush_steps, hand_steps};
+use apd_base::Moment;
 use apd_base::limits::MAX_SCRIPT;
 use apd_conf::InterfaceName;
 use apd_mlme::{Out, Recipient};
@@ -66,6 +68,7 @@ enum Line<'a> {
         interface: &'a [u8],
         digits: &'a [u8],
     },
+    Tick(&'a [u8]),
     Hand,
     Flush,
 }
@@ -84,8 +87,25 @@ fn parse_line(text: &[u8]) -> Option<Line<'_>> {
             let (interface, digits) = rest.split_at(end);
             Some(Line::Received { interface, digits })
         }
+        [b't', b'i', b'c', b'k', b' ', digits @ ..] => Some(Line::Tick(digits)),
         _ => None,
     }
+}
+
+/// The moment of 1 to 20 decimal digits, in milliseconds, where it is below 2^64.
+fn parse_moment(digits: &[u8]) -> Option<Moment> {
+    if digits.is_empty() || digits.len() > 20 {
+        return None;
+    }
+    let mut milliseconds = 0u64;
+    for digit in digits {
+        if !digit.is_ascii_digit() {
+            return None;
+        }
+        let digit = (*digit - b'0') as u64;
+        milliseconds = milliseconds.checked_mul(10)?.checked_add(digit)?;
+    }
+    Some(Moment(milliseconds))
 }
 
 /// The bytes of hexadecimal digits, among which blanks are skipped; none where the digits are odd in
@@ -124,11 +144,12 @@ pub fn write_out<W: Write>(
     writer.write_all(line.as_bytes()).map_err(writer_fault)
 }
 
-/// A script that is run on a world, and what it prints.
+/// A script that is run on a world, the moment that it is at, and what it prints.
 #[derive(Drop)]
 struct Run<W: Write + Drop> {
     alloc: Global,
     world: World,
+    moment: Moment,
     writer: W,
 }
 
@@ -185,7 +206,7 @@ impl<W: Write + Drop> Run<W> {
     fn start(&mut self) -> Result<(), ScriptFault>
         ensures { IsReached self.old.world self.new.world }
     {
-        let tolds = self.world.start(self.alloc)?;
+        let tolds = self.world.start(self.alloc, self.moment)?;
         self.print_all(tolds.as_slice(), false)
     }
 
@@ -204,17 +225,30 @@ impl<W: Write + Drop> Run<W> {
                 let steps = flush_steps(self.alloc, self.world.confs())?;
                 self.make(steps.as_slice())
             }
-            Some(Line::Received { interface, digits }) => {
-                let Some(conf) = self.world.confs().with_interface(interface) else {
+            Some(Line::Received { interface, digits }) => self.receive(number, interface, digits),
+            Some(Line::Tick(digits)) => {
+                let Some(moment) = parse_moment(digits) else {
                     return Err(ScriptFault::BadLine(number));
                 };
-                let bssid = conf.bssid;
-                let Some(frame) = parse_frame(self.alloc, digits)? else {
-                    return Err(ScriptFault::BadLine(number));
-                };
-                self.make(&[Step::Accept(Input::Received(bssid, frame.as_slice()))])
+                self.moment = moment;
+                self.make(&[Step::Accept(Input::Tick, moment)])
             }
         }
+    }
+
+    /// Accepts the frame of a line.
+    fn receive(&mut self, number: u64, interface: &[u8], digits: &[u8]) -> Result<(), ScriptFault>
+        ensures { IsReached self.old.world self.new.world }
+    {
+        let Some(conf) = self.world.confs().with_interface(interface) else {
+            return Err(ScriptFault::BadLine(number));
+        };
+        let bssid = conf.bssid;
+        let Some(frame) = parse_frame(self.alloc, digits)? else {
+            return Err(ScriptFault::BadLine(number));
+        };
+        let input = Input::Received(bssid, frame.as_slice());
+        self.make(&[Step::Accept(input, self.moment)])
     }
 }
 
@@ -232,6 +266,7 @@ pub fn run_script<R: BufRead + Drop, W: Write + Drop>(
     let mut run = Run {
         alloc,
         world,
+        moment: Moment(0),
         writer,
     };
     run.start()?;

@@ -71,6 +71,16 @@ fn the_first_bad_line_ends_a_script(rt: HostRuntime) -> Result<(), Fail> {
         (b"flush ", 1),
         (b"flush\r\n", 1),
         (b"take", 1),
+        (b"tick", 1),
+        (b"tick ", 1),
+        (b"tick +5", 1),
+        (b"tick 5 ", 1),
+        (b"tick 18446744073709551616", 1),
+        (b"tick 000000000000000000005", 1),
+        (
+            b"tick 00000000000000000005\ntick 18446744073709551615\ntick 0\nx",
+            4,
+        ),
     ] {
         let (fault, _) = printed(rt.alloc(), script)?;
         assert_eq!(rt; fault, Some(ScriptFault::BadLine(line)));

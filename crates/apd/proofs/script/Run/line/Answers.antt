@@ -4,12 +4,6 @@ use Rattle.apd.proofs.script.Run.line.Goals as goal
 pub returns-in_default : goal.returns-in_default
 returns-in_default g c = reached_itself c.args.self.now.world
 
-pub returns-in_default-2 : goal.returns-in_default-2
-returns-in_default-2 g c = reached_itself c.args.self.now.world
-
-pub returns-in_err-frame-in-Some-Received : goal.returns-in_err-frame-in-Some-Received
-returns-in_err-frame-in-Some-Received g c = reached_itself c.args.self.now.world
-
 pub returns-in-None : goal.returns-in-None
 returns-in-None g c = reached_itself c.args.self.now.world
 
