@@ -33,7 +33,7 @@ is_among a as' = list_any (eq_by_cmp addr_cmp a) as'
 abbrev pub drops : Bssid → List Addr → List Change
 drops b as' = list_map (λ a. Drop b a) as'
 
-any_mapped : {X Y : Type 0} (q : Y → Bool) (f : X → Y) (p : X → Bool) (xs : List X) → list_any q (list_map f (filter p xs)) ≡ list_any (λ x. p x && q (f x)) xs
+pub any_mapped : {X Y : Type 0} (q : Y → Bool) (f : X → Y) (p : X → Bool) (xs : List X) → list_any q (list_map f (filter p xs)) ≡ list_any (λ x. p x && q (f x)) xs
 any_mapped q f p [] = refl
 any_mapped q f p (x ∷ xs) =
     elim (p x) as (λ t. list_any q (list_map f (cond t (x ∷ filter p xs) (filter p xs))) ≡ ((t && q (f x)) || list_any (λ y. p y && q (f y)) xs)) [
@@ -136,13 +136,13 @@ pub drops_stay : (b : Bssid) (as' : List Addr) (rest : List Change) (s : State) 
 drops_stay b [] rest s sound h = h
 drops_stay b (a ∷ as') rest s sound h = (sound, drops_stay b as' rest (drop_station b a s) (sound_drop s b a sound) h)
 
-left_allowed : {A : Type 0} (t u v : Bool) (o : Option A) → t ≡ true → (v ≡ false → IsSome o → u ≡ true) → IsSome (cond (t && u) None o) → v ≡ true
+pub left_allowed : {A : Type 0} (t u v : Bool) (o : Option A) → t ≡ true → (v ≡ false → IsSome o → u ≡ true) → IsSome (cond (t && u) None o) → v ≡ true
 left_allowed t u true o e f h = refl
 left_allowed true true false o e f h = cc
 left_allowed true false false o e f h = f refl h
 left_allowed false u false o e f h = cc
 
-some_row : (s : State) (b : Bssid) (mode : AclMode) (a : Addr) (o : Option Station) → station_at s b a ≡ o → allowed_in s b a mode ≡ false → IsSome o → is_among a (denied_by s b mode) ≡ true
+pub some_row : (s : State) (b : Bssid) (mode : AclMode) (a : Addr) (o : Option Station) → station_at s b a ≡ o → allowed_in s b a mode ≡ false → IsSome o → is_among a (denied_by s b mode) ≡ true
 some_row s b mode a None e denied h = cc
 some_row s b mode a (Some x) e denied h = among_denied s b mode a x e denied
 

@@ -1,3 +1,4 @@
+pub mod AllRows
 mod AllowedLaws
 mod BssLaws
 mod BssWrites
@@ -9,7 +10,7 @@ pub mod Empty
 mod Firsts
 pub mod ListChanges
 mod ListCounts
-mod ListSets
+pub mod ListSets
 pub mod PolicySet
 pub mod Put
 pub mod Takens

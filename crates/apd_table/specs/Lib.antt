@@ -1,3 +1,4 @@
+pub mod Addresses
 pub mod Allowed
 pub mod BssRows
 pub mod BssState

@@ -16,6 +16,7 @@ ghost use Rattle.apd_acl.specs.Least.{IsLeast, IsLeastAbove};
 ghost use Rattle.apd_acl.specs.Lists.{has, list_of};
 ghost use Rattle.apd_record.specs.Meaning.{meaning, put_station, drop_station, add_to_list, take_from_list, clear_list, set_policy};
 ghost use Rattle.apd_record.specs.declared.change.Change.TheVariants.{Drop};
+ghost use Rattle.apd_table.specs.Addresses.{addresses_at, denied_after};
 ghost use Rattle.apd_table.specs.Allowed.{allowed, allowed_in, allowed_unaccepted, denied_by, mode_and_max};
 ghost use Rattle.apd_table.specs.Can.{CanPut, CanSet, CanAdd, CanTake, CanClear, MayHave, NoneDenied};
 ghost use Rattle.apd_table.specs.LeastFree.{IsLeastFree, IsTaken};
@@ -95,7 +96,7 @@ impl Table {
     }
 
     /// The row of a station at a BSSID. It takes no memory, as none of the
-    /// readers does but `denied_by` and `copy`.
+    /// readers does but `denied_by`, `denied_after`, `addresses` and `copy`.
     pub fn get(&self, bssid: Bssid, addr: Addr) -> Option<Station>
         ensures { result ≡ station_at self.now bssid addr }
     {
@@ -200,6 +201,32 @@ impl Table {
     {
         match self.bss.get(bssid) {
             Some(bss) => denials::denied(alloc, self.stations.entries(), bssid, &bss.lists, mode),
+            None => Ok(Vec::new(alloc)),
+        }
+    }
+
+    /// The addresses, rising, of all stations with a row at a BSSID.
+    pub fn addresses(&self, alloc: Global, bssid: Bssid) -> Result<Vec<Addr>, AllocError>
+        ensures { IfOk result (λ v. v.items ≡ addresses_at self.now bssid) }
+    {
+        denials::addresses(alloc, self.stations.entries(), bssid)
+    }
+
+    /// The addresses, rising, of the stations with a row at a BSSID that its policy would deny by the
+    /// lists that a change leaves.
+    pub fn denied_after(
+        &self,
+        alloc: Global,
+        bssid: Bssid,
+        change: &Change,
+    ) -> Result<Vec<Addr>, AllocError>
+        ensures { IfOk result (λ v. v.items ≡ denied_after self.now bssid change.now) }
+    {
+        match self.bss.get(bssid) {
+            Some(bss) => {
+                let rows = self.stations.entries();
+                denials::denied_after(alloc, rows, bssid, &bss.lists, bss.policy.mode, change)
+            }
             None => Ok(Vec::new(alloc)),
         }
     }
@@ -585,6 +612,25 @@ mod tests {
             (table.rows(), table.count(BSSID), table.bss_count()),
             (2, 2, 1)
         );
+        Ok(())
+    }
+
+    #[test]
+    fn addresses_are_told(rt: HostRuntime) -> Result<(), Fail> {
+        let mut table = Table::new(rt.alloc());
+        let open = policy_of(BSSID, AclMode::AcceptUnlessDenied)?;
+        assert_eq!(rt; table.apply(&open), Ok(()));
+        assert_eq!(rt; table.apply(&associated(SECOND, 1)?), Ok(()));
+        assert_eq!(rt; table.apply(&authenticated(FIRST)), Ok(()));
+        let all = table.addresses(rt.alloc(), BSSID)?;
+        assert_eq!(rt; all.as_slice(), [FIRST, SECOND].as_slice());
+        let deny = Change::ListAdd {
+            bssid: BSSID,
+            which: Which::Deny,
+            addr: SECOND,
+        };
+        let denied = table.denied_after(rt.alloc(), BSSID, &deny)?;
+        assert_eq!(rt; denied.as_slice(), [SECOND].as_slice());
         Ok(())
     }
 

@@ -1,0 +1,56 @@
+-- The addresses of the rows of a BSSID: all of them, and those that its policy denies once a list is changed.
+use Rattle.std.specs.Prelude.{Bool, not, ◌&&◌, ◌||◌, List, [], map as list_map, filter, Option, Some, None}
+use Rattle.std.specs.Ordering.{eq_by_cmp}
+use Rattle.std.specs.FinMap as map
+use Rattle.apd_base.specs.declared.address.Addr.{Addr}
+use Rattle.apd_base.specs.declared.address.Bssid.{Bssid}
+use Rattle.apd_base.specs.declared.station.AclMode.{AclMode}
+use Rattle.apd_base.specs.declared.station.Policy.{Policy}
+use Rattle.apd_base.specs.declared.station.Station.{Station}
+use Rattle.apd_base.specs.declared.station.Which.{Which}
+use Rattle.apd_base.specs.declared.station.Which.TheVariants.{Accept, Deny}
+use Rattle.apd_base.specs.Addr.{addr_cmp, bssid_cmp}
+use Rattle.apd_base.specs.State.{State, which_cmp, policy_at}
+use Rattle.apd_acl.specs.Lists.{has}
+use Rattle.apd_acl.specs.Policy.{is_allowed}
+use Rattle.apd_acl.specs.declared.lists.Lists.{Lists}
+use Rattle.apd_record.specs.Meaning.{meaning}
+use Rattle.apd_record.specs.declared.change.Change.{Change}
+use Rattle.apd_record.specs.declared.change.Change.TheVariants.{Put, Drop, ListAdd, ListDel, ListClear, Policy as SetPolicy}
+use Rattle.apd_table.specs.Allowed.{denied_by}
+use Rattle.apd_table.specs.Rows.{is_row_of}
+
+-- the addresses of all its rows, rising
+abbrev pub addresses_at : State → Bssid → List Addr
+addresses_at s b = list_map (λ row. row.0.1) (filter (is_row_of b) (map.entries s.stations))
+
+-- the stations as they are, with the lists that a change leaves
+abbrev pub with_lists_after : Change → State → State
+with_lists_after change s = record s { lists = (meaning change s).lists }
+
+-- those that a policy denies, rising; without a policy there is none
+abbrev pub denied_under : State → Bssid → Option Policy → List Addr
+denied_under s b None = []
+denied_under s b (Some policy) = denied_by s b policy.mode
+
+-- those that the policy of the BSSID denies by the lists that a change leaves
+abbrev pub denied_after : State → Bssid → Change → List Addr
+denied_after s b change = denied_under (with_lists_after change s) b (policy_at s b)
+
+-- whether two list rows are one
+abbrev pub is_list_row : Bssid → Which → Addr → Bssid → Which → Addr → Bool
+is_list_row b w a c v d = eq_by_cmp bssid_cmp b c && (eq_by_cmp which_cmp w v && eq_by_cmp addr_cmp a d)
+
+-- whether the lists of the BSSID have an address once a change is made
+abbrev pub has_after : Lists → Bssid → Change → Which → Addr → Bool
+has_after lists b (ListAdd c v d) w a = is_list_row b w a c v d || has lists w a
+has_after lists b (ListDel c v d) w a = not (is_list_row b w a c v d) && has lists w a
+has_after lists b (ListClear c v) w a = not (eq_by_cmp bssid_cmp c b && eq_by_cmp which_cmp v w) && has lists w a
+has_after lists b (Put c d station) w a = has lists w a
+has_after lists b (Drop c d) w a = has lists w a
+has_after lists b (SetPolicy c policy) w a = has lists w a
+
+-- whether a row is one of the BSSID that a mode denies once a change is made
+abbrev pub is_denied_after : Lists → AclMode → Bssid → Change → (Bssid × Addr) × Station → Bool
+is_denied_after lists mode b change row =
+    is_row_of b row && not (is_allowed mode (has_after lists b change Accept row.0.1) (has_after lists b change Deny row.0.1))
