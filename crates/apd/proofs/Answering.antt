@@ -1,43 +1,34 @@
 -- Steps, and lists of them, answer as a fold over the accepted requests.
-use Rattle.std.proofs.Common.{◌≡◌, ℕ, ◌+◌, ◌-◌, ◌^◌, ◌<◌, ◌≤◌, Bool, true, false, cond, not, ◌&&◌, ◌||◌, eqb, leb, List, [], ◌∷◌, ◌++◌, length, take, get_or, Option, Some, None, Result, Ok, Err, IfOk, OnErr, Vec, Global, ◌⊎◌, inl, inr, refl, sym, ap, subst, ◌∙◌, IsSome, append_assoc, arith, add-one}
+use Rattle.std.proofs.Common.{◌≡◌, ℕ, ◌+◌, ◌<◌, Bool, true, false, cond, not, List, [], ◌∷◌, ◌++◌, length, take, get_or, Option, Some, None, Result, Ok, Err, IfOk, OnErr, Vec, Global, ◌⊎◌, inl, inr, refl, sym, ap, subst, ◌∙◌, append_assoc, arith, add-one, length-append}
 use Rattle.std.specs.Prelude.{map as list_map, filter}
-use Rattle.std.specs.Option.{is_some, is_none}
-use Rattle.std.specs.Ordering.{eq_by_cmp}
-use Rattle.std.specs.FinMap as map
 use Rattle.std.proofs.lemmas.List.{append-nil}
-use Rattle.std.proofs.lemmas.Bool.{leb-false}
 use Rattle.std.proofs.Math.Seq.{take-suc}
-use Rattle.apd_base.specs.declared.address.Bssid.{Bssid}
-use Rattle.apd_base.specs.declared.limits.TheConstants.{MAX_BSS}
-use Rattle.apd_base.specs.Addr.{bssid_cmp}
-use Rattle.apd_base.specs.State.{State, policy_at}
+use Rattle.apd_base.specs.State.{State}
 use Rattle.apd_base.proofs.AddrLaws.{bssid_total, bssid_exact}
 use Rattle.apd_base.proofs.MapLaws.{one_or_apart, tied}
 use Rattle.apd_conf.specs.declared.conf.Conf.{Conf}
-use Rattle.apd_conf.specs.Confs.{conf_at}
 use Rattle.apd_base.specs.declared.moment.Moment.{Moment}
 use Rattle.apd_mlme.specs.Happening.{Happening}
 use Rattle.apd_mlme.specs.declared.decision.Recipient.{Recipient}
-use Rattle.apd_mlme.specs.declared.decision.Recipient.TheVariants.{Radio}
+use Rattle.apd_mlme.specs.declared.decision.Recipient.TheVariants.{Radio, Control}
 use Rattle.apd_mlme.specs.declared.decision.Out.{Out}
 use Rattle.apd_mlme.specs.Outs.{is_same, outs_to}
 use Rattle.apd_mlme.specs.Rules.{verdict, IsFit}
 use Rattle.apd_mlme.specs.Run.{run, outs_run, AreFit}
-use Rattle.apd_mlme.specs.Verdict.{is_nothing}
 use Rattle.apd_mlme.proofs.OutsLaws.{outs_to-append}
 use Rattle.apd.specs.declared.plain.Input.{Input}
 use Rattle.apd.specs.declared.plain.Accepted.{Accepted}
 use Rattle.apd.specs.declared.plain.Accepted.TheVariants.{Stopped, Quiet, Entry}
 use Rattle.apd.specs.declared.plain.QuietReason.{QuietReason}
-use Rattle.apd.specs.declared.plain.QuietReason.TheVariants as quiet
 use Rattle.apd.specs.declared.plain.Step.{Step}
-use Rattle.apd.specs.declared.plain.Step.TheVariants.{Accept, Settle, Hand}
+use Rattle.apd.specs.declared.plain.Step.TheVariants.{Accept, Settle, Hand, Ask}
 use Rattle.apd.specs.declared.plain.Told.{Told}
-use Rattle.apd.specs.declared.plain.Told.TheVariants.{Accepted as AcceptedAs, Settled, Handed, NoMemory}
+use Rattle.apd.specs.declared.plain.Told.TheVariants.{Accepted as AcceptedAs, Settled, Handed, Answered, NoMemory}
 use Rattle.apd.specs.declared.plain.World.{World}
+use Rattle.apd.specs.Heard.{LastHeard, AreMomentsOf, heard_by}
 use Rattle.apd.specs.World.{happening_of, entered_by, accepted, world_after, after_request, with_entry, with_sender, held, settled, handed}
-use Rattle.apd.specs.Steps.{IsStep, after, entered, given}
-use Rattle.apd.specs.Run.{AreSteps, IsReached, IsAnswered, Answers, all_entered, all_given}
+use Rattle.apd.specs.Steps.{IsStep, entered, given, settled_by}
+use Rattle.apd.specs.Run.{AreSteps, IsReached, IsAnswered, IsFront, Answers, all_entered, all_settled, all_given, then_settled, settled_table, settled_number}
 use Rattle.apd.proofs.Handing.{others}
 use Rattle.apd.proofs.Hearing.{after_sender, after_entry}
 
@@ -56,13 +47,51 @@ fit-append : (confs : List Conf) (es fs : List Happening) (s : State) → AreFit
 fit-append confs [] fs s a b = b
 fit-append confs (e ∷ es) fs s a b = (a.0, fit-append confs es fs (verdict s confs e).state a.1 b)
 
--- nothing happens
-same_answered : (w : World) → IsAnswered [] (λ _. []) w w
-same_answered w = record { fit = tt; front = refl; confs = refl; outs = λ r. sym (append-nil (held r w)); moments = λ h. h }
+-- what was settled, of what happened in two parts
+then_front : (es fs : List Happening) (s t : Option (List Happening)) → IsFront s es → IsFront t fs → IsFront (then_settled es s t) (es ++ fs)
+then_front es fs None None a b = tt
+then_front es fs (Some front) None a b = (a.0 ++ fs, ap (λ hs. hs ++ fs) a.1 ∙ append_assoc front a.0 fs)
+then_front es fs None (Some more) a b = (b.0, ap (λ hs. es ++ hs) b.1 ∙ sym (append_assoc es more b.0))
+then_front es fs (Some front) (Some more) a b = (b.0, ap (λ hs. es ++ hs) b.1 ∙ sym (append_assoc es more b.0))
+
+then_table : (es : List Happening) (s t : Option (List Happening)) (a b c : World) → b.front ≡ run a.front a.confs es → b.confs ≡ a.confs
+    → b.settled ≡ settled_table a s → c.settled ≡ settled_table b t → c.settled ≡ settled_table a (then_settled es s t)
+then_table es s None a b c front confs past step = step ∙ past
+then_table es s (Some more) a b c front confs past step = step ∙ (λ i. run (front i) (confs i) more) ∙ sym (run-append a.confs es more a.front)
+
+then_last : (n : ℕ) (es fs : List Happening) → (n + length es) + length fs ≡ n + length (es ++ fs)
+then_last n es fs = omega (arith, length-append es fs)
+
+then_number : (es : List Happening) (s t : Option (List Happening)) (a b c : World) → b.last ≡ a.last + length es
+    → b.settled_last ≡ settled_number a s → c.settled_last ≡ settled_number b t → c.settled_last ≡ settled_number a (then_settled es s t)
+then_number es s None a b c last past step = step ∙ past
+then_number es s (Some more) a b c last past step = step ∙ ap (λ n. n + length more) last ∙ then_last a.last es more
+
+-- nothing happens, and nothing is settled
+same_last : (n : ℕ) → n ≡ n + 0
+same_last n = omega arith
+
+-- only the moments change
+heard_answered : (w : World) (heard : LastHeard) → (AreMomentsOf w.front w.heard → AreMomentsOf w.front heard) → IsAnswered [] None (λ _. []) w (record w { heard = heard })
+heard_answered w heard moments = record {
+  fit = tt;
+  front = refl;
+  confs = refl;
+  outs = λ r. sym (append-nil (held r w));
+  last = same_last w.last;
+  settled_front = tt;
+  settled_table = refl;
+  settled_last = refl;
+  moments = moments;
+}
+
+same_answered : (w : World) → IsAnswered [] None (λ _. []) w w
+same_answered w = heard_answered w w.heard (λ h. h)
 
 -- one after the other
-then_answered : (es fs : List Happening) (g h : Recipient → List Out) (a b c : World) → IsAnswered es g a b → IsAnswered fs h b c → IsAnswered (es ++ fs) (λ r. g r ++ h r) a c
-then_answered es fs g h a b c past step =
+then_answered : (es fs : List Happening) (s t : Option (List Happening)) (g h : Recipient → List Out) (a b c : World) → IsAnswered es s g a b → IsAnswered fs t h b c
+    → IsAnswered (es ++ fs) (then_settled es s t) (λ r. g r ++ h r) a c
+then_answered es fs s t g h a b c past step =
     let confs = past.confs in
     let at : (fs : List Happening) → run b.front b.confs fs ≡ run (run a.front a.confs es) a.confs fs = λ fs. λ i. run (past.front i) (confs i) fs in
     record {
@@ -77,11 +106,15 @@ then_answered es fs g h a b c past step =
           ∙ append_assoc (held r a) (outs_run r a.front a.confs es) (outs_run r b.front b.confs fs)
           ∙ (λ i. held r a ++ (outs_run r a.front a.confs es ++ outs_run r (past.front i) (confs i) fs))
           ∙ ap (λ os. held r a ++ os) (sym (outs_run-append r a.confs es fs a.front));
+      last = step.last ∙ ap (λ n. n + length fs) past.last ∙ then_last a.last es fs;
+      settled_front = then_front es fs s t past.settled_front step.settled_front;
+      settled_table = then_table es s t a b c past.front confs past.settled_table step.settled_table;
+      settled_last = then_number es s t a b c past.last past.settled_last step.settled_last;
       moments = λ h. step.moments (past.moments h);
     }
 
 -- an entry is held for its recipients
-entry_answered : (w : World) (m : Moment) (e : Happening) → IsFit w.front w.confs e → IsAnswered (e ∷ []) (λ _. []) w (with_sender m e (with_entry w m e))
+entry_answered : (w : World) (m : Moment) (e : Happening) → IsFit w.front w.confs e → IsAnswered (e ∷ []) None (λ _. []) w (with_sender m e (with_entry w m e))
 entry_answered w m e fit = record {
   fit = (fit, tt);
   front = refl;
@@ -90,16 +123,20 @@ entry_answered w m e fit = record {
       ap (outs_to r) (sym (append_assoc w.released w.waiting (verdict w.front w.confs e).outs))
       ∙ outs_to-append r (w.released ++ w.waiting) (verdict w.front w.confs e).outs
       ∙ ap (λ os. held r w ++ os) (sym (append-nil (outs_to r (verdict w.front w.confs e).outs)));
+  last = refl;
+  settled_front = tt;
+  settled_table = refl;
+  settled_last = refl;
   moments = after_entry m w.confs e w.front w.heard;
 }
 
 -- a frame that is no entry is heard
-quiet_answered : (w : World) (m : Moment) (e : Happening) → IsAnswered [] (λ _. []) w (with_sender m e w)
-quiet_answered w m e = record { fit = tt; front = refl; confs = refl; outs = λ r. sym (append-nil (held r w)); moments = after_sender m e w.front w.heard }
+quiet_answered : (w : World) (m : Moment) (e : Happening) → IsAnswered [] None (λ _. []) w (with_sender m e w)
+quiet_answered w m e = heard_answered w (heard_by m e w.heard) (after_sender m e w.front w.heard)
 
 -- the world after a request by its answer
 request_entered : (w : World) (m : Moment) (asked : Result Happening QuietReason) (answer : Accepted) → AreFit w.front w.confs (entered_by answer asked)
-    → IsAnswered (entered_by answer asked) (λ _. []) w (world_after w m asked answer)
+    → IsAnswered (entered_by answer asked) None (λ _. []) w (world_after w m asked answer)
 request_entered w m (Ok e) (Entry k) fit = entry_answered w m e fit.0
 request_entered w m (Err reason) (Entry k) fit = same_answered w
 request_entered w m (Ok e) Stopped fit = same_answered w
@@ -108,26 +145,34 @@ request_entered w m (Ok e) (Quiet why) fit = quiet_answered w m e
 request_entered w m (Err reason) (Quiet why) fit = same_answered w
 
 request_answered : (w : World) (m : Moment) (i : Input) (answer : Accepted) (new : World) → answer ≡ accepted w m i → new ≡ after_request w m i
-    → AreFit w.front w.confs (entered_by answer (happening_of w m i)) → IsAnswered (entered_by answer (happening_of w m i)) (λ _. []) w new
+    → AreFit w.front w.confs (entered_by answer (happening_of w m i)) → IsAnswered (entered_by answer (happening_of w m i)) None (λ _. []) w new
 request_answered w m i answer new told is fit =
-    subst (λ n. IsAnswered (entered_by answer (happening_of w m i)) (λ _. []) w n) (sym (is ∙ ap (world_after w m (happening_of w m i)) (sym told)))
+    subst (λ n. IsAnswered (entered_by answer (happening_of w m i)) None (λ _. []) w n) (sym (is ∙ ap (world_after w m (happening_of w m i)) (sym told)))
     (request_entered w m (happening_of w m i) answer fit)
 
-settle_answered : (w new : World) → new ≡ settled w → IsAnswered [] (λ _. []) w new
-settle_answered w new is = subst (λ n. IsAnswered [] (λ _. []) w n) (sym is) (record {
+settle_answered : (w new : World) → new ≡ settled w → IsAnswered [] (Some []) (λ _. []) w new
+settle_answered w new is = subst (λ n. IsAnswered [] (Some []) (λ _. []) w n) (sym is) (record {
   fit = tt;
   front = refl;
   confs = refl;
   outs = λ r. ap (outs_to r) (append-nil (w.released ++ w.waiting)) ∙ sym (append-nil (held r w));
+  last = same_last w.last;
+  settled_front = ([], refl);
+  settled_table = refl;
+  settled_last = same_last w.last;
   moments = λ h. h;
 })
 
 -- what is handed to a recipient and what is kept
 same_recipient : (r q : Recipient) → (r ≡ q) ⊎ (is_same r q ≡ false)
 same_recipient (Radio b) (Radio c) = elim (one_or_apart bssid_total bssid_exact b c) [ inl same ↦ inl (ap Radio same) | inr apart ↦ inr apart ]
+same_recipient (Radio b) Control = inr refl
+same_recipient Control (Radio c) = inr refl
+same_recipient Control Control = inl refl
 
 itself : (r : Recipient) → is_same r r ≡ true
 itself (Radio b) = tied bssid_total bssid_exact b
+itself Control = refl
 
 differ : {A : Type 0} (t : Bool) → t ≡ false → t ≡ true → A
 differ t f h = cc
@@ -176,38 +221,50 @@ hand_outs q r w =
     ∙ sym (outs_to-append r w.released w.waiting)
     ∙ sym (append-nil (held r w))
 
-hand_answered : (q : Recipient) (outs : List Out) (w new : World) → outs ≡ outs_to q w.released → new ≡ handed q w → IsAnswered [] (λ r. given r (Handed q outs)) w new
+hand_answered : (q : Recipient) (outs : List Out) (w new : World) → outs ≡ outs_to q w.released → new ≡ handed q w → IsAnswered [] None (λ r. given r (Handed q outs)) w new
 hand_answered q outs w new told is =
-    subst (λ n. IsAnswered [] (λ r. given r (Handed q outs)) w n) (sym is) (subst (λ os. IsAnswered [] (λ r. given r (Handed q os)) w (handed q w)) (sym told) (record {
+    subst (λ n. IsAnswered [] None (λ r. given r (Handed q outs)) w n) (sym is) (subst (λ os. IsAnswered [] None (λ r. given r (Handed q os)) w (handed q w)) (sym told) (record {
       fit = tt;
       front = refl;
       confs = refl;
       outs = λ r. hand_outs q r w;
+      last = same_last w.last;
+      settled_front = tt;
+      settled_table = refl;
+      settled_last = refl;
       moments = λ h. h;
     }))
 
-lack_answered : (w new : World) → new ≡ w → IsAnswered [] (λ _. []) w new
-lack_answered w new is = subst (λ n. IsAnswered [] (λ _. []) w n) (sym is) (same_answered w)
+lack_answered : (w new : World) → new ≡ w → IsAnswered [] None (λ _. []) w new
+lack_answered w new is = subst (λ n. IsAnswered [] None (λ _. []) w n) (sym is) (same_answered w)
 
-step_answered : (x : Step) (t : Told) (a b : World) → IsStep x t a b → IsAnswered (entered x t a) (λ r. given r t) a b
+step_answered : (x : Step) (t : Told) (a b : World) → IsStep x t a b → IsAnswered (entered x t a) (settled_by t) (λ r. given r t) a b
 step_answered (Accept i m) (AcceptedAs answer) a b h = request_answered a m i answer b h.0.0 h.1 h.0.1
 step_answered (Accept i m) NoMemory a b h = lack_answered a b h.1
 step_answered Settle Settled a b h = settle_answered a b h.1
 step_answered Settle NoMemory a b h = lack_answered a b h.1
-step_answered (Hand q) (Handed p outs) a b h = subst (λ z. IsAnswered [] (λ r. given r (Handed z outs)) a b) (sym h.0.0) (hand_answered q outs a b h.0.1 h.1)
+step_answered (Hand q) (Handed p outs) a b h = subst (λ z. IsAnswered [] None (λ r. given r (Handed z outs)) a b) (sym h.0.0) (hand_answered q outs a b h.0.1 h.1)
 step_answered (Hand q) NoMemory a b h = lack_answered a b h.1
+step_answered (Ask q) (Answered answer) a b h = lack_answered a b h.1
+step_answered (Ask q) NoMemory a b h = lack_answered a b h.1
 step_answered (Accept i m) Settled a b h = absurd h.0
 step_answered (Accept i m) (Handed q outs) a b h = absurd h.0
+step_answered (Accept i m) (Answered answer) a b h = absurd h.0
 step_answered Settle (AcceptedAs answer) a b h = absurd h.0
 step_answered Settle (Handed q outs) a b h = absurd h.0
+step_answered Settle (Answered answer) a b h = absurd h.0
 step_answered (Hand q) (AcceptedAs answer) a b h = absurd h.0
 step_answered (Hand q) Settled a b h = absurd h.0
+step_answered (Hand q) (Answered answer) a b h = absurd h.0
+step_answered (Ask q) (AcceptedAs answer) a b h = absurd h.0
+step_answered (Ask q) Settled a b h = absurd h.0
+step_answered (Ask q) (Handed r outs) a b h = absurd h.0
 
 pub steps_answered : (steps : List Step) (tolds : List Told) (a c : World) → AreSteps steps tolds a c → Answers steps tolds a c
 steps_answered [] [] a c h = lack_answered a c h
 steps_answered (x ∷ xs) (t ∷ ts) a c h =
-    subst (λ w. IsAnswered (entered x t a ++ all_entered xs ts w) (λ r. all_given r (t ∷ ts)) a c) h.1.1
-    (then_answered (entered x t a) (all_entered xs ts h.0) (λ r. given r t) (λ r. all_given r ts) a h.0 c (step_answered x t a h.0 h.1) (steps_answered xs ts h.0 c h.2))
+    subst (λ w. IsAnswered (entered x t a ++ all_entered xs ts w) (then_settled (entered x t a) (settled_by t) (all_settled xs ts w)) (λ r. all_given r (t ∷ ts)) a c) h.1.1
+    (then_answered (entered x t a) (all_entered xs ts h.0) (settled_by t) (all_settled xs ts h.0) (λ r. given r t) (λ r. all_given r ts) a h.0 c (step_answered x t a h.0 h.1) (steps_answered xs ts h.0 c h.2))
 steps_answered [] (t ∷ ts) a c h = absurd h
 steps_answered (x ∷ xs) [] a c h = absurd h
 
@@ -231,6 +288,9 @@ reached_itself w = record { steps = []; tolds = []; taken = refl }
 
 pub reached_unchanged : (a b : World) → b ≡ a → IsReached a b
 reached_unchanged a b e = record { steps = []; tolds = []; taken = e }
+
+pub reached_by_step : (x : Step) (t : Told) (a b c : World) → IsStep x t a b → c ≡ b → IsReached a c
+reached_by_step x t a b c h e = record { steps = x ∷ []; tolds = t ∷ []; taken = (b, h, e) }
 
 steps_append : (xs ys : List Step) (ts us : List Told) (a b c : World) → AreSteps xs ts a b → AreSteps ys us b c → AreSteps (xs ++ ys) (ts ++ us) a c
 steps_append [] ys [] us a b c past more = subst (λ w. AreSteps ys us w c) past more

@@ -1,5 +1,5 @@
 -- Outs that are parted into those of a recipient and the others.
-use Rattle.std.proofs.Common.{◌≡◌, ℕ, ◌+◌, ◌<◌, ◌≤◌, Bool, true, false, cond, not, List, [], ◌∷◌, ◌++◌, length, refl, sym, ap, ◌∙◌, arith, length-append}
+use Rattle.std.proofs.Common.{◌≡◌, ◌<◌, true, false, cond, not, List, [], ◌∷◌, ◌++◌, length, refl, ap, ◌∙◌, arith, length-append}
 use Rattle.std.specs.Prelude.{map as list_map, filter}
 use Rattle.std.proofs.lemmas.List.{append-nil}
 use Rattle.apd_mlme.specs.declared.decision.Recipient.{Recipient}

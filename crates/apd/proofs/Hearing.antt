@@ -1,20 +1,18 @@
 -- The moments at which stations were heard, and the rows of the table.
-use Rattle.std.proofs.Common.{◌≡◌, ℕ, ◌+◌, ◌<◌, Bool, true, false, cond, List, [], ◌∷◌, length, drop, get_or, Option, Some, None, is_some, ◌⊎◌, inl, inr, refl, sym, ap, subst, ◌∙◌, add-one}
+use Rattle.std.proofs.Common.{◌≡◌, ℕ, ◌+◌, ◌<◌, Bool, true, false, cond, List, [], ◌∷◌, length, drop, get_or, Option, Some, None, is_some, inl, inr, refl, sym, ap, subst, ◌∙◌, add-one}
 use Rattle.std.proofs.Math.Seq.{drop-cons}
 use Rattle.std.specs.Ordering.{eq_by_cmp}
 use Rattle.std.specs.FinMap as maps
-use Rattle.std.specs.FinMap.{FinMap}
 use Rattle.apd_base.specs.Addr.{station_cmp}
 use Rattle.apd_base.specs.State.{State, empty_state, station_at}
 use Rattle.apd_base.specs.declared.address.Addr.{Addr}
 use Rattle.apd_base.specs.declared.address.Bssid.{Bssid}
 use Rattle.apd_base.specs.declared.moment.Moment.{Moment}
-use Rattle.apd_base.specs.declared.station.Station.{Station}
 use Rattle.apd_base.proofs.AddrLaws.{station_total, station_exact}
 use Rattle.apd_base.proofs.MapLaws.{one_or_apart, get_inserted, get_insert_other}
 use Rattle.apd_conf.specs.declared.conf.Conf.{Conf}
 use Rattle.apd_frame.specs.Contents.{sender_of}
-use Rattle.apd_mlme.specs.Happening.{Happening, Heard, Expire, Configure}
+use Rattle.apd_mlme.specs.Happening.{Happening, Heard, Kick, ListEdit, Expire, Configure}
 use Rattle.apd_mlme.specs.Rules.{verdict}
 use Rattle.apd_mlme.proofs.VerdictLaws.{meaning_in}
 use Rattle.apd_record.specs.declared.change.Change.{Change}
@@ -79,6 +77,8 @@ module _ (m : Moment) where
 
   pub after_sender : (x : Happening) (s : State) (heard : LastHeard) → AreMomentsOf s heard → AreMomentsOf s (heard_by m x heard)
   after_sender (Heard b frame) s heard h = from_station s b (sender_of frame) heard h
+  after_sender (Kick b to reason deauth tag) s heard h = h
+  after_sender (ListEdit b which edit tag) s heard h = h
   after_sender (Expire b a) s heard h = h
   after_sender (Configure b accept deny) s heard h = h
 

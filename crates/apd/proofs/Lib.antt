@@ -4,4 +4,5 @@ pub mod Changing
 pub mod Configuring
 pub mod Handing
 pub mod Hearing
+pub mod Speaking
 pub mod Ticking

@@ -2,7 +2,6 @@
 use Rattle.std.proofs.Common.{◌≡◌, ℕ, ◌+◌, ◌-◌, ◌^◌, Bool, true, false, cond, eqb, List, [], ◌∷◌, Option, Some, None, is_some, is_none, Ok, IsSome, refl, sym, ap, subst, ◌∙◌, T}
 use Rattle.std.specs.List.{find}
 use Rattle.std.specs.Option.{option_map}
-use Rattle.std.specs.Ordering.{eq_by_cmp}
 use Rattle.std.specs.FinMap as maps
 use Rattle.apd_base.specs.Addr.{station_cmp}
 use Rattle.apd_base.specs.State.{State, policy_at, station_at}
@@ -25,7 +24,7 @@ use Rattle.apd.specs.declared.plain.Accepted.{Accepted}
 use Rattle.apd.specs.declared.plain.Accepted.TheVariants.{Stopped, Quiet, Entry}
 use Rattle.apd.specs.declared.plain.Input.TheVariants.{Tick}
 use Rattle.apd.specs.declared.plain.QuietReason.{QuietReason}
-use Rattle.apd.specs.declared.plain.QuietReason.TheVariants.{Nothing, NoInterface, NoPolicy, TooManyBss}
+use Rattle.apd.specs.declared.plain.QuietReason.TheVariants.{Nothing, NoInterface, NoPolicy}
 use Rattle.apd.specs.declared.plain.World.{World}
 use Rattle.apd.specs.Heard.{AreMomentsOf, due, is_due, is_too_long, silence}
 use Rattle.apd.specs.World.{accepted, answer_to, answer_to_fit, expiry, unfit}

@@ -14,7 +14,7 @@ use Rattle.apd_base.specs.declared.moment.Moment.{Moment}
 use Rattle.apd_conf.specs.declared.conf.Conf.{Conf}
 use Rattle.apd_conf.specs.Confs.{conf_at}
 use Rattle.apd_frame.specs.Contents.{sender_of}
-use Rattle.apd_mlme.specs.Happening.{Happening, Heard, Expire, Configure}
+use Rattle.apd_mlme.specs.Happening.{Happening, Heard, Kick, ListEdit, Expire, Configure}
 use Rattle.apd_record.specs.declared.change.Change.{Change}
 use Rattle.apd_record.specs.declared.change.Change.TheVariants.{Put, Drop, ListAdd, ListDel, ListClear, Policy}
 
@@ -46,6 +46,8 @@ heard_from m b a heard = if maps.contains_key heard (b, a) then maps.insert hear
 -- by a frame its sender is heard, whatever it is answered; nobody is by anything else
 abbrev pub heard_by : Moment → Happening → LastHeard → LastHeard
 heard_by m (Heard b frame) heard = heard_from m b (sender_of frame) heard
+heard_by m (Kick b to reason deauth tag) heard = heard
+heard_by m (ListEdit b which edit tag) heard = heard
 heard_by m (Expire b a) heard = heard
 heard_by m (Configure b accept deny) heard = heard
 

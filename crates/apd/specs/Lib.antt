@@ -1,6 +1,8 @@
 pub mod Configured
 pub mod Heard
+pub mod Meant
 pub mod Run
+pub mod Spoken
 pub mod Start
 pub mod Steps
 pub mod Texts

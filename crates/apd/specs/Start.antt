@@ -2,19 +2,23 @@
 use Rattle.std.specs.Prelude.{◌≡◌, List, [], ◌∷◌, ◌++◌, map, Option, None, Some, Result, Ok}
 use Rattle.apd_base.specs.declared.moment.Moment.{Moment}
 use Rattle.apd_conf.specs.declared.conf.Conf.{Conf}
-use Rattle.apd_mlme.specs.declared.decision.Recipient.TheVariants.{Radio}
+use Rattle.apd_mlme.specs.declared.decision.Recipient.TheVariants.{Radio, Control}
 use Rattle.apd_mlme.specs.Happening.{Happening, Configure}
 use Rattle.apd.specs.declared.plain.QuietReason.{QuietReason}
 use Rattle.apd.specs.declared.plain.Step.{Step}
-use Rattle.apd.specs.declared.plain.Step.TheVariants.{Accept, Settle, Hand}
+use Rattle.apd.specs.declared.plain.Step.TheVariants.{Accept, Settle, Hand, Ask}
 use Rattle.apd.specs.declared.plain.Told.{Told}
 use Rattle.apd.specs.declared.plain.World.{World}
 use Rattle.apd.specs.World.{said_by}
 use Rattle.apd.specs.Run.{AreSteps, Answers}
 
 -- each radio is handed what was settled for it
+abbrev pub radio_steps : List Conf → List Step
+radio_steps confs = map (λ conf. Hand (Radio conf.bssid)) confs
+
+-- and then whoever gave control commands
 abbrev pub hand_steps : List Conf → List Step
-hand_steps confs = map (λ conf. Hand (Radio conf.bssid)) confs
+hand_steps confs = radio_steps confs ++ Hand Control ∷ []
 
 -- all entries are settled before
 abbrev pub flush_steps : List Conf → List Step
@@ -25,6 +29,7 @@ abbrev pub asked : Step → Option (Option (Result Happening QuietReason) × Mom
 asked (Accept i m) = Some (said_by i, m)
 asked Settle = None
 asked (Hand r) = None
+asked (Ask q) = None
 
 -- each interface is to start with its lists at a moment, in the order of the configurations
 abbrev pub AreStarts : List Conf → Moment → List Step → Type 0

@@ -1,5 +1,5 @@
 -- The daemon in memory, and what each of its calls answers and leaves.
-use Rattle.std.specs.Prelude.{◌≡◌, ℕ, ◌+◌, ◌-◌, ◌^◌, Bool, true, false, not, ◌&&◌, ◌==◌, nat_le, List, [], ◌∷◌, ◌++◌, filter, Option, None, Some, is_none, Result, Ok, Err, if◌then◌else◌}
+use Rattle.std.specs.Prelude.{◌≡◌, ◌+◌, ◌-◌, ◌^◌, Bool, false, not, ◌&&◌, ◌==◌, nat_le, List, [], ◌∷◌, ◌++◌, filter, Option, None, Some, is_none, Result, Ok, Err, if◌then◌else◌}
 use Rattle.std.specs.FinMap as maps
 use Rattle.apd_base.specs.declared.address.Addr.{Addr}
 use Rattle.apd_base.specs.declared.address.Bssid.{Bssid}
@@ -13,11 +13,13 @@ use Rattle.apd_frame.specs.Contents.{Contents}
 use Rattle.apd_frame.specs.Outcome.{outcome}
 use Rattle.apd_frame.specs.declared.reasons.Ignored.{Ignored}
 use Rattle.apd_mlme.specs.declared.event.Event.{Event}
-use Rattle.apd_mlme.specs.Happening.{Happening, Heard, Expire, Configure, happening, bssid_of}
+use Rattle.apd_ctrl.specs.Texts.{text}
+use Rattle.apd_ctrl.specs.declared.command.Query.{Query}
+use Rattle.apd_mlme.specs.Happening.{Happening, Heard, Kick, ListEdit, Expire, Configure, happening, bssid_of}
 use Rattle.apd_mlme.specs.declared.decision.Recipient.{Recipient}
 use Rattle.apd_mlme.specs.declared.decision.Out.{Out}
 use Rattle.apd_mlme.specs.Outs.{is_same, outs_to}
-use Rattle.apd_mlme.specs.Verdict.{Verdict, is_nothing}
+use Rattle.apd_mlme.specs.Verdict.{is_nothing}
 use Rattle.apd_mlme.specs.Rules.{verdict}
 use Rattle.apd.specs.declared.plain.Input.{Input}
 use Rattle.apd.specs.declared.plain.Input.TheVariants as input
@@ -25,12 +27,13 @@ use Rattle.apd.specs.declared.plain.QuietReason.{QuietReason}
 use Rattle.apd.specs.declared.plain.QuietReason.TheVariants as quiet
 use Rattle.apd.specs.declared.plain.Accepted.{Accepted}
 use Rattle.apd.specs.declared.plain.Accepted.TheVariants.{Stopped, Quiet, Entry}
+use Rattle.apd.specs.declared.plain.Answer.{Answer}
 use Rattle.apd.specs.declared.plain.World.{World}
 use Rattle.apd.specs.Heard.{due, heard_by, heard_by_changes}
 
 -- no row, no entry, nothing to hand out
 abbrev pub new_world : List Conf → World
-new_world confs = record { confs = confs; front = empty_state; heard = maps.empty; last = 0; released = []; waiting = [] }
+new_world confs = record { confs = confs; front = empty_state; heard = maps.empty; last = 0; settled = empty_state; settled_last = 0; released = []; waiting = [] }
 
 -- what is held for a recipient, in order: nobody was given it yet
 abbrev pub held : Recipient → World → List Out
@@ -44,9 +47,18 @@ abbrev pub expiry : Option (Bssid × Addr) → Result Happening QuietReason
 expiry None = Err quiet.Nothing
 expiry (Some row) = Ok (Expire row.0 row.1)
 
+-- a control command; any other event is none
+abbrev pub ordered : Happening → Result Happening QuietReason
+ordered (Kick b to reason deauth tag) = Ok (Kick b to reason deauth tag)
+ordered (ListEdit b which edit tag) = Ok (ListEdit b which edit tag)
+ordered (Heard b frame) = Err quiet.Nothing
+ordered (Expire b a) = Err quiet.Nothing
+ordered (Configure b accept deny) = Err quiet.Nothing
+
 -- what a request says, whatever the world is, or why it is no entry; a tick says nothing
 abbrev pub said_by : Input → Option (Result Happening QuietReason)
 said_by (input.Received b bytes) = Some (unless_ignored b (outcome bytes.now b))
+said_by (input.Order event) = Some (ordered (happening event))
 said_by input.Tick = None
 said_by (input.Configure b accept deny) = Some (Ok (Configure b accept.now deny.now))
 
@@ -66,17 +78,23 @@ happened (Err reason) = Err reason
 -- the lists of a start are as list files give them
 abbrev pub HasLists : Happening → Type 0
 HasLists (Heard b frame) = Unit {0}
+HasLists (Kick b to reason deauth tag) = Unit {0}
+HasLists (ListEdit b which edit tag) = Unit {0}
 HasLists (Expire b a) = Unit {0}
 HasLists (Configure b accept deny) = IsList accept × IsList deny
 
 -- whether there is no verdict for want of the BSSID's policy row
 abbrev pub lacks_policy : State → Happening → Bool
 lacks_policy s (Heard b frame) = is_none (policy_at s b)
+lacks_policy s (Kick b to reason deauth tag) = is_none (policy_at s b)
+lacks_policy s (ListEdit b which edit tag) = is_none (policy_at s b)
 lacks_policy s (Expire b a) = is_none (policy_at s b)
 lacks_policy s (Configure b accept deny) = false
 
 abbrev pub is_one_too_many : State → Happening → Bool
 is_one_too_many s (Heard b frame) = false
+is_one_too_many s (Kick b to reason deauth tag) = false
+is_one_too_many s (ListEdit b which edit tag) = false
 is_one_too_many s (Expire b a) = false
 is_one_too_many s (Configure b accept deny) = is_none (policy_at s b) && nat_le MAX_BSS (maps.len s.policies)
 
@@ -112,7 +130,11 @@ with_sender m h w = record w { heard = heard_by m h w.heard }
 
 -- once all entries are settled
 abbrev pub settled : World → World
-settled w = record w { released = w.released ++ w.waiting; waiting = [] }
+settled w = record w { settled = w.front; settled_last = w.last; released = w.released ++ w.waiting; waiting = [] }
+
+-- the answer to a query: it speaks of the settled entries
+abbrev pub answer_to_query : World → Query → Answer
+answer_to_query w q = record { query = q; text = text w.settled w.confs q; number = w.settled_last }
 
 -- once a recipient was given what was settled for it
 abbrev pub handed : Recipient → World → World

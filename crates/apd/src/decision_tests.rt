@@ -91,7 +91,7 @@ fn authenticate(
 fn is_frame(out: &Out, want: &[u8]) -> bool {
     match out {
         Out::Frame(frame) => frame.as_slice() == want,
-        Out::Install(..) | Out::Remove(_) => false,
+        Out::Install(..) | Out::Remove(_) | Out::Text(..) => false,
     }
 }
 
@@ -226,7 +226,7 @@ fn the_2008th_station_finds_no_room(rt: HostRuntime) -> Result<(), Fail> {
 fn is_removal(out: &Out, station: Addr) -> bool {
     match out {
         Out::Remove(addr) => *addr == station,
-        Out::Install(..) | Out::Frame(_) => false,
+        Out::Install(..) | Out::Frame(_) | Out::Text(..) => false,
     }
 }
 

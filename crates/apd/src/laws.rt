@@ -1,18 +1,33 @@
 //! What a reader may rely on, whatever the daemon is asked: each law is the contract of a function that
 //! does nothing.
-ghost use Rattle.std.specs.Prelude.{◌≡◌, None};
+ghost use Rattle.std.specs.Prelude.{◌≡◌, List, None};
 ghost use Rattle.apd_base.specs.declared.moment.Moment.{Moment};
+ghost use Rattle.apd_ctrl.specs.declared.command.Query.{Query};
 ghost use Rattle.apd_table.specs.Sound.{Sound};
 ghost use Rattle.apd.specs.Heard.{AreMomentsOf, due};
+ghost use Rattle.apd.specs.Run.{AreSteps};
+ghost use Rattle.apd.specs.Spoken.{SpeaksOfSettled};
+ghost use Rattle.apd.specs.Steps.{IsStep};
 ghost use Rattle.apd.specs.World.{accepted};
 ghost use Rattle.apd.specs.declared.plain.Accepted.TheVariants.{Quiet};
+ghost use Rattle.apd.specs.declared.plain.Answer.{Answer};
 ghost use Rattle.apd.specs.declared.plain.Input.TheVariants.{Tick};
 ghost use Rattle.apd.specs.declared.plain.QuietReason.{QuietReason};
 ghost use Rattle.apd.specs.declared.plain.QuietReason.TheVariants.{Nothing};
+ghost use Rattle.apd.specs.declared.plain.Step.{Step};
+ghost use Rattle.apd.specs.declared.plain.Step.TheVariants.{Ask};
+ghost use Rattle.apd.specs.declared.plain.Told.{Told};
+ghost use Rattle.apd.specs.declared.plain.Told.TheVariants.{Answered};
 ghost use Rattle.apd.specs.declared.plain.World.{World};
 
 /// A tick is quiet for one reason alone, that no station is due: one that is due stands at a BSSID that is
 /// configured and has a policy row, and goes by an entry.
 pub fn a_tick_is_quiet_where_nothing_is_due()
     ensures { (w : World) (m : Moment) → Sound w.front → AreMomentsOf w.front w.heard → (reason : QuietReason) → accepted w m Tick ≡ Quiet reason → (reason ≡ Nothing) × (due w.confs m w.heard ≡ None) }
+{}
+
+/// After any steps a query is answered from the table after all that they settled, a front of the accepted
+/// requests: the answer has that table's text, and the number of the last request that it speaks of.
+pub fn a_query_speaks_of_what_was_settled()
+    ensures { (steps : List Step) (tolds : List Told) (old mid new : World) (query : Query) (answer : Answer) → AreSteps steps tolds old mid → IsStep (Ask query) (Answered answer) mid new → (answer.query ≡ query) × SpeaksOfSettled steps tolds old answer }
 {}

@@ -3,6 +3,8 @@
 
 #[cfg(test)]
 mod association_tests;
+#[cfg(test)]
+mod command_tests;
 mod configuration_files;
 #[cfg(test)]
 mod configuration_tests;
@@ -34,31 +36,39 @@ use std::rt::{Env, Files};
 use store_file::{FormatFault, format_file};
 use thiserror::Error;
 
-/// The command line.
-fn command<'a>(alloc: Global) -> Result<Command<'a>, AllocError> {
+/// The subcommand that runs a script.
+fn script_command<'a>(alloc: Global) -> Result<Command<'a>, AllocError> {
     let files = Arg::new(alloc, "CONF")
         .num_args(0..)
         .action(ArgAction::Append)
         .help(
             "Configuration files, one for each interface; the built-in configuration without any",
         );
-    let script = Command::new(alloc, "script")
+    Command::new(alloc, "script")
         .about("Runs a script from standard input on a daemon in memory")
-        .arg(files)?;
+        .arg(files)
+}
+
+/// The subcommand that makes a store.
+fn format_command<'a>(alloc: Global) -> Result<Command<'a>, AllocError> {
     let store = Arg::new(alloc, "STORE")
         .required(true)
         .help("The store's file, which is made where there is none");
-    let format = Command::new(alloc, "format")
+    Command::new(alloc, "format")
         .about("Makes a file a store of the empty table, whatever store it was")
-        .arg(store)?;
-    Ok(
-        Command::new(alloc, "apd")
-            .bin_name("apd")?
-            .about("An access point daemon whose promises are proved")
-            .subcommand_required(true)
-            .subcommand(format)?
-            .subcommand(script)?,
-    )
+        .arg(store)
+}
+
+/// The command line.
+fn command<'a>(alloc: Global) -> Result<Command<'a>, AllocError> {
+    let format = format_command(alloc)?;
+    let script = script_command(alloc)?;
+    Command::new(alloc, "apd")
+        .bin_name("apd")?
+        .about("An access point daemon whose promises are proved")
+        .subcommand_required(true)
+        .subcommand(format)?
+        .subcommand(script)
 }
 
 /// What ends the program with status 1.

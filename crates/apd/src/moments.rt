@@ -155,7 +155,10 @@ impl Moments {
     {
         match event {
             Event::Heard(bssid, frame) => self.hear(bssid, frame.sender(), moment),
-            Event::Expire { .. } | Event::Configure { .. } => {}
+            Event::Kick { .. }
+            | Event::ListEdit { .. }
+            | Event::Expire { .. }
+            | Event::Configure { .. } => {}
         }
     }
 

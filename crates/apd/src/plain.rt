@@ -8,13 +8,14 @@ ghost use Rattle.apd_mlme.specs.Outs.{outs_to};
 ghost use Rattle.apd_mlme.specs.Happening.{happening};
 ghost use Rattle.apd_mlme.specs.Rules.{IsFit};
 ghost use Rattle.apd.specs.Run.{AreSteps, Answers};
-ghost use Rattle.apd.specs.Start.{AreStarts, AreStartSteps, hand_steps, flush_steps};
-ghost use Rattle.apd.specs.World.{happened, happening_of, expiry, said_by, HasLists, unfit};
+ghost use Rattle.apd.specs.Start.{AreStarts, AreStartSteps, radio_steps, hand_steps, flush_steps};
+ghost use Rattle.apd.specs.World.{happened, happening_of, expiry, ordered, said_by, HasLists, unfit};
 
 use crate::moments::Moments;
 use apd_base::limits::MAX_BSS;
 use apd_base::{Addr, Bssid, Moment, Sequence};
 use apd_conf::{AddressList, Confs};
+use apd_ctrl::{Query, reply};
 use apd_frame::{Ignored, decode};
 use apd_mlme::{Decision, Event, Out, Recipient, decide};
 use apd_record::Change;
@@ -27,6 +28,8 @@ use std::{fmt, mem};
 pub enum Input<'a> {
     /// The radio of the BSSID received these bytes, without their frame check sequence.
     Received(Bssid, &'a [u8]),
+    /// A control command was given: a `Kick` or a `ListEdit`. Any other event is quiet, `Nothing`.
+    Order(Event<'a>),
     /// Time passes: the first station that is silent for too long is to go.
     Tick,
     /// The BSSID is to start with its configuration, and with these lists of its list files.
@@ -72,6 +75,16 @@ pub enum Step<'a> {
     Settle,
     /// Hands out what was settled for the recipient.
     Hand(Recipient),
+    /// Answers a query from the table after all settled entries.
+    Ask(Query),
+}
+
+/// The answer to a query: its text, and the number of the last settled entry, up to which it speaks.
+#[derive(Debug, Drop)]
+pub struct Answer {
+    query: Query,
+    text: Sequence<u8>,
+    number: u64,
 }
 
 /// What a step told.
@@ -82,19 +95,22 @@ pub enum Told {
     Settled,
     /// What was settled for the recipient and not handed out before, in order.
     Handed(Recipient, Sequence<Out>),
+    Answered(Answer),
     /// Memory ran out, and the step changed nothing.
     NoMemory,
 }
 
 /// The daemon: its configurations, the table after all entries, when each of its stations was heard last,
-/// the number of the last entry, and what is to be handed out: of settled entries, and of those that wait
-/// to be settled.
+/// the number of the last entry, the table and the number of the last settled entry, and what is to be
+/// handed out: of settled entries, and of those that wait to be settled.
 #[derive(Drop)]
 pub struct World {
     confs: Confs,
     front: Table,
     heard: Moments,
     last: u64,
+    settled: Table,
+    settled_last: u64,
     released: Sequence<(Recipient, Out)>,
     waiting: Sequence<(Recipient, Out)>,
 }
@@ -109,6 +125,19 @@ fn expiry(due: Option<(Bssid, Addr)>) -> Result<Event<'static>, QuietReason>
     }
 }
 
+/// A control command's event; any other is none.
+fn order(event: Event<'_>) -> Result<Event<'_>, QuietReason>
+    ensures happening { happened result ≡ ordered (happening event.entry) }
+    ensures lists { IfOk result (λ event. HasLists (happening event)) }
+{
+    match event {
+        Event::Kick { .. } | Event::ListEdit { .. } => Ok(event),
+        Event::Heard(..) | Event::Expire { .. } | Event::Configure { .. } => {
+            Err(QuietReason::Nothing)
+        }
+    }
+}
+
 /// The event of a request other than a tick, or why its frame is ignored; none of a tick.
 fn event_said(input: Input<'_>) -> Option<Result<Event<'_>, QuietReason>>
     ensures happening { option_map happened result ≡ said_by input.entry }
@@ -119,6 +148,7 @@ fn event_said(input: Input<'_>) -> Option<Result<Event<'_>, QuietReason>>
             Ok(frame) => Some(Ok(Event::Heard(bssid, frame))),
             Err(reason) => Some(Err(QuietReason::Ignored(reason))),
         },
+        Input::Order(event) => Some(order(event)),
         Input::Tick => None,
         Input::Configure {
             bssid,
@@ -145,7 +175,8 @@ fn unfit(table: &Table, confs: &Confs, event: Event<'_>) -> Option<QuietReason>
         return None;
     }
     match event {
-        Event::Heard(..) | Event::Expire { .. } => Some(QuietReason::NoPolicy),
+        Event::Heard(..) | Event::Kick { .. } | Event::ListEdit { .. } | Event::Expire { .. } =>
+            Some(QuietReason::NoPolicy),
         Event::Configure { .. } if table.bss_count() >= MAX_BSS => Some(QuietReason::TooManyBss),
         Event::Configure { .. } => None,
     }
@@ -187,7 +218,7 @@ fn change_all(alloc: Global, table: &mut Table, changes: &[Change]) -> Result<()
 impl World {
     ghost use Rattle.apd_mlme.specs.Run.{AreFit};
     ghost use Rattle.apd.specs.Heard.{heard_by_changes, AreMomentsOf};
-    ghost use Rattle.apd.specs.World.{new_world, accepted, after_request, answer_to, entered_by, entered_world, happening_of, ChangesAsEntryOnly, settled, handed};
+    ghost use Rattle.apd.specs.World.{new_world, accepted, after_request, answer_to, entered_by, entered_world, happening_of, ChangesAsEntryOnly, settled, handed, answer_to_query};
 
     /// A daemon of these configurations, with no entry and an empty table. It takes no memory.
     pub fn new(alloc: Global, confs: Confs) -> World
@@ -199,6 +230,8 @@ impl World {
             front: Table::new(alloc),
             heard: Moments::new(alloc),
             last: 0,
+            settled: Table::new(alloc),
+            settled_last: 0,
             released: Sequence::new(alloc),
             waiting: Sequence::new(alloc),
         }
@@ -294,12 +327,28 @@ impl World {
         Ok(())
     }
 
-    /// Settles all entries.
-    pub fn settle(&mut self) -> Result<(), AllocError>
+    /// Settles all entries. It copies the table once.
+    pub fn settle(&mut self, alloc: Global) -> Result<(), AllocError>
         ensures ok { OnOk result (self.new ≡ settled self.old) }
         ensures err { OnErr result (self.new ≡ self.old) }
     {
-        self.released.append(&mut self.waiting)
+        let settled = self.front.copy(alloc)?;
+        self.released.append(&mut self.waiting)?;
+        self.settled = settled;
+        self.settled_last = self.last;
+        Ok(())
+    }
+
+    /// Answers a query from the table after all settled entries.
+    pub fn read(&self, alloc: Global, query: Query) -> Result<Answer, AllocError>
+        ensures { IfOk result (λ answer. answer ≡ answer_to_query self.now query) }
+    {
+        let text = Sequence::from_vec(reply(alloc, &self.settled, &self.confs, query)?);
+        Ok(Answer {
+            query,
+            text,
+            number: self.settled_last,
+        })
     }
 
     /// Hands out what was settled for a recipient and not handed out yet, in order.
@@ -335,12 +384,16 @@ impl World {
                 Ok(answer) => Told::Accepted(answer),
                 Err(_) => Told::NoMemory,
             },
-            Step::Settle => match self.settle() {
+            Step::Settle => match self.settle(alloc) {
                 Ok(()) => Told::Settled,
                 Err(_) => Told::NoMemory,
             },
             Step::Hand(to) => match self.hand(alloc, to) {
                 Ok(outs) => Told::Handed(to, outs),
+                Err(_) => Told::NoMemory,
+            },
+            Step::Ask(query) => match self.read(alloc, query) {
+                Ok(answer) => Told::Answered(answer),
                 Err(_) => Told::NoMemory,
             },
         }
@@ -365,8 +418,8 @@ pub fn drive(alloc: Global, world: &mut World, steps: &[Step<'_>]) -> Result<Vec
 }
 
 /// The steps that hand out to each radio, in the order of the configurations.
-pub fn hand_steps(alloc: Global, confs: &Confs) -> Result<Vec<Step<'static>>, AllocError>
-    ensures { IfOk result (λ steps. steps.items ≡ hand_steps confs.now) }
+fn radio_steps(alloc: Global, confs: &Confs) -> Result<Vec<Step<'static>>, AllocError>
+    ensures { IfOk result (λ steps. steps.items ≡ radio_steps confs.now) }
 {
     confs
         .list()
@@ -375,7 +428,17 @@ pub fn hand_steps(alloc: Global, confs: &Confs) -> Result<Vec<Step<'static>>, Al
         .collect(alloc)
 }
 
-/// The steps that settle all entries and then hand out to each radio.
+/// The steps that hand out to each radio, in the order of the configurations, and then to whoever gave
+/// control commands.
+pub fn hand_steps(alloc: Global, confs: &Confs) -> Result<Vec<Step<'static>>, AllocError>
+    ensures { IfOk result (λ steps. steps.items ≡ hand_steps confs.now) }
+{
+    let mut steps = radio_steps(alloc, confs)?;
+    steps.push(Step::Hand(Recipient::Control))?;
+    Ok(steps)
+}
+
+/// The steps that settle all entries and then hand out.
 pub fn flush_steps(alloc: Global, confs: &Confs) -> Result<Vec<Step<'static>>, AllocError>
     ensures { IfOk result (λ steps. steps.items ≡ flush_steps confs.now) }
 {
@@ -428,6 +491,29 @@ impl World {
         let confs = self.confs.copy(alloc)?;
         let steps = start_steps(alloc, &confs, moment)?;
         drive(alloc, self, steps.as_slice())
+    }
+}
+
+impl Answer {
+    /// What was asked.
+    pub fn query(&self) -> Query
+        ensures { result ≡ self.now.query }
+    {
+        self.query
+    }
+
+    /// The text of the reply.
+    pub fn text(&self) -> &[u8]
+        ensures { result.now ≡ self.now.text }
+    {
+        self.text.as_slice()
+    }
+
+    /// The number of the last settled entry when it was asked.
+    pub fn number(&self) -> u64
+        ensures { result ≡ self.now.number }
+    {
+        self.number
     }
 }
 

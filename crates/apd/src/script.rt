@@ -4,6 +4,7 @@
 //! |---|---|
 //! | `rx <interface> <hex>` | the radio of the interface received this frame; prints `entry <n>`, `quiet <word>` or `stopped` |
 //! | `tick <ms>` | the moment is this one from now on, in milliseconds: 1 to 20 decimal digits, below 2^64; it is 0 at first. The first station that is silent for too long goes; prints as `rx` does |
+//! | `cmd <text>` | a control command, whose tag is the number of the line: a query prints `ctrl <tag> <text>` at once; any other prints `entry <n>`, and its reply when it is handed out; one that is refused prints `ctrl <tag> FAIL\n` or `ctrl <tag> UNKNOWN COMMAND\n` |
 //! | `hand` | hands out to each radio what was settled for it: `<interface> install <addr> <aid>`, `<interface> remove <addr>`, `<interface> tx <hex>` |
 //! | `flush` | settles all entries, and then does as `hand` |
 //!
@@ -11,14 +12,17 @@
 //! line is. Any other line, and an interface that is not configured, ends the script.
 
 ghost use Rattle.std.specs.Prelude.{◌≡◌, IfOk};
+ghost use Rattle.std.specs.Option.{option_copied};
+ghost use Rattle.apd.specs.Meant.{conf_meant};
 ghost use Rattle.apd.specs.Run.{IsReached};
 ghost use Rattle.apd.specs.declared.script.ScriptFault.TheVariants.{NoMemory};
 
-use crate::plain::{Input, Step, Told, World, drive, flush_steps, hand_steps};
+use crate::plain::{Accepted, Input, Step, Told, World, drive, flush_steps, hand_steps};
 use apd_base::Moment;
 use apd_base::limits::MAX_SCRIPT;
-use apd_conf::InterfaceName;
-use apd_mlme::{Out, Recipient};
+use apd_conf::{Conf, Confs, InterfaceName};
+use apd_ctrl::{FAIL, Parsed, Placed, Query, UNKNOWN_COMMAND, escape, parse_command};
+use apd_mlme::{Event, Out, Recipient};
 use std::alloc::{AllocError, Global};
 use std::io::{self, BufRead, ErrorKind, Read, Write};
 use thiserror::Error;
@@ -69,6 +73,7 @@ enum Line<'a> {
         digits: &'a [u8],
     },
     Tick(&'a [u8]),
+    Command(&'a [u8]),
     Hand,
     Flush,
 }
@@ -87,6 +92,8 @@ fn parse_line(text: &[u8]) -> Option<Line<'_>> {
             let (interface, digits) = rest.split_at(end);
             Some(Line::Received { interface, digits })
         }
+        b"cmd" => Some(Line::Command(b"")),
+        [b'c', b'm', b'd', b' ', command @ ..] => Some(Line::Command(command)),
         [b't', b'i', b'c', b'k', b' ', digits @ ..] => Some(Line::Tick(digits)),
         _ => None,
     }
@@ -140,8 +147,44 @@ pub fn write_out<W: Write>(
             let digits = hex::encode(alloc, frame.as_slice())?;
             format!(in alloc; "{interface} tx {digits}\n")?
         }
+        // No radio is told a text.
+        Out::Text(..) => return Ok(()),
     };
     writer.write_all(line.as_bytes()).map_err(writer_fault)
+}
+
+/// Prints the reply to the control command of a tag.
+fn write_reply<W: Write>(
+    alloc: Global,
+    writer: &mut W,
+    tag: u64,
+    text: &[u8],
+) -> Result<(), ScriptFault> {
+    let front = format!(in alloc; "ctrl {tag} ")?;
+    let mut line = Vec::from_slice(alloc, front.as_bytes())?;
+    line.append(&mut escape(alloc, text)?)?;
+    line.extend_from_slice(b"\n")?;
+    writer.write_all(line.as_slice()).map_err(writer_fault)
+}
+
+/// Prints the replies among what is handed out.
+fn write_replies<W: Write>(alloc: Global, writer: &mut W, outs: &[Out]) -> Result<(), ScriptFault> {
+    for out in outs {
+        if let Out::Text(tag, text) = out {
+            write_reply(alloc, writer, *tag, text.as_slice())?;
+        }
+    }
+    Ok(())
+}
+
+/// The configuration of the interface that a command names, and the first one where it names none.
+fn conf_meant<'a>(confs: &'a Confs, interface: Option<&[u8]>) -> Option<&'a Conf>
+    ensures { option_copied result ≡ conf_meant confs.now (option_copied interface.entry) }
+{
+    match interface {
+        Some(name) => confs.with_interface(name),
+        None => confs.list().first(),
+    }
 }
 
 /// A script that is run on a world, the moment that it is at, and what it prints.
@@ -171,7 +214,10 @@ impl<W: Write + Drop> Run<W> {
                 }
                 Ok(())
             }
-            _ => Ok(()),
+            Told::Handed(Recipient::Control, outs) => {
+                write_replies(self.alloc, &mut self.writer, outs.as_slice())
+            }
+            Told::Settled | Told::Answered(_) | Told::NoMemory => Ok(()),
         }
     }
 
@@ -226,12 +272,68 @@ impl<W: Write + Drop> Run<W> {
                 self.make(steps.as_slice())
             }
             Some(Line::Received { interface, digits }) => self.receive(number, interface, digits),
+            Some(Line::Command(text)) => self.command(number, text),
             Some(Line::Tick(digits)) => {
                 let Some(moment) = parse_moment(digits) else {
                     return Err(ScriptFault::BadLine(number));
                 };
                 self.moment = moment;
                 self.make(&[Step::Accept(Input::Tick, moment)])
+            }
+        }
+    }
+
+    /// Carries out a control command at the interface that it means.
+    fn command(&mut self, tag: u64, text: &[u8]) -> Result<(), ScriptFault>
+        ensures { IsReached self.old.world self.new.world }
+    {
+        let (interface, command) = match parse_command(text) {
+            Parsed::Command { interface, command } => (interface, command),
+            Parsed::Unknown => return self.reply(tag, UNKNOWN_COMMAND),
+            Parsed::Fail => return self.reply(tag, FAIL),
+        };
+        let Some(conf) = conf_meant(self.world.confs(), interface) else {
+            return self.reply(tag, FAIL);
+        };
+        let bssid = conf.bssid;
+        // No radio can be down yet.
+        match command.at(bssid, true, tag) {
+            Placed::Ask(query) => self.ask(tag, query),
+            Placed::Do(event) => self.order(tag, event),
+        }
+    }
+
+    /// Prints the reply to a command that is answered at once.
+    fn reply(&mut self, tag: u64, text: &[u8]) -> Result<(), ScriptFault>
+        ensures { self.new.world ≡ self.old.world }
+    {
+        write_reply(self.alloc, &mut self.writer, tag, text)
+    }
+
+    /// Asks a query, and prints the answer.
+    fn ask(&mut self, tag: u64, query: Query) -> Result<(), ScriptFault>
+        ensures { IsReached self.old.world self.new.world }
+    {
+        let told = self.world.step(self.alloc, &Step::Ask(query));
+        match told {
+            Told::Answered(answer) => self.reply(tag, answer.text()),
+            Told::Accepted(_) | Told::Settled | Told::Handed(..) | Told::NoMemory => {
+                Err(ScriptFault::NoMemory)
+            }
+        }
+    }
+
+    /// Accepts the event of a command: its reply comes when it is handed out, unless it is refused.
+    fn order(&mut self, tag: u64, event: Event<'_>) -> Result<(), ScriptFault>
+        ensures { IsReached self.old.world self.new.world }
+    {
+        let step = Step::Accept(Input::Order(event), self.moment);
+        let told = self.world.step(self.alloc, &step);
+        match told {
+            Told::Accepted(Accepted::Entry(_)) => self.print(&told),
+            Told::Accepted(Accepted::Stopped | Accepted::Quiet(_)) => self.reply(tag, FAIL),
+            Told::Answered(_) | Told::Settled | Told::Handed(..) | Told::NoMemory => {
+                Err(ScriptFault::NoMemory)
             }
         }
     }

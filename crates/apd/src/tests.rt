@@ -71,6 +71,7 @@ fn the_first_bad_line_ends_a_script(rt: HostRuntime) -> Result<(), Fail> {
         (b"flush ", 1),
         (b"flush\r\n", 1),
         (b"take", 1),
+        (b"cmdPING", 1),
         (b"tick", 1),
         (b"tick ", 1),
         (b"tick +5", 1),

@@ -1,5 +1,5 @@
 -- What becomes of a station that is associated at other BSSIDs, as it associates here.
-use Rattle.std.proofs.Common.{◌≡◌, Bool, true, false, cond, not, ◌&&◌, ◌||◌, List, [], ◌∷◌, ◌++◌, Option, Some, None, inl, inr, refl, sym, ap, subst, ◌∙◌, IsSome}
+use Rattle.std.proofs.Common.{◌≡◌, Bool, true, false, cond, not, ◌&&◌, ◌||◌, List, [], ◌∷◌, ◌++◌, Option, Some, None, refl, sym, ap, subst, ◌∙◌, IsSome}
 use Rattle.std.specs.Prelude.{filter}
 use Rattle.std.specs.List.{flat_map, list_any}
 use Rattle.std.specs.Option.{is_some}
@@ -14,7 +14,7 @@ use Rattle.apd_base.specs.declared.station.Station.TheVariants.{Authenticated}
 use Rattle.apd_base.specs.Addr.{addr_cmp, bssid_cmp}
 use Rattle.apd_base.specs.State.{State, station_at, policy_at, aid_at}
 use Rattle.apd_base.proofs.AddrLaws.{bssid_total, bssid_exact}
-use Rattle.apd_base.proofs.MapLaws.{one_or_apart, tied}
+use Rattle.apd_base.proofs.MapLaws.{tied}
 use Rattle.apd_conf.specs.declared.conf.Conf.{Conf}
 use Rattle.apd_conf.specs.Confs.{conf_at}
 use Rattle.apd_frame.specs.declared.codes.TheConstants.Reason.{UNSPECIFIED}

@@ -1,5 +1,5 @@
 -- How many bytes the records of a verdict have.
-use Rattle.std.proofs.Common.{◌≡◌, suc, arith, ◌+◌, ◌*◌, ◌≤◌, Bool, true, false, cond, ◌&&◌, not, List, [], ◌∷◌, ◌++◌, Option, Some, None, Result, Ok, Err, IfOk, length, refl, sym, ap, subst, ◌∙◌, append-nil}
+use Rattle.std.proofs.Common.{◌≡◌, ℕ, suc, arith, ◌+◌, ◌*◌, ◌≤◌, Bool, true, false, cond, ◌&&◌, not, List, [], ◌∷◌, ◌++◌, Option, Some, None, Result, Ok, Err, IfOk, length, refl, sym, ap, subst, ◌∙◌, append-nil}
 use Rattle.std.specs.Option.{is_some}
 use Rattle.std.specs.Prelude.{filter}
 use Rattle.std.specs.Ordering.{eq_by_cmp}
@@ -25,21 +25,27 @@ use Rattle.apd_conf.specs.declared.conf.Conf.{Conf}
 use Rattle.apd_conf.specs.Conf.{policy_of}
 use Rattle.apd_conf.specs.Confs.{conf_at}
 use Rattle.apd_conf.specs.ListFile.{IsList}
+use Rattle.apd_frame.specs.declared.codes.Reason.{Reason}
 use Rattle.apd_frame.specs.declared.received.Authentication.{Authentication}
 use Rattle.apd_frame.specs.Contents.{Contents, AssociationRequest, authentication, association_request, reassociation_request, probe_request, disassociation, deauthentication, uplink}
 use Rattle.apd_record.specs.Ranges.{IsChange, AreChanges}
 use Rattle.apd_record.specs.Record.{station_bytes, record_of, records_of}
 use Rattle.apd_record.specs.declared.change.Change.{Change}
-use Rattle.apd_record.specs.declared.change.Change.TheVariants.{Put, Drop, ListAdd, Policy}
+use Rattle.apd_record.specs.declared.change.Change.TheVariants.{Put, Drop, ListAdd, ListDel, ListClear, Policy}
+use Rattle.apd_table.specs.Addresses.{addresses_at}
 use Rattle.apd_table.specs.Allowed.{allowed_in, denied_by, is_denied_row}
+use Rattle.apd_table.specs.Rows.{is_row_of}
 use Rattle.apd_table.specs.Sound.{Sound}
 use Rattle.apd_table.proofs.Denied.{drops}
 use Rattle.apd_mlme.specs.declared.decision.Decision.{Decision}
 use Rattle.apd_mlme.specs.declared.decision.TheConstants.{MAX_RECORDS}
-use Rattle.apd_mlme.specs.Happening.{Happening, Heard, Expire, Configure, bssid_of}
+use Rattle.apd_mlme.specs.declared.event.Edit.{Edit}
+use Rattle.apd_mlme.specs.declared.event.Edit.TheVariants.{Add, Remove, Clear}
+use Rattle.apd_mlme.specs.Happening.{Happening, Heard, Kick, ListEdit, Expire, Configure, bssid_of}
 use Rattle.apd_mlme.specs.declared.association.Kind.{Kind}
 use Rattle.apd_mlme.specs.declared.association.Kind.TheVariants.{Association, Reassociation}
 use Rattle.apd_mlme.specs.Association.{without_current_ap, association_status, association_response, elsewhere, put_backs, row_of, associated, accepted, association_of}
+use Rattle.apd_mlme.specs.Commands.{deauthenticated_of, disassociated_of, all_kicked, kick_verdict, change_of, list_edit_verdict}
 use Rattle.apd_mlme.specs.Departure.{disassociation_of, deauthentication_of, data_of}
 use Rattle.apd_mlme.specs.Identifiers.{identifier_for}
 use Rattle.apd_mlme.specs.Inactivity.{inactivity_of}
@@ -48,6 +54,7 @@ use Rattle.apd_mlme.specs.Verdict.{Verdict, only_sent}
 use Rattle.apd_mlme.specs.Authentication.{auth_verdict, is_admitted}
 use Rattle.apd_mlme.specs.Configuration.{configure_verdict, later_start, first_start, first_changes, additions}
 use Rattle.apd_mlme.specs.Rules.{verdict, verdict_under, heard_verdict, IsFit}
+use Rattle.apd_mlme.proofs.CommandLaws.{by_kick, by_edit, new, edited_under}
 
 -- what passes two tests is no more than what passes one
 fewer : {X : Type 0} (p q : X → Bool) (xs : List X) → length (filter (λ x. p x && q x) xs) ≤ length (filter p xs)
@@ -61,16 +68,20 @@ fewer p q (x ∷ xs) =
       | false ↦ rest
     ]
 
-module _ (s : State) (b : Bssid) (mode : AclMode) where
+module _ (s : State) (b : Bssid) where
   abbrev here : (Bssid × Addr) × Station → Bool
   here row = eq_by_cmp bssid_cmp b row.0.0
 
   counted : count s b ≡ length (filter here (map.entries s.stations))
   counted = map.len-entries _ ∙ ap length (entries-retain_keys station_total station_exact (λ k. eq_by_cmp bssid_cmp b k.0) s.stations)
 
+  -- no more than there are
+  all_few : length (addresses_at s b) ≡ count s b
+  all_few = length-map (filter (is_row_of b) (map.entries s.stations)) (λ row. row.0.1) ∙ sym counted
+
   -- no more are denied than there are
-  denied_few : length (denied_by s b mode) ≤ count s b
-  denied_few =
+  denied_few : (mode : AclMode) → length (denied_by s b mode) ≤ count s b
+  denied_few mode =
       let shorter = fewer here (λ row. not (allowed_in s b row.0.1 mode)) (map.entries s.stations) in
       rw (length-map (filter (is_denied_row s b mode) (map.entries s.stations)) (λ row. row.0.1)) (rw counted shorter)
 
@@ -130,6 +141,29 @@ add_length b w a known =
     let first = known.0.0 in
     let second = known.1.0 in
     omega arith
+
+del_length : (b : Bssid) (w : Which) (a : Addr) → IsChange (ListDel b w a) → length (record_of (ListDel b w a)) ≡ 14
+del_length b w a known =
+    let whole : length (record_of (ListDel b w a)) ≡ suc (length (b.0.0 ++ which_number w ∷ a.0)) = refl in
+    let parts = length-append b.0.0 (which_number w ∷ a.0) in
+    let more : length (which_number w ∷ a.0) ≡ suc (length a.0) = refl in
+    let first = known.0.0 in
+    let second = known.1.0 in
+    omega arith
+
+clear_length : (b : Bssid) (w : Which) → IsChange (ListClear b w) → length (record_of (ListClear b w)) ≡ 8
+clear_length b w known =
+    let whole : length (record_of (ListClear b w)) ≡ suc (length (b.0.0 ++ which_number w ∷ [])) = refl in
+    let parts = length-append b.0.0 (which_number w ∷ []) in
+    let one : length (which_number w ∷ []) ≡ 1 = refl in
+    let first = known.0 in
+    omega arith
+
+-- an edit of a list has no more than 14
+edit_length : (b : Bssid) (w : Which) (edit : Edit) → IsChange (change_of b w edit) → length (record_of (change_of b w edit)) ≤ 14
+edit_length b w (Add a) known = let same = add_length b w a known in omega arith
+edit_length b w (Remove a) known = let same = del_length b w a known in omega arith
+edit_length b w Clear known = let same = clear_length b w known in omega arith
 
 additions_length : (b : Bssid) (w : Which) (as' : List Addr) (rest : List Change) → AreChanges (additions b w as' ++ rest) → length (records_of (additions b w as' ++ rest)) ≡ 14 * length as' + length (records_of rest)
 additions_length b w [] rest known = let none : length {A = Addr} [] ≡ 0 = refl in omega arith
@@ -256,6 +290,49 @@ module _ (s : State) where
   inactivity_length b a (Some Authenticated) known = one_drop b a known
   inactivity_length b a (Some (Associated x)) known = one_put b a Authenticated known
 
+  all_length : (b : Bssid) (reason : Reason) (t : Bool) → Sound s → IsShort (all_kicked s b reason t)
+  all_length b reason t sound known =
+      let all = addresses_at s b in
+      let same = append-nil (drops b all) in
+      let end : length (records_of (drops b all ++ [])) ≡ length (records_of (drops b all)) = ap (λ changes. length (records_of changes)) same in
+      let whole = drops_length b all [] (subst AreChanges (sym same) known) in
+      let none : length (records_of []) ≡ 0 = refl in
+      let few = all_few s b in
+      let rows = sound.few_stations b in
+      omega arith
+
+  deauthenticated_length : (b : Bssid) (a : Addr) (reason : Reason) (o : Option Station) → IsShort (deauthenticated_of s b a reason o)
+  deauthenticated_length b a reason None known = none_long
+  deauthenticated_length b a reason (Some row) known = one_drop b a known
+
+  disassociated_length : (b : Bssid) (a : Addr) (reason : Reason) (o : Option Station) → IsShort (disassociated_of s b a reason o)
+  disassociated_length b a reason None known = none_long
+  disassociated_length b a reason (Some Authenticated) known = none_long
+  disassociated_length b a reason (Some (Associated x)) known = one_put b a Authenticated known
+
+  kick_length : (b : Bssid) (to : Addr) (reason : Reason) (deauth : Bool) (tag : ℕ) → Sound s → IsShort (kick_verdict s b to reason deauth tag)
+  kick_length b to reason deauth tag sound =
+      by_kick s b to reason (λ t v. IsShort v) (λ t e. all_length b reason t sound)
+      (λ e. deauthenticated_length b to reason (station_at s b to)) (λ e. disassociated_length b to reason (station_at s b to)) deauth
+
+  edited_length : (b : Bssid) (w : Which) (edit : Edit) (o : Option BssPolicy) → Sound s → IsShort (edited_under s b w edit o)
+  edited_length b w edit None sound known =
+      let last = edit_length b w edit known.0 in
+      let whole = length-append (record_of (change_of b w edit)) [] in
+      omega arith
+  edited_length b w edit (Some p) sound known =
+      let denied = denied_by (new s b w edit) b p.mode in
+      let few = denied_few (new s b w edit) b p.mode in
+      let rows = sound.few_stations b in
+      let all = drops_length b denied (change_of b w edit ∷ []) known in
+      let last = edit_length b w edit (last_known b denied (change_of b w edit) known) in
+      let whole = length-append (record_of (change_of b w edit)) [] in
+      omega arith
+
+  list_edit_length : (b : Bssid) (w : Which) (edit : Edit) (tag : ℕ) → Sound s → IsShort (list_edit_verdict s b w edit tag)
+  list_edit_length b w edit tag sound =
+      by_edit s b w tag IsShort edit (λ _. λ known. none_long) (λ _. λ known. none_long) (λ _. edited_length b w edit (policy_at s b) sound)
+
   heard_length : (confs : List Conf) (conf : Conf) (b : Bssid) (f : Contents) → Sound s → IsShort (heard_verdict s confs conf b f)
   heard_length confs conf b (authentication request) sound = auth_length conf b request
   heard_length confs conf b (association_request request) sound = association_length confs conf b Association request (station_at s b request.sender) sound
@@ -268,6 +345,8 @@ module _ (s : State) where
   under_length : (confs : List Conf) (o : Option Conf) (h : Happening) → IsFit s confs h → Sound s → IsShort (verdict_under s confs o h)
   under_length confs None h fit sound = λ known. none_long
   under_length confs (Some conf) (Heard b f) fit sound = heard_length confs conf b f sound
+  under_length confs (Some conf) (Kick b to reason deauth tag) fit sound = kick_length b to reason deauth tag sound
+  under_length confs (Some conf) (ListEdit b w edit tag) fit sound = list_edit_length b w edit tag sound
   under_length confs (Some conf) (Expire b a) fit sound = inactivity_length b a (station_at s b a)
   under_length confs (Some conf) (Configure b accept deny) fit sound = configure_length conf b accept deny fit.2 fit.3 sound
 

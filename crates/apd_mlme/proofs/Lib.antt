@@ -2,8 +2,12 @@ mod AnsweredLaws
 mod AssociationLaws
 pub mod AuthenticationLaws
 mod Cases
+mod CommandLaws
+mod CommandedLaws
 mod DriverLaws
+mod DropsLaws
 mod ElsewhereLaws
+mod EndedLaws
 mod FirstLaws
 mod IdentifierLaws
 mod LaterLaws

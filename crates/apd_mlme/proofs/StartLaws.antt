@@ -11,7 +11,7 @@ use Rattle.apd_conf.specs.ListFile.{IsList}
 use Rattle.apd_record.specs.Meaning.{meaning_of}
 use Rattle.apd_table.specs.Sound.{Sound, StaySound}
 use Rattle.apd_mlme.specs.declared.decision.Recipient.TheVariants.{Radio}
-use Rattle.apd_mlme.specs.Happening.{Happening, Heard, Expire, Configure, bssid_of}
+use Rattle.apd_mlme.specs.Happening.{Happening, Heard, Kick, ListEdit, Expire, Configure, bssid_of}
 use Rattle.apd_mlme.specs.Configuration.{configure_verdict, first_start, later_start}
 use Rattle.apd_mlme.specs.Driver.{driven}
 use Rattle.apd_mlme.specs.Outs.{outs_to}
@@ -58,6 +58,10 @@ under_started s confs (Some conf) (Configure b accept deny) sound = configure_st
 under_started s confs None (Configure b accept deny) sound = tt
 under_started s confs (Some conf) (Heard b frame) sound = tt
 under_started s confs None (Heard b frame) sound = tt
+under_started s confs (Some conf) (Kick b to reason deauth tag) sound = tt
+under_started s confs None (Kick b to reason deauth tag) sound = tt
+under_started s confs (Some conf) (ListEdit b w edit tag) sound = tt
+under_started s confs None (ListEdit b w edit tag) sound = tt
 under_started s confs (Some conf) (Expire b a) sound = tt
 under_started s confs None (Expire b a) sound = tt
 

@@ -19,7 +19,7 @@ use Rattle.apd_mlme.specs.declared.decision.Decision.{Decision}
 use Rattle.apd_mlme.specs.Association.{without_current_ap}
 use Rattle.apd_mlme.specs.Departure.{disassociation_of, deauthentication_of, data_of}
 use Rattle.apd_mlme.specs.Driver.{FollowsDrivers}
-use Rattle.apd_mlme.specs.Happening.{Happening, Heard, Expire, Configure, bssid_of}
+use Rattle.apd_mlme.specs.Happening.{Happening, Heard, Kick, ListEdit, Expire, Configure, bssid_of}
 use Rattle.apd_mlme.specs.Inactivity.{inactivity_of}
 use Rattle.apd_mlme.specs.Leaving as told
 use Rattle.apd_mlme.specs.Outs.{sent}
@@ -30,6 +30,7 @@ use Rattle.apd_mlme.specs.Told.{IsToldTruly}
 use Rattle.apd_mlme.specs.Verdict.{Verdict}
 use Rattle.apd_mlme.proofs.AssociationLaws.{association_meaning, association_sound, association_follows}
 use Rattle.apd_mlme.proofs.AuthenticationLaws.{auth_meaning, auth_sound, auth_driver, auth_told}
+use Rattle.apd_mlme.proofs.CommandLaws.{kick_meaning, kick_sound, kick_follows, list_edit_meaning, list_edit_sound, list_edit_follows}
 use Rattle.apd_mlme.proofs.RowLaws.{Follows, only_sent_follows, put_back_stays, dropped_stays, removed_follows, end_follows, removal_follows, drop_follows}
 use Rattle.apd_mlme.proofs.StartLaws.{configure_meaning, configure_sound, configure_driver}
 
@@ -69,6 +70,8 @@ module _ (s : State) (confs : List Conf) where
   under_meaning : (o : Option Conf) (h : Happening) → meaning_of (verdict_under s confs o h).changes s ≡ (verdict_under s confs o h).state
   under_meaning None h = refl
   under_meaning (Some conf) (Heard b f) = heard_meaning conf b f
+  under_meaning (Some conf) (Kick b to reason deauth tag) = kick_meaning s b to reason deauth tag
+  under_meaning (Some conf) (ListEdit b w edit tag) = list_edit_meaning s b w edit tag
   under_meaning (Some conf) (Expire b a) = inactivity_meaning b a (station_at s b a)
   under_meaning (Some conf) (Configure b accept deny) = configure_meaning s conf b accept deny
 
@@ -110,6 +113,8 @@ module _ (s : State) (confs : List Conf) where
   under_sound : (o : Option Conf) (h : Happening) → IsFit s confs h → Sound s → StaySound (verdict_under s confs o h).changes s
   under_sound None h fit sound = sound
   under_sound (Some conf) (Heard b f) fit sound = heard_sound sound conf b f fit.1
+  under_sound (Some conf) (Kick b to reason deauth tag) fit sound = kick_sound s b sound to reason deauth tag
+  under_sound (Some conf) (ListEdit b w edit tag) fit sound = list_edit_sound s b w sound edit tag fit.1
   under_sound (Some conf) (Expire b a) fit sound = inactivity_sound sound b a (station_at s b a) refl
   under_sound (Some conf) (Configure b accept deny) fit sound = configure_sound s conf b accept deny fit.1 fit.2 fit.3 sound
 
@@ -153,6 +158,8 @@ module _ (s : State) (confs : List Conf) where
     under_follows : (o : Option Conf) (h : Happening) → Follows c s (verdict_under s confs o h)
     under_follows None h = λ d. refl
     under_follows (Some conf) (Heard b f) = heard_follows conf b f
+    under_follows (Some conf) (Kick b to reason deauth tag) = kick_follows c s b to reason deauth tag
+    under_follows (Some conf) (ListEdit b w edit tag) = list_edit_follows c s b w edit tag
     under_follows (Some conf) (Expire b a) = inactivity_follows b a (station_at s b a)
     under_follows (Some conf) (Configure b accept deny) = configure_driver s conf b accept deny c
 

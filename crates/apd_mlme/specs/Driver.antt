@@ -10,18 +10,19 @@ use Rattle.apd_conf.specs.Confs.{conf_at}
 use Rattle.apd_mlme.specs.declared.decision.Recipient.{Recipient}
 use Rattle.apd_mlme.specs.declared.decision.Recipient.TheVariants.{Radio}
 use Rattle.apd_mlme.specs.declared.decision.Out.{Out}
-use Rattle.apd_mlme.specs.declared.decision.Out.TheVariants.{Install, Remove, Frame}
+use Rattle.apd_mlme.specs.declared.decision.Out.TheVariants.{Install, Remove, Frame, Text}
 use Rattle.apd_mlme.specs.Outs.{outs_to}
 
 -- what a driver has at each address
 abbrev pub DriverMap : Type 0
 DriverMap = Addr → Option ℕ
 
--- a driver's map after an out: a frame leaves it as it is
+-- a driver's map after an out: a frame or a text leaves it as it is
 abbrev pub driven_by : Out → DriverMap → DriverMap
 driven_by (Install a aid) driver = λ d. if eq_by_cmp addr_cmp a d then Some aid.number else driver d
 driven_by (Remove a) driver = λ d. if eq_by_cmp addr_cmp a d then None else driver d
 driven_by (Frame bytes) driver = driver
+driven_by (Text tag bytes) driver = driver
 
 -- after outs, one after the other
 abbrev pub driven : List Out → DriverMap → DriverMap

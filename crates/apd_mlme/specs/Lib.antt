@@ -1,9 +1,12 @@
 pub mod Answered
 pub mod Association
 pub mod Authentication
+pub mod Commanded
+pub mod Commands
 pub mod Configuration
 pub mod Departure
 pub mod Driver
+pub mod Ended
 pub mod Happening
 pub mod Identifiers
 pub mod Inactivity

@@ -12,17 +12,20 @@ use Rattle.apd_frame.specs.Contents as frame
 use Rattle.apd_mlme.specs.declared.association.Kind.TheVariants.{Association, Reassociation}
 use Rattle.apd_mlme.specs.Association.{association_verdict, without_current_ap}
 use Rattle.apd_mlme.specs.Authentication.{auth_verdict}
+use Rattle.apd_mlme.specs.Commands.{kick_verdict, list_edit_verdict}
 use Rattle.apd_mlme.specs.Configuration.{configure_verdict}
 use Rattle.apd_mlme.specs.Departure.{disassociation_verdict, deauthentication_verdict, data_verdict}
-use Rattle.apd_mlme.specs.Happening.{Happening, Heard, Expire, Configure, bssid_of}
+use Rattle.apd_mlme.specs.Happening.{Happening, Heard, Kick, ListEdit, Expire, Configure, bssid_of}
 use Rattle.apd_mlme.specs.Inactivity.{inactivity_verdict}
 use Rattle.apd_mlme.specs.ProbeRequest.{probe_verdict}
 use Rattle.apd_mlme.specs.Verdict.{Verdict, nothing}
 
--- the BSSID is configured; a frame or a silence needs its policy row, and a start a policy row or room for one, and lists as
--- list files give them
+-- the BSSID is configured; a frame, a command or a silence needs its policy row, and a start a policy row or room for one,
+-- and lists as list files give them
 abbrev pub IsFit : State → List Conf → Happening → Type 0
 IsFit s confs (Heard b frame) = IsSome (conf_at confs b) × IsSome (policy_at s b)
+IsFit s confs (Kick b to reason deauth tag) = IsSome (conf_at confs b) × IsSome (policy_at s b)
+IsFit s confs (ListEdit b which edit tag) = IsSome (conf_at confs b) × IsSome (policy_at s b)
 IsFit s confs (Expire b a) = IsSome (conf_at confs b) × IsSome (policy_at s b)
 IsFit s confs (Configure b accept deny) =
     IsSome (conf_at confs b) × (IsSome (policy_at s b) ⊎ (maps.len s.policies < MAX_BSS)) × IsList accept × IsList deny
@@ -40,6 +43,8 @@ heard_verdict s confs conf b (frame.uplink a) = data_verdict s b a
 
 abbrev pub verdict_under : State → List Conf → Option Conf → Happening → Verdict
 verdict_under s confs (Some conf) (Heard b frame) = heard_verdict s confs conf b frame
+verdict_under s confs (Some conf) (Kick b to reason deauth tag) = kick_verdict s b to reason deauth tag
+verdict_under s confs (Some conf) (ListEdit b which edit tag) = list_edit_verdict s b which edit tag
 verdict_under s confs (Some conf) (Expire b a) = inactivity_verdict s b a
 verdict_under s confs (Some conf) (Configure b accept deny) = configure_verdict s conf b accept deny
 -- not fit: nothing

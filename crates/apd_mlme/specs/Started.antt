@@ -10,7 +10,7 @@ use Rattle.apd_base.specs.State.{State, station_at, policy_at, IsListed}
 use Rattle.apd_conf.specs.declared.conf.Conf.{Conf}
 use Rattle.apd_conf.specs.Conf.{policy_of}
 use Rattle.apd_table.specs.Allowed.{allowed}
-use Rattle.apd_mlme.specs.Happening.{Happening, Heard, Expire, Configure}
+use Rattle.apd_mlme.specs.Happening.{Happening, Heard, Kick, ListEdit, Expire, Configure}
 
 pub record IsStarted (s : State) (conf : Conf) (b : Bssid) (accept deny : List Addr) (new : State) : Type 0 where
   -- the policy is the configured one
@@ -31,4 +31,6 @@ abbrev pub IsStartedBy : Option Conf → Happening → State → State → Type 
 IsStartedBy (Some conf) (Configure b accept deny) s new = IsStarted s conf b accept deny new
 IsStartedBy None (Configure b accept deny) s new = Unit {0}
 IsStartedBy o (Heard b frame) s new = Unit {0}
+IsStartedBy o (Kick b to reason deauth tag) s new = Unit {0}
+IsStartedBy o (ListEdit b which edit tag) s new = Unit {0}
 IsStartedBy o (Expire b a) s new = Unit {0}

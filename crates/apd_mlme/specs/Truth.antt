@@ -1,12 +1,13 @@
 -- What leaves: what a frame says of its receiver, and what a driver is told, is so in the state after the event; and it
 -- goes to a radio that is there.
-use Rattle.std.specs.Prelude.{◌≡◌, List, Some, None, IsSome, IsSomeAnd}
+use Rattle.std.specs.Prelude.{◌≡◌, ◌≢◌, List, Some, None, IsSome, IsSomeAnd}
 use Rattle.std.specs.List.{AllByRecursion}
 use Rattle.apd_base.specs.declared.address.Addr.{Addr}
 use Rattle.apd_base.specs.declared.address.Bssid.{Bssid}
 use Rattle.apd_base.specs.State.{State, station_at, aid_at}
 use Rattle.apd_conf.specs.declared.conf.Conf.{Conf}
 use Rattle.apd_conf.specs.Confs.{conf_at}
+use Rattle.apd_frame.specs.Contents.{sender_of}
 use Rattle.apd_frame.specs.declared.codes.Status.TheVariants.{Success}
 use Rattle.apd_frame.specs.declared.replies.AssociationResponse.{AssociationResponse}
 use Rattle.apd_frame.specs.declared.replies.Reply.{Reply}
@@ -14,9 +15,12 @@ use Rattle.apd_frame.specs.declared.replies.ReplyBody.{ReplyBody}
 use Rattle.apd_frame.specs.declared.replies.ReplyBody.TheVariants.{Auth, Assoc, Reassoc, Probe, Disassoc, Deauth}
 use Rattle.apd_frame.specs.Wire.{wire}
 use Rattle.apd_mlme.specs.declared.decision.Recipient.{Recipient}
-use Rattle.apd_mlme.specs.declared.decision.Recipient.TheVariants.{Radio}
+use Rattle.apd_mlme.specs.declared.decision.Recipient.TheVariants.{Radio, Control}
 use Rattle.apd_mlme.specs.declared.decision.Out.{Out}
-use Rattle.apd_mlme.specs.declared.decision.Out.TheVariants.{Install, Remove, Frame}
+use Rattle.apd_mlme.specs.declared.decision.Out.TheVariants.{Install, Remove, Frame, Text}
+use Rattle.apd_mlme.specs.declared.event.TheConstants.{BROADCAST}
+use Rattle.apd_mlme.specs.Ended.{IsMeant}
+use Rattle.apd_mlme.specs.Happening.{Happening, Heard, Kick, ListEdit, Expire, Configure}
 
 -- success says that the station is associated, with the identifier that the response carries
 abbrev pub IsAssociatedSo : State → Bssid → Addr → AssociationResponse → Type 0
@@ -39,13 +43,48 @@ abbrev pub IsSo : State → Recipient × Out → Type 0
 IsSo s (Radio b, Install a aid) = aid_at s b a ≡ Some aid.number
 IsSo s (Radio b, Remove a) = aid_at s b a ≡ None
 IsSo s (Radio b, Frame bytes) = (reply : Reply) × (reply.bssid ≡ b) × (bytes ≡ wire reply) × IsSaidSo s b reply.to reply.body
+-- a radio has no command to answer, and whoever gave one has no driver
+IsSo s (Radio b, Text tag bytes) = ⊥
+IsSo s (Control, Install a aid) = ⊥
+IsSo s (Control, Remove a) = ⊥
+IsSo s (Control, Frame bytes) = ⊥
+-- what an answer says is a law of its own
+IsSo s (Control, Text tag bytes) = Unit {0}
 
 abbrev pub AreSo : State → List (Recipient × Out) → Type 0
 AreSo s outs = AllByRecursion (IsSo s) outs
 
+-- the same of everyone whom a frame is meant for: one to the broadcast address is meant for every station (9.2.4.3.4)
+abbrev pub IsSoToAll : State → Recipient × Out → Type 0
+IsSoToAll s (Radio b, Frame bytes) =
+    (reply : Reply) × (reply.bssid ≡ b) × (bytes ≡ wire reply) × ((a : Addr) → IsMeant reply.to a → IsSaidSo s b a reply.body)
+-- nothing else is a frame
+IsSoToAll s (Radio b, Install a aid) = Unit {0}
+IsSoToAll s (Radio b, Remove a) = Unit {0}
+IsSoToAll s (Radio b, Text tag bytes) = Unit {0}
+IsSoToAll s (Control, out) = Unit {0}
+
+abbrev pub AreSoToAll : State → List (Recipient × Out) → Type 0
+AreSoToAll s outs = AllByRecursion (IsSoToAll s) outs
+
+-- a frame is not from the broadcast address
+abbrev pub IsFromStation : Happening → Type 0
+IsFromStation (Heard b frame) = sender_of frame ≢ BROADCAST
+IsFromStation (Kick b to reason deauth tag) = Unit {0}
+IsFromStation (ListEdit b which edit tag) = Unit {0}
+IsFromStation (Expire b a) = Unit {0}
+IsFromStation (Configure b accept deny) = Unit {0}
+
+-- no station has the broadcast address for its own: none has a row, and none is heard
+pub record NoneIsBroadcast (s : State) (h : Happening) : Type 0 where
+  pub rows : (b : Bssid) → station_at s b BROADCAST ≡ None
+  pub sender : IsFromStation h
+
 -- to a radio that is there: the one of a configured BSSID
 abbrev pub IsThere : List Conf → Recipient × Out → Type 0
 IsThere confs (Radio b, out) = IsSome (conf_at confs b)
+-- whoever gave a command is there
+IsThere confs (Control, out) = Unit {0}
 
 abbrev pub AreThere : List Conf → List (Recipient × Out) → Type 0
 AreThere confs outs = AllByRecursion (IsThere confs) outs

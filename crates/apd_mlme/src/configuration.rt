@@ -5,10 +5,9 @@ ghost use Rattle.apd_record.specs.declared.change.Change.TheVariants.{Policy};
 ghost use Rattle.apd_mlme.specs.Configuration.{configure_verdict, later_start, first_changes, additions};
 
 use crate::decision::Decision;
-use crate::leaving::push_outs_of_drop;
+use crate::leaving::denied_dropped;
 use apd_base::{Addr, Bssid, Sequence, Which};
 use apd_conf::Conf;
-use apd_frame::Reason;
 use apd_record::Change;
 use apd_table::Table;
 use std::alloc::{AllocError, Global};
@@ -35,14 +34,9 @@ fn later_start(
     ensures outs { IfOk result (λ d. d.outs ≡ (later_start table.now conf.now bssid).outs) }
 {
     let denied = table.denied_by(alloc, bssid, conf.macaddr_acl)?;
-    let mut changes = Sequence::new(alloc);
-    let mut outs = Sequence::new(alloc);
-    for addr in denied.as_slice() {
-        changes.push(Change::Drop { bssid, addr: *addr })?;
-        push_outs_of_drop(alloc, table, bssid, *addr, Reason::UNSPECIFIED, &mut outs)?;
-    }
-    changes.push(policy_row(conf, bssid))?;
-    Ok(Decision { changes, outs })
+    let mut decision = denied_dropped(alloc, table, bssid, denied.as_slice())?;
+    decision.changes.push(policy_row(conf, bssid))?;
+    Ok(decision)
 }
 
 /// Adds the changes that put addresses into a list, one for each, in their order.

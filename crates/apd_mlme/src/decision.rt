@@ -16,9 +16,12 @@ pub const MAX_RECORDS: usize = 28_682;
 pub enum Recipient {
     /// The radio of the BSSID.
     Radio(Bssid),
+    /// Whoever gave the control command.
+    Control,
 }
 
-/// Something that leaves: a call of a radio's driver, or a frame for it to send.
+/// Something that leaves: a call of a radio's driver, a frame for it to send, or the answer to a control
+/// command.
 #[derive(Debug, Drop)]
 pub enum Out {
     /// The driver takes the station in, under its association identifier.
@@ -27,6 +30,8 @@ pub enum Out {
     Remove(Addr),
     /// The frame is sent, without its frame check sequence.
     Frame(Sequence<u8>),
+    /// The command of this tag is answered by this text.
+    Text(u64, Sequence<u8>),
 }
 
 /// What an event brings about: changes of the table, in order, and what leaves because of them.
@@ -83,8 +88,11 @@ impl Recipient {
     pub fn is_same(self, other: Recipient) -> bool
         ensures { result ≡ is_same self other }
     {
-        let Recipient::Radio(own) = self;
-        let Recipient::Radio(bssid) = other;
-        own.cmp(&bssid).is_eq()
+        match (self, other) {
+            (Recipient::Radio(own), Recipient::Radio(bssid)) => own.cmp(&bssid).is_eq(),
+            (Recipient::Control, Recipient::Control) => true,
+            (Recipient::Radio(_), Recipient::Control) => false,
+            (Recipient::Control, Recipient::Radio(_)) => false,
+        }
     }
 }

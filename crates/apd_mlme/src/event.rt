@@ -1,14 +1,45 @@
 //! What the station management entity is asked to decide.
 ghost use Rattle.std.specs.Prelude.{◌≡◌};
 
-use apd_base::{Addr, Bssid};
-use apd_frame::Frame;
+use apd_base::{Addr, Bssid, Which};
+use apd_frame::{Frame, Reason};
+
+/// The broadcast address, which stands for every station (IEEE Std 802.11-2016, 9.2.4.3.4).
+pub const BROADCAST: Addr = Addr([0xff, 0xff, 0xff, 0xff, 0xff, 0xff]);
+
+/// What a control command does to a list.
+#[derive(Clone, Copy, Debug, PartialEq, Eq)]
+pub enum Edit {
+    /// An address is put into it.
+    Add(Addr),
+    /// An address is taken out of it.
+    Remove(Addr),
+    /// All are.
+    Clear,
+}
 
 /// An event at one of the BSSIDs.
 #[derive(Clone, Copy, Debug, PartialEq, Eq)]
 pub enum Event<'a> {
     /// A frame was received by the radio of the BSSID.
     Heard(Bssid, Frame<'a>),
+    /// A control command sends a station away; all of the BSSID's, where the address is the broadcast
+    /// address. `deauth` says which of the two frames they are told by, and the tag is that of the
+    /// answer.
+    Kick {
+        bssid: Bssid,
+        to: Addr,
+        reason: Reason,
+        deauth: bool,
+        tag: u64,
+    },
+    /// A control command edits one of the BSSID's lists.
+    ListEdit {
+        bssid: Bssid,
+        which: Which,
+        edit: Edit,
+        tag: u64,
+    },
     /// Nothing was heard from a station for too long.
     Expire {
         bssid: Bssid,
@@ -32,6 +63,8 @@ impl Event<'_> {
     {
         match *self {
             Event::Heard(bssid, _) => bssid,
+            Event::Kick { bssid, .. } => bssid,
+            Event::ListEdit { bssid, .. } => bssid,
             Event::Expire { bssid, .. } => bssid,
             Event::Configure { bssid, .. } => bssid,
         }

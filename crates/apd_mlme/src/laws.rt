@@ -1,7 +1,7 @@
 //! What a reader of clause 11.3 may rely on, whatever the daemon is asked: each law is the contract of
 //! a function that does nothing.
-ghost use Rattle.std.specs.Prelude.{◌≡◌, List, [], Some, IsSome};
-ghost use Rattle.apd_base.specs.State.{State, station_at};
+ghost use Rattle.std.specs.Prelude.{◌≡◌, ◌⊎◌, List, [], None, Some, IsSome};
+ghost use Rattle.apd_base.specs.State.{State, station_at, aid_at};
 ghost use Rattle.apd_base.specs.declared.address.Addr.{Addr};
 ghost use Rattle.apd_base.specs.declared.address.Bssid.{Bssid};
 ghost use Rattle.apd_conf.specs.Confs.{conf_at};
@@ -12,7 +12,9 @@ ghost use Rattle.apd_record.specs.Meaning.{meaning_of};
 ghost use Rattle.apd_table.specs.Sound.{Sound, StaySound};
 ghost use Rattle.apd_mlme.specs.Answered.{IsAnsweredTruly};
 ghost use Rattle.apd_mlme.specs.Association.{without_current_ap};
+ghost use Rattle.apd_mlme.specs.Commanded.{IsAnsweredTo};
 ghost use Rattle.apd_mlme.specs.Driver.{FollowsDrivers};
+ghost use Rattle.apd_mlme.specs.Ended.{HasLeft, IsToldOfEnd};
 ghost use Rattle.apd_mlme.specs.Happening.{Happening, Heard, bssid_of};
 ghost use Rattle.apd_mlme.specs.Identifiers.{identifier_for};
 ghost use Rattle.apd_mlme.specs.Rules.{verdict, IsFit};
@@ -20,7 +22,7 @@ ghost use Rattle.apd_mlme.specs.Run.{run, AreFit};
 ghost use Rattle.apd_mlme.specs.Started.{IsStartedBy};
 ghost use Rattle.apd_mlme.specs.declared.association.Kind.TheVariants.{Association, Reassociation};
 ghost use Rattle.apd_mlme.specs.Told.{IsToldTruly};
-ghost use Rattle.apd_mlme.specs.Truth.{AreSo, AreThere};
+ghost use Rattle.apd_mlme.specs.Truth.{AreSo, AreSoToAll, AreThere, NoneIsBroadcast};
 
 /// Making the changes of an event in turn leads to the state that its rule says, and each of them
 /// leaves a sound state. An event without changes leaves every row as it was.
@@ -76,8 +78,26 @@ pub fn a_member_is_told_so()
 /// station, and where it says success the station has its row, or is associated with the identifier that
 /// the frame carries; one that is told of a disassociation is not associated, and one that is told of a
 /// deauthentication has no row. A driver takes in who is associated, under the same identifier, and lets
-/// go who is not. And nothing leaves for a BSSID that is not configured.
+/// go who is not. Where no station has the broadcast address for its own, that is so of everyone whom a
+/// frame is meant for: a broadcast frame speaks of every station. And nothing leaves for a BSSID that is
+/// not configured.
 pub fn what_leaves_is_so()
     ensures so { (s : State) (confs : List Conf) (h : Happening) → Sound s → AreSo (verdict s confs h).state (verdict s confs h).outs }
+    ensures everyone { (s : State) (confs : List Conf) (h : Happening) → Sound s → NoneIsBroadcast s h → AreSoToAll (verdict s confs h).state (verdict s confs h).outs }
     ensures there { (s : State) (confs : List Conf) (h : Happening) → AreThere confs (verdict s confs h).outs }
+{}
+
+/// Nobody is left in the belief that it is associated: a station whose association with a configured
+/// BSSID ends is sent a disassociation or a deauthentication by it, unless it left with one itself.
+pub fn nobody_is_left_behind()
+    ensures { (s : State) (confs : List Conf) (h : Happening) (b : Bssid) (a : Addr) → IsSome (conf_at confs b) → IsSome (aid_at s b a) → aid_at (verdict s confs h).state b a ≡ None → HasLeft h b a ⊎ IsToldOfEnd (verdict s confs h).outs b a }
+{}
+
+/// Each control command is answered once, after all else that leaves, under its own tag, and nothing else
+/// is answered. `OK` says that it was obeyed: whom a deauthentication is meant for has no row, whom a
+/// disassociation is meant for is not associated, and the edited list has whom it should have. `FAIL` says
+/// that a new address came to a list of 1024, and nothing changed. A station whom the edited lists deny has
+/// no row, and is told so; and whatever else there is stays as it was.
+pub fn a_command_is_answered_truly()
+    ensures { (s : State) (confs : List Conf) (h : Happening) → IsFit s confs h → Sound s → IsAnsweredTo s h (verdict s confs h) }
 {}

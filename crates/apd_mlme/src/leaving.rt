@@ -1,6 +1,8 @@
 //! The end of an association or of an authentication (IEEE Std 802.11-2016, 11.3.4.4 and 11.3.5.8).
-ghost use Rattle.std.specs.Prelude.{◌≡◌, [], ◌∷◌, ◌++◌, IfOk, OnOk};
+ghost use Rattle.std.specs.Prelude.{◌≡◌, [], ◌∷◌, ◌++◌, map, IfOk, OnOk};
+ghost use Rattle.std.specs.List.{flat_map};
 ghost use Rattle.apd_base.specs.declared.station.Station.TheVariants.{Authenticated};
+ghost use Rattle.apd_frame.specs.declared.codes.TheConstants.Reason.{UNSPECIFIED};
 ghost use Rattle.apd_record.specs.declared.change.Change.TheVariants.{Drop, Put};
 ghost use Rattle.apd_mlme.specs.Leaving.{deauthentication, disassociation, outs_of_drop, outs_of_end, removal};
 
@@ -108,5 +110,24 @@ pub(crate) fn dropped(
 {
     let mut changes = Sequence::new(alloc);
     changes.push(Change::Drop { bssid, addr })?;
+    Ok(Decision { changes, outs })
+}
+
+/// Stations that the policy denies have no row from now on, one after the other, and are told so.
+pub(crate) fn denied_dropped(
+    alloc: Global,
+    table: &Table,
+    bssid: Bssid,
+    denied: &[Addr],
+) -> Result<Decision, AllocError>
+    ensures changes { IfOk result (λ d. d.changes ≡ map (λ a. Drop bssid a) denied.now) }
+    ensures outs { IfOk result (λ d. d.outs ≡ flat_map (λ a. outs_of_drop table.now bssid a UNSPECIFIED) denied.now) }
+{
+    let mut changes = Sequence::new(alloc);
+    let mut outs = Sequence::new(alloc);
+    for addr in denied {
+        changes.push(Change::Drop { bssid, addr: *addr })?;
+        push_outs_of_drop(alloc, table, bssid, *addr, Reason::UNSPECIFIED, &mut outs)?;
+    }
     Ok(Decision { changes, outs })
 }

@@ -13,6 +13,7 @@ ghost use Rattle.apd_mlme.specs.declared.decision.TheConstants.{MAX_RECORDS};
 ghost use Rattle.apd_mlme.specs.Happening.{happening};
 ghost use Rattle.apd_mlme.specs.Rules.{verdict, heard_verdict, IsFit};
 
+pub mod answer;
 mod association;
 mod authentication;
 mod configuration;
@@ -20,11 +21,14 @@ pub mod decision;
 mod departure;
 pub mod event;
 mod inactivity;
+mod kick;
 pub mod laws;
 mod leaving;
+mod list_edit;
 mod offer;
 mod probe_request;
 
+pub use answer::Answer;
 use apd_base::Bssid;
 use apd_conf::{Conf, Confs};
 use apd_frame::Frame;
@@ -32,13 +36,13 @@ use apd_record::known_changes;
 use apd_table::Table;
 use association::Kind;
 pub use decision::{Decision, Out, Recipient};
-pub use event::Event;
+pub use event::{BROADCAST, Edit, Event};
 use std::alloc::{AllocError, Global};
 
 /// What a fit event brings about: its changes, in an order in which each of them leaves a sound
-/// table, and its outs. A frame is fit where its BSSID is configured and has a policy row; a start,
-/// where the BSSID is configured, has a policy row or fewer than eight BSSIDs have one, and both lists
-/// rise without doubles and have at most 1024 addresses.
+/// table, and its outs. A frame, a command or a silence is fit where its BSSID is configured and has a
+/// policy row; a start, where the BSSID is configured, has a policy row or fewer than eight BSSIDs have one, and both
+/// lists rise without doubles and have at most 1024 addresses.
 pub fn decide(
     alloc: Global,
     table: &Table,
@@ -77,6 +81,19 @@ fn decide_fit(
     let conf = confs.with_bssid(event.bssid()).unwrap();
     let decision = match event {
         Event::Heard(bssid, frame) => heard(alloc, table, confs, conf, bssid, frame)?,
+        Event::Kick {
+            bssid,
+            to,
+            reason,
+            deauth,
+            tag,
+        } => kick::kick(alloc, table, bssid, to, reason, deauth, tag)?,
+        Event::ListEdit {
+            bssid,
+            which,
+            edit,
+            tag,
+        } => list_edit::list_edit(alloc, table, bssid, which, edit, tag)?,
         Event::Expire { bssid, addr } => inactivity::expired(alloc, table, bssid, addr)?,
         Event::Configure {
             bssid,

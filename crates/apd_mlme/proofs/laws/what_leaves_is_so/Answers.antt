@@ -1,9 +1,12 @@
 use Rattle.apd_mlme.proofs.RadioLaws.{verdict_there}
-use Rattle.apd_mlme.proofs.TruthLaws.{verdict_so}
+use Rattle.apd_mlme.proofs.TruthLaws.{verdict_so, verdict_so_to_all}
 use Rattle.apd_mlme.proofs.laws.what_leaves_is_so.Goals as goal
 
 pub returns-clause-so : goal.returns-clause-so
 returns-clause-so c = λ s confs h sound. verdict_so s confs sound h
+
+pub returns-clause-everyone : goal.returns-clause-everyone
+returns-clause-everyone c = λ s confs h sound. verdict_so_to_all s confs sound h
 
 pub returns-clause-there : goal.returns-clause-there
 returns-clause-there c = verdict_there

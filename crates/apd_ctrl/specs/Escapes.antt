@@ -1,0 +1,20 @@
+-- How bytes are printed so that each text stays on one line.
+use Rattle.std.specs.Prelude.{ℕ, ◌==◌, ◌&&◌, nat_le, List, [], ◌∷◌, ◌++◌, codes, if◌then◌else◌}
+use Rattle.std.specs.List.{flat_map}
+use Rattle.apd_base.specs.Addr.{hex_byte}
+
+-- a byte: backslash and double quote with a backslash in front, newline, carriage return, tab and escape as a letter,
+-- what is visible or a blank as it stands, each other one as '\x' and two digits
+abbrev pub escaped_byte : ℕ → List ℕ
+escaped_byte b =
+    if b == 92 then codes "\\\\"
+    else (if b == 34 then codes "\\\""
+    else (if b == 10 then codes "\\n"
+    else (if b == 13 then codes "\\r"
+    else (if b == 9 then codes "\\t"
+    else (if b == 27 then codes "\\e"
+    else (if nat_le 32 b && nat_le b 126 then b ∷ []
+    else codes "\\x" ++ hex_byte b))))))
+
+abbrev pub escaped : List ℕ → List ℕ
+escaped bytes = flat_map escaped_byte bytes

@@ -1,0 +1,15 @@
+-- Addresses in order.
+use Rattle.std.specs.Prelude.{◌≡◌, Bool, List, [], ◌∷◌}
+use Rattle.std.specs.List.{AllByRecursion, list_any}
+use Rattle.std.specs.Ordering.{eq_by_cmp}
+use Rattle.std.specs.declared.cmp.Ordering.TheVariants.{Less}
+use Rattle.apd_base.specs.Addr.{addr_cmp}
+use Rattle.apd_base.specs.declared.address.Addr.{Addr}
+
+-- each below those behind it
+abbrev pub Rising : List Addr → Type 0
+Rising [] = Unit {0}
+Rising (a ∷ all) = AllByRecursion (λ c. addr_cmp a c ≡ Less) all × Rising all
+
+abbrev pub is_among : Addr → List Addr → Bool
+is_among a all = list_any (eq_by_cmp addr_cmp a) all

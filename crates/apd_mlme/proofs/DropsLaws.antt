@@ -1,0 +1,188 @@
+-- What it leaves that several stations of a BSSID are dropped, one after the other.
+use Rattle.std.proofs.Common.{◌≡◌, Bool, true, false, cond, not, ◌&&◌, ◌||◌, List, [], ◌∷◌, ◌++◌, Option, Some, None, inl, inr, refl, sym, ap, subst, ◌∙◌}
+use Rattle.std.specs.Prelude.{map as list_map}
+use Rattle.std.specs.List.{flat_map}
+use Rattle.std.specs.Option.{is_some}
+use Rattle.std.specs.Ordering.{eq_by_cmp}
+use Rattle.std.specs.Cmp.{eq_by_cmp_equiv}
+use Rattle.std.specs.FinMap as map
+use Rattle.std.specs.FinMap.{FinMap, get-retain_keys, same_map}
+use Rattle.apd_base.specs.declared.address.Addr.{Addr}
+use Rattle.apd_base.specs.declared.address.Bssid.{Bssid}
+use Rattle.apd_base.specs.declared.station.AclMode.{AclMode}
+use Rattle.apd_base.specs.declared.station.Station.{Station}
+use Rattle.apd_base.specs.Addr.{addr_cmp, bssid_cmp, station_cmp}
+use Rattle.apd_base.specs.State.{State, station_at, aid_of, aid_at}
+use Rattle.apd_base.proofs.AddrLaws.{addr_total, addr_exact, bssid_total, bssid_exact, station_total, station_exact}
+use Rattle.apd_base.proofs.MapLaws.{one_or_apart, tied}
+use Rattle.apd_frame.specs.declared.codes.Reason.{Reason}
+use Rattle.apd_record.specs.Meaning.{meaning_of}
+use Rattle.apd_table.specs.Addresses.{addresses_at}
+use Rattle.apd_table.specs.Allowed.{allowed_in, denied_by}
+use Rattle.apd_table.proofs.AllRows.{among_addresses}
+use Rattle.apd_table.proofs.Denied.{is_among, drops, among_denied, denied_among, drops_station}
+use Rattle.apd_mlme.specs.declared.decision.Recipient.{Recipient}
+use Rattle.apd_mlme.specs.declared.decision.Recipient.TheVariants.{Radio}
+use Rattle.apd_mlme.specs.declared.decision.Out.{Out}
+use Rattle.apd_mlme.specs.declared.decision.Out.TheVariants.{Remove}
+use Rattle.apd_mlme.specs.Configuration.{stays}
+use Rattle.apd_mlme.specs.Driver.{driven, DriverMap}
+use Rattle.apd_mlme.specs.Leaving.{deauthentication, outs_of_drop, removal}
+use Rattle.apd_mlme.specs.Outs.{outs_to, sent}
+use Rattle.apd_mlme.proofs.OutsLaws.{outs_to-append, driven-append}
+use Rattle.apd_mlme.proofs.Cases.{differ, other_way}
+
+nothing_taken : {A : Type 0} (t w : Bool) (o : Option A) → o ≡ cond (t && (w && false)) None o
+nothing_taken true true o = refl
+nothing_taken true false o = refl
+nothing_taken false w o = refl
+
+two_taken : {A : Type 0} (t w u v : Bool) (o : Option A) → cond (t && (w && v)) None (cond (t && (w && u)) None o) ≡ cond (t && (w && (u || v))) None o
+two_taken true true true true o = refl
+two_taken true true true false o = refl
+two_taken true true false v o = refl
+two_taken true false u v o = refl
+two_taken false w u v o = refl
+
+known_or_none : {A : Type 0} (t u : Bool) (o : Option A) → cond (t && (is_some o && u)) None o ≡ cond (t && u) None o
+known_or_none true true None = refl
+known_or_none true false None = refl
+known_or_none true u (Some x) = refl
+known_or_none false u o = refl
+
+never : (t u : Bool) → (t && false) ≡ (u && false)
+never true true = refl
+never true false = refl
+never false true = refl
+never false false = refl
+
+module _ (s : State) (b : Bssid) where
+  -- outs for each station that take it out of the driver's map, where it was associated
+  abbrev pub LetsGo : (Addr → List (Recipient × Out)) → Type 0
+  LetsGo outs_of = (a : Addr) (c : Bssid) (m : DriverMap) (d : Addr) →
+      driven (outs_to (Radio c) (outs_of a)) m d ≡ cond (eq_by_cmp bssid_cmp c b && (is_some (aid_at s b a) && eq_by_cmp addr_cmp a d)) None (m d)
+
+  pub drop_lets_go : (reason : Reason) → LetsGo (λ a. outs_of_drop s b a reason)
+  drop_lets_go reason a c m d =
+      let frame = sent (deauthentication b a reason) in
+      elim (is_some (aid_at s b a)) as (λ u. driven (outs_to (Radio c) ((cond u ((Radio b, Remove a) ∷ []) []) ++ frame ∷ [])) m d ≡ cond (eq_by_cmp bssid_cmp c b && (u && eq_by_cmp addr_cmp a d)) None (m d)) [
+        | true ↦ elim (eq_by_cmp bssid_cmp c b) as (λ t. driven (list_map (λ (z : Recipient × Out). z.1) (cond t ((Radio b, Remove a) ∷ cond t (frame ∷ []) []) (cond t (frame ∷ []) []))) m d ≡ cond (t && eq_by_cmp addr_cmp a d) None (m d)) [ true ↦ refl | false ↦ refl ]
+        | false ↦ elim (eq_by_cmp bssid_cmp c b) as (λ t. driven (list_map (λ (z : Recipient × Out). z.1) (cond t (frame ∷ []) [])) m d ≡ cond (t && false) None (m d)) [ true ↦ refl | false ↦ refl ]
+      ]
+
+  pub removal_lets_go : LetsGo (removal s b)
+  removal_lets_go a c m d =
+      elim (is_some (aid_at s b a)) as (λ u. driven (outs_to (Radio c) (cond u ((Radio b, Remove a) ∷ []) [])) m d ≡ cond (eq_by_cmp bssid_cmp c b && (u && eq_by_cmp addr_cmp a d)) None (m d)) [
+        | true ↦ elim (eq_by_cmp bssid_cmp c b) as (λ t. driven (list_map (λ (z : Recipient × Out). z.1) (cond t ((Radio b, Remove a) ∷ []) [])) m d ≡ cond (t && eq_by_cmp addr_cmp a d) None (m d)) [ true ↦ refl | false ↦ refl ]
+        | false ↦ elim (eq_by_cmp bssid_cmp c b) as (λ t. m d ≡ cond (t && false) None (m d)) [ true ↦ refl | false ↦ refl ]
+      ]
+
+  same_station : (a d : Addr) → (is_some (aid_at s b a) && eq_by_cmp addr_cmp a d) ≡ (is_some (aid_at s b d) && eq_by_cmp addr_cmp d a)
+  same_station a d =
+      elim (one_or_apart addr_total addr_exact a d) [
+        | inl same ↦ (λ i. is_some (aid_at s b (same i)) && eq_by_cmp addr_cmp (same i) d) ∙ ap (λ z. is_some (aid_at s b d) && eq_by_cmp addr_cmp d z) (sym same)
+        | inr apart ↦ ap (λ t. is_some (aid_at s b a) && t) apart ∙ never (is_some (aid_at s b a)) (is_some (aid_at s b d))
+            ∙ ap (λ t. is_some (aid_at s b d) && t) (sym ((eq_by_cmp_equiv addr_total).symm d a ∙ apart))
+      ]
+
+  -- those of several stations take all of them out
+  module _ (outs_of : Addr → List (Recipient × Out)) (go : LetsGo outs_of) where
+    all_let_go : (as' : List Addr) (c : Bssid) (m : DriverMap) (d : Addr) →
+        driven (outs_to (Radio c) (flat_map outs_of as')) m d ≡ cond (eq_by_cmp bssid_cmp c b && (is_some (aid_at s b d) && is_among d as')) None (m d)
+    all_let_go [] c m d = nothing_taken (eq_by_cmp bssid_cmp c b) (is_some (aid_at s b d)) (m d)
+    all_let_go (a ∷ as') c m d =
+        let first = outs_to (Radio c) (outs_of a) in
+        let here = eq_by_cmp bssid_cmp c b in
+        let one : driven first m d ≡ cond (here && (is_some (aid_at s b d) && eq_by_cmp addr_cmp d a)) None (m d) =
+        go a c m d ∙ ap (λ t. cond (here && t) None (m d)) (same_station a d) in
+        ap (λ outs. driven outs m d) (outs_to-append (Radio c) (outs_of a) (flat_map outs_of as'))
+        ∙ ap (λ (f : DriverMap). f d) (driven-append first (outs_to (Radio c) (flat_map outs_of as')) m)
+        ∙ all_let_go as' c (driven first m) d
+        ∙ ap (λ o. cond (here && (is_some (aid_at s b d) && is_among d as')) None o) one
+        ∙ two_taken here (is_some (aid_at s b d)) (eq_by_cmp addr_cmp d a) (is_among d as') (m d)
+
+  -- the rows that a test keeps are those that are left once some stations are dropped
+  abbrev pub Leave : (Bssid × Addr → Bool) → List Addr → Type 0
+  Leave stay as' = (c : Bssid) (d : Addr) → cond (eq_by_cmp bssid_cmp c b && is_among d as') None (station_at s c d) ≡ cond (stay (c, d)) (station_at s c d) None
+
+  module _ (stay : Bssid × Addr → Bool) (as' : List Addr) (leave : Leave stay as') where
+    abbrev kept : FinMap station_cmp Station
+    kept = map.retain_keys s.stations stay
+
+    pub kept_row : (c : Bssid) (d : Addr) → map.get kept (c, d) ≡ cond (stay (c, d)) (station_at s c d) None
+    kept_row c d = get-retain_keys s.stations stay (c, d) (λ x t. ap stay (sym (station_exact (c, d) x t)))
+
+    pub kept_stations : (meaning_of (drops b as') s).stations ≡ kept
+    kept_stations = same_map station_total station_exact _ _ (λ k. drops_station b as' s k.0 k.1 ∙ leave k.0 k.1 ∙ sym (kept_row k.0 k.1))
+
+    pub kept_aid : (c : Bssid) (d : Addr) → aid_of (map.get kept (c, d)) ≡ cond (eq_by_cmp bssid_cmp c b && is_among d as') None (aid_at s c d)
+    kept_aid c d =
+        ap aid_of (kept_row c d ∙ sym (leave c d))
+        ∙ elim (eq_by_cmp bssid_cmp c b && is_among d as') as (λ t. aid_of (cond t None (station_at s c d)) ≡ cond t None (aid_at s c d)) [ true ↦ refl | false ↦ refl ]
+
+    -- who is dropped has no row
+    pub dropped_gone : (d : Addr) → is_among d as' ≡ true → map.get kept (b, d) ≡ None
+    dropped_gone d among =
+        kept_row b d ∙ sym (leave b d) ∙ (λ i. cond (tied bssid_total bssid_exact b i && among i) None (station_at s b d))
+
+    -- and its driver has not got it
+    pub kept_driver : (outs_of : Addr → List (Recipient × Out)) → LetsGo outs_of → (c : Bssid) (d : Addr) →
+        driven (outs_to (Radio c) (flat_map outs_of as')) (aid_at s c) d ≡ aid_of (map.get kept (c, d))
+    kept_driver outs_of go c d =
+        all_let_go outs_of go as' c (aid_at s c) d
+        ∙ elim (one_or_apart bssid_total bssid_exact c b) [
+          | inl same ↦ subst (λ (z : Bssid). cond (eq_by_cmp bssid_cmp z b && (is_some (aid_at s b d) && is_among d as')) None (aid_at s z d) ≡ cond (eq_by_cmp bssid_cmp z b && is_among d as') None (aid_at s z d)) (sym same)
+              (known_or_none (eq_by_cmp bssid_cmp b b) (is_among d as') (aid_at s b d))
+          | inr apart ↦ ap (λ t. cond (t && (is_some (aid_at s b d) && is_among d as')) None (aid_at s c d)) apart ∙ ap (λ t. cond (t && is_among d as') None (aid_at s c d)) (sym apart)
+        ]
+        ∙ sym (kept_aid c d)
+
+  -- ---- those that a mode denies
+  module _ (mode : AclMode) where
+    abbrev denied : List Addr
+    denied = denied_by s b mode
+
+    -- at the BSSID: what is among the denied is gone, and so is what doesn't stay
+    denied_here : (d : Addr) (o : Option Station) → station_at s b d ≡ o → (t : Bool) → allowed_in s b d mode ≡ t → cond (is_among d denied) None o ≡ cond t o None
+    denied_here d o e true allowed =
+        elim (is_among d denied) as (λ m. is_among d denied ≡ m → cond m None o ≡ o) [
+          | true ↦ λ among. differ _ (denied_among s b mode d among).1 allowed
+          | false ↦ λ _. refl
+        ] refl
+    denied_here d None e false refused = elim (is_among d denied) as (λ m. ◌≡◌ {A = Option Station} (cond m None None) None) [ true ↦ refl | false ↦ refl ]
+    denied_here d (Some x) e false refused = ap (λ m. cond m None (Some x)) (among_denied s b mode d x e refused)
+
+    pub denied_leave : Leave (stays s b mode) denied
+    denied_leave c d =
+        elim (one_or_apart bssid_total bssid_exact c b) [
+          | inl same ↦ subst (λ (z : Bssid). cond (eq_by_cmp bssid_cmp z b && is_among d denied) None (station_at s z d) ≡ cond (stays s b mode (z, d)) (station_at s z d) None) (sym same)
+              (ap (λ t. cond (t && is_among d denied) None (station_at s b d)) (tied bssid_total bssid_exact b)
+              ∙ denied_here d (station_at s b d) refl (allowed_in s b d mode) refl
+              ∙ ap (λ t. cond (not t || allowed_in s b d mode) (station_at s b d) None) (sym (tied bssid_total bssid_exact b)))
+          | inr apart ↦ ap (λ t. cond (t && is_among d denied) None (station_at s c d)) apart
+              ∙ ap (λ t. cond (not t || allowed_in s b d mode) (station_at s c d) None) (sym (other_way b c apart))
+        ]
+
+  -- ---- all of them
+  all_here : (d : Addr) (o : Option Station) → station_at s b d ≡ o → cond (is_among d (addresses_at s b)) None o ≡ None
+  all_here d None e = elim (is_among d (addresses_at s b)) as (λ m. ◌≡◌ {A = Option Station} (cond m None None) None) [ true ↦ refl | false ↦ refl ]
+  all_here d (Some x) e = ap (λ m. cond m None (Some x)) (among_addresses s b d x e)
+
+  abbrev pub is_elsewhere : Bssid × Addr → Bool
+  is_elsewhere key = not (eq_by_cmp bssid_cmp b key.0)
+
+  pub all_leave : Leave is_elsewhere (addresses_at s b)
+  all_leave c d =
+      elim (one_or_apart bssid_total bssid_exact c b) [
+        | inl same ↦ subst (λ (z : Bssid). cond (eq_by_cmp bssid_cmp z b && is_among d (addresses_at s b)) None (station_at s z d) ≡ cond (is_elsewhere (z, d)) (station_at s z d) None) (sym same)
+            (ap (λ t. cond (t && is_among d (addresses_at s b)) None (station_at s b d)) (tied bssid_total bssid_exact b)
+            ∙ all_here d (station_at s b d) refl
+            ∙ ap (λ t. cond (not t) (station_at s b d) None) (sym (tied bssid_total bssid_exact b)))
+        | inr apart ↦ ap (λ t. cond (t && is_among d (addresses_at s b)) None (station_at s c d)) apart
+            ∙ ap (λ t. cond (not t) (station_at s c d) None) (sym (other_way b c apart))
+      ]
+
+  pub all_gone : (d : Addr) → map.get (map.retain_keys s.stations is_elsewhere) (b, d) ≡ None
+  all_gone d =
+      kept_row is_elsewhere (addresses_at s b) all_leave b d
+      ∙ ap (λ t. cond (not t) (station_at s b d) None) (tied bssid_total bssid_exact b)

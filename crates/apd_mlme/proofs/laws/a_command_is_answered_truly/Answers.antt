@@ -1,0 +1,5 @@
+use Rattle.apd_mlme.proofs.CommandedLaws.{verdict_answered}
+use Rattle.apd_mlme.proofs.laws.a_command_is_answered_truly.Goals as goal
+
+pub returns : goal.returns
+returns c = verdict_answered

@@ -1,0 +1,140 @@
+//! Control commands that send stations away (own; IEEE Std 802.11-2016, 11.3.4.4 and 11.3.5.8).
+ghost use Rattle.std.specs.Prelude.{◌≡◌, IfOk};
+ghost use Rattle.std.specs.Ordering.{eq_by_cmp};
+ghost use Rattle.apd_base.specs.Addr.{addr_cmp};
+ghost use Rattle.apd_mlme.specs.declared.event.TheConstants.{BROADCAST};
+ghost use Rattle.apd_mlme.specs.Commands.{all_kicked, deauthenticated, disassociated, farewell, kick_verdict, kicked};
+
+use crate::answer::{Answer, answered};
+use crate::decision::{Decision, sent};
+use crate::event::BROADCAST;
+use crate::leaving::{
+    deauthentication, disassociation, dropped, push_outs_of_drop, push_outs_of_end, push_removal,
+    put_back,
+};
+use apd_base::{Addr, Bssid, Sequence, Station};
+use apd_frame::{Reason, Reply};
+use apd_record::Change;
+use apd_table::Table;
+use std::alloc::{AllocError, Global};
+
+fn is_broadcast(addr: Addr) -> bool
+    ensures { result ≡ eq_by_cmp addr_cmp addr BROADCAST }
+{
+    addr.cmp(&BROADCAST).is_eq()
+}
+
+/// The frame that a station is sent away with.
+fn farewell(bssid: Bssid, to: Addr, reason: Reason, deauth: bool) -> Reply
+    ensures { result ≡ farewell bssid to reason deauth }
+{
+    if deauth {
+        deauthentication(bssid, to, reason)
+    } else {
+        disassociation(bssid, to, reason)
+    }
+}
+
+/// A station is deauthenticated: it has no row from then on.
+fn deauthenticated(
+    alloc: Global,
+    table: &Table,
+    bssid: Bssid,
+    to: Addr,
+    reason: Reason,
+) -> Result<Decision, AllocError>
+    ensures changes { IfOk result (λ d. d.changes ≡ (deauthenticated table.now bssid to reason).changes) }
+    ensures outs { IfOk result (λ d. d.outs ≡ (deauthenticated table.now bssid to reason).outs) }
+{
+    match table.get(bssid, to) {
+        Some(_) => {
+            let mut outs = Sequence::new(alloc);
+            push_outs_of_drop(alloc, table, bssid, to, reason, &mut outs)?;
+            dropped(alloc, bssid, to, outs)
+        }
+        None => Decision::only_sent(alloc, &deauthentication(bssid, to, reason)),
+    }
+}
+
+/// A station is disassociated: where it was associated it is authenticated from then on.
+fn disassociated(
+    alloc: Global,
+    table: &Table,
+    bssid: Bssid,
+    to: Addr,
+    reason: Reason,
+) -> Result<Decision, AllocError>
+    ensures changes { IfOk result (λ d. d.changes ≡ (disassociated table.now bssid to reason).changes) }
+    ensures outs { IfOk result (λ d. d.outs ≡ (disassociated table.now bssid to reason).outs) }
+{
+    match table.get(bssid, to) {
+        Some(Station::Associated(_)) => {
+            let mut outs = Sequence::new(alloc);
+            push_outs_of_end(alloc, bssid, to, reason, &mut outs)?;
+            put_back(alloc, bssid, to, outs)
+        }
+        Some(Station::Authenticated) | None => {
+            Decision::only_sent(alloc, &disassociation(bssid, to, reason))
+        }
+    }
+}
+
+/// All stations of the BSSID are sent away with one frame: none has a row from then on.
+fn all_kicked(
+    alloc: Global,
+    table: &Table,
+    bssid: Bssid,
+    reason: Reason,
+    deauth: bool,
+) -> Result<Decision, AllocError>
+    ensures changes { IfOk result (λ d. d.changes ≡ (all_kicked table.now bssid reason deauth).changes) }
+    ensures outs { IfOk result (λ d. d.outs ≡ (all_kicked table.now bssid reason deauth).outs) }
+{
+    let all = table.addresses(alloc, bssid)?;
+    let mut changes = Sequence::new(alloc);
+    let mut outs = Sequence::new(alloc);
+    for addr in all.as_slice() {
+        changes.push(Change::Drop { bssid, addr: *addr })?;
+        push_removal(table, bssid, *addr, &mut outs)?;
+    }
+    outs.push(sent(alloc, &farewell(bssid, BROADCAST, reason, deauth))?)?;
+    Ok(Decision { changes, outs })
+}
+
+fn kicked(
+    alloc: Global,
+    table: &Table,
+    bssid: Bssid,
+    to: Addr,
+    reason: Reason,
+    deauth: bool,
+) -> Result<Decision, AllocError>
+    ensures changes { IfOk result (λ d. d.changes ≡ (kicked table.now bssid to reason deauth).changes) }
+    ensures outs { IfOk result (λ d. d.outs ≡ (kicked table.now bssid to reason deauth).outs) }
+{
+    if is_broadcast(to) {
+        all_kicked(alloc, table, bssid, reason, deauth)
+    } else if deauth {
+        deauthenticated(alloc, table, bssid, to, reason)
+    } else {
+        disassociated(alloc, table, bssid, to, reason)
+    }
+}
+
+/// What a command brings about that sends a station away, or all of the BSSID's where the address is the
+/// broadcast address. It is always obeyed.
+pub fn kick(
+    alloc: Global,
+    table: &Table,
+    bssid: Bssid,
+    to: Addr,
+    reason: Reason,
+    deauth: bool,
+    tag: u64,
+) -> Result<Decision, AllocError>
+    ensures changes { IfOk result (λ d. d.changes ≡ (kick_verdict table.now bssid to reason deauth tag).changes) }
+    ensures outs { IfOk result (λ d. d.outs ≡ (kick_verdict table.now bssid to reason deauth tag).outs) }
+{
+    let decision = kicked(alloc, table, bssid, to, reason, deauth)?;
+    answered(alloc, tag, Answer::Done, decision)
+}

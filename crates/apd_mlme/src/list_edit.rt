@@ -1,0 +1,100 @@
+//! Control commands that edit a list (own).
+ghost use Rattle.std.specs.Prelude.{◌≡◌, nat_le, IfOk, IsSome};
+ghost use Rattle.apd_base.specs.Sets.{contains};
+ghost use Rattle.apd_base.specs.State.{list_count, policy_at};
+ghost use Rattle.apd_base.specs.declared.limits.TheConstants.{MAX_LISTED};
+ghost use Rattle.apd_mlme.specs.Commands.{change_of, edited, list_edit_verdict};
+
+use crate::answer::{Answer, answered};
+use crate::decision::Decision;
+use crate::event::Edit;
+use crate::leaving::denied_dropped;
+use apd_base::limits::MAX_LISTED;
+use apd_base::{Addr, Bssid, Which};
+use apd_record::Change;
+use apd_table::Table;
+use std::alloc::{AllocError, Global};
+
+/// The change that an edit is.
+fn change_of(bssid: Bssid, which: Which, edit: Edit) -> Change
+    ensures { result ≡ change_of bssid which edit }
+{
+    match edit {
+        Edit::Add(addr) => Change::ListAdd { bssid, which, addr },
+        Edit::Remove(addr) => Change::ListDel { bssid, which, addr },
+        Edit::Clear => Change::ListClear { bssid, which },
+    }
+}
+
+/// The edit is made: before it, each station ends that the policy denies by the lists after it.
+fn edited(
+    alloc: Global,
+    table: &Table,
+    bssid: Bssid,
+    which: Which,
+    edit: Edit,
+) -> Result<Decision, AllocError>
+    ensures changes { IfOk result (λ d. d.changes ≡ (edited table.now bssid which edit).changes) }
+    ensures outs { IfOk result (λ d. d.outs ≡ (edited table.now bssid which edit).outs) }
+{
+    let change = change_of(bssid, which, edit);
+    let denied = table.denied_after(alloc, bssid, &change)?;
+    let mut decision = denied_dropped(alloc, table, bssid, denied.as_slice())?;
+    decision.changes.push(change)?;
+    Ok(decision)
+}
+
+fn is_listed(table: &Table, bssid: Bssid, which: Which, addr: Addr) -> bool
+    requires { IsSome (policy_at table.now bssid) }
+    ensures { result ≡ contains table.now.lists (bssid, which, addr) }
+{
+    match table.lists(bssid) {
+        Some(lists) => lists.has(which, addr),
+        None => false,
+    }
+}
+
+fn is_full(table: &Table, bssid: Bssid, which: Which) -> bool
+    requires { IsSome (policy_at table.now bssid) }
+    ensures { result ≡ nat_le MAX_LISTED (list_count table.now bssid which) }
+{
+    match table.lists(bssid) {
+        Some(lists) => MAX_LISTED <= lists.len(which),
+        None => false,
+    }
+}
+
+/// What a command brings about that edits a list. It is refused where a new address comes to a full list.
+pub fn list_edit(
+    alloc: Global,
+    table: &Table,
+    bssid: Bssid,
+    which: Which,
+    edit: Edit,
+    tag: u64,
+) -> Result<Decision, AllocError>
+    requires { IsSome (policy_at table.now bssid) }
+    ensures changes { IfOk result (λ d. d.changes ≡ (list_edit_verdict table.now bssid which edit tag).changes) }
+    ensures outs { IfOk result (λ d. d.outs ≡ (list_edit_verdict table.now bssid which edit tag).outs) }
+{
+    let (answer, decision) = match edit {
+        Edit::Add(addr) => {
+            if is_listed(table, bssid, which, addr) {
+                (Answer::Done, Decision::nothing(alloc))
+            } else if is_full(table, bssid, which) {
+                (Answer::Refused, Decision::nothing(alloc))
+            } else {
+                (Answer::Done, edited(alloc, table, bssid, which, edit)?)
+            }
+        }
+        Edit::Remove(addr) => {
+            if is_listed(table, bssid, which, addr) {
+                (Answer::Done, edited(alloc, table, bssid, which, edit)?)
+            } else {
+                (Answer::Done, Decision::nothing(alloc))
+            }
+        }
+        Edit::Clear => (Answer::Done, edited(alloc, table, bssid, which, edit)?),
+    };
+    answered(alloc, tag, answer, decision)
+}
