@@ -1,6 +1,6 @@
 use crate::plain::{Accepted, Input, QuietReason, Step, Told, World, drive};
 use crate::script::run_script;
-use apd_base::{Addr, Bssid, Moment};
+use apd_base::{AclMode, Addr, Bssid, Moment};
 use apd_conf::{AddressList, Conf, Confs, InterfaceName, Ssid, read_list};
 use apd_ctrl::Query;
 use apd_frame::Reason;
@@ -63,7 +63,7 @@ fn prints(
 }
 
 /// What a script prints once the station joined.
-const ONCE_JOINED: [Row; 8] = [
+const ONCE_JOINED: [Row; 11] = [
     Row {
         about: "the same association once more",
         script: "rx wlan0 000000000200000000010200000000aa020000000001200031040a0000036e6574010482848b96\nflush\ncmd STA-FIRST\n",
@@ -103,6 +103,21 @@ const ONCE_JOINED: [Row; 8] = [
         about: "an address that is there is not put there again",
         script: "cmd ACCEPT_ACL ADD_MAC 02:00:00:00:00:aa\ncmd ACCEPT_ACL ADD_MAC 02:00:00:00:00:aa\nflush\ncmd ACCEPT_ACL SHOW\n",
         want: "entry 4\nentry 5\nctrl 5 OK\\n\nctrl 6 OK\\n\nctrl 8 02:00:00:00:00:aa VLAN_ID=0\\n\n",
+    },
+    Row {
+        about: "all stations go by a broadcast disassociation, and the joined ones in their order",
+        script: "rx wlan0 b00000000200000000010200000000ab0200000000011000000001000000\nrx wlan0 b00000000200000000010200000000ac0200000000011000000001000000\nrx wlan0 000000000200000000010200000000ac020000000001200031040a0000036e6574010482848b96\nflush\ncmd DISASSOCIATE ff:ff:ff:ff:ff:ff reason=00001\nflush\ncmd STATUS\n",
+        want: "entry 4\nentry 5\nentry 6\nwlan0 tx b00000000200000000ab0200000000010200000000010000000002000000\nwlan0 tx b00000000200000000ac0200000000010200000000010000000002000000\nwlan0 install 02:00:00:00:00:ac 2\nwlan0 tx 100000000200000000ac02000000000102000000000100000100000002c0010482848b96\nentry 7\nwlan0 remove 02:00:00:00:00:aa\nwlan0 remove 02:00:00:00:00:ac\nwlan0 tx a0000000ffffffffffff02000000000102000000000100000100\nctrl 9 OK\\n\nctrl 11 state=ENABLED\\nchannel=6\\nbeacon_int=100\\nbss[0]=wlan0\\nbssid[0]=02:00:00:00:00:01\\nssid[0]=net\\nnum_sta[0]=0\\n\n",
+    },
+    Row {
+        about: "a disassociation is sent to a station that did not join, and to one that is not there",
+        script: "rx wlan0 b00000000200000000010200000000ab0200000000011000000001000000\nflush\ncmd DISASSOCIATE 02:00:00:00:00:ab\ncmd DISASSOCIATE 02:00:00:00:00:cc\nflush\n",
+        want: "entry 4\nwlan0 tx b00000000200000000ab0200000000010200000000010000000002000000\nentry 5\nentry 6\nwlan0 tx a00000000200000000ab02000000000102000000000100000200\nwlan0 tx a00000000200000000cc02000000000102000000000100000200\nctrl 7 OK\\n\nctrl 8 OK\\n\n",
+    },
+    Row {
+        about: "a station that is denied goes once it is accepted no more",
+        script: "cmd ACCEPT_ACL ADD_MAC 02:00:00:00:00:aa\ncmd DENY_ACL ADD_MAC 02:00:00:00:00:aa\ncmd ACCEPT_ACL DEL_MAC 02:00:00:00:00:aa\nflush\n",
+        want: "entry 4\nentry 5\nentry 6\nwlan0 remove 02:00:00:00:00:aa\nwlan0 tx c00000000200000000aa02000000000102000000000100000100\nctrl 5 OK\\n\nctrl 6 OK\\n\nctrl 7 OK\\n\n",
     },
 ];
 
@@ -227,6 +242,22 @@ fn a_command_is_for_the_interface_that_it_names(rt: HostRuntime) -> Result<(), F
             "entry 3\nctrl 2 OK\\n\nctrl 4 \nctrl 5 02:00:00:00:00:aa VLAN_ID=0\\n\n",
         ],
     )
+}
+
+/// Where only the accepted are allowed three stations come in, and go once they are accepted no more.
+const ACCEPTED: &str =
+    "cmd ACCEPT_ACL ADD_MAC 02:00:00:00:00:ac\ncmd ACCEPT_ACL ADD_MAC 02:00:00:00:00:aa\ncmd ACCEPT_ACL ADD_MAC 02:00:00:00:00:ab\nrx wlan0 b00000000200000000010200000000aa0200000000011000000001000000\nrx wlan0 b00000000200000000010200000000ab0200000000011000000001000000\nrx wlan0 b00000000200000000010200000000ac0200000000011000000001000000\nrx wlan0 000000000200000000010200000000aa020000000001200031040a0000036e6574010482848b96\nrx wlan0 000000000200000000010200000000ac020000000001200031040a0000036e6574010482848b96\nflush\ncmd ACCEPT_ACL DEL_MAC 02:00:00:00:00:ac\ncmd ACCEPT_ACL CLEAR\nflush\ncmd STA-FIRST\ncmd ACCEPT_ACL SHOW\n";
+
+const ACCEPTED_NO_MORE: &str =
+    "entry 2\nentry 3\nentry 4\nentry 5\nentry 6\nentry 7\nentry 8\nentry 9\nwlan0 tx b00000000200000000aa0200000000010200000000010000000002000000\nwlan0 tx b00000000200000000ab0200000000010200000000010000000002000000\nwlan0 tx b00000000200000000ac0200000000010200000000010000000002000000\nwlan0 install 02:00:00:00:00:aa 1\nwlan0 tx 100000000200000000aa02000000000102000000000100000100000001c0010482848b96\nwlan0 install 02:00:00:00:00:ac 2\nwlan0 tx 100000000200000000ac02000000000102000000000100000100000002c0010482848b96\nctrl 1 OK\\n\nctrl 2 OK\\n\nctrl 3 OK\\n\nentry 10\nentry 11\nwlan0 remove 02:00:00:00:00:ac\nwlan0 tx c00000000200000000ac02000000000102000000000100000100\nwlan0 remove 02:00:00:00:00:aa\nwlan0 tx c00000000200000000aa02000000000102000000000100000100\nwlan0 tx c00000000200000000ab02000000000102000000000100000100\nctrl 10 OK\\n\nctrl 11 OK\\n\nctrl 13 \nctrl 14 \n";
+
+#[test]
+fn stations_go_once_they_are_accepted_no_more(rt: HostRuntime) -> Result<(), Fail> {
+    let alloc = rt.alloc();
+    let mut conf = Conf::built_in(alloc)?;
+    conf.macaddr_acl = AclMode::DenyUnlessAccepted;
+    let confs = alone(alloc, conf)?;
+    prints(&rt, "in mode 1", confs, &[ACCEPTED], &[ACCEPTED_NO_MORE])
 }
 
 /// A list file of 1,024 addresses, from 02:00:00:00:00:00 on.

@@ -35,6 +35,10 @@ fn the_policy_answers_authentications(rt: HostRuntime) -> Result<(), Fail> {
     for (line, accept, deny, body) in [
         // No room: status 17.
         ("max_num_sta=0", "", "", "000002001100"),
+        // Open System is not configured: status 13.
+        ("auth_algs=2", "", "", "000002000d00"),
+        // Denied, and no room: status 1 comes first.
+        ("macaddr_acl=1\nmax_num_sta=0", "", "", "000002000100"),
         // Neither on a list nor allowed by the mode: status 1.
         ("macaddr_acl=1", "", "", "000002000100"),
         // On the deny list: status 1.

@@ -1,6 +1,7 @@
 use apd_base::{AclMode, Addr, Aid, Association, Bssid, Sequence, Station, Which};
 use apd_conf::{Conf, Confs, read_list};
 use apd_frame::{Authentication, Frame};
+use apd_mlme::decision::MAX_RECORDS;
 use apd_mlme::{Decision, Event, Out, decide};
 use apd_record::Change;
 use apd_table::Table;
@@ -196,6 +197,12 @@ fn member(aid: Aid) -> Change {
         addr: Addr([2, 0, 0, 1, high, low]),
         station: Station::Associated(association),
     }
+}
+
+/// A first start with two full lists: a policy of 10 bytes, and 2,048 addresses of 14.
+#[test]
+fn the_most_records_of_an_event(rt: HostRuntime) {
+    assert_eq!(rt; MAX_RECORDS, 28_682);
 }
 
 #[test]

@@ -5,7 +5,7 @@ ghost use Rattle.apd_base.specs.declared.moment.Moment.{Moment};
 ghost use Rattle.apd_ctrl.specs.declared.command.Query.{Query};
 ghost use Rattle.apd_table.specs.Sound.{Sound};
 ghost use Rattle.apd.specs.Heard.{AreMomentsOf, due};
-ghost use Rattle.apd.specs.Run.{AreSteps};
+ghost use Rattle.apd.specs.Run.{AreSteps, Answers};
 ghost use Rattle.apd.specs.Spoken.{SpeaksOfSettled};
 ghost use Rattle.apd.specs.Steps.{IsStep};
 ghost use Rattle.apd.specs.World.{accepted};
@@ -19,6 +19,12 @@ ghost use Rattle.apd.specs.declared.plain.Step.TheVariants.{Ask};
 ghost use Rattle.apd.specs.declared.plain.Told.{Told};
 ghost use Rattle.apd.specs.declared.plain.Told.TheVariants.{Answered};
 ghost use Rattle.apd.specs.declared.plain.World.{World};
+
+/// Steps of any kind, one after the other, are answered as a fold over the accepted requests: by `drive`, in
+/// a start, and by the lines of a script, which reach the world that they leave by steps.
+pub fn steps_are_answered_in_order()
+    ensures { (steps : List Step) (tolds : List Told) (old new : World) → AreSteps steps tolds old new → Answers steps tolds old new }
+{}
 
 /// A tick is quiet for one reason alone, that no station is due: one that is due stands at a BSSID that is
 /// configured and has a policy row, and goes by an entry.

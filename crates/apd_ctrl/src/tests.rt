@@ -187,6 +187,22 @@ fn the_newline_is_not_counted(rt: HostRuntime) -> Result<(), Fail> {
     Ok(())
 }
 
+// A word of this many bytes that is not known is refused by this text.
+fn refuses(rt: &impl Abort, alloc: Global, bytes: usize, want: &[u8]) -> Result<(), Fail> {
+    let mut text = Vec::new(alloc);
+    for _ in 0..bytes {
+        text.push(b'x')?;
+    }
+    assert_eq!(rt; parse_command(&text).refusal(), Some(want));
+    Ok(())
+}
+
+#[test]
+fn the_length_is_looked_at_before_the_word(rt: HostRuntime) -> Result<(), Fail> {
+    refuses(&rt, rt.alloc(), 4096, UNKNOWN_COMMAND)?;
+    refuses(&rt, rt.alloc(), 4097, FAIL)
+}
+
 #[test]
 fn commands_are_placed(rt: HostRuntime) -> Result<(), Fail> {
     let bssid = BSSID;

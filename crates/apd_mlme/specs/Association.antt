@@ -83,7 +83,7 @@ association_response conf b kind a status aid = record {
 abbrev pub is_elsewhere : State → Bssid → Addr → Bssid → Bool
 is_elsewhere s b a c = not (eq_by_cmp bssid_cmp b c) && is_some (aid_at s c a)
 
--- those of the access point's BSSIDs, rising
+-- those of the access point's BSSIDs, rising (own)
 abbrev pub elsewhere : State → Bssid → Addr → List Bssid
 elsewhere s b a = filter (is_elsewhere s b a) (maps.keys s.policies)
 
@@ -94,11 +94,11 @@ with_authenticated a bssids rows = fold (λ more c. maps.insert more (c, a) Auth
 abbrev pub put_backs : Addr → List Bssid → List Change
 put_backs a bssids = map (λ c. Put c a Authenticated) bssids
 
--- it is told so by each of them that is configured: the others have no radio
+-- it is told so by each of them that is configured: the others have no radio (own)
 abbrev pub outs_elsewhere : List Conf → Addr → List Bssid → List (Recipient × Out)
 outs_elsewhere confs a bssids = flat_map (λ c. outs_of_end c a UNSPECIFIED) (filter (λ c. is_some (conf_at confs c)) bssids)
 
--- the driver takes the station in, where it was not associated here before
+-- the driver takes the station in, where it was not associated here before (own)
 abbrev pub installation : State → Bssid → Addr → Aid → List (Recipient × Out)
 installation s b a aid = if is_some (aid_at s b a) then [] else (Radio b, Install a aid) ∷ []
 
@@ -121,7 +121,8 @@ abbrev pub accepted : State → List Conf → Conf → Bssid → Kind → Associ
 accepted s confs conf b kind request None = nothing s
 accepted s confs conf b kind request (Some aid) = associated s confs conf b kind request aid
 
--- By the station's row at the BSSID: it is a class 2 frame, so a station without one is told that it is not authenticated.
+-- By the station's row at the BSSID: it is a class 2 frame, so a station without one is told that it is not authenticated
+-- (11.3.3).
 -- A refused station stays as it is.
 abbrev pub association_of : State → List Conf → Conf → Bssid → Kind → AssociationRequest → Option Station → Verdict
 association_of s confs conf b kind request None = only_sent s (deauthentication b request.sender INVALID_CLASS2_FRAME)

@@ -37,7 +37,7 @@ is_taken s b aid = list_any (has_aid b aid.number) (maps.entries s.stations)
 unfoldable pub least_free : State → Bssid → Option Aid
 least_free s b = find (λ aid. not (is_taken s b aid)) identifiers
 
--- an associated station keeps its own, and any other gets the least free one
+-- an associated station keeps its own, and any other gets the least free one (own)
 abbrev pub identifier_for : State → Bssid → Option Station → Option Aid
 identifier_for s b (Some (Associated x)) = Some x.aid
 identifier_for s b (Some Authenticated) = least_free s b

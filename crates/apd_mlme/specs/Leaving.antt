@@ -25,7 +25,7 @@ disassociation b a reason = record { to = a; bssid = b; body = Disassoc reason }
 abbrev pub deauthentication : Bssid → Addr → Reason → Reply
 deauthentication b a reason = record { to = a; bssid = b; body = Deauth reason }
 
--- the driver lets a station go, where it was associated
+-- the driver lets a station go, where it was associated (own)
 abbrev pub removal : State → Bssid → Addr → List (Recipient × Out)
 removal s b a = if is_some (aid_at s b a) then (Radio b, Remove a) ∷ [] else []
 

@@ -54,7 +54,7 @@ IsSo s (Control, Text tag bytes) = Unit {0}
 abbrev pub AreSo : State → List (Recipient × Out) → Type 0
 AreSo s outs = AllByRecursion (IsSo s) outs
 
--- the same of everyone whom a frame is meant for: one to the broadcast address is meant for every station (9.2.4.3.4)
+-- the same of everyone whom a frame is meant for: one to the broadcast address is meant for every station (9.2.4.3.3)
 abbrev pub IsSoToAll : State → Recipient × Out → Type 0
 IsSoToAll s (Radio b, Frame bytes) =
     (reply : Reply) × (reply.bssid ≡ b) × (bytes ≡ wire reply) × ((a : Addr) → IsMeant reply.to a → IsSaidSo s b a reply.body)

@@ -4,7 +4,7 @@ ghost use Rattle.std.specs.Prelude.{◌≡◌};
 use apd_base::{Addr, Bssid, Which};
 use apd_frame::{Frame, Reason};
 
-/// The broadcast address, which stands for every station (IEEE Std 802.11-2016, 9.2.4.3.4).
+/// The broadcast address, which stands for every station (IEEE Std 802.11-2016, 9.2.4.3.3).
 pub const BROADCAST: Addr = Addr([0xff, 0xff, 0xff, 0xff, 0xff, 0xff]);
 
 /// What a control command does to a list.
