@@ -32,7 +32,8 @@ pub trait Disk {
     fn len(&self) -> usize
         ensures { result ≡ size self.now };
 
-    /// How often the device has failed. The count never falls; one at 2^64 - 1 stays there.
+    /// How often the device has failed. A call that succeeds leaves the count, and one that fails raises it;
+    /// at 2^64 - 1 it stays.
     fn failures(&self) -> u64
         ensures { result ≡ failed self.now };
 

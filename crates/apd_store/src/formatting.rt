@@ -96,7 +96,8 @@ fn lay_out<D: Disk>(device: &mut D) -> Result<(), DiskFault>
 /// be left before, one that is no store, or one that shows the empty table. It takes no memory.
 ///
 /// Errors, with the device handed back: `NotAStore` exactly where its length is not 2,097,216 bytes, and
-/// nothing is then done; `Device` where it failed in this call.
+/// nothing is then done; `Device` where it failed in this call. So it succeeds exactly where the length is
+/// right and no call of the device failed: the count of failures is then as it was.
 pub fn format<D: Disk>(alloc: Global, device: D) -> Result<Store<D>, (D, StoreFault)>
     ensures inside { IfOk result (λ store. IsInside D.size store) }
     ensures empty { D.honest device → IfOk result (λ store. IsIdle D.reads D.may_leave store empty_state) }
@@ -113,7 +114,8 @@ pub fn format<D: Disk>(alloc: Global, device: D) -> Result<Store<D>, (D, StoreFa
     ensures untouched { IfErr result (λ e. e.1 ≡ StoreFault.NotAStore → e.0 ≡ device) }
     ensures only { IfErr result (λ e. (e.1 ≡ StoreFault.NotAStore) ⊎ (e.1 ≡ StoreFault.Device)) }
     ensures device { IfErr result (λ e. e.1 ≡ StoreFault.Device → Rises (D.failed device) (D.failed e.0)) }
-    ensures count { IfOk result (λ store. D.failed device ≤ D.failed (device_of store)) }
+    ensures count { IfOk result (λ store. D.failed (device_of store) ≡ D.failed device) }
+    ensures count_err { IfErr result (λ e. D.failed device ≤ D.failed e.0) }
 {
     let mut device = device;
     if device.len() != DEVICE_LENGTH as usize {

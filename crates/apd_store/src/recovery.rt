@@ -37,6 +37,7 @@ fn read_device<D: Disk>(alloc: Global, device: &mut D) -> Result<Vec<u8>, StoreF
     ensures not_a_store { result ≡ Err StoreFault.NotAStore → D.size device.old ≢ DEVICE_LENGTH }
     ensures memory { result ≡ Err StoreFault.NoMemory → D.size device.old ≡ DEVICE_LENGTH }
     ensures count { D.failed device.old ≤ D.failed device.new }
+    ensures no_fault { result ≢ Err StoreFault.Device → D.failed device.new ≡ D.failed device.old }
     ensures device { IsErrOf result StoreFault.Device → Rises (D.failed device.old) (D.failed device.new) }
     ensures only { OnErr result ((result ≡ Err StoreFault.NotAStore) ⊎ (result ≡ Err StoreFault.Device) ⊎ (result ≡ Err StoreFault.NoMemory)) }
 {
@@ -81,8 +82,9 @@ pub fn recover<D: Disk>(alloc: Global, device: D) -> Result<(Store<D>, Table), (
     ensures other_length { IfErr result (λ e. D.size device ≢ DEVICE_LENGTH → (e.1 ≡ StoreFault.NotAStore) ⊎ (e.1 ≡ StoreFault.Device)) }
     ensures only { IfErr result (λ e. (e.1 ≡ StoreFault.NotAStore) ⊎ (e.1 ≡ StoreFault.Damaged) ⊎ (e.1 ≡ StoreFault.Device) ⊎ (e.1 ≡ StoreFault.NoMemory)) }
     ensures device { IfErr result (λ e. e.1 ≡ StoreFault.Device → Rises (D.failed device) (D.failed e.0)) }
-    ensures count { IfOk result (λ found. D.failed device ≤ D.failed (device_of found.0)) }
+    ensures count { IfOk result (λ found. D.failed (device_of found.0) ≡ D.failed device) }
     ensures count_err { IfErr result (λ e. D.failed device ≤ D.failed e.0) }
+    ensures no_fault { IfErr result (λ e. e.1 ≢ StoreFault.Device → D.failed e.0 ≡ D.failed device) }
 {
     let mut device = device;
     let bytes = match read_device(alloc, &mut device) {

@@ -194,6 +194,7 @@ impl<D: Disk> Store<D> {
         ensures failed { IsErrOf result StoreFault.Failed ↔ (phase_of self.old ≡ Phase.Failed) }
 
         ensures count { D.failed (device_of self.old) ≤ D.failed (device_of self.new) }
+        ensures no_fault { OnOk result (D.failed (device_of self.new) ≡ D.failed (device_of self.old)) }
         ensures device { IsErrOf result StoreFault.Device → Rises (D.failed (device_of self.old)) (D.failed (device_of self.new)) }
     {
         match self.phase {
