@@ -1,10 +1,11 @@
 //! From bytes to a frame, or to the reason why they are ignored.
-ghost use Rattle.std.specs.Prelude.{◌≡◌, ◌+◌, ◌≤◌, ◌↔◌, ℕ, List, Option, None, Some, Result, IfOk, MatchResult, length};
+ghost use Rattle.std.specs.Prelude.{◌≡◌, ◌≢◌, ◌+◌, ◌≤◌, ◌↔◌, ℕ, false, List, Option, None, Some, Result, Ok, IfOk, MatchResult, length};
 ghost use Rattle.std.specs.List.{find};
 ghost use Rattle.apd_base.specs.declared.address.Bssid.{Bssid as Own};
 ghost use Rattle.apd_frame.specs.declared.reasons.Ignored.{Ignored as WhyIgnored};
-ghost use Rattle.apd_frame.specs.Contents.{Contents, contents, received};
+ghost use Rattle.apd_frame.specs.Contents.{Contents, contents, received, sender_of};
 ghost use Rattle.apd_frame.specs.Kinds.{fixed_octets, kind_of};
+ghost use Rattle.apd_frame.specs.Octets.{broadcast, is_group_address};
 ghost use Rattle.apd_frame.specs.Outcome.{contents_at, holds, outcome, reasons, IsOutcome};
 
 use crate::codes::Reason;
@@ -122,4 +123,11 @@ pub fn decode(bytes: &[u8], own: Bssid) -> Result<Frame<'_>, Ignored>
 pub fn exactly_one_outcome()
     ensures { (f : List ℕ) (own : Own) (x : Result Contents WhyIgnored) →
         IsOutcome f own x ↔ (x ≡ outcome f own) }
+{}
+
+/// The sender of a frame that is not ignored is a single station: its address is no group's, so it is
+/// not the broadcast address.
+pub fn a_sender_is_one_station()
+    ensures individual { (f : List ℕ) (own : Own) (c : Contents) → outcome f own ≡ Ok c → is_group_address (sender_of c) ≡ false }
+    ensures not_broadcast { (f : List ℕ) (own : Own) (c : Contents) → outcome f own ≡ Ok c → sender_of c ≢ broadcast }
 {}

@@ -14,7 +14,7 @@ pub mod received;
 pub mod replies;
 
 pub use codes::{Reason, Status};
-pub use decoder::{decode, exactly_one_outcome};
+pub use decoder::{a_sender_is_one_station, decode, exactly_one_outcome};
 pub use element::{DSSS_PARAMETER_SET, Element, Elements, SSID, SUPPORTED_RATES};
 pub use element_list::{elements, elements_law, first_with, well_formed};
 pub use encoder::{encode, wire_law};

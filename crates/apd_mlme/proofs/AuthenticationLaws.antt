@@ -1,11 +1,11 @@
 -- What an authentication request leaves.
-use Rattle.std.proofs.Common.{◌≡◌, ◌≢◌, ℕ, ◌<◌, Bool, true, false, cond, not, ◌&&◌, eqb, leb, [], ◌∷◌, Option, Some, None, inl, inr, refl, sym, ap, ◌∙◌, IsTrue, IsSome, arith}
+use Rattle.std.proofs.Common.{◌≡◌, ◌≢◌, ℕ, ◌<◌, Bool, true, false, cond, not, ◌&&◌, eqb, leb, [], ◌∷◌, Option, Some, None, inl, inr, refl, sym, ap, ◌∙◌, IsSome, arith}
 use Rattle.std.specs.Option.{is_some}
 use Rattle.std.specs.Prelude.{map as list_map}
 use Rattle.std.specs.Ordering.{eq_by_cmp}
 use Rattle.std.specs.List.{AllByRecursion}
 use Rattle.std.specs.FinMap as map
-use Rattle.std.proofs.lemmas.Bool.{and_parts, eqb-true, leb-false}
+use Rattle.std.proofs.lemmas.Bool.{and_parts, eqb-true, eqb-false, eq-eqb, leb-true, leb-false}
 use Rattle.apd_base.specs.declared.address.Addr.{Addr}
 use Rattle.apd_base.specs.declared.address.Bssid.{Bssid}
 use Rattle.apd_base.specs.declared.station.Policy.{Policy}
@@ -16,7 +16,8 @@ use Rattle.apd_base.specs.State.{State, station_at, policy_at, aid_of, aid_at, c
 use Rattle.apd_base.proofs.AddrLaws.{station_total, station_exact}
 use Rattle.apd_base.proofs.MapLaws.{one_or_apart, apart, get_inserted, get_insert_other}
 use Rattle.apd_frame.specs.declared.received.Authentication.{Authentication}
-use Rattle.apd_frame.specs.declared.codes.Status.TheVariants.{Success}
+use Rattle.apd_frame.specs.declared.codes.Status.{Status}
+use Rattle.apd_frame.specs.declared.codes.Status.TheVariants.{Success, RefusedReasonUnspecified, NotSupportedAuthAlgorithm, TransactionSequenceError, DeniedNoMoreStas}
 use Rattle.apd_conf.specs.declared.conf.Conf.{Conf}
 use Rattle.apd_conf.specs.Auth.{allows_open}
 use Rattle.apd_table.specs.Allowed.{allowed}
@@ -29,9 +30,9 @@ use Rattle.apd_mlme.specs.Authentication.{is_known, station_limit, is_full, refu
 use Rattle.apd_mlme.specs.Driver.{driven, DriverMap}
 use Rattle.apd_mlme.specs.Outs.{sent, outs_to}
 use Rattle.apd_mlme.specs.Refusals.{is_success}
-use Rattle.apd_mlme.specs.Told.{IsToldTruly}
+use Rattle.apd_mlme.specs.Told.{IsOpenSystem, IsFirst, IsAllowed, IsDeserved, IsToldTruly}
 use Rattle.apd_mlme.proofs.RefusalLaws.{none_holds, not_and, status_success}
-use Rattle.apd_mlme.proofs.Cases.{not_false}
+use Rattle.apd_mlme.proofs.Cases.{both_true, differ, no_value, not_false}
 
 room : (o : Option Policy) (n : ℕ) → leb (station_limit o) n ≡ false → n < 2007
 room None n e = let low = leb-false 0 n e in absurd (omega arith)
@@ -115,11 +116,51 @@ module _ (s : State) (conf : Conf) (b : Bssid) (request : Authentication) where
     | false ↦ λ e. rw e refl
   ] refl
 
-  -- what success says of the request
-  told_deserved : auth_status s conf b request ≡ Success → IsTrue (allowed s b request.sender) × (request.algorithm ≡ 0) × (request.transaction ≡ 1)
-  told_deserved status =
-      let none = no_reason (ap is_success status) in
-      (not_false _ none.1.1.0, eqb-true request.algorithm 0 (and_parts (eqb request.algorithm 0) (allows_open conf.auth_algs) (not_false _ none.0)).0, eqb-true request.transaction 1 (not_false _ none.1.0))
+  -- what each status says of the request
+  abbrev Deserves : Status → Type 0
+  Deserves = IsDeserved s conf b request
+
+  abbrev by_room : Bool → Status
+  by_room known = cond (not known && is_full s b) DeniedNoMoreStas Success
+
+  new_deserved : IsAllowed s conf b request → station_at s b request.sender ≡ None → Deserves (by_room false)
+  new_deserved may none = elim (is_full s b) as (λ t. is_full s b ≡ t → Deserves (cond t DeniedNoMoreStas Success)) [
+    | true ↦ λ e. (may, none, leb-true (station_limit (policy_at s b)) (count s b) e)
+    | false ↦ λ e. (may, inr (leb-false (station_limit (policy_at s b)) (count s b) e))
+  ] refl
+
+  allowed_deserved : IsAllowed s conf b request → Deserves (by_room (is_known s b request))
+  allowed_deserved may = elim (is_known s b request) as (λ t. is_known s b request ≡ t → Deserves (by_room t)) [
+    | true ↦ λ e. (may, inl e)
+    | false ↦ λ e. new_deserved may (no_value (station_at s b request.sender) e)
+  ] refl
+
+  abbrev by_policy : Bool → Status
+  by_policy may = cond (not may) RefusedReasonUnspecified (by_room (is_known s b request))
+
+  first_deserved : IsFirst conf request → Deserves (by_policy (allowed s b request.sender))
+  first_deserved first = elim (allowed s b request.sender) as (λ t. allowed s b request.sender ≡ t → Deserves (by_policy t)) [
+    | true ↦ λ e. allowed_deserved (first, e)
+    | false ↦ λ e. (first, λ may. differ (allowed s b request.sender) e may)
+  ] refl
+
+  abbrev by_number : Bool → Status
+  by_number first = cond (not first) TransactionSequenceError (by_policy (allowed s b request.sender))
+
+  open_deserved : IsOpenSystem conf request → Deserves (by_number (eqb request.transaction 1))
+  open_deserved opens = elim (eqb request.transaction 1) as (λ t. eqb request.transaction 1 ≡ t → Deserves (by_number t)) [
+    | true ↦ λ e. first_deserved (opens, eqb-true request.transaction 1 e)
+    | false ↦ λ e. (opens, eqb-false request.transaction 1 e)
+  ] refl
+
+  told_deserved : Deserves (auth_status s conf b request)
+  told_deserved =
+      let zero = eqb request.algorithm 0 in
+      let may = allows_open conf.auth_algs in
+      elim (zero && may) as (λ t. (zero && may) ≡ t → Deserves (cond (not t) NotSupportedAuthAlgorithm (by_number (eqb request.transaction 1)))) [
+        | true ↦ λ e. (let parts = and_parts zero may e in open_deserved (eqb-true request.algorithm 0 parts.0, parts.1))
+        | false ↦ λ e. λ is. differ (zero && may) e (both_true zero may (eq-eqb request.algorithm 0 is.0) is.1)
+      ] refl
 
   same_state : admitted ≡ false → (auth_verdict s conf b request).state ≡ s
   same_state e = rw e refl
@@ -141,7 +182,7 @@ module _ (s : State) (conf : Conf) (b : Bssid) (request : Authentication) where
   told_policies : (auth_verdict s conf b request).state.policies ≡ s.policies
   told_policies = elim admitted as (λ t. admitted ≡ t → (auth_verdict s conf b request).state.policies ≡ s.policies) [ true ↦ λ e. rw e refl | false ↦ λ e. rw e refl ] refl
 
-  pub auth_told : IsToldTruly s b request (auth_verdict s conf b request)
+  pub auth_told : IsToldTruly s conf b request (auth_verdict s conf b request)
   auth_told = record {
     status = auth_status s conf b request;
     answer = refl;

@@ -1,3 +1,4 @@
+pub mod AdmittedLaws
 mod AnsweredLaws
 mod AssociationLaws
 pub mod AuthenticationLaws

@@ -167,12 +167,8 @@ module _ (s : State) (confs : List Conf) where
   follows_in h = λ c configured. under_follows c configured (conf_at confs (bssid_of h)) h
 
   -- ---- what an authentication response tells
-  under_told : (o : Option Conf) (b : Bssid) (request : Authentication) → IsSome o → IsToldTruly s b request (verdict_under s confs o (Heard b (authentication request)))
-  under_told (Some conf) b request h = auth_told s conf b request
-  under_told None b request h = cc
-
-  pub told_in : (b : Bssid) (request : Authentication) → IsSome (conf_at confs b) → IsToldTruly s b request (verdict s confs (Heard b (authentication request)))
-  told_in b request = under_told (conf_at confs b) b request
+  pub told_in : (conf : Conf) (b : Bssid) (request : Authentication) → conf_at confs b ≡ Some conf → IsToldTruly s conf b request (verdict s confs (Heard b (authentication request)))
+  told_in conf b request is = subst (λ o. IsToldTruly s conf b request (verdict_under s confs o (Heard b (authentication request)))) (sym is) (auth_told s conf b request)
 
 -- the last state of a row of sound states
 pub stay_end : (changes : List Change) (s : State) → StaySound changes s → Sound (meaning_of changes s)

@@ -75,9 +75,13 @@ IsFromStation (ListEdit b which edit tag) = Unit {0}
 IsFromStation (Expire b a) = Unit {0}
 IsFromStation (Configure b accept deny) = Unit {0}
 
+-- no row has the broadcast address
+abbrev pub NoBroadcastRow : State → Type 0
+NoBroadcastRow s = (b : Bssid) → station_at s b BROADCAST ≡ None
+
 -- no station has the broadcast address for its own: none has a row, and none is heard
 pub record NoneIsBroadcast (s : State) (h : Happening) : Type 0 where
-  pub rows : (b : Bssid) → station_at s b BROADCAST ≡ None
+  pub rows : NoBroadcastRow s
   pub sender : IsFromStation h
 
 -- to a radio that is there: the one of a configured BSSID

@@ -1,7 +1,7 @@
 //! What a reader of clause 11.3 may rely on, whatever the daemon is asked: each law is the contract of
 //! a function that does nothing.
 ghost use Rattle.std.specs.Prelude.{◌≡◌, ◌⊎◌, List, [], None, Some, IsSome};
-ghost use Rattle.apd_base.specs.State.{State, station_at, aid_at};
+ghost use Rattle.apd_base.specs.State.{State, station_at, aid_at, empty_state};
 ghost use Rattle.apd_base.specs.declared.address.Addr.{Addr};
 ghost use Rattle.apd_base.specs.declared.address.Bssid.{Bssid};
 ghost use Rattle.apd_conf.specs.Confs.{conf_at};
@@ -10,6 +10,7 @@ ghost use Rattle.apd_frame.specs.declared.received.Authentication.{Authenticatio
 ghost use Rattle.apd_frame.specs.Contents.{AssociationRequest, ReassociationRequest, association_request, authentication, reassociation_request};
 ghost use Rattle.apd_record.specs.Meaning.{meaning_of};
 ghost use Rattle.apd_table.specs.Sound.{Sound, StaySound};
+ghost use Rattle.apd_mlme.specs.Admitted.{AreFromStations, Asks, HasAsked};
 ghost use Rattle.apd_mlme.specs.Answered.{IsAnsweredTruly};
 ghost use Rattle.apd_mlme.specs.Association.{without_current_ap};
 ghost use Rattle.apd_mlme.specs.Commanded.{IsAnsweredTo};
@@ -22,7 +23,7 @@ ghost use Rattle.apd_mlme.specs.Run.{run, AreFit};
 ghost use Rattle.apd_mlme.specs.Started.{IsStartedBy};
 ghost use Rattle.apd_mlme.specs.declared.association.Kind.TheVariants.{Association, Reassociation};
 ghost use Rattle.apd_mlme.specs.Told.{IsToldTruly};
-ghost use Rattle.apd_mlme.specs.Truth.{AreSo, AreSoToAll, AreThere, NoneIsBroadcast};
+ghost use Rattle.apd_mlme.specs.Truth.{AreSo, AreSoToAll, AreThere, NoBroadcastRow, NoneIsBroadcast};
 
 /// Making the changes of an event in turn leads to the state that its rule says, and each of them
 /// leaves a sound state. An event without changes leaves every row as it was.
@@ -39,11 +40,12 @@ pub fn every_run_stays_sound()
     ensures { (s : State) (confs : List Conf) (hs : List Happening) → AreFit s confs hs → Sound s → Sound (run s confs hs) }
 {}
 
-/// An authentication request is answered by one frame, to its sender. It says success only where the
-/// sender is in the table then, and the policy allows it; where it says anything else every row is as
-/// it was. A station in the table stays as it is, and so does every other station.
+/// An authentication request is answered by one frame, to its sender. Its status is that of the first
+/// reason to refuse that holds, and success where none does. It says success only where the sender is in
+/// the table then; where it says anything else every row is as it was. A station in the table stays as it
+/// is, and so does every other station.
 pub fn told_only_when_so()
-    ensures { (s : State) (confs : List Conf) (b : Bssid) (request : Authentication) → IsSome (conf_at confs b) → IsToldTruly s b request (verdict s confs (Heard b (authentication request))) }
+    ensures { (s : State) (confs : List Conf) (conf : Conf) (b : Bssid) (request : Authentication) → conf_at confs b ≡ Some conf → IsToldTruly s conf b request (verdict s confs (Heard b (authentication request))) }
 {}
 
 /// A driver that has the associated stations of its BSSID, which is configured, has them after each
@@ -85,6 +87,20 @@ pub fn what_leaves_is_so()
     ensures so { (s : State) (confs : List Conf) (h : Happening) → Sound s → AreSo (verdict s confs h).state (verdict s confs h).outs }
     ensures everyone { (s : State) (confs : List Conf) (h : Happening) → Sound s → NoneIsBroadcast s h → AreSoToAll (verdict s confs h).state (verdict s confs h).outs }
     ensures there { (s : State) (confs : List Conf) (h : Happening) → AreThere confs (verdict s confs h).outs }
+{}
+
+/// A station comes into the table of a BSSID by an authentication request of its own, and by nothing else.
+pub fn only_who_asks_comes_into_the_table()
+    ensures once { (s : State) (confs : List Conf) (h : Happening) (b : Bssid) (a : Addr) → station_at s b a ≡ None → IsSome (station_at (verdict s confs h).state b a) → Asks b a h }
+    ensures run { (s : State) (confs : List Conf) (hs : List Happening) (b : Bssid) (a : Addr) → station_at s b a ≡ None → IsSome (station_at (run s confs hs) b a) → HasAsked b a hs }
+{}
+
+/// So no station has the broadcast address for its own, in any run whose frames are from stations: a frame
+/// from the broadcast address is none that is decoded.
+pub fn no_station_gets_the_broadcast_address()
+    ensures once { (s : State) (confs : List Conf) (h : Happening) → NoneIsBroadcast s h → NoBroadcastRow (verdict s confs h).state }
+    ensures run { (s : State) (confs : List Conf) (hs : List Happening) → AreFromStations hs → NoBroadcastRow s → NoBroadcastRow (run s confs hs) }
+    ensures first { NoBroadcastRow empty_state }
 {}
 
 /// Nobody is left in the belief that it is associated: a station whose association with a configured

@@ -1,0 +1,14 @@
+use Rattle.std.specs.FinMap.{get-empty}
+use Rattle.apd_base.specs.Addr.{station_cmp}
+use Rattle.apd_mlme.specs.declared.event.TheConstants.{BROADCAST}
+use Rattle.apd_mlme.proofs.AdmittedLaws.{verdict_broadcast, run_broadcast}
+use Rattle.apd_mlme.proofs.laws.no_station_gets_the_broadcast_address.Goals as goal
+
+pub returns-clause-once : goal.returns-clause-once
+returns-clause-once c = λ s confs h nobody. verdict_broadcast s confs h nobody.sender nobody.rows
+
+pub returns-clause-run : goal.returns-clause-run
+returns-clause-run c = λ s confs hs. run_broadcast confs hs s
+
+pub returns-clause-first : goal.returns-clause-first
+returns-clause-first c = λ b. get-empty station_cmp (b, BROADCAST)
