@@ -2,7 +2,7 @@
 use Rattle.std.proofs.Common.{◌≡◌, ◌≢◌, ℕ, Bool, true, false, cond, not, ◌&&◌, [], ◌++◌, List, Option, Some, None, inl, inr, refl, sym, ap, ◌∙◌, IsSome}
 use Rattle.std.specs.Option.{is_some}
 use Rattle.std.specs.Ordering.{eq_by_cmp}
-use Rattle.std.proofs.lemmas.Bool.{ltb-false}
+use Rattle.std.proofs.lemmas.Bool.{ltb-false, le-ltb}
 use Rattle.std.proofs.lemmas.Slice.Eq.{bytes_eq-Decides}
 use Rattle.apd_base.specs.declared.address.Addr.{Addr}
 use Rattle.apd_base.specs.declared.address.Bssid.{Bssid}
@@ -30,7 +30,7 @@ use Rattle.apd_mlme.specs.Verdict.{Verdict, only_sent}
 use Rattle.apd_mlme.proofs.AssociationLaws.{three, others, cleared, cleared_here, cleared_elsewhere, own_or_free, own_kept, associated_station}
 use Rattle.apd_mlme.proofs.ElsewhereLaws.{is_among, among_elsewhere, put_backs_station}
 use Rattle.apd_mlme.proofs.IdentifierLaws.{is_least_free, identifier_is_there}
-use Rattle.apd_mlme.proofs.RefusalLaws.{none_holds, status_success}
+use Rattle.apd_mlme.proofs.RefusalLaws.{none_holds, status_success, success_of_none}
 use Rattle.apd_mlme.proofs.Cases.{both_true, differ, either, first_false, none_is, not_false, second_false}
 
 -- ---- what is asked
@@ -47,6 +47,12 @@ acceptable conf request e =
       rated = not_false _ none.1.1.0;
       often = ltb-false conf.max_listen_interval request.listen_interval none.1.1.1.0;
     }
+
+accepted_status : (conf : Conf) (request : AssociationRequest) → IsAcceptable conf request → association_status conf request ≡ Success
+accepted_status conf request may =
+    let named = ap (is_named conf) may.named ∙ (bytes_eq-Decides conf.ssid conf.ssid).1 refl in
+    let often = le-ltb conf.max_listen_interval request.listen_interval may.often in
+    success_of_none (association_refusals conf request) (ap not may.whole, (ap not named, (ap not may.rated, (often, tt))))
 
 -- ---- a station's rows at the other BSSIDs
 module _ (s : State) (b : Bssid) (a : Addr) where
@@ -120,7 +126,7 @@ module _ (s : State) (confs : List Conf) (conf : Conf) (b : Bssid) (kind : Kind)
     before = outs_elsewhere confs a (elsewhere s b a) ++ installation s b a aid;
     answer = refl;
     success = λ _. member;
-    deserved = λ _. acceptable conf request (ap is_success good);
+    deserved = (λ _. acceptable conf request (ap is_success good), λ _. refl);
     kept = λ _ known. ap aid_of row_here ∙ sym (own_kept s b a aid (station_at s b a) refl own known);
     least = λ _ none. least_told none (station_at s b a) refl own;
     elsewhere = λ _ c ne. row_elsewhere c (apart bssid_total bssid_exact c b ne) a ∙ cleared_row s b a sound c (apart bssid_total bssid_exact b c (λ e. ne (sym e)));
@@ -145,7 +151,7 @@ module _ (s : State) (confs : List Conf) (conf : Conf) (b : Bssid) (kind : Kind)
     before = [];
     answer = refl;
     success = λ good. absurd (refuses (association_status conf request) bad good);
-    deserved = λ good. absurd (refuses (association_status conf request) bad good);
+    deserved = (λ good. absurd (refuses (association_status conf request) bad good), accepted_status conf request);
     kept = λ good. absurd (refuses (association_status conf request) bad good);
     least = λ good. absurd (refuses (association_status conf request) bad good);
     elsewhere = λ good. absurd (refuses (association_status conf request) bad good);

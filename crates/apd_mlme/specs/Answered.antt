@@ -1,5 +1,5 @@
 -- What an association or a reassociation response tells its station.
-use Rattle.std.specs.Prelude.{◌≡◌, ◌≢◌, ◌≤◌, List, [], ◌∷◌, ◌++◌, Option, Some, None, IsSome, IsTrue, IfSome, IsSomeAnd}
+use Rattle.std.specs.Prelude.{◌≡◌, ◌≢◌, ◌≤◌, ◌↔◌, List, [], ◌∷◌, ◌++◌, Option, Some, None, IsSome, IsTrue, IfSome, IsSomeAnd}
 use Rattle.apd_base.specs.declared.address.Addr.{Addr}
 use Rattle.apd_base.specs.declared.address.Bssid.{Bssid}
 use Rattle.apd_base.specs.declared.station.Aid.{Aid}
@@ -45,9 +45,10 @@ pub record IsAnsweredTruly (s : State) (conf : Conf) (b : Bssid) (kind : Kind) (
   pub aid : Option Aid
   pub before : List (Recipient × Out)
   pub answer : v.outs ≡ before ++ sent (association_response conf b kind request.sender status aid) ∷ []
-  -- success, and an identifier, are told to a member that asked as it must
+  -- success is told where the request is as it must be, and nowhere else
+  pub deserved : (status ≡ Success) ↔ IsAcceptable conf request
+  -- it is told to a member, and with its identifier
   pub success : status ≡ Success → IsSomeAnd aid (IsMember v.state b request)
-  pub deserved : status ≡ Success → IsAcceptable conf request
   -- a station that was associated here keeps its identifier, and any other gets the least that was free
   pub kept : status ≡ Success → IsSome (aid_at s b request.sender) → aid_at v.state b request.sender ≡ aid_at s b request.sender
   pub least : status ≡ Success → aid_at s b request.sender ≡ None → IfSome aid (λ x. IsLeastFree s b x.number)

@@ -68,9 +68,9 @@ pub fn an_identifier_is_left()
 {}
 
 /// An association or a reassociation request of a station with a row is answered by one response, the
-/// last out. It says success only where the sender is associated then, at this BSSID and no other, with
-/// the identifier that it is told and that nobody else of the BSSID has; where it says anything else
-/// every row is as it was.
+/// last out. It says success exactly where the request is as it must be, and the sender is associated
+/// then, at this BSSID and no other, with the identifier that it is told and that nobody else of the BSSID
+/// has; where it says anything else every row is as it was.
 pub fn a_member_is_told_so()
     ensures association { (s : State) (confs : List Conf) (conf : Conf) (b : Bssid) (request : AssociationRequest) → conf_at confs b ≡ Some conf → Sound s → IsSome (station_at s b request.sender) → IsAnsweredTruly s conf b Association request (verdict s confs (Heard b (association_request request))) }
     ensures reassociation { (s : State) (confs : List Conf) (conf : Conf) (b : Bssid) (request : ReassociationRequest) → conf_at confs b ≡ Some conf → Sound s → IsSome (station_at s b request.sender) → IsAnsweredTruly s conf b Reassociation (without_current_ap request) (verdict s confs (Heard b (reassociation_request request))) }
