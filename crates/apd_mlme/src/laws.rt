@@ -1,13 +1,14 @@
 //! What a reader of clause 11.3 may rely on, whatever the daemon is asked: each law is the contract of
 //! a function that does nothing.
-ghost use Rattle.std.specs.Prelude.{◌≡◌, ◌⊎◌, List, [], None, Some, IsSome};
+ghost use Rattle.std.specs.Prelude.{◌≡◌, ◌⊎◌, ℕ, List, [], None, Some, Ok, IsSome};
 ghost use Rattle.apd_base.specs.State.{State, station_at, aid_at, empty_state};
 ghost use Rattle.apd_base.specs.declared.address.Addr.{Addr};
 ghost use Rattle.apd_base.specs.declared.address.Bssid.{Bssid};
 ghost use Rattle.apd_conf.specs.Confs.{conf_at};
 ghost use Rattle.apd_conf.specs.declared.conf.Conf.{Conf};
 ghost use Rattle.apd_frame.specs.declared.received.Authentication.{Authentication};
-ghost use Rattle.apd_frame.specs.Contents.{AssociationRequest, ReassociationRequest, association_request, authentication, reassociation_request};
+ghost use Rattle.apd_frame.specs.Contents.{AssociationRequest, Contents, ReassociationRequest, association_request, authentication, reassociation_request};
+ghost use Rattle.apd_frame.specs.Outcome.{outcome};
 ghost use Rattle.apd_record.specs.Meaning.{meaning_of};
 ghost use Rattle.apd_table.specs.Sound.{Sound, StaySound};
 ghost use Rattle.apd_mlme.specs.Admitted.{AreFromStations, Asks, HasAsked};
@@ -23,7 +24,7 @@ ghost use Rattle.apd_mlme.specs.Run.{run, AreFit};
 ghost use Rattle.apd_mlme.specs.Started.{IsStartedBy};
 ghost use Rattle.apd_mlme.specs.declared.association.Kind.TheVariants.{Association, Reassociation};
 ghost use Rattle.apd_mlme.specs.Told.{IsToldTruly};
-ghost use Rattle.apd_mlme.specs.Truth.{AreSo, AreSoToAll, AreThere, NoBroadcastRow, NoneIsBroadcast};
+ghost use Rattle.apd_mlme.specs.Truth.{AreSo, AreSoToAll, AreThere, IsFromStation, NoBroadcastRow, NoneIsBroadcast};
 
 /// Making the changes of an event in turn leads to the state that its rule says, and each of them
 /// leaves a sound state. An event without changes leaves every row as it was.
@@ -95,12 +96,13 @@ pub fn only_who_asks_comes_into_the_table()
     ensures run { (s : State) (confs : List Conf) (hs : List Happening) (b : Bssid) (a : Addr) → station_at s b a ≡ None → IsSome (station_at (run s confs hs) b a) → HasAsked b a hs }
 {}
 
-/// So no station has the broadcast address for its own, in any run whose frames are from stations: a frame
-/// from the broadcast address is none that is decoded.
+/// So no station has the broadcast address for its own, in any run whose frames are from stations, as each
+/// frame is that is not ignored.
 pub fn no_station_gets_the_broadcast_address()
     ensures once { (s : State) (confs : List Conf) (h : Happening) → NoneIsBroadcast s h → NoBroadcastRow (verdict s confs h).state }
     ensures run { (s : State) (confs : List Conf) (hs : List Happening) → AreFromStations hs → NoBroadcastRow s → NoBroadcastRow (run s confs hs) }
     ensures first { NoBroadcastRow empty_state }
+    ensures decoded { (octets : List ℕ) (b : Bssid) (frame : Contents) → outcome octets b ≡ Ok frame → IsFromStation (Heard b frame) }
 {}
 
 /// Nobody is left in the belief that it is associated: a station whose association with a configured

@@ -1,5 +1,6 @@
 use Rattle.std.specs.FinMap.{get-empty}
 use Rattle.apd_base.specs.Addr.{station_cmp}
+use Rattle.apd_frame.proofs.Senders.{sender_not_broadcast}
 use Rattle.apd_mlme.specs.declared.event.TheConstants.{BROADCAST}
 use Rattle.apd_mlme.proofs.AdmittedLaws.{verdict_broadcast, run_broadcast}
 use Rattle.apd_mlme.proofs.laws.no_station_gets_the_broadcast_address.Goals as goal
@@ -12,3 +13,6 @@ returns-clause-run c = λ s confs hs. run_broadcast confs hs s
 
 pub returns-clause-first : goal.returns-clause-first
 returns-clause-first c = λ b. get-empty station_cmp (b, BROADCAST)
+
+pub returns-clause-decoded : goal.returns-clause-decoded
+returns-clause-decoded c = sender_not_broadcast
