@@ -4,5 +4,6 @@ pub mod Changing
 pub mod Configuring
 pub mod Handing
 pub mod Hearing
+pub mod Senders
 pub mod Speaking
 pub mod Ticking

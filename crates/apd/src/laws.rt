@@ -1,16 +1,21 @@
 //! What a reader may rely on, whatever the daemon is asked: each law is the contract of a function that
 //! does nothing.
-ghost use Rattle.std.specs.Prelude.{◌≡◌, List, None};
+ghost use Rattle.std.specs.Prelude.{◌≡◌, List, None, Ok};
 ghost use Rattle.apd_base.specs.declared.moment.Moment.{Moment};
+ghost use Rattle.apd_conf.specs.declared.conf.Conf.{Conf};
 ghost use Rattle.apd_ctrl.specs.declared.command.Query.{Query};
+ghost use Rattle.apd_mlme.specs.Happening.{Happening};
+ghost use Rattle.apd_mlme.specs.Rules.{verdict};
+ghost use Rattle.apd_mlme.specs.Truth.{AreSoToAll, IsFromStation, NoBroadcastRow};
 ghost use Rattle.apd_table.specs.Sound.{Sound};
 ghost use Rattle.apd.specs.Heard.{AreMomentsOf, due};
 ghost use Rattle.apd.specs.Run.{AreSteps, Answers};
 ghost use Rattle.apd.specs.Spoken.{SpeaksOfSettled};
 ghost use Rattle.apd.specs.Steps.{IsStep};
-ghost use Rattle.apd.specs.World.{accepted};
+ghost use Rattle.apd.specs.World.{accepted, happening_of, new_world};
 ghost use Rattle.apd.specs.declared.plain.Accepted.TheVariants.{Quiet};
 ghost use Rattle.apd.specs.declared.plain.Answer.{Answer};
+ghost use Rattle.apd.specs.declared.plain.Input.{Input};
 ghost use Rattle.apd.specs.declared.plain.Input.TheVariants.{Tick};
 ghost use Rattle.apd.specs.declared.plain.QuietReason.{QuietReason};
 ghost use Rattle.apd.specs.declared.plain.QuietReason.TheVariants.{Nothing};
@@ -24,6 +29,15 @@ ghost use Rattle.apd.specs.declared.plain.World.{World};
 /// a start, and by the lines of a script, which reach the world that they leave by steps.
 pub fn steps_are_answered_in_order()
     ensures { (steps : List Step) (tolds : List Told) (old new : World) → AreSteps steps tolds old new → Answers steps tolds old new }
+{}
+
+/// What leaves is so of everyone whom it is meant for, whatever steps were taken from a new world on: no
+/// request is a frame from the broadcast address, and no row has it, so a broadcast frame speaks of every
+/// station.
+pub fn what_leaves_is_so_of_everyone()
+    ensures senders { (w : World) (m : Moment) (i : Input) (h : Happening) → happening_of w m i ≡ Ok h → IsFromStation h }
+    ensures rows { (steps : List Step) (tolds : List Told) (old new : World) → AreSteps steps tolds old new → NoBroadcastRow old.front → NoBroadcastRow new.front }
+    ensures everyone { (steps : List Step) (tolds : List Told) (confs : List Conf) (w : World) (m : Moment) (i : Input) (h : Happening) → AreSteps steps tolds (new_world confs) w → happening_of w m i ≡ Ok h → AreSoToAll (verdict w.front w.confs h).state (verdict w.front w.confs h).outs }
 {}
 
 /// A tick is quiet for one reason alone, that no station is due: one that is due stands at a BSSID that is

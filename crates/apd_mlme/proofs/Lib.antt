@@ -18,5 +18,5 @@ mod RadioLaws
 mod RefusalLaws
 mod RowLaws
 mod StartLaws
-mod TruthLaws
+pub mod TruthLaws
 pub mod VerdictLaws
