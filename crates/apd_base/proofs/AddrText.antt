@@ -1,8 +1,8 @@
 -- What the text of an address reads as.
-use Rattle.std.proofs.Common.{◌≡◌, ℕ, zero, suc, ◌+◌, ◌*◌, ◌/◌, ◌%◌, ◌<◌, List, [], ◌∷◌, length, Some, refl, ap, ◌∙◌, arith}
+use Rattle.std.proofs.Common.{◌≡◌, ℕ, zero, suc, ◌+◌, ◌*◌, ◌/◌, ◌%◌, ◌<◌, List, [], ◌∷◌, length, Some, refl, sym, ap, ◌∙◌, arith}
 use Rattle.std.specs.Prelude.{slice_index}
 use Rattle.std.specs.List.{AllByRecursion}
-use Rattle.std.proofs.lemmas.Grind.{common_steps}
+use Rattle.std.proofs.lemmas.Grind.{common_steps, same_number_lists}
 use Rattle.apd_base.specs.declared.address.Addr.{Addr}
 use Rattle.apd_base.specs.Addr.{IsAddr, IsText, text_of, hex_digit, digit_value_of, byte_value, byte_from}
 
@@ -60,3 +60,11 @@ six (a ∷ b ∷ c ∷ d ∷ e ∷ f ∷ g ∷ more) n h = absurd (omega arith)
 
 pub text_reads : (a : Addr) → IsAddr a → IsText (text_of a) a.0
 text_reads a h = six a.0 h.0 h.1
+
+same_some : {X : Type 0} (x y : X) → Some x ≡ Some y → x ≡ y
+same_some x y e = cc
+
+-- and a text is that of one list of bytes at most
+pub one_reading : (text x y : List ℕ) → IsText text x → IsText text y → x ≡ y
+one_reading text x y h k =
+    same_number_lists x y (h.six ∙ sym k.six) (λ i lt. let below : i < 6 = omega (arith, h.six) in same_some _ _ (sym (h.pairs i below) ∙ k.pairs i below))

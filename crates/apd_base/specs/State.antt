@@ -1,5 +1,4 @@
--- The state of an access point: the station rows by (BSSID,
--- address), the list rows, and each BSSID's policy.
+-- The state of an access point: the station rows by (BSSID, address), the list rows, and each BSSID's policy.
 use Rattle.std.specs.Prelude.{ℕ, Bool, ◌&&◌, Option, Some, None, IsTrue}
 use Rattle.std.specs.declared.cmp.Ordering.{Ordering}
 use Rattle.std.specs.Ordering.{nat_cmp, ordering_then, eq_by_cmp}

@@ -118,7 +118,9 @@ impl fmt::Display for Addr {
     }
 }
 
-/// What `text` writes, `parse` reads again.
+/// What `text` writes, `parse` reads again: it is a text of the address's bytes, and a text is that of
+/// one list of bytes at most.
 pub fn text_law()
-    ensures { (a : Address) → IsAddr a → IsText (text_of a) a.0 }
+    ensures read { (a : Address) → IsAddr a → IsText (text_of a) a.0 }
+    ensures once { (text x y : List ℕ) → IsText text x → IsText text y → x ≡ y }
 {}
