@@ -9,3 +9,4 @@ pub mod SettingLaws
 pub mod TableLaws
 pub mod TextLaws
 pub mod FileLaws
+pub mod LastLine

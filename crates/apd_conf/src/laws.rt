@@ -1,5 +1,5 @@
 //! What a file gives is settled by its lines, memory aside.
-ghost use Rattle.std.specs.Prelude.{◌≡◌, ◌≢◌, ℕ, List};
+ghost use Rattle.std.specs.Prelude.{◌≡◌, ◌≢◌, ◌++◌, ℕ, List, [], ◌∷◌, Some, None};
 ghost use Rattle.apd_base.specs.declared.address.Addr.{Addr as Address};
 ghost use Rattle.apd_conf.specs.declared.conf.Conf.{Conf as Configuration};
 ghost use Rattle.apd_conf.specs.declared.conf_fault.ConfFault.{ConfFault as Fault};
@@ -10,11 +10,13 @@ ghost use Rattle.apd_conf.specs.ConfFile as confs;
 ghost use Rattle.apd_conf.specs.ListFile as lists;
 
 /// The lines of a configuration file give one configuration or one fault, and never both, unless memory
-/// runs out.
+/// runs out. The last line that gives a name a value counts, and a line that gives it none leaves it.
 pub fn conf_file_laws()
     ensures one_conf { (lines : List (List ℕ)) (a b : Configuration) → confs.IsConfOf lines a → confs.IsConfOf lines b → a ≡ b }
     ensures one_fault { (lines : List (List ℕ)) (a b : Fault) → confs.IsFaultOf lines a → confs.IsFaultOf lines b → a ≢ faults.NoMemory → b ≢ faults.NoMemory → a ≡ b }
     ensures not_both { (lines : List (List ℕ)) (conf : Configuration) (fault : Fault) → confs.IsConfOf lines conf → confs.IsFaultOf lines fault → fault ≡ faults.NoMemory }
+    ensures last_line { (name value line : List ℕ) (lines : List (List ℕ)) → confs.value_in name line ≡ Some value → confs.value_of name (lines ++ line ∷ []) ≡ Some value }
+    ensures other_line { (name line : List ℕ) (lines : List (List ℕ)) → confs.value_in name line ≡ None → confs.value_of name (lines ++ line ∷ []) ≡ confs.value_of name lines }
 {}
 
 /// The same of a list file.
