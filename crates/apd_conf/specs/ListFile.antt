@@ -66,8 +66,8 @@ edited set (Some (Remove a)) = finmap.remove set a
 abbrev pub listed : List (List ℕ) → SetOf addr_cmp
 listed lines = fold (λ set line. edited set (edit_of line)) finmap.empty lines
 
--- the fault of a line whose place is n, with the list after it: it does nothing that a line can do, or makes
--- more than 1024 addresses
+-- the fault of a line whose place is n, with the list after it: it is no line of a list file, or makes more
+-- than 1024 addresses
 abbrev pub fault_of : ℕ → Option Edit → SetOf addr_cmp → Option ListFault
 fault_of n None after = Some (BadAddress (n + 1))
 fault_of n (Some edit) after = if nat_lt 1024 (finmap.len after) then Some TooMany else None

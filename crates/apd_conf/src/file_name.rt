@@ -57,14 +57,16 @@ impl FileName {
 
     /// Its text. It takes no memory.
     pub fn as_str(&self) -> &str
-        ensures { result.now ≡ self.now }
+        ensures text { result.now ≡ self.now }
+        ensures name { IsTrue (is_file_name self.now) }
     {
         self.text.as_str()
     }
 
     /// Its bytes. It takes no memory.
     pub fn as_bytes(&self) -> &[u8]
-        ensures { result.now ≡ self.now }
+        ensures bytes { result.now ≡ self.now }
+        ensures name { IsTrue (is_file_name self.now) }
     {
         self.text.as_bytes()
     }

@@ -63,14 +63,16 @@ impl InterfaceName {
 
     /// Its text. It takes no memory.
     pub fn as_str(&self) -> &str
-        ensures { result.now ≡ self.now }
+        ensures text { result.now ≡ self.now }
+        ensures name { IsTrue (is_interface_name self.now) }
     {
         self.text.as_str()
     }
 
     /// Its bytes. It takes no memory.
     pub fn as_bytes(&self) -> &[u8]
-        ensures { result.now ≡ self.now }
+        ensures bytes { result.now ≡ self.now }
+        ensures name { IsTrue (is_interface_name self.now) }
     {
         self.text.as_bytes()
     }

@@ -41,7 +41,7 @@ fn is_individual(address: Option<Addr>) -> bool
 {
     match address {
         None => false,
-        Some(address) => address.0[0] % 2 != 1,
+        Some(address) => !address.is_group(),
     }
 }
 
