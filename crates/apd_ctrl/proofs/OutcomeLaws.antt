@@ -1,14 +1,17 @@
 -- What bytes are is what the parser answers.
-use Rattle.std.proofs.Common.{◌≡◌, ℕ, ◌<◌, ◌≤◌, Bool, true, false, cond, ◌++◌, List, [], ◌∷◌, length, Option, Some, None, Result, Ok, Err, inl, inr, refl, sym, ap, subst, ◌∙◌, drop}
+use Rattle.std.proofs.Common.{◌≡◌, ℕ, ◌-◌, true, false, cond, ◌++◌, List, ◌∷◌, length, Option, Some, None, Result, Ok, Err, inl, inr, refl, sym, ap, ◌∙◌, take, drop, length-append, arith}
 use Rattle.std.specs.Prelude.{codes, nat_eq, nat_lt}
-use Rattle.std.specs.List.{starts_with}
+use Rattle.std.specs.List.{starts_with, ends_with}
 use Rattle.std.proofs.lemmas.Bool.{lt-ltb, le-ltb, ltb-true, ltb-false}
+use Rattle.std.proofs.lemmas.Bool.Decides.{Decides-eqb}
+use Rattle.std.proofs.lemmas.Slice.Eq.{ends_is}
+use Rattle.std.proofs.Math.Seq.{take-append_seam}
 use Rattle.apd_base.specs.declared.limits.TheConstants.{MAX_COMMAND}
 use Rattle.apd_ctrl.specs.declared.command.Command.{Command}
 use Rattle.apd_ctrl.specs.declared.parser.Refusal.{Refusal}
-use Rattle.apd_ctrl.specs.declared.parser.Refusal.TheVariants.{Unknown, Fail}
-use Rattle.apd_ctrl.specs.Grammar.{line_of, after_blank, IsPrefixed, IsSplit, IsRead, IsOutcome}
-use Rattle.apd_ctrl.specs.Reading.{word, behind, named, split_prefix, command_of, at_interface, read_line, outcome}
+use Rattle.apd_ctrl.specs.declared.parser.Refusal.TheVariants.{Fail}
+use Rattle.apd_ctrl.specs.Grammar.{after_blank, IsLine, IsPrefixed, IsSplit, IsRead, IsLineOutcome, IsOutcome}
+use Rattle.apd_ctrl.specs.Reading.{line_of, word, behind, named, split_prefix, command_of, at_interface, read_line, line_outcome, outcome}
 use Rattle.apd_ctrl.proofs.WordLaws.{text_is, word_free, word_joined, behind_joined}
 use Rattle.apd_ctrl.proofs.ArgumentLaws.{split_front}
 use Rattle.apd_ctrl.proofs.CommandLaws.{says-reads, reads-says, refused-so, refusal-reads}
@@ -66,16 +69,37 @@ reads-read line = go (command_of (split_prefix line).1) refl
     go (Ok command) e = ((split_prefix line).1, splits line, reads-says (split_prefix line).1 command e)
     go (Err why) e = ((split_prefix line).0, (split_prefix line).1, splits line, refused-so (split_prefix line).1 why e)
 
+-- the line of bytes is the one that there is
+line_there : (bytes : List ℕ) → IsLine bytes (line_of bytes)
+line_there bytes =
+    let ends = ends_is Decides-eqb bytes (codes "\n") (ends_with nat_eq bytes (codes "\n")) refl in
+    elim (ends_with nat_eq bytes (codes "\n")) as (λ t. ends_with nat_eq bytes (codes "\n") ≡ t → IsLine bytes (cond t (take (length bytes - 1) bytes) bytes)) [
+      | true ↦ λ t. inl (ends.0 t)
+      | false ↦ λ t. inr (refl, λ front e. let yes = ends.1 front e in cc)
+    ] refl
+
+line_only : (bytes line : List ℕ) → IsLine bytes line → line ≡ line_of bytes
+line_only bytes line (inl is) =
+    let yes = (ends_is Decides-eqb bytes (codes "\n") _ refl).1 line is in
+    let long : length line ≡ length bytes - 1 = omega (arith, ap length is, length-append line (codes "\n")) in
+    sym (ap (λ t. cond t (take (length bytes - 1) bytes) bytes) yes ∙ ap (λ n. take n bytes) (sym long) ∙ ap (take (length line)) is ∙ take-append_seam line (codes "\n"))
+line_only bytes line (inr is) = sym is.0 ∙ elim (line_there bytes) [ inl more ↦ absurd (is.1 (line_of bytes) (sym is.0 ∙ more)) | inr same ↦ same.0 ]
+
+-- what a line is
+line_reads : (line : List ℕ) (x : Result (Option (List ℕ) × Command) Refusal) → IsLineOutcome line x → x ≡ line_outcome line
+line_reads line x (inl h) = read-reads line x h.1 ∙ sym (ap (λ b. cond b (Err Fail) (read_line line)) (le-ltb MAX_COMMAND (length line) h.0))
+line_reads line x (inr h) = h.1 ∙ sym (ap (λ b. cond b (Err Fail) (read_line line)) (lt-ltb MAX_COMMAND (length line) h.0))
+
+reads_line : (line : List ℕ) → IsLineOutcome line (line_outcome line)
+reads_line line =
+    elim (nat_lt MAX_COMMAND (length line)) as (λ b. nat_lt MAX_COMMAND (length line) ≡ b → IsLineOutcome line (cond b (Err Fail) (read_line line))) [
+      | true ↦ λ long. inr (ltb-true MAX_COMMAND (length line) long, refl)
+      | false ↦ λ short. inl (ltb-false MAX_COMMAND (length line) short, reads-read line)
+    ] refl
+
 -- the outcome of bytes is the one that holds
 pub only : (bytes : List ℕ) (x : Result (Option (List ℕ) × Command) Refusal) → IsOutcome bytes x → x ≡ outcome bytes
-only bytes x (inl h) =
-    read-reads (line_of bytes) x h.1 ∙ sym (ap (λ b. cond b (Err Fail) (read_line (line_of bytes))) (le-ltb MAX_COMMAND (length (line_of bytes)) h.0))
-only bytes x (inr h) =
-    h.1 ∙ sym (ap (λ b. cond b (Err Fail) (read_line (line_of bytes))) (lt-ltb MAX_COMMAND (length (line_of bytes)) h.0))
+only bytes x h = line_reads h.0 x h.2 ∙ ap line_outcome (line_only bytes h.0 h.1)
 
 pub there : (bytes : List ℕ) → IsOutcome bytes (outcome bytes)
-there bytes =
-    elim (nat_lt MAX_COMMAND (length (line_of bytes))) as (λ b. nat_lt MAX_COMMAND (length (line_of bytes)) ≡ b → IsOutcome bytes (cond b (Err Fail) (read_line (line_of bytes)))) [
-      | true ↦ λ long. inr (ltb-true MAX_COMMAND (length (line_of bytes)) long, refl)
-      | false ↦ λ short. inl (ltb-false MAX_COMMAND (length (line_of bytes)) short, reads-read (line_of bytes))
-    ] refl
+there bytes = (line_of bytes, line_there bytes, reads_line (line_of bytes))

@@ -1,5 +1,5 @@
 -- Which bytes are which command: the table of commands, as a relation between bytes and what they say.
-use Rattle.std.specs.Prelude.{◌≡◌, ◌≢◌, ℕ, ◌<◌, ◌≤◌, ◌-◌, ◌==◌, ◌⊎◌, List, [], ◌∷◌, ◌++◌, length, take, slice_index, codes, Option, Some, None, Result, Ok, Err, if◌then◌else◌, IsTrue}
+use Rattle.std.specs.Prelude.{◌≡◌, ◌≢◌, ℕ, ◌<◌, ◌≤◌, ◌⊎◌, List, [], ◌∷◌, ◌++◌, length, codes, Option, Some, None, Result, Ok, Err, IsTrue}
 use Rattle.std.specs.List.{AllByRecursion}
 use Rattle.std.specs.Option.{option_copied}
 use Rattle.std.specs.Str.{all_ascii_digits}
@@ -86,9 +86,9 @@ abbrev pub IsSplit : List ℕ → Option (List ℕ) → List ℕ → Type 0
 IsSplit line (Some name) text = IsPrefixed line name text
 IsSplit line None text = (text ≡ line) × ((name rest : List ℕ) → ¬ (IsPrefixed line name rest))
 
--- a command less one newline at its end
-abbrev pub line_of : List ℕ → List ℕ
-line_of bytes = if slice_index bytes (length bytes - 1) == 10 then take (length bytes - 1) bytes else bytes
+-- bytes are a line and a newline; or the line alone, and no newline ends it
+abbrev pub IsLine : List ℕ → List ℕ → Type 0
+IsLine bytes line = (bytes ≡ line ++ codes "\n") ⊎ ((bytes ≡ line) × ((front : List ℕ) → line ≢ front ++ codes "\n"))
 
 -- the word is unknown; or it is known, and no line of the table is said
 abbrev pub IsRefused : List ℕ → Refusal → Type 0
@@ -100,9 +100,13 @@ abbrev pub IsRead : List ℕ → Result (Option (List ℕ) × Command) Refusal �
 IsRead line (Ok read) = (text : List ℕ) × IsSplit line read.0 text × Says text read.1
 IsRead line (Err why) = (name : Option (List ℕ)) × (text : List ℕ) × IsSplit line name text × IsRefused text why
 
--- what bytes are as a command: a line that is too long fails whatever it says
+-- what a line is: one that is too long fails whatever it says
+abbrev pub IsLineOutcome : List ℕ → Result (Option (List ℕ) × Command) Refusal → Type 0
+IsLineOutcome line outcome = ((length line ≤ MAX_COMMAND) × IsRead line outcome) ⊎ ((MAX_COMMAND < length line) × (outcome ≡ Err Fail))
+
+-- what bytes are as a command: what their line is
 abbrev pub IsOutcome : List ℕ → Result (Option (List ℕ) × Command) Refusal → Type 0
-IsOutcome bytes outcome = ((length (line_of bytes) ≤ MAX_COMMAND) × IsRead (line_of bytes) outcome) ⊎ ((MAX_COMMAND < length (line_of bytes)) × (outcome ≡ Err Fail))
+IsOutcome bytes outcome = (line : List ℕ) × IsLine bytes line × IsLineOutcome line outcome
 
 -- an answer of the parser, with its name written out: a definition can't make a slice
 abbrev pub parsed : Parsed → Result (Option (List ℕ) × Command) Refusal

@@ -1,6 +1,6 @@
 -- How a command is read: the same as the grammar's relation, as a function.
-use Rattle.std.specs.Prelude.{ℕ, Bool, ◌==◌, ◌&&◌, nat_le, nat_lt, nat_eq, List, [], ◌∷◌, length, take, drop, codes, Option, Some, None, Result, Ok, Err, if◌then◌else◌}
-use Rattle.std.specs.List.{starts_with}
+use Rattle.std.specs.Prelude.{ℕ, ◌-◌, Bool, ◌==◌, ◌&&◌, nat_le, nat_lt, nat_eq, List, [], ◌∷◌, length, take, drop, codes, Option, Some, None, Result, Ok, Err, if◌then◌else◌}
+use Rattle.std.specs.List.{starts_with, ends_with}
 use Rattle.std.specs.Option.{option_map}
 use Rattle.std.specs.Str.{all_ascii_digits, bytes_eq}
 use Rattle.std.specs.Str.Parse.{digits_value}
@@ -16,8 +16,11 @@ use Rattle.apd_ctrl.specs.declared.parser.Refusal.{Refusal}
 use Rattle.apd_ctrl.specs.declared.parser.Refusal.TheVariants.{Unknown, Fail}
 use Rattle.apd_ctrl.specs.declared.word.Word.{Word}
 use Rattle.apd_ctrl.specs.declared.word.Word.TheVariants as w
-use Rattle.apd_ctrl.specs.Grammar.{line_of}
 use Rattle.apd_ctrl.specs.Words.{word_of}
+
+-- bytes less one newline at their end
+abbrev pub line_of : List ℕ → List ℕ
+line_of bytes = if ends_with nat_eq bytes (codes "\n") then take (length bytes - 1) bytes else bytes
 
 abbrev pub is_blank : ℕ → Bool
 is_blank b = b == 32
@@ -111,5 +114,8 @@ at_interface name (Err why) = Err why
 abbrev pub read_line : List ℕ → Result (Option (List ℕ) × Command) Refusal
 read_line line = at_interface (split_prefix line).0 (command_of (split_prefix line).1)
 
+abbrev pub line_outcome : List ℕ → Result (Option (List ℕ) × Command) Refusal
+line_outcome line = if nat_lt MAX_COMMAND (length line) then Err Fail else read_line line
+
 abbrev pub outcome : List ℕ → Result (Option (List ℕ) × Command) Refusal
-outcome bytes = if nat_lt MAX_COMMAND (length (line_of bytes)) then Err Fail else read_line (line_of bytes)
+outcome bytes = line_outcome (line_of bytes)

@@ -5,8 +5,8 @@ ghost use Rattle.std.specs.Option.{option_copied};
 ghost use Rattle.apd_conf.specs.ListFile.{address_of};
 ghost use Rattle.apd_ctrl.specs.declared.command.Command.{Command as Order};
 ghost use Rattle.apd_ctrl.specs.declared.parser.Refusal.{Refusal as Refused};
-ghost use Rattle.apd_ctrl.specs.Grammar.{line_of, parsed, refusal_text, IsOutcome};
-ghost use Rattle.apd_ctrl.specs.Reading.{behind, command_of, command_with, dismissal_of, is_blank, list_command, outcome, reason_number, reason_of, split_prefix, word};
+ghost use Rattle.apd_ctrl.specs.Grammar.{parsed, refusal_text, IsOutcome};
+ghost use Rattle.apd_ctrl.specs.Reading.{behind, command_of, command_with, dismissal_of, is_blank, line_of, list_command, outcome, reason_number, reason_of, split_prefix, word};
 
 use crate::command::Command;
 use crate::word::{Word, word_of};
@@ -54,11 +54,7 @@ const ADDRESS_LENGTH: usize = 17;
 fn line_of(bytes: &[u8]) -> &[u8]
     ensures { result.now ≡ line_of bytes.now }
 {
-    if !bytes.is_empty() && bytes[bytes.len() - 1] == b'\n' {
-        &bytes[..bytes.len() - 1]
-    } else {
-        bytes
-    }
+    bytes.strip_suffix(b"\n").unwrap_or(bytes)
 }
 
 /// The place of the first blank.
