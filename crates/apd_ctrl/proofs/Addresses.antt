@@ -1,7 +1,7 @@
 -- The addresses of the rows of a BSSID, and of one of its lists: they rise, and they are those that the state has.
-use Rattle.std.proofs.Common.{◌≡◌, ◌≢◌, ℕ, zero, suc, ◌+◌, ◌<◌, Bool, true, false, cond, ◌&&◌, ◌||◌, List, [], ◌∷◌, ◌++◌, length, map as list_map, filter, Option, Some, None, inl, inr, refl, sym, ap, subst, ◌∙◌, T, take, append_assoc, IsTrue, IsSome, IfSome, IfNone, arith}
+use Rattle.std.proofs.Common.{◌≡◌, ◌≢◌, ℕ, zero, suc, ◌+◌, ◌<◌, Bool, true, false, cond, ◌&&◌, ◌||◌, List, [], ◌∷◌, ◌++◌, length, map as list_map, filter, Option, Some, None, inl, inr, refl, sym, ap, ◌∙◌, T, take, append_assoc, IsTrue, IsSome, IfSome, IfNone, arith}
 use Rattle.std.specs.Prelude.{slice_get}
-use Rattle.std.specs.List.{AllByRecursion, list_any, find, flat_map}
+use Rattle.std.specs.List.{AllByRecursion, find, flat_map}
 use Rattle.std.specs.Option.{is_some}
 use Rattle.std.specs.Ordering.{eq_by_cmp, is_eq, is_lt, ordering_then}
 use Rattle.std.specs.Cmp.{IsTotalOrder, tied_itself}
@@ -9,11 +9,13 @@ use Rattle.std.specs.declared.cmp.Ordering.{Ordering}
 use Rattle.std.specs.declared.cmp.Ordering.TheVariants.{Less, Equal, Greater}
 use Rattle.std.specs.FinMap as map
 use Rattle.std.specs.FinMap.{find as keyed, is_sorted, IsAntisymmetric, get-entries, len-entries, entries_sorted}
-use Rattle.std.specs.FinMap.Entries.{below_all, where_key}
-use Rattle.std.proofs.lemmas.Bool.{and_parts}
-use Rattle.apd_base.specs.Addr.{addr_cmp, bssid_cmp, station_cmp}
+use Rattle.std.specs.FinMap.Entries.{below_all}
+use Rattle.std.proofs.lemmas.Bool.{and_parts, both_ways}
+use Rattle.std.proofs.lemmas.List.{append-nil, length-map}
+use Rattle.std.proofs.lemmas.Option.{same_Some}
+use Rattle.apd_base.specs.Addr.{addr_cmp, bssid_cmp}
 use Rattle.apd_base.specs.Sets.{contains}
-use Rattle.apd_base.specs.State.{State, station_at, policy_at, is_row_of, list_cmp, which_cmp, list_count}
+use Rattle.apd_base.specs.State.{State, station_at, is_row_of, list_cmp, which_cmp, list_count}
 use Rattle.apd_base.specs.declared.address.Addr.{Addr}
 use Rattle.apd_base.specs.declared.address.Bssid.{Bssid}
 use Rattle.apd_base.specs.declared.station.Station.{Station}
@@ -24,12 +26,10 @@ use Rattle.apd_base.proofs.MapLaws.{one_or_apart, tied}
 use Rattle.apd_base.proofs.RowsLaws.{is_sorted_head, is_sorted_tail}
 use Rattle.apd_base.proofs.RowsMaps.{entries-retain_keys}
 use Rattle.apd_acl.specs.Least.{IsLeast, IsLeastAbove}
-use Rattle.apd_ctrl.specs.Texts.{is_above, station_addresses, listed_addresses, row_text, found_reply, station_reply, next_reply}
+use Rattle.apd_table.specs.Addresses.{addresses_at}
+use Rattle.apd_ctrl.specs.Texts.{is_above, listed_addresses, row_text, found_reply, station_reply}
 use Rattle.apd_ctrl.specs.Order.{Rising, is_among}
-use Rattle.apd_ctrl.proofs.Rising.{first_is, next_is, place_next}
-
-both_ways : {A : Type 0} (t : Bool) → t ≡ false → t ≡ true → A
-both_ways t f h = cc
+use Rattle.apd_ctrl.proofs.Rising.{first_is, next_is, same_key, step_on}
 
 first : (a b : Bool) → T (a && b) → T a
 first true b p = tt
@@ -62,7 +62,7 @@ module _ {K X : Type 0} {R : K → K → Ordering} (o : IsTotalOrder R) (exact :
             ap (λ u. u || is_among a (addresses es)) (ap is_eq (sym (alike a (address e.0)) ∙ ap (R (key a)) (back e.0 t)))
             ∙ either (eq_by_cmp R (key a) e.0) (is_among a (addresses es)) e.1 (keyed R (key a) es) (among es a)
         | false ↦ λ t.
-            let apart : eq_by_cmp R (key a) e.0 ≡ false = elim (one_or_apart o exact (key a) e.0) [ inl same ↦ both_ways (p e.0) t (ap p (sym same) ∙ passes a) | inr ne ↦ ne ] in
+            let apart : eq_by_cmp R (key a) e.0 ≡ false = elim (one_or_apart o exact (key a) e.0) [ inl same ↦ absurd (both_ways (p e.0) t (ap p (sym same) ∙ passes a)) | inr ne ↦ ne ] in
             among es a ∙ ap (λ u. is_some (cond u (Some e.1) (keyed R (key a) es))) (sym apart)
       ] refl
 
@@ -82,29 +82,17 @@ module _ {K X : Type 0} {R : K → K → Ordering} (o : IsTotalOrder R) (exact :
         | false ↦ λ t. rising es (is_sorted_tail o e es h)
       ] refl
 
-same_length : {A B : Type 0} (f : A → B) (xs : List A) → length (list_map f xs) ≡ length xs
-same_length f [] = refl
-same_length f (x ∷ xs) = ap suc (same_length f xs)
-
-same_bssid : (b c : Bssid) → eq_by_cmp bssid_cmp b c ≡ true → b ≡ c
-same_bssid b c e = elim (one_or_apart bssid_total bssid_exact b c) [ inl same ↦ same | inr ne ↦ both_ways _ ne e ]
-
-same_which : (v w : Which) → eq_by_cmp which_cmp v w ≡ true → v ≡ w
-same_which v w e = elim (one_or_apart which_total which_exact v w) [ inl same ↦ same | inr ne ↦ both_ways _ ne e ]
-
 -- the stations of a BSSID
 module _ (s : State) (b : Bssid) where
-  pub stations_rise : Rising (station_addresses s b)
-  unfolding station_addresses
+  pub stations_rise : Rising (addresses_at s b)
   stations_rise = rising station_total station_exact (λ k. eq_by_cmp bssid_cmp b k.0) (λ k. k.1) (λ a. (b, a))
-      (λ a. tied bssid_total bssid_exact b) (λ k e. (λ i. (same_bssid b k.0 e i, k.1))) (λ a c. ap (λ r. ordering_then r (addr_cmp a c)) (tied_itself bssid_total b))
+      (λ a. tied bssid_total bssid_exact b) (λ k e. (λ i. (same_key bssid_total bssid_exact b k.0 e i, k.1))) (λ a c. ap (λ r. ordering_then r (addr_cmp a c)) (tied_itself bssid_total b))
       (map.entries s.stations) (entries_sorted s.stations)
 
-  pub stations_are : (a : Addr) → is_among a (station_addresses s b) ≡ is_some (station_at s b a)
-  unfolding station_addresses
+  pub stations_are : (a : Addr) → is_among a (addresses_at s b) ≡ is_some (station_at s b a)
   stations_are a =
       among station_total station_exact (λ k. eq_by_cmp bssid_cmp b k.0) (λ k. k.1) (λ a. (b, a))
-      (λ a. tied bssid_total bssid_exact b) (λ k e. (λ i. (same_bssid b k.0 e i, k.1))) (λ a c. ap (λ r. ordering_then r (addr_cmp a c)) (tied_itself bssid_total b))
+      (λ a. tied bssid_total bssid_exact b) (λ k e. (λ i. (same_key bssid_total bssid_exact b k.0 e i, k.1))) (λ a c. ap (λ r. ordering_then r (addr_cmp a c)) (tied_itself bssid_total b))
       (map.entries s.stations) a
       ∙ ap is_some (sym (get-entries s.stations (b, a)))
 
@@ -115,25 +103,20 @@ module _ (s : State) (b : Bssid) where
   no_row o e h = cc
 
   pub first_text : (r : Option (Addr × Station)) → IfSome r (λ x. IsLeast HasRow x.0) → IfSome r (λ x. station_at s b x.0 ≡ Some x.1) → IfNone r ((a : Addr) → station_at s b a ≡ None)
-      → row_text r ≡ found_reply s b (slice_get (station_addresses s b) 0)
+      → row_text r ≡ found_reply s b (slice_get (addresses_at s b) 0)
   first_text None least row none =
-      ap (found_reply s b) (first_is (station_addresses s b) HasRow stations_rise (λ a h. stations_are a ∙ h) (λ a h. sym (stations_are a) ∙ h) None tt (λ a. no_row (station_at s b a) (none a)))
+      ap (found_reply s b) (first_is (addresses_at s b) HasRow stations_rise (λ a h. stations_are a ∙ h) (λ a h. sym (stations_are a) ∙ h) None tt (λ a. no_row (station_at s b a) (none a)))
   first_text (Some x) least row none =
       ap (station_reply x.0) (sym row)
-      ∙ ap (found_reply s b) (first_is (station_addresses s b) HasRow stations_rise (λ a h. stations_are a ∙ h) (λ a h. sym (stations_are a) ∙ h) (Some x.0) least tt)
+      ∙ ap (found_reply s b) (first_is (addresses_at s b) HasRow stations_rise (λ a h. stations_are a ∙ h) (λ a h. sym (stations_are a) ∙ h) (Some x.0) least tt)
 
   pub next_text : (a : Addr) (r : Option (Addr × Station)) → IfSome r (λ x. IsLeastAbove a HasRow x.0) → IfSome r (λ x. station_at s b x.0 ≡ Some x.1) → IfNone r ((c : Addr) → HasRow c → addr_cmp a c ≢ Less)
-      → row_text r ≡ found_reply s b (find (is_above a) (station_addresses s b))
+      → row_text r ≡ found_reply s b (find (is_above a) (addresses_at s b))
   next_text a None least row none =
-      ap (found_reply s b) (next_is (station_addresses s b) HasRow a stations_rise (λ c h. stations_are c ∙ h) (λ c h. sym (stations_are c) ∙ h) None tt none)
+      ap (found_reply s b) (next_is (addresses_at s b) HasRow a stations_rise (λ c h. stations_are c ∙ h) (λ c h. sym (stations_are c) ∙ h) None tt none)
   next_text a (Some x) least row none =
       ap (station_reply x.0) (sym row)
-      ∙ ap (found_reply s b) (next_is (station_addresses s b) HasRow a stations_rise (λ c h. stations_are c ∙ h) (λ c h. sym (stations_are c) ∙ h) (Some x.0) least tt)
-
-  -- behind an address that has a row
-  pub row_of : (o : Option Station) (a : Addr) → is_some o ≡ true → found_reply s b (find (is_above a) (station_addresses s b)) ≡ next_reply s b a o
-  row_of None a e = cc
-  row_of (Some x) a e = refl
+      ∙ ap (found_reply s b) (next_is (addresses_at s b) HasRow a stations_rise (λ c h. stations_are c ∙ h) (λ c h. sym (stations_are c) ∙ h) (Some x.0) least tt)
 
 -- a list of a BSSID
 module _ (s : State) (b : Bssid) (w : Which) where
@@ -143,7 +126,7 @@ module _ (s : State) (b : Bssid) (w : Which) where
   key_back : (k : Bssid × Which × Addr) → is_row_of b w k ≡ true → (b, w, k.2) ≡ k
   key_back k e =
       let parts = and_parts (eq_by_cmp bssid_cmp b k.0) (eq_by_cmp which_cmp w k.1) e in
-      (λ i. (same_bssid b k.0 parts.0 i, same_which w k.1 parts.1 i, k.2))
+      (λ i. (same_key bssid_total bssid_exact b k.0 parts.0 i, same_key which_total which_exact w k.1 parts.1 i, k.2))
 
   key_order : (a c : Addr) → list_cmp (b, w, a) (b, w, c) ≡ addr_cmp a c
   key_order a c = (λ i. ordering_then (tied_itself bssid_total b i) (ordering_then (tied_itself which_total w i) (addr_cmp a c)))
@@ -159,7 +142,7 @@ module _ (s : State) (b : Bssid) (w : Which) where
   pub listed_count : length (listed_addresses s b w) ≡ list_count s b w
   unfolding listed_addresses
   listed_count =
-      same_length (λ (row : (Bssid × Which × Addr) × Unit {0}). row.0.2) (filter (λ row. is_row_of b w row.0) (map.entries s.lists))
+      length-map (filter (λ row. is_row_of b w row.0) (map.entries s.lists)) (λ (row : (Bssid × Which × Addr) × Unit {0}). row.0.2)
       ∙ sym (len-entries (map.retain_keys s.lists (is_row_of b w)) ∙ ap length (entries-retain_keys list_total list_exact (is_row_of b w) s.lists))
 
   -- none is listed
@@ -176,18 +159,8 @@ get_some [] i h = absurd (omega arith)
 get_some (x ∷ all) zero h = refl
 get_some (x ∷ all) (suc i) h = get_some all i (omega arith)
 
-next_place : (i : ℕ) → suc i + 1 ≡ suc (i + 1)
-next_place i = omega arith
-
-same_some : {A : Type 0} (x y : A) → Some x ≡ Some y → x ≡ y
-same_some x y e = cc
-
 pub told_more : {A : Type 0} (f : A → List ℕ) (all : List A) (i : ℕ) (a : A) → slice_get all i ≡ Some a → flat_map f (take i all) ++ f a ≡ flat_map f (take (i + 1) all)
 told_more f [] i a e = cc
-told_more f (x ∷ all) zero a e = ap (λ y. f y) (sym (same_some x a e)) ∙ sym (nothing_more (f x))
-  where
-    nothing_more : (xs : List ℕ) → xs ++ [] ≡ xs
-    nothing_more [] = refl
-    nothing_more (y ∷ ys) = ap (λ zs. y ∷ zs) (nothing_more ys)
+told_more f (x ∷ all) zero a e = ap (λ y. f y) (sym (same_Some x a e)) ∙ sym (append-nil (f x))
 told_more f (x ∷ all) (suc i) a e =
-    append_assoc (f x) (flat_map f (take i all)) (f a) ∙ ap (λ rest. f x ++ rest) (told_more f all i a e) ∙ ap (λ n. flat_map f (take n (x ∷ all))) (sym (next_place i))
+    append_assoc (f x) (flat_map f (take i all)) (f a) ∙ ap (λ rest. f x ++ rest) (told_more f all i a e) ∙ ap (λ n. flat_map f (take n (x ∷ all))) (sym (step_on i))

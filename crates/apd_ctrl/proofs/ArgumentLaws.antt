@@ -1,17 +1,17 @@
 -- What is read behind a command's first word is what the grammar says.
-use Rattle.std.proofs.Common.{◌≡◌, ℕ, suc, ◌+◌, ◌<◌, ◌≤◌, Bool, true, false, cond, ◌&&◌, ◌++◌, List, [], ◌∷◌, length, Option, Some, None, inl, inr, refl, sym, ap, subst, ◌∙◌, take, drop, length-append, arith}
+use Rattle.std.proofs.Common.{◌≡◌, ℕ, ◌+◌, ◌≤◌, true, false, cond, ◌&&◌, ◌++◌, List, [], ◌∷◌, length, Option, Some, None, inl, inr, refl, sym, ap, subst, ◌∙◌, take, drop, length-append, arith}
 use Rattle.std.specs.Prelude.{◌==◌, ◌⊎◌, nat_le, nat_lt, nat_eq, codes}
 use Rattle.std.specs.List.{starts_with}
 use Rattle.std.specs.Option.{option_map}
 use Rattle.std.specs.Str.{bytes_eq, all_ascii_digits}
 use Rattle.std.specs.Str.Parse.{digits_value}
-use Rattle.std.proofs.lemmas.Bool.{le-leb, leb-true, le-ltb, ltb-false, ne_eqb, eqb-true, and_parts}
+use Rattle.std.proofs.lemmas.Bool.{le-leb, leb-true, le-ltb, ne_eqb, eqb-true, and_parts}
 use Rattle.std.proofs.lemmas.List.{take-append-drop}
+use Rattle.std.proofs.lemmas.Option.{same_Some}
 use Rattle.std.proofs.lemmas.Slice.Eq.{bytes_eq-Decides}
 use Rattle.std.proofs.Math.Seq.{take-append_seam, drop-append_seam}
 use Rattle.apd_base.specs.declared.address.Addr.{Addr}
 use Rattle.apd_base.specs.declared.station.Which.{Which}
-use Rattle.apd_base.specs.declared.station.Which.TheVariants.{Accept, Deny}
 use Rattle.apd_conf.specs.ListFile.{address_of}
 use Rattle.apd_conf.proofs.AddressLaws.{text-address_of, address_of-text}
 use Rattle.apd_frame.specs.declared.codes.Reason.{Reason}
@@ -19,17 +19,14 @@ use Rattle.apd_mlme.specs.declared.event.Edit.{Edit}
 use Rattle.apd_mlme.specs.declared.event.Edit.TheVariants.{Add, Remove, Clear}
 use Rattle.apd_ctrl.specs.declared.command.Command.{Command}
 use Rattle.apd_ctrl.specs.declared.command.Command.TheVariants as c
-use Rattle.apd_ctrl.specs.Grammar.{after_blank, list_word, IsReasonNumber, IsReason, IsDismissal, IsEdit, Says, Then}
+use Rattle.apd_ctrl.specs.Grammar.{after_blank, list_word, IsReasonNumber, IsReason, IsDismissal, IsEdit, Says}
 use Rattle.apd_ctrl.specs.Reading.{word, behind, as_reason, reason_number, reason_given, reason_of, both, dismissal_of, list_with, list_command}
 use Rattle.apd_ctrl.proofs.WordLaws.{text_is}
-
-pub same_some : {A : Type 0} (x y : A) → Some x ≡ Some y → x ≡ y
-same_some x y e = cc
 
 -- what is mapped was there
 pub mapped : {A B : Type 0} (f : A → B) (o : Option A) (y : B) → option_map f o ≡ Some y → (x : A) × (o ≡ Some x) × (f x ≡ y)
 mapped f None y e = cc
-mapped f (Some x) y e = (x, refl, same_some (f x) y e)
+mapped f (Some x) y e = (x, refl, same_Some (f x) y e)
 
 -- words at the front of a text
 pub split_front : (front text : List ℕ) → starts_with nat_eq text front ≡ true → text ≡ front ++ drop (length front) text
@@ -56,7 +53,7 @@ number-says n text e =
           let last = and_parts (nat_le 1 (length text) && nat_le (length text) 5 && all_ascii_digits text) (nat_le (digits_value 10 text) 65535) t in
           let third = and_parts (nat_le 1 (length text) && nat_le (length text) 5) (all_ascii_digits text) last.0 in
           let second = and_parts (nat_le 1 (length text)) (nat_le (length text) 5) third.0 in
-          let value : digits_value 10 text ≡ n = same_some (digits_value 10 text) n e in
+          let value : digits_value 10 text ≡ n = same_Some (digits_value 10 text) n e in
           let small : digits_value 10 text ≤ 65535 = leb-true (digits_value 10 text) 65535 last.1 in
           record {
             some = leb-true 1 (length text) second.0;
@@ -85,7 +82,7 @@ pub reason-says : (reason : Reason) (text : List ℕ) → reason_of text ≡ Som
 reason-says reason text e =
     elim (length text == 0) as (λ b. (length text == 0) ≡ b
     → cond b (Some (as_reason 2)) (reason_given text) ≡ Some reason → IsReason reason text) [
-      | true ↦ λ t e. inl (no_bytes text (eqb-true (length text) 0 t), (let two : as_reason 2 ≡ reason = same_some (as_reason 2) reason e in sym (ap (λ (r : Reason). r.0) two)))
+      | true ↦ λ t e. inl (no_bytes text (eqb-true (length text) 0 t), (let two : as_reason 2 ≡ reason = same_Some (as_reason 2) reason e in sym (ap (λ (r : Reason). r.0) two)))
       | false ↦ λ t e. elim (starts_with nat_eq text (codes " reason=")) as (λ b. starts_with nat_eq text (codes " reason=") ≡ b
           → cond b (option_map as_reason (reason_number (drop 8 text))) None ≡ Some reason → IsReason reason text) [
             | true ↦ λ front e.
@@ -113,7 +110,7 @@ dismissal-reads to reason text h =
 parts_of : {A B : Type 0} (a : Option A) (b : Option B) (x : A) (y : B) → both a b ≡ Some (x, y) → (a ≡ Some x) × (b ≡ Some y)
 parts_of None b x y e = cc
 parts_of (Some a) None x y e = cc
-parts_of (Some a) (Some b) x y e = (let pair = same_some (a, b) (x, y) e in (ap (λ p. Some p.0) pair, ap (λ p. Some p.1) pair))
+parts_of (Some a) (Some b) x y e = (let pair = same_Some (a, b) (x, y) e in (ap (λ p. Some p.0) pair, ap (λ p. Some p.1) pair))
 
 pub dismissal-says : (to : Addr) (reason : Reason) (text : List ℕ) → dismissal_of text ≡ Some (to, reason) → IsDismissal to reason text
 dismissal-says to reason text e =
@@ -147,9 +144,9 @@ module _ (which : Which) where
   with-says verb None command e =
       elim (bytes_eq verb (codes "SHOW")) as (λ b. bytes_eq verb (codes "SHOW") ≡ b
       → cond b (Some (c.Show which)) (cond (bytes_eq verb (codes "CLEAR")) (Some (c.ListEdit which Clear)) None) ≡ Some command → ListSays (verb ++ []) command) [
-        | true ↦ λ t e. inr (sym (same_some (c.Show which) command e), ap (λ v. v ++ []) (spelled verb (codes "SHOW") t))
+        | true ↦ λ t e. inr (sym (same_Some (c.Show which) command e), ap (λ v. v ++ []) (spelled verb (codes "SHOW") t))
         | false ↦ λ t e. elim (bytes_eq verb (codes "CLEAR")) as (λ b. bytes_eq verb (codes "CLEAR") ≡ b → cond b (Some (c.ListEdit which Clear)) None ≡ Some command → ListSays (verb ++ []) command) [
-          | true ↦ λ t e. inl (Clear, sym (same_some (c.ListEdit which Clear) command e), ap (λ v. v ++ []) (spelled verb (codes "CLEAR") t))
+          | true ↦ λ t e. inl (Clear, sym (same_Some (c.ListEdit which Clear) command e), ap (λ v. v ++ []) (spelled verb (codes "CLEAR") t))
           | false ↦ λ t e. cc
         ] refl e
       ] refl e

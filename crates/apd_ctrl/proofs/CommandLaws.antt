@@ -1,12 +1,12 @@
 -- What is read of the bytes behind the prefix is what the grammar says.
-use Rattle.std.proofs.Common.{◌≡◌, ℕ, Bool, true, false, cond, ◌++◌, List, [], ◌∷◌, Option, Some, None, Result, Ok, Err, refl, sym, ap, subst, ◌∙◌}
+use Rattle.std.proofs.Common.{◌≡◌, ℕ, true, ◌++◌, List, Option, Some, None, Result, Ok, Err, refl, sym, ap, subst, ◌∙◌}
 use Rattle.std.specs.Prelude.{codes, not}
-use Rattle.std.specs.List.{list_all, find}
+use Rattle.std.specs.List.{list_all}
 use Rattle.std.specs.Option.{option_map}
 use Rattle.std.specs.Str.{bytes_eq}
+use Rattle.std.proofs.lemmas.Option.{same_Some}
 use Rattle.std.proofs.lemmas.Slice.Eq.{bytes_eq-Decides}
 use Rattle.apd_base.specs.declared.address.Addr.{Addr}
-use Rattle.apd_base.specs.declared.station.Which.{Which}
 use Rattle.apd_base.specs.declared.station.Which.TheVariants.{Accept, Deny}
 use Rattle.apd_conf.specs.ListFile.{address_of}
 use Rattle.apd_conf.proofs.AddressLaws.{text-address_of, address_of-text}
@@ -19,10 +19,10 @@ use Rattle.apd_ctrl.specs.declared.parser.Refusal.TheVariants.{Unknown, Fail}
 use Rattle.apd_ctrl.specs.declared.word.Word.{Word}
 use Rattle.apd_ctrl.specs.declared.word.Word.TheVariants as w
 use Rattle.apd_ctrl.specs.Words.{spelling, words, word_of, word_among}
-use Rattle.apd_ctrl.specs.Grammar.{after_blank, HasNoBlank, IsListed, IsRefused, Says}
-use Rattle.apd_ctrl.specs.Reading.{is_blank, word, behind, dismissal_of, list_command, command_with, told, command_after, command_of}
+use Rattle.apd_ctrl.specs.Grammar.{after_blank, IsListed, IsRefused, Says}
+use Rattle.apd_ctrl.specs.Reading.{is_blank, word, behind, dismissal_of, command_with, told, command_after, command_of}
 use Rattle.apd_ctrl.proofs.WordLaws.{text_is, word_joined, behind_joined, free_from}
-use Rattle.apd_ctrl.proofs.ArgumentLaws.{same_some, mapped, dismissal-reads, dismissal-says, edit-reads, show-reads, list-says}
+use Rattle.apd_ctrl.proofs.ArgumentLaws.{mapped, dismissal-reads, dismissal-says, edit-reads, show-reads, list-says}
 
 -- a word that is found is spelled so, and each is found by its spelling
 known_spelled : (text : List ℕ) (k : Word) → word_of text ≡ Some k → text ≡ spelling k
@@ -81,9 +81,9 @@ says-reads text (c.Show Deny) h = read_with (w.List Deny) (Some h.0) text h.1 �
 
 -- what follows a word says it
 with-says : (k : Word) (rest : Option (List ℕ)) (command : Command) → command_with k rest ≡ Some command → Says (spelling k ++ after_blank rest) command
-with-says w.Ping None command e = subst (Says (codes "PING")) (same_some c.Ping command e) refl
-with-says w.Status None command e = subst (Says (codes "STATUS")) (same_some c.Status command e) refl
-with-says w.StaFirst None command e = subst (Says (codes "STA-FIRST")) (same_some c.StaFirst command e) refl
+with-says w.Ping None command e = subst (Says (codes "PING")) (same_Some c.Ping command e) refl
+with-says w.Status None command e = subst (Says (codes "STATUS")) (same_Some c.Status command e) refl
+with-says w.StaFirst None command e = subst (Says (codes "STA-FIRST")) (same_Some c.StaFirst command e) refl
 with-says w.Sta None command e = cc
 with-says w.StaNext None command e = cc
 with-says w.Deauthenticate None command e = cc

@@ -1,20 +1,18 @@
 -- Addresses in order: which is the least of them, which is the next, and the addresses of entries in order.
-use Rattle.std.proofs.Common.{◌≡◌, ◌≢◌, ℕ, zero, suc, ◌+◌, ◌<◌, Bool, true, false, cond, not, ◌&&◌, ◌||◌, List, [], ◌∷◌, length, map as list_map, filter, Option, Some, None, ◌⊎◌, inl, inr, refl, sym, ap, subst, ◌∙◌, T, IsTrue, IsSome, IfSome, IfNone, arith}
+use Rattle.std.proofs.Common.{◌≡◌, ◌≢◌, ℕ, zero, suc, ◌+◌, Bool, true, false, cond, ◌||◌, List, [], ◌∷◌, Option, Some, None, ◌⊎◌, inl, inr, refl, sym, ap, subst, ◌∙◌, IsTrue, IfSome, IfNone, arith}
 use Rattle.std.specs.Prelude.{slice_get}
-use Rattle.std.specs.List.{AllByRecursion, list_any, find}
-use Rattle.std.specs.Option.{is_some}
-use Rattle.std.specs.Ordering.{eq_by_cmp, is_eq, is_lt, ordering_reverse}
+use Rattle.std.specs.List.{AllByRecursion, find}
+use Rattle.std.specs.Ordering.{eq_by_cmp, is_lt, ordering_reverse}
 use Rattle.std.specs.Cmp.{IsTotalOrder, tied_itself}
 use Rattle.std.specs.declared.cmp.Ordering.{Ordering}
 use Rattle.std.specs.declared.cmp.Ordering.TheVariants.{Less, Equal, Greater}
-use Rattle.std.specs.FinMap as map
-use Rattle.std.specs.FinMap.{is_sorted, IsAntisymmetric}
-use Rattle.std.specs.FinMap.Entries.{below_all}
+use Rattle.std.proofs.lemmas.Bool.{both_ways}
+use Rattle.std.proofs.lemmas.Option.{same_Some}
+use Rattle.std.specs.FinMap.{IsAntisymmetric}
 use Rattle.apd_base.specs.Addr.{addr_cmp}
 use Rattle.apd_base.specs.declared.address.Addr.{Addr}
 use Rattle.apd_base.proofs.AddrLaws.{addr_total, addr_exact}
 use Rattle.apd_base.proofs.MapLaws.{one_or_apart, tied}
-use Rattle.apd_base.proofs.RowsLaws.{is_sorted_head, is_sorted_tail}
 use Rattle.apd_acl.specs.Least.{IsLeast, IsLeastAbove}
 use Rattle.apd_ctrl.specs.Order.{Rising, is_among}
 use Rattle.apd_ctrl.specs.Texts.{is_above}
@@ -25,19 +23,17 @@ greater r e g = cc
 tied_not : (r : Ordering) → r ≡ Equal → r ≢ Greater
 tied_not r e g = cc
 
-both_ways : {A : Type 0} (t : Bool) → t ≡ false → t ≡ true → A
-both_ways t f h = cc
-
-same_some : {A : Type 0} (x y : A) → Some x ≡ Some y → x ≡ y
-same_some x y e = cc
-
 less : (r : Ordering) → is_lt r ≡ true → r ≡ Less
 less Less e = refl
 less Equal e = cc
 less Greater e = cc
 
+-- what an order doesn't tell apart is one
+pub same_key : {K : Type 0} {R : K → K → Ordering} → IsTotalOrder R → IsAntisymmetric R → (k l : K) → eq_by_cmp R k l ≡ true → k ≡ l
+same_key {K} {R} o exact k l e = elim (one_or_apart o exact k l) [ inl same ↦ same | inr ne ↦ absurd (both_ways (eq_by_cmp R k l) ne e) ]
+
 same_addr : (a c : Addr) → eq_by_cmp addr_cmp a c ≡ true → a ≡ c
-same_addr a c e = elim (one_or_apart addr_total addr_exact a c) [ inl same ↦ same | inr ne ↦ both_ways _ ne e ]
+same_addr a c e = same_key addr_total addr_exact a c e
 
 or_parts : (t u : Bool) → (t || u) ≡ true → (t ≡ true) ⊎ (u ≡ true)
 or_parts true u e = inl refl
@@ -61,7 +57,7 @@ found_least q [] a h e = cc
 found_least q (d ∷ all) a h e =
     elim (q d) as (λ t. q d ≡ t → cond t (Some d) (find q all) ≡ Some a → IsLeast (λ c. IsTrue (is_among c (d ∷ all)) × IsTrue (q c)) a) [
       | true ↦ λ pass e.
-          let same : d ≡ a = same_some d a e in
+          let same : d ≡ a = same_Some d a e in
           subst (IsLeast (λ c. IsTrue (is_among c (d ∷ all)) × IsTrue (q c))) same (record {
             has = (ap (λ t. t || is_among d all) (tied addr_total addr_exact d), pass);
             least = λ c p. elim (or_parts (eq_by_cmp addr_cmp c d) (is_among c all) p.0) [
@@ -74,7 +70,7 @@ found_least q (d ∷ all) a h e =
           record {
             has = (or_right (eq_by_cmp addr_cmp a d) (is_among a all) rest.has.0, rest.has.1);
             least = λ c p. elim (or_parts (eq_by_cmp addr_cmp c d) (is_among c all) p.0) [
-              | inl here ↦ both_ways (q d) fails (ap q (sym (same_addr c d here)) ∙ p.1)
+              | inl here ↦ absurd (both_ways (q d) fails (ap q (sym (same_addr c d here)) ∙ p.1))
               | inr later ↦ rest.least c (later, p.1)
             ];
           }
@@ -146,16 +142,16 @@ all_above a (c ∷ all) h = ap (λ t. cond t (Some c) (find (is_above a) all)) (
 
 at_among : (all : List Addr) (i : ℕ) (a : Addr) → slice_get all i ≡ Some a → is_among a all ≡ true
 at_among [] i a e = cc
-at_among (d ∷ all) zero a e = ap (λ t. t || is_among a all) (ap (eq_by_cmp addr_cmp a) (same_some d a e) ∙ tied addr_total addr_exact a)
+at_among (d ∷ all) zero a e = ap (λ t. t || is_among a all) (ap (eq_by_cmp addr_cmp a) (same_Some d a e) ∙ tied addr_total addr_exact a)
 at_among (d ∷ all) (suc i) a e = or_right (eq_by_cmp addr_cmp a d) (is_among a all) (at_among all i a e)
 
-step_on : (i : ℕ) → suc i + 1 ≡ suc (i + 1)
+pub step_on : (i : ℕ) → suc i + 1 ≡ suc (i + 1)
 step_on i = omega arith
 
 pub place_next : (all : List Addr) (i : ℕ) (a : Addr) → Rising all → slice_get all i ≡ Some a → find (is_above a) all ≡ slice_get all (i + 1)
 place_next [] i a h e = cc
 place_next (d ∷ all) zero a h e =
-    let same : d ≡ a = same_some d a e in
+    let same : d ≡ a = same_Some d a e in
     ap (λ t. cond t (Some d) (find (is_above a) all)) (ap is_lt (ap (addr_cmp a) same ∙ tied_itself addr_total a)) ∙ ap (λ c. find (is_above c) all) (sym same) ∙ all_above d all h.0
 place_next (d ∷ all) (suc i) a h e =
     ap (λ t. cond t (Some d) (find (is_above a) all)) (not_below a d (below_among d a all h.0 (at_among all i a e)))

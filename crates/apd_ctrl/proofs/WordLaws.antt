@@ -1,9 +1,9 @@
 -- Where the first blank of a text stands, and what stands before it and behind it.
-use Rattle.std.proofs.Common.{◌≡◌, ℕ, suc, ◌+◌, ◌-◌, ◌<◌, ◌≤◌, Bool, true, false, cond, not, ◌++◌, List, [], ◌∷◌, length, Option, Some, None, inl, inr, refl, sym, ap, subst, ◌∙◌, take, drop, length-drop, arith}
+use Rattle.std.proofs.Common.{◌≡◌, ℕ, suc, ◌+◌, ◌-◌, ◌<◌, ◌≤◌, true, false, cond, not, ◌++◌, List, [], ◌∷◌, length, Option, Some, None, inl, inr, refl, sym, ap, ◌∙◌, take, drop, length-drop, arith}
 use Rattle.std.specs.List.{position, position_or_len}
 use Rattle.std.specs.Prelude.{nat_lt}
 use Rattle.std.specs.List.{list_all}
-use Rattle.std.proofs.lemmas.Bool.{lt-ltb, le-ltb, cases_lt, eqb-true, eq-eqb, ne_eqb, and_parts}
+use Rattle.std.proofs.lemmas.Bool.{lt-ltb, le-ltb, cases_lt, eqb-true, eq-eqb, ne_eqb, and_parts, both_ways}
 use Rattle.std.proofs.lemmas.List.{take_all}
 use Rattle.apd_ctrl.specs.Grammar.{after_blank, HasNoBlank}
 use Rattle.apd_ctrl.specs.Reading.{is_blank, word, behind}
@@ -76,16 +76,13 @@ text_is (b ∷ bs) = elim (is_blank b) as (λ t. is_blank b ≡ t → b ∷ bs �
   | false ↦ λ t. ap (λ cs. b ∷ cs) (text_is bs)
 ] refl
 
-not_both : (t : Bool) → t ≡ false → t ≡ true → ⊥
-not_both t f h = cc
-
 -- the first word has no blank
 pub word_free : (text : List ℕ) → HasNoBlank (word text)
 unfolding word
 word_free [] = tt
 word_free (b ∷ bs) = elim (is_blank b) as (λ t. is_blank b ≡ t → HasNoBlank (cond t [] (b ∷ word bs))) [
   | true ↦ λ t. tt
-  | false ↦ λ t. (λ e. not_both (is_blank b) t (eq-eqb b 32 e), word_free bs)
+  | false ↦ λ t. (λ e. both_ways (is_blank b) t (eq-eqb b 32 e), word_free bs)
 ] refl
 
 -- the other way round: a word without a blank, and what stands behind a blank
@@ -106,4 +103,4 @@ pub free_from : (w : List ℕ) → list_all (λ b. not (is_blank b)) w ≡ true 
 free_from [] h = tt
 free_from (b ∷ bs) h =
     let parts = and_parts (not (is_blank b)) (list_all (λ b. not (is_blank b)) bs) h in
-    (λ e. (let t : is_blank b ≡ true = eq-eqb b 32 e in let f : not (is_blank b) ≡ false = ap not t in not_both (not (is_blank b)) f parts.0), free_from bs parts.1)
+    (λ e. (let t : is_blank b ≡ true = eq-eqb b 32 e in let f : not (is_blank b) ≡ false = ap not t in both_ways (not (is_blank b)) f parts.0), free_from bs parts.1)

@@ -1,10 +1,10 @@
 -- The replies to queries, byte for byte.
-use Rattle.std.specs.Prelude.{ℕ, Bool, true, false, ◌&&◌, List, [], ◌∷◌, ◌++◌, map as list_map, filter, codes, Option, Some, None, slice_get, if◌then◌else◌}
+use Rattle.std.specs.Prelude.{ℕ, Bool, false, List, [], ◌++◌, map as list_map, filter, codes, Option, Some, None, slice_get, if◌then◌else◌}
 use Rattle.std.specs.Fmt.{decimal, digits}
 use Rattle.std.specs.List.{find, flat_map}
-use Rattle.std.specs.Ordering.{eq_by_cmp, is_lt}
+use Rattle.std.specs.Ordering.{is_lt}
 use Rattle.std.specs.FinMap as map
-use Rattle.apd_base.specs.Addr.{addr_cmp, bssid_cmp, text_of}
+use Rattle.apd_base.specs.Addr.{addr_cmp, text_of}
 use Rattle.apd_base.specs.State.{State, station_at, count, is_row_of}
 use Rattle.apd_base.specs.declared.address.Addr.{Addr}
 use Rattle.apd_base.specs.declared.address.Bssid.{Bssid}
@@ -13,6 +13,7 @@ use Rattle.apd_base.specs.declared.station.Station.TheVariants.{Authenticated, A
 use Rattle.apd_base.specs.declared.station.Which.{Which}
 use Rattle.apd_conf.specs.Confs.{conf_at}
 use Rattle.apd_conf.specs.declared.conf.Conf.{Conf}
+use Rattle.apd_table.specs.Addresses.{addresses_at}
 use Rattle.apd_ctrl.specs.Escapes.{escaped}
 use Rattle.apd_ctrl.specs.declared.command.Query.{Query}
 use Rattle.apd_ctrl.specs.declared.command.Query.TheVariants as query
@@ -20,10 +21,7 @@ use Rattle.apd_ctrl.specs.declared.command.Query.TheVariants as query
 abbrev pub fail : List ℕ
 fail = codes "FAIL\n"
 
--- the addresses with a row at a BSSID, and those of one of its lists, each rising
-unfoldable pub station_addresses : State → Bssid → List Addr
-station_addresses s b = list_map (λ row. row.0.1) (filter (λ row. eq_by_cmp bssid_cmp b row.0.0) (map.entries s.stations))
-
+-- the addresses of a list of a BSSID, rising
 unfoldable pub listed_addresses : State → Bssid → Which → List Addr
 listed_addresses s b w = list_map (λ row. row.0.2) (filter (λ row. is_row_of b w row.0) (map.entries s.lists))
 
@@ -64,7 +62,7 @@ is_above a c = is_lt (addr_cmp a c)
 -- of the address behind one that has a row
 abbrev pub next_reply : State → Bssid → Addr → Option Station → List ℕ
 next_reply s b a None = fail
-next_reply s b a (Some station) = found_reply s b (find (is_above a) (station_addresses s b))
+next_reply s b a (Some station) = found_reply s b (find (is_above a) (addresses_at s b))
 
 abbrev pub listed_line : Addr → List ℕ
 listed_line a = text_of a ++ codes " VLAN_ID=0\n"
@@ -100,7 +98,7 @@ abbrev pub text : State → List Conf → Query → List ℕ
 text s confs query.Ping = codes "PONG\n"
 text s confs (query.Status b up) = configured (λ conf. status_text s conf b up) (conf_at confs b)
 text s confs (query.Sta b a) = configured (λ _. station_reply a (station_at s b a)) (conf_at confs b)
-text s confs (query.First b) = configured (λ _. found_reply s b (slice_get (station_addresses s b) 0)) (conf_at confs b)
+text s confs (query.First b) = configured (λ _. found_reply s b (slice_get (addresses_at s b) 0)) (conf_at confs b)
 text s confs (query.Next b a) = configured (λ _. next_reply s b a (station_at s b a)) (conf_at confs b)
 text s confs (query.Show b w) = configured (λ _. list_text s b w) (conf_at confs b)
 

@@ -1,6 +1,7 @@
 //! The replies to queries.
 ghost use Rattle.std.specs.Prelude.{◌≡◌, ◌++◌, false, OnOk, IfOk, IfSome, Some, slice_get};
 ghost use Rattle.std.specs.Fmt.{digits};
+ghost use Rattle.std.specs.List.{find};
 ghost use Rattle.std.specs.Option.{is_some};
 ghost use Rattle.std.specs.String.{string_bytes};
 ghost use Rattle.apd_base.specs.State.{State, station_at};
@@ -9,8 +10,9 @@ ghost use Rattle.apd_base.specs.declared.address.Addr.{Addr as Address};
 ghost use Rattle.apd_base.specs.declared.address.Bssid.{Bssid as At};
 ghost use Rattle.apd_base.specs.declared.station.Which.{Which as WhichList};
 ghost use Rattle.apd_conf.specs.Confs.{conf_at};
+ghost use Rattle.apd_table.specs.Addresses.{addresses_at};
 ghost use Rattle.apd_ctrl.specs.Order.{Rising, is_among};
-ghost use Rattle.apd_ctrl.specs.Texts.{bssid_of, count_lines, found_reply, lines_of, list_text, listed_addresses, listed_line, radio_lines, row_text, state_word, station_addresses, station_text, status_text, text};
+ghost use Rattle.apd_ctrl.specs.Texts.{bssid_of, count_lines, found_reply, is_above, lines_of, list_text, listed_addresses, listed_line, radio_lines, row_text, state_word, station_text, status_text, text};
 ghost use Rattle.apd_ctrl.specs.Texts as texts;
 
 use crate::command::Query;
@@ -94,18 +96,30 @@ fn row_reply(alloc: Global, row: Option<(Addr, Station)>) -> Result<Vec<u8>, All
 }
 
 fn first_reply(alloc: Global, table: &Table, bssid: Bssid) -> Result<Vec<u8>, AllocError>
-    ensures { IfOk result (λ reply. reply.items ≡ found_reply table.now bssid (slice_get (station_addresses table.now bssid) 0)) }
+    ensures { IfOk result (λ reply. reply.items ≡ found_reply table.now bssid (slice_get (addresses_at table.now bssid) 0)) }
 {
     row_reply(alloc, table.first(bssid))
+}
+
+/// The reply that tells the row behind an address.
+fn reply_behind(
+    alloc: Global,
+    table: &Table,
+    bssid: Bssid,
+    addr: Addr,
+) -> Result<Vec<u8>, AllocError>
+    ensures { IfOk result (λ reply. reply.items ≡ found_reply table.now bssid (find (is_above addr) (addresses_at table.now bssid))) }
+{
+    row_reply(alloc, table.next(bssid, addr))
 }
 
 fn next_reply(alloc: Global, table: &Table, bssid: Bssid, addr: Addr) -> Result<Vec<u8>, AllocError>
     ensures { IfOk result (λ reply. reply.items ≡ texts.next_reply table.now bssid addr (station_at table.now bssid addr)) }
 {
-    if table.get(bssid, addr).is_none() {
-        return Vec::from_slice(alloc, FAIL);
+    match table.get(bssid, addr) {
+        None => Vec::from_slice(alloc, FAIL),
+        Some(_) => reply_behind(alloc, table, bssid, addr),
     }
-    row_reply(alloc, table.next(bssid, addr))
 }
 
 fn push_listed_line(out: &mut Vec<u8>, addr: Addr) -> Result<(), AllocError>
@@ -223,8 +237,8 @@ pub fn reply(
 /// The addresses that replies go through, in order and each once, are those of the stations with a row at
 /// the BSSID, and those of the list.
 pub fn addresses_law()
-    ensures stations_rise { (s : State) (b : At) → Rising (station_addresses s b) }
-    ensures stations { (s : State) (b : At) (a : Address) → is_among a (station_addresses s b) ≡ is_some (station_at s b a) }
+    ensures stations_rise { (s : State) (b : At) → Rising (addresses_at s b) }
+    ensures stations { (s : State) (b : At) (a : Address) → is_among a (addresses_at s b) ≡ is_some (station_at s b a) }
     ensures listed_rise { (s : State) (b : At) (w : WhichList) → Rising (listed_addresses s b w) }
     ensures listed { (s : State) (b : At) (w : WhichList) (a : Address) → is_among a (listed_addresses s b w) ≡ contains s.lists (b, w, a) }
 {}

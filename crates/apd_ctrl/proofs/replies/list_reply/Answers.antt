@@ -1,11 +1,8 @@
-use Rattle.std.proofs.Common.{◌≡◌, ℕ, ◌+◌, ◌++◌, ◌<◌, ◌≤◌, List, length, take, Option, Some, None, IsSome, IsTrue, sym, ap, ◌∙◌, arith}
+use Rattle.std.proofs.Common.{◌≡◌, ◌++◌, ◌<◌, ◌≤◌, length, Option, Some, None, IsSome, IsTrue, sym, ap, ◌∙◌, arith}
 use Rattle.std.specs.Prelude.{slice_get}
 use Rattle.std.specs.List.{flat_map}
 use Rattle.std.specs.Option.{is_some}
-use Rattle.std.specs.FinMap as map
 use Rattle.std.proofs.lemmas.List.{take_all}
-use Rattle.apd_base.specs.declared.address.Addr.{Addr}
-use Rattle.apd_base.specs.Sets.{contains}
 use Rattle.apd_acl.specs.Lists.{has}
 use Rattle.apd_ctrl.specs.Texts.{listed_addresses, listed_line}
 use Rattle.apd_ctrl.proofs.Addresses.{none_listed, listed_rise, listed_are, listed_count, get_some, told_more}
