@@ -2,8 +2,11 @@ pub mod Accepting
 pub mod Answering
 pub mod Changing
 pub mod Configuring
+pub mod Found
 pub mod Handing
 pub mod Hearing
+pub mod Noting
 pub mod Senders
+pub mod Silence
 pub mod Speaking
 pub mod Ticking

@@ -1,18 +1,14 @@
 -- The row that a tick takes.
-use Rattle.std.proofs.Common.{◌≡◌, ℕ, ◌+◌, ◌-◌, ◌^◌, Bool, true, false, cond, eqb, List, [], ◌∷◌, Option, Some, None, is_some, is_none, Ok, IsSome, refl, sym, ap, subst, ◌∙◌, T}
+use Rattle.std.proofs.Common.{◌≡◌, ℕ, ◌+◌, ◌-◌, ◌^◌, Bool, true, false, cond, eqb, List, Option, Some, None, is_some, is_none, Ok, IsSome, refl, sym, ap, ◌∙◌}
 use Rattle.std.specs.List.{find}
 use Rattle.std.specs.Option.{option_map}
 use Rattle.std.specs.FinMap as maps
-use Rattle.apd_base.specs.Addr.{station_cmp}
 use Rattle.apd_base.specs.State.{State, policy_at, station_at}
 use Rattle.apd_base.specs.declared.address.Addr.{Addr}
 use Rattle.apd_base.specs.declared.address.Bssid.{Bssid}
 use Rattle.apd_base.specs.declared.moment.Moment.{Moment}
 use Rattle.apd_base.specs.declared.station.Station.{Station}
 use Rattle.apd_base.specs.declared.station.Station.TheVariants.{Authenticated, Associated}
-use Rattle.apd_base.proofs.AddrLaws.{station_total, station_exact}
-use Rattle.apd_base.proofs.MapLaws.{tied}
-use Rattle.apd_base.proofs.RowsLaws.{tied_not_below, is_sorted_tail}
 use Rattle.apd_conf.specs.declared.conf.Conf.{Conf}
 use Rattle.apd_conf.specs.Confs.{conf_at}
 use Rattle.apd_mlme.specs.Happening.{Expire}
@@ -26,23 +22,9 @@ use Rattle.apd.specs.declared.plain.Input.TheVariants.{Tick}
 use Rattle.apd.specs.declared.plain.QuietReason.{QuietReason}
 use Rattle.apd.specs.declared.plain.QuietReason.TheVariants.{Nothing, NoInterface, NoPolicy}
 use Rattle.apd.specs.declared.plain.World.{World}
+use Rattle.apd.proofs.Found.{Row, found_entry}
 use Rattle.apd.specs.Heard.{AreMomentsOf, due, is_due, is_too_long, silence}
 use Rattle.apd.specs.World.{accepted, answer_to, answer_to_fit, expiry, unfit}
-
-abbrev Row : Type 0
-Row = (Bssid × Addr) × Moment
-
--- a row that is found passes the test, and is an entry
-found_entry : (p : Row → Bool) (es : List Row) → T (maps.is_sorted station_cmp es) → (e : Row) → find p es ≡ Some e → (p e ≡ true) × (maps.find station_cmp e.0 es ≡ Some e.1)
-found_entry p [] h e f = cc
-found_entry p (x ∷ es) h e f =
-    elim (p x) as (λ t. p x ≡ t → cond t (Some x) (find p es) ≡ Some e → (p e ≡ true) × (maps.find station_cmp e.0 (x ∷ es) ≡ Some e.1)) [
-      | true ↦ λ passes is. let same : x ≡ e = cc in
-          subst (λ (z : Row). (p z ≡ true) × (maps.find station_cmp z.0 (x ∷ es) ≡ Some z.1)) same (passes, ap (λ t. cond t (Some x.1) (maps.find station_cmp x.0 es)) (tied station_total station_exact x.0))
-      | false ↦ λ _ is.
-          let rest = found_entry p es (is_sorted_tail station_total x es h) e is in
-          (rest.0, ap (λ t. cond t (Some x.1) (maps.find station_cmp e.0 es)) (tied_not_below station_total e.0 x es h e.1 rest.1) ∙ rest.1)
-    ] refl f
 
 -- it is of a configured BSSID
 configured : (o : Option Conf) (ms : ℕ) → is_too_long o ms ≡ true → is_none o ≡ false

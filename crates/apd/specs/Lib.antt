@@ -1,7 +1,9 @@
 pub mod Configured
 pub mod Heard
 pub mod Meant
+pub mod Noted
 pub mod Run
+pub mod Silent
 pub mod Spoken
 pub mod Start
 pub mod Steps
