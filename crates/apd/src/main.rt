@@ -36,6 +36,28 @@ use std::rt::{Env, Files};
 use store_file::{FormatFault, format_file};
 use thiserror::Error;
 
+/// What the program's help says beside its subcommands.
+const HELP: &str = "'apd script --help' has the lines of a script and of a configuration file.";
+
+/// What the help for `script` says beside its arguments.
+const SCRIPT_HELP: &str = "Lines of a script:
+  rx <interface> <hex>  The radio of the interface received this frame
+  tick <ms>             It is this moment from now on; a station silent for too long goes
+  cmd <text>            A control command, as STATUS or STA-FIRST
+  hand                  Hands out what was settled: frames, driver calls and replies
+  flush                 Settles all entries, and then does as hand
+An empty line is skipped; any other line ends the script.
+
+Lines of a CONF are <name>=<value>, and these three at least:
+  interface=wlan0
+  bssid=02:00:00:00:00:01
+  ssid=net
+docs/FORMATS.md has all names, and docs/CONTROL.md the control commands.
+
+Example, in which a station authenticates and is answered:
+  rx wlan0 b000 0000 020000000001 0200000000aa 020000000001 1000 0000 0100 0000
+  flush";
+
 /// The subcommand that runs a script.
 fn script_command<'a>(alloc: Global) -> Result<Command<'a>, AllocError> {
     let files = Arg::new(alloc, "CONF")
@@ -46,6 +68,7 @@ fn script_command<'a>(alloc: Global) -> Result<Command<'a>, AllocError> {
         );
     Command::new(alloc, "script")
         .about("Runs a script from standard input on a daemon in memory")
+        .after_help(SCRIPT_HELP)
         .arg(files)
 }
 
@@ -66,6 +89,7 @@ fn command<'a>(alloc: Global) -> Result<Command<'a>, AllocError> {
     Command::new(alloc, "apd")
         .bin_name("apd")?
         .about("An access point daemon whose promises are proved")
+        .after_help(HELP)
         .subcommand_required(true)
         .subcommand(format)?
         .subcommand(script)

@@ -21,7 +21,7 @@ use crate::plain::{Accepted, Input, Step, Told, World, drive, flush_steps, hand_
 use apd_base::Moment;
 use apd_base::limits::MAX_SCRIPT;
 use apd_conf::{Conf, Confs, InterfaceName};
-use apd_ctrl::{FAIL, Parsed, Placed, Query, UNKNOWN_COMMAND, escape, parse_command};
+use apd_ctrl::{FAIL, Parsed, Placed, Query, escape, parse_command};
 use apd_mlme::{Event, Out, Recipient};
 use std::alloc::{AllocError, Global};
 use std::io::{self, BufRead, ErrorKind, Read, Write};
@@ -287,10 +287,12 @@ impl<W: Write + Drop> Run<W> {
     fn command(&mut self, tag: u64, text: &[u8]) -> Result<(), ScriptFault>
         ensures { IsReached self.old.world self.new.world }
     {
-        let (interface, command) = match parse_command(text) {
-            Parsed::Command { interface, command } => (interface, command),
-            Parsed::Unknown => return self.reply(tag, UNKNOWN_COMMAND),
-            Parsed::Fail => return self.reply(tag, FAIL),
+        let parsed = parse_command(text);
+        if let Some(refusal) = parsed.refusal() {
+            return self.reply(tag, refusal);
+        }
+        let Parsed::Command { interface, command } = parsed else {
+            unreachable!()
         };
         let Some(conf) = conf_meant(self.world.confs(), interface) else {
             return self.reply(tag, FAIL);
@@ -317,9 +319,8 @@ impl<W: Write + Drop> Run<W> {
         let told = self.world.step(self.alloc, &Step::Ask(query));
         match told {
             Told::Answered(answer) => self.reply(tag, answer.text()),
-            Told::Accepted(_) | Told::Settled | Told::Handed(..) | Told::NoMemory => {
-                Err(ScriptFault::NoMemory)
-            }
+            Told::NoMemory => Err(ScriptFault::NoMemory),
+            Told::Accepted(_) | Told::Settled | Told::Handed(..) => unreachable!(),
         }
     }
 
@@ -332,9 +333,8 @@ impl<W: Write + Drop> Run<W> {
         match told {
             Told::Accepted(Accepted::Entry(_)) => self.print(&told),
             Told::Accepted(Accepted::Stopped | Accepted::Quiet(_)) => self.reply(tag, FAIL),
-            Told::Answered(_) | Told::Settled | Told::Handed(..) | Told::NoMemory => {
-                Err(ScriptFault::NoMemory)
-            }
+            Told::NoMemory => Err(ScriptFault::NoMemory),
+            Told::Settled | Told::Handed(..) | Told::Answered(_) => unreachable!(),
         }
     }
 

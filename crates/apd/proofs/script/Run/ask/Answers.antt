@@ -6,5 +6,5 @@ use Rattle.apd.proofs.script.Run.ask.Goals as goal
 pub returns-in-Answered : goal.returns-in-Answered
 returns-in-Answered g c = reached_by_step (Ask c.args.query) c.step-told.result c.args.self.now.world c.step-told.new.self c.reply.new.self.world c.step-told.ensures c.reply.ensures
 
-pub returns : goal.returns
-returns g c = reached_by_step (Ask c.args.query) c.step-told.result c.args.self.now.world c.step-told.new.self c.step-told.new.self c.step-told.ensures refl
+pub returns-in-NoMemory : goal.returns-in-NoMemory
+returns-in-NoMemory g c = reached_by_step (Ask c.args.query) c.step-told.result c.args.self.now.world c.step-told.new.self c.step-told.new.self c.step-told.ensures refl

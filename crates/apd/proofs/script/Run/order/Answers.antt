@@ -4,8 +4,8 @@ use Rattle.apd.specs.declared.plain.Step.TheVariants.{Accept}
 use Rattle.apd.proofs.Answering.{reached_by_step}
 use Rattle.apd.proofs.script.Run.order.Goals as goal
 
-pub returns : goal.returns
-returns g c =
+pub returns-in-NoMemory : goal.returns-in-NoMemory
+returns-in-NoMemory g c =
     reached_by_step (Accept (Order c.args.event) c.args.self.now.moment) c.step-told.result c.args.self.now.world c.step-told.new.self c.step-told.new.self c.step-told.ensures refl
 
 pub returns-in-Accepted-Entry : goal.returns-in-Accepted-Entry
