@@ -158,4 +158,39 @@ mod tests {
         }
         Ok(())
     }
+
+    // So many lines, each with an address of its own.
+    fn lines_of_addresses(alloc: Global, count: u16) -> Result<Vec<u8>, AllocError> {
+        let mut file = Vec::new(alloc);
+        for number in 0..count {
+            let [high, low] = number.to_be_bytes();
+            Addr([2, 0, 0, 0, high, low]).write_text(&mut file)?;
+            file.push(b'\n')?;
+        }
+        Ok(file)
+    }
+
+    #[test]
+    fn the_line_that_makes_1025_addresses_is_refused(rt: HostRuntime) -> Result<(), Fail> {
+        let most = lines_of_addresses(rt.alloc(), 1024)?;
+        let list = read_list(rt.alloc(), &most)?;
+        assert_eq!(rt; list.as_slice().len(), 1024);
+        let more = lines_of_addresses(rt.alloc(), 1025)?;
+        let answer = read_list(rt.alloc(), &more);
+        assert_eq!(rt; answer.err(), Some(ListFault::TooMany));
+        Ok(())
+    }
+
+    #[test]
+    fn too_many_addresses_are_told_at_their_line(rt: HostRuntime) -> Result<(), Fail> {
+        let mut before = lines_of_addresses(rt.alloc(), 1024)?;
+        before.extend_from_slice(b"x\n02:00:00:00:00:00\n02:00:00:00:ff:ff")?;
+        let answer = read_list(rt.alloc(), &before);
+        assert_eq!(rt; answer.err(), Some(ListFault::BadAddress(1025)));
+        let mut behind = lines_of_addresses(rt.alloc(), 1025)?;
+        behind.extend_from_slice(b"x")?;
+        let answer = read_list(rt.alloc(), &behind);
+        assert_eq!(rt; answer.err(), Some(ListFault::TooMany));
+        Ok(())
+    }
 }
