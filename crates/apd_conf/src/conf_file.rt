@@ -106,7 +106,8 @@ pub fn read_conf(alloc: Global, file: &[u8]) -> Result<Conf, ConfFault>
 #[cfg(test)]
 mod tests {
     use super::*;
-    use crate::Required;
+    use crate::{AuthAlgs, HwMode, IgnoreBroadcastSsid, Required};
+    use apd_base::AclMode;
     use std::process::Abort;
     use std::test::Fail;
 
@@ -139,6 +140,24 @@ wpa=0
         let read = format!(in rt.alloc(); "{read:?}")?;
         let built_in = format!(in rt.alloc(); "{built_in:?}")?;
         assert_eq!(rt; read.as_str(), built_in.as_str());
+        Ok(())
+    }
+
+    #[test]
+    fn names_that_no_line_gives_have_their_defaults(rt: HostRuntime) -> Result<(), Fail> {
+        let file = b"interface=wlan0\nbssid=02:00:00:00:00:01\nssid=net";
+        let conf = read_conf(rt.alloc(), file)?;
+        assert_eq!(rt; conf.hw_mode, HwMode::B);
+        assert_eq!(rt; conf.channel, 0);
+        assert_eq!(rt; conf.beacon_int, 100);
+        assert_eq!(rt; conf.max_num_sta.count, 2007);
+        assert_eq!(rt; conf.auth_algs, AuthAlgs::OpenAndShared);
+        assert_eq!(rt; conf.ap_max_inactivity, 300);
+        assert_eq!(rt; conf.ignore_broadcast_ssid, IgnoreBroadcastSsid::No);
+        assert_eq!(rt; conf.max_listen_interval, 65535);
+        assert_eq!(rt; conf.macaddr_acl, AclMode::AcceptUnlessDenied);
+        assert!(rt; conf.accept_mac_file.is_none());
+        assert!(rt; conf.deny_mac_file.is_none());
         Ok(())
     }
 
@@ -191,7 +210,7 @@ wpa=0
 
     // A line that is taken leaves the interface missing.
     #[test]
-    fn values_at_their_ends_and_beyond(rt: HostRuntime) {
+    fn names_and_addresses_at_their_ends_and_beyond(rt: HostRuntime) {
         for (line, is_taken) in [
             ("interface=!", true),
             ("interface=~~~~~~~~~~~~~~~", true),
@@ -210,6 +229,14 @@ wpa=0
             ("hw_mode=g", true),
             ("hw_mode=", false),
             ("hw_mode=n", false),
+        ] {
+            check_line(&rt, rt.alloc(), line, is_taken);
+        }
+    }
+
+    #[test]
+    fn numbers_at_their_ends_and_beyond(rt: HostRuntime) {
+        for (line, is_taken) in [
             ("channel=0", true),
             ("channel=196", true),
             ("channel=-1", false),
@@ -236,10 +263,25 @@ wpa=0
             ("max_listen_interval=65536", false),
             ("macaddr_acl=0", true),
             ("macaddr_acl=1", true),
+        ] {
+            check_line(&rt, rt.alloc(), line, is_taken);
+        }
+    }
+
+    #[test]
+    fn the_name_of_a_list_file_is_a_text_and_not_empty(rt: HostRuntime) {
+        for (line, is_taken) in [
+            ("accept_mac_file=x", true),
+            ("accept_mac_file=\u{e9}", true),
+            ("accept_mac_file=", false),
             ("deny_mac_file=x", true),
             ("deny_mac_file=", false),
         ] {
             check_line(&rt, rt.alloc(), line, is_taken);
+        }
+        for line in [b"accept_mac_file=\xff".as_slice(), b"deny_mac_file=x\xc3"] {
+            let fault = read_conf(rt.alloc(), line).err();
+            assert_eq!(rt; fault, Some(ConfFault::BadValue(1)));
         }
     }
 
