@@ -1,7 +1,7 @@
 use crate::plain::World;
 use crate::script::run_script;
 use apd_base::{Addr, Bssid};
-use apd_conf::{Conf, Confs, IgnoreBroadcastSsid, InterfaceName};
+use apd_conf::{Conf, Confs, HwMode, IgnoreBroadcastSsid, InterfaceName};
 use std::alloc::Global;
 use std::process::Abort;
 use std::test::Fail;
@@ -531,6 +531,113 @@ fn a_station_may_listen_as_seldom_as_is_configured(rt: HostRuntime) -> Result<()
             confs,
             &[AUTHENTICATES, ASKS, elements],
             &[AUTHENTICATED, answer],
+        )?;
+    }
+    Ok(())
+}
+
+/// From the listen interval on, reassociation requests that are refused, and the status in the answer.
+const REFUSED_AGAIN: [(&str, &str); 6] = [
+    // Another SSID, none, no Supported Rates, an element that is cut.
+    ("0a00 C 0003 6e6575 0104 82848b96", "0100"),
+    ("0a00 C 0104 82848b96", "0100"),
+    ("0a00 C 0003 6e6574", "0100"),
+    ("0a00 C 0003 6e6574 0104 82848b", "0100"),
+    // A listen interval of 11; another SSID too, which is looked at first.
+    ("0b00 C 0003 6e6574 0104 82848b96", "3300"),
+    ("0b00 C 0003 6e6575 0104 82848b96", "0100"),
+];
+
+/// S, which joined wlan0, stays associated there: its data are taken.
+#[test]
+fn a_refused_reassociation_leaves_the_station_as_it_is(rt: HostRuntime) -> Result<(), Fail> {
+    for (request, status) in &REFUSED_AGAIN {
+        let mut conf = Conf::built_in(rt.alloc())?;
+        conf.max_listen_interval = 10;
+        let confs = alone(rt.alloc(), conf)?;
+        let asks = "rx wlan0 2000 0000 B S B 2000 3104 ";
+        let sends_data = "\nflush\nrx wlan0 0801 0000 B S ffffffffffff 2000\n";
+        let refused = "entry 4\nwlan0 tx 3000 0000 S B B 0000 0100 ";
+        let rest = " 0000 0104 82848b96\nquiet nothing\n";
+        prints(
+            &rt,
+            request,
+            confs,
+            &[JOINS, asks, request, sends_data],
+            &[JOINED, refused, status, rest],
+        )?;
+    }
+    Ok(())
+}
+
+/// S asks which network is there, authenticates, joins, and asks again for another network.
+const ASKS_ALL: &str = "
+rx wlan0 4000 0000 ffffffffffff S ffffffffffff 3000 0003 6e6574
+flush
+rx wlan0 b000 0000 B S B 1000 0000 0100 0000
+flush
+rx wlan0 0000 0000 B S B 2000 3104 0a00 0003 6e6574 0103 8c98b0
+flush
+rx wlan0 2000 0000 B S B 2000 3104 0a00 B 0003 6e6575 0103 8c98b0
+flush
+";
+
+/// What a radio of 5 GHz answers: its rates are others, and a probe response tells no channel.
+const ANSWERED_AT_5_GHZ: &str = "
+entry 2
+wlan0 tx 5000 0000 S B B 0000 0000000000000000 6400 0100 0003 6e6574 0103 8c98b0
+entry 3
+wlan0 tx b000 0000 S B B 0000 0000 0200 0000
+entry 4
+wlan0 install 02:00:00:00:00:aa 1
+wlan0 tx 1000 0000 S B B 0000 0100 0000 01c0 0103 8c98b0
+entry 5
+wlan0 tx 3000 0000 S B B 0000 0100 0100 0000 0103 8c98b0
+";
+
+#[test]
+fn a_radio_of_5_ghz_offers_other_rates(rt: HostRuntime) -> Result<(), Fail> {
+    let mut conf = Conf::built_in(rt.alloc())?;
+    conf.hw_mode = HwMode::A;
+    let confs = alone(rt.alloc(), conf)?;
+    prints(
+        &rt,
+        "a radio of 5 GHz",
+        confs,
+        &[ASKS_ALL],
+        &[ANSWERED_AT_5_GHZ],
+    )
+}
+
+/// Frames that are ignored for two reasons, and the word of the first.
+const DOUBLY_FAULTY: [(&str, &str); 10] = [
+    // Too short, and of another version; of another version, and a control frame.
+    ("b100 0000 B S", "short"),
+    ("b500 0000 B S B 1000", "version"),
+    // A control frame that is a fragment; a fragment that is protected.
+    ("b404 0000 B S B 1000", "class"),
+    ("b044 0000 B S B 1000 0000 0100 0000", "fragment"),
+    // From a group: a protected frame, and data from an access point.
+    ("b040 0000 B ffffffffffff B 1000 0000 0100 0000", "flags"),
+    ("0802 0000 B ffffffffffff B 1000", "direction"),
+    // From the radio itself, to another; to another, for another BSS.
+    ("b000 0000 C B B 1000 0000 0100 0000", "sender"),
+    ("b000 0000 C S C 1000 0000 0100 0000", "receiver"),
+    // For another BSS: an action frame, and a body that is too short.
+    ("d000 0000 B S C 1000", "bss"),
+    ("b000 0000 B S C 1000 0000", "bss"),
+];
+
+#[test]
+fn of_two_faults_of_a_frame_the_first_is_told(rt: HostRuntime) -> Result<(), Fail> {
+    for (frame, word) in &DOUBLY_FAULTY {
+        let confs = one_radio(rt.alloc())?;
+        prints(
+            &rt,
+            frame,
+            confs,
+            &["rx wlan0 ", frame],
+            &["quiet ", word, "\n"],
         )?;
     }
     Ok(())

@@ -94,37 +94,46 @@ fn fault_text<R: Files + AllocGlobal>(rt: &R, names: &[&str]) -> Result<String, 
     }
 }
 
+/// The tests' files, by name and text.
+const FILES: [(&str, &str); 7] = [
+    (
+        "good",
+        "interface=wlan0\nbssid=02:00:00:00:00:01\nssid=net\naccept_mac_file=configuration_files_of_a_test/list\n",
+    ),
+    (
+        "other",
+        "interface=wlan1\nbssid=02:00:00:00:00:02\nssid=net\n",
+    ),
+    ("list", "02:00:00:00:00:aa\n"),
+    ("faulty_list", "02:00:00:00:00:aa\nx\n"),
+    (
+        "faulty",
+        "interface=wlan0\nfoo\naccept_mac_file=configuration_files_of_a_test/none\n",
+    ),
+    (
+        "bad_accept",
+        "interface=wlan2\nbssid=02:00:00:00:00:03\nssid=net\naccept_mac_file=configuration_files_of_a_test/faulty_list\ndeny_mac_file=configuration_files_of_a_test/none\n",
+    ),
+    (
+        "no_deny",
+        "interface=wlan2\nbssid=02:00:00:00:00:03\nssid=net\ndeny_mac_file=configuration_files_of_a_test/none\n",
+    ),
+];
+
+/// Makes the folder of the tests' files anew.
+fn make_files<R: Files + AllocGlobal>(rt: &R) -> Result<(), Fail> {
+    let _ = fs::remove_dir_all(rt, FOLDER);
+    fs::create_dir(rt, FOLDER)?;
+    for (name, text) in &FILES {
+        let path = format!(in rt.alloc(); "{FOLDER}/{name}")?;
+        fs::write(rt, path.as_str(), *text)?;
+    }
+    Ok(())
+}
+
 #[test]
 fn files_are_read_in_turn_and_the_first_fault_is_told(rt: HostRuntime) -> Result<(), Fail> {
-    let _ = fs::remove_dir_all(&rt, FOLDER);
-    fs::create_dir(&rt, FOLDER)?;
-    for (name, text) in [
-        (
-            "good",
-            "interface=wlan0\nbssid=02:00:00:00:00:01\nssid=net\naccept_mac_file=configuration_files_of_a_test/list\n",
-        ),
-        (
-            "other",
-            "interface=wlan1\nbssid=02:00:00:00:00:02\nssid=net\n",
-        ),
-        ("list", "02:00:00:00:00:aa\n"),
-        ("faulty_list", "02:00:00:00:00:aa\nx\n"),
-        (
-            "faulty",
-            "interface=wlan0\nfoo\naccept_mac_file=configuration_files_of_a_test/none\n",
-        ),
-        (
-            "bad_accept",
-            "interface=wlan2\nbssid=02:00:00:00:00:03\nssid=net\naccept_mac_file=configuration_files_of_a_test/faulty_list\ndeny_mac_file=configuration_files_of_a_test/none\n",
-        ),
-        (
-            "no_deny",
-            "interface=wlan2\nbssid=02:00:00:00:00:03\nssid=net\ndeny_mac_file=configuration_files_of_a_test/none\n",
-        ),
-    ] {
-        let path = format!(in rt.alloc(); "{FOLDER}/{name}")?;
-        fs::write(&rt, path.as_str(), text)?;
-    }
+    make_files(&rt)?;
     let good = "configuration_files_of_a_test/good";
     let other = "configuration_files_of_a_test/other";
     let faulty = "configuration_files_of_a_test/faulty";
