@@ -1,6 +1,7 @@
 //! Status codes and reason codes.
 ghost use Rattle.std.specs.Prelude.{◌≡◌};
 ghost use Rattle.apd_frame.specs.Wire.{status_code};
+ghost use Rattle.apd_frame.specs.declared.codes.TheConstants.Reason.{UNSPECIFIED, INVALID_AUTHENTICATION, INACTIVITY, INVALID_CLASS2_FRAME, INVALID_CLASS3_FRAME};
 
 /// A status code that is sent, by its name in IEEE Std 802.11-2016, 9.4.1.9, Table 9-46.
 #[derive(Clone, Copy, Debug, PartialEq, Eq)]
@@ -51,3 +52,13 @@ impl Reason {
     /// 7: a class 3 frame from a station that is not associated.
     pub const INVALID_CLASS3_FRAME: Reason = Reason(7);
 }
+
+/// The reason codes in numbers, as IEEE Std 802.11-2016, 9.4.1.7, Table 9-45 has them. Other contracts
+/// and definitions cite them by name.
+pub fn reason_codes_law()
+    ensures unspecified { UNSPECIFIED.0 ≡ 1 }
+    ensures invalid_authentication { INVALID_AUTHENTICATION.0 ≡ 2 }
+    ensures inactivity { INACTIVITY.0 ≡ 4 }
+    ensures invalid_class2_frame { INVALID_CLASS2_FRAME.0 ≡ 6 }
+    ensures invalid_class3_frame { INVALID_CLASS3_FRAME.0 ≡ 7 }
+{}

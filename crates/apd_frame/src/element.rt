@@ -14,6 +14,14 @@ pub const SUPPORTED_RATES: u8 = 1;
 /// The ID of a DSSS Parameter Set element.
 pub const DSSS_PARAMETER_SET: u8 = 3;
 
+/// The element IDs in numbers, as IEEE Std 802.11-2016, 9.4.2.1, Table 9-77 has them. Other contracts
+/// and definitions cite them by name.
+pub fn element_ids_law()
+    ensures ssid { SSID ≡ 0 }
+    ensures supported_rates { SUPPORTED_RATES ≡ 1 }
+    ensures dsss_parameter_set { DSSS_PARAMETER_SET ≡ 3 }
+{}
+
 /// An element (IEEE Std 802.11-2016, 9.4.2.1): its ID, and as many bytes as its length says.
 #[derive(Clone, Copy, Debug, PartialEq, Eq)]
 pub struct Element<'a> {

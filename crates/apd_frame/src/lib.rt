@@ -13,9 +13,9 @@ pub mod reasons;
 pub mod received;
 pub mod replies;
 
-pub use codes::{Reason, Status};
+pub use codes::{Reason, Status, reason_codes_law};
 pub use decoder::{a_sender_is_one_station, decode, exactly_one_outcome};
-pub use element::{DSSS_PARAMETER_SET, Element, Elements, SSID, SUPPORTED_RATES};
+pub use element::{DSSS_PARAMETER_SET, Element, Elements, SSID, SUPPORTED_RATES, element_ids_law};
 pub use element_list::{elements, elements_law, first_with, well_formed};
 pub use encoder::{encode, wire_law};
 pub use reasons::Ignored;
