@@ -124,11 +124,18 @@ fn nothing_is_no_change(rt: HostRuntime) -> Result<(), Fail> {
 }
 
 #[test]
+fn each_unknown_tag(rt: HostRuntime) -> Result<(), Fail> {
+    let mut bytes = AUTHENTICATED;
+    for tag in [0].into_iter().chain(7..=255) {
+        bytes[0] = tag;
+        assert!(rt; is_none(rt.alloc(), &bytes)?, "{tag}");
+    }
+    Ok(())
+}
+
+#[test]
 fn values_out_of_range(rt: HostRuntime) -> Result<(), Fail> {
     for (record, place, value) in [
-        (AUTHENTICATED.as_slice(), 0, 0),
-        (AUTHENTICATED.as_slice(), 0, 7),
-        (AUTHENTICATED.as_slice(), 0, 255),
         (AUTHENTICATED.as_slice(), 13, 0),
         (AUTHENTICATED.as_slice(), 13, 3),
         (AUTHENTICATED.as_slice(), 14, 1),
