@@ -1,8 +1,8 @@
 -- What an association or a reassociation response tells its station.
-use Rattle.std.proofs.Common.{◌≡◌, ◌≢◌, ℕ, Bool, true, false, cond, not, ◌&&◌, [], ◌++◌, List, Option, Some, None, inl, inr, refl, sym, ap, ◌∙◌, IsSome}
+use Rattle.std.proofs.Common.{◌≡◌, ◌≢◌, ℕ, Bool, true, false, cond, not, ◌&&◌, nat_lt, [], ◌++◌, List, Option, Some, None, inl, inr, refl, sym, ap, subst, ◌∙◌, IsSome}
 use Rattle.std.specs.Option.{is_some}
 use Rattle.std.specs.Ordering.{eq_by_cmp}
-use Rattle.std.proofs.lemmas.Bool.{ltb-false, le-ltb}
+use Rattle.std.proofs.lemmas.Bool.{ltb-true, ltb-false}
 use Rattle.std.proofs.lemmas.Slice.Eq.{bytes_eq-Decides}
 use Rattle.apd_base.specs.declared.address.Addr.{Addr}
 use Rattle.apd_base.specs.declared.address.Bssid.{Bssid}
@@ -17,42 +17,77 @@ use Rattle.apd_conf.specs.declared.conf.Conf.{Conf}
 use Rattle.apd_frame.specs.Contents.{AssociationRequest}
 use Rattle.apd_frame.specs.Elements.{well_formed, first_with}
 use Rattle.apd_frame.specs.declared.codes.Status.{Status}
-use Rattle.apd_frame.specs.declared.codes.Status.TheVariants.{Success}
-use Rattle.apd_frame.specs.declared.element.TheConstants.{SSID}
+use Rattle.apd_frame.specs.declared.codes.Status.TheVariants.{Success, RefusedReasonUnspecified, DeniedListenIntervalTooLarge}
+use Rattle.apd_frame.specs.declared.element.TheConstants.{SSID, SUPPORTED_RATES}
 use Rattle.apd_table.specs.LeastFree.{IsLeastFree}
 use Rattle.apd_table.specs.Sound.{Sound}
 use Rattle.apd_mlme.specs.declared.association.Kind.{Kind}
-use Rattle.apd_mlme.specs.Answered.{IsMember, IsAcceptable, IsAnsweredTruly, only_authenticated}
-use Rattle.apd_mlme.specs.Association.{is_named, association_refusals, association_status, association_response, elsewhere, outs_elsewhere, installation, row_of, associated, accepted, association_of, association_verdict}
+use Rattle.apd_mlme.specs.Answered.{IsMember, IsForNetwork, IsDeserved, IsAnsweredTruly, only_authenticated}
+use Rattle.apd_mlme.specs.Association.{is_named, association_status, association_response, elsewhere, outs_elsewhere, installation, row_of, associated, accepted, association_of, association_verdict}
 use Rattle.apd_mlme.specs.Identifiers.{identifier_for}
 use Rattle.apd_mlme.specs.Refusals.{is_success}
 use Rattle.apd_mlme.specs.Verdict.{Verdict, only_sent}
 use Rattle.apd_mlme.proofs.AssociationLaws.{three, others, cleared, cleared_here, cleared_elsewhere, own_or_free, own_kept, associated_station}
 use Rattle.apd_mlme.proofs.ElsewhereLaws.{is_among, among_elsewhere, put_backs_station}
 use Rattle.apd_mlme.proofs.IdentifierLaws.{is_least_free, identifier_is_there}
-use Rattle.apd_mlme.proofs.RefusalLaws.{none_holds, status_success, success_of_none}
-use Rattle.apd_mlme.proofs.Cases.{both_true, differ, either, first_false, none_is, not_false, second_false}
+use Rattle.apd_mlme.proofs.RefusalLaws.{status_success}
+use Rattle.apd_mlme.proofs.Cases.{both_true, differ, either, first_false, none_is, second_false}
 
 -- ---- what is asked
 named_so : (conf : Conf) (o : Option (List ℕ)) → is_named conf o ≡ true → o ≡ Some conf.ssid
 named_so conf None e = cc
 named_so conf (Some ssid) e = ap Some ((bytes_eq-Decides ssid conf.ssid).0 e)
 
-pub acceptable : (conf : Conf) (request : AssociationRequest) → is_success (association_status conf request) ≡ true → IsAcceptable conf request
-acceptable conf request e =
-    let none = none_holds (association_refusals conf request) (refl, (refl, (refl, (refl, tt)))) e in
-    record {
-      whole = not_false (well_formed request.elements) none.0;
-      named = named_so conf (first_with SSID request.elements) (not_false _ none.1.0);
-      rated = not_false _ none.1.1.0;
-      often = ltb-false conf.max_listen_interval request.listen_interval none.1.1.1.0;
-    }
+module _ (conf : Conf) (request : AssociationRequest) where
+  -- the reasons to refuse, in the order in which they are looked for
+  abbrev whole : Bool
+  whole = well_formed request.elements
 
-accepted_status : (conf : Conf) (request : AssociationRequest) → IsAcceptable conf request → association_status conf request ≡ Success
-accepted_status conf request may =
-    let named = ap (is_named conf) may.named ∙ (bytes_eq-Decides conf.ssid conf.ssid).1 refl in
-    let often = le-ltb conf.max_listen_interval request.listen_interval may.often in
-    success_of_none (association_refusals conf request) (ap not may.whole, (ap not named, (ap not may.rated, (often, tt))))
+  abbrev named : Bool
+  named = is_named conf (first_with SSID request.elements)
+
+  abbrev rated : Bool
+  rated = is_some (first_with SUPPORTED_RATES request.elements)
+
+  abbrev seldom : Bool
+  seldom = nat_lt conf.max_listen_interval request.listen_interval
+
+  -- what each status says of the request
+  abbrev Deserves : Status → Type 0
+  Deserves = IsDeserved conf request
+
+  abbrev by_interval : Bool → Status
+  by_interval t = cond t DeniedListenIntervalTooLarge Success
+
+  network_deserved : IsForNetwork conf request → Deserves (by_interval seldom)
+  network_deserved may = elim seldom as (λ t. seldom ≡ t → Deserves (by_interval t)) [
+    | true ↦ λ e. (may, ltb-true conf.max_listen_interval request.listen_interval e)
+    | false ↦ λ e. (may, ltb-false conf.max_listen_interval request.listen_interval e)
+  ] refl
+
+  abbrev by_rates : Bool → Status
+  by_rates t = cond (not t) RefusedReasonUnspecified (by_interval seldom)
+
+  rates_deserved : whole ≡ true → named ≡ true → Deserves (by_rates rated)
+  rates_deserved is_whole is_named_so = elim rated as (λ t. rated ≡ t → Deserves (by_rates t)) [
+    | true ↦ λ e. network_deserved (record { whole = is_whole; named = named_so conf (first_with SSID request.elements) is_named_so; rated = e })
+    | false ↦ λ e. λ may. differ rated e may.rated
+  ] refl
+
+  abbrev by_name : Bool → Status
+  by_name t = cond (not t) RefusedReasonUnspecified (by_rates rated)
+
+  name_deserved : whole ≡ true → Deserves (by_name named)
+  name_deserved is_whole = elim named as (λ t. named ≡ t → Deserves (by_name t)) [
+    | true ↦ λ e. rates_deserved is_whole e
+    | false ↦ λ e. λ may. differ named e (ap (is_named conf) may.named ∙ (bytes_eq-Decides conf.ssid conf.ssid).1 refl)
+  ] refl
+
+  pub status_deserved : Deserves (association_status conf request)
+  status_deserved = elim whole as (λ t. whole ≡ t → Deserves (cond (not t) RefusedReasonUnspecified (by_name named))) [
+    | true ↦ λ e. name_deserved e
+    | false ↦ λ e. λ may. differ whole e may.whole
+  ] refl
 
 -- ---- a station's rows at the other BSSIDs
 module _ (s : State) (b : Bssid) (a : Addr) where
@@ -126,7 +161,7 @@ module _ (s : State) (confs : List Conf) (conf : Conf) (b : Bssid) (kind : Kind)
     before = outs_elsewhere confs a (elsewhere s b a) ++ installation s b a aid;
     answer = refl;
     success = λ _. member;
-    deserved = (λ _. acceptable conf request (ap is_success good), λ _. refl);
+    deserved = subst (IsDeserved conf request) good (status_deserved conf request);
     kept = λ _ known. ap aid_of row_here ∙ sym (own_kept s b a aid (station_at s b a) refl own known);
     least = λ _ none. least_told none (station_at s b a) refl own;
     elsewhere = λ _ c ne. row_elsewhere c (apart bssid_total bssid_exact c b ne) a ∙ cleared_row s b a sound c (apart bssid_total bssid_exact b c (λ e. ne (sym e)));
@@ -151,7 +186,7 @@ module _ (s : State) (confs : List Conf) (conf : Conf) (b : Bssid) (kind : Kind)
     before = [];
     answer = refl;
     success = λ good. absurd (refuses (association_status conf request) bad good);
-    deserved = (λ good. absurd (refuses (association_status conf request) bad good), accepted_status conf request);
+    deserved = status_deserved conf request;
     kept = λ good. absurd (refuses (association_status conf request) bad good);
     least = λ good. absurd (refuses (association_status conf request) bad good);
     elsewhere = λ good. absurd (refuses (association_status conf request) bad good);

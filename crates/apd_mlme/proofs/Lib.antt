@@ -14,6 +14,7 @@ mod IdentifierLaws
 mod LaterLaws
 mod LengthLaws
 pub mod OutsLaws
+mod ProbeLaws
 mod RadioLaws
 mod RefusalLaws
 mod RowLaws

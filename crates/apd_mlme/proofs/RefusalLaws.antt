@@ -1,5 +1,5 @@
 -- Success, and the reasons to refuse.
-use Rattle.std.proofs.Common.{◌≡◌, Bool, true, false, cond, ◌&&◌, List, [], ◌∷◌, refl, ap, ◌∙◌}
+use Rattle.std.proofs.Common.{◌≡◌, Bool, true, false, cond, ◌&&◌, List, [], ◌∷◌, refl}
 use Rattle.std.specs.List.{AllByRecursion}
 use Rattle.apd_frame.specs.declared.codes.Status.{Status}
 use Rattle.apd_frame.specs.declared.codes.Status.TheVariants.{Success, RefusedReasonUnspecified, NotSupportedAuthAlgorithm, TransactionSequenceError, DeniedNoMoreStas, DeniedListenIntervalTooLarge}
@@ -13,11 +13,6 @@ first_fails false status rest refuses e more = (refl, more e)
 pub none_holds : (lines : List (Bool × Status)) → AllByRecursion (λ line. is_success line.1 ≡ false) lines → is_success (first_status lines) ≡ true → AllByRecursion (λ line. line.0 ≡ false) lines
 none_holds [] refuse e = tt
 none_holds (line ∷ lines) refuse e = first_fails line.0 line.1 (first_status lines) refuse.0 e (none_holds lines refuse.1)
-
--- and then the status is success
-pub success_of_none : (lines : List (Bool × Status)) → AllByRecursion (λ line. line.0 ≡ false) lines → first_status lines ≡ Success
-success_of_none [] none = refl
-success_of_none (line ∷ lines) none = ap (λ t. cond t line.1 (first_status lines)) none.0 ∙ success_of_none lines none.1
 
 pub not_and : (a b : Bool) → a ≡ true → (a && b) ≡ false → b ≡ false
 not_and true b e f = f

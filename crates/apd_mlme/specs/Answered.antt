@@ -1,5 +1,5 @@
 -- What an association or a reassociation response tells its station.
-use Rattle.std.specs.Prelude.{◌≡◌, ◌≢◌, ◌≤◌, ◌↔◌, List, [], ◌∷◌, ◌++◌, Option, Some, None, IsSome, IsTrue, IfSome, IsSomeAnd}
+use Rattle.std.specs.Prelude.{◌≡◌, ◌≢◌, ◌<◌, ◌≤◌, List, [], ◌∷◌, ◌++◌, Option, Some, None, IsSome, IsTrue, IfSome, IsSomeAnd}
 use Rattle.apd_base.specs.declared.address.Addr.{Addr}
 use Rattle.apd_base.specs.declared.address.Bssid.{Bssid}
 use Rattle.apd_base.specs.declared.station.Aid.{Aid}
@@ -10,7 +10,7 @@ use Rattle.apd_conf.specs.declared.conf.Conf.{Conf}
 use Rattle.apd_frame.specs.Contents.{AssociationRequest}
 use Rattle.apd_frame.specs.Elements.{well_formed, first_with}
 use Rattle.apd_frame.specs.declared.codes.Status.{Status}
-use Rattle.apd_frame.specs.declared.codes.Status.TheVariants.{Success}
+use Rattle.apd_frame.specs.declared.codes.Status.TheVariants.{Success, RefusedReasonUnspecified, NotSupportedAuthAlgorithm, TransactionSequenceError, DeniedNoMoreStas, DeniedListenIntervalTooLarge}
 use Rattle.apd_frame.specs.declared.element.TheConstants.{SSID, SUPPORTED_RATES}
 use Rattle.apd_table.specs.LeastFree.{IsLeastFree}
 use Rattle.apd_mlme.specs.declared.association.Kind.{Kind}
@@ -27,12 +27,22 @@ pub record IsMember (s : State) (b : Bssid) (request : AssociationRequest) (aid 
   pub nobody_else : (d : Addr) → aid_at s b d ≡ Some aid.number → d ≡ request.sender
   pub nowhere_else : (c : Bssid) → IsSome (aid_at s c request.sender) → c ≡ b
 
--- what a request needs to be accepted
-pub record IsAcceptable (conf : Conf) (request : AssociationRequest) : Type 0 where
+-- what a request carries for this network: whole elements, its name first among the SSIDs, and some rates
+pub record IsForNetwork (conf : Conf) (request : AssociationRequest) : Type 0 where
   pub whole : IsTrue (well_formed request.elements)
   pub named : first_with SSID request.elements ≡ Some conf.ssid
   pub rated : IsSome (first_with SUPPORTED_RATES request.elements)
-  pub often : request.listen_interval ≤ conf.max_listen_interval
+
+-- what a status says of the request; none is told for two reasons
+abbrev pub IsDeserved : Conf → AssociationRequest → Status → Type 0
+IsDeserved conf request RefusedReasonUnspecified = ¬ (IsForNetwork conf request)
+-- the station would listen too seldom
+IsDeserved conf request DeniedListenIntervalTooLarge = IsForNetwork conf request × (conf.max_listen_interval < request.listen_interval)
+IsDeserved conf request Success = IsForNetwork conf request × (request.listen_interval ≤ conf.max_listen_interval)
+-- these are said of an authentication alone
+IsDeserved conf request NotSupportedAuthAlgorithm = ⊥
+IsDeserved conf request TransactionSequenceError = ⊥
+IsDeserved conf request DeniedNoMoreStas = ⊥
 
 -- a row that is left to a station which associates with another BSSID
 abbrev pub only_authenticated : Option Station → Option Station
@@ -45,9 +55,9 @@ pub record IsAnsweredTruly (s : State) (conf : Conf) (b : Bssid) (kind : Kind) (
   pub aid : Option Aid
   pub before : List (Recipient × Out)
   pub answer : v.outs ≡ before ++ sent (association_response conf b kind request.sender status aid) ∷ []
-  -- success is told where the request is as it must be, and nowhere else
-  pub deserved : (status ≡ Success) ↔ IsAcceptable conf request
-  -- it is told to a member, and with its identifier
+  -- what it says of the request is so: each status has its reason, and success is told where none of them holds
+  pub deserved : IsDeserved conf request status
+  -- success is told to a member, and with its identifier
   pub success : status ≡ Success → IsSomeAnd aid (IsMember v.state b request)
   -- a station that was associated here keeps its identifier, and any other gets the least that was free
   pub kept : status ≡ Success → IsSome (aid_at s b request.sender) → aid_at v.state b request.sender ≡ aid_at s b request.sender

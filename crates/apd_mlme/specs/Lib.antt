@@ -15,6 +15,7 @@ pub mod Leaving
 pub mod Offer
 pub mod Outs
 pub mod ProbeRequest
+pub mod Probed
 pub mod Refusals
 pub mod Rules
 pub mod Run

@@ -1,13 +1,14 @@
 //! What a reader of clause 11.3 may rely on, whatever the daemon is asked: each law is the contract of
 //! a function that does nothing.
-ghost use Rattle.std.specs.Prelude.{◌≡◌, ◌⊎◌, ℕ, List, [], None, Some, Ok, IsSome};
+ghost use Rattle.std.specs.Prelude.{◌≡◌, ◌⊎◌, ℕ, List, [], ◌∷◌, None, Some, Ok, IsSome};
+ghost use Rattle.apd_base.specs.Number.{AreBytes};
 ghost use Rattle.apd_base.specs.State.{State, station_at, aid_at, empty_state};
 ghost use Rattle.apd_base.specs.declared.address.Addr.{Addr};
 ghost use Rattle.apd_base.specs.declared.address.Bssid.{Bssid};
 ghost use Rattle.apd_conf.specs.Confs.{conf_at};
 ghost use Rattle.apd_conf.specs.declared.conf.Conf.{Conf};
 ghost use Rattle.apd_frame.specs.declared.received.Authentication.{Authentication};
-ghost use Rattle.apd_frame.specs.Contents.{AssociationRequest, Contents, ReassociationRequest, association_request, authentication, reassociation_request};
+ghost use Rattle.apd_frame.specs.Contents.{AssociationRequest, Contents, ProbeRequest, ReassociationRequest, association_request, authentication, probe_request, reassociation_request};
 ghost use Rattle.apd_frame.specs.Outcome.{outcome};
 ghost use Rattle.apd_record.specs.Meaning.{meaning_of};
 ghost use Rattle.apd_table.specs.Sound.{Sound, StaySound};
@@ -19,10 +20,13 @@ ghost use Rattle.apd_mlme.specs.Driver.{FollowsDrivers};
 ghost use Rattle.apd_mlme.specs.Ended.{HasLeft, IsToldOfEnd};
 ghost use Rattle.apd_mlme.specs.Happening.{Happening, Heard, bssid_of};
 ghost use Rattle.apd_mlme.specs.Identifiers.{identifier_for};
+ghost use Rattle.apd_mlme.specs.Probed.{IsProbed};
 ghost use Rattle.apd_mlme.specs.Rules.{verdict, IsFit};
 ghost use Rattle.apd_mlme.specs.Run.{run, AreFit};
 ghost use Rattle.apd_mlme.specs.Started.{IsStartedBy};
 ghost use Rattle.apd_mlme.specs.declared.association.Kind.TheVariants.{Association, Reassociation};
+ghost use Rattle.apd_mlme.specs.declared.decision.TheConstants.{MAX_RECORDS};
+ghost use Rattle.apd_mlme.specs.declared.event.TheConstants.{BROADCAST};
 ghost use Rattle.apd_mlme.specs.Told.{IsToldTruly};
 ghost use Rattle.apd_mlme.specs.Truth.{AreSo, AreSoToAll, AreThere, IsFromStation, NoBroadcastRow, NoneIsBroadcast};
 
@@ -69,12 +73,18 @@ pub fn an_identifier_is_left()
 {}
 
 /// An association or a reassociation request of a station with a row is answered by one response, the
-/// last out. It says success exactly where the request is as it must be, and the sender is associated
-/// then, at this BSSID and no other, with the identifier that it is told and that nobody else of the BSSID
-/// has; where it says anything else every row is as it was.
+/// last out. Its status is that of the first reason to refuse that holds, and success where none does. Where
+/// it says success the sender is associated then, at this BSSID and no other, with the identifier that it is
+/// told and that nobody else of the BSSID has; where it says anything else every row is as it was.
 pub fn a_member_is_told_so()
     ensures association { (s : State) (confs : List Conf) (conf : Conf) (b : Bssid) (request : AssociationRequest) → conf_at confs b ≡ Some conf → Sound s → IsSome (station_at s b request.sender) → IsAnsweredTruly s conf b Association request (verdict s confs (Heard b (association_request request))) }
     ensures reassociation { (s : State) (confs : List Conf) (conf : Conf) (b : Bssid) (request : ReassociationRequest) → conf_at confs b ≡ Some conf → Sound s → IsSome (station_at s b request.sender) → IsAnsweredTruly s conf b Reassociation (without_current_ap request) (verdict s confs (Heard b (reassociation_request request))) }
+{}
+
+/// A probe request gets one response exactly where its elements are whole and the first SSID among them is
+/// the network's name, or is empty and the network does not hide. It changes nothing.
+pub fn a_probe_is_answered_where_it_asks()
+    ensures { (s : State) (confs : List Conf) (conf : Conf) (b : Bssid) (request : ProbeRequest) → conf_at confs b ≡ Some conf → AreBytes request.elements → IsProbed s conf b request (verdict s confs (Heard b (probe_request request))) }
 {}
 
 /// Whatever happens, all that leaves is so in the state after: each frame is that of a reply to a
@@ -118,4 +128,11 @@ pub fn nobody_is_left_behind()
 /// no row, and is told so; and whatever else there is stays as it was.
 pub fn a_command_is_answered_truly()
     ensures { (s : State) (confs : List Conf) (h : Happening) → IsFit s confs h → Sound s → IsAnsweredTo s h (verdict s confs h) }
+{}
+
+/// Two values that other contracts cite by name: the broadcast address is six octets of ones (IEEE Std
+/// 802.11-2016, 9.2.4.3.3), and the records of one event's changes have at most 28,682 bytes (own).
+pub fn values_law()
+    ensures broadcast { BROADCAST.0 ≡ 255 ∷ 255 ∷ 255 ∷ 255 ∷ 255 ∷ 255 ∷ [] }
+    ensures records { MAX_RECORDS ≡ 28682 }
 {}

@@ -1,0 +1,26 @@
+-- Which probe requests a network answers (IEEE Std 802.11-2016, 11.1.4.3.4).
+use Rattle.std.specs.Prelude.{◌≡◌, ◌⊎◌, ℕ, List, [], ◌∷◌, IsSomeAnd}
+use Rattle.apd_base.specs.declared.address.Bssid.{Bssid}
+use Rattle.apd_base.specs.State.{State}
+use Rattle.apd_conf.specs.declared.conf.Conf.{Conf}
+use Rattle.apd_conf.specs.declared.ignore_broadcast_ssid.IgnoreBroadcastSsid.TheVariants.{No}
+use Rattle.apd_frame.specs.Contents.{ProbeRequest}
+use Rattle.apd_frame.specs.Elements.{WellFormed, first_with}
+use Rattle.apd_frame.specs.declared.element.TheConstants.{SSID}
+use Rattle.apd_mlme.specs.Outs.{sent}
+use Rattle.apd_mlme.specs.ProbeRequest.{probe_response}
+use Rattle.apd_mlme.specs.Verdict.{Verdict}
+
+-- an SSID asks for the network: it is its name, or it is empty, which asks for any (9.4.2.2), and the network doesn't hide
+abbrev pub AsksFor : Conf → List ℕ → Type 0
+AsksFor conf ssid = (ssid ≡ conf.ssid) ⊎ ((ssid ≡ []) × (conf.ignore_broadcast_ssid ≡ No))
+
+-- the elements are whole, and the first SSID among them asks for it
+abbrev pub IsProbeFor : Conf → List ℕ → Type 0
+IsProbeFor conf elements = WellFormed elements × IsSomeAnd (first_with SSID elements) (AsksFor conf)
+
+-- such a request gets one response, whoever sent it, and any other gets none; nothing changes
+pub record IsProbed (s : State) (conf : Conf) (b : Bssid) (request : ProbeRequest) (v : Verdict) : Type 0 where
+  pub answered : IsProbeFor conf request.elements → v.outs ≡ sent (probe_response conf b request.sender) ∷ []
+  pub silent : ¬ (IsProbeFor conf request.elements) → v.outs ≡ []
+  pub stays : v.state ≡ s
