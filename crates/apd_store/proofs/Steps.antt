@@ -1,5 +1,5 @@
 -- What a stop within each call of a batch shows.
-use Rattle.std.proofs.Common.{◌≡◌, ◌≢◌, ◌≤◌, ◌+◌, inl, inr, ⊎_elim, ℕ, Bool, IsTrue, List, [], ◌∷◌, length, get_or, refl, sym, ◌∙◌, ap, subst, arith}
+use Rattle.std.proofs.Common.{◌≡◌, ◌≢◌, ◌≤◌, ◌<◌, ◌+◌, inl, inr, ⊎_elim, ℕ, Bool, IsTrue, List, [], ◌∷◌, length, get_or, refl, sym, ◌∙◌, ap, subst, arith}
 use Rattle.std.specs.Prelude.{◌↔◌, Result, Ok, Err, OnOk, IfOk, IsOk, MatchResult}
 use Rattle.std.proofs.lemmas.Bool.{cases_eq}
 use Rattle.apd_base.specs.State.{State}
@@ -120,11 +120,21 @@ module _ {D : Type 0} (reads : D → List ℕ) (may_leave : D → List ℕ → T
         let found = gate_images is during follows c left in
         subst (MayShow (made store.phase) state after) (sym found.2) (torn_gate_shows (made store.phase) (subst (λ (p : Phase). 2 ≤ made p) (sym is) (omega arith)) found.0 found.1)
 
+  -- what a stop now shows, when this call is next and the third one was not made
+  before_third_at : (phase : Phase) → AtPhase phase store.half s.reserved s.half s.other store.gate store.batch.changes (reads store.device) (may_leave store.device) → made phase < 3 → (c : List ℕ) → may_leave store.device c → Shows c state
+  before_third_at WriteGroup (is, only) early c left = subst (λ (l : List ℕ). Shows l state) (sym (only c left ∙ is)) (shows_half s.half store.gate state refl s.current)
+  before_third_at SyncGroup (is, torn) early c left = let found = torn c left in subst (λ (l : List ℕ). Shows l state) (sym found.2) (torn_group_shows found.0 found.1)
+  before_third_at OpenGate (is, only) early c left = subst (λ (l : List ℕ). Shows l state) (sym (only c left ∙ is)) laid_shows
+  before_third_at SyncGate at early c left = absurd (omega (arith, early))
+  before_third_at Done at early c left = absurd (omega (arith, early))
+  before_third_at Idle at early c left = absurd at
+  before_third_at Failed at early c left = absurd at
+
   -- what a stop now shows, when this call is next
   shows_at : (phase : Phase) → AtPhase phase store.half s.reserved s.half s.other store.gate store.batch.changes (reads store.device) (may_leave store.device) → (c : List ℕ) → may_leave store.device c → MayShow (made phase) state after c
-  shows_at WriteGroup (is, only) c left = inl (subst (λ (l : List ℕ). Shows l state) (sym (only c left ∙ is)) (shows_half s.half store.gate state refl s.current))
-  shows_at SyncGroup (is, torn) c left = let found = torn c left in inl (subst (λ (l : List ℕ). Shows l state) (sym found.2) (torn_group_shows found.0 found.1))
-  shows_at OpenGate (is, only) c left = inl (subst (λ (l : List ℕ). Shows l state) (sym (only c left ∙ is)) laid_shows)
+  shows_at WriteGroup at c left = inl (before_third_at WriteGroup at (omega arith) c left)
+  shows_at SyncGroup at c left = inl (before_third_at SyncGroup at (omega arith) c left)
+  shows_at OpenGate at c left = inl (before_third_at OpenGate at (omega arith) c left)
   shows_at SyncGate (is, torn) c left = let found = torn c left in subst (MayShow 3 state after) (sym found.2) (torn_gate_shows 3 (omega arith) found.0 found.1)
   shows_at Done (is, only) c left = inr (omega arith, subst (λ (l : List ℕ). Shows l after) (sym (only c left ∙ is)) opened_shows)
   shows_at Idle at c left = absurd at
@@ -132,6 +142,9 @@ module _ {D : Type 0} (reads : D → List ℕ) (may_leave : D → List ℕ → T
 
   pub now_shows : (c : List ℕ) → may_leave store.device c → MayShow (made store.phase) state after c
   now_shows c left = shows_at store.phase s.at c left
+
+  pub before_third : made store.phase < 3 → (c : List ℕ) → may_leave store.device c → Shows c state
+  before_third early c left = before_third_at store.phase s.at early c left
 
   pub done_shows : store.phase ≡ Done → (c : List ℕ) → may_leave store.device c → Shows c after
   done_shows is c left = subst (λ (l : List ℕ). Shows l after) (sym ((at_phase Done is).1 c left ∙ (at_phase Done is).0)) opened_shows

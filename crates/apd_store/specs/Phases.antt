@@ -13,7 +13,7 @@ next_phase SyncGate = Done
 next_phase Done = Done
 next_phase Failed = Failed
 
--- how many calls of the batch were made
+-- how many calls of the batch were made, and 0 where none is begun or the device has failed
 abbrev pub made : Phase → ℕ
 made Idle = 0
 made WriteGroup = 0

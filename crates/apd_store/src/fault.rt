@@ -1,8 +1,7 @@
 //! Why a store refuses.
 ghost use Rattle.std.specs.Prelude.{◌≡◌};
-ghost use Rattle.apd_store.specs.declared.fault.StoreFault.TheVariants.{Device, NoMemory};
+ghost use Rattle.apd_store.specs.declared.fault.StoreFault.TheVariants.{NoMemory};
 
-use apd_disk::DiskFault;
 use std::alloc::AllocError;
 use thiserror::Error;
 
@@ -43,13 +42,5 @@ impl From<AllocError> for StoreFault {
 
     fn from(_: AllocError) -> Self {
         StoreFault::NoMemory
-    }
-}
-
-impl From<DiskFault> for StoreFault {
-    ghost from_gives = { λ _ e. e ≡ Device };
-
-    fn from(_: DiskFault) -> Self {
-        StoreFault::Device
     }
 }

@@ -135,8 +135,7 @@ impl<D: Disk> Store<D> {
     /// Errors, in this order: `Failed`, `NotIdle`, `Full` exactly where the group does not fit. `NoMemory`
     /// may come in the place of `Full`.
     pub fn begin(&mut self, batch: Batch, _table: &Table) -> Result<(), (Batch, StoreFault)>
-        requires { IsInside D.size self.old }
-        ensures inside { IsInside D.size self.new }
+        ensures inside { IsInside D.size self.old → IsInside D.size self.new }
         ensures begun { IsIdle D.reads D.may_leave self.old _table.now → IsGroup batch.changes → StaySound batch.changes _table.now
             → OnOk result (IsCommitting D.reads D.may_leave self.new _table.now (meaning_of batch.changes _table.now)) }
         ensures phase { OnOk result ((phase_of self.old ≡ Phase.Idle) × (phase_of self.new ≡ Phase.WriteGroup)) }
@@ -242,12 +241,13 @@ impl<D: Disk> Store<D> {
         Some(Receipt { batch })
     }
 
-    /// Tells a caller's proof what a stop now shows: of an idle store its state; while a batch is under way
-    /// the state before it or, from the third call on, the state after; once the last call succeeded the
-    /// state after alone. It does nothing.
+    /// Tells a caller's proof what a stop now shows: of an idle store its state; of a batch under way the
+    /// state before it, and once its third call was made that state or the one after; once its last call
+    /// succeeded the state after alone. It does nothing.
     pub fn shown(&self)
         ensures idle { (state : State) → IsIdle D.reads D.may_leave self.now state → (c : List ℕ) → D.may_leave (device_of self.now) c → Shows c state }
         ensures under_way { (state after : State) → IsCommitting D.reads D.may_leave self.now state after → (c : List ℕ) → D.may_leave (device_of self.now) c → MayShow (made (phase_of self.now)) state after c }
+        ensures before_third { (state after : State) → IsCommitting D.reads D.may_leave self.now state after → made (phase_of self.now) < 3 → (c : List ℕ) → D.may_leave (device_of self.now) c → Shows c state }
         ensures done { (state after : State) → IsCommitting D.reads D.may_leave self.now state after → phase_of self.now ≡ Phase.Done → (c : List ℕ) → D.may_leave (device_of self.now) c → Shows c after }
     {
         let _ = &self.device;
