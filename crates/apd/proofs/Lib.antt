@@ -8,5 +8,6 @@ pub mod Hearing
 pub mod Noting
 pub mod Senders
 pub mod Silence
+pub mod Starting
 pub mod Speaking
 pub mod Ticking

@@ -3,6 +3,7 @@ pub mod Heard
 pub mod Meant
 pub mod Noted
 pub mod Run
+pub mod Script
 pub mod Silent
 pub mod Spoken
 pub mod Start

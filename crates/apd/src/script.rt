@@ -5,16 +5,17 @@
 //! | `rx <interface> <hex>` | the radio of the interface received this frame; prints `entry <n>`, `quiet <word>` or `stopped` |
 //! | `tick <ms>` | the moment is this one from now on, in milliseconds: 1 to 20 decimal digits, below 2^64; it is 0 at first. The first station that is silent for too long goes; prints as `rx` does |
 //! | `cmd <text>` | a control command, whose tag is the number of the line: a query prints `ctrl <tag> <text>` at once; any other prints `entry <n>`, and its reply when it is handed out; one that is refused prints `ctrl <tag> FAIL\n` or `ctrl <tag> UNKNOWN COMMAND\n` |
-//! | `hand` | hands out to each radio what was settled for it: `<interface> install <addr> <aid>`, `<interface> remove <addr>`, `<interface> tx <hex>` |
+//! | `hand` | hands out to each radio what was settled for it, and then the replies to commands; prints `<interface> install <addr> <aid>`, `<interface> remove <addr>`, `<interface> tx <hex>` and `ctrl <tag> <text>` |
 //! | `flush` | settles all entries, and then does as `hand` |
 //!
 //! Lines end at a newline, and the last needs none. Blanks among the digits are skipped, and an empty
 //! line is. Any other line, and an interface that is not configured, ends the script.
 
-ghost use Rattle.std.specs.Prelude.{◌≡◌, IfOk};
+ghost use Rattle.std.specs.Prelude.{◌≡◌, IfOk, OnOk};
 ghost use Rattle.std.specs.Option.{option_copied};
 ghost use Rattle.apd.specs.Meant.{conf_meant};
 ghost use Rattle.apd.specs.Run.{IsReached};
+ghost use Rattle.apd.specs.Script.{IsStartedThenReached, first_moment};
 ghost use Rattle.apd.specs.declared.script.ScriptFault.TheVariants.{NoMemory};
 
 use crate::plain::{Accepted, Input, Step, Told, World, drive, flush_steps, hand_steps};
@@ -250,7 +251,8 @@ impl<W: Write + Drop> Run<W> {
 
     /// Starts the world, and prints what it handed out and not what it accepted.
     fn start(&mut self) -> Result<(), ScriptFault>
-        ensures { IsReached self.old.world self.new.world }
+        ensures ok { OnOk result (IsStartedThenReached self.old.moment self.old.world self.new.world) }
+        ensures reached { IsReached self.old.world self.new.world }
     {
         let tolds = self.world.start(self.alloc, self.moment)?;
         self.print_all(tolds.as_slice(), false)
@@ -354,8 +356,8 @@ impl<W: Write + Drop> Run<W> {
     }
 }
 
-/// Starts a world, runs a script on it, line by line as it comes, and hands the world back, which steps
-/// led to. It reads at most 16,777,217 bytes, and a script that has so many is refused as `Reader`. A
+/// Starts a world at moment 0, runs a script on it, line by line as it comes, and hands the world back,
+/// which steps led to from the started one. It reads at most 16,777,217 bytes, and a script that has so many is refused as `Reader`. A
 /// fault ends the script and gives the world up; what was told before is printed.
 pub fn run_script<R: BufRead + Drop, W: Write + Drop>(
     alloc: Global,
@@ -363,7 +365,7 @@ pub fn run_script<R: BufRead + Drop, W: Write + Drop>(
     reader: R,
     writer: W,
 ) -> Result<World, ScriptFault>
-    ensures { IfOk result (λ new. IsReached world new) }
+    ensures { IfOk result (λ new. IsStartedThenReached first_moment world new) }
 {
     let mut run = Run {
         alloc,

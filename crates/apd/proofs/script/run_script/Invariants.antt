@@ -1,6 +1,6 @@
-use Rattle.apd.specs.Run.{IsReached}
+use Rattle.apd.specs.Script.{IsStartedThenReached, first_moment}
 use Rattle.apd.proofs.script.run_script.Given as goal
 
--- the lines so far were steps
+-- the world was started, and the lines so far were steps
 abbrev pub invariant-loop-number : goal.invariant-loop-number
-invariant-loop-number g l = IsReached l.fn.world l.run.world
+invariant-loop-number g l = IsStartedThenReached first_moment l.fn.world l.run.world
