@@ -40,7 +40,7 @@ pub enum Input<'a> {
     },
 }
 
-/// Why a request is no entry and changes nothing.
+/// Why a request is no entry and changes nothing but when a station was heard.
 #[derive(Clone, Copy, Debug, PartialEq, Eq)]
 pub enum QuietReason {
     /// The bytes are no frame for this BSSID.
@@ -60,7 +60,7 @@ pub enum QuietReason {
 pub enum Accepted {
     /// All numbers of entries were given.
     Stopped,
-    /// The request is no entry: nothing changes, and nothing leaves.
+    /// The request is no entry: nothing changes but when a station was heard, and nothing leaves.
     Quiet(QuietReason),
     /// The request is the entry of this number. They count from 1.
     Entry(u64),
