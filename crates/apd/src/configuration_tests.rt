@@ -153,11 +153,12 @@ fn files_are_read_in_turn_and_the_first_fault_is_told(rt: HostRuntime) -> Result
     ] {
         assert_eq!(rt; fault_text(&rt, names)?.as_str(), want);
     }
-    if let Ok(confs) = read_configurations(&rt, &[other, good]) {
-        assert_eq!(rt; confs.list().len(), 2);
-        assert_eq!(rt; confs.list()[1].accept.as_slice().len(), 1);
-        assert_eq!(rt; confs.list()[1].deny.as_slice().len(), 0);
-    }
+    let Ok(confs) = read_configurations(&rt, &[other, good]) else {
+        return Err(Fail::new("good files are refused"));
+    };
+    assert_eq!(rt; confs.list().len(), 2);
+    assert_eq!(rt; confs.list()[1].accept.as_slice().len(), 1);
+    assert_eq!(rt; confs.list()[1].deny.as_slice().len(), 0);
     fs::remove_dir_all(&rt, FOLDER)?;
     Ok(())
 }
