@@ -22,8 +22,3 @@ started_ok (Err e) m tolds a b c start same = tt
 pub started_further : (m : Moment) (a b c : World) → IsStartedThenReached m a b → IsReached b c → IsStartedThenReached m a c
 started_further m a b c past more =
     record { tolds = past.tolds; started = past.started; start = past.start; reached = reached_then past.started b c past.reached more }
-
--- a start is some steps, so that all in all steps lead there
-pub started_is_reached : (m : Moment) (a b : World) → IsStartedThenReached m a b → IsReached a b
-started_is_reached m a b past =
-    reached_then a past.started b (record { steps = past.start.steps; tolds = past.tolds; taken = past.start.taken }) past.reached

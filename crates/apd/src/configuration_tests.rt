@@ -2,6 +2,7 @@ use crate::ProgramFault;
 use crate::configuration_files::{ConfigurationFault, read_configurations};
 use crate::plain::World;
 use crate::script::run_script;
+use apd_base::Addr;
 use apd_conf::{AddressList, ConfFault, Confs, ConfsFault, ListFault, read_conf, read_list};
 use std::alloc::Global;
 use std::fs;
@@ -95,16 +96,17 @@ fn fault_text<R: Files + AllocGlobal>(rt: &R, names: &[&str]) -> Result<String, 
 }
 
 /// The tests' files, by name and text.
-const FILES: [(&str, &str); 7] = [
+const FILES: [(&str, &str); 8] = [
     (
         "good",
         "interface=wlan0\nbssid=02:00:00:00:00:01\nssid=net\naccept_mac_file=configuration_files_of_a_test/list\n",
     ),
     (
         "other",
-        "interface=wlan1\nbssid=02:00:00:00:00:02\nssid=net\n",
+        "interface=wlan1\nbssid=02:00:00:00:00:02\nssid=net\naccept_mac_file=configuration_files_of_a_test/list\ndeny_mac_file=configuration_files_of_a_test/other_list\n",
     ),
     ("list", "02:00:00:00:00:aa\n"),
+    ("other_list", "02:00:00:00:00:bb\n02:00:00:00:00:cc\n"),
     ("faulty_list", "02:00:00:00:00:aa\nx\n"),
     (
         "faulty",
@@ -157,6 +159,10 @@ fn files_are_read_in_turn_and_the_first_fault_is_told(rt: HostRuntime) -> Result
         return Err(Fail::new("good files are refused"));
     };
     assert_eq!(rt; confs.list().len(), 2);
+    let accepted = [Addr([2, 0, 0, 0, 0, 0xaa])];
+    let denied = [Addr([2, 0, 0, 0, 0, 0xbb]), Addr([2, 0, 0, 0, 0, 0xcc])];
+    assert_eq!(rt; confs.list()[0].accept.as_slice(), accepted.as_slice());
+    assert_eq!(rt; confs.list()[0].deny.as_slice(), denied.as_slice());
     assert_eq!(rt; confs.list()[1].accept.as_slice().len(), 1);
     assert_eq!(rt; confs.list()[1].deny.as_slice().len(), 0);
     fs::remove_dir_all(&rt, FOLDER)?;
