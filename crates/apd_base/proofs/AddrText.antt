@@ -1,9 +1,11 @@
 -- What the text of an address reads as.
-use Rattle.std.proofs.Common.{◌≡◌, ℕ, zero, suc, ◌+◌, ◌*◌, ◌/◌, ◌%◌, ◌<◌, List, [], ◌∷◌, length, Some, refl, sym, ap, ◌∙◌, arith}
+use Rattle.std.proofs.Common.{◌≡◌, ℕ, zero, suc, ◌+◌, ◌*◌, ◌/◌, ◌%◌, ◌<◌, List, [], ◌∷◌, ◌++◌, length, ◌^◌, ◌-◌, false, Some, refl, sym, ap, ◌∙◌, arith}
 use Rattle.std.specs.Prelude.{slice_index}
 use Rattle.std.specs.List.{AllByRecursion}
 use Rattle.std.proofs.lemmas.Grind.{common_steps, same_number_lists}
 use Rattle.apd_base.specs.declared.address.Addr.{Addr}
+use Rattle.std.proofs.lemmas.Fmt.{hex_byte as padded_byte}
+use Rattle.std.specs.Fmt.{digits, padded_integral, format_spec}
 use Rattle.apd_base.specs.Addr.{IsAddr, IsText, text_of, hex_digit, digit_value_of, byte_value, byte_from}
 
 -- a digit is read as it was written
@@ -68,3 +70,24 @@ same_some x y e = cc
 pub one_reading : (text x y : List ℕ) → IsText text x → IsText text y → x ≡ y
 one_reading text x y h k =
     same_number_lists x y (h.six ∙ sym k.six) (λ i lt. let below : i < 6 = omega (arith, h.six) in same_some _ _ (sym (h.pairs i below) ∙ k.pairs i below))
+
+-- a byte, as `{:02x}` prints it
+abbrev pub padded : ℕ → List ℕ
+padded b = padded_integral (format_spec 32 0 4 2 (2 ^ 64 - 1)) false [] (digits 16 false b)
+
+-- six bytes, each as `{:02x}` prints it, joined by ':'
+pub printed : (bytes : List ℕ) → length bytes ≡ 6
+    → slice_index bytes 0 < 256 → slice_index bytes 1 < 256 → slice_index bytes 2 < 256
+    → slice_index bytes 3 < 256 → slice_index bytes 4 < 256 → slice_index bytes 5 < 256
+    → padded (slice_index bytes 0) ++ (58 ∷ (padded (slice_index bytes 1) ++ (58 ∷ (padded (slice_index bytes 2) ++ (58 ∷
+    (padded (slice_index bytes 3) ++ (58 ∷ (padded (slice_index bytes 4) ++ (58 ∷ padded (slice_index bytes 5))))))))))
+    ≡ text_of (record { 0 = bytes })
+printed [] n ha hb hc hd he hf = absurd (omega arith)
+printed (a ∷ []) n ha hb hc hd he hf = absurd (omega arith)
+printed (a ∷ b ∷ []) n ha hb hc hd he hf = absurd (omega arith)
+printed (a ∷ b ∷ c ∷ []) n ha hb hc hd he hf = absurd (omega arith)
+printed (a ∷ b ∷ c ∷ d ∷ []) n ha hb hc hd he hf = absurd (omega arith)
+printed (a ∷ b ∷ c ∷ d ∷ e ∷ []) n ha hb hc hd he hf = absurd (omega arith)
+printed (a ∷ b ∷ c ∷ d ∷ e ∷ f ∷ []) n ha hb hc hd he hf =
+    rw (padded_byte false a ha, padded_byte false b hb, padded_byte false c hc, padded_byte false d hd, padded_byte false e he, padded_byte false f hf) refl
+printed (a ∷ b ∷ c ∷ d ∷ e ∷ f ∷ g ∷ more) n ha hb hc hd he hf = absurd (omega arith)

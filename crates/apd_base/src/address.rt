@@ -112,6 +112,10 @@ impl Addr {
 }
 
 impl fmt::Display for Addr {
+    ghost use Rattle.std.specs.Prelude.{Some};
+
+    ghost output = { λ a. Some (text_of a) };
+
     fn fmt<W: fmt::Write>(&self, f: &mut fmt::Formatter<W>) -> fmt::Result {
         let [a, b, c, d, e, g] = self.0;
         write!(f, "{a:02x}:{b:02x}:{c:02x}:{d:02x}:{e:02x}:{g:02x}")

@@ -15,6 +15,11 @@ pub enum Required {
 }
 
 impl fmt::Display for Required {
+    ghost use Rattle.std.specs.Prelude.{Some};
+    ghost use Rattle.apd_conf.specs.Faults.{required_word};
+
+    ghost output = { λ name. Some (required_word name) };
+
     fn fmt<W: fmt::Write>(&self, f: &mut fmt::Formatter<W>) -> fmt::Result {
         f.write_str(match self {
             Required::Interface => "interface",
