@@ -15,35 +15,46 @@ struct Row {
 }
 
 /// S joins wlan0.
-const JOINS: &str = "
+fn joins() -> &'static str {
+    "
 rx wlan0 b000 0000 B S B 1000 0000 0100 0000
 flush
 rx wlan0 0000 0000 B S B 2000 3104 0a00 0003 6e6574 0104 82848b96
 flush
-";
+"
+}
 
-const JOINED: &str = "
+fn joined() -> &'static str {
+    "
 entry 2
 wlan0 tx b000 0000 S B B 0000 0000 0200 0000
 entry 3
 wlan0 install 02:00:00:00:00:aa 1
 wlan0 tx 1000 0000 S B B 0000 0100 0000 01c0 0104 82848b96
-";
+"
+}
 
 /// S authenticates at wlan0.
-const AUTHENTICATES: &str = "
+fn authenticates() -> &'static str {
+    "
 rx wlan0 b000 0000 B S B 1000 0000 0100 0000
 flush
-";
+"
+}
 
-const AUTHENTICATED: &str = "
+fn authenticated() -> &'static str {
+    "
 entry 2
 wlan0 tx b000 0000 S B B 0000 0000 0200 0000
-";
+"
+}
 
-/// The head of an association request, and the answers to it.
-const ASKS: &str = "rx wlan0 0000 0000 B S B 2000 3104 0a00 ";
+/// The head of an association request.
+fn request_head() -> &'static str {
+    "rx wlan0 0000 0000 B S B 2000 3104 0a00 "
+}
 
+/// The answers to an association request.
 const ACCEPTED: &str = "
 entry 3
 wlan0 install 02:00:00:00:00:aa 1
@@ -240,9 +251,14 @@ wlan0 remove 02:00:00:00:00:aa
     },
 ];
 
+/// The rows that begin with an empty table.
+fn from_nothing() -> &'static [Row] {
+    &FROM_NOTHING
+}
+
 #[test]
 fn stations_without_a_row_are_answered(rt: HostRuntime) -> Result<(), Fail> {
-    for row in &FROM_NOTHING {
+    for row in from_nothing() {
         let confs = one_radio(rt.alloc())?;
         prints(&rt, row.about, confs, &[row.script], &[row.want])?;
     }
@@ -395,16 +411,21 @@ entry 4
     },
 ];
 
+/// The rows that begin once S has joined wlan0.
+fn once_joined() -> &'static [Row] {
+    &ONCE_JOINED
+}
+
 #[test]
 fn a_station_that_joined_is_kept_until_it_leaves(rt: HostRuntime) -> Result<(), Fail> {
-    for row in &ONCE_JOINED {
+    for row in once_joined() {
         let confs = one_radio(rt.alloc())?;
         prints(
             &rt,
             row.about,
             confs,
-            &[JOINS, row.script],
-            &[JOINED, row.want],
+            &[joins(), row.script],
+            &[joined(), row.want],
         )?;
     }
     Ok(())
@@ -475,9 +496,14 @@ wlan1 tx c000 0000 T C C 0000 0200
     },
 ];
 
+/// The rows of a daemon of two radios.
+fn at_two_radios() -> &'static [Row] {
+    &AT_TWO_RADIOS
+}
+
 #[test]
 fn a_station_is_associated_at_one_radio(rt: HostRuntime) -> Result<(), Fail> {
-    for row in &AT_TWO_RADIOS {
+    for row in at_two_radios() {
         let confs = two_radios(rt.alloc())?;
         prints(&rt, row.about, confs, &[row.script], &[row.want])?;
     }
@@ -503,34 +529,47 @@ const ELEMENTS: [(&str, &str); 9] = [
     ),
 ];
 
+/// The elements, each with its answer.
+fn elements_and_answers() -> &'static [(&'static str, &'static str)] {
+    &ELEMENTS
+}
+
 #[test]
 fn an_association_is_answered_by_its_elements(rt: HostRuntime) -> Result<(), Fail> {
-    for (elements, answer) in &ELEMENTS {
+    for (elements, answer) in elements_and_answers() {
         let confs = one_radio(rt.alloc())?;
         prints(
             &rt,
             elements,
             confs,
-            &[AUTHENTICATES, ASKS, elements, "\nflush\n"],
-            &[AUTHENTICATED, answer],
+            &[authenticates(), request_head(), elements, "\nflush\n"],
+            &[authenticated(), answer],
         )?;
     }
     Ok(())
 }
 
+/// The longest listen interval that is configured, and the answer to a request with one of 10.
+const LONGEST_INTERVALS: [(u16, &str); 2] = [(10, ACCEPTED), (9, LISTENS_TOO_SELDOM)];
+
+/// The longest intervals, each with its answer.
+fn longest_intervals() -> &'static [(u16, &'static str)] {
+    &LONGEST_INTERVALS
+}
+
 #[test]
 fn a_station_may_listen_as_seldom_as_is_configured(rt: HostRuntime) -> Result<(), Fail> {
-    for (most, answer) in [(10, ACCEPTED), (9, LISTENS_TOO_SELDOM)] {
+    for (most, answer) in longest_intervals() {
         let mut conf = Conf::built_in(rt.alloc())?;
-        conf.max_listen_interval = most;
+        conf.max_listen_interval = *most;
         let confs = alone(rt.alloc(), conf)?;
         let elements = "0003 6e6574 0104 82848b96\nflush\n";
         prints(
             &rt,
             "the listen interval",
             confs,
-            &[AUTHENTICATES, ASKS, elements],
-            &[AUTHENTICATED, answer],
+            &[authenticates(), request_head(), elements],
+            &[authenticated(), answer],
         )?;
     }
     Ok(())
@@ -548,10 +587,15 @@ const REFUSED_AGAIN: [(&str, &str); 6] = [
     ("0b00 C 0003 6e6575 0104 82848b96", "0100"),
 ];
 
+/// The requests that are refused, each with its status.
+fn refused_again() -> &'static [(&'static str, &'static str)] {
+    &REFUSED_AGAIN
+}
+
 /// S, which joined wlan0, stays associated there: its data are taken.
 #[test]
 fn a_refused_reassociation_leaves_the_station_as_it_is(rt: HostRuntime) -> Result<(), Fail> {
-    for (request, status) in &REFUSED_AGAIN {
+    for (request, status) in refused_again() {
         let mut conf = Conf::built_in(rt.alloc())?;
         conf.max_listen_interval = 10;
         let confs = alone(rt.alloc(), conf)?;
@@ -563,15 +607,16 @@ fn a_refused_reassociation_leaves_the_station_as_it_is(rt: HostRuntime) -> Resul
             &rt,
             request,
             confs,
-            &[JOINS, asks, request, sends_data],
-            &[JOINED, refused, status, rest],
+            &[joins(), asks, request, sends_data],
+            &[joined(), refused, status, rest],
         )?;
     }
     Ok(())
 }
 
 /// S asks which network is there, authenticates, joins, and asks again for another network.
-const ASKS_ALL: &str = "
+fn asks_all() -> &'static str {
+    "
 rx wlan0 4000 0000 ffffffffffff S ffffffffffff 3000 0003 6e6574
 flush
 rx wlan0 b000 0000 B S B 1000 0000 0100 0000
@@ -580,10 +625,12 @@ rx wlan0 0000 0000 B S B 2000 3104 0a00 0003 6e6574 0103 8c98b0
 flush
 rx wlan0 2000 0000 B S B 2000 3104 0a00 B 0003 6e6575 0103 8c98b0
 flush
-";
+"
+}
 
 /// What a radio of 5 GHz answers: its rates are others, and a probe response tells no channel.
-const ANSWERED_AT_5_GHZ: &str = "
+fn answered_at_5_ghz() -> &'static str {
+    "
 entry 2
 wlan0 tx 5000 0000 S B B 0000 0000000000000000 6400 0100 0003 6e6574 0103 8c98b0
 entry 3
@@ -593,7 +640,8 @@ wlan0 install 02:00:00:00:00:aa 1
 wlan0 tx 1000 0000 S B B 0000 0100 0000 01c0 0103 8c98b0
 entry 5
 wlan0 tx 3000 0000 S B B 0000 0100 0100 0000 0103 8c98b0
-";
+"
+}
 
 #[test]
 fn a_radio_of_5_ghz_offers_other_rates(rt: HostRuntime) -> Result<(), Fail> {
@@ -604,8 +652,8 @@ fn a_radio_of_5_ghz_offers_other_rates(rt: HostRuntime) -> Result<(), Fail> {
         &rt,
         "a radio of 5 GHz",
         confs,
-        &[ASKS_ALL],
-        &[ANSWERED_AT_5_GHZ],
+        &[asks_all()],
+        &[answered_at_5_ghz()],
     )
 }
 
@@ -628,9 +676,14 @@ const DOUBLY_FAULTY: [(&str, &str); 10] = [
     ("b000 0000 B S C 1000 0000", "bss"),
 ];
 
+/// The frames, each with its word.
+fn doubly_faulty() -> &'static [(&'static str, &'static str)] {
+    &DOUBLY_FAULTY
+}
+
 #[test]
 fn of_two_faults_of_a_frame_the_first_is_told(rt: HostRuntime) -> Result<(), Fail> {
-    for (frame, word) in &DOUBLY_FAULTY {
+    for (frame, word) in doubly_faulty() {
         let confs = one_radio(rt.alloc())?;
         prints(
             &rt,
@@ -644,17 +697,21 @@ fn of_two_faults_of_a_frame_the_first_is_told(rt: HostRuntime) -> Result<(), Fai
 }
 
 /// A probe request for any network, and one for this network.
-const PROBES: &str = "
+fn probes() -> &'static str {
+    "
 rx wlan0 4000 0000 ffffffffffff S ffffffffffff 3000 0000 0104 82848b96
 rx wlan0 4000 0000 ffffffffffff S ffffffffffff 3000 0003 6e6574
 flush
-";
+"
+}
 
-const ANSWERED_ONCE: &str = "
+fn answered_once() -> &'static str {
+    "
 quiet nothing
 entry 2
 wlan0 tx 5000 0000 S B B 0000 0000000000000000 6400 0100 0003 6e6574 0104 82848b96 0301 06
-";
+"
+}
 
 #[test]
 fn a_hidden_network_answers_to_its_name_alone(rt: HostRuntime) -> Result<(), Fail> {
@@ -662,7 +719,13 @@ fn a_hidden_network_answers_to_its_name_alone(rt: HostRuntime) -> Result<(), Fai
         let mut conf = Conf::built_in(rt.alloc())?;
         conf.ignore_broadcast_ssid = hides;
         let confs = alone(rt.alloc(), conf)?;
-        prints(&rt, "a hidden network", confs, &[PROBES], &[ANSWERED_ONCE])?;
+        prints(
+            &rt,
+            "a hidden network",
+            confs,
+            &[probes()],
+            &[answered_once()],
+        )?;
     }
     Ok(())
 }
@@ -699,8 +762,8 @@ fn each_length_of_an_association_request_has_its_answer(rt: HostRuntime) -> Resu
             &rt,
             digits.as_str(),
             confs,
-            &[AUTHENTICATES, "rx wlan0 ", digits.as_str(), "\nflush\n"],
-            &[AUTHENTICATED, answer_to(bytes)],
+            &[authenticates(), "rx wlan0 ", digits.as_str(), "\nflush\n"],
+            &[authenticated(), answer_to(bytes)],
         )?;
     }
     Ok(())
