@@ -25,11 +25,13 @@ struct Row {
 }
 
 /// The station 02:00:00:00:00:aa joins, in four lines.
-const JOINS: &str =
-    "rx wlan0 b00000000200000000010200000000aa0200000000011000000001000000\nflush\nrx wlan0 000000000200000000010200000000aa020000000001200031040a0000036e6574010482848b96\nflush\n";
+fn joins() -> &'static str {
+    "rx wlan0 b00000000200000000010200000000aa0200000000011000000001000000\nflush\nrx wlan0 000000000200000000010200000000aa020000000001200031040a0000036e6574010482848b96\nflush\n"
+}
 
-const JOINED: &str =
-    "entry 2\nwlan0 tx b00000000200000000aa0200000000010200000000010000000002000000\nentry 3\nwlan0 install 02:00:00:00:00:aa 1\nwlan0 tx 100000000200000000aa02000000000102000000000100000100000001c0010482848b96\n";
+fn joined() -> &'static str {
+    "entry 2\nwlan0 tx b00000000200000000aa0200000000010200000000010000000002000000\nentry 3\nwlan0 install 02:00:00:00:00:aa 1\nwlan0 tx 100000000200000000aa02000000000102000000000100000100000001c0010482848b96\n"
+}
 
 /// These configurations, of one radio.
 fn alone(alloc: Global, conf: Conf) -> Result<Confs, Fail> {
@@ -121,23 +123,29 @@ const ONCE_JOINED: [Row; 11] = [
     },
 ];
 
+/// The rows that begin once the station joined.
+fn once_joined() -> &'static [Row] {
+    &ONCE_JOINED
+}
+
 #[test]
 fn stations_are_shown_and_sent_away(rt: HostRuntime) -> Result<(), Fail> {
-    for row in &ONCE_JOINED {
+    for row in once_joined() {
         let confs = alone(rt.alloc(), Conf::built_in(rt.alloc())?)?;
         prints(
             &rt,
             row.about,
             confs,
-            &[JOINS, row.script],
-            &[JOINED, row.want],
+            &[joins(), row.script],
+            &[joined(), row.want],
         )?;
     }
     Ok(())
 }
 
 /// Commands where there is no station.
-const COMMANDS: &str = "cmd
+fn commands() -> &'static str {
+    "cmd
 cmd \ncmd  PING
 cmd PING
 cmd STA-FIRST
@@ -152,9 +160,11 @@ cmd IFNAME=wlan0
 cmd IFNAME=wlan1 DENY_ACL CLEAR
 cmd DENY_ACL SHOW
 cmd PING\r
-";
+"
+}
 
-const REPLIES: &str = "ctrl 1 UNKNOWN COMMAND\\n
+fn replies() -> &'static str {
+    "ctrl 1 UNKNOWN COMMAND\\n
 ctrl 2 UNKNOWN COMMAND\\n
 ctrl 3 UNKNOWN COMMAND\\n
 ctrl 4 PONG\\n
@@ -168,11 +178,13 @@ ctrl 12 UNKNOWN COMMAND\\n
 ctrl 13 UNKNOWN COMMAND\\n
 ctrl 14 FAIL\\n
 ctrl 15 \nctrl 16 UNKNOWN COMMAND\\n
-";
+"
+}
 
 /// Three more stations authenticate and two of them join; of the three that joined, the second is sent away,
 /// and the fourth joins.
-const FREES: &str = "rx wlan0 b00000000200000000010200000000ab0200000000011000000001000000
+fn frees() -> &'static str {
+    "rx wlan0 b00000000200000000010200000000ab0200000000011000000001000000
 rx wlan0 b00000000200000000010200000000ac0200000000011000000001000000
 rx wlan0 b00000000200000000010200000000ad0200000000011000000001000000
 rx wlan0 000000000200000000010200000000ab020000000001200031040a0000036e6574010482848b96
@@ -182,9 +194,11 @@ cmd DEAUTHENTICATE 02:00:00:00:00:ab
 flush
 rx wlan0 000000000200000000010200000000ad020000000001200031040a0000036e6574010482848b96
 flush
-";
+"
+}
 
-const FREED: &str = "entry 4
+fn freed() -> &'static str {
+    "entry 4
 entry 5
 entry 6
 entry 7
@@ -203,21 +217,35 @@ ctrl 11 OK\\n
 entry 10
 wlan0 install 02:00:00:00:00:ad 2
 wlan0 tx 100000000200000000ad02000000000102000000000100000100000002c0010482848b96
-";
+"
+}
 
 #[test]
 fn commands_are_answered(rt: HostRuntime) -> Result<(), Fail> {
     let alloc = rt.alloc();
     let confs = alone(alloc, Conf::built_in(alloc)?)?;
-    prints(&rt, "words", confs, &[COMMANDS], &[REPLIES])?;
+    prints(&rt, "words", confs, &[commands()], &[replies()])?;
     let confs = alone(alloc, Conf::built_in(alloc)?)?;
     prints(
         &rt,
         "an identifier is given again",
         confs,
-        &[JOINS, FREES],
-        &[JOINED, FREED],
+        &[joins(), frees()],
+        &[joined(), freed()],
     )
+}
+
+/// Commands that name the second radio, and one that names none.
+fn to_the_second() -> &'static str {
+    "cmd IFNAME=wlan1 STATUS\ncmd IFNAME=wlan1 DENY_ACL ADD_MAC 02:00:00:00:00:aa\nflush\ncmd DENY_ACL SHOW\ncmd IFNAME=wlan1 DENY_ACL SHOW\n"
+}
+
+fn status_of_the_second() -> &'static str {
+    "ctrl 1 state=ENABLED\\nchannel=6\\nbeacon_int=100\\nbss[0]=wlan1\\nbssid[0]=02:00:00:00:00:02\\nssid[0]=\\\\\\\"\\\\\\\\\\nnum_sta[0]=0\\n\n"
+}
+
+fn lists_of_both() -> &'static str {
+    "entry 3\nctrl 2 OK\\n\nctrl 4 \nctrl 5 02:00:00:00:00:aa VLAN_ID=0\\n\n"
 }
 
 #[test]
@@ -234,22 +262,19 @@ fn a_command_is_for_the_interface_that_it_names(rt: HostRuntime) -> Result<(), F
         &rt,
         "two radios",
         Confs::new(list)?,
-        &[
-            "cmd IFNAME=wlan1 STATUS\ncmd IFNAME=wlan1 DENY_ACL ADD_MAC 02:00:00:00:00:aa\nflush\ncmd DENY_ACL SHOW\ncmd IFNAME=wlan1 DENY_ACL SHOW\n",
-        ],
-        &[
-            "ctrl 1 state=ENABLED\\nchannel=6\\nbeacon_int=100\\nbss[0]=wlan1\\nbssid[0]=02:00:00:00:00:02\\nssid[0]=\\\\\\\"\\\\\\\\\\nnum_sta[0]=0\\n\n",
-            "entry 3\nctrl 2 OK\\n\nctrl 4 \nctrl 5 02:00:00:00:00:aa VLAN_ID=0\\n\n",
-        ],
+        &[to_the_second()],
+        &[status_of_the_second(), lists_of_both()],
     )
 }
 
 /// Where only the accepted are allowed three stations come in, and go once they are accepted no more.
-const ACCEPTED: &str =
-    "cmd ACCEPT_ACL ADD_MAC 02:00:00:00:00:ac\ncmd ACCEPT_ACL ADD_MAC 02:00:00:00:00:aa\ncmd ACCEPT_ACL ADD_MAC 02:00:00:00:00:ab\nrx wlan0 b00000000200000000010200000000aa0200000000011000000001000000\nrx wlan0 b00000000200000000010200000000ab0200000000011000000001000000\nrx wlan0 b00000000200000000010200000000ac0200000000011000000001000000\nrx wlan0 000000000200000000010200000000aa020000000001200031040a0000036e6574010482848b96\nrx wlan0 000000000200000000010200000000ac020000000001200031040a0000036e6574010482848b96\nflush\ncmd ACCEPT_ACL DEL_MAC 02:00:00:00:00:ac\ncmd ACCEPT_ACL CLEAR\nflush\ncmd STA-FIRST\ncmd ACCEPT_ACL SHOW\n";
+fn accepts_three() -> &'static str {
+    "cmd ACCEPT_ACL ADD_MAC 02:00:00:00:00:ac\ncmd ACCEPT_ACL ADD_MAC 02:00:00:00:00:aa\ncmd ACCEPT_ACL ADD_MAC 02:00:00:00:00:ab\nrx wlan0 b00000000200000000010200000000aa0200000000011000000001000000\nrx wlan0 b00000000200000000010200000000ab0200000000011000000001000000\nrx wlan0 b00000000200000000010200000000ac0200000000011000000001000000\nrx wlan0 000000000200000000010200000000aa020000000001200031040a0000036e6574010482848b96\nrx wlan0 000000000200000000010200000000ac020000000001200031040a0000036e6574010482848b96\nflush\ncmd ACCEPT_ACL DEL_MAC 02:00:00:00:00:ac\ncmd ACCEPT_ACL CLEAR\nflush\ncmd STA-FIRST\ncmd ACCEPT_ACL SHOW\n"
+}
 
-const ACCEPTED_NO_MORE: &str =
-    "entry 2\nentry 3\nentry 4\nentry 5\nentry 6\nentry 7\nentry 8\nentry 9\nwlan0 tx b00000000200000000aa0200000000010200000000010000000002000000\nwlan0 tx b00000000200000000ab0200000000010200000000010000000002000000\nwlan0 tx b00000000200000000ac0200000000010200000000010000000002000000\nwlan0 install 02:00:00:00:00:aa 1\nwlan0 tx 100000000200000000aa02000000000102000000000100000100000001c0010482848b96\nwlan0 install 02:00:00:00:00:ac 2\nwlan0 tx 100000000200000000ac02000000000102000000000100000100000002c0010482848b96\nctrl 1 OK\\n\nctrl 2 OK\\n\nctrl 3 OK\\n\nentry 10\nentry 11\nwlan0 remove 02:00:00:00:00:ac\nwlan0 tx c00000000200000000ac02000000000102000000000100000100\nwlan0 remove 02:00:00:00:00:aa\nwlan0 tx c00000000200000000aa02000000000102000000000100000100\nwlan0 tx c00000000200000000ab02000000000102000000000100000100\nctrl 10 OK\\n\nctrl 11 OK\\n\nctrl 13 \nctrl 14 \n";
+fn three_come_and_go() -> &'static str {
+    "entry 2\nentry 3\nentry 4\nentry 5\nentry 6\nentry 7\nentry 8\nentry 9\nwlan0 tx b00000000200000000aa0200000000010200000000010000000002000000\nwlan0 tx b00000000200000000ab0200000000010200000000010000000002000000\nwlan0 tx b00000000200000000ac0200000000010200000000010000000002000000\nwlan0 install 02:00:00:00:00:aa 1\nwlan0 tx 100000000200000000aa02000000000102000000000100000100000001c0010482848b96\nwlan0 install 02:00:00:00:00:ac 2\nwlan0 tx 100000000200000000ac02000000000102000000000100000100000002c0010482848b96\nctrl 1 OK\\n\nctrl 2 OK\\n\nctrl 3 OK\\n\nentry 10\nentry 11\nwlan0 remove 02:00:00:00:00:ac\nwlan0 tx c00000000200000000ac02000000000102000000000100000100\nwlan0 remove 02:00:00:00:00:aa\nwlan0 tx c00000000200000000aa02000000000102000000000100000100\nwlan0 tx c00000000200000000ab02000000000102000000000100000100\nctrl 10 OK\\n\nctrl 11 OK\\n\nctrl 13 \nctrl 14 \n"
+}
 
 #[test]
 fn stations_go_once_they_are_accepted_no_more(rt: HostRuntime) -> Result<(), Fail> {
@@ -257,7 +282,13 @@ fn stations_go_once_they_are_accepted_no_more(rt: HostRuntime) -> Result<(), Fai
     let mut conf = Conf::built_in(alloc)?;
     conf.macaddr_acl = AclMode::DenyUnlessAccepted;
     let confs = alone(alloc, conf)?;
-    prints(&rt, "in mode 1", confs, &[ACCEPTED], &[ACCEPTED_NO_MORE])
+    prints(
+        &rt,
+        "in mode 1",
+        confs,
+        &[accepts_three()],
+        &[three_come_and_go()],
+    )
 }
 
 /// A list file of 1,024 addresses, from 02:00:00:00:00:00 on.
@@ -270,6 +301,15 @@ fn full_list(alloc: Global) -> Result<AddressList, Fail> {
     Ok(read_list(alloc, file.as_bytes())?)
 }
 
+/// Another address, the last that is there, and the other address for the other list.
+fn adds_to_a_full_list() -> &'static str {
+    "cmd DENY_ACL ADD_MAC 02:00:00:00:04:00\ncmd DENY_ACL ADD_MAC 02:00:00:00:03:ff\ncmd ACCEPT_ACL ADD_MAC 02:00:00:00:04:00\nflush\n"
+}
+
+fn added_where_there_is_room() -> &'static str {
+    "entry 2\nentry 3\nentry 4\nctrl 1 FAIL\\n\nctrl 2 OK\\n\nctrl 3 OK\\n\n"
+}
+
 #[test]
 fn a_full_list_takes_no_other_address(rt: HostRuntime) -> Result<(), Fail> {
     let alloc = rt.alloc();
@@ -279,10 +319,8 @@ fn a_full_list_takes_no_other_address(rt: HostRuntime) -> Result<(), Fail> {
         &rt,
         "a full list",
         alone(alloc, conf)?,
-        &[
-            "cmd DENY_ACL ADD_MAC 02:00:00:00:04:00\ncmd DENY_ACL ADD_MAC 02:00:00:00:03:ff\ncmd ACCEPT_ACL ADD_MAC 02:00:00:00:04:00\nflush\n",
-        ],
-        &["entry 2\nentry 3\nentry 4\nctrl 1 FAIL\\n\nctrl 2 OK\\n\nctrl 3 OK\\n\n"],
+        &[adds_to_a_full_list()],
+        &[added_where_there_is_room()],
     )
 }
 
