@@ -13,8 +13,9 @@ use std::test::Fail;
 const RADIO: &str = "interface=wlan0\nbssid=02:00:00:00:00:01\nssid=net\n";
 
 /// An authentication request of the station 02:00:00:00:00:aa at wlan0.
-const REQUEST: &str =
-    "rx wlan0 b00000000200000000010200000000aa0200000000011000000001000000\nflush\n";
+fn request() -> &'static str {
+    "rx wlan0 b00000000200000000010200000000aa0200000000011000000001000000\nflush\n"
+}
 
 /// Where the tests' files stand.
 const FOLDER: &str = "configuration_files_of_a_test";
@@ -29,39 +30,102 @@ fn printed(alloc: Global, confs: Confs, script: &str) -> Result<Vec<u8>, Fail> {
     Ok(out)
 }
 
+const STATION: &str = "02:00:00:00:00:aa";
+
+/// Lines of a configuration, its lists, and the body of its answer.
+struct Policy {
+    lines: &'static str,
+    accept: &'static str,
+    deny: &'static str,
+    body: &'static str,
+}
+
+const POLICIES: [Policy; 7] = [
+    // No room: status 17.
+    Policy {
+        lines: "max_num_sta=0",
+        accept: "",
+        deny: "",
+        body: "000002001100",
+    },
+    // Open System is not configured: status 13.
+    Policy {
+        lines: "auth_algs=2",
+        accept: "",
+        deny: "",
+        body: "000002000d00",
+    },
+    // Denied, and no room: status 1 comes first.
+    Policy {
+        lines: "macaddr_acl=1\nmax_num_sta=0",
+        accept: "",
+        deny: "",
+        body: "000002000100",
+    },
+    // Neither on a list nor allowed by the mode: status 1.
+    Policy {
+        lines: "macaddr_acl=1",
+        accept: "",
+        deny: "",
+        body: "000002000100",
+    },
+    // On the deny list: status 1.
+    Policy {
+        lines: "macaddr_acl=0",
+        accept: "",
+        deny: STATION,
+        body: "000002000100",
+    },
+    // On the accept list: status 0, also where it is on both.
+    Policy {
+        lines: "macaddr_acl=1",
+        accept: STATION,
+        deny: "",
+        body: "000002000000",
+    },
+    Policy {
+        lines: "macaddr_acl=0",
+        accept: STATION,
+        deny: STATION,
+        body: "000002000000",
+    },
+];
+
+/// The policies, each with its answer.
+fn policies() -> &'static [Policy] {
+    &POLICIES
+}
+
 #[test]
 fn the_policy_answers_authentications(rt: HostRuntime) -> Result<(), Fail> {
     let alloc = rt.alloc();
-    let station = "02:00:00:00:00:aa";
-    for (line, accept, deny, body) in [
-        // No room: status 17.
-        ("max_num_sta=0", "", "", "000002001100"),
-        // Open System is not configured: status 13.
-        ("auth_algs=2", "", "", "000002000d00"),
-        // Denied, and no room: status 1 comes first.
-        ("macaddr_acl=1\nmax_num_sta=0", "", "", "000002000100"),
-        // Neither on a list nor allowed by the mode: status 1.
-        ("macaddr_acl=1", "", "", "000002000100"),
-        // On the deny list: status 1.
-        ("macaddr_acl=0", "", station, "000002000100"),
-        // On the accept list: status 0, also where it is on both.
-        ("macaddr_acl=1", station, "", "000002000000"),
-        ("macaddr_acl=0", station, station, "000002000000"),
-    ] {
-        let text = format!(in alloc; "{RADIO}{line}\n")?;
+    for policy in policies() {
+        let lines = policy.lines;
+        let body = policy.body;
+        let text = format!(in alloc; "{RADIO}{lines}\n")?;
         let mut conf = read_conf(alloc, text.as_bytes())?;
-        let accept = read_list(alloc, accept.as_bytes())?;
-        let deny = read_list(alloc, deny.as_bytes())?;
+        let accept = read_list(alloc, policy.accept.as_bytes())?;
+        let deny = read_list(alloc, policy.deny.as_bytes())?;
         conf.set_lists(accept, deny);
         let mut list = Vec::new(alloc);
         list.push(conf)?;
-        let out = printed(alloc, Confs::new(list)?, REQUEST)?;
+        let out = printed(alloc, Confs::new(list)?, request())?;
         let want = format!(in alloc;
             "entry 2\nwlan0 tx b00000000200000000aa0200000000010200000000010000{body}\n"
         )?;
-        assert_eq!(rt; out.as_slice(), want.as_bytes(), "{line}");
+        assert_eq!(rt; out.as_slice(), want.as_bytes(), "{lines}");
     }
     Ok(())
+}
+
+/// An authentication request of the station at each of two radios.
+fn requests_to_both() -> &'static str {
+    "rx wlan0 b00000000200000000010200000000aa0200000000011000000001000000\nrx wlan1 b00000000200000000020200000000aa0200000000021000000001000000\nflush\n"
+}
+
+/// The first radio denies the station, and the second lets it in.
+fn answers_of_both() -> &'static [u8] {
+    b"entry 3\nentry 4\nwlan0 tx b00000000200000000aa0200000000010200000000010000000002000100\nwlan1 tx b00000000200000000aa0200000000020200000000020000000002000000\n"
 }
 
 #[test]
@@ -75,12 +139,8 @@ fn each_radio_starts_with_its_own_lists(rt: HostRuntime) -> Result<(), Fail> {
         conf.set_lists(AddressList::new(alloc), deny);
         list.push(conf)?;
     }
-    let script =
-        "rx wlan0 b00000000200000000010200000000aa0200000000011000000001000000\nrx wlan1 b00000000200000000020200000000aa0200000000021000000001000000\nflush\n";
-    let out = printed(alloc, Confs::new(list)?, script)?;
-    let want =
-        b"entry 3\nentry 4\nwlan0 tx b00000000200000000aa0200000000010200000000010000000002000100\nwlan1 tx b00000000200000000aa0200000000020200000000020000000002000000\n";
-    assert_eq!(rt; out.as_slice(), want.as_slice());
+    let out = printed(alloc, Confs::new(list)?, requests_to_both())?;
+    assert_eq!(rt; out.as_slice(), answers_of_both());
     Ok(())
 }
 
@@ -122,40 +182,58 @@ const FILES: [(&str, &str); 8] = [
     ),
 ];
 
+/// The files, each by its name and text.
+fn files() -> &'static [(&'static str, &'static str)] {
+    &FILES
+}
+
 /// Makes the folder of the tests' files anew.
 fn make_files<R: Files + AllocGlobal>(rt: &R) -> Result<(), Fail> {
     let _ = fs::remove_dir_all(rt, FOLDER);
     fs::create_dir(rt, FOLDER)?;
-    for (name, text) in &FILES {
+    for (name, text) in files() {
         let path = format!(in rt.alloc(); "{FOLDER}/{name}")?;
         fs::write(rt, path.as_str(), *text)?;
     }
     Ok(())
 }
 
+const GOOD: &str = "configuration_files_of_a_test/good";
+
+const OTHER: &str = "configuration_files_of_a_test/other";
+
+const FAULTY: &str = "configuration_files_of_a_test/faulty";
+
+const BAD_ACCEPT: &str = "configuration_files_of_a_test/bad_accept";
+
+const NO_DENY: &str = "configuration_files_of_a_test/no_deny";
+
+/// The names of files that are read in turn, and the fault that is told.
+const READINGS: [(&[&str], &str); 7] = [
+    (&[GOOD, OTHER], ""),
+    (&[GOOD, "none", FAULTY], "cannot read none"),
+    (&[GOOD, FAULTY, "none"], "line 2: no '='"),
+    (&[GOOD, BAD_ACCEPT, "none"], "line 2: bad address"),
+    (
+        &[NO_DENY, FAULTY],
+        "cannot read configuration_files_of_a_test/none",
+    ),
+    (&[GOOD, OTHER, GOOD], "interface given twice"),
+    (&[FOLDER], "cannot read configuration_files_of_a_test"),
+];
+
+/// The readings, each with its fault.
+fn readings() -> &'static [(&'static [&'static str], &'static str)] {
+    &READINGS
+}
+
 #[test]
 fn files_are_read_in_turn_and_the_first_fault_is_told(rt: HostRuntime) -> Result<(), Fail> {
     make_files(&rt)?;
-    let good = "configuration_files_of_a_test/good";
-    let other = "configuration_files_of_a_test/other";
-    let faulty = "configuration_files_of_a_test/faulty";
-    let bad_accept = "configuration_files_of_a_test/bad_accept";
-    let no_deny = "configuration_files_of_a_test/no_deny";
-    for (names, want) in [
-        ([good, other].as_slice(), ""),
-        (&[good, "none", faulty], "cannot read none"),
-        (&[good, faulty, "none"], "line 2: no '='"),
-        (&[good, bad_accept, "none"], "line 2: bad address"),
-        (
-            &[no_deny, faulty],
-            "cannot read configuration_files_of_a_test/none",
-        ),
-        (&[good, other, good], "interface given twice"),
-        (&[FOLDER], "cannot read configuration_files_of_a_test"),
-    ] {
-        assert_eq!(rt; fault_text(&rt, names)?.as_str(), want);
+    for (names, want) in readings() {
+        assert_eq!(rt; fault_text(&rt, names)?.as_str(), *want);
     }
-    let Ok(confs) = read_configurations(&rt, &[other, good]) else {
+    let Ok(confs) = read_configurations(&rt, &[OTHER, GOOD]) else {
         return Err(Fail::new("good files are refused"));
     };
     assert_eq!(rt; confs.list().len(), 2);
