@@ -6,8 +6,11 @@ pub mod Found
 pub mod Handing
 pub mod Hearing
 pub mod Noting
+pub mod Running
+pub mod Saying
+pub mod ScriptLines
 pub mod Senders
 pub mod Silence
-pub mod Starting
 pub mod Speaking
+pub mod Starting
 pub mod Ticking

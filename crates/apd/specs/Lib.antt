@@ -1,5 +1,6 @@
 pub mod Configured
 pub mod Heard
+pub mod Lines
 pub mod Meant
 pub mod Noted
 pub mod Run

@@ -137,7 +137,7 @@ fn run_script_of_input(
     let confs = read_configurations(rt, names).map_err(ProgramFault::Configuration)?;
     let world = World::new(rt.alloc(), confs);
     let reader = BufReader::new(rt.alloc(), rt.reader())?;
-    run_script(rt.alloc(), world, reader, io::writer(rt)).map_err(ProgramFault::Script)?;
+    run_script(rt.alloc(), world, reader, &mut io::writer(rt)).map_err(ProgramFault::Script)?;
     Ok(())
 }
 

@@ -152,10 +152,10 @@ impl Read for Broken {
 fn faults_of_the_reader_and_the_writer_end_a_script(rt: HostRuntime) -> Result<(), Fail> {
     let alloc = rt.alloc();
     let script = b"rx wlan0\nrx wlan0\nflush\n";
-    let fault = run_script(alloc, world(alloc)?, script.as_slice(), Narrow(1)).err();
+    let fault = run_script(alloc, world(alloc)?, script.as_slice(), &mut Narrow(1)).err();
     assert_eq!(rt; fault, Some(ScriptFault::Writer));
     let reader = BufReader::new(alloc, Broken(false))?;
-    let fault = run_script(alloc, world(alloc)?, reader, Narrow(0)).err();
+    let fault = run_script(alloc, world(alloc)?, reader, &mut Narrow(0)).err();
     assert_eq!(rt; fault, Some(ScriptFault::Reader));
     Ok(())
 }
@@ -169,7 +169,7 @@ fn a_script_has_at_most_16_mib(rt: HostRuntime) -> Result<(), Fail> {
     ] {
         let reader = BufReader::new(alloc, io::repeat(b'x').take(bytes))?;
         assert_eq!(rt;
-            run_script(alloc, world(alloc)?, reader, Narrow(0)).err(),
+            run_script(alloc, world(alloc)?, reader, &mut Narrow(0)).err(),
             Some(want)
         );
     }

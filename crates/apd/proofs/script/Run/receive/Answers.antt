@@ -1,11 +1,12 @@
-use Rattle.apd.proofs.Answering.{reached_itself}
+use Rattle.std.proofs.Common.{refl, sym, ap, ◌∙◌}
+use Rattle.std.specs.Option.{option_copied}
+use Rattle.apd.specs.declared.plain.Input.TheVariants.{Received}
+use Rattle.apd.specs.declared.plain.Step.TheVariants.{Accept}
+use Rattle.apd.proofs.Running.{received_made}
 use Rattle.apd.proofs.script.Run.receive.Goals as goal
 
-pub returns-in_default : goal.returns-in_default
-returns-in_default g c = reached_itself c.args.self.now.world
-
-pub returns-in_default-2 : goal.returns-in_default-2
-returns-in_default-2 g c = reached_itself c.args.self.now.world
-
-pub returns-in_err-frame : goal.returns-in_err-frame
-returns-in_err-frame g c = reached_itself c.args.self.now.world
+pub returns-clause-ok : goal.returns-clause-ok
+returns-clause-ok g c =
+    received_made c.make.result c.args.self.now.moment c.args.interface.now c.args.frame.now c.in-Some.conf.now (Accept (Received c.in-Some.conf.now.bssid c.args.frame) c.args.self.now.moment)
+    c.args.self.now.world c.make.new.self.world (g.W.Write.contents c.args.writer.now) (g.W.Write.contents c.make.new.writer)
+    (rw c.confs.ensures at (sym c.with_interface.ensures ∙ ap option_copied c.in-Some.is)) refl c.make.ensures.ok

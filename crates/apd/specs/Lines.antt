@@ -1,0 +1,66 @@
+-- The lines of a script, and what each says (own format).
+use Rattle.std.specs.Prelude.{◌≡◌, ℕ, ◌≤◌, ◌<◌, ◌^◌, ◌⊎◌, Bool, not, ◌==◌, List, [], ◌∷◌, ◌++◌, length, drop, filter, codes, None, Ok, IsTrue, if◌then◌else◌, Option, IfSome}
+use Rattle.std.specs.List.{before_first, onto_first}
+use Rattle.std.specs.Io.BufRead.{take_through, DropsThrough}
+use Rattle.std.specs.Io.KnownBytes.{IsAtEnd}
+use Rattle.std.specs.Str.{all_ascii_digits}
+use Rattle.std.specs.Str.Parse.{digits_value}
+use Rattle.hex.specs.Hex.{decode_of}
+use Rattle.apd_base.specs.declared.moment.Moment.{Moment}
+use Rattle.apd_conf.specs.declared.conf.Conf.{Conf}
+use Rattle.apd_conf.specs.Confs.{conf_named}
+use Rattle.apd_ctrl.specs.Grammar.{Then}
+use Rattle.apd.specs.declared.script.line.Line.{Line}
+use Rattle.apd.specs.declared.script.line.Line.TheVariants.{Empty, Received, Tick, Command, Hand, Flush}
+
+-- the lines of a text: each ends at a newline, which the last may lack
+unfoldable pub lines : List ℕ → List (List ℕ)
+lines [] = []
+lines (b ∷ bs) = if b == 10 then [] ∷ lines bs else onto_first b (lines bs)
+
+-- the bytes up to a newline, and with it, are read of what is left, or all of it; none are where nothing is left
+pub record IsRead (left next : Option (List ℕ)) (bytes : List ℕ) : Type 0 where
+  pub taken : IfSome left (λ text. bytes ≡ take_through 10 text)
+  pub dropped : DropsThrough left next 10
+  pub end : length bytes ≡ 0 → IsAtEnd left
+
+-- 1 to 20 decimal digits that write a number below 2^64
+pub record IsMoment (m : Moment) (text : List ℕ) : Type 0 where
+  pub some : 1 ≤ length text
+  pub few : length text ≤ 20
+  pub digits : IsTrue (all_ascii_digits text)
+  pub value : digits_value 10 text ≡ m.0
+  pub small : m.0 < 2 ^ 64
+
+abbrev pub is_blank : ℕ → Bool
+is_blank b = b == 32
+
+abbrev pub without_blanks : List ℕ → List ℕ
+without_blanks text = filter (λ b. not (is_blank b)) text
+
+-- the name of an interface, up to the first blank, and then hexadecimal digits of either case, two for each byte of a
+-- frame, with any blanks among them
+abbrev pub IsReception : List ℕ → List ℕ → List ℕ → Type 0
+IsReception interface frame text = (interface ≡ before_first is_blank text) × (decode_of (without_blanks (drop (length interface) text)) ≡ Ok frame)
+
+-- a text says a line
+abbrev pub Says : List ℕ → Line → Type 0
+Says text Empty = text ≡ []
+Says text Hand = text ≡ codes "hand"
+Says text Flush = text ≡ codes "flush"
+Says text (Tick m) = Then (codes "tick ") (IsMoment m) text
+Says text (Command command) = ((text ≡ codes "cmd") × (command.now ≡ [])) ⊎ (text ≡ codes "cmd " ++ command.now)
+Says text (Received interface frame) = Then (codes "rx ") (IsReception interface.now frame) text
+
+-- a line that is about an interface which is not configured
+abbrev pub IsElsewhere : List Conf → Line → Type 0
+IsElsewhere confs (Received interface frame) = conf_named confs interface.now ≡ None
+IsElsewhere confs Empty = ⊥
+IsElsewhere confs Hand = ⊥
+IsElsewhere confs Flush = ⊥
+IsElsewhere confs (Tick m) = ⊥
+IsElsewhere confs (Command command) = ⊥
+
+-- a text says no line, or one about such an interface
+abbrev pub IsBad : List Conf → List ℕ → Type 0
+IsBad confs text = (line : Line) → Says text line → IsElsewhere confs line

@@ -1,0 +1,52 @@
+//! What ends a script before its last line.
+ghost use Rattle.std.specs.Prelude.{◌≡◌};
+ghost use Rattle.apd.specs.declared.script.fault.ScriptFault.TheVariants.{NoMemory};
+ghost use Rattle.apd.specs.Script.{IsOutputFault, IsReadFault};
+
+use std::alloc::AllocError;
+use std::io::{self, ErrorKind};
+use thiserror::Error;
+
+/// What ends a script before its last line. What stands before it was done and printed.
+#[derive(Clone, Copy, Debug, PartialEq, Eq, Error)]
+pub enum ScriptFault {
+    /// The line of this number, counted from 1, is no line of a script, or names an interface that
+    /// is not configured.
+    #[error("bad line {0}")]
+    BadLine(u64),
+    /// The script can't be read, or has more than 16,777,216 bytes.
+    #[error("reader fault")]
+    Reader,
+    #[error("writer fault")]
+    Writer,
+    #[error("out of memory")]
+    NoMemory,
+}
+
+impl From<AllocError> for ScriptFault {
+    ghost from_gives = { λ _ fault. fault ≡ NoMemory };
+
+    fn from(_: AllocError) -> ScriptFault {
+        ScriptFault::NoMemory
+    }
+}
+
+/// What a failed read means.
+pub fn reader_fault(error: io::Error) -> ScriptFault
+    ensures { IsReadFault result }
+{
+    match error.kind() {
+        ErrorKind::OutOfMemory => ScriptFault::NoMemory,
+        _ => ScriptFault::Reader,
+    }
+}
+
+/// What a failed write means.
+pub fn writer_fault(error: io::Error) -> ScriptFault
+    ensures { IsOutputFault result }
+{
+    match error.kind() {
+        ErrorKind::OutOfMemory => ScriptFault::NoMemory,
+        _ => ScriptFault::Writer,
+    }
+}
