@@ -1,5 +1,5 @@
 -- A request by the answer to what happened.
-use Rattle.std.proofs.Common.{◌≡◌, ◌+◌, ◌^◌, ◌-◌, Bool, true, false, cond, eqb, Option, None, Some, Ok, refl, sym, ap, subst, ◌∙◌}
+use Rattle.std.proofs.Common.{◌≡◌, ◌+◌, ◌^◌, ◌-◌, true, false, cond, eqb, Option, None, Some, Ok, refl, sym, ap, subst, ◌∙◌}
 use Rattle.apd_base.specs.declared.moment.Moment.{Moment}
 use Rattle.apd_mlme.specs.Happening.{Happening}
 use Rattle.apd_mlme.specs.Rules.{verdict}

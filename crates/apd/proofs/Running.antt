@@ -1,7 +1,7 @@
 -- What running a script does, line by line.
-use Rattle.std.proofs.Common.{◌≡◌, ◌≢◌, ℕ, suc, ◌+◌, ◌≤◌, ◌<◌, true, take, length-take, List, [], ◌∷◌, ◌++◌, length, Option, Some, None, Result, Ok, Err, OnOk, refl, sym, ap, subst, ◌∙◌, append_assoc, arith, length-append}
-use Rattle.std.proofs.lemmas.List.{append-nil}
-use Rattle.std.proofs.lemmas.List.{take_all}
+use Rattle.std.proofs.Common.{◌≡◌, ◌≢◌, ℕ, suc, ◌+◌, ◌≤◌, ◌<◌, true, take, drop, length-take, take-append-drop, List, [], ◌∷◌, ◌++◌, length, Option, Some, None, inl, inr, Result, Ok, Err, OnOk, refl, sym, ap, subst, ◌∙◌, append_assoc, arith, length-append}
+use Rattle.std.proofs.lemmas.List.{append-nil, drop_all}
+use Rattle.std.proofs.BufReadLemmas.{IsAtEnd-of_take_through}
 use Rattle.std.proofs.KnownBytes.{Appends-trans}
 use Rattle.std.specs.Io.KnownBytes.{Appends, IsAtEnd}
 use Rattle.std.specs.Io.BufRead.{take_through, drop_through}
@@ -9,7 +9,7 @@ use Rattle.std.specs.Option.{option_map}
 use Rattle.std.specs.Prelude.{IfSome}
 use Rattle.apd.specs.declared.script.fault.ScriptFault.{ScriptFault}
 use Rattle.apd.specs.declared.script.fault.ScriptFault.TheVariants as fault
-use Rattle.apd.proofs.ScriptLines.{first_line, whole_length}
+use Rattle.apd.proofs.ScriptLines.{line_read, whole_length}
 use Rattle.apd_base.specs.declared.moment.Moment.{Moment}
 use Rattle.apd_conf.specs.declared.conf.Conf.{Conf}
 use Rattle.apd_ctrl.specs.Placing.{Placing, Asks, Does}
@@ -33,7 +33,7 @@ use Rattle.apd.specs.World.{unless_ignored}
 use Rattle.apd.specs.Meant.{conf_meant}
 use Rattle.apd.specs.Run.{IsReached}
 use Rattle.apd.specs.Steps.{IsStep}
-use Rattle.apd.specs.Script.{AreMade, AreRun, Ends, IsFault, IsLineFault, IsStarted, IsCarriedOut, IsMeant, IsPlaced, IsReceived, IsRun, IsScriptRun, IsStartedThenReached, Prints, SaysAndIsRun, first_moment}
+use Rattle.apd.specs.Script.{AreMade, AreRun, Ends, IsCut, IsFault, IsLineFault, IsOutputFault, IsReadFault, IsStarted, IsCarriedOut, IsMeant, IsPlaced, IsReceived, IsRun, IsScriptRun, IsStartedThenReached, Prints, SaysAndIsRun, first_moment}
 use Rattle.apd.proofs.Answering.{reached_unchanged, reached_then}
 
 -- one step was made, and what it told was printed
@@ -102,12 +102,16 @@ received_made (Ok x) m interface frame conf step a b before after configured ask
     (out, record { conf = conf; configured = configured; requested = record { step = step; asks = asks; made = made } }, printed)
 received_made (Err e) m interface frame conf step a b before after configured asks made = tt
 
+-- what a script has beyond the most that is read
+abbrev beyond : List ℕ → List ℕ
+beyond script = drop (MAX_SCRIPT + 1) script
+
 -- the lines so far, of what the reader gives where it is known, and what is left
 abbrev pub AreRead : Option (List ℕ) → Option (List ℕ) → List (List ℕ) → ℕ → Type 0
 AreRead None left texts n = Unit {0}
 AreRead (Some script) None texts n = ⊥
 AreRead (Some script) (Some rest) texts n =
-    (lines (take (MAX_SCRIPT + 1) script) ≡ texts ++ lines rest) × (length (take (MAX_SCRIPT + 1) script) ≡ n + length rest)
+    (lines script ≡ texts ++ lines (rest ++ beyond script)) × (length (take (MAX_SCRIPT + 1) script) ≡ n + length rest)
 
 -- so many lines of so many bytes were run, and the next has this number
 pub record IsSoFar (known left : Option (List ℕ)) (number n : ℕ) (old : World) (at : Moment) (new : World) (before after : Option (List ℕ)) : Type 0 where
@@ -124,7 +128,7 @@ pub record IsSoFar (known left : Option (List ℕ)) (number n : ℕ) (old : Worl
 -- no line is read yet
 none_read : (known left : Option (List ℕ)) → left ≡ option_map (take (MAX_SCRIPT + 1)) known → AreRead known left [] 0
 none_read None left e = tt
-none_read (Some script) left e = subst (λ l. AreRead (Some script) l [] 0) (sym e) (refl, omega arith)
+none_read (Some script) left e = subst (λ l. AreRead (Some script) l [] 0) (sym e) (sym (ap lines (take-append-drop (MAX_SCRIPT + 1) script)), omega arith)
 
 pub begins_so_far : (known left : Option (List ℕ)) (old : World) (at : Moment) (new : World) (before after : Option (List ℕ)) → left ≡ option_map (take (MAX_SCRIPT + 1)) known
     → at ≡ first_moment → Prints before after (IsStarted first_moment old new) → IsSoFar known left 1 0 old at new before after
@@ -140,18 +144,23 @@ begins_so_far known left old at new before after e same (out, started, printed) 
   printed = printed;
 }
 
+-- nothing is beyond, where all is read and it is not too long
+none_beyond : (script rest : List ℕ) (n : ℕ) → length (take (MAX_SCRIPT + 1) script) ≡ n + length rest → n ≤ MAX_SCRIPT → rest ≡ [] → beyond script ≡ []
+none_beyond script rest n long fits none = drop_all (MAX_SCRIPT + 1) script (omega (arith, long, length-take (MAX_SCRIPT + 1) script, ap length none))
+
 -- a line more is read
 read_further : (known left next : Option (List ℕ)) (texts : List (List ℕ)) (n k : ℕ) (bytes : List ℕ) → AreRead known left texts n → IsRead left next bytes → length bytes ≡ k → 0 < k
-    → AreRead known next (texts ++ line_of bytes ∷ []) (n + k)
-read_further None left next texts n k bytes read piece long some = tt
-read_further (Some script) None next texts n k bytes read piece long some = absurd read
-read_further (Some script) (Some []) next texts n k bytes read piece long some = absurd (let none : length bytes ≡ 0 = ap length piece.taken in omega arith)
-read_further (Some script) (Some (b ∷ bs)) next texts n k bytes read piece long some =
+    → n + k ≤ MAX_SCRIPT → AreRead known next (texts ++ line_of bytes ∷ []) (n + k)
+read_further None left next texts n k bytes read piece long some fits = tt
+read_further (Some script) None next texts n k bytes read piece long some fits = absurd read
+read_further (Some script) (Some []) next texts n k bytes read piece long some fits = absurd (let none : length bytes ≡ 0 = ap length piece.taken in omega arith)
+read_further (Some script) (Some (b ∷ bs)) next texts n k bytes read piece long some fits =
     let rest = drop_through 10 (b ∷ bs) in
-    let split : lines (b ∷ bs) ≡ line_of bytes ∷ lines rest = first_line b bs ∙ ap (λ t. line_of t ∷ lines rest) (sym piece.taken) in
-    let lines_split = read.0 ∙ ap (λ ls. texts ++ ls) split ∙ sym (append_assoc texts (line_of bytes ∷ []) (lines rest)) in
     let here : length bytes ≡ length (take_through 10 (b ∷ bs)) = ap length piece.taken in
     let long_split : length (take (MAX_SCRIPT + 1) script) ≡ (n + k) + length rest = omega (arith, read.1, whole_length (b ∷ bs)) in
+    let split : lines ((b ∷ bs) ++ beyond script) ≡ line_of bytes ∷ lines (rest ++ beyond script) =
+    line_read b bs (beyond script) (none_beyond script rest (n + k) long_split fits) ∙ ap (λ t. line_of t ∷ lines (rest ++ beyond script)) (sym piece.taken) in
+    let lines_split = read.0 ∙ ap (λ ls. texts ++ ls) split ∙ sym (append_assoc texts (line_of bytes ∷ []) (lines (rest ++ beyond script))) in
     subst (λ l. AreRead (Some script) l (texts ++ line_of bytes ∷ []) (n + k)) (sym piece.dropped) (lines_split, long_split)
 
 -- and run
@@ -165,7 +174,7 @@ further_so_far known left next number n k old at later new newer before mid afte
     subst (λ m. SaysAndIsRun (1 + length past.texts) (line_of bytes) m new later newer more) (sym past.last) (subst (λ k. SaysAndIsRun k (line_of bytes) at new later newer more) counted one) in
     record {
       texts = past.texts ++ line_of bytes ∷ [];
-      read = read_further known left next past.texts n k bytes past.read piece long some;
+      read = read_further known left next past.texts n k bytes past.read piece long some fits;
       counted = omega (arith, past.counted, length-append past.texts (line_of bytes ∷ []));
       short = omega (arith, past.short, length-append past.texts (line_of bytes ∷ []));
       fits = fits;
@@ -191,15 +200,14 @@ all_read None left texts n read fits end = tt
 all_read (Some script) None texts n read fits end = absurd read
 all_read (Some script) (Some rest) texts n read fits end =
     let none : length rest ≡ 0 = ap length end in
-    let short : length script ≤ MAX_SCRIPT = omega (arith, read.1, length-take (MAX_SCRIPT + 1) script) in
-    let whole : take (MAX_SCRIPT + 1) script ≡ script = take_all (MAX_SCRIPT + 1) script (omega arith) in
-    (short, ap lines (sym whole) ∙ read.0 ∙ ap (λ bs. texts ++ lines bs) end ∙ append-nil texts)
+    let nothing = ap (λ bs. bs ++ beyond script) end ∙ none_beyond script rest n read.1 fits end in
+    (omega (arith, read.1, length-take (MAX_SCRIPT + 1) script), read.0 ∙ ap (λ bs. texts ++ lines bs) nothing ∙ append-nil texts)
 
-pub ends_so_far : (known left : Option (List ℕ)) (number n : ℕ) (old : World) (at : Moment) (new : World) (before after : Option (List ℕ)) → IsSoFar known left number n old at new before after
-    → IsAtEnd left → Ends known old new before after
-ends_so_far known left number n old at new before after past end = record {
+pub ends_so_far : (known left next : Option (List ℕ)) (number n : ℕ) (old : World) (at : Moment) (new : World) (before after : Option (List ℕ)) (bytes : List ℕ)
+    → IsSoFar known left number n old at new before after → IsRead left next bytes → length bytes ≡ 0 → Ends known old new before after
+ends_so_far known left next number n old at new before after bytes past piece none = record {
   texts = past.texts;
-  whole = all_read known left past.texts n past.read past.fits end;
+  whole = all_read known left past.texts n past.read past.fits (IsAtEnd-of_take_through 10 left [] bytes piece.taken none);
   run = (past.out, past.run, past.printed);
 }
 
@@ -207,21 +215,24 @@ pub so_far_reaches : (known left : Option (List ℕ)) (number n : ℕ) (old : Wo
     → IsStartedThenReached first_moment old new
 so_far_reaches known left number n old at new before after past = script_reaches past.texts old new past.out past.run
 
+-- some lines are read
+rest_unread : (known left : Option (List ℕ)) (texts : List (List ℕ)) (n : ℕ) → AreRead known left texts n → (behind : List (List ℕ)) × IfSome known (λ script. lines script ≡ texts ++ behind)
+rest_unread None left texts n read = ([], tt)
+rest_unread (Some script) None texts n read = absurd read
+rest_unread (Some script) (Some rest) texts n read = (lines (rest ++ beyond script), read.0)
+
 -- a line is read that is bad
 bad_read : (known left next : Option (List ℕ)) (texts : List (List ℕ)) (n k : ℕ) (bytes : List ℕ) → AreRead known left texts n → IsRead left next bytes → length bytes ≡ k → 0 < k
-    → (behind : List (List ℕ)) × IfSome known (λ script. lines (take (MAX_SCRIPT + 1) script) ≡ texts ++ line_of bytes ∷ behind)
-bad_read None left next texts n k bytes read piece long some = ([], tt)
-bad_read (Some script) None next texts n k bytes read piece long some = absurd read
-bad_read (Some script) (Some []) next texts n k bytes read piece long some = absurd (let none : length bytes ≡ 0 = ap length piece.taken in omega arith)
-bad_read (Some script) (Some (b ∷ bs)) next texts n k bytes read piece long some =
-    let rest = drop_through 10 (b ∷ bs) in
-    (lines rest, read.0 ∙ ap (λ ls. texts ++ ls) (first_line b bs ∙ ap (λ t. line_of t ∷ lines rest) (sym piece.taken)))
+    → n + k ≤ MAX_SCRIPT → (behind : List (List ℕ)) × IfSome known (λ script. lines script ≡ texts ++ line_of bytes ∷ behind)
+bad_read known left next texts n k bytes read piece long some fits =
+    let (behind, text) = rest_unread known next (texts ++ line_of bytes ∷ []) (n + k) (read_further known left next texts n k bytes read piece long some fits) in
+    (behind, subst (λ ls. IfSome known (λ script. lines script ≡ ls)) (append_assoc texts (line_of bytes ∷ []) behind) text)
 
 pub fails_so_far : (why : ScriptFault) (known left next : Option (List ℕ)) (number n k : ℕ) (old : World) (at : Moment) (new : World) (before mid after : Option (List ℕ)) (bytes : List ℕ)
-    → IsSoFar known left number n old at new before mid → IsRead left next bytes → length bytes ≡ k → 0 < k
+    → IsSoFar known left number n old at new before mid → IsRead left next bytes → length bytes ≡ k → 0 < k → n + k ≤ MAX_SCRIPT
     → IsLineFault number (line_of bytes) new.confs mid after why → IsFault known old before after why
-fails_so_far (fault.BadLine j) known left next number n k old at new before mid after bytes past piece long some (same, bad, kept) =
-    let (behind, text) = bad_read known left next past.texts n k bytes past.read piece long some in
+fails_so_far (fault.BadLine j) known left next number n k old at new before mid after bytes past piece long some fits (same, bad, kept) =
+    let (behind, text) = bad_read known left next past.texts n k bytes past.read piece long some fits in
     record {
       front = past.texts;
       bad = line_of bytes;
@@ -230,8 +241,24 @@ fails_so_far (fault.BadLine j) known left next number n k old at new before mid 
       number = same ∙ past.counted;
       new = new;
       run = (past.out, past.run, subst (λ c. Appends before c past.out) (sym kept) past.printed);
-      none = bad;
+      is_bad = bad;
     }
-fails_so_far fault.Reader known left next number n k old at new before mid after bytes past piece long some h = absurd h
-fails_so_far fault.Writer known left next number n k old at new before mid after bytes past piece long some h = tt
-fails_so_far fault.NoMemory known left next number n k old at new before mid after bytes past piece long some h = tt
+fails_so_far fault.Reader known left next number n k old at new before mid after bytes past piece long some fits h = absurd h
+fails_so_far fault.Writer known left next number n k old at new before mid after bytes past piece long some fits h = tt
+fails_so_far fault.NoMemory known left next number n k old at new before mid after bytes past piece long some fits h = tt
+
+pub cut_so_far : (known left : Option (List ℕ)) (number n : ℕ) (old : World) (at : Moment) (new : World) (before after : Option (List ℕ)) → IsSoFar known left number n old at new before after
+    → IsCut known old before after
+cut_so_far known left number n old at new before after past =
+    let (behind, text) = rest_unread known left past.texts n past.read in
+    record { front = past.texts; behind = behind; text = text; new = new; run = (past.out, past.run, past.printed) }
+
+pub unread_so_far : (why : ScriptFault) (known : Option (List ℕ)) (old : World) (before after : Option (List ℕ)) → IsReadFault why → IsCut known old before after
+    → IsFault known old before after why
+unread_so_far why known old before after (inl reader) cut = subst (IsFault known old before after) (sym reader) cut
+unread_so_far why known old before after (inr memory) cut = subst (IsFault known old before after) (sym memory) tt
+
+-- the start was not printed
+pub fails_at_start : (why : ScriptFault) (known : Option (List ℕ)) (old : World) (before after : Option (List ℕ)) → IsOutputFault why → IsFault known old before after why
+fails_at_start why known old before after (inl writer) = subst (IsFault known old before after) (sym writer) tt
+fails_at_start why known old before after (inr memory) = subst (IsFault known old before after) (sym memory) tt

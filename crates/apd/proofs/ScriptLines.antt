@@ -1,9 +1,10 @@
 -- The first line of a text, and the lines behind it.
-use Rattle.std.proofs.Common.{◌≡◌, ◌≢◌, ℕ, suc, ◌+◌, ◌-◌, true, false, cond, Bool, List, [], ◌∷◌, length, take, drop, refl, sym, ap, ◌∙◌, arith}
+use Rattle.std.proofs.Common.{◌≡◌, ◌≢◌, ℕ, suc, ◌+◌, ◌-◌, true, false, cond, Bool, List, [], ◌∷◌, ◌++◌, length, take, drop, ◌⊎◌, inl, inr, refl, sym, ap, ◌∙◌, arith}
 use Rattle.std.specs.Prelude.{◌==◌, nat_eq, codes}
 use Rattle.std.specs.List.{onto_first, ends_with}
 use lib.Pointwise.{pointwise}
 use Rattle.std.specs.Io.BufRead.{take_through, drop_through}
+use Rattle.std.proofs.lemmas.List.{append-nil}
 use Rattle.std.proofs.lemmas.Bool.{eqb-true, eq-eqb, ne_eqb}
 use Rattle.apd_ctrl.specs.Reading.{line_of}
 use Rattle.apd.specs.Lines.{lines}
@@ -52,9 +53,31 @@ unfolding lines
 onto_nothing b other = ap (λ line. line ∷ []) (sym (single b other))
 
 -- a text that is not empty begins with a line
-pub first_line : (b : ℕ) (bs : List ℕ) → lines (b ∷ bs) ≡ line_of (take_through 10 (b ∷ bs)) ∷ lines (drop_through 10 (b ∷ bs))
+first_line : (b : ℕ) (bs : List ℕ) → lines (b ∷ bs) ≡ line_of (take_through 10 (b ∷ bs)) ∷ lines (drop_through 10 (b ∷ bs))
 first_line b [] = by_newline b [] (onto_nothing b)
 first_line b (c ∷ cs) = by_newline b (c ∷ cs) (λ _. onto_text b c cs (first_line c cs))
+
+-- what is read ends at a newline, whatever stands behind the text, or it is all of it
+ends_or_all : (bs more : List ℕ) → ((take_through 10 (bs ++ more) ≡ take_through 10 bs) × (drop_through 10 (bs ++ more) ≡ drop_through 10 bs ++ more)) ⊎ (drop_through 10 bs ≡ [])
+ends_or_all [] more = inr refl
+ends_or_all (b ∷ bs) more = elim (b == 10) as (λ t. ((cond t (b ∷ []) (b ∷ take_through 10 (bs ++ more)) ≡ cond t (b ∷ []) (b ∷ take_through 10 bs)) × (cond t (bs ++ more) (drop_through 10 (bs ++ more)) ≡ cond t bs (drop_through 10 bs) ++ more)) ⊎ (cond t bs (drop_through 10 bs) ≡ [])) [
+  | true ↦ inl (refl, refl)
+  | false ↦ elim (ends_or_all bs more) [
+    | inl cut ↦ inl (ap (λ t. b ∷ t) cut.0, cut.1)
+    | inr all ↦ inr all
+  ]
+]
+
+-- the line that is read of a text is the first one of that with more behind it, where there is none once all is read
+pub line_read : (b : ℕ) (bs more : List ℕ) → (drop_through 10 (b ∷ bs) ≡ [] → more ≡ []) → lines ((b ∷ bs) ++ more) ≡ line_of (take_through 10 (b ∷ bs)) ∷ lines (drop_through 10 (b ∷ bs) ++ more)
+line_read b bs more none = elim (ends_or_all (b ∷ bs) more) [
+  | inl cut ↦
+      first_line b (bs ++ more) ∙ ap (λ t. line_of t ∷ lines (drop_through 10 (b ∷ bs ++ more))) cut.0 ∙ ap (λ t. line_of (take_through 10 (b ∷ bs)) ∷ lines t) cut.1
+  | inr all ↦
+      let nothing = none all in
+      ap (λ t. lines ((b ∷ bs) ++ t)) nothing ∙ ap lines (append-nil (b ∷ bs)) ∙ first_line b bs
+      ∙ ap (λ t. line_of (take_through 10 (b ∷ bs)) ∷ lines t) (sym (ap (λ t. drop_through 10 (b ∷ bs) ++ t) nothing ∙ append-nil (drop_through 10 (b ∷ bs))))
+]
 
 -- what is read and what is left are the whole
 pub whole_length : (bs : List ℕ) → length (take_through 10 bs) + length (drop_through 10 bs) ≡ length bs

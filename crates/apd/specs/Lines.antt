@@ -2,7 +2,6 @@
 use Rattle.std.specs.Prelude.{◌≡◌, ℕ, ◌≤◌, ◌<◌, ◌^◌, ◌⊎◌, Bool, not, ◌==◌, List, [], ◌∷◌, ◌++◌, length, drop, filter, codes, None, Ok, IsTrue, if◌then◌else◌, Option, IfSome}
 use Rattle.std.specs.List.{before_first, onto_first}
 use Rattle.std.specs.Io.BufRead.{take_through, DropsThrough}
-use Rattle.std.specs.Io.KnownBytes.{IsAtEnd}
 use Rattle.std.specs.Str.{all_ascii_digits}
 use Rattle.std.specs.Str.Parse.{digits_value}
 use Rattle.hex.specs.Hex.{decode_of}
@@ -18,11 +17,10 @@ unfoldable pub lines : List ℕ → List (List ℕ)
 lines [] = []
 lines (b ∷ bs) = if b == 10 then [] ∷ lines bs else onto_first b (lines bs)
 
--- the bytes up to a newline, and with it, are read of what is left, or all of it; none are where nothing is left
+-- the bytes up to a newline, and with it, are read of what is left, or all of it
 pub record IsRead (left next : Option (List ℕ)) (bytes : List ℕ) : Type 0 where
   pub taken : IfSome left (λ text. bytes ≡ take_through 10 text)
   pub dropped : DropsThrough left next 10
-  pub end : length bytes ≡ 0 → IsAtEnd left
 
 -- 1 to 20 decimal digits that write a number below 2^64
 pub record IsMoment (m : Moment) (text : List ℕ) : Type 0 where

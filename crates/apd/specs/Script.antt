@@ -1,5 +1,5 @@
 -- What running a script does to its world, and what it prints.
-use Rattle.std.specs.Prelude.{◌≡◌, ◌≢◌, ℕ, ◌+◌, ◌≤◌, ◌⊎◌, true, false, List, [], ◌∷◌, ◌++◌, length, take, codes, Option, None, Some, Result, Ok, Err, IfSome}
+use Rattle.std.specs.Prelude.{◌≡◌, ◌≢◌, ℕ, ◌+◌, ◌≤◌, ◌⊎◌, true, false, List, [], ◌∷◌, ◌++◌, length, codes, Option, None, Some, Result, Ok, Err, IfSome}
 use Rattle.std.specs.List.{AllByRecursion, flat_map}
 use Rattle.std.specs.Io.KnownBytes.{Appends}
 use Rattle.apd_base.specs.declared.limits.TheConstants.{MAX_SCRIPT}
@@ -84,8 +84,8 @@ pub record IsReceived (m : Moment) (interface frame : List ℕ) (old new : World
   pub configured : conf_named old.confs interface ≡ Some conf
   pub requested : IsRequested (told_text true old.confs) (Some (unless_ignored conf.bssid (outcome frame conf.bssid))) m old new out
 
--- the line of a number is run at a moment, and then it is a later one, if the line says so: from one world to another, and this
--- is printed
+-- the line of a number is run at a moment, and from then on it is another one, if the line says so: from one world to another,
+-- and this is printed
 abbrev pub IsRun : ℕ → Line → Moment → World → Moment → World → List ℕ → Type 0
 IsRun n Empty m old later new out = (later ≡ m) × (new ≡ old) × (out ≡ [])
 IsRun n Hand m old later new out = (later ≡ m) × AreMade (told_text true old.confs) (hand_steps old.confs) old new out
@@ -133,40 +133,49 @@ pub record Ends (known : Option (List ℕ)) (old new : World) (before after : Op
   pub whole : IfSome known (λ script. (length script ≤ MAX_SCRIPT) × (lines script ≡ texts))
   pub run : Prints before after (IsScriptRun texts old new)
 
+-- the first lines of a script are run, and it is given up before the next one
+pub record IsCut (known : Option (List ℕ)) (old : World) (before after : Option (List ℕ)) : Type 0 where
+  pub front : List (List ℕ)
+  pub behind : List (List ℕ)
+  pub text : IfSome known (λ script. lines script ≡ front ++ behind)
+  pub new : World
+  pub run : Prints before after (IsScriptRun front old new)
+
 -- all lines in front of line n are run, and this one is bad
 pub record IsBadAt (n : ℕ) (known : Option (List ℕ)) (old : World) (before after : Option (List ℕ)) : Type 0 where
   pub front : List (List ℕ)
   pub bad : List ℕ
   pub behind : List (List ℕ)
-  pub text : IfSome known (λ script. lines (take (MAX_SCRIPT + 1) script) ≡ front ++ bad ∷ behind)
+  pub text : IfSome known (λ script. lines script ≡ front ++ bad ∷ behind)
   pub number : n ≡ length front + 1
   pub new : World
   pub run : Prints before after (IsScriptRun front old new)
-  pub none : IsBad new.confs bad
+  pub is_bad : IsBad new.confs bad
 
 -- why a script did not end
 abbrev pub IsFault : Option (List ℕ) → World → Option (List ℕ) → Option (List ℕ) → ScriptFault → Type 0
 IsFault known old before after (fault.BadLine n) = IsBadAt n known old before after
-IsFault known old before after fault.Reader = Unit {0}
+IsFault known old before after fault.Reader = IsCut known old before after
 IsFault known old before after fault.Writer = Unit {0}
 IsFault known old before after fault.NoMemory = Unit {0}
 
--- why something was not printed: the writer failed, or memory ran out
+-- why something was not done or not printed: the writer failed, or memory ran out
 abbrev pub IsOutputFault : ScriptFault → Type 0
 IsOutputFault why = (why ≡ fault.Writer) ⊎ (why ≡ fault.NoMemory)
 
--- why nothing was read: the reader failed, or memory ran out
+-- why no line was read: the reader failed, or memory ran out
 abbrev pub IsReadFault : ScriptFault → Type 0
 IsReadFault why = (why ≡ fault.Reader) ⊎ (why ≡ fault.NoMemory)
 
--- why a frame was not received: its interface is not configured, and nothing was printed; or something could not be printed
+-- why a frame was not received: its interface is not configured, and nothing was printed; or the writer failed, or memory
+-- ran out
 abbrev pub IsReceptionFault : ℕ → List ℕ → List Conf → Option (List ℕ) → Option (List ℕ) → ScriptFault → Type 0
 IsReceptionFault n interface confs before after (fault.BadLine k) = (k ≡ n) × (conf_named confs interface ≡ None) × (after ≡ before)
 IsReceptionFault n interface confs before after fault.Reader = ⊥
 IsReceptionFault n interface confs before after fault.Writer = Unit {0}
 IsReceptionFault n interface confs before after fault.NoMemory = Unit {0}
 
--- why a line was not run: it is bad, and nothing was printed; or something could not be printed
+-- why a line was not run: it is bad, and nothing was printed; or the writer failed, or memory ran out
 abbrev pub IsLineFault : ℕ → List ℕ → List Conf → Option (List ℕ) → Option (List ℕ) → ScriptFault → Type 0
 IsLineFault n text confs before after (fault.BadLine k) = (k ≡ n) × IsBad confs text × (after ≡ before)
 IsLineFault n text confs before after fault.Reader = ⊥

@@ -1,5 +1,4 @@
-use crate::plain::World;
-use crate::script::run_script;
+use crate::tests::printed;
 use apd_base::{Addr, Bssid};
 use apd_conf::{Conf, Confs, HwMode, IgnoreBroadcastSsid, InterfaceName};
 use std::alloc::Global;
@@ -129,12 +128,11 @@ fn prints(
 ) -> Result<(), Fail> {
     let alloc = rt.alloc();
     let lines = spelled(alloc, script)?;
-    let mut out = Vec::new(alloc);
-    let ended = run_script(alloc, World::new(alloc, confs), lines.as_slice(), &mut out);
-    assert!(rt; ended.is_ok(), "{about}");
-    let printed = spelled(alloc, want)?;
-    let printed = unbroken(alloc, printed.as_slice())?;
-    assert_eq!(rt; out.as_slice(), printed.as_slice(), "{about}");
+    let (fault, out) = printed(alloc, confs, lines.as_slice())?;
+    assert_eq!(rt; fault, None, "{about}");
+    let wanted = spelled(alloc, want)?;
+    let wanted = unbroken(alloc, wanted.as_slice())?;
+    assert_eq!(rt; out.as_slice(), wanted.as_slice(), "{about}");
     Ok(())
 }
 

@@ -1,5 +1,5 @@
 use crate::plain::{Accepted, Input, QuietReason, Step, Told, World, drive};
-use crate::script::run_script;
+use crate::tests::printed;
 use apd_base::{AclMode, Addr, Bssid, Moment};
 use apd_conf::{AddressList, Conf, Confs, InterfaceName, Ssid, read_list};
 use apd_ctrl::Query;
@@ -53,14 +53,13 @@ fn prints(
     for part in script {
         lines.extend_from_slice(part.as_bytes())?;
     }
-    let mut printed = Vec::new(alloc);
+    let mut wanted = Vec::new(alloc);
     for part in want {
-        printed.extend_from_slice(part.as_bytes())?;
+        wanted.extend_from_slice(part.as_bytes())?;
     }
-    let mut out = Vec::new(alloc);
-    let ended = run_script(alloc, World::new(alloc, confs), lines.as_slice(), &mut out);
-    assert!(rt; ended.is_ok(), "{about}");
-    assert_eq!(rt; out.as_slice(), printed.as_slice(), "{about}");
+    let (fault, out) = printed(alloc, confs, lines.as_slice())?;
+    assert_eq!(rt; fault, None, "{about}");
+    assert_eq!(rt; out.as_slice(), wanted.as_slice(), "{about}");
     Ok(())
 }
 

@@ -1,7 +1,6 @@
 use crate::ProgramFault;
 use crate::configuration_files::{ConfigurationFault, read_configurations};
-use crate::plain::World;
-use crate::script::run_script;
+use crate::tests::printed;
 use apd_base::Addr;
 use apd_conf::{AddressList, ConfFault, Confs, ConfsFault, ListFault, read_conf, read_list};
 use std::alloc::Global;
@@ -13,22 +12,12 @@ use std::test::Fail;
 const RADIO: &str = "interface=wlan0\nbssid=02:00:00:00:00:01\nssid=net\n";
 
 /// An authentication request of the station 02:00:00:00:00:aa at wlan0.
-fn request() -> &'static str {
-    "rx wlan0 b00000000200000000010200000000aa0200000000011000000001000000\nflush\n"
+fn request() -> &'static [u8] {
+    b"rx wlan0 b00000000200000000010200000000aa0200000000011000000001000000\nflush\n"
 }
 
 /// Where the tests' files stand.
 const FOLDER: &str = "configuration_files_of_a_test";
-
-/// What a script prints on a daemon of these configurations.
-fn printed(alloc: Global, confs: Confs, script: &str) -> Result<Vec<u8>, Fail> {
-    let mut out = Vec::new(alloc);
-    let world = World::new(alloc, confs);
-    if let Err(fault) = run_script(alloc, world, script.as_bytes(), &mut out) {
-        return Err(Fail::from(format!(in alloc; "{fault}")?));
-    }
-    Ok(out)
-}
 
 const STATION: &str = "02:00:00:00:00:aa";
 
@@ -109,7 +98,8 @@ fn the_policy_answers_authentications(rt: HostRuntime) -> Result<(), Fail> {
         conf.set_lists(accept, deny);
         let mut list = Vec::new(alloc);
         list.push(conf)?;
-        let out = printed(alloc, Confs::new(list)?, request())?;
+        let (fault, out) = printed(alloc, Confs::new(list)?, request())?;
+        assert_eq!(rt; fault, None, "{lines}");
         let want = format!(in alloc;
             "entry 2\nwlan0 tx b00000000200000000aa0200000000010200000000010000{body}\n"
         )?;
@@ -119,8 +109,8 @@ fn the_policy_answers_authentications(rt: HostRuntime) -> Result<(), Fail> {
 }
 
 /// An authentication request of the station at each of two radios.
-fn requests_to_both() -> &'static str {
-    "rx wlan0 b00000000200000000010200000000aa0200000000011000000001000000\nrx wlan1 b00000000200000000020200000000aa0200000000021000000001000000\nflush\n"
+fn requests_to_both() -> &'static [u8] {
+    b"rx wlan0 b00000000200000000010200000000aa0200000000011000000001000000\nrx wlan1 b00000000200000000020200000000aa0200000000021000000001000000\nflush\n"
 }
 
 /// The first radio denies the station, and the second lets it in.
@@ -139,7 +129,8 @@ fn each_radio_starts_with_its_own_lists(rt: HostRuntime) -> Result<(), Fail> {
         conf.set_lists(AddressList::new(alloc), deny);
         list.push(conf)?;
     }
-    let out = printed(alloc, Confs::new(list)?, requests_to_both())?;
+    let (fault, out) = printed(alloc, Confs::new(list)?, requests_to_both())?;
+    assert_eq!(rt; fault, None);
     assert_eq!(rt; out.as_slice(), answers_of_both());
     Ok(())
 }

@@ -5,20 +5,24 @@ use apd_base::{Addr, Aid, Bssid};
 use apd_conf::{Conf, Confs, InterfaceName};
 use apd_mlme::Out;
 use std::alloc::Global;
-use std::io::{self, BufReader, Read, Write};
+use std::io::{self, BufRead, BufReader, Read, Write};
 use std::test::Fail;
 
-/// The daemon with the built-in configuration: wlan0 at 02:00:00:00:00:01.
-fn world(alloc: Global) -> Result<World, Fail> {
+/// The built-in configuration alone: wlan0 at 02:00:00:00:00:01.
+fn built_in(alloc: Global) -> Result<Confs, Fail> {
     let mut list = Vec::new(alloc);
     list.push(Conf::built_in(alloc)?)?;
-    Ok(World::new(alloc, Confs::new(list)?))
+    Ok(Confs::new(list)?)
 }
 
-/// Runs a script, and gives how it ended and what it printed.
-fn printed(alloc: Global, script: &[u8]) -> Result<(Option<ScriptFault>, Vec<u8>), Fail> {
+/// Runs a script on a daemon of these configurations, and gives how it ended and what it printed.
+pub fn printed(
+    alloc: Global,
+    confs: Confs,
+    script: &[u8],
+) -> Result<(Option<ScriptFault>, Vec<u8>), Fail> {
     let mut out = Vec::new(alloc);
-    let fault = run_script(alloc, world(alloc)?, script, &mut out).err();
+    let fault = run_script(alloc, World::new(alloc, confs), script, &mut out).err();
     Ok((fault, out))
 }
 
@@ -51,7 +55,7 @@ fn an_authentication_is_answered_once_it_is_flushed(rt: HostRuntime) -> Result<(
             b"quiet short\nquiet short\nquiet short\n",
         ),
     ] {
-        let (fault, out) = printed(rt.alloc(), script)?;
+        let (fault, out) = printed(rt.alloc(), built_in(rt.alloc())?, script)?;
         assert_eq!(rt; fault, None);
         assert_eq!(rt; out.as_slice(), want);
     }
@@ -83,10 +87,10 @@ fn the_first_bad_line_ends_a_script(rt: HostRuntime) -> Result<(), Fail> {
             4,
         ),
     ] {
-        let (fault, _) = printed(rt.alloc(), script)?;
+        let (fault, _) = printed(rt.alloc(), built_in(rt.alloc())?, script)?;
         assert_eq!(rt; fault, Some(ScriptFault::BadLine(line)));
     }
-    let (_, out) = printed(rt.alloc(), b"rx wlan0\nx\n")?;
+    let (_, out) = printed(rt.alloc(), built_in(rt.alloc())?, b"rx wlan0\nx\n")?;
     assert_eq!(rt; out.as_slice(), b"quiet short\n".as_slice());
     Ok(())
 }
@@ -103,7 +107,7 @@ fn frames_of_2305_bytes_are_too_long(rt: HostRuntime) -> Result<(), Fail> {
         for _ in 24..bytes {
             script.extend_from_slice(b"00")?;
         }
-        let (fault, out) = printed(alloc, script.as_slice())?;
+        let (fault, out) = printed(alloc, built_in(alloc)?, script.as_slice())?;
         assert_eq!(rt; fault, None);
         assert_eq!(rt; out.as_slice(), want);
     }
@@ -148,15 +152,26 @@ impl Read for Broken {
     }
 }
 
+/// How a script ends on the built-in configuration, where the writer takes a number of lines.
+fn fault_of<R: BufRead + Drop>(
+    alloc: Global,
+    reader: R,
+    lines: usize,
+) -> Result<Option<ScriptFault>, Fail> {
+    let world = World::new(alloc, built_in(alloc)?);
+    Ok(run_script(alloc, world, reader, &mut Narrow(lines)).err())
+}
+
 #[test]
 fn faults_of_the_reader_and_the_writer_end_a_script(rt: HostRuntime) -> Result<(), Fail> {
     let alloc = rt.alloc();
     let script = b"rx wlan0\nrx wlan0\nflush\n";
-    let fault = run_script(alloc, world(alloc)?, script.as_slice(), &mut Narrow(1)).err();
-    assert_eq!(rt; fault, Some(ScriptFault::Writer));
+    assert_eq!(rt;
+        fault_of(alloc, script.as_slice(), 1)?,
+        Some(ScriptFault::Writer)
+    );
     let reader = BufReader::new(alloc, Broken(false))?;
-    let fault = run_script(alloc, world(alloc)?, reader, &mut Narrow(0)).err();
-    assert_eq!(rt; fault, Some(ScriptFault::Reader));
+    assert_eq!(rt; fault_of(alloc, reader, 0)?, Some(ScriptFault::Reader));
     Ok(())
 }
 
@@ -168,10 +183,7 @@ fn a_script_has_at_most_16_mib(rt: HostRuntime) -> Result<(), Fail> {
         (MAX_SCRIPT as u64 + 1, ScriptFault::Reader),
     ] {
         let reader = BufReader::new(alloc, io::repeat(b'x').take(bytes))?;
-        assert_eq!(rt;
-            run_script(alloc, world(alloc)?, reader, &mut Narrow(0)).err(),
-            Some(want)
-        );
+        assert_eq!(rt; fault_of(alloc, reader, 0)?, Some(want));
     }
     Ok(())
 }
@@ -185,11 +197,10 @@ fn radios_are_handed_their_own_in_the_order_of_configuration(rt: HostRuntime) ->
     let mut list = Vec::new(alloc);
     list.push(Conf::built_in(alloc)?)?;
     list.push(second)?;
-    let world = World::new(alloc, Confs::new(list)?);
     let script =
         b"rx wlan1 b00000000200000000000200000000aa0200000000001000000001000000\nrx wlan0 b00000000200000000010200000000aa0200000000011000000001000000\nflush\n";
-    let mut out = Vec::new(alloc);
-    assert!(rt; run_script(alloc, world, script.as_slice(), &mut out).is_ok());
+    let (fault, out) = printed(alloc, Confs::new(list)?, script.as_slice())?;
+    assert_eq!(rt; fault, None);
     let want =
         b"entry 3\nentry 4\nwlan0 tx b00000000200000000aa0200000000010200000000010000000002000000\nwlan1 tx b00000000200000000aa0200000000000200000000000000000002000000\n";
     assert_eq!(rt; out.as_slice(), want.as_slice());

@@ -33,7 +33,7 @@ pub record IsForNetwork (conf : Conf) (request : AssociationRequest) : Type 0 wh
   pub named : first_with SSID request.elements ≡ Some conf.ssid
   pub rated : IsSome (first_with SUPPORTED_RATES request.elements)
 
--- what a status says of the request; none is told for two reasons
+-- what a status code (IEEE Std 802.11-2016, 9.4.1.9) says of the request (11.3.5.3 and 11.3.5.5); none is told for two reasons
 abbrev pub IsDeserved : Conf → AssociationRequest → Status → Type 0
 IsDeserved conf request RefusedReasonUnspecified = ¬ (IsForNetwork conf request)
 -- the station would listen too seldom

@@ -1,5 +1,5 @@
 use Rattle.std.proofs.Common.{◌+◌, drop, sym, ap, subst, ◌∙◌}
-use Rattle.apd_record.specs.Meaning.{meaning, meaning_of}
+use Rattle.apd_record.specs.Meaning.{meaning_of}
 use Rattle.apd_table.specs.Sound.{StaySound}
 use Rattle.apd.proofs.Changing.{next_sound, next_stays, next_means, none_left}
 use Rattle.apd.proofs.plain.change_all.Goals as goal

@@ -2,7 +2,7 @@ use Rattle.std.proofs.Common.{◌≡◌, ◌-◌, ◌^◌, false, eqb, sym, ap, 
 use Rattle.std.proofs.lemmas.Bool.{ne_eqb}
 use Rattle.apd_mlme.specs.Happening.{happening}
 use Rattle.apd_mlme.specs.Run.{AreFit}
-use Rattle.apd.specs.World.{entered_by, happened, happening_of, with_sender, entered_world}
+use Rattle.apd.specs.World.{entered_by, happened, with_sender}
 use Rattle.apd.proofs.Accepting.{happened_answer, decided_world, quietly_decided}
 use Rattle.apd.proofs.plain.World.accept.Goals as goal
 
