@@ -133,7 +133,7 @@ pub record Ends (known : Option (List ℕ)) (old new : World) (before after : Op
   pub whole : IfSome known (λ script. (length script ≤ MAX_SCRIPT) × (lines script ≡ texts))
   pub run : Prints before after (IsScriptRun texts old new)
 
--- the first lines of a script are run, and it is given up before the next one
+-- some lines from the front of a script are run, and no others
 pub record IsCut (known : Option (List ℕ)) (old : World) (before after : Option (List ℕ)) : Type 0 where
   pub front : List (List ℕ)
   pub behind : List (List ℕ)

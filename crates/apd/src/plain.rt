@@ -482,8 +482,8 @@ impl World {
     ghost use Rattle.apd.specs.Start.{IsStart};
 
     /// Configures each interface with its lists at a moment, settles, and hands out to each radio, in the
-    /// order of the configurations. Answers what each of these steps told. Its own want of memory comes
-    /// before the first step.
+    /// order of the configurations, and then to control. Answers what each of these steps told. Its own want
+    /// of memory comes before the first step.
     pub fn start(&mut self, alloc: Global, moment: Moment) -> Result<Vec<Told>, AllocError>
         ensures ok { IfOk result (λ tolds. IsStart moment tolds.items self.old self.new) }
         ensures err { OnErr result (self.new ≡ self.old) }

@@ -114,14 +114,14 @@ fn frames_of_2305_bytes_are_too_long(rt: HostRuntime) -> Result<(), Fail> {
     Ok(())
 }
 
-/// A writer that takes a number of lines, and then fails.
+/// A writer that takes a number of lines, and then fails in this way.
 #[derive(Drop)]
-struct Narrow(usize);
+struct Narrow(usize, io::ErrorKind);
 
 impl Write for Narrow {
     fn write(&mut self, buf: &[u8]) -> io::Result<usize> {
         if self.0 == 0 {
-            return Err(io::Error::from(io::ErrorKind::BrokenPipe));
+            return Err(io::Error::from(self.1));
         }
         self.0 -= 1;
         Ok(buf.len())
@@ -132,14 +132,14 @@ impl Write for Narrow {
     }
 }
 
-/// A reader that gives a line and then fails.
+/// A reader that gives a line and then, which is `true` from then on, fails in this way.
 #[derive(Drop)]
-struct Broken(bool);
+struct Broken(bool, io::ErrorKind);
 
 impl Read for Broken {
     fn read(&mut self, buf: &mut [u8]) -> io::Result<usize> {
         if self.0 {
-            return Err(io::Error::from(io::ErrorKind::BrokenPipe));
+            return Err(io::Error::from(self.1));
         }
         self.0 = true;
         match buf.first_mut() {
@@ -152,26 +152,38 @@ impl Read for Broken {
     }
 }
 
-/// How a script ends on the built-in configuration, where the writer takes a number of lines.
+/// How a script ends on the built-in configuration.
 fn fault_of<R: BufRead + Drop>(
     alloc: Global,
     reader: R,
-    lines: usize,
+    mut writer: Narrow,
 ) -> Result<Option<ScriptFault>, Fail> {
     let world = World::new(alloc, built_in(alloc)?);
-    Ok(run_script(alloc, world, reader, &mut Narrow(lines)).err())
+    Ok(run_script(alloc, world, reader, &mut writer).err())
 }
 
 #[test]
 fn faults_of_the_reader_and_the_writer_end_a_script(rt: HostRuntime) -> Result<(), Fail> {
     let alloc = rt.alloc();
     let script = b"rx wlan0\nrx wlan0\nflush\n";
-    assert_eq!(rt;
-        fault_of(alloc, script.as_slice(), 1)?,
-        Some(ScriptFault::Writer)
-    );
-    let reader = BufReader::new(alloc, Broken(false))?;
-    assert_eq!(rt; fault_of(alloc, reader, 0)?, Some(ScriptFault::Reader));
+    for (kind, reader_fault, writer_fault) in [
+        (
+            io::ErrorKind::BrokenPipe,
+            ScriptFault::Reader,
+            ScriptFault::Writer,
+        ),
+        (
+            io::ErrorKind::OutOfMemory,
+            ScriptFault::NoMemory,
+            ScriptFault::NoMemory,
+        ),
+    ] {
+        let reader = BufReader::new(alloc, Broken(false, kind))?;
+        let fault = fault_of(alloc, reader, Narrow(0, kind))?;
+        assert_eq!(rt; fault, Some(reader_fault));
+        let fault = fault_of(alloc, script.as_slice(), Narrow(1, kind))?;
+        assert_eq!(rt; fault, Some(writer_fault));
+    }
     Ok(())
 }
 
@@ -181,9 +193,12 @@ fn a_script_has_at_most_16_mib(rt: HostRuntime) -> Result<(), Fail> {
     for (bytes, want) in [
         (MAX_SCRIPT as u64, ScriptFault::BadLine(1)),
         (MAX_SCRIPT as u64 + 1, ScriptFault::Reader),
+        // No more is read of a line without an end.
+        (u64::MAX, ScriptFault::Reader),
     ] {
         let reader = BufReader::new(alloc, io::repeat(b'x').take(bytes))?;
-        assert_eq!(rt; fault_of(alloc, reader, 0)?, Some(want));
+        let fault = fault_of(alloc, reader, Narrow(0, io::ErrorKind::BrokenPipe))?;
+        assert_eq!(rt; fault, Some(want));
     }
     Ok(())
 }

@@ -105,7 +105,8 @@ installation s b a aid = if is_some (aid_at s b a) then [] else (Radio b, Instal
 abbrev pub row_of : AssociationRequest → Aid → Station
 row_of request aid = Associated (record { aid = aid; capability = request.capability; listen_interval = request.listen_interval })
 
--- a request that is accepted: the station is associated here, with this identifier and with what it asked, and nowhere else
+-- a request that is accepted: the station is associated here, with this identifier and with what it asked (11.3.5.3 and
+-- 11.3.5.5), and nowhere else (4.5.3.3)
 abbrev pub associated : State → List Conf → Conf → Bssid → Kind → AssociationRequest → Aid → Verdict
 associated s confs conf b kind request aid =
     let a = request.sender in
@@ -123,7 +124,7 @@ accepted s confs conf b kind request (Some aid) = associated s confs conf b kind
 
 -- By the station's row at the BSSID: it is a class 2 frame, so a station without one is told that it is not authenticated
 -- (11.3.3).
--- A refused station stays as it is.
+-- A refused station stays as it is (own).
 abbrev pub association_of : State → List Conf → Conf → Bssid → Kind → AssociationRequest → Option Station → Verdict
 association_of s confs conf b kind request None = only_sent s (deauthentication b request.sender INVALID_CLASS2_FRAME)
 association_of s confs conf b kind request (Some row) =

@@ -13,8 +13,8 @@ use Rattle.apd_mlme.specs.Leaving.{disassociation, deauthentication, removal, pu
 use Rattle.apd_mlme.specs.Verdict.{Verdict, nothing, only_sent}
 
 -- Disassociation, a class 2 frame: an associated station is authenticated from then on, and its driver lets it go
--- (11.3.5.9); it is not told, since it asked for this itself. One without a row is told that it is not authenticated
--- (11.3.3).
+-- (11.3.5.9); it is not told, since it asked for this itself. One that is only authenticated stays so (own), and one
+-- without a row is told that it is not authenticated (11.3.3).
 abbrev pub disassociation_of : State → Bssid → Addr → Option Station → Verdict
 disassociation_of s b a (Some (Associated x)) = put_back s b a ((Radio b, Remove a) ∷ [])
 disassociation_of s b a (Some Authenticated) = nothing s
