@@ -1,6 +1,7 @@
 //! What ends a script before its last line.
-ghost use Rattle.std.specs.Prelude.{◌≡◌};
-ghost use Rattle.apd.specs.declared.script.fault.ScriptFault.TheVariants.{NoMemory};
+ghost use Rattle.std.specs.IoError.{error_kind};
+ghost use Rattle.std.specs.Prelude.{◌≡◌, ◌≢◌};
+ghost use Rattle.apd.specs.declared.script.fault.ScriptFault.TheVariants.{NoMemory, Reader, Writer};
 ghost use Rattle.apd.specs.Script.{IsOutputFault, IsReadFault};
 
 use std::alloc::AllocError;
@@ -33,7 +34,9 @@ impl From<AllocError> for ScriptFault {
 
 /// What a failed read means.
 pub fn reader_fault(error: io::Error) -> ScriptFault
-    ensures { IsReadFault result }
+    ensures memory { error_kind error ≡ ErrorKind.OutOfMemory → result ≡ NoMemory }
+    ensures other { error_kind error ≢ ErrorKind.OutOfMemory → result ≡ Reader }
+    ensures one { IsReadFault result }
 {
     match error.kind() {
         ErrorKind::OutOfMemory => ScriptFault::NoMemory,
@@ -43,7 +46,9 @@ pub fn reader_fault(error: io::Error) -> ScriptFault
 
 /// What a failed write means.
 pub fn writer_fault(error: io::Error) -> ScriptFault
-    ensures { IsOutputFault result }
+    ensures memory { error_kind error ≡ ErrorKind.OutOfMemory → result ≡ NoMemory }
+    ensures other { error_kind error ≢ ErrorKind.OutOfMemory → result ≡ Writer }
+    ensures one { IsOutputFault result }
 {
     match error.kind() {
         ErrorKind::OutOfMemory => ScriptFault::NoMemory,
