@@ -132,7 +132,7 @@ impl Write for Narrow {
     }
 }
 
-/// A reader that gives a line and then, which is `true` from then on, fails in this way.
+/// A reader that fails in this way once it gave a line, and whether it gave it.
 #[derive(Drop)]
 struct Broken(bool, io::ErrorKind);
 
