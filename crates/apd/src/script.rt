@@ -209,8 +209,8 @@ impl Run {
 
 /// Starts a world at moment 0, runs a script on it, line by line as it comes, and hands the world back,
 /// which steps led to from the started one. It reads at most 16,777,217 bytes, and a script that has so
-/// many is refused as `Reader`. A fault ends the script and gives the world up; what was told before is
-/// printed, but for what the writer or memory failed at.
+/// many is refused as `Reader`. A fault ends the script and gives the world up; what was printed by then,
+/// for a bad line all that the lines in front of it told, stays printed.
 pub fn run_script<R: BufRead + Drop, W: Write>(
     alloc: Global,
     world: World,

@@ -36,6 +36,10 @@ fn an_authentication_is_answered_once_it_is_flushed(rt: HostRuntime) -> Result<(
         ),
         // Nothing is handed out before.
         (
+            b"rx wlan0 b000 0000 020000000001 0200000000AA 020000000001 1000 0000 0100 00 0 0\n",
+            b"entry 2\n",
+        ),
+        (
             b"rx wlan0 b00000000200000000010200000000aa0200000000011000000001000000\nhand\n",
             b"entry 2\n",
         ),
@@ -116,14 +120,17 @@ fn frames_of_2305_bytes_are_too_long(rt: HostRuntime) -> Result<(), Fail> {
 
 /// A writer that takes a number of lines, and then fails in this way.
 #[derive(Drop)]
-struct Narrow(usize, io::ErrorKind);
+struct Narrow {
+    left: usize,
+    kind: io::ErrorKind,
+}
 
 impl Write for Narrow {
     fn write(&mut self, buf: &[u8]) -> io::Result<usize> {
-        if self.0 == 0 {
-            return Err(io::Error::from(self.1));
+        if self.left == 0 {
+            return Err(io::Error::from(self.kind));
         }
-        self.0 -= 1;
+        self.left -= 1;
         Ok(buf.len())
     }
 
@@ -132,16 +139,27 @@ impl Write for Narrow {
     }
 }
 
-/// A reader that fails in this way once it gave a line, and whether it gave it.
+/// A writer that takes nothing.
+fn closed() -> Narrow {
+    Narrow {
+        left: 0,
+        kind: io::ErrorKind::BrokenPipe,
+    }
+}
+
+/// A reader that gives a number of empty lines, and then fails in this way.
 #[derive(Drop)]
-struct Broken(bool, io::ErrorKind);
+struct Broken {
+    left: usize,
+    kind: io::ErrorKind,
+}
 
 impl Read for Broken {
     fn read(&mut self, buf: &mut [u8]) -> io::Result<usize> {
-        if self.0 {
-            return Err(io::Error::from(self.1));
+        if self.left == 0 {
+            return Err(io::Error::from(self.kind));
         }
-        self.0 = true;
+        self.left -= 1;
         match buf.first_mut() {
             Some(byte) => {
                 *byte = b'\n';
@@ -178,10 +196,10 @@ fn faults_of_the_reader_and_the_writer_end_a_script(rt: HostRuntime) -> Result<(
             ScriptFault::NoMemory,
         ),
     ] {
-        let reader = BufReader::new(alloc, Broken(false, kind))?;
-        let fault = fault_of(alloc, reader, Narrow(0, kind))?;
+        let reader = BufReader::new(alloc, Broken { left: 1, kind })?;
+        let fault = fault_of(alloc, reader, Narrow { left: 0, kind })?;
         assert_eq!(rt; fault, Some(reader_fault));
-        let fault = fault_of(alloc, script.as_slice(), Narrow(1, kind))?;
+        let fault = fault_of(alloc, script.as_slice(), Narrow { left: 1, kind })?;
         assert_eq!(rt; fault, Some(writer_fault));
     }
     Ok(())
@@ -193,13 +211,25 @@ fn a_script_has_at_most_16_mib(rt: HostRuntime) -> Result<(), Fail> {
     for (bytes, want) in [
         (MAX_SCRIPT as u64, ScriptFault::BadLine(1)),
         (MAX_SCRIPT as u64 + 1, ScriptFault::Reader),
-        // No more is read of a line without an end.
-        (u64::MAX, ScriptFault::Reader),
     ] {
         let reader = BufReader::new(alloc, io::repeat(b'x').take(bytes))?;
-        let fault = fault_of(alloc, reader, Narrow(0, io::ErrorKind::BrokenPipe))?;
+        let fault = fault_of(alloc, reader, closed())?;
         assert_eq!(rt; fault, Some(want));
     }
+    Ok(())
+}
+
+#[test]
+fn of_a_script_16_777_217_bytes_are_read_at_most(rt: HostRuntime) -> Result<(), Fail> {
+    let alloc = rt.alloc();
+    // Where one more is asked for, want of memory is told.
+    let asked_for_more = Broken {
+        left: 0,
+        kind: io::ErrorKind::OutOfMemory,
+    };
+    let script = io::repeat(b'x').take(16_777_217).chain(asked_for_more);
+    let fault = fault_of(alloc, BufReader::new(alloc, script)?, closed())?;
+    assert_eq!(rt; fault, Some(ScriptFault::Reader));
     Ok(())
 }
 

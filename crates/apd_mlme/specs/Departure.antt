@@ -23,7 +23,8 @@ disassociation_of s b a None = only_sent s (deauthentication b a INVALID_CLASS2_
 abbrev pub disassociation_verdict : State → Bssid → Addr → Verdict
 disassociation_verdict s b a = disassociation_of s b a (station_at s b a)
 
--- Deauthentication, a class 1 frame: a station with a row has none from then on (11.3.4.5), and is not told either
+-- Deauthentication, a class 1 frame: a station with a row has none from then on (11.3.4.5), and is not told either.
+-- One without a row stays so (own).
 abbrev pub deauthentication_of : State → Bssid → Addr → Option Station → Verdict
 deauthentication_of s b a (Some row) = dropped s b a (removal s b a)
 deauthentication_of s b a None = nothing s

@@ -8,8 +8,8 @@ use std::alloc::AllocError;
 use std::io::{self, ErrorKind};
 use thiserror::Error;
 
-/// What ends a script before its last line. What stands before a bad line, and what was read before the
-/// reader failed, was done and printed.
+/// What ends a script before its last line. The lines in front of one that is bad or can't be read were
+/// run, and what they told was printed.
 #[derive(Clone, Copy, Debug, PartialEq, Eq, Error)]
 pub enum ScriptFault {
     /// The line of this number, counted from 1, is no line of a script, or names an interface that
