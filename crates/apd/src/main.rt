@@ -1,39 +1,23 @@
 //! `apd`: an access point daemon. So far it runs scripts over a table in memory, and makes stores.
 #![tactic(auto)]
 
-#[cfg(test)]
-mod association_tests;
-#[cfg(test)]
-mod command_tests;
-mod configuration_files;
-#[cfg(test)]
-mod configuration_tests;
-#[cfg(test)]
-mod decision_tests;
-mod laws;
-mod moments;
-mod plain;
-mod script;
 mod store_file;
 #[cfg(test)]
 mod store_file_tests;
-#[cfg(test)]
-mod tests;
 
 ghost use Rattle.std.specs.Prelude.{◌≡◌};
 ghost use Rattle.apd.specs.declared.ProgramFault.TheVariants.{NoMemory};
 
+use apd_conf::ConfigurationFault;
+use apd_script::{FormatFault, ScriptFault, World, read_configurations, run_format, run_script};
 use clap::error::ErrorKind;
 use clap::{Arg, ArgAction, Command};
-use configuration_files::{ConfigurationFault, read_configurations};
-use plain::World;
-use script::{ScriptFault, run_script};
 use std::alloc::{AllocError, Global};
 use std::fs::File;
 use std::io::{self, BufReader};
 use std::process::ExitCode;
 use std::rt::{Env, Files};
-use store_file::{FormatFault, format_file};
+use store_file::{OpenFault, open_or_create};
 use thiserror::Error;
 
 /// What the program's help says beside its subcommands.
@@ -58,6 +42,12 @@ Example, in which a station authenticates and is answered:
   rx wlan0 b000 0000 020000000001 0200000000aa 020000000001 1000 0000 0100 0000
   flush";
 
+/// What the help for `format` says beside its argument.
+const FORMAT_HELP: &str =
+    "Warning: the whole content of an existing store is emptied, without a question asked.
+Any file of a store's length, 2097216 bytes, is made a store, whatever it held; a file
+of another length is left as it was.";
+
 /// The subcommand that runs a script.
 fn script_command<'a>(alloc: Global) -> Result<Command<'a>, AllocError> {
     let files = Arg::new(alloc, "CONF")
@@ -78,7 +68,8 @@ fn format_command<'a>(alloc: Global) -> Result<Command<'a>, AllocError> {
         .required(true)
         .help("The store's file, which is made where there is none");
     Command::new(alloc, "format")
-        .about("Makes a file a store of the empty table, whatever store it was")
+        .about("Makes a file a store of the empty table; all that a store held is lost")
+        .after_help(FORMAT_HELP)
         .arg(store)
 }
 
@@ -88,6 +79,7 @@ fn command<'a>(alloc: Global) -> Result<Command<'a>, AllocError> {
     let script = script_command(alloc)?;
     Command::new(alloc, "apd")
         .bin_name("apd")?
+        .version("0.1.0")
         .about("An access point daemon whose promises are proved")
         .after_help(HELP)
         .subcommand_required(true)
@@ -103,13 +95,11 @@ enum ProgramFault {
     #[error("{0}")]
     Script(ScriptFault),
     #[error("{0}")]
+    Open(OpenFault),
+    #[error("{0}")]
     Format(FormatFault),
-    #[error("writer fault")]
-    Writer,
     #[error("out of memory")]
     NoMemory,
-    #[error("no command line")]
-    NoCommandLine,
 }
 
 impl From<AllocError> for ProgramFault {
@@ -120,15 +110,6 @@ impl From<AllocError> for ProgramFault {
     }
 }
 
-impl From<io::Error> for ProgramFault {
-    fn from(error: io::Error) -> ProgramFault {
-        match error.kind() {
-            io::ErrorKind::OutOfMemory => ProgramFault::NoMemory,
-            _ => ProgramFault::NoCommandLine,
-        }
-    }
-}
-
 /// Runs the script on standard input, with the configurations of these files.
 fn run_script_of_input(
     rt: &(impl Input + Print + Files + AllocGlobal),
@@ -136,7 +117,9 @@ fn run_script_of_input(
 ) -> Result<(), ProgramFault> {
     let confs = read_configurations(rt, names).map_err(ProgramFault::Configuration)?;
     let world = World::new(rt.alloc(), confs);
-    let reader = BufReader::new(rt.alloc(), rt.reader())?;
+    let Ok(reader) = BufReader::new(rt.alloc(), rt.reader()) else {
+        return Err(ProgramFault::NoMemory);
+    };
     run_script(rt.alloc(), world, reader, &mut io::writer(rt)).map_err(ProgramFault::Script)?;
     Ok(())
 }
@@ -146,20 +129,39 @@ fn format_and_print(
     rt: &(impl Print + Files<File = File> + AllocGlobal),
     name: &str,
 ) -> Result<(), ProgramFault> {
-    format_file(rt, name).map_err(ProgramFault::Format)?;
-    match println!(rt; "formatted") {
-        Ok(()) => Ok(()),
-        Err(_) => Err(ProgramFault::Writer),
+    let disk = open_or_create(rt, name).map_err(ProgramFault::Open)?;
+    match run_format(rt.alloc(), disk, &mut io::writer(rt)) {
+        Ok(_) => Ok(()),
+        Err((_, fault)) => Err(ProgramFault::Format(fault)),
     }
 }
 
+/// The words of the command line, and none where one of them is no text.
+fn words(rt: &(impl Env + AllocGlobal)) -> Result<Option<Vec<String>>, AllocError> {
+    match std::env::args(rt) {
+        Ok(words) => Ok(Some(words.collect(rt.alloc())?)),
+        Err(error) if error.kind() == io::ErrorKind::OutOfMemory => Err(AllocError),
+        Err(_) => Ok(None),
+    }
+}
+
+/// What `clap` says of a command line that is no text.
+fn no_text(alloc: Global) -> Result<clap::Error, AllocError> {
+    command(alloc)?.error(
+        ErrorKind::ValueValidation,
+        "invalid UTF-8 was detected in one or more arguments",
+    )
+}
+
 /// Does what the command line says, or gives the text that `clap` has for one that is wrong, or that asks
-/// for help.
+/// for help or for the version.
 fn run(
     rt: &(impl Env + Input + Print + Files<File = File> + AllocGlobal),
 ) -> Result<Option<clap::Error>, ProgramFault> {
     let alloc = rt.alloc();
-    let words: Vec<String> = std::env::args(rt)?.collect(alloc)?;
+    let Some(words) = words(rt)? else {
+        return Ok(Some(no_text(alloc)?));
+    };
     let matches = match command(alloc)?.try_get_matches_from(words.as_slice()) {
         Ok(matches) => matches,
         Err(error) => return Ok(Some(error)),
@@ -177,10 +179,14 @@ fn run(
 }
 
 /// The exit status is 0 where all went well, 1 for a fault, 2 for a wrong command line or a call for
-/// help.
+/// help. The version goes to standard output, and help to standard error.
 fn main(rt: HostRuntime) -> io::Result<ExitCode> {
     let done = match run(&rt) {
         Ok(Some(error)) if error.kind() == ErrorKind::OutOfMemory => Err(ProgramFault::NoMemory),
+        Ok(Some(error)) if error.kind() == ErrorKind::DisplayVersion => {
+            rt.print(error)?;
+            return Ok(ExitCode::SUCCESS);
+        }
         Ok(Some(error)) => {
             rt.eprint(error)?;
             return Ok(ExitCode::from(2));

@@ -1,6 +1,7 @@
 use crate::ProgramFault;
-use crate::store_file::{FormatFault, format_file};
+use crate::store_file::open_or_create;
 use apd_disk::FileDisk;
+use apd_script::{FormatFault, run_format};
 use apd_store::{StoreFault, recover};
 use std::fs::{self, File};
 use std::rt::Files;
@@ -36,14 +37,31 @@ fn rows_of(rt: &(impl Files<File = File> + AllocGlobal), name: &str) -> Result<u
     }
 }
 
+/// Makes the file of a name a store, and gives why not, and what was printed.
+fn formatted(
+    rt: &(impl Files<File = File> + AllocGlobal),
+    name: &str,
+) -> Result<(Option<FormatFault>, Vec<u8>), Fail> {
+    let Ok(disk) = open_or_create(rt, name) else {
+        return Err(Fail::new("a file can't be opened"));
+    };
+    let mut out = Vec::new(rt.alloc());
+    let fault = match run_format(rt.alloc(), disk, &mut out) {
+        Ok(_) => None,
+        Err(refusal) => Some(refusal.1),
+    };
+    Ok((fault, out))
+}
+
 #[test]
 fn a_file_becomes_an_empty_store(rt: HostRuntime) -> Result<(), Fail> {
     let name = "store_of_a_test";
     let _ = fs::remove_file(&rt, name);
     // Where there is none, and over what is there.
     for _ in 0..2 {
-        let done = format_file(&rt, name);
-        assert!(rt; done.is_ok());
+        let (fault, out) = formatted(&rt, name)?;
+        assert_eq!(rt; fault, None);
+        assert_eq!(rt; out.as_slice(), b"formatted\n".as_slice());
         let (length, front) = bytes_of(&rt, name)?;
         assert_eq!(rt; length, 2_097_216);
         assert_eq!(rt; front.get(..8), Some(MAGIC));
@@ -59,28 +77,27 @@ fn faults_of_a_store_s_file_are_printed_in_these_words(rt: HostRuntime) -> Resul
     let alloc = rt.alloc();
     let name = "no_store_of_a_test";
     fs::write(&rt, name, b"RAPSTOR1")?;
-    let short = match format_file(&rt, name) {
-        Err(FormatFault::Store(fault)) => fault,
-        _ => return Err(Fail::from("a short file was taken")),
-    };
-    assert_eq!(rt; short, StoreFault::NotAStore);
+    let (fault, out) = formatted(&rt, name)?;
+    assert_eq!(rt; fault, Some(FormatFault::Store(StoreFault::NotAStore)));
+    assert_eq!(rt; out.len(), 0);
     let (length, _) = bytes_of(&rt, name)?;
     assert_eq!(rt; length, 8);
     fs::remove_file(&rt, name)?;
     for (fault, text) in [
-        (FormatFault::Store(short), "not a store"),
+        (FormatFault::Store(StoreFault::NotAStore), "not a store"),
         (FormatFault::Store(StoreFault::Device), "device fault"),
-        (FormatFault::NoMemory, "out of memory"),
+        (FormatFault::Writer, "writer fault"),
     ] {
-        assert_eq!(rt; format!(in alloc; "{fault}")?.as_str(), text);
+        let told = ProgramFault::Format(fault);
+        assert_eq!(rt; format!(in alloc; "{told}")?.as_str(), text);
     }
-    match format_file(&rt, "no_folder_of_a_test/store") {
+    match open_or_create(&rt, "no_folder_of_a_test/store") {
         Err(fault) => {
-            let told = ProgramFault::Format(fault);
+            let told = ProgramFault::Open(fault);
             let text = format!(in alloc; "{told}")?;
             assert_eq!(rt; text.as_str(), "cannot read no_folder_of_a_test/store");
         }
-        Ok(()) => assert!(rt; false, "it was made"),
+        Ok(_) => assert!(rt; false, "it was made"),
     }
     Ok(())
 }

@@ -7,6 +7,7 @@ use Rattle.std.specs.declared.cmp.Ordering.{Ordering}
 use Rattle.std.specs.declared.cmp.Ordering.TheVariants.{Less, Equal, Greater}
 use Rattle.std.specs.FinMap as map
 use Rattle.std.specs.FinMap.{FinMap, find, is_sorted, IsAntisymmetric, entries, entries_sorted, get-insert, get-remove, get-entries, get-retain_keys, same_map}
+use Rattle.apd_base.proofs.Cases.{same_some}
 use Rattle.apd_base.proofs.RowsLaws.{tied_not_below, is_sorted_tail}
 
 equal : (r : Ordering) → is_eq r ≡ true → r ≡ Equal
@@ -17,9 +18,6 @@ equal Greater e = cc
 or-true : (b : Bool) → (b || true) ≡ true
 or-true true = refl
 or-true false = refl
-
-same_some : {A : Type 0} (x y : A) → Some x ≡ Some y → x ≡ y
-same_some x y e = cc
 
 module _ {K : Type 0} {R : K → K → Ordering} (o : IsTotalOrder R) (exact : IsAntisymmetric R) where
   -- two keys are one, or the order tells them apart

@@ -1,5 +1,5 @@
 -- What an edit at a key's place makes of entries in order.
-use Rattle.std.proofs.Common.{◌≡◌, ℕ, suc, ◌+◌, Bool, true, false, cond, not, List, [], ◌∷◌, ◌&&◌, lit≤, Some, None, Result, Ok, Err, length, refl, sym, ap, subst, ◌∙◌, arith}
+use Rattle.std.proofs.Common.{◌≡◌, ℕ, suc, ◌+◌, true, false, cond, not, List, [], ◌∷◌, lit≤, Some, None, Result, Ok, Err, length, refl, sym, ap, subst, ◌∙◌, arith}
 use lib.Dec.{T}
 use Rattle.std.specs.Ordering.{eq_by_cmp, is_eq, is_lt}
 use Rattle.std.specs.Cmp.{IsTotalOrder}
@@ -9,16 +9,11 @@ use Rattle.std.specs.FinMap.{find, put, is_sorted, IsAntisymmetric}
 use Rattle.std.specs.FinMap.Entries.{where_key, below_all}
 use Rattle.std.specs.List.Sorted.{IsSearchInRange}
 use Rattle.apd_base.specs.Rows.{place, later, by_order, value_at, put_at, remove_at}
+use Rattle.apd_base.proofs.Cases.{differ, first_holds, second_holds, both_hold, is_less, none_is_some}
 
 bound-later : (r : Result ℕ ℕ) (n : ℕ) → IsSearchInRange r n → IsSearchInRange (later 1 r) (suc n)
 bound-later (Ok i) n h = omega arith
 bound-later (Err i) n h = omega arith
-
-not_true : false ≡ true → ⊥
-not_true e = cc
-
-none_some : {A : Type 0} (v : A) → None ≡ Some v → ⊥
-none_some v e = cc
 
 one_more : (i : ℕ) → 1 + i ≡ suc i
 one_more i = omega arith
@@ -36,45 +31,28 @@ module _ {K X : Type 0} where
   remove_at-later e es (Ok i) = rw (one_more i) refl
   remove_at-later e es (Err i) = refl
 
-first : (a b : Bool) → T (a && b) → T a
-first true b p = tt
-first false b p = p
-
-second : (a b : Bool) → T (a && b) → T b
-second true b p = p
-second false b p = absurd p
-
-both : (a b : Bool) → T a → T b → T (a && b)
-both true b p q = q
-both false b p q = p
-
-less : (r : Ordering) → T (is_lt r) → r ≡ Less
-less Less p = refl
-less Equal p = absurd p
-less Greater p = absurd p
-
 module _ {K X : Type 0} {R : K → K → Ordering} (o : IsTotalOrder R) where
   -- a key below an entry is below those after it
   below_less : (k x : K) (es : List (K × X)) → R k x ≡ Less → T (below_all R x es) → T (below_all R k es)
   below_less k x [] p h = tt
-  below_less k x (e ∷ es) p h = both _ _ (subst (λ r. T (is_lt r)) (sym (o.trans k x e.0 p (less _ (first _ _ h)))) tt) (below_less k x es p (second _ _ h))
+  below_less k x (e ∷ es) p h = both_hold _ _ (subst (λ r. T (is_lt r)) (sym (o.trans k x e.0 p (is_less _ (first_holds _ _ h)))) tt) (below_less k x es p (second_holds _ _ h))
 
   below_tied : (k x : K) (es : List (K × X)) → R k x ≡ Equal → T (below_all R x es) → T (below_all R k es)
   below_tied k x [] p h = tt
-  below_tied k x (e ∷ es) p h = both _ _ (subst (λ r. T (is_lt r)) (sym (o.congr k x e.0 p)) (first _ _ h)) (below_tied k x es p (second _ _ h))
+  below_tied k x (e ∷ es) p h = both_hold _ _ (subst (λ r. T (is_lt r)) (sym (o.congr k x e.0 p)) (first_holds _ _ h)) (below_tied k x es p (second_holds _ _ h))
 
   -- a key below all is not found
   pub find_below : (k : K) (es : List (K × X)) → T (below_all R k es) → find R k es ≡ None
   find_below k [] h = refl
-  find_below k (e ∷ es) h = ap (λ r. cond (is_eq r) (Some e.1) (find R k es)) (less _ (first _ _ h)) ∙ find_below k es (second _ _ h)
+  find_below k (e ∷ es) h = ap (λ r. cond (is_eq r) (Some e.1) (find R k es)) (is_less _ (first_holds _ _ h)) ∙ find_below k es (second_holds _ _ h)
 
   pub find-place : (k : K) (es : List (K × X)) → T (is_sorted R es) → find R k es ≡ value_at es (place R k es)
   find-place k [] h = refl
   find-place k (e ∷ es) h =
       elim (R k e.0) as (λ r. R k e.0 ≡ r → cond (is_eq r) (Some e.1) (find R k es) ≡ value_at (e ∷ es) (by_order r (Err 0) (Ok 0) (later 1 (place R k es)))) [
-        | Less ↦ λ p. find_below k es (below_less k e.0 es p (first _ _ h))
+        | Less ↦ λ p. find_below k es (below_less k e.0 es p (first_holds _ _ h))
         | Equal ↦ λ p. refl
-        | Greater ↦ λ p. find-place k es (second _ _ h) ∙ sym (value_at-later e es (place R k es))
+        | Greater ↦ λ p. find-place k es (second_holds _ _ h) ∙ sym (value_at-later e es (place R k es))
       ] refl
 
   pub put-place : IsAntisymmetric R → (k : K) (v : X) (es : List (K × X)) → put R k v es ≡ put_at es k v (place R k es)
@@ -90,17 +68,17 @@ module _ {K X : Type 0} {R : K → K → Ordering} (o : IsTotalOrder R) where
   without_below : (k : K) (es : List (K × X)) → T (below_all R k es) → where_key R (λ x. not (eq_by_cmp R k x)) es ≡ es
   without_below k [] h = refl
   without_below k (e ∷ es) h =
-      ap (λ r. cond (not (is_eq r)) (e ∷ where_key R (λ x. not (eq_by_cmp R k x)) es) (where_key R (λ x. not (eq_by_cmp R k x)) es)) (less _ (first _ _ h))
-      ∙ ap (λ fs. e ∷ fs) (without_below k es (second _ _ h))
+      ap (λ r. cond (not (is_eq r)) (e ∷ where_key R (λ x. not (eq_by_cmp R k x)) es) (where_key R (λ x. not (eq_by_cmp R k x)) es)) (is_less _ (first_holds _ _ h))
+      ∙ ap (λ fs. e ∷ fs) (without_below k es (second_holds _ _ h))
 
   pub without-place : (k : K) (es : List (K × X)) → T (is_sorted R es) → where_key R (λ x. not (eq_by_cmp R k x)) es ≡ remove_at es (place R k es)
   without-place k [] h = refl
   without-place k (e ∷ es) h =
       let left = where_key R (λ x. not (eq_by_cmp R k x)) es in
       elim (R k e.0) as (λ r. R k e.0 ≡ r → cond (not (is_eq r)) (e ∷ left) left ≡ remove_at (e ∷ es) (by_order r (Err 0) (Ok 0) (later 1 (place R k es)))) [
-        | Less ↦ λ p. ap (λ fs. e ∷ fs) (without_below k es (below_less k e.0 es p (first _ _ h)))
-        | Equal ↦ λ p. without_below k es (below_tied k e.0 es p (first _ _ h))
-        | Greater ↦ λ p. ap (λ fs. e ∷ fs) (without-place k es (second _ _ h)) ∙ sym (remove_at-later e es (place R k es))
+        | Less ↦ λ p. ap (λ fs. e ∷ fs) (without_below k es (below_less k e.0 es p (first_holds _ _ h)))
+        | Equal ↦ λ p. without_below k es (below_tied k e.0 es p (first_holds _ _ h))
+        | Greater ↦ λ p. ap (λ fs. e ∷ fs) (without-place k es (second_holds _ _ h)) ∙ sym (remove_at-later e es (place R k es))
       ] refl
 
   pub place_bound : (k : K) (es : List (K × X)) → IsSearchInRange (place R k es) (length es)
@@ -117,31 +95,31 @@ module _ {K X : Type 0} {R : K → K → Ordering} (o : IsTotalOrder R) where
   tied_not_below k e es h v f =
       elim (R k e.0) as (λ r. R k e.0 ≡ r → is_eq r ≡ false) [
         | Less ↦ λ p. refl
-        | Equal ↦ λ p. absurd (none_some v (sym (find_below k es (below_tied k e.0 es p (first _ _ h))) ∙ f))
+        | Equal ↦ λ p. none_is_some v (sym (find_below k es (below_tied k e.0 es p (first_holds _ _ h))) ∙ f)
         | Greater ↦ λ p. refl
       ] refl
 
   pub is_sorted_tail : (e : K × X) (es : List (K × X)) → T (is_sorted R (e ∷ es)) → T (is_sorted R es)
-  is_sorted_tail e es h = second _ _ h
+  is_sorted_tail e es h = second_holds _ _ h
 
   -- an entry that ties with the key is the only one
   pub find_tied_head : (k : K) (e : K × X) (es : List (K × X)) → T (is_sorted R (e ∷ es)) → eq_by_cmp R k e.0 ≡ true → find R k es ≡ None
   find_tied_head k e es h t =
       elim (R k e.0) as (λ r. R k e.0 ≡ r → is_eq r ≡ true → find R k es ≡ None) [
-        | Less ↦ λ p q. absurd (not_true q)
-        | Equal ↦ λ p q. find_below k es (below_tied k e.0 es p (first _ _ h))
-        | Greater ↦ λ p q. absurd (not_true q)
+        | Less ↦ λ p q. differ false refl q
+        | Equal ↦ λ p q. find_below k es (below_tied k e.0 es p (first_holds _ _ h))
+        | Greater ↦ λ p q. differ false refl q
       ] refl t
 
   -- a key below all is less than each that is found
   pub below_found : IsAntisymmetric R → (k q : K) (v : X) (es : List (K × X)) → T (below_all R k es) → find R q es ≡ Some v → R k q ≡ Less
-  below_found exact k q v [] h f = absurd (none_some v f)
+  below_found exact k q v [] h f = none_is_some v f
   below_found exact k q v (e ∷ es) h f =
       elim (R q e.0) as (λ r. R q e.0 ≡ r → cond (is_eq r) (Some e.1) (find R q es) ≡ Some v → R k q ≡ Less) [
-        | Less ↦ λ p g. below_found exact k q v es (second _ _ h) g
-        | Equal ↦ λ p g. ap (R k) (exact q e.0 p) ∙ less _ (first _ _ h)
-        | Greater ↦ λ p g. below_found exact k q v es (second _ _ h) g
+        | Less ↦ λ p g. below_found exact k q v es (second_holds _ _ h) g
+        | Equal ↦ λ p g. ap (R k) (exact q e.0 p) ∙ is_less _ (first_holds _ _ h)
+        | Greater ↦ λ p g. below_found exact k q v es (second_holds _ _ h) g
       ] refl f
 
   pub is_sorted_head : (e : K × X) (es : List (K × X)) → T (is_sorted R (e ∷ es)) → T (below_all R e.0 es)
-  is_sorted_head e es h = first _ _ h
+  is_sorted_head e es h = first_holds _ _ h

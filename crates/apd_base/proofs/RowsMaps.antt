@@ -1,11 +1,11 @@
 -- Entries in order as finite maps: what an edit at a key's place means.
-use Rattle.std.proofs.Common.{◌≡◌, ℕ, Bool, true, false, cond, not, List, None, Result, Ok, Err, OnOk, OnErr, IsOk, IsSome, refl, sym, ap, subst, ◌∙◌, T}
+use Rattle.std.proofs.Common.{◌≡◌, ℕ, Bool, true, false, cond, not, List, Option, None, Result, Ok, Err, OnOk, OnErr, IsOk, IsSome, refl, sym, ap, subst, ◌∙◌, T}
 use Rattle.std.specs.Ordering.{eq_by_cmp, is_eq}
 use Rattle.std.specs.Cmp.{IsTotalOrder, alike_right, eq_by_cmp_equiv}
 use Rattle.std.specs.declared.cmp.Ordering.{Ordering}
 use Rattle.std.specs.declared.cmp.Ordering.TheVariants.{Equal}
 use Rattle.std.specs.FinMap as map
-use Rattle.std.specs.FinMap.{FinMap, put, is_sorted, IsAntisymmetric, entries, from_sorted, same_entries_map, entries-insert, entries-from_sorted, entries_sorted, get-from_sorted, get-remove, get-retain_keys, same_map}
+use Rattle.std.specs.FinMap.{FinMap, find, put, is_sorted, IsAntisymmetric, entries, from_sorted, same_entries_map, entries-insert, entries-from_sorted, entries_sorted, get-from_sorted, get-remove, get-retain_keys, same_map}
 use Rattle.std.specs.FinMap.Entries.{where_key, is_sorted-put, is_sorted-where_key, find-where_key}
 use Rattle.apd_base.specs.Rows.{place, put_at, remove_at, value_at}
 use Rattle.apd_base.proofs.RowsLaws.{put-place, without-place, find-place}
@@ -55,13 +55,24 @@ module _ {K X : Type 0} {R : K → K → Ordering} (o : IsTotalOrder R) (exact :
       ∙ ap from_sorted (without-place o k es h)
 
   -- what a put that may lack memory leaves
-  pub put_sorted : {E : Type 0} (k : K) (v : X) (es fs : List (K × X)) → T (is_sorted R es) → (r : Result (Unit {0}) E) → OnOk r (fs ≡ put_at es k v (place R k es)) → OnErr r (fs ≡ es) → T (is_sorted R fs)
-  put_sorted k v es fs sorted (Ok u) ok err = rw ok (sorted_put_at k v es sorted)
+  pub put_sorted : {E : Type 0} (k : K) (v : X) (es fs : List (K × X)) → T (is_sorted R es) → (r : Result (Unit {0}) E) → (T (is_sorted R es) → OnOk r (fs ≡ put_at es k v (place R k es))) → OnErr r (fs ≡ es) → T (is_sorted R fs)
+  put_sorted k v es fs sorted (Ok u) ok err = rw (ok sorted) (sorted_put_at k v es sorted)
   put_sorted k v es fs sorted (Err e) ok err = rw err sorted
 
-  pub put_means : {E : Type 0} (k : K) (v : X) (es fs : List (K × X)) → T (is_sorted R es) → (r : Result (Unit {0}) E) → OnOk r (fs ≡ put_at es k v (place R k es)) → OnOk r (from_sorted {R = R} fs ≡ map.insert (from_sorted es) k v)
-  put_means k v es fs sorted (Ok u) ok = ap from_sorted ok ∙ sym (insert-from_sorted k v es sorted)
+  pub put_means : {E : Type 0} (k : K) (v : X) (es fs : List (K × X)) → T (is_sorted R es) → (r : Result (Unit {0}) E) → (T (is_sorted R es) → OnOk r (fs ≡ put_at es k v (place R k es))) → OnOk r (from_sorted {R = R} fs ≡ map.insert (from_sorted es) k v)
+  put_means k v es fs sorted (Ok u) ok = ap from_sorted (ok sorted) ∙ sym (insert-from_sorted k v es sorted)
   put_means k v es fs sorted (Err e) ok = tt
 
   pub found_place : (k : K) (es : List (K × X)) → T (is_sorted R es) → IsSome (map.get (from_sorted {R = R} es) k) → IsOk (place R k es)
   found_place k es sorted h = some_place es _ (subst IsSome (get-from_sorted R es k sorted ∙ find-place o k es sorted) h)
+
+-- what a call says of rows in order it says of those that it was given
+module _ {K X : Type 0} (R : K → K → Ordering) (k : K) (es given : List (K × X)) (same : given ≡ es) (sorted : T (is_sorted R es)) where
+  given_sorted : T (is_sorted R given)
+  given_sorted = subst (λ xs. T (is_sorted R xs)) (sym same) sorted
+
+  pub placed : (r : Result ℕ ℕ) → (T (is_sorted R given) → r ≡ place R k given) → r ≡ place R k es
+  placed r says = says given_sorted ∙ ap (place R k) same
+
+  pub valued : (o : Option X) → (T (is_sorted R given) → o ≡ find R k given) → o ≡ find R k es
+  valued o says = says given_sorted ∙ ap (find R k) same

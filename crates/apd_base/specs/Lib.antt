@@ -1,7 +1,9 @@
 pub mod Addr
 pub mod Codes
+pub mod Failures
 pub mod Mode
 pub mod Number
 pub mod Rows
 pub mod Sets
 pub mod State
+pub mod Text

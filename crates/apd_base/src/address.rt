@@ -1,8 +1,15 @@
 //! Addresses of stations and of access points.
-ghost use Rattle.std.specs.Prelude.{◌≡◌, ℕ, List, ◌%◌, ◌<◌, ◌↔◌, ◌++◌, IsTrue, IfSome, IfNone, OnOk, OnErr, slice_index};
-ghost use Rattle.apd_base.specs.Addr.{IsAddr, text_of, hex_digit, digit_value_of, byte_value, IsText};
+ghost use Rattle.std.specs.Prelude.{◌≡◌, ℕ, [], ◌∷◌, ◌%◌, ◌<◌, ◌↔◌, ◌++◌, IsTrue, IfSome, OnOk, OnErr, Some, slice_index};
+ghost use Rattle.std.specs.Cmp.Lexicographic.{slice_cmp};
+ghost use Rattle.std.specs.Ordering.{nat_cmp};
+ghost use Rattle.std.specs.declared.cmp.Ordering.TheVariants.{Less};
+ghost use Rattle.apd_base.specs.Addr.{IsAddr, address_of, text_of, digit_value_of, byte_value};
 ghost use Rattle.apd_base.specs.declared.address.Addr.{Addr as Address};
+ghost use Rattle.apd_base.specs.declared.address.Bssid.{Bssid as BssAddress};
+ghost use Rattle.apd_base.specs.declared.station.Which.TheVariants.{Accept, Deny};
 
+use crate::station::Which;
+use crate::text::hex_digit;
 use std::alloc::AllocError;
 use std::fmt;
 
@@ -11,20 +18,15 @@ use std::fmt;
 #[derive(Clone, Copy, Debug, PartialEq, Eq, PartialOrd, Ord)]
 pub struct Addr(pub [u8; 6]);
 
+/// The address of all stations (IEEE Std 802.11-2016, 9.2.4.3.3).
+pub const BROADCAST: Addr = Addr([0xff, 0xff, 0xff, 0xff, 0xff, 0xff]);
+
+/// The bytes of an address in writing.
+pub const TEXT_LENGTH: usize = 17;
+
 /// The address of one of the access point's radios.
 #[derive(Clone, Copy, Debug, PartialEq, Eq, PartialOrd, Ord)]
 pub struct Bssid(pub Addr);
-
-fn digit_of(value: u8) -> u8
-    requires { value < 16 }
-    ensures { result ≡ hex_digit value }
-{
-    if value < 10 {
-        b'0' + value
-    } else {
-        b'a' - 10 + value
-    }
-}
 
 fn value_of(digit: u8) -> Option<u8>
     ensures value { result ≡ digit_value_of digit }
@@ -49,10 +51,9 @@ fn byte_of(high: u8, low: u8) -> Option<u8>
 impl Addr {
     /// Reads exactly six pairs of hexadecimal digits, of either case, joined by `:`. It takes no memory.
     pub fn parse(text: &[u8]) -> Option<Addr>
-        ensures address { IfSome result (λ a. IsText text.now a.0) }
-        ensures none { IfNone result ((bytes : List ℕ) → IsText text.now bytes → ⊥) }
+        ensures { result ≡ address_of text.now }
     {
-        if text.len() != 17 {
+        if text.len() != TEXT_LENGTH {
             return None;
         }
         let mut bytes = [0; 6];
@@ -69,28 +70,28 @@ impl Addr {
     }
 
     /// Its text: six pairs of lower case digits joined by `:`.
-    pub fn text(&self) -> [u8; 17]
+    pub fn text(&self) -> [u8; TEXT_LENGTH]
         ensures { result ≡ text_of self.now }
     {
         let [a, b, c, d, e, f] = self.0;
         [
-            digit_of(a / 16),
-            digit_of(a % 16),
+            hex_digit(a / 16),
+            hex_digit(a % 16),
             b':',
-            digit_of(b / 16),
-            digit_of(b % 16),
+            hex_digit(b / 16),
+            hex_digit(b % 16),
             b':',
-            digit_of(c / 16),
-            digit_of(c % 16),
+            hex_digit(c / 16),
+            hex_digit(c % 16),
             b':',
-            digit_of(d / 16),
-            digit_of(d % 16),
+            hex_digit(d / 16),
+            hex_digit(d % 16),
             b':',
-            digit_of(e / 16),
-            digit_of(e % 16),
+            hex_digit(e / 16),
+            hex_digit(e % 16),
             b':',
-            digit_of(f / 16),
-            digit_of(f % 16),
+            hex_digit(f / 16),
+            hex_digit(f % 16),
         ]
     }
 
@@ -112,8 +113,6 @@ impl Addr {
 }
 
 impl fmt::Display for Addr {
-    ghost use Rattle.std.specs.Prelude.{Some};
-
     ghost output = { λ a. Some (text_of a) };
 
     fn fmt<W: fmt::Write>(&self, f: &mut fmt::Formatter<W>) -> fmt::Result {
@@ -122,9 +121,21 @@ impl fmt::Display for Addr {
     }
 }
 
-/// What `text` writes, `parse` reads again: it is a text of the address's bytes, and a text is that of
-/// one list of bytes at most.
+/// What `text` writes, `parse` reads again.
 pub fn text_law()
-    ensures read { (a : Address) → IsAddr a → IsText (text_of a) a.0 }
-    ensures once { (text x y : List ℕ) → IsText text x → IsText text y → x ≡ y }
+    ensures { (a : Address) → IsAddr a → address_of (text_of a) ≡ Some a }
+{}
+
+/// Addresses and BSSIDs are ordered by their bytes, the first byte first; of a BSSID's two lists the
+/// accept list comes first.
+pub fn orders_law()
+    ensures addresses { (a b : Address) → ⟦<Addr as Ord>⟧.cmp a b ≡ slice_cmp nat_cmp a.0 b.0 }
+    ensures bssids { (b c : BssAddress) → ⟦<Bssid as Ord>⟧.cmp b c ≡ slice_cmp nat_cmp b.0.0 c.0.0 }
+    ensures lists { ⟦<Which as Ord>⟧.cmp Accept Deny ≡ Less }
+{}
+
+/// The broadcast address is that of all stations: each of its bits is 1 (IEEE Std 802.11-2016,
+/// 9.2.4.3.3).
+pub fn broadcast_law()
+    ensures { BROADCAST.0 ≡ 255 ∷ 255 ∷ 255 ∷ 255 ∷ 255 ∷ 255 ∷ [] }
 {}

@@ -4,6 +4,7 @@ use Rattle.std.specs.Prelude.{codes, map, slice_get}
 use Rattle.std.specs.Option.{option_map}
 use Rattle.std.proofs.lemmas.Option.{slice_get-map}
 use Rattle.std.specs.Coded.{le_prop}
+use Rattle.apd_base.specs.declared.limits.TheConstants.{MAX_STATIONS}
 use Rattle.apd_base.specs.declared.station.StationLimit.{StationLimit}
 use Rattle.apd_conf.specs.BuiltIn.{built_in}
 use Rattle.std.proofs.Common.{ap, zero, suc, arith, ◌<◌, ◌≤◌, ◌≡◌, ℕ, Bool, true, false, cond, List, [], ◌∷◌, Some, None, inl, inr, refl, sym, subst, ◌∙◌}
@@ -22,12 +23,10 @@ use Rattle.apd_base.proofs.AddrLaws.{bssid_total, bssid_exact}
 use Rattle.apd_base.proofs.MapLaws.{one_or_apart, tied}
 use Rattle.apd_conf.specs.declared.conf.Conf.{Conf}
 use Rattle.apd_conf.specs.Confs.{conf_at, conf_named, AreConfs, IsRepeatedAt}
+use Rattle.apd_base.proofs.Cases.{same_some}
 
 pub same_limit : (a b : StationLimit) → a.count ≡ b.count → a ≡ b
-same_limit a b e = ap (λ (p : (n : ℕ) × (n ≤ 2007)). record { count = p.0; in_range = p.1 }) (Σ_prop_path {B = λ n. n ≤ 2007} (λ n. le_prop) {u = (a.count, a.in_range)} {v = (b.count, b.in_range)} e)
-
-same_some : {A : Type 0} (x y : A) → Some x ≡ Some y → x ≡ y
-same_some x y e = cc
+same_limit a b e = ap (λ (p : (n : ℕ) × (n ≤ MAX_STATIONS)). record { count = p.0; in_range = p.1 }) (Σ_prop_path {B = λ n. n ≤ MAX_STATIONS} (λ n. le_prop) {u = (a.count, a.in_range)} {v = (b.count, b.in_range)} e)
 
 not_both : (b : Bool) → b ≡ true → b ≡ false → ⊥
 not_both b t f = cc
@@ -64,7 +63,7 @@ pub interface-conf_named : (confs : List Conf) (name : List ℕ) (c : Conf) → 
 interface-conf_named confs name c f = sym (name_same name c.interface (find_passes (λ (d : Conf). eq_by_cmp (slice_cmp nat_cmp) name d.interface) confs c f))
 
 -- a configuration with the values of the built-in one
-pub built_in_from : (name ssid : List ℕ) (limit : StationLimit) (accept deny : List Addr) → name ≡ codes "wlan0" → ssid ≡ codes "net" → limit.count ≡ 2007 → accept ≡ [] → deny ≡ []
+pub built_in_from : (name ssid : List ℕ) (limit : StationLimit) (accept deny : List Addr) → name ≡ codes "wlan0" → ssid ≡ codes "net" → limit.count ≡ MAX_STATIONS → accept ≡ [] → deny ≡ []
     → record built_in { interface = name; ssid = ssid; max_num_sta = limit; accept = accept; deny = deny } ≡ built_in
 built_in_from name ssid limit accept deny n s l a d =
     λ i. record built_in { interface = n i; ssid = s i; max_num_sta = same_limit limit built_in.max_num_sta l i; accept = a i; deny = d i }

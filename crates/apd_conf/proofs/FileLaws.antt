@@ -1,5 +1,5 @@
--- Memory aside, what is read of a file is settled by its lines.
-use Rattle.std.proofs.Common.{◌≡◌, ◌≢◌, ℕ, ◌⊎◌, List, Option, Some, None, refl, sym, ap, ◌∙◌, inl, inr}
+-- What is read of a file is settled by its lines.
+use Rattle.std.proofs.Common.{◌≡◌, ℕ, ◌⊎◌, List, Option, Some, None, refl, sym, ap, ◌∙◌, inl, inr}
 use Rattle.std.specs.Prelude.{◌==◌, [], ◌∷◌, if◌then◌else◌, IsSome, option_and_then}
 use Rattle.std.proofs.lemmas.Bool.{cases_order}
 use Rattle.apd_base.specs.declared.address.Addr.{Addr}
@@ -21,27 +21,22 @@ use Rattle.apd_conf.specs.Auth.{algs_number}
 use Rattle.apd_conf.specs.Codes.{algs_from, algs_from-algs_number, quiet_number, quiet_from, quiet_from-quiet_number}
 use Rattle.apd_conf.specs.Faults.{IsFirstFault, IsFaultless}
 use Rattle.apd_conf.specs.ListFile as lists
-use Rattle.apd_conf.specs.ListFile.{address_of}
+use Rattle.apd_base.specs.Addr.{address_of}
 use Rattle.apd_conf.specs.ConfFile.{fault_at, band_name, IsConfOf, IsFaultOf, IsMissing}
 use Rattle.apd_conf.proofs.ConfLaws.{same_limit}
-
-same_some : {X : Type 0} (x y : X) → Some x ≡ Some y → x ≡ y
-same_some x y e = cc
-
-none_some : {X : Type 0} (x : X) → None ≡ Some x → ⊥
-none_some x e = cc
+use Rattle.apd_base.proofs.Cases.{same_some, none_is_some}
 
 -- a file has one first fault at most
 pub one_first : {F : Type 0} (fault_at : ℕ → Option F) (f g : F) → IsFirstFault fault_at f → IsFirstFault fault_at g → f ≡ g
 one_first fault_at f g h k = elim (cases_order h.place k.place) [
   | inl same ↦ same_some f g (sym h.there ∙ ap fault_at same ∙ k.there)
-  | inr (inl below) ↦ absurd (none_some f (sym (k.none_before h.place below) ∙ h.there))
-  | inr (inr above) ↦ absurd (none_some g (sym (h.none_before k.place above) ∙ k.there))
+  | inr (inl below) ↦ absurd (none_is_some f (sym (k.none_before h.place below) ∙ h.there))
+  | inr (inr above) ↦ absurd (none_is_some g (sym (h.none_before k.place above) ∙ k.there))
 ]
 
 -- and none where no line is faulty
 pub no_first : {F : Type 0} (fault_at : ℕ → Option F) (f : F) → IsFaultless fault_at → IsFirstFault fault_at f → ⊥
-no_first fault_at f none h = none_some f (sym (none h.place) ∙ h.there)
+no_first fault_at f none h = none_is_some f (sym (none h.place) ∙ h.there)
 
 band_of_name : List ℕ → HwMode
 band_of_name [] = A
@@ -95,16 +90,16 @@ one_conf lines a b h k =
       deny = (h.deny ∙ sym k.deny) i;
     }
 
--- a configuration and a fault are told of no lines both, but where memory runs out
-pub conf_or_fault : (lines : List (List ℕ)) (conf : Conf) (fault : ConfFault) → IsConfOf lines conf → IsFaultOf lines fault → fault ≡ faults.NoMemory
-conf_or_fault lines conf (faults.NoEquals n) h k = absurd (no_first _ _ h.faultless k)
-conf_or_fault lines conf (faults.Unknown n) h k = absurd (no_first _ _ h.faultless k)
-conf_or_fault lines conf (faults.BadValue n) h k = absurd (no_first _ _ h.faultless k)
-conf_or_fault lines conf (faults.Security n) h k = absurd (no_first _ _ h.faultless k)
-conf_or_fault lines conf (faults.Missing required.Interface) h k = absurd (none_some conf.interface (sym k.1 ∙ h.interface))
-conf_or_fault lines conf (faults.Missing required.Bssid) h k = absurd (none_some conf.bssid.0 (sym (ap (option_and_then address_of) k.1.1) ∙ h.bssid))
-conf_or_fault lines conf (faults.Missing required.Ssid) h k = absurd (none_some conf.ssid (sym k.1.2 ∙ h.ssid))
-conf_or_fault lines conf faults.NoMemory h k = refl
+-- no lines give a configuration and a fault
+pub conf_or_fault : (lines : List (List ℕ)) (conf : Conf) (fault : ConfFault) → IsConfOf lines conf → IsFaultOf lines fault → ⊥
+conf_or_fault lines conf (faults.NoEquals n) h k = no_first _ _ h.faultless k
+conf_or_fault lines conf (faults.Unknown n) h k = no_first _ _ h.faultless k
+conf_or_fault lines conf (faults.BadValue n) h k = no_first _ _ h.faultless k
+conf_or_fault lines conf (faults.Security n) h k = no_first _ _ h.faultless k
+conf_or_fault lines conf (faults.Missing required.Interface) h k = none_is_some conf.interface (sym k.1 ∙ h.interface)
+conf_or_fault lines conf (faults.Missing required.Bssid) h k = none_is_some conf.bssid.0 (sym (ap (option_and_then address_of) k.1.1) ∙ h.bssid)
+conf_or_fault lines conf (faults.Missing required.Ssid) h k = none_is_some conf.ssid (sym k.1.2 ∙ h.ssid)
+conf_or_fault lines conf faults.NoMemory h k = k
 
 not_none : {X : Type 0} (o : Option X) → IsSome o → o ≡ None → ⊥
 not_none None some e = cc
@@ -121,9 +116,9 @@ one_missing lines required.Ssid required.Interface h k = absurd (not_none _ h.0 
 one_missing lines required.Ssid required.Bssid h k = absurd (not_none _ h.1 k.1)
 one_missing lines required.Ssid required.Ssid h k = refl
 
--- which of the three sorts a fault is of
+-- which of the two sorts a fault is of
 Sort : List (List ℕ) → ConfFault → Type 0
-Sort lines f = IsFirstFault (fault_at lines) f ⊎ (((name : Required) × IsFaultless (fault_at lines) × IsMissing lines name × (f ≡ faults.Missing name)) ⊎ (f ≡ faults.NoMemory))
+Sort lines f = IsFirstFault (fault_at lines) f ⊎ ((name : Required) × IsFaultless (fault_at lines) × IsMissing lines name × (f ≡ faults.Missing name))
 
 sort : (lines : List (List ℕ)) (f : ConfFault) → IsFaultOf lines f → Sort lines f
 unfolding Sort
@@ -131,23 +126,20 @@ sort lines (faults.NoEquals n) h = inl h
 sort lines (faults.Unknown n) h = inl h
 sort lines (faults.BadValue n) h = inl h
 sort lines (faults.Security n) h = inl h
-sort lines (faults.Missing name) h = inr (inl (name, h.0, h.1, refl))
-sort lines faults.NoMemory h = inr (inr refl)
+sort lines (faults.Missing name) h = inr (name, h.0, h.1, refl)
+sort lines faults.NoMemory h = absurd h
 
--- and one fault at most, but where memory runs out
-pub one_fault : (lines : List (List ℕ)) (f g : ConfFault) → IsFaultOf lines f → IsFaultOf lines g → f ≢ faults.NoMemory → g ≢ faults.NoMemory → f ≡ g
+-- and one fault at most
+pub one_fault : (lines : List (List ℕ)) (f g : ConfFault) → IsFaultOf lines f → IsFaultOf lines g → f ≡ g
 unfolding Sort
-one_fault lines f g h k some other = elim (sort lines f h) [
-  | inr (inr memory) ↦ absurd (some memory)
+one_fault lines f g h k = elim (sort lines f h) [
   | inl first ↦ elim (sort lines g k) [
-    | inr (inr memory) ↦ absurd (other memory)
     | inl second ↦ one_first (fault_at lines) f g first second
-    | inr (inl missing) ↦ absurd (no_first (fault_at lines) f missing.1 first)
+    | inr missing ↦ absurd (no_first (fault_at lines) f missing.1 first)
   ]
-  | inr (inl missing) ↦ elim (sort lines g k) [
-    | inr (inr memory) ↦ absurd (other memory)
+  | inr missing ↦ elim (sort lines g k) [
     | inl second ↦ absurd (no_first (fault_at lines) g missing.1 second)
-    | inr (inl again) ↦ missing.3 ∙ ap faults.Missing (one_missing lines missing.0 again.0 missing.2 again.2) ∙ sym again.3
+    | inr again ↦ missing.3 ∙ ap faults.Missing (one_missing lines missing.0 again.0 missing.2 again.2) ∙ sym again.3
   ]
 ]
 
@@ -155,16 +147,16 @@ one_fault lines f g h k some other = elim (sort lines f h) [
 pub one_list : (lines : List (List ℕ)) (a b : List Addr) → lists.IsListOf lines a → lists.IsListOf lines b → a ≡ b
 one_list lines a b h k = h.addresses ∙ sym k.addresses
 
-pub list_or_fault : (lines : List (List ℕ)) (list : List Addr) (fault : ListFault) → lists.IsListOf lines list → lists.IsFaultOf lines fault → fault ≡ list_faults.NoMemory
-list_or_fault lines list (list_faults.BadAddress n) h k = absurd (no_first _ _ h.faultless k)
-list_or_fault lines list list_faults.TooMany h k = absurd (no_first _ _ h.faultless k)
-list_or_fault lines list list_faults.NoMemory h k = refl
+pub list_or_fault : (lines : List (List ℕ)) (list : List Addr) (fault : ListFault) → lists.IsListOf lines list → lists.IsFaultOf lines fault → ⊥
+list_or_fault lines list (list_faults.BadAddress n) h k = no_first _ _ h.faultless k
+list_or_fault lines list list_faults.TooMany h k = no_first _ _ h.faultless k
+list_or_fault lines list list_faults.NoMemory h k = k
 
-pub one_list_fault : (lines : List (List ℕ)) (f g : ListFault) → lists.IsFaultOf lines f → lists.IsFaultOf lines g → f ≢ list_faults.NoMemory → g ≢ list_faults.NoMemory → f ≡ g
-one_list_fault lines (list_faults.BadAddress n) (list_faults.BadAddress m) h k some other = one_first _ _ _ h k
-one_list_fault lines (list_faults.BadAddress n) list_faults.TooMany h k some other = one_first _ _ _ h k
-one_list_fault lines list_faults.TooMany (list_faults.BadAddress m) h k some other = one_first _ _ _ h k
-one_list_fault lines list_faults.TooMany list_faults.TooMany h k some other = refl
-one_list_fault lines list_faults.NoMemory g h k some other = absurd (some refl)
-one_list_fault lines (list_faults.BadAddress n) list_faults.NoMemory h k some other = absurd (other refl)
-one_list_fault lines list_faults.TooMany list_faults.NoMemory h k some other = absurd (other refl)
+pub one_list_fault : (lines : List (List ℕ)) (f g : ListFault) → lists.IsFaultOf lines f → lists.IsFaultOf lines g → f ≡ g
+one_list_fault lines (list_faults.BadAddress n) (list_faults.BadAddress m) h k = one_first _ _ _ h k
+one_list_fault lines (list_faults.BadAddress n) list_faults.TooMany h k = one_first _ _ _ h k
+one_list_fault lines list_faults.TooMany (list_faults.BadAddress m) h k = one_first _ _ _ h k
+one_list_fault lines list_faults.TooMany list_faults.TooMany h k = refl
+one_list_fault lines list_faults.NoMemory g h k = absurd h
+one_list_fault lines (list_faults.BadAddress n) list_faults.NoMemory h k = absurd k
+one_list_fault lines list_faults.TooMany list_faults.NoMemory h k = absurd k

@@ -1,4 +1,3 @@
-pub mod AddressLaws
 pub mod ConfLaws
 pub mod LineLaws
 pub mod LinesLaws
@@ -9,4 +8,7 @@ pub mod SettingLaws
 pub mod TableLaws
 pub mod TextLaws
 pub mod FileLaws
+pub mod FilesLaws
+pub mod FilesOutcome
 pub mod LastLine
+pub mod Told

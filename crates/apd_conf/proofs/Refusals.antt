@@ -2,8 +2,9 @@
 use Rattle.std.proofs.Common.{◌≡◌, ℕ, ◌<◌, ◌↔◌, List, Result, Ok, Err, IsOk, refl, sym, ap, subst, ◌∙◌, arith}
 use Rattle.apd_conf.specs.declared.conf.Conf.{Conf}
 use Rattle.apd_conf.specs.declared.confs_fault.ConfsFault.{ConfsFault}
-use Rattle.apd_conf.specs.declared.confs_fault.ConfsFault.TheVariants.{Empty, TooMany, SameInterface, SameBssid, NoMemory}
+use Rattle.apd_conf.specs.declared.confs_fault.ConfsFault.TheVariants.{Empty, TooMany, SameInterface, SameBssid}
 use Rattle.apd_conf.specs.Confs.{IsLeastRepeated, AreConfs, IsRefused}
+use Rattle.apd_conf.proofs.Told.{same_err, ok_err}
 
 least_below : {A : Type 0} (xs : List A) (p q : ℕ) → IsLeastRepeated xs p → IsLeastRepeated xs q → p < q → ⊥
 least_below xs p q hp hq lt = hq.least p lt hp.repeated
@@ -31,24 +32,12 @@ one_fault xs (SameBssid p) Empty h k = absurd (omega (arith, k, h.0.0))
 one_fault xs (SameBssid p) TooMany h k = absurd (omega (arith, k, h.0.1))
 one_fault xs (SameBssid p) (SameInterface q) h k = absurd (h.1 q k.1.repeated)
 one_fault xs (SameBssid p) (SameBssid q) h k = ap SameBssid (one_least _ p q h.2 k.2)
-one_fault xs NoMemory g h k = absurd h
-one_fault xs Empty NoMemory h k = absurd k
-one_fault xs TooMany NoMemory h k = absurd k
-one_fault xs (SameInterface p) NoMemory h k = absurd k
-one_fault xs (SameBssid p) NoMemory h k = absurd k
 
 pub not_both : (xs : List Conf) (f : ConfsFault) → AreConfs xs → IsRefused xs f → ⊥
 not_both xs Empty h k = omega (arith, h.count.0, k)
 not_both xs TooMany h k = omega (arith, h.count.1, k)
 not_both xs (SameInterface p) h k = h.interfaces p k.1.repeated
 not_both xs (SameBssid p) h k = h.bssids p k.2.repeated
-not_both xs NoMemory h k = k
-
-same_err : {T : Type 0} (f g : ConfsFault) → ◌≡◌ {A = Result T ConfsFault} (Err f) (Err g) → f ≡ g
-same_err f g e = cc
-
-ok_err : {T : Type 0} (x : T) (f : ConfsFault) → ◌≡◌ {A = Result T ConfsFault} (Ok x) (Err f) → ⊥
-ok_err x f e = cc
 
 not_ok : (T : Type 0) (f : ConfsFault) → IsOk {T = T} (Err f) → ⊥
 not_ok T f e = cc

@@ -6,12 +6,7 @@ use Rattle.std.specs.Option.{option_map, option_copied, is_some}
 use Rattle.std.proofs.lemmas.Option.{slice_get-map, slice_get_read, slice_get_within}
 use Rattle.std.proofs.lemmas.List.{length-map}
 use Rattle.apd_conf.specs.Confs.{IsRepeatedAt, IsLeastRepeated}
-
-none_some : {A : Type 0} (v : A) → None ≡ Some v → ⊥
-none_some v e = cc
-
-same_some : {A : Type 0} (x y : A) → Some x ≡ Some y → x ≡ y
-same_some x y e = cc
+use Rattle.apd_base.proofs.Cases.{same_some, none_is_some}
 
 some_found : {A : Type 0} (o : Option (Bor A)) (r : Option A) → option_copied o ≡ r → IsSome o → IsSome r
 some_found None r e h = cc
@@ -35,13 +30,13 @@ module _ {X A : Type 0} (eq : A → A → Bool) (part : X → A) where
 
   -- what stands at one of the first n places is found
   not_before : ((a : A) → eq a a ≡ true) → (xs : List X) (n p : ℕ) (a : A) → p < n → slice_get (map part xs) p ≡ Some a → find (λ y. eq a (part y)) (take n xs) ≡ None → ⊥
-  not_before itself [] n p a lt at f = absurd (none_some a at)
+  not_before itself [] n p a lt at f = absurd (none_is_some a at)
   not_before itself (x ∷ xs) zero p a lt at f = absurd (omega arith)
   not_before itself (x ∷ xs) (suc n) zero a lt at f =
-      none_some x (sym f ∙ ap (λ b. cond b (Some x) (find (λ y. eq a (part y)) (take n xs))) (subst (λ z. eq a z ≡ true) (sym (same_some (part x) a at)) (itself a)))
+      none_is_some x (sym f ∙ ap (λ b. cond b (Some x) (find (λ y. eq a (part y)) (take n xs))) (subst (λ z. eq a z ≡ true) (sym (same_some (part x) a at)) (itself a)))
   not_before itself (x ∷ xs) (suc n) (suc p) a lt at f =
       elim (eq a (part x)) as (λ b. cond b (Some x) (find (λ y. eq a (part y)) (take n xs)) ≡ None → ⊥) [
-        | true ↦ λ g. none_some x (sym g)
+        | true ↦ λ g. none_is_some x (sym g)
         | false ↦ λ g. not_before itself xs n p a (omega arith) at g
       ] f
 

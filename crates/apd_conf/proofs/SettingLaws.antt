@@ -19,6 +19,7 @@ use Rattle.apd_conf.specs.Table.{rule_of}
 use Rattle.apd_conf.specs.Values.{accepts}
 use Rattle.apd_conf.specs.ConfFile.{setting_of, refusal, value_fault, setting_fault, line_fault, fault_by, fault_at, value_for, value_in, value_of, IsFaultOf}
 use Rattle.apd_conf.proofs.LineLaws.{IsNext, behind_none}
+use Rattle.apd_base.proofs.Cases.{same_some}
 
 is_equals : ℕ → Bool
 is_equals = is_byte 61
@@ -66,9 +67,6 @@ module _ (all : List (List ℕ)) (n : ℕ) (line : List ℕ) (rest : List (List 
 pub all_faultless : (all : List (List ℕ)) (n : ℕ) → n ≡ length all → ((m : ℕ) → m < n → fault_at all m ≡ None) → IsFaultless (fault_at all)
 all_faultless all n end none m = elim (cases_lt m n) [ inl lt ↦ none m lt | inr le ↦ ap (fault_by m) (behind_none all m (omega arith)) ]
 
-same_some : {A : Type 0} (x y : A) → Some x ≡ Some y → x ≡ y
-same_some x y e = cc
-
 by_bytes : (xs ys : List ℕ) → bytes_eq xs ys ≡ true → xs ≡ ys
 by_bytes xs ys h = (bytes_eq-Decides xs ys).0 h
 
@@ -113,6 +111,9 @@ module _ (name : List ℕ) (rule : Rule) (ruled : rule_of name ≡ Some rule) wh
   pub taken_of : (all : List (List ℕ)) → IsFaultless (fault_at all) → IfSome (value_of name all) (λ value. accepts rule value ≡ true)
   unfolding value_of
   taken_of all none = taken_last 0 all None (λ m. subst (λ k. fault_by k (slice_get all m) ≡ None) (omega arith) (none m)) tt
+
+  pub taken_value : (all : List (List ℕ)) → IsFaultless (fault_at all) → (value : List ℕ) → value_of name all ≡ Some value → accepts rule value ≡ true
+  taken_value all none value is = subst (λ o. IfSome o (λ v. accepts rule v ≡ true)) is (taken_of all none)
 
 -- the same of a value that is lent
 pub lent_taken : (rule : Rule) (lent : Option (Bor (List ℕ))) (value : Option (List ℕ)) → option_copied lent ≡ value → IfSome value (λ v. accepts rule v ≡ true)

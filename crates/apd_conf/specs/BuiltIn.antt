@@ -2,6 +2,7 @@
 use Rattle.std.specs.Prelude.{[], ◌∷◌, None, codes}
 use Rattle.std.proofs.Common.{lit≤}
 use Rattle.apd_base.specs.declared.station.AclMode.TheVariants.{AcceptUnlessDenied}
+use Rattle.apd_base.specs.declared.limits.TheConstants.{MAX_STATIONS}
 use Rattle.apd_conf.specs.declared.conf.Conf.{Conf}
 use Rattle.apd_conf.specs.declared.hw_mode.HwMode.TheVariants.{G}
 use Rattle.apd_conf.specs.declared.auth_algs.AuthAlgs.TheVariants.{OpenAndShared}
@@ -15,7 +16,7 @@ built_in = record {
   hw_mode = G;
   channel = 6;
   beacon_int = 100;
-  max_num_sta = record { count = 2007; in_range = lit≤ tt };
+  max_num_sta = record { count = MAX_STATIONS; in_range = lit≤ tt };
   auth_algs = OpenAndShared;
   ap_max_inactivity = 300;
   ignore_broadcast_ssid = No;

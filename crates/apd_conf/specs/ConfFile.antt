@@ -4,6 +4,7 @@ use Rattle.std.specs.List.{position, filter_map, last_or}
 use Rattle.std.specs.Option.{option_map}
 use Rattle.std.specs.Str.{bytes_eq}
 use Rattle.apd_base.specs.Mode.{mode_number}
+use Rattle.apd_base.specs.Text.{equals}
 use Rattle.apd_conf.specs.declared.rule.Rule.{Rule}
 use Rattle.apd_conf.specs.declared.rule.Rule.TheVariants.{Interface, Bssid, Ssid, Band, Number, File, Ignored, Security}
 use Rattle.apd_conf.specs.declared.hw_mode.HwMode.{HwMode}
@@ -16,14 +17,14 @@ use Rattle.apd_conf.specs.declared.conf_fault.ConfFault.TheVariants as faults
 use Rattle.apd_conf.specs.Auth.{algs_number}
 use Rattle.apd_conf.specs.Codes.{quiet_number}
 use Rattle.apd_conf.specs.Lines.{is_skipped}
-use Rattle.apd_conf.specs.ListFile.{address_of}
+use Rattle.apd_base.specs.Addr.{address_of}
 use Rattle.apd_conf.specs.Faults.{IsFirstFault, IsFaultless}
 use Rattle.apd_conf.specs.Table.{rule_of, channel, beacon_int, max_num_sta, auth_algs, ap_max_inactivity, ignore_broadcast_ssid, max_listen_interval, macaddr_acl}
 use Rattle.apd_conf.specs.Values.{accepts, number_or_default}
 
 -- the name of a line is what stands before its first '=', and the value all that stands behind it
 unfoldable pub setting_of : List ℕ → Option (List ℕ × List ℕ)
-setting_of line = option_map (λ place. (take place line, drop (place + 1) line)) (position (λ b. b == 61) line)
+setting_of line = option_map (λ place. (take place line, drop (place + 1) line)) (position (λ b. b == equals) line)
 
 -- the fault of line n, counted from 1, where its name has this rule and the rule does not take its value
 abbrev pub refusal : ℕ → Rule → ConfFault
@@ -97,12 +98,12 @@ IsMissing lines required.Interface = value_of (codes "interface") lines ≡ None
 IsMissing lines required.Bssid = IsSome (value_of (codes "interface") lines) × (value_of (codes "bssid") lines ≡ None)
 IsMissing lines required.Ssid = IsSome (value_of (codes "interface") lines) × IsSome (value_of (codes "bssid") lines) × (value_of (codes "ssid") lines ≡ None)
 
--- what is told of other lines: the first fault of a line, and where no line is faulty the first name that is
--- missing; or memory runs out
+-- the fault of other lines: the first fault of a line, and where no line is faulty the first name that is
+-- missing. That memory runs out is no fault of theirs
 abbrev pub IsFaultOf : List (List ℕ) → ConfFault → Type 0
 IsFaultOf lines (faults.NoEquals n) = IsFirstFault (fault_at lines) (faults.NoEquals n)
 IsFaultOf lines (faults.Unknown n) = IsFirstFault (fault_at lines) (faults.Unknown n)
 IsFaultOf lines (faults.BadValue n) = IsFirstFault (fault_at lines) (faults.BadValue n)
 IsFaultOf lines (faults.Security n) = IsFirstFault (fault_at lines) (faults.Security n)
 IsFaultOf lines (faults.Missing name) = IsFaultless (fault_at lines) × IsMissing lines name
-IsFaultOf lines faults.NoMemory = Unit {0}
+IsFaultOf lines faults.NoMemory = ⊥

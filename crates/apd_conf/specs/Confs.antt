@@ -5,10 +5,11 @@ use Rattle.std.specs.List.{find}
 use Rattle.std.specs.Ordering.{nat_cmp, eq_by_cmp}
 use Rattle.std.specs.Cmp.Lexicographic.{slice_cmp}
 use Rattle.apd_base.specs.declared.address.Bssid.{Bssid}
+use Rattle.apd_base.specs.declared.limits.TheConstants.{MAX_BSS}
 use Rattle.apd_base.specs.Addr.{bssid_cmp}
 use Rattle.apd_conf.specs.declared.conf.Conf.{Conf}
 use Rattle.apd_conf.specs.declared.confs_fault.ConfsFault.{ConfsFault}
-use Rattle.apd_conf.specs.declared.confs_fault.ConfsFault.TheVariants.{Empty, TooMany, SameInterface, SameBssid, NoMemory}
+use Rattle.apd_conf.specs.declared.confs_fault.ConfsFault.TheVariants.{Empty, TooMany, SameInterface, SameBssid}
 
 abbrev pub interfaces : List Conf → List (List ℕ)
 interfaces confs = map (λ c. c.interface) confs
@@ -34,9 +35,10 @@ abbrev pub AreDistinct : {A : Type 0} → List A → Type 0
 AreDistinct values = (p : ℕ) → ¬ (IsRepeatedAt values p)
 
 abbrev pub IsCountInRange : List Conf → Type 0
-IsCountInRange confs = (1 ≤ length confs) × (length confs ≤ 8)
+IsCountInRange confs = (1 ≤ length confs) × (length confs ≤ MAX_BSS)
 
--- a list that is taken: 1 to 8, no interface twice, no BSSID twice
+-- a list that is taken: one configuration to as many as a daemon has radios at most, no interface twice, no
+-- BSSID twice
 pub record AreConfs (confs : List Conf) : Type 0 where
   pub count : IsCountInRange confs
   pub interfaces : AreDistinct (interfaces confs)
@@ -45,10 +47,9 @@ pub record AreConfs (confs : List Conf) : Type 0 where
 -- a list that is refused with this fault
 abbrev pub IsRefused : List Conf → ConfsFault → Type 0
 IsRefused confs Empty = length confs ≡ 0
-IsRefused confs TooMany = 8 < length confs
+IsRefused confs TooMany = MAX_BSS < length confs
 IsRefused confs (SameInterface place) = IsCountInRange confs × IsLeastRepeated (interfaces confs) place
 IsRefused confs (SameBssid place) = IsCountInRange confs × AreDistinct (interfaces confs) × IsLeastRepeated (bssids confs) place
-IsRefused confs NoMemory = ⊥
 
 -- the configuration of a BSSID
 abbrev pub conf_at : List Conf → Bssid → Option Conf

@@ -5,6 +5,7 @@ pub mod Conf
 pub mod ConfFile
 pub mod Confs
 pub mod Faults
+pub mod Files
 pub mod Lines
 pub mod ListFile
 pub mod Names

@@ -1,12 +1,14 @@
 -- List files: each line adds an address to the list so far, or takes one away.
-use Rattle.std.specs.Prelude.{◌≡◌, ℕ, ◌+◌, ◌*◌, ◌==◌, ◌&&◌, ◌||◌, Bool, true, nat_lt, ◌≤◌, List, [], ◌∷◌, length, take, drop, map, fold, slice_get, slice_index, AllPairs, Option, Some, None, if◌then◌else◌}
-use Rattle.std.specs.List.{list_all}
+use Rattle.std.specs.Prelude.{◌≡◌, ℕ, ◌+◌, ◌==◌, ◌||◌, Bool, true, nat_lt, ◌≤◌, List, [], ◌∷◌, length, take, drop, fold, slice_get, slice_index, AllPairs, Option, Some, None, if◌then◌else◌}
 use Rattle.std.specs.Option.{option_map}
 use Rattle.std.specs.FinMap as finmap
 use Rattle.std.specs.declared.cmp.Ordering.TheVariants.{Less}
 use Rattle.apd_base.specs.Sets.{SetOf}
-use Rattle.apd_base.specs.Addr.{addr_cmp, byte_value}
+use Rattle.apd_base.specs.Addr.{addr_cmp, address_of}
+use Rattle.apd_base.specs.Text.{blank, hyphen, tab}
 use Rattle.apd_base.specs.declared.address.Addr.{Addr}
+use Rattle.apd_base.specs.declared.address.TheConstants.{TEXT_LENGTH}
+use Rattle.apd_base.specs.declared.limits.TheConstants.{MAX_LISTED}
 use Rattle.apd_conf.specs.declared.list_file.Edit.{Edit}
 use Rattle.apd_conf.specs.declared.list_file.Edit.TheVariants.{Skip, Add, Remove}
 use Rattle.apd_conf.specs.declared.list_fault.ListFault.{ListFault}
@@ -14,47 +16,20 @@ use Rattle.apd_conf.specs.declared.list_fault.ListFault.TheVariants.{BadAddress,
 use Rattle.apd_conf.specs.Lines.{is_skipped}
 use Rattle.apd_conf.specs.Faults.{IsFirstFault, IsFaultless}
 
--- the byte of the pair of digits number i, and what stands behind that pair
-abbrev pub pair_at : List ℕ → ℕ → Option ℕ
-pair_at text i = byte_value (slice_index text (3 * i)) (slice_index text (3 * i + 1))
-
-abbrev pub is_joined_at : List ℕ → ℕ → Bool
-is_joined_at text i = slice_index text (3 * i + 2) == 58
-
-abbrev pub with_front : Option ℕ → Option (List ℕ) → Option (List ℕ)
-with_front (Some x) (Some xs) = Some (x ∷ xs)
-with_front (Some x) None = None
-with_front None xs = None
-
--- all of them, if each is there
-abbrev pub all_of : List (Option ℕ) → Option (List ℕ)
-all_of [] = Some []
-all_of (x ∷ xs) = with_front x (all_of xs)
-
-abbrev pub is_joined : List ℕ → Bool
-is_joined text = list_all (is_joined_at text) (0 ∷ 1 ∷ 2 ∷ 3 ∷ 4 ∷ [])
-
--- the address that a text is: six pairs of digits joined by ':'
-unfoldable pub address_of : List ℕ → Option Addr
-address_of text =
-    if length text == 17 && is_joined text
-    then option_map (λ bytes. record { 0 = bytes }) (all_of (map (pair_at text) (0 ∷ 1 ∷ 2 ∷ 3 ∷ 4 ∷ 5 ∷ [])))
-    else None
-
 -- the end, or a blank or a tab and anything
 abbrev pub is_end : List ℕ → Bool
 is_end [] = true
-is_end (b ∷ bs) = b == 32 || b == 9
+is_end (b ∷ bs) = b == blank || b == tab
 
 -- the address at the front of a text, and then the end
 abbrev pub address_at : List ℕ → Option Addr
-address_at text = if is_end (drop 17 text) then address_of (take 17 text) else None
+address_at text = if is_end (drop TEXT_LENGTH text) then address_of (take TEXT_LENGTH text) else None
 
 -- what a line does, if it is one of a list file: a '-' in front takes the address away
 unfoldable pub edit_of : List ℕ → Option Edit
 edit_of line =
     if is_skipped line then Some Skip
-    else (if slice_index line 0 == 45 then option_map Remove (address_at (drop 1 line)) else option_map Add (address_at line))
+    else (if slice_index line 0 == hyphen then option_map Remove (address_at (drop 1 line)) else option_map Add (address_at line))
 
 abbrev pub edited : SetOf addr_cmp → Option Edit → SetOf addr_cmp
 edited set None = set
@@ -67,10 +42,10 @@ abbrev pub listed : List (List ℕ) → SetOf addr_cmp
 listed lines = fold (λ set line. edited set (edit_of line)) finmap.empty lines
 
 -- the fault of a line whose place is n, with the list after it: it is no line of a list file, or makes more
--- than 1024 addresses
+-- addresses than a list may have
 abbrev pub fault_of : ℕ → Option Edit → SetOf addr_cmp → Option ListFault
 fault_of n None after = Some (BadAddress (n + 1))
-fault_of n (Some edit) after = if nat_lt 1024 (finmap.len after) then Some TooMany else None
+fault_of n (Some edit) after = if nat_lt MAX_LISTED (finmap.len after) then Some TooMany else None
 
 abbrev pub fault_by : ℕ → Option (List ℕ) → SetOf addr_cmp → Option ListFault
 fault_by n None after = None
@@ -84,13 +59,13 @@ pub record IsListOf (lines : List (List ℕ)) (list : List Addr) : Type 0 where
   pub faultless : IsFaultless (fault_at lines)
   pub addresses : list ≡ finmap.keys (listed lines)
 
--- what is told where one is, or memory runs out
+-- the fault of other lines. That memory runs out is no fault of theirs
 abbrev pub IsFaultOf : List (List ℕ) → ListFault → Type 0
 IsFaultOf lines (BadAddress n) = IsFirstFault (fault_at lines) (BadAddress n)
 IsFaultOf lines TooMany = IsFirstFault (fault_at lines) TooMany
-IsFaultOf lines NoMemory = Unit {0}
+IsFaultOf lines NoMemory = ⊥
 
--- what is read of every list file: at most 1024 addresses, each below those behind it
+-- what is read of every list file: no more addresses than a list may have, each below those behind it
 pub record IsList (list : List Addr) : Type 0 where
-  pub few : length list ≤ 1024
+  pub few : length list ≤ MAX_LISTED
   pub rising : AllPairs (λ a b. addr_cmp a b ≡ Less) list

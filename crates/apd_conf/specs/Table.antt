@@ -3,6 +3,7 @@ use Rattle.std.specs.Prelude.{ℕ, Bool, List, [], ◌∷◌, Option, Some, code
 use Rattle.std.specs.List.{find, list_any, starts_with}
 use Rattle.std.specs.Option.{option_map}
 use Rattle.std.specs.Str.{bytes_eq}
+use Rattle.apd_base.specs.declared.limits.TheConstants.{MAX_STATIONS}
 use Rattle.apd_conf.specs.declared.rule.Range.{Range}
 use Rattle.apd_conf.specs.declared.rule.Rule.{Rule}
 use Rattle.apd_conf.specs.declared.rule.Rule.TheVariants.{Interface, Bssid, Ssid, Band, Number, File, Ignored, Security}
@@ -15,7 +16,7 @@ abbrev pub beacon_int : Range
 beacon_int = record { least = 15; greatest = 65535; default = 100 }
 
 abbrev pub max_num_sta : Range
-max_num_sta = record { least = 0; greatest = 2007; default = 2007 }
+max_num_sta = record { least = 0; greatest = MAX_STATIONS; default = MAX_STATIONS }
 
 abbrev pub auth_algs : Range
 auth_algs = record { least = 1; greatest = 3; default = 3 }

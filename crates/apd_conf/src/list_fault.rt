@@ -26,22 +26,3 @@ impl From<AllocError> for ListFault {
         ListFault::NoMemory
     }
 }
-
-#[cfg(test)]
-mod tests {
-    use super::*;
-    use std::test::Fail;
-
-    #[test]
-    fn texts(rt: HostRuntime) -> Result<(), Fail> {
-        for (fault, want) in [
-            (ListFault::BadAddress(3), "line 3: bad address"),
-            (ListFault::TooMany, "too many addresses"),
-            (ListFault::NoMemory, "out of memory"),
-        ] {
-            let text = format!(in rt.alloc(); "{fault}")?;
-            assert_eq!(rt; text.as_str(), want);
-        }
-        Ok(())
-    }
-}

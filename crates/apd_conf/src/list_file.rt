@@ -1,13 +1,18 @@
 //! List files: addresses of stations, one a line.
-ghost use Rattle.std.specs.Prelude.{◌≡◌, Some, map, IfOk, IfErr, OnOk, T};
+ghost use Rattle.std.specs.Prelude.{◌≡◌, ◌≢◌, ◌↔◌, ◌<◌, ◌≤◌, Err, Some, length, map, IfOk, IfErr, OnOk, OnErr, T};
 ghost use Rattle.std.specs.FinMap as finmap;
 ghost use Rattle.std.specs.FinMap.{is_sorted, from_sorted};
 ghost use Rattle.apd_base.specs.Addr.{addr_cmp};
+ghost use Rattle.apd_base.specs.declared.limits.TheConstants.{MAX_LISTED};
+ghost use Rattle.apd_conf.specs.declared.list_fault.ListFault.{ListFault as Fault};
+ghost use Rattle.apd_conf.specs.declared.list_fault.ListFault.TheVariants.{TooMany, NoMemory};
 ghost use Rattle.apd_conf.specs.Lines.{lines};
-ghost use Rattle.apd_conf.specs.ListFile.{address_of, is_end, address_at, edit_of, edited, IsListOf, IsList, IsFaultOf};
+ghost use Rattle.apd_conf.specs.ListFile.{is_end, address_at, edit_of, edited, IsListOf, IsList, IsFaultOf};
 
 use crate::lines::{is_skipped, lines_of};
+use crate::list_so_far::ListSoFar;
 use crate::{AddressList, ListFault};
+use apd_base::address::TEXT_LENGTH;
 use apd_base::limits::MAX_LISTED;
 use apd_base::{Addr, rows};
 use std::alloc::{AllocError, Global};
@@ -23,12 +28,6 @@ enum Edit {
     Remove(Addr),
 }
 
-pub(crate) fn address_of(text: &[u8]) -> Option<Addr>
-    ensures { result ≡ address_of text.now }
-{
-    Addr::parse(text)
-}
-
 fn is_end(text: &[u8]) -> bool
     ensures { result ≡ is_end text.now }
 {
@@ -41,11 +40,11 @@ fn is_end(text: &[u8]) -> bool
 fn address_at(text: &[u8]) -> Option<Addr>
     ensures { result ≡ address_at text.now }
 {
-    if text.len() < 17 {
+    if text.len() < TEXT_LENGTH {
         return None;
     }
-    if is_end(&text[17..]) {
-        address_of(&text[..17])
+    if is_end(&text[TEXT_LENGTH..]) {
+        Addr::parse(&text[..TEXT_LENGTH])
     } else {
         None
     }
@@ -65,17 +64,72 @@ fn edit_of(line: &[u8]) -> Option<Edit>
     }
 }
 
-fn apply(list: &mut Vec<(Addr, ())>, edit: Edit) -> Result<(), AllocError>
-    requires { T (is_sorted addr_cmp list.old.items) }
-    ensures sorted { T (is_sorted addr_cmp list.new.items) }
-    ensures ok { OnOk result (from_sorted {R = addr_cmp} list.new.items ≡ edited (from_sorted list.old.items) (Some edit)) }
+// Adds an address, if there is room for one that is not there.
+fn add(list: &mut ListSoFar, addr: Addr) -> Result<(), ListFault>
+    requires { T (is_sorted addr_cmp list.old) }
+    ensures sorted { T (is_sorted addr_cmp list.new) }
+    ensures few { length list.new ≤ MAX_LISTED }
+    ensures ok { OnOk result (from_sorted {R = addr_cmp} list.new ≡ finmap.insert (from_sorted list.old) addr tt) }
+    ensures err { IfErr result (λ fault. fault ≡ TooMany) }
+    ensures many { OnErr result (MAX_LISTED < finmap.len (finmap.insert (from_sorted {R = addr_cmp} list.old) addr tt)) }
+{
+    let Err(place) = rows::place(list.as_slice(), &addr) else {
+        return Ok(());
+    };
+    if list.as_slice().len() == MAX_LISTED {
+        return Err(ListFault::TooMany);
+    }
+    list.insert(place, addr);
+    Ok(())
+}
+
+// Takes an address away, if it is there.
+fn take_away(list: &mut ListSoFar, addr: Addr)
+    requires { T (is_sorted addr_cmp list.old) }
+    ensures sorted { T (is_sorted addr_cmp list.new) }
+    ensures few { length list.new ≤ MAX_LISTED }
+    ensures without { from_sorted {R = addr_cmp} list.new ≡ finmap.remove (from_sorted list.old) addr }
+{
+    if let Ok(place) = rows::place(list.as_slice(), &addr) {
+        list.remove(place);
+    }
+}
+
+fn apply(list: &mut ListSoFar, edit: Edit) -> Result<(), ListFault>
+    requires sorted { T (is_sorted addr_cmp list.old) }
+    requires few { length list.old ≤ MAX_LISTED }
+    ensures sorted { T (is_sorted addr_cmp list.new) }
+    ensures few { length list.new ≤ MAX_LISTED }
+    ensures ok { OnOk result (from_sorted {R = addr_cmp} list.new ≡ edited (from_sorted list.old) (Some edit)) }
+    ensures err { IfErr result (λ fault. fault ≡ TooMany) }
+    ensures many { OnErr result (MAX_LISTED < finmap.len (edited (from_sorted {R = addr_cmp} list.old) (Some edit))) }
 {
     match edit {
-        Edit::Skip => {}
-        Edit::Add(addr) => rows::put(list, addr, ())?,
-        Edit::Remove(addr) => rows::remove(list, &addr),
+        Edit::Skip => Ok(()),
+        Edit::Add(addr) => add(list, addr),
+        Edit::Remove(addr) => {
+            take_away(list, addr);
+            Ok(())
+        }
     }
-    Ok(())
+}
+
+// The addresses of the lines, as rows. It takes no memory.
+fn rows_of(file: &[u8]) -> Result<ListSoFar, ListFault>
+    ensures ok { IfOk result (λ rows. IsListOf (lines file.now) (map (λ row. row.0) rows)) }
+    ensures list { IfOk result (λ rows. IsList (map (λ row. row.0) rows)) }
+    ensures err { IfErr result (IsFaultOf (lines file.now)) }
+{
+    let mut list = ListSoFar::new();
+    let mut number = 0;
+    for line in lines_of(file) {
+        number += 1;
+        let Some(edit) = edit_of(line) else {
+            return Err(ListFault::BadAddress(number));
+        };
+        apply(&mut list, edit)?;
+    }
+    Ok(list)
 }
 
 fn addresses(alloc: Global, list: &[(Addr, ())]) -> Result<Vec<Addr>, AllocError>
@@ -92,105 +146,12 @@ fn addresses(alloc: Global, list: &[(Addr, ())]) -> Result<Vec<Addr>, AllocError
 ///
 /// # Errors
 ///
-/// The fault of the first faulty line, or memory runs out.
+/// The fault of the first faulty line. Where no line is faulty, memory may run out: the looking takes none.
 pub fn read_list(alloc: Global, file: &[u8]) -> Result<AddressList, ListFault>
     ensures ok { IfOk result (IsListOf (lines file.now)) }
     ensures list { IfOk result IsList }
-    ensures err { IfErr result (IsFaultOf (lines file.now)) }
+    ensures err { (fault : Fault) → fault ≢ NoMemory → ((result ≡ Err fault) ↔ IsFaultOf (lines file.now) fault) }
 {
-    let mut list = Vec::new(alloc);
-    let mut number = 0;
-    for line in lines_of(file) {
-        number += 1;
-        let Some(change) = edit_of(line) else {
-            return Err(ListFault::BadAddress(number));
-        };
-        apply(&mut list, change)?;
-        if list.len() > MAX_LISTED {
-            return Err(ListFault::TooMany);
-        }
-    }
-    Ok(AddressList::from_vec(addresses(alloc, &list)?))
-}
-
-#[cfg(test)]
-mod tests {
-    use super::*;
-    use std::test::Fail;
-
-    const A: Addr = Addr([2, 0, 0, 0, 0, 0xaa]);
-
-    const B: Addr = Addr([2, 0, 0, 0, 0, 0xbb]);
-
-    #[test]
-    fn addresses_are_added_and_taken_away(rt: HostRuntime) -> Result<(), Fail> {
-        for (file, want) in [
-            ("", [].as_slice()),
-            ("-02:00:00:00:00:aa", [].as_slice()),
-            ("02:00:00:00:00:aa x\n02:00:00:00:00:AA", [A].as_slice()),
-            (
-                "02:00:00:00:00:bb\r\n\n# x\n02:00:00:00:00:aa\t\n",
-                [A, B].as_slice(),
-            ),
-            (
-                "02:00:00:00:00:aa\n02:00:00:00:00:bb\n-02:00:00:00:00:aa gone\n",
-                [B].as_slice(),
-            ),
-        ] {
-            let list = read_list(rt.alloc(), file.as_bytes())?;
-            assert_eq!(rt; list.as_slice(), want, "{file}");
-        }
-        Ok(())
-    }
-
-    #[test]
-    fn the_first_faulty_line_is_told(rt: HostRuntime) -> Result<(), Fail> {
-        for (file, want) in [
-            ("\n02:00:00:00:00:a", 2),
-            ("- 02:00:00:00:00:aa", 1),
-            (" 02:00:00:00:00:aa", 1),
-            ("02:00:00:00:00:aa\n02:00:00:00:00:aax\nx", 2),
-            ("02:00:00:00:00:aa\r", 1),
-            ("02-00-00-00-00-aa", 1),
-        ] {
-            let answer = read_list(rt.alloc(), file.as_bytes());
-            assert_eq!(rt; answer.err(), Some(ListFault::BadAddress(want)), "{file}");
-        }
-        Ok(())
-    }
-
-    // So many lines, each with an address of its own.
-    fn lines_of_addresses(alloc: Global, count: u16) -> Result<Vec<u8>, AllocError> {
-        let mut file = Vec::new(alloc);
-        for number in 0..count {
-            let [high, low] = number.to_be_bytes();
-            Addr([2, 0, 0, 0, high, low]).write_text(&mut file)?;
-            file.push(b'\n')?;
-        }
-        Ok(file)
-    }
-
-    #[test]
-    fn the_line_that_makes_1025_addresses_is_refused(rt: HostRuntime) -> Result<(), Fail> {
-        let most = lines_of_addresses(rt.alloc(), 1024)?;
-        let list = read_list(rt.alloc(), &most)?;
-        assert_eq!(rt; list.as_slice().len(), 1024);
-        let more = lines_of_addresses(rt.alloc(), 1025)?;
-        let answer = read_list(rt.alloc(), &more);
-        assert_eq!(rt; answer.err(), Some(ListFault::TooMany));
-        Ok(())
-    }
-
-    #[test]
-    fn too_many_addresses_are_told_at_their_line(rt: HostRuntime) -> Result<(), Fail> {
-        let mut before = lines_of_addresses(rt.alloc(), 1024)?;
-        before.extend_from_slice(b"x\n02:00:00:00:00:00\n02:00:00:00:ff:ff")?;
-        let answer = read_list(rt.alloc(), &before);
-        assert_eq!(rt; answer.err(), Some(ListFault::BadAddress(1025)));
-        let mut behind = lines_of_addresses(rt.alloc(), 1025)?;
-        behind.extend_from_slice(b"x")?;
-        let answer = read_list(rt.alloc(), &behind);
-        assert_eq!(rt; answer.err(), Some(ListFault::TooMany));
-        Ok(())
-    }
+    let list = rows_of(file)?;
+    Ok(AddressList::from_vec(addresses(alloc, list.as_slice())?))
 }

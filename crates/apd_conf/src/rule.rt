@@ -2,6 +2,8 @@
 ghost use Rattle.std.specs.Prelude.{◌≡◌, map};
 ghost use Rattle.apd_conf.specs.Table.{is_one_of, begins_with_one_of, rule_in, rule_of};
 
+use apd_base::limits::MAX_STATIONS;
+
 /// The numbers that a name takes, and the one that it has where no line gives it one.
 #[derive(Clone, Copy, Debug, PartialEq, Eq)]
 pub struct Range {
@@ -45,8 +47,8 @@ pub(crate) const BEACON_INT: Range = Range {
 
 pub(crate) const MAX_NUM_STA: Range = Range {
     least: 0,
-    greatest: 2007,
-    default: 2007,
+    greatest: MAX_STATIONS as u32,
+    default: MAX_STATIONS as u32,
 };
 
 pub(crate) const AUTH_ALGS: Range = Range {

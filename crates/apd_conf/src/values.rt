@@ -4,27 +4,19 @@ ghost use Rattle.std.specs.Str.{is_utf8};
 ghost use Rattle.apd_conf.specs.Names.{is_file_name};
 ghost use Rattle.apd_conf.specs.Values.{number_of, is_within, is_individual, is_band, accepts};
 
-use crate::list_file::address_of;
 use crate::rule::{Range, Rule};
 use crate::{FileName, InterfaceName, Ssid};
 use apd_base::Addr;
+use apd_base::text::decimal_number;
+
+const GREATEST_OF_TEN_DIGITS: u64 = 9_999_999_999;
 
 /// The number that 1 to 10 decimal digits write.
 #[tactic(auto, unfolding(crate::specs::Values::number_of))]
 pub(crate) fn number_of(text: &[u8]) -> Option<u64>
     ensures { result ≡ number_of text.now }
 {
-    if text.is_empty() || text.len() > 10 {
-        return None;
-    }
-    let mut number: u64 = 0;
-    for digit in text {
-        if !digit.is_ascii_digit() {
-            return None;
-        }
-        number = number * 10 + (*digit - b'0') as u64;
-    }
-    Some(number)
+    decimal_number(text, 10, GREATEST_OF_TEN_DIGITS)
 }
 
 fn is_within(range: Range, number: Option<u64>) -> bool
@@ -67,7 +59,7 @@ pub(crate) fn accepts(rule: Rule, value: &[u8]) -> bool
 {
     match rule {
         Rule::Interface => InterfaceName::is_name(value),
-        Rule::Bssid => is_individual(address_of(value)),
+        Rule::Bssid => is_individual(Addr::parse(value)),
         Rule::Ssid => Ssid::is_name(value),
         Rule::Band => is_band(value),
         Rule::Number(range) => is_within(range, number_of(value)),

@@ -13,7 +13,7 @@ use Rattle.std.specs.FinMap.Entries.{below_all}
 use Rattle.std.proofs.lemmas.Bool.{and_parts, both_ways}
 use Rattle.std.proofs.lemmas.List.{append-nil, length-map}
 use Rattle.std.proofs.lemmas.Option.{same_Some}
-use Rattle.apd_base.specs.Addr.{addr_cmp, bssid_cmp}
+use Rattle.apd_base.specs.Addr.{is_among, addr_cmp, bssid_cmp}
 use Rattle.apd_base.specs.Sets.{contains}
 use Rattle.apd_base.specs.State.{State, station_at, is_row_of, list_cmp, which_cmp, list_count}
 use Rattle.apd_base.specs.declared.address.Addr.{Addr}
@@ -22,27 +22,15 @@ use Rattle.apd_base.specs.declared.station.Station.{Station}
 use Rattle.apd_base.specs.declared.station.Which.{Which}
 use Rattle.apd_base.proofs.AddrLaws.{addr_total, addr_exact, bssid_total, bssid_exact, station_total, station_exact}
 use Rattle.apd_base.proofs.StateLaws.{which_total, which_exact, list_total, list_exact}
+use Rattle.apd_base.proofs.Cases.{first_holds, second_holds, is_less}
 use Rattle.apd_base.proofs.MapLaws.{one_or_apart, tied}
 use Rattle.apd_base.proofs.RowsLaws.{is_sorted_head, is_sorted_tail}
 use Rattle.apd_base.proofs.RowsMaps.{entries-retain_keys}
 use Rattle.apd_acl.specs.Least.{IsLeast, IsLeastAbove}
 use Rattle.apd_table.specs.Addresses.{addresses_at}
 use Rattle.apd_ctrl.specs.Texts.{is_above, listed_addresses, row_text, found_reply, station_reply}
-use Rattle.apd_ctrl.specs.Order.{Rising, is_among}
+use Rattle.apd_ctrl.specs.Order.{Rising}
 use Rattle.apd_ctrl.proofs.Rising.{first_is, next_is, same_key, step_on}
-
-first : (a b : Bool) → T (a && b) → T a
-first true b p = tt
-first false b p = p
-
-second : (a b : Bool) → T (a && b) → T b
-second true b p = p
-second false b p = absurd p
-
-less : (r : Ordering) → T (is_lt r) → r ≡ Less
-less Less p = refl
-less Equal p = absurd p
-less Greater p = absurd p
 
 either : {X : Type 0} (u v : Bool) (x : X) (o : Option X) → v ≡ is_some o → (u || v) ≡ is_some (cond u (Some x) o)
 either true v x o e = refl
@@ -70,8 +58,8 @@ module _ {K X : Type 0} {R : K → K → Ordering} (o : IsTotalOrder R) (exact :
   below k pk [] h = tt
   below k pk (e ∷ es) h =
       elim (p e.0) as (λ t. p e.0 ≡ t → AllByRecursion (λ c. addr_cmp (address k) c ≡ Less) (list_map (λ e. address e.0) (cond t (e ∷ filter (λ e. p e.0) es) (filter (λ e. p e.0) es)))) [
-        | true ↦ λ t. (sym (alike (address k) (address e.0)) ∙ (λ i. R (back k pk i) (back e.0 t i)) ∙ less (R k e.0) (first (is_lt (R k e.0)) (below_all R k es) h), below k pk es (second (is_lt (R k e.0)) (below_all R k es) h))
-        | false ↦ λ t. below k pk es (second (is_lt (R k e.0)) (below_all R k es) h)
+        | true ↦ λ t. (sym (alike (address k) (address e.0)) ∙ (λ i. R (back k pk i) (back e.0 t i)) ∙ is_less (R k e.0) (first_holds (is_lt (R k e.0)) (below_all R k es) h), below k pk es (second_holds (is_lt (R k e.0)) (below_all R k es) h))
+        | false ↦ λ t. below k pk es (second_holds (is_lt (R k e.0)) (below_all R k es) h)
       ] refl
 
   rising : (es : List (K × X)) → T (is_sorted R es) → Rising (addresses es)

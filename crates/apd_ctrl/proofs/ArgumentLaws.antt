@@ -12,8 +12,8 @@ use Rattle.std.proofs.lemmas.Slice.Eq.{bytes_eq-Decides}
 use Rattle.std.proofs.Math.Seq.{take-append_seam, drop-append_seam}
 use Rattle.apd_base.specs.declared.address.Addr.{Addr}
 use Rattle.apd_base.specs.declared.station.Which.{Which}
-use Rattle.apd_conf.specs.ListFile.{address_of}
-use Rattle.apd_conf.proofs.AddressLaws.{text-address_of, address_of-text}
+use Rattle.apd_base.specs.Addr.{address_of}
+use Rattle.apd_base.proofs.AddrText.{address_length}
 use Rattle.apd_frame.specs.declared.codes.Reason.{Reason}
 use Rattle.apd_mlme.specs.declared.event.Edit.{Edit}
 use Rattle.apd_mlme.specs.declared.event.Edit.TheVariants.{Add, Remove, Clear}
@@ -32,39 +32,6 @@ mapped f (Some x) y e = (x, refl, same_Some (f x) y e)
 pub split_front : (front text : List ℕ) → starts_with nat_eq text front ≡ true → text ≡ front ++ drop (length front) text
 split_front front text h = sym (ap (λ xs. xs ++ drop (length front) text) ((bytes_eq-Decides front (take (length front) text)).0 h) ∙ take-append-drop (length front) text)
 
--- the number of a reason
-pub number-reads : (n : ℕ) (text : List ℕ) → IsReasonNumber n text → reason_number text ≡ Some n
-unfolding reason_number
-number-reads n text h =
-    let few = h.few in
-    let value = h.value in
-    let small = h.small in
-    let v = digits_value 10 text in
-    let all : (nat_le 1 (length text) && nat_le (length text) 5 && all_ascii_digits text && nat_le v 65535) ≡ true =
-    (λ i. le-leb 1 (length text) h.some i && le-leb (length text) 5 few i && h.digits i && le-leb v 65535 (omega arith) i) in
-    ap (λ b. cond b (Some v) None) all ∙ ap Some value
-
-pub number-says : (n : ℕ) (text : List ℕ) → reason_number text ≡ Some n → IsReasonNumber n text
-unfolding reason_number
-number-says n text e =
-    elim (nat_le 1 (length text) && nat_le (length text) 5 && all_ascii_digits text && nat_le (digits_value 10 text) 65535)
-    as (λ b. (nat_le 1 (length text) && nat_le (length text) 5 && all_ascii_digits text && nat_le (digits_value 10 text) 65535) ≡ b → cond b (Some (digits_value 10 text)) None ≡ Some n → IsReasonNumber n text) [
-      | true ↦ λ t e.
-          let last = and_parts (nat_le 1 (length text) && nat_le (length text) 5 && all_ascii_digits text) (nat_le (digits_value 10 text) 65535) t in
-          let third = and_parts (nat_le 1 (length text) && nat_le (length text) 5) (all_ascii_digits text) last.0 in
-          let second = and_parts (nat_le 1 (length text)) (nat_le (length text) 5) third.0 in
-          let value : digits_value 10 text ≡ n = same_Some (digits_value 10 text) n e in
-          let small : digits_value 10 text ≤ 65535 = leb-true (digits_value 10 text) 65535 last.1 in
-          record {
-            some = leb-true 1 (length text) second.0;
-            few = leb-true (length text) 5 second.1;
-            digits = third.1;
-            value = value;
-            small = omega arith;
-          }
-      | false ↦ λ t e. cc
-    ] refl e
-
 -- no byte, by the length
 no_bytes : (text : List ℕ) → length text ≡ 0 → text ≡ []
 no_bytes [] e = refl
@@ -76,7 +43,7 @@ reason-reads reason text (inl h) = ap reason_of h.0 ∙ ap (λ n. Some (as_reaso
 reason-reads reason text (inr h) =
     ap reason_of h.1
     ∙ ap (λ b. cond b (Some (as_reason 2)) (option_map as_reason (reason_number h.0))) (ne_eqb (length (codes " reason=" ++ h.0)) 0 (λ e. omega arith))
-    ∙ ap (option_map as_reason) (number-reads reason.0 h.0 h.2)
+    ∙ ap (option_map as_reason) h.2
 
 pub reason-says : (reason : Reason) (text : List ℕ) → reason_of text ≡ Some reason → IsReason reason text
 reason-says reason text e =
@@ -88,7 +55,7 @@ reason-says reason text e =
             | true ↦ λ front e.
                 let read = mapped as_reason (reason_number (drop 8 text)) reason e in
                 let value : read.0 ≡ reason.0 = ap (λ (r : Reason). r.0) read.2 in
-                inr (drop 8 text, split_front (codes " reason=") text front, subst (λ n. IsReasonNumber n (drop 8 text)) value (number-says read.0 (drop 8 text) read.1))
+                inr (drop 8 text, split_front (codes " reason=") text front, subst (λ n. IsReasonNumber n (drop 8 text)) value read.1)
             | false ↦ λ front e. cc
           ] refl e
     ] refl e
@@ -97,14 +64,14 @@ reason-says reason text e =
 pub dismissal-reads : (to : Addr) (reason : Reason) (text : List ℕ) → IsDismissal to reason text → dismissal_of text ≡ Some (to, reason)
 dismissal-reads to reason text h =
     let address = h.0 in
-    let long : length address ≡ 17 = h.1.long in
+    let long : length address ≡ 17 = address_length address to h.1 in
     let rest = h.2.0 in
     let is : text ≡ address ++ rest = h.2.1 in
     let whole : length text ≡ length address + length rest = ap length is ∙ length-append address rest in
     let front : take 17 text ≡ address = ap (λ n. take n text) (sym long) ∙ ap (take (length address)) is ∙ take-append_seam address rest in
     let end : drop 17 text ≡ rest = ap (λ n. drop n text) (sym long) ∙ ap (drop (length address)) is ∙ drop-append_seam address rest in
     ap (λ b. cond b None (both (address_of (take 17 text)) (reason_of (drop 17 text)))) (le-ltb (length text) 17 (omega arith))
-    ∙ (λ i. both ((ap address_of front ∙ text-address_of address to.0 h.1) i) ((ap reason_of end ∙ reason-reads reason rest h.2.2) i))
+    ∙ (λ i. both ((ap address_of front ∙ h.1) i) ((ap reason_of end ∙ reason-reads reason rest h.2.2) i))
 
 -- both were there
 parts_of : {A B : Type 0} (a : Option A) (b : Option B) (x : A) (y : B) → both a b ≡ Some (x, y) → (a ≡ Some x) × (b ≡ Some y)
@@ -118,15 +85,15 @@ dismissal-says to reason text e =
       | true ↦ λ t e. cc
       | false ↦ λ t e.
           let parts = parts_of (address_of (take 17 text)) (reason_of (drop 17 text)) to reason e in
-          (take 17 text, address_of-text (take 17 text) to parts.0, (drop 17 text, sym (take-append-drop 17 text), reason-says reason (drop 17 text) parts.1))
+          (take 17 text, parts.0, (drop 17 text, sym (take-append-drop 17 text), reason-says reason (drop 17 text) parts.1))
     ] refl e
 
 -- behind the name of a list
 module _ (which : Which) where
   pub edit-reads : (edit : Edit) (text : List ℕ) → IsEdit edit text → list_command which text ≡ Some (c.ListEdit which edit)
   unfolding word behind
-  edit-reads (Add a) text h = ap (list_command which) h.1 ∙ ap (option_map (λ a. c.ListEdit which (Add a))) (text-address_of h.0 a.0 h.2)
-  edit-reads (Remove a) text h = ap (list_command which) h.1 ∙ ap (option_map (λ a. c.ListEdit which (Remove a))) (text-address_of h.0 a.0 h.2)
+  edit-reads (Add a) text h = ap (list_command which) h.1 ∙ ap (option_map (λ a. c.ListEdit which (Add a))) h.2
+  edit-reads (Remove a) text h = ap (list_command which) h.1 ∙ ap (option_map (λ a. c.ListEdit which (Remove a))) h.2
   edit-reads Clear text h = ap (list_command which) h
 
   pub show-reads : (text : List ℕ) → text ≡ codes "SHOW" → list_command which text ≡ Some (c.Show which)
@@ -156,11 +123,11 @@ module _ (which : Which) where
       → ListSays (verb ++ 32 ∷ text) command) [
         | true ↦ λ t e.
             let read = mapped (λ a. c.ListEdit which (Add a)) (address_of text) command e in
-            inl (Add read.0, sym read.2, (text, ap (λ v. v ++ 32 ∷ text) (spelled verb (codes "ADD_MAC") t), address_of-text text read.0 read.1))
+            inl (Add read.0, sym read.2, (text, ap (λ v. v ++ 32 ∷ text) (spelled verb (codes "ADD_MAC") t), read.1))
         | false ↦ λ t e. elim (bytes_eq verb (codes "DEL_MAC")) as (λ b. bytes_eq verb (codes "DEL_MAC") ≡ b → cond b (option_map (λ a. c.ListEdit which (Remove a)) (address_of text)) None ≡ Some command → ListSays (verb ++ 32 ∷ text) command) [
           | true ↦ λ t e.
               let read = mapped (λ a. c.ListEdit which (Remove a)) (address_of text) command e in
-              inl (Remove read.0, sym read.2, (text, ap (λ v. v ++ 32 ∷ text) (spelled verb (codes "DEL_MAC") t), address_of-text text read.0 read.1))
+              inl (Remove read.0, sym read.2, (text, ap (λ v. v ++ 32 ∷ text) (spelled verb (codes "DEL_MAC") t), read.1))
           | false ↦ λ t e. cc
         ] refl e
       ] refl e

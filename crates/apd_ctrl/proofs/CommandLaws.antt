@@ -8,8 +8,8 @@ use Rattle.std.proofs.lemmas.Option.{same_Some}
 use Rattle.std.proofs.lemmas.Slice.Eq.{bytes_eq-Decides}
 use Rattle.apd_base.specs.declared.address.Addr.{Addr}
 use Rattle.apd_base.specs.declared.station.Which.TheVariants.{Accept, Deny}
-use Rattle.apd_conf.specs.ListFile.{address_of}
-use Rattle.apd_conf.proofs.AddressLaws.{text-address_of, address_of-text}
+use Rattle.apd_base.specs.Addr.{address_of}
+use Rattle.apd_base.specs.Text.{is_blank}
 use Rattle.apd_frame.specs.declared.codes.Reason.{Reason}
 use Rattle.apd_frame.proofs.FirstReason.{found_passes}
 use Rattle.apd_ctrl.specs.declared.command.Command.{Command}
@@ -20,7 +20,7 @@ use Rattle.apd_ctrl.specs.declared.word.Word.{Word}
 use Rattle.apd_ctrl.specs.declared.word.Word.TheVariants as w
 use Rattle.apd_ctrl.specs.Words.{spelling, words, word_of, word_among}
 use Rattle.apd_ctrl.specs.Grammar.{after_blank, IsListed, IsRefused, Says}
-use Rattle.apd_ctrl.specs.Reading.{is_blank, word, behind, dismissal_of, command_with, told, command_after, command_of}
+use Rattle.apd_ctrl.specs.Reading.{word, behind, dismissal_of, command_with, told, command_after, command_of}
 use Rattle.apd_ctrl.proofs.WordLaws.{text_is, word_joined, behind_joined, free_from}
 use Rattle.apd_ctrl.proofs.ArgumentLaws.{mapped, dismissal-reads, dismissal-says, edit-reads, show-reads, list-says}
 
@@ -67,9 +67,9 @@ module _ (k : Word) (rest : Option (List ℕ)) (text : List ℕ) (is : text ≡ 
 pub says-reads : (text : List ℕ) (command : Command) → Says text command → command_of text ≡ Ok command
 says-reads text c.Ping h = read_with w.Ping None text h
 says-reads text c.Status h = read_with w.Status None text h
-says-reads text (c.Sta a) h = read_with w.Sta (Some h.0) text h.1 ∙ ap (λ o. told (option_map c.Sta o)) (text-address_of h.0 a.0 h.2)
+says-reads text (c.Sta a) h = read_with w.Sta (Some h.0) text h.1 ∙ ap (λ o. told (option_map c.Sta o)) h.2
 says-reads text c.StaFirst h = read_with w.StaFirst None text h
-says-reads text (c.StaNext a) h = read_with w.StaNext (Some h.0) text h.1 ∙ ap (λ o. told (option_map c.StaNext o)) (text-address_of h.0 a.0 h.2)
+says-reads text (c.StaNext a) h = read_with w.StaNext (Some h.0) text h.1 ∙ ap (λ o. told (option_map c.StaNext o)) h.2
 says-reads text (c.Deauthenticate to reason) h =
     read_with w.Deauthenticate (Some h.0) text h.1 ∙ ap (λ o. told (option_map (λ d. c.Deauthenticate d.0 d.1) o)) (dismissal-reads to reason h.0 h.2)
 says-reads text (c.Disassociate to reason) h =
@@ -92,8 +92,8 @@ with-says (w.List which) None command e = cc
 with-says w.Ping (Some text) command e = cc
 with-says w.Status (Some text) command e = cc
 with-says w.StaFirst (Some text) command e = cc
-with-says w.Sta (Some text) command e = let read = mapped c.Sta (address_of text) command e in subst (Says (codes "STA " ++ text)) read.2 (text, refl, address_of-text text read.0 read.1)
-with-says w.StaNext (Some text) command e = let read = mapped c.StaNext (address_of text) command e in subst (Says (codes "STA-NEXT " ++ text)) read.2 (text, refl, address_of-text text read.0 read.1)
+with-says w.Sta (Some text) command e = let read = mapped c.Sta (address_of text) command e in subst (Says (codes "STA " ++ text)) read.2 (text, refl, read.1)
+with-says w.StaNext (Some text) command e = let read = mapped c.StaNext (address_of text) command e in subst (Says (codes "STA-NEXT " ++ text)) read.2 (text, refl, read.1)
 with-says w.Deauthenticate (Some text) command e =
     let read = mapped (λ (d : Addr × Reason). c.Deauthenticate d.0 d.1) (dismissal_of text) command e in
     subst (Says (codes "DEAUTHENTICATE " ++ text)) read.2 (text, refl, dismissal-says (read.0).0 (read.0).1 text read.1)

@@ -9,12 +9,12 @@ use Rattle.std.specs.declared.cmp.Ordering.TheVariants.{Less, Equal, Greater}
 use Rattle.std.proofs.lemmas.Bool.{both_ways}
 use Rattle.std.proofs.lemmas.Option.{same_Some}
 use Rattle.std.specs.FinMap.{IsAntisymmetric}
-use Rattle.apd_base.specs.Addr.{addr_cmp}
+use Rattle.apd_base.specs.Addr.{is_among, addr_cmp}
 use Rattle.apd_base.specs.declared.address.Addr.{Addr}
 use Rattle.apd_base.proofs.AddrLaws.{addr_total, addr_exact}
 use Rattle.apd_base.proofs.MapLaws.{one_or_apart, tied}
 use Rattle.apd_acl.specs.Least.{IsLeast, IsLeastAbove}
-use Rattle.apd_ctrl.specs.Order.{Rising, is_among}
+use Rattle.apd_ctrl.specs.Order.{Rising}
 use Rattle.apd_ctrl.specs.Texts.{is_above}
 
 greater : (r : Ordering) → r ≡ Less → r ≢ Greater

@@ -6,7 +6,8 @@ use Rattle.std.specs.List.{list_all}
 use Rattle.std.proofs.lemmas.Bool.{lt-ltb, le-ltb, cases_lt, eqb-true, eq-eqb, ne_eqb, and_parts, both_ways}
 use Rattle.std.proofs.lemmas.List.{take_all}
 use Rattle.apd_ctrl.specs.Grammar.{after_blank, HasNoBlank}
-use Rattle.apd_ctrl.specs.Reading.{is_blank, word, behind}
+use Rattle.apd_base.specs.Text.{is_blank}
+use Rattle.apd_ctrl.specs.Reading.{word, behind}
 
 one_more : (n : ℕ) → 1 + n ≡ suc n
 one_more n = omega arith

@@ -1,10 +1,9 @@
 -- Which bytes are which command: the table of commands, as a relation between bytes and what they say.
-use Rattle.std.specs.Prelude.{◌≡◌, ◌≢◌, ℕ, ◌<◌, ◌≤◌, ◌⊎◌, List, [], ◌∷◌, ◌++◌, length, codes, Option, Some, None, Result, Ok, Err, IsTrue}
+use Rattle.std.specs.Prelude.{◌≡◌, ◌≢◌, ℕ, ◌<◌, ◌≤◌, ◌⊎◌, List, [], ◌∷◌, ◌++◌, length, codes, Option, Some, None, Result, Ok, Err}
 use Rattle.std.specs.List.{AllByRecursion}
 use Rattle.std.specs.Option.{option_copied}
-use Rattle.std.specs.Str.{all_ascii_digits}
-use Rattle.std.specs.Str.Parse.{digits_value}
-use Rattle.apd_base.specs.Addr.{IsText}
+use Rattle.apd_base.specs.Addr.{address_of}
+use Rattle.apd_base.specs.Text.{blank, decimal_number}
 use Rattle.apd_base.specs.declared.limits.TheConstants.{MAX_COMMAND}
 use Rattle.apd_base.specs.declared.address.Addr.{Addr}
 use Rattle.apd_base.specs.declared.station.Which.{Which}
@@ -26,15 +25,11 @@ abbrev pub Then : List ℕ → (List ℕ → Type 0) → List ℕ → Type 0
 Then front P text = (rest : List ℕ) × (text ≡ front ++ rest) × P rest
 
 abbrev pub IsAddress : Addr → List ℕ → Type 0
-IsAddress a text = IsText text a.0
+IsAddress a text = address_of text ≡ Some a
 
 -- 1 to 5 decimal digits that write a number from 0 to 65535
-pub record IsReasonNumber (n : ℕ) (text : List ℕ) : Type 0 where
-  pub some : 1 ≤ length text
-  pub few : length text ≤ 5
-  pub digits : IsTrue (all_ascii_digits text)
-  pub value : digits_value 10 text ≡ n
-  pub small : n ≤ 65535
+abbrev pub IsReasonNumber : ℕ → List ℕ → Type 0
+IsReasonNumber n text = decimal_number 5 65535 text ≡ Some n
 
 -- behind an address: nothing for the reason 2, or ' reason=' and the number
 abbrev pub IsReason : Reason → List ℕ → Type 0
@@ -68,18 +63,18 @@ Says text (c.Show which) = Then (list_word which) (λ rest. rest ≡ codes "SHOW
 -- a blank and what stands behind it, or nothing
 abbrev pub after_blank : Option (List ℕ) → List ℕ
 after_blank None = []
-after_blank (Some rest) = 32 ∷ rest
+after_blank (Some rest) = blank ∷ rest
 
 -- the first word is a listed one
 abbrev pub IsListed : List ℕ → Type 0
 IsListed text = (word : Word) × (rest : Option (List ℕ)) × (text ≡ spelling word ++ after_blank rest)
 
 abbrev pub HasNoBlank : List ℕ → Type 0
-HasNoBlank name = AllByRecursion (λ b. b ≢ 32) name
+HasNoBlank name = AllByRecursion (λ b. b ≢ blank) name
 
 -- 'IFNAME=', a name and a blank stand in front of the rest
 abbrev pub IsPrefixed : List ℕ → List ℕ → List ℕ → Type 0
-IsPrefixed line name rest = HasNoBlank name × (line ≡ codes "IFNAME=" ++ name ++ 32 ∷ rest)
+IsPrefixed line name rest = HasNoBlank name × (line ≡ codes "IFNAME=" ++ name ++ blank ∷ rest)
 
 -- a line names an interface or none, and the rest is the command
 abbrev pub IsSplit : List ℕ → Option (List ℕ) → List ℕ → Type 0

@@ -1,7 +1,6 @@
 -- Addresses in order.
-use Rattle.std.specs.Prelude.{◌≡◌, Bool, List, [], ◌∷◌}
-use Rattle.std.specs.List.{AllByRecursion, list_any}
-use Rattle.std.specs.Ordering.{eq_by_cmp}
+use Rattle.std.specs.Prelude.{◌≡◌, List, [], ◌∷◌}
+use Rattle.std.specs.List.{AllByRecursion}
 use Rattle.std.specs.declared.cmp.Ordering.TheVariants.{Less}
 use Rattle.apd_base.specs.Addr.{addr_cmp}
 use Rattle.apd_base.specs.declared.address.Addr.{Addr}
@@ -10,6 +9,3 @@ use Rattle.apd_base.specs.declared.address.Addr.{Addr}
 abbrev pub Rising : List Addr → Type 0
 Rising [] = Unit {0}
 Rising (a ∷ all) = AllByRecursion (λ c. addr_cmp a c ≡ Less) all × Rising all
-
-abbrev pub is_among : Addr → List Addr → Bool
-is_among a all = list_any (eq_by_cmp addr_cmp a) all

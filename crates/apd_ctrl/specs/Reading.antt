@@ -1,13 +1,14 @@
 -- How a command is read: the same as the grammar's relation, as a function.
-use Rattle.std.specs.Prelude.{ℕ, ◌-◌, Bool, ◌==◌, ◌&&◌, nat_le, nat_lt, nat_eq, List, [], ◌∷◌, length, take, drop, codes, Option, Some, None, Result, Ok, Err, if◌then◌else◌}
+use Rattle.std.specs.Prelude.{ℕ, ◌-◌, ◌==◌, nat_lt, nat_eq, List, [], ◌∷◌, length, take, drop, codes, Option, Some, None, Result, Ok, Err, if◌then◌else◌}
 use Rattle.std.specs.List.{starts_with, ends_with}
 use Rattle.std.specs.Option.{option_map}
-use Rattle.std.specs.Str.{all_ascii_digits, bytes_eq}
-use Rattle.std.specs.Str.Parse.{digits_value}
+use Rattle.std.specs.Str.{bytes_eq}
 use Rattle.apd_base.specs.declared.limits.TheConstants.{MAX_COMMAND}
 use Rattle.apd_base.specs.declared.address.Addr.{Addr}
 use Rattle.apd_base.specs.declared.station.Which.{Which}
-use Rattle.apd_conf.specs.ListFile.{address_of}
+use Rattle.apd_base.specs.Addr.{address_of}
+use Rattle.apd_base.specs.Text.{decimal_number, is_blank}
+use Rattle.apd_base.specs.declared.address.TheConstants.{TEXT_LENGTH}
 use Rattle.apd_frame.specs.declared.codes.Reason.{Reason}
 use Rattle.apd_mlme.specs.declared.event.Edit.TheVariants.{Add, Remove, Clear}
 use Rattle.apd_ctrl.specs.declared.command.Command.{Command}
@@ -21,9 +22,6 @@ use Rattle.apd_ctrl.specs.Words.{word_of}
 -- bytes less one newline at their end
 abbrev pub line_of : List ℕ → List ℕ
 line_of bytes = if ends_with nat_eq bytes (codes "\n") then take (length bytes - 1) bytes else bytes
-
-abbrev pub is_blank : ℕ → Bool
-is_blank b = b == 32
 
 -- what stands before the first blank
 unfoldable pub word : List ℕ → List ℕ
@@ -43,9 +41,9 @@ named line name (Some rest) = (Some name, rest)
 abbrev pub split_prefix : List ℕ → Option (List ℕ) × List ℕ
 split_prefix line = if starts_with nat_eq line (codes "IFNAME=") then named line (word (drop 7 line)) (behind (drop 7 line)) else (None, line)
 
-unfoldable pub reason_number : List ℕ → Option ℕ
-reason_number text =
-    if nat_le 1 (length text) && nat_le (length text) 5 && all_ascii_digits text && nat_le (digits_value 10 text) 65535 then Some (digits_value 10 text) else None
+-- the number of a reason: 1 to 5 decimal digits that write a number from 0 to 65535
+abbrev pub reason_number : List ℕ → Option ℕ
+reason_number text = decimal_number 5 65535 text
 
 abbrev pub as_reason : ℕ → Reason
 as_reason n = record { 0 = n }
@@ -64,7 +62,7 @@ both (Some a) None = None
 both None b = None
 
 abbrev pub dismissal_of : List ℕ → Option (Addr × Reason)
-dismissal_of text = if nat_lt (length text) 17 then None else both (address_of (take 17 text)) (reason_of (drop 17 text))
+dismissal_of text = if nat_lt (length text) TEXT_LENGTH then None else both (address_of (take TEXT_LENGTH text)) (reason_of (drop TEXT_LENGTH text))
 
 abbrev pub list_with : Which → List ℕ → Option (List ℕ) → Option Command
 list_with which verb None =

@@ -1,20 +1,9 @@
 //! Bytes as they are printed.
-ghost use Rattle.std.specs.Prelude.{◌≡◌, ◌++◌, ◌<◌, IfOk, OnOk};
-ghost use Rattle.apd_base.specs.Addr.{hex_digit};
+ghost use Rattle.std.specs.Prelude.{◌≡◌, ◌++◌, IfOk, OnOk};
 ghost use Rattle.apd_ctrl.specs.Escapes.{escaped, escaped_byte};
 
+use apd_base::text::hex_digit;
 use std::alloc::{AllocError, Global};
-
-fn digit_of(value: u8) -> u8
-    requires { value < 16 }
-    ensures { result ≡ hex_digit value }
-{
-    if value < 10 {
-        b'0' + value
-    } else {
-        b'a' - 10 + value
-    }
-}
 
 fn push_escaped_byte(out: &mut Vec<u8>, byte: u8) -> Result<(), AllocError>
     ensures { OnOk result (out.new.items ≡ out.old.items ++ escaped_byte byte) }
@@ -27,7 +16,7 @@ fn push_escaped_byte(out: &mut Vec<u8>, byte: u8) -> Result<(), AllocError>
         b'\t' => out.extend_from_slice(b"\\t"),
         0x1b => out.extend_from_slice(b"\\e"),
         0x20..=0x7e => out.extend_from_slice(&[byte]),
-        _ => out.extend_from_slice(&[b'\\', b'x', digit_of(byte / 16), digit_of(byte % 16)]),
+        _ => out.extend_from_slice(&[b'\\', b'x', hex_digit(byte / 16), hex_digit(byte % 16)]),
     }
 }
 

@@ -12,6 +12,3 @@ pub use command::{Command, Placed, Query};
 pub use escapes::escape;
 pub use parser::{FAIL, Parsed, UNKNOWN_COMMAND, exactly_one_outcome, parse_command};
 pub use replies::{addresses_law, reply};
-
-#[cfg(test)]
-mod tests;

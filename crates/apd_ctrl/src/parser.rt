@@ -1,16 +1,16 @@
 //! From the bytes of a command to the command.
 ghost use Rattle.std.specs.Prelude.{◌≡◌, ◌↔◌, ℕ, List, Option, Result};
-ghost use Rattle.std.specs.List.{position};
 ghost use Rattle.std.specs.Option.{option_copied};
-ghost use Rattle.apd_conf.specs.ListFile.{address_of};
 ghost use Rattle.apd_ctrl.specs.declared.command.Command.{Command as Order};
 ghost use Rattle.apd_ctrl.specs.declared.parser.Refusal.{Refusal as Refused};
 ghost use Rattle.apd_ctrl.specs.Grammar.{parsed, refusal_text, IsOutcome};
-ghost use Rattle.apd_ctrl.specs.Reading.{behind, command_of, command_with, dismissal_of, is_blank, line_of, list_command, outcome, reason_number, reason_of, split_prefix, word};
+ghost use Rattle.apd_ctrl.specs.Reading.{behind, command_of, command_with, dismissal_of, line_of, list_command, outcome, reason_of, split_prefix, word};
 
 use crate::command::Command;
 use crate::word::{Word, word_of};
+use apd_base::address::TEXT_LENGTH;
 use apd_base::limits::MAX_COMMAND;
+use apd_base::text::{decimal_u16, first_blank};
 use apd_base::{Addr, Which};
 use apd_frame::Reason;
 use apd_mlme::Edit;
@@ -47,21 +47,11 @@ const PREFIX: &[u8] = b"IFNAME=";
 
 const REASON: &[u8] = b" reason=";
 
-/// The bytes of an address in writing.
-const ADDRESS_LENGTH: usize = 17;
-
 /// The bytes less one newline at their end.
 fn line_of(bytes: &[u8]) -> &[u8]
     ensures { result.now ≡ line_of bytes.now }
 {
     bytes.strip_suffix(b"\n").unwrap_or(bytes)
-}
-
-/// The place of the first blank.
-fn first_blank(text: &[u8]) -> Option<usize>
-    ensures { result ≡ position is_blank text.now }
-{
-    text.iter().position(|byte| *byte == b' ')
 }
 
 /// What stands before the first blank, and what stands behind it, where there is one.
@@ -90,34 +80,6 @@ fn split_prefix(line: &[u8]) -> (Option<&[u8]>, &[u8])
     }
 }
 
-fn address_of(text: &[u8]) -> Option<Addr>
-    ensures { result ≡ address_of text.now }
-{
-    Addr::parse(text)
-}
-
-/// The number from 0 to 65535 that 1 to 5 decimal digits write.
-#[tactic(auto, unfolding(crate::specs::Reading::reason_number))]
-fn reason_number(text: &[u8]) -> Option<u16>
-    ensures { result ≡ reason_number text.now }
-{
-    if text.is_empty() || text.len() > 5 {
-        return None;
-    }
-    let mut number: u32 = 0;
-    for digit in text {
-        if !digit.is_ascii_digit() {
-            return None;
-        }
-        number = number * 10 + (*digit - b'0') as u32;
-    }
-    if number <= 65535 {
-        Some(number as u16)
-    } else {
-        None
-    }
-}
-
 /// The reason that is given behind an address, and 2 where none is.
 fn reason_of(text: &[u8]) -> Option<Reason>
     ensures { result ≡ reason_of text.now }
@@ -128,18 +90,18 @@ fn reason_of(text: &[u8]) -> Option<Reason>
     if !text.starts_with(REASON) {
         return None;
     }
-    Some(Reason(reason_number(&text[REASON.len()..])?))
+    Some(Reason(decimal_u16(&text[REASON.len()..])?))
 }
 
 /// An address, and the reason behind it.
 fn dismissal_of(text: &[u8]) -> Option<(Addr, Reason)>
     ensures { result ≡ dismissal_of text.now }
 {
-    if text.len() < ADDRESS_LENGTH {
+    if text.len() < TEXT_LENGTH {
         return None;
     }
-    let to = address_of(&text[..ADDRESS_LENGTH])?;
-    let reason = reason_of(&text[ADDRESS_LENGTH..])?;
+    let to = Addr::parse(&text[..TEXT_LENGTH])?;
+    let reason = reason_of(&text[TEXT_LENGTH..])?;
     Some((to, reason))
 }
 
@@ -151,8 +113,8 @@ fn list_command(which: Which, text: &[u8]) -> Option<Command>
     let edit = match argument {
         None if word == b"SHOW".as_slice() => return Some(Command::Show(which)),
         None if word == b"CLEAR".as_slice() => Edit::Clear,
-        Some(text) if word == b"ADD_MAC".as_slice() => Edit::Add(address_of(text)?),
-        Some(text) if word == b"DEL_MAC".as_slice() => Edit::Remove(address_of(text)?),
+        Some(text) if word == b"ADD_MAC".as_slice() => Edit::Add(Addr::parse(text)?),
+        Some(text) if word == b"DEL_MAC".as_slice() => Edit::Remove(Addr::parse(text)?),
         _ => return None,
     };
     Some(Command::ListEdit { which, edit })
@@ -166,8 +128,8 @@ fn command_with(word: Word, arguments: Option<&[u8]>) -> Option<Command>
         (Word::Ping, None) => Some(Command::Ping),
         (Word::Status, None) => Some(Command::Status),
         (Word::StaFirst, None) => Some(Command::StaFirst),
-        (Word::Sta, Some(text)) => Some(Command::Sta(address_of(text)?)),
-        (Word::StaNext, Some(text)) => Some(Command::StaNext(address_of(text)?)),
+        (Word::Sta, Some(text)) => Some(Command::Sta(Addr::parse(text)?)),
+        (Word::StaNext, Some(text)) => Some(Command::StaNext(Addr::parse(text)?)),
         (Word::Deauthenticate, Some(text)) => {
             let (to, reason) = dismissal_of(text)?;
             Some(Command::Deauthenticate { to, reason })

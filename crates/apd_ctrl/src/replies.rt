@@ -10,8 +10,9 @@ ghost use Rattle.apd_base.specs.declared.address.Addr.{Addr as Address};
 ghost use Rattle.apd_base.specs.declared.address.Bssid.{Bssid as At};
 ghost use Rattle.apd_base.specs.declared.station.Which.{Which as WhichList};
 ghost use Rattle.apd_conf.specs.Confs.{conf_at};
+ghost use Rattle.apd_base.specs.Addr.{is_among};
 ghost use Rattle.apd_table.specs.Addresses.{addresses_at};
-ghost use Rattle.apd_ctrl.specs.Order.{Rising, is_among};
+ghost use Rattle.apd_ctrl.specs.Order.{Rising};
 ghost use Rattle.apd_ctrl.specs.Texts.{bssid_of, count_lines, found_reply, is_above, lines_of, list_text, listed_addresses, listed_line, radio_lines, row_text, state_word, station_text, status_text, text};
 ghost use Rattle.apd_ctrl.specs.Texts as texts;
 

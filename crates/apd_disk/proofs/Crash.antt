@@ -1,10 +1,10 @@
 -- What a stop of one kind leaves of the calls, one after the other.
-use Rattle.std.proofs.Common.{◌≡◌, ◌≤◌, ◌<◌, ◌+◌, ◌-◌, ◌⊎◌, inl, inr, ⊎_elim, ℕ, Bool, true, false, nat_le, nat_lt, ◌||◌, IsTrue, List, [], ◌∷◌, ◌++◌, length, take, drop, get_or, replicate, refl, sym, ◌∙◌, ap, subst, arith}
-use Rattle.std.proofs.lemmas.List.{append_assoc, drop_all, length-take-le, get_or-take, get_or-drop, get_or-append-add, get_or_append_left, get_or-replicate, length-replicate}
+use Rattle.std.proofs.Common.{◌≡◌, ◌≤◌, ◌<◌, ◌+◌, ◌-◌, ◌⊎◌, inl, inr, ⊎_elim, zero, suc, ℕ, Bool, true, false, nat_le, nat_lt, ◌||◌, IsTrue, List, [], ◌∷◌, ◌++◌, length, take, drop, get_or, replicate, refl, sym, ◌∙◌, ap, subst, arith}
+use Rattle.std.proofs.lemmas.List.{append_assoc, take-append-drop, length-take-le, get_or-take, get_or-drop, get_or-append-add, get_or_append_left, get_or-replicate, length-replicate}
 use Rattle.std.proofs.Math.Bool.{or-true, or-false}
-use Rattle.std.proofs.lemmas.Bool.{and_from, and_left, and_right, le-leb, le-ltb, lt-leb, lt-ltb, cases_lt}
+use Rattle.std.proofs.lemmas.Bool.{false≢true, and_from, and_left, and_right, le-leb, le-ltb, lt-leb, lt-ltb, cases_lt}
 use Rattle.apd_disk.specs.Disk.{overwritten, TornWithin}
-use Rattle.apd_disk.specs.Mem.{reads_after, all_fit, Leaves, LeftAfter, TornFrom, synced_after, is_unsynced, torn_byte, torn_write, covers, IsCrashImage}
+use Rattle.apd_disk.specs.Mem.{reads_after, all_fit, Leaves, LeftAfter, TornFrom, synced_after, is_unsynced, torn_byte, torn_write, torn_writes, covers, has_no_sync, EndsWithTheLastSync, IsCrashImage}
 use Rattle.apd_disk.specs.MemLaws.{first_fits, length-overwritten, torn_overwritten, leaves_length}
 use Rattle.apd_disk.specs.declared.call.Call.{Call}
 use Rattle.apd_disk.specs.declared.call.Call.TheVariants.{Read, Write, Sync}
@@ -18,7 +18,7 @@ torn_after torn image reads (Read at n ∷ calls) = torn_after torn image reads 
 torn_after torn image reads (Write at bytes ∷ calls) = torn_after torn (torn_write torn image at bytes) (overwritten reads at bytes) calls
 torn_after torn image reads (Sync ∷ calls) = torn_after torn reads reads calls
 
-torn_write_within : (torn : Torn) (image : List ℕ) (at : ℕ) (bytes : List ℕ) → at + length bytes ≤ length image → TornWithin at (length bytes) image (torn_write torn image at bytes)
+pub torn_write_within : (torn : Torn) (image : List ℕ) (at : ℕ) (bytes : List ℕ) → at + length bytes ≤ length image → TornWithin at (length bytes) image (torn_write torn image at bytes)
 torn_write_within Old image at bytes inside = record { before = refl; after = refl; same_length = refl }
 torn_write_within New image at bytes inside = torn_overwritten image at bytes inside
 torn_write_within (Byte b) image at bytes inside =
@@ -152,7 +152,45 @@ module _ (torn : Torn) (initial : List ℕ) (calls : List Call) (fit : IsTrue (a
     each = λ i lt. each_byte torn i (length initial) false initial initial initial calls refl refl fit (untouched torn (get_or initial i 0) (get_or initial i 0));
   }
 
--- at the end of the calls
-pub replayed : (torn : Torn) (initial reads image last : List ℕ) (calls : List Call) (k : ℕ) → reads ≡ initial → length calls ≤ k → torn_after torn image last (drop k calls) ≡ torn_after torn initial reads calls → torn_after torn initial initial calls ≡ image
-replayed torn initial reads image last calls k same end is =
-    ap (λ (l : List ℕ). torn_after torn initial l calls) (sym same) ∙ sym is ∙ ap (λ (l : List Call). torn_after torn image last l) (drop_all k calls end)
+-- without a sync each write is torn
+torn_apart : (torn : Torn) (image reads : List ℕ) (calls : List Call) → IsTrue (has_no_sync calls) → torn_after torn image reads calls ≡ torn_writes torn image calls
+torn_apart torn image reads [] none = refl
+torn_apart torn image reads (Read at n ∷ calls) none = torn_apart torn image reads calls none
+torn_apart torn image reads (Write at bytes ∷ calls) none = torn_apart torn (torn_write torn image at bytes) (overwritten reads at bytes) calls none
+torn_apart torn image reads (Sync ∷ calls) none = absurd (false≢true none)
+
+-- up to a sync each write is made in full
+whole_before : (torn : Torn) (image reads : List ℕ) (before calls : List Call) →
+    torn_after torn image reads ((before ++ Sync ∷ []) ++ calls) ≡ torn_after torn (torn_writes New reads (before ++ Sync ∷ [])) (torn_writes New reads (before ++ Sync ∷ [])) calls
+whole_before torn image reads [] calls = refl
+whole_before torn image reads (Read at n ∷ before) calls = whole_before torn image reads before calls
+whole_before torn image reads (Write at bytes ∷ before) calls = whole_before torn (torn_write torn image at bytes) (overwritten reads at bytes) before calls
+whole_before torn image reads (Sync ∷ before) calls = whole_before torn reads reads before calls
+
+-- the writes of the two parts of the calls
+in_parts : (torn : Torn) (initial : List ℕ) (calls : List Call) (n : ℕ) → EndsWithTheLastSync n calls → torn_writes torn (torn_writes New initial (take n calls)) (drop n calls) ≡ torn_after torn initial initial calls
+in_parts torn initial calls n end = ⊎_elim
+    (λ (none : n ≡ 0).
+    subst (λ (k : ℕ). IsTrue (has_no_sync (drop k calls)) → torn_writes torn (torn_writes New initial (take k calls)) (drop k calls) ≡ torn_after torn initial initial calls) (sym none)
+    (λ (no_sync : IsTrue (has_no_sync calls)). sym (torn_apart torn initial initial calls no_sync)) end.none_later)
+    (λ (synced : (before : List Call) × (take n calls ≡ before ++ Sync ∷ [])).
+    let durable : List ℕ = torn_writes New initial (take n calls) in
+    sym (torn_apart torn durable durable (drop n calls) end.none_later)
+    ∙ sym (subst (λ (l : List Call). torn_after torn initial initial (l ++ drop n calls) ≡ torn_after torn (torn_writes New initial l) (torn_writes New initial l) (drop n calls)) (sym synced.1) (whole_before torn initial initial synced.0 (drop n calls)))
+    ∙ ap (λ (l : List Call). torn_after torn initial initial l) (take-append-drop n calls))
+    end.a_sync
+
+pub stopped : (torn : Torn) (initial durable image : List ℕ) (calls early late : List Call) (n : ℕ) → EndsWithTheLastSync n calls → early ≡ take n calls → late ≡ drop n calls
+    → durable ≡ torn_writes New initial early → image ≡ torn_writes torn durable late → torn_after torn initial initial calls ≡ image
+stopped torn initial durable image calls early late n end is_early is_late first second =
+    sym (second
+    ∙ ap (λ (l : List ℕ). torn_writes torn l late) (first ∙ ap (λ (l : List Call). torn_writes New initial l) is_early)
+    ∙ ap (λ (l : List Call). torn_writes torn (torn_writes New initial (take n calls)) l) is_late
+    ∙ in_parts torn initial calls n end)
+
+pub fit_back : (n k : ℕ) (calls : List Call) → IsTrue (all_fit n calls) → IsTrue (all_fit n (drop k calls))
+fit_back n zero calls fit = fit
+fit_back n (suc k) [] fit = fit
+fit_back n (suc k) (Read at m ∷ calls) fit = fit_back n k calls fit
+fit_back n (suc k) (Write at bytes ∷ calls) fit = fit_back n k calls (first_fits n at bytes calls fit).1
+fit_back n (suc k) (Sync ∷ calls) fit = fit_back n k calls fit

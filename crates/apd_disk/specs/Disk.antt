@@ -1,5 +1,6 @@
 -- What the calls of a disk do to its bytes, and to what a stop may leave.
-use Rattle.std.specs.Prelude.{◌<◌, ◌≡◌, ◌⊎◌, ℕ, ◌+◌, ◌^◌, ◌≤◌, List, ◌++◌, length, take, drop, Result, OnErr, OnOk}
+use Rattle.std.specs.Prelude.{◌≡◌, ◌⊎◌, ℕ, ◌+◌, ◌≤◌, List, ◌++◌, length, take, drop, Result, OnErr, OnOk}
+use Rattle.apd_base.specs.Failures.{HasRisen}
 
 -- the image with these bytes at this place
 abbrev pub overwritten : List ℕ → ℕ → List ℕ → List ℕ
@@ -31,15 +32,11 @@ pub record Elapses (before now : ℕ) (past since : ℕ → List ℕ → Type 0)
   pub nothing_else : (t : ℕ) (c : List ℕ) → t ≤ before → since t c → past t c ⊎ since before c
   pub keeps : (t : ℕ) (c : List ℕ) → t ≤ before → past t c → since t c
 
--- the count rose; one at its greatest number stays there, and is taken as risen
-abbrev pub Rises : ℕ → ℕ → Type 0
-Rises before now = before + 1 < 2 ^ 64 → before < now
-
 -- the count doesn't fall: a call that succeeds leaves it, and a fault is told only where it rose
 pub record Counts {T E : Type 0} (before now : ℕ) (result : Result T E) : Type 0 where
   pub later : before ≤ now
   pub stays : OnOk result (now ≡ before)
-  pub rises : OnErr result (Rises before now)
+  pub rises : OnErr result (HasRisen before now)
 
 -- A stop at any moment since old leaves an image that has P. It is for the contracts of those who make several calls, as a store;
 -- the lemmas on how such runs go on are in proofs/Moments.

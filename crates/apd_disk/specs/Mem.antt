@@ -1,5 +1,5 @@
 -- What a list of calls leaves of a first image.
-use Rattle.std.specs.Prelude.{◌≡◌, ◌≤◌, ◌<◌, ◌+◌, ℕ, Bool, true, false, nat_le, nat_lt, ◌&&◌, ◌||◌, List, [], ◌∷◌, length, take, get_or, replicate}
+use Rattle.std.specs.Prelude.{◌≡◌, ◌≤◌, ◌<◌, ◌+◌, ℕ, Bool, true, false, nat_le, nat_lt, ◌&&◌, ◌||◌, ◌⊎◌, IsTrue, List, [], ◌∷◌, ◌++◌, length, take, drop, get_or, replicate}
 use Rattle.apd_disk.specs.Disk.{overwritten, TornWithin}
 use Rattle.apd_disk.specs.declared.call.Call.{Call}
 use Rattle.apd_disk.specs.declared.call.Call.TheVariants.{Read, Write, Sync}
@@ -68,8 +68,28 @@ pub record IsCrashImage (torn : Torn) (initial : List ℕ) (calls : List Call) (
   pub same_length : length image ≡ length initial
   pub each : (i : ℕ) → i < length initial → get_or image i 0 ≡ torn_byte torn (is_unsynced i false calls) (get_or (synced_after initial initial calls) i 0) (get_or (reads_after initial calls) i 0)
 
+-- none of the calls is a sync
+abbrev pub has_no_sync : List Call → Bool
+has_no_sync [] = true
+has_no_sync (Read at n ∷ calls) = has_no_sync calls
+has_no_sync (Write at bytes ∷ calls) = has_no_sync calls
+has_no_sync (Sync ∷ calls) = false
+
+-- so many calls end with the last sync; none where there is no sync
+pub record EndsWithTheLastSync (n : ℕ) (calls : List Call) : Type 0 where
+  pub inside : n ≤ length calls
+  pub none_later : IsTrue (has_no_sync (drop n calls))
+  pub a_sync : (n ≡ 0) ⊎ ((before : List Call) × (take n calls ≡ before ++ Sync ∷ []))
+
 -- one write after such a stop
 abbrev pub torn_write : Torn → List ℕ → ℕ → List ℕ → List ℕ
 torn_write Old image at bytes = image
 torn_write New image at bytes = overwritten image at bytes
 torn_write (Byte b) image at bytes = overwritten image at (replicate (length bytes) b)
+
+-- each write of the calls
+abbrev pub torn_writes : Torn → List ℕ → List Call → List ℕ
+torn_writes torn image [] = image
+torn_writes torn image (Read at n ∷ calls) = torn_writes torn image calls
+torn_writes torn image (Write at bytes ∷ calls) = torn_writes torn (torn_write torn image at bytes) calls
+torn_writes torn image (Sync ∷ calls) = torn_writes torn image calls

@@ -58,7 +58,7 @@ leaves_length n images reads (Write at bytes ∷ calls) c each size fit left =
 leaves_length n images reads (Sync ∷ calls) c each size fit left = leaves_length n (λ d. d ≡ reads) reads calls c (λ d is. ap length is ∙ size) size fit left
 
 -- the front of calls that fit fits
-fit_front : (n k : ℕ) (calls : List Call) → IsTrue (all_fit n calls) → IsTrue (all_fit n (take k calls))
+pub fit_front : (n k : ℕ) (calls : List Call) → IsTrue (all_fit n calls) → IsTrue (all_fit n (take k calls))
 fit_front n zero calls fit = refl
 fit_front n (suc k) [] fit = refl
 fit_front n (suc k) (Read at m ∷ calls) fit = fit_front n k calls fit

@@ -1,5 +1,6 @@
 //! A file as a disk. It claims its length and its count of failures, and nothing of what it holds.
-ghost use Rattle.std.specs.Prelude.{◌≡◌, [], IfOk};
+ghost use Rattle.std.specs.Prelude.{◌≡◌, ◌≤◌, ◌+◌, [], length, true, false, IfOk, OnOk, OnErr};
+ghost use Rattle.apd_disk.specs.Disk.{Counts};
 
 use crate::fault::fail;
 use crate::{Disk, DiskFault};
@@ -17,6 +18,9 @@ pub struct FileDisk {
     file: File,
     len: usize,
     failures: u64,
+    // Once a sync has failed the system may have dropped what it could not write, and would answer a later
+    // one well for nothing.
+    sync_failed: bool,
 }
 
 // Real zeros, so that a full file system shows now and not at a later write, and a file with no holes.
@@ -37,36 +41,71 @@ fn sync_folder(files: &impl Files<File = File>, path: &str) -> io::Result<()> {
     File::open(files, folder)?.sync_all()
 }
 
-fn prepare(files: &impl Files<File = File>, file: &File, path: &str) -> io::Result<()> {
+// A new file beside the path, and its name until it is whole. A name that is taken is left alone, as that of a
+// file which a kill left behind.
+fn create_beside(
+    files: &(impl Files<File = File> + AllocGlobal),
+    path: &str,
+) -> io::Result<(File, String)> {
+    for number in 0..u32::MAX {
+        let name = format!(in files.alloc(); "{path}.new{number}")?;
+        match File::create_new(files, name.as_str()) {
+            Err(error) if error.kind() == ErrorKind::AlreadyExists => {}
+            made => return Ok((made?, name)),
+        }
+    }
+    Err(ErrorKind::AlreadyExists.into())
+}
+
+// A link and no renaming, which would replace a file that somebody made meanwhile.
+fn give_name(
+    files: &impl Files<File = File>,
+    file: &File,
+    name: &str,
+    path: &str,
+) -> io::Result<()> {
     file.try_lock()?;
     write_zeros(file, DEVICE_LENGTH)?;
-    sync_folder(files, path)
+    fs::hard_link(files, name, path)
 }
 
 fn fresh(file: File, len: usize) -> FileDisk
     ensures length { result.len ≡ len }
     ensures failures { result.failures ≡ 0 }
+    ensures sync_failed { result.sync_failed ≡ false }
 {
     FileDisk {
         file,
         len,
         failures: 0,
+        sync_failed: false,
     }
 }
 
 impl FileDisk {
     /// Makes a file of the device's length, 2,097,216 bytes, all of them zero and written through, and opens
-    /// it.
+    /// it. Until it is whole and locked it has another name: the path with `.new` and a number behind it. A
+    /// kill may leave a file of such a name, which may be removed.
     ///
-    /// Errors: the file system's own, `AlreadyExists` where there is such a file or folder. Where it was
-    /// made but could not be locked, filled or made durable, it is removed again, if that succeeds.
-    pub fn create<P: AsPath>(files: &impl Files<File = File>, path: P) -> io::Result<FileDisk>
+    /// Errors: the file system's own, as where it has no hard links; `AlreadyExists` where there is such a
+    /// file or folder, which is left alone; `OutOfMemory`. What was made is removed again, if that succeeds.
+    pub fn create<P: AsPath>(
+        files: &(impl Files<File = File> + AllocGlobal),
+        path: P,
+    ) -> io::Result<FileDisk>
         ensures length { IfOk result (λ d. d.len ≡ DEVICE_LENGTH) }
         ensures failures { IfOk result (λ d. d.failures ≡ 0) }
+        ensures sync_failed { IfOk result (λ d. d.sync_failed ≡ false) }
     {
         let path = path.path_text();
-        let file = File::create_new(files, path)?;
-        if let Err(error) = prepare(files, &file, path) {
+        if fs::symlink_metadata(files, path).is_ok() {
+            return Err(ErrorKind::AlreadyExists.into());
+        }
+        let (file, name) = create_beside(files, path)?;
+        let named = give_name(files, &file, &name, path);
+        let _ = fs::remove_file(files, name.as_str());
+        named?;
+        if let Err(error) = sync_folder(files, path) {
             let _ = fs::remove_file(files, path);
             return Err(error);
         }
@@ -79,6 +118,7 @@ impl FileDisk {
     /// where it is no regular file; `WouldBlock` where another `FileDisk` holds it.
     pub fn open<P: AsPath>(files: &impl Files<File = File>, path: P) -> io::Result<FileDisk>
         ensures failures { IfOk result (λ d. d.failures ≡ 0) }
+        ensures sync_failed { IfOk result (λ d. d.sync_failed ≡ false) }
     {
         let file = File::options().read(true).write(true).open(files, path)?;
         file.try_lock()?;
@@ -90,6 +130,7 @@ impl FileDisk {
     }
 }
 
+// The clauses of each call are those of its length and its count, and what becomes of `sync_failed`.
 impl Disk for FileDisk {
     ghost honest = { λ _. ⊥ };
 
@@ -124,7 +165,12 @@ impl Disk for FileDisk {
     }
 
     // Fewer bytes than were asked for, as of a file that was cut, are a fault.
-    fn read_at(&mut self, at: usize, buf: &mut [u8]) -> Result<(), DiskFault> {
+    fn read_at(&mut self, at: usize, buf: &mut [u8]) -> Result<(), DiskFault>
+        requires { at + length buf.old ≤ self.old.len }
+        ensures size { self.new.len ≡ self.old.len }
+        ensures count { Counts self.old.failures self.new.failures result }
+        ensures sync_failed { self.new.sync_failed ≡ self.old.sync_failed }
+    {
         match self.file.read_exact_at(buf, at as u64) {
             Ok(()) => Ok(()),
             Err(_) => fail(&mut self.failures),
@@ -132,7 +178,12 @@ impl Disk for FileDisk {
     }
 
     // Fewer bytes than were given, as on a full file system, are a fault.
-    fn write_at(&mut self, at: usize, bytes: &[u8]) -> Result<(), DiskFault> {
+    fn write_at(&mut self, at: usize, bytes: &[u8]) -> Result<(), DiskFault>
+        requires { at + length bytes.now ≤ self.old.len }
+        ensures size { self.new.len ≡ self.old.len }
+        ensures count { Counts self.old.failures self.new.failures result }
+        ensures sync_failed { self.new.sync_failed ≡ self.old.sync_failed }
+    {
         match self.file.write_all_at(bytes, at as u64) {
             Ok(()) => Ok(()),
             Err(_) => fail(&mut self.failures),
@@ -141,10 +192,16 @@ impl Disk for FileDisk {
 
     // `sync_data` and not `sync_all`: the file's length never changes, and its times are not needed. What
     // is needed to find its bytes again goes with them (fdatasync(2)).
-    fn sync(&mut self) -> Result<(), DiskFault> {
-        match self.file.sync_data() {
-            Ok(()) => Ok(()),
-            Err(_) => fail(&mut self.failures),
+    fn sync(&mut self) -> Result<(), DiskFault>
+        ensures size { self.new.len ≡ self.old.len }
+        ensures count { Counts self.old.failures self.new.failures result }
+        ensures ok { OnOk result ((self.old.sync_failed ≡ false) × (self.new.sync_failed ≡ false)) }
+        ensures err { OnErr result (self.new.sync_failed ≡ true) }
+    {
+        if !self.sync_failed && self.file.sync_data().is_ok() {
+            return Ok(());
         }
+        self.sync_failed = true;
+        fail(&mut self.failures)
     }
 }

@@ -1,6 +1,7 @@
 //! A disk that fails for good after some calls.
 ghost use Rattle.std.specs.Prelude.{◌≡◌, ◌≤◌, ◌+◌, ◌-◌, ◌^◌, ◌↔◌, length, take, drop, min, OnOk, Some, ◌⊎◌};
-ghost use Rattle.apd_disk.specs.Disk.{overwritten, TornWithin, Only, Within, Follows, Elapses, Counts, Rises};
+ghost use Rattle.apd_base.specs.Failures.{HasRisen};
+ghost use Rattle.apd_disk.specs.Disk.{overwritten, TornWithin, Only, Within, Follows, Elapses, Counts};
 ghost use Rattle.apd_disk.specs.Faults.{FuseCall};
 
 use crate::fault::fail;
@@ -89,7 +90,7 @@ impl<D: Disk> Disk for FuseDisk<D> {
         ensures stop { D.honest self.old.inner → Within (D.left_since self.new.inner (D.moment self.old.inner)) (D.may_leave self.old.inner) }
         ensures time { D.honest self.old.inner → Elapses (D.moment self.old.inner) (D.moment self.new.inner) (D.left_since self.old.inner) (D.left_since self.new.inner) }
         ensures passed { FuseCall D.failed self.old.inner self.new.inner self.old.passes self.new.passes result }
-        ensures passed_on { D.honest self.old.inner → self.old.passes ≡ Some 0 → (buf.new ≡ take (length buf.old) (drop at (D.reads self.old.inner))) ⊎ Rises (D.failed self.old.inner) (D.failed self.new.inner) }
+        ensures passed_on { D.honest self.old.inner → self.old.passes ≡ Some 0 → (buf.new ≡ take (length buf.old) (drop at (D.reads self.old.inner))) ⊎ HasRisen (D.failed self.old.inner) (D.failed self.new.inner) }
     {
         match self.passes {
             Some(0) => {
@@ -114,7 +115,7 @@ impl<D: Disk> Disk for FuseDisk<D> {
         ensures stop { D.honest self.old.inner → Follows (TornWithin at (length bytes.now)) (D.may_leave self.old.inner) (D.left_since self.new.inner (D.moment self.old.inner)) }
         ensures time { D.honest self.old.inner → Elapses (D.moment self.old.inner) (D.moment self.new.inner) (D.left_since self.old.inner) (D.left_since self.new.inner) }
         ensures passed { FuseCall D.failed self.old.inner self.new.inner self.old.passes self.new.passes result }
-        ensures passed_on { D.honest self.old.inner → self.old.passes ≡ Some 0 → (D.reads self.new.inner ≡ overwritten (D.reads self.old.inner) at bytes.now) ⊎ Rises (D.failed self.old.inner) (D.failed self.new.inner) }
+        ensures passed_on { D.honest self.old.inner → self.old.passes ≡ Some 0 → (D.reads self.new.inner ≡ overwritten (D.reads self.old.inner) at bytes.now) ⊎ HasRisen (D.failed self.old.inner) (D.failed self.new.inner) }
     {
         match self.passes {
             Some(0) => {
@@ -139,7 +140,7 @@ impl<D: Disk> Disk for FuseDisk<D> {
         ensures stop { D.honest self.old.inner → Within (D.left_since self.new.inner (D.moment self.old.inner)) (D.may_leave self.old.inner) }
         ensures time { D.honest self.old.inner → Elapses (D.moment self.old.inner) (D.moment self.new.inner) (D.left_since self.old.inner) (D.left_since self.new.inner) }
         ensures passed { FuseCall D.failed self.old.inner self.new.inner self.old.passes self.new.passes result }
-        ensures passed_on { D.honest self.old.inner → self.old.passes ≡ Some 0 → Only (D.reads self.old.inner) (D.may_leave self.new.inner) ⊎ Rises (D.failed self.old.inner) (D.failed self.new.inner) }
+        ensures passed_on { D.honest self.old.inner → self.old.passes ≡ Some 0 → Only (D.reads self.old.inner) (D.may_leave self.new.inner) ⊎ HasRisen (D.failed self.old.inner) (D.failed self.new.inner) }
     {
         match self.passes {
             Some(0) => {

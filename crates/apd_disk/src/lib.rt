@@ -8,8 +8,6 @@ mod file;
 mod fuse;
 mod mem;
 mod once;
-#[cfg(test)]
-mod tests;
 mod torn;
 
 pub use call::Call;

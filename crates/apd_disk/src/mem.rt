@@ -1,7 +1,7 @@
 //! A disk in memory, which keeps what it held at first and each call that it has served.
 ghost use Rattle.std.specs.Prelude.{◌≡◌, ◌≤◌, ◌+◌, ◌↔◌, ◌++◌, ◌∷◌, [], ℕ, List, length, take, drop, replicate, IsTrue, OnErr, OnOk, IfOk};
 ghost use Rattle.apd_disk.specs.Disk.{overwritten, TornWithin, Only, Within, Follows, Elapses, Counts};
-ghost use Rattle.apd_disk.specs.Mem.{reads_after, all_fit, LeftAfter, LeftBetween, IsCrashImage, torn_write};
+ghost use Rattle.apd_disk.specs.Mem.{reads_after, all_fit, LeftAfter, LeftBetween, IsCrashImage, EndsWithTheLastSync, torn_write, torn_writes};
 ghost use Rattle.apd_disk.specs.MemLaws.{reads_left, now_left, only_last, earlier_left, left_length};
 ghost use Rattle.apd_disk.specs.declared.call.Call.TheVariants.{Read, Write, Sync};
 
@@ -74,25 +74,40 @@ fn tear(image: &mut Vec<u8>, at: usize, bytes: &[u8], torn: Torn)
     }
 }
 
-// Turns the first image into the one that a stop after the calls leaves. `reads` goes along as what a read
-// gives, which a sync makes durable.
-fn replay(calls: &[Call], torn: Torn, image: &mut Vec<u8>, reads: &mut Vec<u8>)
-    requires same { reads.old.items ≡ image.old.items }
+// What a stop of this kind leaves of each write of the calls.
+fn replay(calls: &[Call], torn: Torn, image: &mut Vec<u8>)
+    requires fit { IsTrue (all_fit (length image.old.items) calls.now) }
+    ensures bytes { image.new.items ≡ torn_writes torn image.old.items calls.now }
+    ensures size { length image.new.items ≡ length image.old.items }
+{
+    for call in calls {
+        if let Call::Write(at, bytes) = call {
+            tear(image, *at, bytes.as_slice(), torn);
+        }
+    }
+}
+
+// How many calls there are up to the last sync, with it; none where there is no sync.
+fn last_sync(calls: &[Call]) -> usize
+    ensures { EndsWithTheLastSync result calls.now }
+{
+    let mut end = calls.len();
+    while end > 0 && !matches!(calls[end - 1], Call::Sync) {
+        end -= 1;
+    }
+    end
+}
+
+// Turns the first image into the one that a stop after the calls leaves.
+fn stop(calls: &[Call], torn: Torn, image: &mut Vec<u8>)
     requires fit { IsTrue (all_fit (length image.old.items) calls.now) }
     ensures bytes { IsCrashImage torn image.old.items calls.now image.new.items }
     ensures stop { LeftAfter image.old.items calls.now image.new.items }
-    ensures size { length reads.new.items ≡ length reads.old.items }
+    ensures size { length image.new.items ≡ length image.old.items }
 {
-    for call in calls {
-        match call {
-            Call::Read(_, _) => {}
-            Call::Write(at, bytes) => {
-                overwrite(reads, *at, bytes.as_slice());
-                tear(image, *at, bytes.as_slice(), torn);
-            }
-            Call::Sync => image.copy_from_slice(reads),
-        }
-    }
+    let (durable, later) = calls.split_at(last_sync(calls));
+    replay(durable, Torn::New, image);
+    replay(later, torn, image);
 }
 
 impl MemDisk {
@@ -132,7 +147,8 @@ impl MemDisk {
 
     /// The disk after a stop at this moment, started afresh. Each byte that was written since the last sync
     /// that succeeded is the one that sync made durable, the one written last, or a given byte; each other
-    /// byte is as it was. The image is one that a stop now may leave. It takes no memory.
+    /// byte is as it was. The image is one that a stop now may leave. It takes no memory, and copies the
+    /// device's bytes once.
     pub fn crash(self, torn: Torn) -> MemDisk
         ensures bytes { IsCrashImage torn self.initial.items self.calls.items result.bytes.items }
         ensures stop { LeftAfter self.initial.items self.calls.items result.bytes.items }
@@ -148,8 +164,7 @@ impl MemDisk {
             bytes: mut reads,
             failures: _,
         } = self;
-        reads.copy_from_slice(&image);
-        replay(&calls, torn, &mut image, &mut reads);
+        stop(&calls, torn, &mut image);
         reads.copy_from_slice(&image);
         MemDisk {
             alloc,

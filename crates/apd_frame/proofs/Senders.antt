@@ -1,6 +1,7 @@
 -- A frame that is not ignored comes from a single station.
 use Rattle.std.proofs.Common.{◌≡◌, ◌≢◌, ℕ, Bool, true, false, ◌||◌, List, Option, Some, None, Ok, refl, sym, ◌∙◌, ap}
 use Rattle.std.specs.List.{find}
+use Rattle.apd_base.specs.declared.address.TheConstants.{BROADCAST}
 use Rattle.apd_base.specs.declared.address.Bssid.{Bssid}
 use Rattle.apd_frame.specs.declared.kind.Kind.{Kind}
 use Rattle.apd_frame.specs.declared.kind.Kind.TheVariants as kind
@@ -8,7 +9,7 @@ use Rattle.apd_frame.specs.declared.reasons.Ignored.{Ignored}
 use Rattle.apd_frame.specs.declared.reasons.Ignored.TheVariants.{Sender}
 use Rattle.apd_frame.specs.Contents.{Contents, sender_of}
 use Rattle.apd_frame.specs.Kinds.{kind_of}
-use Rattle.apd_frame.specs.Octets.{sender, is_group_address, is_same_address, broadcast}
+use Rattle.apd_frame.specs.Octets.{sender, is_group_address, is_same_address}
 use Rattle.apd_frame.specs.Outcome.{holds, reasons, contents_at, unless, outcome}
 use Rattle.apd_frame.proofs.FirstReason.{none_holds}
 
@@ -39,7 +40,7 @@ module _ (f : List ℕ) (own : Bssid) (c : Contents) where
   pub sender_individual : outcome f own ≡ Ok c → is_group_address (sender_of c) ≡ false
   sender_individual = by_kind (find (holds f own) reasons) refl (kind_of f)
 
-  pub sender_not_broadcast : outcome f own ≡ Ok c → sender_of c ≢ broadcast
+  pub sender_not_broadcast : outcome f own ≡ Ok c → sender_of c ≢ BROADCAST
   sender_not_broadcast is same =
-      let individual : is_group_address broadcast ≡ false = sym (ap is_group_address same) ∙ sender_individual is in
+      let individual : is_group_address BROADCAST ≡ false = sym (ap is_group_address same) ∙ sender_individual is in
       cc

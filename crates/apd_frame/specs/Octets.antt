@@ -144,12 +144,9 @@ is_data f = frame_type f == 2
 abbrev pub is_probe_request : List ℕ → Bool
 is_probe_request f = is_management f && (subtype f == 4)
 
--- a group's address: bit 0 of its first octet is 1; the broadcast address has all bits 1 (9.2.4.3.3)
+-- a group's address: bit 0 of its first octet is 1 (9.2.4.3.3)
 abbrev pub is_group_address : Addr → Bool
 is_group_address a = slice_index a.0 0 % 2 == 1
 
 abbrev pub is_same_address : Addr → Addr → Bool
 is_same_address a b = bytes_eq a.0 b.0
-
-abbrev pub broadcast : Addr
-broadcast = record { 0 = 255 ∷ 255 ∷ 255 ∷ 255 ∷ 255 ∷ 255 ∷ [] }

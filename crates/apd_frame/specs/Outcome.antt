@@ -3,6 +3,7 @@ use Rattle.std.specs.Prelude.{◌≡◌, ℕ, Bool, false, ◌+◌, ◌<◌, ◌
 use Rattle.std.specs.List.{find}
 use Rattle.apd_base.specs.declared.address.Addr.{Addr}
 use Rattle.apd_base.specs.declared.limits.TheConstants.{MAX_FRAME}
+use Rattle.apd_base.specs.declared.address.TheConstants.{BROADCAST}
 use Rattle.apd_base.specs.declared.address.Bssid.{Bssid}
 use Rattle.apd_frame.specs.declared.codes.Reason.{Reason}
 use Rattle.apd_frame.specs.declared.kind.Kind.{Kind}
@@ -12,11 +13,11 @@ use Rattle.apd_frame.specs.declared.reasons.Ignored.TheVariants.{TooLong, Short,
 use Rattle.apd_frame.specs.declared.received.Authentication.{Authentication}
 use Rattle.apd_frame.specs.Contents.{Contents, AssociationRequest, ReassociationRequest, ProbeRequest, authentication, association_request, reassociation_request, probe_request, disassociation, deauthentication, uplink}
 use Rattle.apd_frame.specs.Kinds.{is_of, kind_of, fixed_octets}
-use Rattle.apd_frame.specs.Octets.{protocol_version, frame_type, to_ds, from_ds, more_fragments, protected_frame, order, fragment_number, sender, receiver, bssid, algorithm_number, transaction_number, status_field, reason_field, capability_information, listen_interval, association_elements, current_ap_address, reassociation_elements, probe_elements, is_management, is_data, is_probe_request, is_group_address, is_same_address, broadcast}
+use Rattle.apd_frame.specs.Octets.{protocol_version, frame_type, to_ds, from_ds, more_fragments, protected_frame, order, fragment_number, sender, receiver, bssid, algorithm_number, transaction_number, status_field, reason_field, capability_information, listen_interval, association_elements, current_ap_address, reassociation_elements, probe_elements, is_management, is_data, is_probe_request, is_group_address, is_same_address}
 
 -- an address is the radio's own, or the broadcast address where a probe request may have it (9.3.3.2, 9.2.4.3.4)
 abbrev pub is_for : List ℕ → Bssid → Addr → Bool
-is_for f own a = is_same_address a own.0 || (is_probe_request f && is_same_address a broadcast)
+is_for f own a = is_same_address a own.0 || (is_probe_request f && is_same_address a BROADCAST)
 
 -- it ends before the fixed fields of its kind do
 abbrev pub lacks_fields : List ℕ → Option Kind → Bool

@@ -5,7 +5,8 @@ ghost use Rattle.apd_base.specs.declared.address.Bssid.{Bssid as Own};
 ghost use Rattle.apd_frame.specs.declared.reasons.Ignored.{Ignored as WhyIgnored};
 ghost use Rattle.apd_frame.specs.Contents.{Contents, contents, received, sender_of};
 ghost use Rattle.apd_frame.specs.Kinds.{fixed_octets, kind_of};
-ghost use Rattle.apd_frame.specs.Octets.{broadcast, is_group_address};
+ghost use Rattle.apd_base.specs.declared.address.TheConstants.{BROADCAST};
+ghost use Rattle.apd_frame.specs.Octets.{is_group_address};
 ghost use Rattle.apd_frame.specs.Outcome.{contents_at, holds, outcome, reasons, IsOutcome};
 
 use crate::codes::Reason;
@@ -129,5 +130,5 @@ pub fn exactly_one_outcome()
 /// not the broadcast address.
 pub fn a_sender_is_one_station()
     ensures individual { (f : List ℕ) (own : Own) (c : Contents) → outcome f own ≡ Ok c → is_group_address (sender_of c) ≡ false }
-    ensures not_broadcast { (f : List ℕ) (own : Own) (c : Contents) → outcome f own ≡ Ok c → sender_of c ≢ broadcast }
+    ensures not_broadcast { (f : List ℕ) (own : Own) (c : Contents) → outcome f own ≡ Ok c → sender_of c ≢ BROADCAST }
 {}

@@ -3,12 +3,10 @@ ghost use Rattle.std.specs.Prelude.{◌≡◌, ◌+◌, ◌<◌, ◌≤◌, ◌&
 ghost use Rattle.apd_frame.specs.Octets.{address_at, bit, fragment_number, frame_type, from_ds, is_data, is_group_address, is_management, is_probe_request, is_same_address, more_fragments, order, protected_frame, protocol_version, subtype, to_ds};
 ghost use Rattle.apd_frame.specs.Outcome.{is_for};
 
-use apd_base::{Addr, Bssid};
+use apd_base::{Addr, BROADCAST, Bssid};
 
 /// The bytes of a header.
 pub(crate) const HEADER: usize = 24;
-
-const BROADCAST: Addr = Addr([0xff; 6]);
 
 fn bit(bytes: &[u8], place: usize, number: u32) -> bool
     requires place { place < length bytes.now }

@@ -21,6 +21,3 @@ pub use encoder::{encode, wire_law};
 pub use reasons::Ignored;
 pub use received::{Association, Authentication, Frame, Probe, Reassociation};
 pub use replies::{AssociationResponse, Rates, Reply, ReplyBody, SsidField};
-
-#[cfg(test)]
-mod tests;

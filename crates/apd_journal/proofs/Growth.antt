@@ -9,7 +9,7 @@ use Rattle.apd_disk.proofs.Parts.{overwritten_parts}
 use Rattle.apd_record.specs.Ranges.{AreChanges}
 use Rattle.apd_record.specs.Record.{records_of}
 use Rattle.apd_record.specs.declared.change.Change.{Change}
-use Rattle.apd_journal.specs.Half.{block_of, group_of, planned_bytes, IsGroup, AreGroups, groups_of, changes_of, IsFront, HalfHolds}
+use Rattle.apd_journal.specs.Half.{block_of, group_of, planned_bytes, begun_bytes, IsGroup, AreGroups, groups_of, changes_of, IsFront, HalfHolds}
 use Rattle.apd_journal.proofs.Once.{front_split}
 
 -- ---- one group more
@@ -41,6 +41,37 @@ new_front epoch snapshot epoch_fits are fits = record {
   snapshot_fits = fits;
   groups_are = tt;
 }
+
+pub length-begun : (epoch : ℕ) (snapshot : List Change) → length (begun_bytes epoch snapshot) ≡ length (records_of snapshot) + 13
+length-begun epoch snapshot = omega (arith, length-append (records_of snapshot) (0 ∷ []))
+
+-- that front stands in the half once its bytes are written and its gate is opened
+pub begun : (half : List ℕ) (epoch : ℕ) (snapshot : List Change) → epoch < 2 ^ 64 → AreChanges snapshot → length (records_of snapshot) < 2 ^ 32 → length (records_of snapshot) + 14 ≤ length half
+    → HalfHolds (overwritten (overwritten half 1 (begun_bytes epoch snapshot)) 0 (1 ∷ [])) epoch snapshot (13 + length (records_of snapshot))
+begun [] epoch snapshot epoch_fits are fits room = absurd (omega (arith, room))
+begun (gate ∷ rest) epoch snapshot epoch_fits are fits room =
+    let bytes = begun_bytes epoch snapshot in
+    let n = length bytes in
+    let size : n ≡ length (records_of snapshot) + 13 = length-begun epoch snapshot in
+    let middle = take n rest in
+    let back = drop n rest in
+    let inside : length middle ≡ n = length-take-le n rest (omega (arith, room, size)) in
+    let written : overwritten (gate ∷ rest) 1 bytes ≡ gate ∷ (bytes ++ back) =
+    ap (λ (l : List ℕ). overwritten (gate ∷ l) 1 bytes) (sym (take-append-drop n rest)) ∙ overwritten_parts (gate ∷ []) middle back 1 n refl inside bytes refl in
+    let front = 1 ∷ (to_le_bytes w64 epoch ++ block_of snapshot) in
+    let is : overwritten (overwritten (gate ∷ rest) 1 bytes) 0 (1 ∷ []) ≡ front ++ (0 ∷ back) =
+    ap (λ (l : List ℕ). overwritten l 0 (1 ∷ [])) written ∙ overwritten_parts [] (gate ∷ []) (bytes ++ back) 0 1 refl refl (1 ∷ []) refl
+    ∙ ap (λ (l : List ℕ). 1 ∷ l) (append_assoc (to_le_bytes w64 epoch) (planned_bytes snapshot) back ∙ ap (λ (l : List ℕ). to_le_bytes w64 epoch ++ l) (append_assoc (block_of snapshot) (0 ∷ []) back)
+    ∙ sym (append_assoc (to_le_bytes w64 epoch) (block_of snapshot) (0 ∷ back))) in
+    record {
+      front = front;
+      gate = 0;
+      behind = back;
+      is_front = new_front epoch snapshot epoch_fits are fits;
+      closed = λ e. absurd (omega (arith, e));
+      is = is;
+      place_is = omega arith;
+    }
 
 pub front_grows : (front : List ℕ) (epoch : ℕ) (changes group : List Change) → IsFront front epoch changes → IsGroup group → IsFront (front ++ group_of group) epoch (changes ++ group)
 front_grows front epoch changes group f is = record {

@@ -5,11 +5,9 @@ pub mod batch;
 mod block;
 pub mod laws;
 pub mod reader;
-#[cfg(test)]
-mod tests;
 pub mod writer;
 
 pub use batch::{Batch, Plan};
-pub use laws::{a_half_is_read_in_one_way, an_opened_group_is_read};
+pub use laws::{a_half_is_read_in_one_way, an_opened_group_is_read, an_opened_half_is_read};
 pub use reader::{Groups, read_groups, split_epoch};
-pub use writer::{HALF_LENGTH, fits, plan};
+pub use writer::{HALF_LENGTH, fits, plan, plan_half};

@@ -1,11 +1,11 @@
-//! From changes to the bytes of a group.
-ghost use Rattle.std.specs.Prelude.{◌≡◌, ◌≤◌, ◌+◌, ◌-◌, ◌^◌, ◌↔◌, IsTrue, IfOk, min};
-ghost use Rattle.apd_journal.specs.Half.{planned_bytes};
+//! From changes to the bytes of a group, and to those of a half that begins anew.
+ghost use Rattle.std.specs.Prelude.{◌≡◌, ◌≤◌, ◌+◌, ◌-◌, ◌^◌, ◌++◌, ◌↔◌, IsTrue, IfOk, min};
+ghost use Rattle.apd_journal.specs.Half.{begun_bytes, planned_bytes};
 ghost use Rattle.apd_record.specs.Ranges.{AreChanges};
 
 use crate::batch::{Batch, Plan};
 use apd_base::Sequence;
-use apd_record::write;
+use apd_record::{Change, write};
 use std::alloc::{AllocError, Global};
 
 /// Bytes of a half (own).
@@ -20,6 +20,22 @@ pub fn fits(place: usize, length: usize) -> bool
     place <= LAST && length <= LAST - place
 }
 
+// Bytes, and behind them the length of records, the records, and a closed gate.
+fn with_block(alloc: Global, front: &[u8], changes: &[Change]) -> Result<Sequence<u8>, AllocError>
+    ensures bytes { IfOk result (λ bytes. bytes ≡ front.now ++ planned_bytes changes.now) }
+    ensures known { AreChanges changes.now }
+{
+    let records = write(alloc, changes)?;
+    let length = (records.len() % (1 << 32)) as u32;
+    let room = records.len().saturating_add(front.len()).saturating_add(5);
+    let mut bytes = Vec::with_capacity(alloc, room)?;
+    bytes.extend_from_slice(front)?;
+    bytes.extend_from_slice(&length.to_le_bytes())?;
+    bytes.extend_from_slice(&records)?;
+    bytes.push(0)?;
+    Ok(Sequence::from_vec(bytes))
+}
+
 /// The bytes of a batch's group as they are written behind its closed gate at this place: the length of
 /// its records, the records, and the next group's gate, closed. Want of memory is the only error.
 ///
@@ -30,14 +46,22 @@ pub fn plan(alloc: Global, batch: &Batch, place: usize) -> Result<Plan, AllocErr
     ensures bytes { IfOk result (λ plan. plan.bytes ≡ planned_bytes batch.now.changes) }
     ensures known { AreChanges batch.now.changes }
 {
-    let records = write(alloc, batch.changes.as_slice())?;
-    let length = (records.len() % (1 << 32)) as u32;
-    let mut bytes = Vec::with_capacity(alloc, records.len().saturating_add(5))?;
-    bytes.extend_from_slice(&length.to_le_bytes())?;
-    bytes.extend_from_slice(&records)?;
-    bytes.push(0)?;
+    let bytes = with_block(alloc, &[], batch.changes.as_slice())?;
     Ok(Plan {
         place: place.saturating_add(1),
-        bytes: Sequence::from_vec(bytes),
+        bytes,
     })
+}
+
+/// The bytes of a half that begins anew, as they are written behind its gate: the epoch, the length of the
+/// snapshot's records, the records, and the first group's gate, closed. Want of memory is the only error.
+///
+/// The length has four bytes, and is taken, as in `plan`; memory too.
+pub fn plan_half(alloc: Global, epoch: u64, snapshot: &[Change]) -> Result<Plan, AllocError>
+    ensures place { IfOk result (λ plan. plan.place ≡ 1) }
+    ensures bytes { IfOk result (λ plan. plan.bytes ≡ begun_bytes epoch snapshot.now) }
+    ensures known { AreChanges snapshot.now }
+{
+    let bytes = with_block(alloc, &epoch.to_le_bytes(), snapshot)?;
+    Ok(Plan { place: 1, bytes })
 }

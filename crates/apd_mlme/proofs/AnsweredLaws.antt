@@ -31,7 +31,7 @@ use Rattle.apd_mlme.proofs.AssociationLaws.{three, others, cleared, cleared_here
 use Rattle.apd_mlme.proofs.ElsewhereLaws.{is_among, among_elsewhere, put_backs_station}
 use Rattle.apd_mlme.proofs.IdentifierLaws.{is_least_free, identifier_is_there}
 use Rattle.apd_mlme.proofs.RefusalLaws.{status_success}
-use Rattle.apd_mlme.proofs.Cases.{both_true, differ, either, first_false, none_is, second_false}
+use Rattle.apd_base.proofs.Cases.{both_true, differ, either, first_false, none_is, second_false}
 
 -- ---- what is asked
 named_so : (conf : Conf) (o : Option (List ℕ)) → is_named conf o ≡ true → o ≡ Some conf.ssid

@@ -15,7 +15,6 @@ use Rattle.apd_base.proofs.MapLaws.{one_or_apart, apart, tied}
 use Rattle.apd_conf.specs.declared.conf.Conf.{Conf}
 use Rattle.apd_conf.specs.Confs.{conf_at}
 use Rattle.apd_frame.specs.Contents.{AssociationRequest}
-use Rattle.apd_frame.specs.declared.codes.TheConstants.Reason.{INVALID_CLASS2_FRAME}
 use Rattle.apd_frame.specs.declared.codes.Status.TheVariants.{Success}
 use Rattle.apd_record.specs.declared.change.Change.TheVariants.{Put}
 use Rattle.apd_record.specs.Meaning.{put_station, meaning_of}
@@ -29,19 +28,18 @@ use Rattle.apd_mlme.specs.declared.decision.Recipient.{Recipient}
 use Rattle.apd_mlme.specs.declared.decision.Recipient.TheVariants.{Radio}
 use Rattle.apd_mlme.specs.declared.decision.Out.{Out}
 use Rattle.apd_mlme.specs.declared.decision.Out.TheVariants.{Install}
-use Rattle.apd_mlme.specs.Association.{association_status, association_response, elsewhere, with_authenticated, put_backs, outs_elsewhere, installation, row_of, associated, accepted, association_of, association_verdict}
+use Rattle.apd_mlme.specs.Association.{association_response, elsewhere, with_authenticated, put_backs, outs_elsewhere, installation, row_of, associated}
 use Rattle.apd_mlme.specs.Driver.{DriverMap, driven, driven_by}
 use Rattle.apd_mlme.specs.Identifiers.{identifier_for}
-use Rattle.apd_mlme.specs.Leaving.{deauthentication}
 use Rattle.apd_mlme.specs.Outs.{outs_to, sent}
-use Rattle.apd_mlme.specs.Refusals.{is_success}
-use Rattle.apd_mlme.specs.Verdict.{Verdict, only_sent}
+use Rattle.apd_mlme.specs.Verdict.{Verdict}
 use Rattle.apd_mlme.proofs.DriverLaws.{is_row, station_put, aid_cond, driven_sent, driven_installed, one_installed}
 use Rattle.apd_mlme.proofs.ElsewhereLaws.{is_among, among_elsewhere, put_backs_meaning, put_backs_station, HasRows, put_backs_sound, put_backs_stay, elsewhere_driven}
 use Rattle.apd_mlme.proofs.IdentifierLaws.{is_least_free}
 use Rattle.apd_mlme.proofs.OutsLaws.{outs_to-append, driven-append}
-use Rattle.apd_mlme.proofs.RowLaws.{Follows, only_sent_follows}
-use Rattle.apd_mlme.proofs.Cases.{either, first_false, no_value, none_is, second_false, station_of_aid}
+use Rattle.apd_mlme.proofs.RowLaws.{Follows}
+use Rattle.apd_base.proofs.Cases.{either, first_false, no_value, none_is, second_false}
+use Rattle.apd_base.proofs.StateLaws.{station_of_aid}
 
 pub three : (t u v : Bool) → t ≡ false → u ≡ true → v ≡ true → ((not t && u) && v) ≡ true
 three true u v e f g = cc
@@ -197,51 +195,3 @@ module _ (s : State) (confs : List Conf) (conf : Conf) (b : Bssid) (kind : Kind)
         ∙ ap (λ (m : DriverMap). m d) (driven-append (outs_to (Radio c) gone) (outs_to (Radio c) rest) (aid_at s c))
         ∙ installed own d
         ∙ sym (associated_aid c d)
-
--- ---- any request
-module _ (s : State) (confs : List Conf) (conf : Conf) (b : Bssid) (kind : Kind) (request : AssociationRequest) where
-  abbrev known_of : Option Aid → Verdict
-  known_of o = accepted s confs conf b kind request o
-
-  accepted_meaning : (o : Option Aid) → meaning_of (known_of o).changes s ≡ (known_of o).state
-  accepted_meaning None = refl
-  accepted_meaning (Some aid) = associated_meaning s confs conf b kind request aid
-
-  abbrev by_status : Bool → Option Aid → Verdict
-  by_status t o = cond t (known_of o) (only_sent s (association_response conf b kind request.sender (association_status conf request) None))
-
-  row_meaning : (o : Option Station) → meaning_of (association_of s confs conf b kind request o).changes s ≡ (association_of s confs conf b kind request o).state
-  row_meaning None = refl
-  row_meaning (Some row) = elim (is_success (association_status conf request)) as (λ t. let v = by_status t (identifier_for s b (Some row)) in meaning_of v.changes s ≡ v.state) [ true ↦ accepted_meaning (identifier_for s b (Some row)) | false ↦ refl ]
-
-  pub association_meaning : meaning_of (association_verdict s confs conf b kind request).changes s ≡ (association_verdict s confs conf b kind request).state
-  association_meaning = row_meaning (station_at s b request.sender)
-
-  accepted_sound : Sound s → IsSome (station_at s b request.sender) → (o : Option Aid) → identifier_for s b (station_at s b request.sender) ≡ o → StaySound (known_of o).changes s
-  accepted_sound sound known None is = sound
-  accepted_sound sound known (Some aid) is = associated_sound s confs conf b kind request aid sound known is
-
-  row_sound : Sound s → (o : Option Station) → station_at s b request.sender ≡ o → StaySound (association_of s confs conf b kind request o).changes s
-  row_sound sound None at = sound
-  row_sound sound (Some row) at = elim (is_success (association_status conf request)) as (λ t. StaySound (by_status t (identifier_for s b (Some row))).changes s) [
-    | true ↦ accepted_sound sound (ap is_some at) (identifier_for s b (Some row)) (ap (identifier_for s b) at)
-    | false ↦ sound
-  ]
-
-  pub association_sound : Sound s → StaySound (association_verdict s confs conf b kind request).changes s
-  association_sound sound = row_sound sound (station_at s b request.sender) refl
-
-  module _ (c : Bssid) (configured : IsSome (conf_at confs c)) where
-    accepted_follows : (o : Option Aid) → identifier_for s b (station_at s b request.sender) ≡ o → Follows c s (known_of o)
-    accepted_follows None is = λ d. refl
-    accepted_follows (Some aid) is = associated_follows s confs conf b kind request aid c configured is
-
-    row_follows : (o : Option Station) → station_at s b request.sender ≡ o → Follows c s (association_of s confs conf b kind request o)
-    row_follows None at = only_sent_follows c s (deauthentication b request.sender INVALID_CLASS2_FRAME)
-    row_follows (Some row) at = elim (is_success (association_status conf request)) as (λ t. Follows c s (by_status t (identifier_for s b (Some row)))) [
-      | true ↦ accepted_follows (identifier_for s b (Some row)) (ap (identifier_for s b) at)
-      | false ↦ only_sent_follows c s (association_response conf b kind request.sender (association_status conf request) None)
-    ]
-
-    pub association_follows : Follows c s (association_verdict s confs conf b kind request)
-    association_follows = row_follows (station_at s b request.sender) refl

@@ -1,8 +1,6 @@
 -- What an authentication request leaves.
-use Rattle.std.proofs.Common.{◌≡◌, ◌≢◌, ℕ, ◌<◌, Bool, true, false, cond, not, ◌&&◌, eqb, leb, [], ◌∷◌, Option, Some, None, inl, inr, refl, sym, ap, ◌∙◌, IsSome, arith}
+use Rattle.std.proofs.Common.{◌≡◌, ℕ, ◌<◌, Bool, true, false, cond, not, ◌&&◌, eqb, leb, [], ◌∷◌, Option, Some, None, inl, inr, refl, sym, ap, ◌∙◌, IsSome, arith}
 use Rattle.std.specs.Option.{is_some}
-use Rattle.std.specs.Prelude.{map as list_map}
-use Rattle.std.specs.Ordering.{eq_by_cmp}
 use Rattle.std.specs.List.{AllByRecursion}
 use Rattle.std.specs.FinMap as map
 use Rattle.std.proofs.lemmas.Bool.{and_parts, eqb-true, eqb-false, eq-eqb, leb-true, leb-false}
@@ -11,7 +9,6 @@ use Rattle.apd_base.specs.declared.address.Bssid.{Bssid}
 use Rattle.apd_base.specs.declared.station.Policy.{Policy}
 use Rattle.apd_base.specs.declared.station.Station.{Station}
 use Rattle.apd_base.specs.declared.station.Station.TheVariants.{Authenticated}
-use Rattle.apd_base.specs.Addr.{bssid_cmp}
 use Rattle.apd_base.specs.State.{State, station_at, policy_at, aid_of, aid_at, count}
 use Rattle.apd_base.proofs.AddrLaws.{station_total, station_exact}
 use Rattle.apd_base.proofs.MapLaws.{one_or_apart, apart, get_inserted, get_insert_other}
@@ -22,17 +19,17 @@ use Rattle.apd_conf.specs.declared.conf.Conf.{Conf}
 use Rattle.apd_conf.specs.Auth.{allows_open}
 use Rattle.apd_table.specs.Allowed.{allowed}
 use Rattle.apd_table.specs.Can.{CanPut}
-use Rattle.apd_record.specs.Meaning.{meaning_of, put_station}
+use Rattle.apd_record.specs.declared.change.Change.TheVariants.{Put}
+use Rattle.apd_record.specs.Meaning.{put_station}
 use Rattle.apd_table.specs.Sound.{Sound, StaySound}
 use Rattle.apd_table.proofs.Put.{sound_put}
-use Rattle.apd_mlme.specs.declared.decision.Recipient.TheVariants.{Radio}
 use Rattle.apd_mlme.specs.Authentication.{is_known, station_limit, is_full, refusals, auth_status, is_admitted, auth_verdict, auth_response}
-use Rattle.apd_mlme.specs.Driver.{driven, DriverMap}
-use Rattle.apd_mlme.specs.Outs.{sent, outs_to}
+use Rattle.apd_mlme.specs.Outs.{sent}
 use Rattle.apd_mlme.specs.Refusals.{is_success}
 use Rattle.apd_mlme.specs.Told.{IsOpenSystem, IsFirst, IsAllowed, IsDeserved, IsToldTruly}
 use Rattle.apd_mlme.proofs.RefusalLaws.{none_holds, not_and, status_success}
-use Rattle.apd_mlme.proofs.Cases.{both_true, differ, no_value, not_false}
+use Rattle.apd_base.proofs.Cases.{both_true, differ, no_value, not_false, not_yes}
+use Rattle.apd_mlme.specs.Verdict.{Verdict}
 
 room : (o : Option Policy) (n : ℕ) → leb (station_limit o) n ≡ false → n < 2007
 room None n e = let low = leb-false 0 n e in absurd (omega arith)
@@ -63,21 +60,12 @@ module _ (s : State) (conf : Conf) (b : Bssid) (request : Authentication) where
         room = inr (room (policy_at s b) (count s b) (not_and _ (is_full s b) parts.1 none.1.1.1.0));
       }
 
-  pub auth_meaning : meaning_of (auth_verdict s conf b request).changes s ≡ (auth_verdict s conf b request).state
-  auth_meaning = elim admitted as (λ t. admitted ≡ t → meaning_of (auth_verdict s conf b request).changes s ≡ (auth_verdict s conf b request).state) [
-    | true ↦ λ e. rw e refl
-    | false ↦ λ e. rw e refl
-  ] refl
-
-  pub auth_sound : IsSome (policy_at s b) → Sound s → StaySound (auth_verdict s conf b request).changes s
-  auth_sound policy sound = elim admitted as (λ t. admitted ≡ t → StaySound (auth_verdict s conf b request).changes s) [
-    | true ↦ λ e. rw e (sound, sound_put s b request.sender Authenticated sound (can_put policy e))
-    | false ↦ λ e. rw e sound
-  ] refl
+  pub admitted_sound : IsSome (policy_at s b) → admitted ≡ true → Sound s → StaySound (Put b request.sender Authenticated ∷ []) s
+  admitted_sound policy e sound = (sound, sound_put s b request.sender Authenticated sound (can_put policy e))
 
   -- a station that is admitted had no identifier, and has none
-  put_aid : admitted ≡ true → (c : Bssid) (d : Addr) → aid_at new c d ≡ aid_at s c d
-  put_aid e c d =
+  pub admitted_aid : admitted ≡ true → (c : Bssid) (d : Addr) → aid_at new c d ≡ aid_at s c d
+  admitted_aid e c d =
       let parts = and_parts (is_success (auth_status s conf b request)) (not (is_known s b request)) e in
       let key : Bssid × Addr = (b, request.sender) in
       elim (one_or_apart station_total station_exact (c, d) key) [
@@ -86,35 +74,13 @@ module _ (s : State) (conf : Conf) (b : Bssid) (request : Authentication) where
         | inr apart ↦ ap aid_of (get_insert_other station_total station_exact s.stations key Authenticated (c, d) apart)
       ]
 
-  pub auth_aid : (c : Bssid) (d : Addr) → aid_at (auth_verdict s conf b request).state c d ≡ aid_at s c d
-  auth_aid c d = elim admitted as (λ t. admitted ≡ t → aid_at (auth_verdict s conf b request).state c d ≡ aid_at s c d) [
-    | true ↦ λ e. rw e (put_aid e c d)
-    | false ↦ λ e. rw e refl
-  ] refl
-
-  -- the one out is a frame, which leaves each driver as it is
-  sent_alone : (c : Bssid) (m : DriverMap) (d : Addr) → driven (outs_to (Radio c) (auth_verdict s conf b request).outs) m d ≡ m d
-  sent_alone c m d = elim (eq_by_cmp bssid_cmp c b) as (λ t. driven (list_map (λ x. x.1) (cond t (sent (auth_response b request (auth_status s conf b request)) ∷ []) [])) m d ≡ m d) [ true ↦ refl | false ↦ refl ]
-
-  pub auth_driver : (c : Bssid) (d : Addr) → driven (outs_to (Radio c) (auth_verdict s conf b request).outs) (aid_at s c) d ≡ aid_at (auth_verdict s conf b request).state c d
-  auth_driver c d = sent_alone c (aid_at s c) d ∙ sym (auth_aid c d)
-
   known_some : (o : Option Station) → not (is_some o) ≡ false → IsSome o
   known_some None e = cc
   known_some (Some x) e = refl
 
-  -- success leaves the sender in the table, whether it was admitted or known before
-  told_success : auth_status s conf b request ≡ Success → IsSome (station_at (auth_verdict s conf b request).state b request.sender)
-  told_success status = elim admitted as (λ t. admitted ≡ t → IsSome (station_at (auth_verdict s conf b request).state b request.sender)) [
-    | true ↦ λ e. rw e (ap is_some (get_inserted station_total station_exact s.stations (b, request.sender) Authenticated))
-    | false ↦ λ e. rw e (known_some (station_at s b request.sender) (not_and (is_success (auth_status s conf b request)) (not (is_known s b request)) (ap is_success status) e))
-  ] refl
-
-  told_refused : auth_status s conf b request ≢ Success → (auth_verdict s conf b request).state ≡ s
-  told_refused refused = elim admitted as (λ t. admitted ≡ t → (auth_verdict s conf b request).state ≡ s) [
-    | true ↦ λ e. absurd (refused (status_success (auth_status s conf b request) (and_parts (is_success (auth_status s conf b request)) (not (is_known s b request)) e).0))
-    | false ↦ λ e. rw e refl
-  ] refl
+  -- one that is not admitted, and is told success, was known before
+  pub known_already : admitted ≡ false → auth_status s conf b request ≡ Success → IsSome (station_at s b request.sender)
+  known_already e good = known_some (station_at s b request.sender) (not_and (is_success (auth_status s conf b request)) (not (is_known s b request)) (ap is_success good) e)
 
   -- what each status says of the request
   abbrev Deserves : Status → Type 0
@@ -162,35 +128,34 @@ module _ (s : State) (conf : Conf) (b : Bssid) (request : Authentication) where
         | false ↦ λ e. λ is. differ (zero && may) e (both_true zero may (eq-eqb request.algorithm 0 is.0) is.1)
       ] refl
 
-  same_state : admitted ≡ false → (auth_verdict s conf b request).state ≡ s
-  same_state e = rw e refl
-
-  never_admitted : (t u : Bool) (o : Option Station) → u ≡ not (is_some o) → IsSome o → (t && u) ≡ false
-  never_admitted true u None e h = cc
-  never_admitted true u (Some x) e h = e
-  never_admitted false u o e h = refl
-
-  told_others : (c : Bssid) (d : Addr) → ¬ ((c ≡ b) × (d ≡ request.sender)) → station_at (auth_verdict s conf b request).state c d ≡ station_at s c d
-  told_others c d other = elim admitted as (λ t. admitted ≡ t → station_at (auth_verdict s conf b request).state c d ≡ station_at s c d) [
-    | true ↦ λ e. rw e (get_insert_other station_total station_exact s.stations (b, request.sender) Authenticated (c, d) (apart station_total station_exact (c, d) (b, request.sender) (λ e. other (ap (λ k. k.0) e, ap (λ k. k.1) e))))
-    | false ↦ λ e. rw e refl
-  ] refl
-
-  told_lists : (auth_verdict s conf b request).state.lists ≡ s.lists
-  told_lists = elim admitted as (λ t. admitted ≡ t → (auth_verdict s conf b request).state.lists ≡ s.lists) [ true ↦ λ e. rw e refl | false ↦ λ e. rw e refl ] refl
-
-  told_policies : (auth_verdict s conf b request).state.policies ≡ s.policies
-  told_policies = elim admitted as (λ t. admitted ≡ t → (auth_verdict s conf b request).state.policies ≡ s.policies) [ true ↦ λ e. rw e refl | false ↦ λ e. rw e refl ] refl
+  abbrev decided : Bool → Verdict
+  decided t = record { state = cond t new s; changes = cond t (Put b request.sender Authenticated ∷ []) []; outs = sent (auth_response b request (auth_status s conf b request)) ∷ [] }
 
   pub auth_told : IsToldTruly s conf b request (auth_verdict s conf b request)
-  auth_told = record {
-    status = auth_status s conf b request;
-    answer = refl;
-    success = told_success;
-    deserved = told_deserved;
-    refused = told_refused;
-    stays = λ known. same_state (never_admitted (is_success (auth_status s conf b request)) (not (is_known s b request)) (station_at s b request.sender) refl known);
-    others = told_others;
-    lists = told_lists;
-    policies = told_policies;
-  }
+  auth_told = elim admitted as (λ t. admitted ≡ t → IsToldTruly s conf b request (decided t)) [
+    | true ↦ λ e.
+        let parts = and_parts (is_success (auth_status s conf b request)) (not (is_known s b request)) e in
+        record {
+          status = auth_status s conf b request;
+          answer = refl;
+          deserved = told_deserved;
+          success = λ _. ap is_some (get_inserted station_total station_exact s.stations (b, request.sender) Authenticated);
+          refused = λ bad. absurd (bad (status_success (auth_status s conf b request) parts.0));
+          stays = λ known. differ (is_known s b request) (not_yes (is_known s b request) parts.1) known;
+          others = λ c d other. get_insert_other station_total station_exact s.stations (b, request.sender) Authenticated (c, d)
+              (apart station_total station_exact (c, d) (b, request.sender) (λ same. other (ap (λ k. k.0) same, ap (λ k. k.1) same)));
+          lists = refl;
+          policies = refl;
+        }
+    | false ↦ λ e. record {
+      status = auth_status s conf b request;
+      answer = refl;
+      deserved = told_deserved;
+      success = known_already e;
+      refused = λ bad. refl;
+      stays = λ known. refl;
+      others = λ c d other. refl;
+      lists = refl;
+      policies = refl;
+    }
+  ] refl

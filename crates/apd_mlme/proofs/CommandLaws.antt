@@ -10,12 +10,11 @@ use Rattle.apd_base.specs.declared.address.Addr.{Addr}
 use Rattle.apd_base.specs.declared.address.Bssid.{Bssid}
 use Rattle.apd_base.specs.declared.station.Policy.{Policy}
 use Rattle.apd_base.specs.declared.station.Station.{Station}
-use Rattle.apd_base.specs.declared.station.Station.TheVariants.{Authenticated, Associated}
 use Rattle.apd_base.specs.declared.station.Which.{Which}
-use Rattle.apd_base.specs.Addr.{addr_cmp, bssid_cmp, station_cmp}
+use Rattle.apd_base.specs.Addr.{addr_cmp, bssid_cmp, station_cmp, is_among}
 use Rattle.apd_base.specs.Sets.{contains}
 use Rattle.apd_base.specs.State.{State, station_at, policy_at, aid_at, list_count}
-use Rattle.apd_base.proofs.AddrLaws.{bssid_total, bssid_exact}
+use Rattle.apd_base.proofs.AddrLaws.{bssid_total, bssid_exact, same_addr}
 use Rattle.apd_base.proofs.MapLaws.{tied}
 use Rattle.apd_frame.specs.declared.codes.Reason.{Reason}
 use Rattle.apd_frame.specs.declared.codes.TheConstants.Reason.{UNSPECIFIED}
@@ -24,25 +23,24 @@ use Rattle.apd_table.specs.Addresses.{addresses_at, denied_under, with_lists_aft
 use Rattle.apd_table.specs.Allowed.{allowed, allowed_in, allowed_under, denied_by}
 use Rattle.apd_table.specs.Can.{NoneDenied}
 use Rattle.apd_table.specs.Sound.{Sound, StaySound}
-use Rattle.apd_table.proofs.Denied.{is_among, drops, meaning_of-append, drops_lists, drops_policies, drops_station, drops_sound, drops_stay, left_allowed, some_row}
+use Rattle.apd_table.proofs.Denied.{drops, meaning_of-append, drops_lists, drops_policies, drops_station, drops_sound, drops_stay, left_allowed, some_row}
 use Rattle.apd_table.proofs.ListChanges.{sound_add, sound_take, sound_clear}
 use Rattle.apd_mlme.specs.declared.answer.Answer.{Answer}
 use Rattle.apd_mlme.specs.declared.answer.Answer.TheVariants.{Done, Refused}
 use Rattle.apd_mlme.specs.declared.decision.Recipient.TheVariants.{Radio}
 use Rattle.apd_mlme.specs.declared.event.Edit.{Edit}
 use Rattle.apd_mlme.specs.declared.event.Edit.TheVariants.{Add, Remove, Clear}
-use Rattle.apd_mlme.specs.declared.event.TheConstants.{BROADCAST}
-use Rattle.apd_mlme.specs.Commands.{text, answered, farewell, deauthenticated_of, deauthenticated, disassociated_of, disassociated, all_kicked, kicked, kick_verdict, change_of, left_under, edited, list_edit_verdict}
+use Rattle.apd_base.specs.declared.address.TheConstants.{BROADCAST}
+use Rattle.apd_mlme.specs.Commands.{text, answered, farewell, deauthenticated, disassociated, all_kicked, kicked, change_of, left_under, edited, list_edit_verdict}
 use Rattle.apd_mlme.specs.Configuration.{stays}
 use Rattle.apd_mlme.specs.Driver.{DriverMap, driven}
-use Rattle.apd_mlme.specs.Leaving.{deauthentication, disassociation, outs_of_drop, removal}
+use Rattle.apd_mlme.specs.Leaving.{outs_of_drop, removal}
 use Rattle.apd_mlme.specs.Outs.{outs_to, sent}
 use Rattle.apd_mlme.specs.Verdict.{Verdict, nothing}
-use Rattle.apd_mlme.proofs.Cases.{same_addr}
 use Rattle.apd_mlme.proofs.DriverLaws.{driven_sent}
 use Rattle.apd_mlme.proofs.DropsLaws.{drop_lets_go, removal_lets_go, kept_stations, kept_driver, denied_leave, all_leave, is_elsewhere}
 use Rattle.apd_mlme.proofs.OutsLaws.{outs_to-append, driven-append}
-use Rattle.apd_mlme.proofs.RowLaws.{Follows, only_sent_follows, put_back_stays, dropped_stays, end_follows, drop_follows}
+use Rattle.apd_mlme.proofs.RowLaws.{Follows}
 
 -- ---- the cases of a kick, by its frame: all stations, or one
 module _ (s : State) (b : Bssid) (to : Addr) (reason : Reason) (P : Bool → Verdict → Type 0)
@@ -95,24 +93,10 @@ module _ (s : State) (b : Bssid) (w : Which) (tag : ℕ) (P : Verdict → Type 0
 
 -- ---- the state after
 module _ (s : State) (b : Bssid) where
-  all_meaning : (reason : Reason) (t : Bool) → meaning_of (all_kicked s b reason t).changes s ≡ (all_kicked s b reason t).state
+  pub all_meaning : (reason : Reason) (t : Bool) → meaning_of (all_kicked s b reason t).changes s ≡ (all_kicked s b reason t).state
   all_meaning reason t =
       let all = addresses_at s b in
       (λ i. record { stations = kept_stations s b (is_elsewhere s b) all (all_leave s b) i; lists = drops_lists b all s i; policies = drops_policies b all s i })
-
-  deauthenticated_meaning : (a : Addr) (reason : Reason) (o : Option Station) → meaning_of (deauthenticated_of s b a reason o).changes s ≡ (deauthenticated_of s b a reason o).state
-  deauthenticated_meaning a reason None = refl
-  deauthenticated_meaning a reason (Some row) = refl
-
-  disassociated_meaning : (a : Addr) (reason : Reason) (o : Option Station) → meaning_of (disassociated_of s b a reason o).changes s ≡ (disassociated_of s b a reason o).state
-  disassociated_meaning a reason None = refl
-  disassociated_meaning a reason (Some Authenticated) = refl
-  disassociated_meaning a reason (Some (Associated x)) = refl
-
-  pub kick_meaning : (to : Addr) (reason : Reason) (deauth : Bool) (tag : ℕ) → meaning_of (kick_verdict s b to reason deauth tag).changes s ≡ (kick_verdict s b to reason deauth tag).state
-  kick_meaning to reason deauth tag =
-      by_kick s b to reason (λ t v. meaning_of v.changes s ≡ v.state) (λ t e. all_meaning reason t)
-      (λ e. deauthenticated_meaning to reason (station_at s b to)) (λ e. disassociated_meaning to reason (station_at s b to)) deauth
 
 -- an edit, by the policy of the BSSID
 module _ (s : State) (b : Bssid) (w : Which) where
@@ -133,7 +117,7 @@ module _ (s : State) (b : Bssid) (w : Which) where
   change_with (Remove a) k = refl
   change_with Clear k = refl
 
-  edited_meaning : (edit : Edit) (o : Option Policy) → meaning_of (edited_under edit o).changes s ≡ (edited_under edit o).state
+  pub edited_meaning : (edit : Edit) (o : Option Policy) → meaning_of (edited_under edit o).changes s ≡ (edited_under edit o).state
   edited_meaning edit None = change_with edit s.stations
   edited_meaning edit (Some p) =
       let denied = denied_by (new edit) b p.mode in
@@ -141,27 +125,10 @@ module _ (s : State) (b : Bssid) (w : Which) where
       ∙ (λ i. meaning (change_of b w edit) (record { stations = kept_stations s b (stays (new edit) b p.mode) denied (denied_leave (new edit) b p.mode) i; lists = drops_lists b denied s i; policies = drops_policies b denied s i }))
       ∙ change_with edit (left_under (new edit) b (Some p))
 
-  pub list_edit_meaning : (edit : Edit) (tag : ℕ) → meaning_of (list_edit_verdict s b w edit tag).changes s ≡ (list_edit_verdict s b w edit tag).state
-  list_edit_meaning edit tag = by_edit s b w tag (λ v. meaning_of v.changes s ≡ v.state) edit (λ _. refl) (λ _. refl) (λ _. edited_meaning edit (policy_at s b))
-
 -- ---- each change leaves a sound state
 module _ (s : State) (b : Bssid) (sound : Sound s) where
-  all_sound : (reason : Reason) (t : Bool) → StaySound (all_kicked s b reason t).changes s
+  pub all_sound : (reason : Reason) (t : Bool) → StaySound (all_kicked s b reason t).changes s
   all_sound reason t = subst (λ changes. StaySound changes s) (append-nil (drops b (addresses_at s b))) (drops_stay b (addresses_at s b) [] s sound (drops_sound b (addresses_at s b) s sound))
-
-  deauthenticated_sound : (a : Addr) (reason : Reason) (o : Option Station) → StaySound (deauthenticated_of s b a reason o).changes s
-  deauthenticated_sound a reason None = sound
-  deauthenticated_sound a reason (Some row) = dropped_stays s b a [] sound
-
-  disassociated_sound : (a : Addr) (reason : Reason) (o : Option Station) → station_at s b a ≡ o → StaySound (disassociated_of s b a reason o).changes s
-  disassociated_sound a reason None at = sound
-  disassociated_sound a reason (Some Authenticated) at = sound
-  disassociated_sound a reason (Some (Associated x)) at = put_back_stays s b a [] (ap is_some at) sound
-
-  pub kick_sound : (to : Addr) (reason : Reason) (deauth : Bool) (tag : ℕ) → StaySound (kick_verdict s b to reason deauth tag).changes s
-  kick_sound to reason deauth tag =
-      by_kick s b to reason (λ t v. StaySound v.changes s) (λ t e. all_sound reason t)
-      (λ e. deauthenticated_sound to reason (station_at s b to)) (λ e. disassociated_sound to reason (station_at s b to) refl) deauth
 
 module _ (s : State) (b : Bssid) (w : Which) (p : Policy) (at : policy_at s b ≡ Some p) where
   abbrev denied : Edit → List Addr
@@ -215,12 +182,9 @@ module _ (s : State) (b : Bssid) (w : Which) (p : Policy) (at : policy_at s b �
         (drops_sound b (denied edit) s sound, subst (λ t. Sound (meaning (change_of b w edit) t)) (rest_is edit) (made_sound edit room))
 
 module _ (s : State) (b : Bssid) (w : Which) (sound : Sound s) where
-  under_sound : (edit : Edit) (o : Option Policy) → policy_at s b ≡ o → IsSome o → HasRoom s b w edit → StaySound (edited_under s b w edit o).changes s
+  pub under_sound : (edit : Edit) (o : Option Policy) → policy_at s b ≡ o → IsSome o → HasRoom s b w edit → StaySound (edited_under s b w edit o).changes s
   under_sound edit None at known room = cc
   under_sound edit (Some p) at known room = edited_sound s b w p at sound edit room
-
-  pub list_edit_sound : (edit : Edit) (tag : ℕ) → IsSome (policy_at s b) → StaySound (list_edit_verdict s b w edit tag).changes s
-  list_edit_sound edit tag known = by_edit s b w tag (λ v. StaySound v.changes s) edit (λ _. sound) (λ _. sound) (λ room. under_sound edit (policy_at s b) refl known room)
 
 -- ---- the drivers follow
 -- an answer is not for them
@@ -230,7 +194,7 @@ answered_follows c s tag answer v follows d =
     ∙ follows d
 
 module _ (c : Bssid) (s : State) (b : Bssid) where
-  all_follows : (reason : Reason) (t : Bool) → Follows c s (all_kicked s b reason t)
+  pub all_follows : (reason : Reason) (t : Bool) → Follows c s (all_kicked s b reason t)
   all_follows reason t d =
       let all = addresses_at s b in
       let frame = farewell b BROADCAST reason t in
@@ -239,29 +203,8 @@ module _ (c : Bssid) (s : State) (b : Bssid) where
       ∙ ap (λ (m : DriverMap). m d) (driven-append (outs_to (Radio c) removals) (outs_to (Radio c) (sent frame ∷ [])) (aid_at s c) ∙ driven_sent c frame [] (driven (outs_to (Radio c) removals) (aid_at s c)))
       ∙ kept_driver s b (is_elsewhere s b) all (all_leave s b) (removal s b) (removal_lets_go s b) c d
 
-  deauthenticated_follows : (a : Addr) (reason : Reason) (o : Option Station) → Follows c s (deauthenticated_of s b a reason o)
-  deauthenticated_follows a reason None = only_sent_follows c s (deauthentication b a reason)
-  deauthenticated_follows a reason (Some row) = drop_follows s b a c reason
-
-  disassociated_follows : (a : Addr) (reason : Reason) (o : Option Station) → Follows c s (disassociated_of s b a reason o)
-  disassociated_follows a reason None = only_sent_follows c s (disassociation b a reason)
-  disassociated_follows a reason (Some Authenticated) = only_sent_follows c s (disassociation b a reason)
-  disassociated_follows a reason (Some (Associated x)) = end_follows s b a c reason
-
-  pub kick_follows : (to : Addr) (reason : Reason) (deauth : Bool) (tag : ℕ) → Follows c s (kick_verdict s b to reason deauth tag)
-  kick_follows to reason deauth tag =
-      answered_follows c s tag Done (kicked s b to reason deauth)
-      (by_kick s b to reason (λ t v. Follows c s v) (λ t e. all_follows reason t)
-      (λ e. deauthenticated_follows to reason (station_at s b to)) (λ e. disassociated_follows to reason (station_at s b to)) deauth)
-
-  edited_follows : (w : Which) (edit : Edit) (o : Option Policy) → Follows c s (edited_under s b w edit o)
+  pub edited_follows : (w : Which) (edit : Edit) (o : Option Policy) → Follows c s (edited_under s b w edit o)
   edited_follows w edit None d = refl
   edited_follows w edit (Some p) d =
       let now = new s b w edit in
       kept_driver now b (stays now b p.mode) (denied_by now b p.mode) (denied_leave now b p.mode) (λ a. outs_of_drop s b a UNSPECIFIED) (drop_lets_go s b UNSPECIFIED) c d
-
-  pub list_edit_follows : (w : Which) (edit : Edit) (tag : ℕ) → Follows c s (list_edit_verdict s b w edit tag)
-  list_edit_follows w edit tag =
-      by_edit s b w tag (Follows c s) edit
-      (λ _. answered_follows c s tag Done (nothing s) (λ d. refl)) (λ _. answered_follows c s tag Refused (nothing s) (λ d. refl))
-      (λ _. answered_follows c s tag Done (edited s b w edit) (edited_follows w edit (policy_at s b)))

@@ -15,7 +15,7 @@ use Rattle.apd_base.specs.declared.station.Which.{Which}
 use Rattle.apd_base.specs.Addr.{addr_cmp, bssid_cmp}
 use Rattle.apd_base.specs.Sets.{contains}
 use Rattle.apd_base.specs.State.{State, station_at, policy_at, aid_of, aid_at, which_cmp, list_count, IsListed}
-use Rattle.apd_base.proofs.AddrLaws.{addr_total, addr_exact, bssid_total, bssid_exact}
+use Rattle.apd_base.proofs.AddrLaws.{addr_total, addr_exact, bssid_total, bssid_exact, other_way, same_addr}
 use Rattle.apd_base.proofs.MapLaws.{one_or_apart, apart, tied}
 use Rattle.apd_base.proofs.StateLaws.{which_total, which_exact}
 use Rattle.apd_conf.specs.declared.conf.Conf.{Conf}
@@ -26,7 +26,6 @@ use Rattle.apd_record.specs.Meaning.{put_station, drop_station}
 use Rattle.apd_table.specs.Addresses.{addresses_at}
 use Rattle.apd_table.specs.Allowed.{allowed, allowed_in, allowed_under, denied_by}
 use Rattle.apd_table.specs.Sound.{Sound}
-use Rattle.apd_table.proofs.Denied.{is_among}
 use Rattle.apd_table.proofs.ListSets.{insert_here, remove_here, clear_here, insert_elsewhere, remove_elsewhere, clear_elsewhere}
 use Rattle.apd_mlme.specs.declared.answer.Answer.TheVariants.{Done, Refused}
 use Rattle.apd_mlme.specs.declared.decision.Recipient.{Recipient}
@@ -35,7 +34,7 @@ use Rattle.apd_mlme.specs.declared.decision.Out.{Out}
 use Rattle.apd_mlme.specs.declared.decision.Out.TheVariants as out
 use Rattle.apd_mlme.specs.declared.event.Edit.{Edit}
 use Rattle.apd_mlme.specs.declared.event.Edit.TheVariants.{Add, Remove, Clear}
-use Rattle.apd_mlme.specs.declared.event.TheConstants.{BROADCAST}
+use Rattle.apd_base.specs.declared.address.TheConstants.{BROADCAST}
 use Rattle.apd_mlme.specs.Answered.{only_authenticated}
 use Rattle.apd_mlme.specs.Commanded.{IsKicked, IsOnAfter, IsEdited, IsFull, IsAnsweredTo}
 use Rattle.apd_mlme.specs.Commands.{text, answered, farewell, deauthenticated_of, disassociated_of, all_kicked, kicked, kick_verdict, edited, list_edit_verdict}
@@ -47,13 +46,15 @@ use Rattle.apd_mlme.specs.Leaving.{deauthentication, removal}
 use Rattle.apd_mlme.specs.Outs.{sent}
 use Rattle.apd_mlme.specs.Rules.{verdict, verdict_under, heard_verdict, IsFit}
 use Rattle.apd_mlme.specs.Verdict.{nothing}
-use Rattle.apd_mlme.proofs.Cases.{differ, either, none_is, not_yes, other_way, same_addr, same_bssid, second_true}
+use Rattle.apd_base.proofs.Cases.{differ, either, none_is, not_yes, second_true}
 use Rattle.apd_mlme.proofs.CommandLaws.{by_kick, by_edit, IsUnneeded, IsTooMany, new, edited_under}
-use Rattle.apd_mlme.proofs.DriverLaws.{is_row, station_put, station_dropped}
-use Rattle.apd_mlme.proofs.DropsLaws.{all_gone, all_leave, denied_leave, is_elsewhere, kept_row}
-use Rattle.apd_mlme.proofs.RadioLaws.{radios_only, heard_there, inactivity_there, configure_there, kicked_there, edited_there}
-use Rattle.apd_mlme.proofs.EndedLaws.{contains_drop, taken_out}
-use Rattle.apd_mlme.proofs.TruthLaws.{this_row, put_back_aid, dropped_row}
+use Rattle.apd_mlme.proofs.DriverLaws.{other_row, put_row, dropped_row, station_put, station_dropped}
+use Rattle.apd_mlme.proofs.DropsLaws.{all_gone, all_leave, denied_leave, gone_among, is_elsewhere, kept_row}
+use Rattle.apd_mlme.proofs.RadioLaws.{radios_only, shape_radios}
+use Rattle.apd_mlme.proofs.Shapes as shape
+use Rattle.apd_mlme.proofs.Shapes.{heard_shape, inactivity_shape, configure_shape, kicked_shape}
+use Rattle.apd_mlme.proofs.EndedLaws.{contains_drop}
+use Rattle.apd_mlme.proofs.TruthLaws.{put_back_aid}
 
 -- ---- a kick
 -- the removals of several stations are those of the associated ones
@@ -81,13 +82,6 @@ two_behind (x ∷ xs) y z = ap (λ zs. x ∷ zs) (two_behind xs y z)
 
 told_by : (b : Bssid) (removed : List Addr) (outs : List (Recipient × Out)) (y z : Recipient × Out) → outs ≡ list_map (lets_go b) removed → (outs ++ y ∷ []) ++ z ∷ [] ≡ list_map (lets_go b) removed ++ y ∷ z ∷ []
 told_by b removed outs y z same = two_behind outs y z ∙ ap (λ xs. xs ++ y ∷ z ∷ []) same
-
--- a row that is not the one of the station at the BSSID
-other_row : {A : Type 0} (b : Bssid) (a : Addr) (c : Bssid) (d : Addr) (x o : A) → ¬ ((c ≡ b) × IsMeant a d) → cond (is_row b a c d) x o ≡ o
-other_row b a c d x o other = elim (is_row b a c d) as (λ t. is_row b a c d ≡ t → cond t x o ≡ o) [
-  | true ↦ λ e. let parts = and_parts (eq_by_cmp bssid_cmp c b) (eq_by_cmp addr_cmp d a) e in absurd (other (same_bssid b c parts.0, inl (sym (same_addr a d parts.1))))
-  | false ↦ λ e. refl
-] refl
 
 -- a frame that is not a broadcast is meant for one station
 one_meant : {A : Type 0} (to : Addr) → eq_by_cmp addr_cmp to BROADCAST ≡ false → to ≡ BROADCAST → A
@@ -137,7 +131,7 @@ module _ (s : State) (b : Bssid) (to : Addr) (reason : Reason) (tag : ℕ) where
       disassociated = of_meant (λ a. aid_at (drop_station b to s) b a ≡ None) (ap aid_of (dropped_row s b to));
       everyone = λ all. one_meant to one all;
       kept = λ h. differ true h refl;
-      others = λ c a other. station_dropped s b to c a ∙ other_row b to c a None (station_at s c a) other;
+      others = λ c a other. station_dropped s b to c a ∙ other_row b to c a None (station_at s c a) (λ same. other (same.0, inl (sym same.1)));
       lists = refl;
       policies = refl;
     }
@@ -171,8 +165,8 @@ module _ (s : State) (b : Bssid) (to : Addr) (reason : Reason) (tag : ℕ) where
       deauthenticated = λ h. differ false refl h;
       disassociated = of_meant (λ a. aid_at (put_station b to Authenticated s) b a ≡ None) (put_back_aid s b to);
       everyone = λ all. one_meant to one all;
-      kept = λ _ _. station_put s b to Authenticated b to ∙ ap (λ t. cond t (Some Authenticated) (station_at s b to)) (this_row b to) ∙ ap only_authenticated (sym at);
-      others = λ c a other. station_put s b to Authenticated c a ∙ other_row b to c a (Some Authenticated) (station_at s c a) other;
+      kept = λ _ _. put_row s b to Authenticated ∙ ap only_authenticated (sym at);
+      others = λ c a other. station_put s b to Authenticated c a ∙ other_row b to c a (Some Authenticated) (station_at s c a) (λ same. other (same.0, inl (sym same.1)));
       lists = refl;
       policies = refl;
     }
@@ -245,8 +239,7 @@ module _ (s : State) (b : Bssid) (w : Which) where
             ∙ ap (λ t. cond (not t || allowed_in now b d p.mode) (station_at s b d) None) (tied bssid_total bssid_exact b)
             ∙ ap (λ q. cond (allowed_under now b d q) (station_at s b d) None) (sym at);
         told = λ d had gone.
-            let among = and_parts (eq_by_cmp bssid_cmp b b) (is_among d denied) (taken_out (eq_by_cmp bssid_cmp b b && is_among d denied) (station_at s b d) (leave b d ∙ sym (row b d) ∙ gone) had) in
-            Contains-append_left (edited_under s b w edit (Some p)).outs (text tag Done ∷ []) (sent (deauthentication b d UNSPECIFIED)) (contains_drop s b d denied among.1);
+            Contains-append_left (edited_under s b w edit (Some p)).outs (text tag Done ∷ []) (sent (deauthentication b d UNSPECIFIED)) (contains_drop s b d denied (gone_among now b (stays now b p.mode) denied leave d had gone));
         other_lists = other_list edit;
         other_stations = λ c ne d. row c d ∙ ap (λ t. cond (not t || allowed_in now b d p.mode) (station_at s c d) None) (other_way b c (apart bssid_total bssid_exact c b ne));
         policies = refl;
@@ -285,7 +278,7 @@ module _ (s : State) (b : Bssid) (w : Which) where
 module _ (s : State) (confs : List Conf) (sound : Sound s) where
   kick_answered : (b : Bssid) (to : Addr) (reason : Reason) (deauth : Bool) (tag : ℕ) → IsSome (conf_at confs b) → IsAnsweredTo s (Kick b to reason deauth tag) (kick_verdict s b to reason deauth tag)
   kick_answered b to reason deauth tag there = (
-    record { before = (kicked s b to reason deauth).outs; last = refl; alone = radios_only confs (kicked s b to reason deauth).outs (kicked_there s confs b there to reason deauth) },
+    record { before = (kicked s b to reason deauth).outs; last = refl; alone = radios_only confs (kicked s b to reason deauth).outs (shape_radios s confs (Kick b to reason deauth tag) _ (kicked_shape s confs b there (Kick b to reason deauth tag) to reason deauth)) },
     kick_done s b to reason tag deauth,
   )
 
@@ -294,22 +287,22 @@ module _ (s : State) (confs : List Conf) (sound : Sound s) where
       by_edit s b w tag (IsAnsweredTo s (ListEdit b w edit tag)) edit
       (λ none. inl (record { before = []; last = refl; alone = refl }, unneeded_answered s b w edit tag sound none))
       (λ many. inr (record { before = []; last = refl; alone = refl }, full_answered s b w edit tag sound many))
-      (λ _. inl (
-        record { before = (edited s b w edit).outs; last = refl; alone = radios_only confs (edited s b w edit).outs (edited_there s confs b there w edit) },
+      (λ room. inl (
+        record { before = (edited s b w edit).outs; last = refl; alone = radios_only confs (edited s b w edit).outs (shape_radios s confs (ListEdit b w edit tag) _ (shape.edited b w edit (policy_at s b) there refl (λ fit. fit.1) room)) },
         edited_answered s b w edit tag (policy_at s b) refl known,
       ))
 
   under_answered : (h : Happening) (o : Option Conf) → conf_at confs (bssid_of h) ≡ o → IsFit s confs h → IsAnsweredTo s h (verdict_under s confs o h)
   under_answered (Heard b f) None at fit = refl
-  under_answered (Heard b f) (Some conf) at fit = radios_only confs (heard_verdict s confs conf b f).outs (heard_there s confs b fit.0 conf f)
+  under_answered (Heard b f) (Some conf) at fit = radios_only confs (heard_verdict s confs conf b f).outs (shape_radios s confs (Heard b f) _ (heard_shape s confs b fit.0 conf f))
   under_answered (Kick b to reason deauth tag) None at fit = none_is (conf_at confs b) at fit.0
   under_answered (Kick b to reason deauth tag) (Some conf) at fit = kick_answered b to reason deauth tag fit.0
   under_answered (ListEdit b w edit tag) None at fit = none_is (conf_at confs b) at fit.0
   under_answered (ListEdit b w edit tag) (Some conf) at fit = list_edit_answered b w edit tag fit.0 fit.1
   under_answered (Expire b a) None at fit = refl
-  under_answered (Expire b a) (Some conf) at fit = radios_only confs (inactivity_verdict s b a).outs (inactivity_there s confs b fit.0 a (station_at s b a))
+  under_answered (Expire b a) (Some conf) at fit = radios_only confs (inactivity_verdict s b a).outs (shape_radios s confs (Expire b a) _ (inactivity_shape s confs b fit.0 a (station_at s b a) refl))
   under_answered (Configure b accept deny) None at fit = refl
-  under_answered (Configure b accept deny) (Some conf) at fit = radios_only confs (configure_verdict s conf b accept deny).outs (configure_there s confs b fit.0 conf accept deny)
+  under_answered (Configure b accept deny) (Some conf) at fit = radios_only confs (configure_verdict s conf b accept deny).outs (shape_radios s confs (Configure b accept deny) _ (configure_shape s confs b fit.0 conf accept deny))
 
 pub verdict_answered : (s : State) (confs : List Conf) (h : Happening) → IsFit s confs h → Sound s → IsAnsweredTo s h (verdict s confs h)
 verdict_answered s confs h fit sound = under_answered s confs sound h (conf_at confs (bssid_of h)) refl fit

@@ -4,6 +4,7 @@ use Rattle.std.specs.Option.{is_some}
 use Rattle.std.specs.Prelude.{map as list_map, filter}
 use Rattle.std.specs.Ordering.{eq_by_cmp}
 use Rattle.std.specs.Cmp.{eq_by_cmp_equiv}
+use Rattle.std.proofs.lemmas.Bool.{and_parts}
 use Rattle.std.specs.FinMap.{get-insert, get-remove}
 use Rattle.apd_base.specs.declared.address.Addr.{Addr}
 use Rattle.apd_base.specs.declared.address.Bssid.{Bssid}
@@ -11,7 +12,8 @@ use Rattle.apd_base.specs.declared.station.Station.{Station}
 use Rattle.apd_base.specs.declared.station.Aid.{Aid}
 use Rattle.apd_base.specs.Addr.{addr_cmp, bssid_cmp}
 use Rattle.apd_base.specs.State.{State, station_at, aid_of, aid_at}
-use Rattle.apd_base.proofs.AddrLaws.{addr_total, station_total}
+use Rattle.apd_base.proofs.AddrLaws.{addr_total, addr_exact, bssid_total, bssid_exact, station_total, same_addr, same_bssid}
+use Rattle.apd_base.proofs.MapLaws.{tied}
 use Rattle.apd_frame.specs.declared.replies.Reply.{Reply}
 use Rattle.apd_record.specs.Meaning.{put_station, drop_station}
 use Rattle.apd_table.proofs.Denied.{one_key}
@@ -22,11 +24,20 @@ use Rattle.apd_mlme.specs.declared.decision.Out.TheVariants.{Install, Remove}
 use Rattle.apd_mlme.specs.Driver.{driven, driven_by, DriverMap}
 use Rattle.apd_mlme.specs.Leaving.{removal}
 use Rattle.apd_mlme.specs.Outs.{is_same, outs_to, sent}
-use Rattle.apd_mlme.proofs.Cases.{no_value, same_addr, same_bssid}
+use Rattle.apd_base.proofs.Cases.{no_value}
 
 -- whether two rows are one
 abbrev pub is_row : Bssid → Addr → Bssid → Addr → Bool
 is_row b a c d = eq_by_cmp bssid_cmp c b && eq_by_cmp addr_cmp d a
+
+pub this_row : (b : Bssid) (a : Addr) → is_row b a b a ≡ true
+this_row b a = λ i. tied bssid_total bssid_exact b i && tied addr_total addr_exact a i
+
+pub other_row : {A : Type 0} (b : Bssid) (a : Addr) (c : Bssid) (d : Addr) (x o : A) → ¬ ((c ≡ b) × (d ≡ a)) → cond (is_row b a c d) x o ≡ o
+other_row b a c d x o other = elim (is_row b a c d) as (λ t. is_row b a c d ≡ t → cond t x o ≡ o) [
+  | true ↦ λ e. let parts = and_parts (eq_by_cmp bssid_cmp c b) (eq_by_cmp addr_cmp d a) e in absurd (other (same_bssid b c parts.0, same_addr a d parts.1))
+  | false ↦ λ e. refl
+] refl
 
 pub back : (a d : Addr) → eq_by_cmp addr_cmp a d ≡ eq_by_cmp addr_cmp d a
 back a d = sym ((eq_by_cmp_equiv addr_total).symm d a)
@@ -38,6 +49,12 @@ station_put s b a v c d = get-insert station_total s.stations (b, a) v (c, d) �
 
 pub station_dropped : (s : State) (b : Bssid) (a : Addr) (c : Bssid) (d : Addr) → station_at (drop_station b a s) c d ≡ cond (is_row b a c d) None (station_at s c d)
 station_dropped s b a c d = get-remove station_total s.stations (b, a) (c, d) ∙ ap (λ t. cond t None (station_at s c d)) (one_key (bssid_cmp c b) (addr_cmp d a))
+
+pub put_row : (s : State) (b : Bssid) (a : Addr) (v : Station) → station_at (put_station b a v s) b a ≡ Some v
+put_row s b a v = station_put s b a v b a ∙ ap (λ t. cond t (Some v) (station_at s b a)) (this_row b a)
+
+pub dropped_row : (s : State) (b : Bssid) (a : Addr) → station_at (drop_station b a s) b a ≡ None
+dropped_row s b a = station_dropped s b a b a ∙ ap (λ t. cond t None (station_at s b a)) (this_row b a)
 
 pub aid_cond : (t : Bool) (o p : Option Station) → aid_of (cond t o p) ≡ cond t (aid_of o) (aid_of p)
 aid_cond true o p = refl

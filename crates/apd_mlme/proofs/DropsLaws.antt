@@ -1,26 +1,27 @@
 -- What it leaves that several stations of a BSSID are dropped, one after the other.
-use Rattle.std.proofs.Common.{◌≡◌, Bool, true, false, cond, not, ◌&&◌, ◌||◌, List, [], ◌∷◌, ◌++◌, Option, Some, None, inl, inr, refl, sym, ap, subst, ◌∙◌}
+use Rattle.std.proofs.Common.{◌≡◌, Bool, true, false, cond, not, ◌&&◌, ◌||◌, List, [], ◌∷◌, ◌++◌, Option, Some, None, inl, inr, refl, sym, ap, subst, ◌∙◌, IsSome}
 use Rattle.std.specs.Prelude.{map as list_map}
 use Rattle.std.specs.List.{flat_map}
 use Rattle.std.specs.Option.{is_some}
 use Rattle.std.specs.Ordering.{eq_by_cmp}
 use Rattle.std.specs.Cmp.{eq_by_cmp_equiv}
+use Rattle.std.proofs.lemmas.Bool.{and_parts}
 use Rattle.std.specs.FinMap as map
 use Rattle.std.specs.FinMap.{FinMap, get-retain_keys, same_map}
 use Rattle.apd_base.specs.declared.address.Addr.{Addr}
 use Rattle.apd_base.specs.declared.address.Bssid.{Bssid}
 use Rattle.apd_base.specs.declared.station.AclMode.{AclMode}
 use Rattle.apd_base.specs.declared.station.Station.{Station}
-use Rattle.apd_base.specs.Addr.{addr_cmp, bssid_cmp, station_cmp}
+use Rattle.apd_base.specs.Addr.{addr_cmp, bssid_cmp, station_cmp, is_among}
 use Rattle.apd_base.specs.State.{State, station_at, aid_of, aid_at}
-use Rattle.apd_base.proofs.AddrLaws.{addr_total, addr_exact, bssid_total, bssid_exact, station_total, station_exact}
+use Rattle.apd_base.proofs.AddrLaws.{addr_total, addr_exact, bssid_total, bssid_exact, station_total, station_exact, other_way}
 use Rattle.apd_base.proofs.MapLaws.{one_or_apart, tied}
 use Rattle.apd_frame.specs.declared.codes.Reason.{Reason}
 use Rattle.apd_record.specs.Meaning.{meaning_of}
 use Rattle.apd_table.specs.Addresses.{addresses_at}
 use Rattle.apd_table.specs.Allowed.{allowed_in, denied_by}
 use Rattle.apd_table.proofs.AllRows.{among_addresses}
-use Rattle.apd_table.proofs.Denied.{is_among, drops, among_denied, denied_among, drops_station}
+use Rattle.apd_table.proofs.Denied.{drops, among_denied, denied_among, drops_station}
 use Rattle.apd_mlme.specs.declared.decision.Recipient.{Recipient}
 use Rattle.apd_mlme.specs.declared.decision.Recipient.TheVariants.{Radio}
 use Rattle.apd_mlme.specs.declared.decision.Out.{Out}
@@ -30,7 +31,7 @@ use Rattle.apd_mlme.specs.Driver.{driven, DriverMap}
 use Rattle.apd_mlme.specs.Leaving.{deauthentication, outs_of_drop, removal}
 use Rattle.apd_mlme.specs.Outs.{outs_to, sent}
 use Rattle.apd_mlme.proofs.OutsLaws.{outs_to-append, driven-append}
-use Rattle.apd_mlme.proofs.Cases.{differ, other_way}
+use Rattle.apd_base.proofs.Cases.{differ, none_is}
 
 nothing_taken : {A : Type 0} (t w : Bool) (o : Option A) → o ≡ cond (t && (w && false)) None o
 nothing_taken true true o = refl
@@ -49,6 +50,10 @@ known_or_none true true None = refl
 known_or_none true false None = refl
 known_or_none true u (Some x) = refl
 known_or_none false u o = refl
+
+pub taken_out : {A : Type 0} (t : Bool) (o : Option A) → cond t None o ≡ None → IsSome o → t ≡ true
+taken_out true o e h = refl
+taken_out false o e h = none_is o e h
 
 never : (t u : Bool) → (t && false) ≡ (u && false)
 never true true = refl
@@ -124,6 +129,11 @@ module _ (s : State) (b : Bssid) where
     pub dropped_gone : (d : Addr) → is_among d as' ≡ true → map.get kept (b, d) ≡ None
     dropped_gone d among =
         kept_row b d ∙ sym (leave b d) ∙ (λ i. cond (tied bssid_total bssid_exact b i && among i) None (station_at s b d))
+
+    -- and who has no row any more was dropped
+    pub gone_among : (d : Addr) → IsSome (station_at s b d) → map.get kept (b, d) ≡ None → is_among d as' ≡ true
+    gone_among d known gone =
+        (and_parts (eq_by_cmp bssid_cmp b b) (is_among d as') (taken_out (eq_by_cmp bssid_cmp b b && is_among d as') (station_at s b d) (leave b d ∙ sym (kept_row b d) ∙ gone) known)).1
 
     -- and its driver has not got it
     pub kept_driver : (outs_of : Addr → List (Recipient × Out)) → LetsGo outs_of → (c : Bssid) (d : Addr) →

@@ -13,7 +13,7 @@ use Rattle.apd_base.specs.declared.station.Station.{Station}
 use Rattle.apd_base.specs.declared.station.Station.TheVariants.{Authenticated}
 use Rattle.apd_base.specs.Addr.{addr_cmp, bssid_cmp}
 use Rattle.apd_base.specs.State.{State, station_at, policy_at, aid_at}
-use Rattle.apd_base.proofs.AddrLaws.{bssid_total, bssid_exact}
+use Rattle.apd_base.proofs.AddrLaws.{bssid_total, bssid_exact, same_bssid}
 use Rattle.apd_base.proofs.MapLaws.{tied}
 use Rattle.apd_conf.specs.declared.conf.Conf.{Conf}
 use Rattle.apd_conf.specs.Confs.{conf_at}
@@ -32,7 +32,7 @@ use Rattle.apd_mlme.specs.Outs.{outs_to, sent}
 use Rattle.apd_mlme.proofs.DriverLaws.{is_row, station_put, driven_sent, driven_removed, one_removed}
 use Rattle.apd_mlme.proofs.OutsLaws.{outs_to-append, driven-append}
 use Rattle.apd_mlme.proofs.RowLaws.{sound_put_back}
-use Rattle.apd_mlme.proofs.Cases.{same_bssid, second_true}
+use Rattle.apd_base.proofs.Cases.{second_true}
 
 -- whether a BSSID is among some
 abbrev pub is_among : Bssid → List Bssid → Bool
@@ -94,12 +94,6 @@ pub put_backs_stay : (a : Addr) (bssids : List Bssid) (rest : List Change) (s : 
 put_backs_stay a [] rest s rows sound h = h
 put_backs_stay a (x ∷ bssids) rest s rows sound h =
     (sound, put_backs_stay a bssids rest (put_station x a Authenticated s) (rows_after s a x bssids rows) (sound_put_back s x a (rows x (first_among x bssids)) sound) h)
-
-pub put_backs_lists : (a : Addr) (bssids : List Bssid) (s : State) → (meaning_of (put_backs a bssids) s).lists ≡ s.lists
-put_backs_lists a bssids s = ap (λ (t : State). t.lists) (put_backs_meaning a bssids s)
-
-pub put_backs_policies : (a : Addr) (bssids : List Bssid) (s : State) → (meaning_of (put_backs a bssids) s).policies ≡ s.policies
-put_backs_policies a bssids s = ap (λ (t : State). t.policies) (put_backs_meaning a bssids s)
 
 -- ---- the outs
 

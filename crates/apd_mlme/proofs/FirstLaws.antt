@@ -28,7 +28,7 @@ use Rattle.apd_table.proofs.ListChanges.{sound_add}
 use Rattle.apd_table.proofs.PolicySet.{sound_set, policy_here, policy_elsewhere}
 use Rattle.apd_mlme.specs.Started.{IsStarted}
 use Rattle.apd_mlme.specs.Configuration.{with_listed, additions, first_start}
-use Rattle.apd_mlme.proofs.Cases.{differ, either, none_is}
+use Rattle.apd_base.proofs.Cases.{differ, either, none_is}
 
 -- what would be there, and can't, is not
 none_of : {A : Type 0} (o : Option A) → (IsSome o → o ≡ None) → o ≡ None

@@ -21,7 +21,8 @@ use Rattle.apd_table.specs.LeastFree.{IsTaken, IsLeastFree}
 use Rattle.apd_table.specs.Sound.{Sound}
 use Rattle.apd_table.proofs.Takens.{taken_of, free_of}
 use Rattle.apd_mlme.specs.Identifiers.{identifiers_to, identifiers, is_taken, least_free, identifier_for, one_less, at_least_one, at_most_all}
-use Rattle.apd_mlme.proofs.Cases.{none_is, not_false, not_yes, same_some, station_of_aid}
+use Rattle.apd_base.proofs.Cases.{none_is, not_false, not_yes, same_some}
+use Rattle.apd_base.proofs.StateLaws.{station_of_aid}
 
 -- what is found first among numbers that rise
 find-append_none : {A : Type 0} (p : A → Bool) (xs ys : List A) → find p xs ≡ None → find p (xs ++ ys) ≡ find p ys

@@ -4,9 +4,9 @@ use Rattle.std.specs.Ordering.{eq_by_cmp}
 use Rattle.std.specs.FinMap as map
 use Rattle.apd_base.specs.declared.address.Addr.{Addr}
 use Rattle.apd_base.specs.declared.address.Bssid.{Bssid}
-use Rattle.apd_base.specs.Addr.{bssid_cmp}
+use Rattle.apd_base.specs.Addr.{bssid_cmp, is_among}
 use Rattle.apd_base.specs.State.{State, station_at, policy_at, aid_at}
-use Rattle.apd_base.proofs.AddrLaws.{bssid_total, bssid_exact}
+use Rattle.apd_base.proofs.AddrLaws.{bssid_total, bssid_exact, other_way}
 use Rattle.apd_base.proofs.MapLaws.{apart, tied}
 use Rattle.apd_conf.specs.declared.conf.Conf.{Conf}
 use Rattle.apd_conf.specs.Conf.{policy_of}
@@ -16,7 +16,7 @@ use Rattle.apd_record.specs.declared.change.Change.TheVariants.{Policy}
 use Rattle.apd_table.specs.Allowed.{allowed, allowed_in, allowed_under, denied_by}
 use Rattle.apd_table.specs.Sound.{Sound, StaySound}
 use Rattle.apd_table.proofs.PolicySet.{policy_here, policy_elsewhere}
-use Rattle.apd_table.proofs.Denied.{is_among, drops, meaning_of-append, drops_lists, drops_policies, drops_sound, drops_stay, sound_set_dropped}
+use Rattle.apd_table.proofs.Denied.{drops, meaning_of-append, drops_lists, drops_policies, drops_sound, drops_stay, sound_set_dropped}
 use Rattle.apd_mlme.specs.declared.decision.Recipient.TheVariants.{Radio}
 use Rattle.apd_mlme.specs.Configuration.{later_start, stays}
 use Rattle.apd_mlme.specs.Driver.{driven}
@@ -24,7 +24,7 @@ use Rattle.apd_mlme.specs.Leaving.{outs_of_drop}
 use Rattle.apd_mlme.specs.Outs.{outs_to}
 use Rattle.apd_mlme.specs.Started.{IsStarted}
 use Rattle.apd_mlme.proofs.DropsLaws.{drop_lets_go, kept_row, kept_stations, kept_aid, kept_driver, dropped_gone, denied_leave}
-use Rattle.apd_mlme.proofs.Cases.{none_is, other_way}
+use Rattle.apd_base.proofs.Cases.{none_is}
 
 module _ (s : State) (conf : Conf) (b : Bssid) where
   abbrev denied : List Addr

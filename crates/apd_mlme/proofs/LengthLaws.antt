@@ -1,5 +1,5 @@
 -- How many bytes the records of a verdict have.
-use Rattle.std.proofs.Common.{◌≡◌, ℕ, suc, arith, ◌+◌, ◌*◌, ◌≤◌, Bool, true, false, cond, ◌&&◌, not, List, [], ◌∷◌, ◌++◌, Option, Some, None, Result, Ok, Err, IfOk, length, refl, sym, ap, subst, ◌∙◌, append-nil}
+use Rattle.std.proofs.Common.{◌≡◌, suc, arith, ◌+◌, ◌*◌, ◌≤◌, Bool, true, false, cond, ◌&&◌, not, List, [], ◌∷◌, ◌++◌, Option, Some, None, Result, Ok, Err, IfOk, length, refl, sym, ap, subst, ◌∙◌, append-nil}
 use Rattle.std.specs.Option.{is_some}
 use Rattle.std.specs.Prelude.{filter}
 use Rattle.std.specs.Ordering.{eq_by_cmp}
@@ -18,16 +18,14 @@ use Rattle.apd_base.specs.declared.station.Station.{Station}
 use Rattle.apd_base.specs.declared.station.Station.TheVariants.{Authenticated, Associated}
 use Rattle.apd_base.specs.Addr.{bssid_cmp}
 use Rattle.apd_base.specs.Mode.{mode_number}
-use Rattle.apd_base.specs.State.{State, station_at, policy_at, aid_at, which_number, count}
+use Rattle.apd_base.specs.State.{State, aid_at, which_number, count}
 use Rattle.apd_base.proofs.AddrLaws.{station_total, station_exact}
 use Rattle.apd_base.proofs.RowsMaps.{entries-retain_keys}
 use Rattle.apd_conf.specs.declared.conf.Conf.{Conf}
 use Rattle.apd_conf.specs.Conf.{policy_of}
-use Rattle.apd_conf.specs.Confs.{conf_at}
 use Rattle.apd_conf.specs.ListFile.{IsList}
 use Rattle.apd_frame.specs.declared.codes.Reason.{Reason}
-use Rattle.apd_frame.specs.declared.received.Authentication.{Authentication}
-use Rattle.apd_frame.specs.Contents.{Contents, AssociationRequest, authentication, association_request, reassociation_request, probe_request, disassociation, deauthentication, uplink}
+use Rattle.apd_frame.specs.Contents.{AssociationRequest}
 use Rattle.apd_record.specs.Ranges.{IsChange, AreChanges}
 use Rattle.apd_record.specs.Record.{station_bytes, record_of, records_of}
 use Rattle.apd_record.specs.declared.change.Change.{Change}
@@ -41,20 +39,17 @@ use Rattle.apd_mlme.specs.declared.decision.Decision.{Decision}
 use Rattle.apd_mlme.specs.declared.decision.TheConstants.{MAX_RECORDS}
 use Rattle.apd_mlme.specs.declared.event.Edit.{Edit}
 use Rattle.apd_mlme.specs.declared.event.Edit.TheVariants.{Add, Remove, Clear}
-use Rattle.apd_mlme.specs.Happening.{Happening, Heard, Kick, ListEdit, Expire, Configure, bssid_of}
+use Rattle.apd_mlme.specs.Happening.{Happening}
 use Rattle.apd_mlme.specs.declared.association.Kind.{Kind}
-use Rattle.apd_mlme.specs.declared.association.Kind.TheVariants.{Association, Reassociation}
-use Rattle.apd_mlme.specs.Association.{without_current_ap, association_status, association_response, elsewhere, put_backs, row_of, associated, accepted, association_of}
-use Rattle.apd_mlme.specs.Commands.{deauthenticated_of, disassociated_of, all_kicked, kick_verdict, change_of, list_edit_verdict}
-use Rattle.apd_mlme.specs.Departure.{disassociation_of, deauthentication_of, data_of}
-use Rattle.apd_mlme.specs.Identifiers.{identifier_for}
-use Rattle.apd_mlme.specs.Inactivity.{inactivity_of}
-use Rattle.apd_mlme.specs.Refusals.{is_success}
-use Rattle.apd_mlme.specs.Verdict.{Verdict, only_sent}
-use Rattle.apd_mlme.specs.Authentication.{auth_verdict, is_admitted}
-use Rattle.apd_mlme.specs.Configuration.{configure_verdict, later_start, first_start, first_changes, additions}
-use Rattle.apd_mlme.specs.Rules.{verdict, verdict_under, heard_verdict, IsFit}
-use Rattle.apd_mlme.proofs.CommandLaws.{by_kick, by_edit, new, edited_under}
+use Rattle.apd_mlme.specs.Association.{elsewhere, put_backs, row_of}
+use Rattle.apd_mlme.specs.Association as rule
+use Rattle.apd_mlme.specs.Commands.{all_kicked, change_of}
+use Rattle.apd_mlme.specs.Verdict.{Verdict}
+use Rattle.apd_mlme.specs.Configuration.{later_start, first_changes, additions}
+use Rattle.apd_mlme.specs.Rules.{verdict, IsFit}
+use Rattle.apd_mlme.proofs.CommandLaws.{new, edited_under}
+use Rattle.apd_mlme.proofs.Shapes as shape
+use Rattle.apd_mlme.proofs.Shapes.{Shape, by_shape}
 
 -- what passes two tests is no more than what passes one
 fewer : {X : Type 0} (p q : X → Bool) (xs : List X) → length (filter (λ x. p x && q x) xs) ≤ length (filter p xs)
@@ -205,13 +200,6 @@ abbrev pub IsShort : Verdict → Type 0
 IsShort v = AreChanges v.changes → length (records_of v.changes) ≤ MAX_RECORDS
 
 module _ (s : State) where
-  auth_length : (conf : Conf) (b : Bssid) (request : Authentication) → IsShort (auth_verdict s conf b request)
-  auth_length conf b request =
-      elim (is_admitted s conf b request) as (λ t. AreChanges (cond t (Put b request.sender Authenticated ∷ []) []) → length (records_of (cond t (Put b request.sender Authenticated ∷ []) [])) ≤ MAX_RECORDS) [
-        | true ↦ one_put b request.sender Authenticated
-        | false ↦ λ known. none_long
-      ]
-
   later_length : (conf : Conf) (b : Bssid) → Sound s → AreChanges (later_start s conf b).changes → length (records_of (later_start s conf b).changes) ≤ MAX_RECORDS
   later_length conf b sound known =
       let denied = denied_by s b conf.macaddr_acl in
@@ -235,16 +223,8 @@ module _ (s : State) where
       let few_denied = deny_list.few in
       omega arith
 
-  configure_length : (conf : Conf) (b : Bssid) (accept deny : List Addr) → IsList accept → IsList deny → Sound s
-      → AreChanges (configure_verdict s conf b accept deny).changes → length (records_of (configure_verdict s conf b accept deny).changes) ≤ MAX_RECORDS
-  configure_length conf b accept deny accept_list deny_list sound =
-      elim (is_some (policy_at s b)) as (λ t. let changes = (cond t (later_start s conf b) (first_start s conf b accept deny)).changes in AreChanges changes → length (records_of changes) ≤ MAX_RECORDS) [
-        | true ↦ later_length conf b sound
-        | false ↦ first_length conf b accept deny accept_list deny_list
-      ]
-
   -- at most one row at each of the eight BSSIDs
-  associated_length : (confs : List Conf) (conf : Conf) (b : Bssid) (kind : Kind) (request : AssociationRequest) (aid : Aid) → Sound s → IsShort (associated s confs conf b kind request aid)
+  associated_length : (confs : List Conf) (conf : Conf) (b : Bssid) (kind : Kind) (request : AssociationRequest) (aid : Aid) → Sound s → IsShort (rule.associated s confs conf b kind request aid)
   associated_length confs conf b kind request aid sound known =
       let a = request.sender in
       let here = Put b a (row_of request aid) in
@@ -259,37 +239,6 @@ module _ (s : State) where
       let few = sound.few_bss in
       omega arith
 
-  accepted_length : (confs : List Conf) (conf : Conf) (b : Bssid) (kind : Kind) (request : AssociationRequest) (o : Option Aid) → Sound s → IsShort (accepted s confs conf b kind request o)
-  accepted_length confs conf b kind request None sound known = none_long
-  accepted_length confs conf b kind request (Some aid) sound known = associated_length confs conf b kind request aid sound known
-
-  association_length : (confs : List Conf) (conf : Conf) (b : Bssid) (kind : Kind) (request : AssociationRequest) (o : Option Station) → Sound s → IsShort (association_of s confs conf b kind request o)
-  association_length confs conf b kind request None sound = λ known. none_long
-  association_length confs conf b kind request (Some row) sound =
-      elim (is_success (association_status conf request)) as (λ t. IsShort (cond t (accepted s confs conf b kind request (identifier_for s b (Some row))) (only_sent s (association_response conf b kind request.sender (association_status conf request) None)))) [
-        | true ↦ accepted_length confs conf b kind request (identifier_for s b (Some row)) sound
-        | false ↦ λ known. none_long
-      ]
-
-  disassociation_length : (b : Bssid) (a : Addr) (o : Option Station) → IsShort (disassociation_of s b a o)
-  disassociation_length b a None known = none_long
-  disassociation_length b a (Some Authenticated) known = none_long
-  disassociation_length b a (Some (Associated x)) known = one_put b a Authenticated known
-
-  deauthentication_length : (b : Bssid) (a : Addr) (o : Option Station) → IsShort (deauthentication_of s b a o)
-  deauthentication_length b a None known = none_long
-  deauthentication_length b a (Some row) known = one_drop b a known
-
-  data_length : (b : Bssid) (a : Addr) (o : Option Station) → IsShort (data_of s b a o)
-  data_length b a None known = none_long
-  data_length b a (Some Authenticated) known = none_long
-  data_length b a (Some (Associated x)) known = none_long
-
-  inactivity_length : (b : Bssid) (a : Addr) (o : Option Station) → IsShort (inactivity_of s b a o)
-  inactivity_length b a None known = none_long
-  inactivity_length b a (Some Authenticated) known = one_drop b a known
-  inactivity_length b a (Some (Associated x)) known = one_put b a Authenticated known
-
   all_length : (b : Bssid) (reason : Reason) (t : Bool) → Sound s → IsShort (all_kicked s b reason t)
   all_length b reason t sound known =
       let all = addresses_at s b in
@@ -300,20 +249,6 @@ module _ (s : State) where
       let few = all_few s b in
       let rows = sound.few_stations b in
       omega arith
-
-  deauthenticated_length : (b : Bssid) (a : Addr) (reason : Reason) (o : Option Station) → IsShort (deauthenticated_of s b a reason o)
-  deauthenticated_length b a reason None known = none_long
-  deauthenticated_length b a reason (Some row) known = one_drop b a known
-
-  disassociated_length : (b : Bssid) (a : Addr) (reason : Reason) (o : Option Station) → IsShort (disassociated_of s b a reason o)
-  disassociated_length b a reason None known = none_long
-  disassociated_length b a reason (Some Authenticated) known = none_long
-  disassociated_length b a reason (Some (Associated x)) known = one_put b a Authenticated known
-
-  kick_length : (b : Bssid) (to : Addr) (reason : Reason) (deauth : Bool) (tag : ℕ) → Sound s → IsShort (kick_verdict s b to reason deauth tag)
-  kick_length b to reason deauth tag sound =
-      by_kick s b to reason (λ t v. IsShort v) (λ t e. all_length b reason t sound)
-      (λ e. deauthenticated_length b to reason (station_at s b to)) (λ e. disassociated_length b to reason (station_at s b to)) deauth
 
   edited_length : (b : Bssid) (w : Which) (edit : Edit) (o : Option BssPolicy) → Sound s → IsShort (edited_under s b w edit o)
   edited_length b w edit None sound known =
@@ -329,27 +264,20 @@ module _ (s : State) where
       let whole = length-append (record_of (change_of b w edit)) [] in
       omega arith
 
-  list_edit_length : (b : Bssid) (w : Which) (edit : Edit) (tag : ℕ) → Sound s → IsShort (list_edit_verdict s b w edit tag)
-  list_edit_length b w edit tag sound =
-      by_edit s b w tag IsShort edit (λ _. λ known. none_long) (λ _. λ known. none_long) (λ _. edited_length b w edit (policy_at s b) sound)
-
-  heard_length : (confs : List Conf) (conf : Conf) (b : Bssid) (f : Contents) → Sound s → IsShort (heard_verdict s confs conf b f)
-  heard_length confs conf b (authentication request) sound = auth_length conf b request
-  heard_length confs conf b (association_request request) sound = association_length confs conf b Association request (station_at s b request.sender) sound
-  heard_length confs conf b (reassociation_request request) sound = association_length confs conf b Reassociation (without_current_ap request) (station_at s b request.sender) sound
-  heard_length confs conf b (probe_request request) sound = λ known. none_long
-  heard_length confs conf b (disassociation a reason) sound = disassociation_length b a (station_at s b a)
-  heard_length confs conf b (deauthentication a reason) sound = deauthentication_length b a (station_at s b a)
-  heard_length confs conf b (uplink a) sound = data_length b a (station_at s b a)
-
-  under_length : (confs : List Conf) (o : Option Conf) (h : Happening) → IsFit s confs h → Sound s → IsShort (verdict_under s confs o h)
-  under_length confs None h fit sound = λ known. none_long
-  under_length confs (Some conf) (Heard b f) fit sound = heard_length confs conf b f sound
-  under_length confs (Some conf) (Kick b to reason deauth tag) fit sound = kick_length b to reason deauth tag sound
-  under_length confs (Some conf) (ListEdit b w edit tag) fit sound = list_edit_length b w edit tag sound
-  under_length confs (Some conf) (Expire b a) fit sound = inactivity_length b a (station_at s b a)
-  under_length confs (Some conf) (Configure b accept deny) fit sound = configure_length conf b accept deny fit.2 fit.3 sound
+  shape_length : (confs : List Conf) (h : Happening) → IsFit s confs h → Sound s → (v : Verdict) → Shape s confs h v → IsShort v
+  shape_length confs h fit sound _ shape.silent known = none_long
+  shape_length confs h fit sound _ (shape.told reply there so one) known = none_long
+  shape_length confs h fit sound _ (shape.admitted conf b request there is e) known = one_put b request.sender Authenticated known
+  shape_length confs h fit sound _ (shape.left b a there own row) known = one_put b a Authenticated known
+  shape_length confs h fit sound _ (shape.gone b a there own) known = one_drop b a known
+  shape_length confs h fit sound _ (shape.ended b a reason there row) known = one_put b a Authenticated known
+  shape_length confs h fit sound _ (shape.dropped b a reason there row) known = one_drop b a known
+  shape_length confs h fit sound _ (shape.associated conf b kind request aid there row own) known = associated_length confs conf b kind request aid sound known
+  shape_length confs h fit sound _ (shape.emptied b reason deauth there) known = all_length b reason deauth sound known
+  shape_length confs h fit sound _ (shape.edited b w edit o there at fits room) known = edited_length b w edit o sound known
+  shape_length confs h fit sound _ (shape.restarted conf b there policy) known = later_length conf b sound known
+  shape_length confs h fit sound _ (shape.started conf b accept deny is new) known = let fits = subst (IsFit s confs) is fit in first_length conf b accept deny fits.2 fits.3 known
 
 pub decided_length : {E : Type 0} (s : State) (confs : List Conf) (h : Happening) (r : Result Decision E) → IsFit s confs h → Sound s → IfOk r (λ d. d.changes ≡ (verdict s confs h).changes) → IfOk r (λ d. AreChanges d.changes) → IfOk r (λ d. length (records_of d.changes) ≤ MAX_RECORDS)
-decided_length s confs h (Ok d) fit sound same known = rw same (under_length s confs (conf_at confs (bssid_of h)) h fit sound (subst AreChanges same known))
+decided_length s confs h (Ok d) fit sound same known = rw same (by_shape s confs IsShort (λ tag answer v short. short) h (shape_length s confs h fit sound) (subst AreChanges same known))
 decided_length s confs h (Err lack) fit sound same known = tt

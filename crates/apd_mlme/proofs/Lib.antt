@@ -2,9 +2,9 @@ pub mod AdmittedLaws
 mod AnsweredLaws
 mod AssociationLaws
 pub mod AuthenticationLaws
-mod Cases
 mod CommandLaws
 mod CommandedLaws
+mod DepartedLaws
 mod DriverLaws
 mod DropsLaws
 mod ElsewhereLaws
@@ -15,9 +15,11 @@ mod LaterLaws
 mod LengthLaws
 pub mod OutsLaws
 mod ProbeLaws
-mod RadioLaws
+pub mod RadioLaws
 mod RefusalLaws
+mod ResponseLaws
 mod RowLaws
+mod Shapes
 mod StartLaws
 pub mod TruthLaws
 pub mod VerdictLaws

@@ -16,7 +16,7 @@ use Rattle.apd_frame.proofs.ElementLaws.{all_bytes, is_well_formed, well_formed_
 use Rattle.apd_mlme.specs.Outs.{sent}
 use Rattle.apd_mlme.specs.ProbeRequest.{is_open, is_asked, is_answered, probe_response, probe_verdict}
 use Rattle.apd_mlme.specs.Probed.{AsksFor, IsProbeFor, IsProbed}
-use Rattle.apd_mlme.proofs.Cases.{both_true, second_true}
+use Rattle.apd_base.proofs.Cases.{both_true, second_true}
 
 opens : (hides : IgnoreBroadcastSsid) → is_open hides ≡ true → hides ≡ No
 opens No e = refl

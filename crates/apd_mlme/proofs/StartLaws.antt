@@ -1,51 +1,23 @@
 -- What a start leaves, whether it is the first of its BSSID or a later one.
-use Rattle.std.proofs.Common.{◌≡◌, ℕ, ◌<◌, Bool, true, false, cond, List, Option, Some, None, ◌⊎◌, inl, inr, refl, IsSome}
+use Rattle.std.proofs.Common.{◌≡◌, Bool, true, false, cond, List, Option, Some, None, refl}
 use Rattle.std.specs.Option.{is_some}
-use Rattle.std.specs.FinMap as map
 use Rattle.apd_base.specs.declared.address.Addr.{Addr}
 use Rattle.apd_base.specs.declared.address.Bssid.{Bssid}
-use Rattle.apd_base.specs.State.{State, policy_at, aid_at}
+use Rattle.apd_base.specs.State.{State, policy_at}
 use Rattle.apd_conf.specs.declared.conf.Conf.{Conf}
 use Rattle.apd_conf.specs.Confs.{conf_at}
-use Rattle.apd_conf.specs.ListFile.{IsList}
-use Rattle.apd_record.specs.Meaning.{meaning_of}
-use Rattle.apd_table.specs.Sound.{Sound, StaySound}
-use Rattle.apd_mlme.specs.declared.decision.Recipient.TheVariants.{Radio}
+use Rattle.apd_table.specs.Sound.{Sound}
 use Rattle.apd_mlme.specs.Happening.{Happening, Heard, Kick, ListEdit, Expire, Configure, bssid_of}
 use Rattle.apd_mlme.specs.Configuration.{configure_verdict, first_start, later_start}
-use Rattle.apd_mlme.specs.Driver.{driven}
-use Rattle.apd_mlme.specs.Outs.{outs_to}
 use Rattle.apd_mlme.specs.Rules.{verdict, verdict_under}
 use Rattle.apd_mlme.specs.Started.{IsStarted, IsStartedBy}
 use Rattle.apd_mlme.specs.Verdict.{Verdict}
-use Rattle.apd_mlme.proofs.LaterLaws.{later_meaning, later_sound, later_driver, later_started}
-use Rattle.apd_mlme.proofs.FirstLaws.{first_meaning, first_sound, first_started}
-
-room_for_one : (t : Bool) (n : ℕ) → t ≡ false → (t ≡ true) ⊎ (n < 8) → n < 8
-room_for_one t n e (inl h) = cc
-room_for_one t n e (inr h) = h
+use Rattle.apd_mlme.proofs.LaterLaws.{later_started}
+use Rattle.apd_mlme.proofs.FirstLaws.{first_started}
 
 module _ (s : State) (conf : Conf) (b : Bssid) (accept deny : List Addr) where
   abbrev started : Bool → Verdict
   started t = cond t (later_start s conf b) (first_start s conf b accept deny)
-
-  pub configure_meaning : meaning_of (configure_verdict s conf b accept deny).changes s ≡ (configure_verdict s conf b accept deny).state
-  configure_meaning = elim (is_some (policy_at s b)) as (λ t. meaning_of (started t).changes s ≡ (started t).state) [
-    | true ↦ later_meaning s conf b
-    | false ↦ first_meaning s conf b accept deny
-  ]
-
-  pub configure_sound : IsSome (policy_at s b) ⊎ (map.len s.policies < 8) → IsList accept → IsList deny → Sound s → StaySound (configure_verdict s conf b accept deny).changes s
-  configure_sound fit accept_list deny_list sound = elim (is_some (policy_at s b)) as (λ t. is_some (policy_at s b) ≡ t → StaySound (started t).changes s) [
-    | true ↦ λ e. later_sound s conf b fit sound
-    | false ↦ λ e. first_sound b s e sound conf accept deny (room_for_one (is_some (policy_at s b)) (map.len s.policies) e fit) accept_list deny_list
-  ] refl
-
-  pub configure_driver : (c : Bssid) (d : Addr) → driven (outs_to (Radio c) (configure_verdict s conf b accept deny).outs) (aid_at s c) d ≡ aid_at (configure_verdict s conf b accept deny).state c d
-  configure_driver c d = elim (is_some (policy_at s b)) as (λ t. driven (outs_to (Radio c) (started t).outs) (aid_at s c) d ≡ aid_at (started t).state c d) [
-    | true ↦ later_driver s conf b c d
-    | false ↦ refl
-  ]
 
   pub configure_started : Sound s → IsStarted s conf b accept deny (configure_verdict s conf b accept deny).state
   configure_started sound = elim (is_some (policy_at s b)) as (λ t. is_some (policy_at s b) ≡ t → IsStarted s conf b accept deny (started t).state) [

@@ -18,7 +18,7 @@ use Rattle.apd_mlme.specs.declared.decision.Out.{Out}
 use Rattle.apd_mlme.specs.declared.decision.Out.TheVariants as out
 use Rattle.apd_mlme.specs.declared.event.Edit.{Edit}
 use Rattle.apd_mlme.specs.declared.event.Edit.TheVariants.{Add, Remove, Clear}
-use Rattle.apd_mlme.specs.declared.event.TheConstants.{BROADCAST}
+use Rattle.apd_base.specs.declared.address.TheConstants.{BROADCAST}
 use Rattle.apd_mlme.specs.Answered.{only_authenticated}
 use Rattle.apd_mlme.specs.Commands.{text, farewell}
 use Rattle.apd_mlme.specs.Ended.{IsMeant}

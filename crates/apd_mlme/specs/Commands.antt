@@ -29,7 +29,7 @@ use Rattle.apd_mlme.specs.declared.decision.Out.{Out}
 use Rattle.apd_mlme.specs.declared.decision.Out.TheVariants.{Text}
 use Rattle.apd_mlme.specs.declared.event.Edit.{Edit}
 use Rattle.apd_mlme.specs.declared.event.Edit.TheVariants.{Add, Remove, Clear}
-use Rattle.apd_mlme.specs.declared.event.TheConstants.{BROADCAST}
+use Rattle.apd_base.specs.declared.address.TheConstants.{BROADCAST}
 use Rattle.apd_mlme.specs.Configuration.{stays}
 use Rattle.apd_mlme.specs.Leaving.{disassociation, deauthentication, removal, outs_of_end, outs_of_drop, put_back, dropped}
 use Rattle.apd_mlme.specs.Outs.{sent}

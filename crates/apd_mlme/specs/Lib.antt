@@ -2,9 +2,11 @@ pub mod Admitted
 pub mod Answered
 pub mod Association
 pub mod Authentication
+pub mod ClassErrors
 pub mod Commanded
 pub mod Commands
 pub mod Configuration
+pub mod Departed
 pub mod Departure
 pub mod Driver
 pub mod Ended
@@ -12,11 +14,14 @@ pub mod Happening
 pub mod Identifiers
 pub mod Inactivity
 pub mod Leaving
+pub mod ManagementFrame
 pub mod Offer
+pub mod Order
 pub mod Outs
 pub mod ProbeRequest
 pub mod Probed
 pub mod Refusals
+pub mod Responses
 pub mod Rules
 pub mod Run
 pub mod Started

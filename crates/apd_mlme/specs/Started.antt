@@ -11,6 +11,8 @@ use Rattle.apd_conf.specs.declared.conf.Conf.{Conf}
 use Rattle.apd_conf.specs.Conf.{policy_of}
 use Rattle.apd_table.specs.Allowed.{allowed}
 use Rattle.apd_mlme.specs.Happening.{Happening, Heard, Kick, ListEdit, Expire, Configure}
+use Rattle.apd_mlme.specs.ManagementFrame.{deauthentication_frame}
+use Rattle.apd_mlme.specs.Verdict.{Verdict}
 
 pub record IsStarted (s : State) (conf : Conf) (b : Bssid) (accept deny : List Addr) (new : State) : Type 0 where
   -- the policy is the configured one
@@ -34,3 +36,7 @@ IsStartedBy o (Heard b frame) s new = Unit {0}
 IsStartedBy o (Kick b to reason deauth tag) s new = Unit {0}
 IsStartedBy o (ListEdit b which edit tag) s new = Unit {0}
 IsStartedBy o (Expire b a) s new = Unit {0}
+
+-- a station whose row is gone is told so, with reason 1 (IEEE Std 802.11-2016, 11.3.4.4)
+abbrev pub AreDroppedTold : State → Bssid → Verdict → Type 0
+AreDroppedTold s b v = (a : Addr) → IsSome (station_at s b a) → station_at v.state b a ≡ None → Contains v.outs (deauthentication_frame b a 1)

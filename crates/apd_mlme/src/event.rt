@@ -4,9 +4,6 @@ ghost use Rattle.std.specs.Prelude.{◌≡◌};
 use apd_base::{Addr, Bssid, Which};
 use apd_frame::{Frame, Reason};
 
-/// The broadcast address, which stands for every station (IEEE Std 802.11-2016, 9.2.4.3.3).
-pub const BROADCAST: Addr = Addr([0xff, 0xff, 0xff, 0xff, 0xff, 0xff]);
-
 /// What a control command does to a list.
 #[derive(Clone, Copy, Debug, PartialEq, Eq)]
 pub enum Edit {

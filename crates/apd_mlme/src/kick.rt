@@ -2,17 +2,16 @@
 ghost use Rattle.std.specs.Prelude.{◌≡◌, IfOk};
 ghost use Rattle.std.specs.Ordering.{eq_by_cmp};
 ghost use Rattle.apd_base.specs.Addr.{addr_cmp};
-ghost use Rattle.apd_mlme.specs.declared.event.TheConstants.{BROADCAST};
+ghost use Rattle.apd_base.specs.declared.address.TheConstants.{BROADCAST};
 ghost use Rattle.apd_mlme.specs.Commands.{all_kicked, deauthenticated, disassociated, farewell, kick_verdict, kicked};
 
 use crate::answer::{Answer, answered};
 use crate::decision::{Decision, sent};
-use crate::event::BROADCAST;
 use crate::leaving::{
     deauthentication, disassociation, dropped, push_outs_of_drop, push_outs_of_end, push_removal,
     put_back,
 };
-use apd_base::{Addr, Bssid, Sequence, Station};
+use apd_base::{Addr, BROADCAST, Bssid, Sequence, Station};
 use apd_frame::{Reason, Reply};
 use apd_record::Change;
 use apd_table::Table;

@@ -5,28 +5,33 @@ ghost use Rattle.apd_base.specs.Number.{AreBytes};
 ghost use Rattle.apd_base.specs.State.{State, station_at, aid_at, empty_state};
 ghost use Rattle.apd_base.specs.declared.address.Addr.{Addr};
 ghost use Rattle.apd_base.specs.declared.address.Bssid.{Bssid};
+ghost use Rattle.apd_base.specs.declared.station.Aid.{Aid};
 ghost use Rattle.apd_conf.specs.Confs.{conf_at};
 ghost use Rattle.apd_conf.specs.declared.conf.Conf.{Conf};
 ghost use Rattle.apd_frame.specs.declared.received.Authentication.{Authentication};
-ghost use Rattle.apd_frame.specs.Contents.{AssociationRequest, Contents, ProbeRequest, ReassociationRequest, association_request, authentication, probe_request, reassociation_request};
+ghost use Rattle.apd_frame.specs.Contents.{AssociationRequest, Contents, ProbeRequest, ReassociationRequest, association_request, authentication, deauthentication, disassociation, probe_request, reassociation_request};
+ghost use Rattle.apd_frame.specs.declared.codes.Reason.{Reason};
 ghost use Rattle.apd_frame.specs.Outcome.{outcome};
 ghost use Rattle.apd_record.specs.Meaning.{meaning_of};
 ghost use Rattle.apd_table.specs.Sound.{Sound, StaySound};
 ghost use Rattle.apd_mlme.specs.Admitted.{AreFromStations, Asks, HasAsked};
 ghost use Rattle.apd_mlme.specs.Answered.{IsAnsweredTruly};
 ghost use Rattle.apd_mlme.specs.Association.{without_current_ap};
+ghost use Rattle.apd_mlme.specs.ClassErrors.{AreClassesKept};
 ghost use Rattle.apd_mlme.specs.Commanded.{IsAnsweredTo};
+ghost use Rattle.apd_mlme.specs.Departed.{IsDeauthenticated, IsDisassociated, IsSilenced};
 ghost use Rattle.apd_mlme.specs.Driver.{FollowsDrivers};
 ghost use Rattle.apd_mlme.specs.Ended.{HasLeft, IsToldOfEnd};
-ghost use Rattle.apd_mlme.specs.Happening.{Happening, Heard, bssid_of};
+ghost use Rattle.apd_mlme.specs.Happening.{Configure, Expire, Happening, Heard, bssid_of};
 ghost use Rattle.apd_mlme.specs.Identifiers.{identifier_for};
-ghost use Rattle.apd_mlme.specs.Probed.{IsProbed};
+ghost use Rattle.apd_mlme.specs.Order.{IsLetGoFirst, IsTakenInFirst};
+ghost use Rattle.apd_mlme.specs.Probed.{IsProbed, IsProbeFor, response_frame};
+ghost use Rattle.apd_mlme.specs.Responses.{IsAssociationAnswered, IsAuthenticationAnswered};
 ghost use Rattle.apd_mlme.specs.Rules.{verdict, IsFit};
 ghost use Rattle.apd_mlme.specs.Run.{run, AreFit};
-ghost use Rattle.apd_mlme.specs.Started.{IsStartedBy};
+ghost use Rattle.apd_mlme.specs.Started.{AreDroppedTold, IsStartedBy};
 ghost use Rattle.apd_mlme.specs.declared.association.Kind.TheVariants.{Association, Reassociation};
 ghost use Rattle.apd_mlme.specs.declared.decision.TheConstants.{MAX_RECORDS};
-ghost use Rattle.apd_mlme.specs.declared.event.TheConstants.{BROADCAST};
 ghost use Rattle.apd_mlme.specs.Told.{IsToldTruly};
 ghost use Rattle.apd_mlme.specs.Truth.{AreSo, AreSoToAll, AreThere, IsFromStation, NoBroadcastRow, NoneIsBroadcast};
 
@@ -130,9 +135,60 @@ pub fn a_command_is_answered_truly()
     ensures { (s : State) (confs : List Conf) (h : Happening) → IsFit s confs h → Sound s → IsAnsweredTo s h (verdict s confs h) }
 {}
 
-/// Two values that other contracts cite by name: the broadcast address is six octets of ones (IEEE Std
-/// 802.11-2016, 9.2.4.3.3), and the records of one event's changes have at most 28,682 bytes (own).
+/// A frame of class 2 from a station that is not authenticated is answered by a deauthentication with
+/// reason 6. One of class 3 is answered by a deauthentication with reason 7 where its sender is not
+/// authenticated, and by a disassociation with reason 7 where it is not associated. Nothing else leaves,
+/// and nothing changes (IEEE Std 802.11-2016, 11.3.3).
+pub fn classes_are_kept()
+    ensures { (s : State) (confs : List Conf) (conf : Conf) (b : Bssid) (frame : Contents) → conf_at confs b ≡ Some conf → AreClassesKept s b frame (verdict s confs (Heard b frame)) }
+{}
+
+/// Octet by octet: an authentication response has the algorithm of the request, its transaction number
+/// plus one, and the code of its status (9.3.3.12). An association or a reassociation response to a
+/// station with a row has the capability ESS, the code of its status, the AID field of the identifier
+/// that the station has, or 0, and the rates of the radio (9.3.3.7 and 9.3.3.9).
+pub fn responses_have_their_fields()
+    ensures authentication { (s : State) (confs : List Conf) (conf : Conf) (b : Bssid) (request : Authentication) → conf_at confs b ≡ Some conf → IsAuthenticationAnswered s conf b request (verdict s confs (Heard b (authentication request))) }
+    ensures association { (s : State) (confs : List Conf) (conf : Conf) (b : Bssid) (request : AssociationRequest) → conf_at confs b ≡ Some conf → Sound s → IsSome (station_at s b request.sender) → IsAssociationAnswered 1 s conf b request (verdict s confs (Heard b (association_request request))) }
+    ensures reassociation { (s : State) (confs : List Conf) (conf : Conf) (b : Bssid) (request : ReassociationRequest) → conf_at confs b ≡ Some conf → Sound s → IsSome (station_at s b request.sender) → IsAssociationAnswered 3 s conf b (without_current_ap request) (verdict s confs (Heard b (reassociation_request request))) }
+{}
+
+/// A station that disassociates is authenticated from then on where it had a row (11.3.5.9), and one
+/// that deauthenticates has no row (11.3.4.5). Its driver lets it go where it was associated. It is not
+/// told, and nobody else's row changes.
+pub fn who_leaves_is_let_go()
+    ensures disassociation { (s : State) (confs : List Conf) (conf : Conf) (b : Bssid) (a : Addr) (reason : Reason) → conf_at confs b ≡ Some conf → IsSome (station_at s b a) → IsDisassociated s b a (verdict s confs (Heard b (disassociation a reason))) }
+    ensures deauthentication { (s : State) (confs : List Conf) (conf : Conf) (b : Bssid) (a : Addr) (reason : Reason) → conf_at confs b ≡ Some conf → IsDeauthenticated s b a (verdict s confs (Heard b (deauthentication a reason))) }
+{}
+
+/// A station that was silent for too long is let go by its driver, is told a disassociation with reason
+/// 4, and is authenticated from then on (11.3.5.8); one that is only authenticated is told a
+/// deauthentication with reason 2, and has no row from then on (11.3.4.4). Nobody else's row changes.
+pub fn silence_ends_one_station()
+    ensures { (s : State) (confs : List Conf) (conf : Conf) (b : Bssid) (a : Addr) → conf_at confs b ≡ Some conf → IsSilenced s b a (verdict s confs (Expire b a)) }
+{}
+
+/// In every event a driver lets a station go before the station is told that its association is at an
+/// end, and it takes a station in before the station is told that it is associated (own).
+pub fn drivers_are_told_first()
+    ensures ended { (s : State) (confs : List Conf) (h : Happening) (b : Bssid) (a : Addr) → IsSome (conf_at confs b) → IsSome (aid_at s b a) → aid_at (verdict s confs h).state b a ≡ None → HasLeft h b a ⊎ IsLetGoFirst (verdict s confs h).outs b a }
+    ensures begun { (s : State) (confs : List Conf) (h : Happening) (b : Bssid) (a : Addr) (aid : Aid) → aid_at s b a ≡ None → aid_at (verdict s confs h).state b a ≡ Some aid.number → IsTakenInFirst (verdict s confs h).outs b a aid }
+{}
+
+/// Each station whose row is gone after the start of a BSSID is told a deauthentication with reason 1,
+/// whether it was associated or only authenticated (own; 11.3.4.4).
+pub fn a_start_tells_whom_it_drops()
+    ensures { (s : State) (confs : List Conf) (b : Bssid) (accept : List Addr) (deny : List Addr) → AreDroppedTold s b (verdict s confs (Configure b accept deny)) }
+{}
+
+/// A probe response has the configured beacon interval, the network's name, the rates of the radio and,
+/// at 2.4 GHz alone, its channel, octet by octet (9.3.3.11).
+pub fn a_probe_response_says_what_is_configured()
+    ensures { (s : State) (confs : List Conf) (conf : Conf) (b : Bssid) (request : ProbeRequest) → conf_at confs b ≡ Some conf → AreBytes request.elements → IsProbeFor conf request.elements → (verdict s confs (Heard b (probe_request request))).outs ≡ response_frame conf b request.sender ∷ [] }
+{}
+
+/// A value that other contracts cite by name: the records of one event's changes have at most 28,682
+/// bytes (own).
 pub fn values_law()
-    ensures broadcast { BROADCAST.0 ≡ 255 ∷ 255 ∷ 255 ∷ 255 ∷ 255 ∷ 255 ∷ [] }
-    ensures records { MAX_RECORDS ≡ 28682 }
+    ensures { MAX_RECORDS ≡ 28682 }
 {}

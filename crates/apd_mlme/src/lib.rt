@@ -36,7 +36,7 @@ use apd_record::known_changes;
 use apd_table::Table;
 use association::Kind;
 pub use decision::{Decision, Out, Recipient};
-pub use event::{BROADCAST, Edit, Event};
+pub use event::{Edit, Event};
 use std::alloc::{AllocError, Global};
 
 /// What a fit event brings about: its changes, in an order in which each of them leaves a sound

@@ -1,4 +1,3 @@
-mod Digits
 mod Lines
 mod Parts
 mod Reading

@@ -2,7 +2,8 @@
 use Rattle.std.proofs.Common.{◌≡◌, ℕ, ◌+◌, List, [], ◌∷◌, ◌++◌, length, sym, ap, ◌∙◌, arith}
 use Rattle.apd_radio.specs.declared.call.Call.{Call}
 use Rattle.apd_radio.specs.Calls.{IsLineOf}
-use Rattle.apd_radio.specs.Recordings.{lines_of, AreLinesOf, frames_of, received}
+use Rattle.apd_base.specs.Text.{lines}
+use Rattle.apd_radio.specs.Recordings.{AreLinesOf, frames_of, received}
 use Rattle.std.proofs.lemmas.List.{append_assoc, length-append, flat_map_more}
 
 -- the lines in front of the rest stand for calls, in which these frames were received
@@ -10,7 +11,7 @@ pub record IsRead (text rest : List ℕ) (line : ℕ) (frames : List (List ℕ))
   pub front : List (List ℕ)
   pub calls : List Call
   pub good : AreLinesOf calls front
-  pub all : lines_of text ≡ front ++ lines_of rest
+  pub all : lines text ≡ front ++ lines rest
   pub number : line ≡ length front
   pub received : frames ≡ frames_of calls
 
@@ -24,13 +25,13 @@ one_more : (calls : List Call) (call : Call) → frames_of calls ++ received cal
 one_more calls call = flat_map_more received [] calls call
 
 -- one line more
-pub reads_on : (text rest : List ℕ) (line : ℕ) (frames : List (List ℕ)) → IsRead text rest line frames → (first after : List ℕ) → lines_of rest ≡ first ∷ lines_of after
+pub reads_on : (text rest : List ℕ) (line : ℕ) (frames : List (List ℕ)) → IsRead text rest line frames → (first after : List ℕ) → lines rest ≡ first ∷ lines after
     → (call : Call) → IsLineOf call first → (new : List (List ℕ)) → new ≡ frames ++ received call → IsRead text after (line + 1) new
 reads_on text rest line frames r first after e call form new n = record {
   front = r.front ++ first ∷ [];
   calls = r.calls ++ call ∷ [];
   good = AreLinesOf-append r.calls (call ∷ []) r.front (first ∷ []) r.good (form, tt);
-  all = r.all ∙ ap (λ ls. r.front ++ ls) e ∙ sym (append_assoc r.front (first ∷ []) (lines_of after));
+  all = r.all ∙ ap (λ ls. r.front ++ ls) e ∙ sym (append_assoc r.front (first ∷ []) (lines after));
   number = omega (arith, length-append r.front (first ∷ []), r.number);
   received = n ∙ ap (λ fs. fs ++ received call) r.received ∙ one_more r.calls call;
 }

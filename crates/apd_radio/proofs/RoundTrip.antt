@@ -1,7 +1,7 @@
 -- What is written for calls, and that it is read again.
 use Rattle.std.proofs.Common.{◌≡◌, ℕ, zero, suc, ◌+◌, ◌/◌, ◌%◌, ◌<◌, ◌^◌, true, false, cond, List, [], ◌∷◌, ◌++◌, length, inr, refl, ap, ◌∙◌, arith, lit<, nat_lt}
 use Rattle.std.specs.Prelude.{codes, slice_index}
-use Rattle.std.specs.List.{AllByRecursion}
+use Rattle.std.specs.List.{AllByRecursion, onto_first}
 use Rattle.std.specs.Fmt.{decimal}
 use Rattle.std.specs.Str.Parse.{AllDigits}
 use Rattle.std.proofs.lemmas.Str.Parse.{tells_digits}
@@ -11,11 +11,13 @@ use Rattle.std.proofs.lemmas.List.{append_assoc}
 use Rattle.hex.specs.Hex.{IsBytes, encode_with, encode_lower, lower_digits}
 use Rattle.hex.proofs.HexLemmas.{decode_of-encode_lower}
 use Rattle.apd_base.specs.Addr.{text_of, hex_digit}
-use Rattle.apd_base.proofs.AddrText.{text_reads}
+use Rattle.apd_base.specs.Text.{lines, with_newline}
+use Rattle.apd_base.proofs.NumberText.{number-decimal}
+use Rattle.apd_base.proofs.AddrText.{address_of-text_of}
 use Rattle.apd_radio.specs.declared.call.Call.{Call}
 use Rattle.apd_radio.specs.declared.call.Call.TheVariants.{Received, Installed, Removed, Sent, Down}
 use Rattle.apd_radio.specs.Calls.{IsLineOf, IsCall, line_of}
-use Rattle.apd_radio.specs.Recordings.{lines_of, with_first, with_newline, recording_of, AreLinesOf, Replays, frames_of}
+use Rattle.apd_radio.specs.Recordings.{recording_of, AreLinesOf, Replays, frames_of}
 use Rattle.apd_radio.proofs.Unique.{calls_once}
 
 -- no byte is a newline
@@ -127,33 +129,34 @@ above_line (Sent frame) h = (lit< tt, (lit< tt, (lit< tt, above_hex frame h)))
 above_line Down h = (lit< tt, (lit< tt, (lit< tt, (lit< tt, tt))))
 
 -- the first line of a text
-line_first : (line rest : List ℕ) → Above line → lines_of (with_newline line ++ rest) ≡ line ∷ lines_of rest
+line_first : (line rest : List ℕ) → Above line → lines (with_newline line ++ rest) ≡ line ∷ lines rest
+unfolding lines
 line_first [] rest h = refl
 line_first (b ∷ line) rest h =
-    ap (λ t. cond t ([] ∷ lines_of (with_newline line ++ rest)) (with_first b (lines_of (with_newline line ++ rest)))) (ne_eqb b 10 (λ e. let more = h.0 in omega arith))
-    ∙ ap (with_first b) (line_first line rest h.1)
+    ap (λ t. cond t ([] ∷ lines (with_newline line ++ rest)) (onto_first b (lines (with_newline line ++ rest)))) (ne_eqb b 10 (λ e. let more = h.0 in omega arith))
+    ∙ ap (onto_first b) (line_first line rest h.1)
 
 -- the line of a call stands for it
 reads : (call : Call) → IsCall call → IsLineOf call (line_of call)
 reads (Received frame) h = (32 ∷ encode_lower frame, refl, inr (encode_lower frame, refl, decode_of-encode_lower frame h))
 reads (Installed addr aid) h =
-    let small : aid < 2 ^ 64 = omega (arith, h.1) in
-    let numeral = decimal_is_IsNumeral aid small in (
+    let small : aid < 2 ^ 64 = omega (arith, h.1) in (
       text_of addr ++ 32 ∷ decimal aid,
       append_assoc (codes "install ") (text_of addr) (32 ∷ decimal aid),
       (
         text_of addr,
         decimal aid,
         refl,
-        text_reads addr h.0,
-        record { numeral = numeral.0; short = length-decimal-le 5 aid (lit< tt) (omega (arith, h.1)) small; value = numeral.1; fits = h.1 },
+        address_of-text_of addr h.0,
+        number-decimal 5 65535 aid small (length-decimal-le 5 aid (lit< tt) (omega (arith, h.1)) small) (omega (arith, h.1)),
       ),
     )
-reads (Removed addr) h = (text_of addr, refl, text_reads addr h)
+reads (Removed addr) h = (text_of addr, refl, address_of-text_of addr h)
 reads (Sent frame) h = (32 ∷ encode_lower frame, refl, inr (encode_lower frame, refl, decode_of-encode_lower frame h))
 reads Down h = refl
 
-written : (calls : List Call) → AllByRecursion IsCall calls → AreLinesOf calls (lines_of (recording_of calls))
+written : (calls : List Call) → AllByRecursion IsCall calls → AreLinesOf calls (lines (recording_of calls))
+unfolding lines
 written [] h = tt
 written (call ∷ calls) h = rw (line_first (line_of call) (recording_of calls) (above_line call h.0)) (reads call h.0, written calls h.1)
 
@@ -161,4 +164,4 @@ pub read_back : (calls : List Call) → AllByRecursion IsCall calls → Replays 
 read_back calls h = (calls, written calls h, refl)
 
 pub read_once : (calls : List Call) → AllByRecursion IsCall calls → (frames : List (List ℕ)) → Replays (recording_of calls) frames → frames ≡ frames_of calls
-read_once calls h frames (others, lines, e) = e ∙ ap frames_of (calls_once (lines_of (recording_of calls)) others calls lines (written calls h))
+read_once calls h frames (others, are, e) = e ∙ ap frames_of (calls_once (lines (recording_of calls)) others calls are (written calls h))

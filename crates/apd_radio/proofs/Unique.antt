@@ -1,21 +1,20 @@
 -- A line stands for one call at most.
-use Rattle.std.proofs.Common.{◌≡◌, ℕ, ◌<◌, inl, inr, List, [], ◌∷◌, ◌++◌, Some, Result, Ok, get_or, refl, subst, sym, ap, ◌∙◌, arith}
+use Rattle.std.proofs.Common.{◌≡◌, ℕ, inl, inr, List, [], ◌∷◌, ◌++◌, Some, Result, Ok, refl, subst, sym, ap, ◌∙◌, arith}
 use Rattle.std.specs.Prelude.{codes}
-use Rattle.std.specs.Str.Parse.{digits_value}
-use Rattle.std.proofs.lemmas.List.{append_cancel_left, ext_get_or}
+use Rattle.std.proofs.lemmas.List.{append_cancel_left}
 use Rattle.hex.specs.Hex.{decode_of}
 use Rattle.hex.specs.declared.error.FromHexError.{FromHexError}
 use Rattle.apd_base.specs.declared.address.Addr.{Addr}
-use Rattle.apd_base.specs.Addr.{IsText}
+use Rattle.apd_base.specs.Addr.{address_of}
+use Rattle.apd_base.specs.Text.{decimal_number}
+use Rattle.apd_base.proofs.AddrText.{address_length}
+use Rattle.apd_base.proofs.Cases.{same_some}
 use Rattle.apd_radio.specs.declared.call.Call.{Call}
 use Rattle.apd_radio.specs.declared.call.Call.TheVariants.{Received, Installed, Removed, Sent, Down}
 use Rattle.apd_radio.specs.Calls.{IsFrame, IsStation, IsLineOf}
 use Rattle.apd_radio.specs.Recordings.{AreLinesOf}
 use Rattle.apd_radio.proofs.Parts.{first_is, digits_are}
 use Rattle.apd_radio.proofs.Words.{first, second}
-
-same_some : (x y : ℕ) → Some x ≡ Some y → x ≡ y
-same_some x y e = cc
 
 no_digits : (text digits : List ℕ) → text ≡ [] → text ≡ 32 ∷ digits → ⊥
 no_digits text digits e f = let h : [] ≡ 32 ∷ digits = sym e ∙ f in cc
@@ -32,15 +31,14 @@ frame_once text a b (inl (e, f)) (inr (d, g, h)) = absurd (no_digits text d e g)
 frame_once text a b (inr (d, g, h)) (inl (e, f)) = absurd (no_digits text d e g)
 frame_once text a b (inr (d, g, h)) (inr (e, i, j)) = same_ok a b (sym h ∙ ap decode_of (same_digits text d e g i) ∙ j)
 
-text_once : (text a b : List ℕ) → IsText text a → IsText text b → a ≡ b
-text_once text a b p q =
-    ext_get_or 0 a b (p.six ∙ sym q.six) (λ i lt. let small : i < 6 = omega (arith, p.six) in same_some (get_or a i 0) (get_or b i 0) (sym (p.pairs i small) ∙ q.pairs i small))
+text_once : (text : List ℕ) (a b : Addr) → address_of text ≡ Some a → address_of text ≡ Some b → a ≡ b
+text_once text a b p q = same_some a b (sym p ∙ q)
 
 station_once : (text : List ℕ) (a b : Addr) (m n : ℕ) → IsStation a m text → IsStation b n text → (a ≡ b) × (m ≡ n)
 station_once text a b m n (s, d, e, p, i) (t, f, g, q, j) =
-    let same : s ≡ t = sym (first_is text s d e p.long) ∙ first_is text t f g q.long in
-    let digits : d ≡ f = sym (digits_are text s d e p.long) ∙ digits_are text t f g q.long in
-    (ap (λ bytes. record { 0 = bytes }) (text_once t a.0 b.0 (subst (λ (x : List ℕ). IsText x a.0) same p) q), sym i.value ∙ (ap (digits_value 10) digits ∙ j.value))
+    let same : s ≡ t = sym (first_is text s d e (address_length s a p)) ∙ first_is text t f g (address_length t b q) in
+    let digits : d ≡ f = sym (digits_are text s d e (address_length s a p)) ∙ digits_are text t f g (address_length t b q) in
+    (text_once t a b (ap address_of (sym same) ∙ p) q, same_some m n (sym i ∙ ap (decimal_number 5 65535) digits ∙ j))
 
 pub call_once : (line : List ℕ) (a b : Call) → IsLineOf a line → IsLineOf b line → a ≡ b
 call_once line (Received frame) (Received frame') (r, p, f) (s, q, g) = ap Received (frame_once s frame frame' (subst (IsFrame frame) (append_cancel_left (codes "rx") r s (sym p ∙ q)) f) g)
@@ -55,7 +53,7 @@ call_once line (Installed addr aid) (Sent frame') (r, p, f) (s, q, g) = let n = 
 call_once line (Installed addr aid) Down (r, p, f) q = let n = first (codes "install " ++ r) (codes "down") line p q in absurd (omega arith)
 call_once line (Removed addr) (Received frame') (r, p, f) (s, q, g) = let n = second (codes "remove " ++ r) (codes "rx" ++ s) line p q in absurd (omega arith)
 call_once line (Removed addr) (Installed addr' aid') (r, p, f) (s, q, g) = let n = first (codes "remove " ++ r) (codes "install " ++ s) line p q in absurd (omega arith)
-call_once line (Removed addr) (Removed addr') (r, p, f) (s, q, g) = ap (λ bytes. Removed (record { 0 = bytes })) (text_once s addr.0 addr'.0 (subst (λ (x : List ℕ). IsText x addr.0) (append_cancel_left (codes "remove ") r s (sym p ∙ q)) f) g)
+call_once line (Removed addr) (Removed addr') (r, p, f) (s, q, g) = ap Removed (text_once s addr addr' (ap address_of (sym (append_cancel_left (codes "remove ") r s (sym p ∙ q))) ∙ f) g)
 call_once line (Removed addr) (Sent frame') (r, p, f) (s, q, g) = let n = first (codes "remove " ++ r) (codes "tx" ++ s) line p q in absurd (omega arith)
 call_once line (Removed addr) Down (r, p, f) q = let n = first (codes "remove " ++ r) (codes "down") line p q in absurd (omega arith)
 call_once line (Sent frame) (Received frame') (r, p, f) (s, q, g) = let n = first (codes "tx" ++ r) (codes "rx" ++ s) line p q in absurd (omega arith)

@@ -3,7 +3,8 @@ use Rattle.std.proofs.Common.{◌≡◌, ℕ, Bool, true, false, List, [], ◌�
 use Rattle.std.proofs.lemmas.List.{append_assoc, append-nil}
 use Rattle.apd_radio.specs.declared.call.Call.{Call}
 use Rattle.apd_radio.specs.Calls.{line_of}
-use Rattle.apd_radio.specs.Recordings.{RecordsAll, recording_of, with_newline}
+use Rattle.apd_base.specs.Text.{with_newline}
+use Rattle.apd_radio.specs.Recordings.{RecordsAll, recording_of}
 
 pub ended_stays : (calls : List Call) (ended : Bool) (old new : Option (List ℕ)) → RecordsAll true old calls ended new → (ended ≡ true) × (new ≡ old)
 ended_stays [] ended old new r = r

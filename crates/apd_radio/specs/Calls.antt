@@ -1,10 +1,10 @@
 -- The calls of a radio that succeeded, each as a line of a recording (own format).
-use Rattle.std.specs.Prelude.{◌≡◌, ℕ, ◌<◌, ◌≤◌, ◌^◌, ◌⊎◌, List, [], ◌∷◌, ◌++◌, length, Ok, codes}
-use Rattle.std.specs.Str.Parse.{IsNumeral, digits_value}
+use Rattle.std.specs.Prelude.{◌≡◌, ℕ, ◌<◌, ◌^◌, ◌⊎◌, List, [], ◌∷◌, ◌++◌, Some, Ok, codes}
 use Rattle.std.specs.Fmt.{decimal}
 use Rattle.hex.specs.Hex.{IsBytes, decode_of, encode_lower}
 use Rattle.apd_base.specs.declared.address.Addr.{Addr}
-use Rattle.apd_base.specs.Addr.{IsAddr, IsText, text_of}
+use Rattle.apd_base.specs.Addr.{IsAddr, address_of, text_of}
+use Rattle.apd_base.specs.Text.{blank, decimal_number}
 use Rattle.apd_radio.specs.declared.call.Call.{Call}
 use Rattle.apd_radio.specs.declared.call.Call.TheVariants.{Received, Installed, Removed, Sent, Down}
 
@@ -14,31 +14,28 @@ HasForm word form line = (rest : List ℕ) × (line ≡ word ++ rest) × form re
 
 -- a blank and hexadecimal digits of either case, two for each byte; nothing at all is the empty frame too
 abbrev pub IsFrame : List ℕ → List ℕ → Type 0
-IsFrame frame text = ((text ≡ []) × (frame ≡ [])) ⊎ ((digits : List ℕ) × (text ≡ 32 ∷ digits) × (decode_of digits ≡ Ok frame))
+IsFrame frame text = ((text ≡ []) × (frame ≡ [])) ⊎ ((digits : List ℕ) × (text ≡ blank ∷ digits) × (decode_of digits ≡ Ok frame))
 
 -- one to five decimal digits that write at most 65535
-pub record IsIdentifier (aid : ℕ) (digits : List ℕ) : Type 0 where
-  pub numeral : IsNumeral 10 digits
-  pub short : length digits ≤ 5
-  pub value : digits_value 10 digits ≡ aid
-  pub fits : aid < 2 ^ 16
+abbrev pub IsIdentifier : ℕ → List ℕ → Type 0
+IsIdentifier aid digits = decimal_number 5 65535 digits ≡ Some aid
 
 -- an address, a blank and an identifier
 abbrev pub IsStation : Addr → ℕ → List ℕ → Type 0
-IsStation addr aid text = (first digits : List ℕ) × (text ≡ first ++ 32 ∷ digits) × IsText first addr.0 × IsIdentifier aid digits
+IsStation addr aid text = (first digits : List ℕ) × (text ≡ first ++ blank ∷ digits) × (address_of first ≡ Some addr) × IsIdentifier aid digits
 
 -- the line, without its newline, stands for the call
 abbrev pub IsLineOf : Call → List ℕ → Type 0
 IsLineOf (Received frame) line = HasForm (codes "rx") (IsFrame frame) line
 IsLineOf (Installed addr aid) line = HasForm (codes "install ") (IsStation addr aid) line
-IsLineOf (Removed addr) line = HasForm (codes "remove ") (λ text. IsText text addr.0) line
+IsLineOf (Removed addr) line = HasForm (codes "remove ") (λ text. address_of text ≡ Some addr) line
 IsLineOf (Sent frame) line = HasForm (codes "tx") (IsFrame frame) line
 IsLineOf Down line = line ≡ codes "down"
 
 -- the line that is written for a call, without its newline: digits in lower case, no digit too many
 abbrev pub line_of : Call → List ℕ
 line_of (Received frame) = codes "rx " ++ encode_lower frame
-line_of (Installed addr aid) = codes "install " ++ text_of addr ++ 32 ∷ decimal aid
+line_of (Installed addr aid) = codes "install " ++ text_of addr ++ blank ∷ decimal aid
 line_of (Removed addr) = codes "remove " ++ text_of addr
 line_of (Sent frame) = codes "tx " ++ encode_lower frame
 line_of Down = codes "down"

@@ -1,4 +1,3 @@
 pub mod Calls
-pub mod Faults
 pub mod Frames
 pub mod Recordings

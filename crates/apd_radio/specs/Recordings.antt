@@ -1,29 +1,16 @@
 -- Recordings: lists of lines, one for each call (own format).
-use Rattle.std.specs.Prelude.{◌≡◌, ℕ, ◌+◌, ◌==◌, Bool, true, false, if◌then◌else◌, List, [], ◌∷◌, ◌++◌, length, flat_map, Option}
+use Rattle.std.specs.Prelude.{◌≡◌, ℕ, ◌+◌, Bool, true, false, List, [], ◌∷◌, ◌++◌, length, flat_map, Option}
 use Rattle.std.specs.Io.KnownBytes.{Appends}
+use Rattle.apd_base.specs.Text.{lines, with_newline}
 use Rattle.apd_radio.specs.declared.call.Call.{Call}
 use Rattle.apd_radio.specs.declared.call.Call.TheVariants.{Received, Installed, Removed, Sent, Down}
 use Rattle.apd_radio.specs.declared.replaying.ReplayFault.{ReplayFault}
 use Rattle.apd_radio.specs.declared.replaying.ReplayFault.TheVariants.{BadLine, NoMemory}
 use Rattle.apd_radio.specs.Calls.{IsLineOf, line_of}
 
--- a line with its newline
-abbrev pub with_newline : List ℕ → List ℕ
-with_newline line = line ++ 10 ∷ []
-
 -- what is written for the calls
 abbrev pub recording_of : List Call → List ℕ
 recording_of calls = flat_map (λ call. with_newline (line_of call)) calls
-
--- one byte more at the front of the first line
-abbrev pub with_first : ℕ → List (List ℕ) → List (List ℕ)
-with_first b [] = (b ∷ []) ∷ []
-with_first b (line ∷ lines) = (b ∷ line) ∷ lines
-
--- the lines of a text: each ends with a newline, which the last may lack
-abbrev pub lines_of : List ℕ → List (List ℕ)
-lines_of [] = []
-lines_of (b ∷ bs) = if b == 10 then [] ∷ lines_of bs else with_first b (lines_of bs)
 
 -- each line stands for the call at its place
 abbrev pub AreLinesOf : List Call → List (List ℕ) → Type 0
@@ -45,7 +32,7 @@ frames_of calls = flat_map received calls
 
 -- the text is a recording in which these frames were received
 abbrev pub Replays : List ℕ → List (List ℕ) → Type 0
-Replays text frames = (calls : List Call) × AreLinesOf calls (lines_of text) × (frames ≡ frames_of calls)
+Replays text frames = (calls : List Call) × AreLinesOf calls (lines text) × (frames ≡ frames_of calls)
 
 -- the lines in front of line n, counted from 1, stand for calls, and line n stands for none
 pub record IsFirstBad (lines : List (List ℕ)) (n : ℕ) : Type 0 where

@@ -1,16 +1,15 @@
 //! The calls of a radio, and their lines in a recording.
-ghost use Rattle.std.specs.Prelude.{◌≡◌, ℕ, List, ◌++◌, IfOk, IfSome, IfNone, MatchOption, ◌≢◌};
+ghost use Rattle.std.specs.Prelude.{◌≡◌, ℕ, List, IfOk, IfSome, IfNone};
 ghost use Rattle.hex.specs.Hex.{decode_of};
 ghost use Rattle.apd_base.specs.declared.address.Addr.{Addr as Address};
 ghost use Rattle.apd_radio.specs.declared.call.Call.{Call as AnyCall};
-ghost use Rattle.apd_radio.specs.Calls.{IsFrame, IsIdentifier, IsStation, IsLineOf};
+ghost use Rattle.apd_radio.specs.Calls.{IsFrame, IsStation, IsLineOf};
 
+use apd_base::address::TEXT_LENGTH;
+use apd_base::text::{behind, decimal_u16};
 use apd_base::{Addr, Sequence};
 use hex::FromHexError;
 use std::alloc::{AllocError, Global};
-
-// Bytes of an address's text.
-const ADDRESS_LENGTH: usize = 17;
 
 /// One call of a radio that succeeded, as a line of a recording has it.
 #[derive(Debug, Drop)]
@@ -25,13 +24,6 @@ pub enum Call {
     Sent(Sequence<u8>),
     /// All stations were taken out.
     Down,
-}
-
-// What stands behind the word.
-fn behind<'a>(line: &'a [u8], word: &[u8]) -> Option<&'a [u8]>
-    ensures { MatchOption result ((rest : List ℕ) → line.now ≢ word.now ++ rest) (λ rest. line.now ≡ word.now ++ rest.now) }
-{
-    line.strip_prefix(word)
 }
 
 fn decoded(alloc: Global, digits: &[u8]) -> Result<Option<Sequence<u8>>, AllocError>
@@ -59,37 +51,17 @@ fn frame_of(alloc: Global, text: &[u8]) -> Result<Option<Sequence<u8>>, AllocErr
     decoded(alloc, digits)
 }
 
-fn identifier_of(digits: &[u8]) -> Option<u16>
-    ensures some { IfSome result (λ aid. IsIdentifier aid digits.now) }
-    ensures none { IfNone result ((aid : ℕ) → IsIdentifier aid digits.now → ⊥) }
-{
-    if digits.is_empty() || digits.len() > 5 {
-        return None;
-    }
-    let mut value: u32 = 0;
-    for digit in digits {
-        if !digit.is_ascii_digit() {
-            return None;
-        }
-        value = value * 10 + (*digit - b'0') as u32;
-    }
-    if value > 65535 {
-        return None;
-    }
-    Some(value as u16)
-}
-
 fn station_of(text: &[u8]) -> Option<(Addr, u16)>
     ensures some { IfSome result (λ found. IsStation found.0 found.1 text.now) }
     ensures none { IfNone result ((addr : Address) (aid : ℕ) → IsStation addr aid text.now → ⊥) }
 {
-    if text.len() <= ADDRESS_LENGTH || text[ADDRESS_LENGTH] != b' ' {
+    if text.len() <= TEXT_LENGTH || text[TEXT_LENGTH] != b' ' {
         return None;
     }
-    let Some(addr) = Addr::parse(&text[..ADDRESS_LENGTH]) else {
+    let Some(addr) = Addr::parse(&text[..TEXT_LENGTH]) else {
         return None;
     };
-    let Some(aid) = identifier_of(&text[ADDRESS_LENGTH + 1..]) else {
+    let Some(aid) = decimal_u16(&text[TEXT_LENGTH + 1..]) else {
         return None;
     };
     Some((addr, aid))

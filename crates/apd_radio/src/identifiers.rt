@@ -41,6 +41,13 @@ impl Identifiers {
         rows::value(&self.rows, &addr).copied()
     }
 
+    /// The addresses with their identifiers, in order.
+    pub fn rows(&self) -> &[(Addr, u16)]
+        ensures { result.now ≡ map.entries self.now }
+    {
+        &self.rows
+    }
+
     /// Writes an identifier, over the old one of its address, or leaves all as it was. It lacks memory
     /// only for an address without one.
     pub fn insert(&mut self, addr: Addr, aid: u16) -> Result<(), AllocError>

@@ -4,6 +4,7 @@
 
 pub mod boxed;
 pub mod call;
+pub mod datagrams;
 pub mod identifiers;
 pub mod laws;
 mod log;
@@ -14,12 +15,10 @@ pub mod sim;
 pub mod udp_sim;
 
 pub use call::Call;
+pub use datagrams::{Datagrams, SocketFault};
 pub use identifiers::Identifiers;
 pub use radio::{Radio, RadioFault};
 pub use recording::Recording;
 pub use replaying::{ReplayFault, Replaying};
 pub use sim::Sim;
-pub use udp_sim::{SocketFault, UdpSim};
-
-#[cfg(test)]
-mod tests;
+pub use udp_sim::UdpSim;

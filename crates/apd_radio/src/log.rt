@@ -1,7 +1,8 @@
 //! What a recording writes.
 ghost use Rattle.std.specs.Prelude.{◌≡◌, false, OnOk};
 ghost use Rattle.std.specs.Io.KnownBytes.{Appends};
-ghost use Rattle.apd_radio.specs.Recordings.{Records, with_newline};
+ghost use Rattle.apd_base.specs.Text.{with_newline};
+ghost use Rattle.apd_radio.specs.Recordings.{Records};
 ghost use Rattle.apd_radio.specs.Calls.{line_of};
 ghost use Rattle.apd_radio.specs.declared.call.Call.TheVariants as calls;
 

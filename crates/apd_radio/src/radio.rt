@@ -3,7 +3,7 @@ ghost use Rattle.std.specs.Prelude.{◌≡◌, IfOk, OnOk, OnErr, ℕ, ◌≤◌
 ghost use Rattle.std.specs.Option.{option_map};
 ghost use Rattle.std.specs.FinMap as map;
 ghost use Rattle.apd_base.specs.Addr.{addr_cmp};
-ghost use Rattle.apd_radio.specs.Faults.{HasRisen};
+ghost use Rattle.apd_base.specs.Failures.{HasRisen};
 ghost use Rattle.apd_radio.specs.Frames.{Polls};
 
 use apd_base::Addr;
@@ -34,13 +34,14 @@ impl From<AllocError> for RadioFault {
 /// The driver of one radio: it receives and sends frames, and knows the stations that are installed,
 /// each by its address and its association identifier (IEEE Std 802.11-2016, 9.4.1.8).
 ///
-/// A call that answers a fault leaves the stations as they were. `Device` is told only where the count of
-/// failures rose in that call, or stood at its greatest value.
+/// A call that answers a fault leaves the stations as they were. One that succeeds or lacks memory leaves the
+/// count of failures, and `Device` is told only where the count rose in that call, or stood at its greatest
+/// value.
 pub trait Radio: Drop {
     /// The installed addresses, with their identifiers.
     ghost stations: { Self → map.FinMap addr_cmp ℕ };
 
-    /// How many calls failed in the device. A count of 2^64 - 1 stays, and is taken as risen.
+    /// How many calls failed in the device, up to 2^64 - 1, where the count stays.
     ghost faults: { Self → ℕ };
 
     /// The frames that it is going to give, where they are known.
@@ -53,6 +54,8 @@ pub trait Radio: Drop {
         ensures next { IfOk result (λ got. Polls (frames self.old) (option_map (λ frame. frame.items) got) (frames self.new)) }
         ensures unknown { OnErr result ((frames self.old ≡ None) × (frames self.new ≡ None)) }
         ensures same { stations self.new ≡ stations self.old }
+        ensures stays { OnOk result (faults self.new ≡ faults self.old) }
+        ensures memory { result ≡ Err RadioFault.NoMemory → faults self.new ≡ faults self.old }
         ensures device { result ≡ Err RadioFault.Device → HasRisen (faults self.old) (faults self.new) }
         ensures count { faults self.old ≤ faults self.new };
 
@@ -63,6 +66,8 @@ pub trait Radio: Drop {
         ensures ok { OnOk result (stations self.new ≡ map.insert (stations self.old) addr aid) }
         ensures err { OnErr result (stations self.new ≡ stations self.old) }
         ensures kept { frames self.new ≡ frames self.old }
+        ensures stays { OnOk result (faults self.new ≡ faults self.old) }
+        ensures memory { result ≡ Err RadioFault.NoMemory → faults self.new ≡ faults self.old }
         ensures device { result ≡ Err RadioFault.Device → HasRisen (faults self.old) (faults self.new) }
         ensures count { faults self.old ≤ faults self.new };
 
@@ -74,23 +79,26 @@ pub trait Radio: Drop {
         ensures err { OnErr result (stations self.new ≡ stations self.old) }
         ensures kept { frames self.new ≡ frames self.old }
         ensures only_device { OnErr result (result ≡ Err RadioFault.Device) }
+        ensures stays { OnOk result (faults self.new ≡ faults self.old) }
         ensures device { result ≡ Err RadioFault.Device → HasRisen (faults self.old) (faults self.new) }
         ensures count { faults self.old ≤ faults self.new };
 
     /// Sends a frame, without its frame check sequence.
     ///
-    /// Errors: `Device`, `NoMemory`; the frame is then lost.
+    /// Errors: `Device`, and the frame is lost; `NoMemory`, and it was not sent: the call can be made again.
     fn transmit(&mut self, frame: &[u8]) -> Result<(), RadioFault>
         ensures same { stations self.new ≡ stations self.old }
         ensures kept { frames self.new ≡ frames self.old }
+        ensures stays { OnOk result (faults self.new ≡ faults self.old) }
+        ensures memory { result ≡ Err RadioFault.NoMemory → faults self.new ≡ faults self.old }
         ensures device { result ≡ Err RadioFault.Device → HasRisen (faults self.old) (faults self.new) }
         ensures count { faults self.old ≤ faults self.new };
 
-    /// Takes all stations out. It takes no memory and can't fail.
+    /// Takes all stations out. It takes no memory and can't fail, so it leaves the count of failures.
     fn take_down(&mut self)
         ensures empty { stations self.new ≡ map.empty }
         ensures kept { frames self.new ≡ frames self.old }
-        ensures count { faults self.old ≤ faults self.new };
+        ensures stays { faults self.new ≡ faults self.old };
 
     /// The identifier of an installed station. It takes no memory.
     fn installed(&self, addr: Addr) -> Option<u16>

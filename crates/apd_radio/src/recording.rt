@@ -2,7 +2,7 @@
 ghost use Rattle.std.specs.Prelude.{◌≡◌, ◌≤◌, false, None, IfOk, IfSome, IfNone, OnOk, OnErr};
 ghost use Rattle.std.specs.Option.{option_map};
 ghost use Rattle.std.specs.FinMap as map;
-ghost use Rattle.apd_radio.specs.Faults.{HasRisen};
+ghost use Rattle.apd_base.specs.Failures.{HasRisen};
 ghost use Rattle.apd_radio.specs.Frames.{Polls};
 ghost use Rattle.apd_radio.specs.Recordings.{Records};
 ghost use Rattle.apd_radio.specs.declared.call.Call.TheVariants as calls;
@@ -53,6 +53,8 @@ impl<R: Radio, W: Write + Drop> Radio for Recording<R, W> {
         ensures next { IfOk result (λ got. Polls (R.frames self.old.inner) (option_map (λ frame. frame.items) got) (R.frames self.new.inner)) }
         ensures unknown { OnErr result ((R.frames self.old.inner ≡ None) × (R.frames self.new.inner ≡ None)) }
         ensures same { R.stations self.new.inner ≡ R.stations self.old.inner }
+        ensures stays { OnOk result (R.faults self.new.inner ≡ R.faults self.old.inner) }
+        ensures memory { result ≡ Err RadioFault.NoMemory → R.faults self.new.inner ≡ R.faults self.old.inner }
         ensures device { result ≡ Err RadioFault.Device → HasRisen (R.faults self.old.inner) (R.faults self.new.inner) }
         ensures count { R.faults self.old.inner ≤ R.faults self.new.inner }
         ensures written { IfOk result (λ got. IfSome got (λ frame. Records self.old.log.ended (W.contents self.old.log.writer) (calls.Received frame.items) self.new.log.ended (W.contents self.new.log.writer))) }
@@ -70,6 +72,8 @@ impl<R: Radio, W: Write + Drop> Radio for Recording<R, W> {
         ensures ok { OnOk result (R.stations self.new.inner ≡ map.insert (R.stations self.old.inner) addr aid) }
         ensures err { OnErr result (R.stations self.new.inner ≡ R.stations self.old.inner) }
         ensures kept { R.frames self.new.inner ≡ R.frames self.old.inner }
+        ensures stays { OnOk result (R.faults self.new.inner ≡ R.faults self.old.inner) }
+        ensures memory { result ≡ Err RadioFault.NoMemory → R.faults self.new.inner ≡ R.faults self.old.inner }
         ensures device { result ≡ Err RadioFault.Device → HasRisen (R.faults self.old.inner) (R.faults self.new.inner) }
         ensures count { R.faults self.old.inner ≤ R.faults self.new.inner }
         ensures written { OnOk result (Records self.old.log.ended (W.contents self.old.log.writer) (calls.Installed addr aid) self.new.log.ended (W.contents self.new.log.writer)) }
@@ -85,6 +89,7 @@ impl<R: Radio, W: Write + Drop> Radio for Recording<R, W> {
         ensures err { OnErr result (R.stations self.new.inner ≡ R.stations self.old.inner) }
         ensures kept { R.frames self.new.inner ≡ R.frames self.old.inner }
         ensures only_device { OnErr result (result ≡ Err RadioFault.Device) }
+        ensures stays { OnOk result (R.faults self.new.inner ≡ R.faults self.old.inner) }
         ensures device { result ≡ Err RadioFault.Device → HasRisen (R.faults self.old.inner) (R.faults self.new.inner) }
         ensures count { R.faults self.old.inner ≤ R.faults self.new.inner }
         ensures written { OnOk result (Records self.old.log.ended (W.contents self.old.log.writer) (calls.Removed addr) self.new.log.ended (W.contents self.new.log.writer)) }
@@ -98,6 +103,8 @@ impl<R: Radio, W: Write + Drop> Radio for Recording<R, W> {
     fn transmit(&mut self, frame: &[u8]) -> Result<(), RadioFault>
         ensures same { R.stations self.new.inner ≡ R.stations self.old.inner }
         ensures kept { R.frames self.new.inner ≡ R.frames self.old.inner }
+        ensures stays { OnOk result (R.faults self.new.inner ≡ R.faults self.old.inner) }
+        ensures memory { result ≡ Err RadioFault.NoMemory → R.faults self.new.inner ≡ R.faults self.old.inner }
         ensures device { result ≡ Err RadioFault.Device → HasRisen (R.faults self.old.inner) (R.faults self.new.inner) }
         ensures count { R.faults self.old.inner ≤ R.faults self.new.inner }
         ensures written { OnOk result (Records self.old.log.ended (W.contents self.old.log.writer) (calls.Sent frame.now) self.new.log.ended (W.contents self.new.log.writer)) }
@@ -111,7 +118,7 @@ impl<R: Radio, W: Write + Drop> Radio for Recording<R, W> {
     fn take_down(&mut self)
         ensures empty { R.stations self.new.inner ≡ map.empty }
         ensures kept { R.frames self.new.inner ≡ R.frames self.old.inner }
-        ensures count { R.faults self.old.inner ≤ R.faults self.new.inner }
+        ensures stays { R.faults self.new.inner ≡ R.faults self.old.inner }
         ensures written { Records self.old.log.ended (W.contents self.old.log.writer) calls.Down self.new.log.ended (W.contents self.new.log.writer) }
     {
         self.inner.take_down();

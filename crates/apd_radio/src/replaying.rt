@@ -1,7 +1,8 @@
 //! A radio that receives the frames of a recording.
 ghost use Rattle.std.specs.Prelude.{◌≡◌, ◌≢◌, ℕ, ◌<◌, ◌∷◌, ◌++◌, [], OnOk, IfOk, IfErr, IfSome, IfNone, MatchOption, length, slice_index};
 ghost use Rattle.std.specs.FinMap as map;
-ghost use Rattle.apd_radio.specs.Recordings.{Replays, IsFault, lines_of, received};
+ghost use Rattle.apd_base.specs.Text.{lines, newline};
+ghost use Rattle.apd_radio.specs.Recordings.{Replays, IsFault, received};
 
 use crate::call::Call;
 use crate::identifiers::Identifiers;
@@ -38,22 +39,22 @@ pub struct Replaying {
     stations: Identifiers,
 }
 
-fn newline(text: &[u8]) -> Option<usize>
-    ensures some { IfSome result (λ end. (end < length text.now) × (slice_index text.now end ≡ 10) × ((k : ℕ) → k < end → slice_index text.now k ≢ 10)) }
-    ensures none { IfNone result ((k : ℕ) → k < length text.now → slice_index text.now k ≢ 10) }
+fn end_of_line(text: &[u8]) -> Option<usize>
+    ensures some { IfSome result (λ end. (end < length text.now) × (slice_index text.now end ≡ newline) × ((k : ℕ) → k < end → slice_index text.now k ≢ newline)) }
+    ensures none { IfNone result ((k : ℕ) → k < length text.now → slice_index text.now k ≢ newline) }
 {
     text.iter().position(|byte| *byte == b'\n')
 }
 
 // The first line without its newline, and what is behind it.
 fn split_line(text: &[u8]) -> Option<(&[u8], &[u8])>
-    ensures lines { MatchOption result (text.now ≡ []) (λ parts. lines_of text.now ≡ parts.0.now ∷ lines_of parts.1.now) }
+    ensures lines { MatchOption result (text.now ≡ []) (λ parts. lines text.now ≡ parts.0.now ∷ lines parts.1.now) }
     ensures shorter { MatchOption result (text.now ≡ []) (λ parts. length parts.1.now < length text.now) }
 {
     if text.is_empty() {
         return None;
     }
-    match newline(text) {
+    match end_of_line(text) {
         Some(end) => Some((&text[..end], &text[end + 1..])),
         None => Some((text, &text[text.len()..])),
     }
@@ -76,7 +77,7 @@ impl Replaying {
     pub fn new(alloc: Global, recording: &[u8]) -> Result<Replaying, ReplayFault>
         ensures frames { IfOk result (λ radio. Replays recording.now radio.frames.items) }
         ensures stations { IfOk result (λ radio. radio.stations ≡ map.empty) }
-        ensures fault { IfErr result (λ fault. IsFault fault (lines_of recording.now)) }
+        ensures fault { IfErr result (λ fault. IsFault fault (lines recording.now)) }
     {
         let mut frames = VecDeque::new(alloc);
         let mut rest = recording;

@@ -3,6 +3,7 @@ use mathlib.Core.HLevel.{Σ_prop_path}
 use Rattle.std.specs.Coded.{le_prop, ×_prop}
 use Rattle.std.proofs.Common.{◌≡◌, ℕ, ◌≤◌, List, [], ◌∷◌, ◌++◌, length, refl, sym, ap, ◌∙◌, append_assoc, arith}
 use Rattle.std.specs.Int.{to_le_bytes, w16}
+use Rattle.apd_base.specs.declared.limits.TheConstants.{MAX_STATIONS}
 use Rattle.apd_base.specs.Mode.{mode_number}
 use Rattle.apd_base.specs.State.{which_number}
 use Rattle.apd_base.specs.declared.address.Addr.{Addr}
@@ -26,11 +27,11 @@ use Rattle.apd_record.proofs.Parts.{tag_of, bssid_of, body_of, record_parts, bss
 
 pub same_aid : (x y : Aid) → x.number ≡ y.number → x ≡ y
 same_aid x y e =
-    let low = Σ_prop_path {B = λ n. (1 ≤ n) × (n ≤ 2007)} (λ n. ×_prop le_prop le_prop) {u = (x.number, (x.low, x.high))} {v = (y.number, (y.low, y.high))} e in
-    ap (λ (p : (n : ℕ) × ((1 ≤ n) × (n ≤ 2007))). record { number = p.0; low = p.1.0; high = p.1.1 }) low
+    let low = Σ_prop_path {B = λ n. (1 ≤ n) × (n ≤ MAX_STATIONS)} (λ n. ×_prop le_prop le_prop) {u = (x.number, (x.low, x.high))} {v = (y.number, (y.low, y.high))} e in
+    ap (λ (p : (n : ℕ) × ((1 ≤ n) × (n ≤ MAX_STATIONS))). record { number = p.0; low = p.1.0; high = p.1.1 }) low
 
 same_limit : (x y : StationLimit) → x.count ≡ y.count → x ≡ y
-same_limit x y e = ap (λ (p : (n : ℕ) × (n ≤ 2007)). record { count = p.0; in_range = p.1 }) (Σ_prop_path {B = λ n. n ≤ 2007} (λ n. le_prop) {u = (x.count, x.in_range)} {v = (y.count, y.in_range)} e)
+same_limit x y e = ap (λ (p : (n : ℕ) × (n ≤ MAX_STATIONS)). record { count = p.0; in_range = p.1 }) (Σ_prop_path {B = λ n. n ≤ MAX_STATIONS} (λ n. le_prop) {u = (x.count, x.in_range)} {v = (y.count, y.in_range)} e)
 
 same_mode : (x y : AclMode) → mode_number x ≡ mode_number y → x ≡ y
 same_mode AcceptUnlessDenied AcceptUnlessDenied e = refl

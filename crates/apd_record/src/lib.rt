@@ -6,12 +6,10 @@ mod fields;
 pub mod known;
 pub mod laws;
 pub mod reader;
-#[cfg(test)]
-mod tests;
 pub mod writer;
 
 pub use change::Change;
 pub use known::known_changes;
 pub use laws::{no_record_begins_another, records_are_read_in_one_way};
 pub use reader::read_all;
-pub use writer::write;
+pub use writer::{total_length, write};

@@ -5,7 +5,6 @@ ghost use Rattle.apd_record.specs.Ranges.{AreChanges};
 ghost use Rattle.apd_record.specs.Record.{station_bytes, record_of, records_of};
 
 use crate::change::Change;
-use crate::known::known_changes;
 use apd_base::{Addr, Bssid, Station, Which};
 use std::alloc::{AllocError, Global};
 
@@ -38,12 +37,15 @@ impl Change {
     }
 }
 
-/// The number of bytes of the records of changes, or the greatest number where there are more.
-fn total_length(changes: &[Change]) -> usize
-    ensures { result ≡ min (length (records_of changes.now)) (2 ^ 64 - 1) }
+/// The number of bytes of the records of changes, or the greatest number where there are more. It looks at
+/// each change, so its caller also learns what is known of changes by their type.
+pub fn total_length(changes: &[Change]) -> usize
+    ensures total { result ≡ min (length (records_of changes.now)) (2 ^ 64 - 1) }
+    ensures known { AreChanges changes.now }
 {
     let mut total: usize = 0;
     for change in changes {
+        change.known();
         total = total.saturating_add(change.record_length());
     }
     total
@@ -132,7 +134,6 @@ pub fn write(alloc: Global, changes: &[Change]) -> Result<Vec<u8>, AllocError>
     ensures records { IfOk result (λ bytes. bytes.items ≡ records_of changes.now) }
     ensures known { AreChanges changes.now }
 {
-    known_changes(changes);
     let mut bytes = Vec::with_capacity(alloc, total_length(changes))?;
     for change in changes {
         write_record(&mut bytes, change)?;

@@ -1,5 +1,5 @@
 -- What the current half of an image shows, and what stays of it while a group is written behind its closed gate.
-use Rattle.std.proofs.Common.{◌≡◌, ◌≢◌, ◌≤◌, ◌<◌, ◌+◌, ◌⊎◌, inl, inr, ℕ, suc, List, [], ◌∷◌, ◌++◌, length, get_or, take, drop, refl, sym, ◌∙◌, ap, subst, arith, length-append, take-append-drop}
+use Rattle.std.proofs.Common.{◌≡◌, ◌≢◌, ◌≤◌, ◌<◌, ◌+◌, ◌⊎◌, inl, inr, ℕ, Bool, suc, List, [], ◌∷◌, ◌++◌, length, get_or, take, drop, refl, sym, ◌∙◌, ap, subst, arith, length-append, take-append-drop}
 use Rattle.std.proofs.lemmas.List.{append_assoc, take_at, take-take}
 use Rattle.std.proofs.Math.Seq.{drop-cons}
 use Rattle.apd_base.specs.State.{State, empty_state}
@@ -36,8 +36,8 @@ image_shows B reserved half other gate state p current = record {
   current = inr current;
 }
 
-pub found_shows : (image : List ℕ) (side : Half) (gate : ℕ) (state : State) → IsFound image side gate state → Shows image state
-found_shows image side gate state f = subst (λ (l : List ℕ). Shows l state) (sym f.is) (image_shows side f.reserved f.half f.other gate state f.parts f.current)
+pub found_shows : (image : List ℕ) (side : Half) (epoch gate : ℕ) (other_open : Bool) (state : State) → IsFound image side epoch gate other_open state → Shows image state
+found_shows image side epoch gate other_open state f = subst (λ (l : List ℕ). Shows l state) (sym f.is) (image_shows side f.reserved f.half f.other gate state f.parts f.current)
 
 pub same_parts : (reserved half h other : List ℕ) → AreParts reserved half other → length h ≡ length half → AreParts reserved h other
 same_parts reserved half h other p same = record { reserved_length = p.reserved_length; half_length = same ∙ p.half_length; other_length = p.other_length }
@@ -114,6 +114,10 @@ module _ (half other : List ℕ) (gate : ℕ) (state : State) (current : IsCurre
       };
       behind = current.behind;
     }
+
+    pub opened_epoch : opened_current.epoch ≡ current.epoch
+    unfolding opened_current
+    opened_epoch = refl
 
     -- a half whose gate byte alone is torn is the one with the gate open, or shows what it showed
     pub torn_gate : (h : List ℕ) → TornWithin gate 1 (laid half gate group) h → (get_or h gate 0 ≡ 1) ⊎ (get_or h gate 0 ≢ 1) → (h ≡ opened half gate group) ⊎ IsCurrent h other gate state

@@ -1,5 +1,5 @@
 -- The current half of a store's bytes.
-use Rattle.std.proofs.Common.{◌≡◌, ◌<◌, ◌↔◌, ◌^◌, ◌-◌, ◌⊎◌, inr, ⊎_elim, ℕ, IsTrue, nat_lt, true, List, ◌∷◌, ◌++◌, length, take, drop, refl, sym, ◌∙◌, ap, subst, arith, length-drop, take-append-drop}
+use Rattle.std.proofs.Common.{◌≡◌, ◌<◌, ◌↔◌, ◌^◌, ◌-◌, ◌⊎◌, inr, ⊎_elim, ℕ, Bool, IsTrue, nat_lt, true, List, ◌∷◌, ◌++◌, length, take, drop, refl, sym, ◌∙◌, ap, subst, arith, length-drop, take-append-drop}
 use Rattle.std.proofs.lemmas.List.{drop-drop, length-take-le, take_rest}
 use Rattle.std.specs.Prelude.{Result, Ok, Err, IfOk, OnErr}
 use Rattle.std.proofs.lemmas.Bool.{lt-ltb, ltb-true}
@@ -11,7 +11,7 @@ use Rattle.apd_table.specs.Sound.{StaySound}
 use Rattle.apd_journal.specs.Half.{HalfHolds}
 use Rattle.apd_journal.proofs.Once.{half_once}
 use Rattle.apd_journal.specs.declared.writer.TheConstants.{HALF_LENGTH}
-use Rattle.apd_store.specs.Image.{magic, IsStore, IsOpen, IsBehind, HalfShows, IsCurrent, ShowsNone, IsMarked}
+use Rattle.apd_store.specs.Image.{magic, HasOpenGate, IsStore, IsOpen, IsBehind, HalfShows, IsCurrent, ShowsNone, IsMarked}
 use Rattle.apd_store.specs.Layout.{IsFound}
 use Rattle.apd_store.specs.declared.half.Half.{Half}
 use Rattle.apd_store.specs.declared.half.Half.TheVariants.{A, B}
@@ -44,8 +44,8 @@ pub unsound : (half : List ℕ) (epoch place : ℕ) (changes : List Change) → 
 unsound half epoch place changes holds bad e gate state x =
     bad (subst (λ (l : List Change). StaySound l empty_state) (half_once half e epoch x.changes changes gate place x.holds holds).1 x.sound)
 
-pub shows : (half : List ℕ) (epoch place : ℕ) (changes : List Change) (state : State) → HalfHolds half epoch changes place → state ≡ meaning_of changes empty_state → StaySound changes empty_state → (e : ℕ) × HalfShows half e place state
-shows half epoch place changes state holds is sound = (epoch, record { changes = changes; holds = holds; sound = sound; state_is = sym is })
+pub shows : (half : List ℕ) (epoch place : ℕ) (changes : List Change) (state : State) → HalfHolds half epoch changes place → state ≡ meaning_of changes empty_state → StaySound changes empty_state → HalfShows half epoch place state
+shows half epoch place changes state holds is sound = record { changes = changes; holds = holds; sound = sound; state_is = sym is }
 
 -- ---- an image by its bytes
 
@@ -103,29 +103,33 @@ module _ (image : List ℕ) (marked : IsMarked image) where
   damaged_b current none = shows_none (not_behind half_b half_a current) (λ gate state x. none x.epoch gate state x.shows)
 
   -- it shows one
-  current_of : (half other : List ℕ) (gate : ℕ) (state : State) → HasCurrent half other → (epoch : ℕ) × HalfShows half epoch gate state → IsCurrent half other gate state
+  abbrev current_of : (half other : List ℕ) (gate : ℕ) (state : State) → HasCurrent half other → (epoch : ℕ) × HalfShows half epoch gate state → IsCurrent half other gate state
   current_of half other gate state current found =
       let same : current.0 ≡ found.0 = open_once half current.0 found.0 current.1 (holds_open half found.0 found.1.changes gate found.1.holds) in
       record { epoch = found.0; shows = found.1; behind = subst (IsBehind other) same current.2 }
 
-  pub found_a : (gate : ℕ) (state : State) → HasCurrent half_a half_b → (epoch : ℕ) × HalfShows half_a epoch gate state → IsFound image A gate state
-  found_a gate state current found = record {
+  pub found_a : (epoch gate : ℕ) (other_open : Bool) (state : State) → HasCurrent half_a half_b → HalfShows half_a epoch gate state → IsTrue other_open ↔ HasOpenGate half_b → IsFound image A epoch gate other_open state
+  found_a epoch gate other_open state current found opens = record {
     reserved = reserved;
     half = half_a;
     other = half_b;
     parts = record { reserved_length = reserved_length; half_length = a_length; other_length = b_length };
     is = image_is;
-    current = current_of half_a half_b gate state current found;
+    current = current_of half_a half_b gate state current (epoch, found);
+    epoch_is = refl;
+    gate_is = opens;
   }
 
-  pub found_b : (gate : ℕ) (state : State) → HasCurrent half_b half_a → (epoch : ℕ) × HalfShows half_b epoch gate state → IsFound image B gate state
-  found_b gate state current found = record {
+  pub found_b : (epoch gate : ℕ) (other_open : Bool) (state : State) → HasCurrent half_b half_a → HalfShows half_b epoch gate state → IsTrue other_open ↔ HasOpenGate half_a → IsFound image B epoch gate other_open state
+  found_b epoch gate other_open state current found opens = record {
     reserved = reserved;
     half = half_b;
     other = half_a;
     parts = record { reserved_length = reserved_length; half_length = b_length; other_length = a_length };
     is = image_is;
-    current = current_of half_b half_a gate state current found;
+    current = current_of half_b half_a gate state current (epoch, found);
+    epoch_is = refl;
+    gate_is = opens;
   }
 
   -- ---- what was read of the halves, as the code has them
@@ -133,19 +137,19 @@ module _ (image : List ℕ) (marked : IsMarked image) where
     at_halves : (P : List ℕ → List ℕ → Type 0) → P a b → P half_a half_b
     at_halves P p = subst (λ (l : List ℕ). P l half_b) a_is (subst (λ (l : List ℕ). P a l) b_is p)
 
-    ok_found_a : (r : Result Found StoreFault) → HasCurrent half_a half_b → IfOk r (λ f. f.half ≡ A) → IfOk r (λ f. (e : ℕ) × HalfShows half_a e f.gate f.table) → IfOk r (λ f. IsFound image f.half f.gate f.table)
-    ok_found_a (Ok f) current side shown = subst (λ (h : Half). IsFound image h f.gate f.table) (sym side) (found_a f.gate f.table current shown)
-    ok_found_a (Err e) current side shown = tt
+    ok_found_a : (r : Result Found StoreFault) → HasCurrent half_a half_b → IfOk r (λ f. f.half ≡ A) → IfOk r (λ f. HalfShows half_a f.epoch f.gate f.table) → IfOk r (λ f. IsTrue f.other_open ↔ HasOpenGate half_b) → IfOk r (λ f. IsFound image f.half f.epoch f.gate f.other_open f.table)
+    ok_found_a (Ok f) current side shown opens = subst (λ (h : Half). IsFound image h f.epoch f.gate f.other_open f.table) (sym side) (found_a f.epoch f.gate f.other_open f.table current shown opens)
+    ok_found_a (Err e) current side shown opens = tt
 
-    ok_found_b : (r : Result Found StoreFault) → HasCurrent half_b half_a → IfOk r (λ f. f.half ≡ B) → IfOk r (λ f. (e : ℕ) × HalfShows half_b e f.gate f.table) → IfOk r (λ f. IsFound image f.half f.gate f.table)
-    ok_found_b (Ok f) current side shown = subst (λ (h : Half). IsFound image h f.gate f.table) (sym side) (found_b f.gate f.table current shown)
-    ok_found_b (Err e) current side shown = tt
+    ok_found_b : (r : Result Found StoreFault) → HasCurrent half_b half_a → IfOk r (λ f. f.half ≡ B) → IfOk r (λ f. HalfShows half_b f.epoch f.gate f.table) → IfOk r (λ f. IsTrue f.other_open ↔ HasOpenGate half_a) → IfOk r (λ f. IsFound image f.half f.epoch f.gate f.other_open f.table)
+    ok_found_b (Ok f) current side shown opens = subst (λ (h : Half). IsFound image h f.epoch f.gate f.other_open f.table) (sym side) (found_b f.epoch f.gate f.other_open f.table current shown opens)
+    ok_found_b (Err e) current side shown opens = tt
 
-    pub read_a : HasCurrent a b → IfOk r (λ f. f.half ≡ A) → IfOk r (λ f. (e : ℕ) × HalfShows a e f.gate f.table) → IfOk r (λ f. IsFound image f.half f.gate f.table)
-    read_a current side shown = ok_found_a r (at_halves HasCurrent current) side (subst (λ (l : List ℕ). IfOk r (λ f. (e : ℕ) × HalfShows l e f.gate f.table)) a_is shown)
+    pub read_a : HasCurrent a b → IfOk r (λ f. f.half ≡ A) → IfOk r (λ f. HalfShows a f.epoch f.gate f.table) → IfOk r (λ f. IsTrue f.other_open ↔ HasOpenGate b) → IfOk r (λ f. IsFound image f.half f.epoch f.gate f.other_open f.table)
+    read_a current side shown opens = ok_found_a r (at_halves HasCurrent current) side (subst (λ (l : List ℕ). IfOk r (λ f. HalfShows l f.epoch f.gate f.table)) a_is shown) (subst (λ (l : List ℕ). IfOk r (λ f. IsTrue f.other_open ↔ HasOpenGate l)) b_is opens)
 
-    pub read_b : HasCurrent b a → IfOk r (λ f. f.half ≡ B) → IfOk r (λ f. (e : ℕ) × HalfShows b e f.gate f.table) → IfOk r (λ f. IsFound image f.half f.gate f.table)
-    read_b current side shown = ok_found_b r (at_halves (λ (x y : List ℕ). HasCurrent y x) current) side (subst (λ (l : List ℕ). IfOk r (λ f. (e : ℕ) × HalfShows l e f.gate f.table)) b_is shown)
+    pub read_b : HasCurrent b a → IfOk r (λ f. f.half ≡ B) → IfOk r (λ f. HalfShows b f.epoch f.gate f.table) → IfOk r (λ f. IsTrue f.other_open ↔ HasOpenGate a) → IfOk r (λ f. IsFound image f.half f.epoch f.gate f.other_open f.table)
+    read_b current side shown opens = ok_found_b r (at_halves (λ (x y : List ℕ). HasCurrent y x) current) side (subst (λ (l : List ℕ). IfOk r (λ f. HalfShows l f.epoch f.gate f.table)) b_is shown) (subst (λ (l : List ℕ). IfOk r (λ f. IsTrue f.other_open ↔ HasOpenGate l)) a_is opens)
 
     pub damaged_first : HasCurrent a b → HoldsNone a → ShowsNone image
     damaged_first current none = damaged_a (at_halves HasCurrent current) (subst HoldsNone a_is none)

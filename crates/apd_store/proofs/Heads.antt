@@ -1,6 +1,7 @@
 -- What a stop may leave of a device that is being formatted.
-use Rattle.std.proofs.Common.{◌≡◌, ◌≢◌, ◌≤◌, ◌+◌, ℕ, List, [], ◌∷◌, ◌++◌, length, take, drop, refl, sym, ◌∙◌, ap, subst, arith, take-append-drop}
+use Rattle.std.proofs.Common.{◌≡◌, ◌≢◌, ◌≤◌, ◌+◌, ℕ, false, List, [], ◌∷◌, ◌++◌, length, get_or, take, drop, refl, sym, ◌∙◌, ap, subst, arith, take-append-drop}
 use Rattle.std.proofs.lemmas.List.{take_at, drop_at, take-take, drop-take, drop-drop, append_assoc, length-take-le}
+use Rattle.std.proofs.lemmas.Bool.{false≢true}
 use Rattle.std.specs.Prelude.{Result, Ok, Err, OnOk}
 use Rattle.std.specs.Int.{to_le_bytes, w64}
 use Rattle.apd_base.specs.declared.limits.TheConstants.{DEVICE_LENGTH}
@@ -11,7 +12,7 @@ use Rattle.apd_disk.specs.MemLaws.{torn_overwritten}
 use Rattle.apd_journal.specs.Half.{HalfHolds, block_of}
 use Rattle.apd_journal.specs.declared.writer.TheConstants.{HALF_LENGTH}
 use Rattle.apd_journal.proofs.Growth.{new_front, front_holds}
-use Rattle.apd_store.specs.Image.{magic, IsBehind, HalfShows, Shows, IsMarked}
+use Rattle.apd_store.specs.Image.{magic, HasOpenGate, IsBehind, HalfShows, Shows, IsMarked}
 use Rattle.apd_store.specs.Layout.{head_a, head_b, HasHeads, IsFound}
 use Rattle.apd_store.specs.declared.half.Half.TheVariants.{A}
 use Rattle.apd_store.proofs.Current.{found_shows}
@@ -76,12 +77,23 @@ module _ (image : List ℕ) (marked : IsMarked image) (heads : HasHeads image) w
   b_behind : (epoch : ℕ) → IsBehind (drop HALF_LENGTH (drop 64 image)) epoch
   b_behind epoch = closed_behind (drop HALF_LENGTH (drop 64 image)) epoch (ap (λ (l : List ℕ). take 13 l) (drop-drop HALF_LENGTH 64 image) ∙ heads.b)
 
+  zero_one : (n m : ℕ) → n ≡ 0 → m ≡ 1 → n ≢ m
+  zero_one n m zero one e = absurd (omega (arith, zero, one, e))
+
+  -- half B is closed
+  b_closed : ¬ HasOpenGate (drop HALF_LENGTH (drop 64 image))
+  b_closed is =
+      let zero_first : take 1 (drop HALF_LENGTH (drop 64 image)) ≡ 0 ∷ [] =
+      sym (take-take 1 13 (drop HALF_LENGTH (drop 64 image)) (omega arith)) ∙ ap (λ (l : List ℕ). take 1 l) (ap (λ (l : List ℕ). take 13 l) (drop-drop HALF_LENGTH 64 image) ∙ heads.b) in
+      let first : List ℕ → ℕ = λ l. get_or l 0 0 in
+      absurd (zero_one 0 1 refl refl (ap first (sym zero_first ∙ is)))
+
   -- a marked image with both heads shows the empty state
-  pub heads_found : IsFound image A 13 empty_state
-  heads_found = found_a image marked 13 empty_state (1, holds_open (take HALF_LENGTH (drop 64 image)) 1 a_shows.changes 13 a_shows.holds, b_behind 1) (1, a_shows)
+  pub heads_found : IsFound image A 1 13 false empty_state
+  heads_found = found_a image marked 1 13 false empty_state (1, holds_open (take HALF_LENGTH (drop 64 image)) 1 a_shows.changes 13 a_shows.holds, b_behind 1) a_shows (λ t. absurd (false≢true t), λ is. absurd (b_closed is))
 
   pub heads_show : Shows image empty_state
-  heads_show = found_shows image A 13 empty_state heads_found
+  heads_show = found_shows image A 1 13 false empty_state heads_found
 
 -- the heads stand while the magic is written
 heads_stay : (image c : List ℕ) → HasHeads image → TornWithin 0 8 image c → HasHeads c
@@ -98,7 +110,7 @@ mark_images image old during heads only follows c left marked =
     let from = follows c left in
     heads_show c marked (heads_stay image c heads (subst (λ (l : List ℕ). TornWithin 0 8 l c) (only from.0 from.1) from.2))
 
-pub mark_found : (image after : List ℕ) → HasHeads image → after ≡ overwritten image 0 magic → IsFound after A 13 empty_state
+pub mark_found : (image after : List ℕ) → HasHeads image → after ≡ overwritten image 0 magic → IsFound after A 1 13 false empty_state
 mark_found image after heads is =
     let torn : TornWithin 0 8 image after = subst (λ (l : List ℕ). TornWithin 0 8 image l) (sym is) (torn_overwritten image 0 magic (omega (arith, heads.size))) in
     let stays = heads_stay image after heads torn in

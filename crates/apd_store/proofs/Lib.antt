@@ -1,7 +1,9 @@
+mod Calls
 mod Current
 mod Found
 mod Heads
 mod Parts
 mod Replayed
 mod Steps
+mod SwitchSteps
 mod Unique

@@ -1,31 +1,28 @@
 -- What a stop within each call of a batch shows.
-use Rattle.std.proofs.Common.{◌≡◌, ◌≢◌, ◌≤◌, ◌<◌, ◌+◌, inl, inr, ⊎_elim, ℕ, Bool, IsTrue, List, [], ◌∷◌, length, get_or, refl, sym, ◌∙◌, ap, subst, arith}
-use Rattle.std.specs.Prelude.{◌↔◌, Result, Ok, Err, OnOk, IfOk, IsOk, MatchResult}
+use Rattle.std.proofs.Common.{◌≡◌, ◌≤◌, ◌+◌, ◌-◌, inl, inr, ⊎_elim, ℕ, Bool, List, [], ◌∷◌, length, get_or, refl, sym, ◌∙◌, ap, subst, arith}
 use Rattle.std.proofs.lemmas.Bool.{cases_eq}
 use Rattle.apd_base.specs.State.{State}
 use Rattle.apd_record.specs.Record.{records_of}
 use Rattle.apd_record.specs.declared.change.Change.{Change}
+use Rattle.apd_journal.specs.declared.writer.TheConstants.{HALF_LENGTH}
 use Rattle.apd_disk.specs.Disk.{overwritten, TornWithin, Only, Follows}
 use Rattle.apd_journal.specs.Half.{planned_bytes}
-use Rattle.apd_disk.specs.declared.fault.DiskFault.{DiskFault}
 use Rattle.apd_store.specs.Image.{IsCurrent, Shows}
-use Rattle.apd_store.specs.Layout.{start_of, image_of, AreParts, IsFound}
-use Rattle.apd_store.specs.Phases.{made}
-use Rattle.apd_store.specs.Commit.{laid, opened, AreTorn, AtPhase, IsIdle, IsCommitting, MayShow}
-use Rattle.apd_store.specs.declared.fault.StoreFault.{StoreFault}
-use Rattle.apd_store.specs.declared.fault.StoreFault.TheVariants.{Device}
+use Rattle.apd_store.specs.Layout.{start_of, image_of, AreParts, AreTorn, IsFound}
+use Rattle.apd_store.specs.Phases.{calls_from}
+use Rattle.apd_store.specs.Commit.{laid, opened, AtPhase, IsIdle, IsWriting, MayShow}
 use Rattle.apd_store.specs.declared.half.Half.{Half}
 use Rattle.apd_journal.proofs.Growth.{length-planned}
 use Rattle.apd_store.specs.declared.phase.Phase.{Phase}
-use Rattle.apd_store.specs.declared.phase.Phase.TheVariants.{Idle, WriteGroup, SyncGroup, OpenGate, SyncGate, Done, Failed}
+use Rattle.apd_store.specs.declared.phase.Phase.TheVariants.{Idle, CloseOther, SyncClosed, WriteHalf, SyncHalf, OpenHalf, SyncOpened, WriteGroup, SyncGroup, OpenGate, SyncGate, Done, Failed}
 use Rattle.apd_store.specs.declared.store.Store.{Store}
 use Rattle.apd_store.proofs.Parts.{written_in_half, torn_in_half}
-use Rattle.apd_store.proofs.Current.{image_shows, found_shows, same_parts, current_behind, laid_fits, laid_length, laid_current, opened_length, opened_current, torn_gate, gate_before_end}
+use Rattle.apd_store.proofs.Current.{image_shows, found_shows, same_parts, current_behind, laid_fits, laid_length, laid_current, opened_length, opened_current, opened_epoch, torn_gate, gate_before_end}
 
 pub idle_shows : {D : Type 0} (reads : D → List ℕ) (may_leave : D → List ℕ → Type 0) (store : Store D) (state : State) → IsIdle reads may_leave store state → (c : List ℕ) → may_leave store.device c → Shows c state
-idle_shows reads may_leave store state s c left = subst (λ (l : List ℕ). Shows l state) (sym (s.durable c left)) (found_shows (reads store.device) store.half store.gate state s.found)
+idle_shows reads may_leave store state s c left = subst (λ (l : List ℕ). Shows l state) (sym (s.durable c left)) (found_shows (reads store.device) store.half store.epoch store.gate store.other_open state s.found)
 
-module _ {D : Type 0} (reads : D → List ℕ) (may_leave : D → List ℕ → Type 0) (store : Store D) (state after : State) (s : IsCommitting reads may_leave store state after) where
+module _ {D : Type 0} (reads : D → List ℕ) (may_leave : D → List ℕ → Type 0) (store : Store D) (state after : State) (s : IsWriting reads may_leave store state after) where
   abbrev group : List Change
   group = store.batch.changes
 
@@ -52,7 +49,7 @@ module _ {D : Type 0} (reads : D → List ℕ) (may_leave : D → List ℕ → T
   opened_shows : Shows (image_of store.half s.reserved (opened s.half store.gate group) s.other) after
   opened_shows = shows_half (opened s.half store.gate group) (store.gate + 5 + length (records_of group)) after (opened_length s.half s.other store.gate state s.current group after s.group s.sound s.after_is room) (opened_current s.half s.other store.gate state s.current group after s.group s.sound s.after_is room)
 
-  torn_gate_shows : (calls : ℕ) → 2 ≤ calls → (h : List ℕ) → TornWithin store.gate 1 (laid s.half store.gate group) h → MayShow calls state after (image_of store.half s.reserved h s.other)
+  torn_gate_shows : (calls : ℕ) → calls ≤ 2 → (h : List ℕ) → TornWithin store.gate 1 (laid s.half store.gate group) h → MayShow calls state after (image_of store.half s.reserved h s.other)
   torn_gate_shows calls late h torn = ⊎_elim
       (λ is. inr (late, subst (λ (l : List ℕ). Shows (image_of store.half s.reserved l s.other) after) (sym is) opened_shows))
       (λ current. inl (shows_half h store.gate state (torn.same_length ∙ laid_length s.half s.other store.gate state s.current group after s.group s.sound s.after_is room) current))
@@ -90,7 +87,7 @@ module _ {D : Type 0} (reads : D → List ℕ) (may_leave : D → List ℕ → T
         written ∙ (λ i. overwritten ((at_phase WriteGroup is).0 i) (place_is i) (planned i))
         ∙ written_in_half s.reserved s.half s.other s.parts (store.gate + 1) (length (planned_bytes group)) group_fits store.half (planned_bytes group) refl
 
-    pub during_write : store.phase ≡ WriteGroup → (during : List ℕ → Type 0) → Follows (TornWithin at (length bytes)) (may_leave store.device) during → (c : List ℕ) → during c → MayShow (made store.phase) state after c
+    pub during_write : store.phase ≡ WriteGroup → (during : List ℕ → Type 0) → Follows (TornWithin at (length bytes)) (may_leave store.device) during → (c : List ℕ) → during c → MayShow (calls_from store.phase) state after c
     during_write is during follows c left =
         let found = write_images is during follows c left in
         inl (subst (λ (l : List ℕ). Shows l state) (sym found.2) (torn_group_shows found.0 found.1))
@@ -115,49 +112,63 @@ module _ {D : Type 0} (reads : D → List ℕ) (may_leave : D → List ℕ → T
         written ∙ (λ i. overwritten ((at_phase OpenGate is).0 i) (at_is i) (1 ∷ []))
         ∙ written_in_half s.reserved (laid s.half store.gate group) s.other laid_parts store.gate 1 gate_fits store.half (1 ∷ []) refl
 
-    pub during_gate : store.phase ≡ OpenGate → (during : List ℕ → Type 0) → Follows (TornWithin at 1) (may_leave store.device) during → (c : List ℕ) → during c → MayShow (made store.phase) state after c
+    pub during_gate : store.phase ≡ OpenGate → (during : List ℕ → Type 0) → Follows (TornWithin at 1) (may_leave store.device) during → (c : List ℕ) → during c → MayShow (calls_from store.phase) state after c
     during_gate is during follows c left =
         let found = gate_images is during follows c left in
-        subst (MayShow (made store.phase) state after) (sym found.2) (torn_gate_shows (made store.phase) (subst (λ (p : Phase). 2 ≤ made p) (sym is) (omega arith)) found.0 found.1)
+        subst (MayShow (calls_from store.phase) state after) (sym found.2) (torn_gate_shows (calls_from store.phase) (subst (λ (p : Phase). calls_from p ≤ 2) (sym is) (omega arith)) found.0 found.1)
 
-  -- what a stop now shows, when this call is next and the third one was not made
-  before_third_at : (phase : Phase) → AtPhase phase store.half s.reserved s.half s.other store.gate store.batch.changes (reads store.device) (may_leave store.device) → made phase < 3 → (c : List ℕ) → may_leave store.device c → Shows c state
-  before_third_at WriteGroup (is, only) early c left = subst (λ (l : List ℕ). Shows l state) (sym (only c left ∙ is)) (shows_half s.half store.gate state refl s.current)
-  before_third_at SyncGroup (is, torn) early c left = let found = torn c left in subst (λ (l : List ℕ). Shows l state) (sym found.2) (torn_group_shows found.0 found.1)
-  before_third_at OpenGate (is, only) early c left = subst (λ (l : List ℕ). Shows l state) (sym (only c left ∙ is)) laid_shows
-  before_third_at SyncGate at early c left = absurd (omega (arith, early))
-  before_third_at Done at early c left = absurd (omega (arith, early))
-  before_third_at Idle at early c left = absurd at
-  before_third_at Failed at early c left = absurd at
+  -- what a stop now shows, when this call is next and the gate was not written
+  before_gate_at : (phase : Phase) → AtPhase phase store.half s.reserved s.half s.other store.gate store.batch.changes (reads store.device) (may_leave store.device) → 2 ≤ calls_from phase → (c : List ℕ) → may_leave store.device c → Shows c state
+  before_gate_at WriteGroup (is, only) early c left = subst (λ (l : List ℕ). Shows l state) (sym (only c left ∙ is)) (shows_half s.half store.gate state refl s.current)
+  before_gate_at SyncGroup (is, torn) early c left = let found = torn c left in subst (λ (l : List ℕ). Shows l state) (sym found.2) (torn_group_shows found.0 found.1)
+  before_gate_at OpenGate (is, only) early c left = subst (λ (l : List ℕ). Shows l state) (sym (only c left ∙ is)) laid_shows
+  before_gate_at SyncGate at early c left = absurd (omega (arith, early))
+  before_gate_at Done at early c left = absurd (omega (arith, early))
+  before_gate_at Idle at early c left = absurd at
+  before_gate_at CloseOther at early c left = absurd at
+  before_gate_at SyncClosed at early c left = absurd at
+  before_gate_at WriteHalf at early c left = absurd at
+  before_gate_at SyncHalf at early c left = absurd at
+  before_gate_at OpenHalf at early c left = absurd at
+  before_gate_at SyncOpened at early c left = absurd at
+  before_gate_at Failed at early c left = absurd at
 
   -- what a stop now shows, when this call is next
-  shows_at : (phase : Phase) → AtPhase phase store.half s.reserved s.half s.other store.gate store.batch.changes (reads store.device) (may_leave store.device) → (c : List ℕ) → may_leave store.device c → MayShow (made phase) state after c
-  shows_at WriteGroup at c left = inl (before_third_at WriteGroup at (omega arith) c left)
-  shows_at SyncGroup at c left = inl (before_third_at SyncGroup at (omega arith) c left)
-  shows_at OpenGate at c left = inl (before_third_at OpenGate at (omega arith) c left)
-  shows_at SyncGate (is, torn) c left = let found = torn c left in subst (MayShow 3 state after) (sym found.2) (torn_gate_shows 3 (omega arith) found.0 found.1)
+  shows_at : (phase : Phase) → AtPhase phase store.half s.reserved s.half s.other store.gate store.batch.changes (reads store.device) (may_leave store.device) → (c : List ℕ) → may_leave store.device c → MayShow (calls_from phase) state after c
+  shows_at WriteGroup at c left = inl (before_gate_at WriteGroup at (omega arith) c left)
+  shows_at SyncGroup at c left = inl (before_gate_at SyncGroup at (omega arith) c left)
+  shows_at OpenGate at c left = inl (before_gate_at OpenGate at (omega arith) c left)
+  shows_at SyncGate (is, torn) c left = let found = torn c left in subst (MayShow 1 state after) (sym found.2) (torn_gate_shows 1 (omega arith) found.0 found.1)
   shows_at Done (is, only) c left = inr (omega arith, subst (λ (l : List ℕ). Shows l after) (sym (only c left ∙ is)) opened_shows)
   shows_at Idle at c left = absurd at
+  shows_at CloseOther at c left = absurd at
+  shows_at SyncClosed at c left = absurd at
+  shows_at WriteHalf at c left = absurd at
+  shows_at SyncHalf at c left = absurd at
+  shows_at OpenHalf at c left = absurd at
+  shows_at SyncOpened at c left = absurd at
   shows_at Failed at c left = absurd at
 
-  pub now_shows : (c : List ℕ) → may_leave store.device c → MayShow (made store.phase) state after c
+  pub now_shows : (c : List ℕ) → may_leave store.device c → MayShow (calls_from store.phase) state after c
   now_shows c left = shows_at store.phase s.at c left
 
-  pub before_third : made store.phase < 3 → (c : List ℕ) → may_leave store.device c → Shows c state
-  before_third early c left = before_third_at store.phase s.at early c left
+  pub before_gate : 2 ≤ calls_from store.phase → (c : List ℕ) → may_leave store.device c → Shows c state
+  before_gate early c left = before_gate_at store.phase s.at early c left
 
   pub done_shows : store.phase ≡ Done → (c : List ℕ) → may_leave store.device c → Shows c after
   done_shows is c left = subst (λ (l : List ℕ). Shows l after) (sym ((at_phase Done is).1 c left ∙ (at_phase Done is).0)) opened_shows
 
   -- the batch goes on, over another device in another phase
   pub moves : (device : D) (phase : Phase) → AtPhase phase store.half s.reserved s.half s.other store.gate store.batch.changes (reads device) (may_leave device)
-      → IsCommitting reads may_leave (record store { device = device; phase = phase }) state after
+      → IsWriting reads may_leave (record store { device = device; phase = phase }) state after
   moves device phase at = record {
     reserved = s.reserved;
     half = s.half;
     other = s.other;
     parts = s.parts;
     current = s.current;
+    epoch_is = s.epoch_is;
+    gate_is = s.gate_is;
     group = s.group;
     sound = s.sound;
     after_is = s.after_is;
@@ -167,37 +178,33 @@ module _ {D : Type 0} (reads : D → List ℕ) (may_leave : D → List ℕ → T
     at = at;
   }
 
+  -- the half with the group opened, its gate at this place
+  opened_at : (gate : ℕ) → store.gate + 5 + length (records_of group) ≡ gate → (current : IsCurrent (opened s.half store.gate group) s.other gate after) × (current.epoch ≡ store.epoch)
+  opened_at gate is = subst (λ (n : ℕ). (current : IsCurrent (opened s.half store.gate group) s.other n after) × (current.epoch ≡ store.epoch)) is
+      (opened_current s.half s.other store.gate state s.current group after s.group s.sound s.after_is room, opened_epoch s.half s.other store.gate state s.current group after s.group s.sound s.after_is room ∙ s.epoch_is)
+
   -- the receipt is taken
-  pub settles : (now : Store D) → store.phase ≡ Done → now.device ≡ store.device → now.half ≡ store.half → now.gate ≡ store.gate + length store.plan.bytes → now.phase ≡ Idle → IsIdle reads may_leave now after
-  settles now is device half gate phase =
+  pub settles : (now : Store D) → store.phase ≡ Done → now.device ≡ store.device → now.half ≡ store.half → now.epoch ≡ store.epoch → now.other_open ≡ store.other_open
+      → (store.plan.place + length store.plan.bytes ≤ HALF_LENGTH → now.gate ≡ store.plan.place + length store.plan.bytes - 1) → now.phase ≡ Idle → IsIdle reads may_leave now after
+  settles now is device half epoch other gate phase =
       let here = at_phase Done is in
-      let longer : store.gate + 5 + length (records_of group) ≡ now.gate = omega (arith, gate, ap length s.bytes, length-planned group) in
-      let found : IsFound (reads store.device) store.half now.gate after = record {
+      let reaches : store.plan.place + length store.plan.bytes ≤ HALF_LENGTH = omega (arith, s.place, ap length s.bytes, length-planned group, s.room) in
+      let longer : store.gate + 5 + length (records_of group) ≡ now.gate = omega (arith, gate reaches, s.place, ap length s.bytes, length-planned group, s.room) in
+      let found : IsFound (reads store.device) store.half store.epoch now.gate store.other_open after = record {
         reserved = s.reserved;
         half = opened s.half store.gate group;
         other = s.other;
         parts = same_parts s.reserved s.half (opened s.half store.gate group) s.other s.parts (opened_length s.half s.other store.gate state s.current group after s.group s.sound s.after_is room);
         is = here.0;
-        current = subst (λ (n : ℕ). IsCurrent (opened s.half store.gate group) s.other n after) longer (opened_current s.half s.other store.gate state s.current group after s.group s.sound s.after_is room);
+        current = (opened_at now.gate longer).0;
+        epoch_is = (opened_at now.gate longer).1;
+        gate_is = s.gate_is;
       } in
       record {
-        found = subst (λ (h : Half). IsFound (reads now.device) h now.gate after) (sym half) (subst (λ (d : D). IsFound (reads d) store.half now.gate after) (sym device) found);
+        found = subst (λ (b : Bool). IsFound (reads now.device) now.half now.epoch now.gate b after) (sym other)
+            (subst (λ (e : ℕ). IsFound (reads now.device) now.half e now.gate store.other_open after) (sym epoch)
+            (subst (λ (h : Half). IsFound (reads now.device) h store.epoch now.gate store.other_open after) (sym half)
+            (subst (λ (d : D). IsFound (reads d) store.half store.epoch now.gate store.other_open after) (sym device) found)));
         durable = subst (λ (d : D). Only (reads d) (may_leave d)) (sym device) here.1;
         phase = phase;
       }
-
--- what `moved` ensures
-abbrev pub Moved : Result (Unit {0}) DiskFault → Phase → Phase → Result Bool StoreFault → Type 0
-Moved done next phase result = MatchResult done (λ _. (phase ≡ next) × IfOk result (λ more. IsTrue more ↔ (next ≢ Done)) × IsOk result) (λ _. (phase ≡ Failed) × (result ≡ Err Device))
-
-on_ok : (result : Result Bool StoreFault) (Q : Type 0) → Q → OnOk result Q
-on_ok (Ok b) Q q = q
-on_ok (Err e) Q q = tt
-
-pub moved_on : (done : Result (Unit {0}) DiskFault) (next phase : Phase) (result : Result Bool StoreFault) (A : Type 0) (P : Phase → Type 0) → Moved done next phase result → OnOk done A → (A → P next) → OnOk result (P phase)
-moved_on (Ok u) next phase result A P moved a go = on_ok result (P phase) (subst P (sym moved.0) (go a))
-moved_on (Err e) next phase result A P moved a go = subst (λ (r : Result Bool StoreFault). OnOk r (P phase)) (sym moved.1) tt
-
-pub both : (done : Result (Unit {0}) DiskFault) (A B : Type 0) → OnOk done A → OnOk done B → OnOk done (A × B)
-both (Ok u) A B a b = (a, b)
-both (Err e) A B a b = tt

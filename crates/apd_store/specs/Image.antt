@@ -21,6 +21,10 @@ pub record IsStore (image a b : List ℕ) : Type 0 where
   pub a_length : length a ≡ HALF_LENGTH
   pub b_length : length b ≡ HALF_LENGTH
 
+-- the half's gate is open
+abbrev pub HasOpenGate : List ℕ → Type 0
+HasOpenGate half = take 1 half ≡ 1 ∷ []
+
 -- the half is open, and has this epoch
 pub record IsOpen (half : List ℕ) (epoch : ℕ) : Type 0 where
   pub behind : List ℕ

@@ -1,9 +1,10 @@
 -- An image by its current half.
-use Rattle.std.specs.Prelude.{◌≡◌, ℕ, List, [], ◌∷◌, ◌++◌, length, take, drop}
+use Rattle.std.specs.Prelude.{◌≡◌, ◌↔◌, ℕ, Bool, IsTrue, List, [], ◌∷◌, ◌++◌, length, take, drop}
 use Rattle.apd_base.specs.declared.limits.TheConstants.{DEVICE_LENGTH}
 use Rattle.apd_base.specs.State.{State}
 use Rattle.apd_journal.specs.declared.writer.TheConstants.{HALF_LENGTH}
-use Rattle.apd_store.specs.Image.{magic, IsCurrent}
+use Rattle.apd_disk.specs.Disk.{TornWithin}
+use Rattle.apd_store.specs.Image.{magic, HasOpenGate, IsCurrent}
 use Rattle.apd_store.specs.declared.half.Half.{Half}
 use Rattle.apd_store.specs.declared.half.Half.TheVariants.{A, B}
 
@@ -23,14 +24,26 @@ pub record AreParts (reserved half other : List ℕ) : Type 0 where
   pub half_length : length half ≡ HALF_LENGTH
   pub other_length : length other ≡ HALF_LENGTH
 
--- the half on this side is the current one, and shows the state up to its closed gate at this place
-pub record IsFound (image : List ℕ) (side : Half) (gate : ℕ) (state : State) : Type 0 where
+-- the other half's side
+abbrev pub opposite : Half → Half
+opposite A = B
+opposite B = A
+
+-- each image has this half torn in a range, and nothing else
+abbrev pub AreTorn : Half → List ℕ → List ℕ → List ℕ → ℕ → ℕ → (List ℕ → Type 0) → Type 0
+AreTorn side reserved half other place n images = (c : List ℕ) → images c → (h : List ℕ) × TornWithin place n half h × (c ≡ image_of side reserved h other)
+
+-- The half on this side is the current one, with this epoch, and shows the state up to its closed gate at this
+-- place; and whether the other half's gate is open.
+pub record IsFound (image : List ℕ) (side : Half) (epoch gate : ℕ) (other_open : Bool) (state : State) : Type 0 where
   pub reserved : List ℕ
   pub half : List ℕ
   pub other : List ℕ
   pub parts : AreParts reserved half other
   pub is : image ≡ image_of side reserved half other
   pub current : IsCurrent half other gate state
+  pub epoch_is : current.epoch ≡ epoch
+  pub gate_is : IsTrue other_open ↔ HasOpenGate other
 
 -- half A of a new store: open, epoch 1, an empty snapshot and a closed gate
 abbrev pub head_a : List ℕ

@@ -3,3 +3,4 @@ pub mod Image
 pub mod Layout
 pub mod Outside
 pub mod Phases
+pub mod Switch

@@ -1,5 +1,7 @@
 -- What is seen of a store and of a receipt from outside.
+use Rattle.std.specs.Prelude.{ℕ, Bool}
 use Rattle.apd_journal.specs.declared.batch.Batch.{Batch}
+use Rattle.apd_store.specs.Phases.{calls_from}
 use Rattle.apd_store.specs.declared.phase.Phase.{Phase}
 use Rattle.apd_store.specs.declared.store.Receipt.{Receipt}
 use Rattle.apd_store.specs.declared.store.Store.{Store}
@@ -10,6 +12,17 @@ device_of store = store.device
 -- what the store does next
 abbrev pub phase_of : {D : Type 0} → Store D → Phase
 phase_of store = store.phase
+
+-- how many calls of the batch are left
+abbrev pub calls_left : {D : Type 0} → Store D → ℕ
+calls_left store = calls_from store.phase
+
+-- the epoch of the current half, and whether the other half's gate is open
+abbrev pub epoch_of : {D : Type 0} → Store D → ℕ
+epoch_of store = store.epoch
+
+abbrev pub is_other_open : {D : Type 0} → Store D → Bool
+is_other_open store = store.other_open
 
 -- the batch that is under way
 abbrev pub batch_of : {D : Type 0} → Store D → Batch

@@ -1,31 +1,30 @@
 //! Why a store refuses.
 ghost use Rattle.std.specs.Prelude.{◌≡◌};
-ghost use Rattle.apd_store.specs.declared.fault.StoreFault.TheVariants.{NoMemory};
+ghost use Rattle.apd_store.specs.declared.fault.StoreFault.TheVariants.{Device, NoMemory};
 
+use apd_disk::DiskFault;
 use std::alloc::AllocError;
 use thiserror::Error;
 
-/// Why a call of a store is refused.
+/// Why a call of a store is refused. From `NotAStore` to `BadBatch` they have the numbers 1 to 8, but for
+/// 5, which stays unused.
 #[derive(Clone, Copy, Debug, PartialEq, Eq, Error)]
 pub enum StoreFault {
     /// The device has another length than a store's, or doesn't begin with its magic.
     #[error("not a store")]
-    NotAStore,
+    NotAStore = 1,
     /// It is a store that shows no state.
     #[error("damaged store")]
     Damaged,
     /// The device failed in this call.
     #[error("device fault")]
     Device,
-    /// The device failed in an earlier call: the store has to be recovered anew.
+    /// The device failed in an earlier call, or the store does not lie inside it: the store has to be recovered anew.
     #[error("store has failed")]
     Failed,
-    /// The batch's group does not fit behind the closed gate.
-    #[error("store is full")]
-    Full,
     /// A switch to the other half is needed, and the epoch is the greatest.
     #[error("store is worn out")]
-    Worn,
+    Worn = 6,
     /// A batch is begun and its receipt not taken.
     #[error("a batch is in flight")]
     NotIdle,
@@ -42,5 +41,13 @@ impl From<AllocError> for StoreFault {
 
     fn from(_: AllocError) -> Self {
         StoreFault::NoMemory
+    }
+}
+
+impl From<DiskFault> for StoreFault {
+    ghost from_gives = { λ _ e. e ≡ Device };
+
+    fn from(_: DiskFault) -> Self {
+        StoreFault::Device
     }
 }

@@ -1,8 +1,9 @@
 //! Formatting: no magic stands while the heads of the halves are written.
-ghost use Rattle.std.specs.Prelude.{◌≡◌, ◌≢◌, ◌≤◌, ◌+◌, ◌↔◌, ◌⊎◌, ℕ, List, take, OnOk, IfOk, IfErr};
+ghost use Rattle.std.specs.Prelude.{◌≡◌, ◌≢◌, ◌≤◌, ◌+◌, ◌↔◌, ◌⊎◌, ℕ, List, false, take, OnOk, IfOk, IfErr};
 ghost use Rattle.apd_base.specs.declared.limits.TheConstants.{DEVICE_LENGTH};
+ghost use Rattle.apd_base.specs.Failures.{HasRisen};
 ghost use Rattle.apd_base.specs.State.{empty_state};
-ghost use Rattle.apd_disk.specs.Disk.{Only, Counts, Rises, LeavesOnly};
+ghost use Rattle.apd_disk.specs.Disk.{Only, Counts, LeavesOnly};
 ghost use Rattle.apd_store.specs.Image.{magic, Shows, IsMarked, MayBeMade};
 ghost use Rattle.apd_store.specs.Layout.{HasHeads, IsFound};
 ghost use Rattle.apd_store.specs.Commit.{IsIdle, IsInside};
@@ -71,7 +72,7 @@ fn mark<D: Disk>(device: &mut D) -> Result<(), DiskFault>
     ensures any_moment { D.honest device.old → HasHeads (D.reads device.old) → Only (D.reads device.old) (D.may_leave device.old)
         → LeavesOnly D.moment D.left_since device.old device.new (λ c. IsMarked c → Shows c empty_state) }
     ensures found { D.honest device.old → HasHeads (D.reads device.old) → Only (D.reads device.old) (D.may_leave device.old)
-        → OnOk result (IsFound (D.reads device.new) A 13 empty_state × Only (D.reads device.new) (D.may_leave device.new)) }
+        → OnOk result (IsFound (D.reads device.new) A 1 13 false empty_state × Only (D.reads device.new) (D.may_leave device.new)) }
 {
     device.write_at(0, &MAGIC)?;
     device.sync()
@@ -85,7 +86,7 @@ fn lay_out<D: Disk>(device: &mut D) -> Result<(), DiskFault>
     ensures honest { D.honest device.old ↔ D.honest device.new }
     ensures calls { D.honest device.old → D.moment device.new ≤ D.moment device.old + 9 }
     ensures any_moment { D.honest device.old → LeavesOnly D.moment D.left_since device.old device.new (MayBeMade (D.may_leave device.old)) }
-    ensures found { D.honest device.old → OnOk result (IsFound (D.reads device.new) A 13 empty_state × Only (D.reads device.new) (D.may_leave device.new)) }
+    ensures found { D.honest device.old → OnOk result (IsFound (D.reads device.new) A 1 13 false empty_state × Only (D.reads device.new) (D.may_leave device.new)) }
 {
     unmark(device)?;
     write_heads(device)?;
@@ -113,7 +114,7 @@ pub fn format<D: Disk>(alloc: Global, device: D) -> Result<Store<D>, (D, StoreFa
     ensures not_a_store { IfErr result (λ e. (e.1 ≡ StoreFault.NotAStore) ↔ (D.size device ≢ DEVICE_LENGTH)) }
     ensures untouched { IfErr result (λ e. e.1 ≡ StoreFault.NotAStore → e.0 ≡ device) }
     ensures only { IfErr result (λ e. (e.1 ≡ StoreFault.NotAStore) ⊎ (e.1 ≡ StoreFault.Device)) }
-    ensures device { IfErr result (λ e. e.1 ≡ StoreFault.Device → Rises (D.failed device) (D.failed e.0)) }
+    ensures device { IfErr result (λ e. e.1 ≡ StoreFault.Device → HasRisen (D.failed device) (D.failed e.0)) }
     ensures count { IfOk result (λ store. D.failed (device_of store) ≡ D.failed device) }
     ensures count_err { IfErr result (λ e. D.failed device ≤ D.failed e.0) }
 {
@@ -124,5 +125,5 @@ pub fn format<D: Disk>(alloc: Global, device: D) -> Result<Store<D>, (D, StoreFa
     let Ok(()) = lay_out(&mut device) else {
         return Err((device, StoreFault::Device));
     };
-    Ok(Store::new(alloc, device, Half::A, 13))
+    Ok(Store::new(alloc, device, Half::A, 1, 13, false))
 }

@@ -1,7 +1,7 @@
 //! The two halves of a store's device.
 ghost use Rattle.std.specs.Prelude.{◌≡◌, ◌≤◌, ◌+◌};
 ghost use Rattle.apd_base.specs.declared.limits.TheConstants.{DEVICE_LENGTH};
-ghost use Rattle.apd_store.specs.Layout.{start_of};
+ghost use Rattle.apd_store.specs.Layout.{opposite, start_of};
 
 use apd_journal::HALF_LENGTH;
 
@@ -27,6 +27,16 @@ impl Half {
         match self {
             Half::A => START_A,
             Half::B => START_B,
+        }
+    }
+
+    /// The other half.
+    pub fn other(self) -> Half
+        ensures { result ≡ opposite self }
+    {
+        match self {
+            Half::A => Half::B,
+            Half::B => Half::A,
         }
     }
 }

@@ -10,12 +10,10 @@ pub mod phase;
 pub mod reading;
 pub mod recovery;
 pub mod store;
+mod switching;
 
 pub use fault::StoreFault;
 pub use formatting::format;
 pub use laws::an_image_shows_one_state;
 pub use recovery::recover;
 pub use store::{Receipt, Store};
-
-#[cfg(test)]
-mod tests;

@@ -4,7 +4,7 @@ ghost use Rattle.apd_base.specs.declared.limits.TheConstants.{DEVICE_LENGTH};
 ghost use Rattle.apd_base.specs.State.{State, empty_state};
 ghost use Rattle.apd_record.specs.Meaning.{meaning_of};
 ghost use Rattle.apd_table.specs.Sound.{StaySound};
-ghost use Rattle.apd_store.specs.Image.{magic, IsOpen, IsBehind, HalfShows, IsMarked, ShowsNone};
+ghost use Rattle.apd_store.specs.Image.{magic, HasOpenGate, IsOpen, IsBehind, HalfShows, IsMarked, ShowsNone};
 ghost use Rattle.apd_store.specs.Layout.{IsFound};
 
 use crate::fault::StoreFault;
@@ -35,24 +35,39 @@ fn table_of(alloc: Global, changes: &[Change]) -> Result<Table, TableFault>
 #[derive(Drop)]
 pub(crate) struct Found {
     pub(crate) half: Half,
+    pub(crate) epoch: u64,
     pub(crate) gate: usize,
+    pub(crate) other_open: bool,
     pub(crate) table: Table,
 }
 
-/// What the bytes of the half on this side show.
+/// Whether a half's gate is open.
+fn is_open(half: &[u8]) -> bool
+    ensures { IsTrue result ↔ HasOpenGate half.now }
+{
+    half.starts_with(&[1])
+}
+
+/// What the bytes of the half on this side show, beside the other half.
 #[tactic(auto, using(crate::proofs::Found::shows))]
-fn read_half(alloc: Global, half: Half, bytes: &[u8]) -> Result<Found, StoreFault>
+fn read_half(alloc: Global, half: Half, bytes: &[u8], other: &[u8]) -> Result<Found, StoreFault>
     ensures half { IfOk result (λ found. found.half ≡ half) }
-    ensures shows { IfOk result (λ found. (epoch : ℕ) × HalfShows bytes.now epoch found.gate found.table) }
+    ensures shows { IfOk result (λ found. HalfShows bytes.now found.epoch found.gate found.table) }
+    ensures other { IfOk result (λ found. IsTrue found.other_open ↔ HasOpenGate other.now) }
     ensures damaged { result ≡ Err StoreFault.Damaged → (epoch gate : ℕ) (state : State) → ¬ HalfShows bytes.now epoch gate state }
     ensures only { OnErr result ((result ≡ Err StoreFault.Damaged) ⊎ (result ≡ Err StoreFault.NoMemory)) }
 {
     let Some(groups) = read_groups(alloc, bytes)? else {
         return Err(StoreFault::Damaged);
     };
-    let gate = groups.gate;
     match table_of(alloc, groups.changes.as_slice()) {
-        Ok(table) => Ok(Found { half, gate, table }),
+        Ok(table) => Ok(Found {
+            half,
+            epoch: groups.epoch,
+            gate: groups.gate,
+            other_open: is_open(other),
+            table,
+        }),
         Err(TableFault::Invalid) => Err(StoreFault::Damaged),
         Err(TableFault::NoMemory) => Err(StoreFault::NoMemory),
     }
@@ -80,7 +95,7 @@ fn is_marked(bytes: &[u8]) -> bool
 
 /// The current half of a device's bytes, its closed gate and its table.
 pub(crate) fn read_image(alloc: Global, bytes: &[u8]) -> Result<Found, StoreFault>
-    ensures ok { IfOk result (λ found. IsFound bytes.now found.half found.gate found.table) }
+    ensures ok { IfOk result (λ found. IsFound bytes.now found.half found.epoch found.gate found.other_open found.table) }
     ensures not_a_store { result ≡ Err StoreFault.NotAStore → ¬ IsMarked bytes.now }
     ensures damaged { result ≡ Err StoreFault.Damaged → IsMarked bytes.now × ShowsNone bytes.now }
     ensures only { OnErr result ((result ≡ Err StoreFault.NotAStore) ⊎ (result ≡ Err StoreFault.Damaged) ⊎ (result ≡ Err StoreFault.NoMemory)) }
@@ -90,10 +105,10 @@ pub(crate) fn read_image(alloc: Global, bytes: &[u8]) -> Result<Found, StoreFaul
     }
     let (a, b) = bytes[START_A..].split_at(HALF_LENGTH);
     if is_current(a, b) {
-        return read_half(alloc, Half::A, a);
+        return read_half(alloc, Half::A, a, b);
     }
     if is_current(b, a) {
-        return read_half(alloc, Half::B, b);
+        return read_half(alloc, Half::B, b, a);
     }
     Err(StoreFault::Damaged)
 }

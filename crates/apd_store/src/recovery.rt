@@ -1,7 +1,8 @@
 //! Recovery: from a device to a store and its table.
 ghost use Rattle.std.specs.Prelude.{◌≡◌, ◌≢◌, ◌≤◌, ◌+◌, ◌↔◌, ◌⊎◌, ℕ, List, length, OnOk, IfOk, IfErr, OnErr, IsErrOf, Err};
 ghost use Rattle.apd_base.specs.declared.limits.TheConstants.{DEVICE_LENGTH};
-ghost use Rattle.apd_disk.specs.Disk.{Only, Rises, LeavesOnly};
+ghost use Rattle.apd_base.specs.Failures.{HasRisen};
+ghost use Rattle.apd_disk.specs.Disk.{Only, LeavesOnly};
 ghost use Rattle.apd_store.specs.Image.{Shows, ShowsNone, IsMarked};
 ghost use Rattle.apd_store.specs.Layout.{IsFound};
 ghost use Rattle.apd_store.specs.Commit.{IsIdle, IsInside};
@@ -38,7 +39,7 @@ fn read_device<D: Disk>(alloc: Global, device: &mut D) -> Result<Vec<u8>, StoreF
     ensures memory { result ≡ Err StoreFault.NoMemory → D.size device.old ≡ DEVICE_LENGTH }
     ensures count { D.failed device.old ≤ D.failed device.new }
     ensures no_fault { result ≢ Err StoreFault.Device → D.failed device.new ≡ D.failed device.old }
-    ensures device { IsErrOf result StoreFault.Device → Rises (D.failed device.old) (D.failed device.new) }
+    ensures device { IsErrOf result StoreFault.Device → HasRisen (D.failed device.old) (D.failed device.new) }
     ensures only { OnErr result ((result ≡ Err StoreFault.NotAStore) ⊎ (result ≡ Err StoreFault.Device) ⊎ (result ≡ Err StoreFault.NoMemory)) }
 {
     let Ok(()) = device.sync() else {
@@ -62,7 +63,8 @@ fn read_device<D: Disk>(alloc: Global, device: &mut D) -> Result<Vec<u8>, StoreF
 /// the table, and reads each byte of the device once.
 ///
 /// Errors, with the device handed back: `NotAStore` where the length or the magic differ; else `Damaged` where
-/// the bytes show no state; `Device` where the device failed in this call; `NoMemory`.
+/// the bytes show no state; `Device` where the device failed in this call; `NoMemory`. Where a stop left one
+/// image before the call, as after a sync, it leaves that one after any of them.
 pub fn recover<D: Disk>(alloc: Global, device: D) -> Result<(Store<D>, Table), (D, StoreFault)>
     ensures inside { IfOk result (λ found. IsInside D.size found.0) }
     ensures ready { IfOk result (λ found. phase_of found.0 ≡ Phase.Idle) }
@@ -74,6 +76,8 @@ pub fn recover<D: Disk>(alloc: Global, device: D) -> Result<(Store<D>, Table), (
     ensures any_moment { D.honest device → IfOk result (λ found. LeavesOnly D.moment D.left_since device (device_of found.0) (D.may_leave device)) }
     ensures any_moment_err { D.honest device → IfErr result (λ e. LeavesOnly D.moment D.left_since device e.0 (D.may_leave device)) }
     ensures durable_err { D.honest device → IfErr result (λ e. e.1 ≢ StoreFault.Device → Only (D.reads device) (D.may_leave e.0)) }
+    ensures reads_err { D.honest device → IfErr result (λ e. e.1 ≢ StoreFault.Device → D.reads e.0 ≡ D.reads device) }
+    ensures still_err { D.honest device → IfErr result (λ e. (image : List ℕ) → Only image (D.may_leave device) → Only image (D.may_leave e.0) × (D.reads e.0 ≡ image)) }
     ensures calls { D.honest device → IfOk result (λ found. D.moment (device_of found.0) ≤ D.moment device + 2) }
     ensures calls_err { D.honest device → IfErr result (λ e. D.moment e.0 ≤ D.moment device + 2) }
     ensures honest { IfOk result (λ found. D.honest device ↔ D.honest (device_of found.0)) }
@@ -81,7 +85,7 @@ pub fn recover<D: Disk>(alloc: Global, device: D) -> Result<(Store<D>, Table), (
     ensures length { OnOk result (D.size device ≡ DEVICE_LENGTH) }
     ensures other_length { IfErr result (λ e. D.size device ≢ DEVICE_LENGTH → (e.1 ≡ StoreFault.NotAStore) ⊎ (e.1 ≡ StoreFault.Device)) }
     ensures only { IfErr result (λ e. (e.1 ≡ StoreFault.NotAStore) ⊎ (e.1 ≡ StoreFault.Damaged) ⊎ (e.1 ≡ StoreFault.Device) ⊎ (e.1 ≡ StoreFault.NoMemory)) }
-    ensures device { IfErr result (λ e. e.1 ≡ StoreFault.Device → Rises (D.failed device) (D.failed e.0)) }
+    ensures device { IfErr result (λ e. e.1 ≡ StoreFault.Device → HasRisen (D.failed device) (D.failed e.0)) }
     ensures count { IfOk result (λ found. D.failed (device_of found.0) ≡ D.failed device) }
     ensures count_err { IfErr result (λ e. D.failed device ≤ D.failed e.0) }
     ensures no_fault { IfErr result (λ e. e.1 ≢ StoreFault.Device → D.failed e.0 ≡ D.failed device) }
@@ -93,8 +97,17 @@ pub fn recover<D: Disk>(alloc: Global, device: D) -> Result<(Store<D>, Table), (
     };
     match read_image(alloc, &bytes) {
         Ok(found) => {
-            let Found { half, gate, table } = found;
-            Ok((Store::new(alloc, device, half, gate), table))
+            let Found {
+                half,
+                epoch,
+                gate,
+                other_open,
+                table,
+            } = found;
+            Ok((
+                Store::new(alloc, device, half, epoch, gate, other_open),
+                table,
+            ))
         }
         Err(fault) => Err((device, fault)),
     }

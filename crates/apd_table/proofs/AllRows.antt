@@ -8,7 +8,7 @@ use Rattle.apd_base.specs.declared.station.AclMode.{AclMode}
 use Rattle.apd_base.specs.declared.station.Station.{Station}
 use Rattle.apd_base.specs.declared.station.Which.{Which}
 use Rattle.apd_base.specs.declared.station.Which.TheVariants.{Accept, Deny}
-use Rattle.apd_base.specs.Addr.{addr_cmp}
+use Rattle.apd_base.specs.Addr.{addr_cmp, is_among}
 use Rattle.apd_base.specs.Sets.{contains}
 use Rattle.apd_base.specs.State.{State, is_row_of, station_at}
 use Rattle.apd_base.proofs.AddrLaws.{addr_total, addr_exact, bssid_total, bssid_exact, station_total, station_exact}
@@ -22,19 +22,16 @@ use Rattle.apd_record.specs.declared.change.Change.TheVariants.{Put, Drop, ListA
 use Rattle.apd_table.specs.Addresses.{addresses_at, with_lists_after, has_after, is_denied_after}
 use Rattle.apd_table.specs.Allowed.{denied_by}
 use Rattle.apd_table.specs.Rows as rows
-use Rattle.apd_table.proofs.Denied.{is_among, any_mapped}
+use Rattle.apd_table.proofs.Denied.{any_mapped}
 use Rattle.apd_table.proofs.ListSets.{contains-insert, contains-remove, contains-retain_keys, same_row}
-
-yes_and : (t u : Bool) → t ≡ true → u ≡ true → (t && u) ≡ true
-yes_and true u e f = f
-yes_and false u e f = cc
+use Rattle.apd_base.proofs.Cases.{both_true}
 
 -- a station with a row is among the addresses
 pub among_addresses : (s : State) (b : Bssid) (a : Addr) (x : Station) → station_at s b a ≡ Some x → is_among a (addresses_at s b) ≡ true
 among_addresses s b a x row =
     any_mapped (eq_by_cmp addr_cmp a) (λ row. row.0.1) (rows.is_row_of b) (map.entries s.stations)
     ∙ passes_any station_total station_exact (λ row. rows.is_row_of b row && eq_by_cmp addr_cmp a row.0.1) s.stations (b, a) x row
-    (yes_and _ _ (tied bssid_total bssid_exact b) (tied addr_total addr_exact a))
+    (both_true _ _ (tied bssid_total bssid_exact b) (tied addr_total addr_exact a))
 
 -- the lists of a BSSID after a change are those of the state after it
 module _ (s : State) (b : Bssid) (lists : Lists) (same : (w : Which) (a : Addr) → has lists w a ≡ contains s.lists (b, w, a)) where

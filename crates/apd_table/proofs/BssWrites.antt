@@ -30,6 +30,7 @@ use Rattle.apd_table.specs.BssState.{BssState}
 use Rattle.apd_table.specs.declared.bss_rows.Bss.{Bss}
 use Rattle.apd_table.proofs.BssLaws.{get-policy_rows, contains-list_rows}
 use Rattle.apd_table.proofs.ListSets.{same_set, insert_here, insert_elsewhere, remove_here, remove_elsewhere, clear_here, clear_elsewhere, has_added, has_removed, has_cleared}
+use Rattle.apd_base.proofs.Cases.{none_is}
 
 one_more : (i : ℕ) → 1 + i ≡ suc i
 one_more i = omega arith
@@ -263,13 +264,9 @@ module _ (xs : List Row) (sorted : T (is_sorted bssid_cmp xs)) (b : Bssid) where
       let e = entry_at bssid_total bssid_exact b xs at (sym is) in
       ap (λ (r : Row). has r.1.lists w a) (get_or_from_slice_get xs at (b, e.0) d e.1) ∙ sym (contains-list_rows xs b w a sorted ∙ ap (λ r. is_listed_in r w a) e.2) ∙ h
 
-  none_some : {A B : Type 0} (o : Option A) → o ≡ None → IsSome o → B
-  none_some None e h = cc
-  none_some (Some x) e h = cc
-
   -- a BSSID with a policy has a row
   pub has_place : {A : Type 0} (at : ℕ) → Err at ≡ place bssid_cmp b xs → IsSome (map.get (from_sorted {R = bssid_cmp} (policy_rows xs)) b) → A
-  has_place at is h = none_some _ (get-policy_rows xs sorted b ∙ ap (option_map policy_of) (absent_at bssid_total bssid_exact b xs sorted at (sym is))) h
+  has_place at is h = none_is _ (get-policy_rows xs sorted b ∙ ap (option_map policy_of) (absent_at bssid_total bssid_exact b xs sorted at (sym is))) h
 
 -- a new row in its place
 pub sorted_new : (xs : List Row) (sorted : T (is_sorted bssid_cmp xs)) (b : Bssid) (at : ℕ) → Err at ≡ place bssid_cmp b xs → (y : Bss) (ys : List Row) → ys ≡ put_at xs b y (Err at) → T (is_sorted bssid_cmp ys)

@@ -16,18 +16,12 @@ use Rattle.apd_base.proofs.MapLaws.{one_or_apart, tied, passes_any, any_passes}
 use Rattle.apd_base.specs.State.{State, aid_of, aid_at, station_at}
 use Rattle.apd_table.specs.Can.{MayHave}
 use Rattle.apd_table.specs.Rows.{is_clash}
+use Rattle.apd_base.proofs.Cases.{value_of, differ}
 
 pub aid_from : (o : Option Station) (i : ℕ) → aid_of o ≡ Some i → (x : Association) × (o ≡ Some (Associated x)) × (x.aid.number ≡ i)
 aid_from None i e = cc
 aid_from (Some Authenticated) i e = cc
 aid_from (Some (Associated x)) i e = (x, refl, cc)
-
-some_of : {A : Type 0} (o : Option A) → IsSome o → (x : A) × (o ≡ Some x)
-some_of None h = cc
-some_of (Some x) h = (x, refl)
-
-both_ways : (t : Bool) → t ≡ false → t ≡ true → ⊥
-both_ways t f h = cc
 
 not_both : (t : Bool) → not t ≡ true → t ≡ true → ⊥
 not_both true f h = cc
@@ -46,7 +40,7 @@ module _ (s : State) (b : Bssid) (a : Addr) (i : ℕ) where
             let test : is_clash b a i ((b, c), Associated x.0) ≡ true =
             ap (λ t. cond t (not (eq_by_cmp addr_cmp a c) && eqb (x.0).aid.number i) (eq_by_cmp addr_cmp a c)) (tied bssid_total bssid_exact b)
             ∙ (λ j. not (ne j) && eq-eqb (x.0).aid.number i x.2 j) in
-            absurd (both_ways clash none (passes_any station_total station_exact (is_clash b a i) s.stations (b, c) (Associated x.0) x.1 test))
+            absurd (differ clash none (passes_any station_total station_exact (is_clash b a i) s.stations (b, c) (Associated x.0) x.1 test))
       ]
 
   alone_of : clash ≡ false → (c : Bssid) → IsSome (aid_at s c a) → b ≡ c
@@ -54,12 +48,12 @@ module _ (s : State) (b : Bssid) (a : Addr) (i : ℕ) where
       elim (one_or_apart bssid_total bssid_exact b c) [
         | inl e ↦ e
         | inr ne ↦
-            let v = some_of (aid_at s c a) h in
+            let v = value_of (aid_at s c a) h in
             let x = aid_from (station_at s c a) v.0 v.1 in
             let test : is_clash b a i ((c, a), Associated x.0) ≡ true =
             ap (λ t. cond t (not (eq_by_cmp addr_cmp a a) && eqb (x.0).aid.number i) (eq_by_cmp addr_cmp a a)) ne
             ∙ tied addr_total addr_exact a in
-            absurd (both_ways clash none (passes_any station_total station_exact (is_clash b a i) s.stations (c, a) (Associated x.0) x.1 test))
+            absurd (differ clash none (passes_any station_total station_exact (is_clash b a i) s.stations (c, a) (Associated x.0) x.1 test))
       ]
 
   clash_from : (k : Bssid × Addr) (v : Station) → map.get s.stations k ≡ Some v → is_clash b a i (k, v) ≡ true → MayHave s b a i → ⊥
@@ -80,8 +74,8 @@ module _ (s : State) (b : Bssid) (a : Addr) (i : ℕ) where
             elim (one_or_apart addr_total addr_exact a k.1) [
               | inl same ↦
                   let b_is : b ≡ k.0 = may.alone k.0 (ap (λ c. is_some (aid_at s k.0 c)) same ∙ ap (λ o. is_some (aid_of o)) g) in
-                  both_ways _ ne (ap (λ c. eq_by_cmp bssid_cmp b c) (sym b_is) ∙ tied bssid_total bssid_exact b)
-              | inr apart ↦ both_ways _ apart here
+                  differ _ ne (ap (λ c. eq_by_cmp bssid_cmp b c) (sym b_is) ∙ tied bssid_total bssid_exact b)
+              | inr apart ↦ differ _ apart here
             ]
       ]
 

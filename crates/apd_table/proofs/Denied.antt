@@ -12,8 +12,8 @@ use Rattle.apd_base.specs.declared.address.Bssid.{Bssid}
 use Rattle.apd_base.specs.declared.station.AclMode.{AclMode}
 use Rattle.apd_base.specs.declared.station.Policy.{Policy}
 use Rattle.apd_base.specs.declared.station.Station.{Station}
-use Rattle.apd_base.specs.Addr.{addr_cmp, bssid_cmp}
-use Rattle.apd_base.proofs.AddrLaws.{addr_total, addr_exact, bssid_total, bssid_exact, station_total, station_exact}
+use Rattle.apd_base.specs.Addr.{addr_cmp, bssid_cmp, is_among}
+use Rattle.apd_base.proofs.AddrLaws.{addr_total, addr_exact, bssid_total, bssid_exact, station_total, station_exact, same_bssid, same_addr}
 use Rattle.apd_base.proofs.MapLaws.{one_or_apart, tied, passes_any, any_passes}
 use Rattle.apd_base.specs.State.{State, station_at, policy_at}
 use Rattle.apd_table.specs.Allowed.{allowed_in, is_denied_row, denied_by}
@@ -24,10 +24,7 @@ use Rattle.apd_record.specs.declared.change.Change.{Change}
 use Rattle.apd_record.specs.declared.change.Change.TheVariants.{Drop}
 use Rattle.apd_table.proofs.Dropped.{sound_drop}
 use Rattle.apd_table.proofs.PolicySet.{sound_set}
-
--- whether an address is among some
-abbrev pub is_among : Addr → List Addr → Bool
-is_among a as' = list_any (eq_by_cmp addr_cmp a) as'
+use Rattle.apd_base.proofs.Cases.{both_true, not_yes, not_no}
 
 -- dropping the rows of some addresses of a BSSID, one after the other
 abbrev pub drops : Bssid → List Addr → List Change
@@ -41,21 +38,6 @@ any_mapped q f p (x ∷ xs) =
       | false ↦ any_mapped q f p xs
     ]
 
-yes_and : (t u : Bool) → t ≡ true → u ≡ true → (t && u) ≡ true
-yes_and true u e f = f
-yes_and false u e f = cc
-
-not_yes : (t : Bool) → not t ≡ true → t ≡ false
-not_yes true e = cc
-not_yes false e = refl
-
-not_no : (t : Bool) → t ≡ false → not t ≡ true
-not_no true e = cc
-not_no false e = refl
-
-both_ways : {A : Type 0} (t : Bool) → t ≡ false → t ≡ true → A
-both_ways t f h = cc
-
 module _ (s : State) (b : Bssid) (mode : AclMode) where
   abbrev among_row : Addr → (Bssid × Addr) × Station → Bool
   among_row a row = is_denied_row s b mode row && eq_by_cmp addr_cmp a row.0.1
@@ -68,13 +50,7 @@ module _ (s : State) (b : Bssid) (mode : AclMode) where
   among_denied a x row denied =
       among_rows a
       ∙ passes_any station_total station_exact (among_row a) s.stations (b, a) x row
-      (yes_and _ _ (yes_and _ _ (tied bssid_total bssid_exact b) (not_no _ denied)) (tied addr_total addr_exact a))
-
-  same_bssid : (c : Bssid) → eq_by_cmp bssid_cmp b c ≡ true → b ≡ c
-  same_bssid c e = elim (one_or_apart bssid_total bssid_exact b c) [ inl same ↦ same | inr ne ↦ both_ways _ ne e ]
-
-  same_addr : (a c : Addr) → eq_by_cmp addr_cmp a c ≡ true → a ≡ c
-  same_addr a c e = elim (one_or_apart addr_total addr_exact a c) [ inl same ↦ same | inr ne ↦ both_ways _ ne e ]
+      (both_true _ _ (both_true _ _ (tied bssid_total bssid_exact b) (not_no _ denied)) (tied addr_total addr_exact a))
 
   -- and no other address is
   pub denied_among : (a : Addr) → is_among a (denied_by s b mode) ≡ true → ((x : Station) × (station_at s b a ≡ Some x)) × (allowed_in s b a mode ≡ false)
@@ -82,8 +58,8 @@ module _ (s : State) (b : Bssid) (mode : AclMode) where
       let found = any_passes station_total station_exact (among_row a) s.stations (sym (among_rows a) ∙ h) in
       let test = and_parts (is_denied_row s b mode (found.0, found.1)) (eq_by_cmp addr_cmp a (found.0).1) found.3 in
       let denied = and_parts (eq_by_cmp bssid_cmp b (found.0).0) (not (allowed_in s b (found.0).1 mode)) test.0 in
-      let bssid : b ≡ (found.0).0 = same_bssid (found.0).0 denied.0 in
-      let addr : a ≡ (found.0).1 = same_addr a (found.0).1 test.1 in
+      let bssid : b ≡ (found.0).0 = same_bssid (found.0).0 b denied.0 in
+      let addr : a ≡ (found.0).1 = same_addr (found.0).1 a test.1 in
       ((found.1, (λ i. station_at s (bssid i) (addr i)) ∙ found.2), ap (λ c. allowed_in s b c mode) addr ∙ not_yes _ denied.1)
 
 -- changes in two parts

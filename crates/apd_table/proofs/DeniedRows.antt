@@ -15,20 +15,7 @@ use Rattle.apd_base.proofs.MapLaws.{one_or_apart, tied, passes_any, any_passes}
 use Rattle.apd_table.specs.Allowed.{denied_by, is_denied_row}
 use Rattle.apd_table.specs.Rows.{is_row_of}
 use Rattle.apd_table.specs.Sound.{Sound}
-
-both_ways : {A : Type 0} (t : Bool) → t ≡ false → t ≡ true → A
-both_ways t f h = cc
-
-not_yes : (t : Bool) → not t ≡ true → t ≡ false
-not_yes true e = cc
-not_yes false e = refl
-
-some_of : {A : Type 0} (o : Option A) → IsSome o → (x : A) × (o ≡ Some x)
-some_of None h = cc
-some_of (Some x) h = (x, refl)
-
-some_is : {A : Type 0} (o : Option A) (x : A) → o ≡ Some x → IsSome o
-some_is o x e = cc
+use Rattle.apd_base.proofs.Cases.{differ, not_yes, value_of, is_some_of, none_is}
 
 module _ (s : State) (b : Bssid) (g : Addr → Bool) where
   abbrev fails : (Bssid × Addr) × Station → Bool
@@ -36,10 +23,10 @@ module _ (s : State) (b : Bssid) (g : Addr → Bool) where
 
   none_fails : list_any fails (map.entries s.stations) ≡ false → (a : Addr) → IsSome (station_at s b a) → g a ≡ true
   none_fails none a h =
-      let x = some_of (station_at s b a) h in
+      let x = value_of (station_at s b a) h in
       elim (g a) as (λ t. g a ≡ t → t ≡ true) [
         | true ↦ λ e. refl
-        | false ↦ λ e. both_ways _ none (passes_any station_total station_exact fails s.stations (b, a) x.0 x.1 (λ i. tied bssid_total bssid_exact b i && not (e i)))
+        | false ↦ λ e. differ _ none (passes_any station_total station_exact fails s.stations (b, a) x.0 x.1 (λ i. tied bssid_total bssid_exact b i && not (e i)))
       ] refl
 
   one_fails : {A : Type 0} → list_any fails (map.entries s.stations) ≡ true → ((a : Addr) → IsSome (station_at s b a) → g a ≡ true) → A
@@ -47,8 +34,8 @@ module _ (s : State) (b : Bssid) (g : Addr → Bool) where
       let found = any_passes station_total station_exact fails s.stations any in
       let parts = and_parts (eq_by_cmp bssid_cmp b (found.0).0) (not (g (found.0).1)) found.3 in
       elim (one_or_apart bssid_total bssid_exact b (found.0).0) [
-        | inl same ↦ both_ways _ (not_yes _ parts.1) (all (found.0).1 (some_is _ found.1 (ap (λ c. station_at s c (found.0).1) same ∙ found.2)))
-        | inr ne ↦ both_ways _ ne parts.0
+        | inl same ↦ differ _ (not_yes _ parts.1) (all (found.0).1 (is_some_of _ found.1 (ap (λ c. station_at s c (found.0).1) same ∙ found.2)))
+        | inr ne ↦ differ _ ne parts.0
       ]
 
   abbrev pub AllPass : Type 0
@@ -69,17 +56,13 @@ none_passes : {X : Type 0} (p : X → Bool) (xs : List X) → list_any p xs ≡ 
 none_passes p [] e = refl
 none_passes p (x ∷ xs) e =
     elim (p x) as (λ t. (t || list_any p xs) ≡ false → cond t (x ∷ filter p xs) (filter p xs) ≡ []) [
-      | true ↦ λ f. both_ways true f refl
+      | true ↦ λ f. differ true f refl
       | false ↦ λ f. none_passes p xs f
     ] e
 
-none_is : {A B : Type 0} (o : Option A) → None ≡ o → IsSome o → B
-none_is None e h = cc
-none_is (Some x) e h = cc
-
 -- without a policy there is no row to deny
 pub no_row : {A : Type 0} (s : State) (b : Bssid) → Sound s → None ≡ policy_at s b → (a : Addr) → IsSome (station_at s b a) → A
-no_row s b sound none a h = none_is (policy_at s b) none (sound.stations_have_policy b a h)
+no_row s b sound none a h = none_is (policy_at s b) (sym none) (sound.stations_have_policy b a h)
 
 pub none_denied_by : (s : State) (b : Bssid) (mode : AclMode) → Sound s → None ≡ policy_at s b → denied_by s b mode ≡ []
 none_denied_by s b mode sound none =
@@ -90,8 +73,8 @@ none_denied_by s b mode sound none =
           let found = any_passes station_total station_exact p s.stations any in
           let parts = and_parts (eq_by_cmp bssid_cmp b (found.0).0) _ found.3 in
           elim (one_or_apart bssid_total bssid_exact b (found.0).0) [
-            | inl same ↦ no_row s b sound none (found.0).1 (some_is _ found.1 (ap (λ c. station_at s c (found.0).1) same ∙ found.2))
-            | inr ne ↦ both_ways _ ne parts.0
+            | inl same ↦ no_row s b sound none (found.0).1 (is_some_of _ found.1 (ap (λ c. station_at s c (found.0).1) same ∙ found.2))
+            | inr ne ↦ differ _ ne parts.0
           ]
       | false ↦ λ e. refl
     ] refl))

@@ -13,10 +13,8 @@ use Rattle.apd_base.proofs.MapLaws.{one_or_apart, get_removed, get_remove_other,
 use Rattle.apd_base.specs.State.{State, station_at, aid_of, aid_at, count, stations_of}
 use Rattle.apd_record.specs.Meaning.{drop_station}
 use Rattle.apd_table.specs.Sound.{Sound}
-
-none_is : {A B : Type 0} (o : Option A) → o ≡ None → IsSome o → B
-none_is None e h = cc
-none_is (Some x) e h = cc
+use Rattle.apd_base.proofs.Cases.{none_is}
+use Rattle.apd_base.proofs.StateLaws.{station_of_aid}
 
 module _ (s : State) (b : Bssid) (a : Addr) where
   abbrev new : State
@@ -29,10 +27,6 @@ module _ (s : State) (b : Bssid) (a : Addr) where
         | inl e ↦ none_is (station_at new c d) (ap (map.get new.stations) e ∙ get_removed station_total station_exact s.stations (b, a)) h
         | inr ne ↦ get_remove_other station_total station_exact s.stations (b, a) (c, d) ne
       ]
-
-  station_of_aid : (o : Option Station) → IsSome (aid_of o) → IsSome o
-  station_of_aid None h = h
-  station_of_aid (Some x) h = refl
 
   kept_aid : (c : Bssid) (d : Addr) (i : ℕ) → aid_at new c d ≡ Some i → aid_at s c d ≡ Some i
   kept_aid c d i h = sym (ap aid_of (kept c d (station_of_aid _ (ap is_some h)))) ∙ h

@@ -17,6 +17,7 @@ use Rattle.apd_base.proofs.AddrLaws.{station_total, station_exact}
 use Rattle.apd_base.proofs.StateLaws.{list_total, list_exact}
 use Rattle.apd_base.specs.State.{empty_state, station_at, aid_of, aid_at, list_cmp, is_row_of}
 use Rattle.apd_table.specs.Sound.{Sound}
+use Rattle.apd_base.proofs.Cases.{none_is}
 
 none_either : {X : Type 0} (t : Bool) → ◌≡◌ {A = Option X} (cond t None None) None
 none_either true = refl
@@ -27,10 +28,6 @@ no_part {K} X {R} o exact p =
     ap map.len (same_map o exact (map.retain_keys (map.empty {X = X} {R = R}) p) map.empty (λ q.
     get-retain_keys map.empty p q (λ x t. ap p (sym (exact q x t))) ∙ ap (λ v. cond (p q) v None) (get-empty R q) ∙ none_either (p q) ∙ sym (get-empty R q)))
     ∙ len-empty R X
-
-none_is : {A B : Type 0} (o : Option A) → o ≡ None → IsSome o → B
-none_is None e h = cc
-none_is (Some x) e h = cc
 
 some_is : {B : Type 0} (o : Option ℕ) (i : ℕ) → o ≡ None → o ≡ Some i → B
 some_is o i e h = cc

@@ -12,12 +12,13 @@ use Rattle.apd_base.specs.declared.address.Addr.{Addr}
 use Rattle.apd_base.specs.declared.address.Bssid.{Bssid}
 use Rattle.apd_base.specs.declared.station.Station.{Station}
 use Rattle.apd_base.specs.Addr.{addr_cmp, bssid_cmp, station_cmp}
-use Rattle.apd_base.proofs.AddrLaws.{bssid_total, bssid_exact, station_total, station_exact}
+use Rattle.apd_base.proofs.AddrLaws.{bssid_total, bssid_exact, station_total, station_exact, same_bssid}
 use Rattle.apd_base.proofs.MapLaws.{one_or_apart}
 use Rattle.apd_base.proofs.RowsLaws.{is_sorted_tail}
 use Rattle.apd_acl.specs.Least.{IsLeast, IsLeastAbove}
 use Rattle.apd_acl.proofs.Above.{found_head, head_least, above_at, above_is, IsAbove, NoneAbove}
 use Rattle.apd_table.specs.Rows.{is_row_of, first_of, if_row_of}
+use Rattle.apd_base.proofs.Cases.{value_of, is_some_of}
 
 abbrev pub Row : Type 0
 Row = (Bssid × Addr) × Station
@@ -27,19 +28,6 @@ is_eq-then Less o e = refl
 is_eq-then Equal o e = cc
 is_eq-then Greater o e = refl
 
-none_some : {A : Type 0} (P : Type 0) (v : A) → None ≡ Some v → P
-none_some P v e = cc
-
-value_of : {A : Type 0} (o : Option A) → IsSome o → (x : A) × (o ≡ Some x)
-value_of None h = cc
-value_of (Some x) h = (x, refl)
-
-is_some_of : {A : Type 0} (o : Option A) (x : A) → o ≡ Some x → IsSome o
-is_some_of o x e = cc
-
-both_ways : {A : Type 0} (t : Bool) → t ≡ false → t ≡ true → A
-both_ways t f h = cc
-
 -- a row of another BSSID is passed over
 skip : (b : Bssid) (c : Addr) (row : Row) (rows : List Row) → eq_by_cmp bssid_cmp b row.0.0 ≡ false → find station_cmp (b, c) (row ∷ rows) ≡ find station_cmp (b, c) rows
 skip b c row rows ne = ap (λ t. cond t (Some row.1) (find station_cmp (b, c) rows)) (is_eq-then (bssid_cmp b row.0.0) (addr_cmp c row.0.1) ne)
@@ -47,9 +35,6 @@ skip b c row rows ne = ap (λ t. cond t (Some row.1) (find station_cmp (b, c) ro
 -- at one BSSID the addresses decide
 at_bss : (b : Bssid) (a c : Addr) → station_cmp (b, a) (b, c) ≡ addr_cmp a c
 at_bss b a c = ap (λ r. ordering_then r (addr_cmp a c)) (tied_itself bssid_total b)
-
-same_bssid : (b c : Bssid) → eq_by_cmp bssid_cmp b c ≡ true → b ≡ c
-same_bssid b c e = elim (one_or_apart bssid_total bssid_exact b c) [ inl same ↦ same | inr ne ↦ both_ways _ ne e ]
 
 -- the row that is first, in order
 abbrev Least : Bssid → Addr → Station → List Row → Type 0
@@ -66,7 +51,7 @@ first_least b (row ∷ rows) h =
     let rest = first_least b rows (is_sorted_tail station_total row rows h) in
     elim (is_row_of b row) as (λ t. is_row_of b row ≡ t → MatchOption (cond t (Some (row.0.1, row.1)) (first_of b rows)) ((c : Addr) → find station_cmp (b, c) (row ∷ rows) ≡ None) (λ x. Least b x.0 x.1 (row ∷ rows))) [
       | true ↦ λ t.
-          let key : ◌≡◌ {A = Bssid × Addr} (b, row.0.1) row.0 = λ i. (same_bssid b row.0.0 t i, row.0.1) in (
+          let key : ◌≡◌ {A = Bssid × Addr} (b, row.0.1) row.0 = λ i. (same_bssid row.0.0 b t i, row.0.1) in (
             ap (λ k. find station_cmp k (row ∷ rows)) key ∙ found_head station_total station_exact row rows,
             λ c w f. subst (λ r. r ≢ Greater) (ap (λ k. station_cmp k (b, c)) (sym key) ∙ at_bss b row.0.1 c) (head_least station_total station_exact row rows h (b, c) w f),
           )
@@ -138,7 +123,7 @@ module _ (b : Bssid) (a : Addr) (rows : List Row) (h : T (is_sorted station_cmp 
 
   next_row : (e : Row) → is_row_of b e ≡ true → IsAbove station_total station_exact (b, a) rows e → Next (e.0.1, e.1)
   next_row e mine is =
-      let key : ◌≡◌ {A = Bssid × Addr} e.0 (b, e.0.1) = λ i. (sym (same_bssid b e.0.0 mine) i, e.0.1) in
+      let key : ◌≡◌ {A = Bssid × Addr} e.0 (b, e.0.1) = λ i. (sym (same_bssid e.0.0 b mine) i, e.0.1) in
       let row : find station_cmp (b, e.0.1) rows ≡ Some e.1 = ap (λ k. find station_cmp k rows) (sym key) ∙ is.entry in (
         at_is b rows h e.0.1 ∙ row,
         record {

@@ -3,14 +3,19 @@ mod AllowedLaws
 mod BssLaws
 mod BssWrites
 mod Clashes
-mod DeniedRows
 pub mod Denied
+mod DeniedRows
 pub mod Dropped
 pub mod Empty
 mod Firsts
+pub mod InTurn
+mod KeysInOrder
 pub mod ListChanges
 mod ListCounts
 pub mod ListSets
 pub mod PolicySet
 pub mod Put
+mod Replays
+mod RowChanges
+mod SnapshotSize
 pub mod Takens

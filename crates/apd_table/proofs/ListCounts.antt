@@ -19,9 +19,7 @@ use Rattle.apd_base.proofs.RowsMaps.{entries-retain_keys}
 use Rattle.apd_base.proofs.StateLaws.{which_total, which_exact, list_total, list_exact}
 use Rattle.std.proofs.lemmas.Bool.{and_parts}
 use Rattle.apd_table.proofs.ListSets.{same_set, same_row, contains-retain_keys}
-
-both_ways : {A : Type 0} (t : Bool) → t ≡ false → t ≡ true → A
-both_ways t f h = cc
+use Rattle.apd_base.proofs.Cases.{differ}
 
 -- of no other list
 abbrev pub IsOf : Bssid → Which → Bssid × Which × Addr → Type 0
@@ -30,8 +28,8 @@ IsOf b w q = (q.0 ≡ b) × (q.1 ≡ w)
 pub row_is_of : (b : Bssid) (w : Which) (q : Bssid × Which × Addr) → is_row_of b w q ≡ true → IsOf b w q
 row_is_of b w q e =
     let parts = and_parts (eq_by_cmp bssid_cmp b q.0) (eq_by_cmp which_cmp w q.1) e in (
-      elim (one_or_apart bssid_total bssid_exact b q.0) [ inl same ↦ sym same | inr ne ↦ both_ways _ ne parts.0 ],
-      elim (one_or_apart which_total which_exact w q.1) [ inl same ↦ sym same | inr ne ↦ both_ways _ ne parts.1 ],
+      elim (one_or_apart bssid_total bssid_exact b q.0) [ inl same ↦ sym same | inr ne ↦ differ _ ne parts.0 ],
+      elim (one_or_apart which_total which_exact w q.1) [ inl same ↦ sym same | inr ne ↦ differ _ ne parts.1 ],
     )
 
 abbrev Item : Type 0
@@ -67,8 +65,8 @@ module _ (b : Bssid) (w : Which) where
   other_key q not x =
       elim (eq_by_cmp list_cmp q (b, w, x)) as (λ t. eq_by_cmp list_cmp q (b, w, x) ≡ t → t ≡ false) [
         | true ↦ λ e.
-            let k = elim (one_or_apart list_total list_exact q (b, w, x)) as (λ _. ◌≡◌ {A = Bssid × Which × Addr} q (b, w, x)) [ inl same ↦ same | inr ne ↦ both_ways _ ne e ] in
-            both_ways _ not (ap (is_row_of b w) k ∙ (λ i. tied bssid_total bssid_exact b i && tied which_total which_exact w i))
+            let k = elim (one_or_apart list_total list_exact q (b, w, x)) as (λ _. ◌≡◌ {A = Bssid × Which × Addr} q (b, w, x)) [ inl same ↦ same | inr ne ↦ differ _ ne e ] in
+            differ _ not (ap (is_row_of b w) k ∙ (λ i. tied bssid_total bssid_exact b i && tied which_total which_exact w i))
         | false ↦ λ e. refl
       ] refl
 

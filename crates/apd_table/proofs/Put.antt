@@ -16,6 +16,7 @@ use Rattle.apd_table.specs.Allowed.{allowed}
 use Rattle.apd_table.specs.Can.{MayHave, CanPut}
 use Rattle.apd_record.specs.Meaning.{put_station}
 use Rattle.apd_table.specs.Sound.{Sound}
+use Rattle.apd_base.proofs.Cases.{value_of}
 
 -- an identifier keeps its range by its type
 pub aid_range : (o : Option Station) (i : ℕ) → aid_of o ≡ Some i → (1 ≤ i) × (i ≤ 2007)
@@ -31,10 +32,6 @@ if_some_at P (Some y) x h e = let same : y ≡ x = cc in subst P same h
 if_some_from : {A : Type 0} (P : A → Type 0) (o : Option A) → ((x : A) → o ≡ Some x → P x) → IfSome o P
 if_some_from P None h = tt
 if_some_from P (Some y) h = h y refl
-
-is_some_value : {A : Type 0} (o : Option A) → IsSome o → (x : A) × (o ≡ Some x)
-is_some_value None h = cc
-is_some_value (Some x) h = (x, refl)
 
 module _ (s : State) (b : Bssid) (a : Addr) (v : Station) where
   abbrev new : State
@@ -79,7 +76,7 @@ module _ (s : State) (b : Bssid) (a : Addr) (v : Station) where
   pub sound_put : Sound s → CanPut s b a v → Sound new
   sound_put sound can =
       let may : (i : ℕ) → aid_of (Some v) ≡ Some i → MayHave s b a i = λ i e. if_some_at (MayHave s b a) (aid_of (Some v)) i can.identified e in
-      let alone : IsSome (aid_of (Some v)) → (c : Bssid) → IsSome (aid_at s c a) → b ≡ c = λ h c k. (let x = is_some_value _ h in (may x.0 x.1).alone c k) in
+      let alone : IsSome (aid_of (Some v)) → (c : Bssid) → IsSome (aid_at s c a) → b ≡ c = λ h c k. (let x = value_of _ h in (may x.0 x.1).alone c k) in
       record {
         identifiers = λ c d i h. aid_range (station_at new c d) i h;
         distinct = λ c d e i h k. elim (put_case c d) [

@@ -14,9 +14,7 @@ use Rattle.apd_base.specs.State.{State, aid_of, aid_at, station_at}
 use Rattle.apd_table.specs.LeastFree.{IsTaken, IsLeastFree}
 use Rattle.apd_table.specs.Rows.{has_aid, IsLeastUnmarked}
 use Rattle.apd_table.proofs.Clashes.{aid_from}
-
-both_ways : (t : Bool) → t ≡ false → t ≡ true → ⊥
-both_ways t f h = cc
+use Rattle.apd_base.proofs.Cases.{differ}
 
 module _ (s : State) (b : Bssid) where
   abbrev pub marked : ℕ → Bool
@@ -28,7 +26,7 @@ module _ (s : State) (b : Bssid) where
       let parts = and_parts _ _ e in
       elim (one_or_apart bssid_total bssid_exact b k.0) [
         | inl same ↦ (k.1, ap (λ c. aid_at s c k.1) same ∙ ap aid_of g ∙ ap Some (eqb-true x.aid.number i parts.1))
-        | inr ne ↦ absurd (both_ways _ ne parts.0)
+        | inr ne ↦ absurd (differ _ ne parts.0)
       ]
 
   pub taken_of : (i : ℕ) → marked i ≡ true → IsTaken s b i
@@ -38,7 +36,7 @@ module _ (s : State) (b : Bssid) where
   free_of i none a h =
       let x = aid_from (station_at s b a) i h in
       let test : has_aid b i ((b, a), Associated x.0) ≡ true = λ j. tied bssid_total bssid_exact b j && eq-eqb (x.0).aid.number i x.2 j in
-      both_ways _ none (passes_any station_total station_exact (has_aid b i) s.stations (b, a) (Associated x.0) x.1 test)
+      differ _ none (passes_any station_total station_exact (has_aid b i) s.stations (b, a) (Associated x.0) x.1 test)
 
   pub least_is : (r : Option ℕ) → IfSome r (IsLeastUnmarked marked) → IfSome r (IsLeastFree s b)
   least_is None h = tt

@@ -3,8 +3,12 @@ pub mod Allowed
 pub mod BssRows
 pub mod BssState
 pub mod Can
+pub mod InPlace
 pub mod LeastFree
 pub mod NewRow
 pub mod Rows
+pub mod Snapshot
 pub mod Sound
+pub mod Staged
+pub mod Standing
 pub mod Table

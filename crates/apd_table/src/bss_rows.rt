@@ -1,5 +1,5 @@
 //! The rows of BSSIDs: each has a policy and two lists.
-ghost use Rattle.std.specs.Prelude.{◌≡◌, ◌<◌, OnOk, OnErr, IsOk, IfOk, IsSome, IsTrue, T, not};
+ghost use Rattle.std.specs.Prelude.{◌≡◌, ◌<◌, ◌++◌, OnOk, OnErr, IsOk, IfOk, IsSome, IsTrue, T, not};
 ghost use Rattle.std.specs.List.{slice_get};
 ghost use Rattle.std.specs.Option.{option_copied, option_map};
 ghost use Rattle.std.specs.FinMap as map;
@@ -9,11 +9,14 @@ ghost use Rattle.apd_base.specs.State.{is_row_of};
 ghost use Rattle.apd_base.specs.declared.address.Addr.{Addr};
 ghost use Rattle.apd_base.specs.declared.station.Which.{Which};
 ghost use Rattle.apd_table.specs.BssRows.{no_bss, policy_of, is_listed_in};
+ghost use Rattle.apd_table.specs.Snapshot.{list_changes, policy_changes};
 ghost use Rattle.apd_table.specs.declared.bss_rows.Bss.{Bss};
 
+use crate::snapshot::{add_lists, add_policies};
 use crate::writes::{add_at, clear_at, remove_at, set_policy_at};
 use apd_acl::Lists;
 use apd_base::{Addr, Bssid, Policy, Which, rows};
+use apd_record::Change;
 use std::alloc::{AllocError, Global};
 use std::marker::Model;
 
@@ -86,6 +89,15 @@ impl BssRows {
         ensures { result ≡ slice_get (map.keys self.now.policies) place }
     {
         bssid_at(&self.rows, place)
+    }
+
+    /// Adds the changes that make the rows: all policies, and then all lists.
+    pub fn add_changes(&self, changes: &mut Vec<Change>) -> Result<(), AllocError>
+        ensures { OnOk result (changes.new.items ≡ changes.old.items ++ (policy_changes self.now.policies ++ list_changes self.now.lists)) }
+    {
+        add_policies(changes, &self.rows)?;
+        add_lists(changes, &self.rows)?;
+        Ok(())
     }
 
     /// Sets a BSSID's policy, or leaves all as it was. It lacks memory only for a BSSID without a row,

@@ -3,9 +3,14 @@
 #![tactic(auto)]
 
 mod bss_rows;
+mod changes;
 mod denials;
+pub mod snapshot;
+pub mod staged;
 mod stations;
 pub mod table;
 mod writes;
 
+pub use snapshot::MAX_SNAPSHOT;
+pub use staged::Staged;
 pub use table::{Table, TableFault};

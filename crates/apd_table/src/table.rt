@@ -1,5 +1,5 @@
 //! A table, seen as the state of an access point.
-ghost use Rattle.std.specs.Prelude.{◌≡◌, ◌≢◌, ℕ, ◌<◌, ◌≤◌, ◌⊎◌, ◌↔◌, OnOk, OnErr, IsOk, IfOk, IsSome, IfSome, IfNone, IsTrue, Some, None, Err};
+ghost use Rattle.std.specs.Prelude.{◌≡◌, ◌≢◌, ℕ, ◌<◌, ◌≤◌, ◌⊎◌, ◌↔◌, length, OnOk, OnErr, IsOk, IfOk, IsSome, IfSome, IfNone, IsTrue, Some, None, Err};
 ghost use Rattle.std.specs.List.{slice_get};
 ghost use Rattle.std.specs.Option.{option_map};
 ghost use Rattle.std.specs.declared.cmp.Ordering.TheVariants.{Less};
@@ -14,24 +14,27 @@ ghost use Rattle.apd_base.specs.declared.station.Which.TheVariants.{Accept};
 ghost use Rattle.apd_base.specs.State.{station_at, policy_at, count, list_count, IsListed, empty_state};
 ghost use Rattle.apd_acl.specs.Least.{IsLeast, IsLeastAbove};
 ghost use Rattle.apd_acl.specs.Lists.{has, list_of};
-ghost use Rattle.apd_record.specs.Meaning.{meaning, put_station, drop_station, add_to_list, take_from_list, clear_list, set_policy};
+ghost use Rattle.apd_record.specs.Meaning.{meaning, meaning_of, put_station, drop_station, add_to_list, take_from_list, clear_list, set_policy};
+ghost use Rattle.apd_record.specs.Record.{records_of};
 ghost use Rattle.apd_record.specs.declared.change.Change.TheVariants.{Drop};
 ghost use Rattle.apd_table.specs.Addresses.{addresses_at, denied_after};
 ghost use Rattle.apd_table.specs.Allowed.{allowed, allowed_in, allowed_unaccepted, denied_by, mode_and_max};
 ghost use Rattle.apd_table.specs.Can.{CanPut, CanSet, CanAdd, CanTake, CanClear, MayHave, NoneDenied};
 ghost use Rattle.apd_table.specs.LeastFree.{IsLeastFree, IsTaken};
 ghost use Rattle.apd_table.specs.NewRow.{IsNewRow};
-ghost use Rattle.apd_table.specs.Sound.{Sound};
+ghost use Rattle.apd_table.specs.Snapshot.{canonical};
+ghost use Rattle.apd_table.specs.Sound.{Sound, StaySound};
+ghost use Rattle.apd_table.specs.declared.snapshot.TheConstants.{MAX_SNAPSHOT};
 ghost use Rattle.apd_table.specs.declared.table.TableFault.{TableFault};
 ghost use Rattle.apd_table.specs.declared.table.TableFault.TheVariants.{NoMemory};
 
 use crate::bss_rows::BssRows;
-use crate::denials;
 use crate::stations::Stations;
+use crate::{denials, snapshot};
 use apd_acl::{Lists, policy};
 use apd_base::limits::{MAX_BSS, MAX_LISTED, MAX_STATIONS};
 use apd_base::{AclMode, Addr, Bssid, Policy, Station, Which};
-use apd_record::Change;
+use apd_record::{Change, known_changes};
 use std::alloc::{AllocError, Global};
 use std::marker::Model;
 use thiserror::Error;
@@ -239,6 +242,24 @@ impl Table {
             stations: self.stations.copy(alloc)?,
             bss: self.bss.copy(alloc)?,
         })
+    }
+
+    /// The changes that lead from the empty table to this one: each policy by BSSID, then each address of a
+    /// list by BSSID, list and address, then each station by BSSID and address. Made one after another from
+    /// the empty table on, each of them leaves a sound one. It takes memory for the changes alone, and
+    /// answers want of it.
+    pub fn snapshot(&self, alloc: Global) -> Result<Vec<Change>, AllocError>
+        ensures canonical { IfOk result (λ changes. changes.items ≡ canonical self.now) }
+        ensures sound { IfOk result (λ changes. StaySound changes.items empty_state) }
+        ensures leads { IfOk result (λ changes. meaning_of changes.items empty_state ≡ self.now) }
+        ensures size { IfOk result (λ changes. length (records_of changes.items) ≤ MAX_SNAPSHOT) }
+    {
+        self.sound();
+        let mut changes = Vec::new(alloc);
+        self.bss.add_changes(&mut changes)?;
+        snapshot::add_stations(&mut changes, self.stations.entries())?;
+        known_changes(&changes);
+        Ok(changes)
     }
 
     /// Makes a change, exactly where the state after it is sound; else the answer is `Invalid`, and
@@ -497,150 +518,6 @@ impl Table {
             return Err(TableFault::Invalid);
         }
         self.bss.clear(bssid, which);
-        Ok(())
-    }
-}
-
-#[cfg(test)]
-mod tests {
-    use super::*;
-    use apd_base::{Aid, Association, StationLimit};
-    use std::test::Fail;
-
-    const BSSID: Bssid = Bssid(Addr([2, 0, 0, 0, 0, 1]));
-
-    const FIRST: Addr = Addr([2, 0, 0, 0, 0, 0xaa]);
-
-    const SECOND: Addr = Addr([2, 0, 0, 0, 0, 0xbb]);
-
-    fn policy_of(bssid: Bssid, mode: AclMode) -> Result<Change, Fail> {
-        let max = StationLimit::new(2007).ok_or("limit")?;
-        let policy = Policy { mode, max };
-        Ok(Change::Policy { bssid, policy })
-    }
-
-    fn associated(addr: Addr, number: u16) -> Result<Change, Fail> {
-        let station = Station::Associated(Association {
-            aid: Aid::new(number).ok_or("identifier")?,
-            capability: 1,
-            listen_interval: 5,
-        });
-        Ok(Change::Put {
-            bssid: BSSID,
-            addr,
-            station,
-        })
-    }
-
-    fn authenticated(addr: Addr) -> Change {
-        Change::Put {
-            bssid: BSSID,
-            addr,
-            station: Station::Authenticated,
-        }
-    }
-
-    // No clause says that a change can be made: memory may lack.
-    #[test]
-    fn stations_and_policies_are_changed(rt: HostRuntime) -> Result<(), Fail> {
-        let open = policy_of(BSSID, AclMode::AcceptUnlessDenied)?;
-        let closed = policy_of(BSSID, AclMode::DenyUnlessAccepted)?;
-        let mut table = Table::new(rt.alloc());
-        let put = authenticated(FIRST);
-        assert_eq!(rt; table.apply(&put), Err(TableFault::Invalid));
-        assert_eq!(rt; table.apply(&open), Ok(()));
-        assert_eq!(rt; table.apply(&put), Ok(()));
-        assert_eq!(rt; table.get(BSSID, FIRST), Some(Station::Authenticated));
-        assert_eq!(rt; table.policy(BSSID), Some((0, 2007)));
-        assert_eq!(rt; table.apply(&closed), Err(TableFault::Invalid));
-        let denied = table.denied_by(rt.alloc(), BSSID, AclMode::DenyUnlessAccepted)?;
-        assert_eq!(rt; denied.as_slice(), [FIRST].as_slice());
-        let copy = table.copy(rt.alloc())?;
-        let drop = Change::Drop {
-            bssid: BSSID,
-            addr: FIRST,
-        };
-        assert_eq!(rt; table.apply(&drop), Ok(()));
-        assert_eq!(rt; table.apply(&closed), Ok(()));
-        assert_eq!(rt; (table.count(BSSID), copy.count(BSSID)), (0, 1));
-        Ok(())
-    }
-
-    #[test]
-    fn lists_are_changed(rt: HostRuntime) -> Result<(), Fail> {
-        let bssid = BSSID;
-        let addr = FIRST;
-        let add = |which: Which| Change::ListAdd { bssid, which, addr };
-        let take = |which: Which| Change::ListDel { bssid, which, addr };
-        let mut table = Table::new(rt.alloc());
-        assert_eq!(rt; table.apply(&take(Which::Accept)), Ok(()));
-        assert_eq!(rt; table.apply(&add(Which::Accept)), Err(TableFault::Invalid));
-        let open = policy_of(BSSID, AclMode::AcceptUnlessDenied)?;
-        assert_eq!(rt; table.apply(&open), Ok(()));
-        assert_eq!(rt; table.apply(&authenticated(addr)), Ok(()));
-        assert_eq!(rt; table.apply(&add(Which::Deny)), Err(TableFault::Invalid));
-        assert_eq!(rt; table.apply(&add(Which::Accept)), Ok(()));
-        assert_eq!(rt; table.apply(&add(Which::Deny)), Ok(()));
-        let clear = Change::ListClear {
-            bssid,
-            which: Which::Accept,
-        };
-        assert_eq!(rt; table.apply(&clear), Err(TableFault::Invalid));
-        assert_eq!(rt; table.apply(&take(Which::Accept)), Err(TableFault::Invalid));
-        let lists = table.lists(bssid).ok_or("lists")?;
-        assert_eq!(rt; (lists.len(Which::Accept), lists.len(Which::Deny)), (1, 1));
-        assert!(rt; table.allowed(bssid, addr));
-        assert_eq!(rt; table.apply(&take(Which::Deny)), Ok(()));
-        assert_eq!(rt; table.apply(&clear), Ok(()));
-        Ok(())
-    }
-
-    #[test]
-    fn rows_are_told(rt: HostRuntime) -> Result<(), Fail> {
-        let mut table = Table::new(rt.alloc());
-        let open = policy_of(BSSID, AclMode::AcceptUnlessDenied)?;
-        assert_eq!(rt; table.apply(&open), Ok(()));
-        assert_eq!(rt; table.apply(&associated(SECOND, 1)?), Ok(()));
-        assert_eq!(rt; table.least_free(BSSID), Some(2));
-        assert_eq!(rt; table.apply(&authenticated(FIRST)), Ok(()));
-        assert_eq!(rt; table.first(BSSID), Some((FIRST, Station::Authenticated)));
-        let (next, _) = table.next(BSSID, FIRST).ok_or("next")?;
-        assert_eq!(rt; next, SECOND);
-        assert_eq!(rt; table.next(BSSID, SECOND), None);
-        assert_eq!(rt; (table.bss(0), table.bss(1)), (Some(BSSID), None));
-        assert_eq!(rt;
-            (table.rows(), table.count(BSSID), table.bss_count()),
-            (2, 2, 1)
-        );
-        Ok(())
-    }
-
-    #[test]
-    fn addresses_are_told(rt: HostRuntime) -> Result<(), Fail> {
-        let mut table = Table::new(rt.alloc());
-        let open = policy_of(BSSID, AclMode::AcceptUnlessDenied)?;
-        assert_eq!(rt; table.apply(&open), Ok(()));
-        assert_eq!(rt; table.apply(&associated(SECOND, 1)?), Ok(()));
-        assert_eq!(rt; table.apply(&authenticated(FIRST)), Ok(()));
-        let all = table.addresses(rt.alloc(), BSSID)?;
-        assert_eq!(rt; all.as_slice(), [FIRST, SECOND].as_slice());
-        let deny = Change::ListAdd {
-            bssid: BSSID,
-            which: Which::Deny,
-            addr: SECOND,
-        };
-        let denied = table.denied_after(rt.alloc(), BSSID, &deny)?;
-        assert_eq!(rt; denied.as_slice(), [SECOND].as_slice());
-        Ok(())
-    }
-
-    #[test]
-    fn faults_say_what_they_are(rt: HostRuntime) -> Result<(), Fail> {
-        let alloc = rt.alloc();
-        let invalid = format!(in alloc; "{}", TableFault::Invalid)?;
-        assert_eq!(rt; invalid.as_str(), "invalid change");
-        let memory = format!(in alloc; "{}", TableFault::NoMemory)?;
-        assert_eq!(rt; memory.as_str(), "out of memory");
         Ok(())
     }
 }

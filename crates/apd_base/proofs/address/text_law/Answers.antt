@@ -1,5 +1,5 @@
-use Rattle.apd_base.proofs.AddrText.{text_reads, one_reading}
+use Rattle.apd_base.proofs.AddrText.{address_of-text_of}
 use Rattle.apd_base.proofs.address.text_law.Goals as goal
 
 pub returns : goal.returns
-returns c = record { read = text_reads; once = one_reading }
+returns c = address_of-text_of

@@ -6,11 +6,11 @@ use Rattle.apd_base.proofs.RowsLaws.{find-place}
 use Rattle.apd_base.proofs.rows.value.Goals as goal
 
 pub returns-in-Ok : goal.returns-in-Ok
-returns-in-Ok g c =
+returns-in-Ok g c sorted =
     let rows = c.args.rows.now in
-    sym (find-place g.met.K.Ord.total c.args.key.now rows c.requires ∙ ap (value_at rows) (sym c.in-Ok.ensures.exact) ∙ ap (option_map (λ e. e.1)) (slice_get-get_or rows c.in-Ok.i _ c.in-Ok.ensures.bound))
+    sym (find-place g.met.K.Ord.total c.args.key.now rows sorted ∙ ap (value_at rows) (sym (c.in-Ok.ensures.exact sorted)) ∙ ap (option_map (λ e. e.1)) (slice_get-get_or rows c.in-Ok.i _ c.in-Ok.ensures.bound))
 
 pub returns-in-Err : goal.returns-in-Err
-returns-in-Err g c =
+returns-in-Err g c sorted =
     let rows = c.args.rows.now in
-    sym (find-place g.met.K.Ord.total c.args.key.now rows c.requires ∙ ap (value_at rows) (sym c.in-Err.ensures.exact))
+    sym (find-place g.met.K.Ord.total c.args.key.now rows sorted ∙ ap (value_at rows) (sym (c.in-Err.ensures.exact sorted)))

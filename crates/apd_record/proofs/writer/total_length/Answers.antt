@@ -2,6 +2,7 @@ use Rattle.std.proofs.Common.{◌≡◌, ◌+◌, length, take, ap, ◌∙◌, s
 use Rattle.std.proofs.lemmas.List.{length-append}
 use Rattle.apd_record.specs.Record.{record_of, records_of}
 use Rattle.apd_record.proofs.Lengths.{records_so_far}
+use Rattle.apd_record.proofs.Progress.{known_so_far}
 use Rattle.apd_record.proofs.writer.total_length.Goals as goal
 
 pub loop-change-preserved : goal.loop-change-preserved
@@ -13,4 +14,7 @@ loop-change-preserved c =
     let item : length (record_of x) ≡ c.record_length.result = sym c.record_length.ensures.length in
     let longer : length (records_of (take (i + 1) xs)) ≡ so_far + c.record_length.result =
     ap length (records_so_far xs i x c.loop-change-test.true) ∙ length-append (records_of (take i xs)) _ ∙ ap (λ k. so_far + k) (ap (λ y. length (record_of y)) (sym c.change-item.is) ∙ item) in
-    omega arith
+    record {
+      total = omega arith;
+      known = known_so_far xs i x c.loop-change-test.true c.change-item.is c.loop-change.invariant.known c.known.ensures;
+    }

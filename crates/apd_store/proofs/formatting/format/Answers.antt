@@ -1,4 +1,4 @@
-use Rattle.std.proofs.Common.{◌≡◌, List, ℕ, sym, subst}
+use Rattle.std.proofs.Common.{◌≡◌, List, ℕ, false, sym, subst}
 use Rattle.apd_base.specs.State.{empty_state}
 use Rattle.apd_store.specs.Image.{Shows}
 use Rattle.apd_store.specs.declared.half.Half.TheVariants.{A}
@@ -10,4 +10,4 @@ returns-clause-shown g c = λ h i left.
     let device = c.lay_out.new.device in
     let found = c.in-Ok.ensures.found h in
     let is : i ≡ g.D.Disk.reads device = found.1 i (subst (λ d. g.D.Disk.may_leave d i) c.new.ensures.device left) in
-    subst (λ (l : List ℕ). Shows l empty_state) (sym is) (found_shows (g.D.Disk.reads device) A 13 empty_state found.0)
+    subst (λ (l : List ℕ). Shows l empty_state) (sym is) (found_shows (g.D.Disk.reads device) A 1 13 false empty_state found.0)

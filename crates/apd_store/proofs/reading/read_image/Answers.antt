@@ -10,7 +10,7 @@ pub returns-then-is_current-clause-ok : goal.returns-then-is_current-clause-ok
 returns-then-is_current-clause-ok c =
     let marked : IsMarked c.args.bytes.now = c.is_marked.ensures.0 c.if-not-is_marked.false in
     read_a c.args.bytes.now marked c.split_at.result.0.now c.split_at.result.1.now (slice_a c.args.bytes.now c.split_at.result.0.now c.split_at.ensures.front) (slice_b c.args.bytes.now c.split_at.result.1.now c.split_at.ensures.back) c.read_half.result
-    (c.is_current.ensures.0 c.if-is_current.true) c.read_half.ensures.half c.read_half.ensures.shows
+    (c.is_current.ensures.0 c.if-is_current.true) c.read_half.ensures.half c.read_half.ensures.shows c.read_half.ensures.other
 
 pub returns-then-is_current-clause-damaged : goal.returns-then-is_current-clause-damaged
 returns-then-is_current-clause-damaged c = λ e.
@@ -34,7 +34,7 @@ pub returns-then-is_current-2-clause-ok : goal.returns-then-is_current-2-clause-
 returns-then-is_current-2-clause-ok c =
     let marked : IsMarked c.args.bytes.now = c.is_marked.ensures.0 c.if-not-is_marked.false in
     read_b c.args.bytes.now marked c.split_at.result.0.now c.split_at.result.1.now (slice_a c.args.bytes.now c.split_at.result.0.now c.split_at.ensures.front) (slice_b c.args.bytes.now c.split_at.result.1.now c.split_at.ensures.back) c.read_half-then-is_current-2.result
-    (c.is_current-2.ensures.0 c.if-is_current-2.true) c.read_half-then-is_current-2.ensures.half c.read_half-then-is_current-2.ensures.shows
+    (c.is_current-2.ensures.0 c.if-is_current-2.true) c.read_half-then-is_current-2.ensures.half c.read_half-then-is_current-2.ensures.shows c.read_half-then-is_current-2.ensures.other
 
 pub returns-then-is_current-2-clause-damaged : goal.returns-then-is_current-2-clause-damaged
 returns-then-is_current-2-clause-damaged c = λ e.

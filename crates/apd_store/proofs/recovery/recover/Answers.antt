@@ -9,8 +9,8 @@ pub returns-in-Ok-read_image-clause-shown : goal.returns-in-Ok-read_image-clause
 returns-in-Ok-read_image-clause-shown g c = λ h.
     let found = c.in-Ok-read_image.found in
     let is : c.deref.result.now ≡ g.D.Disk.reads c.args.device = c.deref.ensures.value ∙ c.in-Ok.ensures.bytes h in
-    let f : IsFound c.deref.result.now found.half found.gate found.table = c.in-Ok-read_image.ensures.ok in
-    subst (λ (l : List ℕ). Shows l found.table) is (found_shows c.deref.result.now found.half found.gate found.table f)
+    let f : IsFound c.deref.result.now found.half found.epoch found.gate found.other_open found.table = c.in-Ok-read_image.ensures.ok in
+    subst (λ (l : List ℕ). Shows l found.table) is (found_shows c.deref.result.now found.half found.epoch found.gate found.other_open found.table f)
 
 pub returns-clause-damaged : goal.returns-clause-damaged
 returns-clause-damaged g c = λ h e.

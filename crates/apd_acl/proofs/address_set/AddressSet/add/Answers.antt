@@ -9,4 +9,4 @@ pub returns-clause-ok : goal.returns-clause-ok
 returns-clause-ok c = rw (← c.self.view_is) (put_means addr_total addr_exact c.args.addr tt c.self.inside.rows.items c.put.new.rows.items c.self.invariant c.put.result c.put.ensures.ok)
 
 pub returns-clause-over : goal.returns-clause-over
-returns-clause-over c found = c.put.ensures.over (found_place addr_total addr_exact c.args.addr c.self.inside.rows.items c.self.invariant (rw c.self.view_is found))
+returns-clause-over c found = c.put.ensures.over c.self.invariant (found_place addr_total addr_exact c.args.addr c.self.inside.rows.items c.self.invariant (rw c.self.view_is found))

@@ -5,7 +5,7 @@ use Rattle.apd_base.proofs.RowsMaps.{sorted_remove_at, remove-from_sorted}
 use Rattle.apd_acl.proofs.address_set.AddressSet.remove.Goals as goal
 
 pub invariant_of-self : goal.invariant_of-self
-invariant_of-self c = rw c.remove.ensures (sorted_remove_at addr_total addr_exact c.args.addr c.self.inside.rows.items c.self.invariant)
+invariant_of-self c = rw (c.remove.ensures c.self.invariant) (sorted_remove_at addr_total addr_exact c.args.addr c.self.inside.rows.items c.self.invariant)
 
 pub returns : goal.returns
-returns c = ap map.from_sorted c.remove.ensures ∙ sym (remove-from_sorted addr_total addr_exact c.args.addr c.self.inside.rows.items c.self.invariant) ∙ ap (λ m. map.remove m c.args.addr) c.self.view_is
+returns c = ap map.from_sorted (c.remove.ensures c.self.invariant) ∙ sym (remove-from_sorted addr_total addr_exact c.args.addr c.self.inside.rows.items c.self.invariant) ∙ ap (λ m. map.remove m c.args.addr) c.self.view_is

@@ -1,5 +1,7 @@
-use Rattle.std.proofs.Common.{◌≢◌, ℕ, ◌<◌, length, sym, arith, get_or-set_other, get_or-set_same, below_more}
+use Rattle.std.proofs.Common.{◌≢◌, ℕ, ◌<◌, length, sym, ◌∙◌, arith, get_or-set_other, get_or-set_same, below_more}
 use Rattle.std.proofs.Math.ListN.{length-set}
+use Rattle.apd_base.proofs.AddrText.{no_address, text-address_of}
+use Rattle.apd_base.proofs.Cases.{none_is_some}
 use Rattle.apd_base.proofs.address.Addr.parse.Goals as goal
 use Rattle.apd_base.proofs.address.Addr.parse.Goals.{else-i-lt5-via-then-i-lt5+else-text-i-ne58, else-i-lt5-via-else-i-lt5}
 
@@ -15,10 +17,20 @@ loop-i-preserved c = record {
   ]);
 }
 
-pub returns-clause-address : goal.returns-clause-address
-returns-clause-address c = record {
-  long = c.if-text-ne17.false;
-  six = c.loop-i.invariant.six;
-  pairs = λ k lt. c.loop-i.invariant.pairs k (omega (arith, c.loop-i-test.false));
-  colons = λ k lt. c.loop-i.invariant.colons k (omega (arith, c.loop-i-test.false)) lt;
-}
+pub returns-then-text-ne-TEXT_LENGTH : goal.returns-then-text-ne-TEXT_LENGTH
+returns-then-text-ne-TEXT_LENGTH c = no_address c.args.text.now (λ bytes t. c.if-text-ne-TEXT_LENGTH.true t.long)
+
+pub returns-then-text-i-ne58 : goal.returns-then-text-i-ne58
+returns-then-text-i-ne58 c = no_address c.args.text.now (λ bytes t. c.if-text-i-ne58.true (t.colons c.loop-i.i c.if-i-lt5.true))
+
+pub returns-in_default : goal.returns-in_default
+returns-in_default c = no_address c.args.text.now (λ bytes t. none_is_some _ (c.in_default.ensures ∙ t.pairs c.loop-i.i c.loop-i-test.true))
+
+pub returns : goal.returns
+returns c =
+    sym (text-address_of c.args.text.now c.loop-i.bytes (record {
+      long = c.if-text-ne-TEXT_LENGTH.false;
+      six = c.loop-i.invariant.six;
+      pairs = λ k lt. c.loop-i.invariant.pairs k (omega (arith, c.loop-i-test.false));
+      colons = λ k lt. c.loop-i.invariant.colons k (omega (arith, c.loop-i-test.false)) lt;
+    }))

@@ -1,20 +1,20 @@
 use Rattle.std.proofs.Common.{sym, ap, ◌∙◌}
 use Rattle.apd_base.specs.Addr.{bssid_cmp}
-use Rattle.apd_base.specs.Rows.{place}
 use Rattle.apd_base.proofs.AddrLaws.{bssid_total, bssid_exact}
 use Rattle.apd_table.specs.BssRows.{with_cleared, state_of_rows}
 use Rattle.apd_table.proofs.BssWrites.{sorted_after, rows_are, row, state_cleared, same_cleared, lists_clear, absent_at}
+use Rattle.apd_base.proofs.RowsMaps.{placed}
 use Rattle.apd_table.proofs.bss_rows.BssRows.clear.Goals as goal
 
 pub invariant_of-self : goal.invariant_of-self
 invariant_of-self c =
-    sorted_after c.self.inside.rows.items c.self.invariant c.args.bssid c.in-Ok.at (c.in-Ok.ensures.exact ∙ ap (place bssid_cmp c.args.bssid) c.deref.ensures.value)
+    sorted_after c.self.inside.rows.items c.self.invariant c.args.bssid c.in-Ok.at (placed bssid_cmp c.args.bssid c.self.inside.rows.items _ c.deref.ensures.value c.self.invariant _ c.in-Ok.ensures.exact)
     (with_cleared c.args.which) c.clear_at.new.rows.items c.clear_at.ensures
 
 pub returns-in-Ok : goal.returns-in-Ok
 returns-in-Ok c =
     let xs = c.self.inside.rows.items in
-    let is = (c.in-Ok.ensures.exact ∙ ap (place bssid_cmp c.args.bssid) c.deref.ensures.value) in
+    let is = (placed bssid_cmp c.args.bssid c.self.inside.rows.items _ c.deref.ensures.value c.self.invariant _ c.in-Ok.ensures.exact) in
     let ys = c.clear_at.new.rows.items in
     let entry = row xs c.self.invariant c.args.bssid c.in-Ok.at is (with_cleared c.args.which) ys in
     ap state_of_rows (rows_are xs c.self.invariant c.args.bssid c.in-Ok.at is (with_cleared c.args.which) ys c.clear_at.ensures)
@@ -23,6 +23,6 @@ returns-in-Ok c =
 pub returns-in_default : goal.returns-in_default
 returns-in_default c =
     let xs = c.self.inside.rows.items in
-    let is = c.in_default.ensures.exact ∙ ap (place bssid_cmp c.args.bssid) c.deref.ensures.value in
+    let is = placed bssid_cmp c.args.bssid c.self.inside.rows.items _ c.deref.ensures.value c.self.invariant _ c.in_default.ensures.exact in
     sym c.self.view_is ∙ same_cleared xs c.self.invariant c.args.bssid (absent_at bssid_total bssid_exact c.args.bssid xs c.self.invariant c.in_default.field-0 (sym is)) c.args.which
     ∙ ap (lists_clear c.args.bssid c.args.which) c.self.view_is

@@ -6,14 +6,15 @@ use Rattle.apd_base.specs.Sets.{contains}
 use Rattle.apd_table.specs.BssRows.{policy_of, is_listed_in}
 use Rattle.apd_table.specs.BssState.{BssState}
 use Rattle.apd_table.proofs.BssLaws.{get-policy_rows, contains-list_rows}
+use Rattle.apd_base.proofs.RowsMaps.{valued}
 use Rattle.apd_table.proofs.bss_rows.BssRows.get.Goals as goal
 
 pub returns-clause-policy : goal.returns-clause-policy
 returns-clause-policy c =
-    ap (option_map policy_of) (c.value.ensures ∙ ap (map.find bssid_cmp c.args.bssid) c.deref.ensures.value)
+    ap (option_map policy_of) (valued bssid_cmp c.args.bssid c.self.inside.rows.items _ c.deref.ensures.value c.self.invariant _ c.value.ensures)
     ∙ sym (get-policy_rows c.self.inside.rows.items c.self.invariant c.args.bssid) ∙ ap (λ (s : BssState). map.get s.policies c.args.bssid) c.self.view_is
 
 pub returns-clause-lists : goal.returns-clause-lists
 returns-clause-lists c w a =
-    ap (λ r. is_listed_in r w a) (c.value.ensures ∙ ap (map.find bssid_cmp c.args.bssid) c.deref.ensures.value)
+    ap (λ r. is_listed_in r w a) (valued bssid_cmp c.args.bssid c.self.inside.rows.items _ c.deref.ensures.value c.self.invariant _ c.value.ensures)
     ∙ sym (contains-list_rows c.self.inside.rows.items c.args.bssid w a c.self.invariant) ∙ ap (λ (s : BssState). contains s.lists (c.args.bssid, w, a)) c.self.view_is

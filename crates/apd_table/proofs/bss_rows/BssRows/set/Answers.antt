@@ -3,22 +3,23 @@ use Rattle.std.specs.FinMap as map
 use Rattle.apd_acl.specs.Lists.{no_lists}
 use Rattle.apd_acl.specs.declared.lists.Lists.{Lists}
 use Rattle.apd_base.specs.Addr.{bssid_cmp}
-use Rattle.apd_base.specs.Rows.{place, put_at}
+use Rattle.apd_base.specs.Rows.{put_at}
 use Rattle.apd_base.proofs.AddrLaws.{bssid_total, bssid_exact}
 use Rattle.apd_table.specs.BssRows.{with_policy, state_of_rows}
 use Rattle.apd_table.specs.BssState.{BssState}
 use Rattle.apd_table.proofs.BssWrites.{sorted_after, rows_are, row, state_set, state_new, policies_with, sorted_new, absent_at, has_place}
+use Rattle.apd_base.proofs.RowsMaps.{placed}
 use Rattle.apd_table.proofs.bss_rows.BssRows.set.Goals as goal
 
 pub invariant_of-self : goal.invariant_of-self
 invariant_of-self c =
-    sorted_after c.self.inside.rows.items c.self.invariant c.args.bssid c.in-Ok.at (c.in-Ok.ensures.exact ∙ ap (place bssid_cmp c.args.bssid) c.deref.ensures.value)
+    sorted_after c.self.inside.rows.items c.self.invariant c.args.bssid c.in-Ok.at (placed bssid_cmp c.args.bssid c.self.inside.rows.items _ c.deref.ensures.value c.self.invariant _ c.in-Ok.ensures.exact)
     (with_policy c.args.policy) c.set_policy_at.new.rows.items c.set_policy_at.ensures
 
 pub returns-in-Ok-clause-ok : goal.returns-in-Ok-clause-ok
 returns-in-Ok-clause-ok c =
     let xs = c.self.inside.rows.items in
-    let is = (c.in-Ok.ensures.exact ∙ ap (place bssid_cmp c.args.bssid) c.deref.ensures.value) in
+    let is = (placed bssid_cmp c.args.bssid c.self.inside.rows.items _ c.deref.ensures.value c.self.invariant _ c.in-Ok.ensures.exact) in
     let ys = c.set_policy_at.new.rows.items in
     let entry = row xs c.self.invariant c.args.bssid c.in-Ok.at is (with_policy c.args.policy) ys in
     ap state_of_rows (rows_are xs c.self.invariant c.args.bssid c.in-Ok.at is (with_policy c.args.policy) ys c.set_policy_at.ensures)
@@ -26,13 +27,13 @@ returns-in-Ok-clause-ok c =
 
 pub invariant_of-self-in-Err : goal.invariant_of-self-in-Err
 invariant_of-self-in-Err c =
-    sorted_new c.self.inside.rows.items c.self.invariant c.args.bssid c.in-Err.at (c.in-Err.ensures.exact ∙ ap (place bssid_cmp c.args.bssid) c.deref.ensures.value)
+    sorted_new c.self.inside.rows.items c.self.invariant c.args.bssid c.in-Err.at (placed bssid_cmp c.args.bssid c.self.inside.rows.items _ c.deref.ensures.value c.self.invariant _ c.in-Err.ensures.exact)
     (record { policy = c.args.policy; lists = c.new-lists.result }) c.insert.new.self.items c.in_ok-insert-in-Err.ensures.items
 
 pub returns-in_ok-insert-in-Err-clause-ok : goal.returns-in_ok-insert-in-Err-clause-ok
 returns-in_ok-insert-in-Err-clause-ok c =
     let xs = c.self.inside.rows.items in
-    let is = (c.in-Err.ensures.exact ∙ ap (place bssid_cmp c.args.bssid) c.deref.ensures.value) in
+    let is = (placed bssid_cmp c.args.bssid c.self.inside.rows.items _ c.deref.ensures.value c.self.invariant _ c.in-Err.ensures.exact) in
     ap state_of_rows (c.in_ok-insert-in-Err.ensures.items ∙ ap (λ (lists : Lists). put_at xs c.args.bssid (record { policy = c.args.policy; lists = lists }) (Err c.in-Err.at)) c.new-lists.ensures
     ∙ ap (put_at xs c.args.bssid (record { policy = c.args.policy; lists = no_lists })) is)
     ∙ state_new xs c.self.invariant c.args.bssid (absent_at bssid_total bssid_exact c.args.bssid xs c.self.invariant c.in-Err.at (sym is)) c.args.policy
@@ -41,5 +42,5 @@ returns-in_ok-insert-in-Err-clause-ok c =
 -- memory is wanting only where there is no row
 pub returns-in_err-insert-in-Err-clause-over : goal.returns-in_err-insert-in-Err-clause-over
 returns-in_err-insert-in-Err-clause-over c found =
-    has_place c.self.inside.rows.items c.self.invariant c.args.bssid c.in-Err.at (c.in-Err.ensures.exact ∙ ap (place bssid_cmp c.args.bssid) c.deref.ensures.value)
+    has_place c.self.inside.rows.items c.self.invariant c.args.bssid c.in-Err.at (placed bssid_cmp c.args.bssid c.self.inside.rows.items _ c.deref.ensures.value c.self.invariant _ c.in-Err.ensures.exact)
     (subst (λ (s : BssState). IsSome (map.get s.policies c.args.bssid)) (sym c.self.view_is) found)

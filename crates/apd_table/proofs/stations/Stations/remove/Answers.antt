@@ -7,9 +7,9 @@ use Rattle.apd_base.specs.declared.address.Bssid.{Bssid}
 use Rattle.apd_table.proofs.stations.Stations.remove.Goals as goal
 
 pub invariant_of-self : goal.invariant_of-self
-invariant_of-self c = rw c.remove.ensures (sorted_remove_at station_total station_exact (c.args.bssid, c.args.addr) c.self.inside.rows.items c.self.invariant)
+invariant_of-self c = rw (c.remove.ensures c.self.invariant) (sorted_remove_at station_total station_exact (c.args.bssid, c.args.addr) c.self.inside.rows.items c.self.invariant)
 
 pub returns : goal.returns
 returns c =
     let k : Bssid × Addr = (c.args.bssid, c.args.addr) in
-    ap map.from_sorted c.remove.ensures ∙ sym (remove-from_sorted station_total station_exact k c.self.inside.rows.items c.self.invariant) ∙ ap (λ m. map.remove m k) c.self.view_is
+    ap map.from_sorted (c.remove.ensures c.self.invariant) ∙ sym (remove-from_sorted station_total station_exact k c.self.inside.rows.items c.self.invariant) ∙ ap (λ m. map.remove m k) c.self.view_is

@@ -1,9 +1,0 @@
-use Rattle.std.specs.Io.Take.{take_remaining}
-use Rattle.apd.proofs.Running.{IsSoFar}
-use Rattle.apd.proofs.script.run_script.Given as goal
-
--- the lines so far were run
-abbrev pub invariant-loop-number : goal.invariant-loop-number
-invariant-loop-number g l =
-    IsSoFar (g.R.Read.remaining l.fn.reader) (take_remaining g.R.Read.remaining l.reader) l.number l.length l.fn.world l.run.moment l.run.world
-    (g.W.Write.contents l.fn.writer) (g.W.Write.contents l.writer)

@@ -1,0 +1,136 @@
+-- A core's fields keep what they should.
+use Rattle.std.proofs.Common.{◌≡◌, ℕ, ◌+◌, ◌<◌, ◌≤◌, ◌^◌, false, List, [], ◌∷◌, ◌++◌, length, take, IsSome, Result, Ok, Err, OnOk, OnErr, refl, sym, ap, subst, ◌∙◌, arith}
+use Rattle.std.specs.Prelude.{min, ◌-◌}
+use Rattle.std.specs.List.{AllByRecursion}
+use Rattle.std.specs.FinMap as maps
+use Rattle.std.proofs.lemmas.List.{map-append, take-append-le}
+use Rattle.apd_base.specs.declared.moment.Moment.{Moment}
+use Rattle.apd_base.specs.State.{State}
+use Rattle.apd_mlme.specs.Happening.{Happening}
+use Rattle.apd_mlme.specs.declared.decision.Recipient.{Recipient}
+use Rattle.apd_mlme.specs.Rules.{verdict, IsFit}
+use Rattle.apd_mlme.proofs.RadioLaws.{verdict_there}
+use Rattle.apd_record.specs.Meaning.{meaning_of}
+use Rattle.apd_record.specs.Ranges.{AreChanges}
+use Rattle.apd_record.specs.Record.{records_of}
+use Rattle.apd_mlme.specs.declared.decision.TheConstants.{MAX_RECORDS}
+use Rattle.apd_conf.specs.Confs.{AreConfs}
+use Rattle.apd_conf.specs.declared.conf.Conf.{Conf}
+use Rattle.apd_table.specs.Sound.{Sound}
+use Rattle.apd_core.specs.Core.{CoreState, changes_of, front_of, last_of, is_busy, new_core, with_entry, with_sender, handed}
+use Rattle.apd_core.specs.Fields.{core_of, entries_of, IsKept, IsMeasured}
+use Rattle.apd_core.specs.Heard.{AreMomentsOf, heard_by_changes}
+use Rattle.apd_core.specs.Held.{HeldOuts, no_outs, with_outs, after_hand}
+use Rattle.apd_core.specs.Invariant.{IsCore}
+use Rattle.apd_core.specs.declared.entry.Entry.{Entry}
+use Rattle.apd_core.specs.declared.request_core.Core.TheInside.{Inside}
+use Rattle.apd_core.proofs.Keeping.{entry_core, new_is_core, sender_core, meaning-push, one_more}
+use Rattle.apd_core.proofs.Settling.{handed_core}
+
+pub kept_from : (c : Inside) (s : CoreState) → core_of c ≡ s → IsCore s → c.front ≡ front_of s → c.last ≡ last_of s
+    → c.batch ≡ changes_of (take c.flight (entries_of c.unsettled.items)) → AllByRecursion IsMeasured c.unsettled.items → IsKept c
+kept_from c s view core front last batch measured =
+    record { core = subst IsCore (sym view) core; front_is = front ∙ ap front_of (sym view); last_is = last ∙ ap last_of (sym view); batch_is = batch; measured = measured }
+
+-- the number of an entry more is above those of all that are kept
+pub later_than : (c : Inside) → IsKept c → (k : ℕ) → IsSome (maps.get c.held.left k) → k < c.last + 1
+later_than c kept k is = let l = kept.core.kept_given k is in let last = kept.last_is in omega (arith, l, last)
+
+measured_push : (xs : List Entry) (x : Entry) → AllByRecursion IsMeasured xs → IsMeasured x → AllByRecursion IsMeasured (xs ++ x ∷ [])
+measured_push [] x all one = (one, tt)
+measured_push (y ∷ xs) x all one = (all.0, measured_push xs x all.1 one)
+
+-- ---- an entry more
+module _ (c d : Inside) (m : Moment) (h : Happening) (x : Entry) (kept : IsKept c)
+    (confs : d.confs ≡ c.confs) (settled : d.settled.table ≡ c.settled.table) (number : d.number ≡ c.number) (flight : d.flight ≡ c.flight) (failed : d.failed ≡ c.failed)
+    (items : d.unsettled.items ≡ c.unsettled.items ++ x ∷ [])
+    (changes : x.changes ≡ (verdict (front_of (core_of c)) c.confs h).changes)
+    (held : d.held ≡ with_outs c.confs (c.last + 1) (verdict (front_of (core_of c)) c.confs h).outs c.held)
+    (heard : d.heard.heard ≡ heard_by_changes m x.changes c.heard.heard) where
+  abbrev more : CoreState
+  more = with_entry (core_of c) m h
+
+  entries_more : entries_of d.unsettled.items ≡ entries_of c.unsettled.items ++ (verdict (front_of (core_of c)) c.confs h).changes ∷ []
+  entries_more = ap entries_of items ∙ map-append (λ (e : Entry). e.changes) c.unsettled.items (x ∷ []) ∙ ap (λ cs. entries_of c.unsettled.items ++ cs ∷ []) changes
+
+  pub entered_view : core_of d ≡ more
+  entered_view = λ i. record {
+    confs = confs i;
+    settled = settled i;
+    number = number i;
+    unsettled = entries_more i;
+    flight = flight i;
+    held = (held ∙ ap (λ n. with_outs c.confs (n + 1) (verdict (front_of (core_of c)) c.confs h).outs c.held) kept.last_is) i;
+    heard = (heard ∙ ap (λ cs. heard_by_changes m cs c.heard.heard) changes) i;
+    failed = failed i;
+  }
+
+  pub entered_kept : d.front ≡ meaning_of x.changes c.front → d.last ≡ c.last + 1 → d.batch ≡ c.batch → IsMeasured x
+      → IsFit (front_of (core_of c)) c.confs h → is_busy (core_of c) ≡ false → last_of (core_of c) + 1 < 2 ^ 64 → IsKept d
+  entered_kept front last batch measured fit free room =
+      let s = core_of c in
+      let there = verdict_there (front_of s) c.confs h in
+      let fly = kept.core.in_flight in
+      let longer = one_more s m h kept.core there free in
+      let was = kept.last_is in
+      let same_take : take d.flight (entries_of d.unsettled.items) ≡ take c.flight (entries_of c.unsettled.items) =
+      (λ i. take (flight i) (entries_more i)) ∙ take-append-le c.flight (entries_of c.unsettled.items) _ fly in
+      kept_from d more entered_view (entry_core s m h kept.core there free fit room)
+      (front ∙ (λ i. meaning_of (changes i) (kept.front_is i)) ∙ sym (meaning-push s.unsettled (verdict (front_of s) s.confs h).changes s.settled))
+      (last ∙ omega (arith, was, longer))
+      (batch ∙ kept.batch_is ∙ ap changes_of (sym same_take))
+      (subst (AllByRecursion IsMeasured) (sym items) (measured_push c.unsettled.items x kept.measured measured))
+
+-- ---- the same fields, and other moments or outs
+pub same_view : (c d : Inside) → d.confs ≡ c.confs → d.settled.table ≡ c.settled.table → d.number ≡ c.number → d.unsettled.items ≡ c.unsettled.items → d.flight ≡ c.flight
+    → d.held ≡ c.held → d.heard.heard ≡ c.heard.heard → d.failed ≡ c.failed → core_of d ≡ core_of c
+same_view c d confs settled number items flight held heard failed = λ i. record {
+  confs = confs i;
+  settled = settled i;
+  number = number i;
+  unsettled = entries_of (items i);
+  flight = flight i;
+  held = held i;
+  heard = heard i;
+  failed = failed i;
+}
+
+pub same_kept : (c d : Inside) → IsKept c → core_of d ≡ core_of c → d.front ≡ c.front → d.last ≡ c.last → d.batch ≡ c.batch → d.unsettled.items ≡ c.unsettled.items → d.flight ≡ c.flight → IsKept d
+same_kept c d kept view front last batch items flight =
+    kept_from d (core_of c) view kept.core (front ∙ kept.front_is) (last ∙ kept.last_is)
+    (batch ∙ kept.batch_is ∙ (λ i. changes_of (take (sym flight i) (entries_of (sym items i)))))
+    (subst (AllByRecursion IsMeasured) (sym items) kept.measured)
+
+-- a sender was heard
+pub sender_kept : (c d : Inside) (m : Moment) (h : Happening) → IsKept c → core_of d ≡ with_sender m h (core_of c) → d.front ≡ c.front → d.last ≡ c.last → d.batch ≡ c.batch → d.unsettled.items ≡ c.unsettled.items → d.flight ≡ c.flight → IsKept d
+sender_kept c d m h kept view front last batch items flight =
+    kept_from d (with_sender m h (core_of c)) view (sender_core (core_of c) m h kept.core) (front ∙ kept.front_is) (last ∙ kept.last_is)
+    (batch ∙ kept.batch_is ∙ (λ i. changes_of (take (sym flight i) (entries_of (sym items i)))))
+    (subst (AllByRecursion IsMeasured) (sym items) kept.measured)
+
+-- outs are handed out, or memory was refused
+pub handed_kept : {A E : Type 0} (c d : Inside) (to : Recipient) (r : Result A E) → IsKept c
+    → OnOk r (d.held ≡ after_hand c.confs c.number to c.held) → OnErr r (d.held ≡ c.held)
+    → d ≡ record c { held = d.held } → IsKept d
+handed_kept c d to (Ok v) kept ok err same =
+    let e : d ≡ record c { held = after_hand c.confs c.number to c.held } = same ∙ ap (λ (hs : HeldOuts). record c { held = hs }) ok in
+    subst IsKept (sym e)
+    (kept_from _ (handed to (core_of c)) refl (handed_core (core_of c) to kept.core) kept.front_is kept.last_is kept.batch_is kept.measured)
+handed_kept c d to (Err x) kept ok err same = subst IsKept (sym (same ∙ ap (λ (hs : HeldOuts). record c { held = hs }) err)) kept
+
+-- ---- a new core
+pub new_kept : (c : Inside) (table : State) (confs : List Conf) → c.confs ≡ confs → c.settled.table ≡ table → c.number ≡ 0 → c.unsettled.items ≡ [] → c.flight ≡ 0
+    → c.held ≡ no_outs confs → c.failed ≡ false → c.front ≡ table → c.last ≡ 0 → c.batch ≡ [] → AreConfs confs → Sound table → AreMomentsOf table c.heard.heard → IsKept c
+new_kept c table confs is_confs settled number items flight held failed front last batch are sound moments =
+    let view : core_of c ≡ new_core table confs c.heard.heard =
+    (λ i. record { confs = is_confs i; settled = settled i; number = number i; unsettled = entries_of (items i); flight = flight i; held = held i; heard = c.heard.heard; failed = failed i }) in
+    kept_from c (new_core table confs c.heard.heard) view (new_is_core table confs c.heard.heard are sound moments) front last
+    (batch ∙ sym (λ i. changes_of (take (flight i) (entries_of (items i)))))
+    (subst (AllByRecursion IsMeasured) (sym items) tt)
+
+-- ---- an entry is measured
+pub measured_entry : (x : Entry) → AreChanges x.changes → x.length ≡ min (length (records_of x.changes)) (2 ^ 64 - 1) → length (records_of x.changes) ≤ MAX_RECORDS → IsMeasured x
+measured_entry x are is few =
+    let small : min (length (records_of x.changes)) (2 ^ 64 - 1) ≡ length (records_of x.changes) = omega arith in
+    let same = is ∙ small in
+    record { changes_are = are; length_is = same; short = omega (arith, same, few) }

@@ -1,0 +1,28 @@
+use Rattle.std.proofs.Common.{List, ◌<◌, length, map, sym, ap, subst, ◌∙◌, arith}
+use Rattle.std.specs.List.{AllByRecursion}
+use Rattle.apd_mlme.specs.declared.decision.Out.{Out}
+use Rattle.apd_mlme.specs.declared.decision.Recipient.{Recipient}
+use Rattle.apd_core.specs.Held.{Queue, queue_place, queued}
+use Rattle.apd_core.specs.TakingBack.{before, MayFollow}
+use Rattle.apd_core.proofs.Places.{queue_place_below}
+use Rattle.apd_core.proofs.Queues.{added_at, length-queued_at, before-queued_at}
+use Rattle.apd_core.proofs.HeldLaws.{follow_more}
+use Rattle.apd_core.proofs.held.add.Goals as goal
+
+pub bounds-queues-place : goal.bounds-queues-place
+bounds-queues-place c = omega (arith, queue_place_below c.args.confs.now c.in-Some.to c.in-Some-place_of.place (sym c.in-Some-place_of.ensures.place), c.loop-to.invariant.size)
+
+pub loop-to-preserved-in-Continue-1 : goal.loop-to-preserved-in-Continue-1
+loop-to-preserved-in-Continue-1 c =
+    let confs = c.args.confs.now in let n = c.args.number in let qs = c.loop-to.queues in let out = c.in-Some.out in
+    let p = queue_place confs c.in-Some.to in
+    let lt : c.in-Some-place_of.place < length qs = omega (arith, queue_place_below confs c.in-Some.to c.in-Some-place_of.place (sym c.in-Some-place_of.ensures.place), c.loop-to.invariant.size) in
+    let e = added_at qs p c.in-Some-place_of.place c.index-queues-place.result c.push.new.self (n, out) c.in-Some-place_of.ensures.place lt c.in_ok-push.ensures.ok in
+    record {
+      next = tt;
+      finite = tt;
+      size = ap length e ∙ length-queued_at qs p (n, out) ∙ c.loop-to.invariant.size;
+      added = ap (queued confs n c.next.new.self.rest.items) e ∙ sym (ap (λ (l : List (Recipient × Out)). queued confs n l qs) c.in-Some.ensures.steps.0) ∙ c.loop-to.invariant.added;
+      before = ap (map (before n)) e ∙ before-queued_at n qs p (n, out) (omega arith) ∙ c.loop-to.invariant.before;
+      order = λ f. subst (λ (l : List Queue). AllByRecursion (MayFollow n) l) (sym e) (follow_more n qs p out (c.loop-to.invariant.order f));
+    }

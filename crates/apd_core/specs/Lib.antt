@@ -1,0 +1,12 @@
+pub mod Core
+pub mod CoreCodes
+pub mod Fields
+pub mod Heard
+pub mod Held
+pub mod HeldCodes
+pub mod Invariant
+pub mod Noted
+pub mod Requests
+pub mod Room
+pub mod Silent
+pub mod TakingBack

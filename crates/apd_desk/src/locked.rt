@@ -1,0 +1,288 @@
+//! What lies under the lock.
+ghost use Rattle.std.specs.Prelude.{◌≡◌, ◌+◌, ◌≤◌, ◌<◌, ◌↔◌, ℕ, List, length, vec_len, IfOk, IfErr, IfSome, OnOk, OnErr, IsNone, IsOk, IsTrue, IfNone, Some, None, true};
+ghost use Rattle.std.specs.Option.{option_copied, option_map};
+ghost use Rattle.apd_conf.specs.Confs.{conf_named};
+ghost use Rattle.apd_core.specs.Core.{accepted as accepted_by, after_request, answered, cannot_take, handed, last_of, published, ready_for, IsFlight, IsTaken};
+ghost use Rattle.apd_store.specs.Outside.{held_batch};
+ghost use Rattle.apd_desk.specs.Counted.{counted, entries_in};
+ghost use Rattle.apd_desk.specs.Own.{IsOwn};
+ghost use Rattle.apd_desk.specs.Seen.{seen_after, IsBehind};
+
+use crate::notes::Notes;
+use crate::seat::{AskFault, SEATS, Seat};
+use apd_base::{Bssid, Moment};
+use apd_core::{Accepted, Answer, Core, Input, PublishFault};
+use apd_ctrl::Query;
+use apd_journal::Batch;
+use apd_mlme::{Out, Recipient};
+use apd_store::Receipt;
+use std::alloc::AllocError;
+use std::sync::ledger::{Blank, Book, Ledger, Share};
+
+/// What a worker sees at a look: whether it is to stop, how many entries were accepted, and the number of
+/// the last settled one. Where nothing was accepted or settled since, another look sees the same.
+#[derive(Clone, Copy, Debug, PartialEq, Eq)]
+pub(crate) struct Look {
+    pub(crate) stopped: bool,
+    pub(crate) accepted: u64,
+    pub(crate) settled: u64,
+}
+
+/// A core, the entries that it accepted since it was shared, by the seats' counts, and what is noted beside it.
+#[derive(Drop)]
+pub(crate) struct Locked<L: Ledger> {
+    core: Core,
+    accepted: u64,
+    book: Book<L>,
+    // The seats that are not given, a part of the ledger each.
+    spare: Share<L>,
+    given: u32,
+    stopped: bool,
+    notes: Notes,
+    ghost counted: { accepted ≡ book.total },
+    ghost within: { accepted ≤ core.number + length core.unsettled },
+    ghost parts: { spare.parts + given ≡ 65536 },
+    ghost unspent: { spare.amount ≡ 0 },
+}
+
+impl<L: Ledger> Locked<L> {
+    /// A core of which no seat is given.
+    pub(crate) fn new(core: Core, blank: Blank) -> Locked<L>
+        requires name { blank.name ≡ L.name }
+        requires parts { blank.parts ≡ L.parts }
+        requires all { blank.parts ≡ SEATS }
+        ensures core { result.core ≡ core }
+        ensures accepted { result.accepted ≡ 0 }
+        ensures given { result.given ≡ 0 }
+    {
+        let (book, spare) = blank.open::<L>();
+        Locked {
+            core,
+            accepted: 0,
+            book,
+            spare,
+            given: 0,
+            stopped: false,
+            notes: Notes::new(),
+        }
+    }
+
+    /// A seat that was not given yet; none exactly where all were given.
+    pub(crate) fn seat(&mut self) -> Option<Seat<L>>
+        ensures none { IsNone result ↔ (self.old.given ≡ SEATS) }
+        ensures new { IfSome result (λ seat. (seat.count ≡ 0) × (seat.seen ≡ 0)) }
+        ensures given { IfSome result (λ seat. self.new.given ≡ self.old.given + 1) }
+        ensures stays { IfNone result (self.new ≡ self.old) }
+        ensures core { self.new.core ≡ self.old.core }
+        ensures accepted { self.new.accepted ≡ self.old.accepted }
+    {
+        if self.given >= SEATS {
+            return None;
+        }
+        let Locked { spare, given, .. } = self;
+        let share = spare.split_off(1, 0);
+        *given += 1;
+        Some(Seat {
+            count: 0,
+            seen: 0,
+            share,
+        })
+    }
+
+    /// Accepts a request for a seat, and counts it exactly where it is an entry.
+    pub(crate) fn submit<'a>(
+        &mut self,
+        seat: &mut Seat<L>,
+        input: Input<'a>,
+        moment: Moment,
+    ) -> Result<Accepted<'a>, AllocError>
+        ensures answer { IfOk result (λ answer. answer ≡ accepted_by self.old.core moment input.entry) }
+        ensures core { OnOk result (self.new.core ≡ after_request self.old.core moment input.entry) }
+        ensures own { IfOk result (IsOwn input.entry moment) }
+        ensures count { IfOk result (λ answer. seat.new.count ≡ seat.old.count + entries_in answer) }
+        ensures accepted { IfOk result (λ answer. self.new.accepted ≡ self.old.accepted + entries_in answer) }
+        ensures seen { seat.new.seen ≡ seat.old.seen }
+        ensures given { self.new.given ≡ self.old.given }
+        ensures err { OnErr result ((self.new.core ≡ self.old.core) × (self.new.accepted ≡ self.old.accepted) × (seat.new.count ≡ seat.old.count)) }
+    {
+        let Locked {
+            core,
+            accepted,
+            book,
+            ..
+        } = self;
+        let Seat { count, share, .. } = seat;
+        book.audit(share);
+        let answer = core.accept(input, moment)?;
+        core.sound();
+        if let Accepted::Entry(_) = &answer {
+            book.add(share, 1);
+            *accepted += 1;
+            *count += 1;
+        }
+        Ok(answer)
+    }
+
+    /// Answers a query, unless the seat saw a later entry settled than is. The seat then saw what is settled.
+    ///
+    /// Errors: `Behind` exactly there, with the number of the last settled entry; `NoMemory`. The seat is then as
+    /// it was.
+    pub(crate) fn ask(&self, seat: &mut Seat<L>, query: Query) -> Result<Answer, AskFault>
+        ensures answer { IfOk result (λ answer. answer ≡ answered self.now.core query) }
+        ensures behind { (number : ℕ) → (result ≡ Err (AskFault.Behind number)) ↔ ((number ≡ self.now.core.number) × IsBehind self.now.core.number seat.old.seen) }
+        ensures seen { OnOk result (seat.new.seen ≡ self.now.core.number) }
+        ensures never_back { OnOk result (seat.old.seen ≤ seat.new.seen) }
+        ensures count { seat.new.count ≡ seat.old.count }
+        ensures err { OnErr result (seat.new.seen ≡ seat.old.seen) }
+    {
+        let settled = self.core.number();
+        if settled < seat.seen {
+            return Err(AskFault::Behind(settled));
+        }
+        let Ok(answer) = self.core.read(query) else {
+            return Err(AskFault::NoMemory);
+        };
+        seat.seen = settled;
+        Ok(answer)
+    }
+
+    /// Hands out what of settled entries a recipient was not given yet. The seat then saw what is settled.
+    pub(crate) fn hand(&mut self, seat: &mut Seat<L>, to: Recipient) -> Result<Vec<Out>, AllocError>
+        ensures outs { IfOk result (λ outs. outs.items ≡ ready_for to self.old.core) }
+        ensures core { OnOk result (self.new.core ≡ handed to self.old.core) }
+        ensures seen { OnOk result (seat.new.seen ≡ seen_after self.old.core.number seat.old.seen) }
+        ensures count { seat.new.count ≡ seat.old.count }
+        ensures accepted { self.new.accepted ≡ self.old.accepted }
+        ensures given { self.new.given ≡ self.old.given }
+        ensures err { OnErr result ((self.new.core ≡ self.old.core) × (seat.new.seen ≡ seat.old.seen)) }
+    {
+        let Locked { core, .. } = self;
+        let settled = core.number();
+        let outs = core.hand(to)?;
+        seat.seen = seat.seen.max(settled);
+        Ok(outs)
+    }
+
+    /// The core's `take`.
+    pub(crate) fn take(&mut self) -> Result<Option<Batch>, AllocError>
+        ensures none { IfOk result (λ batch. IsNone batch ↔ IsTrue (cannot_take self.old.core)) }
+        ensures stays { IfOk result (λ batch. IfNone batch (self.new.core ≡ self.old.core)) }
+        ensures taken { IfOk result (λ batch. IfSome batch (λ batch. IsTaken batch self.old.core self.new.core)) }
+        ensures accepted { self.new.accepted ≡ self.old.accepted }
+        ensures given { self.new.given ≡ self.old.given }
+        ensures err { OnErr result (self.new.core ≡ self.old.core) }
+    {
+        let Locked { core, .. } = self;
+        core.take()
+    }
+
+    /// The core's `publish`.
+    pub(crate) fn publish(&mut self, receipt: Receipt) -> Result<(), (Receipt, PublishFault)>
+        ensures flight { OnOk result (IsFlight (held_batch receipt) self.old.core) }
+        ensures core { OnOk result (self.new.core ≡ published self.old.core) }
+        ensures foreign { IfErr result (λ e. (e.1 ≡ PublishFault.Foreign) ↔ ¬ IsFlight (held_batch receipt) self.old.core) }
+        ensures err { IfErr result (λ e. (e.0 ≡ receipt) × (self.new.core ≡ self.old.core)) }
+        ensures accepted { self.new.accepted ≡ self.old.accepted }
+        ensures given { self.new.given ≡ self.old.given }
+    {
+        let Locked { core, .. } = self;
+        core.sound();
+        core.publish(receipt)
+    }
+
+    /// The core's `fail`.
+    pub(crate) fn fail(&mut self)
+        ensures core { self.new.core ≡ record self.old.core { failed = true } }
+        ensures accepted { self.new.accepted ≡ self.old.accepted }
+        ensures given { self.new.given ≡ self.old.given }
+    {
+        let Locked { core, .. } = self;
+        core.fail();
+    }
+
+    /// What a worker sees now.
+    pub(crate) fn look(&self) -> Look
+        ensures { result ≡ record { stopped = self.now.stopped; accepted = self.now.accepted; settled = self.now.core.number } }
+    {
+        Look {
+            stopped: self.stopped,
+            accepted: self.accepted,
+            settled: self.core.number(),
+        }
+    }
+
+    /// Tells the workers to stop.
+    pub(crate) fn stop(&mut self)
+        ensures stopped { self.new.stopped ≡ true }
+        ensures core { self.new.core ≡ self.old.core }
+        ensures accepted { self.new.accepted ≡ self.old.accepted }
+        ensures given { self.new.given ≡ self.old.given }
+    {
+        self.stopped = true;
+    }
+
+    /// Notes whether a radio is up.
+    pub(crate) fn note(&mut self, bssid: Bssid, up: bool)
+        ensures core { self.new.core ≡ self.old.core }
+        ensures accepted { self.new.accepted ≡ self.old.accepted }
+        ensures given { self.new.given ≡ self.old.given }
+    {
+        self.notes.note(bssid, up);
+    }
+
+    /// Whether a radio is up, as it was noted.
+    pub(crate) fn noted(&self, bssid: Bssid) -> bool {
+        self.notes.is_up(bssid)
+    }
+
+    /// The BSSID of the interface of a name, and where none is named that of the first one.
+    pub(crate) fn interface(&self, name: Option<&[u8]>) -> Option<Bssid>
+        ensures named { (text : List ℕ) → option_copied name.entry ≡ Some text → result ≡ option_map (λ conf. conf.bssid) (conf_named self.now.core.confs text) }
+    {
+        let confs = self.core.confs();
+        let conf = match name {
+            Some(name) => confs.with_interface(name),
+            None => confs.list().first(),
+        };
+        conf.map(|conf| conf.bssid)
+    }
+
+    /// The core, and the entries that it accepted since it was shared, which are those that the seats count. It is
+    /// refused exactly where a seat is missing, and hands all back.
+    pub(crate) fn close(self, seats: Vec<Seat<L>>) -> Result<(Core, u64), (Locked<L>, Vec<Seat<L>>)>
+        requires { L.parts ≡ SEATS }
+        ensures counted { IfOk result (λ closed. closed.1 ≡ counted seats.items) }
+        ensures accepted { IfOk result (λ closed. closed.1 ≡ self.accepted) }
+        ensures core { IfOk result (λ closed. closed.0 ≡ self.core) }
+        ensures all { IsOk result ↔ (vec_len seats ≡ self.given) }
+        ensures back { IfErr result (λ back. (back.0 ≡ self) × (back.1 ≡ seats)) }
+    {
+        if seats.len() != self.given as usize {
+            return Err((self, seats));
+        }
+        let Locked {
+            core,
+            accepted,
+            book,
+            spare,
+            ..
+        } = self;
+        let mut book = book;
+        let mut all = merged(spare, seats);
+        book.audit(&mut all);
+        Ok((core, accepted))
+    }
+}
+
+// All parts of these in one share.
+fn merged<L: Ledger>(spare: Share<L>, seats: Vec<Seat<L>>) -> Share<L>
+    ensures parts { result.parts ≡ spare.parts + vec_len seats }
+    ensures amount { result.amount ≡ spare.amount + counted seats.items }
+{
+    let mut all = spare;
+    for seat in seats {
+        let Seat { share, .. } = seat;
+        all.merge(share);
+    }
+    all
+}

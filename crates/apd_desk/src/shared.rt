@@ -1,0 +1,183 @@
+//! A core that threads share.
+ghost use Rattle.std.specs.Prelude.{◌≡◌, ◌+◌, ◌≤◌, ℕ, IfOk, IfErr, IfSome, OnErr};
+ghost use Rattle.apd_desk.specs.Counted.{counted, entries_in};
+ghost use Rattle.apd_desk.specs.Own.{IsOwn};
+ghost use Rattle.apd_desk.specs.Seen.{IsBehind};
+
+use crate::locked::{Locked, Look};
+use crate::seat::{AskFault, SEATS, Seat};
+use apd_base::{Bssid, Moment};
+use apd_core::{Accepted, Answer, Core, Input, PublishFault};
+use apd_ctrl::Query;
+use apd_journal::Batch;
+use apd_mlme::{Out, Recipient};
+use apd_store::Receipt;
+use std::alloc::AllocError;
+use std::sync::ledger::{Blank, Ledger};
+use std::sync::{Condvar, CondvarTimeouts, Mutex, Wait};
+use std::time::{Clock, Duration};
+
+/// For how long an idle worker waits at most, in milliseconds.
+const PAUSE: u64 = 1;
+
+/// A core under a lock, and what wakes those that wait for it. Each call but `new` and `close` takes the lock,
+/// may wait for it, and holds it for one call of the core at most.
+///
+/// No clause says what the core is at the moment of a call, since others may call before and after it: of each
+/// call that is said, by the same definitions as of the core's own, where it has the lock. No clause speaks of
+/// waiting.
+#[derive(Drop)]
+pub struct Shared<L: Ledger> {
+    locked: Mutex<Locked<L>>,
+    changed: Condvar,
+}
+
+impl<L: Ledger> Shared<L> {
+    /// Shares a core among as many seats as there may be. `L` is the ledger of this blank, which so picks it: a
+    /// seat fits the one shared core of its own ledger.
+    pub fn new(core: Core, blank: Blank) -> Shared<L>
+        requires name { blank.name ≡ L.name }
+        requires parts { blank.parts ≡ L.parts }
+        requires all { blank.parts ≡ SEATS }
+    {
+        Shared {
+            locked: Mutex::new(Locked::new(core, blank)),
+            changed: Condvar::new(),
+        }
+    }
+
+    /// A seat that was not given yet; none exactly where all were given. It takes no memory.
+    pub fn seat(&self, rt: &impl Wait) -> Option<Seat<L>>
+        ensures { IfSome result (λ seat. (seat.count ≡ 0) × (seat.seen ≡ 0)) }
+    {
+        self.locked.lock(rt).seat()
+    }
+
+    /// Accepts a request at a moment: the core's `accept`. The seat counts it exactly where it is an entry, and
+    /// those that wait are woken there.
+    pub fn submit<'a>(
+        &self,
+        rt: &impl Wait,
+        seat: &mut Seat<L>,
+        input: Input<'a>,
+        moment: Moment,
+    ) -> Result<Accepted<'a>, AllocError>
+        ensures own { IfOk result (IsOwn input.entry moment) }
+        ensures count { IfOk result (λ answer. seat.new.count ≡ seat.old.count + entries_in answer) }
+        ensures err { OnErr result (seat.new.count ≡ seat.old.count) }
+        ensures seen { seat.new.seen ≡ seat.old.seen }
+    {
+        let answer = self.locked.lock(rt).submit(seat, input, moment);
+        if let Ok(Accepted::Entry(_)) = &answer {
+            self.changed.notify_all();
+        }
+        answer
+    }
+
+    /// Answers a query from the table after all settled entries: the core's `read`. The seat has then seen what is
+    /// settled, and no answer is from before what it saw.
+    ///
+    /// Errors: `Behind` exactly where the last settled entry, whose number it tells, comes before what the seat saw;
+    /// `NoMemory`.
+    pub fn ask(&self, rt: &impl Wait, seat: &mut Seat<L>, query: Query) -> Result<Answer, AskFault>
+        ensures own { IfOk result (λ answer. answer.query ≡ query) }
+        ensures seen { IfOk result (λ answer. (answer.number ≡ seat.new.seen) × (seat.old.seen ≤ seat.new.seen)) }
+        ensures behind { (number : ℕ) → result ≡ Err (AskFault.Behind number) → IsBehind number seat.old.seen }
+        ensures err { OnErr result (seat.new.seen ≡ seat.old.seen) }
+        ensures count { seat.new.count ≡ seat.old.count }
+    {
+        self.locked.lock(rt).ask(seat, query)
+    }
+
+    /// Hands out what of settled entries a recipient was not given yet: the core's `hand`. The seat has then seen
+    /// what is settled.
+    pub fn collect(
+        &self,
+        rt: &impl Wait,
+        seat: &mut Seat<L>,
+        to: Recipient,
+    ) -> Result<Vec<Out>, AllocError>
+        ensures never_back { seat.old.seen ≤ seat.new.seen }
+        ensures err { OnErr result (seat.new.seen ≡ seat.old.seen) }
+        ensures count { seat.new.count ≡ seat.old.count }
+    {
+        self.locked.lock(rt).hand(seat, to)
+    }
+
+    /// The core, and how many entries it accepted since it was shared: the sum of the seats' counts. It waits for
+    /// nobody and takes no memory. It is refused exactly where a seat is missing, and hands all back.
+    pub fn close(self, seats: Vec<Seat<L>>) -> Result<(Core, u64), (Shared<L>, Vec<Seat<L>>)>
+        requires { L.parts ≡ SEATS }
+        ensures counted { IfOk result (λ closed. closed.1 ≡ counted seats.items) }
+        ensures back { IfErr result (λ back. back.1 ≡ seats) }
+    {
+        let Shared { locked, changed } = self;
+        match locked.into_inner().close(seats) {
+            Ok(closed) => Ok(closed),
+            Err((locked, seats)) => {
+                let locked = Mutex::new(locked);
+                Err((Shared { locked, changed }, seats))
+            }
+        }
+    }
+
+    /// Tells the workers to end, and wakes them. It takes no memory.
+    pub fn stop(&self, rt: &impl Wait) {
+        self.locked.lock(rt).stop();
+        self.changed.notify_all();
+    }
+
+    /// Notes whether the radio of a BSSID is up, for `STATUS` to show. It takes no memory.
+    pub fn note(&self, rt: &impl Wait, bssid: Bssid, up: bool) {
+        self.locked.lock(rt).note(bssid, up);
+    }
+
+    /// Whether the radio of a BSSID is up, as it was noted last; it is not where nothing was. It takes no memory.
+    pub fn noted(&self, rt: &impl Wait, bssid: Bssid) -> bool {
+        self.locked.lock(rt).noted(bssid)
+    }
+
+    // The BSSID of the interface that a command names, or else of the first one, and whether its radio is up.
+    pub(crate) fn interface(&self, rt: &impl Wait, name: Option<&[u8]>) -> Option<(Bssid, bool)> {
+        let locked = self.locked.lock(rt);
+        let bssid = locked.interface(name)?;
+        Some((bssid, locked.noted(bssid)))
+    }
+
+    pub(crate) fn take(&self, rt: &impl Wait) -> Result<Option<Batch>, AllocError> {
+        self.locked.lock(rt).take()
+    }
+
+    // It wakes those that wait.
+    pub(crate) fn publish(
+        &self,
+        rt: &impl Wait,
+        receipt: Receipt,
+    ) -> Result<(), (Receipt, PublishFault)>
+        ensures { IfErr result (λ back. back.0 ≡ receipt) }
+    {
+        let answer = self.locked.lock(rt).publish(receipt);
+        if answer.is_ok() {
+            self.changed.notify_all();
+        }
+        answer
+    }
+
+    pub(crate) fn fail(&self, rt: &impl Wait) {
+        self.locked.lock(rt).fail();
+    }
+
+    pub(crate) fn look(&self, rt: &impl Wait) -> Look {
+        self.locked.lock(rt).look()
+    }
+
+    // Waits for a while, unless a look now would see something else than this one, and until one does.
+    pub(crate) fn rest<W: Wait + Clock>(&self, rt: &W, seen: Look) {
+        let pause = Duration::from_millis(PAUSE);
+        let _rested = self
+            .changed
+            .wait_timeout_while(rt, self.locked.lock(rt), pause, |locked| {
+                locked.look() == seen
+            });
+    }
+}

@@ -1,0 +1,98 @@
+//! What several tests of stores and of what stands on them use.
+use apd_base::{AclMode, Addr, Aid, Association, Bssid, Policy, Sequence, Station, StationLimit};
+use apd_disk::{Call, MemDisk};
+use apd_journal::Batch;
+use apd_record::Change;
+use apd_store::{StoreFault, recover};
+use std::alloc::{AllocError, Global};
+use std::test::Fail;
+
+pub(crate) const BSSID: Bssid = Bssid(Addr([2, 0, 0, 0, 0, 1]));
+
+pub(crate) const STATION: Addr = Addr([2, 0, 0, 0, 0, 0xaa]);
+
+pub(crate) const LENGTH: usize = 2_097_216;
+
+// Half A from its first byte on, after a policy and an authenticated station.
+pub(crate) const TWO_GROUPS: [u8; 54] = [
+    1, 1, 0, 0, 0, 0, 0, 0, 0, 0, 0, 0, 0, // the gate, the epoch and the snapshot
+    1, 10, 0, 0, 0, 6, 2, 0, 0, 0, 0, 1, 0, 0xd7, 7, // at 77
+    1, 20, 0, 0, 0, 1, 2, 0, 0, 0, 0, 1, 2, 0, 0, 0, 0, 0xaa, 1, 0, 0, 0, 0, 0, 0, // at 92
+    0, // at 117
+];
+
+// No clause says what the disk holds: a proof would go through two million bytes.
+pub(crate) fn blank_disk(alloc: Global, size: usize) -> Result<MemDisk, AllocError> {
+    MemDisk::new(alloc, vec![in alloc; 0u8; size]?)
+}
+
+pub(crate) fn policy() -> Result<Change, Fail> {
+    Ok(Change::Policy {
+        bssid: BSSID,
+        policy: Policy {
+            mode: AclMode::AcceptUnlessDenied,
+            max: StationLimit::new(2007).ok_or("2007 is a limit")?,
+        },
+    })
+}
+
+pub(crate) fn put(station: Station) -> Change {
+    Change::Put {
+        bssid: BSSID,
+        addr: STATION,
+        station,
+    }
+}
+
+pub(crate) fn associated() -> Result<Change, Fail> {
+    Ok(put(Station::Associated(Association {
+        aid: Aid::new(1).ok_or("1 is an identifier")?,
+        capability: 0x0431,
+        listen_interval: 10,
+    })))
+}
+
+pub(crate) fn batch_of(alloc: Global, number: u64, change: Change) -> Result<Batch, AllocError> {
+    let mut changes = Sequence::new(alloc);
+    changes.push(change)?;
+    Ok(Batch {
+        first: number,
+        last: number,
+        changes,
+    })
+}
+
+// A call by its place and how many bytes it reads or writes.
+#[derive(Clone, Copy, Debug, PartialEq, Eq)]
+pub(crate) enum Made {
+    Read(usize, usize),
+    Write(usize, usize),
+    Sync,
+}
+
+// The calls that a disk has served behind this many.
+pub(crate) fn made_after(
+    alloc: Global,
+    disk: &MemDisk,
+    calls: usize,
+) -> Result<Vec<Made>, AllocError> {
+    let mut made = Vec::new(alloc);
+    for call in disk.calls().iter().skip(calls) {
+        made.push(match call {
+            Call::Read(at, length) => Made::Read(*at, *length),
+            Call::Write(at, bytes) => Made::Write(*at, bytes.len()),
+            Call::Sync => Made::Sync,
+        })?;
+    }
+    Ok(made)
+}
+
+// What the table of a device says of the station's BSSID and of the station, or why there is none.
+pub(crate) type Seen = Result<(Option<(u8, u16)>, Option<Station>), StoreFault>;
+
+pub(crate) fn seen(alloc: Global, disk: MemDisk) -> Seen {
+    match recover(alloc, disk) {
+        Ok((_store, table)) => Ok((table.policy(BSSID), table.get(BSSID, STATION))),
+        Err((_disk, fault)) => Err(fault),
+    }
+}

@@ -1,0 +1,20 @@
+//! Tests of the devices and of what stands on them by their public calls alone, a module a kind: here they are
+//! proved once, and no other crate is proved twice for them.
+#![tactic(auto)]
+
+#[cfg(test)]
+mod common;
+#[cfg(test)]
+mod disk_tests;
+#[cfg(test)]
+mod flusher_tests;
+#[cfg(test)]
+mod journal_tests;
+#[cfg(test)]
+mod radio_tests;
+#[cfg(test)]
+mod slot_tests;
+#[cfg(test)]
+mod store_tests;
+#[cfg(test)]
+mod udp_tests;

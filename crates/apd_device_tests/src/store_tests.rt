@@ -1,0 +1,442 @@
+// What no clause says: that calls succeed where memory is ample, the bytes of a store, and printed text.
+use crate::common::{
+    BSSID, LENGTH, Made, Seen, TWO_GROUPS, associated, batch_of, blank_disk, made_after, policy,
+    put, seen,
+};
+use apd_base::Station;
+use apd_disk::{Disk, FuseDisk, MemDisk, Torn};
+use apd_record::Change;
+use apd_store::{Receipt, Store, StoreFault, format, recover};
+use apd_table::Table;
+use std::alloc::Global;
+use std::test::Fail;
+
+fn write_bytes(disk: &mut MemDisk, at: usize, bytes: &[u8]) -> Result<(), Fail> {
+    if at > disk.len() || bytes.len() > disk.len() - at {
+        return Err(Fail::from("outside the disk"));
+    }
+    disk.write_at(at, bytes)?;
+    disk.sync()?;
+    Ok(())
+}
+
+// Begins a batch of one change.
+fn begin<D: Disk>(
+    alloc: Global,
+    store: &mut Store<D>,
+    number: u64,
+    change: Change,
+) -> Result<(), Fail> {
+    let batch = batch_of(alloc, number, change)?;
+    match store.begin(batch, &Table::new(alloc)) {
+        Ok(()) => Ok(()),
+        Err((_, fault)) => Err(Fail::from(fault)),
+    }
+}
+
+// Why a batch of one change is refused. It is handed back.
+fn refusal<D: Disk>(
+    alloc: Global,
+    store: &mut Store<D>,
+    change: Change,
+) -> Result<StoreFault, Fail> {
+    match store.begin(batch_of(alloc, 9, change)?, &Table::new(alloc)) {
+        Ok(()) => Err(Fail::from("begun")),
+        Err((batch, fault)) if batch.first == 9 && batch.changes.len() == 1 => Ok(fault),
+        Err(_) => Err(Fail::from("another batch")),
+    }
+}
+
+// Makes the two calls that lay the group down.
+fn lay_down<D: Disk>(store: &mut Store<D>) -> Result<bool, StoreFault> {
+    store.next_call()?;
+    store.next_call()
+}
+
+// Commits a batch of one change.
+fn commit<D: Disk>(
+    alloc: Global,
+    store: &mut Store<D>,
+    number: u64,
+    change: Change,
+) -> Result<Receipt, Fail> {
+    begin(alloc, store, number, change)?;
+    lay_down(store)?;
+    store.next_call()?;
+    if store.next_call()? {
+        return Err(Fail::from("a fifth call"));
+    }
+    match store.finish() {
+        Some(receipt) if receipt.batch().first == number => Ok(receipt),
+        Some(_) => Err(Fail::from("another batch")),
+        None => Err(Fail::from("no receipt")),
+    }
+}
+
+fn formatted<D: Disk>(alloc: Global, disk: D) -> Result<Store<D>, Fail>
+where
+    D: Drop,
+{
+    match format(alloc, disk) {
+        Ok(store) => Ok(store),
+        Err((_, fault)) => Err(Fail::from(fault)),
+    }
+}
+
+// Makes as many calls.
+fn advance<D: Disk>(store: &mut Store<D>, calls: u64) -> Result<(), StoreFault> {
+    for _call in 0..calls {
+        store.next_call()?;
+    }
+    Ok(())
+}
+
+// The device, formatted, after a policy, an authenticated station and its association, as far as they are wanted.
+// Generic, as all that asks for room in the device: no proof then meets its length.
+fn committed<D: Disk>(alloc: Global, disk: D, commits: u64) -> Result<D, Fail>
+where
+    D: Drop,
+{
+    let mut store = formatted(alloc, disk)?;
+    if commits == 0 {
+        return Ok(store.into_device());
+    }
+    commit(alloc, &mut store, 1, policy()?)?;
+    if commits == 1 {
+        return Ok(store.into_device());
+    }
+    commit(alloc, &mut store, 2, put(Station::Authenticated))?;
+    if commits == 2 {
+        return Ok(store.into_device());
+    }
+    commit(alloc, &mut store, 3, associated()?)?;
+    Ok(store.into_device())
+}
+
+// The device after a policy and as many calls of a station's commit.
+fn committing<D: Disk>(alloc: Global, disk: D, calls: u64) -> Result<D, Fail>
+where
+    D: Drop,
+{
+    let mut store = formatted(alloc, disk)?;
+    commit(alloc, &mut store, 1, policy()?)?;
+    begin(alloc, &mut store, 2, put(Station::Authenticated))?;
+    advance(&mut store, calls)?;
+    Ok(store.into_device())
+}
+
+// The device, formatted once more.
+fn formatted_again<D: Disk>(alloc: Global, disk: D) -> Result<D, Fail>
+where
+    D: Drop,
+{
+    Ok(formatted(alloc, disk)?.into_device())
+}
+
+// The device, recovered.
+fn recovered<D: Disk>(alloc: Global, disk: D) -> Result<D, Fail>
+where
+    D: Drop,
+{
+    match recover(alloc, disk) {
+        Ok((store, _table)) => Ok(store.into_device()),
+        Err((_disk, fault)) => Err(Fail::from(fault)),
+    }
+}
+
+// What is told where a call of a recovery or of the commit behind it fails, and the device.
+fn failing<D: Disk>(alloc: Global, disk: D) -> Result<(StoreFault, D), Fail>
+where
+    D: Drop,
+{
+    let (mut store, _table) = match recover(alloc, disk) {
+        Ok(found) => found,
+        Err((disk, fault)) => return Ok((fault, disk)),
+    };
+    begin(alloc, &mut store, 2, put(Station::Authenticated))?;
+    if advance(&mut store, 4) != Err(StoreFault::Device) || !store.failed() {
+        return Err(Fail::from("no fault"));
+    }
+    let fault = refusal(alloc, &mut store, policy()?)?;
+    Ok((fault, store.into_device()))
+}
+
+// Why a second batch is refused while one is under way.
+fn busy<D: Disk>(alloc: Global, disk: D) -> Result<StoreFault, Fail>
+where
+    D: Drop,
+{
+    let mut store = formatted(alloc, disk)?;
+    begin(alloc, &mut store, 1, policy()?)?;
+    refusal(alloc, &mut store, policy()?)
+}
+
+fn device(alloc: Global, commits: u64) -> Result<MemDisk, Fail> {
+    committed(alloc, blank_disk(alloc, LENGTH)?, commits)
+}
+
+// What is seen after a stop in the commit of a station, once as many of its calls were made.
+fn stopped(alloc: Global, calls: u64, torn: Torn) -> Result<Seen, Fail> {
+    let disk = committing(alloc, blank_disk(alloc, LENGTH)?, calls)?;
+    Ok(seen(alloc, disk.crash(torn)))
+}
+
+// What is seen where these bytes stand at this place.
+fn changed(alloc: Global, disk: &MemDisk, place: usize, bytes: &[u8]) -> Result<Seen, Fail> {
+    let mut changed = MemDisk::new(alloc, Vec::from_slice(alloc, disk.bytes())?)?;
+    write_bytes(&mut changed, place, bytes)?;
+    Ok(seen(alloc, changed))
+}
+
+// What is seen of a half A with a policy and a station, and a half B of this epoch with another policy.
+fn two_halves(alloc: Global, epoch: u8) -> Result<Seen, Fail> {
+    let mut disk = blank_disk(alloc, LENGTH)?;
+    write_bytes(&mut disk, 0, b"RAPSTOR1")?;
+    write_bytes(&mut disk, 64, &TWO_GROUPS)?;
+    write_bytes(
+        &mut disk,
+        1_048_640,
+        &[1, epoch, 0, 0, 0, 0, 0, 0, 0, 10, 0, 0, 0],
+    )?;
+    write_bytes(&mut disk, 1_048_653, &[6, 2, 0, 0, 0, 0, 1, 1, 9, 0, 0])?;
+    Ok(seen(alloc, disk))
+}
+
+// What is seen of a store of a policy after this many calls of another format; none where it was not stopped.
+fn stopped_format(alloc: Global, passes: u64) -> Result<Option<Seen>, Fail> {
+    match format(alloc, FuseDisk::new(device(alloc, 1)?, passes)) {
+        Ok(_store) => Ok(None),
+        Err((fuse, StoreFault::Device)) => Ok(Some(seen(alloc, fuse.into_inner()))),
+        Err((_fuse, fault)) => Err(Fail::from(fault)),
+    }
+}
+
+// What is told and seen where the call after as many others fails, of a recovery and then a commit.
+fn failing_after(alloc: Global, passes: u64) -> Result<(StoreFault, Seen), Fail> {
+    let (fault, fuse) = failing(alloc, FuseDisk::new(device(alloc, 1)?, passes))?;
+    Ok((fault, seen(alloc, fuse.into_inner())))
+}
+
+#[test]
+fn the_first_bytes(rt: HostRuntime) -> Result<(), Fail> {
+    let disk = device(rt.alloc(), 2)?;
+    let bytes = disk.bytes();
+    let groups = TWO_GROUPS;
+    assert!(rt; bytes.starts_with(b"RAPSTOR1"));
+    assert_eq!(rt; bytes.get(64..118), Some(groups.as_slice()));
+    Ok(())
+}
+
+// Each `next_call` is one call of the device at most, and none is left after the fourth.
+#[test]
+fn the_calls_of_a_commit(rt: HostRuntime) -> Result<(), Fail> {
+    let alloc = rt.alloc();
+    let all = [
+        Made::Write(93, 25),
+        Made::Sync,
+        Made::Write(92, 1),
+        Made::Sync,
+    ];
+    for (calls, many) in [(0, 0), (1, 1), (2, 2), (3, 3), (4, 4), (5, 4)] {
+        let disk = committing(alloc, blank_disk(alloc, LENGTH)?, calls)?;
+        // Behind seven calls of the format and four of the policy's commit.
+        let made = made_after(alloc, &disk, 11)?;
+        assert_eq!(rt; Some(made.as_slice()), all.get(..many), "{calls}");
+    }
+    Ok(())
+}
+
+// Nothing is written but the heads and the magic, which is overwritten first where it stands.
+#[test]
+fn the_calls_of_a_format(rt: HostRuntime) -> Result<(), Fail> {
+    let alloc = rt.alloc();
+    let first = [Made::Sync, Made::Read(0, 8)];
+    let unmarking = [Made::Write(0, 8), Made::Sync];
+    let last = [
+        Made::Write(64, 14),
+        Made::Write(1_048_640, 13),
+        Made::Sync,
+        Made::Write(0, 8),
+        Made::Sync,
+    ];
+    let new = made_after(alloc, &device(alloc, 0)?, 0)?;
+    assert_eq!(rt; new.get(..2), Some(first.as_slice()));
+    assert_eq!(rt; new.get(2..), Some(last.as_slice()));
+    let again = made_after(alloc, &formatted_again(alloc, device(alloc, 0)?)?, 7)?;
+    assert_eq!(rt; again.get(..2), Some(first.as_slice()));
+    assert_eq!(rt; again.get(2..4), Some(unmarking.as_slice()));
+    assert_eq!(rt; again.get(4..), Some(last.as_slice()));
+    Ok(())
+}
+
+// It begins with a sync, reads each byte once, and writes nothing.
+#[test]
+fn the_calls_of_a_recovery(rt: HostRuntime) -> Result<(), Fail> {
+    let alloc = rt.alloc();
+    let disk = recovered(alloc, device(alloc, 0)?)?;
+    let made = made_after(alloc, &disk, 7)?;
+    assert_eq!(rt;
+        made.as_slice(),
+        [Made::Sync, Made::Read(0, LENGTH)].as_slice()
+    );
+    Ok(())
+}
+
+#[test]
+fn a_stop_at_each_call_of_a_commit(rt: HostRuntime) -> Result<(), Fail> {
+    for (calls, torn, station) in [
+        (0, Torn::Byte(1), None),
+        (1, Torn::Byte(1), None),
+        (2, Torn::Old, None),
+        (2, Torn::New, None),
+        (3, Torn::Old, None),
+        (3, Torn::Byte(0x7f), None),
+        (3, Torn::Byte(1), Some(Station::Authenticated)),
+        (4, Torn::Old, Some(Station::Authenticated)),
+    ] {
+        let found = stopped(rt.alloc(), calls, torn)?;
+        assert_eq!(rt;
+            found,
+            Ok((Some((0, 2007)), station)),
+            "{torn:?} after {calls}"
+        );
+    }
+    Ok(())
+}
+
+#[test]
+fn devices_that_are_no_stores(rt: HostRuntime) -> Result<(), Fail> {
+    let alloc = rt.alloc();
+    for length in [0, 2_097_215, 2_097_216, 2_097_217] {
+        let found = seen(alloc, blank_disk(alloc, length)?);
+        assert_eq!(rt; found, Err(StoreFault::NotAStore), "{length}");
+    }
+    let short = blank_disk(alloc, 2_097_215)?;
+    assert!(rt; matches!(format(alloc, short), Err((_, StoreFault::NotAStore))));
+    Ok(())
+}
+
+#[test]
+fn two_open_halves(rt: HostRuntime) -> Result<(), Fail> {
+    let alloc = rt.alloc();
+    let older = Ok((Some((0, 2007)), Some(Station::Authenticated)));
+    assert_eq!(rt; two_halves(alloc, 0)?, older);
+    assert_eq!(rt; two_halves(alloc, 1)?, Err(StoreFault::Damaged));
+    assert_eq!(rt; two_halves(alloc, 2)?, Ok((Some((1, 9)), None)));
+    Ok(())
+}
+
+#[test]
+fn each_byte_of_the_magic(rt: HostRuntime) -> Result<(), Fail> {
+    let alloc = rt.alloc();
+    let disk = device(alloc, 2)?;
+    for place in 0..9 {
+        let found = changed(alloc, &disk, place, &[7])?;
+        if place < 8 {
+            assert_eq!(rt; found, Err(StoreFault::NotAStore), "{place}");
+        } else {
+            let same = Ok((Some((0, 2007)), Some(Station::Authenticated)));
+            assert_eq!(rt; found, same, "{place}");
+        }
+    }
+    Ok(())
+}
+
+#[test]
+fn changed_bytes(rt: HostRuntime) -> Result<(), Fail> {
+    let alloc = rt.alloc();
+    let disk = device(alloc, 3)?;
+    let same = seen(alloc, device(alloc, 3)?);
+    assert!(rt; matches!(same, Ok((Some((0, 2007)), Some(Station::Associated(_))))));
+    let row = Some((0, 2007));
+    for (place, byte, found) in [
+        (7, 0x32, Err(StoreFault::NotAStore)),
+        (63, 7, same),
+        (64, 0, Err(StoreFault::Damaged)),
+        (77, 0, Ok((None, None))),
+        // The policy's BSSID becomes another one: the station has none.
+        (87, 9, Err(StoreFault::Damaged)),
+        (92, 2, Ok((row, None))),
+        (110, 3, Err(StoreFault::Damaged)),
+        (117, 0, Ok((row, Some(Station::Authenticated)))),
+        // A group of no records. What is behind the closed gate, and half B, are not looked at.
+        (142, 1, same),
+        (143, 255, same),
+        (1_048_641, 9, same),
+    ] {
+        assert_eq!(rt;
+            changed(alloc, &disk, place, &[byte])?,
+            found,
+            "{byte} at {place}"
+        );
+    }
+    let long = changed(alloc, &disk, 142, &[1, 1, 0, 1, 0])?;
+    assert_eq!(rt; long, Err(StoreFault::Damaged));
+    Ok(())
+}
+
+#[test]
+fn each_call_that_fails(rt: HostRuntime) -> Result<(), Fail> {
+    let before = Ok((Some((0, 2007)), None));
+    let after = Ok((Some((0, 2007)), Some(Station::Authenticated)));
+    for (passes, fault, found) in [
+        (0, StoreFault::Device, before),
+        (1, StoreFault::Device, before),
+        (2, StoreFault::Failed, before),
+        (3, StoreFault::Failed, before),
+        (4, StoreFault::Failed, after),
+        (5, StoreFault::Failed, after),
+    ] {
+        assert_eq!(rt;
+            failing_after(rt.alloc(), passes)?,
+            (fault, found),
+            "{passes}"
+        );
+    }
+    Ok(())
+}
+
+#[test]
+fn each_call_of_a_format_that_fails(rt: HostRuntime) -> Result<(), Fail> {
+    let before = Ok((Some((0, 2007)), None));
+    for (passes, found) in [
+        (0, Some(before)),
+        (1, Some(before)),
+        (2, Some(Err(StoreFault::NotAStore))),
+        (6, Some(Err(StoreFault::NotAStore))),
+        (7, Some(Ok((None, None)))),
+        (8, Some(Ok((None, None)))),
+        (9, None),
+    ] {
+        assert_eq!(rt; stopped_format(rt.alloc(), passes)?, found, "{passes}");
+    }
+    Ok(())
+}
+
+#[test]
+fn a_store_that_is_busy(rt: HostRuntime) -> Result<(), Fail> {
+    let fault = busy(rt.alloc(), blank_disk(rt.alloc(), LENGTH)?)?;
+    assert_eq!(rt; fault, StoreFault::NotIdle);
+    Ok(())
+}
+
+#[test]
+fn texts(rt: HostRuntime) -> Result<(), Fail> {
+    for (fault, text) in [
+        (StoreFault::NotAStore, "not a store"),
+        (StoreFault::Damaged, "damaged store"),
+        (StoreFault::Device, "device fault"),
+        (StoreFault::Failed, "store has failed"),
+        (StoreFault::Worn, "store is worn out"),
+        (StoreFault::NotIdle, "a batch is in flight"),
+        (StoreFault::BadBatch, "batch does not fit"),
+        (StoreFault::NoMemory, "out of memory"),
+    ] {
+        assert_eq!(rt; format!(in rt.alloc(); "{fault}")?.as_str(), text);
+    }
+    assert_eq!(rt; StoreFault::NotAStore as u8, 1);
+    assert_eq!(rt; StoreFault::Failed as u8, 4);
+    assert_eq!(rt; StoreFault::Worn as u8, 6);
+    assert_eq!(rt; StoreFault::BadBatch as u8, 8);
+    Ok(())
+}

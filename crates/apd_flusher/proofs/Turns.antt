@@ -1,0 +1,166 @@
+-- What a stop shows of a flusher, and within one turn.
+use Rattle.std.proofs.Common.{◌≡◌, ◌≤◌, ◌+◌, ◌⊎◌, inl, inr, ⊎_elim, ℕ, List, refl, sym, ◌∙◌, ap, subst, arith}
+use Rattle.std.specs.Prelude.{Result, Ok, Err, OnOk, OnErr, is_ok, Option, Some, None, IsSome, OnSome}
+use Rattle.std.proofs.lemmas.Bool.{false≢true}
+use Rattle.apd_base.specs.State.{State}
+use Rattle.apd_record.specs.declared.change.Change.{Change}
+use Rattle.apd_disk.specs.Disk.{LeavesOnly}
+use Rattle.apd_disk.proofs.Moments.{started}
+use Rattle.apd_table.specs.Staged.{StagedTables, alone}
+use Rattle.apd_store.specs.Image.{Shows}
+use Rattle.apd_store.specs.Commit.{AtPhase, IsIdle, IsCommitting, HasFailed, MayShow, IsInside as StoreIsInside}
+use Rattle.apd_store.specs.Layout.{opposite}
+use Rattle.apd_store.specs.Phases.{calls_from}
+use Rattle.apd_store.specs.Switch.{AtSwitch}
+use Rattle.apd_store.specs.declared.half.Half.{Half}
+use Rattle.apd_store.specs.declared.phase.Phase.{Phase as StorePhase}
+use Rattle.apd_store.specs.declared.phase.Phase.TheVariants.{Idle as StoreIdle, CloseOther, SyncClosed, WriteHalf, SyncHalf, OpenHalf, SyncOpened, WriteGroup, SyncGroup, OpenGate, SyncGate, Done as StoreDone, Failed as StoreFailed}
+use Rattle.apd_store.specs.declared.store.Store.{Store}
+use Rattle.apd_flusher.specs.Flushing.{IsSteady, IsFlushing, Stands, StopShows}
+use Rattle.apd_flusher.specs.Outside.{phase_of}
+use Rattle.apd_flusher.specs.Phases.{phase_from}
+use Rattle.apd_flusher.specs.declared.flusher.Flusher.{Flusher}
+use Rattle.apd_flusher.specs.declared.phase.Phase.{Phase}
+use Rattle.apd_flusher.specs.declared.phase.Phase.TheVariants.{Idle, Busy, Done, Failed}
+
+-- no call is left, or it is busy
+pub quiet_or_busy : (phase : StorePhase) → (calls_from phase ≡ 0) ⊎ (phase_from phase ≡ Busy)
+quiet_or_busy StoreIdle = inl refl
+quiet_or_busy CloseOther = inr refl
+quiet_or_busy SyncClosed = inr refl
+quiet_or_busy WriteHalf = inr refl
+quiet_or_busy SyncHalf = inr refl
+quiet_or_busy OpenHalf = inr refl
+quiet_or_busy SyncOpened = inr refl
+quiet_or_busy WriteGroup = inr refl
+quiet_or_busy SyncGroup = inr refl
+quiet_or_busy OpenGate = inr refl
+quiet_or_busy SyncGate = inr refl
+quiet_or_busy StoreDone = inl refl
+quiet_or_busy StoreFailed = inl refl
+
+-- a switch is under way in one phase alone
+busy_at : (phase : StorePhase) (side : Half) (reserved half current bytes : List ℕ) (reads : List ℕ) (images : List ℕ → Type 0)
+    → AtSwitch phase side reserved half current bytes reads images → phase_from phase ≡ Busy
+busy_at CloseOther side reserved half current bytes reads images at = refl
+busy_at SyncClosed side reserved half current bytes reads images at = refl
+busy_at WriteHalf side reserved half current bytes reads images at = refl
+busy_at SyncHalf side reserved half current bytes reads images at = refl
+busy_at OpenHalf side reserved half current bytes reads images at = refl
+busy_at SyncOpened side reserved half current bytes reads images at = refl
+busy_at StoreIdle side reserved half current bytes reads images at = absurd at
+busy_at WriteGroup side reserved half current bytes reads images at = absurd at
+busy_at SyncGroup side reserved half current bytes reads images at = absurd at
+busy_at OpenGate side reserved half current bytes reads images at = absurd at
+busy_at SyncGate side reserved half current bytes reads images at = absurd at
+busy_at StoreDone side reserved half current bytes reads images at = absurd at
+busy_at StoreFailed side reserved half current bytes reads images at = absurd at
+
+-- a group in two alone
+busy_or_done : (phase : StorePhase) (side : Half) (reserved half other : List ℕ) (gate : ℕ) (group : List Change) (reads : List ℕ) (images : List ℕ → Type 0)
+    → AtPhase phase side reserved half other gate group reads images → (phase_from phase ≡ Busy) ⊎ (phase ≡ StoreDone)
+busy_or_done StoreIdle side reserved half other gate group reads images at = absurd at
+busy_or_done CloseOther side reserved half other gate group reads images at = absurd at
+busy_or_done SyncClosed side reserved half other gate group reads images at = absurd at
+busy_or_done WriteHalf side reserved half other gate group reads images at = absurd at
+busy_or_done SyncHalf side reserved half other gate group reads images at = absurd at
+busy_or_done OpenHalf side reserved half other gate group reads images at = absurd at
+busy_or_done SyncOpened side reserved half other gate group reads images at = absurd at
+busy_or_done WriteGroup side reserved half other gate group reads images at = inl refl
+busy_or_done SyncGroup side reserved half other gate group reads images at = inl refl
+busy_or_done OpenGate side reserved half other gate group reads images at = inl refl
+busy_or_done SyncGate side reserved half other gate group reads images at = inl refl
+busy_or_done StoreDone side reserved half other gate group reads images at = inr refl
+busy_or_done StoreFailed side reserved half other gate group reads images at = absurd at
+
+module _ {D : Type 0} (reads : D → List ℕ) (may_leave : D → List ℕ → Type 0) (flusher : Flusher D) (state after : State) where
+  abbrev store : Store D
+  store = flusher.store
+
+  pub under_way : IsCommitting reads may_leave flusher.store state after → (phase_from flusher.store.phase ≡ Busy) ⊎ (flusher.store.phase ≡ StoreDone)
+  under_way s = ⊎_elim
+      (λ switching. inl (busy_at store.phase (opposite store.half) switching.reserved switching.other switching.half store.fresh.bytes (reads store.device) (may_leave store.device) switching.at))
+      (λ writing. busy_or_done store.phase store.half writing.reserved writing.half writing.other store.gate store.batch.changes (reads store.device) (may_leave store.device) writing.at) s
+
+  -- what the store tells of one image, as the flusher tells it
+  pub shows : (c : List ℕ) → (IsIdle reads may_leave flusher.store state → Shows c state) → (IsCommitting reads may_leave flusher.store state after → MayShow (calls_from flusher.store.phase) state after c)
+      → (IsCommitting reads may_leave flusher.store state after → flusher.store.phase ≡ StoreDone → Shows c after) → (HasFailed may_leave flusher.store state after → Shows c state ⊎ Shows c after)
+      → Stands reads may_leave flusher state after → StopShows (phase_from flusher.store.phase) (calls_from flusher.store.phase) state after c
+  shows c idle way done stuck stands = ⊎_elim
+      (λ steady. subst (λ (p : StorePhase). StopShows (phase_from p) (calls_from p) state after c) (sym steady.idle.phase) (idle steady.idle))
+      (λ late. ⊎_elim
+      (λ flushing. ⊎_elim
+      (λ busy. subst (λ (p : Phase). StopShows p (calls_from store.phase) state after c) (sym busy) (way flushing.committing))
+      (λ is. subst (λ (p : StorePhase). StopShows (phase_from p) (calls_from p) state after c) (sym is) (done flushing.committing is))
+      (under_way flushing.committing))
+      (λ failed. subst (λ (p : StorePhase). StopShows (phase_from p) (calls_from p) state after c) (sym failed.phase) (stuck failed))
+      late)
+      stands
+
+  -- of a busy flusher a batch is under way
+  committing : phase_from flusher.store.phase ≡ Busy → Stands reads may_leave flusher state after → IsCommitting reads may_leave flusher.store state after
+  committing busy stands = ⊎_elim
+      (λ steady. let no : Idle ≡ Busy = ap phase_from (sym steady.idle.phase) ∙ busy in absurd (cc))
+      (λ late. ⊎_elim (λ flushing. flushing.committing) (λ failed. let no : Failed ≡ Busy = ap phase_from (sym failed.phase) ∙ busy in absurd (cc)) late)
+      stands
+
+  -- one turn
+  pub turn_run : (moment : D → ℕ) (left_since : D → ℕ → List ℕ → Type 0) (now : Store D) → Stands reads may_leave flusher state after
+      → ((c : List ℕ) → left_since flusher.store.device (moment flusher.store.device) c → StopShows (phase_from flusher.store.phase) (calls_from flusher.store.phase) state after c)
+      → (calls_from flusher.store.phase ≡ 0 → now ≡ flusher.store)
+      → (IsCommitting reads may_leave flusher.store state after → LeavesOnly moment left_since flusher.store.device now.device (MayShow (calls_from flusher.store.phase) state after))
+      → LeavesOnly moment left_since flusher.store.device now.device (StopShows (phase_from flusher.store.phase) (calls_from flusher.store.phase) state after)
+  turn_run moment left_since now stands here rest run =
+      let P = StopShows (phase_from store.phase) (calls_from store.phase) state after in
+      ⊎_elim
+      (λ none. subst (λ (s : Store D). LeavesOnly moment left_since store.device s.device P) (sym (rest none)) (started moment left_since store.device P here))
+      (λ busy. subst (λ (p : Phase). LeavesOnly moment left_since store.device now.device (StopShows p (calls_from store.phase) state after)) (sym busy) (run (committing busy stands)))
+      (quiet_or_busy store.phase)
+
+-- the receipt is taken
+pub settles : {D : Type 0} (reads : D → List ℕ) (may_leave : D → List ℕ → Type 0) (old now : Flusher D)
+    → ((state after : State) → IsCommitting reads may_leave old.store state after → IsIdle reads may_leave now.store after) → now.tables ≡ alone old.tables.staged
+    → (state after : State) → IsFlushing reads may_leave old state after → IsSteady reads may_leave now after
+settles reads may_leave old now settled tables state after s = record { idle = settled state after s.committing; table = ap (λ (t : StagedTables). t.table) tables ∙ s.next }
+
+-- of two answers of one kind
+pub on_ok_as : {T U E : Type 0} (r : Result T E) (s : Result U E) (A B : Type 0) → is_ok s ≡ is_ok r → OnOk r A → (A → B) → OnOk s B
+on_ok_as (Ok t) (Ok u) A B same a go = go a
+on_ok_as (Ok t) (Err e) A B same a go = tt
+on_ok_as (Err e) (Ok u) A B same a go = absurd (false≢true (sym same))
+on_ok_as (Err e) (Err f) A B same a go = tt
+
+pub on_err_as : {T U E : Type 0} (r : Result T E) (s : Result U E) (A : Type 0) → is_ok s ≡ is_ok r → OnErr r A → OnErr s A
+on_err_as (Ok t) (Ok u) A same a = tt
+on_err_as (Ok t) (Err e) A same a = absurd (false≢true same)
+on_err_as (Err e) (Ok u) A same a = tt
+on_err_as (Err e) (Err f) A same a = a
+
+pub on_some : {T : Type 0} (o : Option T) (Q : Type 0) → IsSome o → OnSome o Q → Q
+on_some (Some t) Q is q = q
+on_some None Q is q = absurd (false≢true is)
+
+-- ---- turns one after another, as long as it is busy
+
+pub record Turned {D : Type 0} (honest : D → Type 0) (reads : D → List ℕ) (may_leave : D → List ℕ → Type 0) (moment size failed : D → ℕ) (old now : Flusher D) : Type 0 where
+  pub flushing : (state after : State) → honest old.store.device → IsFlushing reads may_leave old state after → IsFlushing reads may_leave now state after
+  pub batch : now.store.batch ≡ old.store.batch
+  pub inside : StoreIsInside size old.store → StoreIsInside size now.store
+  pub stays : honest old.store.device → honest now.store.device
+  pub calls : honest old.store.device → moment now.store.device + calls_from now.store.phase ≤ moment old.store.device + calls_from old.store.phase
+  pub count : failed now.store.device ≡ failed old.store.device
+  pub phase : (phase_of now ≡ phase_of old) ⊎ ((phase_of old ≡ Busy) × ((phase_of now ≡ Busy) ⊎ (phase_of now ≡ Done)))
+
+pub was_busy : {D : Type 0} (old now : Flusher D) → (phase_of now ≡ phase_of old) ⊎ ((phase_of old ≡ Busy) × ((phase_of now ≡ Busy) ⊎ (phase_of now ≡ Done))) → phase_of now ≡ Busy → phase_of old ≡ Busy
+was_busy old now phase busy = ⊎_elim (λ same. sym same ∙ busy) (λ p. p.0) phase
+
+pub turned_none : {D : Type 0} (honest : D → Type 0) (reads : D → List ℕ) (may_leave : D → List ℕ → Type 0) (moment size failed : D → ℕ) (now : Flusher D) → Turned honest reads may_leave moment size failed now now
+turned_none honest reads may_leave moment size failed now = record {
+  flushing = λ state after h s. s;
+  batch = refl;
+  inside = λ i. i;
+  stays = λ h. h;
+  calls = λ h. omega arith;
+  count = refl;
+  phase = inl refl;
+}

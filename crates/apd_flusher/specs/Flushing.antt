@@ -1,0 +1,49 @@
+-- A flusher between batches, in one, and after a fault; and what a stop then shows.
+use Rattle.std.specs.Prelude.{◌≡◌, ◌≤◌, ◌⊎◌, ℕ, List}
+use Rattle.apd_base.specs.State.{State}
+use Rattle.apd_record.specs.declared.change.Change.{Change}
+use Rattle.apd_table.specs.Sound.{StaySound}
+use Rattle.apd_journal.specs.Half.{IsGroup}
+use Rattle.apd_store.specs.Image.{Shows}
+use Rattle.apd_store.specs.Commit.{IsIdle, IsCommitting, HasFailed, HasRoom as StoreHasRoom, IsInside as StoreIsInside}
+use Rattle.apd_flusher.specs.declared.flusher.Flusher.{Flusher}
+use Rattle.apd_flusher.specs.declared.phase.Phase.{Phase}
+use Rattle.apd_flusher.specs.declared.phase.Phase.TheVariants.{Idle, Busy, Done, Failed}
+
+-- no batch is under way: the table and what the device shows are the state
+pub record IsSteady {D : Type 0} (reads : D → List ℕ) (may_leave : D → List ℕ → Type 0) (flusher : Flusher D) (state : State) : Type 0 where
+  pub idle : IsIdle reads may_leave flusher.store state
+  pub table : flusher.tables.table ≡ state
+
+-- a batch is under way from one state to the next, and its receipt is not given
+pub record IsFlushing {D : Type 0} (reads : D → List ℕ) (may_leave : D → List ℕ → Type 0) (flusher : Flusher D) (state after : State) : Type 0 where
+  pub committing : IsCommitting reads may_leave flusher.store state after
+  pub table : flusher.tables.table ≡ state
+  pub next : flusher.tables.staged ≡ after
+
+-- a call of a batch has failed: a stop leaves one of the two states, for good
+abbrev pub IsStuck : {D : Type 0} → (D → List ℕ → Type 0) → Flusher D → State → State → Type 0
+IsStuck may_leave flusher state after = HasFailed may_leave flusher.store state after
+
+-- one of the three: at the first state, or on the way to the second
+abbrev pub Stands : {D : Type 0} → (D → List ℕ) → (D → List ℕ → Type 0) → Flusher D → State → State → Type 0
+Stands reads may_leave flusher state after = IsSteady reads may_leave flusher state ⊎ IsFlushing reads may_leave flusher state after ⊎ IsStuck may_leave flusher state after
+
+-- What a stop shows, by the phase and how many calls are left. Within a call these are of the moment before it.
+abbrev pub StopShows : Phase → ℕ → State → State → List ℕ → Type 0
+StopShows Idle calls state after image = Shows image state
+StopShows Busy calls state after image = Shows image state ⊎ ((calls ≤ 2) × Shows image after)
+StopShows Done calls state after image = Shows image after
+StopShows Failed calls state after image = Shows image state ⊎ Shows image after
+
+-- the changes are a group, and leave the state sound one after another
+abbrev pub IsGood : List Change → State → Type 0
+IsGood changes state = IsGroup changes × StaySound changes state
+
+-- the group of these changes fits behind what is committed
+abbrev pub HasRoom : {D : Type 0} → Flusher D → List Change → Type 0
+HasRoom flusher changes = StoreHasRoom flusher.store changes
+
+-- the store lies inside its device, whatever the device keeps of it
+abbrev pub IsInside : {D : Type 0} → (D → ℕ) → Flusher D → Type 0
+IsInside size flusher = StoreIsInside size flusher.store

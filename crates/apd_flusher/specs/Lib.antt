@@ -1,0 +1,3 @@
+pub mod Flushing
+pub mod Outside
+pub mod Phases

@@ -1,0 +1,217 @@
+//! A store and the table of what it has committed: a batch is loaded, brought to the device call by call,
+//! and taken out as its receipt.
+ghost use Rattle.std.specs.Prelude.{◌≡◌, ◌≢◌, ◌↔◌, ◌≤◌, ◌<◌, ◌+◌, ◌^◌, ◌⊎◌, ℕ, List, IfOk, OnOk, IfErr, OnErr, IfSome, OnSome, IsSome, IsOk, IsErrOf, Err};
+ghost use Rattle.apd_base.specs.Failures.{HasRisen};
+ghost use Rattle.apd_base.specs.State.{State};
+ghost use Rattle.apd_record.specs.Meaning.{meaning_of};
+ghost use Rattle.apd_disk.specs.Disk.{LeavesOnly};
+ghost use Rattle.apd_store.specs.Commit.{IsIdle};
+ghost use Rattle.apd_store.specs.Image.{Shows};
+ghost use Rattle.apd_store.specs.Outside.{device_of as store_device, held_batch};
+
+use crate::phase::Phase;
+use apd_base::limits::MAX_GROUP;
+use apd_disk::Disk;
+use apd_journal::Batch;
+use apd_record::{known_changes, total_length};
+use apd_store::phase::Phase as StorePhase;
+use apd_store::{Receipt, Store, StoreFault};
+use apd_table::{Staged, Table, TableFault};
+use std::alloc::Global;
+
+/// The flusher of a device: it owns the store, the table of everything whose receipt it gave, and while a
+/// batch is under way that table after the batch.
+#[derive(Drop)]
+pub struct Flusher<D: Disk> {
+    alloc: Global,
+    store: Store<D>,
+    tables: Staged,
+}
+
+impl<D: Disk> Flusher<D> {
+    ghost use Rattle.apd_flusher.specs.Flushing.{IsSteady, IsFlushing, IsStuck, Stands, StopShows, IsGood, HasRoom, IsInside};
+    ghost use Rattle.apd_flusher.specs.Outside.{store_of, device_of, phase_of, calls_left, batch_of, epoch_of, table_of, next_of};
+
+    /// A flusher of a store and the table of everything that it has committed, as `format` and `recover` of
+    /// the store give them. It copies the table once.
+    ///
+    /// Errors, with the store's device: `NoMemory`.
+    pub fn new(alloc: Global, store: Store<D>, table: Table) -> Result<Flusher<D>, (D, StoreFault)>
+        ensures store { IfOk result (λ flusher. store_of flusher ≡ store) }
+        ensures table { IfOk result (λ flusher. table_of flusher ≡ table) }
+        ensures steady { IsIdle D.reads D.may_leave store table → IfOk result (λ flusher. IsSteady D.reads D.may_leave flusher table) }
+        ensures device { IfErr result (λ e. e.0 ≡ store_device store) }
+        ensures only { IfErr result (λ e. e.1 ≡ StoreFault.NoMemory) }
+    {
+        match Staged::new(alloc, table) {
+            Ok(tables) => Ok(Flusher {
+                alloc,
+                store,
+                tables,
+            }),
+            Err(_) => Err((store.into_device(), StoreFault::NoMemory)),
+        }
+    }
+
+    /// What the flusher does next: it is busy exactly where calls of a batch are left.
+    pub fn phase(&self) -> Phase
+        ensures phase { result ≡ phase_of self.now }
+        ensures busy { (phase_of self.now ≡ Phase.Busy) ↔ (0 < calls_left self.now) }
+    {
+        match self.store.phase() {
+            StorePhase::Idle => Phase::Idle,
+            StorePhase::Done => Phase::Done,
+            StorePhase::Failed => Phase::Failed,
+            StorePhase::CloseOther
+            | StorePhase::SyncClosed
+            | StorePhase::WriteHalf
+            | StorePhase::SyncHalf
+            | StorePhase::OpenHalf
+            | StorePhase::SyncOpened
+            | StorePhase::WriteGroup
+            | StorePhase::SyncGroup
+            | StorePhase::OpenGate
+            | StorePhase::SyncGate => Phase::Busy,
+        }
+    }
+
+    /// The device, as the calls left it, in every phase.
+    pub fn into_device(self) -> D
+        ensures { result ≡ device_of self }
+    {
+        let Flusher { store, .. } = self;
+        store.into_device()
+    }
+
+    /// Takes a batch, and makes its table and all bytes of its group; where the group does not fit, also those
+    /// of the other half, with a snapshot of the table before the batch. It makes no call of the device.
+    ///
+    /// Errors, with the very batch, in this order: `Failed` in that phase; `NotIdle` in `Busy` and `Done`;
+    /// `BadBatch` exactly where the records of the batch exceed 65,536 bytes, or a change leaves the table
+    /// unsound; `Worn` exactly where the group does not fit and the epoch is the greatest. `NoMemory` may come
+    /// in the place of the last two. A refusal leaves phase, table and device.
+    pub fn load(&mut self, batch: Batch) -> Result<(), (Batch, StoreFault)>
+        ensures loaded { (state : State) → IsSteady D.reads D.may_leave self.old state → OnOk result (IsFlushing D.reads D.may_leave self.new state (meaning_of batch.changes state)) }
+        ensures idle { OnOk result (phase_of self.old ≡ Phase.Idle) }
+        ensures busy { OnOk result (phase_of self.new ≡ Phase.Busy) }
+        ensures calls { OnOk result ((4 ≤ calls_left self.new) × (calls_left self.new ≤ 10)) }
+        ensures four { HasRoom self.old batch.changes → OnOk result (calls_left self.new ≡ 4) }
+        ensures batch { OnOk result (batch_of self.new ≡ batch) }
+        ensures next { OnOk result (next_of self.new ≡ meaning_of batch.changes (table_of self.old)) }
+        ensures good { OnOk result (IsGood batch.changes (table_of self.old)) }
+        ensures lasts { ¬ HasRoom self.old batch.changes → OnOk result (epoch_of self.old + 1 < 2 ^ 64) }
+        ensures table { table_of self.new ≡ table_of self.old }
+        ensures device { device_of self.new ≡ device_of self.old }
+        ensures inside { IsInside D.size self.old → IsInside D.size self.new }
+
+        ensures back { IfErr result (λ e. e.0 ≡ batch) }
+        ensures stays { OnErr result (store_of self.new ≡ store_of self.old) }
+        ensures rest { phase_of self.old ≢ Phase.Idle → self.new ≡ self.old }
+        ensures failed { IfErr result (λ e. (e.1 ≡ StoreFault.Failed) ↔ (phase_of self.old ≡ Phase.Failed)) }
+        ensures not_idle { IfErr result (λ e. (e.1 ≡ StoreFault.NotIdle) ↔ ((phase_of self.old ≡ Phase.Busy) ⊎ (phase_of self.old ≡ Phase.Done))) }
+        ensures bad { IfErr result (λ e. e.1 ≡ StoreFault.BadBatch → ¬ IsGood batch.changes (table_of self.old)) }
+        ensures worn { IfErr result (λ e. e.1 ≡ StoreFault.Worn → IsGood batch.changes (table_of self.old) × (¬ HasRoom self.old batch.changes) × (2 ^ 64 ≤ epoch_of self.old + 1)) }
+        ensures only { IfErr result (λ e. (e.1 ≡ StoreFault.Failed) ⊎ (e.1 ≡ StoreFault.NotIdle) ⊎ (e.1 ≡ StoreFault.BadBatch) ⊎ (e.1 ≡ StoreFault.Worn) ⊎ (e.1 ≡ StoreFault.NoMemory)) }
+    {
+        match self.phase() {
+            Phase::Idle => {}
+            Phase::Failed => return Err((batch, StoreFault::Failed)),
+            Phase::Busy | Phase::Done => return Err((batch, StoreFault::NotIdle)),
+        }
+        if let Err(fault) = self.stage(&batch) {
+            return Err((batch, fault));
+        }
+        self.store.begin(batch, self.tables.table())
+    }
+
+    // Makes the table after a batch, which is a group and leaves the table sound.
+    fn stage(&mut self, batch: &Batch) -> Result<(), StoreFault>
+        ensures store { store_of self.new ≡ store_of self.old }
+        ensures table { table_of self.new ≡ table_of self.old }
+        ensures next { OnOk result (next_of self.new ≡ meaning_of batch.now.changes (table_of self.old)) }
+        ensures good { OnOk result (IsGood batch.now.changes (table_of self.old)) }
+        ensures bad { result ≡ Err StoreFault.BadBatch → ¬ IsGood batch.now.changes (table_of self.old) }
+        ensures only { OnErr result ((result ≡ Err StoreFault.BadBatch) ⊎ (result ≡ Err StoreFault.NoMemory)) }
+    {
+        let changes = batch.changes.as_slice();
+        known_changes(changes);
+        if total_length(changes) > MAX_GROUP {
+            return Err(StoreFault::BadBatch);
+        }
+        match self.tables.stage(self.alloc, changes) {
+            Ok(()) => Ok(()),
+            Err(TableFault::Invalid) => Err(StoreFault::BadBatch),
+            Err(TableFault::NoMemory) => Err(StoreFault::NoMemory),
+        }
+    }
+
+    /// Makes the next call of the batch where the flusher is busy; in `Idle` and `Done` there is none, and
+    /// nothing is done. It takes no memory.
+    ///
+    /// Errors: `Device` where the device failed in this call, and it is `Failed` for good; `Failed` in that
+    /// phase. A flusher whose store lies inside its device answers `Failed` only after a `Device`.
+    pub fn turn(&mut self) -> Result<(), StoreFault>
+        // A stop at some moment since the call began shows what the phase before it says.
+        ensures any_moment { (state after : State) → D.honest (device_of self.old) → Stands D.reads D.may_leave self.old state after
+            → LeavesOnly D.moment D.left_since (device_of self.old) (device_of self.new) (StopShows (phase_of self.old) (calls_left self.old) state after) }
+        ensures on { (state after : State) → D.honest (device_of self.old) → IsFlushing D.reads D.may_leave self.old state after
+            → OnOk result (IsFlushing D.reads D.may_leave self.new state after) }
+        ensures stuck { (state after : State) → D.honest (device_of self.old) → IsFlushing D.reads D.may_leave self.old state after
+            → OnErr result (IsStuck D.may_leave self.new state after) }
+        ensures stuck_early { (state after : State) → D.honest (device_of self.old) → IsFlushing D.reads D.may_leave self.old state after
+            → 2 < calls_left self.old → OnErr result (IsStuck D.may_leave self.new state state) }
+
+        // It makes the call that is next, and no other: each call takes the device's moment on by one at most.
+        ensures one_call { D.honest (device_of self.old) → D.moment (device_of self.new) ≤ D.moment (device_of self.old) + 1 }
+        ensures step { phase_of self.old ≡ Phase.Busy → OnOk result (calls_left self.new + 1 ≡ calls_left self.old) }
+        ensures busy { phase_of self.old ≡ Phase.Busy → OnOk result ((phase_of self.new ≡ Phase.Busy) ⊎ (phase_of self.new ≡ Phase.Done)) }
+        ensures done { OnOk result ((phase_of self.new ≡ Phase.Done) ↔ ((calls_left self.old ≡ 1) ⊎ (phase_of self.old ≡ Phase.Done))) }
+        ensures rest { phase_of self.old ≢ Phase.Busy → self.new ≡ self.old }
+        ensures quiet { (phase_of self.old ≡ Phase.Idle) ⊎ (phase_of self.old ≡ Phase.Done) → IsOk result }
+        ensures batch { batch_of self.new ≡ batch_of self.old }
+        ensures table { table_of self.new ≡ table_of self.old }
+        ensures next { next_of self.new ≡ next_of self.old }
+        ensures honest { D.honest (device_of self.old) ↔ D.honest (device_of self.new) }
+        ensures inside { IsInside D.size self.old → IsInside D.size self.new }
+
+        ensures err { OnErr result (phase_of self.new ≡ Phase.Failed) }
+        ensures only { OnErr result ((result ≡ Err StoreFault.Device) ⊎ (result ≡ Err StoreFault.Failed)) }
+        ensures failed { phase_of self.old ≡ Phase.Failed → result ≡ Err StoreFault.Failed }
+        ensures only_after { IsInside D.size self.old → IsErrOf result StoreFault.Failed → phase_of self.old ≡ Phase.Failed }
+        ensures no_call { IsErrOf result StoreFault.Failed → device_of self.new ≡ device_of self.old }
+        ensures count { D.failed (device_of self.old) ≤ D.failed (device_of self.new) }
+        ensures no_fault { OnOk result (D.failed (device_of self.new) ≡ D.failed (device_of self.old)) }
+        ensures device { IsErrOf result StoreFault.Device → HasRisen (D.failed (device_of self.old)) (D.failed (device_of self.new)) }
+    {
+        self.shown();
+        self.store.next_call().map(|_| ())
+    }
+
+    /// The receipt of the batch whose last call succeeded, once; the flusher is then idle, and its table the
+    /// one after the batch. In another phase there is none, and nothing is done. It takes no memory.
+    pub fn unload(&mut self) -> Option<Receipt>
+        ensures exactly { IsSome result ↔ (phase_of self.old ≡ Phase.Done) }
+        ensures receipt { IfSome result (λ receipt. held_batch receipt ≡ batch_of self.old) }
+        ensures settled { (state after : State) → IsFlushing D.reads D.may_leave self.old state after → OnSome result (IsSteady D.reads D.may_leave self.new after) }
+        ensures idle { OnSome result (phase_of self.new ≡ Phase.Idle) }
+        ensures table { OnSome result (table_of self.new ≡ next_of self.old) }
+        ensures none { phase_of self.old ≢ Phase.Done → self.new ≡ self.old }
+        ensures device { device_of self.new ≡ device_of self.old }
+        ensures inside { IsInside D.size self.old → IsInside D.size self.new }
+    {
+        let receipt = self.store.finish()?;
+        self.tables.commit();
+        Some(receipt)
+    }
+
+    /// Tells a caller's proof what a stop now shows, by the phase: the table where it is idle; while it is
+    /// busy the table, and where two calls are left or fewer that or the next one, but where two are left and
+    /// neither is begun the table alone; where it is done the next one alone; where it has failed one of the
+    /// two. It does nothing.
+    pub fn shown(&self)
+        ensures shown { (state after : State) → Stands D.reads D.may_leave self.now state after → (c : List ℕ) → D.may_leave (device_of self.now) c → StopShows (phase_of self.now) (calls_left self.now) state after c }
+        ensures before { (state after : State) → IsFlushing D.reads D.may_leave self.now state after → 2 ≤ calls_left self.now → (c : List ℕ) → D.may_leave (device_of self.now) c → Shows c state }
+    {
+        self.store.shown();
+    }
+}

@@ -1,0 +1,185 @@
+-- The shapes that a verdict has, taken apart once: what is so of each of them is so of every verdict.
+use Rattle.std.proofs.Common.{◌≡◌, ◌≢◌, ℕ, Bool, true, false, cond, [], ◌∷◌, List, Option, Some, None, refl, ap, ◌∙◌, IsSome}
+use Rattle.std.specs.Option.{is_some}
+use Rattle.std.specs.Ordering.{eq_by_cmp}
+use Rattle.apd_base.specs.declared.address.Addr.{Addr}
+use Rattle.apd_base.specs.declared.address.Bssid.{Bssid}
+use Rattle.apd_base.specs.declared.address.TheConstants.{BROADCAST}
+use Rattle.apd_base.specs.declared.station.Aid.{Aid}
+use Rattle.apd_base.specs.declared.station.Policy.{Policy}
+use Rattle.apd_base.specs.declared.station.Station.{Station}
+use Rattle.apd_base.specs.declared.station.Station.TheVariants.{Authenticated, Associated}
+use Rattle.apd_base.specs.declared.station.Which.{Which}
+use Rattle.apd_base.specs.Addr.{addr_cmp}
+use Rattle.apd_base.specs.State.{State, station_at, policy_at, aid_of}
+use Rattle.apd_base.proofs.AddrLaws.{addr_total, addr_exact}
+use Rattle.apd_base.proofs.Cases.{differ}
+use Rattle.apd_base.proofs.MapLaws.{tied}
+use Rattle.apd_conf.specs.declared.conf.Conf.{Conf}
+use Rattle.apd_conf.specs.Confs.{conf_at}
+use Rattle.apd_frame.specs.Contents.{Contents, AssociationRequest, ProbeRequest, authentication, association_request, reassociation_request, probe_request, disassociation, deauthentication, uplink}
+use Rattle.apd_frame.specs.declared.codes.Reason.{Reason}
+use Rattle.apd_frame.specs.declared.codes.TheConstants.Reason.{INVALID_AUTHENTICATION, INACTIVITY, INVALID_CLASS2_FRAME, INVALID_CLASS3_FRAME}
+use Rattle.apd_frame.specs.declared.received.Authentication.{Authentication}
+use Rattle.apd_frame.specs.declared.replies.Reply.{Reply}
+use Rattle.apd_record.specs.declared.change.Change.TheVariants.{Put}
+use Rattle.apd_record.specs.Meaning.{put_station}
+use Rattle.apd_mlme.specs.declared.answer.Answer.{Answer}
+use Rattle.apd_mlme.specs.declared.answer.Answer.TheVariants.{Done, Refused}
+use Rattle.apd_mlme.specs.declared.association.Kind.{Kind}
+use Rattle.apd_mlme.specs.declared.association.Kind.TheVariants.{Association, Reassociation}
+use Rattle.apd_mlme.specs.declared.decision.Recipient.TheVariants.{Radio}
+use Rattle.apd_mlme.specs.declared.decision.Out.TheVariants.{Remove}
+use Rattle.apd_mlme.specs.declared.event.Edit.{Edit}
+use Rattle.apd_mlme.specs.Association as rule
+use Rattle.apd_mlme.specs.Association.{association_status, association_response, association_of, accepted, without_current_ap}
+use Rattle.apd_mlme.specs.Authentication.{auth_status, auth_response, auth_verdict, is_admitted}
+use Rattle.apd_mlme.specs.Commands.{answered, all_kicked, deauthenticated_of, disassociated_of, kicked}
+use Rattle.apd_mlme.specs.Configuration.{configure_verdict, later_start, first_start}
+use Rattle.apd_mlme.specs.Departure.{disassociation_of, deauthentication_of, data_of}
+use Rattle.apd_mlme.specs.Ended.{HasLeft}
+use Rattle.apd_mlme.specs.Happening.{Happening, Heard, Kick, ListEdit, Expire, Configure, bssid_of}
+use Rattle.apd_mlme.specs.Identifiers.{identifier_for}
+use Rattle.apd_mlme.specs.Inactivity.{inactivity_of}
+use Rattle.apd_mlme.specs.Leaving as leaving
+use Rattle.apd_mlme.specs.Leaving.{removal, outs_of_end, outs_of_drop, put_back}
+use Rattle.apd_mlme.specs.Outs.{sent}
+use Rattle.apd_mlme.specs.ProbeRequest.{is_answered, probe_response, probe_verdict}
+use Rattle.apd_mlme.specs.Refusals.{is_success}
+use Rattle.apd_mlme.specs.Rules.{verdict, verdict_under, heard_verdict, IsFit}
+use Rattle.apd_mlme.specs.Truth.{IsSaidSo, NoneIsBroadcast}
+use Rattle.apd_mlme.specs.Verdict.{Verdict, nothing, only_sent}
+use Rattle.apd_mlme.proofs.AnsweredLaws.{refuses}
+use Rattle.apd_mlme.proofs.AuthenticationLaws.{known_already}
+use Rattle.apd_mlme.proofs.CommandLaws.{by_kick, by_edit, HasRoom, edited_under}
+
+-- what an event brings about, but for the answer to a command, and what is known where it does
+pub data Shape (s : State) (confs : List Conf) (h : Happening) : Verdict → Type 0 where
+  silent : Shape s confs h (nothing s)
+  -- one frame, which is so
+  told : (reply : Reply) → IsSome (conf_at confs reply.bssid) → IsSaidSo s reply.bssid reply.to reply.body → (NoneIsBroadcast s h → reply.to ≢ BROADCAST) → Shape s confs h (only_sent s reply)
+  -- a new station
+  admitted : (conf : Conf) (b : Bssid) (request : Authentication) → IsSome (conf_at confs b) → h ≡ Heard b (authentication request) → is_admitted s conf b request ≡ true
+      → Shape s confs h (record { state = put_station b request.sender Authenticated s; changes = Put b request.sender Authenticated ∷ []; outs = sent (auth_response b request (auth_status s conf b request)) ∷ [] })
+  -- a station disassociates, or deauthenticates
+  left : (b : Bssid) (a : Addr) → IsSome (conf_at confs b) → HasLeft h b a → IsSome (station_at s b a) → Shape s confs h (put_back s b a ((Radio b, Remove a) ∷ []))
+  gone : (b : Bssid) (a : Addr) → IsSome (conf_at confs b) → HasLeft h b a → Shape s confs h (leaving.dropped s b a (removal s b a))
+  -- or the access point ends its association, or drops it
+  ended : (b : Bssid) (a : Addr) (reason : Reason) → IsSome (conf_at confs b) → IsSome (station_at s b a) → Shape s confs h (put_back s b a (outs_of_end b a reason))
+  dropped : (b : Bssid) (a : Addr) (reason : Reason) → IsSome (conf_at confs b) → IsSome (station_at s b a) → Shape s confs h (leaving.dropped s b a (outs_of_drop s b a reason))
+  -- a station with a row associates
+  associated : (conf : Conf) (b : Bssid) (kind : Kind) (request : AssociationRequest) (aid : Aid) → IsSome (conf_at confs b) → IsSome (station_at s b request.sender) → identifier_for s b (station_at s b request.sender) ≡ Some aid
+      → Shape s confs h (rule.associated s confs conf b kind request aid)
+  -- all are sent away, or those that an edit or a start denies
+  emptied : (b : Bssid) (reason : Reason) (deauth : Bool) → IsSome (conf_at confs b) → Shape s confs h (all_kicked s b reason deauth)
+  edited : (b : Bssid) (w : Which) (edit : Edit) (o : Option Policy) → IsSome (conf_at confs b) → policy_at s b ≡ o → (IsFit s confs h → IsSome o) → HasRoom s b w edit → Shape s confs h (edited_under s b w edit o)
+  restarted : (conf : Conf) (b : Bssid) → IsSome (conf_at confs b) → IsSome (policy_at s b) → Shape s confs h (later_start s conf b)
+  started : (conf : Conf) (b : Bssid) (accept deny : List Addr) → h ≡ Configure b accept deny → is_some (policy_at s b) ≡ false → Shape s confs h (first_start s conf b accept deny)
+
+module _ (s : State) (confs : List Conf) (b : Bssid) (there : IsSome (conf_at confs b)) where
+  disassociation_shape : (a : Addr) (reason : Reason) (o : Option Station) → station_at s b a ≡ o → Shape s confs (Heard b (disassociation a reason)) (disassociation_of s b a o)
+  disassociation_shape a reason None at = told (leaving.deauthentication b a INVALID_CLASS2_FRAME) there at (λ nobody. nobody.sender)
+  disassociation_shape a reason (Some Authenticated) at = silent
+  disassociation_shape a reason (Some (Associated x)) at = left b a there (refl, refl) (ap is_some at)
+
+  deauthentication_shape : (a : Addr) (reason : Reason) (o : Option Station) → Shape s confs (Heard b (deauthentication a reason)) (deauthentication_of s b a o)
+  deauthentication_shape a reason None = silent
+  deauthentication_shape a reason (Some row) = gone b a there (refl, refl)
+
+  data_shape : (a : Addr) (o : Option Station) → station_at s b a ≡ o → Shape s confs (Heard b (uplink a)) (data_of s b a o)
+  data_shape a None at = told (leaving.deauthentication b a INVALID_CLASS3_FRAME) there at (λ nobody. nobody.sender)
+  data_shape a (Some Authenticated) at = told (leaving.disassociation b a INVALID_CLASS3_FRAME) there (ap aid_of at) (λ nobody. nobody.sender)
+  data_shape a (Some (Associated x)) at = silent
+
+  pub inactivity_shape : (a : Addr) (o : Option Station) → station_at s b a ≡ o → Shape s confs (Expire b a) (inactivity_of s b a o)
+  inactivity_shape a None at = silent
+  inactivity_shape a (Some Authenticated) at = dropped b a INVALID_AUTHENTICATION there (ap is_some at)
+  inactivity_shape a (Some (Associated x)) at = ended b a INACTIVITY there (ap is_some at)
+
+  module _ (conf : Conf) where
+    auth_shape : (request : Authentication) → Shape s confs (Heard b (authentication request)) (auth_verdict s conf b request)
+    auth_shape request =
+        let status = auth_status s conf b request in
+        let answer = sent (auth_response b request status) ∷ [] in
+        elim (is_admitted s conf b request) as (λ t. is_admitted s conf b request ≡ t
+        → Shape s confs (Heard b (authentication request)) (record { state = cond t (put_station b request.sender Authenticated s) s; changes = cond t (Put b request.sender Authenticated ∷ []) []; outs = answer })) [
+          | true ↦ λ e. admitted conf b request there refl e
+          | false ↦ λ e. told (auth_response b request status) there (known_already s conf b request e) (λ nobody. nobody.sender)
+        ] refl
+
+    probe_shape : (request : ProbeRequest) → Shape s confs (Heard b (probe_request request)) (probe_verdict s conf b request)
+    probe_shape request = elim (is_answered conf request.elements) as (λ t. Shape s confs (Heard b (probe_request request)) (record { state = s; changes = []; outs = cond t (sent (probe_response conf b request.sender) ∷ []) [] })) [
+      | true ↦ told (probe_response conf b request.sender) there tt (λ nobody. nobody.sender)
+      | false ↦ silent
+    ]
+
+    -- an association or a reassociation request
+    module _ (h : Happening) (kind : Kind) (request : AssociationRequest) (one : NoneIsBroadcast s h → request.sender ≢ BROADCAST) where
+      accepted_shape : IsSome (station_at s b request.sender) → (o : Option Aid) → identifier_for s b (station_at s b request.sender) ≡ o → Shape s confs h (accepted s confs conf b kind request o)
+      accepted_shape known None is = silent
+      accepted_shape known (Some aid) is = associated conf b kind request aid there known is
+
+      refused_so : (k : Kind) → is_success (association_status conf request) ≡ false → let reply = association_response conf b k request.sender (association_status conf request) None in IsSaidSo s b request.sender reply.body
+      refused_so Association bad = λ good. absurd (refuses (association_status conf request) bad good)
+      refused_so Reassociation bad = λ good. absurd (refuses (association_status conf request) bad good)
+
+      association_shape : (o : Option Station) → station_at s b request.sender ≡ o → Shape s confs h (association_of s confs conf b kind request o)
+      association_shape None at = told (leaving.deauthentication b request.sender INVALID_CLASS2_FRAME) there at one
+      association_shape (Some row) at =
+          let refusal = association_response conf b kind request.sender (association_status conf request) None in
+          elim (is_success (association_status conf request)) as (λ t. is_success (association_status conf request) ≡ t → Shape s confs h (cond t (accepted s confs conf b kind request (identifier_for s b (Some row))) (only_sent s refusal))) [
+            | true ↦ λ e. accepted_shape (ap is_some at) (identifier_for s b (Some row)) (ap (identifier_for s b) at)
+            | false ↦ λ e. told refusal there (refused_so kind e) one
+          ] refl
+
+    pub heard_shape : (f : Contents) → Shape s confs (Heard b f) (heard_verdict s confs conf b f)
+    heard_shape (authentication request) = auth_shape request
+    heard_shape (association_request request) = association_shape (Heard b (association_request request)) Association request (λ nobody. nobody.sender) (station_at s b request.sender) refl
+    heard_shape (reassociation_request request) = association_shape (Heard b (reassociation_request request)) Reassociation (without_current_ap request) (λ nobody. nobody.sender) (station_at s b request.sender) refl
+    heard_shape (probe_request request) = probe_shape request
+    heard_shape (disassociation a reason) = disassociation_shape a reason (station_at s b a) refl
+    heard_shape (deauthentication a reason) = deauthentication_shape a reason (station_at s b a)
+    heard_shape (uplink a) = data_shape a (station_at s b a) refl
+
+    pub configure_shape : (accept deny : List Addr) → Shape s confs (Configure b accept deny) (configure_verdict s conf b accept deny)
+    configure_shape accept deny =
+        elim (is_some (policy_at s b)) as (λ t. is_some (policy_at s b) ≡ t → Shape s confs (Configure b accept deny) (cond t (later_start s conf b) (first_start s conf b accept deny))) [
+          | true ↦ λ e. restarted conf b there e
+          | false ↦ λ e. started conf b accept deny refl e
+        ] refl
+
+  -- ---- control commands, but for their answers
+  module _ (h : Happening) where
+    -- the frame of one station is not the broadcast
+    one_station : (to : Addr) → eq_by_cmp addr_cmp to BROADCAST ≡ false → to ≢ BROADCAST
+    one_station to e all = differ _ e (ap (λ x. eq_by_cmp addr_cmp x BROADCAST) all ∙ tied addr_total addr_exact BROADCAST)
+
+    deauthenticated_shape : (a : Addr) (reason : Reason) → a ≢ BROADCAST → (o : Option Station) → station_at s b a ≡ o → Shape s confs h (deauthenticated_of s b a reason o)
+    deauthenticated_shape a reason one None at = told (leaving.deauthentication b a reason) there at (λ _. one)
+    deauthenticated_shape a reason one (Some row) at = dropped b a reason there (ap is_some at)
+
+    disassociated_shape : (a : Addr) (reason : Reason) → a ≢ BROADCAST → (o : Option Station) → station_at s b a ≡ o → Shape s confs h (disassociated_of s b a reason o)
+    disassociated_shape a reason one None at = told (leaving.disassociation b a reason) there (ap aid_of at) (λ _. one)
+    disassociated_shape a reason one (Some Authenticated) at = told (leaving.disassociation b a reason) there (ap aid_of at) (λ _. one)
+    disassociated_shape a reason one (Some (Associated x)) at = ended b a reason there (ap is_some at)
+
+    pub kicked_shape : (to : Addr) (reason : Reason) (deauth : Bool) → Shape s confs h (kicked s b to reason deauth)
+    kicked_shape to reason deauth =
+        by_kick s b to reason (λ t v. Shape s confs h v) (λ t e. emptied b reason t there)
+        (λ e. deauthenticated_shape to reason (one_station to e) (station_at s b to) refl) (λ e. disassociated_shape to reason (one_station to e) (station_at s b to) refl) deauth
+
+-- ---- any event
+module _ (s : State) (confs : List Conf) (P : Verdict → Type 0) (more : (tag : ℕ) (answer : Answer) (v : Verdict) → P v → P (answered tag answer v)) where
+  under_shape : (h : Happening) (o : Option Conf) → conf_at confs (bssid_of h) ≡ o → ((v : Verdict) → Shape s confs h v → P v) → P (verdict_under s confs o h)
+  under_shape h None at all = all (nothing s) silent
+  under_shape (Heard b f) (Some conf) at all = all _ (heard_shape s confs b (ap is_some at) conf f)
+  under_shape (Kick b to reason deauth tag) (Some conf) at all = more tag Done _ (all _ (kicked_shape s confs b (ap is_some at) (Kick b to reason deauth tag) to reason deauth))
+  under_shape (ListEdit b w edit tag) (Some conf) at all =
+      by_edit s b w tag P edit (λ _. more tag Done _ (all _ silent)) (λ _. more tag Refused _ (all _ silent))
+      (λ room. more tag Done _ (all _ (edited b w edit (policy_at s b) (ap is_some at) refl (λ fit. fit.1) room)))
+  under_shape (Expire b a) (Some conf) at all = all _ (inactivity_shape s confs b (ap is_some at) a (station_at s b a) refl)
+  under_shape (Configure b accept deny) (Some conf) at all = all _ (configure_shape s confs b (ap is_some at) conf accept deny)
+
+  -- what is so of each shape, and of an answer behind it, is so of the verdict
+  pub by_shape : (h : Happening) → ((v : Verdict) → Shape s confs h v → P v) → P (verdict s confs h)
+  by_shape h = under_shape h (conf_at confs (bssid_of h)) refl

@@ -1,0 +1,9 @@
+pub mod Accepting
+pub mod Answering
+pub mod Handing
+pub mod Running
+pub mod Saying
+pub mod ScriptLines
+pub mod Senders
+pub mod Speaking
+pub mod Starting

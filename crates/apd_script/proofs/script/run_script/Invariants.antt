@@ -1,0 +1,7 @@
+use Rattle.std.specs.Io.Take.{take_remaining}
+use Rattle.apd_script.proofs.Running.{IsSoFar}
+use Rattle.apd_script.proofs.script.run_script.Given as goal
+
+-- the lines so far were run
+abbrev pub invariant-loop-number : goal.invariant-loop-number
+invariant-loop-number g l = IsSoFar (g.R.Read.remaining l.fn.reader) (take_remaining g.R.Read.remaining l.reader) l.number l.length l.fn.world l.run.moment l.run.world

@@ -1,0 +1,9 @@
+pub mod Configured
+pub mod Lines
+pub mod Meant
+pub mod Run
+pub mod Script
+pub mod Spoken
+pub mod Start
+pub mod Steps
+pub mod World

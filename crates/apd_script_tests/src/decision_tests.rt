@@ -1,0 +1,307 @@
+use crate::calls::{addresses_of, alone, built_in};
+use apd_base::{AclMode, Addr, Aid, Association, Bssid, Sequence, Station, Which};
+use apd_conf::Confs;
+use apd_frame::{Authentication, Frame};
+use apd_mlme::decision::MAX_RECORDS;
+use apd_mlme::{Decision, Event, Out, decide};
+use apd_record::Change;
+use apd_table::Table;
+use std::alloc::Global;
+use std::process::Abort;
+use std::test::Fail;
+
+const RADIO: Bssid = Bssid(Addr([2, 0, 0, 0, 0, 1]));
+
+const STATION: Addr = Addr([2, 0, 0, 0, 0, 0xaa]);
+
+/// A deauthentication of the station, with reason 1.
+const DEAUTHENTICATION: [u8; 26] = [
+    0xc0, 0, 0, 0, 2, 0, 0, 0, 0, 0xaa, 2, 0, 0, 0, 0, 1, 2, 0, 0, 0, 0, 1, 0, 0, 1, 0,
+];
+
+/// Makes a change that is taken.
+fn change(table: &mut Table, change: &Change) -> Result<(), Fail> {
+    match table.apply(change) {
+        Ok(()) => Ok(()),
+        Err(_) => Err(Fail::new("a change is refused")),
+    }
+}
+
+/// The built-in configuration, in another mode.
+fn confs(alloc: Global, mode: AclMode) -> Result<Confs, Fail> {
+    let mut conf = built_in(alloc)?;
+    conf.macaddr_acl = mode;
+    alone(alloc, conf)
+}
+
+/// Decides the start of the radio with these list files, and makes its changes.
+fn start_with(
+    rt: &impl Abort,
+    alloc: Global,
+    table: &mut Table,
+    confs: &Confs,
+    [accept_file, deny_file]: [&[u8]; 2],
+) -> Result<Decision, Fail> {
+    let accept = addresses_of(alloc, accept_file)?;
+    let deny = addresses_of(alloc, deny_file)?;
+    assert!(rt; confs.with_bssid(RADIO).is_some());
+    assert!(rt; table.bss_count() < 8);
+    let event = Event::Configure {
+        bssid: RADIO,
+        accept: accept.as_slice(),
+        deny: deny.as_slice(),
+    };
+    let decision = decide(alloc, table, confs, event)?;
+    for each in decision.changes.as_slice() {
+        change(table, each)?;
+    }
+    Ok(decision)
+}
+
+/// The same without list files.
+fn start(
+    rt: &impl Abort,
+    alloc: Global,
+    table: &mut Table,
+    confs: &Confs,
+) -> Result<Decision, Fail> {
+    start_with(rt, alloc, table, confs, [b"", b""])
+}
+
+/// Decides an authentication request of the station, and makes its changes.
+fn authenticate(
+    rt: &impl Abort,
+    alloc: Global,
+    table: &mut Table,
+    confs: &Confs,
+) -> Result<Decision, Fail> {
+    let request = Authentication {
+        sender: STATION,
+        algorithm: 0,
+        transaction: 1,
+        status: 0,
+    };
+    assert!(rt; confs.with_bssid(RADIO).is_some());
+    assert!(rt; table.policy(RADIO).is_some());
+    let decision = decide(
+        alloc,
+        table,
+        confs,
+        Event::Heard(RADIO, Frame::Auth(request)),
+    )?;
+    for each in decision.changes.as_slice() {
+        change(table, each)?;
+    }
+    Ok(decision)
+}
+
+/// Whether an out is this frame.
+fn is_frame(out: &Out, want: &[u8]) -> bool {
+    match out {
+        Out::Frame(frame) => frame.as_slice() == want,
+        Out::Install(..) | Out::Remove(_) | Out::Text(..) => false,
+    }
+}
+
+#[test]
+fn a_start_in_mode_1_ends_a_station_that_mode_0_let_in(rt: HostRuntime) -> Result<(), Fail> {
+    let alloc = rt.alloc();
+    let mut table = Table::new(alloc);
+    let open = confs(alloc, AclMode::AcceptUnlessDenied)?;
+    start(&rt, alloc, &mut table, &open)?;
+    authenticate(&rt, alloc, &mut table, &open)?;
+    assert_eq!(rt; table.get(RADIO, STATION), Some(Station::Authenticated));
+
+    let closed = confs(alloc, AclMode::DenyUnlessAccepted)?;
+    let decision = start(&rt, alloc, &mut table, &closed)?;
+    assert_eq!(rt; decision.changes.len(), 2);
+    let drop = Change::Drop {
+        bssid: RADIO,
+        addr: STATION,
+    };
+    assert_eq!(rt; decision.changes.as_slice()[0], drop);
+    assert_eq!(rt; decision.outs.len(), 1);
+    assert!(rt; is_frame(&decision.outs.as_slice()[0].1, &DEAUTHENTICATION));
+    assert_eq!(rt; table.get(RADIO, STATION), None);
+    Ok(())
+}
+
+/// The station on a list of the radio.
+fn listed(which: Which) -> Change {
+    Change::ListAdd {
+        bssid: RADIO,
+        which,
+        addr: STATION,
+    }
+}
+
+#[test]
+fn lists_say_who_is_let_in(rt: HostRuntime) -> Result<(), Fail> {
+    let alloc = rt.alloc();
+    let mut table = Table::new(alloc);
+    let open = confs(alloc, AclMode::AcceptUnlessDenied)?;
+    start(&rt, alloc, &mut table, &open)?;
+    change(&mut table, &listed(Which::Deny))?;
+    authenticate(&rt, alloc, &mut table, &open)?;
+    assert_eq!(rt; table.get(RADIO, STATION), None);
+    change(&mut table, &listed(Which::Accept))?;
+    authenticate(&rt, alloc, &mut table, &open)?;
+    assert_eq!(rt; table.get(RADIO, STATION), Some(Station::Authenticated));
+
+    let closed = confs(alloc, AclMode::DenyUnlessAccepted)?;
+    start(&rt, alloc, &mut table, &closed)?;
+    assert_eq!(rt; table.get(RADIO, STATION), Some(Station::Authenticated));
+    Ok(())
+}
+
+/// An address in a list of the radio.
+fn added(which: Which, last: u8) -> Change {
+    Change::ListAdd {
+        bssid: RADIO,
+        which,
+        addr: Addr([2, 0, 0, 0, 0, last]),
+    }
+}
+
+fn first(changes: &Sequence<Change>) -> Option<Change> {
+    changes.as_slice().first().copied()
+}
+
+#[test]
+fn lists_come_with_the_first_start_alone(rt: HostRuntime) -> Result<(), Fail> {
+    let alloc = rt.alloc();
+    let mut table = Table::new(alloc);
+    let confs = confs(alloc, AclMode::AcceptUnlessDenied)?;
+    let accept = b"02:00:00:00:00:bb\n02:00:00:00:00:aa\n".as_slice();
+    let deny = b"02:00:00:00:00:cc\n".as_slice();
+    let began = start_with(&rt, alloc, &mut table, &confs, [accept, deny])?;
+    assert_eq!(rt; began.changes.len(), 4);
+    assert_eq!(rt; began.changes.as_slice()[1], added(Which::Accept, 0xaa));
+    assert_eq!(rt; began.changes.as_slice()[2], added(Which::Accept, 0xbb));
+    assert_eq!(rt; began.changes.as_slice()[3], added(Which::Deny, 0xcc));
+
+    let later = start_with(&rt, alloc, &mut table, &confs, [deny, accept])?;
+    assert_eq!(rt; later.changes.len(), 1);
+    assert_eq!(rt; first(&later.changes), first(&began.changes));
+    Ok(())
+}
+
+/// An authentication response to the station: Open System, transaction number 2, status 17.
+const NO_MORE_STATIONS: [u8; 30] = [
+    0xb0, 0, 0, 0, 2, 0, 0, 0, 0, 0xaa, 2, 0, 0, 0, 0, 1, 2, 0, 0, 0, 0, 1, 0, 0, 0, 0, 2, 0, 17, 0,
+];
+
+/// A station that is associated under an identifier.
+fn member(aid: Aid) -> Change {
+    let [low, high] = aid.number.to_le_bytes();
+    let association = Association {
+        aid,
+        capability: 0x431,
+        listen_interval: 10,
+    };
+    Change::Put {
+        bssid: RADIO,
+        addr: Addr([2, 0, 0, 1, high, low]),
+        station: Station::Associated(association),
+    }
+}
+
+/// A first start with two full lists: a policy of 10 bytes, and 2,048 addresses of 14.
+#[test]
+fn the_most_records_of_an_event(rt: HostRuntime) {
+    assert_eq!(rt; MAX_RECORDS, 28_682);
+}
+
+#[test]
+fn the_2008th_station_finds_no_room(rt: HostRuntime) -> Result<(), Fail> {
+    let alloc = rt.alloc();
+    let mut table = Table::new(alloc);
+    let open = confs(alloc, AclMode::AcceptUnlessDenied)?;
+    start(&rt, alloc, &mut table, &open)?;
+    for number in 1..=2007 {
+        if number == 2007 {
+            assert_eq!(rt; table.least_free(RADIO), Some(2007));
+        }
+        if let Some(aid) = Aid::new(number) {
+            change(&mut table, &member(aid))?;
+        }
+    }
+    assert_eq!(rt; table.count(RADIO), 2007);
+    assert_eq!(rt; table.least_free(RADIO), None);
+    let decision = authenticate(&rt, alloc, &mut table, &open)?;
+    assert_eq!(rt; decision.changes.len(), 0);
+    assert_eq!(rt; decision.outs.len(), 1);
+    assert!(rt; is_frame(&decision.outs.as_slice()[0].1, &NO_MORE_STATIONS));
+    assert_eq!(rt; table.count(RADIO), 2007);
+    Ok(())
+}
+
+/// Whether an out lets this station go.
+fn is_removal(out: &Out, station: Addr) -> bool {
+    match out {
+        Out::Remove(addr) => *addr == station,
+        Out::Install(..) | Out::Frame(_) | Out::Text(..) => false,
+    }
+}
+
+/// Decides the silence of the station, and makes its changes.
+fn expire(
+    rt: &impl Abort,
+    alloc: Global,
+    table: &mut Table,
+    confs: &Confs,
+) -> Result<Decision, Fail> {
+    assert!(rt; confs.with_bssid(RADIO).is_some());
+    assert!(rt; table.policy(RADIO).is_some());
+    let event = Event::Expire {
+        bssid: RADIO,
+        addr: STATION,
+    };
+    let decision = decide(alloc, table, confs, event)?;
+    for each in decision.changes.as_slice() {
+        change(table, each)?;
+    }
+    Ok(decision)
+}
+
+/// A disassociation of the station with reason 4, and a deauthentication with reason 2.
+const INACTIVE: [u8; 26] = [
+    0xa0, 0, 0, 0, 2, 0, 0, 0, 0, 0xaa, 2, 0, 0, 0, 0, 1, 2, 0, 0, 0, 0, 1, 0, 0, 4, 0,
+];
+
+const NO_LONGER_AUTHENTICATED: [u8; 26] = [
+    0xc0, 0, 0, 0, 2, 0, 0, 0, 0, 0xaa, 2, 0, 0, 0, 0, 1, 2, 0, 0, 0, 0, 1, 0, 0, 2, 0,
+];
+
+#[test]
+fn silence_ends_an_association_and_then_an_authentication(rt: HostRuntime) -> Result<(), Fail> {
+    let alloc = rt.alloc();
+    let mut table = Table::new(alloc);
+    let open = confs(alloc, AclMode::AcceptUnlessDenied)?;
+    start(&rt, alloc, &mut table, &open)?;
+    if let Some(aid) = Aid::new(1) {
+        let association = Association {
+            aid,
+            capability: 0x431,
+            listen_interval: 10,
+        };
+        let put = Change::Put {
+            bssid: RADIO,
+            addr: STATION,
+            station: Station::Associated(association),
+        };
+        change(&mut table, &put)?;
+    }
+    let first = expire(&rt, alloc, &mut table, &open)?;
+    assert_eq!(rt; first.outs.len(), 2);
+    assert!(rt; is_removal(&first.outs.as_slice()[0].1, STATION));
+    assert!(rt; is_frame(&first.outs.as_slice()[1].1, &INACTIVE));
+    assert_eq!(rt; table.get(RADIO, STATION), Some(Station::Authenticated));
+    let second = expire(&rt, alloc, &mut table, &open)?;
+    assert_eq!(rt; second.outs.len(), 1);
+    assert!(rt; is_frame(&second.outs.as_slice()[0].1, &NO_LONGER_AUTHENTICATED));
+    assert_eq!(rt; table.get(RADIO, STATION), None);
+    let third = expire(&rt, alloc, &mut table, &open)?;
+    assert!(rt; third.is_nothing());
+    Ok(())
+}

@@ -1,0 +1,16 @@
+//! Tests of what stands on `apd_script` and on `apd_mlme`, by their public calls alone, a module a subject: here
+//! they are proved once, and no other crate is proved twice for them.
+#![tactic(auto)]
+
+#[cfg(test)]
+mod association_tests;
+#[cfg(test)]
+mod calls;
+#[cfg(test)]
+mod command_tests;
+#[cfg(test)]
+mod configuration_tests;
+#[cfg(test)]
+mod decision_tests;
+#[cfg(test)]
+mod script_tests;

@@ -1,0 +1,286 @@
+use crate::calls::{self, alone, both, second};
+use apd_base::limits::MAX_SCRIPT;
+use apd_base::{Addr, Aid, Bssid};
+use apd_conf::{Confs, InterfaceName};
+use apd_mlme::Out;
+use apd_script::{Accepted, QuietReason, ScriptFault, World, run_script, write_out};
+use std::alloc::Global;
+use std::io::{self, BufRead, BufReader, Read, Write};
+use std::test::Fail;
+
+/// The built-in configuration alone: wlan0 at 02:00:00:00:00:01.
+fn built_in(alloc: Global) -> Result<Confs, Fail> {
+    alone(alloc, calls::built_in(alloc)?)
+}
+
+/// Runs a script on a daemon of these configurations, and gives how it ended and what it printed.
+pub fn printed(
+    alloc: Global,
+    confs: Confs,
+    script: &[u8],
+) -> Result<(Option<ScriptFault>, Vec<u8>), Fail> {
+    let mut out = Vec::new(alloc);
+    let fault = run_script(alloc, World::new(alloc, confs), script, &mut out).err();
+    Ok((fault, out))
+}
+
+#[test]
+fn an_authentication_is_answered_once_it_is_flushed(rt: HostRuntime) -> Result<(), Fail> {
+    for (script, want) in [
+        // Open System, the first frame, in either case and with blanks among the digits.
+        (
+            b"rx wlan0 b000 0000 020000000001 0200000000AA 020000000001 1000 0000 0100 00 0 0\nflush".as_slice(),
+            b"entry 2\nwlan0 tx b00000000200000000aa0200000000010200000000010000000002000000\n".as_slice(),
+        ),
+        // Nothing is handed out before.
+        (
+            b"rx wlan0 b000 0000 020000000001 0200000000AA 020000000001 1000 0000 0100 00 0 0\n",
+            b"entry 2\n",
+        ),
+        (
+            b"rx wlan0 b00000000200000000010200000000aa0200000000011000000001000000\nhand\n",
+            b"entry 2\n",
+        ),
+        // Another algorithm, and the greatest transaction number.
+        (
+            b"rx wlan0 b00000000200000000010200000000aa02000000000110000100ffff0000\n\nflush\n",
+            b"entry 2\nwlan0 tx b00000000200000000aa0200000000010200000000010000010000000d00\n",
+        ),
+        // Out of sequence.
+        (
+            b"rx wlan0 b00000000200000000010200000000aa0200000000011000000003000000\nflush\nflush\nhand\n",
+            b"entry 2\nwlan0 tx b00000000200000000aa0200000000010200000000010000000004000e00\n",
+        ),
+        // No frames: of 23 bytes, and of none.
+        (
+            b"rx wlan0 b00000000200000000010200000000aa02000000000110\nrx wlan0\nrx wlan0 \n",
+            b"quiet short\nquiet short\nquiet short\n",
+        ),
+    ] {
+        let (fault, out) = printed(rt.alloc(), built_in(rt.alloc())?, script)?;
+        assert_eq!(rt; fault, None);
+        assert_eq!(rt; out.as_slice(), want);
+    }
+    Ok(())
+}
+
+#[test]
+fn the_first_bad_line_ends_a_script(rt: HostRuntime) -> Result<(), Fail> {
+    for (script, line) in [
+        (b"\nrx wlan0 b0\nflish\nflush".as_slice(), 3),
+        (b"rx wlan0 b", 1),
+        (b"rx wlan0 b0\tb0", 1),
+        (b"rx wlan1 b0", 1),
+        (b"rx", 1),
+        (b"rx ", 1),
+        (b"rx  wlan0 b0", 1),
+        (b"flush ", 1),
+        (b"flush\r\n", 1),
+        (b"take", 1),
+        (b"cmdPING", 1),
+        (b"tick", 1),
+        (b"tick ", 1),
+        (b"tick +5", 1),
+        (b"tick 5 ", 1),
+        (b"tick 18446744073709551616", 1),
+        (b"tick 000000000000000000005", 1),
+        (
+            b"tick 00000000000000000005\ntick 18446744073709551615\ntick 0\nx",
+            4,
+        ),
+    ] {
+        let (fault, _) = printed(rt.alloc(), built_in(rt.alloc())?, script)?;
+        assert_eq!(rt; fault, Some(ScriptFault::BadLine(line)));
+    }
+    let (_, out) = printed(rt.alloc(), built_in(rt.alloc())?, b"rx wlan0\nx\n")?;
+    assert_eq!(rt; out.as_slice(), b"quiet short\n".as_slice());
+    Ok(())
+}
+
+#[test]
+fn frames_of_2305_bytes_are_too_long(rt: HostRuntime) -> Result<(), Fail> {
+    let alloc = rt.alloc();
+    for (bytes, want) in [
+        (2304, b"quiet subtype\n".as_slice()),
+        (2305, b"quiet long\n"),
+    ] {
+        let mut script = Vec::new(alloc);
+        script.extend_from_slice(b"rx wlan0 d00000000200000000010200000000aa0200000000011000")?;
+        for _ in 24..bytes {
+            script.extend_from_slice(b"00")?;
+        }
+        let (fault, out) = printed(alloc, built_in(alloc)?, script.as_slice())?;
+        assert_eq!(rt; fault, None);
+        assert_eq!(rt; out.as_slice(), want);
+    }
+    Ok(())
+}
+
+/// A writer that takes a number of lines, and then fails in this way.
+#[derive(Drop)]
+struct Narrow {
+    left: usize,
+    kind: io::ErrorKind,
+}
+
+impl Write for Narrow {
+    fn write(&mut self, buf: &[u8]) -> io::Result<usize> {
+        if self.left == 0 {
+            return Err(io::Error::from(self.kind));
+        }
+        self.left -= 1;
+        Ok(buf.len())
+    }
+
+    fn flush(&mut self) -> io::Result<()> {
+        Ok(())
+    }
+}
+
+/// A writer that takes nothing.
+fn closed() -> Narrow {
+    Narrow {
+        left: 0,
+        kind: io::ErrorKind::BrokenPipe,
+    }
+}
+
+/// A reader that gives a number of empty lines, and then fails in this way.
+#[derive(Drop)]
+struct Broken {
+    left: usize,
+    kind: io::ErrorKind,
+}
+
+impl Read for Broken {
+    fn read(&mut self, buf: &mut [u8]) -> io::Result<usize> {
+        if self.left == 0 {
+            return Err(io::Error::from(self.kind));
+        }
+        self.left -= 1;
+        match buf.first_mut() {
+            Some(byte) => {
+                *byte = b'\n';
+                Ok(1)
+            }
+            None => Ok(0),
+        }
+    }
+}
+
+/// How a script ends on the built-in configuration.
+fn fault_of<R: BufRead + Drop>(
+    alloc: Global,
+    reader: R,
+    mut writer: Narrow,
+) -> Result<Option<ScriptFault>, Fail> {
+    let world = World::new(alloc, built_in(alloc)?);
+    Ok(run_script(alloc, world, reader, &mut writer).err())
+}
+
+#[test]
+fn faults_of_the_reader_and_the_writer_end_a_script(rt: HostRuntime) -> Result<(), Fail> {
+    let alloc = rt.alloc();
+    let script = b"rx wlan0\nrx wlan0\nflush\n";
+    for (kind, reader_fault, writer_fault) in [
+        (
+            io::ErrorKind::BrokenPipe,
+            ScriptFault::Reader,
+            ScriptFault::Writer,
+        ),
+        (
+            io::ErrorKind::OutOfMemory,
+            ScriptFault::NoMemory,
+            ScriptFault::NoMemory,
+        ),
+    ] {
+        let reader = BufReader::new(alloc, Broken { left: 1, kind })?;
+        let fault = fault_of(alloc, reader, Narrow { left: 0, kind })?;
+        assert_eq!(rt; fault, Some(reader_fault));
+        let fault = fault_of(alloc, script.as_slice(), Narrow { left: 1, kind })?;
+        assert_eq!(rt; fault, Some(writer_fault));
+    }
+    Ok(())
+}
+
+#[test]
+fn a_script_has_at_most_16_mib(rt: HostRuntime) -> Result<(), Fail> {
+    let alloc = rt.alloc();
+    for (bytes, want) in [
+        (MAX_SCRIPT as u64, ScriptFault::BadLine(1)),
+        (MAX_SCRIPT as u64 + 1, ScriptFault::Reader),
+    ] {
+        let reader = BufReader::new(alloc, io::repeat(b'x').take(bytes))?;
+        let fault = fault_of(alloc, reader, closed())?;
+        assert_eq!(rt; fault, Some(want));
+    }
+    Ok(())
+}
+
+#[test]
+fn of_a_script_16_777_217_bytes_are_read_at_most(rt: HostRuntime) -> Result<(), Fail> {
+    let alloc = rt.alloc();
+    // Where one more is asked for, want of memory is told.
+    let asked_for_more = Broken {
+        left: 0,
+        kind: io::ErrorKind::OutOfMemory,
+    };
+    let script = io::repeat(b'x').take(16_777_217).chain(asked_for_more);
+    let fault = fault_of(alloc, BufReader::new(alloc, script)?, closed())?;
+    assert_eq!(rt; fault, Some(ScriptFault::Reader));
+    Ok(())
+}
+
+#[test]
+fn radios_are_handed_their_own_in_the_order_of_configuration(rt: HostRuntime) -> Result<(), Fail> {
+    let alloc = rt.alloc();
+    let mut second = second(alloc)?;
+    second.bssid = Bssid(Addr([2, 0, 0, 0, 0, 0]));
+    let confs = both(alloc, calls::built_in(alloc)?, second)?;
+    let script =
+        b"rx wlan1 b00000000200000000000200000000aa0200000000001000000001000000\nrx wlan0 b00000000200000000010200000000aa0200000000011000000001000000\nflush\n";
+    let (fault, out) = printed(alloc, confs, script.as_slice())?;
+    assert_eq!(rt; fault, None);
+    let want =
+        b"entry 3\nentry 4\nwlan0 tx b00000000200000000aa0200000000010200000000010000000002000000\nwlan1 tx b00000000200000000aa0200000000000200000000000000000002000000\n";
+    assert_eq!(rt; out.as_slice(), want.as_slice());
+    Ok(())
+}
+
+#[test]
+fn driver_calls_and_faults_are_printed_in_these_words(rt: HostRuntime) -> Result<(), Fail> {
+    let alloc = rt.alloc();
+    let name = InterfaceName::new("wlan0", alloc)?;
+    let station = Addr([2, 0, 0, 0, 0, 0xaa]);
+    let mut out = Vec::new(alloc);
+    if let Some(aid) = Aid::new(7) {
+        assert!(rt; write_out(alloc, &mut out, &name, &Out::Install(station, aid)).is_ok());
+    }
+    assert!(rt; write_out(alloc, &mut out, &name, &Out::Remove(station)).is_ok());
+    assert_eq!(rt;
+        out.as_slice(),
+        b"wlan0 install 02:00:00:00:00:aa 7\nwlan0 remove 02:00:00:00:00:aa\n".as_slice()
+    );
+    for (fault, want) in [
+        (ScriptFault::BadLine(12), "bad line 12"),
+        (ScriptFault::Reader, "reader fault"),
+        (ScriptFault::Writer, "writer fault"),
+        (ScriptFault::NoMemory, "out of memory"),
+    ] {
+        assert_eq!(rt; format!(in alloc; "{fault}")?.as_str(), want);
+    }
+    for (answer, want) in [
+        (Accepted::Stopped, "stopped"),
+        (Accepted::Entry(12), "entry 12"),
+        (
+            Accepted::Quiet(QuietReason::NoInterface),
+            "quiet nointerface",
+        ),
+        (Accepted::Quiet(QuietReason::NoPolicy), "quiet nopolicy"),
+        (Accepted::Quiet(QuietReason::TooManyBss), "quiet toomanybss"),
+        (Accepted::Quiet(QuietReason::Nothing), "quiet nothing"),
+    ] {
+        assert_eq!(rt; format!(in alloc; "{answer}")?.as_str(), want);
+    }
+    Ok(())
+}

@@ -1,0 +1,66 @@
+//! Control commands as datagrams.
+ghost use Rattle.std.specs.Prelude.{◌≡◌, IfOk, OnErr, MatchOption, IfSome};
+ghost use Rattle.apd_serve.specs.Tags.{Adds, AreSame, Forgets};
+ghost use Rattle.std.specs.declared.net.socket_addr.SocketAddr.{SocketAddr};
+
+use crate::senders::Senders;
+use apd_desk::{Port, PortFault};
+use apd_radio::{Datagrams, SocketFault};
+use std::alloc::Global;
+use std::net::{Net, SocketAddr};
+
+/// A port of 127.0.0.1 on which each datagram is a command. The reply to a command is a datagram to the sender of
+/// that command; an empty reply is a datagram of no bytes.
+#[derive(Drop)]
+pub struct ControlPort {
+    datagrams: Datagrams,
+    senders: Senders,
+    // A command that waits for the memory of its tag.
+    received: Option<(SocketAddr, Vec<u8>)>,
+}
+
+impl ControlPort {
+    /// Opens the port. Port 0 is for tests: the system chooses one that is free.
+    ///
+    /// Errors: `NoSocket` where the port can't be had, `NoMemory` where memory runs out.
+    pub fn open<R: Net>(rt: &R, alloc: Global, port: u16) -> Result<ControlPort, SocketFault> {
+        Ok(ControlPort {
+            datagrams: Datagrams::bind(rt, alloc, port)?,
+            senders: Senders::new(alloc),
+            received: None,
+        })
+    }
+}
+
+impl Port for ControlPort {
+    /// A command that meets want of memory is told as `Device`, and stays: a later call gives it.
+    fn poll(&mut self) -> Result<Option<(u64, Vec<u8>)>, PortFault>
+        ensures command { IfOk result (λ got. MatchOption got (AreSame self.old.senders self.new.senders) (λ command. (sender : SocketAddr) × Adds self.old.senders command.0 sender self.new.senders)) }
+        ensures own { IfSome self.old.received (λ waited. IfOk result (λ got. IfSome got (λ command. Adds self.old.senders command.0 waited.0 self.new.senders × (command.1 ≡ waited.1)))) }
+        ensures err { OnErr result (AreSame self.old.senders self.new.senders) }
+    {
+        if self.received.is_none() {
+            self.received = self.datagrams.receive().map_err(|_| PortFault::Device)?;
+        }
+        let Some((sender, _)) = &self.received else {
+            return Ok(None);
+        };
+        let Ok(Some(tag)) = self.senders.add(*sender) else {
+            return Err(PortFault::Device);
+        };
+        Ok(self.received.take().map(|(_, bytes)| (tag, bytes)))
+    }
+
+    /// The reply goes to the sender of the command of this tag, which is then forgotten. To a tag of no command that
+    /// waits nothing is sent.
+    fn reply(&mut self, tag: u64, text: &[u8]) -> Result<(), PortFault>
+        ensures { Forgets self.old.senders tag self.new.senders }
+    {
+        let Some(sender) = self.senders.take(tag) else {
+            return Ok(());
+        };
+        self.datagrams
+            .send(sender, text)
+            .map_err(|_| PortFault::Device)
+    }
+}

@@ -1,0 +1,20 @@
+-- What is wanted after an out, address by address.
+use Rattle.std.proofs.Common.{◌≡◌, cond, Some, None, refl, ap, ◌∙◌}
+use Rattle.std.specs.Cmp.{eq_by_cmp_equiv}
+use Rattle.std.specs.FinMap as map
+use Rattle.std.specs.FinMap.{get-insert, get-remove}
+use Rattle.apd_base.specs.declared.address.Addr.{Addr}
+use Rattle.apd_base.proofs.AddrLaws.{addr_total}
+use Rattle.apd_mlme.specs.Driver.{driven_by}
+use Rattle.apd_mlme.specs.declared.decision.Out.{Out}
+use Rattle.apd_mlme.specs.declared.decision.Out.TheVariants.{Install, Remove, Frame, Text}
+use Rattle.apd_slot.specs.Wanted.{Stations, wanted_after}
+
+pub wanted_at : (out : Out) (wanted : Stations) (d : Addr) → map.get (wanted_after out wanted) d ≡ driven_by out (map.get wanted) d
+wanted_at (Install a aid) wanted d = get-insert addr_total wanted a aid.number d ∙ ap (λ t. cond t (Some aid.number) (map.get wanted d)) ((eq_by_cmp_equiv addr_total).symm d a)
+wanted_at (Remove a) wanted d = get-remove addr_total wanted a d ∙ ap (λ t. cond t None (map.get wanted d)) ((eq_by_cmp_equiv addr_total).symm d a)
+wanted_at (Frame bytes) wanted d = refl
+wanted_at (Text tag text) wanted d = refl
+
+pub wanted_is_driven : (out : Out) (wanted : Stations) → map.get (wanted_after out wanted) ≡ driven_by out (map.get wanted)
+wanted_is_driven out wanted = λ i d. wanted_at out wanted d i

@@ -1,0 +1,4 @@
+mod Back
+pub mod Driven
+mod Pushed
+pub mod RowsLaws

@@ -1,0 +1,8 @@
+//! Slots: a radio, and the stations that it should have.
+#![tactic(auto)]
+
+pub mod laws;
+mod resuming;
+pub mod slot;
+
+pub use slot::{Slot, SlotFault};

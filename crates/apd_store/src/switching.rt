@@ -1,0 +1,96 @@
+//! A switch: the other half begins anew with a snapshot of the table, and takes the current one's place.
+ghost use Rattle.std.specs.Prelude.{◌≡◌, ◌↔◌, ◌≤◌, ◌<◌, ◌+◌, ◌-◌, ◌^◌, ◌⊎◌, ℕ, List, length, true, IfOk, OnOk, IfErr, OnErr, IsTrue, IsErrOf};
+ghost use Rattle.apd_base.specs.Failures.{HasRisen};
+ghost use Rattle.apd_base.specs.State.{State};
+ghost use Rattle.apd_disk.specs.Disk.{LeavesOnly};
+ghost use Rattle.apd_journal.specs.declared.writer.TheConstants.{HALF_LENGTH};
+ghost use Rattle.apd_store.specs.Image.{Shows};
+ghost use Rattle.apd_store.specs.Layout.{opposite};
+
+use crate::fault::StoreFault;
+use crate::phase::Phase;
+use crate::store::{Store, last_place, moved, no_plan, write_in_half};
+use apd_disk::Disk;
+
+impl<D: Disk> Store<D> {
+    ghost use Rattle.apd_store.specs.Commit.{IsWriting, IsInside, HasFailed};
+    ghost use Rattle.apd_store.specs.Switch.{IsSwitching};
+    ghost use Rattle.apd_store.specs.Outside.{device_of, phase_of, calls_left, batch_of};
+
+    /// The next call of a switch.
+    pub(crate) fn next_of_switch(&mut self) -> Result<bool, StoreFault>
+        requires { 4 < calls_left self.old }
+        ensures inside { IsInside D.size self.old → IsInside D.size self.new }
+        ensures honest { D.honest (device_of self.old) ↔ D.honest (device_of self.new) }
+        ensures any_moment { (state after : State) → D.honest (device_of self.old) → IsSwitching D.reads D.may_leave self.old state after
+            → LeavesOnly D.moment D.left_since (device_of self.old) (device_of self.new) (λ c. Shows c state) }
+        ensures on { (state after : State) → D.honest (device_of self.old) → IsSwitching D.reads D.may_leave self.old state after
+            → OnOk result (IsSwitching D.reads D.may_leave self.new state after ⊎ IsWriting D.reads D.may_leave self.new state after) }
+        ensures stuck { (state after : State) → D.honest (device_of self.old) → IsSwitching D.reads D.may_leave self.old state after
+            → OnErr result (HasFailed D.may_leave self.new state state) }
+        ensures one_call { D.honest (device_of self.old) → D.moment (device_of self.new) ≤ D.moment (device_of self.old) + 1 }
+        ensures step { OnOk result (calls_left self.new + 1 ≡ calls_left self.old) }
+        ensures batch { batch_of self.new ≡ batch_of self.old }
+        ensures left { IfOk result (λ more. IsTrue more ↔ (0 < calls_left self.new)) }
+        ensures err { IfErr result (λ e. (phase_of self.new ≡ Phase.Failed) × ((e ≡ StoreFault.Device) ⊎ (e ≡ StoreFault.Failed))) }
+        ensures no_call { IsErrOf result StoreFault.Failed → device_of self.new ≡ device_of self.old }
+        ensures only_after { IsInside D.size self.old → ¬ IsErrOf result StoreFault.Failed }
+        ensures count { D.failed (device_of self.old) ≤ D.failed (device_of self.new) }
+        ensures no_fault { OnOk result (D.failed (device_of self.new) ≡ D.failed (device_of self.old)) }
+        ensures device { IsErrOf result StoreFault.Device → HasRisen (D.failed (device_of self.old)) (D.failed (device_of self.new)) }
+    {
+        let side = self.half.other();
+        match self.phase {
+            Phase::CloseOther => {
+                let made = write_in_half(&mut self.device, side, 0, &[0]);
+                moved(&mut self.phase, made, Phase::SyncClosed)
+            }
+            Phase::SyncClosed => {
+                let made = self.device.sync().map_err(StoreFault::from);
+                moved(&mut self.phase, made, Phase::WriteHalf)
+            }
+            Phase::WriteHalf => {
+                let bytes = self.fresh.bytes.as_slice();
+                let made = write_in_half(&mut self.device, side, self.fresh.place, bytes);
+                moved(&mut self.phase, made, Phase::SyncHalf)
+            }
+            Phase::SyncHalf => {
+                let made = self.device.sync().map_err(StoreFault::from);
+                moved(&mut self.phase, made, Phase::OpenHalf)
+            }
+            Phase::OpenHalf => {
+                let made = write_in_half(&mut self.device, side, 0, &[1]);
+                moved(&mut self.phase, made, Phase::SyncOpened)
+            }
+            Phase::SyncOpened => {
+                let Ok(()) = self.device.sync() else {
+                    self.phase = Phase::Failed;
+                    return Err(StoreFault::Device);
+                };
+                self.turn_over();
+                Ok(true)
+            }
+            _ => unreachable!(),
+        }
+    }
+
+    // Goes on in the other half, which began anew, with the batch's group.
+    fn turn_over(&mut self)
+        ensures inside { IsInside D.size self.old → IsInside D.size self.new }
+        ensures device { device_of self.new ≡ device_of self.old }
+        ensures half { self.new.half ≡ opposite self.old.half }
+        ensures epoch { self.old.epoch + 1 < 2 ^ 64 → self.new.epoch ≡ self.old.epoch + 1 }
+        ensures gate { self.old.fresh.place + length self.old.fresh.bytes ≤ HALF_LENGTH → self.new.gate ≡ self.old.fresh.place + length self.old.fresh.bytes - 1 }
+        ensures other { self.new.other_open ≡ true }
+        ensures phase { self.new.phase ≡ Phase.WriteGroup }
+        ensures batch { self.new.batch ≡ self.old.batch }
+        ensures plan { self.new.plan ≡ self.old.plan }
+    {
+        self.half = self.half.other();
+        self.epoch = self.epoch.saturating_add(1);
+        self.gate = last_place(&self.fresh);
+        self.other_open = true;
+        self.fresh = no_plan(self.alloc);
+        self.phase = Phase::WriteGroup;
+    }
+}

@@ -1,0 +1,246 @@
+-- The changes of a snapshot lead from the empty state to the state, by sound ones.
+use Rattle.std.proofs.Common.{◌≡◌, ℕ, ◌-◌, ◌≤◌, Bool, true, false, cond, List, [], ◌∷◌, ◌++◌, length, map as list_map, Option, Some, None, IsSome, IsTrue, inl, inr, refl, sym, ap, subst, ◌∙◌, T, arith}
+use Rattle.std.specs.List.{AllByRecursion}
+use Rattle.std.specs.Option.{is_some}
+use Rattle.std.specs.Ordering.{eq_by_cmp}
+use Rattle.std.specs.Cmp.{IsTotalOrder}
+use Rattle.std.specs.declared.cmp.Ordering.{Ordering}
+use Rattle.std.specs.declared.cmp.Ordering.TheVariants.{Equal}
+use Rattle.std.specs.FinMap as map
+use Rattle.std.specs.FinMap.{FinMap, IsAntisymmetric, find, is_sorted, entries, entries_sorted, get-entries, get-insert, get-empty, get-retain_keys, len-entries, len-remove, same_map}
+use Rattle.apd_base.specs.declared.address.Addr.{Addr}
+use Rattle.apd_base.specs.declared.address.Bssid.{Bssid}
+use Rattle.apd_base.specs.declared.station.Policy.{Policy}
+use Rattle.apd_base.specs.declared.station.Station.{Station}
+use Rattle.apd_base.specs.declared.station.Which.{Which}
+use Rattle.apd_base.specs.Addr.{bssid_cmp, station_cmp}
+use Rattle.apd_base.specs.State.{State, empty_state, station_at, policy_at, aid_of, aid_at, list_cmp, IsListed, is_row_of}
+use Rattle.apd_base.proofs.AddrLaws.{bssid_total, bssid_exact, station_total, station_exact}
+use Rattle.apd_base.proofs.Cases.{value_of, is_some_of, none_is}
+use Rattle.apd_base.proofs.MapLaws.{one_or_apart, tied, get_inserted, get_insert_other, get_remove_other}
+use Rattle.apd_base.proofs.RowsLaws.{is_sorted_tail, tied_not_below, find_tied_head}
+use Rattle.apd_base.proofs.StateLaws.{list_total, list_exact}
+use Rattle.apd_record.specs.Meaning.{meaning_of}
+use Rattle.apd_record.specs.declared.change.Change.{Change}
+use Rattle.apd_table.specs.Allowed.{allowed}
+use Rattle.apd_table.specs.Snapshot.{policy_change, list_change, station_change, list_changes, station_changes, canonical}
+use Rattle.apd_table.specs.Sound.{Sound, StaySound}
+
+-- ---- maps filled row by row
+
+module _ {K X : Type 0} {R : K → K → Ordering} (o : IsTotalOrder R) (exact : IsAntisymmetric R) where
+  -- a map with these entries more
+  abbrev pub filled : FinMap R X → List (K × X) → FinMap R X
+  filled m [] = m
+  filled m (e ∷ es) = filled (map.insert m e.0 e.1) es
+
+  -- the entries of one are entries of the other
+  abbrev pub IsPart : FinMap R X → FinMap R X → Type 0
+  IsPart part m = (k : K) (v : X) → map.get part k ≡ Some v → map.get m k ≡ Some v
+
+  abbrev pub AreOf : FinMap R X → List (K × X) → Type 0
+  AreOf m es = AllByRecursion (λ (e : K × X). map.get m e.0 ≡ Some e.1) es
+
+  pub part_more : (part m : FinMap R X) (k : K) (v : X) → IsPart part m → map.get m k ≡ Some v → IsPart (map.insert part k v) m
+  part_more part m k v is here q x g =
+      elim (one_or_apart o exact q k) [
+        | inl e ↦ ap (map.get m) e ∙ here ∙ sym (get_inserted o exact part k v) ∙ ap (map.get (map.insert part k v)) (sym e) ∙ g
+        | inr ne ↦ is q x (sym (get_insert_other o exact part k v q ne) ∙ g)
+      ]
+
+  -- the one of two that is there, the first one first
+  abbrev pub either : Option X → Option X → Option X
+  either None b = b
+  either (Some x) b = Some x
+
+  get-filled : (es : List (K × X)) → T (is_sorted R es) → (m : FinMap R X) (q : K) → map.get (filled m es) q ≡ either (find R q es) (map.get m q)
+  get-filled [] sorted m q = refl
+  get-filled (e ∷ es) sorted m q =
+      get-filled es (is_sorted_tail o e es sorted) (map.insert m e.0 e.1) q ∙ ap (either (find R q es)) (get-insert o m e.0 e.1 q)
+      ∙ elim (eq_by_cmp R q e.0) as (λ t. eq_by_cmp R q e.0 ≡ t → either (find R q es) (cond t (Some e.1) (map.get m q)) ≡ either (cond t (Some e.1) (find R q es)) (map.get m q)) [
+        | true ↦ λ t. ap (λ x. either x (Some e.1)) (find_tied_head o q e es sorted t)
+        | false ↦ λ t. refl
+      ] refl
+
+  or_none : (a b : Option X) → b ≡ None → either a b ≡ a
+  or_none None b e = e
+  or_none (Some x) b e = refl
+
+  -- with all of them it is the map
+  pub filled_all : (m : FinMap R X) → filled map.empty (entries m) ≡ m
+  filled_all m = same_map o exact _ _ (λ q. get-filled (entries m) (entries_sorted m) map.empty q ∙ or_none _ _ (get-empty R q) ∙ sym (get-entries m q))
+
+  deeper : (e : K × X) (es : List (K × X)) → T (is_sorted R (e ∷ es)) → (fs : List (K × X)) → AllByRecursion (λ (f : K × X). find R f.0 es ≡ Some f.1) fs → AllByRecursion (λ (f : K × X). find R f.0 (e ∷ es) ≡ Some f.1) fs
+  deeper e es sorted [] all = tt
+  deeper e es sorted (f ∷ fs) all =
+      (ap (λ t. cond t (Some e.1) (find R f.0 es)) (tied_not_below o f.0 e es sorted f.1 all.0) ∙ all.0, deeper e es sorted fs all.1)
+
+  each_found : (es : List (K × X)) → T (is_sorted R es) → AllByRecursion (λ (e : K × X). find R e.0 es ≡ Some e.1) es
+  each_found [] sorted = tt
+  each_found (e ∷ es) sorted =
+      (ap (λ t. cond t (Some e.1) (find R e.0 es)) (tied o exact e.0), deeper e es sorted es (each_found es (is_sorted_tail o e es sorted)))
+
+  as_map : (m : FinMap R X) (fs : List (K × X)) → AllByRecursion (λ (f : K × X). find R f.0 (entries m) ≡ Some f.1) fs → AreOf m fs
+  as_map m [] all = tt
+  as_map m (f ∷ fs) all = (get-entries m f.0 ∙ all.0, as_map m fs all.1)
+
+  pub entries_are : (m : FinMap R X) → AreOf m (entries m)
+  entries_are m = as_map m (entries m) (each_found (entries m) (entries_sorted m))
+
+  -- ---- how many
+
+  found_one : (k : K) (v : X) (es : List (K × X)) → find R k es ≡ Some v → 1 ≤ length es
+  found_one k v [] f = cc
+  found_one k v (e ∷ es) f = omega arith
+
+  head_apart : (e : K × X) (es : List (K × X)) → T (is_sorted R (e ∷ es)) → (q : K) (v : X) → find R q es ≡ Some v → eq_by_cmp R q e.0 ≡ false
+  head_apart e es sorted q v f = tied_not_below o q e es sorted v f
+
+  has_one : (m : FinMap R X) (k : K) (v : X) → map.get m k ≡ Some v → 1 ≤ map.len m
+  has_one m k v here = subst (λ n. 1 ≤ n) (sym (len-entries m)) (found_one k v (entries m) (sym (get-entries m k) ∙ here))
+
+  no_more : (es : List (K × X)) → T (is_sorted R es) → (m : FinMap R X) → ((q : K) (v : X) → find R q es ≡ Some v → map.get m q ≡ Some v) → length es ≤ map.len m
+  no_more [] sorted m is = omega arith
+  no_more (e ∷ es) sorted m is =
+      let here : map.get m e.0 ≡ Some e.1 = is e.0 e.1 (ap (λ t. cond t (Some e.1) (find R e.0 es)) (tied o exact e.0)) in
+      let rest = no_more es (is_sorted_tail o e es sorted) (map.remove m e.0) (λ q v f.
+      let ne = head_apart e es sorted q v f in
+      get_remove_other o exact m e.0 q ne ∙ is q v (ap (λ t. cond t (Some e.1) (find R q es)) ne ∙ f)) in
+      let fewer : map.len (map.remove m e.0) ≡ map.len m - 1 = len-remove o m e.0 ∙ ap (λ x. cond (is_some x) (map.len m - 1) (map.len m)) here in
+      omega (arith, rest, fewer, has_one m e.0 e.1 here)
+
+  pub part_len : (part m : FinMap R X) → IsPart part m → map.len part ≤ map.len m
+  part_len part m is =
+      let n = no_more (entries part) (entries_sorted part) m (λ q v f. is q v (get-entries part q ∙ f)) in
+      subst (λ k. k ≤ map.len m) (sym (len-entries part)) n
+
+  cond_some : (t : Bool) (a : Option X) (v : X) → cond t a None ≡ Some v → (t ≡ true) × (a ≡ Some v)
+  cond_some true a v e = (refl, e)
+  cond_some false a v e = cc
+
+  pub part_retained : (p : K → Bool) (part m : FinMap R X) → IsPart part m → IsPart (map.retain_keys part p) (map.retain_keys m p)
+  part_retained p part m is k v g =
+      let alike : (x : K) → R k x ≡ Equal → p x ≡ p k = λ x t. ap p (sym (exact k x t)) in
+      let both = cond_some (p k) (map.get part k) v (sym (get-retain_keys part p k alike) ∙ g) in
+      get-retain_keys m p k alike ∙ ap (λ t. cond t (map.get m k) None) both.0 ∙ is k v both.1
+
+  pub part_some : (part m : FinMap R X) → IsPart part m → (k : K) → IsSome (map.get part k) → IsSome (map.get m k)
+  part_some part m is k h = let v = value_of _ h in is_some_of _ v.0 (is k v.0 v.1)
+
+  pub empty_part : (m : FinMap R X) → IsPart map.empty m
+  empty_part m k v g = none_is (map.get (map.empty {X = X} {R = R}) k) (get-empty R k) (is_some_of _ v g)
+
+-- ---- states with a part of the rows
+
+aid_from : (a b : Option Station) (i : ℕ) → ((v : Station) → a ≡ Some v → b ≡ Some v) → aid_of a ≡ Some i → aid_of b ≡ Some i
+aid_from None b i part h = cc
+aid_from (Some x) b i part h = ap aid_of (part x refl) ∙ h
+
+-- a part of a sound state is sound, where each of its rows has what it needs
+module _ (s : State) (sound : Sound s) (t : State)
+    (stations : IsPart station_total station_exact t.stations s.stations) (lists : IsPart list_total list_exact t.lists s.lists) (policies : IsPart bssid_total bssid_exact t.policies s.policies) where
+  aid_part : (b : Bssid) (a : Addr) (i : ℕ) → aid_at t b a ≡ Some i → aid_at s b a ≡ Some i
+  aid_part b a i h = aid_from (station_at t b a) (station_at s b a) i (λ v g. stations (b, a) v g) h
+
+  aid_some : (b : Bssid) (a : Addr) → IsSome (aid_at t b a) → IsSome (aid_at s b a)
+  aid_some b a h = let v = value_of _ h in is_some_of _ v.0 (aid_part b a v.0 v.1)
+
+  pub sound_part : ((b : Bssid) (a : Addr) → IsSome (station_at t b a) → IsSome (policy_at t b) × IsTrue (allowed t b a)) → ((b : Bssid) (w : Which) (a : Addr) → IsListed t b w a → IsSome (policy_at t b)) → Sound t
+  sound_part of_stations of_lists = record {
+    identifiers = λ b a i h. sound.identifiers b a i (aid_part b a i h);
+    distinct = λ b a c i h k. sound.distinct b a c i (aid_part b a i h) (aid_part b c i k);
+    one_association = λ b c a h k. sound.one_association b c a (aid_some b a h) (aid_some c a k);
+    stations_have_policy = λ b a h. (of_stations b a h).0;
+    lists_have_policy = of_lists;
+    none_denied = λ b a h. (of_stations b a h).1;
+    few_bss = omega (arith, part_len bssid_total bssid_exact t.policies s.policies policies, sound.few_bss);
+    few_stations = λ b. omega (arith, part_len station_total station_exact _ _ (part_retained station_total station_exact (λ k. eq_by_cmp bssid_cmp b k.0) t.stations s.stations stations), sound.few_stations b);
+    few_listed = λ b w. omega (arith, part_len list_total list_exact _ _ (part_retained list_total list_exact (is_row_of b w) t.lists s.lists lists), sound.few_listed b w);
+  }
+
+-- ---- the three parts of a snapshot, one after another
+
+module _ (s : State) (sound : Sound s) where
+  -- the policies so far, and no other row
+  abbrev with_policies : FinMap bssid_cmp Policy → State
+  with_policies policies = record empty_state { policies = policies }
+
+  -- all policies, and the list rows so far
+  abbrev with_lists : FinMap list_cmp (Unit {0}) → State
+  with_lists lists = record { stations = map.empty; lists = lists; policies = s.policies }
+
+  -- and all of both, and the stations so far
+  abbrev with_stations : FinMap station_cmp Station → State
+  with_stations stations = record s { stations = stations }
+
+  no_station : {A : Type 0} (b : Bssid) (a : Addr) → IsSome (map.get (map.empty {X = Station} {R = station_cmp}) (b, a)) → A
+  no_station b a h = none_is _ (get-empty station_cmp (b, a)) h
+
+  no_listed : {A : Type 0} (b : Bssid) (w : Which) (a : Addr) → IsSome (map.get (map.empty {X = Unit {0}} {R = list_cmp}) (b, w, a)) → A
+  no_listed b w a h = none_is _ (get-empty list_cmp (b, w, a)) h
+
+  sound_policies : (policies : FinMap bssid_cmp Policy) → IsPart bssid_total bssid_exact policies s.policies → Sound (with_policies policies)
+  sound_policies policies part =
+      sound_part s sound (with_policies policies) (empty_part station_total station_exact s.stations) (empty_part list_total list_exact s.lists) part
+      (λ b a h. no_station b a h) (λ b w a h. no_listed b w a h)
+
+  sound_lists : (lists : FinMap list_cmp (Unit {0})) → IsPart list_total list_exact lists s.lists → Sound (with_lists lists)
+  sound_lists lists part =
+      sound_part s sound (with_lists lists) (empty_part station_total station_exact s.stations) part (λ k v g. g)
+      (λ b a h. no_station b a h) (λ b w a h. sound.lists_have_policy b w a (part_some list_total list_exact lists s.lists part (b, w, a) h))
+
+  sound_stations : (stations : FinMap station_cmp Station) → IsPart station_total station_exact stations s.stations → Sound (with_stations stations)
+  sound_stations stations part =
+      sound_part s sound (with_stations stations) part (λ k v g. g) (λ k v g. g)
+      (λ b a h. let there = part_some station_total station_exact stations s.stations part (b, a) h in (sound.stations_have_policy b a there, sound.none_denied b a there))
+      (λ b w a h. sound.lists_have_policy b w a h)
+
+  stay_policies : (es : List (Bssid × Policy)) (rest : List Change) (m : FinMap bssid_cmp Policy) → AreOf bssid_total bssid_exact s.policies es → IsPart bssid_total bssid_exact m s.policies
+      → StaySound rest (with_policies (filled bssid_total bssid_exact m es)) → StaySound (list_map policy_change es ++ rest) (with_policies m)
+  stay_policies [] rest m are part stays = stays
+  stay_policies (e ∷ es) rest m are part stays =
+      (sound_policies m part, stay_policies es rest (map.insert m e.0 e.1) are.1 (part_more bssid_total bssid_exact m s.policies e.0 e.1 part are.0) stays)
+
+  stay_lists : (es : List ((Bssid × Which × Addr) × Unit {0})) (rest : List Change) (m : FinMap list_cmp (Unit {0})) → AreOf list_total list_exact s.lists es → IsPart list_total list_exact m s.lists
+      → StaySound rest (with_lists (filled list_total list_exact m es)) → StaySound (list_map list_change es ++ rest) (with_lists m)
+  stay_lists [] rest m are part stays = stays
+  stay_lists (e ∷ es) rest m are part stays =
+      (sound_lists m part, stay_lists es rest (map.insert m e.0 e.1) are.1 (part_more list_total list_exact m s.lists e.0 e.1 part are.0) stays)
+
+  stay_stations : (es : List ((Bssid × Addr) × Station)) (m : FinMap station_cmp Station) → AreOf station_total station_exact s.stations es → IsPart station_total station_exact m s.stations → StaySound (list_map station_change es) (with_stations m)
+  stay_stations [] m are part = sound_stations m part
+  stay_stations (e ∷ es) m are part =
+      (sound_stations m part, stay_stations es (map.insert m e.0 e.1) are.1 (part_more station_total station_exact m s.stations e.0 e.1 part are.0))
+
+  all_policies : filled bssid_total bssid_exact map.empty (entries s.policies) ≡ s.policies
+  all_policies = filled_all bssid_total bssid_exact s.policies
+
+  all_lists : filled list_total list_exact map.empty (entries s.lists) ≡ s.lists
+  all_lists = filled_all list_total list_exact s.lists
+
+  pub canonical_sound : StaySound (canonical s) empty_state
+  canonical_sound =
+      stay_policies (entries s.policies) (list_changes s.lists ++ station_changes s.stations) map.empty (entries_are bssid_total bssid_exact s.policies) (empty_part bssid_total bssid_exact s.policies)
+      (subst (λ m. StaySound (list_changes s.lists ++ station_changes s.stations) (with_policies m)) (sym all_policies)
+      (stay_lists (entries s.lists) (station_changes s.stations) map.empty (entries_are list_total list_exact s.lists) (empty_part list_total list_exact s.lists)
+      (subst (λ m. StaySound (station_changes s.stations) (with_lists m)) (sym all_lists)
+      (stay_stations (entries s.stations) map.empty (entries_are station_total station_exact s.stations) (empty_part station_total station_exact s.stations)))))
+
+-- ---- where they lead
+
+means_policies : (es : List (Bssid × Policy)) (rest : List Change) (t : State) → meaning_of (list_map policy_change es ++ rest) t ≡ meaning_of rest (record t { policies = filled bssid_total bssid_exact t.policies es })
+means_policies [] rest t = refl
+means_policies (e ∷ es) rest t = means_policies es rest (record t { policies = map.insert t.policies e.0 e.1 })
+
+means_lists : (es : List ((Bssid × Which × Addr) × Unit {0})) (rest : List Change) (t : State) → meaning_of (list_map list_change es ++ rest) t ≡ meaning_of rest (record t { lists = filled list_total list_exact t.lists es })
+means_lists [] rest t = refl
+means_lists (e ∷ es) rest t = means_lists es rest (record t { lists = map.insert t.lists e.0 tt })
+
+means_stations : (es : List ((Bssid × Addr) × Station)) (t : State) → meaning_of (list_map station_change es) t ≡ record t { stations = filled station_total station_exact t.stations es }
+means_stations [] t = refl
+means_stations (e ∷ es) t = means_stations es (record t { stations = map.insert t.stations e.0 e.1 })
+
+pub canonical_leads : (s : State) → meaning_of (canonical s) empty_state ≡ s
+canonical_leads s =
+    means_policies (entries s.policies) _ empty_state ∙ means_lists (entries s.lists) _ _ ∙ means_stations (entries s.stations) _
+    ∙ (λ i. record { stations = filled_all station_total station_exact s.stations i; lists = filled_all list_total list_exact s.lists i; policies = filled_all bssid_total bssid_exact s.policies i })

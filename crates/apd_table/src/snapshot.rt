@@ -1,0 +1,75 @@
+//! The rows of a table as changes.
+ghost use Rattle.std.specs.Prelude.{◌≡◌, ◌++◌, map as list_map, OnOk};
+ghost use Rattle.apd_acl.specs.Lists.{list_of};
+ghost use Rattle.apd_table.specs.Snapshot.{changes_of_list, lists_of_rows, policies_of_rows, station_change};
+
+use crate::bss_rows::Bss;
+use apd_acl::Lists;
+use apd_base::{Addr, Bssid, Station, Which};
+use apd_record::Change;
+use std::alloc::{AllocError, Global};
+
+/// The most bytes that the records of a snapshot have (own): 8 policies of 10 bytes, 16,384 addresses of
+/// 14 in lists, and 16,056 stations of 20.
+pub const MAX_SNAPSHOT: usize = 550_576;
+
+/// Adds the policies of rows.
+pub(crate) fn add_policies(
+    changes: &mut Vec<Change>,
+    rows: &[(Bssid, Bss)],
+) -> Result<(), AllocError>
+    ensures { OnOk result (changes.new.items ≡ changes.old.items ++ policies_of_rows rows.now) }
+{
+    for row in rows {
+        changes.push(Change::Policy {
+            bssid: row.0,
+            policy: row.1.policy,
+        })?;
+    }
+    Ok(())
+}
+
+// Adds the addresses of one list, rising.
+fn add_list(
+    changes: &mut Vec<Change>,
+    bssid: Bssid,
+    which: Which,
+    lists: &Lists,
+) -> Result<(), AllocError>
+    ensures { OnOk result (changes.new.items ≡ changes.old.items ++ changes_of_list bssid which (list_of lists.now which)) }
+{
+    let mut next = lists.least(which);
+    while let Some(addr) = next {
+        changes.push(Change::ListAdd { bssid, which, addr })?;
+        next = lists.after(which, addr);
+    }
+    Ok(())
+}
+
+/// Adds the lists of rows, the accept list of each first.
+pub(crate) fn add_lists(changes: &mut Vec<Change>, rows: &[(Bssid, Bss)]) -> Result<(), AllocError>
+    ensures { OnOk result (changes.new.items ≡ changes.old.items ++ lists_of_rows rows.now) }
+{
+    for row in rows {
+        add_list(changes, row.0, Which::Accept, &row.1.lists)?;
+        add_list(changes, row.0, Which::Deny, &row.1.lists)?;
+    }
+    Ok(())
+}
+
+/// Adds station rows.
+pub(crate) fn add_stations(
+    changes: &mut Vec<Change>,
+    rows: &[((Bssid, Addr), Station)],
+) -> Result<(), AllocError>
+    ensures { OnOk result (changes.new.items ≡ changes.old.items ++ list_map station_change rows.now) }
+{
+    for row in rows {
+        changes.push(Change::Put {
+            bssid: row.0.0,
+            addr: row.0.1,
+            station: row.1,
+        })?;
+    }
+    Ok(())
+}

@@ -1,0 +1,238 @@
+use crate::calls::built_in;
+use apd_base::AclMode;
+use apd_conf::{AuthAlgs, Conf, ConfFault, HwMode, IgnoreBroadcastSsid, Required, read_conf};
+use std::alloc::Global;
+use std::process::Abort;
+use std::test::Fail;
+
+const EXAMPLE: &[u8] = b"# open network
+interface=wlan0
+bssid=02:00:00:00:00:01
+driver=nl80211
+logger_syslog=-1
+ctrl_interface=/var/run/hostapd
+ssid=net
+hw_mode=g
+channel=6
+beacon_int=100
+dtim_period=2
+rts_threshold=-1
+macaddr_acl=0
+auth_algs=3
+ignore_broadcast_ssid=0
+wmm_enabled=1
+wmm_ac_bk_cwmin=4
+eap_server=0
+own_ip_addr=127.0.0.1
+wpa=0
+";
+
+/// A configuration with all its fields.
+fn shown(alloc: Global, conf: &Conf) -> Result<String, Fail> {
+    Ok(format!(in alloc; "{conf:?}")?)
+}
+
+/// The configuration of a file that is taken.
+fn conf_of(alloc: Global, file: &[u8]) -> Result<Conf, Fail> {
+    match read_conf(alloc, file) {
+        Ok(conf) => Ok(conf),
+        Err(_) => Err(Fail::new("a configuration file is refused")),
+    }
+}
+
+/// Why a file is refused.
+fn fault_of(alloc: Global, file: &[u8]) -> Option<ConfFault> {
+    read_conf(alloc, file).err()
+}
+
+#[test]
+fn the_example_is_the_built_in_configuration(rt: HostRuntime) -> Result<(), Fail> {
+    let read = shown(rt.alloc(), &conf_of(rt.alloc(), EXAMPLE)?)?;
+    let built_in = shown(rt.alloc(), &built_in(rt.alloc())?)?;
+    assert_eq!(rt; read.as_str(), built_in.as_str());
+    Ok(())
+}
+
+#[test]
+fn names_that_no_line_gives_have_their_defaults(rt: HostRuntime) -> Result<(), Fail> {
+    let file = b"interface=wlan0\nbssid=02:00:00:00:00:01\nssid=net";
+    let conf = conf_of(rt.alloc(), file)?;
+    assert_eq!(rt; conf.hw_mode, HwMode::B);
+    assert_eq!(rt; conf.channel, 0);
+    assert_eq!(rt; conf.beacon_int, 100);
+    assert_eq!(rt; conf.max_num_sta.count, 2007);
+    assert_eq!(rt; conf.auth_algs, AuthAlgs::OpenAndShared);
+    assert_eq!(rt; conf.ap_max_inactivity, 300);
+    assert_eq!(rt; conf.ignore_broadcast_ssid, IgnoreBroadcastSsid::No);
+    assert_eq!(rt; conf.max_listen_interval, 65535);
+    assert_eq!(rt; conf.macaddr_acl, AclMode::AcceptUnlessDenied);
+    assert!(rt; conf.accept_mac_file.is_none());
+    assert!(rt; conf.deny_mac_file.is_none());
+    Ok(())
+}
+
+#[test]
+fn a_value_is_that_of_the_last_line_and_keeps_its_blanks(rt: HostRuntime) -> Result<(), Fail> {
+    let file =
+        b"ssid=a\ninterface=wlan0\r\nbssid=02:00:00:00:00:aA\nchannel=0000000007\nssid=a=b \naccept_mac_file=/etc/accept\nssid=net \r";
+    let conf = conf_of(rt.alloc(), file)?;
+    assert_eq!(rt; conf.interface.as_str(), "wlan0");
+    assert_eq!(rt; conf.bssid.0.0[5], 0xaa);
+    assert_eq!(rt; conf.channel, 7);
+    assert_eq!(rt; conf.ssid.as_bytes(), b"net \r".as_slice());
+    let accept = conf.accept_mac_file.as_ref().ok_or("no accept file")?;
+    assert_eq!(rt; accept.as_str(), "/etc/accept");
+    Ok(())
+}
+
+#[test]
+fn the_first_faulty_line_is_told(rt: HostRuntime) -> Result<(), Fail> {
+    for (file, want) in [
+        ("", ConfFault::Missing(Required::Interface)),
+        ("\n# a remark\n\n", ConfFault::Missing(Required::Interface)),
+        ("interface=wlan0", ConfFault::Missing(Required::Bssid)),
+        (
+            "interface=wlan0\nbssid=02:00:00:00:00:01",
+            ConfFault::Missing(Required::Ssid),
+        ),
+        ("interface=wlan0\nfoo", ConfFault::NoEquals(2)),
+        ("\r", ConfFault::NoEquals(1)),
+        ("\r\n #", ConfFault::NoEquals(2)),
+        ("foo=1", ConfFault::Unknown(1)),
+        ("=1", ConfFault::Unknown(1)),
+        ("ssid =net", ConfFault::Unknown(1)),
+        ("wmm_ac=1", ConfFault::Unknown(1)),
+        ("wpa=2", ConfFault::Security(1)),
+        ("wpa=1", ConfFault::Security(1)),
+        ("wpa=00", ConfFault::Security(1)),
+        ("\n\nieee8021x=", ConfFault::Security(3)),
+        ("macaddr_acl=2", ConfFault::BadValue(1)),
+        ("channel=197", ConfFault::BadValue(1)),
+        ("ssid=\nssid=net", ConfFault::BadValue(1)),
+        ("interface=wlan0\r", ConfFault::BadValue(1)),
+        ("channel=x\nwpa=1\nfoo", ConfFault::BadValue(1)),
+    ] {
+        let fault = fault_of(rt.alloc(), file.as_bytes());
+        assert_eq!(rt; fault, Some(want), "{file}");
+    }
+    Ok(())
+}
+
+// A line that is taken leaves the interface missing.
+#[test]
+fn names_and_addresses_at_their_ends_and_beyond(rt: HostRuntime) {
+    for (line, is_taken) in [
+        ("interface=!", true),
+        ("interface=~~~~~~~~~~~~~~~", true),
+        ("interface=~~~~~~~~~~~~~~~~", false),
+        ("interface=", false),
+        ("interface= ", false),
+        ("interface=\u{7f}", false),
+        ("bssid=fe:ff:ff:ff:ff:FF", true),
+        ("bssid=01:00:00:00:00:00", false),
+        ("bssid=02:00:00:00:00:1", false),
+        ("ssid=n", true),
+        ("ssid=01234567890123456789012345678901", true),
+        ("ssid=012345678901234567890123456789012", false),
+        ("hw_mode=a", true),
+        ("hw_mode=b", true),
+        ("hw_mode=g", true),
+        ("hw_mode=", false),
+        ("hw_mode=n", false),
+    ] {
+        check_line(&rt, rt.alloc(), line, is_taken);
+    }
+}
+
+#[test]
+fn numbers_at_their_ends_and_beyond(rt: HostRuntime) {
+    for (line, is_taken) in [
+        ("channel=0", true),
+        ("channel=196", true),
+        ("channel=-1", false),
+        ("beacon_int=14", false),
+        ("beacon_int=15", true),
+        ("beacon_int=65535", true),
+        ("beacon_int=65536", false),
+        ("max_num_sta=0", true),
+        ("max_num_sta=2007", true),
+        ("max_num_sta=2008", false),
+        ("auth_algs=0", false),
+        ("auth_algs=1", true),
+        ("auth_algs=3", true),
+        ("auth_algs=4", false),
+        ("ap_max_inactivity=0", false),
+        ("ap_max_inactivity=1", true),
+        ("ap_max_inactivity=2147483647", true),
+        ("ap_max_inactivity=2147483648", false),
+        ("ignore_broadcast_ssid=0", true),
+        ("ignore_broadcast_ssid=2", true),
+        ("ignore_broadcast_ssid=3", false),
+        ("max_listen_interval=0", true),
+        ("max_listen_interval=65535", true),
+        ("max_listen_interval=65536", false),
+        ("macaddr_acl=0", true),
+        ("macaddr_acl=1", true),
+    ] {
+        check_line(&rt, rt.alloc(), line, is_taken);
+    }
+}
+
+#[test]
+fn the_name_of_a_list_file_is_a_text_and_not_empty(rt: HostRuntime) {
+    for (line, is_taken) in [
+        ("accept_mac_file=x", true),
+        ("accept_mac_file=\u{e9}", true),
+        ("accept_mac_file=", false),
+        ("deny_mac_file=x", true),
+        ("deny_mac_file=", false),
+    ] {
+        check_line(&rt, rt.alloc(), line, is_taken);
+    }
+    for line in [b"accept_mac_file=\xff".as_slice(), b"deny_mac_file=x\xc3"] {
+        let fault = fault_of(rt.alloc(), line);
+        assert_eq!(rt; fault, Some(ConfFault::BadValue(1)));
+    }
+}
+
+fn check_line(rt: &impl Abort, alloc: Global, line: &str, is_taken: bool) {
+    let fault = fault_of(alloc, line.as_bytes());
+    if is_taken {
+        assert!(rt; matches!(&fault, Some(ConfFault::Missing(_))), "{line}");
+    } else {
+        assert_eq!(rt; fault, Some(ConfFault::BadValue(1)), "{line}");
+    }
+}
+
+#[test]
+fn numbers_have_one_to_ten_digits(rt: HostRuntime) {
+    for (line, is_taken) in [
+        ("channel=", false),
+        ("channel=7", true),
+        ("channel=0000000007", true),
+        ("channel=00000000007", false),
+        ("channel=9999999999", false),
+        ("channel=+7", false),
+        ("channel= 7", false),
+        ("channel=7 ", false),
+        ("channel=0x7", false),
+    ] {
+        check_line(&rt, rt.alloc(), line, is_taken);
+    }
+}
+
+#[test]
+fn names_without_effect_take_any_value(rt: HostRuntime) {
+    for line in [
+        "wmm_ac_=",
+        "tx_queue_data3_aifs=x",
+        "vht_oper_chwidth==",
+        "country_code=",
+        "skip_inactivity_poll=1",
+        "wpa=0",
+        "ieee8021x=0",
+        "#wpa=1",
+    ] {
+        check_line(&rt, rt.alloc(), line, true);
+    }
+}

@@ -1,0 +1,410 @@
+use apd_base::{Addr, Aid, Bssid};
+use apd_frame::{
+    Association, AssociationResponse, Authentication, DSSS_PARAMETER_SET, Element, Frame, Ignored,
+    Probe, Rates, Reason, Reassociation, Reply, ReplyBody, SSID, SUPPORTED_RATES, SsidField,
+    Status, decode, elements, encode, first_with, well_formed,
+};
+use std::alloc::{AllocError, Global};
+use std::process::Abort;
+use std::test::Fail;
+
+const OWN: Bssid = Bssid(Addr([2, 0, 0, 0, 0, 1]));
+
+const STATION: Addr = Addr([2, 0, 0, 0, 0, 0xaa]);
+
+const OTHER_AP: Addr = Addr([2, 0, 0, 0, 0, 2]);
+
+// What stands between the frame control and the body, from the station to the radio.
+const HEADER: [u8; 22] = [
+    0, 0, 2, 0, 0, 0, 0, 1, 2, 0, 0, 0, 0, 0xaa, 2, 0, 0, 0, 0, 1, 0x20, 0,
+];
+// The SSID `net`, and 1, 2, 5.5 and 11 Mb/s.
+const ELEMENTS: [u8; 11] = [0, 3, b'n', b'e', b't', 1, 4, 0x82, 0x84, 0x8b, 0x96];
+// A station's first authentication frame: open system, transaction sequence number 1.
+const AUTHENTICATION: [u8; 30] = [
+    0xb0, 0, 0, 0, 2, 0, 0, 0, 0, 1, 2, 0, 0, 0, 0, 0xaa, 2, 0, 0, 0, 0, 1, 0x10, 0, 0, 0, 1, 0, 0,
+    0,
+];
+
+/// What bytes are to the radio.
+fn decoded(bytes: &[u8]) -> Result<Frame<'_>, Ignored> {
+    decode(bytes, OWN)
+}
+
+fn framed(
+    alloc: Global,
+    control: [u8; 2],
+    fixed: &[u8],
+    elements: &[u8],
+) -> Result<Vec<u8>, AllocError> {
+    let mut frame = Vec::from_slice(alloc, &control)?;
+    frame.extend_from_slice(&HEADER)?;
+    frame.extend_from_slice(fixed)?;
+    frame.extend_from_slice(elements)?;
+    Ok(frame)
+}
+
+// A frame of this kind, with these fields behind its header and then the elements, is decoded as this one.
+fn decodes(
+    rt: &impl Abort,
+    alloc: Global,
+    control: [u8; 2],
+    fixed: &[u8],
+    frame: Frame<'_>,
+) -> Result<(), Fail> {
+    let bytes = framed(alloc, control, fixed, &ELEMENTS)?;
+    assert_eq!(rt; decoded(bytes.as_slice()), Ok(frame));
+    assert_eq!(rt; frame.sender(), STATION);
+    Ok(())
+}
+
+#[test]
+fn decodes_each_request(rt: HostRuntime) -> Result<(), Fail> {
+    let elements = ELEMENTS.as_slice();
+    let association = Association {
+        sender: STATION,
+        capability: 0x0431,
+        listen_interval: 10,
+        elements,
+    };
+    let reassociation = Reassociation {
+        sender: STATION,
+        capability: 0x0431,
+        listen_interval: 10,
+        current_ap: OTHER_AP,
+        elements,
+    };
+    let probe = Probe {
+        sender: STATION,
+        elements,
+    };
+    let authentication = Authentication {
+        sender: STATION,
+        algorithm: 0,
+        transaction: 1,
+        status: 0,
+    };
+    for (control, fixed, frame) in [
+        (0x00, [0x31, 4, 10, 0].as_slice(), Frame::Assoc(association)),
+        (
+            0x20,
+            &[0x31, 4, 10, 0, 2, 0, 0, 0, 0, 2],
+            Frame::Reassoc(reassociation),
+        ),
+        (0x40, &[], Frame::Probe(probe)),
+        (0xb0, &[0, 0, 1, 0, 0, 0], Frame::Auth(authentication)),
+    ] {
+        decodes(&rt, rt.alloc(), [control, 0], fixed, frame)?;
+    }
+    Ok(())
+}
+
+#[test]
+fn decodes_departures_and_data(rt: HostRuntime) -> Result<(), Fail> {
+    let disassociation = Frame::Disassoc {
+        sender: STATION,
+        reason: Reason(8),
+    };
+    let deauthentication = Frame::Deauth {
+        sender: STATION,
+        reason: Reason(3),
+    };
+    for (control, fixed, frame) in [
+        ([0xa0, 0], [8, 0].as_slice(), disassociation),
+        ([0xc0, 0], &[3, 0], deauthentication),
+        ([0x88, 0x41], &[], Frame::Uplink { sender: STATION }),
+    ] {
+        decodes(&rt, rt.alloc(), control, fixed, frame)?;
+    }
+    Ok(())
+}
+
+#[test]
+fn tells_the_first_reason(rt: HostRuntime) {
+    for (place, value, reason) in [
+        (0, 0xb1, Ignored::Version),
+        (0, 0xb4, Ignored::Class),
+        (1, 0x04, Ignored::Fragment),
+        (22, 0x11, Ignored::Fragment),
+        (1, 0x40, Ignored::Flags),
+        (1, 0x80, Ignored::Flags),
+        (0, 0x08, Ignored::Direction),
+        (10, 0x03, Ignored::Sender),
+        (15, 0x01, Ignored::Sender),
+        (9, 0x02, Ignored::Receiver),
+        (21, 0x02, Ignored::OtherBss),
+        (0, 0x10, Ignored::Subtype),
+        (0, 0xd0, Ignored::Subtype),
+    ] {
+        let mut frame = AUTHENTICATION;
+        if let Some(byte) = frame.get_mut(place) {
+            *byte = value;
+        }
+        assert_eq!(rt; decoded(&frame), Err(reason), "{value} at {place}");
+    }
+}
+
+#[test]
+fn looks_at_no_other_bit(rt: HostRuntime) {
+    for (place, value) in [(1, 0x3b), (2, 0xff), (3, 0x7f), (22, 0xf0), (23, 0xff)] {
+        let mut frame = AUTHENTICATION;
+        if let Some(byte) = frame.get_mut(place) {
+            *byte = value;
+        }
+        let frame = decoded(&frame);
+        assert_eq!(rt; frame, decoded(&AUTHENTICATION), "{value} at {place}");
+    }
+    let mut data = AUTHENTICATION;
+    for (place, value) in [(0, 0xf8), (1, 0xf9), (16, 0xff), (21, 0x02)] {
+        if let Some(byte) = data.get_mut(place) {
+            *byte = value;
+        }
+    }
+    assert_eq!(rt; decoded(&data), Ok(Frame::Uplink { sender: STATION }));
+}
+
+fn reason_of(bytes: &[u8]) -> Option<Ignored> {
+    decoded(bytes).err()
+}
+
+#[test]
+fn tells_the_length(rt: HostRuntime) -> Result<(), Fail> {
+    for (control, fixed) in [
+        ([0x00, 0], 4),
+        ([0x20, 0], 10),
+        ([0x40, 0], 0),
+        ([0xa0, 0], 2),
+        ([0xb0, 0], 6),
+        ([0xc0, 0], 2),
+        ([0x08, 1], 0),
+    ] {
+        let bytes = framed(rt.alloc(), control, &[0; 15], &[])?;
+        for length in 0..=bytes.len() {
+            let Some(front) = bytes.get(..length) else {
+                continue;
+            };
+            let ignored = if length < 24 {
+                Some(Ignored::Short)
+            } else if length - 24 < fixed {
+                Some(Ignored::Body)
+            } else {
+                None
+            };
+            assert_eq!(rt; reason_of(front), ignored);
+        }
+    }
+    let mut long = vec![in rt.alloc(); 0; 2304]?;
+    assert_eq!(rt; reason_of(&long), Some(Ignored::Receiver));
+    long.push(0)?;
+    assert_eq!(rt; reason_of(&long), Some(Ignored::TooLong));
+    Ok(())
+}
+
+#[test]
+fn a_probe_request_may_be_for_all(rt: HostRuntime) {
+    const PROBE: [u8; 24] = [
+        0x40, 0, 0, 0, 0xff, 0xff, 0xff, 0xff, 0xff, 0xff, 2, 0, 0, 0, 0, 0xaa, 0xff, 0xff, 0xff,
+        0xff, 0xff, 0xff, 0x30, 0,
+    ];
+    let frame = Frame::Probe(Probe {
+        sender: STATION,
+        elements: &[],
+    });
+    assert_eq!(rt; decoded(&PROBE), Ok(frame));
+    let mut other = PROBE;
+    other[9] = 0xfe;
+    assert_eq!(rt; decoded(&other), Err(Ignored::Receiver));
+    let mut association = PROBE;
+    association[0] = 0;
+    assert_eq!(rt; decoded(&association), Err(Ignored::Receiver));
+}
+
+#[test]
+fn reads_whole_elements(rt: HostRuntime) {
+    let rates = [0x82, 0x84, 0x8b, 0x96];
+    let mut list = elements(&ELEMENTS);
+    let ssid = Element {
+        id: SSID,
+        body: b"net",
+    };
+    assert_eq!(rt; list.next(), Some(ssid));
+    let supported = Element {
+        id: SUPPORTED_RATES,
+        body: &rates,
+    };
+    assert_eq!(rt; list.next(), Some(supported));
+    assert_eq!(rt; list.next(), None);
+    let net = Some(b"net".as_slice());
+    for (bytes, whole, ssid) in [
+        (b"".as_slice(), true, None),
+        (&ELEMENTS, true, net),
+        (&[0, 0, 1, 0], true, Some(b"".as_slice())),
+        (&[0], false, None),
+        (&[0, 5, b'n', b'e', b't'], false, None),
+        (&[0, 3, b'n', b'e', b't', 1], false, net),
+        (&[0, 3, b'n', b'e', b't', 0, 1, b'a'], true, net),
+    ] {
+        assert_eq!(rt; well_formed(bytes), whole);
+        assert_eq!(rt; first_with(bytes, SSID), ssid);
+    }
+    assert_eq!(rt;
+        first_with(&ELEMENTS, SUPPORTED_RATES),
+        Some(rates.as_slice())
+    );
+    assert_eq!(rt; first_with(&ELEMENTS, DSSS_PARAMETER_SET), None);
+}
+
+// The bytes of a reply to the station.
+fn encoded(alloc: Global, body: ReplyBody) -> Result<Vec<u8>, AllocError> {
+    let reply = Reply {
+        to: STATION,
+        bssid: OWN,
+        body,
+    };
+    encode(alloc, &reply)
+}
+
+// A reply of this body to the station is a frame of this kind with these bytes behind its header.
+fn encodes(
+    rt: &impl Abort,
+    alloc: Global,
+    body: ReplyBody,
+    kind: u8,
+    want: &[u8],
+) -> Result<(), Fail> {
+    const ADDRESSES: [u8; 18] = [2, 0, 0, 0, 0, 0xaa, 2, 0, 0, 0, 0, 1, 2, 0, 0, 0, 0, 1];
+    let frame = encoded(alloc, body)?;
+    assert_eq!(rt; frame.get(..4), Some([kind, 0, 0, 0].as_slice()));
+    assert_eq!(rt; frame.get(4..22), Some(ADDRESSES.as_slice()));
+    assert_eq!(rt; frame.get(22..24), Some([0, 0].as_slice()));
+    assert_eq!(rt; frame.get(24..), Some(want));
+    Ok(())
+}
+
+#[test]
+fn encodes_each_reply(rt: HostRuntime) -> Result<(), Fail> {
+    let authentication = ReplyBody::Auth {
+        algorithm: 0,
+        transaction: 2,
+        status: Status::Success,
+    };
+    let accepted = AssociationResponse {
+        status: Status::Success,
+        aid: Aid::new(1),
+        rates: Rates::HrDsss,
+    };
+    let refused = AssociationResponse {
+        status: Status::DeniedListenIntervalTooLarge,
+        aid: None,
+        rates: Rates::Ofdm,
+    };
+    for (body, first, want) in [
+        (authentication, 0xb0, [0, 0, 2, 0, 0, 0].as_slice()),
+        (
+            ReplyBody::Assoc(accepted),
+            0x10,
+            &[1, 0, 0, 0, 1, 0xc0, 1, 4, 0x82, 0x84, 0x8b, 0x96],
+        ),
+        (
+            ReplyBody::Reassoc(refused),
+            0x30,
+            &[1, 0, 51, 0, 0, 0, 1, 3, 0x8c, 0x98, 0xb0],
+        ),
+    ] {
+        encodes(&rt, rt.alloc(), body, first, want)?;
+    }
+    Ok(())
+}
+
+#[test]
+fn encodes_what_ends_an_association_or_an_authentication(rt: HostRuntime) -> Result<(), Fail> {
+    let disassociation = ReplyBody::Disassoc {
+        reason: Reason::INACTIVITY,
+    };
+    let deauthentication = ReplyBody::Deauth {
+        reason: Reason::INVALID_CLASS2_FRAME,
+    };
+    encodes(&rt, rt.alloc(), disassociation, 0xa0, &[4, 0])?;
+    encodes(&rt, rt.alloc(), deauthentication, 0xc0, &[6, 0])
+}
+
+#[test]
+fn encodes_a_probe_response(rt: HostRuntime) -> Result<(), Fail> {
+    for (channel, rates, want) in [
+        (
+            Some(6),
+            Rates::HrDsss,
+            [
+                0, 3, b'n', b'e', b't', 1, 4, 0x82, 0x84, 0x8b, 0x96, 3, 1, 6,
+            ]
+            .as_slice(),
+        ),
+        (
+            None,
+            Rates::Ofdm,
+            &[0, 3, b'n', b'e', b't', 1, 3, 0x8c, 0x98, 0xb0],
+        ),
+    ] {
+        let ssid = SsidField::from_vec(Vec::from_slice(rt.alloc(), b"net")?);
+        let Some(ssid) = ssid else {
+            return Err(Fail::new("no SSID"));
+        };
+        let body = ReplyBody::Probe {
+            beacon_interval: 100,
+            ssid,
+            rates,
+            channel,
+        };
+        let frame = encoded(rt.alloc(), body)?;
+        assert_eq!(rt; frame.get(..1), Some([0x50].as_slice()));
+        assert_eq!(rt;
+            frame.get(24..36),
+            Some([0, 0, 0, 0, 0, 0, 0, 0, 100, 0, 1, 0].as_slice())
+        );
+        assert_eq!(rt; frame.get(36..), Some(want));
+    }
+    let long = vec![in rt.alloc(); b'a'; 33]?;
+    assert!(rt; SsidField::from_vec(long).is_none());
+    Ok(())
+}
+
+#[test]
+fn prints_words_and_has_codes(rt: HostRuntime) -> Result<(), Fail> {
+    for (reason, word) in [
+        (Ignored::TooLong, "long"),
+        (Ignored::Short, "short"),
+        (Ignored::Version, "version"),
+        (Ignored::Class, "class"),
+        (Ignored::Fragment, "fragment"),
+        (Ignored::Flags, "flags"),
+        (Ignored::Direction, "direction"),
+        (Ignored::Sender, "sender"),
+        (Ignored::Receiver, "receiver"),
+        (Ignored::OtherBss, "bss"),
+        (Ignored::Subtype, "subtype"),
+        (Ignored::Body, "body"),
+    ] {
+        let text = format!(in rt.alloc(); "{reason}")?;
+        assert_eq!(rt; text.as_str(), word);
+    }
+    for (status, code) in [
+        (Status::Success, 0),
+        (Status::RefusedReasonUnspecified, 1),
+        (Status::NotSupportedAuthAlgorithm, 13),
+        (Status::TransactionSequenceError, 14),
+        (Status::DeniedNoMoreStas, 17),
+        (Status::DeniedListenIntervalTooLarge, 51),
+    ] {
+        assert_eq!(rt; status.code(), code);
+    }
+    for (reason, code) in [
+        (Reason::UNSPECIFIED, 1),
+        (Reason::INVALID_AUTHENTICATION, 2),
+        (Reason::INACTIVITY, 4),
+        (Reason::INVALID_CLASS2_FRAME, 6),
+        (Reason::INVALID_CLASS3_FRAME, 7),
+    ] {
+        assert_eq!(rt; reason, Reason(code));
+    }
+    Ok(())
+}

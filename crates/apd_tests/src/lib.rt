@@ -1,0 +1,26 @@
+//! Tests of the other crates by their public calls alone, a module a subject: here they are proved once, and
+//! no other crate is proved twice for them.
+#![tactic(auto)]
+
+#[cfg(test)]
+mod base_tests;
+#[cfg(test)]
+mod calls;
+#[cfg(test)]
+mod conf_file_tests;
+#[cfg(test)]
+mod conf_tests;
+#[cfg(test)]
+mod control_tests;
+#[cfg(test)]
+mod frame_tests;
+#[cfg(test)]
+mod limit_tests;
+#[cfg(test)]
+mod list_file_tests;
+#[cfg(test)]
+mod list_tests;
+#[cfg(test)]
+mod record_tests;
+#[cfg(test)]
+mod table_tests;

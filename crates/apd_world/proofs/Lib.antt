@@ -1,0 +1,12 @@
+mod DriveLaws
+mod FollowLaws
+mod Goings
+mod Joining
+mod ResumeLaws
+mod SlotLaws
+mod RoundLaws
+mod Standing
+mod Speaking
+mod StepLaws
+mod WorldDriveLaws
+mod StartLaws

@@ -1,0 +1,15 @@
+use Rattle.std.proofs.Common.{refl, sym, subst}
+use Rattle.apd_mlme.specs.declared.decision.Recipient.{Recipient}
+use Rattle.apd_world.specs.WorldRun.{IsWorldStep}
+use Rattle.apd_world.specs.declared.step.Step.TheVariants.{Hand}
+use Rattle.apd_world.proofs.Joining.{control_joins}
+use Rattle.apd_world.proofs.access_point.World.hand.Goals as goal
+
+pub returns-in-Radio-clause-step : goal.returns-in-Radio-clause-step
+returns-in-Radio-clause-step g c =
+    subst (λ (r : Recipient). IsWorldStep g.R.Radio.stations g.R.Radio.faults (Hand r) c.queue_ready.result c.args.self.now c.queue_ready.new.self) (sym c.in-Radio.is) c.queue_ready.ensures.step
+
+pub returns-in-Control-clause-step : goal.returns-in-Control-clause-step
+returns-in-Control-clause-step g c =
+    let old = c.args.self.now in
+    control_joins g.R.Radio.stations g.R.Radio.faults c.args.to c.step.result old (record old { durable = c.step.new.self }) c.in-Control.is refl (λ b. refl) c.step.ensures.step

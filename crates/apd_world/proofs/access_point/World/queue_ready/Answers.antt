@@ -1,0 +1,49 @@
+use Rattle.std.proofs.Common.{◌≡◌, ◌<◌, List, Some, None, length, map, refl, sym, ap, ◌∙◌, arith, get_or, set}
+use Rattle.std.specs.Vec.{with_item}
+use Rattle.std.specs.declared.collections.VecDeque.{VecDeque}
+use Rattle.std.proofs.lemmas.List.{map-set, length-map}
+use Rattle.apd_mlme.specs.declared.decision.Out.{Out}
+use Rattle.apd_world.specs.Seen.{slots_of, slot_in, slot_place, queue_in, queue_of}
+use Rattle.apd_world.proofs.Joining.{hand_joins, lacking_joins, no_slot_joins}
+use Rattle.apd_world.proofs.SlotLaws.{not_err, other_queues, own_queue, queues_stay, queue_there, slot_is, some_slot}
+use Rattle.apd_world.proofs.Standing.{safe_unchanged}
+use Rattle.apd_world.proofs.access_point.World.queue_ready.Goals as goal
+
+pub returns-in_default-clause-step : goal.returns-in_default-clause-step
+returns-in_default-clause-step g c =
+    let old = c.args.self.now in
+    let none : slot_place (slots_of old) c.args.bssid ≡ None = ap (λ slots. slot_place slots c.args.bssid) (sym c.deref.ensures.value) ∙ sym c.in_default.ensures in
+    no_slot_joins g.R.Radio.stations g.R.Radio.faults c.args.bssid old old refl refl (λ b. refl) (ap (slot_in (slots_of old)) none)
+
+pub returns-in_default-clause-safe : goal.returns-in_default-clause-safe
+returns-in_default-clause-safe g c =
+    safe_unchanged g.D.Disk.honest g.D.Disk.reads g.D.Disk.may_leave g.D.Disk.moment g.D.Disk.left_since g.D.Disk.size c.args.self.now.durable c.args.self.now.durable refl c.stops.ensures
+
+pub returns-then-is_err-clause-step : goal.returns-then-is_err-clause-step
+returns-then-is_err-clause-step g c =
+    let old = c.args.self.now in
+    let new = record old { queues = c.make_queue.new.queues } in
+    lacking_joins g.R.Radio.stations g.R.Radio.faults c.args.bssid old new refl refl (queues_stay old new (λ b. refl) c.make_queue.ensures.same)
+
+pub returns-then-is_err-clause-safe : goal.returns-then-is_err-clause-safe
+returns-then-is_err-clause-safe g c =
+    safe_unchanged g.D.Disk.honest g.D.Disk.reads g.D.Disk.may_leave g.D.Disk.moment g.D.Disk.left_since g.D.Disk.size c.args.self.now.durable c.args.self.now.durable refl c.stops.ensures
+
+pub returns-clause-step : goal.returns-clause-step
+returns-clause-step g c =
+    let old = c.args.self.now in
+    let b = c.args.bssid in
+    let place = c.in-Some.place in
+    let mid = c.make_queue.new.queues in
+    let new = record old { durable = c.hand_to.new.durable; queues = with_item mid place c.hand_to.new.queue } in
+    let at : slot_place (slots_of old) b ≡ Some place = ap (λ slots. slot_place slots b) (sym c.deref.ensures.value) ∙ sym c.in-Some.ensures in
+    let d = some_slot (slots_of old) b place at in
+    let f : VecDeque Out _ → List Out = λ queue. queue.items in
+    let lt : place < length mid.items = not_err c.make_queue.result c.if-is_err.ensures.value c.make_queue.ensures.there in
+    let qs : List (List Out) = map f mid.items in
+    let there : place < length qs = let same = length-map mid.items f in omega (arith, lt, same) in
+    let is : map f new.queues.items ≡ set qs place (f c.hand_to.new.queue) = map-set f mid.items place c.hand_to.new.queue in
+    let stay = c.make_queue.ensures.same in
+    let was : f c.index_mut.result.now ≡ queue_of old b = queue_there f mid.items place c.index_mut.result.now lt c.index_mut.ensures.value ∙ stay (Some place) ∙ ap (queue_in (map f old.queues.items)) (sym at) in
+    hand_joins g.R.Radio.stations g.R.Radio.faults b old new c.hand_to.result (get_or (slots_of old) place d) (f c.index_mut.result.now) (f c.hand_to.new.queue) (slot_is (slots_of old) b place d at) refl was
+    (own_queue old new (λ b. refl) b place d at qs there stay (f c.hand_to.new.queue) is) (other_queues old new (λ b. refl) b place d at qs there stay (f c.hand_to.new.queue) is) c.hand_to.ensures.queues

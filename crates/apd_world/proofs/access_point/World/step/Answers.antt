@@ -1,0 +1,52 @@
+use Rattle.std.proofs.Common.{refl, sym, subst}
+use Rattle.apd_world.specs.WorldRun.{IsWorldStep}
+use Rattle.apd_world.specs.declared.step.Step.{Step}
+use Rattle.apd_world.proofs.FollowLaws.{exact, following}
+use Rattle.apd_world.proofs.Joining.{durable_joins}
+use Rattle.apd_world.proofs.access_point.World.step.Goals as goal
+
+pub returns-in-Hand : goal.returns-in-Hand
+returns-in-Hand g c =
+    let old = c.args.self.now in
+    let new = c.hand.new.self in
+    let step = subst (λ (s : Step). IsWorldStep g.R.Radio.stations g.R.Radio.faults s c.hand.result old new) (sym c.in-Hand.is) c.hand.ensures.step in
+    record {
+      step = step;
+      safe = c.hand.ensures.safe;
+      one_call = c.hand.ensures.one_call;
+      count = c.hand.ensures.count;
+      fault = c.hand.ensures.fault;
+      exact = exact g.R.Radio.stations g.R.Radio.faults old new c.args.step.now step.inside c.hand.result step.joins;
+      following = following g.R.Radio.stations g.R.Radio.faults old new c.args.step.now c.hand.result step;
+    }
+
+pub returns-in-Apply : goal.returns-in-Apply
+returns-in-Apply g c =
+    let old = c.args.self.now in
+    let new = c.apply.new.self in
+    let step = subst (λ (s : Step). IsWorldStep g.R.Radio.stations g.R.Radio.faults s c.apply.result old new) (sym c.in-Apply.is) c.apply.ensures.step in
+    record {
+      step = step;
+      safe = c.apply.ensures.safe;
+      one_call = c.apply.ensures.one_call;
+      count = c.apply.ensures.count;
+      fault = c.apply.ensures.fault;
+      exact = exact g.R.Radio.stations g.R.Radio.faults old new c.args.step.now step.inside c.apply.result step.joins;
+      following = following g.R.Radio.stations g.R.Radio.faults old new c.args.step.now c.apply.result step;
+    }
+
+pub returns-in_default : goal.returns-in_default
+returns-in_default g c =
+    let old = c.args.self.now in
+    let new = record old { durable = c.step.new.self } in
+    let step : IsWorldStep g.R.Radio.stations g.R.Radio.faults c.args.step.now c.step.result old new =
+    durable_joins g.R.Radio.stations g.R.Radio.faults c.args.step.now c.step.result old new c.in_default.not-Hand c.in_default.not-Apply refl (λ b. refl) c.step.ensures.step in
+    record {
+      step = step;
+      safe = c.step.ensures.safe;
+      one_call = c.step.ensures.one_call;
+      count = c.step.ensures.count;
+      fault = c.step.ensures.fault;
+      exact = λ all. all;
+      following = following g.R.Radio.stations g.R.Radio.faults old new c.args.step.now c.step.result step;
+    }

@@ -1,0 +1,48 @@
+use Rattle.std.proofs.Common.{◌≡◌, List, ◌++◌, length, map, take, drop, inr, refl, sym, ap, subst, ◌∙◌, arith}
+use Rattle.std.proofs.Math.Seq.{take-append_seam}
+use Rattle.apd_disk.specs.Disk.{Only}
+use Rattle.apd_flusher.specs.Outside as flusher
+use Rattle.apd_slot.specs.declared.slot.Slot.{Slot}
+use Rattle.apd_world.specs.Following.{AreExact}
+use Rattle.apd_world.specs.Outside.{device_of}
+use Rattle.apd_world.specs.Resumed.{AreResumed, HasNotResumed}
+use Rattle.apd_world.proofs.ResumeLaws.{begun_following, resumed_exact}
+use Rattle.apd_world.proofs.resuming.restart.Goals as goal
+
+-- as many are taken as there are
+whole : {A : Type 0} (xs ys : List A) (n : _) → n ≡ length xs → take n (xs ++ drop (length xs) ys) ≡ xs
+whole xs ys n same = ap (λ k. take k (xs ++ drop (length xs) ys)) same ∙ take-append_seam xs (drop (length xs) ys)
+
+pub returns-in-Ok-resume_all-clause-exact : goal.returns-in-Ok-resume_all-clause-exact
+returns-in-Ok-resume_all-clause-exact g c =
+    let xs = c.resume_all.new.slots in
+    let many : c.args.slots.len ≡ length xs = omega (arith, c.args.slots.ok.0, c.resume_all.auto.slots, c.as_mut_slice.ensures.len) in
+    subst (AreExact g.R.Radio.stations) (sym (whole xs c.args.slots.items c.args.slots.len many)) (resumed_exact g.R.Radio.stations g.R.Radio.faults c.table.result.now xs c.in-Ok-resume_all.ensures.ok)
+
+pub returns-in-Ok-resume_all-clause-following : goal.returns-in-Ok-resume_all-clause-following
+returns-in-Ok-resume_all-clause-following g c = λ b configured slot at a.
+    let xs = c.resume_all.new.slots in
+    let many : c.args.slots.len ≡ length xs = omega (arith, c.args.slots.ok.0, c.resume_all.auto.slots, c.as_mut_slice.ensures.len) in
+    let core = c.in-Ok.durable.core in
+    let resumed = subst (AreResumed g.R.Radio.stations core.settled) (sym (whole xs c.args.slots.items c.args.slots.len many)) (subst (λ s. AreResumed g.R.Radio.stations s xs) c.table.ensures c.in-Ok-resume_all.ensures.ok) in
+    begun_following g.R.Radio.stations _ core.settled resumed core (map (λ queue. queue.items) c.new.result.items) c.args.confs core.heard c.in-Ok.ensures.core (ap (map (λ queue. queue.items)) c.new.ensures.items) b slot at a
+
+pub returns-in-Err-resume_all-clause-durable_err : goal.returns-in-Err-resume_all-clause-durable_err
+returns-in-Err-resume_all-clause-durable_err g c = λ honest other.
+    let device : c.into_device.result ≡ device_of c.in-Ok.durable = c.into_device.ensures ∙ ap flusher.device_of c.into_parts-flusher.ensures.flusher in
+    subst (λ d. Only (g.D.Disk.reads c.args.device) (g.D.Disk.may_leave d)) (sym device) (c.in-Ok.ensures.images honest)
+
+pub returns-in-Err-resume_all-clause-still_err : goal.returns-in-Err-resume_all-clause-still_err
+returns-in-Err-resume_all-clause-still_err g c = λ honest image only.
+    let device : c.into_device.result ≡ device_of c.in-Ok.durable = c.into_device.ensures ∙ ap flusher.device_of c.into_parts-flusher.ensures.flusher in
+    let same = only (g.D.Disk.reads c.args.device) (g.met.D.Disk.reads_may_be_left c.args.device honest) in
+    ((λ other left. c.in-Ok.ensures.images honest other (subst (λ d. g.D.Disk.may_leave d other) device left) ∙ same), ap g.D.Disk.reads device ∙ c.in-Ok.ensures.reads honest ∙ same)
+
+pub returns-in-Err-resume_all-clause-only : goal.returns-in-Err-resume_all-clause-only
+returns-in-Err-resume_all-clause-only g c =
+    let xs = c.resume_all.new.slots in
+    let many : c.args.slots.len ≡ length xs = omega (arith, c.args.slots.ok.0, c.resume_all.auto.slots, c.as_mut_slice.ensures.len) in
+    let bssid = c.in-Err-resume_all.bssid in
+    let fault = c.in-Err-resume_all.fault in
+    let failed = subst (λ zs. HasNotResumed g.R.Radio.faults bssid fault zs xs) c.as_mut_slice.ensures.value c.in-Err-resume_all.ensures.err in
+    inr (inr (inr (inr (inr (bssid, fault, refl, subst (HasNotResumed g.R.Radio.faults bssid fault c.args.slots.items) (sym (whole xs c.args.slots.items c.args.slots.len many)) failed)))))

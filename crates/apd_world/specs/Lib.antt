@@ -1,0 +1,15 @@
+pub mod Applying
+pub mod Following
+pub mod Going
+pub mod Outside
+pub mod Proper
+pub mod Queueing
+pub mod Resumed
+pub mod Round
+pub mod Run
+pub mod Seen
+pub mod Shown
+pub mod Spoken
+pub mod Steps
+pub mod Telling
+pub mod WorldRun

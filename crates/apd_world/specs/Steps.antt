@@ -1,0 +1,73 @@
+-- What happened by steps, by what they told, and what was given.
+use Rattle.std.specs.Prelude.{List, [], ◌∷◌, ◌++◌, Result, Ok, Err, if◌then◌else◌}
+use Rattle.apd_base.specs.State.{State}
+use Rattle.apd_base.specs.declared.moment.Moment.{Moment}
+use Rattle.apd_conf.specs.declared.conf.Conf.{Conf}
+use Rattle.apd_mlme.specs.Happening.{Happening}
+use Rattle.apd_mlme.specs.Outs.{is_same}
+use Rattle.apd_mlme.specs.Rules.{verdict}
+use Rattle.apd_mlme.specs.Run.{run}
+use Rattle.apd_mlme.specs.declared.decision.Out.{Out}
+use Rattle.apd_mlme.specs.declared.decision.Recipient.{Recipient}
+use Rattle.apd_core.specs.Core.{CoreState, front_of}
+use Rattle.apd_core.specs.Heard.{LastHeard, heard_by, heard_by_changes}
+use Rattle.apd_core.specs.Requests.{happening_of}
+use Rattle.apd_core.specs.declared.input.QuietReason.{QuietReason}
+use Rattle.apd_world.specs.declared.step.Reception.{Reception}
+use Rattle.apd_world.specs.declared.step.Reception.TheVariants.{Stopped, Busy, Quiet, Entry}
+use Rattle.apd_world.specs.declared.step.Step.{Step}
+use Rattle.apd_world.specs.declared.step.Step.TheVariants.{Accept, Take, Call, Publish, Hand, Ask, Apply}
+use Rattle.apd_world.specs.declared.step.Told.{Told}
+use Rattle.apd_world.specs.declared.step.Told.TheVariants.{Accepted, Handed}
+
+-- what a request enters by its answer
+abbrev pub entered_as : Reception → Result Happening QuietReason → List Happening
+entered_as (Entry number) (Ok h) = h ∷ []
+entered_as answer asked = []
+
+-- what a step enters; what happens by a tick is read off the moments at which stations were heard
+abbrev pub entered : List Conf → LastHeard → Step → Told → List Happening
+entered confs heard (Accept i m) (Accepted answer) = entered_as answer (happening_of confs heard m i)
+entered confs heard step told = []
+
+-- the moments after a request by its answer, in the state before it
+abbrev pub heard_as : List Conf → State → Moment → Reception → Result Happening QuietReason → LastHeard → LastHeard
+heard_as confs s m (Entry number) (Ok h) heard = heard_by m h (heard_by_changes m (verdict s confs h).changes heard)
+heard_as confs s m (Quiet reason) (Ok h) heard = heard_by m h heard
+heard_as confs s m answer asked heard = heard
+
+abbrev pub heard_after : List Conf → State → LastHeard → Step → Told → LastHeard
+heard_after confs s heard (Accept i m) (Accepted answer) = heard_as confs s m answer (happening_of confs heard m i) heard
+heard_after confs s heard step told = heard
+
+-- what happened so far, the state after it, and the moments
+pub record Account : Type 0 where
+  pub happened : List Happening
+  pub state : State
+  pub heard : LastHeard
+
+abbrev pub one_more : List Conf → Step → Told → Account → Account
+one_more confs step told a =
+    let es = entered confs a.heard step told in
+    record { happened = a.happened ++ es; state = run a.state confs es; heard = heard_after confs a.state a.heard step told }
+
+-- the same by steps, one after another
+abbrev pub account : List Conf → List Step → List Told → Account → Account
+account confs (step ∷ steps) (told ∷ tolds) a = account confs steps tolds (one_more confs step told a)
+account confs steps tolds a = a
+
+abbrev pub nothing_yet : CoreState → Account
+nothing_yet s = record { happened = []; state = front_of s; heard = s.heard }
+
+-- what happened by the steps that told an entry, in order
+abbrev pub all_entered : List Step → List Told → CoreState → List Happening
+all_entered steps tolds s = (account s.confs steps tolds (nothing_yet s)).happened
+
+-- what a recipient is given by a step
+abbrev pub given : Recipient → Step → Told → List Out
+given r (Hand q) (Handed outs) = if is_same r q then outs else []
+given r step told = []
+
+abbrev pub all_given : Recipient → List Step → List Told → List Out
+all_given r (step ∷ steps) (told ∷ tolds) = given r step told ++ all_given r steps tolds
+all_given r steps tolds = []

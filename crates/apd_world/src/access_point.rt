@@ -1,0 +1,84 @@
+//! A world: a durable core, and a slot for each interface.
+ghost use Rattle.std.specs.Prelude.{◌≡◌, None};
+
+use crate::durable_core::DurableCore;
+use crate::slots::place_of;
+use apd_base::Bssid;
+use apd_conf::Confs;
+use apd_core::Core;
+use apd_disk::Disk;
+use apd_flusher::Flusher;
+use apd_mlme::Out;
+use apd_radio::Radio;
+use apd_slot::Slot;
+use apd_table::Table;
+use std::alloc::Global;
+use std::collections::VecDeque;
+
+/// A durable core and its slots, each with a queue of the outs that wait to be applied there. The slots are one
+/// for each configured BSSID and no other, as the caller gives them: outs for a BSSID without a slot are held
+/// for ever, and a second slot of a BSSID is given none.
+#[derive(Drop)]
+pub struct World<D: Disk, R: Radio> {
+    pub(crate) alloc: Global,
+    pub(crate) durable: DurableCore<D>,
+    pub(crate) slots: Vec<Slot<R>>,
+    // The queue of each slot, at its place. One that is missing is empty.
+    pub(crate) queues: Vec<VecDeque<Out>>,
+}
+
+impl<D: Disk, R: Radio> World<D, R> {
+    ghost use Rattle.apd_world.specs.Seen.{durable_of, slots_of, slot_at, is_up_if};
+
+    /// A flusher, a core and slots, with nothing that waits. It takes no memory.
+    pub fn new(alloc: Global, flusher: Flusher<D>, core: Core, slots: Vec<Slot<R>>) -> World<D, R>
+        ensures core { (durable_of result).core ≡ core }
+        ensures flusher { (durable_of result).flusher ≡ flusher }
+        ensures batch { (durable_of result).batch ≡ None }
+        ensures receipt { (durable_of result).receipt ≡ None }
+        ensures told { (durable_of result).told ≡ 0 }
+        ensures slots { slots_of result ≡ slots.items }
+    {
+        World {
+            alloc,
+            durable: DurableCore::new(alloc, flusher, core),
+            slots,
+            queues: Vec::new(alloc),
+        }
+    }
+
+    /// The table after all settled entries.
+    pub fn table(&self) -> &Table
+        ensures { result.now ≡ (durable_of self.now).core.settled }
+    {
+        self.durable.table()
+    }
+
+    /// The configurations.
+    pub fn confs(&self) -> &Confs
+        ensures { result.now ≡ (durable_of self.now).core.confs }
+    {
+        self.durable.confs()
+    }
+
+    /// Whether the slot of a BSSID is up; not so where it has no slot.
+    pub fn is_up(&self, bssid: Bssid) -> bool
+        ensures { result ≡ is_up_if (slot_at (slots_of self.now) bssid) }
+    {
+        match place_of(&self.slots, bssid) {
+            Some(place) => self.slots[place].is_up(),
+            None => false,
+        }
+    }
+
+    /// The flusher, the core and the slots. A batch or a receipt that waits is dropped, and so is each queue.
+    pub fn into_parts(self) -> (Flusher<D>, Core, Vec<Slot<R>>)
+        ensures flusher { result.0 ≡ (durable_of self).flusher }
+        ensures core { result.1 ≡ (durable_of self).core }
+        ensures slots { result.2.items ≡ slots_of self }
+    {
+        let World { durable, slots, .. } = self;
+        let (flusher, core) = durable.into_parts();
+        (flusher, core, slots)
+    }
+}

@@ -1,0 +1,53 @@
+//! What a reader may rely on, whatever steps a durable core makes: each law is the contract of a function
+//! that does nothing.
+ghost use Rattle.std.specs.Prelude.{◌≡◌, ◌≤◌, ◌++◌, List, Ok};
+ghost use Rattle.apd_base.specs.declared.moment.Moment.{Moment};
+ghost use Rattle.apd_ctrl.specs.declared.command.Query.{Query};
+ghost use Rattle.apd_mlme.specs.Happening.{Happening};
+ghost use Rattle.apd_mlme.specs.Rules.{verdict};
+ghost use Rattle.apd_mlme.specs.Truth.{AreSoToAll, IsFromStation, NoBroadcastRow};
+ghost use Rattle.apd_table.specs.Sound.{Sound};
+ghost use Rattle.apd_core.specs.Core.{CoreState, front_of};
+ghost use Rattle.apd_core.specs.Requests.{happening_of};
+ghost use Rattle.apd_core.specs.declared.answer.Answer.{Answer};
+ghost use Rattle.apd_core.specs.declared.input.Input.{Input};
+ghost use Rattle.apd_world.specs.Going.{AreUnsettled};
+ghost use Rattle.apd_world.specs.Outside.{IsSpoken};
+ghost use Rattle.apd_world.specs.Run.{AreSteps, IsRun};
+ghost use Rattle.apd_world.specs.Spoken.{SpeaksOf};
+ghost use Rattle.apd_world.specs.Steps.{all_entered};
+ghost use Rattle.apd_world.specs.Telling.{Tells};
+ghost use Rattle.apd_world.specs.declared.durable_core.DurableCore.{DurableCore};
+ghost use Rattle.apd_world.specs.declared.step.Step.{Step};
+ghost use Rattle.apd_world.specs.declared.step.Step.TheVariants.{Ask};
+ghost use Rattle.apd_world.specs.declared.step.Told.{Told};
+ghost use Rattle.apd_world.specs.declared.step.Told.TheVariants.{Answered};
+
+use apd_disk::Disk;
+
+/// Whatever steps are made one after another, nothing is spoken of that is not settled: no out is given of a
+/// later entry than the last that is settled, and no answer to a query comes with a later number. That number
+/// never falls.
+pub fn only_what_is_settled_is_spoken_of<D: Disk>()
+    ensures spoken { (steps : List Step) (tolds : List Told) (old new : DurableCore D) → AreSteps steps tolds old new → IsSpoken old → IsSpoken new }
+    ensures number { (steps : List Step) (tolds : List Told) (old new : DurableCore D) → AreSteps steps tolds old new → old.core.number ≤ new.core.number }
+{}
+
+/// What leaves is so of everyone whom it is meant for, whatever steps were made from a durable core on whose
+/// table after all entries is sound and has no row of the broadcast address, as an empty one: no request is a
+/// frame from that address, and no row ever has it, so a broadcast frame speaks of every station.
+pub fn what_leaves_is_so_of_everyone<D: Disk>()
+    ensures senders { (s : CoreState) (m : Moment) (i : Input) (h : Happening) → happening_of s.confs s.heard m i ≡ Ok h → IsFromStation h }
+    ensures rows { (steps : List Step) (tolds : List Told) (old new : DurableCore D) → IsRun steps tolds old new → NoBroadcastRow (front_of old.core) → NoBroadcastRow (front_of new.core) }
+    ensures everyone { (steps : List Step) (tolds : List Told) (old new : DurableCore D) (m : Moment) (i : Input) (h : Happening)
+        → IsRun steps tolds old new → Sound (front_of old.core) → NoBroadcastRow (front_of old.core) → happening_of new.core.confs new.core.heard m i ≡ Ok h
+        → AreSoToAll (verdict (front_of new.core) new.core.confs h).state (verdict (front_of new.core) new.core.confs h).outs }
+{}
+
+/// After any steps a query is answered from the table after a front of what was not settled before them and of
+/// what happened by them: the answer has that table's text, and the number of the last entry that it speaks of.
+pub fn a_query_speaks_of_what_was_settled<D: Disk>()
+    ensures { (steps : List Step) (tolds : List Told) (old mid new : DurableCore D) (hs : List Happening) (query : Query) (answer : Answer)
+        → IsRun steps tolds old mid → AreUnsettled hs old.core → Tells (Ask query) (Answered answer) mid new
+        → (answer.query ≡ query) × SpeaksOf (hs ++ all_entered steps tolds old.core) old.core answer }
+{}

@@ -1,0 +1,90 @@
+//! The steps of a world.
+ghost use Rattle.std.specs.Prelude.{◌≡◌, ◌+◌, ◌≤◌, Err};
+ghost use Rattle.apd_base.specs.Failures.{HasRisen};
+ghost use Rattle.apd_world.specs.declared.step.Step.TheVariants.{Hand, Apply};
+ghost use Rattle.apd_mlme.specs.declared.decision.Recipient.TheVariants.{Radio as Of};
+
+use crate::access_point::World;
+use crate::slots::{apply_first, hand_to, make_queue, place_of};
+use crate::step::{Step, Told};
+use apd_base::Bssid;
+use apd_disk::Disk;
+use apd_mlme::Recipient;
+use apd_radio::Radio;
+use apd_store::StoreFault;
+
+impl<D: Disk, R: Radio> World<D, R> {
+    ghost use Rattle.apd_world.specs.Following.{AreExact, AreFollowing};
+    ghost use Rattle.apd_world.specs.Outside.{device_of};
+    ghost use Rattle.apd_world.specs.Proper.{IsSafe};
+    ghost use Rattle.apd_world.specs.Seen.{durable_of, slots_of};
+    ghost use Rattle.apd_world.specs.WorldRun.{IsWorldStep};
+
+    // Hands what is ready for a radio to the queue of its slot, if it has one.
+    fn queue_ready(&mut self, bssid: Bssid) -> Told
+        ensures step { IsWorldStep R.stations R.faults (Hand (Of bssid)) result self.old self.new }
+        ensures safe { IsSafe D.honest D.reads D.may_leave D.moment D.left_since D.size (durable_of self.old) (durable_of self.new) }
+        ensures one_call { D.honest (device_of (durable_of self.old)) → D.moment (device_of (durable_of self.new)) ≤ D.moment (device_of (durable_of self.old)) + 1 }
+        ensures count { D.failed (device_of (durable_of self.old)) ≤ D.failed (device_of (durable_of self.new)) }
+        ensures fault { result ≡ Told.Called (Err StoreFault.Device) → HasRisen (D.failed (device_of (durable_of self.old))) (D.failed (device_of (durable_of self.new))) }
+    {
+        self.durable.stops();
+        let Some(place) = place_of(&self.slots, bssid) else {
+            return Told::Nothing;
+        };
+        if make_queue(self.alloc, &mut self.queues, place).is_err() {
+            return Told::NoMemory;
+        }
+        hand_to(&mut self.durable, &mut self.queues[place], bssid)
+    }
+
+    // Hands out what is ready for a recipient: to control itself, to a radio into the queue of its slot.
+    fn hand(&mut self, to: Recipient) -> Told
+        ensures step { IsWorldStep R.stations R.faults (Hand to) result self.old self.new }
+        ensures safe { IsSafe D.honest D.reads D.may_leave D.moment D.left_since D.size (durable_of self.old) (durable_of self.new) }
+        ensures one_call { D.honest (device_of (durable_of self.old)) → D.moment (device_of (durable_of self.new)) ≤ D.moment (device_of (durable_of self.old)) + 1 }
+        ensures count { D.failed (device_of (durable_of self.old)) ≤ D.failed (device_of (durable_of self.new)) }
+        ensures fault { result ≡ Told.Called (Err StoreFault.Device) → HasRisen (D.failed (device_of (durable_of self.old))) (D.failed (device_of (durable_of self.new))) }
+    {
+        match to {
+            Recipient::Radio(bssid) => self.queue_ready(bssid),
+            Recipient::Control => self.durable.step(&Step::Hand(to)),
+        }
+    }
+
+    // Applies the first out of a BSSID's queue at its slot.
+    fn apply(&mut self, bssid: Bssid) -> Told
+        ensures step { IsWorldStep R.stations R.faults (Apply bssid) result self.old self.new }
+        ensures safe { IsSafe D.honest D.reads D.may_leave D.moment D.left_since D.size (durable_of self.old) (durable_of self.new) }
+        ensures one_call { D.honest (device_of (durable_of self.old)) → D.moment (device_of (durable_of self.new)) ≤ D.moment (device_of (durable_of self.old)) + 1 }
+        ensures count { D.failed (device_of (durable_of self.old)) ≤ D.failed (device_of (durable_of self.new)) }
+        ensures fault { result ≡ Told.Called (Err StoreFault.Device) → HasRisen (D.failed (device_of (durable_of self.old))) (D.failed (device_of (durable_of self.new))) }
+    {
+        self.durable.stops();
+        let Some(place) = place_of(&self.slots, bssid) else {
+            return Told::Nothing;
+        };
+        if place >= self.queues.len() {
+            return Told::Nothing;
+        }
+        apply_first(&mut self.slots[place], &mut self.queues[place])
+    }
+
+    /// Makes one step, and tells its answer. What a stop leaves, and what is spoken of, is as of the durable core's
+    /// step; a step that applies an out leaves the durable core, and any other the slots.
+    pub fn step(&mut self, step: &Step<'_>) -> Told
+        ensures step { IsWorldStep R.stations R.faults step.now result self.old self.new }
+        ensures safe { IsSafe D.honest D.reads D.may_leave D.moment D.left_since D.size (durable_of self.old) (durable_of self.new) }
+        ensures one_call { D.honest (device_of (durable_of self.old)) → D.moment (device_of (durable_of self.new)) ≤ D.moment (device_of (durable_of self.old)) + 1 }
+        ensures count { D.failed (device_of (durable_of self.old)) ≤ D.failed (device_of (durable_of self.new)) }
+        ensures fault { result ≡ Told.Called (Err StoreFault.Device) → HasRisen (D.failed (device_of (durable_of self.old))) (D.failed (device_of (durable_of self.new))) }
+        ensures exact { AreExact R.stations (slots_of self.old) → AreExact R.stations (slots_of self.new) }
+        ensures following { AreFollowing self.old → AreFollowing self.new }
+    {
+        match *step {
+            Step::Hand(to) => self.hand(to),
+            Step::Apply(bssid) => self.apply(bssid),
+            _ => self.durable.step(step),
+        }
+    }
+}
