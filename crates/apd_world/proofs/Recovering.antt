@@ -18,7 +18,7 @@ use Rattle.apd_world.specs.Run.{IsRun}
 use Rattle.apd_world.specs.Seen.{durable_of}
 use Rattle.apd_world.specs.Shown.{ShowsEither}
 use Rattle.apd_world.specs.Steps.{all_entered, all_given}
-use Rattle.apd_world.specs.declared.access_point.World.{World}
+use Rattle.apd_world.specs.declared.world.World.{World}
 use Rattle.apd_world.specs.declared.durable_core.DurableCore.{DurableCore}
 use Rattle.apd_world.specs.declared.step.Step.{Step}
 use Rattle.apd_world.specs.declared.step.Told.{Told}

@@ -10,7 +10,7 @@ use Rattle.apd_world.specs.Seen.{durable_of}
 use Rattle.apd_world.specs.Shown.{ShowsFront}
 use Rattle.apd_world.specs.Steps.{all_entered}
 use Rattle.apd_world.specs.WorldRun.{IsWorldRun}
-use Rattle.apd_world.specs.declared.access_point.World.{World}
+use Rattle.apd_world.specs.declared.world.World.{World}
 use Rattle.apd_world.specs.declared.step.Step.{Step}
 use Rattle.apd_world.specs.declared.step.Told.{Told}
 

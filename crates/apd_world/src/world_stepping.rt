@@ -4,9 +4,9 @@ ghost use Rattle.apd_base.specs.Failures.{HasRisen};
 ghost use Rattle.apd_world.specs.declared.step.Step.TheVariants.{Hand, Apply};
 ghost use Rattle.apd_mlme.specs.declared.decision.Recipient.TheVariants.{Radio as Of};
 
-use crate::access_point::World;
 use crate::slots::{apply_first, hand_to, make_queue, place_of};
 use crate::step::{Step, Told};
+use crate::world::World;
 use apd_base::Bssid;
 use apd_disk::Disk;
 use apd_mlme::Recipient;

@@ -4,7 +4,7 @@ use Rattle.apd_world.specs.declared.step.Step.{Step}
 use Rattle.apd_world.proofs.FollowLaws.{exact, following}
 use Rattle.apd_world.proofs.Joining.{durable_joins}
 use Rattle.apd_world.proofs.Recovering.{loses_nothing}
-use Rattle.apd_world.proofs.access_point.World.step.Goals as goal
+use Rattle.apd_world.proofs.world.World.step.Goals as goal
 
 pub returns-in-Hand : goal.returns-in-Hand
 returns-in-Hand g c =
