@@ -36,7 +36,7 @@ use Rattle.apd_world.specs.Following.{AreExact, AreFollowing}
 use Rattle.apd_world.specs.Seen.{durable_of, slots_of, slot_place, slot_in, slot_at, queue_of}
 use Rattle.apd_world.specs.Steps.{entered, given}
 use Rattle.apd_world.specs.WorldRun.{applied, IsApplied, IsWorldStep, Joins, OthersStay, RestStays}
-use Rattle.apd_world.specs.declared.access_point.World.{World}
+use Rattle.apd_world.specs.declared.world.World.{World}
 use Rattle.apd_world.specs.declared.step.Step.{Step}
 use Rattle.apd_world.specs.declared.step.Step.TheVariants.{Accept, Take, Call, Publish, Hand, Ask, Apply}
 use Rattle.apd_world.specs.declared.step.Told.{Told}

@@ -17,7 +17,7 @@ use Rattle.apd_world.specs.Queueing.{QueuesReady}
 use Rattle.apd_world.specs.Run.{IsStep}
 use Rattle.apd_world.specs.Seen.{durable_of, slots_of, slot_place, slot_at, queue_of}
 use Rattle.apd_world.specs.WorldRun.{AreQueued, HasNoSlot, IsApplied, IsWorldStep, Joins, OthersStay, RestStays}
-use Rattle.apd_world.specs.declared.access_point.World.{World}
+use Rattle.apd_world.specs.declared.world.World.{World}
 use Rattle.apd_world.specs.declared.durable_core.DurableCore.{DurableCore}
 use Rattle.apd_world.specs.declared.step.Step.{Step}
 use Rattle.apd_world.specs.declared.step.Step.TheVariants.{Accept, Take, Call, Publish, Hand, Ask, Apply}

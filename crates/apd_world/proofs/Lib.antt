@@ -10,3 +10,4 @@ mod Speaking
 mod StepLaws
 mod WorldDriveLaws
 mod StartLaws
+mod Recovering

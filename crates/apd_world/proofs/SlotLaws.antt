@@ -17,7 +17,7 @@ use Rattle.apd_slot.specs.Slots.{bssid_of}
 use Rattle.apd_slot.specs.declared.slot.Slot.{Slot}
 use Rattle.apd_world.specs.Seen.{slots_of, slot_place, slot_in, slot_at, queue_in, queue_of}
 use Rattle.apd_world.specs.WorldRun.{OthersStay}
-use Rattle.apd_world.specs.declared.access_point.World.{World}
+use Rattle.apd_world.specs.declared.world.World.{World}
 
 -- ---- queues
 -- one more, without an out

@@ -16,7 +16,7 @@ use Rattle.apd_world.specs.Going.{Goes}
 use Rattle.apd_world.specs.Proper.{IsProper}
 use Rattle.apd_world.specs.Seen.{durable_of, slots_of, slot_at, queue_of}
 use Rattle.apd_world.specs.WorldRun.{RestStays}
-use Rattle.apd_world.specs.declared.access_point.World.{World}
+use Rattle.apd_world.specs.declared.world.World.{World}
 
 -- a quiet round leaves what the slots follow
 pub rest_following : {D R : Type 0} (old new : World D R) → RestStays old new → Goes [] (λ r. []) (durable_of old).core (durable_of new).core → AreFollowing old → AreFollowing new

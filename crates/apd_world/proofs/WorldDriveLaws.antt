@@ -21,7 +21,7 @@ use Rattle.apd_world.specs.Shown.{ShowsEither, ShowsFront}
 use Rattle.apd_world.specs.Steps.{Account, account, all_entered, all_given, entered, given, heard_after, nothing_yet, one_more}
 use Rattle.apd_world.specs.Telling.{Tells}
 use Rattle.apd_world.specs.WorldRun.{all_applied, applied, AreWorldSteps, IsWorldRun, IsWorldStep, Joins}
-use Rattle.apd_world.specs.declared.access_point.World.{World}
+use Rattle.apd_world.specs.declared.world.World.{World}
 use Rattle.apd_world.specs.declared.durable_core.DurableCore.{DurableCore}
 use Rattle.apd_world.specs.declared.step.Step.{Step}
 use Rattle.apd_world.specs.declared.step.Step.TheVariants.{Accept, Take, Call, Publish, Hand, Ask, Apply}

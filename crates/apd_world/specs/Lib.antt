@@ -4,6 +4,7 @@ pub mod Going
 pub mod Outside
 pub mod Proper
 pub mod Queueing
+pub mod Recovery
 pub mod Resumed
 pub mod Round
 pub mod Run

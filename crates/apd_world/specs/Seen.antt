@@ -7,7 +7,7 @@ use Rattle.apd_base.specs.declared.address.Bssid.{Bssid}
 use Rattle.apd_mlme.specs.declared.decision.Out.{Out}
 use Rattle.apd_slot.specs.Slots.{bssid_of, is_up_of}
 use Rattle.apd_slot.specs.declared.slot.Slot.{Slot}
-use Rattle.apd_world.specs.declared.access_point.World.{World}
+use Rattle.apd_world.specs.declared.world.World.{World}
 use Rattle.apd_world.specs.declared.durable_core.DurableCore.{DurableCore}
 
 abbrev pub durable_of : {D R : Type 0} → World D R → DurableCore D

@@ -14,7 +14,7 @@ use Rattle.apd_world.specs.Run.{IsRun, IsStep}
 use Rattle.apd_world.specs.Seen.{durable_of, slots_of, slot_place, slot_at, queue_of}
 use Rattle.apd_world.specs.Steps.{all_entered, all_given}
 use Rattle.apd_world.specs.Telling.{Tells}
-use Rattle.apd_world.specs.declared.access_point.World.{World}
+use Rattle.apd_world.specs.declared.world.World.{World}
 use Rattle.apd_world.specs.declared.step.Step.{Step}
 use Rattle.apd_world.specs.declared.step.Step.TheVariants.{Hand, Apply}
 use Rattle.apd_world.specs.declared.step.Told.{Told}

@@ -11,8 +11,8 @@ ghost use Rattle.apd_world.specs.Steps.{all_entered};
 ghost use Rattle.apd_world.specs.Outside.{device_of};
 ghost use Rattle.apd_world.specs.WorldRun.{IsWorldRun};
 
-use crate::access_point::World;
 use crate::step::{Step, Told};
+use crate::world::World;
 use apd_disk::Disk;
 use apd_radio::Radio;
 use std::alloc::AllocError;

@@ -1,11 +1,11 @@
 //! A core, a flusher and slots in one value, one step at a time: what a stop leaves, and what was spoken of.
 #![tactic(auto)]
 
-mod access_point;
 mod committing;
 mod driving;
 mod durable_core;
 mod fault;
+mod handing_out;
 pub mod laws;
 mod restarting;
 mod resuming;
@@ -13,11 +13,12 @@ mod slots;
 mod starting;
 mod step;
 mod stepping;
+mod world;
 mod world_stepping;
 
-pub use access_point::World;
 pub use driving::drive;
 pub use durable_core::DurableCore;
 pub use fault::WorldFault;
 pub use resuming::restart;
 pub use step::{Commit, Reception, Step, Told};
+pub use world::World;

@@ -20,9 +20,9 @@ ghost use Rattle.apd_world.specs.Resumed.{AreOfSame, AreResumed, HasNotResumed};
 ghost use Rattle.apd_world.specs.Seen.{durable_of, slots_of};
 ghost use Rattle.apd_world.specs.Shown.{ShowsFront};
 
-use crate::access_point::World;
 use crate::fault::WorldFault;
 use crate::restarting::restart_core;
+use crate::world::World;
 use apd_base::{Bssid, Moment};
 use apd_conf::Confs;
 use apd_disk::Disk;

@@ -1,32 +1,28 @@
 //! A world started: its interfaces are configured, and what that brings about is committed, handed out and applied.
-ghost use Rattle.std.specs.Prelude.{◌≡◌, ◌≢◌, ◌≤◌, ◌<◌, IsTrue, List, OnOk, [], length};
+ghost use Rattle.std.specs.Prelude.{◌≡◌, ◌<◌, List, []};
 ghost use Rattle.apd_disk.specs.Disk.{LeavesOnly};
 ghost use Rattle.apd_mlme.specs.Happening.{Happening};
 ghost use Rattle.apd_world.specs.Going.{AreUnsettled, Goes};
 ghost use Rattle.apd_world.specs.Outside.{device_of};
 ghost use Rattle.apd_world.specs.Shown.{ShowsFront};
 
-use crate::access_point::World;
 use crate::fault::WorldFault;
-use crate::slots::place_of;
 use crate::step::{Commit, Step, Told};
-use apd_base::{Bssid, Moment};
-use apd_conf::Confs;
+use crate::world::World;
+use apd_base::Moment;
 use apd_core::Input;
 use apd_disk::Disk;
 use apd_mlme::Recipient;
 use apd_radio::Radio;
 use apd_store::StoreFault;
 
-type Answers = Vec<(Recipient, Told)>;
-
 impl<D: Disk, R: Radio> World<D, R> {
     ghost use Rattle.apd_world.specs.Following.{AreExact, AreFollowing};
     ghost use Rattle.apd_world.specs.Proper.{IsProper};
     ghost use Rattle.apd_world.specs.Round.{IsRound};
-    ghost use Rattle.apd_world.specs.Seen.{durable_of, queue_of, slots_of};
+    ghost use Rattle.apd_world.specs.Seen.{durable_of, slots_of};
     ghost use Rattle.apd_world.specs.Telling.{HasNoBatch, HasNoCall, HasNoReceipt};
-    ghost use Rattle.apd_world.specs.WorldRun.{IsWorldStep, RestStays};
+    ghost use Rattle.apd_world.specs.WorldRun.{RestStays};
 
     /// Commits a batch by one round of the durable core's steps; the slots and their queues stay.
     pub fn commit(&mut self) -> Commit
@@ -46,11 +42,14 @@ impl<D: Disk, R: Radio> World<D, R> {
     }
 
     // Accepts each interface's configuration, with its lists, in order. One that is no entry is passed over.
-    fn configure(&mut self, confs: &Confs) -> Result<(), WorldFault>
+    fn configure(&mut self) -> Result<(), WorldFault>
         ensures proper { IsProper D.honest D.reads D.may_leave D.size (durable_of self.old) → IsProper D.honest D.reads D.may_leave D.size (durable_of self.new) }
         ensures exact { AreExact R.stations (slots_of self.old) → AreExact R.stations (slots_of self.new) }
         ensures following { AreFollowing self.old → AreFollowing self.new }
     {
+        let Ok(confs) = self.confs().copy(self.alloc) else {
+            return Err(WorldFault::NoMemory);
+        };
         for conf in confs.list() {
             let input = Input::Configure {
                 bssid: conf.bssid,
@@ -83,75 +82,23 @@ impl<D: Disk, R: Radio> World<D, R> {
         }
     }
 
-    // Makes a step, and adds what it told, for a recipient. Room is made before.
-    fn answer(
-        &mut self,
-        to: Recipient,
-        step: &Step<'_>,
-        answers: &mut Answers,
-    ) -> Result<(), WorldFault>
-        ensures step { OnOk result ((told : Told) × (told ≢ Told.NoMemory) × IsWorldStep R.stations R.faults step.now told self.old self.new) }
+    /// Commits until nothing is unsettled, and hands out what is settled. A batch or a receipt that is under way is
+    /// gone on with. It answers as `hand_out` does.
+    ///
+    /// Errors: `Store` where the store refuses, with `Failed` also where the core has failed; `NoMemory`. The steps
+    /// that were made stand.
+    pub fn flush(&mut self) -> Result<Vec<(Recipient, Told)>, WorldFault>
         ensures proper { IsProper D.honest D.reads D.may_leave D.size (durable_of self.old) → IsProper D.honest D.reads D.may_leave D.size (durable_of self.new) }
         ensures exact { AreExact R.stations (slots_of self.old) → AreExact R.stations (slots_of self.new) }
         ensures following { AreFollowing self.old → AreFollowing self.new }
     {
-        if answers.reserve(1).is_err() {
-            return Err(WorldFault::NoMemory);
-        }
-        match self.step(step) {
-            Told::NoMemory => Err(WorldFault::NoMemory),
-            told => {
-                answers.push_reserved((to, told));
-                Ok(())
-            }
-        }
+        self.settle()?;
+        self.hand_out()
     }
 
-    // Hands out to each radio, in the order of the configurations, and then to control.
-    fn hand_all(&mut self, confs: &Confs, answers: &mut Answers) -> Result<(), WorldFault>
-        ensures proper { IsProper D.honest D.reads D.may_leave D.size (durable_of self.old) → IsProper D.honest D.reads D.may_leave D.size (durable_of self.new) }
-        ensures exact { AreExact R.stations (slots_of self.old) → AreExact R.stations (slots_of self.new) }
-        ensures following { AreFollowing self.old → AreFollowing self.new }
-    {
-        for conf in confs.list() {
-            let to = Recipient::Radio(conf.bssid);
-            self.answer(to, &Step::Hand(to), answers)?;
-        }
-        self.answer(Recipient::Control, &Step::Hand(Recipient::Control), answers)
-    }
-
-    // Whether an out waits at a BSSID's slot.
-    fn has_out(&self, bssid: Bssid) -> bool
-        ensures { IsTrue result → 1 ≤ length (queue_of self.now bssid) }
-    {
-        match place_of(&self.slots, bssid) {
-            Some(place) => place < self.queues.len() && !self.queues[place].is_empty(),
-            None => false,
-        }
-    }
-
-    // Applies each out that waits at a slot, in the order of the configurations.
-    fn apply_all(&mut self, confs: &Confs, answers: &mut Answers) -> Result<(), WorldFault>
-        ensures proper { IsProper D.honest D.reads D.may_leave D.size (durable_of self.old) → IsProper D.honest D.reads D.may_leave D.size (durable_of self.new) }
-        ensures exact { AreExact R.stations (slots_of self.old) → AreExact R.stations (slots_of self.new) }
-        ensures following { AreFollowing self.old → AreFollowing self.new }
-    {
-        for conf in confs.list() {
-            while self.has_out(conf.bssid) {
-                self.answer(
-                    Recipient::Radio(conf.bssid),
-                    &Step::Apply(conf.bssid),
-                    answers,
-                )?;
-            }
-        }
-        Ok(())
-    }
-
-    /// Starts each interface: accepts its configuration, in order, commits until nothing is unsettled, hands out to
-    /// each radio, in that order, then to control, and applies what waits at each slot. It answers what the
-    /// steps told that handed and applied, each with its recipient; a slot that went down, or a frame that was
-    /// lost, is told so.
+    /// Starts each interface: accepts its configuration, with its lists, in order, and flushes what that brings
+    /// about. It answers as `hand_out` does. A configuration that is no entry, as of an interface that has
+    /// started with these lists, is passed over.
     ///
     /// Errors: `Store` where the store refuses, with `Failed` also where the core has failed; `NoMemory`. The steps
     /// that were made stand.
@@ -160,14 +107,7 @@ impl<D: Disk, R: Radio> World<D, R> {
         ensures exact { AreExact R.stations (slots_of self.old) → AreExact R.stations (slots_of self.new) }
         ensures following { AreFollowing self.old → AreFollowing self.new }
     {
-        let Ok(confs) = self.confs().copy(self.alloc) else {
-            return Err(WorldFault::NoMemory);
-        };
-        let mut answers = Vec::new(self.alloc);
-        self.configure(&confs)?;
-        self.settle()?;
-        self.hand_all(&confs, &mut answers)?;
-        self.apply_all(&confs, &mut answers)?;
-        Ok(answers)
+        self.configure()?;
+        self.flush()
     }
 }

@@ -4,9 +4,9 @@ ghost use Rattle.apd_base.specs.Failures.{HasRisen};
 ghost use Rattle.apd_world.specs.declared.step.Step.TheVariants.{Hand, Apply};
 ghost use Rattle.apd_mlme.specs.declared.decision.Recipient.TheVariants.{Radio as Of};
 
-use crate::access_point::World;
 use crate::slots::{apply_first, hand_to, make_queue, place_of};
 use crate::step::{Step, Told};
+use crate::world::World;
 use apd_base::Bssid;
 use apd_disk::Disk;
 use apd_mlme::Recipient;
@@ -16,7 +16,8 @@ use apd_store::StoreFault;
 impl<D: Disk, R: Radio> World<D, R> {
     ghost use Rattle.apd_world.specs.Following.{AreExact, AreFollowing};
     ghost use Rattle.apd_world.specs.Outside.{device_of};
-    ghost use Rattle.apd_world.specs.Proper.{IsSafe};
+    ghost use Rattle.apd_world.specs.Proper.{IsProper, IsSafe};
+    ghost use Rattle.apd_world.specs.Recovery.{LosesNothing};
     ghost use Rattle.apd_world.specs.Seen.{durable_of, slots_of};
     ghost use Rattle.apd_world.specs.WorldRun.{IsWorldStep};
 
@@ -72,6 +73,9 @@ impl<D: Disk, R: Radio> World<D, R> {
 
     /// Makes one step, and tells its answer. What a stop leaves, and what is spoken of, is as of the durable core's
     /// step; a step that applies an out leaves the durable core, and any other the slots.
+    ///
+    /// Whatever steps came before, a stop at any moment until this one is done leaves an image of the table after a
+    /// front of what happened, and every entry that was spoken of by then is in that front (own).
     pub fn step(&mut self, step: &Step<'_>) -> Told
         ensures step { IsWorldStep R.stations R.faults step.now result self.old self.new }
         ensures safe { IsSafe D.honest D.reads D.may_leave D.moment D.left_since D.size (durable_of self.old) (durable_of self.new) }
@@ -80,6 +84,7 @@ impl<D: Disk, R: Radio> World<D, R> {
         ensures fault { result ≡ Told.Called (Err StoreFault.Device) → HasRisen (D.failed (device_of (durable_of self.old))) (D.failed (device_of (durable_of self.new))) }
         ensures exact { AreExact R.stations (slots_of self.old) → AreExact R.stations (slots_of self.new) }
         ensures following { AreFollowing self.old → AreFollowing self.new }
+        ensures nothing_is_lost { IsProper D.honest D.reads D.may_leave D.size (durable_of self.old) → LosesNothing R.stations R.faults D.moment D.left_since self.old self.new }
     {
         match *step {
             Step::Hand(to) => self.hand(to),

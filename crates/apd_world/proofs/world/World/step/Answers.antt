@@ -3,7 +3,8 @@ use Rattle.apd_world.specs.WorldRun.{IsWorldStep}
 use Rattle.apd_world.specs.declared.step.Step.{Step}
 use Rattle.apd_world.proofs.FollowLaws.{exact, following}
 use Rattle.apd_world.proofs.Joining.{durable_joins}
-use Rattle.apd_world.proofs.access_point.World.step.Goals as goal
+use Rattle.apd_world.proofs.Recovering.{loses_nothing}
+use Rattle.apd_world.proofs.world.World.step.Goals as goal
 
 pub returns-in-Hand : goal.returns-in-Hand
 returns-in-Hand g c =
@@ -18,6 +19,7 @@ returns-in-Hand g c =
       fault = c.hand.ensures.fault;
       exact = exact g.R.Radio.stations g.R.Radio.faults old new c.args.step.now step.inside c.hand.result step.joins;
       following = following g.R.Radio.stations g.R.Radio.faults old new c.args.step.now c.hand.result step;
+      nothing_is_lost = loses_nothing g.D.Disk.honest g.D.Disk.reads g.D.Disk.may_leave g.D.Disk.moment g.D.Disk.left_since g.D.Disk.size g.R.Radio.stations g.R.Radio.faults old new c.hand.ensures.safe;
     }
 
 pub returns-in-Apply : goal.returns-in-Apply
@@ -33,6 +35,7 @@ returns-in-Apply g c =
       fault = c.apply.ensures.fault;
       exact = exact g.R.Radio.stations g.R.Radio.faults old new c.args.step.now step.inside c.apply.result step.joins;
       following = following g.R.Radio.stations g.R.Radio.faults old new c.args.step.now c.apply.result step;
+      nothing_is_lost = loses_nothing g.D.Disk.honest g.D.Disk.reads g.D.Disk.may_leave g.D.Disk.moment g.D.Disk.left_since g.D.Disk.size g.R.Radio.stations g.R.Radio.faults old new c.apply.ensures.safe;
     }
 
 pub returns-in_default : goal.returns-in_default
@@ -49,4 +52,5 @@ returns-in_default g c =
       fault = c.step.ensures.fault;
       exact = λ all. all;
       following = following g.R.Radio.stations g.R.Radio.faults old new c.args.step.now c.step.result step;
+      nothing_is_lost = loses_nothing g.D.Disk.honest g.D.Disk.reads g.D.Disk.may_leave g.D.Disk.moment g.D.Disk.left_since g.D.Disk.size g.R.Radio.stations g.R.Radio.faults old new c.step.ensures.safe;
     }

@@ -1,4 +1,4 @@
-use Rattle.apd_world.proofs.access_point.World.apply_all.Goals as goal
+use Rattle.apd_world.proofs.world.World.apply_all.Goals as goal
 
 pub loop-conf-2-preserved : goal.loop-conf-2-preserved
 loop-conf-2-preserved g c = record {

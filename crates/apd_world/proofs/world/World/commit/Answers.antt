@@ -1,6 +1,6 @@
 use Rattle.std.proofs.Common.{refl}
 use Rattle.apd_world.proofs.StartLaws.{rest_following}
-use Rattle.apd_world.proofs.access_point.World.commit.Goals as goal
+use Rattle.apd_world.proofs.world.World.commit.Goals as goal
 
 pub returns-clause-following : goal.returns-clause-following
 returns-clause-following g c =

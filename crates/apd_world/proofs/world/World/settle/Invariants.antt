@@ -1,7 +1,7 @@
 use Rattle.std.proofs.Common.{length}
 use Rattle.apd_world.specs.Seen.{durable_of}
 use Rattle.apd_world.proofs.StartLaws.{Keeps}
-use Rattle.apd_world.proofs.access_point.World.settle.Given as goal
+use Rattle.apd_world.proofs.world.World.settle.Given as goal
 
 abbrev pub invariant-loop-self : goal.invariant-loop-self
 invariant-loop-self g l = Keeps g.D.Disk.honest g.D.Disk.reads g.D.Disk.may_leave g.D.Disk.size g.R.Radio.stations l.fn.self l.self

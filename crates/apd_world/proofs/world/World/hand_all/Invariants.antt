@@ -1,5 +1,5 @@
 use Rattle.apd_world.proofs.StartLaws.{Keeps}
-use Rattle.apd_world.proofs.access_point.World.hand_all.Given as goal
+use Rattle.apd_world.proofs.world.World.hand_all.Given as goal
 
 abbrev pub invariant-loop-conf : goal.invariant-loop-conf
 invariant-loop-conf g l = Keeps g.D.Disk.honest g.D.Disk.reads g.D.Disk.may_leave g.D.Disk.size g.R.Radio.stations l.fn.self l.self

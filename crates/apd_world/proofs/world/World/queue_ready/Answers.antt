@@ -7,7 +7,7 @@ use Rattle.apd_world.specs.Seen.{slots_of, slot_in, slot_place, queue_in, queue_
 use Rattle.apd_world.proofs.Joining.{hand_joins, lacking_joins, no_slot_joins}
 use Rattle.apd_world.proofs.SlotLaws.{not_err, other_queues, own_queue, queues_stay, queue_there, slot_is, some_slot}
 use Rattle.apd_world.proofs.Standing.{safe_unchanged}
-use Rattle.apd_world.proofs.access_point.World.queue_ready.Goals as goal
+use Rattle.apd_world.proofs.world.World.queue_ready.Goals as goal
 
 pub returns-in_default-clause-step : goal.returns-in_default-clause-step
 returns-in_default-clause-step g c =

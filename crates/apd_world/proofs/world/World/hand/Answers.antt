@@ -3,7 +3,7 @@ use Rattle.apd_mlme.specs.declared.decision.Recipient.{Recipient}
 use Rattle.apd_world.specs.WorldRun.{IsWorldStep}
 use Rattle.apd_world.specs.declared.step.Step.TheVariants.{Hand}
 use Rattle.apd_world.proofs.Joining.{control_joins}
-use Rattle.apd_world.proofs.access_point.World.hand.Goals as goal
+use Rattle.apd_world.proofs.world.World.hand.Goals as goal
 
 pub returns-in-Radio-clause-step : goal.returns-in-Radio-clause-step
 returns-in-Radio-clause-step g c =

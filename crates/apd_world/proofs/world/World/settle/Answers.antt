@@ -1,4 +1,4 @@
-use Rattle.apd_world.proofs.access_point.World.settle.Goals as goal
+use Rattle.apd_world.proofs.world.World.settle.Goals as goal
 
 pub loop-self-preserved : goal.loop-self-preserved
 loop-self-preserved g c = record {

@@ -1,4 +1,4 @@
-use Rattle.apd_world.proofs.access_point.World.hand_all.Goals as goal
+use Rattle.apd_world.proofs.world.World.hand_all.Goals as goal
 
 pub loop-conf-preserved : goal.loop-conf-preserved
 loop-conf-preserved g c = record {

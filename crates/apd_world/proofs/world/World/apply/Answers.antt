@@ -10,7 +10,7 @@ use Rattle.apd_world.specs.declared.step.Told.{Told}
 use Rattle.apd_world.proofs.Joining.{apply_joins, applied_same, nothing_joins}
 use Rattle.apd_world.proofs.SlotLaws.{other_queues, own_queue, place_set, queue_there, slot_is}
 use Rattle.apd_world.proofs.Standing.{safe_unchanged}
-use Rattle.apd_world.proofs.access_point.World.apply.Goals as goal
+use Rattle.apd_world.proofs.world.World.apply.Goals as goal
 
 pub returns-in_default-clause-step : goal.returns-in_default-clause-step
 returns-in_default-clause-step g c =

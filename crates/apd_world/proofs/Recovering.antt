@@ -1,0 +1,61 @@
+-- A stop leaves everything that was spoken of.
+use Rattle.std.proofs.Common.{◌≡◌, ℕ, ◌+◌, ◌≤◌, List, ◌++◌, length, take, drop, sym, ap, subst, ◌∙◌, arith, append_assoc, length-append}
+use Rattle.std.proofs.lemmas.List.{take-append-drop}
+use Rattle.apd_disk.specs.Disk.{LeavesOnly}
+use Rattle.apd_disk.proofs.Moments.{weaker}
+use Rattle.apd_mlme.specs.Happening.{Happening}
+use Rattle.apd_mlme.specs.Run.{run}
+use Rattle.apd_mlme.specs.declared.decision.Out.{Out}
+use Rattle.apd_mlme.specs.declared.decision.Recipient.{Recipient}
+use Rattle.apd_store.specs.Image.{Shows}
+use Rattle.apd_core.specs.Core.{CoreState}
+use Rattle.apd_slot.specs.Wanted.{Stations}
+use Rattle.apd_world.specs.Going.{AreUnsettled, Settles}
+use Rattle.apd_world.specs.Outside.{device_of, spoken}
+use Rattle.apd_world.specs.Proper.{IsProper, IsSafe}
+use Rattle.apd_world.specs.Recovery.{HasSpoken, LosesNothing}
+use Rattle.apd_world.specs.Run.{IsRun}
+use Rattle.apd_world.specs.Seen.{durable_of}
+use Rattle.apd_world.specs.Shown.{ShowsEither}
+use Rattle.apd_world.specs.Steps.{all_entered, all_given}
+use Rattle.apd_world.specs.declared.world.World.{World}
+use Rattle.apd_world.specs.declared.durable_core.DurableCore.{DurableCore}
+use Rattle.apd_world.specs.declared.step.Step.{Step}
+use Rattle.apd_world.specs.declared.step.Told.{Told}
+use Rattle.apd_world.proofs.DriveLaws.{shows_front}
+use Rattle.apd_world.proofs.Goings.{run-append}
+use Rattle.apd_world.proofs.Standing.{shows_flight}
+
+-- what was settled since is in what is shown, and with it all that was spoken of
+has_settled : (a b : CoreState) (hs es : List Happening) (g : Recipient → List Out) → b.confs ≡ a.confs → Settles hs es g a b → (n : ℕ) → n ≤ b.number → (c : List ℕ) → ShowsEither b c → HasSpoken a (hs ++ es) n c
+has_settled a b hs es g confs settles n most c either =
+    let flight = shows_flight b settles.left settles.decided c either in
+    let front = take flight.count settles.left in
+    let rest = drop flight.count settles.left in
+    let parts : hs ++ es ≡ (settles.settled ++ front) ++ rest =
+    settles.split ∙ ap (λ xs. settles.settled ++ xs) (sym (take-append-drop flight.count settles.left)) ∙ sym (append_assoc settles.settled front rest) in
+    let is : run b.settled b.confs front ≡ run a.settled a.confs (settles.settled ++ front) =
+    (λ i. run (settles.state i) (confs i) front) ∙ sym (run-append a.confs settles.settled front a.settled) in
+    let lengths = length-append settles.settled front in
+    let number = settles.number in
+    record {
+      front = shows_front a.settled a.confs c (hs ++ es) (settles.settled ++ front) rest parts (subst (Shows c) is flight.shows);
+      holds = omega (arith, most, number, lengths);
+    }
+
+module _ {D R : Type 0} (honest : D → Type 0) (reads : D → List ℕ) (may_leave : D → List ℕ → Type 0) (moment : D → ℕ) (left_since : D → ℕ → List ℕ → Type 0) (size : D → ℕ) where
+  -- of a durable core
+  core_has_spoken : (steps : List Step) (tolds : List Told) (from old new : DurableCore D) (hs : List Happening) → IsRun steps tolds from old → AreUnsettled hs from.core
+      → IsProper honest reads may_leave size old → IsSafe honest reads may_leave moment left_since size old new
+      → LeavesOnly moment left_since (device_of old) (device_of new) (HasSpoken from.core (hs ++ all_entered steps tolds from.core) (spoken old))
+  core_has_spoken steps tolds from old new hs run unsettled proper safe =
+      let es = all_entered steps tolds from.core in
+      weaker moment left_since (device_of old) (device_of new) (ShowsEither old.core) (HasSpoken from.core (hs ++ es) (spoken old))
+      (has_settled from.core old.core hs es (λ r. all_given r steps tolds) run.goes.confs (run.goes.settles hs unsettled) (spoken old) proper.spoken) (safe.inside proper)
+
+  -- of a world
+  pub loses_nothing : (stations : R → Stations) (faults : R → ℕ) (old new : World D R) → IsSafe honest reads may_leave moment left_since size (durable_of old) (durable_of new)
+      → IsProper honest reads may_leave size (durable_of old) → LosesNothing stations faults moment left_since old new
+  loses_nothing stations faults old new safe proper from steps tolds hs run unsettled =
+      subst (λ es. LeavesOnly moment left_since (device_of (durable_of old)) (device_of (durable_of new)) (HasSpoken (durable_of from).core (hs ++ es) (spoken (durable_of old)))) run.entered
+      (core_has_spoken steps run.insides (durable_of from) (durable_of old) (durable_of new) hs run.run unsettled proper safe)

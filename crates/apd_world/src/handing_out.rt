@@ -1,0 +1,107 @@
+//! What is settled is handed out: to each radio into the queue of its slot, and to control; and each out that waits
+//! at a slot is applied.
+ghost use Rattle.std.specs.Prelude.{◌≡◌, ◌≢◌, ◌≤◌, IsTrue, OnOk, length};
+
+use crate::fault::WorldFault;
+use crate::slots::place_of;
+use crate::step::{Step, Told};
+use crate::world::World;
+use apd_base::Bssid;
+use apd_conf::Confs;
+use apd_disk::Disk;
+use apd_mlme::Recipient;
+use apd_radio::Radio;
+
+/// What steps told, each with the recipient of what was handed out or applied.
+pub(crate) type Answers = Vec<(Recipient, Told)>;
+
+impl<D: Disk, R: Radio> World<D, R> {
+    ghost use Rattle.apd_world.specs.Following.{AreExact, AreFollowing};
+    ghost use Rattle.apd_world.specs.Proper.{IsProper};
+    ghost use Rattle.apd_world.specs.Seen.{durable_of, queue_of, slots_of};
+    ghost use Rattle.apd_world.specs.WorldRun.{IsWorldStep};
+
+    // Makes a step, and adds what it told, for a recipient. Room is made before.
+    fn answer(
+        &mut self,
+        to: Recipient,
+        step: &Step<'_>,
+        answers: &mut Answers,
+    ) -> Result<(), WorldFault>
+        ensures step { OnOk result ((told : Told) × (told ≢ Told.NoMemory) × IsWorldStep R.stations R.faults step.now told self.old self.new) }
+        ensures proper { IsProper D.honest D.reads D.may_leave D.size (durable_of self.old) → IsProper D.honest D.reads D.may_leave D.size (durable_of self.new) }
+        ensures exact { AreExact R.stations (slots_of self.old) → AreExact R.stations (slots_of self.new) }
+        ensures following { AreFollowing self.old → AreFollowing self.new }
+    {
+        if answers.reserve(1).is_err() {
+            return Err(WorldFault::NoMemory);
+        }
+        match self.step(step) {
+            Told::NoMemory => Err(WorldFault::NoMemory),
+            told => {
+                answers.push_reserved((to, told));
+                Ok(())
+            }
+        }
+    }
+
+    // Hands out to each radio, in the order of the configurations, and then to control.
+    fn hand_all(&mut self, confs: &Confs, answers: &mut Answers) -> Result<(), WorldFault>
+        ensures proper { IsProper D.honest D.reads D.may_leave D.size (durable_of self.old) → IsProper D.honest D.reads D.may_leave D.size (durable_of self.new) }
+        ensures exact { AreExact R.stations (slots_of self.old) → AreExact R.stations (slots_of self.new) }
+        ensures following { AreFollowing self.old → AreFollowing self.new }
+    {
+        for conf in confs.list() {
+            let to = Recipient::Radio(conf.bssid);
+            self.answer(to, &Step::Hand(to), answers)?;
+        }
+        self.answer(Recipient::Control, &Step::Hand(Recipient::Control), answers)
+    }
+
+    // Whether an out waits at a BSSID's slot.
+    fn has_out(&self, bssid: Bssid) -> bool
+        ensures { IsTrue result → 1 ≤ length (queue_of self.now bssid) }
+    {
+        match place_of(&self.slots, bssid) {
+            Some(place) => place < self.queues.len() && !self.queues[place].is_empty(),
+            None => false,
+        }
+    }
+
+    // Applies each out that waits at a slot, in the order of the configurations.
+    fn apply_all(&mut self, confs: &Confs, answers: &mut Answers) -> Result<(), WorldFault>
+        ensures proper { IsProper D.honest D.reads D.may_leave D.size (durable_of self.old) → IsProper D.honest D.reads D.may_leave D.size (durable_of self.new) }
+        ensures exact { AreExact R.stations (slots_of self.old) → AreExact R.stations (slots_of self.new) }
+        ensures following { AreFollowing self.old → AreFollowing self.new }
+    {
+        for conf in confs.list() {
+            while self.has_out(conf.bssid) {
+                self.answer(
+                    Recipient::Radio(conf.bssid),
+                    &Step::Apply(conf.bssid),
+                    answers,
+                )?;
+            }
+        }
+        Ok(())
+    }
+
+    /// Hands out what is settled: to each radio, in the order of the configurations, into the queue of its slot, and
+    /// to control; and then applies each out that waits at a slot, in that order. It answers what these steps told,
+    /// each with its recipient; a slot that went down, or a frame that was lost, is told so.
+    ///
+    /// Errors: `NoMemory`. The steps that were made stand.
+    pub fn hand_out(&mut self) -> Result<Vec<(Recipient, Told)>, WorldFault>
+        ensures proper { IsProper D.honest D.reads D.may_leave D.size (durable_of self.old) → IsProper D.honest D.reads D.may_leave D.size (durable_of self.new) }
+        ensures exact { AreExact R.stations (slots_of self.old) → AreExact R.stations (slots_of self.new) }
+        ensures following { AreFollowing self.old → AreFollowing self.new }
+    {
+        let Ok(confs) = self.confs().copy(self.alloc) else {
+            return Err(WorldFault::NoMemory);
+        };
+        let mut answers = Vec::new(self.alloc);
+        self.hand_all(&confs, &mut answers)?;
+        self.apply_all(&confs, &mut answers)?;
+        Ok(answers)
+    }
+}
