@@ -5,6 +5,7 @@ mod Joining
 mod ResumeLaws
 mod SlotLaws
 mod RoundLaws
+pub mod RunLaws
 mod Standing
 mod Speaking
 mod StepLaws

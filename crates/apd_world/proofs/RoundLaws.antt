@@ -619,7 +619,7 @@ module _ {D : Type 0} (honest : D → Type 0) (reads : D → List ℕ) (may_leav
       few = few_calls k.calls old k.start now new called k.made k.ended;
       four = four_calls k.calls old k.start now new k.first last called made_all;
       tolds = tolds;
-      run = record { steps_are = whole.steps_are; goes = whole.goes; spoken = whole.spoken };
+      run = record { steps_are = whole.steps_are; goes = whole.goes; heard = whole.heard; spoken = whole.spoken };
       answer_is = in_turn ∙ ap (λ a. unwrap_or (said k.first) a) (sym (k.says (last ∷ [])));
     }
 

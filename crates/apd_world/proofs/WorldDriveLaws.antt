@@ -143,7 +143,7 @@ module _ {D R : Type 0} (honest : D → Type 0) (reads : D → List ℕ) (may_le
     world_run = record {
       insides = h.insides;
       steps_are = h.steps_are;
-      run = record { steps_are = h.durable.steps_are; goes = h.durable.goes; spoken = h.durable.spoken };
+      run = record { steps_are = h.durable.steps_are; goes = h.durable.goes; heard = h.durable.heard; spoken = h.durable.spoken };
       entered = same_entered;
       control = h.control;
       queues = h.queues;

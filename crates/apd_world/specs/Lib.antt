@@ -1,6 +1,7 @@
 pub mod Applying
 pub mod Following
 pub mod Going
+pub mod Making
 pub mod Outside
 pub mod Proper
 pub mod Queueing
@@ -11,6 +12,7 @@ pub mod Run
 pub mod Seen
 pub mod Shown
 pub mod Spoken
+pub mod Starting
 pub mod Steps
 pub mod Telling
 pub mod WorldRun

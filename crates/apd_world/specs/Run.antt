@@ -2,7 +2,7 @@
 use Rattle.std.specs.Prelude.{◌≡◌, List, [], ◌∷◌}
 use Rattle.apd_core.specs.Core.{front_of}
 use Rattle.apd_world.specs.Going.{Goes}
-use Rattle.apd_world.specs.Steps.{entered, given, heard_after, all_entered, all_given}
+use Rattle.apd_world.specs.Steps.{entered, given, heard_after, all_entered, all_given, all_heard}
 use Rattle.apd_world.specs.Telling.{Tells}
 use Rattle.apd_world.specs.Outside.{IsSpoken}
 use Rattle.apd_world.specs.declared.step.Step.{Step}
@@ -26,4 +26,5 @@ AreSteps steps tolds old new = ⊥
 pub record IsRun {D : Type 0} (steps : List Step) (tolds : List Told) (old new : DurableCore D) : Type 0 where
   pub steps_are : AreSteps steps tolds old new
   pub goes : Goes (all_entered steps tolds old.core) (λ r. all_given r steps tolds) old.core new.core
+  pub heard : new.core.heard ≡ all_heard steps tolds old.core
   pub spoken : IsSpoken old → IsSpoken new

@@ -63,6 +63,10 @@ nothing_yet s = record { happened = []; state = front_of s; heard = s.heard }
 abbrev pub all_entered : List Step → List Told → CoreState → List Happening
 all_entered steps tolds s = (account s.confs steps tolds (nothing_yet s)).happened
 
+-- the moments at which stations were heard, after them
+abbrev pub all_heard : List Step → List Told → CoreState → LastHeard
+all_heard steps tolds s = (account s.confs steps tolds (nothing_yet s)).heard
+
 -- what a recipient is given by a step
 abbrev pub given : Recipient → Step → Told → List Out
 given r (Hand q) (Handed outs) = if is_same r q then outs else []

@@ -1,6 +1,11 @@
 //! What is settled is handed out: to each radio into the queue of its slot, and to control; and each out that waits
 //! at a slot is applied.
-ghost use Rattle.std.specs.Prelude.{◌≡◌, ◌≢◌, ◌≤◌, IsTrue, OnOk, length};
+ghost use Rattle.std.specs.Prelude.{◌≡◌, ◌≢◌, ◌≤◌, IfOk, IsTrue, List, OnErr, OnOk, [], ◌∷◌, false, length};
+ghost use Rattle.apd_disk.specs.Disk.{LeavesOnly};
+ghost use Rattle.apd_mlme.specs.Happening.{Happening};
+ghost use Rattle.apd_world.specs.Going.{AreUnsettled};
+ghost use Rattle.apd_world.specs.Outside.{device_of};
+ghost use Rattle.apd_world.specs.Shown.{ShowsFront};
 
 use crate::fault::WorldFault;
 use crate::slots::place_of;
@@ -17,8 +22,10 @@ pub(crate) type Answers = Vec<(Recipient, Told)>;
 
 impl<D: Disk, R: Radio> World<D, R> {
     ghost use Rattle.apd_world.specs.Following.{AreExact, AreFollowing};
+    ghost use Rattle.apd_world.specs.Making.{AreAllApplied, AreAnswered, SomeAreQuietlyMade};
     ghost use Rattle.apd_world.specs.Proper.{IsProper};
     ghost use Rattle.apd_world.specs.Seen.{durable_of, queue_of, slots_of};
+    ghost use Rattle.apd_world.specs.Starting.{HasGoneOn, IsHandedOut, IsHanding, OnlyHands, hands, recipient_of};
     ghost use Rattle.apd_world.specs.WorldRun.{IsWorldStep};
 
     // Makes a step, and adds what it told, for a recipient. Room is made before.
@@ -29,10 +36,11 @@ impl<D: Disk, R: Radio> World<D, R> {
         answers: &mut Answers,
     ) -> Result<(), WorldFault>
         ensures step { OnOk result ((told : Told) × (told ≢ Told.NoMemory) × IsWorldStep R.stations R.faults step.now told self.old self.new) }
-        ensures proper { IsProper D.honest D.reads D.may_leave D.size (durable_of self.old) → IsProper D.honest D.reads D.may_leave D.size (durable_of self.new) }
-        ensures exact { AreExact R.stations (slots_of self.old) → AreExact R.stations (slots_of self.new) }
-        ensures following { AreFollowing self.old → AreFollowing self.new }
+        ensures ok { OnOk result (IsHanding step.now → to ≡ recipient_of step.now → AreAnswered D.honest D.reads D.may_leave D.moment D.left_since D.size R.stations R.faults (step.now ∷ []) answers.old.items answers.new.items self.old self.new) }
+        ensures err { OnErr result (IsHanding step.now → SomeAreQuietlyMade D.honest D.reads D.may_leave D.moment D.left_since D.size R.stations R.faults self.old self.new) }
+        ensures only { IsHanding step.now → OnlyHands (durable_of self.old) (durable_of self.new) }
     {
+        self.durable.stops();
         if answers.reserve(1).is_err() {
             return Err(WorldFault::NoMemory);
         }
@@ -47,10 +55,11 @@ impl<D: Disk, R: Radio> World<D, R> {
 
     // Hands out to each radio, in the order of the configurations, and then to control.
     fn hand_all(&mut self, confs: &Confs, answers: &mut Answers) -> Result<(), WorldFault>
-        ensures proper { IsProper D.honest D.reads D.may_leave D.size (durable_of self.old) → IsProper D.honest D.reads D.may_leave D.size (durable_of self.new) }
-        ensures exact { AreExact R.stations (slots_of self.old) → AreExact R.stations (slots_of self.new) }
-        ensures following { AreFollowing self.old → AreFollowing self.new }
+        ensures ok { OnOk result (AreAnswered D.honest D.reads D.may_leave D.moment D.left_since D.size R.stations R.faults (hands confs.now) answers.old.items answers.new.items self.old self.new) }
+        ensures err { OnErr result (SomeAreQuietlyMade D.honest D.reads D.may_leave D.moment D.left_since D.size R.stations R.faults self.old self.new) }
+        ensures only { OnlyHands (durable_of self.old) (durable_of self.new) }
     {
+        self.durable.stops();
         for conf in confs.list() {
             let to = Recipient::Radio(conf.bssid);
             self.answer(to, &Step::Hand(to), answers)?;
@@ -60,7 +69,8 @@ impl<D: Disk, R: Radio> World<D, R> {
 
     // Whether an out waits at a BSSID's slot.
     fn has_out(&self, bssid: Bssid) -> bool
-        ensures { IsTrue result → 1 ≤ length (queue_of self.now bssid) }
+        ensures some { IsTrue result → 1 ≤ length (queue_of self.now bssid) }
+        ensures none { result ≡ false → queue_of self.now bssid ≡ [] }
     {
         match place_of(&self.slots, bssid) {
             Some(place) => place < self.queues.len() && !self.queues[place].is_empty(),
@@ -70,10 +80,11 @@ impl<D: Disk, R: Radio> World<D, R> {
 
     // Applies each out that waits at a slot, in the order of the configurations.
     fn apply_all(&mut self, confs: &Confs, answers: &mut Answers) -> Result<(), WorldFault>
-        ensures proper { IsProper D.honest D.reads D.may_leave D.size (durable_of self.old) → IsProper D.honest D.reads D.may_leave D.size (durable_of self.new) }
-        ensures exact { AreExact R.stations (slots_of self.old) → AreExact R.stations (slots_of self.new) }
-        ensures following { AreFollowing self.old → AreFollowing self.new }
+        ensures ok { OnOk result (AreAllApplied D.honest D.reads D.may_leave D.moment D.left_since D.size R.stations R.faults confs.now answers.old.items answers.new.items self.old self.new) }
+        ensures err { OnErr result (SomeAreQuietlyMade D.honest D.reads D.may_leave D.moment D.left_since D.size R.stations R.faults self.old self.new) }
+        ensures only { OnlyHands (durable_of self.old) (durable_of self.new) }
     {
+        self.durable.stops();
         for conf in confs.list() {
             while self.has_out(conf.bssid) {
                 self.answer(
@@ -92,10 +103,16 @@ impl<D: Disk, R: Radio> World<D, R> {
     ///
     /// Errors: `NoMemory`. The steps that were made stand.
     pub fn hand_out(&mut self) -> Result<Vec<(Recipient, Told)>, WorldFault>
+        ensures handed { IfOk result (λ answers. IsHandedOut R.stations R.faults [] answers.items self.old self.new) }
+        ensures err { OnErr result (HasGoneOn R.stations R.faults self.old self.new) }
+        ensures only { OnlyHands (durable_of self.old) (durable_of self.new) }
         ensures proper { IsProper D.honest D.reads D.may_leave D.size (durable_of self.old) → IsProper D.honest D.reads D.may_leave D.size (durable_of self.new) }
+        ensures any_moment { IsProper D.honest D.reads D.may_leave D.size (durable_of self.old) → (hs : List Happening) → AreUnsettled hs (durable_of self.old).core
+            → LeavesOnly D.moment D.left_since (device_of (durable_of self.old)) (device_of (durable_of self.new)) (ShowsFront (durable_of self.old).core.settled (durable_of self.old).core.confs hs) }
         ensures exact { AreExact R.stations (slots_of self.old) → AreExact R.stations (slots_of self.new) }
         ensures following { AreFollowing self.old → AreFollowing self.new }
     {
+        self.durable.stops();
         let Ok(confs) = self.confs().copy(self.alloc) else {
             return Err(WorldFault::NoMemory);
         };

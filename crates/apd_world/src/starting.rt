@@ -1,5 +1,5 @@
 //! A world started: its interfaces are configured, and what that brings about is committed, handed out and applied.
-ghost use Rattle.std.specs.Prelude.{◌≡◌, ◌<◌, List, []};
+ghost use Rattle.std.specs.Prelude.{◌≡◌, ◌<◌, IfOk, List, OnErr, OnOk, []};
 ghost use Rattle.apd_disk.specs.Disk.{LeavesOnly};
 ghost use Rattle.apd_mlme.specs.Happening.{Happening};
 ghost use Rattle.apd_world.specs.Going.{AreUnsettled, Goes};
@@ -18,15 +18,18 @@ use apd_store::StoreFault;
 
 impl<D: Disk, R: Radio> World<D, R> {
     ghost use Rattle.apd_world.specs.Following.{AreExact, AreFollowing};
+    ghost use Rattle.apd_world.specs.Making.{AreAccepted, AreSettled, SomeAreQuietlyMade, SomeAreSafelyMade};
     ghost use Rattle.apd_world.specs.Proper.{IsProper};
     ghost use Rattle.apd_world.specs.Round.{IsRound};
     ghost use Rattle.apd_world.specs.Seen.{durable_of, slots_of};
+    ghost use Rattle.apd_world.specs.Starting.{HasGoneOn, IsFlushed, IsStarted, IsWorldRound, LeavesFronts};
     ghost use Rattle.apd_world.specs.Telling.{HasNoBatch, HasNoCall, HasNoReceipt};
     ghost use Rattle.apd_world.specs.WorldRun.{RestStays};
 
     /// Commits a batch by one round of the durable core's steps; the slots and their queues stay.
     pub fn commit(&mut self) -> Commit
         ensures round { IsRound result (durable_of self.old) (durable_of self.new) }
+        ensures run { IsWorldRound R.stations R.faults result self.old self.new }
         ensures rest_stays { RestStays self.old self.new }
         ensures settled { result ≡ Commit.Settled → ((durable_of self.old).core.number < (durable_of self.new).core.number) × ((durable_of self.new).core.flight ≡ 0) }
         ensures nothing { result ≡ Commit.Nothing → HasNoBatch (durable_of self.old) × HasNoCall (durable_of self.old) × HasNoReceipt (durable_of self.old) × (durable_of self.new ≡ durable_of self.old) }
@@ -43,10 +46,10 @@ impl<D: Disk, R: Radio> World<D, R> {
 
     // Accepts each interface's configuration, with its lists, in order. One that is no entry is passed over.
     fn configure(&mut self) -> Result<(), WorldFault>
-        ensures proper { IsProper D.honest D.reads D.may_leave D.size (durable_of self.old) → IsProper D.honest D.reads D.may_leave D.size (durable_of self.new) }
-        ensures exact { AreExact R.stations (slots_of self.old) → AreExact R.stations (slots_of self.new) }
-        ensures following { AreFollowing self.old → AreFollowing self.new }
+        ensures ok { OnOk result (AreAccepted D.honest D.reads D.may_leave D.moment D.left_since D.size R.stations R.faults (durable_of self.old).core.confs self.old self.new) }
+        ensures err { OnErr result (SomeAreSafelyMade D.honest D.reads D.may_leave D.moment D.left_since D.size R.stations R.faults self.old self.new) }
     {
+        self.durable.stops();
         let Ok(confs) = self.confs().copy(self.alloc) else {
             return Err(WorldFault::NoMemory);
         };
@@ -65,10 +68,10 @@ impl<D: Disk, R: Radio> World<D, R> {
 
     // Commits until nothing is unsettled.
     fn settle(&mut self) -> Result<(), WorldFault>
-        ensures proper { IsProper D.honest D.reads D.may_leave D.size (durable_of self.old) → IsProper D.honest D.reads D.may_leave D.size (durable_of self.new) }
-        ensures exact { AreExact R.stations (slots_of self.old) → AreExact R.stations (slots_of self.new) }
-        ensures following { AreFollowing self.old → AreFollowing self.new }
+        ensures ok { OnOk result (AreSettled D.honest D.reads D.may_leave D.moment D.left_since D.size R.stations R.faults self.old self.new) }
+        ensures err { OnErr result (SomeAreQuietlyMade D.honest D.reads D.may_leave D.moment D.left_since D.size R.stations R.faults self.old self.new) }
     {
+        self.durable.stops();
         loop {
             match self.commit() {
                 Commit::Settled => {}
@@ -88,7 +91,11 @@ impl<D: Disk, R: Radio> World<D, R> {
     /// Errors: `Store` where the store refuses, with `Failed` also where the core has failed; `NoMemory`. The steps
     /// that were made stand.
     pub fn flush(&mut self) -> Result<Vec<(Recipient, Told)>, WorldFault>
+        ensures flushed { IfOk result (λ answers. IsFlushed R.stations R.faults [] answers.items self.old self.new) }
+        ensures err { OnErr result (HasGoneOn R.stations R.faults self.old self.new) }
         ensures proper { IsProper D.honest D.reads D.may_leave D.size (durable_of self.old) → IsProper D.honest D.reads D.may_leave D.size (durable_of self.new) }
+        ensures any_moment { IsProper D.honest D.reads D.may_leave D.size (durable_of self.old) → (hs : List Happening) → AreUnsettled hs (durable_of self.old).core
+            → LeavesOnly D.moment D.left_since (device_of (durable_of self.old)) (device_of (durable_of self.new)) (ShowsFront (durable_of self.old).core.settled (durable_of self.old).core.confs hs) }
         ensures exact { AreExact R.stations (slots_of self.old) → AreExact R.stations (slots_of self.new) }
         ensures following { AreFollowing self.old → AreFollowing self.new }
     {
@@ -103,7 +110,11 @@ impl<D: Disk, R: Radio> World<D, R> {
     /// Errors: `Store` where the store refuses, with `Failed` also where the core has failed; `NoMemory`. The steps
     /// that were made stand.
     pub fn start(&mut self) -> Result<Vec<(Recipient, Told)>, WorldFault>
+        ensures started { IfOk result (λ answers. IsStarted R.stations R.faults answers.items self.old self.new) }
+        ensures err { OnErr result (HasGoneOn R.stations R.faults self.old self.new) }
         ensures proper { IsProper D.honest D.reads D.may_leave D.size (durable_of self.old) → IsProper D.honest D.reads D.may_leave D.size (durable_of self.new) }
+        ensures any_moment { IsProper D.honest D.reads D.may_leave D.size (durable_of self.old) → (hs : List Happening) → AreUnsettled hs (durable_of self.old).core
+            → LeavesFronts D.moment D.left_since R.stations R.faults hs self.old self.new }
         ensures exact { AreExact R.stations (slots_of self.old) → AreExact R.stations (slots_of self.new) }
         ensures following { AreFollowing self.old → AreFollowing self.new }
     {

@@ -1,13 +1,23 @@
-use Rattle.std.proofs.Common.{length}
-use Rattle.apd_world.specs.Seen.{queue_of}
-use Rattle.apd_world.proofs.StartLaws.{Keeps}
+use Rattle.std.proofs.Common.{length, take}
+use Rattle.apd_world.specs.Making.{AreAllApplied}
+use Rattle.apd_world.specs.Seen.{durable_of, queue_of}
+use Rattle.apd_world.specs.Starting.{OnlyHands}
+use Rattle.apd_world.proofs.RunLaws.{IsApplying}
 use Rattle.apd_world.proofs.world.World.apply_all.Given as goal
 
+-- at so many interfaces no out waits
 abbrev pub invariant-loop-conf : goal.invariant-loop-conf
-invariant-loop-conf g l = Keeps g.D.Disk.honest g.D.Disk.reads g.D.Disk.may_leave g.D.Disk.size g.R.Radio.stations l.fn.self l.self
+invariant-loop-conf g l = record {
+  applied : AreAllApplied g.D.Disk.honest g.D.Disk.reads g.D.Disk.may_leave g.D.Disk.moment g.D.Disk.left_since g.D.Disk.size g.R.Radio.stations g.R.Radio.faults (take l.conf-index l.conf-items) l.fn.answers.items l.answers.items l.fn.self l.self;
+  only : OnlyHands (durable_of l.fn.self) (durable_of l.self);
+}
 
+-- and at the next some were applied
 abbrev pub invariant-loop-conf-2 : goal.invariant-loop-conf-2
-invariant-loop-conf-2 g l = Keeps g.D.Disk.honest g.D.Disk.reads g.D.Disk.may_leave g.D.Disk.size g.R.Radio.stations l.fn.self l.self
+invariant-loop-conf-2 g l = record {
+  applying : IsApplying g.D.Disk.honest g.D.Disk.reads g.D.Disk.may_leave g.D.Disk.moment g.D.Disk.left_since g.D.Disk.size g.R.Radio.stations g.R.Radio.faults (take l.conf-index l.conf-items) l.conf.bssid l.fn.answers.items l.answers.items l.fn.self l.self;
+  only : OnlyHands (durable_of l.fn.self) (durable_of l.self);
+}
 
 -- what waits
 abbrev pub decreases-loop-conf-2 : goal.decreases-loop-conf-2

@@ -1,6 +1,17 @@
 use Rattle.std.proofs.Common.{refl}
+use Rattle.apd_world.proofs.RunLaws.{round_lifted}
 use Rattle.apd_world.proofs.StartLaws.{rest_following}
 use Rattle.apd_world.proofs.world.World.commit.Goals as goal
+
+pub returns-clause-run : goal.returns-clause-run
+returns-clause-run g c =
+    let round = c.commit.ensures.round in
+    record {
+      calls = round.calls;
+      tolds = round.tolds;
+      run = round_lifted g.R.Radio.stations g.R.Radio.faults round.calls round.tolds c.args.self.now c.commit.new.self round.run;
+      answer_is = round.answer_is;
+    }
 
 pub returns-clause-following : goal.returns-clause-following
 returns-clause-following g c =

@@ -1,11 +1,19 @@
+use Rattle.std.proofs.Common.{[], ◌∷◌, ap}
+use Rattle.apd_world.proofs.RunLaws.{accepted_more, asked_of, none_accepted, none_made, one_made, some_safe}
 use Rattle.apd_world.proofs.world.World.configure.Goals as goal
 
-pub loop-conf-preserved : goal.loop-conf-preserved
-loop-conf-preserved g c = record {
-  proper = λ p. c.step.ensures.safe.proper (c.loop-conf.invariant.proper p);
-  exact = λ all. c.step.ensures.exact (c.loop-conf.invariant.exact all);
-  following = λ f. c.step.ensures.following (c.loop-conf.invariant.following f);
-}
+pub loop-conf-init : goal.loop-conf-init
+loop-conf-init g c = none_accepted g.D.Disk.honest g.D.Disk.reads g.D.Disk.may_leave g.D.Disk.moment g.D.Disk.left_since g.D.Disk.size g.R.Radio.stations g.R.Radio.faults c.args.self.now (none_made g.D.Disk.honest g.D.Disk.reads g.D.Disk.may_leave g.D.Disk.moment g.D.Disk.left_since g.D.Disk.size g.R.Radio.stations g.R.Radio.faults c.args.self.now c.stops.ensures)
 
-pub returns-in-NoMemory-clause-proper : goal.returns-in-NoMemory-clause-proper
-returns-in-NoMemory-clause-proper g c = λ was. c.step.ensures.safe.proper (c.loop-conf.invariant.proper was)
+pub loop-conf-preserved : goal.loop-conf-preserved
+loop-conf-preserved g c =
+    accepted_more g.D.Disk.honest g.D.Disk.reads g.D.Disk.may_leave g.D.Disk.moment g.D.Disk.left_since g.D.Disk.size g.R.Radio.stations g.R.Radio.faults c.list-conf-items.result.now c.loop-conf.conf-index c.conf-item.result _ c.step.result c.args.self.now c.loop-conf.self c.step.new.self
+    c.loop-conf-test.true c.loop-conf.invariant (ap asked_of c.conf-item.is) c.in_default-step.not-NoMemory c.step.ensures.step c.step.ensures.safe
+
+pub returns-in_default-clause-err : goal.returns-in_default-clause-err
+returns-in_default-clause-err g c = record { steps = []; tolds = []; made = none_made g.D.Disk.honest g.D.Disk.reads g.D.Disk.may_leave g.D.Disk.moment g.D.Disk.left_since g.D.Disk.size g.R.Radio.stations g.R.Radio.faults c.args.self.now c.stops.ensures }
+
+pub returns-in-NoMemory-clause-err : goal.returns-in-NoMemory-clause-err
+returns-in-NoMemory-clause-err g c =
+    some_safe g.D.Disk.honest g.D.Disk.reads g.D.Disk.may_leave g.D.Disk.moment g.D.Disk.left_since g.D.Disk.size g.R.Radio.stations g.R.Radio.faults c.loop-conf.invariant.steps c.loop-conf.invariant.tolds c.args.self.now c.loop-conf.self c.step.new.self c.loop-conf.invariant.made
+    (record { steps = _ ∷ []; tolds = c.step.result ∷ []; made = one_made g.D.Disk.honest g.D.Disk.reads g.D.Disk.may_leave g.D.Disk.moment g.D.Disk.left_since g.D.Disk.size g.R.Radio.stations g.R.Radio.faults _ c.step.result c.loop-conf.self c.step.new.self c.step.ensures.step c.step.ensures.safe })

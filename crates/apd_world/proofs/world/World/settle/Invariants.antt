@@ -1,10 +1,10 @@
 use Rattle.std.proofs.Common.{length}
 use Rattle.apd_world.specs.Seen.{durable_of}
-use Rattle.apd_world.proofs.StartLaws.{Keeps}
+use Rattle.apd_world.proofs.RunLaws.{AreRounds}
 use Rattle.apd_world.proofs.world.World.settle.Given as goal
 
 abbrev pub invariant-loop-self : goal.invariant-loop-self
-invariant-loop-self g l = Keeps g.D.Disk.honest g.D.Disk.reads g.D.Disk.may_leave g.D.Disk.size g.R.Radio.stations l.fn.self l.self
+invariant-loop-self g l = AreRounds g.D.Disk.honest g.D.Disk.reads g.D.Disk.may_leave g.D.Disk.moment g.D.Disk.left_since g.D.Disk.size g.R.Radio.stations g.R.Radio.faults l.fn.self l.self
 
 -- what is not settled
 abbrev pub decreases-loop-self : goal.decreases-loop-self

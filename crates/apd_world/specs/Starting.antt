@@ -1,0 +1,120 @@
+-- How a world is started, is flushed, and hands out: the steps that are made, and what they tell (own).
+use Rattle.std.specs.Prelude.{◌≡◌, ◌≢◌, ℕ, List, [], ◌∷◌, ◌++◌, map, replicate, length, take, Option, None, Some, Result, Ok}
+use Rattle.std.specs.List.{All, flat_map}
+use Rattle.apd_conf.specs.declared.conf.Conf.{Conf}
+use Rattle.apd_disk.specs.Disk.{LeavesOnly}
+use Rattle.apd_mlme.specs.Happening.{Happening, Configure}
+use Rattle.apd_mlme.specs.declared.decision.Recipient.{Recipient}
+use Rattle.apd_mlme.specs.declared.decision.Recipient.TheVariants.{Radio, Control}
+use Rattle.apd_core.specs.Requests.{said_by}
+use Rattle.apd_core.specs.declared.input.QuietReason.{QuietReason}
+use Rattle.apd_slot.specs.Wanted.{Stations}
+use Rattle.apd_world.specs.Outside.{device_of}
+use Rattle.apd_world.specs.Round.{answer_of, round}
+use Rattle.apd_world.specs.Seen.{durable_of, queue_of}
+use Rattle.apd_world.specs.Shown.{ShowsFront}
+use Rattle.apd_world.specs.Steps.{all_entered}
+use Rattle.apd_world.specs.Telling.{HasNoBatch, HasNoCall, HasNoReceipt}
+use Rattle.apd_world.specs.WorldRun.{IsWorldRun}
+use Rattle.apd_world.specs.declared.durable_core.DurableCore.{DurableCore}
+use Rattle.apd_world.specs.declared.step.Commit.{Commit}
+use Rattle.apd_world.specs.declared.step.Step.{Step}
+use Rattle.apd_world.specs.declared.step.Step.TheVariants.{Accept, Hand, Apply}
+use Rattle.apd_world.specs.declared.step.Told.{Told}
+use Rattle.apd_world.specs.declared.step.Told.TheVariants.{NoMemory}
+use Rattle.apd_world.specs.declared.world.World.{World}
+
+-- ---- the steps
+-- what a step asks to be accepted
+abbrev pub asked : Step → Option (Option (Result Happening QuietReason))
+asked (Accept i m) = Some (said_by i)
+asked step = None
+
+-- each interface is to start with its lists, in order; at any moment, since no row is put
+abbrev pub AreConfiguring : List Conf → List Step → Type 0
+AreConfiguring confs steps = map asked steps ≡ map (λ conf. Some (Some (Ok (Configure conf.bssid conf.accept conf.deny)))) confs
+
+-- rounds, one after another, each of so many calls
+abbrev pub rounds : List ℕ → List Step
+rounds counts = flat_map round counts
+
+-- to each radio, in order, and then to control
+abbrev pub radio_hands : List Conf → List Step
+radio_hands confs = map (λ conf. Hand (Radio conf.bssid)) confs
+
+abbrev pub hands : List Conf → List Step
+hands confs = radio_hands confs ++ Hand Control ∷ []
+
+-- at each radio, in order, so many outs are applied
+abbrev pub applies : List Conf → List ℕ → List Step
+applies (conf ∷ confs) (count ∷ counts) = replicate count (Apply conf.bssid) ++ applies confs counts
+applies confs counts = []
+
+-- for whom a step hands out or applies
+abbrev pub recipient_of : Step → Recipient
+recipient_of (Hand r) = r
+recipient_of (Apply b) = Radio b
+recipient_of step = Control
+
+-- whether a step hands out, or applies what was handed out
+abbrev pub IsHanding : Step → Type 0
+IsHanding (Hand r) = Unit {0}
+IsHanding (Apply b) = Unit {0}
+IsHanding step = ⊥
+
+-- ---- what they do
+-- no batch, no call and no receipt is left
+pub record IsAtRest {D : Type 0} (w : DurableCore D) : Type 0 where
+  pub batch : HasNoBatch w
+  pub call : HasNoCall w
+  pub receipt : HasNoReceipt w
+
+-- nothing of a durable core changes but which outs it holds
+abbrev pub OnlyHands : {D : Type 0} → DurableCore D → DurableCore D → Type 0
+OnlyHands old new = new ≡ record old { core = record old.core { held = new.core.held } }
+
+-- So many calls of the store are made by a round, which comes to this.
+pub record IsWorldRound {D R : Type 0} (stations : R → Stations) (faults : R → ℕ) (answer : Commit) (old new : World D R) : Type 0 where
+  pub calls : ℕ
+  pub tolds : List Told
+  pub run : IsWorldRun stations faults (round calls) tolds old new
+  pub answer_is : answer ≡ answer_of tolds
+
+-- After these first steps what is settled is handed out, to each radio and then to control, and each out is applied. The answers
+-- are what these last steps told, each with its recipient, and none met want of memory; and no queue of a configured interface has
+-- an out.
+pub record IsHandedOut {D R : Type 0} (stations : R → Stations) (faults : R → ℕ) (first : List Step) (answers : List (Recipient × Told)) (old new : World D R) : Type 0 where
+  pub counts : List ℕ
+  pub tolds : List Told
+  pub run : IsWorldRun stations faults (first ++ (hands (durable_of old).core.confs ++ applies (durable_of old).core.confs counts)) (tolds ++ map (λ a. a.1) answers) old new
+  pub recipients : map (λ a. a.0) answers ≡ map recipient_of (hands (durable_of old).core.confs ++ applies (durable_of old).core.confs counts)
+  pub told : All (λ a. a.1 ≢ NoMemory) answers
+  pub each : length counts ≡ length (durable_of old).core.confs
+  pub empty : All (λ conf. queue_of new conf.bssid ≡ []) (durable_of old).core.confs
+
+-- After these first steps batches are committed until every entry is settled, and what is settled is handed out.
+pub record IsFlushed {D R : Type 0} (stations : R → Stations) (faults : R → ℕ) (first : List Step) (answers : List (Recipient × Told)) (old new : World D R) : Type 0 where
+  pub calls : List ℕ
+  pub handed : IsHandedOut stations faults (first ++ rounds calls) answers old new
+  pub settled : (durable_of new).core.unsettled ≡ []
+  pub rests : IsAtRest (durable_of new)
+
+-- Each interface is configured, in order, where none met want of memory, and what that brings about is flushed.
+pub record IsStarted {D R : Type 0} (stations : R → Stations) (faults : R → ℕ) (answers : List (Recipient × Told)) (old new : World D R) : Type 0 where
+  pub first : List Step
+  pub configuring : AreConfiguring (durable_of old).core.confs first
+  pub flushed : IsFlushed stations faults first answers old new
+  pub accepted : All (λ told. told ≢ NoMemory) (take (length first) flushed.handed.tolds)
+
+-- Some steps were made.
+pub record HasGoneOn {D R : Type 0} (stations : R → Stations) (faults : R → ℕ) (old new : World D R) : Type 0 where
+  pub steps : List Step
+  pub tolds : List Told
+  pub run : IsWorldRun stations faults steps tolds old new
+
+-- Some steps were, and a stop at any moment since leaves an image of the table after a front of these, which were not settled, and then
+-- of what happened by the steps.
+pub record LeavesFronts {D R : Type 0} (moment : D → ℕ) (left_since : D → ℕ → List ℕ → Type 0) (stations : R → Stations) (faults : R → ℕ) (hs : List Happening) (old new : World D R) : Type 0 where
+  pub gone_on : HasGoneOn stations faults old new
+  pub leaves : LeavesOnly moment left_since (device_of (durable_of old)) (device_of (durable_of new))
+      (ShowsFront (durable_of old).core.settled (durable_of old).core.confs (hs ++ all_entered gone_on.steps gone_on.tolds (durable_of old).core))
