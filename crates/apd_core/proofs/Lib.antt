@@ -1,6 +1,5 @@
 pub mod Accepting
 pub mod AllHeard
-pub mod Behind
 pub mod CoreLaws
 pub mod Found
 pub mod Hearing
@@ -13,6 +12,7 @@ pub mod Places
 pub mod Publishing
 pub mod Queues
 pub mod SameChanges
+pub mod Searching
 pub mod Settling
 pub mod Silence
 pub mod Taking

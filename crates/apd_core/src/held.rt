@@ -4,6 +4,7 @@ ghost use Rattle.std.specs.FinMap as maps;
 ghost use Rattle.std.specs.List.{AllByRecursion, position};
 ghost use Rattle.std.specs.Ordering.{eq_by_cmp};
 ghost use Rattle.apd_base.specs.Addr.{bssid_cmp};
+ghost use Rattle.apd_base.specs.declared.limits.TheConstants.{MAX_BSS};
 ghost use Rattle.apd_mlme.specs.Truth.{AreThere};
 ghost use Rattle.apd_core.specs.Held.{queue_place, queue_of, no_queues, no_outs, queued, with_outs, up_to, beyond, after_given, greatest, after_hand, after_settled, IsInOrder, AreHeld};
 ghost use Rattle.apd_core.specs.TakingBack.{before, without, MayFollow};
@@ -46,7 +47,7 @@ fn radio_place(confs: &[Conf], bssid: Bssid) -> Option<usize>
 // The place of a recipient's queue.
 fn place_of(confs: &Confs, to: Recipient) -> Option<usize>
     ensures place { result ≡ queue_place confs.now to }
-    ensures small { IfSome result (λ place. place ≤ 8) }
+    ensures small { IfSome result (λ place. place ≤ MAX_BSS) }
 {
     match to {
         Recipient::Radio(bssid) => radio_place(confs.list(), bssid),
@@ -116,6 +117,7 @@ fn give(
     ensures remaining { OnOk result (remaining.new ≡ after_given remaining.old (up_to number queue.old)) }
     ensures given { OnOk result (given.new ≡ greatest given.old (up_to number queue.old)) }
     ensures err { OnErr result ((queue.new ≡ queue.old) × (remaining.new ≡ remaining.old) × (given.new ≡ given.old)) }
+    ensures lacks { OnErr result (1 ≤ length (up_to number queue.old)) }
 {
     let mut outs = Vec::with_capacity(alloc, queue.count_up_to(number))?;
     while let Some((of, out)) = queue.pop_up_to(number) {
@@ -214,6 +216,7 @@ impl Held {
         ensures outs { IfOk result (λ outs. outs.items ≡ map (λ x. x.1) (up_to number (queue_of confs.now self.old to))) }
         ensures handed { OnOk result (self.new ≡ after_hand confs.now number to self.old) }
         ensures err { OnErr result (self.new ≡ self.old) }
+        ensures lacks { OnErr result (1 ≤ length (up_to number (queue_of confs.now self.old to))) }
     {
         let Some(place) = place_of(confs, to) else {
             return Ok(Vec::new(alloc));

@@ -10,7 +10,7 @@ ghost use Rattle.apd_mlme.specs.Happening.{happening};
 ghost use Rattle.apd_core.specs.Heard.{due, heard_by, heard_by_change, heard_by_changes, heard_from, is_due, is_too_long, AreHeardAt};
 ghost use Rattle.apd_core.specs.Room.{heard_at, is_put, puts};
 
-use apd_base::{Addr, Bssid, Moment, rows};
+use apd_base::{Addr, Bssid, Moment};
 use apd_conf::{Conf, Confs};
 use apd_mlme::Event;
 use apd_record::Change;
@@ -89,15 +89,12 @@ pub(crate) fn puts(changes: &[Change]) -> usize
     changes.iter().filter(|change| is_put(change)).count()
 }
 
-/// The place of a key, or the one where it would go. One above the last key needs no search.
-fn place(rows: &[((Bssid, Addr), Moment)], key: &(Bssid, Addr)) -> Result<usize, usize>
-    ensures exact { T (map.is_sorted station_cmp rows.now) → result ≡ place station_cmp key.now rows.now }
+/// The place of a key, or the one where it would go, found by halves.
+fn place(rows: &[((Bssid, Addr), Moment)], key: (Bssid, Addr)) -> Result<usize, usize>
+    ensures exact { T (map.is_sorted station_cmp rows.now) → result ≡ place station_cmp key rows.now }
     ensures bound { IsSearchInRange result (length rows.now) }
 {
-    match rows.last() {
-        Some(last) if key.cmp(&last.0).is_gt() => Err(rows.len()),
-        Some(_) | None => rows::place(rows, key),
-    }
+    rows.binary_search_by_key(&key, |row| row.0)
 }
 
 impl Moments {
@@ -137,7 +134,10 @@ impl Moments {
     fn get(&self, bssid: Bssid, addr: Addr) -> Option<Moment>
         ensures { result ≡ map.get self.now.heard (bssid, addr) }
     {
-        rows::value(&self.rows, &(bssid, addr)).copied()
+        match place(&self.rows, (bssid, addr)) {
+            Ok(i) => Some(self.rows[i].1),
+            Err(_) => None,
+        }
     }
 
     /// Makes room for so many rows more, or leaves all as it was.
@@ -156,7 +156,7 @@ impl Moments {
         ensures room { 1 ≤ self.old.room → IsOk result }
         ensures left { self.old.room ≤ self.new.room + 1 }
     {
-        match place(&self.rows, &(bssid, addr)) {
+        match place(&self.rows, (bssid, addr)) {
             Ok(i) => {
                 self.rows[i] = ((bssid, addr), moment);
                 Ok(())
@@ -179,7 +179,7 @@ impl Moments {
         ensures heard { self.new.heard ≡ map.remove self.old.heard (bssid, addr) }
         ensures room { self.old.room ≤ self.new.room }
     {
-        if let Ok(i) = rows::place(&self.rows, &(bssid, addr)) {
+        if let Ok(i) = place(&self.rows, (bssid, addr)) {
             self.rows.remove(i);
         }
     }

@@ -80,8 +80,9 @@ impl Model for Core {
 }
 
 impl Core {
-    ghost use Rattle.apd_core.specs.Core.{accepted, after_request, new_core, answer_to, entered_by, entered_state, front_of, is_busy, is_stopped, last_of, with_entry};
+    ghost use Rattle.apd_core.specs.Core.{accepted, after_request, new_core, answer_to, entered_by, entered_state, front_of, is_busy, is_stopped, last_of, with_entry, IsDecided};
     ghost use Rattle.apd_core.specs.Invariant.{IsCore};
+    ghost use Rattle.apd_core.specs.Requests.{unfit};
     ghost use Rattle.apd_core.specs.Heard.{AreHeardAt};
 
     /// A core of a table and of configurations, with no entry: every station with a row was heard at this
@@ -166,7 +167,8 @@ impl Core {
     }
 
     /// Accepts a request at a moment: the first answer that holds. Only an entry changes anything but when
-    /// stations were heard. Where memory is refused all is as it was.
+    /// stations were heard. Where memory is refused all is as it was; it takes memory only where there is a
+    /// verdict on what happens by the request.
     pub fn accept<'a>(
         &mut self,
         input: Input<'a>,
@@ -176,6 +178,7 @@ impl Core {
         ensures ok { OnOk result (self.new ≡ after_request self.old moment input.entry) }
         ensures fit { IfOk result (λ answer. AreFit (front_of self.old) self.old.confs (entered_by answer (happening_of self.old.confs self.old.heard moment input.entry))) }
         ensures err { OnErr result (self.new ≡ self.old) }
+        ensures lacks { OnErr result (IsDecided self.old moment input.entry) }
     {
         if self.is_stopped() {
             return Ok(Accepted::Stopped);
@@ -206,6 +209,7 @@ impl Core {
         ensures ok { IfOk result (λ answer. self.new ≡ entered_state answer self.old moment (happening event.entry)) }
         ensures fit { IfOk result (λ answer. AreFit (front_of self.old) self.old.confs (entered_by answer (Ok (happening event.entry)))) }
         ensures err { OnErr result (self.new ≡ self.old) }
+        ensures lacks { OnErr result (unfit (front_of self.old) self.old.confs (happening event.entry) ≡ None) }
     {
         match unfit(self.front(), &self.confs, event) {
             Some(reason) => return Ok(Accepted::Quiet(reason)),
@@ -300,7 +304,8 @@ impl Core {
     ghost use Rattle.apd_core.specs.Core.{answered, cannot_take, handed, published, ready_for, IsFlight, IsTaken};
 
     /// Gives away the longest front of the entries that are not settled whose records fit one group; none
-    /// exactly where a batch is in flight, every entry is settled, or the core has failed.
+    /// exactly where a batch is in flight, every entry is settled, or the core has failed. Then it takes no
+    /// memory.
     pub fn take(&mut self) -> Result<Option<Batch>, AllocError>
         ensures none { IfOk result (λ batch. IsNone batch ↔ IsTrue (cannot_take self.old)) }
         ensures stays { IfOk result (λ batch. IfNone batch (self.new ≡ self.old)) }
@@ -308,6 +313,7 @@ impl Core {
         ensures group { IfOk result (λ batch. IfSome batch (λ batch. IsGroup batch.changes)) }
         ensures sound { IfOk result (λ batch. IfSome batch (λ batch. StaySound batch.changes self.old.settled)) }
         ensures err { OnErr result (self.new ≡ self.old) }
+        ensures lacks { OnErr result (¬ IsTrue (cannot_take self.old)) }
     {
         if self.failed || self.flight > 0 || self.unsettled.is_empty() {
             return Ok(None);
@@ -379,11 +385,13 @@ impl Core {
     }
 
     /// Gives a recipient the outs of settled entries that it was not given yet, in the order of the entries.
-    /// An entry that is settled and of which no out is held any more goes.
+    /// An entry that is settled and of which no out is held any more goes. Where nothing is ready it takes
+    /// no memory.
     pub fn hand(&mut self, to: Recipient) -> Result<Vec<Out>, AllocError>
         ensures outs { IfOk result (λ outs. outs.items ≡ ready_for to self.old) }
         ensures ok { OnOk result (self.new ≡ handed to self.old) }
         ensures err { OnErr result (self.new ≡ self.old) }
+        ensures lacks { OnErr result (1 ≤ length (ready_for to self.old)) }
     {
         self.sound();
         let Core {

@@ -1,16 +1,11 @@
-use Rattle.std.proofs.Common.{◌≡◌, true, refl, sym, ◌∙◌}
-use Rattle.std.specs.Ordering.{is_gt}
-use Rattle.std.specs.declared.cmp.Ordering.{Ordering}
-use Rattle.std.specs.declared.cmp.Ordering.TheVariants.{Less, Equal, Greater}
-use Rattle.apd_core.proofs.Behind.{behind}
+use Rattle.std.proofs.Common.{rules}
+use Rattle.std.proofs.lemmas.List.Sorted.{answers_always}
+use Rattle.apd_base.proofs.AddrLaws.{station_total}
+use Rattle.apd_core.proofs.Searching.{searched}
 use Rattle.apd_core.proofs.moments.place.Goals as goal
 
-greater : (r : Ordering) → is_gt r ≡ true → r ≡ Greater
-greater Less e = cc
-greater Equal e = cc
-greater Greater e = refl
-
-pub returns-in-Some-clause-exact : goal.returns-in-Some-clause-exact
-returns-in-Some-clause-exact c sorted =
-    sym (behind c.args.key.now c.args.rows.now sorted c.in-Some.last.now (sym c.in-Some.ensures.value)
-    (sym c.cmp.ensures ∙ greater c.cmp.result (sym c.is_gt.ensures ∙ c.if-is_gt.true)))
+-- the closure gives a row's key
+pub returns-clause-exact : goal.returns-clause-exact
+returns-clause-exact c sorted =
+    let facts = c.binary_search_by_key.ensures in
+    searched station_total c.args.key c.args.rows.now sorted _ facts.bound (facts.position (λ row. row.0) (answers_always _ _ _ (λ f a r g called. search rules)))
