@@ -13,7 +13,7 @@ use crate::phase::Phase;
 use apd_base::limits::MAX_GROUP;
 use apd_disk::Disk;
 use apd_journal::Batch;
-use apd_record::{known_changes, total_length};
+use apd_record::total_length;
 use apd_store::phase::Phase as StorePhase;
 use apd_store::{Receipt, Store, StoreFault};
 use apd_table::{Staged, Table, TableFault};
@@ -134,7 +134,6 @@ impl<D: Disk> Flusher<D> {
         ensures only { OnErr result ((result ≡ Err StoreFault.BadBatch) ⊎ (result ≡ Err StoreFault.NoMemory)) }
     {
         let changes = batch.changes.as_slice();
-        known_changes(changes);
         if total_length(changes) > MAX_GROUP {
             return Err(StoreFault::BadBatch);
         }
