@@ -136,9 +136,11 @@ on_err_as (Ok t) (Err e) A same a = absurd (false≢true same)
 on_err_as (Err e) (Ok u) A same a = tt
 on_err_as (Err e) (Err f) A same a = a
 
-pub on_some : {T : Type 0} (o : Option T) (Q : Type 0) → IsSome o → OnSome o Q → Q
-on_some (Some t) Q is q = q
-on_some None Q is q = absurd (false≢true is)
+-- of a receipt that is there, in an answer that hands it out
+pub some_to_ok : {T E : Type 0} (o : Option T) (r : Result T E) (Q : Type 0) → IsSome o → OnSome o Q → OnOk r Q
+some_to_ok (Some t) (Ok u) Q is q = q
+some_to_ok (Some t) (Err e) Q is q = tt
+some_to_ok None r Q is q = absurd (false≢true is)
 
 -- ---- turns one after another, as long as it is busy
 
@@ -149,18 +151,33 @@ pub record Turned {D : Type 0} (honest : D → Type 0) (reads : D → List ℕ) 
   pub stays : honest old.store.device → honest now.store.device
   pub calls : honest old.store.device → moment now.store.device + calls_from now.store.phase ≤ moment old.store.device + calls_from old.store.phase
   pub count : failed now.store.device ≡ failed old.store.device
-  pub phase : (phase_of now ≡ phase_of old) ⊎ ((phase_of old ≡ Busy) × ((phase_of now ≡ Busy) ⊎ (phase_of now ≡ Done)))
+  pub phase : (phase_of now ≡ Busy) ⊎ (phase_of now ≡ Done)
 
-pub was_busy : {D : Type 0} (old now : Flusher D) → (phase_of now ≡ phase_of old) ⊎ ((phase_of old ≡ Busy) × ((phase_of now ≡ Busy) ⊎ (phase_of now ≡ Done))) → phase_of now ≡ Busy → phase_of old ≡ Busy
-was_busy old now phase busy = ⊎_elim (λ same. sym same ∙ busy) (λ p. p.0) phase
-
-pub turned_none : {D : Type 0} (honest : D → Type 0) (reads : D → List ℕ) (may_leave : D → List ℕ → Type 0) (moment size failed : D → ℕ) (now : Flusher D) → Turned honest reads may_leave moment size failed now now
-turned_none honest reads may_leave moment size failed now = record {
+pub turned_none : {D : Type 0} (honest : D → Type 0) (reads : D → List ℕ) (may_leave : D → List ℕ → Type 0) (moment size failed : D → ℕ) (now : Flusher D) → phase_of now ≡ Busy
+    → Turned honest reads may_leave moment size failed now now
+turned_none honest reads may_leave moment size failed now busy = record {
   flushing = λ state after h s. s;
   batch = refl;
   inside = λ i. i;
   stays = λ h. h;
   calls = λ h. omega arith;
   count = refl;
-  phase = inl refl;
+  phase = inl busy;
+}
+
+-- and one more
+pub turned_more : {D : Type 0} (honest : D → Type 0) (reads : D → List ℕ) (may_leave : D → List ℕ → Type 0) (moment size failed : D → ℕ) (old now next : Flusher D)
+    → Turned honest reads may_leave moment size failed old now → phase_of now ≡ Busy
+    → ((state after : State) → honest now.store.device → IsFlushing reads may_leave now state after → IsFlushing reads may_leave next state after)
+    → next.store.batch ≡ now.store.batch → (StoreIsInside size now.store → StoreIsInside size next.store) → (honest now.store.device → honest next.store.device)
+    → (honest now.store.device → moment next.store.device ≤ moment now.store.device + 1) → calls_from next.store.phase + 1 ≡ calls_from now.store.phase
+    → failed next.store.device ≡ failed now.store.device → (phase_of next ≡ Busy) ⊎ (phase_of next ≡ Done) → Turned honest reads may_leave moment size failed old next
+turned_more honest reads may_leave moment size failed old now next turned busy on batch inside stays one step count phase = record {
+  flushing = λ state after h s. on state after (turned.stays h) (turned.flushing state after h s);
+  batch = batch ∙ turned.batch;
+  inside = λ i. inside (turned.inside i);
+  stays = λ h. stays (turned.stays h);
+  calls = λ h. omega (arith, turned.calls h, one (turned.stays h), step);
+  count = count ∙ turned.count;
+  phase = phase;
 }

@@ -1,11 +1,12 @@
 -- A flusher between batches, in one, and after a fault; and what a stop then shows.
-use Rattle.std.specs.Prelude.{◌≡◌, ◌≤◌, ◌⊎◌, ℕ, List}
+use Rattle.std.specs.Prelude.{◌≡◌, ◌≤◌, ◌<◌, ◌+◌, ◌^◌, ◌⊎◌, ℕ, List}
 use Rattle.apd_base.specs.State.{State}
 use Rattle.apd_record.specs.declared.change.Change.{Change}
 use Rattle.apd_table.specs.Sound.{StaySound}
 use Rattle.apd_journal.specs.Half.{IsGroup}
 use Rattle.apd_store.specs.Image.{Shows}
 use Rattle.apd_store.specs.Commit.{IsIdle, IsCommitting, HasFailed, HasRoom as StoreHasRoom, IsInside as StoreIsInside}
+use Rattle.apd_flusher.specs.Outside.{phase_of, table_of, epoch_of}
 use Rattle.apd_flusher.specs.declared.flusher.Flusher.{Flusher}
 use Rattle.apd_flusher.specs.declared.phase.Phase.{Phase}
 use Rattle.apd_flusher.specs.declared.phase.Phase.TheVariants.{Idle, Busy, Done, Failed}
@@ -47,3 +48,10 @@ HasRoom flusher changes = StoreHasRoom flusher.store changes
 -- the store lies inside its device, whatever the device keeps of it
 abbrev pub IsInside : {D : Type 0} → (D → ℕ) → Flusher D → Type 0
 IsInside size flusher = StoreIsInside size flusher.store
+
+-- nothing but want of memory and the device can keep a batch of these changes from its receipt
+pub record MayCommit {D : Type 0} (size : D → ℕ) (flusher : Flusher D) (changes : List Change) : Type 0 where
+  pub idle : phase_of flusher ≡ Idle
+  pub inside : IsInside size flusher
+  pub good : IsGood changes (table_of flusher)
+  pub lasts : ¬ HasRoom flusher changes → epoch_of flusher + 1 < 2 ^ 64

@@ -13,7 +13,7 @@ use crate::phase::Phase;
 use apd_base::limits::MAX_GROUP;
 use apd_disk::Disk;
 use apd_journal::Batch;
-use apd_record::{known_changes, total_length};
+use apd_record::total_length;
 use apd_store::phase::Phase as StorePhase;
 use apd_store::{Receipt, Store, StoreFault};
 use apd_table::{Staged, Table, TableFault};
@@ -29,7 +29,7 @@ pub struct Flusher<D: Disk> {
 }
 
 impl<D: Disk> Flusher<D> {
-    ghost use Rattle.apd_flusher.specs.Flushing.{IsSteady, IsFlushing, IsStuck, Stands, StopShows, IsGood, HasRoom, IsInside};
+    ghost use Rattle.apd_flusher.specs.Flushing.{IsSteady, IsFlushing, IsStuck, Stands, StopShows, IsGood, HasRoom, IsInside, MayCommit};
     ghost use Rattle.apd_flusher.specs.Outside.{store_of, device_of, phase_of, calls_left, batch_of, epoch_of, table_of, next_of};
 
     /// A flusher of a store and the table of everything that it has committed, as `format` and `recover` of
@@ -134,7 +134,6 @@ impl<D: Disk> Flusher<D> {
         ensures only { OnErr result ((result ≡ Err StoreFault.BadBatch) ⊎ (result ≡ Err StoreFault.NoMemory)) }
     {
         let changes = batch.changes.as_slice();
-        known_changes(changes);
         if total_length(changes) > MAX_GROUP {
             return Err(StoreFault::BadBatch);
         }
@@ -202,6 +201,46 @@ impl<D: Disk> Flusher<D> {
         let receipt = self.store.finish()?;
         self.tables.commit();
         Some(receipt)
+    }
+
+    /// Loads a batch and makes all calls of it, one a turn, to its receipt: what `load`, `turn` and `unload` do
+    /// where nothing else is asked of the flusher in between.
+    ///
+    /// Errors: those of `load`, where the batch is let go; those of `turn`.
+    pub fn commit(&mut self, batch: Batch) -> Result<Receipt, StoreFault>
+        // Where the device does not fail, nothing but want of memory keeps such a batch from its receipt.
+        ensures always { MayCommit D.size self.old batch.changes → D.failed (device_of self.old) + 1 < 2 ^ 64
+            → D.failed (device_of self.new) ≡ D.failed (device_of self.old) → result ≢ Err StoreFault.NoMemory → IsOk result }
+        ensures receipt { IfOk result (λ receipt. held_batch receipt ≡ batch) }
+        ensures settled { (state : State) → D.honest (device_of self.old) → IsSteady D.reads D.may_leave self.old state
+            → OnOk result (IsSteady D.reads D.may_leave self.new (meaning_of batch.changes state)) }
+
+        // Each turn is one call of the device at most: four where the group fits, and ten at most.
+        ensures ten { D.honest (device_of self.old) → D.moment (device_of self.new) ≤ D.moment (device_of self.old) + 10 }
+        ensures four { D.honest (device_of self.old) → HasRoom self.old batch.changes → D.moment (device_of self.new) ≤ D.moment (device_of self.old) + 4 }
+    {
+        if let Err((_, fault)) = self.load(batch) {
+            return Err(fault);
+        }
+        self.make_calls()?;
+        self.unload().ok_or(StoreFault::Failed)
+    }
+
+    // Makes the calls that are left of a batch, one after another.
+    fn make_calls(&mut self) -> Result<(), StoreFault>
+        requires { phase_of self.old ≡ Phase.Busy }
+        ensures on { (state after : State) → D.honest (device_of self.old) → IsFlushing D.reads D.may_leave self.old state after
+            → OnOk result (IsFlushing D.reads D.may_leave self.new state after) }
+        ensures done { OnOk result (phase_of self.new ≡ Phase.Done) }
+        ensures batch { batch_of self.new ≡ batch_of self.old }
+        ensures calls { D.honest (device_of self.old) → D.moment (device_of self.new) ≤ D.moment (device_of self.old) + calls_left self.old }
+        ensures device { IsInside D.size self.old → OnErr result (HasRisen (D.failed (device_of self.old)) (D.failed (device_of self.new))) }
+        ensures only { OnErr result ((result ≡ Err StoreFault.Device) ⊎ (result ≡ Err StoreFault.Failed)) }
+    {
+        while self.phase() == Phase::Busy {
+            self.turn()?;
+        }
+        Ok(())
     }
 
     /// Tells a caller's proof what a stop now shows, by the phase: the table where it is idle; while it is

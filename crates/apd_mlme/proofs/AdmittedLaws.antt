@@ -78,8 +78,8 @@ module _ (s : State) (confs : List Conf) (conf : Conf) (b : Bssid) (kind : Kind)
   cleared_new : NoneIsNew s (cleared s b a)
   cleared_new c d none =
       elsewhere_laws.put_backs_station a (elsewhere s b a) s c d
-      ∙ not_put (elsewhere_laws.is_among c (elsewhere s b a) && eq_by_cmp addr_cmp d a) (Some Authenticated) (station_at s c d)
-      (λ there. (let parts = and_parts (elsewhere_laws.is_among c (elsewhere s b a)) (eq_by_cmp addr_cmp d a) there in
+      ∙ not_put (elsewhere_laws.is_bssid_among c (elsewhere s b a) && eq_by_cmp addr_cmp d a) (Some Authenticated) (station_at s c d)
+      (λ there. (let parts = and_parts (elsewhere_laws.is_bssid_among c (elsewhere s b a)) (eq_by_cmp addr_cmp d a) there in
       subst (λ x. IsSome (station_at s c x)) (sym (same_addr a d parts.1)) (elsewhere_rows s b a c parts.0)))
       none
 

@@ -28,7 +28,7 @@ use Rattle.apd_mlme.specs.Identifiers.{identifier_for}
 use Rattle.apd_mlme.specs.Refusals.{is_success}
 use Rattle.apd_mlme.specs.Verdict.{Verdict, only_sent}
 use Rattle.apd_mlme.proofs.AssociationLaws.{three, others, cleared, cleared_here, cleared_elsewhere, own_or_free, own_kept, associated_station}
-use Rattle.apd_mlme.proofs.ElsewhereLaws.{is_among, among_elsewhere, put_backs_station}
+use Rattle.apd_mlme.proofs.ElsewhereLaws.{is_bssid_among, among_elsewhere, put_backs_station}
 use Rattle.apd_mlme.proofs.IdentifierLaws.{is_least_free, identifier_is_there}
 use Rattle.apd_mlme.proofs.RefusalLaws.{status_success}
 use Rattle.apd_base.proofs.Cases.{both_true, differ, either, first_false, none_is, second_false}
@@ -92,18 +92,18 @@ module _ (conf : Conf) (request : AssociationRequest) where
 -- ---- a station's rows at the other BSSIDs
 module _ (s : State) (b : Bssid) (a : Addr) where
   cleared_as : Sound s → (c : Bssid) → eq_by_cmp bssid_cmp b c ≡ false → (o : Option Station) → station_at s c a ≡ o →
-      cond (is_among c (others s b a) && eq_by_cmp addr_cmp a a) (Some Authenticated) o ≡ only_authenticated o
+      cond (is_bssid_among c (others s b a) && eq_by_cmp addr_cmp a a) (Some Authenticated) o ≡ only_authenticated o
   cleared_as sound c other None at =
       let none : is_some (aid_at s c a) ≡ false = ap (λ o. is_some (aid_of o)) at in
-      let out : is_among c (others s b a) ≡ false =
+      let out : is_bssid_among c (others s b a) ≡ false =
       among_elsewhere s b a c ∙ first_false (not (eq_by_cmp bssid_cmp b c) && is_some (aid_at s c a)) (is_some (policy_at s c)) (second_false (not (eq_by_cmp bssid_cmp b c)) (is_some (aid_at s c a)) none) in
-      ap (λ t. cond t (Some Authenticated) None) (first_false (is_among c (others s b a)) (eq_by_cmp addr_cmp a a) out)
-  cleared_as sound c other (Some Authenticated) at = either (is_among c (others s b a) && eq_by_cmp addr_cmp a a) (Some Authenticated)
+      ap (λ t. cond t (Some Authenticated) None) (first_false (is_bssid_among c (others s b a)) (eq_by_cmp addr_cmp a a) out)
+  cleared_as sound c other (Some Authenticated) at = either (is_bssid_among c (others s b a) && eq_by_cmp addr_cmp a a) (Some Authenticated)
   cleared_as sound c other (Some (Associated x)) at =
       let known : is_some (aid_at s c a) ≡ true = ap (λ o. is_some (aid_of o)) at in
       let policy = sound.stations_have_policy c a (ap is_some at) in
-      let among : is_among c (others s b a) ≡ true = among_elsewhere s b a c ∙ three (eq_by_cmp bssid_cmp b c) (is_some (aid_at s c a)) (is_some (policy_at s c)) other known policy in
-      ap (λ t. cond t (Some Authenticated) (Some (Associated x))) (both_true (is_among c (others s b a)) (eq_by_cmp addr_cmp a a) among (tied addr_total addr_exact a))
+      let among : is_bssid_among c (others s b a) ≡ true = among_elsewhere s b a c ∙ three (eq_by_cmp bssid_cmp b c) (is_some (aid_at s c a)) (is_some (policy_at s c)) other known policy in
+      ap (λ t. cond t (Some Authenticated) (Some (Associated x))) (both_true (is_bssid_among c (others s b a)) (eq_by_cmp addr_cmp a a) among (tied addr_total addr_exact a))
 
   pub cleared_row : Sound s → (c : Bssid) → eq_by_cmp bssid_cmp b c ≡ false → station_at (cleared s b a) c a ≡ only_authenticated (station_at s c a)
   cleared_row sound c other = put_backs_station a (others s b a) s c a ∙ cleared_as sound c other (station_at s c a) refl
@@ -111,7 +111,7 @@ module _ (s : State) (b : Bssid) (a : Addr) where
   pub cleared_others : (c : Bssid) (d : Addr) → d ≢ a → station_at (cleared s b a) c d ≡ station_at s c d
   cleared_others c d ne =
       put_backs_station a (others s b a) s c d
-      ∙ ap (λ t. cond t (Some Authenticated) (station_at s c d)) (second_false (is_among c (others s b a)) (eq_by_cmp addr_cmp d a) (apart addr_total addr_exact d a ne))
+      ∙ ap (λ t. cond t (Some Authenticated) (station_at s c d)) (second_false (is_bssid_among c (others s b a)) (eq_by_cmp addr_cmp d a) (apart addr_total addr_exact d a ne))
 
 -- ---- a request that is accepted
 module _ (s : State) (confs : List Conf) (conf : Conf) (b : Bssid) (kind : Kind) (request : AssociationRequest) (sound : Sound s) (aid : Aid) (own : identifier_for s b (station_at s b request.sender) ≡ Some aid) where

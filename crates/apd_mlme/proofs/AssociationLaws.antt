@@ -34,7 +34,7 @@ use Rattle.apd_mlme.specs.Identifiers.{identifier_for}
 use Rattle.apd_mlme.specs.Outs.{outs_to, sent}
 use Rattle.apd_mlme.specs.Verdict.{Verdict}
 use Rattle.apd_mlme.proofs.DriverLaws.{is_row, station_put, aid_cond, driven_sent, driven_installed, one_installed}
-use Rattle.apd_mlme.proofs.ElsewhereLaws.{is_among, among_elsewhere, put_backs_meaning, put_backs_station, HasRows, put_backs_sound, put_backs_stay, elsewhere_driven}
+use Rattle.apd_mlme.proofs.ElsewhereLaws.{is_bssid_among, among_elsewhere, put_backs_meaning, put_backs_station, HasRows, put_backs_sound, put_backs_stay, elsewhere_driven}
 use Rattle.apd_mlme.proofs.IdentifierLaws.{is_least_free}
 use Rattle.apd_mlme.proofs.OutsLaws.{outs_to-append, driven-append}
 use Rattle.apd_mlme.proofs.RowLaws.{Follows}
@@ -65,14 +65,14 @@ module _ (s : State) (b : Bssid) (a : Addr) where
   not_among true u e = refl
   not_among false u e = cc
 
-  pub not_here : is_among b others ≡ false
+  pub not_here : is_bssid_among b others ≡ false
   not_here = among_elsewhere s b a b ∙ ap (λ t. t && is_some (policy_at s b)) (not_among (eq_by_cmp bssid_cmp b b) (is_some (aid_at s b a)) (tied bssid_total bssid_exact b))
 
   pub cleared_here : (d : Addr) → station_at cleared b d ≡ station_at s b d
   cleared_here d = put_backs_station a others s b d ∙ ap (λ t. cond (t && eq_by_cmp addr_cmp d a) (Some Authenticated) (station_at s b d)) not_here
 
-  pub cleared_aid : (c : Bssid) (d : Addr) → aid_at cleared c d ≡ cond (is_among c others && eq_by_cmp addr_cmp d a) None (aid_at s c d)
-  cleared_aid c d = ap aid_of (put_backs_station a others s c d) ∙ aid_cond (is_among c others && eq_by_cmp addr_cmp d a) (Some Authenticated) (station_at s c d)
+  pub cleared_aid : (c : Bssid) (d : Addr) → aid_at cleared c d ≡ cond (is_bssid_among c others && eq_by_cmp addr_cmp d a) None (aid_at s c d)
+  cleared_aid c d = ap aid_of (put_backs_station a others s c d) ∙ aid_cond (is_bssid_among c others && eq_by_cmp addr_cmp d a) (Some Authenticated) (station_at s c d)
 
   pub cleared_sound : Sound s → Sound cleared
   cleared_sound sound = put_backs_sound a others s elsewhere_rows sound
@@ -83,9 +83,9 @@ module _ (s : State) (b : Bssid) (a : Addr) where
       elim (is_some (aid_at s c a)) as (λ t. is_some (aid_at s c a) ≡ t → aid_at cleared c a ≡ None) [
         | true ↦ λ e.
             let known = sound.stations_have_policy c a (station_of_aid (station_at s c a) e) in
-            let among : is_among c others ≡ true = among_elsewhere s b a c ∙ three (eq_by_cmp bssid_cmp b c) (is_some (aid_at s c a)) (is_some (policy_at s c)) other e known in
+            let among : is_bssid_among c others ≡ true = among_elsewhere s b a c ∙ three (eq_by_cmp bssid_cmp b c) (is_some (aid_at s c a)) (is_some (policy_at s c)) other e known in
             cleared_aid c a ∙ (λ i. cond (among i && tied addr_total addr_exact a i) None (aid_at s c a))
-        | false ↦ λ e. cleared_aid c a ∙ ap (λ o. cond (is_among c others && eq_by_cmp addr_cmp a a) None o) (no_value (aid_at s c a) e) ∙ either (is_among c others && eq_by_cmp addr_cmp a a) None
+        | false ↦ λ e. cleared_aid c a ∙ ap (λ o. cond (is_bssid_among c others && eq_by_cmp addr_cmp a a) None o) (no_value (aid_at s c a) e) ∙ either (is_bssid_among c others && eq_by_cmp addr_cmp a a) None
       ] refl
 
   -- an identifier that the station gets is its own, or nobody's

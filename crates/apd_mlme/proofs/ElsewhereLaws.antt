@@ -35,14 +35,14 @@ use Rattle.apd_mlme.proofs.RowLaws.{sound_put_back}
 use Rattle.apd_base.proofs.Cases.{second_true}
 
 -- whether a BSSID is among some
-abbrev pub is_among : Bssid → List Bssid → Bool
-is_among c bssids = list_any (eq_by_cmp bssid_cmp c) bssids
+abbrev pub is_bssid_among : Bssid → List Bssid → Bool
+is_bssid_among c bssids = list_any (eq_by_cmp bssid_cmp c) bssids
 
 -- it is among those that pass a test where it passes, and is among all
-pub among-filter : (p : Bssid → Bool) (c : Bssid) (bssids : List Bssid) → is_among c (filter p bssids) ≡ (p c && is_among c bssids)
+pub among-filter : (p : Bssid → Bool) (c : Bssid) (bssids : List Bssid) → is_bssid_among c (filter p bssids) ≡ (p c && is_bssid_among c bssids)
 among-filter p c bssids = any-filter_same (eq_by_cmp bssid_cmp c) p (p c) (λ x e. ap p (sym (same_bssid x c e))) bssids
 
-pub among_elsewhere : (s : State) (b : Bssid) (a : Addr) (c : Bssid) → is_among c (elsewhere s b a) ≡ ((not (eq_by_cmp bssid_cmp b c) && is_some (aid_at s c a)) && is_some (policy_at s c))
+pub among_elsewhere : (s : State) (b : Bssid) (a : Addr) (c : Bssid) → is_bssid_among c (elsewhere s b a) ≡ ((not (eq_by_cmp bssid_cmp b c) && is_some (aid_at s c a)) && is_some (policy_at s c))
 among_elsewhere s b a c =
     among-filter (λ x. not (eq_by_cmp bssid_cmp b x) && is_some (aid_at s x a)) c (map.keys s.policies)
     ∙ ap (λ t. (not (eq_by_cmp bssid_cmp b c) && is_some (aid_at s c a)) && t) (sym (contains_key-keys s.policies c))
@@ -63,16 +63,16 @@ two_put false false true x o = refl
 two_put false false false x o = refl
 
 pub put_backs_station : (a : Addr) (bssids : List Bssid) (s : State) (c : Bssid) (d : Addr) →
-    station_at (meaning_of (put_backs a bssids) s) c d ≡ cond (is_among c bssids && eq_by_cmp addr_cmp d a) (Some Authenticated) (station_at s c d)
+    station_at (meaning_of (put_backs a bssids) s) c d ≡ cond (is_bssid_among c bssids && eq_by_cmp addr_cmp d a) (Some Authenticated) (station_at s c d)
 put_backs_station a [] s c d = refl
 put_backs_station a (x ∷ bssids) s c d =
     put_backs_station a bssids (put_station x a Authenticated s) c d
-    ∙ ap (λ o. cond (is_among c bssids && eq_by_cmp addr_cmp d a) (Some Authenticated) o) (station_put s x a Authenticated c d)
-    ∙ two_put (eq_by_cmp addr_cmp d a) (eq_by_cmp bssid_cmp c x) (is_among c bssids) (Some Authenticated) (station_at s c d)
+    ∙ ap (λ o. cond (is_bssid_among c bssids && eq_by_cmp addr_cmp d a) (Some Authenticated) o) (station_put s x a Authenticated c d)
+    ∙ two_put (eq_by_cmp addr_cmp d a) (eq_by_cmp bssid_cmp c x) (is_bssid_among c bssids) (Some Authenticated) (station_at s c d)
 
 -- the station has a row at each of these BSSIDs
 abbrev pub HasRows : State → Addr → List Bssid → Type 0
-HasRows s a bssids = (c : Bssid) → is_among c bssids ≡ true → IsSome (station_at s c a)
+HasRows s a bssids = (c : Bssid) → is_bssid_among c bssids ≡ true → IsSome (station_at s c a)
 
 some_put : (t : Bool) (o : Option Station) → IsSome o → IsSome (cond t (Some Authenticated) o)
 some_put true o h = refl
@@ -80,10 +80,10 @@ some_put false o h = h
 
 rows_after : (s : State) (a : Addr) (x : Bssid) (bssids : List Bssid) → HasRows s a (x ∷ bssids) → HasRows (put_station x a Authenticated s) a bssids
 rows_after s a x bssids rows c among =
-    subst IsSome (sym (station_put s x a Authenticated c a)) (some_put (is_row x a c a) (station_at s c a) (rows c (second_true (eq_by_cmp bssid_cmp c x) (is_among c bssids) among)))
+    subst IsSome (sym (station_put s x a Authenticated c a)) (some_put (is_row x a c a) (station_at s c a) (rows c (second_true (eq_by_cmp bssid_cmp c x) (is_bssid_among c bssids) among)))
 
-pub first_among : (x : Bssid) (bssids : List Bssid) → is_among x (x ∷ bssids) ≡ true
-first_among x bssids = ap (λ t. t || is_among x bssids) (tied bssid_total bssid_exact x)
+pub first_among : (x : Bssid) (bssids : List Bssid) → is_bssid_among x (x ∷ bssids) ≡ true
+first_among x bssids = ap (λ t. t || is_bssid_among x bssids) (tied bssid_total bssid_exact x)
 
 pub put_backs_sound : (a : Addr) (bssids : List Bssid) (s : State) → HasRows s a bssids → Sound s → Sound (meaning_of (put_backs a bssids) s)
 put_backs_sound a [] s rows sound = sound
@@ -107,19 +107,19 @@ module _ (c : Bssid) (a : Addr) where
       ap (λ (f : DriverMap). f d) (driven_removed c x a (sent (disassociation x a UNSPECIFIED) ∷ []) m ∙ driven_sent c (disassociation x a UNSPECIFIED) [] (cond (eq_by_cmp bssid_cmp c x) (driven_by (Remove a) m) m))
       ∙ one_removed c x a m d
 
-  pub all_end : (bssids : List Bssid) (m : DriverMap) (d : Addr) → driven (outs_to (Radio c) (flat_map end_at bssids)) m d ≡ cond (is_among c bssids && eq_by_cmp addr_cmp d a) None (m d)
+  pub all_end : (bssids : List Bssid) (m : DriverMap) (d : Addr) → driven (outs_to (Radio c) (flat_map end_at bssids)) m d ≡ cond (is_bssid_among c bssids && eq_by_cmp addr_cmp d a) None (m d)
   all_end [] m d = refl
   all_end (x ∷ bssids) m d =
       let first = outs_to (Radio c) (end_at x) in
       ap (λ outs. driven outs m d) (outs_to-append (Radio c) (end_at x) (flat_map end_at bssids))
       ∙ ap (λ (f : DriverMap). f d) (driven-append first (outs_to (Radio c) (flat_map end_at bssids)) m)
       ∙ all_end bssids (driven first m) d
-      ∙ ap (λ o. cond (is_among c bssids && eq_by_cmp addr_cmp d a) None o) (one_end x m d)
-      ∙ two_put (eq_by_cmp addr_cmp d a) (eq_by_cmp bssid_cmp c x) (is_among c bssids) None (m d)
+      ∙ ap (λ o. cond (is_bssid_among c bssids && eq_by_cmp addr_cmp d a) None o) (one_end x m d)
+      ∙ two_put (eq_by_cmp addr_cmp d a) (eq_by_cmp bssid_cmp c x) (is_bssid_among c bssids) None (m d)
 
   -- those that are configured
   pub elsewhere_driven : (confs : List Conf) → IsSome (conf_at confs c) → (bssids : List Bssid) (m : DriverMap) (d : Addr) →
-      driven (outs_to (Radio c) (outs_elsewhere confs a bssids)) m d ≡ cond (is_among c bssids && eq_by_cmp addr_cmp d a) None (m d)
+      driven (outs_to (Radio c) (outs_elsewhere confs a bssids)) m d ≡ cond (is_bssid_among c bssids && eq_by_cmp addr_cmp d a) None (m d)
   elsewhere_driven confs configured bssids m d =
       all_end (filter (λ x. is_some (conf_at confs x)) bssids) m d
-      ∙ ap (λ t. cond (t && eq_by_cmp addr_cmp d a) None (m d)) (among-filter (λ x. is_some (conf_at confs x)) c bssids ∙ ap (λ t. t && is_among c bssids) configured)
+      ∙ ap (λ t. cond (t && eq_by_cmp addr_cmp d a) None (m d)) (among-filter (λ x. is_some (conf_at confs x)) c bssids ∙ ap (λ t. t && is_bssid_among c bssids) configured)

@@ -163,9 +163,9 @@ module _ (s : State) (confs : List Conf) (conf : Conf) (b : Bssid) (kind : Kind)
     associated_ended : (aid : Aid) → Ends s (rule.associated s confs conf b kind request aid).state c d → IsLetGoFirst (rule.associated s confs conf b kind request aid).outs c d
     associated_ended aid ends =
         not_none (is_row b a c d) aid.number _ (sym (associated_aid s confs conf b kind request aid c d) ∙ ends.after) (λ _ gone.
-        let out = taken_out (elsewhere_laws.is_among c (elsewhere s b a) && eq_by_cmp addr_cmp d a) (aid_at s c d) (sym (cleared_aid s b a c d) ∙ gone) ends.before in
-        let parts = and_parts (elsewhere_laws.is_among c (elsewhere s b a)) (eq_by_cmp addr_cmp d a) out in
-        let among : elsewhere_laws.is_among c (filter (λ x. is_some (conf_at confs x)) (elsewhere s b a)) ≡ true =
+        let out = taken_out (elsewhere_laws.is_bssid_among c (elsewhere s b a) && eq_by_cmp addr_cmp d a) (aid_at s c d) (sym (cleared_aid s b a c d) ∙ gone) ends.before in
+        let parts = and_parts (elsewhere_laws.is_bssid_among c (elsewhere s b a)) (eq_by_cmp addr_cmp d a) out in
+        let among : elsewhere_laws.is_bssid_among c (filter (λ x. is_some (conf_at confs x)) (elsewhere s b a)) ≡ true =
         elsewhere_laws.among-filter (λ x. is_some (conf_at confs x)) c (elsewhere s b a) ∙ (λ i. configured i && parts.0 i) in
         let first : IsLetGoFirst gone_outs c a =
         somewhere (eq_by_cmp bssid_cmp) (λ x y e. sym (same_bssid y x e)) (λ x. outs_of_end x a UNSPECIFIED) (λ outs. IsLetGoFirst outs c a) (λ xs ys. first_part xs ys c a) (λ xs ys. second_part xs ys c a)
@@ -301,7 +301,7 @@ module _ (s : State) (confs : List Conf) (c : Bssid) (d : Addr) (aid : Aid) wher
             subst (λ x. IsTakenInFirst outs x d aid) (sym here) (subst (λ x. IsTakenInFirst outs b x aid) (sym it)
             (subst (IsTakenInFirst outs b a) (same_aid own aid (same_some own.number aid.number same))
             (associated_first s confs conf b kind request own ((λ i. aid_at s (sym here i) (sym it i)) ∙ none))))
-        | false ↦ λ e other. not_now (elsewhere_laws.is_among c (elsewhere s b a) && eq_by_cmp addr_cmp d a) _ (cleared_aid s b a c d) none other
+        | false ↦ λ e other. not_now (elsewhere_laws.is_bssid_among c (elsewhere s b a) && eq_by_cmp addr_cmp d a) _ (cleared_aid s b a c d) none other
       ] refl (sym (associated_aid s confs conf b kind request own c d) ∙ now)
 
   edited_begun : (b : Bssid) (w : Which) (edit : Edit) (o : Option Policy) → IsBegun (edited_under s b w edit o)

@@ -128,11 +128,11 @@ module _ (E : Type 0) where
 
   -- ---- association
   module _ (new : State) (a : Addr) (one : IsOne a) where
-    ends_so : (bssids : List Bssid) → ((c : Bssid) → elsewhere_laws.is_among c bssids ≡ true → aid_at new c a ≡ None) → AreBothSo new (flat_map (λ c. outs_of_end c a UNSPECIFIED) bssids)
+    ends_so : (bssids : List Bssid) → ((c : Bssid) → elsewhere_laws.is_bssid_among c bssids ≡ true → aid_at new c a ≡ None) → AreBothSo new (flat_map (λ c. outs_of_end c a UNSPECIFIED) bssids)
     ends_so [] ended = tt
     ends_so (x ∷ bssids) ended =
         let here = ended x (elsewhere_laws.first_among x bssids) in
-        (removed_so new x a here, (said new (leaving.disassociation x a UNSPECIFIED) here one, ends_so bssids (λ c among. ended c (second_true (eq_by_cmp bssid_cmp c x) (elsewhere_laws.is_among c bssids) among))))
+        (removed_so new x a here, (said new (leaving.disassociation x a UNSPECIFIED) here one, ends_so bssids (λ c among. ended c (second_true (eq_by_cmp bssid_cmp c x) (elsewhere_laws.is_bssid_among c bssids) among))))
 
   module _ (s : State) (confs : List Conf) (conf : Conf) (b : Bssid) (kind : Kind) (request : AssociationRequest) (sound : Sound s) (one : IsOne request.sender) where
     abbrev a : Addr
@@ -145,7 +145,7 @@ module _ (E : Type 0) where
       aid_here : aid_at answered_so.state b a ≡ Some aid.number
       aid_here = ap aid_of (row_here s confs conf b kind request sound aid own)
 
-      ended : (c : Bssid) → elsewhere_laws.is_among c (filter (λ x. is_some (conf_at confs x)) (elsewhere s b a)) ≡ true → aid_at answered_so.state c a ≡ None
+      ended : (c : Bssid) → elsewhere_laws.is_bssid_among c (filter (λ x. is_some (conf_at confs x)) (elsewhere s b a)) ≡ true → aid_at answered_so.state c a ≡ None
       ended c among =
           let there = (and_parts _ _ (sym (elsewhere_laws.among-filter (λ x. is_some (conf_at confs x)) c (elsewhere s b a)) ∙ among)).1 in
           let other = not_here (eq_by_cmp bssid_cmp b c) (is_some (aid_at s c a)) (and_parts _ _ (sym (elsewhere_laws.among_elsewhere s b a c) ∙ there)).0 in

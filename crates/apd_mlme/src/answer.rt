@@ -2,7 +2,8 @@
 ghost use Rattle.std.specs.Prelude.{◌≡◌, ◌∷◌, [], ◌++◌, IfOk, OnOk};
 ghost use Rattle.apd_mlme.specs.Commands.{text, text_of};
 
-use crate::decision::{Decision, Out, Recipient};
+use crate::decision::{Out, Recipient};
+use crate::draft::Draft;
 use apd_base::Sequence;
 use std::alloc::{AllocError, Global};
 
@@ -32,8 +33,8 @@ pub(crate) fn answered(
     alloc: Global,
     tag: u64,
     answer: Answer,
-    decision: Decision,
-) -> Result<Decision, AllocError>
+    decision: Draft,
+) -> Result<Draft, AllocError>
     ensures changes { IfOk result (λ d. d.changes ≡ decision.changes) }
     ensures outs { IfOk result (λ d. d.outs ≡ decision.outs ++ text tag answer ∷ []) }
 {

@@ -6,7 +6,8 @@ ghost use Rattle.apd_frame.specs.Contents.{association, reassociation};
 ghost use Rattle.apd_mlme.specs.Association.{accepted, association_response, association_status, association_verdict, body_of, elsewhere, installation, is_elsewhere, is_named, outs_elsewhere, put_backs, row_of, without_current_ap};
 ghost use Rattle.apd_mlme.specs.Identifiers.{identifier_for, least_free};
 
-use crate::decision::{Decision, Out, Recipient, sent};
+use crate::decision::{Out, Recipient, sent};
+use crate::draft::Draft;
 use crate::leaving::{deauthentication, push_outs_of_end};
 use crate::offer::rates;
 use apd_base::{Addr, Aid, Association as Membership, Bssid, Sequence, Station};
@@ -15,7 +16,7 @@ use apd_frame::{
     Association, AssociationResponse, Reason, Reassociation, Reply, ReplyBody, SSID,
     SUPPORTED_RATES, Status, first_with, well_formed,
 };
-use apd_record::Change;
+use apd_record::{Change, Changes};
 use apd_table::Table;
 use std::alloc::{AllocError, Global};
 
@@ -151,11 +152,7 @@ fn elsewhere(
 }
 
 /// Adds the rows in which a station is only authenticated at these BSSIDs.
-fn push_put_backs(
-    sender: Addr,
-    others: &[Bssid],
-    changes: &mut Sequence<Change>,
-) -> Result<(), AllocError>
+fn push_put_backs(sender: Addr, others: &[Bssid], changes: &mut Changes) -> Result<(), AllocError>
     ensures { OnOk result (changes.new ≡ changes.old ++ put_backs sender others.now) }
 {
     for other in others {
@@ -223,7 +220,7 @@ fn accept(
     bssid: Bssid,
     kind: Kind,
     request: &Association<'_>,
-) -> Result<Decision, AllocError>
+) -> Result<Draft, AllocError>
     requires { IsSome (station_at table.now bssid request.now.sender) }
     ensures changes { IfOk result (λ d. d.changes ≡ (accepted table.now confs.now conf.now bssid kind (association request.now) (identifier_for table.now bssid (station_at table.now bssid request.now.sender))).changes) }
     ensures outs { IfOk result (λ d. d.outs ≡ (accepted table.now confs.now conf.now bssid kind (association request.now) (identifier_for table.now bssid (station_at table.now bssid request.now.sender))).outs) }
@@ -231,7 +228,7 @@ fn accept(
     let sender = request.sender;
     let aid = identifier(table, bssid, sender);
     let others = elsewhere(alloc, table, bssid, sender)?;
-    let mut changes = Sequence::new(alloc);
+    let mut changes = Changes::new(alloc);
     push_put_backs(sender, others.as_slice(), &mut changes)?;
     changes.push(Change::Put {
         bssid,
@@ -243,7 +240,7 @@ fn accept(
     push_installation(table, bssid, sender, aid, &mut outs)?;
     let reply = response(conf, bssid, kind, sender, Status::Success, Some(aid));
     outs.push(sent(alloc, &reply)?)?;
-    Ok(Decision { changes, outs })
+    Ok(Draft { changes, outs })
 }
 
 /// What an association or a reassociation request at a BSSID brings about: the response, the row of a
@@ -256,18 +253,18 @@ pub fn answer(
     bssid: Bssid,
     kind: Kind,
     request: &Association<'_>,
-) -> Result<Decision, AllocError>
+) -> Result<Draft, AllocError>
     ensures changes { IfOk result (λ d. d.changes ≡ (association_verdict table.now confs.now conf.now bssid kind (association request.now)).changes) }
     ensures outs { IfOk result (λ d. d.outs ≡ (association_verdict table.now confs.now conf.now bssid kind (association request.now)).outs) }
 {
     let sender = request.sender;
     if table.get(bssid, sender).is_none() {
         let reason = Reason::INVALID_CLASS2_FRAME;
-        return Decision::only_sent(alloc, &deauthentication(bssid, sender, reason));
+        return Draft::only_sent(alloc, &deauthentication(bssid, sender, reason));
     }
     let status = status_of(conf, request);
     if status == Status::Success {
         return accept(alloc, table, confs, conf, bssid, kind, request);
     }
-    Decision::only_sent(alloc, &response(conf, bssid, kind, sender, status, None))
+    Draft::only_sent(alloc, &response(conf, bssid, kind, sender, status, None))
 }

@@ -3,11 +3,12 @@ ghost use Rattle.std.specs.Prelude.{◌≡◌, ◌==◌, IsSome, IfOk};
 ghost use Rattle.apd_base.specs.State.{policy_at};
 ghost use Rattle.apd_mlme.specs.Authentication.{auth_status, auth_verdict, auth_response, is_full};
 
-use crate::decision::{Decision, sent};
+use crate::decision::sent;
+use crate::draft::Draft;
 use apd_base::{Bssid, Sequence, Station};
 use apd_conf::Conf;
 use apd_frame::{Authentication, Reply, ReplyBody, Status};
-use apd_record::Change;
+use apd_record::{Change, Changes};
 use apd_table::Table;
 use std::alloc::{AllocError, Global};
 
@@ -63,12 +64,12 @@ pub fn answer(
     conf: &Conf,
     bssid: Bssid,
     request: &Authentication,
-) -> Result<Decision, AllocError>
+) -> Result<Draft, AllocError>
     ensures changes { IfOk result (λ d. d.changes ≡ (auth_verdict table.now conf.now bssid request.now).changes) }
     ensures outs { IfOk result (λ d. d.outs ≡ (auth_verdict table.now conf.now bssid request.now).outs) }
 {
     let status = status_of(table, conf, bssid, request);
-    let mut changes = Sequence::new(alloc);
+    let mut changes = Changes::new(alloc);
     if status == Status::Success && table.get(bssid, request.sender).is_none() {
         changes.push(Change::Put {
             bssid,
@@ -78,5 +79,5 @@ pub fn answer(
     }
     let mut outs = Sequence::new(alloc);
     outs.push(sent(alloc, &response(bssid, request, status))?)?;
-    Ok(Decision { changes, outs })
+    Ok(Draft { changes, outs })
 }

@@ -4,11 +4,11 @@ ghost use Rattle.apd_conf.specs.Conf.{policy_of};
 ghost use Rattle.apd_record.specs.declared.change.Change.TheVariants.{Policy};
 ghost use Rattle.apd_mlme.specs.Configuration.{configure_verdict, later_start, first_changes, additions};
 
-use crate::decision::Decision;
+use crate::draft::Draft;
 use crate::leaving::denied_dropped;
 use apd_base::{Addr, Bssid, Sequence, Which};
 use apd_conf::Conf;
-use apd_record::Change;
+use apd_record::{Change, Changes};
 use apd_table::Table;
 use std::alloc::{AllocError, Global};
 
@@ -24,12 +24,7 @@ fn policy_row(conf: &Conf, bssid: Bssid) -> Change
 
 /// What the start of a BSSID with a policy row brings about: its policy row, and before it the end of
 /// each station that the policy denies by the stored lists.
-fn later_start(
-    alloc: Global,
-    table: &Table,
-    conf: &Conf,
-    bssid: Bssid,
-) -> Result<Decision, AllocError>
+fn later_start(alloc: Global, table: &Table, conf: &Conf, bssid: Bssid) -> Result<Draft, AllocError>
     ensures changes { IfOk result (λ d. d.changes ≡ (later_start table.now conf.now bssid).changes) }
     ensures outs { IfOk result (λ d. d.outs ≡ (later_start table.now conf.now bssid).outs) }
 {
@@ -44,7 +39,7 @@ fn push_additions(
     bssid: Bssid,
     which: Which,
     addresses: &[Addr],
-    changes: &mut Sequence<Change>,
+    changes: &mut Changes,
 ) -> Result<(), AllocError>
     ensures { OnOk result (changes.new ≡ changes.old ++ additions bssid which addresses.now) }
 {
@@ -65,16 +60,16 @@ fn first_start(
     bssid: Bssid,
     accept: &[Addr],
     deny: &[Addr],
-) -> Result<Decision, AllocError>
+) -> Result<Draft, AllocError>
     ensures changes { IfOk result (λ d. d.changes ≡ first_changes conf.now bssid accept.now deny.now) }
     ensures outs { IfOk result (λ d. d.outs ≡ []) }
 {
     let policy = policy_row(conf, bssid);
-    let mut changes = Sequence::new(alloc);
+    let mut changes = Changes::new(alloc);
     changes.push(policy)?;
     push_additions(bssid, Which::Accept, accept, &mut changes)?;
     push_additions(bssid, Which::Deny, deny, &mut changes)?;
-    Ok(Decision {
+    Ok(Draft {
         changes,
         outs: Sequence::new(alloc),
     })
@@ -89,7 +84,7 @@ pub fn configure(
     bssid: Bssid,
     accept: &[Addr],
     deny: &[Addr],
-) -> Result<Decision, AllocError>
+) -> Result<Draft, AllocError>
     ensures changes { IfOk result (λ d. d.changes ≡ (configure_verdict table.now conf.now bssid accept.now deny.now).changes) }
     ensures outs { IfOk result (λ d. d.outs ≡ (configure_verdict table.now conf.now bssid accept.now deny.now).outs) }
 {

@@ -1,5 +1,5 @@
 //! What the station management entity decides.
-ghost use Rattle.std.specs.Prelude.{◌≡◌, ◌==◌, ◌&&◌, [], ◌∷◌, length, IfOk};
+ghost use Rattle.std.specs.Prelude.{◌≡◌, ◌==◌, ◌&&◌, length, IfOk};
 ghost use Rattle.apd_mlme.specs.Outs.{sent};
 
 use apd_base::{Addr, Aid, Bssid, Sequence};
@@ -44,27 +44,6 @@ pub struct Decision {
 }
 
 impl Decision {
-    /// Nothing changes and nothing leaves. It takes no memory.
-    pub(crate) fn nothing(alloc: Global) -> Decision
-        ensures changes { result.changes ≡ [] }
-        ensures outs { result.outs ≡ [] }
-    {
-        Decision {
-            changes: Sequence::new(alloc),
-            outs: Sequence::new(alloc),
-        }
-    }
-
-    /// Nothing changes, and one frame leaves.
-    pub(crate) fn only_sent(alloc: Global, reply: &Reply) -> Result<Decision, AllocError>
-        ensures changes { IfOk result (λ d. d.changes ≡ []) }
-        ensures outs { IfOk result (λ d. d.outs ≡ sent reply.now ∷ []) }
-    {
-        let mut decision = Decision::nothing(alloc);
-        decision.outs.push(sent(alloc, reply)?)?;
-        Ok(decision)
-    }
-
     /// Whether nothing changes and nothing leaves.
     pub fn is_nothing(&self) -> bool
         ensures { result ≡ ((length self.now.changes == 0) && (length self.now.outs == 0)) }

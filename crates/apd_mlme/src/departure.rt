@@ -3,7 +3,8 @@
 ghost use Rattle.std.specs.Prelude.{◌≡◌, IfOk};
 ghost use Rattle.apd_mlme.specs.Departure.{data_verdict, deauthentication_verdict, disassociation_verdict};
 
-use crate::decision::{Decision, Out, Recipient};
+use crate::decision::{Out, Recipient};
+use crate::draft::Draft;
 use crate::leaving::{deauthentication, disassociation, dropped, push_removal, put_back};
 use apd_base::{Addr, Bssid, Sequence, Station};
 use apd_frame::Reason;
@@ -16,7 +17,7 @@ pub fn disassociated(
     table: &Table,
     bssid: Bssid,
     sender: Addr,
-) -> Result<Decision, AllocError>
+) -> Result<Draft, AllocError>
     ensures changes { IfOk result (λ d. d.changes ≡ (disassociation_verdict table.now bssid sender).changes) }
     ensures outs { IfOk result (λ d. d.outs ≡ (disassociation_verdict table.now bssid sender).outs) }
 {
@@ -26,9 +27,9 @@ pub fn disassociated(
             outs.push((Recipient::Radio(bssid), Out::Remove(sender)))?;
             put_back(alloc, bssid, sender, outs)
         }
-        Some(Station::Authenticated) => Ok(Decision::nothing(alloc)),
+        Some(Station::Authenticated) => Ok(Draft::nothing(alloc)),
         None => {
-            Decision::only_sent(
+            Draft::only_sent(
                 alloc,
                 &deauthentication(bssid, sender, Reason::INVALID_CLASS2_FRAME),
             )
@@ -42,12 +43,12 @@ pub fn deauthenticated(
     table: &Table,
     bssid: Bssid,
     sender: Addr,
-) -> Result<Decision, AllocError>
+) -> Result<Draft, AllocError>
     ensures changes { IfOk result (λ d. d.changes ≡ (deauthentication_verdict table.now bssid sender).changes) }
     ensures outs { IfOk result (λ d. d.outs ≡ (deauthentication_verdict table.now bssid sender).outs) }
 {
     if table.get(bssid, sender).is_none() {
-        return Ok(Decision::nothing(alloc));
+        return Ok(Draft::nothing(alloc));
     }
     let mut outs = Sequence::new(alloc);
     push_removal(table, bssid, sender, &mut outs)?;
@@ -55,25 +56,20 @@ pub fn deauthenticated(
 }
 
 /// What data from a station bring about.
-pub fn data(
-    alloc: Global,
-    table: &Table,
-    bssid: Bssid,
-    sender: Addr,
-) -> Result<Decision, AllocError>
+pub fn data(alloc: Global, table: &Table, bssid: Bssid, sender: Addr) -> Result<Draft, AllocError>
     ensures changes { IfOk result (λ d. d.changes ≡ (data_verdict table.now bssid sender).changes) }
     ensures outs { IfOk result (λ d. d.outs ≡ (data_verdict table.now bssid sender).outs) }
 {
     match table.get(bssid, sender) {
-        Some(Station::Associated(_)) => Ok(Decision::nothing(alloc)),
+        Some(Station::Associated(_)) => Ok(Draft::nothing(alloc)),
         Some(Station::Authenticated) => {
-            Decision::only_sent(
+            Draft::only_sent(
                 alloc,
                 &disassociation(bssid, sender, Reason::INVALID_CLASS3_FRAME),
             )
         }
         None => {
-            Decision::only_sent(
+            Draft::only_sent(
                 alloc,
                 &deauthentication(bssid, sender, Reason::INVALID_CLASS3_FRAME),
             )

@@ -2,7 +2,7 @@
 ghost use Rattle.std.specs.Prelude.{◌≡◌, IfOk};
 ghost use Rattle.apd_mlme.specs.Inactivity.{inactivity_verdict};
 
-use crate::decision::Decision;
+use crate::draft::Draft;
 use crate::leaving::{dropped, push_outs_of_drop, push_outs_of_end, put_back};
 use apd_base::{Addr, Bssid, Sequence, Station};
 use apd_frame::Reason;
@@ -10,12 +10,7 @@ use apd_table::Table;
 use std::alloc::{AllocError, Global};
 
 /// What the silence of a station brings about. Without a row it is nothing.
-pub fn expired(
-    alloc: Global,
-    table: &Table,
-    bssid: Bssid,
-    addr: Addr,
-) -> Result<Decision, AllocError>
+pub fn expired(alloc: Global, table: &Table, bssid: Bssid, addr: Addr) -> Result<Draft, AllocError>
     ensures changes { IfOk result (λ d. d.changes ≡ (inactivity_verdict table.now bssid addr).changes) }
     ensures outs { IfOk result (λ d. d.outs ≡ (inactivity_verdict table.now bssid addr).outs) }
 {
@@ -30,6 +25,6 @@ pub fn expired(
             push_outs_of_drop(alloc, table, bssid, addr, reason, &mut outs)?;
             dropped(alloc, bssid, addr, outs)
         }
-        None => Ok(Decision::nothing(alloc)),
+        None => Ok(Draft::nothing(alloc)),
     }
 }

@@ -6,14 +6,15 @@ ghost use Rattle.apd_base.specs.declared.address.TheConstants.{BROADCAST};
 ghost use Rattle.apd_mlme.specs.Commands.{all_kicked, deauthenticated, disassociated, farewell, kick_verdict, kicked};
 
 use crate::answer::{Answer, answered};
-use crate::decision::{Decision, sent};
+use crate::decision::sent;
+use crate::draft::Draft;
 use crate::leaving::{
     deauthentication, disassociation, dropped, push_outs_of_drop, push_outs_of_end, push_removal,
     put_back,
 };
 use apd_base::{Addr, BROADCAST, Bssid, Sequence, Station};
 use apd_frame::{Reason, Reply};
-use apd_record::Change;
+use apd_record::{Change, Changes};
 use apd_table::Table;
 use std::alloc::{AllocError, Global};
 
@@ -41,7 +42,7 @@ fn deauthenticated(
     bssid: Bssid,
     to: Addr,
     reason: Reason,
-) -> Result<Decision, AllocError>
+) -> Result<Draft, AllocError>
     ensures changes { IfOk result (λ d. d.changes ≡ (deauthenticated table.now bssid to reason).changes) }
     ensures outs { IfOk result (λ d. d.outs ≡ (deauthenticated table.now bssid to reason).outs) }
 {
@@ -51,7 +52,7 @@ fn deauthenticated(
             push_outs_of_drop(alloc, table, bssid, to, reason, &mut outs)?;
             dropped(alloc, bssid, to, outs)
         }
-        None => Decision::only_sent(alloc, &deauthentication(bssid, to, reason)),
+        None => Draft::only_sent(alloc, &deauthentication(bssid, to, reason)),
     }
 }
 
@@ -62,7 +63,7 @@ fn disassociated(
     bssid: Bssid,
     to: Addr,
     reason: Reason,
-) -> Result<Decision, AllocError>
+) -> Result<Draft, AllocError>
     ensures changes { IfOk result (λ d. d.changes ≡ (disassociated table.now bssid to reason).changes) }
     ensures outs { IfOk result (λ d. d.outs ≡ (disassociated table.now bssid to reason).outs) }
 {
@@ -73,7 +74,7 @@ fn disassociated(
             put_back(alloc, bssid, to, outs)
         }
         Some(Station::Authenticated) | None => {
-            Decision::only_sent(alloc, &disassociation(bssid, to, reason))
+            Draft::only_sent(alloc, &disassociation(bssid, to, reason))
         }
     }
 }
@@ -85,19 +86,19 @@ fn all_kicked(
     bssid: Bssid,
     reason: Reason,
     deauth: bool,
-) -> Result<Decision, AllocError>
+) -> Result<Draft, AllocError>
     ensures changes { IfOk result (λ d. d.changes ≡ (all_kicked table.now bssid reason deauth).changes) }
     ensures outs { IfOk result (λ d. d.outs ≡ (all_kicked table.now bssid reason deauth).outs) }
 {
     let all = table.addresses(alloc, bssid)?;
-    let mut changes = Sequence::new(alloc);
+    let mut changes = Changes::new(alloc);
     let mut outs = Sequence::new(alloc);
     for addr in all.as_slice() {
         changes.push(Change::Drop { bssid, addr: *addr })?;
         push_removal(table, bssid, *addr, &mut outs)?;
     }
     outs.push(sent(alloc, &farewell(bssid, BROADCAST, reason, deauth))?)?;
-    Ok(Decision { changes, outs })
+    Ok(Draft { changes, outs })
 }
 
 fn kicked(
@@ -107,7 +108,7 @@ fn kicked(
     to: Addr,
     reason: Reason,
     deauth: bool,
-) -> Result<Decision, AllocError>
+) -> Result<Draft, AllocError>
     ensures changes { IfOk result (λ d. d.changes ≡ (kicked table.now bssid to reason deauth).changes) }
     ensures outs { IfOk result (λ d. d.outs ≡ (kicked table.now bssid to reason deauth).outs) }
 {
@@ -130,7 +131,7 @@ pub fn kick(
     reason: Reason,
     deauth: bool,
     tag: u64,
-) -> Result<Decision, AllocError>
+) -> Result<Draft, AllocError>
     ensures changes { IfOk result (λ d. d.changes ≡ (kick_verdict table.now bssid to reason deauth tag).changes) }
     ensures outs { IfOk result (λ d. d.outs ≡ (kick_verdict table.now bssid to reason deauth tag).outs) }
 {

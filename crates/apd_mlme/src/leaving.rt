@@ -6,10 +6,11 @@ ghost use Rattle.apd_frame.specs.declared.codes.TheConstants.Reason.{UNSPECIFIED
 ghost use Rattle.apd_record.specs.declared.change.Change.TheVariants.{Drop, Put};
 ghost use Rattle.apd_mlme.specs.Leaving.{deauthentication, disassociation, outs_of_drop, outs_of_end, removal};
 
-use crate::decision::{Decision, Out, Recipient, sent};
+use crate::decision::{Out, Recipient, sent};
+use crate::draft::Draft;
 use apd_base::{Addr, Bssid, Sequence, Station};
 use apd_frame::{Reason, Reply, ReplyBody};
-use apd_record::Change;
+use apd_record::{Change, Changes};
 use apd_table::Table;
 use std::alloc::{AllocError, Global};
 
@@ -85,17 +86,17 @@ pub(crate) fn put_back(
     bssid: Bssid,
     addr: Addr,
     outs: Sequence<(Recipient, Out)>,
-) -> Result<Decision, AllocError>
+) -> Result<Draft, AllocError>
     ensures changes { IfOk result (λ d. d.changes ≡ Put bssid addr Authenticated ∷ []) }
     ensures outs { IfOk result (λ d. d.outs ≡ outs) }
 {
-    let mut changes = Sequence::new(alloc);
+    let mut changes = Changes::new(alloc);
     changes.push(Change::Put {
         bssid,
         addr,
         station: Station::Authenticated,
     })?;
-    Ok(Decision { changes, outs })
+    Ok(Draft { changes, outs })
 }
 
 /// A station has no row from now on; these outs leave.
@@ -104,13 +105,13 @@ pub(crate) fn dropped(
     bssid: Bssid,
     addr: Addr,
     outs: Sequence<(Recipient, Out)>,
-) -> Result<Decision, AllocError>
+) -> Result<Draft, AllocError>
     ensures changes { IfOk result (λ d. d.changes ≡ Drop bssid addr ∷ []) }
     ensures outs { IfOk result (λ d. d.outs ≡ outs) }
 {
-    let mut changes = Sequence::new(alloc);
+    let mut changes = Changes::new(alloc);
     changes.push(Change::Drop { bssid, addr })?;
-    Ok(Decision { changes, outs })
+    Ok(Draft { changes, outs })
 }
 
 /// Stations that the policy denies have no row from now on, one after the other, and are told so.
@@ -119,15 +120,15 @@ pub(crate) fn denied_dropped(
     table: &Table,
     bssid: Bssid,
     denied: &[Addr],
-) -> Result<Decision, AllocError>
+) -> Result<Draft, AllocError>
     ensures changes { IfOk result (λ d. d.changes ≡ map (λ a. Drop bssid a) denied.now) }
     ensures outs { IfOk result (λ d. d.outs ≡ flat_map (λ a. outs_of_drop table.now bssid a UNSPECIFIED) denied.now) }
 {
-    let mut changes = Sequence::new(alloc);
+    let mut changes = Changes::new(alloc);
     let mut outs = Sequence::new(alloc);
     for addr in denied {
         changes.push(Change::Drop { bssid, addr: *addr })?;
         push_outs_of_drop(alloc, table, bssid, *addr, Reason::UNSPECIFIED, &mut outs)?;
     }
-    Ok(Decision { changes, outs })
+    Ok(Draft { changes, outs })
 }

@@ -19,6 +19,7 @@ mod authentication;
 mod configuration;
 pub mod decision;
 mod departure;
+mod draft;
 pub mod event;
 mod inactivity;
 mod kick;
@@ -32,10 +33,10 @@ pub use answer::Answer;
 use apd_base::Bssid;
 use apd_conf::{Conf, Confs};
 use apd_frame::Frame;
-use apd_record::known_changes;
 use apd_table::Table;
 use association::Kind;
 pub use decision::{Decision, Out, Recipient};
+use draft::Draft;
 pub use event::{Edit, Event};
 use std::alloc::{AllocError, Global};
 
@@ -79,7 +80,7 @@ fn decide_fit(
     ensures known { IfOk result (λ d. AreChanges d.changes) }
 {
     let conf = confs.with_bssid(event.bssid()).unwrap();
-    let decision = match event {
+    let draft = match event {
         Event::Heard(bssid, frame) => heard(alloc, table, confs, conf, bssid, frame)?,
         Event::Kick {
             bssid,
@@ -101,8 +102,7 @@ fn decide_fit(
             deny,
         } => configuration::configure(alloc, table, conf, bssid, accept, deny)?,
     };
-    known_changes(decision.changes.as_slice());
-    Ok(decision)
+    Ok(draft.decided())
 }
 
 fn heard(
@@ -112,7 +112,7 @@ fn heard(
     conf: &Conf,
     bssid: Bssid,
     frame: Frame<'_>,
-) -> Result<Decision, AllocError>
+) -> Result<Draft, AllocError>
     ensures changes { IfOk result (λ d. d.changes ≡ (heard_verdict table.now confs.now conf.now bssid (contents frame.entry)).changes) }
     ensures outs { IfOk result (λ d. d.outs ≡ (heard_verdict table.now confs.now conf.now bssid (contents frame.entry)).outs) }
 {

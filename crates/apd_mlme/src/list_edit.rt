@@ -6,7 +6,7 @@ ghost use Rattle.apd_base.specs.declared.limits.TheConstants.{MAX_LISTED};
 ghost use Rattle.apd_mlme.specs.Commands.{change_of, edited, list_edit_verdict};
 
 use crate::answer::{Answer, answered};
-use crate::decision::Decision;
+use crate::draft::Draft;
 use crate::event::Edit;
 use crate::leaving::denied_dropped;
 use apd_base::limits::MAX_LISTED;
@@ -33,7 +33,7 @@ fn edited(
     bssid: Bssid,
     which: Which,
     edit: Edit,
-) -> Result<Decision, AllocError>
+) -> Result<Draft, AllocError>
     ensures changes { IfOk result (λ d. d.changes ≡ (edited table.now bssid which edit).changes) }
     ensures outs { IfOk result (λ d. d.outs ≡ (edited table.now bssid which edit).outs) }
 {
@@ -72,7 +72,7 @@ pub fn list_edit(
     which: Which,
     edit: Edit,
     tag: u64,
-) -> Result<Decision, AllocError>
+) -> Result<Draft, AllocError>
     requires { IsSome (policy_at table.now bssid) }
     ensures changes { IfOk result (λ d. d.changes ≡ (list_edit_verdict table.now bssid which edit tag).changes) }
     ensures outs { IfOk result (λ d. d.outs ≡ (list_edit_verdict table.now bssid which edit tag).outs) }
@@ -80,9 +80,9 @@ pub fn list_edit(
     let (answer, decision) = match edit {
         Edit::Add(addr) => {
             if is_listed(table, bssid, which, addr) {
-                (Answer::Done, Decision::nothing(alloc))
+                (Answer::Done, Draft::nothing(alloc))
             } else if is_full(table, bssid, which) {
-                (Answer::Refused, Decision::nothing(alloc))
+                (Answer::Refused, Draft::nothing(alloc))
             } else {
                 (Answer::Done, edited(alloc, table, bssid, which, edit)?)
             }
@@ -91,7 +91,7 @@ pub fn list_edit(
             if is_listed(table, bssid, which, addr) {
                 (Answer::Done, edited(alloc, table, bssid, which, edit)?)
             } else {
-                (Answer::Done, Decision::nothing(alloc))
+                (Answer::Done, Draft::nothing(alloc))
             }
         }
         Edit::Clear => (Answer::Done, edited(alloc, table, bssid, which, edit)?),

@@ -4,7 +4,7 @@ ghost use Rattle.std.specs.Option.{option_copied};
 ghost use Rattle.apd_frame.specs.Contents.{probe};
 ghost use Rattle.apd_mlme.specs.ProbeRequest.{is_answered, is_asked, is_open, probe_outs, probe_response};
 
-use crate::decision::Decision;
+use crate::draft::Draft;
 use crate::offer::{channel, rates};
 use apd_base::{Addr, Bssid};
 use apd_conf::{Conf, IgnoreBroadcastSsid};
@@ -58,13 +58,13 @@ pub fn answer(
     conf: &Conf,
     bssid: Bssid,
     request: &Probe<'_>,
-) -> Result<Decision, AllocError>
+) -> Result<Draft, AllocError>
     ensures changes { IfOk result (λ d. d.changes ≡ []) }
     ensures outs { IfOk result (λ d. d.outs ≡ probe_outs conf.now bssid (probe request.now)) }
 {
     if !is_answered(conf, request.elements) {
-        return Ok(Decision::nothing(alloc));
+        return Ok(Draft::nothing(alloc));
     }
     let reply = response(alloc, conf, bssid, request.sender)?;
-    Decision::only_sent(alloc, &reply)
+    Draft::only_sent(alloc, &reply)
 }

@@ -23,9 +23,9 @@ abbrev pub NoRecord : ℕ → Bssid → List ℕ → Type 0
 NoRecord tag b bytes = (x : Change) (rest : List ℕ) → IsChange x → tag ∷ b.0.0 ++ bytes ≡ record_of x ++ rest → ⊥
 
 -- what a `?` passes on where there is none
-pub none_is : {X : Type 0} (found : Option X) (tag n : ℕ) (b : Bssid) (bytes : List ℕ) → tag ≡ n → NoRecord n b bytes → IfNone found (NoRecord tag b bytes)
-none_is None tag n b bytes e none = λ x rest is h. none x rest is (ap (λ (t : ℕ). t ∷ b.0.0 ++ bytes) (sym e) ∙ h)
-none_is (Some y) tag n b bytes e none = tt
+pub passed_on : {X : Type 0} (found : Option X) (tag n : ℕ) (b : Bssid) (bytes : List ℕ) → tag ≡ n → NoRecord n b bytes → IfNone found (NoRecord tag b bytes)
+passed_on None tag n b bytes e none = λ x rest is h. none x rest is (ap (λ (t : ℕ). t ∷ b.0.0 ++ bytes) (sym e) ∙ h)
+passed_on (Some y) tag n b bytes e none = tt
 
 by_body : (tag : ℕ) (b : Bssid) (bytes : List ℕ) → length b.0.0 ≡ 6 → ((x : Change) (rest : List ℕ) → IsChange x → tag ≡ tag_of x → bytes ≡ body_of x ++ rest → ⊥) → NoRecord tag b bytes
 by_body tag b bytes six none x rest is e =

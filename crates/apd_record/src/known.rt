@@ -2,7 +2,7 @@
 ghost use Rattle.std.specs.Prelude.{◌<◌, ◌^◌};
 ghost use Rattle.std.specs.List.{AllByRecursion};
 ghost use Rattle.apd_base.specs.Addr.{IsAddr};
-ghost use Rattle.apd_record.specs.Ranges.{IsStation, IsChange, AreChanges};
+ghost use Rattle.apd_record.specs.Ranges.{IsStation, IsChange};
 
 use crate::change::Change;
 use apd_base::{Addr, Station};
@@ -58,15 +58,5 @@ impl Change {
             }
             Change::ListClear { bssid, .. } | Change::Policy { bssid, .. } => known_addr(bssid.0),
         }
-    }
-}
-
-/// Tells a caller's proof that these changes are in the ranges of their types. It changes nothing, and
-/// looks at each of them once.
-pub fn known_changes(changes: &[Change])
-    ensures { AreChanges changes.now }
-{
-    for change in changes {
-        change.known();
     }
 }

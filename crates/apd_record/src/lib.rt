@@ -2,14 +2,15 @@
 #![tactic(auto)]
 
 pub mod change;
+pub mod changes;
 mod fields;
-pub mod known;
+mod known;
 pub mod laws;
 pub mod reader;
 pub mod writer;
 
 pub use change::Change;
-pub use known::known_changes;
+pub use changes::Changes;
 pub use laws::{no_record_begins_another, records_are_read_in_one_way};
 pub use reader::read_all;
 pub use writer::{total_length, write};

@@ -12,23 +12,24 @@ use Rattle.apd_disk.specs.Disk.{TornWithin}
 use Rattle.apd_disk.specs.MemLaws.{torn_overwritten, length-overwritten}
 use Rattle.apd_journal.specs.Half.{IsGroup, HalfHolds, planned_bytes}
 use Rattle.apd_journal.proofs.Growth.{length-planned, front_holds, behind_unread, opened as opened_holds}
-use Rattle.apd_store.specs.Image.{IsCurrent, Shows}
-use Rattle.apd_store.specs.Layout.{image_of, AreParts, IsFound}
+use Rattle.apd_store.specs.Image.{magic, IsCurrent, Shows, ShowsBy}
+use Rattle.apd_store.specs.Layout.{image_by, image_of, AreParts, IsFound, IsFoundBy}
 use Rattle.apd_store.specs.Commit.{laid, opened}
 use Rattle.apd_store.specs.declared.half.Half.{Half}
 use Rattle.apd_store.specs.declared.half.Half.TheVariants.{A, B}
 
 -- ---- whole images
 
-pub image_shows : (side : Half) (reserved half other : List ℕ) (gate : ℕ) (state : State) → AreParts reserved half other → IsCurrent half other gate state → Shows (image_of side reserved half other) state
-image_shows A reserved half other gate state p current = record {
+pub image_shows_by : (mark : List ℕ) (side : Half) (reserved half other : List ℕ) (gate : ℕ) (state : State) → AreParts reserved half other → IsCurrent half other gate state
+    → ShowsBy mark (image_by mark side reserved half other) state
+image_shows_by mark A reserved half other gate state p current = record {
   a = half;
   b = other;
   store = record { reserved = reserved; is = refl; reserved_length = p.reserved_length; a_length = p.half_length; b_length = p.other_length };
   gate = gate;
   current = inl current;
 }
-image_shows B reserved half other gate state p current = record {
+image_shows_by mark B reserved half other gate state p current = record {
   a = other;
   b = half;
   store = record { reserved = reserved; is = refl; reserved_length = p.reserved_length; a_length = p.other_length; b_length = p.half_length };
@@ -36,8 +37,14 @@ image_shows B reserved half other gate state p current = record {
   current = inr current;
 }
 
+pub image_shows : (side : Half) (reserved half other : List ℕ) (gate : ℕ) (state : State) → AreParts reserved half other → IsCurrent half other gate state → Shows (image_of side reserved half other) state
+image_shows side reserved half other gate state p current = image_shows_by magic side reserved half other gate state p current
+
+pub found_shows_by : (mark image : List ℕ) (side : Half) (epoch gate : ℕ) (other_open : Bool) (state : State) → IsFoundBy mark image side epoch gate other_open state → ShowsBy mark image state
+found_shows_by mark image side epoch gate other_open state f = subst (λ (l : List ℕ). ShowsBy mark l state) (sym f.is) (image_shows_by mark side f.reserved f.half f.other gate state f.parts f.current)
+
 pub found_shows : (image : List ℕ) (side : Half) (epoch gate : ℕ) (other_open : Bool) (state : State) → IsFound image side epoch gate other_open state → Shows image state
-found_shows image side epoch gate other_open state f = subst (λ (l : List ℕ). Shows l state) (sym f.is) (image_shows side f.reserved f.half f.other gate state f.parts f.current)
+found_shows image side epoch gate other_open state f = found_shows_by magic image side epoch gate other_open state f
 
 pub same_parts : (reserved half h other : List ℕ) → AreParts reserved half other → length h ≡ length half → AreParts reserved h other
 same_parts reserved half h other p same = record { reserved_length = p.reserved_length; half_length = same ∙ p.half_length; other_length = p.other_length }

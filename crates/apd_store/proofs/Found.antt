@@ -11,8 +11,8 @@ use Rattle.apd_table.specs.Sound.{StaySound}
 use Rattle.apd_journal.specs.Half.{HalfHolds}
 use Rattle.apd_journal.proofs.Once.{half_once}
 use Rattle.apd_journal.specs.declared.writer.TheConstants.{HALF_LENGTH}
-use Rattle.apd_store.specs.Image.{magic, HasOpenGate, IsStore, IsOpen, IsBehind, HalfShows, IsCurrent, ShowsNone, IsMarked}
-use Rattle.apd_store.specs.Layout.{IsFound}
+use Rattle.apd_store.specs.Image.{magic, HasOpenGate, IsStore, IsStoreBy, IsOpen, IsBehind, HalfShows, IsCurrent, ShowsNone, IsMarked, IsMarkedBy}
+use Rattle.apd_store.specs.Layout.{IsFound, IsFoundBy}
 use Rattle.apd_store.specs.declared.half.Half.{Half}
 use Rattle.apd_store.specs.declared.half.Half.TheVariants.{A, B}
 use Rattle.apd_store.specs.declared.fault.StoreFault.{StoreFault}
@@ -49,33 +49,76 @@ shows half epoch place changes state holds is sound = record { changes = changes
 
 -- ---- an image by its bytes
 
-module _ (image : List ℕ) (marked : IsMarked image) where
+-- whatever its version's mark
+module _ (mark image : List ℕ) (marked : IsMarkedBy mark image) where
   abbrev reserved : List ℕ
   reserved = take 56 (drop 8 image)
 
+  abbrev front_half : List ℕ
+  front_half = take HALF_LENGTH (drop 64 image)
+
+  abbrev back_half : List ℕ
+  back_half = drop HALF_LENGTH (drop 64 image)
+
+  image_is : image ≡ mark ++ (reserved ++ (front_half ++ back_half))
+  image_is =
+      sym (take-append-drop 8 image) ∙ ap (λ (l : List ℕ). l ++ drop 8 image) marked.1
+      ∙ ap (λ (l : List ℕ). mark ++ l) (sym (take-append-drop 56 (drop 8 image))
+      ∙ ap (λ (l : List ℕ). take 56 (drop 8 image) ++ l) (drop-drop 56 8 image ∙ sym (take-append-drop HALF_LENGTH (drop 64 image))))
+
+  reserved_length : length reserved ≡ 56
+  reserved_length = length-take-le 56 (drop 8 image) (omega (arith, length-drop 8 image, marked.0))
+
+  a_length : length front_half ≡ HALF_LENGTH
+  a_length = length-take-le HALF_LENGTH (drop 64 image) (omega (arith, length-drop 64 image, marked.0))
+
+  b_length : length back_half ≡ HALF_LENGTH
+  b_length = omega (arith, length-drop HALF_LENGTH (drop 64 image), length-drop 64 image, marked.0)
+
+  store_by : IsStoreBy mark image front_half back_half
+  store_by = record { reserved = reserved; is = image_is; reserved_length = reserved_length; a_length = a_length; b_length = b_length }
+
+  -- the current half shows the state
+  abbrev current_of : (half other : List ℕ) (gate : ℕ) (state : State) → HasCurrent half other → (epoch : ℕ) × HalfShows half epoch gate state → IsCurrent half other gate state
+  current_of half other gate state current found =
+      let same : current.0 ≡ found.0 = open_once half current.0 found.0 current.1 (holds_open half found.0 found.1.changes gate found.1.holds) in
+      record { epoch = found.0; shows = found.1; behind = subst (IsBehind other) same current.2 }
+
+  pub found_by_a : (epoch gate : ℕ) (other_open : Bool) (state : State) → HasCurrent front_half back_half → HalfShows front_half epoch gate state → IsTrue other_open ↔ HasOpenGate back_half
+      → IsFoundBy mark image A epoch gate other_open state
+  found_by_a epoch gate other_open state current found opens = record {
+    reserved = reserved;
+    half = front_half;
+    other = back_half;
+    parts = record { reserved_length = reserved_length; half_length = a_length; other_length = b_length };
+    is = image_is;
+    current = current_of front_half back_half gate state current (epoch, found);
+    epoch_is = refl;
+    gate_is = opens;
+  }
+
+  pub found_by_b : (epoch gate : ℕ) (other_open : Bool) (state : State) → HasCurrent back_half front_half → HalfShows back_half epoch gate state → IsTrue other_open ↔ HasOpenGate front_half
+      → IsFoundBy mark image B epoch gate other_open state
+  found_by_b epoch gate other_open state current found opens = record {
+    reserved = reserved;
+    half = back_half;
+    other = front_half;
+    parts = record { reserved_length = reserved_length; half_length = b_length; other_length = a_length };
+    is = image_is;
+    current = current_of back_half front_half gate state current (epoch, found);
+    epoch_is = refl;
+    gate_is = opens;
+  }
+
+module _ (image : List ℕ) (marked : IsMarked image) where
   abbrev half_a : List ℕ
   half_a = take HALF_LENGTH (drop 64 image)
 
   abbrev half_b : List ℕ
   half_b = drop HALF_LENGTH (drop 64 image)
 
-  image_is : image ≡ magic ++ (reserved ++ (half_a ++ half_b))
-  image_is =
-      sym (take-append-drop 8 image) ∙ ap (λ (l : List ℕ). l ++ drop 8 image) marked.1
-      ∙ ap (λ (l : List ℕ). magic ++ l) (sym (take-append-drop 56 (drop 8 image))
-      ∙ ap (λ (l : List ℕ). take 56 (drop 8 image) ++ l) (drop-drop 56 8 image ∙ sym (take-append-drop HALF_LENGTH (drop 64 image))))
-
-  reserved_length : length reserved ≡ 56
-  reserved_length = length-take-le 56 (drop 8 image) (omega (arith, length-drop 8 image, marked.0))
-
-  a_length : length half_a ≡ HALF_LENGTH
-  a_length = length-take-le HALF_LENGTH (drop 64 image) (omega (arith, length-drop 64 image, marked.0))
-
-  b_length : length half_b ≡ HALF_LENGTH
-  b_length = omega (arith, length-drop HALF_LENGTH (drop 64 image), length-drop 64 image, marked.0)
-
   store : IsStore image half_a half_b
-  store = record { reserved = reserved; is = image_is; reserved_length = reserved_length; a_length = a_length; b_length = b_length }
+  store = store_by magic image marked
 
   abbrev pub HoldsNone : List ℕ → Type 0
   HoldsNone half = (epoch gate : ℕ) (state : State) → HalfShows half epoch gate state → ⊥
@@ -102,47 +145,17 @@ module _ (image : List ℕ) (marked : IsMarked image) where
   pub damaged_b : HasCurrent half_b half_a → HoldsNone half_b → ShowsNone image
   damaged_b current none = shows_none (not_behind half_b half_a current) (λ gate state x. none x.epoch gate state x.shows)
 
-  -- it shows one
-  abbrev current_of : (half other : List ℕ) (gate : ℕ) (state : State) → HasCurrent half other → (epoch : ℕ) × HalfShows half epoch gate state → IsCurrent half other gate state
-  current_of half other gate state current found =
-      let same : current.0 ≡ found.0 = open_once half current.0 found.0 current.1 (holds_open half found.0 found.1.changes gate found.1.holds) in
-      record { epoch = found.0; shows = found.1; behind = subst (IsBehind other) same current.2 }
-
-  pub found_a : (epoch gate : ℕ) (other_open : Bool) (state : State) → HasCurrent half_a half_b → HalfShows half_a epoch gate state → IsTrue other_open ↔ HasOpenGate half_b → IsFound image A epoch gate other_open state
-  found_a epoch gate other_open state current found opens = record {
-    reserved = reserved;
-    half = half_a;
-    other = half_b;
-    parts = record { reserved_length = reserved_length; half_length = a_length; other_length = b_length };
-    is = image_is;
-    current = current_of half_a half_b gate state current (epoch, found);
-    epoch_is = refl;
-    gate_is = opens;
-  }
-
-  pub found_b : (epoch gate : ℕ) (other_open : Bool) (state : State) → HasCurrent half_b half_a → HalfShows half_b epoch gate state → IsTrue other_open ↔ HasOpenGate half_a → IsFound image B epoch gate other_open state
-  found_b epoch gate other_open state current found opens = record {
-    reserved = reserved;
-    half = half_b;
-    other = half_a;
-    parts = record { reserved_length = reserved_length; half_length = b_length; other_length = a_length };
-    is = image_is;
-    current = current_of half_b half_a gate state current (epoch, found);
-    epoch_is = refl;
-    gate_is = opens;
-  }
-
   -- ---- what was read of the halves, as the code has them
   module _ (a b : List ℕ) (a_is : a ≡ half_a) (b_is : b ≡ half_b) (r : Result Found StoreFault) where
     at_halves : (P : List ℕ → List ℕ → Type 0) → P a b → P half_a half_b
     at_halves P p = subst (λ (l : List ℕ). P l half_b) a_is (subst (λ (l : List ℕ). P a l) b_is p)
 
     ok_found_a : (r : Result Found StoreFault) → HasCurrent half_a half_b → IfOk r (λ f. f.half ≡ A) → IfOk r (λ f. HalfShows half_a f.epoch f.gate f.table) → IfOk r (λ f. IsTrue f.other_open ↔ HasOpenGate half_b) → IfOk r (λ f. IsFound image f.half f.epoch f.gate f.other_open f.table)
-    ok_found_a (Ok f) current side shown opens = subst (λ (h : Half). IsFound image h f.epoch f.gate f.other_open f.table) (sym side) (found_a f.epoch f.gate f.other_open f.table current shown opens)
+    ok_found_a (Ok f) current side shown opens = subst (λ (h : Half). IsFound image h f.epoch f.gate f.other_open f.table) (sym side) (found_by_a magic image marked f.epoch f.gate f.other_open f.table current shown opens)
     ok_found_a (Err e) current side shown opens = tt
 
     ok_found_b : (r : Result Found StoreFault) → HasCurrent half_b half_a → IfOk r (λ f. f.half ≡ B) → IfOk r (λ f. HalfShows half_b f.epoch f.gate f.table) → IfOk r (λ f. IsTrue f.other_open ↔ HasOpenGate half_a) → IfOk r (λ f. IsFound image f.half f.epoch f.gate f.other_open f.table)
-    ok_found_b (Ok f) current side shown opens = subst (λ (h : Half). IsFound image h f.epoch f.gate f.other_open f.table) (sym side) (found_b f.epoch f.gate f.other_open f.table current shown opens)
+    ok_found_b (Ok f) current side shown opens = subst (λ (h : Half). IsFound image h f.epoch f.gate f.other_open f.table) (sym side) (found_by_b magic image marked f.epoch f.gate f.other_open f.table current shown opens)
     ok_found_b (Err e) current side shown opens = tt
 
     pub read_a : HasCurrent a b → IfOk r (λ f. f.half ≡ A) → IfOk r (λ f. HalfShows a f.epoch f.gate f.table) → IfOk r (λ f. IsTrue f.other_open ↔ HasOpenGate b) → IfOk r (λ f. IsFound image f.half f.epoch f.gate f.other_open f.table)

@@ -5,25 +5,25 @@ use Rattle.std.proofs.lemmas.Bool.{false≢true}
 use Rattle.std.specs.Prelude.{Result, Ok, Err, OnOk}
 use Rattle.std.specs.Int.{to_le_bytes, w64}
 use Rattle.apd_base.specs.declared.limits.TheConstants.{DEVICE_LENGTH}
-use Rattle.apd_base.specs.State.{empty_state}
+use Rattle.apd_base.specs.State.{State, empty_state}
 use Rattle.apd_table.proofs.Empty.{sound_empty}
 use Rattle.apd_disk.specs.Disk.{overwritten, TornWithin, Only, Follows}
 use Rattle.apd_disk.specs.MemLaws.{torn_overwritten}
-use Rattle.apd_journal.specs.Half.{HalfHolds, block_of}
+use Rattle.apd_journal.specs.Half.{block_of}
 use Rattle.apd_journal.specs.declared.writer.TheConstants.{HALF_LENGTH}
 use Rattle.apd_journal.proofs.Growth.{new_front, front_holds}
-use Rattle.apd_store.specs.Image.{magic, HasOpenGate, IsBehind, HalfShows, Shows, IsMarked}
-use Rattle.apd_store.specs.Layout.{head_a, head_b, HasHeads, IsFound}
+use Rattle.apd_store.specs.Image.{HasOpenGate, IsBehind, HalfShows, ShowsBy, IsMarkedBy}
+use Rattle.apd_store.specs.Layout.{head_a, BeginsBy, HasZeroGate, IsLaidOut, IsFoundBy}
 use Rattle.apd_store.specs.declared.half.Half.TheVariants.{A}
-use Rattle.apd_store.proofs.Current.{found_shows}
-use Rattle.apd_store.proofs.Found.{found_a}
+use Rattle.apd_store.proofs.Current.{found_shows_by}
+use Rattle.apd_store.proofs.Found.{found_by_a}
 use Rattle.apd_store.proofs.Unique.{holds_open}
 
 -- ---- parts of a torn image
 
 -- an image torn in its first eight bytes is marked only where it was
-pub still_marked : (image c : List ℕ) → take 8 image ≡ magic → TornWithin 0 8 image c → take 8 c ≡ magic → c ≡ image
-still_marked image c was torn is = sym (take-append-drop 8 c) ∙ (λ i. is i ++ torn.after i) ∙ ap (λ (l : List ℕ). l ++ drop 8 image) (sym was) ∙ take-append-drop 8 image
+pub still_marked : (mark image c : List ℕ) → take 8 image ≡ mark → TornWithin 0 8 image c → take 8 c ≡ mark → c ≡ image
+still_marked mark image c was torn is = sym (take-append-drop 8 c) ∙ (λ i. is i ++ torn.after i) ∙ ap (λ (l : List ℕ). l ++ drop 8 image) (sym was) ∙ take-append-drop 8 image
 
 -- a part before the torn range stays
 part_before : (at n k m : ℕ) (image c : List ℕ) → TornWithin at n image c → k + m ≤ at → take m (drop k c) ≡ take m (drop k image)
@@ -41,83 +41,104 @@ part_written image at bytes le =
 
 -- ---- the heads
 
-pub heads_written : (image now after : List ℕ) → length image ≡ DEVICE_LENGTH → now ≡ overwritten image 64 head_a → after ≡ overwritten now 1048640 head_b → HasHeads after
-heads_written image now after size first second =
-    let torn_first = torn_overwritten image 64 head_a (omega (arith, size)) in
-    let now_size : length now ≡ DEVICE_LENGTH = ap length first ∙ torn_first.same_length ∙ size in
-    let torn_second = torn_overwritten now 1048640 head_b (omega (arith, now_size)) in
-    record {
-      size = ap length second ∙ torn_second.same_length ∙ now_size;
-      a = ap (λ (l : List ℕ). take 14 (drop 64 l)) second ∙ part_before 1048640 13 64 14 now (overwritten now 1048640 head_b) torn_second (omega arith)
-          ∙ ap (λ (l : List ℕ). take 14 (drop 64 l)) first ∙ part_written image 64 head_a (omega (arith, size));
-      b = ap (λ (l : List ℕ). take 13 (drop 1048640 l)) second ∙ part_written now 1048640 head_b (omega (arith, now_size));
-    }
+-- what begins with a zero has a byte
+zero_first : (b : List ℕ) → HasZeroGate b → 1 ≤ length b
+zero_first [] e = cc
+zero_first (x ∷ b) e = omega arith
+
+-- bytes that begin as these do are these and something behind
+begins : (xs head : List ℕ) → take (length head) xs ≡ head → xs ≡ head ++ drop (length head) xs
+begins xs head e = sym (take-append-drop (length head) xs) ∙ ap (λ (l : List ℕ). l ++ drop (length head) xs) e
+
+module _ (a b image now after : List ℕ) (a_fits : length a ≤ HALF_LENGTH) (b_fits : length b ≤ HALF_LENGTH) (size : length image ≡ DEVICE_LENGTH) (first : now ≡ overwritten image 64 a) (second : after ≡ overwritten now 1048640 b) where
+  torn_first : TornWithin 64 (length a) image (overwritten image 64 a)
+  torn_first = torn_overwritten image 64 a (omega (arith, size))
+
+  now_size : length now ≡ DEVICE_LENGTH
+  now_size = ap length first ∙ torn_first.same_length ∙ size
+
+  torn_second : TornWithin 1048640 (length b) now (overwritten now 1048640 b)
+  torn_second = torn_overwritten now 1048640 b (omega (arith, now_size))
+
+  a_stands : take (length a) (drop 64 after) ≡ a
+  a_stands =
+      ap (λ (l : List ℕ). take (length a) (drop 64 l)) second ∙ part_before 1048640 (length b) 64 (length a) now (overwritten now 1048640 b) torn_second (omega (arith, a_fits))
+      ∙ ap (λ (l : List ℕ). take (length a) (drop 64 l)) first ∙ part_written image 64 a (omega (arith, size))
+
+  b_stands : take (length b) (drop 1048640 after) ≡ b
+  b_stands = ap (λ (l : List ℕ). take (length b) (drop 1048640 l)) second ∙ part_written now 1048640 b (omega (arith, now_size))
+
+  half_begins : take (length a) (take HALF_LENGTH (drop 64 after)) ≡ a
+  half_begins = take-take (length a) HALF_LENGTH (drop 64 after) a_fits ∙ a_stands
+
+  pub heads_written : (epoch gate : ℕ) (state : State) → BeginsBy a epoch gate state → HasZeroGate b → IsLaidOut after epoch gate state
+  heads_written epoch gate state shows closed = record {
+    size = ap length second ∙ torn_second.same_length ∙ now_size;
+    shows = subst (λ (l : List ℕ). HalfShows l epoch gate state) (sym (begins (take HALF_LENGTH (drop 64 after)) a half_begins)) (shows (drop (length a) (take HALF_LENGTH (drop 64 after))));
+    closed = ap (λ (l : List ℕ). take 1 l) (drop-drop HALF_LENGTH 64 after) ∙ sym (take-take 1 (length b) (drop 1048640 after) (zero_first b closed)) ∙ ap (λ (l : List ℕ). take 1 l) b_stands ∙ closed;
+  }
 
 -- a half that begins with 0 is closed
-closed_behind : (xs : List ℕ) (epoch : ℕ) → take 13 xs ≡ head_b → IsBehind xs epoch
-closed_behind [] epoch zeros e opens = absurd (omega (arith, ap length opens.is))
-closed_behind (x ∷ xs) epoch zeros e opens =
+closed_behind : (xs : List ℕ) (epoch : ℕ) → HasZeroGate xs → IsBehind xs epoch
+closed_behind [] epoch zero e opens = absurd (omega (arith, ap length opens.is))
+closed_behind (x ∷ xs) epoch zero e opens =
     let gate : x ≡ 0 = cc in
     let open_gate : x ≡ 1 = (let is = opens.is in cc) in
     absurd (omega (arith, gate, open_gate))
 
-module _ (image : List ℕ) (marked : IsMarked image) (heads : HasHeads image) where
-  a_is : take HALF_LENGTH (drop 64 image) ≡ (1 ∷ (to_le_bytes w64 1 ++ block_of [])) ++ (0 ∷ drop 14 (take HALF_LENGTH (drop 64 image)))
-  a_is = sym (take-append-drop 14 (take HALF_LENGTH (drop 64 image))) ∙ ap (λ (l : List ℕ). l ++ drop 14 (take HALF_LENGTH (drop 64 image))) (take-take 14 HALF_LENGTH (drop 64 image) (omega arith) ∙ heads.a)
+not_open : (xs : List ℕ) → HasZeroGate xs → ¬ HasOpenGate xs
+not_open xs zero is =
+    let first : List ℕ → ℕ = λ l. get_or l 0 0 in
+    let both : 0 ≡ 1 = ap first (sym zero ∙ is) in
+    absurd (omega (arith, both))
 
-  a_shows : HalfShows (take HALF_LENGTH (drop 64 image)) 1 13 empty_state
-  a_shows = record {
-    changes = [];
-    holds = subst (λ (l : List ℕ). HalfHolds l 1 [] 13) (sym a_is)
-        (front_holds (1 ∷ (to_le_bytes w64 1 ++ block_of [])) 1 [] 0 (drop 14 (take HALF_LENGTH (drop 64 image))) (new_front 1 [] (omega arith) tt (omega arith)) (λ e. absurd (omega (arith, e))));
-    sound = sound_empty;
-    state_is = refl;
-  }
+-- a marked image that is laid out shows the state
+pub laid_found : (mark image : List ℕ) (epoch gate : ℕ) (state : State) → IsMarkedBy mark image → IsLaidOut image epoch gate state → IsFoundBy mark image A epoch gate false state
+laid_found mark image epoch gate state marked laid =
+    let front = take HALF_LENGTH (drop 64 image) in
+    let back = drop HALF_LENGTH (drop 64 image) in
+    found_by_a mark image marked epoch gate false state (epoch, holds_open front epoch laid.shows.changes gate laid.shows.holds, closed_behind back epoch laid.closed) laid.shows
+    (λ t. absurd (false≢true t), λ is. absurd (not_open back laid.closed is))
 
-  b_behind : (epoch : ℕ) → IsBehind (drop HALF_LENGTH (drop 64 image)) epoch
-  b_behind epoch = closed_behind (drop HALF_LENGTH (drop 64 image)) epoch (ap (λ (l : List ℕ). take 13 l) (drop-drop HALF_LENGTH 64 image) ∙ heads.b)
-
-  zero_one : (n m : ℕ) → n ≡ 0 → m ≡ 1 → n ≢ m
-  zero_one n m zero one e = absurd (omega (arith, zero, one, e))
-
-  -- half B is closed
-  b_closed : ¬ HasOpenGate (drop HALF_LENGTH (drop 64 image))
-  b_closed is =
-      let zero_first : take 1 (drop HALF_LENGTH (drop 64 image)) ≡ 0 ∷ [] =
-      sym (take-take 1 13 (drop HALF_LENGTH (drop 64 image)) (omega arith)) ∙ ap (λ (l : List ℕ). take 1 l) (ap (λ (l : List ℕ). take 13 l) (drop-drop HALF_LENGTH 64 image) ∙ heads.b) in
-      let first : List ℕ → ℕ = λ l. get_or l 0 0 in
-      absurd (zero_one 0 1 refl refl (ap first (sym zero_first ∙ is)))
-
-  -- a marked image with both heads shows the empty state
-  pub heads_found : IsFound image A 1 13 false empty_state
-  heads_found = found_a image marked 1 13 false empty_state (1, holds_open (take HALF_LENGTH (drop 64 image)) 1 a_shows.changes 13 a_shows.holds, b_behind 1) a_shows (λ t. absurd (false≢true t), λ is. absurd (b_closed is))
-
-  pub heads_show : Shows image empty_state
-  heads_show = found_shows image A 1 13 false empty_state heads_found
-
--- the heads stand while the magic is written
-heads_stay : (image c : List ℕ) → HasHeads image → TornWithin 0 8 image c → HasHeads c
-heads_stay image c heads torn = record {
-  size = torn.same_length ∙ heads.size;
-  a = ap (λ (l : List ℕ). take 14 l) (part_behind 0 8 56 image c torn) ∙ heads.a;
-  b = ap (λ (l : List ℕ). take 13 l) (part_behind 0 8 1048632 image c torn) ∙ heads.b;
+-- the head of a new store is that of the empty state
+pub begins_empty : BeginsBy head_a 1 13 empty_state
+begins_empty rest = record {
+  changes = [];
+  holds = front_holds (1 ∷ (to_le_bytes w64 1 ++ block_of [])) 1 [] 0 rest (new_front 1 [] (omega arith) tt (omega arith)) (λ e. absurd (omega (arith, e)));
+  sound = sound_empty;
+  state_is = refl;
 }
+
+-- what is laid out stays so while the mark is written
+laid_stays : (image c : List ℕ) (epoch gate : ℕ) (state : State) → IsLaidOut image epoch gate state → TornWithin 0 8 image c → IsLaidOut c epoch gate state
+laid_stays image c epoch gate state laid torn =
+    let same : drop 64 c ≡ drop 64 image = part_behind 0 8 56 image c torn in
+    record {
+      size = torn.same_length ∙ laid.size;
+      shows = subst (λ (l : List ℕ). HalfShows (take HALF_LENGTH l) epoch gate state) (sym same) laid.shows;
+      closed = ap (λ (l : List ℕ). take 1 (drop HALF_LENGTH l)) same ∙ laid.closed;
+    }
 
 -- ---- what a stop within each write leaves
 
-pub mark_images : (image : List ℕ) (old during : List ℕ → Type 0) → HasHeads image → Only image old → Follows (TornWithin 0 8) old during → (c : List ℕ) → during c → IsMarked c → Shows c empty_state
-mark_images image old during heads only follows c left marked =
+pub mark_images : (mark image : List ℕ) (old during : List ℕ → Type 0) (epoch gate : ℕ) (state : State) → length mark ≡ 8 → IsLaidOut image epoch gate state → Only image old
+    → Follows (TornWithin 0 (length mark)) old during
+    → (c : List ℕ) → during c → IsMarkedBy mark c → ShowsBy mark c state
+mark_images mark image old during epoch gate state eight laid only follows c left marked =
     let from = follows c left in
-    heads_show c marked (heads_stay image c heads (subst (λ (l : List ℕ). TornWithin 0 8 l c) (only from.0 from.1) from.2))
+    found_shows_by mark c A epoch gate false state
+    (laid_found mark c epoch gate state marked (laid_stays image c epoch gate state laid (subst (λ (n : ℕ). TornWithin 0 n image c) eight (subst (λ (l : List ℕ). TornWithin 0 (length mark) l c) (only from.0 from.1) from.2))))
 
-pub mark_found : (image after : List ℕ) → HasHeads image → after ≡ overwritten image 0 magic → IsFound after A 1 13 false empty_state
-mark_found image after heads is =
-    let torn : TornWithin 0 8 image after = subst (λ (l : List ℕ). TornWithin 0 8 image l) (sym is) (torn_overwritten image 0 magic (omega (arith, heads.size))) in
-    let stays = heads_stay image after heads torn in
-    heads_found after (stays.size, ap (λ (l : List ℕ). take 8 l) is) stays
+pub mark_found : (mark image after : List ℕ) (epoch gate : ℕ) (state : State) → length mark ≡ 8 → IsLaidOut image epoch gate state → after ≡ overwritten image 0 mark → IsFoundBy mark after A epoch gate false state
+mark_found mark image after epoch gate state eight laid is =
+    let torn_mark : TornWithin 0 (length mark) image (overwritten image 0 mark) = torn_overwritten image 0 mark (omega (arith, laid.size, eight)) in
+    let torn : TornWithin 0 8 image after = subst (λ (l : List ℕ). TornWithin 0 8 image l) (sym is) (subst (λ (n : ℕ). TornWithin 0 n image (overwritten image 0 mark)) eight torn_mark) in
+    let stays = laid_stays image after epoch gate state laid torn in
+    let begins_so : take 8 after ≡ mark = ap (λ (l : List ℕ). take 8 l) (is ∙ append_assoc (take 0 image) mark (drop (0 + length mark) image)) ∙ take_at mark (drop (0 + length mark) image) 8 eight in
+    laid_found mark after epoch gate state (stays.size, begins_so) stays
 
-pub unmarked_images : (at n : ℕ) (old during : List ℕ → Type 0) → 8 ≤ at → ((d : List ℕ) → old d → take 8 d ≢ magic) → Follows (TornWithin at n) old during → (c : List ℕ) → during c → take 8 c ≢ magic
-unmarked_images at n old during le unmarked follows c left marked =
+pub unmarked_images : (mark : List ℕ) (at n : ℕ) (old during : List ℕ → Type 0) → 8 ≤ at → ((d : List ℕ) → old d → take 8 d ≢ mark) → Follows (TornWithin at n) old during → (c : List ℕ) → during c → take 8 c ≢ mark
+unmarked_images mark at n old during le unmarked follows c left marked =
     let from = follows c left in
     unmarked from.0 from.1 (sym (part_before at n 0 8 from.0 c from.2 le) ∙ marked)
 

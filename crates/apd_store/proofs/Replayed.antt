@@ -7,6 +7,7 @@ use Rattle.apd_record.specs.Meaning.{meaning, meaning_of}
 use Rattle.apd_record.specs.declared.change.Change.{Change}
 use Rattle.apd_table.specs.Sound.{Sound, StaySound}
 use Rattle.apd_table.proofs.Empty.{sound_empty}
+use Rattle.apd_table.proofs.InTurn.{stay_first}
 
 -- some changes were made, and these are left: what all lead to, these lead to from here
 pub record Replayed (changes left : List Change) (now : State) : Type 0 where
@@ -17,10 +18,6 @@ pub record Replayed (changes left : List Change) (now : State) : Type 0 where
 
 pub replayed_none : (changes : List Change) → Replayed changes changes empty_state
 replayed_none changes = record { sound = sound_empty; leads = refl; stays = λ s. s; stayed = λ s. s }
-
-sound_first : (changes : List Change) (s : State) → StaySound changes s → Sound s
-sound_first [] s stays = stays
-sound_first (change ∷ changes) s stays = stays.0
 
 module _ (changes : List Change) (i : ℕ) (change : Change) (now : State) (inside : i < length changes) (is : change ≡ get_or changes i change) (r : Replayed changes (drop i changes) now) where
   next : drop i changes ≡ change ∷ drop (i + 1) changes
@@ -33,7 +30,7 @@ module _ (changes : List Change) (i : ℕ) (change : Change) (now : State) (insi
   replayed_more sound = record { sound = sound; leads = before.leads; stays = λ s. (before.stays s).1; stayed = λ s. before.stayed (before.sound, s) }
 
   pub replayed_bad : ¬ Sound (meaning change now) → ¬ StaySound changes empty_state
-  replayed_bad bad stays = bad (sound_first (drop (i + 1) changes) (meaning change now) (before.stays stays).1)
+  replayed_bad bad stays = bad (stay_first (drop (i + 1) changes) (meaning change now) (before.stays stays).1)
 
 pub replayed_all : (changes : List Change) (i : ℕ) (now : State) → length changes ≤ i → Replayed changes (drop i changes) now → (now ≡ meaning_of changes empty_state) × StaySound changes empty_state
 replayed_all changes i now end r =

@@ -9,17 +9,20 @@ use Rattle.apd_table.specs.Sound.{StaySound}
 use Rattle.apd_journal.specs.Half.{HalfHolds}
 use Rattle.apd_journal.specs.declared.writer.TheConstants.{HALF_LENGTH}
 
--- `RAPSTOR1`
+-- A version of the store has a mark, the eight bytes with which it begins. This one's is `RAPSTOR1`.
 abbrev pub magic : List ℕ
 magic = 82 ∷ 65 ∷ 80 ∷ 83 ∷ 84 ∷ 79 ∷ 82 ∷ 49 ∷ []
 
--- the image is the magic, 56 bytes of any kind, half A and half B
-pub record IsStore (image a b : List ℕ) : Type 0 where
+-- the image is the mark, 56 bytes of any kind, half A and half B
+pub record IsStoreBy (mark image a b : List ℕ) : Type 0 where
   pub reserved : List ℕ
-  pub is : image ≡ magic ++ (reserved ++ (a ++ b))
+  pub is : image ≡ mark ++ (reserved ++ (a ++ b))
   pub reserved_length : length reserved ≡ 56
   pub a_length : length a ≡ HALF_LENGTH
   pub b_length : length b ≡ HALF_LENGTH
+
+abbrev pub IsStore : List ℕ → List ℕ → List ℕ → Type 0
+IsStore image a b = IsStoreBy magic image a b
 
 -- the half's gate is open
 abbrev pub HasOpenGate : List ℕ → Type 0
@@ -49,22 +52,32 @@ pub record IsCurrent (half other : List ℕ) (gate : ℕ) (state : State) : Type
   pub shows : HalfShows half epoch gate state
   pub behind : IsBehind other epoch
 
--- The image is a store, and one of its halves is the current one and shows the state.
-pub record Shows (image : List ℕ) (state : State) : Type 0 where
+-- The image is a store of the mark's version, and one of its halves is the current one and shows the state.
+pub record ShowsBy (mark image : List ℕ) (state : State) : Type 0 where
   pub a : List ℕ
   pub b : List ℕ
-  pub store : IsStore image a b
+  pub store : IsStoreBy mark image a b
   pub gate : ℕ
   pub current : IsCurrent a b gate state ⊎ IsCurrent b a gate state
+
+abbrev pub Shows : List ℕ → State → Type 0
+Shows image state = ShowsBy magic image state
 
 -- the image shows no state
 abbrev pub ShowsNone : List ℕ → Type 0
 ShowsNone image = (state : State) → ¬ Shows image state
 
--- the image has the store's length and begins with its magic
-abbrev pub IsMarked : List ℕ → Type 0
-IsMarked image = (length image ≡ DEVICE_LENGTH) × (take 8 image ≡ magic)
+-- the image has the store's length and begins with the mark
+abbrev pub IsMarkedBy : List ℕ → List ℕ → Type 0
+IsMarkedBy mark image = (length image ≡ DEVICE_LENGTH) × (take 8 image ≡ mark)
 
--- what formatting may leave: no store, an image from before, or the empty state
+abbrev pub IsMarked : List ℕ → Type 0
+IsMarked image = IsMarkedBy magic image
+
+-- what may be left where a store of this mark and state is laid out: no store, an image from before, or the state
+abbrev pub MayBeMadeBy : List ℕ → State → (List ℕ → Type 0) → List ℕ → Type 0
+MayBeMadeBy mark state before image = IsMarkedBy mark image → before image ⊎ ShowsBy mark image state
+
+-- what formatting may leave
 abbrev pub MayBeMade : (List ℕ → Type 0) → List ℕ → Type 0
-MayBeMade before image = IsMarked image → before image ⊎ Shows image empty_state
+MayBeMade before image = MayBeMadeBy magic empty_state before image

@@ -1,11 +1,12 @@
 //! Formatting: no magic stands while the heads of the halves are written.
-ghost use Rattle.std.specs.Prelude.{◌≡◌, ◌≢◌, ◌≤◌, ◌+◌, ◌↔◌, ◌⊎◌, ℕ, List, false, take, OnOk, IfOk, IfErr};
+ghost use Rattle.std.specs.Prelude.{◌≡◌, ◌≢◌, ◌≤◌, ◌+◌, ◌↔◌, ◌⊎◌, ℕ, List, false, length, take, OnOk, IfOk, IfErr};
 ghost use Rattle.apd_base.specs.declared.limits.TheConstants.{DEVICE_LENGTH};
 ghost use Rattle.apd_base.specs.Failures.{HasRisen};
-ghost use Rattle.apd_base.specs.State.{empty_state};
+ghost use Rattle.apd_base.specs.State.{State, empty_state};
 ghost use Rattle.apd_disk.specs.Disk.{Only, Counts, LeavesOnly};
-ghost use Rattle.apd_store.specs.Image.{magic, Shows, IsMarked, MayBeMade};
-ghost use Rattle.apd_store.specs.Layout.{HasHeads, IsFound};
+ghost use Rattle.apd_journal.specs.declared.writer.TheConstants.{HALF_LENGTH};
+ghost use Rattle.apd_store.specs.Image.{Shows, ShowsBy, IsMarkedBy, MayBeMade, MayBeMadeBy};
+ghost use Rattle.apd_store.specs.Layout.{blank, BeginsBy, HasZeroGate, IsLaidOut, IsFound, IsFoundBy};
 ghost use Rattle.apd_store.specs.Commit.{IsIdle, IsInside};
 ghost use Rattle.apd_store.specs.Outside.{device_of, phase_of};
 ghost use Rattle.apd_store.specs.declared.half.Half.TheVariants.{A};
@@ -25,61 +26,86 @@ const HEAD_A: [u8; 14] = [1, 1, 0, 0, 0, 0, 0, 0, 0, 0, 0, 0, 0, 0];
 // Closed, with epoch 0 and an empty snapshot.
 const HEAD_B: [u8; 13] = [0; 13];
 
-/// Writes zeros over the magic, where it stands.
-fn unmark<D: Disk>(device: &mut D) -> Result<(), DiskFault>
-    requires { D.size device.old ≡ DEVICE_LENGTH }
+/// Writes zeros over the mark, where it stands.
+fn unmark<D: Disk>(device: &mut D, mark: &[u8; 8]) -> Result<(), DiskFault>
+    requires size { D.size device.old ≡ DEVICE_LENGTH }
+    requires marks { mark.now ≢ blank }
     ensures size { D.size device.new ≡ D.size device.old }
     ensures count { Counts (D.failed device.old) (D.failed device.new) result }
     ensures honest { D.honest device.old ↔ D.honest device.new }
     ensures calls { D.honest device.old → D.moment device.new ≤ D.moment device.old + 4 }
-    ensures any_moment { D.honest device.old → LeavesOnly D.moment D.left_since device.old device.new (λ c. IsMarked c → D.may_leave device.old c) }
-    ensures unmarked { D.honest device.old → OnOk result ((take 8 (D.reads device.new) ≢ magic) × Only (D.reads device.new) (D.may_leave device.new)) }
+    ensures any_moment { D.honest device.old → LeavesOnly D.moment D.left_since device.old device.new (λ c. IsMarkedBy mark.now c → D.may_leave device.old c) }
+    ensures unmarked { D.honest device.old → OnOk result ((take 8 (D.reads device.new) ≢ mark.now) × Only (D.reads device.new) (D.may_leave device.new)) }
 {
     device.sync()?;
     let mut first = [0; 8];
     device.read_at(0, &mut first)?;
-    if first == MAGIC {
+    if first == *mark {
         device.write_at(0, &[0; 8])?;
         device.sync()?;
     }
     Ok(())
 }
 
-/// Writes both heads, where no magic stands.
-fn write_heads<D: Disk>(device: &mut D) -> Result<(), DiskFault>
-    requires { D.size device.old ≡ DEVICE_LENGTH }
+/// Writes the heads of both halves, where the mark does not stand.
+fn write_heads<D: Disk>(device: &mut D, a: &[u8], b: &[u8]) -> Result<(), DiskFault>
+    requires size { D.size device.old ≡ DEVICE_LENGTH }
+    requires fits { (length a.now ≤ HALF_LENGTH) × (length b.now ≤ HALF_LENGTH) }
     ensures size { D.size device.new ≡ D.size device.old }
     ensures count { Counts (D.failed device.old) (D.failed device.new) result }
     ensures honest { D.honest device.old ↔ D.honest device.new }
     ensures calls { D.honest device.old → D.moment device.new ≤ D.moment device.old + 3 }
-    ensures any_moment { D.honest device.old → take 8 (D.reads device.old) ≢ magic → Only (D.reads device.old) (D.may_leave device.old)
-        → LeavesOnly D.moment D.left_since device.old device.new (λ c. take 8 c ≢ magic) }
-    ensures heads { D.honest device.old → take 8 (D.reads device.old) ≢ magic → Only (D.reads device.old) (D.may_leave device.old)
-        → OnOk result (HasHeads (D.reads device.new) × (take 8 (D.reads device.new) ≢ magic) × Only (D.reads device.new) (D.may_leave device.new)) }
+    ensures any_moment { (mark : List ℕ) → D.honest device.old → take 8 (D.reads device.old) ≢ mark → Only (D.reads device.old) (D.may_leave device.old)
+        → LeavesOnly D.moment D.left_since device.old device.new (λ c. take 8 c ≢ mark) }
+    ensures heads { (mark : List ℕ) (epoch gate : ℕ) (state : State) → D.honest device.old → take 8 (D.reads device.old) ≢ mark
+        → Only (D.reads device.old) (D.may_leave device.old) → BeginsBy a.now epoch gate state → HasZeroGate b.now
+        → OnOk result (IsLaidOut (D.reads device.new) epoch gate state × (take 8 (D.reads device.new) ≢ mark) × Only (D.reads device.new) (D.may_leave device.new)) }
 {
-    device.write_at(START_A, &HEAD_A)?;
-    device.write_at(START_B, &HEAD_B)?;
+    device.write_at(START_A, a)?;
+    device.write_at(START_B, b)?;
     device.sync()
 }
 
-/// Writes the magic before the heads.
-fn mark<D: Disk>(device: &mut D) -> Result<(), DiskFault>
+/// Writes the mark before the heads.
+fn write_mark<D: Disk>(device: &mut D, mark: &[u8; 8]) -> Result<(), DiskFault>
     requires { D.size device.old ≡ DEVICE_LENGTH }
     ensures size { D.size device.new ≡ D.size device.old }
     ensures count { Counts (D.failed device.old) (D.failed device.new) result }
     ensures honest { D.honest device.old ↔ D.honest device.new }
     ensures calls { D.honest device.old → D.moment device.new ≤ D.moment device.old + 2 }
-    ensures any_moment { D.honest device.old → HasHeads (D.reads device.old) → Only (D.reads device.old) (D.may_leave device.old)
-        → LeavesOnly D.moment D.left_since device.old device.new (λ c. IsMarked c → Shows c empty_state) }
-    ensures found { D.honest device.old → HasHeads (D.reads device.old) → Only (D.reads device.old) (D.may_leave device.old)
-        → OnOk result (IsFound (D.reads device.new) A 1 13 false empty_state × Only (D.reads device.new) (D.may_leave device.new)) }
+    ensures any_moment { (epoch gate : ℕ) (state : State) → D.honest device.old → IsLaidOut (D.reads device.old) epoch gate state
+        → Only (D.reads device.old) (D.may_leave device.old)
+        → LeavesOnly D.moment D.left_since device.old device.new (λ c. IsMarkedBy mark.now c → ShowsBy mark.now c state) }
+    ensures found { (epoch gate : ℕ) (state : State) → D.honest device.old → IsLaidOut (D.reads device.old) epoch gate state
+        → Only (D.reads device.old) (D.may_leave device.old)
+        → OnOk result (IsFoundBy mark.now (D.reads device.new) A epoch gate false state × Only (D.reads device.new) (D.may_leave device.new)) }
 {
-    device.write_at(0, &MAGIC)?;
+    device.write_at(0, mark)?;
     device.sync()
 }
 
-/// The whole of it: each part is at most four calls.
-fn lay_out<D: Disk>(device: &mut D) -> Result<(), DiskFault>
+/// Lays out a store of this mark, whose halves begin so, whatever version and state they are of: each part is
+/// at most four calls.
+fn lay_out<D: Disk>(device: &mut D, mark: &[u8; 8], a: &[u8], b: &[u8]) -> Result<(), DiskFault>
+    requires size { D.size device.old ≡ DEVICE_LENGTH }
+    requires marks { mark.now ≢ blank }
+    requires fits { (length a.now ≤ HALF_LENGTH) × (length b.now ≤ HALF_LENGTH) }
+    ensures size { D.size device.new ≡ D.size device.old }
+    ensures count { Counts (D.failed device.old) (D.failed device.new) result }
+    ensures honest { D.honest device.old ↔ D.honest device.new }
+    ensures calls { D.honest device.old → D.moment device.new ≤ D.moment device.old + 9 }
+    ensures any_moment { (epoch gate : ℕ) (state : State) → D.honest device.old → BeginsBy a.now epoch gate state → HasZeroGate b.now
+        → LeavesOnly D.moment D.left_since device.old device.new (MayBeMadeBy mark.now state (D.may_leave device.old)) }
+    ensures found { (epoch gate : ℕ) (state : State) → D.honest device.old → BeginsBy a.now epoch gate state → HasZeroGate b.now
+        → OnOk result (IsFoundBy mark.now (D.reads device.new) A epoch gate false state × Only (D.reads device.new) (D.may_leave device.new)) }
+{
+    unmark(device, mark)?;
+    write_heads(device, a, b)?;
+    write_mark(device, mark)
+}
+
+/// Lays out a new store of today's version and the empty table.
+fn lay_out_empty<D: Disk>(device: &mut D) -> Result<(), DiskFault>
     requires { D.size device.old ≡ DEVICE_LENGTH }
     ensures size { D.size device.new ≡ D.size device.old }
     ensures count { Counts (D.failed device.old) (D.failed device.new) result }
@@ -88,9 +114,7 @@ fn lay_out<D: Disk>(device: &mut D) -> Result<(), DiskFault>
     ensures any_moment { D.honest device.old → LeavesOnly D.moment D.left_since device.old device.new (MayBeMade (D.may_leave device.old)) }
     ensures found { D.honest device.old → OnOk result (IsFound (D.reads device.new) A 1 13 false empty_state × Only (D.reads device.new) (D.may_leave device.new)) }
 {
-    unmark(device)?;
-    write_heads(device)?;
-    mark(device)
+    lay_out(device, &MAGIC, &HEAD_A, &HEAD_B)
 }
 
 /// Makes the device a store of the empty table, whatever it held. A stop within it leaves an image that could
@@ -122,7 +146,7 @@ pub fn format<D: Disk>(alloc: Global, device: D) -> Result<Store<D>, (D, StoreFa
     if device.len() != DEVICE_LENGTH as usize {
         return Err((device, StoreFault::NotAStore));
     }
-    let Ok(()) = lay_out(&mut device) else {
+    let Ok(()) = lay_out_empty(&mut device) else {
         return Err((device, StoreFault::Device));
     };
     Ok(Store::new(alloc, device, Half::A, 1, 13, false))

@@ -17,7 +17,7 @@ use Rattle.apd_base.proofs.AddrLaws.{station_total, station_exact}
 use Rattle.apd_base.proofs.StateLaws.{list_total, list_exact}
 use Rattle.apd_base.specs.State.{empty_state, station_at, aid_of, aid_at, list_cmp, is_row_of}
 use Rattle.apd_table.specs.Sound.{Sound}
-use Rattle.apd_base.proofs.Cases.{none_is}
+use Rattle.apd_base.proofs.Cases.{differ, none_is}
 
 none_either : {X : Type 0} (t : Bool) → ◌≡◌ {A = Option X} (cond t None None) None
 none_either true = refl
@@ -44,16 +44,13 @@ no_aid b a = ap aid_of (no_station b a)
 pub no_list_row : (b : Bssid) (w : Which) (a : Addr) → set.contains (map.empty {X = Unit {0}} {R = list_cmp}) (b, w, a) ≡ false
 no_list_row b w a = ap is_some (get-empty list_cmp (b, w, a))
 
-not_listed : {B : Type 0} (t : Bool) → t ≡ false → t ≡ true → B
-not_listed t e h = cc
-
 pub sound_empty : Sound empty_state
 sound_empty = record {
   identifiers = λ b a i h. some_is (aid_at empty_state b a) i (no_aid b a) h;
   distinct = λ b a c i h k. some_is (aid_at empty_state b a) i (no_aid b a) h;
   one_association = λ b c a h k. none_is (aid_at empty_state b a) (no_aid b a) h;
   stations_have_policy = λ b a h. none_is (station_at empty_state b a) (no_station b a) h;
-  lists_have_policy = λ b w a h. not_listed _ (no_list_row b w a) h;
+  lists_have_policy = λ b w a h. differ _ (no_list_row b w a) h;
   none_denied = λ b a h. none_is (station_at empty_state b a) (no_station b a) h;
   few_bss = few _ 8 (len-empty bssid_cmp Policy);
   few_stations = λ b. few _ 2007 (no_part Station station_total station_exact (λ k. eq_by_cmp bssid_cmp b k.0));

@@ -2,8 +2,7 @@
 use Rattle.std.proofs.Common.{◌≡◌, Bool, true, false, cond, not, ◌&&◌, ◌||◌, Option, Some, None, refl, sym, ap, ◌∙◌}
 use Rattle.std.specs.Option.{is_some}
 use Rattle.std.specs.declared.cmp.Ordering.{Ordering}
-use Rattle.std.specs.declared.cmp.Ordering.TheVariants.{Less, Equal, Greater}
-use Rattle.std.specs.Ordering.{eq_by_cmp, is_eq, ordering_then}
+use Rattle.std.specs.Ordering.{eq_by_cmp}
 use Rattle.std.specs.Cmp.{IsTotalOrder, eq_by_cmp_equiv}
 use Rattle.std.specs.FinMap as map
 use Rattle.std.specs.FinMap.{IsAntisymmetric, get-empty, get-insert, get-remove, get-retain_keys, same_map}
@@ -19,6 +18,7 @@ use Rattle.apd_base.proofs.MapLaws.{tied}
 use Rattle.apd_base.proofs.StateLaws.{list_total, list_exact}
 use Rattle.apd_acl.specs.Lists.{has, added, removed, cleared}
 use Rattle.apd_acl.specs.declared.lists.Lists.{Lists}
+use Rattle.apd_table.proofs.Denied.{one_key}
 
 some_or : (t : Bool) (o : Option (Unit {0})) → is_some (cond t (Some tt) o) ≡ (t || is_some o)
 some_or true o = refl
@@ -52,13 +52,8 @@ module _ {K : Type 0} {R : K → K → Ordering} (o : IsTotalOrder R) (exact : I
   pub same_set : (s t : SetOf R) → ((q : K) → contains s q ≡ contains t q) → s ≡ t
   same_set s t h = same_map o exact s t (λ q. same_unit (map.get s q) (map.get t q) (h q))
 
-is_eq-then : (r q : Ordering) → is_eq (ordering_then r q) ≡ (is_eq r && is_eq q)
-is_eq-then Less q = refl
-is_eq-then Equal q = refl
-is_eq-then Greater q = refl
-
 pub same_row : (b c : Bssid) (w v : Which) (a x : Addr) → eq_by_cmp list_cmp (b, w, a) (c, v, x) ≡ (eq_by_cmp bssid_cmp b c && (eq_by_cmp which_cmp w v && eq_by_cmp addr_cmp a x))
-same_row b c w v a x = is_eq-then (bssid_cmp b c) _ ∙ ap (λ t. eq_by_cmp bssid_cmp b c && t) (is_eq-then (which_cmp w v) (addr_cmp a x))
+same_row b c w v a x = one_key (bssid_cmp b c) _ ∙ ap (λ t. eq_by_cmp bssid_cmp b c && t) (one_key (which_cmp w v) (addr_cmp a x))
 
 module _ (s : SetOf list_cmp) (b : Bssid) (w : Which) where
   abbrev with_row : Addr → SetOf list_cmp

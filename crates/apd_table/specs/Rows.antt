@@ -3,6 +3,7 @@ use Rattle.std.specs.Prelude.{◌≡◌, ℕ, ◌<◌, ◌≤◌, Bool, true, fa
 use Rattle.std.specs.Ordering.{eq_by_cmp}
 use Rattle.apd_base.specs.declared.address.Addr.{Addr}
 use Rattle.apd_base.specs.declared.address.Bssid.{Bssid}
+use Rattle.apd_base.specs.declared.limits.TheConstants.{MAX_STATIONS}
 use Rattle.apd_base.specs.declared.station.AclMode.{AclMode}
 use Rattle.apd_base.specs.declared.station.Station.{Station}
 use Rattle.apd_base.specs.declared.station.Station.TheVariants.{Authenticated, Associated}
@@ -26,10 +27,10 @@ abbrev pub has_aid : Bssid → ℕ → (Bssid × Addr) × Station → Bool
 has_aid b i (key, Authenticated) = false
 has_aid b i (key, Associated x) = eq_by_cmp bssid_cmp b key.0 && (x.aid.number == i)
 
--- the least number from 1 to 2007 that is not marked
+-- the least identifier, from 1 on, that is not marked
 pub record IsLeastUnmarked (marked : ℕ → Bool) (i : ℕ) : Type 0 where
   pub low : 1 ≤ i
-  pub high : i ≤ 2007
+  pub high : i ≤ MAX_STATIONS
   pub free : marked i ≡ false
   pub smaller : (j : ℕ) → 1 ≤ j → j < i → marked j ≡ true
 

@@ -16,7 +16,7 @@ use crate::snapshot::{add_lists, add_policies};
 use crate::writes::{add_at, clear_at, remove_at, set_policy_at};
 use apd_acl::Lists;
 use apd_base::{Addr, Bssid, Policy, Which, rows};
-use apd_record::Change;
+use apd_record::Changes;
 use std::alloc::{AllocError, Global};
 use std::marker::Model;
 
@@ -92,8 +92,8 @@ impl BssRows {
     }
 
     /// Adds the changes that make the rows: all policies, and then all lists.
-    pub fn add_changes(&self, changes: &mut Vec<Change>) -> Result<(), AllocError>
-        ensures { OnOk result (changes.new.items ≡ changes.old.items ++ (policy_changes self.now.policies ++ list_changes self.now.lists)) }
+    pub fn add_changes(&self, changes: &mut Changes) -> Result<(), AllocError>
+        ensures { OnOk result (changes.new ≡ changes.old ++ (policy_changes self.now.policies ++ list_changes self.now.lists)) }
     {
         add_policies(changes, &self.rows)?;
         add_lists(changes, &self.rows)?;

@@ -6,7 +6,7 @@ ghost use Rattle.apd_table.specs.Snapshot.{changes_of_list, lists_of_rows, polic
 use crate::bss_rows::Bss;
 use apd_acl::Lists;
 use apd_base::{Addr, Bssid, Station, Which};
-use apd_record::Change;
+use apd_record::{Change, Changes};
 use std::alloc::{AllocError, Global};
 
 /// The most bytes that the records of a snapshot have (own): 8 policies of 10 bytes, 16,384 addresses of
@@ -14,11 +14,8 @@ use std::alloc::{AllocError, Global};
 pub const MAX_SNAPSHOT: usize = 550_576;
 
 /// Adds the policies of rows.
-pub(crate) fn add_policies(
-    changes: &mut Vec<Change>,
-    rows: &[(Bssid, Bss)],
-) -> Result<(), AllocError>
-    ensures { OnOk result (changes.new.items ≡ changes.old.items ++ policies_of_rows rows.now) }
+pub(crate) fn add_policies(changes: &mut Changes, rows: &[(Bssid, Bss)]) -> Result<(), AllocError>
+    ensures { OnOk result (changes.new ≡ changes.old ++ policies_of_rows rows.now) }
 {
     for row in rows {
         changes.push(Change::Policy {
@@ -31,12 +28,12 @@ pub(crate) fn add_policies(
 
 // Adds the addresses of one list, rising.
 fn add_list(
-    changes: &mut Vec<Change>,
+    changes: &mut Changes,
     bssid: Bssid,
     which: Which,
     lists: &Lists,
 ) -> Result<(), AllocError>
-    ensures { OnOk result (changes.new.items ≡ changes.old.items ++ changes_of_list bssid which (list_of lists.now which)) }
+    ensures { OnOk result (changes.new ≡ changes.old ++ changes_of_list bssid which (list_of lists.now which)) }
 {
     let mut next = lists.least(which);
     while let Some(addr) = next {
@@ -47,8 +44,8 @@ fn add_list(
 }
 
 /// Adds the lists of rows, the accept list of each first.
-pub(crate) fn add_lists(changes: &mut Vec<Change>, rows: &[(Bssid, Bss)]) -> Result<(), AllocError>
-    ensures { OnOk result (changes.new.items ≡ changes.old.items ++ lists_of_rows rows.now) }
+pub(crate) fn add_lists(changes: &mut Changes, rows: &[(Bssid, Bss)]) -> Result<(), AllocError>
+    ensures { OnOk result (changes.new ≡ changes.old ++ lists_of_rows rows.now) }
 {
     for row in rows {
         add_list(changes, row.0, Which::Accept, &row.1.lists)?;
@@ -59,10 +56,10 @@ pub(crate) fn add_lists(changes: &mut Vec<Change>, rows: &[(Bssid, Bss)]) -> Res
 
 /// Adds station rows.
 pub(crate) fn add_stations(
-    changes: &mut Vec<Change>,
+    changes: &mut Changes,
     rows: &[((Bssid, Addr), Station)],
 ) -> Result<(), AllocError>
-    ensures { OnOk result (changes.new.items ≡ changes.old.items ++ list_map station_change rows.now) }
+    ensures { OnOk result (changes.new ≡ changes.old ++ list_map station_change rows.now) }
 {
     for row in rows {
         changes.push(Change::Put {

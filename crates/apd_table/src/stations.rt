@@ -9,12 +9,17 @@ ghost use Rattle.apd_acl.specs.Least.{IsLeast, IsLeastAbove};
 ghost use Rattle.apd_base.specs.Addr.{addr_cmp, bssid_cmp, station_cmp, coded_addr, coded_bssid};
 ghost use Rattle.apd_base.specs.Codes.{coded_station};
 ghost use Rattle.apd_base.specs.declared.address.Addr.{Addr};
+ghost use Rattle.apd_base.specs.declared.limits.TheConstants.{MAX_STATIONS};
 ghost use Rattle.apd_base.specs.declared.station.Station.{Station};
 ghost use Rattle.apd_table.specs.Rows.{is_row_of, is_clash, has_aid, first_of, if_row_of, IsLeastUnmarked};
 
+use apd_base::limits::MAX_STATIONS;
 use apd_base::{Addr, Bssid, Station, rows};
 use std::alloc::{AllocError, Global};
 use std::marker::Model;
+
+// A place for each identifier, with one at 0 for none.
+const PLACES: usize = MAX_STATIONS + 1;
 
 /// The station rows, seen as a finite map from (BSSID, address).
 #[derive(Drop)]
@@ -91,10 +96,10 @@ fn row_at(rows: &[((Bssid, Addr), Station)], bssid: Bssid, place: usize) -> Opti
 }
 
 // At each place from 1 on, whether that identifier is on a row of the BSSID.
-fn taken_in(rows: &[((Bssid, Addr), Station)], bssid: Bssid) -> [bool; 2008]
-    ensures { (i : ℕ) → i < 2008 → slice_index_or result i false ≡ list_any (has_aid bssid i) rows.now }
+fn taken_in(rows: &[((Bssid, Addr), Station)], bssid: Bssid) -> [bool; PLACES]
+    ensures { (i : ℕ) → i < PLACES → slice_index_or result i false ≡ list_any (has_aid bssid i) rows.now }
 {
-    let mut taken = [false; 2008];
+    let mut taken = [false; PLACES];
     for row in rows {
         mark(&mut taken, row, bssid);
     }
@@ -102,11 +107,11 @@ fn taken_in(rows: &[((Bssid, Addr), Station)], bssid: Bssid) -> [bool; 2008]
 }
 
 // Marks the identifier of a row of the BSSID.
-fn mark(taken: &mut [bool; 2008], row: &((Bssid, Addr), Station), bssid: Bssid)
-    ensures { (i : ℕ) → i < 2008 → slice_index_or taken.new i false ≡ (slice_index_or taken.old i false || has_aid bssid i row.now) }
+fn mark(taken: &mut [bool; PLACES], row: &((Bssid, Addr), Station), bssid: Bssid)
+    ensures { (i : ℕ) → i < PLACES → slice_index_or taken.new i false ≡ (slice_index_or taken.old i false || has_aid bssid i row.now) }
 {
     if let Some(aid) = aid_at(row, bssid) {
-        if aid < 2008 {
+        if (aid as usize) < PLACES {
             taken[aid as usize] = true;
         }
     }
@@ -129,11 +134,11 @@ fn aid_at(row: &((Bssid, Addr), Station), bssid: Bssid) -> Option<u16>
 }
 
 // The least place from 1 on that is not taken.
-fn least_place(taken: &[bool; 2008]) -> Option<u16>
+fn least_place(taken: &[bool; PLACES]) -> Option<u16>
     ensures some { IfSome result (IsLeastUnmarked (λ i. slice_index_or taken.now i false)) }
-    ensures none { IfNone result ((j : ℕ) → 1 ≤ j → j ≤ 2007 → slice_index_or taken.now j false ≡ true) }
+    ensures none { IfNone result ((j : ℕ) → 1 ≤ j → j ≤ MAX_STATIONS → slice_index_or taken.now j false ≡ true) }
 {
-    for i in 1..2008u16 {
+    for i in 1..PLACES as u16 {
         if !taken[i as usize] {
             return Some(i);
         }
@@ -226,10 +231,10 @@ impl Stations {
         }
     }
 
-    /// The least number from 1 to 2007 that is not the identifier of a row of the BSSID.
+    /// The least identifier, from 1 on, that is on no row of the BSSID.
     pub fn least_free(&self, bssid: Bssid) -> Option<u16>
         ensures some { IfSome result (IsLeastUnmarked (λ i. list_any (has_aid bssid i) (map.entries self.now))) }
-        ensures none { IfNone result ((j : ℕ) → 1 ≤ j → j ≤ 2007 → list_any (has_aid bssid j) (map.entries self.now) ≡ true) }
+        ensures none { IfNone result ((j : ℕ) → 1 ≤ j → j ≤ MAX_STATIONS → list_any (has_aid bssid j) (map.entries self.now) ≡ true) }
     {
         least_place(&taken_in(self.entries(), bssid))
     }

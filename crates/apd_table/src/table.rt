@@ -34,7 +34,7 @@ use crate::{denials, snapshot};
 use apd_acl::{Lists, policy};
 use apd_base::limits::{MAX_BSS, MAX_LISTED, MAX_STATIONS};
 use apd_base::{AclMode, Addr, Bssid, Policy, Station, Which};
-use apd_record::{Change, known_changes};
+use apd_record::{Change, Changes};
 use std::alloc::{AllocError, Global};
 use std::marker::Model;
 use thiserror::Error;
@@ -255,11 +255,10 @@ impl Table {
         ensures size { IfOk result (λ changes. length (records_of changes.items) ≤ MAX_SNAPSHOT) }
     {
         self.sound();
-        let mut changes = Vec::new(alloc);
+        let mut changes = Changes::new(alloc);
         self.bss.add_changes(&mut changes)?;
         snapshot::add_stations(&mut changes, self.stations.entries())?;
-        known_changes(&changes);
-        Ok(changes)
+        Ok(changes.into_vec())
     }
 
     /// Makes a change, exactly where the state after it is sound; else the answer is `Invalid`, and

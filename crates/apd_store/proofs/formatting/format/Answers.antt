@@ -7,7 +7,7 @@ use Rattle.apd_store.proofs.formatting.format.Goals as goal
 
 pub returns-clause-shown : goal.returns-clause-shown
 returns-clause-shown g c = λ h i left.
-    let device = c.lay_out.new.device in
+    let device = c.lay_out_empty.new.device in
     let found = c.in-Ok.ensures.found h in
     let is : i ≡ g.D.Disk.reads device = found.1 i (subst (λ d. g.D.Disk.may_leave d i) c.new.ensures.device left) in
     subst (λ (l : List ℕ). Shows l empty_state) (sym is) (found_shows (g.D.Disk.reads device) A 1 13 false empty_state found.0)

@@ -1,6 +1,6 @@
 use Rattle.std.proofs.Common.{◌≡◌, ℕ, List, take, sym, ◌∙◌, ap, subst, rules}
 use Rattle.apd_disk.proofs.Moments.{one_call, then_run, quiet_call}
-use Rattle.apd_store.specs.Image.{magic, IsMarked}
+use Rattle.apd_store.specs.Image.{IsMarkedBy}
 use Rattle.apd_store.proofs.Heads.{still_marked}
 use Rattle.apd_store.proofs.formatting.unmark.Goals as goal
 
@@ -11,20 +11,20 @@ returns-in_err-write_at-clause-any_moment g c = λ h.
     let one = c.sync.new.self in
     let two = c.read_at.new.self in
     let three = c.write_at.new.self in
-    let P = λ (i : List ℕ). IsMarked i → d.may_leave old i in
+    let P = λ (i : List ℕ). IsMarkedBy c.args.mark.now i → d.may_leave old i in
     let h1 = c.sync.ensures.honest.0 h in
     let h2 = c.read_at.ensures.honest.0 h1 in
     let first = one_call d.moment d.left_since old one P (c.sync.ensures.time h) (λ i during marked. c.sync.ensures.stop h i during) in
     let second = quiet_call d.moment d.left_since d.may_leave old one two P (λ t i le left. g.met.D.Disk.counts_now one t i h1 le left) first (c.read_at.ensures.time h1) (c.read_at.ensures.stop h1) in
     let bytes = c.in_ok-read_at.ensures.bytes h1 in
     let same = c.in_ok-sync.ensures.reads h in
-    let standing : take 8 (d.reads old) ≡ magic = search rules in
+    let standing : take 8 (d.reads old) ≡ c.args.mark.now = search rules in
     let third = then_run d.moment d.left_since old two three P second (one_call d.moment d.left_since two three P (c.write_at.ensures.time h2) (λ i during marked.
     let from = c.write_at.ensures.stop h2 i during in
     let in_one = c.read_at.ensures.stop h1 from.0 (g.met.D.Disk.counts_now two (d.moment one) from.0 h2 (c.read_at.ensures.time h1).later from.1) in
     let in_old = c.sync.ensures.stop h from.0 (g.met.D.Disk.counts_now one (d.moment old) from.0 h1 (c.sync.ensures.time h).later in_one) in
     let is = c.in_ok-sync.ensures.durable h from.0 in_one in
-    subst (d.may_leave old) (sym (still_marked from.0 i (ap (λ (l : List ℕ). take 8 l) is ∙ standing) from.2 marked.1)) in_old)) in
+    subst (d.may_leave old) (sym (still_marked c.args.mark.now from.0 i (ap (λ (l : List ℕ). take 8 l) is ∙ standing) from.2 marked.1)) in_old)) in
     third
 
 pub returns-in_err-sync-2-clause-any_moment : goal.returns-in_err-sync-2-clause-any_moment
@@ -34,20 +34,20 @@ returns-in_err-sync-2-clause-any_moment g c = λ h.
     let one = c.sync.new.self in
     let two = c.read_at.new.self in
     let three = c.write_at.new.self in
-    let P = λ (i : List ℕ). IsMarked i → d.may_leave old i in
+    let P = λ (i : List ℕ). IsMarkedBy c.args.mark.now i → d.may_leave old i in
     let h1 = c.sync.ensures.honest.0 h in
     let h2 = c.read_at.ensures.honest.0 h1 in
     let first = one_call d.moment d.left_since old one P (c.sync.ensures.time h) (λ i during marked. c.sync.ensures.stop h i during) in
     let second = quiet_call d.moment d.left_since d.may_leave old one two P (λ t i le left. g.met.D.Disk.counts_now one t i h1 le left) first (c.read_at.ensures.time h1) (c.read_at.ensures.stop h1) in
     let bytes = c.in_ok-read_at.ensures.bytes h1 in
     let same = c.in_ok-sync.ensures.reads h in
-    let standing : take 8 (d.reads old) ≡ magic = search rules in
+    let standing : take 8 (d.reads old) ≡ c.args.mark.now = search rules in
     let third = then_run d.moment d.left_since old two three P second (one_call d.moment d.left_since two three P (c.write_at.ensures.time h2) (λ i during marked.
     let from = c.write_at.ensures.stop h2 i during in
     let in_one = c.read_at.ensures.stop h1 from.0 (g.met.D.Disk.counts_now two (d.moment one) from.0 h2 (c.read_at.ensures.time h1).later from.1) in
     let in_old = c.sync.ensures.stop h from.0 (g.met.D.Disk.counts_now one (d.moment old) from.0 h1 (c.sync.ensures.time h).later in_one) in
     let is = c.in_ok-sync.ensures.durable h from.0 in_one in
-    subst (d.may_leave old) (sym (still_marked from.0 i (ap (λ (l : List ℕ). take 8 l) is ∙ standing) from.2 marked.1)) in_old)) in
+    subst (d.may_leave old) (sym (still_marked c.args.mark.now from.0 i (ap (λ (l : List ℕ). take 8 l) is ∙ standing) from.2 marked.1)) in_old)) in
     let h3 = c.write_at.ensures.honest.0 h2 in
     quiet_call d.moment d.left_since d.may_leave old three c.sync-then-eq.new.self P (λ t i le left. g.met.D.Disk.counts_now three t i h3 le left) third (c.sync-then-eq.ensures.time h3) (c.sync-then-eq.ensures.stop h3)
 
@@ -58,19 +58,19 @@ returns-in_ok-sync-2-clause-any_moment g c = λ h.
     let one = c.sync.new.self in
     let two = c.read_at.new.self in
     let three = c.write_at.new.self in
-    let P = λ (i : List ℕ). IsMarked i → d.may_leave old i in
+    let P = λ (i : List ℕ). IsMarkedBy c.args.mark.now i → d.may_leave old i in
     let h1 = c.sync.ensures.honest.0 h in
     let h2 = c.read_at.ensures.honest.0 h1 in
     let first = one_call d.moment d.left_since old one P (c.sync.ensures.time h) (λ i during marked. c.sync.ensures.stop h i during) in
     let second = quiet_call d.moment d.left_since d.may_leave old one two P (λ t i le left. g.met.D.Disk.counts_now one t i h1 le left) first (c.read_at.ensures.time h1) (c.read_at.ensures.stop h1) in
     let bytes = c.in_ok-read_at.ensures.bytes h1 in
     let same = c.in_ok-sync.ensures.reads h in
-    let standing : take 8 (d.reads old) ≡ magic = search rules in
+    let standing : take 8 (d.reads old) ≡ c.args.mark.now = search rules in
     let third = then_run d.moment d.left_since old two three P second (one_call d.moment d.left_since two three P (c.write_at.ensures.time h2) (λ i during marked.
     let from = c.write_at.ensures.stop h2 i during in
     let in_one = c.read_at.ensures.stop h1 from.0 (g.met.D.Disk.counts_now two (d.moment one) from.0 h2 (c.read_at.ensures.time h1).later from.1) in
     let in_old = c.sync.ensures.stop h from.0 (g.met.D.Disk.counts_now one (d.moment old) from.0 h1 (c.sync.ensures.time h).later in_one) in
     let is = c.in_ok-sync.ensures.durable h from.0 in_one in
-    subst (d.may_leave old) (sym (still_marked from.0 i (ap (λ (l : List ℕ). take 8 l) is ∙ standing) from.2 marked.1)) in_old)) in
+    subst (d.may_leave old) (sym (still_marked c.args.mark.now from.0 i (ap (λ (l : List ℕ). take 8 l) is ∙ standing) from.2 marked.1)) in_old)) in
     let h3 = c.write_at.ensures.honest.0 h2 in
     quiet_call d.moment d.left_since d.may_leave old three c.sync-then-eq.new.self P (λ t i le left. g.met.D.Disk.counts_now three t i h3 le left) third (c.sync-then-eq.ensures.time h3) (c.sync-then-eq.ensures.stop h3)

@@ -1,62 +1,61 @@
 use Rattle.std.proofs.Common.{◌≡◌, ◌≢◌, ℕ, List, length, take, sym, ◌∙◌, ap, subst, arith}
 use Rattle.apd_disk.proofs.Moments.{one_call, then_run, quiet_call}
 use Rattle.apd_base.specs.declared.limits.TheConstants.{DEVICE_LENGTH}
-use Rattle.apd_store.specs.Image.{magic}
-use Rattle.apd_store.specs.Layout.{HasHeads}
+use Rattle.apd_store.specs.Layout.{IsLaidOut}
 use Rattle.apd_store.proofs.Heads.{unmarked_images, on_map, heads_written}
 use Rattle.apd_store.proofs.formatting.write_heads.Goals as goal
 
 pub returns-in_err-write_at-clause-any_moment : goal.returns-in_err-write_at-clause-any_moment
-returns-in_err-write_at-clause-any_moment g c = λ h unmarked only.
+returns-in_err-write_at-clause-any_moment g c = λ mark h unmarked only.
     let d = g.D.Disk in
     let old = c.args.device.now in
     let mid = c.write_at.new.self in
-    one_call d.moment d.left_since old mid (λ i. take 8 i ≢ magic) (c.write_at.ensures.time h)
-    (unmarked_images 64 14 (d.may_leave old) (d.left_since mid (d.moment old)) (omega arith) (λ i left is. unmarked (ap (λ (l : List ℕ). take 8 l) (sym (only i left)) ∙ is)) (c.write_at.ensures.stop h))
+    one_call d.moment d.left_since old mid (λ i. take 8 i ≢ mark) (c.write_at.ensures.time h)
+    (unmarked_images mark 64 (length c.args.a.now) (d.may_leave old) (d.left_since mid (d.moment old)) (omega arith) (λ i left is. unmarked (ap (λ (l : List ℕ). take 8 l) (sym (only i left)) ∙ is)) (c.write_at.ensures.stop h))
 
 pub returns-in_err-write_at-2-clause-any_moment : goal.returns-in_err-write_at-2-clause-any_moment
-returns-in_err-write_at-2-clause-any_moment g c = λ h unmarked only.
+returns-in_err-write_at-2-clause-any_moment g c = λ mark h unmarked only.
     let d = g.D.Disk in
     let old = c.args.device.now in
     let mid = c.write_at.new.self in
     let new = c.write_at-2.new.self in
-    let P = λ (i : List ℕ). take 8 i ≢ magic in
+    let P = λ (i : List ℕ). take 8 i ≢ mark in
     let here = c.write_at.ensures.honest.0 h in
     let first = one_call d.moment d.left_since old mid P (c.write_at.ensures.time h)
-    (unmarked_images 64 14 (d.may_leave old) (d.left_since mid (d.moment old)) (omega arith) (λ i left is. unmarked (ap (λ (l : List ℕ). take 8 l) (sym (only i left)) ∙ is)) (c.write_at.ensures.stop h)) in
+    (unmarked_images mark 64 (length c.args.a.now) (d.may_leave old) (d.left_since mid (d.moment old)) (omega arith) (λ i left is. unmarked (ap (λ (l : List ℕ). take 8 l) (sym (only i left)) ∙ is)) (c.write_at.ensures.stop h)) in
     then_run d.moment d.left_since old mid new P first (one_call d.moment d.left_since mid new P (c.write_at-2.ensures.time here)
-    (unmarked_images 1048640 13 (d.may_leave mid) (d.left_since new (d.moment mid)) (omega arith) (λ i left. first.each i (g.met.D.Disk.counts_now mid (d.moment old) i here first.later left)) (c.write_at-2.ensures.stop here)))
+    (unmarked_images mark 1048640 (length c.args.b.now) (d.may_leave mid) (d.left_since new (d.moment mid)) (omega arith) (λ i left. first.each i (g.met.D.Disk.counts_now mid (d.moment old) i here first.later left)) (c.write_at-2.ensures.stop here)))
 
 pub returns-clause-any_moment : goal.returns-clause-any_moment
-returns-clause-any_moment g c = λ h unmarked only.
+returns-clause-any_moment g c = λ mark h unmarked only.
     let d = g.D.Disk in
     let old = c.args.device.now in
     let mid = c.write_at.new.self in
     let new = c.write_at-2.new.self in
-    let P = λ (i : List ℕ). take 8 i ≢ magic in
+    let P = λ (i : List ℕ). take 8 i ≢ mark in
     let here = c.write_at.ensures.honest.0 h in
     let there = c.write_at-2.ensures.honest.0 here in
     let first = one_call d.moment d.left_since old mid P (c.write_at.ensures.time h)
-    (unmarked_images 64 14 (d.may_leave old) (d.left_since mid (d.moment old)) (omega arith) (λ i left is. unmarked (ap (λ (l : List ℕ). take 8 l) (sym (only i left)) ∙ is)) (c.write_at.ensures.stop h)) in
+    (unmarked_images mark 64 (length c.args.a.now) (d.may_leave old) (d.left_since mid (d.moment old)) (omega arith) (λ i left is. unmarked (ap (λ (l : List ℕ). take 8 l) (sym (only i left)) ∙ is)) (c.write_at.ensures.stop h)) in
     let second = then_run d.moment d.left_since old mid new P first (one_call d.moment d.left_since mid new P (c.write_at-2.ensures.time here)
-    (unmarked_images 1048640 13 (d.may_leave mid) (d.left_since new (d.moment mid)) (omega arith) (λ i left. first.each i (g.met.D.Disk.counts_now mid (d.moment old) i here first.later left)) (c.write_at-2.ensures.stop here))) in
+    (unmarked_images mark 1048640 (length c.args.b.now) (d.may_leave mid) (d.left_since new (d.moment mid)) (omega arith) (λ i left. first.each i (g.met.D.Disk.counts_now mid (d.moment old) i here first.later left)) (c.write_at-2.ensures.stop here))) in
     quiet_call d.moment d.left_since d.may_leave old new c.sync.new.self P (λ t i le left. g.met.D.Disk.counts_now new t i there le left) second (c.sync.ensures.time there) (c.sync.ensures.stop there)
 
 pub returns-clause-heads : goal.returns-clause-heads
-returns-clause-heads g c = λ h unmarked only.
+returns-clause-heads g c = λ mark epoch gate state h unmarked only shows closed.
     let d = g.D.Disk in
     let old = c.args.device.now in
     let mid = c.write_at.new.self in
     let new = c.write_at-2.new.self in
-    let P = λ (i : List ℕ). take 8 i ≢ magic in
+    let P = λ (i : List ℕ). take 8 i ≢ mark in
     let here = c.write_at.ensures.honest.0 h in
     let there = c.write_at-2.ensures.honest.0 here in
     let first = one_call d.moment d.left_since old mid P (c.write_at.ensures.time h)
-    (unmarked_images 64 14 (d.may_leave old) (d.left_since mid (d.moment old)) (omega arith) (λ i left is. unmarked (ap (λ (l : List ℕ). take 8 l) (sym (only i left)) ∙ is)) (c.write_at.ensures.stop h)) in
+    (unmarked_images mark 64 (length c.args.a.now) (d.may_leave old) (d.left_since mid (d.moment old)) (omega arith) (λ i left is. unmarked (ap (λ (l : List ℕ). take 8 l) (sym (only i left)) ∙ is)) (c.write_at.ensures.stop h)) in
     let second = then_run d.moment d.left_since old mid new P first (one_call d.moment d.left_since mid new P (c.write_at-2.ensures.time here)
-    (unmarked_images 1048640 13 (d.may_leave mid) (d.left_since new (d.moment mid)) (omega arith) (λ i left. first.each i (g.met.D.Disk.counts_now mid (d.moment old) i here first.later left)) (c.write_at-2.ensures.stop here))) in
-    let size : length (d.reads old) ≡ DEVICE_LENGTH = g.met.D.Disk.same_size old (d.moment old) (d.reads old) h (g.met.D.Disk.counts_now old (d.moment old) (d.reads old) h (omega arith) (g.met.D.Disk.reads_may_be_left old h)) ∙ c.requires in
-    let heads = heads_written (d.reads old) (d.reads mid) (d.reads new) size (c.in_ok-write_at.ensures.written h) (c.in_ok-write_at-2.ensures.written here) in
+    (unmarked_images mark 1048640 (length c.args.b.now) (d.may_leave mid) (d.left_since new (d.moment mid)) (omega arith) (λ i left. first.each i (g.met.D.Disk.counts_now mid (d.moment old) i here first.later left)) (c.write_at-2.ensures.stop here))) in
+    let size : length (d.reads old) ≡ DEVICE_LENGTH = g.met.D.Disk.same_size old (d.moment old) (d.reads old) h (g.met.D.Disk.counts_now old (d.moment old) (d.reads old) h (omega arith) (g.met.D.Disk.reads_may_be_left old h)) ∙ c.requires.size in
+    let heads = heads_written c.args.a.now c.args.b.now (d.reads old) (d.reads mid) (d.reads new) c.requires.fits.0 c.requires.fits.1 size (c.in_ok-write_at.ensures.written h) (c.in_ok-write_at-2.ensures.written here) epoch gate state shows closed in
     let stays = second.each (d.reads new) (g.met.D.Disk.counts_now new (d.moment old) (d.reads new) there second.later (g.met.D.Disk.reads_may_be_left new there)) in
     on_map c.sync.result _ _ _ (c.sync.ensures.reads there) (c.sync.ensures.durable there)
-    (λ same durable. (subst HasHeads (sym same) heads, λ is. stays (ap (λ (l : List ℕ). take 8 l) (sym same) ∙ is), λ i left. durable i left ∙ sym same))
+    (λ same durable. (subst (λ (l : List ℕ). IsLaidOut l epoch gate state) (sym same) heads, λ is. stays (ap (λ (l : List ℕ). take 8 l) (sym same) ∙ is), λ i left. durable i left ∙ sym same))

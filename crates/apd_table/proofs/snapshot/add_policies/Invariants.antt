@@ -4,4 +4,4 @@ use Rattle.apd_table.proofs.snapshot.add_policies.Given as goal
 
 -- the rows so far
 abbrev pub invariant-loop-row : goal.invariant-loop-row
-invariant-loop-row l = l.changes.items ≡ l.fn.changes.items ++ policies_of_rows (take l.row-index l.rows)
+invariant-loop-row l = l.changes ≡ l.fn.changes ++ policies_of_rows (take l.row-index l.rows)

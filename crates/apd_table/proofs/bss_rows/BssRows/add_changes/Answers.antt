@@ -7,8 +7,8 @@ use Rattle.apd_table.proofs.bss_rows.BssRows.add_changes.Goals as goal
 pub returns : goal.returns
 returns c =
     let rows = c.self.inside.rows.items in
-    let before = c.args.changes.now.items in
-    c.in_ok-add_lists.ensures ∙ ap (λ xs. c.add_policies.new.changes.items ++ lists_of_rows xs) c.deref-2.ensures.value
+    let before = c.args.changes.now in
+    c.in_ok-add_lists.ensures ∙ ap (λ xs. c.add_policies.new.changes ++ lists_of_rows xs) c.deref-2.ensures.value
     ∙ ap (λ xs. xs ++ lists_of_rows rows) (c.in_ok-add_policies.ensures ∙ ap (λ xs. before ++ policies_of_rows xs) c.deref.ensures.value)
     ∙ append_assoc before (policies_of_rows rows) (lists_of_rows rows)
     ∙ (λ i. before ++ (policies_are rows c.self.invariant i ++ lists_are rows c.self.invariant i))

@@ -16,8 +16,8 @@ returns-clause-canonical c =
     let inside = c.self.inside in
     let rows = policy_changes inside.bss.policies ++ list_changes inside.bss.lists in
     let stations = list_map station_change (map.entries inside.stations) in
-    c.in_ok-add_stations.ensures ∙ ap (λ es. c.add_changes.new.changes.items ++ list_map station_change es) c.entries.ensures
-    ∙ ap (λ (l : List Change). l ++ stations) (c.in_ok-add_changes.ensures ∙ ap (λ (l : List Change). l ++ rows) c.new-changes.ensures.items)
+    c.into_vec.ensures.items ∙ c.in_ok-add_stations.ensures ∙ ap (λ es. c.add_changes.new.changes ++ list_map station_change es) c.entries.ensures
+    ∙ ap (λ (l : List Change). l ++ stations) (c.in_ok-add_changes.ensures ∙ ap (λ (l : List Change). l ++ rows) c.new-changes.ensures)
     ∙ append_assoc (policy_changes inside.bss.policies) (list_changes inside.bss.lists) stations
     ∙ ap canonical c.self.view_is
 
@@ -30,5 +30,5 @@ returns-clause-leads c = ap (λ (l : List Change). meaning_of l empty_state) (re
 pub returns-clause-size : goal.returns-clause-size
 returns-clause-size c =
     let is = returns-clause-canonical c in
-    let are : AreChanges (canonical c.args.self.now) = subst AreChanges (c.deref.ensures.value ∙ is) c.known_changes.ensures in
+    let are : AreChanges (canonical c.args.self.now) = subst AreChanges (sym c.into_vec.ensures.items ∙ is) c.into_vec.ensures.known in
     subst (λ (l : List Change). length (records_of l) ≤ 550576) (sym is) (canonical_size c.args.self.now c.sound.ensures are)
