@@ -1,2 +1,2 @@
 pub mod Above
-mod Addresses
+mod Keys

@@ -1,3 +1,4 @@
+pub mod Keys
 pub mod Least
 pub mod Lists
 pub mod Policy

@@ -1,43 +1,45 @@
 //! A set of addresses.
-ghost use Rattle.std.specs.Prelude.{◌≡◌, ◌≢◌, ◌∷◌, OnOk, OnErr, IsOk, IfOk, IfSome, IfNone, IsTrue, T};
-ghost use Rattle.std.specs.List.{slice_get};
-ghost use Rattle.std.specs.Option.{option_map};
+ghost use Rattle.std.specs.Prelude.{◌≡◌, ◌≢◌, OnOk, OnErr, IsOk, IfOk, IfSome, IfNone, IsTrue};
 ghost use Rattle.std.specs.declared.cmp.Ordering.TheVariants.{Less};
+ghost use Rattle.std.specs.BTreeSet.{IsFromIterResult};
 ghost use Rattle.std.specs.FinMap as map;
-ghost use Rattle.apd_base.specs.Sets.{SetOf, coded_set, contains};
-ghost use Rattle.apd_base.specs.Addr.{addr_cmp, coded_addr};
+ghost use Rattle.apd_base.specs.Sets.{contains};
+ghost use Rattle.apd_base.specs.Addr.{addr_cmp};
 ghost use Rattle.apd_base.specs.declared.address.Addr.{Addr};
 ghost use Rattle.apd_acl.specs.Least.{IsLeast, IsLeastAbove};
 
-use apd_base::{Addr, rows};
+use apd_base::Addr;
 use std::alloc::{AllocError, Global};
+use std::collections::BTreeSet;
 use std::marker::Model;
+use std::ops::Bound;
 
-/// A set of addresses, in a vector that rises.
+/// A set of addresses.
 #[derive(Drop)]
 pub struct AddressSet {
-    rows: Vec<(Addr, ())>,
+    keys: BTreeSet<Addr>,
 }
 
 impl Model for AddressSet {
+    ghost use Rattle.std.specs.Prelude.{T};
+    ghost use Rattle.std.specs.FinMap as map;
+    ghost use Rattle.apd_base.specs.Sets.{SetOf, coded_set};
+    ghost use Rattle.apd_base.specs.Addr.{addr_cmp, coded_addr};
+    ghost use Rattle.apd_acl.specs.Keys.{rows_of, set_of};
+
     ghost Value = { SetOf addr_cmp };
 
     ghost coded = { coded_set coded_addr };
 
-    ghost view = { λ a. map.from_sorted a.rows.items };
+    ghost view = { λ a. set_of a.keys.keys };
 
-    ghost invariant = { λ a. T (map.is_sorted addr_cmp a.rows.items) };
+    ghost invariant = { λ a. T (map.is_sorted addr_cmp (rows_of a.keys.keys)) };
 }
 
-// The address at a place.
-fn address_at(rows: &[(Addr, ())], place: usize) -> Option<Addr>
-    ensures { result ≡ option_map (λ row. row.0) (slice_get rows.now place) }
+fn copy_of(alloc: Global, keys: &BTreeSet<Addr>) -> Result<BTreeSet<Addr>, AllocError>
+    ensures { IfOk result (IsFromIterResult addr_cmp keys.now.keys) }
 {
-    if place < rows.len() {
-        Some(rows[place].0)
-    } else {
-        None
-    }
+    keys.iter().copied().collect(alloc)
 }
 
 impl AddressSet {
@@ -46,7 +48,7 @@ impl AddressSet {
         ensures { result ≡ map.empty }
     {
         AddressSet {
-            rows: Vec::new(alloc),
+            keys: BTreeSet::new(alloc),
         }
     }
 
@@ -55,7 +57,7 @@ impl AddressSet {
         ensures { IfOk result (λ t. t ≡ self.now) }
     {
         Ok(AddressSet {
-            rows: Vec::from_slice(alloc, &self.rows)?,
+            keys: copy_of(alloc, &self.keys)?,
         })
     }
 
@@ -63,14 +65,14 @@ impl AddressSet {
     pub fn contains(&self, addr: Addr) -> bool
         ensures { result ≡ contains self.now addr }
     {
-        rows::value(&self.rows, &addr).is_some()
+        self.keys.contains(&addr)
     }
 
     /// How many addresses it has.
     pub fn len(&self) -> usize
         ensures { result ≡ map.len self.now }
     {
-        self.rows.len()
+        self.keys.len()
     }
 
     /// The least address.
@@ -78,7 +80,7 @@ impl AddressSet {
         ensures some { IfSome result (IsLeast (λ a. IsTrue (contains self.now a))) }
         ensures none { IfNone result ((a : Addr) → ¬ (IsTrue (contains self.now a))) }
     {
-        address_at(&self.rows, 0)
+        self.keys.first().copied()
     }
 
     /// The least address above another.
@@ -86,10 +88,8 @@ impl AddressSet {
         ensures some { IfSome result (IsLeastAbove addr (λ a. IsTrue (contains self.now a))) }
         ensures none { IfNone result ((a : Addr) → IsTrue (contains self.now a) → addr_cmp addr a ≢ Less) }
     {
-        match rows::place(&self.rows, &addr) {
-            Ok(place) => address_at(&self.rows, place + 1),
-            Err(place) => address_at(&self.rows, place),
-        }
+        let above = (Bound::Excluded(addr), Bound::Unbounded);
+        self.keys.range(above).next().copied()
     }
 
     /// Puts an address in, or leaves all as it was. It lacks memory only for one that is not there.
@@ -98,20 +98,21 @@ impl AddressSet {
         ensures err { OnErr result (self.new ≡ self.old) }
         ensures over { IsTrue (contains self.old addr) → IsOk result }
     {
-        rows::put(&mut self.rows, addr, ())
+        self.keys.insert(addr)?;
+        Ok(())
     }
 
     /// Takes an address out, if it is there.
     pub fn remove(&mut self, addr: Addr)
         ensures { self.new ≡ map.remove self.old addr }
     {
-        rows::remove(&mut self.rows, &addr);
+        self.keys.remove(&addr);
     }
 
     /// Takes each address out.
     pub fn clear(&mut self)
         ensures { self.new ≡ map.empty }
     {
-        self.rows.clear();
+        self.keys.clear();
     }
 }

@@ -6,3 +6,4 @@ pub mod NumberText
 pub mod RowsLaws
 pub mod RowsMaps
 pub mod StateLaws
+pub mod Trees

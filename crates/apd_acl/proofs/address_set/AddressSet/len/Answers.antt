@@ -1,9 +1,7 @@
-use Rattle.std.proofs.Common.{length, sym, ap, ◌∙◌}
+use Rattle.std.proofs.Common.{ap, ◌∙◌}
 use Rattle.std.specs.FinMap as map
-use Rattle.apd_base.specs.Addr.{addr_cmp}
+use Rattle.apd_acl.proofs.Keys.{len-keys}
 use Rattle.apd_acl.proofs.address_set.AddressSet.len.Goals as goal
 
 pub returns : goal.returns
-returns c =
-    c.len.ensures ∙ c.self.inside.rows.ok.0
-    ∙ sym (map.len-entries _ ∙ ap length (map.entries-from_sorted addr_cmp c.self.inside.rows.items c.self.invariant)) ∙ ap map.len c.self.view_is
+returns c = c.len.ensures.len ∙ len-keys c.self.inside.keys.keys c.self.invariant ∙ ap map.len c.self.view_is
