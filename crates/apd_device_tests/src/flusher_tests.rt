@@ -80,10 +80,7 @@ where
     D: Drop,
 {
     let mut flusher = formatted(alloc, disk)?;
-    let receipt = flusher.commit(batch_of(alloc, 1, policy()?)?)?;
-    if receipt.batch().first != 1 {
-        return Err(Fail::from("another batch"));
-    }
+    commit(alloc, &mut flusher, 1, policy()?)?;
     Ok(flusher)
 }
 
