@@ -60,7 +60,7 @@ taken out (Err fault.Lost) wanted ne = refl
 taken out (Err fault.NotMine) wanted ne = refl
 taken out (Err fault.NoMemory) wanted ne = absurd (ne refl)
 
-turned : (b c : Bssid) → eq_by_cmp bssid_cmp b c ≡ false → eq_by_cmp bssid_cmp c b ≡ false
+pub turned : (b c : Bssid) → eq_by_cmp bssid_cmp b c ≡ false → eq_by_cmp bssid_cmp c b ≡ false
 turned b c apart = (eq_by_cmp_equiv bssid_total).symm c b ∙ apart
 
 pub all_at : {A : Type 0} (P : A → Type 0) (xs : List A) (i : ℕ) (x : A) → slice_get xs i ≡ Some x → AllByRecursion P xs → P x
@@ -114,7 +114,7 @@ module _ {D R : Type 0} (stations : R → Stations) (faults : R → ℕ) (old ne
   was_same : (b : Bssid) (now : Slot R) → slots_of new ≡ slots_of old → slot_at (slots_of new) b ≡ Some now → Was b [] now
   was_same b now same at = (now, ap (λ slots. slot_at slots b) (sym same) ∙ at, refl)
 
-  own_of : (c : Bssid) (told : Told) (h : IsApplied stations faults c told old new) → bssid_of h.after ≡ bssid_of (get_or (slots_of old) h.place h.slot)
+  pub own_of : (c : Bssid) (told : Told) (h : IsApplied stations faults c told old new) → bssid_of h.after ≡ bssid_of (get_or (slots_of old) h.place h.slot)
   own_of c told h =
       applied_same stations faults told h.slot h.after (queue_of old c) (queue_of new c) h.tells
       ∙ ap bssid_of (sym (get_or_from_slice_get (slots_of old) h.place h.slot h.slot (ap (slot_in (slots_of old)) (sym h.at) ∙ h.has_slot)))

@@ -217,7 +217,7 @@ module _ (s : CoreState) (core : IsCore s) where
   }
 
 -- ---- a recipient is given what is settled for it
-is_or_not : (r q : Recipient) → (r ≡ q) ⊎ (is_same r q ≡ false)
+pub is_or_not : (r q : Recipient) → (r ≡ q) ⊎ (is_same r q ≡ false)
 is_or_not (Radio b) (Radio c) = elim (one_or_apart bssid_total bssid_exact b c) [ inl same ↦ inl (ap Radio same) | inr apart ↦ inr apart ]
 is_or_not (Radio b) Control = inr refl
 is_or_not Control (Radio c) = inr refl
@@ -227,7 +227,7 @@ itself : (r : Recipient) → is_same r r ≡ true
 itself (Radio b) = tied bssid_total bssid_exact b
 itself Control = refl
 
-turned : (r q : Recipient) → is_same r q ≡ false → is_same q r ≡ false
+pub turned : (r q : Recipient) → is_same r q ≡ false → is_same q r ≡ false
 turned r q apart = elim (is_or_not q r) [
   | inl same ↦ subst (λ (z : Recipient). is_same z r ≡ false) (sym same) (subst (λ (z : Recipient). is_same r z ≡ false) same apart)
   | inr ne ↦ ne

@@ -1,17 +1,21 @@
 -- Runs, one after another, and what is safely made by them.
-use Rattle.std.proofs.Common.{Bool, true, false, Option, Some, Result, Ok, Err, ◌≡◌, ◌≢◌, ℕ, zero, suc, ◌+◌, ◌<◌, ◌≤◌, List, [], ◌∷◌, ◌++◌, length, take, drop, get_or, add-one, refl, sym, ap, subst, ◌∙◌, arith, append_assoc, length-append}
+use Rattle.std.proofs.Common.{Bool, true, false, Option, Some, None, inl, inr, Result, Ok, Err, ◌≡◌, ◌≢◌, ℕ, zero, suc, ◌+◌, ◌<◌, ◌≤◌, List, [], ◌∷◌, ◌++◌, length, take, drop, get_or, add-one, refl, sym, ap, subst, ◌∙◌, arith, append_assoc, length-append}
 use Rattle.std.specs.Prelude.{⊤, IfOk, OnErr, OnOk, ◌==◌, ◌&&◌, not, map, replicate}
 use Rattle.std.specs.List.{All, AllByRecursion, flat_map}
 use Rattle.std.proofs.lemmas.List.{append-nil, map-append, replicate_more, take-append-drop, take_all}
-use Rattle.std.proofs.lemmas.List.Elements.{All-append, All-nil, All-push, All-weaker}
+use Rattle.std.proofs.lemmas.List.Elements.{All-append, All-cons, All-head, All-map, All-nil, All-push, All-tail, All-weaker}
 use Rattle.std.proofs.lemmas.Grind.{flat_map-append}
 use Rattle.std.proofs.Math.Seq.{take-append_seam, take-suc}
 use Rattle.apd_base.specs.State.{State}
 use Rattle.apd_base.specs.declared.address.Bssid.{Bssid}
 use Rattle.apd_conf.specs.declared.conf.Conf.{Conf}
-use Rattle.apd_core.specs.Core.{CoreState, front_of, held_for}
+use Rattle.apd_core.specs.Core.{CoreState, front_of, handed, held_for, ready_for}
 use Rattle.apd_core.specs.Heard.{LastHeard}
-use Rattle.apd_core.specs.Held.{HeldOuts}
+use Rattle.apd_core.specs.Held.{HeldOuts, queue_of as core_queue, up_to}
+use Rattle.apd_core.proofs.HeldLaws.{queue_of-after_hand, queue_of-after_hand_other}
+use Rattle.apd_core.proofs.Settling.{up_to_beyond}
+use Rattle.apd_base.proofs.AddrLaws.{bssid_total, bssid_exact}
+use Rattle.apd_base.proofs.MapLaws.{one_or_apart}
 use Rattle.apd_core.specs.declared.input.QuietReason.{QuietReason}
 use Rattle.apd_disk.specs.Disk.{LeavesOnly}
 use Rattle.apd_disk.proofs.Moments.{started, then_run, weaker}
@@ -29,23 +33,24 @@ use Rattle.apd_world.specs.Outside.{device_of}
 use Rattle.apd_world.specs.Proper.{IsProper, IsSafe}
 use Rattle.apd_world.specs.Round.{round}
 use Rattle.apd_world.specs.Run.{AreSteps, IsRun}
-use Rattle.apd_world.specs.Seen.{durable_of, slots_of, queue_of}
+use Rattle.apd_world.specs.Seen.{durable_of, slot_at, slots_of, queue_of}
 use Rattle.apd_world.specs.Shown.{ShowsEither, ShowsFront}
-use Rattle.apd_world.specs.Starting.{AreConfiguring, HasGoneOn, IsAtRest, IsFlushed, IsHandedOut, IsHanding, IsStarted, IsWorldRound, LeavesFronts, OnlyHands, applies, asked, hands, radio_hands, recipient_of, rounds}
+use Rattle.apd_world.specs.Starting.{AreConfiguring, HasGoneOn, IsAtRest, IsFlushed, IsHandedOut, IsGiven, IsHanding, IsStarted, IsWorldRound, LeavesFronts, OnlyHands, applies, asked, hands, radio_hands, recipient_of, rounds}
 use Rattle.apd_world.specs.Steps.{Account, account, all_entered, all_given, all_heard, entered, given, heard_after, nothing_yet, one_more}
 use Rattle.apd_world.specs.Telling.{Tells}
-use Rattle.apd_world.specs.WorldRun.{all_applied, applied, AreWorldSteps, IsWorldRun, IsWorldStep, Joins}
+use Rattle.apd_world.specs.WorldRun.{all_applied, applied, AreWorldSteps, HasNoSlot, IsApplied, IsWorldRun, IsWorldStep, Joins}
 use Rattle.apd_world.specs.declared.durable_core.DurableCore.{DurableCore}
 use Rattle.apd_world.specs.declared.step.Commit.{Commit}
 use Rattle.apd_world.specs.declared.step.Step.{Step}
 use Rattle.apd_world.specs.declared.step.Step.TheVariants.{Accept, Take, Call, Publish, Hand, Ask, Apply}
 use Rattle.apd_world.specs.declared.step.Told.{Told}
-use Rattle.apd_world.specs.declared.step.Told.TheVariants.{Handed, Nothing, NoMemory}
+use Rattle.apd_world.specs.declared.step.Told.TheVariants.{Handed, Nothing, NoMemory, Queued}
 use Rattle.apd_world.specs.declared.world.World.{World}
 use Rattle.apd_world.proofs.DriveLaws.{shows_front, shows_later, shows_more, steps_length}
-use Rattle.apd_world.proofs.FollowLaws.{exact, flows, following}
-use Rattle.apd_world.proofs.Goings.{goes_then, goes_unchanged, run-append}
+use Rattle.apd_world.proofs.FollowLaws.{exact, flows, following, own_of, turned as bssids_turned}
+use Rattle.apd_world.proofs.Goings.{goes_then, goes_unchanged, is_or_not, run-append, turned}
 use Rattle.apd_world.proofs.RoundLaws.{round_enters_none}
+use Rattle.apd_world.proofs.SlotLaws.{slot_set_other}
 use Rattle.apd_world.proofs.Standing.{shows_flight}
 use Rattle.apd_world.proofs.WorldDriveLaws.{given_alike, happens_alike}
 
@@ -456,6 +461,121 @@ pub on_ok_then : {A E P Q : Type 0} (r : Result A E) → (P → Q) → OnOk r P 
 on_ok_then (Ok x) f p = f p
 on_ok_then (Err e) f p = tt
 
+-- ---- what is settled is given
+ready_none : (q : Recipient) (s : CoreState) → ready_for q (handed q s) ≡ []
+ready_none q s = ap (map (λ (x : ℕ × Out). x.1)) (ap (up_to s.number) (queue_of-after_hand s.confs s.number q s.held) ∙ up_to_beyond s.number (core_queue s.confs s.held q))
+
+ready_kept : (r q : Recipient) (s : CoreState) → ready_for r s ≡ [] → ready_for r (handed q s) ≡ []
+ready_kept r q s none = elim (is_or_not r q) [
+  | inl same ↦ subst (λ (z : Recipient). ready_for z (handed q s) ≡ []) (sym same) (ready_none q s)
+  | inr apart ↦ ap (λ p. map (λ (x : ℕ × Out). x.1) (up_to s.number p)) (queue_of-after_hand_other s.confs s.number q r s.held (turned r q apart)) ∙ none
+]
+
+-- by one step that hands out
+keeps_ready : {D : Type 0} (r q : Recipient) (i : Told) (d e : DurableCore D) → Tells (Hand q) i d e → ready_for r d.core ≡ [] → ready_for r e.core ≡ []
+keeps_ready r q (Handed outs) d e h none = ap (λ (w : DurableCore _). ready_for r w.core) h.only ∙ ready_kept r q d.core none
+keeps_ready r q NoMemory d e h none = ap (λ (w : DurableCore _). ready_for r w.core) h ∙ none
+keeps_ready r q told d e h none = absurd h
+
+abbrev pub IsOfSlot : Step → Type 0
+IsOfSlot (Apply b) = ⊤
+IsOfSlot step = ⊥
+
+more_of_slot : (n : ℕ) (b : Bssid) (xs : List Step) → AllByRecursion IsOfSlot xs → AllByRecursion IsOfSlot (replicate n (Apply b) ++ xs)
+more_of_slot zero b xs all = all
+more_of_slot (suc n) b xs all = (tt, more_of_slot n b xs all)
+
+applies_of_slot : (confs : List Conf) (counts : List ℕ) → AllByRecursion IsOfSlot (applies confs counts)
+applies_of_slot [] counts = tt
+applies_of_slot (c ∷ confs) [] = tt
+applies_of_slot (c ∷ confs) (n ∷ counts) = more_of_slot n c.bssid (applies confs counts) (applies_of_slot confs counts)
+
+module _ {D R : Type 0} (stations : R → Stations) (faults : R → ℕ) where
+  hand_slots : (q : Recipient) (i t : Told) (a b : World D R) → Joins stations faults (Hand q) i t a b → slots_of b ≡ slots_of a
+  hand_slots (Radio r) (Handed outs) (Queued count) a b h = h.1.slots
+  hand_slots (Radio r) NoMemory NoMemory a b h = h.slots
+  hand_slots (Radio r) NoMemory Nothing a b h = h.1.slots
+  hand_slots (Radio r) i t a b h = absurd h
+  hand_slots Control i t a b h = h.1.slots
+
+  no_slot_at : (r : Bssid) (a b : World D R) → slots_of b ≡ slots_of a → HasNoSlot r a → HasNoSlot r b
+  no_slot_at r a b same none = ap (λ slots. slot_at slots r) same ∙ none
+
+  gives : (q : Recipient) (i t : Told) (a b : World D R) → Tells (Hand q) i (durable_of a) (durable_of b) → Joins stations faults (Hand q) i t a b → (t ≡ NoMemory → ⊥) → IsGiven q b
+  gives (Radio r) (Handed outs) (Queued count) a b h joins told = inr (ap (λ (w : DurableCore D). ready_for (Radio r) w.core) h.only ∙ ready_none (Radio r) (durable_of a).core)
+  gives (Radio r) NoMemory NoMemory a b h joins told = absurd (told refl)
+  gives (Radio r) NoMemory Nothing a b h joins told = inl (no_slot_at r a b joins.1.slots joins.0)
+  gives (Radio r) i t a b h joins told = absurd joins
+  gives Control (Handed outs) t a b h joins told = ap (λ (w : DurableCore D). ready_for Control w.core) h.only ∙ ready_none Control (durable_of a).core
+  gives Control NoMemory t a b h joins told = absurd (told joins.0)
+  gives Control i t a b h joins told = absurd h
+
+  stays_given : (r q : Recipient) (i t : Told) (a b : World D R) → Tells (Hand q) i (durable_of a) (durable_of b) → Joins stations faults (Hand q) i t a b → IsGiven r a → IsGiven r b
+  stays_given (Radio r) q i t a b h joins (inl none) = inl (no_slot_at r a b (hand_slots q i t a b joins) none)
+  stays_given (Radio r) q i t a b h joins (inr none) = inr (keeps_ready (Radio r) q i (durable_of a) (durable_of b) h none)
+  stays_given Control q i t a b h joins none = keeps_ready Control q i (durable_of a) (durable_of b) h none
+
+  all_stay_given : (r : Recipient) (confs : List Conf) (is ts : List Told) (a b : World D R) → AreWorldSteps stations faults (hands confs) is ts a b → IsGiven r a → IsGiven r b
+  all_stay_given r [] (i ∷ []) (t ∷ []) a b h g = subst (IsGiven r) (sym h.3) (stays_given r Control i t a h.0 h.1 h.2 g)
+  all_stay_given r (c ∷ confs) (i ∷ is) (t ∷ ts) a b h g = all_stay_given r confs is ts h.0 b h.3 (stays_given r (Radio c.bssid) i t a h.0 h.1 h.2 g)
+  all_stay_given r [] (i ∷ []) (t ∷ u ∷ ts) a b h g = absurd h.3
+  all_stay_given r [] (i ∷ j ∷ is) (t ∷ ts) a b h g = absurd h.3
+  all_stay_given r [] (i ∷ is) [] a b h g = absurd h
+  all_stay_given r [] [] ts a b h g = absurd h
+  all_stay_given r (c ∷ confs) [] ts a b h g = absurd h
+  all_stay_given r (c ∷ confs) (i ∷ is) [] a b h g = absurd h
+
+  hands_give : (confs : List Conf) (is ts : List Told) (a b : World D R) → AreWorldSteps stations faults (hands confs) is ts a b → All (λ told. told ≢ NoMemory) ts
+      → All (λ conf. IsGiven (Radio conf.bssid) b) confs × IsGiven Control b
+  hands_give [] (i ∷ []) (t ∷ []) a b h told =
+      (All-nil (λ conf. IsGiven (Radio conf.bssid) b), subst (IsGiven Control) (sym h.3) (gives Control i t a h.0 h.1 h.2 (All-head (λ told. told ≢ NoMemory) t [] told)))
+  hands_give (c ∷ confs) (i ∷ is) (t ∷ ts) a b h told =
+      let more = hands_give confs is ts h.0 b h.3 (All-tail (λ told. told ≢ NoMemory) t ts told) in
+      let one : IsGiven (Radio c.bssid) b = all_stay_given (Radio c.bssid) confs is ts h.0 b h.3 (gives (Radio c.bssid) i t a h.0 h.1 h.2 (All-head (λ told. told ≢ NoMemory) t ts told)) in
+      (All-cons (λ conf. IsGiven (Radio conf.bssid) b) c confs one more.0, more.1)
+  hands_give [] (i ∷ []) (t ∷ u ∷ ts) a b h told = absurd h.3
+  hands_give [] (i ∷ j ∷ is) (t ∷ ts) a b h told = absurd h.3
+  hands_give [] (i ∷ is) [] a b h told = absurd h
+  hands_give [] [] ts a b h told = absurd h
+  hands_give (c ∷ confs) [] ts a b h told = absurd h
+  hands_give (c ∷ confs) (i ∷ is) [] a b h told = absurd h
+
+  -- applying leaves what was given
+  no_slot_stays : (r c : Bssid) (t : Told) (a b : World D R) → IsApplied stations faults c t a b → HasNoSlot r a → HasNoSlot r b
+  no_slot_stays r c t a b h none = elim (one_or_apart bssid_total bssid_exact r c) [
+    | inl one ↦ absurd (let wrong : Some h.slot ≡ None = sym h.has_slot ∙ ap (slot_at (slots_of a)) (sym one) ∙ none in cc)
+    | inr apart ↦
+        ap (λ slots. slot_at slots r) h.slots ∙ slot_set_other (slots_of a) h.place h.after h.slot c r (own_of stations faults a b c t h) h.at (bssids_turned r c apart) ∙ none
+  ]
+
+  apply_keeps : (r c : Bssid) (i t : Told) (a b : World D R) → Joins stations faults (Apply c) i t a b → HasNoSlot r a → HasNoSlot r b
+  apply_keeps r c Nothing Nothing a b h none = no_slot_at r a b h.1.slots none
+  apply_keeps r c Nothing t a b h none = no_slot_stays r c t a b h none
+  apply_keeps r c i t a b h none = absurd h
+
+  apply_core : (c : Bssid) (i : Told) (a b : World D R) → Tells (Apply c) i (durable_of a) (durable_of b) → durable_of b ≡ durable_of a
+  apply_core c Nothing a b h = h
+  apply_core c i a b h = absurd h
+
+  apply_given : (r : Recipient) (c : Bssid) (i t : Told) (a b : World D R) → Tells (Apply c) i (durable_of a) (durable_of b) → Joins stations faults (Apply c) i t a b → IsGiven r a → IsGiven r b
+  apply_given (Radio r) c i t a b h joins (inl none) = inl (apply_keeps r c i t a b joins none)
+  apply_given (Radio r) c i t a b h joins (inr none) = inr (ap (λ (w : DurableCore D). ready_for (Radio r) w.core) (apply_core c i a b h) ∙ none)
+  apply_given Control c i t a b h joins none = ap (λ (w : DurableCore D). ready_for Control w.core) (apply_core c i a b h) ∙ none
+
+  applies_given : (r : Recipient) (xs : List Step) (is ts : List Told) (a b : World D R) → AllByRecursion IsOfSlot xs → AreWorldSteps stations faults xs is ts a b → IsGiven r a → IsGiven r b
+  applies_given r [] [] [] a b all h g = subst (IsGiven r) (sym h) g
+  applies_given r (Apply c ∷ xs) (i ∷ is) (t ∷ ts) a b all h g = applies_given r xs is ts h.0 b all.1 h.3 (apply_given r c i t a h.0 h.1 h.2 g)
+  applies_given r (Accept i m ∷ xs) is ts a b all h g = absurd all.0
+  applies_given r (Take ∷ xs) is ts a b all h g = absurd all.0
+  applies_given r (Call ∷ xs) is ts a b all h g = absurd all.0
+  applies_given r (Publish ∷ xs) is ts a b all h g = absurd all.0
+  applies_given r (Hand q ∷ xs) is ts a b all h g = absurd all.0
+  applies_given r (Ask q ∷ xs) is ts a b all h g = absurd all.0
+  applies_given r [] [] (t ∷ ts) a b all h g = absurd h
+  applies_given r [] (i ∷ is) ts a b all h g = absurd h
+  applies_given r (Apply c ∷ xs) [] ts a b all h g = absurd h
+  applies_given r (Apply c ∷ xs) (i ∷ is) [] a b all h g = absurd h
+
 -- ---- handing out, from one interface to the next
 pub radio_hands_more : (confs : List Conf) (i : ℕ) (d : Conf) → i < length confs → radio_hands (take (i + 1) confs) ≡ radio_hands (take i confs) ++ Hand (Radio (get_or confs i d).bssid) ∷ []
 radio_hands_more confs i d lt =
@@ -527,6 +647,11 @@ module _ {D R : Type 0} (honest : D → Type 0) (reads : D → List ℕ) (may_le
       → IsHandedOut stations faults [] after a c
   handed_out confs mid after a b c is first second =
       let both = answered_then honest reads may_leave moment left_since size stations faults (hands confs) (applies confs second.counts) [] mid after a b c first second.answered in
+      let hand = first.quiet.made.run in
+      let apply = second.answered.quiet.made.run in
+      let given = hands_give stations faults confs hand.insides (map (λ x. x.1) first.more) a b hand.steps_are (All-map (λ told. told ≢ NoMemory) (λ (x : Recipient × Told). x.1) first.more first.told) in
+      let later : (r : Recipient) → IsGiven r b → IsGiven r c =
+      λ r. applies_given stations faults r (applies confs second.counts) apply.insides (map (λ x. x.1) second.answered.more) b c (applies_of_slot confs second.counts) apply.steps_are in
       subst (λ (xs : List (Recipient × Told)). IsHandedOut stations faults [] xs a c) (sym both.all)
       (record {
         counts = second.counts;
@@ -536,6 +661,8 @@ module _ {D R : Type 0} (honest : D → Type 0) (reads : D → List ℕ) (may_le
         told = both.told;
         each = second.each ∙ ap length is;
         empty = subst (λ (cs : List Conf). All (λ conf. queue_of c conf.bssid ≡ []) cs) is second.empty;
+        radios = subst (λ (cs : List Conf). All (λ conf. IsGiven (Radio conf.bssid) c) cs) is (All-weaker (λ conf. IsGiven (Radio conf.bssid) b) (λ conf. IsGiven (Radio conf.bssid) c) (λ conf. later (Radio conf.bssid)) confs given.0);
+        control = later Control given.1;
       })
 
   pub hands_quiet : (xs : List Step) (confs : List Conf) (before mid after : List (Recipient × Told)) (a b c : World D R) → AreAnswered honest reads may_leave moment left_since size stations faults xs before mid a b → Applied_at confs mid after b c
@@ -614,6 +741,8 @@ module _ {D R : Type 0} (stations : R → Stations) (faults : R → ℕ) where
         told = h.told;
         each = h.each ∙ ap length confs;
         empty = subst (λ (cs : List Conf). All (λ conf. queue_of c conf.bssid ≡ []) cs) confs h.empty;
+        radios = subst (λ (cs : List Conf). All (λ conf. IsGiven (Radio conf.bssid) c) cs) confs h.radios;
+        control = h.control;
       }
 
   pub flushed_after : (xs fs : List Step) (ts : List Told) (answers : List (Recipient × Told)) (a b c : World D R) → IsWorldRun stations faults xs ts a b → IsFlushed stations faults fs answers b c → IsFlushed stations faults (xs ++ fs) answers a c

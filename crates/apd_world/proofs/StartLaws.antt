@@ -1,4 +1,4 @@
--- What stays from step to step of a start.
+-- What a quiet round leaves.
 use Rattle.std.proofs.Common.{◌≡◌, ℕ, List, [], ◌++◌, sym, ap, subst, ◌∙◌}
 use Rattle.std.specs.Prelude.{IsSome}
 use Rattle.std.specs.FinMap as maps
@@ -28,10 +28,3 @@ rest_following old new rest quiet before = λ b configured slot at a.
     (λ i. driven (rest.queues b i ++ held i) (maps.get (wanted_of slot)) a)
     ∙ before b known slot (ap (λ slots. slot_at slots b) (sym rest.slots) ∙ at) a
     ∙ ap (λ (s : State). aid_at s b a) (sym quiet.front)
-
--- what stays
-module _ {D R : Type 0} (honest : D → Type 0) (reads : D → List ℕ) (may_leave : D → List ℕ → Type 0) (size : D → ℕ) (stations : R → Stations) where
-  pub record Keeps (old new : World D R) : Type 0 where
-    pub proper : IsProper honest reads may_leave size (durable_of old) → IsProper honest reads may_leave size (durable_of new)
-    pub exact : AreExact stations (slots_of old) → AreExact stations (slots_of new)
-    pub following : AreFollowing old → AreFollowing new

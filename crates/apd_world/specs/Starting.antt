@@ -1,11 +1,12 @@
 -- How a world is started, is flushed, and hands out: the steps that are made, and what they tell (own).
-use Rattle.std.specs.Prelude.{◌≡◌, ◌≢◌, ℕ, List, [], ◌∷◌, ◌++◌, map, replicate, length, take, Option, None, Some, Result, Ok}
+use Rattle.std.specs.Prelude.{◌≡◌, ◌≢◌, ◌⊎◌, ℕ, List, [], ◌∷◌, ◌++◌, map, replicate, length, take, Option, None, Some, Result, Ok}
 use Rattle.std.specs.List.{All, flat_map}
 use Rattle.apd_conf.specs.declared.conf.Conf.{Conf}
 use Rattle.apd_disk.specs.Disk.{LeavesOnly}
 use Rattle.apd_mlme.specs.Happening.{Happening, Configure}
 use Rattle.apd_mlme.specs.declared.decision.Recipient.{Recipient}
 use Rattle.apd_mlme.specs.declared.decision.Recipient.TheVariants.{Radio, Control}
+use Rattle.apd_core.specs.Core.{ready_for}
 use Rattle.apd_core.specs.Requests.{said_by}
 use Rattle.apd_core.specs.declared.input.QuietReason.{QuietReason}
 use Rattle.apd_slot.specs.Wanted.{Stations}
@@ -15,7 +16,7 @@ use Rattle.apd_world.specs.Seen.{durable_of, queue_of}
 use Rattle.apd_world.specs.Shown.{ShowsFront}
 use Rattle.apd_world.specs.Steps.{all_entered}
 use Rattle.apd_world.specs.Telling.{HasNoBatch, HasNoCall, HasNoReceipt}
-use Rattle.apd_world.specs.WorldRun.{IsWorldRun}
+use Rattle.apd_world.specs.WorldRun.{HasNoSlot, IsWorldRun}
 use Rattle.apd_world.specs.declared.durable_core.DurableCore.{DurableCore}
 use Rattle.apd_world.specs.declared.step.Commit.{Commit}
 use Rattle.apd_world.specs.declared.step.Step.{Step}
@@ -80,9 +81,14 @@ pub record IsWorldRound {D R : Type 0} (stations : R → Stations) (faults : R �
   pub run : IsWorldRun stations faults (round calls) tolds old new
   pub answer_is : answer ≡ answer_of tolds
 
+-- a recipient was given all that is settled for it; a radio without a slot is given nothing
+abbrev pub IsGiven : {D R : Type 0} → Recipient → World D R → Type 0
+IsGiven (Radio b) w = HasNoSlot b w ⊎ (ready_for (Radio b) (durable_of w).core ≡ [])
+IsGiven Control w = ready_for Control (durable_of w).core ≡ []
+
 -- After these first steps what is settled is handed out, to each radio and then to control, and each out is applied. The answers
--- are what these last steps told, each with its recipient, and none met want of memory; and no queue of a configured interface has
--- an out.
+-- are what these last steps told, each with its recipient, and none met want of memory; no queue of a configured interface has an
+-- out, and each recipient was given all that is settled for it.
 pub record IsHandedOut {D R : Type 0} (stations : R → Stations) (faults : R → ℕ) (first : List Step) (answers : List (Recipient × Told)) (old new : World D R) : Type 0 where
   pub counts : List ℕ
   pub tolds : List Told
@@ -91,6 +97,8 @@ pub record IsHandedOut {D R : Type 0} (stations : R → Stations) (faults : R �
   pub told : All (λ a. a.1 ≢ NoMemory) answers
   pub each : length counts ≡ length (durable_of old).core.confs
   pub empty : All (λ conf. queue_of new conf.bssid ≡ []) (durable_of old).core.confs
+  pub radios : All (λ conf. IsGiven (Radio conf.bssid) new) (durable_of old).core.confs
+  pub control : IsGiven Control new
 
 -- After these first steps batches are committed until every entry is settled, and what is settled is handed out.
 pub record IsFlushed {D R : Type 0} (stations : R → Stations) (faults : R → ℕ) (first : List Step) (answers : List (Recipient × Told)) (old new : World D R) : Type 0 where

@@ -98,3 +98,11 @@ pub record IsWorldRun {D R : Type 0} (stations : R → Stations) (faults : R →
   pub radios : (b : Bssid)
       → all_applied b steps tolds ++ (queue_of new b ++ held_for (Radio b) (durable_of new).core)
       ≡ queue_of old b ++ (held_for (Radio b) (durable_of old).core ++ outs_run (Radio b) (front_of (durable_of old).core) (durable_of old).core.confs (all_entered steps tolds (durable_of old).core))
+
+-- Two lists of steps that are made one after the other are one list, by which what happened by the first happens, and then what happened
+-- by the second.
+abbrev pub RunsJoin : (D : Type 0) {R : Type 0} → (R → Stations) → (R → ℕ) → Type 0
+RunsJoin D {R} stations faults =
+    (xs ys : List Step) (ts us : List Told) (old mid new : World D R) → IsWorldRun stations faults xs ts old mid → IsWorldRun stations faults ys us mid new
+    → IsWorldRun stations faults (xs ++ ys) (ts ++ us) old new
+    × (all_entered (xs ++ ys) (ts ++ us) (durable_of old).core ≡ all_entered xs ts (durable_of old).core ++ all_entered ys us (durable_of mid).core)

@@ -1,5 +1,5 @@
-//! What a reader may rely on, whatever steps a durable core makes: each law is the contract of a function
-//! that does nothing.
+//! What a reader may rely on, whatever steps a durable core or a world makes: each law is the contract of a
+//! function that does nothing.
 ghost use Rattle.std.specs.Prelude.{◌≡◌, ◌≤◌, ◌++◌, List, Ok};
 ghost use Rattle.apd_base.specs.declared.moment.Moment.{Moment};
 ghost use Rattle.apd_ctrl.specs.declared.command.Query.{Query};
@@ -17,6 +17,7 @@ ghost use Rattle.apd_world.specs.Run.{AreSteps, IsRun};
 ghost use Rattle.apd_world.specs.Spoken.{SpeaksOf};
 ghost use Rattle.apd_world.specs.Steps.{all_entered};
 ghost use Rattle.apd_world.specs.Telling.{Tells};
+ghost use Rattle.apd_world.specs.WorldRun.{RunsJoin};
 ghost use Rattle.apd_world.specs.declared.durable_core.DurableCore.{DurableCore};
 ghost use Rattle.apd_world.specs.declared.step.Step.{Step};
 ghost use Rattle.apd_world.specs.declared.step.Step.TheVariants.{Ask};
@@ -24,6 +25,7 @@ ghost use Rattle.apd_world.specs.declared.step.Told.{Told};
 ghost use Rattle.apd_world.specs.declared.step.Told.TheVariants.{Answered};
 
 use apd_disk::Disk;
+use apd_radio::Radio;
 
 /// Whatever steps are made one after another, nothing is spoken of that is not settled: no out is given of a
 /// later entry than the last that is settled, and no answer to a query comes with a later number. That number
@@ -50,4 +52,10 @@ pub fn a_query_speaks_of_what_was_settled<D: Disk>()
     ensures { (steps : List Step) (tolds : List Told) (old mid new : DurableCore D) (hs : List Happening) (query : Query) (answer : Answer)
         → IsRun steps tolds old mid → AreUnsettled hs old.core → Tells (Ask query) (Answered answer) mid new
         → (answer.query ≡ query) × SpeaksOf (hs ++ all_entered steps tolds old.core) old.core answer }
+{}
+
+/// Steps of a world, and then further steps, are one list of steps: what they told is what that list tells, and
+/// what happened by the first happened first.
+pub fn runs_join<D: Disk, R: Radio>()
+    ensures { RunsJoin D R.stations R.faults }
 {}

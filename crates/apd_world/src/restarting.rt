@@ -33,21 +33,21 @@ use std::alloc::Global;
 // A durable core of a store and its table, with nothing accepted yet.
 //
 // Errors, with the store's device: where memory ran out.
-fn world_of<D: Disk>(
+fn durable_core_of<D: Disk>(
     alloc: Global,
     store: Store<D>,
     table: Table,
     confs: Confs,
     moment: Moment,
 ) -> Result<DurableCore<D>, D>
-    ensures core { IfOk result (λ world. world.core ≡ new_core table confs world.core.heard) }
-    ensures heard { IfOk result (λ world. AreHeardAt moment table world.core.heard) }
-    ensures sound { IfOk result (λ world. Sound table) }
-    ensures store { IfOk result (λ world. store_of world.flusher ≡ store) }
-    ensures steady { IsIdle D.reads D.may_leave store table → IfOk result (λ world. IsSteady D.reads D.may_leave world.flusher table) }
-    ensures batch { IfOk result (λ world. world.batch ≡ None) }
-    ensures receipt { IfOk result (λ world. world.receipt ≡ None) }
-    ensures told { IfOk result (λ world. world.told ≡ 0) }
+    ensures core { IfOk result (λ durable. durable.core ≡ new_core table confs durable.core.heard) }
+    ensures heard { IfOk result (λ durable. AreHeardAt moment table durable.core.heard) }
+    ensures sound { IfOk result (λ durable. Sound table) }
+    ensures store { IfOk result (λ durable. store_of durable.flusher ≡ store) }
+    ensures steady { IsIdle D.reads D.may_leave store table → IfOk result (λ durable. IsSteady D.reads D.may_leave durable.flusher table) }
+    ensures batch { IfOk result (λ durable. durable.batch ≡ None) }
+    ensures receipt { IfOk result (λ durable. durable.receipt ≡ None) }
+    ensures told { IfOk result (λ durable. durable.told ≡ 0) }
     ensures device { IfErr result (λ device. device ≡ store_device store) }
 {
     table.sound();
@@ -78,14 +78,14 @@ pub(crate) fn restart_core<D: Disk>(
     confs: Confs,
     moment: Moment,
 ) -> Result<DurableCore<D>, (D, WorldFault)>
-    ensures core { IfOk result (λ world. world.core ≡ new_core world.core.settled confs world.core.heard) }
-    ensures heard { IfOk result (λ world. AreHeardAt moment world.core.settled world.core.heard) }
-    ensures sound { IfOk result (λ world. Sound world.core.settled) }
-    ensures shown { D.honest device → IfOk result (λ world. Shows (D.reads device) world.core.settled) }
-    ensures recovered { D.honest device → IfOk result (λ world. (s : State) (old : List Conf) (hs : List Happening) (front : ShowsFront s old hs (D.reads device)) → world.core.settled ≡ run s old (take front.count hs)) }
-    ensures proper { D.honest device → IfOk result (λ world. IsProper D.honest D.reads D.may_leave D.size world) }
-    ensures images { D.honest device → IfOk result (λ world. Only (D.reads device) (D.may_leave (device_of world))) }
-    ensures any_moment { D.honest device → IfOk result (λ world. LeavesOnly D.moment D.left_since device (device_of world) (D.may_leave device)) }
+    ensures core { IfOk result (λ durable. durable.core ≡ new_core durable.core.settled confs durable.core.heard) }
+    ensures heard { IfOk result (λ durable. AreHeardAt moment durable.core.settled durable.core.heard) }
+    ensures sound { IfOk result (λ durable. Sound durable.core.settled) }
+    ensures shown { D.honest device → IfOk result (λ durable. Shows (D.reads device) durable.core.settled) }
+    ensures recovered { D.honest device → IfOk result (λ durable. (s : State) (old : List Conf) (hs : List Happening) (front : ShowsFront s old hs (D.reads device)) → durable.core.settled ≡ run s old (take front.count hs)) }
+    ensures proper { D.honest device → IfOk result (λ durable. IsProper D.honest D.reads D.may_leave D.size durable) }
+    ensures images { D.honest device → IfOk result (λ durable. Only (D.reads device) (D.may_leave (device_of durable))) }
+    ensures any_moment { D.honest device → IfOk result (λ durable. LeavesOnly D.moment D.left_since device (device_of durable) (D.may_leave device)) }
     ensures any_moment_err { D.honest device → IfErr result (λ e. LeavesOnly D.moment D.left_since device e.0 (D.may_leave device)) }
     ensures length { OnOk result (D.size device ≡ DEVICE_LENGTH) }
     ensures not_a_store { D.honest device → IfErr result (λ e. e.1 ≡ WorldFault.Store StoreFault.NotAStore → ¬ IsMarked (D.reads device)) }
@@ -94,17 +94,17 @@ pub(crate) fn restart_core<D: Disk>(
     ensures still_err { D.honest device → IfErr result (λ e. (image : List ℕ) → Only image (D.may_leave device) → Only image (D.may_leave e.0) × (D.reads e.0 ≡ image)) }
     ensures only { IfErr result (λ e. (e.1 ≡ WorldFault.Store StoreFault.NotAStore) ⊎ (e.1 ≡ WorldFault.Store StoreFault.Damaged) ⊎ (e.1 ≡ WorldFault.Store StoreFault.Device) ⊎ (e.1 ≡ WorldFault.Store StoreFault.NoMemory) ⊎ (e.1 ≡ WorldFault.NoMemory)) }
     ensures device { IfErr result (λ e. e.1 ≡ WorldFault.Store StoreFault.Device → HasRisen (D.failed device) (D.failed e.0)) }
-    ensures count { IfOk result (λ world. D.failed (device_of world) ≡ D.failed device) }
+    ensures count { IfOk result (λ durable. D.failed (device_of durable) ≡ D.failed device) }
     ensures no_fault { IfErr result (λ e. e.1 ≢ WorldFault.Store StoreFault.Device → D.failed e.0 ≡ D.failed device) }
-    ensures honest { IfOk result (λ world. D.honest device ↔ D.honest (device_of world)) }
+    ensures honest { IfOk result (λ durable. D.honest device ↔ D.honest (device_of durable)) }
     ensures honest_err { IfErr result (λ e. D.honest device ↔ D.honest e.0) }
-    ensures reads { D.honest device → IfOk result (λ world. D.reads (device_of world) ≡ D.reads device) }
+    ensures reads { D.honest device → IfOk result (λ durable. D.reads (device_of durable) ≡ D.reads device) }
 {
     an_image_shows_one_state();
     match recover(alloc, device) {
         Err((device, fault)) => Err((device, WorldFault::Store(fault))),
-        Ok((store, table)) => match world_of(alloc, store, table, confs, moment) {
-            Ok(world) => Ok(world),
+        Ok((store, table)) => match durable_core_of(alloc, store, table, confs, moment) {
+            Ok(durable) => Ok(durable),
             Err(device) => Err((device, WorldFault::NoMemory)),
         },
     }

@@ -7,7 +7,7 @@ use Rattle.apd_world.proofs.restarting.restart_core.Goals as goal
 pub returns-in-Err-clause-damaged : goal.returns-in-Err-clause-damaged
 returns-in-Err-clause-damaged g c = λ honest told. c.in-Err.ensures.damaged honest (same_fault _ _ told)
 
-pub returns-in-Ok-world_of-clause-recovered : goal.returns-in-Ok-world_of-clause-recovered
-returns-in-Ok-world_of-clause-recovered g c = λ honest s old hs front.
-    ap (λ (core : CoreState). core.settled) c.in-Ok-world_of.ensures.core
+pub returns-in-Ok-durable_core_of-clause-recovered : goal.returns-in-Ok-durable_core_of-clause-recovered
+returns-in-Ok-durable_core_of-clause-recovered g c = λ honest s old hs front.
+    ap (λ (core : CoreState). core.settled) c.in-Ok-durable_core_of.ensures.core
     ∙ c.an_image_shows_one_state.ensures (g.D.Disk.reads c.args.device) c.in-Ok.table (run s old (take front.count hs)) (c.in-Ok.ensures.shown honest) front.shows
