@@ -1,0 +1,144 @@
+//! What several tests use: frames, a core, a flusher, and steps on a shared core.
+ghost use Rattle.std.specs.Prelude.{◌≡◌};
+
+use apd_base::{Addr, Bssid, Moment};
+use apd_conf::{AddressList, Conf, Confs};
+use apd_core::{Accepted, Core, Input};
+use apd_desk::{Clock, NoGate, Seat, Shared, flush_worker};
+use apd_disk::{Disk, MemDisk};
+use apd_flusher::Flusher;
+use apd_store::format;
+use apd_table::Table;
+use std::alloc::Global;
+use std::sync::Wait;
+use std::sync::ledger::{Blank, Ledger};
+use std::time;
+
+/// The BSSID of the built-in configuration.
+pub(crate) const WLAN0: Bssid = Bssid(Addr([2, 0, 0, 0, 0, 1]));
+
+/// The number of a device's bytes.
+const LENGTH: usize = 2_097_216;
+
+/// The station whose address ends by this byte.
+pub(crate) fn station(last: u8) -> Addr {
+    Addr([2, 0, 0, 0, 0, last])
+}
+
+/// The frame by which a station asks for Open System authentication.
+pub(crate) fn authentication(last: u8) -> [u8; 30] {
+    [
+        0xb0, 0, 0, 0, 2, 0, 0, 0, 0, 1, 2, 0, 0, 0, 0, last, 2, 0, 0, 0, 0, 1, 0x10, 0, 0, 0, 1,
+        0, 0, 0,
+    ]
+}
+
+/// The frame by which the station that ends by 0xaa asks for association with the network `net`.
+pub(crate) const ASSOCIATION: [u8; 39] = [
+    0, 0, 0, 0, 2, 0, 0, 0, 0, 1, 2, 0, 0, 0, 0, 0xaa, 2, 0, 0, 0, 0, 1, 0x20, 0, 0x31, 4, 0x0a, 0,
+    0, 3, 0x6e, 0x65, 0x74, 1, 4, 0x82, 0x84, 0x8b, 0x96,
+];
+
+/// A clock that stands still.
+pub(crate) struct Still;
+
+impl Clock for Still {
+    fn now(&self) -> Moment {
+        Moment(0)
+    }
+}
+
+fn built_in(alloc: Global) -> Option<Confs> {
+    let mut list = Vec::new(alloc);
+    list.push(Conf::built_in(alloc).ok()?).ok()?;
+    Confs::new(list).ok()
+}
+
+/// A core of the built-in configuration, whose radio was not started.
+pub(crate) fn new_core(alloc: Global) -> Option<Core> {
+    Core::new(alloc, Table::new(alloc), built_in(alloc)?, Moment(0)).ok()
+}
+
+/// Whether a request becomes an entry of the core.
+pub(crate) fn enters(core: &mut Core, input: Input<'_>) -> bool {
+    matches!(core.accept(input, Moment(0)), Ok(Accepted::Entry(_)))
+}
+
+fn start(alloc: Global, core: &mut Core) -> bool {
+    let none = AddressList::new(alloc);
+    let (accept, deny) = (&none, &none);
+    let bssid = WLAN0;
+    enters(
+        core,
+        Input::Configure {
+            bssid,
+            accept,
+            deny,
+        },
+    )
+}
+
+/// A core whose radio was started by entry 1, which is not settled.
+pub(crate) fn started(alloc: Global) -> Option<Core> {
+    let mut core = new_core(alloc)?;
+    if start(alloc, &mut core) {
+        Some(core)
+    } else {
+        None
+    }
+}
+
+// No clause says what the disk holds: a proof would go through two million bytes.
+pub(crate) fn blank_disk(alloc: Global) -> Option<MemDisk> {
+    MemDisk::new(alloc, vec![in alloc; 0u8; LENGTH].ok()?).ok()
+}
+
+/// A flusher over a new store.
+pub(crate) fn flusher<D: Disk>(alloc: Global, disk: D) -> Option<Flusher<D>>
+where
+    D: Drop,
+{
+    let store = format(alloc, disk).ok()?;
+    Flusher::new(alloc, store, Table::new(alloc)).ok()
+}
+
+/// A flusher over a new store in memory.
+pub(crate) fn memory_flusher(alloc: Global) -> Option<Flusher<MemDisk>> {
+    flusher(alloc, blank_disk(alloc)?)
+}
+
+/// A shared core, where there is a core.
+pub(crate) fn share<L: Ledger>(core: Option<Core>, blank: Blank) -> Option<Shared<L>>
+    requires name { blank.name ≡ L.name }
+    requires parts { blank.parts ≡ L.parts }
+    requires all { blank.parts ≡ 65536 }
+{
+    Some(Shared::new(core?, blank))
+}
+
+/// Whether a frame becomes an entry by a seat.
+pub(crate) fn submits<L: Ledger, W: Wait>(
+    rt: &W,
+    shared: &Shared<L>,
+    seat: &mut Seat<L>,
+    frame: &[u8],
+) -> bool {
+    let answer = shared.submit(rt, seat, Input::Received(WLAN0, frame), Moment(0));
+    matches!(answer, Ok(Accepted::Entry(_)))
+}
+
+/// Tells all to stop, and commits what is not settled. Whether there was a flusher.
+pub(crate) fn commit_all<L: Ledger, W: Wait + time::Clock>(
+    rt: &W,
+    alloc: Global,
+    shared: &Shared<L>,
+) -> bool {
+    shared.stop(rt);
+    match memory_flusher(alloc) {
+        Some(flusher) => {
+            let _flusher = flush_worker(rt, shared, flusher, &NoGate);
+            true
+        }
+        None => false,
+    }
+}

@@ -1,0 +1,115 @@
+// What the worker of the control port replies to what is refused.
+ghost use Rattle.std.specs.Prelude.{◌≡◌};
+
+use crate::common::{Still, WLAN0, authentication, enters, new_core, share, started};
+use crate::operator::{Operator, are};
+use apd_core::{Core, Input};
+use apd_desk::{NoGate, Seat, Shared, control_worker};
+use std::alloc::Global;
+use std::marker::Brand;
+use std::sync::Wait;
+use std::sync::ledger::{Blank, Ledger};
+use std::time::Clock;
+
+const ORDER: &[u8] = b"DEAUTHENTICATE 02:00:00:00:00:aa";
+
+// Gives the commands one after another. Whether these are the replies.
+fn serve<'a, L: Ledger, W: Wait + Clock>(
+    rt: &'a W,
+    alloc: Global,
+    shared: &'a Shared<L>,
+    seat: Seat<L>,
+    commands: &'a [&'a [u8]],
+    texts: &[&[u8]],
+) -> bool {
+    let port = Operator::new(rt, alloc, shared, None, commands);
+    let (_seat, port) = control_worker(rt, shared, seat, port, &Still, &NoGate);
+    are(port.into_replies().as_slice(), texts)
+}
+
+// Whether these are the replies to these commands on a core.
+fn replies<L: Ledger, W: Wait + Clock>(
+    rt: &W,
+    alloc: Global,
+    core: Option<Core>,
+    blank: Blank,
+    commands: &[&'static [u8]],
+    texts: &[&[u8]],
+) -> Option<bool>
+    requires name { blank.name ≡ L.name }
+    requires parts { blank.parts ≡ L.parts }
+    requires all { blank.parts ≡ 65536 }
+{
+    let shared: Shared<L> = share(core, blank)?;
+    let seat = shared.seat(rt)?;
+    Some(serve(rt, alloc, &shared, seat, commands, texts))
+}
+
+fn failed(alloc: Global) -> Option<Core> {
+    let mut core = started(alloc)?;
+    core.fail();
+    Some(core)
+}
+
+// A core that keeps as many entries as may be.
+fn busy(alloc: Global) -> Option<Core> {
+    let mut core = started(alloc)?;
+    let frame = authentication(0xaa);
+    for _entry in 0..4096 {
+        enters(&mut core, Input::Received(WLAN0, &frame));
+    }
+    Some(core)
+}
+
+// What is no command, or no interface's, or of an interface that was not started; and queries, which are answered.
+const COMMANDS: &[&[u8]] = &[
+    b"",
+    b"\n",
+    b"HELLO",
+    b"PING PING",
+    b"IFNAME=wlan9 PING",
+    b"PING",
+    b"STA 02:00:00:00:00:aa",
+    ORDER,
+    b"STA-FIRST",
+];
+
+const REPLIES: &[&[u8]] = &[
+    b"UNKNOWN COMMAND\n",
+    b"UNKNOWN COMMAND\n",
+    b"UNKNOWN COMMAND\n",
+    b"FAIL\n",
+    b"FAIL\n",
+    b"PONG\n",
+    b"FAIL\n",
+    b"FAIL\n",
+    b"",
+];
+
+#[test]
+fn each_refusal_is_replied_to(rt: HostRuntime) {
+    let alloc = rt.alloc();
+    let (core, blank) = (new_core(alloc), Blank::new(65_536));
+    let replied = replies::<Brand, _>(&rt, alloc, core, blank, COMMANDS, REPLIES);
+    assert_eq!(rt; replied, Some(true));
+}
+
+const ORDERS: &[&[u8]] = &[ORDER, b"PING"];
+
+const FAILS: &[&[u8]] = &[b"FAIL\n", b"PONG\n"];
+
+#[test]
+fn an_order_fails_on_a_core_that_has_failed(rt: HostRuntime) {
+    let alloc = rt.alloc();
+    let (core, blank) = (failed(alloc), Blank::new(65_536));
+    let replied = replies::<Brand, _>(&rt, alloc, core, blank, ORDERS, FAILS);
+    assert_eq!(rt; replied, Some(true));
+}
+
+#[test]
+fn an_order_fails_on_a_full_core(rt: HostRuntime) {
+    let alloc = rt.alloc();
+    let (core, blank) = (busy(alloc), Blank::new(65_536));
+    let replied = replies::<Brand, _>(&rt, alloc, core, blank, ORDERS, FAILS);
+    assert_eq!(rt; replied, Some(true));
+}

@@ -1,0 +1,19 @@
+//! Tests of the desk by its public calls alone, a module a kind: what no clause says of a core that threads share.
+#![tactic(auto)]
+
+#[cfg(test)]
+mod accepting_tests;
+#[cfg(test)]
+mod association_tests;
+#[cfg(test)]
+mod common;
+#[cfg(test)]
+mod control_tests;
+#[cfg(test)]
+mod fault_tests;
+#[cfg(test)]
+mod hold;
+#[cfg(test)]
+mod operator;
+#[cfg(test)]
+mod seat_tests;

@@ -1,0 +1,175 @@
+// Seats: as many as there may be, each its own, and all back at the end.
+ghost use Rattle.std.specs.Prelude.{◌≡◌};
+
+use crate::common::{
+    WLAN0, authentication, commit_all, new_core, share, started, station, submits,
+};
+use apd_core::Core;
+use apd_ctrl::Query;
+use apd_desk::{Seat, Shared};
+use std::alloc::Global;
+use std::marker::Brand;
+use std::sync::Wait;
+use std::sync::ledger::{Blank, Ledger};
+use std::thread::{Threads, map_indices};
+use std::time::Clock;
+
+/// What is told of an authenticated station behind its address.
+const AUTHENTICATED: &[u8] = b"\nflags=[AUTH]\naid=0\ncapability=0x0\nlisten_interval=0\n";
+
+// The last byte of the address of the station of a number.
+fn last(number: usize) -> Option<u8> {
+    u8::try_from(number).ok()?.checked_add(0x10)
+}
+
+// A new seat, by which the station of this number was authenticated.
+fn seat_of<L: Ledger, W: Wait>(rt: &W, shared: &Shared<L>, number: usize) -> Option<Seat<L>> {
+    let last = last(number)?;
+    let mut seat = shared.seat(rt)?;
+    if submits(rt, shared, &mut seat, &authentication(last)) {
+        Some(seat)
+    } else {
+        None
+    }
+}
+
+// All of them, or none where one is missing.
+fn all<X: Drop>(alloc: Global, found: Vec<Option<X>>) -> Option<Vec<X>> {
+    let mut all = Vec::new(alloc);
+    for one in found {
+        all.push(one?).ok()?;
+    }
+    Some(all)
+}
+
+fn eight_seats<L: Ledger + Send + Sync, R: Threads + Wait + Sync>(
+    rt: &R,
+    alloc: Global,
+    shared: &Shared<L>,
+) -> Option<Vec<Seat<L>>> {
+    all(
+        alloc,
+        map_indices(rt, alloc, 8, &|number| seat_of(rt, shared, number)).ok()?,
+    )
+}
+
+// Whether the core shows the first eight stations and not the ninth, and how many entries it accepted, once each of
+// eight threads had its seat.
+fn eight_stations<L: Ledger + Send + Sync, R: Threads + Wait + Clock + Sync>(
+    rt: &R,
+    alloc: Global,
+    blank: Blank,
+) -> Option<(bool, u64)>
+    requires name { blank.name ≡ L.name }
+    requires parts { blank.parts ≡ L.parts }
+    requires all { blank.parts ≡ 65536 }
+{
+    let shared: Shared<L> = share(started(alloc), blank)?;
+    let seats = eight_seats(rt, alloc, &shared)?;
+    commit_all(rt, alloc, &shared);
+    closed(shared, seats)
+}
+
+// What the core shows of the stations, and how many entries it accepted.
+fn closed<L: Ledger>(shared: Shared<L>, seats: Vec<Seat<L>>) -> Option<(bool, u64)>
+    requires { L.parts ≡ 65536 }
+{
+    let (core, number) = shared.close(seats).ok()?;
+    Some((shows_eight(&core), number))
+}
+
+fn is_told(core: &Core, last: u8) -> bool {
+    match core.read(Query::Sta(WLAN0, station(last))) {
+        Ok(answer) => answer.text().get(17..) == Some(AUTHENTICATED),
+        Err(_) => false,
+    }
+}
+
+fn is_shown(core: &Core, number: usize) -> bool {
+    last(number).is_some_and(|last| is_told(core, last))
+}
+
+// Whether a core shows the first eight stations, and not the ninth.
+fn shows_eight(core: &Core) -> bool {
+    (0..8).all(|number| is_shown(core, number)) && !is_shown(core, 8)
+}
+
+#[test]
+fn each_seat_its_station(rt: HostRuntime) {
+    let shown = eight_stations::<Brand, _>(&rt, rt.alloc(), Blank::new(65_536));
+    assert_eq!(rt; shown, Some((true, 8)));
+}
+
+// How many seats are given.
+fn seats_given<L: Ledger, W: Wait>(rt: &W, alloc: Global, blank: Blank) -> u64
+    requires name { blank.name ≡ L.name }
+    requires parts { blank.parts ≡ L.parts }
+    requires all { blank.parts ≡ 65536 }
+{
+    match share::<L>(new_core(alloc), blank) {
+        Some(shared) => count_seats(rt, &shared),
+        None => 0,
+    }
+}
+
+fn count_seats<L: Ledger, W: Wait>(rt: &W, shared: &Shared<L>) -> u64 {
+    let mut given: u64 = 0;
+    for _ask in 0..65_600 {
+        if shared.seat(rt).is_some() {
+            given = given.saturating_add(1);
+        }
+    }
+    given
+}
+
+#[test]
+fn there_are_65536_seats(rt: HostRuntime) {
+    let given = seats_given::<Brand, _>(&rt, rt.alloc(), Blank::new(65_536));
+    assert_eq!(rt; given, 65_536);
+}
+
+fn one_seat<L: Ledger, W: Wait>(rt: &W, alloc: Global, shared: &Shared<L>) -> Option<Vec<Seat<L>>> {
+    let mut seats = Vec::new(alloc);
+    seats.push(seat_of(rt, shared, 0)?).ok()?;
+    Some(seats)
+}
+
+// Closes with one more seat. How many entries there were.
+fn close_with<L: Ledger>(shared: Shared<L>, seats: Vec<Seat<L>>, seat: Seat<L>) -> Option<u64>
+    requires { L.parts ≡ 65536 }
+{
+    let mut seats = seats;
+    seats.push(seat).ok()?;
+    let (_core, number) = shared.close(seats).ok()?;
+    Some(number)
+}
+
+// Closes without this seat, and with it. How many seats came back first, and how many entries there were.
+fn close_late<L: Ledger>(
+    shared: Shared<L>,
+    seats: Vec<Seat<L>>,
+    late: Seat<L>,
+) -> Option<(usize, u64)>
+    requires { L.parts ≡ 65536 }
+{
+    let (shared, seats) = shared.close(seats).err()?;
+    let back = seats.len();
+    Some((back, close_with(shared, seats, late)?))
+}
+
+fn close_twice<L: Ledger, W: Wait>(rt: &W, alloc: Global, blank: Blank) -> Option<(usize, u64)>
+    requires name { blank.name ≡ L.name }
+    requires parts { blank.parts ≡ L.parts }
+    requires all { blank.parts ≡ 65536 }
+{
+    let shared: Shared<L> = share(started(alloc), blank)?;
+    let seats = one_seat(rt, alloc, &shared)?;
+    let late = seat_of(rt, &shared, 1)?;
+    close_late(shared, seats, late)
+}
+
+#[test]
+fn a_missing_seat_hands_all_back(rt: HostRuntime) {
+    let closed = close_twice::<Brand, _>(&rt, rt.alloc(), Blank::new(65_536));
+    assert_eq!(rt; closed, Some((1, 2)));
+}
