@@ -80,7 +80,10 @@ where
     D: Drop,
 {
     let mut flusher = formatted(alloc, disk)?;
-    commit(alloc, &mut flusher, 1, policy()?)?;
+    let receipt = flusher.commit(batch_of(alloc, 1, policy()?)?)?;
+    if receipt.batch().first != 1 {
+        return Err(Fail::from("another batch"));
+    }
     Ok(flusher)
 }
 
