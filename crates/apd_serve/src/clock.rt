@@ -5,6 +5,7 @@ use std::time::{self, Instant};
 
 /// Tells the milliseconds since it was made, by the system's clock that doesn't go back. Where that can't be read it
 /// tells 0, at which nobody was silent for any time.
+#[derive(Drop)]
 pub struct SystemClock<T: time::Clock> {
     system: T,
     began: Option<Instant>,

@@ -1,10 +1,22 @@
-//! What an access point serves with: the port of its control commands, and the clock of the system.
+//! An access point that serves: the port of its control commands, the clock of the system, the threads round a
+//! world that was started, and all of it over a file, datagrams and recordings.
 #![tactic(auto)]
 
 pub mod clock;
+mod closing;
 pub mod control_port;
+mod crew;
+pub mod fault;
+mod input;
+pub mod running;
 pub mod senders;
+mod serving;
+mod worker;
 
 pub use clock::SystemClock;
+pub use closing::log_entries;
 pub use control_port::ControlPort;
+pub use fault::ServeFault;
+pub use running::{RunFault, Site, run};
 pub use senders::Senders;
+pub use serving::serve;

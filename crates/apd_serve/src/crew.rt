@@ -1,0 +1,71 @@
+//! Threads that work side by side until the input ends.
+use crate::fault::ServeFault;
+use crate::input::read_to_its_end;
+use std::alloc::Global;
+use std::io::Read;
+use std::sync::Wait;
+use std::thread::{self, JoinHandle, Scope, Threads};
+
+/// What one thread does, with what it owns.
+pub(crate) trait Job<X> {
+    /// Works until it is told to stop, and gives back what it owns.
+    fn work(self, shared: &X) -> Self;
+}
+
+/// What the threads share.
+pub(crate) trait Stops {
+    /// Tells those that work to stop.
+    fn stop(&self);
+}
+
+// Starts a thread for each job. Tells whether each has one; after the first that can't be made no other is started.
+fn start_all<'s, E, X: Sync + 's, J: Job<X> + Send + Drop + 's>(
+    scope: &Scope<'s, E>,
+    shared: &'s X,
+    jobs: Vec<J>,
+    threads: &mut Vec<JoinHandle<J>>,
+) -> bool {
+    for job in jobs {
+        let Ok(thread) = scope.spawn(move || job.work(shared)) else {
+            return false;
+        };
+        if threads.push(thread).is_err() {
+            return false;
+        }
+    }
+    true
+}
+
+/// Does each job in a thread of its own until the input ends or fails, then stops them all, and gives the jobs back
+/// once each thread has ended. It takes its memory before it starts a thread.
+///
+/// Errors: `Thread` where one can't be made: those that run are stopped, and have ended; `NoMemory`, and none was
+/// started.
+pub(crate) fn work_until_end<W: Wait + Threads, X: Stops + Sync, J: Job<X> + Send + Drop, B: Read>(
+    rt: &W,
+    alloc: Global,
+    shared: &X,
+    jobs: Vec<J>,
+    reader: &mut B,
+) -> Result<Vec<J>, ServeFault> {
+    let mut threads = Vec::with_capacity(alloc, jobs.len())?;
+    let mut ended = Vec::with_capacity(alloc, jobs.len())?;
+    let all = thread::scope(thread::scope_env(), rt, |scope| {
+        let started = start_all(scope, shared, jobs, &mut threads);
+        if started {
+            read_to_its_end(reader);
+        }
+        shared.stop();
+        for thread in threads {
+            if ended.push(thread.join(rt)).is_err() {
+                return false;
+            }
+        }
+        started
+    });
+    if all {
+        Ok(ended)
+    } else {
+        Err(ServeFault::Thread)
+    }
+}

@@ -1,0 +1,173 @@
+//! An access point that serves, in threads.
+ghost use Rattle.std.specs.Prelude.{◌≡◌, ◌+◌, [], IfOk, OnOk};
+ghost use Rattle.apd_desk.specs.Counted.{counted};
+ghost use Rattle.apd_serve.specs.Entries.{entries_of_all, entries_of_seat};
+
+use crate::crew::work_until_end;
+use crate::fault::{ServeFault, of_start};
+use crate::worker::{Desk, Worker};
+use apd_core::Core;
+use apd_desk::{Clock, Gate, Port, SEATS, Seat, Shared};
+use apd_disk::Disk;
+use apd_flusher::Flusher;
+use apd_radio::Radio;
+use apd_slot::Slot;
+use apd_world::World;
+use std::alloc::{AllocError, Global};
+use std::io::Read;
+use std::marker::Brand;
+use std::sync::Wait;
+use std::sync::ledger::{Blank, Ledger};
+use std::thread::Threads;
+use std::time;
+
+// The workers: one that commits, one for each radio, one for the control port and one for ticks; none where there
+// are more than seats. Whether each slot is up is noted.
+fn crew<L: Ledger, W: Wait, D: Disk + Drop, R: Radio, P: Port + Drop>(
+    rt: &W,
+    alloc: Global,
+    shared: &Shared<L>,
+    flusher: Flusher<D>,
+    slots: Vec<Slot<R>>,
+    port: P,
+) -> Result<Option<Vec<Worker<L, D, R, P>>>, AllocError> {
+    let mut workers = Vec::new(alloc);
+    workers.push(Worker::Flushing(flusher))?;
+    for slot in slots {
+        let Some(seat) = shared.seat(rt) else {
+            return Ok(None);
+        };
+        shared.note(rt, slot.bssid(), slot.is_up());
+        workers.push(Worker::Radio(seat, slot))?;
+    }
+    let (Some(control), Some(ticks)) = (shared.seat(rt), shared.seat(rt)) else {
+        return Ok(None);
+    };
+    workers.push(Worker::Control(control, port))?;
+    workers.push(Worker::Ticks(ticks))?;
+    Ok(Some(workers))
+}
+
+// Keeps a seat, if there is one.
+fn keep<L: Ledger>(seats: &mut Vec<Seat<L>>, seat: Option<Seat<L>>) -> Result<(), AllocError>
+    ensures { OnOk result (counted seats.new.items ≡ counted seats.old.items + entries_of_seat seat) }
+{
+    if let Some(seat) = seat {
+        seats.push(seat)?;
+    }
+    Ok(())
+}
+
+// Lets each worker go, in order, and keeps its seat.
+fn dismiss<L: Ledger, W: Wait, D: Disk + Drop, R: Radio, P: Port + Drop>(
+    rt: &W,
+    shared: &Shared<L>,
+    workers: Vec<Worker<L, D, R, P>>,
+    seats: &mut Vec<Seat<L>>,
+) -> Result<(), AllocError>
+    ensures { OnOk result (counted seats.new.items ≡ counted seats.old.items + entries_of_all workers.items) }
+{
+    for worker in workers {
+        keep(seats, worker.leave(rt, shared))?;
+    }
+    Ok(())
+}
+
+// How many entries the workers accepted. Each hands out once more what was settled, and is let go.
+//
+// Errors: `Thread` where a seat is missing; `NoMemory`, which can't come where the seats have room for all.
+fn closed<L: Ledger, W: Wait, D: Disk + Drop, R: Radio, P: Port + Drop>(
+    rt: &W,
+    shared: Shared<L>,
+    workers: Vec<Worker<L, D, R, P>>,
+    seats: Vec<Seat<L>>,
+) -> Result<u64, ServeFault>
+    requires parts { L.parts ≡ SEATS }
+    requires none { seats.items ≡ [] }
+    ensures { IfOk result (λ entries. entries ≡ entries_of_all workers.items) }
+{
+    let mut seats = seats;
+    dismiss(rt, &shared, workers, &mut seats)?;
+    match shared.close(seats) {
+        Ok((_core, entries)) => Ok(entries),
+        Err(_missing) => Err(ServeFault::Thread),
+    }
+}
+
+// As `serve`, with the world started, over one ledger.
+fn served<
+    L: Ledger + Send + Sync,
+    W: Wait + Threads + time::Clock + Sync,
+    D: Disk + Drop + Send,
+    R: Radio + Send,
+    P: Port + Drop + Send,
+    C: Clock + Sync,
+    G: Gate + Sync,
+    B: Read,
+>(
+    rt: &W,
+    alloc: Global,
+    blank: Blank,
+    world: World<D, R>,
+    port: P,
+    clock: &C,
+    gate: &G,
+    reader: &mut B,
+) -> Result<u64, ServeFault>
+    requires name { blank.name ≡ L.name }
+    requires parts { blank.parts ≡ L.parts }
+    requires all { blank.parts ≡ SEATS }
+{
+    let (flusher, core, slots) = world.into_parts();
+    let shared = Shared::<L>::new(core, blank);
+    let Some(workers) = crew(rt, alloc, &shared, flusher, slots, port)? else {
+        return Err(ServeFault::Thread);
+    };
+    let seats = Vec::with_capacity(alloc, workers.len())?;
+    let desk = Desk {
+        rt,
+        alloc,
+        shared: &shared,
+        clock,
+        gate,
+    };
+    let workers = work_until_end(rt, alloc, &desk, workers, reader)?;
+    drop(desk);
+    closed(rt, shared, workers, seats)
+}
+
+/// Serves an access point until the input ends or fails: configures each interface, which is committed and handed
+/// out first, and then receives frames, carries out the commands of the control port, lets silent stations go,
+/// commits, and hands out what is settled, each in a thread of its own, a thread for each radio. What is read of the
+/// input is dropped. At its end the threads are stopped, what was accepted is committed, and what was settled is
+/// handed out once more. It answers how many requests became entries: the sum of what the threads' seats counted,
+/// which the start isn't part of.
+///
+/// Errors: `Store` where the store refuses the start; `Thread` where a thread can't be made, with those that run
+/// stopped first, or was lost; `NoMemory`. A fault of the device that comes later is none: what it leaves
+/// undone is refused, until a restart.
+pub fn serve<
+    W: Wait + Threads + time::Clock + Sync,
+    D: Disk + Drop + Send,
+    R: Radio + Send,
+    P: Port + Drop + Send,
+    C: Clock + Drop + Sync,
+    G: Gate + Sync,
+    B: Read + Drop,
+>(
+    rt: &W,
+    alloc: Global,
+    world: World<D, R>,
+    port: P,
+    clock: C,
+    gate: &G,
+    reader: B,
+) -> Result<u64, ServeFault> {
+    let mut world = world;
+    let mut reader = reader;
+    if let Err(fault) = world.start() {
+        return Err(of_start(fault));
+    }
+    let blank = Blank::new(u64::from(SEATS));
+    served::<Brand, W, D, R, P, C, G, B>(rt, alloc, blank, world, port, &clock, gate, &mut reader)
+}
