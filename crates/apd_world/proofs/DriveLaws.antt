@@ -1,5 +1,5 @@
 -- Steps, one after another, and what a stop at any moment since the first leaves.
-use Rattle.std.proofs.Common.{◌≡◌, ℕ, suc, ◌+◌, ◌<◌, ◌≤◌, List, [], ◌∷◌, ◌++◌, length, take, drop, get_or, inl, inr, ⊎_elim, refl, sym, ap, subst, ◌∙◌, arith, add-one, append_assoc, length-append}
+use Rattle.std.proofs.Common.{◌≡◌, ℕ, suc, ◌+◌, ◌<◌, ◌≤◌, List, [], ◌∷◌, ◌++◌, length, take, drop, get_or, refl, sym, ap, subst, ◌∙◌, arith, add-one, append_assoc, length-append}
 use Rattle.std.proofs.lemmas.List.{append-nil, take-append-le, take-append-drop, take_all}
 use Rattle.std.proofs.Math.Seq.{take-suc, take-append_seam}
 use Rattle.apd_base.specs.State.{State}
@@ -14,9 +14,9 @@ use Rattle.apd_store.specs.Image.{Shows}
 use Rattle.apd_core.specs.Core.{CoreState, front_of}
 use Rattle.apd_world.specs.Going.{AreUnsettled, Goes, Settles}
 use Rattle.apd_world.specs.Proper.{IsProper, IsSafe}
-use Rattle.apd_world.specs.Run.{AreSteps, IsRun, IsStep}
-use Rattle.apd_world.specs.Shown.{ShowsEither, ShowsFlight, ShowsFront}
-use Rattle.apd_world.specs.Steps.{Account, account, all_entered, all_given, entered, given, heard_after, nothing_yet, one_more}
+use Rattle.apd_world.specs.Run.{AreSteps, IsStep}
+use Rattle.apd_world.specs.Shown.{ShowsEither, ShowsFront}
+use Rattle.apd_world.specs.Steps.{Account, account, all_given, entered, given, heard_after, nothing_yet, one_more}
 use Rattle.apd_world.specs.Telling.{Tells}
 use Rattle.apd_world.specs.Outside.{device_of, IsSpoken}
 use Rattle.apd_world.specs.declared.step.Step.{Step}

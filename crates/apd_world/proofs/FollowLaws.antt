@@ -33,14 +33,14 @@ use Rattle.apd_slot.specs.declared.slot.SlotFault.TheVariants as fault
 use Rattle.apd_slot.proofs.Driven.{wanted_is_driven}
 use Rattle.apd_world.specs.Applying.{AppliesFirst}
 use Rattle.apd_world.specs.Following.{AreExact, AreFollowing}
-use Rattle.apd_world.specs.Seen.{durable_of, slots_of, slot_place, slot_in, slot_at, queue_of}
+use Rattle.apd_world.specs.Seen.{durable_of, slots_of, slot_in, slot_at, queue_of}
 use Rattle.apd_world.specs.Steps.{entered, given}
-use Rattle.apd_world.specs.WorldRun.{applied, IsApplied, IsWorldStep, Joins, OthersStay, RestStays}
+use Rattle.apd_world.specs.WorldRun.{applied, IsApplied, IsWorldStep, Joins}
 use Rattle.apd_world.specs.declared.world.World.{World}
 use Rattle.apd_world.specs.declared.step.Step.{Step}
-use Rattle.apd_world.specs.declared.step.Step.TheVariants.{Accept, Take, Call, Publish, Hand, Ask, Apply}
+use Rattle.apd_world.specs.declared.step.Step.TheVariants.{Hand, Apply}
 use Rattle.apd_world.specs.declared.step.Told.{Told}
-use Rattle.apd_world.specs.declared.step.Told.TheVariants.{Accepted, Loaded, Called, Published, Handed, Queued, Answered, Applied, Nothing, NoMemory}
+use Rattle.apd_world.specs.declared.step.Told.TheVariants.{Handed, Queued, Applied, Nothing, NoMemory}
 use Rattle.apd_world.proofs.Joining.{applied_same}
 use Rattle.apd_world.proofs.SlotLaws.{slot_set, slot_set_other}
 

@@ -1,5 +1,5 @@
 -- How a core goes on by each of its calls, and by several.
-use Rattle.std.proofs.Common.{◌≡◌, ℕ, zero, suc, ◌+◌, ◌-◌, ◌<◌, ◌≤◌, Bool, true, false, cond, List, [], ◌∷◌, ◌++◌, length, take, drop, ◌⊎◌, inl, inr, refl, sym, ap, subst, ◌∙◌, arith, append_assoc, length-append, Result, Ok, Err}
+use Rattle.std.proofs.Common.{◌≡◌, ℕ, ◌+◌, ◌≤◌, Bool, true, false, cond, List, [], ◌∷◌, ◌++◌, length, take, drop, ◌⊎◌, inl, inr, refl, sym, ap, subst, ◌∙◌, arith, append_assoc, length-append}
 use Rattle.std.specs.Prelude.{map}
 use Rattle.std.proofs.lemmas.List.{append-nil, map-append, length-take-le, length-drop, take-append-drop}
 use Rattle.apd_base.specs.State.{State}
@@ -16,14 +16,13 @@ use Rattle.apd_mlme.specs.Rules.{verdict, IsFit}
 use Rattle.apd_mlme.specs.Run.{run, outs_run, AreFit}
 use Rattle.apd_mlme.proofs.RadioLaws.{verdict_there}
 use Rattle.apd_record.specs.declared.change.Change.{Change}
-use Rattle.apd_core.specs.Core.{CoreState, changes_of, front_of, last_of, held_for, ready_for, with_entry, with_sender, published, handed}
-use Rattle.apd_core.specs.Heard.{LastHeard, heard_by}
+use Rattle.apd_core.specs.Core.{CoreState, front_of, last_of, held_for, ready_for, with_entry, with_sender, published, handed}
+use Rattle.apd_core.specs.Heard.{LastHeard}
 use Rattle.apd_core.specs.Held.{Queue, queue_of, up_to, beyond}
 use Rattle.apd_core.specs.Invariant.{IsCore, AreDecided, numbered_outs}
 use Rattle.apd_core.proofs.CoreLaws.{entry_front, entry_held, outs_only, publish_front, publish_held, hand_held, hand_others}
 use Rattle.apd_core.proofs.HeldLaws.{queue_of-with_outs, queue_of-after_hand, queue_of-after_hand_other}
 use Rattle.apd_core.proofs.Keeping.{decided_means, decided_length, decided_push, numbered_push, none_up_to, up_to-append}
-use Rattle.apd_core.proofs.Places.{same_recipient}
 use Rattle.apd_core.proofs.Settling.{decided_split, handed_outs, numbered_split, numbered_above, numbered_within, up_to_beyond, up_to_twice, published_queue}
 use Rattle.apd_world.specs.Going.{AreUnsettled, AreHeldFor, Settles, Goes}
 

@@ -1,8 +1,5 @@
 -- What a world's step does beside its durable core.
-use Rattle.std.proofs.Common.{◌≡◌, ℕ, ◌<◌, ◌≤◌, true, false, List, [], ◌∷◌, ◌++◌, length, Option, Some, None, Ok, Err, inl, inr, refl, sym, ap, subst, ◌∙◌, get_or, set}
-use Rattle.std.specs.Prelude.{map}
-use Rattle.std.specs.Ordering.{eq_by_cmp}
-use Rattle.apd_base.specs.Addr.{bssid_cmp}
+use Rattle.std.proofs.Common.{◌≡◌, ℕ, List, [], ◌++◌, Some, inl, inr, refl, sym, ap, subst, ◌∙◌, set}
 use Rattle.apd_base.specs.declared.address.Bssid.{Bssid}
 use Rattle.apd_base.proofs.AddrLaws.{bssid_total, bssid_exact}
 use Rattle.apd_base.proofs.MapLaws.{one_or_apart}
@@ -16,13 +13,13 @@ use Rattle.apd_world.specs.Applying.{AppliesFirst}
 use Rattle.apd_world.specs.Queueing.{QueuesReady}
 use Rattle.apd_world.specs.Run.{IsStep}
 use Rattle.apd_world.specs.Seen.{durable_of, slots_of, slot_place, slot_at, queue_of}
-use Rattle.apd_world.specs.WorldRun.{AreQueued, HasNoSlot, IsApplied, IsWorldStep, Joins, OthersStay, RestStays}
+use Rattle.apd_world.specs.WorldRun.{HasNoSlot, IsApplied, IsWorldStep, OthersStay}
 use Rattle.apd_world.specs.declared.world.World.{World}
 use Rattle.apd_world.specs.declared.durable_core.DurableCore.{DurableCore}
 use Rattle.apd_world.specs.declared.step.Step.{Step}
-use Rattle.apd_world.specs.declared.step.Step.TheVariants.{Accept, Take, Call, Publish, Hand, Ask, Apply}
+use Rattle.apd_world.specs.declared.step.Step.TheVariants.{Hand, Apply}
 use Rattle.apd_world.specs.declared.step.Told.{Told}
-use Rattle.apd_world.specs.declared.step.Told.TheVariants.{Accepted, Loaded, Called, Published, Handed, Queued, Answered, Applied, Nothing, NoMemory}
+use Rattle.apd_world.specs.declared.step.Told.TheVariants.{Handed, Queued, Applied, Nothing, NoMemory}
 use Rattle.apd_world.proofs.Goings.{goes_unchanged}
 use Rattle.apd_world.proofs.StepLaws.{step_unchanged}
 

@@ -1,11 +1,9 @@
 -- Slots that resume, one after another.
-use Rattle.std.proofs.Common.{◌≡◌, ℕ, suc, ◌+◌, ◌<◌, ◌≤◌, Bool, true, false, List, [], ◌∷◌, ◌++◌, length, map, take, Option, Some, None, ◌⊎◌, inl, inr, refl, sym, ap, subst, ◌∙◌, arith, get_or, set, length-set, add-one}
-use Rattle.std.specs.Prelude.{IsSome, slice_get}
+use Rattle.std.proofs.Common.{◌≡◌, ℕ, ◌+◌, ◌<◌, ◌≤◌, Bool, true, false, List, [], ◌++◌, length, map, take, Option, Some, None, ◌⊎◌, refl, sym, ap, subst, ◌∙◌, arith, get_or, set, length-set, add-one}
 use Rattle.std.specs.FinMap as maps
-use Rattle.std.specs.List.{AllByRecursion}
 use Rattle.std.proofs.Math.Seq.{map-set_same, take-suc-set}
 use Rattle.std.proofs.lemmas.List.{get_or-set_same, get_or-set_other}
-use Rattle.std.proofs.lemmas.Option.{slice_get-get_or, slice_get_within}
+use Rattle.std.proofs.lemmas.Option.{slice_get-get_or}
 use Rattle.apd_base.specs.Failures.{HasRisen}
 use Rattle.apd_base.specs.State.{State, aid_at}
 use Rattle.apd_base.specs.declared.address.Addr.{Addr}
@@ -18,7 +16,6 @@ use Rattle.apd_core.proofs.Queues.{all_push, all_weaker}
 use Rattle.apd_mlme.specs.Driver.{driven}
 use Rattle.apd_mlme.specs.declared.decision.Out.{Out}
 use Rattle.apd_mlme.specs.declared.decision.Recipient.TheVariants.{Radio}
-use Rattle.apd_slot.specs.Rows.{installed_rows}
 use Rattle.apd_slot.specs.Slots.{bssid_of, is_up_of, radio_of, wanted_of, IsExact}
 use Rattle.apd_slot.specs.Wanted.{Stations}
 use Rattle.apd_slot.specs.declared.slot.Slot.{Slot}

@@ -1,7 +1,7 @@
 -- How a round of steps goes, and what it comes to.
-use Rattle.std.proofs.Common.{◌≡◌, ℕ, zero, suc, ◌+◌, ◌-◌, ◌<◌, ◌≤◌, ◌^◌, Bool, true, false, List, [], ◌∷◌, ◌++◌, length, Option, Some, None, ◌⊎◌, inl, inr, ⊎_elim, refl, sym, ap, subst, ◌∙◌, arith, append_assoc, Result, Ok, Err}
+use Rattle.std.proofs.Common.{◌≡◌, ℕ, zero, suc, ◌+◌, ◌<◌, ◌≤◌, ◌^◌, Bool, true, false, List, [], ◌∷◌, ◌++◌, length, Option, Some, None, ◌⊎◌, inl, inr, ⊎_elim, refl, sym, ap, subst, ◌∙◌, arith, append_assoc, Ok, Err}
 use Rattle.std.proofs.lemmas.Bool.{cases_lt, lt-leb, ne_eqb}
-use Rattle.std.specs.Prelude.{IsTrue, is_some, not, replicate, ◌↔◌, nat_le, ◌||◌, ◌==◌}
+use Rattle.std.specs.Prelude.{IsTrue, is_some, not, replicate, nat_le, ◌||◌, ◌==◌}
 use Rattle.std.specs.Option.{option_or, unwrap_or}
 use Rattle.std.proofs.lemmas.List.{append-nil, replicate_more}
 use Rattle.apd_base.specs.Failures.{HasRisen}
@@ -24,8 +24,8 @@ use Rattle.apd_core.specs.Core.{CoreState, batch_of, front_of, IsFlight}
 use Rattle.apd_core.specs.Heard.{LastHeard}
 use Rattle.apd_core.specs.declared.publish_fault.PublishFault.TheVariants as publish_fault
 use Rattle.apd_flusher.proofs.Turns.{quiet_or_busy, under_way}
-use Rattle.apd_flusher.specs.Flushing.{HasRoom, IsGood}
-use Rattle.apd_flusher.specs.Outside.{calls_left, phase_of, store_of, table_of}
+use Rattle.apd_flusher.specs.Flushing.{IsGood}
+use Rattle.apd_flusher.specs.Outside.{calls_left, phase_of, table_of}
 use Rattle.apd_flusher.specs.Phases.{phase_from}
 use Rattle.apd_flusher.specs.declared.flusher.Flusher.{Flusher}
 use Rattle.apd_flusher.specs.declared.phase.Phase.{Phase}
@@ -34,10 +34,10 @@ use Rattle.apd_world.specs.Going.{AreUnsettled, Goes}
 use Rattle.apd_world.specs.Outside.{device_of}
 use Rattle.apd_world.specs.Proper.{IsBetween, IsDurable, IsInStep, IsProper, IsSafe, IsUnderWay, IsWaiting}
 use Rattle.apd_world.specs.Round.{ComesTo, HasRoomForNext, IsRound, LacksMemory, LastsForNext, answer_of, round, said}
-use Rattle.apd_world.specs.Run.{IsRun, IsStep}
+use Rattle.apd_world.specs.Run.{IsStep}
 use Rattle.apd_world.specs.Shown.{ShowsEither, ShowsFront, state_after_flight}
 use Rattle.apd_world.specs.Steps.{Account, account, all_given, nothing_yet}
-use Rattle.apd_world.specs.Telling.{HasNoBatch, HasNoCall, HasNoReceipt, IsCalled, IsLoaded, IsNext, IsNextReceipt, IsPublished, IsRefused, IsTakenUp, Tells, after_call}
+use Rattle.apd_world.specs.Telling.{HasNoBatch, HasNoCall, HasNoReceipt, IsCalled, IsNext, IsNextReceipt, IsPublished, IsRefused, IsTakenUp, Tells, after_call}
 use Rattle.apd_world.specs.declared.durable_core.DurableCore.{DurableCore}
 use Rattle.apd_world.specs.declared.step.Commit.{Commit}
 use Rattle.apd_world.specs.declared.step.Commit.TheVariants as commit

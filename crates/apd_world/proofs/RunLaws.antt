@@ -1,8 +1,8 @@
 -- Runs, one after another, and what is safely made by them.
-use Rattle.std.proofs.Common.{Bool, true, false, Option, Some, None, inl, inr, Result, Ok, Err, ◌≡◌, ◌≢◌, ℕ, zero, suc, ◌+◌, ◌<◌, ◌≤◌, List, [], ◌∷◌, ◌++◌, length, take, drop, get_or, add-one, refl, sym, ap, subst, ◌∙◌, arith, append_assoc, length-append}
+use Rattle.std.proofs.Common.{Bool, true, false, Option, Some, None, inl, inr, Result, Ok, Err, ◌≡◌, ◌≢◌, ℕ, zero, suc, ◌+◌, ◌<◌, List, [], ◌∷◌, ◌++◌, length, take, drop, get_or, add-one, refl, sym, ap, subst, ◌∙◌, arith, append_assoc, length-append}
 use Rattle.std.specs.Prelude.{⊤, IfOk, OnErr, OnOk, ◌==◌, ◌&&◌, not, map, replicate}
-use Rattle.std.specs.List.{All, AllByRecursion, flat_map}
-use Rattle.std.proofs.lemmas.List.{append-nil, map-append, replicate_more, take-append-drop, take_all}
+use Rattle.std.specs.List.{All, AllByRecursion}
+use Rattle.std.proofs.lemmas.List.{append-nil, map-append, replicate_more, take-append-drop}
 use Rattle.std.proofs.lemmas.List.Elements.{All-append, All-cons, All-head, All-map, All-nil, All-push, All-tail, All-weaker}
 use Rattle.std.proofs.lemmas.Grind.{flat_map-append}
 use Rattle.std.proofs.Math.Seq.{take-append_seam, take-suc}
@@ -36,7 +36,7 @@ use Rattle.apd_world.specs.Run.{AreSteps, IsRun}
 use Rattle.apd_world.specs.Seen.{durable_of, slot_at, slots_of, queue_of}
 use Rattle.apd_world.specs.Shown.{ShowsEither, ShowsFront}
 use Rattle.apd_world.specs.Starting.{AreConfiguring, HasGoneOn, IsAtRest, IsFlushed, IsHandedOut, IsGiven, IsHanding, IsStarted, IsWorldRound, LeavesFronts, OnlyHands, applies, asked, hands, radio_hands, recipient_of, rounds}
-use Rattle.apd_world.specs.Steps.{Account, account, all_entered, all_given, all_heard, entered, given, heard_after, nothing_yet, one_more}
+use Rattle.apd_world.specs.Steps.{Account, account, all_entered, all_given, entered, given, heard_after, nothing_yet, one_more}
 use Rattle.apd_world.specs.Telling.{Tells}
 use Rattle.apd_world.specs.WorldRun.{all_applied, applied, AreWorldSteps, HasNoSlot, IsApplied, IsWorldRun, IsWorldStep, Joins}
 use Rattle.apd_world.specs.declared.durable_core.DurableCore.{DurableCore}
@@ -717,7 +717,7 @@ module _ {D R : Type 0} (honest : D → Type 0) (reads : D → List ℕ) (may_le
       let settles = goes.settles hs u in
       let later : (image : List ℕ) → ShowsFront cb.settled cb.confs settles.left image → ShowsFront ca.settled ca.confs hs image =
       λ image h. subst (λ (zs : List Happening). ShowsFront ca.settled ca.confs zs image) (append-nil hs)
-          (front_later ca cb hs [] [] (λ r. all_given r xs run.insides) goes.confs settles image (subst (λ (zs : List Happening). ShowsFront cb.settled cb.confs zs image) (sym (append-nil settles.left)) h)) in
+      (front_later ca cb hs [] [] (λ r. all_given r xs run.insides) goes.confs settles image (subst (λ (zs : List Happening). ShowsFront cb.settled cb.confs zs image) (sym (append-nil settles.left)) h)) in
       then_run moment left_since (device_of (durable_of a)) (device_of (durable_of b)) (device_of (durable_of c)) (ShowsFront ca.settled ca.confs hs)
       (quiet_moments honest reads may_leave moment left_since size stations faults xs ts a b past p hs u)
       (weaker moment left_since (device_of (durable_of b)) (device_of (durable_of c)) (ShowsFront cb.settled cb.confs settles.left) (ShowsFront ca.settled ca.confs hs) later
@@ -813,7 +813,7 @@ module _ {D R : Type 0} (honest : D → Type 0) (reads : D → List ℕ) (may_le
   pub round_more : (answer : Commit) (a b c : World D R) → AreRounds a b → IsWorldRound stations faults answer b c
       → (IsProper honest reads may_leave size (durable_of b) → IsProper honest reads may_leave size (durable_of c))
       → (IsProper honest reads may_leave size (durable_of b) → (hs : List Happening) → AreUnsettled hs (durable_of b).core
-          → LeavesOnly moment left_since (device_of (durable_of b)) (device_of (durable_of c)) (ShowsFront (durable_of b).core.settled (durable_of b).core.confs hs))
+      → LeavesOnly moment left_since (device_of (durable_of b)) (device_of (durable_of c)) (ShowsFront (durable_of b).core.settled (durable_of b).core.confs hs))
       → (AreExact stations (slots_of b) → AreExact stations (slots_of c)) → (AreFollowing b → AreFollowing c) → AreRounds a c
   round_more answer a b c past one proper moments exact following = record {
     calls = past.calls ++ one.calls ∷ [];

@@ -1,5 +1,5 @@
 -- What a step does to a proper durable core, and what a stop since its start leaves.
-use Rattle.std.proofs.Common.{◌≡◌, ℕ, ◌+◌, ◌<◌, ◌≤◌, Bool, true, false, cond, List, [], ◌∷◌, take, Option, Some, None, ◌⊎◌, inl, inr, ⊎_elim, refl, sym, ap, subst, ◌∙◌, arith, Result, Ok, Err}
+use Rattle.std.proofs.Common.{◌≡◌, ℕ, ◌≤◌, true, false, List, take, Option, Some, None, ◌⊎◌, inl, inr, ⊎_elim, refl, sym, ap, subst, ◌∙◌, arith}
 use Rattle.std.specs.Prelude.{IsSome, IsTrue, nat_le, ◌||◌, ◌==◌, length}
 use Rattle.std.proofs.lemmas.Bool.{le-leb}
 use Rattle.apd_base.specs.State.{State}
@@ -14,7 +14,7 @@ use Rattle.apd_store.specs.Commit.{IsIdle}
 use Rattle.apd_store.specs.Outside.{held_batch}
 use Rattle.apd_store.specs.declared.store.Receipt.{Receipt}
 use Rattle.apd_store.specs.declared.store.Store.{Store}
-use Rattle.apd_core.specs.Core.{CoreState, batch_of, cannot_take, changes_of, published}
+use Rattle.apd_core.specs.Core.{CoreState, batch_of, cannot_take, published}
 use Rattle.apd_core.proofs.Keeping.{decided_means}
 use Rattle.apd_core.proofs.Settling.{decided_split}
 use Rattle.apd_flusher.proofs.Turns.{under_way}

@@ -1,5 +1,5 @@
 -- What a quiet round leaves.
-use Rattle.std.proofs.Common.{◌≡◌, ℕ, List, [], ◌++◌, sym, ap, subst, ◌∙◌}
+use Rattle.std.proofs.Common.{◌≡◌, List, [], ◌++◌, sym, ap, subst, ◌∙◌}
 use Rattle.std.specs.Prelude.{IsSome}
 use Rattle.std.specs.FinMap as maps
 use Rattle.std.proofs.lemmas.List.{append-nil}
@@ -10,11 +10,9 @@ use Rattle.apd_core.specs.Core.{held_for}
 use Rattle.apd_mlme.specs.Driver.{driven}
 use Rattle.apd_mlme.specs.declared.decision.Recipient.TheVariants.{Radio}
 use Rattle.apd_slot.specs.Slots.{wanted_of}
-use Rattle.apd_slot.specs.Wanted.{Stations}
-use Rattle.apd_world.specs.Following.{AreExact, AreFollowing}
+use Rattle.apd_world.specs.Following.{AreFollowing}
 use Rattle.apd_world.specs.Going.{Goes}
-use Rattle.apd_world.specs.Proper.{IsProper}
-use Rattle.apd_world.specs.Seen.{durable_of, slots_of, slot_at, queue_of}
+use Rattle.apd_world.specs.Seen.{durable_of, slot_at}
 use Rattle.apd_world.specs.WorldRun.{RestStays}
 use Rattle.apd_world.specs.declared.world.World.{World}
 

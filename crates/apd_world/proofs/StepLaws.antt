@@ -1,5 +1,5 @@
 -- How a durable core goes on by each kind of step.
-use Rattle.std.proofs.Common.{◌≡◌, ℕ, ◌+◌, ◌<◌, ◌≤◌, Bool, true, false, cond, List, [], ◌∷◌, Option, Some, None, ◌⊎◌, inl, inr, ⊎_elim, refl, sym, ap, subst, ◌∙◌, arith, Result, Ok, Err}
+use Rattle.std.proofs.Common.{◌≡◌, ℕ, ◌+◌, ◌≤◌, Bool, true, List, [], ◌∷◌, Option, Some, None, ◌⊎◌, inl, ⊎_elim, refl, sym, ap, subst, ◌∙◌, arith, Result, Ok, Err}
 use Rattle.std.specs.Prelude.{max, ◌↔◌, IfSome, IfNone}
 use Rattle.std.proofs.Math.Nat.{le-max_left, le-max_right, max-le}
 use Rattle.std.proofs.lemmas.List.{take-append-le}
@@ -13,9 +13,8 @@ use Rattle.apd_mlme.specs.declared.decision.Out.{Out}
 use Rattle.apd_mlme.specs.declared.decision.Recipient.{Recipient}
 use Rattle.apd_store.specs.declared.fault.StoreFault.{StoreFault}
 use Rattle.apd_store.specs.declared.fault.StoreFault.TheVariants as store_fault
-use Rattle.apd_core.specs.Core.{CoreState, accepted, after_request, answered, batch_of, changes_of, entered_by, front_of, handed, published, state_after, ready_for}
-use Rattle.apd_core.specs.Heard.{LastHeard, heard_by}
-use Rattle.apd_core.specs.Held.{HeldOuts}
+use Rattle.apd_core.specs.Core.{CoreState, accepted, after_request, batch_of, changes_of, entered_by, front_of, handed, published, state_after}
+use Rattle.apd_core.specs.Heard.{heard_by}
 use Rattle.apd_core.specs.Invariant.{IsCore}
 use Rattle.apd_core.specs.Requests.{happening_of}
 use Rattle.apd_core.specs.declared.answer.Answer.{Answer}

@@ -1,12 +1,10 @@
 -- Steps of a world, one after another.
-use Rattle.std.proofs.Common.{◌≡◌, ℕ, suc, ◌+◌, ◌<◌, ◌≤◌, true, false, cond, List, [], ◌∷◌, ◌++◌, length, take, get_or, refl, sym, ap, subst, ◌∙◌, arith, add-one, append_assoc, length-append}
+use Rattle.std.proofs.Common.{◌≡◌, ℕ, ◌+◌, ◌<◌, ◌≤◌, List, [], ◌∷◌, ◌++◌, length, take, get_or, refl, sym, ap, subst, ◌∙◌, arith, add-one, append_assoc, length-append}
 use Rattle.std.proofs.lemmas.List.{append-nil, take_all}
 use Rattle.std.proofs.Math.Seq.{take-suc}
-use Rattle.apd_base.specs.State.{State}
 use Rattle.apd_base.specs.declared.address.Bssid.{Bssid}
 use Rattle.apd_conf.specs.declared.conf.Conf.{Conf}
-use Rattle.apd_core.specs.Core.{CoreState, front_of, held_for}
-use Rattle.apd_core.specs.Heard.{LastHeard}
+use Rattle.apd_core.specs.Core.{front_of, held_for}
 use Rattle.apd_disk.specs.Disk.{LeavesOnly}
 use Rattle.apd_mlme.specs.Happening.{Happening}
 use Rattle.apd_mlme.specs.Run.{outs_run}
@@ -18,16 +16,15 @@ use Rattle.apd_world.specs.Outside.{device_of}
 use Rattle.apd_world.specs.Proper.{IsProper, IsSafe}
 use Rattle.apd_world.specs.Seen.{durable_of, slots_of, queue_of}
 use Rattle.apd_world.specs.Shown.{ShowsEither, ShowsFront}
-use Rattle.apd_world.specs.Steps.{Account, account, all_entered, all_given, entered, given, heard_after, nothing_yet, one_more}
+use Rattle.apd_world.specs.Steps.{Account, account, all_entered, all_given, given, nothing_yet, one_more}
 use Rattle.apd_world.specs.Telling.{Tells}
 use Rattle.apd_world.specs.WorldRun.{all_applied, applied, AreWorldSteps, IsWorldRun, IsWorldStep, Joins}
 use Rattle.apd_world.specs.declared.world.World.{World}
-use Rattle.apd_world.specs.declared.durable_core.DurableCore.{DurableCore}
 use Rattle.apd_world.specs.declared.step.Step.{Step}
-use Rattle.apd_world.specs.declared.step.Step.TheVariants.{Accept, Take, Call, Publish, Hand, Ask, Apply}
+use Rattle.apd_world.specs.declared.step.Step.TheVariants.{Hand, Apply}
 use Rattle.apd_world.specs.declared.step.Told.{Told}
-use Rattle.apd_world.specs.declared.step.Told.TheVariants.{Accepted, Loaded, Called, Published, Handed, Queued, Answered, Applied, Nothing, NoMemory}
-use Rattle.apd_world.proofs.DriveLaws.{IsDriven, account_push, given_push, next_driven, none_driven, one_driven, steps_length}
+use Rattle.apd_world.specs.declared.step.Told.TheVariants.{Handed, Queued, Nothing, NoMemory}
+use Rattle.apd_world.proofs.DriveLaws.{IsDriven, account_push, given_push, none_driven, one_driven, steps_length}
 use Rattle.apd_world.proofs.FollowLaws.{exact, flows, following}
 
 applied_push : (b : Bssid) (xs : List Step) (ts : List Told) (x : Step) (t : Told) → length ts ≡ length xs → all_applied b (xs ++ x ∷ []) (ts ++ t ∷ []) ≡ all_applied b xs ts ++ applied b x t

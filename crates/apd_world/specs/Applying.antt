@@ -1,5 +1,5 @@
 -- What an out does to a slot, and what applying the first of a queue tells (own).
-use Rattle.std.specs.Prelude.{◌≡◌, ◌≢◌, ◌≤◌, ◌⊎◌, ◌↔◌, ℕ, true, false, List, [], ◌∷◌, Result, Ok, Err, OnOk}
+use Rattle.std.specs.Prelude.{◌≡◌, ◌≢◌, ◌≤◌, ◌⊎◌, ◌↔◌, ℕ, true, false, List, [], ◌∷◌, Result, Err, OnOk}
 use Rattle.apd_base.specs.Failures.{HasRisen}
 use Rattle.apd_mlme.specs.declared.decision.Out.{Out}
 use Rattle.apd_slot.specs.Slots.{bssid_of, is_up_of, radio_of, wanted_of, IsExact}

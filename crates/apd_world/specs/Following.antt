@@ -1,10 +1,10 @@
 -- The slots follow the table: what waits for them leads to its associated stations (own).
-use Rattle.std.specs.Prelude.{◌≡◌, List, ◌++◌, Some, IsSome, map, length}
+use Rattle.std.specs.Prelude.{◌≡◌, List, ◌++◌, Some, IsSome}
 use Rattle.std.specs.List.{AllByRecursion}
 use Rattle.std.specs.FinMap as maps
 use Rattle.apd_base.specs.declared.address.Addr.{Addr}
 use Rattle.apd_base.specs.declared.address.Bssid.{Bssid}
-use Rattle.apd_base.specs.State.{State, aid_at}
+use Rattle.apd_base.specs.State.{aid_at}
 use Rattle.apd_conf.specs.Confs.{conf_at}
 use Rattle.apd_core.specs.Core.{front_of, held_for}
 use Rattle.apd_mlme.specs.Driver.{driven}

@@ -1,5 +1,5 @@
 -- How a core goes on: what happened is kept, given and settled, each in order (own).
-use Rattle.std.specs.Prelude.{◌≡◌, ℕ, ◌+◌, ◌≤◌, List, ◌++◌, length}
+use Rattle.std.specs.Prelude.{◌≡◌, ◌+◌, ◌≤◌, List, ◌++◌, length}
 use Rattle.apd_mlme.specs.Happening.{Happening}
 use Rattle.apd_mlme.specs.Run.{run, outs_run, AreFit}
 use Rattle.apd_mlme.specs.declared.decision.Out.{Out}

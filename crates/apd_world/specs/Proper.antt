@@ -1,5 +1,5 @@
 -- The durable cores of which something is said of a stop: the flusher stands where the core takes it to be (own).
-use Rattle.std.specs.Prelude.{◌≡◌, ◌≤◌, ◌⊎◌, ℕ, List, Option, Some, None, true}
+use Rattle.std.specs.Prelude.{◌≡◌, ◌≤◌, ◌⊎◌, ℕ, List, Some, None, true}
 use Rattle.apd_disk.specs.Disk.{LeavesOnly}
 use Rattle.apd_store.specs.Outside.{held_batch}
 use Rattle.apd_store.specs.declared.store.Receipt.{Receipt}

@@ -1,5 +1,5 @@
 -- What happened by steps, by what they told, and what was given.
-use Rattle.std.specs.Prelude.{List, [], ◌∷◌, ◌++◌, Result, Ok, Err, if◌then◌else◌}
+use Rattle.std.specs.Prelude.{List, [], ◌∷◌, ◌++◌, Result, Ok, if◌then◌else◌}
 use Rattle.apd_base.specs.State.{State}
 use Rattle.apd_base.specs.declared.moment.Moment.{Moment}
 use Rattle.apd_conf.specs.declared.conf.Conf.{Conf}
@@ -14,9 +14,9 @@ use Rattle.apd_core.specs.Heard.{LastHeard, heard_by, heard_by_changes}
 use Rattle.apd_core.specs.Requests.{happening_of}
 use Rattle.apd_core.specs.declared.input.QuietReason.{QuietReason}
 use Rattle.apd_world.specs.declared.step.Reception.{Reception}
-use Rattle.apd_world.specs.declared.step.Reception.TheVariants.{Stopped, Busy, Quiet, Entry}
+use Rattle.apd_world.specs.declared.step.Reception.TheVariants.{Quiet, Entry}
 use Rattle.apd_world.specs.declared.step.Step.{Step}
-use Rattle.apd_world.specs.declared.step.Step.TheVariants.{Accept, Take, Call, Publish, Hand, Ask, Apply}
+use Rattle.apd_world.specs.declared.step.Step.TheVariants.{Accept, Hand}
 use Rattle.apd_world.specs.declared.step.Told.{Told}
 use Rattle.apd_world.specs.declared.step.Told.TheVariants.{Accepted, Handed}
 

@@ -1,5 +1,5 @@
 -- What each step does, and what it tells.
-use Rattle.std.specs.Prelude.{◌≡◌, ◌⊎◌, ◌↔◌, ◌≤◌, ◌+◌, ◌^◌, ℕ, List, Option, Some, None, Result, Ok, Err, true, max, IsTrue}
+use Rattle.std.specs.Prelude.{◌≡◌, ◌⊎◌, ◌↔◌, ◌≤◌, ◌+◌, ◌^◌, List, Option, Some, None, Result, Ok, Err, true, max, IsTrue}
 use Rattle.apd_base.specs.declared.moment.Moment.{Moment}
 use Rattle.apd_ctrl.specs.declared.command.Query.{Query}
 use Rattle.apd_journal.specs.declared.batch.Batch.{Batch}

@@ -1,4 +1,4 @@
-use Rattle.std.proofs.Common.{◌≡◌, ◌+◌, ap, subst, sym, ◌∙◌, List, []}
+use Rattle.std.proofs.Common.{◌+◌, ap, subst, sym, ◌∙◌, List, []}
 use Rattle.apd_world.specs.WorldRun.{IsWorldStep}
 use Rattle.apd_world.specs.declared.step.Step.{Step}
 use Rattle.apd_world.proofs.WorldDriveLaws.{IsWorldDriven, all_steps, next_step, no_step, world_moments, world_run}

@@ -2,7 +2,6 @@ use Rattle.std.proofs.Common.{◌≡◌, List, ◌++◌, length, map, take, drop
 use Rattle.std.proofs.Math.Seq.{take-append_seam}
 use Rattle.apd_disk.specs.Disk.{Only}
 use Rattle.apd_flusher.specs.Outside as flusher
-use Rattle.apd_slot.specs.declared.slot.Slot.{Slot}
 use Rattle.apd_world.specs.Following.{AreExact}
 use Rattle.apd_world.specs.Outside.{device_of}
 use Rattle.apd_world.specs.Resumed.{AreResumed, HasNotResumed}

@@ -1,4 +1,4 @@
-use Rattle.std.proofs.Common.{◌≡◌, ◌<◌, Err, refl, sym, ap, subst, ◌∙◌, arith, length, get_or, set}
+use Rattle.std.proofs.Common.{◌<◌, Err, refl, sym, ap, subst, ◌∙◌, arith, length, get_or, set}
 use Rattle.std.proofs.lemmas.List.{get_or_default}
 use Rattle.apd_slot.specs.Rows.{installed_rows}
 use Rattle.apd_world.specs.Resumed.{HasNotResumed, IsResumed}

@@ -1,4 +1,4 @@
-use Rattle.std.proofs.Common.{◌≡◌, Option, Some, None, Result, Ok, Err, inl, inr, refl, sym, ap, subst, ◌∙◌}
+use Rattle.std.proofs.Common.{◌≡◌, refl, ap, ◌∙◌}
 use Rattle.apd_core.specs.Core.{CoreState, batch_of}
 use Rattle.apd_world.specs.declared.step.Step.TheVariants.{Accept}
 use Rattle.apd_world.specs.declared.step.Told.TheVariants.{NoMemory}

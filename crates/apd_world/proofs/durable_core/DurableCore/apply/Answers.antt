@@ -1,4 +1,4 @@
-use Rattle.std.proofs.Common.{◌≡◌, Option, Some, None, Result, Ok, Err, inl, inr, refl, sym, ap, subst, ◌∙◌}
+use Rattle.std.proofs.Common.{refl}
 use Rattle.apd_world.specs.declared.step.Step.TheVariants.{Apply}
 use Rattle.apd_world.specs.declared.step.Told.TheVariants.{Nothing}
 use Rattle.apd_world.proofs.Goings.{goes_unchanged}

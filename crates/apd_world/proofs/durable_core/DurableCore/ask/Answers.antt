@@ -1,4 +1,4 @@
-use Rattle.std.proofs.Common.{◌≡◌, Option, Some, None, Result, Ok, Err, inl, inr, refl, sym, ap, subst, ◌∙◌}
+use Rattle.std.proofs.Common.{refl, ap, ◌∙◌}
 use Rattle.std.specs.Prelude.{max}
 use Rattle.apd_world.specs.declared.step.Step.TheVariants.{Ask}
 use Rattle.apd_world.specs.declared.step.Told.TheVariants.{NoMemory}

@@ -1,4 +1,4 @@
-use Rattle.std.proofs.Common.{◌≡◌, Option, Some, None, Result, Ok, Err, inl, inr, refl, sym, ap, subst, ◌∙◌}
+use Rattle.std.proofs.Common.{◌≡◌, Ok, Err, inl, inr, refl, sym, ap, subst, ◌∙◌}
 use Rattle.std.proofs.Common.{◌⊎◌, ◌+◌, ◌≤◌, ⊎_elim}
 use Rattle.apd_base.specs.Failures.{HasRisen}
 use Rattle.apd_world.specs.Outside.{device_of}

@@ -1,4 +1,3 @@
-use Rattle.std.proofs.Common.{◌≡◌, Option, Some, None, Result, Ok, Err, inl, inr, refl, sym, ap, subst, ◌∙◌}
 use Rattle.apd_world.proofs.durable_core.DurableCore.next_receipt.Goals as goal
 
 pub returns-in-None-clause-durable : goal.returns-in-None-clause-durable

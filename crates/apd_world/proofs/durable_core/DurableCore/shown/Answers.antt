@@ -1,4 +1,4 @@
-use Rattle.std.proofs.Common.{◌≡◌, None, Option, inl, inr, ⊎_elim, subst}
+use Rattle.std.proofs.Common.{inl, inr, ⊎_elim, subst}
 use Rattle.apd_store.specs.Image.{Shows}
 use Rattle.apd_world.proofs.Standing.{after_flight_runs, none_not_some, shows_flight, stops_after, stops_either}
 use Rattle.apd_world.proofs.durable_core.DurableCore.shown.Goals as goal

@@ -1,4 +1,4 @@
-use Rattle.std.proofs.Common.{◌≡◌, Option, Some, None, Result, Ok, Err, inl, inr, refl, sym, ap, subst, ◌∙◌}
+use Rattle.std.proofs.Common.{◌≡◌, Some, None, Ok, Err, refl, sym, ap, subst, ◌∙◌}
 use Rattle.apd_flusher.specs.Flushing.{IsGood, IsInside, IsSteady}
 use Rattle.apd_flusher.specs.Outside.{store_of, table_of}
 use Rattle.apd_flusher.specs.declared.flusher.Flusher.{Flusher}

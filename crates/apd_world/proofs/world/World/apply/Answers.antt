@@ -1,4 +1,4 @@
-use Rattle.std.proofs.Common.{◌≡◌, ◌<◌, ◌≤◌, List, [], Some, None, Err, length, map, refl, sym, ap, subst, ◌∙◌, arith, get_or, set}
+use Rattle.std.proofs.Common.{◌≡◌, ◌<◌, ◌≤◌, List, [], Some, None, length, map, refl, sym, ap, subst, ◌∙◌, arith, get_or, set}
 use Rattle.std.specs.Vec.{with_item}
 use Rattle.std.specs.declared.collections.VecDeque.{VecDeque}
 use Rattle.std.proofs.lemmas.List.{get_or_past, map-set, length-map, set-get_or}

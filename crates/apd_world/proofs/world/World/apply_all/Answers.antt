@@ -1,4 +1,4 @@
-use Rattle.std.proofs.Common.{◌∙◌, List, refl, sym, ap, subst, take}
+use Rattle.std.proofs.Common.{◌∙◌, List, refl, subst, take}
 use Rattle.std.proofs.lemmas.List.{take_all}
 use Rattle.apd_conf.specs.declared.conf.Conf.{Conf}
 use Rattle.apd_world.specs.Making.{AreAllApplied}

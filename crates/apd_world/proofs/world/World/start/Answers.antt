@@ -1,4 +1,4 @@
-use Rattle.std.proofs.Common.{[], refl}
+use Rattle.std.proofs.Common.{[]}
 use Rattle.apd_world.specs.Starting.{IsFlushed, IsStarted}
 use Rattle.apd_world.proofs.RunLaws.{either_way, gone_by_flushing, gone_then, if_ok_then, moments_after, on_err_then, started_from}
 use Rattle.apd_world.proofs.world.World.start.Goals as goal
