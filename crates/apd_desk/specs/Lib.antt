@@ -1,3 +1,4 @@
 pub mod Counted
+pub mod Noted
 pub mod Own
 pub mod Seen

@@ -1,4 +1,7 @@
 //! What a worker does that found nothing to do.
+ghost use Rattle.std.specs.Prelude.{◌≡◌, ◌≤◌, ◌+◌, min};
+ghost use Rattle.apd_desk.specs.declared.idle.TheConstants.{LOOKS};
+
 use crate::locked::Look;
 use crate::shared::Shared;
 use std::sync::Wait;
@@ -16,12 +19,16 @@ pub(crate) struct Idle {
 }
 
 impl Idle {
-    pub(crate) fn new() -> Idle {
+    pub(crate) fn new() -> Idle
+        ensures { result.looks ≡ 0 }
+    {
         Idle { looks: 0 }
     }
 
     /// The worker found something to do.
-    pub(crate) fn end(&mut self) {
+    pub(crate) fn end(&mut self)
+        ensures { self.new.looks ≡ 0 }
+    {
         self.looks = 0;
     }
 
@@ -32,7 +39,9 @@ impl Idle {
         rt: &W,
         shared: &Shared<L>,
         seen: Look,
-    ) {
+    )
+        ensures { self.old.looks ≤ LOOKS → self.new.looks ≡ min (self.old.looks + 1) LOOKS }
+    {
         if self.looks < LOOKS {
             self.looks += 1;
             yield_now();

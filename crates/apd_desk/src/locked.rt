@@ -1,10 +1,14 @@
 //! What lies under the lock.
-ghost use Rattle.std.specs.Prelude.{◌≡◌, ◌+◌, ◌≤◌, ◌<◌, ◌↔◌, ℕ, List, length, vec_len, IfOk, IfErr, IfSome, OnOk, OnErr, IsNone, IsOk, IsTrue, IfNone, Some, None, true};
+ghost use Rattle.std.specs.Prelude.{◌≡◌, ◌≢◌, ◌⊎◌, ◌+◌, ◌≤◌, ◌<◌, ◌↔◌, ℕ, List, length, vec_len, IfOk, IfErr, IfSome, OnOk, OnErr, IsNone, IsOk, IsTrue, IfNone, Some, None, true};
+ghost use Rattle.std.specs.List.{position};
 ghost use Rattle.std.specs.Option.{option_copied, option_map};
+ghost use Rattle.apd_base.specs.declared.address.Bssid.{Bssid as Address};
 ghost use Rattle.apd_conf.specs.Confs.{conf_named};
 ghost use Rattle.apd_core.specs.Core.{accepted as accepted_by, after_request, answered, cannot_take, handed, last_of, published, ready_for, IsFlight, IsTaken};
+ghost use Rattle.apd_journal.specs.Half.{IsGroup};
 ghost use Rattle.apd_store.specs.Outside.{held_batch};
 ghost use Rattle.apd_desk.specs.Counted.{counted, entries_in};
+ghost use Rattle.apd_desk.specs.Noted.{is_for, is_noted_up};
 ghost use Rattle.apd_desk.specs.Own.{IsOwn};
 ghost use Rattle.apd_desk.specs.Seen.{seen_after, IsBehind};
 
@@ -168,6 +172,7 @@ impl<L: Ledger> Locked<L> {
         ensures none { IfOk result (λ batch. IsNone batch ↔ IsTrue (cannot_take self.old.core)) }
         ensures stays { IfOk result (λ batch. IfNone batch (self.new.core ≡ self.old.core)) }
         ensures taken { IfOk result (λ batch. IfSome batch (λ batch. IsTaken batch self.old.core self.new.core)) }
+        ensures group { IfOk result (λ batch. IfSome batch (λ batch. IsGroup batch.changes)) }
         ensures accepted { self.new.accepted ≡ self.old.accepted }
         ensures given { self.new.given ≡ self.old.given }
         ensures err { OnErr result (self.new.core ≡ self.old.core) }
@@ -221,8 +226,10 @@ impl<L: Ledger> Locked<L> {
         self.stopped = true;
     }
 
-    /// Notes whether a radio is up.
+    /// Notes whether a radio is up; nothing where eight others are noted.
     pub(crate) fn note(&mut self, bssid: Bssid, up: bool)
+        ensures own { (is_noted_up self.new.notes.noted bssid ≡ up) ⊎ (position (is_for bssid) self.old.notes.noted ≡ None) }
+        ensures others { (other : Address) → other ≢ bssid → is_noted_up self.new.notes.noted other ≡ is_noted_up self.old.notes.noted other }
         ensures core { self.new.core ≡ self.old.core }
         ensures accepted { self.new.accepted ≡ self.old.accepted }
         ensures given { self.new.given ≡ self.old.given }
@@ -231,7 +238,9 @@ impl<L: Ledger> Locked<L> {
     }
 
     /// Whether a radio is up, as it was noted.
-    pub(crate) fn noted(&self, bssid: Bssid) -> bool {
+    pub(crate) fn noted(&self, bssid: Bssid) -> bool
+        ensures { result ≡ is_noted_up self.now.notes.noted bssid }
+    {
         self.notes.is_up(bssid)
     }
 

@@ -1,5 +1,6 @@
 //! A core that threads share.
 ghost use Rattle.std.specs.Prelude.{◌≡◌, ◌+◌, ◌≤◌, ℕ, IfOk, IfErr, IfSome, OnErr};
+ghost use Rattle.apd_journal.specs.Half.{IsGroup};
 ghost use Rattle.apd_desk.specs.Counted.{counted, entries_in};
 ghost use Rattle.apd_desk.specs.Own.{IsOwn};
 ghost use Rattle.apd_desk.specs.Seen.{IsBehind};
@@ -121,30 +122,37 @@ impl<L: Ledger> Shared<L> {
         }
     }
 
-    /// Tells the workers to end, and wakes them. It takes no memory.
+    /// Tells the workers to end, and wakes them. It takes no memory. What a look at the flag tells afterwards is a
+    /// matter of the moment, and said where the lock is held.
     pub fn stop(&self, rt: &impl Wait) {
         self.locked.lock(rt).stop();
         self.changed.notify_all();
     }
 
-    /// Notes whether the radio of a BSSID is up, for `STATUS` to show. It takes no memory.
+    /// Notes whether the radio of a BSSID is up, for `STATUS` to show; nothing where eight others are noted. It takes
+    /// no memory. What is noted afterwards is said where the lock is held.
     pub fn note(&self, rt: &impl Wait, bssid: Bssid, up: bool) {
         self.locked.lock(rt).note(bssid, up);
     }
 
-    /// Whether the radio of a BSSID is up, as it was noted last; it is not where nothing was. It takes no memory.
+    /// Whether the radio of a BSSID is up, as it was noted last; it is not where nothing was. It takes no memory. What
+    /// was noted is said where the lock is held.
     pub fn noted(&self, rt: &impl Wait, bssid: Bssid) -> bool {
         self.locked.lock(rt).noted(bssid)
     }
 
-    // The BSSID of the interface that a command names, or else of the first one, and whether its radio is up.
+    // The BSSID of the interface that a command names, or else of the first one, and whether its radio is up. Which one
+    // it is, is said where the lock is held.
     pub(crate) fn interface(&self, rt: &impl Wait, name: Option<&[u8]>) -> Option<(Bssid, bool)> {
         let locked = self.locked.lock(rt);
         let bssid = locked.interface(name)?;
         Some((bssid, locked.noted(bssid)))
     }
 
-    pub(crate) fn take(&self, rt: &impl Wait) -> Result<Option<Batch>, AllocError> {
+    // A batch for which a group has room. Of which entries it is, is said where the lock is held.
+    pub(crate) fn take(&self, rt: &impl Wait) -> Result<Option<Batch>, AllocError>
+        ensures { IfOk result (λ batch. IfSome batch (λ batch. IsGroup batch.changes)) }
+    {
         self.locked.lock(rt).take()
     }
 
@@ -163,15 +171,18 @@ impl<L: Ledger> Shared<L> {
         answer
     }
 
+    // The core's `fail`, which is said where the lock is held.
     pub(crate) fn fail(&self, rt: &impl Wait) {
         self.locked.lock(rt).fail();
     }
 
+    // What was there at one moment. It says nothing of the next.
     pub(crate) fn look(&self, rt: &impl Wait) -> Look {
         self.locked.lock(rt).look()
     }
 
-    // Waits for a while, unless a look now would see something else than this one, and until one does.
+    // Waits for a while, unless a look now would see something else than this one, and until one does. No clause
+    // speaks of waiting.
     pub(crate) fn rest<W: Wait + Clock>(&self, rt: &W, seen: Look) {
         let pause = Duration::from_millis(PAUSE);
         let _rested = self
