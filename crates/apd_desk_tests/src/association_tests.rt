@@ -125,14 +125,19 @@ fn enters_both(core: &mut Core) -> bool {
         && enters(core, Input::Received(WLAN0, &ASSOCIATION))
 }
 
-// What a core hands out after the two frames.
-fn handed(alloc: Global) -> Option<Vec<Out>> {
-    let mut core = started(alloc)?;
-    if enters_both(&mut core) && settles(&mut core, &mut memory_flusher(alloc)?) {
-        hand(&mut core)
+fn hand_after_both<D: Disk>(core: &mut Core, flusher: &mut Flusher<D>) -> Option<Vec<Out>> {
+    if enters_both(core) && settles(core, flusher) {
+        hand(core)
     } else {
         None
     }
+}
+
+// What a core hands out after the two frames.
+fn handed(alloc: Global) -> Option<Vec<Out>> {
+    let mut core = started(alloc)?;
+    let mut flusher = memory_flusher(alloc)?;
+    hand_after_both(&mut core, &mut flusher)
 }
 
 // What a seat collects after the two frames.
