@@ -25,6 +25,7 @@ use std::time;
 use thiserror::Error;
 
 /// Where an access point runs.
+#[derive(Clone, Copy, Debug)]
 pub struct Site<'a> {
     /// The name of the store's file.
     pub store: &'a str,
