@@ -1,5 +1,5 @@
 -- A stop leaves everything that was spoken of.
-use Rattle.std.proofs.Common.{◌≡◌, ℕ, ◌+◌, ◌≤◌, List, ◌++◌, length, take, drop, sym, ap, subst, ◌∙◌, arith, append_assoc, length-append}
+use Rattle.std.proofs.Common.{◌≡◌, ℕ, ◌+◌, ◌≤◌, List, ◌++◌, length, take, drop, refl, sym, ap, subst, ◌∙◌, arith, append_assoc, length-append}
 use Rattle.std.proofs.lemmas.List.{take-append-drop}
 use Rattle.apd_disk.specs.Disk.{LeavesOnly}
 use Rattle.apd_disk.proofs.Moments.{weaker}
@@ -38,24 +38,26 @@ has_settled a b hs es g confs settles n most c either =
     (λ i. run (settles.state i) (confs i) front) ∙ sym (run-append a.confs settles.settled front a.settled) in
     let lengths = length-append settles.settled front in
     let number = settles.number in
+    let shown = shows_front a.settled a.confs c (hs ++ es) (settles.settled ++ front) rest parts (subst (Shows c) is flight.shows) in
+    let counted : shown.count ≡ length (settles.settled ++ front) = refl in
     record {
-      front = shows_front a.settled a.confs c (hs ++ es) (settles.settled ++ front) rest parts (subst (Shows c) is flight.shows);
-      holds = omega (arith, most, number, lengths);
+      front = shown;
+      holds = omega (arith, most, number, lengths, counted);
     }
 
-module _ {D R : Type 0} (honest : D → Type 0) (reads : D → List ℕ) (may_leave : D → List ℕ → Type 0) (moment : D → ℕ) (left_since : D → ℕ → List ℕ → Type 0) (size : D → ℕ) where
+module _ {D : Type 0} (honest : D → Type 0) (reads : D → List ℕ) (may_leave : D → List ℕ → Type 0) (moment : D → ℕ) (left_since : D → ℕ → List ℕ → Type 0) (size : D → ℕ) where
   -- of a durable core
   core_has_spoken : (steps : List Step) (tolds : List Told) (from old new : DurableCore D) (hs : List Happening) → IsRun steps tolds from old → AreUnsettled hs from.core
       → IsProper honest reads may_leave size old → IsSafe honest reads may_leave moment left_since size old new
       → LeavesOnly moment left_since (device_of old) (device_of new) (HasSpoken from.core (hs ++ all_entered steps tolds from.core) (spoken old))
-  core_has_spoken steps tolds from old new hs run unsettled proper safe =
+  core_has_spoken steps tolds from old new hs made unsettled proper safe =
       let es = all_entered steps tolds from.core in
       weaker moment left_since (device_of old) (device_of new) (ShowsEither old.core) (HasSpoken from.core (hs ++ es) (spoken old))
-      (has_settled from.core old.core hs es (λ r. all_given r steps tolds) run.goes.confs (run.goes.settles hs unsettled) (spoken old) proper.spoken) (safe.inside proper)
+      (has_settled from.core old.core hs es (λ r. all_given r steps tolds) made.goes.confs (made.goes.settles hs unsettled) (spoken old) proper.spoken) (safe.inside proper)
 
   -- of a world
-  pub loses_nothing : (stations : R → Stations) (faults : R → ℕ) (old new : World D R) → IsSafe honest reads may_leave moment left_since size (durable_of old) (durable_of new)
+  pub loses_nothing : {R : Type 0} (stations : R → Stations) (faults : R → ℕ) (old new : World D R) → IsSafe honest reads may_leave moment left_since size (durable_of old) (durable_of new)
       → IsProper honest reads may_leave size (durable_of old) → LosesNothing stations faults moment left_since old new
-  loses_nothing stations faults old new safe proper from steps tolds hs run unsettled =
-      subst (λ es. LeavesOnly moment left_since (device_of (durable_of old)) (device_of (durable_of new)) (HasSpoken (durable_of from).core (hs ++ es) (spoken (durable_of old)))) run.entered
-      (core_has_spoken steps run.insides (durable_of from) (durable_of old) (durable_of new) hs run.run unsettled proper safe)
+  loses_nothing stations faults old new safe proper from steps tolds hs made unsettled =
+      subst (λ es. LeavesOnly moment left_since (device_of (durable_of old)) (device_of (durable_of new)) (HasSpoken (durable_of from).core (hs ++ es) (spoken (durable_of old)))) made.entered
+      (core_has_spoken steps made.insides (durable_of from) (durable_of old) (durable_of new) hs made.run unsettled proper safe)
