@@ -1,6 +1,6 @@
 //! What is settled is handed out: to each radio into the queue of its slot, and to control; and each out that waits
 //! at a slot is applied.
-ghost use Rattle.std.specs.Prelude.{◌≡◌, ◌≢◌, ◌≤◌, IfOk, IsTrue, List, OnErr, OnOk, [], ◌∷◌, false, length};
+ghost use Rattle.std.specs.Prelude.{◌≡◌, ◌≢◌, ◌≤◌, IfErr, IfOk, IsTrue, List, OnErr, OnOk, [], ◌∷◌, false, length};
 ghost use Rattle.apd_disk.specs.Disk.{LeavesOnly};
 ghost use Rattle.apd_mlme.specs.Happening.{Happening};
 ghost use Rattle.apd_world.specs.Going.{AreUnsettled};
@@ -38,6 +38,7 @@ impl<D: Disk, R: Radio> World<D, R> {
         ensures step { OnOk result ((told : Told) × (told ≢ Told.NoMemory) × IsWorldStep R.stations R.faults step.now told self.old self.new) }
         ensures ok { OnOk result (IsHanding step.now → to ≡ recipient_of step.now → AreAnswered D.honest D.reads D.may_leave D.moment D.left_since D.size R.stations R.faults (step.now ∷ []) answers.old.items answers.new.items self.old self.new) }
         ensures err { OnErr result (IsHanding step.now → SomeAreQuietlyMade D.honest D.reads D.may_leave D.moment D.left_since D.size R.stations R.faults self.old self.new) }
+        ensures fault { IfErr result (λ fault. fault ≡ WorldFault.NoMemory) }
         ensures only { IsHanding step.now → OnlyHands (durable_of self.old) (durable_of self.new) }
     {
         self.durable.stops();
@@ -57,6 +58,7 @@ impl<D: Disk, R: Radio> World<D, R> {
     fn hand_all(&mut self, confs: &Confs, answers: &mut Answers) -> Result<(), WorldFault>
         ensures ok { OnOk result (AreAnswered D.honest D.reads D.may_leave D.moment D.left_since D.size R.stations R.faults (hands confs.now) answers.old.items answers.new.items self.old self.new) }
         ensures err { OnErr result (SomeAreQuietlyMade D.honest D.reads D.may_leave D.moment D.left_since D.size R.stations R.faults self.old self.new) }
+        ensures fault { IfErr result (λ fault. fault ≡ WorldFault.NoMemory) }
         ensures only { OnlyHands (durable_of self.old) (durable_of self.new) }
     {
         self.durable.stops();
@@ -82,6 +84,7 @@ impl<D: Disk, R: Radio> World<D, R> {
     fn apply_all(&mut self, confs: &Confs, answers: &mut Answers) -> Result<(), WorldFault>
         ensures ok { OnOk result (AreAllApplied D.honest D.reads D.may_leave D.moment D.left_since D.size R.stations R.faults confs.now answers.old.items answers.new.items self.old self.new) }
         ensures err { OnErr result (SomeAreQuietlyMade D.honest D.reads D.may_leave D.moment D.left_since D.size R.stations R.faults self.old self.new) }
+        ensures fault { IfErr result (λ fault. fault ≡ WorldFault.NoMemory) }
         ensures only { OnlyHands (durable_of self.old) (durable_of self.new) }
     {
         self.durable.stops();
@@ -105,6 +108,7 @@ impl<D: Disk, R: Radio> World<D, R> {
     pub fn hand_out(&mut self) -> Result<Vec<(Recipient, Told)>, WorldFault>
         ensures handed { IfOk result (λ answers. IsHandedOut R.stations R.faults [] answers.items self.old self.new) }
         ensures err { OnErr result (HasGoneOn R.stations R.faults self.old self.new) }
+        ensures fault { IfErr result (λ fault. fault ≡ WorldFault.NoMemory) }
         ensures only { OnlyHands (durable_of self.old) (durable_of self.new) }
         ensures proper { IsProper D.honest D.reads D.may_leave D.size (durable_of self.old) → IsProper D.honest D.reads D.may_leave D.size (durable_of self.new) }
         ensures any_moment { IsProper D.honest D.reads D.may_leave D.size (durable_of self.old) → (hs : List Happening) → AreUnsettled hs (durable_of self.old).core

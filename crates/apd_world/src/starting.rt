@@ -20,7 +20,7 @@ impl<D: Disk, R: Radio> World<D, R> {
     ghost use Rattle.apd_world.specs.Following.{AreExact, AreFollowing};
     ghost use Rattle.apd_world.specs.Making.{AreAccepted, AreSettled, SomeAreQuietlyMade, SomeAreSafelyMade};
     ghost use Rattle.apd_world.specs.Proper.{IsProper};
-    ghost use Rattle.apd_world.specs.Round.{IsRound};
+    ghost use Rattle.apd_world.specs.Round.{ComesTo, IsRound};
     ghost use Rattle.apd_world.specs.Seen.{durable_of, slots_of};
     ghost use Rattle.apd_world.specs.Starting.{HasGoneOn, IsFlushed, IsStarted, IsWorldRound, LeavesFronts};
     ghost use Rattle.apd_world.specs.Telling.{HasNoBatch, HasNoCall, HasNoReceipt};
@@ -30,6 +30,7 @@ impl<D: Disk, R: Radio> World<D, R> {
     pub fn commit(&mut self) -> Commit
         ensures round { IsRound result (durable_of self.old) (durable_of self.new) }
         ensures run { IsWorldRound R.stations R.faults result self.old self.new }
+        ensures comes_to { IsProper D.honest D.reads D.may_leave D.size (durable_of self.old) → ComesTo D.failed result (durable_of self.old) (durable_of self.new) }
         ensures rest_stays { RestStays self.old self.new }
         ensures settled { result ≡ Commit.Settled → ((durable_of self.old).core.number < (durable_of self.new).core.number) × ((durable_of self.new).core.flight ≡ 0) }
         ensures nothing { result ≡ Commit.Nothing → HasNoBatch (durable_of self.old) × HasNoCall (durable_of self.old) × HasNoReceipt (durable_of self.old) × (durable_of self.new ≡ durable_of self.old) }
