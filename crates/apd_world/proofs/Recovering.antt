@@ -1,6 +1,7 @@
 -- A stop leaves everything that was spoken of.
-use Rattle.std.proofs.Common.{◌≡◌, ℕ, ◌+◌, ◌≤◌, List, ◌++◌, length, take, drop, refl, sym, ap, subst, ◌∙◌, arith, append_assoc, length-append}
+use Rattle.std.proofs.Common.{◌≡◌, ℕ, ◌+◌, ◌≤◌, List, ◌++◌, length, take, drop, sym, ap, subst, ◌∙◌, arith, append_assoc, length-append}
 use Rattle.std.proofs.lemmas.List.{take-append-drop}
+use Rattle.std.proofs.Math.Seq.{take-append_seam}
 use Rattle.apd_disk.specs.Disk.{LeavesOnly}
 use Rattle.apd_disk.proofs.Moments.{weaker}
 use Rattle.apd_mlme.specs.Happening.{Happening}
@@ -22,7 +23,6 @@ use Rattle.apd_world.specs.declared.world.World.{World}
 use Rattle.apd_world.specs.declared.durable_core.DurableCore.{DurableCore}
 use Rattle.apd_world.specs.declared.step.Step.{Step}
 use Rattle.apd_world.specs.declared.step.Told.{Told}
-use Rattle.apd_world.proofs.DriveLaws.{shows_front}
 use Rattle.apd_world.proofs.Goings.{run-append}
 use Rattle.apd_world.proofs.Standing.{shows_flight}
 
@@ -38,11 +38,16 @@ has_settled a b hs es g confs settles n most c either =
     (λ i. run (settles.state i) (confs i) front) ∙ sym (run-append a.confs settles.settled front a.settled) in
     let lengths = length-append settles.settled front in
     let number = settles.number in
-    let shown = shows_front a.settled a.confs c (hs ++ es) (settles.settled ++ front) rest parts (subst (Shows c) is flight.shows) in
-    let counted : shown.count ≡ length (settles.settled ++ front) = refl in
+    let whole = ap length parts ∙ length-append (settles.settled ++ front) rest in
+    let taken : take (length (settles.settled ++ front)) (hs ++ es) ≡ settles.settled ++ front =
+    ap (take (length (settles.settled ++ front))) parts ∙ take-append_seam (settles.settled ++ front) rest in
     record {
-      front = shown;
-      holds = omega (arith, most, number, lengths, counted);
+      front = record {
+        count = length (settles.settled ++ front);
+        within = omega (arith, whole);
+        shows = subst (λ xs. Shows c (run a.settled a.confs xs)) (sym taken) (subst (Shows c) is flight.shows);
+      };
+      holds = omega (arith, most, number, lengths);
     }
 
 module _ {D : Type 0} (honest : D → Type 0) (reads : D → List ℕ) (may_leave : D → List ℕ → Type 0) (moment : D → ℕ) (left_since : D → ℕ → List ℕ → Type 0) (size : D → ℕ) where
