@@ -1,0 +1,14 @@
+//! Tests of an access point that serves, both ends in one process, over the loopback: here they are proved once, and
+//! no other crate is proved twice for them.
+#![tactic(auto)]
+
+#[cfg(test)]
+mod closing_tests;
+#[cfg(test)]
+mod held;
+#[cfg(test)]
+mod running_tests;
+#[cfg(test)]
+mod serving_tests;
+#[cfg(test)]
+mod talk;

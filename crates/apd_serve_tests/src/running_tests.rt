@@ -1,0 +1,168 @@
+use crate::talk::{
+    ASSOCIATED, ASSOCIATION, AUTHENTICATED, AUTHENTICATION, CONTROL, Datagram, Line, RADIO, Talk,
+    free_ports, sender,
+};
+use apd_conf::{Conf, Confs};
+use apd_disk::FileDisk;
+use apd_serve::{RunFault, Site, run};
+use apd_store::{format, recover};
+use std::fs::{self, File};
+use std::io;
+use std::net::{Ipv4Addr, Net, UdpSocket};
+use std::rt::Files;
+use std::sync::Wait;
+use std::sync::atomic::AtomicBool;
+use std::test::Fail;
+use std::thread::Threads;
+use std::time::Clock;
+
+/// The station of the first run, in the second.
+const STATION: &str =
+    "02:00:00:00:00:aa\nflags=[AUTH][ASSOC][AUTHORIZED]\naid=1\ncapability=0x431\nlisten_interval=10\n";
+
+/// What the radio does in the second run, and at its end.
+const RECORDING: &str = "down\ndown\ninstall 02:00:00:00:00:aa 1\ndown\n";
+
+/// The built-in configuration alone.
+fn confs(rt: &impl AllocGlobal) -> Result<Confs, Fail> {
+    let mut list = Vec::new(rt.alloc());
+    list.push(Conf::built_in(rt.alloc())?)?;
+    match Confs::new(list) {
+        Ok(confs) => Ok(confs),
+        Err(_) => Err(Fail::new("no configurations")),
+    }
+}
+
+/// Makes the file of a name a new store.
+fn new_store(rt: &(impl Files<File = File> + AllocGlobal), name: &str) -> Result<(), Fail> {
+    let _ = fs::remove_file(rt, name);
+    let disk = FileDisk::create(rt, name)?;
+    match format(rt.alloc(), disk) {
+        Ok(_) => Ok(()),
+        Err(_) => Err(Fail::new("no store")),
+    }
+}
+
+/// What `run` answers of a talk, as text, and how many of its lines were said.
+fn ran<R: Files<File = File> + Net + Wait + Threads + Clock + AllocGlobal + Sync>(
+    rt: &R,
+    store: &str,
+    recordings: Option<&str>,
+    lines: &[Line],
+) -> Result<(String, usize), Fail> {
+    let held = AtomicBool::new(false);
+    let port = free_ports(rt, 1)?;
+    let mut talk = Talk::new(rt, rt.alloc(), port, lines, &held)?;
+    let site = Site {
+        store,
+        port,
+        recordings,
+    };
+    let answer = run(rt, confs(rt)?, &site, &mut talk);
+    Ok((told(rt, answer)?, talk.said()))
+}
+
+/// The number of entries, or the fault, as text.
+fn told(rt: &impl AllocGlobal, answer: Result<u64, RunFault>) -> Result<String, Fail> {
+    match answer {
+        Ok(entries) => Ok(format!(in rt.alloc(); "{entries}")?),
+        Err(fault) => Ok(format!(in rt.alloc(); "{fault}")?),
+    }
+}
+
+#[test]
+fn a_second_run_goes_on_where_the_first_ended(rt: HostRuntime) -> Result<(), Fail> {
+    let name = "second_run_store";
+    new_store(&rt, name)?;
+    let first = [
+        Line::Sends(0, RADIO, Datagram::Hex(AUTHENTICATION)),
+        Line::Gets(0, RADIO, Datagram::Hex(AUTHENTICATED)),
+        Line::Sends(0, RADIO, Datagram::Hex(ASSOCIATION)),
+        Line::Gets(0, RADIO, Datagram::Hex(ASSOCIATED)),
+    ];
+    let (answer, said) = ran(&rt, name, None, &first)?;
+    assert_eq!(rt; (answer.as_str(), said), ("2", 4));
+    let second = [
+        Line::Sends(0, CONTROL, Datagram::Text("STA 02:00:00:00:00:aa")),
+        Line::Gets(0, CONTROL, Datagram::Text(STATION)),
+    ];
+    let (answer, said) = ran(&rt, name, Some("second_run"), &second)?;
+    assert_eq!(rt; (answer.as_str(), said), ("0", 2));
+    let recording = fs::read(&rt, "second_run.0")?;
+    assert_eq!(rt; recording.as_slice(), RECORDING.as_bytes());
+    fs::remove_file(&rt, "second_run.0")?;
+    fs::remove_file(&rt, name)?;
+    Ok(())
+}
+
+/// How many BSSIDs have a policy in the store of a file.
+fn bss_of(rt: &(impl Files<File = File> + AllocGlobal), name: &str) -> Result<usize, Fail> {
+    let disk = FileDisk::open(rt, name)?;
+    match recover(rt.alloc(), disk) {
+        Ok(found) => {
+            let (_store, table) = found;
+            Ok(table.bss_count())
+        }
+        Err(_) => Err(Fail::new("not recovered")),
+    }
+}
+
+#[test]
+fn the_start_is_committed_and_not_counted(rt: HostRuntime) -> Result<(), Fail> {
+    let name = "started_store";
+    new_store(&rt, name)?;
+    let (answer, _) = ran(&rt, name, None, &[])?;
+    assert_eq!(rt; answer.as_str(), "0");
+    assert_eq!(rt; bss_of(&rt, name)?, 1);
+    fs::remove_file(&rt, name)?;
+    Ok(())
+}
+
+/// Why `run` of a store refuses, where this socket's port is the one of commands, or none is taken.
+fn refusal<R: Files<File = File> + Net + Wait + Threads + Clock + AllocGlobal + Sync>(
+    rt: &R,
+    store: &str,
+    recordings: Option<&str>,
+    taken: Option<&UdpSocket>,
+) -> Result<String, Fail> {
+    let port = match taken {
+        Some(socket) => socket.local_addr()?.port(),
+        None => free_ports(rt, 1)?,
+    };
+    let site = Site {
+        store,
+        port,
+        recordings,
+    };
+    let answer = run(rt, confs(rt)?, &site, io::empty());
+    told(rt, answer)
+}
+
+#[test]
+fn a_refusal_leaves_the_store_as_it_was(rt: HostRuntime) -> Result<(), Fail> {
+    let name = "refused_store";
+    new_store(&rt, name)?;
+    let before = fs::read(&rt, name)?;
+    let taken = sender(&rt)?;
+    let told = refusal(&rt, name, None, Some(&taken))?;
+    assert_eq!(rt; told.as_str(), "no socket");
+    let told = refusal(&rt, name, Some("no_folder_of_a_test/r"), Some(&taken))?;
+    assert_eq!(rt; told.as_str(), "cannot read no_folder_of_a_test/r.0");
+    let after = fs::read(&rt, name)?;
+    assert!(rt; before == after);
+    fs::remove_file(&rt, name)?;
+    Ok(())
+}
+
+#[test]
+fn a_file_that_is_no_store_is_left_as_it_was(rt: HostRuntime) -> Result<(), Fail> {
+    let name = "short_store";
+    fs::write(&rt, name, b"RAPSTOR1")?;
+    let told = refusal(&rt, name, Some("no_folder_of_a_test/r"), None)?;
+    assert_eq!(rt; told.as_str(), "not a store");
+    assert_eq!(rt; fs::read(&rt, name)?.as_slice(), b"RAPSTOR1".as_slice());
+    fs::remove_file(&rt, name)?;
+    let told = refusal(&rt, name, None, None)?;
+    assert_eq!(rt; told.as_str(), "cannot read short_store");
+    Ok(())
+}

@@ -1,0 +1,173 @@
+//! The other end of the ports: someone who speaks while an access point serves.
+use std::alloc::Global;
+use std::io::{self, ErrorKind, Read};
+use std::net::{Ipv4Addr, Net, UdpSocket};
+use std::sync::atomic::AtomicBool;
+use std::sync::atomic::Ordering::SeqCst;
+use std::test::Fail;
+use std::time::Duration;
+
+/// The port of commands is 0 above the first, and that of the radio at place i is i + 1 above it.
+pub(crate) const CONTROL: u16 = 0;
+
+pub(crate) const RADIO: u16 = 1;
+
+/// A station asks to be authenticated, and is; asks to be associated, and is, under the identifier 1.
+pub(crate) const AUTHENTICATION: &str =
+    "b00000000200000000010200000000aa0200000000011000000001000000";
+
+pub(crate) const AUTHENTICATED: &str =
+    "b00000000200000000aa0200000000010200000000010000000002000000";
+
+pub(crate) const ASSOCIATION: &str =
+    "000000000200000000010200000000aa020000000001200031040a0000036e6574010482848b96";
+
+pub(crate) const ASSOCIATED: &str =
+    "100000000200000000aa02000000000102000000000100000100000001c0010482848b96";
+
+/// How long an answer is waited for, in milliseconds, and how long none is.
+const PATIENCE: u64 = 20_000;
+
+const SILENCE: u64 = 200;
+
+/// What a datagram holds.
+#[derive(Clone, Copy)]
+pub(crate) enum Datagram {
+    Text(&'static str),
+    Hex(&'static str),
+    Bytes(u8, usize),
+}
+
+impl Datagram {
+    fn bytes(&self, alloc: Global) -> io::Result<Vec<u8>> {
+        match self {
+            Datagram::Text(text) => Ok(Vec::from_slice(alloc, text.as_bytes())?),
+            Datagram::Hex(digits) => {
+                hex::decode(alloc, *digits).map_err(|_| ErrorKind::InvalidInput.into())
+            }
+            Datagram::Bytes(byte, count) => Ok(vec![in alloc; *byte; *count]?),
+        }
+    }
+}
+
+/// What one of two senders does.
+#[derive(Clone, Copy)]
+pub(crate) enum Line {
+    /// It sends this to a port.
+    Sends(usize, u16, Datagram),
+    /// It gets this from a port, and nothing else before.
+    Gets(usize, u16, Datagram),
+    /// It gets nothing for a while.
+    GetsNothing(usize),
+    /// What is held is let go.
+    LetsGo,
+}
+
+/// Two senders and what they say, to the ports from this one on. It is said where the input is read, which then ends.
+#[derive(Drop)]
+pub(crate) struct Talk<'a> {
+    alloc: Global,
+    senders: [UdpSocket; 2],
+    port: u16,
+    lines: &'a [Line],
+    held: &'a AtomicBool,
+    said: usize,
+}
+
+/// The socket of a sender.
+pub(crate) fn sender(rt: &impl Net) -> io::Result<UdpSocket> {
+    UdpSocket::bind(rt, (Ipv4Addr::LOCALHOST, 0))
+}
+
+/// A port such that it and so many above it were free a moment ago.
+pub(crate) fn free_ports(rt: &impl Net, above: u16) -> Result<u16, Fail> {
+    for _ in 0..100 {
+        let first = sender(rt)?;
+        let port = first.local_addr()?.port();
+        if port < 65_000
+            && (0..above).all(|i| UdpSocket::bind(
+                rt,
+                (Ipv4Addr::LOCALHOST, port.wrapping_add(1).wrapping_add(i)),
+            )
+            .is_ok())
+        {
+            return Ok(port);
+        }
+    }
+    Err(Fail::new("no ports in a row are free"))
+}
+
+impl<'a> Talk<'a> {
+    pub(crate) fn new(
+        rt: &impl Net,
+        alloc: Global,
+        port: u16,
+        lines: &'a [Line],
+        held: &'a AtomicBool,
+    ) -> Result<Talk<'a>, Fail> {
+        Ok(Talk {
+            alloc,
+            senders: [sender(rt)?, sender(rt)?],
+            port,
+            lines,
+            held,
+            said: 0,
+        })
+    }
+
+    /// How many lines were said as they are written; the talk ends at the first that isn't.
+    pub(crate) fn said(&self) -> usize {
+        self.said
+    }
+
+    // What a sender gets in this time, in milliseconds, from a port of the access point.
+    fn received(&self, sender: usize, time: u64) -> io::Result<Option<(u16, Vec<u8>)>> {
+        let mut room = vec![in self.alloc; 0u8; 65_536]?;
+        let Some(socket) = self.senders.get(sender) else {
+            return Err(ErrorKind::InvalidInput.into());
+        };
+        socket.set_read_timeout(Some(Duration::from_millis(time)))?;
+        let Ok((count, from)) = socket.recv_from(room.as_mut_slice()) else {
+            return Ok(None);
+        };
+        room.truncate(count);
+        Ok(Some((from.port().wrapping_sub(self.port), room)))
+    }
+
+    // Whether a line is said as it is written.
+    fn says(&self, line: &Line) -> io::Result<bool> {
+        match line {
+            Line::Sends(sender, port, datagram) => {
+                let Some(socket) = self.senders.get(*sender) else {
+                    return Ok(false);
+                };
+                let port = self.port.wrapping_add(*port);
+                socket.send_to(&datagram.bytes(self.alloc)?, (Ipv4Addr::LOCALHOST, port))?;
+                Ok(true)
+            }
+            Line::Gets(sender, port, datagram) => match self.received(*sender, PATIENCE)? {
+                Some((from, bytes)) => Ok(from == *port && bytes == datagram.bytes(self.alloc)?),
+                None => Ok(false),
+            },
+            Line::GetsNothing(sender) => Ok(self.received(*sender, SILENCE)?.is_none()),
+            Line::LetsGo => {
+                self.held.store(false, SeqCst);
+                Ok(true)
+            }
+        }
+    }
+}
+
+impl Read for Talk<'_> {
+    fn read(&mut self, _buf: &mut [u8]) -> io::Result<usize> {
+        for line in self.lines {
+            match self.says(line) {
+                Ok(true) => self.said = self.said.saturating_add(1),
+                _ => break,
+            }
+        }
+        // Nothing is held behind the end.
+        self.held.store(false, SeqCst);
+        Ok(0)
+    }
+}
