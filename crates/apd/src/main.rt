@@ -1,6 +1,7 @@
 //! `apd`: an access point daemon. So far it runs scripts over a table in memory, and makes stores.
 #![tactic(auto)]
 
+mod running;
 mod store_file;
 #[cfg(test)]
 mod store_file_tests;
@@ -12,11 +13,17 @@ use apd_conf::ConfigurationFault;
 use apd_script::{FormatFault, ScriptFault, World, read_configurations, run_format, run_script};
 use clap::error::ErrorKind;
 use clap::{Arg, ArgAction, Command};
+use log::Log;
+use running::{RunningFault, run_and_log, run_command};
 use std::alloc::{AllocError, Global};
 use std::fs::File;
 use std::io::{self, BufReader};
+use std::net::Net;
 use std::process::ExitCode;
 use std::rt::{Env, Files};
+use std::sync::Wait;
+use std::thread::Threads;
+use std::time::Clock;
 use store_file::{OpenFault, open_or_create};
 use thiserror::Error;
 
@@ -76,6 +83,7 @@ fn format_command<'a>(alloc: Global) -> Result<Command<'a>, AllocError> {
 /// The command line.
 fn command<'a>(alloc: Global) -> Result<Command<'a>, AllocError> {
     let format = format_command(alloc)?;
+    let run = run_command(alloc)?;
     let script = script_command(alloc)?;
     Command::new(alloc, "apd")
         .bin_name("apd")?
@@ -84,6 +92,7 @@ fn command<'a>(alloc: Global) -> Result<Command<'a>, AllocError> {
         .after_help(HELP)
         .subcommand_required(true)
         .subcommand(format)?
+        .subcommand(run)?
         .subcommand(script)
 }
 
@@ -98,6 +107,8 @@ enum ProgramFault {
     Open(OpenFault),
     #[error("{0}")]
     Format(FormatFault),
+    #[error("{0}")]
+    Running(RunningFault),
     #[error("out of memory")]
     NoMemory,
 }
@@ -155,9 +166,19 @@ fn no_text(alloc: Global) -> Result<clap::Error, AllocError> {
 
 /// Does what the command line says, or gives the text that `clap` has for one that is wrong, or that asks
 /// for help or for the version.
-fn run(
-    rt: &(impl Env + Input + Print + Files<File = File> + AllocGlobal),
-) -> Result<Option<clap::Error>, ProgramFault> {
+fn run<
+    R: Env
+        + Input
+        + Print
+        + Files<File = File>
+        + Net
+        + Wait
+        + Threads
+        + Clock
+        + AllocGlobal
+        + Log
+        + Sync,
+>(rt: &R) -> Result<Option<clap::Error>, ProgramFault> {
     let alloc = rt.alloc();
     let Some(words) = words(rt)? else {
         return Ok(Some(no_text(alloc)?));
@@ -168,6 +189,10 @@ fn run(
     };
     if let Some(format) = matches.subcommand_matches("format") {
         format_and_print(rt, format.get_str("STORE").unwrap_or(""))?;
+        return Ok(None);
+    }
+    if let Some(matches) = matches.subcommand_matches("run") {
+        run_and_log(rt, matches).map_err(ProgramFault::Running)?;
         return Ok(None);
     }
     let names = matches
