@@ -1,4 +1,4 @@
-//! `apd`: an access point daemon. So far it runs scripts over a table in memory, and makes stores.
+//! `apd`: an access point daemon. It serves over a store and datagrams, runs scripts over a table in memory, and makes stores.
 #![tactic(auto)]
 
 mod running;
