@@ -2,7 +2,7 @@
 #![tactic(auto)]
 
 mod address_set;
-pub mod lists;
+mod lists;
 pub mod policy;
 
 pub use lists::Lists;

@@ -6,4 +6,5 @@ pub mod NumberText
 pub mod RowsLaws
 pub mod RowsMaps
 pub mod StateLaws
+pub mod StationLaws
 pub mod Trees

@@ -24,13 +24,16 @@ use Rattle.apd_base.specs.State.{State, which_number, list_cmp}
 
 abbrev pub coded_aid : Coded Aid
 coded_aid =
-    code_by ((n : ℕ) × ((1 ≤ n) × (n ≤ MAX_STATIONS))) (coded_sub coded_ℕ (λ n. (1 ≤ n) × (n ≤ MAX_STATIONS)) (λ n. ×_prop le_prop le_prop))
+    code_by ((n : ℕ)
+    × ((1 ≤ n) × (n ≤ MAX_STATIONS)))
+    (coded_sub coded_ℕ (λ n. (1 ≤ n) × (n ≤ MAX_STATIONS)) (λ n. ×_prop le_prop le_prop))
     (λ aid. (aid.number, (aid.low, aid.high))) (λ p. record { number = p.0; low = p.1.0; high = p.1.1 }) (λ _. refl)
 
 abbrev pub coded_association : Coded Association
 coded_association =
     code_by (Aid × (ℕ × ℕ)) (coded× coded_aid (coded× coded_ℕ coded_ℕ))
-    (λ a. (a.aid, (a.capability, a.listen_interval))) (λ p. record { aid = p.0; capability = p.1.0; listen_interval = p.1.1 }) (λ _. refl)
+    (λ a. (a.aid, (a.capability, a.listen_interval)))
+    (λ p. record { aid = p.0; capability = p.1.0; listen_interval = p.1.1 }) (λ _. refl)
 
 abbrev pub association_of : Station → Option Association
 association_of Authenticated = None
@@ -45,7 +48,9 @@ station_from-association_of Authenticated = refl
 station_from-association_of (Associated association) = refl
 
 abbrev pub coded_station : Coded Station
-coded_station = code_by (Option Association) (coded_option coded_association) association_of station_from station_from-association_of
+coded_station =
+    code_by (Option Association)
+    (coded_option coded_association) association_of station_from station_from-association_of
 
 abbrev pub mode_from : ℕ → AclMode
 mode_from zero = AcceptUnlessDenied
@@ -64,7 +69,9 @@ coded_limit =
     (λ limit. (limit.count, limit.in_range)) (λ p. record { count = p.0; in_range = p.1 }) (λ _. refl)
 
 abbrev pub coded_policy : Coded Policy
-coded_policy = code_by (AclMode × StationLimit) (coded× coded_mode coded_limit) (λ p. (p.mode, p.max)) (λ p. record { mode = p.0; max = p.1 }) (λ _. refl)
+coded_policy =
+    code_by (AclMode × StationLimit) (coded× coded_mode coded_limit) (λ p. (p.mode, p.max))
+    (λ p. record { mode = p.0; max = p.1 }) (λ _. refl)
 
 abbrev pub which_from : ℕ → Which
 which_from zero = Accept
@@ -78,10 +85,14 @@ abbrev pub coded_which : Coded Which
 coded_which = code_by ℕ coded_ℕ which_number which_from which_from-which_number
 
 abbrev pub coded_list_row : Coded (Bssid × Which × Addr)
-coded_list_row = code_by (Bssid × (Which × Addr)) (coded× coded_bssid (coded× coded_which coded_addr)) (λ k. (k.0, (k.1, k.2))) (λ p. (p.0, p.1.0, p.1.1)) (λ _. refl)
+coded_list_row =
+    code_by (Bssid × (Which × Addr)) (coded× coded_bssid (coded× coded_which coded_addr)) (λ k. (k.0, (k.1, k.2)))
+    (λ p. (p.0, p.1.0, p.1.1)) (λ _. refl)
 
 abbrev pub coded_state : Coded State
 coded_state =
     code_by (FinMap station_cmp Station × (SetOf list_cmp × FinMap bssid_cmp Policy))
-    (coded× (map.code (coded× coded_bssid coded_addr) coded_station) (coded× (coded_set coded_list_row) (map.code coded_bssid coded_policy)))
-    (λ s. (s.stations, (s.lists, s.policies))) (λ p. record { stations = p.0; lists = p.1.0; policies = p.1.1 }) (λ _. refl)
+    (coded× (map.code (coded× coded_bssid coded_addr) coded_station)
+    (coded× (coded_set coded_list_row) (map.code coded_bssid coded_policy)))
+    (λ s. (s.stations, (s.lists, s.policies))) (λ p. record { stations = p.0; lists = p.1.0; policies = p.1.1 })
+    (λ _. refl)

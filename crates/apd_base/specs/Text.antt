@@ -44,4 +44,5 @@ with_newline line = line ++ newline ∷ []
 -- the number that decimal digits write: at least one digit and at most so many, and no number above the greatest
 unfoldable pub decimal_number : ℕ → ℕ → List ℕ → Option ℕ
 decimal_number most greatest text =
-    if nat_le 1 (length text) && nat_le (length text) most && all_ascii_digits text && nat_le (digits_value 10 text) greatest then Some (digits_value 10 text) else None
+    if nat_le 1 (length text) && nat_le (length text) most && all_ascii_digits text && nat_le
+    (digits_value 10 text) greatest then Some (digits_value 10 text) else None

@@ -2,16 +2,16 @@
 //! sent, and text.
 #![tactic(auto)]
 
-pub mod address;
+mod address;
 pub mod limits;
-pub mod moment;
+mod moment;
 pub mod number;
 pub mod rows;
-pub mod sequence;
-pub mod station;
+mod sequence;
+mod station;
 pub mod text;
 
-pub use address::{Addr, BROADCAST, Bssid};
+pub use address::{Addr, BROADCAST, Bssid, TEXT_LENGTH, broadcast_law, orders_law, text_law};
 pub use moment::Moment;
 pub use sequence::Sequence;
 pub use station::{AclMode, Aid, Association, Policy, Station, StationLimit, Which};

@@ -15,17 +15,20 @@ pub fn u16_at(bytes: &[u8], place: usize) -> u16
 /// bytes back.
 pub fn u16_laws()
     ensures read { (n : ℕ) → n < 2 ^ 16 → from_le_bytes w16 (to_le_bytes w16 n) ≡ n }
-    ensures written { (bytes : List ℕ) → length bytes ≡ 2 → AreBytes bytes → to_le_bytes w16 (from_le_bytes w16 bytes) ≡ bytes }
+    ensures written { (bytes : List ℕ) → length bytes ≡ 2 → AreBytes bytes
+        → to_le_bytes w16 (from_le_bytes w16 bytes) ≡ bytes }
 {}
 
 /// The same of four bytes.
 pub fn u32_laws()
     ensures read { (n : ℕ) → n < 2 ^ 32 → from_le_bytes w32 (to_le_bytes w32 n) ≡ n }
-    ensures written { (bytes : List ℕ) → length bytes ≡ 4 → AreBytes bytes → to_le_bytes w32 (from_le_bytes w32 bytes) ≡ bytes }
+    ensures written { (bytes : List ℕ) → length bytes ≡ 4 → AreBytes bytes
+        → to_le_bytes w32 (from_le_bytes w32 bytes) ≡ bytes }
 {}
 
 /// The same of eight bytes.
 pub fn u64_laws()
     ensures read { (n : ℕ) → n < 2 ^ 64 → from_le_bytes w64 (to_le_bytes w64 n) ≡ n }
-    ensures written { (bytes : List ℕ) → length bytes ≡ 8 → AreBytes bytes → to_le_bytes w64 (from_le_bytes w64 bytes) ≡ bytes }
+    ensures written { (bytes : List ℕ) → length bytes ≡ 8 → AreBytes bytes
+        → to_le_bytes w64 (from_le_bytes w64 bytes) ≡ bytes }
 {}

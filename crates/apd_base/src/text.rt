@@ -7,7 +7,8 @@ ghost use Rattle.apd_base.specs.Text.{decimal_number, is_blank};
 
 /// What stands behind a word at the front.
 pub fn behind<'a>(text: &'a [u8], word: &[u8]) -> Option<&'a [u8]>
-    ensures { MatchOption result ((rest : List ℕ) → text.now ≢ word.now ++ rest) (λ rest. text.now ≡ word.now ++ rest.now) }
+    ensures { MatchOption result ((rest : List ℕ)
+        → text.now ≢ word.now ++ rest) (λ rest. text.now ≡ word.now ++ rest.now) }
 {
     text.strip_prefix(word)
 }
@@ -66,5 +67,6 @@ pub fn hex_digit(value: u8) -> u8
 /// The digits that are printed of a number are read as it, where there are not too many and it is not
 /// too great.
 pub fn decimal_law()
-    ensures { (most greatest n : ℕ) → n < 2 ^ 64 → length (decimal n) ≤ most → n ≤ greatest → decimal_number most greatest (decimal n) ≡ Some n }
+    ensures { (most greatest n : ℕ) → n < 2 ^ 64 → length (decimal n) ≤ most → n ≤ greatest
+        → decimal_number most greatest (decimal n) ≡ Some n }
 {}

@@ -21,12 +21,10 @@ use Rattle.apd_base.specs.declared.address.Bssid.{Bssid}
 use Rattle.apd_base.specs.Addr.{bssid_cmp}
 use Rattle.apd_base.proofs.AddrLaws.{bssid_total, bssid_exact}
 use Rattle.apd_base.proofs.MapLaws.{one_or_apart, tied}
+use Rattle.apd_base.proofs.StationLaws.{same_limit}
 use Rattle.apd_conf.specs.declared.conf.Conf.{Conf}
 use Rattle.apd_conf.specs.Confs.{conf_at, conf_named, AreConfs, IsRepeatedAt}
 use Rattle.apd_base.proofs.Cases.{same_some}
-
-pub same_limit : (a b : StationLimit) → a.count ≡ b.count → a ≡ b
-same_limit a b e = ap (λ (p : (n : ℕ) × (n ≤ MAX_STATIONS)). record { count = p.0; in_range = p.1 }) (Σ_prop_path {B = λ n. n ≤ MAX_STATIONS} (λ n. le_prop) {u = (a.count, a.in_range)} {v = (b.count, b.in_range)} e)
 
 not_both : (b : Bool) → b ≡ true → b ≡ false → ⊥
 not_both b t f = cc

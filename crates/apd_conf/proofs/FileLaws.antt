@@ -23,7 +23,7 @@ use Rattle.apd_conf.specs.Faults.{IsFirstFault, IsFaultless}
 use Rattle.apd_conf.specs.ListFile as lists
 use Rattle.apd_base.specs.Addr.{address_of}
 use Rattle.apd_conf.specs.ConfFile.{fault_at, band_name, IsConfOf, IsFaultOf, IsMissing}
-use Rattle.apd_conf.proofs.ConfLaws.{same_limit}
+use Rattle.apd_base.proofs.StationLaws.{same_limit, same_mode}
 use Rattle.apd_base.proofs.Cases.{same_some, none_is_some}
 
 -- a file has one first fault at most
@@ -56,9 +56,6 @@ same_algs a b e = sym (algs_from-algs_number a) ∙ ap algs_from e ∙ algs_from
 
 same_quiet : (a b : IgnoreBroadcastSsid) → quiet_number a ≡ quiet_number b → a ≡ b
 same_quiet a b e = sym (quiet_from-quiet_number a) ∙ ap quiet_from e ∙ quiet_from-quiet_number b
-
-same_mode : (a b : AclMode) → mode_number a ≡ mode_number b → a ≡ b
-same_mode a b e = sym (mode_from-mode_number a) ∙ ap mode_from e ∙ mode_from-mode_number b
 
 -- the lines give one configuration at most
 pub one_conf : (lines : List (List ℕ)) (a b : Conf) → IsConfOf lines a → IsConfOf lines b → a ≡ b

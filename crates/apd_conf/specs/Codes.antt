@@ -80,7 +80,9 @@ abbrev pub Stations : Type 0
 Stations = StationLimit × (AuthAlgs × (ℕ × (ℕ × AclMode)))
 
 abbrev pub coded_names : Coded Names
-coded_names = coded× coded_bytes (coded× coded_bssid (coded× coded_bytes (coded× (coded_option coded_bytes) (coded_option coded_bytes))))
+coded_names =
+    coded× coded_bytes
+    (coded× coded_bssid (coded× coded_bytes (coded× (coded_option coded_bytes) (coded_option coded_bytes))))
 
 abbrev pub coded_radio : Coded Radio
 coded_radio = coded× coded_band (coded× coded_ℕ (coded× coded_ℕ coded_quiet))
@@ -124,7 +126,9 @@ conf_from p = record {
 }
 
 abbrev pub coded_conf : Coded Conf
-coded_conf = code_by (Names × (Radio × (Stations × Lists))) (coded× coded_names (coded× coded_radio (coded× coded_stations coded_lists))) parts_of conf_from (λ _. refl)
+coded_conf =
+    code_by (Names × (Radio × (Stations × Lists)))
+    (coded× coded_names (coded× coded_radio (coded× coded_stations coded_lists))) parts_of conf_from (λ _. refl)
 
 abbrev pub coded_confs : Coded (List Conf)
 coded_confs = coded_list coded_conf

@@ -83,9 +83,12 @@ pub record IsConfOf (lines : List (List ℕ)) (conf : Conf) : Type 0 where
   pub beacon_int : conf.beacon_int ≡ number_or_default beacon_int (value_of (codes "beacon_int") lines)
   pub max_num_sta : conf.max_num_sta.count ≡ number_or_default max_num_sta (value_of (codes "max_num_sta") lines)
   pub auth_algs : algs_number conf.auth_algs ≡ number_or_default auth_algs (value_of (codes "auth_algs") lines)
-  pub ap_max_inactivity : conf.ap_max_inactivity ≡ number_or_default ap_max_inactivity (value_of (codes "ap_max_inactivity") lines)
-  pub ignore_broadcast_ssid : quiet_number conf.ignore_broadcast_ssid ≡ number_or_default ignore_broadcast_ssid (value_of (codes "ignore_broadcast_ssid") lines)
-  pub max_listen_interval : conf.max_listen_interval ≡ number_or_default max_listen_interval (value_of (codes "max_listen_interval") lines)
+  pub ap_max_inactivity : conf.ap_max_inactivity
+      ≡ number_or_default ap_max_inactivity (value_of (codes "ap_max_inactivity") lines)
+  pub ignore_broadcast_ssid : quiet_number conf.ignore_broadcast_ssid
+      ≡ number_or_default ignore_broadcast_ssid (value_of (codes "ignore_broadcast_ssid") lines)
+  pub max_listen_interval : conf.max_listen_interval
+      ≡ number_or_default max_listen_interval (value_of (codes "max_listen_interval") lines)
   pub macaddr_acl : mode_number conf.macaddr_acl ≡ number_or_default macaddr_acl (value_of (codes "macaddr_acl") lines)
   pub accept_mac_file : conf.accept_mac_file ≡ value_of (codes "accept_mac_file") lines
   pub deny_mac_file : conf.deny_mac_file ≡ value_of (codes "deny_mac_file") lines
@@ -96,7 +99,8 @@ pub record IsConfOf (lines : List (List ℕ)) (conf : Conf) : Type 0 where
 abbrev pub IsMissing : List (List ℕ) → Required → Type 0
 IsMissing lines required.Interface = value_of (codes "interface") lines ≡ None
 IsMissing lines required.Bssid = IsSome (value_of (codes "interface") lines) × (value_of (codes "bssid") lines ≡ None)
-IsMissing lines required.Ssid = IsSome (value_of (codes "interface") lines) × IsSome (value_of (codes "bssid") lines) × (value_of (codes "ssid") lines ≡ None)
+IsMissing lines required.Ssid = IsSome (value_of (codes "interface") lines) × IsSome (value_of (codes "bssid") lines)
+    × (value_of (codes "ssid") lines ≡ None)
 
 -- the fault of other lines: the first fault of a line, and where no line is faulty the first name that is
 -- missing. That memory runs out is no fault of theirs

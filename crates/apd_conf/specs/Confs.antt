@@ -49,7 +49,8 @@ abbrev pub IsRefused : List Conf → ConfsFault → Type 0
 IsRefused confs Empty = length confs ≡ 0
 IsRefused confs TooMany = MAX_BSS < length confs
 IsRefused confs (SameInterface place) = IsCountInRange confs × IsLeastRepeated (interfaces confs) place
-IsRefused confs (SameBssid place) = IsCountInRange confs × AreDistinct (interfaces confs) × IsLeastRepeated (bssids confs) place
+IsRefused confs (SameBssid place) = IsCountInRange confs × AreDistinct (interfaces confs)
+    × IsLeastRepeated (bssids confs) place
 
 -- the configuration of a BSSID
 abbrev pub conf_at : List Conf → Bssid → Option Conf

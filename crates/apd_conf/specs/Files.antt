@@ -70,7 +70,8 @@ pub record IsDenyFault (read : FilesRead) (f : ConfigurationFault) : Type 0 wher
 
 -- why the files of one radio give no configuration
 abbrev pub IsFaultOfFiles : FilesRead → ConfigurationFault → Type 0
-IsFaultOfFiles read f = IsConfFault (string_bytes read.name) (readable read.file) f ⊎ IsAcceptFault read f ⊎ IsDenyFault read f
+IsFaultOfFiles read f =
+    IsConfFault (string_bytes read.name) (readable read.file) f ⊎ IsAcceptFault read f ⊎ IsDenyFault read f
 
 -- the first fault, radio by radio
 abbrev pub IsFirstFault : List FilesRead → ConfigurationFault → Type 0

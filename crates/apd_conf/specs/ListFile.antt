@@ -29,7 +29,8 @@ address_at text = if is_end (drop TEXT_LENGTH text) then address_of (take TEXT_L
 unfoldable pub edit_of : List ℕ → Option Edit
 edit_of line =
     if is_skipped line then Some Skip
-    else (if slice_index line 0 == hyphen then option_map Remove (address_at (drop 1 line)) else option_map Add (address_at line))
+    else (if slice_index line 0 == hyphen then option_map Remove (address_at (drop 1 line)) else option_map Add
+    (address_at line))
 
 abbrev pub edited : SetOf addr_cmp → Option Edit → SetOf addr_cmp
 edited set None = set

@@ -106,4 +106,5 @@ rule_in name rows = option_map (λ row. row.1) (find (λ row. bytes_eq name row.
 
 -- the rule of a name, if it is known
 unfoldable pub rule_of : List ℕ → Option Rule
-rule_of name = if is_one_of name ignored || begins_with_one_of name ignored_prefixes then Some Ignored else rule_in name settings
+rule_of name =
+    if is_one_of name ignored || begins_with_one_of name ignored_prefixes then Some Ignored else rule_in name settings

@@ -148,12 +148,20 @@ impl Confs {
 /// What is found for a BSSID or an interface has it and stands in the list; where none is found, none in
 /// the list has it; and each configuration of a daemon is found by its own.
 pub fn look_up_laws()
-    ensures bssid { (confs : List Configuration) (bssid : Address) (conf : Configuration) → conf_at confs bssid ≡ Some conf → conf.bssid ≡ bssid }
-    ensures own_bssid { (confs : List Configuration) → AreConfs confs → (place : ℕ) (conf : Configuration) → slice_get confs place ≡ Some conf → conf_at confs conf.bssid ≡ Some conf }
-    ensures interface { (confs : List Configuration) (name : List ℕ) (conf : Configuration) → conf_named confs name ≡ Some conf → conf.interface ≡ name }
-    ensures own_interface { (confs : List Configuration) → AreConfs confs → (place : ℕ) (conf : Configuration) → slice_get confs place ≡ Some conf → conf_named confs conf.interface ≡ Some conf }
-    ensures bssid_listed { (confs : List Configuration) (bssid : Address) (conf : Configuration) → conf_at confs bssid ≡ Some conf → (place : ℕ) × (slice_get confs place ≡ Some conf) }
-    ensures interface_listed { (confs : List Configuration) (name : List ℕ) (conf : Configuration) → conf_named confs name ≡ Some conf → (place : ℕ) × (slice_get confs place ≡ Some conf) }
-    ensures no_bssid { (confs : List Configuration) (bssid : Address) → conf_at confs bssid ≡ None → (place : ℕ) (conf : Configuration) → slice_get confs place ≡ Some conf → conf.bssid ≢ bssid }
-    ensures no_interface { (confs : List Configuration) (name : List ℕ) → conf_named confs name ≡ None → (place : ℕ) (conf : Configuration) → slice_get confs place ≡ Some conf → conf.interface ≢ name }
+    ensures bssid { (confs : List Configuration) (bssid : Address) (conf : Configuration)
+        → conf_at confs bssid ≡ Some conf → conf.bssid ≡ bssid }
+    ensures own_bssid { (confs : List Configuration) → AreConfs confs → (place : ℕ) (conf : Configuration)
+        → slice_get confs place ≡ Some conf → conf_at confs conf.bssid ≡ Some conf }
+    ensures interface { (confs : List Configuration) (name : List ℕ) (conf : Configuration)
+        → conf_named confs name ≡ Some conf → conf.interface ≡ name }
+    ensures own_interface { (confs : List Configuration) → AreConfs confs → (place : ℕ) (conf : Configuration)
+        → slice_get confs place ≡ Some conf → conf_named confs conf.interface ≡ Some conf }
+    ensures bssid_listed { (confs : List Configuration) (bssid : Address) (conf : Configuration)
+        → conf_at confs bssid ≡ Some conf → (place : ℕ) × (slice_get confs place ≡ Some conf) }
+    ensures interface_listed { (confs : List Configuration) (name : List ℕ) (conf : Configuration)
+        → conf_named confs name ≡ Some conf → (place : ℕ) × (slice_get confs place ≡ Some conf) }
+    ensures no_bssid { (confs : List Configuration) (bssid : Address) → conf_at confs bssid ≡ None
+        → (place : ℕ) (conf : Configuration) → slice_get confs place ≡ Some conf → conf.bssid ≢ bssid }
+    ensures no_interface { (confs : List Configuration) (name : List ℕ) → conf_named confs name ≡ None
+        → (place : ℕ) (conf : Configuration) → slice_get confs place ≡ Some conf → conf.interface ≢ name }
 {}

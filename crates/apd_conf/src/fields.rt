@@ -33,7 +33,8 @@ use std::alloc::{AllocError, Global};
 fn taken<'a>(name: &[u8], file: &'a [u8]) -> Option<&'a [u8]>
     requires { IsFaultless (fault_at (lines file.now)) }
     ensures value { option_copied result ≡ value_of name.now (lines file.now) }
-    ensures taken { (rule : AnyRule) → rule_of name.now ≡ Some rule → IfSome result (λ value. accepts rule value.now ≡ true) }
+    ensures taken { (rule : AnyRule) → rule_of name.now ≡ Some rule
+        → IfSome result (λ value. accepts rule value.now ≡ true) }
 {
     value_of(name, file)
 }
@@ -91,7 +92,8 @@ fn auth_algs(file: &[u8]) -> AuthAlgs
 
 fn ignore_broadcast_ssid(file: &[u8]) -> IgnoreBroadcastSsid
     requires { IsFaultless (fault_at (lines file.now)) }
-    ensures { quiet_number result ≡ number_or_default table.ignore_broadcast_ssid (value_of (codes "ignore_broadcast_ssid") (lines file.now)) }
+    ensures { quiet_number result
+        ≡ number_or_default table.ignore_broadcast_ssid (value_of (codes "ignore_broadcast_ssid") (lines file.now)) }
 {
     match number(b"ignore_broadcast_ssid", IGNORE_BROADCAST_SSID, file) {
         0 => IgnoreBroadcastSsid::No,
@@ -102,7 +104,8 @@ fn ignore_broadcast_ssid(file: &[u8]) -> IgnoreBroadcastSsid
 
 fn macaddr_acl(file: &[u8]) -> AclMode
     requires { IsFaultless (fault_at (lines file.now)) }
-    ensures { mode_number result ≡ number_or_default table.macaddr_acl (value_of (codes "macaddr_acl") (lines file.now)) }
+    ensures { mode_number result
+        ≡ number_or_default table.macaddr_acl (value_of (codes "macaddr_acl") (lines file.now)) }
 {
     match number(b"macaddr_acl", MACADDR_ACL, file) {
         0 => AclMode::AcceptUnlessDenied,
@@ -126,14 +129,16 @@ fn beacon_int(file: &[u8]) -> u16
 
 fn ap_max_inactivity(file: &[u8]) -> u32
     requires { IsFaultless (fault_at (lines file.now)) }
-    ensures { result ≡ number_or_default table.ap_max_inactivity (value_of (codes "ap_max_inactivity") (lines file.now)) }
+    ensures { result
+        ≡ number_or_default table.ap_max_inactivity (value_of (codes "ap_max_inactivity") (lines file.now)) }
 {
     number(b"ap_max_inactivity", AP_MAX_INACTIVITY, file)
 }
 
 fn max_listen_interval(file: &[u8]) -> u16
     requires { IsFaultless (fault_at (lines file.now)) }
-    ensures { result ≡ number_or_default table.max_listen_interval (value_of (codes "max_listen_interval") (lines file.now)) }
+    ensures { result
+        ≡ number_or_default table.max_listen_interval (value_of (codes "max_listen_interval") (lines file.now)) }
 {
     number(b"max_listen_interval", MAX_LISTEN_INTERVAL, file) as u16
 }

@@ -12,9 +12,8 @@ ghost use Rattle.apd_conf.specs.ListFile.{is_end, address_at, edit_of, edited, I
 use crate::lines::{is_skipped, lines_of};
 use crate::list_so_far::ListSoFar;
 use crate::{AddressList, ListFault};
-use apd_base::address::TEXT_LENGTH;
 use apd_base::limits::MAX_LISTED;
-use apd_base::{Addr, rows};
+use apd_base::{Addr, TEXT_LENGTH, rows};
 use std::alloc::{AllocError, Global};
 
 // What a line of a list file does to the list so far.

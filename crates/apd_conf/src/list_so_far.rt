@@ -31,7 +31,8 @@ impl Model for ListSoFar {
 // Moves the last row to a place, and the rows from there on up.
 fn last_to(rows: &mut [(Addr, ())], place: usize)
     requires { place < length rows.old }
-    ensures { (front : List (Address × Unit {0})) (last : Address × Unit {0}) → rows.old ≡ front ++ last ∷ [] → rows.new ≡ insert front place last }
+    ensures { (front : List (Address × Unit {0})) (last : Address × Unit {0}) → rows.old ≡ front ++ last ∷ []
+        → rows.new ≡ insert front place last }
 {
     rows[place..].rotate_right(1);
 }

@@ -28,7 +28,7 @@ use Rattle.apd_record.specs.declared.change.Change.{Change}
 use Rattle.apd_record.specs.declared.change.Change.TheVariants.{Put, Drop, ListAdd, ListDel, ListClear, Policy}
 use Rattle.apd_record.specs.contracts.change.ChangePartialEq.TheImpl as change
 use Rattle.apd_record.specs.contracts.change.ChangeEq.TheImpl.Laws.{laws-law}
-use Rattle.apd_record.proofs.Unique.{same_aid}
+use Rattle.apd_base.proofs.StationLaws.{same_aid, same_limit}
 
 same_addr : (a d : Addr) → (addr.eq-value).it a d ≡ true → a ≡ d
 same_addr a d e = ap (λ (bytes : List ℕ). record { 0 = bytes }) ((bytes_eq-Decides a.0 d.0).0 e)
@@ -54,9 +54,6 @@ same_station (Associated x) (Associated y) e =
     let aids = same_aid x.aid y.aid ((Decides-eqb x.aid.number y.aid.number).0 first.0) in
     (λ i. Associated (record { aid = aids i; capability = (Decides-eqb x.capability y.capability).0 behind.0 i; listen_interval = (Decides-eqb x.listen_interval y.listen_interval).0 behind.1 i }))
 same_station s t e = absurd (false≢true e)
-
-same_limit : (x y : StationLimit) → x.count ≡ y.count → x ≡ y
-same_limit x y e = ap (λ (p : (n : ℕ) × (n ≤ MAX_STATIONS)). record { count = p.0; in_range = p.1 }) (Σ_prop_path {B = λ n. n ≤ MAX_STATIONS} (λ n. le_prop) {u = (x.count, x.in_range)} {v = (y.count, y.in_range)} e)
 
 same_policy : (x y : BssPolicy) → (policy.eq-value).it x y ≡ true → x ≡ y
 same_policy x y e =

@@ -11,7 +11,7 @@ use Rattle.std.proofs.lemmas.Option.{same_Some}
 use Rattle.std.specs.FinMap.{IsAntisymmetric}
 use Rattle.apd_base.specs.Addr.{is_among, addr_cmp}
 use Rattle.apd_base.specs.declared.address.Addr.{Addr}
-use Rattle.apd_base.proofs.AddrLaws.{addr_total, addr_exact}
+use Rattle.apd_base.proofs.AddrLaws.{addr_total, addr_exact, same_addr}
 use Rattle.apd_base.proofs.MapLaws.{one_or_apart, tied}
 use Rattle.apd_acl.specs.Least.{IsLeast, IsLeastAbove}
 use Rattle.apd_ctrl.specs.Order.{Rising}
@@ -32,9 +32,6 @@ less Greater e = cc
 pub same_key : {K : Type 0} {R : K → K → Ordering} → IsTotalOrder R → IsAntisymmetric R → (k l : K) → eq_by_cmp R k l ≡ true → k ≡ l
 same_key {K} {R} o exact k l e = elim (one_or_apart o exact k l) [ inl same ↦ same | inr ne ↦ absurd (both_ways (eq_by_cmp R k l) ne e) ]
 
-same_addr : (a c : Addr) → eq_by_cmp addr_cmp a c ≡ true → a ≡ c
-same_addr a c e = same_key addr_total addr_exact a c e
-
 or_parts : (t u : Bool) → (t || u) ≡ true → (t ≡ true) ⊎ (u ≡ true)
 or_parts true u e = inl refl
 or_parts false u e = inr e
@@ -47,7 +44,7 @@ or_right false u e = e
 below_among : (a c : Addr) (all : List Addr) → AllByRecursion (λ c. addr_cmp a c ≡ Less) all → is_among c all ≡ true → addr_cmp a c ≡ Less
 below_among a c [] h e = cc
 below_among a c (d ∷ all) h e = elim (or_parts (eq_by_cmp addr_cmp c d) (is_among c all) e) [
-  | inl here ↦ ap (addr_cmp a) (same_addr c d here) ∙ h.0
+  | inl here ↦ ap (addr_cmp a) (same_addr d c here) ∙ h.0
   | inr later ↦ below_among a c all h.1 later
 ]
 
@@ -61,7 +58,7 @@ found_least q (d ∷ all) a h e =
           subst (IsLeast (λ c. IsTrue (is_among c (d ∷ all)) × IsTrue (q c))) same (record {
             has = (ap (λ t. t || is_among d all) (tied addr_total addr_exact d), pass);
             least = λ c p. elim (or_parts (eq_by_cmp addr_cmp c d) (is_among c all) p.0) [
-              | inl here ↦ tied_not (addr_cmp d c) (ap (addr_cmp d) (same_addr c d here) ∙ tied_itself addr_total d)
+              | inl here ↦ tied_not (addr_cmp d c) (ap (addr_cmp d) (same_addr d c here) ∙ tied_itself addr_total d)
               | inr later ↦ greater (addr_cmp d c) (below_among d c all h.0 later)
             ];
           })
@@ -70,7 +67,7 @@ found_least q (d ∷ all) a h e =
           record {
             has = (or_right (eq_by_cmp addr_cmp a d) (is_among a all) rest.has.0, rest.has.1);
             least = λ c p. elim (or_parts (eq_by_cmp addr_cmp c d) (is_among c all) p.0) [
-              | inl here ↦ absurd (both_ways (q d) fails (ap q (sym (same_addr c d here)) ∙ p.1))
+              | inl here ↦ absurd (both_ways (q d) fails (ap q (sym (same_addr d c here)) ∙ p.1))
               | inr later ↦ rest.least c (later, p.1)
             ];
           }
@@ -82,7 +79,7 @@ found_none q (d ∷ all) e c among pass =
     elim (q d) as (λ t. q d ≡ t → cond t (Some d) (find q all) ≡ None → ⊥) [
       | true ↦ λ yes e. cc
       | false ↦ λ no e. elim (or_parts (eq_by_cmp addr_cmp c d) (is_among c all) among) [
-        | inl here ↦ both_ways (q d) no (ap q (sym (same_addr c d here)) ∙ pass)
+        | inl here ↦ both_ways (q d) no (ap q (sym (same_addr d c here)) ∙ pass)
         | inr later ↦ found_none q all e c later pass
       ]
     ] refl e

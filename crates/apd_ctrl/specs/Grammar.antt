@@ -97,7 +97,8 @@ IsRead line (Err why) = (name : Option (List ℕ)) × (text : List ℕ) × IsSpl
 
 -- what a line is: one that is too long fails whatever it says
 abbrev pub IsLineOutcome : List ℕ → Result (Option (List ℕ) × Command) Refusal → Type 0
-IsLineOutcome line outcome = ((length line ≤ MAX_COMMAND) × IsRead line outcome) ⊎ ((MAX_COMMAND < length line) × (outcome ≡ Err Fail))
+IsLineOutcome line outcome =
+    ((length line ≤ MAX_COMMAND) × IsRead line outcome) ⊎ ((MAX_COMMAND < length line) × (outcome ≡ Err Fail))
 
 -- what bytes are as a command: what their line is
 abbrev pub IsOutcome : List ℕ → Result (Option (List ℕ) × Command) Refusal → Type 0

@@ -39,7 +39,9 @@ named line name None = (None, line)
 named line name (Some rest) = (Some name, rest)
 
 abbrev pub split_prefix : List ℕ → Option (List ℕ) × List ℕ
-split_prefix line = if starts_with nat_eq line (codes "IFNAME=") then named line (word (drop 7 line)) (behind (drop 7 line)) else (None, line)
+split_prefix line =
+    if starts_with nat_eq line (codes "IFNAME=") then named line (word (drop 7 line)) (behind (drop 7 line)) else
+    (None, line)
 
 -- the number of a reason: 1 to 5 decimal digits that write a number from 0 to 65535
 abbrev pub reason_number : List ℕ → Option ℕ
@@ -50,7 +52,8 @@ as_reason n = record { 0 = n }
 
 -- the reason that is given, and 2 where none is
 abbrev pub reason_given : List ℕ → Option Reason
-reason_given text = if starts_with nat_eq text (codes " reason=") then option_map as_reason (reason_number (drop 8 text)) else None
+reason_given text =
+    if starts_with nat_eq text (codes " reason=") then option_map as_reason (reason_number (drop 8 text)) else None
 
 abbrev pub reason_of : List ℕ → Option Reason
 reason_of text = if length text == 0 then Some (as_reason 2) else reason_given text
@@ -62,14 +65,18 @@ both (Some a) None = None
 both None b = None
 
 abbrev pub dismissal_of : List ℕ → Option (Addr × Reason)
-dismissal_of text = if nat_lt (length text) TEXT_LENGTH then None else both (address_of (take TEXT_LENGTH text)) (reason_of (drop TEXT_LENGTH text))
+dismissal_of text =
+    if nat_lt (length text) TEXT_LENGTH then None else both (address_of (take TEXT_LENGTH text))
+    (reason_of (drop TEXT_LENGTH text))
 
 abbrev pub list_with : Which → List ℕ → Option (List ℕ) → Option Command
 list_with which verb None =
-    if bytes_eq verb (codes "SHOW") then Some (c.Show which) else (if bytes_eq verb (codes "CLEAR") then Some (c.ListEdit which Clear) else None)
+    if bytes_eq verb (codes "SHOW") then Some (c.Show which) else
+    (if bytes_eq verb (codes "CLEAR") then Some (c.ListEdit which Clear) else None)
 list_with which verb (Some text) =
     if bytes_eq verb (codes "ADD_MAC") then option_map (λ a. c.ListEdit which (Add a)) (address_of text)
-    else (if bytes_eq verb (codes "DEL_MAC") then option_map (λ a. c.ListEdit which (Remove a)) (address_of text) else None)
+    else (if bytes_eq verb (codes "DEL_MAC") then option_map (λ a. c.ListEdit which (Remove a))
+    (address_of text) else None)
 
 abbrev pub list_command : Which → List ℕ → Option Command
 list_command which text = list_with which (word text) (behind text)

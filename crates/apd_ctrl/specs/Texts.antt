@@ -86,7 +86,8 @@ abbrev pub count_lines : ℕ → List ℕ
 count_lines n = codes "\nnum_sta[0]=" ++ (decimal n ++ codes "\n")
 
 abbrev pub status_text : State → Conf → Bssid → Bool → List ℕ
-status_text s conf b up = radio_lines conf up ++ (text_of b.0 ++ (codes "\nssid[0]=" ++ (escaped conf.ssid ++ count_lines (count s b))))
+status_text s conf b up =
+    radio_lines conf up ++ (text_of b.0 ++ (codes "\nssid[0]=" ++ (escaped conf.ssid ++ count_lines (count s b))))
 
 -- a reply where the BSSID is configured, and else a failure
 abbrev pub configured : (Conf → List ℕ) → Option Conf → List ℕ

@@ -18,7 +18,8 @@ spelling (w.List Accept) = codes "ACCEPT_ACL"
 spelling (w.List Deny) = codes "DENY_ACL"
 
 abbrev pub words : List Word
-words = w.Ping ∷ w.Status ∷ w.Sta ∷ w.StaFirst ∷ w.StaNext ∷ w.Deauthenticate ∷ w.Disassociate ∷ w.List Accept ∷ w.List Deny ∷ []
+words = w.Ping ∷ w.Status ∷ w.Sta ∷ w.StaFirst ∷ w.StaNext ∷ w.Deauthenticate ∷ w.Disassociate ∷ w.List Accept
+    ∷ w.List Deny ∷ []
 
 -- the word that bytes spell: each byte counts, and so does the case of letters
 unfoldable pub word_among : List ℕ → List Word → Option Word

@@ -2,13 +2,13 @@
 //! texts of the replies. Values, ranges and texts are this daemon's own.
 #![tactic(auto)]
 
-pub mod command;
-pub mod escapes;
-pub mod parser;
-pub mod replies;
+mod command;
+mod escapes;
+mod parser;
+mod replies;
 mod word;
 
 pub use command::{Command, Placed, Query};
 pub use escapes::escape;
-pub use parser::{FAIL, Parsed, UNKNOWN_COMMAND, exactly_one_outcome, parse_command};
+pub use parser::{FAIL, Parsed, Refusal, UNKNOWN_COMMAND, exactly_one_outcome, parse_command};
 pub use replies::{addresses_law, reply};

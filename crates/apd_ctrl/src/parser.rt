@@ -8,10 +8,9 @@ ghost use Rattle.apd_ctrl.specs.Reading.{behind, command_of, command_with, dismi
 
 use crate::command::Command;
 use crate::word::{Word, word_of};
-use apd_base::address::TEXT_LENGTH;
 use apd_base::limits::MAX_COMMAND;
 use apd_base::text::{decimal_u16, first_blank};
-use apd_base::{Addr, Which};
+use apd_base::{Addr, TEXT_LENGTH, Which};
 use apd_frame::Reason;
 use apd_mlme::Edit;
 
@@ -186,5 +185,6 @@ impl Parsed<'_> {
 /// Of any bytes exactly one outcome holds by the table of commands, and it is what [`parse_command`]
 /// answers.
 pub fn exactly_one_outcome()
-    ensures { (bytes : List ℕ) (x : Result (Option (List ℕ) × Order) Refused) → IsOutcome bytes x ↔ (x ≡ outcome bytes) }
+    ensures { (bytes : List ℕ) (x : Result (Option (List ℕ) × Order) Refused)
+        → IsOutcome bytes x ↔ (x ≡ outcome bytes) }
 {}

@@ -97,7 +97,8 @@ fn row_reply(alloc: Global, row: Option<(Addr, Station)>) -> Result<Vec<u8>, All
 }
 
 fn first_reply(alloc: Global, table: &Table, bssid: Bssid) -> Result<Vec<u8>, AllocError>
-    ensures { IfOk result (λ reply. reply.items ≡ found_reply table.now bssid (slice_get (addresses_at table.now bssid) 0)) }
+    ensures { IfOk result
+        (λ reply. reply.items ≡ found_reply table.now bssid (slice_get (addresses_at table.now bssid) 0)) }
 {
     row_reply(alloc, table.first(bssid))
 }
@@ -109,13 +110,15 @@ fn reply_behind(
     bssid: Bssid,
     addr: Addr,
 ) -> Result<Vec<u8>, AllocError>
-    ensures { IfOk result (λ reply. reply.items ≡ found_reply table.now bssid (find (is_above addr) (addresses_at table.now bssid))) }
+    ensures { IfOk result
+        (λ reply. reply.items ≡ found_reply table.now bssid (find (is_above addr) (addresses_at table.now bssid))) }
 {
     row_reply(alloc, table.next(bssid, addr))
 }
 
 fn next_reply(alloc: Global, table: &Table, bssid: Bssid, addr: Addr) -> Result<Vec<u8>, AllocError>
-    ensures { IfOk result (λ reply. reply.items ≡ texts.next_reply table.now bssid addr (station_at table.now bssid addr)) }
+    ensures { IfOk result
+        (λ reply. reply.items ≡ texts.next_reply table.now bssid addr (station_at table.now bssid addr)) }
 {
     match table.get(bssid, addr) {
         None => Vec::from_slice(alloc, FAIL),
@@ -241,5 +244,6 @@ pub fn addresses_law()
     ensures stations_rise { (s : State) (b : At) → Rising (addresses_at s b) }
     ensures stations { (s : State) (b : At) (a : Address) → is_among a (addresses_at s b) ≡ is_some (station_at s b a) }
     ensures listed_rise { (s : State) (b : At) (w : WhichList) → Rising (listed_addresses s b w) }
-    ensures listed { (s : State) (b : At) (w : WhichList) (a : Address) → is_among a (listed_addresses s b w) ≡ contains s.lists (b, w, a) }
+    ensures listed { (s : State) (b : At) (w : WhichList) (a : Address)
+        → is_among a (listed_addresses s b w) ≡ contains s.lists (b, w, a) }
 {}

@@ -1,18 +1,18 @@
 //! A core that threads share: one lock, a seat for each that asks, and the workers round it.
 #![tactic(auto)]
 
-pub mod clock;
+mod clock;
 mod controlling;
 mod flushing;
-pub mod gate;
+mod gate;
 mod idle;
 pub mod laws;
 mod locked;
 mod notes;
-pub mod port;
+mod port;
 mod receiving;
-pub mod seat;
-pub mod shared;
+mod seat;
+mod shared;
 mod submitting;
 mod ticking;
 

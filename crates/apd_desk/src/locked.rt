@@ -107,7 +107,8 @@ impl<L: Ledger> Locked<L> {
         ensures accepted { IfOk result (λ answer. self.new.accepted ≡ self.old.accepted + entries_in answer) }
         ensures seen { seat.new.seen ≡ seat.old.seen }
         ensures given { self.new.given ≡ self.old.given }
-        ensures err { OnErr result ((self.new.core ≡ self.old.core) × (self.new.accepted ≡ self.old.accepted) × (seat.new.count ≡ seat.old.count)) }
+        ensures err { OnErr result ((self.new.core ≡ self.old.core) × (self.new.accepted ≡ self.old.accepted)
+            × (seat.new.count ≡ seat.old.count)) }
     {
         let Locked {
             core,
@@ -133,7 +134,9 @@ impl<L: Ledger> Locked<L> {
     /// it was.
     pub(crate) fn ask(&self, seat: &mut Seat<L>, query: Query) -> Result<Answer, AskFault>
         ensures answer { IfOk result (λ answer. answer ≡ answered self.now.core query) }
-        ensures behind { (number : ℕ) → (result ≡ Err (AskFault.Behind number)) ↔ ((number ≡ self.now.core.number) × IsBehind self.now.core.number seat.old.seen) }
+        ensures behind { (number : ℕ)
+            → (result ≡ Err (AskFault.Behind number))
+            ↔ ((number ≡ self.now.core.number) × IsBehind self.now.core.number seat.old.seen) }
         ensures seen { OnOk result (seat.new.seen ≡ self.now.core.number) }
         ensures never_back { OnOk result (seat.old.seen ≤ seat.new.seen) }
         ensures count { seat.new.count ≡ seat.old.count }
@@ -207,7 +210,11 @@ impl<L: Ledger> Locked<L> {
 
     /// What a worker sees now.
     pub(crate) fn look(&self) -> Look
-        ensures { result ≡ record { stopped = self.now.stopped; accepted = self.now.accepted; settled = self.now.core.number } }
+        ensures { result ≡ record {
+          stopped = self.now.stopped;
+          accepted = self.now.accepted;
+          settled = self.now.core.number;
+        } }
     {
         Look {
             stopped: self.stopped,
@@ -228,8 +235,10 @@ impl<L: Ledger> Locked<L> {
 
     /// Notes whether a radio is up; nothing where eight others are noted.
     pub(crate) fn note(&mut self, bssid: Bssid, up: bool)
-        ensures own { (is_noted_up self.new.notes.noted bssid ≡ up) ⊎ (position (is_for bssid) self.old.notes.noted ≡ None) }
-        ensures others { (other : Address) → other ≢ bssid → is_noted_up self.new.notes.noted other ≡ is_noted_up self.old.notes.noted other }
+        ensures own { (is_noted_up self.new.notes.noted bssid ≡ up)
+            ⊎ (position (is_for bssid) self.old.notes.noted ≡ None) }
+        ensures others { (other : Address) → other ≢ bssid
+            → is_noted_up self.new.notes.noted other ≡ is_noted_up self.old.notes.noted other }
         ensures core { self.new.core ≡ self.old.core }
         ensures accepted { self.new.accepted ≡ self.old.accepted }
         ensures given { self.new.given ≡ self.old.given }
@@ -246,7 +255,8 @@ impl<L: Ledger> Locked<L> {
 
     /// The BSSID of the interface of a name, and where none is named that of the first one.
     pub(crate) fn interface(&self, name: Option<&[u8]>) -> Option<Bssid>
-        ensures named { (text : List ℕ) → option_copied name.entry ≡ Some text → result ≡ option_map (λ conf. conf.bssid) (conf_named self.now.core.confs text) }
+        ensures named { (text : List ℕ) → option_copied name.entry ≡ Some text
+            → result ≡ option_map (λ conf. conf.bssid) (conf_named self.now.core.confs text) }
     {
         let confs = self.core.confs();
         let conf = match name {

@@ -61,7 +61,8 @@ impl Notes {
     /// Notes it, over what was noted of the BSSID; nothing where eight others are noted.
     pub(crate) fn note(&mut self, bssid: Bssid, up: bool)
         ensures own { (is_noted_up self.new.noted bssid ≡ up) ⊎ (position (is_for bssid) self.old.noted ≡ None) }
-        ensures others { (other : Address) → other ≢ bssid → is_noted_up self.new.noted other ≡ is_noted_up self.old.noted other }
+        ensures others { (other : Address) → other ≢ bssid
+            → is_noted_up self.new.noted other ≡ is_noted_up self.old.noted other }
     {
         if let Some(place) = place_for(&self.noted, bssid) {
             self.noted[place] = Some((bssid, up));

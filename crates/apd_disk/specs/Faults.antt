@@ -3,7 +3,8 @@ use Rattle.std.specs.Prelude.{◌≡◌, ◌+◌, ℕ, Option, Result, Some, Non
 use Rattle.apd_disk.specs.Disk.{Counts}
 
 -- One call of a fuse over this disk, which became that. The numbers are how many calls it still passes; it has none once a call has failed.
-pub record FuseCall {D T E : Type 0} (failed : D → ℕ) (old new : D) (before after : Option ℕ) (result : Result T E) : Type 0 where
+pub record FuseCall {D T E : Type 0} (failed : D → ℕ) (old new : D) (before after : Option ℕ)
+    (result : Result T E) : Type 0 where
   -- passed on: a fault is the disk's own
   pub passed : (n : ℕ) → before ≡ Some (n + 1) → (after ≡ Some n) × Counts (failed old) (failed new) result
   -- the next is answered as failed, whatever the disk made of it
@@ -12,7 +13,8 @@ pub record FuseCall {D T E : Type 0} (failed : D → ℕ) (old new : D) (before 
   pub blown : before ≡ None → (after ≡ None) × IsErr result × (new ≡ old)
 
 -- One call of a disk that fails one call alone. The numbers are how many calls come before it; there is none once it has failed.
-pub record OnceCall {D T E : Type 0} (failed : D → ℕ) (old new : D) (before after : Option ℕ) (result : Result T E) : Type 0 where
+pub record OnceCall {D T E : Type 0} (failed : D → ℕ) (old new : D) (before after : Option ℕ)
+    (result : Result T E) : Type 0 where
   -- passed on: a fault is the disk's own
   pub passed : (n : ℕ) → before ≡ Some (n + 1) → (after ≡ Some n) × Counts (failed old) (failed new) result
   -- the chosen one is not passed on

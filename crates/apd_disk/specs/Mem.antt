@@ -28,7 +28,8 @@ TornFrom images at n c = (d : List ℕ) × images d × TornWithin at n d c
 abbrev pub Leaves : (List ℕ → Type 0) → List ℕ → List Call → List ℕ → Type 0
 Leaves images reads [] c = images c
 Leaves images reads (Read at n ∷ calls) c = Leaves images reads calls c
-Leaves images reads (Write at bytes ∷ calls) c = Leaves (TornFrom images at (length bytes)) (overwritten reads at bytes) calls c
+Leaves images reads (Write at bytes ∷ calls) c =
+    Leaves (TornFrom images at (length bytes)) (overwritten reads at bytes) calls c
 Leaves images reads (Sync ∷ calls) c = Leaves (λ d. d ≡ reads) reads calls c
 
 abbrev pub LeftAfter : List ℕ → List Call → List ℕ → Type 0
@@ -66,7 +67,10 @@ torn_byte (Byte b) true old new = b
 -- each byte is the one of the last sync or, where it was written since, what the kind of stop makes of it
 pub record IsCrashImage (torn : Torn) (initial : List ℕ) (calls : List Call) (image : List ℕ) : Type 0 where
   pub same_length : length image ≡ length initial
-  pub each : (i : ℕ) → i < length initial → get_or image i 0 ≡ torn_byte torn (is_unsynced i false calls) (get_or (synced_after initial initial calls) i 0) (get_or (reads_after initial calls) i 0)
+  pub each : (i : ℕ) → i < length initial
+      → get_or image i 0
+      ≡ torn_byte torn (is_unsynced i false calls) (get_or (synced_after initial initial calls) i 0)
+      (get_or (reads_after initial calls) i 0)
 
 -- none of the calls is a sync
 abbrev pub has_no_sync : List Call → Bool

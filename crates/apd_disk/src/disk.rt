@@ -48,7 +48,8 @@ pub trait Disk {
         ensures bytes { honest self.old → OnOk result (buf.new ≡ take (length buf.old) (drop at (reads self.old))) }
         ensures reads { honest self.old → OnOk result (reads self.new ≡ reads self.old) }
         ensures stop { honest self.old → Within (left_since self.new (moment self.old)) (may_leave self.old) }
-        ensures time { honest self.old → Elapses (moment self.old) (moment self.new) (left_since self.old) (left_since self.new) };
+        ensures time { honest self.old
+            → Elapses (moment self.old) (moment self.new) (left_since self.old) (left_since self.new) };
 
     /// Writes the bytes from `at` on. The range lies inside the device. Failed or not, a stop may leave any
     /// bytes in the range until a sync succeeds.
@@ -60,8 +61,10 @@ pub trait Disk {
         ensures count { Counts (failed self.old) (failed self.new) result }
         ensures honest { honest self.old ↔ honest self.new }
         ensures written { honest self.old → OnOk result (reads self.new ≡ overwritten (reads self.old) at bytes.now) }
-        ensures stop { honest self.old → Follows (TornWithin at (length bytes.now)) (may_leave self.old) (left_since self.new (moment self.old)) }
-        ensures time { honest self.old → Elapses (moment self.old) (moment self.new) (left_since self.old) (left_since self.new) };
+        ensures stop { honest self.old
+            → Follows (TornWithin at (length bytes.now)) (may_leave self.old) (left_since self.new (moment self.old)) }
+        ensures time { honest self.old
+            → Elapses (moment self.old) (moment self.new) (left_since self.old) (left_since self.new) };
 
     /// Makes what was written durable: where it succeeds, a stop leaves what a read gives.
     ///
@@ -73,19 +76,22 @@ pub trait Disk {
         ensures durable { honest self.old → OnOk result (Only (reads self.old) (may_leave self.new)) }
         ensures reads { honest self.old → OnOk result (reads self.new ≡ reads self.old) }
         ensures stop { honest self.old → Within (left_since self.new (moment self.old)) (may_leave self.old) }
-        ensures time { honest self.old → Elapses (moment self.old) (moment self.new) (left_since self.old) (left_since self.new) };
+        ensures time { honest self.old
+            → Elapses (moment self.old) (moment self.new) (left_since self.old) (left_since self.new) };
 
     /// What a read gives, a stop may leave.
     ghost reads_may_be_left: { (disk : Self) → honest disk → may_leave disk (reads disk) };
 
     /// This moment is one of those since an earlier one.
-    ghost counts_now: { (disk : Self) (t : ℕ) (c : List ℕ) → honest disk → t ≤ moment disk → may_leave disk c → left_since disk t c };
+    ghost counts_now: { (disk : Self) (t : ℕ) (c : List ℕ) → honest disk → t ≤ moment disk → may_leave disk c
+        → left_since disk t c };
 
     /// Since this moment there is no other.
     ghost only_now: { (disk : Self) (c : List ℕ) → honest disk → left_since disk (moment disk) c → may_leave disk c };
 
     /// A stop since a later moment is one since an earlier moment.
-    ghost since_earlier: { (disk : Self) (t u : ℕ) (c : List ℕ) → honest disk → t ≤ u → left_since disk u c → left_since disk t c };
+    ghost since_earlier: { (disk : Self) (t u : ℕ) (c : List ℕ) → honest disk → t ≤ u → left_since disk u c
+        → left_since disk t c };
 
     /// Each image has the disk's length.
     ghost same_size: { (disk : Self) (t : ℕ) (c : List ℕ) → honest disk → left_since disk t c → length c ≡ size disk };

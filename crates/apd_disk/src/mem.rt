@@ -218,8 +218,11 @@ impl Disk for MemDisk {
         ensures kept { self.new.bytes.items ≡ self.old.bytes.items }
         ensures bytes { OnOk result (buf.new ≡ take (length buf.old) (drop at self.old.bytes.items)) }
         ensures untouched { OnErr result (buf.new ≡ buf.old) }
-        ensures stop { Within (LeftBetween self.new.initial.items self.new.calls.items (length self.old.calls.items)) (LeftAfter self.old.initial.items self.old.calls.items) }
-        ensures time { Elapses (length self.old.calls.items) (length self.new.calls.items) (LeftBetween self.old.initial.items self.old.calls.items) (LeftBetween self.new.initial.items self.new.calls.items) }
+        ensures stop { Within (LeftBetween self.new.initial.items self.new.calls.items (length self.old.calls.items))
+            (LeftAfter self.old.initial.items self.old.calls.items) }
+        ensures time { Elapses (length self.old.calls.items) (length self.new.calls.items)
+            (LeftBetween self.old.initial.items self.old.calls.items)
+            (LeftBetween self.new.initial.items self.new.calls.items) }
     {
         match record(&mut self.calls, Call::Read(at, buf.len())) {
             Ok(()) => {
@@ -240,8 +243,11 @@ impl Disk for MemDisk {
         ensures initial { self.new.initial.items ≡ self.old.initial.items }
         ensures written { OnOk result (self.new.bytes.items ≡ overwritten self.old.bytes.items at bytes.now) }
         ensures unwritten { OnErr result (self.new.bytes.items ≡ self.old.bytes.items) }
-        ensures stop { Follows (TornWithin at (length bytes.now)) (LeftAfter self.old.initial.items self.old.calls.items) (LeftBetween self.new.initial.items self.new.calls.items (length self.old.calls.items)) }
-        ensures time { Elapses (length self.old.calls.items) (length self.new.calls.items) (LeftBetween self.old.initial.items self.old.calls.items) (LeftBetween self.new.initial.items self.new.calls.items) }
+        ensures stop { Follows (TornWithin at (length bytes.now)) (LeftAfter self.old.initial.items self.old.calls.items)
+            (LeftBetween self.new.initial.items self.new.calls.items (length self.old.calls.items)) }
+        ensures time { Elapses (length self.old.calls.items) (length self.new.calls.items)
+            (LeftBetween self.old.initial.items self.old.calls.items)
+            (LeftBetween self.new.initial.items self.new.calls.items) }
     {
         match record_write(self.alloc, &mut self.calls, at, bytes) {
             Ok(()) => {
@@ -259,8 +265,11 @@ impl Disk for MemDisk {
         ensures initial { self.new.initial.items ≡ self.old.initial.items }
         ensures kept { self.new.bytes.items ≡ self.old.bytes.items }
         ensures durable { OnOk result (Only self.old.bytes.items (LeftAfter self.new.initial.items self.new.calls.items)) }
-        ensures stop { Within (LeftBetween self.new.initial.items self.new.calls.items (length self.old.calls.items)) (LeftAfter self.old.initial.items self.old.calls.items) }
-        ensures time { Elapses (length self.old.calls.items) (length self.new.calls.items) (LeftBetween self.old.initial.items self.old.calls.items) (LeftBetween self.new.initial.items self.new.calls.items) }
+        ensures stop { Within (LeftBetween self.new.initial.items self.new.calls.items (length self.old.calls.items))
+            (LeftAfter self.old.initial.items self.old.calls.items) }
+        ensures time { Elapses (length self.old.calls.items) (length self.new.calls.items)
+            (LeftBetween self.old.initial.items self.old.calls.items)
+            (LeftBetween self.new.initial.items self.new.calls.items) }
     {
         match record(&mut self.calls, Call::Sync) {
             Ok(()) => Ok(()),

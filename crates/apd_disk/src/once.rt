@@ -81,12 +81,17 @@ impl<D: Disk> Disk for OnceDisk<D> {
     fn read_at(&mut self, at: usize, buf: &mut [u8]) -> Result<(), DiskFault>
         requires { at + length buf.old ≤ D.size self.old.inner }
         ensures size { D.size self.new.inner ≡ D.size self.old.inner }
-        ensures count { Counts (min (D.failed self.old.inner + self.old.failures) (2 ^ 64 - 1)) (min (D.failed self.new.inner + self.new.failures) (2 ^ 64 - 1)) result }
+        ensures count { Counts (min (D.failed self.old.inner + self.old.failures) (2 ^ 64 - 1))
+            (min (D.failed self.new.inner + self.new.failures) (2 ^ 64 - 1)) result }
         ensures honest { D.honest self.old.inner ↔ D.honest self.new.inner }
-        ensures bytes { D.honest self.old.inner → OnOk result (buf.new ≡ take (length buf.old) (drop at (D.reads self.old.inner))) }
+        ensures bytes { D.honest self.old.inner
+            → OnOk result (buf.new ≡ take (length buf.old) (drop at (D.reads self.old.inner))) }
         ensures reads { D.honest self.old.inner → OnOk result (D.reads self.new.inner ≡ D.reads self.old.inner) }
-        ensures stop { D.honest self.old.inner → Within (D.left_since self.new.inner (D.moment self.old.inner)) (D.may_leave self.old.inner) }
-        ensures time { D.honest self.old.inner → Elapses (D.moment self.old.inner) (D.moment self.new.inner) (D.left_since self.old.inner) (D.left_since self.new.inner) }
+        ensures stop { D.honest self.old.inner
+            → Within (D.left_since self.new.inner (D.moment self.old.inner)) (D.may_leave self.old.inner) }
+        ensures time { D.honest self.old.inner
+            → Elapses (D.moment self.old.inner) (D.moment self.new.inner) (D.left_since self.old.inner)
+            (D.left_since self.new.inner) }
         ensures passed { OnceCall D.failed self.old.inner self.new.inner self.old.before self.new.before result }
     {
         match self.before {
@@ -105,11 +110,17 @@ impl<D: Disk> Disk for OnceDisk<D> {
     fn write_at(&mut self, at: usize, bytes: &[u8]) -> Result<(), DiskFault>
         requires { at + length bytes.now ≤ D.size self.old.inner }
         ensures size { D.size self.new.inner ≡ D.size self.old.inner }
-        ensures count { Counts (min (D.failed self.old.inner + self.old.failures) (2 ^ 64 - 1)) (min (D.failed self.new.inner + self.new.failures) (2 ^ 64 - 1)) result }
+        ensures count { Counts (min (D.failed self.old.inner + self.old.failures) (2 ^ 64 - 1))
+            (min (D.failed self.new.inner + self.new.failures) (2 ^ 64 - 1)) result }
         ensures honest { D.honest self.old.inner ↔ D.honest self.new.inner }
-        ensures written { D.honest self.old.inner → OnOk result (D.reads self.new.inner ≡ overwritten (D.reads self.old.inner) at bytes.now) }
-        ensures stop { D.honest self.old.inner → Follows (TornWithin at (length bytes.now)) (D.may_leave self.old.inner) (D.left_since self.new.inner (D.moment self.old.inner)) }
-        ensures time { D.honest self.old.inner → Elapses (D.moment self.old.inner) (D.moment self.new.inner) (D.left_since self.old.inner) (D.left_since self.new.inner) }
+        ensures written { D.honest self.old.inner
+            → OnOk result (D.reads self.new.inner ≡ overwritten (D.reads self.old.inner) at bytes.now) }
+        ensures stop { D.honest self.old.inner
+            → Follows (TornWithin at (length bytes.now)) (D.may_leave self.old.inner)
+            (D.left_since self.new.inner (D.moment self.old.inner)) }
+        ensures time { D.honest self.old.inner
+            → Elapses (D.moment self.old.inner) (D.moment self.new.inner) (D.left_since self.old.inner)
+            (D.left_since self.new.inner) }
         ensures passed { OnceCall D.failed self.old.inner self.new.inner self.old.before self.new.before result }
     {
         match self.before {
@@ -127,12 +138,17 @@ impl<D: Disk> Disk for OnceDisk<D> {
 
     fn sync(&mut self) -> Result<(), DiskFault>
         ensures size { D.size self.new.inner ≡ D.size self.old.inner }
-        ensures count { Counts (min (D.failed self.old.inner + self.old.failures) (2 ^ 64 - 1)) (min (D.failed self.new.inner + self.new.failures) (2 ^ 64 - 1)) result }
+        ensures count { Counts (min (D.failed self.old.inner + self.old.failures) (2 ^ 64 - 1))
+            (min (D.failed self.new.inner + self.new.failures) (2 ^ 64 - 1)) result }
         ensures honest { D.honest self.old.inner ↔ D.honest self.new.inner }
-        ensures durable { D.honest self.old.inner → OnOk result (Only (D.reads self.old.inner) (D.may_leave self.new.inner)) }
+        ensures durable { D.honest self.old.inner
+            → OnOk result (Only (D.reads self.old.inner) (D.may_leave self.new.inner)) }
         ensures reads { D.honest self.old.inner → OnOk result (D.reads self.new.inner ≡ D.reads self.old.inner) }
-        ensures stop { D.honest self.old.inner → Within (D.left_since self.new.inner (D.moment self.old.inner)) (D.may_leave self.old.inner) }
-        ensures time { D.honest self.old.inner → Elapses (D.moment self.old.inner) (D.moment self.new.inner) (D.left_since self.old.inner) (D.left_since self.new.inner) }
+        ensures stop { D.honest self.old.inner
+            → Within (D.left_since self.new.inner (D.moment self.old.inner)) (D.may_leave self.old.inner) }
+        ensures time { D.honest self.old.inner
+            → Elapses (D.moment self.old.inner) (D.moment self.new.inner) (D.left_since self.old.inner)
+            (D.left_since self.new.inner) }
         ensures passed { OnceCall D.failed self.old.inner self.new.inner self.old.before self.new.before result }
     {
         match self.before {

@@ -12,12 +12,14 @@ use Rattle.apd_flusher.specs.declared.phase.Phase.{Phase}
 use Rattle.apd_flusher.specs.declared.phase.Phase.TheVariants.{Idle, Busy, Done, Failed}
 
 -- no batch is under way: the table and what the device shows are the state
-pub record IsSteady {D : Type 0} (reads : D → List ℕ) (may_leave : D → List ℕ → Type 0) (flusher : Flusher D) (state : State) : Type 0 where
+pub record IsSteady {D : Type 0} (reads : D → List ℕ) (may_leave : D → List ℕ → Type 0) (flusher : Flusher D)
+    (state : State) : Type 0 where
   pub idle : IsIdle reads may_leave flusher.store state
   pub table : flusher.tables.table ≡ state
 
 -- a batch is under way from one state to the next, and its receipt is not given
-pub record IsFlushing {D : Type 0} (reads : D → List ℕ) (may_leave : D → List ℕ → Type 0) (flusher : Flusher D) (state after : State) : Type 0 where
+pub record IsFlushing {D : Type 0} (reads : D → List ℕ) (may_leave : D → List ℕ → Type 0) (flusher : Flusher D)
+    (state after : State) : Type 0 where
   pub committing : IsCommitting reads may_leave flusher.store state after
   pub table : flusher.tables.table ≡ state
   pub next : flusher.tables.staged ≡ after
@@ -28,7 +30,9 @@ IsStuck may_leave flusher state after = HasFailed may_leave flusher.store state 
 
 -- one of the three: at the first state, or on the way to the second
 abbrev pub Stands : {D : Type 0} → (D → List ℕ) → (D → List ℕ → Type 0) → Flusher D → State → State → Type 0
-Stands reads may_leave flusher state after = IsSteady reads may_leave flusher state ⊎ IsFlushing reads may_leave flusher state after ⊎ IsStuck may_leave flusher state after
+Stands reads may_leave flusher state after =
+    IsSteady reads may_leave flusher state ⊎ IsFlushing reads may_leave flusher state after
+    ⊎ IsStuck may_leave flusher state after
 
 -- What a stop shows, by the phase and how many calls are left. Within a call these are of the moment before it.
 abbrev pub StopShows : Phase → ℕ → State → State → List ℕ → Type 0

@@ -14,8 +14,7 @@ use apd_base::limits::MAX_GROUP;
 use apd_disk::Disk;
 use apd_journal::Batch;
 use apd_record::total_length;
-use apd_store::phase::Phase as StorePhase;
-use apd_store::{Receipt, Store, StoreFault};
+use apd_store::{Phase as StorePhase, Receipt, Store, StoreFault};
 use apd_table::{Staged, Table, TableFault};
 use std::alloc::Global;
 
@@ -39,7 +38,8 @@ impl<D: Disk> Flusher<D> {
     pub fn new(alloc: Global, store: Store<D>, table: Table) -> Result<Flusher<D>, (D, StoreFault)>
         ensures store { IfOk result (λ flusher. store_of flusher ≡ store) }
         ensures table { IfOk result (λ flusher. table_of flusher ≡ table) }
-        ensures steady { IsIdle D.reads D.may_leave store table → IfOk result (λ flusher. IsSteady D.reads D.may_leave flusher table) }
+        ensures steady { IsIdle D.reads D.may_leave store table
+            → IfOk result (λ flusher. IsSteady D.reads D.may_leave flusher table) }
         ensures device { IfErr result (λ e. e.0 ≡ store_device store) }
         ensures only { IfErr result (λ e. e.1 ≡ StoreFault.NoMemory) }
     {
@@ -91,7 +91,8 @@ impl<D: Disk> Flusher<D> {
     /// unsound; `Worn` exactly where the group does not fit and the epoch is the greatest. `NoMemory` may come
     /// in the place of the last two. A refusal leaves phase, table and device.
     pub fn load(&mut self, batch: Batch) -> Result<(), (Batch, StoreFault)>
-        ensures loaded { (state : State) → IsSteady D.reads D.may_leave self.old state → OnOk result (IsFlushing D.reads D.may_leave self.new state (meaning_of batch.changes state)) }
+        ensures loaded { (state : State) → IsSteady D.reads D.may_leave self.old state
+            → OnOk result (IsFlushing D.reads D.may_leave self.new state (meaning_of batch.changes state)) }
         ensures idle { OnOk result (phase_of self.old ≡ Phase.Idle) }
         ensures busy { OnOk result (phase_of self.new ≡ Phase.Busy) }
         ensures calls { OnOk result ((4 ≤ calls_left self.new) × (calls_left self.new ≤ 10)) }
@@ -108,10 +109,14 @@ impl<D: Disk> Flusher<D> {
         ensures stays { OnErr result (store_of self.new ≡ store_of self.old) }
         ensures rest { phase_of self.old ≢ Phase.Idle → self.new ≡ self.old }
         ensures failed { IfErr result (λ e. (e.1 ≡ StoreFault.Failed) ↔ (phase_of self.old ≡ Phase.Failed)) }
-        ensures not_idle { IfErr result (λ e. (e.1 ≡ StoreFault.NotIdle) ↔ ((phase_of self.old ≡ Phase.Busy) ⊎ (phase_of self.old ≡ Phase.Done))) }
+        ensures not_idle { IfErr result (λ e. (e.1 ≡ StoreFault.NotIdle)
+            ↔ ((phase_of self.old ≡ Phase.Busy) ⊎ (phase_of self.old ≡ Phase.Done))) }
         ensures bad { IfErr result (λ e. e.1 ≡ StoreFault.BadBatch → ¬ IsGood batch.changes (table_of self.old)) }
-        ensures worn { IfErr result (λ e. e.1 ≡ StoreFault.Worn → IsGood batch.changes (table_of self.old) × (¬ HasRoom self.old batch.changes) × (2 ^ 64 ≤ epoch_of self.old + 1)) }
-        ensures only { IfErr result (λ e. (e.1 ≡ StoreFault.Failed) ⊎ (e.1 ≡ StoreFault.NotIdle) ⊎ (e.1 ≡ StoreFault.BadBatch) ⊎ (e.1 ≡ StoreFault.Worn) ⊎ (e.1 ≡ StoreFault.NoMemory)) }
+        ensures worn { IfErr result (λ e. e.1 ≡ StoreFault.Worn
+            → IsGood batch.changes (table_of self.old) × (¬ HasRoom self.old batch.changes)
+            × (2 ^ 64 ≤ epoch_of self.old + 1)) }
+        ensures only { IfErr result (λ e. (e.1 ≡ StoreFault.Failed) ⊎ (e.1 ≡ StoreFault.NotIdle) ⊎ (e.1 ≡ StoreFault.BadBatch)
+            ⊎ (e.1 ≡ StoreFault.Worn) ⊎ (e.1 ≡ StoreFault.NoMemory)) }
     {
         match self.phase() {
             Phase::Idle => {}
@@ -151,20 +156,28 @@ impl<D: Disk> Flusher<D> {
     /// phase. A flusher whose store lies inside its device answers `Failed` only after a `Device`.
     pub fn turn(&mut self) -> Result<(), StoreFault>
         // A stop at some moment since the call began shows what the phase before it says.
-        ensures any_moment { (state after : State) → D.honest (device_of self.old) → Stands D.reads D.may_leave self.old state after
-            → LeavesOnly D.moment D.left_since (device_of self.old) (device_of self.new) (StopShows (phase_of self.old) (calls_left self.old) state after) }
-        ensures on { (state after : State) → D.honest (device_of self.old) → IsFlushing D.reads D.may_leave self.old state after
+        ensures any_moment { (state after : State) → D.honest (device_of self.old)
+            → Stands D.reads D.may_leave self.old state after
+            → LeavesOnly D.moment D.left_since (device_of self.old) (device_of self.new)
+            (StopShows (phase_of self.old) (calls_left self.old) state after) }
+        ensures on { (state after : State) → D.honest (device_of self.old)
+            → IsFlushing D.reads D.may_leave self.old state after
             → OnOk result (IsFlushing D.reads D.may_leave self.new state after) }
-        ensures stuck { (state after : State) → D.honest (device_of self.old) → IsFlushing D.reads D.may_leave self.old state after
+        ensures stuck { (state after : State) → D.honest (device_of self.old)
+            → IsFlushing D.reads D.may_leave self.old state after
             → OnErr result (IsStuck D.may_leave self.new state after) }
-        ensures stuck_early { (state after : State) → D.honest (device_of self.old) → IsFlushing D.reads D.may_leave self.old state after
+        ensures stuck_early { (state after : State) → D.honest (device_of self.old)
+            → IsFlushing D.reads D.may_leave self.old state after
             → 2 < calls_left self.old → OnErr result (IsStuck D.may_leave self.new state state) }
 
         // It makes the call that is next, and no other: each call takes the device's moment on by one at most.
-        ensures one_call { D.honest (device_of self.old) → D.moment (device_of self.new) ≤ D.moment (device_of self.old) + 1 }
+        ensures one_call { D.honest (device_of self.old)
+            → D.moment (device_of self.new) ≤ D.moment (device_of self.old) + 1 }
         ensures step { phase_of self.old ≡ Phase.Busy → OnOk result (calls_left self.new + 1 ≡ calls_left self.old) }
-        ensures busy { phase_of self.old ≡ Phase.Busy → OnOk result ((phase_of self.new ≡ Phase.Busy) ⊎ (phase_of self.new ≡ Phase.Done)) }
-        ensures done { OnOk result ((phase_of self.new ≡ Phase.Done) ↔ ((calls_left self.old ≡ 1) ⊎ (phase_of self.old ≡ Phase.Done))) }
+        ensures busy { phase_of self.old ≡ Phase.Busy
+            → OnOk result ((phase_of self.new ≡ Phase.Busy) ⊎ (phase_of self.new ≡ Phase.Done)) }
+        ensures done { OnOk result ((phase_of self.new ≡ Phase.Done)
+            ↔ ((calls_left self.old ≡ 1) ⊎ (phase_of self.old ≡ Phase.Done))) }
         ensures rest { phase_of self.old ≢ Phase.Busy → self.new ≡ self.old }
         ensures quiet { (phase_of self.old ≡ Phase.Idle) ⊎ (phase_of self.old ≡ Phase.Done) → IsOk result }
         ensures batch { batch_of self.new ≡ batch_of self.old }
@@ -176,11 +189,13 @@ impl<D: Disk> Flusher<D> {
         ensures err { OnErr result (phase_of self.new ≡ Phase.Failed) }
         ensures only { OnErr result ((result ≡ Err StoreFault.Device) ⊎ (result ≡ Err StoreFault.Failed)) }
         ensures failed { phase_of self.old ≡ Phase.Failed → result ≡ Err StoreFault.Failed }
-        ensures only_after { IsInside D.size self.old → IsErrOf result StoreFault.Failed → phase_of self.old ≡ Phase.Failed }
+        ensures only_after { IsInside D.size self.old → IsErrOf result StoreFault.Failed
+            → phase_of self.old ≡ Phase.Failed }
         ensures no_call { IsErrOf result StoreFault.Failed → device_of self.new ≡ device_of self.old }
         ensures count { D.failed (device_of self.old) ≤ D.failed (device_of self.new) }
         ensures no_fault { OnOk result (D.failed (device_of self.new) ≡ D.failed (device_of self.old)) }
-        ensures device { IsErrOf result StoreFault.Device → HasRisen (D.failed (device_of self.old)) (D.failed (device_of self.new)) }
+        ensures device { IsErrOf result StoreFault.Device
+            → HasRisen (D.failed (device_of self.old)) (D.failed (device_of self.new)) }
     {
         self.shown();
         self.store.next_call().map(|_| ())
@@ -191,7 +206,8 @@ impl<D: Disk> Flusher<D> {
     pub fn unload(&mut self) -> Option<Receipt>
         ensures exactly { IsSome result ↔ (phase_of self.old ≡ Phase.Done) }
         ensures receipt { IfSome result (λ receipt. held_batch receipt ≡ batch_of self.old) }
-        ensures settled { (state after : State) → IsFlushing D.reads D.may_leave self.old state after → OnSome result (IsSteady D.reads D.may_leave self.new after) }
+        ensures settled { (state after : State) → IsFlushing D.reads D.may_leave self.old state after
+            → OnSome result (IsSteady D.reads D.may_leave self.new after) }
         ensures idle { OnSome result (phase_of self.new ≡ Phase.Idle) }
         ensures table { OnSome result (table_of self.new ≡ next_of self.old) }
         ensures none { phase_of self.old ≢ Phase.Done → self.new ≡ self.old }
@@ -210,14 +226,17 @@ impl<D: Disk> Flusher<D> {
     pub fn commit(&mut self, batch: Batch) -> Result<Receipt, StoreFault>
         // Where the device does not fail, nothing but want of memory keeps such a batch from its receipt.
         ensures always { MayCommit D.size self.old batch.changes → D.failed (device_of self.old) + 1 < 2 ^ 64
-            → D.failed (device_of self.new) ≡ D.failed (device_of self.old) → result ≢ Err StoreFault.NoMemory → IsOk result }
+            → D.failed (device_of self.new) ≡ D.failed (device_of self.old) → result ≢ Err StoreFault.NoMemory
+            → IsOk result }
         ensures receipt { IfOk result (λ receipt. held_batch receipt ≡ batch) }
         ensures settled { (state : State) → D.honest (device_of self.old) → IsSteady D.reads D.may_leave self.old state
             → OnOk result (IsSteady D.reads D.may_leave self.new (meaning_of batch.changes state)) }
 
         // Each turn is one call of the device at most: four where the group fits, and ten at most.
-        ensures ten { D.honest (device_of self.old) → D.moment (device_of self.new) ≤ D.moment (device_of self.old) + 10 }
-        ensures four { D.honest (device_of self.old) → HasRoom self.old batch.changes → D.moment (device_of self.new) ≤ D.moment (device_of self.old) + 4 }
+        ensures ten { D.honest (device_of self.old)
+            → D.moment (device_of self.new) ≤ D.moment (device_of self.old) + 10 }
+        ensures four { D.honest (device_of self.old) → HasRoom self.old batch.changes
+            → D.moment (device_of self.new) ≤ D.moment (device_of self.old) + 4 }
     {
         if let Err((_, fault)) = self.load(batch) {
             return Err(fault);
@@ -229,12 +248,15 @@ impl<D: Disk> Flusher<D> {
     // Makes the calls that are left of a batch, one after another.
     fn make_calls(&mut self) -> Result<(), StoreFault>
         requires { phase_of self.old ≡ Phase.Busy }
-        ensures on { (state after : State) → D.honest (device_of self.old) → IsFlushing D.reads D.may_leave self.old state after
+        ensures on { (state after : State) → D.honest (device_of self.old)
+            → IsFlushing D.reads D.may_leave self.old state after
             → OnOk result (IsFlushing D.reads D.may_leave self.new state after) }
         ensures done { OnOk result (phase_of self.new ≡ Phase.Done) }
         ensures batch { batch_of self.new ≡ batch_of self.old }
-        ensures calls { D.honest (device_of self.old) → D.moment (device_of self.new) ≤ D.moment (device_of self.old) + calls_left self.old }
-        ensures device { IsInside D.size self.old → OnErr result (HasRisen (D.failed (device_of self.old)) (D.failed (device_of self.new))) }
+        ensures calls { D.honest (device_of self.old)
+            → D.moment (device_of self.new) ≤ D.moment (device_of self.old) + calls_left self.old }
+        ensures device { IsInside D.size self.old
+            → OnErr result (HasRisen (D.failed (device_of self.old)) (D.failed (device_of self.new))) }
         ensures only { OnErr result ((result ≡ Err StoreFault.Device) ⊎ (result ≡ Err StoreFault.Failed)) }
     {
         while self.phase() == Phase::Busy {
@@ -248,8 +270,10 @@ impl<D: Disk> Flusher<D> {
     /// neither is begun the table alone; where it is done the next one alone; where it has failed one of the
     /// two. It does nothing.
     pub fn shown(&self)
-        ensures shown { (state after : State) → Stands D.reads D.may_leave self.now state after → (c : List ℕ) → D.may_leave (device_of self.now) c → StopShows (phase_of self.now) (calls_left self.now) state after c }
-        ensures before { (state after : State) → IsFlushing D.reads D.may_leave self.now state after → 2 ≤ calls_left self.now → (c : List ℕ) → D.may_leave (device_of self.now) c → Shows c state }
+        ensures shown { (state after : State) → Stands D.reads D.may_leave self.now state after → (c : List ℕ)
+            → D.may_leave (device_of self.now) c → StopShows (phase_of self.now) (calls_left self.now) state after c }
+        ensures before { (state after : State) → IsFlushing D.reads D.may_leave self.now state after
+            → 2 ≤ calls_left self.now → (c : List ℕ) → D.may_leave (device_of self.now) c → Shows c state }
     {
         self.store.shown();
     }

@@ -1,8 +1,8 @@
 //! A store with its table: one device call a turn, and a receipt means that the batch is durable.
 #![tactic(auto)]
 
-pub mod flusher;
-pub mod phase;
+mod flusher;
+mod phase;
 
 pub use flusher::Flusher;
 pub use phase::Phase;

@@ -43,7 +43,14 @@ pub data Contents : Type 0 where
   uplink : Addr → Contents
 
 abbrev pub association : Association → AssociationRequest
-association a = record { sender = a.sender; capability = a.capability; listen_interval = a.listen_interval; elements = a.elements.now }
+association a =
+    record {
+      sender = a.sender;
+      capability = a.capability;
+      listen_interval = a.listen_interval;
+      elements =
+          a.elements.now;
+    }
 
 abbrev pub reassociation : Reassociation → ReassociationRequest
 reassociation r = record {

@@ -16,7 +16,8 @@ is_of f Authentication = is_management f && (subtype f == 11)
 is_of f Deauthentication = is_management f && (subtype f == 12)
 
 abbrev pub kinds : List Kind
-kinds = Uplink ∷ AssociationRequest ∷ ReassociationRequest ∷ ProbeRequest ∷ Disassociation ∷ Authentication ∷ Deauthentication ∷ []
+kinds = Uplink ∷ AssociationRequest ∷ ReassociationRequest ∷ ProbeRequest ∷ Disassociation ∷ Authentication
+    ∷ Deauthentication ∷ []
 
 -- the kind of a frame, if it is one of these
 abbrev pub kind_of : List ℕ → Option Kind

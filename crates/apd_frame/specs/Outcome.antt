@@ -49,7 +49,8 @@ holds f own Body = lacks_fields f (kind_of f)
 
 -- the reasons in order: the first that holds is told
 abbrev pub reasons : List Ignored
-reasons = TooLong ∷ Short ∷ Version ∷ Class ∷ Fragment ∷ Flags ∷ Direction ∷ Sender ∷ Receiver ∷ OtherBss ∷ Subtype ∷ Body ∷ []
+reasons = TooLong ∷ Short ∷ Version ∷ Class ∷ Fragment ∷ Flags ∷ Direction ∷ Sender ∷ Receiver ∷ OtherBss ∷ Subtype
+    ∷ Body ∷ []
 
 -- what a frame of a kind says
 abbrev pub contents_at : Kind → List ℕ → Contents

@@ -71,7 +71,8 @@ header_octets reply =
 -- numbers of two octets, the lower one in front
 abbrev pub response_fields : AssociationResponse → List ℕ
 response_fields response =
-    to_le_bytes w16 capability ++ to_le_bytes w16 (status_code response.status) ++ to_le_bytes w16 (aid_field response.aid)
+    to_le_bytes w16 capability ++ to_le_bytes w16 (status_code response.status)
+    ++ to_le_bytes w16 (aid_field response.aid)
 
 -- a timestamp is 0 (own)
 abbrev pub probe_fields : ℕ → List ℕ

@@ -129,6 +129,7 @@ pub fn exactly_one_outcome()
 /// The sender of a frame that is not ignored is a single station: its address is no group's, so it is
 /// not the broadcast address.
 pub fn a_sender_is_one_station()
-    ensures individual { (f : List ℕ) (own : Own) (c : Contents) → outcome f own ≡ Ok c → is_group_address (sender_of c) ≡ false }
+    ensures individual { (f : List ℕ) (own : Own) (c : Contents) → outcome f own ≡ Ok c
+        → is_group_address (sender_of c) ≡ false }
     ensures not_broadcast { (f : List ℕ) (own : Own) (c : Contents) → outcome f own ≡ Ok c → sender_of c ≢ BROADCAST }
 {}

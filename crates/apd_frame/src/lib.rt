@@ -2,16 +2,16 @@
 //! of twelve reasons, and what is answered is encoded. A frame here has no frame check sequence.
 #![tactic(auto)]
 
-pub mod codes;
-pub mod decoder;
-pub mod element;
-pub mod element_list;
-pub mod encoder;
+mod codes;
+mod decoder;
+mod element;
+mod element_list;
+mod encoder;
 mod header;
 mod kind;
-pub mod reasons;
-pub mod received;
-pub mod replies;
+mod reasons;
+mod received;
+mod replies;
 
 pub use codes::{Reason, Status, reason_codes_law};
 pub use decoder::{a_sender_is_one_station, decode, exactly_one_outcome};

@@ -29,7 +29,9 @@ pub fn split_block(
     limit: u32,
 ) -> Result<Option<(Sequence<Change>, &[u8])>, AllocError>
     ensures some { IfOk result (λ found. IfSome found (λ parts. HasBlock bytes.now limit parts.0 parts.1.now)) }
-    ensures none { IfOk result (λ found. IfNone found ((changes : List AnyChange) (rest : List ℕ) → ¬ HasBlock bytes.now limit changes rest)) }
+    ensures none { IfOk result
+        (λ found. IfNone found ((changes : List AnyChange) (rest : List ℕ)
+        → ¬ HasBlock bytes.now limit changes rest)) }
 {
     let Some((records, rest)) = split_bytes(bytes, limit) else {
         return Ok(None);

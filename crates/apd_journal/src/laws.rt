@@ -8,17 +8,22 @@ ghost use Rattle.apd_record.specs.declared.change.Change.{Change};
 
 /// A half holds one list of changes at most, under one epoch, and its closed gate is at one place.
 pub fn a_half_is_read_in_one_way()
-    ensures { (half : List ℕ) (e f : ℕ) (xs ys : List Change) (p q : ℕ) → HalfHolds half e xs p → HalfHolds half f ys q → (e ≡ f) × (xs ≡ ys) × (p ≡ q) }
+    ensures { (half : List ℕ) (e f : ℕ) (xs ys : List Change) (p q : ℕ) → HalfHolds half e xs p → HalfHolds half f ys q
+        → (e ≡ f) × (xs ≡ ys) × (p ≡ q) }
 {}
 
 /// A group is read from the moment on at which its gate is opened. Before that the half holds what it
 /// held, whatever stands behind the gate, and whatever is at the gate but 1.
 pub fn an_opened_group_is_read()
-    ensures closed { (half other : List ℕ) (epoch : ℕ) (changes : List Change) (place : ℕ) → HalfHolds half epoch changes place
-        → take place other ≡ take place half → place < length other → slice_index other place ≢ 1 → HalfHolds other epoch changes place }
-    ensures opened { (half : List ℕ) (epoch : ℕ) (changes group : List Change) (place : ℕ) → HalfHolds half epoch changes place
+    ensures closed { (half other : List ℕ) (epoch : ℕ) (changes : List Change) (place : ℕ)
+        → HalfHolds half epoch changes place
+        → take place other ≡ take place half → place < length other → slice_index other place ≢ 1
+        → HalfHolds other epoch changes place }
+    ensures opened { (half : List ℕ) (epoch : ℕ) (changes group : List Change) (place : ℕ)
+        → HalfHolds half epoch changes place
         → IsGroup group → place + length (records_of group) + 6 ≤ length half
-        → HalfHolds (overwritten (overwritten half (place + 1) (planned_bytes group)) place (1 ∷ [])) epoch (changes ++ group) (place + 5 + length (records_of group)) }
+        → HalfHolds (overwritten (overwritten half (place + 1) (planned_bytes group)) place (1 ∷ [])) epoch
+        (changes ++ group) (place + 5 + length (records_of group)) }
 {}
 
 /// A half that begins anew is read from the moment on at which its gate is opened: it holds its snapshot and
@@ -27,5 +32,6 @@ pub fn an_opened_group_is_read()
 pub fn an_opened_half_is_read()
     ensures { (half : List ℕ) (epoch : ℕ) (snapshot : List Change) → epoch < 2 ^ 64 → AreChanges snapshot
         → length (records_of snapshot) < 2 ^ 32 → length (records_of snapshot) + 14 ≤ length half
-        → HalfHolds (overwritten (overwritten half 1 (begun_bytes epoch snapshot)) 0 (1 ∷ [])) epoch snapshot (13 + length (records_of snapshot)) }
+        → HalfHolds (overwritten (overwritten half 1 (begun_bytes epoch snapshot)) 0 (1 ∷ [])) epoch snapshot
+        (13 + length (records_of snapshot)) }
 {}

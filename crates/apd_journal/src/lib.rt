@@ -1,11 +1,11 @@
 //! One half of a store's device: a snapshot of a table, and groups of changes behind it.
 #![tactic(auto)]
 
-pub mod batch;
+mod batch;
 mod block;
 pub mod laws;
-pub mod reader;
-pub mod writer;
+mod reader;
+mod writer;
 
 pub use batch::{Batch, Plan};
 pub use laws::{a_half_is_read_in_one_way, an_opened_group_is_read, an_opened_half_is_read};

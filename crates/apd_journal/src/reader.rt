@@ -43,7 +43,9 @@ fn read_open(
     changes: &mut Sequence<Change>,
 ) -> Result<Option<usize>, AllocError>
     ensures some { IfOk result (λ found. IfSome found (λ place. HasGroups bytes.now changes.old changes.new place)) }
-    ensures none { IfOk result (λ found. IfNone found ((after : List AnyChange) (place : ℕ) → ¬ HasGroups bytes.now changes.old after place)) }
+    ensures none { IfOk result
+        (λ found. IfNone found ((after : List AnyChange) (place : ℕ)
+        → ¬ HasGroups bytes.now changes.old after place)) }
 {
     let mut rest = bytes;
     loop {
@@ -68,7 +70,9 @@ fn read_open(
 /// It takes memory for the changes alone, and reads each byte at most twice.
 pub fn read_groups(alloc: Global, half: &[u8]) -> Result<Option<Groups>, AllocError>
     ensures some { IfOk result (λ found. IfSome found (λ groups. HalfHolds half.now groups.epoch groups.changes groups.gate)) }
-    ensures none { IfOk result (λ found. IfNone found ((epoch : ℕ) (changes : List AnyChange) (place : ℕ) → ¬ HalfHolds half.now epoch changes place)) }
+    ensures none { IfOk result
+        (λ found. IfNone found ((epoch : ℕ) (changes : List AnyChange) (place : ℕ)
+        → ¬ HalfHolds half.now epoch changes place)) }
 {
     let Some((epoch, body)) = split_epoch(half) else {
         return Ok(None);

@@ -53,7 +53,7 @@ use Rattle.apd_mlme.proofs.AssociationLaws.{cleared, cleared_aid, associated_aid
 use Rattle.apd_mlme.proofs.AuthenticationLaws.{admitted_aid}
 use Rattle.apd_base.proofs.AddrLaws.{same_bssid, same_addr}
 use Rattle.apd_base.proofs.Cases.{none_is, same_some}
-use Rattle.apd_record.proofs.Unique.{same_aid}
+use Rattle.apd_base.proofs.StationLaws.{same_aid}
 use Rattle.apd_mlme.proofs.CommandLaws.{new, edited_under}
 use Rattle.apd_mlme.proofs.DriverLaws.{is_row, aid_put, aid_dropped}
 use Rattle.apd_mlme.proofs.DropsLaws.{taken_out, gone_among, kept_aid, denied_leave, all_leave, is_elsewhere}

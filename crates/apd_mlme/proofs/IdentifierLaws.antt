@@ -16,7 +16,7 @@ use Rattle.apd_base.specs.Addr.{bssid_cmp, station_cmp}
 use Rattle.apd_base.specs.State.{State, station_at, aid_of, aid_at, stations_of}
 use Rattle.apd_base.proofs.AddrLaws.{bssid_total, bssid_exact, station_total, station_exact}
 use Rattle.apd_base.proofs.MapLaws.{one_or_apart, apart, tied, get_remove_other}
-use Rattle.apd_record.proofs.Unique.{same_aid}
+use Rattle.apd_base.proofs.StationLaws.{same_aid}
 use Rattle.apd_table.specs.LeastFree.{IsTaken, IsLeastFree}
 use Rattle.apd_table.specs.Sound.{Sound}
 use Rattle.apd_table.proofs.Takens.{taken_of, free_of}

@@ -14,7 +14,8 @@ HasForm word form line = (rest : List ℕ) × (line ≡ word ++ rest) × form re
 
 -- a blank and hexadecimal digits of either case, two for each byte; nothing at all is the empty frame too
 abbrev pub IsFrame : List ℕ → List ℕ → Type 0
-IsFrame frame text = ((text ≡ []) × (frame ≡ [])) ⊎ ((digits : List ℕ) × (text ≡ blank ∷ digits) × (decode_of digits ≡ Ok frame))
+IsFrame frame text =
+    ((text ≡ []) × (frame ≡ [])) ⊎ ((digits : List ℕ) × (text ≡ blank ∷ digits) × (decode_of digits ≡ Ok frame))
 
 -- one to five decimal digits that write at most 65535
 abbrev pub IsIdentifier : ℕ → List ℕ → Type 0
@@ -22,7 +23,8 @@ IsIdentifier aid digits = decimal_number 5 65535 digits ≡ Some aid
 
 -- an address, a blank and an identifier
 abbrev pub IsStation : Addr → ℕ → List ℕ → Type 0
-IsStation addr aid text = (first digits : List ℕ) × (text ≡ first ++ blank ∷ digits) × (address_of first ≡ Some addr) × IsIdentifier aid digits
+IsStation addr aid text = (first digits : List ℕ) × (text ≡ first ++ blank ∷ digits) × (address_of first ≡ Some addr)
+    × IsIdentifier aid digits
 
 -- the line, without its newline, stands for the call
 abbrev pub IsLineOf : Call → List ℕ → Type 0

@@ -55,7 +55,9 @@ Records false old call false new = Appends old new (with_newline (line_of call))
 -- what becomes of a recording when calls are to be written, one after the other
 abbrev pub RecordsAll : Bool → Option (List ℕ) → List Call → Bool → Option (List ℕ) → Type 0
 RecordsAll ended old [] is_ended new = (is_ended ≡ ended) × (new ≡ old)
-RecordsAll ended old (call ∷ calls) is_ended new = (between : Bool) × (held : Option (List ℕ)) × Records ended old call between held × RecordsAll between held calls is_ended new
+RecordsAll ended old (call ∷ calls) is_ended new =
+    (between : Bool) × (held : Option (List ℕ)) × Records ended old call between held
+    × RecordsAll between held calls is_ended new
 
 -- a text of these lines is refused for this
 abbrev pub IsFault : ReplayFault → List (List ℕ) → Type 0

@@ -5,9 +5,8 @@ ghost use Rattle.apd_base.specs.declared.address.Addr.{Addr as Address};
 ghost use Rattle.apd_radio.specs.declared.call.Call.{Call as AnyCall};
 ghost use Rattle.apd_radio.specs.Calls.{IsFrame, IsStation, IsLineOf};
 
-use apd_base::address::TEXT_LENGTH;
 use apd_base::text::{behind, decimal_u16};
-use apd_base::{Addr, Sequence};
+use apd_base::{Addr, Sequence, TEXT_LENGTH};
 use hex::FromHexError;
 use std::alloc::{AllocError, Global};
 

@@ -131,7 +131,8 @@ impl Datagrams {
     /// Errors: `Device`, and none was received; `NoMemory`, and the datagram stays: the next call that has
     /// memory gives it.
     pub fn receive(&mut self) -> Result<Option<(SocketAddr, Vec<u8>)>, RadioFault>
-        ensures first { IsSome self.old → IfOk result (λ got. option_map (λ datagram. (datagram.0, datagram.1.items)) got ≡ self.old) }
+        ensures first { IsSome self.old
+            → IfOk result (λ got. option_map (λ datagram. (datagram.0, datagram.1.items)) got ≡ self.old) }
         ensures given { OnOk result (self.new ≡ None) }
         ensures kept { IsSome self.old → OnErr result ((result ≡ Err RadioFault.NoMemory) × (self.new ≡ self.old)) }
         ensures memory { result ≡ Err RadioFault.NoMemory → IsSome self.new }

@@ -13,12 +13,16 @@ pub fn one_reading()
 /// A recording that has not ended holds what its writer held before, and then the lines of the calls; one
 /// that has ended stays as it is.
 pub fn whole_recording()
-    ensures written { (calls : List AnyCall) (old : List ℕ) (new : Option (List ℕ)) → RecordsAll false (Some old) calls false new → new ≡ Some (old ++ recording_of calls) }
-    ensures stays { (calls : List AnyCall) (ended : Bool) (old new : Option (List ℕ)) → RecordsAll true old calls ended new → (ended ≡ true) × (new ≡ old) }
+    ensures written { (calls : List AnyCall) (old : List ℕ) (new : Option (List ℕ))
+        → RecordsAll false (Some old) calls false new → new ≡ Some (old ++ recording_of calls) }
+    ensures stays { (calls : List AnyCall) (ended : Bool) (old new : Option (List ℕ))
+        → RecordsAll true old calls ended new → (ended ≡ true) × (new ≡ old) }
 {}
 
 /// What `Recording` writes for calls, `Replaying` reads: the frames that were received, and no others.
 pub fn round_trip()
-    ensures read { (calls : List AnyCall) → AllByRecursion IsCall calls → Replays (recording_of calls) (frames_of calls) }
-    ensures only { (calls : List AnyCall) → AllByRecursion IsCall calls → (frames : List (List ℕ)) → Replays (recording_of calls) frames → frames ≡ frames_of calls }
+    ensures read { (calls : List AnyCall) → AllByRecursion IsCall calls
+        → Replays (recording_of calls) (frames_of calls) }
+    ensures only { (calls : List AnyCall) → AllByRecursion IsCall calls → (frames : List (List ℕ))
+        → Replays (recording_of calls) frames → frames ≡ frames_of calls }
 {}

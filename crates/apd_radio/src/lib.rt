@@ -2,17 +2,17 @@
 //! to which frames go.
 #![tactic(auto)]
 
-pub mod boxed;
-pub mod call;
-pub mod datagrams;
-pub mod identifiers;
+mod boxed;
+mod call;
+mod datagrams;
+mod identifiers;
 pub mod laws;
 mod log;
-pub mod radio;
-pub mod recording;
-pub mod replaying;
-pub mod sim;
-pub mod udp_sim;
+mod radio;
+mod recording;
+mod replaying;
+mod sim;
+mod udp_sim;
 
 pub use call::Call;
 pub use datagrams::{Datagrams, SocketFault};

@@ -12,21 +12,24 @@ use std::io;
 use std::io::Write;
 
 fn write_received<W: Write>(alloc: Global, writer: &mut W, frame: &[u8]) -> io::Result<()>
-    ensures { OnOk result (Appends (W.contents writer.old) (W.contents writer.new) (with_newline (line_of (calls.Received frame.now)))) }
+    ensures { OnOk result
+        (Appends (W.contents writer.old) (W.contents writer.new) (with_newline (line_of (calls.Received frame.now)))) }
 {
     let digits = hex::encode(alloc, frame)?;
     writeln!(writer, "rx {digits}")
 }
 
 fn write_sent<W: Write>(alloc: Global, writer: &mut W, frame: &[u8]) -> io::Result<()>
-    ensures { OnOk result (Appends (W.contents writer.old) (W.contents writer.new) (with_newline (line_of (calls.Sent frame.now)))) }
+    ensures { OnOk result
+        (Appends (W.contents writer.old) (W.contents writer.new) (with_newline (line_of (calls.Sent frame.now)))) }
 {
     let digits = hex::encode(alloc, frame)?;
     writeln!(writer, "tx {digits}")
 }
 
 fn write_installed<W: Write>(writer: &mut W, addr: Addr, aid: u16) -> io::Result<()>
-    ensures { OnOk result (Appends (W.contents writer.old) (W.contents writer.new) (with_newline (line_of (calls.Installed addr aid)))) }
+    ensures { OnOk result
+        (Appends (W.contents writer.old) (W.contents writer.new) (with_newline (line_of (calls.Installed addr aid)))) }
 {
     writer.write_all(b"install ")?;
     writer.write_all(&addr.text())?;
@@ -34,7 +37,8 @@ fn write_installed<W: Write>(writer: &mut W, addr: Addr, aid: u16) -> io::Result
 }
 
 fn write_removed<W: Write>(writer: &mut W, addr: Addr) -> io::Result<()>
-    ensures { OnOk result (Appends (W.contents writer.old) (W.contents writer.new) (with_newline (line_of (calls.Removed addr)))) }
+    ensures { OnOk result
+        (Appends (W.contents writer.old) (W.contents writer.new) (with_newline (line_of (calls.Removed addr)))) }
 {
     writer.write_all(b"remove ")?;
     writer.write_all(&addr.text())?;
@@ -42,7 +46,8 @@ fn write_removed<W: Write>(writer: &mut W, addr: Addr) -> io::Result<()>
 }
 
 fn write_down<W: Write>(writer: &mut W) -> io::Result<()>
-    ensures { OnOk result (Appends (W.contents writer.old) (W.contents writer.new) (with_newline (line_of calls.Down))) }
+    ensures { OnOk result
+        (Appends (W.contents writer.old) (W.contents writer.new) (with_newline (line_of calls.Down))) }
 {
     writer.write_all(b"down\n")
 }
@@ -68,7 +73,8 @@ impl<W: Write + Drop> Log<W> {
     }
 
     pub fn received(&mut self, frame: &[u8])
-        ensures { Records self.old.ended (W.contents self.old.writer) (calls.Received frame.now) self.new.ended (W.contents self.new.writer) }
+        ensures { Records self.old.ended (W.contents self.old.writer) (calls.Received frame.now) self.new.ended
+            (W.contents self.new.writer) }
     {
         if !self.ended {
             self.ended = write_received(self.alloc, &mut self.writer, frame).is_err();
@@ -76,7 +82,8 @@ impl<W: Write + Drop> Log<W> {
     }
 
     pub fn installed(&mut self, addr: Addr, aid: u16)
-        ensures { Records self.old.ended (W.contents self.old.writer) (calls.Installed addr aid) self.new.ended (W.contents self.new.writer) }
+        ensures { Records self.old.ended (W.contents self.old.writer) (calls.Installed addr aid) self.new.ended
+            (W.contents self.new.writer) }
     {
         if !self.ended {
             self.ended = write_installed(&mut self.writer, addr, aid).is_err();
@@ -84,7 +91,8 @@ impl<W: Write + Drop> Log<W> {
     }
 
     pub fn removed(&mut self, addr: Addr)
-        ensures { Records self.old.ended (W.contents self.old.writer) (calls.Removed addr) self.new.ended (W.contents self.new.writer) }
+        ensures { Records self.old.ended (W.contents self.old.writer) (calls.Removed addr) self.new.ended
+            (W.contents self.new.writer) }
     {
         if !self.ended {
             self.ended = write_removed(&mut self.writer, addr).is_err();
@@ -92,7 +100,8 @@ impl<W: Write + Drop> Log<W> {
     }
 
     pub fn sent(&mut self, frame: &[u8])
-        ensures { Records self.old.ended (W.contents self.old.writer) (calls.Sent frame.now) self.new.ended (W.contents self.new.writer) }
+        ensures { Records self.old.ended (W.contents self.old.writer) (calls.Sent frame.now) self.new.ended
+            (W.contents self.new.writer) }
     {
         if !self.ended {
             self.ended = write_sent(self.alloc, &mut self.writer, frame).is_err();
@@ -100,7 +109,8 @@ impl<W: Write + Drop> Log<W> {
     }
 
     pub fn down(&mut self)
-        ensures { Records self.old.ended (W.contents self.old.writer) (calls.Down) self.new.ended (W.contents self.new.writer) }
+        ensures { Records self.old.ended (W.contents self.old.writer) (calls.Down) self.new.ended
+            (W.contents self.new.writer) }
     {
         if !self.ended {
             self.ended = write_down(&mut self.writer).is_err();

@@ -50,14 +50,19 @@ impl<R: Radio, W: Write + Drop> Radio for Recording<R, W> {
     ghost frames = { λ radio. R.frames radio.inner };
 
     fn poll(&mut self) -> Result<Option<Vec<u8>>, RadioFault>
-        ensures next { IfOk result (λ got. Polls (R.frames self.old.inner) (option_map (λ frame. frame.items) got) (R.frames self.new.inner)) }
+        ensures next { IfOk result
+            (λ got. Polls (R.frames self.old.inner) (option_map (λ frame. frame.items) got)
+            (R.frames self.new.inner)) }
         ensures unknown { OnErr result ((R.frames self.old.inner ≡ None) × (R.frames self.new.inner ≡ None)) }
         ensures same { R.stations self.new.inner ≡ R.stations self.old.inner }
         ensures stays { OnOk result (R.faults self.new.inner ≡ R.faults self.old.inner) }
         ensures memory { result ≡ Err RadioFault.NoMemory → R.faults self.new.inner ≡ R.faults self.old.inner }
         ensures device { result ≡ Err RadioFault.Device → HasRisen (R.faults self.old.inner) (R.faults self.new.inner) }
         ensures count { R.faults self.old.inner ≤ R.faults self.new.inner }
-        ensures written { IfOk result (λ got. IfSome got (λ frame. Records self.old.log.ended (W.contents self.old.log.writer) (calls.Received frame.items) self.new.log.ended (W.contents self.new.log.writer))) }
+        ensures written { IfOk result
+            (λ got. IfSome got
+            (λ frame. Records self.old.log.ended (W.contents self.old.log.writer)
+            (calls.Received frame.items) self.new.log.ended (W.contents self.new.log.writer))) }
         ensures unwritten { IfOk result (λ got. IfNone got (self.new.log ≡ self.old.log)) }
         ensures failed { OnErr result (self.new.log ≡ self.old.log) }
     {
@@ -76,7 +81,9 @@ impl<R: Radio, W: Write + Drop> Radio for Recording<R, W> {
         ensures memory { result ≡ Err RadioFault.NoMemory → R.faults self.new.inner ≡ R.faults self.old.inner }
         ensures device { result ≡ Err RadioFault.Device → HasRisen (R.faults self.old.inner) (R.faults self.new.inner) }
         ensures count { R.faults self.old.inner ≤ R.faults self.new.inner }
-        ensures written { OnOk result (Records self.old.log.ended (W.contents self.old.log.writer) (calls.Installed addr aid) self.new.log.ended (W.contents self.new.log.writer)) }
+        ensures written { OnOk result
+            (Records self.old.log.ended (W.contents self.old.log.writer)
+            (calls.Installed addr aid) self.new.log.ended (W.contents self.new.log.writer)) }
         ensures failed { OnErr result (self.new.log ≡ self.old.log) }
     {
         self.inner.install(addr, aid)?;
@@ -92,7 +99,9 @@ impl<R: Radio, W: Write + Drop> Radio for Recording<R, W> {
         ensures stays { OnOk result (R.faults self.new.inner ≡ R.faults self.old.inner) }
         ensures device { result ≡ Err RadioFault.Device → HasRisen (R.faults self.old.inner) (R.faults self.new.inner) }
         ensures count { R.faults self.old.inner ≤ R.faults self.new.inner }
-        ensures written { OnOk result (Records self.old.log.ended (W.contents self.old.log.writer) (calls.Removed addr) self.new.log.ended (W.contents self.new.log.writer)) }
+        ensures written { OnOk result
+            (Records self.old.log.ended (W.contents self.old.log.writer) (calls.Removed addr) self.new.log.ended
+            (W.contents self.new.log.writer)) }
         ensures failed { OnErr result (self.new.log ≡ self.old.log) }
     {
         self.inner.remove(addr)?;
@@ -107,7 +116,9 @@ impl<R: Radio, W: Write + Drop> Radio for Recording<R, W> {
         ensures memory { result ≡ Err RadioFault.NoMemory → R.faults self.new.inner ≡ R.faults self.old.inner }
         ensures device { result ≡ Err RadioFault.Device → HasRisen (R.faults self.old.inner) (R.faults self.new.inner) }
         ensures count { R.faults self.old.inner ≤ R.faults self.new.inner }
-        ensures written { OnOk result (Records self.old.log.ended (W.contents self.old.log.writer) (calls.Sent frame.now) self.new.log.ended (W.contents self.new.log.writer)) }
+        ensures written { OnOk result
+            (Records self.old.log.ended (W.contents self.old.log.writer) (calls.Sent frame.now) self.new.log.ended
+            (W.contents self.new.log.writer)) }
         ensures failed { OnErr result (self.new.log ≡ self.old.log) }
     {
         self.inner.transmit(frame)?;
@@ -119,7 +130,8 @@ impl<R: Radio, W: Write + Drop> Radio for Recording<R, W> {
         ensures empty { R.stations self.new.inner ≡ map.empty }
         ensures kept { R.frames self.new.inner ≡ R.frames self.old.inner }
         ensures stays { R.faults self.new.inner ≡ R.faults self.old.inner }
-        ensures written { Records self.old.log.ended (W.contents self.old.log.writer) calls.Down self.new.log.ended (W.contents self.new.log.writer) }
+        ensures written { Records self.old.log.ended (W.contents self.old.log.writer) calls.Down self.new.log.ended
+            (W.contents self.new.log.writer) }
     {
         self.inner.take_down();
         self.log.down();

@@ -40,7 +40,8 @@ pub struct Replaying {
 }
 
 fn end_of_line(text: &[u8]) -> Option<usize>
-    ensures some { IfSome result (λ end. (end < length text.now) × (slice_index text.now end ≡ newline) × ((k : ℕ) → k < end → slice_index text.now k ≢ newline)) }
+    ensures some { IfSome result (λ end. (end < length text.now) × (slice_index text.now end ≡ newline)
+        × ((k : ℕ) → k < end → slice_index text.now k ≢ newline)) }
     ensures none { IfNone result ((k : ℕ) → k < length text.now → slice_index text.now k ≢ newline) }
 {
     text.iter().position(|byte| *byte == b'\n')

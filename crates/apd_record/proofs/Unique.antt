@@ -16,6 +16,7 @@ use Rattle.apd_base.specs.declared.station.Station.TheVariants.{Authenticated, A
 use Rattle.apd_base.specs.declared.station.StationLimit.{StationLimit}
 use Rattle.apd_base.specs.declared.station.Which.{Which}
 use Rattle.apd_base.specs.declared.station.Which.TheVariants.{Accept, Deny}
+use Rattle.apd_base.proofs.StationLaws.{same_aid, same_limit, same_mode, same_which}
 use Rattle.apd_record.specs.declared.change.Change.{Change}
 use Rattle.apd_record.specs.declared.change.Change.TheVariants.{Put, Drop, ListAdd, ListDel, ListClear, Policy}
 use Rattle.apd_record.specs.Ranges.{IsStation, IsChange, AreChanges}
@@ -24,26 +25,6 @@ use Rattle.apd_record.proofs.Fronts.{same_front, same_number}
 use Rattle.apd_record.proofs.Parts.{tag_of, bssid_of, body_of, record_parts, bssid_range, parts_behind}
 
 -- ---- fields
-
-pub same_aid : (x y : Aid) → x.number ≡ y.number → x ≡ y
-same_aid x y e =
-    let low = Σ_prop_path {B = λ n. (1 ≤ n) × (n ≤ MAX_STATIONS)} (λ n. ×_prop le_prop le_prop) {u = (x.number, (x.low, x.high))} {v = (y.number, (y.low, y.high))} e in
-    ap (λ (p : (n : ℕ) × ((1 ≤ n) × (n ≤ MAX_STATIONS))). record { number = p.0; low = p.1.0; high = p.1.1 }) low
-
-same_limit : (x y : StationLimit) → x.count ≡ y.count → x ≡ y
-same_limit x y e = ap (λ (p : (n : ℕ) × (n ≤ MAX_STATIONS)). record { count = p.0; in_range = p.1 }) (Σ_prop_path {B = λ n. n ≤ MAX_STATIONS} (λ n. le_prop) {u = (x.count, x.in_range)} {v = (y.count, y.in_range)} e)
-
-same_mode : (x y : AclMode) → mode_number x ≡ mode_number y → x ≡ y
-same_mode AcceptUnlessDenied AcceptUnlessDenied e = refl
-same_mode AcceptUnlessDenied DenyUnlessAccepted e = absurd (omega arith)
-same_mode DenyUnlessAccepted AcceptUnlessDenied e = absurd (omega arith)
-same_mode DenyUnlessAccepted DenyUnlessAccepted e = refl
-
-same_which : (x y : Which) → which_number x ≡ which_number y → x ≡ y
-same_which Accept Accept e = refl
-same_which Accept Deny e = absurd (omega arith)
-same_which Deny Accept e = absurd (omega arith)
-same_which Deny Deny e = refl
 
 address_once : (x y : Addr) (r s : List ℕ) → length x.0 ≡ 6 → length y.0 ≡ 6 → x.0 ++ r ≡ y.0 ++ s → (x ≡ y) × (r ≡ s)
 address_once x y r s p q e =

@@ -11,7 +11,8 @@ use Rattle.apd_record.specs.declared.change.Change.TheVariants.{Put, Drop, ListA
 -- the kind of a station, 1 or 2, its identifier, capability and listen interval
 abbrev pub station_bytes : Station → List ℕ
 station_bytes Authenticated = 1 ∷ to_le_bytes w16 0 ++ to_le_bytes w16 0 ++ to_le_bytes w16 0
-station_bytes (Associated x) = 2 ∷ to_le_bytes w16 x.aid.number ++ to_le_bytes w16 x.capability ++ to_le_bytes w16 x.listen_interval
+station_bytes (Associated x) =
+    2 ∷ to_le_bytes w16 x.aid.number ++ to_le_bytes w16 x.capability ++ to_le_bytes w16 x.listen_interval
 
 -- the bytes of a change: its tag, then its fields
 abbrev pub record_of : Change → List ℕ

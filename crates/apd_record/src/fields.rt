@@ -81,8 +81,10 @@ fn split_limit(bytes: &[u8]) -> Option<(StationLimit, &[u8])>
 
 /// A policy: its mode and its limit.
 pub fn split_policy(bytes: &[u8]) -> Option<(Policy, &[u8])>
-    ensures some { IfSome result (λ found. bytes.now ≡ mode_number found.0.mode ∷ to_le_bytes w16 found.0.max.count ++ found.1.now) }
-    ensures none { IfNone result ((policy : BssPolicy) (rest : List ℕ) → bytes.now ≢ mode_number policy.mode ∷ to_le_bytes w16 policy.max.count ++ rest) }
+    ensures some { IfSome result
+        (λ found. bytes.now ≡ mode_number found.0.mode ∷ to_le_bytes w16 found.0.max.count ++ found.1.now) }
+    ensures none { IfNone result ((policy : BssPolicy) (rest : List ℕ)
+        → bytes.now ≢ mode_number policy.mode ∷ to_le_bytes w16 policy.max.count ++ rest) }
 {
     let (mode, rest) = split_mode(bytes)?;
     let (max, rest) = split_limit(rest)?;
@@ -102,7 +104,8 @@ fn split_aid(bytes: &[u8]) -> Option<(Aid, &[u8])>
 fn split_association(bytes: &[u8]) -> Option<(Association, &[u8])>
     ensures some { IfSome result (λ found. 2 ∷ bytes.now ≡ station_bytes (Associated found.0) ++ found.1.now) }
     ensures range { IfSome result (λ found. IsStation (Associated found.0)) }
-    ensures none { IfNone result ((association : Fields) (rest : List ℕ) → IsStation (Associated association) → 2 ∷ bytes.now ≢ station_bytes (Associated association) ++ rest) }
+    ensures none { IfNone result ((association : Fields) (rest : List ℕ) → IsStation (Associated association)
+        → 2 ∷ bytes.now ≢ station_bytes (Associated association) ++ rest) }
 {
     let (aid, rest) = split_aid(bytes)?;
     let (capability, rest) = split_number(rest)?;
@@ -119,7 +122,8 @@ fn split_association(bytes: &[u8]) -> Option<(Association, &[u8])>
 pub fn split_station(bytes: &[u8]) -> Option<(Station, &[u8])>
     ensures some { IfSome result (λ found. bytes.now ≡ station_bytes found.0 ++ found.1.now) }
     ensures range { IfSome result (λ found. IsStation found.0) }
-    ensures none { IfNone result ((station : Row) (rest : List ℕ) → IsStation station → bytes.now ≢ station_bytes station ++ rest) }
+    ensures none { IfNone result ((station : Row) (rest : List ℕ) → IsStation station
+        → bytes.now ≢ station_bytes station ++ rest) }
 {
     match bytes {
         [1, 0, 0, 0, 0, 0, 0, rest @ ..] => Some((Station::Authenticated, rest)),

@@ -1,13 +1,13 @@
 //! The changes of a table, and the records that keep them in a journal.
 #![tactic(auto)]
 
-pub mod change;
-pub mod changes;
+mod change;
+mod changes;
 mod fields;
 mod known;
 pub mod laws;
-pub mod reader;
-pub mod writer;
+mod reader;
+mod writer;
 
 pub use change::Change;
 pub use changes::Changes;

@@ -13,7 +13,8 @@ use std::alloc::{AllocError, Global};
 fn split_fields(tag: u8, bssid: Bssid, bytes: &[u8]) -> Option<(Change, &[u8])>
     ensures some { IfSome result (λ found. tag ∷ bssid.0.0 ++ bytes.now ≡ record_of found.0 ++ found.1.now) }
     ensures range { IfSome result (λ found. IsBssid bssid → IsChange found.0) }
-    ensures none { IfNone result ((change : AnyChange) (rest : List ℕ) → IsChange change → tag ∷ bssid.0.0 ++ bytes.now ≢ record_of change ++ rest) }
+    ensures none { IfNone result ((change : AnyChange) (rest : List ℕ) → IsChange change
+        → tag ∷ bssid.0.0 ++ bytes.now ≢ record_of change ++ rest) }
 {
     match tag {
         1 => {
@@ -58,7 +59,8 @@ fn split_fields(tag: u8, bssid: Bssid, bytes: &[u8]) -> Option<(Change, &[u8])>
 fn split_record(bytes: &[u8]) -> Option<(Change, &[u8])>
     ensures some { IfSome result (λ found. bytes.now ≡ record_of found.0 ++ found.1.now) }
     ensures range { IfSome result (λ found. IsChange found.0) }
-    ensures none { IfNone result ((change : AnyChange) (rest : List ℕ) → IsChange change → bytes.now ≢ record_of change ++ rest) }
+    ensures none { IfNone result ((change : AnyChange) (rest : List ℕ) → IsChange change
+        → bytes.now ≢ record_of change ++ rest) }
 {
     let (tag, rest) = bytes.split_first()?;
     let (bssid, rest) = split_bssid(rest)?;
@@ -70,7 +72,8 @@ fn split_record(bytes: &[u8]) -> Option<(Change, &[u8])>
 pub fn read_all(alloc: Global, bytes: &[u8]) -> Result<Option<Vec<Change>>, AllocError>
     ensures some { IfOk result (λ found. IfSome found (λ changes. records_of changes.items ≡ bytes.now)) }
     ensures range { IfOk result (λ found. IfSome found (λ changes. AreChanges changes.items)) }
-    ensures none { IfOk result (λ found. IfNone found ((changes : List AnyChange) → AreChanges changes → records_of changes ≢ bytes.now)) }
+    ensures none { IfOk result
+        (λ found. IfNone found ((changes : List AnyChange) → AreChanges changes → records_of changes ≢ bytes.now)) }
 {
     let mut changes = Vec::new(alloc);
     let mut rest = bytes;

@@ -2,7 +2,7 @@ use crate::calls::{addresses_of, alone, built_in};
 use apd_base::{AclMode, Addr, Aid, Association, Bssid, Sequence, Station, Which};
 use apd_conf::Confs;
 use apd_frame::{Authentication, Frame};
-use apd_mlme::decision::MAX_RECORDS;
+use apd_mlme::MAX_RECORDS;
 use apd_mlme::{Decision, Event, Out, decide};
 use apd_record::Change;
 use apd_table::Table;

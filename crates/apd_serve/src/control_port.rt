@@ -35,8 +35,13 @@ impl ControlPort {
 impl Port for ControlPort {
     /// A command that meets want of memory is told as `Device`, and stays: a later call gives it.
     fn poll(&mut self) -> Result<Option<(u64, Vec<u8>)>, PortFault>
-        ensures command { IfOk result (λ got. MatchOption got (AreSame self.old.senders self.new.senders) (λ command. (sender : SocketAddr) × Adds self.old.senders command.0 sender self.new.senders)) }
-        ensures own { IfSome self.old.received (λ waited. IfOk result (λ got. IfSome got (λ command. Adds self.old.senders command.0 waited.0 self.new.senders × (command.1 ≡ waited.1)))) }
+        ensures command { IfOk result
+            (λ got. MatchOption got (AreSame self.old.senders self.new.senders) (λ command. (sender : SocketAddr)
+            × Adds self.old.senders command.0 sender self.new.senders)) }
+        ensures own { IfSome self.old.received
+            (λ waited. IfOk result
+            (λ got. IfSome got (λ command. Adds self.old.senders command.0 waited.0 self.new.senders
+            × (command.1 ≡ waited.1)))) }
         ensures err { OnErr result (AreSame self.old.senders self.new.senders) }
     {
         if self.received.is_none() {

@@ -2,14 +2,14 @@
 //! world that was started, and all of it over a file, datagrams and recordings.
 #![tactic(auto)]
 
-pub mod clock;
+mod clock;
 mod closing;
-pub mod control_port;
+mod control_port;
 mod crew;
-pub mod fault;
+mod fault;
 mod input;
-pub mod running;
-pub mod senders;
+mod running;
+mod senders;
 mod serving;
 mod worker;
 

@@ -36,7 +36,9 @@ impl Senders {
     /// Keeps the sender of a command, and gives the tag of the command: a number that no command had before. There
     /// is none, and nothing is kept, exactly where 2^64 - 1 were given. Where memory lacks, all is as it was.
     pub fn add(&mut self, sender: SocketAddr) -> Result<Option<u64>, AllocError>
-        ensures ok { IfOk result (λ got. MatchOption got ((self.old.given ≡ 2 ^ 64 - 1) × AreSame self.old self.new) (λ tag. Adds self.old tag sender self.new)) }
+        ensures ok { IfOk result
+            (λ got. MatchOption got ((self.old.given ≡ 2 ^ 64 - 1)
+            × AreSame self.old self.new) (λ tag. Adds self.old tag sender self.new)) }
         ensures err { OnErr result (AreSame self.old self.new) }
     {
         let tag = self.given;

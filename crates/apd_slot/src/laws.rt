@@ -11,6 +11,7 @@ ghost use Rattle.apd_slot.specs.Wanted.{Stations, wanted_after};
 /// What a slot wants after an out is, address by address, the driver's map after that out; and the rows that
 /// it installs when it resumes are, address by address, the identifiers of its BSSID's associated stations.
 pub fn wanted_law()
-    ensures outs { (out : Out) (wanted : Stations) → map.get (wanted_after out wanted) ≡ driven_by out (map.get wanted) }
+    ensures outs { (out : Out) (wanted : Stations)
+        → map.get (wanted_after out wanted) ≡ driven_by out (map.get wanted) }
     ensures rows { (s : State) (b : Bssid) → map.get (installed_rows s b) ≡ aid_at s b }
 {}

@@ -3,6 +3,6 @@
 
 pub mod laws;
 mod resuming;
-pub mod slot;
+mod slot;
 
 pub use slot::{Slot, SlotFault};

@@ -99,7 +99,9 @@ impl<R: Radio> Slot<R> {
     ///
     /// Errors: the radio's.
     pub fn poll(&mut self) -> Result<Option<Vec<u8>>, RadioFault>
-        ensures next { IfOk result (λ got. Polls (R.frames self.old.radio) (option_map (λ frame. frame.items) got) (R.frames self.new.radio)) }
+        ensures next { IfOk result
+            (λ got. Polls (R.frames self.old.radio) (option_map (λ frame. frame.items) got)
+            (R.frames self.new.radio)) }
         ensures unknown { OnErr result ((R.frames self.old.radio ≡ None) × (R.frames self.new.radio ≡ None)) }
         ensures installed { R.stations self.new.radio ≡ R.stations self.old.radio }
         ensures stays { OnOk result (R.faults self.new.radio ≡ R.faults self.old.radio) }
@@ -125,8 +127,10 @@ impl<R: Radio> Slot<R> {
         ensures wanted { self.new.wanted ≡ wanted_by out.now result self.old.wanted }
         ensures installed { R.stations self.new.radio ≡ installed_by out.now result self.old.up (R.stations self.old.radio) }
         ensures up { self.new.up ≡ up_by result self.old.up }
-        ensures down { result ≡ Err SlotFault.WentDown → (self.old.up ≡ true) × HasRisen (R.faults self.old.radio) (R.faults self.new.radio) }
-        ensures lost { result ≡ Err SlotFault.Lost → IsFrame out.now × ((self.old.up ≡ false) ⊎ HasRisen (R.faults self.old.radio) (R.faults self.new.radio)) }
+        ensures down { result ≡ Err SlotFault.WentDown
+            → (self.old.up ≡ true) × HasRisen (R.faults self.old.radio) (R.faults self.new.radio) }
+        ensures lost { result ≡ Err SlotFault.Lost
+            → IsFrame out.now × ((self.old.up ≡ false) ⊎ HasRisen (R.faults self.old.radio) (R.faults self.new.radio)) }
         ensures silent { IsFrame out.now → self.old.up ≡ false → result ≡ Err SlotFault.Lost }
         ensures not_mine { (result ≡ Err SlotFault.NotMine) ↔ IsText out.now }
         ensures text { IsText out.now → self.new ≡ self.old }
@@ -148,12 +152,16 @@ impl<R: Radio> Slot<R> {
 
     fn install(&mut self, addr: Addr, aid: u16) -> Result<(), SlotFault>
         ensures wanted { OnOk result (self.new.wanted ≡ map.insert self.old.wanted addr aid) }
-        ensures installed { OnOk result (self.old.up ≡ true → R.stations self.new.radio ≡ map.insert (R.stations self.old.radio) addr aid) }
+        ensures installed { OnOk result (self.old.up ≡ true
+            → R.stations self.new.radio ≡ map.insert (R.stations self.old.radio) addr aid) }
         ensures asleep { self.old.up ≡ false → self.new.radio ≡ self.old.radio }
         ensures failed { OnErr result (R.stations self.new.radio ≡ R.stations self.old.radio) }
         ensures up { OnOk result (self.new.up ≡ self.old.up) }
-        ensures down { result ≡ Err SlotFault.WentDown → (self.old.up ≡ true) × (self.new.up ≡ false) × (self.new.wanted ≡ map.insert self.old.wanted addr aid) × HasRisen (R.faults self.old.radio) (R.faults self.new.radio) }
-        ensures memory { result ≡ Err SlotFault.NoMemory → (self.new.up ≡ self.old.up) × (self.new.wanted ≡ self.old.wanted) }
+        ensures down { result ≡ Err SlotFault.WentDown
+            → (self.old.up ≡ true) × (self.new.up ≡ false) × (self.new.wanted ≡ map.insert self.old.wanted addr aid)
+            × HasRisen (R.faults self.old.radio) (R.faults self.new.radio) }
+        ensures memory { result ≡ Err SlotFault.NoMemory
+            → (self.new.up ≡ self.old.up) × (self.new.wanted ≡ self.old.wanted) }
         ensures errors { IfErr result (λ fault. (fault ≡ SlotFault.WentDown) ⊎ (fault ≡ SlotFault.NoMemory)) }
         ensures stays { OnOk result (R.faults self.new.radio ≡ R.faults self.old.radio) }
         ensures short { result ≡ Err SlotFault.NoMemory → R.faults self.new.radio ≡ R.faults self.old.radio }
@@ -182,7 +190,8 @@ impl<R: Radio> Slot<R> {
 
     // Takes the insertion at an address back, where this stood there before.
     fn put_back(&mut self, addr: Addr, before: Option<u16>)
-        ensures wanted { (wanted : Stations) (aid : ℕ) → self.old.wanted ≡ map.insert wanted addr aid → before ≡ map.get wanted addr → self.new.wanted ≡ wanted }
+        ensures wanted { (wanted : Stations) (aid : ℕ) → self.old.wanted ≡ map.insert wanted addr aid
+            → before ≡ map.get wanted addr → self.new.wanted ≡ wanted }
         ensures same { self.new ≡ record self.old { wanted = self.new.wanted } }
     {
         match before {
@@ -195,11 +204,13 @@ impl<R: Radio> Slot<R> {
 
     fn remove(&mut self, addr: Addr) -> Result<(), SlotFault>
         ensures wanted { self.new.wanted ≡ map.remove self.old.wanted addr }
-        ensures installed { OnOk result (self.old.up ≡ true → R.stations self.new.radio ≡ map.remove (R.stations self.old.radio) addr) }
+        ensures installed { OnOk result (self.old.up ≡ true
+            → R.stations self.new.radio ≡ map.remove (R.stations self.old.radio) addr) }
         ensures asleep { self.old.up ≡ false → self.new.radio ≡ self.old.radio }
         ensures failed { OnErr result (R.stations self.new.radio ≡ R.stations self.old.radio) }
         ensures up { OnOk result (self.new.up ≡ self.old.up) }
-        ensures down { IfErr result (λ fault. (fault ≡ SlotFault.WentDown) × (self.old.up ≡ true) × (self.new.up ≡ false) × HasRisen (R.faults self.old.radio) (R.faults self.new.radio)) }
+        ensures down { IfErr result (λ fault. (fault ≡ SlotFault.WentDown) × (self.old.up ≡ true) × (self.new.up ≡ false)
+            × HasRisen (R.faults self.old.radio) (R.faults self.new.radio)) }
         ensures stays { OnOk result (R.faults self.new.radio ≡ R.faults self.old.radio) }
         ensures count { R.faults self.old.radio ≤ R.faults self.new.radio }
         ensures same { (R.frames self.new.radio ≡ R.frames self.old.radio) × (self.new.bssid ≡ self.old.bssid) }
@@ -217,8 +228,10 @@ impl<R: Radio> Slot<R> {
 
     fn transmit(&mut self, frame: &[u8]) -> Result<(), SlotFault>
         ensures installed { R.stations self.new.radio ≡ R.stations self.old.radio }
-        ensures same { (self.new.up ≡ self.old.up) × (self.new.wanted ≡ self.old.wanted) × (self.new.bssid ≡ self.old.bssid) × (R.frames self.new.radio ≡ R.frames self.old.radio) }
-        ensures lost { result ≡ Err SlotFault.Lost → (self.old.up ≡ false) ⊎ HasRisen (R.faults self.old.radio) (R.faults self.new.radio) }
+        ensures same { (self.new.up ≡ self.old.up) × (self.new.wanted ≡ self.old.wanted)
+            × (self.new.bssid ≡ self.old.bssid) × (R.frames self.new.radio ≡ R.frames self.old.radio) }
+        ensures lost { result ≡ Err SlotFault.Lost
+            → (self.old.up ≡ false) ⊎ HasRisen (R.faults self.old.radio) (R.faults self.new.radio) }
         ensures silent { self.old.up ≡ false → result ≡ Err SlotFault.Lost }
         ensures asleep { self.old.up ≡ false → self.new.radio ≡ self.old.radio }
         ensures errors { IfErr result (λ fault. (fault ≡ SlotFault.Lost) ⊎ (fault ≡ SlotFault.NoMemory)) }

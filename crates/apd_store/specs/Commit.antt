@@ -26,11 +26,18 @@ opened half gate group = overwritten (laid half gate group) gate (1 ∷ [])
 
 -- what a read gives and what a stop may leave when this call of the batch is next
 abbrev pub AtPhase : Phase → Half → List ℕ → List ℕ → List ℕ → ℕ → List Change → List ℕ → (List ℕ → Type 0) → Type 0
-AtPhase WriteGroup side reserved half other gate group reads images = (reads ≡ image_of side reserved half other) × Only reads images
-AtPhase SyncGroup side reserved half other gate group reads images = (reads ≡ image_of side reserved (laid half gate group) other) × AreTorn side reserved half other (gate + 1) (length (planned_bytes group)) images
-AtPhase OpenGate side reserved half other gate group reads images = (reads ≡ image_of side reserved (laid half gate group) other) × Only reads images
-AtPhase SyncGate side reserved half other gate group reads images = (reads ≡ image_of side reserved (opened half gate group) other) × AreTorn side reserved (laid half gate group) other gate 1 images
-AtPhase Done side reserved half other gate group reads images = (reads ≡ image_of side reserved (opened half gate group) other) × Only reads images
+AtPhase WriteGroup side reserved half other gate group reads images =
+    (reads ≡ image_of side reserved half other) × Only reads images
+AtPhase SyncGroup side reserved half other gate group reads images =
+    (reads ≡ image_of side reserved (laid half gate group) other)
+    × AreTorn side reserved half other (gate + 1) (length (planned_bytes group)) images
+AtPhase OpenGate side reserved half other gate group reads images =
+    (reads ≡ image_of side reserved (laid half gate group) other) × Only reads images
+AtPhase SyncGate side reserved half other gate group reads images =
+    (reads ≡ image_of side reserved (opened half gate group) other)
+    × AreTorn side reserved (laid half gate group) other gate 1 images
+AtPhase Done side reserved half other gate group reads images =
+    (reads ≡ image_of side reserved (opened half gate group) other) × Only reads images
 AtPhase Idle side reserved half other gate group reads images = ⊥
 AtPhase CloseOther side reserved half other gate group reads images = ⊥
 AtPhase SyncClosed side reserved half other gate group reads images = ⊥
@@ -41,13 +48,15 @@ AtPhase SyncOpened side reserved half other gate group reads images = ⊥
 AtPhase Failed side reserved half other gate group reads images = ⊥
 
 -- no batch is begun, and what a read gives, which is all that a stop may leave, shows the state
-pub record IsIdle {D : Type 0} (reads : D → List ℕ) (may_leave : D → List ℕ → Type 0) (store : Store D) (state : State) : Type 0 where
+pub record IsIdle {D : Type 0} (reads : D → List ℕ) (may_leave : D → List ℕ → Type 0) (store : Store D)
+    (state : State) : Type 0 where
   pub found : IsFound (reads store.device) store.half store.epoch store.gate store.other_open state
   pub durable : Only (reads store.device) (may_leave store.device)
   pub phase : store.phase ≡ Idle
 
 -- the group of a batch is on its way behind the closed gate of the current half
-pub record IsWriting {D : Type 0} (reads : D → List ℕ) (may_leave : D → List ℕ → Type 0) (store : Store D) (state after : State) : Type 0 where
+pub record IsWriting {D : Type 0} (reads : D → List ℕ) (may_leave : D → List ℕ → Type 0) (store : Store D)
+    (state after : State) : Type 0 where
   pub reserved : List ℕ
   pub half : List ℕ
   pub other : List ℕ
@@ -61,18 +70,21 @@ pub record IsWriting {D : Type 0} (reads : D → List ℕ) (may_leave : D → Li
   pub room : store.gate + length (records_of store.batch.changes) + 6 ≤ HALF_LENGTH
   pub place : store.plan.place ≡ store.gate + 1
   pub bytes : store.plan.bytes ≡ planned_bytes store.batch.changes
-  pub at : AtPhase store.phase store.half reserved half other store.gate store.batch.changes (reads store.device) (may_leave store.device)
+  pub at : AtPhase store.phase store.half reserved half other store.gate store.batch.changes (reads store.device)
+      (may_leave store.device)
 
 -- a batch is on its way from one state to the next: its switch, and then its group
 abbrev pub IsCommitting : {D : Type 0} → (D → List ℕ) → (D → List ℕ → Type 0) → Store D → State → State → Type 0
-IsCommitting reads may_leave store state after = IsSwitching reads may_leave store state after ⊎ IsWriting reads may_leave store state after
+IsCommitting reads may_leave store state after =
+    IsSwitching reads may_leave store state after ⊎ IsWriting reads may_leave store state after
 
 -- what a stop may show within a call where as many calls of the batch are left, itself among them
 abbrev pub MayShow : ℕ → State → State → List ℕ → Type 0
 MayShow calls state after image = Shows image state ⊎ ((calls ≤ 2) × Shows image after)
 
 -- a call of a batch has failed, and a stop leaves the state before the batch or the one after
-pub record HasFailed {D : Type 0} (may_leave : D → List ℕ → Type 0) (store : Store D) (state after : State) : Type 0 where
+pub record HasFailed {D : Type 0} (may_leave : D → List ℕ → Type 0) (store : Store D)
+    (state after : State) : Type 0 where
   pub phase : store.phase ≡ Failed
   pub shows : (c : List ℕ) → may_leave store.device c → Shows c state ⊎ Shows c after
 

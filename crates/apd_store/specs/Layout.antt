@@ -34,11 +34,13 @@ opposite B = A
 
 -- each image has this half torn in a range, and nothing else
 abbrev pub AreTorn : Half → List ℕ → List ℕ → List ℕ → ℕ → ℕ → (List ℕ → Type 0) → Type 0
-AreTorn side reserved half other place n images = (c : List ℕ) → images c → (h : List ℕ) × TornWithin place n half h × (c ≡ image_of side reserved h other)
+AreTorn side reserved half other place n images = (c : List ℕ) → images c
+    → (h : List ℕ) × TornWithin place n half h × (c ≡ image_of side reserved h other)
 
 -- The half on this side is the current one, with this epoch, and shows the state up to its closed gate at this
 -- place; and whether the other half's gate is open.
-pub record IsFoundBy (mark image : List ℕ) (side : Half) (epoch gate : ℕ) (other_open : Bool) (state : State) : Type 0 where
+pub record IsFoundBy (mark image : List ℕ) (side : Half) (epoch gate : ℕ) (other_open : Bool)
+    (state : State) : Type 0 where
   pub reserved : List ℕ
   pub half : List ℕ
   pub other : List ℕ

@@ -31,12 +31,21 @@ begun half bytes = overwritten (written half bytes) 0 (1 ∷ [])
 -- What a read gives and what a stop may leave when this call of a switch to the half on this side is next. The half was
 -- this one before the last write to it, and these bytes go behind its gate; the other one, which is current, stays.
 abbrev pub AtSwitch : Phase → Half → List ℕ → List ℕ → List ℕ → List ℕ → List ℕ → (List ℕ → Type 0) → Type 0
-AtSwitch CloseOther side reserved half current bytes reads images = HasOpenGate half × (reads ≡ image_of side reserved half current) × Only reads images
-AtSwitch SyncClosed side reserved half current bytes reads images = HasOpenGate half × (reads ≡ image_of side reserved (closed half) current) × AreTorn side reserved half current 0 1 images
-AtSwitch WriteHalf side reserved half current bytes reads images = (¬ HasOpenGate half) × (reads ≡ image_of side reserved half current) × Only reads images
-AtSwitch SyncHalf side reserved half current bytes reads images = (¬ HasOpenGate half) × (reads ≡ image_of side reserved (written half bytes) current) × AreTorn side reserved half current 1 (length bytes) images
-AtSwitch OpenHalf side reserved half current bytes reads images = (¬ HasOpenGate half) × (reads ≡ image_of side reserved (written half bytes) current) × Only reads images
-AtSwitch SyncOpened side reserved half current bytes reads images = (¬ HasOpenGate half) × (reads ≡ image_of side reserved (begun half bytes) current) × AreTorn side reserved (written half bytes) current 0 1 images
+AtSwitch CloseOther side reserved half current bytes reads images =
+    HasOpenGate half × (reads ≡ image_of side reserved half current) × Only reads images
+AtSwitch SyncClosed side reserved half current bytes reads images =
+    HasOpenGate half × (reads ≡ image_of side reserved (closed half) current)
+    × AreTorn side reserved half current 0 1 images
+AtSwitch WriteHalf side reserved half current bytes reads images =
+    (¬ HasOpenGate half) × (reads ≡ image_of side reserved half current) × Only reads images
+AtSwitch SyncHalf side reserved half current bytes reads images =
+    (¬ HasOpenGate half) × (reads ≡ image_of side reserved (written half bytes) current)
+    × AreTorn side reserved half current 1 (length bytes) images
+AtSwitch OpenHalf side reserved half current bytes reads images =
+    (¬ HasOpenGate half) × (reads ≡ image_of side reserved (written half bytes) current) × Only reads images
+AtSwitch SyncOpened side reserved half current bytes reads images =
+    (¬ HasOpenGate half) × (reads ≡ image_of side reserved (begun half bytes) current)
+    × AreTorn side reserved (written half bytes) current 0 1 images
 AtSwitch Idle side reserved half current bytes reads images = ⊥
 AtSwitch WriteGroup side reserved half current bytes reads images = ⊥
 AtSwitch SyncGroup side reserved half current bytes reads images = ⊥
@@ -53,7 +62,8 @@ pub record IsSnapshot (changes : List Change) (state : State) : Type 0 where
   pub size : length (records_of changes) ≤ MAX_SNAPSHOT
 
 -- a switch is on its way, before the batch that leads from one state to the next
-pub record IsSwitching {D : Type 0} (reads : D → List ℕ) (may_leave : D → List ℕ → Type 0) (store : Store D) (state after : State) : Type 0 where
+pub record IsSwitching {D : Type 0} (reads : D → List ℕ) (may_leave : D → List ℕ → Type 0) (store : Store D)
+    (state after : State) : Type 0 where
   pub reserved : List ℕ
   pub half : List ℕ
   pub other : List ℕ
@@ -69,4 +79,5 @@ pub record IsSwitching {D : Type 0} (reads : D → List ℕ) (may_leave : D → 
   pub after_is : meaning_of store.batch.changes state ≡ after
   pub place : store.plan.place ≡ length store.fresh.bytes + 1
   pub bytes : store.plan.bytes ≡ planned_bytes store.batch.changes
-  pub at : AtSwitch store.phase (opposite store.half) reserved other half store.fresh.bytes (reads store.device) (may_leave store.device)
+  pub at : AtSwitch store.phase (opposite store.half) reserved other half store.fresh.bytes (reads store.device)
+      (may_leave store.device)

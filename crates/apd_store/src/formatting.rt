@@ -34,8 +34,11 @@ fn unmark<D: Disk>(device: &mut D, mark: &[u8; 8]) -> Result<(), DiskFault>
     ensures count { Counts (D.failed device.old) (D.failed device.new) result }
     ensures honest { D.honest device.old ↔ D.honest device.new }
     ensures calls { D.honest device.old → D.moment device.new ≤ D.moment device.old + 4 }
-    ensures any_moment { D.honest device.old → LeavesOnly D.moment D.left_since device.old device.new (λ c. IsMarkedBy mark.now c → D.may_leave device.old c) }
-    ensures unmarked { D.honest device.old → OnOk result ((take 8 (D.reads device.new) ≢ mark.now) × Only (D.reads device.new) (D.may_leave device.new)) }
+    ensures any_moment { D.honest device.old
+        → LeavesOnly D.moment D.left_since device.old device.new (λ c. IsMarkedBy mark.now c
+        → D.may_leave device.old c) }
+    ensures unmarked { D.honest device.old
+        → OnOk result ((take 8 (D.reads device.new) ≢ mark.now) × Only (D.reads device.new) (D.may_leave device.new)) }
 {
     device.sync()?;
     let mut first = [0; 8];
@@ -55,11 +58,14 @@ fn write_heads<D: Disk>(device: &mut D, a: &[u8], b: &[u8]) -> Result<(), DiskFa
     ensures count { Counts (D.failed device.old) (D.failed device.new) result }
     ensures honest { D.honest device.old ↔ D.honest device.new }
     ensures calls { D.honest device.old → D.moment device.new ≤ D.moment device.old + 3 }
-    ensures any_moment { (mark : List ℕ) → D.honest device.old → take 8 (D.reads device.old) ≢ mark → Only (D.reads device.old) (D.may_leave device.old)
+    ensures any_moment { (mark : List ℕ) → D.honest device.old → take 8 (D.reads device.old) ≢ mark
+        → Only (D.reads device.old) (D.may_leave device.old)
         → LeavesOnly D.moment D.left_since device.old device.new (λ c. take 8 c ≢ mark) }
-    ensures heads { (mark : List ℕ) (epoch gate : ℕ) (state : State) → D.honest device.old → take 8 (D.reads device.old) ≢ mark
+    ensures heads { (mark : List ℕ) (epoch gate : ℕ) (state : State) → D.honest device.old
+        → take 8 (D.reads device.old) ≢ mark
         → Only (D.reads device.old) (D.may_leave device.old) → BeginsBy a.now epoch gate state → HasZeroGate b.now
-        → OnOk result (IsLaidOut (D.reads device.new) epoch gate state × (take 8 (D.reads device.new) ≢ mark) × Only (D.reads device.new) (D.may_leave device.new)) }
+        → OnOk result (IsLaidOut (D.reads device.new) epoch gate state × (take 8 (D.reads device.new) ≢ mark)
+        × Only (D.reads device.new) (D.may_leave device.new)) }
 {
     device.write_at(START_A, a)?;
     device.write_at(START_B, b)?;
@@ -73,12 +79,16 @@ fn write_mark<D: Disk>(device: &mut D, mark: &[u8; 8]) -> Result<(), DiskFault>
     ensures count { Counts (D.failed device.old) (D.failed device.new) result }
     ensures honest { D.honest device.old ↔ D.honest device.new }
     ensures calls { D.honest device.old → D.moment device.new ≤ D.moment device.old + 2 }
-    ensures any_moment { (epoch gate : ℕ) (state : State) → D.honest device.old → IsLaidOut (D.reads device.old) epoch gate state
+    ensures any_moment { (epoch gate : ℕ) (state : State) → D.honest device.old
+        → IsLaidOut (D.reads device.old) epoch gate state
         → Only (D.reads device.old) (D.may_leave device.old)
-        → LeavesOnly D.moment D.left_since device.old device.new (λ c. IsMarkedBy mark.now c → ShowsBy mark.now c state) }
-    ensures found { (epoch gate : ℕ) (state : State) → D.honest device.old → IsLaidOut (D.reads device.old) epoch gate state
+        → LeavesOnly D.moment D.left_since device.old device.new (λ c. IsMarkedBy mark.now c
+        → ShowsBy mark.now c state) }
+    ensures found { (epoch gate : ℕ) (state : State) → D.honest device.old
+        → IsLaidOut (D.reads device.old) epoch gate state
         → Only (D.reads device.old) (D.may_leave device.old)
-        → OnOk result (IsFoundBy mark.now (D.reads device.new) A epoch gate false state × Only (D.reads device.new) (D.may_leave device.new)) }
+        → OnOk result (IsFoundBy mark.now (D.reads device.new) A epoch gate false state
+        × Only (D.reads device.new) (D.may_leave device.new)) }
 {
     device.write_at(0, mark)?;
     device.sync()
@@ -94,10 +104,13 @@ fn lay_out<D: Disk>(device: &mut D, mark: &[u8; 8], a: &[u8], b: &[u8]) -> Resul
     ensures count { Counts (D.failed device.old) (D.failed device.new) result }
     ensures honest { D.honest device.old ↔ D.honest device.new }
     ensures calls { D.honest device.old → D.moment device.new ≤ D.moment device.old + 9 }
-    ensures any_moment { (epoch gate : ℕ) (state : State) → D.honest device.old → BeginsBy a.now epoch gate state → HasZeroGate b.now
+    ensures any_moment { (epoch gate : ℕ) (state : State) → D.honest device.old → BeginsBy a.now epoch gate state
+        → HasZeroGate b.now
         → LeavesOnly D.moment D.left_since device.old device.new (MayBeMadeBy mark.now state (D.may_leave device.old)) }
-    ensures found { (epoch gate : ℕ) (state : State) → D.honest device.old → BeginsBy a.now epoch gate state → HasZeroGate b.now
-        → OnOk result (IsFoundBy mark.now (D.reads device.new) A epoch gate false state × Only (D.reads device.new) (D.may_leave device.new)) }
+    ensures found { (epoch gate : ℕ) (state : State) → D.honest device.old → BeginsBy a.now epoch gate state
+        → HasZeroGate b.now
+        → OnOk result (IsFoundBy mark.now (D.reads device.new) A epoch gate false state
+        × Only (D.reads device.new) (D.may_leave device.new)) }
 {
     unmark(device, mark)?;
     write_heads(device, a, b)?;
@@ -111,8 +124,11 @@ fn lay_out_empty<D: Disk>(device: &mut D) -> Result<(), DiskFault>
     ensures count { Counts (D.failed device.old) (D.failed device.new) result }
     ensures honest { D.honest device.old ↔ D.honest device.new }
     ensures calls { D.honest device.old → D.moment device.new ≤ D.moment device.old + 9 }
-    ensures any_moment { D.honest device.old → LeavesOnly D.moment D.left_since device.old device.new (MayBeMade (D.may_leave device.old)) }
-    ensures found { D.honest device.old → OnOk result (IsFound (D.reads device.new) A 1 13 false empty_state × Only (D.reads device.new) (D.may_leave device.new)) }
+    ensures any_moment { D.honest device.old
+        → LeavesOnly D.moment D.left_since device.old device.new (MayBeMade (D.may_leave device.old)) }
+    ensures found { D.honest device.old
+        → OnOk result (IsFound (D.reads device.new) A 1 13 false empty_state
+        × Only (D.reads device.new) (D.may_leave device.new)) }
 {
     lay_out(device, &MAGIC, &HEAD_A, &HEAD_B)
 }
@@ -127,9 +143,13 @@ pub fn format<D: Disk>(alloc: Global, device: D) -> Result<Store<D>, (D, StoreFa
     ensures inside { IfOk result (λ store. IsInside D.size store) }
     ensures empty { D.honest device → IfOk result (λ store. IsIdle D.reads D.may_leave store empty_state) }
     ensures ready { IfOk result (λ store. phase_of store ≡ Phase.Idle) }
-    ensures shown { D.honest device → IfOk result (λ store. (c : List ℕ) → D.may_leave (device_of store) c → Shows c empty_state) }
-    ensures any_moment { D.honest device → IfOk result (λ store. LeavesOnly D.moment D.left_since device (device_of store) (MayBeMade (D.may_leave device))) }
-    ensures any_moment_err { D.honest device → IfErr result (λ e. LeavesOnly D.moment D.left_since device e.0 (MayBeMade (D.may_leave device))) }
+    ensures shown { D.honest device
+        → IfOk result (λ store. (c : List ℕ) → D.may_leave (device_of store) c → Shows c empty_state) }
+    ensures any_moment { D.honest device
+        → IfOk result
+        (λ store. LeavesOnly D.moment D.left_since device (device_of store) (MayBeMade (D.may_leave device))) }
+    ensures any_moment_err { D.honest device
+        → IfErr result (λ e. LeavesOnly D.moment D.left_since device e.0 (MayBeMade (D.may_leave device))) }
     ensures calls { D.honest device → IfOk result (λ store. D.moment (device_of store) ≤ D.moment device + 9) }
     ensures calls_err { D.honest device → IfErr result (λ e. D.moment e.0 ≤ D.moment device + 9) }
     ensures honest { IfOk result (λ store. D.honest device ↔ D.honest (device_of store)) }

@@ -2,18 +2,20 @@
 //! or the table after it.
 #![tactic(auto)]
 
-pub mod fault;
-pub mod formatting;
-pub mod half;
+mod fault;
+mod formatting;
+mod half;
 pub mod laws;
-pub mod phase;
-pub mod reading;
-pub mod recovery;
-pub mod store;
+mod phase;
+mod reading;
+mod recovery;
+mod store;
 mod switching;
 
 pub use fault::StoreFault;
 pub use formatting::format;
+pub use half::Half;
 pub use laws::an_image_shows_one_state;
+pub use phase::Phase;
 pub use recovery::recover;
 pub use store::{Receipt, Store};

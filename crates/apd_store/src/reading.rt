@@ -54,7 +54,8 @@ fn read_half(alloc: Global, half: Half, bytes: &[u8], other: &[u8]) -> Result<Fo
     ensures half { IfOk result (λ found. found.half ≡ half) }
     ensures shows { IfOk result (λ found. HalfShows bytes.now found.epoch found.gate found.table) }
     ensures other { IfOk result (λ found. IsTrue found.other_open ↔ HasOpenGate other.now) }
-    ensures damaged { result ≡ Err StoreFault.Damaged → (epoch gate : ℕ) (state : State) → ¬ HalfShows bytes.now epoch gate state }
+    ensures damaged { result ≡ Err StoreFault.Damaged → (epoch gate : ℕ) (state : State)
+        → ¬ HalfShows bytes.now epoch gate state }
     ensures only { OnErr result ((result ≡ Err StoreFault.Damaged) ⊎ (result ≡ Err StoreFault.NoMemory)) }
 {
     let Some(groups) = read_groups(alloc, bytes)? else {
@@ -98,7 +99,8 @@ pub(crate) fn read_image(alloc: Global, bytes: &[u8]) -> Result<Found, StoreFaul
     ensures ok { IfOk result (λ found. IsFound bytes.now found.half found.epoch found.gate found.other_open found.table) }
     ensures not_a_store { result ≡ Err StoreFault.NotAStore → ¬ IsMarked bytes.now }
     ensures damaged { result ≡ Err StoreFault.Damaged → IsMarked bytes.now × ShowsNone bytes.now }
-    ensures only { OnErr result ((result ≡ Err StoreFault.NotAStore) ⊎ (result ≡ Err StoreFault.Damaged) ⊎ (result ≡ Err StoreFault.NoMemory)) }
+    ensures only { OnErr result ((result ≡ Err StoreFault.NotAStore) ⊎ (result ≡ Err StoreFault.Damaged)
+        ⊎ (result ≡ Err StoreFault.NoMemory)) }
 {
     if !is_marked(bytes) {
         return Err(StoreFault::NotAStore);

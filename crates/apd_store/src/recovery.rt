@@ -32,15 +32,18 @@ fn read_device<D: Disk>(alloc: Global, device: &mut D) -> Result<Vec<u8>, StoreF
     ensures right_length { OnOk result (D.size device.old ≡ DEVICE_LENGTH) }
     ensures bytes { D.honest device.old → IfOk result (λ bytes. bytes.items ≡ D.reads device.old) }
     ensures reads { D.honest device.old → OnOk result (D.reads device.new ≡ D.reads device.old) }
-    ensures durable { D.honest device.old → result ≢ Err StoreFault.Device → Only (D.reads device.old) (D.may_leave device.new) }
+    ensures durable { D.honest device.old → result ≢ Err StoreFault.Device
+        → Only (D.reads device.old) (D.may_leave device.new) }
     ensures calls { D.honest device.old → D.moment device.new ≤ D.moment device.old + 2 }
-    ensures any_moment { D.honest device.old → LeavesOnly D.moment D.left_since device.old device.new (D.may_leave device.old) }
+    ensures any_moment { D.honest device.old
+        → LeavesOnly D.moment D.left_since device.old device.new (D.may_leave device.old) }
     ensures not_a_store { result ≡ Err StoreFault.NotAStore → D.size device.old ≢ DEVICE_LENGTH }
     ensures memory { result ≡ Err StoreFault.NoMemory → D.size device.old ≡ DEVICE_LENGTH }
     ensures count { D.failed device.old ≤ D.failed device.new }
     ensures no_fault { result ≢ Err StoreFault.Device → D.failed device.new ≡ D.failed device.old }
     ensures device { IsErrOf result StoreFault.Device → HasRisen (D.failed device.old) (D.failed device.new) }
-    ensures only { OnErr result ((result ≡ Err StoreFault.NotAStore) ⊎ (result ≡ Err StoreFault.Device) ⊎ (result ≡ Err StoreFault.NoMemory)) }
+    ensures only { OnErr result ((result ≡ Err StoreFault.NotAStore) ⊎ (result ≡ Err StoreFault.Device)
+        ⊎ (result ≡ Err StoreFault.NoMemory)) }
 {
     let Ok(()) = device.sync() else {
         return Err(StoreFault::Device);
@@ -71,20 +74,28 @@ pub fn recover<D: Disk>(alloc: Global, device: D) -> Result<(Store<D>, Table), (
     ensures shown { D.honest device → IfOk result (λ found. Shows (D.reads device) found.1) }
     ensures idle { D.honest device → IfOk result (λ found. IsIdle D.reads D.may_leave found.0 found.1) }
     ensures reads { D.honest device → IfOk result (λ found. D.reads (device_of found.0) ≡ D.reads device) }
-    ensures not_a_store { D.honest device → IfErr result (λ e. e.1 ≡ StoreFault.NotAStore → ¬ IsMarked (D.reads device)) }
-    ensures damaged { D.honest device → IfErr result (λ e. e.1 ≡ StoreFault.Damaged → IsMarked (D.reads device) × ShowsNone (D.reads device)) }
-    ensures any_moment { D.honest device → IfOk result (λ found. LeavesOnly D.moment D.left_since device (device_of found.0) (D.may_leave device)) }
-    ensures any_moment_err { D.honest device → IfErr result (λ e. LeavesOnly D.moment D.left_since device e.0 (D.may_leave device)) }
-    ensures durable_err { D.honest device → IfErr result (λ e. e.1 ≢ StoreFault.Device → Only (D.reads device) (D.may_leave e.0)) }
+    ensures not_a_store { D.honest device
+        → IfErr result (λ e. e.1 ≡ StoreFault.NotAStore → ¬ IsMarked (D.reads device)) }
+    ensures damaged { D.honest device
+        → IfErr result (λ e. e.1 ≡ StoreFault.Damaged → IsMarked (D.reads device) × ShowsNone (D.reads device)) }
+    ensures any_moment { D.honest device
+        → IfOk result (λ found. LeavesOnly D.moment D.left_since device (device_of found.0) (D.may_leave device)) }
+    ensures any_moment_err { D.honest device
+        → IfErr result (λ e. LeavesOnly D.moment D.left_since device e.0 (D.may_leave device)) }
+    ensures durable_err { D.honest device
+        → IfErr result (λ e. e.1 ≢ StoreFault.Device → Only (D.reads device) (D.may_leave e.0)) }
     ensures reads_err { D.honest device → IfErr result (λ e. e.1 ≢ StoreFault.Device → D.reads e.0 ≡ D.reads device) }
-    ensures still_err { D.honest device → IfErr result (λ e. (image : List ℕ) → Only image (D.may_leave device) → Only image (D.may_leave e.0) × (D.reads e.0 ≡ image)) }
+    ensures still_err { D.honest device
+        → IfErr result (λ e. (image : List ℕ) → Only image (D.may_leave device)
+        → Only image (D.may_leave e.0) × (D.reads e.0 ≡ image)) }
     ensures calls { D.honest device → IfOk result (λ found. D.moment (device_of found.0) ≤ D.moment device + 2) }
     ensures calls_err { D.honest device → IfErr result (λ e. D.moment e.0 ≤ D.moment device + 2) }
     ensures honest { IfOk result (λ found. D.honest device ↔ D.honest (device_of found.0)) }
     ensures honest_err { IfErr result (λ e. D.honest device ↔ D.honest e.0) }
     ensures length { OnOk result (D.size device ≡ DEVICE_LENGTH) }
     ensures other_length { IfErr result (λ e. D.size device ≢ DEVICE_LENGTH → (e.1 ≡ StoreFault.NotAStore) ⊎ (e.1 ≡ StoreFault.Device)) }
-    ensures only { IfErr result (λ e. (e.1 ≡ StoreFault.NotAStore) ⊎ (e.1 ≡ StoreFault.Damaged) ⊎ (e.1 ≡ StoreFault.Device) ⊎ (e.1 ≡ StoreFault.NoMemory)) }
+    ensures only { IfErr result (λ e. (e.1 ≡ StoreFault.NotAStore) ⊎ (e.1 ≡ StoreFault.Damaged) ⊎ (e.1 ≡ StoreFault.Device)
+        ⊎ (e.1 ≡ StoreFault.NoMemory)) }
     ensures device { IfErr result (λ e. e.1 ≡ StoreFault.Device → HasRisen (D.failed device) (D.failed e.0)) }
     ensures count { IfOk result (λ found. D.failed (device_of found.0) ≡ D.failed device) }
     ensures count_err { IfErr result (λ e. D.failed device ≤ D.failed e.0) }

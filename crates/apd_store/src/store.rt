@@ -82,7 +82,8 @@ pub(crate) fn no_plan(alloc: Global) -> Plan
 
 // The place of a plan's last byte, which is the next group's gate.
 pub(crate) fn last_place(plan: &Plan) -> usize
-    ensures last { plan.now.place + length plan.now.bytes ≤ HALF_LENGTH → result ≡ plan.now.place + length plan.now.bytes - 1 }
+    ensures last { plan.now.place + length plan.now.bytes ≤ HALF_LENGTH
+        → result ≡ plan.now.place + length plan.now.bytes - 1 }
     ensures inside { plan.now.place + length plan.now.bytes ≤ HALF_LENGTH → result < HALF_LENGTH }
 {
     // Bytes inside a half are far from the end of the numbers.
@@ -100,11 +101,16 @@ pub(crate) fn write_in_half<D: Disk>(
 ) -> Result<(), StoreFault>
     ensures size { D.size device.new ≡ D.size device.old }
     ensures honest { D.honest device.old ↔ D.honest device.new }
-    ensures written { D.honest device.old → OnOk result (D.reads device.new ≡ overwritten (D.reads device.old) (start_of half + place) bytes.now) }
-    ensures stop { D.honest device.old → result ≢ Err StoreFault.Failed → Follows (TornWithin (start_of half + place) (length bytes.now)) (D.may_leave device.old) (D.left_since device.new (D.moment device.old)) }
-    ensures time { D.honest device.old → result ≢ Err StoreFault.Failed → Elapses (D.moment device.old) (D.moment device.new) (D.left_since device.old) (D.left_since device.new) }
+    ensures written { D.honest device.old
+        → OnOk result (D.reads device.new ≡ overwritten (D.reads device.old) (start_of half + place) bytes.now) }
+    ensures stop { D.honest device.old → result ≢ Err StoreFault.Failed
+        → Follows (TornWithin (start_of half + place) (length bytes.now)) (D.may_leave device.old)
+        (D.left_since device.new (D.moment device.old)) }
+    ensures time { D.honest device.old → result ≢ Err StoreFault.Failed
+        → Elapses (D.moment device.old) (D.moment device.new) (D.left_since device.old) (D.left_since device.new) }
     ensures outside { result ≡ Err StoreFault.Failed → device.new ≡ device.old }
-    ensures inside { D.size device.old ≡ DEVICE_LENGTH → place + length bytes.now ≤ HALF_LENGTH → result ≢ Err StoreFault.Failed }
+    ensures inside { D.size device.old ≡ DEVICE_LENGTH → place + length bytes.now ≤ HALF_LENGTH
+        → result ≢ Err StoreFault.Failed }
     ensures only { OnErr result ((result ≡ Err StoreFault.Device) ⊎ (result ≡ Err StoreFault.Failed)) }
     ensures count { D.failed device.old ≤ D.failed device.new }
     ensures no_fault { OnOk result (D.failed device.new ≡ D.failed device.old) }
@@ -127,7 +133,8 @@ pub(crate) fn moved(
     made: Result<(), StoreFault>,
     next: Phase,
 ) -> Result<bool, StoreFault>
-    ensures { MatchResult made (λ _. (phase.new ≡ next) × IfOk result (λ more. IsTrue more ↔ (next ≢ Phase.Done)) × IsOk result)
+    ensures { MatchResult made (λ _. (phase.new ≡ next) × IfOk result (λ more. IsTrue more ↔ (next ≢ Phase.Done))
+        × IsOk result)
         (λ fault. (phase.new ≡ Phase.Failed) × (result ≡ Err fault)) }
 {
     match made {
@@ -227,22 +234,29 @@ impl<D: Disk> Store<D> {
     /// and then `Worn` exactly where the epoch is the greatest. `NoMemory` may come in the place of the last two.
     pub fn begin(&mut self, batch: Batch, table: &Table) -> Result<(), (Batch, StoreFault)>
         ensures inside { IsInside D.size self.old → IsInside D.size self.new }
-        ensures begun { IsIdle D.reads D.may_leave self.old table.now → IsGroup batch.changes → StaySound batch.changes table.now
+        ensures begun { IsIdle D.reads D.may_leave self.old table.now → IsGroup batch.changes
+            → StaySound batch.changes table.now
             → OnOk result (IsCommitting D.reads D.may_leave self.new table.now (meaning_of batch.changes table.now)) }
         ensures idle { OnOk result (phase_of self.old ≡ Phase.Idle) }
         ensures calls { OnOk result ((4 ≤ calls_left self.new) × (calls_left self.new ≤ 10)) }
         ensures four { HasRoom self.old batch.changes → OnOk result (calls_left self.new ≡ 4) }
-        ensures eight { ¬ HasRoom self.old batch.changes → is_other_open self.old ≡ false → OnOk result (calls_left self.new ≡ 8) }
-        ensures ten { ¬ HasRoom self.old batch.changes → is_other_open self.old ≡ true → OnOk result (calls_left self.new ≡ 10) }
+        ensures eight { ¬ HasRoom self.old batch.changes → is_other_open self.old ≡ false
+            → OnOk result (calls_left self.new ≡ 8) }
+        ensures ten { ¬ HasRoom self.old batch.changes → is_other_open self.old ≡ true
+            → OnOk result (calls_left self.new ≡ 10) }
         ensures batch { OnOk result (batch_of self.new ≡ batch) }
         ensures device { device_of self.new ≡ device_of self.old }
         ensures refused { IfErr result (λ e. (e.0 ≡ batch) × (self.new ≡ self.old)) }
         ensures failed { IfErr result (λ e. (e.1 ≡ StoreFault.Failed) ↔ (phase_of self.old ≡ Phase.Failed)) }
-        ensures not_idle { IfErr result (λ e. (e.1 ≡ StoreFault.NotIdle) ↔ ((phase_of self.old ≢ Phase.Failed) × (phase_of self.old ≢ Phase.Idle))) }
-        ensures bad { IfErr result (λ e. e.1 ≡ StoreFault.BadBatch → (¬ HasRoom self.old batch.changes) × (MAX_GROUP < length (records_of batch.changes))) }
-        ensures worn { IfErr result (λ e. e.1 ≡ StoreFault.Worn → (¬ HasRoom self.old batch.changes) × (2 ^ 64 ≤ epoch_of self.old + 1)) }
+        ensures not_idle { IfErr result (λ e. (e.1 ≡ StoreFault.NotIdle)
+            ↔ ((phase_of self.old ≢ Phase.Failed) × (phase_of self.old ≢ Phase.Idle))) }
+        ensures bad { IfErr result (λ e. e.1 ≡ StoreFault.BadBatch
+            → (¬ HasRoom self.old batch.changes) × (MAX_GROUP < length (records_of batch.changes))) }
+        ensures worn { IfErr result (λ e. e.1 ≡ StoreFault.Worn
+            → (¬ HasRoom self.old batch.changes) × (2 ^ 64 ≤ epoch_of self.old + 1)) }
         ensures lasts { ¬ HasRoom self.old batch.changes → OnOk result (epoch_of self.old + 1 < 2 ^ 64) }
-        ensures only { IfErr result (λ e. (e.1 ≡ StoreFault.Failed) ⊎ (e.1 ≡ StoreFault.NotIdle) ⊎ (e.1 ≡ StoreFault.BadBatch) ⊎ (e.1 ≡ StoreFault.Worn) ⊎ (e.1 ≡ StoreFault.NoMemory)) }
+        ensures only { IfErr result (λ e. (e.1 ≡ StoreFault.Failed) ⊎ (e.1 ≡ StoreFault.NotIdle) ⊎ (e.1 ≡ StoreFault.BadBatch)
+            ⊎ (e.1 ≡ StoreFault.Worn) ⊎ (e.1 ≡ StoreFault.NoMemory)) }
     {
         match self.phase {
             Phase::Idle => {}
@@ -260,7 +274,8 @@ impl<D: Disk> Store<D> {
         requires room { HasRoom self.old batch.changes }
         requires idle { phase_of self.old ≡ Phase.Idle }
         ensures inside { IsInside D.size self.old → IsInside D.size self.new }
-        ensures begun { (state : State) → IsIdle D.reads D.may_leave self.old state → IsGroup batch.changes → StaySound batch.changes state
+        ensures begun { (state : State) → IsIdle D.reads D.may_leave self.old state → IsGroup batch.changes
+            → StaySound batch.changes state
             → OnOk result (IsWriting D.reads D.may_leave self.new state (meaning_of batch.changes state)) }
         ensures calls { OnOk result (calls_left self.new ≡ 4) }
         ensures batch { OnOk result (batch_of self.new ≡ batch) }
@@ -280,7 +295,8 @@ impl<D: Disk> Store<D> {
     // The bytes of the other half, begun anew with the next epoch and a snapshot of the table.
     fn new_half(&self, table: &Table) -> Result<Plan, AllocError>
         ensures place { IfOk result (λ fresh. fresh.place ≡ 1) }
-        ensures bytes { IfOk result (λ fresh. fresh.bytes ≡ begun_bytes (min (epoch_of self.now + 1) (2 ^ 64 - 1)) (canonical table.now)) }
+        ensures bytes { IfOk result
+            (λ fresh. fresh.bytes ≡ begun_bytes (min (epoch_of self.now + 1) (2 ^ 64 - 1)) (canonical table.now)) }
         ensures snapshot { OnOk result (IsSnapshot (canonical table.now) table.now) }
     {
         let snapshot = table.snapshot(self.alloc)?;
@@ -291,7 +307,8 @@ impl<D: Disk> Store<D> {
     fn begin_switch(&mut self, batch: Batch, table: &Table) -> Result<(), (Batch, StoreFault)>
         requires idle { phase_of self.old ≡ Phase.Idle }
         ensures inside { IsInside D.size self.old → IsInside D.size self.new }
-        ensures begun { IsIdle D.reads D.may_leave self.old table.now → IsGroup batch.changes → StaySound batch.changes table.now
+        ensures begun { IsIdle D.reads D.may_leave self.old table.now → IsGroup batch.changes
+            → StaySound batch.changes table.now
             → OnOk result (IsSwitching D.reads D.may_leave self.new table.now (meaning_of batch.changes table.now)) }
         ensures eight { is_other_open self.old ≡ false → OnOk result (calls_left self.new ≡ 8) }
         ensures ten { is_other_open self.old ≡ true → OnOk result (calls_left self.new ≡ 10) }
@@ -333,32 +350,41 @@ impl<D: Disk> Store<D> {
         ensures honest { D.honest (device_of self.old) ↔ D.honest (device_of self.new) }
 
         // A stop within the call shows the state before the batch, and where two calls are left or fewer it or the one after.
-        ensures any_moment { (state after : State) → D.honest (device_of self.old) → IsCommitting D.reads D.may_leave self.old state after
-            → LeavesOnly D.moment D.left_since (device_of self.old) (device_of self.new) (MayShow (calls_left self.old) state after) }
-        ensures on { (state after : State) → D.honest (device_of self.old) → IsCommitting D.reads D.may_leave self.old state after
+        ensures any_moment { (state after : State) → D.honest (device_of self.old)
+            → IsCommitting D.reads D.may_leave self.old state after
+            → LeavesOnly D.moment D.left_since (device_of self.old) (device_of self.new)
+            (MayShow (calls_left self.old) state after) }
+        ensures on { (state after : State) → D.honest (device_of self.old)
+            → IsCommitting D.reads D.may_leave self.old state after
             → OnOk result (IsCommitting D.reads D.may_leave self.new state after) }
 
         // The same of a call that failed, once it has; where more than two calls were left the state after shows nowhere.
-        ensures stuck { (state after : State) → D.honest (device_of self.old) → IsCommitting D.reads D.may_leave self.old state after
+        ensures stuck { (state after : State) → D.honest (device_of self.old)
+            → IsCommitting D.reads D.may_leave self.old state after
             → OnErr result (HasFailed D.may_leave self.new state after) }
-        ensures stuck_early { (state after : State) → D.honest (device_of self.old) → IsCommitting D.reads D.may_leave self.old state after
+        ensures stuck_early { (state after : State) → D.honest (device_of self.old)
+            → IsCommitting D.reads D.may_leave self.old state after
             → 2 < calls_left self.old → OnErr result (HasFailed D.may_leave self.new state state) }
 
         // It makes the call that is next, and no other: each call takes the device's moment on by one at most.
-        ensures one_call { D.honest (device_of self.old) → D.moment (device_of self.new) ≤ D.moment (device_of self.old) + 1 }
+        ensures one_call { D.honest (device_of self.old)
+            → D.moment (device_of self.new) ≤ D.moment (device_of self.old) + 1 }
         ensures step { 0 < calls_left self.old → OnOk result (calls_left self.new + 1 ≡ calls_left self.old) }
         ensures done { calls_left self.old ≡ 1 → OnOk result (phase_of self.new ≡ Phase.Done) }
         ensures rest { calls_left self.old ≡ 0 → self.new ≡ self.old }
         ensures batch { batch_of self.new ≡ batch_of self.old }
         ensures left { IfOk result (λ more. IsTrue more ↔ (0 < calls_left self.new)) }
-        ensures err { IfErr result (λ e. (phase_of self.new ≡ Phase.Failed) × ((e ≡ StoreFault.Device) ⊎ (e ≡ StoreFault.Failed))) }
+        ensures err { IfErr result (λ e. (phase_of self.new ≡ Phase.Failed)
+            × ((e ≡ StoreFault.Device) ⊎ (e ≡ StoreFault.Failed))) }
         ensures failed { phase_of self.old ≡ Phase.Failed → result ≡ Err StoreFault.Failed }
         ensures no_call { IsErrOf result StoreFault.Failed → device_of self.new ≡ device_of self.old }
-        ensures only_after { IsInside D.size self.old → IsErrOf result StoreFault.Failed → phase_of self.old ≡ Phase.Failed }
+        ensures only_after { IsInside D.size self.old → IsErrOf result StoreFault.Failed
+            → phase_of self.old ≡ Phase.Failed }
 
         ensures count { D.failed (device_of self.old) ≤ D.failed (device_of self.new) }
         ensures no_fault { OnOk result (D.failed (device_of self.new) ≡ D.failed (device_of self.old)) }
-        ensures device { IsErrOf result StoreFault.Device → HasRisen (D.failed (device_of self.old)) (D.failed (device_of self.new)) }
+        ensures device { IsErrOf result StoreFault.Device
+            → HasRisen (D.failed (device_of self.old)) (D.failed (device_of self.new)) }
     {
         match self.phase {
             Phase::Idle | Phase::Done => Ok(false),
@@ -380,25 +406,33 @@ impl<D: Disk> Store<D> {
         requires { (1 ≤ calls_left self.old) × (calls_left self.old ≤ 4) }
         ensures inside { IsInside D.size self.old → IsInside D.size self.new }
         ensures honest { D.honest (device_of self.old) ↔ D.honest (device_of self.new) }
-        ensures any_moment { (state after : State) → D.honest (device_of self.old) → IsWriting D.reads D.may_leave self.old state after
-            → LeavesOnly D.moment D.left_since (device_of self.old) (device_of self.new) (MayShow (calls_left self.old) state after) }
-        ensures on { (state after : State) → D.honest (device_of self.old) → IsWriting D.reads D.may_leave self.old state after
+        ensures any_moment { (state after : State) → D.honest (device_of self.old)
+            → IsWriting D.reads D.may_leave self.old state after
+            → LeavesOnly D.moment D.left_since (device_of self.old) (device_of self.new)
+            (MayShow (calls_left self.old) state after) }
+        ensures on { (state after : State) → D.honest (device_of self.old)
+            → IsWriting D.reads D.may_leave self.old state after
             → OnOk result (IsWriting D.reads D.may_leave self.new state after) }
-        ensures stuck { (state after : State) → D.honest (device_of self.old) → IsWriting D.reads D.may_leave self.old state after
+        ensures stuck { (state after : State) → D.honest (device_of self.old)
+            → IsWriting D.reads D.may_leave self.old state after
             → OnErr result (HasFailed D.may_leave self.new state after) }
-        ensures stuck_early { (state after : State) → D.honest (device_of self.old) → IsWriting D.reads D.may_leave self.old state after
+        ensures stuck_early { (state after : State) → D.honest (device_of self.old)
+            → IsWriting D.reads D.may_leave self.old state after
             → 2 < calls_left self.old → OnErr result (HasFailed D.may_leave self.new state state) }
-        ensures one_call { D.honest (device_of self.old) → D.moment (device_of self.new) ≤ D.moment (device_of self.old) + 1 }
+        ensures one_call { D.honest (device_of self.old)
+            → D.moment (device_of self.new) ≤ D.moment (device_of self.old) + 1 }
         ensures step { OnOk result (calls_left self.new + 1 ≡ calls_left self.old) }
         ensures done { calls_left self.old ≡ 1 → OnOk result (phase_of self.new ≡ Phase.Done) }
         ensures batch { batch_of self.new ≡ batch_of self.old }
         ensures left { IfOk result (λ more. IsTrue more ↔ (0 < calls_left self.new)) }
-        ensures err { IfErr result (λ e. (phase_of self.new ≡ Phase.Failed) × ((e ≡ StoreFault.Device) ⊎ (e ≡ StoreFault.Failed))) }
+        ensures err { IfErr result (λ e. (phase_of self.new ≡ Phase.Failed)
+            × ((e ≡ StoreFault.Device) ⊎ (e ≡ StoreFault.Failed))) }
         ensures no_call { IsErrOf result StoreFault.Failed → device_of self.new ≡ device_of self.old }
         ensures only_after { IsInside D.size self.old → ¬ IsErrOf result StoreFault.Failed }
         ensures count { D.failed (device_of self.old) ≤ D.failed (device_of self.new) }
         ensures no_fault { OnOk result (D.failed (device_of self.new) ≡ D.failed (device_of self.old)) }
-        ensures device { IsErrOf result StoreFault.Device → HasRisen (D.failed (device_of self.old)) (D.failed (device_of self.new)) }
+        ensures device { IsErrOf result StoreFault.Device
+            → HasRisen (D.failed (device_of self.old)) (D.failed (device_of self.new)) }
     {
         match self.phase {
             Phase::WriteGroup => {
@@ -427,7 +461,8 @@ impl<D: Disk> Store<D> {
         ensures inside { IsInside D.size self.old → IsInside D.size self.new }
         ensures exactly { IsSome result ↔ (phase_of self.old ≡ Phase.Done) }
         ensures receipt { IfSome result (λ receipt. held_batch receipt ≡ batch_of self.old) }
-        ensures settled { (state after : State) → IsCommitting D.reads D.may_leave self.old state after → OnSome result (IsIdle D.reads D.may_leave self.new after) }
+        ensures settled { (state after : State) → IsCommitting D.reads D.may_leave self.old state after
+            → OnSome result (IsIdle D.reads D.may_leave self.new after) }
         ensures idle { OnSome result (phase_of self.new ≡ Phase.Idle) }
         ensures none { phase_of self.old ≢ Phase.Done → self.new ≡ self.old }
         ensures device { device_of self.new ≡ device_of self.old }
@@ -446,11 +481,16 @@ impl<D: Disk> Store<D> {
     /// state before it, and where one call is left that state or the one after; once its last call succeeded
     /// the state after alone; where a call failed one of the two. It does nothing.
     pub fn shown(&self)
-        ensures idle { (state : State) → IsIdle D.reads D.may_leave self.now state → (c : List ℕ) → D.may_leave (device_of self.now) c → Shows c state }
-        ensures under_way { (state after : State) → IsCommitting D.reads D.may_leave self.now state after → (c : List ℕ) → D.may_leave (device_of self.now) c → MayShow (calls_left self.now) state after c }
-        ensures before { (state after : State) → IsCommitting D.reads D.may_leave self.now state after → 2 ≤ calls_left self.now → (c : List ℕ) → D.may_leave (device_of self.now) c → Shows c state }
-        ensures done { (state after : State) → IsCommitting D.reads D.may_leave self.now state after → phase_of self.now ≡ Phase.Done → (c : List ℕ) → D.may_leave (device_of self.now) c → Shows c after }
-        ensures stuck { (state after : State) → HasFailed D.may_leave self.now state after → (c : List ℕ) → D.may_leave (device_of self.now) c → Shows c state ⊎ Shows c after }
+        ensures idle { (state : State) → IsIdle D.reads D.may_leave self.now state → (c : List ℕ)
+            → D.may_leave (device_of self.now) c → Shows c state }
+        ensures under_way { (state after : State) → IsCommitting D.reads D.may_leave self.now state after
+            → (c : List ℕ) → D.may_leave (device_of self.now) c → MayShow (calls_left self.now) state after c }
+        ensures before { (state after : State) → IsCommitting D.reads D.may_leave self.now state after
+            → 2 ≤ calls_left self.now → (c : List ℕ) → D.may_leave (device_of self.now) c → Shows c state }
+        ensures done { (state after : State) → IsCommitting D.reads D.may_leave self.now state after
+            → phase_of self.now ≡ Phase.Done → (c : List ℕ) → D.may_leave (device_of self.now) c → Shows c after }
+        ensures stuck { (state after : State) → HasFailed D.may_leave self.now state after → (c : List ℕ)
+            → D.may_leave (device_of self.now) c → Shows c state ⊎ Shows c after }
     {
         let _ = &self.device;
     }

@@ -22,22 +22,29 @@ impl<D: Disk> Store<D> {
         requires { 4 < calls_left self.old }
         ensures inside { IsInside D.size self.old → IsInside D.size self.new }
         ensures honest { D.honest (device_of self.old) ↔ D.honest (device_of self.new) }
-        ensures any_moment { (state after : State) → D.honest (device_of self.old) → IsSwitching D.reads D.may_leave self.old state after
+        ensures any_moment { (state after : State) → D.honest (device_of self.old)
+            → IsSwitching D.reads D.may_leave self.old state after
             → LeavesOnly D.moment D.left_since (device_of self.old) (device_of self.new) (λ c. Shows c state) }
-        ensures on { (state after : State) → D.honest (device_of self.old) → IsSwitching D.reads D.may_leave self.old state after
-            → OnOk result (IsSwitching D.reads D.may_leave self.new state after ⊎ IsWriting D.reads D.may_leave self.new state after) }
-        ensures stuck { (state after : State) → D.honest (device_of self.old) → IsSwitching D.reads D.may_leave self.old state after
+        ensures on { (state after : State) → D.honest (device_of self.old)
+            → IsSwitching D.reads D.may_leave self.old state after
+            → OnOk result (IsSwitching D.reads D.may_leave self.new state after
+            ⊎ IsWriting D.reads D.may_leave self.new state after) }
+        ensures stuck { (state after : State) → D.honest (device_of self.old)
+            → IsSwitching D.reads D.may_leave self.old state after
             → OnErr result (HasFailed D.may_leave self.new state state) }
-        ensures one_call { D.honest (device_of self.old) → D.moment (device_of self.new) ≤ D.moment (device_of self.old) + 1 }
+        ensures one_call { D.honest (device_of self.old)
+            → D.moment (device_of self.new) ≤ D.moment (device_of self.old) + 1 }
         ensures step { OnOk result (calls_left self.new + 1 ≡ calls_left self.old) }
         ensures batch { batch_of self.new ≡ batch_of self.old }
         ensures left { IfOk result (λ more. IsTrue more ↔ (0 < calls_left self.new)) }
-        ensures err { IfErr result (λ e. (phase_of self.new ≡ Phase.Failed) × ((e ≡ StoreFault.Device) ⊎ (e ≡ StoreFault.Failed))) }
+        ensures err { IfErr result (λ e. (phase_of self.new ≡ Phase.Failed)
+            × ((e ≡ StoreFault.Device) ⊎ (e ≡ StoreFault.Failed))) }
         ensures no_call { IsErrOf result StoreFault.Failed → device_of self.new ≡ device_of self.old }
         ensures only_after { IsInside D.size self.old → ¬ IsErrOf result StoreFault.Failed }
         ensures count { D.failed (device_of self.old) ≤ D.failed (device_of self.new) }
         ensures no_fault { OnOk result (D.failed (device_of self.new) ≡ D.failed (device_of self.old)) }
-        ensures device { IsErrOf result StoreFault.Device → HasRisen (D.failed (device_of self.old)) (D.failed (device_of self.new)) }
+        ensures device { IsErrOf result StoreFault.Device
+            → HasRisen (D.failed (device_of self.old)) (D.failed (device_of self.new)) }
     {
         let side = self.half.other();
         match self.phase {
@@ -80,7 +87,8 @@ impl<D: Disk> Store<D> {
         ensures device { device_of self.new ≡ device_of self.old }
         ensures half { self.new.half ≡ opposite self.old.half }
         ensures epoch { self.old.epoch + 1 < 2 ^ 64 → self.new.epoch ≡ self.old.epoch + 1 }
-        ensures gate { self.old.fresh.place + length self.old.fresh.bytes ≤ HALF_LENGTH → self.new.gate ≡ self.old.fresh.place + length self.old.fresh.bytes - 1 }
+        ensures gate { self.old.fresh.place + length self.old.fresh.bytes ≤ HALF_LENGTH
+            → self.new.gate ≡ self.old.fresh.place + length self.old.fresh.bytes - 1 }
         ensures other { self.new.other_open ≡ true }
         ensures phase { self.new.phase ≡ Phase.WriteGroup }
         ensures batch { self.new.batch ≡ self.old.batch }

@@ -5,10 +5,10 @@
 mod bss_rows;
 mod changes;
 mod denials;
-pub mod snapshot;
-pub mod staged;
+mod snapshot;
+mod staged;
 mod stations;
-pub mod table;
+mod table;
 mod writes;
 
 pub use snapshot::MAX_SNAPSHOT;
