@@ -132,6 +132,7 @@ impl<R: Radio> Slot<R> {
         ensures lost { result ≡ Err SlotFault.Lost
             → IsFrame out.now × ((self.old.up ≡ false) ⊎ HasRisen (R.faults self.old.radio) (R.faults self.new.radio)) }
         ensures silent { IsFrame out.now → self.old.up ≡ false → result ≡ Err SlotFault.Lost }
+        ensures frame { IsFrame out.now → result ≢ Err SlotFault.WentDown }
         ensures not_mine { (result ≡ Err SlotFault.NotMine) ↔ IsText out.now }
         ensures text { IsText out.now → self.new ≡ self.old }
         ensures asleep { self.old.up ≡ false → self.new.radio ≡ self.old.radio }
@@ -296,7 +297,7 @@ impl<R: Radio> Slot<R> {
         ensures other { OnOk result ((R.frames self.new.radio ≡ R.frames radio) × (R.faults self.new.radio ≡ R.faults radio)) }
         ensures own { IfOk result (λ old. (R.frames old ≡ R.frames self.old.radio) × (R.faults old ≡ R.faults self.old.radio)) }
         ensures emptied { IfOk result (λ old. R.stations old ≡ map.empty) }
-        ensures kept { OnErr result (R.stations self.new.radio ≡ R.stations self.old.radio) }
+        ensures kept { OnErr result (self.new.radio ≡ self.old.radio) }
         ensures back { IfErr result (λ failed. (R.stations failed.0 ≡ map.empty) × (R.frames failed.0 ≡ R.frames radio)) }
         ensures errors { IfErr result (λ failed. (failed.1 ≡ SlotFault.WentDown) ⊎ (failed.1 ≡ SlotFault.NoMemory)) }
         ensures down { IfErr result (λ failed. failed.1 ≡ SlotFault.WentDown → HasRisen (R.faults radio) (R.faults failed.0)) }

@@ -97,7 +97,7 @@ module _ {D R : Type 0} (stations : R → Stations) (faults : R → ℕ) (old ne
         ∙ ap (λ t. queue_of old b ++ cond t outs []) (sym (subst (λ (z : Bssid). eq_by_cmp bssid_cmp b z ≡ true) one (tied bssid_total bssid_exact b)))
     | inr apart ↦ both_stay b (h.1.others b (turned b c apart)) ∙ ap (λ t. queue_of old b ++ cond t outs []) (sym apart)
   ]
-  flows b (Hand (Radio c)) NoMemory NoMemory h = both_stay b (h.queues b)
+  flows b (Hand (Radio c)) NoMemory NoMemory h = both_stay b (h.1.queues b)
   flows b (Hand (Radio c)) NoMemory Nothing h = both_stay b (h.1.queues b)
   flows b (Hand (Radio c)) inside told h = absurd h
   flows b (Hand Control) (Handed outs) told h = both_stay b (h.1.queues b)
@@ -151,7 +151,7 @@ module _ {D R : Type 0} (stations : R → Stations) (faults : R → ℕ) (old ne
 
   wants : (b : Bssid) (step : Step) (inside told : Told) (now : Slot R) → Joins stations faults step inside told old new → slot_at (slots_of new) b ≡ Some now → Was b (applied b step told) now
   wants b (Hand (Radio c)) (Handed outs) (Queued count) now h at = was_same b now h.1.slots at
-  wants b (Hand (Radio c)) NoMemory NoMemory now h at = was_same b now h.slots at
+  wants b (Hand (Radio c)) NoMemory NoMemory now h at = was_same b now h.1.slots at
   wants b (Hand (Radio c)) NoMemory Nothing now h at = was_same b now h.1.slots at
   wants b (Hand (Radio c)) inside told now h at = absurd h
   wants b (Apply c) Nothing Nothing now h at = was_same b now h.1.slots at
@@ -176,7 +176,7 @@ module _ {D R : Type 0} (stations : R → Stations) (faults : R → ℕ) (old ne
 
   pub exact : (step : Step) (inside told : Told) → Joins stations faults step inside told old new → AreExact stations (slots_of old) → AreExact stations (slots_of new)
   exact (Hand (Radio c)) (Handed outs) (Queued count) h all = rest_exact h.1.slots all
-  exact (Hand (Radio c)) NoMemory NoMemory h all = rest_exact h.slots all
+  exact (Hand (Radio c)) NoMemory NoMemory h all = rest_exact h.1.slots all
   exact (Hand (Radio c)) NoMemory Nothing h all = rest_exact h.1.slots all
   exact (Hand (Radio c)) inside told h all = absurd h
   exact (Apply c) Nothing Nothing h all = rest_exact h.1.slots all

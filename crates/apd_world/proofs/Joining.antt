@@ -1,5 +1,5 @@
 -- What a world's step does beside its durable core.
-use Rattle.std.proofs.Common.{◌≡◌, ℕ, List, [], ◌++◌, Some, inl, inr, refl, sym, ap, subst, ◌∙◌, set}
+use Rattle.std.proofs.Common.{◌≡◌, ℕ, List, [], ◌++◌, Option, None, Some, inl, inr, refl, sym, ap, subst, ◌∙◌, set}
 use Rattle.apd_base.specs.declared.address.Bssid.{Bssid}
 use Rattle.apd_base.proofs.AddrLaws.{bssid_total, bssid_exact}
 use Rattle.apd_base.proofs.MapLaws.{one_or_apart}
@@ -23,9 +23,12 @@ use Rattle.apd_world.specs.declared.step.Told.TheVariants.{Handed, Queued, Appli
 use Rattle.apd_world.proofs.Goings.{goes_unchanged}
 use Rattle.apd_world.proofs.StepLaws.{step_unchanged}
 
+pub some_not_none : {A : Type 0} (o : Option A) (x : A) → o ≡ Some x → ¬ (o ≡ None)
+some_not_none o x some none = cc
+
 -- inside, memory is lacking or nothing is asked for
 pub lacking : {D : Type 0} (b : Bssid) (d : DurableCore D) → IsStep (Hand (Radio b)) NoMemory d d
-lacking b d = step_unchanged (Hand (Radio b)) NoMemory d d refl refl (goes_unchanged d.core) refl
+lacking b d = step_unchanged (Hand (Radio b)) NoMemory d d refl (tt, refl) (goes_unchanged d.core) refl
 
 pub passed_over : {D : Type 0} (b : Bssid) (d : DurableCore D) → IsStep (Apply b) Nothing d d
 passed_over b d = step_unchanged (Apply b) Nothing d d refl refl (goes_unchanged d.core) refl
@@ -45,7 +48,11 @@ module _ {D R : Type 0} (stations : R → Stations) (faults : R → ℕ) (b : Bs
     durable = h.1;
     joins = (h.2, record { slot = slot; has_slot = has; slots = slots; queue = is ∙ h.3 ∙ ap (λ q. q ++ h.0) was; others = others });
   }
-  hand_joins NoMemory slot queue now has slots was is others h = record { inside = NoMemory; durable = h.0; joins = record { slots = slots; queues = all_stay (is ∙ h.1 ∙ was) others } }
+  hand_joins NoMemory slot queue now has slots was is others h = record {
+    inside = NoMemory;
+    durable = h.0;
+    joins = (some_not_none (slot_at (slots_of old) b) slot has, record { slots = slots; queues = all_stay (is ∙ h.1 ∙ was) others });
+  }
   hand_joins told slot queue now has slots was is others h = absurd h
 
   -- the first out of a queue is applied
@@ -83,11 +90,11 @@ module _ {D R : Type 0} (stations : R → Stations) (faults : R → ℕ) (b : Bs
     joins = (none, record { slots = slots; queues = queues });
   }
 
-  pub lacking_joins : durable_of new ≡ durable_of old → slots_of new ≡ slots_of old → ((c : Bssid) → queue_of new c ≡ queue_of old c) → IsWorldStep stations faults (Hand (Radio b)) NoMemory old new
-  lacking_joins durable slots queues = record {
+  pub lacking_joins : durable_of new ≡ durable_of old → slots_of new ≡ slots_of old → ((c : Bssid) → queue_of new c ≡ queue_of old c) → ¬ HasNoSlot b old → IsWorldStep stations faults (Hand (Radio b)) NoMemory old new
+  lacking_joins durable slots queues some = record {
     inside = NoMemory;
     durable = subst (λ (d : DurableCore D). IsStep (Hand (Radio b)) NoMemory (durable_of old) d) (sym durable) (lacking b (durable_of old));
-    joins = record { slots = slots; queues = queues };
+    joins = (some, record { slots = slots; queues = queues });
   }
 
   pub no_slot_joins : durable_of new ≡ durable_of old → slots_of new ≡ slots_of old → ((c : Bssid) → queue_of new c ≡ queue_of old c) → HasNoSlot b old → IsWorldStep stations faults (Hand (Radio b)) Nothing old new

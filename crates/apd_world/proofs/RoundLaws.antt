@@ -389,19 +389,18 @@ module _ {D : Type 0} (honest : D → Type 0) (reads : D → List ℕ) (may_leav
         no_call_left (phase_of start.flusher) (subst (λ (w : DurableCore D). HasNoCall w) (sym same) none) (ended answer refl).refused.some
 
     pub rests : (first last : Told) (called : Option Commit) → IsMade first last called calls old start now new → HasNoBatch old → HasNoCall old → HasNoReceipt old
-        → ¬ LacksMemory (unwrap_or (said first) (unwrap_or called (unwrap_or (said last) commit.Nothing)))
         → unwrap_or (said first) (unwrap_or called (unwrap_or (said last) commit.Nothing)) ≡ commit.Nothing
-    rests (Loaded (Ok x)) last called m none still free room = no_next m.takes.batch start.core none m.takes.next
-    rests (Loaded (Err fault)) last called m none still free room = no_next m.takes.batch start.core none m.takes.next
-    rests Nothing last called m none still free room = rests_called last called m.takes.1 still free m.made m.ended m.publishes
-    rests NoMemory last called m none still free room = absurd (room tt)
-    rests (Accepted r) last called m none still free room = absurd m.takes
-    rests (Called r) last called m none still free room = absurd m.takes
-    rests (Published r) last called m none still free room = absurd m.takes
-    rests (Handed r) last called m none still free room = absurd m.takes
-    rests (Answered r) last called m none still free room = absurd m.takes
-    rests (Queued r) last called m none still free room = absurd m.takes
-    rests (Applied o r) last called m none still free room = absurd m.takes
+    rests (Loaded (Ok x)) last called m none still free = no_next m.takes.batch start.core none m.takes.next
+    rests (Loaded (Err fault)) last called m none still free = no_next m.takes.batch start.core none m.takes.next
+    rests Nothing last called m none still free = rests_called last called m.takes.1 still free m.made m.ended m.publishes
+    rests NoMemory last called m none still free = absurd (m.takes.0.1 none.1)
+    rests (Accepted r) last called m none still free = absurd m.takes
+    rests (Called r) last called m none still free = absurd m.takes
+    rests (Published r) last called m none still free = absurd m.takes
+    rests (Handed r) last called m none still free = absurd m.takes
+    rests (Answered r) last called m none still free = absurd m.takes
+    rests (Queued r) last called m none still free = absurd m.takes
+    rests (Applied o r) last called m none still free = absurd m.takes
 
     -- ---- how many calls
     pub few_calls : (called : Option Commit) → (called ≡ None → AreMade calls start now) → ((answer : Commit) → called ≡ Some answer → IsRefusedCall answer calls old start now) → calls ≤ 10
@@ -580,7 +579,7 @@ module _ {D : Type 0} (honest : D → Type 0) (reads : D → List ℕ) (may_leav
   pub record IsCommitted (result : Commit) (old new : DurableCore D) : Type 0 where
     pub round : IsRound result old new
     pub outcome : Outcome result old new
-    pub rests : HasNoBatch old → HasNoCall old → HasNoReceipt old → ¬ LacksMemory result → result ≡ commit.Nothing
+    pub rests : HasNoBatch old → HasNoCall old → HasNoReceipt old → result ≡ commit.Nothing
     pub proper : Proper old → Proper new
     pub moments : Proper old → (hs : List Happening) → AreUnsettled hs old.core → LeavesOnly moment left_since (device_of old) (device_of new) (ShowsFront old.core.settled old.core.confs hs)
     pub quiet : Goes [] (λ r. []) old.core new.core
@@ -626,9 +625,8 @@ module _ {D : Type 0} (honest : D → Type 0) (reads : D → List ℕ) (may_leav
     outcome : Outcome result old new
     outcome = subst (λ (a : Commit). Outcome a old new) (sym in_turn) (comes k.calls old k.start now new k.first last called made_all)
 
-    rests_so : HasNoBatch old → HasNoCall old → HasNoReceipt old → ¬ LacksMemory result → result ≡ commit.Nothing
-    rests_so free still done memory =
-        in_turn ∙ rests k.calls old k.start now new k.first last called made_all free still done (subst (λ (a : Commit). ¬ LacksMemory a) in_turn memory)
+    rests_so : HasNoBatch old → HasNoCall old → HasNoReceipt old → result ≡ commit.Nothing
+    rests_so free still done = in_turn ∙ rests k.calls old k.start now new k.first last called made_all free still done
 
     nothing_entered : account old.core.confs (round k.calls) tolds (nothing_yet old.core) ≡ nothing_yet old.core
     nothing_entered = round_enters_none old.core.confs (front_of old.core) old.core.heard k.calls tolds

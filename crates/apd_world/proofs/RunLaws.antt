@@ -420,7 +420,7 @@ hands_then d e f past step = step ∙ ap (λ (w : DurableCore _). record w { cor
 
 tells_only : {D : Type 0} (x : Step) (i : Told) (d e : DurableCore D) → IsHanding x → Tells x i d e → OnlyHands d e
 tells_only (Hand r) (Handed outs) d e hands h = h.only ∙ ap (λ (held : HeldOuts). record d { core = record d.core { held = held } }) (sym (ap (λ (w : DurableCore _). w.core.held) h.only))
-tells_only (Hand r) NoMemory d e hands h = same_hands d e h
+tells_only (Hand r) NoMemory d e hands h = same_hands d e h.1
 tells_only (Hand r) told d e hands h = absurd h
 tells_only (Apply b) Nothing d e hands h = same_hands d e h
 tells_only (Apply b) told d e hands h = absurd h
@@ -474,7 +474,7 @@ ready_kept r q s none = elim (is_or_not r q) [
 -- by one step that hands out
 keeps_ready : {D : Type 0} (r q : Recipient) (i : Told) (d e : DurableCore D) → Tells (Hand q) i d e → ready_for r d.core ≡ [] → ready_for r e.core ≡ []
 keeps_ready r q (Handed outs) d e h none = ap (λ (w : DurableCore _). ready_for r w.core) h.only ∙ ready_kept r q d.core none
-keeps_ready r q NoMemory d e h none = ap (λ (w : DurableCore _). ready_for r w.core) h ∙ none
+keeps_ready r q NoMemory d e h none = ap (λ (w : DurableCore _). ready_for r w.core) h.1 ∙ none
 keeps_ready r q told d e h none = absurd h
 
 abbrev pub IsOfSlot : Step → Type 0
@@ -493,7 +493,7 @@ applies_of_slot (c ∷ confs) (n ∷ counts) = more_of_slot n c.bssid (applies c
 module _ {D R : Type 0} (stations : R → Stations) (faults : R → ℕ) where
   hand_slots : (q : Recipient) (i t : Told) (a b : World D R) → Joins stations faults (Hand q) i t a b → slots_of b ≡ slots_of a
   hand_slots (Radio r) (Handed outs) (Queued count) a b h = h.1.slots
-  hand_slots (Radio r) NoMemory NoMemory a b h = h.slots
+  hand_slots (Radio r) NoMemory NoMemory a b h = h.1.slots
   hand_slots (Radio r) NoMemory Nothing a b h = h.1.slots
   hand_slots (Radio r) i t a b h = absurd h
   hand_slots Control i t a b h = h.1.slots

@@ -114,7 +114,7 @@ module _ {D : Type 0} (old new : DurableCore D) where
             max-le (omega (arith, given, number, l)) (omega (arith, told, number, k));
         number = omega (arith, number);
       }
-  speaks (Hand r) NoMemory h = unchanged old new h
+  speaks (Hand r) NoMemory h = unchanged old new h.1
   speaks (Ask q) (Answered answer) h =
       let core = ap (λ (w : DurableCore D). w.core) h.only in
       let number = ap (λ (s : CoreState). s.number) core in
@@ -130,7 +130,7 @@ module _ {D : Type 0} (old new : DurableCore D) where
       }
   speaks (Ask q) NoMemory h = unchanged old new h
   speaks (Apply b) Nothing h = unchanged old new h
-  speaks (Accept i m) NoMemory h = unchanged old new h
+  speaks (Accept i m) NoMemory h = unchanged old new h.1
   speaks step told h = absurd h
 
 pub steps_speak : {D : Type 0} (steps : List Step) (tolds : List Told) (old new : DurableCore D) → AreSteps steps tolds old new → Speaks old new

@@ -1,5 +1,5 @@
 -- How a durable core goes on by each kind of step.
-use Rattle.std.proofs.Common.{◌≡◌, ℕ, ◌+◌, ◌≤◌, Bool, true, List, [], ◌∷◌, Option, Some, None, ◌⊎◌, inl, ⊎_elim, refl, sym, ap, subst, ◌∙◌, arith, Result, Ok, Err}
+use Rattle.std.proofs.Common.{◌≡◌, ℕ, ◌+◌, ◌≤◌, Bool, true, List, [], ◌∷◌, length, Option, Some, None, ◌⊎◌, inl, ⊎_elim, refl, sym, ap, subst, ◌∙◌, arith, Result, Ok, Err}
 use Rattle.std.specs.Prelude.{max, ◌↔◌, IfSome, IfNone}
 use Rattle.std.proofs.Math.Nat.{le-max_left, le-max_right, max-le}
 use Rattle.std.proofs.lemmas.List.{take-append-le}
@@ -11,9 +11,10 @@ use Rattle.apd_mlme.specs.Rules.{verdict}
 use Rattle.apd_mlme.specs.Run.{AreFit}
 use Rattle.apd_mlme.specs.declared.decision.Out.{Out}
 use Rattle.apd_mlme.specs.declared.decision.Recipient.{Recipient}
+use Rattle.apd_mlme.specs.declared.decision.Recipient.TheVariants.{Radio, Control}
 use Rattle.apd_store.specs.declared.fault.StoreFault.{StoreFault}
 use Rattle.apd_store.specs.declared.fault.StoreFault.TheVariants as store_fault
-use Rattle.apd_core.specs.Core.{CoreState, accepted, after_request, batch_of, changes_of, entered_by, front_of, handed, published, state_after}
+use Rattle.apd_core.specs.Core.{CoreState, accepted, after_request, batch_of, changes_of, entered_by, front_of, handed, published, ready_for, state_after}
 use Rattle.apd_core.specs.Heard.{heard_by}
 use Rattle.apd_core.specs.Invariant.{IsCore}
 use Rattle.apd_core.specs.Requests.{happening_of}
@@ -30,7 +31,7 @@ use Rattle.apd_world.specs.declared.fault.WorldFault.TheVariants as world_fault
 use Rattle.apd_world.specs.Going.{Goes}
 use Rattle.apd_world.specs.Run.{IsStep}
 use Rattle.apd_world.specs.Steps.{entered, entered_as, given, heard_after, heard_as}
-use Rattle.apd_world.specs.Telling.{IsNext, Tells, IsAccepted, IsHanded, IsPublished, IsRead, IsTakenUp, IsCalled, after_call, reception_of}
+use Rattle.apd_world.specs.Telling.{HasReady, IsNext, Tells, IsAccepted, IsHanded, IsPublished, IsRead, IsTakenUp, IsCalled, after_call, reception_of}
 use Rattle.apd_world.specs.Outside.{IsSpoken}
 use Rattle.apd_world.specs.declared.step.Reception.{Reception}
 use Rattle.apd_world.specs.declared.step.Step.{Step}
@@ -65,6 +66,11 @@ module _ {D : Type 0} (step : Step) (told : Told) (old new : DurableCore D) wher
       → Goes (entered old.core.confs old.core.heard step told) (λ r. given r step told) old.core old.core
       → old.core.heard ≡ heard_after old.core.confs (front_of old.core) old.core.heard step told → IsStep step told old new
   step_unchanged is tells goes heard = step_by old.core (ap (λ (w : DurableCore D). w.core) is) (ap (λ (w : DurableCore D). w.told) is) tells goes heard (λ was. was)
+
+-- what is ready
+pub has_ready : (r : Recipient) (s : CoreState) → 1 ≤ length (ready_for r s) → HasReady r s
+has_ready Control s some = some
+has_ready (Radio b) s some = tt
 
 -- ---- a request
 pub record IsRequested (s : CoreState) (m : Moment) (asked : Result Happening QuietReason) (answer : Reception) (next : CoreState) : Type 0 where

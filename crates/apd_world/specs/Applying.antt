@@ -20,6 +20,7 @@ pub record IsGivenOut {R : Type 0} (stations : R → Stations) (faults : R → �
   pub down : answer ≡ Err fault.WentDown → (is_up_of old ≡ true) × HasRisen (faults (radio_of old)) (faults (radio_of new))
   pub lost : answer ≡ Err fault.Lost → IsFrame out × ((is_up_of old ≡ false) ⊎ HasRisen (faults (radio_of old)) (faults (radio_of new)))
   pub silent : IsFrame out → is_up_of old ≡ false → answer ≡ Err fault.Lost
+  pub frame : IsFrame out → answer ≢ Err fault.WentDown
   pub not_mine : (answer ≡ Err fault.NotMine) ↔ IsText out
   pub asleep : is_up_of old ≡ false → radio_of new ≡ radio_of old
   pub stays : OnOk answer (faults (radio_of new) ≡ faults (radio_of old))

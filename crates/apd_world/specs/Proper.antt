@@ -1,12 +1,13 @@
 -- The durable cores of which something is said of a stop: the flusher stands where the core takes it to be (own).
-use Rattle.std.specs.Prelude.{◌≡◌, ◌≤◌, ◌⊎◌, ℕ, List, Some, None, true}
+use Rattle.std.specs.Prelude.{◌≡◌, ◌≤◌, ◌⊎◌, ℕ, List, Some, None, IsSome, true}
 use Rattle.apd_disk.specs.Disk.{LeavesOnly}
 use Rattle.apd_store.specs.Outside.{held_batch}
 use Rattle.apd_store.specs.declared.store.Receipt.{Receipt}
-use Rattle.apd_core.specs.Core.{batch_of}
+use Rattle.apd_core.specs.Core.{CoreState, batch_of, new_core}
 use Rattle.apd_flusher.specs.Flushing.{IsSteady, IsFlushing, IsStuck, IsGood, IsInside}
-use Rattle.apd_flusher.specs.Outside.{batch_of as loaded_batch}
-use Rattle.apd_world.specs.Shown.{ShowsEither, state_after_flight}
+use Rattle.apd_flusher.specs.Outside.{batch_of as loaded_batch, phase_of}
+use Rattle.apd_flusher.specs.declared.phase.Phase.TheVariants as phase
+use Rattle.apd_world.specs.Shown.{AreAfterFlight, AreOfFlight, ShowsEither, state_after_flight}
 use Rattle.apd_world.specs.Outside.{device_of, IsSpoken}
 use Rattle.apd_world.specs.declared.durable_core.DurableCore.{DurableCore}
 
@@ -51,6 +52,16 @@ pub record IsProper {D : Type 0} (honest : D → Type 0) (reads : D → List ℕ
   pub inside : IsInside size w.flusher
   pub spoken : IsSpoken w
   pub stands : IsInStep reads may_leave w
+
+-- Between two steps: a stop leaves images of the settled state, or of that after the batch in flight; from the batch's last call on, if
+-- that succeeded, until it is published, of that after the batch.
+pub record IsShown {D : Type 0} (may_leave : D → List ℕ → Type 0) (w : DurableCore D) : Type 0 where
+  pub now : AreOfFlight w.core (may_leave (device_of w))
+  pub durable : (phase_of w.flusher ≡ phase.Done) ⊎ IsSome w.receipt → AreAfterFlight w.core (may_leave (device_of w))
+
+-- a core that accepted nothing yet
+abbrev pub IsUnused : CoreState → Type 0
+IsUnused s = s ≡ new_core s.settled s.confs s.heard
 
 -- A step from a proper one leaves one, and a stop since its start leaves an image of the settled state, or of that after the
 -- batch in flight.

@@ -1,16 +1,17 @@
 -- What each step does, and what it tells.
-use Rattle.std.specs.Prelude.{◌≡◌, ◌⊎◌, ◌↔◌, ◌≤◌, ◌+◌, ◌^◌, List, Option, Some, None, Result, Ok, Err, true, max, IsTrue}
+use Rattle.std.specs.Prelude.{◌≡◌, ◌⊎◌, ◌↔◌, ◌≤◌, ◌+◌, ◌^◌, List, length, Option, Some, None, Result, Ok, Err, true, max, IsTrue}
 use Rattle.apd_base.specs.declared.moment.Moment.{Moment}
 use Rattle.apd_ctrl.specs.declared.command.Query.{Query}
 use Rattle.apd_journal.specs.declared.batch.Batch.{Batch}
 use Rattle.apd_mlme.specs.Run.{AreFit}
 use Rattle.apd_mlme.specs.declared.decision.Out.{Out}
 use Rattle.apd_mlme.specs.declared.decision.Recipient.{Recipient}
+use Rattle.apd_mlme.specs.declared.decision.Recipient.TheVariants.{Radio, Control}
 use Rattle.apd_store.specs.Outside.{held_batch}
 use Rattle.apd_store.specs.declared.fault.StoreFault.{StoreFault}
 use Rattle.apd_store.specs.declared.fault.StoreFault.TheVariants as store_fault
 use Rattle.apd_store.specs.declared.store.Receipt.{Receipt}
-use Rattle.apd_core.specs.Core.{CoreState, accepted, after_request, answered, cannot_take, front_of, handed, published, ready_for, IsFlight, IsTaken}
+use Rattle.apd_core.specs.Core.{CoreState, accepted, after_request, answered, cannot_take, front_of, handed, published, ready_for, IsDecided, IsFlight, IsTaken}
 use Rattle.apd_core.specs.Requests.{happening_of}
 use Rattle.apd_core.specs.declared.answer.Answer.{Answer}
 use Rattle.apd_core.specs.declared.input.Input.{Input}
@@ -85,6 +86,10 @@ pub record IsTakenUp {D : Type 0} (result : Result (Unit {0}) StoreFault) (old n
   pub tells : LoadTells result batch old.flusher new.flusher
   pub only : new ≡ record old { core = new.core; flusher = new.flusher; batch = waiting result batch }
 
+-- nothing waits, and the core has a batch to give
+abbrev pub CanTake : {D : Type 0} → DurableCore D → Type 0
+CanTake w = (w.batch ≡ None) × ¬ IsTrue (cannot_take w.core)
+
 -- nothing waits, and the core gives no batch
 abbrev pub HasNoBatch : {D : Type 0} → DurableCore D → Type 0
 HasNoBatch w = (w.batch ≡ None) × IsTrue (cannot_take w.core)
@@ -151,6 +156,11 @@ pub record IsRead {D : Type 0} (q : Query) (answer : Answer) (old new : DurableC
   pub answer_is : answer ≡ answered old.core q
   pub only : new ≡ record old { told = max old.told answer.number }
 
+-- some out is ready for control; a radio's may lack room in its queue before
+abbrev pub HasReady : Recipient → CoreState → Type 0
+HasReady Control s = 1 ≤ length (ready_for Control s)
+HasReady (Radio b) s = Unit {0}
+
 -- ---- any step
 abbrev pub Tells : {D : Type 0} → Step → Told → DurableCore D → DurableCore D → Type 0
 Tells (Accept i m) (Accepted answer) old new = IsAccepted i m answer old new
@@ -163,9 +173,9 @@ Tells Publish Nothing old new = HasNoReceipt old × (new ≡ old)
 Tells (Hand r) (Handed outs) old new = IsHanded r outs old new
 Tells (Ask q) (Answered answer) old new = IsRead q answer old new
 Tells (Apply b) Nothing old new = new ≡ old
-Tells (Accept i m) NoMemory old new = new ≡ old
-Tells Take NoMemory old new = (old.batch ≡ None) × (new ≡ old)
-Tells (Hand r) NoMemory old new = new ≡ old
+Tells (Accept i m) NoMemory old new = IsDecided old.core m i × (new ≡ old)
+Tells Take NoMemory old new = CanTake old × (new ≡ old)
+Tells (Hand r) NoMemory old new = HasReady r old.core × (new ≡ old)
 Tells (Ask q) NoMemory old new = new ≡ old
 -- no other step tells so
 Tells step told old new = ⊥

@@ -55,7 +55,7 @@ pub record IsApplied {D R : Type 0} (stations : R → Stations) (faults : R → 
 -- slot nothing is done, and where no out waits nothing is applied. All else is told as it was inside.
 abbrev pub Joins : {D R : Type 0} → (R → Stations) → (R → ℕ) → Step → Told → Told → World D R → World D R → Type 0
 Joins stations faults (Hand (Radio b)) (Handed outs) (Queued count) old new = (count ≡ length outs) × AreQueued b outs old new
-Joins stations faults (Hand (Radio b)) NoMemory NoMemory old new = RestStays old new
+Joins stations faults (Hand (Radio b)) NoMemory NoMemory old new = (¬ HasNoSlot b old) × RestStays old new
 Joins stations faults (Hand (Radio b)) NoMemory Nothing old new = HasNoSlot b old × RestStays old new
 Joins stations faults (Hand (Radio b)) inside told old new = ⊥
 Joins stations faults (Apply b) Nothing Nothing old new = (queue_of old b ≡ []) × RestStays old new

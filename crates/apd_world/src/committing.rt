@@ -62,7 +62,7 @@ impl<D: Disk> DurableCore<D> {
             → 1 ≤ length self.old.core.unsettled → (result ≡ Commit.Settled) × (self.old.core.number < self.new.core.number) }
         ensures settled { result ≡ Commit.Settled → (self.old.core.number < self.new.core.number) × (self.new.core.flight ≡ 0) }
         ensures nothing { result ≡ Commit.Nothing → HasNoBatch self.old × HasNoCall self.old × HasNoReceipt self.old × (self.new ≡ self.old) }
-        ensures rests { HasNoBatch self.old → HasNoCall self.old → HasNoReceipt self.old → ¬ LacksMemory result → result ≡ Commit.Nothing }
+        ensures rests { HasNoBatch self.old → HasNoCall self.old → HasNoReceipt self.old → result ≡ Commit.Nothing }
         ensures proper { IsProper D.honest D.reads D.may_leave D.size self.old → IsProper D.honest D.reads D.may_leave D.size self.new }
         ensures any_moment { IsProper D.honest D.reads D.may_leave D.size self.old → (hs : List Happening) → AreUnsettled hs self.old.core
             → LeavesOnly D.moment D.left_since (device_of self.old) (device_of self.new) (ShowsFront self.old.core.settled self.old.core.confs hs) }

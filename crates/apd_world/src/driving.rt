@@ -1,10 +1,10 @@
 //! A list of steps.
-ghost use Rattle.std.specs.Prelude.{◌≡◌, ◌++◌, IfOk, OnErr, List, ℕ};
+ghost use Rattle.std.specs.Prelude.{◌≡◌, ◌++◌, IfOk, OnErr, OnOk, List, ℕ};
 ghost use Rattle.apd_disk.specs.Disk.{LeavesOnly};
 ghost use Rattle.apd_mlme.specs.Happening.{Happening};
 ghost use Rattle.apd_world.specs.Following.{AreExact, AreFollowing};
 ghost use Rattle.apd_world.specs.Going.{AreUnsettled};
-ghost use Rattle.apd_world.specs.Proper.{IsProper};
+ghost use Rattle.apd_world.specs.Proper.{IsProper, IsShown};
 ghost use Rattle.apd_world.specs.Seen.{durable_of, slots_of};
 ghost use Rattle.apd_world.specs.Shown.{ShowsFront};
 ghost use Rattle.apd_world.specs.Steps.{all_entered};
@@ -19,7 +19,8 @@ use std::alloc::AllocError;
 
 /// Makes the steps in order, and answers what each told. A stop at any moment since then, inside a step or
 /// between two, leaves an image of the table after a front of what was not settled when it began and then of
-/// what happened; and no out was given, and no answer read, of an entry that is not settled.
+/// what happened; and no out was given, and no answer read, of an entry that is not settled. At its end, between
+/// two steps, a stop leaves the settled table, or that after the batch in flight.
 ///
 /// Errors, before the first step: `AllocError`, and the world is as it was.
 pub fn drive<D: Disk, R: Radio>(
@@ -30,6 +31,8 @@ pub fn drive<D: Disk, R: Radio>(
     ensures proper { IsProper D.honest D.reads D.may_leave D.size (durable_of world.old) → IsProper D.honest D.reads D.may_leave D.size (durable_of world.new) }
     ensures any_moment { IsProper D.honest D.reads D.may_leave D.size (durable_of world.old) → IfOk result (λ tolds. (hs : List Happening) → AreUnsettled hs (durable_of world.old).core
         → LeavesOnly D.moment D.left_since (device_of (durable_of world.old)) (device_of (durable_of world.new)) (ShowsFront (durable_of world.old).core.settled (durable_of world.old).core.confs (hs ++ all_entered steps.now tolds.items (durable_of world.old).core))) }
+    ensures between { IsProper D.honest D.reads D.may_leave D.size (durable_of world.old)
+        → OnOk result (IsShown D.may_leave (durable_of world.new)) }
     ensures exact { AreExact R.stations (slots_of world.old) → AreExact R.stations (slots_of world.new) }
     ensures following { AreFollowing world.old → AreFollowing world.new }
     ensures err { OnErr result (world.new ≡ world.old) }
@@ -39,5 +42,6 @@ pub fn drive<D: Disk, R: Radio>(
     for step in steps {
         tolds.push_reserved(world.step(step));
     }
+    world.shown();
     Ok(tolds)
 }

@@ -35,7 +35,7 @@ pub fn only_what_is_settled_is_spoken_of<D: Disk>()
     ensures number { (steps : List Step) (tolds : List Told) (old new : DurableCore D) → AreSteps steps tolds old new → old.core.number ≤ new.core.number }
 {}
 
-/// What leaves is so of everyone whom it is meant for, whatever steps were made from a durable core on whose
+/// What leaves is so of everyone whom it is meant for, whatever steps were made from a durable core whose
 /// table after all entries is sound and has no row of the broadcast address, as an empty one: no request is a
 /// frame from that address, and no row ever has it, so a broadcast frame speaks of every station.
 pub fn what_leaves_is_so_of_everyone<D: Disk>()

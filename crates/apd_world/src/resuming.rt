@@ -60,7 +60,7 @@ fn resume_all<R: Radio>(
 ///
 /// Errors, with the device and the slots handed back: `Store` with `NotAStore` where its length or its magic
 /// differ; else with `Damaged` where the bytes show no state; with `Device` where the device failed in this
-/// call; with `NoMemory`; `Slot`, with the BSSID of the first slot that did not resume, which is down, and
+/// call; with `NoMemory`; `Slot`, with the BSSID of a slot that did not resume, which is down, and
 /// `WentDown`, where its radio's device failed in this call, or `NoMemory`; `NoMemory`. Where a stop left one
 /// image before the call, as after a sync, it leaves that one after any of them.
 pub fn restart<D: Disk, R: Radio>(
@@ -94,6 +94,8 @@ pub fn restart<D: Disk, R: Radio>(
     ensures exact { IfOk result (λ world. AreExact R.stations (slots_of world)) }
     ensures following { IfOk result AreFollowing }
     ensures slots { IfOk result (λ world. AreOfSame slots.items (slots_of world)) }
+    ensures still_slots { IfErr result (λ e. ((b : Address) (fault : Fault) → e.2 ≢ WorldFault.Slot b fault)
+        → e.1.items ≡ slots.items) }
     ensures slots_err { IfErr result (λ e. AreOfSame slots.items e.1.items) }
 {
     let mut slots = slots;

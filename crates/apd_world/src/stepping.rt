@@ -38,7 +38,7 @@ impl<D: Disk> DurableCore<D> {
     ghost use Rattle.apd_world.specs.Proper.{IsProper, IsSafe};
     ghost use Rattle.apd_world.specs.Run.{IsStep};
     ghost use Rattle.apd_world.specs.Shown.{ShowsEither, ShowsFlight};
-    ghost use Rattle.apd_world.specs.Telling.{HasNoBatch, HasNoReceipt, IsNext, IsNextReceipt, after_call};
+    ghost use Rattle.apd_world.specs.Telling.{CanTake, HasNoBatch, HasNoReceipt, IsNext, IsNextReceipt, after_call};
     ghost use Rattle.apd_world.specs.Outside.{device_of};
 
     // What a stop now shows of a proper durable core. It does nothing.
@@ -78,7 +78,7 @@ impl<D: Disk> DurableCore<D> {
         ensures only { self.new ≡ record self.old { core = self.new.core; batch = None } }
         ensures none { IfOk result (λ found. IfNone found (HasNoBatch self.old × (self.new ≡ self.old))) }
         ensures good { IfOk result (λ found. IfSome found (λ batch. self.old.batch ≡ None → IsGood batch.changes self.old.core.settled)) }
-        ensures err { OnErr result ((self.old.batch ≡ None) × (self.new ≡ self.old)) }
+        ensures err { OnErr result (CanTake self.old × (self.new ≡ self.old)) }
     {
         match self.batch.take() {
             Some(batch) => Ok(Some(batch)),
@@ -199,7 +199,7 @@ impl<D: Disk> DurableCore<D> {
         }
     }
 
-    // No radio's out waits, as yet.
+    // The outs of a radio wait at its slot, beside this.
     fn apply(&mut self, bssid: Bssid) -> Told
         ensures step { IsStep (Apply bssid) result self.old self.new }
         ensures safe { IsSafe D.honest D.reads D.may_leave D.moment D.left_since D.size self.old self.new }

@@ -1,5 +1,7 @@
 //! A world: a durable core, and a slot for each interface.
 ghost use Rattle.std.specs.Prelude.{◌≡◌, None};
+ghost use Rattle.apd_flusher.specs.Flushing.{IsInside, IsSteady};
+ghost use Rattle.apd_flusher.specs.Outside.{device_of as device_in};
 
 use crate::durable_core::DurableCore;
 use crate::slots::place_of;
@@ -28,9 +30,14 @@ pub struct World<D: Disk, R: Radio> {
 }
 
 impl<D: Disk, R: Radio> World<D, R> {
+    ghost use Rattle.apd_world.specs.Following.{AreFollowing};
+    ghost use Rattle.apd_world.specs.Proper.{IsProper, IsShown, IsUnused};
+    ghost use Rattle.apd_world.specs.Resumed.{AreResumed};
     ghost use Rattle.apd_world.specs.Seen.{durable_of, slots_of, slot_at, is_up_if};
 
-    /// A flusher, a core and slots, with nothing that waits. It takes no memory.
+    /// A flusher, a core and slots, with nothing that waits. It takes no memory. Over the flusher of a device that shows
+    /// the table of a core that accepted nothing yet, what is said of a stop is so from here on; and where the slots
+    /// have resumed by that table, they follow it.
     pub fn new(alloc: Global, flusher: Flusher<D>, core: Core, slots: Vec<Slot<R>>) -> World<D, R>
         ensures core { (durable_of result).core ≡ core }
         ensures flusher { (durable_of result).flusher ≡ flusher }
@@ -38,6 +45,10 @@ impl<D: Disk, R: Radio> World<D, R> {
         ensures receipt { (durable_of result).receipt ≡ None }
         ensures told { (durable_of result).told ≡ 0 }
         ensures slots { slots_of result ≡ slots.items }
+        ensures proper { IsUnused core → D.honest (device_in flusher) → IsInside D.size flusher
+            → IsSteady D.reads D.may_leave flusher core.settled
+            → IsProper D.honest D.reads D.may_leave D.size (durable_of result) }
+        ensures following { IsUnused core → AreResumed R.stations core.settled slots.items → AreFollowing result }
     {
         World {
             alloc,
@@ -59,6 +70,16 @@ impl<D: Disk, R: Radio> World<D, R> {
         ensures { result.now ≡ (durable_of self.now).core.confs }
     {
         self.durable.confs()
+    }
+
+    /// Tells a caller's proof what a stop now leaves, between two steps: an image of the table after none of what is not
+    /// settled, or after the batch in flight; from the last call of a batch on, if that succeeded, until it is
+    /// published, after that batch. It does nothing.
+    pub fn shown(&self)
+        ensures { IsProper D.honest D.reads D.may_leave D.size (durable_of self.now)
+            → IsShown D.may_leave (durable_of self.now) }
+    {
+        self.durable.shown();
     }
 
     /// Whether the slot of a BSSID is up; not so where it has no slot.

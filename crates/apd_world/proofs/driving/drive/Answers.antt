@@ -42,6 +42,9 @@ returns-clause-any_moment g c =
     c.args.world.now c.loop-step.world c.loop-step-test.false c.loop-step.invariant.driven in
     world_moments g.D.Disk.honest g.D.Disk.reads g.D.Disk.may_leave g.D.Disk.moment g.D.Disk.left_since g.D.Disk.size g.R.Radio.stations g.R.Radio.faults c.args.steps.now c.loop-step.tolds.items c.args.world.now c.loop-step.world d
 
+pub returns-clause-between : goal.returns-clause-between
+returns-clause-between g c = λ proper. c.shown.ensures (c.loop-step.invariant.driven.durable.proper proper)
+
 pub returns-clause-exact : goal.returns-clause-exact
 returns-clause-exact g c = c.loop-step.invariant.driven.exact
 

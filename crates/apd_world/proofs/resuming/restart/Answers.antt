@@ -45,3 +45,6 @@ returns-in-Err-resume_all-clause-only g c =
     let fault = c.in-Err-resume_all.fault in
     let failed = subst (λ zs. HasNotResumed g.R.Radio.faults bssid fault zs xs) c.as_mut_slice.ensures.value c.in-Err-resume_all.ensures.err in
     inr (inr (inr (inr (inr (bssid, fault, refl, subst (HasNotResumed g.R.Radio.faults bssid fault c.args.slots.items) (sym (whole xs c.args.slots.items c.args.slots.len many)) failed)))))
+
+pub returns-in-Err-resume_all-clause-still_slots : goal.returns-in-Err-resume_all-clause-still_slots
+returns-in-Err-resume_all-clause-still_slots g c = λ other. absurd (other c.in-Err-resume_all.bssid c.in-Err-resume_all.fault refl)

@@ -30,7 +30,7 @@ returns-in-Err-clause-step g c =
     let old = c.args.self.now in
     let new : DurableCore _ = record old { core = c.accept.new.self } in
     let same : new ≡ old = λ i. record old { core = c.in-Err.ensures.err i } in
-    step_unchanged (Accept c.args.input c.args.moment) NoMemory old new same same (goes_unchanged old.core) refl
+    step_unchanged (Accept c.args.input c.args.moment) NoMemory old new same (c.in-Err.ensures.lacks, same) (goes_unchanged old.core) refl
 
 pub returns-in-Err-clause-safe : goal.returns-in-Err-clause-safe
 returns-in-Err-clause-safe g c =

@@ -5,7 +5,7 @@ use Rattle.apd_world.specs.declared.step.Told.TheVariants.{NoMemory}
 use Rattle.apd_world.specs.declared.durable_core.DurableCore.{DurableCore}
 use Rattle.apd_world.proofs.Goings.{goes_unchanged}
 use Rattle.apd_world.proofs.Standing.{beside, safe_same, safe_unchanged}
-use Rattle.apd_world.proofs.StepLaws.{hand_step, step_unchanged}
+use Rattle.apd_world.proofs.StepLaws.{hand_step, has_ready, step_unchanged}
 use Rattle.apd_world.proofs.durable_core.DurableCore.hand.Goals as goal
 
 pub returns-in-Ok-clause-step : goal.returns-in-Ok-clause-step
@@ -27,7 +27,7 @@ returns-in-Err-clause-step g c =
     let old = c.args.self.now in
     let new : DurableCore _ = record old { core = c.hand.new.self } in
     let same : new ≡ old = λ i. record old { core = c.in-Err.ensures.err i } in
-    step_unchanged (Hand c.args.to) NoMemory old new same same (goes_unchanged old.core) refl
+    step_unchanged (Hand c.args.to) NoMemory old new same (has_ready c.args.to old.core c.in-Err.ensures.lacks, same) (goes_unchanged old.core) refl
 
 pub returns-in-Err-clause-safe : goal.returns-in-Err-clause-safe
 returns-in-Err-clause-safe g c =

@@ -3,8 +3,8 @@ use Rattle.std.specs.Vec.{with_item}
 use Rattle.std.specs.declared.collections.VecDeque.{VecDeque}
 use Rattle.std.proofs.lemmas.List.{map-set, length-map}
 use Rattle.apd_mlme.specs.declared.decision.Out.{Out}
-use Rattle.apd_world.specs.Seen.{slots_of, slot_in, slot_place, queue_in, queue_of}
-use Rattle.apd_world.proofs.Joining.{hand_joins, lacking_joins, no_slot_joins}
+use Rattle.apd_world.specs.Seen.{slots_of, slot_at, slot_in, slot_place, queue_in, queue_of}
+use Rattle.apd_world.proofs.Joining.{hand_joins, lacking_joins, no_slot_joins, some_not_none}
 use Rattle.apd_world.proofs.SlotLaws.{not_err, other_queues, own_queue, queues_stay, queue_there, slot_is, some_slot}
 use Rattle.apd_world.proofs.Standing.{safe_unchanged}
 use Rattle.apd_world.proofs.world.World.queue_ready.Goals as goal
@@ -23,7 +23,10 @@ pub returns-then-is_err-clause-step : goal.returns-then-is_err-clause-step
 returns-then-is_err-clause-step g c =
     let old = c.args.self.now in
     let new = record old { queues = c.make_queue.new.queues } in
+    let at : slot_place (slots_of old) c.args.bssid ≡ Some c.in-Some.place = ap (λ slots. slot_place slots c.args.bssid) (sym c.deref.ensures.value) ∙ sym c.in-Some.ensures in
+    let slot = some_slot (slots_of old) c.args.bssid c.in-Some.place at in
     lacking_joins g.R.Radio.stations g.R.Radio.faults c.args.bssid old new refl refl (queues_stay old new (λ b. refl) c.make_queue.ensures.same)
+    (some_not_none (slot_at (slots_of old) c.args.bssid) (get_or (slots_of old) c.in-Some.place slot) (slot_is (slots_of old) c.args.bssid c.in-Some.place slot at))
 
 pub returns-then-is_err-clause-safe : goal.returns-then-is_err-clause-safe
 returns-then-is_err-clause-safe g c =
