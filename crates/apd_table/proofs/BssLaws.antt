@@ -63,6 +63,13 @@ pub keys-policy_rows : (xs : List (Bssid × Bss)) → T (is_sorted bssid_cmp xs)
 keys-policy_rows xs h place =
     ap (λ rows. slice_get (list_map (λ (row : Bssid × Policy). row.0) rows) place) (entries-from_sorted bssid_cmp (policy_rows xs) (sorted-policy_rows xs h)) ∙ same_keys xs place
 
+all_keys : (xs : List (Bssid × Bss)) → list_map (λ (row : Bssid × Policy). row.0) (policy_rows xs) ≡ list_map (λ (row : Bssid × Bss). row.0) xs
+all_keys [] = refl
+all_keys (x ∷ xs) = ap (λ ks. x.0 ∷ ks) (all_keys xs)
+
+pub keys_are : (xs : List (Bssid × Bss)) → T (is_sorted bssid_cmp xs) → list_map (λ (row : Bssid × Bss). row.0) xs ≡ map.keys (from_sorted {R = bssid_cmp} (policy_rows xs))
+keys_are xs h = sym (ap (list_map (λ (row : Bssid × Policy). row.0)) (entries-from_sorted bssid_cmp (policy_rows xs) (sorted-policy_rows xs h)) ∙ all_keys xs)
+
 pub no_rows : state_of_rows [] ≡ no_bss
 no_rows = λ i. record { lists = map.empty; policies = empty_of_len (from_sorted {R = bssid_cmp} (policy_rows [])) (len-policy_rows [] tt) i }
 

@@ -13,9 +13,11 @@ mod KeysInOrder
 pub mod ListChanges
 mod ListCounts
 pub mod ListSets
+mod OneDenied
 pub mod PolicySet
 pub mod Put
 mod Replays
 mod RowChanges
 mod SnapshotSize
+mod StationRows
 pub mod Takens

@@ -1,5 +1,5 @@
 -- What a scan for taken identifiers says of a state.
-use Rattle.std.proofs.Common.{◌≡◌, ◌≢◌, ℕ, ◌<◌, ◌≤◌, Bool, true, false, ◌&&◌, Option, Some, None, inl, inr, sym, ap, ◌∙◌, IfSome, IfNone, eq-eqb, arith}
+use Rattle.std.proofs.Common.{◌≡◌, ◌≢◌, ℕ, suc, refl, ◌||◌, ◌<◌, ◌≤◌, Bool, true, false, ◌&&◌, Option, Some, None, inl, inr, sym, ap, ◌∙◌, IfSome, IfNone, eq-eqb, arith}
 use Rattle.std.proofs.lemmas.Bool.{eqb-true, and_parts}
 use Rattle.std.specs.List.{list_any}
 use Rattle.std.specs.FinMap as map
@@ -15,6 +15,15 @@ use Rattle.apd_table.specs.LeastFree.{IsTaken, IsLeastFree}
 use Rattle.apd_table.specs.Rows.{has_aid, IsLeastUnmarked}
 use Rattle.apd_table.proofs.Clashes.{aid_from}
 use Rattle.apd_base.proofs.Cases.{differ}
+
+-- one mark more, and none more
+pub or_on : (t u v : Bool) → ((t || u) || v) ≡ (t || (u || v))
+or_on true u v = refl
+or_on false u v = refl
+
+pub or_none : (t : Bool) → (t || false) ≡ t
+or_none true = refl
+or_none false = refl
 
 module _ (s : State) (b : Bssid) where
   abbrev pub marked : ℕ → Bool
@@ -47,7 +56,7 @@ module _ (s : State) (b : Bssid) where
   all_taken (Some i) h = tt
 
 -- marks that agree up to 2007
-module _ (f g : ℕ → Bool) (same : (i : ℕ) → i < 2008 → f i ≡ g i) where
+module _ (f g : ℕ → Bool) (same : (i : ℕ) → i < suc MAX_STATIONS → f i ≡ g i) where
   pub same_least : (r : Option ℕ) → IfSome r (IsLeastUnmarked f) → IfSome r (IsLeastUnmarked g)
   same_least None h = tt
   same_least (Some i) h = record {
@@ -57,6 +66,6 @@ module _ (f g : ℕ → Bool) (same : (i : ℕ) → i < 2008 → f i ≡ g i) wh
     smaller = λ j low lt. sym (same j (omega (arith, h.high))) ∙ h.smaller j low lt;
   }
 
-  pub same_full : (r : Option ℕ) → IfNone r ((j : ℕ) → 1 ≤ j → j ≤ 2007 → f j ≡ true) → IfNone r ((j : ℕ) → 1 ≤ j → j ≤ 2007 → g j ≡ true)
+  pub same_full : (r : Option ℕ) → IfNone r ((j : ℕ) → 1 ≤ j → j ≤ MAX_STATIONS → f j ≡ true) → IfNone r ((j : ℕ) → 1 ≤ j → j ≤ MAX_STATIONS → g j ≡ true)
   same_full None h = λ j low high. sym (same j (omega arith)) ∙ h j low high
   same_full (Some i) h = tt

@@ -1,5 +1,5 @@
 //! The rows of BSSIDs: each has a policy and two lists.
-ghost use Rattle.std.specs.Prelude.{◌≡◌, ◌<◌, ◌++◌, OnOk, OnErr, IsOk, IfOk, IsSome, IsTrue, T, not};
+ghost use Rattle.std.specs.Prelude.{◌≡◌, ◌<◌, ◌++◌, OnOk, OnErr, IsOk, IfOk, IsSome, IsTrue, T, not, map as list_map};
 ghost use Rattle.std.specs.List.{slice_get};
 ghost use Rattle.std.specs.Option.{option_copied, option_map};
 ghost use Rattle.std.specs.FinMap as map;
@@ -75,6 +75,13 @@ impl BssRows {
         ensures lists { (w : Which) (a : Addr) → is_listed_in (option_copied result) w a ≡ contains self.now.lists (bssid, w, a) }
     {
         rows::value(&self.rows, &bssid)
+    }
+
+    /// The rows, in the order of their BSSIDs.
+    pub fn rows(&self) -> &[(Bssid, Bss)]
+        ensures { list_map (λ row. row.0) result.now ≡ map.keys self.now.policies }
+    {
+        &self.rows
     }
 
     /// How many rows there are.
