@@ -19,12 +19,11 @@ use Rattle.apd_base.specs.Addr.{IsAddr, addr_cmp, bssid_cmp, station_cmp}
 use Rattle.apd_base.specs.declared.address.Addr.{Addr}
 use Rattle.apd_base.specs.declared.address.Bssid.{Bssid}
 use Rattle.apd_base.specs.declared.station.Station.{Station}
-use Rattle.apd_base.specs.declared.station.Station.TheVariants.{Authenticated, Associated}
 use Rattle.apd_base.proofs.AddrLaws.{bssid_total, station_total, station_exact}
 use Rattle.apd_base.proofs.Cases.{is_some_of, none_is}
 use Rattle.apd_base.proofs.Trees.{find-lookup, rising}
 use Rattle.apd_acl.proofs.Above.{IsAbove, NoneAbove}
-use Rattle.apd_table.specs.Rows.{is_row_of, is_other, has_aid}
+use Rattle.apd_table.specs.Rows.{is_row_of}
 
 abbrev pub Row : Type 0
 Row = (Bssid × Addr) × Station
@@ -183,27 +182,3 @@ filter_filtered p q (x ∷ xs) =
       | true ↦ ap (λ ys. cond (q x) (x ∷ ys) ys) (filter_filtered p q xs)
       | false ↦ filter_filtered p q xs
     ]
-
--- a test that only rows of the BSSID pass needs no others
-each_own : (b : Bssid) (test : Row → Bool) → ((row : Row) → (is_row_of b row && test row) ≡ test row) → (rows : List Row) → list_any (λ row. is_row_of b row && test row) rows ≡ list_any test rows
-each_own b test same [] = refl
-each_own b test same (row ∷ rows) = λ i. same row i || each_own b test same rows i
-
-pub own_rows : (b : Bssid) (test : Row → Bool) → ((row : Row) → (is_row_of b row && test row) ≡ test row) → (rows : List Row) → list_any test (filter (is_row_of b) rows) ≡ list_any test rows
-own_rows b test same rows = any_filtered (is_row_of b) test rows ∙ each_own b test same rows
-
-again : (t u : Bool) → (t && (t && u)) ≡ (t && u)
-again true u = refl
-again false u = refl
-
-no_identifier : (t : Bool) → (t && false) ≡ false
-no_identifier true = refl
-no_identifier false = refl
-
-pub own_aid : (b : Bssid) (i : ℕ) (row : Row) → (is_row_of b row && has_aid b i row) ≡ has_aid b i row
-own_aid b i (key, Authenticated) = no_identifier (eq_by_cmp bssid_cmp b key.0)
-own_aid b i (key, Associated x) = again (eq_by_cmp bssid_cmp b key.0) _
-
-pub own_other : (b : Bssid) (a : Addr) (i : ℕ) (row : Row) → (is_row_of b row && is_other b a i row) ≡ is_other b a i row
-own_other b a i (key, Authenticated) = no_identifier (eq_by_cmp bssid_cmp b key.0)
-own_other b a i (key, Associated x) = again (eq_by_cmp bssid_cmp b key.0) _

@@ -11,7 +11,7 @@ use Rattle.apd_base.specs.declared.station.AclMode.{AclMode}
 use Rattle.apd_base.specs.declared.station.Station.{Station}
 use Rattle.apd_base.specs.declared.station.Station.TheVariants.{Authenticated, Associated}
 use Rattle.apd_base.specs.declared.station.Which.TheVariants.{Deny}
-use Rattle.apd_base.specs.Addr.{IsAddr, bssid_cmp, addr_cmp, station_cmp}
+use Rattle.apd_base.specs.Addr.{IsAddr, bssid_cmp, station_cmp}
 use Rattle.apd_base.specs.State.{aid_of}
 use Rattle.apd_acl.specs.Lists.{has, allowed}
 use Rattle.apd_acl.specs.Policy.{is_allowed}
@@ -23,11 +23,6 @@ AreRows rows = T (map.is_sorted station_cmp rows) × AllByRecursion (λ row. IsA
 
 abbrev pub is_row_of : Bssid → (Bssid × Addr) × Station → Bool
 is_row_of b row = eq_by_cmp bssid_cmp b row.0.0
-
--- whether by a row another station of the BSSID than a has the identifier
-abbrev pub is_other : Bssid → Addr → ℕ → (Bssid × Addr) × Station → Bool
-is_other b a i (key, Authenticated) = false
-is_other b a i (key, Associated x) = eq_by_cmp bssid_cmp b key.0 && (not (eq_by_cmp addr_cmp a key.1) && (x.aid.number == i))
 
 -- whether a station is associated at c, where this is what c has of it, and c is not b
 abbrev pub is_associated_apart : Bssid → Bssid → Option Station → Bool

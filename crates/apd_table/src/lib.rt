@@ -5,6 +5,7 @@
 mod bss_rows;
 mod changes;
 mod denials;
+mod members;
 pub mod snapshot;
 pub mod staged;
 mod stations;

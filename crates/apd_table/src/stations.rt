@@ -1,21 +1,17 @@
 //! The station rows, in the order of (BSSID, address).
-ghost use Rattle.std.specs.Prelude.{◌≡◌, ◌≢◌, ℕ, ◌<◌, ◌≤◌, ◌^◌, ◌++◌, ◌||◌, ◌==◌, Some, None, false, true, OnOk, OnErr, IsOk, IsSome, IfOk, IfSome, IfNone, MatchOption, filter, length, slice_index_or};
+ghost use Rattle.std.specs.Prelude.{◌≡◌, ◌≢◌, ◌<◌, ◌^◌, ◌++◌, Some, None, OnOk, OnErr, IsOk, IsSome, IfOk, IfSome, IfNone, filter, length};
 ghost use Rattle.std.specs.BTreeMap.{IsFromIterResult};
-ghost use Rattle.std.specs.List.{list_any};
 ghost use Rattle.std.specs.Map.Iter.{deref_pair};
 ghost use Rattle.std.specs.Option.{option_map};
 ghost use Rattle.std.specs.declared.cmp.Ordering.TheVariants.{Less};
 ghost use Rattle.std.specs.FinMap as map;
-ghost use Rattle.std.specs.Ordering.{eq_by_cmp};
 ghost use Rattle.apd_acl.specs.Least.{IsLeast, IsLeastAbove};
-ghost use Rattle.apd_base.specs.Addr.{IsAddr, addr_cmp, bssid_cmp, station_cmp};
+ghost use Rattle.apd_base.specs.Addr.{IsAddr, addr_cmp, station_cmp};
 ghost use Rattle.apd_base.specs.declared.address.Addr.{Addr};
-ghost use Rattle.apd_base.specs.declared.limits.TheConstants.{MAX_STATIONS};
-ghost use Rattle.apd_table.specs.Rows.{is_row_of, is_other, has_aid, if_row_of, address_and_station, IsLeastUnmarked};
+ghost use Rattle.apd_table.specs.Rows.{is_row_of, if_row_of, address_and_station};
 ghost use Rattle.apd_table.specs.Snapshot.{station_changes};
 
 use crate::snapshot::add_stations;
-use apd_base::limits::MAX_STATIONS;
 use apd_base::{Addr, BROADCAST, Bssid, Station};
 use apd_record::{Change, Changes};
 use std::alloc::{AllocError, Global};
@@ -23,9 +19,6 @@ use std::collections::BTreeMap;
 use std::collections::btree_map::Range;
 use std::marker::Model;
 use std::ops::Bound;
-
-// A place for each identifier, with one at 0 for none.
-const PLACES: usize = MAX_STATIONS + 1;
 
 // No address is below this one.
 const LEAST: Addr = Addr([0, 0, 0, 0, 0, 0]);
@@ -91,85 +84,6 @@ fn told_of(row: Option<(&(Bssid, Addr), &Station)>, bssid: Bssid) -> Option<(Add
     }
 }
 
-// How many rows there are.
-fn count_of(rows: Range<'_, (Bssid, Addr), Station>) -> usize
-    requires { length rows < 2 ^ 63 }
-    ensures { result ≡ length rows.entry }
-{
-    rows.count()
-}
-
-// Whether by one of some rows another station of the BSSID has the identifier.
-fn any_other(rows: Range<'_, (Bssid, Addr), Station>, bssid: Bssid, addr: Addr, aid: u16) -> bool
-    ensures { result ≡ list_any (is_other bssid addr aid) rows.entry }
-{
-    let mut rows = rows;
-    rows.any(|(key, station)| is_other(*key, *station, bssid, addr, aid))
-}
-
-fn is_other(key: (Bssid, Addr), station: Station, bssid: Bssid, addr: Addr, aid: u16) -> bool
-    ensures { result ≡ is_other bssid addr aid (key, station) }
-{
-    match station {
-        Station::Authenticated => false,
-        Station::Associated(association) => {
-            bssid.cmp(&key.0).is_eq() && !addr.cmp(&key.1).is_eq() && association.aid.number == aid
-        }
-    }
-}
-
-// At each place from 1 on, whether that identifier is on a row of the BSSID.
-#[tactic(auto, using(crate::proofs::Takens::or_on, crate::proofs::Takens::or_none))]
-fn taken_in(rows: Range<'_, (Bssid, Addr), Station>, bssid: Bssid) -> [bool; PLACES]
-    ensures { (i : ℕ) → i < PLACES → slice_index_or result i false ≡ list_any (has_aid bssid i) rows.entry }
-{
-    let mut taken = [false; PLACES];
-    for (key, station) in rows {
-        mark(&mut taken, *key, *station, bssid);
-    }
-    taken
-}
-
-// Marks the identifier of a row of the BSSID.
-fn mark(taken: &mut [bool; PLACES], key: (Bssid, Addr), station: Station, bssid: Bssid)
-    ensures { (i : ℕ) → i < PLACES → slice_index_or taken.new i false ≡ (slice_index_or taken.old i false || has_aid bssid i (key, station)) }
-{
-    if let Some(aid) = aid_at(key, station, bssid) {
-        if (aid as usize) < PLACES {
-            taken[aid as usize] = true;
-        }
-    }
-}
-
-// The identifier of a row of the BSSID.
-fn aid_at(key: (Bssid, Addr), station: Station, bssid: Bssid) -> Option<u16>
-    ensures { MatchOption result ((i : ℕ) → has_aid bssid i (key, station) ≡ false) (λ aid. (i : ℕ) → has_aid bssid i (key, station) ≡ (aid == i)) }
-{
-    match station {
-        Station::Associated(association) => {
-            if bssid.cmp(&key.0).is_eq() {
-                Some(association.aid.number)
-            } else {
-                None
-            }
-        }
-        Station::Authenticated => None,
-    }
-}
-
-// The least place from 1 on that is not taken.
-fn least_place(taken: &[bool; PLACES]) -> Option<u16>
-    ensures some { IfSome result (IsLeastUnmarked (λ i. slice_index_or taken.now i false)) }
-    ensures none { IfNone result ((j : ℕ) → 1 ≤ j → j ≤ MAX_STATIONS → slice_index_or taken.now j false ≡ true) }
-{
-    for i in 1..PLACES as u16 {
-        if !taken[i as usize] {
-            return Some(i);
-        }
-    }
-    None
-}
-
 impl Stations {
     /// No row. It takes no memory.
     pub fn new(alloc: Global) -> Self
@@ -232,13 +146,6 @@ impl Stations {
         add_stations(changes, &self.rows)
     }
 
-    /// How many rows a BSSID has.
-    pub fn count(&self, bssid: Bssid) -> usize
-        ensures { result ≡ map.len (map.retain_keys self.now (λ k. eq_by_cmp bssid_cmp bssid k.0)) }
-    {
-        count_of(self.of(bssid))
-    }
-
     /// How many rows there are.
     pub fn len(&self) -> usize
         ensures { result ≡ map.len self.now }
@@ -263,20 +170,5 @@ impl Stations {
     {
         let above = (Bound::Excluded((bssid, addr)), Bound::Unbounded);
         told_of(self.rows.range(above).next(), bssid)
-    }
-
-    /// The least identifier, from 1 on, that is on no row of the BSSID.
-    pub fn least_free(&self, bssid: Bssid) -> Option<u16>
-        ensures some { IfSome result (IsLeastUnmarked (λ i. list_any (has_aid bssid i) (map.entries self.now))) }
-        ensures none { IfNone result ((j : ℕ) → 1 ≤ j → j ≤ MAX_STATIONS → list_any (has_aid bssid j) (map.entries self.now) ≡ true) }
-    {
-        least_place(&taken_in(self.of(bssid), bssid))
-    }
-
-    /// Whether another station of the BSSID has the identifier.
-    pub fn has_other(&self, bssid: Bssid, addr: Addr, aid: u16) -> bool
-        ensures { result ≡ list_any (is_other bssid addr aid) (map.entries self.now) }
-    {
-        any_other(self.of(bssid), bssid, addr, aid)
     }
 }

@@ -11,7 +11,7 @@ ghost use Rattle.apd_base.specs.declared.address.Bssid.{Bssid};
 ghost use Rattle.apd_base.specs.declared.limits.TheConstants.{MAX_BSS, MAX_STATIONS, MAX_LISTED};
 ghost use Rattle.apd_base.specs.declared.station.Which.{Which};
 ghost use Rattle.apd_base.specs.declared.station.Which.TheVariants.{Accept};
-ghost use Rattle.apd_base.specs.State.{aid_of, station_at, policy_at, count, list_count, IsListed, empty_state};
+ghost use Rattle.apd_base.specs.State.{aid_of, aid_at, station_at, policy_at, count, list_count, IsListed, empty_state};
 ghost use Rattle.apd_acl.specs.Least.{IsLeast, IsLeastAbove};
 ghost use Rattle.apd_acl.specs.Lists.{has, list_of};
 ghost use Rattle.apd_record.specs.Meaning.{meaning, meaning_of, put_station, drop_station, add_to_list, take_from_list, clear_list, set_policy};
@@ -19,12 +19,13 @@ ghost use Rattle.apd_record.specs.Record.{records_of};
 ghost use Rattle.apd_record.specs.declared.change.Change.TheVariants.{Drop};
 ghost use Rattle.apd_table.specs.Addresses.{addresses_at, denied_after, is_denied_after, is_address_denied_after};
 ghost use Rattle.apd_table.specs.Allowed.{allowed, allowed_in, allowed_unaccepted, denied_by, mode_and_max};
-ghost use Rattle.apd_table.specs.Can.{CanPut, CanSet, CanAdd, CanTake, CanClear, MayHave, NoneDenied};
+ghost use Rattle.apd_table.specs.Can.{CanPut, CanSet, CanAdd, CanTake, CanClear, IsFreeFor, MayHave, NoneDenied};
 ghost use Rattle.apd_table.specs.LeastFree.{IsLeastFree, IsTaken};
 ghost use Rattle.apd_table.specs.NewRow.{IsNewRow};
 ghost use Rattle.apd_table.specs.Rows.{is_associated_apart};
 ghost use Rattle.apd_table.specs.Snapshot.{canonical};
 ghost use Rattle.apd_table.specs.Sound.{Sound, StaySound};
+ghost use Rattle.apd_table.specs.Words.{AreWords};
 ghost use Rattle.apd_table.specs.declared.snapshot.TheConstants.{MAX_SNAPSHOT};
 ghost use Rattle.apd_table.specs.declared.table.TableFault.{TableFault};
 ghost use Rattle.apd_table.specs.declared.table.TableFault.TheVariants.{NoMemory};
@@ -161,7 +162,20 @@ impl Table {
         ensures some { IfSome result (IsLeastFree self.now bssid) }
         ensures none { IfNone result ((i : ℕ) → 1 ≤ i → i ≤ MAX_STATIONS → IsTaken self.now bssid i) }
     {
-        self.stations.least_free(bssid)
+        match self.bss.get(bssid) {
+            Some(bss) => bss.members.least_free(),
+            None => Some(1),
+        }
+    }
+
+    /// The association identifiers that the stations of a BSSID have, as bits: bit i of word w is that of
+    /// 64 w + i. So bit 0 of word 0 is never set, nor is one from 2008 on. `None` exactly where the BSSID
+    /// has no policy row.
+    pub fn words(&self, bssid: Bssid) -> Option<&[u64; 32]>
+        ensures policy { IsSome result ↔ IsSome (policy_at self.now bssid) }
+        ensures words { IfSome result (λ words. AreWords self.now bssid words.now) }
+    {
+        Some(&self.bss.get(bssid)?.members.words)
     }
 
     /// The BSSID at a place, counted from 0, among those with a policy, which rise; `None` exactly
@@ -183,7 +197,10 @@ impl Table {
     pub fn count(&self, bssid: Bssid) -> usize
         ensures { result ≡ count self.now bssid }
     {
-        self.stations.count(bssid)
+        match self.bss.get(bssid) {
+            Some(bss) => bss.members.count,
+            None => 0,
+        }
     }
 
     /// How many BSSIDs have a policy.
@@ -333,10 +350,41 @@ impl Table {
 
     // Whether the identifier is free at the BSSID, and the station's only one.
     fn may_have(&self, bssid: Bssid, addr: Addr, aid: u16) -> bool
+        requires { aid ≤ MAX_STATIONS }
         ensures { IsTrue result ↔ MayHave self.now bssid addr aid }
     {
         self.sound();
-        !self.stations.has_other(bssid, addr, aid) && !self.is_elsewhere(bssid, addr)
+        self.is_free(bssid, addr, aid) && !self.is_elsewhere(bssid, addr)
+    }
+
+    // Whether no other station of the BSSID has the identifier.
+    fn is_free(&self, bssid: Bssid, addr: Addr, aid: u16) -> bool
+        requires { aid ≤ MAX_STATIONS }
+        ensures { IsTrue result ↔ IsFreeFor self.now bssid addr aid }
+    {
+        self.sound();
+        !self.is_taken(bssid, aid) || self.has_aid(bssid, addr, aid)
+    }
+
+    // Whether a station of the BSSID has the identifier.
+    fn is_taken(&self, bssid: Bssid, aid: u16) -> bool
+        requires { aid ≤ MAX_STATIONS }
+        ensures { IsTrue result ↔ IsTaken self.now bssid aid }
+    {
+        match self.bss.get(bssid) {
+            Some(bss) => bss.members.has(aid),
+            None => false,
+        }
+    }
+
+    // Whether this one has it.
+    fn has_aid(&self, bssid: Bssid, addr: Addr, aid: u16) -> bool
+        ensures { IsTrue result ↔ (aid_at self.now bssid addr ≡ Some aid) }
+    {
+        match self.get(bssid, addr) {
+            Some(Station::Associated(association)) => association.aid.number == aid,
+            Some(Station::Authenticated) | None => false,
+        }
     }
 
     // Whether the station is associated at another BSSID: one that has stations has a policy.
@@ -507,7 +555,9 @@ impl Table {
         ensures change { self.new ≡ drop_station bssid addr self.old }
         ensures sound { Sound (drop_station bssid addr self.old) }
     {
+        let old = self.stations.get(bssid, addr);
         self.stations.remove(bssid, addr);
+        self.bss.change_row(bssid, old, None);
     }
 
     fn put(&mut self, bssid: Bssid, addr: Addr, station: Station) -> Result<(), TableFault>
@@ -521,7 +571,9 @@ impl Table {
         if !self.can_put(bssid, addr, station) {
             return Err(TableFault::Invalid);
         }
+        let old = self.stations.get(bssid, addr);
         self.stations.put(bssid, addr, station)?;
+        self.bss.change_row(bssid, old, Some(station));
         Ok(())
     }
 
