@@ -19,41 +19,44 @@ use Rattle.apd_base.proofs.RowsLaws.{find_tied_head, is_sorted_tail}
 use Rattle.apd_base.proofs.StateLaws.{list_total, list_exact}
 use Rattle.apd_acl.specs.Lists.{list_of, has}
 use Rattle.apd_acl.specs.declared.lists.Lists.{Lists}
-use Rattle.apd_table.specs.BssRows.{add_rows, list_rows, policy_of, policy_rows, state_of_rows, no_bss, is_listed_in}
+use Rattle.apd_table.specs.BssRows.{add_rows, list_rows, members_of, parts_of, policy_of, policy_rows, state_of_rows, no_bss, is_listed_in}
 use Rattle.apd_table.specs.declared.bss_rows.Bss.{Bss}
 use Rattle.apd_table.proofs.ListSets.{contains-insert, same_row}
 
-find-policy_rows : (b : Bssid) (xs : List (Bssid × Bss)) → find bssid_cmp b (policy_rows xs) ≡ option_map policy_of (find bssid_cmp b xs)
-find-policy_rows b [] = refl
-find-policy_rows b (x ∷ xs) =
-    elim (eq_by_cmp bssid_cmp b x.0) as (λ t. cond t (Some x.1.policy) (find bssid_cmp b (policy_rows xs)) ≡ option_map policy_of (cond t (Some x.1) (find bssid_cmp b xs))) [
-      | true ↦ refl
-      | false ↦ find-policy_rows b xs
-    ]
+-- one part of each row
+module _ {V : Type 0} (part : Bss → V) where
+  find-parts_of : (b : Bssid) (xs : List (Bssid × Bss)) → find bssid_cmp b (parts_of part xs) ≡ option_map part (find bssid_cmp b xs)
+  find-parts_of b [] = refl
+  find-parts_of b (x ∷ xs) =
+      elim (eq_by_cmp bssid_cmp b x.0) as (λ t. cond t (Some (part x.1)) (find bssid_cmp b (parts_of part xs)) ≡ option_map part (cond t (Some x.1) (find bssid_cmp b xs))) [
+        | true ↦ refl
+        | false ↦ find-parts_of b xs
+      ]
 
-below-policy_rows : (b : Bssid) (xs : List (Bssid × Bss)) → below_all bssid_cmp b (policy_rows xs) ≡ below_all bssid_cmp b xs
-below-policy_rows b [] = refl
-below-policy_rows b (x ∷ xs) = ap (λ t. is_lt (bssid_cmp b x.0) && t) (below-policy_rows b xs)
+  below-parts_of : (b : Bssid) (xs : List (Bssid × Bss)) → below_all bssid_cmp b (parts_of part xs) ≡ below_all bssid_cmp b xs
+  below-parts_of b [] = refl
+  below-parts_of b (x ∷ xs) = ap (λ t. is_lt (bssid_cmp b x.0) && t) (below-parts_of b xs)
 
-same_sorted : (xs : List (Bssid × Bss)) → is_sorted bssid_cmp (policy_rows xs) ≡ is_sorted bssid_cmp xs
-same_sorted [] = refl
-same_sorted (x ∷ xs) = λ i. below-policy_rows x.0 xs i && same_sorted xs i
+  same_sorted : (xs : List (Bssid × Bss)) → is_sorted bssid_cmp (parts_of part xs) ≡ is_sorted bssid_cmp xs
+  same_sorted [] = refl
+  same_sorted (x ∷ xs) = λ i. below-parts_of x.0 xs i && same_sorted xs i
 
-pub sorted-policy_rows : (xs : List (Bssid × Bss)) → T (is_sorted bssid_cmp xs) → T (is_sorted bssid_cmp (policy_rows xs))
-sorted-policy_rows xs h = subst T (sym (same_sorted xs)) h
+  pub sorted-parts_of : (xs : List (Bssid × Bss)) → T (is_sorted bssid_cmp xs) → T (is_sorted bssid_cmp (parts_of part xs))
+  sorted-parts_of xs h = subst T (sym (same_sorted xs)) h
 
--- a BSSID's policy is that of its row
-pub get-policy_rows : (xs : List (Bssid × Bss)) → T (is_sorted bssid_cmp xs) → (b : Bssid) → map.get (from_sorted {R = bssid_cmp} (policy_rows xs)) b ≡ option_map policy_of (find bssid_cmp b xs)
-get-policy_rows xs h b = get-from_sorted bssid_cmp (policy_rows xs) b (sorted-policy_rows xs h) ∙ find-policy_rows b xs
+  -- that of a BSSID is in its row
+  pub get-parts_of : (xs : List (Bssid × Bss)) → T (is_sorted bssid_cmp xs) → (b : Bssid) → map.get (from_sorted {R = bssid_cmp} (parts_of part xs)) b ≡ option_map part (find bssid_cmp b xs)
+  get-parts_of xs h b = get-from_sorted bssid_cmp (parts_of part xs) b (sorted-parts_of xs h) ∙ find-parts_of b xs
 
--- there are as many, of the same BSSIDs
-length-policy_rows : (xs : List (Bssid × Bss)) → length (policy_rows xs) ≡ length xs
-length-policy_rows [] = refl
-length-policy_rows (x ∷ xs) = ap suc (length-policy_rows xs)
+  length-parts_of : (xs : List (Bssid × Bss)) → length (parts_of part xs) ≡ length xs
+  length-parts_of [] = refl
+  length-parts_of (x ∷ xs) = ap suc (length-parts_of xs)
 
-pub len-policy_rows : (xs : List (Bssid × Bss)) → T (is_sorted bssid_cmp xs) → map.len (from_sorted {R = bssid_cmp} (policy_rows xs)) ≡ length xs
-len-policy_rows xs h = len-entries _ ∙ ap length (entries-from_sorted bssid_cmp (policy_rows xs) (sorted-policy_rows xs h)) ∙ length-policy_rows xs
+  -- there are as many as rows
+  pub len-parts_of : (xs : List (Bssid × Bss)) → T (is_sorted bssid_cmp xs) → map.len (from_sorted {R = bssid_cmp} (parts_of part xs)) ≡ length xs
+  len-parts_of xs h = len-entries _ ∙ ap length (entries-from_sorted bssid_cmp (parts_of part xs) (sorted-parts_of xs h)) ∙ length-parts_of xs
 
+-- the policies are of the same BSSIDs
 same_keys : (xs : List (Bssid × Bss)) (place : ℕ) → slice_get (list_map (λ (row : Bssid × Policy). row.0) (policy_rows xs)) place ≡ option_map (λ (row : Bssid × Bss). row.0) (slice_get xs place)
 same_keys [] place = refl
 same_keys (x ∷ xs) zero = refl
@@ -61,10 +64,21 @@ same_keys (x ∷ xs) (suc place) = same_keys xs place
 
 pub keys-policy_rows : (xs : List (Bssid × Bss)) → T (is_sorted bssid_cmp xs) → (place : ℕ) → slice_get (map.keys (from_sorted {R = bssid_cmp} (policy_rows xs))) place ≡ option_map (λ (row : Bssid × Bss). row.0) (slice_get xs place)
 keys-policy_rows xs h place =
-    ap (λ rows. slice_get (list_map (λ (row : Bssid × Policy). row.0) rows) place) (entries-from_sorted bssid_cmp (policy_rows xs) (sorted-policy_rows xs h)) ∙ same_keys xs place
+    ap (λ rows. slice_get (list_map (λ (row : Bssid × Policy). row.0) rows) place) (entries-from_sorted bssid_cmp (policy_rows xs) (sorted-parts_of policy_of xs h)) ∙ same_keys xs place
+
+all_keys : (xs : List (Bssid × Bss)) → list_map (λ (row : Bssid × Policy). row.0) (policy_rows xs) ≡ list_map (λ (row : Bssid × Bss). row.0) xs
+all_keys [] = refl
+all_keys (x ∷ xs) = ap (λ ks. x.0 ∷ ks) (all_keys xs)
+
+pub keys_are : (xs : List (Bssid × Bss)) → T (is_sorted bssid_cmp xs) → list_map (λ (row : Bssid × Bss). row.0) xs ≡ map.keys (from_sorted {R = bssid_cmp} (policy_rows xs))
+keys_are xs h = sym (ap (list_map (λ (row : Bssid × Policy). row.0)) (entries-from_sorted bssid_cmp (policy_rows xs) (sorted-parts_of policy_of xs h)) ∙ all_keys xs)
 
 pub no_rows : state_of_rows [] ≡ no_bss
-no_rows = λ i. record { lists = map.empty; policies = empty_of_len (from_sorted {R = bssid_cmp} (policy_rows [])) (len-policy_rows [] tt) i }
+no_rows = λ i. record {
+  lists = map.empty;
+  policies = empty_of_len (from_sorted {R = bssid_cmp} (policy_rows [])) (len-parts_of policy_of [] tt) i;
+  members = empty_of_len (from_sorted {R = bssid_cmp} (parts_of members_of [])) (len-parts_of members_of [] tt) i;
+}
 
 spread : (e f g l s : Bool) → ((e && (f && g)) || ((e && (f && l)) || s)) ≡ ((e && (f && (g || l))) || s)
 spread true true true l s = refl

@@ -1,5 +1,5 @@
 -- What a write into the row of a BSSID makes of the list rows and the policy rows.
-use Rattle.std.proofs.Common.{◌≡◌, ℕ, suc, ◌+◌, Bool, true, false, cond, not, ◌&&◌, ◌||◌, List, [], ◌∷◌, Option, Some, None, Result, Ok, Err, OnOk, OnErr, IsSome, inl, inr, refl, sym, ap, subst, ◌∙◌, T, arith, slice_index_or, slice_set}
+use Rattle.std.proofs.Common.{◌≡◌, ℕ, suc, ◌+◌, Bool, true, false, cond, not, ◌&&◌, ◌||◌, List, [], ◌∷◌, Option, Some, None, Result, Ok, Err, OnOk, OnErr, IsSome, IfSome, inl, inr, refl, sym, ap, subst, ◌∙◌, T, arith, slice_index_or, slice_set}
 use Rattle.std.specs.List.{slice_get}
 use Rattle.std.specs.Option.{option_map, is_some}
 use Rattle.std.specs.Ordering.{eq_by_cmp, is_eq}
@@ -7,7 +7,7 @@ use Rattle.std.specs.Cmp.{IsTotalOrder}
 use Rattle.std.specs.declared.cmp.Ordering.{Ordering}
 use Rattle.std.specs.declared.cmp.Ordering.TheVariants.{Less, Equal, Greater}
 use Rattle.std.specs.FinMap as map
-use Rattle.std.specs.FinMap.{find, is_sorted, from_sorted, IsAntisymmetric, get-empty, get-insert, same_map}
+use Rattle.std.specs.FinMap.{FinMap, find, is_sorted, from_sorted, IsAntisymmetric, get-empty, get-insert, same_map}
 use Rattle.std.specs.FinMap.Entries.{find-put}
 use Rattle.std.proofs.lemmas.Option.{get_or_from_slice_get}
 use Rattle.apd_base.specs.Rows.{place, later, by_order, put_at, value_at}
@@ -17,6 +17,7 @@ use Rattle.apd_base.specs.State.{list_cmp, which_cmp, is_row_of}
 use Rattle.apd_base.specs.declared.address.Addr.{Addr}
 use Rattle.apd_base.specs.declared.address.Bssid.{Bssid}
 use Rattle.apd_base.specs.declared.station.Policy.{Policy}
+use Rattle.apd_base.specs.declared.station.Station.{Station}
 use Rattle.apd_base.specs.declared.station.Which.{Which}
 use Rattle.apd_base.specs.declared.station.Which.TheVariants.{Accept, Deny}
 use Rattle.apd_base.proofs.AddrLaws.{bssid_total, bssid_exact}
@@ -25,10 +26,12 @@ use Rattle.apd_base.proofs.RowsLaws.{put-place, find-place}
 use Rattle.apd_base.proofs.RowsMaps.{sorted_put_at}
 use Rattle.apd_base.proofs.StateLaws.{list_total, list_exact}
 use Rattle.apd_acl.specs.Lists.{has, no_lists}
-use Rattle.apd_table.specs.BssRows.{list_rows, state_of_rows, policy_of, policy_rows, is_listed_in, with_policy, with_added, with_removed, with_cleared, at_row}
+use Rattle.apd_table.specs.BssRows.{list_rows, state_of_rows, joined, members_of, parts_of, policy_of, policy_rows, is_listed_in, with_bss, with_policy, with_added, with_removed, with_cleared, with_row, at_row}
 use Rattle.apd_table.specs.BssState.{BssState}
+use Rattle.apd_table.specs.Members.{after_row, no_members, put_after}
 use Rattle.apd_table.specs.declared.bss_rows.Bss.{Bss}
-use Rattle.apd_table.proofs.BssLaws.{get-policy_rows, contains-list_rows}
+use Rattle.apd_table.specs.declared.members.Members.{Members}
+use Rattle.apd_table.proofs.BssLaws.{get-parts_of, contains-list_rows}
 use Rattle.apd_table.proofs.ListSets.{same_set, insert_here, insert_elsewhere, remove_here, remove_elsewhere, clear_here, clear_elsewhere, has_added, has_removed, has_cleared}
 use Rattle.apd_base.proofs.Cases.{none_is}
 
@@ -71,9 +74,9 @@ module _ {K X : Type 0} {R : K → K → Ordering} (o : IsTotalOrder R) (exact :
 abbrev pub Row : Type 0
 Row = Bssid × Bss
 
-map_cond : (t : Bool) (y : Bss) (r : Option Bss) → option_map policy_of (cond t (Some y) r) ≡ cond t (Some (policy_of y)) (option_map policy_of r)
-map_cond true y r = refl
-map_cond false y r = refl
+map_cond : {V : Type 0} (part : Bss → V) (t : Bool) (y : Bss) (r : Option Bss) → option_map part (cond t (Some y) r) ≡ cond t (Some (part y)) (option_map part r)
+map_cond part true y r = refl
+map_cond part false y r = refl
 
 listed_cond : (t : Bool) (y : Bss) (r : Option Bss) (w : Which) (a : Addr) → is_listed_in (cond t (Some y) r) w a ≡ cond t (has y.lists w a) (is_listed_in r w a)
 listed_cond true y r w a = refl
@@ -83,22 +86,31 @@ module _ (xs : List Row) (sorted : T (is_sorted bssid_cmp xs)) (b : Bssid) where
   abbrev pub written : Bss → List Row
   written y = put_at xs b y (place bssid_cmp b xs)
 
-  abbrev old_policies : map.FinMap bssid_cmp Policy
-  old_policies = from_sorted (policy_rows xs)
-
   pub sorted_written : (y : Bss) → T (is_sorted bssid_cmp (written y))
   sorted_written y = sorted_put_at bssid_total bssid_exact b y xs sorted
 
   find_written : (y : Bss) (c : Bssid) → find bssid_cmp c (written y) ≡ cond (eq_by_cmp bssid_cmp c b) (Some y) (find bssid_cmp c xs)
   find_written y c = ap (find bssid_cmp c) (sym (put-place bssid_total bssid_exact b y xs)) ∙ find-put bssid_cmp bssid_total c b y xs
 
-  get_written : (y : Bss) (c : Bssid) → map.get (from_sorted {R = bssid_cmp} (policy_rows (written y))) c ≡ cond (eq_by_cmp bssid_cmp c b) (Some (policy_of y)) (map.get old_policies c)
-  get_written y c =
-      get-policy_rows (written y) (sorted_written y) c ∙ ap (option_map policy_of) (find_written y c) ∙ map_cond (eq_by_cmp bssid_cmp c b) y (find bssid_cmp c xs)
-      ∙ ap (cond (eq_by_cmp bssid_cmp c b) (Some (policy_of y))) (sym (get-policy_rows xs sorted c))
+  -- one part of each row
+  module _ {V : Type 0} (part : Bss → V) where
+    abbrev olds : FinMap bssid_cmp V
+    olds = from_sorted (parts_of part xs)
 
-  pub policies_set : (y : Bss) → from_sorted {R = bssid_cmp} (policy_rows (written y)) ≡ map.insert old_policies b (policy_of y)
-  policies_set y = same_map bssid_total bssid_exact _ _ (λ c. get_written y c ∙ sym (get-insert bssid_total old_policies b (policy_of y) c))
+    get_written : (y : Bss) (c : Bssid) → map.get (from_sorted {R = bssid_cmp} (parts_of part (written y))) c ≡ cond (eq_by_cmp bssid_cmp c b) (Some (part y)) (map.get olds c)
+    get_written y c =
+        get-parts_of part (written y) (sorted_written y) c ∙ ap (option_map part) (find_written y c) ∙ map_cond part (eq_by_cmp bssid_cmp c b) y (find bssid_cmp c xs)
+        ∙ ap (cond (eq_by_cmp bssid_cmp c b) (Some (part y))) (sym (get-parts_of part xs sorted c))
+
+    pub parts_set : (y : Bss) → from_sorted {R = bssid_cmp} (parts_of part (written y)) ≡ map.insert olds b (part y)
+    parts_set y = same_map bssid_total bssid_exact _ _ (λ c. get_written y c ∙ sym (get-insert bssid_total olds b (part y) c))
+
+    pub parts_kept : (x : Bss) → find bssid_cmp b xs ≡ Some x → (y : Bss) → part y ≡ part x → from_sorted {R = bssid_cmp} (parts_of part (written y)) ≡ olds
+    parts_kept x found y same = same_map bssid_total bssid_exact _ _ (λ c. get_written y c ∙ elim (one_or_apart bssid_total bssid_exact c b) [
+      | inl e ↦ ap (λ t. cond t (Some (part y)) (map.get olds c)) (ap (λ d. eq_by_cmp bssid_cmp d b) e ∙ tied bssid_total bssid_exact b)
+          ∙ ap Some same ∙ sym (ap (map.get olds) e ∙ get-parts_of part xs sorted b ∙ ap (option_map part) found)
+      | inr apart ↦ ap (λ t. cond t (Some (part y)) (map.get olds c)) apart
+    ])
 
   contains_written : (y : Bss) (c : Bssid) (w : Which) (a : Addr) → contains (list_rows (written y)) (c, w, a) ≡ cond (eq_by_cmp bssid_cmp c b) (has y.lists w a) (contains (list_rows xs) (c, w, a))
   contains_written y c w a =
@@ -147,24 +159,15 @@ module _ (xs : List Row) (sorted : T (is_sorted bssid_cmp xs)) (b : Bssid) where
     listed_here : (v : Which) (d : Addr) → contains (list_rows xs) (b, v, d) ≡ has x.lists v d
     listed_here v d = contains-list_rows xs b v d sorted ∙ ap (λ r. is_listed_in r v d) found
 
-    policies_kept : (y : Bss) → policy_of y ≡ policy_of x → from_sorted {R = bssid_cmp} (policy_rows (written y)) ≡ old_policies
-    policies_kept y same = same_map bssid_total bssid_exact _ _ (λ c. get_written y c ∙ elim (one_or_apart bssid_total bssid_exact c b) [
-      | inl e ↦ ap (λ t. cond t (Some (policy_of y)) (map.get old_policies c)) (ap (λ d. eq_by_cmp bssid_cmp d b) e ∙ tied bssid_total bssid_exact b)
-          ∙ ap Some same ∙ sym (ap (map.get old_policies) e ∙ get-policy_rows xs sorted b ∙ ap (option_map policy_of) found)
-      | inr apart ↦ ap (λ t. cond t (Some (policy_of y)) (map.get old_policies c)) apart
-    ])
+    -- a row with the same lists
+    pub lists_kept : (y : Bss) → y.lists ≡ x.lists → list_rows (written y) ≡ list_rows xs
+    lists_kept y same = lists_become y (list_rows xs) (λ v d. listed_here v d ∙ ap (λ lists. has lists v d) (sym same)) (λ c apart v d. refl)
 
-    pub lists_kept : (p : Policy) → list_rows (written (with_policy p x)) ≡ list_rows xs
-    lists_kept p = lists_become (with_policy p x) (list_rows xs) listed_here (λ c apart v d. refl)
+    pub policy_is : map.get (from_sorted {R = bssid_cmp} (policy_rows xs)) b ≡ Some (policy_of x)
+    policy_is = get-parts_of policy_of xs sorted b ∙ ap (option_map policy_of) found
 
-    pub policies_added : (w : Which) (a : Addr) → from_sorted {R = bssid_cmp} (policy_rows (written (with_added w a x))) ≡ old_policies
-    policies_added w a = policies_kept (with_added w a x) refl
-
-    pub policies_removed : (w : Which) (a : Addr) → from_sorted {R = bssid_cmp} (policy_rows (written (with_removed w a x))) ≡ old_policies
-    policies_removed w a = policies_kept (with_removed w a x) refl
-
-    pub policies_cleared : (w : Which) → from_sorted {R = bssid_cmp} (policy_rows (written (with_cleared w x))) ≡ old_policies
-    policies_cleared w = policies_kept (with_cleared w x) refl
+    pub members_are : map.get (from_sorted {R = bssid_cmp} (parts_of members_of xs)) b ≡ Some (members_of x)
+    members_are = get-parts_of members_of xs sorted b ∙ ap (option_map members_of) found
 
     pub lists_added : (w : Which) (a : Addr) → list_rows (written (with_added w a x)) ≡ map.insert (list_rows xs) (b, w, a) tt
     lists_added w a = lists_become (with_added w a x) _
@@ -193,7 +196,10 @@ none_has Deny d = ap is_some (get-empty addr_cmp d)
 
 -- the states that these writes leave
 abbrev pub policies_with : Bssid → Policy → BssState → BssState
-policies_with b p s = record s { policies = map.insert s.policies b p }
+policies_with b p s = with_bss s b p
+
+abbrev pub members_with : Option Station → Option Station → Bssid → BssState → BssState
+members_with old new b s = record s { members = after_row old new b s.members }
 
 abbrev pub lists_with : Bssid → Which → Addr → BssState → BssState
 lists_with b w a s = record s { lists = map.insert s.lists (b, w, a) tt }
@@ -205,29 +211,68 @@ abbrev pub lists_clear : Bssid → Which → BssState → BssState
 lists_clear b w s = record s { lists = map.retain_keys s.lists (λ row. not (is_row_of b w row)) }
 
 module _ (xs : List Row) (sorted : T (is_sorted bssid_cmp xs)) (b : Bssid) where
-  pub state_new : find bssid_cmp b xs ≡ None → (p : Policy) → state_of_rows (put_at xs b (record { policy = p; lists = no_lists }) (place bssid_cmp b xs)) ≡ policies_with b p (state_of_rows xs)
+  abbrev members : FinMap bssid_cmp Members
+  members = from_sorted (parts_of members_of xs)
+
+  pub state_new : find bssid_cmp b xs ≡ None → (p : Policy) → state_of_rows (put_at xs b (record { policy = p; lists = no_lists; members = no_members }) (place bssid_cmp b xs)) ≡ policies_with b p (state_of_rows xs)
   state_new none p =
-      let y : Bss = record { policy = p; lists = no_lists } in
-      λ i. record { lists = lists_new xs sorted b none y (λ v d. none_has v d) i; policies = policies_set xs sorted b y i }
+      let y : Bss = record { policy = p; lists = no_lists; members = no_members } in
+      let without : map.get (from_sorted {R = bssid_cmp} (policy_rows xs)) b ≡ None = get-parts_of policy_of xs sorted b ∙ ap (option_map policy_of) none in
+      λ i. record {
+        lists = lists_new xs sorted b none y (λ v d. none_has v d) i;
+        policies = parts_set xs sorted b policy_of y i;
+        members = (parts_set xs sorted b members_of y ∙ ap (λ o. joined o members b) (sym without)) i;
+      }
 
   module _ (x : Bss) (found : find bssid_cmp b xs ≡ Some x) where
     pub state_set : (p : Policy) → state_of_rows (put_at xs b (with_policy p x) (place bssid_cmp b xs)) ≡ policies_with b p (state_of_rows xs)
-    state_set p = λ i. record { lists = lists_kept xs sorted b x found p i; policies = policies_set xs sorted b (with_policy p x) i }
+    state_set p = λ i. record {
+      lists = lists_kept xs sorted b x found (with_policy p x) refl i;
+      policies = parts_set xs sorted b policy_of (with_policy p x) i;
+      members = (parts_kept xs sorted b members_of x found (with_policy p x) refl ∙ ap (λ o. joined o members b) (sym (policy_is xs sorted b x found))) i;
+    }
+
+    -- what is kept of the stations
+    pub state_row : (old new : Option Station) → state_of_rows (put_at xs b (with_row old new x) (place bssid_cmp b xs)) ≡ members_with old new b (state_of_rows xs)
+    state_row old new = λ i. record {
+      lists = lists_kept xs sorted b x found (with_row old new x) refl i;
+      policies = parts_kept xs sorted b policy_of x found (with_row old new x) refl i;
+      members = (parts_set xs sorted b members_of (with_row old new x) ∙ ap (put_after old new b members) (sym (members_are xs sorted b x found))) i;
+    }
 
     pub state_added : (w : Which) (a : Addr) → state_of_rows (put_at xs b (with_added w a x) (place bssid_cmp b xs)) ≡ lists_with b w a (state_of_rows xs)
-    state_added w a = λ i. record { lists = lists_added xs sorted b x found w a i; policies = policies_added xs sorted b x found w a i }
+    state_added w a = λ i. record {
+      lists = lists_added xs sorted b x found w a i;
+      policies = parts_kept xs sorted b policy_of x found (with_added w a x) refl i;
+      members = parts_kept xs sorted b members_of x found (with_added w a x) refl i;
+    }
 
     pub state_removed : (w : Which) (a : Addr) → state_of_rows (put_at xs b (with_removed w a x) (place bssid_cmp b xs)) ≡ lists_without b w a (state_of_rows xs)
-    state_removed w a = λ i. record { lists = lists_removed xs sorted b x found w a i; policies = policies_removed xs sorted b x found w a i }
+    state_removed w a = λ i. record {
+      lists = lists_removed xs sorted b x found w a i;
+      policies = parts_kept xs sorted b policy_of x found (with_removed w a x) refl i;
+      members = parts_kept xs sorted b members_of x found (with_removed w a x) refl i;
+    }
 
     pub state_cleared : (w : Which) → state_of_rows (put_at xs b (with_cleared w x) (place bssid_cmp b xs)) ≡ lists_clear b w (state_of_rows xs)
-    state_cleared w = λ i. record { lists = lists_cleared xs sorted b x found w i; policies = policies_cleared xs sorted b x found w i }
+    state_cleared w = λ i. record {
+      lists = lists_cleared xs sorted b x found w i;
+      policies = parts_kept xs sorted b policy_of x found (with_cleared w x) refl i;
+      members = parts_kept xs sorted b members_of x found (with_cleared w x) refl i;
+    }
 
   pub same_removed : find bssid_cmp b xs ≡ None → (w : Which) (a : Addr) → state_of_rows xs ≡ lists_without b w a (state_of_rows xs)
-  same_removed none w a = λ i. record { lists = nothing_removed xs sorted b none w a i; policies = from_sorted (policy_rows xs) }
+  same_removed none w a = λ i. record { lists = nothing_removed xs sorted b none w a i; policies = from_sorted (policy_rows xs); members = members }
 
   pub same_cleared : find bssid_cmp b xs ≡ None → (w : Which) → state_of_rows xs ≡ lists_clear b w (state_of_rows xs)
-  same_cleared none w = λ i. record { lists = nothing_cleared xs sorted b none w i; policies = from_sorted (policy_rows xs) }
+  same_cleared none w = λ i. record { lists = nothing_cleared xs sorted b none w i; policies = from_sorted (policy_rows xs); members = members }
+
+  pub same_members : find bssid_cmp b xs ≡ None → (old new : Option Station) → state_of_rows xs ≡ members_with old new b (state_of_rows xs)
+  same_members none old new = λ i. record {
+    lists = list_rows xs;
+    policies = from_sorted (policy_rows xs);
+    members = ap (put_after old new b members) (sym (get-parts_of members_of xs sorted b ∙ ap (option_map members_of) none)) i;
+  }
 
   -- a write at the place where the BSSID's row is
   module _ (at : ℕ) (is : Ok at ≡ place bssid_cmp b xs) (write : Bss → Bss) (ys : List Row) where
@@ -264,9 +309,15 @@ module _ (xs : List Row) (sorted : T (is_sorted bssid_cmp xs)) (b : Bssid) where
       let e = entry_at bssid_total bssid_exact b xs at (sym is) in
       ap (λ (r : Row). has r.1.lists w a) (get_or_from_slice_get xs at (b, e.0) d e.1) ∙ sym (contains-list_rows xs b w a sorted ∙ ap (λ r. is_listed_in r w a) e.2) ∙ h
 
+  -- what is kept of the stations stands in the row
+  pub row_members : (at : ℕ) (is : Ok at ≡ place bssid_cmp b xs) (P : Members → Type 0) → IfSome (map.get members b) P → (d : Row) → P ((slice_index_or xs at d).1.members)
+  row_members at is P h d =
+      let e = entry_at bssid_total bssid_exact b xs at (sym is) in
+      subst (λ (r : Row). P r.1.members) (sym (get_or_from_slice_get xs at (b, e.0) d e.1)) (subst (λ (o : Option Members). IfSome o P) (members_are xs sorted b e.0 e.2) h)
+
   -- a BSSID with a policy has a row
   pub has_place : {A : Type 0} (at : ℕ) → Err at ≡ place bssid_cmp b xs → IsSome (map.get (from_sorted {R = bssid_cmp} (policy_rows xs)) b) → A
-  has_place at is h = none_is _ (get-policy_rows xs sorted b ∙ ap (option_map policy_of) (absent_at bssid_total bssid_exact b xs sorted at (sym is))) h
+  has_place at is h = none_is _ (get-parts_of policy_of xs sorted b ∙ ap (option_map policy_of) (absent_at bssid_total bssid_exact b xs sorted at (sym is))) h
 
 -- a new row in its place
 pub sorted_new : (xs : List Row) (sorted : T (is_sorted bssid_cmp xs)) (b : Bssid) (at : ℕ) → Err at ≡ place bssid_cmp b xs → (y : Bss) (ys : List Row) → ys ≡ put_at xs b y (Err at) → T (is_sorted bssid_cmp ys)

@@ -1,5 +1,5 @@
 -- The rows that a mode denies, and what is left once they are dropped.
-use Rattle.std.proofs.Common.{◌≡◌, ◌<◌, Bool, true, false, cond, not, ◌&&◌, ◌||◌, List, [], ◌∷◌, ◌++◌, map as list_map, filter, Option, Some, None, ◌⊎◌, inl, inr, refl, sym, ap, subst, ◌∙◌, IsSome, IsTrue}
+use Rattle.std.proofs.Common.{◌≡◌, ◌<◌, Bool, true, false, cond, not, ◌&&◌, ◌||◌, List, [], ◌∷◌, ◌++◌, map as list_map, filter, Option, Some, None, ◌⊎◌, refl, sym, ap, subst, ◌∙◌, IsSome, IsTrue}
 use Rattle.std.proofs.lemmas.Bool.{and_parts}
 use Rattle.std.specs.List.{list_any}
 use Rattle.std.specs.declared.cmp.Ordering.{Ordering}
@@ -14,7 +14,7 @@ use Rattle.apd_base.specs.declared.station.Policy.{Policy}
 use Rattle.apd_base.specs.declared.station.Station.{Station}
 use Rattle.apd_base.specs.Addr.{addr_cmp, bssid_cmp, is_among}
 use Rattle.apd_base.proofs.AddrLaws.{addr_total, addr_exact, bssid_total, bssid_exact, station_total, station_exact, same_bssid, same_addr}
-use Rattle.apd_base.proofs.MapLaws.{one_or_apart, tied, passes_any, any_passes}
+use Rattle.apd_base.proofs.MapLaws.{tied, passes_any, any_passes}
 use Rattle.apd_base.specs.State.{State, station_at, policy_at}
 use Rattle.apd_table.specs.Allowed.{allowed_in, is_denied_row, denied_by}
 use Rattle.apd_table.specs.Can.{CanSet}

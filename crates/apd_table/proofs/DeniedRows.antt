@@ -1,5 +1,5 @@
 -- What a scan for denied rows says of a state.
-use Rattle.std.proofs.Common.{◌≡◌, Bool, true, false, cond, not, ◌&&◌, ◌||◌, List, [], ◌∷◌, map as list_map, filter, Option, Some, None, IsSome, inl, inr, refl, sym, ap, ◌∙◌}
+use Rattle.std.proofs.Common.{◌≡◌, Bool, true, false, cond, not, ◌&&◌, ◌||◌, List, [], ◌∷◌, map as list_map, filter, None, IsSome, inl, inr, refl, sym, ap, ◌∙◌}
 use Rattle.std.proofs.lemmas.Bool.{and_parts}
 use Rattle.std.specs.List.{list_any}
 use Rattle.std.specs.Ordering.{eq_by_cmp}
@@ -52,7 +52,7 @@ pub all_pass_as : (s : State) (b : Bssid) (g f : Addr → Bool) → ((a : Addr) 
 all_pass_as s b g f same t e =
     let here = all_pass_iff s b g t e in (λ h a row. sym (same a) ∙ here.0 h a row, λ all. here.1 (λ a row. same a ∙ all a row))
 
-none_passes : {X : Type 0} (p : X → Bool) (xs : List X) → list_any p xs ≡ false → filter p xs ≡ []
+pub none_passes : {X : Type 0} (p : X → Bool) (xs : List X) → list_any p xs ≡ false → filter p xs ≡ []
 none_passes p [] e = refl
 none_passes p (x ∷ xs) e =
     elim (p x) as (λ t. (t || list_any p xs) ≡ false → cond t (x ∷ filter p xs) (filter p xs) ≡ []) [

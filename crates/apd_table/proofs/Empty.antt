@@ -1,5 +1,5 @@
 -- The state without rows is sound.
-use Rattle.std.proofs.Common.{◌≡◌, ℕ, ◌≤◌, Bool, true, false, cond, Option, Some, None, refl, sym, ap, ◌∙◌, IsSome, arith}
+use Rattle.std.proofs.Common.{◌≡◌, ℕ, ◌≤◌, Bool, true, false, cond, Option, Some, None, refl, sym, ap, ◌∙◌, arith}
 use Rattle.std.specs.Option.{is_some}
 use Rattle.std.specs.Ordering.{eq_by_cmp}
 use Rattle.std.specs.Cmp.{IsTotalOrder}
@@ -19,7 +19,7 @@ use Rattle.apd_base.specs.State.{empty_state, station_at, aid_of, aid_at, list_c
 use Rattle.apd_table.specs.Sound.{Sound}
 use Rattle.apd_base.proofs.Cases.{differ, none_is}
 
-none_either : {X : Type 0} (t : Bool) → ◌≡◌ {A = Option X} (cond t None None) None
+pub none_either : {X : Type 0} (t : Bool) → ◌≡◌ {A = Option X} (cond t None None) None
 none_either true = refl
 none_either false = refl
 

@@ -1,27 +1,31 @@
--- The first row of a BSSID among rows in order is that of its least address, and the row behind the place of a
--- station, where it is one of the BSSID, that of its least address above.
-use Rattle.std.proofs.Common.{◌≡◌, ◌≢◌, Bool, true, false, cond, List, [], ◌∷◌, Option, Some, None, MatchOption, Result, IsSome, IfSome, IfNone, inl, inr, refl, sym, ap, subst, ◌∙◌, T, ℕ}
+-- The first row of a BSSID among rows in order is that of its least address, and the first row above a station,
+-- where it is one of the BSSID, that of its least address above.
+use Rattle.std.proofs.Common.{◌≡◌, ◌≢◌, true, false, cond, List, [], ◌∷◌, Option, Some, None, MatchOption, IsSome, IfSome, IfNone, refl, sym, ap, subst, ◌∙◌, T, filter}
+use Rattle.std.specs.List.{slice_get}
+use Rattle.std.specs.Option.{option_map}
 use Rattle.std.specs.declared.cmp.Ordering.{Ordering}
 use Rattle.std.specs.declared.cmp.Ordering.TheVariants.{Less, Equal, Greater}
 use Rattle.std.specs.Ordering.{eq_by_cmp, is_eq, ordering_then, ordering_reverse}
 use Rattle.std.specs.Cmp.{tied_itself}
 use Rattle.std.specs.FinMap as map
 use Rattle.std.specs.FinMap.{find, is_sorted, from_sorted, get-from_sorted}
-use Rattle.apd_base.specs.Rows.{place}
 use Rattle.apd_base.specs.declared.address.Addr.{Addr}
 use Rattle.apd_base.specs.declared.address.Bssid.{Bssid}
 use Rattle.apd_base.specs.declared.station.Station.{Station}
 use Rattle.apd_base.specs.Addr.{addr_cmp, bssid_cmp, station_cmp}
-use Rattle.apd_base.proofs.AddrLaws.{bssid_total, bssid_exact, station_total, station_exact, same_bssid}
-use Rattle.apd_base.proofs.MapLaws.{one_or_apart}
+use Rattle.apd_base.proofs.AddrLaws.{bssid_total, station_total, station_exact, same_bssid}
 use Rattle.apd_base.proofs.RowsLaws.{is_sorted_tail}
 use Rattle.apd_acl.specs.Least.{IsLeast, IsLeastAbove}
-use Rattle.apd_acl.proofs.Above.{found_head, head_least, above_at, above_is, IsAbove, NoneAbove}
-use Rattle.apd_table.specs.Rows.{is_row_of, first_of, if_row_of}
+use Rattle.apd_acl.proofs.Above.{found_head, head_least, IsAbove, NoneAbove}
+use Rattle.apd_table.specs.Rows.{is_row_of, if_row_of, address_and_station}
 use Rattle.apd_base.proofs.Cases.{value_of, is_some_of}
 
 abbrev pub Row : Type 0
 Row = (Bssid × Addr) × Station
+
+-- the first row of a BSSID
+abbrev pub first_of : Bssid → List Row → Option (Addr × Station)
+first_of b rows = option_map address_and_station (slice_get (filter (is_row_of b) rows) 0)
 
 is_eq-then : (r o : Ordering) → is_eq r ≡ false → is_eq (ordering_then r o) ≡ false
 is_eq-then Less o e = refl
@@ -49,7 +53,7 @@ first_least : (b : Bssid) (rows : List Row) → T (is_sorted station_cmp rows) �
 first_least b [] h = λ c. refl
 first_least b (row ∷ rows) h =
     let rest = first_least b rows (is_sorted_tail station_total row rows h) in
-    elim (is_row_of b row) as (λ t. is_row_of b row ≡ t → MatchOption (cond t (Some (row.0.1, row.1)) (first_of b rows)) ((c : Addr) → find station_cmp (b, c) (row ∷ rows) ≡ None) (λ x. Least b x.0 x.1 (row ∷ rows))) [
+    elim (is_row_of b row) as (λ t. is_row_of b row ≡ t → MatchOption (option_map address_and_station (slice_get (cond t (row ∷ filter (is_row_of b) rows) (filter (is_row_of b) rows)) 0)) ((c : Addr) → find station_cmp (b, c) (row ∷ rows) ≡ None) (λ x. Least b x.0 x.1 (row ∷ rows))) [
       | true ↦ λ t.
           let key : ◌≡◌ {A = Bssid × Addr} (b, row.0.1) row.0 = λ i. (same_bssid row.0.0 b t i, row.0.1) in (
             ap (λ k. find station_cmp k (row ∷ rows)) key ∙ found_head station_total station_exact row rows,
@@ -104,7 +108,7 @@ greater_then r q e = ap (λ o. ordering_then o q) e
 
 -- the next row
 module _ (b : Bssid) (a : Addr) (rows : List Row) (h : T (is_sorted station_cmp rows)) where
-  abbrev Above : Option Row → Type 0
+  abbrev pub Above : Option Row → Type 0
   Above r = MatchOption r (NoneAbove station_total station_exact (b, a) rows) (IsAbove station_total station_exact (b, a) rows)
 
   abbrev Next : Addr × Station → Type 0
@@ -149,9 +153,9 @@ module _ (b : Bssid) (a : Addr) (rows : List Row) (h : T (is_sorted station_cmp 
   as_no_next None m = m
   as_no_next (Some x) m = tt
 
-  module _ (p : Result ℕ ℕ) (is : p ≡ place station_cmp (b, a) rows) (r : Option (Addr × Station)) (gives : r ≡ if_row_of b (above_at rows p)) where
+  module _ (found : Option Row) (above : Above found) (r : Option (Addr × Station)) (gives : r ≡ if_row_of b found) where
     next_is : MatchOption r NoNext Next
-    next_is = subst (λ o. MatchOption o NoNext Next) (sym (gives ∙ ap (λ q. if_row_of b (above_at rows q)) is)) (next_of (above_at rows (place station_cmp (b, a) rows)) (above_is station_total station_exact (b, a) rows h))
+    next_is = subst (λ o. MatchOption o NoNext Next) (sym gives) (next_of found above)
 
     pub next_is_least : IfSome r (λ x. IsLeastAbove a (λ c. IsSome (at b rows h c)) x.0)
     next_is_least = as_next r next_is

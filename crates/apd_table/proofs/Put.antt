@@ -33,11 +33,17 @@ if_some_from : {A : Type 0} (P : A → Type 0) (o : Option A) → ((x : A) → o
 if_some_from P None h = tt
 if_some_from P (Some y) h = h y refl
 
+-- a row of a BSSID is one of its rows
+pub is_some_there : (s : State) (b : Bssid) (a : Addr) → is_some (map.get (stations_of s b) (b, a)) ≡ is_some (station_at s b a)
+is_some_there s b a =
+    ap is_some (get-retain_keys s.stations (λ k. eq_by_cmp bssid_cmp b k.0) (b, a) (λ x t. ap (λ k. eq_by_cmp bssid_cmp b k.0) (sym (station_exact (b, a) x t)))
+    ∙ ap (λ t. cond t (station_at s b a) None) (tied bssid_total bssid_exact b))
+
 module _ (s : State) (b : Bssid) (a : Addr) (v : Station) where
   abbrev new : State
   new = put_station b a v s
 
-  put_here : station_at new b a ≡ Some v
+  pub put_here : station_at new b a ≡ Some v
   put_here = get_inserted station_total station_exact s.stations (b, a) v
 
   -- a row of the new state is the one put, or an old one
@@ -51,15 +57,10 @@ module _ (s : State) (b : Bssid) (a : Addr) (v : Station) where
         | inr ne ↦ inr (get_insert_other station_total station_exact s.stations (b, a) v (c, d) ne)
       ]
 
-  is_some_there : is_some (map.get (stations_of s b) (b, a)) ≡ is_some (station_at s b a)
-  is_some_there =
-      ap is_some (get-retain_keys s.stations (λ k. eq_by_cmp bssid_cmp b k.0) (b, a) (λ x t. ap (λ k. eq_by_cmp bssid_cmp b k.0) (sym (station_exact (b, a) x t)))
-      ∙ ap (λ t. cond t (station_at s b a) None) (tied bssid_total bssid_exact b))
-
   pub count_put_in : count new b ≡ cond (is_some (station_at s b a)) (count s b) (count s b + 1)
   count_put_in =
       ap map.len (retain_keys-insert_in station_total station_exact (λ k. eq_by_cmp bssid_cmp b k.0) s.stations (b, a) v (tied bssid_total bssid_exact b))
-      ∙ len-insert station_total (stations_of s b) (b, a) v ∙ ap (λ t. cond t (count s b) (count s b + 1)) is_some_there
+      ∙ len-insert station_total (stations_of s b) (b, a) v ∙ ap (λ t. cond t (count s b) (count s b + 1)) (is_some_there s b a)
 
   pub count_put_out : (c : Bssid) → eq_by_cmp bssid_cmp c b ≡ false → count new c ≡ count s c
   count_put_out c ne = ap map.len (retain_keys-insert_out station_total station_exact (λ k. eq_by_cmp bssid_cmp c k.0) s.stations (b, a) v ne)

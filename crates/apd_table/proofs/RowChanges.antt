@@ -22,10 +22,10 @@ use Rattle.apd_base.proofs.RowsLaws.{is_sorted_tail}
 use Rattle.apd_base.proofs.StateLaws.{which_total, list_total}
 use Rattle.apd_acl.specs.Lists.{list_of}
 use Rattle.apd_record.specs.declared.change.Change.TheVariants.{ListAdd}
-use Rattle.apd_table.specs.BssRows.{add_rows, list_rows, policy_rows}
+use Rattle.apd_table.specs.BssRows.{add_rows, list_rows, policy_of, policy_rows}
 use Rattle.apd_table.specs.Snapshot.{policy_change, list_change, policies_of_rows, lists_of_rows}
 use Rattle.apd_table.specs.declared.bss_rows.Bss.{Bss}
-use Rattle.apd_table.proofs.BssLaws.{sorted-policy_rows}
+use Rattle.apd_table.proofs.BssLaws.{sorted-parts_of}
 
 abbrev pub Item : Type 0
 Item = Addr × Unit {0}
@@ -40,7 +40,7 @@ same_policies [] = refl
 same_policies (x ∷ xs) = λ i. policy_change (x.0, x.1.policy) ∷ same_policies xs i
 
 pub policies_are : (xs : List (Bssid × Bss)) → T (is_sorted bssid_cmp xs) → policies_of_rows xs ≡ list_map policy_change (entries (from_sorted {R = bssid_cmp} (policy_rows xs)))
-policies_are xs sorted = same_policies xs ∙ ap (list_map policy_change) (sym (entries-from_sorted bssid_cmp (policy_rows xs) (sorted-policy_rows xs sorted)))
+policies_are xs sorted = same_policies xs ∙ ap (list_map policy_change) (sym (entries-from_sorted bssid_cmp (policy_rows xs) (sorted-parts_of policy_of xs sorted)))
 
 -- ---- list rows in their order
 

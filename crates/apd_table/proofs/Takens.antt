@@ -1,20 +1,24 @@
--- What a scan for taken identifiers says of a state.
-use Rattle.std.proofs.Common.{◌≡◌, ◌≢◌, ℕ, ◌<◌, ◌≤◌, Bool, true, false, ◌&&◌, Option, Some, None, inl, inr, sym, ap, ◌∙◌, IfSome, IfNone, eq-eqb, arith}
+-- What an identifier on a row says of a state.
+use Rattle.std.proofs.Common.{◌≡◌, ◌≢◌, ℕ, refl, Bool, true, false, ◌&&◌, Option, Some, None, inl, inr, ap, ◌∙◌, eq-eqb}
 use Rattle.std.proofs.lemmas.Bool.{eqb-true, and_parts}
 use Rattle.std.specs.List.{list_any}
 use Rattle.std.specs.FinMap as map
 use Rattle.apd_base.specs.declared.address.Addr.{Addr}
 use Rattle.apd_base.specs.declared.address.Bssid.{Bssid}
-use Rattle.apd_base.specs.declared.limits.TheConstants.{MAX_STATIONS}
+use Rattle.apd_base.specs.declared.station.Association.{Association}
 use Rattle.apd_base.specs.declared.station.Station.{Station}
 use Rattle.apd_base.specs.declared.station.Station.TheVariants.{Authenticated, Associated}
 use Rattle.apd_base.proofs.AddrLaws.{bssid_total, bssid_exact, station_total, station_exact}
 use Rattle.apd_base.proofs.MapLaws.{one_or_apart, tied, passes_any, any_passes}
 use Rattle.apd_base.specs.State.{State, aid_of, aid_at, station_at}
-use Rattle.apd_table.specs.LeastFree.{IsTaken, IsLeastFree}
-use Rattle.apd_table.specs.Rows.{has_aid, IsLeastUnmarked}
-use Rattle.apd_table.proofs.Clashes.{aid_from}
+use Rattle.apd_table.specs.LeastFree.{IsTaken}
+use Rattle.apd_table.specs.Rows.{has_aid}
 use Rattle.apd_base.proofs.Cases.{differ}
+
+aid_from : (o : Option Station) (i : ℕ) → aid_of o ≡ Some i → (x : Association) × (o ≡ Some (Associated x)) × (x.aid.number ≡ i)
+aid_from None i e = cc
+aid_from (Some Authenticated) i e = cc
+aid_from (Some (Associated x)) i e = (x, refl, cc)
 
 module _ (s : State) (b : Bssid) where
   abbrev pub marked : ℕ → Bool
@@ -37,26 +41,3 @@ module _ (s : State) (b : Bssid) where
       let x = aid_from (station_at s b a) i h in
       let test : has_aid b i ((b, a), Associated x.0) ≡ true = λ j. tied bssid_total bssid_exact b j && eq-eqb (x.0).aid.number i x.2 j in
       differ _ none (passes_any station_total station_exact (has_aid b i) s.stations (b, a) (Associated x.0) x.1 test)
-
-  pub least_is : (r : Option ℕ) → IfSome r (IsLeastUnmarked marked) → IfSome r (IsLeastFree s b)
-  least_is None h = tt
-  least_is (Some i) h = record { low = h.low; high = h.high; free = free_of i h.free; smaller = λ j low lt. taken_of j (h.smaller j low lt) }
-
-  pub all_taken : (r : Option ℕ) → IfNone r ((j : ℕ) → 1 ≤ j → j ≤ MAX_STATIONS → marked j ≡ true) → IfNone r ((j : ℕ) → 1 ≤ j → j ≤ MAX_STATIONS → IsTaken s b j)
-  all_taken None h = λ j low high. taken_of j (h j low high)
-  all_taken (Some i) h = tt
-
--- marks that agree up to 2007
-module _ (f g : ℕ → Bool) (same : (i : ℕ) → i < 2008 → f i ≡ g i) where
-  pub same_least : (r : Option ℕ) → IfSome r (IsLeastUnmarked f) → IfSome r (IsLeastUnmarked g)
-  same_least None h = tt
-  same_least (Some i) h = record {
-    low = h.low;
-    high = h.high;
-    free = sym (same i (omega (arith, h.high))) ∙ h.free;
-    smaller = λ j low lt. sym (same j (omega (arith, h.high))) ∙ h.smaller j low lt;
-  }
-
-  pub same_full : (r : Option ℕ) → IfNone r ((j : ℕ) → 1 ≤ j → j ≤ 2007 → f j ≡ true) → IfNone r ((j : ℕ) → 1 ≤ j → j ≤ 2007 → g j ≡ true)
-  same_full None h = λ j low high. sym (same j (omega arith)) ∙ h j low high
-  same_full (Some i) h = tt

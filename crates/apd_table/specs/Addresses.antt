@@ -37,6 +37,15 @@ denied_under s b (Some policy) = denied_by s b policy.mode
 abbrev pub denied_after : State → Bssid → Change → List Addr
 denied_after s b change = denied_under (with_lists_after change s) b (policy_at s b)
 
+-- the address that a change adds to a list or takes out of one
+abbrev pub listed_address : Change → Option Addr
+listed_address (ListAdd c v d) = Some d
+listed_address (ListDel c v d) = Some d
+listed_address (ListClear c v) = None
+listed_address (Put c d station) = None
+listed_address (Drop c d) = None
+listed_address (SetPolicy c policy) = None
+
 -- whether two list rows are one
 abbrev pub is_list_row : Bssid → Which → Addr → Bssid → Which → Addr → Bool
 is_list_row b w a c v d = eq_by_cmp bssid_cmp b c && (eq_by_cmp which_cmp w v && eq_by_cmp addr_cmp a d)
@@ -50,7 +59,9 @@ has_after lists b (Put c d station) w a = has lists w a
 has_after lists b (Drop c d) w a = has lists w a
 has_after lists b (SetPolicy c policy) w a = has lists w a
 
--- whether a row is one of the BSSID that a mode denies once a change is made
+-- whether a mode denies an address of the BSSID once a change is made, and whether a row is one of those
+abbrev pub is_address_denied_after : Lists → AclMode → Bssid → Change → Addr → Bool
+is_address_denied_after lists mode b change a = not (is_allowed mode (has_after lists b change Accept a) (has_after lists b change Deny a))
+
 abbrev pub is_denied_after : Lists → AclMode → Bssid → Change → (Bssid × Addr) × Station → Bool
-is_denied_after lists mode b change row =
-    is_row_of b row && not (is_allowed mode (has_after lists b change Accept row.0.1) (has_after lists b change Deny row.0.1))
+is_denied_after lists mode b change row = is_row_of b row && is_address_denied_after lists mode b change row.0.1

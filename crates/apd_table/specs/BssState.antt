@@ -1,4 +1,4 @@
--- The part of a state that does not speak of stations.
+-- The part of a state that does not speak of stations, and what is kept of them at each BSSID.
 use Rattle.std.specs.Prelude.{refl}
 use Rattle.std.specs.FinMap as map
 use Rattle.std.specs.FinMap.{FinMap}
@@ -8,12 +8,16 @@ use Rattle.apd_base.specs.Addr.{bssid_cmp, coded_bssid}
 use Rattle.apd_base.specs.Codes.{coded_list_row, coded_policy}
 use Rattle.apd_base.specs.State.{list_cmp}
 use Rattle.apd_base.specs.declared.station.Policy.{Policy}
+use Rattle.apd_table.specs.Members.{coded_members}
+use Rattle.apd_table.specs.declared.members.Members.{Members}
 
 pub record BssState : Type 0 where
   pub lists : SetOf list_cmp
   pub policies : FinMap bssid_cmp Policy
+  pub members : FinMap bssid_cmp Members
 
 abbrev pub coded_bss_state : Coded BssState
 coded_bss_state =
-    code_by (SetOf list_cmp × FinMap bssid_cmp Policy) (coded× (coded_set coded_list_row) (map.code coded_bssid coded_policy))
-    (λ s. (s.lists, s.policies)) (λ p. record { lists = p.0; policies = p.1 }) (λ _. refl)
+    code_by (SetOf list_cmp × (FinMap bssid_cmp Policy × FinMap bssid_cmp Members))
+    (coded× (coded_set coded_list_row) (coded× (map.code coded_bssid coded_policy) (map.code coded_bssid coded_members)))
+    (λ s. (s.lists, (s.policies, s.members))) (λ p. record { lists = p.0; policies = p.1.0; members = p.1.1 }) (λ _. refl)

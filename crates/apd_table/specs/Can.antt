@@ -11,10 +11,13 @@ use Rattle.apd_base.specs.State.{State, station_at, policy_at, aid_of, aid_at, c
 use Rattle.apd_record.specs.Meaning.{add_to_list, take_from_list, clear_list}
 use Rattle.apd_table.specs.Allowed.{allowed, allowed_in}
 
+-- no other station of the BSSID has the identifier
+abbrev pub IsFreeFor : State → Bssid → Addr → ℕ → Type 0
+IsFreeFor s b a i = (c : Addr) → aid_at s b c ≡ Some i → a ≡ c
+
 -- the station may be associated at the BSSID with the identifier
 pub record MayHave (s : State) (b : Bssid) (a : Addr) (i : ℕ) : Type 0 where
-  -- no other station of the BSSID has the identifier
-  pub free : (c : Addr) → aid_at s b c ≡ Some i → a ≡ c
+  pub free : IsFreeFor s b a i
   -- the station is associated at no other BSSID
   pub alone : (c : Bssid) → IsSome (aid_at s c a) → b ≡ c
 

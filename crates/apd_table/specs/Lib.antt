@@ -5,6 +5,7 @@ pub mod BssState
 pub mod Can
 pub mod InPlace
 pub mod LeastFree
+pub mod Members
 pub mod NewRow
 pub mod Rows
 pub mod Snapshot
@@ -12,3 +13,4 @@ pub mod Sound
 pub mod Staged
 pub mod Standing
 pub mod Table
+pub mod Words

@@ -1,5 +1,8 @@
 -- Station rows one by one.
-use Rattle.std.specs.Prelude.{◌≡◌, ℕ, ◌<◌, ◌≤◌, Bool, true, false, cond, ◌&&◌, not, ◌==◌, if◌then◌else◌, List, [], ◌∷◌, Option, Some, None}
+use Rattle.std.specs.Prelude.{◌≡◌, ℕ, ◌<◌, ◌≤◌, Bool, true, false, cond, ◌&&◌, not, ◌==◌, List, T, Option, Some, None}
+use Rattle.std.specs.FinMap as map
+use Rattle.std.specs.List.{AllByRecursion}
+use Rattle.std.specs.Option.{is_some}
 use Rattle.std.specs.Ordering.{eq_by_cmp}
 use Rattle.apd_base.specs.declared.address.Addr.{Addr}
 use Rattle.apd_base.specs.declared.address.Bssid.{Bssid}
@@ -8,19 +11,22 @@ use Rattle.apd_base.specs.declared.station.AclMode.{AclMode}
 use Rattle.apd_base.specs.declared.station.Station.{Station}
 use Rattle.apd_base.specs.declared.station.Station.TheVariants.{Authenticated, Associated}
 use Rattle.apd_base.specs.declared.station.Which.TheVariants.{Deny}
-use Rattle.apd_base.specs.Addr.{bssid_cmp, addr_cmp}
+use Rattle.apd_base.specs.Addr.{IsAddr, bssid_cmp, station_cmp}
+use Rattle.apd_base.specs.State.{aid_of}
 use Rattle.apd_acl.specs.Lists.{has, allowed}
 use Rattle.apd_acl.specs.Policy.{is_allowed}
 use Rattle.apd_acl.specs.declared.lists.Lists.{Lists}
 
+-- entries in the order of their keys, each with an address of six bytes
+abbrev pub AreRows : List ((Bssid × Addr) × Station) → Type 0
+AreRows rows = T (map.is_sorted station_cmp rows) × AllByRecursion (λ row. IsAddr row.0.1) rows
+
 abbrev pub is_row_of : Bssid → (Bssid × Addr) × Station → Bool
 is_row_of b row = eq_by_cmp bssid_cmp b row.0.0
 
--- a row that keeps a station from being associated at b as a with identifier i: another of b has the
--- identifier, or the station is associated elsewhere
-abbrev pub is_clash : Bssid → Addr → ℕ → (Bssid × Addr) × Station → Bool
-is_clash b a i (key, Authenticated) = false
-is_clash b a i (key, Associated x) = if eq_by_cmp bssid_cmp b key.0 then (not (eq_by_cmp addr_cmp a key.1) && (x.aid.number == i)) else eq_by_cmp addr_cmp a key.1
+-- whether a station is associated at c, where this is what c has of it, and c is not b
+abbrev pub is_associated_apart : Bssid → Bssid → Option Station → Bool
+is_associated_apart b c station = not (eq_by_cmp bssid_cmp b c) && is_some (aid_of station)
 
 -- whether a row has the identifier at the BSSID
 abbrev pub has_aid : Bssid → ℕ → (Bssid × Addr) × Station → Bool
@@ -34,15 +40,14 @@ pub record IsLeastUnmarked (marked : ℕ → Bool) (i : ℕ) : Type 0 where
   pub free : marked i ≡ false
   pub smaller : (j : ℕ) → 1 ≤ j → j < i → marked j ≡ true
 
--- the first row of a BSSID among some
-abbrev pub first_of : Bssid → List ((Bssid × Addr) × Station) → Option (Addr × Station)
-first_of b [] = None
-first_of b (row ∷ rows) = cond (is_row_of b row) (Some (row.0.1, row.1)) (first_of b rows)
+-- what is told of a row
+abbrev pub address_and_station : (Bssid × Addr) × Station → Addr × Station
+address_and_station row = (row.0.1, row.1)
 
 -- a row, if it is one of the BSSID
 abbrev pub if_row_of : Bssid → Option ((Bssid × Addr) × Station) → Option (Addr × Station)
 if_row_of b None = None
-if_row_of b (Some row) = cond (is_row_of b row) (Some (row.0.1, row.1)) None
+if_row_of b (Some row) = cond (is_row_of b row) (Some (address_and_station row)) None
 
 -- whether a row is one of the BSSID that these lists and this mode deny, and whether it is one that they
 -- would deny if the accept list were empty

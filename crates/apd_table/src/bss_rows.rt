@@ -1,5 +1,5 @@
-//! The rows of BSSIDs: each has a policy and two lists.
-ghost use Rattle.std.specs.Prelude.{◌≡◌, ◌<◌, ◌++◌, OnOk, OnErr, IsOk, IfOk, IsSome, IsTrue, T, not};
+//! The rows of BSSIDs: each has a policy, two lists, and what is kept of its stations.
+ghost use Rattle.std.specs.Prelude.{◌≡◌, ◌<◌, ◌≤◌, ◌++◌, OnOk, OnErr, IsOk, IfOk, IfSome, IsSome, IsTrue, T, not, map as list_map};
 ghost use Rattle.std.specs.List.{slice_get};
 ghost use Rattle.std.specs.Option.{option_copied, option_map};
 ghost use Rattle.std.specs.FinMap as map;
@@ -7,27 +7,32 @@ ghost use Rattle.apd_base.specs.Addr.{bssid_cmp};
 ghost use Rattle.apd_base.specs.Sets.{contains};
 ghost use Rattle.apd_base.specs.State.{is_row_of};
 ghost use Rattle.apd_base.specs.declared.address.Addr.{Addr};
+ghost use Rattle.apd_base.specs.declared.limits.TheConstants.{MAX_STATIONS};
 ghost use Rattle.apd_base.specs.declared.station.Which.{Which};
-ghost use Rattle.apd_table.specs.BssRows.{no_bss, policy_of, is_listed_in};
+ghost use Rattle.apd_table.specs.BssRows.{no_bss, policy_of, members_of, with_bss, is_listed_in};
+ghost use Rattle.apd_table.specs.Members.{after_row};
 ghost use Rattle.apd_table.specs.Snapshot.{list_changes, policy_changes};
 ghost use Rattle.apd_table.specs.declared.bss_rows.Bss.{Bss};
 
+use crate::members::Members;
 use crate::snapshot::{add_lists, add_policies};
-use crate::writes::{add_at, clear_at, remove_at, set_policy_at};
+use crate::writes::{add_at, change_row_at, clear_at, remove_at, set_policy_at};
 use apd_acl::Lists;
-use apd_base::{Addr, Bssid, Policy, Which, rows};
+use apd_base::{Addr, Bssid, Policy, Station, Which, rows};
 use apd_record::Changes;
 use std::alloc::{AllocError, Global};
 use std::marker::Model;
 
-/// What a BSSID has besides its stations.
+/// What a BSSID has besides its station rows.
 #[derive(Drop)]
 pub struct Bss {
     pub policy: Policy,
     pub lists: Lists,
+    pub members: Members,
 }
 
-/// The rows in the order of BSSIDs, seen as the list rows and the policy rows of a state.
+/// The rows in the order of BSSIDs, seen as the list rows and the policy rows of a state, and what is kept
+/// of the stations of each.
 #[derive(Drop)]
 pub struct BssRows {
     rows: Vec<(Bssid, Bss)>,
@@ -73,8 +78,16 @@ impl BssRows {
     pub fn get(&self, bssid: Bssid) -> Option<&Bss>
         ensures policy { option_map policy_of (option_copied result) ≡ map.get self.now.policies bssid }
         ensures lists { (w : Which) (a : Addr) → is_listed_in (option_copied result) w a ≡ contains self.now.lists (bssid, w, a) }
+        ensures members { option_map members_of (option_copied result) ≡ map.get self.now.members bssid }
     {
         rows::value(&self.rows, &bssid)
+    }
+
+    /// The rows, in the order of their BSSIDs.
+    pub fn rows(&self) -> &[(Bssid, Bss)]
+        ensures { list_map (λ row. row.0) result.now ≡ map.keys self.now.policies }
+    {
+        &self.rows
     }
 
     /// How many rows there are.
@@ -101,9 +114,9 @@ impl BssRows {
     }
 
     /// Sets a BSSID's policy, or leaves all as it was. It lacks memory only for a BSSID without a row,
-    /// whose lists are then empty.
+    /// whose lists are then empty, and which has no station.
     pub fn set(&mut self, bssid: Bssid, policy: Policy) -> Result<(), AllocError>
-        ensures ok { OnOk result (self.new ≡ record self.old { policies = map.insert self.old.policies bssid policy }) }
+        ensures ok { OnOk result (self.new ≡ with_bss self.old bssid policy) }
         ensures err { OnErr result (self.new ≡ self.old) }
         ensures over { IsSome (map.get self.old.policies bssid) → IsOk result }
     {
@@ -114,7 +127,13 @@ impl BssRows {
             }
             Err(at) => {
                 let lists = Lists::new(*self.rows.allocator());
-                Ok(self.rows.insert(at, (bssid, Bss { policy, lists }))?)
+                let members = Members::none();
+                let bss = Bss {
+                    policy,
+                    lists,
+                    members,
+                };
+                Ok(self.rows.insert(at, (bssid, bss))?)
             }
         }
     }
@@ -150,6 +169,16 @@ impl BssRows {
             clear_at(&mut self.rows, at, which);
         }
     }
+
+    /// Goes along with a change of a station's row at the BSSID, from what it was to what it is.
+    pub fn change_row(&mut self, bssid: Bssid, old: Option<Station>, new: Option<Station>)
+        requires { IfSome (map.get self.old.members bssid) (λ x. x.count ≤ MAX_STATIONS) }
+        ensures { self.new ≡ record self.old { members = after_row old new bssid self.old.members } }
+    {
+        if let Ok(at) = rows::place(&self.rows, &bssid) {
+            change_row_at(&mut self.rows, at, old, new);
+        }
+    }
 }
 
 // The BSSID of the row at a place.
@@ -179,5 +208,6 @@ fn copy_of_bss(alloc: Global, bss: &Bss) -> Result<Bss, AllocError>
     Ok(Bss {
         policy: bss.policy,
         lists: bss.lists.copy(alloc)?,
+        members: bss.members,
     })
 }

@@ -1,88 +1,103 @@
 //! Which rows of a BSSID lists and a mode deny.
-ghost use Rattle.std.specs.Prelude.{◌≡◌, IfOk, filter, map as list_map};
+ghost use Rattle.std.specs.Prelude.{◌≡◌, [], ◌∷◌, IfOk, cond, false, filter, not, map as list_map};
+ghost use Rattle.std.specs.FinMap as map;
 ghost use Rattle.std.specs.List.{list_any};
 ghost use Rattle.std.specs.Ordering.{eq_by_cmp};
+ghost use Rattle.apd_acl.specs.Lists.{allowed, has};
+ghost use Rattle.apd_acl.specs.Policy.{is_allowed};
 ghost use Rattle.apd_base.specs.State.{which_cmp};
-ghost use Rattle.apd_table.specs.Addresses.{has_after, is_denied_after};
+ghost use Rattle.apd_base.specs.declared.station.Which.TheVariants.{Deny};
+ghost use Rattle.apd_table.specs.Addresses.{has_after, listed_address, is_denied_after, is_address_denied_after};
 ghost use Rattle.apd_table.specs.Rows.{is_denied_row_by, is_denied_unaccepted, is_row_of};
 
+use crate::stations::Stations;
 use apd_acl::{Lists, policy};
 use apd_base::{AclMode, Addr, Bssid, Station, Which};
 use apd_record::Change;
 use std::alloc::{AllocError, Global};
+use std::collections::btree_map::Range;
 
-// Whether a row is one of the BSSID that these lists and this mode deny.
-fn is_denied(row: &((Bssid, Addr), Station), bssid: Bssid, lists: &Lists, mode: AclMode) -> bool
-    ensures { result ≡ is_denied_row_by lists.now mode bssid row.now }
+// Whether these lists and this mode deny an address.
+fn is_denied(addr: Addr, lists: &Lists, mode: AclMode) -> bool
+    ensures { result ≡ not (allowed lists.now addr mode) }
 {
-    bssid.cmp(&row.0.0).is_eq() && !lists.allowed(row.0.1, mode)
+    !lists.allowed(addr, mode)
 }
 
 // The same if the accept list were empty.
-fn is_denied_unaccepted(
-    row: &((Bssid, Addr), Station),
-    bssid: Bssid,
-    lists: &Lists,
-    mode: AclMode,
-) -> bool
-    ensures { result ≡ is_denied_unaccepted lists.now mode bssid row.now }
+fn is_denied_unaccepted(addr: Addr, lists: &Lists, mode: AclMode) -> bool
+    ensures { result ≡ not (is_allowed mode false (has lists.now Deny addr)) }
 {
-    bssid.cmp(&row.0.0).is_eq() && !policy::is_allowed(mode, false, lists.has(Which::Deny, row.0.1))
+    !policy::is_allowed(mode, false, lists.has(Which::Deny, addr))
+}
+
+// Whether one of some rows is denied.
+fn any_of(rows: Range<'_, (Bssid, Addr), Station>, lists: &Lists, mode: AclMode) -> bool
+    ensures { result ≡ list_any (λ row. not (allowed lists.now row.0.1 mode)) rows.entry }
+{
+    let mut rows = rows;
+    rows.any(|row| is_denied(row.0.1, lists, mode))
+}
+
+// The same if the accept list were empty.
+fn any_unaccepted_of(rows: Range<'_, (Bssid, Addr), Station>, lists: &Lists, mode: AclMode) -> bool
+    ensures { result ≡ list_any (λ row. not (is_allowed mode false (has lists.now Deny row.0.1))) rows.entry }
+{
+    let mut rows = rows;
+    rows.any(|row| is_denied_unaccepted(row.0.1, lists, mode))
 }
 
 /// Whether a row of the BSSID is denied.
-pub fn any_denied(
-    rows: &[((Bssid, Addr), Station)],
-    bssid: Bssid,
-    lists: &Lists,
-    mode: AclMode,
-) -> bool
-    ensures { result ≡ list_any (is_denied_row_by lists.now mode bssid) rows.now }
+pub fn any_denied(stations: &Stations, bssid: Bssid, lists: &Lists, mode: AclMode) -> bool
+    ensures { result ≡ list_any (is_denied_row_by lists.now mode bssid) (map.entries stations.now) }
 {
-    rows.iter().any(|row| is_denied(row, bssid, lists, mode))
+    any_of(stations.of(bssid), lists, mode)
 }
 
 /// Whether a row of the BSSID would be denied if the accept list were empty.
 pub fn any_denied_unaccepted(
-    rows: &[((Bssid, Addr), Station)],
+    stations: &Stations,
     bssid: Bssid,
     lists: &Lists,
     mode: AclMode,
 ) -> bool
-    ensures { result ≡ list_any (is_denied_unaccepted lists.now mode bssid) rows.now }
+    ensures { result ≡ list_any (is_denied_unaccepted lists.now mode bssid) (map.entries stations.now) }
 {
-    rows.iter()
-        .any(|row| is_denied_unaccepted(row, bssid, lists, mode))
+    any_unaccepted_of(stations.of(bssid), lists, mode)
+}
+
+// The addresses of those rows that are denied.
+fn denied_of(
+    alloc: Global,
+    rows: Range<'_, (Bssid, Addr), Station>,
+    lists: &Lists,
+    mode: AclMode,
+) -> Result<Vec<Addr>, AllocError>
+    ensures { IfOk result (λ v. v.items ≡ list_map (λ row. row.0.1) (filter (λ row. not (allowed lists.now row.0.1 mode)) rows.entry)) }
+{
+    rows.filter(|row| is_denied(row.0.1, lists, mode))
+        .map(|row| row.0.1)
+        .collect(alloc)
 }
 
 /// The addresses of the rows of the BSSID that are denied.
 pub fn denied(
     alloc: Global,
-    rows: &[((Bssid, Addr), Station)],
+    stations: &Stations,
     bssid: Bssid,
     lists: &Lists,
     mode: AclMode,
 ) -> Result<Vec<Addr>, AllocError>
-    ensures { IfOk result (λ v. v.items ≡ list_map (λ row. row.0.1) (filter (is_denied_row_by lists.now mode bssid) rows.now)) }
+    ensures { IfOk result (λ v. v.items ≡ list_map (λ row. row.0.1) (filter (is_denied_row_by lists.now mode bssid) (map.entries stations.now))) }
 {
-    rows.iter()
-        .filter(|row| is_denied(row, bssid, lists, mode))
-        .map(|row| row.0.1)
-        .collect(alloc)
+    denied_of(alloc, stations.of(bssid), lists, mode)
 }
 
 /// The addresses of all rows of the BSSID.
-pub fn addresses(
-    alloc: Global,
-    rows: &[((Bssid, Addr), Station)],
-    bssid: Bssid,
-) -> Result<Vec<Addr>, AllocError>
-    ensures { IfOk result (λ v. v.items ≡ list_map (λ row. row.0.1) (filter (is_row_of bssid) rows.now)) }
+pub fn addresses(alloc: Global, stations: &Stations, bssid: Bssid) -> Result<Vec<Addr>, AllocError>
+    ensures { IfOk result (λ v. v.items ≡ list_map (λ row. row.0.1) (filter (is_row_of bssid) (map.entries stations.now))) }
 {
-    rows.iter()
-        .filter(|row| bssid.cmp(&row.0.0).is_eq())
-        .map(|row| row.0.1)
-        .collect(alloc)
+    stations.of(bssid).map(|row| row.0.1).collect(alloc)
 }
 
 fn is_same_list(one: Which, other: Which) -> bool
@@ -128,38 +143,71 @@ fn is_listed_after(lists: &Lists, bssid: Bssid, change: &Change, which: Which, a
     }
 }
 
-// Whether a row is one of the BSSID that a mode denies once a change is made.
-fn is_denied_after(
-    row: &((Bssid, Addr), Station),
+/// Whether a mode denies an address of the BSSID once a change is made.
+pub fn is_denied_after(
+    addr: Addr,
     bssid: Bssid,
     lists: &Lists,
     mode: AclMode,
     change: &Change,
 ) -> bool
-    ensures { result ≡ is_denied_after lists.now mode bssid change.now row.now }
+    ensures { result ≡ is_address_denied_after lists.now mode bssid change.now addr }
 {
-    if !bssid.cmp(&row.0.0).is_eq() {
-        return false;
-    }
-    let addr = row.0.1;
     let is_accepted = is_listed_after(lists, bssid, change, Which::Accept, addr);
     let is_denied = is_listed_after(lists, bssid, change, Which::Deny, addr);
     !policy::is_allowed(mode, is_accepted, is_denied)
 }
 
-/// The addresses of the rows of the BSSID that are denied once a change is made.
-pub fn denied_after(
+// The addresses of those rows that are denied once a change is made.
+fn denied_after_of(
     alloc: Global,
-    rows: &[((Bssid, Addr), Station)],
+    rows: Range<'_, (Bssid, Addr), Station>,
     bssid: Bssid,
     lists: &Lists,
     mode: AclMode,
     change: &Change,
 ) -> Result<Vec<Addr>, AllocError>
-    ensures { IfOk result (λ v. v.items ≡ list_map (λ row. row.0.1) (filter (is_denied_after lists.now mode bssid change.now) rows.now)) }
+    ensures { IfOk result (λ v. v.items ≡ list_map (λ row. row.0.1) (filter (λ row. is_address_denied_after lists.now mode bssid change.now row.0.1) rows.entry)) }
 {
-    rows.iter()
-        .filter(|row| is_denied_after(row, bssid, lists, mode, change))
+    rows.filter(|row| is_denied_after(row.0.1, bssid, lists, mode, change))
         .map(|row| row.0.1)
         .collect(alloc)
+}
+
+/// The addresses of the rows of the BSSID that are denied once a change is made.
+pub fn denied_after(
+    alloc: Global,
+    stations: &Stations,
+    bssid: Bssid,
+    lists: &Lists,
+    mode: AclMode,
+    change: &Change,
+) -> Result<Vec<Addr>, AllocError>
+    ensures { IfOk result (λ v. v.items ≡ list_map (λ row. row.0.1) (filter (is_denied_after lists.now mode bssid change.now) (map.entries stations.now))) }
+{
+    denied_after_of(alloc, stations.of(bssid), bssid, lists, mode, change)
+}
+
+/// The address that a change adds to a list or takes out of one.
+pub fn listed_address(change: &Change) -> Option<Addr>
+    ensures { result ≡ listed_address change.now }
+{
+    match *change {
+        Change::ListAdd { addr, .. } | Change::ListDel { addr, .. } => Some(addr),
+        Change::Put { .. }
+        | Change::Drop { .. }
+        | Change::ListClear { .. }
+        | Change::Policy { .. } => None,
+    }
+}
+
+/// The address alone, if it is denied.
+pub fn alone(alloc: Global, addr: Addr, is_denied: bool) -> Result<Vec<Addr>, AllocError>
+    ensures { IfOk result (λ v. v.items ≡ cond is_denied (addr ∷ []) []) }
+{
+    let mut addresses = Vec::new(alloc);
+    if is_denied {
+        addresses.push(addr)?;
+    }
+    Ok(addresses)
 }

@@ -5,6 +5,7 @@
 mod bss_rows;
 mod changes;
 mod denials;
+mod members;
 mod snapshot;
 mod staged;
 mod stations;

@@ -8,6 +8,7 @@ use apd_acl::Lists;
 use apd_base::{Addr, Bssid, Station, Which};
 use apd_record::{Change, Changes};
 use std::alloc::{AllocError, Global};
+use std::collections::BTreeMap;
 
 /// The most bytes that the records of a snapshot have (own): 8 policies of 10 bytes, 16,384 addresses of
 /// 14 in lists, and 16,056 stations of 20.
@@ -54,18 +55,18 @@ pub(crate) fn add_lists(changes: &mut Changes, rows: &[(Bssid, Bss)]) -> Result<
     Ok(())
 }
 
-/// Adds station rows.
+/// Adds station rows, in order.
 pub(crate) fn add_stations(
     changes: &mut Changes,
-    rows: &[((Bssid, Addr), Station)],
+    rows: &BTreeMap<(Bssid, Addr), Station>,
 ) -> Result<(), AllocError>
-    ensures { OnOk result (changes.new ≡ changes.old ++ list_map station_change rows.now) }
+    ensures { OnOk result (changes.new ≡ changes.old ++ list_map station_change rows.now.entries) }
 {
-    for row in rows {
+    for (key, station) in rows {
         changes.push(Change::Put {
-            bssid: row.0.0,
-            addr: row.0.1,
-            station: row.1,
+            bssid: key.0,
+            addr: key.1,
+            station: *station,
         })?;
     }
     Ok(())

@@ -1,7 +1,7 @@
 //! A table, seen as the state of an access point.
-ghost use Rattle.std.specs.Prelude.{◌≡◌, ◌≢◌, ℕ, ◌<◌, ◌≤◌, ◌⊎◌, ◌↔◌, length, OnOk, OnErr, IsOk, IfOk, IsSome, IfSome, IfNone, IsTrue, Some, None, Err};
-ghost use Rattle.std.specs.List.{slice_get};
-ghost use Rattle.std.specs.Option.{option_map};
+ghost use Rattle.std.specs.Prelude.{◌≡◌, ◌≢◌, ℕ, ◌<◌, ◌≤◌, ◌⊎◌, ◌↔◌, ◌&&◌, filter, length, map as list_map, OnOk, OnErr, IsOk, IfOk, IsSome, IfSome, IfNone, IsTrue, Some, None, Err};
+ghost use Rattle.std.specs.List.{list_any, slice_get};
+ghost use Rattle.std.specs.Option.{is_some, option_map};
 ghost use Rattle.std.specs.declared.cmp.Ordering.TheVariants.{Less};
 ghost use Rattle.std.specs.FinMap as map;
 ghost use Rattle.apd_base.specs.Addr.{addr_cmp};
@@ -11,26 +11,28 @@ ghost use Rattle.apd_base.specs.declared.address.Bssid.{Bssid};
 ghost use Rattle.apd_base.specs.declared.limits.TheConstants.{MAX_BSS, MAX_STATIONS, MAX_LISTED};
 ghost use Rattle.apd_base.specs.declared.station.Which.{Which};
 ghost use Rattle.apd_base.specs.declared.station.Which.TheVariants.{Accept};
-ghost use Rattle.apd_base.specs.State.{station_at, policy_at, count, list_count, IsListed, empty_state};
+ghost use Rattle.apd_base.specs.State.{aid_of, aid_at, station_at, policy_at, count, list_count, IsListed, empty_state};
 ghost use Rattle.apd_acl.specs.Least.{IsLeast, IsLeastAbove};
 ghost use Rattle.apd_acl.specs.Lists.{has, list_of};
 ghost use Rattle.apd_record.specs.Meaning.{meaning, meaning_of, put_station, drop_station, add_to_list, take_from_list, clear_list, set_policy};
 ghost use Rattle.apd_record.specs.Record.{records_of};
 ghost use Rattle.apd_record.specs.declared.change.Change.TheVariants.{Drop};
-ghost use Rattle.apd_table.specs.Addresses.{addresses_at, denied_after};
+ghost use Rattle.apd_table.specs.Addresses.{addresses_at, denied_after, is_denied_after, is_address_denied_after};
 ghost use Rattle.apd_table.specs.Allowed.{allowed, allowed_in, allowed_unaccepted, denied_by, mode_and_max};
-ghost use Rattle.apd_table.specs.Can.{CanPut, CanSet, CanAdd, CanTake, CanClear, MayHave, NoneDenied};
+ghost use Rattle.apd_table.specs.Can.{CanPut, CanSet, CanAdd, CanTake, CanClear, IsFreeFor, MayHave, NoneDenied};
 ghost use Rattle.apd_table.specs.LeastFree.{IsLeastFree, IsTaken};
 ghost use Rattle.apd_table.specs.NewRow.{IsNewRow};
+ghost use Rattle.apd_table.specs.Rows.{is_associated_apart};
 ghost use Rattle.apd_table.specs.Snapshot.{canonical};
 ghost use Rattle.apd_table.specs.Sound.{Sound, StaySound};
+ghost use Rattle.apd_table.specs.Words.{AreWords};
 ghost use Rattle.apd_table.specs.declared.snapshot.TheConstants.{MAX_SNAPSHOT};
 ghost use Rattle.apd_table.specs.declared.table.TableFault.{TableFault};
 ghost use Rattle.apd_table.specs.declared.table.TableFault.TheVariants.{NoMemory};
 
-use crate::bss_rows::BssRows;
+use crate::bss_rows::{Bss, BssRows};
+use crate::denials;
 use crate::stations::Stations;
-use crate::{denials, snapshot};
 use apd_acl::{Lists, policy};
 use apd_base::limits::{MAX_BSS, MAX_LISTED, MAX_STATIONS};
 use apd_base::{AclMode, Addr, Bssid, Policy, Station, Which};
@@ -78,6 +80,15 @@ impl Model for Table {
     ghost view = { state_of };
 
     ghost invariant = { IsTable };
+}
+
+fn is_associated(station: Option<Station>) -> bool
+    ensures { result ≡ is_some (aid_of station) }
+{
+    match station {
+        Some(Station::Associated(_)) => true,
+        Some(Station::Authenticated) | None => false,
+    }
 }
 
 impl Table {
@@ -151,7 +162,20 @@ impl Table {
         ensures some { IfSome result (IsLeastFree self.now bssid) }
         ensures none { IfNone result ((i : ℕ) → 1 ≤ i → i ≤ MAX_STATIONS → IsTaken self.now bssid i) }
     {
-        self.stations.least_free(bssid)
+        match self.bss.get(bssid) {
+            Some(bss) => bss.members.least_free(),
+            None => Some(1),
+        }
+    }
+
+    /// The association identifiers that the stations of a BSSID have, as bits: bit i of word w is that of
+    /// 64 w + i. So bit 0 of word 0 is never set, nor is one from 2008 on. `None` exactly where the BSSID
+    /// has no policy row.
+    pub fn words(&self, bssid: Bssid) -> Option<&[u64; 32]>
+        ensures policy { IsSome result ↔ IsSome (policy_at self.now bssid) }
+        ensures words { IfSome result (λ words. AreWords self.now bssid words.now) }
+    {
+        Some(&self.bss.get(bssid)?.members.words)
     }
 
     /// The BSSID at a place, counted from 0, among those with a policy, which rise; `None` exactly
@@ -173,7 +197,10 @@ impl Table {
     pub fn count(&self, bssid: Bssid) -> usize
         ensures { result ≡ count self.now bssid }
     {
-        self.stations.count(bssid)
+        match self.bss.get(bssid) {
+            Some(bss) => bss.members.count,
+            None => 0,
+        }
     }
 
     /// How many BSSIDs have a policy.
@@ -203,7 +230,7 @@ impl Table {
         ensures { IfOk result (λ v. v.items ≡ denied_by self.now bssid mode) }
     {
         match self.bss.get(bssid) {
-            Some(bss) => denials::denied(alloc, self.stations.entries(), bssid, &bss.lists, mode),
+            Some(bss) => denials::denied(alloc, &self.stations, bssid, &bss.lists, mode),
             None => Ok(Vec::new(alloc)),
         }
     }
@@ -212,7 +239,7 @@ impl Table {
     pub fn addresses(&self, alloc: Global, bssid: Bssid) -> Result<Vec<Addr>, AllocError>
         ensures { IfOk result (λ v. v.items ≡ addresses_at self.now bssid) }
     {
-        denials::addresses(alloc, self.stations.entries(), bssid)
+        denials::addresses(alloc, &self.stations, bssid)
     }
 
     /// The addresses, rising, of the stations with a row at a BSSID that its policy would deny by the
@@ -226,12 +253,43 @@ impl Table {
         ensures { IfOk result (λ v. v.items ≡ denied_after self.now bssid change.now) }
     {
         match self.bss.get(bssid) {
-            Some(bss) => {
-                let rows = self.stations.entries();
-                denials::denied_after(alloc, rows, bssid, &bss.lists, bss.policy.mode, change)
-            }
+            Some(bss) => self.denied_at(alloc, bssid, bss, change),
             None => Ok(Vec::new(alloc)),
         }
+    }
+
+    // The same, by the row of the BSSID. No station is denied as it is, so where one address is added
+    // to a list or taken out of one it is the only one to look at.
+    fn denied_at(
+        &self,
+        alloc: Global,
+        bssid: Bssid,
+        bss: &Bss,
+        change: &Change,
+    ) -> Result<Vec<Addr>, AllocError>
+        requires policy { Some bss.now.policy ≡ policy_at self.now bssid }
+        requires lists { (w : Which) (a : Addr) → has bss.now.lists w a ≡ contains self.now.lists (bssid, w, a) }
+        ensures { IfOk result (λ v. v.items ≡ list_map (λ row. row.0.1) (filter (is_denied_after bss.now.lists bss.now.policy.mode bssid change.now) (map.entries self.now.stations))) }
+    {
+        self.sound();
+        match denials::listed_address(change) {
+            Some(addr) => {
+                let is_denied = self.is_denied_after(bssid, addr, bss, change);
+                denials::alone(alloc, addr, is_denied)
+            }
+            None => {
+                let (stations, lists) = (&self.stations, &bss.lists);
+                denials::denied_after(alloc, stations, bssid, lists, bss.policy.mode, change)
+            }
+        }
+    }
+
+    // Whether the station has a row at the BSSID that is denied once a change is made.
+    fn is_denied_after(&self, bssid: Bssid, addr: Addr, bss: &Bss, change: &Change) -> bool
+        ensures { result ≡ (is_some (station_at self.now bssid addr) && is_address_denied_after bss.now.lists bss.now.policy.mode bssid change.now addr) }
+    {
+        self.get(bssid, addr).is_some()
+            && denials::is_denied_after(addr, bssid, &bss.lists, bss.policy.mode, change)
     }
 
     /// A second table of the same state.
@@ -257,7 +315,7 @@ impl Table {
         self.sound();
         let mut changes = Changes::new(alloc);
         self.bss.add_changes(&mut changes)?;
-        snapshot::add_stations(&mut changes, self.stations.entries())?;
+        self.stations.add_changes(&mut changes)?;
         Ok(changes.into_vec())
     }
 
@@ -292,9 +350,62 @@ impl Table {
 
     // Whether the identifier is free at the BSSID, and the station's only one.
     fn may_have(&self, bssid: Bssid, addr: Addr, aid: u16) -> bool
+        requires { aid ≤ MAX_STATIONS }
         ensures { IsTrue result ↔ MayHave self.now bssid addr aid }
     {
-        !self.stations.clashes(bssid, addr, aid)
+        self.sound();
+        self.is_free(bssid, addr, aid) && !self.is_elsewhere(bssid, addr)
+    }
+
+    // Whether no other station of the BSSID has the identifier.
+    fn is_free(&self, bssid: Bssid, addr: Addr, aid: u16) -> bool
+        requires { aid ≤ MAX_STATIONS }
+        ensures { IsTrue result ↔ IsFreeFor self.now bssid addr aid }
+    {
+        self.sound();
+        !self.is_taken(bssid, aid) || self.has_aid(bssid, addr, aid)
+    }
+
+    // Whether a station of the BSSID has the identifier.
+    fn is_taken(&self, bssid: Bssid, aid: u16) -> bool
+        requires { aid ≤ MAX_STATIONS }
+        ensures { IsTrue result ↔ IsTaken self.now bssid aid }
+    {
+        match self.bss.get(bssid) {
+            Some(bss) => bss.members.has(aid),
+            None => false,
+        }
+    }
+
+    // Whether this one has it.
+    fn has_aid(&self, bssid: Bssid, addr: Addr, aid: u16) -> bool
+        ensures { IsTrue result ↔ (aid_at self.now bssid addr ≡ Some aid) }
+    {
+        match self.get(bssid, addr) {
+            Some(Station::Associated(association)) => association.aid.number == aid,
+            Some(Station::Authenticated) | None => false,
+        }
+    }
+
+    // Whether the station is associated at another BSSID: one that has stations has a policy.
+    fn is_elsewhere(&self, bssid: Bssid, addr: Addr) -> bool
+        ensures { result ≡ list_any (λ other. is_associated_apart bssid other (station_at self.now other addr)) (map.keys self.now.policies) }
+    {
+        self.is_at_one_of(self.bss.rows(), bssid, addr)
+    }
+
+    // Whether the station is associated at one of these BSSIDs, other than the one.
+    fn is_at_one_of(&self, rows: &[(Bssid, Bss)], bssid: Bssid, addr: Addr) -> bool
+        ensures { result ≡ list_any (λ row. is_associated_apart bssid row.0 (station_at self.now row.0 addr)) rows.now }
+    {
+        rows.iter()
+            .any(|row| self.is_associated_apart(row.0, bssid, addr))
+    }
+
+    fn is_associated_apart(&self, other: Bssid, bssid: Bssid, addr: Addr) -> bool
+        ensures { result ≡ is_associated_apart bssid other (station_at self.now other addr) }
+    {
+        !bssid.cmp(&other).is_eq() && is_associated(self.get(other, addr))
     }
 
     fn has_policy(&self, bssid: Bssid) -> bool
@@ -332,7 +443,7 @@ impl Table {
         ensures { IsTrue result ↔ ((a : Addr) → IsSome (station_at self.now bssid a) → IsTrue (allowed_in self.now bssid a mode)) }
     {
         match self.bss.get(bssid) {
-            Some(bss) => !denials::any_denied(self.stations.entries(), bssid, &bss.lists, mode),
+            Some(bss) => !denials::any_denied(&self.stations, bssid, &bss.lists, mode),
             None => true,
         }
     }
@@ -423,8 +534,8 @@ impl Table {
     {
         match self.bss.get(bssid) {
             Some(bss) => {
-                let rows = self.stations.entries();
-                !denials::any_denied_unaccepted(rows, bssid, &bss.lists, bss.policy.mode)
+                let stations = &self.stations;
+                !denials::any_denied_unaccepted(stations, bssid, &bss.lists, bss.policy.mode)
             }
             None => true,
         }
@@ -444,7 +555,9 @@ impl Table {
         ensures change { self.new ≡ drop_station bssid addr self.old }
         ensures sound { Sound (drop_station bssid addr self.old) }
     {
+        let old = self.stations.get(bssid, addr);
         self.stations.remove(bssid, addr);
+        self.bss.change_row(bssid, old, None);
     }
 
     fn put(&mut self, bssid: Bssid, addr: Addr, station: Station) -> Result<(), TableFault>
@@ -458,7 +571,9 @@ impl Table {
         if !self.can_put(bssid, addr, station) {
             return Err(TableFault::Invalid);
         }
+        let old = self.stations.get(bssid, addr);
         self.stations.put(bssid, addr, station)?;
+        self.bss.change_row(bssid, old, Some(station));
         Ok(())
     }
 

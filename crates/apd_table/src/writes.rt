@@ -1,12 +1,13 @@
 //! Writes into the row of a BSSID.
-ghost use Rattle.std.specs.Prelude.{◌≡◌, ◌<◌, OnOk, OnErr, IsOk, IsTrue, vec_len, slice_index_or, slice_set};
+ghost use Rattle.std.specs.Prelude.{◌≡◌, ◌<◌, ◌≤◌, OnOk, OnErr, IsOk, IsTrue, vec_len, slice_index_or, slice_set};
 ghost use Rattle.apd_acl.specs.Lists.{has};
 ghost use Rattle.apd_base.specs.declared.address.Bssid.{Bssid};
-ghost use Rattle.apd_table.specs.BssRows.{at_row, with_policy, with_added, with_removed, with_cleared};
+ghost use Rattle.apd_base.specs.declared.limits.TheConstants.{MAX_STATIONS};
+ghost use Rattle.apd_table.specs.BssRows.{at_row, with_policy, with_added, with_removed, with_cleared, with_row};
 ghost use Rattle.apd_table.specs.declared.bss_rows.Bss.{Bss};
 
 use crate::bss_rows::Bss;
-use apd_base::{Addr, Bssid, Policy, Which};
+use apd_base::{Addr, Bssid, Policy, Station, Which};
 use std::alloc::AllocError;
 
 /// Sets the policy of the row at a place.
@@ -50,4 +51,19 @@ pub fn clear_at(rows: &mut Vec<(Bssid, Bss)>, at: usize, which: Which)
 {
     let row = &mut rows[at];
     row.1.lists.clear(which);
+}
+
+/// Goes along with a change of a station's row, in what the row at a place keeps of its stations.
+pub fn change_row_at(
+    rows: &mut Vec<(Bssid, Bss)>,
+    at: usize,
+    old: Option<Station>,
+    new: Option<Station>,
+)
+    requires bound { at < vec_len rows.old }
+    requires few { (d : Bssid × Bss) → (slice_index_or rows.old.items at d).1.members.count ≤ MAX_STATIONS }
+    ensures { (d : Bssid × Bss) → rows.new.items ≡ slice_set rows.old.items at (at_row (with_row old new) (slice_index_or rows.old.items at d)) }
+{
+    let row = &mut rows[at];
+    row.1.members.change_row(old, new);
 }

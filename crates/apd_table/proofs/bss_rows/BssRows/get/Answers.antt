@@ -3,18 +3,23 @@ use Rattle.std.specs.Option.{option_map}
 use Rattle.std.specs.FinMap as map
 use Rattle.apd_base.specs.Addr.{bssid_cmp}
 use Rattle.apd_base.specs.Sets.{contains}
-use Rattle.apd_table.specs.BssRows.{policy_of, is_listed_in}
+use Rattle.apd_table.specs.BssRows.{policy_of, members_of, is_listed_in}
 use Rattle.apd_table.specs.BssState.{BssState}
-use Rattle.apd_table.proofs.BssLaws.{get-policy_rows, contains-list_rows}
+use Rattle.apd_table.proofs.BssLaws.{get-parts_of, contains-list_rows}
 use Rattle.apd_base.proofs.RowsMaps.{valued}
 use Rattle.apd_table.proofs.bss_rows.BssRows.get.Goals as goal
 
 pub returns-clause-policy : goal.returns-clause-policy
 returns-clause-policy c =
     ap (option_map policy_of) (valued bssid_cmp c.args.bssid c.self.inside.rows.items _ c.deref.ensures.value c.self.invariant _ c.value.ensures)
-    ∙ sym (get-policy_rows c.self.inside.rows.items c.self.invariant c.args.bssid) ∙ ap (λ (s : BssState). map.get s.policies c.args.bssid) c.self.view_is
+    ∙ sym (get-parts_of policy_of c.self.inside.rows.items c.self.invariant c.args.bssid) ∙ ap (λ (s : BssState). map.get s.policies c.args.bssid) c.self.view_is
 
 pub returns-clause-lists : goal.returns-clause-lists
 returns-clause-lists c w a =
     ap (λ r. is_listed_in r w a) (valued bssid_cmp c.args.bssid c.self.inside.rows.items _ c.deref.ensures.value c.self.invariant _ c.value.ensures)
     ∙ sym (contains-list_rows c.self.inside.rows.items c.args.bssid w a c.self.invariant) ∙ ap (λ (s : BssState). contains s.lists (c.args.bssid, w, a)) c.self.view_is
+
+pub returns-clause-members : goal.returns-clause-members
+returns-clause-members c =
+    ap (option_map members_of) (valued bssid_cmp c.args.bssid c.self.inside.rows.items _ c.deref.ensures.value c.self.invariant _ c.value.ensures)
+    ∙ sym (get-parts_of members_of c.self.inside.rows.items c.self.invariant c.args.bssid) ∙ ap (λ (s : BssState). map.get s.members c.args.bssid) c.self.view_is

@@ -1,9 +1,10 @@
 use Rattle.std.proofs.Common.{sym, ap, ◌∙◌}
 use Rattle.std.specs.FinMap as map
+use Rattle.apd_table.specs.BssRows.{policy_of}
 use Rattle.apd_table.specs.BssState.{BssState}
-use Rattle.apd_table.proofs.BssLaws.{len-policy_rows}
+use Rattle.apd_table.proofs.BssLaws.{len-parts_of}
 use Rattle.apd_table.proofs.bss_rows.BssRows.len.Goals as goal
 
 pub returns : goal.returns
 returns c =
-    c.len.ensures ∙ c.self.inside.rows.ok.0 ∙ sym (len-policy_rows c.self.inside.rows.items c.self.invariant) ∙ ap (λ (s : BssState). map.len s.policies) c.self.view_is
+    c.len.ensures ∙ c.self.inside.rows.ok.0 ∙ sym (len-parts_of policy_of c.self.inside.rows.items c.self.invariant) ∙ ap (λ (s : BssState). map.len s.policies) c.self.view_is

@@ -1,12 +1,30 @@
+use Rattle.std.proofs.Common.{List, IsSome, sym, ap, subst, ◌∙◌}
+use Rattle.std.specs.FinMap as map
+use Rattle.std.specs.List.{AllByRecursion}
+use Rattle.apd_base.specs.Addr.{IsAddr, station_cmp}
+use Rattle.apd_base.specs.declared.address.Addr.{Addr}
+use Rattle.apd_base.specs.declared.address.Bssid.{Bssid}
 use Rattle.apd_base.proofs.AddrLaws.{station_total, station_exact}
-use Rattle.apd_base.proofs.RowsMaps.{put_sorted, put_means, found_place}
+use Rattle.apd_base.proofs.Cases.{none_is}
+use Rattle.apd_base.proofs.Trees.{in_order, get_lookup, inserted}
+use Rattle.apd_table.proofs.StationRows.{Row, valid_inserted}
 use Rattle.apd_table.proofs.stations.Stations.put.Goals as goal
 
-pub invariant_of-self : goal.invariant_of-self
-invariant_of-self c = put_sorted station_total station_exact (c.args.bssid, c.args.addr) c.args.station c.self.inside.rows.items c.put.new.rows.items c.self.invariant c.put.result c.put.ensures.ok c.put.ensures.err
+pub invariant_of-self-2 : goal.invariant_of-self-2
+invariant_of-self-2 c =
+    let key : Bssid × Addr = (c.args.bssid, c.args.addr) in (
+      in_order station_cmp c.insert.new.self.entries c.in_ok-insert.ensures.ordered,
+      subst (λ (rows : List Row). AllByRecursion (λ (row : Row). IsAddr row.0.1) rows) (sym c.in_ok-insert.ensures.entries) (valid_inserted key c.args.station c.known.ensures c.self.inside.rows.entries c.self.invariant.1),
+    )
 
 pub returns-clause-ok : goal.returns-clause-ok
-returns-clause-ok c = rw (← c.self.view_is) (put_means station_total station_exact (c.args.bssid, c.args.addr) c.args.station c.self.inside.rows.items c.put.new.rows.items c.self.invariant c.put.result c.put.ensures.ok)
+returns-clause-ok c =
+    let key : Bssid × Addr = (c.args.bssid, c.args.addr) in
+    inserted station_total station_exact c.self.inside.rows.entries c.insert.new.self.entries c.self.invariant.0 (in_order station_cmp c.insert.new.self.entries c.in_ok-insert.ensures.ordered) key c.args.station
+    (λ q. c.in_ok-insert.ensures.updates.0 q) ∙ ap (λ m. map.insert m key c.args.station) c.self.view_is
 
-pub returns-clause-over : goal.returns-clause-over
-returns-clause-over c found = c.put.ensures.over c.self.invariant (found_place station_total station_exact (c.args.bssid, c.args.addr) c.self.inside.rows.items c.self.invariant (rw c.self.view_is found))
+-- memory is wanting only where there is no row
+pub returns-in_err-insert-clause-over : goal.returns-in_err-insert-clause-over
+returns-in_err-insert-clause-over c found =
+    let key : Bssid × Addr = (c.args.bssid, c.args.addr) in
+    none_is _ c.in_err-insert.ensures.absent (subst IsSome (sym (get_lookup station_cmp c.self.inside.rows.entries c.self.invariant.0 key ∙ ap (λ m. map.get m key) c.self.view_is)) found)

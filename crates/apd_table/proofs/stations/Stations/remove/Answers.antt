@@ -1,15 +1,24 @@
-use Rattle.std.proofs.Common.{sym, ap, ◌∙◌}
+use Rattle.std.proofs.Common.{List, sym, ap, subst, ◌∙◌}
+use Rattle.std.specs.BTreeMap.{is_at}
 use Rattle.std.specs.FinMap as map
-use Rattle.apd_base.proofs.AddrLaws.{station_total, station_exact}
-use Rattle.apd_base.proofs.RowsMaps.{sorted_remove_at, remove-from_sorted}
+use Rattle.std.specs.List.{AllByRecursion}
+use Rattle.apd_base.specs.Addr.{IsAddr, station_cmp}
 use Rattle.apd_base.specs.declared.address.Addr.{Addr}
 use Rattle.apd_base.specs.declared.address.Bssid.{Bssid}
+use Rattle.apd_base.proofs.AddrLaws.{station_total, station_exact}
+use Rattle.apd_base.proofs.Trees.{in_order, removed}
+use Rattle.apd_table.proofs.StationRows.{Row, valid_removed}
 use Rattle.apd_table.proofs.stations.Stations.remove.Goals as goal
 
 pub invariant_of-self : goal.invariant_of-self
-invariant_of-self c = rw (c.remove.ensures c.self.invariant) (sorted_remove_at station_total station_exact (c.args.bssid, c.args.addr) c.self.inside.rows.items c.self.invariant)
+invariant_of-self c =
+    let key : Bssid × Addr = (c.args.bssid, c.args.addr) in (
+      in_order station_cmp c.remove.new.self.entries c.remove.ensures.ordered,
+      subst (λ (rows : List Row). AllByRecursion (λ (row : Row). IsAddr row.0.1) rows) (sym c.remove.ensures.entries) (valid_removed (is_at (station_cmp key)) c.self.inside.rows.entries c.self.invariant.1),
+    )
 
 pub returns : goal.returns
 returns c =
-    let k : Bssid × Addr = (c.args.bssid, c.args.addr) in
-    ap map.from_sorted (c.remove.ensures c.self.invariant) ∙ sym (remove-from_sorted station_total station_exact k c.self.inside.rows.items c.self.invariant) ∙ ap (λ m. map.remove m k) c.self.view_is
+    let key : Bssid × Addr = (c.args.bssid, c.args.addr) in
+    removed station_total station_exact c.self.inside.rows.entries c.remove.new.self.entries c.self.invariant.0 (in_order station_cmp c.remove.new.self.entries c.remove.ensures.ordered) key
+    (λ q. c.remove.ensures.updates.0 q) ∙ ap (λ m. map.remove m key) c.self.view_is

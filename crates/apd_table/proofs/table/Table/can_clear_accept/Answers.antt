@@ -1,11 +1,9 @@
 use Rattle.std.proofs.Common.{false, sym, ap, ◌∙◌}
-use Rattle.std.specs.List.{list_any}
 use Rattle.apd_acl.specs.Lists.{has}
 use Rattle.apd_acl.specs.Policy.{is_allowed}
 use Rattle.apd_base.specs.declared.station.Which.TheVariants.{Accept, Deny}
 use Rattle.apd_record.specs.Meaning.{clear_list}
 use Rattle.apd_table.specs.Allowed.{allowed, allowed_unaccepted_under}
-use Rattle.apd_table.specs.Rows.{is_denied_unaccepted}
 use Rattle.apd_table.specs.Table.{state_of}
 use Rattle.apd_table.proofs.AllowedLaws.{clearing}
 use Rattle.apd_table.proofs.DeniedRows.{all_pass_as}
@@ -19,4 +17,4 @@ returns-in-Some c =
     let lists = c.in-Some.bss.now.lists in
     rw (← c.self.view_is) (all_pass_as s b (λ a. is_allowed mode false (has lists Deny a)) (λ a. allowed (clear_list b Accept s) b a)
     (λ a. ap (is_allowed mode false) (c.in-Some.ensures.lists Deny a) ∙ ap (allowed_unaccepted_under s b a) c.in-Some.ensures.policy ∙ sym (clearing s b a))
-    c.any_denied_unaccepted.result (c.any_denied_unaccepted.ensures ∙ ap (list_any (is_denied_unaccepted lists mode b)) c.entries-rows.ensures))
+    c.any_denied_unaccepted.result c.any_denied_unaccepted.ensures)

@@ -1,10 +1,7 @@
-use Rattle.std.proofs.Common.{ap, ◌∙◌}
-use Rattle.std.specs.List.{list_any}
 use Rattle.apd_acl.specs.Lists.{allowed}
 use Rattle.apd_acl.specs.Policy.{is_allowed}
 use Rattle.apd_base.specs.declared.station.Which.TheVariants.{Accept, Deny}
 use Rattle.apd_table.specs.Allowed.{allowed_in}
-use Rattle.apd_table.specs.Rows.{is_denied_row_by}
 use Rattle.apd_table.specs.Table.{state_of}
 use Rattle.apd_table.proofs.DeniedRows.{all_pass_as}
 use Rattle.apd_table.proofs.table.Table.denies_none.Goals as goal
@@ -17,4 +14,4 @@ returns-in-Some c =
     let lists = c.in-Some.bss.now.lists in
     rw (← c.self.view_is) (all_pass_as s b (λ a. allowed lists a mode) (λ a. allowed_in s b a mode)
     (λ a i. is_allowed mode (c.in-Some.ensures.lists Accept a i) (c.in-Some.ensures.lists Deny a i))
-    c.any_denied.result (c.any_denied.ensures ∙ ap (list_any (is_denied_row_by lists mode b)) c.entries.ensures))
+    c.any_denied.result c.any_denied.ensures)

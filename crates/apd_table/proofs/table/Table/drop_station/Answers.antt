@@ -1,9 +1,21 @@
+use Rattle.std.proofs.Common.{None, refl}
+use Rattle.apd_record.specs.Meaning.{drop_station}
+use Rattle.apd_table.proofs.MembersLaws.{drop_is_change, few_members, members_changed, same_members}
 use Rattle.apd_table.proofs.Dropped.{sound_drop}
 use Rattle.apd_table.specs.Table.{state_of}
 use Rattle.apd_table.proofs.table.Table.drop_station.Goals as goal
 
+pub change_row-requires : goal.change_row-requires
+change_row-requires c = few_members (state_of c.self.inside) c.self.invariant.sound c.args.bssid _ c.self.invariant.members
+
 pub invariant_of-self : goal.invariant_of-self
-invariant_of-self c = rw c.remove.ensures (sound_drop (state_of c.self.inside) c.args.bssid c.args.addr c.self.invariant)
+invariant_of-self c =
+    let s = state_of c.self.inside in
+    record {
+      sound = rw (c.change_row.ensures, c.remove.ensures) (sound_drop s c.args.bssid c.args.addr c.self.invariant.sound);
+      members = rw (c.change_row.ensures, c.remove.ensures, c.get-old.ensures) (same_members (drop_station c.args.bssid c.args.addr s) _ refl _
+          (members_changed s _ c.self.invariant.sound c.args.bssid c.args.addr None (drop_is_change s c.args.bssid c.args.addr) _ c.self.invariant.members));
+    }
 
 pub returns-clause-sound : goal.returns-clause-sound
-returns-clause-sound c = sound_drop c.args.self.now c.args.bssid c.args.addr (rw (← c.self.view_is) c.self.invariant)
+returns-clause-sound c = sound_drop c.args.self.now c.args.bssid c.args.addr (rw (← c.self.view_is) c.self.invariant.sound)

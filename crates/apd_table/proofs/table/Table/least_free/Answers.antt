@@ -1,9 +1,19 @@
+use Rattle.std.proofs.Common.{sym}
 use Rattle.apd_table.specs.Table.{state_of}
-use Rattle.apd_table.proofs.Takens.{least_is, all_taken}
+use Rattle.apd_table.proofs.Identifiers.{least_is, all_taken, first_is_free}
+use Rattle.apd_table.proofs.MembersLaws.{without_policy}
+use Rattle.apd_table.proofs.Places.{ArePlaces, places_of}
 use Rattle.apd_table.proofs.table.Table.least_free.Goals as goal
 
-pub returns-clause-some : goal.returns-clause-some
-returns-clause-some c = rw (← c.self.view_is) (least_is (state_of c.self.inside) c.args.bssid c.least_free.result c.least_free.ensures.some)
+places : (c : goal.After-least_free) → ArePlaces (state_of c.self.inside) c.args.bssid c.in-Some.bss.now.members.words
+places c = places_of (state_of c.self.inside) c.args.bssid _ (c.self.invariant.members c.args.bssid c.in-Some.bss.now.members (sym c.in-Some.ensures.members)).words
 
-pub returns-clause-none : goal.returns-clause-none
-returns-clause-none c = rw (← c.self.view_is) (all_taken (state_of c.self.inside) c.args.bssid c.least_free.result c.least_free.ensures.none)
+pub returns-in-Some-clause-some : goal.returns-in-Some-clause-some
+returns-in-Some-clause-some c = rw (← c.self.view_is) (least_is (state_of c.self.inside) c.args.bssid _ (places c) c.least_free.result c.least_free.ensures.some)
+
+pub returns-in-Some-clause-none : goal.returns-in-Some-clause-none
+returns-in-Some-clause-none c = rw (← c.self.view_is) (all_taken (state_of c.self.inside) c.args.bssid _ (places c) c.least_free.result c.least_free.ensures.none)
+
+pub returns-in-None-clause-some : goal.returns-in-None-clause-some
+returns-in-None-clause-some c =
+    rw (← c.self.view_is) (first_is_free (state_of c.self.inside) c.args.bssid (without_policy (state_of c.self.inside) c.args.bssid c.self.invariant.sound (sym c.in-None.ensures.policy)))

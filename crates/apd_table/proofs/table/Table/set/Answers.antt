@@ -1,3 +1,5 @@
+use Rattle.std.proofs.Common.{refl}
+use Rattle.apd_table.proofs.MembersLaws.{members_joined, same_members}
 use Rattle.apd_table.specs.Can.{CanSet}
 use Rattle.apd_table.specs.Table.{state_of}
 use Rattle.apd_table.proofs.PolicySet.{can_set, sound_set}
@@ -12,10 +14,13 @@ pub invariant_of-self-2 : goal.invariant_of-self-2
 invariant_of-self-2 c =
     let s = state_of c.self.inside in
     let can : CanSet s c.args.bssid c.args.policy = rw c.self.view_is (c.can_set.ensures.0 c.if-not-can_set.false) in
-    rw c.in_ok-set.ensures.ok (sound_set s c.args.bssid c.args.policy c.self.invariant can)
+    record {
+      sound = rw c.in_ok-set.ensures.ok (sound_set s c.args.bssid c.args.policy c.self.invariant.sound can);
+      members = rw c.in_ok-set.ensures.ok (same_members s _ refl _ (members_joined s c.self.invariant.sound c.args.bssid _ _ refl c.self.invariant.members));
+    }
 
 pub returns-clause-sound : goal.returns-clause-sound
-returns-clause-sound c = sound_set c.args.self.now c.args.bssid c.args.policy (rw (← c.self.view_is) c.self.invariant) (c.can_set.ensures.0 c.if-not-can_set.false)
+returns-clause-sound c = sound_set c.args.self.now c.args.bssid c.args.policy (rw (← c.self.view_is) c.self.invariant.sound) (c.can_set.ensures.0 c.if-not-can_set.false)
 
 pub returns-in_err-set-clause-wanted : goal.returns-in_err-set-clause-wanted
-returns-in_err-set-clause-wanted c _ = sound_set c.args.self.now c.args.bssid c.args.policy (rw (← c.self.view_is) c.self.invariant) (c.can_set.ensures.0 c.if-not-can_set.false)
+returns-in_err-set-clause-wanted c _ = sound_set c.args.self.now c.args.bssid c.args.policy (rw (← c.self.view_is) c.self.invariant.sound) (c.can_set.ensures.0 c.if-not-can_set.false)

@@ -16,7 +16,7 @@ returns-clause-canonical c =
     let inside = c.self.inside in
     let rows = policy_changes inside.bss.policies ++ list_changes inside.bss.lists in
     let stations = list_map station_change (map.entries inside.stations) in
-    c.into_vec.ensures.items ∙ c.in_ok-add_stations.ensures ∙ ap (λ es. c.add_changes.new.changes ++ list_map station_change es) c.entries.ensures
+    c.into_vec.ensures.items ∙ c.in_ok-add_changes-2.ensures
     ∙ ap (λ (l : List Change). l ++ stations) (c.in_ok-add_changes.ensures ∙ ap (λ (l : List Change). l ++ rows) c.new-changes.ensures)
     ∙ append_assoc (policy_changes inside.bss.policies) (list_changes inside.bss.lists) stations
     ∙ ap canonical c.self.view_is
