@@ -15,11 +15,15 @@ mod control_tests;
 #[cfg(test)]
 mod frame_tests;
 #[cfg(test)]
+mod indexed_tests;
+#[cfg(test)]
 mod limit_tests;
 #[cfg(test)]
 mod list_file_tests;
 #[cfg(test)]
 mod list_tests;
+#[cfg(test)]
+mod plain_table;
 #[cfg(test)]
 mod record_tests;
 #[cfg(test)]

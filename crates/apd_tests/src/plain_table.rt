@@ -1,0 +1,172 @@
+//! A table of plain vectors, in no order, which looks through all of them: the other side of the tests of
+//! `apd_table`.
+use apd_base::{AclMode, Addr, Bssid, Policy, Station, Which};
+use apd_record::Change;
+use std::alloc::{AllocError, Global};
+
+/// Rows by (BSSID, address), addresses of lists, and policies.
+#[derive(Drop)]
+pub struct PlainTable {
+    pub stations: Vec<(Bssid, Addr, Station)>,
+    pub lists: Vec<(Bssid, Which, Addr)>,
+    pub policies: Vec<(Bssid, Policy)>,
+}
+
+/// The identifier of a station, where it is associated.
+pub fn aid_of(station: Station) -> Option<u16> {
+    match station {
+        Station::Associated(association) => Some(association.aid.number),
+        Station::Authenticated => None,
+    }
+}
+
+// Whether two rows can't stand side by side: one identifier at one BSSID, or one station associated at two.
+fn clash(one: &(Bssid, Addr, Station), other: &(Bssid, Addr, Station)) -> bool {
+    match (aid_of(one.2), aid_of(other.2)) {
+        (Some(aid), Some(other_aid)) => {
+            let is_same_bss = one.0 == other.0;
+            let is_same_station = one.1 == other.1;
+            (is_same_bss && !is_same_station && aid == other_aid)
+                || (!is_same_bss && is_same_station)
+        }
+        _ => false,
+    }
+}
+
+impl PlainTable {
+    pub fn new(alloc: Global) -> PlainTable {
+        PlainTable {
+            stations: Vec::new(alloc),
+            lists: Vec::new(alloc),
+            policies: Vec::new(alloc),
+        }
+    }
+
+    pub fn copy(&self, alloc: Global) -> Result<PlainTable, AllocError> {
+        Ok(PlainTable {
+            stations: Vec::from_slice(alloc, &self.stations)?,
+            lists: Vec::from_slice(alloc, &self.lists)?,
+            policies: Vec::from_slice(alloc, &self.policies)?,
+        })
+    }
+
+    fn remove_station(&mut self, bssid: Bssid, addr: Addr) {
+        self.stations.retain(|row| row.0 != bssid || row.1 != addr);
+    }
+
+    fn remove_listed(&mut self, bssid: Bssid, which: Which, addr: Addr) {
+        self.lists
+            .retain(|row| row.0 != bssid || row.1 != which || row.2 != addr);
+    }
+
+    /// Makes a change, whatever state it leaves.
+    pub fn make(&mut self, change: &Change) -> Result<(), AllocError> {
+        match *change {
+            Change::Put {
+                bssid,
+                addr,
+                station,
+            } => {
+                self.remove_station(bssid, addr);
+                self.stations.push((bssid, addr, station))?;
+            }
+            Change::Drop { bssid, addr } => self.remove_station(bssid, addr),
+            Change::ListAdd { bssid, which, addr } => {
+                self.remove_listed(bssid, which, addr);
+                self.lists.push((bssid, which, addr))?;
+            }
+            Change::ListDel { bssid, which, addr } => self.remove_listed(bssid, which, addr),
+            Change::ListClear { bssid, which } => {
+                self.lists.retain(|row| row.0 != bssid || row.1 != which);
+            }
+            Change::Policy { bssid, policy } => {
+                self.policies.retain(|row| row.0 != bssid);
+                self.policies.push((bssid, policy))?;
+            }
+        }
+        Ok(())
+    }
+
+    pub fn mode(&self, bssid: Bssid) -> Option<AclMode> {
+        for row in &self.policies {
+            if row.0 == bssid {
+                return Some(row.1.mode);
+            }
+        }
+        None
+    }
+
+    pub fn is_listed(&self, bssid: Bssid, which: Which, addr: Addr) -> bool {
+        self.lists
+            .iter()
+            .any(|row| row.0 == bssid && row.1 == which && row.2 == addr)
+    }
+
+    fn is_allowed(&self, bssid: Bssid, addr: Addr) -> bool {
+        let is_accepted = self.is_listed(bssid, Which::Accept, addr);
+        match self.mode(bssid) {
+            Some(AclMode::AcceptUnlessDenied) => {
+                is_accepted || !self.is_listed(bssid, Which::Deny, addr)
+            }
+            Some(AclMode::DenyUnlessAccepted) => is_accepted,
+            None => false,
+        }
+    }
+
+    fn is_row_sound(&self, row: &(Bssid, Addr, Station)) -> bool {
+        self.is_allowed(row.0, row.1) && !self.stations.iter().any(|other| clash(row, other))
+    }
+
+    /// Whether the state may be, but for the number of rows, where it could be before a change at the BSSID.
+    pub fn is_sound_at(&self, bssid: Bssid) -> bool {
+        let is_open = self.mode(bssid).is_some();
+        self.policies.len() <= 8
+            && (is_open || !self.lists.iter().any(|row| row.0 == bssid))
+            && self
+                .stations
+                .iter()
+                .all(|row| row.0 != bssid || self.is_row_sound(row))
+    }
+
+    pub fn get(&self, bssid: Bssid, addr: Addr) -> Option<Station> {
+        for row in &self.stations {
+            if row.0 == bssid && row.1 == addr {
+                return Some(row.2);
+            }
+        }
+        None
+    }
+
+    /// The row of the least address of a BSSID, above another if one is given.
+    pub fn next(&self, bssid: Bssid, above: Option<Addr>) -> Option<(Addr, Station)> {
+        let mut least: Option<(Addr, Station)> = None;
+        for row in &self.stations {
+            let is_above = above.is_none_or(|addr| addr < row.1);
+            let is_less = least.is_none_or(|(addr, _)| row.1 < addr);
+            if row.0 == bssid && is_above && is_less {
+                least = Some((row.1, row.2));
+            }
+        }
+        least
+    }
+
+    pub fn count(&self, bssid: Bssid) -> usize {
+        self.stations.iter().filter(|row| row.0 == bssid).count()
+    }
+
+    pub fn has_aid(&self, bssid: Bssid, aid: u16) -> bool {
+        self.stations
+            .iter()
+            .any(|row| row.0 == bssid && aid_of(row.2) == Some(aid))
+    }
+
+    /// The least identifier of a BSSID that no row has.
+    pub fn least_free(&self, bssid: Bssid) -> Option<u16> {
+        for aid in 1..=2007 {
+            if !self.has_aid(bssid, aid) {
+                return Some(aid);
+            }
+        }
+        None
+    }
+}
