@@ -5,8 +5,8 @@ ghost use Rattle.apd_base.specs.Failures.{HasRisen};
 ghost use Rattle.apd_disk.specs.Disk.{Only, LeavesOnly};
 ghost use Rattle.apd_store.specs.Image.{Shows, ShowsNone, IsMarked};
 ghost use Rattle.apd_store.specs.Layout.{IsFound};
-ghost use Rattle.apd_store.specs.Commit.{IsIdle, IsInside};
-ghost use Rattle.apd_store.specs.Outside.{device_of, phase_of};
+ghost use Rattle.apd_store.specs.Commit.{IsIdle};
+ghost use Rattle.apd_store.specs.Outside.{device_of, phase_of, IsInside};
 
 use crate::fault::StoreFault;
 use crate::phase::Phase;
