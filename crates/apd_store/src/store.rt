@@ -223,9 +223,9 @@ impl<D: Disk> Store<D> {
     /// Four calls are then left; with a switch eight, or ten where the other half's gate is open.
     ///
     /// Errors, in this order: `Failed`, `NotIdle`; where the group does not fit behind the closed gate,
-    /// `BadBatch` exactly where it does not fit behind the snapshot either, which only records of more than
-    /// 65,536 bytes do not, and then `Worn` exactly where the epoch is the greatest. `NoMemory` may come in the
-    /// place of the last two.
+    /// `BadBatch` exactly where it does not fit behind the snapshot either (its records are then longer than
+    /// 65,536 bytes), and then `Worn` exactly where the epoch is the greatest. `NoMemory` may come in the place
+    /// of the last two.
     pub fn begin(&mut self, batch: Batch, table: &Table) -> Result<(), (Batch, StoreFault)>
         ensures inside { IsInside D.size self.old → IsInside D.size self.new }
         ensures begun { IsIdle D.reads D.may_leave self.old table.now → IsGroup batch.changes → StaySound batch.changes table.now
