@@ -324,6 +324,11 @@ fn a_full_half_makes_way(rt: HostRuntime) -> Result<(), Fail> {
         Made::Sync,
     ];
     assert_eq!(rt; made.as_slice(), all.as_slice());
+    let head = [1, 2, 0, 0, 0, 0, 0, 0, 0, 30, 0, 0, 0];
+    assert_eq!(rt;
+        disk.bytes().get(1_048_640..1_048_653),
+        Some(head.as_slice())
+    );
     assert_eq!(rt;
         seen(alloc, disk),
         Ok((Some((0, 2007)), Some(Station::Authenticated)))

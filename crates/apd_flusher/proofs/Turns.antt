@@ -8,8 +8,9 @@ use Rattle.apd_disk.specs.Disk.{LeavesOnly}
 use Rattle.apd_disk.proofs.Moments.{started}
 use Rattle.apd_table.specs.Staged.{StagedTables, alone}
 use Rattle.apd_store.specs.Image.{Shows}
-use Rattle.apd_store.specs.Commit.{AtPhase, IsIdle, IsCommitting, HasFailed, MayShow, IsInside as StoreIsInside}
+use Rattle.apd_store.specs.Commit.{AtPhase, IsIdle, IsCommitting, HasFailed, MayShow}
 use Rattle.apd_store.specs.Layout.{opposite}
+use Rattle.apd_store.specs.Outside.{IsInside as StoreIsInside}
 use Rattle.apd_store.specs.Phases.{calls_from}
 use Rattle.apd_store.specs.Switch.{AtSwitch}
 use Rattle.apd_store.specs.declared.half.Half.{Half}

@@ -5,7 +5,8 @@ use Rattle.apd_record.specs.declared.change.Change.{Change}
 use Rattle.apd_table.specs.Sound.{StaySound}
 use Rattle.apd_journal.specs.Half.{IsGroup}
 use Rattle.apd_store.specs.Image.{Shows}
-use Rattle.apd_store.specs.Commit.{IsIdle, IsCommitting, HasFailed, HasRoom as StoreHasRoom, IsInside as StoreIsInside}
+use Rattle.apd_store.specs.Commit.{IsIdle, IsCommitting, HasFailed, HasRoom as StoreHasRoom}
+use Rattle.apd_store.specs.Outside.{IsInside as StoreIsInside}
 use Rattle.apd_flusher.specs.Outside.{phase_of, table_of, epoch_of}
 use Rattle.apd_flusher.specs.declared.flusher.Flusher.{Flusher}
 use Rattle.apd_flusher.specs.declared.phase.Phase.{Phase}

@@ -115,7 +115,8 @@ impl<D: Disk> Flusher<D> {
         ensures worn { IfErr result (λ e. e.1 ≡ StoreFault.Worn
             → IsGood batch.changes (table_of self.old) × (¬ HasRoom self.old batch.changes)
             × (2 ^ 64 ≤ epoch_of self.old + 1)) }
-        ensures only { IfErr result (λ e. (e.1 ≡ StoreFault.Failed) ⊎ (e.1 ≡ StoreFault.NotIdle) ⊎ (e.1 ≡ StoreFault.BadBatch)
+        ensures only { IfErr result
+            (λ e. (e.1 ≡ StoreFault.Failed) ⊎ (e.1 ≡ StoreFault.NotIdle) ⊎ (e.1 ≡ StoreFault.BadBatch)
             ⊎ (e.1 ≡ StoreFault.Worn) ⊎ (e.1 ≡ StoreFault.NoMemory)) }
     {
         match self.phase() {
@@ -265,10 +266,9 @@ impl<D: Disk> Flusher<D> {
         Ok(())
     }
 
-    /// Tells a caller's proof what a stop now shows, by the phase: the table where it is idle; while it is
-    /// busy the table, and where two calls are left or fewer that or the next one, but where two are left and
-    /// neither is begun the table alone; where it is done the next one alone; where it has failed one of the
-    /// two. It does nothing.
+    /// Tells a caller's proof what a stop now shows, by the phase: the table where it is idle, and while it is
+    /// busy with two calls left or more; that table or the next one where one call is left; the next one alone
+    /// where it is done; one of the two where it has failed. It does nothing.
     pub fn shown(&self)
         ensures shown { (state after : State) → Stands D.reads D.may_leave self.now state after → (c : List ℕ)
             → D.may_leave (device_of self.now) c → StopShows (phase_of self.now) (calls_left self.now) state after c }

@@ -56,7 +56,8 @@ pub fn plan(alloc: Global, batch: &Batch, place: usize) -> Result<Plan, AllocErr
 /// The bytes of a half that begins anew, as they are written behind its gate: the epoch, the length of the
 /// snapshot's records, the records, and the first group's gate, closed. Want of memory is the only error.
 ///
-/// The length has four bytes, and is taken, as in `plan`; memory too.
+/// The length has four bytes: of a greater one they are the lowest four. It takes memory twice: for the
+/// records, and for all bytes.
 pub fn plan_half(alloc: Global, epoch: u64, snapshot: &[Change]) -> Result<Plan, AllocError>
     ensures place { IfOk result (λ plan. plan.place ≡ 1) }
     ensures bytes { IfOk result (λ plan. plan.bytes ≡ begun_bytes epoch snapshot.now) }

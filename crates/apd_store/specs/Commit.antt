@@ -1,6 +1,5 @@
 -- A batch on its way to the device, call by call.
-use Rattle.std.specs.Prelude.{◌≡◌, ◌≤◌, ◌<◌, ◌⊎◌, ◌↔◌, ◌+◌, ℕ, IsTrue, List, [], ◌∷◌, length}
-use Rattle.apd_base.specs.declared.limits.TheConstants.{DEVICE_LENGTH}
+use Rattle.std.specs.Prelude.{◌≡◌, ◌≤◌, ◌⊎◌, ◌↔◌, ◌+◌, ℕ, IsTrue, List, [], ◌∷◌, length}
 use Rattle.apd_base.specs.State.{State}
 use Rattle.apd_record.specs.Meaning.{meaning_of}
 use Rattle.apd_record.specs.Record.{records_of}
@@ -91,11 +90,3 @@ pub record HasFailed {D : Type 0} (may_leave : D → List ℕ → Type 0) (store
 -- the group of these changes fits behind the closed gate, with the next gate inside the half
 abbrev pub HasRoom : {D : Type 0} → Store D → List Change → Type 0
 HasRoom store changes = store.gate + length (records_of changes) + 6 ≤ HALF_LENGTH
-
--- The device has the store's length, and what is to be written to either half lies inside it, whatever the device
--- keeps of it.
-pub record IsInside {D : Type 0} (size : D → ℕ) (store : Store D) : Type 0 where
-  pub gate : store.gate < HALF_LENGTH
-  pub group : store.plan.place + length store.plan.bytes ≤ HALF_LENGTH
-  pub half : store.fresh.place + length store.fresh.bytes ≤ HALF_LENGTH
-  pub device : size store.device ≡ DEVICE_LENGTH

@@ -11,6 +11,7 @@ use Rattle.apd_table.specs.Sound.{StaySound}
 use Rattle.apd_table.specs.declared.snapshot.TheConstants.{MAX_SNAPSHOT}
 use Rattle.apd_disk.specs.Disk.{Only, overwritten}
 use Rattle.apd_journal.specs.Half.{IsGroup, begun_bytes, planned_bytes}
+use Rattle.apd_journal.specs.declared.writer.TheConstants.{HALF_LENGTH}
 use Rattle.apd_store.specs.Image.{HasOpenGate, IsCurrent}
 use Rattle.apd_store.specs.Layout.{image_of, opposite, AreParts, AreTorn}
 use Rattle.apd_store.specs.declared.half.Half.{Half}
@@ -60,6 +61,11 @@ pub record IsSnapshot (changes : List Change) (state : State) : Type 0 where
   pub sound : StaySound changes empty_state
   pub leads : meaning_of changes empty_state ≡ state
   pub size : length (records_of changes) ≤ MAX_SNAPSHOT
+
+-- the group of these changes fits in a half that begins anew: the closed gate behind the snapshot of the state is at
+-- place 13 + its length, and the next gate is inside the half
+abbrev pub FitsAnew : State → List Change → Type 0
+FitsAnew state changes = (13 + length (records_of (canonical state))) + length (records_of changes) + 6 ≤ HALF_LENGTH
 
 -- a switch is on its way, before the batch that leads from one state to the next
 pub record IsSwitching {D : Type 0} (reads : D → List ℕ) (may_leave : D → List ℕ → Type 0) (store : Store D)

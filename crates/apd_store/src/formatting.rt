@@ -7,8 +7,8 @@ ghost use Rattle.apd_disk.specs.Disk.{Only, Counts, LeavesOnly};
 ghost use Rattle.apd_journal.specs.declared.writer.TheConstants.{HALF_LENGTH};
 ghost use Rattle.apd_store.specs.Image.{Shows, ShowsBy, IsMarkedBy, MayBeMade, MayBeMadeBy};
 ghost use Rattle.apd_store.specs.Layout.{blank, BeginsBy, HasZeroGate, IsLaidOut, IsFound, IsFoundBy};
-ghost use Rattle.apd_store.specs.Commit.{IsIdle, IsInside};
-ghost use Rattle.apd_store.specs.Outside.{device_of, phase_of};
+ghost use Rattle.apd_store.specs.Commit.{IsIdle};
+ghost use Rattle.apd_store.specs.Outside.{device_of, phase_of, IsInside};
 ghost use Rattle.apd_store.specs.declared.half.Half.TheVariants.{A};
 
 use crate::fault::StoreFault;

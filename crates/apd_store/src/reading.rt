@@ -96,7 +96,8 @@ fn is_marked(bytes: &[u8]) -> bool
 
 /// The current half of a device's bytes, its closed gate and its table.
 pub(crate) fn read_image(alloc: Global, bytes: &[u8]) -> Result<Found, StoreFault>
-    ensures ok { IfOk result (λ found. IsFound bytes.now found.half found.epoch found.gate found.other_open found.table) }
+    ensures ok { IfOk result
+        (λ found. IsFound bytes.now found.half found.epoch found.gate found.other_open found.table) }
     ensures not_a_store { result ≡ Err StoreFault.NotAStore → ¬ IsMarked bytes.now }
     ensures damaged { result ≡ Err StoreFault.Damaged → IsMarked bytes.now × ShowsNone bytes.now }
     ensures only { OnErr result ((result ≡ Err StoreFault.NotAStore) ⊎ (result ≡ Err StoreFault.Damaged)

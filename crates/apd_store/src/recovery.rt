@@ -5,8 +5,8 @@ ghost use Rattle.apd_base.specs.Failures.{HasRisen};
 ghost use Rattle.apd_disk.specs.Disk.{Only, LeavesOnly};
 ghost use Rattle.apd_store.specs.Image.{Shows, ShowsNone, IsMarked};
 ghost use Rattle.apd_store.specs.Layout.{IsFound};
-ghost use Rattle.apd_store.specs.Commit.{IsIdle, IsInside};
-ghost use Rattle.apd_store.specs.Outside.{device_of, phase_of};
+ghost use Rattle.apd_store.specs.Commit.{IsIdle};
+ghost use Rattle.apd_store.specs.Outside.{device_of, phase_of, IsInside};
 
 use crate::fault::StoreFault;
 use crate::phase::Phase;
@@ -93,8 +93,10 @@ pub fn recover<D: Disk>(alloc: Global, device: D) -> Result<(Store<D>, Table), (
     ensures honest { IfOk result (λ found. D.honest device ↔ D.honest (device_of found.0)) }
     ensures honest_err { IfErr result (λ e. D.honest device ↔ D.honest e.0) }
     ensures length { OnOk result (D.size device ≡ DEVICE_LENGTH) }
-    ensures other_length { IfErr result (λ e. D.size device ≢ DEVICE_LENGTH → (e.1 ≡ StoreFault.NotAStore) ⊎ (e.1 ≡ StoreFault.Device)) }
-    ensures only { IfErr result (λ e. (e.1 ≡ StoreFault.NotAStore) ⊎ (e.1 ≡ StoreFault.Damaged) ⊎ (e.1 ≡ StoreFault.Device)
+    ensures other_length { IfErr result
+        (λ e. D.size device ≢ DEVICE_LENGTH → (e.1 ≡ StoreFault.NotAStore) ⊎ (e.1 ≡ StoreFault.Device)) }
+    ensures only { IfErr result
+        (λ e. (e.1 ≡ StoreFault.NotAStore) ⊎ (e.1 ≡ StoreFault.Damaged) ⊎ (e.1 ≡ StoreFault.Device)
         ⊎ (e.1 ≡ StoreFault.NoMemory)) }
     ensures device { IfErr result (λ e. e.1 ≡ StoreFault.Device → HasRisen (D.failed device) (D.failed e.0)) }
     ensures count { IfOk result (λ found. D.failed (device_of found.0) ≡ D.failed device) }

@@ -162,9 +162,9 @@ fn first_of_a_switch(other_open: bool) -> Phase
 }
 
 impl<D: Disk> Store<D> {
-    ghost use Rattle.apd_store.specs.Commit.{IsIdle, IsCommitting, IsWriting, IsInside, HasFailed, MayShow, HasRoom};
-    ghost use Rattle.apd_store.specs.Switch.{IsSnapshot, IsSwitching};
-    ghost use Rattle.apd_store.specs.Outside.{device_of, phase_of, calls_left, batch_of, epoch_of, held_batch, is_other_open};
+    ghost use Rattle.apd_store.specs.Commit.{IsIdle, IsCommitting, IsWriting, HasFailed, MayShow, HasRoom};
+    ghost use Rattle.apd_store.specs.Switch.{IsSnapshot, IsSwitching, FitsAnew};
+    ghost use Rattle.apd_store.specs.Outside.{device_of, phase_of, calls_left, batch_of, epoch_of, held_batch, is_other_open, IsInside};
 
     // A store with no batch, which goes on at this gate of this half.
     pub(crate) fn new(
@@ -230,8 +230,9 @@ impl<D: Disk> Store<D> {
     /// Four calls are then left; with a switch eight, or ten where the other half's gate is open.
     ///
     /// Errors, in this order: `Failed`, `NotIdle`; where the group does not fit behind the closed gate,
-    /// `BadBatch` where its records are longer than 65,536 bytes and it does not fit behind a snapshot either,
-    /// and then `Worn` exactly where the epoch is the greatest. `NoMemory` may come in the place of the last two.
+    /// `BadBatch` exactly where it does not fit behind the snapshot either (its records are then longer than
+    /// 65,536 bytes), and then `Worn` exactly where the epoch is the greatest. `NoMemory` may come in the place
+    /// of the last two.
     pub fn begin(&mut self, batch: Batch, table: &Table) -> Result<(), (Batch, StoreFault)>
         ensures inside { IsInside D.size self.old → IsInside D.size self.new }
         ensures begun { IsIdle D.reads D.may_leave self.old table.now → IsGroup batch.changes
@@ -248,14 +249,20 @@ impl<D: Disk> Store<D> {
         ensures device { device_of self.new ≡ device_of self.old }
         ensures refused { IfErr result (λ e. (e.0 ≡ batch) × (self.new ≡ self.old)) }
         ensures failed { IfErr result (λ e. (e.1 ≡ StoreFault.Failed) ↔ (phase_of self.old ≡ Phase.Failed)) }
-        ensures not_idle { IfErr result (λ e. (e.1 ≡ StoreFault.NotIdle)
+        ensures not_idle { IfErr result
+            (λ e. (e.1 ≡ StoreFault.NotIdle)
             ↔ ((phase_of self.old ≢ Phase.Failed) × (phase_of self.old ≢ Phase.Idle))) }
-        ensures bad { IfErr result (λ e. e.1 ≡ StoreFault.BadBatch
-            → (¬ HasRoom self.old batch.changes) × (MAX_GROUP < length (records_of batch.changes))) }
-        ensures worn { IfErr result (λ e. e.1 ≡ StoreFault.Worn
-            → (¬ HasRoom self.old batch.changes) × (2 ^ 64 ≤ epoch_of self.old + 1)) }
+        ensures bad { IfErr result
+            (λ e. e.1 ≡ StoreFault.BadBatch
+            → (¬ HasRoom self.old batch.changes) × (¬ FitsAnew table.now batch.changes)) }
+        ensures long { IfErr result (λ e. e.1 ≡ StoreFault.BadBatch → MAX_GROUP < length (records_of batch.changes)) }
+        ensures worn { IfErr result
+            (λ e. e.1 ≡ StoreFault.Worn → (¬ HasRoom self.old batch.changes) × FitsAnew table.now batch.changes
+            × (2 ^ 64 ≤ epoch_of self.old + 1)) }
+        ensures anew { ¬ HasRoom self.old batch.changes → OnOk result (FitsAnew table.now batch.changes) }
         ensures lasts { ¬ HasRoom self.old batch.changes → OnOk result (epoch_of self.old + 1 < 2 ^ 64) }
-        ensures only { IfErr result (λ e. (e.1 ≡ StoreFault.Failed) ⊎ (e.1 ≡ StoreFault.NotIdle) ⊎ (e.1 ≡ StoreFault.BadBatch)
+        ensures only { IfErr result
+            (λ e. (e.1 ≡ StoreFault.Failed) ⊎ (e.1 ≡ StoreFault.NotIdle) ⊎ (e.1 ≡ StoreFault.BadBatch)
             ⊎ (e.1 ≡ StoreFault.Worn) ⊎ (e.1 ≡ StoreFault.NoMemory)) }
     {
         match self.phase {
@@ -315,10 +322,14 @@ impl<D: Disk> Store<D> {
         ensures batch { OnOk result (batch_of self.new ≡ batch) }
         ensures device { device_of self.new ≡ device_of self.old }
         ensures refused { IfErr result (λ e. (e.0 ≡ batch) × (self.new ≡ self.old)) }
-        ensures bad { IfErr result (λ e. e.1 ≡ StoreFault.BadBatch → MAX_GROUP < length (records_of batch.changes)) }
-        ensures worn { IfErr result (λ e. e.1 ≡ StoreFault.Worn → 2 ^ 64 ≤ epoch_of self.old + 1) }
+        ensures bad { IfErr result (λ e. e.1 ≡ StoreFault.BadBatch → ¬ FitsAnew table.now batch.changes) }
+        ensures long { IfErr result (λ e. e.1 ≡ StoreFault.BadBatch → MAX_GROUP < length (records_of batch.changes)) }
+        ensures worn { IfErr result
+            (λ e. e.1 ≡ StoreFault.Worn → FitsAnew table.now batch.changes × (2 ^ 64 ≤ epoch_of self.old + 1)) }
+        ensures anew { OnOk result (FitsAnew table.now batch.changes) }
         ensures lasts { OnOk result (epoch_of self.old + 1 < 2 ^ 64) }
-        ensures only { IfErr result (λ e. (e.1 ≡ StoreFault.BadBatch) ⊎ (e.1 ≡ StoreFault.Worn) ⊎ (e.1 ≡ StoreFault.NoMemory)) }
+        ensures only { IfErr result
+            (λ e. (e.1 ≡ StoreFault.BadBatch) ⊎ (e.1 ≡ StoreFault.Worn) ⊎ (e.1 ≡ StoreFault.NoMemory)) }
     {
         let Ok(fresh) = self.new_half(table) else {
             return Err((batch, StoreFault::NoMemory));

@@ -13,9 +13,9 @@ use crate::store::{Store, last_place, moved, no_plan, write_in_half};
 use apd_disk::Disk;
 
 impl<D: Disk> Store<D> {
-    ghost use Rattle.apd_store.specs.Commit.{IsWriting, IsInside, HasFailed};
+    ghost use Rattle.apd_store.specs.Commit.{IsWriting, HasFailed};
     ghost use Rattle.apd_store.specs.Switch.{IsSwitching};
-    ghost use Rattle.apd_store.specs.Outside.{device_of, phase_of, calls_left, batch_of};
+    ghost use Rattle.apd_store.specs.Outside.{device_of, phase_of, calls_left, batch_of, IsInside};
 
     /// The next call of a switch.
     pub(crate) fn next_of_switch(&mut self) -> Result<bool, StoreFault>
