@@ -81,7 +81,17 @@ pub record IsOwed (number : ℕ) (s : CoreState) : Type 0 where
 
 -- no entry yet
 abbrev pub new_core : State → List Conf → LastHeard → CoreState
-new_core table confs heard = record { confs = confs; settled = table; number = 0; unsettled = []; flight = 0; held = no_outs confs; heard = heard; failed = false }
+new_core table confs heard =
+    record {
+      confs = confs;
+      settled = table;
+      number = 0;
+      unsettled = [];
+      flight = 0;
+      held = no_outs confs;
+      heard = heard;
+      failed = false;
+    }
 
 -- ---- accepting
 abbrev pub is_stopped : CoreState → Bool
@@ -95,7 +105,8 @@ ticket number i m = record { number = number; input = i; moment = m }
 
 abbrev pub answer_to_fit : CoreState → Moment → Input → Happening → Option QuietReason → Accepted
 answer_to_fit s m i h (Some reason) = Quiet reason
-answer_to_fit s m i h None = if is_nothing (verdict (front_of s) s.confs h) then Quiet quiet.Nothing else Entry (ticket (last_of s + 1) i m)
+answer_to_fit s m i h None =
+    if is_nothing (verdict (front_of s) s.confs h) then Quiet quiet.Nothing else Entry (ticket (last_of s + 1) i m)
 
 abbrev pub answer_to : CoreState → Moment → Input → Result Happening QuietReason → Accepted
 answer_to s m i (Err reason) = Quiet reason
@@ -118,7 +129,11 @@ pub record IsDecided (s : CoreState) (m : Moment) (i : Input) : Type 0 where
 abbrev pub with_entry : CoreState → Moment → Happening → CoreState
 with_entry s m h =
     let v = verdict (front_of s) s.confs h in
-    record s { unsettled = s.unsettled ++ v.changes ∷ []; held = with_outs s.confs (last_of s + 1) v.outs s.held; heard = heard_by_changes m v.changes s.heard }
+    record s {
+      unsettled = s.unsettled ++ v.changes ∷ [];
+      held = with_outs s.confs (last_of s + 1) v.outs s.held;
+      heard = heard_by_changes m v.changes s.heard;
+    }
 
 -- the sender of a frame was heard
 abbrev pub with_sender : Moment → Happening → CoreState → CoreState
@@ -157,11 +172,13 @@ cannot_take s = s.failed || (nat_le 1 s.flight || (length s.unsettled == 0))
 pub record IsLongestFront (entries : List (List Change)) (count : ℕ) : Type 0 where
   pub there : count ≤ length entries
   pub fits : length (records_of (changes_of (take count entries))) ≤ MAX_GROUP
-  pub longest : (more : ℕ) → more ≤ length entries → length (records_of (changes_of (take more entries))) ≤ MAX_GROUP → more ≤ count
+  pub longest : (more : ℕ) → more ≤ length entries → length (records_of (changes_of (take more entries))) ≤ MAX_GROUP
+      → more ≤ count
 
 -- the batch in flight
 abbrev pub batch_of : CoreState → Batch
-batch_of s = record { first = s.number + 1; last = s.number + s.flight; changes = changes_of (take s.flight s.unsettled) }
+batch_of s =
+    record { first = s.number + 1; last = s.number + s.flight; changes = changes_of (take s.flight s.unsettled) }
 
 -- a batch is taken: nothing else changes
 pub record IsTaken (batch : Batch) (old new : CoreState) : Type 0 where
@@ -182,7 +199,13 @@ all_settled number (suc count) held = after_settled (number + suc count) (all_se
 -- the batch in flight is settled
 abbrev pub published : CoreState → CoreState
 published s =
-    record s { settled = meaning_of (changes_of (take s.flight s.unsettled)) s.settled; number = s.number + s.flight; unsettled = drop s.flight s.unsettled; flight = 0; held = all_settled s.number s.flight s.held }
+    record s {
+      settled = meaning_of (changes_of (take s.flight s.unsettled)) s.settled;
+      number = s.number + s.flight;
+      unsettled = drop s.flight s.unsettled;
+      flight = 0;
+      held = all_settled s.number s.flight s.held;
+    }
 
 -- ---- handing out, and reading
 abbrev pub handed : Recipient → CoreState → CoreState

@@ -26,7 +26,8 @@ pub record HeldOuts : Type 0 where
 -- the place of the queue of a BSSID's radio
 abbrev pub radio_place : List Conf → Bssid → Option ℕ
 radio_place [] b = None
-radio_place (conf ∷ confs) b = if eq_by_cmp bssid_cmp b conf.bssid then Some 0 else option_map (λ i. i + 1) (radio_place confs b)
+radio_place (conf ∷ confs) b =
+    if eq_by_cmp bssid_cmp b conf.bssid then Some 0 else option_map (λ i. i + 1) (radio_place confs b)
 
 -- the place of a recipient's queue
 abbrev pub queue_place : List Conf → Recipient → Option ℕ
@@ -61,7 +62,8 @@ queued confs number (x ∷ xs) queues = queued confs number xs (queued_at queues
 
 -- an entry more is kept
 abbrev pub with_outs : List Conf → ℕ → List (Recipient × Out) → HeldOuts → HeldOuts
-with_outs confs number outs held = record held { queues = queued confs number outs held.queues; left = maps.insert held.left number (length outs) }
+with_outs confs number outs held =
+    record held { queues = queued confs number outs held.queues; left = maps.insert held.left number (length outs) }
 
 -- of a queue the outs of the entries up to a number, and those of later ones
 abbrev pub up_to : ℕ → Queue → Queue
@@ -91,7 +93,11 @@ given_at queues (Some i) number = slice_set queues i (beyond number (slice_index
 abbrev pub after_hand : List Conf → ℕ → Recipient → HeldOuts → HeldOuts
 after_hand confs number r held =
     let outs = up_to number (queue_of confs held r) in
-    record { queues = given_at held.queues (queue_place confs r) number; left = after_given held.left outs; given = greatest held.given outs }
+    record {
+      queues = given_at held.queues (queue_place confs r) number;
+      left = after_given held.left outs;
+      given = greatest held.given outs;
+    }
 
 -- an entry is settled: one without outs goes
 abbrev pub settled_left : FinMap nat_cmp ℕ → ℕ → Option ℕ → FinMap nat_cmp ℕ

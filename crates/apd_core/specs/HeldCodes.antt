@@ -35,12 +35,16 @@ out_from-parts_of (Frame bytes) = refl
 out_from-parts_of (Text tag bytes) = refl
 
 abbrev pub coded_out : Coded Out
-coded_out = code_by Parts (coded⊎ (coded⊎ (coded× coded_addr coded_aid) coded_addr) (coded⊎ (coded_list coded_ℕ) (coded× coded_ℕ (coded_list coded_ℕ)))) parts_of out_from out_from-parts_of
+coded_out =
+    code_by Parts
+    (coded⊎ (coded⊎ (coded× coded_addr coded_aid) coded_addr)
+    (coded⊎ (coded_list coded_ℕ) (coded× coded_ℕ (coded_list coded_ℕ)))) parts_of out_from out_from-parts_of
 
 abbrev pub coded_queue : Coded Queue
 coded_queue = coded_list (coded× coded_ℕ coded_out)
 
 abbrev pub coded_held : Coded HeldOuts
 coded_held =
-    code_by (List Queue × (FinMap nat_cmp ℕ × ℕ)) (coded× (coded_list coded_queue) (coded× (maps.code coded_ℕ coded_ℕ) coded_ℕ))
+    code_by (List Queue × (FinMap nat_cmp ℕ × ℕ))
+    (coded× (coded_list coded_queue) (coded× (maps.code coded_ℕ coded_ℕ) coded_ℕ))
     (λ h. (h.queues, (h.left, h.given))) (λ p. record { queues = p.0; left = p.1.0; given = p.1.1 }) (λ _. refl)

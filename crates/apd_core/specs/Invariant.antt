@@ -18,7 +18,8 @@ use Rattle.apd_core.specs.Held.{Queue, AreHeld, queue_of, up_to, outs_of}
 -- each entry has the changes of the verdict on what happened, in the state before it, where that was fit
 abbrev pub AreDecided : List Conf → State → List Happening → List (List Change) → Type 0
 AreDecided confs s [] [] = Unit {0}
-AreDecided confs s (h ∷ hs) (changes ∷ entries) = IsFit s confs h × (changes ≡ (verdict s confs h).changes) × AreDecided confs (verdict s confs h).state hs entries
+AreDecided confs s (h ∷ hs) (changes ∷ entries) = IsFit s confs h × (changes ≡ (verdict s confs h).changes)
+    × AreDecided confs (verdict s confs h).state hs entries
 AreDecided confs s [] (changes ∷ entries) = ⊥
 AreDecided confs s (h ∷ hs) [] = ⊥
 
@@ -26,14 +27,17 @@ AreDecided confs s (h ∷ hs) [] = ⊥
 abbrev pub numbered_outs : Recipient → List Conf → ℕ → State → List Happening → Queue
 numbered_outs r confs number s [] = []
 numbered_outs r confs number s (h ∷ hs) =
-    map (λ out. (number + 1, out)) (outs_to r (verdict s confs h).outs) ++ numbered_outs r confs (number + 1) (verdict s confs h).state hs
+    map (λ out. (number + 1, out)) (outs_to r (verdict s confs h).outs)
+    ++ numbered_outs r confs (number + 1) (verdict s confs h).state hs
 
 -- What happened, so that the entries that are not settled are the verdicts on it, one after another from the settled state on:
 -- their changes, and for each recipient its outs, behind those of settled entries.
 pub record Unsettled (s : CoreState) : Type 0 where
   pub happened : List Happening
   pub decided : AreDecided s.confs s.settled happened s.unsettled
-  pub outs : (r : Recipient) → queue_of s.confs s.held r ≡ up_to s.number (queue_of s.confs s.held r) ++ numbered_outs r s.confs s.number s.settled happened
+  pub outs : (r : Recipient)
+      → queue_of s.confs s.held r
+      ≡ up_to s.number (queue_of s.confs s.held r) ++ numbered_outs r s.confs s.number s.settled happened
 
 pub record IsCore (s : CoreState) : Type 0 where
   pub confs : AreConfs s.confs

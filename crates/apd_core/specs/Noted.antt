@@ -51,4 +51,5 @@ pub record IsNoted (m : Moment) (IsHeard : Type 0) (row : Option Station) (old n
 abbrev pub AreNoted : CoreState → Moment → Input → CoreState → Type 0
 AreNoted old m i new =
     (b : Bssid) (a : Addr)
-    → IsNoted m (IsHeardBy old (happening_of old.confs old.heard m i) (accepted old m i) b a) (station_at (front_of new) b a) (maps.get old.heard (b, a)) (maps.get new.heard (b, a))
+    → IsNoted m (IsHeardBy old (happening_of old.confs old.heard m i) (accepted old m i) b a)
+    (station_at (front_of new) b a) (maps.get old.heard (b, a)) (maps.get new.heard (b, a))

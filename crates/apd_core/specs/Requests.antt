@@ -43,7 +43,8 @@ said_by (input.Order event) = Some (ordered (happening event))
 said_by input.Tick = None
 said_by (input.Configure b accept deny) = Some (Ok (Configure b accept.now deny.now))
 
-abbrev pub or_due : List Conf → LastHeard → Moment → Option (Result Happening QuietReason) → Result Happening QuietReason
+abbrev pub or_due : List Conf → LastHeard → Moment → Option (Result Happening QuietReason)
+    → Result Happening QuietReason
 or_due confs heard m None = expiry (due confs m heard)
 or_due confs heard m (Some said) = said
 

@@ -213,7 +213,8 @@ impl Held {
         to: Recipient,
     ) -> Result<Vec<Out>, AllocError>
         requires { length self.old.queues ≡ length confs.now + 1 }
-        ensures outs { IfOk result (λ outs. outs.items ≡ map (λ x. x.1) (up_to number (queue_of confs.now self.old to))) }
+        ensures outs { IfOk result
+            (λ outs. outs.items ≡ map (λ x. x.1) (up_to number (queue_of confs.now self.old to))) }
         ensures handed { OnOk result (self.new ≡ after_hand confs.now number to self.old) }
         ensures err { OnErr result (self.new ≡ self.old) }
         ensures lacks { OnErr result (1 ≤ length (up_to number (queue_of confs.now self.old to))) }

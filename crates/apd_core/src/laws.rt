@@ -33,14 +33,20 @@ pub fn the_table_after_all_entries_is_sound()
 
 /// An entry is kept exactly where it is not settled, or a recipient was not given an out of it yet.
 pub fn an_entry_is_kept_until_it_is_settled_and_given()
-    ensures { (s : CoreState) (number : ℕ) → IsCore s → (IsTrue (is_kept number s)) ↔ (IsUnsettled number s ⊎ IsOwed number s) }
+    ensures { (s : CoreState) (number : ℕ) → IsCore s
+        → (IsTrue (is_kept number s)) ↔ (IsUnsettled number s ⊎ IsOwed number s) }
 {}
 
 /// What a request enters leads from the table after all entries to the one after it, and behind what is held
 /// for each recipient stand its outs to it.
 pub fn an_entry_is_held()
-    ensures front { (s : CoreState) (m : Moment) (i : Input) → front_of (after_request s m i) ≡ run (front_of s) s.confs (entered_by (accepted s m i) (happening_of s.confs s.heard m i)) }
-    ensures held { (s : CoreState) (m : Moment) (i : Input) (r : Recipient) → IsCore s → held_for r (after_request s m i) ≡ held_for r s ++ outs_run r (front_of s) s.confs (entered_by (accepted s m i) (happening_of s.confs s.heard m i)) }
+    ensures front { (s : CoreState) (m : Moment) (i : Input)
+        → front_of (after_request s m i)
+        ≡ run (front_of s) s.confs (entered_by (accepted s m i) (happening_of s.confs s.heard m i)) }
+    ensures held { (s : CoreState) (m : Moment) (i : Input) (r : Recipient) → IsCore s
+        → held_for r (after_request s m i)
+        ≡ held_for r s
+        ++ outs_run r (front_of s) s.confs (entered_by (accepted s m i) (happening_of s.confs s.heard m i)) }
 {}
 
 /// Settling a batch changes neither the table after all entries nor what is held.
@@ -59,8 +65,10 @@ pub fn what_is_given_was_held()
 /// What is due is the first row, by (BSSID, address), of a configured BSSID that was silent for as long as the
 /// configuration says, or longer; and nothing is due exactly where no row is.
 pub fn what_is_due_is_the_first_silent_row()
-    ensures first { (confs : List Conf) (now : Moment) (heard : LastHeard) (row : Bssid × Addr) → (due confs now heard ≡ Some row) ↔ IsFirstSilent confs now heard row }
-    ensures none { (confs : List Conf) (now : Moment) (heard : LastHeard) → (due confs now heard ≡ None) ↔ ((row : Bssid × Addr) → ¬ (IsSilent confs now heard row)) }
+    ensures first { (confs : List Conf) (now : Moment) (heard : LastHeard) (row : Bssid × Addr)
+        → (due confs now heard ≡ Some row) ↔ IsFirstSilent confs now heard row }
+    ensures none { (confs : List Conf) (now : Moment) (heard : LastHeard)
+        → (due confs now heard ≡ None) ↔ ((row : Bssid × Addr) → ¬ (IsSilent confs now heard row)) }
 {}
 
 /// After a request at a moment that moment is the one of each row that it heard: the row of the sender of a
@@ -73,5 +81,6 @@ pub fn a_row_has_the_moment_at_which_it_was_heard()
 /// A tick is quiet for one reason alone, that no station is due: one that is due stands at a BSSID that is
 /// configured and has a policy row, and goes by an entry.
 pub fn a_tick_is_quiet_where_nothing_is_due()
-    ensures { (s : CoreState) (m : Moment) → IsCore s → (reason : QuietReason) → accepted s m Tick ≡ Quiet reason → (reason ≡ Nothing) × (due s.confs m s.heard ≡ None) }
+    ensures { (s : CoreState) (m : Moment) → IsCore s → (reason : QuietReason) → accepted s m Tick ≡ Quiet reason
+        → (reason ≡ Nothing) × (due s.confs m s.heard ≡ None) }
 {}

@@ -166,7 +166,8 @@ impl Moments {
     /// The row that a change puts, which has a moment, is given this one.
     fn stamp(&mut self, change: &Change, moment: Moment)
         requires { (k : Bssid × Addr) → is_put_of k change.now ≡ true → IsSome (map.get self.old k) }
-        ensures { (k : Bssid × Addr) → map.get self.new k ≡ cond (is_put_of k change.now) (Some moment) (map.get self.old k) }
+        ensures { (k : Bssid × Addr)
+            → map.get self.new k ≡ cond (is_put_of k change.now) (Some moment) (map.get self.old k) }
     {
         if let Change::Put { bssid, addr, .. } = *change {
             self.put(bssid, addr, moment).unwrap();
@@ -176,7 +177,8 @@ impl Moments {
     /// The same for changes.
     fn stamp_all(&mut self, changes: &[Change], moment: Moment)
         requires { (k : Bssid × Addr) → puts_row changes.now k ≡ true → IsSome (map.get self.old k) }
-        ensures { (k : Bssid × Addr) → map.get self.new k ≡ cond (puts_row changes.now k) (Some moment) (map.get self.old k) }
+        ensures { (k : Bssid × Addr)
+            → map.get self.new k ≡ cond (puts_row changes.now k) (Some moment) (map.get self.old k) }
     {
         for change in changes {
             self.stamp(change, moment);
@@ -185,7 +187,10 @@ impl Moments {
 
     /// The moment of a row that is not in the table goes.
     fn tidy_row(&mut self, bssid: Bssid, addr: Addr, table: &Table)
-        ensures { (k : Bssid × Addr) → map.get self.new k ≡ tidied (eq_by_cmp station_cmp k (bssid, addr)) (is_some (map.get table.now.stations k)) (map.get self.old k) }
+        ensures { (k : Bssid × Addr)
+            → map.get self.new k
+            ≡ tidied (eq_by_cmp station_cmp k (bssid, addr))
+            (is_some (map.get table.now.stations k)) (map.get self.old k) }
     {
         if table.get(bssid, addr).is_none() {
             self.remove(bssid, addr);
@@ -194,7 +199,9 @@ impl Moments {
 
     /// The row that a change puts or drops keeps its moment only where the table has it.
     fn tidy(&mut self, change: &Change, table: &Table)
-        ensures { (k : Bssid × Addr) → map.get self.new k ≡ tidied (is_of k change.now) (is_some (map.get table.now.stations k)) (map.get self.old k) }
+        ensures { (k : Bssid × Addr)
+            → map.get self.new k
+            ≡ tidied (is_of k change.now) (is_some (map.get table.now.stations k)) (map.get self.old k) }
     {
         match *change {
             Change::Put { bssid, addr, .. } => self.tidy_row(bssid, addr, table),
@@ -208,7 +215,9 @@ impl Moments {
 
     /// The same for changes.
     fn tidy_all(&mut self, changes: &[Change], table: &Table)
-        ensures { (k : Bssid × Addr) → map.get self.new k ≡ tidied (touches_row changes.now k) (is_some (map.get table.now.stations k)) (map.get self.old k) }
+        ensures { (k : Bssid × Addr)
+            → map.get self.new k
+            ≡ tidied (touches_row changes.now k) (is_some (map.get table.now.stations k)) (map.get self.old k) }
     {
         for change in changes {
             self.tidy(change, table);

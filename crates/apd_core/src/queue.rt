@@ -61,7 +61,8 @@ impl Queue {
     /// Takes the first out, if it is of an entry up to the number. It takes no memory.
     pub(crate) fn pop_up_to(&mut self, number: u64) -> Option<(u64, Out)>
         requires { IsInOrder self.old }
-        ensures { MatchOption result ((up_to number self.old ≡ []) × (self.new ≡ self.old)) (λ first. (self.old ≡ first ∷ self.new) × (first.0 ≤ number)) }
+        ensures { MatchOption result ((up_to number self.old ≡ []) × (self.new ≡ self.old))
+            (λ first. (self.old ≡ first ∷ self.new) × (first.0 ≤ number)) }
     {
         let Some(first) = self.first() else {
             return None;

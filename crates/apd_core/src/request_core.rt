@@ -176,7 +176,9 @@ impl Core {
     ) -> Result<Accepted<'a>, AllocError>
         ensures answer { IfOk result (λ answer. answer ≡ accepted self.old moment input.entry) }
         ensures ok { OnOk result (self.new ≡ after_request self.old moment input.entry) }
-        ensures fit { IfOk result (λ answer. AreFit (front_of self.old) self.old.confs (entered_by answer (happening_of self.old.confs self.old.heard moment input.entry))) }
+        ensures fit { IfOk result
+            (λ answer. AreFit (front_of self.old) self.old.confs
+            (entered_by answer (happening_of self.old.confs self.old.heard moment input.entry))) }
         ensures err { OnErr result (self.new ≡ self.old) }
         ensures lacks { OnErr result (IsDecided self.old moment input.entry) }
     {
@@ -205,9 +207,11 @@ impl Core {
         requires lists { HasLists (happening event) }
         requires room { last_of self.old + 1 < 2 ^ 64 }
         requires free { is_busy self.old ≡ false }
-        ensures answer { IfOk result (λ answer. answer ≡ answer_to self.old moment input.entry (Ok (happening event.entry))) }
+        ensures answer { IfOk result
+            (λ answer. answer ≡ answer_to self.old moment input.entry (Ok (happening event.entry))) }
         ensures ok { IfOk result (λ answer. self.new ≡ entered_state answer self.old moment (happening event.entry)) }
-        ensures fit { IfOk result (λ answer. AreFit (front_of self.old) self.old.confs (entered_by answer (Ok (happening event.entry)))) }
+        ensures fit { IfOk result
+            (λ answer. AreFit (front_of self.old) self.old.confs (entered_by answer (Ok (happening event.entry)))) }
         ensures err { OnErr result (self.new ≡ self.old) }
         ensures lacks { OnErr result (unfit (front_of self.old) self.old.confs (happening event.entry) ≡ None) }
     {

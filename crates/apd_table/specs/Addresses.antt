@@ -61,7 +61,8 @@ has_after lists b (SetPolicy c policy) w a = has lists w a
 
 -- whether a mode denies an address of the BSSID once a change is made, and whether a row is one of those
 abbrev pub is_address_denied_after : Lists → AclMode → Bssid → Change → Addr → Bool
-is_address_denied_after lists mode b change a = not (is_allowed mode (has_after lists b change Accept a) (has_after lists b change Deny a))
+is_address_denied_after lists mode b change a =
+    not (is_allowed mode (has_after lists b change Accept a) (has_after lists b change Deny a))
 
 abbrev pub is_denied_after : Lists → AclMode → Bssid → Change → (Bssid × Addr) × Station → Bool
 is_denied_after lists mode b change row = is_row_of b row && is_address_denied_after lists mode b change row.0.1

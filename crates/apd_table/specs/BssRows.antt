@@ -25,7 +25,9 @@ add_rows b w (a ∷ as') s = map.insert (add_rows b w as' s) (b, w, a) tt
 -- all list rows
 abbrev pub list_rows : List (Bssid × Bss) → SetOf list_cmp
 list_rows [] = map.empty
-list_rows (x ∷ xs) = add_rows x.0 Accept (map.keys (list_of x.1.lists Accept)) (add_rows x.0 Deny (map.keys (list_of x.1.lists Deny)) (list_rows xs))
+list_rows (x ∷ xs) =
+    add_rows x.0 Accept (map.keys (list_of x.1.lists Accept))
+    (add_rows x.0 Deny (map.keys (list_of x.1.lists Deny)) (list_rows xs))
 
 abbrev pub policy_of : Bss → Policy
 policy_of x = x.policy
@@ -41,7 +43,12 @@ abbrev pub policy_rows : List (Bssid × Bss) → List (Bssid × Policy)
 policy_rows xs = parts_of policy_of xs
 
 abbrev pub state_of_rows : List (Bssid × Bss) → BssState
-state_of_rows xs = record { lists = list_rows xs; policies = map.from_sorted (policy_rows xs); members = map.from_sorted (parts_of members_of xs) }
+state_of_rows xs =
+    record {
+      lists = list_rows xs;
+      policies = map.from_sorted (policy_rows xs);
+      members = map.from_sorted (parts_of members_of xs);
+    }
 
 abbrev pub no_bss : BssState
 no_bss = record { lists = map.empty; policies = map.empty; members = map.empty }
@@ -52,7 +59,8 @@ joined None members b = map.insert members b no_members
 joined (Some policy) members b = members
 
 abbrev pub with_bss : BssState → Bssid → Policy → BssState
-with_bss s b policy = record s { policies = map.insert s.policies b policy; members = joined (map.get s.policies b) s.members b }
+with_bss s b policy =
+    record s { policies = map.insert s.policies b policy; members = joined (map.get s.policies b) s.members b }
 
 -- whether the lists of a row have an address
 abbrev pub is_listed_in : Option Bss → Which → Addr → Bool

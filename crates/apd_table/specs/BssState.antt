@@ -19,5 +19,7 @@ pub record BssState : Type 0 where
 abbrev pub coded_bss_state : Coded BssState
 coded_bss_state =
     code_by (SetOf list_cmp × (FinMap bssid_cmp Policy × FinMap bssid_cmp Members))
-    (coded× (coded_set coded_list_row) (coded× (map.code coded_bssid coded_policy) (map.code coded_bssid coded_members)))
-    (λ s. (s.lists, (s.policies, s.members))) (λ p. record { lists = p.0; policies = p.1.0; members = p.1.1 }) (λ _. refl)
+    (coded× (coded_set coded_list_row)
+    (coded× (map.code coded_bssid coded_policy) (map.code coded_bssid coded_members)))
+    (λ s. (s.lists, (s.policies, s.members))) (λ p. record { lists = p.0; policies = p.1.0; members = p.1.1 })
+    (λ _. refl)

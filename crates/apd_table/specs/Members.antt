@@ -13,7 +13,9 @@ use Rattle.apd_table.specs.Words.{has_bit, AreWords}
 use Rattle.apd_table.specs.declared.members.Members.{Members}
 
 abbrev pub coded_members : Coded Members
-coded_members = code_by (ℕ × List ℕ) (coded× coded_ℕ (coded_list coded_ℕ)) (λ x. (x.count, x.words)) (λ p. record { count = p.0; words = p.1 }) (λ _. refl)
+coded_members =
+    code_by (ℕ × List ℕ) (coded× coded_ℕ (coded_list coded_ℕ)) (λ x. (x.count, x.words))
+    (λ p. record { count = p.0; words = p.1 }) (λ _. refl)
 
 -- they are those of the BSSID
 pub record IsMembers (s : State) (b : Bssid) (x : Members) : Type 0 where
@@ -38,7 +40,8 @@ abbrev pub with_place : ℕ → List ℕ → List ℕ
 with_place i words = slice_set words (i / 64) (bit_or (slice_index words (i / 64)) (1 * 2 ^ (i % 64) % 2 ^ 64))
 
 abbrev pub without_place : ℕ → List ℕ → List ℕ
-without_place i words = slice_set words (i / 64) (bit_and (slice_index words (i / 64)) (bit_not w64 (1 * 2 ^ (i % 64) % 2 ^ 64)))
+without_place i words =
+    slice_set words (i / 64) (bit_and (slice_index words (i / 64)) (bit_not w64 (1 * 2 ^ (i % 64) % 2 ^ 64)))
 
 -- the same of the identifier that a row may have
 abbrev pub with_aid : Option ℕ → List ℕ → List ℕ
@@ -58,10 +61,15 @@ counted true true n = n
 
 -- where a station's row was the one and is the other
 abbrev pub members_after : Option Station → Option Station → Members → Members
-members_after old new x = record { count = counted (is_some old) (is_some new) x.count; words = with_aid (aid_of new) (without_aid (aid_of old) x.words) }
+members_after old new x =
+    record {
+      count = counted (is_some old) (is_some new) x.count;
+      words = with_aid (aid_of new) (without_aid (aid_of old) x.words);
+    }
 
 -- the same at a BSSID
-abbrev pub put_after : Option Station → Option Station → Bssid → FinMap bssid_cmp Members → Option Members → FinMap bssid_cmp Members
+abbrev pub put_after : Option Station → Option Station → Bssid → FinMap bssid_cmp Members → Option Members
+    → FinMap bssid_cmp Members
 put_after old new b members None = members
 put_after old new b members (Some x) = map.insert members b (members_after old new x)
 

@@ -49,7 +49,8 @@ changes_of_list b w list = list_map (λ (row : Addr × Unit {0}). ListAdd b w ro
 
 -- both lists of a row
 abbrev pub changes_of_lists : Bssid × Bss → List Change
-changes_of_lists row = changes_of_list row.0 Accept (list_of row.1.lists Accept) ++ changes_of_list row.0 Deny (list_of row.1.lists Deny)
+changes_of_lists row =
+    changes_of_list row.0 Accept (list_of row.1.lists Accept) ++ changes_of_list row.0 Deny (list_of row.1.lists Deny)
 
 -- the policies of all rows, and then their lists
 abbrev pub policies_of_rows : List (Bssid × Bss) → List Change

@@ -10,7 +10,9 @@ pub record StagedTables : Type 0 where
   pub staged : State
 
 abbrev pub coded_staged_tables : Coded StagedTables
-coded_staged_tables = code_by (State × State) (coded× coded_state coded_state) (λ s. (s.table, s.staged)) (λ p. record { table = p.0; staged = p.1 }) (λ _. refl)
+coded_staged_tables =
+    code_by (State × State) (coded× coded_state coded_state) (λ s. (s.table, s.staged))
+    (λ p. record { table = p.0; staged = p.1 }) (λ _. refl)
 
 -- nothing is staged
 abbrev pub alone : State → StagedTables

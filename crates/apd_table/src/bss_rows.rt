@@ -77,7 +77,8 @@ impl BssRows {
     /// The row of a BSSID.
     pub fn get(&self, bssid: Bssid) -> Option<&Bss>
         ensures policy { option_map policy_of (option_copied result) ≡ map.get self.now.policies bssid }
-        ensures lists { (w : Which) (a : Addr) → is_listed_in (option_copied result) w a ≡ contains self.now.lists (bssid, w, a) }
+        ensures lists { (w : Which) (a : Addr)
+            → is_listed_in (option_copied result) w a ≡ contains self.now.lists (bssid, w, a) }
         ensures members { option_map members_of (option_copied result) ≡ map.get self.now.members bssid }
     {
         rows::value(&self.rows, &bssid)
@@ -106,7 +107,8 @@ impl BssRows {
 
     /// Adds the changes that make the rows: all policies, and then all lists.
     pub fn add_changes(&self, changes: &mut Changes) -> Result<(), AllocError>
-        ensures { OnOk result (changes.new ≡ changes.old ++ (policy_changes self.now.policies ++ list_changes self.now.lists)) }
+        ensures { OnOk result
+            (changes.new ≡ changes.old ++ (policy_changes self.now.policies ++ list_changes self.now.lists)) }
     {
         add_policies(changes, &self.rows)?;
         add_lists(changes, &self.rows)?;
@@ -142,7 +144,8 @@ impl BssRows {
     /// for an address that is not there.
     pub fn add(&mut self, bssid: Bssid, which: Which, addr: Addr) -> Result<(), AllocError>
         requires { IsSome (map.get self.old.policies bssid) }
-        ensures ok { OnOk result (self.new ≡ record self.old { lists = map.insert self.old.lists (bssid, which, addr) tt }) }
+        ensures ok { OnOk result
+            (self.new ≡ record self.old { lists = map.insert self.old.lists (bssid, which, addr) tt }) }
         ensures err { OnErr result (self.new ≡ self.old) }
         ensures over { IsTrue (contains self.old.lists (bssid, which, addr)) → IsOk result }
     {
@@ -163,7 +166,8 @@ impl BssRows {
 
     /// Takes each address out of a list.
     pub fn clear(&mut self, bssid: Bssid, which: Which)
-        ensures { self.new ≡ record self.old { lists = map.retain_keys self.old.lists (λ row. not (is_row_of bssid which row)) } }
+        ensures { self.new
+            ≡ record self.old { lists = map.retain_keys self.old.lists (λ row. not (is_row_of bssid which row)) } }
     {
         if let Ok(at) = rows::place(&self.rows, &bssid) {
             clear_at(&mut self.rows, at, which);

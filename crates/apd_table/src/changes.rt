@@ -29,7 +29,8 @@ impl Table {
         ensures ok { OnOk result (self.new ≡ meaning_of changes.now self.old) }
         ensures sound { OnOk result (StaySound changes.now self.old) }
         ensures invalid { result ≡ Err TableFault.Invalid → ¬ (StaySound changes.now self.old) }
-        ensures memory { IsInPlace changes.now self.old → NoNewRow changes.now self.old → result ≢ Err TableFault.NoMemory }
+        ensures memory { IsInPlace changes.now self.old → NoNewRow changes.now self.old
+            → result ≢ Err TableFault.NoMemory }
         ensures drops { AreDrops changes.now → IsOk result }
         ensures err { OnErr result (self.new ≡ self.old) }
     {
@@ -109,8 +110,10 @@ impl Table {
         ensures ok { OnOk result (self.new ≡ meaning second.now (meaning first.now self.old)) }
         ensures first { OnOk result (Sound (meaning first.now self.old)) }
         ensures second { OnOk result (Sound (meaning second.now (meaning first.now self.old))) }
-        ensures invalid { result ≡ Err TableFault.Invalid → Sound (meaning first.now self.old) → ¬ (Sound (meaning second.now (meaning first.now self.old))) }
-        ensures memory { result ≡ Err TableFault.NoMemory → ¬ (IsNewRow first.now self.old) → IsNewRow second.now (meaning first.now self.old) }
+        ensures invalid { result ≡ Err TableFault.Invalid → Sound (meaning first.now self.old)
+            → ¬ (Sound (meaning second.now (meaning first.now self.old))) }
+        ensures memory { result ≡ Err TableFault.NoMemory → ¬ (IsNewRow first.now self.old)
+            → IsNewRow second.now (meaning first.now self.old) }
         ensures err { OnErr result (self.new ≡ self.old) }
     {
         self.sound();

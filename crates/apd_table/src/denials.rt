@@ -73,7 +73,8 @@ fn denied_of(
     lists: &Lists,
     mode: AclMode,
 ) -> Result<Vec<Addr>, AllocError>
-    ensures { IfOk result (λ v. v.items ≡ list_map (λ row. row.0.1) (filter (λ row. not (allowed lists.now row.0.1 mode)) rows.entry)) }
+    ensures { IfOk result
+        (λ v. v.items ≡ list_map (λ row. row.0.1) (filter (λ row. not (allowed lists.now row.0.1 mode)) rows.entry)) }
 {
     rows.filter(|row| is_denied(row.0.1, lists, mode))
         .map(|row| row.0.1)
@@ -88,14 +89,17 @@ pub fn denied(
     lists: &Lists,
     mode: AclMode,
 ) -> Result<Vec<Addr>, AllocError>
-    ensures { IfOk result (λ v. v.items ≡ list_map (λ row. row.0.1) (filter (is_denied_row_by lists.now mode bssid) (map.entries stations.now))) }
+    ensures { IfOk result
+        (λ v. v.items
+        ≡ list_map (λ row. row.0.1) (filter (is_denied_row_by lists.now mode bssid) (map.entries stations.now))) }
 {
     denied_of(alloc, stations.of(bssid), lists, mode)
 }
 
 /// The addresses of all rows of the BSSID.
 pub fn addresses(alloc: Global, stations: &Stations, bssid: Bssid) -> Result<Vec<Addr>, AllocError>
-    ensures { IfOk result (λ v. v.items ≡ list_map (λ row. row.0.1) (filter (is_row_of bssid) (map.entries stations.now))) }
+    ensures { IfOk result
+        (λ v. v.items ≡ list_map (λ row. row.0.1) (filter (is_row_of bssid) (map.entries stations.now))) }
 {
     stations.of(bssid).map(|row| row.0.1).collect(alloc)
 }
@@ -167,7 +171,10 @@ fn denied_after_of(
     mode: AclMode,
     change: &Change,
 ) -> Result<Vec<Addr>, AllocError>
-    ensures { IfOk result (λ v. v.items ≡ list_map (λ row. row.0.1) (filter (λ row. is_address_denied_after lists.now mode bssid change.now row.0.1) rows.entry)) }
+    ensures { IfOk result
+        (λ v. v.items
+        ≡ list_map (λ row. row.0.1) (filter
+        (λ row. is_address_denied_after lists.now mode bssid change.now row.0.1) rows.entry)) }
 {
     rows.filter(|row| is_denied_after(row.0.1, bssid, lists, mode, change))
         .map(|row| row.0.1)
@@ -183,7 +190,10 @@ pub fn denied_after(
     mode: AclMode,
     change: &Change,
 ) -> Result<Vec<Addr>, AllocError>
-    ensures { IfOk result (λ v. v.items ≡ list_map (λ row. row.0.1) (filter (is_denied_after lists.now mode bssid change.now) (map.entries stations.now))) }
+    ensures { IfOk result
+        (λ v. v.items
+        ≡ list_map (λ row. row.0.1) (filter (is_denied_after lists.now mode bssid change.now)
+        (map.entries stations.now))) }
 {
     denied_after_of(alloc, stations.of(bssid), bssid, lists, mode, change)
 }

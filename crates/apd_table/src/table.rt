@@ -130,8 +130,10 @@ impl Table {
     /// either.
     pub fn lists(&self, bssid: Bssid) -> Option<&Lists>
         ensures policy { IsSome result ↔ IsSome (policy_at self.now bssid) }
-        ensures rows { IfSome result (λ lists. (w : Which) (a : Addr) → has lists.now w a ≡ contains self.now.lists (bssid, w, a)) }
-        ensures counts { IfSome result (λ lists. (w : Which) → map.len (list_of lists.now w) ≡ list_count self.now bssid w) }
+        ensures rows { IfSome result
+            (λ lists. (w : Which) (a : Addr) → has lists.now w a ≡ contains self.now.lists (bssid, w, a)) }
+        ensures counts { IfSome result
+            (λ lists. (w : Which) → map.len (list_of lists.now w) ≡ list_count self.now bssid w) }
     {
         Some(&self.bss.get(bssid)?.lists)
     }
@@ -269,7 +271,10 @@ impl Table {
     ) -> Result<Vec<Addr>, AllocError>
         requires policy { Some bss.now.policy ≡ policy_at self.now bssid }
         requires lists { (w : Which) (a : Addr) → has bss.now.lists w a ≡ contains self.now.lists (bssid, w, a) }
-        ensures { IfOk result (λ v. v.items ≡ list_map (λ row. row.0.1) (filter (is_denied_after bss.now.lists bss.now.policy.mode bssid change.now) (map.entries self.now.stations))) }
+        ensures { IfOk result
+            (λ v. v.items
+            ≡ list_map (λ row. row.0.1) (filter (is_denied_after bss.now.lists bss.now.policy.mode bssid change.now)
+            (map.entries self.now.stations))) }
     {
         self.sound();
         match denials::listed_address(change) {
@@ -286,7 +291,9 @@ impl Table {
 
     // Whether the station has a row at the BSSID that is denied once a change is made.
     fn is_denied_after(&self, bssid: Bssid, addr: Addr, bss: &Bss, change: &Change) -> bool
-        ensures { result ≡ (is_some (station_at self.now bssid addr) && is_address_denied_after bss.now.lists bss.now.policy.mode bssid change.now addr) }
+        ensures { result
+            ≡ (is_some
+            (station_at self.now bssid addr) && is_address_denied_after bss.now.lists bss.now.policy.mode bssid change.now addr) }
     {
         self.get(bssid, addr).is_some()
             && denials::is_denied_after(addr, bssid, &bss.lists, bss.policy.mode, change)
@@ -389,7 +396,9 @@ impl Table {
 
     // Whether the station is associated at another BSSID: one that has stations has a policy.
     fn is_elsewhere(&self, bssid: Bssid, addr: Addr) -> bool
-        ensures { result ≡ list_any (λ other. is_associated_apart bssid other (station_at self.now other addr)) (map.keys self.now.policies) }
+        ensures { result
+            ≡ list_any (λ other. is_associated_apart bssid other
+            (station_at self.now other addr)) (map.keys self.now.policies) }
     {
         self.is_at_one_of(self.bss.rows(), bssid, addr)
     }
@@ -440,7 +449,8 @@ impl Table {
 
     // Whether a mode allows each station with a row at the BSSID.
     fn denies_none(&self, bssid: Bssid, mode: AclMode) -> bool
-        ensures { IsTrue result ↔ ((a : Addr) → IsSome (station_at self.now bssid a) → IsTrue (allowed_in self.now bssid a mode)) }
+        ensures { IsTrue result
+            ↔ ((a : Addr) → IsSome (station_at self.now bssid a) → IsTrue (allowed_in self.now bssid a mode)) }
     {
         match self.bss.get(bssid) {
             Some(bss) => !denials::any_denied(&self.stations, bssid, &bss.lists, mode),
@@ -473,7 +483,8 @@ impl Table {
 
     // Whether a list of the BSSID has the address, or room for one more.
     fn has_list_room(&self, bssid: Bssid, which: Which, addr: Addr) -> bool
-        ensures { IsTrue result ↔ (IsListed self.now bssid which addr ⊎ (list_count self.now bssid which < MAX_LISTED)) }
+        ensures { IsTrue result
+            ↔ (IsListed self.now bssid which addr ⊎ (list_count self.now bssid which < MAX_LISTED)) }
     {
         match self.bss.get(bssid) {
             Some(bss) => bss.lists.has(which, addr) || bss.lists.len(which) < MAX_LISTED,

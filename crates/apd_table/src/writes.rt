@@ -13,7 +13,9 @@ use std::alloc::AllocError;
 /// Sets the policy of the row at a place.
 pub fn set_policy_at(rows: &mut Vec<(Bssid, Bss)>, at: usize, policy: Policy)
     requires { at < vec_len rows.old }
-    ensures { (d : Bssid × Bss) → rows.new.items ≡ slice_set rows.old.items at (at_row (with_policy policy) (slice_index_or rows.old.items at d)) }
+    ensures { (d : Bssid × Bss)
+        → rows.new.items
+        ≡ slice_set rows.old.items at (at_row (with_policy policy) (slice_index_or rows.old.items at d)) }
 {
     let row = &mut rows[at];
     row.1.policy = policy;
@@ -27,9 +29,13 @@ pub fn add_at(
     addr: Addr,
 ) -> Result<(), AllocError>
     requires { at < vec_len rows.old }
-    ensures ok { OnOk result ((d : Bssid × Bss) → rows.new.items ≡ slice_set rows.old.items at (at_row (with_added which addr) (slice_index_or rows.old.items at d))) }
+    ensures ok { OnOk result
+        ((d : Bssid × Bss)
+        → rows.new.items
+        ≡ slice_set rows.old.items at (at_row (with_added which addr) (slice_index_or rows.old.items at d))) }
     ensures err { OnErr result (rows.new.items ≡ rows.old.items) }
-    ensures over { (d : Bssid × Bss) → IsTrue (has (slice_index_or rows.old.items at d).1.lists which addr) → IsOk result }
+    ensures over { (d : Bssid × Bss) → IsTrue (has (slice_index_or rows.old.items at d).1.lists which addr)
+        → IsOk result }
 {
     let row = &mut rows[at];
     row.1.lists.add(which, addr)
@@ -38,7 +44,9 @@ pub fn add_at(
 /// Takes an address out of a list of the row at a place.
 pub fn remove_at(rows: &mut Vec<(Bssid, Bss)>, at: usize, which: Which, addr: Addr)
     requires { at < vec_len rows.old }
-    ensures { (d : Bssid × Bss) → rows.new.items ≡ slice_set rows.old.items at (at_row (with_removed which addr) (slice_index_or rows.old.items at d)) }
+    ensures { (d : Bssid × Bss)
+        → rows.new.items
+        ≡ slice_set rows.old.items at (at_row (with_removed which addr) (slice_index_or rows.old.items at d)) }
 {
     let row = &mut rows[at];
     row.1.lists.remove(which, addr);
@@ -47,7 +55,9 @@ pub fn remove_at(rows: &mut Vec<(Bssid, Bss)>, at: usize, which: Which, addr: Ad
 /// Takes each address out of a list of the row at a place.
 pub fn clear_at(rows: &mut Vec<(Bssid, Bss)>, at: usize, which: Which)
     requires { at < vec_len rows.old }
-    ensures { (d : Bssid × Bss) → rows.new.items ≡ slice_set rows.old.items at (at_row (with_cleared which) (slice_index_or rows.old.items at d)) }
+    ensures { (d : Bssid × Bss)
+        → rows.new.items
+        ≡ slice_set rows.old.items at (at_row (with_cleared which) (slice_index_or rows.old.items at d)) }
 {
     let row = &mut rows[at];
     row.1.lists.clear(which);
@@ -62,7 +72,9 @@ pub fn change_row_at(
 )
     requires bound { at < vec_len rows.old }
     requires few { (d : Bssid × Bss) → (slice_index_or rows.old.items at d).1.members.count ≤ MAX_STATIONS }
-    ensures { (d : Bssid × Bss) → rows.new.items ≡ slice_set rows.old.items at (at_row (with_row old new) (slice_index_or rows.old.items at d)) }
+    ensures { (d : Bssid × Bss)
+        → rows.new.items
+        ≡ slice_set rows.old.items at (at_row (with_row old new) (slice_index_or rows.old.items at d)) }
 {
     let row = &mut rows[at];
     row.1.members.change_row(old, new);
