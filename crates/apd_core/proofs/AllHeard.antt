@@ -24,7 +24,7 @@ use Rattle.apd_table.specs.Sound.{Sound}
 use Rattle.apd_table.proofs.AllRows.{among_addresses}
 use Rattle.apd_table.proofs.Denied.{any_mapped, one_key}
 use Rattle.apd_core.specs.Heard.{LastHeard, AreHeardAt}
-use Rattle.apd_core.specs.Room.{heard_at}
+use Rattle.apd_core.specs.LaidDown.{heard_at}
 
 -- an item more of a list that is left
 pub next_at : {X : Type 0} (xs : List X) (i : ℕ) (x : X) → slice_get xs i ≡ Some x → drop i xs ≡ x ∷ drop (i + 1) xs

@@ -1,5 +1,5 @@
 -- The moments at which stations were heard, and the rows of the table.
-use Rattle.std.proofs.Common.{◌≡◌, ℕ, ◌+◌, ◌<◌, arith, Bool, true, false, cond, List, [], ◌∷◌, length, drop, get_or, Option, Some, None, is_some, inl, inr, refl, sym, ap, subst, ◌∙◌, add-one}
+use Rattle.std.proofs.Common.{◌≡◌, ℕ, ◌+◌, ◌<◌, Bool, true, false, cond, List, [], ◌∷◌, length, drop, get_or, Option, Some, None, is_some, inl, inr, refl, sym, ap, subst, ◌∙◌, add-one}
 use Rattle.std.proofs.Math.Seq.{drop-cons}
 use Rattle.std.specs.Ordering.{eq_by_cmp}
 use Rattle.std.specs.Option.{option_map}
@@ -20,27 +20,10 @@ use Rattle.apd_record.specs.declared.change.Change.{Change}
 use Rattle.apd_record.specs.declared.change.Change.TheVariants.{Put, Drop, ListAdd, ListDel, ListClear, Policy}
 use Rattle.apd_record.specs.Meaning.{meaning, meaning_of}
 use Rattle.apd_core.specs.Heard.{LastHeard, AreHeardAt, AreMomentsOf, heard_by, heard_by_change, heard_by_changes, heard_from}
-use Rattle.apd_core.specs.Room.{puts}
 
-apart : (change : Change) (changes : List Change) → puts (change ∷ changes) ≡ puts (change ∷ []) + puts changes
-apart (Put b a station) changes = omega arith
-apart (Drop b a) changes = omega arith
-apart (ListAdd b w a) changes = omega arith
-apart (ListDel b w a) changes = omega arith
-apart (ListClear b w) changes = omega arith
-apart (Policy b policy) changes = omega arith
-
--- a change more
-pub next_heard : (m : Moment) (changes : List Change) (i : ℕ) (change : Change) → i < length changes → change ≡ get_or changes i change → (heard end : LastHeard)
-    → heard_by_changes m (drop i changes) heard ≡ end → heard_by_changes m (drop (i + 1) changes) (heard_by_change m change heard) ≡ end
-next_heard m changes i change lt is heard end h =
-    sym (ap (λ cs. heard_by_changes m cs heard) (drop-cons changes i change lt ∙ (λ j. sym is j ∷ drop (sym (add-one i) j) changes))) ∙ h
-
--- the rows that it puts, and those of the rest
-pub next_puts : (changes : List Change) (i : ℕ) (change : Change) → i < length changes → change ≡ get_or changes i change
-    → puts (drop i changes) ≡ puts (change ∷ []) + puts (drop (i + 1) changes)
-next_puts changes i change lt is =
-    ap puts (drop-cons changes i change lt ∙ (λ j. sym is j ∷ drop (sym (add-one i) j) changes)) ∙ apart change (drop (i + 1) changes)
+-- a change that is left, and those behind it
+pub next_change : (changes : List Change) (i : ℕ) (change : Change) → i < length changes → change ≡ get_or changes i change → drop i changes ≡ change ∷ drop (i + 1) changes
+next_change changes i change lt is = drop-cons changes i change lt ∙ (λ j. sym is j ∷ drop (sym (add-one i) j) changes)
 
 -- no row, and no moment
 pub none_heard : (s : State) (heard : LastHeard) → s ≡ empty_state → heard ≡ maps.empty → AreMomentsOf s heard

@@ -46,7 +46,7 @@ module _ (c d : Inside) (m : Moment) (h : Happening) (x : Entry) (kept : IsKept 
     (items : d.unsettled.items ≡ c.unsettled.items ++ x ∷ [])
     (changes : x.changes ≡ (verdict (front_of (core_of c)) c.confs h).changes)
     (held : d.held ≡ with_outs c.confs (c.last + 1) (verdict (front_of (core_of c)) c.confs h).outs c.held)
-    (heard : d.heard.heard ≡ heard_by_changes m x.changes c.heard.heard) where
+    (heard : d.heard ≡ heard_by_changes m x.changes c.heard) where
   abbrev more : CoreState
   more = with_entry (core_of c) m h
 
@@ -61,7 +61,7 @@ module _ (c d : Inside) (m : Moment) (h : Happening) (x : Entry) (kept : IsKept 
     unsettled = entries_more i;
     flight = flight i;
     held = (held ∙ ap (λ n. with_outs c.confs (n + 1) (verdict (front_of (core_of c)) c.confs h).outs c.held) kept.last_is) i;
-    heard = (heard ∙ ap (λ cs. heard_by_changes m cs c.heard.heard) changes) i;
+    heard = (heard ∙ ap (λ cs. heard_by_changes m cs c.heard) changes) i;
     failed = failed i;
   }
 
@@ -83,7 +83,7 @@ module _ (c d : Inside) (m : Moment) (h : Happening) (x : Entry) (kept : IsKept 
 
 -- ---- the same fields, and other moments or outs
 pub same_view : (c d : Inside) → d.confs ≡ c.confs → d.settled.table ≡ c.settled.table → d.number ≡ c.number → d.unsettled.items ≡ c.unsettled.items → d.flight ≡ c.flight
-    → d.held ≡ c.held → d.heard.heard ≡ c.heard.heard → d.failed ≡ c.failed → core_of d ≡ core_of c
+    → d.held ≡ c.held → d.heard ≡ c.heard → d.failed ≡ c.failed → core_of d ≡ core_of c
 same_view c d confs settled number items flight held heard failed = λ i. record {
   confs = confs i;
   settled = settled i;
@@ -120,11 +120,11 @@ handed_kept c d to (Err x) kept ok err same = subst IsKept (sym (same ∙ ap (λ
 
 -- ---- a new core
 pub new_kept : (c : Inside) (table : State) (confs : List Conf) → c.confs ≡ confs → c.settled.table ≡ table → c.number ≡ 0 → c.unsettled.items ≡ [] → c.flight ≡ 0
-    → c.held ≡ no_outs confs → c.failed ≡ false → c.front ≡ table → c.last ≡ 0 → c.batch ≡ [] → AreConfs confs → Sound table → AreMomentsOf table c.heard.heard → IsKept c
+    → c.held ≡ no_outs confs → c.failed ≡ false → c.front ≡ table → c.last ≡ 0 → c.batch ≡ [] → AreConfs confs → Sound table → AreMomentsOf table c.heard → IsKept c
 new_kept c table confs is_confs settled number items flight held failed front last batch are sound moments =
-    let view : core_of c ≡ new_core table confs c.heard.heard =
-    (λ i. record { confs = is_confs i; settled = settled i; number = number i; unsettled = entries_of (items i); flight = flight i; held = held i; heard = c.heard.heard; failed = failed i }) in
-    kept_from c (new_core table confs c.heard.heard) view (new_is_core table confs c.heard.heard are sound moments) front last
+    let view : core_of c ≡ new_core table confs c.heard =
+    (λ i. record { confs = is_confs i; settled = settled i; number = number i; unsettled = entries_of (items i); flight = flight i; held = held i; heard = c.heard; failed = failed i }) in
+    kept_from c (new_core table confs c.heard) view (new_is_core table confs c.heard are sound moments) front last
     (batch ∙ sym (λ i. changes_of (take (flight i) (entries_of (items i)))))
     (subst (AllByRecursion IsMeasured) (sym items) tt)
 

@@ -6,6 +6,7 @@ pub mod Hearing
 pub mod HeldLaws
 pub mod Keeping
 pub mod Kept
+pub mod Laying
 pub mod Noting
 pub mod Owed
 pub mod Places

@@ -28,7 +28,7 @@ measured_drop (suc n) (x ∷ es) all = measured_drop n es all.1
 module _ (c d : Inside) (kept : IsKept c)
     (confs : d.confs ≡ c.confs) (settled : d.settled.table ≡ meaning_of c.batch c.settled.table) (number : d.number ≡ c.number + c.flight)
     (items : d.unsettled.items ≡ drop c.flight c.unsettled.items) (flight : d.flight ≡ 0) (held : d.held ≡ all_settled c.number c.flight c.held)
-    (heard : d.heard.heard ≡ c.heard.heard) (failed : d.failed ≡ c.failed) where
+    (heard : d.heard ≡ c.heard) (failed : d.failed ≡ c.failed) where
   pub published_view : core_of d ≡ published (core_of c)
   published_view = λ i. record {
     confs = confs i;

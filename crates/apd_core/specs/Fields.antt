@@ -14,7 +14,7 @@ abbrev pub entries_of : List Entry → List (List Change)
 entries_of entries = map (λ entry. entry.changes) entries
 
 abbrev pub core_of : Inside → CoreState
-core_of c = record { confs = c.confs; settled = c.settled.table; number = c.number; unsettled = entries_of c.unsettled.items; flight = c.flight; held = c.held; heard = c.heard.heard; failed = c.failed }
+core_of c = record { confs = c.confs; settled = c.settled.table; number = c.number; unsettled = entries_of c.unsettled.items; flight = c.flight; held = c.held; heard = c.heard; failed = c.failed }
 
 -- an entry's changes have records, and it knows their length
 pub record IsMeasured (entry : Entry) : Type 0 where

@@ -5,8 +5,8 @@ pub mod Heard
 pub mod Held
 pub mod HeldCodes
 pub mod Invariant
+pub mod LaidDown
 pub mod Noted
 pub mod Requests
-pub mod Room
 pub mod Silent
 pub mod TakingBack

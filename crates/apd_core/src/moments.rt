@@ -1,43 +1,48 @@
 //! When the stations of the table were heard last.
-ghost use Rattle.std.specs.Prelude.{◌≡◌, ◌≤◌, ◌+◌, [], ◌∷◌, IsSome, IsOk, IfOk, OnOk, OnErr, T, length};
+ghost use Rattle.std.specs.Prelude.{◌≡◌, true, ◌∷◌, [], cond, Some, IsSome, IsOk, IfOk, OnOk, OnErr, is_some};
 ghost use Rattle.std.specs.FinMap as map;
 ghost use Rattle.std.specs.List.{find};
-ghost use Rattle.std.specs.List.Sorted.{IsSearchInRange};
-ghost use Rattle.std.specs.Option.{option_copied};
+ghost use Rattle.std.specs.Map.Iter.{deref_pair};
+ghost use Rattle.std.specs.Option.{option_copied, option_map};
+ghost use Rattle.std.specs.Ordering.{eq_by_cmp};
 ghost use Rattle.apd_base.specs.Addr.{station_cmp};
-ghost use Rattle.apd_base.specs.Rows.{place};
+ghost use Rattle.apd_base.specs.declared.address.Addr.{Addr};
+ghost use Rattle.apd_base.specs.declared.address.Bssid.{Bssid};
 ghost use Rattle.apd_mlme.specs.Happening.{happening};
-ghost use Rattle.apd_core.specs.Heard.{due, heard_by, heard_by_change, heard_by_changes, heard_from, is_due, is_too_long, AreHeardAt};
-ghost use Rattle.apd_core.specs.Room.{heard_at, is_put, puts};
+ghost use Rattle.apd_record.specs.Meaning.{meaning_of};
+ghost use Rattle.apd_table.specs.Sound.{StaySound};
+ghost use Rattle.apd_core.specs.Heard.{due, heard_by, heard_by_changes, heard_from, is_due, is_too_long, AreHeardAt, AreMomentsOf};
+ghost use Rattle.apd_core.specs.LaidDown.{heard_at, is_of, is_put_of, puts_row, tidied, touches_row, AreLaidDown};
 
 use apd_base::{Addr, Bssid, Moment};
 use apd_conf::{Conf, Confs};
 use apd_mlme::Event;
 use apd_record::Change;
-use apd_table::Table;
+use apd_table::{Table, TableFault};
 use std::alloc::{AllocError, Global};
+use std::collections::BTreeMap;
 use std::marker::Model;
 
-/// A moment for each station row, by (BSSID, address), seen as a finite map and the number of rows that
-/// there is room for.
+/// A moment for each station row, by (BSSID, address), seen as a finite map.
 #[derive(Drop)]
 pub(crate) struct Moments {
-    rows: Vec<((Bssid, Addr), Moment)>,
+    rows: BTreeMap<(Bssid, Addr), Moment>,
 }
 
 impl Model for Moments {
-    ghost use Rattle.std.specs.Prelude.{◌-◌, T, vec_len, vec_capacity};
+    ghost use Rattle.std.specs.Prelude.{T};
     ghost use Rattle.std.specs.FinMap as map;
     ghost use Rattle.apd_base.specs.Addr.{station_cmp};
-    ghost use Rattle.apd_core.specs.Room.{HeardRows, coded_rows};
+    ghost use Rattle.apd_core.specs.CoreCodes.{coded_last_heard};
+    ghost use Rattle.apd_core.specs.Heard.{LastHeard};
 
-    ghost Value = { HeardRows };
+    ghost Value = { LastHeard };
 
-    ghost coded = { coded_rows };
+    ghost coded = { coded_last_heard };
 
-    ghost view = { λ a. record { heard = map.from_sorted a.rows.items; room = vec_capacity a.rows - vec_len a.rows } };
+    ghost view = { λ a. map.from_sorted a.rows.entries };
 
-    ghost invariant = { λ a. T (map.is_sorted station_cmp a.rows.items) };
+    ghost invariant = { λ a. T (map.is_sorted station_cmp a.rows.entries) };
 }
 
 /// Whether a silence, in milliseconds, is as long as a configuration says, or longer.
@@ -51,59 +56,36 @@ fn is_too_long(conf: Option<&Conf>, silence: u64) -> bool
 }
 
 /// Whether a row of a configured BSSID is silent for too long.
-fn is_due(row: &((Bssid, Addr), Moment), confs: &Confs, now: Moment) -> bool
-    ensures { result ≡ is_due confs.now now row.now }
+fn is_due(key: (Bssid, Addr), moment: Moment, confs: &Confs, now: Moment) -> bool
+    ensures { result ≡ is_due confs.now now (key, moment) }
 {
-    is_too_long(confs.with_bssid(row.0.0), now.0.saturating_sub(row.1.0))
+    is_too_long(confs.with_bssid(key.0), now.0.saturating_sub(moment.0))
+}
+
+fn key_of(row: Option<(&(Bssid, Addr), &Moment)>) -> Option<(Bssid, Addr)>
+    ensures { result ≡ option_map (λ row. row.0) (option_map deref_pair row.entry) }
+{
+    Some(*row?.0)
 }
 
 /// The first such row.
-fn first_due<'a>(
-    rows: &'a [((Bssid, Addr), Moment)],
+fn first_due(
+    rows: &BTreeMap<(Bssid, Addr), Moment>,
     confs: &Confs,
     now: Moment,
-) -> Option<&'a ((Bssid, Addr), Moment)>
-    ensures { option_copied result ≡ find (is_due confs.now now) rows.now }
+) -> Option<(Bssid, Addr)>
+    ensures { result ≡ option_map (λ row. row.0) (find (is_due confs.now now) rows.now.entries) }
 {
-    rows.iter().find(|row| is_due(row, confs, now))
-}
-
-/// Whether a change puts a row.
-fn is_put(change: &Change) -> bool
-    ensures { result ≡ is_put change.now }
-{
-    match change {
-        Change::Put { .. } => true,
-        Change::Drop { .. }
-        | Change::ListAdd { .. }
-        | Change::ListDel { .. }
-        | Change::ListClear { .. }
-        | Change::Policy { .. } => false,
-    }
-}
-
-/// How many of the changes put a row.
-pub(crate) fn puts(changes: &[Change]) -> usize
-    ensures { result ≡ puts changes.now }
-{
-    changes.iter().filter(|change| is_put(change)).count()
-}
-
-/// The place of a key, or the one where it would go, found by halves.
-fn place(rows: &[((Bssid, Addr), Moment)], key: (Bssid, Addr)) -> Result<usize, usize>
-    ensures exact { T (map.is_sorted station_cmp rows.now) → result ≡ place station_cmp key rows.now }
-    ensures bound { IsSearchInRange result (length rows.now) }
-{
-    rows.binary_search_by_key(&key, |row| row.0)
+    key_of(rows.iter().find(|row| is_due(*row.0, *row.1, confs, now)))
 }
 
 impl Moments {
     /// No row. It takes no memory.
     pub(crate) fn new(alloc: Global) -> Moments
-        ensures { result.heard ≡ map.empty }
+        ensures { result ≡ map.empty }
     {
         Moments {
-            rows: Vec::new(alloc),
+            rows: BTreeMap::new(alloc),
         }
     }
 
@@ -113,7 +95,7 @@ impl Moments {
         table: &Table,
         moment: Moment,
     ) -> Result<Moments, AllocError>
-        ensures { IfOk result (λ moments. AreHeardAt moment table.now moments.heard) }
+        ensures { IfOk result (λ moments. AreHeardAt moment table.now moments) }
     {
         table.sound();
         let mut moments = Moments::new(alloc);
@@ -124,50 +106,25 @@ impl Moments {
         Ok(moments)
     }
 
-    /// The rows in order.
-    fn entries(&self) -> &[((Bssid, Addr), Moment)]
-        ensures { result.now ≡ map.entries self.now.heard }
-    {
-        &self.rows
-    }
-
     fn get(&self, bssid: Bssid, addr: Addr) -> Option<Moment>
-        ensures { result ≡ map.get self.now.heard (bssid, addr) }
+        ensures { result ≡ map.get self.now (bssid, addr) }
     {
-        match place(&self.rows, (bssid, addr)) {
-            Ok(i) => Some(self.rows[i].1),
-            Err(_) => None,
-        }
+        self.rows.get(&(bssid, addr)).copied()
     }
 
-    /// Makes room for so many rows more, or leaves all as it was.
-    pub(crate) fn reserve(&mut self, additional: usize) -> Result<(), AllocError>
-        ensures heard { self.new.heard ≡ self.old.heard }
-        ensures room { OnOk result (additional ≤ self.new.room) }
-    {
-        self.rows.reserve(additional)
-    }
-
-    /// Gives a row a moment, or leaves all as it was. It lacks memory only for a new row without room.
+    /// Gives a row a moment, or leaves all as it was. It lacks memory only for a new row.
     fn put(&mut self, bssid: Bssid, addr: Addr, moment: Moment) -> Result<(), AllocError>
-        ensures ok { OnOk result (self.new.heard ≡ map.insert self.old.heard (bssid, addr) moment) }
-        ensures err { OnErr result (self.new.heard ≡ self.old.heard) }
-        ensures over { IsSome (map.get self.old.heard (bssid, addr)) → IsOk result }
-        ensures room { 1 ≤ self.old.room → IsOk result }
-        ensures left { self.old.room ≤ self.new.room + 1 }
+        ensures ok { OnOk result (self.new ≡ map.insert self.old (bssid, addr) moment) }
+        ensures err { OnErr result (self.new ≡ self.old) }
+        ensures over { IsSome (map.get self.old (bssid, addr)) → IsOk result }
     {
-        match place(&self.rows, (bssid, addr)) {
-            Ok(i) => {
-                self.rows[i] = ((bssid, addr), moment);
-                Ok(())
-            }
-            Err(i) => Ok(self.rows.insert(i, ((bssid, addr), moment))?),
-        }
+        self.rows.insert((bssid, addr), moment)?;
+        Ok(())
     }
 
     /// Gives rows of a BSSID a moment, one after another.
     fn put_all(&mut self, bssid: Bssid, addrs: &[Addr], moment: Moment) -> Result<(), AllocError>
-        ensures { OnOk result (self.new.heard ≡ heard_at moment bssid addrs.now self.old.heard) }
+        ensures { OnOk result (self.new ≡ heard_at moment bssid addrs.now self.old) }
     {
         for &addr in addrs {
             self.put(bssid, addr, moment)?;
@@ -176,23 +133,72 @@ impl Moments {
     }
 
     fn remove(&mut self, bssid: Bssid, addr: Addr)
-        ensures heard { self.new.heard ≡ map.remove self.old.heard (bssid, addr) }
-        ensures room { self.old.room ≤ self.new.room }
+        ensures { self.new ≡ map.remove self.old (bssid, addr) }
     {
-        if let Ok(i) = place(&self.rows, (bssid, addr)) {
-            self.rows.remove(i);
+        self.rows.remove(&(bssid, addr));
+    }
+
+    /// The row that a change puts is given the moment, if it has none.
+    fn lay(&mut self, change: &Change, moment: Moment) -> Result<(), AllocError>
+        ensures kept { AreLaidDown (change.now ∷ []) self.old self.new }
+        ensures there { OnOk result ((k : Bssid × Addr) → is_put_of k change.now ≡ true → IsSome (map.get self.new k)) }
+    {
+        let Change::Put { bssid, addr, .. } = *change else {
+            return Ok(());
+        };
+        if self.get(bssid, addr).is_none() {
+            self.put(bssid, addr, moment)?;
+        }
+        Ok(())
+    }
+
+    /// The same for changes: then each row that one of them puts has a moment.
+    fn lay_all(&mut self, changes: &[Change], moment: Moment) -> Result<(), AllocError>
+        ensures kept { AreLaidDown changes.now self.old self.new }
+        ensures there { OnOk result ((k : Bssid × Addr) → puts_row changes.now k ≡ true → IsSome (map.get self.new k)) }
+    {
+        for change in changes {
+            self.lay(change, moment)?;
+        }
+        Ok(())
+    }
+
+    /// The row that a change puts, which has a moment, is given this one.
+    fn stamp(&mut self, change: &Change, moment: Moment)
+        requires { (k : Bssid × Addr) → is_put_of k change.now ≡ true → IsSome (map.get self.old k) }
+        ensures { (k : Bssid × Addr) → map.get self.new k ≡ cond (is_put_of k change.now) (Some moment) (map.get self.old k) }
+    {
+        if let Change::Put { bssid, addr, .. } = *change {
+            self.put(bssid, addr, moment).unwrap();
         }
     }
 
-    /// A change at a moment. There is room for a row that it puts.
-    fn note(&mut self, change: &Change, moment: Moment)
-        requires { puts (change.now ∷ []) ≤ self.old.room }
-        ensures heard { self.new.heard ≡ heard_by_change moment change.now self.old.heard }
-        ensures room { self.old.room ≤ self.new.room + puts (change.now ∷ []) }
+    /// The same for changes.
+    fn stamp_all(&mut self, changes: &[Change], moment: Moment)
+        requires { (k : Bssid × Addr) → puts_row changes.now k ≡ true → IsSome (map.get self.old k) }
+        ensures { (k : Bssid × Addr) → map.get self.new k ≡ cond (puts_row changes.now k) (Some moment) (map.get self.old k) }
+    {
+        for change in changes {
+            self.stamp(change, moment);
+        }
+    }
+
+    /// The moment of a row that is not in the table goes.
+    fn tidy_row(&mut self, bssid: Bssid, addr: Addr, table: &Table)
+        ensures { (k : Bssid × Addr) → map.get self.new k ≡ tidied (eq_by_cmp station_cmp k (bssid, addr)) (is_some (map.get table.now.stations k)) (map.get self.old k) }
+    {
+        if table.get(bssid, addr).is_none() {
+            self.remove(bssid, addr);
+        }
+    }
+
+    /// The row that a change puts or drops keeps its moment only where the table has it.
+    fn tidy(&mut self, change: &Change, table: &Table)
+        ensures { (k : Bssid × Addr) → map.get self.new k ≡ tidied (is_of k change.now) (is_some (map.get table.now.stations k)) (map.get self.old k) }
     {
         match *change {
-            Change::Put { bssid, addr, .. } => self.put(bssid, addr, moment).unwrap(),
-            Change::Drop { bssid, addr } => self.remove(bssid, addr),
+            Change::Put { bssid, addr, .. } => self.tidy_row(bssid, addr, table),
+            Change::Drop { bssid, addr } => self.tidy_row(bssid, addr, table),
             Change::ListAdd { .. }
             | Change::ListDel { .. }
             | Change::ListClear { .. }
@@ -200,19 +206,52 @@ impl Moments {
         }
     }
 
-    /// Changes at this moment, in their order. There is room for the rows that they put.
-    pub(crate) fn note_all(&mut self, changes: &[Change], moment: Moment)
-        requires { puts changes.now ≤ self.old.room }
-        ensures { self.new.heard ≡ heard_by_changes moment changes.now self.old.heard }
+    /// The same for changes.
+    fn tidy_all(&mut self, changes: &[Change], table: &Table)
+        ensures { (k : Bssid × Addr) → map.get self.new k ≡ tidied (touches_row changes.now k) (is_some (map.get table.now.stations k)) (map.get self.old k) }
     {
         for change in changes {
-            self.note(change, moment);
+            self.tidy(change, table);
         }
     }
 
-    /// A station was heard. Without a row it has no moment. It takes no memory.
+    /// Makes changes in a table whose rows these are the moments of, at a moment. The moments of new rows are laid
+    /// down before, so that nothing is refused afterwards. Where memory is refused all is as it was.
+    pub(crate) fn change(
+        &mut self,
+        alloc: Global,
+        table: &mut Table,
+        changes: &[Change],
+        moment: Moment,
+    ) -> Result<(), AllocError>
+        requires sound { StaySound changes.now table.old }
+        requires rows { AreMomentsOf table.old self.old }
+        ensures table { OnOk result (table.new ≡ meaning_of changes.now table.old) }
+        ensures heard { OnOk result (self.new ≡ heard_by_changes moment changes.now self.old) }
+        ensures table_stays { OnErr result (table.new ≡ table.old) }
+        ensures heard_stays { OnErr result (self.new ≡ self.old) }
+    {
+        let Ok(()) = self.lay_all(changes, moment) else {
+            self.tidy_all(changes, table);
+            return Err(AllocError);
+        };
+        match table.apply_all(alloc, changes) {
+            Ok(()) => {}
+            // They leave the table sound.
+            Err(TableFault::Invalid) => unreachable!(),
+            Err(TableFault::NoMemory) => {
+                self.tidy_all(changes, table);
+                return Err(AllocError);
+            }
+        }
+        self.stamp_all(changes, moment);
+        self.tidy_all(changes, table);
+        Ok(())
+    }
+
+    /// A station was heard. Without a row it has no moment. It takes no memory, and looks at its row alone.
     fn hear(&mut self, bssid: Bssid, addr: Addr, moment: Moment)
-        ensures { self.new.heard ≡ heard_from moment bssid addr self.old.heard }
+        ensures { self.new ≡ heard_from moment bssid addr self.old }
     {
         if self.get(bssid, addr).is_some() {
             self.put(bssid, addr, moment).unwrap();
@@ -221,7 +260,7 @@ impl Moments {
 
     /// The sender of a frame was heard, whatever the frame is answered. It takes no memory.
     pub(crate) fn hear_sender(&mut self, event: Event<'_>, moment: Moment)
-        ensures { self.new.heard ≡ heard_by moment (happening event.entry) self.old.heard }
+        ensures { self.new ≡ heard_by moment (happening event.entry) self.old }
     {
         match event {
             Event::Heard(bssid, frame) => self.hear(bssid, frame.sender(), moment),
@@ -235,9 +274,8 @@ impl Moments {
     /// The first row of a configured BSSID, by (BSSID, address), that is silent for as long as its
     /// configuration says. It takes no memory.
     pub(crate) fn due(&self, confs: &Confs, now: Moment) -> Option<(Bssid, Addr)>
-        ensures { result ≡ due confs.now now self.now.heard }
+        ensures { result ≡ due confs.now now self.now }
     {
-        let row = first_due(self.entries(), confs, now)?;
-        Some(row.0)
+        first_due(&self.rows, confs, now)
     }
 }

@@ -23,7 +23,7 @@ use crate::answer::Answer;
 use crate::entry::Entry;
 use crate::held::Held;
 use crate::input::{Input, QuietReason, event_said, expiry, unfit};
-use crate::moments::{Moments, puts};
+use crate::moments::Moments;
 use crate::publish_fault::PublishFault;
 use crate::ticket::{Accepted, Ticket};
 use apd_base::limits::{MAX_GROUP, MAX_KEPT};
@@ -243,19 +243,13 @@ impl Core {
         let Decision { changes, outs } = decision;
         let length = total_length(changes.as_slice());
         let number = self.last + 1;
-        self.heard.reserve(puts(changes.as_slice()))?;
         self.unsettled.reserve(1)?;
         self.held.keep(&self.confs, number, outs)?;
-        match self.front.apply_all(self.alloc, changes.as_slice()) {
-            Ok(()) => {}
-            // A verdict's changes leave the table sound.
-            Err(TableFault::Invalid) => unreachable!(),
-            Err(TableFault::NoMemory) => {
-                self.held.take_back(number);
-                return Err(AllocError);
-            }
-        }
-        self.heard.note_all(changes.as_slice(), moment);
+        let (alloc, list) = (self.alloc, changes.as_slice());
+        let Ok(()) = self.heard.change(alloc, &mut self.front, list, moment) else {
+            self.held.take_back(number);
+            return Err(AllocError);
+        };
         let Ok(()) = self.unsettled.push_back(Entry { changes, length }) else {
             unreachable!();
         };

@@ -17,6 +17,6 @@ returns c =
     let many = as_many_keys s.policies in
     let end = c.bss_count-place-end.ensures in
     let place = c.loop-place-test.false in
-    let all : c.loop-place.moments.heard ≡ all_heard c.args.moment s (map.keys s.policies) map.empty =
-    sym (ap (λ bs. all_heard c.args.moment s bs c.loop-place.moments.heard) (drop_all c.loop-place.place (map.keys s.policies) (omega arith))) ∙ c.loop-place.invariant.heard in
+    let all : c.loop-place.moments ≡ all_heard c.args.moment s (map.keys s.policies) map.empty =
+    sym (ap (λ bs. all_heard c.args.moment s bs c.loop-place.moments) (drop_all c.loop-place.place (map.keys s.policies) (omega arith))) ∙ c.loop-place.invariant.heard in
     λ b a. ap (λ heard. map.get heard (b, a)) all ∙ all_rows c.args.moment s c.sound.ensures b a

@@ -8,4 +8,4 @@ use Rattle.apd_core.proofs.request_core.Core.new.Goals as goal
 pub invariant_of-result : goal.invariant_of-result
 invariant_of-result c =
     new_kept _ c.args.table c.args.confs refl (ap (λ s. s.table) c.in-Ok.ensures.ok) refl c.new-3.ensures.items refl (c.in_ok-held.ensures ∙ ap no_outs c.list.ensures.list) refl c.in_ok-front.ensures refl c.new-4.ensures
-    (subst AreConfs c.list.ensures.list c.list.ensures.confs) c.sound.ensures (heard_at c.args.moment c.args.table c.in_ok-heard.heard.heard c.in_ok-heard.ensures)
+    (subst AreConfs c.list.ensures.list c.list.ensures.confs) c.sound.ensures (heard_at c.args.moment c.args.table c.in_ok-heard.heard c.in_ok-heard.ensures)

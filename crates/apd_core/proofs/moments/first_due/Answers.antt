@@ -1,0 +1,15 @@
+use Rattle.std.proofs.Common.{List, [], ◌∷◌, map as list_map, refl, ap, ◌∙◌, rules, tests}
+use Rattle.std.proofs.lemmas.Iterator.Consumers.{YieldsList-from_rest}
+use Rattle.std.proofs.lemmas.Iterator.Search.{find_from_yields_List}
+use Rattle.std.specs.Map.Iter.{deref_pair}
+use Rattle.std.specs.Option.{option_map}
+use Rattle.apd_base.specs.declared.address.Addr.{Addr}
+use Rattle.apd_base.specs.declared.address.Bssid.{Bssid}
+use Rattle.apd_base.specs.declared.moment.Moment.{Moment}
+use Rattle.apd_core.specs.Heard.{is_due}
+use Rattle.apd_core.proofs.moments.first_due.Goals as goal
+
+pub returns : goal.returns
+returns c =
+    c.key_of.ensures ∙ ap (option_map (λ (row : (Bssid × Addr) × Moment). row.0))
+    (find_from_yields_List (is_due c.args.confs.now c.args.now) _ _ c.find.result c.find.ensures.ran (YieldsList-from_rest c.args.rows.now.entries c.iter.ensures.rest) (λ x b q k. search (rules, tests)))
