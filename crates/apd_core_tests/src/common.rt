@@ -1,152 +1,91 @@
-//! What several tests of cores use.
+//! What is asked of cores, and what they tell. `None` is want of memory.
 use apd_base::{Addr, Bssid, Moment};
 use apd_conf::{AddressList, Conf, Confs};
 use apd_core::{Accepted, Core, Input, QuietReason};
-use apd_disk::{Disk, MemDisk};
-use apd_journal::Batch;
-use apd_store::{Receipt, Store, format};
+use apd_ctrl::Query;
+use apd_mlme::Recipient;
 use apd_table::Table;
-use std::alloc::{AllocError, Global};
-use std::test::Fail;
+use std::alloc::Global;
 
+/// The BSSID of the built-in configuration.
 pub(crate) const RADIO: Bssid = Bssid(Addr([2, 0, 0, 0, 0, 1]));
 
-/// An authentication request of 02:00:00:00:00:aa: open system, transaction 1.
-pub(crate) const AUTHENTICATION: [u8; 30] = [
+/// A request of 02:00:00:00:00:aa for Open System authentication.
+pub(crate) const AUTHENTICATION: &[u8] = &[
     0xb0, 0, 0, 0, 2, 0, 0, 0, 0, 1, 2, 0, 0, 0, 0, 0xaa, 2, 0, 0, 0, 0, 1, 0, 0, 0, 0, 1, 0, 0, 0,
 ];
 
-/// How many bytes a device of a store has.
-const LENGTH: usize = 2_097_216;
+/// An association request of 02:00:00:00:00:aa: capability 0x0431, listen interval 10, the network "net" and four
+/// rates.
+pub(crate) const ASSOCIATION: &[u8] = &[
+    0, 0, 0, 0, 2, 0, 0, 0, 0, 1, 2, 0, 0, 0, 0, 0xaa, 2, 0, 0, 0, 0, 1, 0x20, 0, 0x31, 4, 10, 0,
+    0, 3, b'n', b'e', b't', 1, 4, 0x82, 0x84, 0x8b, 0x96,
+];
 
-/// A list of configurations that is taken.
-pub(crate) fn confs_of(list: Vec<Conf>) -> Result<Confs, Fail> {
-    match Confs::new(list) {
-        Ok(confs) => Ok(confs),
-        Err(_) => Err(Fail::new("a list of configurations is refused")),
-    }
+const AUTHENTICATED: &[u8] =
+    b"02:00:00:00:00:aa\nflags=[AUTH]\naid=0\ncapability=0x0\nlisten_interval=0\n";
+
+const ASSOCIATED: &[u8] =
+    b"02:00:00:00:00:aa\nflags=[AUTH][ASSOC][AUTHORIZED]\naid=1\ncapability=0x431\nlisten_interval=10\n";
+
+/// What is told, by a word and the number that goes with it, else 0.
+pub(crate) type Told = (&'static str, u64);
+
+/// A core of a table and of configurations, whose rows were heard at moment 0.
+pub(crate) fn core_of(alloc: Global, table: Table, list: Vec<Conf>) -> Option<Core> {
+    Core::new(alloc, table, Confs::new(list).ok()?, Moment(0)).ok()
 }
 
-/// The built-in configuration alone.
-pub(crate) fn alone(alloc: Global) -> Result<Confs, Fail> {
+/// A core of the built-in configuration, whose radio was not started.
+pub(crate) fn new_core(alloc: Global) -> Option<Core> {
     let mut list = Vec::new(alloc);
-    list.push(Conf::built_in(alloc)?)?;
-    confs_of(list)
-}
-
-/// A core of a table, whose rows were heard at moment 0.
-pub(crate) fn core_of(alloc: Global, table: Table, confs: Confs) -> Result<Core, AllocError> {
-    Core::new(alloc, table, confs, Moment(0))
-}
-
-/// A request's answer, in short.
-#[derive(Clone, Copy, Debug, PartialEq, Eq)]
-pub(crate) enum Told {
-    Stopped,
-    Busy,
-    Nothing,
-    OtherQuiet,
-    Entry(u64),
+    list.push(Conf::built_in(alloc).ok()?).ok()?;
+    core_of(alloc, Table::new(alloc), list)
 }
 
 fn in_short(answer: Accepted<'_>) -> Told {
     match answer {
-        Accepted::Stopped => Told::Stopped,
-        Accepted::Busy => Told::Busy,
-        Accepted::Quiet(QuietReason::Nothing) => Told::Nothing,
-        Accepted::Quiet(_) => Told::OtherQuiet,
-        Accepted::Entry(ticket) => Told::Entry(ticket.number()),
+        Accepted::Stopped => ("stopped", 0),
+        Accepted::Busy => ("busy", 0),
+        Accepted::Quiet(QuietReason::Nothing) => ("nothing", 0),
+        Accepted::Quiet(_) => ("quiet", 0),
+        Accepted::Entry(ticket) => ("entry", ticket.number()),
     }
 }
 
 /// Asks a core at a moment, in milliseconds.
-pub(crate) fn ask(core: &mut Core, input: Input<'_>, moment: u64) -> Result<Told, AllocError> {
-    Ok(in_short(core.accept(input, Moment(moment))?))
-}
-
-/// The radio received a frame.
-pub(crate) fn receive(core: &mut Core, frame: &[u8], moment: u64) -> Result<Told, AllocError> {
-    ask(core, Input::Received(RADIO, frame), moment)
+pub(crate) fn ask(core: &mut Core, input: Input<'_>, moment: u64) -> Option<Told> {
+    Some(in_short(core.accept(input, Moment(moment)).ok()?))
 }
 
 /// The radio starts with no address on its lists.
-pub(crate) fn start(core: &mut Core, none: &AddressList) -> Result<Told, AllocError> {
+pub(crate) fn start(alloc: Global, core: &mut Core) -> Option<Told> {
+    let none = AddressList::new(alloc);
     let input = Input::Configure {
         bssid: RADIO,
-        accept: none,
-        deny: none,
+        accept: &none,
+        deny: &none,
     };
     ask(core, input, 0)
 }
 
-/// A core whose radio was started, by the first entry.
-pub(crate) fn started(alloc: Global) -> Result<Core, Fail> {
-    let mut core = core_of(alloc, Table::new(alloc), alone(alloc)?)?;
-    start(&mut core, &AddressList::new(alloc))?;
-    Ok(core)
+/// How many outs a recipient is handed.
+pub(crate) fn hand(core: &mut Core, to: Recipient) -> Option<Told> {
+    Some(("outs", core.hand(to).ok()?.len() as u64))
 }
 
-/// The batch that a core gives.
-pub(crate) fn taken(core: &mut Core) -> Result<Batch, Fail> {
-    match core.take()? {
-        Some(batch) => Ok(batch),
-        None => Err(Fail::new("no batch")),
+fn word_of(text: &[u8]) -> &'static str {
+    if text == AUTHENTICATED {
+        "authenticated"
+    } else if text == ASSOCIATED {
+        "associated"
+    } else {
+        "another text"
     }
 }
 
-fn formatted<D: Disk>(alloc: Global, disk: D) -> Result<Store<D>, Fail>
-where
-    D: Drop,
-{
-    match format(alloc, disk) {
-        Ok(store) => Ok(store),
-        Err((_, fault)) => Err(Fail::from(fault)),
-    }
-}
-
-fn begin<D: Disk>(alloc: Global, store: &mut Store<D>, batch: Batch) -> Result<(), Fail> {
-    match store.begin(batch, &Table::new(alloc)) {
-        Ok(()) => Ok(()),
-        Err((_, fault)) => Err(Fail::from(fault)),
-    }
-}
-
-// Generic, so that no proof meets the device's length.
-fn committed<D: Disk>(alloc: Global, disk: D, batch: Batch) -> Result<Receipt, Fail>
-where
-    D: Drop,
-{
-    let mut store = formatted(alloc, disk)?;
-    begin(alloc, &mut store, batch)?;
-    for _call in 0..4u64 {
-        store.next_call()?;
-    }
-    match store.finish() {
-        Some(receipt) => Ok(receipt),
-        None => Err(Fail::new("no receipt")),
-    }
-}
-
-// No clause says what the disk holds: a proof would go through two million bytes.
-fn blank_disk(alloc: Global, size: usize) -> Result<MemDisk, AllocError> {
-    MemDisk::new(alloc, vec![in alloc; 0u8; size]?)
-}
-
-/// The receipt for a batch, of a store on a blank disk.
-pub(crate) fn receipt_of(alloc: Global, batch: Batch) -> Result<Receipt, Fail> {
-    committed(alloc, blank_disk(alloc, LENGTH)?, batch)
-}
-
-/// Settles what a core gives.
-pub(crate) fn settle(alloc: Global, core: &mut Core) -> Result<(), Fail> {
-    let batch = taken(core)?;
-    publish(core, receipt_of(alloc, batch)?)
-}
-
-// Publishes a receipt that is taken.
-fn publish(core: &mut Core, receipt: Receipt) -> Result<(), Fail> {
-    match core.publish(receipt) {
-        Ok(()) => Ok(()),
-        Err(_) => Err(Fail::new("a receipt is refused")),
-    }
+/// What is told of the radio's first station, and up to which entry it speaks.
+pub(crate) fn first(core: &Core) -> Option<Told> {
+    let answer = core.read(Query::First(RADIO)).ok()?;
+    Some((word_of(answer.text()), answer.number()))
 }

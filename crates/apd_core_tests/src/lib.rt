@@ -3,14 +3,14 @@
 #![tactic(auto)]
 
 #[cfg(test)]
-mod accepting_tests;
-#[cfg(test)]
 mod common;
 #[cfg(test)]
 mod crowd;
 #[cfg(test)]
+mod entry_tests;
+#[cfg(test)]
 mod plain_tests;
 #[cfg(test)]
-mod settling_tests;
-#[cfg(test)]
 mod silence_tests;
+#[cfg(test)]
+mod steps;

@@ -1,14 +1,9 @@
 //! Puts, drops, hearings and ticks of a fixed list, against a list of rows that is looked through each time.
-use crate::common::{Told, ask, taken};
-use crate::crowd::{bssid_of, crowd, probe};
-use apd_base::{Addr, Bssid};
+use crate::common::ask;
+use crate::crowd::{Key, crowd, frame, key_of, probe};
 use apd_core::{Core, Input};
 use apd_record::Change;
-use std::alloc::{AllocError, Global};
-use std::test::Fail;
-
-/// A station of a radio.
-type Key = (Bssid, Addr);
+use std::alloc::Global;
 
 /// The rows in no order, each with the moment at which it was heard, and the rows that were put (true) or dropped.
 #[derive(Drop)]
@@ -18,13 +13,7 @@ struct Plain {
 }
 
 impl Plain {
-    fn new(alloc: Global) -> Plain {
-        Plain {
-            rows: Vec::new(alloc),
-            made: Vec::new(alloc),
-        }
-    }
-
+    // Whether there is such a row, which is then heard.
     fn hear(&mut self, key: Key, moment: u64) -> bool {
         for row in self.rows.iter_mut() {
             if row.0 == key {
@@ -35,141 +24,93 @@ impl Plain {
         false
     }
 
-    fn put(&mut self, key: Key, moment: u64) -> Result<(), AllocError> {
-        if self.hear(key, moment) {
-            return Ok(());
+    fn put(&mut self, key: Key, moment: u64) -> Option<()> {
+        if !self.hear(key, moment) {
+            self.made.push((true, key)).ok()?;
+            self.rows.push((key, moment)).ok()?;
         }
-        self.made.push((true, key))?;
-        self.rows.push((key, moment))?;
-        Ok(())
+        Some(())
     }
 
-    fn remove(&mut self, key: Key) -> Result<(), AllocError> {
+    fn remove(&mut self, key: Key) -> Option<()> {
         if self.hear(key, 0) {
-            self.made.push((false, key))?;
+            self.made.push((false, key)).ok()?;
             self.rows.retain(|row| row.0 != key);
         }
-        Ok(())
+        Some(())
     }
 
     // The least row that was silent for 300 seconds.
     fn due(&self, now: u64) -> Option<Key> {
-        let mut least = None;
+        let mut least: Option<Key> = None;
         for row in self.rows.iter() {
-            if now.saturating_sub(row.1) >= 300_000 && is_less(row.0, least) {
+            if now.saturating_sub(row.1) >= 300_000 && least.is_none_or(|least| row.0 < least) {
                 least = Some(row.0);
             }
         }
         least
     }
 
-    // Whether a row was due, which then goes.
-    fn tick(&mut self, now: u64) -> Result<bool, AllocError> {
-        match self.due(now) {
-            Some(key) => {
-                self.remove(key)?;
-                Ok(true)
+    // Whether a tick ends a row.
+    fn act(&mut self, kind: u8, key: Key, moment: u64) -> Option<bool> {
+        match kind {
+            PUT => self.put(key, moment)?,
+            REMOVE => self.remove(key)?,
+            HEAR => return Some(self.hear(key, moment)),
+            _ => {
+                let Some(due) = self.due(moment) else {
+                    return Some(false);
+                };
+                self.remove(due)?;
             }
-            None => Ok(false),
         }
+        Some(true)
     }
 }
 
-fn is_less(key: Key, least: Option<Key>) -> bool {
-    match least {
-        Some(least) => key < least,
-        None => true,
-    }
+const PUT: u8 = 0;
+
+const REMOVE: u8 = 1;
+
+const HEAR: u8 = 2;
+
+const TICK: u8 = 3;
+
+// What a number asks for, of one of eight radios and one of sixteen stations, and when. Moments rise and fall.
+fn request_of(number: u32) -> (u8, Key, u64) {
+    let [radio, station, kind, _] = number.to_be_bytes();
+    let key = key_of(1 + radio % 8, (station % 16) as u16);
+    (kind / 32 % 4, key, (number % 600_000) as u64)
 }
 
-/// What a number asks for.
-#[derive(Clone, Copy)]
-enum Kind {
-    Put,
-    Remove,
-    Hear,
-    Tick,
+fn ask_frame(core: &mut Core, key: Key, frame: Option<Vec<u8>>, moment: u64) -> Option<bool> {
+    Some(ask(core, Input::Received(key.0, &frame?), moment)?.0 == "entry")
 }
 
-fn kind_of(number: u32) -> Kind {
-    match number % 4 {
-        0 => Kind::Put,
-        1 => Kind::Remove,
-        2 => Kind::Hear,
-        _ => Kind::Tick,
-    }
-}
-
-// One of eight radios, and one of sixteen stations.
-fn key_of(number: u32) -> Key {
-    let [radio, station, _, _] = number.to_be_bytes();
-    (bssid_of(1 + radio % 8), Addr([2, 1, 0, 0, 0, station % 16]))
-}
-
-// Moments rise and fall.
-fn moment_of(number: u32) -> u64 {
-    number as u64 % 600_000
-}
-
-fn next_number(number: u32) -> u32 {
-    number.wrapping_mul(1_664_525).wrapping_add(1_013_904_223)
-}
-
-fn authentication((bssid, sender): Key) -> [u8; 30] {
-    let [b0, b1, b2, b3, b4, b5] = bssid.0.0;
-    let [s0, s1, s2, s3, s4, s5] = sender.0;
-    [
-        0xb0, 0, 0, 0, b0, b1, b2, b3, b4, b5, s0, s1, s2, s3, s4, s5, b0, b1, b2, b3, b4, b5, 0,
-        0, 0, 0, 1, 0, 0, 0,
-    ]
-}
-
-fn deauthentication((bssid, sender): Key) -> [u8; 26] {
-    let [b0, b1, b2, b3, b4, b5] = bssid.0.0;
-    let [s0, s1, s2, s3, s4, s5] = sender.0;
-    [
-        0xc0, 0, 0, 0, b0, b1, b2, b3, b4, b5, s0, s1, s2, s3, s4, s5, b0, b1, b2, b3, b4, b5, 0,
-        0, 1, 0,
-    ]
-}
-
-// Asks a core; whether the answer is an entry.
-fn enters(core: &mut Core, kind: Kind, key: Key, moment: u64) -> Result<bool, AllocError> {
-    let told = match kind {
-        Kind::Put => ask(core, Input::Received(key.0, &authentication(key)), moment)?,
-        Kind::Remove => ask(core, Input::Received(key.0, &deauthentication(key)), moment)?,
-        Kind::Hear => ask(core, Input::Received(key.0, &probe(key.0, key.1)), moment)?,
-        Kind::Tick => ask(core, Input::Tick, moment)?,
+// Whether a core answers by an entry.
+fn enters(alloc: Global, core: &mut Core, kind: u8, key: Key, moment: u64) -> Option<bool> {
+    let frame = match kind {
+        PUT => frame(alloc, 0xb0, key, &[0, 0, 1, 0, 0, 0]),
+        REMOVE => frame(alloc, 0xc0, key, &[1, 0]),
+        HEAR => probe(alloc, key),
+        _ => return Some(ask(core, Input::Tick, moment)?.0 == "entry"),
     };
-    Ok(matches!(told, Told::Entry(_)))
-}
-
-// Asks the plain rows; whether a tick ends one.
-fn ends(plain: &mut Plain, kind: Kind, key: Key, moment: u64) -> Result<bool, AllocError> {
-    match kind {
-        Kind::Put => plain.put(key, moment)?,
-        Kind::Remove => plain.remove(key)?,
-        Kind::Hear => {
-            plain.hear(key, moment);
-        }
-        Kind::Tick => return plain.tick(moment),
-    }
-    Ok(false)
+    ask_frame(core, key, frame, moment)
 }
 
 // Whether both say the same of each tick.
-fn agree(core: &mut Core, plain: &mut Plain, requests: u64) -> Result<bool, AllocError> {
-    let mut number = 1;
+fn agree(alloc: Global, core: &mut Core, plain: &mut Plain, requests: u64) -> Option<bool> {
+    let mut number: u32 = 1;
     for _request in 0..requests {
-        let kind = kind_of(number >> 13);
-        let entered = enters(core, kind, key_of(number), moment_of(number))?;
-        let ended = ends(plain, kind, key_of(number), moment_of(number))?;
-        if matches!(kind, Kind::Tick) && entered != ended {
-            return Ok(false);
+        let (kind, key, moment) = request_of(number);
+        let entered = enters(alloc, core, kind, key, moment)?;
+        let ended = plain.act(kind, key, moment)?;
+        if kind == TICK && entered != ended {
+            return Some(false);
         }
-        number = next_number(number);
+        number = number.wrapping_mul(1_664_525).wrapping_add(1_013_904_223);
     }
-    Ok(true)
+    Some(true)
 }
 
 // Whether these rows are put and dropped by changes, in this order.
@@ -183,27 +124,26 @@ fn are_made(made: &[(bool, Key)], changes: &[Change]) -> bool {
 }
 
 // Whether what a core gives changes the rows as they were.
-fn gives_what_was_made(core: &mut Core, made: &[(bool, Key)]) -> Result<bool, Fail> {
-    Ok(are_made(made, taken(core)?.changes.as_slice()))
+fn gives(core: &mut Core, made: &[(bool, Key)]) -> Option<bool> {
+    match core.take() {
+        Ok(Some(batch)) => Some(are_made(made, batch.changes.as_slice())),
+        _ => None,
+    }
 }
 
-// Of as many requests: whether each tick agrees, whether the changes do, and how many these are.
-fn compare(alloc: Global, core: &mut Core, requests: u64) -> Result<(bool, bool, usize), Fail> {
-    let mut plain = Plain::new(alloc);
-    let ticks = agree(core, &mut plain, requests)?;
-    let changes = gives_what_was_made(core, &plain.made)?;
-    Ok((ticks, changes, plain.made.len()))
-}
-
-fn compared(alloc: Global, requests: u64) -> Result<(bool, bool, usize), Fail> {
-    compare(alloc, &mut crowd(alloc, 0)?, requests)
+// Of as many requests: whether each tick agrees, whether the changes do, and whether these are many.
+fn compare(alloc: Global, requests: u64) -> Option<(bool, bool, bool)> {
+    let mut core = crowd(alloc, 0)?;
+    let mut plain = Plain {
+        rows: Vec::new(alloc),
+        made: Vec::new(alloc),
+    };
+    let ticks = agree(alloc, &mut core, &mut plain, requests)?;
+    let changes = gives(&mut core, plain.made.as_slice())?;
+    Some((ticks, changes, plain.made.len() > 1_000))
 }
 
 #[test]
-fn five_thousand_requests_against_a_plain_list(rt: HostRuntime) -> Result<(), Fail> {
-    let (ticks, changes, made) = compared(rt.alloc(), 5_000)?;
-    assert!(rt; ticks);
-    assert!(rt; changes);
-    assert!(rt; made > 1_000, "{made}");
-    Ok(())
+fn five_thousand_requests_against_a_plain_list(rt: HostRuntime) {
+    assert_eq!(rt; compare(rt.alloc(), 5_000), Some((true, true, true)));
 }
