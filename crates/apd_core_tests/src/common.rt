@@ -3,6 +3,7 @@ use apd_base::{Addr, Bssid, Moment};
 use apd_conf::{AddressList, Conf, Confs};
 use apd_core::{Accepted, Core, Input, QuietReason};
 use apd_ctrl::Query;
+use apd_journal::Batch;
 use apd_mlme::Recipient;
 use apd_table::Table;
 use std::alloc::Global;
@@ -72,6 +73,14 @@ pub(crate) fn start(alloc: Global, core: &mut Core) -> Option<Told> {
 /// How many outs a recipient is handed.
 pub(crate) fn hand(core: &mut Core, to: Recipient) -> Option<Told> {
     Some(("outs", core.hand(to).ok()?.len() as u64))
+}
+
+/// The batch that a core gives.
+pub(crate) fn taken(core: &mut Core) -> Option<Batch> {
+    match core.take() {
+        Ok(batch) => batch,
+        Err(_) => None,
+    }
 }
 
 fn word_of(text: &[u8]) -> &'static str {

@@ -1,5 +1,5 @@
 //! When stations were heard, and which of them a tick ends.
-use crate::common::{AUTHENTICATION, Told, ask};
+use crate::common::{AUTHENTICATION, Told, ask, taken};
 use crate::crowd::{Key, crowd, key_of, probe};
 use crate::steps::{Step, otherwise};
 use apd_core::{Core, Input};
@@ -26,32 +26,36 @@ fn all_but_one_heard(alloc: Global, stations: u16) -> Option<Core> {
     Some(core)
 }
 
-// The station of the only change that a core gives, where it is dropped.
-fn dropped(core: &mut Core) -> Option<Key> {
-    match core.take().ok()??.changes.as_slice() {
+// The station of the only change, where it is dropped.
+fn dropped_by(changes: &[Change]) -> Option<Key> {
+    match changes {
         [Change::Drop { bssid, addr }] => Some((*bssid, *addr)),
         _ => None,
     }
 }
 
+// The station of the only change that a core gives, where it is dropped.
+fn dropped(core: &mut Core) -> Option<Key> {
+    dropped_by(taken(core)?.changes.as_slice())
+}
+
 // What is told of three ticks.
-fn ticks(core: &mut Core) -> Option<[Told; 3]> {
-    Some([
-        ask(core, Input::Tick, 299_999)?,
-        ask(core, Input::Tick, 300_000)?,
-        ask(core, Input::Tick, 300_000)?,
-    ])
+fn ticks(core: &mut Core) -> Option<(Told, Told, Told)> {
+    let first = ask(core, Input::Tick, 299_999)?;
+    let second = ask(core, Input::Tick, 300_000)?;
+    let third = ask(core, Input::Tick, 300_000)?;
+    Some((first, second, third))
 }
 
 // The same of those radios, and the station that goes.
-fn silent(alloc: Global, stations: u16) -> Option<([Told; 3], Key)> {
+fn silent(alloc: Global, stations: u16) -> Option<((Told, Told, Told), Key)> {
     let mut core = all_but_one_heard(alloc, stations)?;
     Some((ticks(&mut core)?, dropped(&mut core)?))
 }
 
 #[test]
 fn a_tick_names_the_only_silent_station(rt: HostRuntime) {
-    let told = [("nothing", 0), ("entry", 1), ("nothing", 0)];
+    let told = (("nothing", 0), ("entry", 1), ("nothing", 0));
     assert_eq!(rt; silent(rt.alloc(), 200), Some((told, key_of(8, 199))));
 }
 
