@@ -1,0 +1,76 @@
+//! When stations were heard, and which of them a tick ends.
+use crate::common::{AUTHENTICATION, Told, ask, taken};
+use crate::crowd::{Key, crowd, key_of, probe};
+use crate::steps::{Step, otherwise};
+use apd_core::{Core, Input};
+use apd_record::Change;
+use std::alloc::Global;
+
+// Hears as many stations of a radio at moment 1.
+fn hear(alloc: Global, core: &mut Core, radio: u8, stations: u16) -> Option<()> {
+    for number in 0..stations {
+        let key = key_of(radio, number);
+        let frame = probe(alloc, key)?;
+        ask(core, Input::Received(key.0, &frame), 1)?;
+    }
+    Some(())
+}
+
+// Eight radios with as many stations each, of which all but the last of the last radio were heard at 1.
+fn all_but_one_heard(alloc: Global, stations: u16) -> Option<Core> {
+    let mut core = crowd(alloc, stations)?;
+    for radio in 1..8u8 {
+        hear(alloc, &mut core, radio, stations)?;
+    }
+    hear(alloc, &mut core, 8, stations.saturating_sub(1))?;
+    Some(core)
+}
+
+// The station of the only change, where it is dropped.
+fn dropped_by(changes: &[Change]) -> Option<Key> {
+    match changes {
+        [Change::Drop { bssid, addr }] => Some((*bssid, *addr)),
+        _ => None,
+    }
+}
+
+// The station of the only change that a core gives, where it is dropped.
+fn dropped(core: &mut Core) -> Option<Key> {
+    dropped_by(taken(core)?.changes.as_slice())
+}
+
+// What is told of three ticks.
+fn ticks(core: &mut Core) -> Option<(Told, Told, Told)> {
+    let first = ask(core, Input::Tick, 299_999)?;
+    let second = ask(core, Input::Tick, 300_000)?;
+    let third = ask(core, Input::Tick, 300_000)?;
+    Some((first, second, third))
+}
+
+// The same of those radios, and the station that goes.
+fn silent(alloc: Global, stations: u16) -> Option<((Told, Told, Told), Key)> {
+    let mut core = all_but_one_heard(alloc, stations)?;
+    Some((ticks(&mut core)?, dropped(&mut core)?))
+}
+
+#[test]
+fn a_tick_names_the_only_silent_station(rt: HostRuntime) {
+    let told = (("nothing", 0), ("entry", 1), ("nothing", 0));
+    assert_eq!(rt; silent(rt.alloc(), 200), Some((told, key_of(8, 199))));
+}
+
+// The station is heard at 0, at 10 and at 5: it is silent for 300 seconds at 300,005.
+#[test]
+fn moments_may_go_back(rt: HostRuntime) {
+    let rows = [
+        (1, Step::Start, ("entry", 1)),
+        (1, Step::Frame(AUTHENTICATION, 0), ("entry", 2)),
+        (1, Step::Tick(10), ("nothing", 0)),
+        (1, Step::Frame(AUTHENTICATION, 10), ("entry", 3)),
+        (1, Step::Tick(5), ("nothing", 0)),
+        (1, Step::Frame(AUTHENTICATION, 5), ("entry", 4)),
+        (1, Step::Tick(300_004), ("nothing", 0)),
+        (1, Step::Tick(300_005), ("entry", 5)),
+    ];
+    assert_eq!(rt; otherwise(rt.alloc(), &rows), None);
+}

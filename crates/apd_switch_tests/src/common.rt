@@ -1,0 +1,220 @@
+//! Devices that are made byte by byte, and batches on them. `None` is want of memory, or a refusal.
+use apd_base::{Addr, Bssid, Moment, Station};
+use apd_conf::{Conf, Confs};
+use apd_core::{Accepted, Core, Input};
+use apd_disk::{Disk, MemDisk};
+use apd_flusher::Flusher;
+use apd_journal::Batch;
+use apd_store::{Store, StoreFault, recover};
+use apd_table::Table;
+use std::alloc::Global;
+
+/// The BSSID of the built-in configuration.
+pub(crate) const RADIO: Bssid = Bssid(Addr([2, 0, 0, 0, 0, 1]));
+
+/// The station of the record, and of the association request.
+pub(crate) const STATION: Addr = Addr([2, 0, 0, 0, 0, 0xaa]);
+
+/// The record of the radio's policy.
+pub(crate) const POLICY: &[u8] = &[6, 2, 0, 0, 0, 0, 1, 0, 0xd7, 7];
+
+/// The record of the station, which is authenticated.
+pub(crate) const AUTHENTICATED: &[u8] = &[
+    1, 2, 0, 0, 0, 0, 1, 2, 0, 0, 0, 0, 0xaa, 1, 0, 0, 0, 0, 0, 0,
+];
+
+/// The record of the station once it is associated.
+pub(crate) const ASSOCIATED: &[u8] = &[
+    1, 2, 0, 0, 0, 0, 1, 2, 0, 0, 0, 0, 0xaa, 2, 1, 0, 0x31, 4, 10, 0,
+];
+
+// Its association request: capability 0x0431, listen interval 10, the network "net" and four rates.
+const ASSOCIATION: &[u8] = &[
+    0, 0, 0, 0, 2, 0, 0, 0, 0, 1, 2, 0, 0, 0, 0, 0xaa, 2, 0, 0, 0, 0, 1, 0x20, 0, 0x31, 4, 10, 0,
+    0, 3, b'n', b'e', b't', 1, 4, 0x82, 0x84, 0x8b, 0x96,
+];
+
+// An authentication request of another station.
+const AUTHENTICATION: &[u8] = &[
+    0xb0, 0, 0, 0, 2, 0, 0, 0, 0, 1, 2, 0, 0, 0, 0, 0xbb, 2, 0, 0, 0, 0, 1, 0, 0, 0, 0, 1, 0, 0, 0,
+];
+
+/// How many bytes a half has.
+pub(crate) const HALF: usize = 1_048_576;
+
+/// The place of half A.
+pub(crate) const HALF_A: usize = 64;
+
+/// The place of half B.
+pub(crate) const HALF_B: usize = 1_048_640;
+
+/// How many bytes a device of a store has.
+const LENGTH: usize = 2_097_216;
+
+/// The front of an open half: its gate, its epoch and its snapshot.
+pub(crate) fn opened(alloc: Global, epoch: u64, snapshot: &[u8]) -> Option<Vec<u8>> {
+    let length = u32::try_from(snapshot.len()).ok()?;
+    let mut half = Vec::new(alloc);
+    half.push(1).ok()?;
+    half.extend_from_slice(&epoch.to_le_bytes()).ok()?;
+    half.extend_from_slice(&length.to_le_bytes()).ok()?;
+    half.extend_from_slice(snapshot).ok()?;
+    Some(half)
+}
+
+/// Adds an open group of these records.
+pub(crate) fn add_group(half: &mut Vec<u8>, records: &[u8]) -> Option<()> {
+    let length = u32::try_from(records.len()).ok()?;
+    half.push(1).ok()?;
+    half.extend_from_slice(&length.to_le_bytes()).ok()?;
+    half.extend_from_slice(records).ok()
+}
+
+/// An open half with a group behind its snapshot, and then as many groups of one record as there is room for.
+pub(crate) fn full(
+    alloc: Global,
+    epoch: u64,
+    snapshot: &[u8],
+    group: &[u8],
+    record: &[u8],
+) -> Option<Vec<u8>> {
+    let mut half = opened(alloc, epoch, snapshot)?;
+    add_group(&mut half, group)?;
+    let room = HALF.saturating_sub(half.len()).saturating_sub(1);
+    for _time in 0..room / record.len().saturating_add(5).max(5) {
+        add_group(&mut half, record)?;
+    }
+    Some(half)
+}
+
+/// Adds zeros up to a length, which no proof meets here.
+pub(crate) fn pad(bytes: &mut Vec<u8>, length: usize) -> Option<()> {
+    bytes.resize(length, 0).ok()
+}
+
+/// A device of a store of two halves, each with zeros behind it.
+pub(crate) fn device(alloc: Global, a: &[u8], b: &[u8]) -> Option<MemDisk> {
+    let mut bytes = Vec::new(alloc);
+    bytes.extend_from_slice(b"RAPSTOR1").ok()?;
+    pad(&mut bytes, HALF_A)?;
+    bytes.extend_from_slice(a).ok()?;
+    pad(&mut bytes, HALF_B)?;
+    bytes.extend_from_slice(b).ok()?;
+    pad(&mut bytes, LENGTH)?;
+    MemDisk::new(alloc, bytes).ok()
+}
+
+/// A device of a new store that has committed a policy and then the station 41,941 times: half A is full, and half B
+/// was never open.
+pub(crate) fn one_open(alloc: Global) -> Option<MemDisk> {
+    device(alloc, &full(alloc, 1, &[], POLICY, AUTHENTICATED)?, &[])
+}
+
+/// A device whose halves are both open: A with a policy alone, and the newer B with the station, and full.
+pub(crate) fn both_open(alloc: Global) -> Option<MemDisk> {
+    let newer = full(alloc, 2, POLICY, AUTHENTICATED, AUTHENTICATED)?;
+    device(alloc, &opened(alloc, 1, POLICY)?, &newer)
+}
+
+fn core_of(alloc: Global, table: &Table) -> Option<Core> {
+    let mut list = Vec::new(alloc);
+    list.push(Conf::built_in(alloc).ok()?).ok()?;
+    let confs = Confs::new(list).ok()?;
+    Core::new(alloc, table.copy(alloc).ok()?, confs, Moment(0)).ok()
+}
+
+fn receive(core: &mut Core, frame: &[u8]) -> Option<()> {
+    match core.accept(Input::Received(RADIO, frame), Moment(0)).ok()? {
+        Accepted::Entry(_) => Some(()),
+        _ => None,
+    }
+}
+
+fn taken(core: &mut Core) -> Option<Batch> {
+    core.take().ok()?
+}
+
+// The batch of the station's association, of a core of this table. The core accepts one more request meanwhile.
+fn association(alloc: Global, table: &Table) -> Option<Batch> {
+    let mut core = core_of(alloc, table)?;
+    receive(&mut core, ASSOCIATION)?;
+    let batch = taken(&mut core)?;
+    receive(&mut core, AUTHENTICATION)?;
+    Some(batch)
+}
+
+/// A store and its table, by two calls of the device.
+pub(crate) fn recovered<D: Disk>(alloc: Global, disk: D) -> Option<(Store<D>, Table)>
+where
+    D: Drop,
+{
+    recover(alloc, disk).ok()
+}
+
+/// A flusher of a store and its table.
+pub(crate) fn flusher_of<D: Disk>(
+    alloc: Global,
+    store: Store<D>,
+    table: Table,
+) -> Option<Flusher<D>>
+where
+    D: Drop,
+{
+    Flusher::new(alloc, store, table).ok()
+}
+
+/// A flusher of a store that is recovered, and the batch of the station's association.
+pub(crate) fn flusher<D: Disk>(alloc: Global, disk: D) -> Option<(Flusher<D>, Batch)>
+where
+    D: Drop,
+{
+    let (store, table) = recovered(alloc, disk)?;
+    let batch = association(alloc, &table)?;
+    Some((flusher_of(alloc, store, table)?, batch))
+}
+
+/// Makes as many turns.
+pub(crate) fn turns<D: Disk>(flusher: &mut Flusher<D>, turns: u64) -> Option<()> {
+    for _turn in 0..turns {
+        flusher.turn().ok()?;
+    }
+    Some(())
+}
+
+/// Loads a batch.
+pub(crate) fn load<D: Disk>(flusher: &mut Flusher<D>, batch: Batch) -> Option<()> {
+    flusher.load(batch).ok()
+}
+
+/// The device after as many calls of the station's association.
+pub(crate) fn switching<D: Disk>(alloc: Global, disk: D, calls: u64) -> Option<D>
+where
+    D: Drop,
+{
+    let (mut flusher, batch) = flusher(alloc, disk)?;
+    load(&mut flusher, batch)?;
+    turns(&mut flusher, calls)?;
+    Some(flusher.into_device())
+}
+
+// Whether the table has the station, as before its association or after it, and no other.
+fn word_of(table: &Table) -> &'static str {
+    match (table.get(RADIO, STATION), table.rows()) {
+        (Some(Station::Authenticated), 1) => "before",
+        (Some(Station::Associated(_)), 1) => "after",
+        (None, 0) => "no station",
+        _ => "another table",
+    }
+}
+
+/// What a device shows, where there is one.
+pub(crate) fn shown(alloc: Global, disk: Option<MemDisk>) -> &'static str {
+    let Some(disk) = disk else {
+        return "no device";
+    };
+    match recover(alloc, disk) {
+        Ok((_store, table)) => word_of(&table),
+        Err((_disk, StoreFault::Damaged)) => "damaged",
+        Err(_) => "no store",
+    }
+}

@@ -1,0 +1,80 @@
+//! The bytes of a switch, and what is shown where one of them is another.
+use crate::common::{HALF_A, HALF_B, both_open, shown, switching};
+use apd_disk::{Call, MemDisk};
+use std::alloc::Global;
+
+fn switched(alloc: Global) -> Option<MemDisk> {
+    switching(alloc, both_open(alloc)?, 10)
+}
+
+// The calls behind the two of the recovery: place and length of a write, and two zeros for a sync.
+fn made(alloc: Global) -> Option<Vec<(usize, usize)>> {
+    let disk = switched(alloc)?;
+    let mut made = Vec::new(alloc);
+    for call in disk.calls().iter().skip(2) {
+        made.push(match call {
+            Call::Read(_, _) => (0, 1),
+            Call::Write(at, bytes) => (*at, bytes.len()),
+            Call::Sync => (0, 0),
+        })
+        .ok()?;
+    }
+    Some(made)
+}
+
+#[test]
+fn the_calls_of_a_switch_over_an_open_half(rt: HostRuntime) {
+    let all = [
+        (64, 1),
+        (0, 0),
+        (65, 43),
+        (0, 0),
+        (64, 1),
+        (0, 0),
+        (108, 25),
+        (0, 0),
+        (107, 1),
+        (0, 0),
+    ];
+    let made = made(rt.alloc());
+    assert_eq!(rt;
+        made.as_ref().map(|made| made.as_slice()),
+        Some(all.as_slice())
+    );
+}
+
+// The device with another byte.
+fn changed(alloc: Global, place: usize, byte: u8) -> Option<MemDisk> {
+    let mut bytes = Vec::from_slice(alloc, switched(alloc)?.bytes()).ok()?;
+    *bytes.get_mut(place)? = byte;
+    MemDisk::new(alloc, bytes).ok()
+}
+
+#[test]
+fn changed_bytes_of_both_halves(rt: HostRuntime) {
+    for (place, byte, is) in [
+        (63, 7, "after"),
+        (HALF_A, 0, "before"),
+        (HALF_A, 2, "before"),
+        // The epoch.
+        (HALF_A + 1, 1, "before"),
+        (HALF_A + 1, 2, "damaged"),
+        (HALF_A + 1, 4, "after"),
+        // The snapshot: its length, and its first tag.
+        (HALF_A + 9, 29, "damaged"),
+        (HALF_A + 13, 7, "damaged"),
+        // The group: its gate, its length, its tag, and the gate behind it.
+        (107, 0, "before"),
+        (108, 19, "damaged"),
+        (112, 7, "damaged"),
+        (132, 1, "after"),
+        // The half before.
+        (HALF_B, 0, "after"),
+        (HALF_B + 1, 3, "damaged"),
+        (HALF_B + 1, 4, "before"),
+        (HALF_B + 13, 7, "after"),
+    ] {
+        let found = shown(rt.alloc(), changed(rt.alloc(), place, byte));
+        assert_eq!(rt; found, is, "{byte} at {place}");
+    }
+}

@@ -1,0 +1,141 @@
+//! Snapshots: the greatest, and one of changes in another order.
+use crate::common::{
+    HALF, HALF_B, RADIO, add_group, device, flusher_of, full, load, opened, pad, recovered, turns,
+};
+use apd_base::{Addr, Sequence};
+use apd_disk::Disk;
+use apd_journal::Batch;
+use apd_record::Change;
+use std::alloc::Global;
+
+/// The record by which the first station of the first radio goes.
+const GOING: &[u8] = &[2, 2, 0, 0, 0, 0, 1, 2, 1, 0, 0, 0, 1];
+
+/// One by which nothing changes.
+const NOTHING: &[u8] = &[2, 2, 0, 0, 0, 0, 1, 2, 1, 0, 0, 0, 0];
+
+// The batch by which the station goes.
+fn going(alloc: Global) -> Option<Batch> {
+    let mut changes = Sequence::new(alloc);
+    let change = Change::Drop {
+        bssid: RADIO,
+        addr: Addr([2, 1, 0, 0, 0, 1]),
+    };
+    changes.push(change).ok()?;
+    Some(Batch {
+        first: 1,
+        last: 1,
+        changes,
+    })
+}
+
+// The device behind a switch and a commit by which the station goes.
+fn switched<D: Disk>(alloc: Global, disk: D) -> Option<D>
+where
+    D: Drop,
+{
+    let (store, table) = recovered(alloc, disk)?;
+    let mut flusher = flusher_of(alloc, store, table)?;
+    load(&mut flusher, going(alloc)?)?;
+    turns(&mut flusher, 8)?;
+    Some(flusher.into_device())
+}
+
+// Half B that begins with this snapshot, and has the group by which the station goes.
+fn begun(alloc: Global, snapshot: &[u8]) -> Option<Vec<u8>> {
+    let mut half = opened(alloc, 2, snapshot)?;
+    add_group(&mut half, GOING)?;
+    pad(&mut half, HALF)?;
+    Some(half)
+}
+
+// Whether a switch from a half with one snapshot begins one with the other, and how many stations are left.
+fn begins(alloc: Global, snapshot: &[u8], canonical: &[u8]) -> Option<(bool, usize)> {
+    let old = full(alloc, 1, snapshot, &[], NOTHING)?;
+    let disk = switched(alloc, device(alloc, &old, &[])?)?;
+    let new = begun(alloc, canonical)?;
+    let begins = disk.bytes().get(HALF_B..)? == new.as_slice();
+    let (_store, table) = recovered(alloc, disk)?;
+    Some((begins, table.rows()))
+}
+
+fn add_address(records: &mut Vec<u8>, radio: u8, which: u8, number: u16) -> Option<()> {
+    let [high, low] = number.to_be_bytes();
+    let record = [3, 2, 0, 0, 0, 0, radio, which, 2, 2, 0, 0, high, low];
+    records.extend_from_slice(&record).ok()
+}
+
+fn add_station(records: &mut Vec<u8>, radio: u8, aid: u16) -> Option<()> {
+    let [high, low] = aid.to_be_bytes();
+    let record = [
+        1, 2, 0, 0, 0, 0, radio, 2, 1, 0, 0, high, low, 2, low, high, 0x31, 4, 10, 0,
+    ];
+    records.extend_from_slice(&record).ok()
+}
+
+// The records of the greatest table: eight radios, each with two full lists and all its identifiers given.
+fn greatest(alloc: Global) -> Option<Vec<u8>> {
+    let mut records = Vec::new(alloc);
+    for radio in 1..=8 {
+        let policy = [6, 2, 0, 0, 0, 0, radio, 0, 0xd7, 7];
+        records.extend_from_slice(&policy).ok()?;
+    }
+    for radio in 1..=8 {
+        for number in 0..2048 {
+            let which = if number < 1024 { 0 } else { 1 };
+            add_address(&mut records, radio, which, number)?;
+        }
+    }
+    for radio in 1..=8 {
+        for aid in 1..=2007 {
+            add_station(&mut records, radio, aid)?;
+        }
+    }
+    Some(records)
+}
+
+// How many bytes its snapshot has, and what a switch makes of it.
+fn greatest_switch(alloc: Global) -> Option<(usize, (bool, usize))> {
+    let records = greatest(alloc)?;
+    Some((records.len(), begins(alloc, &records, &records)?))
+}
+
+#[test]
+fn the_greatest_table(rt: HostRuntime) {
+    assert_eq!(rt;
+        greatest_switch(rt.alloc()),
+        Some((550_576, (true, 16_055)))
+    );
+}
+
+const ANY_ORDER: &[u8] = &[
+    6, 2, 0, 0, 0, 0, 2, 1, 5, 0, // the policy of the second radio
+    6, 2, 0, 0, 0, 0, 1, 1, 1, 0, // of the first radio
+    3, 2, 0, 0, 0, 0, 1, 1, 2, 2, 0, 0, 0, 9, // denied: 9
+    3, 2, 0, 0, 0, 0, 1, 1, 2, 2, 0, 0, 0, 8, // 8
+    3, 2, 0, 0, 0, 0, 1, 0, 2, 2, 0, 0, 0, 7, // accepted: 7
+    3, 2, 0, 0, 0, 0, 1, 0, 2, 2, 0, 0, 0, 6, // 6
+    4, 2, 0, 0, 0, 0, 1, 0, 2, 2, 0, 0, 0, 7, // 7 no more
+    6, 2, 0, 0, 0, 0, 1, 0, 0xd7, 7, // the first radio's policy again
+    1, 2, 0, 0, 0, 0, 1, 2, 1, 0, 0, 0, 2, 1, 0, 0, 0, 0, 0, 0, // its station 2
+    1, 2, 0, 0, 0, 0, 1, 2, 1, 0, 0, 0, 1, 1, 0, 0, 0, 0, 0, 0, // 1
+    1, 2, 0, 0, 0, 0, 1, 2, 1, 0, 0, 0, 2, 2, 5, 0, 0x31, 4, 10, 0, // 2 is associated
+    1, 2, 0, 0, 0, 0, 1, 2, 1, 0, 0, 0, 3, 1, 0, 0, 0, 0, 0, 0, // 3
+    2, 2, 0, 0, 0, 0, 1, 2, 1, 0, 0, 0, 3, // 3 goes
+];
+
+const CANONICAL: &[u8] = &[
+    6, 2, 0, 0, 0, 0, 1, 0, 0xd7, 7, // policies
+    6, 2, 0, 0, 0, 0, 2, 1, 5, 0, //
+    3, 2, 0, 0, 0, 0, 1, 0, 2, 2, 0, 0, 0, 6, // lists
+    3, 2, 0, 0, 0, 0, 1, 1, 2, 2, 0, 0, 0, 8, //
+    3, 2, 0, 0, 0, 0, 1, 1, 2, 2, 0, 0, 0, 9, //
+    1, 2, 0, 0, 0, 0, 1, 2, 1, 0, 0, 0, 1, 1, 0, 0, 0, 0, 0, 0, // stations
+    1, 2, 0, 0, 0, 0, 1, 2, 1, 0, 0, 0, 2, 2, 5, 0, 0x31, 4, 10, 0, //
+];
+
+#[test]
+fn a_snapshot_in_another_order(rt: HostRuntime) {
+    let begins = begins(rt.alloc(), ANY_ORDER, CANONICAL);
+    assert_eq!(rt; begins, Some((true, 1)));
+}
