@@ -24,6 +24,8 @@ pub enum Counted {
     Requests,
     /// Commits alone.
     Commits,
+    /// Those commits alone for which the store makes way into its other half.
+    Switches,
 }
 
 /// A case: so many stations at one radio, and so many requests a commit.
@@ -56,8 +58,21 @@ fn commits(rows: u16) -> Case {
     }
 }
 
+fn switches(stations: u16) -> Case {
+    Case {
+        counted: Counted::Switches,
+        medium: Medium::File,
+        asking: Asking::Known,
+        stations,
+        window: 256,
+    }
+}
+
+/// How many stations there are at most where only calls are counted.
+const FEW_STATIONS: u16 = 20;
+
 /// All cases, in the order of the table.
-pub fn cases() -> [Case; 18] {
+pub fn cases() -> [Case; 20] {
     [
         requests(Medium::Memory, Asking::Known, 100, 1),
         requests(Medium::Memory, Asking::New, 100, 1),
@@ -77,14 +92,31 @@ pub fn cases() -> [Case; 18] {
         requests(Medium::File, Asking::New, 2007, 256),
         commits(1),
         commits(100),
+        switches(100),
+        switches(2007),
     ]
 }
 
 impl Case {
+    /// Whether its counts are printed: the cases of more stations have the same, and a switch comes after too many
+    /// requests.
+    pub fn is_counted(&self) -> bool {
+        self.stations <= 100 && self.counted != Counted::Switches
+    }
+
+    /// The case at few stations.
+    pub fn at_few_stations(&self) -> Case {
+        Case {
+            stations: self.stations.min(FEW_STATIONS),
+            ..*self
+        }
+    }
+
     /// What the case is called.
     pub fn name(&self) -> &'static str {
         match (self.counted, self.medium, self.asking) {
             (Counted::Commits, _, _) => "commits, file",
+            (Counted::Switches, _, _) => "commits with a switch",
             (Counted::Requests, Medium::Memory, Asking::Known) => "requests, memory, known",
             (Counted::Requests, Medium::Memory, Asking::New) => "requests, memory, new",
             (Counted::Requests, Medium::File, Asking::Known) => "requests, file, known",

@@ -34,12 +34,14 @@ fn print_counts(
     name: &str,
 ) -> Result<(), BenchFault> {
     let mut out = io::writer(rt);
-    for case in &cases() {
+    for case in cases().iter().filter(|case| case.is_counted()) {
+        let case = &case.at_few_stations();
         let round = count(rt, name, case)?;
         let printed = writeln!(
             out,
-            "{}, window {}: {} requests, {} commits, {} calls, {} bytes",
+            "{}, {} stations, window {}: {} requests, {} commits, {} calls, {} bytes",
             case.name(),
+            case.stations,
             case.window,
             round.requests,
             round.commits,

@@ -5,12 +5,12 @@ use crate::counting::{Counting, Tally};
 use crate::fault::BenchFault;
 use crate::rate::{median, per_second};
 use crate::requests::BSSID;
-use crate::round::{Round, associate, go_round, undo};
+use crate::round::{Round, associate, go_round, switch_round, undo};
 use apd_base::Moment;
 use apd_base::limits::DEVICE_LENGTH;
 use apd_conf::{Conf, Confs};
 use apd_disk::{Disk, FileDisk, MemDisk};
-use apd_radio::Sim;
+use apd_radio::{Radio, Sim};
 use apd_slot::Slot;
 use apd_store::format;
 use apd_world::{World, restart};
@@ -27,10 +27,8 @@ const IN_MEMORY: u16 = 2000;
 
 const ON_FILE: u16 = 256;
 
-/// How many windows a round makes, and how many stations there are at most, where only calls are counted.
+/// How many windows a round makes where only calls are counted.
 const FEW: u16 = 2;
-
-const FEW_STATIONS: u16 = 20;
 
 /// How often a second, and how often the bare loop.
 #[derive(Clone, Copy, Debug)]
@@ -66,6 +64,20 @@ fn world<'a, D: Disk + Drop>(
     }
 }
 
+// One round of a case.
+fn round_of<C: Clock, D: Disk, R: Radio>(
+    rt: &C,
+    world: &mut World<D, R>,
+    tally: &Tally,
+    case: &Case,
+    requests: u16,
+) -> Result<Round, BenchFault> {
+    match case.counted {
+        Counted::Switches => switch_round(rt, world, tally, case),
+        _ => go_round(rt, world, tally, case, requests),
+    }
+}
+
 // One round over a store on a disk, of few requests.
 fn counted_on<C: Clock, D: Disk + Drop>(
     rt: &C,
@@ -77,7 +89,7 @@ fn counted_on<C: Clock, D: Disk + Drop>(
     let requests = case.requests(case.window.saturating_mul(FEW));
     let mut world = world(alloc, disk, &tally)?;
     associate(rt, &mut world, case.associated(requests))?;
-    go_round(rt, &mut world, &tally, case, requests)
+    round_of(rt, &mut world, &tally, case, requests)
 }
 
 // The rates of some rounds over a store on a disk, with a round of the bare loop over a file after each.
@@ -94,11 +106,11 @@ fn measured_on<C: Clock, D: Disk + Drop>(
     associate(rt, &mut world, case.associated(requests))?;
     let (mut rates, mut bare_rates) = ([None; ROUNDS], [None; ROUNDS]);
     for (rate, bare_rate) in rates.iter_mut().zip(bare_rates.iter_mut()) {
-        let round = go_round(rt, &mut world, &tally, case, requests)?;
+        let round = round_of(rt, &mut world, &tally, case, requests)?;
         undo(rt, &mut world, case, requests)?;
         *rate = match case.counted {
             Counted::Requests => per_second(round.requests, round.time),
-            Counted::Commits => per_second(round.commits, round.committing),
+            Counted::Commits | Counted::Switches => per_second(round.commits, round.committing),
         };
         if let Some(file) = bare {
             let bytes = round.bytes.checked_div(round.commits).unwrap_or(0);
@@ -117,17 +129,13 @@ fn in_memory(alloc: Global) -> Result<MemDisk, BenchFault> {
     Ok(MemDisk::new(alloc, vec![in alloc; 0u8; DEVICE_LENGTH as usize]?)?)
 }
 
-/// Does a case at a few requests and stations.
+/// Does a case at a few requests.
 pub fn count<R: Files<File = File> + Clock + AllocGlobal>(
     rt: &R,
     name: &str,
     case: &Case,
 ) -> Result<Round, BenchFault> {
     let alloc = rt.alloc();
-    let case = &Case {
-        stations: case.stations.min(FEW_STATIONS),
-        ..*case
-    };
     if case.medium == Medium::Memory {
         return counted_on(rt, alloc, in_memory(alloc)?, case);
     }

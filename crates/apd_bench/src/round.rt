@@ -58,6 +58,51 @@ pub fn associate<C: Clock, D: Disk, R: Radio>(
     Ok(())
 }
 
+/// How many device calls a commit has that needs no switch.
+const PLAIN_CALLS: u64 = 4;
+
+/// More commits than a half of a store has room for.
+const MOST_COMMITS: u64 = 1_000_000;
+
+// Accepts a window of requests, and commits it: a round of one commit, timed alone.
+fn one_window<C: Clock, D: Disk, R: Radio>(
+    rt: &C,
+    world: &mut World<D, R>,
+    tally: &Tally,
+    case: &Case,
+) -> Result<Round, BenchFault> {
+    for number in 0..case.window {
+        accept(world, &case.frame(case.window, number))?;
+    }
+    let (calls, bytes) = tally.counted();
+    let committing = settle(rt, world)?;
+    let (calls_after, bytes_after) = tally.counted();
+    Ok(Round {
+        requests: u64::from(case.window),
+        commits: 1,
+        calls: calls_after.saturating_sub(calls),
+        bytes: bytes_after.saturating_sub(bytes),
+        time: None,
+        committing,
+    })
+}
+
+/// Commits window after window of requests until the store makes way into its other half: that one commit.
+pub fn switch_round<C: Clock, D: Disk, R: Radio>(
+    rt: &C,
+    world: &mut World<D, R>,
+    tally: &Tally,
+    case: &Case,
+) -> Result<Round, BenchFault> {
+    for _ in 0..MOST_COMMITS {
+        let round = one_window(rt, world, tally, case)?;
+        if round.calls > PLAIN_CALLS {
+            return Ok(round);
+        }
+    }
+    Err(BenchFault::Refused)
+}
+
 /// Makes so many requests of a case, and commits after each window of them.
 pub fn go_round<C: Clock, D: Disk, R: Radio>(
     rt: &C,
