@@ -6,7 +6,7 @@ use crate::talk::{
 use apd_base::Moment;
 use apd_conf::{Conf, Confs};
 use apd_desk::{Gate, NoGate};
-use apd_disk::MemDisk;
+use apd_disk::{MemDisk, OnceDisk};
 use apd_radio::UdpSim;
 use apd_serve::{ControlPort, ServeFault, SystemClock, serve};
 use apd_slot::Slot;
@@ -25,12 +25,25 @@ const LENGTH: usize = 2_097_216;
 const STATUS: &str =
     "state=ENABLED\nchannel=6\nbeacon_int=100\nbss[0]=wlan0\nbssid[0]=02:00:00:00:00:01\nssid[0]=net\nnum_sta[0]=1\n";
 
-/// The world of the built-in configuration over an empty store in memory and a radio on this port.
-fn world(rt: &impl Net, alloc: Global, port: u16) -> Result<World<MemDisk, UdpSim>, Fail> {
+/// A device call that doesn't come.
+const NEVER: u64 = u64::MAX;
+
+/// How many calls come before the first of the first request's commit: a recovery has two, and the commit of the start four.
+const STARTED: u64 = 6;
+
+/// The world of the built-in configuration over an empty store in memory, whose device fails the call after so many, and a
+/// radio on this port.
+fn world(
+    rt: &impl Net,
+    alloc: Global,
+    port: u16,
+    calls: u64,
+) -> Result<World<OnceDisk<MemDisk>, UdpSim>, Fail> {
     let disk = MemDisk::new(alloc, vec![in alloc; 0u8; LENGTH]?)?;
     let Ok(store) = format(alloc, disk) else {
         return Err(Fail::new("no store"));
     };
+    let disk = OnceDisk::new(store.into_device(), calls);
     let conf = Conf::built_in(alloc)?;
     let mut slots = Vec::new(alloc);
     slots.push(Slot::new(alloc, UdpSim::new(rt, alloc, port)?, conf.bssid))?;
@@ -39,24 +52,25 @@ fn world(rt: &impl Net, alloc: Global, port: u16) -> Result<World<MemDisk, UdpSi
     let Ok(confs) = Confs::new(list) else {
         return Err(Fail::new("no configurations"));
     };
-    match restart(alloc, store.into_device(), confs, slots, Moment(0)) {
+    match restart(alloc, disk, confs, slots, Moment(0)) {
         Ok(world) => Ok(world),
         Err(_) => Err(Fail::new("not recovered")),
     }
 }
 
-/// What `serve` answers of this talk, and how many of its lines were said.
+/// What `serve` answers of this talk, and how many of its lines were said, where the device fails the call after so many.
 fn served<R: Net + Wait + Threads + Clock + Sync, G: Gate + Sync>(
     rt: &R,
     alloc: Global,
     lines: &[Line],
     gate: &G,
     held: &AtomicBool,
+    calls: u64,
 ) -> Result<(Result<u64, ServeFault>, usize), Fail> {
     let port = free_ports(rt, 1)?;
     let mut talk = Talk::new(rt, alloc, port, lines, held)?;
     let control = ControlPort::open(rt, alloc, port)?;
-    let world = world(rt, alloc, port.wrapping_add(RADIO))?;
+    let world = world(rt, alloc, port.wrapping_add(RADIO), calls)?;
     let answer = serve(
         rt,
         alloc,
@@ -69,13 +83,13 @@ fn served<R: Net + Wait + Threads + Clock + Sync, G: Gate + Sync>(
     Ok((answer, talk.said()))
 }
 
-/// The same, with nothing held.
+/// The same, with nothing held and no device fault.
 fn talked<R: Net + Wait + Threads + Clock + Sync>(
     rt: &R,
     alloc: Global,
     lines: &[Line],
 ) -> Result<(Result<u64, ServeFault>, usize), Fail> {
-    served(rt, alloc, lines, &NoGate, &AtomicBool::new(false))
+    served(rt, alloc, lines, &NoGate, &AtomicBool::new(false), NEVER)
 }
 
 #[test]
@@ -168,7 +182,34 @@ fn an_answer_waits_for_its_commit(rt: HostRuntime) -> Result<(), Fail> {
         rt: &rt,
         held: &held,
     };
-    assert_eq!(rt; served(&rt, rt.alloc(), &lines, &gate, &held)?, (Ok(2), 9));
+    assert_eq!(rt;
+        served(&rt, rt.alloc(), &lines, &gate, &held, NEVER)?,
+        (Ok(2), 9)
+    );
+    Ok(())
+}
+
+#[test]
+fn after_a_device_fault_nothing_is_told_but_what_was_settled(rt: HostRuntime) -> Result<(), Fail> {
+    let lines = [
+        Line::Sends(0, RADIO, Datagram::Hex(AUTHENTICATION)),
+        Line::GetsNothing(0),
+        Line::Sends(
+            1,
+            CONTROL,
+            Datagram::Text("DENY_ACL ADD_MAC 02:00:00:00:00:ab"),
+        ),
+        Line::Gets(1, CONTROL, Datagram::Text("FAIL\n")),
+        Line::Sends(0, RADIO, Datagram::Hex(AUTHENTICATION)),
+        Line::GetsNothing(0),
+        Line::Sends(1, CONTROL, Datagram::Text("STA-FIRST")),
+        Line::Gets(1, CONTROL, Datagram::Text("")),
+    ];
+    let (gate, held) = (NoGate, AtomicBool::new(false));
+    assert_eq!(rt;
+        served(&rt, rt.alloc(), &lines, &gate, &held, STARTED)?,
+        (Ok(1), 8)
+    );
     Ok(())
 }
 
