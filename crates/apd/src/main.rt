@@ -2,6 +2,8 @@
 #![tactic(auto)]
 
 mod running;
+#[cfg(test)]
+mod running_tests;
 mod store_file;
 #[cfg(test)]
 mod store_file_tests;

@@ -1,5 +1,6 @@
 //! Control commands as datagrams.
-ghost use Rattle.std.specs.Prelude.{◌≡◌, IfOk, OnErr, MatchOption, IfSome};
+ghost use Rattle.std.specs.Prelude.{◌≡◌, None, IfOk, OnOk, OnErr, OnSome, MatchOption, IfSome, IsSome, IsSomeAnd};
+ghost use Rattle.apd_serve.specs.Commands.{waiting};
 ghost use Rattle.apd_serve.specs.Tags.{Adds, AreSame, Forgets};
 ghost use Rattle.std.specs.declared.net.socket_addr.SocketAddr.{SocketAddr};
 
@@ -17,6 +18,7 @@ pub struct ControlPort {
     senders: Senders,
     // A command that waits for the memory of its tag.
     received: Option<(SocketAddr, Vec<u8>)>,
+    ghost one: { OnSome received (datagrams ≡ None) },
 }
 
 impl ControlPort {
@@ -33,15 +35,18 @@ impl ControlPort {
 }
 
 impl Port for ControlPort {
-    /// A command that meets want of memory is told as `Device`, and stays: a later call gives it.
+    /// A command that was received and meets want of memory is told as `Device`, and stays: a later call gives it.
     fn poll(&mut self) -> Result<Option<(u64, Vec<u8>)>, PortFault>
         ensures command { IfOk result
-            (λ got. MatchOption got (AreSame self.old.senders self.new.senders) (λ command. (sender : SocketAddr)
-            × Adds self.old.senders command.0 sender self.new.senders)) }
-        ensures own { IfSome self.old.received
+            (λ got. MatchOption got (AreSame self.old.senders self.new.senders)
+            (λ command. (sender : SocketAddr) × Adds self.old.senders command.0 sender self.new.senders)) }
+        ensures own { IfSome (waiting self.old)
             (λ waited. IfOk result
-            (λ got. IfSome got (λ command. Adds self.old.senders command.0 waited.0 self.new.senders
-            × (command.1 ≡ waited.1)))) }
+            (λ got. IsSomeAnd got
+            (λ command. Adds self.old.senders command.0 waited.0 self.new.senders
+            × (command.1.items ≡ waited.1)))) }
+        ensures given { OnOk result (waiting self.new ≡ None) }
+        ensures stays { IsSome (waiting self.old) → OnErr result (waiting self.new ≡ waiting self.old) }
         ensures err { OnErr result (AreSame self.old.senders self.new.senders) }
     {
         if self.received.is_none() {
@@ -59,7 +64,8 @@ impl Port for ControlPort {
     /// The reply goes to the sender of the command of this tag, which is then forgotten. To a tag of no command that
     /// waits nothing is sent.
     fn reply(&mut self, tag: u64, text: &[u8]) -> Result<(), PortFault>
-        ensures { Forgets self.old.senders tag self.new.senders }
+        ensures forgotten { Forgets self.old.senders tag self.new.senders }
+        ensures waits { waiting self.new ≡ waiting self.old }
     {
         let Some(sender) = self.senders.take(tag) else {
             return Ok(());

@@ -177,8 +177,8 @@ fn run_with<W: Wait + Threads + time::Clock + AllocGlobal + Sync, R: Radio + Sen
 /// input ends, and answers how many requests became entries.
 ///
 /// Errors, looked for in this order: the store's file can't be opened, or the store is refused; a recording can't
-/// be made; a port can't be had; `Serve`, or what a second look at the store tells. Nothing is sent, and the store is
-/// as it was, before all of these stand. `NoMemory` comes at any place.
+/// be made; a port can't be had; what a second look at the store tells; `Serve`. Before `Serve` nothing is sent, and the
+/// store is as it was; with it the start may have been committed and handed out. `NoMemory` comes at any place.
 pub fn run<
     W: Files<File = File> + Net + Wait + Threads + time::Clock + AllocGlobal + Sync,
     B: Read + Drop,

@@ -59,27 +59,30 @@ fn keep<L: Ledger>(seats: &mut Vec<Seat<L>>, seat: Option<Seat<L>>) -> Result<()
 }
 
 // Lets each worker go, in order, and keeps its seat.
-fn dismiss<L: Ledger, W: Wait, D: Disk + Drop, R: Radio, P: Port + Drop>(
+fn dismiss<L: Ledger, W: Wait + time::Clock, D: Disk + Drop, R: Radio, P: Port + Drop, G: Gate>(
     rt: &W,
     shared: &Shared<L>,
     workers: Vec<Worker<L, D, R, P>>,
+    gate: &G,
     seats: &mut Vec<Seat<L>>,
 ) -> Result<(), AllocError>
     ensures { OnOk result (counted seats.new.items ≡ counted seats.old.items + entries_of_all workers.items) }
 {
     for worker in workers {
-        keep(seats, worker.leave(rt, shared))?;
+        keep(seats, worker.leave(rt, shared, gate))?;
     }
     Ok(())
 }
 
-// How many entries the workers accepted. Each hands out once more what was settled, and is let go.
+// How many entries the workers accepted. The first of them commits what no commit had yet; each of the others hands out
+// once more what was settled.
 //
 // Errors: `Thread` where a seat is missing; `NoMemory`, which can't come where the seats have room for all.
-fn closed<L: Ledger, W: Wait, D: Disk + Drop, R: Radio, P: Port + Drop>(
+fn closed<L: Ledger, W: Wait + time::Clock, D: Disk + Drop, R: Radio, P: Port + Drop, G: Gate>(
     rt: &W,
     shared: Shared<L>,
     workers: Vec<Worker<L, D, R, P>>,
+    gate: &G,
     seats: Vec<Seat<L>>,
 ) -> Result<u64, ServeFault>
     requires parts { L.parts ≡ SEATS }
@@ -87,7 +90,7 @@ fn closed<L: Ledger, W: Wait, D: Disk + Drop, R: Radio, P: Port + Drop>(
     ensures { IfOk result (λ entries. entries ≡ entries_of_all workers.items) }
 {
     let mut seats = seats;
-    dismiss(rt, &shared, workers, &mut seats)?;
+    dismiss(rt, &shared, workers, gate, &mut seats)?;
     match shared.close(seats) {
         Ok((_core, entries)) => Ok(entries),
         Err(_missing) => Err(ServeFault::Thread),
@@ -133,19 +136,20 @@ fn served<
     };
     let workers = work_until_end(rt, alloc, &desk, workers, reader)?;
     drop(desk);
-    closed(rt, shared, workers, seats)
+    closed(rt, shared, workers, gate, seats)
 }
 
 /// Serves an access point until the input ends or fails: configures each interface, which is committed and handed
 /// out first, and then receives frames, carries out the commands of the control port, lets silent stations go,
 /// commits, and hands out what is settled, each in a thread of its own, a thread for each radio. What is read of the
-/// input is dropped. At its end the threads are stopped, what was accepted is committed, and what was settled is
-/// handed out once more. It answers how many requests became entries: the sum of what the threads' seats counted,
-/// which the start isn't part of.
+/// input is dropped. At its end the threads are stopped; once all have ended, what they accepted is committed, and
+/// what was settled is handed out once more. It answers how many requests became entries: the sum of what the
+/// threads' seats counted, which the start isn't part of.
 ///
 /// Errors: `Store` where the store refuses the start; `Thread` where a thread can't be made, with those that run
-/// stopped first, or was lost; `NoMemory`. A fault of the device that comes later is none: what it leaves
-/// undone is refused, until a restart.
+/// stopped first, or was lost; `NoMemory`. The start may have been committed and handed out before any of them. A fault
+/// of the device that comes later is none: what it leaves undone is never told, and what comes after is refused, until
+/// a restart.
 pub fn serve<
     W: Wait + Threads + time::Clock + Sync,
     D: Disk + Drop + Send,

@@ -119,12 +119,21 @@ fn reply_settled<L: Ledger, W: Wait, P: Port>(
 }
 
 impl<L: Ledger, D: Disk + Drop, R: Radio, P: Port + Drop> Worker<L, D, R, P> {
-    /// Hands out once more what was settled, lets go what it owned, and gives its seat, if it had one.
-    pub(crate) fn leave<W: Wait>(self, rt: &W, shared: &Shared<L>) -> Option<Seat<L>>
+    /// Does once more what it is for: commits what was accepted since it looked last, or hands out what was settled.
+    /// Then it lets go what it owned, and gives its seat, if it had one.
+    pub(crate) fn leave<W: Wait + time::Clock, G: Gate>(
+        self,
+        rt: &W,
+        shared: &Shared<L>,
+        gate: &G,
+    ) -> Option<Seat<L>>
         ensures { entries_of_seat result ≡ entries_of self }
     {
         match self {
-            Worker::Flushing(_) => None,
+            Worker::Flushing(flusher) => {
+                let _flusher = flush_worker(rt, shared, flusher, gate);
+                None
+            }
             Worker::Radio(seat, slot) => {
                 let (mut seat, mut slot) = (seat, slot);
                 apply_settled(rt, shared, &mut seat, &mut slot);

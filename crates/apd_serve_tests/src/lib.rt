@@ -3,12 +3,14 @@
 #![tactic(auto)]
 
 #[cfg(test)]
-mod closing_tests;
+mod clock_tests;
 #[cfg(test)]
-mod held;
+mod closing_tests;
 #[cfg(test)]
 mod running_tests;
 #[cfg(test)]
 mod serving_tests;
+#[cfg(test)]
+mod stage;
 #[cfg(test)]
 mod talk;

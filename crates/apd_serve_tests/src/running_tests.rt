@@ -1,17 +1,19 @@
+use crate::stage::Stage;
 use crate::talk::{
-    ASSOCIATED, ASSOCIATION, AUTHENTICATED, AUTHENTICATION, CONTROL, Datagram, Line, RADIO, Talk,
-    free_ports, sender,
+    ASSOCIATED, ASSOCIATION, AUTHENTICATED, AUTHENTICATION, CONTROL, Datagram, Line, RADIO,
+    SECOND_AUTHENTICATED, SECOND_AUTHENTICATION, SECOND_RADIO, Talk, free_ports,
 };
-use apd_conf::{Conf, Confs};
+use apd_base::{Addr, Bssid};
+use apd_conf::{Conf, Confs, InterfaceName};
 use apd_disk::FileDisk;
 use apd_serve::{RunFault, Site, run};
 use apd_store::{format, recover};
+use std::alloc::Global;
 use std::fs::{self, File};
 use std::io;
 use std::net::{Ipv4Addr, Net, UdpSocket};
 use std::rt::Files;
 use std::sync::Wait;
-use std::sync::atomic::AtomicBool;
 use std::test::Fail;
 use std::thread::Threads;
 use std::time::Clock;
@@ -23,10 +25,29 @@ const STATION: &str =
 /// What the radio does in the second run, and at its end.
 const RECORDING: &str = "down\ndown\ninstall 02:00:00:00:00:aa 1\ndown\n";
 
-/// The built-in configuration alone.
-fn confs(rt: &impl AllocGlobal) -> Result<Confs, Fail> {
+/// What the first of two radios does, which receives a frame that is for the second, and at its end.
+const FIRST_RECORDING: &str =
+    "down\ndown\nrx b00000000200000000020200000000aa0200000000021000000001000000\ndown\n";
+
+/// What the second of two radios does, with one station, and at its end.
+const SECOND_RECORDING: &str =
+    "down\ndown\nrx b00000000200000000020200000000aa0200000000021000000001000000\ntx b00000000200000000aa0200000000020200000000020000000002000000\ndown\n";
+
+/// A second configuration.
+fn second(alloc: Global) -> Result<Conf, Fail> {
+    let mut conf = Conf::built_in(alloc)?;
+    conf.interface = InterfaceName::new("wlan1", alloc)?;
+    conf.bssid = Bssid(Addr([2, 0, 0, 0, 0, 2]));
+    Ok(conf)
+}
+
+/// The built-in configuration, and the second one where there are to be more radios than one.
+fn confs(rt: &impl AllocGlobal, radios: u16) -> Result<Confs, Fail> {
     let mut list = Vec::new(rt.alloc());
     list.push(Conf::built_in(rt.alloc())?)?;
+    if radios > 1 {
+        list.push(second(rt.alloc())?)?;
+    }
     match Confs::new(list) {
         Ok(confs) => Ok(confs),
         Err(_) => Err(Fail::new("no configurations")),
@@ -43,22 +64,23 @@ fn new_store(rt: &(impl Files<File = File> + AllocGlobal), name: &str) -> Result
     }
 }
 
-/// What `run` answers of a talk, as text, and how many of its lines were said.
+/// What `run` with so many radios answers of a talk, as text, and how many of its lines were said.
 fn ran<R: Files<File = File> + Net + Wait + Threads + Clock + AllocGlobal + Sync>(
     rt: &R,
     store: &str,
+    radios: u16,
     recordings: Option<&str>,
     lines: &[Line],
 ) -> Result<(String, usize), Fail> {
-    let held = AtomicBool::new(false);
-    let port = free_ports(rt, 1)?;
-    let mut talk = Talk::new(rt, rt.alloc(), port, lines, &held)?;
+    let stage = Stage::new(false);
+    let port = free_ports(rt, radios)?;
+    let mut talk = Talk::new(rt, rt.alloc(), port, lines, &stage)?;
     let site = Site {
         store,
         port,
         recordings,
     };
-    let answer = run(rt, confs(rt)?, &site, &mut talk);
+    let answer = run(rt, confs(rt, radios)?, &site, &mut talk);
     Ok((told(rt, answer)?, talk.said()))
 }
 
@@ -80,17 +102,39 @@ fn a_second_run_goes_on_where_the_first_ended(rt: HostRuntime) -> Result<(), Fai
         Line::Sends(0, RADIO, Datagram::Hex(ASSOCIATION)),
         Line::Gets(0, RADIO, Datagram::Hex(ASSOCIATED)),
     ];
-    let (answer, said) = ran(&rt, name, None, &first)?;
+    let (answer, said) = ran(&rt, name, 1, None, &first)?;
     assert_eq!(rt; (answer.as_str(), said), ("2", 4));
     let second = [
         Line::Sends(0, CONTROL, Datagram::Text("STA 02:00:00:00:00:aa")),
         Line::Gets(0, CONTROL, Datagram::Text(STATION)),
     ];
-    let (answer, said) = ran(&rt, name, Some("second_run"), &second)?;
+    let (answer, said) = ran(&rt, name, 1, Some("second_run"), &second)?;
     assert_eq!(rt; (answer.as_str(), said), ("0", 2));
     let recording = fs::read(&rt, "second_run.0")?;
     assert_eq!(rt; recording.as_slice(), RECORDING.as_bytes());
     fs::remove_file(&rt, "second_run.0")?;
+    fs::remove_file(&rt, name)?;
+    Ok(())
+}
+
+#[test]
+fn each_radio_has_its_port_and_its_recording(rt: HostRuntime) -> Result<(), Fail> {
+    let name = "two_radios_store";
+    new_store(&rt, name)?;
+    let lines = [
+        Line::Sends(1, SECOND_RADIO, Datagram::Hex(SECOND_AUTHENTICATION)),
+        Line::Gets(1, SECOND_RADIO, Datagram::Hex(SECOND_AUTHENTICATED)),
+        Line::Sends(0, RADIO, Datagram::Hex(SECOND_AUTHENTICATION)),
+        Line::GetsNothing(0),
+    ];
+    let (answer, said) = ran(&rt, name, 2, Some("two_radios"), &lines)?;
+    assert_eq!(rt; (answer.as_str(), said), ("1", 4));
+    let first = fs::read(&rt, "two_radios.0")?;
+    assert_eq!(rt; first.as_slice(), FIRST_RECORDING.as_bytes());
+    let second = fs::read(&rt, "two_radios.1")?;
+    assert_eq!(rt; second.as_slice(), SECOND_RECORDING.as_bytes());
+    fs::remove_file(&rt, "two_radios.0")?;
+    fs::remove_file(&rt, "two_radios.1")?;
     fs::remove_file(&rt, name)?;
     Ok(())
 }
@@ -111,30 +155,26 @@ fn bss_of(rt: &(impl Files<File = File> + AllocGlobal), name: &str) -> Result<us
 fn the_start_is_committed_and_not_counted(rt: HostRuntime) -> Result<(), Fail> {
     let name = "started_store";
     new_store(&rt, name)?;
-    let (answer, _) = ran(&rt, name, None, &[])?;
+    let (answer, _) = ran(&rt, name, 1, None, &[])?;
     assert_eq!(rt; answer.as_str(), "0");
     assert_eq!(rt; bss_of(&rt, name)?, 1);
     fs::remove_file(&rt, name)?;
     Ok(())
 }
 
-/// Why `run` of a store refuses, where this socket's port is the one of commands, or none is taken.
+/// Why `run` of a store at this port refuses.
 fn refusal<R: Files<File = File> + Net + Wait + Threads + Clock + AllocGlobal + Sync>(
     rt: &R,
     store: &str,
     recordings: Option<&str>,
-    taken: Option<&UdpSocket>,
+    port: u16,
 ) -> Result<String, Fail> {
-    let port = match taken {
-        Some(socket) => socket.local_addr()?.port(),
-        None => free_ports(rt, 1)?,
-    };
     let site = Site {
         store,
         port,
         recordings,
     };
-    let answer = run(rt, confs(rt)?, &site, io::empty());
+    let answer = run(rt, confs(rt, 1)?, &site, io::empty());
     told(rt, answer)
 }
 
@@ -143,10 +183,13 @@ fn a_refusal_leaves_the_store_as_it_was(rt: HostRuntime) -> Result<(), Fail> {
     let name = "refused_store";
     new_store(&rt, name)?;
     let before = fs::read(&rt, name)?;
-    let taken = sender(&rt)?;
-    let told = refusal(&rt, name, None, Some(&taken))?;
-    assert_eq!(rt; told.as_str(), "no socket");
-    let told = refusal(&rt, name, Some("no_folder_of_a_test/r"), Some(&taken))?;
+    let port = free_ports(&rt, 1)?;
+    for taken in [port, port.wrapping_add(RADIO)] {
+        let _socket = UdpSocket::bind(&rt, (Ipv4Addr::LOCALHOST, taken))?;
+        let told = refusal(&rt, name, None, port)?;
+        assert_eq!(rt; told.as_str(), "no socket");
+    }
+    let told = refusal(&rt, name, Some("no_folder_of_a_test/r"), port)?;
     assert_eq!(rt; told.as_str(), "cannot read no_folder_of_a_test/r.0");
     let after = fs::read(&rt, name)?;
     assert!(rt; before == after);
@@ -158,11 +201,16 @@ fn a_refusal_leaves_the_store_as_it_was(rt: HostRuntime) -> Result<(), Fail> {
 fn a_file_that_is_no_store_is_left_as_it_was(rt: HostRuntime) -> Result<(), Fail> {
     let name = "short_store";
     fs::write(&rt, name, b"RAPSTOR1")?;
-    let told = refusal(&rt, name, Some("no_folder_of_a_test/r"), None)?;
+    let told = refusal(
+        &rt,
+        name,
+        Some("no_folder_of_a_test/r"),
+        free_ports(&rt, 1)?,
+    )?;
     assert_eq!(rt; told.as_str(), "not a store");
     assert_eq!(rt; fs::read(&rt, name)?.as_slice(), b"RAPSTOR1".as_slice());
     fs::remove_file(&rt, name)?;
-    let told = refusal(&rt, name, None, None)?;
+    let told = refusal(&rt, name, None, free_ports(&rt, 1)?)?;
     assert_eq!(rt; told.as_str(), "cannot read short_store");
     Ok(())
 }

@@ -1,12 +1,12 @@
-use crate::held::Held;
+use crate::stage::{HeldGate, Stage, StageClock};
 use crate::talk::{
-    ASSOCIATED, ASSOCIATION, AUTHENTICATED, AUTHENTICATION, CONTROL, Datagram, Line, RADIO, Talk,
-    free_ports,
+    ASSOCIATED, ASSOCIATION, AUTHENTICATED, AUTHENTICATION, CONTROL, DISASSOCIATED, Datagram, Line,
+    RADIO, Talk, free_ports,
 };
 use apd_base::Moment;
-use apd_conf::{Conf, Confs};
-use apd_desk::{Gate, NoGate};
-use apd_disk::MemDisk;
+use apd_conf::{AddressList, Conf, Confs, read_list};
+use apd_desk::{Clock, Gate, NoGate};
+use apd_disk::{MemDisk, OnceDisk};
 use apd_radio::UdpSim;
 use apd_serve::{ControlPort, ServeFault, SystemClock, serve};
 use apd_slot::Slot;
@@ -15,23 +15,53 @@ use apd_world::{World, restart};
 use std::alloc::Global;
 use std::net::Net;
 use std::sync::Wait;
-use std::sync::atomic::AtomicBool;
 use std::test::Fail;
 use std::thread::Threads;
-use std::time::Clock;
+use std::time;
 
 const LENGTH: usize = 2_097_216;
 
 const STATUS: &str =
     "state=ENABLED\nchannel=6\nbeacon_int=100\nbss[0]=wlan0\nbssid[0]=02:00:00:00:00:01\nssid[0]=net\nnum_sta[0]=1\n";
 
-/// The world of the built-in configuration over an empty store in memory and a radio on this port.
-fn world(rt: &impl Net, alloc: Global, port: u16) -> Result<World<MemDisk, UdpSim>, Fail> {
-    let disk = MemDisk::new(alloc, vec![in alloc; 0u8; LENGTH]?)?;
-    let Ok(store) = format(alloc, disk) else {
-        return Err(Fail::new("no store"));
+/// The list file of the one station that is denied from the start, and the list with another one.
+const DENIED: &str = "02:00:00:00:00:ac\n";
+
+const BOTH_DENIED: &str = "02:00:00:00:00:ab VLAN_ID=0\n02:00:00:00:00:ac VLAN_ID=0\n";
+
+/// A device call that doesn't come.
+const NEVER: u64 = u64::MAX;
+
+/// How many calls come before the first of the first request's commit: a recovery has two, and the commit of the start four.
+const STARTED: u64 = 6;
+
+/// The built-in configuration, with a station that is denied.
+fn conf(alloc: Global) -> Result<Conf, Fail> {
+    let Ok(denied) = read_list(alloc, DENIED.as_bytes()) else {
+        return Err(Fail::new("no list"));
     };
-    let conf = Conf::built_in(alloc)?;
+    let mut conf = Conf::built_in(alloc)?;
+    conf.set_lists(AddressList::new(alloc), denied);
+    Ok(conf)
+}
+
+/// A new store in memory, whose device fails the call after so many.
+fn disk(alloc: Global, calls: u64) -> Result<OnceDisk<MemDisk>, Fail> {
+    let disk = MemDisk::new(alloc, vec![in alloc; 0u8; LENGTH]?)?;
+    match format(alloc, disk) {
+        Ok(store) => Ok(OnceDisk::new(store.into_device(), calls)),
+        Err(_) => Err(Fail::new("no store")),
+    }
+}
+
+/// The world of the one configuration over this disk, with a radio on this port.
+fn world(
+    rt: &impl Net,
+    alloc: Global,
+    disk: OnceDisk<MemDisk>,
+    port: u16,
+) -> Result<World<OnceDisk<MemDisk>, UdpSim>, Fail> {
+    let conf = conf(alloc)?;
     let mut slots = Vec::new(alloc);
     slots.push(Slot::new(alloc, UdpSim::new(rt, alloc, port)?, conf.bssid))?;
     let mut list = Vec::new(alloc);
@@ -39,43 +69,53 @@ fn world(rt: &impl Net, alloc: Global, port: u16) -> Result<World<MemDisk, UdpSi
     let Ok(confs) = Confs::new(list) else {
         return Err(Fail::new("no configurations"));
     };
-    match restart(alloc, store.into_device(), confs, slots, Moment(0)) {
+    match restart(alloc, disk, confs, slots, Moment(0)) {
         Ok(world) => Ok(world),
         Err(_) => Err(Fail::new("not recovered")),
     }
 }
 
-/// What `serve` answers of this talk, and how many of its lines were said.
-fn served<R: Net + Wait + Threads + Clock + Sync, G: Gate + Sync>(
+/// What is said while it serves and when it has ended. Its device fails the call after so many.
+#[derive(Clone, Copy)]
+struct Scene<'a> {
+    lines: &'a [Line],
+    after: &'a [Line],
+    calls: u64,
+}
+
+/// What `serve` answers in a scene, and how many of its lines were said.
+fn served<R: Net + Wait + Threads + time::Clock + Sync, C: Clock + Drop + Sync, G: Gate + Sync>(
     rt: &R,
     alloc: Global,
-    lines: &[Line],
+    scene: Scene<'_>,
+    stage: &Stage,
+    clock: C,
     gate: &G,
-    held: &AtomicBool,
 ) -> Result<(Result<u64, ServeFault>, usize), Fail> {
     let port = free_ports(rt, 1)?;
-    let mut talk = Talk::new(rt, alloc, port, lines, held)?;
+    let mut talk = Talk::new(rt, alloc, port, scene.lines, stage)?;
     let control = ControlPort::open(rt, alloc, port)?;
-    let world = world(rt, alloc, port.wrapping_add(RADIO))?;
-    let answer = serve(
-        rt,
-        alloc,
-        world,
-        control,
-        SystemClock::new(rt),
-        gate,
-        &mut talk,
-    );
+    let disk = disk(alloc, scene.calls)?;
+    let world = world(rt, alloc, disk, port.wrapping_add(RADIO))?;
+    let answer = serve(rt, alloc, world, control, clock, gate, &mut talk);
+    talk.say(scene.after);
     Ok((answer, talk.said()))
 }
 
-/// The same, with nothing held.
-fn talked<R: Net + Wait + Threads + Clock + Sync>(
+/// The same, where only lines are said, the device fails the call after so many, and nothing is held.
+fn talked<R: Net + Wait + Threads + time::Clock + Sync>(
     rt: &R,
     alloc: Global,
     lines: &[Line],
+    calls: u64,
 ) -> Result<(Result<u64, ServeFault>, usize), Fail> {
-    served(rt, alloc, lines, &NoGate, &AtomicBool::new(false))
+    let scene = Scene {
+        lines,
+        after: &[],
+        calls,
+    };
+    let stage = Stage::new(false);
+    served(rt, alloc, scene, &stage, SystemClock::new(rt), &NoGate)
 }
 
 #[test]
@@ -86,7 +126,7 @@ fn serve_loopback(rt: HostRuntime) -> Result<(), Fail> {
         Line::Sends(0, RADIO, Datagram::Hex(AUTHENTICATION)),
         Line::Gets(0, RADIO, Datagram::Hex(AUTHENTICATED)),
     ];
-    assert_eq!(rt; talked(&rt, rt.alloc(), &lines)?, (Ok(1), 4));
+    assert_eq!(rt; talked(&rt, rt.alloc(), &lines, NEVER)?, (Ok(1), 4));
     Ok(())
 }
 
@@ -100,7 +140,7 @@ fn a_station_associates_and_is_counted(rt: HostRuntime) -> Result<(), Fail> {
         Line::Sends(1, CONTROL, Datagram::Text("STATUS")),
         Line::Gets(1, CONTROL, Datagram::Text(STATUS)),
     ];
-    assert_eq!(rt; talked(&rt, rt.alloc(), &lines)?, (Ok(2), 6));
+    assert_eq!(rt; talked(&rt, rt.alloc(), &lines, NEVER)?, (Ok(2), 6));
     Ok(())
 }
 
@@ -122,11 +162,11 @@ fn each_sender_gets_its_own_replies(rt: HostRuntime) -> Result<(), Fail> {
         ),
         Line::Gets(1, CONTROL, Datagram::Text("OK\n")),
         Line::Sends(0, CONTROL, Datagram::Text("DENY_ACL SHOW")),
-        Line::Gets(0, CONTROL, Datagram::Text("02:00:00:00:00:ab VLAN_ID=0\n")),
+        Line::Gets(0, CONTROL, Datagram::Text(BOTH_DENIED)),
         Line::Sends(0, CONTROL, Datagram::Text("STA-FIRST")),
         Line::Gets(0, CONTROL, Datagram::Text("")),
     ];
-    assert_eq!(rt; talked(&rt, rt.alloc(), &lines)?, (Ok(2), 10));
+    assert_eq!(rt; talked(&rt, rt.alloc(), &lines, NEVER)?, (Ok(2), 10));
     Ok(())
 }
 
@@ -142,12 +182,12 @@ fn datagrams_of_any_length(rt: HostRuntime) -> Result<(), Fail> {
         Line::Gets(0, RADIO, Datagram::Hex(AUTHENTICATED)),
         Line::GetsNothing(0),
     ];
-    assert_eq!(rt; talked(&rt, rt.alloc(), &lines)?, (Ok(1), 8));
+    assert_eq!(rt; talked(&rt, rt.alloc(), &lines, NEVER)?, (Ok(1), 8));
     Ok(())
 }
 
 #[test]
-fn an_answer_waits_for_its_commit(rt: HostRuntime) -> Result<(), Fail> {
+fn an_answer_waits_for_its_commit_and_the_start_for_nothing(rt: HostRuntime) -> Result<(), Fail> {
     let lines = [
         Line::Sends(0, RADIO, Datagram::Hex(AUTHENTICATION)),
         Line::Sends(
@@ -159,16 +199,99 @@ fn an_answer_waits_for_its_commit(rt: HostRuntime) -> Result<(), Fail> {
         Line::GetsNothing(1),
         Line::Sends(0, CONTROL, Datagram::Text("STA-FIRST")),
         Line::Gets(0, CONTROL, Datagram::Text("")),
+        Line::Sends(0, CONTROL, Datagram::Text("DENY_ACL SHOW")),
+        Line::Gets(0, CONTROL, Datagram::Text("02:00:00:00:00:ac VLAN_ID=0\n")),
         Line::LetsGo,
         Line::Gets(0, RADIO, Datagram::Hex(AUTHENTICATED)),
         Line::Gets(1, CONTROL, Datagram::Text("OK\n")),
     ];
-    let held = AtomicBool::new(true);
-    let gate = Held {
+    let stage = Stage::new(true);
+    let gate = HeldGate {
         rt: &rt,
-        held: &held,
+        stage: &stage,
     };
-    assert_eq!(rt; served(&rt, rt.alloc(), &lines, &gate, &held)?, (Ok(2), 9));
+    let scene = Scene {
+        lines: &lines,
+        after: &[],
+        calls: NEVER,
+    };
+    let told = served(&rt, rt.alloc(), scene, &stage, SystemClock::new(&rt), &gate)?;
+    assert_eq!(rt; told, (Ok(2), 11));
+    Ok(())
+}
+
+/// What is told in a scene by the stage's clock.
+fn staged<R: Net + Wait + Threads + time::Clock + Sync>(
+    rt: &R,
+    alloc: Global,
+    scene: Scene<'_>,
+    held: bool,
+) -> Result<(Result<u64, ServeFault>, usize), Fail> {
+    let stage = Stage::new(held);
+    let clock = StageClock { rt, stage: &stage };
+    served(rt, alloc, scene, &stage, clock, &NoGate)
+}
+
+#[test]
+fn what_is_accepted_at_the_end_is_committed_and_answered(rt: HostRuntime) -> Result<(), Fail> {
+    // Each of three workers asks the clock, and gets its moment when the one that commits has ended.
+    let scene = Scene {
+        lines: &[
+            Line::Sends(0, RADIO, Datagram::Hex(AUTHENTICATION)),
+            Line::Sends(
+                1,
+                CONTROL,
+                Datagram::Text("DENY_ACL ADD_MAC 02:00:00:00:00:ab"),
+            ),
+            Line::Asked(3),
+        ],
+        after: &[
+            Line::Gets(0, RADIO, Datagram::Hex(AUTHENTICATED)),
+            Line::Gets(1, CONTROL, Datagram::Text("OK\n")),
+        ],
+        calls: NEVER,
+    };
+    assert_eq!(rt; staged(&rt, rt.alloc(), scene, true)?, (Ok(2), 5));
+    Ok(())
+}
+
+#[test]
+fn a_silent_station_goes(rt: HostRuntime) -> Result<(), Fail> {
+    // Two moments are those of the frames; with the fourth the worker of ticks has its first one.
+    let scene = Scene {
+        lines: &[
+            Line::Sends(0, RADIO, Datagram::Hex(AUTHENTICATION)),
+            Line::Gets(0, RADIO, Datagram::Hex(AUTHENTICATED)),
+            Line::Sends(0, RADIO, Datagram::Hex(ASSOCIATION)),
+            Line::Gets(0, RADIO, Datagram::Hex(ASSOCIATED)),
+            Line::Asked(4),
+            Line::Jumps(400_000),
+            Line::Gets(0, RADIO, Datagram::Hex(DISASSOCIATED)),
+        ],
+        after: &[],
+        calls: NEVER,
+    };
+    assert_eq!(rt; staged(&rt, rt.alloc(), scene, false)?, (Ok(3), 7));
+    Ok(())
+}
+
+#[test]
+fn after_a_device_fault_nothing_is_told_but_what_was_settled(rt: HostRuntime) -> Result<(), Fail> {
+    let lines = [
+        Line::Sends(0, RADIO, Datagram::Hex(AUTHENTICATION)),
+        Line::GetsNothing(0),
+        Line::Sends(
+            1,
+            CONTROL,
+            Datagram::Text("DENY_ACL ADD_MAC 02:00:00:00:00:ab"),
+        ),
+        Line::Gets(1, CONTROL, Datagram::Text("FAIL\n")),
+        Line::Sends(0, RADIO, Datagram::Hex(AUTHENTICATION)),
+        Line::GetsNothing(0),
+        Line::Sends(1, CONTROL, Datagram::Text("STA-FIRST")),
+        Line::Gets(1, CONTROL, Datagram::Text("")),
+    ];
+    assert_eq!(rt; talked(&rt, rt.alloc(), &lines, STARTED)?, (Ok(1), 8));
     Ok(())
 }
 

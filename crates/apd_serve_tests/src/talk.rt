@@ -1,16 +1,18 @@
 //! The other end of the ports: someone who speaks while an access point serves.
+use crate::stage::Stage;
 use std::alloc::Global;
 use std::io::{self, ErrorKind, Read};
 use std::net::{Ipv4Addr, Net, UdpSocket};
-use std::sync::atomic::AtomicBool;
-use std::sync::atomic::Ordering::SeqCst;
 use std::test::Fail;
+use std::thread::yield_now;
 use std::time::Duration;
 
 /// The port of commands is 0 above the first, and that of the radio at place i is i + 1 above it.
 pub(crate) const CONTROL: u16 = 0;
 
 pub(crate) const RADIO: u16 = 1;
+
+pub(crate) const SECOND_RADIO: u16 = 2;
 
 /// A station asks to be authenticated, and is; asks to be associated, and is, under the identifier 1.
 pub(crate) const AUTHENTICATION: &str =
@@ -25,10 +27,23 @@ pub(crate) const ASSOCIATION: &str =
 pub(crate) const ASSOCIATED: &str =
     "100000000200000000aa02000000000102000000000100000100000001c0010482848b96";
 
+/// It is silent for too long, and is disassociated for that reason.
+pub(crate) const DISASSOCIATED: &str = "a00000000200000000aa02000000000102000000000100000400";
+
+/// A station asks the second radio to be authenticated, and is.
+pub(crate) const SECOND_AUTHENTICATION: &str =
+    "b00000000200000000020200000000aa0200000000021000000001000000";
+
+pub(crate) const SECOND_AUTHENTICATED: &str =
+    "b00000000200000000aa0200000000020200000000020000000002000000";
+
 /// How long an answer is waited for, in milliseconds, and how long none is.
 const PATIENCE: u64 = 20_000;
 
 const SILENCE: u64 = 200;
+
+/// How often the stage's clock is looked at, each time with a yield, until enough asked it.
+const LOOKS: u64 = 10_000_000;
 
 /// What a datagram holds.
 #[derive(Clone, Copy)]
@@ -61,6 +76,10 @@ pub(crate) enum Line {
     GetsNothing(usize),
     /// What is held is let go.
     LetsGo,
+    /// The clock jumps to this moment, in milliseconds.
+    Jumps(u64),
+    /// The clock was asked so often.
+    Asked(u64),
 }
 
 /// Two senders and what they say, to the ports from this one on. It is said where the input is read, which then ends.
@@ -70,7 +89,7 @@ pub(crate) struct Talk<'a> {
     senders: [UdpSocket; 2],
     port: u16,
     lines: &'a [Line],
-    held: &'a AtomicBool,
+    stage: &'a Stage,
     said: usize,
 }
 
@@ -103,14 +122,14 @@ impl<'a> Talk<'a> {
         alloc: Global,
         port: u16,
         lines: &'a [Line],
-        held: &'a AtomicBool,
+        stage: &'a Stage,
     ) -> Result<Talk<'a>, Fail> {
         Ok(Talk {
             alloc,
             senders: [sender(rt)?, sender(rt)?],
             port,
             lines,
-            held,
+            stage,
             said: 0,
         })
     }
@@ -151,8 +170,34 @@ impl<'a> Talk<'a> {
             },
             Line::GetsNothing(sender) => Ok(self.received(*sender, SILENCE)?.is_none()),
             Line::LetsGo => {
-                self.held.store(false, SeqCst);
+                self.stage.let_go();
                 Ok(true)
+            }
+            Line::Jumps(moment) => {
+                self.stage.jump(*moment);
+                Ok(true)
+            }
+            Line::Asked(count) => Ok(self.was_asked(*count)),
+        }
+    }
+
+    // Whether the clock was asked so often, now or soon.
+    fn was_asked(&self, count: u64) -> bool {
+        for _look in 0..LOOKS {
+            if self.stage.asked() >= count {
+                return true;
+            }
+            yield_now();
+        }
+        false
+    }
+
+    /// Says these lines, up to the first that isn't said as it is written.
+    pub(crate) fn say(&mut self, lines: &[Line]) {
+        for line in lines {
+            match self.says(line) {
+                Ok(true) => self.said = self.said.saturating_add(1),
+                _ => break,
             }
         }
     }
@@ -160,14 +205,9 @@ impl<'a> Talk<'a> {
 
 impl Read for Talk<'_> {
     fn read(&mut self, _buf: &mut [u8]) -> io::Result<usize> {
-        for line in self.lines {
-            match self.says(line) {
-                Ok(true) => self.said = self.said.saturating_add(1),
-                _ => break,
-            }
-        }
+        self.say(self.lines);
         // Nothing is held behind the end.
-        self.held.store(false, SeqCst);
+        self.stage.let_go();
         Ok(0)
     }
 }

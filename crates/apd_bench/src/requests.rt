@@ -1,0 +1,50 @@
+//! Requests to a world of one radio.
+use crate::fault::BenchFault;
+use crate::frames::StationFrame;
+use apd_base::{Addr, Bssid, Moment};
+use apd_core::Input;
+use apd_disk::Disk;
+use apd_mlme::Recipient;
+use apd_radio::Radio;
+use apd_world::{Commit, Reception, Step, Told, World};
+
+/// The BSSID of the one radio.
+pub const BSSID: Bssid = Bssid(Addr([2, 0, 0, 0, 0, 1]));
+
+/// Accepts a frame, which is to be an entry.
+pub fn accept<D: Disk, R: Radio>(
+    world: &mut World<D, R>,
+    frame: &StationFrame,
+) -> Result<(), BenchFault> {
+    match world.step(&Step::Accept(Input::Received(BSSID, frame.bytes()), Moment(0))) {
+        Told::Accepted(Reception::Entry(_)) => Ok(()),
+        Told::NoMemory => Err(BenchFault::NoMemory),
+        _ => Err(BenchFault::Refused),
+    }
+}
+
+/// Commits what was accepted, which is to be one batch.
+pub fn commit<D: Disk, R: Radio>(world: &mut World<D, R>) -> Result<(), BenchFault> {
+    match world.commit() {
+        Commit::Settled => Ok(()),
+        Commit::NoMemory => Err(BenchFault::NoMemory),
+        _ => Err(BenchFault::Refused),
+    }
+}
+
+/// Hands out what is settled for the radio, and has it applied.
+pub fn hand<D: Disk, R: Radio>(world: &mut World<D, R>) -> Result<(), BenchFault> {
+    let count = match world.step(&Step::Hand(Recipient::Radio(BSSID))) {
+        Told::Queued(count) => count,
+        Told::NoMemory => return Err(BenchFault::NoMemory),
+        _ => return Err(BenchFault::Refused),
+    };
+    for _ in 0..count {
+        match world.step(&Step::Apply(BSSID)) {
+            Told::Applied(_, Ok(())) => {}
+            Told::NoMemory => return Err(BenchFault::NoMemory),
+            _ => return Err(BenchFault::Refused),
+        }
+    }
+    Ok(())
+}
