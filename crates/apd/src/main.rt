@@ -205,11 +205,14 @@ fn run<
     Ok(None)
 }
 
-/// The exit status is 0 where all went well, 1 for a fault, 2 for a wrong command line or a call for
-/// help. The version goes to standard output, and help to standard error.
-fn main(rt: HostRuntime) -> io::Result<ExitCode> {
-    let done = match run(&rt) {
-        Ok(Some(error)) if error.kind() == ErrorKind::OutOfMemory => Err(ProgramFault::NoMemory),
+/// Prints what a run came to, and gives the exit status: 0 where all went well, 1 for a fault, 2 for a wrong command
+/// line or a call for help. The version goes to standard output, and help to standard error.
+fn told(
+    rt: &(impl Print + Eprint),
+    done: Result<Option<clap::Error>, ProgramFault>,
+) -> io::Result<ExitCode> {
+    let fault = match done {
+        Ok(Some(error)) if error.kind() == ErrorKind::OutOfMemory => ProgramFault::NoMemory,
         Ok(Some(error)) if error.kind() == ErrorKind::DisplayVersion => {
             rt.print(error)?;
             return Ok(ExitCode::SUCCESS);
@@ -218,14 +221,13 @@ fn main(rt: HostRuntime) -> io::Result<ExitCode> {
             rt.eprint(error)?;
             return Ok(ExitCode::from(2));
         }
-        Ok(None) => Ok(()),
-        Err(fault) => Err(fault),
+        Ok(None) => return Ok(ExitCode::SUCCESS),
+        Err(fault) => fault,
     };
-    match done {
-        Ok(()) => Ok(ExitCode::SUCCESS),
-        Err(fault) => {
-            eprintln!(rt; "apd: {fault}")?;
-            Ok(ExitCode::FAILURE)
-        }
-    }
+    eprintln!(rt; "apd: {fault}")?;
+    Ok(ExitCode::FAILURE)
+}
+
+fn main(rt: HostRuntime) -> io::Result<ExitCode> {
+    told(&rt, run(&rt))
 }

@@ -1,11 +1,15 @@
 use crate::running::run_and_log;
-use crate::{ProgramFault, command};
+use crate::{ProgramFault, command, told};
 use apd_disk::FileDisk;
 use apd_store::format;
 use log::Log;
-use std::alloc::Global;
+use std::alloc::{AllocError, Global};
+use std::cell::Cell;
+use std::fmt::Display;
 use std::fs::{self, File};
+use std::io;
 use std::net::{Ipv4Addr, Net, UdpSocket};
+use std::process::ExitCode;
 use std::rt::Files;
 use std::sync::Wait;
 use std::test::Fail;
@@ -14,48 +18,117 @@ use std::time::Clock;
 
 const CONF: &str = "interface=wlan0\nbssid=02:00:00:00:00:01\nssid=net\n";
 
-/// Command lines, and how the text begins that is said of each.
-const WRONG: [(&[&str], &str); 6] = [
+/// Command lines, the status that they end with, and how what is printed begins.
+const WORDS: [(&[&str], u8, &str); 7] = [
     (
         &["apd", "run", "--store", "s", "--port", "1023", "c"],
-        "error: invalid value '1023' for '--port <N>': 1023 is not in 1024..=65000\n",
+        2,
+        "2error: invalid value '1023' for '--port <N>': 1023 is not in 1024..=65000\n",
     ),
     (
         &["apd", "run", "--store", "s", "--port", "65001", "c"],
-        "error: invalid value '65001' for '--port <N>': 65001 is not in 1024..=65000\n",
+        2,
+        "2error: invalid value '65001' for '--port <N>': 65001 is not in 1024..=65000\n",
     ),
     (
         &["apd", "run", "--port", "1024", "c"],
-        "error: the following required arguments were not provided:\n  --store <STORE>\n",
+        2,
+        "2error: the following required arguments were not provided:\n  --store <STORE>\n",
     ),
     (
         &["apd", "run", "--store", "s", "c"],
-        "error: the following required arguments were not provided:\n  --port <N>\n",
+        2,
+        "2error: the following required arguments were not provided:\n  --port <N>\n",
     ),
     (
         &["apd", "run", "--store", "s", "--port", "65000"],
-        "error: the following required arguments were not provided:\n  <CONF>...\n",
+        2,
+        "2error: the following required arguments were not provided:\n  <CONF>...\n",
     ),
     (
         &["apd", "run", "--help"],
-        "Serves over a store and datagrams until standard input ends\n",
+        2,
+        "2Serves over a store and datagrams until standard input ends\n",
     ),
+    (&["apd", "--version"], 0, "1apd 0.1.0\n"),
 ];
 
-/// What is said of these words; nothing where they are taken.
-fn said(alloc: Global, words: &[&str]) -> Result<String, Fail> {
-    match command(alloc)?.try_get_matches_from(words) {
-        Ok(_) => Ok(String::new(alloc)),
-        Err(error) => Ok(format!(in alloc; "{error}")?),
+/// What is printed, and where: `1` in front of what goes to standard output, `2` in front of the rest.
+#[derive(Drop)]
+struct Page {
+    alloc: Global,
+    text: Cell<Option<String>>,
+}
+
+impl Page {
+    // Adds a text that was made.
+    fn add(&self, text: Result<String, AllocError>) -> io::Result<()> {
+        self.text.set(Some(text?));
+        Ok(())
     }
+}
+
+impl Print for Page {
+    fn print<D: Display + Drop>(&self, value: D) -> io::Result<()> {
+        self.add(format!(in self.alloc; "1{value}"))
+    }
+
+    fn println<D: Display + Drop>(&self, value: D) -> io::Result<()> {
+        self.add(format!(in self.alloc; "1{value}\n"))
+    }
+
+    fn write_all(&self, _bytes: &[u8]) -> io::Result<()> {
+        Err(io::ErrorKind::Unsupported.into())
+    }
+}
+
+impl Eprint for Page {
+    fn eprint<D: Display + Drop>(&self, value: D) -> io::Result<()> {
+        self.add(format!(in self.alloc; "2{value}"))
+    }
+
+    fn eprintln<D: Display + Drop>(&self, value: D) -> io::Result<()> {
+        self.add(format!(in self.alloc; "2{value}\n"))
+    }
+}
+
+/// What a run that came to this prints, and whether it ends with this status.
+fn page(
+    alloc: Global,
+    done: Result<Option<clap::Error>, ProgramFault>,
+    status: u8,
+) -> Result<(String, bool), Fail> {
+    let page = Page {
+        alloc,
+        text: Cell::new(None),
+    };
+    let ended = told(&page, done)?;
+    let text = page.text.take().unwrap_or(String::new(alloc));
+    Ok((text, ended == ExitCode::from(status)))
+}
+
+/// What is printed of these words, and whether they end with this status.
+fn page_of(alloc: Global, words: &[&str], status: u8) -> Result<(String, bool), Fail> {
+    let error = command(alloc)?.try_get_matches_from(words).err();
+    page(alloc, Ok(error), status)
 }
 
 #[test]
 fn wrong_words_are_told(rt: HostRuntime) -> Result<(), Fail> {
-    for (words, text) in WRONG {
-        let said = said(rt.alloc(), words)?;
-        assert!(rt; said.as_str().starts_with(text), "{said}");
+    for (words, status, text) in WORDS {
+        let (page, ended) = page_of(rt.alloc(), words, status)?;
+        assert!(rt; page.as_str().starts_with(text), "{page}");
+        assert!(rt; ended, "{page}");
     }
+    Ok(())
+}
+
+#[test]
+fn a_fault_is_told(rt: HostRuntime) -> Result<(), Fail> {
+    let (text, ended) = page(rt.alloc(), Err(ProgramFault::NoMemory), 1)?;
+    assert_eq!(rt; (text.as_str(), ended), ("2apd: out of memory\n", true));
+    let (text, ended) = page(rt.alloc(), Ok(None), 0)?;
+    assert_eq!(rt; (text.as_str(), ended), ("", true));
     Ok(())
 }
 

@@ -1,8 +1,5 @@
 //! Control commands as datagrams.
-ghost use Rattle.std.specs.Prelude.{◌≡◌, None, IfOk, OnOk, OnErr, OnSome, MatchOption, IfSome, IsSome, IsSomeAnd};
-ghost use Rattle.apd_serve.specs.Commands.{waiting};
-ghost use Rattle.apd_serve.specs.Tags.{Adds, AreSame, Forgets};
-ghost use Rattle.std.specs.declared.net.socket_addr.SocketAddr.{SocketAddr};
+ghost use Rattle.std.specs.Prelude.{◌≡◌, None, OnSome};
 
 use crate::senders::Senders;
 use apd_desk::{Port, PortFault};
@@ -35,6 +32,11 @@ impl ControlPort {
 }
 
 impl Port for ControlPort {
+    ghost use Rattle.std.specs.Prelude.{IfOk, OnOk, OnErr, MatchOption, IfSome, IsSome, IsSomeAnd};
+    ghost use Rattle.std.specs.declared.net.socket_addr.SocketAddr.{SocketAddr};
+    ghost use Rattle.apd_serve.specs.Commands.{waiting};
+    ghost use Rattle.apd_serve.specs.Tags.{Adds, AreSame, Forgets};
+
     /// A command that was received and meets want of memory is told as `Device`, and stays: a later call gives it.
     fn poll(&mut self) -> Result<Option<(u64, Vec<u8>)>, PortFault>
         ensures command { IfOk result
