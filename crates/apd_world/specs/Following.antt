@@ -25,4 +25,5 @@ abbrev pub AreFollowing : {D R : Type 0} → World D R → Type 0
 AreFollowing {D} {R} w =
     let core = (durable_of w).core in
     (b : Bssid) → IsSome (conf_at core.confs b) → (slot : Slot R) → slot_at (slots_of w) b ≡ Some slot
-    → (a : Addr) → driven (queue_of w b ++ held_for (Radio b) core) (maps.get (wanted_of slot)) a ≡ aid_at (front_of core) b a
+    → (a : Addr)
+    → driven (queue_of w b ++ held_for (Radio b) core) (maps.get (wanted_of slot)) a ≡ aid_at (front_of core) b a

@@ -20,14 +20,19 @@ use Rattle.apd_world.specs.declared.step.Told.{Told}
 use Rattle.apd_world.specs.declared.step.Told.TheVariants.{NoMemory}
 use Rattle.apd_world.specs.declared.world.World.{World}
 
-module _ {D R : Type 0} (honest : D → Type 0) (reads : D → List ℕ) (may_leave : D → List ℕ → Type 0) (moment : D → ℕ) (left_since : D → ℕ → List ℕ → Type 0) (size : D → ℕ) (stations : R → Stations) (faults : R → ℕ) where
+module _ {D R : Type 0} (honest : D → Type 0) (reads : D → List ℕ) (may_leave : D → List ℕ → Type 0) (moment : D → ℕ)
+    (left_since : D → ℕ → List ℕ → Type 0) (size : D → ℕ) (stations : R → Stations) (faults : R → ℕ) where
   -- These steps were made, and told so. They keep what a step keeps, and a stop at any moment since they began leaves an image of the
   -- table after a front of what was not settled then and of what happened.
   pub record AreSafelyMade (steps : List Step) (tolds : List Told) (old new : World D R) : Type 0 where
     pub run : IsWorldRun stations faults steps tolds old new
-    pub proper : IsProper honest reads may_leave size (durable_of old) → IsProper honest reads may_leave size (durable_of new)
-    pub any_moment : IsProper honest reads may_leave size (durable_of old) → (hs : List Happening) → AreUnsettled hs (durable_of old).core
-        → LeavesOnly moment left_since (device_of (durable_of old)) (device_of (durable_of new)) (ShowsFront (durable_of old).core.settled (durable_of old).core.confs (hs ++ all_entered steps tolds (durable_of old).core))
+    pub proper : IsProper honest reads may_leave size (durable_of old)
+        → IsProper honest reads may_leave size (durable_of new)
+    pub any_moment : IsProper honest reads may_leave size (durable_of old) → (hs : List Happening)
+        → AreUnsettled hs (durable_of old).core
+        → LeavesOnly moment left_since (device_of (durable_of old)) (device_of (durable_of new))
+        (ShowsFront (durable_of old).core.settled (durable_of old).core.confs
+        (hs ++ all_entered steps tolds (durable_of old).core))
     pub exact : AreExact stations (slots_of old) → AreExact stations (slots_of new)
     pub following : AreFollowing old → AreFollowing new
 
@@ -65,7 +70,8 @@ module _ {D R : Type 0} (honest : D → Type 0) (reads : D → List ℕ) (may_le
     pub rests : IsAtRest (durable_of new)
 
   -- what they told was added to answers, each with its recipient
-  pub record AreAnswered (steps : List Step) (before after : List (Recipient × Told)) (old new : World D R) : Type 0 where
+  pub record AreAnswered (steps : List Step) (before after : List (Recipient × Told))
+      (old new : World D R) : Type 0 where
     pub more : List (Recipient × Told)
     pub all : after ≡ before ++ more
     pub recipients : map (λ a. a.0) more ≡ map recipient_of steps
@@ -73,7 +79,8 @@ module _ {D R : Type 0} (honest : D → Type 0) (reads : D → List ℕ) (may_le
     pub quiet : AreQuietlyMade steps (map (λ a. a.1) more) old new
 
   -- each out that waits at these interfaces was applied
-  pub record AreAllApplied (confs : List Conf) (before after : List (Recipient × Told)) (old new : World D R) : Type 0 where
+  pub record AreAllApplied (confs : List Conf) (before after : List (Recipient × Told))
+      (old new : World D R) : Type 0 where
     pub counts : List ℕ
     pub each : length counts ≡ length confs
     pub answered : AreAnswered (applies confs counts) before after old new

@@ -12,14 +12,16 @@ use Rattle.apd_world.specs.Outside.{device_of, IsSpoken}
 use Rattle.apd_world.specs.declared.durable_core.DurableCore.{DurableCore}
 
 -- no batch is in flight
-pub record IsBetween {D : Type 0} (reads : D → List ℕ) (may_leave : D → List ℕ → Type 0) (w : DurableCore D) : Type 0 where
+pub record IsBetween {D : Type 0} (reads : D → List ℕ) (may_leave : D → List ℕ → Type 0)
+    (w : DurableCore D) : Type 0 where
   pub none : w.core.flight ≡ 0
   pub batch : w.batch ≡ None
   pub receipt : w.receipt ≡ None
   pub steady : IsSteady reads may_leave w.flusher w.core.settled
 
 -- the batch in flight waits, and is refused for want of room or of memory alone
-pub record IsWaiting {D : Type 0} (reads : D → List ℕ) (may_leave : D → List ℕ → Type 0) (w : DurableCore D) : Type 0 where
+pub record IsWaiting {D : Type 0} (reads : D → List ℕ) (may_leave : D → List ℕ → Type 0)
+    (w : DurableCore D) : Type 0 where
   pub some : 1 ≤ w.core.flight
   pub batch : w.batch ≡ Some (batch_of w.core)
   pub good : IsGood (batch_of w.core).changes w.core.settled
@@ -27,15 +29,18 @@ pub record IsWaiting {D : Type 0} (reads : D → List ℕ) (may_leave : D → Li
   pub steady : IsSteady reads may_leave w.flusher w.core.settled
 
 -- the flusher has the batch in flight, or has failed with it, and the core too
-pub record IsUnderWay {D : Type 0} (reads : D → List ℕ) (may_leave : D → List ℕ → Type 0) (w : DurableCore D) : Type 0 where
+pub record IsUnderWay {D : Type 0} (reads : D → List ℕ) (may_leave : D → List ℕ → Type 0)
+    (w : DurableCore D) : Type 0 where
   pub some : 1 ≤ w.core.flight
   pub batch : w.batch ≡ None
   pub receipt : w.receipt ≡ None
   pub loaded : loaded_batch w.flusher ≡ batch_of w.core
-  pub flushing : IsFlushing reads may_leave w.flusher w.core.settled (state_after_flight w.core) ⊎ (IsStuck may_leave w.flusher w.core.settled (state_after_flight w.core) × (w.core.failed ≡ true))
+  pub flushing : IsFlushing reads may_leave w.flusher w.core.settled (state_after_flight w.core)
+      ⊎ (IsStuck may_leave w.flusher w.core.settled (state_after_flight w.core) × (w.core.failed ≡ true))
 
 -- the receipt of the batch in flight waits
-pub record IsDurable {D : Type 0} (reads : D → List ℕ) (may_leave : D → List ℕ → Type 0) (w : DurableCore D) : Type 0 where
+pub record IsDurable {D : Type 0} (reads : D → List ℕ) (may_leave : D → List ℕ → Type 0)
+    (w : DurableCore D) : Type 0 where
   pub some : 1 ≤ w.core.flight
   pub batch : w.batch ≡ None
   pub given : Receipt
@@ -45,9 +50,12 @@ pub record IsDurable {D : Type 0} (reads : D → List ℕ) (may_leave : D → Li
 
 -- one of these
 abbrev pub IsInStep : {D : Type 0} → (D → List ℕ) → (D → List ℕ → Type 0) → DurableCore D → Type 0
-IsInStep reads may_leave w = IsBetween reads may_leave w ⊎ IsWaiting reads may_leave w ⊎ IsUnderWay reads may_leave w ⊎ IsDurable reads may_leave w
+IsInStep reads may_leave w =
+    IsBetween reads may_leave w ⊎ IsWaiting reads may_leave w ⊎ IsUnderWay reads may_leave w
+    ⊎ IsDurable reads may_leave w
 
-pub record IsProper {D : Type 0} (honest : D → Type 0) (reads : D → List ℕ) (may_leave : D → List ℕ → Type 0) (size : D → ℕ) (w : DurableCore D) : Type 0 where
+pub record IsProper {D : Type 0} (honest : D → Type 0) (reads : D → List ℕ) (may_leave : D → List ℕ → Type 0)
+    (size : D → ℕ) (w : DurableCore D) : Type 0 where
   pub device : honest (device_of w)
   pub inside : IsInside size w.flusher
   pub spoken : IsSpoken w
@@ -65,6 +73,8 @@ IsUnused s = s ≡ new_core s.settled s.confs s.heard
 
 -- A step from a proper one leaves one, and a stop since its start leaves an image of the settled state, or of that after the
 -- batch in flight.
-pub record IsSafe {D : Type 0} (honest : D → Type 0) (reads : D → List ℕ) (may_leave : D → List ℕ → Type 0) (moment : D → ℕ) (left_since : D → ℕ → List ℕ → Type 0) (size : D → ℕ) (old new : DurableCore D) : Type 0 where
+pub record IsSafe {D : Type 0} (honest : D → Type 0) (reads : D → List ℕ) (may_leave : D → List ℕ → Type 0)
+    (moment : D → ℕ) (left_since : D → ℕ → List ℕ → Type 0) (size : D → ℕ) (old new : DurableCore D) : Type 0 where
   pub proper : IsProper honest reads may_leave size old → IsProper honest reads may_leave size new
-  pub inside : IsProper honest reads may_leave size old → LeavesOnly moment left_since (device_of old) (device_of new) (ShowsEither old.core)
+  pub inside : IsProper honest reads may_leave size old
+      → LeavesOnly moment left_since (device_of old) (device_of new) (ShowsEither old.core)

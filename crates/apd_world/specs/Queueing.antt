@@ -11,6 +11,7 @@ use Rattle.apd_world.specs.declared.step.Told.TheVariants.{Handed, Queued, NoMem
 
 -- what is ready for a radio goes to the end of a queue, and its count is told; or memory is lacking
 abbrev pub QueuesReady : {D : Type 0} → Bssid → Told → DurableCore D → DurableCore D → List Out → List Out → Type 0
-QueuesReady b (Queued count) old new queue now = (outs : List Out) × IsStep (Hand (Radio b)) (Handed outs) old new × (count ≡ length outs) × (now ≡ queue ++ outs)
+QueuesReady b (Queued count) old new queue now = (outs : List Out) × IsStep (Hand (Radio b)) (Handed outs) old new
+    × (count ≡ length outs) × (now ≡ queue ++ outs)
 QueuesReady b NoMemory old new queue now = IsStep (Hand (Radio b)) NoMemory old new × (now ≡ queue)
 QueuesReady b told old new queue now = ⊥

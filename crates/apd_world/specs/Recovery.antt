@@ -21,8 +21,10 @@ pub record HasSpoken (from : CoreState) (hs : List Happening) (number : ℕ) (im
 
 -- By whatever steps the old world came about, of what was not settled before them and of what they entered, a stop at any moment from
 -- it to the new one leaves a front that has every entry that had been spoken of.
-abbrev pub LosesNothing : {D R : Type 0} → (R → Stations) → (R → ℕ) → (D → ℕ) → (D → ℕ → List ℕ → Type 0) → World D R → World D R → Type 0
+abbrev pub LosesNothing : {D R : Type 0} → (R → Stations) → (R → ℕ) → (D → ℕ) → (D → ℕ → List ℕ → Type 0) → World D R
+    → World D R → Type 0
 LosesNothing {D} {R} stations faults moment left_since old new =
-    (from : World D R) (steps : List Step) (tolds : List Told) (hs : List Happening) → IsWorldRun stations faults steps tolds from old → AreUnsettled hs (durable_of from).core
+    (from : World D R) (steps : List Step) (tolds : List Told) (hs : List Happening)
+    → IsWorldRun stations faults steps tolds from old → AreUnsettled hs (durable_of from).core
     → LeavesOnly moment left_since (device_of (durable_of old)) (device_of (durable_of new))
     (HasSpoken (durable_of from).core (hs ++ all_entered steps tolds (durable_of from).core) (spoken (durable_of old)))

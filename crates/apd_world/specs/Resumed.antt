@@ -25,7 +25,8 @@ abbrev pub AreOfSame : {R : Type 0} → List (Slot R) → List (Slot R) → Type
 AreOfSame old new = map bssid_of new ≡ map bssid_of old
 
 -- the slot of a BSSID has not resumed, for this reason, and is down
-pub record HasNotResumed {R : Type 0} (faults : R → ℕ) (b : Bssid) (fault : SlotFault) (old new : List (Slot R)) : Type 0 where
+pub record HasNotResumed {R : Type 0} (faults : R → ℕ) (b : Bssid) (fault : SlotFault)
+    (old new : List (Slot R)) : Type 0 where
   pub place : ℕ
   pub before : Slot R
   pub after : Slot R

@@ -45,7 +45,8 @@ HasRoomForNext w = (batch : Batch) (core : CoreState) → IsNext batch w core �
 
 -- it fits, or the other half can begin anew: there is an epoch left for it
 abbrev pub LastsForNext : {D : Type 0} → DurableCore D → Type 0
-LastsForNext w = (batch : Batch) (core : CoreState) → IsNext batch w core → HasRoom w.flusher batch.changes ⊎ (epoch_of w.flusher + 1 < 2 ^ 64)
+LastsForNext w = (batch : Batch) (core : CoreState) → IsNext batch w core
+    → HasRoom w.flusher batch.changes ⊎ (epoch_of w.flusher + 1 < 2 ^ 64)
 
 -- One round of steps, with ten calls at most: four, where the batch is new and fits.
 pub record IsRound {D : Type 0} (answer : Commit) (old new : DurableCore D) : Type 0 where

@@ -19,7 +19,8 @@ pub record IsStep {D : Type 0} (step : Step) (told : Told) (old new : DurableCor
 -- one step after the other, each telling one answer
 abbrev pub AreSteps : {D : Type 0} → List Step → List Told → DurableCore D → DurableCore D → Type 0
 AreSteps [] [] old new = new ≡ old
-AreSteps {D} (step ∷ steps) (told ∷ tolds) old new = (mid : DurableCore D) × Tells step told old mid × AreSteps steps tolds mid new
+AreSteps {D} (step ∷ steps) (told ∷ tolds) old new =
+    (mid : DurableCore D) × Tells step told old mid × AreSteps steps tolds mid new
 AreSteps steps tolds old new = ⊥
 
 -- what a list of steps told is what they do, and what happened by them is kept, given and settled in order

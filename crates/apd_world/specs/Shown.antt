@@ -23,12 +23,14 @@ pub record ShowsFlight (s : CoreState) (hs : List Happening) (image : List ℕ) 
 
 -- a stop now leaves images of the settled state, or of that after the entries in flight
 abbrev pub AreOfFlight : CoreState → (List ℕ → Type 0) → Type 0
-AreOfFlight s images = (hs : List Happening) → AreUnsettled hs s → (image : List ℕ) → images image → ShowsFlight s hs image
+AreOfFlight s images = (hs : List Happening) → AreUnsettled hs s → (image : List ℕ) → images image
+    → ShowsFlight s hs image
 
 -- of that after the entries in flight alone
 abbrev pub AreAfterFlight : CoreState → (List ℕ → Type 0) → Type 0
 AreAfterFlight s images =
-    (hs : List Happening) → AreUnsettled hs s → (image : List ℕ) → images image → Shows image (run s.settled s.confs (take s.flight hs))
+    (hs : List Happening) → AreUnsettled hs s → (image : List ℕ) → images image
+    → Shows image (run s.settled s.confs (take s.flight hs))
 
 -- the settled state after the batch in flight
 abbrev pub state_after_flight : CoreState → State

@@ -38,7 +38,8 @@ asked step = None
 
 -- each interface is to start with its lists, in order; at any moment, since no row is put
 abbrev pub AreConfiguring : List Conf → List Step → Type 0
-AreConfiguring confs steps = map asked steps ≡ map (λ conf. Some (Some (Ok (Configure conf.bssid conf.accept conf.deny)))) confs
+AreConfiguring confs steps =
+    map asked steps ≡ map (λ conf. Some (Some (Ok (Configure conf.bssid conf.accept conf.deny)))) confs
 
 -- rounds, one after another, each of so many calls
 abbrev pub rounds : List ℕ → List Step
@@ -80,7 +81,8 @@ abbrev pub OnlyHands : {D : Type 0} → DurableCore D → DurableCore D → Type
 OnlyHands old new = new ≡ record old { core = record old.core { held = new.core.held } }
 
 -- So many calls of the store are made by a round, which comes to this.
-pub record IsWorldRound {D R : Type 0} (stations : R → Stations) (faults : R → ℕ) (answer : Commit) (old new : World D R) : Type 0 where
+pub record IsWorldRound {D R : Type 0} (stations : R → Stations) (faults : R → ℕ) (answer : Commit)
+    (old new : World D R) : Type 0 where
   pub calls : ℕ
   pub tolds : List Told
   pub run : IsWorldRun stations faults (round calls) tolds old new
@@ -94,11 +96,15 @@ IsGiven Control w = ready_for Control (durable_of w).core ≡ []
 -- After these first steps what is settled is handed out, to each radio and then to control, and each out is applied. The answers
 -- are what these last steps told, each with its recipient, and none met want of memory; no queue of a configured interface has an
 -- out, and each recipient was given all that is settled for it.
-pub record IsHandedOut {D R : Type 0} (stations : R → Stations) (faults : R → ℕ) (first : List Step) (answers : List (Recipient × Told)) (old new : World D R) : Type 0 where
+pub record IsHandedOut {D R : Type 0} (stations : R → Stations) (faults : R → ℕ) (first : List Step)
+    (answers : List (Recipient × Told)) (old new : World D R) : Type 0 where
   pub counts : List ℕ
   pub tolds : List Told
-  pub run : IsWorldRun stations faults (first ++ (hands (durable_of old).core.confs ++ applies (durable_of old).core.confs counts)) (tolds ++ map (λ a. a.1) answers) old new
-  pub recipients : map (λ a. a.0) answers ≡ map recipient_of (hands (durable_of old).core.confs ++ applies (durable_of old).core.confs counts)
+  pub run : IsWorldRun stations faults
+      (first ++ (hands (durable_of old).core.confs ++ applies (durable_of old).core.confs counts))
+      (tolds ++ map (λ a. a.1) answers) old new
+  pub recipients : map (λ a. a.0) answers
+      ≡ map recipient_of (hands (durable_of old).core.confs ++ applies (durable_of old).core.confs counts)
   pub told : All (λ a. a.1 ≢ NoMemory) answers
   pub each : length counts ≡ length (durable_of old).core.confs
   pub empty : All (λ conf. queue_of new conf.bssid ≡ []) (durable_of old).core.confs
@@ -106,7 +112,8 @@ pub record IsHandedOut {D R : Type 0} (stations : R → Stations) (faults : R �
   pub control : IsGiven Control new
 
 -- After these first steps batches are committed until every entry is settled, and what is settled is handed out. The core has not failed.
-pub record IsFlushed {D R : Type 0} (stations : R → Stations) (faults : R → ℕ) (first : List Step) (answers : List (Recipient × Told)) (old new : World D R) : Type 0 where
+pub record IsFlushed {D R : Type 0} (stations : R → Stations) (faults : R → ℕ) (first : List Step)
+    (answers : List (Recipient × Told)) (old new : World D R) : Type 0 where
   pub calls : List ℕ
   pub handed : IsHandedOut stations faults (first ++ rounds calls) answers old new
   pub settled : (durable_of new).core.unsettled ≡ []
@@ -114,7 +121,8 @@ pub record IsFlushed {D R : Type 0} (stations : R → Stations) (faults : R → 
   pub rests : IsAtRest (durable_of new)
 
 -- Each interface is configured, in order, where none met want of memory, and what that brings about is flushed.
-pub record IsStarted {D R : Type 0} (stations : R → Stations) (faults : R → ℕ) (answers : List (Recipient × Told)) (old new : World D R) : Type 0 where
+pub record IsStarted {D R : Type 0} (stations : R → Stations) (faults : R → ℕ) (answers : List (Recipient × Told))
+    (old new : World D R) : Type 0 where
   pub first : List Step
   pub configuring : AreConfiguring (durable_of old).core.confs first
   pub flushed : IsFlushed stations faults first answers old new
@@ -128,10 +136,12 @@ pub record HasGoneOn {D R : Type 0} (stations : R → Stations) (faults : R → 
 
 -- Some steps were, and a stop at any moment since leaves an image of the table after a front of these, which were not settled, and then
 -- of what happened by the steps.
-pub record LeavesFronts {D R : Type 0} (moment : D → ℕ) (left_since : D → ℕ → List ℕ → Type 0) (stations : R → Stations) (faults : R → ℕ) (hs : List Happening) (old new : World D R) : Type 0 where
+pub record LeavesFronts {D R : Type 0} (moment : D → ℕ) (left_since : D → ℕ → List ℕ → Type 0)
+    (stations : R → Stations) (faults : R → ℕ) (hs : List Happening) (old new : World D R) : Type 0 where
   pub gone_on : HasGoneOn stations faults old new
   pub leaves : LeavesOnly moment left_since (device_of (durable_of old)) (device_of (durable_of new))
-      (ShowsFront (durable_of old).core.settled (durable_of old).core.confs (hs ++ all_entered gone_on.steps gone_on.tolds (durable_of old).core))
+      (ShowsFront (durable_of old).core.settled (durable_of old).core.confs
+      (hs ++ all_entered gone_on.steps gone_on.tolds (durable_of old).core))
 
 -- ---- what ends them early
 -- the core has failed, or an entry is not settled
@@ -147,7 +157,8 @@ Ends commit.Foreign fault w = fault ≡ store_fault.Failed
 Ends answer fault w = ⊥
 
 -- Some steps were made, and then a last round, which ends with this fault.
-pub record IsEndedByStore {D R : Type 0} (stations : R → Stations) (faults : R → ℕ) (fault : StoreFault) (old new : World D R) : Type 0 where
+pub record IsEndedByStore {D R : Type 0} (stations : R → Stations) (faults : R → ℕ) (fault : StoreFault)
+    (old new : World D R) : Type 0 where
   pub last : World D R
   pub before : HasGoneOn stations faults old last
   pub answer : Commit

@@ -37,7 +37,8 @@ heard_as confs s m (Quiet reason) (Ok h) heard = heard_by m h heard
 heard_as confs s m answer asked heard = heard
 
 abbrev pub heard_after : List Conf → State → LastHeard → Step → Told → LastHeard
-heard_after confs s heard (Accept i m) (Accepted answer) = heard_as confs s m answer (happening_of confs heard m i) heard
+heard_after confs s heard (Accept i m) (Accepted answer) =
+    heard_as confs s m answer (happening_of confs heard m i) heard
 heard_after confs s heard step told = heard
 
 -- what happened so far, the state after it, and the moments
@@ -49,7 +50,11 @@ pub record Account : Type 0 where
 abbrev pub one_more : List Conf → Step → Told → Account → Account
 one_more confs step told a =
     let es = entered confs a.heard step told in
-    record { happened = a.happened ++ es; state = run a.state confs es; heard = heard_after confs a.state a.heard step told }
+    record {
+      happened = a.happened ++ es;
+      state = run a.state confs es;
+      heard = heard_after confs a.state a.heard step told;
+    }
 
 -- the same by steps, one after another
 abbrev pub account : List Conf → List Step → List Told → Account → Account

@@ -41,15 +41,19 @@ reception_of (core_accepted.Quiet reason) = reception.Quiet reason
 reception_of (core_accepted.Entry ticket) = reception.Entry ticket.number
 
 -- ---- accepting
-pub record IsAccepted {D : Type 0} (i : Input) (m : Moment) (answer : Reception) (old new : DurableCore D) : Type 0 where
+pub record IsAccepted {D : Type 0} (i : Input) (m : Moment) (answer : Reception)
+    (old new : DurableCore D) : Type 0 where
   pub answer_is : answer ≡ reception_of (accepted old.core m i)
-  pub fit : AreFit (front_of old.core) old.core.confs (entered_as answer (happening_of old.core.confs old.core.heard m i))
+  pub fit : AreFit (front_of old.core) old.core.confs
+      (entered_as answer (happening_of old.core.confs old.core.heard m i))
   pub only : new ≡ record old { core = after_request old.core m i }
 
 -- ---- taking
 -- the batch that waits, or else one that the core gives
 abbrev pub IsNext : {D : Type 0} → Batch → DurableCore D → CoreState → Type 0
-IsNext batch old core = ((old.batch ≡ Some batch) × (core ≡ old.core)) ⊎ ((old.batch ≡ None) × (¬ IsTrue (cannot_take old.core)) × IsTaken batch old.core core)
+IsNext batch old core =
+    ((old.batch ≡ Some batch) × (core ≡ old.core))
+    ⊎ ((old.batch ≡ None) × (¬ IsTrue (cannot_take old.core)) × IsTaken batch old.core core)
 
 -- the flusher took the batch
 pub record IsLoaded {D : Type 0} (batch : Batch) (old new : Flusher D) : Type 0 where
@@ -68,8 +72,10 @@ pub record IsRefused {D : Type 0} (fault : StoreFault) (batch : Batch) (old new 
   pub failed : (fault ≡ store_fault.Failed) ↔ (phase_of old ≡ phase.Failed)
   pub not_idle : (fault ≡ store_fault.NotIdle) ↔ ((phase_of old ≡ phase.Busy) ⊎ (phase_of old ≡ phase.Done))
   pub bad : fault ≡ store_fault.BadBatch → ¬ IsGood batch.changes (table_of old)
-  pub worn : fault ≡ store_fault.Worn → IsGood batch.changes (table_of old) × (¬ HasRoom old batch.changes) × (2 ^ 64 ≤ epoch_of old + 1)
-  pub few : (fault ≡ store_fault.Failed) ⊎ (fault ≡ store_fault.NotIdle) ⊎ (fault ≡ store_fault.BadBatch) ⊎ (fault ≡ store_fault.Worn) ⊎ (fault ≡ store_fault.NoMemory)
+  pub worn : fault ≡ store_fault.Worn → IsGood batch.changes (table_of old) × (¬ HasRoom old batch.changes)
+      × (2 ^ 64 ≤ epoch_of old + 1)
+  pub few : (fault ≡ store_fault.Failed) ⊎ (fault ≡ store_fault.NotIdle) ⊎ (fault ≡ store_fault.BadBatch)
+      ⊎ (fault ≡ store_fault.Worn) ⊎ (fault ≡ store_fault.NoMemory)
 
 abbrev pub LoadTells : {D : Type 0} → Result (Unit {0}) StoreFault → Batch → Flusher D → Flusher D → Type 0
 LoadTells (Ok _) batch old new = IsLoaded batch old new
@@ -102,8 +108,11 @@ after_call (Err store_fault.Device) s = record s { failed = true }
 after_call (Err fault) s = s
 
 abbrev pub CallTells : {D : Type 0} → Result (Unit {0}) StoreFault → Flusher D → Flusher D → Type 0
-CallTells (Ok _) old new = (calls_left new + 1 ≡ calls_left old) × ((phase_of new ≡ phase.Done) ↔ (calls_left old ≡ 1)) × ((phase_of new ≡ phase.Busy) ⊎ (phase_of new ≡ phase.Done))
-CallTells (Err fault) old new = (phase_of new ≡ phase.Failed) × (phase_of old ≡ phase.Failed → fault ≡ store_fault.Failed) × ((fault ≡ store_fault.Device) ⊎ (fault ≡ store_fault.Failed))
+CallTells (Ok _) old new = (calls_left new + 1 ≡ calls_left old) × ((phase_of new ≡ phase.Done) ↔ (calls_left old ≡ 1))
+    × ((phase_of new ≡ phase.Busy) ⊎ (phase_of new ≡ phase.Done))
+CallTells (Err fault) old new =
+    (phase_of new ≡ phase.Failed) × (phase_of old ≡ phase.Failed → fault ≡ store_fault.Failed)
+    × ((fault ≡ store_fault.Device) ⊎ (fault ≡ store_fault.Failed))
 
 pub record IsCalled {D : Type 0} (result : Result (Unit {0}) StoreFault) (old new : DurableCore D) : Type 0 where
   pub some_call : (phase_of old.flusher ≡ phase.Busy) ⊎ (phase_of old.flusher ≡ phase.Failed)
@@ -126,11 +135,13 @@ pub record IsUnloaded {D : Type 0} (receipt : Receipt) (old new : Flusher D) : T
 
 -- the receipt that waits, or else the one that the flusher gives
 abbrev pub IsNextReceipt : {D : Type 0} → Receipt → DurableCore D → Flusher D → Type 0
-IsNextReceipt receipt old new = ((old.receipt ≡ Some receipt) × (new ≡ old.flusher)) ⊎ ((old.receipt ≡ None) × IsUnloaded receipt old.flusher new)
+IsNextReceipt receipt old new =
+    ((old.receipt ≡ Some receipt) × (new ≡ old.flusher)) ⊎ ((old.receipt ≡ None) × IsUnloaded receipt old.flusher new)
 
 abbrev pub PublishTells : Result (Unit {0}) PublishFault → Receipt → CoreState → CoreState → Type 0
 PublishTells (Ok _) receipt old new = IsFlight (held_batch receipt) old × (new ≡ published old)
-PublishTells (Err fault) receipt old new = ((fault ≡ publish_fault.Foreign) ↔ ¬ IsFlight (held_batch receipt) old) × (new ≡ old)
+PublishTells (Err fault) receipt old new = ((fault ≡ publish_fault.Foreign) ↔ ¬ IsFlight (held_batch receipt) old)
+    × (new ≡ old)
 
 -- a receipt that is refused waits
 abbrev pub kept_receipt : Result (Unit {0}) PublishFault → Receipt → Option Receipt

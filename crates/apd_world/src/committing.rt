@@ -36,7 +36,8 @@ impl<D: Disk> DurableCore<D> {
 
     // Whether `Call` has a call to make, or one to refuse.
     fn has_call(&self) -> bool
-        ensures some { IsTrue result → (phase_of self.now.flusher ≡ Phase.Busy) ⊎ (phase_of self.now.flusher ≡ Phase.Failed) }
+        ensures some { IsTrue result
+            → (phase_of self.now.flusher ≡ Phase.Busy) ⊎ (phase_of self.now.flusher ≡ Phase.Failed) }
         ensures left { phase_of self.now.flusher ≡ Phase.Busy → 1 ≤ calls_left self.now.flusher }
         ensures none { result ≡ false → HasNoCall self.now }
     {
@@ -56,15 +57,22 @@ impl<D: Disk> DurableCore<D> {
     /// of what was not settled then.
     pub fn commit(&mut self) -> Commit
         ensures round { IsRound result self.old self.new }
-        ensures comes_to { IsProper D.honest D.reads D.may_leave D.size self.old → ComesTo D.failed result self.old self.new }
+        ensures comes_to { IsProper D.honest D.reads D.may_leave D.size self.old
+            → ComesTo D.failed result self.old self.new }
         ensures commits { IsProper D.honest D.reads D.may_leave D.size self.old → self.old.core.failed ≡ false
-            → D.failed (device_of self.new) ≡ D.failed (device_of self.old) → D.failed (device_of self.old) + 1 < 2 ^ 64 → ¬ LacksMemory result → LastsForNext self.old
-            → 1 ≤ length self.old.core.unsettled → (result ≡ Commit.Settled) × (self.old.core.number < self.new.core.number) }
-        ensures settled { result ≡ Commit.Settled → (self.old.core.number < self.new.core.number) × (self.new.core.flight ≡ 0) }
-        ensures nothing { result ≡ Commit.Nothing → HasNoBatch self.old × HasNoCall self.old × HasNoReceipt self.old × (self.new ≡ self.old) }
+            → D.failed (device_of self.new) ≡ D.failed (device_of self.old)
+            → D.failed (device_of self.old) + 1 < 2 ^ 64 → ¬ LacksMemory result → LastsForNext self.old
+            → 1 ≤ length self.old.core.unsettled
+            → (result ≡ Commit.Settled) × (self.old.core.number < self.new.core.number) }
+        ensures settled { result ≡ Commit.Settled
+            → (self.old.core.number < self.new.core.number) × (self.new.core.flight ≡ 0) }
+        ensures nothing { result ≡ Commit.Nothing → HasNoBatch self.old × HasNoCall self.old × HasNoReceipt self.old
+            × (self.new ≡ self.old) }
         ensures rests { HasNoBatch self.old → HasNoCall self.old → HasNoReceipt self.old → result ≡ Commit.Nothing }
-        ensures proper { IsProper D.honest D.reads D.may_leave D.size self.old → IsProper D.honest D.reads D.may_leave D.size self.new }
-        ensures any_moment { IsProper D.honest D.reads D.may_leave D.size self.old → (hs : List Happening) → AreUnsettled hs self.old.core
+        ensures proper { IsProper D.honest D.reads D.may_leave D.size self.old
+            → IsProper D.honest D.reads D.may_leave D.size self.new }
+        ensures any_moment { IsProper D.honest D.reads D.may_leave D.size self.old → (hs : List Happening)
+            → AreUnsettled hs self.old.core
             → LeavesOnly D.moment D.left_since (device_of self.old) (device_of self.new) (ShowsFront self.old.core.settled self.old.core.confs hs) }
         ensures quiet { Goes [] (λ r. []) self.old.core self.new.core }
         ensures heard { self.new.core.heard ≡ self.old.core.heard }

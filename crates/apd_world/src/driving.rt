@@ -28,9 +28,14 @@ pub fn drive<D: Disk, R: Radio>(
     steps: &[Step<'_>],
 ) -> Result<Vec<Told>, AllocError>
     ensures run { IfOk result (λ tolds. IsWorldRun R.stations R.faults steps.now tolds.items world.old world.new) }
-    ensures proper { IsProper D.honest D.reads D.may_leave D.size (durable_of world.old) → IsProper D.honest D.reads D.may_leave D.size (durable_of world.new) }
-    ensures any_moment { IsProper D.honest D.reads D.may_leave D.size (durable_of world.old) → IfOk result (λ tolds. (hs : List Happening) → AreUnsettled hs (durable_of world.old).core
-        → LeavesOnly D.moment D.left_since (device_of (durable_of world.old)) (device_of (durable_of world.new)) (ShowsFront (durable_of world.old).core.settled (durable_of world.old).core.confs (hs ++ all_entered steps.now tolds.items (durable_of world.old).core))) }
+    ensures proper { IsProper D.honest D.reads D.may_leave D.size (durable_of world.old)
+        → IsProper D.honest D.reads D.may_leave D.size (durable_of world.new) }
+    ensures any_moment { IsProper D.honest D.reads D.may_leave D.size (durable_of world.old)
+        → IfOk result (λ tolds. (hs : List Happening) → AreUnsettled hs (durable_of world.old).core
+        → LeavesOnly D.moment D.left_since (device_of (durable_of world.old)) (device_of
+        (durable_of world.new))
+        (ShowsFront (durable_of world.old).core.settled (durable_of world.old).core.confs
+        (hs ++ all_entered steps.now tolds.items (durable_of world.old).core))) }
     ensures between { IsProper D.honest D.reads D.may_leave D.size (durable_of world.old)
         → OnOk result (IsShown D.may_leave (durable_of world.new)) }
     ensures exact { AreExact R.stations (slots_of world.old) → AreExact R.stations (slots_of world.new) }

@@ -35,9 +35,15 @@ impl<D: Disk, R: Radio> World<D, R> {
         step: &Step<'_>,
         answers: &mut Answers,
     ) -> Result<(), WorldFault>
-        ensures step { OnOk result ((told : Told) × (told ≢ Told.NoMemory) × IsWorldStep R.stations R.faults step.now told self.old self.new) }
-        ensures ok { OnOk result (IsHanding step.now → to ≡ recipient_of step.now → AreAnswered D.honest D.reads D.may_leave D.moment D.left_since D.size R.stations R.faults (step.now ∷ []) answers.old.items answers.new.items self.old self.new) }
-        ensures err { OnErr result (IsHanding step.now → SomeAreQuietlyMade D.honest D.reads D.may_leave D.moment D.left_since D.size R.stations R.faults self.old self.new) }
+        ensures step { OnOk result
+            ((told : Told) × (told ≢ Told.NoMemory) × IsWorldStep R.stations R.faults step.now told self.old self.new) }
+        ensures ok { OnOk result
+            (IsHanding step.now → to ≡ recipient_of step.now
+            → AreAnswered D.honest D.reads D.may_leave D.moment D.left_since D.size R.stations R.faults (step.now
+            ∷ []) answers.old.items answers.new.items self.old self.new) }
+        ensures err { OnErr result
+            (IsHanding step.now
+            → SomeAreQuietlyMade D.honest D.reads D.may_leave D.moment D.left_since D.size R.stations R.faults self.old self.new) }
         ensures fault { IfErr result (λ fault. fault ≡ WorldFault.NoMemory) }
         ensures only { IsHanding step.now → OnlyHands (durable_of self.old) (durable_of self.new) }
     {
@@ -56,8 +62,11 @@ impl<D: Disk, R: Radio> World<D, R> {
 
     // Hands out to each radio, in the order of the configurations, and then to control.
     fn hand_all(&mut self, confs: &Confs, answers: &mut Answers) -> Result<(), WorldFault>
-        ensures ok { OnOk result (AreAnswered D.honest D.reads D.may_leave D.moment D.left_since D.size R.stations R.faults (hands confs.now) answers.old.items answers.new.items self.old self.new) }
-        ensures err { OnErr result (SomeAreQuietlyMade D.honest D.reads D.may_leave D.moment D.left_since D.size R.stations R.faults self.old self.new) }
+        ensures ok { OnOk result
+            (AreAnswered D.honest D.reads D.may_leave D.moment D.left_since D.size R.stations R.faults
+            (hands confs.now) answers.old.items answers.new.items self.old self.new) }
+        ensures err { OnErr result
+            (SomeAreQuietlyMade D.honest D.reads D.may_leave D.moment D.left_since D.size R.stations R.faults self.old self.new) }
         ensures fault { IfErr result (λ fault. fault ≡ WorldFault.NoMemory) }
         ensures only { OnlyHands (durable_of self.old) (durable_of self.new) }
     {
@@ -82,8 +91,10 @@ impl<D: Disk, R: Radio> World<D, R> {
 
     // Applies each out that waits at a slot, in the order of the configurations.
     fn apply_all(&mut self, confs: &Confs, answers: &mut Answers) -> Result<(), WorldFault>
-        ensures ok { OnOk result (AreAllApplied D.honest D.reads D.may_leave D.moment D.left_since D.size R.stations R.faults confs.now answers.old.items answers.new.items self.old self.new) }
-        ensures err { OnErr result (SomeAreQuietlyMade D.honest D.reads D.may_leave D.moment D.left_since D.size R.stations R.faults self.old self.new) }
+        ensures ok { OnOk result
+            (AreAllApplied D.honest D.reads D.may_leave D.moment D.left_since D.size R.stations R.faults confs.now answers.old.items answers.new.items self.old self.new) }
+        ensures err { OnErr result
+            (SomeAreQuietlyMade D.honest D.reads D.may_leave D.moment D.left_since D.size R.stations R.faults self.old self.new) }
         ensures fault { IfErr result (λ fault. fault ≡ WorldFault.NoMemory) }
         ensures only { OnlyHands (durable_of self.old) (durable_of self.new) }
     {
@@ -110,9 +121,13 @@ impl<D: Disk, R: Radio> World<D, R> {
         ensures err { OnErr result (HasGoneOn R.stations R.faults self.old self.new) }
         ensures fault { IfErr result (λ fault. fault ≡ WorldFault.NoMemory) }
         ensures only { OnlyHands (durable_of self.old) (durable_of self.new) }
-        ensures proper { IsProper D.honest D.reads D.may_leave D.size (durable_of self.old) → IsProper D.honest D.reads D.may_leave D.size (durable_of self.new) }
-        ensures any_moment { IsProper D.honest D.reads D.may_leave D.size (durable_of self.old) → (hs : List Happening) → AreUnsettled hs (durable_of self.old).core
-            → LeavesOnly D.moment D.left_since (device_of (durable_of self.old)) (device_of (durable_of self.new)) (ShowsFront (durable_of self.old).core.settled (durable_of self.old).core.confs hs) }
+        ensures proper { IsProper D.honest D.reads D.may_leave D.size (durable_of self.old)
+            → IsProper D.honest D.reads D.may_leave D.size (durable_of self.new) }
+        ensures any_moment { IsProper D.honest D.reads D.may_leave D.size (durable_of self.old) → (hs : List Happening)
+            → AreUnsettled hs (durable_of self.old).core
+            → LeavesOnly D.moment D.left_since (device_of (durable_of self.old)) (device_of
+            (durable_of self.new))
+            (ShowsFront (durable_of self.old).core.settled (durable_of self.old).core.confs hs) }
         ensures exact { AreExact R.stations (slots_of self.old) → AreExact R.stations (slots_of self.new) }
         ensures following { AreFollowing self.old → AreFollowing self.new }
     {

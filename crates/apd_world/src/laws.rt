@@ -31,25 +31,33 @@ use apd_radio::Radio;
 /// later entry than the last that is settled, and no answer to a query comes with a later number. That number
 /// never falls.
 pub fn only_what_is_settled_is_spoken_of<D: Disk>()
-    ensures spoken { (steps : List Step) (tolds : List Told) (old new : DurableCore D) → AreSteps steps tolds old new → IsSpoken old → IsSpoken new }
-    ensures number { (steps : List Step) (tolds : List Told) (old new : DurableCore D) → AreSteps steps tolds old new → old.core.number ≤ new.core.number }
+    ensures spoken { (steps : List Step) (tolds : List Told) (old new : DurableCore D) → AreSteps steps tolds old new
+        → IsSpoken old → IsSpoken new }
+    ensures number { (steps : List Step) (tolds : List Told) (old new : DurableCore D) → AreSteps steps tolds old new
+        → old.core.number ≤ new.core.number }
 {}
 
 /// What leaves is so of everyone whom it is meant for, whatever steps were made from a durable core whose
 /// table after all entries is sound and has no row of the broadcast address, as an empty one: no request is a
 /// frame from that address, and no row ever has it, so a broadcast frame speaks of every station.
 pub fn what_leaves_is_so_of_everyone<D: Disk>()
-    ensures senders { (s : CoreState) (m : Moment) (i : Input) (h : Happening) → happening_of s.confs s.heard m i ≡ Ok h → IsFromStation h }
-    ensures rows { (steps : List Step) (tolds : List Told) (old new : DurableCore D) → IsRun steps tolds old new → NoBroadcastRow (front_of old.core) → NoBroadcastRow (front_of new.core) }
-    ensures everyone { (steps : List Step) (tolds : List Told) (old new : DurableCore D) (m : Moment) (i : Input) (h : Happening)
-        → IsRun steps tolds old new → Sound (front_of old.core) → NoBroadcastRow (front_of old.core) → happening_of new.core.confs new.core.heard m i ≡ Ok h
-        → AreSoToAll (verdict (front_of new.core) new.core.confs h).state (verdict (front_of new.core) new.core.confs h).outs }
+    ensures senders { (s : CoreState) (m : Moment) (i : Input) (h : Happening)
+        → happening_of s.confs s.heard m i ≡ Ok h → IsFromStation h }
+    ensures rows { (steps : List Step) (tolds : List Told) (old new : DurableCore D) → IsRun steps tolds old new
+        → NoBroadcastRow (front_of old.core) → NoBroadcastRow (front_of new.core) }
+    ensures everyone { (steps : List Step) (tolds : List Told) (old new : DurableCore D) (m : Moment) (i : Input)
+        (h : Happening)
+        → IsRun steps tolds old new → Sound (front_of old.core) → NoBroadcastRow (front_of old.core)
+        → happening_of new.core.confs new.core.heard m i ≡ Ok h
+        → AreSoToAll (verdict (front_of new.core) new.core.confs h).state (verdict
+        (front_of new.core) new.core.confs h).outs }
 {}
 
 /// After any steps a query is answered from the table after a front of what was not settled before them and of
 /// what happened by them: the answer has that table's text, and the number of the last entry that it speaks of.
 pub fn a_query_speaks_of_what_was_settled<D: Disk>()
-    ensures { (steps : List Step) (tolds : List Told) (old mid new : DurableCore D) (hs : List Happening) (query : Query) (answer : Answer)
+    ensures { (steps : List Step) (tolds : List Told) (old mid new : DurableCore D) (hs : List Happening)
+        (query : Query) (answer : Answer)
         → IsRun steps tolds old mid → AreUnsettled hs old.core → Tells (Ask query) (Answered answer) mid new
         → (answer.query ≡ query) × SpeaksOf (hs ++ all_entered steps tolds old.core) old.core answer }
 {}

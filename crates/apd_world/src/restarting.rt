@@ -44,7 +44,8 @@ fn durable_core_of<D: Disk>(
     ensures heard { IfOk result (λ durable. AreHeardAt moment table durable.core.heard) }
     ensures sound { IfOk result (λ durable. Sound table) }
     ensures store { IfOk result (λ durable. store_of durable.flusher ≡ store) }
-    ensures steady { IsIdle D.reads D.may_leave store table → IfOk result (λ durable. IsSteady D.reads D.may_leave durable.flusher table) }
+    ensures steady { IsIdle D.reads D.may_leave store table
+        → IfOk result (λ durable. IsSteady D.reads D.may_leave durable.flusher table) }
     ensures batch { IfOk result (λ durable. durable.batch ≡ None) }
     ensures receipt { IfOk result (λ durable. durable.receipt ≡ None) }
     ensures told { IfOk result (λ durable. durable.told ≡ 0) }
@@ -82,18 +83,33 @@ pub(crate) fn restart_core<D: Disk>(
     ensures heard { IfOk result (λ durable. AreHeardAt moment durable.core.settled durable.core.heard) }
     ensures sound { IfOk result (λ durable. Sound durable.core.settled) }
     ensures shown { D.honest device → IfOk result (λ durable. Shows (D.reads device) durable.core.settled) }
-    ensures recovered { D.honest device → IfOk result (λ durable. (s : State) (old : List Conf) (hs : List Happening) (front : ShowsFront s old hs (D.reads device)) → durable.core.settled ≡ run s old (take front.count hs)) }
+    ensures recovered { D.honest device
+        → IfOk result (λ durable. (s : State) (old : List Conf) (hs : List Happening)
+        (front : ShowsFront s old hs (D.reads device)) → durable.core.settled ≡ run s old (take front.count hs)) }
     ensures proper { D.honest device → IfOk result (λ durable. IsProper D.honest D.reads D.may_leave D.size durable) }
-    ensures images { D.honest device → IfOk result (λ durable. Only (D.reads device) (D.may_leave (device_of durable))) }
-    ensures any_moment { D.honest device → IfOk result (λ durable. LeavesOnly D.moment D.left_since device (device_of durable) (D.may_leave device)) }
-    ensures any_moment_err { D.honest device → IfErr result (λ e. LeavesOnly D.moment D.left_since device e.0 (D.may_leave device)) }
+    ensures images { D.honest device
+        → IfOk result (λ durable. Only (D.reads device) (D.may_leave (device_of durable))) }
+    ensures any_moment { D.honest device
+        → IfOk result (λ durable. LeavesOnly D.moment D.left_since device (device_of durable) (D.may_leave device)) }
+    ensures any_moment_err { D.honest device
+        → IfErr result (λ e. LeavesOnly D.moment D.left_since device e.0 (D.may_leave device)) }
     ensures length { OnOk result (D.size device ≡ DEVICE_LENGTH) }
-    ensures not_a_store { D.honest device → IfErr result (λ e. e.1 ≡ WorldFault.Store StoreFault.NotAStore → ¬ IsMarked (D.reads device)) }
-    ensures damaged { D.honest device → IfErr result (λ e. e.1 ≡ WorldFault.Store StoreFault.Damaged → IsMarked (D.reads device) × ShowsNone (D.reads device)) }
-    ensures durable_err { D.honest device → IfErr result (λ e. e.1 ≢ WorldFault.Store StoreFault.Device → Only (D.reads device) (D.may_leave e.0)) }
-    ensures still_err { D.honest device → IfErr result (λ e. (image : List ℕ) → Only image (D.may_leave device) → Only image (D.may_leave e.0) × (D.reads e.0 ≡ image)) }
-    ensures only { IfErr result (λ e. (e.1 ≡ WorldFault.Store StoreFault.NotAStore) ⊎ (e.1 ≡ WorldFault.Store StoreFault.Damaged) ⊎ (e.1 ≡ WorldFault.Store StoreFault.Device) ⊎ (e.1 ≡ WorldFault.Store StoreFault.NoMemory) ⊎ (e.1 ≡ WorldFault.NoMemory)) }
-    ensures device { IfErr result (λ e. e.1 ≡ WorldFault.Store StoreFault.Device → HasRisen (D.failed device) (D.failed e.0)) }
+    ensures not_a_store { D.honest device
+        → IfErr result (λ e. e.1 ≡ WorldFault.Store StoreFault.NotAStore → ¬ IsMarked (D.reads device)) }
+    ensures damaged { D.honest device
+        → IfErr result (λ e. e.1 ≡ WorldFault.Store StoreFault.Damaged
+        → IsMarked (D.reads device) × ShowsNone (D.reads device)) }
+    ensures durable_err { D.honest device
+        → IfErr result (λ e. e.1 ≢ WorldFault.Store StoreFault.Device → Only (D.reads device) (D.may_leave e.0)) }
+    ensures still_err { D.honest device
+        → IfErr result (λ e. (image : List ℕ) → Only image (D.may_leave device)
+        → Only image (D.may_leave e.0) × (D.reads e.0 ≡ image)) }
+    ensures only { IfErr result
+        (λ e. (e.1 ≡ WorldFault.Store StoreFault.NotAStore) ⊎ (e.1 ≡ WorldFault.Store StoreFault.Damaged)
+        ⊎ (e.1 ≡ WorldFault.Store StoreFault.Device) ⊎ (e.1 ≡ WorldFault.Store StoreFault.NoMemory)
+        ⊎ (e.1 ≡ WorldFault.NoMemory)) }
+    ensures device { IfErr result
+        (λ e. e.1 ≡ WorldFault.Store StoreFault.Device → HasRisen (D.failed device) (D.failed e.0)) }
     ensures count { IfOk result (λ durable. D.failed (device_of durable) ≡ D.failed device) }
     ensures no_fault { IfErr result (λ e. e.1 ≢ WorldFault.Store StoreFault.Device → D.failed e.0 ≡ D.failed device) }
     ensures honest { IfOk result (λ durable. D.honest device ↔ D.honest (device_of durable)) }

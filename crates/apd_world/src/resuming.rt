@@ -70,23 +70,45 @@ pub fn restart<D: Disk, R: Radio>(
     slots: Vec<Slot<R>>,
     moment: Moment,
 ) -> Result<World<D, R>, (D, Vec<Slot<R>>, WorldFault)>
-    ensures core { IfOk result (λ world. (durable_of world).core ≡ new_core (durable_of world).core.settled confs (durable_of world).core.heard) }
-    ensures heard { IfOk result (λ world. AreHeardAt moment (durable_of world).core.settled (durable_of world).core.heard) }
+    ensures core { IfOk result
+        (λ world. (durable_of world).core
+        ≡ new_core (durable_of world).core.settled confs (durable_of world).core.heard) }
+    ensures heard { IfOk result
+        (λ world. AreHeardAt moment (durable_of world).core.settled (durable_of world).core.heard) }
     ensures sound { IfOk result (λ world. Sound (durable_of world).core.settled) }
     ensures shown { D.honest device → IfOk result (λ world. Shows (D.reads device) (durable_of world).core.settled) }
-    ensures recovered { D.honest device → IfOk result (λ world. (s : State) (old : List Conf) (hs : List Happening) (front : ShowsFront s old hs (D.reads device)) → (durable_of world).core.settled ≡ run s old (take front.count hs)) }
-    ensures proper { D.honest device → IfOk result (λ world. IsProper D.honest D.reads D.may_leave D.size (durable_of world)) }
-    ensures images { D.honest device → IfOk result (λ world. Only (D.reads device) (D.may_leave (device_of (durable_of world)))) }
-    ensures any_moment { D.honest device → IfOk result (λ world. LeavesOnly D.moment D.left_since device (device_of (durable_of world)) (D.may_leave device)) }
-    ensures any_moment_err { D.honest device → IfErr result (λ e. LeavesOnly D.moment D.left_since device e.0 (D.may_leave device)) }
+    ensures recovered { D.honest device
+        → IfOk result (λ world. (s : State) (old : List Conf) (hs : List Happening)
+        (front : ShowsFront s old hs (D.reads device))
+        → (durable_of world).core.settled ≡ run s old (take front.count hs)) }
+    ensures proper { D.honest device
+        → IfOk result (λ world. IsProper D.honest D.reads D.may_leave D.size (durable_of world)) }
+    ensures images { D.honest device
+        → IfOk result (λ world. Only (D.reads device) (D.may_leave (device_of (durable_of world)))) }
+    ensures any_moment { D.honest device
+        → IfOk result (λ world. LeavesOnly D.moment D.left_since device (device_of (durable_of world))
+        (D.may_leave device)) }
+    ensures any_moment_err { D.honest device
+        → IfErr result (λ e. LeavesOnly D.moment D.left_since device e.0 (D.may_leave device)) }
     ensures length { OnOk result (D.size device ≡ DEVICE_LENGTH) }
-    ensures not_a_store { D.honest device → IfErr result (λ e. e.2 ≡ WorldFault.Store StoreFault.NotAStore → ¬ IsMarked (D.reads device)) }
-    ensures damaged { D.honest device → IfErr result (λ e. e.2 ≡ WorldFault.Store StoreFault.Damaged → IsMarked (D.reads device) × ShowsNone (D.reads device)) }
-    ensures durable_err { D.honest device → IfErr result (λ e. e.2 ≢ WorldFault.Store StoreFault.Device → Only (D.reads device) (D.may_leave e.0)) }
-    ensures still_err { D.honest device → IfErr result (λ e. (image : List ℕ) → Only image (D.may_leave device) → Only image (D.may_leave e.0) × (D.reads e.0 ≡ image)) }
-    ensures only { IfErr result (λ e. (e.2 ≡ WorldFault.Store StoreFault.NotAStore) ⊎ (e.2 ≡ WorldFault.Store StoreFault.Damaged) ⊎ (e.2 ≡ WorldFault.Store StoreFault.Device) ⊎ (e.2 ≡ WorldFault.Store StoreFault.NoMemory) ⊎ (e.2 ≡ WorldFault.NoMemory)
-        ⊎ ((b : Address) × (fault : Fault) × (e.2 ≡ WorldFault.Slot b fault) × HasNotResumed R.faults b fault slots.items e.1.items)) }
-    ensures device { IfErr result (λ e. e.2 ≡ WorldFault.Store StoreFault.Device → HasRisen (D.failed device) (D.failed e.0)) }
+    ensures not_a_store { D.honest device
+        → IfErr result (λ e. e.2 ≡ WorldFault.Store StoreFault.NotAStore → ¬ IsMarked (D.reads device)) }
+    ensures damaged { D.honest device
+        → IfErr result (λ e. e.2 ≡ WorldFault.Store StoreFault.Damaged
+        → IsMarked (D.reads device) × ShowsNone (D.reads device)) }
+    ensures durable_err { D.honest device
+        → IfErr result (λ e. e.2 ≢ WorldFault.Store StoreFault.Device → Only (D.reads device) (D.may_leave e.0)) }
+    ensures still_err { D.honest device
+        → IfErr result (λ e. (image : List ℕ) → Only image (D.may_leave device)
+        → Only image (D.may_leave e.0) × (D.reads e.0 ≡ image)) }
+    ensures only { IfErr result
+        (λ e. (e.2 ≡ WorldFault.Store StoreFault.NotAStore) ⊎ (e.2 ≡ WorldFault.Store StoreFault.Damaged)
+        ⊎ (e.2 ≡ WorldFault.Store StoreFault.Device) ⊎ (e.2 ≡ WorldFault.Store StoreFault.NoMemory)
+        ⊎ (e.2 ≡ WorldFault.NoMemory)
+        ⊎ ((b : Address) × (fault : Fault) × (e.2 ≡ WorldFault.Slot b fault)
+        × HasNotResumed R.faults b fault slots.items e.1.items)) }
+    ensures device { IfErr result
+        (λ e. e.2 ≡ WorldFault.Store StoreFault.Device → HasRisen (D.failed device) (D.failed e.0)) }
     ensures count { IfOk result (λ world. D.failed (device_of (durable_of world)) ≡ D.failed device) }
     ensures no_fault { IfErr result (λ e. e.2 ≢ WorldFault.Store StoreFault.Device → D.failed e.0 ≡ D.failed device) }
     ensures honest_err { IfErr result (λ e. D.honest device ↔ D.honest e.0) }

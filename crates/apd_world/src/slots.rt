@@ -33,7 +33,9 @@ pub(crate) fn make_queue(
     queues: &mut Vec<VecDeque<Out>>,
     place: usize,
 ) -> Result<(), AllocError>
-    ensures same { (p : Option ℕ) → queue_in (map (λ queue. queue.items) queues.new.items) p ≡ queue_in (map (λ queue. queue.items) queues.old.items) p }
+    ensures same { (p : Option ℕ)
+        → queue_in (map (λ queue. queue.items) queues.new.items) p
+        ≡ queue_in (map (λ queue. queue.items) queues.old.items) p }
     ensures there { OnOk result (place < length queues.new.items) }
 {
     while queues.len() <= place {
@@ -50,9 +52,11 @@ pub(crate) fn hand_to<D: Disk>(
 ) -> Told
     ensures queues { QueuesReady bssid result durable.old durable.new queue.old.items queue.new.items }
     ensures safe { IsSafe D.honest D.reads D.may_leave D.moment D.left_since D.size durable.old durable.new }
-    ensures one_call { D.honest (device_of durable.old) → D.moment (device_of durable.new) ≤ D.moment (device_of durable.old) + 1 }
+    ensures one_call { D.honest (device_of durable.old)
+        → D.moment (device_of durable.new) ≤ D.moment (device_of durable.old) + 1 }
     ensures count { D.failed (device_of durable.old) ≤ D.failed (device_of durable.new) }
-    ensures fault { result ≡ Told.Called (Err StoreFault.Device) → HasRisen (D.failed (device_of durable.old)) (D.failed (device_of durable.new)) }
+    ensures fault { result ≡ Told.Called (Err StoreFault.Device)
+        → HasRisen (D.failed (device_of durable.old)) (D.failed (device_of durable.new)) }
 {
     durable.stops();
     let to = Recipient::Radio(bssid);

@@ -30,13 +30,21 @@ impl<D: Disk, R: Radio> World<D, R> {
     pub fn commit(&mut self) -> Commit
         ensures round { IsRound result (durable_of self.old) (durable_of self.new) }
         ensures run { IsWorldRound R.stations R.faults result self.old self.new }
-        ensures comes_to { IsProper D.honest D.reads D.may_leave D.size (durable_of self.old) → ComesTo D.failed result (durable_of self.old) (durable_of self.new) }
+        ensures comes_to { IsProper D.honest D.reads D.may_leave D.size (durable_of self.old)
+            → ComesTo D.failed result (durable_of self.old) (durable_of self.new) }
         ensures rest_stays { RestStays self.old self.new }
-        ensures settled { result ≡ Commit.Settled → ((durable_of self.old).core.number < (durable_of self.new).core.number) × ((durable_of self.new).core.flight ≡ 0) }
-        ensures nothing { result ≡ Commit.Nothing → HasNoBatch (durable_of self.old) × HasNoCall (durable_of self.old) × HasNoReceipt (durable_of self.old) × (durable_of self.new ≡ durable_of self.old) }
-        ensures proper { IsProper D.honest D.reads D.may_leave D.size (durable_of self.old) → IsProper D.honest D.reads D.may_leave D.size (durable_of self.new) }
-        ensures any_moment { IsProper D.honest D.reads D.may_leave D.size (durable_of self.old) → (hs : List Happening) → AreUnsettled hs (durable_of self.old).core
-            → LeavesOnly D.moment D.left_since (device_of (durable_of self.old)) (device_of (durable_of self.new)) (ShowsFront (durable_of self.old).core.settled (durable_of self.old).core.confs hs) }
+        ensures settled { result ≡ Commit.Settled
+            → ((durable_of self.old).core.number < (durable_of self.new).core.number)
+            × ((durable_of self.new).core.flight ≡ 0) }
+        ensures nothing { result ≡ Commit.Nothing → HasNoBatch (durable_of self.old) × HasNoCall (durable_of self.old)
+            × HasNoReceipt (durable_of self.old) × (durable_of self.new ≡ durable_of self.old) }
+        ensures proper { IsProper D.honest D.reads D.may_leave D.size (durable_of self.old)
+            → IsProper D.honest D.reads D.may_leave D.size (durable_of self.new) }
+        ensures any_moment { IsProper D.honest D.reads D.may_leave D.size (durable_of self.old) → (hs : List Happening)
+            → AreUnsettled hs (durable_of self.old).core
+            → LeavesOnly D.moment D.left_since (device_of (durable_of self.old)) (device_of
+            (durable_of self.new))
+            (ShowsFront (durable_of self.old).core.settled (durable_of self.old).core.confs hs) }
         ensures quiet { Goes [] (λ r. []) (durable_of self.old).core (durable_of self.new).core }
         ensures heard { (durable_of self.new).core.heard ≡ (durable_of self.old).core.heard }
         ensures exact { AreExact R.stations (slots_of self.old) → AreExact R.stations (slots_of self.new) }
@@ -47,8 +55,11 @@ impl<D: Disk, R: Radio> World<D, R> {
 
     // Accepts each interface's configuration, with its lists, in order. One that is no entry is passed over.
     fn configure(&mut self) -> Result<(), WorldFault>
-        ensures ok { OnOk result (AreAccepted D.honest D.reads D.may_leave D.moment D.left_since D.size R.stations R.faults (durable_of self.old).core.confs self.old self.new) }
-        ensures err { OnErr result (SomeAreSafelyMade D.honest D.reads D.may_leave D.moment D.left_since D.size R.stations R.faults self.old self.new) }
+        ensures ok { OnOk result
+            (AreAccepted D.honest D.reads D.may_leave D.moment D.left_since D.size R.stations R.faults
+            (durable_of self.old).core.confs self.old self.new) }
+        ensures err { OnErr result
+            (SomeAreSafelyMade D.honest D.reads D.may_leave D.moment D.left_since D.size R.stations R.faults self.old self.new) }
         ensures fault { IfErr result (λ fault. fault ≡ WorldFault.NoMemory) }
     {
         self.durable.stops();
@@ -70,10 +81,13 @@ impl<D: Disk, R: Radio> World<D, R> {
 
     // Commits until nothing is unsettled.
     fn settle(&mut self) -> Result<(), WorldFault>
-        ensures ok { OnOk result (AreSettled D.honest D.reads D.may_leave D.moment D.left_since D.size R.stations R.faults self.old self.new) }
-        ensures err { OnErr result (SomeAreQuietlyMade D.honest D.reads D.may_leave D.moment D.left_since D.size R.stations R.faults self.old self.new) }
+        ensures ok { OnOk result
+            (AreSettled D.honest D.reads D.may_leave D.moment D.left_since D.size R.stations R.faults self.old self.new) }
+        ensures err { OnErr result
+            (SomeAreQuietlyMade D.honest D.reads D.may_leave D.moment D.left_since D.size R.stations R.faults self.old self.new) }
         ensures ended { IfErr result (λ fault. HasEnded R.stations R.faults fault self.old self.new) }
-        ensures failed { IsProper D.honest D.reads D.may_leave D.size (durable_of self.old) → IfErr result (λ fault. HasFailedCore fault self.new) }
+        ensures failed { IsProper D.honest D.reads D.may_leave D.size (durable_of self.old)
+            → IfErr result (λ fault. HasFailedCore fault self.new) }
     {
         self.durable.stops();
         loop {
@@ -96,10 +110,15 @@ impl<D: Disk, R: Radio> World<D, R> {
     pub fn flush(&mut self) -> Result<Vec<(Recipient, Told)>, WorldFault>
         ensures flushed { IfOk result (λ answers. IsFlushed R.stations R.faults [] answers.items self.old self.new) }
         ensures err { IfErr result (λ fault. HasEnded R.stations R.faults fault self.old self.new) }
-        ensures failed { IsProper D.honest D.reads D.may_leave D.size (durable_of self.old) → IfErr result (λ fault. HasFailedCore fault self.new) }
-        ensures proper { IsProper D.honest D.reads D.may_leave D.size (durable_of self.old) → IsProper D.honest D.reads D.may_leave D.size (durable_of self.new) }
-        ensures any_moment { IsProper D.honest D.reads D.may_leave D.size (durable_of self.old) → (hs : List Happening) → AreUnsettled hs (durable_of self.old).core
-            → LeavesOnly D.moment D.left_since (device_of (durable_of self.old)) (device_of (durable_of self.new)) (ShowsFront (durable_of self.old).core.settled (durable_of self.old).core.confs hs) }
+        ensures failed { IsProper D.honest D.reads D.may_leave D.size (durable_of self.old)
+            → IfErr result (λ fault. HasFailedCore fault self.new) }
+        ensures proper { IsProper D.honest D.reads D.may_leave D.size (durable_of self.old)
+            → IsProper D.honest D.reads D.may_leave D.size (durable_of self.new) }
+        ensures any_moment { IsProper D.honest D.reads D.may_leave D.size (durable_of self.old) → (hs : List Happening)
+            → AreUnsettled hs (durable_of self.old).core
+            → LeavesOnly D.moment D.left_since (device_of (durable_of self.old)) (device_of
+            (durable_of self.new))
+            (ShowsFront (durable_of self.old).core.settled (durable_of self.old).core.confs hs) }
         ensures exact { AreExact R.stations (slots_of self.old) → AreExact R.stations (slots_of self.new) }
         ensures following { AreFollowing self.old → AreFollowing self.new }
     {
@@ -108,17 +127,20 @@ impl<D: Disk, R: Radio> World<D, R> {
     }
 
     /// Starts each interface: accepts its configuration, with its lists, in order, and flushes what that brings
-    /// about. It answers as `hand_out` does. A configuration that is no entry, as of an interface that has
-    /// started with these lists, is passed over.
+    /// about. It answers as `hand_out` does. A configuration that is no entry, as that of a ninth
+    /// BSSID, or any where the core is busy or has stopped, is passed over.
     ///
     /// Errors: `Store` where the store refuses, with the fault that a step told, and with `Failed` where the core has
     /// failed or a round settled nothing; `NoMemory`. The steps that were made stand.
     pub fn start(&mut self) -> Result<Vec<(Recipient, Told)>, WorldFault>
         ensures started { IfOk result (λ answers. IsStarted R.stations R.faults answers.items self.old self.new) }
         ensures err { IfErr result (λ fault. HasEnded R.stations R.faults fault self.old self.new) }
-        ensures failed { IsProper D.honest D.reads D.may_leave D.size (durable_of self.old) → IfErr result (λ fault. HasFailedCore fault self.new) }
-        ensures proper { IsProper D.honest D.reads D.may_leave D.size (durable_of self.old) → IsProper D.honest D.reads D.may_leave D.size (durable_of self.new) }
-        ensures any_moment { IsProper D.honest D.reads D.may_leave D.size (durable_of self.old) → (hs : List Happening) → AreUnsettled hs (durable_of self.old).core
+        ensures failed { IsProper D.honest D.reads D.may_leave D.size (durable_of self.old)
+            → IfErr result (λ fault. HasFailedCore fault self.new) }
+        ensures proper { IsProper D.honest D.reads D.may_leave D.size (durable_of self.old)
+            → IsProper D.honest D.reads D.may_leave D.size (durable_of self.new) }
+        ensures any_moment { IsProper D.honest D.reads D.may_leave D.size (durable_of self.old) → (hs : List Happening)
+            → AreUnsettled hs (durable_of self.old).core
             → LeavesFronts D.moment D.left_since R.stations R.faults hs self.old self.new }
         ensures exact { AreExact R.stations (slots_of self.old) → AreExact R.stations (slots_of self.new) }
         ensures following { AreFollowing self.old → AreFollowing self.new }

@@ -43,7 +43,9 @@ impl<D: Disk> DurableCore<D> {
 
     // What a stop now shows of a proper durable core. It does nothing.
     pub(crate) fn stops(&self)
-        ensures { IsProper D.honest D.reads D.may_leave D.size self.now → (image : List ℕ) → D.left_since (device_of self.now) (D.moment (device_of self.now)) image → ShowsEither self.now.core image }
+        ensures { IsProper D.honest D.reads D.may_leave D.size self.now → (image : List ℕ)
+            → D.left_since (device_of self.now) (D.moment (device_of self.now)) image
+            → ShowsEither self.now.core image }
     {
         self.flusher.shown();
     }
@@ -52,9 +54,13 @@ impl<D: Disk> DurableCore<D> {
     /// what is not settled, or after the batch in flight; from the last call of a batch on, if that
     /// succeeded, until it is published, after that batch. It does nothing.
     pub fn shown(&self)
-        ensures now { IsProper D.honest D.reads D.may_leave D.size self.now → (hs : List Happening) → AreUnsettled hs self.now.core → (image : List ℕ) → D.may_leave (device_of self.now) image → ShowsFlight self.now.core hs image }
-        ensures durable { IsProper D.honest D.reads D.may_leave D.size self.now → (hs : List Happening) → AreUnsettled hs self.now.core → (phase_of self.now.flusher ≡ Phase.Done) ⊎ IsSome self.now.receipt
-            → (image : List ℕ) → D.may_leave (device_of self.now) image → Shows image (run self.now.core.settled self.now.core.confs (take self.now.core.flight hs)) }
+        ensures now { IsProper D.honest D.reads D.may_leave D.size self.now → (hs : List Happening)
+            → AreUnsettled hs self.now.core → (image : List ℕ) → D.may_leave (device_of self.now) image
+            → ShowsFlight self.now.core hs image }
+        ensures durable { IsProper D.honest D.reads D.may_leave D.size self.now → (hs : List Happening)
+            → AreUnsettled hs self.now.core → (phase_of self.now.flusher ≡ Phase.Done) ⊎ IsSome self.now.receipt
+            → (image : List ℕ) → D.may_leave (device_of self.now) image
+            → Shows image (run self.now.core.settled self.now.core.confs (take self.now.core.flight hs)) }
     {
         self.flusher.shown();
     }
@@ -77,7 +83,8 @@ impl<D: Disk> DurableCore<D> {
         ensures given { IfOk result (λ found. IfSome found (λ batch. IsNext batch self.old self.new.core)) }
         ensures only { self.new ≡ record self.old { core = self.new.core; batch = None } }
         ensures none { IfOk result (λ found. IfNone found (HasNoBatch self.old × (self.new ≡ self.old))) }
-        ensures good { IfOk result (λ found. IfSome found (λ batch. self.old.batch ≡ None → IsGood batch.changes self.old.core.settled)) }
+        ensures good { IfOk result
+            (λ found. IfSome found (λ batch. self.old.batch ≡ None → IsGood batch.changes self.old.core.settled)) }
         ensures err { OnErr result (CanTake self.old × (self.new ≡ self.old)) }
     {
         match self.batch.take() {
@@ -119,9 +126,11 @@ impl<D: Disk> DurableCore<D> {
     fn call(&mut self) -> Told
         ensures step { IsStep Call result self.old self.new }
         ensures safe { IsSafe D.honest D.reads D.may_leave D.moment D.left_since D.size self.old self.new }
-        ensures one_call { D.honest (device_of self.old) → D.moment (device_of self.new) ≤ D.moment (device_of self.old) + 1 }
+        ensures one_call { D.honest (device_of self.old)
+            → D.moment (device_of self.new) ≤ D.moment (device_of self.old) + 1 }
         ensures count { D.failed (device_of self.old) ≤ D.failed (device_of self.new) }
-        ensures fault { result ≡ Told.Called (Err StoreFault.Device) → HasRisen (D.failed (device_of self.old)) (D.failed (device_of self.new)) }
+        ensures fault { result ≡ Told.Called (Err StoreFault.Device)
+            → HasRisen (D.failed (device_of self.old)) (D.failed (device_of self.new)) }
     {
         self.stops();
         match self.flusher.phase() {
@@ -144,7 +153,9 @@ impl<D: Disk> DurableCore<D> {
         ensures none { IsNone result → HasNoReceipt self.old × (self.new ≡ self.old) }
         ensures device { device_of self.new ≡ device_of self.old }
         ensures inside { IsInside D.size self.old.flusher → IsInside D.size self.new.flusher }
-        ensures durable { (state after : State) → self.old.receipt ≡ None → IsFlushing D.reads D.may_leave self.old.flusher state after → OnSome result (IsSteady D.reads D.may_leave self.new.flusher after) }
+        ensures durable { (state after : State) → self.old.receipt ≡ None
+            → IsFlushing D.reads D.may_leave self.old.flusher state after
+            → OnSome result (IsSteady D.reads D.may_leave self.new.flusher after) }
     {
         match self.receipt.take() {
             Some(receipt) => Some(receipt),
@@ -216,9 +227,11 @@ impl<D: Disk> DurableCore<D> {
     pub fn step(&mut self, step: &Step<'_>) -> Told
         ensures step { IsStep step.now result self.old self.new }
         ensures safe { IsSafe D.honest D.reads D.may_leave D.moment D.left_since D.size self.old self.new }
-        ensures one_call { D.honest (device_of self.old) → D.moment (device_of self.new) ≤ D.moment (device_of self.old) + 1 }
+        ensures one_call { D.honest (device_of self.old)
+            → D.moment (device_of self.new) ≤ D.moment (device_of self.old) + 1 }
         ensures count { D.failed (device_of self.old) ≤ D.failed (device_of self.new) }
-        ensures fault { result ≡ Told.Called (Err StoreFault.Device) → HasRisen (D.failed (device_of self.old)) (D.failed (device_of self.new)) }
+        ensures fault { result ≡ Told.Called (Err StoreFault.Device)
+            → HasRisen (D.failed (device_of self.old)) (D.failed (device_of self.new)) }
     {
         match *step {
             Step::Accept(input, moment) => self.accept(input, moment),

@@ -24,10 +24,13 @@ impl<D: Disk, R: Radio> World<D, R> {
     // Hands what is ready for a radio to the queue of its slot, if it has one.
     fn queue_ready(&mut self, bssid: Bssid) -> Told
         ensures step { IsWorldStep R.stations R.faults (Hand (Of bssid)) result self.old self.new }
-        ensures safe { IsSafe D.honest D.reads D.may_leave D.moment D.left_since D.size (durable_of self.old) (durable_of self.new) }
-        ensures one_call { D.honest (device_of (durable_of self.old)) → D.moment (device_of (durable_of self.new)) ≤ D.moment (device_of (durable_of self.old)) + 1 }
+        ensures safe { IsSafe D.honest D.reads D.may_leave D.moment D.left_since D.size (durable_of self.old)
+            (durable_of self.new) }
+        ensures one_call { D.honest (device_of (durable_of self.old))
+            → D.moment (device_of (durable_of self.new)) ≤ D.moment (device_of (durable_of self.old)) + 1 }
         ensures count { D.failed (device_of (durable_of self.old)) ≤ D.failed (device_of (durable_of self.new)) }
-        ensures fault { result ≡ Told.Called (Err StoreFault.Device) → HasRisen (D.failed (device_of (durable_of self.old))) (D.failed (device_of (durable_of self.new))) }
+        ensures fault { result ≡ Told.Called (Err StoreFault.Device)
+            → HasRisen (D.failed (device_of (durable_of self.old))) (D.failed (device_of (durable_of self.new))) }
     {
         self.durable.stops();
         let Some(place) = place_of(&self.slots, bssid) else {
@@ -42,10 +45,13 @@ impl<D: Disk, R: Radio> World<D, R> {
     // Hands out what is ready for a recipient: to control itself, to a radio into the queue of its slot.
     fn hand(&mut self, to: Recipient) -> Told
         ensures step { IsWorldStep R.stations R.faults (Hand to) result self.old self.new }
-        ensures safe { IsSafe D.honest D.reads D.may_leave D.moment D.left_since D.size (durable_of self.old) (durable_of self.new) }
-        ensures one_call { D.honest (device_of (durable_of self.old)) → D.moment (device_of (durable_of self.new)) ≤ D.moment (device_of (durable_of self.old)) + 1 }
+        ensures safe { IsSafe D.honest D.reads D.may_leave D.moment D.left_since D.size (durable_of self.old)
+            (durable_of self.new) }
+        ensures one_call { D.honest (device_of (durable_of self.old))
+            → D.moment (device_of (durable_of self.new)) ≤ D.moment (device_of (durable_of self.old)) + 1 }
         ensures count { D.failed (device_of (durable_of self.old)) ≤ D.failed (device_of (durable_of self.new)) }
-        ensures fault { result ≡ Told.Called (Err StoreFault.Device) → HasRisen (D.failed (device_of (durable_of self.old))) (D.failed (device_of (durable_of self.new))) }
+        ensures fault { result ≡ Told.Called (Err StoreFault.Device)
+            → HasRisen (D.failed (device_of (durable_of self.old))) (D.failed (device_of (durable_of self.new))) }
     {
         match to {
             Recipient::Radio(bssid) => self.queue_ready(bssid),
@@ -56,10 +62,13 @@ impl<D: Disk, R: Radio> World<D, R> {
     // Applies the first out of a BSSID's queue at its slot.
     fn apply(&mut self, bssid: Bssid) -> Told
         ensures step { IsWorldStep R.stations R.faults (Apply bssid) result self.old self.new }
-        ensures safe { IsSafe D.honest D.reads D.may_leave D.moment D.left_since D.size (durable_of self.old) (durable_of self.new) }
-        ensures one_call { D.honest (device_of (durable_of self.old)) → D.moment (device_of (durable_of self.new)) ≤ D.moment (device_of (durable_of self.old)) + 1 }
+        ensures safe { IsSafe D.honest D.reads D.may_leave D.moment D.left_since D.size (durable_of self.old)
+            (durable_of self.new) }
+        ensures one_call { D.honest (device_of (durable_of self.old))
+            → D.moment (device_of (durable_of self.new)) ≤ D.moment (device_of (durable_of self.old)) + 1 }
         ensures count { D.failed (device_of (durable_of self.old)) ≤ D.failed (device_of (durable_of self.new)) }
-        ensures fault { result ≡ Told.Called (Err StoreFault.Device) → HasRisen (D.failed (device_of (durable_of self.old))) (D.failed (device_of (durable_of self.new))) }
+        ensures fault { result ≡ Told.Called (Err StoreFault.Device)
+            → HasRisen (D.failed (device_of (durable_of self.old))) (D.failed (device_of (durable_of self.new))) }
     {
         self.durable.stops();
         let Some(place) = place_of(&self.slots, bssid) else {
@@ -78,13 +87,17 @@ impl<D: Disk, R: Radio> World<D, R> {
     /// front of what happened, and every entry that was spoken of by then is in that front (own).
     pub fn step(&mut self, step: &Step<'_>) -> Told
         ensures step { IsWorldStep R.stations R.faults step.now result self.old self.new }
-        ensures safe { IsSafe D.honest D.reads D.may_leave D.moment D.left_since D.size (durable_of self.old) (durable_of self.new) }
-        ensures one_call { D.honest (device_of (durable_of self.old)) → D.moment (device_of (durable_of self.new)) ≤ D.moment (device_of (durable_of self.old)) + 1 }
+        ensures safe { IsSafe D.honest D.reads D.may_leave D.moment D.left_since D.size (durable_of self.old)
+            (durable_of self.new) }
+        ensures one_call { D.honest (device_of (durable_of self.old))
+            → D.moment (device_of (durable_of self.new)) ≤ D.moment (device_of (durable_of self.old)) + 1 }
         ensures count { D.failed (device_of (durable_of self.old)) ≤ D.failed (device_of (durable_of self.new)) }
-        ensures fault { result ≡ Told.Called (Err StoreFault.Device) → HasRisen (D.failed (device_of (durable_of self.old))) (D.failed (device_of (durable_of self.new))) }
+        ensures fault { result ≡ Told.Called (Err StoreFault.Device)
+            → HasRisen (D.failed (device_of (durable_of self.old))) (D.failed (device_of (durable_of self.new))) }
         ensures exact { AreExact R.stations (slots_of self.old) → AreExact R.stations (slots_of self.new) }
         ensures following { AreFollowing self.old → AreFollowing self.new }
-        ensures nothing_is_lost { IsProper D.honest D.reads D.may_leave D.size (durable_of self.old) → LosesNothing R.stations R.faults D.moment D.left_since self.old self.new }
+        ensures nothing_is_lost { IsProper D.honest D.reads D.may_leave D.size (durable_of self.old)
+            → LosesNothing R.stations R.faults D.moment D.left_since self.old self.new }
     {
         match *step {
             Step::Hand(to) => self.hand(to),
