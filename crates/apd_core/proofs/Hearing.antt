@@ -25,6 +25,10 @@ use Rattle.apd_core.specs.Heard.{LastHeard, AreHeardAt, AreMomentsOf, heard_by, 
 pub next_change : (changes : List Change) (i : ℕ) (change : Change) → i < length changes → change ≡ get_or changes i change → drop i changes ≡ change ∷ drop (i + 1) changes
 next_change changes i change lt is = drop-cons changes i change lt ∙ (λ j. sym is j ∷ drop (sym (add-one i) j) changes)
 
+pub next_heard : (m : Moment) (changes : List Change) (i : ℕ) (change : Change) → i < length changes → change ≡ get_or changes i change → (heard end : LastHeard)
+    → heard_by_changes m (drop i changes) heard ≡ end → heard_by_changes m (drop (i + 1) changes) (heard_by_change m change heard) ≡ end
+next_heard m changes i change lt is heard end h = sym (ap (λ cs. heard_by_changes m cs heard) (next_change changes i change lt is)) ∙ h
+
 -- no row, and no moment
 pub none_heard : (s : State) (heard : LastHeard) → s ≡ empty_state → heard ≡ maps.empty → AreMomentsOf s heard
 none_heard s heard no_row no_moment = λ b a.

@@ -13,7 +13,6 @@ pub mod Places
 pub mod Publishing
 pub mod Queues
 pub mod SameChanges
-pub mod Searching
 pub mod Settling
 pub mod Silence
 pub mod Taking

@@ -10,6 +10,7 @@ use Rattle.std.specs.Cmp.{IsTotalOrder, eq_by_cmp_equiv}
 use Rattle.std.specs.FinMap.{FinMap, IsAntisymmetric, get, find, insert, remove, len, from_entries, get-from_entries, get-insert, get-remove, len-empty, len-insert, same_map, get_tied}
 use Rattle.std.specs.Map.{lookup, keys_of}
 use Rattle.std.specs.BTreeMap.{is_at}
+use Rattle.apd_base.proofs.Trees.{find-lookup}
 
 -- what is not there is not there
 pub not_there : {A : Type 0} (x : Option A) → x ≡ None → IsSome x → ⊥
@@ -30,13 +31,9 @@ module _ {K : Type 0} {R : K → K → Ordering} (o : IsTotalOrder R) where
   tied k q = (eq_by_cmp_equiv o).symm k q
 
 module _ {K X : Type 0} {R : K → K → Ordering} (o : IsTotalOrder R) where
-  find-lookup : (q : K) (es : List (K × X)) → find R q es ≡ lookup (is_at (R q)) es
-  find-lookup q [] = refl
-  find-lookup q (e ∷ es) = ap (λ r. cond (eq_by_cmp R q e.0) (Some e.1) r) (find-lookup q es)
-
   -- what the map of a tree's entries answers
   pub get-lookup : (es : List (K × X)) (q : K) → get (from_entries {R = R} es) q ≡ lookup (is_at (R q)) es
-  get-lookup es q = get-from_entries o es q ∙ find-lookup q es
+  get-lookup es q = get-from_entries o es q ∙ find-lookup R q es
 
   below_all : (k : K) (es : List (K × X)) → AllByRecursion (λ y. R k y ≡ Less) (keys_of es) → find R k es ≡ None
   below_all k [] h = refl

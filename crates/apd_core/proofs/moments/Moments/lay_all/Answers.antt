@@ -1,4 +1,4 @@
-use Rattle.std.proofs.Common.{◌+◌, List, drop, inl, inr, refl, ap, ◌∙◌}
+use Rattle.std.proofs.Common.{◌+◌, List, drop, inl, inr, refl, ap}
 use Rattle.std.specs.List.{list_any}
 use Rattle.std.proofs.lemmas.List.{drop_all}
 use Rattle.apd_record.specs.declared.change.Change.{Change}

@@ -5,7 +5,6 @@ use Rattle.apd_base.proofs.AddrLaws.{bssid_total, bssid_exact}
 use Rattle.apd_base.proofs.RowsMaps.{placed}
 use Rattle.apd_table.specs.BssRows.{with_row, state_of_rows}
 use Rattle.apd_table.specs.BssState.{BssState}
-use Rattle.apd_table.specs.declared.members.Members.{Members}
 use Rattle.apd_table.proofs.BssWrites.{sorted_after, rows_are, row, row_members, state_row, same_members, members_with, absent_at}
 use Rattle.apd_table.proofs.bss_rows.BssRows.change_row.Goals as goal
 

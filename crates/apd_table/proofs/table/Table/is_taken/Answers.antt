@@ -1,4 +1,4 @@
-use Rattle.std.proofs.Common.{◌<◌, sym, refl, arith}
+use Rattle.std.proofs.Common.{◌<◌, sym, arith}
 use Rattle.apd_table.specs.Table.{state_of}
 use Rattle.apd_table.proofs.MembersLaws.{none_taken, without_policy}
 use Rattle.apd_table.proofs.Places.{places_of}
