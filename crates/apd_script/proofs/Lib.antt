@@ -1,9 +1,4 @@
-pub mod Accepting
-pub mod Answering
-pub mod Handing
+pub mod Doing
 pub mod Running
 pub mod Saying
 pub mod ScriptLines
-pub mod Senders
-pub mod Speaking
-pub mod Starting

@@ -1,5 +1,5 @@
 use crate::calls::{alone, both, built_in, second};
-use crate::script_tests::printed;
+use crate::worlds::printed;
 use apd_conf::{Confs, HwMode, IgnoreBroadcastSsid};
 use std::alloc::Global;
 use std::process::Abort;

@@ -1,11 +1,13 @@
 use crate::calls::{addresses_of, alone, both, built_in, second};
-use crate::script_tests::printed;
+use crate::worlds::{new_world, printed};
 use apd_base::{AclMode, Addr, Bssid, Moment};
 use apd_conf::{AddressList, Confs, Ssid};
-use apd_ctrl::Query;
+use apd_core::{Input, QuietReason};
+use apd_disk::Disk;
 use apd_frame::Reason;
 use apd_mlme::Event;
-use apd_script::{Accepted, Input, QuietReason, Step, Told, World, drive};
+use apd_radio::Radio;
+use apd_world::{Reception, Step, Told, World};
 use std::alloc::Global;
 use std::process::Abort;
 use std::test::Fail;
@@ -323,10 +325,28 @@ fn kick(bssid: Bssid) -> Event<'static> {
     }
 }
 
+/// What a world answers to a command.
+fn answer_to<D: Disk, R: Radio>(
+    world: &mut World<D, R>,
+    event: Event<'_>,
+) -> Result<Reception, Fail> {
+    match world.step(&Step::Accept(Input::Order(event), Moment(0))) {
+        Told::Accepted(answer) => Ok(answer),
+        _ => Err(Fail::new("a command is not answered")),
+    }
+}
+
+fn start<D: Disk, R: Radio>(world: &mut World<D, R>) -> Result<(), Fail> {
+    match world.start() {
+        Ok(_) => Ok(()),
+        Err(_) => Err(Fail::new("a world is not started")),
+    }
+}
+
 #[test]
 fn a_command_needs_a_radio_that_was_started(rt: HostRuntime) -> Result<(), Fail> {
     let alloc = rt.alloc();
-    let mut world = World::new(alloc, alone(alloc, built_in(alloc)?)?);
+    let mut world = new_world(alloc, alone(alloc, built_in(alloc)?)?)?;
     let silence = Event::Expire {
         bssid: RADIO,
         addr: STATION,
@@ -336,20 +356,9 @@ fn a_command_needs_a_radio_that_was_started(rt: HostRuntime) -> Result<(), Fail>
         (kick(RADIO), QuietReason::NoPolicy),
         (silence, QuietReason::Nothing),
     ] {
-        let answer = world.accept(alloc, Input::Order(event), Moment(0))?;
-        assert_eq!(rt; answer, Accepted::Quiet(reason));
+        assert_eq!(rt; answer_to(&mut world, event)?, Reception::Quiet(reason));
     }
-    world.start(alloc, Moment(0))?;
-    let answer = world.accept(alloc, Input::Order(kick(RADIO)), Moment(0))?;
-    assert_eq!(rt; answer, Accepted::Entry(2));
-    let query = Query::Sta(RADIO, STATION);
-    for told in drive(alloc, &mut world, &[Step::Ask(query), Step::Settle])?.as_slice() {
-        if let Told::Answered(answer) = told {
-            assert_eq!(rt; answer.query(), query);
-            assert_eq!(rt; answer.number(), 1);
-            assert_eq!(rt; answer.text(), b"FAIL\n".as_slice());
-        }
-    }
-    assert_eq!(rt; world.read(alloc, Query::Ping)?.number(), 2);
+    start(&mut world)?;
+    assert_eq!(rt; answer_to(&mut world, kick(RADIO))?, Reception::Entry(2));
     Ok(())
 }

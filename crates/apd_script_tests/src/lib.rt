@@ -14,3 +14,7 @@ mod configuration_tests;
 mod decision_tests;
 #[cfg(test)]
 mod script_tests;
+#[cfg(test)]
+mod stop_tests;
+#[cfg(test)]
+mod worlds;

@@ -1,9 +1,11 @@
 use crate::calls::{self, alone, both, second};
+use crate::worlds::{new_world, printed, radios};
 use apd_base::limits::MAX_SCRIPT;
 use apd_base::{Addr, Aid, Bssid};
 use apd_conf::{Confs, InterfaceName};
 use apd_mlme::Out;
-use apd_script::{Accepted, QuietReason, ScriptFault, World, run_script, write_out};
+use apd_script::{QuietReason, ScriptFault, run_script, write_out, write_reception};
+use apd_world::Reception;
 use std::alloc::Global;
 use std::io::{self, BufRead, BufReader, Read, Write};
 use std::test::Fail;
@@ -11,17 +13,6 @@ use std::test::Fail;
 /// The built-in configuration alone: wlan0 at 02:00:00:00:00:01.
 fn built_in(alloc: Global) -> Result<Confs, Fail> {
     alone(alloc, calls::built_in(alloc)?)
-}
-
-/// Runs a script on a daemon of these configurations, and gives how it ended and what it printed.
-pub fn printed(
-    alloc: Global,
-    confs: Confs,
-    script: &[u8],
-) -> Result<(Option<ScriptFault>, Vec<u8>), Fail> {
-    let mut out = Vec::new(alloc);
-    let fault = run_script(alloc, World::new(alloc, confs), script, &mut out).err();
-    Ok((fault, out))
 }
 
 #[test]
@@ -76,7 +67,8 @@ fn the_first_bad_line_ends_a_script(rt: HostRuntime) -> Result<(), Fail> {
         (b"rx  wlan0 b0", 1),
         (b"flush ", 1),
         (b"flush\r\n", 1),
-        (b"take", 1),
+        (b"take 1", 1),
+        (b"stop ", 1),
         (b"cmdPING", 1),
         (b"tick", 1),
         (b"tick ", 1),
@@ -174,8 +166,8 @@ fn fault_of<R: BufRead + Drop>(
     reader: R,
     mut writer: Narrow,
 ) -> Result<Option<ScriptFault>, Fail> {
-    let world = World::new(alloc, built_in(alloc)?);
-    Ok(run_script(alloc, world, reader, &mut writer).err())
+    let world = new_world(alloc, built_in(alloc)?)?;
+    Ok(run_script(alloc, world, reader, &mut writer, radios(alloc, 0)?).err())
 }
 
 #[test]
@@ -270,17 +262,23 @@ fn driver_calls_and_faults_are_printed_in_these_words(rt: HostRuntime) -> Result
         assert_eq!(rt; format!(in alloc; "{fault}")?.as_str(), want);
     }
     for (answer, want) in [
-        (Accepted::Stopped, "stopped"),
-        (Accepted::Entry(12), "entry 12"),
+        (Reception::Stopped, b"stopped\n".as_slice()),
+        (Reception::Busy, b"busy\n"),
+        (Reception::Entry(12), b"entry 12\n"),
         (
-            Accepted::Quiet(QuietReason::NoInterface),
-            "quiet nointerface",
+            Reception::Quiet(QuietReason::NoInterface),
+            b"quiet nointerface\n",
         ),
-        (Accepted::Quiet(QuietReason::NoPolicy), "quiet nopolicy"),
-        (Accepted::Quiet(QuietReason::TooManyBss), "quiet toomanybss"),
-        (Accepted::Quiet(QuietReason::Nothing), "quiet nothing"),
+        (Reception::Quiet(QuietReason::NoPolicy), b"quiet nopolicy\n"),
+        (
+            Reception::Quiet(QuietReason::TooManyBss),
+            b"quiet toomanybss\n",
+        ),
+        (Reception::Quiet(QuietReason::Nothing), b"quiet nothing\n"),
     ] {
-        assert_eq!(rt; format!(in alloc; "{answer}")?.as_str(), want);
+        let mut out = Vec::new(alloc);
+        assert!(rt; write_reception(alloc, &mut out, answer).is_ok());
+        assert_eq!(rt; out.as_slice(), want);
     }
     Ok(())
 }

@@ -1,0 +1,70 @@
+-- What the lines of a script do, from what the steps do that they ask for.
+use Rattle.std.proofs.Common.{◌≡◌, ℕ, List, Some, None, Result, Ok, Err, IfOk, IfErr, subst}
+use Rattle.std.specs.Prelude.{length}
+use Rattle.apd_base.specs.declared.moment.Moment.{Moment}
+use Rattle.apd_conf.specs.declared.conf.Conf.{Conf}
+use Rattle.apd_conf.specs.Confs.{conf_named}
+use Rattle.apd_core.specs.Requests.{unless_ignored}
+use Rattle.apd_frame.specs.Outcome.{outcome}
+use Rattle.apd_slot.specs.Wanted.{Stations}
+use Rattle.apd_world.specs.declared.step.Step.{Step}
+use Rattle.apd_script.specs.Lines.{Said, Says, IsNotPossible}
+use Rattle.apd_script.specs.Script.{asked_at, confs_of, IsLineFault, IsMade, IsNoBadLine, IsReceived, IsRequested, IsRun, IsSaidFault, SaysAndIsRun}
+use Rattle.apd_script.specs.declared.script.fault.ScriptFault.{ScriptFault}
+use Rattle.apd_script.specs.declared.script.fault.ScriptFault.TheVariants as fault
+use Rattle.apd_script.specs.declared.script.standing.Standing.{Standing}
+
+module _ {D R : Type 0} where
+  -- what is no bad line tells nothing of what was said
+  pub said_elsewhere : (n : ℕ) (what : Said) (s : Standing D R) (why : ScriptFault) → IsNoBadLine why → IsSaidFault n what s why
+  said_elsewhere n what s (fault.BadLine k) h = absurd h
+  said_elsewhere n what s fault.Reader h = tt
+  said_elsewhere n what s fault.Writer h = tt
+  said_elsewhere n what s (fault.World why) h = tt
+  said_elsewhere n what s fault.NoMemory h = tt
+
+  pub all_elsewhere : {A : Type 0} (r : Result A ScriptFault) (n : ℕ) (what : Said) (s : Standing D R) → IfErr r IsNoBadLine → IfErr r (IsSaidFault n what s)
+  all_elsewhere (Ok x) n what s h = tt
+  all_elsewhere (Err why) n what s h = said_elsewhere n what s why h
+
+  pub lines_elsewhere : (n : ℕ) (text : List ℕ) (s : Standing D R) (why : ScriptFault) → IsNoBadLine why → IsLineFault n text s why
+  lines_elsewhere n text s (fault.BadLine k) h = absurd h
+  lines_elsewhere n text s fault.Reader h = tt
+  lines_elsewhere n text s fault.Writer h = tt
+  lines_elsewhere n text s (fault.World why) h = tt
+  lines_elsewhere n text s fault.NoMemory h = tt
+
+  -- what can't be carried out is bad, since a text says one thing alone
+  said_fault : (one : (text : List ℕ) (a b : Said) → Says text a → Says text b → a ≡ b) (n : ℕ) (text : List ℕ) (what : Said) (s : Standing D R) (why : ScriptFault)
+      → Says text what → IsSaidFault n what s why → IsLineFault n text s why
+  said_fault one n text what s (fault.BadLine k) says (same, impossible) = (same, λ other says_other. subst (λ w. IsNotPossible (confs_of s) (length s.spares.items) w) (one text what other says says_other) impossible)
+  said_fault one n text what s fault.Reader says h = tt
+  said_fault one n text what s fault.Writer says h = tt
+  said_fault one n text what s (fault.World why) says h = tt
+  said_fault one n text what s fault.NoMemory says h = tt
+
+  pub line_fault : {A : Type 0} (one : (text : List ℕ) (a b : Said) → Says text a → Says text b → a ≡ b) (r : Result A ScriptFault) (n : ℕ) (text : List ℕ) (what : Said) (s : Standing D R)
+      → Says text what → IfErr r (IsSaidFault n what s) → IfErr r (IsLineFault n text s)
+  line_fault one (Ok x) n text what s says h = tt
+  line_fault one (Err why) n text what s says h = said_fault one n text what s why says h
+
+module _ {D R : Type 0} (honest : D → Type 0) (reads : D → List ℕ) (stations : R → Stations) (faults : R → ℕ) where
+  -- a frame is received
+  pub received_ok : (r : Result (Standing D R) ScriptFault) (interface frame : List ℕ) (conf : Conf) (request : Step) (old : Standing D R)
+      → conf_named (confs_of old) interface ≡ Some conf → asked_at request ≡ Some (Some (unless_ignored conf.bssid (outcome frame conf.bssid)), old.moment)
+      → IfOk r (λ new. IsMade honest reads stations faults request old new) → IfOk r (λ new. IsReceived honest reads stations faults interface frame old new)
+  received_ok (Ok new) interface frame conf request old configured asks made = record { conf = conf; configured = configured; requested = record { request = request; asks = asks; made = made } }
+  received_ok (Err why) interface frame conf request old configured asks made = tt
+
+  -- it is another moment
+  pub ticked_ok : (r : Result (Standing D R) ScriptFault) (m : Moment) (request : Step) (old at : Standing D R) → at ≡ record old { moment = m } → asked_at request ≡ Some (None, m)
+      → IfOk r (λ new. IsMade honest reads stations faults request at new) → IfOk r (λ new. IsRequested honest reads stations faults None (record old { moment = m }) new)
+  ticked_ok (Ok new) m request old at is asks made =
+      record { request = request; asks = asks; made = subst (λ (s : Standing D R). IsMade honest reads stations faults request s new) is made }
+  ticked_ok (Err why) m request old at is asks made = tt
+
+  -- a text says what is run
+  pub says_ok : (r : Result (Standing D R) ScriptFault) (n : ℕ) (text : List ℕ) (what : Said) (old : Standing D R) → Says text what
+      → IfOk r (λ new. IsRun honest reads stations faults n what old new) → IfOk r (λ new. SaysAndIsRun honest reads stations faults n text old new)
+  says_ok (Ok new) n text what old says run = record { what = what; says = says; run = run }
+  says_ok (Err why) n text what old says run = tt
