@@ -4,11 +4,13 @@
 
 pub mod configuration_files;
 mod formatting;
+mod on_store;
 pub mod script;
 
 pub use apd_core::QuietReason;
 pub use configuration_files::read_configurations;
 pub use formatting::{FormatFault, run_format};
+pub use on_store::{STOPS, new_store, run_on_store};
 pub use script::{
     ScriptFault, exactly_one_line, run_script, write_applied, write_out, write_reception,
 };
