@@ -1,19 +1,14 @@
-use crate::calls::{self, alone, both, second};
-use crate::worlds::{new_world, printed, radios};
+use crate::calls::{both, built_in, one_radio, second};
+use crate::worlds::{fresh_store, printed, run_on};
 use apd_base::limits::MAX_SCRIPT;
 use apd_base::{Addr, Aid, Bssid};
-use apd_conf::{Confs, InterfaceName};
+use apd_conf::InterfaceName;
 use apd_mlme::Out;
-use apd_script::{QuietReason, ScriptFault, run_script, write_out, write_reception};
+use apd_script::{QuietReason, ScriptFault, write_out, write_reception};
 use apd_world::Reception;
 use std::alloc::Global;
 use std::io::{self, BufRead, BufReader, Read, Write};
 use std::test::Fail;
-
-/// The built-in configuration alone: wlan0 at 02:00:00:00:00:01.
-fn built_in(alloc: Global) -> Result<Confs, Fail> {
-    alone(alloc, calls::built_in(alloc)?)
-}
 
 #[test]
 fn an_authentication_is_answered_once_it_is_flushed(rt: HostRuntime) -> Result<(), Fail> {
@@ -48,7 +43,7 @@ fn an_authentication_is_answered_once_it_is_flushed(rt: HostRuntime) -> Result<(
             b"quiet short\nquiet short\nquiet short\n",
         ),
     ] {
-        let (fault, out) = printed(rt.alloc(), built_in(rt.alloc())?, script)?;
+        let (fault, out) = printed(rt.alloc(), one_radio(rt.alloc())?, script)?;
         assert_eq!(rt; fault, None);
         assert_eq!(rt; out.as_slice(), want);
     }
@@ -81,10 +76,10 @@ fn the_first_bad_line_ends_a_script(rt: HostRuntime) -> Result<(), Fail> {
             4,
         ),
     ] {
-        let (fault, _) = printed(rt.alloc(), built_in(rt.alloc())?, script)?;
+        let (fault, _) = printed(rt.alloc(), one_radio(rt.alloc())?, script)?;
         assert_eq!(rt; fault, Some(ScriptFault::BadLine(line)));
     }
-    let (_, out) = printed(rt.alloc(), built_in(rt.alloc())?, b"rx wlan0\nx\n")?;
+    let (_, out) = printed(rt.alloc(), one_radio(rt.alloc())?, b"rx wlan0\nx\n")?;
     assert_eq!(rt; out.as_slice(), b"quiet short\n".as_slice());
     Ok(())
 }
@@ -101,7 +96,7 @@ fn frames_of_2305_bytes_are_too_long(rt: HostRuntime) -> Result<(), Fail> {
         for _ in 24..bytes {
             script.extend_from_slice(b"00")?;
         }
-        let (fault, out) = printed(alloc, built_in(alloc)?, script.as_slice())?;
+        let (fault, out) = printed(alloc, one_radio(alloc)?, script.as_slice())?;
         assert_eq!(rt; fault, None);
         assert_eq!(rt; out.as_slice(), want);
     }
@@ -166,8 +161,8 @@ fn fault_of<R: BufRead + Drop>(
     reader: R,
     mut writer: Narrow,
 ) -> Result<Option<ScriptFault>, Fail> {
-    let world = new_world(alloc, built_in(alloc)?)?;
-    Ok(run_script(alloc, world, reader, &mut writer, radios(alloc, 0)?).err())
+    let disk = fresh_store(alloc)?;
+    Ok(run_on(alloc, disk, one_radio(alloc)?, reader, &mut writer).err())
 }
 
 #[test]
@@ -228,7 +223,7 @@ fn radios_are_handed_their_own_in_the_order_of_configuration(rt: HostRuntime) ->
     let alloc = rt.alloc();
     let mut second = second(alloc)?;
     second.bssid = Bssid(Addr([2, 0, 0, 0, 0, 0]));
-    let confs = both(alloc, calls::built_in(alloc)?, second)?;
+    let confs = both(alloc, built_in(alloc)?, second)?;
     let script =
         b"rx wlan1 b00000000200000000000200000000aa0200000000001000000001000000\nrx wlan0 b00000000200000000010200000000aa0200000000011000000001000000\nflush\n";
     let (fault, out) = printed(alloc, confs, script.as_slice())?;

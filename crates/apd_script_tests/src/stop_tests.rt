@@ -1,200 +1,136 @@
 //! Stops and restarts, steps of a commit, and refusals of the store.
-use crate::calls::{alone, both, built_in, second};
-use crate::worlds::{Ran, new_store, printed, radios, run_on, world_on};
+use crate::calls::{one_radio, two_radios};
+use crate::rows::{JOINED, JOINS, Row, ends, joint, prints};
+use crate::worlds::{fresh_store, printed, run_on};
 use apd_base::Addr;
-use apd_conf::{Confs, InterfaceName};
+use apd_conf::InterfaceName;
 use apd_disk::FuseDisk;
 use apd_mlme::Out;
-use apd_script::{ScriptFault, run_script, write_applied};
+use apd_script::{ScriptFault, write_applied};
 use apd_slot::SlotFault;
 use apd_store::StoreFault;
 use apd_world::WorldFault;
 use std::alloc::Global;
-use std::process::Abort;
 use std::test::Fail;
 
-fn one(alloc: Global) -> Result<Confs, Fail> {
-    alone(alloc, built_in(alloc)?)
-}
+/// The station authenticates, and its batch is taken.
+const BEGINS: &str =
+    "rx wlan0 b00000000200000000010200000000aa0200000000011000000001000000\ntake\n";
 
-fn two(alloc: Global) -> Result<Confs, Fail> {
-    both(alloc, built_in(alloc)?, second(alloc)?)
-}
-
-/// The station 02:00:00:00:00:aa joins wlan0, in four lines.
-fn joins() -> &'static str {
-    "rx wlan0 b00000000200000000010200000000aa0200000000011000000001000000\nflush\nrx wlan0 000000000200000000010200000000aa020000000001200031040a0000036e6574010482848b96\nflush\n"
-}
-
-fn joined() -> &'static str {
-    "entry 2\nwlan0 tx b00000000200000000aa0200000000010200000000010000000002000000\nentry 3\nwlan0 install 02:00:00:00:00:aa 1\nwlan0 tx 100000000200000000aa02000000000102000000000100000100000001c0010482848b96\n"
-}
-
-/// Texts, one after the other.
-fn joint(alloc: Global, texts: &[&str]) -> Result<Vec<u8>, Fail> {
-    let mut out = Vec::new(alloc);
-    for text in texts {
-        out.extend_from_slice(text.as_bytes())?;
-    }
-    Ok(out)
-}
-
-/// Runs a script of parts, and compares how it ends and what it prints.
-fn ends(
-    rt: &(impl Abort + AllocGlobal),
-    confs: Confs,
-    script: &[&str],
-    fault: Option<ScriptFault>,
-    want: &[&str],
-) -> Result<(), Fail> {
-    let alloc = rt.alloc();
-    let lines = joint(alloc, script)?;
-    let (told, out) = printed(alloc, confs, lines.as_slice())?;
-    let want = joint(alloc, want)?;
-    assert_eq!(rt; out.as_slice(), want.as_slice());
-    assert_eq!(rt; told, fault);
-    Ok(())
-}
-
-#[test]
-fn a_station_that_is_denied_stays_away_after_a_stop(rt: HostRuntime) -> Result<(), Fail> {
-    ends(
-        &rt,
-        one(rt.alloc())?,
-        &[
-            joins(),
+const AT_ONE_RADIO: [Row; 8] = [
+    Row {
+        about: "a station that is denied stays away",
+        script: &[
+            JOINS,
             "cmd DENY_ACL ADD_MAC 02:00:00:00:00:AA\nflush\nstop\ncmd DENY_ACL SHOW\nflush\n",
         ],
-        None,
-        &[
-            joined(),
+        want: &[
+            JOINED,
             "entry 4\nwlan0 remove 02:00:00:00:00:aa\nwlan0 tx c00000000200000000aa02000000000102000000000100000100\nctrl 5 OK\\n\nrecovered 0\nctrl 8 02:00:00:00:00:aa VLAN_ID=0\\n\n",
         ],
-    )
-}
-
-/// The station authenticates, and its batch is taken.
-fn begins() -> &'static str {
-    "rx wlan0 b00000000200000000010200000000aa0200000000011000000001000000\ntake\n"
-}
-
-#[test]
-fn a_batch_stands_from_its_third_call_on(rt: HostRuntime) -> Result<(), Fail> {
-    for (calls, want) in [
-        ("", "recovered 0\n"),
-        ("call\ncall\n", "recovered 0\n"),
-        ("call\ncall\ncall\n", "recovered 1\n"),
-        // Nothing of it was handed out, and nothing will be.
-        ("call\ncall\ncall\ncall\npublish\n", "recovered 1\n"),
-    ] {
-        ends(
-            &rt,
-            one(rt.alloc())?,
-            &[begins(), calls, "stop\nflush\n"],
-            None,
-            &["entry 2\n", want],
-        )?;
-    }
-    Ok(())
-}
-
-/// The station's row, once it authenticated.
-fn authenticated() -> &'static str {
-    "02:00:00:00:00:aa\\nflags=[AUTH]\\naid=0\\ncapability=0x0\\nlisten_interval=0\\n\n"
-}
-
-#[test]
-fn a_query_is_answered_from_what_is_published(rt: HostRuntime) -> Result<(), Fail> {
-    ends(
-        &rt,
-        one(rt.alloc())?,
-        &[
-            begins(),
+    },
+    Row {
+        about: "a batch with none of its calls made",
+        script: &[BEGINS, "stop\nflush\n"],
+        want: &["entry 2\nrecovered 0\n"],
+    },
+    Row {
+        about: "with two of its calls",
+        script: &[BEGINS, "call\ncall\nstop\nflush\n"],
+        want: &["entry 2\nrecovered 0\n"],
+    },
+    Row {
+        about: "with three of its calls, the last of which opens its gate",
+        script: &[BEGINS, "call\ncall\ncall\nstop\nflush\n"],
+        want: &["entry 2\nrecovered 1\n"],
+    },
+    Row {
+        about: "settled; nothing of it was handed out, and nothing will be",
+        script: &[BEGINS, "call\ncall\ncall\ncall\npublish\nstop\nflush\n"],
+        want: &["entry 2\nrecovered 1\n"],
+    },
+    Row {
+        about: "a query is answered from what is published",
+        script: &[
+            BEGINS,
             "call\ncall\ncall\ncall\ncmd STA-FIRST\npublish\ncmd STA-FIRST\nhand\n",
         ],
-        None,
-        &[
-            "entry 2\nctrl 7 \nctrl 9 ",
-            authenticated(),
+        want: &[
+            "entry 2\nctrl 7 \nctrl 9 02:00:00:00:00:aa\\nflags=[AUTH]\\naid=0\\ncapability=0x0\\nlisten_interval=0\\n\n",
             "wlan0 tx b00000000200000000aa0200000000010200000000010000000002000000\n",
         ],
-    )
-}
-
-#[test]
-fn a_flush_goes_on_with_a_batch_under_way(rt: HostRuntime) -> Result<(), Fail> {
-    ends(
-        &rt,
-        one(rt.alloc())?,
-        &[
-            begins(),
+    },
+    Row {
+        about: "a flush goes on with a batch under way; steps for which there is nothing are passed over",
+        script: &[
+            BEGINS,
             "call\nrx wlan0 b00000000200000000010200000000ab0200000000011000000001000000\ntake\nflush\npublish\ncall\ntake\nhand\n",
         ],
-        None,
-        &[
+        want: &[
             "entry 2\nentry 3\n",
             "wlan0 tx b00000000200000000aa0200000000010200000000010000000002000000\nwlan0 tx b00000000200000000ab0200000000010200000000010000000002000000\n",
         ],
-    )
-}
-
-/// The station joins wlan0, and then wlan1.
-fn moves() -> &'static str {
-    "rx wlan1 b00000000200000000020200000000aa0200000000021000000001000000\nflush\nrx wlan1 000000000200000000020200000000aa020000000002200031040a0000036e6574010482848b96\nflush\n"
-}
-
-fn moved() -> &'static str {
-    "entry 3\nwlan0 tx b00000000200000000aa0200000000010200000000010000000002000000\nentry 4\nwlan0 install 02:00:00:00:00:aa 1\nwlan0 tx 100000000200000000aa02000000000102000000000100000100000001c0010482848b96\nentry 5\nwlan1 tx b00000000200000000aa0200000000020200000000020000000002000000\nentry 6\nwlan0 remove 02:00:00:00:00:aa\nwlan0 tx a00000000200000000aa02000000000102000000000100000100\nwlan1 install 02:00:00:00:00:aa 1\nwlan1 tx 100000000200000000aa02000000000202000000000200000100000001c0010482848b96\n"
-}
-
-#[test]
-fn a_station_is_where_it_joined_last_after_a_stop(rt: HostRuntime) -> Result<(), Fail> {
-    ends(
-        &rt,
-        two(rt.alloc())?,
-        &[
-            joins(),
-            moves(),
-            "stop\nrx wlan1 080100000200000000020200000000aa0200000000020000\nrx wlan0 080100000200000000010200000000aa0200000000010000\nflush\n",
-        ],
-        None,
-        &[
-            moved(),
-            "recovered 2\nquiet nothing\nentry 3\nwlan0 tx a00000000200000000aa02000000000102000000000100000700\n",
-        ],
-    )
-}
-
-#[test]
-fn a_stop_leaves_the_moment(rt: HostRuntime) -> Result<(), Fail> {
-    // Once it restarts the station was heard at the moment of the stop.
-    ends(
-        &rt,
-        one(rt.alloc())?,
-        &[
-            joins(),
+    },
+    Row {
+        about: "a stop leaves the moment, and the station was then heard at it",
+        script: &[
+            JOINS,
             "tick 200000\nstop\ntick 499999\ntick 500000\nflush\n",
         ],
-        None,
-        &[
-            joined(),
+        want: &[
+            JOINED,
             "quiet nothing\nrecovered 1\nquiet nothing\nentry 2\nwlan0 remove 02:00:00:00:00:aa\nwlan0 tx a00000000200000000aa02000000000102000000000100000400\n",
         ],
-    )
+    },
+];
+
+/// The rows of one radio.
+fn at_one_radio() -> &'static [Row] {
+    &AT_ONE_RADIO
+}
+
+/// The station joins wlan0, and then wlan1, which stays so after a stop: its data are quiet at wlan1, and answered
+/// by reason 7 at wlan0.
+const MOVES: Row = Row {
+    about: "a station is where it joined last",
+    script: &[
+        JOINS,
+        "rx wlan1 b00000000200000000020200000000aa0200000000021000000001000000\nflush\nrx wlan1 000000000200000000020200000000aa020000000002200031040a0000036e6574010482848b96\nflush\n",
+        "stop\nrx wlan1 080100000200000000020200000000aa0200000000020000\nrx wlan0 080100000200000000010200000000aa0200000000010000\nflush\n",
+    ],
+    want: &[
+        "entry 3\nwlan0 tx b00000000200000000aa0200000000010200000000010000000002000000\nentry 4\nwlan0 install 02:00:00:00:00:aa 1\nwlan0 tx 100000000200000000aa02000000000102000000000100000100000001c0010482848b96\n",
+        "entry 5\nwlan1 tx b00000000200000000aa0200000000020200000000020000000002000000\nentry 6\nwlan0 remove 02:00:00:00:00:aa\nwlan0 tx a00000000200000000aa02000000000102000000000100000100\nwlan1 install 02:00:00:00:00:aa 1\nwlan1 tx 100000000200000000aa02000000000202000000000200000100000001c0010482848b96\n",
+        "recovered 2\nquiet nothing\nentry 3\nwlan0 tx a00000000200000000aa02000000000102000000000100000700\n",
+    ],
+};
+
+/// The row of two radios.
+fn moves() -> &'static Row {
+    &MOVES
+}
+
+#[test]
+fn a_stop_leaves_what_the_device_reads(rt: HostRuntime) -> Result<(), Fail> {
+    for row in at_one_radio() {
+        prints(&rt, one_radio(rt.alloc())?, row)?;
+    }
+    prints(&rt, two_radios(rt.alloc())?, moves())
 }
 
 #[test]
 fn each_interface_stops_eight_times(rt: HostRuntime) -> Result<(), Fail> {
-    let stops = "stop\nstop\nstop\nstop\nstop\nstop\nstop\nstop\n";
-    let recovered =
-        "recovered 0\nrecovered 0\nrecovered 0\nrecovered 0\nrecovered 0\nrecovered 0\nrecovered 0\nrecovered 0\n";
-    for confs in [one(rt.alloc())?, two(rt.alloc())?] {
+    let script = b"stop\nstop\nstop\nstop\nstop\nstop\nstop\nstop\nstop\n";
+    let want =
+        b"recovered 0\nrecovered 0\nrecovered 0\nrecovered 0\nrecovered 0\nrecovered 0\nrecovered 0\nrecovered 0\n";
+    for confs in [one_radio(rt.alloc())?, two_radios(rt.alloc())?] {
         ends(
             &rt,
+            "nine stops",
             confs,
-            &[stops, "stop\n"],
+            script,
+            want,
             Some(ScriptFault::BadLine(9)),
-            &[recovered],
         )?;
     }
     Ok(())
@@ -202,24 +138,21 @@ fn each_interface_stops_eight_times(rt: HostRuntime) -> Result<(), Fail> {
 
 /// Runs two scripts one after the other on one device, and gives what the second prints.
 fn again(alloc: Global, first: &[u8], second: &[u8]) -> Result<Vec<u8>, Fail> {
-    let Ran { disk, .. } = run_on(alloc, new_store(alloc)?, one(alloc)?, first)?;
-    let disk = disk.ok_or("a script has a fault")?;
-    let Ran { out, disk, .. } = run_on(alloc, disk, one(alloc)?, second)?;
-    drop(disk.ok_or("a script has a fault")?);
-    Ok(out)
-}
-
-#[test]
-fn another_run_has_the_station_with_no_frame_sent(rt: HostRuntime) -> Result<(), Fail> {
-    let out = again(
-        rt.alloc(),
-        joins().as_bytes(),
-        b"cmd STA 02:00:00:00:00:aa\nflush\n",
-    )?;
-    let want =
-        b"ctrl 1 02:00:00:00:00:aa\\nflags=[AUTH][ASSOC][AUTHORIZED]\\naid=1\\ncapability=0x431\\nlisten_interval=10\\n\n";
-    assert_eq!(rt; out.as_slice(), want.as_slice());
-    Ok(())
+    let mut out = Vec::new(alloc);
+    let Ok(disk) = run_on(
+        alloc,
+        fresh_store(alloc)?,
+        one_radio(alloc)?,
+        first,
+        &mut out,
+    ) else {
+        return Err(Fail::new("the first script has a fault"));
+    };
+    out.clear();
+    match run_on(alloc, disk, one_radio(alloc)?, second, &mut out) {
+        Ok(_) => Ok(out),
+        Err(_) => Err(Fail::new("the second script has a fault")),
+    }
 }
 
 /// So many stations join.
@@ -235,16 +168,48 @@ fn all_join(alloc: Global, count: u16) -> Result<Vec<u8>, Fail> {
     Ok(script)
 }
 
-#[test]
-fn another_run_has_all_2007_stations(rt: HostRuntime) -> Result<(), Fail> {
-    let first = all_join(rt.alloc(), 2007)?;
-    let out = again(
-        rt.alloc(),
-        first.as_slice(),
-        b"cmd STATUS\ncmd STA 02:00:00:ff:07:d6\ncmd STA-NEXT 02:00:00:ff:03:e7\n",
+/// Each of so many stations is asked for.
+fn all_are_asked_for(alloc: Global, count: u16) -> Result<Vec<u8>, Fail> {
+    let mut script = Vec::new(alloc);
+    script.extend_from_slice(b"cmd STATUS\n")?;
+    for number in 0..count {
+        let line = format!(in alloc;
+            "cmd STA 02:00:00:ff:{:02x}:{:02x}\n",
+            number / 256,
+            number % 256
+        )?;
+        script.extend_from_slice(line.as_bytes())?;
+    }
+    Ok(script)
+}
+
+/// Each of them is shown, with its identifier.
+fn all_are_shown(alloc: Global, count: u16) -> Result<Vec<u8>, Fail> {
+    let mut out = Vec::new(alloc);
+    let status = format!(in alloc;
+        "ctrl 1 state=ENABLED\\nchannel=6\\nbeacon_int=100\\nbss[0]=wlan0\\nbssid[0]=02:00:00:00:00:01\\nssid[0]=net\\nnum_sta[0]={count}\\n\n"
     )?;
-    let want =
-        b"ctrl 1 state=ENABLED\\nchannel=6\\nbeacon_int=100\\nbss[0]=wlan0\\nbssid[0]=02:00:00:00:00:01\\nssid[0]=net\\nnum_sta[0]=2007\\n\nctrl 2 02:00:00:ff:07:d6\\nflags=[AUTH][ASSOC][AUTHORIZED]\\naid=2007\\ncapability=0x431\\nlisten_interval=10\\n\nctrl 3 02:00:00:ff:03:e8\\nflags=[AUTH][ASSOC][AUTHORIZED]\\naid=1001\\ncapability=0x431\\nlisten_interval=10\\n\n";
+    out.extend_from_slice(status.as_bytes())?;
+    for number in 0..count {
+        let line = format!(in alloc;
+            "ctrl {} 02:00:00:ff:{:02x}:{:02x}\\nflags=[AUTH][ASSOC][AUTHORIZED]\\naid={}\\ncapability=0x431\\nlisten_interval=10\\n\n",
+            number as u32 + 2,
+            number / 256,
+            number % 256,
+            number as u32 + 1
+        )?;
+        out.extend_from_slice(line.as_bytes())?;
+    }
+    Ok(out)
+}
+
+#[test]
+fn another_run_has_all_stations_with_no_frame_sent(rt: HostRuntime) -> Result<(), Fail> {
+    let alloc = rt.alloc();
+    let join = all_join(alloc, 2007)?;
+    let ask = all_are_asked_for(alloc, 2007)?;
+    let out = again(alloc, join.as_slice(), ask.as_slice())?;
+    let want = all_are_shown(alloc, 2007)?;
     assert_eq!(rt; out.as_slice(), want.as_slice());
     Ok(())
 }
@@ -273,7 +238,7 @@ fn tail(text: &[u8], count: usize) -> &[u8] {
 fn a_full_core_is_busy(rt: HostRuntime) -> Result<(), Fail> {
     let alloc = rt.alloc();
     let lines = keeps_4096(alloc)?;
-    let (fault, out) = printed(alloc, one(alloc)?, lines.as_slice())?;
+    let (fault, out) = printed(alloc, one_radio(alloc)?, lines.as_slice())?;
     assert_eq!(rt; fault, None);
     let want = b"entry 4097\nbusy\nctrl 4098 FAIL\\n\nctrl 4099 PONG\\n\n";
     assert_eq!(rt; tail(out.as_slice(), want.len()), want.as_slice());
@@ -287,9 +252,8 @@ fn printed_on_fuse(
     script: &[u8],
 ) -> Result<(Option<ScriptFault>, Vec<u8>), Fail> {
     let mut out = Vec::new(alloc);
-    let disk = FuseDisk::new(new_store(alloc)?, calls);
-    let world = world_on(alloc, disk, one(alloc)?)?;
-    let fault = run_script(alloc, world, script, &mut out, radios(alloc, 0)?).err();
+    let disk = FuseDisk::new(fresh_store(alloc)?, calls);
+    let fault = run_on(alloc, disk, one_radio(alloc)?, script, &mut out).err();
     Ok((fault, out))
 }
 
@@ -313,7 +277,7 @@ fn a_refusal_ends_a_script_at_its_next_flush(rt: HostRuntime) -> Result<(), Fail
         assert_eq!(rt; out.as_slice(), want.as_bytes());
     }
     // The same where the flush meets it.
-    let (told, out) = printed_on_fuse(alloc, FUSE, joins().as_bytes())?;
+    let (told, out) = printed_on_fuse(alloc, FUSE, JOINS.as_bytes())?;
     assert_eq!(rt; told, REFUSED);
     assert_eq!(rt; out.as_slice(), b"entry 2\n".as_slice());
     Ok(())
