@@ -4,6 +4,7 @@
 
 pub mod configuration_files;
 mod formatting;
+pub mod laws;
 pub mod script;
 
 pub use apd_core::QuietReason;
