@@ -1,5 +1,5 @@
 -- What the lines of a script do, from what the steps do that they ask for.
-use Rattle.std.proofs.Common.{◌≡◌, ℕ, List, Some, None, Result, Ok, Err, IfOk, IfErr, subst}
+use Rattle.std.proofs.Common.{◌≡◌, ℕ, List, Some, None, Result, Ok, Err, IfOk, IfErr, subst, sym}
 use Rattle.std.specs.Prelude.{length}
 use Rattle.apd_base.specs.declared.moment.Moment.{Moment}
 use Rattle.apd_conf.specs.declared.conf.Conf.{Conf}
@@ -48,23 +48,28 @@ module _ {D R : Type 0} where
   line_fault one (Ok x) n text what s says h = tt
   line_fault one (Err why) n text what s says h = said_fault one n text what s why says h
 
-module _ {D R : Type 0} (honest : D → Type 0) (reads : D → List ℕ) (stations : R → Stations) (faults : R → ℕ) where
+-- what holds of a value holds of what is told to be it
+pub same_ok : {A E : Type 0} (P : A → Type 0) (r : Result A E) (x : A) → P x → IfOk r (λ y. y ≡ x) → IfOk r P
+same_ok P (Ok y) x p same = subst P (sym same) p
+same_ok P (Err why) x p same = tt
+
+module _ {D R : Type 0} (honest : D → Type 0) (reads : D → List ℕ) (may_leave : D → List ℕ → Type 0) (size : D → ℕ) (stations : R → Stations) (faults : R → ℕ) where
   -- a frame is received
   pub received_ok : (r : Result (Standing D R) ScriptFault) (interface frame : List ℕ) (conf : Conf) (request : Step) (old : Standing D R)
       → conf_named (confs_of old) interface ≡ Some conf → asked_at request ≡ Some (Some (unless_ignored conf.bssid (outcome frame conf.bssid)), old.moment)
-      → IfOk r (λ new. IsMade honest reads stations faults request old new) → IfOk r (λ new. IsReceived honest reads stations faults interface frame old new)
+      → IfOk r (λ new. IsMade honest reads may_leave size stations faults request old new) → IfOk r (λ new. IsReceived honest reads may_leave size stations faults interface frame old new)
   received_ok (Ok new) interface frame conf request old configured asks made = record { conf = conf; configured = configured; requested = record { request = request; asks = asks; made = made } }
   received_ok (Err why) interface frame conf request old configured asks made = tt
 
   -- it is another moment
   pub ticked_ok : (r : Result (Standing D R) ScriptFault) (m : Moment) (request : Step) (old at : Standing D R) → at ≡ record old { moment = m } → asked_at request ≡ Some (None, m)
-      → IfOk r (λ new. IsMade honest reads stations faults request at new) → IfOk r (λ new. IsRequested honest reads stations faults None (record old { moment = m }) new)
+      → IfOk r (λ new. IsMade honest reads may_leave size stations faults request at new) → IfOk r (λ new. IsRequested honest reads may_leave size stations faults None (record old { moment = m }) new)
   ticked_ok (Ok new) m request old at is asks made =
-      record { request = request; asks = asks; made = subst (λ (s : Standing D R). IsMade honest reads stations faults request s new) is made }
+      record { request = request; asks = asks; made = subst (λ (s : Standing D R). IsMade honest reads may_leave size stations faults request s new) is made }
   ticked_ok (Err why) m request old at is asks made = tt
 
   -- a text says what is run
   pub says_ok : (r : Result (Standing D R) ScriptFault) (n : ℕ) (text : List ℕ) (what : Said) (old : Standing D R) → Says text what
-      → IfOk r (λ new. IsRun honest reads stations faults n what old new) → IfOk r (λ new. SaysAndIsRun honest reads stations faults n text old new)
+      → IfOk r (λ new. IsRun honest reads may_leave size stations faults n what old new) → IfOk r (λ new. SaysAndIsRun honest reads may_leave size stations faults n text old new)
   says_ok (Ok new) n text what old says run = record { what = what; says = says; run = run }
   says_ok (Err why) n text what old says run = tt

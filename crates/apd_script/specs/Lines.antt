@@ -1,6 +1,6 @@
 -- The lines of a script, and what each says (own format).
 use Rattle.std.specs.Prelude.{◌≡◌, ℕ, ◌<◌, ◌⊎◌, not, List, [], ◌++◌, length, drop, filter, codes, None, Some, Ok, Option, IfSome}
-use Rattle.std.specs.List.{before_first}
+use Rattle.std.specs.List.{AllByRecursion, before_first}
 use Rattle.std.specs.Io.BufRead.{take_through, DropsThrough}
 use Rattle.hex.specs.Hex.{decode_of}
 use Rattle.apd_base.specs.Text.{decimal_number, is_blank, newline}
@@ -66,6 +66,10 @@ said line.Publish = Publish
 said line.Hand = Hand
 said line.Flush = Flush
 said line.Stop = Stop
+
+-- none of these lines is a stop
+abbrev pub HaveNoStop : List (List ℕ) → Type 0
+HaveNoStop texts = AllByRecursion (λ text. Says text Stop → ⊥) texts
 
 -- a line of one word, or of none
 abbrev pub IsWord : Said → Type 0

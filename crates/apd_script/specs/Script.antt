@@ -21,6 +21,7 @@ use Rattle.apd_slot.specs.Slots.{bssid_of}
 use Rattle.apd_slot.specs.Wanted.{Stations}
 use Rattle.apd_store.specs.Image.{Shows}
 use Rattle.apd_world.specs.Outside.{device_of}
+use Rattle.apd_world.specs.Proper.{IsProper}
 use Rattle.apd_world.specs.Resumed.{AreResumed}
 use Rattle.apd_world.specs.Seen.{durable_of, is_up_if, slot_at, slots_of}
 use Rattle.apd_world.specs.Starting.{IsFlushed, IsHandedOut, IsStarted}
@@ -58,25 +59,39 @@ abbrev pub asked_at : Step → Option (Option (Result Happening QuietReason) × 
 asked_at (step.Accept i m) = Some (said_by i, m)
 asked_at other = None
 
-module _ {D R : Type 0} (honest : D → Type 0) (reads : D → List ℕ) (stations : R → Stations) (faults : R → ℕ) where
-  -- this step was made, and did not lack memory
+module _ {D R : Type 0} (honest : D → Type 0) (reads : D → List ℕ) (may_leave : D → List ℕ → Type 0) (size : D → ℕ) (stations : R → Stations) (faults : R → ℕ) where
+  -- the world is proper
+  abbrev pub IsProperAt : Standing D R → Type 0
+  IsProperAt s = IsProper honest reads may_leave size (durable_of s.world)
+
+  -- nothing changes but the world, which stays proper
+  pub record GoesOn (old new : Standing D R) : Type 0 where
+    pub only : new ≡ record old { world = new.world }
+    pub proper : IsProperAt old → IsProperAt new
+
+  -- this step was made, and told so
+  pub record Makes (made : Step) (told : Told) (old new : Standing D R) : Type 0 where
+    pub is : IsWorldStep stations faults made told old.world new.world
+    pub goes_on : GoesOn old new
+
+  -- one was made, and did not lack memory
   pub record IsMade (made : Step) (old new : Standing D R) : Type 0 where
     pub told : Told
-    pub is : IsWorldStep stations faults made told old.world new.world
+    pub makes : Makes made told old new
     pub memory : told ≢ NoMemory
-    pub only : new ≡ record old { world = new.world }
 
-  -- one was, which asks for this to be accepted at the moment
+  -- one was made, which asks for this to be accepted at the moment
   pub record IsRequested (said : Option (Result Happening QuietReason)) (old new : Standing D R) : Type 0 where
     pub request : Step
     pub asks : asked_at request ≡ Some (said, old.moment)
     pub made : IsMade request old new
 
-  -- this step was made, whatever it told, and the first refusal is kept
+  -- one was made, whatever it told, and the first refusal is kept
   pub record IsTried (made : Step) (old new : Standing D R) : Type 0 where
     pub told : Told
-    pub is : IsWorldStep stations faults made told old.world new.world
-    pub only : new ≡ record old { world = new.world; refusal = option_or old.refusal (refused told) }
+    pub mid : Standing D R
+    pub makes : Makes made told old mid
+    pub kept : new ≡ record mid { refusal = option_or old.refusal (refused told) }
 
   -- the frame of a line is received at its interface
   pub record IsReceived (interface frame : List ℕ) (old new : Standing D R) : Type 0 where
@@ -103,29 +118,30 @@ module _ {D R : Type 0} (honest : D → Type 0) (reads : D → List ℕ) (statio
   pub record HandsOut (old new : Standing D R) : Type 0 where
     pub answers : List (Recipient × Told)
     pub handed : IsHandedOut stations faults [] answers old.world new.world
-    pub only : new ≡ record old { world = new.world }
+    pub goes_on : GoesOn old new
 
   -- all is committed, and handed out: where no refusal was met
   pub record Flushes (old new : Standing D R) : Type 0 where
     pub none : old.refusal ≡ None
     pub answers : List (Recipient × Told)
     pub flushed : IsFlushed stations faults [] answers old.world new.world
-    pub only : new ≡ record old { world = new.world }
+    pub goes_on : GoesOn old new
 
   -- the interfaces are started
   pub record Starts (old new : Standing D R) : Type 0 where
     pub answers : List (Recipient × Told)
     pub started : IsStarted stations faults answers old.world new.world
-    pub only : new ≡ record old { world = new.world }
+    pub goes_on : GoesOn old new
 
   -- A world begun anew at a moment from what the device of another reads: its table is the state that the device shows, nothing is
-  -- unsettled, and its slots, one for each interface, have resumed by that table.
+  -- unsettled, and its slots, one for each interface, have resumed by that table. It is proper.
   pub record IsRestarted (m : Moment) (old new : World D R) : Type 0 where
     pub shown : honest (device_of (durable_of old)) → Shows (reads (device_of (durable_of old))) (durable_of new).core.settled
     pub core : (durable_of new).core ≡ new_core (durable_of new).core.settled (durable_of old).core.confs (durable_of new).core.heard
     pub heard : AreHeardAt m (durable_of new).core.settled (durable_of new).core.heard
     pub slots : map bssid_of (slots_of new) ≡ map (λ conf. conf.bssid) (durable_of old).core.confs
     pub resumed : AreResumed stations (durable_of new).core.settled (slots_of new)
+    pub proper : honest (device_of (durable_of old)) → IsProper honest reads may_leave size (durable_of new)
 
   -- the world is begun anew, with a radio from the front for each interface, and no refusal is known
   pub record Restarts (old new : Standing D R) : Type 0 where

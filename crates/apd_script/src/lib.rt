@@ -4,6 +4,7 @@
 
 pub mod configuration_files;
 mod formatting;
+pub mod laws;
 mod on_store;
 pub mod script;
 

@@ -20,6 +20,7 @@ ghost use Rattle.apd_ctrl.specs.Reading.{line_of};
 ghost use Rattle.apd_script.specs.Lines.{IsRead};
 ghost use Rattle.apd_script.specs.Script.{Ends, IsFault, IsNoBadLine};
 
+mod calling;
 mod fault;
 mod line;
 mod output;
@@ -81,8 +82,8 @@ pub fn run_script<D: Disk + Drop, R: Radio, I: BufRead + Drop, W: Write>(
     writer: &mut W,
     spares: Vec<R>,
 ) -> Result<World<D, R>, ScriptFault>
-    ensures ends { IfOk result (λ new. Ends D.honest D.reads R.stations R.faults (I.remaining reader) spares.items world new) }
-    ensures fault { IfErr result (IsFault D.honest D.reads R.stations R.faults (I.remaining reader) spares.items world) }
+    ensures ends { IfOk result (λ new. Ends D.honest D.reads D.may_leave D.size R.stations R.faults (I.remaining reader) spares.items world new) }
+    ensures fault { IfErr result (IsFault D.honest D.reads D.may_leave D.size R.stations R.faults (I.remaining reader) spares.items world) }
 {
     let mut standing = Standing::begin(alloc, world, spares).started(writer)?;
     let mut reader = reader.take(MAX_SCRIPT as u64 + 1);

@@ -15,6 +15,7 @@ use apd_conf::{Conf, Confs};
 use apd_core::Input;
 use apd_ctrl::{FAIL, Parsed, Placed, parse_command};
 use apd_disk::Disk;
+use apd_mlme::Recipient;
 use apd_radio::Radio;
 use apd_store::StoreFault;
 use apd_world::{Step, Told, World, WorldFault};
@@ -70,11 +71,11 @@ impl<D: Disk + Drop, R: Radio> Standing<D, R> {
     }
 
     /// Makes a step, which may not lack memory.
-    fn make(&mut self, step: &Step<'_>) -> Result<Told, ScriptFault>
-        ensures ok { OnOk result (IsMade D.honest D.reads R.stations R.faults step.now self.old self.new) }
+    fn made(&mut self, step: &Step<'_>) -> Result<Told, ScriptFault>
+        ensures ok { OnOk result (IsMade D.honest D.reads D.may_leave D.size R.stations R.faults step.now self.old self.new) }
         ensures err { IfErr result IsNoBadLine }
     {
-        match self.world.step(step) {
+        match self.make(step) {
             Told::NoMemory => Err(ScriptFault::NoMemory),
             told => Ok(told),
         }
@@ -82,41 +83,50 @@ impl<D: Disk + Drop, R: Radio> Standing<D, R> {
 
     /// Makes a step of a batch. What it tells is printed nowhere, and the first refusal is kept.
     fn attempted(self, step: &Step<'_>) -> Standing<D, R>
-        ensures { IsTried D.honest D.reads R.stations R.faults step.now self result }
+        ensures { IsTried D.honest D.reads D.may_leave D.size R.stations R.faults step.now self result }
     {
         let mut standing = self;
-        let told = standing.world.step(step);
+        let told = standing.make(step);
         standing.refusal = standing.refusal.or(refused(&told));
         standing
     }
 
+    /// Prints what was handed out.
+    fn printed<W: Write>(
+        self,
+        writer: &mut W,
+        answers: &[(Recipient, Told)],
+    ) -> Result<Standing<D, R>, ScriptFault>
+        ensures ok { IfOk result (λ new. new ≡ self) }
+        ensures err { IfErr result IsNoBadLine }
+    {
+        write_answers(self.alloc, writer, self.world.confs(), answers).map_err(writer_fault)?;
+        Ok(self)
+    }
+
     /// Starts the interfaces, and prints what was handed out.
     pub fn started<W: Write>(self, writer: &mut W) -> Result<Standing<D, R>, ScriptFault>
-        ensures ok { IfOk result (λ new. Starts D.honest D.reads R.stations R.faults self new) }
+        ensures ok { IfOk result (λ new. Starts D.honest D.reads D.may_leave D.size R.stations R.faults self new) }
         ensures err { IfErr result IsNoBadLine }
     {
         let mut standing = self;
-        let answers = standing.world.start()?;
-        let confs = standing.world.confs();
-        write_answers(standing.alloc, writer, confs, answers.as_slice()).map_err(writer_fault)?;
-        Ok(standing)
+        let answers = standing.start()?;
+        standing.printed(writer, &answers)
     }
 
     /// Hands out what is settled, and prints it.
     fn handed_out<W: Write>(self, writer: &mut W) -> Result<Standing<D, R>, ScriptFault>
-        ensures ok { IfOk result (λ new. HandsOut D.honest D.reads R.stations R.faults self new) }
+        ensures ok { IfOk result (λ new. HandsOut D.honest D.reads D.may_leave D.size R.stations R.faults self new) }
         ensures err { IfErr result IsNoBadLine }
     {
         let mut standing = self;
-        let answers = standing.world.hand_out()?;
-        let confs = standing.world.confs();
-        write_answers(standing.alloc, writer, confs, answers.as_slice()).map_err(writer_fault)?;
-        Ok(standing)
+        let answers = standing.hand_out()?;
+        standing.printed(writer, &answers)
     }
 
     /// Commits until nothing is unsettled, hands out and prints that; or tells the first refusal.
     fn flushed<W: Write>(self, writer: &mut W) -> Result<Standing<D, R>, ScriptFault>
-        ensures ok { IfOk result (λ new. Flushes D.honest D.reads R.stations R.faults self new) }
+        ensures ok { IfOk result (λ new. Flushes D.honest D.reads D.may_leave D.size R.stations R.faults self new) }
         ensures refused { IfSome self.refusal (λ fault. result ≡ Err (ScriptFault.World (WorldFault.Store fault))) }
         ensures err { IfErr result IsNoBadLine }
     {
@@ -124,10 +134,8 @@ impl<D: Disk + Drop, R: Radio> Standing<D, R> {
         if let Some(fault) = standing.refusal {
             return Err(ScriptFault::World(WorldFault::Store(fault)));
         }
-        let answers = standing.world.flush()?;
-        let confs = standing.world.confs();
-        write_answers(standing.alloc, writer, confs, answers.as_slice()).map_err(writer_fault)?;
-        Ok(standing)
+        let answers = standing.flush()?;
+        standing.printed(writer, &answers)
     }
 
     /// Accepts a request at the moment, and prints the answer.
@@ -136,12 +144,12 @@ impl<D: Disk + Drop, R: Radio> Standing<D, R> {
         writer: &mut W,
         input: Input<'_>,
     ) -> Result<Standing<D, R>, ScriptFault>
-        ensures ok { IfOk result (λ new. IsMade D.honest D.reads R.stations R.faults (Accept input.entry self.moment) self new) }
+        ensures ok { IfOk result (λ new. IsMade D.honest D.reads D.may_leave D.size R.stations R.faults (Accept input.entry self.moment) self new) }
         ensures err { IfErr result IsNoBadLine }
     {
         let mut standing = self;
         let step = Step::Accept(input, standing.moment);
-        let told = standing.make(&step)?;
+        let told = standing.made(&step)?;
         write_told(standing.alloc, writer, &told).map_err(writer_fault)?;
         Ok(standing)
     }
@@ -154,7 +162,7 @@ impl<D: Disk + Drop, R: Radio> Standing<D, R> {
         interface: &[u8],
         frame: &[u8],
     ) -> Result<Standing<D, R>, ScriptFault>
-        ensures ok { IfOk result (λ new. IsReceived D.honest D.reads R.stations R.faults interface.now frame.now self new) }
+        ensures ok { IfOk result (λ new. IsReceived D.honest D.reads D.may_leave D.size R.stations R.faults interface.now frame.now self new) }
         ensures err { IfErr result (IsSaidFault number (Received interface.now frame.now) self) }
     {
         let Some(conf) = self.world.confs().with_interface(interface) else {
@@ -171,11 +179,11 @@ impl<D: Disk + Drop, R: Radio> Standing<D, R> {
         tag: u64,
         step: &Step<'_>,
     ) -> Result<Standing<D, R>, ScriptFault>
-        ensures ok { IfOk result (λ new. IsMade D.honest D.reads R.stations R.faults step.now self new) }
+        ensures ok { IfOk result (λ new. IsMade D.honest D.reads D.may_leave D.size R.stations R.faults step.now self new) }
         ensures err { IfErr result IsNoBadLine }
     {
         let mut standing = self;
-        let told = standing.make(step)?;
+        let told = standing.made(step)?;
         write_command_told(standing.alloc, writer, tag, &told).map_err(writer_fault)?;
         Ok(standing)
     }
@@ -201,7 +209,7 @@ impl<D: Disk + Drop, R: Radio> Standing<D, R> {
         tag: u64,
         text: &[u8],
     ) -> Result<Standing<D, R>, ScriptFault>
-        ensures ok { IfOk result (λ new. IsCarriedOut D.honest D.reads R.stations R.faults tag (command_outcome text.now) self new) }
+        ensures ok { IfOk result (λ new. IsCarriedOut D.honest D.reads D.may_leave D.size R.stations R.faults tag (command_outcome text.now) self new) }
         ensures err { IfErr result IsNoBadLine }
     {
         let parsed = parse_command(text);
@@ -227,7 +235,7 @@ impl<D: Disk + Drop, R: Radio> Standing<D, R> {
 
     /// It is this moment from now on.
     fn ticked<W: Write>(self, writer: &mut W, moment: Moment) -> Result<Standing<D, R>, ScriptFault>
-        ensures ok { IfOk result (λ new. IsRequested D.honest D.reads R.stations R.faults None (record self { moment = moment }) new) }
+        ensures ok { IfOk result (λ new. IsRequested D.honest D.reads D.may_leave D.size R.stations R.faults None (record self { moment = moment }) new) }
         ensures err { IfErr result IsNoBadLine }
     {
         let mut standing = self;
@@ -242,7 +250,7 @@ impl<D: Disk + Drop, R: Radio> Standing<D, R> {
         number: u64,
         line: &Line<'_>,
     ) -> Result<Standing<D, R>, ScriptFault>
-        ensures ok { IfOk result (λ new. IsRun D.honest D.reads R.stations R.faults number (said line.now) self new) }
+        ensures ok { IfOk result (λ new. IsRun D.honest D.reads D.may_leave D.size R.stations R.faults number (said line.now) self new) }
         ensures err { IfErr result (IsSaidFault number (said line.now) self) }
     {
         match line {
@@ -268,7 +276,7 @@ impl<D: Disk + Drop, R: Radio> Standing<D, R> {
         number: u64,
         text: &[u8],
     ) -> Result<Standing<D, R>, ScriptFault>
-        ensures ok { IfOk result (λ new. SaysAndIsRun D.honest D.reads R.stations R.faults number text.now self new) }
+        ensures ok { IfOk result (λ new. SaysAndIsRun D.honest D.reads D.may_leave D.size R.stations R.faults number text.now self new) }
         ensures err { IfErr result (IsLineFault number text.now self) }
     {
         exactly_one_line();

@@ -36,12 +36,12 @@ fn fresh_slots<R: Radio>(
 }
 
 impl<D: Disk + Drop, R: Radio> Standing<D, R> {
-    ghost use Rattle.apd_script.specs.Script.{IsNoBadLine, IsRestarted, IsSaidFault, Stops, confs_of};
+    ghost use Rattle.apd_script.specs.Script.{IsNoBadLine, IsRestarted, IsSaidFault, Restarts, Stops, confs_of};
 
     /// Gives up the world, and begins one of these configurations from what its device reads, with these
     /// slots, at the moment.
     fn restarted(self, confs: Confs, slots: Vec<Slot<R>>) -> Result<Standing<D, R>, ScriptFault>
-        ensures ok { IfOk result (λ new. confs ≡ confs_of self → map bssid_of slots.items ≡ map (λ conf. conf.bssid) confs → IsRestarted D.honest D.reads R.stations R.faults self.moment self.world new.world) }
+        ensures ok { IfOk result (λ new. confs ≡ confs_of self → map bssid_of slots.items ≡ map (λ conf. conf.bssid) confs → IsRestarted D.honest D.reads D.may_leave D.size R.stations R.faults self.moment self.world new.world) }
         ensures only { IfOk result (λ new. new ≡ record self { world = new.world; refusal = None }) }
         ensures err { IfErr result IsNoBadLine }
     {
@@ -65,23 +65,39 @@ impl<D: Disk + Drop, R: Radio> Standing<D, R> {
         }
     }
 
+    /// Gives up the world, and begins it anew with a radio from the front for each interface.
+    fn begun_anew(self, number: u64) -> Result<Standing<D, R>, ScriptFault>
+        ensures ok { IfOk result (λ new. Restarts D.honest D.reads D.may_leave D.size R.stations R.faults self new) }
+        ensures err { IfErr result (IsSaidFault number Stop self) }
+    {
+        let mut standing = self;
+        let confs = standing.world.confs().copy(standing.alloc)?;
+        match fresh_slots(standing.alloc, &confs, &mut standing.spares)? {
+            Some(slots) => standing.restarted(confs, slots),
+            None => Err(ScriptFault::BadLine(number)),
+        }
+    }
+
+    /// Prints how many station rows the device held.
+    fn recovered<W: Write>(self, writer: &mut W) -> Result<Standing<D, R>, ScriptFault>
+        ensures ok { IfOk result (λ new. new ≡ self) }
+        ensures err { IfErr result IsNoBadLine }
+    {
+        let rows = self.world.table().rows();
+        write_recovered(self.alloc, writer, rows).map_err(writer_fault)?;
+        Ok(self)
+    }
+
     /// Stops and restarts, prints how many station rows the device held, and starts the interfaces.
     pub fn stopped<W: Write>(
         self,
         writer: &mut W,
         number: u64,
     ) -> Result<Standing<D, R>, ScriptFault>
-        ensures ok { IfOk result (λ new. Stops D.honest D.reads R.stations R.faults self new) }
+        ensures ok { IfOk result (λ new. Stops D.honest D.reads D.may_leave D.size R.stations R.faults self new) }
         ensures err { IfErr result (IsSaidFault number Stop self) }
     {
-        let mut standing = self;
-        let confs = standing.world.confs().copy(standing.alloc)?;
-        let Some(slots) = fresh_slots(standing.alloc, &confs, &mut standing.spares)? else {
-            return Err(ScriptFault::BadLine(number));
-        };
-        let standing = standing.restarted(confs, slots)?;
-        let rows = standing.world.table().rows();
-        write_recovered(standing.alloc, writer, rows).map_err(writer_fault)?;
+        let standing = self.begun_anew(number)?.recovered(writer)?;
         standing.started(writer)
     }
 }
