@@ -6,3 +6,4 @@ pub mod Running
 pub mod Saying
 pub mod ScriptLines
 pub mod Stopping
+pub mod Storing

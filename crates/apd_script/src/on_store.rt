@@ -1,10 +1,17 @@
 //! A script on the store of a device: radios in memory, a world begun from the store, and its lines.
+ghost use Rattle.std.specs.Prelude.{◌≡◌, ◌*◌, length, map, IfErr, IfOk};
+ghost use Rattle.apd_base.specs.State.{empty_state};
+ghost use Rattle.apd_slot.specs.Slots.{bssid_of};
+ghost use Rattle.apd_store.specs.Image.{Shows};
+ghost use Rattle.apd_script.specs.OnStore.{EndsOnStore, IsBegunFrom, IsFaultOnStore};
+ghost use Rattle.apd_script.specs.Script.{IsNoBadLine};
+
 use crate::script::{ScriptFault, run_script};
 use apd_base::Moment;
 use apd_base::limits::DEVICE_LENGTH;
 use apd_conf::Confs;
 use apd_disk::{Disk, MemDisk};
-use apd_radio::Sim;
+use apd_radio::{Radio, Sim};
 use apd_slot::Slot;
 use apd_store::format;
 use apd_world::{World, WorldFault, restart};
@@ -24,7 +31,9 @@ fn blank_device(alloc: Global) -> Result<MemDisk, AllocError> {
 /// # Errors
 ///
 /// `World` where the device can't record its calls, and `NoMemory`.
-pub fn new_store(alloc: Global) -> Result<MemDisk, ScriptFault> {
+pub fn new_store(alloc: Global) -> Result<MemDisk, ScriptFault>
+    ensures { IfOk result (λ disk. Shows (⟦<MemDisk as Disk>⟧.reads disk) empty_state) }
+{
     match format(alloc, blank_device(alloc)?) {
         Ok(store) => Ok(store.into_device()),
         Err((_device, fault)) => Err(ScriptFault::World(WorldFault::Store(fault))),
@@ -32,7 +41,9 @@ pub fn new_store(alloc: Global) -> Result<MemDisk, ScriptFault> {
 }
 
 /// A slot for each configuration, in their order, with a radio in memory.
-fn slots_of(alloc: Global, confs: &Confs) -> Result<Vec<Slot<Sim>>, AllocError> {
+fn slots_of(alloc: Global, confs: &Confs) -> Result<Vec<Slot<Sim>>, AllocError>
+    ensures { IfOk result (λ slots. map bssid_of slots.items ≡ map (λ conf. conf.bssid) confs.now) }
+{
     let mut slots = Vec::new(alloc);
     for conf in confs.list() {
         slots.push(Slot::new(alloc, Sim::new(alloc), conf.bssid))?;
@@ -41,7 +52,9 @@ fn slots_of(alloc: Global, confs: &Confs) -> Result<Vec<Slot<Sim>>, AllocError> 
 }
 
 /// The radios in memory that so many interfaces need for all stops.
-fn spares_for(alloc: Global, interfaces: usize) -> Result<Vec<Sim>, AllocError> {
+fn spares_for(alloc: Global, interfaces: usize) -> Result<Vec<Sim>, AllocError>
+    ensures { IfOk result (λ spares. length spares.items ≡ interfaces * 8) }
+{
     let mut spares = Vec::new(alloc);
     for _ in 0..interfaces {
         for _ in 0..STOPS {
@@ -49,6 +62,22 @@ fn spares_for(alloc: Global, interfaces: usize) -> Result<Vec<Sim>, AllocError> 
         }
     }
     Ok(spares)
+}
+
+/// The world of the store that a device holds, at moment 0, with these slots.
+fn begun<D: Disk + Drop, R: Radio>(
+    alloc: Global,
+    disk: D,
+    confs: Confs,
+    slots: Vec<Slot<R>>,
+) -> Result<World<D, R>, ScriptFault>
+    ensures ok { map bssid_of slots.items ≡ map (λ conf. conf.bssid) confs → IfOk result (IsBegunFrom D.honest D.reads D.may_leave D.size R.stations R.faults disk confs) }
+    ensures err { IfErr result IsNoBadLine }
+{
+    match restart(alloc, disk, confs, slots, Moment(0)) {
+        Ok(world) => Ok(world),
+        Err((_device, _slots, fault)) => Err(ScriptFault::World(fault)),
+    }
 }
 
 /// Recovers the store that a device holds, and runs a script on it as `run_script` does, with radios in memory:
@@ -63,11 +92,12 @@ pub fn run_on_store<D: Disk + Drop, I: BufRead + Drop, W: Write>(
     confs: Confs,
     reader: I,
     writer: &mut W,
-) -> Result<World<D, Sim>, ScriptFault> {
+) -> Result<World<D, Sim>, ScriptFault>
+    ensures ends { IfOk result (EndsOnStore D.honest D.reads D.may_leave D.size ⟦<Sim as Radio>⟧.stations ⟦<Sim as Radio>⟧.faults (I.remaining reader) disk confs) }
+    ensures fault { IfErr result (IsFaultOnStore D.honest D.reads D.may_leave D.size ⟦<Sim as Radio>⟧.stations ⟦<Sim as Radio>⟧.faults (I.remaining reader) disk confs) }
+{
     let slots = slots_of(alloc, &confs)?;
     let spares = spares_for(alloc, confs.list().len())?;
-    match restart(alloc, disk, confs, slots, Moment(0)) {
-        Ok(world) => run_script(alloc, world, reader, writer, spares),
-        Err((_device, _slots, fault)) => Err(ScriptFault::World(fault)),
-    }
+    let world = begun(alloc, disk, confs, slots)?;
+    run_script(alloc, world, reader, writer, spares)
 }
