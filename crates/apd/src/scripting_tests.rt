@@ -211,6 +211,9 @@ fn a_faulty_configuration_leaves_the_store_untouched(rt: HostRuntime) -> Result<
     assert_eq!(rt; text.as_str(), "line 2: no '='");
     fs::remove_file(&rt, conf)?;
     let text = fault_with(&rt, name, &[conf])?;
-    assert_eq!(rt; text.as_str(), "cannot read faulty_configuration_of_a_script_test");
+    assert_eq!(rt;
+        text.as_str(),
+        "cannot read faulty_configuration_of_a_script_test"
+    );
     Ok(())
 }

@@ -15,13 +15,13 @@ module _ {D R : Type 0} (honest : D → Type 0) (reads : D → List ℕ) (may_le
       → IsBegunFrom honest reads may_leave size stations faults device confs begun → length radios ≡ length confs * 8
       → IfOk r (λ new. Ends honest reads may_leave size stations faults known radios begun new)
       → IfOk r (λ new. EndsOnStore honest reads may_leave size stations faults known device confs new)
-  ends_on_store (Ok new) known device confs begun radios from enough ends = record { begun = begun; from = from; radios = radios; enough = enough; ends = ends; }
+  ends_on_store (Ok new) known device confs begun radios from enough ends = record { begun = begun; from = from; radios = radios; enough = enough; ends = ends }
   ends_on_store (Err why) known device confs begun radios from enough ends = tt
 
   fault_of : (why : ScriptFault) (known : Option (List ℕ)) (device : D) (confs : List Conf) (begun : World D R) (radios : List R)
       → IsBegunFrom honest reads may_leave size stations faults device confs begun → length radios ≡ length confs * 8
       → IsFault honest reads may_leave size stations faults known radios begun why → IsFaultOnStore honest reads may_leave size stations faults known device confs why
-  fault_of (fault.BadLine n) known device confs begun radios from enough bad = record { begun = begun; from = from; radios = radios; enough = enough; bad = bad; }
+  fault_of (fault.BadLine n) known device confs begun radios from enough bad = record { begun = begun; from = from; radios = radios; enough = enough; bad = bad }
   fault_of fault.Reader known device confs begun radios from enough bad = tt
   fault_of fault.Writer known device confs begun radios from enough bad = tt
   fault_of (fault.World why) known device confs begun radios from enough bad = tt

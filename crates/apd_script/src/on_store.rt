@@ -1,5 +1,5 @@
 //! A script on the store of a device: radios in memory, a world begun from the store, and its lines.
-ghost use Rattle.std.specs.Prelude.{◌≡◌, ◌*◌, length, map, IfErr, IfOk};
+ghost use Rattle.std.specs.Prelude.{◌≡◌, ◌+◌, ◌*◌, length, map, IfErr, IfOk, OnOk};
 ghost use Rattle.apd_base.specs.State.{empty_state};
 ghost use Rattle.apd_slot.specs.Slots.{bssid_of};
 ghost use Rattle.apd_store.specs.Image.{Shows};
@@ -51,15 +51,23 @@ fn slots_of(alloc: Global, confs: &Confs) -> Result<Vec<Slot<Sim>>, AllocError>
     Ok(slots)
 }
 
-/// The radios in memory that so many interfaces need for all stops.
-fn spares_for(alloc: Global, interfaces: usize) -> Result<Vec<Sim>, AllocError>
-    ensures { IfOk result (λ spares. length spares.items ≡ interfaces * 8) }
+/// Adds a radio in memory for each stop.
+fn add_radios(alloc: Global, radios: &mut Vec<Sim>) -> Result<(), AllocError>
+    ensures { OnOk result (length radios.new.items ≡ length radios.old.items + 8) }
+{
+    for _stop in 0..STOPS {
+        radios.push(Sim::new(alloc))?;
+    }
+    Ok(())
+}
+
+/// The radios in memory that the stops of these interfaces take.
+fn spares_for(alloc: Global, confs: &Confs) -> Result<Vec<Sim>, AllocError>
+    ensures { IfOk result (λ spares. length spares.items ≡ length confs.now * 8) }
 {
     let mut spares = Vec::new(alloc);
-    for _ in 0..interfaces {
-        for _ in 0..STOPS {
-            spares.push(Sim::new(alloc))?;
-        }
+    for _conf in confs.list() {
+        add_radios(alloc, &mut spares)?;
     }
     Ok(spares)
 }
@@ -97,7 +105,7 @@ pub fn run_on_store<D: Disk + Drop, I: BufRead + Drop, W: Write>(
     ensures fault { IfErr result (IsFaultOnStore D.honest D.reads D.may_leave D.size ⟦<Sim as Radio>⟧.stations ⟦<Sim as Radio>⟧.faults (I.remaining reader) disk confs) }
 {
     let slots = slots_of(alloc, &confs)?;
-    let spares = spares_for(alloc, confs.list().len())?;
+    let spares = spares_for(alloc, &confs)?;
     let world = begun(alloc, disk, confs, slots)?;
     run_script(alloc, world, reader, writer, spares)
 }

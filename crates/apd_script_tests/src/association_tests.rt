@@ -744,16 +744,6 @@ fn a_hidden_network_answers_to_its_name_alone(rt: HostRuntime) -> Result<(), Fai
 const REQUEST: &str =
     "000000000200000000010200000000aa020000000001200031040a0000036e6574010482848b96";
 
-/// What so many bytes of it print, where S is authenticated.
-fn answer_to(bytes: usize) -> &'static str {
-    match bytes {
-        0..24 => "quiet short\n",
-        24..28 => "quiet body\n",
-        28..39 => REFUSED,
-        _ => ACCEPTED,
-    }
-}
-
 /// The digits of its first bytes.
 fn first_bytes(alloc: Global, bytes: usize) -> Result<String, Fail> {
     let mut digits = String::new(alloc);
@@ -763,18 +753,37 @@ fn first_bytes(alloc: Global, bytes: usize) -> Result<String, Fail> {
     Ok(digits)
 }
 
+/// What so many bytes of it print, where S is authenticated and each number of bytes came, from 0 on.
+fn answer_to(alloc: Global, bytes: usize) -> Result<String, Fail> {
+    Ok(match bytes {
+        0..24 => String::from_str(alloc, "quiet short\n")?,
+        24..28 => String::from_str(alloc, "quiet body\n")?,
+        28..39 => format!(in alloc;
+            "entry {}\nwlan0 tx 1000 0000 S B B 0000 0100 0100 0000 0104 82848b96\n",
+            bytes - 25
+        )?,
+        _ => format!(in alloc;
+            "entry 14\nwlan0 install 02:00:00:00:00:aa 1\nwlan0 tx 1000 0000 S B B 0000 0100 0000 01c0 0104 82848b96\n"
+        )?,
+    })
+}
+
 #[test]
 fn each_length_of_an_association_request_has_its_answer(rt: HostRuntime) -> Result<(), Fail> {
+    let alloc = rt.alloc();
+    let mut script = String::new(alloc);
+    let mut want = String::new(alloc);
     for bytes in 0..40usize {
-        let digits = first_bytes(rt.alloc(), bytes)?;
-        let confs = one_radio(rt.alloc())?;
-        prints(
-            &rt,
-            digits.as_str(),
-            confs,
-            &[authenticates(), "rx wlan0 ", digits.as_str(), "\nflush\n"],
-            &[authenticated(), answer_to(bytes)],
-        )?;
+        let digits = first_bytes(alloc, bytes)?;
+        let digits = digits.as_str();
+        script.push_str(format!(in alloc; "rx wlan0 {digits}\nflush\n")?.as_str())?;
+        want.push_str(answer_to(alloc, bytes)?.as_str())?;
     }
-    Ok(())
+    prints(
+        &rt,
+        "each length",
+        one_radio(alloc)?,
+        &[authenticates(), script.as_str()],
+        &[authenticated(), want.as_str()],
+    )
 }
