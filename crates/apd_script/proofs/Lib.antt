@@ -6,4 +6,3 @@ pub mod Running
 pub mod Saying
 pub mod ScriptLines
 pub mod Stopping
-pub mod Storing

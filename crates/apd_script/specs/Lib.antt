@@ -1,6 +1,5 @@
 pub mod Configured
 pub mod Lines
 pub mod Meant
-pub mod OnStore
 pub mod Refused
 pub mod Script

@@ -1,11 +1,4 @@
 //! A script on the store of a device: radios in memory, a world begun from the store, and its lines.
-ghost use Rattle.std.specs.Prelude.{◌≡◌, ◌+◌, ◌*◌, length, map, IfErr, IfOk, OnOk};
-ghost use Rattle.apd_base.specs.State.{empty_state};
-ghost use Rattle.apd_slot.specs.Slots.{bssid_of};
-ghost use Rattle.apd_store.specs.Image.{Shows};
-ghost use Rattle.apd_script.specs.OnStore.{EndsOnStore, IsBegunFrom, IsFaultOnStore};
-ghost use Rattle.apd_script.specs.Script.{IsNoBadLine};
-
 use crate::script::{ScriptFault, run_script};
 use apd_base::Moment;
 use apd_base::limits::DEVICE_LENGTH;
@@ -31,9 +24,7 @@ fn blank_device(alloc: Global) -> Result<MemDisk, AllocError> {
 /// # Errors
 ///
 /// `World` where the device can't record its calls, and `NoMemory`.
-pub fn new_store(alloc: Global) -> Result<MemDisk, ScriptFault>
-    ensures { IfOk result (λ disk. Shows (⟦<MemDisk as Disk>⟧.reads disk) empty_state) }
-{
+pub fn new_store(alloc: Global) -> Result<MemDisk, ScriptFault> {
     match format(alloc, blank_device(alloc)?) {
         Ok(store) => Ok(store.into_device()),
         Err((_device, fault)) => Err(ScriptFault::World(WorldFault::Store(fault))),
@@ -41,9 +32,7 @@ pub fn new_store(alloc: Global) -> Result<MemDisk, ScriptFault>
 }
 
 /// A slot for each configuration, in their order, with a radio in memory.
-fn slots_of(alloc: Global, confs: &Confs) -> Result<Vec<Slot<Sim>>, AllocError>
-    ensures { IfOk result (λ slots. map bssid_of slots.items ≡ map (λ conf. conf.bssid) confs.now) }
-{
+fn slots_of(alloc: Global, confs: &Confs) -> Result<Vec<Slot<Sim>>, AllocError> {
     let mut slots = Vec::new(alloc);
     for conf in confs.list() {
         slots.push(Slot::new(alloc, Sim::new(alloc), conf.bssid))?;
@@ -51,23 +40,13 @@ fn slots_of(alloc: Global, confs: &Confs) -> Result<Vec<Slot<Sim>>, AllocError>
     Ok(slots)
 }
 
-/// Adds a radio in memory for each stop.
-fn add_radios(alloc: Global, radios: &mut Vec<Sim>) -> Result<(), AllocError>
-    ensures { OnOk result (length radios.new.items ≡ length radios.old.items + 8) }
-{
-    for _stop in 0..STOPS {
-        radios.push(Sim::new(alloc))?;
-    }
-    Ok(())
-}
-
 /// The radios in memory that the stops of these interfaces take.
-fn spares_for(alloc: Global, confs: &Confs) -> Result<Vec<Sim>, AllocError>
-    ensures { IfOk result (λ spares. length spares.items ≡ length confs.now * 8) }
-{
+fn spares_for(alloc: Global, confs: &Confs) -> Result<Vec<Sim>, AllocError> {
     let mut spares = Vec::new(alloc);
     for _conf in confs.list() {
-        add_radios(alloc, &mut spares)?;
+        for _stop in 0..STOPS {
+            spares.push(Sim::new(alloc))?;
+        }
     }
     Ok(spares)
 }
@@ -78,10 +57,7 @@ fn begun<D: Disk + Drop, R: Radio>(
     disk: D,
     confs: Confs,
     slots: Vec<Slot<R>>,
-) -> Result<World<D, R>, ScriptFault>
-    ensures ok { map bssid_of slots.items ≡ map (λ conf. conf.bssid) confs → IfOk result (IsBegunFrom D.honest D.reads D.may_leave D.size R.stations R.faults disk confs) }
-    ensures err { IfErr result IsNoBadLine }
-{
+) -> Result<World<D, R>, ScriptFault> {
     match restart(alloc, disk, confs, slots, Moment(0)) {
         Ok(world) => Ok(world),
         Err((_device, _slots, fault)) => Err(ScriptFault::World(fault)),
@@ -100,10 +76,7 @@ pub fn run_on_store<D: Disk + Drop, I: BufRead + Drop, W: Write>(
     confs: Confs,
     reader: I,
     writer: &mut W,
-) -> Result<World<D, Sim>, ScriptFault>
-    ensures ends { IfOk result (EndsOnStore D.honest D.reads D.may_leave D.size ⟦<Sim as Radio>⟧.stations ⟦<Sim as Radio>⟧.faults (I.remaining reader) disk confs) }
-    ensures fault { IfErr result (IsFaultOnStore D.honest D.reads D.may_leave D.size ⟦<Sim as Radio>⟧.stations ⟦<Sim as Radio>⟧.faults (I.remaining reader) disk confs) }
-{
+) -> Result<World<D, Sim>, ScriptFault> {
     let slots = slots_of(alloc, &confs)?;
     let spares = spares_for(alloc, &confs)?;
     let world = begun(alloc, disk, confs, slots)?;
