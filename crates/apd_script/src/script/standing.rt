@@ -1,6 +1,7 @@
 //! What a script stands at, and what each of its lines does there.
 ghost use Rattle.std.specs.Prelude.{◌≡◌, ◌≢◌, None, IfErr, IfOk, IfSome, OnOk, Err};
 ghost use Rattle.std.specs.Option.{option_copied};
+ghost use Rattle.apd_ctrl.specs.Placing.{placing};
 ghost use Rattle.apd_ctrl.specs.Reading.{outcome as command_outcome};
 ghost use Rattle.apd_script.specs.Lines.{Received, said};
 ghost use Rattle.apd_script.specs.Meant.{conf_meant};
@@ -13,7 +14,7 @@ use super::output::{write_answers, write_command_told, write_reply, write_told};
 use apd_base::Moment;
 use apd_conf::{Conf, Confs};
 use apd_core::Input;
-use apd_ctrl::{FAIL, Parsed, Placed, parse_command};
+use apd_ctrl::{Command, FAIL, Parsed, Placed, UNKNOWN_COMMAND, parse_command};
 use apd_disk::Disk;
 use apd_mlme::Recipient;
 use apd_radio::Radio;
@@ -55,7 +56,7 @@ fn refused(told: &Told) -> Option<StoreFault>
 }
 
 impl<D: Disk + Drop, R: Radio> Standing<D, R> {
-    ghost use Rattle.apd_script.specs.Script.{HandsOut, Flushes, IsBegun, IsCarriedOut, IsLineFault, IsMade, IsNoBadLine, IsReceived, IsRequested, IsRun, IsSaidFault, IsTried, SaysAndIsRun, Starts};
+    ghost use Rattle.apd_script.specs.Script.{HandsOut, Flushes, IsBegun, IsCarriedOut, IsLineFault, IsMade, IsMeant, IsNoBadLine, IsPlaced, IsReceived, IsRequested, IsRun, IsSaidFault, IsTried, SaysAndIsRun, Starts, confs_of};
 
     /// A script at moment 0, whose world is not started yet. It takes no memory.
     pub fn begin(alloc: Global, world: World<D, R>, spares: Vec<R>) -> Standing<D, R>
@@ -138,6 +139,15 @@ impl<D: Disk + Drop, R: Radio> Standing<D, R> {
         standing.printed(writer, &answers)
     }
 
+    /// Prints what the step of a request told.
+    fn answered<W: Write>(self, writer: &mut W, told: &Told) -> Result<Standing<D, R>, ScriptFault>
+        ensures ok { IfOk result (λ new. new ≡ self) }
+        ensures err { IfErr result IsNoBadLine }
+    {
+        write_told(self.alloc, writer, told).map_err(writer_fault)?;
+        Ok(self)
+    }
+
     /// Accepts a request at the moment, and prints the answer.
     fn requested<W: Write>(
         self,
@@ -150,8 +160,7 @@ impl<D: Disk + Drop, R: Radio> Standing<D, R> {
         let mut standing = self;
         let step = Step::Accept(input, standing.moment);
         let told = standing.made(&step)?;
-        write_told(standing.alloc, writer, &told).map_err(writer_fault)?;
-        Ok(standing)
+        standing.answered(writer, &told)
     }
 
     /// Accepts the frame of a line.
@@ -172,6 +181,20 @@ impl<D: Disk + Drop, R: Radio> Standing<D, R> {
         self.requested(writer, Input::Received(bssid, frame))
     }
 
+    /// Prints what the step of a command told.
+    fn command_answered<W: Write>(
+        self,
+        writer: &mut W,
+        tag: u64,
+        told: &Told,
+    ) -> Result<Standing<D, R>, ScriptFault>
+        ensures ok { IfOk result (λ new. new ≡ self) }
+        ensures err { IfErr result IsNoBadLine }
+    {
+        write_command_told(self.alloc, writer, tag, told).map_err(writer_fault)?;
+        Ok(self)
+    }
+
     /// Makes the step of a command, and prints what it told.
     fn carried_out<W: Write>(
         self,
@@ -184,8 +207,7 @@ impl<D: Disk + Drop, R: Radio> Standing<D, R> {
     {
         let mut standing = self;
         let told = standing.made(step)?;
-        write_command_told(standing.alloc, writer, tag, &told).map_err(writer_fault)?;
-        Ok(standing)
+        standing.command_answered(writer, tag, &told)
     }
 
     /// Prints the refusal of a command.
@@ -202,7 +224,48 @@ impl<D: Disk + Drop, R: Radio> Standing<D, R> {
         Ok(self)
     }
 
-    /// Carries out a control command at the interface that it means.
+    /// Makes the step that becomes of a command.
+    fn placed<W: Write>(
+        self,
+        writer: &mut W,
+        tag: u64,
+        what: Placed,
+    ) -> Result<Standing<D, R>, ScriptFault>
+        ensures ok { IfOk result (λ new. IsPlaced D.honest D.reads D.may_leave D.size R.stations R.faults (placing what) self new) }
+        ensures err { IfErr result IsNoBadLine }
+    {
+        match what {
+            Placed::Ask(query) => {
+                let step = Step::Ask(query);
+                self.carried_out(writer, tag, &step)
+            }
+            Placed::Do(event) => {
+                let step = Step::Accept(Input::Order(event), self.moment);
+                self.carried_out(writer, tag, &step)
+            }
+        }
+    }
+
+    /// Carries out a control command at the interface that it means, if it is configured.
+    fn meant<W: Write>(
+        self,
+        writer: &mut W,
+        tag: u64,
+        interface: Option<&[u8]>,
+        command: Command,
+    ) -> Result<Standing<D, R>, ScriptFault>
+        ensures ok { IfOk result (λ new. IsMeant D.honest D.reads D.may_leave D.size R.stations R.faults tag command (conf_meant (confs_of self) (option_copied interface.entry)) self new) }
+        ensures err { IfErr result IsNoBadLine }
+    {
+        let Some(conf) = conf_meant(self.world.confs(), interface) else {
+            return self.replied(writer, tag, FAIL);
+        };
+        let bssid = conf.bssid;
+        let is_up = self.world.is_up(bssid);
+        self.placed(writer, tag, command.at(bssid, is_up, tag))
+    }
+
+    /// Carries out a text as a control command.
     fn commanded<W: Write>(
         self,
         writer: &mut W,
@@ -212,24 +275,10 @@ impl<D: Disk + Drop, R: Radio> Standing<D, R> {
         ensures ok { IfOk result (λ new. IsCarriedOut D.honest D.reads D.may_leave D.size R.stations R.faults tag (command_outcome text.now) self new) }
         ensures err { IfErr result IsNoBadLine }
     {
-        let parsed = parse_command(text);
-        if let Some(refusal) = parsed.refusal() {
-            return self.replied(writer, tag, refusal);
-        }
-        let Parsed::Command { interface, command } = parsed else {
-            unreachable!()
-        };
-        let Some(conf) = conf_meant(self.world.confs(), interface) else {
-            return self.replied(writer, tag, FAIL);
-        };
-        let bssid = conf.bssid;
-        let is_up = self.world.is_up(bssid);
-        match command.at(bssid, is_up, tag) {
-            Placed::Ask(query) => self.carried_out(writer, tag, &Step::Ask(query)),
-            Placed::Do(event) => {
-                let step = Step::Accept(Input::Order(event), self.moment);
-                self.carried_out(writer, tag, &step)
-            }
+        match parse_command(text) {
+            Parsed::Command { interface, command } => self.meant(writer, tag, interface, command),
+            Parsed::Unknown => self.replied(writer, tag, UNKNOWN_COMMAND),
+            Parsed::Fail => self.replied(writer, tag, FAIL),
         }
     }
 
