@@ -1,9 +1,12 @@
-//! `apd`: an access point daemon. It serves over a store and datagrams, runs scripts over a table in memory, and makes stores.
+//! `apd`: an access point daemon. It serves over a store and datagrams, runs scripts on a store, and makes stores.
 #![tactic(auto)]
 
 mod running;
 #[cfg(test)]
 mod running_tests;
+mod scripting;
+#[cfg(test)]
+mod scripting_tests;
 mod store_file;
 #[cfg(test)]
 mod store_file_tests;
@@ -12,14 +15,15 @@ ghost use Rattle.std.specs.Prelude.{◌≡◌};
 ghost use Rattle.apd.specs.declared.ProgramFault.TheVariants.{NoMemory};
 
 use apd_conf::ConfigurationFault;
-use apd_script::{FormatFault, ScriptFault, World, read_configurations, run_format, run_script};
+use apd_script::{FormatFault, ScriptFault, run_format};
 use clap::error::ErrorKind;
-use clap::{Arg, ArgAction, Command};
+use clap::{Arg, Command};
 use log::Log;
 use running::{RunningFault, run_and_log, run_command};
+use scripting::{run_script_of_input, script_command};
 use std::alloc::{AllocError, Global};
 use std::fs::File;
-use std::io::{self, BufReader};
+use std::io;
 use std::net::Net;
 use std::process::ExitCode;
 use std::rt::{Env, Files};
@@ -32,44 +36,11 @@ use thiserror::Error;
 /// What the program's help says beside its subcommands.
 const HELP: &str = "'apd script --help' has the lines of a script and of a configuration file.";
 
-/// What the help for `script` says beside its arguments.
-const SCRIPT_HELP: &str = "Lines of a script:
-  rx <interface> <hex>  The radio of the interface received this frame
-  tick <ms>             It is this moment from now on; a station silent for too long goes
-  cmd <text>            A control command, as STATUS or STA-FIRST
-  hand                  Hands out what was settled: frames, driver calls and replies
-  flush                 Settles all entries, and then does as hand
-An empty line is skipped; any other line ends the script.
-
-Lines of a CONF are <name>=<value>, and these three at least:
-  interface=wlan0
-  bssid=02:00:00:00:00:01
-  ssid=net
-docs/FORMATS.md has all names, and docs/CONTROL.md the control commands.
-
-Example, in which a station authenticates and is answered:
-  rx wlan0 b000 0000 020000000001 0200000000aa 020000000001 1000 0000 0100 0000
-  flush";
-
 /// What the help for `format` says beside its argument.
 const FORMAT_HELP: &str =
     "Warning: the whole content of an existing store is emptied, without a question asked.
 Any file of a store's length, 2097216 bytes, is made a store, whatever it held; a file
 of another length is left as it was.";
-
-/// The subcommand that runs a script.
-fn script_command<'a>(alloc: Global) -> Result<Command<'a>, AllocError> {
-    let files = Arg::new(alloc, "CONF")
-        .num_args(0..)
-        .action(ArgAction::Append)
-        .help(
-            "Configuration files, one for each interface; the built-in configuration without any",
-        );
-    Command::new(alloc, "script")
-        .about("Runs a script from standard input on a daemon in memory")
-        .after_help(SCRIPT_HELP)
-        .arg(files)
-}
 
 /// The subcommand that makes a store.
 fn format_command<'a>(alloc: Global) -> Result<Command<'a>, AllocError> {
@@ -121,20 +92,6 @@ impl From<AllocError> for ProgramFault {
     fn from(_: AllocError) -> ProgramFault {
         ProgramFault::NoMemory
     }
-}
-
-/// Runs the script on standard input, with the configurations of these files.
-fn run_script_of_input(
-    rt: &(impl Input + Print + Files + AllocGlobal),
-    names: &[&str],
-) -> Result<(), ProgramFault> {
-    let confs = read_configurations(rt, names).map_err(ProgramFault::Configuration)?;
-    let world = World::new(rt.alloc(), confs);
-    let Ok(reader) = BufReader::new(rt.alloc(), rt.reader()) else {
-        return Err(ProgramFault::NoMemory);
-    };
-    run_script(rt.alloc(), world, reader, &mut io::writer(rt)).map_err(ProgramFault::Script)?;
-    Ok(())
 }
 
 /// Makes the file of this name a new store, and says so.
@@ -197,11 +154,10 @@ fn run<
         run_and_log(rt, matches).map_err(ProgramFault::Running)?;
         return Ok(None);
     }
-    let names = matches
-        .subcommand_matches("script")
-        .and_then(|script| script.get_strs("CONF"))
-        .unwrap_or(&[]);
-    run_script_of_input(rt, names)?;
+    if let Some(script) = matches.subcommand_matches("script") {
+        let names = script.get_strs("CONF").unwrap_or(&[]);
+        run_script_of_input(rt, script.get_str("store"), names)?;
+    }
     Ok(None)
 }
 

@@ -52,3 +52,11 @@ pub fn open_or_create(
     };
     opened(rt, name, disk)
 }
+
+/// The file of this name, which is there.
+pub fn open(
+    rt: &(impl Files<File = File> + AllocGlobal),
+    name: &str,
+) -> Result<FileDisk, OpenFault> {
+    opened(rt, name, FileDisk::open(rt, name))
+}

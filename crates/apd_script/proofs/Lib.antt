@@ -1,9 +1,8 @@
-pub mod Accepting
-pub mod Answering
-pub mod Handing
+pub mod Calling
+pub mod Doing
+pub mod Keeping
+pub mod OneRun
 pub mod Running
 pub mod Saying
 pub mod ScriptLines
-pub mod Senders
-pub mod Speaking
-pub mod Starting
+pub mod Stopping

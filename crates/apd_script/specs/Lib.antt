@@ -1,9 +1,5 @@
 pub mod Configured
 pub mod Lines
 pub mod Meant
-pub mod Run
+pub mod Refused
 pub mod Script
-pub mod Spoken
-pub mod Start
-pub mod Steps
-pub mod World

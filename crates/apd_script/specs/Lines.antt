@@ -1,6 +1,6 @@
 -- The lines of a script, and what each says (own format).
-use Rattle.std.specs.Prelude.{◌≡◌, ℕ, ◌⊎◌, not, List, [], ◌++◌, length, drop, filter, codes, None, Some, Ok, Option, IfSome}
-use Rattle.std.specs.List.{before_first}
+use Rattle.std.specs.Prelude.{◌≡◌, ℕ, ◌<◌, ◌⊎◌, not, List, [], ◌++◌, length, drop, filter, codes, None, Some, Ok, Option, IfSome}
+use Rattle.std.specs.List.{AllByRecursion, before_first}
 use Rattle.std.specs.Io.BufRead.{take_through, DropsThrough}
 use Rattle.hex.specs.Hex.{decode_of}
 use Rattle.apd_base.specs.Text.{decimal_number, is_blank, newline}
@@ -9,7 +9,7 @@ use Rattle.apd_conf.specs.declared.conf.Conf.{Conf}
 use Rattle.apd_conf.specs.Confs.{conf_named}
 use Rattle.apd_ctrl.specs.Grammar.{Then}
 use Rattle.apd_script.specs.declared.script.line.Line.{Line}
-use Rattle.apd_script.specs.declared.script.line.Line.TheVariants.{Empty, Received, Tick, Command, Hand, Flush}
+use Rattle.apd_script.specs.declared.script.line.Line.TheVariants as line
 
 -- the bytes up to a newline, and with it, are read of what is left, or all of it
 pub record IsRead (left next : Option (List ℕ)) (bytes : List ℕ) : Type 0 where
@@ -28,24 +28,62 @@ without_blanks text = filter (λ b. not (is_blank b)) text
 abbrev pub IsReception : List ℕ → List ℕ → List ℕ → Type 0
 IsReception interface frame text = (interface ≡ before_first is_blank text) × (decode_of (without_blanks (drop (length interface) text)) ≡ Ok frame)
 
--- a text says a line
-abbrev pub Says : List ℕ → Line → Type 0
+-- what a line may say
+pub data Said : Type 0 where
+  Empty : Said
+  -- at this interface this frame was received
+  Received : List ℕ → List ℕ → Said
+  Tick : Moment → Said
+  Command : List ℕ → Said
+  Take : Said
+  Call : Said
+  Publish : Said
+  Hand : Said
+  Flush : Said
+  Stop : Said
+
+-- a text says it
+abbrev pub Says : List ℕ → Said → Type 0
 Says text Empty = text ≡ []
+Says text (Received interface frame) = Then (codes "rx ") (IsReception interface frame) text
+Says text (Tick m) = Then (codes "tick ") (IsMoment m) text
+Says text (Command command) = ((text ≡ codes "cmd") × (command ≡ [])) ⊎ (text ≡ codes "cmd " ++ command)
+Says text Take = text ≡ codes "take"
+Says text Call = text ≡ codes "call"
+Says text Publish = text ≡ codes "publish"
 Says text Hand = text ≡ codes "hand"
 Says text Flush = text ≡ codes "flush"
-Says text (Tick m) = Then (codes "tick ") (IsMoment m) text
-Says text (Command command) = ((text ≡ codes "cmd") × (command.now ≡ [])) ⊎ (text ≡ codes "cmd " ++ command.now)
-Says text (Received interface frame) = Then (codes "rx ") (IsReception interface.now frame) text
+Says text Stop = text ≡ codes "stop"
 
--- a line that is about an interface which is not configured
-abbrev pub IsElsewhere : List Conf → Line → Type 0
-IsElsewhere confs (Received interface frame) = conf_named confs interface.now ≡ None
-IsElsewhere confs Empty = ⊥
-IsElsewhere confs Hand = ⊥
-IsElsewhere confs Flush = ⊥
-IsElsewhere confs (Tick m) = ⊥
-IsElsewhere confs (Command command) = ⊥
+abbrev pub said : Line → Said
+said line.Empty = Empty
+said (line.Received interface frame) = Received interface.now frame
+said (line.Tick m) = Tick m
+said (line.Command command) = Command command.now
+said line.Take = Take
+said line.Call = Call
+said line.Publish = Publish
+said line.Hand = Hand
+said line.Flush = Flush
+said line.Stop = Stop
 
--- a text says no line, or one about such an interface
-abbrev pub IsBad : List Conf → List ℕ → Type 0
-IsBad confs text = (line : Line) → Says text line → IsElsewhere confs line
+-- none of these lines is a stop
+abbrev pub HaveNoStop : List (List ℕ) → Type 0
+HaveNoStop texts = AllByRecursion (λ text. Says text Stop → ⊥) texts
+
+-- a line of one word, or of none
+abbrev pub IsWord : Said → Type 0
+IsWord (Received interface frame) = ⊥
+IsWord (Tick m) = ⊥
+IsWord (Command command) = ⊥
+IsWord what = Unit {0}
+
+-- what can't be carried out: it is about an interface that is not configured, or a stop for which too few radios are left
+abbrev pub IsNotPossible : List Conf → ℕ → Said → Type 0
+IsNotPossible confs radios (Received interface frame) = conf_named confs interface ≡ None
+IsNotPossible confs radios Stop = radios < length confs
+IsNotPossible confs radios what = ⊥
+
+-- a text says nothing, or what can't be carried out
+abbrev pub IsBad : List Conf → ℕ → List ℕ → Type 0
+IsBad confs radios text = (what : Said) → Says text what → IsNotPossible confs radios what

@@ -1,155 +1,228 @@
--- What running a script does to its world. What it prints is not spoken of.
-use Rattle.std.specs.Prelude.{◌≡◌, ◌≢◌, ℕ, ◌+◌, ◌≤◌, true, List, [], ◌∷◌, ◌++◌, length, Option, None, Some, Result, Ok, Err, IfSome}
-use Rattle.std.specs.List.{AllByRecursion}
+-- What running a script does, in the words of its world. What it prints is not spoken of.
+use Rattle.std.specs.Prelude.{◌≡◌, ◌≢◌, ℕ, Bool, ◌+◌, ◌≤◌, List, [], ◌∷◌, ◌++◌, map, length, drop, Option, None, Some, Result, Ok, Err, IfSome}
+use Rattle.std.specs.Option.{option_or}
+use Rattle.apd_base.specs.Text.{lines}
 use Rattle.apd_base.specs.declared.limits.TheConstants.{MAX_SCRIPT}
 use Rattle.apd_base.specs.declared.moment.Moment.{Moment}
-use Rattle.apd_conf.specs.declared.conf.Conf.{Conf}
 use Rattle.apd_conf.specs.Confs.{conf_named}
+use Rattle.apd_conf.specs.declared.conf.Conf.{Conf}
+use Rattle.apd_core.specs.Core.{new_core}
+use Rattle.apd_core.specs.Heard.{AreHeardAt}
+use Rattle.apd_core.specs.Requests.{ordered, said_by, unless_ignored}
+use Rattle.apd_core.specs.declared.input.QuietReason.{QuietReason}
 use Rattle.apd_ctrl.specs.Placing.{Placing, Asks, Does, placed}
 use Rattle.apd_ctrl.specs.Reading.{outcome as command_outcome}
 use Rattle.apd_ctrl.specs.declared.command.Command.{Command as Order}
 use Rattle.apd_ctrl.specs.declared.parser.Refusal.{Refusal}
 use Rattle.apd_frame.specs.Outcome.{outcome}
 use Rattle.apd_mlme.specs.Happening.{Happening}
-use Rattle.apd_core.specs.declared.input.QuietReason.{QuietReason}
-use Rattle.apd_script.specs.declared.plain.Step.{Step}
-use Rattle.apd_script.specs.declared.plain.Step.TheVariants.{Ask}
-use Rattle.apd_script.specs.declared.plain.Told.{Told}
-use Rattle.apd_script.specs.declared.plain.Told.TheVariants.{NoMemory}
-use Rattle.apd_script.specs.declared.plain.World.{World}
-use Rattle.apd_script.specs.declared.script.line.Line.{Line}
-use Rattle.apd_script.specs.declared.script.line.Line.TheVariants.{Empty, Received, Tick, Command, Hand, Flush}
+use Rattle.apd_mlme.specs.declared.decision.Recipient.{Recipient}
+use Rattle.apd_slot.specs.Slots.{bssid_of}
+use Rattle.apd_slot.specs.Wanted.{Stations}
+use Rattle.apd_store.specs.Image.{Shows}
+use Rattle.apd_world.specs.Outside.{device_of}
+use Rattle.apd_world.specs.Proper.{IsProper}
+use Rattle.apd_world.specs.Resumed.{AreResumed}
+use Rattle.apd_world.specs.Seen.{durable_of, is_up_if, slot_at, slots_of}
+use Rattle.apd_world.specs.Starting.{IsFlushed, IsHandedOut, IsStarted}
+use Rattle.apd_world.specs.WorldRun.{IsWorldStep}
+use Rattle.apd_world.specs.declared.step.Step.{Step}
+use Rattle.apd_world.specs.declared.step.Step.TheVariants as step
+use Rattle.apd_world.specs.declared.step.Told.{Told}
+use Rattle.apd_world.specs.declared.step.Told.TheVariants.{NoMemory}
+use Rattle.apd_world.specs.declared.world.World.{World}
+use Rattle.apd_script.specs.Lines.{Said, Empty, Received, Tick, Command, Take, Call, Publish, Hand, Flush, Stop, Says, IsBad, IsNotPossible}
+use Rattle.apd_script.specs.Meant.{conf_meant}
+use Rattle.apd_script.specs.Refused.{refused}
 use Rattle.apd_script.specs.declared.script.fault.ScriptFault.{ScriptFault}
 use Rattle.apd_script.specs.declared.script.fault.ScriptFault.TheVariants as fault
-use Rattle.apd_base.specs.Text.{lines}
-use Rattle.apd_script.specs.Lines.{Says, IsBad}
-use Rattle.apd_script.specs.Meant.{conf_meant}
-use Rattle.apd_script.specs.Run.{AreSteps, IsReached}
-use Rattle.apd_script.specs.Start.{IsStart, asked, hand_steps, flush_steps}
-use Rattle.apd_core.specs.Requests.{ordered, unless_ignored}
+use Rattle.apd_script.specs.declared.script.standing.Standing.{Standing}
 
--- the moment at which a script begins
-abbrev pub first_moment : Moment
-first_moment = record { 0 = 0 }
+-- ---- what a script stands at
+abbrev pub confs_of : {D R : Type 0} → Standing D R → List Conf
+confs_of s = (durable_of s.world).core.confs
 
--- the interfaces start at a moment, and then steps lead on
-pub record IsStartedThenReached (m : Moment) (old new : World) : Type 0 where
-  pub tolds : List Told
-  pub started : World
-  pub start : IsStart m tolds old started
-  pub reached : IsReached started new
+-- its radio is up: a command that asks for its status tells so
+abbrev pub is_up_at : {D R : Type 0} → Standing D R → Conf → Bool
+is_up_at s conf = is_up_if (slot_at (slots_of s.world) conf.bssid)
 
--- no step lacked memory
-abbrev pub HaveMemory : List Told → Type 0
-HaveMemory tolds = AllByRecursion (λ told. told ≢ NoMemory) tolds
+-- at first: at moment 0, with all radios, and without a refusal
+pub record IsBegun {D R : Type 0} (w : World D R) (radios : List R) (s : Standing D R) : Type 0 where
+  pub world : s.world ≡ w
+  pub moment : s.moment ≡ record { 0 = 0 }
+  pub spares : s.spares.items ≡ radios
+  pub refusal : s.refusal ≡ None
 
--- steps were made, none of which lacked memory
-pub record AreMade (steps : List Step) (old new : World) : Type 0 where
-  pub tolds : List Told
-  pub taken : AreSteps steps tolds old new
-  pub memory : HaveMemory tolds
+-- ---- the steps that its lines ask for
+-- what a step asks to be accepted, and at which moment
+abbrev pub asked_at : Step → Option (Option (Result Happening QuietReason) × Moment)
+asked_at (step.Accept i m) = Some (said_by i, m)
+asked_at other = None
 
--- so was the one that asks for this to be accepted at a moment
-pub record IsRequested (said : Option (Result Happening QuietReason)) (m : Moment) (old new : World) : Type 0 where
-  pub step : Step
-  pub asks : asked step ≡ Some (said, m)
-  pub made : AreMade (step ∷ []) old new
+module _ {D R : Type 0} (honest : D → Type 0) (reads : D → List ℕ) (may_leave : D → List ℕ → Type 0) (size : D → ℕ) (stations : R → Stations) (faults : R → ℕ) where
+  -- the world is proper
+  abbrev pub IsProperAt : Standing D R → Type 0
+  IsProperAt s = IsProper honest reads may_leave size (durable_of s.world)
 
--- what becomes of a command at a BSSID
-abbrev pub IsPlaced : Moment → Placing → World → World → Type 0
-IsPlaced m (Asks query) old new = AreMade (Ask query ∷ []) old new
-IsPlaced m (Does h) old new = IsRequested (Some (ordered h)) m old new
+  -- nothing changes but the world, which stays proper
+  pub record GoesOn (old new : Standing D R) : Type 0 where
+    pub only : new ≡ record old { world = new.world }
+    pub proper : IsProperAt old → IsProperAt new
 
--- at the interface that it means, whose radio is up: no radio can be down yet
-abbrev pub IsMeant : ℕ → Moment → Order → Option Conf → World → World → Type 0
-IsMeant tag m order None old new = new ≡ old
-IsMeant tag m order (Some conf) old new = IsPlaced m (placed order conf.bssid true tag) old new
+  -- this step was made, and told so
+  pub record Makes (made : Step) (told : Told) (old new : Standing D R) : Type 0 where
+    pub is : IsWorldStep stations faults made told old.world new.world
+    pub goes_on : GoesOn old new
 
--- a text is carried out as a command, by what it is; one that is refused makes no step
-abbrev pub IsCarriedOut : ℕ → Moment → Result (Option (List ℕ) × Order) Refusal → World → World → Type 0
-IsCarriedOut tag m (Ok read) old new = IsMeant tag m read.1 (conf_meant old.confs read.0) old new
-IsCarriedOut tag m (Err refusal) old new = new ≡ old
+  -- one was made, and did not lack memory
+  pub record IsMade (made : Step) (old new : Standing D R) : Type 0 where
+    pub told : Told
+    pub makes : Makes made told old new
+    pub memory : told ≢ NoMemory
 
--- the frame of a line is received at its interface
-pub record IsReceived (m : Moment) (interface frame : List ℕ) (old new : World) : Type 0 where
-  pub conf : Conf
-  pub configured : conf_named old.confs interface ≡ Some conf
-  pub requested : IsRequested (Some (unless_ignored conf.bssid (outcome frame conf.bssid))) m old new
+  -- one was made, which asks for this to be accepted at the moment
+  pub record IsRequested (said : Option (Result Happening QuietReason)) (old new : Standing D R) : Type 0 where
+    pub request : Step
+    pub asks : asked_at request ≡ Some (said, old.moment)
+    pub made : IsMade request old new
 
--- the line of a number is run at a moment, and from then on it is another one, if the line says so: from one world to another
-abbrev pub IsRun : ℕ → Line → Moment → World → Moment → World → Type 0
-IsRun n Empty m old later new = (later ≡ m) × (new ≡ old)
-IsRun n Hand m old later new = (later ≡ m) × AreMade (hand_steps old.confs) old new
-IsRun n Flush m old later new = (later ≡ m) × AreMade (flush_steps old.confs) old new
-IsRun n (Tick t) m old later new = (later ≡ t) × IsRequested None t old new
-IsRun n (Command text) m old later new = (later ≡ m) × IsCarriedOut n m (command_outcome text.now) old new
-IsRun n (Received interface frame) m old later new = (later ≡ m) × IsReceived m interface.now frame old new
+  -- one was made, whatever it told, and the first refusal is kept
+  pub record IsTried (made : Step) (old new : Standing D R) : Type 0 where
+    pub told : Told
+    pub mid : Standing D R
+    pub makes : Makes made told old mid
+    pub kept : new ≡ record mid { refusal = option_or old.refusal (refused told) }
 
--- a text says a line, which is run
-pub record SaysAndIsRun (n : ℕ) (text : List ℕ) (m : Moment) (old : World) (later : Moment) (new : World) : Type 0 where
-  pub line : Line
-  pub said : Says text line
-  pub run : IsRun n line m old later new
+  -- the frame of a line is received at its interface
+  pub record IsReceived (interface frame : List ℕ) (old new : Standing D R) : Type 0 where
+    pub conf : Conf
+    pub configured : conf_named (confs_of old) interface ≡ Some conf
+    pub requested : IsRequested (Some (unless_ignored conf.bssid (outcome frame conf.bssid))) old new
 
--- texts are run one after the other, the first of which has this number
-abbrev pub AreRun : ℕ → List (List ℕ) → Moment → World → Moment → World → Type 0
-AreRun n [] m old later new = (later ≡ m) × (new ≡ old)
-AreRun n (text ∷ texts) m old later new = (at : Moment) × (mid : World) × SaysAndIsRun n text m old at mid × AreRun (n + 1) texts at mid later new
+  -- what becomes of a command at a BSSID
+  abbrev pub IsPlaced : Placing → Standing D R → Standing D R → Type 0
+  IsPlaced (Asks query) old new = IsMade (step.Ask query) old new
+  IsPlaced (Does h) old new = IsRequested (Some (ordered h)) old new
 
--- the interfaces are started at a moment
-pub record IsStarted (m : Moment) (old new : World) : Type 0 where
-  pub tolds : List Told
-  pub start : IsStart m tolds old new
-  pub memory : HaveMemory tolds
+  -- at the interface that it means
+  abbrev pub IsMeant : ℕ → Order → Option Conf → Standing D R → Standing D R → Type 0
+  IsMeant tag order None old new = new ≡ old
+  IsMeant tag order (Some conf) old new = IsPlaced (placed order conf.bssid (is_up_at old conf) tag) old new
 
--- the interfaces are started, and then the lines of a script are run
-pub record IsScriptRun (texts : List (List ℕ)) (old new : World) : Type 0 where
-  pub started : World
-  pub last : Moment
-  pub start : IsStarted first_moment old started
-  pub run : AreRun 1 texts first_moment started last new
+  -- a text is carried out as a command, by what it is; one that is refused makes no step
+  abbrev pub IsCarriedOut : ℕ → Result (Option (List ℕ) × Order) Refusal → Standing D R → Standing D R → Type 0
+  IsCarriedOut tag (Ok read) old new = IsMeant tag read.1 (conf_meant (confs_of old) read.0) old new
+  IsCarriedOut tag (Err refusal) old new = new ≡ old
 
--- a script is run to its end; where it is known what the reader gives, these are all its lines
-pub record Ends (known : Option (List ℕ)) (old new : World) : Type 0 where
-  pub texts : List (List ℕ)
-  pub whole : IfSome known (λ script. (length script ≤ MAX_SCRIPT) × (lines script ≡ texts))
-  pub run : IsScriptRun texts old new
+  -- what is settled is handed out
+  pub record HandsOut (old new : Standing D R) : Type 0 where
+    pub answers : List (Recipient × Told)
+    pub handed : IsHandedOut stations faults [] answers old.world new.world
+    pub goes_on : GoesOn old new
 
--- all lines in front of line n are run, and this one is bad
-pub record IsBadAt (n : ℕ) (known : Option (List ℕ)) (old : World) : Type 0 where
-  pub front : List (List ℕ)
-  pub bad : List ℕ
-  pub behind : List (List ℕ)
-  pub text : IfSome known (λ script. lines script ≡ front ++ bad ∷ behind)
-  pub number : n ≡ length front + 1
-  pub new : World
-  pub run : IsScriptRun front old new
-  pub is_bad : IsBad new.confs bad
+  -- all is committed, and handed out: where no refusal was met
+  pub record Flushes (old new : Standing D R) : Type 0 where
+    pub none : old.refusal ≡ None
+    pub answers : List (Recipient × Told)
+    pub flushed : IsFlushed stations faults [] answers old.world new.world
+    pub goes_on : GoesOn old new
 
--- why a script did not end: of a bad line it is told which
-abbrev pub IsFault : Option (List ℕ) → World → ScriptFault → Type 0
-IsFault known old (fault.BadLine n) = IsBadAt n known old
-IsFault known old fault.Reader = Unit {0}
-IsFault known old fault.Writer = Unit {0}
-IsFault known old fault.NoMemory = Unit {0}
+  -- the interfaces are started
+  pub record Starts (old new : Standing D R) : Type 0 where
+    pub answers : List (Recipient × Told)
+    pub started : IsStarted stations faults answers old.world new.world
+    pub goes_on : GoesOn old new
+
+  -- A world begun anew at a moment from what the device of another reads: its table is the state that the device shows, nothing is
+  -- unsettled, and its slots, one for each interface, have resumed by that table. It is proper.
+  pub record IsRestarted (m : Moment) (old new : World D R) : Type 0 where
+    pub shown : honest (device_of (durable_of old)) → Shows (reads (device_of (durable_of old))) (durable_of new).core.settled
+    pub core : (durable_of new).core ≡ new_core (durable_of new).core.settled (durable_of old).core.confs (durable_of new).core.heard
+    pub heard : AreHeardAt m (durable_of new).core.settled (durable_of new).core.heard
+    pub slots : map bssid_of (slots_of new) ≡ map (λ conf. conf.bssid) (durable_of old).core.confs
+    pub resumed : AreResumed stations (durable_of new).core.settled (slots_of new)
+    pub proper : honest (device_of (durable_of old)) → IsProper honest reads may_leave size (durable_of new)
+
+  -- the world is begun anew, with a radio from the front for each interface, and no refusal is known
+  pub record Restarts (old new : Standing D R) : Type 0 where
+    pub restarted : IsRestarted old.moment old.world new.world
+    pub spares : new.spares.items ≡ drop (length (confs_of old)) old.spares.items
+    pub only : new ≡ record old { world = new.world; spares = new.spares; refusal = None }
+
+  -- and its interfaces are started
+  pub record Stops (old new : Standing D R) : Type 0 where
+    pub mid : Standing D R
+    pub restarts : Restarts old mid
+    pub starts : Starts mid new
+
+  -- ---- lines
+  -- the line of a number is run
+  abbrev pub IsRun : ℕ → Said → Standing D R → Standing D R → Type 0
+  IsRun n Empty old new = new ≡ old
+  IsRun n (Received interface frame) old new = IsReceived interface frame old new
+  IsRun n (Tick m) old new = IsRequested None (record old { moment = m }) new
+  IsRun n (Command text) old new = IsCarriedOut n (command_outcome text) old new
+  IsRun n Take old new = IsTried step.Take old new
+  IsRun n Call old new = IsTried step.Call old new
+  IsRun n Publish old new = IsTried step.Publish old new
+  IsRun n Hand old new = HandsOut old new
+  IsRun n Flush old new = Flushes old new
+  IsRun n Stop old new = Stops old new
+
+  -- a text says something, which is run
+  pub record SaysAndIsRun (n : ℕ) (text : List ℕ) (old new : Standing D R) : Type 0 where
+    pub what : Said
+    pub says : Says text what
+    pub run : IsRun n what old new
+
+  -- texts are run one after the other, the first of which has this number
+  abbrev pub AreRun : ℕ → List (List ℕ) → Standing D R → Standing D R → Type 0
+  AreRun n [] old new = new ≡ old
+  AreRun n (text ∷ texts) old new = (mid : Standing D R) × SaysAndIsRun n text old mid × AreRun (n + 1) texts mid new
+
+  -- the interfaces are started, and then the lines of a script are run
+  pub record IsScriptRun (texts : List (List ℕ)) (w : World D R) (radios : List R) (last : Standing D R) : Type 0 where
+    pub first : Standing D R
+    pub begun : IsBegun w radios first
+    pub started : Standing D R
+    pub starts : Starts first started
+    pub run : AreRun 1 texts started last
+
+  -- a script is run to its end; where it is known what the reader gives, these are all its lines
+  pub record Ends (known : Option (List ℕ)) (radios : List R) (old new : World D R) : Type 0 where
+    pub texts : List (List ℕ)
+    pub whole : IfSome known (λ script. (length script ≤ MAX_SCRIPT) × (lines script ≡ texts))
+    pub last : Standing D R
+    pub run : IsScriptRun texts old radios last
+    pub world : new ≡ last.world
+
+  -- all lines in front of line n are run, and this one is bad
+  pub record IsBadAt (n : ℕ) (known : Option (List ℕ)) (radios : List R) (old : World D R) : Type 0 where
+    pub front : List (List ℕ)
+    pub bad : List ℕ
+    pub behind : List (List ℕ)
+    pub text : IfSome known (λ script. lines script ≡ front ++ bad ∷ behind)
+    pub number : n ≡ length front + 1
+    pub last : Standing D R
+    pub run : IsScriptRun front old radios last
+    pub is_bad : IsBad (confs_of last) (length last.spares.items) bad
+
+  -- why a script did not end: of a bad line it is told which
+  abbrev pub IsFault : Option (List ℕ) → List R → World D R → ScriptFault → Type 0
+  IsFault known radios old (fault.BadLine n) = IsBadAt n known radios old
+  IsFault known radios old why = Unit {0}
 
 -- no line is bad
 abbrev pub IsNoBadLine : ScriptFault → Type 0
 IsNoBadLine (fault.BadLine n) = ⊥
-IsNoBadLine fault.Reader = Unit {0}
-IsNoBadLine fault.Writer = Unit {0}
-IsNoBadLine fault.NoMemory = Unit {0}
-
--- why a frame was not received: of its line it is told that its interface is not configured
-abbrev pub IsReceptionFault : ℕ → List ℕ → List Conf → ScriptFault → Type 0
-IsReceptionFault n interface confs (fault.BadLine k) = (k ≡ n) × (conf_named confs interface ≡ None)
-IsReceptionFault n interface confs fault.Reader = Unit {0}
-IsReceptionFault n interface confs fault.Writer = Unit {0}
-IsReceptionFault n interface confs fault.NoMemory = Unit {0}
+IsNoBadLine why = Unit {0}
 
 -- why a line was not run: it is bad
-abbrev pub IsLineFault : ℕ → List ℕ → List Conf → ScriptFault → Type 0
-IsLineFault n text confs (fault.BadLine k) = (k ≡ n) × IsBad confs text
-IsLineFault n text confs fault.Reader = Unit {0}
-IsLineFault n text confs fault.Writer = Unit {0}
-IsLineFault n text confs fault.NoMemory = Unit {0}
+abbrev pub IsLineFault : {D R : Type 0} → ℕ → List ℕ → Standing D R → ScriptFault → Type 0
+IsLineFault n text s (fault.BadLine k) = (k ≡ n) × IsBad (confs_of s) (length s.spares.items) text
+IsLineFault n text s why = Unit {0}
+
+-- the same of what it says
+abbrev pub IsSaidFault : {D R : Type 0} → ℕ → Said → Standing D R → ScriptFault → Type 0
+IsSaidFault n what s (fault.BadLine k) = (k ≡ n) × IsNotPossible (confs_of s) (length s.spares.items) what
+IsSaidFault n what s why = Unit {0}

@@ -1,41 +1,30 @@
-//! What a reader may rely on, whatever the daemon is asked: each law is the contract of a function that
-//! does nothing.
-ghost use Rattle.std.specs.Prelude.{◌≡◌, List, Ok};
-ghost use Rattle.apd_base.specs.declared.moment.Moment.{Moment};
-ghost use Rattle.apd_conf.specs.declared.conf.Conf.{Conf};
-ghost use Rattle.apd_ctrl.specs.declared.command.Query.{Query};
-ghost use Rattle.apd_mlme.specs.Happening.{Happening};
-ghost use Rattle.apd_mlme.specs.Rules.{verdict};
-ghost use Rattle.apd_mlme.specs.Truth.{AreSoToAll, IsFromStation, NoBroadcastRow};
-ghost use Rattle.apd_script.specs.Run.{AreSteps, Answers};
-ghost use Rattle.apd_script.specs.Spoken.{SpeaksOfSettled};
-ghost use Rattle.apd_script.specs.Steps.{IsStep};
-ghost use Rattle.apd_script.specs.World.{happening_of, new_world};
-ghost use Rattle.apd_script.specs.declared.plain.Answer.{Answer};
-ghost use Rattle.apd_core.specs.declared.input.Input.{Input};
-ghost use Rattle.apd_script.specs.declared.plain.Step.{Step};
-ghost use Rattle.apd_script.specs.declared.plain.Step.TheVariants.{Ask};
-ghost use Rattle.apd_script.specs.declared.plain.Told.{Told};
-ghost use Rattle.apd_script.specs.declared.plain.Told.TheVariants.{Answered};
-ghost use Rattle.apd_script.specs.declared.plain.World.{World};
+//! What a reader may rely on, whatever lines a script has: each law is the contract of a function that does
+//! nothing.
+ghost use Rattle.std.specs.Prelude.{List, ℕ};
+ghost use Rattle.apd_script.specs.Lines.{HaveNoStop};
+ghost use Rattle.apd_script.specs.Script.{AreRun, IsScriptRun, Starts};
+ghost use Rattle.apd_script.specs.declared.script.standing.Standing.{Standing};
+ghost use Rattle.apd_world.specs.Proper.{IsProper};
+ghost use Rattle.apd_world.specs.Seen.{durable_of};
+ghost use Rattle.apd_world.specs.Starting.{HasGoneOn};
+ghost use Rattle.apd_world.specs.declared.world.World.{World as AnyWorld};
 
-/// Steps of any kind, one after the other, are answered as a fold over the accepted requests: by `drive`, in
-/// a start, and by the lines of a script, which reach the world that they leave by steps.
-pub fn steps_are_answered_in_order()
-    ensures { (steps : List Step) (tolds : List Told) (old new : World) → AreSteps steps tolds old new → Answers steps tolds old new }
+use apd_disk::Disk;
+use apd_radio::Radio;
+
+/// Lines of a script among which is no `stop` make one list of steps of the world at which they begin, and so do
+/// the start in front of them and these lines: what is proved of a world for every list of steps holds of each
+/// part of a script from one start to the next `stop`, or to its end.
+pub fn lines_without_a_stop_are_one_run<D: Disk, R: Radio>()
+    ensures lines { (n : ℕ) (texts : List (List ℕ)) (old new : Standing D R) → HaveNoStop texts → AreRun D.honest D.reads D.may_leave D.size R.stations R.faults n texts old new
+        → HasGoneOn R.stations R.faults old.world new.world }
+    ensures part { (n : ℕ) (texts : List (List ℕ)) (old started new : Standing D R) → Starts D.honest D.reads D.may_leave D.size R.stations R.faults old started → HaveNoStop texts
+        → AreRun D.honest D.reads D.may_leave D.size R.stations R.faults n texts started new → HasGoneOn R.stations R.faults old.world new.world }
 {}
 
-/// What leaves is so of everyone whom it is meant for, whatever steps were taken from a new world on: no
-/// request is a frame from the broadcast address, and no row has it, so a broadcast frame speaks of every
-/// station.
-pub fn what_leaves_is_so_of_everyone()
-    ensures senders { (w : World) (m : Moment) (i : Input) (h : Happening) → happening_of w m i ≡ Ok h → IsFromStation h }
-    ensures rows { (steps : List Step) (tolds : List Told) (old new : World) → AreSteps steps tolds old new → NoBroadcastRow old.front → NoBroadcastRow new.front }
-    ensures everyone { (steps : List Step) (tolds : List Told) (confs : List Conf) (w : World) (m : Moment) (i : Input) (h : Happening) → AreSteps steps tolds (new_world confs) w → happening_of w m i ≡ Ok h → AreSoToAll (verdict w.front w.confs h).state (verdict w.front w.confs h).outs }
-{}
-
-/// After any steps a query is answered from the table after all that they settled, a front of the accepted
-/// requests: the answer has that table's text, and the number of the last request that it speaks of.
-pub fn a_query_speaks_of_what_was_settled()
-    ensures { (steps : List Step) (tolds : List Told) (old mid new : World) (query : Query) (answer : Answer) → AreSteps steps tolds old mid → IsStep (Ask query) (Answered answer) mid new → (answer.query ≡ query) × SpeaksOfSettled steps tolds old answer }
+/// Whatever lines a script has, a `stop` among them: where its world was proper, as of an honest device, the one
+/// after them is. So what is proved of the steps from a proper world holds at each line.
+pub fn a_script_leaves_a_proper_world_proper<D: Disk, R: Radio>()
+    ensures { (texts : List (List ℕ)) (w : AnyWorld D R) (radios : List R) (last : Standing D R) → IsScriptRun D.honest D.reads D.may_leave D.size R.stations R.faults texts w radios last
+        → IsProper D.honest D.reads D.may_leave D.size (durable_of w) → IsProper D.honest D.reads D.may_leave D.size (durable_of last.world) }
 {}

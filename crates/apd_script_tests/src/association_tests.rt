@@ -1,37 +1,28 @@
-use crate::calls::{alone, both, built_in, second};
-use crate::script_tests::printed;
+use crate::calls::{alone, built_in, one_radio, two_radios};
+use crate::rows::{Row, ends};
 use apd_conf::{Confs, HwMode, IgnoreBroadcastSsid};
 use std::alloc::Global;
 use std::process::Abort;
 use std::test::Fail;
 
-/// A script, and what it prints. In frames B and C stand for the addresses of radios, and S to V for those
-/// of stations; an empty line is skipped.
-struct Row {
-    about: &'static str,
-    script: &'static str,
-    want: &'static str,
-}
+// In the frames below B and C stand for the addresses of radios, and S to V for those of stations; an empty line
+// is skipped.
 
 /// S joins wlan0.
-fn joins() -> &'static str {
-    "
+const JOINS: &str = "
 rx wlan0 b000 0000 B S B 1000 0000 0100 0000
 flush
 rx wlan0 0000 0000 B S B 2000 3104 0a00 0003 6e6574 0104 82848b96
 flush
-"
-}
+";
 
-fn joined() -> &'static str {
-    "
+const JOINED: &str = "
 entry 2
 wlan0 tx b000 0000 S B B 0000 0000 0200 0000
 entry 3
 wlan0 install 02:00:00:00:00:aa 1
 wlan0 tx 1000 0000 S B B 0000 0100 0000 01c0 0104 82848b96
-"
-}
+";
 
 /// S authenticates at wlan0.
 fn authenticates() -> &'static str {
@@ -129,7 +120,7 @@ fn unbroken(alloc: Global, lines: &[u8]) -> Result<Vec<u8>, Fail> {
     Ok(out)
 }
 
-/// Runs a script on a daemon of these configurations, and compares what it prints.
+/// Runs a script to its end, and compares what it prints.
 fn prints(
     rt: &(impl Abort + AllocGlobal),
     about: &str,
@@ -137,31 +128,18 @@ fn prints(
     script: &[&str],
     want: &[&str],
 ) -> Result<(), Fail> {
-    let alloc = rt.alloc();
-    let lines = spelled(alloc, script)?;
-    let (fault, out) = printed(alloc, confs, lines.as_slice())?;
-    assert_eq!(rt; fault, None, "{about}");
-    let wanted = spelled(alloc, want)?;
-    let wanted = unbroken(alloc, wanted.as_slice())?;
-    assert_eq!(rt; out.as_slice(), wanted.as_slice(), "{about}");
-    Ok(())
+    let script = spelled(rt.alloc(), script)?;
+    let want = spelled(rt.alloc(), want)?;
+    let want = unbroken(rt.alloc(), want.as_slice())?;
+    ends(rt, about, confs, script.as_slice(), want.as_slice(), None)
 }
 
-/// The built-in configuration alone.
-fn one_radio(alloc: Global) -> Result<Confs, Fail> {
-    alone(alloc, built_in(alloc)?)
-}
-
-/// The built-in configuration, and the same for wlan1 at C.
-fn two_radios(alloc: Global) -> Result<Confs, Fail> {
-    both(alloc, built_in(alloc)?, second(alloc)?)
-}
-
-/// What a script prints that begins with an empty table.
-const FROM_NOTHING: [Row; 4] = [
+/// What a script prints at one radio.
+const AT_ONE_RADIO: [Row; 10] = [
     Row {
         about: "A station without a row is told so: class 2 frames, reason 6; data, reason 7; a deauthentication is not answered.",
-        script: "
+        script: &[
+            "
 rx wlan0 0000 0000 B S B 2000 3104 0a00 0003 6e6574 0104 82848b96
 flush
 rx wlan0 2000 0000 B S B 2000 3104 0a00 C 0003 6e6574 0104 82848b96
@@ -173,7 +151,9 @@ flush
 rx wlan0 c000 0000 B S B 2000 0300
 flush
 ",
-        want: "
+        ],
+        want: &[
+            "
 entry 2
 wlan0 tx c000 0000 S B B 0000 0600
 entry 3
@@ -184,17 +164,21 @@ entry 5
 wlan0 tx c000 0000 S B B 0000 0700
 quiet nothing
 ",
+        ],
     },
     Row {
         about: "A probe request is answered for the empty name and for this one, to all radios or to this one.",
-        script: "
+        script: &[
+            "
 rx wlan0 4000 0000 ffffffffffff S ffffffffffff 3000 0000 0104 82848b96
 flush
 rx wlan0 4000 0000 ffffffffffff S ffffffffffff 3000 0003 6e6574
 rx wlan0 4000 0000 B S B 3000 0003 6e6574
 flush
 ",
-        want: "
+        ],
+        want: &[
+            "
 entry 2
 wlan0 tx 5000 0000 S B B 0000 0000000000000000 6400 0100 0003 6e6574 0104 82848b96 0301 06
 entry 3
@@ -202,24 +186,30 @@ entry 4
 wlan0 tx 5000 0000 S B B 0000 0000000000000000 6400 0100 0003 6e6574 0104 82848b96 0301 06
 wlan0 tx 5000 0000 S B B 0000 0000000000000000 6400 0100 0003 6e6574 0104 82848b96 0301 06
 ",
+        ],
     },
     Row {
         about: "It is not for another network, without a name, or where an element is cut.",
-        script: "
+        script: &[
+            "
 rx wlan0 4000 0000 ffffffffffff S ffffffffffff 3000 0003 6e6575
 rx wlan0 4000 0000 ffffffffffff S ffffffffffff 3000
 rx wlan0 4000 0000 ffffffffffff S ffffffffffff 3000 0000 01
 flush
 ",
-        want: "
+        ],
+        want: &[
+            "
 quiet nothing
 quiet nothing
 quiet nothing
 ",
+        ],
     },
     Row {
         about: "Each bit that is not looked at is set: of the frame control field, the duration, the sequence number, the status, the capability, the current access point, the reason, and bytes after the last field.",
-        script: "
+        script: &[
+            "
 rx wlan0 403b ffff ffffffffffff S ffffffffffff f0ff 0003 6e6574
 rx wlan0 b03b ffff B S B f0ff 0000 0100 ffff ff
 rx wlan0 003b ffff B S B f0ff ffff ffff 0003 6e6574 0100
@@ -229,7 +219,9 @@ rx wlan0 a03b ffff B S B f0ff ffff ff
 rx wlan0 c03b ffff B S B f0ff ffff ff
 flush
 ",
-        want: "
+        ],
+        want: &[
+            "
 entry 2
 entry 3
 entry 4
@@ -244,43 +236,34 @@ wlan0 tx 1000 0000 S B B 0000 0100 0000 01c0 0104 82848b96
 wlan0 tx 3000 0000 S B B 0000 0100 0000 01c0 0104 82848b96
 wlan0 remove 02:00:00:00:00:aa
 ",
+        ],
     },
-];
-
-/// The rows that begin with an empty table.
-fn from_nothing() -> &'static [Row] {
-    &FROM_NOTHING
-}
-
-#[test]
-fn stations_without_a_row_are_answered(rt: HostRuntime) -> Result<(), Fail> {
-    for row in from_nothing() {
-        let confs = one_radio(rt.alloc())?;
-        prints(&rt, row.about, confs, &[row.script], &[row.want])?;
-    }
-    Ok(())
-}
-
-/// What a script prints once S has joined wlan0.
-const ONCE_JOINED: [Row; 6] = [
     Row {
         about: "A station joins again, with its identifier, and by either request.",
-        script: "
+        script: &[
+            JOINS,
+            "
 rx wlan0 0000 0000 B S B 2000 3104 0a00 0003 6e6574 0104 82848b96
 flush
 rx wlan0 2000 0000 B S B 2000 3104 0a00 C 0003 6e6574 0104 82848b96
 flush
 ",
-        want: "
+        ],
+        want: &[
+            JOINED,
+            "
 entry 4
 wlan0 tx 1000 0000 S B B 0000 0100 0000 01c0 0104 82848b96
 entry 5
 wlan0 tx 3000 0000 S B B 0000 0100 0000 01c0 0104 82848b96
 ",
+        ],
     },
     Row {
         about: "It sends data; it disassociates, and is not told; it does so again, and sends data, reason 7; it deauthenticates, and sends data.",
-        script: "
+        script: &[
+            JOINS,
+            "
 rx wlan0 0801 0000 B S ffffffffffff 2000
 rx wlan0 a000 0000 B S B 2000 0300
 flush
@@ -292,7 +275,10 @@ flush
 rx wlan0 0801 0000 B S ffffffffffff 2000
 flush
 ",
-        want: "
+        ],
+        want: &[
+            JOINED,
+            "
 quiet nothing
 entry 4
 wlan0 remove 02:00:00:00:00:aa
@@ -303,10 +289,13 @@ entry 6
 entry 7
 wlan0 tx c000 0000 S B B 0000 0700
 ",
+        ],
     },
     Row {
         about: "T and U join, T leaves, and V is given the identifier that is free again.",
-        script: "
+        script: &[
+            JOINS,
+            "
 rx wlan0 b000 0000 B T B 1000 0000 0100 0000
 rx wlan0 0000 0000 B T B 2000 3104 0a00 0003 6e6574 0104 82848b96
 rx wlan0 b000 0000 B U B 1000 0000 0100 0000
@@ -316,7 +305,10 @@ rx wlan0 b000 0000 B V B 1000 0000 0100 0000
 rx wlan0 0000 0000 B V B 2000 3104 0a00 0003 6e6574 0104 82848b96
 flush
 ",
-        want: "
+        ],
+        want: &[
+            JOINED,
+            "
 entry 4
 entry 5
 entry 6
@@ -335,10 +327,13 @@ wlan0 tx b000 0000 V B B 0000 0000 0200 0000
 wlan0 install 02:00:00:00:00:ad 2
 wlan0 tx 1000 0000 V B B 0000 0100 0000 02c0 0104 82848b96
 ",
+        ],
     },
     Row {
         about: "A silent station goes in two steps.",
-        script: "
+        script: &[
+            JOINS,
+            "
 tick 299999
 tick 300000
 flush
@@ -347,7 +342,10 @@ tick 600000
 flush
 tick 18446744073709551615
 ",
-        want: "
+        ],
+        want: &[
+            JOINED,
+            "
 quiet nothing
 entry 4
 wlan0 remove 02:00:00:00:00:aa
@@ -357,10 +355,13 @@ entry 5
 wlan0 tx c000 0000 S B B 0000 0200
 quiet nothing
 ",
+        ],
     },
     Row {
         about: "Data, which are no entry, and a request that is refused break the silence; a request that is too short, and ignored, does not.",
-        script: "
+        script: &[
+            JOINS,
+            "
 tick 200000
 rx wlan0 0801 0000 B S ffffffffffff 2000
 tick 499999
@@ -372,7 +373,10 @@ tick 799998
 tick 799999
 flush
 ",
-        want: "
+        ],
+        want: &[
+            JOINED,
+            "
 quiet nothing
 quiet nothing
 quiet nothing
@@ -385,10 +389,13 @@ entry 5
 wlan0 remove 02:00:00:00:00:aa
 wlan0 tx a000 0000 S B B 0000 0400
 ",
+        ],
     },
     Row {
         about: "Moments may go back: heard at 200000, and then at 5.",
-        script: "
+        script: &[
+            JOINS,
+            "
 tick 200000
 rx wlan0 0801 0000 B S ffffffffffff 2000
 tick 5
@@ -396,7 +403,10 @@ rx wlan0 0801 0000 B S ffffffffffff 2000
 tick 300004
 tick 300005
 ",
-        want: "
+        ],
+        want: &[
+            JOINED,
+            "
 quiet nothing
 quiet nothing
 quiet nothing
@@ -404,34 +414,29 @@ quiet nothing
 quiet nothing
 entry 4
 ",
+        ],
     },
 ];
 
-/// The rows that begin once S has joined wlan0.
-fn once_joined() -> &'static [Row] {
-    &ONCE_JOINED
+/// The rows of one radio.
+fn at_one_radio() -> &'static [Row] {
+    &AT_ONE_RADIO
 }
 
 #[test]
-fn a_station_that_joined_is_kept_until_it_leaves(rt: HostRuntime) -> Result<(), Fail> {
-    for row in once_joined() {
-        let confs = one_radio(rt.alloc())?;
-        prints(
-            &rt,
-            row.about,
-            confs,
-            &[joins(), row.script],
-            &[joined(), row.want],
-        )?;
+fn stations_come_and_go_at_one_radio(rt: HostRuntime) -> Result<(), Fail> {
+    for row in at_one_radio() {
+        prints(&rt, row.about, one_radio(rt.alloc())?, row.script, row.want)?;
     }
     Ok(())
 }
 
-/// What a script prints on a daemon of two radios.
+/// What a script prints at two radios.
 const AT_TWO_RADIOS: [Row; 2] = [
     Row {
         about: "A station that joins wlan1 is put back at wlan0, and has data there answered by reason 7.",
-        script: "
+        script: &[
+            "
 rx wlan0 b000 0000 B S B 1000 0000 0100 0000
 rx wlan0 0000 0000 B S B 2000 3104 0a00 0003 6e6574 0104 82848b96
 rx wlan1 b000 0000 C S C 1000 0000 0100 0000
@@ -441,7 +446,9 @@ flush
 rx wlan0 0801 0000 B S ffffffffffff 2000
 flush
 ",
-        want: "
+        ],
+        want: &[
+            "
 entry 3
 entry 4
 entry 5
@@ -457,10 +464,12 @@ wlan1 tx 1000 0000 S C C 0000 0100 0000 01c0 0104 82848b96
 entry 7
 wlan0 tx a000 0000 S B B 0000 0700
 ",
+        ],
     },
     Row {
         about: "A tick takes the first station that is silent, by BSSID and address: T at wlan0, then T at wlan1; S was heard.",
-        script: "
+        script: &[
+            "
 rx wlan1 b000 0000 C T C 1000 0000 0100 0000
 rx wlan1 b000 0000 C S C 1000 0000 0100 0000
 rx wlan0 b000 0000 B T B 1000 0000 0100 0000
@@ -473,7 +482,9 @@ tick 300000
 tick 300000
 flush
 ",
-        want: "
+        ],
+        want: &[
+            "
 entry 3
 entry 4
 entry 5
@@ -489,10 +500,11 @@ quiet nothing
 wlan0 tx c000 0000 T B B 0000 0200
 wlan1 tx c000 0000 T C C 0000 0200
 ",
+        ],
     },
 ];
 
-/// The rows of a daemon of two radios.
+/// The rows of two radios.
 fn at_two_radios() -> &'static [Row] {
     &AT_TWO_RADIOS
 }
@@ -501,7 +513,7 @@ fn at_two_radios() -> &'static [Row] {
 fn a_station_is_associated_at_one_radio(rt: HostRuntime) -> Result<(), Fail> {
     for row in at_two_radios() {
         let confs = two_radios(rt.alloc())?;
-        prints(&rt, row.about, confs, &[row.script], &[row.want])?;
+        prints(&rt, row.about, confs, row.script, row.want)?;
     }
     Ok(())
 }
@@ -603,16 +615,19 @@ fn a_refused_reassociation_leaves_the_station_as_it_is(rt: HostRuntime) -> Resul
             &rt,
             request,
             confs,
-            &[joins(), asks, request, sends_data],
-            &[joined(), refused, status, rest],
+            &[JOINS, asks, request, sends_data],
+            &[JOINED, refused, status, rest],
         )?;
     }
     Ok(())
 }
 
-/// S asks which network is there, authenticates, joins, and asks again for another network.
-fn asks_all() -> &'static str {
-    "
+/// S asks which network is there, authenticates, joins, and asks again for another network. The radio's rates are
+/// others, and a probe response tells no channel.
+const AT_5_GHZ: Row = Row {
+    about: "a radio of 5 GHz",
+    script: &[
+        "
 rx wlan0 4000 0000 ffffffffffff S ffffffffffff 3000 0003 6e6574
 flush
 rx wlan0 b000 0000 B S B 1000 0000 0100 0000
@@ -621,12 +636,10 @@ rx wlan0 0000 0000 B S B 2000 3104 0a00 0003 6e6574 0103 8c98b0
 flush
 rx wlan0 2000 0000 B S B 2000 3104 0a00 B 0003 6e6575 0103 8c98b0
 flush
-"
-}
-
-/// What a radio of 5 GHz answers: its rates are others, and a probe response tells no channel.
-fn answered_at_5_ghz() -> &'static str {
-    "
+",
+    ],
+    want: &[
+        "
 entry 2
 wlan0 tx 5000 0000 S B B 0000 0000000000000000 6400 0100 0003 6e6574 0103 8c98b0
 entry 3
@@ -636,7 +649,12 @@ wlan0 install 02:00:00:00:00:aa 1
 wlan0 tx 1000 0000 S B B 0000 0100 0000 01c0 0103 8c98b0
 entry 5
 wlan0 tx 3000 0000 S B B 0000 0100 0100 0000 0103 8c98b0
-"
+",
+    ],
+};
+
+fn at_5_ghz() -> &'static Row {
+    &AT_5_GHZ
 }
 
 #[test]
@@ -644,13 +662,8 @@ fn a_radio_of_5_ghz_offers_other_rates(rt: HostRuntime) -> Result<(), Fail> {
     let mut conf = built_in(rt.alloc())?;
     conf.hw_mode = HwMode::A;
     let confs = alone(rt.alloc(), conf)?;
-    prints(
-        &rt,
-        "a radio of 5 GHz",
-        confs,
-        &[asks_all()],
-        &[answered_at_5_ghz()],
-    )
+    let row = at_5_ghz();
+    prints(&rt, row.about, confs, row.script, row.want)
 }
 
 /// Frames that are ignored for two reasons, and the word of the first.
@@ -693,20 +706,26 @@ fn of_two_faults_of_a_frame_the_first_is_told(rt: HostRuntime) -> Result<(), Fai
 }
 
 /// A probe request for any network, and one for this network.
-fn probes() -> &'static str {
-    "
+const AT_A_HIDDEN_NETWORK: Row = Row {
+    about: "a hidden network",
+    script: &[
+        "
 rx wlan0 4000 0000 ffffffffffff S ffffffffffff 3000 0000 0104 82848b96
 rx wlan0 4000 0000 ffffffffffff S ffffffffffff 3000 0003 6e6574
 flush
-"
-}
-
-fn answered_once() -> &'static str {
-    "
+",
+    ],
+    want: &[
+        "
 quiet nothing
 entry 2
 wlan0 tx 5000 0000 S B B 0000 0000000000000000 6400 0100 0003 6e6574 0104 82848b96 0301 06
-"
+",
+    ],
+};
+
+fn at_a_hidden_network() -> &'static Row {
+    &AT_A_HIDDEN_NETWORK
 }
 
 #[test]
@@ -715,13 +734,8 @@ fn a_hidden_network_answers_to_its_name_alone(rt: HostRuntime) -> Result<(), Fai
         let mut conf = built_in(rt.alloc())?;
         conf.ignore_broadcast_ssid = hides;
         let confs = alone(rt.alloc(), conf)?;
-        prints(
-            &rt,
-            "a hidden network",
-            confs,
-            &[probes()],
-            &[answered_once()],
-        )?;
+        let row = at_a_hidden_network();
+        prints(&rt, row.about, confs, row.script, row.want)?;
     }
     Ok(())
 }
@@ -729,16 +743,6 @@ fn a_hidden_network_answers_to_its_name_alone(rt: HostRuntime) -> Result<(), Fai
 /// An association request.
 const REQUEST: &str =
     "000000000200000000010200000000aa020000000001200031040a0000036e6574010482848b96";
-
-/// What so many bytes of it print, where S is authenticated.
-fn answer_to(bytes: usize) -> &'static str {
-    match bytes {
-        0..24 => "quiet short\n",
-        24..28 => "quiet body\n",
-        28..39 => REFUSED,
-        _ => ACCEPTED,
-    }
-}
 
 /// The digits of its first bytes.
 fn first_bytes(alloc: Global, bytes: usize) -> Result<String, Fail> {
@@ -749,18 +753,37 @@ fn first_bytes(alloc: Global, bytes: usize) -> Result<String, Fail> {
     Ok(digits)
 }
 
+/// What so many bytes of it print, where S is authenticated and each number of bytes came, from 0 on.
+fn answer_to(alloc: Global, bytes: usize) -> Result<String, Fail> {
+    Ok(match bytes {
+        0..24 => String::from_str(alloc, "quiet short\n")?,
+        24..28 => String::from_str(alloc, "quiet body\n")?,
+        28..39 => format!(in alloc;
+            "entry {}\nwlan0 tx 1000 0000 S B B 0000 0100 0100 0000 0104 82848b96\n",
+            bytes - 25
+        )?,
+        _ => format!(in alloc;
+            "entry 14\nwlan0 install 02:00:00:00:00:aa 1\nwlan0 tx 1000 0000 S B B 0000 0100 0000 01c0 0104 82848b96\n"
+        )?,
+    })
+}
+
 #[test]
 fn each_length_of_an_association_request_has_its_answer(rt: HostRuntime) -> Result<(), Fail> {
+    let alloc = rt.alloc();
+    let mut script = String::new(alloc);
+    let mut want = String::new(alloc);
     for bytes in 0..40usize {
-        let digits = first_bytes(rt.alloc(), bytes)?;
-        let confs = one_radio(rt.alloc())?;
-        prints(
-            &rt,
-            digits.as_str(),
-            confs,
-            &[authenticates(), "rx wlan0 ", digits.as_str(), "\nflush\n"],
-            &[authenticated(), answer_to(bytes)],
-        )?;
+        let digits = first_bytes(alloc, bytes)?;
+        let digits = digits.as_str();
+        script.push_str(format!(in alloc; "rx wlan0 {digits}\nflush\n")?.as_str())?;
+        want.push_str(answer_to(alloc, bytes)?.as_str())?;
     }
-    Ok(())
+    prints(
+        &rt,
+        "each length",
+        one_radio(alloc)?,
+        &[authenticates(), script.as_str()],
+        &[authenticated(), want.as_str()],
+    )
 }

@@ -56,3 +56,13 @@ pub fn addresses_of(alloc: Global, file: &[u8]) -> Result<AddressList, Fail> {
         Err(_) => Err(Fail::new("a list file is refused")),
     }
 }
+
+/// The built-in configuration alone: wlan0 at 02:00:00:00:00:01.
+pub fn one_radio(alloc: Global) -> Result<Confs, Fail> {
+    alone(alloc, built_in(alloc)?)
+}
+
+/// The built-in configuration, and the same for wlan1 at 02:00:00:00:00:02.
+pub fn two_radios(alloc: Global) -> Result<Confs, Fail> {
+    both(alloc, built_in(alloc)?, second(alloc)?)
+}

@@ -1,5 +1,5 @@
 use crate::calls::{addresses_of, alone, conf_of, confs_of};
-use crate::script_tests::printed;
+use crate::worlds::printed;
 use apd_base::Addr;
 use apd_conf::{AddressList, ConfFault, ConfigurationFault, ConfsFault, ListFault};
 use apd_script::read_configurations;

@@ -13,4 +13,10 @@ mod configuration_tests;
 #[cfg(test)]
 mod decision_tests;
 #[cfg(test)]
+mod rows;
+#[cfg(test)]
 mod script_tests;
+#[cfg(test)]
+mod stop_tests;
+#[cfg(test)]
+mod worlds;

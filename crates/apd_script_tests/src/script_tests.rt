@@ -1,28 +1,14 @@
-use crate::calls::{self, alone, both, second};
+use crate::calls::{both, built_in, one_radio, second};
+use crate::worlds::{fresh_store, printed, run_on};
 use apd_base::limits::MAX_SCRIPT;
 use apd_base::{Addr, Aid, Bssid};
-use apd_conf::{Confs, InterfaceName};
+use apd_conf::InterfaceName;
 use apd_mlme::Out;
-use apd_script::{Accepted, QuietReason, ScriptFault, World, run_script, write_out};
+use apd_script::{QuietReason, ScriptFault, write_out, write_reception};
+use apd_world::Reception;
 use std::alloc::Global;
 use std::io::{self, BufRead, BufReader, Read, Write};
 use std::test::Fail;
-
-/// The built-in configuration alone: wlan0 at 02:00:00:00:00:01.
-fn built_in(alloc: Global) -> Result<Confs, Fail> {
-    alone(alloc, calls::built_in(alloc)?)
-}
-
-/// Runs a script on a daemon of these configurations, and gives how it ended and what it printed.
-pub fn printed(
-    alloc: Global,
-    confs: Confs,
-    script: &[u8],
-) -> Result<(Option<ScriptFault>, Vec<u8>), Fail> {
-    let mut out = Vec::new(alloc);
-    let fault = run_script(alloc, World::new(alloc, confs), script, &mut out).err();
-    Ok((fault, out))
-}
 
 #[test]
 fn an_authentication_is_answered_once_it_is_flushed(rt: HostRuntime) -> Result<(), Fail> {
@@ -57,7 +43,7 @@ fn an_authentication_is_answered_once_it_is_flushed(rt: HostRuntime) -> Result<(
             b"quiet short\nquiet short\nquiet short\n",
         ),
     ] {
-        let (fault, out) = printed(rt.alloc(), built_in(rt.alloc())?, script)?;
+        let (fault, out) = printed(rt.alloc(), one_radio(rt.alloc())?, script)?;
         assert_eq!(rt; fault, None);
         assert_eq!(rt; out.as_slice(), want);
     }
@@ -76,7 +62,8 @@ fn the_first_bad_line_ends_a_script(rt: HostRuntime) -> Result<(), Fail> {
         (b"rx  wlan0 b0", 1),
         (b"flush ", 1),
         (b"flush\r\n", 1),
-        (b"take", 1),
+        (b"take 1", 1),
+        (b"stop ", 1),
         (b"cmdPING", 1),
         (b"tick", 1),
         (b"tick ", 1),
@@ -89,10 +76,10 @@ fn the_first_bad_line_ends_a_script(rt: HostRuntime) -> Result<(), Fail> {
             4,
         ),
     ] {
-        let (fault, _) = printed(rt.alloc(), built_in(rt.alloc())?, script)?;
+        let (fault, _) = printed(rt.alloc(), one_radio(rt.alloc())?, script)?;
         assert_eq!(rt; fault, Some(ScriptFault::BadLine(line)));
     }
-    let (_, out) = printed(rt.alloc(), built_in(rt.alloc())?, b"rx wlan0\nx\n")?;
+    let (_, out) = printed(rt.alloc(), one_radio(rt.alloc())?, b"rx wlan0\nx\n")?;
     assert_eq!(rt; out.as_slice(), b"quiet short\n".as_slice());
     Ok(())
 }
@@ -109,7 +96,7 @@ fn frames_of_2305_bytes_are_too_long(rt: HostRuntime) -> Result<(), Fail> {
         for _ in 24..bytes {
             script.extend_from_slice(b"00")?;
         }
-        let (fault, out) = printed(alloc, built_in(alloc)?, script.as_slice())?;
+        let (fault, out) = printed(alloc, one_radio(alloc)?, script.as_slice())?;
         assert_eq!(rt; fault, None);
         assert_eq!(rt; out.as_slice(), want);
     }
@@ -174,8 +161,8 @@ fn fault_of<R: BufRead + Drop>(
     reader: R,
     mut writer: Narrow,
 ) -> Result<Option<ScriptFault>, Fail> {
-    let world = World::new(alloc, built_in(alloc)?);
-    Ok(run_script(alloc, world, reader, &mut writer).err())
+    let disk = fresh_store(alloc)?;
+    Ok(run_on(alloc, disk, one_radio(alloc)?, reader, &mut writer).err())
 }
 
 #[test]
@@ -236,7 +223,7 @@ fn radios_are_handed_their_own_in_the_order_of_configuration(rt: HostRuntime) ->
     let alloc = rt.alloc();
     let mut second = second(alloc)?;
     second.bssid = Bssid(Addr([2, 0, 0, 0, 0, 0]));
-    let confs = both(alloc, calls::built_in(alloc)?, second)?;
+    let confs = both(alloc, built_in(alloc)?, second)?;
     let script =
         b"rx wlan1 b00000000200000000000200000000aa0200000000001000000001000000\nrx wlan0 b00000000200000000010200000000aa0200000000011000000001000000\nflush\n";
     let (fault, out) = printed(alloc, confs, script.as_slice())?;
@@ -270,17 +257,23 @@ fn driver_calls_and_faults_are_printed_in_these_words(rt: HostRuntime) -> Result
         assert_eq!(rt; format!(in alloc; "{fault}")?.as_str(), want);
     }
     for (answer, want) in [
-        (Accepted::Stopped, "stopped"),
-        (Accepted::Entry(12), "entry 12"),
+        (Reception::Stopped, b"stopped\n".as_slice()),
+        (Reception::Busy, b"busy\n"),
+        (Reception::Entry(12), b"entry 12\n"),
         (
-            Accepted::Quiet(QuietReason::NoInterface),
-            "quiet nointerface",
+            Reception::Quiet(QuietReason::NoInterface),
+            b"quiet nointerface\n",
         ),
-        (Accepted::Quiet(QuietReason::NoPolicy), "quiet nopolicy"),
-        (Accepted::Quiet(QuietReason::TooManyBss), "quiet toomanybss"),
-        (Accepted::Quiet(QuietReason::Nothing), "quiet nothing"),
+        (Reception::Quiet(QuietReason::NoPolicy), b"quiet nopolicy\n"),
+        (
+            Reception::Quiet(QuietReason::TooManyBss),
+            b"quiet toomanybss\n",
+        ),
+        (Reception::Quiet(QuietReason::Nothing), b"quiet nothing\n"),
     ] {
-        assert_eq!(rt; format!(in alloc; "{answer}")?.as_str(), want);
+        let mut out = Vec::new(alloc);
+        assert!(rt; write_reception(alloc, &mut out, answer).is_ok());
+        assert_eq!(rt; out.as_slice(), want);
     }
     Ok(())
 }

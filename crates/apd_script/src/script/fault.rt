@@ -1,9 +1,10 @@
 //! What ends a script before its last line.
 ghost use Rattle.std.specs.IoError.{error_kind};
 ghost use Rattle.std.specs.Prelude.{◌≡◌, ◌≢◌};
-ghost use Rattle.apd_script.specs.declared.script.fault.ScriptFault.TheVariants.{NoMemory, Reader, Writer};
+ghost use Rattle.apd_script.specs.declared.script.fault.ScriptFault.TheVariants.{NoMemory, Reader, World, Writer};
 ghost use Rattle.apd_script.specs.Script.{IsNoBadLine};
 
+use apd_world::WorldFault;
 use std::alloc::AllocError;
 use std::io::{self, ErrorKind};
 use thiserror::Error;
@@ -12,8 +13,8 @@ use thiserror::Error;
 /// run, and what they told was printed.
 #[derive(Clone, Copy, Debug, PartialEq, Eq, Error)]
 pub enum ScriptFault {
-    /// The line of this number, counted from 1, is no line of a script, or names an interface that
-    /// is not configured.
+    /// The line of this number, counted from 1, is no line of a script, names an interface that is not
+    /// configured, or is a `stop` for which too few radios are left.
     #[error("bad line {0}")]
     BadLine(u64),
     /// The script can't be read, or has more than 16,777,216 bytes.
@@ -21,6 +22,9 @@ pub enum ScriptFault {
     Reader,
     #[error("writer fault")]
     Writer,
+    /// The store refused, or a radio did not resume.
+    #[error("{0}")]
+    World(WorldFault),
     #[error("out of memory")]
     NoMemory,
 }
@@ -30,6 +34,14 @@ impl From<AllocError> for ScriptFault {
 
     fn from(_: AllocError) -> ScriptFault {
         ScriptFault::NoMemory
+    }
+}
+
+impl From<WorldFault> for ScriptFault {
+    ghost from_gives = { λ why fault. fault ≡ World why };
+
+    fn from(fault: WorldFault) -> ScriptFault {
+        ScriptFault::World(fault)
     }
 }
 

@@ -1,8 +1,7 @@
 //! The lines of a script.
 ghost use Rattle.std.specs.Prelude.{◌≡◌, ℕ, List, IfOk, IfSome, IfNone};
 ghost use Rattle.apd_base.specs.declared.moment.Moment.{Moment as AnyMoment};
-ghost use Rattle.apd_script.specs.declared.script.line.Line.{Line as AnyLine};
-ghost use Rattle.apd_script.specs.Lines.{IsMoment, IsReception, Says, without_blanks};
+ghost use Rattle.apd_script.specs.Lines.{IsMoment, IsReception, IsWord, Said, Says, said, without_blanks};
 
 use apd_base::text::{behind, decimal_number, first_blank};
 use apd_base::{Moment, Sequence};
@@ -22,10 +21,47 @@ pub enum Line<'a> {
     Tick(Moment),
     /// A control command.
     Command(&'a [u8]),
+    /// A batch is taken.
+    Take,
+    /// The next call of the device is made.
+    Call,
+    /// A batch is settled.
+    Publish,
     /// What was settled is handed out.
     Hand,
     /// All entries are settled, and then handed out.
     Flush,
+    /// All but the device is given up, and begins anew.
+    Stop,
+}
+
+/// The lines of one word, and the empty one.
+fn parse_word(text: &[u8]) -> Option<Line<'static>>
+    ensures some { IfSome result (λ line. Says text.now (said line)) }
+    ensures none { IfNone result ((what : Said) → IsWord what → Says text.now what → ⊥) }
+{
+    if text.is_empty() {
+        return Some(Line::Empty);
+    }
+    if text == b"take".as_slice() {
+        return Some(Line::Take);
+    }
+    if text == b"call".as_slice() {
+        return Some(Line::Call);
+    }
+    if text == b"publish".as_slice() {
+        return Some(Line::Publish);
+    }
+    if text == b"hand".as_slice() {
+        return Some(Line::Hand);
+    }
+    if text == b"flush".as_slice() {
+        return Some(Line::Flush);
+    }
+    if text == b"stop".as_slice() {
+        return Some(Line::Stop);
+    }
+    None
 }
 
 /// The moment of 1 to 20 decimal digits, in milliseconds, where it is below 2^64.
@@ -68,17 +104,11 @@ fn parse_reception(alloc: Global, text: &[u8]) -> Result<Option<(&[u8], Sequence
 ///
 /// Memory runs out.
 pub fn parse_line(alloc: Global, text: &[u8]) -> Result<Option<Line<'_>>, AllocError>
-    ensures some { IfOk result (λ found. IfSome found (λ line. Says text.now line)) }
-    ensures none { IfOk result (λ found. IfNone found ((line : AnyLine) → Says text.now line → ⊥)) }
+    ensures some { IfOk result (λ found. IfSome found (λ line. Says text.now (said line))) }
+    ensures none { IfOk result (λ found. IfNone found ((what : Said) → Says text.now what → ⊥)) }
 {
-    if text.is_empty() {
-        return Ok(Some(Line::Empty));
-    }
-    if text == b"hand".as_slice() {
-        return Ok(Some(Line::Hand));
-    }
-    if text == b"flush".as_slice() {
-        return Ok(Some(Line::Flush));
+    if let Some(line) = parse_word(text) {
+        return Ok(Some(line));
     }
     if text == b"cmd".as_slice() {
         return Ok(Some(Line::Command(b"")));
@@ -100,3 +130,8 @@ pub fn parse_line(alloc: Global, text: &[u8]) -> Result<Option<Line<'_>>, AllocE
     };
     Ok(Some(Line::Received { interface, frame }))
 }
+
+/// What a text says as a line is one thing, or nothing.
+pub fn exactly_one_line()
+    ensures { (text : List ℕ) (a b : Said) → Says text a → Says text b → a ≡ b }
+{}

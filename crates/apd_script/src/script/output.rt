@@ -1,9 +1,10 @@
 //! What a script prints: no clause speaks of it.
 
-use crate::plain::{Accepted, Told};
-use apd_conf::{Conf, Confs, InterfaceName};
+use apd_conf::{Confs, InterfaceName};
 use apd_ctrl::{FAIL, escape};
 use apd_mlme::{Out, Recipient};
+use apd_slot::SlotFault;
+use apd_world::{Reception, Told};
 use std::alloc::Global;
 use std::io::{self, Write};
 
@@ -30,20 +31,22 @@ pub fn write_out<W: Write>(
     writer.write_all(line.as_bytes())
 }
 
-/// Prints what leaves for the radio of a configuration's interface.
-fn write_outs<W: Write>(
+/// Prints what an interface's slot answered to an out: the out, or that it was lost or the driver failed.
+pub fn write_applied<W: Write>(
     alloc: Global,
     writer: &mut W,
-    conf: Option<&Conf>,
-    outs: &[Out],
+    interface: &InterfaceName,
+    out: &Out,
+    answer: Result<(), SlotFault>,
 ) -> io::Result<()> {
-    let Some(conf) = conf else {
-        return Ok(());
+    let line = match answer {
+        Ok(()) => return write_out(alloc, writer, interface, out),
+        Err(SlotFault::Lost) => format!(in alloc; "{interface} lost\n")?,
+        Err(SlotFault::WentDown) => format!(in alloc; "{interface} driver fault\n")?,
+        // No text is a radio's, and want of memory is told by no out.
+        Err(SlotFault::NotMine | SlotFault::NoMemory) => return Ok(()),
     };
-    for out in outs {
-        write_out(alloc, writer, &conf.interface, out)?;
-    }
-    Ok(())
+    writer.write_all(line.as_bytes())
 }
 
 /// Prints the reply to the control command of a tag.
@@ -70,42 +73,63 @@ fn write_replies<W: Write>(alloc: Global, writer: &mut W, outs: &[Out]) -> io::R
     Ok(())
 }
 
+/// Prints what was applied at the slot of an interface.
+fn write_radios<W: Write>(
+    alloc: Global,
+    writer: &mut W,
+    confs: &Confs,
+    to: Recipient,
+    told: &Told,
+) -> io::Result<()> {
+    let (Recipient::Radio(bssid), Told::Applied(out, answer)) = (to, told) else {
+        return Ok(());
+    };
+    match confs.with_bssid(bssid) {
+        Some(conf) => write_applied(alloc, writer, &conf.interface, out, *answer),
+        None => Ok(()),
+    }
+}
+
+/// Prints what was handed out: what each radio was given, in the order in which it was applied, and then
+/// the replies to control commands.
+pub fn write_answers<W: Write>(
+    alloc: Global,
+    writer: &mut W,
+    confs: &Confs,
+    answers: &[(Recipient, Told)],
+) -> io::Result<()> {
+    for (to, told) in answers {
+        write_radios(alloc, writer, confs, *to, told)?;
+    }
+    for (_, told) in answers {
+        if let Told::Handed(outs) = told {
+            write_replies(alloc, writer, outs.as_slice())?;
+        }
+    }
+    Ok(())
+}
+
 /// Prints the answer to a request.
-fn write_answer<W: Write>(alloc: Global, writer: &mut W, answer: Accepted) -> io::Result<()> {
-    let line = format!(in alloc; "{answer}\n")?;
+pub fn write_reception<W: Write>(
+    alloc: Global,
+    writer: &mut W,
+    answer: Reception,
+) -> io::Result<()> {
+    let line = match answer {
+        Reception::Stopped => format!(in alloc; "stopped\n")?,
+        Reception::Busy => format!(in alloc; "busy\n")?,
+        Reception::Quiet(reason) => format!(in alloc; "quiet {reason}\n")?,
+        Reception::Entry(number) => format!(in alloc; "entry {number}\n")?,
+    };
     writer.write_all(line.as_bytes())
 }
 
-/// Prints what a step told, the answer to a request only where answers are asked for.
-fn write_told<W: Write>(
-    alloc: Global,
-    writer: &mut W,
-    confs: &Confs,
-    answers: bool,
-    told: &Told,
-) -> io::Result<()> {
+/// Prints what the step of a request told.
+pub fn write_told<W: Write>(alloc: Global, writer: &mut W, told: &Told) -> io::Result<()> {
     match told {
-        Told::Accepted(answer) if answers => write_answer(alloc, writer, *answer),
-        Told::Handed(Recipient::Radio(bssid), outs) => {
-            write_outs(alloc, writer, confs.with_bssid(*bssid), outs.as_slice())
-        }
-        Told::Handed(Recipient::Control, outs) => write_replies(alloc, writer, outs.as_slice()),
-        Told::Accepted(_) | Told::Settled | Told::Answered(_) | Told::NoMemory => Ok(()),
+        Told::Accepted(answer) => write_reception(alloc, writer, *answer),
+        _ => Ok(()),
     }
-}
-
-/// Prints what steps told, the answers to requests only where they are asked for.
-pub fn write_all_told<W: Write>(
-    alloc: Global,
-    writer: &mut W,
-    confs: &Confs,
-    answers: bool,
-    tolds: &[Told],
-) -> io::Result<()> {
-    for told in tolds {
-        write_told(alloc, writer, confs, answers, told)?;
-    }
-    Ok(())
 }
 
 /// Prints what the step of a control command told: its reply, or the entry that it is.
@@ -116,13 +140,19 @@ pub fn write_command_told<W: Write>(
     told: &Told,
 ) -> io::Result<()> {
     match told {
-        Told::Accepted(Accepted::Entry(number)) => {
-            write_answer(alloc, writer, Accepted::Entry(*number))
+        Told::Accepted(Reception::Entry(number)) => {
+            write_reception(alloc, writer, Reception::Entry(*number))
         }
-        Told::Accepted(Accepted::Stopped | Accepted::Quiet(_)) => {
+        Told::Accepted(Reception::Stopped | Reception::Busy | Reception::Quiet(_)) => {
             write_reply(alloc, writer, tag, FAIL)
         }
         Told::Answered(answer) => write_reply(alloc, writer, tag, answer.text()),
-        Told::Settled | Told::Handed(..) | Told::NoMemory => Ok(()),
+        _ => Ok(()),
     }
+}
+
+/// Prints how many station rows a device held.
+pub fn write_recovered<W: Write>(alloc: Global, writer: &mut W, rows: usize) -> io::Result<()> {
+    let line = format!(in alloc; "recovered {rows}\n")?;
+    writer.write_all(line.as_bytes())
 }

@@ -1,0 +1,219 @@
+use crate::ProgramFault;
+use crate::scripting::run_script_of_input;
+use crate::store_file::{open, open_or_create};
+use apd_conf::{Conf, Confs};
+use apd_script::{run_format, run_on_store};
+use std::alloc::Global;
+use std::fs::{self, File};
+use std::rt::Files;
+use std::test::Fail;
+
+fn built_in(alloc: Global) -> Result<Confs, Fail> {
+    let mut list = Vec::new(alloc);
+    list.push(Conf::built_in(alloc)?)?;
+    match Confs::new(list) {
+        Ok(confs) => Ok(confs),
+        Err(_) => Err(Fail::new("the built-in configuration is refused")),
+    }
+}
+
+/// Makes the file of a name a new store.
+fn make_store(rt: &(impl Files<File = File> + AllocGlobal), name: &str) -> Result<(), Fail> {
+    let _ = fs::remove_file(rt, name);
+    let Ok(disk) = open_or_create(rt, name) else {
+        return Err(Fail::new("a file can't be opened"));
+    };
+    let mut out = Vec::new(rt.alloc());
+    match run_format(rt.alloc(), disk, &mut out) {
+        Ok(_) => Ok(()),
+        Err(_) => Err(Fail::new("a file is not made a store")),
+    }
+}
+
+/// What ends a script on the store of a file, if anything does.
+fn fault_of(
+    rt: &(impl Files<File = File> + AllocGlobal),
+    name: &str,
+    script: &[u8],
+    out: &mut Vec<u8>,
+) -> Result<Option<ProgramFault>, Fail> {
+    let alloc = rt.alloc();
+    let disk = match open(rt, name) {
+        Ok(disk) => disk,
+        Err(fault) => return Ok(Some(ProgramFault::Open(fault))),
+    };
+    match run_on_store(alloc, disk, built_in(alloc)?, script, out) {
+        Ok(_) => Ok(None),
+        Err(fault) => Ok(Some(ProgramFault::Script(fault))),
+    }
+}
+
+/// What a script on the store of a file prints, and then its fault as the program prints it.
+fn printed(
+    rt: &(impl Files<File = File> + AllocGlobal),
+    name: &str,
+    script: &[u8],
+) -> Result<Vec<u8>, Fail> {
+    let mut out = Vec::new(rt.alloc());
+    if let Some(fault) = fault_of(rt, name, script, &mut out)? {
+        let text = format!(in rt.alloc(); "apd: {fault}\n")?;
+        out.extend_from_slice(text.as_bytes())?;
+    }
+    Ok(out)
+}
+
+const JOINS: &[u8] =
+    b"rx wlan0 b00000000200000000010200000000aa0200000000011000000001000000\nflush\nrx wlan0 000000000200000000010200000000aa020000000001200031040a0000036e6574010482848b96\nflush\n";
+
+const JOINED: &[u8] =
+    b"entry 2\nwlan0 tx b00000000200000000aa0200000000010200000000010000000002000000\nentry 3\nwlan0 install 02:00:00:00:00:aa 1\nwlan0 tx 100000000200000000aa02000000000102000000000100000100000001c0010482848b96\n";
+
+const SHOWN: &[u8] =
+    b"ctrl 1 02:00:00:00:00:aa\\nflags=[AUTH][ASSOC][AUTHORIZED]\\naid=1\\ncapability=0x431\\nlisten_interval=10\\n\n";
+
+/// After eight stops there is no radio for a ninth.
+const STOPPED: &[u8] =
+    b"recovered 1\nrecovered 1\nrecovered 1\nrecovered 1\nrecovered 1\nrecovered 1\nrecovered 1\nrecovered 1\napd: bad line 9\n";
+
+#[test]
+fn a_store_keeps_the_station_for_the_next_run(rt: HostRuntime) -> Result<(), Fail> {
+    let name = "store_of_a_script_test";
+    make_store(&rt, name)?;
+    for (script, want) in [
+        (JOINS, JOINED),
+        (b"cmd STA 02:00:00:00:00:aa\n", SHOWN),
+        (
+            b"stop\nstop\nstop\nstop\nstop\nstop\nstop\nstop\nstop\n",
+            STOPPED,
+        ),
+        (b"cmd STA 02:00:00:00:00:aa\n", SHOWN),
+    ] {
+        let out = printed(&rt, name, script)?;
+        assert_eq!(rt; out.as_slice(), want);
+    }
+    fs::remove_file(&rt, name)?;
+    Ok(())
+}
+
+/// What is printed for a store that is missing, a folder, and short.
+fn printed_of_no_store(
+    rt: &(impl Files<File = File> + AllocGlobal),
+    name: &str,
+) -> Result<Vec<u8>, Fail> {
+    let mut out = printed(rt, name, b"")?;
+    fs::create_dir(rt, name)?;
+    let of_a_folder = printed(rt, name, b"")?;
+    out.extend_from_slice(of_a_folder.as_slice())?;
+    fs::remove_dir_all(rt, name)?;
+    fs::write(rt, name, b"RAPSTOR1")?;
+    let of_a_short_one = printed(rt, name, b"")?;
+    out.extend_from_slice(of_a_short_one.as_slice())?;
+    Ok(out)
+}
+
+/// What is printed for the store of a file whose byte at a place is another one.
+fn printed_of_broken(
+    rt: &(impl Files<File = File> + AllocGlobal),
+    name: &str,
+    place: usize,
+) -> Result<Vec<u8>, Fail> {
+    make_store(rt, name)?;
+    let mut bytes = fs::read(rt, name)?;
+    if let Some(byte) = bytes.get_mut(place) {
+        *byte = b'x';
+    }
+    fs::write(rt, name, bytes.as_slice())?;
+    printed(rt, name, b"")
+}
+
+#[test]
+fn faults_of_a_script_s_store_are_printed_in_these_words(rt: HostRuntime) -> Result<(), Fail> {
+    let name = "no_store_of_a_script_test";
+    let _ = fs::remove_file(&rt, name);
+    let out = printed_of_no_store(&rt, name)?;
+    assert_eq!(rt;
+        out.as_slice(),
+        b"apd: cannot read no_store_of_a_script_test\napd: cannot read no_store_of_a_script_test\napd: not a store\n".as_slice()
+    );
+    // The magic, and the gate of the first half.
+    for (place, want) in [
+        (0, b"apd: not a store\n".as_slice()),
+        (64, b"apd: damaged store\n"),
+    ] {
+        let out = printed_of_broken(&rt, name, place)?;
+        assert_eq!(rt; out.as_slice(), want);
+    }
+    fs::remove_file(&rt, name)?;
+    Ok(())
+}
+
+/// 10,000 bytes without an order, the first of which is no newline.
+fn noise(alloc: Global) -> Result<Vec<u8>, Fail> {
+    let mut bytes = Vec::new(alloc);
+    let mut state = 1u32;
+    for _ in 0..10_000 {
+        state = state.wrapping_mul(1_664_525).wrapping_add(1_013_904_223);
+        bytes.push((state >> 24) as u8)?;
+    }
+    Ok(bytes)
+}
+
+/// The file of a new store, once a script was run on it, and what that printed.
+fn left_by(
+    rt: &(impl Files<File = File> + AllocGlobal),
+    name: &str,
+    script: &[u8],
+) -> Result<(Vec<u8>, Vec<u8>), Fail> {
+    make_store(rt, name)?;
+    let out = printed(rt, name, script)?;
+    Ok((fs::read(rt, name)?, out))
+}
+
+#[test]
+fn noise_is_a_bad_line_and_leaves_the_store_as_the_start_did(rt: HostRuntime) -> Result<(), Fail> {
+    let name = "noisy_store_of_a_script_test";
+    let noise = noise(rt.alloc())?;
+    let (started, none) = left_by(&rt, name, b"")?;
+    let (left, out) = left_by(&rt, name, noise.as_slice())?;
+    assert_eq!(rt; none.len(), 0);
+    assert_eq!(rt; out.as_slice(), b"apd: bad line 1\n".as_slice());
+    assert!(rt; left.as_slice() == started.as_slice());
+    fs::remove_file(&rt, name)?;
+    Ok(())
+}
+
+/// The text of what ends the program's own script over a store, with these configuration files.
+fn fault_with(
+    rt: &(impl Input + Print + Files<File = File> + AllocGlobal),
+    store: &str,
+    names: &[&str],
+) -> Result<String, Fail> {
+    match run_script_of_input(rt, Some(store), names) {
+        Ok(()) => Err(Fail::new("there is no fault")),
+        Err(fault) => Ok(format!(in rt.alloc(); "{fault}")?),
+    }
+}
+
+#[test]
+fn a_faulty_configuration_leaves_the_store_untouched(rt: HostRuntime) -> Result<(), Fail> {
+    let name = "untouched_store_of_a_script_test";
+    let conf = "faulty_configuration_of_a_script_test";
+    make_store(&rt, name)?;
+    let made = fs::read(&rt, name)?;
+    fs::write(&rt, conf, b"interface=wlan0\nfoo\n")?;
+    let text = fault_with(&rt, name, &[conf])?;
+    assert_eq!(rt; text.as_str(), "line 2: no '='");
+    let left = fs::read(&rt, name)?;
+    assert!(rt; left.as_slice() == made.as_slice());
+    // It is told in front of a store that can't be read.
+    fs::remove_file(&rt, name)?;
+    let text = fault_with(&rt, name, &[conf])?;
+    assert_eq!(rt; text.as_str(), "line 2: no '='");
+    fs::remove_file(&rt, conf)?;
+    let text = fault_with(&rt, name, &[conf])?;
+    assert_eq!(rt;
+        text.as_str(),
+        "cannot read faulty_configuration_of_a_script_test"
+    );
+    Ok(())
+}

@@ -1,0 +1,122 @@
+-- What the lines of a script do, from what the steps do that they ask for.
+use Rattle.std.proofs.Common.{◌≡◌, ℕ, List, Option, Some, None, Result, Ok, Err, IfOk, IfErr, Bool, ap, subst, sym, ◌∙◌}
+use Rattle.std.specs.Option.{option_or}
+use Rattle.std.specs.Prelude.{length}
+use Rattle.apd_base.specs.declared.moment.Moment.{Moment}
+use Rattle.apd_conf.specs.declared.conf.Conf.{Conf}
+use Rattle.apd_conf.specs.Confs.{conf_named}
+use Rattle.apd_core.specs.Requests.{ordered, unless_ignored}
+use Rattle.apd_ctrl.specs.Placing.{Placing, Asks, Does, placed}
+use Rattle.apd_ctrl.specs.Reading.{outcome as command_outcome}
+use Rattle.apd_ctrl.specs.declared.command.Command.{Command as Order}
+use Rattle.apd_ctrl.specs.declared.parser.Refusal.{Refusal}
+use Rattle.apd_frame.specs.Outcome.{outcome}
+use Rattle.apd_mlme.specs.Happening.{Happening}
+use Rattle.apd_slot.specs.Wanted.{Stations}
+use Rattle.apd_store.specs.declared.fault.StoreFault.{StoreFault}
+use Rattle.apd_world.specs.declared.step.Step.{Step}
+use Rattle.apd_world.specs.declared.step.Told.{Told}
+use Rattle.apd_script.specs.Lines.{Said, Says, IsNotPossible}
+use Rattle.apd_script.specs.Refused.{refused}
+use Rattle.apd_script.specs.Script.{asked_at, confs_of, is_up_at, IsCarriedOut, IsLineFault, IsMade, IsMeant, IsNoBadLine, IsPlaced, IsReceived, IsRequested, IsRun, IsSaidFault, IsTried, Makes, SaysAndIsRun}
+use Rattle.apd_script.specs.declared.script.fault.ScriptFault.{ScriptFault}
+use Rattle.apd_script.specs.declared.script.fault.ScriptFault.TheVariants as fault
+use Rattle.apd_script.specs.declared.script.standing.Standing.{Standing}
+
+module _ {D R : Type 0} where
+  -- what is no bad line tells nothing of what was said
+  pub said_elsewhere : (n : ℕ) (what : Said) (s : Standing D R) (why : ScriptFault) → IsNoBadLine why → IsSaidFault n what s why
+  said_elsewhere n what s (fault.BadLine k) h = absurd h
+  said_elsewhere n what s fault.Reader h = tt
+  said_elsewhere n what s fault.Writer h = tt
+  said_elsewhere n what s (fault.World why) h = tt
+  said_elsewhere n what s fault.NoMemory h = tt
+
+  pub all_elsewhere : {A : Type 0} (r : Result A ScriptFault) (n : ℕ) (what : Said) (s : Standing D R) → IfErr r IsNoBadLine → IfErr r (IsSaidFault n what s)
+  all_elsewhere (Ok x) n what s h = tt
+  all_elsewhere (Err why) n what s h = said_elsewhere n what s why h
+
+  pub lines_elsewhere : (n : ℕ) (text : List ℕ) (s : Standing D R) (why : ScriptFault) → IsNoBadLine why → IsLineFault n text s why
+  lines_elsewhere n text s (fault.BadLine k) h = absurd h
+  lines_elsewhere n text s fault.Reader h = tt
+  lines_elsewhere n text s fault.Writer h = tt
+  lines_elsewhere n text s (fault.World why) h = tt
+  lines_elsewhere n text s fault.NoMemory h = tt
+
+  -- what can't be carried out is bad, since a text says one thing alone
+  said_fault : (one : (text : List ℕ) (a b : Said) → Says text a → Says text b → a ≡ b) (n : ℕ) (text : List ℕ) (what : Said) (s : Standing D R) (why : ScriptFault)
+      → Says text what → IsSaidFault n what s why → IsLineFault n text s why
+  said_fault one n text what s (fault.BadLine k) says (same, impossible) = (same, λ other says_other. subst (λ w. IsNotPossible (confs_of s) (length s.spares.items) w) (one text what other says says_other) impossible)
+  said_fault one n text what s fault.Reader says h = tt
+  said_fault one n text what s fault.Writer says h = tt
+  said_fault one n text what s (fault.World why) says h = tt
+  said_fault one n text what s fault.NoMemory says h = tt
+
+  pub line_fault : {A : Type 0} (one : (text : List ℕ) (a b : Said) → Says text a → Says text b → a ≡ b) (r : Result A ScriptFault) (n : ℕ) (text : List ℕ) (what : Said) (s : Standing D R)
+      → Says text what → IfErr r (IsSaidFault n what s) → IfErr r (IsLineFault n text s)
+  line_fault one (Ok x) n text what s says h = tt
+  line_fault one (Err why) n text what s says h = said_fault one n text what s why says h
+
+-- what holds of a value holds of what is told to be it
+pub same_ok : {A E : Type 0} (P : A → Type 0) (r : Result A E) (x : A) → P x → IfOk r (λ y. y ≡ x) → IfOk r P
+same_ok P (Ok y) x p same = subst P (sym same) p
+same_ok P (Err why) x p same = tt
+
+module _ {D R : Type 0} (honest : D → Type 0) (reads : D → List ℕ) (may_leave : D → List ℕ → Type 0) (size : D → ℕ) (stations : R → Stations) (faults : R → ℕ) where
+  -- a step is tried
+  pub tried : (made : Step) (told : Told) (old mid : Standing D R) (kept refusal : Option StoreFault) → Makes honest reads may_leave size stations faults made told old mid → kept ≡ option_or mid.refusal refusal
+      → refusal ≡ refused told → IsTried honest reads may_leave size stations faults made old (record mid { refusal = kept })
+  tried made told old mid kept refusal makes is known = record {
+    told = told;
+    mid = mid;
+    makes = makes;
+    kept = ap (λ (r : Option StoreFault). record mid { refusal = r }) (is ∙ ap (λ r. option_or mid.refusal r) known ∙ ap (λ (s : Standing D R). option_or s.refusal (refused told)) makes.goes_on.only);
+  }
+
+  -- a frame is received
+  pub received_ok : (r : Result (Standing D R) ScriptFault) (interface frame : List ℕ) (conf : Conf) (request : Step) (old : Standing D R)
+      → conf_named (confs_of old) interface ≡ Some conf → asked_at request ≡ Some (Some (unless_ignored conf.bssid (outcome frame conf.bssid)), old.moment)
+      → IfOk r (λ new. IsMade honest reads may_leave size stations faults request old new) → IfOk r (λ new. IsReceived honest reads may_leave size stations faults interface frame old new)
+  received_ok (Ok new) interface frame conf request old configured asks made = record { conf = conf; configured = configured; requested = record { request = request; asks = asks; made = made } }
+  received_ok (Err why) interface frame conf request old configured asks made = tt
+
+  -- it is another moment
+  pub ticked_ok : (r : Result (Standing D R) ScriptFault) (m : Moment) (request : Step) (old at : Standing D R) → at ≡ record old { moment = m } → asked_at request ≡ Some (None, m)
+      → IfOk r (λ new. IsMade honest reads may_leave size stations faults request at new) → IfOk r (λ new. IsRequested honest reads may_leave size stations faults None (record old { moment = m }) new)
+  ticked_ok (Ok new) m request old at is asks made =
+      record { request = request; asks = asks; made = subst (λ (s : Standing D R). IsMade honest reads may_leave size stations faults request s new) is made }
+  ticked_ok (Err why) m request old at is asks made = tt
+
+  -- an event is ordered, or a query asked
+  pub ordered_ok : (r : Result (Standing D R) ScriptFault) (request : Step) (event : Happening) (old : Standing D R) → asked_at request ≡ Some (Some (ordered event), old.moment)
+      → IfOk r (λ new. IsMade honest reads may_leave size stations faults request old new) → IfOk r (λ new. IsPlaced honest reads may_leave size stations faults (Does event) old new)
+  ordered_ok (Ok new) request event old asks made = record { request = request; asks = asks; made = made }
+  ordered_ok (Err why) request event old asks made = tt
+
+  pub placed_ok : (r : Result (Standing D R) ScriptFault) (p q : Placing) (old : Standing D R) → p ≡ q
+      → IfOk r (λ new. IsPlaced honest reads may_leave size stations faults q old new) → IfOk r (λ new. IsPlaced honest reads may_leave size stations faults p old new)
+  placed_ok r p q old same h = subst (λ x. IfOk r (λ new. IsPlaced honest reads may_leave size stations faults x old new)) (sym same) h
+
+  -- at the interface that is meant, or at none
+  pub meant_ok : (r : Result (Standing D R) ScriptFault) (tag : ℕ) (order : Order) (found : Option Conf) (conf : Conf) (p : Placing) (up : Bool) (old : Standing D R)
+      → found ≡ Some conf → p ≡ placed order conf.bssid up tag → up ≡ is_up_at old conf
+      → IfOk r (λ new. IsPlaced honest reads may_leave size stations faults p old new) → IfOk r (λ new. IsMeant honest reads may_leave size stations faults tag order found old new)
+  meant_ok r tag order found conf p up old is at up_is h =
+      let here : IfOk r (λ new. IsMeant honest reads may_leave size stations faults tag order (Some conf) old new) =
+      placed_ok r (placed order conf.bssid (is_up_at old conf) tag) p old (ap (λ u. placed order conf.bssid u tag) (sym up_is) ∙ sym at) h in
+      subst (λ f. IfOk r (λ new. IsMeant honest reads may_leave size stations faults tag order f old new)) (sym is) here
+
+  pub unmeant_ok : (r : Result (Standing D R) ScriptFault) (tag : ℕ) (order : Order) (found : Option Conf) (old : Standing D R) → found ≡ None
+      → IfOk r (λ new. new ≡ old) → IfOk r (λ new. IsMeant honest reads may_leave size stations faults tag order found old new)
+  unmeant_ok r tag order found old is h = subst (λ f. IfOk r (λ new. IsMeant honest reads may_leave size stations faults tag order f old new)) (sym is) h
+
+  -- by what a text is as a command
+  pub command_ok : (r : Result (Standing D R) ScriptFault) (tag : ℕ) (text : List ℕ) (read : Result (Option (List ℕ) × Order) Refusal) (old : Standing D R) → read ≡ command_outcome text
+      → IfOk r (λ new. IsCarriedOut honest reads may_leave size stations faults tag read old new) → IfOk r (λ new. IsCarriedOut honest reads may_leave size stations faults tag (command_outcome text) old new)
+  command_ok r tag text read old is h = subst (λ o. IfOk r (λ new. IsCarriedOut honest reads may_leave size stations faults tag o old new)) is h
+
+  -- a text says what is run
+  pub says_ok : (r : Result (Standing D R) ScriptFault) (n : ℕ) (text : List ℕ) (what : Said) (old : Standing D R) → Says text what
+      → IfOk r (λ new. IsRun honest reads may_leave size stations faults n what old new) → IfOk r (λ new. SaysAndIsRun honest reads may_leave size stations faults n text old new)
+  says_ok (Ok new) n text what old says run = record { what = what; says = says; run = run }
+  says_ok (Err why) n text what old says run = tt

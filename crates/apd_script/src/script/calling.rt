@@ -1,0 +1,44 @@
+//! The calls of the world that a script makes. Each says of it what a script's line does there, and no more, so that a
+//! caller's proof carries no long contract.
+ghost use Rattle.std.specs.Prelude.{◌≡◌, None, OnOk};
+
+use super::standing::Standing;
+use apd_disk::Disk;
+use apd_mlme::Recipient;
+use apd_radio::Radio;
+use apd_world::{Step, Told, WorldFault};
+
+/// What was handed out and applied, each with its recipient.
+pub type Answers = Vec<(Recipient, Told)>;
+
+impl<D: Disk + Drop, R: Radio> Standing<D, R> {
+    ghost use Rattle.apd_script.specs.Script.{Flushes, HandsOut, Makes, Starts};
+
+    /// Makes a step.
+    pub fn make(&mut self, step: &Step<'_>) -> Told
+        ensures { Makes D.honest D.reads D.may_leave D.size R.stations R.faults step.now result self.old self.new }
+    {
+        self.world.step(step)
+    }
+
+    /// Hands out what is settled.
+    pub fn hand_out(&mut self) -> Result<Answers, WorldFault>
+        ensures { OnOk result (HandsOut D.honest D.reads D.may_leave D.size R.stations R.faults self.old self.new) }
+    {
+        self.world.hand_out()
+    }
+
+    /// Commits until nothing is unsettled, and hands out: where no refusal was met.
+    pub fn flush(&mut self) -> Result<Answers, WorldFault>
+        ensures { self.old.refusal ≡ None → OnOk result (Flushes D.honest D.reads D.may_leave D.size R.stations R.faults self.old self.new) }
+    {
+        self.world.flush()
+    }
+
+    /// Starts the interfaces.
+    pub fn start(&mut self) -> Result<Answers, WorldFault>
+        ensures { OnOk result (Starts D.honest D.reads D.may_leave D.size R.stations R.faults self.old self.new) }
+    {
+        self.world.start()
+    }
+}

@@ -1,0 +1,337 @@
+//! What a script stands at, and what each of its lines does there.
+ghost use Rattle.std.specs.Prelude.{◌≡◌, ◌≢◌, None, IfErr, IfOk, IfSome, OnOk, Err};
+ghost use Rattle.std.specs.Option.{option_copied};
+ghost use Rattle.apd_ctrl.specs.Placing.{placing};
+ghost use Rattle.apd_ctrl.specs.Reading.{outcome as command_outcome};
+ghost use Rattle.apd_script.specs.Lines.{Received, said};
+ghost use Rattle.apd_script.specs.Meant.{conf_meant};
+ghost use Rattle.apd_script.specs.Refused.{refused};
+ghost use Rattle.apd_world.specs.declared.step.Step.TheVariants.{Accept};
+
+use super::fault::{ScriptFault, writer_fault};
+use super::line::{Line, exactly_one_line, parse_line};
+use super::output::{write_answers, write_command_told, write_reply, write_told};
+use apd_base::Moment;
+use apd_conf::{Conf, Confs};
+use apd_core::Input;
+use apd_ctrl::{Command, FAIL, Parsed, Placed, UNKNOWN_COMMAND, parse_command};
+use apd_disk::Disk;
+use apd_mlme::Recipient;
+use apd_radio::Radio;
+use apd_store::StoreFault;
+use apd_world::{Step, Told, World, WorldFault};
+use std::alloc::Global;
+use std::collections::VecDeque;
+use std::io::Write;
+
+/// A script that runs: its world, the moment that it is at, the radios that are left for restarts, and
+/// the first refusal of the store that a step of a batch met since the last start.
+#[derive(Drop)]
+pub struct Standing<D: Disk, R: Radio> {
+    pub(super) alloc: Global,
+    pub(super) world: World<D, R>,
+    pub(super) moment: Moment,
+    pub(super) spares: VecDeque<R>,
+    pub(super) refusal: Option<StoreFault>,
+}
+
+/// The configuration of the interface that a command names, and the first one where it names none.
+fn conf_meant<'a>(confs: &'a Confs, interface: Option<&[u8]>) -> Option<&'a Conf>
+    ensures { option_copied result ≡ conf_meant confs.now (option_copied interface.entry) }
+{
+    match interface {
+        Some(name) => confs.with_interface(name),
+        None => confs.list().first(),
+    }
+}
+
+/// Why the store refused a step of a batch, if it did.
+fn refused(told: &Told) -> Option<StoreFault>
+    ensures { result ≡ refused told.now }
+{
+    match told {
+        Told::Loaded(Err(fault)) | Told::Called(Err(fault)) => Some(*fault),
+        _ => None,
+    }
+}
+
+impl<D: Disk + Drop, R: Radio> Standing<D, R> {
+    ghost use Rattle.apd_script.specs.Script.{HandsOut, Flushes, IsBegun, IsCarriedOut, IsLineFault, IsMade, IsMeant, IsNoBadLine, IsPlaced, IsReceived, IsRequested, IsRun, IsSaidFault, IsTried, SaysAndIsRun, Starts, confs_of};
+
+    /// A script at moment 0, whose world is not started yet. It takes no memory.
+    pub fn begin(alloc: Global, world: World<D, R>, spares: Vec<R>) -> Standing<D, R>
+        ensures { IsBegun world spares.items result }
+    {
+        Standing {
+            alloc,
+            world,
+            moment: Moment(0),
+            spares: VecDeque::from_vec(spares),
+            refusal: None,
+        }
+    }
+
+    /// Makes a step, which may not lack memory.
+    fn made(&mut self, step: &Step<'_>) -> Result<Told, ScriptFault>
+        ensures ok { OnOk result (IsMade D.honest D.reads D.may_leave D.size R.stations R.faults step.now self.old self.new) }
+        ensures err { IfErr result IsNoBadLine }
+    {
+        match self.make(step) {
+            Told::NoMemory => Err(ScriptFault::NoMemory),
+            told => Ok(told),
+        }
+    }
+
+    /// Makes a step of a batch. What it tells is printed nowhere, and the first refusal is kept.
+    fn attempted(self, step: &Step<'_>) -> Standing<D, R>
+        ensures { IsTried D.honest D.reads D.may_leave D.size R.stations R.faults step.now self result }
+    {
+        let mut standing = self;
+        let told = standing.make(step);
+        standing.refusal = standing.refusal.or(refused(&told));
+        standing
+    }
+
+    /// Prints what was handed out.
+    fn printed<W: Write>(
+        self,
+        writer: &mut W,
+        answers: &[(Recipient, Told)],
+    ) -> Result<Standing<D, R>, ScriptFault>
+        ensures ok { IfOk result (λ new. new ≡ self) }
+        ensures err { IfErr result IsNoBadLine }
+    {
+        write_answers(self.alloc, writer, self.world.confs(), answers).map_err(writer_fault)?;
+        Ok(self)
+    }
+
+    /// Starts the interfaces, and prints what was handed out.
+    pub fn started<W: Write>(self, writer: &mut W) -> Result<Standing<D, R>, ScriptFault>
+        ensures ok { IfOk result (λ new. Starts D.honest D.reads D.may_leave D.size R.stations R.faults self new) }
+        ensures err { IfErr result IsNoBadLine }
+    {
+        let mut standing = self;
+        let answers = standing.start()?;
+        standing.printed(writer, &answers)
+    }
+
+    /// Hands out what is settled, and prints it.
+    fn handed_out<W: Write>(self, writer: &mut W) -> Result<Standing<D, R>, ScriptFault>
+        ensures ok { IfOk result (λ new. HandsOut D.honest D.reads D.may_leave D.size R.stations R.faults self new) }
+        ensures err { IfErr result IsNoBadLine }
+    {
+        let mut standing = self;
+        let answers = standing.hand_out()?;
+        standing.printed(writer, &answers)
+    }
+
+    /// Commits until nothing is unsettled, hands out and prints that; or tells the first refusal.
+    fn flushed<W: Write>(self, writer: &mut W) -> Result<Standing<D, R>, ScriptFault>
+        ensures ok { IfOk result (λ new. Flushes D.honest D.reads D.may_leave D.size R.stations R.faults self new) }
+        ensures refused { IfSome self.refusal (λ fault. result ≡ Err (ScriptFault.World (WorldFault.Store fault))) }
+        ensures err { IfErr result IsNoBadLine }
+    {
+        let mut standing = self;
+        if let Some(fault) = standing.refusal {
+            return Err(ScriptFault::World(WorldFault::Store(fault)));
+        }
+        let answers = standing.flush()?;
+        standing.printed(writer, &answers)
+    }
+
+    /// Prints what the step of a request told.
+    fn answered<W: Write>(self, writer: &mut W, told: &Told) -> Result<Standing<D, R>, ScriptFault>
+        ensures ok { IfOk result (λ new. new ≡ self) }
+        ensures err { IfErr result IsNoBadLine }
+    {
+        write_told(self.alloc, writer, told).map_err(writer_fault)?;
+        Ok(self)
+    }
+
+    /// Accepts a request at the moment, and prints the answer.
+    fn requested<W: Write>(
+        self,
+        writer: &mut W,
+        input: Input<'_>,
+    ) -> Result<Standing<D, R>, ScriptFault>
+        ensures ok { IfOk result (λ new. IsMade D.honest D.reads D.may_leave D.size R.stations R.faults (Accept input.entry self.moment) self new) }
+        ensures err { IfErr result IsNoBadLine }
+    {
+        let mut standing = self;
+        let step = Step::Accept(input, standing.moment);
+        let told = standing.made(&step)?;
+        standing.answered(writer, &told)
+    }
+
+    /// Accepts the frame of a line.
+    fn received<W: Write>(
+        self,
+        writer: &mut W,
+        number: u64,
+        interface: &[u8],
+        frame: &[u8],
+    ) -> Result<Standing<D, R>, ScriptFault>
+        ensures ok { IfOk result (λ new. IsReceived D.honest D.reads D.may_leave D.size R.stations R.faults interface.now frame.now self new) }
+        ensures err { IfErr result (IsSaidFault number (Received interface.now frame.now) self) }
+    {
+        let Some(conf) = self.world.confs().with_interface(interface) else {
+            return Err(ScriptFault::BadLine(number));
+        };
+        let bssid = conf.bssid;
+        self.requested(writer, Input::Received(bssid, frame))
+    }
+
+    /// Prints what the step of a command told.
+    fn command_answered<W: Write>(
+        self,
+        writer: &mut W,
+        tag: u64,
+        told: &Told,
+    ) -> Result<Standing<D, R>, ScriptFault>
+        ensures ok { IfOk result (λ new. new ≡ self) }
+        ensures err { IfErr result IsNoBadLine }
+    {
+        write_command_told(self.alloc, writer, tag, told).map_err(writer_fault)?;
+        Ok(self)
+    }
+
+    /// Makes the step of a command, and prints what it told.
+    fn carried_out<W: Write>(
+        self,
+        writer: &mut W,
+        tag: u64,
+        step: &Step<'_>,
+    ) -> Result<Standing<D, R>, ScriptFault>
+        ensures ok { IfOk result (λ new. IsMade D.honest D.reads D.may_leave D.size R.stations R.faults step.now self new) }
+        ensures err { IfErr result IsNoBadLine }
+    {
+        let mut standing = self;
+        let told = standing.made(step)?;
+        standing.command_answered(writer, tag, &told)
+    }
+
+    /// Prints the refusal of a command.
+    fn replied<W: Write>(
+        self,
+        writer: &mut W,
+        tag: u64,
+        text: &[u8],
+    ) -> Result<Standing<D, R>, ScriptFault>
+        ensures ok { IfOk result (λ new. new ≡ self) }
+        ensures err { IfErr result IsNoBadLine }
+    {
+        write_reply(self.alloc, writer, tag, text).map_err(writer_fault)?;
+        Ok(self)
+    }
+
+    /// Makes the step that becomes of a command.
+    fn placed<W: Write>(
+        self,
+        writer: &mut W,
+        tag: u64,
+        what: Placed,
+    ) -> Result<Standing<D, R>, ScriptFault>
+        ensures ok { IfOk result (λ new. IsPlaced D.honest D.reads D.may_leave D.size R.stations R.faults (placing what) self new) }
+        ensures err { IfErr result IsNoBadLine }
+    {
+        match what {
+            Placed::Ask(query) => {
+                let step = Step::Ask(query);
+                self.carried_out(writer, tag, &step)
+            }
+            Placed::Do(event) => {
+                let step = Step::Accept(Input::Order(event), self.moment);
+                self.carried_out(writer, tag, &step)
+            }
+        }
+    }
+
+    /// Carries out a control command at the interface that it means, if it is configured.
+    fn meant<W: Write>(
+        self,
+        writer: &mut W,
+        tag: u64,
+        interface: Option<&[u8]>,
+        command: Command,
+    ) -> Result<Standing<D, R>, ScriptFault>
+        ensures ok { IfOk result (λ new. IsMeant D.honest D.reads D.may_leave D.size R.stations R.faults tag command (conf_meant (confs_of self) (option_copied interface.entry)) self new) }
+        ensures err { IfErr result IsNoBadLine }
+    {
+        let Some(conf) = conf_meant(self.world.confs(), interface) else {
+            return self.replied(writer, tag, FAIL);
+        };
+        let bssid = conf.bssid;
+        let is_up = self.world.is_up(bssid);
+        self.placed(writer, tag, command.at(bssid, is_up, tag))
+    }
+
+    /// Carries out a text as a control command.
+    fn commanded<W: Write>(
+        self,
+        writer: &mut W,
+        tag: u64,
+        text: &[u8],
+    ) -> Result<Standing<D, R>, ScriptFault>
+        ensures ok { IfOk result (λ new. IsCarriedOut D.honest D.reads D.may_leave D.size R.stations R.faults tag (command_outcome text.now) self new) }
+        ensures err { IfErr result IsNoBadLine }
+    {
+        match parse_command(text) {
+            Parsed::Command { interface, command } => self.meant(writer, tag, interface, command),
+            Parsed::Unknown => self.replied(writer, tag, UNKNOWN_COMMAND),
+            Parsed::Fail => self.replied(writer, tag, FAIL),
+        }
+    }
+
+    /// It is this moment from now on.
+    fn ticked<W: Write>(self, writer: &mut W, moment: Moment) -> Result<Standing<D, R>, ScriptFault>
+        ensures ok { IfOk result (λ new. IsRequested D.honest D.reads D.may_leave D.size R.stations R.faults None (record self { moment = moment }) new) }
+        ensures err { IfErr result IsNoBadLine }
+    {
+        let mut standing = self;
+        standing.moment = moment;
+        standing.requested(writer, Input::Tick)
+    }
+
+    /// Does what a line says.
+    fn done<W: Write>(
+        self,
+        writer: &mut W,
+        number: u64,
+        line: &Line<'_>,
+    ) -> Result<Standing<D, R>, ScriptFault>
+        ensures ok { IfOk result (λ new. IsRun D.honest D.reads D.may_leave D.size R.stations R.faults number (said line.now) self new) }
+        ensures err { IfErr result (IsSaidFault number (said line.now) self) }
+    {
+        match line {
+            Line::Empty => Ok(self),
+            Line::Received { interface, frame } => {
+                self.received(writer, number, interface, frame.as_slice())
+            }
+            Line::Command(text) => self.commanded(writer, number, text),
+            Line::Tick(moment) => self.ticked(writer, *moment),
+            Line::Take => Ok(self.attempted(&Step::Take)),
+            Line::Call => Ok(self.attempted(&Step::Call)),
+            Line::Publish => Ok(self.attempted(&Step::Publish)),
+            Line::Hand => self.handed_out(writer),
+            Line::Flush => self.flushed(writer),
+            Line::Stop => self.stopped(writer, number),
+        }
+    }
+
+    /// Runs the line of a number.
+    pub fn ran<W: Write>(
+        self,
+        writer: &mut W,
+        number: u64,
+        text: &[u8],
+    ) -> Result<Standing<D, R>, ScriptFault>
+        ensures ok { IfOk result (λ new. SaysAndIsRun D.honest D.reads D.may_leave D.size R.stations R.faults number text.now self new) }
+        ensures err { IfErr result (IsLineFault number text.now self) }
+    {
+        exactly_one_line();
+        match parse_line(self.alloc, text)? {
+            Some(line) => self.done(writer, number, &line),
+            None => Err(ScriptFault::BadLine(number)),
+        }
+    }
+}

@@ -1,0 +1,103 @@
+//! A stop: the world is given up, and begun anew from what its device reads.
+ghost use Rattle.std.specs.Prelude.{◌≡◌, ◌<◌, IfErr, IfNone, IfOk, IfSome, drop, length, map};
+ghost use Rattle.apd_slot.specs.Slots.{bssid_of};
+ghost use Rattle.apd_script.specs.Lines.{Stop};
+
+use super::fault::{ScriptFault, writer_fault};
+use super::output::write_recovered;
+use super::standing::Standing;
+use apd_conf::Confs;
+use apd_disk::Disk;
+use apd_radio::Radio;
+use apd_slot::Slot;
+use apd_world::restart;
+use std::alloc::{AllocError, Global};
+use std::collections::VecDeque;
+use std::io::Write;
+
+/// A slot for each interface, each with a radio from the front; none where there are too few.
+fn fresh_slots<R: Radio>(
+    alloc: Global,
+    confs: &Confs,
+    spares: &mut VecDeque<R>,
+) -> Result<Option<Vec<Slot<R>>>, AllocError>
+    ensures slots { IfOk result (λ found. IfSome found (λ slots. map bssid_of slots.items ≡ map (λ conf. conf.bssid) confs.now)) }
+    ensures rest { IfOk result (λ found. IfSome found (λ slots. spares.new.items ≡ drop (length confs.now) spares.old.items)) }
+    ensures none { IfOk result (λ found. IfNone found (length spares.old.items < length confs.now)) }
+{
+    let mut slots = Vec::new(alloc);
+    for conf in confs.list() {
+        let Some(radio) = spares.pop_front() else {
+            return Ok(None);
+        };
+        slots.push(Slot::new(alloc, radio, conf.bssid))?;
+    }
+    Ok(Some(slots))
+}
+
+impl<D: Disk + Drop, R: Radio> Standing<D, R> {
+    ghost use Rattle.apd_script.specs.Script.{IsNoBadLine, IsRestarted, IsSaidFault, Restarts, Stops, confs_of};
+
+    /// Gives up the world, and begins one of these configurations from what its device reads, with these
+    /// slots, at the moment.
+    fn restarted(self, confs: Confs, slots: Vec<Slot<R>>) -> Result<Standing<D, R>, ScriptFault>
+        ensures ok { IfOk result (λ new. confs ≡ confs_of self → map bssid_of slots.items ≡ map (λ conf. conf.bssid) confs → IsRestarted D.honest D.reads D.may_leave D.size R.stations R.faults self.moment self.world new.world) }
+        ensures only { IfOk result (λ new. new ≡ record self { world = new.world; refusal = None }) }
+        ensures err { IfErr result IsNoBadLine }
+    {
+        let Standing {
+            alloc,
+            world,
+            moment,
+            spares,
+            ..
+        } = self;
+        let (flusher, _core, _slots) = world.into_parts();
+        match restart(alloc, flusher.into_device(), confs, slots, moment) {
+            Ok(world) => Ok(Standing {
+                alloc,
+                world,
+                moment,
+                spares,
+                refusal: None,
+            }),
+            Err((_device, _slots, fault)) => Err(ScriptFault::World(fault)),
+        }
+    }
+
+    /// Gives up the world, and begins it anew with a radio from the front for each interface.
+    fn begun_anew(self, number: u64) -> Result<Standing<D, R>, ScriptFault>
+        ensures ok { IfOk result (λ new. Restarts D.honest D.reads D.may_leave D.size R.stations R.faults self new) }
+        ensures err { IfErr result (IsSaidFault number Stop self) }
+    {
+        let mut standing = self;
+        let confs = standing.world.confs().copy(standing.alloc)?;
+        match fresh_slots(standing.alloc, &confs, &mut standing.spares)? {
+            Some(slots) => standing.restarted(confs, slots),
+            None => Err(ScriptFault::BadLine(number)),
+        }
+    }
+
+    /// Prints how many station rows the device held.
+    fn recovered<W: Write>(self, writer: &mut W) -> Result<Standing<D, R>, ScriptFault>
+        ensures ok { IfOk result (λ new. new ≡ self) }
+        ensures err { IfErr result IsNoBadLine }
+    {
+        let rows = self.world.table().rows();
+        write_recovered(self.alloc, writer, rows).map_err(writer_fault)?;
+        Ok(self)
+    }
+
+    /// Stops and restarts, prints how many station rows the device held, and starts the interfaces.
+    pub fn stopped<W: Write>(
+        self,
+        writer: &mut W,
+        number: u64,
+    ) -> Result<Standing<D, R>, ScriptFault>
+        ensures ok { IfOk result (λ new. Stops D.honest D.reads D.may_leave D.size R.stations R.faults self new) }
+        ensures err { IfErr result (IsSaidFault number Stop self) }
+    {
+        let standing = self.begun_anew(number)?.recovered(writer)?;
+        standing.started(writer)
+    }
+}
