@@ -64,6 +64,18 @@ fn begun<D: Disk + Drop, R: Radio>(
     }
 }
 
+/// Runs a script on a world. It says nothing of what that does, so that its callers' proofs needn't carry what
+/// `run_script` says.
+fn run_with<D: Disk + Drop, R: Radio, I: BufRead + Drop, W: Write>(
+    alloc: Global,
+    world: World<D, R>,
+    reader: I,
+    writer: &mut W,
+    spares: Vec<R>,
+) -> Result<World<D, R>, ScriptFault> {
+    run_script(alloc, world, reader, writer, spares)
+}
+
 /// Recovers the store that a device holds, and runs a script on it as `run_script` does, with radios in memory:
 /// one for each interface, and one more for each of eight stops. Hands back the world that it ends with.
 ///
@@ -80,5 +92,5 @@ pub fn run_on_store<D: Disk + Drop, I: BufRead + Drop, W: Write>(
     let slots = slots_of(alloc, &confs)?;
     let spares = spares_for(alloc, &confs)?;
     let world = begun(alloc, disk, confs, slots)?;
-    run_script(alloc, world, reader, writer, spares)
+    run_with(alloc, world, reader, writer, spares)
 }
