@@ -44,7 +44,7 @@ meant text = by_third (get_or text 2 0) text
 -- what a text says is that
 says_meant : (text : List ℕ) (what : Said) → Says text what → what ≡ meant text
 says_meant text Empty p = sym (ap meant p)
-says_meant text (Received interface frame) (rest, p, i, f) =
+says_meant text (Received interface frame) (rest, p, (i, f)) =
     ap (λ bytes. Received interface (bytes_in bytes)) (sym f) ∙ ap (λ (name : List ℕ). Received name (frame_behind name rest)) i ∙ sym (ap meant p)
 says_meant text (Tick m) (rest, p, f) = ap (λ (n : Option ℕ). Tick (moment_in n)) (sym f) ∙ sym (ap meant p)
 says_meant text (Command command) (inl (p, q)) = ap Command q ∙ sym (ap meant p)

@@ -14,7 +14,7 @@ use Rattle.apd_world.specs.Proper.{IsProper}
 use Rattle.apd_world.specs.Resumed.{AreOfSame, AreResumed}
 use Rattle.apd_world.specs.Seen.{durable_of, slots_of}
 use Rattle.apd_world.specs.declared.world.World.{World}
-use Rattle.apd_script.specs.Script.{confs_of, IsRestarted, Restarts, Starts, Stops}
+use Rattle.apd_script.specs.Script.{AreRenewed, confs_of, IsRestarted, Restarts, Starts, Stops}
 use Rattle.apd_script.specs.declared.script.fault.ScriptFault.{ScriptFault}
 use Rattle.apd_script.specs.declared.script.standing.Standing.{Standing}
 
@@ -39,23 +39,24 @@ module _ {D R : Type 0} (honest : D → Type 0) (reads : D → List ℕ) (may_le
   }
 
   -- what is given up and begun anew is restarted
-  pub restarts_ok : (r : Result (Standing D R) ScriptFault) (old : Standing D R) (mid : Standing D R) (confs : List Conf) (slots : List (Slot R)) → mid ≡ record old { spares = mid.spares }
-      → mid.spares.items ≡ drop (length confs) old.spares.items → confs ≡ confs_of old → map bssid_of slots ≡ map (λ conf. conf.bssid) confs
+  pub restarts_ok : (r : Result (Standing D R) ScriptFault) (old : Standing D R) (mid : Standing D R) (confs : List Conf) (slots : List (Slot R)) → AreRenewed confs slots old mid
       → IfOk r (λ new. confs ≡ confs_of mid → map bssid_of slots ≡ map (λ conf. conf.bssid) confs → IsRestarted honest reads may_leave size stations faults mid.moment mid.world new.world)
       → IfOk r (λ new. new ≡ record mid { world = new.world; refusal = None })
       → IfOk r (λ new. Restarts honest reads may_leave size stations faults old new)
-  restarts_ok (Ok new) old mid confs slots same rest configured each restarted only =
+  restarts_ok (Ok new) old mid confs slots renewed restarted only =
+      let same = renewed.only in
+      let configured = renewed.own in
       let world : mid.world ≡ old.world = ap (λ (s : Standing D R). s.world) same in
       let moment : mid.moment ≡ old.moment = ap (λ (s : Standing D R). s.moment) same in
       let spares : new.spares ≡ mid.spares = ap (λ (s : Standing D R). s.spares) only in
-      let whole = restarted (configured ∙ ap (λ (w : World D R). (durable_of w).core.confs) (sym world)) each in
+      let whole = restarted (configured ∙ ap (λ (w : World D R). (durable_of w).core.confs) (sym world)) renewed.each in
       let at_world : IsRestarted honest reads may_leave size stations faults mid.moment old.world new.world = subst (λ (w : World D R). IsRestarted honest reads may_leave size stations faults mid.moment w new.world) world whole in
       record {
         restarted = subst (λ m. IsRestarted honest reads may_leave size stations faults m old.world new.world) moment at_world;
-        spares = ap (λ s. s.items) spares ∙ rest ∙ ap (λ cs. drop (length cs) old.spares.items) configured;
+        spares = ap (λ s. s.items) spares ∙ renewed.spares ∙ ap (λ cs. drop (length cs) old.spares.items) configured;
         only = only ∙ ap (λ (s : Standing D R). record s { world = new.world; refusal = None }) same ∙ ap (λ s. record old { world = new.world; spares = s; refusal = None }) (sym spares);
       }
-  restarts_ok (Err why) old mid confs slots same rest configured each restarted only = tt
+  restarts_ok (Err why) old mid confs slots renewed restarted only = tt
 
   -- and then started
   pub stops_ok : (r : Result (Standing D R) ScriptFault) (old first mid : Standing D R) → Restarts honest reads may_leave size stations faults old first → mid ≡ first

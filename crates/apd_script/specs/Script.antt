@@ -19,6 +19,7 @@ use Rattle.apd_mlme.specs.Happening.{Happening}
 use Rattle.apd_mlme.specs.declared.decision.Recipient.{Recipient}
 use Rattle.apd_slot.specs.Slots.{bssid_of}
 use Rattle.apd_slot.specs.Wanted.{Stations}
+use Rattle.apd_slot.specs.declared.slot.Slot.{Slot}
 use Rattle.apd_store.specs.Image.{Shows}
 use Rattle.apd_world.specs.Outside.{device_of}
 use Rattle.apd_world.specs.Proper.{IsProper}
@@ -52,6 +53,13 @@ pub record IsBegun {D R : Type 0} (w : World D R) (radios : List R) (s : Standin
   pub moment : s.moment ≡ record { 0 = 0 }
   pub spares : s.spares.items ≡ radios
   pub refusal : s.refusal ≡ None
+
+-- of these configurations, its own, each has one of these slots, and as many radios were taken from the front
+pub record AreRenewed {D R : Type 0} (confs : List Conf) (slots : List (Slot R)) (old new : Standing D R) : Type 0 where
+  pub own : confs ≡ confs_of old
+  pub each : map bssid_of slots ≡ map (λ conf. conf.bssid) confs
+  pub spares : new.spares.items ≡ drop (length confs) old.spares.items
+  pub only : new ≡ record old { spares = new.spares }
 
 -- ---- the steps that its lines ask for
 -- what a step asks to be accepted, and at which moment

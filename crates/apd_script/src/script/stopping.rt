@@ -36,7 +36,7 @@ fn fresh_slots<R: Radio>(
 }
 
 impl<D: Disk + Drop, R: Radio> Standing<D, R> {
-    ghost use Rattle.apd_script.specs.Script.{IsNoBadLine, IsRestarted, IsSaidFault, Restarts, Stops, confs_of};
+    ghost use Rattle.apd_script.specs.Script.{AreRenewed, IsNoBadLine, IsRestarted, IsSaidFault, Restarts, Stops, confs_of};
 
     /// Gives up the world, and begins one of these configurations from what its device reads, with these
     /// slots, at the moment.
@@ -65,17 +65,26 @@ impl<D: Disk + Drop, R: Radio> Standing<D, R> {
         }
     }
 
+    /// The configurations, and a slot for each with a radio from the front.
+    fn renewed(&mut self, number: u64) -> Result<(Confs, Vec<Slot<R>>), ScriptFault>
+        ensures ok { IfOk result (λ parts. AreRenewed parts.0 parts.1.items self.old self.new) }
+        ensures err { IfErr result (IsSaidFault number Stop self.old) }
+    {
+        let confs = self.world.confs().copy(self.alloc)?;
+        match fresh_slots(self.alloc, &confs, &mut self.spares)? {
+            Some(slots) => Ok((confs, slots)),
+            None => Err(ScriptFault::BadLine(number)),
+        }
+    }
+
     /// Gives up the world, and begins it anew with a radio from the front for each interface.
     fn begun_anew(self, number: u64) -> Result<Standing<D, R>, ScriptFault>
         ensures ok { IfOk result (λ new. Restarts D.honest D.reads D.may_leave D.size R.stations R.faults self new) }
         ensures err { IfErr result (IsSaidFault number Stop self) }
     {
         let mut standing = self;
-        let confs = standing.world.confs().copy(standing.alloc)?;
-        match fresh_slots(standing.alloc, &confs, &mut standing.spares)? {
-            Some(slots) => standing.restarted(confs, slots),
-            None => Err(ScriptFault::BadLine(number)),
-        }
+        let (confs, slots) = standing.renewed(number)?;
+        standing.restarted(confs, slots)
     }
 
     /// Prints how many station rows the device held.

@@ -3,7 +3,7 @@ use Rattle.apd_script.proofs.Doing.{all_elsewhere}
 use Rattle.apd_script.proofs.script.standing.Standing.done.Goals as goal
 
 pub returns-in-Received-clause-ok : goal.returns-in-Received-clause-ok
-returns-in-Received-clause-ok g c = rw c.in-Received.is c.received.ensures.ok
+returns-in-Received-clause-ok g c = rw c.in-Received.is (rw c.as_slice.ensures at c.received.ensures.ok)
 
 pub returns-in-Received-clause-err : goal.returns-in-Received-clause-err
 returns-in-Received-clause-err g c = rw c.in-Received.is c.received.ensures.err

@@ -5,9 +5,9 @@ use Rattle.apd_script.proofs.script.standing.Standing.ran.Goals as goal
 pub returns-in-Some-clause-ok : goal.returns-in-Some-clause-ok
 returns-in-Some-clause-ok g c =
     says_ok g.D.Disk.honest g.D.Disk.reads g.D.Disk.may_leave g.D.Disk.size g.R.Radio.stations g.R.Radio.faults c.done.result c.args.number c.args.text.now (said c.in-Some.line) c.args.self
-    (rw c.in-Some.is at c.in_ok-parse_line.ensures.some) c.done.ensures.ok
+    (rw c.in-Some.is at c.in_ok-line.ensures.some) c.done.ensures.ok
 
 pub returns-in-Some-clause-err : goal.returns-in-Some-clause-err
 returns-in-Some-clause-err g c =
     line_fault c.exactly_one_line.ensures c.done.result c.args.number c.args.text.now (said c.in-Some.line) c.args.self
-    (rw c.in-Some.is at c.in_ok-parse_line.ensures.some) c.done.ensures.err
+    (rw c.in-Some.is at c.in_ok-line.ensures.some) c.done.ensures.err
