@@ -1,6 +1,6 @@
 -- What ends a start or a flush early.
-use Rattle.std.proofs.Common.{Bool, true, false, inl, inr, ⊎_elim, Result, Ok, Err, ◌≡◌, ◌≢◌, ◌⊎◌, ℕ, zero, suc, List, [], ◌∷◌, ◌++◌, refl, sym, ap, subst, ◌∙◌}
-use Rattle.std.specs.Prelude.{⊤, IfErr, OnErr, replicate}
+use Rattle.std.proofs.Common.{true, ⊎_elim, Result, Ok, Err, ◌≡◌, ℕ, zero, suc, List, [], ◌∷◌, ◌++◌, refl, sym, ap, subst, ◌∙◌}
+use Rattle.std.specs.Prelude.{IfErr, OnErr, replicate}
 use Rattle.apd_core.specs.Core.{CoreState}
 use Rattle.apd_slot.specs.Wanted.{Stations}
 use Rattle.apd_store.specs.declared.fault.StoreFault.{StoreFault}
@@ -21,7 +21,7 @@ use Rattle.apd_world.specs.declared.step.Step.TheVariants.{Take, Call, Publish}
 use Rattle.apd_world.specs.declared.step.Told.{Told}
 use Rattle.apd_world.specs.declared.step.Told.TheVariants.{Accepted, Loaded, Called, Published, Handed, Queued, Answered, Applied, Nothing, NoMemory}
 use Rattle.apd_world.specs.declared.world.World.{World}
-use Rattle.apd_world.proofs.RunLaws.{gone_then, world_runs_join}
+use Rattle.apd_world.proofs.RunLaws.{gone_then}
 use Rattle.apd_world.proofs.StepLaws.{next_core}
 
 -- ---- a core that has failed stays so
