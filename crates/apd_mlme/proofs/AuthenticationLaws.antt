@@ -28,7 +28,7 @@ use Rattle.apd_mlme.specs.Outs.{sent}
 use Rattle.apd_mlme.specs.Refusals.{is_success}
 use Rattle.apd_mlme.specs.Room.{IsRoomKept}
 use Rattle.apd_mlme.specs.Told.{IsOpenSystem, IsFirst, IsAllowed, IsDeserved, IsToldTruly}
-use Rattle.apd_mlme.proofs.RefusalLaws.{none_holds, not_and, status_success}
+use Rattle.apd_mlme.proofs.RefusalLaws.{none_holds, not_and, not_less, status_success}
 use Rattle.apd_base.proofs.Cases.{both_true, differ, no_value, none_is, not_false, not_yes}
 use Rattle.apd_mlme.specs.Verdict.{Verdict}
 
@@ -162,9 +162,6 @@ module _ (s : State) (conf : Conf) (b : Bssid) (request : Authentication) where
   ] refl
 
   -- ---- room
-  not_less : (m n : ℕ) → m < n → n ≤ m → ⊥
-  not_less m n more least = omega arith
-
   -- whoever asks as it must, is allowed and finds room deserves success alone
   one_status : (status : Status) → Deserves status → IsAllowed s conf b request → count s b < station_limit (policy_at s b) → status ≡ Success
   one_status Success so may few = refl

@@ -1,5 +1,5 @@
 -- What leaves at each radio where a station with a row associates.
-use Rattle.std.proofs.Common.{◌≡◌, ℕ, ◌<◌, ◌≤◌, Bool, true, false, cond, not, ◌&&◌, ◌||◌, List, [], ◌∷◌, ◌++◌, Option, Some, None, inl, inr, refl, sym, ap, subst, ◌∙◌, IsSome, arith, append-nil}
+use Rattle.std.proofs.Common.{◌≡◌, Bool, true, false, cond, ◌||◌, List, [], ◌∷◌, ◌++◌, Option, Some, None, inl, inr, refl, sym, ap, subst, ◌∙◌, IsSome, append-nil}
 use Rattle.std.specs.Prelude.{map as list_map, filter}
 use Rattle.std.specs.List.{AllByRecursion, flat_map}
 use Rattle.std.specs.Option.{is_some}
@@ -9,9 +9,9 @@ use Rattle.apd_base.specs.declared.address.Addr.{Addr}
 use Rattle.apd_base.specs.declared.station.Aid.{Aid}
 use Rattle.apd_base.specs.declared.station.Station.{Station}
 use Rattle.apd_base.specs.Addr.{bssid_cmp}
-use Rattle.apd_base.specs.State.{State, station_at, policy_at, aid_at}
+use Rattle.apd_base.specs.State.{State, station_at, aid_at}
 use Rattle.apd_base.proofs.AddrLaws.{bssid_total, bssid_exact, same_bssid}
-use Rattle.apd_base.proofs.Cases.{first_false, second_false}
+use Rattle.apd_base.proofs.Cases.{second_false}
 use Rattle.apd_base.proofs.MapLaws.{apart, tied}
 use Rattle.apd_conf.specs.declared.conf.Conf.{Conf}
 use Rattle.apd_conf.specs.Confs.{conf_at}
@@ -35,9 +35,11 @@ use Rattle.apd_mlme.specs.Outs.{is_same, outs_to, sent}
 use Rattle.apd_mlme.specs.Refusals.{is_success}
 use Rattle.apd_mlme.specs.Verdict.{only_sent}
 use Rattle.apd_mlme.proofs.AnsweredLaws.{row_here, status_deserved}
-use Rattle.apd_mlme.proofs.ElsewhereLaws.{is_bssid_among, among-filter, among_elsewhere}
+use Rattle.apd_mlme.proofs.AssociationLaws.{not_here}
+use Rattle.apd_mlme.proofs.ElsewhereLaws.{is_bssid_among, among-filter}
 use Rattle.apd_mlme.proofs.IdentifierLaws.{identifier_is_there}
 use Rattle.apd_mlme.proofs.OutsLaws.{outs_to-append}
+use Rattle.apd_mlme.proofs.RefusalLaws.{not_less}
 
 -- ---- the ends of an association at some BSSIDs, at one radio
 module _ (c : Bssid) (a : Addr) where
@@ -95,12 +97,8 @@ module _ (s : State) (confs : List Conf) (conf : Conf) (b : Bssid) (kind : Kind)
     -- the station's own BSSID is none of the others
     no_end_here : outs_to (Radio b) ends ≡ []
     no_end_here =
-        let not_other : is_bssid_among b (elsewhere s b a) ≡ false =
-        among_elsewhere s b a b
-        ∙ first_false (not (eq_by_cmp bssid_cmp b b) && is_some (aid_at s b a)) (is_some (policy_at s b))
-        (first_false (not (eq_by_cmp bssid_cmp b b)) (is_some (aid_at s b a)) (ap not (tied bssid_total bssid_exact b))) in
         no_end b a (filter (λ x. is_some (conf_at confs x)) (elsewhere s b a))
-        (among-filter (λ x. is_some (conf_at confs x)) b (elsewhere s b a) ∙ second_false (is_some (conf_at confs b)) (is_bssid_among b (elsewhere s b a)) not_other)
+        (among-filter (λ x. is_some (conf_at confs x)) b (elsewhere s b a) ∙ second_false (is_some (conf_at confs b)) (is_bssid_among b (elsewhere s b a)) (not_here s b a))
 
     at_this : (zs : List Out) → outs_to (Radio b) taken_in ≡ zs → outs_to (Radio b) (associated s confs conf b kind request aid).outs ≡ zs ++ response.1 ∷ []
     at_this zs taken =
@@ -130,9 +128,6 @@ module _ (s : State) (confs : List Conf) (conf : Conf) (b : Bssid) (kind : Kind)
     }
 
   -- ---- any request that deserves success
-  not_less : (m n : ℕ) → m < n → n ≤ m → ⊥
-  not_less m n more least = omega arith
-
   one_status : (status : Status) → IsDeserved conf request status → IsDeserved conf request Success → status ≡ Success
   one_status Success so good = refl
   one_status RefusedReasonUnspecified so good = absurd (so good.0)

@@ -25,7 +25,7 @@ ghost use Rattle.apd_mlme.specs.Commanded.{IsAnsweredTo};
 ghost use Rattle.apd_mlme.specs.Departed.{IsDeauthenticated, IsDisassociated, IsSilenced};
 ghost use Rattle.apd_mlme.specs.Driver.{FollowsDrivers};
 ghost use Rattle.apd_mlme.specs.Ended.{HasLeft, IsToldOfEnd};
-ghost use Rattle.apd_mlme.specs.Happening.{Configure, Expire, Happening, Heard, Kick, bssid_of};
+ghost use Rattle.apd_mlme.specs.Happening.{Configure, Expire, Happening, Heard, Kick};
 ghost use Rattle.apd_mlme.specs.Identifiers.{identifier_for};
 ghost use Rattle.apd_mlme.specs.Joined.{IsJoined};
 ghost use Rattle.apd_mlme.specs.ManagementFrame.{deauthentication_frame, disassociation_frame};
@@ -35,7 +35,7 @@ ghost use Rattle.apd_mlme.specs.Responses.{IsAssociationAnswered, IsAuthenticati
 ghost use Rattle.apd_mlme.specs.Room.{IsRoomKept};
 ghost use Rattle.apd_mlme.specs.Rules.{verdict, IsFit};
 ghost use Rattle.apd_mlme.specs.Run.{run, AreFit};
-ghost use Rattle.apd_mlme.specs.Started.{AreDroppedTold, IsStartedBy};
+ghost use Rattle.apd_mlme.specs.Started.{AreDroppedTold, IsStarted};
 ghost use Rattle.apd_mlme.specs.declared.association.Kind.TheVariants.{Association, Reassociation};
 ghost use Rattle.apd_mlme.specs.declared.decision.TheConstants.{MAX_RECORDS};
 ghost use Rattle.apd_mlme.specs.Told.{IsToldTruly};
@@ -74,7 +74,7 @@ pub fn drivers_follow()
 /// start change nothing: the stored ones stay. Each station that the new policy denies is gone, and every
 /// other is as it was.
 pub fn lists_come_with_the_first_start()
-    ensures { (s : State) (confs : List Conf) (h : Happening) → Sound s → IsStartedBy (conf_at confs (bssid_of h)) h s (verdict s confs h).state }
+    ensures { (s : State) (confs : List Conf) (conf : Conf) (b : Bssid) (accept : List Addr) (deny : List Addr) → conf_at confs b ≡ Some conf → Sound s → IsStarted s conf b accept deny (verdict s confs (Configure b accept deny)).state }
 {}
 
 /// A station with a row at a BSSID never lacks an identifier: at most 2007 stations have rows there, so
