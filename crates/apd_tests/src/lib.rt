@@ -24,3 +24,5 @@ mod list_tests;
 mod record_tests;
 #[cfg(test)]
 mod table_tests;
+#[cfg(test)]
+mod verdict_tests;
