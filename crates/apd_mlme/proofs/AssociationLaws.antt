@@ -1,5 +1,5 @@
 -- What an association or a reassociation request leaves.
-use Rattle.std.proofs.Common.{◌≡◌, Bool, true, false, cond, not, ◌&&◌, List, [], ◌∷◌, ◌++◌, Option, Some, None, inl, inr, refl, sym, ap, subst, ◌∙◌, IsSome, IsTrue, append_assoc}
+use Rattle.std.proofs.Common.{◌≡◌, Bool, true, false, cond, not, ◌&&◌, List, [], ◌∷◌, ◌++◌, Option, Some, None, inl, inr, refl, sym, ap, subst, ◌∙◌, IsSome, IsTrue}
 use Rattle.std.specs.Option.{is_some}
 use Rattle.std.specs.Ordering.{eq_by_cmp}
 use Rattle.std.proofs.lemmas.Bool.{and_parts}
@@ -24,19 +24,15 @@ use Rattle.apd_table.specs.Sound.{Sound, StaySound}
 use Rattle.apd_table.proofs.Denied.{meaning_of-append}
 use Rattle.apd_table.proofs.Put.{sound_put}
 use Rattle.apd_mlme.specs.declared.association.Kind.{Kind}
-use Rattle.apd_mlme.specs.declared.decision.Recipient.{Recipient}
 use Rattle.apd_mlme.specs.declared.decision.Recipient.TheVariants.{Radio}
-use Rattle.apd_mlme.specs.declared.decision.Out.{Out}
 use Rattle.apd_mlme.specs.declared.decision.Out.TheVariants.{Install}
 use Rattle.apd_mlme.specs.Association.{association_response, elsewhere, with_authenticated, put_backs, outs_elsewhere, installation, row_of, associated}
-use Rattle.apd_mlme.specs.Driver.{DriverMap, driven, driven_by}
 use Rattle.apd_mlme.specs.Identifiers.{identifier_for}
-use Rattle.apd_mlme.specs.Outs.{outs_to, sent}
+use Rattle.apd_mlme.specs.Outs.{sent}
 use Rattle.apd_mlme.specs.Verdict.{Verdict}
-use Rattle.apd_mlme.proofs.DriverLaws.{is_row, station_put, aid_cond, driven_sent, driven_installed, one_installed}
+use Rattle.apd_mlme.proofs.DriverLaws.{is_row, station_put, aid_cond, left_by, left_by-append}
 use Rattle.apd_mlme.proofs.ElsewhereLaws.{is_bssid_among, among_elsewhere, put_backs_meaning, put_backs_station, HasRows, put_backs_sound, put_backs_stay, elsewhere_driven}
 use Rattle.apd_mlme.proofs.IdentifierLaws.{is_least_free}
-use Rattle.apd_mlme.proofs.OutsLaws.{outs_to-append, driven-append}
 use Rattle.apd_mlme.proofs.RowLaws.{Follows}
 use Rattle.apd_base.proofs.Cases.{either, first_false, no_value, none_is, second_false}
 use Rattle.apd_base.proofs.StateLaws.{station_of_aid}
@@ -151,14 +147,8 @@ module _ (s : State) (confs : List Conf) (conf : Conf) (b : Bssid) (kind : Kind)
 
   -- the driver, once the other BSSIDs let the station go
   module _ (c : Bssid) (configured : IsSome (conf_at confs c)) where
-    abbrev before : DriverMap
-    before = driven (outs_to (Radio c) (outs_elsewhere confs sender (elsewhere s b sender))) (aid_at s c)
-
-    let_go : (d : Addr) → before d ≡ aid_at (cleared s b sender) c d
-    let_go d = elsewhere_driven c sender confs configured (elsewhere s b sender) (aid_at s c) d ∙ sym (cleared_aid s b sender c d)
-
-    abbrev response : Recipient × Out
-    response = sent (association_response conf b kind sender Success (Some aid))
+    let_go : (d : Addr) → left_by c d (outs_elsewhere confs sender (elsewhere s b sender)) (aid_at s c d) ≡ aid_at (cleared s b sender) c d
+    let_go d = elsewhere_driven c sender d confs configured (elsewhere s b sender) (aid_at s c d) ∙ sym (cleared_aid s b sender c d)
 
     -- where it was associated here, the driver has it already
     has_it : IsItsOwn → IsSome (aid_at s b sender) → (d : Addr) → aid_at (cleared s b sender) c d ≡ cond (is_row b sender c d) (Some aid.number) (aid_at (cleared s b sender) c d)
@@ -176,22 +166,19 @@ module _ (s : State) (confs : List Conf) (conf : Conf) (b : Bssid) (kind : Kind)
           | inr apart ↦ another (first_false (eq_by_cmp bssid_cmp c b) (eq_by_cmp addr_cmp d sender) apart)
         ]
 
-    installed : IsItsOwn → (d : Addr) → driven (outs_to (Radio c) (installation s b sender aid ++ response ∷ [])) before d ≡ cond (is_row b sender c d) (Some aid.number) (aid_at (cleared s b sender) c d)
+    installed : IsItsOwn → (d : Addr) → left_by c d (installation s b sender aid) (aid_at (cleared s b sender) c d) ≡ cond (is_row b sender c d) (Some aid.number) (aid_at (cleared s b sender) c d)
     installed own d =
-        elim (is_some (aid_at s b sender)) as (λ t. is_some (aid_at s b sender) ≡ t → driven (outs_to (Radio c) (cond t [] ((Radio b, Install sender aid) ∷ []) ++ response ∷ [])) before d ≡ cond (is_row b sender c d) (Some aid.number) (aid_at (cleared s b sender) c d)) [
-          | true ↦ λ e. ap (λ (m : DriverMap). m d) (driven_sent c (association_response conf b kind sender Success (Some aid)) [] before) ∙ let_go d ∙ has_it own e d
-          | false ↦ λ e.
-              ap (λ (m : DriverMap). m d) (driven_installed c b sender aid (response ∷ []) before ∙ driven_sent c (association_response conf b kind sender Success (Some aid)) [] (cond (eq_by_cmp bssid_cmp c b) (driven_by (Install sender aid) before) before))
-              ∙ one_installed c b sender aid before d
-              ∙ ap (λ o. cond (is_row b sender c d) (Some aid.number) o) (let_go d)
+        elim (is_some (aid_at s b sender)) as (λ t. is_some (aid_at s b sender) ≡ t → left_by c d (cond t [] ((Radio b, Install sender aid) ∷ [])) (aid_at (cleared s b sender) c d) ≡ cond (is_row b sender c d) (Some aid.number) (aid_at (cleared s b sender) c d)) [
+          | true ↦ λ e. has_it own e d
+          | false ↦ λ e. refl
         ] refl
 
     pub associated_follows : IsItsOwn → Follows c s answered
     associated_follows own d =
         let gone = outs_elsewhere confs sender (elsewhere s b sender) in
-        let rest = installation s b sender aid ++ response ∷ [] in
-        ap (λ outs. driven (outs_to (Radio c) outs) (aid_at s c) d) (append_assoc gone (installation s b sender aid) (response ∷ []))
-        ∙ ap (λ outs. driven outs (aid_at s c) d) (outs_to-append (Radio c) gone rest)
-        ∙ ap (λ (m : DriverMap). m d) (driven-append (outs_to (Radio c) gone) (outs_to (Radio c) rest) (aid_at s c))
+        let taken_in = installation s b sender aid in
+        left_by-append c d (gone ++ taken_in) (sent (association_response conf b kind sender Success (Some aid)) ∷ []) (aid_at s c d)
+        ∙ left_by-append c d gone taken_in (aid_at s c d)
+        ∙ ap (left_by c d taken_in) (let_go d)
         ∙ installed own d
         ∙ sym (associated_aid c d)

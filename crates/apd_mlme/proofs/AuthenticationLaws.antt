@@ -1,5 +1,5 @@
 -- What an authentication request leaves.
-use Rattle.std.proofs.Common.{◌≡◌, ℕ, ◌<◌, Bool, true, false, cond, not, ◌&&◌, eqb, leb, [], ◌∷◌, Option, Some, None, inl, inr, refl, sym, ap, ◌∙◌, IsSome, arith}
+use Rattle.std.proofs.Common.{◌≡◌, ◌≢◌, ℕ, ◌<◌, ◌≤◌, Bool, true, false, cond, not, ◌&&◌, eqb, leb, [], ◌∷◌, Option, Some, None, inl, inr, refl, sym, ap, subst, ◌∙◌, IsSome, arith}
 use Rattle.std.specs.Option.{is_some}
 use Rattle.std.specs.List.{AllByRecursion}
 use Rattle.std.specs.FinMap as map
@@ -14,7 +14,7 @@ use Rattle.apd_base.proofs.AddrLaws.{station_total, station_exact}
 use Rattle.apd_base.proofs.MapLaws.{one_or_apart, apart, get_inserted, get_insert_other}
 use Rattle.apd_frame.specs.declared.received.Authentication.{Authentication}
 use Rattle.apd_frame.specs.declared.codes.Status.{Status}
-use Rattle.apd_frame.specs.declared.codes.Status.TheVariants.{Success, RefusedReasonUnspecified, NotSupportedAuthAlgorithm, TransactionSequenceError, DeniedNoMoreStas}
+use Rattle.apd_frame.specs.declared.codes.Status.TheVariants.{Success, RefusedReasonUnspecified, NotSupportedAuthAlgorithm, TransactionSequenceError, DeniedNoMoreStas, DeniedListenIntervalTooLarge}
 use Rattle.apd_conf.specs.declared.conf.Conf.{Conf}
 use Rattle.apd_conf.specs.Auth.{allows_open}
 use Rattle.apd_table.specs.Allowed.{allowed}
@@ -26,9 +26,10 @@ use Rattle.apd_table.proofs.Put.{sound_put}
 use Rattle.apd_mlme.specs.Authentication.{is_known, station_limit, is_full, refusals, auth_status, is_admitted, auth_verdict, auth_response}
 use Rattle.apd_mlme.specs.Outs.{sent}
 use Rattle.apd_mlme.specs.Refusals.{is_success}
+use Rattle.apd_mlme.specs.Room.{IsRoomKept}
 use Rattle.apd_mlme.specs.Told.{IsOpenSystem, IsFirst, IsAllowed, IsDeserved, IsToldTruly}
-use Rattle.apd_mlme.proofs.RefusalLaws.{none_holds, not_and, status_success}
-use Rattle.apd_base.proofs.Cases.{both_true, differ, no_value, not_false, not_yes}
+use Rattle.apd_mlme.proofs.RefusalLaws.{none_holds, not_and, not_less, status_success}
+use Rattle.apd_base.proofs.Cases.{both_true, differ, no_value, none_is, not_false, not_yes}
 use Rattle.apd_mlme.specs.Verdict.{Verdict}
 
 room : (o : Option Policy) (n : ℕ) → leb (station_limit o) n ≡ false → n < 2007
@@ -159,3 +160,26 @@ module _ (s : State) (conf : Conf) (b : Bssid) (request : Authentication) where
       policies = refl;
     }
   ] refl
+
+  -- ---- room
+  -- whoever asks as it must, is allowed and finds room deserves success alone
+  one_status : (status : Status) → Deserves status → IsAllowed s conf b request → count s b < station_limit (policy_at s b) → status ≡ Success
+  one_status Success so may few = refl
+  one_status NotSupportedAuthAlgorithm so may few = absurd (so may.0.0)
+  one_status TransactionSequenceError so may few = absurd (so.1 may.0.1)
+  one_status RefusedReasonUnspecified so may few = absurd (so.1 may.1)
+  one_status DeniedNoMoreStas so may few = absurd (not_less (count s b) (station_limit (policy_at s b)) few so.2)
+  one_status DeniedListenIntervalTooLarge so may few = absurd so
+
+  -- a new station that finds none doesn't deserve it
+  no_success : station_limit (policy_at s b) ≤ count s b → station_at s b request.sender ≡ None → (status : Status) → Deserves status → status ≢ Success
+  no_success many none status so good = elim (subst Deserves good so).1 [
+    | inl known ↦ none_is (station_at s b request.sender) none known
+    | inr few ↦ not_less (count s b) (station_limit (policy_at s b)) few many
+  ]
+
+  pub room_kept : (policy : Policy) → policy_at s b ≡ Some policy → IsRoomKept s conf b policy request (auth_verdict s conf b request)
+  room_kept policy is = record {
+    full = λ many none. auth_told.refused (no_success (subst (λ o. station_limit o ≤ count s b) (sym is) many) none auth_told.status auth_told.deserved);
+    room = λ few may. auth_told.success (one_status auth_told.status auth_told.deserved may (subst (λ o. count s b < station_limit o) (sym is) few));
+  }

@@ -27,19 +27,16 @@ use Rattle.apd_table.proofs.Denied.{drops, meaning_of-append, drops_lists, drops
 use Rattle.apd_table.proofs.ListChanges.{sound_add, sound_take, sound_clear}
 use Rattle.apd_mlme.specs.declared.answer.Answer.{Answer}
 use Rattle.apd_mlme.specs.declared.answer.Answer.TheVariants.{Done, Refused}
-use Rattle.apd_mlme.specs.declared.decision.Recipient.TheVariants.{Radio}
 use Rattle.apd_mlme.specs.declared.event.Edit.{Edit}
 use Rattle.apd_mlme.specs.declared.event.Edit.TheVariants.{Add, Remove, Clear}
 use Rattle.apd_base.specs.declared.address.TheConstants.{BROADCAST}
 use Rattle.apd_mlme.specs.Commands.{text, answered, farewell, deauthenticated, disassociated, all_kicked, kicked, change_of, left_under, edited, list_edit_verdict}
 use Rattle.apd_mlme.specs.Configuration.{stays}
-use Rattle.apd_mlme.specs.Driver.{DriverMap, driven}
 use Rattle.apd_mlme.specs.Leaving.{outs_of_drop, removal}
-use Rattle.apd_mlme.specs.Outs.{outs_to, sent}
+use Rattle.apd_mlme.specs.Outs.{sent}
 use Rattle.apd_mlme.specs.Verdict.{Verdict, nothing}
-use Rattle.apd_mlme.proofs.DriverLaws.{driven_sent}
+use Rattle.apd_mlme.proofs.DriverLaws.{left_by-append}
 use Rattle.apd_mlme.proofs.DropsLaws.{drop_lets_go, removal_lets_go, kept_stations, kept_driver, denied_leave, all_leave, is_elsewhere}
-use Rattle.apd_mlme.proofs.OutsLaws.{outs_to-append, driven-append}
 use Rattle.apd_mlme.proofs.RowLaws.{Follows}
 
 -- ---- the cases of a kick, by its frame: all stations, or one
@@ -189,18 +186,13 @@ module _ (s : State) (b : Bssid) (w : Which) (sound : Sound s) where
 -- ---- the drivers follow
 -- an answer is not for them
 pub answered_follows : (c : Bssid) (s : State) (tag : ℕ) (answer : Answer) (v : Verdict) → Follows c s v → Follows c s (answered tag answer v)
-answered_follows c s tag answer v follows d =
-    ap (λ outs. driven outs (aid_at s c) d) (outs_to-append (Radio c) v.outs (text tag answer ∷ []) ∙ append-nil (outs_to (Radio c) v.outs))
-    ∙ follows d
+answered_follows c s tag answer v follows d = left_by-append c d v.outs (text tag answer ∷ []) (aid_at s c d) ∙ follows d
 
 module _ (c : Bssid) (s : State) (b : Bssid) where
   pub all_follows : (reason : Reason) (t : Bool) → Follows c s (all_kicked s b reason t)
   all_follows reason t d =
       let all = addresses_at s b in
-      let frame = farewell b BROADCAST reason t in
-      let removals = flat_map (removal s b) all in
-      ap (λ outs. driven outs (aid_at s c) d) (outs_to-append (Radio c) removals (sent frame ∷ []))
-      ∙ ap (λ (m : DriverMap). m d) (driven-append (outs_to (Radio c) removals) (outs_to (Radio c) (sent frame ∷ [])) (aid_at s c) ∙ driven_sent c frame [] (driven (outs_to (Radio c) removals) (aid_at s c)))
+      left_by-append c d (flat_map (removal s b) all) (sent (farewell b BROADCAST reason t) ∷ []) (aid_at s c d)
       ∙ kept_driver s b (is_elsewhere s b) all (all_leave s b) (removal s b) (removal_lets_go s b) c d
 
   pub edited_follows : (w : Which) (edit : Edit) (o : Option Policy) → Follows c s (edited_under s b w edit o)

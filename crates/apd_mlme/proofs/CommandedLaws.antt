@@ -1,11 +1,11 @@
 -- What the answer to a control command says is so.
 use Rattle.std.proofs.Common.{◌≡◌, ◌≢◌, ℕ, Bool, true, false, cond, not, ◌&&◌, ◌||◌, List, [], ◌∷◌, ◌++◌, Option, Some, None, ◌⊎◌, inl, inr, refl, sym, ap, subst, ◌∙◌, IsSome, arith}
 use Rattle.std.specs.Prelude.{map as list_map, filter, ◌↔◌}
-use Rattle.std.specs.List.{flat_map}
+use Rattle.std.specs.List.{flat_map, Contains}
 use Rattle.std.specs.Option.{is_some}
 use Rattle.std.specs.Ordering.{eq_by_cmp}
 use Rattle.std.proofs.lemmas.Bool.{and_parts, leb-true}
-use Rattle.std.proofs.lemmas.List.Elements.{Contains-append_left}
+use Rattle.std.proofs.lemmas.List.Elements.{Contains-append_left, Contains-append_right, Contains-push}
 use Rattle.apd_base.specs.declared.address.Addr.{Addr}
 use Rattle.apd_base.specs.declared.address.Bssid.{Bssid}
 use Rattle.apd_base.specs.declared.station.Policy.{Policy}
@@ -306,3 +306,12 @@ module _ (s : State) (confs : List Conf) (sound : Sound s) where
 
 pub verdict_answered : (s : State) (confs : List Conf) (h : Happening) → IsFit s confs h → Sound s → IsAnsweredTo s h (verdict s confs h)
 verdict_answered s confs h fit sound = under_answered s confs sound h (conf_at confs (bssid_of h)) refl fit
+
+-- the frame of a command leaves, with its reason
+pub kick_tells : (s : State) (confs : List Conf) (b : Bssid) (to : Addr) (reason : Reason) (deauth : Bool) (tag : ℕ) (o : Option Conf) → IsSome o → Contains (verdict_under s confs o (Kick b to reason deauth tag)).outs (sent (farewell b to reason deauth))
+kick_tells s confs b to reason deauth tag None there = cc
+kick_tells s confs b to reason deauth tag (Some conf) there =
+    let frame = sent (farewell b to reason deauth) in
+    let kicked_so = kick_done s b to reason tag deauth in
+    subst (λ outs. Contains outs frame) (sym kicked_so.told)
+    (Contains-append_right (list_map (lets_go b) kicked_so.removed) (frame ∷ text tag Done ∷ []) frame (Contains-append_left (frame ∷ []) (text tag Done ∷ []) frame (Contains-push [] frame)))

@@ -1,10 +1,8 @@
 -- What it leaves that several stations of a BSSID are dropped, one after the other.
-use Rattle.std.proofs.Common.{◌≡◌, Bool, true, false, cond, not, ◌&&◌, ◌||◌, List, [], ◌∷◌, ◌++◌, Option, Some, None, inl, inr, refl, sym, ap, subst, ◌∙◌, IsSome}
-use Rattle.std.specs.Prelude.{map as list_map}
+use Rattle.std.proofs.Common.{◌≡◌, ℕ, Bool, true, false, cond, not, ◌&&◌, ◌||◌, List, [], ◌∷◌, ◌++◌, Option, Some, None, inl, inr, refl, sym, ap, subst, ◌∙◌, IsSome}
 use Rattle.std.specs.List.{flat_map}
 use Rattle.std.specs.Option.{is_some}
 use Rattle.std.specs.Ordering.{eq_by_cmp}
-use Rattle.std.specs.Cmp.{eq_by_cmp_equiv}
 use Rattle.std.proofs.lemmas.Bool.{and_parts}
 use Rattle.std.specs.FinMap as map
 use Rattle.std.specs.FinMap.{FinMap, get-retain_keys, same_map}
@@ -14,7 +12,7 @@ use Rattle.apd_base.specs.declared.station.AclMode.{AclMode}
 use Rattle.apd_base.specs.declared.station.Station.{Station}
 use Rattle.apd_base.specs.Addr.{addr_cmp, bssid_cmp, station_cmp, is_among}
 use Rattle.apd_base.specs.State.{State, station_at, aid_of, aid_at}
-use Rattle.apd_base.proofs.AddrLaws.{addr_total, addr_exact, bssid_total, bssid_exact, station_total, station_exact, other_way}
+use Rattle.apd_base.proofs.AddrLaws.{bssid_total, bssid_exact, station_total, station_exact, other_way, same_addr}
 use Rattle.apd_base.proofs.MapLaws.{one_or_apart, tied}
 use Rattle.apd_frame.specs.declared.codes.Reason.{Reason}
 use Rattle.apd_record.specs.Meaning.{meaning_of}
@@ -27,10 +25,9 @@ use Rattle.apd_mlme.specs.declared.decision.Recipient.TheVariants.{Radio}
 use Rattle.apd_mlme.specs.declared.decision.Out.{Out}
 use Rattle.apd_mlme.specs.declared.decision.Out.TheVariants.{Remove}
 use Rattle.apd_mlme.specs.Configuration.{stays}
-use Rattle.apd_mlme.specs.Driver.{driven, DriverMap}
 use Rattle.apd_mlme.specs.Leaving.{deauthentication, outs_of_drop, removal}
-use Rattle.apd_mlme.specs.Outs.{outs_to, sent}
-use Rattle.apd_mlme.proofs.OutsLaws.{outs_to-append, driven-append}
+use Rattle.apd_mlme.specs.Outs.{sent}
+use Rattle.apd_mlme.proofs.DriverLaws.{left_by, left_by-append}
 use Rattle.apd_base.proofs.Cases.{differ, none_is}
 
 nothing_taken : {A : Type 0} (t w : Bool) (o : Option A) → o ≡ cond (t && (w && false)) None o
@@ -64,47 +61,36 @@ never false false = refl
 module _ (s : State) (b : Bssid) where
   -- outs for each station that take it out of the driver's map, where it was associated
   abbrev pub LetsGo : (Addr → List (Recipient × Out)) → Type 0
-  LetsGo outs_of = (a : Addr) (c : Bssid) (m : DriverMap) (d : Addr) →
-      driven (outs_to (Radio c) (outs_of a)) m d ≡ cond (eq_by_cmp bssid_cmp c b && (is_some (aid_at s b a) && eq_by_cmp addr_cmp a d)) None (m d)
-
-  pub drop_lets_go : (reason : Reason) → LetsGo (λ a. outs_of_drop s b a reason)
-  drop_lets_go reason a c m d =
-      let frame = sent (deauthentication b a reason) in
-      elim (is_some (aid_at s b a)) as (λ u. driven (outs_to (Radio c) ((cond u ((Radio b, Remove a) ∷ []) []) ++ frame ∷ [])) m d ≡ cond (eq_by_cmp bssid_cmp c b && (u && eq_by_cmp addr_cmp a d)) None (m d)) [
-        | true ↦ elim (eq_by_cmp bssid_cmp c b) as (λ t. driven (list_map (λ (z : Recipient × Out). z.1) (cond t ((Radio b, Remove a) ∷ cond t (frame ∷ []) []) (cond t (frame ∷ []) []))) m d ≡ cond (t && eq_by_cmp addr_cmp a d) None (m d)) [ true ↦ refl | false ↦ refl ]
-        | false ↦ elim (eq_by_cmp bssid_cmp c b) as (λ t. driven (list_map (λ (z : Recipient × Out). z.1) (cond t (frame ∷ []) [])) m d ≡ cond (t && false) None (m d)) [ true ↦ refl | false ↦ refl ]
-      ]
+  LetsGo outs_of = (a : Addr) (c : Bssid) (d : Addr) (o : Option ℕ) → left_by c d (outs_of a) o ≡ cond (eq_by_cmp bssid_cmp c b && (is_some (aid_at s b a) && eq_by_cmp addr_cmp d a)) None o
 
   pub removal_lets_go : LetsGo (removal s b)
-  removal_lets_go a c m d =
-      elim (is_some (aid_at s b a)) as (λ u. driven (outs_to (Radio c) (cond u ((Radio b, Remove a) ∷ []) [])) m d ≡ cond (eq_by_cmp bssid_cmp c b && (u && eq_by_cmp addr_cmp a d)) None (m d)) [
-        | true ↦ elim (eq_by_cmp bssid_cmp c b) as (λ t. driven (list_map (λ (z : Recipient × Out). z.1) (cond t ((Radio b, Remove a) ∷ []) [])) m d ≡ cond (t && eq_by_cmp addr_cmp a d) None (m d)) [ true ↦ refl | false ↦ refl ]
-        | false ↦ elim (eq_by_cmp bssid_cmp c b) as (λ t. m d ≡ cond (t && false) None (m d)) [ true ↦ refl | false ↦ refl ]
+  removal_lets_go a c d o =
+      elim (is_some (aid_at s b a)) as (λ u. left_by c d (cond u ((Radio b, Remove a) ∷ []) []) o ≡ cond (eq_by_cmp bssid_cmp c b && (u && eq_by_cmp addr_cmp d a)) None o) [
+        | true ↦ refl
+        | false ↦ elim (eq_by_cmp bssid_cmp c b) as (λ t. o ≡ cond (t && false) None o) [ true ↦ refl | false ↦ refl ]
       ]
 
-  same_station : (a d : Addr) → (is_some (aid_at s b a) && eq_by_cmp addr_cmp a d) ≡ (is_some (aid_at s b d) && eq_by_cmp addr_cmp d a)
+  pub drop_lets_go : (reason : Reason) → LetsGo (λ a. outs_of_drop s b a reason)
+  drop_lets_go reason a c d o = left_by-append c d (removal s b a) (sent (deauthentication b a reason) ∷ []) o ∙ removal_lets_go a c d o
+
+  same_station : (a d : Addr) → (is_some (aid_at s b a) && eq_by_cmp addr_cmp d a) ≡ (is_some (aid_at s b d) && eq_by_cmp addr_cmp d a)
   same_station a d =
-      elim (one_or_apart addr_total addr_exact a d) [
-        | inl same ↦ (λ i. is_some (aid_at s b (same i)) && eq_by_cmp addr_cmp (same i) d) ∙ ap (λ z. is_some (aid_at s b d) && eq_by_cmp addr_cmp d z) (sym same)
-        | inr apart ↦ ap (λ t. is_some (aid_at s b a) && t) apart ∙ never (is_some (aid_at s b a)) (is_some (aid_at s b d))
-            ∙ ap (λ t. is_some (aid_at s b d) && t) (sym ((eq_by_cmp_equiv addr_total).symm d a ∙ apart))
-      ]
+      elim (eq_by_cmp addr_cmp d a) as (λ t. eq_by_cmp addr_cmp d a ≡ t → (is_some (aid_at s b a) && t) ≡ (is_some (aid_at s b d) && t)) [
+        | true ↦ λ e. ap (λ x. is_some (aid_at s b x) && true) (sym (same_addr a d e))
+        | false ↦ λ e. never (is_some (aid_at s b a)) (is_some (aid_at s b d))
+      ] refl
 
   -- those of several stations take all of them out
-  module _ (outs_of : Addr → List (Recipient × Out)) (go : LetsGo outs_of) where
-    all_let_go : (as' : List Addr) (c : Bssid) (m : DriverMap) (d : Addr) →
-        driven (outs_to (Radio c) (flat_map outs_of as')) m d ≡ cond (eq_by_cmp bssid_cmp c b && (is_some (aid_at s b d) && is_among d as')) None (m d)
-    all_let_go [] c m d = nothing_taken (eq_by_cmp bssid_cmp c b) (is_some (aid_at s b d)) (m d)
-    all_let_go (a ∷ as') c m d =
-        let first = outs_to (Radio c) (outs_of a) in
-        let here = eq_by_cmp bssid_cmp c b in
-        let one : driven first m d ≡ cond (here && (is_some (aid_at s b d) && eq_by_cmp addr_cmp d a)) None (m d) =
-        go a c m d ∙ ap (λ t. cond (here && t) None (m d)) (same_station a d) in
-        ap (λ outs. driven outs m d) (outs_to-append (Radio c) (outs_of a) (flat_map outs_of as'))
-        ∙ ap (λ (f : DriverMap). f d) (driven-append first (outs_to (Radio c) (flat_map outs_of as')) m)
-        ∙ all_let_go as' c (driven first m) d
-        ∙ ap (λ o. cond (here && (is_some (aid_at s b d) && is_among d as')) None o) one
-        ∙ two_taken here (is_some (aid_at s b d)) (eq_by_cmp addr_cmp d a) (is_among d as') (m d)
+  all_let_go : (outs_of : Addr → List (Recipient × Out)) → LetsGo outs_of → (as' : List Addr) (c : Bssid) (d : Addr) (o : Option ℕ) →
+      left_by c d (flat_map outs_of as') o ≡ cond (eq_by_cmp bssid_cmp c b && (is_some (aid_at s b d) && is_among d as')) None o
+  all_let_go outs_of go [] c d o = nothing_taken (eq_by_cmp bssid_cmp c b) (is_some (aid_at s b d)) o
+  all_let_go outs_of go (a ∷ as') c d o =
+      let here = eq_by_cmp bssid_cmp c b in
+      let known = is_some (aid_at s b d) in
+      left_by-append c d (outs_of a) (flat_map outs_of as') o
+      ∙ all_let_go outs_of go as' c d (left_by c d (outs_of a) o)
+      ∙ ap (λ p. cond (here && (known && is_among d as')) None p) (go a c d o ∙ ap (λ t. cond (here && t) None o) (same_station a d))
+      ∙ two_taken here known (eq_by_cmp addr_cmp d a) (is_among d as') o
 
   -- the rows that a test keeps are those that are left once some stations are dropped
   abbrev pub Leave : (Bssid × Addr → Bool) → List Addr → Type 0
@@ -137,9 +123,9 @@ module _ (s : State) (b : Bssid) where
 
     -- and its driver has not got it
     pub kept_driver : (outs_of : Addr → List (Recipient × Out)) → LetsGo outs_of → (c : Bssid) (d : Addr) →
-        driven (outs_to (Radio c) (flat_map outs_of as')) (aid_at s c) d ≡ aid_of (map.get kept (c, d))
+        left_by c d (flat_map outs_of as') (aid_at s c d) ≡ aid_of (map.get kept (c, d))
     kept_driver outs_of go c d =
-        all_let_go outs_of go as' c (aid_at s c) d
+        all_let_go outs_of go as' c d (aid_at s c d)
         ∙ elim (one_or_apart bssid_total bssid_exact c b) [
           | inl same ↦ subst (λ (z : Bssid). cond (eq_by_cmp bssid_cmp z b && (is_some (aid_at s b d) && is_among d as')) None (aid_at s z d) ≡ cond (eq_by_cmp bssid_cmp z b && is_among d as') None (aid_at s z d)) (sym same)
               (known_or_none (eq_by_cmp bssid_cmp b b) (is_among d as') (aid_at s b d))

@@ -1,5 +1,5 @@
 -- What becomes of a station that is associated at other BSSIDs, as it associates here.
-use Rattle.std.proofs.Common.{◌≡◌, Bool, true, false, cond, not, ◌&&◌, ◌||◌, List, [], ◌∷◌, ◌++◌, Option, Some, None, refl, sym, ap, subst, ◌∙◌, IsSome}
+use Rattle.std.proofs.Common.{◌≡◌, ℕ, Bool, true, false, cond, not, ◌&&◌, ◌||◌, List, [], ◌∷◌, ◌++◌, Option, Some, None, refl, sym, ap, subst, ◌∙◌, IsSome}
 use Rattle.std.specs.Prelude.{filter}
 use Rattle.std.specs.List.{flat_map, list_any}
 use Rattle.std.specs.Option.{is_some}
@@ -22,15 +22,10 @@ use Rattle.apd_record.specs.declared.change.Change.{Change}
 use Rattle.apd_record.specs.Meaning.{put_station, meaning_of}
 use Rattle.apd_table.specs.Sound.{Sound, StaySound}
 use Rattle.apd_mlme.specs.declared.decision.Recipient.{Recipient}
-use Rattle.apd_mlme.specs.declared.decision.Recipient.TheVariants.{Radio}
 use Rattle.apd_mlme.specs.declared.decision.Out.{Out}
-use Rattle.apd_mlme.specs.declared.decision.Out.TheVariants.{Remove}
 use Rattle.apd_mlme.specs.Association.{elsewhere, with_authenticated, put_backs, outs_elsewhere}
-use Rattle.apd_mlme.specs.Driver.{DriverMap, driven, driven_by}
-use Rattle.apd_mlme.specs.Leaving.{disassociation, outs_of_end}
-use Rattle.apd_mlme.specs.Outs.{outs_to, sent}
-use Rattle.apd_mlme.proofs.DriverLaws.{is_row, station_put, driven_sent, driven_removed, one_removed}
-use Rattle.apd_mlme.proofs.OutsLaws.{outs_to-append, driven-append}
+use Rattle.apd_mlme.specs.Leaving.{outs_of_end}
+use Rattle.apd_mlme.proofs.DriverLaws.{is_row, station_put, left_by}
 use Rattle.apd_mlme.proofs.RowLaws.{sound_put_back}
 use Rattle.apd_base.proofs.Cases.{second_true}
 
@@ -98,28 +93,19 @@ put_backs_stay a (x ∷ bssids) rest s rows sound h =
 -- ---- the outs
 
 -- each of these BSSIDs lets the station go
-module _ (c : Bssid) (a : Addr) where
+module _ (c : Bssid) (a d : Addr) where
   abbrev end_at : Bssid → List (Recipient × Out)
   end_at x = outs_of_end x a UNSPECIFIED
 
-  one_end : (x : Bssid) (m : DriverMap) (d : Addr) → driven (outs_to (Radio c) (end_at x)) m d ≡ cond (eq_by_cmp bssid_cmp c x && eq_by_cmp addr_cmp d a) None (m d)
-  one_end x m d =
-      ap (λ (f : DriverMap). f d) (driven_removed c x a (sent (disassociation x a UNSPECIFIED) ∷ []) m ∙ driven_sent c (disassociation x a UNSPECIFIED) [] (cond (eq_by_cmp bssid_cmp c x) (driven_by (Remove a) m) m))
-      ∙ one_removed c x a m d
-
-  pub all_end : (bssids : List Bssid) (m : DriverMap) (d : Addr) → driven (outs_to (Radio c) (flat_map end_at bssids)) m d ≡ cond (is_bssid_among c bssids && eq_by_cmp addr_cmp d a) None (m d)
-  all_end [] m d = refl
-  all_end (x ∷ bssids) m d =
-      let first = outs_to (Radio c) (end_at x) in
-      ap (λ outs. driven outs m d) (outs_to-append (Radio c) (end_at x) (flat_map end_at bssids))
-      ∙ ap (λ (f : DriverMap). f d) (driven-append first (outs_to (Radio c) (flat_map end_at bssids)) m)
-      ∙ all_end bssids (driven first m) d
-      ∙ ap (λ o. cond (is_bssid_among c bssids && eq_by_cmp addr_cmp d a) None o) (one_end x m d)
-      ∙ two_put (eq_by_cmp addr_cmp d a) (eq_by_cmp bssid_cmp c x) (is_bssid_among c bssids) None (m d)
+  all_end : (bssids : List Bssid) (o : Option ℕ) → left_by c d (flat_map end_at bssids) o ≡ cond (is_bssid_among c bssids && eq_by_cmp addr_cmp d a) None o
+  all_end [] o = refl
+  all_end (x ∷ bssids) o =
+      all_end bssids (cond (is_row x a c d) None o)
+      ∙ two_put (eq_by_cmp addr_cmp d a) (eq_by_cmp bssid_cmp c x) (is_bssid_among c bssids) None o
 
   -- those that are configured
-  pub elsewhere_driven : (confs : List Conf) → IsSome (conf_at confs c) → (bssids : List Bssid) (m : DriverMap) (d : Addr) →
-      driven (outs_to (Radio c) (outs_elsewhere confs a bssids)) m d ≡ cond (is_bssid_among c bssids && eq_by_cmp addr_cmp d a) None (m d)
-  elsewhere_driven confs configured bssids m d =
-      all_end (filter (λ x. is_some (conf_at confs x)) bssids) m d
-      ∙ ap (λ t. cond (t && eq_by_cmp addr_cmp d a) None (m d)) (among-filter (λ x. is_some (conf_at confs x)) c bssids ∙ ap (λ t. t && is_bssid_among c bssids) configured)
+  pub elsewhere_driven : (confs : List Conf) → IsSome (conf_at confs c) → (bssids : List Bssid) (o : Option ℕ) →
+      left_by c d (outs_elsewhere confs a bssids) o ≡ cond (is_bssid_among c bssids && eq_by_cmp addr_cmp d a) None o
+  elsewhere_driven confs configured bssids o =
+      all_end (filter (λ x. is_some (conf_at confs x)) bssids) o
+      ∙ ap (λ t. cond (t && eq_by_cmp addr_cmp d a) None o) (among-filter (λ x. is_some (conf_at confs x)) c bssids ∙ ap (λ t. t && is_bssid_among c bssids) configured)

@@ -17,12 +17,10 @@ use Rattle.apd_table.specs.Allowed.{allowed, allowed_in, allowed_under, denied_b
 use Rattle.apd_table.specs.Sound.{Sound, StaySound}
 use Rattle.apd_table.proofs.PolicySet.{policy_here, policy_elsewhere}
 use Rattle.apd_table.proofs.Denied.{drops, meaning_of-append, drops_lists, drops_policies, drops_sound, drops_stay, sound_set_dropped}
-use Rattle.apd_mlme.specs.declared.decision.Recipient.TheVariants.{Radio}
 use Rattle.apd_mlme.specs.Configuration.{later_start, stays}
-use Rattle.apd_mlme.specs.Driver.{driven}
 use Rattle.apd_mlme.specs.Leaving.{outs_of_drop}
-use Rattle.apd_mlme.specs.Outs.{outs_to}
 use Rattle.apd_mlme.specs.Started.{IsStarted}
+use Rattle.apd_mlme.proofs.DriverLaws.{left_by}
 use Rattle.apd_mlme.proofs.DropsLaws.{drop_lets_go, kept_row, kept_stations, kept_aid, kept_driver, dropped_gone, denied_leave}
 use Rattle.apd_base.proofs.Cases.{none_is}
 
@@ -48,7 +46,7 @@ module _ (s : State) (conf : Conf) (b : Bssid) where
   pub denied_gone : (d : Addr) → is_among d denied ≡ true → station_at (later_start s conf b).state b d ≡ None
   denied_gone = dropped_gone s b stay denied (denied_leave s b conf.macaddr_acl)
 
-  pub later_driver : (c : Bssid) (d : Addr) → driven (outs_to (Radio c) (later_start s conf b).outs) (aid_at s c) d ≡ aid_at (later_start s conf b).state c d
+  pub later_driver : (c : Bssid) (d : Addr) → left_by c d (later_start s conf b).outs (aid_at s c d) ≡ aid_at (later_start s conf b).state c d
   later_driver = kept_driver s b stay denied (denied_leave s b conf.macaddr_acl) (λ a. outs_of_drop s b a UNSPECIFIED) (drop_lets_go s b UNSPECIFIED)
 
   -- at the BSSID: the stations that the new policy allows stay

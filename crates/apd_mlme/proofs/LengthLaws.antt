@@ -1,5 +1,5 @@
 -- How many bytes the records of a verdict have.
-use Rattle.std.proofs.Common.{◌≡◌, suc, arith, ◌+◌, ◌*◌, ◌≤◌, Bool, true, false, cond, ◌&&◌, not, List, [], ◌∷◌, ◌++◌, Option, Some, None, Result, Ok, Err, IfOk, length, refl, sym, ap, subst, ◌∙◌, append-nil}
+use Rattle.std.proofs.Common.{◌≡◌, arith, ◌+◌, ◌*◌, ◌≤◌, Bool, true, false, cond, ◌&&◌, not, List, [], ◌∷◌, ◌++◌, Option, Some, None, Result, Ok, Err, IfOk, length, refl, sym, ap, subst, ◌∙◌}
 use Rattle.std.specs.Option.{is_some}
 use Rattle.std.specs.Prelude.{filter}
 use Rattle.std.specs.Ordering.{eq_by_cmp}
@@ -15,7 +15,7 @@ use Rattle.apd_base.specs.declared.station.Policy.{Policy as BssPolicy}
 use Rattle.apd_base.specs.declared.station.Which.{Which}
 use Rattle.apd_base.specs.declared.station.Which.TheVariants.{Accept, Deny}
 use Rattle.apd_base.specs.declared.station.Station.{Station}
-use Rattle.apd_base.specs.declared.station.Station.TheVariants.{Authenticated, Associated}
+use Rattle.apd_base.specs.declared.station.Station.TheVariants.{Authenticated}
 use Rattle.apd_base.specs.Addr.{bssid_cmp}
 use Rattle.apd_base.specs.Mode.{mode_number}
 use Rattle.apd_base.specs.State.{State, aid_at, which_number, count}
@@ -29,7 +29,8 @@ use Rattle.apd_frame.specs.Contents.{AssociationRequest}
 use Rattle.apd_record.specs.Ranges.{IsChange, AreChanges}
 use Rattle.apd_record.specs.Record.{station_bytes, record_of, records_of}
 use Rattle.apd_record.specs.declared.change.Change.{Change}
-use Rattle.apd_record.specs.declared.change.Change.TheVariants.{Put, Drop, ListAdd, ListDel, ListClear, Policy}
+use Rattle.apd_record.specs.declared.change.Change.TheVariants.{Put, Drop, ListAdd, Policy}
+use Rattle.apd_record.proofs.Lengths.{station_length, records_length-append, records_length-push}
 use Rattle.apd_table.specs.Addresses.{addresses_at}
 use Rattle.apd_table.specs.Allowed.{allowed_in, denied_by, is_denied_row}
 use Rattle.apd_table.specs.Rows.{is_row_of}
@@ -80,148 +81,71 @@ module _ (s : State) (b : Bssid) where
       let shorter = fewer here (λ row. not (allowed_in s b row.0.1 mode)) (map.entries s.stations) in
       rw (length-map (filter (is_denied_row s b mode) (map.entries s.stations)) (λ row. row.0.1)) (rw counted shorter)
 
--- how long the records are that a verdict has
+-- ---- each record
 drop_length : (b : Bssid) (a : Addr) → IsChange (Drop b a) → length (record_of (Drop b a)) ≡ 13
-drop_length b a known =
-    let whole : length (record_of (Drop b a)) ≡ suc (length (b.0.0 ++ a.0)) = refl in
-    let parts = length-append b.0.0 a.0 in
-    let first = known.0.0 in
-    let second = known.1.0 in
-    omega arith
+drop_length b a known = omega (arith, length-append b.0.0 a.0, known.0.0, known.1.0)
 
 policy_length : (b : Bssid) (p : BssPolicy) → IsChange (Policy b p) → length (record_of (Policy b p)) ≡ 10
-policy_length b p known =
-    let fields = mode_number p.mode ∷ to_le_bytes w16 p.max.count in
-    let whole : length (record_of (Policy b p)) ≡ suc (length (b.0.0 ++ fields)) = refl in
-    let parts = length-append b.0.0 fields in
-    let three : length fields ≡ 3 = refl in
-    let first = known.0 in
-    omega arith
-
-seven_bytes : (station : Station) → length (station_bytes station) ≡ 7
-seven_bytes Authenticated = refl
-seven_bytes (Associated x) = refl
+policy_length b p known = omega (arith, length-append b.0.0 (mode_number p.mode ∷ to_le_bytes w16 p.max.count), known.0)
 
 put_length : (b : Bssid) (a : Addr) (station : Station) → IsChange (Put b a station) → length (record_of (Put b a station)) ≡ 20
-put_length b a station known =
-    let whole : length (record_of (Put b a station)) ≡ suc (length (b.0.0 ++ a.0 ++ station_bytes station)) = refl in
-    let all = length-append (b.0.0 ++ a.0) (station_bytes station) in
-    let parts = length-append b.0.0 a.0 in
-    let seven = seven_bytes station in
-    let first = known.0.0 in
-    let second = known.1.0 in
-    omega arith
-
-put_backs_length : (a : Addr) (bssids : List Bssid) (rest : List Change) → AreChanges (put_backs a bssids ++ rest) → length (records_of (put_backs a bssids ++ rest)) ≡ 20 * length bssids + length (records_of rest)
-put_backs_length a [] rest known = let none : length {A = Bssid} [] ≡ 0 = refl in omega arith
-put_backs_length a (b ∷ bssids) rest known =
-    let one = put_length b a Authenticated known.0 in
-    let more = put_backs_length a bssids rest known.1 in
-    let whole = length-append (record_of (Put b a Authenticated)) (records_of (put_backs a bssids ++ rest)) in
-    omega arith
-
-drops_length : (b : Bssid) (as' : List Addr) (rest : List Change) → AreChanges (drops b as' ++ rest) → length (records_of (drops b as' ++ rest)) ≡ 13 * length as' + length (records_of rest)
-drops_length b [] rest known = let none : length {A = Addr} [] ≡ 0 = refl in omega arith
-drops_length b (a ∷ as') rest known =
-    let one = drop_length b a known.0 in
-    let more = drops_length b as' rest known.1 in
-    let whole = length-append (record_of (Drop b a)) (records_of (drops b as' ++ rest)) in
-    omega arith
+put_length b a station known = omega (arith, length-append (b.0.0 ++ a.0) (station_bytes station), length-append b.0.0 a.0, station_length station, known.0.0, known.1.0)
 
 add_length : (b : Bssid) (w : Which) (a : Addr) → IsChange (ListAdd b w a) → length (record_of (ListAdd b w a)) ≡ 14
-add_length b w a known =
-    let whole : length (record_of (ListAdd b w a)) ≡ suc (length (b.0.0 ++ which_number w ∷ a.0)) = refl in
-    let parts = length-append b.0.0 (which_number w ∷ a.0) in
-    let more : length (which_number w ∷ a.0) ≡ suc (length a.0) = refl in
-    let first = known.0.0 in
-    let second = known.1.0 in
-    omega arith
+add_length b w a known = omega (arith, length-append b.0.0 (which_number w ∷ a.0), known.0.0, known.1.0)
 
-del_length : (b : Bssid) (w : Which) (a : Addr) → IsChange (ListDel b w a) → length (record_of (ListDel b w a)) ≡ 14
-del_length b w a known =
-    let whole : length (record_of (ListDel b w a)) ≡ suc (length (b.0.0 ++ which_number w ∷ a.0)) = refl in
-    let parts = length-append b.0.0 (which_number w ∷ a.0) in
-    let more : length (which_number w ∷ a.0) ≡ suc (length a.0) = refl in
-    let first = known.0.0 in
-    let second = known.1.0 in
-    omega arith
-
-clear_length : (b : Bssid) (w : Which) → IsChange (ListClear b w) → length (record_of (ListClear b w)) ≡ 8
-clear_length b w known =
-    let whole : length (record_of (ListClear b w)) ≡ suc (length (b.0.0 ++ which_number w ∷ [])) = refl in
-    let parts = length-append b.0.0 (which_number w ∷ []) in
-    let one : length (which_number w ∷ []) ≡ 1 = refl in
-    let first = known.0 in
-    omega arith
-
--- an edit of a list has no more than 14
+-- that of an edit of a list has no more
 edit_length : (b : Bssid) (w : Which) (edit : Edit) → IsChange (change_of b w edit) → length (record_of (change_of b w edit)) ≤ 14
-edit_length b w (Add a) known = let same = add_length b w a known in omega arith
-edit_length b w (Remove a) known = let same = del_length b w a known in omega arith
-edit_length b w Clear known = let same = clear_length b w known in omega arith
+edit_length b w (Add a) known = omega (arith, add_length b w a known)
+edit_length b w (Remove a) known = omega (arith, length-append b.0.0 (which_number w ∷ a.0), known.0.0, known.1.0)
+edit_length b w Clear known = omega (arith, length-append b.0.0 (which_number w ∷ []), known.0)
 
-additions_length : (b : Bssid) (w : Which) (as' : List Addr) (rest : List Change) → AreChanges (additions b w as' ++ rest) → length (records_of (additions b w as' ++ rest)) ≡ 14 * length as' + length (records_of rest)
-additions_length b w [] rest known = let none : length {A = Addr} [] ≡ 0 = refl in omega arith
-additions_length b w (a ∷ as') rest known =
-    let one = add_length b w a known.0 in
-    let more = additions_length b w as' rest known.1 in
-    let whole = length-append (record_of (ListAdd b w a)) (records_of (additions b w as' ++ rest)) in
-    omega arith
+-- ---- several
+put_backs_length : (a : Addr) (bssids : List Bssid) → AreChanges (put_backs a bssids) → length (records_of (put_backs a bssids)) ≡ 20 * length bssids
+put_backs_length a [] known = refl
+put_backs_length a (b ∷ bssids) known = omega (arith, length-append (record_of (Put b a Authenticated)) (records_of (put_backs a bssids)), put_length b a Authenticated known.0, put_backs_length a bssids known.1)
 
-rest_known : (b : Bssid) (w : Which) (as' : List Addr) (rest : List Change) → AreChanges (additions b w as' ++ rest) → AreChanges rest
-rest_known b w [] rest known = known
-rest_known b w (a ∷ as') rest known = rest_known b w as' rest known.1
+drops_length : (b : Bssid) (as' : List Addr) → AreChanges (drops b as') → length (records_of (drops b as')) ≡ 13 * length as'
+drops_length b [] known = refl
+drops_length b (a ∷ as') known = omega (arith, length-append (record_of (Drop b a)) (records_of (drops b as')), drop_length b a known.0, drops_length b as' known.1)
 
-last_known : (b : Bssid) (as' : List Addr) (x : Change) → AreChanges (drops b as' ++ x ∷ []) → IsChange x
-last_known b [] x known = known.0
-last_known b (a ∷ as') x known = last_known b as' x known.1
+additions_length : (b : Bssid) (w : Which) (as' : List Addr) → AreChanges (additions b w as') → length (records_of (additions b w as')) ≡ 14 * length as'
+additions_length b w [] known = refl
+additions_length b w (a ∷ as') known = omega (arith, length-append (record_of (ListAdd b w a)) (records_of (additions b w as')), add_length b w a known.0, additions_length b w as' known.1)
 
-last_put : (a : Addr) (bssids : List Bssid) (x : Change) → AreChanges (put_backs a bssids ++ x ∷ []) → IsChange x
-last_put a [] x known = known.0
-last_put a (b ∷ bssids) x known = last_put a bssids x known.1
+both_known : (xs ys : List Change) → AreChanges (xs ++ ys) → AreChanges xs × AreChanges ys
+both_known [] ys known = (tt, known)
+both_known (x ∷ xs) ys known = let rest = both_known xs ys known.1 in ((known.0, rest.0), rest.1)
 
+-- ---- what a verdict has
 none_long : length (records_of []) ≤ MAX_RECORDS
 none_long = omega arith
 
 one_put : (b : Bssid) (a : Addr) (station : Station) → AreChanges (Put b a station ∷ []) → length (records_of (Put b a station ∷ [])) ≤ MAX_RECORDS
-one_put b a station known =
-    let one = put_length b a station known.0 in
-    let whole = length-append (record_of (Put b a station)) [] in
-    omega arith
+one_put b a station known = omega (arith, put_length b a station known.0, length-append (record_of (Put b a station)) [])
 
 one_drop : (b : Bssid) (a : Addr) → AreChanges (Drop b a ∷ []) → length (records_of (Drop b a ∷ [])) ≤ MAX_RECORDS
-one_drop b a known =
-    let one = drop_length b a known.0 in
-    let whole = length-append (record_of (Drop b a)) [] in
-    omega arith
+one_drop b a known = omega (arith, drop_length b a known.0, length-append (record_of (Drop b a)) [])
 
 -- a verdict whose changes have few enough bytes, where they can be written
 abbrev pub IsShort : Verdict → Type 0
 IsShort v = AreChanges v.changes → length (records_of v.changes) ≤ MAX_RECORDS
 
 module _ (s : State) where
-  later_length : (conf : Conf) (b : Bssid) → Sound s → AreChanges (later_start s conf b).changes → length (records_of (later_start s conf b).changes) ≤ MAX_RECORDS
+  later_length : (conf : Conf) (b : Bssid) → Sound s → IsShort (later_start s conf b)
   later_length conf b sound known =
       let denied = denied_by s b conf.macaddr_acl in
-      let few = denied_few s b conf.macaddr_acl in
-      let rows = sound.few_stations b in
-      let all = drops_length b denied (Policy b (policy_of conf) ∷ []) known in
-      let last = policy_length b (policy_of conf) (last_known b denied (Policy b (policy_of conf)) known) in
-      let whole = length-append (record_of (Policy b (policy_of conf))) [] in
-      omega arith
+      let policy = Policy b (policy_of conf) in
+      let parts = both_known (drops b denied) (policy ∷ []) known in
+      omega (arith, records_length-push (drops b denied) policy, drops_length b denied parts.0, policy_length b (policy_of conf) parts.1.0, denied_few s b conf.macaddr_acl, sound.few_stations b)
 
   first_length : (conf : Conf) (b : Bssid) (accept deny : List Addr) → IsList accept → IsList deny → AreChanges (first_changes conf b accept deny) → length (records_of (first_changes conf b accept deny)) ≤ MAX_RECORDS
   first_length conf b accept deny accept_list deny_list known =
+      let policy = Policy b (policy_of conf) in
+      let accepts = additions b Accept accept in
       let denials = additions b Deny deny in
-      let first = policy_length b (policy_of conf) known.0 in
-      let more = additions_length b Accept accept denials known.1 in
-      let same = append-nil denials in
-      let last = additions_length b Deny deny [] (subst AreChanges (sym same) (rest_known b Accept accept denials known.1)) in
-      let end : length (records_of (denials ++ [])) ≡ length (records_of denials) = ap (λ changes. length (records_of changes)) same in
-      let whole = length-append (record_of (Policy b (policy_of conf))) (records_of (additions b Accept accept ++ denials)) in
-      let few_accepted = accept_list.few in
-      let few_denied = deny_list.few in
-      omega arith
+      let parts = both_known accepts denials known.1 in
+      omega (arith, length-append (record_of policy) (records_of (accepts ++ denials)), policy_length b (policy_of conf) known.0, records_length-append accepts denials, additions_length b Accept accept parts.0, additions_length b Deny deny parts.1, accept_list.few, deny_list.few)
 
   -- at most one row at each of the eight BSSIDs
   associated_length : (confs : List Conf) (conf : Conf) (b : Bssid) (kind : Kind) (request : AssociationRequest) (aid : Aid) → Sound s → IsShort (rule.associated s confs conf b kind request aid)
@@ -229,40 +153,23 @@ module _ (s : State) where
       let a = request.sender in
       let here = Put b a (row_of request aid) in
       let others = elsewhere s b a in
-      let all = put_backs_length a others (here ∷ []) known in
-      let last = put_length b a (row_of request aid) (last_put a others here known) in
-      let whole = length-append (record_of here) [] in
-      let filtered = length-filter (λ c. not (eq_by_cmp bssid_cmp b c) && is_some (aid_at s c a)) (map.keys s.policies) in
-      let fewer = count_by-le-length (λ c. not (eq_by_cmp bssid_cmp b c) && is_some (aid_at s c a)) (map.keys s.policies) in
+      let is_other = λ (c : Bssid). not (eq_by_cmp bssid_cmp b c) && is_some (aid_at s c a) in
+      let parts = both_known (put_backs a others) (here ∷ []) known in
+      let filtered = length-filter is_other (map.keys s.policies) in
+      let fewer = count_by-le-length is_other (map.keys s.policies) in
       let keys = length-map (map.entries s.policies) (λ row. row.0) in
-      let entries = map.len-entries s.policies in
-      let few = sound.few_bss in
-      omega arith
+      omega (arith, records_length-push (put_backs a others) here, put_backs_length a others parts.0, put_length b a (row_of request aid) parts.1.0, filtered, fewer, keys, map.len-entries s.policies, sound.few_bss)
 
   all_length : (b : Bssid) (reason : Reason) (t : Bool) → Sound s → IsShort (all_kicked s b reason t)
-  all_length b reason t sound known =
-      let all = addresses_at s b in
-      let same = append-nil (drops b all) in
-      let end : length (records_of (drops b all ++ [])) ≡ length (records_of (drops b all)) = ap (λ changes. length (records_of changes)) same in
-      let whole = drops_length b all [] (subst AreChanges (sym same) known) in
-      let none : length (records_of []) ≡ 0 = refl in
-      let few = all_few s b in
-      let rows = sound.few_stations b in
-      omega arith
+  all_length b reason t sound known = omega (arith, drops_length b (addresses_at s b) known, all_few s b, sound.few_stations b)
 
   edited_length : (b : Bssid) (w : Which) (edit : Edit) (o : Option BssPolicy) → Sound s → IsShort (edited_under s b w edit o)
-  edited_length b w edit None sound known =
-      let last = edit_length b w edit known.0 in
-      let whole = length-append (record_of (change_of b w edit)) [] in
-      omega arith
+  edited_length b w edit None sound known = omega (arith, edit_length b w edit known.0, length-append (record_of (change_of b w edit)) [])
   edited_length b w edit (Some p) sound known =
       let denied = denied_by (new s b w edit) b p.mode in
-      let few = denied_few (new s b w edit) b p.mode in
-      let rows = sound.few_stations b in
-      let all = drops_length b denied (change_of b w edit ∷ []) known in
-      let last = edit_length b w edit (last_known b denied (change_of b w edit) known) in
-      let whole = length-append (record_of (change_of b w edit)) [] in
-      omega arith
+      let change = change_of b w edit in
+      let parts = both_known (drops b denied) (change ∷ []) known in
+      omega (arith, records_length-push (drops b denied) change, drops_length b denied parts.0, edit_length b w edit parts.1.0, denied_few (new s b w edit) b p.mode, sound.few_stations b)
 
   shape_length : (confs : List Conf) (h : Happening) → IsFit s confs h → Sound s → (v : Verdict) → Shape s confs h v → IsShort v
   shape_length confs h fit sound _ shape.silent known = none_long

@@ -11,6 +11,7 @@ mod ElsewhereLaws
 mod EndedLaws
 mod FirstLaws
 mod IdentifierLaws
+mod JoinedLaws
 mod LaterLaws
 mod LengthLaws
 pub mod OutsLaws

@@ -1,5 +1,5 @@
 -- Success, and the reasons to refuse.
-use Rattle.std.proofs.Common.{◌≡◌, Bool, true, false, cond, ◌&&◌, List, [], ◌∷◌, refl}
+use Rattle.std.proofs.Common.{◌≡◌, ℕ, ◌<◌, ◌≤◌, Bool, true, false, cond, ◌&&◌, List, [], ◌∷◌, refl, arith}
 use Rattle.std.specs.List.{AllByRecursion}
 use Rattle.apd_frame.specs.declared.codes.Status.{Status}
 use Rattle.apd_frame.specs.declared.codes.Status.TheVariants.{Success, RefusedReasonUnspecified, NotSupportedAuthAlgorithm, TransactionSequenceError, DeniedNoMoreStas, DeniedListenIntervalTooLarge}
@@ -17,6 +17,10 @@ none_holds (line ∷ lines) refuse e = first_fails line.0 line.1 (first_status l
 pub not_and : (a b : Bool) → a ≡ true → (a && b) ≡ false → b ≡ false
 not_and true b e f = f
 not_and false b e f = cc
+
+-- a limit is passed or not
+pub not_less : (m n : ℕ) → m < n → n ≤ m → ⊥
+not_less m n more least = omega arith
 
 pub status_success : (status : Status) → is_success status ≡ true → status ≡ Success
 status_success Success e = refl

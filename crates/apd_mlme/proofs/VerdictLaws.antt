@@ -3,7 +3,8 @@ use Rattle.std.proofs.Common.{◌≡◌, ℕ, Bool, true, false, List, [], ◌�
 use Rattle.std.specs.FinMap as map
 use Rattle.std.specs.Option.{is_some}
 use Rattle.apd_base.specs.declared.address.Bssid.{Bssid}
-use Rattle.apd_base.specs.State.{State, policy_at}
+use Rattle.apd_base.specs.declared.station.Station.TheVariants.{Authenticated}
+use Rattle.apd_base.specs.State.{State, policy_at, aid_at}
 use Rattle.apd_conf.specs.declared.conf.Conf.{Conf}
 use Rattle.apd_conf.specs.Confs.{conf_at}
 use Rattle.apd_frame.specs.declared.received.Authentication.{Authentication}
@@ -16,15 +17,15 @@ use Rattle.apd_mlme.specs.Rules.{verdict, verdict_under, IsFit}
 use Rattle.apd_mlme.specs.Run.{run, AreFit}
 use Rattle.apd_mlme.specs.Told.{IsToldTruly}
 use Rattle.apd_mlme.specs.Verdict.{Verdict}
-use Rattle.apd_mlme.specs.Authentication.{auth_response, auth_status}
 use Rattle.apd_mlme.specs.Happening.{Happening, Heard}
 use Rattle.apd_frame.specs.Contents.{authentication}
 use Rattle.apd_mlme.proofs.AssociationLaws.{associated_meaning, associated_sound, associated_follows}
 use Rattle.apd_mlme.proofs.AuthenticationLaws.{admitted_sound, admitted_aid, auth_told}
 use Rattle.apd_mlme.proofs.CommandLaws.{all_meaning, all_sound, all_follows, edited_meaning, under_sound, edited_follows, answered_follows}
+use Rattle.apd_mlme.proofs.DriverLaws.{aid_put, driven_left}
 use Rattle.apd_mlme.proofs.FirstLaws.{first_meaning, first_sound}
 use Rattle.apd_mlme.proofs.LaterLaws.{later_meaning, later_sound, later_driver}
-use Rattle.apd_mlme.proofs.RowLaws.{Follows, only_sent_follows, put_back_stays, dropped_stays, removed_follows, end_follows, removal_follows, drop_follows}
+use Rattle.apd_mlme.proofs.RowLaws.{Follows, put_back_stays, dropped_stays, removal_follows, drop_follows}
 use Rattle.apd_mlme.proofs.Shapes as shape
 use Rattle.apd_mlme.proofs.Shapes.{Shape, by_shape}
 
@@ -80,11 +81,11 @@ module _ (s : State) (confs : List Conf) where
   module _ (c : Bssid) (configured : IsSome (conf_at confs c)) where
     shape_follows : (h : Happening) (v : Verdict) → Shape s confs h v → Follows c s v
     shape_follows h _ shape.silent d = refl
-    shape_follows h _ (shape.told reply there so one) d = only_sent_follows c s reply d
-    shape_follows h _ (shape.admitted conf b request there is e) d = only_sent_follows c s (auth_response b request (auth_status s conf b request)) d ∙ sym (admitted_aid s conf b request e c d)
-    shape_follows h _ (shape.left b a there own known) d = removed_follows s b a c d
+    shape_follows h _ (shape.told reply there so one) d = refl
+    shape_follows h _ (shape.admitted conf b request there is e) d = sym (admitted_aid s conf b request e c d)
+    shape_follows h _ (shape.left b a there own known) d = sym (aid_put s b a Authenticated c d)
     shape_follows h _ (shape.gone b a there own) d = removal_follows s b a c d
-    shape_follows h _ (shape.ended b a reason there known) d = end_follows s b a c reason d
+    shape_follows h _ (shape.ended b a reason there known) d = sym (aid_put s b a Authenticated c d)
     shape_follows h _ (shape.dropped b a reason there known) d = drop_follows s b a c reason d
     shape_follows h _ (shape.associated conf b kind request aid there known own) d = associated_follows s confs conf b kind request aid c configured own d
     shape_follows h _ (shape.emptied b reason deauth there) d = all_follows c s b reason deauth d
@@ -93,7 +94,7 @@ module _ (s : State) (confs : List Conf) where
     shape_follows h _ (shape.started conf b accept deny is new) d = refl
 
   pub follows_in : (h : Happening) → FollowsDrivers confs (verdict s confs h).outs s (verdict s confs h).state
-  follows_in h = λ c configured. by_shape s confs (Follows c s) (answered_follows c s) h (shape_follows c configured h)
+  follows_in h = λ c configured d. driven_left c d (verdict s confs h).outs (aid_at s c) ∙ by_shape s confs (Follows c s) (answered_follows c s) h (shape_follows c configured h) d
 
   -- ---- what an authentication response tells
   pub told_in : (conf : Conf) (b : Bssid) (request : Authentication) → conf_at confs b ≡ Some conf → IsToldTruly s conf b request (verdict s confs (Heard b (authentication request)))

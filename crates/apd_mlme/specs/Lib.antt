@@ -13,6 +13,7 @@ pub mod Ended
 pub mod Happening
 pub mod Identifiers
 pub mod Inactivity
+pub mod Joined
 pub mod Leaving
 pub mod ManagementFrame
 pub mod Offer
@@ -22,6 +23,7 @@ pub mod ProbeRequest
 pub mod Probed
 pub mod Refusals
 pub mod Responses
+pub mod Room
 pub mod Rules
 pub mod Run
 pub mod Started

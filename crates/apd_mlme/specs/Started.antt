@@ -1,5 +1,5 @@
 -- What a start leaves: the rows of its BSSID, and those of the others.
-use Rattle.std.specs.Prelude.{◌≡◌, ◌≢◌, ◌↔◌, List, Option, None, Some, IsSome, if◌then◌else◌}
+use Rattle.std.specs.Prelude.{◌≡◌, ◌≢◌, ◌↔◌, List, None, Some, IsSome, if◌then◌else◌}
 use Rattle.std.specs.List.{Contains}
 use Rattle.apd_base.specs.declared.address.Addr.{Addr}
 use Rattle.apd_base.specs.declared.address.Bssid.{Bssid}
@@ -10,7 +10,6 @@ use Rattle.apd_base.specs.State.{State, station_at, policy_at, IsListed}
 use Rattle.apd_conf.specs.declared.conf.Conf.{Conf}
 use Rattle.apd_conf.specs.Conf.{policy_of}
 use Rattle.apd_table.specs.Allowed.{allowed}
-use Rattle.apd_mlme.specs.Happening.{Happening, Heard, Kick, ListEdit, Expire, Configure}
 use Rattle.apd_mlme.specs.ManagementFrame.{deauthentication_frame}
 use Rattle.apd_mlme.specs.Verdict.{Verdict}
 
@@ -28,14 +27,6 @@ pub record IsStarted (s : State) (conf : Conf) (b : Bssid) (accept deny : List A
   pub other_policies : (c : Bssid) → c ≢ b → policy_at new c ≡ policy_at s c
   pub other_lists : (c : Bssid) → c ≢ b → (w : Which) (a : Addr) → contains new.lists (c, w, a) ≡ contains s.lists (c, w, a)
   pub other_stations : (c : Bssid) → c ≢ b → (a : Addr) → station_at new c a ≡ station_at s c a
-
-abbrev pub IsStartedBy : Option Conf → Happening → State → State → Type 0
-IsStartedBy (Some conf) (Configure b accept deny) s new = IsStarted s conf b accept deny new
-IsStartedBy None (Configure b accept deny) s new = Unit {0}
-IsStartedBy o (Heard b frame) s new = Unit {0}
-IsStartedBy o (Kick b to reason deauth tag) s new = Unit {0}
-IsStartedBy o (ListEdit b which edit tag) s new = Unit {0}
-IsStartedBy o (Expire b a) s new = Unit {0}
 
 -- a station whose row is gone is told so, with reason 1 (IEEE Std 802.11-2016, 11.3.4.4)
 abbrev pub AreDroppedTold : State → Bssid → Verdict → Type 0

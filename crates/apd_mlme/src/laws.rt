@@ -1,35 +1,41 @@
 //! What a reader of clause 11.3 may rely on, whatever the daemon is asked: each law is the contract of
 //! a function that does nothing.
-ghost use Rattle.std.specs.Prelude.{◌≡◌, ◌⊎◌, ℕ, List, [], ◌∷◌, None, Some, Ok, IsSome};
+ghost use Rattle.std.specs.Prelude.{◌≡◌, ◌⊎◌, ℕ, List, [], ◌∷◌, None, Some, Ok, IsSome, true, false};
+ghost use Rattle.std.specs.List.{Contains};
 ghost use Rattle.apd_base.specs.Number.{AreBytes};
-ghost use Rattle.apd_base.specs.State.{State, station_at, aid_at, empty_state};
+ghost use Rattle.apd_base.specs.State.{State, station_at, aid_at, policy_at, empty_state};
 ghost use Rattle.apd_base.specs.declared.address.Addr.{Addr};
 ghost use Rattle.apd_base.specs.declared.address.Bssid.{Bssid};
 ghost use Rattle.apd_base.specs.declared.station.Aid.{Aid};
+ghost use Rattle.apd_base.specs.declared.station.Policy.{Policy};
 ghost use Rattle.apd_conf.specs.Confs.{conf_at};
 ghost use Rattle.apd_conf.specs.declared.conf.Conf.{Conf};
 ghost use Rattle.apd_frame.specs.declared.received.Authentication.{Authentication};
 ghost use Rattle.apd_frame.specs.Contents.{AssociationRequest, Contents, ProbeRequest, ReassociationRequest, association_request, authentication, deauthentication, disassociation, probe_request, reassociation_request};
 ghost use Rattle.apd_frame.specs.declared.codes.Reason.{Reason};
+ghost use Rattle.apd_frame.specs.declared.codes.Status.TheVariants.{Success};
 ghost use Rattle.apd_frame.specs.Outcome.{outcome};
 ghost use Rattle.apd_record.specs.Meaning.{meaning_of};
 ghost use Rattle.apd_table.specs.Sound.{Sound, StaySound};
 ghost use Rattle.apd_mlme.specs.Admitted.{AreFromStations, Asks, HasAsked};
-ghost use Rattle.apd_mlme.specs.Answered.{IsAnsweredTruly};
+ghost use Rattle.apd_mlme.specs.Answered.{IsAnsweredTruly, IsDeserved};
 ghost use Rattle.apd_mlme.specs.Association.{without_current_ap};
 ghost use Rattle.apd_mlme.specs.ClassErrors.{AreClassesKept};
 ghost use Rattle.apd_mlme.specs.Commanded.{IsAnsweredTo};
 ghost use Rattle.apd_mlme.specs.Departed.{IsDeauthenticated, IsDisassociated, IsSilenced};
 ghost use Rattle.apd_mlme.specs.Driver.{FollowsDrivers};
 ghost use Rattle.apd_mlme.specs.Ended.{HasLeft, IsToldOfEnd};
-ghost use Rattle.apd_mlme.specs.Happening.{Configure, Expire, Happening, Heard, bssid_of};
+ghost use Rattle.apd_mlme.specs.Happening.{Configure, Expire, Happening, Heard, Kick};
 ghost use Rattle.apd_mlme.specs.Identifiers.{identifier_for};
+ghost use Rattle.apd_mlme.specs.Joined.{IsJoined};
+ghost use Rattle.apd_mlme.specs.ManagementFrame.{deauthentication_frame, disassociation_frame};
 ghost use Rattle.apd_mlme.specs.Order.{IsLetGoFirst, IsTakenInFirst};
 ghost use Rattle.apd_mlme.specs.Probed.{IsProbed, IsProbeFor, response_frame};
 ghost use Rattle.apd_mlme.specs.Responses.{IsAssociationAnswered, IsAuthenticationAnswered};
+ghost use Rattle.apd_mlme.specs.Room.{IsRoomKept};
 ghost use Rattle.apd_mlme.specs.Rules.{verdict, IsFit};
 ghost use Rattle.apd_mlme.specs.Run.{run, AreFit};
-ghost use Rattle.apd_mlme.specs.Started.{AreDroppedTold, IsStartedBy};
+ghost use Rattle.apd_mlme.specs.Started.{AreDroppedTold, IsStarted};
 ghost use Rattle.apd_mlme.specs.declared.association.Kind.TheVariants.{Association, Reassociation};
 ghost use Rattle.apd_mlme.specs.declared.decision.TheConstants.{MAX_RECORDS};
 ghost use Rattle.apd_mlme.specs.Told.{IsToldTruly};
@@ -68,7 +74,7 @@ pub fn drivers_follow()
 /// start change nothing: the stored ones stay. Each station that the new policy denies is gone, and every
 /// other is as it was.
 pub fn lists_come_with_the_first_start()
-    ensures { (s : State) (confs : List Conf) (h : Happening) → Sound s → IsStartedBy (conf_at confs (bssid_of h)) h s (verdict s confs h).state }
+    ensures { (s : State) (confs : List Conf) (conf : Conf) (b : Bssid) (accept : List Addr) (deny : List Addr) → conf_at confs b ≡ Some conf → Sound s → IsStarted s conf b accept deny (verdict s confs (Configure b accept deny)).state }
 {}
 
 /// A station with a row at a BSSID never lacks an identifier: at most 2007 stations have rows there, so
@@ -185,6 +191,27 @@ pub fn a_start_tells_whom_it_drops()
 /// at 2.4 GHz alone, its channel, octet by octet (9.3.3.11).
 pub fn a_probe_response_says_what_is_configured()
     ensures { (s : State) (confs : List Conf) (conf : Conf) (b : Bssid) (request : ProbeRequest) → conf_at confs b ≡ Some conf → AreBytes request.elements → IsProbeFor conf request.elements → (verdict s confs (Heard b (probe_request request))).outs ≡ response_frame conf b request.sender ∷ [] }
+{}
+
+/// A station without a row gets none where as many have rows at the BSSID as its policy lets authenticate, or
+/// more; where fewer have, whoever asks for Open System as it must, and is allowed, has one (own).
+pub fn as_many_authenticate_as_the_policy_says()
+    ensures { (s : State) (confs : List Conf) (conf : Conf) (b : Bssid) (policy : Policy) (request : Authentication) → conf_at confs b ≡ Some conf → policy_at s b ≡ Some policy → IsRoomKept s conf b policy request (verdict s confs (Heard b (authentication request))) }
+{}
+
+/// A station with a row whose request deserves success has the row that it asked for. The driver of its radio takes
+/// it in, unless it was associated there before, then it gets the response, and nothing else leaves there; at
+/// every other radio nothing leaves but the end of its association, with reason 1 (11.3.5.3, 11.3.5.5 and 4.5.3.3).
+pub fn who_associates_is_told_at_each_radio()
+    ensures association { (s : State) (confs : List Conf) (conf : Conf) (b : Bssid) (request : AssociationRequest) → conf_at confs b ≡ Some conf → Sound s → IsSome (station_at s b request.sender) → IsDeserved conf request Success → IsJoined s b request.sender request.capability request.listen_interval (verdict s confs (Heard b (association_request request))) }
+    ensures reassociation { (s : State) (confs : List Conf) (conf : Conf) (b : Bssid) (request : ReassociationRequest) → conf_at confs b ≡ Some conf → Sound s → IsSome (station_at s b request.sender) → IsDeserved conf (without_current_ap request) Success → IsJoined s b request.sender request.capability request.listen_interval (verdict s confs (Heard b (reassociation_request request))) }
+{}
+
+/// A command that sends stations away has its frame sent, with the reason that it names: a deauthentication or a
+/// disassociation (9.3.3.13 and 9.3.3.5).
+pub fn who_is_sent_away_is_told_the_reason()
+    ensures deauthentication { (s : State) (confs : List Conf) (b : Bssid) (to : Addr) (reason : Reason) (tag : ℕ) → IsSome (conf_at confs b) → Contains (verdict s confs (Kick b to reason true tag)).outs (deauthentication_frame b to reason.0) }
+    ensures disassociation { (s : State) (confs : List Conf) (b : Bssid) (to : Addr) (reason : Reason) (tag : ℕ) → IsSome (conf_at confs b) → Contains (verdict s confs (Kick b to reason false tag)).outs (disassociation_frame b to reason.0) }
 {}
 
 /// A value that other contracts cite by name: the records of one event's changes have at most 28,682

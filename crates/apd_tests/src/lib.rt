@@ -28,3 +28,5 @@ mod plain_table;
 mod record_tests;
 #[cfg(test)]
 mod table_tests;
+#[cfg(test)]
+mod verdict_tests;

@@ -1,5 +1,10 @@
-use Rattle.apd_mlme.proofs.StartLaws.{verdict_started}
+use Rattle.std.proofs.Common.{sym, subst}
+use Rattle.apd_mlme.specs.Happening.{Configure}
+use Rattle.apd_mlme.specs.Rules.{verdict_under}
+use Rattle.apd_mlme.specs.Started.{IsStarted}
+use Rattle.apd_mlme.proofs.StartLaws.{configure_started}
 use Rattle.apd_mlme.proofs.laws.lists_come_with_the_first_start.Goals as goal
 
 pub returns : goal.returns
-returns c = verdict_started
+returns c = λ s confs conf b accept deny is sound.
+    subst (λ o. IsStarted s conf b accept deny (verdict_under s confs o (Configure b accept deny)).state) (sym is) (configure_started s conf b accept deny sound)
