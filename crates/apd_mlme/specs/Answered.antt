@@ -37,7 +37,8 @@ pub record IsForNetwork (conf : Conf) (request : AssociationRequest) : Type 0 wh
 abbrev pub IsDeserved : Conf → AssociationRequest → Status → Type 0
 IsDeserved conf request RefusedReasonUnspecified = ¬ (IsForNetwork conf request)
 -- the station would listen too seldom
-IsDeserved conf request DeniedListenIntervalTooLarge = IsForNetwork conf request × (conf.max_listen_interval < request.listen_interval)
+IsDeserved conf request DeniedListenIntervalTooLarge =
+    IsForNetwork conf request × (conf.max_listen_interval < request.listen_interval)
 IsDeserved conf request Success = IsForNetwork conf request × (request.listen_interval ≤ conf.max_listen_interval)
 -- these are said of an authentication alone
 IsDeserved conf request NotSupportedAuthAlgorithm = ⊥
@@ -50,7 +51,8 @@ only_authenticated None = None
 only_authenticated (Some row) = Some Authenticated
 
 -- the last out is the response to the sender, and it says how the sender stands
-pub record IsAnsweredTruly (s : State) (conf : Conf) (b : Bssid) (kind : Kind) (request : AssociationRequest) (v : Verdict) : Type 0 where
+pub record IsAnsweredTruly (s : State) (conf : Conf) (b : Bssid) (kind : Kind) (request : AssociationRequest)
+    (v : Verdict) : Type 0 where
   pub status : Status
   pub aid : Option Aid
   pub before : List (Recipient × Out)
@@ -60,10 +62,12 @@ pub record IsAnsweredTruly (s : State) (conf : Conf) (b : Bssid) (kind : Kind) (
   -- success is told to a member, and with its identifier
   pub success : status ≡ Success → IsSomeAnd aid (IsMember v.state b request)
   -- a station that was associated here keeps its identifier, and any other gets the least that was free
-  pub kept : status ≡ Success → IsSome (aid_at s b request.sender) → aid_at v.state b request.sender ≡ aid_at s b request.sender
+  pub kept : status ≡ Success → IsSome (aid_at s b request.sender)
+      → aid_at v.state b request.sender ≡ aid_at s b request.sender
   pub least : status ≡ Success → aid_at s b request.sender ≡ None → IfSome aid (λ x. IsLeastFree s b x.number)
   -- at every other BSSID it is authenticated at most, where it has a row
-  pub elsewhere : status ≡ Success → (c : Bssid) → c ≢ b → station_at v.state c request.sender ≡ only_authenticated (station_at s c request.sender)
+  pub elsewhere : status ≡ Success → (c : Bssid) → c ≢ b
+      → station_at v.state c request.sender ≡ only_authenticated (station_at s c request.sender)
   -- anything else is told alone, without an identifier, and leaves every row as it was
   pub refused : status ≢ Success → (v.state ≡ s) × (aid ≡ None) × (before ≡ [])
   -- every other station stays as it is

@@ -96,14 +96,16 @@ put_backs a bssids = map (λ c. Put c a Authenticated) bssids
 
 -- it is told so by each of them that is configured: the others have no radio (own)
 abbrev pub outs_elsewhere : List Conf → Addr → List Bssid → List (Recipient × Out)
-outs_elsewhere confs a bssids = flat_map (λ c. outs_of_end c a UNSPECIFIED) (filter (λ c. is_some (conf_at confs c)) bssids)
+outs_elsewhere confs a bssids =
+    flat_map (λ c. outs_of_end c a UNSPECIFIED) (filter (λ c. is_some (conf_at confs c)) bssids)
 
 -- the driver takes the station in, where it was not associated here before (own)
 abbrev pub installation : State → Bssid → Addr → Aid → List (Recipient × Out)
 installation s b a aid = if is_some (aid_at s b a) then [] else (Radio b, Install a aid) ∷ []
 
 abbrev pub row_of : AssociationRequest → Aid → Station
-row_of request aid = Associated (record { aid = aid; capability = request.capability; listen_interval = request.listen_interval })
+row_of request aid =
+    Associated (record { aid = aid; capability = request.capability; listen_interval = request.listen_interval })
 
 -- a request that is accepted: the station is associated here, with this identifier and with what it asked (11.3.5.3 and
 -- 11.3.5.5), and nowhere else (4.5.3.3)
@@ -114,7 +116,8 @@ associated s confs conf b kind request aid =
     record {
       state = record s { stations = maps.insert (with_authenticated a others s.stations) (b, a) (row_of request aid) };
       changes = put_backs a others ++ Put b a (row_of request aid) ∷ [];
-      outs = outs_elsewhere confs a others ++ installation s b a aid ++ sent (association_response conf b kind a Success (Some aid)) ∷ [];
+      outs = outs_elsewhere confs a others ++ installation s b a aid
+          ++ sent (association_response conf b kind a Success (Some aid)) ∷ [];
     }
 
 -- in a sound state there is an identifier
@@ -133,4 +136,5 @@ association_of s confs conf b kind request (Some row) =
     else only_sent s (association_response conf b kind request.sender status None)
 
 abbrev pub association_verdict : State → List Conf → Conf → Bssid → Kind → AssociationRequest → Verdict
-association_verdict s confs conf b kind request = association_of s confs conf b kind request (station_at s b request.sender)
+association_verdict s confs conf b kind request =
+    association_of s confs conf b kind request (station_at s b request.sender)

@@ -50,7 +50,8 @@ auth_status s conf b request = first_status (refusals s conf b request)
 
 -- the response: the algorithm of the request, the next number of the exchange, and the status
 abbrev pub auth_response : Bssid → Authentication → Status → Reply
-auth_response b request status = record { to = request.sender; bssid = b; body = Auth request.algorithm ((request.transaction + 1) % 65536) status }
+auth_response b request status =
+    record { to = request.sender; bssid = b; body = Auth request.algorithm ((request.transaction + 1) % 65536) status }
 
 -- a station that is accepted and not in the table gets a row, as authenticated, and every other row is kept; else every
 -- row is kept (own: a station in the table stays as it is)
@@ -59,7 +60,9 @@ is_admitted s conf b request = is_success (auth_status s conf b request) && not 
 
 abbrev pub auth_verdict : State → Conf → Bssid → Authentication → Verdict
 auth_verdict s conf b request = record {
-  state = if is_admitted s conf b request then record s { stations = map.insert s.stations (b, request.sender) Authenticated } else s;
+  state =
+      if is_admitted s conf b request then record s { stations = map.insert s.stations (b, request.sender) Authenticated }
+      else s;
   changes = if is_admitted s conf b request then Put b request.sender Authenticated ∷ [] else [];
   outs = sent (auth_response b request (auth_status s conf b request)) ∷ [];
 }

@@ -28,8 +28,11 @@ pub record IsOnlyAnswered (s : State) (out : Recipient × Out) (v : Verdict) : T
 -- a frame of class 2 is for who is authenticated, and one of class 3 for who is associated: any other sender is told that it
 -- isn't, by the reason code of the class (9.4.1.7, Table 9-45)
 pub record AreClassesKept (s : State) (b : Bssid) (frame : Contents) (v : Verdict) : Type 0 where
-  pub class2_unauthenticated : class_of frame ≡ 2 → station_at s b (sender_of frame) ≡ None → IsOnlyAnswered s (deauthentication_frame b (sender_of frame) 6) v
-  pub class3_unauthenticated : class_of frame ≡ 3 → station_at s b (sender_of frame) ≡ None → IsOnlyAnswered s (deauthentication_frame b (sender_of frame) 7) v
-  pub class3_unassociated : class_of frame ≡ 3 → station_at s b (sender_of frame) ≡ Some Authenticated → IsOnlyAnswered s (disassociation_frame b (sender_of frame) 7) v
+  pub class2_unauthenticated : class_of frame ≡ 2 → station_at s b (sender_of frame) ≡ None
+      → IsOnlyAnswered s (deauthentication_frame b (sender_of frame) 6) v
+  pub class3_unauthenticated : class_of frame ≡ 3 → station_at s b (sender_of frame) ≡ None
+      → IsOnlyAnswered s (deauthentication_frame b (sender_of frame) 7) v
+  pub class3_unassociated : class_of frame ≡ 3 → station_at s b (sender_of frame) ≡ Some Authenticated
+      → IsOnlyAnswered s (disassociation_frame b (sender_of frame) 7) v
   -- data from a member are not answered
   pub class3_associated : class_of frame ≡ 3 → IsSome (aid_at s b (sender_of frame)) → (v.outs ≡ []) × (v.state ≡ s)

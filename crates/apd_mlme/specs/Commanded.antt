@@ -34,10 +34,12 @@ pub record IsAnswered (tag : ℕ) (answer : Answer) (v : Verdict) : Type 0 where
   pub alone : outs_to Control before ≡ []
 
 -- stations were sent away
-pub record IsKicked (s : State) (b : Bssid) (to : Addr) (reason : Reason) (deauth : Bool) (tag : ℕ) (v : Verdict) : Type 0 where
+pub record IsKicked (s : State) (b : Bssid) (to : Addr) (reason : Reason) (deauth : Bool) (tag : ℕ)
+    (v : Verdict) : Type 0 where
   -- the driver lets stations go, then one frame leaves, and then the answer
   pub removed : List Addr
-  pub told : v.outs ≡ map (λ a. (Radio b, out.Remove a)) removed ++ sent (farewell b to reason deauth) ∷ text tag Done ∷ []
+  pub told : v.outs ≡ map (λ a. (Radio b, out.Remove a)) removed ++ sent (farewell b to reason deauth)
+      ∷ text tag Done ∷ []
   -- whom the frame is meant for has no row after a deauthentication, and is not associated after a disassociation
   pub deauthenticated : deauth ≡ true → (a : Addr) → IsMeant to a → station_at v.state b a ≡ None
   pub disassociated : (a : Addr) → IsMeant to a → aid_at v.state b a ≡ None
@@ -62,9 +64,11 @@ pub record IsEdited (s : State) (b : Bssid) (w : Which) (edit : Edit) (v : Verdi
   -- a station that is not allowed from now on has no row, and any other is as it was
   pub stations : (d : Addr) → station_at v.state b d ≡ (if allowed v.state b d then station_at s b d else None)
   -- who had one is told so
-  pub told : (d : Addr) → IsSome (station_at s b d) → station_at v.state b d ≡ None → Contains v.outs (sent (deauthentication b d UNSPECIFIED))
+  pub told : (d : Addr) → IsSome (station_at s b d) → station_at v.state b d ≡ None
+      → Contains v.outs (sent (deauthentication b d UNSPECIFIED))
   -- nothing else changes
-  pub other_lists : (c : Bssid) (x : Which) → ¬ ((c ≡ b) × (x ≡ w)) → (d : Addr) → contains v.state.lists (c, x, d) ≡ contains s.lists (c, x, d)
+  pub other_lists : (c : Bssid) (x : Which) → ¬ ((c ≡ b) × (x ≡ w)) → (d : Addr)
+      → contains v.state.lists (c, x, d) ≡ contains s.lists (c, x, d)
   pub other_stations : (c : Bssid) → c ≢ b → (d : Addr) → station_at v.state c d ≡ station_at s c d
   pub policies : v.state.policies ≡ s.policies
 

@@ -30,7 +30,10 @@ abbrev pub later_start : State → Conf → Bssid → Verdict
 later_start s conf b =
     let denied = denied_by s b conf.macaddr_acl in
     record {
-      state = record s { stations = maps.retain_keys s.stations (stays s b conf.macaddr_acl); policies = maps.insert s.policies b (policy_of conf) };
+      state = record s {
+        stations = maps.retain_keys s.stations (stays s b conf.macaddr_acl);
+        policies = maps.insert s.policies b (policy_of conf);
+      };
       changes = map (λ a. Drop b a) denied ++ Policy b (policy_of conf) ∷ [];
       outs = flat_map (λ a. outs_of_drop s b a UNSPECIFIED) denied;
     }
@@ -49,11 +52,15 @@ first_changes conf b accept deny = Policy b (policy_of conf) ∷ additions b Acc
 -- a BSSID that was never started has the configured policy and the addresses of both lists, and every other row is kept
 abbrev pub first_start : State → Conf → Bssid → List Addr → List Addr → Verdict
 first_start s conf b accept deny = record {
-  state = record s { lists = with_listed b Deny deny (with_listed b Accept accept s.lists); policies = maps.insert s.policies b (policy_of conf) };
+  state = record s {
+    lists = with_listed b Deny deny (with_listed b Accept accept s.lists);
+    policies = maps.insert s.policies b (policy_of conf);
+  };
   changes = first_changes conf b accept deny;
   outs = [];
 }
 
 -- it was started before where it has a policy row
 abbrev pub configure_verdict : State → Conf → Bssid → List Addr → List Addr → Verdict
-configure_verdict s conf b accept deny = if is_some (policy_at s b) then later_start s conf b else first_start s conf b accept deny
+configure_verdict s conf b accept deny =
+    if is_some (policy_at s b) then later_start s conf b else first_start s conf b accept deny

@@ -32,8 +32,10 @@ pub record IsDeauthenticated (s : State) (b : Bssid) (a : Addr) (v : Verdict) : 
 
 -- a station is silent for too long (own): its association ends with reason 4, and then its authentication with reason 2
 pub record IsSilenced (s : State) (b : Bssid) (a : Addr) (v : Verdict) : Type 0 where
-  pub associated : IsSome (aid_at s b a) → (station_at v.state b a ≡ Some Authenticated) × (v.outs ≡ (Radio b, Remove a) ∷ disassociation_frame b a 4 ∷ [])
-  pub authenticated : station_at s b a ≡ Some Authenticated → (station_at v.state b a ≡ None) × (v.outs ≡ deauthentication_frame b a 2 ∷ [])
+  pub associated : IsSome (aid_at s b a)
+      → (station_at v.state b a ≡ Some Authenticated) × (v.outs ≡ (Radio b, Remove a) ∷ disassociation_frame b a 4 ∷ [])
+  pub authenticated : station_at s b a ≡ Some Authenticated
+      → (station_at v.state b a ≡ None) × (v.outs ≡ deauthentication_frame b a 2 ∷ [])
   -- without a row nothing happens
   pub unknown : station_at s b a ≡ None → (station_at v.state b a ≡ None) × (v.outs ≡ [])
   pub alone : IsAlone s b a v.state

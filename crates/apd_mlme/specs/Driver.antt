@@ -33,4 +33,5 @@ driven (out ∷ outs) driver = driven outs (driven_by out driver)
 -- its radio
 abbrev pub FollowsDrivers : List Conf → List (Recipient × Out) → State → State → Type 0
 FollowsDrivers confs outs old new =
-    (b : Bssid) → IsSome (conf_at confs b) → (a : Addr) → driven (outs_to (Radio b) outs) (aid_at old b) a ≡ aid_at new b a
+    (b : Bssid) → IsSome (conf_at confs b) → (a : Addr)
+    → driven (outs_to (Radio b) outs) (aid_at old b) a ≡ aid_at new b a

@@ -39,4 +39,5 @@ IsMeant to a = (to ≡ a) ⊎ (to ≡ BROADCAST)
 abbrev pub IsToldOfEnd : List (Recipient × Out) → Bssid → Addr → Type 0
 IsToldOfEnd outs b a =
     (to : Addr) × IsMeant to a × (reason : Reason)
-    × (Contains outs (sent (told.disassociation b to reason)) ⊎ Contains outs (sent (told.deauthentication b to reason)))
+    × (Contains outs (sent (told.disassociation b to reason))
+    ⊎ Contains outs (sent (told.deauthentication b to reason)))

@@ -20,7 +20,8 @@ one_less n high = omega arith
 -- the identifiers from 1 to n, rising
 unfoldable pub identifiers_to : (n : ℕ) → n ≤ MAX_STATIONS → List Aid
 identifiers_to zero high = []
-identifiers_to (suc n) high = identifiers_to n (one_less n high) ++ record { number = suc n; low = at_least_one n; high = high } ∷ []
+identifiers_to (suc n) high =
+    identifiers_to n (one_less n high) ++ record { number = suc n; low = at_least_one n; high = high } ∷ []
 
 pub at_most_all : MAX_STATIONS ≤ MAX_STATIONS
 at_most_all = omega arith

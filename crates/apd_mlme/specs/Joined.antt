@@ -21,7 +21,8 @@ pub record IsJoined (s : State) (b : Bssid) (a : Addr) (capability listen_interv
   pub aid : Aid
   pub response : Out
   -- its row is what it asked for
-  pub row : station_at v.state b a ≡ Some (Associated (record { aid = aid; capability = capability; listen_interval = listen_interval }))
+  pub row : station_at v.state b a
+      ≡ Some (Associated (record { aid = aid; capability = capability; listen_interval = listen_interval }))
   -- the driver takes it in, but where it was associated at this radio before; then it gets the response; and nothing else leaves
   pub anew : aid_at s b a ≡ None → outs_to (Radio b) v.outs ≡ Install a aid ∷ response ∷ []
   pub again : IsSome (aid_at s b a) → outs_to (Radio b) v.outs ≡ response ∷ []

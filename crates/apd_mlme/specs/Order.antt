@@ -15,17 +15,21 @@ use Rattle.apd_mlme.specs.ManagementFrame.{management_frame, disassociation_fram
 
 -- one out stands before another
 abbrev pub Precedes : List (Recipient × Out) → Recipient × Out → Recipient × Out → Type 0
-Precedes outs x y = (front behind : List (Recipient × Out)) × (outs ≡ front ++ behind) × Contains front x × Contains behind y
+Precedes outs x y = (front behind : List (Recipient × Out)) × (outs ≡ front ++ behind) × Contains front x
+    × Contains behind y
 
 -- the driver lets a station go, and then it is told that its association, or its authentication, is at an end
 abbrev pub IsLetGoFirst : List (Recipient × Out) → Bssid → Addr → Type 0
 IsLetGoFirst outs b a =
     (to : Addr) × IsMeant to a × (reason : ℕ)
-    × (Precedes outs (Radio b, Remove a) (disassociation_frame b to reason) ⊎ Precedes outs (Radio b, Remove a) (deauthentication_frame b to reason))
+    × (Precedes outs (Radio b, Remove a) (disassociation_frame b to reason)
+    ⊎ Precedes outs (Radio b, Remove a) (deauthentication_frame b to reason))
 
 -- the driver takes in a station, and then it is told in an association or a reassociation response that it is associated
 -- (status 0), under this identifier
 abbrev pub IsTakenInFirst : List (Recipient × Out) → Bssid → Addr → Aid → Type 0
 IsTakenInFirst outs b a aid =
     (subtype : ℕ) × ((subtype ≡ 1) ⊎ (subtype ≡ 3)) × (rates : List ℕ)
-    × Precedes outs (Radio b, Install a aid) (management_frame subtype b a ((1 ∷ 0 ∷ []) ++ to_le_bytes w16 0 ++ to_le_bytes w16 (32768 + 16384 + aid.number) ++ rates))
+    × Precedes outs (Radio b, Install a aid)
+    (management_frame subtype b a
+    ((1 ∷ 0 ∷ []) ++ to_le_bytes w16 0 ++ to_le_bytes w16 (32768 + 16384 + aid.number) ++ rates))

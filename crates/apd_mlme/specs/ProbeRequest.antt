@@ -43,7 +43,8 @@ probe_response conf b a = record {
 }
 
 abbrev pub probe_outs : Conf → Bssid → ProbeRequest → List (Recipient × Out)
-probe_outs conf b request = if is_answered conf request.elements then sent (probe_response conf b request.sender) ∷ [] else []
+probe_outs conf b request =
+    if is_answered conf request.elements then sent (probe_response conf b request.sender) ∷ [] else []
 
 -- it changes nothing, and asks no policy (own)
 abbrev pub probe_verdict : State → Conf → Bssid → ProbeRequest → Verdict

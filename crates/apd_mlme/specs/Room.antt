@@ -8,7 +8,8 @@ use Rattle.apd_frame.specs.declared.received.Authentication.{Authentication}
 use Rattle.apd_mlme.specs.Told.{IsAllowed}
 use Rattle.apd_mlme.specs.Verdict.{Verdict}
 
-pub record IsRoomKept (s : State) (conf : Conf) (b : Bssid) (policy : Policy) (request : Authentication) (v : Verdict) : Type 0 where
+pub record IsRoomKept (s : State) (conf : Conf) (b : Bssid) (policy : Policy) (request : Authentication)
+    (v : Verdict) : Type 0 where
   -- where so many have rows no other station gets one
   pub full : policy.max.count ≤ count s b → station_at s b request.sender ≡ None → v.state ≡ s
   -- where fewer have, whoever asks as it must, and is allowed, has one then

@@ -33,7 +33,8 @@ IsFit s confs (Configure b accept deny) =
 -- each frame has its rule
 abbrev pub heard_verdict : State → List Conf → Conf → Bssid → Contents → Verdict
 heard_verdict s confs conf b (frame.authentication request) = auth_verdict s conf b request
-heard_verdict s confs conf b (frame.association_request request) = association_verdict s confs conf b Association request
+heard_verdict s confs conf b (frame.association_request request) =
+    association_verdict s confs conf b Association request
 heard_verdict s confs conf b (frame.reassociation_request request) =
     association_verdict s confs conf b Reassociation (without_current_ap request)
 heard_verdict s confs conf b (frame.probe_request request) = probe_verdict s conf b request

@@ -25,9 +25,11 @@ pub record IsStarted (s : State) (conf : Conf) (b : Bssid) (accept deny : List A
   pub stations : (a : Addr) → station_at new b a ≡ (if allowed new b a then station_at s b a else None)
   -- nothing of another BSSID changes
   pub other_policies : (c : Bssid) → c ≢ b → policy_at new c ≡ policy_at s c
-  pub other_lists : (c : Bssid) → c ≢ b → (w : Which) (a : Addr) → contains new.lists (c, w, a) ≡ contains s.lists (c, w, a)
+  pub other_lists : (c : Bssid) → c ≢ b → (w : Which) (a : Addr)
+      → contains new.lists (c, w, a) ≡ contains s.lists (c, w, a)
   pub other_stations : (c : Bssid) → c ≢ b → (a : Addr) → station_at new c a ≡ station_at s c a
 
 -- a station whose row is gone is told so, with reason 1 (IEEE Std 802.11-2016, 11.3.4.4)
 abbrev pub AreDroppedTold : State → Bssid → Verdict → Type 0
-AreDroppedTold s b v = (a : Addr) → IsSome (station_at s b a) → station_at v.state b a ≡ None → Contains v.outs (deauthentication_frame b a 1)
+AreDroppedTold s b v = (a : Addr) → IsSome (station_at s b a) → station_at v.state b a ≡ None
+    → Contains v.outs (deauthentication_frame b a 1)

@@ -24,7 +24,8 @@ use Rattle.apd_mlme.specs.Happening.{Happening, Heard, Kick, ListEdit, Expire, C
 
 -- success says that the station is associated, with the identifier that the response carries
 abbrev pub IsAssociatedSo : State → Bssid → Addr → AssociationResponse → Type 0
-IsAssociatedSo s b a response = response.status ≡ Success → IsSomeAnd response.aid (λ aid. aid_at s b a ≡ Some aid.number)
+IsAssociatedSo s b a response = response.status ≡ Success
+    → IsSomeAnd response.aid (λ aid. aid_at s b a ≡ Some aid.number)
 
 -- what a frame's body says of the station that it is for
 abbrev pub IsSaidSo : State → Bssid → Addr → ReplyBody → Type 0
@@ -42,7 +43,8 @@ IsSaidSo s b a (Deauth reason) = station_at s b a ≡ None
 abbrev pub IsSo : State → Recipient × Out → Type 0
 IsSo s (Radio b, Install a aid) = aid_at s b a ≡ Some aid.number
 IsSo s (Radio b, Remove a) = aid_at s b a ≡ None
-IsSo s (Radio b, Frame bytes) = (reply : Reply) × (reply.bssid ≡ b) × (bytes ≡ wire reply) × IsSaidSo s b reply.to reply.body
+IsSo s (Radio b, Frame bytes) = (reply : Reply) × (reply.bssid ≡ b) × (bytes ≡ wire reply)
+    × IsSaidSo s b reply.to reply.body
 -- a radio has no command to answer, and whoever gave one has no driver
 IsSo s (Radio b, Text tag bytes) = ⊥
 IsSo s (Control, Install a aid) = ⊥
@@ -57,7 +59,8 @@ AreSo s outs = AllByRecursion (IsSo s) outs
 -- the same of everyone whom a frame is meant for: one to the broadcast address is meant for every station (9.2.4.3.3)
 abbrev pub IsSoToAll : State → Recipient × Out → Type 0
 IsSoToAll s (Radio b, Frame bytes) =
-    (reply : Reply) × (reply.bssid ≡ b) × (bytes ≡ wire reply) × ((a : Addr) → IsMeant reply.to a → IsSaidSo s b a reply.body)
+    (reply : Reply) × (reply.bssid ≡ b) × (bytes ≡ wire reply)
+    × ((a : Addr) → IsMeant reply.to a → IsSaidSo s b a reply.body)
 -- nothing else is a frame
 IsSoToAll s (Radio b, Install a aid) = Unit {0}
 IsSoToAll s (Radio b, Remove a) = Unit {0}

@@ -222,8 +222,14 @@ fn accept(
     request: &Association<'_>,
 ) -> Result<Draft, AllocError>
     requires { IsSome (station_at table.now bssid request.now.sender) }
-    ensures changes { IfOk result (λ d. d.changes ≡ (accepted table.now confs.now conf.now bssid kind (association request.now) (identifier_for table.now bssid (station_at table.now bssid request.now.sender))).changes) }
-    ensures outs { IfOk result (λ d. d.outs ≡ (accepted table.now confs.now conf.now bssid kind (association request.now) (identifier_for table.now bssid (station_at table.now bssid request.now.sender))).outs) }
+    ensures changes { IfOk result
+        (λ d. d.changes
+        ≡ (accepted table.now confs.now conf.now bssid kind (association request.now)
+        (identifier_for table.now bssid (station_at table.now bssid request.now.sender))).changes) }
+    ensures outs { IfOk result
+        (λ d. d.outs
+        ≡ (accepted table.now confs.now conf.now bssid kind (association request.now)
+        (identifier_for table.now bssid (station_at table.now bssid request.now.sender))).outs) }
 {
     let sender = request.sender;
     let aid = identifier(table, bssid, sender);
@@ -254,8 +260,11 @@ pub fn answer(
     kind: Kind,
     request: &Association<'_>,
 ) -> Result<Draft, AllocError>
-    ensures changes { IfOk result (λ d. d.changes ≡ (association_verdict table.now confs.now conf.now bssid kind (association request.now)).changes) }
-    ensures outs { IfOk result (λ d. d.outs ≡ (association_verdict table.now confs.now conf.now bssid kind (association request.now)).outs) }
+    ensures changes { IfOk result
+        (λ d. d.changes
+        ≡ (association_verdict table.now confs.now conf.now bssid kind (association request.now)).changes) }
+    ensures outs { IfOk result
+        (λ d. d.outs ≡ (association_verdict table.now confs.now conf.now bssid kind (association request.now)).outs) }
 {
     let sender = request.sender;
     if table.get(bssid, sender).is_none() {

@@ -85,7 +85,8 @@ pub fn configure(
     accept: &[Addr],
     deny: &[Addr],
 ) -> Result<Draft, AllocError>
-    ensures changes { IfOk result (λ d. d.changes ≡ (configure_verdict table.now conf.now bssid accept.now deny.now).changes) }
+    ensures changes { IfOk result
+        (λ d. d.changes ≡ (configure_verdict table.now conf.now bssid accept.now deny.now).changes) }
     ensures outs { IfOk result (λ d. d.outs ≡ (configure_verdict table.now conf.now bssid accept.now deny.now).outs) }
 {
     match table.policy(bssid) {

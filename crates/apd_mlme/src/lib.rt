@@ -55,14 +55,16 @@ pub fn decide(
     ensures outs { IfOk result (λ d. d.outs ≡ (verdict table.now confs.now (happening event.entry)).outs) }
 
     // What the changes mean is the state after the event, and each of them leaves a sound state.
-    ensures meaning { IfOk result (λ d. meaning_of d.changes table.now ≡ (verdict table.now confs.now (happening event.entry)).state) }
+    ensures meaning { IfOk result
+        (λ d. meaning_of d.changes table.now ≡ (verdict table.now confs.now (happening event.entry)).state) }
     ensures sound { IfOk result (λ d. StaySound d.changes table.now) }
 
     // The records of its changes have at most 28,682 bytes.
     ensures records { IfOk result (λ d. length (records_of d.changes) ≤ MAX_RECORDS) }
 
     // What leaves keeps the driver of each configured BSSID at its associated stations.
-    ensures driver { IfOk result (λ d. FollowsDrivers confs.now d.outs table.now (verdict table.now confs.now (happening event.entry)).state) }
+    ensures driver { IfOk result
+        (λ d. FollowsDrivers confs.now d.outs table.now (verdict table.now confs.now (happening event.entry)).state) }
 {
     table.sound();
     decide_fit(alloc, table, confs, event)
@@ -113,8 +115,10 @@ fn heard(
     bssid: Bssid,
     frame: Frame<'_>,
 ) -> Result<Draft, AllocError>
-    ensures changes { IfOk result (λ d. d.changes ≡ (heard_verdict table.now confs.now conf.now bssid (contents frame.entry)).changes) }
-    ensures outs { IfOk result (λ d. d.outs ≡ (heard_verdict table.now confs.now conf.now bssid (contents frame.entry)).outs) }
+    ensures changes { IfOk result
+        (λ d. d.changes ≡ (heard_verdict table.now confs.now conf.now bssid (contents frame.entry)).changes) }
+    ensures outs { IfOk result
+        (λ d. d.outs ≡ (heard_verdict table.now confs.now conf.now bssid (contents frame.entry)).outs) }
 {
     match frame {
         Frame::Auth(request) => authentication::answer(alloc, table, conf, bssid, &request),

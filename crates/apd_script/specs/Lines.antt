@@ -26,7 +26,8 @@ without_blanks text = filter (λ b. not (is_blank b)) text
 -- the name of an interface, up to the first blank, and then hexadecimal digits of either case, two for each byte of a
 -- frame, with any blanks among them
 abbrev pub IsReception : List ℕ → List ℕ → List ℕ → Type 0
-IsReception interface frame text = (interface ≡ before_first is_blank text) × (decode_of (without_blanks (drop (length interface) text)) ≡ Ok frame)
+IsReception interface frame text =
+    (interface ≡ before_first is_blank text) × (decode_of (without_blanks (drop (length interface) text)) ≡ Ok frame)
 
 -- what a line may say
 pub data Said : Type 0 where

@@ -67,7 +67,8 @@ abbrev pub asked_at : Step → Option (Option (Result Happening QuietReason) × 
 asked_at (step.Accept i m) = Some (said_by i, m)
 asked_at other = None
 
-module _ {D R : Type 0} (honest : D → Type 0) (reads : D → List ℕ) (may_leave : D → List ℕ → Type 0) (size : D → ℕ) (stations : R → Stations) (faults : R → ℕ) where
+module _ {D R : Type 0} (honest : D → Type 0) (reads : D → List ℕ) (may_leave : D → List ℕ → Type 0) (size : D → ℕ)
+    (stations : R → Stations) (faults : R → ℕ) where
   -- the world is proper
   abbrev pub IsProperAt : Standing D R → Type 0
   IsProperAt s = IsProper honest reads may_leave size (durable_of s.world)
@@ -144,8 +145,10 @@ module _ {D R : Type 0} (honest : D → Type 0) (reads : D → List ℕ) (may_le
   -- A world begun anew at a moment from what the device of another reads: its table is the state that the device shows, nothing is
   -- unsettled, and its slots, one for each interface, have resumed by that table. It is proper.
   pub record IsRestarted (m : Moment) (old new : World D R) : Type 0 where
-    pub shown : honest (device_of (durable_of old)) → Shows (reads (device_of (durable_of old))) (durable_of new).core.settled
-    pub core : (durable_of new).core ≡ new_core (durable_of new).core.settled (durable_of old).core.confs (durable_of new).core.heard
+    pub shown : honest (device_of (durable_of old))
+        → Shows (reads (device_of (durable_of old))) (durable_of new).core.settled
+    pub core : (durable_of new).core
+        ≡ new_core (durable_of new).core.settled (durable_of old).core.confs (durable_of new).core.heard
     pub heard : AreHeardAt m (durable_of new).core.settled (durable_of new).core.heard
     pub slots : map bssid_of (slots_of new) ≡ map (λ conf. conf.bssid) (durable_of old).core.confs
     pub resumed : AreResumed stations (durable_of new).core.settled (slots_of new)

@@ -5,8 +5,9 @@ ghost use Rattle.apd_conf.specs.declared.configuration.ConfigurationFault.TheVar
 ghost use Rattle.apd_script.specs.Configured.{AreOfNames, AreReadFrom, IsFaultFrom};
 
 use apd_base::Sequence;
-use apd_conf::MAX_FILE;
-use apd_conf::{ConfigurationFault, Confs, FileName, FilesRead, configurations, read_conf};
+use apd_conf::{
+    ConfigurationFault, Confs, FileName, FilesRead, MAX_FILE, configurations, read_conf,
+};
 use std::alloc::AllocError;
 use std::fs;
 use std::io::{self, ErrorKind, Read};

@@ -34,12 +34,18 @@ pub fn run_format<D: Disk, W: Write>(
     device: D,
     writer: &mut W,
 ) -> Result<D, (D, FormatFault)>
-    ensures empty { D.honest device → IfOk result (λ made. (image : List ℕ) → D.may_leave made image → Shows image empty_state) }
-    ensures empty_err { D.honest device → IfErr result (λ e. e.1 ≡ FormatFault.Writer → (image : List ℕ) → D.may_leave e.0 image → Shows image empty_state) }
-    ensures any_moment { D.honest device → IfOk result (λ made. LeavesOnly D.moment D.left_since device made (MayBeMade (D.may_leave device))) }
-    ensures any_moment_err { D.honest device → IfErr result (λ e. LeavesOnly D.moment D.left_since device e.0 (MayBeMade (D.may_leave device))) }
+    ensures empty { D.honest device
+        → IfOk result (λ made. (image : List ℕ) → D.may_leave made image → Shows image empty_state) }
+    ensures empty_err { D.honest device
+        → IfErr result (λ e. e.1 ≡ FormatFault.Writer → (image : List ℕ) → D.may_leave e.0 image
+        → Shows image empty_state) }
+    ensures any_moment { D.honest device
+        → IfOk result (λ made. LeavesOnly D.moment D.left_since device made (MayBeMade (D.may_leave device))) }
+    ensures any_moment_err { D.honest device
+        → IfErr result (λ e. LeavesOnly D.moment D.left_since device e.0 (MayBeMade (D.may_leave device))) }
     ensures length { OnOk result (D.size device ≡ DEVICE_LENGTH) }
-    ensures not_a_store { IfErr result (λ e. (e.1 ≡ FormatFault.Store StoreFault.NotAStore) ↔ (D.size device ≢ DEVICE_LENGTH)) }
+    ensures not_a_store { IfErr result
+        (λ e. (e.1 ≡ FormatFault.Store StoreFault.NotAStore) ↔ (D.size device ≢ DEVICE_LENGTH)) }
     ensures untouched { IfErr result (λ e. e.1 ≡ FormatFault.Store StoreFault.NotAStore → e.0 ≡ device) }
 {
     let device = match format(alloc, device) {

@@ -16,15 +16,20 @@ use apd_radio::Radio;
 /// the start in front of them and these lines: what is proved of a world for every list of steps holds of each
 /// part of a script from one start to the next `stop`, or to its end.
 pub fn lines_without_a_stop_are_one_run<D: Disk, R: Radio>()
-    ensures lines { (n : ℕ) (texts : List (List ℕ)) (old new : Standing D R) → HaveNoStop texts → AreRun D.honest D.reads D.may_leave D.size R.stations R.faults n texts old new
+    ensures lines { (n : ℕ) (texts : List (List ℕ)) (old new : Standing D R) → HaveNoStop texts
+        → AreRun D.honest D.reads D.may_leave D.size R.stations R.faults n texts old new
         → HasGoneOn R.stations R.faults old.world new.world }
-    ensures part { (n : ℕ) (texts : List (List ℕ)) (old started new : Standing D R) → Starts D.honest D.reads D.may_leave D.size R.stations R.faults old started → HaveNoStop texts
-        → AreRun D.honest D.reads D.may_leave D.size R.stations R.faults n texts started new → HasGoneOn R.stations R.faults old.world new.world }
+    ensures part { (n : ℕ) (texts : List (List ℕ)) (old started new : Standing D R)
+        → Starts D.honest D.reads D.may_leave D.size R.stations R.faults old started → HaveNoStop texts
+        → AreRun D.honest D.reads D.may_leave D.size R.stations R.faults n texts started new
+        → HasGoneOn R.stations R.faults old.world new.world }
 {}
 
 /// Whatever lines a script has, a `stop` among them: where its world was proper, as of an honest device, the one
 /// after them is. So what is proved of the steps from a proper world holds at each line.
 pub fn a_script_leaves_a_proper_world_proper<D: Disk, R: Radio>()
-    ensures { (texts : List (List ℕ)) (w : AnyWorld D R) (radios : List R) (last : Standing D R) → IsScriptRun D.honest D.reads D.may_leave D.size R.stations R.faults texts w radios last
-        → IsProper D.honest D.reads D.may_leave D.size (durable_of w) → IsProper D.honest D.reads D.may_leave D.size (durable_of last.world) }
+    ensures { (texts : List (List ℕ)) (w : AnyWorld D R) (radios : List R) (last : Standing D R)
+        → IsScriptRun D.honest D.reads D.may_leave D.size R.stations R.faults texts w radios last
+        → IsProper D.honest D.reads D.may_leave D.size (durable_of w)
+        → IsProper D.honest D.reads D.may_leave D.size (durable_of last.world) }
 {}

@@ -125,7 +125,8 @@ impl<R: Radio> Slot<R> {
     pub fn apply(&mut self, out: &Out) -> Result<(), SlotFault>
         ensures exact { IsExact R.stations self.old → IsExact R.stations self.new }
         ensures wanted { self.new.wanted ≡ wanted_by out.now result self.old.wanted }
-        ensures installed { R.stations self.new.radio ≡ installed_by out.now result self.old.up (R.stations self.old.radio) }
+        ensures installed { R.stations self.new.radio
+            ≡ installed_by out.now result self.old.up (R.stations self.old.radio) }
         ensures up { self.new.up ≡ up_by result self.old.up }
         ensures down { result ≡ Err SlotFault.WentDown
             → (self.old.up ≡ true) × HasRisen (R.faults self.old.radio) (R.faults self.new.radio) }
@@ -210,7 +211,8 @@ impl<R: Radio> Slot<R> {
         ensures asleep { self.old.up ≡ false → self.new.radio ≡ self.old.radio }
         ensures failed { OnErr result (R.stations self.new.radio ≡ R.stations self.old.radio) }
         ensures up { OnOk result (self.new.up ≡ self.old.up) }
-        ensures down { IfErr result (λ fault. (fault ≡ SlotFault.WentDown) × (self.old.up ≡ true) × (self.new.up ≡ false)
+        ensures down { IfErr result
+            (λ fault. (fault ≡ SlotFault.WentDown) × (self.old.up ≡ true) × (self.new.up ≡ false)
             × HasRisen (R.faults self.old.radio) (R.faults self.new.radio)) }
         ensures stays { OnOk result (R.faults self.new.radio ≡ R.faults self.old.radio) }
         ensures count { R.faults self.old.radio ≤ R.faults self.new.radio }
@@ -294,13 +296,17 @@ impl<R: Radio> Slot<R> {
         ensures wanted { self.new.wanted ≡ self.old.wanted }
         ensures installed { OnOk result (R.stations self.new.radio ≡ self.old.wanted) }
         ensures exact { IsExact R.stations self.new }
-        ensures other { OnOk result ((R.frames self.new.radio ≡ R.frames radio) × (R.faults self.new.radio ≡ R.faults radio)) }
-        ensures own { IfOk result (λ old. (R.frames old ≡ R.frames self.old.radio) × (R.faults old ≡ R.faults self.old.radio)) }
+        ensures other { OnOk result
+            ((R.frames self.new.radio ≡ R.frames radio) × (R.faults self.new.radio ≡ R.faults radio)) }
+        ensures own { IfOk result
+            (λ old. (R.frames old ≡ R.frames self.old.radio) × (R.faults old ≡ R.faults self.old.radio)) }
         ensures emptied { IfOk result (λ old. R.stations old ≡ map.empty) }
         ensures kept { OnErr result (self.new.radio ≡ self.old.radio) }
-        ensures back { IfErr result (λ failed. (R.stations failed.0 ≡ map.empty) × (R.frames failed.0 ≡ R.frames radio)) }
+        ensures back { IfErr result
+            (λ failed. (R.stations failed.0 ≡ map.empty) × (R.frames failed.0 ≡ R.frames radio)) }
         ensures errors { IfErr result (λ failed. (failed.1 ≡ SlotFault.WentDown) ⊎ (failed.1 ≡ SlotFault.NoMemory)) }
-        ensures down { IfErr result (λ failed. failed.1 ≡ SlotFault.WentDown → HasRisen (R.faults radio) (R.faults failed.0)) }
+        ensures down { IfErr result
+            (λ failed. failed.1 ≡ SlotFault.WentDown → HasRisen (R.faults radio) (R.faults failed.0)) }
         ensures short { IfErr result (λ failed. failed.1 ≡ SlotFault.NoMemory → R.faults failed.0 ≡ R.faults radio) }
         ensures bssid { self.new.bssid ≡ self.old.bssid }
     {

@@ -30,7 +30,8 @@ impl<D: Disk + Drop, R: Radio> Standing<D, R> {
 
     /// Commits until nothing is unsettled, and hands out: where no refusal was met.
     pub fn flush(&mut self) -> Result<Answers, WorldFault>
-        ensures { self.old.refusal ≡ None → OnOk result (Flushes D.honest D.reads D.may_leave D.size R.stations R.faults self.old self.new) }
+        ensures { self.old.refusal ≡ None
+            → OnOk result (Flushes D.honest D.reads D.may_leave D.size R.stations R.faults self.old self.new) }
     {
         self.world.flush()
     }

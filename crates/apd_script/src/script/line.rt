@@ -86,7 +86,8 @@ fn without_blanks(alloc: Global, text: &[u8]) -> Result<Vec<u8>, AllocError>
 /// something else stands among them.
 fn parse_reception(alloc: Global, text: &[u8]) -> Result<Option<(&[u8], Sequence<u8>)>, AllocError>
     ensures some { IfOk result (λ found. IfSome found (λ parts. IsReception parts.0.now parts.1 text.now)) }
-    ensures none { IfOk result (λ found. IfNone found ((interface frame : List ℕ) → IsReception interface frame text.now → ⊥)) }
+    ensures none { IfOk result
+        (λ found. IfNone found ((interface frame : List ℕ) → IsReception interface frame text.now → ⊥)) }
 {
     let end = first_blank(text).unwrap_or(text.len());
     let (interface, digits) = text.split_at(end);

@@ -73,7 +73,8 @@ impl<D: Disk + Drop, R: Radio> Standing<D, R> {
 
     /// Makes a step, which may not lack memory.
     fn made(&mut self, step: &Step<'_>) -> Result<Told, ScriptFault>
-        ensures ok { OnOk result (IsMade D.honest D.reads D.may_leave D.size R.stations R.faults step.now self.old self.new) }
+        ensures ok { OnOk result
+            (IsMade D.honest D.reads D.may_leave D.size R.stations R.faults step.now self.old self.new) }
         ensures err { IfErr result IsNoBadLine }
     {
         match self.make(step) {
@@ -154,7 +155,9 @@ impl<D: Disk + Drop, R: Radio> Standing<D, R> {
         writer: &mut W,
         input: Input<'_>,
     ) -> Result<Standing<D, R>, ScriptFault>
-        ensures ok { IfOk result (λ new. IsMade D.honest D.reads D.may_leave D.size R.stations R.faults (Accept input.entry self.moment) self new) }
+        ensures ok { IfOk result
+            (λ new. IsMade D.honest D.reads D.may_leave D.size R.stations R.faults
+            (Accept input.entry self.moment) self new) }
         ensures err { IfErr result IsNoBadLine }
     {
         let mut standing = self;
@@ -171,7 +174,8 @@ impl<D: Disk + Drop, R: Radio> Standing<D, R> {
         interface: &[u8],
         frame: &[u8],
     ) -> Result<Standing<D, R>, ScriptFault>
-        ensures ok { IfOk result (λ new. IsReceived D.honest D.reads D.may_leave D.size R.stations R.faults interface.now frame.now self new) }
+        ensures ok { IfOk result
+            (λ new. IsReceived D.honest D.reads D.may_leave D.size R.stations R.faults interface.now frame.now self new) }
         ensures err { IfErr result (IsSaidFault number (Received interface.now frame.now) self) }
     {
         let Some(conf) = self.world.confs().with_interface(interface) else {
@@ -202,7 +206,8 @@ impl<D: Disk + Drop, R: Radio> Standing<D, R> {
         tag: u64,
         step: &Step<'_>,
     ) -> Result<Standing<D, R>, ScriptFault>
-        ensures ok { IfOk result (λ new. IsMade D.honest D.reads D.may_leave D.size R.stations R.faults step.now self new) }
+        ensures ok { IfOk result
+            (λ new. IsMade D.honest D.reads D.may_leave D.size R.stations R.faults step.now self new) }
         ensures err { IfErr result IsNoBadLine }
     {
         let mut standing = self;
@@ -231,7 +236,8 @@ impl<D: Disk + Drop, R: Radio> Standing<D, R> {
         tag: u64,
         what: Placed,
     ) -> Result<Standing<D, R>, ScriptFault>
-        ensures ok { IfOk result (λ new. IsPlaced D.honest D.reads D.may_leave D.size R.stations R.faults (placing what) self new) }
+        ensures ok { IfOk result
+            (λ new. IsPlaced D.honest D.reads D.may_leave D.size R.stations R.faults (placing what) self new) }
         ensures err { IfErr result IsNoBadLine }
     {
         match what {
@@ -254,7 +260,9 @@ impl<D: Disk + Drop, R: Radio> Standing<D, R> {
         interface: Option<&[u8]>,
         command: Command,
     ) -> Result<Standing<D, R>, ScriptFault>
-        ensures ok { IfOk result (λ new. IsMeant D.honest D.reads D.may_leave D.size R.stations R.faults tag command (conf_meant (confs_of self) (option_copied interface.entry)) self new) }
+        ensures ok { IfOk result
+            (λ new. IsMeant D.honest D.reads D.may_leave D.size R.stations R.faults tag command
+            (conf_meant (confs_of self) (option_copied interface.entry)) self new) }
         ensures err { IfErr result IsNoBadLine }
     {
         let Some(conf) = conf_meant(self.world.confs(), interface) else {
@@ -272,7 +280,9 @@ impl<D: Disk + Drop, R: Radio> Standing<D, R> {
         tag: u64,
         text: &[u8],
     ) -> Result<Standing<D, R>, ScriptFault>
-        ensures ok { IfOk result (λ new. IsCarriedOut D.honest D.reads D.may_leave D.size R.stations R.faults tag (command_outcome text.now) self new) }
+        ensures ok { IfOk result
+            (λ new. IsCarriedOut D.honest D.reads D.may_leave D.size R.stations R.faults tag
+            (command_outcome text.now) self new) }
         ensures err { IfErr result IsNoBadLine }
     {
         match parse_command(text) {
@@ -284,7 +294,9 @@ impl<D: Disk + Drop, R: Radio> Standing<D, R> {
 
     /// It is this moment from now on.
     fn ticked<W: Write>(self, writer: &mut W, moment: Moment) -> Result<Standing<D, R>, ScriptFault>
-        ensures ok { IfOk result (λ new. IsRequested D.honest D.reads D.may_leave D.size R.stations R.faults None (record self { moment = moment }) new) }
+        ensures ok { IfOk result
+            (λ new. IsRequested D.honest D.reads D.may_leave D.size R.stations R.faults None
+            (record self { moment = moment }) new) }
         ensures err { IfErr result IsNoBadLine }
     {
         let mut standing = self;
@@ -299,7 +311,8 @@ impl<D: Disk + Drop, R: Radio> Standing<D, R> {
         number: u64,
         line: &Line<'_>,
     ) -> Result<Standing<D, R>, ScriptFault>
-        ensures ok { IfOk result (λ new. IsRun D.honest D.reads D.may_leave D.size R.stations R.faults number (said line.now) self new) }
+        ensures ok { IfOk result
+            (λ new. IsRun D.honest D.reads D.may_leave D.size R.stations R.faults number (said line.now) self new) }
         ensures err { IfErr result (IsSaidFault number (said line.now) self) }
     {
         match line {
@@ -325,7 +338,8 @@ impl<D: Disk + Drop, R: Radio> Standing<D, R> {
         number: u64,
         text: &[u8],
     ) -> Result<Standing<D, R>, ScriptFault>
-        ensures ok { IfOk result (λ new. SaysAndIsRun D.honest D.reads D.may_leave D.size R.stations R.faults number text.now self new) }
+        ensures ok { IfOk result
+            (λ new. SaysAndIsRun D.honest D.reads D.may_leave D.size R.stations R.faults number text.now self new) }
         ensures err { IfErr result (IsLineFault number text.now self) }
     {
         exactly_one_line();

@@ -21,8 +21,10 @@ fn fresh_slots<R: Radio>(
     confs: &Confs,
     spares: &mut VecDeque<R>,
 ) -> Result<Option<Vec<Slot<R>>>, AllocError>
-    ensures slots { IfOk result (λ found. IfSome found (λ slots. map bssid_of slots.items ≡ map (λ conf. conf.bssid) confs.now)) }
-    ensures rest { IfOk result (λ found. IfSome found (λ slots. spares.new.items ≡ drop (length confs.now) spares.old.items)) }
+    ensures slots { IfOk result
+        (λ found. IfSome found (λ slots. map bssid_of slots.items ≡ map (λ conf. conf.bssid) confs.now)) }
+    ensures rest { IfOk result
+        (λ found. IfSome found (λ slots. spares.new.items ≡ drop (length confs.now) spares.old.items)) }
     ensures none { IfOk result (λ found. IfNone found (length spares.old.items < length confs.now)) }
 {
     let mut slots = Vec::new(alloc);
@@ -41,7 +43,9 @@ impl<D: Disk + Drop, R: Radio> Standing<D, R> {
     /// Gives up the world, and begins one of these configurations from what its device reads, with these
     /// slots, at the moment.
     fn restarted(self, confs: Confs, slots: Vec<Slot<R>>) -> Result<Standing<D, R>, ScriptFault>
-        ensures ok { IfOk result (λ new. confs ≡ confs_of self → map bssid_of slots.items ≡ map (λ conf. conf.bssid) confs → IsRestarted D.honest D.reads D.may_leave D.size R.stations R.faults self.moment self.world new.world) }
+        ensures ok { IfOk result
+            (λ new. confs ≡ confs_of self → map bssid_of slots.items ≡ map (λ conf. conf.bssid) confs
+            → IsRestarted D.honest D.reads D.may_leave D.size R.stations R.faults self.moment self.world new.world) }
         ensures only { IfOk result (λ new. new ≡ record self { world = new.world; refusal = None }) }
         ensures err { IfErr result IsNoBadLine }
     {
