@@ -70,6 +70,16 @@ pub(crate) fn add_group(half: &mut Vec<u8>, records: &[u8]) -> Option<()> {
     half.extend_from_slice(records).ok()
 }
 
+// Adds groups of the record, as many as there is room for below a length.
+fn fill(half: &mut Vec<u8>, record: &[u8], length: usize) -> Option<()> {
+    let room = length.checked_sub(half.len())?;
+    let group = record.len().checked_add(5)?;
+    for _time in 0..room.checked_div(group)? {
+        add_group(half, record)?;
+    }
+    Some(())
+}
+
 /// An open half with a group behind its snapshot, and then as many groups of one record as there is room for.
 pub(crate) fn full(
     alloc: Global,
@@ -80,10 +90,7 @@ pub(crate) fn full(
 ) -> Option<Vec<u8>> {
     let mut half = opened(alloc, epoch, snapshot)?;
     add_group(&mut half, group)?;
-    let room = HALF.saturating_sub(half.len()).saturating_sub(1);
-    for _time in 0..room / record.len().saturating_add(5).max(5) {
-        add_group(&mut half, record)?;
-    }
+    fill(&mut half, record, HALF - 1)?;
     Some(half)
 }
 
@@ -116,31 +123,50 @@ pub(crate) fn both_open(alloc: Global) -> Option<MemDisk> {
     device(alloc, &opened(alloc, 1, POLICY)?, &newer)
 }
 
-fn core_of(alloc: Global, table: &Table) -> Option<Core> {
+fn built_in(alloc: Global) -> Option<Vec<Conf>> {
     let mut list = Vec::new(alloc);
     list.push(Conf::built_in(alloc).ok()?).ok()?;
-    let confs = Confs::new(list).ok()?;
-    Core::new(alloc, table.copy(alloc).ok()?, confs, Moment(0)).ok()
+    Some(list)
 }
 
-fn receive(core: &mut Core, frame: &[u8]) -> Option<()> {
-    match core.accept(Input::Received(RADIO, frame), Moment(0)).ok()? {
-        Accepted::Entry(_) => Some(()),
-        _ => None,
-    }
+fn core_of(alloc: Global, table: Table, list: Vec<Conf>) -> Option<Core> {
+    Core::new(alloc, table, Confs::new(list).ok()?, Moment(0)).ok()
+}
+
+fn enters(core: &mut Core, frame: &[u8]) -> bool {
+    let answer = core.accept(Input::Received(RADIO, frame), Moment(0));
+    matches!(answer, Ok(Accepted::Entry(_)))
 }
 
 fn taken(core: &mut Core) -> Option<Batch> {
-    core.take().ok()?
+    match core.take() {
+        Ok(batch) => batch,
+        Err(_) => None,
+    }
 }
 
-// The batch of the station's association, of a core of this table. The core accepts one more request meanwhile.
-fn association(alloc: Global, table: &Table) -> Option<Batch> {
-    let mut core = core_of(alloc, table)?;
-    receive(&mut core, ASSOCIATION)?;
-    let batch = taken(&mut core)?;
-    receive(&mut core, AUTHENTICATION)?;
-    Some(batch)
+fn associates(core: &mut Core) -> Option<Batch> {
+    if enters(core, ASSOCIATION) {
+        taken(core)
+    } else {
+        None
+    }
+}
+
+// The batch of the station's association. The core accepts one more request meanwhile.
+fn association(core: &mut Core) -> Option<Batch> {
+    let batch = associates(core);
+    if enters(core, AUTHENTICATION) {
+        batch
+    } else {
+        None
+    }
+}
+
+// The same of a core of this table.
+fn association_of(alloc: Global, table: &Table) -> Option<Batch> {
+    let mut core = core_of(alloc, table.copy(alloc).ok()?, built_in(alloc)?)?;
+    association(&mut core)
 }
 
 /// A store and its table, by two calls of the device.
@@ -169,7 +195,7 @@ where
     D: Drop,
 {
     let (store, table) = recovered(alloc, disk)?;
-    let batch = association(alloc, &table)?;
+    let batch = association_of(alloc, &table)?;
     Some((flusher_of(alloc, store, table)?, batch))
 }
 
