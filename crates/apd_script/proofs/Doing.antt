@@ -6,7 +6,7 @@ use Rattle.apd_base.specs.declared.moment.Moment.{Moment}
 use Rattle.apd_conf.specs.declared.conf.Conf.{Conf}
 use Rattle.apd_conf.specs.Confs.{conf_named}
 use Rattle.apd_core.specs.Requests.{ordered, unless_ignored}
-use Rattle.apd_ctrl.specs.Placing.{Placing, Asks, Does, placed}
+use Rattle.apd_ctrl.specs.Placing.{Placing, Does, placed}
 use Rattle.apd_ctrl.specs.Reading.{outcome as command_outcome}
 use Rattle.apd_ctrl.specs.declared.command.Command.{Command as Order}
 use Rattle.apd_ctrl.specs.declared.parser.Refusal.{Refusal}

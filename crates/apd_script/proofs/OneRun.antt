@@ -18,7 +18,7 @@ use Rattle.apd_world.specs.declared.world.World.{World}
 use Rattle.apd_world.proofs.RunLaws.{gone_by_flushing, gone_by_handing, gone_then, none_made, one_made}
 use Rattle.apd_script.specs.Lines.{Said, Empty, Received, Tick, Command, Take, Call, Publish, Hand, Flush, Stop, Says, HaveNoStop}
 use Rattle.apd_script.specs.Meant.{conf_meant}
-use Rattle.apd_script.specs.Script.{AreRun, confs_of, Flushes, HandsOut, IsCarriedOut, IsMade, IsMeant, IsPlaced, IsReceived, IsRequested, IsRun, IsTried, Starts}
+use Rattle.apd_script.specs.Script.{AreRun, confs_of, IsCarriedOut, IsMade, IsMeant, IsPlaced, IsRequested, IsRun, IsTried, Starts}
 use Rattle.apd_script.specs.declared.script.standing.Standing.{Standing}
 
 -- ---- no step, and one, whatever the device
