@@ -1,4 +1,5 @@
 mod DriveLaws
+pub mod EndLaws
 mod FollowLaws
 mod Goings
 mod Joining

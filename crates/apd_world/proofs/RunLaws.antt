@@ -1,5 +1,5 @@
 -- Runs, one after another, and what is safely made by them.
-use Rattle.std.proofs.Common.{Bool, true, false, Option, Some, None, inl, inr, Result, Ok, Err, ◌≡◌, ◌≢◌, ℕ, zero, suc, ◌+◌, ◌<◌, List, [], ◌∷◌, ◌++◌, length, take, drop, get_or, add-one, refl, sym, ap, subst, ◌∙◌, arith, append_assoc, length-append}
+use Rattle.std.proofs.Common.{Bool, true, false, Option, Some, None, inl, inr, Result, Ok, Err, ◌≡◌, ◌≢◌, ◌⊎◌, ℕ, zero, suc, ◌+◌, ◌<◌, List, [], ◌∷◌, ◌++◌, length, take, drop, get_or, add-one, refl, sym, ap, subst, ◌∙◌, arith, append_assoc, length-append}
 use Rattle.std.specs.Prelude.{⊤, IfOk, OnErr, OnOk, ◌==◌, ◌&&◌, not, map, replicate}
 use Rattle.std.specs.List.{All, AllByRecursion}
 use Rattle.std.proofs.lemmas.List.{append-nil, map-append, replicate_more, take-append-drop}
@@ -750,6 +750,7 @@ module _ {D R : Type 0} (stations : R → Stations) (faults : R → ℕ) where
     calls = h.calls;
     handed = subst (λ (ys : List Step). IsHandedOut stations faults ys answers a c) (sym (append_assoc xs fs (rounds h.calls))) (handed_after xs (fs ++ rounds h.calls) ts answers a b c past h.handed);
     settled = h.settled;
+    works = h.works;
     rests = h.rests;
   }
 
@@ -774,12 +775,13 @@ module _ {D R : Type 0} (stations : R → Stations) (faults : R → ℕ) where
   rests_after : (d e : DurableCore D) → OnlyHands d e → IsAtRest d → IsAtRest e
   rests_after d e only rests = subst IsAtRest (sym only) (record { batch = rests.batch; call = rests.call; receipt = rests.receipt })
 
-  pub flushed_from : (calls : List ℕ) (ts : List Told) (answers : List (Recipient × Told)) (a b c : World D R) → IsWorldRun stations faults (rounds calls) ts a b → (durable_of b).core.unsettled ≡ [] → IsAtRest (durable_of b)
+  pub flushed_from : (calls : List ℕ) (ts : List Told) (answers : List (Recipient × Told)) (a b c : World D R) → IsWorldRun stations faults (rounds calls) ts a b → (durable_of b).core.unsettled ≡ [] → (durable_of b).core.failed ≡ false → IsAtRest (durable_of b)
       → OnlyHands (durable_of b) (durable_of c) → IsHandedOut stations faults [] answers b c → IsFlushed stations faults [] answers a c
-  flushed_from calls ts answers a b c run settled rests only h = record {
+  flushed_from calls ts answers a b c run settled works rests only h = record {
     calls = calls;
     handed = subst (λ (xs : List Step). IsHandedOut stations faults xs answers a c) (append-nil (rounds calls)) (handed_after (rounds calls) [] ts answers a b c run h);
     settled = ap (λ (w : DurableCore D). w.core.unsettled) only ∙ settled;
+    works = ap (λ (w : DurableCore D). w.core.failed) only ∙ works;
     rests = rests_after (durable_of b) (durable_of c) only rests;
   }
 
@@ -792,7 +794,7 @@ module _ {D R : Type 0} (stations : R → Stations) (faults : R → ℕ) where
       record {
         first = first;
         configuring = configuring;
-        flushed = record { calls = h.calls; handed = handed_after first (rounds h.calls) ts answers a b c run h.handed; settled = h.settled; rests = h.rests };
+        flushed = record { calls = h.calls; handed = handed_after first (rounds h.calls) ts answers a b c run h.handed; settled = h.settled; works = h.works; rests = h.rests };
         accepted = subst (All (λ told. told ≢ NoMemory)) (sym is) told;
       }
 
@@ -831,6 +833,17 @@ pub none_left : {A : Type 0} (fails : Bool) (xs : List A) (b : Bool) → b ≡ (
 none_left fails [] b is test = refl
 none_left true (x ∷ xs) b is test = absurd (let wrong : false ≡ true = sym is ∙ test in cc)
 none_left false (x ∷ xs) b is test = absurd (let zero : (length (x ∷ xs) == 0) ≡ true = sym is ∙ test in grind arith)
+
+-- and that nothing has failed
+pub still_works : {A : Type 0} (fails : Bool) (xs : List A) (b : Bool) → b ≡ (not fails && (length xs == 0)) → b ≡ true → fails ≡ false
+still_works false xs b is test = refl
+still_works true xs b is test = absurd (let wrong : false ≡ true = sym is ∙ test in cc)
+
+-- or fails
+pub unfinished : {A : Type 0} (fails : Bool) (xs : List A) (b : Bool) → b ≡ (not fails && (length xs == 0)) → b ≡ false → (fails ≡ true) ⊎ (xs ≢ [])
+unfinished true xs b is test = inl refl
+unfinished false [] b is test = absurd (let wrong : true ≡ false = sym is ∙ test in cc)
+unfinished false (x ∷ xs) b is test = inr (λ none. let no : (x ∷ xs) ≡ [] = none in cc)
 
 -- ---- the next interface is configured
 abbrev pub asked_of : Conf → Option (Option (Result Happening QuietReason))

@@ -1,5 +1,5 @@
 -- What a call that makes steps leaves (own).
-use Rattle.std.specs.Prelude.{◌≡◌, ◌≢◌, ℕ, List, [], ◌++◌, map, length}
+use Rattle.std.specs.Prelude.{◌≡◌, ◌≢◌, ℕ, List, [], ◌++◌, map, length, false}
 use Rattle.std.specs.List.{All}
 use Rattle.apd_conf.specs.declared.conf.Conf.{Conf}
 use Rattle.apd_disk.specs.Disk.{LeavesOnly}
@@ -55,12 +55,13 @@ module _ {D R : Type 0} (honest : D → Type 0) (reads : D → List ℕ) (may_le
     pub told : All (λ told. told ≢ NoMemory) tolds
     pub made : AreSafelyMade steps tolds old new
 
-  -- rounds, after which every entry is settled
+  -- rounds, after which every entry is settled, and the core has not failed
   pub record AreSettled (old new : World D R) : Type 0 where
     pub calls : List ℕ
     pub tolds : List Told
     pub quiet : AreQuietlyMade (rounds calls) tolds old new
     pub settled : (durable_of new).core.unsettled ≡ []
+    pub works : (durable_of new).core.failed ≡ false
     pub rests : IsAtRest (durable_of new)
 
   -- what they told was added to answers, each with its recipient

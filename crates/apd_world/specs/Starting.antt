@@ -1,5 +1,5 @@
 -- How a world is started, is flushed, and hands out: the steps that are made, and what they tell (own).
-use Rattle.std.specs.Prelude.{◌≡◌, ◌≢◌, ◌⊎◌, ℕ, List, [], ◌∷◌, ◌++◌, map, replicate, length, take, Option, None, Some, Result, Ok}
+use Rattle.std.specs.Prelude.{◌≡◌, ◌≢◌, ◌⊎◌, ℕ, List, [], ◌∷◌, ◌++◌, map, replicate, length, take, Option, None, Some, Result, Ok, true, false}
 use Rattle.std.specs.List.{All, flat_map}
 use Rattle.apd_conf.specs.declared.conf.Conf.{Conf}
 use Rattle.apd_disk.specs.Disk.{LeavesOnly}
@@ -10,6 +10,8 @@ use Rattle.apd_core.specs.Core.{ready_for}
 use Rattle.apd_core.specs.Requests.{said_by}
 use Rattle.apd_core.specs.declared.input.QuietReason.{QuietReason}
 use Rattle.apd_slot.specs.Wanted.{Stations}
+use Rattle.apd_store.specs.declared.fault.StoreFault.{StoreFault}
+use Rattle.apd_store.specs.declared.fault.StoreFault.TheVariants as store_fault
 use Rattle.apd_world.specs.Outside.{device_of}
 use Rattle.apd_world.specs.Round.{answer_of, round}
 use Rattle.apd_world.specs.Seen.{durable_of, queue_of}
@@ -18,7 +20,10 @@ use Rattle.apd_world.specs.Steps.{all_entered}
 use Rattle.apd_world.specs.Telling.{HasNoBatch, HasNoCall, HasNoReceipt}
 use Rattle.apd_world.specs.WorldRun.{HasNoSlot, IsWorldRun}
 use Rattle.apd_world.specs.declared.durable_core.DurableCore.{DurableCore}
+use Rattle.apd_world.specs.declared.fault.WorldFault.{WorldFault}
+use Rattle.apd_world.specs.declared.fault.WorldFault.TheVariants as world_fault
 use Rattle.apd_world.specs.declared.step.Commit.{Commit}
+use Rattle.apd_world.specs.declared.step.Commit.TheVariants as commit
 use Rattle.apd_world.specs.declared.step.Step.{Step}
 use Rattle.apd_world.specs.declared.step.Step.TheVariants.{Accept, Hand, Apply}
 use Rattle.apd_world.specs.declared.step.Told.{Told}
@@ -100,11 +105,12 @@ pub record IsHandedOut {D R : Type 0} (stations : R → Stations) (faults : R �
   pub radios : All (λ conf. IsGiven (Radio conf.bssid) new) (durable_of old).core.confs
   pub control : IsGiven Control new
 
--- After these first steps batches are committed until every entry is settled, and what is settled is handed out.
+-- After these first steps batches are committed until every entry is settled, and what is settled is handed out. The core has not failed.
 pub record IsFlushed {D R : Type 0} (stations : R → Stations) (faults : R → ℕ) (first : List Step) (answers : List (Recipient × Told)) (old new : World D R) : Type 0 where
   pub calls : List ℕ
   pub handed : IsHandedOut stations faults (first ++ rounds calls) answers old new
   pub settled : (durable_of new).core.unsettled ≡ []
+  pub works : (durable_of new).core.failed ≡ false
   pub rests : IsAtRest (durable_of new)
 
 -- Each interface is configured, in order, where none met want of memory, and what that brings about is flushed.
@@ -126,3 +132,35 @@ pub record LeavesFronts {D R : Type 0} (moment : D → ℕ) (left_since : D → 
   pub gone_on : HasGoneOn stations faults old new
   pub leaves : LeavesOnly moment left_since (device_of (durable_of old)) (device_of (durable_of new))
       (ShowsFront (durable_of old).core.settled (durable_of old).core.confs (hs ++ all_entered gone_on.steps gone_on.tolds (durable_of old).core))
+
+-- ---- what ends them early
+-- the core has failed, or an entry is not settled
+abbrev pub IsUnfinished : {D : Type 0} → DurableCore D → Type 0
+IsUnfinished w = (w.core.failed ≡ true) ⊎ (w.core.unsettled ≢ [])
+
+-- What the last round came to, by which it ends with this fault: the store refused with it; or, which is told as `Failed`, there was
+-- nothing to do though something is unfinished, or the receipt was another batch's.
+abbrev pub Ends : {D : Type 0} → Commit → StoreFault → DurableCore D → Type 0
+Ends (commit.Refused told) fault w = fault ≡ told
+Ends commit.Nothing fault w = (fault ≡ store_fault.Failed) × IsUnfinished w
+Ends commit.Foreign fault w = fault ≡ store_fault.Failed
+Ends answer fault w = ⊥
+
+-- Some steps were made, and then a last round, which ends with this fault.
+pub record IsEndedByStore {D R : Type 0} (stations : R → Stations) (faults : R → ℕ) (fault : StoreFault) (old new : World D R) : Type 0 where
+  pub last : World D R
+  pub before : HasGoneOn stations faults old last
+  pub answer : Commit
+  pub round_is : IsWorldRound stations faults answer last new
+  pub ends : Ends answer fault (durable_of new)
+
+-- A start or a flush ends early by a round that the store ends, or where memory is refused. No slot ends it.
+abbrev pub HasEnded : {D R : Type 0} → (R → Stations) → (R → ℕ) → WorldFault → World D R → World D R → Type 0
+HasEnded stations faults (world_fault.Store fault) old new = IsEndedByStore stations faults fault old new
+HasEnded stations faults (world_fault.Slot b fault) old new = ⊥
+HasEnded stations faults world_fault.NoMemory old new = HasGoneOn stations faults old new
+
+-- where the store is told as failed, the core has failed
+abbrev pub HasFailedCore : {D R : Type 0} → WorldFault → World D R → Type 0
+HasFailedCore (world_fault.Store store_fault.Failed) w = (durable_of w).core.failed ≡ true
+HasFailedCore fault w = Unit {0}

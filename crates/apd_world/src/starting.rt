@@ -1,5 +1,5 @@
 //! A world started: its interfaces are configured, and what that brings about is committed, handed out and applied.
-ghost use Rattle.std.specs.Prelude.{◌≡◌, ◌<◌, IfOk, List, OnErr, OnOk, []};
+ghost use Rattle.std.specs.Prelude.{◌≡◌, ◌<◌, IfErr, IfOk, List, OnErr, OnOk, []};
 ghost use Rattle.apd_disk.specs.Disk.{LeavesOnly};
 ghost use Rattle.apd_mlme.specs.Happening.{Happening};
 ghost use Rattle.apd_world.specs.Going.{AreUnsettled, Goes};
@@ -22,7 +22,7 @@ impl<D: Disk, R: Radio> World<D, R> {
     ghost use Rattle.apd_world.specs.Proper.{IsProper};
     ghost use Rattle.apd_world.specs.Round.{ComesTo, IsRound};
     ghost use Rattle.apd_world.specs.Seen.{durable_of, slots_of};
-    ghost use Rattle.apd_world.specs.Starting.{HasGoneOn, IsFlushed, IsStarted, IsWorldRound, LeavesFronts};
+    ghost use Rattle.apd_world.specs.Starting.{HasEnded, HasFailedCore, IsFlushed, IsStarted, IsWorldRound, LeavesFronts};
     ghost use Rattle.apd_world.specs.Telling.{HasNoBatch, HasNoCall, HasNoReceipt};
     ghost use Rattle.apd_world.specs.WorldRun.{RestStays};
 
@@ -49,6 +49,7 @@ impl<D: Disk, R: Radio> World<D, R> {
     fn configure(&mut self) -> Result<(), WorldFault>
         ensures ok { OnOk result (AreAccepted D.honest D.reads D.may_leave D.moment D.left_since D.size R.stations R.faults (durable_of self.old).core.confs self.old self.new) }
         ensures err { OnErr result (SomeAreSafelyMade D.honest D.reads D.may_leave D.moment D.left_since D.size R.stations R.faults self.old self.new) }
+        ensures fault { IfErr result (λ fault. fault ≡ WorldFault.NoMemory) }
     {
         self.durable.stops();
         let Ok(confs) = self.confs().copy(self.alloc) else {
@@ -71,15 +72,16 @@ impl<D: Disk, R: Radio> World<D, R> {
     fn settle(&mut self) -> Result<(), WorldFault>
         ensures ok { OnOk result (AreSettled D.honest D.reads D.may_leave D.moment D.left_since D.size R.stations R.faults self.old self.new) }
         ensures err { OnErr result (SomeAreQuietlyMade D.honest D.reads D.may_leave D.moment D.left_since D.size R.stations R.faults self.old self.new) }
+        ensures ended { IfErr result (λ fault. HasEnded R.stations R.faults fault self.old self.new) }
+        ensures failed { IsProper D.honest D.reads D.may_leave D.size (durable_of self.old) → IfErr result (λ fault. HasFailedCore fault self.new) }
     {
         self.durable.stops();
         loop {
             match self.commit() {
                 Commit::Settled => {}
                 Commit::Nothing if self.durable.is_settled() => return Ok(()),
-                Commit::Nothing | Commit::Foreign => {
-                    return Err(WorldFault::Store(StoreFault::Failed));
-                }
+                Commit::Nothing => return Err(WorldFault::Store(StoreFault::Failed)),
+                Commit::Foreign => return Err(WorldFault::Store(StoreFault::Failed)),
                 Commit::Refused(fault) => return Err(WorldFault::Store(fault)),
                 Commit::NoMemory => return Err(WorldFault::NoMemory),
             }
@@ -89,11 +91,12 @@ impl<D: Disk, R: Radio> World<D, R> {
     /// Commits until nothing is unsettled, and hands out what is settled. A batch or a receipt that is under way is
     /// gone on with. It answers as `hand_out` does.
     ///
-    /// Errors: `Store` where the store refuses, with `Failed` also where the core has failed; `NoMemory`. The steps
-    /// that were made stand.
+    /// Errors: `Store` where the store refuses, with the fault that a step told, and with `Failed` where the core has
+    /// failed or a round settled nothing; `NoMemory`. The steps that were made stand.
     pub fn flush(&mut self) -> Result<Vec<(Recipient, Told)>, WorldFault>
         ensures flushed { IfOk result (λ answers. IsFlushed R.stations R.faults [] answers.items self.old self.new) }
-        ensures err { OnErr result (HasGoneOn R.stations R.faults self.old self.new) }
+        ensures err { IfErr result (λ fault. HasEnded R.stations R.faults fault self.old self.new) }
+        ensures failed { IsProper D.honest D.reads D.may_leave D.size (durable_of self.old) → IfErr result (λ fault. HasFailedCore fault self.new) }
         ensures proper { IsProper D.honest D.reads D.may_leave D.size (durable_of self.old) → IsProper D.honest D.reads D.may_leave D.size (durable_of self.new) }
         ensures any_moment { IsProper D.honest D.reads D.may_leave D.size (durable_of self.old) → (hs : List Happening) → AreUnsettled hs (durable_of self.old).core
             → LeavesOnly D.moment D.left_since (device_of (durable_of self.old)) (device_of (durable_of self.new)) (ShowsFront (durable_of self.old).core.settled (durable_of self.old).core.confs hs) }
@@ -108,11 +111,12 @@ impl<D: Disk, R: Radio> World<D, R> {
     /// about. It answers as `hand_out` does. A configuration that is no entry, as of an interface that has
     /// started with these lists, is passed over.
     ///
-    /// Errors: `Store` where the store refuses, with `Failed` also where the core has failed; `NoMemory`. The steps
-    /// that were made stand.
+    /// Errors: `Store` where the store refuses, with the fault that a step told, and with `Failed` where the core has
+    /// failed or a round settled nothing; `NoMemory`. The steps that were made stand.
     pub fn start(&mut self) -> Result<Vec<(Recipient, Told)>, WorldFault>
         ensures started { IfOk result (λ answers. IsStarted R.stations R.faults answers.items self.old self.new) }
-        ensures err { OnErr result (HasGoneOn R.stations R.faults self.old self.new) }
+        ensures err { IfErr result (λ fault. HasEnded R.stations R.faults fault self.old self.new) }
+        ensures failed { IsProper D.honest D.reads D.may_leave D.size (durable_of self.old) → IfErr result (λ fault. HasFailedCore fault self.new) }
         ensures proper { IsProper D.honest D.reads D.may_leave D.size (durable_of self.old) → IsProper D.honest D.reads D.may_leave D.size (durable_of self.new) }
         ensures any_moment { IsProper D.honest D.reads D.may_leave D.size (durable_of self.old) → (hs : List Happening) → AreUnsettled hs (durable_of self.old).core
             → LeavesFronts D.moment D.left_since R.stations R.faults hs self.old self.new }
