@@ -9,7 +9,7 @@ use apd_record::Change;
 use std::alloc::Global;
 
 /// The record by which the first station of the first radio goes.
-const GOING: &[u8] = &[2, 2, 0, 0, 0, 0, 1, 2, 1, 0, 0, 0, 1];
+const GOING: &[u8] = &[2, 2, 0, 0, 0, 0, 1, 2, 1, 0, 1, 0, 1];
 
 /// One by which nothing changes.
 const NOTHING: &[u8] = &[2, 2, 0, 0, 0, 0, 1, 2, 1, 0, 0, 0, 0];
@@ -19,7 +19,7 @@ fn going(alloc: Global) -> Option<Batch> {
     let mut changes = Sequence::new(alloc);
     let change = Change::Drop {
         bssid: RADIO,
-        addr: Addr([2, 1, 0, 0, 0, 1]),
+        addr: Addr([2, 1, 0, 1, 0, 1]),
     };
     changes.push(change).ok()?;
     Some(Batch {
@@ -68,12 +68,13 @@ fn add_address(records: &mut Vec<u8>, radio: u8, which: u8, number: u16) -> Opti
 fn add_station(records: &mut Vec<u8>, radio: u8, aid: u16) -> Option<()> {
     let [high, low] = aid.to_be_bytes();
     let record = [
-        1, 2, 0, 0, 0, 0, radio, 2, 1, 0, 0, high, low, 2, low, high, 0x31, 4, 10, 0,
+        1, 2, 0, 0, 0, 0, radio, 2, 1, 0, radio, high, low, 2, low, high, 0x31, 4, 10, 0,
     ];
     records.extend_from_slice(&record).ok()
 }
 
-// The records of the greatest table: eight radios, each with two full lists and all its identifiers given.
+// The records of the greatest table: eight radios, each with two full lists and all its identifiers given, to
+// stations of its own.
 fn greatest(alloc: Global) -> Option<Vec<u8>> {
     let mut records = Vec::new(alloc);
     for radio in 1..=8 {
@@ -117,11 +118,11 @@ const ANY_ORDER: &[u8] = &[
     3, 2, 0, 0, 0, 0, 1, 0, 2, 2, 0, 0, 0, 6, // 6
     4, 2, 0, 0, 0, 0, 1, 0, 2, 2, 0, 0, 0, 7, // 7 no more
     6, 2, 0, 0, 0, 0, 1, 0, 0xd7, 7, // the first radio's policy again
-    1, 2, 0, 0, 0, 0, 1, 2, 1, 0, 0, 0, 2, 1, 0, 0, 0, 0, 0, 0, // its station 2
-    1, 2, 0, 0, 0, 0, 1, 2, 1, 0, 0, 0, 1, 1, 0, 0, 0, 0, 0, 0, // 1
-    1, 2, 0, 0, 0, 0, 1, 2, 1, 0, 0, 0, 2, 2, 5, 0, 0x31, 4, 10, 0, // 2 is associated
-    1, 2, 0, 0, 0, 0, 1, 2, 1, 0, 0, 0, 3, 1, 0, 0, 0, 0, 0, 0, // 3
-    2, 2, 0, 0, 0, 0, 1, 2, 1, 0, 0, 0, 3, // 3 goes
+    1, 2, 0, 0, 0, 0, 1, 2, 1, 0, 1, 0, 2, 1, 0, 0, 0, 0, 0, 0, // its station 2
+    1, 2, 0, 0, 0, 0, 1, 2, 1, 0, 1, 0, 1, 1, 0, 0, 0, 0, 0, 0, // 1
+    1, 2, 0, 0, 0, 0, 1, 2, 1, 0, 1, 0, 2, 2, 5, 0, 0x31, 4, 10, 0, // 2 is associated
+    1, 2, 0, 0, 0, 0, 1, 2, 1, 0, 1, 0, 3, 1, 0, 0, 0, 0, 0, 0, // 3
+    2, 2, 0, 0, 0, 0, 1, 2, 1, 0, 1, 0, 3, // 3 goes
 ];
 
 const CANONICAL: &[u8] = &[
@@ -130,8 +131,8 @@ const CANONICAL: &[u8] = &[
     3, 2, 0, 0, 0, 0, 1, 0, 2, 2, 0, 0, 0, 6, // lists
     3, 2, 0, 0, 0, 0, 1, 1, 2, 2, 0, 0, 0, 8, //
     3, 2, 0, 0, 0, 0, 1, 1, 2, 2, 0, 0, 0, 9, //
-    1, 2, 0, 0, 0, 0, 1, 2, 1, 0, 0, 0, 1, 1, 0, 0, 0, 0, 0, 0, // stations
-    1, 2, 0, 0, 0, 0, 1, 2, 1, 0, 0, 0, 2, 2, 5, 0, 0x31, 4, 10, 0, //
+    1, 2, 0, 0, 0, 0, 1, 2, 1, 0, 1, 0, 1, 1, 0, 0, 0, 0, 0, 0, // stations
+    1, 2, 0, 0, 0, 0, 1, 2, 1, 0, 1, 0, 2, 2, 5, 0, 0x31, 4, 10, 0, //
 ];
 
 #[test]
