@@ -37,31 +37,63 @@ pub struct Rates {
     pub bare: Option<u64>,
 }
 
-// The world of the built-in configuration over a new store on a disk.
+// A disk that a new store lies on.
+fn formatted<D: Disk + Drop>(alloc: Global, disk: D) -> Result<D, BenchFault> {
+    match format(alloc, disk) {
+        Ok(store) => Ok(store.into_device()),
+        Err(_) => Err(BenchFault::File),
+    }
+}
+
+// The built-in configuration alone.
+fn confs(alloc: Global) -> Result<Confs, BenchFault> {
+    let mut list = Vec::new(alloc);
+    list.push(Conf::built_in(alloc)?).map_err(AllocError::from)?;
+    match Confs::new(list) {
+        Ok(confs) => Ok(confs),
+        Err(_) => Err(BenchFault::Refused),
+    }
+}
+
+// The one slot.
+fn slots(alloc: Global) -> Result<Vec<Slot<Sim>>, BenchFault> {
+    let mut slots = Vec::new(alloc);
+    slots
+        .push(Slot::new(alloc, Sim::new(alloc), BSSID))
+        .map_err(AllocError::from)?;
+    Ok(slots)
+}
+
+// The world over a disk on which there is a store.
+fn restarted<D: Disk + Drop>(
+    alloc: Global,
+    disk: D,
+    confs: Confs,
+    slots: Vec<Slot<Sim>>,
+) -> Result<World<D, Sim>, BenchFault> {
+    match restart(alloc, disk, confs, slots, Moment(0)) {
+        Ok(world) => Ok(world),
+        Err(_) => Err(BenchFault::Refused),
+    }
+}
+
+// The world, started.
+fn started<D: Disk + Drop>(world: World<D, Sim>) -> Result<World<D, Sim>, BenchFault> {
+    let mut world = world;
+    match world.start() {
+        Ok(_) => Ok(world),
+        Err(_) => Err(BenchFault::Refused),
+    }
+}
+
+// The world of the built-in configuration over a new store on a disk, started.
 fn world<'a, D: Disk + Drop>(
     alloc: Global,
     disk: D,
     tally: &'a Tally,
 ) -> Result<World<Counting<'a, D>, Sim>, BenchFault> {
-    let Ok(store) = format(alloc, Counting::new(disk, tally)) else {
-        return Err(BenchFault::File);
-    };
-    let mut list = Vec::new(alloc);
-    list.push(Conf::built_in(alloc)?).map_err(AllocError::from)?;
-    let Ok(confs) = Confs::new(list) else {
-        return Err(BenchFault::Refused);
-    };
-    let mut slots = Vec::new(alloc);
-    slots
-        .push(Slot::new(alloc, Sim::new(alloc), BSSID))
-        .map_err(AllocError::from)?;
-    let Ok(mut world) = restart(alloc, store.into_device(), confs, slots, Moment(0)) else {
-        return Err(BenchFault::Refused);
-    };
-    match world.start() {
-        Ok(_) => Ok(world),
-        Err(_) => Err(BenchFault::Refused),
-    }
+    let disk = formatted(alloc, Counting::new(disk, tally))?;
+    started(restarted(alloc, disk, confs(alloc)?, slots(alloc)?)?)
 }
 
 // One round of a case.
@@ -92,6 +124,42 @@ fn counted_on<C: Clock, D: Disk + Drop>(
     round_of(rt, &mut world, &tally, case, requests)
 }
 
+// The rate of the bare loop over a file, with as many bytes a turn as the commits of a round wrote; none without a file.
+fn bare_rate<C: Clock>(
+    rt: &C,
+    alloc: Global,
+    round: &Round,
+    bare: Option<&File>,
+) -> Result<Option<u64>, BenchFault> {
+    let Some(file) = bare else {
+        return Ok(None);
+    };
+    let bytes = round.bytes.checked_div(round.commits).unwrap_or(0);
+    let (turns, time) = bare_round(rt, alloc, file, bytes as usize)?;
+    Ok(per_second(turns, time))
+}
+
+// The rate of a round.
+fn rate(case: &Case, round: &Round) -> Option<u64> {
+    match case.counted {
+        Counted::Requests => per_second(round.requests, round.time),
+        Counted::Commits | Counted::Switches => per_second(round.commits, round.committing),
+    }
+}
+
+// A round of a case, after which its stations are as before.
+fn round_and_back<C: Clock, D: Disk, R: Radio>(
+    rt: &C,
+    world: &mut World<D, R>,
+    tally: &Tally,
+    case: &Case,
+    requests: u16,
+) -> Result<Round, BenchFault> {
+    let round = round_of(rt, world, tally, case, requests)?;
+    undo(rt, world, case, requests)?;
+    Ok(round)
+}
+
 // The rates of some rounds over a store on a disk, with a round of the bare loop over a file after each.
 fn measured_on<C: Clock, D: Disk + Drop>(
     rt: &C,
@@ -104,23 +172,17 @@ fn measured_on<C: Clock, D: Disk + Drop>(
     let tally = Tally::new();
     let mut world = world(alloc, disk, &tally)?;
     associate(rt, &mut world, case.associated(requests))?;
-    let (mut rates, mut bare_rates) = ([None; ROUNDS], [None; ROUNDS]);
-    for (rate, bare_rate) in rates.iter_mut().zip(bare_rates.iter_mut()) {
-        let round = round_of(rt, &mut world, &tally, case, requests)?;
-        undo(rt, &mut world, case, requests)?;
-        *rate = match case.counted {
-            Counted::Requests => per_second(round.requests, round.time),
-            Counted::Commits | Counted::Switches => per_second(round.commits, round.committing),
-        };
-        if let Some(file) = bare {
-            let bytes = round.bytes.checked_div(round.commits).unwrap_or(0);
-            let (turns, time) = bare_round(rt, alloc, file, bytes as usize)?;
-            *bare_rate = per_second(turns, time);
-        }
+    let (mut rates, mut bare_rates) = (Vec::new(alloc), Vec::new(alloc));
+    for _ in 0..ROUNDS {
+        let round = round_and_back(rt, &mut world, &tally, case, requests)?;
+        rates.push(rate(case, &round)).map_err(AllocError::from)?;
+        bare_rates
+            .push(bare_rate(rt, alloc, &round, bare)?)
+            .map_err(AllocError::from)?;
     }
     Ok(Rates {
-        case: median(alloc, &rates)?,
-        bare: median(alloc, &bare_rates)?,
+        case: median(alloc, rates.as_slice())?,
+        bare: median(alloc, bare_rates.as_slice())?,
     })
 }
 

@@ -32,19 +32,28 @@ pub fn commit<D: Disk, R: Radio>(world: &mut World<D, R>) -> Result<(), BenchFau
     }
 }
 
+// Moves what is settled for the radio to its queue, and tells how much.
+fn queue<D: Disk, R: Radio>(world: &mut World<D, R>) -> Result<usize, BenchFault> {
+    match world.step(&Step::Hand(Recipient::Radio(BSSID))) {
+        Told::Queued(count) => Ok(count),
+        Told::NoMemory => Err(BenchFault::NoMemory),
+        _ => Err(BenchFault::Refused),
+    }
+}
+
+// Has the radio apply the first of its queue.
+fn apply<D: Disk, R: Radio>(world: &mut World<D, R>) -> Result<(), BenchFault> {
+    match world.step(&Step::Apply(BSSID)) {
+        Told::Applied(_, Ok(())) => Ok(()),
+        Told::NoMemory => Err(BenchFault::NoMemory),
+        _ => Err(BenchFault::Refused),
+    }
+}
+
 /// Hands out what is settled for the radio, and has it applied.
 pub fn hand<D: Disk, R: Radio>(world: &mut World<D, R>) -> Result<(), BenchFault> {
-    let count = match world.step(&Step::Hand(Recipient::Radio(BSSID))) {
-        Told::Queued(count) => count,
-        Told::NoMemory => return Err(BenchFault::NoMemory),
-        _ => return Err(BenchFault::Refused),
-    };
-    for _ in 0..count {
-        match world.step(&Step::Apply(BSSID)) {
-            Told::Applied(_, Ok(())) => {}
-            Told::NoMemory => return Err(BenchFault::NoMemory),
-            _ => return Err(BenchFault::Refused),
-        }
+    for _ in 0..queue(world)? {
+        apply(world)?;
     }
     Ok(())
 }

@@ -1,5 +1,5 @@
 //! Control commands as datagrams.
-ghost use Rattle.std.specs.Prelude.{◌≡◌, None, OnSome};
+ghost use Rattle.std.specs.Prelude.{◌≡◌, IsSome, IsNone};
 
 use crate::senders::Senders;
 use apd_desk::{Port, PortFault};
@@ -15,7 +15,7 @@ pub struct ControlPort {
     senders: Senders,
     // A command that waits for the memory of its tag.
     received: Option<(SocketAddr, Vec<u8>)>,
-    ghost one: { OnSome received (datagrams ≡ None) },
+    ghost one: { IsSome received → IsNone datagrams },
 }
 
 impl ControlPort {
@@ -32,7 +32,7 @@ impl ControlPort {
 }
 
 impl Port for ControlPort {
-    ghost use Rattle.std.specs.Prelude.{IfOk, OnOk, OnErr, MatchOption, IfSome, IsSome, IsSomeAnd};
+    ghost use Rattle.std.specs.Prelude.{IfOk, OnOk, OnErr, MatchOption, IfSome, IsSomeAnd};
     ghost use Rattle.std.specs.declared.net.socket_addr.SocketAddr.{SocketAddr};
     ghost use Rattle.apd_serve.specs.Commands.{waiting};
     ghost use Rattle.apd_serve.specs.Tags.{Adds, AreSame, Forgets};
@@ -47,7 +47,7 @@ impl Port for ControlPort {
             (λ got. IsSomeAnd got
             (λ command. Adds self.old.senders command.0 waited.0 self.new.senders
             × (command.1.items ≡ waited.1)))) }
-        ensures given { OnOk result (waiting self.new ≡ None) }
+        ensures given { OnOk result (IsNone (waiting self.new)) }
         ensures stays { IsSome (waiting self.old) → OnErr result (waiting self.new ≡ waiting self.old) }
         ensures err { OnErr result (AreSame self.old.senders self.new.senders) }
     {
