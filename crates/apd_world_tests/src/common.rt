@@ -135,6 +135,16 @@ pub(crate) fn device<D: Disk, R: Radio>(world: World<D, R>) -> D {
     flusher.into_device()
 }
 
+/// The world of the store that a device holds, with these slots.
+pub(crate) fn recovered<D: Disk + Drop, R: Radio>(
+    alloc: Global,
+    device: D,
+    confs: Confs,
+    slots: Vec<Slot<R>>,
+) -> Option<World<D, R>> {
+    restart(alloc, device, confs, slots, Moment(0)).ok()
+}
+
 /// The world of the store that a device holds, with radios that do nothing.
 pub(crate) fn restarted(
     alloc: Global,
@@ -142,5 +152,5 @@ pub(crate) fn restarted(
     lasts: &[u8],
 ) -> Option<World<MemDisk, Sim>> {
     let confs = confs(alloc, lasts)?;
-    restart(alloc, device, confs, sims(alloc, lasts)?, Moment(0)).ok()
+    recovered(alloc, device, confs, sims(alloc, lasts)?)
 }
