@@ -93,7 +93,7 @@ impl Eprint for Page {
 }
 
 /// What a run that came to this prints, and whether it ends with this status.
-fn page(
+fn printed_page(
     alloc: Global,
     done: Result<Option<clap::Error>, ProgramFault>,
     status: u8,
@@ -110,7 +110,7 @@ fn page(
 /// What is printed of these words, and whether they end with this status.
 fn page_of(alloc: Global, words: &[&str], status: u8) -> Result<(String, bool), Fail> {
     let error = command(alloc)?.try_get_matches_from(words).err();
-    page(alloc, Ok(error), status)
+    printed_page(alloc, Ok(error), status)
 }
 
 #[test]
@@ -125,9 +125,9 @@ fn wrong_words_are_told(rt: HostRuntime) -> Result<(), Fail> {
 
 #[test]
 fn a_fault_is_told(rt: HostRuntime) -> Result<(), Fail> {
-    let (text, ended) = page(rt.alloc(), Err(ProgramFault::NoMemory), 1)?;
+    let (text, ended) = printed_page(rt.alloc(), Err(ProgramFault::NoMemory), 1)?;
     assert_eq!(rt; (text.as_str(), ended), ("2apd: out of memory\n", true));
-    let (text, ended) = page(rt.alloc(), Ok(None), 0)?;
+    let (text, ended) = printed_page(rt.alloc(), Ok(None), 0)?;
     assert_eq!(rt; (text.as_str(), ended), ("", true));
     Ok(())
 }
