@@ -201,7 +201,8 @@ pub(crate) struct Given<'a> {
 /// does not give.
 pub(crate) fn values_given(file: &[u8]) -> Result<Given<'_>, ConfFault>
     requires { IsFaultless (fault_at (lines file.now)) }
-    ensures interface { IfOk result (λ given. value_of (codes "interface") (lines file.now) ≡ Some given.interface.now) }
+    ensures interface { IfOk result
+        (λ given. value_of (codes "interface") (lines file.now) ≡ Some given.interface.now) }
     ensures bssid { IfOk result (λ given. value_of (codes "bssid") (lines file.now) ≡ Some given.bssid.now) }
     ensures ssid { IfOk result (λ given. value_of (codes "ssid") (lines file.now) ≡ Some given.ssid.now) }
     ensures err { IfErr result (IsFaultOf (lines file.now)) }

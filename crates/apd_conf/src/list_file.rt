@@ -70,7 +70,8 @@ fn add(list: &mut ListSoFar, addr: Addr) -> Result<(), ListFault>
     ensures few { length list.new ≤ MAX_LISTED }
     ensures ok { OnOk result (from_sorted {R = addr_cmp} list.new ≡ finmap.insert (from_sorted list.old) addr tt) }
     ensures err { IfErr result (λ fault. fault ≡ TooMany) }
-    ensures many { OnErr result (MAX_LISTED < finmap.len (finmap.insert (from_sorted {R = addr_cmp} list.old) addr tt)) }
+    ensures many { OnErr result
+        (MAX_LISTED < finmap.len (finmap.insert (from_sorted {R = addr_cmp} list.old) addr tt)) }
 {
     let Err(place) = rows::place(list.as_slice(), &addr) else {
         return Ok(());

@@ -188,7 +188,8 @@ impl<L: Ledger> Locked<L> {
     pub(crate) fn publish(&mut self, receipt: Receipt) -> Result<(), (Receipt, PublishFault)>
         ensures flight { OnOk result (IsFlight (held_batch receipt) self.old.core) }
         ensures core { OnOk result (self.new.core ≡ published self.old.core) }
-        ensures foreign { IfErr result (λ e. (e.1 ≡ PublishFault.Foreign) ↔ ¬ IsFlight (held_batch receipt) self.old.core) }
+        ensures foreign { IfErr result
+            (λ e. (e.1 ≡ PublishFault.Foreign) ↔ ¬ IsFlight (held_batch receipt) self.old.core) }
         ensures err { IfErr result (λ e. (e.0 ≡ receipt) × (self.new.core ≡ self.old.core)) }
         ensures accepted { self.new.accepted ≡ self.old.accepted }
         ensures given { self.new.given ≡ self.old.given }

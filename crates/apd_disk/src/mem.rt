@@ -199,7 +199,7 @@ impl Disk for MemDisk {
 
     ghost since_earlier = { λ d t u c h le left. earlier_left d.initial.items d.calls.items t u c le left };
 
-    ghost same_size = { λ d t c h left. left_length d.initial.items d.calls.items d.bytes.items t c d.stands d.fit left };
+    ghost same_size = { λ d t c h by. left_length d.initial.items d.calls.items d.bytes.items t c d.stands d.fit by };
 
     fn len(&self) -> usize {
         self.bytes.len()
@@ -243,7 +243,8 @@ impl Disk for MemDisk {
         ensures initial { self.new.initial.items ≡ self.old.initial.items }
         ensures written { OnOk result (self.new.bytes.items ≡ overwritten self.old.bytes.items at bytes.now) }
         ensures unwritten { OnErr result (self.new.bytes.items ≡ self.old.bytes.items) }
-        ensures stop { Follows (TornWithin at (length bytes.now)) (LeftAfter self.old.initial.items self.old.calls.items)
+        ensures stop { Follows (TornWithin at (length bytes.now))
+            (LeftAfter self.old.initial.items self.old.calls.items)
             (LeftBetween self.new.initial.items self.new.calls.items (length self.old.calls.items)) }
         ensures time { Elapses (length self.old.calls.items) (length self.new.calls.items)
             (LeftBetween self.old.initial.items self.old.calls.items)
@@ -264,7 +265,8 @@ impl Disk for MemDisk {
         ensures unrecorded { OnErr result (self.new.calls.items ≡ self.old.calls.items) }
         ensures initial { self.new.initial.items ≡ self.old.initial.items }
         ensures kept { self.new.bytes.items ≡ self.old.bytes.items }
-        ensures durable { OnOk result (Only self.old.bytes.items (LeftAfter self.new.initial.items self.new.calls.items)) }
+        ensures durable { OnOk result
+            (Only self.old.bytes.items (LeftAfter self.new.initial.items self.new.calls.items)) }
         ensures stop { Within (LeftBetween self.new.initial.items self.new.calls.items (length self.old.calls.items))
             (LeftAfter self.old.initial.items self.old.calls.items) }
         ensures time { Elapses (length self.old.calls.items) (length self.new.calls.items)

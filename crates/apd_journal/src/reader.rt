@@ -42,7 +42,8 @@ fn read_open(
     bytes: &[u8],
     changes: &mut Sequence<Change>,
 ) -> Result<Option<usize>, AllocError>
-    ensures some { IfOk result (λ found. IfSome found (λ place. HasGroups bytes.now changes.old changes.new place)) }
+    ensures some { IfOk result
+        (λ found. IfSome found (λ place. HasGroups bytes.now changes.old changes.new place)) }
     ensures none { IfOk result
         (λ found. IfNone found ((after : List AnyChange) (place : ℕ)
         → ¬ HasGroups bytes.now changes.old after place)) }
@@ -69,7 +70,8 @@ fn read_open(
 ///
 /// It takes memory for the changes alone, and reads each byte at most twice.
 pub fn read_groups(alloc: Global, half: &[u8]) -> Result<Option<Groups>, AllocError>
-    ensures some { IfOk result (λ found. IfSome found (λ groups. HalfHolds half.now groups.epoch groups.changes groups.gate)) }
+    ensures some { IfOk result
+        (λ found. IfSome found (λ groups. HalfHolds half.now groups.epoch groups.changes groups.gate)) }
     ensures none { IfOk result
         (λ found. IfNone found ((epoch : ℕ) (changes : List AnyChange) (place : ℕ)
         → ¬ HalfHolds half.now epoch changes place)) }

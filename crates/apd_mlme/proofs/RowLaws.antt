@@ -1,11 +1,10 @@
 -- What an event leaves that changes one row at most.
-use Rattle.std.proofs.Common.{◌≡◌, List, [], ◌∷◌, ◌++◌, inl, sym, ◌∙◌, IsSome}
+use Rattle.std.proofs.Common.{◌≡◌, List, [], ◌∷◌, inl, sym, ◌∙◌, IsSome}
 use Rattle.apd_base.specs.declared.address.Addr.{Addr}
 use Rattle.apd_base.specs.declared.address.Bssid.{Bssid}
 use Rattle.apd_base.specs.declared.station.Station.TheVariants.{Authenticated}
 use Rattle.apd_base.specs.State.{State, station_at, aid_at}
 use Rattle.apd_frame.specs.declared.codes.Reason.{Reason}
-use Rattle.apd_frame.specs.declared.replies.Reply.{Reply}
 use Rattle.apd_record.specs.Meaning.{put_station}
 use Rattle.apd_table.specs.Sound.{Sound, StaySound}
 use Rattle.apd_table.proofs.Dropped.{sound_drop}
@@ -14,7 +13,7 @@ use Rattle.apd_mlme.specs.declared.decision.Recipient.{Recipient}
 use Rattle.apd_mlme.specs.declared.decision.Out.{Out}
 use Rattle.apd_mlme.specs.Leaving.{deauthentication, removal, outs_of_drop, put_back, dropped}
 use Rattle.apd_mlme.specs.Outs.{sent}
-use Rattle.apd_mlme.specs.Verdict.{Verdict, only_sent}
+use Rattle.apd_mlme.specs.Verdict.{Verdict}
 use Rattle.apd_mlme.proofs.DriverLaws.{aid_dropped, left_by, left_by-append, left_by_removal}
 
 -- the driver of a radio has the associated stations of the state after, where it had those of the state before

@@ -51,7 +51,8 @@ pub trait Radio: Drop {
     ///
     /// Errors: `Device`, `NoMemory`.
     fn poll(&mut self) -> Result<Option<Vec<u8>>, RadioFault>
-        ensures next { IfOk result (λ got. Polls (frames self.old) (option_map (λ frame. frame.items) got) (frames self.new)) }
+        ensures next { IfOk result
+            (λ got. Polls (frames self.old) (option_map (λ frame. frame.items) got) (frames self.new)) }
         ensures unknown { OnErr result ((frames self.old ≡ None) × (frames self.new ≡ None)) }
         ensures same { stations self.new ≡ stations self.old }
         ensures stays { OnOk result (faults self.new ≡ faults self.old) }

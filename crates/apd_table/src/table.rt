@@ -292,8 +292,8 @@ impl Table {
     // Whether the station has a row at the BSSID that is denied once a change is made.
     fn is_denied_after(&self, bssid: Bssid, addr: Addr, bss: &Bss, change: &Change) -> bool
         ensures { result
-            ≡ (is_some
-            (station_at self.now bssid addr) && is_address_denied_after bss.now.lists bss.now.policy.mode bssid change.now addr) }
+            ≡ (is_some (station_at self.now bssid addr)
+            && is_address_denied_after bss.now.lists bss.now.policy.mode bssid change.now addr) }
     {
         self.get(bssid, addr).is_some()
             && denials::is_denied_after(addr, bssid, &bss.lists, bss.policy.mode, change)

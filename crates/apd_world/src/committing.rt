@@ -73,7 +73,8 @@ impl<D: Disk> DurableCore<D> {
             → IsProper D.honest D.reads D.may_leave D.size self.new }
         ensures any_moment { IsProper D.honest D.reads D.may_leave D.size self.old → (hs : List Happening)
             → AreUnsettled hs self.old.core
-            → LeavesOnly D.moment D.left_since (device_of self.old) (device_of self.new) (ShowsFront self.old.core.settled self.old.core.confs hs) }
+            → LeavesOnly D.moment D.left_since (device_of self.old) (device_of self.new)
+            (ShowsFront self.old.core.settled self.old.core.confs hs) }
         ensures quiet { Goes [] (λ r. []) self.old.core self.new.core }
         ensures heard { self.new.core.heard ≡ self.old.core.heard }
         ensures count { D.failed (device_of self.old) ≤ D.failed (device_of self.new) }

@@ -43,7 +43,8 @@ impl<D: Disk, R: Radio> World<D, R> {
             ∷ []) answers.old.items answers.new.items self.old self.new) }
         ensures err { OnErr result
             (IsHanding step.now
-            → SomeAreQuietlyMade D.honest D.reads D.may_leave D.moment D.left_since D.size R.stations R.faults self.old self.new) }
+            → SomeAreQuietlyMade D.honest D.reads D.may_leave D.moment D.left_since D.size R.stations R.faults
+            self.old self.new) }
         ensures fault { IfErr result (λ fault. fault ≡ WorldFault.NoMemory) }
         ensures only { IsHanding step.now → OnlyHands (durable_of self.old) (durable_of self.new) }
     {
@@ -66,7 +67,8 @@ impl<D: Disk, R: Radio> World<D, R> {
             (AreAnswered D.honest D.reads D.may_leave D.moment D.left_since D.size R.stations R.faults
             (hands confs.now) answers.old.items answers.new.items self.old self.new) }
         ensures err { OnErr result
-            (SomeAreQuietlyMade D.honest D.reads D.may_leave D.moment D.left_since D.size R.stations R.faults self.old self.new) }
+            (SomeAreQuietlyMade D.honest D.reads D.may_leave D.moment D.left_since D.size R.stations R.faults
+            self.old self.new) }
         ensures fault { IfErr result (λ fault. fault ≡ WorldFault.NoMemory) }
         ensures only { OnlyHands (durable_of self.old) (durable_of self.new) }
     {
@@ -92,9 +94,11 @@ impl<D: Disk, R: Radio> World<D, R> {
     // Applies each out that waits at a slot, in the order of the configurations.
     fn apply_all(&mut self, confs: &Confs, answers: &mut Answers) -> Result<(), WorldFault>
         ensures ok { OnOk result
-            (AreAllApplied D.honest D.reads D.may_leave D.moment D.left_since D.size R.stations R.faults confs.now answers.old.items answers.new.items self.old self.new) }
+            (AreAllApplied D.honest D.reads D.may_leave D.moment D.left_since D.size R.stations R.faults
+            confs.now answers.old.items answers.new.items self.old self.new) }
         ensures err { OnErr result
-            (SomeAreQuietlyMade D.honest D.reads D.may_leave D.moment D.left_since D.size R.stations R.faults self.old self.new) }
+            (SomeAreQuietlyMade D.honest D.reads D.may_leave D.moment D.left_since D.size R.stations R.faults
+            self.old self.new) }
         ensures fault { IfErr result (λ fault. fault ≡ WorldFault.NoMemory) }
         ensures only { OnlyHands (durable_of self.old) (durable_of self.new) }
     {

@@ -59,7 +59,8 @@ impl<D: Disk, R: Radio> World<D, R> {
             (AreAccepted D.honest D.reads D.may_leave D.moment D.left_since D.size R.stations R.faults
             (durable_of self.old).core.confs self.old self.new) }
         ensures err { OnErr result
-            (SomeAreSafelyMade D.honest D.reads D.may_leave D.moment D.left_since D.size R.stations R.faults self.old self.new) }
+            (SomeAreSafelyMade D.honest D.reads D.may_leave D.moment D.left_since D.size R.stations R.faults
+            self.old self.new) }
         ensures fault { IfErr result (λ fault. fault ≡ WorldFault.NoMemory) }
     {
         self.durable.stops();
@@ -82,9 +83,11 @@ impl<D: Disk, R: Radio> World<D, R> {
     // Commits until nothing is unsettled.
     fn settle(&mut self) -> Result<(), WorldFault>
         ensures ok { OnOk result
-            (AreSettled D.honest D.reads D.may_leave D.moment D.left_since D.size R.stations R.faults self.old self.new) }
+            (AreSettled D.honest D.reads D.may_leave D.moment D.left_since D.size R.stations R.faults
+            self.old self.new) }
         ensures err { OnErr result
-            (SomeAreQuietlyMade D.honest D.reads D.may_leave D.moment D.left_since D.size R.stations R.faults self.old self.new) }
+            (SomeAreQuietlyMade D.honest D.reads D.may_leave D.moment D.left_since D.size R.stations R.faults
+            self.old self.new) }
         ensures ended { IfErr result (λ fault. HasEnded R.stations R.faults fault self.old self.new) }
         ensures failed { IsProper D.honest D.reads D.may_leave D.size (durable_of self.old)
             → IfErr result (λ fault. HasFailedCore fault self.new) }

@@ -175,7 +175,8 @@ impl<D: Disk + Drop, R: Radio> Standing<D, R> {
         frame: &[u8],
     ) -> Result<Standing<D, R>, ScriptFault>
         ensures ok { IfOk result
-            (λ new. IsReceived D.honest D.reads D.may_leave D.size R.stations R.faults interface.now frame.now self new) }
+            (λ new. IsReceived D.honest D.reads D.may_leave D.size R.stations R.faults
+            interface.now frame.now self new) }
         ensures err { IfErr result (IsSaidFault number (Received interface.now frame.now) self) }
     {
         let Some(conf) = self.world.confs().with_interface(interface) else {
