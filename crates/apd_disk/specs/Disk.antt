@@ -1,5 +1,5 @@
 -- What the calls of a disk do to its bytes, and to what a stop may leave.
-use Rattle.std.specs.Prelude.{◌≡◌, ◌⊎◌, ℕ, ◌+◌, ◌≤◌, List, ◌++◌, length, take, drop, Result, OnErr, OnOk}
+use Rattle.std.specs.Prelude.{◌≡◌, ◌⊎◌, ◌↔◌, ℕ, ◌+◌, ◌≤◌, List, ◌++◌, length, take, drop, Result, OnErr, OnOk}
 use Rattle.apd_base.specs.Failures.{HasRisen}
 
 -- the image with these bytes at this place
@@ -46,3 +46,32 @@ pub record LeavesOnly {D : Type 0} (moment : D → ℕ) (left_since : D → ℕ 
   pub each : (c : List ℕ) → left_since new (moment old) c → P c
   -- for a run that began earlier
   pub before : (t : ℕ) (c : List ℕ) → t ≤ moment old → left_since new t c → left_since old t c ⊎ P c
+
+-- ---- What one call does, on a disk of this kind: all of it but the length is said of an honest disk alone.
+module _ {D T E : Type 0} (honest : D → Type 0) (reads : D → List ℕ) (may_leave : D → List ℕ → Type 0) (moment : D → ℕ)
+    (left_since : D → ℕ → List ℕ → Type 0) (size : D → ℕ) (old new : D) (result : Result T E) where
+  -- a buffer that held something is filled with the bytes from a place on
+  pub record IsRead (at : ℕ) (before after : List ℕ) : Type 0 where
+    pub length_stays : size new ≡ size old
+    pub stays_honest : honest old ↔ honest new
+    pub bytes : honest old → OnOk result (after ≡ take (length before) (drop at (reads old)))
+    pub stays : honest old → OnOk result (reads new ≡ reads old)
+    pub stop : honest old → Within (left_since new (moment old)) (may_leave old)
+    pub time : honest old → Elapses (moment old) (moment new) (left_since old) (left_since new)
+
+  -- the bytes are written from a place on
+  pub record IsWritten (at : ℕ) (bytes : List ℕ) : Type 0 where
+    pub length_stays : size new ≡ size old
+    pub stays_honest : honest old ↔ honest new
+    pub written : honest old → OnOk result (reads new ≡ overwritten (reads old) at bytes)
+    pub stop : honest old → Follows (TornWithin at (length bytes)) (may_leave old) (left_since new (moment old))
+    pub time : honest old → Elapses (moment old) (moment new) (left_since old) (left_since new)
+
+  -- what was written is made durable
+  pub record IsSynced : Type 0 where
+    pub length_stays : size new ≡ size old
+    pub stays_honest : honest old ↔ honest new
+    pub durable : honest old → OnOk result (Only (reads old) (may_leave new))
+    pub stays : honest old → OnOk result (reads new ≡ reads old)
+    pub stop : honest old → Within (left_since new (moment old)) (may_leave old)
+    pub time : honest old → Elapses (moment old) (moment new) (left_since old) (left_since new)

@@ -1,6 +1,10 @@
 -- Which calls a disk that fails on purpose passes on. Reads, writes and syncs count alike.
-use Rattle.std.specs.Prelude.{◌≡◌, ◌+◌, ℕ, Option, Result, Some, None, IsErr}
+use Rattle.std.specs.Prelude.{◌≡◌, ◌+◌, ◌-◌, ◌^◌, min, ℕ, Option, Result, Some, None, IsErr}
 use Rattle.apd_disk.specs.Disk.{Counts}
+
+-- the failures of the disk inside and those that were made here, up to the greatest count
+abbrev pub sum_of : ℕ → ℕ → ℕ
+sum_of inner own = min (inner + own) (2 ^ 64 - 1)
 
 -- One call of a fuse over this disk, which became that. The numbers are how many calls it still passes; it has none once a call has failed.
 pub record FuseCall {D T E : Type 0} (failed : D → ℕ) (old new : D) (before after : Option ℕ)

@@ -1,7 +1,7 @@
 //! A disk by what a read gives and what a stop may leave. All of it but the length and the count of failures
 //! is said of an honest disk alone.
-ghost use Rattle.std.specs.Prelude.{◌≡◌, ◌≤◌, ◌+◌, ◌↔◌, List, ℕ, length, take, drop, OnOk};
-ghost use Rattle.apd_disk.specs.Disk.{overwritten, TornWithin, Only, Within, Follows, Elapses, Counts};
+ghost use Rattle.std.specs.Prelude.{◌≡◌, ◌≤◌, ◌+◌, List, ℕ, length};
+ghost use Rattle.apd_disk.specs.Disk.{Counts, IsRead, IsSynced, IsWritten};
 
 use crate::DiskFault;
 
@@ -42,14 +42,9 @@ pub trait Disk {
     /// Errors: only where the device failed in this call; `buf` may then hold anything.
     fn read_at(&mut self, at: usize, buf: &mut [u8]) -> Result<(), DiskFault>
         requires { at + length buf.old ≤ size self.old }
-        ensures size { size self.new ≡ size self.old }
         ensures count { Counts (failed self.old) (failed self.new) result }
-        ensures honest { honest self.old ↔ honest self.new }
-        ensures bytes { honest self.old → OnOk result (buf.new ≡ take (length buf.old) (drop at (reads self.old))) }
-        ensures reads { honest self.old → OnOk result (reads self.new ≡ reads self.old) }
-        ensures stop { honest self.old → Within (left_since self.new (moment self.old)) (may_leave self.old) }
-        ensures time { honest self.old
-            → Elapses (moment self.old) (moment self.new) (left_since self.old) (left_since self.new) };
+        ensures call { IsRead honest reads may_leave moment left_since size self.old self.new result
+            at buf.old buf.new };
 
     /// Writes the bytes from `at` on. The range lies inside the device. Failed or not, a stop may leave any
     /// bytes in the range until a sync succeeds.
@@ -57,27 +52,16 @@ pub trait Disk {
     /// Errors: only where the device failed in this call.
     fn write_at(&mut self, at: usize, bytes: &[u8]) -> Result<(), DiskFault>
         requires { at + length bytes.now ≤ size self.old }
-        ensures size { size self.new ≡ size self.old }
         ensures count { Counts (failed self.old) (failed self.new) result }
-        ensures honest { honest self.old ↔ honest self.new }
-        ensures written { honest self.old → OnOk result (reads self.new ≡ overwritten (reads self.old) at bytes.now) }
-        ensures stop { honest self.old
-            → Follows (TornWithin at (length bytes.now)) (may_leave self.old) (left_since self.new (moment self.old)) }
-        ensures time { honest self.old
-            → Elapses (moment self.old) (moment self.new) (left_since self.old) (left_since self.new) };
+        ensures call { IsWritten honest reads may_leave moment left_since size self.old self.new result
+            at bytes.now };
 
     /// Makes what was written durable: where it succeeds, a stop leaves what a read gives.
     ///
     /// Errors: only where the device failed in this call.
     fn sync(&mut self) -> Result<(), DiskFault>
-        ensures size { size self.new ≡ size self.old }
         ensures count { Counts (failed self.old) (failed self.new) result }
-        ensures honest { honest self.old ↔ honest self.new }
-        ensures durable { honest self.old → OnOk result (Only (reads self.old) (may_leave self.new)) }
-        ensures reads { honest self.old → OnOk result (reads self.new ≡ reads self.old) }
-        ensures stop { honest self.old → Within (left_since self.new (moment self.old)) (may_leave self.old) }
-        ensures time { honest self.old
-            → Elapses (moment self.old) (moment self.new) (left_since self.old) (left_since self.new) };
+        ensures call { IsSynced honest reads may_leave moment left_since size self.old self.new result };
 
     /// What a read gives, a stop may leave.
     ghost reads_may_be_left: { (disk : Self) → honest disk → may_leave disk (reads disk) };

@@ -1,7 +1,7 @@
 //! A disk that fails one call.
-ghost use Rattle.std.specs.Prelude.{◌≡◌, ◌≤◌, ◌+◌, ◌-◌, ◌^◌, ◌↔◌, length, take, drop, min, OnOk, Some};
-ghost use Rattle.apd_disk.specs.Disk.{overwritten, TornWithin, Only, Within, Follows, Elapses, Counts};
-ghost use Rattle.apd_disk.specs.Faults.{OnceCall};
+ghost use Rattle.std.specs.Prelude.{◌≡◌, ◌≤◌, ◌+◌, length, Some};
+ghost use Rattle.apd_disk.specs.Disk.{Counts, IsRead, IsSynced, IsWritten};
+ghost use Rattle.apd_disk.specs.Faults.{sum_of, OnceCall};
 
 use crate::fault::fail;
 use crate::{Disk, DiskFault};
@@ -44,7 +44,7 @@ impl<D: Disk> OnceDisk<D> {
 }
 
 // A method with an `ensures` of its own has its clauses in place of the trait's. So each one here repeats
-// the trait's, of the disk inside, beside the clause that is its own (`passed`).
+// the trait's record, of the disk inside, beside the clause that is its own (`passed`).
 impl<D: Disk> Disk for OnceDisk<D> {
     ghost honest = { λ d. D.honest d.inner };
 
@@ -58,7 +58,7 @@ impl<D: Disk> Disk for OnceDisk<D> {
 
     ghost size = { λ d. D.size d.inner };
 
-    ghost failed = { λ d. min (D.failed d.inner + d.failures) (2 ^ 64 - 1) };
+    ghost failed = { λ d. sum_of (D.failed d.inner) d.failures };
 
     ghost reads_may_be_left = { λ d h. D.reads_may_be_left d.inner h };
 
@@ -80,18 +80,10 @@ impl<D: Disk> Disk for OnceDisk<D> {
 
     fn read_at(&mut self, at: usize, buf: &mut [u8]) -> Result<(), DiskFault>
         requires { at + length buf.old ≤ D.size self.old.inner }
-        ensures size { D.size self.new.inner ≡ D.size self.old.inner }
-        ensures count { Counts (min (D.failed self.old.inner + self.old.failures) (2 ^ 64 - 1))
-            (min (D.failed self.new.inner + self.new.failures) (2 ^ 64 - 1)) result }
-        ensures honest { D.honest self.old.inner ↔ D.honest self.new.inner }
-        ensures bytes { D.honest self.old.inner
-            → OnOk result (buf.new ≡ take (length buf.old) (drop at (D.reads self.old.inner))) }
-        ensures reads { D.honest self.old.inner → OnOk result (D.reads self.new.inner ≡ D.reads self.old.inner) }
-        ensures stop { D.honest self.old.inner
-            → Within (D.left_since self.new.inner (D.moment self.old.inner)) (D.may_leave self.old.inner) }
-        ensures time { D.honest self.old.inner
-            → Elapses (D.moment self.old.inner) (D.moment self.new.inner) (D.left_since self.old.inner)
-            (D.left_since self.new.inner) }
+        ensures count { Counts (sum_of (D.failed self.old.inner) self.old.failures)
+            (sum_of (D.failed self.new.inner) self.new.failures) result }
+        ensures call { IsRead D.honest D.reads D.may_leave D.moment D.left_since D.size
+            self.old.inner self.new.inner result at buf.old buf.new }
         ensures passed { OnceCall D.failed self.old.inner self.new.inner self.old.before self.new.before result }
     {
         match self.before {
@@ -109,18 +101,10 @@ impl<D: Disk> Disk for OnceDisk<D> {
 
     fn write_at(&mut self, at: usize, bytes: &[u8]) -> Result<(), DiskFault>
         requires { at + length bytes.now ≤ D.size self.old.inner }
-        ensures size { D.size self.new.inner ≡ D.size self.old.inner }
-        ensures count { Counts (min (D.failed self.old.inner + self.old.failures) (2 ^ 64 - 1))
-            (min (D.failed self.new.inner + self.new.failures) (2 ^ 64 - 1)) result }
-        ensures honest { D.honest self.old.inner ↔ D.honest self.new.inner }
-        ensures written { D.honest self.old.inner
-            → OnOk result (D.reads self.new.inner ≡ overwritten (D.reads self.old.inner) at bytes.now) }
-        ensures stop { D.honest self.old.inner
-            → Follows (TornWithin at (length bytes.now)) (D.may_leave self.old.inner)
-            (D.left_since self.new.inner (D.moment self.old.inner)) }
-        ensures time { D.honest self.old.inner
-            → Elapses (D.moment self.old.inner) (D.moment self.new.inner) (D.left_since self.old.inner)
-            (D.left_since self.new.inner) }
+        ensures count { Counts (sum_of (D.failed self.old.inner) self.old.failures)
+            (sum_of (D.failed self.new.inner) self.new.failures) result }
+        ensures call { IsWritten D.honest D.reads D.may_leave D.moment D.left_since D.size
+            self.old.inner self.new.inner result at bytes.now }
         ensures passed { OnceCall D.failed self.old.inner self.new.inner self.old.before self.new.before result }
     {
         match self.before {
@@ -137,18 +121,10 @@ impl<D: Disk> Disk for OnceDisk<D> {
     }
 
     fn sync(&mut self) -> Result<(), DiskFault>
-        ensures size { D.size self.new.inner ≡ D.size self.old.inner }
-        ensures count { Counts (min (D.failed self.old.inner + self.old.failures) (2 ^ 64 - 1))
-            (min (D.failed self.new.inner + self.new.failures) (2 ^ 64 - 1)) result }
-        ensures honest { D.honest self.old.inner ↔ D.honest self.new.inner }
-        ensures durable { D.honest self.old.inner
-            → OnOk result (Only (D.reads self.old.inner) (D.may_leave self.new.inner)) }
-        ensures reads { D.honest self.old.inner → OnOk result (D.reads self.new.inner ≡ D.reads self.old.inner) }
-        ensures stop { D.honest self.old.inner
-            → Within (D.left_since self.new.inner (D.moment self.old.inner)) (D.may_leave self.old.inner) }
-        ensures time { D.honest self.old.inner
-            → Elapses (D.moment self.old.inner) (D.moment self.new.inner) (D.left_since self.old.inner)
-            (D.left_since self.new.inner) }
+        ensures count { Counts (sum_of (D.failed self.old.inner) self.old.failures)
+            (sum_of (D.failed self.new.inner) self.new.failures) result }
+        ensures call { IsSynced D.honest D.reads D.may_leave D.moment D.left_since D.size
+            self.old.inner self.new.inner result }
         ensures passed { OnceCall D.failed self.old.inner self.new.inner self.old.before self.new.before result }
     {
         match self.before {
