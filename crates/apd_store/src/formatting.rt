@@ -1,14 +1,12 @@
 //! Formatting: no magic stands while the heads of the halves are written.
-ghost use Rattle.std.specs.Prelude.{◌≡◌, ◌≢◌, ◌≤◌, ◌+◌, ◌↔◌, ◌⊎◌, ℕ, List, false, length, take, OnOk, IfOk, IfErr};
+ghost use Rattle.std.specs.Prelude.{◌≡◌, ◌≢◌, ◌≤◌, ◌+◌, ◌↔◌, ℕ, List, false, length, take, OnOk, IfOk, IfErr};
 ghost use Rattle.apd_base.specs.declared.limits.TheConstants.{DEVICE_LENGTH};
-ghost use Rattle.apd_base.specs.Failures.{HasRisen};
 ghost use Rattle.apd_base.specs.State.{State, empty_state};
 ghost use Rattle.apd_disk.specs.Disk.{Only, Counts, LeavesOnly};
 ghost use Rattle.apd_journal.specs.declared.writer.TheConstants.{HALF_LENGTH};
-ghost use Rattle.apd_store.specs.Image.{Shows, ShowsBy, IsMarkedBy, MayBeMade, MayBeMadeBy};
+ghost use Rattle.apd_store.specs.Formatting.{IsFormatted, IsHonestlyFormatted, IsHonestlyNotFormatted, IsNotFormatted};
+ghost use Rattle.apd_store.specs.Image.{ShowsBy, IsMarkedBy, MayBeMade, MayBeMadeBy};
 ghost use Rattle.apd_store.specs.Layout.{blank, BeginsBy, HasZeroGate, IsLaidOut, IsFound, IsFoundBy};
-ghost use Rattle.apd_store.specs.Commit.{IsIdle};
-ghost use Rattle.apd_store.specs.Outside.{device_of, phase_of, IsInside};
 ghost use Rattle.apd_store.specs.declared.half.Half.TheVariants.{A};
 
 use crate::fault::StoreFault;
@@ -140,27 +138,12 @@ fn lay_out_empty<D: Disk>(device: &mut D) -> Result<(), DiskFault>
 /// nothing is then done; `Device` where it failed in this call. So it succeeds exactly where the length is
 /// right and no call of the device failed: the count of failures is then as it was.
 pub fn format<D: Disk>(alloc: Global, device: D) -> Result<Store<D>, (D, StoreFault)>
-    ensures inside { IfOk result (λ store. IsInside D.size store) }
-    ensures empty { D.honest device → IfOk result (λ store. IsIdle D.reads D.may_leave store empty_state) }
-    ensures ready { IfOk result (λ store. phase_of store ≡ Phase.Idle) }
-    ensures shown { D.honest device
-        → IfOk result (λ store. (c : List ℕ) → D.may_leave (device_of store) c → Shows c empty_state) }
-    ensures any_moment { D.honest device
-        → IfOk result
-        (λ store. LeavesOnly D.moment D.left_since device (device_of store) (MayBeMade (D.may_leave device))) }
-    ensures any_moment_err { D.honest device
-        → IfErr result (λ e. LeavesOnly D.moment D.left_since device e.0 (MayBeMade (D.may_leave device))) }
-    ensures calls { D.honest device → IfOk result (λ store. D.moment (device_of store) ≤ D.moment device + 9) }
-    ensures calls_err { D.honest device → IfErr result (λ e. D.moment e.0 ≤ D.moment device + 9) }
-    ensures honest { IfOk result (λ store. D.honest device ↔ D.honest (device_of store)) }
-    ensures honest_err { IfErr result (λ e. D.honest device ↔ D.honest e.0) }
-    ensures length { OnOk result (D.size device ≡ DEVICE_LENGTH) }
-    ensures not_a_store { IfErr result (λ e. (e.1 ≡ StoreFault.NotAStore) ↔ (D.size device ≢ DEVICE_LENGTH)) }
-    ensures untouched { IfErr result (λ e. e.1 ≡ StoreFault.NotAStore → e.0 ≡ device) }
-    ensures only { IfErr result (λ e. (e.1 ≡ StoreFault.NotAStore) ⊎ (e.1 ≡ StoreFault.Device)) }
-    ensures device { IfErr result (λ e. e.1 ≡ StoreFault.Device → HasRisen (D.failed device) (D.failed e.0)) }
-    ensures count { IfOk result (λ store. D.failed (device_of store) ≡ D.failed device) }
-    ensures count_err { IfErr result (λ e. D.failed device ≤ D.failed e.0) }
+    ensures made { IfOk result (λ store. IsFormatted D.honest D.size D.failed device store) }
+    ensures made_honest { D.honest device
+        → IfOk result (λ store. IsHonestlyFormatted D.reads D.may_leave D.moment D.left_since device store) }
+    ensures none { IfErr result (λ e. IsNotFormatted D.honest D.size D.failed device e.0 e.1) }
+    ensures none_honest { D.honest device
+        → IfErr result (λ e. IsHonestlyNotFormatted D.may_leave D.moment D.left_since device e.0) }
 {
     let mut device = device;
     if device.len() != DEVICE_LENGTH as usize {

@@ -1,12 +1,9 @@
 //! Recovery: from a device to a store and its table.
-ghost use Rattle.std.specs.Prelude.{◌≡◌, ◌≢◌, ◌≤◌, ◌+◌, ◌↔◌, ◌⊎◌, ℕ, List, length, OnOk, IfOk, IfErr, OnErr, IsErrOf, Err};
+ghost use Rattle.std.specs.Prelude.{◌≡◌, ◌≢◌, ◌≤◌, ◌+◌, ◌↔◌, ◌⊎◌, length, OnOk, IfOk, IfErr, OnErr, IsErrOf, Err};
 ghost use Rattle.apd_base.specs.declared.limits.TheConstants.{DEVICE_LENGTH};
 ghost use Rattle.apd_base.specs.Failures.{HasRisen};
 ghost use Rattle.apd_disk.specs.Disk.{Only, LeavesOnly};
-ghost use Rattle.apd_store.specs.Image.{Shows, ShowsNone, IsMarked};
-ghost use Rattle.apd_store.specs.Layout.{IsFound};
-ghost use Rattle.apd_store.specs.Commit.{IsIdle};
-ghost use Rattle.apd_store.specs.Outside.{device_of, phase_of, IsInside};
+ghost use Rattle.apd_store.specs.Recovery.{IsHonestlyNotRecovered, IsHonestlyRecovered, IsNotRecovered, IsRecovered};
 
 use crate::fault::StoreFault;
 use crate::phase::Phase;
@@ -69,39 +66,13 @@ fn read_device<D: Disk>(alloc: Global, device: &mut D) -> Result<Vec<u8>, StoreF
 /// the bytes show no state; `Device` where the device failed in this call; `NoMemory`. Where a stop left one
 /// image before the call, as after a sync, it leaves that one after any of them.
 pub fn recover<D: Disk>(alloc: Global, device: D) -> Result<(Store<D>, Table), (D, StoreFault)>
-    ensures inside { IfOk result (λ found. IsInside D.size found.0) }
-    ensures ready { IfOk result (λ found. phase_of found.0 ≡ Phase.Idle) }
-    ensures shown { D.honest device → IfOk result (λ found. Shows (D.reads device) found.1) }
-    ensures idle { D.honest device → IfOk result (λ found. IsIdle D.reads D.may_leave found.0 found.1) }
-    ensures reads { D.honest device → IfOk result (λ found. D.reads (device_of found.0) ≡ D.reads device) }
-    ensures not_a_store { D.honest device
-        → IfErr result (λ e. e.1 ≡ StoreFault.NotAStore → ¬ IsMarked (D.reads device)) }
-    ensures damaged { D.honest device
-        → IfErr result (λ e. e.1 ≡ StoreFault.Damaged → IsMarked (D.reads device) × ShowsNone (D.reads device)) }
-    ensures any_moment { D.honest device
-        → IfOk result (λ found. LeavesOnly D.moment D.left_since device (device_of found.0) (D.may_leave device)) }
-    ensures any_moment_err { D.honest device
-        → IfErr result (λ e. LeavesOnly D.moment D.left_since device e.0 (D.may_leave device)) }
-    ensures durable_err { D.honest device
-        → IfErr result (λ e. e.1 ≢ StoreFault.Device → Only (D.reads device) (D.may_leave e.0)) }
-    ensures reads_err { D.honest device → IfErr result (λ e. e.1 ≢ StoreFault.Device → D.reads e.0 ≡ D.reads device) }
-    ensures still_err { D.honest device
-        → IfErr result (λ e. (image : List ℕ) → Only image (D.may_leave device)
-        → Only image (D.may_leave e.0) × (D.reads e.0 ≡ image)) }
-    ensures calls { D.honest device → IfOk result (λ found. D.moment (device_of found.0) ≤ D.moment device + 2) }
-    ensures calls_err { D.honest device → IfErr result (λ e. D.moment e.0 ≤ D.moment device + 2) }
-    ensures honest { IfOk result (λ found. D.honest device ↔ D.honest (device_of found.0)) }
-    ensures honest_err { IfErr result (λ e. D.honest device ↔ D.honest e.0) }
-    ensures length { OnOk result (D.size device ≡ DEVICE_LENGTH) }
-    ensures other_length { IfErr result
-        (λ e. D.size device ≢ DEVICE_LENGTH → (e.1 ≡ StoreFault.NotAStore) ⊎ (e.1 ≡ StoreFault.Device)) }
-    ensures only { IfErr result
-        (λ e. (e.1 ≡ StoreFault.NotAStore) ⊎ (e.1 ≡ StoreFault.Damaged) ⊎ (e.1 ≡ StoreFault.Device)
-        ⊎ (e.1 ≡ StoreFault.NoMemory)) }
-    ensures device { IfErr result (λ e. e.1 ≡ StoreFault.Device → HasRisen (D.failed device) (D.failed e.0)) }
-    ensures count { IfOk result (λ found. D.failed (device_of found.0) ≡ D.failed device) }
-    ensures count_err { IfErr result (λ e. D.failed device ≤ D.failed e.0) }
-    ensures no_fault { IfErr result (λ e. e.1 ≢ StoreFault.Device → D.failed e.0 ≡ D.failed device) }
+    ensures found { IfOk result (λ found. IsRecovered D.honest D.size D.failed device found.0) }
+    ensures found_honest { D.honest device
+        → IfOk result
+        (λ found. IsHonestlyRecovered D.reads D.may_leave D.moment D.left_since device found.0 found.1) }
+    ensures none { IfErr result (λ e. IsNotRecovered D.honest D.size D.failed device e.0 e.1) }
+    ensures none_honest { D.honest device
+        → IfErr result (λ e. IsHonestlyNotRecovered D.reads D.may_leave D.moment D.left_since device e.0 e.1) }
 {
     let mut device = device;
     let bytes = match read_device(alloc, &mut device) {

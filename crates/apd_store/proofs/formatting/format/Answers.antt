@@ -1,13 +1,19 @@
-use Rattle.std.proofs.Common.{◌≡◌, List, ℕ, false, sym, subst}
+use Rattle.std.proofs.Common.{◌≡◌, List, ℕ, false, rules, sym, subst}
 use Rattle.apd_base.specs.State.{empty_state}
 use Rattle.apd_store.specs.Image.{Shows}
 use Rattle.apd_store.specs.declared.half.Half.TheVariants.{A}
 use Rattle.apd_store.proofs.Current.{found_shows}
 use Rattle.apd_store.proofs.formatting.format.Goals as goal
 
-pub returns-clause-shown : goal.returns-clause-shown
-returns-clause-shown g c = λ h i left.
+pub returns-clause-made_honest : goal.returns-clause-made_honest
+returns-clause-made_honest g c = λ h.
     let device = c.lay_out_empty.new.device in
     let found = c.in-Ok.ensures.found h in
-    let is : i ≡ g.D.Disk.reads device = found.1 i (subst (λ d. g.D.Disk.may_leave d i) c.new.ensures.device left) in
-    subst (λ (l : List ℕ). Shows l empty_state) (sym is) (found_shows (g.D.Disk.reads device) A 1 13 false empty_state found.0)
+    record {
+      empty = search rules;
+      shown = λ i left.
+          let is : i ≡ g.D.Disk.reads device = found.1 i (subst (λ d. g.D.Disk.may_leave d i) c.new.ensures.device left) in
+          subst (λ (l : List ℕ). Shows l empty_state) (sym is) (found_shows (g.D.Disk.reads device) A 1 13 false empty_state found.0);
+      any_moment = search rules;
+      calls = search rules;
+    }

@@ -52,8 +52,8 @@ returns-in-WriteGroup-clause-stuck_early g c = λ state after h s early.
 pub returns-in-SyncGroup-clause-any_moment : goal.returns-in-SyncGroup-clause-any_moment
 returns-in-SyncGroup-clause-any_moment g c = λ state after h s.
     let store = c.args.self.now in
-    one_call g.D.Disk.moment g.D.Disk.left_since store.device c.sync.new.self (MayShow (calls_from store.phase) state after) (c.sync.ensures.time h)
-    (λ i during. now_shows g.D.Disk.reads g.D.Disk.may_leave store state after s i (c.sync.ensures.stop h i during))
+    one_call g.D.Disk.moment g.D.Disk.left_since store.device c.sync.new.self (MayShow (calls_from store.phase) state after) (c.sync.ensures.call.time h)
+    (λ i during. now_shows g.D.Disk.reads g.D.Disk.may_leave store state after s i (c.sync.ensures.call.stop h i during))
 
 pub returns-in-SyncGroup-clause-stuck : goal.returns-in-SyncGroup-clause-stuck
 returns-in-SyncGroup-clause-stuck g c = λ state after h s.
@@ -61,7 +61,7 @@ returns-in-SyncGroup-clause-stuck g c = λ state after h s.
     let now = record store { device = c.sync.new.self; phase = c.moved-in-SyncGroup.new.phase } in
     moved_stuck c.map_err-made.result OpenGate c.moved-in-SyncGroup.new.phase c.moved-in-SyncGroup.result _ c.moved-in-SyncGroup.ensures
     (leaves_stuck g.D.Disk.moment g.D.Disk.left_since g.D.Disk.may_leave store.device now (calls_from store.phase) state after
-    (λ t i le left. g.met.D.Disk.counts_now c.sync.new.self t i (c.sync.ensures.honest.0 h) le left) (returns-in-SyncGroup-clause-any_moment g c state after h s))
+    (λ t i le left. g.met.D.Disk.counts_now c.sync.new.self t i (c.sync.ensures.call.stays_honest.0 h) le left) (returns-in-SyncGroup-clause-any_moment g c state after h s))
 
 pub returns-in-SyncGroup-clause-stuck_early : goal.returns-in-SyncGroup-clause-stuck_early
 returns-in-SyncGroup-clause-stuck_early g c = λ state after h s early.
@@ -69,7 +69,7 @@ returns-in-SyncGroup-clause-stuck_early g c = λ state after h s early.
     let now = record store { device = c.sync.new.self; phase = c.moved-in-SyncGroup.new.phase } in
     moved_stuck c.map_err-made.result OpenGate c.moved-in-SyncGroup.new.phase c.moved-in-SyncGroup.result _ c.moved-in-SyncGroup.ensures
     (leaves_stuck_early g.D.Disk.moment g.D.Disk.left_since g.D.Disk.may_leave store.device now (calls_from store.phase) state after
-    (λ t i le left. g.met.D.Disk.counts_now c.sync.new.self t i (c.sync.ensures.honest.0 h) le left) (returns-in-SyncGroup-clause-any_moment g c state after h s) early)
+    (λ t i le left. g.met.D.Disk.counts_now c.sync.new.self t i (c.sync.ensures.call.stays_honest.0 h) le left) (returns-in-SyncGroup-clause-any_moment g c state after h s) early)
 
 pub returns-in-OpenGate-clause-any_moment : goal.returns-in-OpenGate-clause-any_moment
 returns-in-OpenGate-clause-any_moment g c = λ state after h s.
@@ -105,8 +105,8 @@ returns-in-OpenGate-clause-stuck g c = λ state after h s.
 pub returns-in-SyncGate-clause-any_moment : goal.returns-in-SyncGate-clause-any_moment
 returns-in-SyncGate-clause-any_moment g c = λ state after h s.
     let store = c.args.self.now in
-    one_call g.D.Disk.moment g.D.Disk.left_since store.device c.sync-in-SyncGate.new.self (MayShow (calls_from store.phase) state after) (c.sync-in-SyncGate.ensures.time h)
-    (λ i during. now_shows g.D.Disk.reads g.D.Disk.may_leave store state after s i (c.sync-in-SyncGate.ensures.stop h i during))
+    one_call g.D.Disk.moment g.D.Disk.left_since store.device c.sync-in-SyncGate.new.self (MayShow (calls_from store.phase) state after) (c.sync-in-SyncGate.ensures.call.time h)
+    (λ i during. now_shows g.D.Disk.reads g.D.Disk.may_leave store state after s i (c.sync-in-SyncGate.ensures.call.stop h i during))
 
 pub returns-in-SyncGate-clause-stuck : goal.returns-in-SyncGate-clause-stuck
 returns-in-SyncGate-clause-stuck g c = λ state after h s.
@@ -114,7 +114,7 @@ returns-in-SyncGate-clause-stuck g c = λ state after h s.
     let now = record store { device = c.sync-in-SyncGate.new.self; phase = c.moved-in-SyncGate.new.phase } in
     moved_stuck c.map_err-made-in-SyncGate.result Done c.moved-in-SyncGate.new.phase c.moved-in-SyncGate.result _ c.moved-in-SyncGate.ensures
     (leaves_stuck g.D.Disk.moment g.D.Disk.left_since g.D.Disk.may_leave store.device now (calls_from store.phase) state after
-    (λ t i le left. g.met.D.Disk.counts_now c.sync-in-SyncGate.new.self t i (c.sync-in-SyncGate.ensures.honest.0 h) le left) (returns-in-SyncGate-clause-any_moment g c state after h s))
+    (λ t i le left. g.met.D.Disk.counts_now c.sync-in-SyncGate.new.self t i (c.sync-in-SyncGate.ensures.call.stays_honest.0 h) le left) (returns-in-SyncGate-clause-any_moment g c state after h s))
 
 pub returns-in-SyncGroup-clause-on : goal.returns-in-SyncGroup-clause-on
 returns-in-SyncGroup-clause-on g c = λ state after h s.
@@ -122,7 +122,7 @@ returns-in-SyncGroup-clause-on g c = λ state after h s.
     let device = c.sync.new.self in
     let P = λ (phase : Phase). IsWriting g.D.Disk.reads g.D.Disk.may_leave (record store { device = device; phase = phase }) state after in
     moved_made c.map_err-made.result OpenGate c.moved-in-SyncGroup.new.phase c.moved-in-SyncGroup.result (g.D.Disk.reads device ≡ g.D.Disk.reads store.device × Only (g.D.Disk.reads store.device) (g.D.Disk.may_leave device)) P c.moved-in-SyncGroup.ensures
-    (synced c.sync.result c.map_err-made.result _ _ c.map_err-made.ensures.variant (c.sync.ensures.reads h) (c.sync.ensures.durable h))
+    (synced c.sync.result c.map_err-made.result _ _ c.map_err-made.ensures.variant (c.sync.ensures.call.stays h) (c.sync.ensures.call.durable h))
     (λ made both. moves g.D.Disk.reads g.D.Disk.may_leave store state after s device OpenGate
     (both.0 ∙ (at_phase g.D.Disk.reads g.D.Disk.may_leave store state after s SyncGroup c.in-SyncGroup.is).0, λ i left. both.1 i left ∙ sym both.0))
 
@@ -132,6 +132,6 @@ returns-in-SyncGate-clause-on g c = λ state after h s.
     let device = c.sync-in-SyncGate.new.self in
     let P = λ (phase : Phase). IsWriting g.D.Disk.reads g.D.Disk.may_leave (record store { device = device; phase = phase }) state after in
     moved_made c.map_err-made-in-SyncGate.result Done c.moved-in-SyncGate.new.phase c.moved-in-SyncGate.result (g.D.Disk.reads device ≡ g.D.Disk.reads store.device × Only (g.D.Disk.reads store.device) (g.D.Disk.may_leave device)) P c.moved-in-SyncGate.ensures
-    (synced c.sync-in-SyncGate.result c.map_err-made-in-SyncGate.result _ _ c.map_err-made-in-SyncGate.ensures.variant (c.sync-in-SyncGate.ensures.reads h) (c.sync-in-SyncGate.ensures.durable h))
+    (synced c.sync-in-SyncGate.result c.map_err-made-in-SyncGate.result _ _ c.map_err-made-in-SyncGate.ensures.variant (c.sync-in-SyncGate.ensures.call.stays h) (c.sync-in-SyncGate.ensures.call.durable h))
     (λ made both. moves g.D.Disk.reads g.D.Disk.may_leave store state after s device Done
     (both.0 ∙ (at_phase g.D.Disk.reads g.D.Disk.may_leave store state after s SyncGate c.in-SyncGate.is).0, λ i left. both.1 i left ∙ sym both.0))

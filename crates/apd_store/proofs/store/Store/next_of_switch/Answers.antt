@@ -106,8 +106,8 @@ returns-in-OpenHalf-clause-stuck g c = λ state after h s.
 pub returns-in-SyncClosed-clause-any_moment : goal.returns-in-SyncClosed-clause-any_moment
 returns-in-SyncClosed-clause-any_moment g c = λ state after h s.
     let store = c.args.self.now in
-    one_call g.D.Disk.moment g.D.Disk.left_since store.device c.sync.new.self (λ i. Shows i state) (c.sync.ensures.time h)
-    (λ i during. switch_shows g.D.Disk.reads g.D.Disk.may_leave store state after s i (c.sync.ensures.stop h i during))
+    one_call g.D.Disk.moment g.D.Disk.left_since store.device c.sync.new.self (λ i. Shows i state) (c.sync.ensures.call.time h)
+    (λ i during. switch_shows g.D.Disk.reads g.D.Disk.may_leave store state after s i (c.sync.ensures.call.stop h i during))
 
 pub returns-in-SyncClosed-clause-on : goal.returns-in-SyncClosed-clause-on
 returns-in-SyncClosed-clause-on g c = λ state after h s.
@@ -115,7 +115,7 @@ returns-in-SyncClosed-clause-on g c = λ state after h s.
     let device = c.sync.new.self in
     let P = λ (phase : Phase). IsSwitching g.D.Disk.reads g.D.Disk.may_leave (record store { device = device; phase = phase }) state after ⊎ IsWriting g.D.Disk.reads g.D.Disk.may_leave (record store { device = device; phase = phase }) state after in
     moved_made c.map_err-made.result WriteHalf c.moved-in-SyncClosed.new.phase c.moved-in-SyncClosed.result (g.D.Disk.reads device ≡ g.D.Disk.reads store.device × Only (g.D.Disk.reads store.device) (g.D.Disk.may_leave device)) P c.moved-in-SyncClosed.ensures
-    (synced c.sync.result c.map_err-made.result _ _ c.map_err-made.ensures.variant (c.sync.ensures.reads h) (c.sync.ensures.durable h))
+    (synced c.sync.result c.map_err-made.result _ _ c.map_err-made.ensures.variant (c.sync.ensures.call.stays h) (c.sync.ensures.call.durable h))
     (λ made both. let at = at_call g.D.Disk.reads g.D.Disk.may_leave store state after s SyncClosed c.in-SyncClosed.is in inl (switch_closed g.D.Disk.reads g.D.Disk.may_leave store state after s device (both.0 ∙ at.1) (λ i left. both.1 i left ∙ sym both.0)))
 
 pub returns-in-SyncClosed-clause-stuck : goal.returns-in-SyncClosed-clause-stuck
@@ -124,13 +124,13 @@ returns-in-SyncClosed-clause-stuck g c = λ state after h s.
     let now = record store { device = c.sync.new.self; phase = c.moved-in-SyncClosed.new.phase } in
     moved_stuck c.map_err-made.result WriteHalf c.moved-in-SyncClosed.new.phase c.moved-in-SyncClosed.result _ c.moved-in-SyncClosed.ensures
     (leaves_stuck_shown g.D.Disk.moment g.D.Disk.left_since g.D.Disk.may_leave store.device now state
-    (λ t i le left. g.met.D.Disk.counts_now c.sync.new.self t i (c.sync.ensures.honest.0 h) le left) (returns-in-SyncClosed-clause-any_moment g c state after h s))
+    (λ t i le left. g.met.D.Disk.counts_now c.sync.new.self t i (c.sync.ensures.call.stays_honest.0 h) le left) (returns-in-SyncClosed-clause-any_moment g c state after h s))
 
 pub returns-in-SyncHalf-clause-any_moment : goal.returns-in-SyncHalf-clause-any_moment
 returns-in-SyncHalf-clause-any_moment g c = λ state after h s.
     let store = c.args.self.now in
-    one_call g.D.Disk.moment g.D.Disk.left_since store.device c.sync-in-SyncHalf.new.self (λ i. Shows i state) (c.sync-in-SyncHalf.ensures.time h)
-    (λ i during. switch_shows g.D.Disk.reads g.D.Disk.may_leave store state after s i (c.sync-in-SyncHalf.ensures.stop h i during))
+    one_call g.D.Disk.moment g.D.Disk.left_since store.device c.sync-in-SyncHalf.new.self (λ i. Shows i state) (c.sync-in-SyncHalf.ensures.call.time h)
+    (λ i during. switch_shows g.D.Disk.reads g.D.Disk.may_leave store state after s i (c.sync-in-SyncHalf.ensures.call.stop h i during))
 
 pub returns-in-SyncHalf-clause-on : goal.returns-in-SyncHalf-clause-on
 returns-in-SyncHalf-clause-on g c = λ state after h s.
@@ -138,7 +138,7 @@ returns-in-SyncHalf-clause-on g c = λ state after h s.
     let device = c.sync-in-SyncHalf.new.self in
     let P = λ (phase : Phase). IsSwitching g.D.Disk.reads g.D.Disk.may_leave (record store { device = device; phase = phase }) state after ⊎ IsWriting g.D.Disk.reads g.D.Disk.may_leave (record store { device = device; phase = phase }) state after in
     moved_made c.map_err-made-in-SyncHalf.result OpenHalf c.moved-in-SyncHalf.new.phase c.moved-in-SyncHalf.result (g.D.Disk.reads device ≡ g.D.Disk.reads store.device × Only (g.D.Disk.reads store.device) (g.D.Disk.may_leave device)) P c.moved-in-SyncHalf.ensures
-    (synced c.sync-in-SyncHalf.result c.map_err-made-in-SyncHalf.result _ _ c.map_err-made-in-SyncHalf.ensures.variant (c.sync-in-SyncHalf.ensures.reads h) (c.sync-in-SyncHalf.ensures.durable h))
+    (synced c.sync-in-SyncHalf.result c.map_err-made-in-SyncHalf.result _ _ c.map_err-made-in-SyncHalf.ensures.variant (c.sync-in-SyncHalf.ensures.call.stays h) (c.sync-in-SyncHalf.ensures.call.durable h))
     (λ made both. let at = at_call g.D.Disk.reads g.D.Disk.may_leave store state after s SyncHalf c.in-SyncHalf.is in inl (switch_moves g.D.Disk.reads g.D.Disk.may_leave store state after s device OpenHalf (at.0, both.0 ∙ at.1, λ i left. both.1 i left ∙ sym both.0)))
 
 pub returns-in-SyncHalf-clause-stuck : goal.returns-in-SyncHalf-clause-stuck
@@ -147,27 +147,27 @@ returns-in-SyncHalf-clause-stuck g c = λ state after h s.
     let now = record store { device = c.sync-in-SyncHalf.new.self; phase = c.moved-in-SyncHalf.new.phase } in
     moved_stuck c.map_err-made-in-SyncHalf.result OpenHalf c.moved-in-SyncHalf.new.phase c.moved-in-SyncHalf.result _ c.moved-in-SyncHalf.ensures
     (leaves_stuck_shown g.D.Disk.moment g.D.Disk.left_since g.D.Disk.may_leave store.device now state
-    (λ t i le left. g.met.D.Disk.counts_now c.sync-in-SyncHalf.new.self t i (c.sync-in-SyncHalf.ensures.honest.0 h) le left) (returns-in-SyncHalf-clause-any_moment g c state after h s))
+    (λ t i le left. g.met.D.Disk.counts_now c.sync-in-SyncHalf.new.self t i (c.sync-in-SyncHalf.ensures.call.stays_honest.0 h) le left) (returns-in-SyncHalf-clause-any_moment g c state after h s))
 
 pub returns-in_default-sync-clause-any_moment : goal.returns-in_default-sync-clause-any_moment
 returns-in_default-sync-clause-any_moment g c = λ state after h s.
     let store = c.args.self.now in
-    one_call g.D.Disk.moment g.D.Disk.left_since store.device c.sync-in-SyncOpened.new.self (λ i. Shows i state) (c.sync-in-SyncOpened.ensures.time h)
-    (λ i during. switch_shows g.D.Disk.reads g.D.Disk.may_leave store state after s i (c.sync-in-SyncOpened.ensures.stop h i during))
+    one_call g.D.Disk.moment g.D.Disk.left_since store.device c.sync-in-SyncOpened.new.self (λ i. Shows i state) (c.sync-in-SyncOpened.ensures.call.time h)
+    (λ i during. switch_shows g.D.Disk.reads g.D.Disk.may_leave store state after s i (c.sync-in-SyncOpened.ensures.call.stop h i during))
 
 pub returns-in_default-sync-clause-stuck : goal.returns-in_default-sync-clause-stuck
 returns-in_default-sync-clause-stuck g c = λ state after h s.
     let store = c.args.self.now in
     let now = record store { device = c.sync-in-SyncOpened.new.self; phase = Failed } in
     leaves_stuck_shown g.D.Disk.moment g.D.Disk.left_since g.D.Disk.may_leave store.device now state
-    (λ t i le left. g.met.D.Disk.counts_now c.sync-in-SyncOpened.new.self t i (c.sync-in-SyncOpened.ensures.honest.0 h) le left) (returns-in_default-sync-clause-any_moment g c state after h s) refl
+    (λ t i le left. g.met.D.Disk.counts_now c.sync-in-SyncOpened.new.self t i (c.sync-in-SyncOpened.ensures.call.stays_honest.0 h) le left) (returns-in_default-sync-clause-any_moment g c state after h s) refl
 
 pub returns-in-Ok-clause-any_moment : goal.returns-in-Ok-clause-any_moment
 returns-in-Ok-clause-any_moment g c = λ state after h s.
     let store = c.args.self.now in
     subst (λ d. LeavesOnly g.D.Disk.moment g.D.Disk.left_since store.device d (λ i. Shows i state)) (sym c.turn_over.ensures.device)
-    (one_call g.D.Disk.moment g.D.Disk.left_since store.device c.sync-in-SyncOpened.new.self (λ i. Shows i state) (c.sync-in-SyncOpened.ensures.time h)
-    (λ i during. switch_shows g.D.Disk.reads g.D.Disk.may_leave store state after s i (c.sync-in-SyncOpened.ensures.stop h i during)))
+    (one_call g.D.Disk.moment g.D.Disk.left_since store.device c.sync-in-SyncOpened.new.self (λ i. Shows i state) (c.sync-in-SyncOpened.ensures.call.time h)
+    (λ i during. switch_shows g.D.Disk.reads g.D.Disk.may_leave store state after s i (c.sync-in-SyncOpened.ensures.call.stop h i during)))
 
 pub returns-in-Ok-clause-on : goal.returns-in-Ok-clause-on
 returns-in-Ok-clause-on g c = λ state after h s.
@@ -175,8 +175,8 @@ returns-in-Ok-clause-on g c = λ state after h s.
     let device = c.sync-in-SyncOpened.new.self in
     let of = c.turn_over.ensures in
     let at = at_call g.D.Disk.reads g.D.Disk.may_leave store state after s SyncOpened c.in-SyncOpened.is in
-    let same : g.D.Disk.reads device ≡ g.D.Disk.reads store.device = c.in-Ok.ensures.reads h in
-    let durable : Only (g.D.Disk.reads store.device) (g.D.Disk.may_leave device) = c.in-Ok.ensures.durable h in
+    let same : g.D.Disk.reads device ≡ g.D.Disk.reads store.device = c.in-Ok.ensures.call.stays h in
+    let durable : Only (g.D.Disk.reads store.device) (g.D.Disk.may_leave device) = c.in-Ok.ensures.call.durable h in
     inr (switch_ends g.D.Disk.reads g.D.Disk.may_leave store state after s c.turn_over.new.self of.half of.epoch of.gate of.other of.phase of.batch of.plan
     (ap g.D.Disk.reads of.device ∙ same ∙ at.1)
     (subst (λ d. Only (g.D.Disk.reads d) (g.D.Disk.may_leave d)) (sym of.device) (λ i left. durable i left ∙ sym same)))
