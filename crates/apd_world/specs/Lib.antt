@@ -1,4 +1,5 @@
 pub mod Applying
+pub mod BegunAnew
 pub mod Following
 pub mod Going
 pub mod Making

@@ -1,22 +1,13 @@
 //! A durable core begun anew, from what a device holds.
-ghost use Rattle.std.specs.Prelude.{◌≡◌, ◌≢◌, ◌≤◌, ◌+◌, ◌⊎◌, ◌↔◌, ℕ, List, None, take, IfOk, IfErr, OnOk};
-ghost use Rattle.apd_base.specs.declared.limits.TheConstants.{DEVICE_LENGTH};
-ghost use Rattle.apd_base.specs.Failures.{HasRisen};
-ghost use Rattle.apd_base.specs.State.{State};
-ghost use Rattle.apd_conf.specs.declared.conf.Conf.{Conf};
-ghost use Rattle.apd_disk.specs.Disk.{LeavesOnly, Only};
-ghost use Rattle.apd_mlme.specs.Happening.{Happening};
-ghost use Rattle.apd_mlme.specs.Run.{run};
+ghost use Rattle.std.specs.Prelude.{◌≡◌, ◌⊎◌, ◌↔◌, None, IfOk, IfErr};
 ghost use Rattle.apd_table.specs.Sound.{Sound};
 ghost use Rattle.apd_store.specs.Commit.{IsIdle};
-ghost use Rattle.apd_store.specs.Image.{IsMarked, Shows, ShowsNone};
 ghost use Rattle.apd_store.specs.Outside.{device_of as store_device};
 ghost use Rattle.apd_core.specs.Core.{new_core};
 ghost use Rattle.apd_core.specs.Heard.{AreHeardAt};
 ghost use Rattle.apd_flusher.specs.Flushing.{IsSteady};
 ghost use Rattle.apd_flusher.specs.Outside.{store_of};
-ghost use Rattle.apd_world.specs.Proper.{IsProper};
-ghost use Rattle.apd_world.specs.Shown.{ShowsFront};
+ghost use Rattle.apd_world.specs.BegunAnew.{IsBegunAnew, IsHonestlyBegunAnew, IsHonestlyNotBegunAnew, IsNotBegunAnew};
 ghost use Rattle.apd_world.specs.Outside.{device_of};
 
 use crate::durable_core::DurableCore;
@@ -79,41 +70,19 @@ pub(crate) fn restart_core<D: Disk>(
     confs: Confs,
     moment: Moment,
 ) -> Result<DurableCore<D>, (D, WorldFault)>
-    ensures core { IfOk result (λ durable. durable.core ≡ new_core durable.core.settled confs durable.core.heard) }
-    ensures heard { IfOk result (λ durable. AreHeardAt moment durable.core.settled durable.core.heard) }
-    ensures sound { IfOk result (λ durable. Sound durable.core.settled) }
-    ensures shown { D.honest device → IfOk result (λ durable. Shows (D.reads device) durable.core.settled) }
-    ensures recovered { D.honest device
-        → IfOk result (λ durable. (s : State) (old : List Conf) (hs : List Happening)
-        (front : ShowsFront s old hs (D.reads device)) → durable.core.settled ≡ run s old (take front.count hs)) }
-    ensures proper { D.honest device → IfOk result (λ durable. IsProper D.honest D.reads D.may_leave D.size durable) }
-    ensures images { D.honest device
-        → IfOk result (λ durable. Only (D.reads device) (D.may_leave (device_of durable))) }
-    ensures any_moment { D.honest device
-        → IfOk result (λ durable. LeavesOnly D.moment D.left_since device (device_of durable) (D.may_leave device)) }
-    ensures any_moment_err { D.honest device
-        → IfErr result (λ e. LeavesOnly D.moment D.left_since device e.0 (D.may_leave device)) }
-    ensures length { OnOk result (D.size device ≡ DEVICE_LENGTH) }
-    ensures not_a_store { D.honest device
-        → IfErr result (λ e. e.1 ≡ WorldFault.Store StoreFault.NotAStore → ¬ IsMarked (D.reads device)) }
-    ensures damaged { D.honest device
-        → IfErr result (λ e. e.1 ≡ WorldFault.Store StoreFault.Damaged
-        → IsMarked (D.reads device) × ShowsNone (D.reads device)) }
-    ensures durable_err { D.honest device
-        → IfErr result (λ e. e.1 ≢ WorldFault.Store StoreFault.Device → Only (D.reads device) (D.may_leave e.0)) }
-    ensures still_err { D.honest device
-        → IfErr result (λ e. (image : List ℕ) → Only image (D.may_leave device)
-        → Only image (D.may_leave e.0) × (D.reads e.0 ≡ image)) }
+    ensures begun { IfOk result (λ durable. IsBegunAnew D.size D.failed device confs moment durable) }
+    ensures begun_honest { D.honest device
+        → IfOk result (λ durable. IsHonestlyBegunAnew D.honest D.reads D.may_leave D.moment D.left_since D.size
+        device durable) }
+    ensures none { IfErr result (λ e. IsNotBegunAnew D.honest D.failed device e.0 e.1) }
+    ensures none_honest { D.honest device
+        → IfErr result
+        (λ e. IsHonestlyNotBegunAnew D.reads D.may_leave D.moment D.left_since device e.0 e.1) }
     ensures only { IfErr result
         (λ e. (e.1 ≡ WorldFault.Store StoreFault.NotAStore) ⊎ (e.1 ≡ WorldFault.Store StoreFault.Damaged)
         ⊎ (e.1 ≡ WorldFault.Store StoreFault.Device) ⊎ (e.1 ≡ WorldFault.Store StoreFault.NoMemory)
         ⊎ (e.1 ≡ WorldFault.NoMemory)) }
-    ensures device { IfErr result
-        (λ e. e.1 ≡ WorldFault.Store StoreFault.Device → HasRisen (D.failed device) (D.failed e.0)) }
-    ensures count { IfOk result (λ durable. D.failed (device_of durable) ≡ D.failed device) }
-    ensures no_fault { IfErr result (λ e. e.1 ≢ WorldFault.Store StoreFault.Device → D.failed e.0 ≡ D.failed device) }
     ensures honest { IfOk result (λ durable. D.honest device ↔ D.honest (device_of durable)) }
-    ensures honest_err { IfErr result (λ e. D.honest device ↔ D.honest e.0) }
     ensures reads { D.honest device → IfOk result (λ durable. D.reads (device_of durable) ≡ D.reads device) }
 {
     an_image_shows_one_state();

@@ -1,24 +1,11 @@
 //! A world begun anew, from what a device holds: its slots resume by the table.
-ghost use Rattle.std.specs.Prelude.{◌≡◌, ◌≢◌, ◌⊎◌, ◌↔◌, ℕ, List, take, IfOk, IfErr, OnOk, OnErr};
-ghost use Rattle.apd_base.specs.declared.limits.TheConstants.{DEVICE_LENGTH};
+ghost use Rattle.std.specs.Prelude.{◌≡◌, ◌≢◌, ◌⊎◌, IfOk, IfErr, OnOk};
 ghost use Rattle.apd_base.specs.declared.address.Bssid.{Bssid as Address};
-ghost use Rattle.apd_base.specs.Failures.{HasRisen};
-ghost use Rattle.apd_base.specs.State.{State};
-ghost use Rattle.apd_conf.specs.declared.conf.Conf.{Conf};
-ghost use Rattle.apd_disk.specs.Disk.{LeavesOnly, Only};
-ghost use Rattle.apd_mlme.specs.Happening.{Happening};
-ghost use Rattle.apd_mlme.specs.Run.{run};
-ghost use Rattle.apd_table.specs.Sound.{Sound};
-ghost use Rattle.apd_store.specs.Image.{IsMarked, Shows, ShowsNone};
-ghost use Rattle.apd_core.specs.Core.{new_core};
-ghost use Rattle.apd_core.specs.Heard.{AreHeardAt};
 ghost use Rattle.apd_slot.specs.declared.slot.SlotFault.{SlotFault as Fault};
+ghost use Rattle.apd_world.specs.BegunAnew.{IsBegunAnew, IsHonestlyBegunAnew, IsHonestlyNotBegunAnew, IsNotBegunAnew};
 ghost use Rattle.apd_world.specs.Following.{AreExact, AreFollowing};
-ghost use Rattle.apd_world.specs.Outside.{device_of};
-ghost use Rattle.apd_world.specs.Proper.{IsProper};
 ghost use Rattle.apd_world.specs.Resumed.{AreOfSame, AreResumed, HasNotResumed};
 ghost use Rattle.apd_world.specs.Seen.{durable_of, slots_of};
-ghost use Rattle.apd_world.specs.Shown.{ShowsFront};
 
 use crate::fault::WorldFault;
 use crate::restarting::restart_core;
@@ -70,52 +57,25 @@ pub fn restart<D: Disk, R: Radio>(
     slots: Vec<Slot<R>>,
     moment: Moment,
 ) -> Result<World<D, R>, (D, Vec<Slot<R>>, WorldFault)>
-    ensures core { IfOk result
-        (λ world. (durable_of world).core
-        ≡ new_core (durable_of world).core.settled confs (durable_of world).core.heard) }
-    ensures heard { IfOk result
-        (λ world. AreHeardAt moment (durable_of world).core.settled (durable_of world).core.heard) }
-    ensures sound { IfOk result (λ world. Sound (durable_of world).core.settled) }
-    ensures shown { D.honest device → IfOk result (λ world. Shows (D.reads device) (durable_of world).core.settled) }
-    ensures recovered { D.honest device
-        → IfOk result (λ world. (s : State) (old : List Conf) (hs : List Happening)
-        (front : ShowsFront s old hs (D.reads device))
-        → (durable_of world).core.settled ≡ run s old (take front.count hs)) }
-    ensures proper { D.honest device
-        → IfOk result (λ world. IsProper D.honest D.reads D.may_leave D.size (durable_of world)) }
-    ensures images { D.honest device
-        → IfOk result (λ world. Only (D.reads device) (D.may_leave (device_of (durable_of world)))) }
-    ensures any_moment { D.honest device
-        → IfOk result (λ world. LeavesOnly D.moment D.left_since device (device_of (durable_of world))
-        (D.may_leave device)) }
-    ensures any_moment_err { D.honest device
-        → IfErr result (λ e. LeavesOnly D.moment D.left_since device e.0 (D.may_leave device)) }
-    ensures length { OnOk result (D.size device ≡ DEVICE_LENGTH) }
-    ensures not_a_store { D.honest device
-        → IfErr result (λ e. e.2 ≡ WorldFault.Store StoreFault.NotAStore → ¬ IsMarked (D.reads device)) }
-    ensures damaged { D.honest device
-        → IfErr result (λ e. e.2 ≡ WorldFault.Store StoreFault.Damaged
-        → IsMarked (D.reads device) × ShowsNone (D.reads device)) }
-    ensures durable_err { D.honest device
-        → IfErr result (λ e. e.2 ≢ WorldFault.Store StoreFault.Device → Only (D.reads device) (D.may_leave e.0)) }
-    ensures still_err { D.honest device
-        → IfErr result (λ e. (image : List ℕ) → Only image (D.may_leave device)
-        → Only image (D.may_leave e.0) × (D.reads e.0 ≡ image)) }
+    ensures begun { IfOk result
+        (λ world. IsBegunAnew D.size D.failed device confs moment (durable_of world)) }
+    ensures begun_honest { D.honest device
+        → IfOk result (λ world. IsHonestlyBegunAnew D.honest D.reads D.may_leave D.moment D.left_since D.size
+        device (durable_of world)) }
+    ensures resumed { IfOk result (λ world. AreResumed R.stations (durable_of world).core.settled (slots_of world)) }
+    ensures exact { IfOk result (λ world. AreExact R.stations (slots_of world)) }
+    ensures following { IfOk result AreFollowing }
+    ensures slots { IfOk result (λ world. AreOfSame slots.items (slots_of world)) }
+    ensures none { IfErr result (λ e. IsNotBegunAnew D.honest D.failed device e.0 e.2) }
+    ensures none_honest { D.honest device
+        → IfErr result
+        (λ e. IsHonestlyNotBegunAnew D.reads D.may_leave D.moment D.left_since device e.0 e.2) }
     ensures only { IfErr result
         (λ e. (e.2 ≡ WorldFault.Store StoreFault.NotAStore) ⊎ (e.2 ≡ WorldFault.Store StoreFault.Damaged)
         ⊎ (e.2 ≡ WorldFault.Store StoreFault.Device) ⊎ (e.2 ≡ WorldFault.Store StoreFault.NoMemory)
         ⊎ (e.2 ≡ WorldFault.NoMemory)
         ⊎ ((b : Address) × (fault : Fault) × (e.2 ≡ WorldFault.Slot b fault)
         × HasNotResumed R.faults b fault slots.items e.1.items)) }
-    ensures device { IfErr result
-        (λ e. e.2 ≡ WorldFault.Store StoreFault.Device → HasRisen (D.failed device) (D.failed e.0)) }
-    ensures count { IfOk result (λ world. D.failed (device_of (durable_of world)) ≡ D.failed device) }
-    ensures no_fault { IfErr result (λ e. e.2 ≢ WorldFault.Store StoreFault.Device → D.failed e.0 ≡ D.failed device) }
-    ensures honest_err { IfErr result (λ e. D.honest device ↔ D.honest e.0) }
-    ensures resumed { IfOk result (λ world. AreResumed R.stations (durable_of world).core.settled (slots_of world)) }
-    ensures exact { IfOk result (λ world. AreExact R.stations (slots_of world)) }
-    ensures following { IfOk result AreFollowing }
-    ensures slots { IfOk result (λ world. AreOfSame slots.items (slots_of world)) }
     ensures still_slots { IfErr result (λ e. ((b : Address) (fault : Fault) → e.2 ≢ WorldFault.Slot b fault)
         → e.1.items ≡ slots.items) }
     ensures slots_err { IfErr result (λ e. AreOfSame slots.items e.1.items) }

@@ -1,4 +1,4 @@
-use Rattle.std.proofs.Common.{◌≡◌, List, ◌++◌, length, map, take, drop, inr, refl, sym, ap, subst, ◌∙◌, arith}
+use Rattle.std.proofs.Common.{◌≡◌, List, ◌++◌, length, map, take, drop, inr, refl, sym, ap, subst, ◌∙◌, arith, rules}
 use Rattle.std.proofs.Math.Seq.{take-append_seam}
 use Rattle.apd_disk.specs.Disk.{Only}
 use Rattle.apd_flusher.specs.Outside as flusher
@@ -24,18 +24,21 @@ returns-in-Ok-resume_all-clause-following g c = λ b configured slot at a.
     let many : c.args.slots.len ≡ length xs = omega (arith, c.args.slots.ok.0, c.resume_all.auto.slots, c.as_mut_slice.ensures.len) in
     let core = c.in-Ok.durable.core in
     let resumed = subst (AreResumed g.R.Radio.stations core.settled) (sym (whole xs c.args.slots.items c.args.slots.len many)) (subst (λ s. AreResumed g.R.Radio.stations s xs) c.table.ensures c.in-Ok-resume_all.ensures.ok) in
-    begun_following g.R.Radio.stations _ core.settled resumed core (map (λ queue. queue.items) c.new.result.items) c.args.confs core.heard c.in-Ok.ensures.core (ap (map (λ queue. queue.items)) c.new.ensures.items) b slot at a
+    begun_following g.R.Radio.stations _ core.settled resumed core (map (λ queue. queue.items) c.new.result.items) c.args.confs core.heard c.in-Ok.ensures.begun.core (ap (map (λ queue. queue.items)) c.new.ensures.items) b slot at a
 
-pub returns-in-Err-resume_all-clause-durable_err : goal.returns-in-Err-resume_all-clause-durable_err
-returns-in-Err-resume_all-clause-durable_err g c = λ honest other.
+pub returns-in-Err-resume_all-clause-none_honest : goal.returns-in-Err-resume_all-clause-none_honest
+returns-in-Err-resume_all-clause-none_honest g c = λ honest.
+    let begun = c.in-Ok.ensures.begun_honest honest in
     let device : c.into_device.result ≡ device_of c.in-Ok.durable = c.into_device.ensures ∙ ap flusher.device_of c.into_parts-flusher.ensures.flusher in
-    subst (λ d. Only (g.D.Disk.reads c.args.device) (g.D.Disk.may_leave d)) (sym device) (c.in-Ok.ensures.images honest)
-
-pub returns-in-Err-resume_all-clause-still_err : goal.returns-in-Err-resume_all-clause-still_err
-returns-in-Err-resume_all-clause-still_err g c = λ honest image only.
-    let device : c.into_device.result ≡ device_of c.in-Ok.durable = c.into_device.ensures ∙ ap flusher.device_of c.into_parts-flusher.ensures.flusher in
-    let same = only (g.D.Disk.reads c.args.device) (g.met.D.Disk.reads_may_be_left c.args.device honest) in
-    ((λ other left. c.in-Ok.ensures.images honest other (subst (λ d. g.D.Disk.may_leave d other) device left) ∙ same), ap g.D.Disk.reads device ∙ c.in-Ok.ensures.reads honest ∙ same)
+    record {
+      not_a_store = search rules;
+      damaged = search rules;
+      durable = λ other. subst (λ d. Only (g.D.Disk.reads c.args.device) (g.D.Disk.may_leave d)) (sym device) begun.images;
+      still = λ image only.
+          let same = only (g.D.Disk.reads c.args.device) (g.met.D.Disk.reads_may_be_left c.args.device honest) in
+          ((λ other left. begun.images other (subst (λ d. g.D.Disk.may_leave d other) device left) ∙ same), ap g.D.Disk.reads device ∙ c.in-Ok.ensures.reads honest ∙ same);
+      any_moment = search rules;
+    }
 
 pub returns-in-Err-resume_all-clause-only : goal.returns-in-Err-resume_all-clause-only
 returns-in-Err-resume_all-clause-only g c =
