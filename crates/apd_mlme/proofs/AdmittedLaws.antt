@@ -4,7 +4,7 @@ use Rattle.std.specs.Option.{is_some}
 use Rattle.std.specs.Ordering.{eq_by_cmp}
 use Rattle.std.specs.FinMap as map
 use Rattle.std.specs.FinMap.{get-retain_keys}
-use Rattle.std.proofs.lemmas.Bool.{and_parts}
+use Rattle.std.proofs.lemmas.Bool.{and_parts, false_from_ne_true}
 use Rattle.std.proofs.lemmas.List.Elements.{All-head, All-tail}
 use Rattle.apd_base.specs.declared.address.Addr.{Addr}
 use Rattle.apd_base.specs.declared.address.Bssid.{Bssid}
@@ -32,7 +32,7 @@ use Rattle.apd_mlme.specs.Run.{run}
 use Rattle.apd_mlme.specs.Truth.{IsFromStation, NoBroadcastRow}
 use Rattle.apd_mlme.specs.Verdict.{Verdict}
 use Rattle.apd_mlme.proofs.AssociationLaws.{cleared, elsewhere_rows, associated_station}
-use Rattle.apd_base.proofs.Cases.{none_is}
+use Rattle.apd_base.proofs.Cases.{no_value, none_is}
 use Rattle.apd_mlme.proofs.CommandLaws.{new, edited_under}
 use Rattle.apd_mlme.proofs.DriverLaws.{is_row, station_put, station_dropped}
 use Rattle.apd_mlme.proofs.ElsewhereLaws as elsewhere_laws
@@ -142,12 +142,10 @@ module _ (confs : List Conf) (b : Bssid) (a : Addr) where
 nobody_asks : (b : Bssid) (h : Happening) → IsFromStation h → ¬ (Asks b BROADCAST h)
 nobody_asks b h from asks = subst IsFromStation asks.2 from asks.1
 
-no_row : (o : Option Station) → ¬ (IsSome o) → o ≡ None
-no_row None h = refl
-no_row (Some x) h = absurd (h refl)
-
 pub verdict_broadcast : (s : State) (confs : List Conf) (h : Happening) → IsFromStation h → NoBroadcastRow s → NoBroadcastRow (verdict s confs h).state
-verdict_broadcast s confs h from rows b = no_row (station_at (verdict s confs h).state b BROADCAST) (λ known. nobody_asks b h from (verdict_admits s confs b BROADCAST (rows b) h known))
+verdict_broadcast s confs h from rows b =
+    let row = station_at (verdict s confs h).state b BROADCAST in
+    no_value row (false_from_ne_true (is_some row) (λ known. nobody_asks b h from (verdict_admits s confs b BROADCAST (rows b) h known)))
 
 pub run_broadcast : (confs : List Conf) (hs : List Happening) (s : State) → AreFromStations hs → NoBroadcastRow s → NoBroadcastRow (run s confs hs)
 run_broadcast confs [] s from rows = rows

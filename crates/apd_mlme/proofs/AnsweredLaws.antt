@@ -23,15 +23,15 @@ use Rattle.apd_table.specs.LeastFree.{IsLeastFree}
 use Rattle.apd_table.specs.Sound.{Sound}
 use Rattle.apd_mlme.specs.declared.association.Kind.{Kind}
 use Rattle.apd_mlme.specs.Answered.{IsMember, IsForNetwork, IsDeserved, IsAnsweredTruly, only_authenticated}
-use Rattle.apd_mlme.specs.Association.{is_named, association_status, association_response, elsewhere, outs_elsewhere, installation, row_of, associated, accepted, association_of, association_verdict}
+use Rattle.apd_mlme.specs.Association.{is_named, association_refusals, association_status, association_response, elsewhere, outs_elsewhere, installation, row_of, associated, accepted, association_of, association_verdict}
 use Rattle.apd_mlme.specs.Identifiers.{identifier_for}
 use Rattle.apd_mlme.specs.Refusals.{is_success}
 use Rattle.apd_mlme.specs.Verdict.{Verdict, only_sent}
 use Rattle.apd_mlme.proofs.AssociationLaws.{three, others, cleared, cleared_here, cleared_elsewhere, own_or_free, own_kept, associated_station}
 use Rattle.apd_mlme.proofs.ElsewhereLaws.{is_bssid_among, among_elsewhere, put_backs_station}
 use Rattle.apd_mlme.proofs.IdentifierLaws.{is_least_free, identifier_is_there}
-use Rattle.apd_mlme.proofs.RefusalLaws.{status_success}
-use Rattle.apd_base.proofs.Cases.{both_true, differ, either, first_false, none_is, second_false}
+use Rattle.apd_mlme.proofs.RefusalLaws.{by_lines, status_success}
+use Rattle.apd_base.proofs.Cases.{both_true, differ, either, first_false, none_is, not_false, not_yes, second_false}
 
 -- ---- what is asked
 named_so : (conf : Conf) (o : Option (List ℕ)) → is_named conf o ≡ true → o ≡ Some conf.ssid
@@ -49,45 +49,30 @@ module _ (conf : Conf) (request : AssociationRequest) where
   abbrev rated : Bool
   rated = is_some (first_with SUPPORTED_RATES request.elements)
 
-  abbrev seldom : Bool
-  seldom = nat_lt conf.max_listen_interval request.listen_interval
-
   -- what each status says of the request
   abbrev Deserves : Status → Type 0
   Deserves = IsDeserved conf request
 
-  abbrev by_interval : Bool → Status
-  by_interval t = cond t DeniedListenIntervalTooLarge Success
-
-  network_deserved : IsForNetwork conf request → Deserves (by_interval seldom)
-  network_deserved may = elim seldom as (λ t. seldom ≡ t → Deserves (by_interval t)) [
-    | true ↦ λ e. (may, ltb-true conf.max_listen_interval request.listen_interval e)
-    | false ↦ λ e. (may, ltb-false conf.max_listen_interval request.listen_interval e)
-  ] refl
-
-  abbrev by_rates : Bool → Status
-  by_rates t = cond (not t) RefusedReasonUnspecified (by_interval seldom)
-
-  rates_deserved : whole ≡ true → named ≡ true → Deserves (by_rates rated)
-  rates_deserved is_whole is_named_so = elim rated as (λ t. rated ≡ t → Deserves (by_rates t)) [
-    | true ↦ λ e. network_deserved (record { whole = is_whole; named = named_so conf (first_with SSID request.elements) is_named_so; rated = e })
-    | false ↦ λ e. λ may. differ rated e may.rated
-  ] refl
-
-  abbrev by_name : Bool → Status
-  by_name t = cond (not t) RefusedReasonUnspecified (by_rates rated)
-
-  name_deserved : whole ≡ true → Deserves (by_name named)
-  name_deserved is_whole = elim named as (λ t. named ≡ t → Deserves (by_name t)) [
-    | true ↦ λ e. rates_deserved is_whole e
-    | false ↦ λ e. λ may. differ named e (ap (is_named conf) may.named ∙ (bytes_eq-Decides conf.ssid conf.ssid).1 refl)
-  ] refl
-
   pub status_deserved : Deserves (association_status conf request)
-  status_deserved = elim whole as (λ t. whole ≡ t → Deserves (cond (not t) RefusedReasonUnspecified (by_name named))) [
-    | true ↦ λ e. name_deserved e
-    | false ↦ λ e. λ may. differ whole e may.whole
-  ] refl
+  status_deserved =
+      by_lines Deserves (association_refusals conf request) (
+        λ cut may. differ whole (not_yes whole cut) may.whole,
+        λ is_whole. (
+          λ other may. differ named (not_yes named other) (ap (is_named conf) may.named ∙ (bytes_eq-Decides conf.ssid conf.ssid).1 refl),
+          λ is_named_so. (
+            λ none may. differ rated (not_yes rated none) may.rated,
+            λ is_rated.
+                let may : IsForNetwork conf request = record {
+                  whole = not_false whole is_whole;
+                  named = named_so conf (first_with SSID request.elements) (not_false named is_named_so);
+                  rated = not_false rated is_rated;
+                } in (
+                  λ e. (may, ltb-true conf.max_listen_interval request.listen_interval e),
+                  λ e. (may, ltb-false conf.max_listen_interval request.listen_interval e),
+                ),
+          ),
+        ),
+      )
 
 -- ---- a station's rows at the other BSSIDs
 module _ (s : State) (b : Bssid) (a : Addr) where

@@ -1,7 +1,6 @@
 -- What an authentication request leaves.
-use Rattle.std.proofs.Common.{◌≡◌, ◌≢◌, ℕ, ◌<◌, ◌≤◌, Bool, true, false, cond, not, ◌&&◌, eqb, leb, [], ◌∷◌, Option, Some, None, inl, inr, refl, sym, ap, subst, ◌∙◌, IsSome, arith}
+use Rattle.std.proofs.Common.{◌≡◌, ◌≢◌, ◌⊎◌, ℕ, ◌<◌, ◌≤◌, Bool, true, false, cond, not, ◌&&◌, eqb, [], ◌∷◌, Option, Some, None, inl, inr, refl, sym, ap, subst, ◌∙◌, IsSome, arith}
 use Rattle.std.specs.Option.{is_some}
-use Rattle.std.specs.List.{AllByRecursion}
 use Rattle.std.specs.FinMap as map
 use Rattle.std.proofs.lemmas.Bool.{and_parts, eqb-true, eqb-false, eq-eqb, leb-true, leb-false}
 use Rattle.apd_base.specs.declared.address.Addr.{Addr}
@@ -28,13 +27,13 @@ use Rattle.apd_mlme.specs.Outs.{sent}
 use Rattle.apd_mlme.specs.Refusals.{is_success}
 use Rattle.apd_mlme.specs.Room.{IsRoomKept}
 use Rattle.apd_mlme.specs.Told.{IsOpenSystem, IsFirst, IsAllowed, IsDeserved, IsToldTruly}
-use Rattle.apd_mlme.proofs.RefusalLaws.{none_holds, not_and, not_less, status_success}
+use Rattle.apd_mlme.proofs.RefusalLaws.{by_lines, not_and, not_less, status_success}
 use Rattle.apd_base.proofs.Cases.{both_true, differ, no_value, none_is, not_false, not_yes}
 use Rattle.apd_mlme.specs.Verdict.{Verdict}
 
-room : (o : Option Policy) (n : ℕ) → leb (station_limit o) n ≡ false → n < 2007
-room None n e = let low = leb-false 0 n e in absurd (omega arith)
-room (Some p) n e = let low = leb-false p.max.count n e in let high = p.max.in_range in omega arith
+room : (o : Option Policy) (n : ℕ) → n < station_limit o → n < 2007
+room None n few = absurd (omega arith)
+room (Some p) n few = let high = p.max.in_range in omega arith
 
 nothing_there : (o : Option Station) → not (is_some o) ≡ true → aid_of o ≡ None
 nothing_there None e = refl
@@ -47,18 +46,47 @@ module _ (s : State) (conf : Conf) (b : Bssid) (request : Authentication) where
   abbrev new : State
   new = put_station b request.sender Authenticated s
 
-  -- success says that none of the lines holds
-  no_reason : is_success (auth_status s conf b request) ≡ true → AllByRecursion (λ line. line.0 ≡ false) (refusals s conf b request)
-  no_reason e = none_holds (refusals s conf b request) (refl, (refl, (refl, (refl, tt)))) e
+  -- what each status says of the request
+  abbrev Deserves : Status → Type 0
+  Deserves = IsDeserved s conf b request
+
+  -- no room is no reason for a station that is known
+  with_room : (known : Bool) → is_known s b request ≡ known → (not known && is_full s b) ≡ false → IsSome (station_at s b request.sender) ⊎ (count s b < station_limit (policy_at s b))
+  with_room true e f = inl e
+  with_room false e f = inr (leb-false (station_limit (policy_at s b)) (count s b) f)
+
+  told_deserved : Deserves (auth_status s conf b request)
+  told_deserved =
+      let zero = eqb request.algorithm 0 in
+      let may = allows_open conf.auth_algs in
+      by_lines Deserves (refusals s conf b request) (
+        λ e is. differ (zero && may) (not_yes (zero && may) e) (both_true zero may (eq-eqb request.algorithm 0 is.0) is.1),
+        λ opens.
+            let parts = and_parts zero may (not_false (zero && may) opens) in
+            let system : IsOpenSystem conf request = (eqb-true request.algorithm 0 parts.0, parts.1) in (
+              λ e. (system, eqb-false request.transaction 1 (not_yes (eqb request.transaction 1) e)),
+              λ e.
+                  let first : IsFirst conf request = (system, eqb-true request.transaction 1 (not_false (eqb request.transaction 1) e)) in (
+                    λ denied. (first, λ is. differ (allowed s b request.sender) (not_yes (allowed s b request.sender) denied) is),
+                    λ let_in.
+                        let asks : IsAllowed s conf b request = (first, not_false (allowed s b request.sender) let_in) in (
+                          λ full.
+                              let new_and_full = and_parts (not (is_known s b request)) (is_full s b) full in
+                              (asks, no_value (station_at s b request.sender) (not_yes (is_known s b request) new_and_full.0), leb-true (station_limit (policy_at s b)) (count s b) new_and_full.1),
+                          λ e. (asks, with_room (is_known s b request) refl e),
+                        ),
+                  ),
+            ),
+      )
 
   can_put : IsSome (policy_at s b) → admitted ≡ true → CanPut s b request.sender Authenticated
   can_put policy e =
       let parts = and_parts (is_success (auth_status s conf b request)) (not (is_known s b request)) e in
-      let none = no_reason parts.0 in
+      let good : Deserves Success = subst Deserves (status_success (auth_status s conf b request) parts.0) told_deserved in
       record {
         identified = tt;
-        allowed = (policy, not_false _ none.1.1.0);
-        room = inr (room (policy_at s b) (count s b) (not_and _ (is_full s b) parts.1 none.1.1.1.0));
+        allowed = (policy, good.0.1);
+        room = elim good.1 [ inl known ↦ inl known | inr few ↦ inr (room (policy_at s b) (count s b) few) ];
       }
 
   pub admitted_sound : IsSome (policy_at s b) → admitted ≡ true → Sound s → StaySound (Put b request.sender Authenticated ∷ []) s
@@ -82,52 +110,6 @@ module _ (s : State) (conf : Conf) (b : Bssid) (request : Authentication) where
   -- one that is not admitted, and is told success, was known before
   pub known_already : admitted ≡ false → auth_status s conf b request ≡ Success → IsSome (station_at s b request.sender)
   known_already e good = known_some (station_at s b request.sender) (not_and (is_success (auth_status s conf b request)) (not (is_known s b request)) (ap is_success good) e)
-
-  -- what each status says of the request
-  abbrev Deserves : Status → Type 0
-  Deserves = IsDeserved s conf b request
-
-  abbrev by_room : Bool → Status
-  by_room known = cond (not known && is_full s b) DeniedNoMoreStas Success
-
-  new_deserved : IsAllowed s conf b request → station_at s b request.sender ≡ None → Deserves (by_room false)
-  new_deserved may none = elim (is_full s b) as (λ t. is_full s b ≡ t → Deserves (cond t DeniedNoMoreStas Success)) [
-    | true ↦ λ e. (may, none, leb-true (station_limit (policy_at s b)) (count s b) e)
-    | false ↦ λ e. (may, inr (leb-false (station_limit (policy_at s b)) (count s b) e))
-  ] refl
-
-  allowed_deserved : IsAllowed s conf b request → Deserves (by_room (is_known s b request))
-  allowed_deserved may = elim (is_known s b request) as (λ t. is_known s b request ≡ t → Deserves (by_room t)) [
-    | true ↦ λ e. (may, inl e)
-    | false ↦ λ e. new_deserved may (no_value (station_at s b request.sender) e)
-  ] refl
-
-  abbrev by_policy : Bool → Status
-  by_policy may = cond (not may) RefusedReasonUnspecified (by_room (is_known s b request))
-
-  first_deserved : IsFirst conf request → Deserves (by_policy (allowed s b request.sender))
-  first_deserved first = elim (allowed s b request.sender) as (λ t. allowed s b request.sender ≡ t → Deserves (by_policy t)) [
-    | true ↦ λ e. allowed_deserved (first, e)
-    | false ↦ λ e. (first, λ may. differ (allowed s b request.sender) e may)
-  ] refl
-
-  abbrev by_number : Bool → Status
-  by_number first = cond (not first) TransactionSequenceError (by_policy (allowed s b request.sender))
-
-  open_deserved : IsOpenSystem conf request → Deserves (by_number (eqb request.transaction 1))
-  open_deserved opens = elim (eqb request.transaction 1) as (λ t. eqb request.transaction 1 ≡ t → Deserves (by_number t)) [
-    | true ↦ λ e. first_deserved (opens, eqb-true request.transaction 1 e)
-    | false ↦ λ e. (opens, eqb-false request.transaction 1 e)
-  ] refl
-
-  told_deserved : Deserves (auth_status s conf b request)
-  told_deserved =
-      let zero = eqb request.algorithm 0 in
-      let may = allows_open conf.auth_algs in
-      elim (zero && may) as (λ t. (zero && may) ≡ t → Deserves (cond (not t) NotSupportedAuthAlgorithm (by_number (eqb request.transaction 1)))) [
-        | true ↦ λ e. (let parts = and_parts zero may e in open_deserved (eqb-true request.algorithm 0 parts.0, parts.1))
-        | false ↦ λ e. λ is. differ (zero && may) e (both_true zero may (eq-eqb request.algorithm 0 is.0) is.1)
-      ] refl
 
   abbrev decided : Bool → Verdict
   decided t = record { state = cond t new s; changes = cond t (Put b request.sender Authenticated ∷ []) []; outs = sent (auth_response b request (auth_status s conf b request)) ∷ [] }

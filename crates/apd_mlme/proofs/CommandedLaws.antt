@@ -45,7 +45,7 @@ use Rattle.apd_mlme.specs.Inactivity.{inactivity_verdict}
 use Rattle.apd_mlme.specs.Leaving.{deauthentication, removal}
 use Rattle.apd_mlme.specs.Outs.{sent}
 use Rattle.apd_mlme.specs.Rules.{verdict, verdict_under, heard_verdict, IsFit}
-use Rattle.apd_mlme.specs.Verdict.{nothing}
+use Rattle.apd_mlme.specs.Verdict.{nothing, only_sent}
 use Rattle.apd_base.proofs.Cases.{differ, either, none_is, not_yes, second_true}
 use Rattle.apd_mlme.proofs.CommandLaws.{by_kick, by_edit, IsUnneeded, IsTooMany, new, edited_under}
 use Rattle.apd_mlme.proofs.DriverLaws.{other_row, put_row, dropped_row, station_put, station_dropped}
@@ -112,18 +112,23 @@ module _ (s : State) (b : Bssid) (to : Addr) (reason : Reason) (tag : ℕ) where
     of_meant : (P : Addr → Type 0) → P to → (a : Addr) → IsMeant to a → P a
     of_meant P h a meant = subst P (meant_is to a one meant) h
 
-    deauthenticated_answered : (o : Option Station) → station_at s b to ≡ o → IsKicked s b to reason true tag (answered tag Done (deauthenticated_of s b to reason o))
-    deauthenticated_answered None at = record {
+    -- nothing but the frame leaves for a station that is not associated
+    only_told : (t : Bool) → aid_at s b to ≡ None → (t ≡ true → station_at s b to ≡ None) → (t ≡ false → station_at s b to ≡ only_authenticated (station_at s b to))
+        → IsKicked s b to reason t tag (answered tag Done (only_sent s (farewell b to reason t)))
+    only_told t none gone stays = record {
       removed = [];
       told = refl;
-      deauthenticated = λ _. of_meant (λ a. station_at s b a ≡ None) at;
-      disassociated = of_meant (λ a. aid_at s b a ≡ None) (ap aid_of at);
+      deauthenticated = λ h. of_meant (λ a. station_at s b a ≡ None) (gone h);
+      disassociated = of_meant (λ a. aid_at s b a ≡ None) none;
       everyone = λ all. one_meant to one all;
-      kept = λ h. differ true h refl;
+      kept = λ h _. stays h;
       others = λ c a other. refl;
       lists = refl;
       policies = refl;
     }
+
+    deauthenticated_answered : (o : Option Station) → station_at s b to ≡ o → IsKicked s b to reason true tag (answered tag Done (deauthenticated_of s b to reason o))
+    deauthenticated_answered None at = only_told true (ap aid_of at) (λ _. at) (λ h. differ true h refl)
     deauthenticated_answered (Some row) at = record {
       removed = associated s b (to ∷ []);
       told = told_by b (associated s b (to ∷ [])) (removal s b to) (sent (farewell b to reason true)) (text tag Done) (removal_is s b to);
@@ -137,28 +142,8 @@ module _ (s : State) (b : Bssid) (to : Addr) (reason : Reason) (tag : ℕ) where
     }
 
     disassociated_answered : (o : Option Station) → station_at s b to ≡ o → IsKicked s b to reason false tag (answered tag Done (disassociated_of s b to reason o))
-    disassociated_answered None at = record {
-      removed = [];
-      told = refl;
-      deauthenticated = λ h. differ false refl h;
-      disassociated = of_meant (λ a. aid_at s b a ≡ None) (ap aid_of at);
-      everyone = λ all. one_meant to one all;
-      kept = λ _ _. at ∙ ap only_authenticated (sym at);
-      others = λ c a other. refl;
-      lists = refl;
-      policies = refl;
-    }
-    disassociated_answered (Some Authenticated) at = record {
-      removed = [];
-      told = refl;
-      deauthenticated = λ h. differ false refl h;
-      disassociated = of_meant (λ a. aid_at s b a ≡ None) (ap aid_of at);
-      everyone = λ all. one_meant to one all;
-      kept = λ _ _. at ∙ ap only_authenticated (sym at);
-      others = λ c a other. refl;
-      lists = refl;
-      policies = refl;
-    }
+    disassociated_answered None at = only_told false (ap aid_of at) (λ h. differ false refl h) (λ _. at ∙ ap only_authenticated (sym at))
+    disassociated_answered (Some Authenticated) at = only_told false (ap aid_of at) (λ h. differ false refl h) (λ _. at ∙ ap only_authenticated (sym at))
     disassociated_answered (Some (Associated x)) at = record {
       removed = to ∷ [];
       told = refl;

@@ -12,7 +12,7 @@ use Rattle.apd_base.specs.declared.station.AclMode.{AclMode}
 use Rattle.apd_base.specs.declared.station.Station.{Station}
 use Rattle.apd_base.specs.Addr.{addr_cmp, bssid_cmp, station_cmp, is_among}
 use Rattle.apd_base.specs.State.{State, station_at, aid_of, aid_at}
-use Rattle.apd_base.proofs.AddrLaws.{bssid_total, bssid_exact, station_total, station_exact, other_way, same_addr}
+use Rattle.apd_base.proofs.AddrLaws.{bssid_total, bssid_exact, station_total, station_exact, other_way}
 use Rattle.apd_base.proofs.MapLaws.{one_or_apart, tied}
 use Rattle.apd_frame.specs.declared.codes.Reason.{Reason}
 use Rattle.apd_record.specs.Meaning.{meaning_of}
@@ -27,70 +27,44 @@ use Rattle.apd_mlme.specs.declared.decision.Out.TheVariants.{Remove}
 use Rattle.apd_mlme.specs.Configuration.{stays}
 use Rattle.apd_mlme.specs.Leaving.{deauthentication, outs_of_drop, removal}
 use Rattle.apd_mlme.specs.Outs.{sent}
-use Rattle.apd_mlme.proofs.DriverLaws.{left_by, left_by-append}
-use Rattle.apd_base.proofs.Cases.{differ, none_is}
+use Rattle.apd_mlme.proofs.DriverLaws.{aid_cond, is_row, left_by, left_by-append, left_by_removal}
+use Rattle.apd_base.proofs.Cases.{differ, either, none_is}
 
-nothing_taken : {A : Type 0} (t w : Bool) (o : Option A) → o ≡ cond (t && (w && false)) None o
-nothing_taken true true o = refl
-nothing_taken true false o = refl
-nothing_taken false w o = refl
+none_more : (t u : Bool) → t ≡ (t || (u && false))
+none_more true u = refl
+none_more false true = refl
+none_more false false = refl
 
-two_taken : {A : Type 0} (t w u v : Bool) (o : Option A) → cond (t && (w && v)) None (cond (t && (w && u)) None o) ≡ cond (t && (w && (u || v))) None o
-two_taken true true true true o = refl
-two_taken true true true false o = refl
-two_taken true true false v o = refl
-two_taken true false u v o = refl
-two_taken false w u v o = refl
-
-known_or_none : {A : Type 0} (t u : Bool) (o : Option A) → cond (t && (is_some o && u)) None o ≡ cond (t && u) None o
-known_or_none true true None = refl
-known_or_none true false None = refl
-known_or_none true u (Some x) = refl
-known_or_none false u o = refl
+one_more : (t u e m : Bool) → ((t || (u && e)) || (u && m)) ≡ (t || (u && (e || m)))
+one_more true u e m = refl
+one_more false true e m = refl
+one_more false false e m = refl
 
 pub taken_out : {A : Type 0} (t : Bool) (o : Option A) → cond t None o ≡ None → IsSome o → t ≡ true
 taken_out true o e h = refl
 taken_out false o e h = none_is o e h
 
-never : (t u : Bool) → (t && false) ≡ (u && false)
-never true true = refl
-never true false = refl
-never false true = refl
-never false false = refl
-
 module _ (s : State) (b : Bssid) where
-  -- outs for each station that take it out of the driver's map, where it was associated
+  -- outs for each station that take it out of the driver's map, which has whoever was associated but for some
   abbrev pub LetsGo : (Addr → List (Recipient × Out)) → Type 0
-  LetsGo outs_of = (a : Addr) (c : Bssid) (d : Addr) (o : Option ℕ) → left_by c d (outs_of a) o ≡ cond (eq_by_cmp bssid_cmp c b && (is_some (aid_at s b a) && eq_by_cmp addr_cmp d a)) None o
+  LetsGo outs_of = (a : Addr) (c : Bssid) (d : Addr) (t : Bool) → left_by c d (outs_of a) (cond t None (aid_at s c d)) ≡ cond (t || is_row b a c d) None (aid_at s c d)
 
   pub removal_lets_go : LetsGo (removal s b)
-  removal_lets_go a c d o =
-      elim (is_some (aid_at s b a)) as (λ u. left_by c d (cond u ((Radio b, Remove a) ∷ []) []) o ≡ cond (eq_by_cmp bssid_cmp c b && (u && eq_by_cmp addr_cmp d a)) None o) [
-        | true ↦ refl
-        | false ↦ elim (eq_by_cmp bssid_cmp c b) as (λ t. o ≡ cond (t && false) None o) [ true ↦ refl | false ↦ refl ]
-      ]
+  removal_lets_go a c d false = left_by_removal c d s b a
+  removal_lets_go a c d true = elim (is_some (aid_at s b a)) as (λ u. left_by c d (cond u ((Radio b, Remove a) ∷ []) []) None ≡ None) [ true ↦ either (is_row b a c d) None | false ↦ refl ]
 
   pub drop_lets_go : (reason : Reason) → LetsGo (λ a. outs_of_drop s b a reason)
-  drop_lets_go reason a c d o = left_by-append c d (removal s b a) (sent (deauthentication b a reason) ∷ []) o ∙ removal_lets_go a c d o
-
-  same_station : (a d : Addr) → (is_some (aid_at s b a) && eq_by_cmp addr_cmp d a) ≡ (is_some (aid_at s b d) && eq_by_cmp addr_cmp d a)
-  same_station a d =
-      elim (eq_by_cmp addr_cmp d a) as (λ t. eq_by_cmp addr_cmp d a ≡ t → (is_some (aid_at s b a) && t) ≡ (is_some (aid_at s b d) && t)) [
-        | true ↦ λ e. ap (λ x. is_some (aid_at s b x) && true) (sym (same_addr a d e))
-        | false ↦ λ e. never (is_some (aid_at s b a)) (is_some (aid_at s b d))
-      ] refl
+  drop_lets_go reason a c d t = left_by-append c d (removal s b a) (sent (deauthentication b a reason) ∷ []) (cond t None (aid_at s c d)) ∙ removal_lets_go a c d t
 
   -- those of several stations take all of them out
-  all_let_go : (outs_of : Addr → List (Recipient × Out)) → LetsGo outs_of → (as' : List Addr) (c : Bssid) (d : Addr) (o : Option ℕ) →
-      left_by c d (flat_map outs_of as') o ≡ cond (eq_by_cmp bssid_cmp c b && (is_some (aid_at s b d) && is_among d as')) None o
-  all_let_go outs_of go [] c d o = nothing_taken (eq_by_cmp bssid_cmp c b) (is_some (aid_at s b d)) o
-  all_let_go outs_of go (a ∷ as') c d o =
-      let here = eq_by_cmp bssid_cmp c b in
-      let known = is_some (aid_at s b d) in
-      left_by-append c d (outs_of a) (flat_map outs_of as') o
-      ∙ all_let_go outs_of go as' c d (left_by c d (outs_of a) o)
-      ∙ ap (λ p. cond (here && (known && is_among d as')) None p) (go a c d o ∙ ap (λ t. cond (here && t) None o) (same_station a d))
-      ∙ two_taken here known (eq_by_cmp addr_cmp d a) (is_among d as') o
+  all_let_go : (outs_of : Addr → List (Recipient × Out)) → LetsGo outs_of → (as' : List Addr) (c : Bssid) (d : Addr) (t : Bool) →
+      left_by c d (flat_map outs_of as') (cond t None (aid_at s c d)) ≡ cond (t || (eq_by_cmp bssid_cmp c b && is_among d as')) None (aid_at s c d)
+  all_let_go outs_of go [] c d t = ap (λ u. cond u None (aid_at s c d)) (none_more t (eq_by_cmp bssid_cmp c b))
+  all_let_go outs_of go (a ∷ as') c d t =
+      left_by-append c d (outs_of a) (flat_map outs_of as') (cond t None (aid_at s c d))
+      ∙ ap (left_by c d (flat_map outs_of as')) (go a c d t)
+      ∙ all_let_go outs_of go as' c d (t || is_row b a c d)
+      ∙ ap (λ u. cond u None (aid_at s c d)) (one_more t (eq_by_cmp bssid_cmp c b) (eq_by_cmp addr_cmp d a) (is_among d as'))
 
   -- the rows that a test keeps are those that are left once some stations are dropped
   abbrev pub Leave : (Bssid × Addr → Bool) → List Addr → Type 0
@@ -107,9 +81,7 @@ module _ (s : State) (b : Bssid) where
     kept_stations = same_map station_total station_exact _ _ (λ k. drops_station b as' s k.0 k.1 ∙ leave k.0 k.1 ∙ sym (kept_row k.0 k.1))
 
     pub kept_aid : (c : Bssid) (d : Addr) → aid_of (map.get kept (c, d)) ≡ cond (eq_by_cmp bssid_cmp c b && is_among d as') None (aid_at s c d)
-    kept_aid c d =
-        ap aid_of (kept_row c d ∙ sym (leave c d))
-        ∙ elim (eq_by_cmp bssid_cmp c b && is_among d as') as (λ t. aid_of (cond t None (station_at s c d)) ≡ cond t None (aid_at s c d)) [ true ↦ refl | false ↦ refl ]
+    kept_aid c d = ap aid_of (kept_row c d ∙ sym (leave c d)) ∙ aid_cond (eq_by_cmp bssid_cmp c b && is_among d as') None (station_at s c d)
 
     -- who is dropped has no row
     pub dropped_gone : (d : Addr) → is_among d as' ≡ true → map.get kept (b, d) ≡ None
@@ -124,14 +96,7 @@ module _ (s : State) (b : Bssid) where
     -- and its driver has not got it
     pub kept_driver : (outs_of : Addr → List (Recipient × Out)) → LetsGo outs_of → (c : Bssid) (d : Addr) →
         left_by c d (flat_map outs_of as') (aid_at s c d) ≡ aid_of (map.get kept (c, d))
-    kept_driver outs_of go c d =
-        all_let_go outs_of go as' c d (aid_at s c d)
-        ∙ elim (one_or_apart bssid_total bssid_exact c b) [
-          | inl same ↦ subst (λ (z : Bssid). cond (eq_by_cmp bssid_cmp z b && (is_some (aid_at s b d) && is_among d as')) None (aid_at s z d) ≡ cond (eq_by_cmp bssid_cmp z b && is_among d as') None (aid_at s z d)) (sym same)
-              (known_or_none (eq_by_cmp bssid_cmp b b) (is_among d as') (aid_at s b d))
-          | inr apart ↦ ap (λ t. cond (t && (is_some (aid_at s b d) && is_among d as')) None (aid_at s c d)) apart ∙ ap (λ t. cond (t && is_among d as') None (aid_at s c d)) (sym apart)
-        ]
-        ∙ sym (kept_aid c d)
+    kept_driver outs_of go c d = all_let_go outs_of go as' c d false ∙ sym (kept_aid c d)
 
   -- ---- those that a mode denies
   module _ (mode : AclMode) where

@@ -50,12 +50,9 @@ put_backs_meaning a (c ∷ bssids) s = put_backs_meaning a bssids (put_station c
 
 two_put : {A : Type 0} (t u v : Bool) (x o : A) → cond (v && t) x (cond (u && t) x o) ≡ cond ((u || v) && t) x o
 two_put true true true x o = refl
-two_put true true false x o = refl
-two_put true false v x o = refl
 two_put false true true x o = refl
-two_put false true false x o = refl
-two_put false false true x o = refl
-two_put false false false x o = refl
+two_put t true false x o = refl
+two_put t false v x o = refl
 
 pub put_backs_station : (a : Addr) (bssids : List Bssid) (s : State) (c : Bssid) (d : Addr) →
     station_at (meaning_of (put_backs a bssids) s) c d ≡ cond (is_bssid_among c bssids && eq_by_cmp addr_cmp d a) (Some Authenticated) (station_at s c d)

@@ -1,20 +1,24 @@
 -- What the first start of a BSSID leaves.
-use Rattle.std.proofs.Common.{◌≡◌, ◌≢◌, ℕ, ◌+◌, ◌≤◌, ◌<◌, Bool, true, false, cond, ◌&&◌, List, [], ◌∷◌, ◌++◌, Option, Some, None, ◌⊎◌, inl, inr, length, refl, sym, ap, subst, ◌∙◌, IsSome, arith, append-nil}
+use Rattle.std.proofs.Common.{◌≡◌, ◌≢◌, ℕ, ◌+◌, ◌≤◌, ◌<◌, Bool, true, false, cond, ◌&&◌, ◌||◌, List, [], ◌∷◌, ◌++◌, Option, Some, None, ◌⊎◌, inl, inr, length, refl, sym, ap, subst, ◌∙◌, IsSome, arith, append-nil}
+use Rattle.std.specs.Cmp.{eq_by_cmp_equiv}
 use Rattle.std.specs.List.{Contains}
+use Rattle.std.specs.Prelude.{◌↔◌}
 use Rattle.std.specs.Option.{is_some}
 use Rattle.std.specs.Ordering.{eq_by_cmp}
 use Rattle.std.specs.FinMap as map
 use Rattle.std.specs.FinMap.{get-retain_keys, get-empty, len-empty, len-insert, same_map}
-use Rattle.std.proofs.lemmas.List.Elements.{Contains-append_left, Contains-append_right, Contains-append_cases, Contains-push, Contains-push_cases}
+use Rattle.std.proofs.lemmas.Bool.{false_from_ne_true}
+use Rattle.std.proofs.lemmas.Map.Views.{Contains-from_any, list_any-from_Contains}
 use Rattle.apd_base.specs.declared.address.Addr.{Addr}
 use Rattle.apd_base.specs.declared.address.Bssid.{Bssid}
 use Rattle.apd_base.specs.declared.station.Station.{Station}
 use Rattle.apd_base.specs.declared.station.Which.{Which}
 use Rattle.apd_base.specs.declared.station.Which.TheVariants.{Accept, Deny}
 use Rattle.apd_base.specs.Sets.{SetOf, contains}
-use Rattle.apd_base.specs.State.{State, station_at, policy_at, list_cmp, which_cmp, is_row_of, list_count}
-use Rattle.apd_base.proofs.AddrLaws.{bssid_total, bssid_exact}
-use Rattle.apd_base.proofs.MapLaws.{one_or_apart, apart, tied, get_inserted, get_insert_other, retain_keys-insert_in, retain_keys-insert_out}
+use Rattle.apd_base.specs.State.{State, station_at, policy_at, list_cmp, which_cmp, is_row_of, list_count, IsListed}
+use Rattle.apd_base.specs.Addr.{bssid_cmp, addr_cmp, is_among}
+use Rattle.apd_base.proofs.AddrLaws.{addr_total, bssid_total, bssid_exact, same_addr}
+use Rattle.apd_base.proofs.MapLaws.{one_or_apart, apart, tied, retain_keys-insert_in, retain_keys-insert_out}
 use Rattle.apd_base.proofs.StateLaws.{which_total, which_exact, list_total, list_exact}
 use Rattle.apd_conf.specs.declared.conf.Conf.{Conf}
 use Rattle.apd_conf.specs.Conf.{policy_of}
@@ -25,15 +29,11 @@ use Rattle.apd_table.specs.Allowed.{allowed}
 use Rattle.apd_table.specs.Sound.{Sound, StaySound}
 use Rattle.apd_table.proofs.Denied.{meaning_of-append}
 use Rattle.apd_table.proofs.ListChanges.{sound_add}
+use Rattle.apd_table.proofs.ListSets.{contains-insert, same_row}
 use Rattle.apd_table.proofs.PolicySet.{sound_set, policy_here, policy_elsewhere}
 use Rattle.apd_mlme.specs.Started.{IsStarted}
 use Rattle.apd_mlme.specs.Configuration.{with_listed, additions, first_start}
-use Rattle.apd_base.proofs.Cases.{differ, either, none_is}
-
--- what would be there, and can't, is not
-none_of : {A : Type 0} (o : Option A) → (IsSome o → o ≡ None) → o ≡ None
-none_of None h = refl
-none_of (Some x) h = h refl
+use Rattle.apd_base.proofs.Cases.{differ, either, no_value, none_is}
 
 one_more : (t : Bool) (n : ℕ) → cond t n (n + 1) ≤ n + 1
 one_more true n = omega arith
@@ -51,65 +51,32 @@ first_meaning s conf b accept deny =
     ∙ ap (meaning_of (additions b Deny deny)) (additions_meaning b Accept accept started)
     ∙ additions_meaning b Deny deny (record started { lists = with_listed b Accept accept s.lists })
 
-which_apart : {A : Type 0} → Accept ≡ Deny → A
-which_apart e = cc
+none_put : (e f t : Bool) → t ≡ ((e && (f && false)) || t)
+none_put true true t = refl
+none_put true false t = refl
+none_put false f t = refl
 
-which_back : {A : Type 0} → Deny ≡ Accept → A
-which_back e = cc
+one_put : (e f g l t : Bool) → ((e && (f && l)) || ((e && (f && g)) || t)) ≡ ((e && (f && (g || l))) || t)
+one_put true true true true t = refl
+one_put true true true false t = refl
+one_put true true false l t = refl
+one_put true false g l t = refl
+one_put false f g l t = refl
 
-one_of : (a d : Addr) (as' : List Addr) → Contains (a ∷ as') d → (a ≡ d) ⊎ Contains as' d
-one_of a d as' h =
-    elim (Contains-append_cases (a ∷ []) as' d h) [
-      | inl first ↦ elim (Contains-push_cases [] a d first) [ inl none ↦ let low : none.0 < 0 = none.1 in absurd (omega arith) | inr same ↦ inl same ]
-      | inr rest ↦ inr rest
-    ]
+-- what list rows have once addresses were put in
+listed : (b : Bssid) (w : Which) (as' : List Addr) (rows : SetOf list_cmp) (c : Bssid) (v : Which) (d : Addr)
+    → contains (with_listed b w as' rows) (c, v, d) ≡ ((eq_by_cmp bssid_cmp c b && (eq_by_cmp which_cmp v w && is_among d as')) || contains rows (c, v, d))
+listed b w [] rows c v d = none_put (eq_by_cmp bssid_cmp c b) (eq_by_cmp which_cmp v w) (contains rows (c, v, d))
+listed b w (a ∷ as') rows c v d =
+    let here = eq_by_cmp bssid_cmp c b in
+    let list = eq_by_cmp which_cmp v w in
+    listed b w as' (map.insert rows (b, w, a) tt) c v d
+    ∙ ap (λ t. (here && (list && is_among d as')) || t) (contains-insert list_total list_exact rows (b, w, a) (c, v, d) ∙ ap (λ t. t || contains rows (c, v, d)) (same_row c b v w d a))
+    ∙ one_put here list (eq_by_cmp addr_cmp d a) (is_among d as') (contains rows (c, v, d))
 
-first_of : (a d : Addr) (as' : List Addr) → d ≡ a → Contains (a ∷ as') d
-first_of a d as' same = subst (λ x. Contains (a ∷ as') x) (sym same) (Contains-append_left (a ∷ []) as' a (Contains-push [] a))
-
--- what list rows have once addresses were put in: no other row more
-module _ (b : Bssid) (w : Which) where
-  abbrev Row : Type 0
-  Row = Bssid × Which × Addr
-
-  pub listed_apart : (as' : List Addr) (rows : SetOf list_cmp) (q : Row) → ((a : Addr) → q ≢ (b, w, a)) → contains (with_listed b w as' rows) q ≡ contains rows q
-  listed_apart [] rows q ne = refl
-  listed_apart (a ∷ as') rows q ne =
-      listed_apart as' (map.insert rows (b, w, a) tt) q ne
-      ∙ ap is_some (get_insert_other list_total list_exact rows (b, w, a) tt q (apart list_total list_exact q (b, w, a) (ne a)))
-
-  kept_by : (rows : SetOf list_cmp) (a d : Addr) → contains rows (b, w, d) ≡ true → contains (map.insert rows (b, w, a) tt) (b, w, d) ≡ true
-  kept_by rows a d h =
-      elim (one_or_apart list_total list_exact (b, w, d) (b, w, a)) [
-        | inl same ↦ ap (contains (map.insert rows (b, w, a) tt)) same ∙ ap is_some (get_inserted list_total list_exact rows (b, w, a) tt)
-        | inr apart ↦ ap is_some (get_insert_other list_total list_exact rows (b, w, a) tt (b, w, d) apart) ∙ h
-      ]
-
-  put_by : (rows : SetOf list_cmp) (a d : Addr) → a ≡ d → contains (map.insert rows (b, w, a) tt) (b, w, d) ≡ true
-  put_by rows a d same = ap (λ x. contains (map.insert rows (b, w, a) tt) (b, w, x)) (sym same) ∙ ap is_some (get_inserted list_total list_exact rows (b, w, a) tt)
-
-  still_listed : (as' : List Addr) (rows : SetOf list_cmp) (d : Addr) → contains rows (b, w, d) ≡ true → contains (with_listed b w as' rows) (b, w, d) ≡ true
-  still_listed [] rows d h = h
-  still_listed (a ∷ as') rows d h = still_listed as' (map.insert rows (b, w, a) tt) d (kept_by rows a d h)
-
-  now_listed : (as' : List Addr) (rows : SetOf list_cmp) (d : Addr) → Contains as' d → contains (with_listed b w as' rows) (b, w, d) ≡ true
-  now_listed [] rows d h = let low : h.0 < 0 = h.1 in absurd (omega arith)
-  now_listed (a ∷ as') rows d h =
-      elim (one_of a d as' h) [
-        | inl same ↦ still_listed as' (map.insert rows (b, w, a) tt) d (put_by rows a d same)
-        | inr rest ↦ now_listed as' (map.insert rows (b, w, a) tt) d rest
-      ]
-
-  listed_of : (as' : List Addr) (rows : SetOf list_cmp) (d : Addr) → contains (with_listed b w as' rows) (b, w, d) ≡ true → Contains as' d ⊎ (contains rows (b, w, d) ≡ true)
-  listed_of [] rows d h = inr h
-  listed_of (a ∷ as') rows d h =
-      elim (listed_of as' (map.insert rows (b, w, a) tt) d h) [
-        | inl rest ↦ inl (Contains-append_right (a ∷ []) as' d rest)
-        | inr row ↦ elim (one_or_apart list_total list_exact (b, w, d) (b, w, a)) [
-          | inl same ↦ inl (first_of a d as' (ap (λ (k : Row). k.2) same))
-          | inr apart ↦ inr (sym (ap is_some (get_insert_other list_total list_exact rows (b, w, a) tt (b, w, d) apart)) ∙ row)
-        ]
-      ]
+or_none : (t u : Bool) → u ≡ false → (t || u) ≡ t
+or_none true u e = refl
+or_none false u e = e
 
 module _ (b : Bssid) where
   -- the BSSID has a policy row, and no station
@@ -146,12 +113,12 @@ module _ (b : Bssid) where
   -- where a sound state has no policy row for the BSSID, it has no other row of it
   module _ (s : State) (new : is_some (policy_at s b) ≡ false) (sound : Sound s) where
     nobody : (a : Addr) → station_at s b a ≡ None
-    nobody a = none_of (station_at s b a) (λ h. differ _ new (sound.stations_have_policy b a h))
+    nobody a = no_value (station_at s b a) (false_from_ne_true (is_some (station_at s b a)) (λ h. differ _ new (sound.stations_have_policy b a h)))
 
     unlisted : (w : Which) (q : Bssid × Which × Addr) → cond (is_row_of b w q) (map.get s.lists q) None ≡ None
     unlisted w q =
         elim (one_or_apart bssid_total bssid_exact b q.0) [
-          | inl same ↦ ap (λ o. cond (is_row_of b w q) o None) (none_of (map.get s.lists q) (λ h. differ _ new (subst (λ x. IsSome (policy_at s x)) (sym same) (sound.lists_have_policy q.0 q.1 q.2 h)))) ∙ either (is_row_of b w q) None
+          | inl same ↦ ap (λ o. cond (is_row_of b w q) o None) (no_value (map.get s.lists q) (false_from_ne_true (is_some (map.get s.lists q)) (λ h. differ _ new (subst (λ x. IsSome (policy_at s x)) (sym same) (sound.lists_have_policy q.0 q.1 q.2 h))))) ∙ either (is_row_of b w q) None
           | inr apart ↦ ap (λ t. cond (t && eq_by_cmp which_cmp w q.1) (map.get s.lists q) None) apart
         ]
 
@@ -191,29 +158,40 @@ module _ (b : Bssid) where
             (additions_stay Deny deny [] accepted then still_started (deny_room deny_list) (λ last. last))),
       )
 
-      abbrev rows : SetOf list_cmp
-      rows = with_listed b Accept accept s.lists
+      abbrev lists : SetOf list_cmp
+      lists = with_listed b Deny deny (with_listed b Accept accept s.lists)
+
+      abbrev addresses : Which → List Addr
+      addresses Accept = accept
+      addresses Deny = deny
 
       -- no list row of the BSSID is an old one
-      no_row : {A : Type 0} (w : Which) (a : Addr) → contains s.lists (b, w, a) ≡ true → A
-      no_row w a h = differ _ new (sound.lists_have_policy b w a h)
+      list_is : (w : Which) (a : Addr) → contains lists (b, w, a) ≡ is_among a (addresses w)
+      list_is w a =
+          let rows = with_listed b Accept accept s.lists in
+          let old : contains s.lists (b, w, a) ≡ false = false_from_ne_true (contains s.lists (b, w, a)) (λ h. differ _ new (sound.lists_have_policy b w a h)) in
+          listed b Deny deny rows b w a ∙ ap (λ t. (t && (eq_by_cmp which_cmp w Deny && is_among a deny)) || contains rows (b, w, a)) (tied bssid_total bssid_exact b)
+          ∙ ap (λ t. (eq_by_cmp which_cmp w Deny && is_among a deny) || t) (listed b Accept accept s.lists b w a
+          ∙ ap (λ t. (t && (eq_by_cmp which_cmp w Accept && is_among a accept)) || contains s.lists (b, w, a)) (tied bssid_total bssid_exact b)
+          ∙ or_none (eq_by_cmp which_cmp w Accept && is_among a accept) (contains s.lists (b, w, a)) old)
+          ∙ by_list w
+        where
+          by_list : (v : Which) → ((eq_by_cmp which_cmp v Deny && is_among a deny) || (eq_by_cmp which_cmp v Accept && is_among a accept)) ≡ is_among a (addresses v)
+          by_list Accept = refl
+          by_list Deny = or_none (is_among a deny) false refl
 
-      accept_listed : (a : Addr) → contains (with_listed b Deny deny rows) (b, Accept, a) ≡ contains rows (b, Accept, a)
-      accept_listed a = listed_apart b Deny deny rows (b, Accept, a) (λ x e. which_apart (ap (λ (k : Bssid × Which × Addr). k.1) e))
+      on_list : (w : Which) (a : Addr) → IsListed (first_start s conf b accept deny).state b w a ↔ Contains (addresses w) a
+      on_list w a = (
+        λ h. Contains-from_any (λ x y e. same_addr y x e) a (addresses w) (sym (list_is w a) ∙ h),
+        λ h. list_is w a ∙ list_any-from_Contains (eq_by_cmp_equiv addr_total) a (addresses w) h,
+      )
 
-      deny_listed : (a : Addr) → contains rows (b, Deny, a) ≡ contains s.lists (b, Deny, a)
-      deny_listed a = listed_apart b Accept accept s.lists (b, Deny, a) (λ x e. which_back (ap (λ (k : Bssid × Which × Addr). k.1) e))
-
-      accept_rows : (a : Addr) → contains (with_listed b Deny deny rows) (b, Accept, a) ≡ true → Contains accept a
-      accept_rows a h = elim (listed_of b Accept accept s.lists a (sym (accept_listed a) ∙ h)) [ inl there ↦ there | inr old ↦ no_row Accept a old ]
-
-      deny_rows : (a : Addr) → contains (with_listed b Deny deny rows) (b, Deny, a) ≡ true → Contains deny a
-      deny_rows a h = elim (listed_of b Deny deny rows a h) [ inl there ↦ there | inr old ↦ no_row Deny a (sym (deny_listed a) ∙ old) ]
-
-      other_rows : (c : Bssid) → c ≢ b → (w : Which) (a : Addr) → contains (with_listed b Deny deny rows) (c, w, a) ≡ contains s.lists (c, w, a)
+      other_rows : (c : Bssid) → c ≢ b → (w : Which) (a : Addr) → contains lists (c, w, a) ≡ contains s.lists (c, w, a)
       other_rows c ne w a =
-          listed_apart b Deny deny rows (c, w, a) (λ x e. ne (ap (λ (k : Bssid × Which × Addr). k.0) e))
-          ∙ listed_apart b Accept accept s.lists (c, w, a) (λ x e. ne (ap (λ (k : Bssid × Which × Addr). k.0) e))
+          let other = apart bssid_total bssid_exact c b ne in
+          let rows = with_listed b Accept accept s.lists in
+          listed b Deny deny rows c w a ∙ ap (λ t. (t && (eq_by_cmp which_cmp w Deny && is_among a deny)) || contains rows (c, w, a)) other
+          ∙ listed b Accept accept s.lists c w a ∙ ap (λ t. (t && (eq_by_cmp which_cmp w Accept && is_among a accept)) || contains s.lists (c, w, a)) other
 
       nobody_either : (o : Option Station) → o ≡ None → (t : Bool) → o ≡ cond t o None
       nobody_either o e true = refl
@@ -222,8 +200,8 @@ module _ (b : Bssid) where
       pub first_started : IsStarted s conf b accept deny (first_start s conf b accept deny).state
       first_started = record {
         policy = policy_here s b (policy_of conf);
-        accepted = λ _ a. (accept_rows a, λ h. accept_listed a ∙ now_listed b Accept accept s.lists a h);
-        denied = λ _ a. (deny_rows a, λ h. now_listed b Deny deny rows a h);
+        accepted = λ _ a. on_list Accept a;
+        denied = λ _ a. on_list Deny a;
         stored = λ h. differ _ new h;
         stations = λ a. nobody_either (station_at s b a) (nobody a) (allowed (first_start s conf b accept deny).state b a);
         other_policies = λ c ne. policy_elsewhere s b (policy_of conf) c (apart bssid_total bssid_exact c b ne);

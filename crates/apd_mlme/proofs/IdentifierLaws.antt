@@ -1,5 +1,5 @@
 -- The least free identifier, and why there is always one for a station that is authenticated and not associated.
-use Rattle.std.proofs.Common.{◌≡◌, ℕ, zero, suc, ◌-◌, ◌<◌, ◌≤◌, Bool, true, false, cond, not, List, [], ◌∷◌, ◌++◌, Option, Some, None, inl, inr, refl, sym, ap, subst, ◌∙◌, IsSome, IfNone, arith}
+use Rattle.std.proofs.Common.{◌≡◌, ◌≢◌, eq-eqb, ℕ, zero, suc, ◌-◌, ◌<◌, ◌≤◌, Bool, true, false, cond, not, List, [], ◌∷◌, ◌++◌, Option, Some, None, inl, inr, refl, sym, ap, subst, ◌∙◌, IsSome, IfNone, arith}
 use Rattle.std.specs.List.{find}
 use Rattle.std.specs.Option.{is_some}
 use Rattle.std.specs.Ordering.{eq_by_cmp}
@@ -19,9 +19,12 @@ use Rattle.apd_base.proofs.MapLaws.{one_or_apart, apart, tied, get_remove_other}
 use Rattle.apd_base.proofs.StationLaws.{same_aid}
 use Rattle.apd_table.specs.LeastFree.{IsTaken, IsLeastFree}
 use Rattle.apd_table.specs.Sound.{Sound}
-use Rattle.apd_table.proofs.Takens.{taken_of, free_of}
-use Rattle.apd_mlme.specs.Identifiers.{identifiers_to, identifiers, is_taken, least_free, identifier_for, one_less, at_least_one, at_most_all}
-use Rattle.apd_base.proofs.Cases.{none_is, not_false, not_yes, same_some}
+use Rattle.apd_table.specs.Addresses.{addresses_at}
+use Rattle.apd_table.proofs.AllRows.{any_address}
+use Rattle.apd_mlme.specs.Identifiers.{identifiers_to, identifiers, is_number, is_taken, least_free, identifier_for, one_less, at_least_one, at_most_all}
+use Rattle.apd_base.proofs.Cases.{differ, none_is, not_false, not_yes, same_some, value_of}
+use Rattle.std.proofs.lemmas.Bool.{eqb-true}
+use Rattle.std.proofs.lemmas.List.Folds.{Any-from_list_any}
 use Rattle.apd_base.proofs.StateLaws.{station_of_aid}
 
 -- what is found first among numbers that rise
@@ -44,7 +47,22 @@ find-append_some p (x ∷ xs) ys z e =
 none_some : (i : ℕ) → None ≡ Some i → ⊥
 none_some i e = cc
 
+number_is : (n : ℕ) (o : Option ℕ) → is_number n o ≡ true → o ≡ Some n
+number_is n None e = cc
+number_is n (Some m) e = ap Some (eqb-true m n e)
+
 module _ (s : State) (b : Bssid) where
+  -- whether an identifier is taken, by look-up
+  taken_of : (aid : Aid) → is_taken s b aid ≡ true → IsTaken s b aid.number
+  taken_of aid e =
+      let one = Any-from_list_any (λ a. is_number aid.number (aid_at s b a)) (addresses_at s b) e in
+      (one.1, number_is aid.number (aid_at s b one.1) one.4)
+
+  free_of : (aid : Aid) → is_taken s b aid ≡ false → (a : Addr) → aid_at s b a ≢ Some aid.number
+  free_of aid e a has =
+      let row = value_of (station_at s b a) (station_of_aid (station_at s b a) (ap is_some has)) in
+      differ _ e (any_address s b (λ c. is_number aid.number (aid_at s b c)) a row.0 row.1 (ap (is_number aid.number) has ∙ eq-eqb aid.number aid.number refl))
+
   abbrev free : Aid → Bool
   free aid = not (is_taken s b aid)
 
@@ -64,7 +82,7 @@ module _ (s : State) (b : Bssid) where
   next_is_free n aid is below untaken = record {
     low = aid.low;
     high = aid.high;
-    free = free_of s b aid.number untaken;
+    free = free_of aid untaken;
     smaller = λ j low less. below j low (omega arith);
   }
 
@@ -72,7 +90,7 @@ module _ (s : State) (b : Bssid) where
   next_scanned n aid is below =
       elim (free aid) as (λ t. free aid ≡ t → Scanned (suc n) (cond t (Some aid) None)) [
         | true ↦ λ e. next_is_free n aid is below (not_yes _ e)
-        | false ↦ λ e. one_more (IsTaken s b) n below (subst (IsTaken s b) is (taken_of s b aid.number (not_false _ e)))
+        | false ↦ λ e. one_more (IsTaken s b) n below (subst (IsTaken s b) is (taken_of aid (not_false _ e)))
       ] refl
 
   scanned : (n : ℕ) (high : n ≤ MAX_STATIONS) → Scanned n (find free (identifiers_to n high))

@@ -1,15 +1,12 @@
 -- How many bytes the records of a verdict have.
 use Rattle.std.proofs.Common.{◌≡◌, arith, ◌*◌, ◌≤◌, Bool, true, false, cond, ◌&&◌, not, List, [], ◌∷◌, ◌++◌, Option, Some, None, Result, Ok, Err, IfOk, length, refl, sym, ap, subst, ◌∙◌}
 use Rattle.std.specs.Option.{is_some}
-use Rattle.std.specs.Prelude.{filter}
 use Rattle.std.specs.Ordering.{eq_by_cmp}
 use Rattle.std.specs.FinMap as map
-use Rattle.std.specs.Int.{to_le_bytes, w16}
 use Rattle.std.proofs.lemmas.List.{length-append, length-map}
 use Rattle.std.proofs.lemmas.List.Sums.{length-filter, count_by-le-length}
 use Rattle.apd_base.specs.declared.address.Addr.{Addr}
 use Rattle.apd_base.specs.declared.address.Bssid.{Bssid}
-use Rattle.apd_base.specs.declared.station.AclMode.{AclMode}
 use Rattle.apd_base.specs.declared.station.Aid.{Aid}
 use Rattle.apd_base.specs.declared.station.Policy.{Policy as BssPolicy}
 use Rattle.apd_base.specs.declared.station.Which.{Which}
@@ -17,25 +14,23 @@ use Rattle.apd_base.specs.declared.station.Which.TheVariants.{Accept, Deny}
 use Rattle.apd_base.specs.declared.station.Station.{Station}
 use Rattle.apd_base.specs.declared.station.Station.TheVariants.{Authenticated}
 use Rattle.apd_base.specs.Addr.{bssid_cmp}
-use Rattle.apd_base.specs.Mode.{mode_number}
 use Rattle.apd_base.specs.State.{State, aid_at, which_number, count}
-use Rattle.apd_base.proofs.AddrLaws.{station_total, station_exact}
-use Rattle.apd_base.proofs.RowsMaps.{entries-retain_keys}
 use Rattle.apd_conf.specs.declared.conf.Conf.{Conf}
 use Rattle.apd_conf.specs.Conf.{policy_of}
 use Rattle.apd_conf.specs.ListFile.{IsList}
 use Rattle.apd_frame.specs.declared.codes.Reason.{Reason}
 use Rattle.apd_frame.specs.Contents.{AssociationRequest}
 use Rattle.apd_record.specs.Ranges.{IsChange, AreChanges}
-use Rattle.apd_record.specs.Record.{station_bytes, record_of, records_of}
+use Rattle.apd_record.specs.Record.{record_of, records_of}
 use Rattle.apd_record.specs.declared.change.Change.{Change}
 use Rattle.apd_record.specs.declared.change.Change.TheVariants.{Put, Drop, ListAdd, Policy}
-use Rattle.apd_record.proofs.Lengths.{station_length, records_length-append, records_length-push}
+use Rattle.apd_record.proofs.Lengths.{records_length-append, records_length-push}
 use Rattle.apd_table.specs.Addresses.{addresses_at}
-use Rattle.apd_table.specs.Allowed.{allowed_in, denied_by, is_denied_row}
-use Rattle.apd_table.specs.Rows.{is_row_of}
+use Rattle.apd_table.specs.Allowed.{denied_by}
 use Rattle.apd_table.specs.Sound.{Sound}
+use Rattle.apd_table.proofs.AllRows.{addresses_few, denied_few}
 use Rattle.apd_table.proofs.Denied.{drops}
+use Rattle.apd_table.proofs.SnapshotSize.{each_length, fronts, list_length, policy_length, put_length}
 use Rattle.apd_mlme.specs.declared.decision.Decision.{Decision}
 use Rattle.apd_mlme.specs.declared.decision.TheConstants.{MAX_RECORDS}
 use Rattle.apd_mlme.specs.declared.event.Edit.{Edit}
@@ -52,77 +47,32 @@ use Rattle.apd_mlme.proofs.CommandLaws.{new, edited_under}
 use Rattle.apd_mlme.proofs.Shapes as shape
 use Rattle.apd_mlme.proofs.Shapes.{Shape, by_shape}
 
--- what passes two tests is no more than what passes one
-fewer : {X : Type 0} (p q : X → Bool) (xs : List X) → length (filter (λ x. p x && q x) xs) ≤ length (filter p xs)
-fewer p q [] = omega arith
-fewer p q (x ∷ xs) =
-    let both = filter (λ y. p y && q y) xs in
-    let one = filter p xs in
-    let rest : length both ≤ length one = fewer p q xs in
-    elim (p x) as (λ t. length (cond (t && q x) (x ∷ both) both) ≤ length (cond t (x ∷ one) one)) [
-      | true ↦ elim (q x) as (λ u. length (cond u (x ∷ both) both) ≤ length (x ∷ one)) [ true ↦ omega arith | false ↦ omega arith ]
-      | false ↦ rest
-    ]
-
-module _ (s : State) (b : Bssid) where
-  abbrev here : (Bssid × Addr) × Station → Bool
-  here row = eq_by_cmp bssid_cmp b row.0.0
-
-  counted : count s b ≡ length (filter here (map.entries s.stations))
-  counted = map.len-entries _ ∙ ap length (entries-retain_keys station_total station_exact (λ k. eq_by_cmp bssid_cmp b k.0) s.stations)
-
-  -- no more than there are
-  all_few : length (addresses_at s b) ≡ count s b
-  all_few = length-map (filter (is_row_of b) (map.entries s.stations)) (λ row. row.0.1) ∙ sym counted
-
-  -- no more are denied than there are
-  denied_few : (mode : AclMode) → length (denied_by s b mode) ≤ count s b
-  denied_few mode =
-      let shorter = fewer here (λ row. not (allowed_in s b row.0.1 mode)) (map.entries s.stations) in
-      rw (length-map (filter (is_denied_row s b mode) (map.entries s.stations)) (λ row. row.0.1)) (rw counted shorter)
-
 -- ---- each record
 drop_length : (b : Bssid) (a : Addr) → IsChange (Drop b a) → length (record_of (Drop b a)) ≡ 13
 drop_length b a known = omega (arith, length-append b.0.0 a.0, known.0.0, known.1.0)
 
-policy_length : (b : Bssid) (p : BssPolicy) → IsChange (Policy b p) → length (record_of (Policy b p)) ≡ 10
-policy_length b p known = omega (arith, length-append b.0.0 (mode_number p.mode ∷ to_le_bytes w16 p.max.count), known.0)
-
-put_length : (b : Bssid) (a : Addr) (station : Station) → IsChange (Put b a station) → length (record_of (Put b a station)) ≡ 20
-put_length b a station known = omega (arith, length-append (b.0.0 ++ a.0) (station_bytes station), length-append b.0.0 a.0, station_length station, known.0.0, known.1.0)
-
-add_length : (b : Bssid) (w : Which) (a : Addr) → IsChange (ListAdd b w a) → length (record_of (ListAdd b w a)) ≡ 14
-add_length b w a known = omega (arith, length-append b.0.0 (which_number w ∷ a.0), known.0.0, known.1.0)
-
 -- that of an edit of a list has no more
 edit_length : (b : Bssid) (w : Which) (edit : Edit) → IsChange (change_of b w edit) → length (record_of (change_of b w edit)) ≤ 14
-edit_length b w (Add a) known = omega (arith, add_length b w a known)
+edit_length b w (Add a) known = omega (arith, list_length b w a known.0 known.1)
 edit_length b w (Remove a) known = omega (arith, length-append b.0.0 (which_number w ∷ a.0), known.0.0, known.1.0)
 edit_length b w Clear known = omega (arith, length-append b.0.0 (which_number w ∷ []), known.0)
 
 -- ---- several
 put_backs_length : (a : Addr) (bssids : List Bssid) → AreChanges (put_backs a bssids) → length (records_of (put_backs a bssids)) ≡ 20 * length bssids
-put_backs_length a [] known = refl
-put_backs_length a (b ∷ bssids) known = omega (arith, length-append (record_of (Put b a Authenticated)) (records_of (put_backs a bssids)), put_length b a Authenticated known.0, put_backs_length a bssids known.1)
+put_backs_length a bssids known = each_length (λ c. Put c a Authenticated) 20 (λ c is. put_length c a Authenticated is.0 is.1) bssids known
 
 drops_length : (b : Bssid) (as' : List Addr) → AreChanges (drops b as') → length (records_of (drops b as')) ≡ 13 * length as'
-drops_length b [] known = refl
-drops_length b (a ∷ as') known = omega (arith, length-append (record_of (Drop b a)) (records_of (drops b as')), drop_length b a known.0, drops_length b as' known.1)
+drops_length b as' known = each_length (λ a. Drop b a) 13 (drop_length b) as' known
 
 additions_length : (b : Bssid) (w : Which) (as' : List Addr) → AreChanges (additions b w as') → length (records_of (additions b w as')) ≡ 14 * length as'
-additions_length b w [] known = refl
-additions_length b w (a ∷ as') known = omega (arith, length-append (record_of (ListAdd b w a)) (records_of (additions b w as')), add_length b w a known.0, additions_length b w as' known.1)
-
-both_known : (xs ys : List Change) → AreChanges (xs ++ ys) → AreChanges xs × AreChanges ys
-both_known [] ys known = (tt, known)
-both_known (x ∷ xs) ys known = let rest = both_known xs ys known.1 in ((known.0, rest.0), rest.1)
+additions_length b w as' known = each_length (λ a. ListAdd b w a) 14 (λ a is. list_length b w a is.0 is.1) as' known
 
 -- ---- what a verdict has
 none_long : length (records_of []) ≤ MAX_RECORDS
 none_long = omega arith
 
 one_put : (b : Bssid) (a : Addr) (station : Station) → AreChanges (Put b a station ∷ []) → length (records_of (Put b a station ∷ [])) ≤ MAX_RECORDS
-one_put b a station known = omega (arith, put_length b a station known.0, length-append (record_of (Put b a station)) [])
+one_put b a station known = omega (arith, put_length b a station known.0.0 known.0.1, length-append (record_of (Put b a station)) [])
 
 one_drop : (b : Bssid) (a : Addr) → AreChanges (Drop b a ∷ []) → length (records_of (Drop b a ∷ [])) ≤ MAX_RECORDS
 one_drop b a known = omega (arith, drop_length b a known.0, length-append (record_of (Drop b a)) [])
@@ -136,7 +86,7 @@ module _ (s : State) where
   later_length conf b sound known =
       let denied = denied_by s b conf.macaddr_acl in
       let policy = Policy b (policy_of conf) in
-      let parts = both_known (drops b denied) (policy ∷ []) known in
+      let parts = fronts (drops b denied) (policy ∷ []) known in
       omega (arith, records_length-push (drops b denied) policy, drops_length b denied parts.0, policy_length b (policy_of conf) parts.1.0, denied_few s b conf.macaddr_acl, sound.few_stations b)
 
   first_length : (conf : Conf) (b : Bssid) (accept deny : List Addr) → IsList accept → IsList deny → AreChanges (first_changes conf b accept deny) → length (records_of (first_changes conf b accept deny)) ≤ MAX_RECORDS
@@ -144,7 +94,7 @@ module _ (s : State) where
       let policy = Policy b (policy_of conf) in
       let accepts = additions b Accept accept in
       let denials = additions b Deny deny in
-      let parts = both_known accepts denials known.1 in
+      let parts = fronts accepts denials known.1 in
       omega (arith, length-append (record_of policy) (records_of (accepts ++ denials)), policy_length b (policy_of conf) known.0, records_length-append accepts denials, additions_length b Accept accept parts.0, additions_length b Deny deny parts.1, accept_list.few, deny_list.few)
 
   -- at most one row at each of the eight BSSIDs
@@ -154,21 +104,21 @@ module _ (s : State) where
       let here = Put b a (row_of request aid) in
       let others = elsewhere s b a in
       let is_other = λ (c : Bssid). not (eq_by_cmp bssid_cmp b c) && is_some (aid_at s c a) in
-      let parts = both_known (put_backs a others) (here ∷ []) known in
+      let parts = fronts (put_backs a others) (here ∷ []) known in
       let filtered = length-filter is_other (map.keys s.policies) in
       let fewer = count_by-le-length is_other (map.keys s.policies) in
       let keys = length-map (map.entries s.policies) (λ row. row.0) in
-      omega (arith, records_length-push (put_backs a others) here, put_backs_length a others parts.0, put_length b a (row_of request aid) parts.1.0, filtered, fewer, keys, map.len-entries s.policies, sound.few_bss)
+      omega (arith, records_length-push (put_backs a others) here, put_backs_length a others parts.0, put_length b a (row_of request aid) parts.1.0.0 parts.1.0.1, filtered, fewer, keys, map.len-entries s.policies, sound.few_bss)
 
   all_length : (b : Bssid) (reason : Reason) (t : Bool) → Sound s → IsShort (all_kicked s b reason t)
-  all_length b reason t sound known = omega (arith, drops_length b (addresses_at s b) known, all_few s b, sound.few_stations b)
+  all_length b reason t sound known = omega (arith, drops_length b (addresses_at s b) known, addresses_few s b, sound.few_stations b)
 
   edited_length : (b : Bssid) (w : Which) (edit : Edit) (o : Option BssPolicy) → Sound s → IsShort (edited_under s b w edit o)
   edited_length b w edit None sound known = omega (arith, edit_length b w edit known.0, length-append (record_of (change_of b w edit)) [])
   edited_length b w edit (Some p) sound known =
       let denied = denied_by (new s b w edit) b p.mode in
       let change = change_of b w edit in
-      let parts = both_known (drops b denied) (change ∷ []) known in
+      let parts = fronts (drops b denied) (change ∷ []) known in
       omega (arith, records_length-push (drops b denied) change, drops_length b denied parts.0, edit_length b w edit parts.1.0, denied_few (new s b w edit) b p.mode, sound.few_stations b)
 
   shape_length : (confs : List Conf) (h : Happening) → IsFit s confs h → Sound s → (v : Verdict) → Shape s confs h v → IsShort v

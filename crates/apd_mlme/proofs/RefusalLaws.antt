@@ -1,18 +1,21 @@
 -- Success, and the reasons to refuse.
 use Rattle.std.proofs.Common.{◌≡◌, ℕ, ◌<◌, ◌≤◌, Bool, true, false, cond, ◌&&◌, List, [], ◌∷◌, refl, arith}
-use Rattle.std.specs.List.{AllByRecursion}
 use Rattle.apd_frame.specs.declared.codes.Status.{Status}
 use Rattle.apd_frame.specs.declared.codes.Status.TheVariants.{Success, RefusedReasonUnspecified, NotSupportedAuthAlgorithm, TransactionSequenceError, DeniedNoMoreStas, DeniedListenIntervalTooLarge}
 use Rattle.apd_mlme.specs.Refusals.{first_status, is_success}
 
-first_fails : {Rest : Type 0} (t : Bool) (status rest : Status) → is_success status ≡ false → is_success (cond t status rest) ≡ true → (is_success rest ≡ true → Rest) → (t ≡ false) × Rest
-first_fails true status rest refuses e more = cc
-first_fails false status rest refuses e more = (refl, more e)
+-- what is so of the status of each line where it is the first that holds, and of success where none does
+abbrev pub ByLines : (Status → Type 0) → List (Bool × Status) → Type 0
+ByLines P [] = P Success
+ByLines P (line ∷ lines) = (line.0 ≡ true → P line.1) × (line.0 ≡ false → ByLines P lines)
 
--- none of the lines holds, where each of them refuses
-pub none_holds : (lines : List (Bool × Status)) → AllByRecursion (λ line. is_success line.1 ≡ false) lines → is_success (first_status lines) ≡ true → AllByRecursion (λ line. line.0 ≡ false) lines
-none_holds [] refuse e = tt
-none_holds (line ∷ lines) refuse e = first_fails line.0 line.1 (first_status lines) refuse.0 e (none_holds lines refuse.1)
+-- is so of the status that is told
+pub by_lines : (P : Status → Type 0) (lines : List (Bool × Status)) → ByLines P lines → P (first_status lines)
+by_lines P [] cases = cases
+by_lines P (line ∷ lines) cases = elim line.0 as (λ t. line.0 ≡ t → P (cond t line.1 (first_status lines))) [
+  | true ↦ λ e. cases.0 e
+  | false ↦ λ e. by_lines P lines (cases.1 e)
+] refl
 
 pub not_and : (a b : Bool) → a ≡ true → (a && b) ≡ false → b ≡ false
 not_and true b e f = f

@@ -1,15 +1,14 @@
 -- Association identifiers (IEEE Std 802.11-2016, 9.4.1.8): which of them are free at a BSSID, and which one a station gets.
-use Rattle.std.specs.Prelude.{ℕ, zero, suc, ◌≤◌, Bool, not, List, [], ◌∷◌, ◌++◌, Option, Some, None}
+use Rattle.std.specs.Prelude.{ℕ, zero, suc, ◌≤◌, ◌==◌, Bool, false, not, List, [], ◌∷◌, ◌++◌, Option, Some, None}
 use Rattle.std.specs.List.{find, list_any}
-use Rattle.std.specs.FinMap as maps
 use Rattle.std.proofs.Common.{arith}
 use Rattle.apd_base.specs.declared.address.Bssid.{Bssid}
 use Rattle.apd_base.specs.declared.limits.TheConstants.{MAX_STATIONS}
 use Rattle.apd_base.specs.declared.station.Aid.{Aid}
 use Rattle.apd_base.specs.declared.station.Station.{Station}
 use Rattle.apd_base.specs.declared.station.Station.TheVariants.{Authenticated, Associated}
-use Rattle.apd_base.specs.State.{State}
-use Rattle.apd_table.specs.Rows.{has_aid}
+use Rattle.apd_base.specs.State.{State, aid_at}
+use Rattle.apd_table.specs.Addresses.{addresses_at}
 
 pub at_least_one : (n : ℕ) → 1 ≤ suc n
 at_least_one n = omega arith
@@ -30,9 +29,14 @@ at_most_all = omega arith
 unfoldable pub identifiers : List Aid
 identifiers = identifiers_to MAX_STATIONS at_most_all
 
+-- whether it is this number
+abbrev pub is_number : ℕ → Option ℕ → Bool
+is_number n None = false
+is_number n (Some m) = m == n
+
 -- whether a station of the BSSID has the identifier
 abbrev pub is_taken : State → Bssid → Aid → Bool
-is_taken s b aid = list_any (has_aid b aid.number) (maps.entries s.stations)
+is_taken s b aid = list_any (λ a. is_number aid.number (aid_at s b a)) (addresses_at s b)
 
 -- the least that none of them has
 unfoldable pub least_free : State → Bssid → Option Aid

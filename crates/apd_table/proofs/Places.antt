@@ -159,9 +159,6 @@ module _ (words : List ℕ) (w word : ℕ) (others : (j : ℕ) → 1 ≤ 64 * w 
       let some : 1 ≤ 64 * w + j % 64 = omega arith in
       ap (λ k. eqb (bit_at (slice_index words k) (j % 64)) 1) at ∙ ap (λ x. eqb x 1) (sym (others (j % 64) some))
 
-  pub all_set : ((j : ℕ) → j < 64 → bit_at word j ≡ 1) → AreSet words w
-  all_set ones j low from below = bit_of j low from below ∙ ap (λ x. eqb x 1) (ones (j % 64) (bit_below j))
-
   not_first : (i : ℕ) → bit_at word i ≡ 0 → 1 ≤ w * 64 + i
   not_first i clear =
       elim (cases_eq (w * 64 + i) 0) [
