@@ -1,5 +1,5 @@
 -- What an association or a reassociation response tells its station.
-use Rattle.std.proofs.Common.{◌≡◌, ◌≢◌, ℕ, Bool, true, false, cond, not, ◌&&◌, nat_lt, [], ◌++◌, List, Option, Some, None, inl, inr, refl, sym, ap, subst, ◌∙◌, IsSome}
+use Rattle.std.proofs.Common.{◌≡◌, ◌≢◌, ℕ, Bool, true, false, cond, not, ◌&&◌, [], ◌++◌, List, Option, Some, None, inl, inr, refl, sym, ap, subst, ◌∙◌, IsSome}
 use Rattle.std.specs.Option.{is_some}
 use Rattle.std.specs.Ordering.{eq_by_cmp}
 use Rattle.std.proofs.lemmas.Bool.{ltb-true, ltb-false}
@@ -17,7 +17,7 @@ use Rattle.apd_conf.specs.declared.conf.Conf.{Conf}
 use Rattle.apd_frame.specs.Contents.{AssociationRequest}
 use Rattle.apd_frame.specs.Elements.{well_formed, first_with}
 use Rattle.apd_frame.specs.declared.codes.Status.{Status}
-use Rattle.apd_frame.specs.declared.codes.Status.TheVariants.{Success, RefusedReasonUnspecified, DeniedListenIntervalTooLarge}
+use Rattle.apd_frame.specs.declared.codes.Status.TheVariants.{Success}
 use Rattle.apd_frame.specs.declared.element.TheConstants.{SSID, SUPPORTED_RATES}
 use Rattle.apd_table.specs.LeastFree.{IsLeastFree}
 use Rattle.apd_table.specs.Sound.{Sound}

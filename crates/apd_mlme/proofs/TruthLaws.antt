@@ -1,5 +1,5 @@
 -- What leaves is so in the state after, and goes to a radio that is there.
-use Rattle.std.proofs.Common.{ℕ, ◌≡◌, ◌≢◌, inl, inr, Bool, true, false, cond, not, ◌&&◌, ◌||◌, List, [], ◌∷◌, ◌++◌, Option, Some, None, refl, sym, ap, subst, ◌∙◌, IsSome}
+use Rattle.std.proofs.Common.{◌≡◌, ◌≢◌, inl, inr, Bool, true, false, cond, not, ◌&&◌, ◌||◌, List, [], ◌∷◌, ◌++◌, Option, Some, None, refl, sym, ap, subst, ◌∙◌, IsSome}
 use Rattle.std.specs.Prelude.{filter}
 use Rattle.std.specs.List.{AllByRecursion, flat_map}
 use Rattle.std.specs.Option.{is_some}
@@ -28,7 +28,6 @@ use Rattle.apd_table.specs.Addresses.{addresses_at}
 use Rattle.apd_table.specs.Allowed.{denied_by}
 use Rattle.apd_table.specs.Sound.{Sound}
 use Rattle.apd_table.proofs.Denied.{denied_among}
-use Rattle.apd_mlme.specs.declared.answer.Answer.{Answer}
 use Rattle.apd_mlme.specs.declared.association.Kind.{Kind}
 use Rattle.apd_mlme.specs.declared.association.Kind.TheVariants.{Association, Reassociation}
 use Rattle.apd_mlme.specs.declared.decision.Recipient.{Recipient}

@@ -1,5 +1,5 @@
 -- What the look-ups for a clash say of the state.
-use Rattle.std.proofs.Common.{◌≡◌, ◌↔◌, ℕ, Bool, true, false, not, ◌&&◌, ◌||◌, List, [], ◌∷◌, Some, inl, inr, refl, sym, ap, ◌∙◌, IsSome}
+use Rattle.std.proofs.Common.{◌≡◌, ◌↔◌, ℕ, Bool, true, false, not, ◌&&◌, ◌||◌, List, [], ◌∷◌, inl, inr, refl, sym, ap, ◌∙◌, IsSome}
 use Rattle.std.proofs.lemmas.Bool.{and_parts}
 use Rattle.std.specs.List.{list_any}
 use Rattle.std.specs.Ordering.{eq_by_cmp}
@@ -12,7 +12,6 @@ use Rattle.apd_base.proofs.MapLaws.{one_or_apart, tied}
 use Rattle.apd_base.proofs.StateLaws.{station_of_aid}
 use Rattle.apd_base.specs.State.{State, aid_at, station_at}
 use Rattle.apd_table.specs.Can.{IsFreeFor, MayHave}
-use Rattle.apd_table.specs.LeastFree.{IsTaken}
 use Rattle.apd_table.specs.Rows.{is_associated_apart}
 use Rattle.apd_table.specs.Sound.{Sound}
 use Rattle.apd_base.proofs.Cases.{differ, not_yes, second_true}

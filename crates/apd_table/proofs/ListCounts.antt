@@ -1,5 +1,5 @@
 -- How many addresses the list of a BSSID has, counted in the list rows of a state.
-use Rattle.std.proofs.Common.{◌≡◌, suc, ◌≤◌, Bool, true, false, cond, ◌&&◌, List, [], ◌∷◌, map as list_map, filter, Some, None, length, inl, inr, refl, sym, ap, subst, ◌∙◌, T, arith}
+use Rattle.std.proofs.Common.{◌≡◌, suc, ◌≤◌, Bool, true, false, cond, ◌&&◌, List, [], ◌∷◌, map as list_map, filter, Some, None, length, inl, inr, refl, sym, ap, subst, ◌∙◌, T}
 use Rattle.std.specs.Option.{is_some}
 use Rattle.std.specs.Ordering.{eq_by_cmp, is_lt, ordering_then}
 use Rattle.std.specs.Cmp.{IsTotalOrder, tied_itself}
