@@ -9,7 +9,7 @@ use Rattle.apd_conf.specs.Confs.{conf_at}
 use Rattle.apd_conf.specs.ListFile.{IsList}
 use Rattle.apd_frame.specs.Contents.{Contents}
 use Rattle.apd_frame.specs.Contents as frame
-use Rattle.apd_mlme.specs.declared.association.Kind.TheVariants.{Association, Reassociation}
+use Rattle.apd_mlme.specs.declared.association.Kind.TheVariants as kind
 use Rattle.apd_mlme.specs.Association.{association_verdict, without_current_ap}
 use Rattle.apd_mlme.specs.Authentication.{auth_verdict}
 use Rattle.apd_mlme.specs.Commands.{kick_verdict, list_edit_verdict}
@@ -34,9 +34,9 @@ IsFit s confs (Configure b accept deny) =
 abbrev pub heard_verdict : State → List Conf → Conf → Bssid → Contents → Verdict
 heard_verdict s confs conf b (frame.authentication request) = auth_verdict s conf b request
 heard_verdict s confs conf b (frame.association_request request) =
-    association_verdict s confs conf b Association request
+    association_verdict s confs conf b kind.Association request
 heard_verdict s confs conf b (frame.reassociation_request request) =
-    association_verdict s confs conf b Reassociation (without_current_ap request)
+    association_verdict s confs conf b kind.Reassociation (without_current_ap request)
 heard_verdict s confs conf b (frame.probe_request request) = probe_verdict s conf b request
 heard_verdict s confs conf b (frame.disassociation a reason) = disassociation_verdict s b a
 heard_verdict s confs conf b (frame.deauthentication a reason) = deauthentication_verdict s b a
