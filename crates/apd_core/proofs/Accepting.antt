@@ -2,7 +2,7 @@
 use Rattle.std.proofs.Common.{◌≡◌, ◌+◌, true, false, cond, Option, None, Some, Ok, refl, sym, ap, ◌∙◌}
 use Rattle.apd_base.specs.declared.moment.Moment.{Moment}
 use Rattle.apd_mlme.specs.Happening.{Happening}
-use Rattle.apd_mlme.specs.Rules.{verdict}
+use Rattle.apd_mlme.specs.rules.{verdict}
 use Rattle.apd_mlme.specs.Verdict.{is_nothing}
 use Rattle.apd_core.specs.Core.{CoreState, front_of, last_of, is_stopped, is_busy, ticket, answer_to_fit, answer_to, accepted, entered_state, state_after, after_request, with_sender}
 use Rattle.apd_core.specs.Requests.{happening_of, unfit}

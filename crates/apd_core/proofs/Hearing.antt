@@ -14,8 +14,8 @@ use Rattle.apd_base.proofs.MapLaws.{one_or_apart, get_inserted, get_insert_other
 use Rattle.apd_conf.specs.declared.conf.Conf.{Conf}
 use Rattle.apd_frame.specs.Contents.{sender_of}
 use Rattle.apd_mlme.specs.Happening.{Happening, Heard, Kick, ListEdit, Expire, Configure}
-use Rattle.apd_mlme.specs.Rules.{verdict}
-use Rattle.apd_mlme.proofs.VerdictLaws.{meaning_in}
+use Rattle.apd_mlme.specs.rules.{verdict}
+use Rattle.apd_mlme.proofs.VerdictLemmas.{meaning_in}
 use Rattle.apd_record.specs.declared.change.Change.{Change}
 use Rattle.apd_record.specs.declared.change.Change.TheVariants.{Put, Drop, ListAdd, ListDel, ListClear, Policy}
 use Rattle.apd_record.specs.Meaning.{meaning, meaning_of}

@@ -13,7 +13,7 @@ use Rattle.apd_conf.specs.declared.conf.Conf.{Conf}
 use Rattle.apd_mlme.specs.declared.decision.Recipient.{Recipient}
 use Rattle.apd_mlme.specs.declared.decision.Out.{Out}
 use Rattle.apd_mlme.specs.Outs.{is_same, outs_to}
-use Rattle.apd_mlme.specs.Truth.{IsThere, AreThere}
+use Rattle.apd_mlme.specs.laws.Outs.{IsThere, AreThere}
 use Rattle.apd_core.specs.Held.{Queue, HeldOuts, queue_place, queue_at, queue_of, no_queues, no_outs, queued_at, queued, with_outs, up_to, beyond, less_one, after_given, greatest, given_at, after_hand, settled_left, after_settled, outs_in, outs_of, IsInOrder, AreHeld}
 use Rattle.apd_core.specs.TakingBack.{before, without, MayFollow}
 use Rattle.apd_core.proofs.Places.{there, same_recipient, apart, some_is}

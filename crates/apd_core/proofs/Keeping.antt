@@ -18,10 +18,10 @@ use Rattle.apd_mlme.specs.Happening.{Happening}
 use Rattle.apd_mlme.specs.declared.decision.Recipient.{Recipient}
 use Rattle.apd_mlme.specs.declared.decision.Out.{Out}
 use Rattle.apd_mlme.specs.Outs.{outs_to}
-use Rattle.apd_mlme.specs.Rules.{verdict, IsFit}
+use Rattle.apd_mlme.specs.rules.{verdict, IsFit}
 use Rattle.apd_mlme.specs.Run.{run}
-use Rattle.apd_mlme.specs.Truth.{AreThere}
-use Rattle.apd_mlme.proofs.VerdictLaws.{meaning_in}
+use Rattle.apd_mlme.specs.laws.Outs.{AreThere}
+use Rattle.apd_mlme.proofs.VerdictLemmas.{meaning_in}
 use Rattle.apd_record.specs.Meaning.{meaning_of}
 use Rattle.apd_record.specs.declared.change.Change.{Change}
 use Rattle.apd_table.specs.Sound.{Sound}

@@ -16,7 +16,7 @@ use Rattle.apd_frame.specs.Contents.{sender_of}
 use Rattle.apd_record.specs.declared.change.Change.{Change}
 use Rattle.apd_record.specs.declared.change.Change.TheVariants.{Put, Drop, ListAdd, ListDel, ListClear, Policy}
 use Rattle.apd_mlme.specs.Happening.{Happening, Heard, Kick, ListEdit, Expire, Configure}
-use Rattle.apd_mlme.specs.Rules.{verdict}
+use Rattle.apd_mlme.specs.rules.{verdict}
 use Rattle.apd_core.specs.Core.{CoreState, accepted, after_request, front_of, state_after, with_entry, with_sender}
 use Rattle.apd_core.specs.Heard.{LastHeard, AreMomentsOf, heard_by, heard_by_change, heard_by_changes, heard_from}
 use Rattle.apd_core.specs.Noted.{AreNoted, HasPut, IsFrom, IsHeardBy, IsNoted}

@@ -15,7 +15,7 @@ use Rattle.apd_mlme.specs.declared.decision.Recipient.{Recipient}
 use Rattle.apd_mlme.specs.declared.decision.Recipient.TheVariants.{Radio, Control}
 use Rattle.apd_mlme.specs.declared.decision.Out.{Out}
 use Rattle.apd_mlme.specs.Outs.{is_same}
-use Rattle.apd_mlme.specs.Truth.{IsThere}
+use Rattle.apd_mlme.specs.laws.Outs.{IsThere}
 use Rattle.apd_core.specs.Held.{radio_place, queue_place}
 
 abbrev pub next : Option ℕ → Option ℕ

@@ -14,9 +14,9 @@ use Rattle.apd_mlme.specs.Happening.{Happening}
 use Rattle.apd_mlme.specs.declared.decision.Recipient.{Recipient}
 use Rattle.apd_mlme.specs.declared.decision.Out.{Out}
 use Rattle.apd_mlme.specs.Outs.{outs_to, is_same}
-use Rattle.apd_mlme.specs.Rules.{verdict}
+use Rattle.apd_mlme.specs.rules.{verdict}
 use Rattle.apd_mlme.specs.Run.{run, AreFit}
-use Rattle.apd_mlme.proofs.VerdictLaws.{run_sound}
+use Rattle.apd_mlme.proofs.VerdictLemmas.{run_sound}
 use Rattle.apd_record.specs.Meaning.{meaning_of}
 use Rattle.apd_record.specs.declared.change.Change.{Change}
 use Rattle.apd_table.specs.Sound.{Sound}

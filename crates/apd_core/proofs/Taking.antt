@@ -7,8 +7,8 @@ use Rattle.apd_base.specs.State.{State}
 use Rattle.apd_base.specs.declared.limits.TheConstants.{MAX_GROUP}
 use Rattle.apd_conf.specs.declared.conf.Conf.{Conf}
 use Rattle.apd_mlme.specs.Happening.{Happening}
-use Rattle.apd_mlme.specs.Rules.{verdict}
-use Rattle.apd_mlme.proofs.VerdictLaws.{sound_in, stay_end, meaning_in}
+use Rattle.apd_mlme.specs.rules.{verdict}
+use Rattle.apd_mlme.proofs.VerdictLemmas.{sound_in, stay_end, meaning_in}
 use Rattle.apd_record.specs.Meaning.{meaning, meaning_of}
 use Rattle.apd_record.specs.Record.{records_of}
 use Rattle.apd_record.specs.declared.change.Change.{Change}

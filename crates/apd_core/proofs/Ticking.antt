@@ -12,8 +12,8 @@ use Rattle.apd_base.specs.declared.station.Station.TheVariants.{Authenticated, A
 use Rattle.apd_conf.specs.declared.conf.Conf.{Conf}
 use Rattle.apd_conf.specs.Confs.{conf_at}
 use Rattle.apd_mlme.specs.Happening.{Expire}
-use Rattle.apd_mlme.specs.Inactivity.{inactivity_of}
-use Rattle.apd_mlme.specs.Rules.{verdict_under}
+use Rattle.apd_mlme.specs.rules.Inactivity.{inactivity_of}
+use Rattle.apd_mlme.specs.rules.{verdict_under}
 use Rattle.apd_mlme.specs.Verdict.{is_nothing}
 use Rattle.apd_table.specs.Sound.{Sound}
 use Rattle.apd_core.specs.Core.{CoreState, accepted, answer_to, answer_to_fit, front_of, is_busy, is_stopped, last_of, ticket}

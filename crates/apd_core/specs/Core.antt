@@ -13,7 +13,7 @@ use Rattle.apd_mlme.specs.Happening.{Happening}
 use Rattle.apd_mlme.specs.declared.decision.Recipient.{Recipient}
 use Rattle.apd_mlme.specs.declared.decision.Out.{Out}
 use Rattle.apd_mlme.specs.Verdict.{is_nothing}
-use Rattle.apd_mlme.specs.Rules.{verdict}
+use Rattle.apd_mlme.specs.rules.{verdict}
 use Rattle.apd_record.specs.Meaning.{meaning_of}
 use Rattle.apd_record.specs.Record.{records_of}
 use Rattle.apd_record.specs.declared.change.Change.{Change}

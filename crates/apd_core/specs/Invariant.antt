@@ -8,7 +8,7 @@ use Rattle.apd_conf.specs.declared.conf.Conf.{Conf}
 use Rattle.apd_mlme.specs.Happening.{Happening}
 use Rattle.apd_mlme.specs.declared.decision.Recipient.{Recipient}
 use Rattle.apd_mlme.specs.Outs.{outs_to}
-use Rattle.apd_mlme.specs.Rules.{verdict, IsFit}
+use Rattle.apd_mlme.specs.rules.{verdict, IsFit}
 use Rattle.apd_record.specs.declared.change.Change.{Change}
 use Rattle.apd_table.specs.Sound.{Sound}
 use Rattle.apd_core.specs.Core.{CoreState, front_of, last_of, kept}

@@ -5,7 +5,7 @@ ghost use Rattle.std.specs.List.{AllByRecursion, position};
 ghost use Rattle.std.specs.Ordering.{eq_by_cmp};
 ghost use Rattle.apd_base.specs.Addr.{bssid_cmp};
 ghost use Rattle.apd_base.specs.declared.limits.TheConstants.{MAX_BSS};
-ghost use Rattle.apd_mlme.specs.Truth.{AreThere};
+ghost use Rattle.apd_mlme.specs.laws.Outs.{AreThere};
 ghost use Rattle.apd_core.specs.Held.{queue_place, queue_of, no_queues, no_outs, queued, with_outs, up_to, beyond, after_given, greatest, after_hand, after_settled, IsInOrder, AreHeld};
 ghost use Rattle.apd_core.specs.TakingBack.{before, without, MayFollow};
 

@@ -2,7 +2,7 @@
 ghost use Rattle.std.specs.Prelude.{◌≡◌, IfOk, IfSome, IfNone};
 ghost use Rattle.std.specs.Option.{option_map};
 ghost use Rattle.apd_mlme.specs.Happening.{happening};
-ghost use Rattle.apd_mlme.specs.Rules.{IsFit};
+ghost use Rattle.apd_mlme.specs.rules.{IsFit};
 ghost use Rattle.apd_core.specs.Requests.{happened, expiry, ordered, said_by, HasLists, unfit};
 
 use apd_base::limits::MAX_BSS;

@@ -2,7 +2,7 @@
 use Rattle.std.proofs.Common.{◌≡◌, ℕ, ◌+◌, Bool, true, false, cond, List, [], ◌∷◌, ◌++◌, length, Option, None, Some, Result, Ok, Err, refl, subst, sym, ap, ◌∙◌, arith, length-append}
 use Rattle.apd_base.specs.declared.moment.Moment.{Moment}
 use Rattle.apd_mlme.specs.Happening.{Happening}
-use Rattle.apd_mlme.specs.Rules.{verdict}
+use Rattle.apd_mlme.specs.rules.{verdict}
 use Rattle.apd_mlme.specs.Verdict.{is_nothing}
 use Rattle.apd_core.specs.Core.{CoreState, accepted, after_request, answer_to, answer_to_fit, front_of, is_busy, is_stopped, last_of, state_after, ticket}
 use Rattle.apd_core.specs.Requests.{happening_of, unfit}

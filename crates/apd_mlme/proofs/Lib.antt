@@ -1,26 +1,26 @@
-pub mod AdmittedLaws
-mod AnsweredLaws
-mod AssociationLaws
-pub mod AuthenticationLaws
-mod CommandLaws
-mod CommandedLaws
-mod DepartedLaws
-mod DriverLaws
-mod DropsLaws
-mod ElsewhereLaws
-mod EndedLaws
-mod FirstLaws
-mod IdentifierLaws
-mod JoinedLaws
-mod LaterLaws
-mod LengthLaws
-pub mod OutsLaws
-mod ProbeLaws
-pub mod RadioLaws
-mod RefusalLaws
-mod ResponseLaws
-mod RowLaws
+pub mod AdmissionLemmas
+mod AssociationEndLemmas
+mod AssociationLemmas
+mod AssociationOutsLemmas
+mod AssociationResponseLemmas
+pub mod AuthenticationLemmas
+mod CommandAnswerLemmas
+mod CommandLemmas
+mod DepartureLemmas
+mod DriverLemmas
+mod DropLemmas
+mod ElsewhereLemmas
+mod FirstStartLemmas
+mod IdentifierLemmas
+mod LaterStartLemmas
+pub mod OutsLemmas
+mod ProbeLemmas
+pub mod RadioLemmas
+mod RecordLengthLemmas
+mod RefusalLemmas
+mod ResponseLemmas
+mod RowLemmas
 mod Shapes
-mod StartLaws
-pub mod TruthLaws
-pub mod VerdictLaws
+mod StartLemmas
+pub mod TrueOutsLemmas
+pub mod VerdictLemmas

@@ -31,27 +31,28 @@ use Rattle.apd_mlme.specs.declared.association.Kind.TheVariants.{Association, Re
 use Rattle.apd_mlme.specs.declared.decision.Recipient.TheVariants.{Radio}
 use Rattle.apd_mlme.specs.declared.decision.Out.TheVariants.{Remove}
 use Rattle.apd_mlme.specs.declared.event.Edit.{Edit}
-use Rattle.apd_mlme.specs.Association as rule
-use Rattle.apd_mlme.specs.Association.{association_status, association_response, association_of, accepted, without_current_ap}
-use Rattle.apd_mlme.specs.Authentication.{auth_status, auth_response, auth_verdict, is_admitted}
-use Rattle.apd_mlme.specs.Commands.{answered, all_kicked, deauthenticated_of, disassociated_of, kicked}
-use Rattle.apd_mlme.specs.Configuration.{configure_verdict, later_start, first_start}
-use Rattle.apd_mlme.specs.Departure.{disassociation_of, deauthentication_of, data_of}
-use Rattle.apd_mlme.specs.Ended.{HasLeft}
+use Rattle.apd_mlme.specs.rules.Association as rule
+use Rattle.apd_mlme.specs.rules.Association.{association_status, association_response, association_of, accepted, without_current_ap}
+use Rattle.apd_mlme.specs.rules.Authentication.{auth_status, auth_response, auth_verdict, is_admitted}
+use Rattle.apd_mlme.specs.rules.Commands.{answered, all_kicked, deauthenticated_of, disassociated_of, kicked}
+use Rattle.apd_mlme.specs.rules.Configuration.{configure_verdict, later_start, first_start}
+use Rattle.apd_mlme.specs.rules.Departure.{disassociation_of, deauthentication_of, data_of}
+use Rattle.apd_mlme.specs.laws.AssociationEnd.{HasLeft}
 use Rattle.apd_mlme.specs.Happening.{Happening, Heard, Kick, ListEdit, Expire, Configure, bssid_of}
-use Rattle.apd_mlme.specs.Identifiers.{identifier_for}
-use Rattle.apd_mlme.specs.Inactivity.{inactivity_of}
-use Rattle.apd_mlme.specs.Leaving as leaving
-use Rattle.apd_mlme.specs.Leaving.{removal, outs_of_end, outs_of_drop, put_back}
+use Rattle.apd_mlme.specs.rules.Identifiers.{identifier_for}
+use Rattle.apd_mlme.specs.rules.Inactivity.{inactivity_of}
+use Rattle.apd_mlme.specs.rules.Leaving as leaving
+use Rattle.apd_mlme.specs.rules.Leaving.{removal, outs_of_end, outs_of_drop, put_back}
 use Rattle.apd_mlme.specs.Outs.{sent}
-use Rattle.apd_mlme.specs.ProbeRequest.{is_answered, probe_response, probe_verdict}
-use Rattle.apd_mlme.specs.Refusals.{is_success}
-use Rattle.apd_mlme.specs.Rules.{verdict, verdict_under, heard_verdict, IsFit}
-use Rattle.apd_mlme.specs.Truth.{IsSaidSo, NoneIsBroadcast}
+use Rattle.apd_mlme.specs.rules.ProbeRequest.{is_answered, probe_response, probe_verdict}
+use Rattle.apd_mlme.specs.rules.Refusals.{is_success}
+use Rattle.apd_mlme.specs.rules.{verdict, verdict_under, heard_verdict, IsFit}
+use Rattle.apd_mlme.specs.laws.Outs.{IsSaidSo}
+use Rattle.apd_mlme.specs.laws.Broadcast.{NoneIsBroadcast}
 use Rattle.apd_mlme.specs.Verdict.{Verdict, nothing, only_sent}
-use Rattle.apd_mlme.proofs.AnsweredLaws.{refuses}
-use Rattle.apd_mlme.proofs.AuthenticationLaws.{known_already}
-use Rattle.apd_mlme.proofs.CommandLaws.{by_kick, by_edit, HasRoom, edited_under}
+use Rattle.apd_mlme.proofs.AssociationResponseLemmas.{refuses}
+use Rattle.apd_mlme.proofs.AuthenticationLemmas.{known_already}
+use Rattle.apd_mlme.proofs.CommandLemmas.{by_kick, by_edit, HasRoom, edited_under}
 
 -- what an event brings about, but for the answer to a command, and what is known where it does
 pub data Shape (s : State) (confs : List Conf) (h : Happening) : Verdict → Type 0 where

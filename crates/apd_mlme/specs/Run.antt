@@ -6,7 +6,7 @@ use Rattle.apd_mlme.specs.Happening.{Happening}
 use Rattle.apd_mlme.specs.declared.decision.Recipient.{Recipient}
 use Rattle.apd_mlme.specs.declared.decision.Out.{Out}
 use Rattle.apd_mlme.specs.Outs.{outs_to}
-use Rattle.apd_mlme.specs.Rules.{verdict, IsFit}
+use Rattle.apd_mlme.specs.rules.{verdict, IsFit}
 
 -- the state after them
 abbrev pub run : State → List Conf → List Happening → State

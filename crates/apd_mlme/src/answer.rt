@@ -1,6 +1,6 @@
 //! How control commands are answered (own).
 ghost use Rattle.std.specs.Prelude.{◌≡◌, ◌∷◌, [], ◌++◌, IfOk, OnOk};
-ghost use Rattle.apd_mlme.specs.Commands.{text, text_of};
+ghost use Rattle.apd_mlme.specs.rules.Commands.{text, text_of};
 
 use crate::decision::{Out, Recipient};
 use crate::draft::Draft;

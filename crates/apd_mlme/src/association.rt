@@ -3,8 +3,8 @@ ghost use Rattle.std.specs.Prelude.{◌≡◌, ◌++◌, None, Some, is_some, Is
 ghost use Rattle.std.specs.Option.{option_copied};
 ghost use Rattle.apd_base.specs.State.{station_at, aid_at};
 ghost use Rattle.apd_frame.specs.Contents.{association, reassociation};
-ghost use Rattle.apd_mlme.specs.Association.{accepted, association_response, association_status, association_verdict, body_of, elsewhere, installation, is_elsewhere, is_named, outs_elsewhere, put_backs, row_of, without_current_ap};
-ghost use Rattle.apd_mlme.specs.Identifiers.{identifier_for, least_free};
+ghost use Rattle.apd_mlme.specs.rules.Association.{accepted, association_response, association_status, association_verdict, body_of, elsewhere, installation, is_elsewhere, is_named, outs_elsewhere, put_backs, row_of, without_current_ap};
+ghost use Rattle.apd_mlme.specs.rules.Identifiers.{identifier_for, least_free};
 
 use crate::decision::{Out, Recipient, sent};
 use crate::draft::Draft;

@@ -1,7 +1,7 @@
 //! The answer to an authentication request (IEEE Std 802.11-2016, 11.3.4.3).
 ghost use Rattle.std.specs.Prelude.{◌≡◌, ◌==◌, IsSome, IfOk};
 ghost use Rattle.apd_base.specs.State.{policy_at};
-ghost use Rattle.apd_mlme.specs.Authentication.{auth_status, auth_verdict, auth_response, is_full};
+ghost use Rattle.apd_mlme.specs.rules.Authentication.{auth_status, auth_verdict, auth_response, is_full};
 
 use crate::decision::sent;
 use crate::draft::Draft;

@@ -2,7 +2,7 @@
 ghost use Rattle.std.specs.Prelude.{◌≡◌, ◌++◌, [], IfOk, OnOk};
 ghost use Rattle.apd_conf.specs.Conf.{policy_of};
 ghost use Rattle.apd_record.specs.declared.change.Change.TheVariants.{Policy};
-ghost use Rattle.apd_mlme.specs.Configuration.{configure_verdict, later_start, first_changes, additions};
+ghost use Rattle.apd_mlme.specs.rules.Configuration.{configure_verdict, later_start, first_changes, additions};
 
 use crate::draft::Draft;
 use crate::leaving::denied_dropped;

@@ -1,7 +1,7 @@
 //! What a station brings about that leaves, or that sends data (IEEE Std 802.11-2016, 11.3.5.9, 11.3.4.5
 //! and 11.3.3).
 ghost use Rattle.std.specs.Prelude.{◌≡◌, IfOk};
-ghost use Rattle.apd_mlme.specs.Departure.{data_verdict, deauthentication_verdict, disassociation_verdict};
+ghost use Rattle.apd_mlme.specs.rules.Departure.{data_verdict, deauthentication_verdict, disassociation_verdict};
 
 use crate::decision::{Out, Recipient};
 use crate::draft::Draft;

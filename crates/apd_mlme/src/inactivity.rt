@@ -1,6 +1,6 @@
 //! The end of a station that was silent for too long (own).
 ghost use Rattle.std.specs.Prelude.{◌≡◌, IfOk};
-ghost use Rattle.apd_mlme.specs.Inactivity.{inactivity_verdict};
+ghost use Rattle.apd_mlme.specs.rules.Inactivity.{inactivity_verdict};
 
 use crate::draft::Draft;
 use crate::leaving::{dropped, push_outs_of_drop, push_outs_of_end, put_back};

@@ -3,7 +3,7 @@ ghost use Rattle.std.specs.Prelude.{◌≡◌, IfOk};
 ghost use Rattle.std.specs.Ordering.{eq_by_cmp};
 ghost use Rattle.apd_base.specs.Addr.{addr_cmp};
 ghost use Rattle.apd_base.specs.declared.address.TheConstants.{BROADCAST};
-ghost use Rattle.apd_mlme.specs.Commands.{all_kicked, deauthenticated, disassociated, farewell, kick_verdict, kicked};
+ghost use Rattle.apd_mlme.specs.rules.Commands.{all_kicked, deauthenticated, disassociated, farewell, kick_verdict, kicked};
 
 use crate::answer::{Answer, answered};
 use crate::decision::sent;

@@ -4,7 +4,7 @@ ghost use Rattle.std.specs.List.{flat_map};
 ghost use Rattle.apd_base.specs.declared.station.Station.TheVariants.{Authenticated};
 ghost use Rattle.apd_frame.specs.declared.codes.TheConstants.Reason.{UNSPECIFIED};
 ghost use Rattle.apd_record.specs.declared.change.Change.TheVariants.{Drop, Put};
-ghost use Rattle.apd_mlme.specs.Leaving.{deauthentication, disassociation, outs_of_drop, outs_of_end, removal};
+ghost use Rattle.apd_mlme.specs.rules.Leaving.{deauthentication, disassociation, outs_of_drop, outs_of_end, removal};
 
 use crate::decision::{Out, Recipient, sent};
 use crate::draft::Draft;

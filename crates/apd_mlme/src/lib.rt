@@ -8,10 +8,10 @@ ghost use Rattle.apd_record.specs.Meaning.{meaning_of};
 ghost use Rattle.apd_record.specs.Ranges.{AreChanges};
 ghost use Rattle.apd_record.specs.Record.{records_of};
 ghost use Rattle.apd_table.specs.Sound.{StaySound};
-ghost use Rattle.apd_mlme.specs.Driver.{FollowsDrivers};
+ghost use Rattle.apd_mlme.specs.laws.Driver.{FollowsDrivers};
 ghost use Rattle.apd_mlme.specs.declared.decision.TheConstants.{MAX_RECORDS};
 ghost use Rattle.apd_mlme.specs.Happening.{happening};
-ghost use Rattle.apd_mlme.specs.Rules.{verdict, heard_verdict, IsFit};
+ghost use Rattle.apd_mlme.specs.rules.{verdict, heard_verdict, IsFit};
 
 mod answer;
 mod association;

@@ -3,7 +3,7 @@ ghost use Rattle.std.specs.Prelude.{◌≡◌, nat_le, IfOk, IsSome};
 ghost use Rattle.apd_base.specs.Sets.{contains};
 ghost use Rattle.apd_base.specs.State.{list_count, policy_at};
 ghost use Rattle.apd_base.specs.declared.limits.TheConstants.{MAX_LISTED};
-ghost use Rattle.apd_mlme.specs.Commands.{change_of, edited, list_edit_verdict};
+ghost use Rattle.apd_mlme.specs.rules.Commands.{change_of, edited, list_edit_verdict};
 
 use crate::answer::{Answer, answered};
 use crate::draft::Draft;

@@ -1,6 +1,6 @@
 //! What a radio offers, by its configuration.
 ghost use Rattle.std.specs.Prelude.{◌≡◌};
-ghost use Rattle.apd_mlme.specs.Offer.{channel_in, rates_in};
+ghost use Rattle.apd_mlme.specs.rules.Offer.{channel_in, rates_in};
 
 use apd_conf::{Conf, HwMode};
 use apd_frame::Rates;

@@ -2,7 +2,7 @@
 ghost use Rattle.std.specs.Prelude.{◌≡◌, [], IfOk};
 ghost use Rattle.std.specs.Option.{option_copied};
 ghost use Rattle.apd_frame.specs.Contents.{probe};
-ghost use Rattle.apd_mlme.specs.ProbeRequest.{is_answered, is_asked, is_open, probe_outs, probe_response};
+ghost use Rattle.apd_mlme.specs.rules.ProbeRequest.{is_answered, is_asked, is_open, probe_outs, probe_response};
 
 use crate::draft::Draft;
 use crate::offer::{channel, rates};

@@ -3,7 +3,7 @@ ghost use Rattle.std.specs.Prelude.{◌≡◌};
 ghost use Rattle.std.specs.FinMap as map;
 ghost use Rattle.apd_base.specs.State.{State, aid_at};
 ghost use Rattle.apd_base.specs.declared.address.Bssid.{Bssid};
-ghost use Rattle.apd_mlme.specs.Driver.{driven_by};
+ghost use Rattle.apd_mlme.specs.laws.Driver.{driven_by};
 ghost use Rattle.apd_mlme.specs.declared.decision.Out.{Out};
 ghost use Rattle.apd_slot.specs.Rows.{installed_rows};
 ghost use Rattle.apd_slot.specs.Wanted.{Stations, wanted_after};

@@ -1,6 +1,8 @@
 -- The rows of a BSSID, and what is left of them once lists are changed.
-use Rattle.std.proofs.Common.{◌≡◌, true, not, ◌&&◌, ◌||◌, map as list_map, filter, Some, sym, ap, ◌∙◌}
+use Rattle.std.proofs.Common.{◌≡◌, ◌≤◌, Bool, true, not, ◌&&◌, ◌||◌, List, length, map as list_map, filter, Some, sym, ap, subst, ◌∙◌}
+use Rattle.std.proofs.lemmas.List.{length-map}
 use Rattle.std.specs.Ordering.{eq_by_cmp}
+use Rattle.std.specs.List.{list_any}
 use Rattle.std.specs.FinMap as map
 use Rattle.apd_base.specs.declared.address.Addr.{Addr}
 use Rattle.apd_base.specs.declared.address.Bssid.{Bssid}
@@ -8,11 +10,12 @@ use Rattle.apd_base.specs.declared.station.AclMode.{AclMode}
 use Rattle.apd_base.specs.declared.station.Station.{Station}
 use Rattle.apd_base.specs.declared.station.Which.{Which}
 use Rattle.apd_base.specs.declared.station.Which.TheVariants.{Accept, Deny}
-use Rattle.apd_base.specs.Addr.{addr_cmp, is_among}
+use Rattle.apd_base.specs.Addr.{addr_cmp, bssid_cmp, is_among}
 use Rattle.apd_base.specs.Sets.{contains}
-use Rattle.apd_base.specs.State.{State, is_row_of, station_at}
+use Rattle.apd_base.specs.State.{State, is_row_of, station_at, count}
 use Rattle.apd_base.proofs.AddrLaws.{addr_total, addr_exact, bssid_total, bssid_exact, station_total, station_exact}
 use Rattle.apd_base.proofs.MapLaws.{tied, passes_any}
+use Rattle.apd_base.proofs.RowsMaps.{entries-retain_keys}
 use Rattle.apd_base.proofs.StateLaws.{list_total, list_exact}
 use Rattle.apd_acl.specs.Lists.{has}
 use Rattle.apd_acl.specs.Policy.{is_allowed}
@@ -20,18 +23,40 @@ use Rattle.apd_acl.specs.declared.lists.Lists.{Lists}
 use Rattle.apd_record.specs.declared.change.Change.{Change}
 use Rattle.apd_record.specs.declared.change.Change.TheVariants.{Put, Drop, ListAdd, ListDel, ListClear, Policy}
 use Rattle.apd_table.specs.Addresses.{addresses_at, with_lists_after, has_after, is_denied_after}
-use Rattle.apd_table.specs.Allowed.{denied_by}
+use Rattle.apd_table.specs.Allowed.{allowed_in, denied_by, is_denied_row}
 use Rattle.apd_table.specs.Rows as rows
 use Rattle.apd_table.proofs.Denied.{any_mapped}
+use Rattle.apd_table.proofs.ListCounts.{length-filter_le}
+use Rattle.apd_table.proofs.StationRows.{filter_filtered}
 use Rattle.apd_table.proofs.ListSets.{contains-insert, contains-remove, contains-retain_keys, same_row}
 use Rattle.apd_base.proofs.Cases.{both_true}
 
--- a station with a row is among the addresses
+-- what is so of a station with a row is so of one of the addresses
+pub any_address : (s : State) (b : Bssid) (test : Addr → Bool) (a : Addr) (x : Station) → station_at s b a ≡ Some x → test a ≡ true → list_any test (addresses_at s b) ≡ true
+any_address s b test a x row passes =
+    any_mapped test (λ row. row.0.1) (rows.is_row_of b) (map.entries s.stations)
+    ∙ passes_any station_total station_exact (λ row. rows.is_row_of b row && test row.0.1) s.stations (b, a) x row (both_true _ _ (tied bssid_total bssid_exact b) passes)
+
+-- so it is among them
 pub among_addresses : (s : State) (b : Bssid) (a : Addr) (x : Station) → station_at s b a ≡ Some x → is_among a (addresses_at s b) ≡ true
-among_addresses s b a x row =
-    any_mapped (eq_by_cmp addr_cmp a) (λ row. row.0.1) (rows.is_row_of b) (map.entries s.stations)
-    ∙ passes_any station_total station_exact (λ row. rows.is_row_of b row && eq_by_cmp addr_cmp a row.0.1) s.stations (b, a) x row
-    (both_true _ _ (tied bssid_total bssid_exact b) (tied addr_total addr_exact a))
+among_addresses s b a x row = any_address s b (eq_by_cmp addr_cmp a) a x row (tied addr_total addr_exact a)
+
+-- there are as many as rows, and no more are denied
+module _ (s : State) (b : Bssid) where
+  abbrev all : List ((Bssid × Addr) × Station)
+  all = filter (rows.is_row_of b) (map.entries s.stations)
+
+  counted : count s b ≡ length all
+  counted = map.len-entries _ ∙ ap length (entries-retain_keys station_total station_exact (λ k. eq_by_cmp bssid_cmp b k.0) s.stations)
+
+  pub addresses_few : length (addresses_at s b) ≡ count s b
+  addresses_few = length-map all (λ row. row.0.1) ∙ sym counted
+
+  pub denied_few : (mode : AclMode) → length (denied_by s b mode) ≤ count s b
+  denied_few mode =
+      let denies = λ (row : (Bssid × Addr) × Station). not (allowed_in s b row.0.1 mode) in
+      let shorter = subst (λ (xs : List ((Bssid × Addr) × Station)). length xs ≤ length all) (filter_filtered (rows.is_row_of b) denies (map.entries s.stations)) (length-filter_le denies all) in
+      rw (length-map (filter (is_denied_row s b mode) (map.entries s.stations)) (λ row. row.0.1)) (rw counted shorter)
 
 -- the lists of a BSSID after a change are those of the state after it
 module _ (s : State) (b : Bssid) (lists : Lists) (same : (w : Which) (a : Addr) → has lists w a ≡ contains s.lists (b, w, a)) where

@@ -118,7 +118,7 @@ module _ (xs : List Row) (sorted : T (is_sorted bssid_cmp xs)) (b : Bssid) where
       ∙ ap (cond (eq_by_cmp bssid_cmp c b) (has y.lists w a)) (sym (contains-list_rows xs c w a sorted))
 
   -- the list rows are these where at the BSSID they are those of the row written, and elsewhere the old ones
-  lists_become : (y : Bss) (l : SetOf list_cmp) → ((v : Which) (d : Addr) → contains l (b, v, d) ≡ has y.lists v d)
+  pub lists_become : (y : Bss) (l : SetOf list_cmp) → ((v : Which) (d : Addr) → contains l (b, v, d) ≡ has y.lists v d)
       → ((c : Bssid) → eq_by_cmp bssid_cmp c b ≡ false → (v : Which) (d : Addr) → contains l (c, v, d) ≡ contains (list_rows xs) (c, v, d)) → list_rows (written y) ≡ l
   lists_become y l here elsewhere = same_set list_total list_exact (list_rows (written y)) l (λ q.
       contains_written y q.0 q.1 q.2 ∙ elim (one_or_apart bssid_total bssid_exact q.0 b) [
@@ -156,7 +156,7 @@ module _ (xs : List Row) (sorted : T (is_sorted bssid_cmp xs)) (b : Bssid) where
 
   -- the row there was
   module _ (x : Bss) (found : find bssid_cmp b xs ≡ Some x) where
-    listed_here : (v : Which) (d : Addr) → contains (list_rows xs) (b, v, d) ≡ has x.lists v d
+    pub listed_here : (v : Which) (d : Addr) → contains (list_rows xs) (b, v, d) ≡ has x.lists v d
     listed_here v d = contains-list_rows xs b v d sorted ∙ ap (λ r. is_listed_in r v d) found
 
     -- a row with the same lists
@@ -168,21 +168,6 @@ module _ (xs : List Row) (sorted : T (is_sorted bssid_cmp xs)) (b : Bssid) where
 
     pub members_are : map.get (from_sorted {R = bssid_cmp} (parts_of members_of xs)) b ≡ Some (members_of x)
     members_are = get-parts_of members_of xs sorted b ∙ ap (option_map members_of) found
-
-    pub lists_added : (w : Which) (a : Addr) → list_rows (written (with_added w a x)) ≡ map.insert (list_rows xs) (b, w, a) tt
-    lists_added w a = lists_become (with_added w a x) _
-        (λ v d. insert_here (list_rows xs) b w a v d ∙ ap (λ t. (eq_by_cmp which_cmp v w && eq_by_cmp addr_cmp d a) || t) (listed_here v d) ∙ sym (has_added x.lists a d w v))
-        (λ c apart v d. insert_elsewhere (list_rows xs) b w c apart v d a)
-
-    pub lists_removed : (w : Which) (a : Addr) → list_rows (written (with_removed w a x)) ≡ map.remove (list_rows xs) (b, w, a)
-    lists_removed w a = lists_become (with_removed w a x) _
-        (λ v d. remove_here (list_rows xs) b w a v d ∙ ap (λ t. not (eq_by_cmp which_cmp v w && eq_by_cmp addr_cmp d a) && t) (listed_here v d) ∙ sym (has_removed x.lists a d w v))
-        (λ c apart v d. remove_elsewhere (list_rows xs) b w c apart v d a)
-
-    pub lists_cleared : (w : Which) → list_rows (written (with_cleared w x)) ≡ map.retain_keys (list_rows xs) (λ row. not (is_row_of b w row))
-    lists_cleared w = lists_become (with_cleared w x) _
-        (λ v d. clear_here (list_rows xs) b w v d ∙ ap (λ t. not (eq_by_cmp which_cmp w v) && t) (listed_here v d) ∙ sym (has_cleared x.lists w v d))
-        (λ c apart v d. clear_elsewhere (list_rows xs) b w c apart v d)
 
 -- the rows after a write at the place of a BSSID
 pub write_is : (xs : List Row) (b : Bssid) (at : ℕ) (is : Ok at ≡ place bssid_cmp b xs) (write : Bss → Bss) (x : Bss) → slice_get xs at ≡ Some (b, x)
@@ -240,26 +225,33 @@ module _ (xs : List Row) (sorted : T (is_sorted bssid_cmp xs)) (b : Bssid) where
       members = (parts_set xs sorted b members_of (with_row old new x) ∙ ap (put_after old new b members) (sym (members_are xs sorted b x found))) i;
     }
 
-    pub state_added : (w : Which) (a : Addr) → state_of_rows (put_at xs b (with_added w a x) (place bssid_cmp b xs)) ≡ lists_with b w a (state_of_rows xs)
-    state_added w a = λ i. record {
-      lists = lists_added xs sorted b x found w a i;
-      policies = parts_kept xs sorted b policy_of x found (with_added w a x) refl i;
-      members = parts_kept xs sorted b members_of x found (with_added w a x) refl i;
+    -- a write of the lists alone
+    state_listed : (y : Bss) → y.policy ≡ x.policy → y.members ≡ x.members → (l : SetOf list_cmp) → ((v : Which) (d : Addr) → contains l (b, v, d) ≡ has y.lists v d)
+        → ((c : Bssid) → eq_by_cmp bssid_cmp c b ≡ false → (v : Which) (d : Addr) → contains l (c, v, d) ≡ contains (list_rows xs) (c, v, d))
+        → state_of_rows (put_at xs b y (place bssid_cmp b xs)) ≡ record (state_of_rows xs) { lists = l }
+    state_listed y policy kept l here elsewhere = λ i. record {
+      lists = lists_become xs sorted b y l here elsewhere i;
+      policies = parts_kept xs sorted b policy_of x found y policy i;
+      members = parts_kept xs sorted b members_of x found y kept i;
     }
+
+    abbrev listed : (v : Which) (d : Addr) → contains (list_rows xs) (b, v, d) ≡ has x.lists v d
+    listed = listed_here xs sorted b x found
+
+    pub state_added : (w : Which) (a : Addr) → state_of_rows (put_at xs b (with_added w a x) (place bssid_cmp b xs)) ≡ lists_with b w a (state_of_rows xs)
+    state_added w a = state_listed (with_added w a x) refl refl (map.insert (list_rows xs) (b, w, a) tt)
+        (λ v d. insert_here (list_rows xs) b w a v d ∙ ap (λ t. (eq_by_cmp which_cmp v w && eq_by_cmp addr_cmp d a) || t) (listed v d) ∙ sym (has_added x.lists a d w v))
+        (λ c apart v d. insert_elsewhere (list_rows xs) b w c apart v d a)
 
     pub state_removed : (w : Which) (a : Addr) → state_of_rows (put_at xs b (with_removed w a x) (place bssid_cmp b xs)) ≡ lists_without b w a (state_of_rows xs)
-    state_removed w a = λ i. record {
-      lists = lists_removed xs sorted b x found w a i;
-      policies = parts_kept xs sorted b policy_of x found (with_removed w a x) refl i;
-      members = parts_kept xs sorted b members_of x found (with_removed w a x) refl i;
-    }
+    state_removed w a = state_listed (with_removed w a x) refl refl (map.remove (list_rows xs) (b, w, a))
+        (λ v d. remove_here (list_rows xs) b w a v d ∙ ap (λ t. not (eq_by_cmp which_cmp v w && eq_by_cmp addr_cmp d a) && t) (listed v d) ∙ sym (has_removed x.lists a d w v))
+        (λ c apart v d. remove_elsewhere (list_rows xs) b w c apart v d a)
 
     pub state_cleared : (w : Which) → state_of_rows (put_at xs b (with_cleared w x) (place bssid_cmp b xs)) ≡ lists_clear b w (state_of_rows xs)
-    state_cleared w = λ i. record {
-      lists = lists_cleared xs sorted b x found w i;
-      policies = parts_kept xs sorted b policy_of x found (with_cleared w x) refl i;
-      members = parts_kept xs sorted b members_of x found (with_cleared w x) refl i;
-    }
+    state_cleared w = state_listed (with_cleared w x) refl refl (map.retain_keys (list_rows xs) (λ row. not (is_row_of b w row)))
+        (λ v d. clear_here (list_rows xs) b w v d ∙ ap (λ t. not (eq_by_cmp which_cmp w v) && t) (listed v d) ∙ sym (has_cleared x.lists w v d))
+        (λ c apart v d. clear_elsewhere (list_rows xs) b w c apart v d)
 
   pub same_removed : find bssid_cmp b xs ≡ None → (w : Which) (a : Addr) → state_of_rows xs ≡ lists_without b w a (state_of_rows xs)
   same_removed none w a = λ i. record { lists = nothing_removed xs sorted b none w a i; policies = from_sorted (policy_rows xs); members = members }
@@ -285,6 +277,11 @@ module _ (xs : List Row) (sorted : T (is_sorted bssid_cmp xs)) (b : Bssid) where
     pub rows_are : IsWrite → ys ≡ put_at xs b (write (row.0)) (place bssid_cmp b xs)
     rows_are h = write_is xs b at is write row.0 row.1 ys h
 
+    -- and the state after it
+    pub state_after : IsWrite → (f : BssState → BssState) → ((x : Bss) → find bssid_cmp b xs ≡ Some x → state_of_rows (put_at xs b (write x) (place bssid_cmp b xs)) ≡ f (state_of_rows xs))
+        → (s : BssState) → state_of_rows xs ≡ s → state_of_rows ys ≡ f s
+    state_after h f is_f s view = ap state_of_rows (rows_are h) ∙ is_f row.0 row.2 ∙ ap f view
+
     pub sorted_after : IsWrite → T (is_sorted bssid_cmp ys)
     sorted_after h = subst (λ zs. T (is_sorted bssid_cmp zs)) (sym (rows_are h)) (sorted_written xs sorted b (write row.0))
 
@@ -296,12 +293,8 @@ module _ (xs : List Row) (sorted : T (is_sorted bssid_cmp xs)) (b : Bssid) where
   pub added_on_ok : {E : Type 0} (at : ℕ) (is : Ok at ≡ place bssid_cmp b xs) (w : Which) (a : Addr) (ys : List Row) (r : Result (Unit {0}) E)
       → OnOk r (IsWrite at is (with_added w a) ys) → OnOk r (state_of_rows ys ≡ lists_with b w a (state_of_rows xs))
   added_on_ok at is w a ys (Ok u) ok =
-      ap state_of_rows (rows_are at is (with_added w a) ys ok) ∙ state_added (row at is (with_added w a) ys).0 (row at is (with_added w a) ys).2 w a
+      state_after at is (with_added w a) ys ok (lists_with b w a) (λ x found. state_added x found w a) (state_of_rows xs) refl
   added_on_ok at is w a ys (Err e) ok = tt
-
-  pub on_err : {E : Type 0} (ys : List Row) (r : Result (Unit {0}) E) → OnErr r (ys ≡ xs) → OnErr r (state_of_rows ys ≡ state_of_rows xs)
-  on_err ys (Ok u) err = tt
-  on_err ys (Err e) err = ap state_of_rows err
 
   -- what the row's own list has, the list rows have
   pub has_row : (at : ℕ) (is : Ok at ≡ place bssid_cmp b xs) (w : Which) (a : Addr) → contains (list_rows xs) (b, w, a) ≡ true → (d : Row) → has (slice_index_or xs at d).1.lists w a ≡ true

@@ -1,5 +1,5 @@
 -- What the look-ups for a clash say of the state.
-use Rattle.std.proofs.Common.{◌≡◌, ◌↔◌, ℕ, Bool, true, false, not, ◌&&◌, ◌||◌, List, [], ◌∷◌, Some, inl, inr, refl, sym, ap, ◌∙◌, IsSome}
+use Rattle.std.proofs.Common.{◌≡◌, ◌↔◌, ℕ, Bool, true, false, not, ◌&&◌, ◌||◌, List, [], ◌∷◌, inl, inr, refl, sym, ap, ◌∙◌, IsSome}
 use Rattle.std.proofs.lemmas.Bool.{and_parts}
 use Rattle.std.specs.List.{list_any}
 use Rattle.std.specs.Ordering.{eq_by_cmp}
@@ -12,7 +12,6 @@ use Rattle.apd_base.proofs.MapLaws.{one_or_apart, tied}
 use Rattle.apd_base.proofs.StateLaws.{station_of_aid}
 use Rattle.apd_base.specs.State.{State, aid_at, station_at}
 use Rattle.apd_table.specs.Can.{IsFreeFor, MayHave}
-use Rattle.apd_table.specs.LeastFree.{IsTaken}
 use Rattle.apd_table.specs.Rows.{is_associated_apart}
 use Rattle.apd_table.specs.Sound.{Sound}
 use Rattle.apd_base.proofs.Cases.{differ, not_yes, second_true}
@@ -52,12 +51,6 @@ module _ (s : State) (sound : Sound s) (b : Bssid) (a : Addr) (i : ℕ) where
   apart_from c e may =
       let parts = and_parts _ _ e in
       differ _ (not_yes _ parts.0) (ap (λ d. eq_by_cmp bssid_cmp b d) (sym (may.alone c parts.1)) ∙ tied bssid_total bssid_exact b)
-
-  -- no other station has the identifier where none has, or the station itself
-  pub free_iff : (t u : Bool) → (t ≡ true) ↔ IsTaken s b i → (u ≡ true) ↔ (aid_at s b a ≡ Some i) → ((not t || u) ≡ true) ↔ IsFreeFor s b a i
-  free_iff false u taken own = (λ h c e. differ _ refl (taken.1 (c, e)), λ h. refl)
-  free_iff true true taken own = (λ h c e. sound.distinct b a c i (own.0 refl) e, λ h. refl)
-  free_iff true false taken own = (λ h. cc, λ free. (let other = taken.0 refl in own.1 (ap (aid_at s b) (free other.0 other.1) ∙ other.1)))
 
   -- a station may have the identifier exactly where no other has it and the station is associated nowhere else
   pub may_have_iff : (t u : Bool) → (t ≡ true) ↔ IsFreeFor s b a i → u ≡ apart → ((t && not u) ≡ true) ↔ MayHave s b a i

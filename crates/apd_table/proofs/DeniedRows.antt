@@ -1,6 +1,6 @@
 -- What a scan for denied rows says of a state.
-use Rattle.std.proofs.Common.{◌≡◌, Bool, true, false, cond, not, ◌&&◌, ◌||◌, List, [], ◌∷◌, map as list_map, filter, None, IsSome, inl, inr, refl, sym, ap, ◌∙◌}
-use Rattle.std.proofs.lemmas.Bool.{and_parts}
+use Rattle.std.proofs.Common.{◌≡◌, Bool, true, false, cond, not, ◌&&◌, ◌||◌, List, [], ◌∷◌, map as list_map, filter, None, IsSome, refl, sym, ap, ◌∙◌}
+use Rattle.std.proofs.lemmas.Bool.{and_parts, false_from_ne_true, true_from_ne_false}
 use Rattle.std.specs.List.{list_any}
 use Rattle.std.specs.Ordering.{eq_by_cmp}
 use Rattle.std.specs.FinMap as map
@@ -10,8 +10,8 @@ use Rattle.apd_base.specs.declared.address.Addr.{Addr}
 use Rattle.apd_base.specs.declared.address.Bssid.{Bssid}
 use Rattle.apd_base.specs.declared.station.AclMode.{AclMode}
 use Rattle.apd_base.specs.declared.station.Station.{Station}
-use Rattle.apd_base.proofs.AddrLaws.{bssid_total, bssid_exact, station_total, station_exact}
-use Rattle.apd_base.proofs.MapLaws.{one_or_apart, tied, passes_any, any_passes}
+use Rattle.apd_base.proofs.AddrLaws.{bssid_total, bssid_exact, station_total, station_exact, same_bssid}
+use Rattle.apd_base.proofs.MapLaws.{tied, passes_any, any_passes}
 use Rattle.apd_table.specs.Allowed.{denied_by, is_denied_row}
 use Rattle.apd_table.specs.Rows.{is_row_of}
 use Rattle.apd_table.specs.Sound.{Sound}
@@ -24,19 +24,13 @@ module _ (s : State) (b : Bssid) (g : Addr → Bool) where
   none_fails : list_any fails (map.entries s.stations) ≡ false → (a : Addr) → IsSome (station_at s b a) → g a ≡ true
   none_fails none a h =
       let x = value_of (station_at s b a) h in
-      elim (g a) as (λ t. g a ≡ t → t ≡ true) [
-        | true ↦ λ e. refl
-        | false ↦ λ e. differ _ none (passes_any station_total station_exact fails s.stations (b, a) x.0 x.1 (λ i. tied bssid_total bssid_exact b i && not (e i)))
-      ] refl
+      true_from_ne_false (g a) (λ e. differ _ none (passes_any station_total station_exact fails s.stations (b, a) x.0 x.1 (λ i. tied bssid_total bssid_exact b i && not (e i))))
 
   one_fails : {A : Type 0} → list_any fails (map.entries s.stations) ≡ true → ((a : Addr) → IsSome (station_at s b a) → g a ≡ true) → A
   one_fails any all =
       let found = any_passes station_total station_exact fails s.stations any in
       let parts = and_parts (eq_by_cmp bssid_cmp b (found.0).0) (not (g (found.0).1)) found.3 in
-      elim (one_or_apart bssid_total bssid_exact b (found.0).0) [
-        | inl same ↦ differ _ (not_yes _ parts.1) (all (found.0).1 (is_some_of _ found.1 (ap (λ c. station_at s c (found.0).1) same ∙ found.2)))
-        | inr ne ↦ differ _ ne parts.0
-      ]
+      differ _ (not_yes _ parts.1) (all (found.0).1 (is_some_of _ found.1 (ap (λ c. station_at s c (found.0).1) (same_bssid (found.0).0 b parts.0) ∙ found.2)))
 
   abbrev pub AllPass : Type 0
   AllPass = (a : Addr) → IsSome (station_at s b a) → g a ≡ true
@@ -68,13 +62,7 @@ pub none_denied_by : (s : State) (b : Bssid) (mode : AclMode) → Sound s → No
 none_denied_by s b mode sound none =
     let p = is_denied_row s b mode in
     ap (list_map (λ (row : (Bssid × Addr) × Station). row.0.1)) (none_passes p (map.entries s.stations)
-    (elim (list_any p (map.entries s.stations)) as (λ t. list_any p (map.entries s.stations) ≡ t → t ≡ false) [
-      | true ↦ λ any.
-          let found = any_passes station_total station_exact p s.stations any in
-          let parts = and_parts (eq_by_cmp bssid_cmp b (found.0).0) _ found.3 in
-          elim (one_or_apart bssid_total bssid_exact b (found.0).0) [
-            | inl same ↦ no_row s b sound none (found.0).1 (is_some_of _ found.1 (ap (λ c. station_at s c (found.0).1) same ∙ found.2))
-            | inr ne ↦ differ _ ne parts.0
-          ]
-      | false ↦ λ e. refl
-    ] refl))
+    (false_from_ne_true (list_any p (map.entries s.stations)) (λ any.
+    let found = any_passes station_total station_exact p s.stations any in
+    let parts = and_parts (eq_by_cmp bssid_cmp b (found.0).0) _ found.3 in
+    no_row s b sound none (found.0).1 (is_some_of _ found.1 (ap (λ c. station_at s c (found.0).1) (same_bssid (found.0).0 b parts.0) ∙ found.2)))))

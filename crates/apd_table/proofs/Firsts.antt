@@ -62,6 +62,15 @@ first_least b (row ∷ rows) h =
       | false ↦ λ t. kept b row rows t (first_of b rows) rest
     ] refl
 
+-- what follows of what is found, and where nothing is
+some_of : {X : Type 0} (N : Type 0) (S T : X → Type 0) (r : Option X) → MatchOption r N S → ((x : X) → S x → T x) → IfSome r T
+some_of N S T None m f = tt
+some_of N S T (Some x) m f = f x m
+
+none_of : {X : Type 0} (N M : Type 0) (S : X → Type 0) (r : Option X) → MatchOption r N S → (N → M) → IfNone r M
+none_of N M S None m f = f m
+none_of N M S (Some x) m f = tt
+
 -- what the map of these rows has
 module _ (b : Bssid) (rows : List Row) (h : T (is_sorted station_cmp rows)) where
   abbrev pub at : Addr → Option Station
@@ -73,30 +82,25 @@ module _ (b : Bssid) (rows : List Row) (h : T (is_sorted station_cmp rows)) wher
   found : (c : Addr) → IsSome (at c) → (x : Station) × (find station_cmp (b, c) rows ≡ Some x)
   found c s = (let v = value_of (at c) s in (v.0, sym (at_is c) ∙ v.1))
 
+  abbrev Absent : Type 0
+  Absent = (c : Addr) → find station_cmp (b, c) rows ≡ None
+
+  abbrev First : Addr × Station → Type 0
+  First x = Least b x.0 x.1 rows
+
   module _ (r : Option (Addr × Station)) (is : r ≡ first_of b rows) where
-    least_of : MatchOption r ((c : Addr) → find station_cmp (b, c) rows ≡ None) (λ x. Least b x.0 x.1 rows)
-    least_of = subst (λ o. MatchOption o ((c : Addr) → find station_cmp (b, c) rows ≡ None) (λ x. Least b x.0 x.1 rows)) (sym is) (first_least b rows h)
+    least_of : MatchOption r Absent First
+    least_of = subst (λ o. MatchOption o Absent First) (sym is) (first_least b rows h)
 
-  as_least : (r : Option (Addr × Station)) → MatchOption r ((c : Addr) → find station_cmp (b, c) rows ≡ None) (λ x. Least b x.0 x.1 rows) → IfSome r (λ x. IsLeast (λ c. IsSome (at c)) x.0)
-  as_least None m = tt
-  as_least (Some x) m = record { has = is_some_of (at x.0) x.1 (at_is x.0 ∙ m.0); least = λ c s. (let v = found c s in m.1 c v.0 v.1) }
+    pub first_is_least : IfSome r (λ x. IsLeast (λ c. IsSome (at c)) x.0)
+    first_is_least = some_of Absent First (λ x. IsLeast (λ c. IsSome (at c)) x.0) r least_of
+        (λ x m. record { has = is_some_of (at x.0) x.1 (at_is x.0 ∙ m.0); least = λ c s. (let v = found c s in m.1 c v.0 v.1) })
 
-  as_row : (r : Option (Addr × Station)) → MatchOption r ((c : Addr) → find station_cmp (b, c) rows ≡ None) (λ x. Least b x.0 x.1 rows) → IfSome r (λ x. at x.0 ≡ Some x.1)
-  as_row None m = tt
-  as_row (Some x) m = at_is x.0 ∙ m.0
+    pub first_is_row : IfSome r (λ x. at x.0 ≡ Some x.1)
+    first_is_row = some_of Absent First (λ x. at x.0 ≡ Some x.1) r least_of (λ x m. at_is x.0 ∙ m.0)
 
-  as_none : (r : Option (Addr × Station)) → MatchOption r ((c : Addr) → find station_cmp (b, c) rows ≡ None) (λ x. Least b x.0 x.1 rows) → IfNone r ((c : Addr) → at c ≡ None)
-  as_none None m = λ c. at_is c ∙ m c
-  as_none (Some x) m = tt
-
-  pub first_is_least : (r : Option (Addr × Station)) (is : r ≡ first_of b rows) → IfSome r (λ x. IsLeast (λ c. IsSome (at c)) x.0)
-  first_is_least r is = as_least r (least_of r is)
-
-  pub first_is_row : (r : Option (Addr × Station)) (is : r ≡ first_of b rows) → IfSome r (λ x. at x.0 ≡ Some x.1)
-  first_is_row r is = as_row r (least_of r is)
-
-  pub first_is_none : (r : Option (Addr × Station)) (is : r ≡ first_of b rows) → IfNone r ((c : Addr) → at c ≡ None)
-  first_is_none r is = as_none r (least_of r is)
+    pub first_is_none : IfNone r ((c : Addr) → at c ≡ None)
+    first_is_none = none_of Absent ((c : Addr) → at c ≡ None) First r least_of (λ m c. at_is c ∙ m c)
 
 less_then : (r q : Ordering) → ordering_then r q ≡ Less → is_eq r ≡ false → r ≡ Less
 less_then Less q e n = refl
@@ -141,27 +145,15 @@ module _ (b : Bssid) (a : Addr) (rows : List Row) (h : T (is_sorted station_cmp 
   next_of (Some e) is =
       elim (is_row_of b e) as (λ t. is_row_of b e ≡ t → MatchOption (cond t (Some (e.0.1, e.1)) None) NoNext Next) [ true ↦ λ t. next_row e t is | false ↦ λ t. beyond e t is ] refl
 
-  as_next : (r : Option (Addr × Station)) → MatchOption r NoNext Next → IfSome r (λ x. IsLeastAbove a (λ c. IsSome (at b rows h c)) x.0)
-  as_next None m = tt
-  as_next (Some x) m = m.1
-
-  as_next_row : (r : Option (Addr × Station)) → MatchOption r NoNext Next → IfSome r (λ x. at b rows h x.0 ≡ Some x.1)
-  as_next_row None m = tt
-  as_next_row (Some x) m = m.0
-
-  as_no_next : (r : Option (Addr × Station)) → MatchOption r NoNext Next → IfNone r NoNext
-  as_no_next None m = m
-  as_no_next (Some x) m = tt
-
   module _ (found : Option Row) (above : Above found) (r : Option (Addr × Station)) (gives : r ≡ if_row_of b found) where
     next_is : MatchOption r NoNext Next
     next_is = subst (λ o. MatchOption o NoNext Next) (sym gives) (next_of found above)
 
     pub next_is_least : IfSome r (λ x. IsLeastAbove a (λ c. IsSome (at b rows h c)) x.0)
-    next_is_least = as_next r next_is
+    next_is_least = some_of NoNext Next (λ x. IsLeastAbove a (λ c. IsSome (at b rows h c)) x.0) r next_is (λ x m. m.1)
 
     pub next_is_row : IfSome r (λ x. at b rows h x.0 ≡ Some x.1)
-    next_is_row = as_next_row r next_is
+    next_is_row = some_of NoNext Next (λ x. at b rows h x.0 ≡ Some x.1) r next_is (λ x m. m.0)
 
     pub next_is_none : IfNone r NoNext
-    next_is_none = as_no_next r next_is
+    next_is_none = none_of NoNext NoNext Next r next_is (λ m. m)

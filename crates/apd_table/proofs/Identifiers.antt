@@ -1,19 +1,15 @@
 -- What the places of a BSSID's identifiers say of the state.
-use Rattle.std.proofs.Common.{◌≡◌, ℕ, ◌<◌, ◌≤◌, true, Option, Some, None, List, IfSome, IfNone, arith}
+use Rattle.std.proofs.Common.{◌≡◌, ℕ, ◌≤◌, true, Option, Some, None, List, IfSome, IfNone, arith}
 use Rattle.apd_base.specs.declared.address.Addr.{Addr}
 use Rattle.apd_base.specs.declared.address.Bssid.{Bssid}
 use Rattle.apd_base.specs.declared.limits.TheConstants.{MAX_STATIONS}
 use Rattle.apd_base.proofs.Cases.{differ}
 use Rattle.apd_base.specs.State.{State, station_at}
-use Rattle.apd_table.proofs.MembersLaws.{none_taken}
+use Rattle.apd_table.proofs.MembersLaws.{none_taken, small}
 use Rattle.apd_table.proofs.Places.{ArePlaces}
 use Rattle.apd_table.specs.LeastFree.{IsTaken, IsLeastFree}
 use Rattle.apd_table.specs.Members.{is_set}
 use Rattle.apd_table.specs.Rows.{IsLeastUnmarked}
-
--- identifiers have places
-has_place : (j : ℕ) → j ≤ 2007 → j < 2048
-has_place j le = omega arith
 
 module _ (s : State) (b : Bssid) (words : List ℕ) (are : ArePlaces s b words) where
   pub least_is : (r : Option ℕ) → IfSome r (IsLeastUnmarked (is_set words)) → IfSome r (IsLeastFree s b)
@@ -21,12 +17,12 @@ module _ (s : State) (b : Bssid) (words : List ℕ) (are : ArePlaces s b words) 
   least_is (Some i) h = record {
     low = h.low;
     high = h.high;
-    free = λ a taken. differ _ h.free ((are i (has_place i h.high)).1 (a, taken));
-    smaller = λ j low lt. (are j (has_place j (omega (arith, h.high)))).0 (h.smaller j low lt);
+    free = λ a taken. differ _ h.free ((are i (small i h.high)).1 (a, taken));
+    smaller = λ j low lt. (are j (small j (omega (arith, h.high)))).0 (h.smaller j low lt);
   }
 
   pub all_taken : (r : Option ℕ) → IfNone r ((j : ℕ) → 1 ≤ j → j ≤ MAX_STATIONS → is_set words j ≡ true) → IfNone r ((j : ℕ) → 1 ≤ j → j ≤ MAX_STATIONS → IsTaken s b j)
-  all_taken None h = λ j low high. (are j (has_place j high)).0 (h j low high)
+  all_taken None h = λ j low high. (are j (small j high)).0 (h j low high)
   all_taken (Some i) h = tt
 
 -- without stations it is 1

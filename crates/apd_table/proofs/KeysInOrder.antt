@@ -4,7 +4,7 @@ use Rattle.std.specs.Option.{is_some}
 use Rattle.std.specs.Ordering.{eq_by_cmp, is_eq, ordering_reverse}
 use Rattle.std.specs.declared.cmp.Ordering.{Ordering}
 use Rattle.std.specs.declared.cmp.Ordering.TheVariants.{Less, Equal, Greater}
-use Rattle.std.specs.FinMap.{find, is_sorted, entries, entries_sorted, get-entries}
+use Rattle.std.specs.FinMap.{find, get, is_sorted, entries, entries_sorted, get-entries}
 use Rattle.apd_base.specs.Addr.{addr_cmp}
 use Rattle.apd_base.specs.Sets.{SetOf, contains}
 use Rattle.apd_base.specs.declared.address.Addr.{Addr}
@@ -28,16 +28,10 @@ from None rows = []
 from (Some a) [] = []
 from (Some a) (row ∷ rows) = cond (eq_by_cmp addr_cmp a row.0) (row ∷ rows) (from (Some a) rows)
 
-no_row : {A : Type 0} (o : Option (Unit {0})) → o ≡ None → IsSome o → A
-no_row o e has = none_is o e has
-
 less_apart : (r : Ordering) → r ≡ Less → is_eq r ≡ false
 less_apart Less e = refl
 less_apart Equal e = cc
 less_apart Greater e = cc
-
-less_not : (r : Ordering) → r ≡ Less → r ≢ Greater
-less_not r e g = cc
 
 neither : (r : Ordering) → r ≢ Greater → ordering_reverse r ≢ Greater → r ≡ Equal
 neither Less n m = absurd (m refl)
@@ -115,7 +109,7 @@ module _ (row : Row) (rows : List Row) (sorted : T (is_sorted addr_cmp (row ∷ 
 
 -- the rows from an address on are its row, and those from the least address above it on
 pub from_above : (rows : List Row) → T (is_sorted addr_cmp rows) → (a : Addr) (r : Option Addr) → Has rows a → IfSome r (IsLeastAbove a (Has rows)) → IfNone r ((c : Addr) → Has rows c → addr_cmp a c ≢ Less) → from (Some a) rows ≡ (a, tt) ∷ from r rows
-from_above [] sorted a r has some none = no_row (find addr_cmp a []) refl has
+from_above [] sorted a r has some none = none_is {A = Unit {0}} None refl has
 from_above (row ∷ rows) sorted a r has some none =
     elim (one_or_apart addr_total addr_exact a row.0) [
       | inl e ↦ from_first a row rows e ∙ (λ i. (sym e i, tt) ∷ sym (from_second row rows sorted r
@@ -136,46 +130,33 @@ module _ (m : SetOf addr_cmp) where
   abbrev rows : List Row
   rows = entries m
 
-  to : (a : Addr) → In a → Has rows a
-  to a h = subst IsSome (get-entries m a) h
+  -- what the set has, its rows have
+  same_items : ◌≡◌ {A = Addr → Option (Unit {0})} (λ a. get m a) (λ a. find addr_cmp a rows)
+  same_items = λ i a. get-entries m a i
 
-  back : (a : Addr) → Has rows a → In a
-  back a h = subst IsSome (sym (get-entries m a)) h
-
-  first_some : (r : Option Addr) → IfSome r (IsLeast In) → IfSome r (IsLeast (Has rows))
-  first_some None some = tt
-  first_some (Some a) some = record { has = to a some.has; least = λ c h. some.least c (back c h) }
-
-  first_none : (r : Option Addr) → IfNone r ((a : Addr) → ¬ In a) → IfNone r ((a : Addr) → ¬ Has rows a)
-  first_none None none = λ a h. none a (back a h)
-  first_none (Some a) none = tt
-
-  above_some : (a : Addr) (r : Option Addr) → IfSome r (IsLeastAbove a In) → IfSome r (IsLeastAbove a (Has rows))
-  above_some a None some = tt
-  above_some a (Some c) some = record { has = (to c some.has.0, some.has.1); least = λ d p. some.least d (back d p.0, p.1) }
-
-  above_none : (a : Addr) (r : Option Addr) → IfNone r ((c : Addr) → In c → addr_cmp a c ≢ Less) → IfNone r ((c : Addr) → Has rows c → addr_cmp a c ≢ Less)
-  above_none a None none = λ c h. none c (back c h)
-  above_none a (Some c) none = tt
+  -- so what is said of the set is so of its rows
+  of_rows : (P : (Addr → Type 0) → Type 0) → P In → P (Has rows)
+  of_rows P h = subst (λ (f : Addr → Option (Unit {0})). P (λ a. IsSome (f a))) same_items h
 
   first_in : (r : Option Addr) → IfSome r (IsLeast In) → IfSome r (Has rows)
   first_in None some = tt
-  first_in (Some a) some = to a some.has
+  first_in (Some a) some = of_rows (λ P. P a) some.has
 
   above_in : (a : Addr) (r : Option Addr) → IfSome r (IsLeastAbove a In) → IfSome r (Has rows)
   above_in a None some = tt
-  above_in a (Some c) some = to c some.has.0
+  above_in a (Some c) some = of_rows (λ P. P c) some.has.0
 
   -- what was made of the addresses so far, and what will be made of those from the next one on, is all
   abbrev pub GoesOn : {C : Type 0} → (Row → C) → List C → List C → Option Addr → Type 0
   GoesOn f now all next = (now ++ list_map f (from next (entries m)) ≡ all) × IfSome next (Has (entries m))
 
   pub begins : {C : Type 0} (f : Row → C) (now : List C) (r : Option Addr) → IfSome r (IsLeast In) → IfNone r ((a : Addr) → ¬ In a) → GoesOn f now (now ++ list_map f (entries m)) r
-  begins f now r some none = (ap (λ (l : List Row). now ++ list_map f l) (from_least rows (entries_sorted m) r (first_some r some) (first_none r none)), first_in r some)
+  begins f now r some none = (ap (λ (l : List Row). now ++ list_map f l) (from_least rows (entries_sorted m) r (of_rows (λ P. IfSome r (IsLeast P)) some) (of_rows (λ P. IfNone r ((a : Addr) → ¬ P a)) none)), first_in r some)
 
   module _ (next : Option Addr) (a : Addr) (r : Option Addr) (is : next ≡ Some a) (inside : IfSome next (Has (entries m))) (some : IfSome r (IsLeastAbove a In)) (none : IfNone r ((c : Addr) → In c → addr_cmp a c ≢ Less)) where
     one_less : from next (entries m) ≡ (a, tt) ∷ from r (entries m)
-    one_less = ap (λ (o : Option Addr). from o rows) is ∙ from_above rows (entries_sorted m) a r (subst (λ (o : Option Addr). IfSome o (Has rows)) is inside) (above_some a r some) (above_none a r none)
+    one_less = ap (λ (o : Option Addr). from o rows) is ∙ from_above rows (entries_sorted m) a r (subst (λ (o : Option Addr). IfSome o (Has rows)) is inside)
+        (of_rows (λ P. IfSome r (IsLeastAbove a P)) some) (of_rows (λ P. IfNone r ((c : Addr) → P c → addr_cmp a c ≢ Less)) none)
 
     pub fewer : length (from r (entries m)) < length (from next (entries m))
     fewer = omega (arith, ap length one_less)

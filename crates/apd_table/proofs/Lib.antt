@@ -21,6 +21,5 @@ pub mod PolicySet
 pub mod Put
 mod Replays
 mod RowChanges
-mod SnapshotSize
+pub mod SnapshotSize
 mod StationRows
-pub mod Takens

@@ -113,9 +113,6 @@ module _ (s : State) (b : Bssid) (w : Which) where
         (λ v d h. sound.lists_have_policy b v d (was_listed v d h))
         (λ c v. rw (ap map.len (retain_keys-remove list_total list_exact (is_row_of c v) s.lists key) ∙ len-remove list_total (rows c v) key) (fewer _ (list_count s c v) (sound.few_listed c v)))
 
-    pub can_take : Sound (take_from_list b w a s) → CanTake s b w a
-    can_take sound c h = sound.none_denied b c h
-
   abbrev cleared_rows : SetOf list_cmp
   cleared_rows = map.retain_keys s.lists (λ row. not (is_row_of b w row))
 
@@ -141,6 +138,3 @@ module _ (s : State) (b : Bssid) (w : Which) where
   sound_clear sound can = sound_lists s cleared_rows b sound (λ c apart v d. clear_elsewhere s.lists b w c apart v d) can
       (λ v d h. sound.lists_have_policy b v d (was_in v d h))
       (λ c v. at_most _ _ (count_cleared c v) (sound.few_listed c v))
-
-  pub can_clear : Sound (clear_list b w s) → CanClear s b w
-  can_clear sound c h = sound.none_denied b c h

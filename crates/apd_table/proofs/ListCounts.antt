@@ -1,5 +1,5 @@
 -- How many addresses the list of a BSSID has, counted in the list rows of a state.
-use Rattle.std.proofs.Common.{◌≡◌, suc, ◌≤◌, Bool, true, false, cond, ◌&&◌, List, [], ◌∷◌, map as list_map, filter, Some, None, length, inl, inr, refl, sym, ap, subst, ◌∙◌, T, arith}
+use Rattle.std.proofs.Common.{◌≡◌, suc, ◌≤◌, Bool, true, false, cond, ◌&&◌, List, [], ◌∷◌, map as list_map, filter, Some, None, length, inl, inr, refl, sym, ap, subst, ◌∙◌, T}
 use Rattle.std.specs.Option.{is_some}
 use Rattle.std.specs.Ordering.{eq_by_cmp, is_lt, ordering_then}
 use Rattle.std.specs.Cmp.{IsTotalOrder, tied_itself}
@@ -14,10 +14,11 @@ use Rattle.apd_base.specs.declared.address.Addr.{Addr}
 use Rattle.apd_base.specs.declared.address.Bssid.{Bssid}
 use Rattle.apd_base.specs.declared.station.Which.{Which}
 use Rattle.apd_base.proofs.AddrLaws.{bssid_total, bssid_exact}
-use Rattle.apd_base.proofs.MapLaws.{one_or_apart, tied}
+use Rattle.apd_base.proofs.MapLaws.{one_or_apart, apart, tied}
 use Rattle.apd_base.proofs.RowsMaps.{entries-retain_keys}
 use Rattle.apd_base.proofs.StateLaws.{which_total, which_exact, list_total, list_exact}
 use Rattle.std.proofs.lemmas.Bool.{and_parts}
+use Rattle.std.proofs.lemmas.List.Sums.{length-filter, count_by-le-length}
 use Rattle.apd_table.proofs.ListSets.{same_set, same_row, contains-retain_keys}
 use Rattle.apd_base.proofs.Cases.{differ}
 
@@ -63,12 +64,7 @@ module _ (b : Bssid) (w : Which) where
 
   other_key : (q : Bssid × Which × Addr) → is_row_of b w q ≡ false → (x : Addr) → eq_by_cmp list_cmp q (b, w, x) ≡ false
   other_key q not x =
-      elim (eq_by_cmp list_cmp q (b, w, x)) as (λ t. eq_by_cmp list_cmp q (b, w, x) ≡ t → t ≡ false) [
-        | true ↦ λ e.
-            let k = elim (one_or_apart list_total list_exact q (b, w, x)) as (λ _. ◌≡◌ {A = Bssid × Which × Addr} q (b, w, x)) [ inl same ↦ same | inr ne ↦ differ _ ne e ] in
-            differ _ not (ap (is_row_of b w) k ∙ (λ i. tied bssid_total bssid_exact b i && tied which_total which_exact w i))
-        | false ↦ λ e. refl
-      ] refl
+      apart list_total list_exact q (b, w, x) (λ k. differ _ not (ap (is_row_of b w) k ∙ (λ i. tied bssid_total bssid_exact b i && tied which_total which_exact w i)))
 
   not_found : (q : Bssid × Which × Addr) → is_row_of b w q ≡ false → (es : List Item) → find list_cmp q (rows_of es) ≡ None
   not_found q not [] = refl
@@ -97,11 +93,8 @@ module _ (b : Bssid) (w : Which) where
       ap map.len (sym one) ∙ len-entries _ ∙ ap length (entries-from_sorted list_cmp (rows_of es) sorted) ∙ length-rows_of es ∙ sym (len-entries m)
 
 -- a part has no more than the whole
-length-filter_le : {X : Type 0} (p : X → Bool) (xs : List X) → length (filter p xs) ≤ length xs
-length-filter_le p [] = omega arith
-length-filter_le p (x ∷ xs) =
-    let rest = length-filter_le p xs in
-    elim (p x) as (λ t. length (cond t (x ∷ filter p xs) (filter p xs)) ≤ length (x ∷ xs)) [ true ↦ omega arith | false ↦ omega arith ]
+pub length-filter_le : {X : Type 0} (p : X → Bool) (xs : List X) → length (filter p xs) ≤ length xs
+length-filter_le p xs = rw (length-filter p xs) (count_by-le-length p xs)
 
 pub retained_le : {K X : Type 0} {R : K → K → Ordering} (o : IsTotalOrder R) (exact : IsAntisymmetric R) (p : K → Bool) (m : FinMap R X) → map.len (map.retain_keys m p) ≤ map.len m
 retained_le {R = R} o exact p m =

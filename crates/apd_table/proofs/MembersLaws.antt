@@ -4,10 +4,11 @@ use Rattle.std.specs.FinMap as map
 use Rattle.std.specs.FinMap.{FinMap, IsAntisymmetric, get-empty, get-retain_keys, len-empty, len-remove, same_map}
 use Rattle.std.specs.Cmp.{IsTotalOrder}
 use Rattle.std.specs.Option.{is_some, option_map}
+use Rattle.std.proofs.lemmas.Bool.{false_from_ne_true}
 use Rattle.std.specs.Ordering.{eq_by_cmp}
 use Rattle.std.specs.declared.cmp.Ordering.{Ordering}
 use Rattle.apd_base.proofs.AddrLaws.{addr_total, addr_exact, bssid_total, bssid_exact, station_total, station_exact}
-use Rattle.apd_base.proofs.Cases.{differ, none_is, none_is_some, same_some}
+use Rattle.apd_base.proofs.Cases.{differ, no_value, none_is, none_is_some, same_some}
 use Rattle.apd_base.proofs.MapLaws.{one_or_apart, apart, tied, get_inserted, get_insert_other, get_removed, get_remove_other, retain_keys-remove}
 use Rattle.apd_base.specs.Addr.{addr_cmp, bssid_cmp, station_cmp}
 use Rattle.apd_base.specs.declared.address.Addr.{Addr}
@@ -72,7 +73,7 @@ module _ (s : State) (b : Bssid) (a : Addr) where
   }
 
 -- an identifier has its place by its type
-small : (n : ℕ) → n ≤ 2007 → n < 2048
+pub small : (n : ℕ) → n ≤ 2007 → n < 2048
 small n le = omega arith
 
 pub has_place : (row : Option Station) → HasPlace (aid_of row)
@@ -212,10 +213,7 @@ module _ (s : State) (b : Bssid) (none : (a : Addr) → station_at s b a ≡ Non
 -- a BSSID without a policy has none
 pub without_policy : (s : State) (b : Bssid) → Sound s → policy_at s b ≡ None → (a : Addr) → station_at s b a ≡ None
 without_policy s b sound absent a =
-    elim (station_at s b a) as (λ o. station_at s b a ≡ o → o ≡ None) [
-      | None ↦ λ e. refl
-      | Some v ↦ λ e. none_is (policy_at s b) absent (sound.stations_have_policy b a (ap is_some e))
-    ] refl
+    no_value (station_at s b a) (false_from_ne_true (is_some (station_at s b a)) (λ known. none_is (policy_at s b) absent (sound.stations_have_policy b a known)))
 
 -- what is kept once a BSSID has a policy
 pub members_joined : (s : State) (sound : Sound s) (b : Bssid) (m : FinMap bssid_cmp Members) (o : Option Policy) → policy_at s b ≡ o → AreMembers s m → AreMembers s (joined o m b)

@@ -1,6 +1,6 @@
 -- Who is denied once one address is added to a list or taken out of one: in a sound state that address alone.
 use Rattle.std.proofs.Common.{◌≡◌, Bool, true, false, cond, not, ◌&&◌, ◌||◌, List, [], ◌∷◌, map as list_map, filter, Option, Some, None, inl, inr, refl, sym, ap, ◌∙◌, T}
-use Rattle.std.proofs.lemmas.Bool.{and_parts}
+use Rattle.std.proofs.lemmas.Bool.{and_parts, false_from_ne_true}
 use Rattle.std.specs.List.{list_any}
 use Rattle.std.specs.Option.{is_some}
 use Rattle.std.specs.Ordering.{eq_by_cmp}
@@ -43,15 +43,12 @@ alone p key (Some v) = cond (p (key, v)) (key.1 ∷ []) []
 none_behind : (p : Row → Bool) (key : Bssid × Addr) (row : Row) (rows : List Row) → T (is_sorted station_cmp (row ∷ rows)) → row.0 ≡ key
     → ((q : Bssid × Addr) (v : Station) → find station_cmp q rows ≡ Some v → p (q, v) ≡ true → q ≡ key) → filter p rows ≡ []
 none_behind p key row rows sorted is only =
-    none_passes p rows (elim (list_any p rows) as (λ t. list_any p rows ≡ t → t ≡ false) [
-      | true ↦ λ any.
-          let behind = is_sorted_tail station_total row rows sorted in
-          let one = any_passes station_total station_exact p (map.from_sorted rows) (ap (list_any p) (map.entries-from_sorted station_cmp rows behind) ∙ any) in
-          let found = sym (map.get-from_sorted station_cmp rows one.0 behind) ∙ one.2 in
-          let same : one.0 ≡ row.0 = only one.0 one.1 found one.3 ∙ sym is in
-          differ _ (tied_not_below station_total one.0 row rows sorted one.1 found) (ap (λ k. eq_by_cmp station_cmp k row.0) same ∙ tied station_total station_exact row.0)
-      | false ↦ λ e. refl
-    ] refl)
+    none_passes p rows (false_from_ne_true (list_any p rows) (λ any.
+    let behind = is_sorted_tail station_total row rows sorted in
+    let one = any_passes station_total station_exact p (map.from_sorted rows) (ap (list_any p) (map.entries-from_sorted station_cmp rows behind) ∙ any) in
+    let found = sym (map.get-from_sorted station_cmp rows one.0 behind) ∙ one.2 in
+    let same : one.0 ≡ row.0 = only one.0 one.1 found one.3 ∙ sym is in
+    differ _ (tied_not_below station_total one.0 row rows sorted one.1 found) (ap (λ k. eq_by_cmp station_cmp k row.0) same ∙ tied station_total station_exact row.0)))
 
 told_alone : (t : Bool) (row : Row) → list_map address (cond t (row ∷ []) []) ≡ cond t (row.0.1 ∷ []) []
 told_alone true row = refl

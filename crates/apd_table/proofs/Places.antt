@@ -9,7 +9,7 @@ use Rattle.apd_base.proofs.Cases.{differ}
 use Rattle.apd_base.specs.declared.address.Bssid.{Bssid}
 use Rattle.apd_base.specs.State.{State}
 use Rattle.apd_table.specs.LeastFree.{IsTaken}
-use Rattle.apd_table.specs.Members.{AreSet, IsFirstClear, is_set, with_place, without_place, with_aid, without_aid}
+use Rattle.apd_table.specs.Members.{IsFirstClear, is_set, with_place, without_place, with_aid, without_aid}
 use Rattle.apd_table.specs.Rows.{IsLeastUnmarked}
 use Rattle.apd_table.specs.Words.{has_bit, AreWords}
 
@@ -158,9 +158,6 @@ module _ (words : List ℕ) (w word : ℕ) (others : (j : ℕ) → 1 ≤ 64 * w 
       let at : j / 64 ≡ w = omega arith in
       let some : 1 ≤ 64 * w + j % 64 = omega arith in
       ap (λ k. eqb (bit_at (slice_index words k) (j % 64)) 1) at ∙ ap (λ x. eqb x 1) (sym (others (j % 64) some))
-
-  pub all_set : ((j : ℕ) → j < 64 → bit_at word j ≡ 1) → AreSet words w
-  all_set ones j low from below = bit_of j low from below ∙ ap (λ x. eqb x 1) (ones (j % 64) (bit_below j))
 
   not_first : (i : ℕ) → bit_at word i ≡ 0 → 1 ≤ w * 64 + i
   not_first i clear =

@@ -1,5 +1,6 @@
 -- How many bytes the records of a snapshot have at most.
 use Rattle.std.proofs.Common.{◌≡◌, ℕ, ◌+◌, ◌*◌, ◌≤◌, Bool, true, false, cond, not, ◌&&◌, ◌||◌, Some, List, [], ◌∷◌, ◌++◌, length, map as list_map, filter, IsSome, refl, sym, ap, subst, ◌∙◌, arith, length-append}
+use Rattle.std.proofs.Math.Nat.{mul-suc}
 use Rattle.std.proofs.lemmas.List.{length-map}
 use Rattle.std.proofs.lemmas.List.Filters.{length-filter_both}
 use Rattle.std.specs.List.{AllByRecursion, list_any}
@@ -21,7 +22,7 @@ use Rattle.apd_base.proofs.AddrLaws.{bssid_total, station_total, station_exact}
 use Rattle.apd_base.proofs.Cases.{is_some_of}
 use Rattle.apd_base.proofs.RowsMaps.{entries-retain_keys}
 use Rattle.apd_base.proofs.StateLaws.{list_total, list_exact}
-use Rattle.apd_record.specs.Ranges.{IsBssid, AreChanges}
+use Rattle.apd_record.specs.Ranges.{IsBssid, IsChange, AreChanges}
 use Rattle.apd_record.specs.Record.{record_of, records_of, station_bytes}
 use Rattle.apd_record.specs.declared.change.Change.{Change}
 use Rattle.apd_record.specs.declared.change.Change.TheVariants.{Put, ListAdd, Policy as SetPolicy}
@@ -33,28 +34,22 @@ use Rattle.apd_table.proofs.Replays.{entries_are}
 
 -- ---- each record
 
-policy_length : (b : Bssid) (p : Policy) → IsBssid b → length (record_of (SetPolicy b p)) ≡ 10
+pub policy_length : (b : Bssid) (p : Policy) → IsBssid b → length (record_of (SetPolicy b p)) ≡ 10
 policy_length b p is = omega (arith, length-append b.0.0 (mode_number p.mode ∷ to_le_bytes w16 p.max.count), is.0)
 
-list_length : (b : Bssid) (w : Which) (a : Addr) → IsBssid b → IsAddr a → length (record_of (ListAdd b w a)) ≡ 14
+pub list_length : (b : Bssid) (w : Which) (a : Addr) → IsBssid b → IsAddr a → length (record_of (ListAdd b w a)) ≡ 14
 list_length b w a is of = omega (arith, length-append b.0.0 (which_number w ∷ a.0), is.0, of.0)
 
-put_length : (b : Bssid) (a : Addr) (v : Station) → IsBssid b → IsAddr a → length (record_of (Put b a v)) ≡ 20
+pub put_length : (b : Bssid) (a : Addr) (v : Station) → IsBssid b → IsAddr a → length (record_of (Put b a v)) ≡ 20
 put_length b a v is of = omega (arith, length-append (b.0.0 ++ a.0) (station_bytes v), length-append b.0.0 a.0, is.0, of.0, station_length v)
 
-policies_length : (es : List (Bssid × Policy)) → AreChanges (list_map policy_change es) → length (records_of (list_map policy_change es)) ≡ 10 * length es
-policies_length [] are = refl
-policies_length (e ∷ es) are = omega (arith, length-append (record_of (policy_change e)) (records_of (list_map policy_change es)), policy_length e.0 e.1 are.0, policies_length es are.1)
+-- each of several has as many
+pub each_length : {X : Type 0} (f : X → Change) (n : ℕ) → ((x : X) → IsChange (f x) → length (record_of (f x)) ≡ n) → (xs : List X) → AreChanges (list_map f xs) → length (records_of (list_map f xs)) ≡ n * length xs
+each_length f n one [] are = omega arith
+each_length f n one (x ∷ xs) are = omega (arith, length-append (record_of (f x)) (records_of (list_map f xs)), one x are.0, each_length f n one xs are.1, mul-suc n (length xs))
 
-lists_length : (es : List ((Bssid × Which × Addr) × Unit {0})) → AreChanges (list_map list_change es) → length (records_of (list_map list_change es)) ≡ 14 * length es
-lists_length [] are = refl
-lists_length (e ∷ es) are = omega (arith, length-append (record_of (list_change e)) (records_of (list_map list_change es)), list_length e.0.0 e.0.1 e.0.2 are.0.0 are.0.1, lists_length es are.1)
-
-stations_length : (es : List ((Bssid × Addr) × Station)) → AreChanges (list_map station_change es) → length (records_of (list_map station_change es)) ≡ 20 * length es
-stations_length [] are = refl
-stations_length (e ∷ es) are = omega (arith, length-append (record_of (station_change e)) (records_of (list_map station_change es)), put_length e.0.0 e.0.1 e.1 are.0.0 are.0.1, stations_length es are.1)
-
-fronts : (xs ys : List Change) → AreChanges (xs ++ ys) → AreChanges xs × AreChanges ys
+-- changes in two parts
+pub fronts : (xs ys : List Change) → AreChanges (xs ++ ys) → AreChanges xs × AreChanges ys
 fronts [] ys are = (tt, are)
 fronts (x ∷ xs) ys are = let rest = fronts xs ys are.1 in ((are.0, rest.0), rest.1)
 
@@ -178,9 +173,9 @@ module _ (s : State) (sound : Sound s) where
         arith,
         records_length-append (policy_changes s.policies) (list_changes s.lists ++ station_changes s.stations),
         records_length-append (list_changes s.lists) (station_changes s.stations),
-        policies_length (entries s.policies) first.0,
-        lists_length (entries s.lists) second.0,
-        stations_length (entries s.stations) second.1,
+        each_length policy_change 10 (λ row. policy_length row.0 row.1) (entries s.policies) first.0,
+        each_length list_change 14 (λ row is. list_length row.0.0 row.0.1 row.0.2 is.0 is.1) (entries s.lists) second.0,
+        each_length station_change 20 (λ row is. put_length row.0.0 row.0.1 row.1 is.0 is.1) (entries s.stations) second.1,
         policies_bound,
         lists_bound,
         stations_bound,

@@ -1,5 +1,5 @@
 -- Station rows one by one.
-use Rattle.std.specs.Prelude.{◌≡◌, ℕ, ◌<◌, ◌≤◌, Bool, true, false, cond, ◌&&◌, not, ◌==◌, List, T, Option, Some, None}
+use Rattle.std.specs.Prelude.{◌≡◌, ℕ, ◌<◌, ◌≤◌, Bool, true, false, cond, ◌&&◌, not, List, T, Option, Some, None}
 use Rattle.std.specs.FinMap as map
 use Rattle.std.specs.List.{AllByRecursion}
 use Rattle.std.specs.Option.{is_some}
@@ -9,7 +9,6 @@ use Rattle.apd_base.specs.declared.address.Bssid.{Bssid}
 use Rattle.apd_base.specs.declared.limits.TheConstants.{MAX_STATIONS}
 use Rattle.apd_base.specs.declared.station.AclMode.{AclMode}
 use Rattle.apd_base.specs.declared.station.Station.{Station}
-use Rattle.apd_base.specs.declared.station.Station.TheVariants.{Authenticated, Associated}
 use Rattle.apd_base.specs.declared.station.Which.TheVariants.{Deny}
 use Rattle.apd_base.specs.Addr.{IsAddr, bssid_cmp, station_cmp}
 use Rattle.apd_base.specs.State.{aid_of}
@@ -27,11 +26,6 @@ is_row_of b row = eq_by_cmp bssid_cmp b row.0.0
 -- whether a station is associated at c, where this is what c has of it, and c is not b
 abbrev pub is_associated_apart : Bssid → Bssid → Option Station → Bool
 is_associated_apart b c station = not (eq_by_cmp bssid_cmp b c) && is_some (aid_of station)
-
--- whether a row has the identifier at the BSSID
-abbrev pub has_aid : Bssid → ℕ → (Bssid × Addr) × Station → Bool
-has_aid b i (key, Authenticated) = false
-has_aid b i (key, Associated x) = eq_by_cmp bssid_cmp b key.0 && (x.aid.number == i)
 
 -- the least identifier, from 1 on, that is not marked
 pub record IsLeastUnmarked (marked : ℕ → Bool) (i : ℕ) : Type 0 where

@@ -16,15 +16,15 @@ use Rattle.apd_conf.specs.declared.conf.Conf.{Conf}
 use Rattle.apd_conf.specs.Confs.{conf_at}
 use Rattle.apd_core.specs.Core.{CoreState, front_of, held_for}
 use Rattle.apd_core.proofs.Queues.{all_set}
-use Rattle.apd_mlme.specs.Driver.{driven, DriverMap}
+use Rattle.apd_mlme.specs.laws.Driver.{driven, DriverMap}
 use Rattle.apd_mlme.specs.Happening.{Happening}
 use Rattle.apd_mlme.specs.Outs.{outs_to}
-use Rattle.apd_mlme.specs.Rules.{verdict}
+use Rattle.apd_mlme.specs.rules.{verdict}
 use Rattle.apd_mlme.specs.Run.{run, outs_run}
 use Rattle.apd_mlme.specs.declared.decision.Out.{Out}
 use Rattle.apd_mlme.specs.declared.decision.Recipient.TheVariants.{Radio, Control}
-use Rattle.apd_mlme.proofs.OutsLaws.{driven-append}
-use Rattle.apd_mlme.proofs.VerdictLaws.{follows_in}
+use Rattle.apd_mlme.proofs.OutsLemmas.{driven-append}
+use Rattle.apd_mlme.proofs.VerdictLemmas.{follows_in}
 use Rattle.apd_slot.specs.Slots.{bssid_of, wanted_of, IsExact}
 use Rattle.apd_slot.specs.Wanted.{Stations, wanted_after, wanted_by}
 use Rattle.apd_slot.specs.declared.slot.Slot.{Slot}

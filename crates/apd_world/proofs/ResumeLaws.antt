@@ -13,7 +13,7 @@ use Rattle.apd_core.specs.Core.{CoreState, front_of, held_for, new_core}
 use Rattle.apd_core.specs.Heard.{LastHeard}
 use Rattle.apd_core.proofs.HeldLaws.{queue_of-no_outs}
 use Rattle.apd_core.proofs.Queues.{all_push, all_weaker}
-use Rattle.apd_mlme.specs.Driver.{driven}
+use Rattle.apd_mlme.specs.laws.Driver.{driven}
 use Rattle.apd_mlme.specs.declared.decision.Out.{Out}
 use Rattle.apd_mlme.specs.declared.decision.Recipient.TheVariants.{Radio}
 use Rattle.apd_slot.specs.Slots.{bssid_of, is_up_of, radio_of, wanted_of, IsExact}

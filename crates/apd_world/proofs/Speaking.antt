@@ -13,13 +13,13 @@ use Rattle.apd_frame.specs.Contents.{Contents}
 use Rattle.apd_frame.specs.Outcome.{outcome}
 use Rattle.apd_frame.specs.declared.reasons.Ignored.{Ignored}
 use Rattle.apd_frame.proofs.Senders.{sender_not_broadcast}
-use Rattle.apd_mlme.specs.Admitted.{AreFromStations}
+use Rattle.apd_mlme.specs.laws.Broadcast.{AreFromStations, IsFromStation, NoBroadcastRow}
 use Rattle.apd_mlme.specs.Happening.{Happening, Heard, Kick, ListEdit, Expire, Configure, happening}
-use Rattle.apd_mlme.specs.Rules.{verdict}
-use Rattle.apd_mlme.specs.Truth.{AreSoToAll, IsFromStation, NoBroadcastRow}
-use Rattle.apd_mlme.proofs.AdmittedLaws.{run_broadcast}
-use Rattle.apd_mlme.proofs.TruthLaws.{verdict_so_to_all}
-use Rattle.apd_mlme.proofs.VerdictLaws.{run_sound}
+use Rattle.apd_mlme.specs.rules.{verdict}
+use Rattle.apd_mlme.specs.laws.Outs.{AreSoToAll}
+use Rattle.apd_mlme.proofs.AdmissionLemmas.{run_broadcast}
+use Rattle.apd_mlme.proofs.TrueOutsLemmas.{verdict_so_to_all}
+use Rattle.apd_mlme.proofs.VerdictLemmas.{run_sound}
 use Rattle.apd_table.specs.Sound.{Sound}
 use Rattle.apd_core.specs.Core.{CoreState, front_of, state_after}
 use Rattle.apd_core.specs.Heard.{LastHeard, due}

@@ -7,7 +7,7 @@ use Rattle.apd_base.specs.State.{State, aid_at}
 use Rattle.apd_conf.specs.declared.conf.Conf.{Conf}
 use Rattle.apd_conf.specs.Confs.{conf_at}
 use Rattle.apd_core.specs.Core.{held_for}
-use Rattle.apd_mlme.specs.Driver.{driven}
+use Rattle.apd_mlme.specs.laws.Driver.{driven}
 use Rattle.apd_mlme.specs.declared.decision.Recipient.TheVariants.{Radio}
 use Rattle.apd_slot.specs.Slots.{wanted_of}
 use Rattle.apd_world.specs.Following.{AreFollowing}

@@ -7,7 +7,7 @@ use Rattle.apd_base.specs.declared.moment.Moment.{Moment}
 use Rattle.apd_ctrl.specs.declared.command.Query.{Query}
 use Rattle.apd_journal.specs.declared.batch.Batch.{Batch}
 use Rattle.apd_mlme.specs.Happening.{Happening}
-use Rattle.apd_mlme.specs.Rules.{verdict}
+use Rattle.apd_mlme.specs.rules.{verdict}
 use Rattle.apd_mlme.specs.Run.{AreFit}
 use Rattle.apd_mlme.specs.declared.decision.Out.{Out}
 use Rattle.apd_mlme.specs.declared.decision.Recipient.{Recipient}

@@ -7,7 +7,7 @@ use Rattle.apd_base.specs.declared.address.Bssid.{Bssid}
 use Rattle.apd_base.specs.State.{aid_at}
 use Rattle.apd_conf.specs.Confs.{conf_at}
 use Rattle.apd_core.specs.Core.{front_of, held_for}
-use Rattle.apd_mlme.specs.Driver.{driven}
+use Rattle.apd_mlme.specs.laws.Driver.{driven}
 use Rattle.apd_mlme.specs.declared.decision.Recipient.TheVariants.{Radio}
 use Rattle.apd_slot.specs.Slots.{wanted_of, IsExact}
 use Rattle.apd_slot.specs.Wanted.{Stations}

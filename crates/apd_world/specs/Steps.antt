@@ -5,7 +5,7 @@ use Rattle.apd_base.specs.declared.moment.Moment.{Moment}
 use Rattle.apd_conf.specs.declared.conf.Conf.{Conf}
 use Rattle.apd_mlme.specs.Happening.{Happening}
 use Rattle.apd_mlme.specs.Outs.{is_same}
-use Rattle.apd_mlme.specs.Rules.{verdict}
+use Rattle.apd_mlme.specs.rules.{verdict}
 use Rattle.apd_mlme.specs.Run.{run}
 use Rattle.apd_mlme.specs.declared.decision.Out.{Out}
 use Rattle.apd_mlme.specs.declared.decision.Recipient.{Recipient}

@@ -1,6 +1,6 @@
 use Rattle.apd_mlme.specs.Happening.{happening}
-use Rattle.apd_mlme.proofs.VerdictLaws.{decided_meaning, decided_sound, decided_driver}
-use Rattle.apd_mlme.proofs.LengthLaws.{decided_length}
+use Rattle.apd_mlme.proofs.VerdictLemmas.{decided_meaning, decided_sound, decided_driver}
+use Rattle.apd_mlme.proofs.RecordLengthLemmas.{decided_length}
 use Rattle.apd_mlme.proofs.decide.Goals as goal
 
 pub returns-clause-meaning : goal.returns-clause-meaning

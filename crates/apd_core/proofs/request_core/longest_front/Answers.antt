@@ -1,5 +1,5 @@
 use Rattle.std.proofs.Common.{◌≡◌, ◌+◌, ◌++◌, [], length, take, drop, sym, ap, subst, ◌∙◌, arith}
-use Rattle.apd_mlme.proofs.TruthLaws.{all_both}
+use Rattle.apd_mlme.proofs.TrueOutsLemmas.{all_both}
 use Rattle.apd_record.specs.Ranges.{AreChanges, IsChange}
 use Rattle.apd_record.specs.Record.{records_of}
 use Rattle.apd_record.proofs.Lengths.{records_length-append}

@@ -1,7 +1,7 @@
 use Rattle.std.proofs.Common.{subst, sym}
 use Rattle.apd_core.proofs.Keeping.{front_runs}
 use Rattle.apd_core.proofs.Settling.{decided_fit}
-use Rattle.apd_mlme.proofs.VerdictLaws.{run_sound}
+use Rattle.apd_mlme.proofs.VerdictLemmas.{run_sound}
 use Rattle.apd_table.specs.Sound.{Sound}
 use Rattle.apd_desk.proofs.laws.a_core_that_nobody_calls.Goals as goal
 

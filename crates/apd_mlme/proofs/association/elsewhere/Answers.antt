@@ -7,7 +7,7 @@ use Rattle.std.proofs.lemmas.List.Elements.{filter_more}
 use Rattle.std.proofs.lemmas.Option.{slice_get_within, get_or_from_slice_get}
 use Rattle.apd_base.specs.declared.station.Policy.{Policy}
 use Rattle.apd_base.specs.Addr.{bssid_cmp}
-use Rattle.apd_mlme.specs.Association.{is_elsewhere}
+use Rattle.apd_mlme.specs.rules.Association.{is_elsewhere}
 use Rattle.apd_mlme.proofs.association.elsewhere.Goals as goal
 use Rattle.apd_mlme.proofs.association.elsewhere.Goals.{then-is_elsewhere+in_ok-push, else-is_elsewhere}
 

@@ -1,7 +1,7 @@
 use Rattle.std.proofs.Common.{◌≡◌, take}
 use Rattle.std.specs.Prelude.{filter}
 use Rattle.std.specs.FinMap as map
-use Rattle.apd_mlme.specs.Association.{is_elsewhere}
+use Rattle.apd_mlme.specs.rules.Association.{is_elsewhere}
 use Rattle.apd_mlme.proofs.association.elsewhere.Given as goal
 
 -- those among the BSSIDs so far

@@ -3,8 +3,8 @@ use Rattle.apd_base.specs.declared.address.Bssid.{Bssid}
 use Rattle.apd_base.specs.declared.station.Aid.{Aid}
 use Rattle.apd_base.specs.State.{State}
 use Rattle.apd_table.specs.LeastFree.{IsLeastFree}
-use Rattle.apd_mlme.specs.Identifiers.{least_free}
-use Rattle.apd_mlme.proofs.IdentifierLaws.{one_is_left, found_least}
+use Rattle.apd_mlme.specs.rules.Identifiers.{least_free}
+use Rattle.apd_mlme.proofs.IdentifierLemmas.{one_is_left, found_least}
 use Rattle.apd_mlme.proofs.association.least_free.Goals as goal
 
 pub unwrap-number-requires : goal.unwrap-number-requires

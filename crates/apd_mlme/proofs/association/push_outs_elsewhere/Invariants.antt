@@ -1,5 +1,5 @@
 use Rattle.std.proofs.Common.{◌≡◌, ◌++◌, take}
-use Rattle.apd_mlme.specs.Association.{outs_elsewhere}
+use Rattle.apd_mlme.specs.rules.Association.{outs_elsewhere}
 use Rattle.apd_mlme.proofs.association.push_outs_elsewhere.Given as goal
 
 -- the outs are those before, and those of the BSSIDs so far

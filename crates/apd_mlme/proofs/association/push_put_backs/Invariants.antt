@@ -1,5 +1,5 @@
 use Rattle.std.proofs.Common.{◌≡◌, ◌++◌, take}
-use Rattle.apd_mlme.specs.Association.{put_backs}
+use Rattle.apd_mlme.specs.rules.Association.{put_backs}
 use Rattle.apd_mlme.proofs.association.push_put_backs.Given as goal
 
 -- the changes are those before, and those of the BSSIDs so far

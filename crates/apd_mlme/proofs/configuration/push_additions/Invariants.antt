@@ -1,5 +1,5 @@
 use Rattle.std.proofs.Common.{◌≡◌, ◌++◌, take}
-use Rattle.apd_mlme.specs.Configuration.{additions}
+use Rattle.apd_mlme.specs.rules.Configuration.{additions}
 use Rattle.apd_mlme.proofs.configuration.push_additions.Given as goal
 
 -- the changes are those before, and those of the addresses so far

@@ -2,7 +2,7 @@ use Rattle.std.proofs.Common.{◌≡◌, take}
 use Rattle.std.specs.Prelude.{map}
 use Rattle.std.specs.List.{flat_map}
 use Rattle.apd_record.specs.declared.change.Change.TheVariants.{Drop}
-use Rattle.apd_mlme.specs.Leaving.{removal}
+use Rattle.apd_mlme.specs.rules.Leaving.{removal}
 use Rattle.apd_mlme.proofs.kick.all_kicked.Given as goal
 
 -- the changes and outs so far are those of the addresses so far

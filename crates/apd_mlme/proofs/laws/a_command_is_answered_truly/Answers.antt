@@ -1,4 +1,4 @@
-use Rattle.apd_mlme.proofs.CommandedLaws.{verdict_answered}
+use Rattle.apd_mlme.proofs.CommandAnswerLemmas.{verdict_answered}
 use Rattle.apd_mlme.proofs.laws.a_command_is_answered_truly.Goals as goal
 
 pub returns : goal.returns

@@ -1,11 +1,11 @@
 use Rattle.std.proofs.Common.{sym, subst}
 use Rattle.apd_frame.specs.Contents.{association_request, reassociation_request}
 use Rattle.apd_mlme.specs.declared.association.Kind.TheVariants.{Association, Reassociation}
-use Rattle.apd_mlme.specs.Answered.{IsAnsweredTruly}
-use Rattle.apd_mlme.specs.Association.{without_current_ap}
+use Rattle.apd_mlme.specs.laws.Association.{IsAnsweredTruly}
+use Rattle.apd_mlme.specs.rules.Association.{without_current_ap}
 use Rattle.apd_mlme.specs.Happening.{Heard}
-use Rattle.apd_mlme.specs.Rules.{verdict_under}
-use Rattle.apd_mlme.proofs.AnsweredLaws.{association_told}
+use Rattle.apd_mlme.specs.rules.{verdict_under}
+use Rattle.apd_mlme.proofs.AssociationResponseLemmas.{association_told}
 use Rattle.apd_mlme.proofs.laws.a_member_is_told_so.Goals as goal
 
 pub returns-clause-association : goal.returns-clause-association

@@ -1,5 +1,5 @@
 use Rattle.apd_conf.specs.Confs.{conf_at}
-use Rattle.apd_mlme.proofs.EndedLaws.{start_tells}
+use Rattle.apd_mlme.proofs.AssociationEndLemmas.{start_tells}
 use Rattle.apd_mlme.proofs.laws.a_start_tells_whom_it_drops.Goals as goal
 
 pub returns : goal.returns

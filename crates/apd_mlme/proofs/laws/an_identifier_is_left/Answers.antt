@@ -1,6 +1,6 @@
 use Rattle.std.proofs.Common.{refl}
 use Rattle.apd_base.specs.State.{station_at}
-use Rattle.apd_mlme.proofs.IdentifierLaws.{identifier_is_there}
+use Rattle.apd_mlme.proofs.IdentifierLemmas.{identifier_is_there}
 use Rattle.apd_mlme.proofs.laws.an_identifier_is_left.Goals as goal
 
 pub returns : goal.returns

@@ -1,9 +1,9 @@
 use Rattle.std.proofs.Common.{sym, subst}
 use Rattle.apd_frame.specs.Contents.{authentication}
 use Rattle.apd_mlme.specs.Happening.{Heard}
-use Rattle.apd_mlme.specs.Room.{IsRoomKept}
-use Rattle.apd_mlme.specs.Rules.{verdict_under}
-use Rattle.apd_mlme.proofs.AuthenticationLaws.{room_kept}
+use Rattle.apd_mlme.specs.laws.Authentication.{IsRoomKept}
+use Rattle.apd_mlme.specs.rules.{verdict_under}
+use Rattle.apd_mlme.proofs.AuthenticationLemmas.{room_kept}
 use Rattle.apd_mlme.proofs.laws.as_many_authenticate_as_the_policy_says.Goals as goal
 
 pub returns : goal.returns

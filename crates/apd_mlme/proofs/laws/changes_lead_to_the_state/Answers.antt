@@ -1,4 +1,4 @@
-use Rattle.apd_mlme.proofs.VerdictLaws.{meaning_in, sound_in, unchanged_in}
+use Rattle.apd_mlme.proofs.VerdictLemmas.{meaning_in, sound_in, unchanged_in}
 use Rattle.apd_mlme.proofs.laws.changes_lead_to_the_state.Goals as goal
 
 pub returns-clause-meaning : goal.returns-clause-meaning

@@ -1,4 +1,4 @@
-use Rattle.apd_mlme.proofs.EndedLaws.{verdict_ended, verdict_begun}
+use Rattle.apd_mlme.proofs.AssociationEndLemmas.{verdict_ended, verdict_begun}
 use Rattle.apd_mlme.proofs.laws.drivers_are_told_first.Goals as goal
 
 pub returns-clause-ended : goal.returns-clause-ended

@@ -1,4 +1,4 @@
-use Rattle.apd_mlme.proofs.VerdictLaws.{follows_in}
+use Rattle.apd_mlme.proofs.VerdictLemmas.{follows_in}
 use Rattle.apd_mlme.proofs.laws.drivers_follow.Goals as goal
 
 pub returns : goal.returns

@@ -1,4 +1,4 @@
-use Rattle.apd_mlme.proofs.VerdictLaws.{run_sound}
+use Rattle.apd_mlme.proofs.VerdictLemmas.{run_sound}
 use Rattle.apd_mlme.proofs.laws.every_run_stays_sound.Goals as goal
 
 pub returns : goal.returns

@@ -1,8 +1,8 @@
 use Rattle.std.proofs.Common.{sym, subst}
 use Rattle.apd_mlme.specs.Happening.{Configure}
-use Rattle.apd_mlme.specs.Rules.{verdict_under}
-use Rattle.apd_mlme.specs.Started.{IsStarted}
-use Rattle.apd_mlme.proofs.StartLaws.{configure_started}
+use Rattle.apd_mlme.specs.rules.{verdict_under}
+use Rattle.apd_mlme.specs.laws.Start.{IsStarted}
+use Rattle.apd_mlme.proofs.StartLemmas.{configure_started}
 use Rattle.apd_mlme.proofs.laws.lists_come_with_the_first_start.Goals as goal
 
 pub returns : goal.returns

@@ -2,7 +2,7 @@ use Rattle.std.specs.FinMap.{get-empty}
 use Rattle.apd_base.specs.Addr.{station_cmp}
 use Rattle.apd_frame.proofs.Senders.{sender_not_broadcast}
 use Rattle.apd_base.specs.declared.address.TheConstants.{BROADCAST}
-use Rattle.apd_mlme.proofs.AdmittedLaws.{verdict_broadcast, run_broadcast}
+use Rattle.apd_mlme.proofs.AdmissionLemmas.{verdict_broadcast, run_broadcast}
 use Rattle.apd_mlme.proofs.laws.no_station_gets_the_broadcast_address.Goals as goal
 
 pub returns-clause-once : goal.returns-clause-once

@@ -1,6 +1,6 @@
 use Rattle.std.proofs.Common.{inl, inr}
-use Rattle.apd_mlme.specs.Rules.{verdict}
-use Rattle.apd_mlme.proofs.EndedLaws.{verdict_ended, is_told}
+use Rattle.apd_mlme.specs.rules.{verdict}
+use Rattle.apd_mlme.proofs.AssociationEndLemmas.{verdict_ended, is_told}
 use Rattle.apd_mlme.proofs.laws.nobody_is_left_behind.Goals as goal
 
 pub returns : goal.returns

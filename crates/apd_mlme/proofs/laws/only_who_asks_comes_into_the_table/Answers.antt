@@ -1,4 +1,4 @@
-use Rattle.apd_mlme.proofs.AdmittedLaws.{verdict_admits, run_admits}
+use Rattle.apd_mlme.proofs.AdmissionLemmas.{verdict_admits, run_admits}
 use Rattle.apd_mlme.proofs.laws.only_who_asks_comes_into_the_table.Goals as goal
 
 pub returns-clause-once : goal.returns-clause-once

@@ -1,11 +1,11 @@
 use Rattle.std.proofs.Common.{sym, subst}
 use Rattle.apd_frame.specs.Contents.{authentication, association_request, reassociation_request}
 use Rattle.apd_mlme.specs.declared.association.Kind.TheVariants.{Association, Reassociation}
-use Rattle.apd_mlme.specs.Association.{without_current_ap}
+use Rattle.apd_mlme.specs.rules.Association.{without_current_ap}
 use Rattle.apd_mlme.specs.Happening.{Heard}
-use Rattle.apd_mlme.specs.Responses.{IsAuthenticationAnswered, IsAssociationAnswered}
-use Rattle.apd_mlme.specs.Rules.{verdict_under}
-use Rattle.apd_mlme.proofs.ResponseLaws.{authentication_answered, association_answered}
+use Rattle.apd_mlme.specs.laws.Responses.{IsAuthenticationAnswered, IsAssociationAnswered}
+use Rattle.apd_mlme.specs.rules.{verdict_under}
+use Rattle.apd_mlme.proofs.ResponseLemmas.{authentication_answered, association_answered}
 use Rattle.apd_mlme.proofs.laws.responses_have_their_fields.Goals as goal
 
 pub returns-clause-authentication : goal.returns-clause-authentication

@@ -1,11 +1,11 @@
 use Rattle.std.proofs.Common.{sym, subst}
 use Rattle.apd_frame.specs.Contents.{association_request, reassociation_request}
 use Rattle.apd_mlme.specs.declared.association.Kind.TheVariants.{Association, Reassociation}
-use Rattle.apd_mlme.specs.Association.{without_current_ap}
+use Rattle.apd_mlme.specs.rules.Association.{without_current_ap}
 use Rattle.apd_mlme.specs.Happening.{Heard}
-use Rattle.apd_mlme.specs.Joined.{IsJoined}
-use Rattle.apd_mlme.specs.Rules.{verdict_under}
-use Rattle.apd_mlme.proofs.JoinedLaws.{association_joined}
+use Rattle.apd_mlme.specs.laws.Association.{IsJoined}
+use Rattle.apd_mlme.specs.rules.{verdict_under}
+use Rattle.apd_mlme.proofs.AssociationOutsLemmas.{association_joined}
 use Rattle.apd_mlme.proofs.laws.who_associates_is_told_at_each_radio.Goals as goal
 
 pub returns-clause-association : goal.returns-clause-association

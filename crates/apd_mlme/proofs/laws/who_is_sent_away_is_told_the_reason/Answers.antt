@@ -1,6 +1,6 @@
 use Rattle.std.proofs.Common.{true, false}
 use Rattle.apd_conf.specs.Confs.{conf_at}
-use Rattle.apd_mlme.proofs.CommandedLaws.{kick_tells}
+use Rattle.apd_mlme.proofs.CommandAnswerLemmas.{kick_tells}
 use Rattle.apd_mlme.proofs.laws.who_is_sent_away_is_told_the_reason.Goals as goal
 
 pub returns-clause-deauthentication : goal.returns-clause-deauthentication

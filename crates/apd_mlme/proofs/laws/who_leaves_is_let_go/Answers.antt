@@ -1,10 +1,10 @@
 use Rattle.std.proofs.Common.{sym, subst, refl}
 use Rattle.apd_base.specs.State.{station_at}
 use Rattle.apd_frame.specs.Contents.{disassociation, deauthentication}
-use Rattle.apd_mlme.specs.Departed.{IsDisassociated, IsDeauthenticated}
+use Rattle.apd_mlme.specs.laws.Departure.{IsDisassociated, IsDeauthenticated}
 use Rattle.apd_mlme.specs.Happening.{Heard}
-use Rattle.apd_mlme.specs.Rules.{verdict_under}
-use Rattle.apd_mlme.proofs.DepartedLaws.{disassociated, deauthenticated}
+use Rattle.apd_mlme.specs.rules.{verdict_under}
+use Rattle.apd_mlme.proofs.DepartureLemmas.{disassociated, deauthenticated}
 use Rattle.apd_mlme.proofs.laws.who_leaves_is_let_go.Goals as goal
 
 pub returns-clause-disassociation : goal.returns-clause-disassociation

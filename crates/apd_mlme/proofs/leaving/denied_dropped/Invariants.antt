@@ -3,7 +3,7 @@ use Rattle.std.specs.Prelude.{map}
 use Rattle.std.specs.List.{flat_map}
 use Rattle.apd_record.specs.declared.change.Change.TheVariants.{Drop}
 use Rattle.apd_frame.specs.declared.codes.TheConstants.Reason.{UNSPECIFIED}
-use Rattle.apd_mlme.specs.Leaving.{outs_of_drop}
+use Rattle.apd_mlme.specs.rules.Leaving.{outs_of_drop}
 use Rattle.apd_mlme.proofs.leaving.denied_dropped.Given as goal
 
 -- the changes and outs so far are those of the addresses so far

@@ -2,9 +2,9 @@ use Rattle.std.proofs.Common.{◌≡◌, ◌+◌, ◌-◌, ◌^◌, ◌<◌, ◌
 use Rattle.std.specs.Prelude.{min}
 use Rattle.std.specs.FinMap as map
 use Rattle.apd_mlme.specs.Happening.{happening}
-use Rattle.apd_mlme.specs.Rules.{verdict, IsFit}
-use Rattle.apd_mlme.specs.Truth.{AreThere}
-use Rattle.apd_mlme.proofs.RadioLaws.{verdict_there}
+use Rattle.apd_mlme.specs.rules.{verdict, IsFit}
+use Rattle.apd_mlme.specs.laws.Outs.{AreThere}
+use Rattle.apd_mlme.proofs.RadioLemmas.{verdict_there}
 use Rattle.apd_record.specs.Meaning.{meaning_of}
 use Rattle.apd_record.specs.Ranges.{AreChanges}
 use Rattle.apd_record.specs.Record.{records_of}

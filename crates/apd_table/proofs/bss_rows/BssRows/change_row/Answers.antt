@@ -3,9 +3,9 @@ use Rattle.std.specs.FinMap as map
 use Rattle.apd_base.specs.Addr.{bssid_cmp}
 use Rattle.apd_base.proofs.AddrLaws.{bssid_total, bssid_exact}
 use Rattle.apd_base.proofs.RowsMaps.{placed}
-use Rattle.apd_table.specs.BssRows.{with_row, state_of_rows}
+use Rattle.apd_table.specs.BssRows.{with_row}
 use Rattle.apd_table.specs.BssState.{BssState}
-use Rattle.apd_table.proofs.BssWrites.{sorted_after, rows_are, row, row_members, state_row, same_members, members_with, absent_at}
+use Rattle.apd_table.proofs.BssWrites.{sorted_after, state_after, row_members, state_row, same_members, members_with, absent_at}
 use Rattle.apd_table.proofs.bss_rows.BssRows.change_row.Goals as goal
 
 pub change_row_at-requires-clause-few : goal.change_row_at-requires-clause-few
@@ -20,12 +20,8 @@ invariant_of-self c =
 
 pub returns-in-Ok : goal.returns-in-Ok
 returns-in-Ok c =
-    let xs = c.self.inside.rows.items in
-    let is = (placed bssid_cmp c.args.bssid c.self.inside.rows.items _ c.deref.ensures.value c.self.invariant _ c.in-Ok.ensures.exact) in
-    let ys = c.change_row_at.new.rows.items in
-    let entry = row xs c.self.invariant c.args.bssid c.in-Ok.at is (with_row c.args.old c.args.new) ys in
-    ap state_of_rows (rows_are xs c.self.invariant c.args.bssid c.in-Ok.at is (with_row c.args.old c.args.new) ys c.change_row_at.ensures)
-    ∙ state_row xs c.self.invariant c.args.bssid entry.0 entry.2 c.args.old c.args.new ∙ ap (members_with c.args.old c.args.new c.args.bssid) c.self.view_is
+    state_after c.self.inside.rows.items c.self.invariant c.args.bssid c.in-Ok.at (placed bssid_cmp c.args.bssid c.self.inside.rows.items _ c.deref.ensures.value c.self.invariant _ c.in-Ok.ensures.exact)
+    (with_row c.args.old c.args.new) c.change_row_at.new.rows.items c.change_row_at.ensures (members_with c.args.old c.args.new c.args.bssid) (λ x found. state_row c.self.inside.rows.items c.self.invariant c.args.bssid x found c.args.old c.args.new) _ c.self.view_is
 
 pub returns-in_default : goal.returns-in_default
 returns-in_default c =

@@ -1,8 +1,8 @@
 use Rattle.std.proofs.Common.{sym, ap, ◌∙◌}
 use Rattle.apd_base.specs.Addr.{bssid_cmp}
 use Rattle.apd_base.proofs.AddrLaws.{bssid_total, bssid_exact}
-use Rattle.apd_table.specs.BssRows.{with_cleared, state_of_rows}
-use Rattle.apd_table.proofs.BssWrites.{sorted_after, rows_are, row, state_cleared, same_cleared, lists_clear, absent_at}
+use Rattle.apd_table.specs.BssRows.{with_cleared}
+use Rattle.apd_table.proofs.BssWrites.{sorted_after, state_after, state_cleared, same_cleared, lists_clear, absent_at}
 use Rattle.apd_base.proofs.RowsMaps.{placed}
 use Rattle.apd_table.proofs.bss_rows.BssRows.clear.Goals as goal
 
@@ -13,12 +13,8 @@ invariant_of-self c =
 
 pub returns-in-Ok : goal.returns-in-Ok
 returns-in-Ok c =
-    let xs = c.self.inside.rows.items in
-    let is = (placed bssid_cmp c.args.bssid c.self.inside.rows.items _ c.deref.ensures.value c.self.invariant _ c.in-Ok.ensures.exact) in
-    let ys = c.clear_at.new.rows.items in
-    let entry = row xs c.self.invariant c.args.bssid c.in-Ok.at is (with_cleared c.args.which) ys in
-    ap state_of_rows (rows_are xs c.self.invariant c.args.bssid c.in-Ok.at is (with_cleared c.args.which) ys c.clear_at.ensures)
-    ∙ state_cleared xs c.self.invariant c.args.bssid entry.0 entry.2 c.args.which ∙ ap (lists_clear c.args.bssid c.args.which) c.self.view_is
+    state_after c.self.inside.rows.items c.self.invariant c.args.bssid c.in-Ok.at (placed bssid_cmp c.args.bssid c.self.inside.rows.items _ c.deref.ensures.value c.self.invariant _ c.in-Ok.ensures.exact)
+    (with_cleared c.args.which) c.clear_at.new.rows.items c.clear_at.ensures (lists_clear c.args.bssid c.args.which) (λ x found. state_cleared c.self.inside.rows.items c.self.invariant c.args.bssid x found c.args.which) _ c.self.view_is
 
 pub returns-in_default : goal.returns-in_default
 returns-in_default c =

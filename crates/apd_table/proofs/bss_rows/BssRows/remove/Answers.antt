@@ -1,8 +1,8 @@
 use Rattle.std.proofs.Common.{sym, ap, ◌∙◌}
 use Rattle.apd_base.specs.Addr.{bssid_cmp}
 use Rattle.apd_base.proofs.AddrLaws.{bssid_total, bssid_exact}
-use Rattle.apd_table.specs.BssRows.{with_removed, state_of_rows}
-use Rattle.apd_table.proofs.BssWrites.{sorted_after, rows_are, row, state_removed, same_removed, lists_without, absent_at}
+use Rattle.apd_table.specs.BssRows.{with_removed}
+use Rattle.apd_table.proofs.BssWrites.{sorted_after, state_after, state_removed, same_removed, lists_without, absent_at}
 use Rattle.apd_base.proofs.RowsMaps.{placed}
 use Rattle.apd_table.proofs.bss_rows.BssRows.remove.Goals as goal
 
@@ -13,12 +13,8 @@ invariant_of-self c =
 
 pub returns-in-Ok : goal.returns-in-Ok
 returns-in-Ok c =
-    let xs = c.self.inside.rows.items in
-    let is = (placed bssid_cmp c.args.bssid c.self.inside.rows.items _ c.deref.ensures.value c.self.invariant _ c.in-Ok.ensures.exact) in
-    let ys = c.remove_at.new.rows.items in
-    let entry = row xs c.self.invariant c.args.bssid c.in-Ok.at is (with_removed c.args.which c.args.addr) ys in
-    ap state_of_rows (rows_are xs c.self.invariant c.args.bssid c.in-Ok.at is (with_removed c.args.which c.args.addr) ys c.remove_at.ensures)
-    ∙ state_removed xs c.self.invariant c.args.bssid entry.0 entry.2 c.args.which c.args.addr ∙ ap (lists_without c.args.bssid c.args.which c.args.addr) c.self.view_is
+    state_after c.self.inside.rows.items c.self.invariant c.args.bssid c.in-Ok.at (placed bssid_cmp c.args.bssid c.self.inside.rows.items _ c.deref.ensures.value c.self.invariant _ c.in-Ok.ensures.exact)
+    (with_removed c.args.which c.args.addr) c.remove_at.new.rows.items c.remove_at.ensures (lists_without c.args.bssid c.args.which c.args.addr) (λ x found. state_removed c.self.inside.rows.items c.self.invariant c.args.bssid x found c.args.which c.args.addr) _ c.self.view_is
 
 pub returns-in_default : goal.returns-in_default
 returns-in_default c =

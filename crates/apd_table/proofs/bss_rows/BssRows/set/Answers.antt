@@ -9,7 +9,7 @@ use Rattle.apd_table.specs.BssRows.{with_policy, state_of_rows}
 use Rattle.apd_table.specs.BssState.{BssState}
 use Rattle.apd_table.specs.Members.{no_members}
 use Rattle.apd_table.specs.declared.members.Members.{Members}
-use Rattle.apd_table.proofs.BssWrites.{sorted_after, rows_are, row, state_set, state_new, policies_with, sorted_new, absent_at, has_place}
+use Rattle.apd_table.proofs.BssWrites.{sorted_after, state_after, state_set, state_new, policies_with, sorted_new, absent_at, has_place}
 use Rattle.apd_base.proofs.RowsMaps.{placed}
 use Rattle.apd_table.proofs.bss_rows.BssRows.set.Goals as goal
 
@@ -20,12 +20,8 @@ invariant_of-self c =
 
 pub returns-in-Ok-clause-ok : goal.returns-in-Ok-clause-ok
 returns-in-Ok-clause-ok c =
-    let xs = c.self.inside.rows.items in
-    let is = (placed bssid_cmp c.args.bssid c.self.inside.rows.items _ c.deref.ensures.value c.self.invariant _ c.in-Ok.ensures.exact) in
-    let ys = c.set_policy_at.new.rows.items in
-    let entry = row xs c.self.invariant c.args.bssid c.in-Ok.at is (with_policy c.args.policy) ys in
-    ap state_of_rows (rows_are xs c.self.invariant c.args.bssid c.in-Ok.at is (with_policy c.args.policy) ys c.set_policy_at.ensures)
-    ∙ state_set xs c.self.invariant c.args.bssid entry.0 entry.2 c.args.policy ∙ ap (policies_with c.args.bssid c.args.policy) c.self.view_is
+    state_after c.self.inside.rows.items c.self.invariant c.args.bssid c.in-Ok.at (placed bssid_cmp c.args.bssid c.self.inside.rows.items _ c.deref.ensures.value c.self.invariant _ c.in-Ok.ensures.exact)
+    (with_policy c.args.policy) c.set_policy_at.new.rows.items c.set_policy_at.ensures (policies_with c.args.bssid c.args.policy) (λ x found. state_set c.self.inside.rows.items c.self.invariant c.args.bssid x found c.args.policy) _ c.self.view_is
 
 pub invariant_of-self-in-Err : goal.invariant_of-self-in-Err
 invariant_of-self-in-Err c =

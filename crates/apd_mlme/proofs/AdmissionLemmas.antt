@@ -1,0 +1,153 @@
+-- Who comes into the table.
+use Rattle.std.proofs.Common.{◌≡◌, suc, Bool, true, false, cond, not, ◌&&◌, List, [], ◌∷◌, Option, Some, None, refl, sym, ap, subst, ◌∙◌, IsSome, arith}
+use Rattle.std.specs.Option.{is_some}
+use Rattle.std.specs.Ordering.{eq_by_cmp}
+use Rattle.std.specs.FinMap as map
+use Rattle.std.specs.FinMap.{get-retain_keys}
+use Rattle.std.proofs.lemmas.Bool.{and_parts, false_from_ne_true}
+use Rattle.std.proofs.lemmas.List.Elements.{All-head, All-tail}
+use Rattle.apd_base.specs.declared.address.Addr.{Addr}
+use Rattle.apd_base.specs.declared.address.Bssid.{Bssid}
+use Rattle.apd_base.specs.declared.station.Aid.{Aid}
+use Rattle.apd_base.specs.declared.station.Policy.{Policy}
+use Rattle.apd_base.specs.declared.station.Station.{Station}
+use Rattle.apd_base.specs.declared.station.Station.TheVariants.{Authenticated}
+use Rattle.apd_base.specs.declared.station.Which.{Which}
+use Rattle.apd_base.specs.Addr.{addr_cmp, bssid_cmp}
+use Rattle.apd_base.specs.State.{State, station_at}
+use Rattle.apd_base.proofs.AddrLaws.{station_exact, same_addr, same_bssid}
+use Rattle.apd_conf.specs.declared.conf.Conf.{Conf}
+use Rattle.apd_frame.specs.Contents.{AssociationRequest, authentication}
+use Rattle.apd_record.specs.Meaning.{put_station, drop_station}
+use Rattle.apd_mlme.specs.declared.association.Kind.{Kind}
+use Rattle.apd_mlme.specs.declared.event.Edit.{Edit}
+use Rattle.apd_base.specs.declared.address.TheConstants.{BROADCAST}
+use Rattle.apd_mlme.specs.laws.Admission.{Asks, HasAsked}
+use Rattle.apd_mlme.specs.laws.Broadcast.{AreFromStations, IsFromStation, NoBroadcastRow}
+use Rattle.apd_mlme.specs.rules.Association.{elsewhere, row_of}
+use Rattle.apd_mlme.specs.rules.Association as rule
+use Rattle.apd_mlme.specs.rules.Configuration.{stays}
+use Rattle.apd_mlme.specs.Happening.{Happening, Heard}
+use Rattle.apd_mlme.specs.rules.{verdict}
+use Rattle.apd_mlme.specs.Run.{run}
+use Rattle.apd_mlme.specs.Verdict.{Verdict}
+use Rattle.apd_mlme.proofs.AssociationLemmas.{cleared, elsewhere_rows, associated_station}
+use Rattle.apd_base.proofs.Cases.{no_value, none_is}
+use Rattle.apd_mlme.proofs.CommandLemmas.{new, edited_under}
+use Rattle.apd_mlme.proofs.DriverLemmas.{is_row, station_put, station_dropped}
+use Rattle.apd_mlme.proofs.ElsewhereLemmas as elsewhere_laws
+use Rattle.apd_mlme.proofs.Shapes as shape
+use Rattle.apd_mlme.proofs.Shapes as shape
+use Rattle.apd_mlme.proofs.Shapes.{Shape, by_shape}
+
+-- no row is new
+abbrev NoneIsNew : State → State → Type 0
+NoneIsNew s new = (c : Bssid) (d : Addr) → station_at s c d ≡ None → station_at new c d ≡ None
+
+-- a row that is put where there was one is not new, and none is by rows that are taken out or kept
+not_put : (t : Bool) (x o : Option Station) → (t ≡ true → IsSome o) → o ≡ None → cond t x o ≡ None
+not_put true x o known none = none_is o none (known refl)
+not_put false x o known none = none
+
+taken_out : (t : Bool) (o : Option Station) → o ≡ None → cond t None o ≡ None
+taken_out true o none = refl
+taken_out false o none = none
+
+kept : (t : Bool) (o : Option Station) → o ≡ None → cond t o None ≡ None
+kept true o none = none
+kept false o none = refl
+
+-- ---- one row
+module _ (s : State) (b : Bssid) (a : Addr) where
+  row_known : IsSome (station_at s b a) → (c : Bssid) (d : Addr) → is_row b a c d ≡ true → IsSome (station_at s c d)
+  row_known known c d here =
+      let parts = and_parts (eq_by_cmp bssid_cmp c b) (eq_by_cmp addr_cmp d a) here in
+      subst IsSome (λ i. station_at s (sym (same_bssid b c parts.0) i) (sym (same_addr a d parts.1) i)) known
+
+  put_back_new : IsSome (station_at s b a) → NoneIsNew s (put_station b a Authenticated s)
+  put_back_new known c d none = station_put s b a Authenticated c d ∙ not_put (is_row b a c d) (Some Authenticated) (station_at s c d) (row_known known c d) none
+
+  dropped_new : NoneIsNew s (drop_station b a s)
+  dropped_new c d none = station_dropped s b a c d ∙ taken_out (is_row b a c d) (station_at s c d) none
+
+-- ---- association: a station with a row
+module _ (s : State) (confs : List Conf) (conf : Conf) (b : Bssid) (kind : Kind) (request : AssociationRequest) where
+  abbrev a : Addr
+  a = request.sender
+
+  cleared_new : NoneIsNew s (cleared s b a)
+  cleared_new c d none =
+      elsewhere_laws.put_backs_station a (elsewhere s b a) s c d
+      ∙ not_put (elsewhere_laws.is_bssid_among c (elsewhere s b a) && eq_by_cmp addr_cmp d a) (Some Authenticated) (station_at s c d)
+      (λ there. (let parts = and_parts (elsewhere_laws.is_bssid_among c (elsewhere s b a)) (eq_by_cmp addr_cmp d a) there in
+      subst (λ x. IsSome (station_at s c x)) (sym (same_addr a d parts.1)) (elsewhere_rows s b a c parts.0)))
+      none
+
+  associated_new : IsSome (station_at s b a) → (aid : Aid) → NoneIsNew s (rule.associated s confs conf b kind request aid).state
+  associated_new known aid c d none =
+      associated_station s confs conf b kind request aid c d
+      ∙ not_put (is_row b a c d) (Some (row_of request aid)) (station_at (cleared s b a) c d) (λ here. none_is (station_at s c d) none (row_known s b a known c d here)) (cleared_new c d none)
+
+-- ---- rows are kept or gone
+kept_new : (s : State) (stay : Bssid × Addr → Bool) (c : Bssid) (d : Addr) → station_at s c d ≡ None → map.get (map.retain_keys s.stations stay) (c, d) ≡ None
+kept_new s stay c d none = get-retain_keys s.stations stay (c, d) (λ x t. ap stay (sym (station_exact (c, d) x t))) ∙ kept (stay (c, d)) (station_at s c d) none
+
+module _ (s : State) (b : Bssid) where
+  edited_new : (w : Which) (edit : Edit) (o : Option Policy) → NoneIsNew s (edited_under s b w edit o).state
+  edited_new w edit None = λ c d none. none
+  edited_new w edit (Some p) = kept_new s (stays (new s b w edit) b p.mode)
+
+-- ---- any event
+module _ (s : State) (confs : List Conf) (c : Bssid) (d : Addr) (none : station_at s c d ≡ None) where
+  shape_admits : (h : Happening) (v : Verdict) → Shape s confs h v → IsSome (station_at v.state c d) → Asks c d h
+  shape_admits h _ shape.silent = none_is _ none
+  shape_admits h _ (shape.told reply there so one) = none_is _ none
+  shape_admits h _ (shape.admitted conf b request there is e) = λ known.
+      elim (is_row b request.sender c d) as (λ t. is_row b request.sender c d ≡ t → IsSome (cond t (Some Authenticated) (station_at s c d)) → Asks c d h) [
+        | true ↦ λ here _.
+            let parts = and_parts (eq_by_cmp bssid_cmp c b) (eq_by_cmp addr_cmp d request.sender) here in
+            (request, sym (same_addr request.sender d parts.1), is ∙ ap (λ x. Heard x (authentication request)) (sym (same_bssid b c parts.0)))
+        | false ↦ λ _ old. none_is (station_at s c d) none old
+      ] refl (subst IsSome (station_put s b request.sender Authenticated c d) known)
+  shape_admits h _ (shape.left b a there own known) = none_is _ (put_back_new s b a known c d none)
+  shape_admits h _ (shape.gone b a there own) = none_is _ (dropped_new s b a c d none)
+  shape_admits h _ (shape.ended b a reason there known) = none_is _ (put_back_new s b a known c d none)
+  shape_admits h _ (shape.dropped b a reason there known) = none_is _ (dropped_new s b a c d none)
+  shape_admits h _ (shape.associated conf b kind request aid there known own) = none_is _ (associated_new s confs conf b kind request known aid c d none)
+  shape_admits h _ (shape.emptied b reason deauth there) = none_is _ (kept_new s (λ key. not (eq_by_cmp bssid_cmp b key.0)) c d none)
+  shape_admits h _ (shape.edited b w edit o there at fits room) = none_is _ (edited_new s b w edit o c d none)
+  shape_admits h _ (shape.restarted conf b there known) = none_is _ (kept_new s (stays s b conf.macaddr_acl) c d none)
+  shape_admits h _ (shape.started conf b accept deny is new) = none_is _ none
+
+  pub verdict_admits : (h : Happening) → IsSome (station_at (verdict s confs h).state c d) → Asks c d h
+  verdict_admits h = by_shape s confs (λ v. IsSome (station_at v.state c d) → Asks c d h) (λ tag answer v asks. asks) h (shape_admits h)
+
+-- ---- runs
+module _ (confs : List Conf) (b : Bssid) (a : Addr) where
+  asked_now : (h : Happening) (hs : List Happening) → Asks b a h → HasAsked b a (h ∷ hs)
+  asked_now h hs asks = (0, h, omega arith, refl, asks)
+
+  asked_later : (h : Happening) (hs : List Happening) → HasAsked b a hs → HasAsked b a (h ∷ hs)
+  asked_later h hs asked = (suc asked.0, asked.1, omega (arith, asked.2), asked.3, asked.4)
+
+  pub run_admits : (hs : List Happening) (s : State) → station_at s b a ≡ None → IsSome (station_at (run s confs hs) b a) → HasAsked b a hs
+  run_admits [] s none known = none_is (station_at s b a) none known
+  run_admits (h ∷ hs) s none known =
+      elim (station_at (verdict s confs h).state b a) as (λ o. station_at (verdict s confs h).state b a ≡ o → HasAsked b a (h ∷ hs)) [
+        | None ↦ λ later. asked_later h hs (run_admits hs (verdict s confs h).state later known)
+        | Some row ↦ λ now. asked_now h hs (verdict_admits s confs b a none h (ap is_some now))
+      ] refl
+
+-- ---- the broadcast address
+nobody_asks : (b : Bssid) (h : Happening) → IsFromStation h → ¬ (Asks b BROADCAST h)
+nobody_asks b h from asks = subst IsFromStation asks.2 from asks.1
+
+pub verdict_broadcast : (s : State) (confs : List Conf) (h : Happening) → IsFromStation h → NoBroadcastRow s → NoBroadcastRow (verdict s confs h).state
+verdict_broadcast s confs h from rows b =
+    let row = station_at (verdict s confs h).state b BROADCAST in
+    no_value row (false_from_ne_true (is_some row) (λ known. nobody_asks b h from (verdict_admits s confs b BROADCAST (rows b) h known)))
+
+pub run_broadcast : (confs : List Conf) (hs : List Happening) (s : State) → AreFromStations hs → NoBroadcastRow s → NoBroadcastRow (run s confs hs)
+run_broadcast confs [] s from rows = rows
+run_broadcast confs (h ∷ hs) s from rows =
+    run_broadcast confs hs (verdict s confs h).state (All-tail IsFromStation h hs from) (verdict_broadcast s confs h (All-head IsFromStation h hs from) rows)

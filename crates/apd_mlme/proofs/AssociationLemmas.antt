@@ -1,0 +1,184 @@
+-- What an association or a reassociation request leaves.
+use Rattle.std.proofs.Common.{◌≡◌, Bool, true, false, cond, not, ◌&&◌, List, [], ◌∷◌, ◌++◌, Option, Some, None, inl, inr, refl, sym, ap, subst, ◌∙◌, IsSome, IsTrue}
+use Rattle.std.specs.Option.{is_some}
+use Rattle.std.specs.Ordering.{eq_by_cmp}
+use Rattle.std.proofs.lemmas.Bool.{and_parts}
+use Rattle.apd_base.specs.declared.address.Addr.{Addr}
+use Rattle.apd_base.specs.declared.address.Bssid.{Bssid}
+use Rattle.apd_base.specs.declared.station.Aid.{Aid}
+use Rattle.apd_base.specs.declared.station.Station.{Station}
+use Rattle.apd_base.specs.declared.station.Station.TheVariants.{Authenticated, Associated}
+use Rattle.apd_base.specs.Addr.{addr_cmp, bssid_cmp}
+use Rattle.apd_base.specs.State.{State, station_at, policy_at, aid_of, aid_at}
+use Rattle.apd_base.proofs.AddrLaws.{addr_total, addr_exact, bssid_total, bssid_exact}
+use Rattle.apd_base.proofs.MapLaws.{one_or_apart, apart, tied}
+use Rattle.apd_conf.specs.declared.conf.Conf.{Conf}
+use Rattle.apd_conf.specs.Confs.{conf_at}
+use Rattle.apd_frame.specs.Contents.{AssociationRequest}
+use Rattle.apd_frame.specs.declared.codes.Status.TheVariants.{Success}
+use Rattle.apd_record.specs.declared.change.Change.TheVariants.{Put}
+use Rattle.apd_record.specs.Meaning.{put_station, meaning_of}
+use Rattle.apd_table.specs.Allowed.{allowed}
+use Rattle.apd_table.specs.Can.{CanPut}
+use Rattle.apd_table.specs.Sound.{Sound, StaySound}
+use Rattle.apd_table.proofs.Denied.{meaning_of-append}
+use Rattle.apd_table.proofs.Put.{sound_put}
+use Rattle.apd_mlme.specs.declared.association.Kind.{Kind}
+use Rattle.apd_mlme.specs.declared.decision.Recipient.TheVariants.{Radio}
+use Rattle.apd_mlme.specs.declared.decision.Out.TheVariants.{Install}
+use Rattle.apd_mlme.specs.rules.Association.{association_response, elsewhere, with_authenticated, put_backs, outs_elsewhere, installation, row_of, associated}
+use Rattle.apd_mlme.specs.rules.Identifiers.{identifier_for}
+use Rattle.apd_mlme.specs.Outs.{sent}
+use Rattle.apd_mlme.specs.Verdict.{Verdict}
+use Rattle.apd_mlme.proofs.DriverLemmas.{is_row, station_put, aid_cond, left_by, left_by-append}
+use Rattle.apd_mlme.proofs.ElsewhereLemmas.{is_bssid_among, among_elsewhere, put_backs_meaning, put_backs_station, HasRows, put_backs_sound, put_backs_stay, elsewhere_driven}
+use Rattle.apd_mlme.proofs.IdentifierLemmas.{is_least_free}
+use Rattle.apd_mlme.proofs.RowLemmas.{Follows}
+use Rattle.apd_base.proofs.Cases.{either, first_false, no_value, none_is, second_false}
+use Rattle.apd_base.proofs.StateLaws.{station_of_aid}
+
+pub three : (t u v : Bool) → t ≡ false → u ≡ true → v ≡ true → ((not t && u) && v) ≡ true
+three true u v e f g = cc
+three false true true e f g = refl
+three false true false e f g = cc
+three false false v e f g = cc
+
+-- ---- at the other BSSIDs
+module _ (s : State) (b : Bssid) (a : Addr) where
+  abbrev pub others : List Bssid
+  others = elsewhere s b a
+
+  -- the state once the station was put back there
+  abbrev pub cleared : State
+  cleared = meaning_of (put_backs a others) s
+
+  pub elsewhere_rows : HasRows s a others
+  elsewhere_rows c among =
+      let parts = and_parts _ _ (and_parts _ _ (sym (among_elsewhere s b a c) ∙ among)).0 in
+      station_of_aid (station_at s c a) parts.1
+
+  not_among : (t u : Bool) → t ≡ true → ((not t && u)) ≡ false
+  not_among true u e = refl
+  not_among false u e = cc
+
+  pub not_here : is_bssid_among b others ≡ false
+  not_here = among_elsewhere s b a b ∙ ap (λ t. t && is_some (policy_at s b)) (not_among (eq_by_cmp bssid_cmp b b) (is_some (aid_at s b a)) (tied bssid_total bssid_exact b))
+
+  pub cleared_here : (d : Addr) → station_at cleared b d ≡ station_at s b d
+  cleared_here d = put_backs_station a others s b d ∙ ap (λ t. cond (t && eq_by_cmp addr_cmp d a) (Some Authenticated) (station_at s b d)) not_here
+
+  pub cleared_aid : (c : Bssid) (d : Addr) → aid_at cleared c d ≡ cond (is_bssid_among c others && eq_by_cmp addr_cmp d a) None (aid_at s c d)
+  cleared_aid c d = ap aid_of (put_backs_station a others s c d) ∙ aid_cond (is_bssid_among c others && eq_by_cmp addr_cmp d a) (Some Authenticated) (station_at s c d)
+
+  pub cleared_sound : Sound s → Sound cleared
+  cleared_sound sound = put_backs_sound a others s elsewhere_rows sound
+
+  -- it is associated nowhere else then
+  pub cleared_elsewhere : Sound s → (c : Bssid) → eq_by_cmp bssid_cmp b c ≡ false → aid_at cleared c a ≡ None
+  cleared_elsewhere sound c other =
+      elim (is_some (aid_at s c a)) as (λ t. is_some (aid_at s c a) ≡ t → aid_at cleared c a ≡ None) [
+        | true ↦ λ e.
+            let known = sound.stations_have_policy c a (station_of_aid (station_at s c a) e) in
+            let among : is_bssid_among c others ≡ true = among_elsewhere s b a c ∙ three (eq_by_cmp bssid_cmp b c) (is_some (aid_at s c a)) (is_some (policy_at s c)) other e known in
+            cleared_aid c a ∙ (λ i. cond (among i && tied addr_total addr_exact a i) None (aid_at s c a))
+        | false ↦ λ e. cleared_aid c a ∙ ap (λ o. cond (is_bssid_among c others && eq_by_cmp addr_cmp a a) None o) (no_value (aid_at s c a) e) ∙ either (is_bssid_among c others && eq_by_cmp addr_cmp a a) None
+      ] refl
+
+  -- an identifier that the station gets is its own, or nobody's
+  pub own_or_free : Sound s → (aid : Aid) (o : Option Station) → station_at s b a ≡ o → identifier_for s b o ≡ Some aid → (c : Addr) → aid_at s b c ≡ Some aid.number → a ≡ c
+  own_or_free sound aid None row is c h = absurd ((is_least_free s b aid is).free c h)
+  own_or_free sound aid (Some Authenticated) row is c h = absurd ((is_least_free s b aid is).free c h)
+  own_or_free sound aid (Some (Associated x)) row is c h =
+      let same : x.aid ≡ aid = cc in
+      sound.distinct b a c aid.number (ap aid_of row ∙ ap (λ (y : Aid). Some y.number) same) h
+
+  -- a station that is associated here keeps its own
+  pub own_kept : (aid : Aid) (o : Option Station) → station_at s b a ≡ o → identifier_for s b o ≡ Some aid → IsSome (aid_at s b a) → aid_at s b a ≡ Some aid.number
+  own_kept aid None row is h = none_is (aid_at s b a) (ap aid_of row) h
+  own_kept aid (Some Authenticated) row is h = none_is (aid_at s b a) (ap aid_of row) h
+  own_kept aid (Some (Associated x)) row is h = let same : x.aid ≡ aid = cc in ap aid_of row ∙ ap (λ (y : Aid). Some y.number) same
+
+-- ---- a request that is accepted
+module _ (s : State) (confs : List Conf) (conf : Conf) (b : Bssid) (kind : Kind) (request : AssociationRequest) (aid : Aid) where
+  abbrev sender : Addr
+  sender = request.sender
+
+  abbrev row : Station
+  row = row_of request aid
+
+  abbrev answered : Verdict
+  answered = associated s confs conf b kind request aid
+
+  abbrev IsItsOwn : Type 0
+  IsItsOwn = identifier_for s b (station_at s b sender) ≡ Some aid
+
+  pub associated_meaning : meaning_of answered.changes s ≡ answered.state
+  associated_meaning =
+      meaning_of-append (put_backs sender (elsewhere s b sender)) (Put b sender row ∷ []) s
+      ∙ ap (put_station b sender row) (put_backs_meaning sender (elsewhere s b sender) s)
+
+  can_put : Sound s → IsSome (station_at s b sender) → IsItsOwn → CanPut (cleared s b sender) b sender row
+  can_put sound known own = record {
+    identified = record {
+      free = λ c h. own_or_free s b sender sound aid (station_at s b sender) refl own c (sym (ap aid_of (cleared_here s b sender c)) ∙ h);
+      alone = λ c h. elim (one_or_apart bssid_total bssid_exact b c) [
+        | inl same ↦ same
+        | inr apart ↦ none_is (aid_at (cleared s b sender) c sender) (cleared_elsewhere s b sender sound c apart) h
+      ];
+    };
+    allowed = subst (λ (t : State). IsSome (policy_at t b) × IsTrue (allowed t b sender)) (sym (put_backs_meaning sender (elsewhere s b sender) s)) (sound.stations_have_policy b sender known, sound.none_denied b sender known);
+    room = inl (subst IsSome (sym (cleared_here s b sender sender)) known);
+  }
+
+  pub associated_sound : Sound s → IsSome (station_at s b sender) → IsItsOwn → StaySound answered.changes s
+  associated_sound sound known own =
+      let before = cleared_sound s b sender sound in
+      put_backs_stay sender (elsewhere s b sender) (Put b sender row ∷ []) s (elsewhere_rows s b sender) sound
+      (before, sound_put (cleared s b sender) b sender row before (can_put sound known own))
+
+  -- the rows and the identifiers afterwards
+  pub associated_station : (c : Bssid) (d : Addr) → station_at answered.state c d ≡ cond (is_row b sender c d) (Some row) (station_at (cleared s b sender) c d)
+  associated_station c d =
+      station_put (record s { stations = with_authenticated sender (elsewhere s b sender) s.stations }) b sender row c d
+      ∙ ap (λ (t : State). cond (is_row b sender c d) (Some row) (station_at t c d)) (sym (put_backs_meaning sender (elsewhere s b sender) s))
+
+  pub associated_aid : (c : Bssid) (d : Addr) → aid_at answered.state c d ≡ cond (is_row b sender c d) (Some aid.number) (aid_at (cleared s b sender) c d)
+  associated_aid c d = ap aid_of (associated_station c d) ∙ aid_cond (is_row b sender c d) (Some row) (station_at (cleared s b sender) c d)
+
+  -- the driver, once the other BSSIDs let the station go
+  module _ (c : Bssid) (configured : IsSome (conf_at confs c)) where
+    let_go : (d : Addr) → left_by c d (outs_elsewhere confs sender (elsewhere s b sender)) (aid_at s c d) ≡ aid_at (cleared s b sender) c d
+    let_go d = elsewhere_driven c sender d confs configured (elsewhere s b sender) (aid_at s c d) ∙ sym (cleared_aid s b sender c d)
+
+    -- where it was associated here, the driver has it already
+    has_it : IsItsOwn → IsSome (aid_at s b sender) → (d : Addr) → aid_at (cleared s b sender) c d ≡ cond (is_row b sender c d) (Some aid.number) (aid_at (cleared s b sender) c d)
+    has_it own known d =
+        let another : is_row b sender c d ≡ false → aid_at (cleared s b sender) c d ≡ cond (is_row b sender c d) (Some aid.number) (aid_at (cleared s b sender) c d) =
+        λ e. sym (ap (λ t. cond t (Some aid.number) (aid_at (cleared s b sender) c d)) e) in
+        elim (one_or_apart bssid_total bssid_exact c b) [
+          | inl here ↦ elim (one_or_apart addr_total addr_exact d sender) [
+            | inl it ↦
+                let now : aid_at (cleared s b sender) c d ≡ Some aid.number =
+                (λ i. aid_at (cleared s b sender) (here i) (it i)) ∙ ap aid_of (cleared_here s b sender sender) ∙ own_kept s b sender aid (station_at s b sender) refl own known in
+                rw now (sym (either (is_row b sender c d) (Some aid.number)))
+            | inr apart ↦ another (second_false (eq_by_cmp bssid_cmp c b) (eq_by_cmp addr_cmp d sender) apart)
+          ]
+          | inr apart ↦ another (first_false (eq_by_cmp bssid_cmp c b) (eq_by_cmp addr_cmp d sender) apart)
+        ]
+
+    installed : IsItsOwn → (d : Addr) → left_by c d (installation s b sender aid) (aid_at (cleared s b sender) c d) ≡ cond (is_row b sender c d) (Some aid.number) (aid_at (cleared s b sender) c d)
+    installed own d =
+        elim (is_some (aid_at s b sender)) as (λ t. is_some (aid_at s b sender) ≡ t → left_by c d (cond t [] ((Radio b, Install sender aid) ∷ [])) (aid_at (cleared s b sender) c d) ≡ cond (is_row b sender c d) (Some aid.number) (aid_at (cleared s b sender) c d)) [
+          | true ↦ λ e. has_it own e d
+          | false ↦ λ e. refl
+        ] refl
+
+    pub associated_follows : IsItsOwn → Follows c s answered
+    associated_follows own d =
+        let gone = outs_elsewhere confs sender (elsewhere s b sender) in
+        let taken_in = installation s b sender aid in
+        left_by-append c d (gone ++ taken_in) (sent (association_response conf b kind sender Success (Some aid)) ∷ []) (aid_at s c d)
+        ∙ left_by-append c d gone taken_in (aid_at s c d)
+        ∙ ap (left_by c d taken_in) (let_go d)
+        ∙ installed own d
+        ∙ sym (associated_aid c d)

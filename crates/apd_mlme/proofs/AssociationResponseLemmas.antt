@@ -1,0 +1,197 @@
+-- What an association or a reassociation response tells its station.
+use Rattle.std.proofs.Common.{◌≡◌, ◌≢◌, ℕ, Bool, true, false, cond, not, ◌&&◌, [], ◌++◌, List, Option, Some, None, inl, inr, refl, sym, ap, subst, ◌∙◌, IsSome}
+use Rattle.std.specs.Option.{is_some}
+use Rattle.std.specs.Ordering.{eq_by_cmp}
+use Rattle.std.proofs.lemmas.Bool.{ltb-true, ltb-false}
+use Rattle.std.proofs.lemmas.Slice.Eq.{bytes_eq-Decides}
+use Rattle.apd_base.specs.declared.address.Addr.{Addr}
+use Rattle.apd_base.specs.declared.address.Bssid.{Bssid}
+use Rattle.apd_base.specs.declared.station.Aid.{Aid}
+use Rattle.apd_base.specs.declared.station.Station.{Station}
+use Rattle.apd_base.specs.declared.station.Station.TheVariants.{Authenticated, Associated}
+use Rattle.apd_base.specs.Addr.{addr_cmp, bssid_cmp}
+use Rattle.apd_base.specs.State.{State, station_at, policy_at, aid_of, aid_at}
+use Rattle.apd_base.proofs.AddrLaws.{addr_total, addr_exact, bssid_total, bssid_exact}
+use Rattle.apd_base.proofs.MapLaws.{one_or_apart, apart, tied}
+use Rattle.apd_conf.specs.declared.conf.Conf.{Conf}
+use Rattle.apd_frame.specs.Contents.{AssociationRequest}
+use Rattle.apd_frame.specs.Elements.{well_formed, first_with}
+use Rattle.apd_frame.specs.declared.codes.Status.{Status}
+use Rattle.apd_frame.specs.declared.codes.Status.TheVariants.{Success}
+use Rattle.apd_frame.specs.declared.element.TheConstants.{SSID, SUPPORTED_RATES}
+use Rattle.apd_table.specs.LeastFree.{IsLeastFree}
+use Rattle.apd_table.specs.Sound.{Sound}
+use Rattle.apd_mlme.specs.declared.association.Kind.{Kind}
+use Rattle.apd_mlme.specs.laws.Association.{IsMember, IsForNetwork, IsDeserved, IsAnsweredTruly, only_authenticated}
+use Rattle.apd_mlme.specs.rules.Association.{is_named, association_refusals, association_status, association_response, elsewhere, outs_elsewhere, installation, row_of, associated, accepted, association_of, association_verdict}
+use Rattle.apd_mlme.specs.rules.Identifiers.{identifier_for}
+use Rattle.apd_mlme.specs.rules.Refusals.{is_success}
+use Rattle.apd_mlme.specs.Verdict.{Verdict, only_sent}
+use Rattle.apd_mlme.proofs.AssociationLemmas.{three, others, cleared, cleared_here, cleared_elsewhere, own_or_free, own_kept, associated_station}
+use Rattle.apd_mlme.proofs.ElsewhereLemmas.{is_bssid_among, among_elsewhere, put_backs_station}
+use Rattle.apd_mlme.proofs.IdentifierLemmas.{is_least_free, identifier_is_there}
+use Rattle.apd_mlme.proofs.RefusalLemmas.{by_lines, status_success}
+use Rattle.apd_base.proofs.Cases.{both_true, differ, either, first_false, none_is, not_false, not_yes, second_false}
+
+-- ---- what is asked
+named_so : (conf : Conf) (o : Option (List ℕ)) → is_named conf o ≡ true → o ≡ Some conf.ssid
+named_so conf None e = cc
+named_so conf (Some ssid) e = ap Some ((bytes_eq-Decides ssid conf.ssid).0 e)
+
+module _ (conf : Conf) (request : AssociationRequest) where
+  -- the reasons to refuse, in the order in which they are looked for
+  abbrev whole : Bool
+  whole = well_formed request.elements
+
+  abbrev named : Bool
+  named = is_named conf (first_with SSID request.elements)
+
+  abbrev rated : Bool
+  rated = is_some (first_with SUPPORTED_RATES request.elements)
+
+  -- what each status says of the request
+  abbrev Deserves : Status → Type 0
+  Deserves = IsDeserved conf request
+
+  pub status_deserved : Deserves (association_status conf request)
+  status_deserved =
+      by_lines Deserves (association_refusals conf request) (
+        λ cut may. differ whole (not_yes whole cut) may.whole,
+        λ is_whole. (
+          λ other may. differ named (not_yes named other) (ap (is_named conf) may.named ∙ (bytes_eq-Decides conf.ssid conf.ssid).1 refl),
+          λ is_named_so. (
+            λ none may. differ rated (not_yes rated none) may.rated,
+            λ is_rated.
+                let may : IsForNetwork conf request = record {
+                  whole = not_false whole is_whole;
+                  named = named_so conf (first_with SSID request.elements) (not_false named is_named_so);
+                  rated = not_false rated is_rated;
+                } in (
+                  λ e. (may, ltb-true conf.max_listen_interval request.listen_interval e),
+                  λ e. (may, ltb-false conf.max_listen_interval request.listen_interval e),
+                ),
+          ),
+        ),
+      )
+
+-- ---- a station's rows at the other BSSIDs
+module _ (s : State) (b : Bssid) (a : Addr) where
+  cleared_as : Sound s → (c : Bssid) → eq_by_cmp bssid_cmp b c ≡ false → (o : Option Station) → station_at s c a ≡ o →
+      cond (is_bssid_among c (others s b a) && eq_by_cmp addr_cmp a a) (Some Authenticated) o ≡ only_authenticated o
+  cleared_as sound c other None at =
+      let none : is_some (aid_at s c a) ≡ false = ap (λ o. is_some (aid_of o)) at in
+      let out : is_bssid_among c (others s b a) ≡ false =
+      among_elsewhere s b a c ∙ first_false (not (eq_by_cmp bssid_cmp b c) && is_some (aid_at s c a)) (is_some (policy_at s c)) (second_false (not (eq_by_cmp bssid_cmp b c)) (is_some (aid_at s c a)) none) in
+      ap (λ t. cond t (Some Authenticated) None) (first_false (is_bssid_among c (others s b a)) (eq_by_cmp addr_cmp a a) out)
+  cleared_as sound c other (Some Authenticated) at = either (is_bssid_among c (others s b a) && eq_by_cmp addr_cmp a a) (Some Authenticated)
+  cleared_as sound c other (Some (Associated x)) at =
+      let known : is_some (aid_at s c a) ≡ true = ap (λ o. is_some (aid_of o)) at in
+      let policy = sound.stations_have_policy c a (ap is_some at) in
+      let among : is_bssid_among c (others s b a) ≡ true = among_elsewhere s b a c ∙ three (eq_by_cmp bssid_cmp b c) (is_some (aid_at s c a)) (is_some (policy_at s c)) other known policy in
+      ap (λ t. cond t (Some Authenticated) (Some (Associated x))) (both_true (is_bssid_among c (others s b a)) (eq_by_cmp addr_cmp a a) among (tied addr_total addr_exact a))
+
+  pub cleared_row : Sound s → (c : Bssid) → eq_by_cmp bssid_cmp b c ≡ false → station_at (cleared s b a) c a ≡ only_authenticated (station_at s c a)
+  cleared_row sound c other = put_backs_station a (others s b a) s c a ∙ cleared_as sound c other (station_at s c a) refl
+
+  pub cleared_others : (c : Bssid) (d : Addr) → d ≢ a → station_at (cleared s b a) c d ≡ station_at s c d
+  cleared_others c d ne =
+      put_backs_station a (others s b a) s c d
+      ∙ ap (λ t. cond t (Some Authenticated) (station_at s c d)) (second_false (is_bssid_among c (others s b a)) (eq_by_cmp addr_cmp d a) (apart addr_total addr_exact d a ne))
+
+-- ---- a request that is accepted
+module _ (s : State) (confs : List Conf) (conf : Conf) (b : Bssid) (kind : Kind) (request : AssociationRequest) (sound : Sound s) (aid : Aid) (own : identifier_for s b (station_at s b request.sender) ≡ Some aid) where
+  abbrev a : Addr
+  a = request.sender
+
+  abbrev answered : Verdict
+  answered = associated s confs conf b kind request aid
+
+  pub row_here : station_at answered.state b a ≡ Some (row_of request aid)
+  row_here =
+      associated_station s confs conf b kind request aid b a
+      ∙ ap (λ t. cond t (Some (row_of request aid)) (station_at (cleared s b a) b a)) (both_true (eq_by_cmp bssid_cmp b b) (eq_by_cmp addr_cmp a a) (tied bssid_total bssid_exact b) (tied addr_total addr_exact a))
+
+  pub row_elsewhere : (c : Bssid) → eq_by_cmp bssid_cmp c b ≡ false → (d : Addr) → station_at answered.state c d ≡ station_at (cleared s b a) c d
+  row_elsewhere c other d =
+      associated_station s confs conf b kind request aid c d
+      ∙ ap (λ t. cond t (Some (row_of request aid)) (station_at (cleared s b a) c d)) (first_false (eq_by_cmp bssid_cmp c b) (eq_by_cmp addr_cmp d a) other)
+
+  row_of_another : (c : Bssid) (d : Addr) → eq_by_cmp addr_cmp d a ≡ false → station_at answered.state c d ≡ station_at (cleared s b a) c d
+  row_of_another c d other =
+      associated_station s confs conf b kind request aid c d
+      ∙ ap (λ t. cond t (Some (row_of request aid)) (station_at (cleared s b a) c d)) (second_false (eq_by_cmp bssid_cmp c b) (eq_by_cmp addr_cmp d a) other)
+
+  member : IsMember answered.state b request aid
+  member = record {
+    row = row_here;
+    nobody_else = λ d h. elim (one_or_apart addr_total addr_exact d a) [
+      | inl same ↦ same
+      | inr other ↦ sym (own_or_free s b a sound aid (station_at s b a) refl own d (sym (ap aid_of (row_of_another b d other ∙ cleared_here s b a d)) ∙ h))
+    ];
+    nowhere_else = λ c h. elim (one_or_apart bssid_total bssid_exact c b) [
+      | inl same ↦ same
+      | inr other ↦ none_is (aid_at answered.state c a) (ap aid_of (row_elsewhere c other a) ∙ cleared_elsewhere s b a sound c (apart bssid_total bssid_exact b c (λ e. differ (eq_by_cmp bssid_cmp c b) other (ap (λ x. eq_by_cmp bssid_cmp x b) (sym e) ∙ tied bssid_total bssid_exact b)))) h
+    ];
+  }
+
+  least_told : aid_at s b a ≡ None → (o : Option Station) → station_at s b a ≡ o → identifier_for s b o ≡ Some aid → IsLeastFree s b aid.number
+  least_told none None at is = is_least_free s b aid is
+  least_told none (Some Authenticated) at is = is_least_free s b aid is
+  least_told none (Some (Associated x)) at is = none_is (aid_at s b a) none (ap (λ o. is_some (aid_of o)) at)
+
+  pub told_accepted : association_status conf request ≡ Success → IsAnsweredTruly s conf b kind request answered
+  told_accepted good = record {
+    status = Success;
+    aid = Some aid;
+    before = outs_elsewhere confs a (elsewhere s b a) ++ installation s b a aid;
+    answer = refl;
+    success = λ _. member;
+    deserved = subst (IsDeserved conf request) good (status_deserved conf request);
+    kept = λ _ known. ap aid_of row_here ∙ sym (own_kept s b a aid (station_at s b a) refl own known);
+    least = λ _ none. least_told none (station_at s b a) refl own;
+    elsewhere = λ _ c ne. row_elsewhere c (apart bssid_total bssid_exact c b ne) a ∙ cleared_row s b a sound c (apart bssid_total bssid_exact b c (λ e. ne (sym e)));
+    refused = λ bad. absurd (bad refl);
+    others = λ c d ne. row_of_another c d (apart addr_total addr_exact d a ne) ∙ cleared_others s b a c d ne;
+    lists = refl;
+    policies = refl;
+  }
+
+-- ---- any request of a station with a row
+pub refuses : (status : Status) → is_success status ≡ false → status ≡ Success → ⊥
+refuses status e h = success_is_not (is_success status) e (ap is_success h)
+  where
+    success_is_not : (t : Bool) → t ≡ false → t ≡ true → ⊥
+    success_is_not t f h = cc
+
+module _ (s : State) (confs : List Conf) (conf : Conf) (b : Bssid) (kind : Kind) (request : AssociationRequest) (sound : Sound s) where
+  told_refused : is_success (association_status conf request) ≡ false → IsAnsweredTruly s conf b kind request (only_sent s (association_response conf b kind request.sender (association_status conf request) None))
+  told_refused bad = record {
+    status = association_status conf request;
+    aid = None;
+    before = [];
+    answer = refl;
+    success = λ good. absurd (refuses (association_status conf request) bad good);
+    deserved = status_deserved conf request;
+    kept = λ good. absurd (refuses (association_status conf request) bad good);
+    least = λ good. absurd (refuses (association_status conf request) bad good);
+    elsewhere = λ good. absurd (refuses (association_status conf request) bad good);
+    refused = λ _. (refl, refl, refl);
+    others = λ c d ne. refl;
+    lists = refl;
+    policies = refl;
+  }
+
+  told_known : association_status conf request ≡ Success → (o : Option Aid) → identifier_for s b (station_at s b request.sender) ≡ o → IsSome o → IsAnsweredTruly s conf b kind request (accepted s confs conf b kind request o)
+  told_known good None is known = cc
+  told_known good (Some aid) is known = told_accepted s confs conf b kind request sound aid is good
+
+  told_row : (o : Option Station) → station_at s b request.sender ≡ o → IsSome o → IsAnsweredTruly s conf b kind request (association_of s confs conf b kind request o)
+  told_row None at known = cc
+  told_row (Some row) at known =
+      elim (is_success (association_status conf request)) as (λ t. is_success (association_status conf request) ≡ t → IsAnsweredTruly s conf b kind request (cond t (accepted s confs conf b kind request (identifier_for s b (Some row))) (only_sent s (association_response conf b kind request.sender (association_status conf request) None)))) [
+        | true ↦ λ e. told_known (status_success (association_status conf request) e) (identifier_for s b (Some row)) (ap (identifier_for s b) at) (identifier_is_there s b sound request.sender (Some row) at refl)
+        | false ↦ λ e. told_refused e
+      ] refl
+
+  pub association_told : IsSome (station_at s b request.sender) → IsAnsweredTruly s conf b kind request (association_verdict s confs conf b kind request)
+  association_told known = told_row (station_at s b request.sender) refl known

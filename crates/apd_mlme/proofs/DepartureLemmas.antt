@@ -1,0 +1,79 @@
+-- What is left of a station that leaves, or was silent for too long.
+use Rattle.std.proofs.Common.{◌≡◌, cond, [], ◌∷◌, ◌++◌, Option, Some, None, refl, sym, ap, ◌∙◌, IsSome}
+use Rattle.std.specs.Option.{is_some}
+use Rattle.apd_base.specs.declared.address.Addr.{Addr}
+use Rattle.apd_base.specs.declared.address.Bssid.{Bssid}
+use Rattle.apd_base.specs.declared.station.Station.{Station}
+use Rattle.apd_base.specs.declared.station.Station.TheVariants.{Authenticated, Associated}
+use Rattle.apd_base.specs.State.{State, station_at, aid_of, aid_at}
+use Rattle.apd_base.proofs.Cases.{none_is}
+use Rattle.apd_record.specs.Meaning.{put_station, drop_station}
+use Rattle.apd_mlme.specs.declared.decision.Recipient.TheVariants.{Radio}
+use Rattle.apd_mlme.specs.declared.decision.Out.TheVariants.{Remove}
+use Rattle.apd_mlme.specs.laws.Association.{only_authenticated}
+use Rattle.apd_mlme.specs.laws.Departure.{IsAlone, IsDisassociated, IsDeauthenticated, IsSilenced}
+use Rattle.apd_mlme.specs.rules.Departure.{disassociation_of, deauthentication_of}
+use Rattle.apd_mlme.specs.rules.Inactivity.{inactivity_of}
+use Rattle.apd_mlme.specs.laws.ManagementFrame.{deauthentication_frame}
+use Rattle.apd_mlme.proofs.DriverLemmas.{other_row, put_row, dropped_row, station_put, station_dropped}
+
+module _ (s : State) (b : Bssid) (a : Addr) where
+  put_back_alone : IsAlone s b a (put_station b a Authenticated s)
+  put_back_alone = record { others = λ c d other. station_put s b a Authenticated c d ∙ other_row b a c d (Some Authenticated) (station_at s c d) other; lists = refl; policies = refl }
+
+  dropped_alone : IsAlone s b a (drop_station b a s)
+  dropped_alone = record { others = λ c d other. station_dropped s b a c d ∙ other_row b a c d None (station_at s c d) other; lists = refl; policies = refl }
+
+  kept_alone : IsAlone s b a s
+  kept_alone = record { others = λ c d other. refl; lists = refl; policies = refl }
+
+  -- a row is one of the three
+  unknown : {A : Type 0} → station_at s b a ≡ None → IsSome (station_at s b a) → A
+  unknown at known = none_is (station_at s b a) at known
+
+  unassociated : {A : Type 0} → aid_at s b a ≡ None → IsSome (aid_at s b a) → A
+  unassociated none known = none_is (aid_at s b a) none known
+
+  pub disassociated : (o : Option Station) → station_at s b a ≡ o → IsSome (station_at s b a) → IsDisassociated s b a (disassociation_of s b a o)
+  disassociated None at known = unknown at known
+  disassociated (Some Authenticated) at known = record {
+    row = at ∙ ap only_authenticated (sym at);
+    associated = unassociated (ap aid_of at);
+    authenticated = λ _. refl;
+    alone = kept_alone;
+  }
+  disassociated (Some (Associated x)) at known = record {
+    row = put_row s b a Authenticated ∙ ap only_authenticated (sym at);
+    associated = λ _. refl;
+    authenticated = λ is. unassociated (ap aid_of is) (ap (λ o. is_some (aid_of o)) at);
+    alone = put_back_alone;
+  }
+
+  pub deauthenticated : (o : Option Station) → station_at s b a ≡ o → IsDeauthenticated s b a (deauthentication_of s b a o)
+  deauthenticated None at = record { row = at; associated = unassociated (ap aid_of at); unassociated = λ _. refl; alone = kept_alone }
+  deauthenticated (Some row) at = record {
+    row = dropped_row s b a;
+    associated = λ known. ap (λ t. cond t ((Radio b, Remove a) ∷ []) []) known;
+    unassociated = λ none. ap (λ o. cond (is_some o) ((Radio b, Remove a) ∷ []) []) none;
+    alone = dropped_alone;
+  }
+
+  pub silenced : (o : Option Station) → station_at s b a ≡ o → IsSilenced s b a (inactivity_of s b a o)
+  silenced None at = record {
+    associated = unassociated (ap aid_of at);
+    authenticated = λ is. unknown at (ap is_some is);
+    unknown = λ _. (at, refl);
+    alone = kept_alone;
+  }
+  silenced (Some Authenticated) at = record {
+    associated = unassociated (ap aid_of at);
+    authenticated = λ _. (dropped_row s b a, ap (λ o. cond (is_some (aid_of o)) ((Radio b, Remove a) ∷ []) [] ++ deauthentication_frame b a 2 ∷ []) at);
+    unknown = λ none. unknown none (ap is_some at);
+    alone = dropped_alone;
+  }
+  silenced (Some (Associated x)) at = record {
+    associated = λ _. (put_row s b a Authenticated, refl);
+    authenticated = λ is. unassociated (ap aid_of is) (ap (λ o. is_some (aid_of o)) at);
+    unknown = λ none. unknown none (ap is_some at);
+    alone = put_back_alone;
+  }

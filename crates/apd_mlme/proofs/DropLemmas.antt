@@ -1,0 +1,149 @@
+-- What it leaves that several stations of a BSSID are dropped, one after the other.
+use Rattle.std.proofs.Common.{◌≡◌, Bool, true, false, cond, not, ◌&&◌, ◌||◌, List, [], ◌∷◌, Option, Some, None, inl, inr, refl, sym, ap, subst, ◌∙◌, IsSome}
+use Rattle.std.specs.List.{flat_map}
+use Rattle.std.specs.Option.{is_some}
+use Rattle.std.specs.Ordering.{eq_by_cmp}
+use Rattle.std.proofs.lemmas.Bool.{and_parts}
+use Rattle.std.specs.FinMap as map
+use Rattle.std.specs.FinMap.{FinMap, get-retain_keys, same_map}
+use Rattle.apd_base.specs.declared.address.Addr.{Addr}
+use Rattle.apd_base.specs.declared.address.Bssid.{Bssid}
+use Rattle.apd_base.specs.declared.station.AclMode.{AclMode}
+use Rattle.apd_base.specs.declared.station.Station.{Station}
+use Rattle.apd_base.specs.Addr.{addr_cmp, bssid_cmp, station_cmp, is_among}
+use Rattle.apd_base.specs.State.{State, station_at, aid_of, aid_at}
+use Rattle.apd_base.proofs.AddrLaws.{bssid_total, bssid_exact, station_total, station_exact, other_way}
+use Rattle.apd_base.proofs.MapLaws.{one_or_apart, tied}
+use Rattle.apd_frame.specs.declared.codes.Reason.{Reason}
+use Rattle.apd_record.specs.Meaning.{meaning_of}
+use Rattle.apd_table.specs.Addresses.{addresses_at}
+use Rattle.apd_table.specs.Allowed.{allowed_in, denied_by}
+use Rattle.apd_table.proofs.AllRows.{among_addresses}
+use Rattle.apd_table.proofs.Denied.{drops, among_denied, denied_among, drops_station}
+use Rattle.apd_mlme.specs.declared.decision.Recipient.{Recipient}
+use Rattle.apd_mlme.specs.declared.decision.Recipient.TheVariants.{Radio}
+use Rattle.apd_mlme.specs.declared.decision.Out.{Out}
+use Rattle.apd_mlme.specs.declared.decision.Out.TheVariants.{Remove}
+use Rattle.apd_mlme.specs.rules.Configuration.{stays}
+use Rattle.apd_mlme.specs.rules.Leaving.{deauthentication, outs_of_drop, removal}
+use Rattle.apd_mlme.specs.Outs.{sent}
+use Rattle.apd_mlme.proofs.DriverLemmas.{aid_cond, is_row, left_by, left_by-append, left_by_removal}
+use Rattle.apd_base.proofs.Cases.{differ, either, none_is}
+
+none_more : (t u : Bool) → t ≡ (t || (u && false))
+none_more true u = refl
+none_more false true = refl
+none_more false false = refl
+
+one_more : (t u e m : Bool) → ((t || (u && e)) || (u && m)) ≡ (t || (u && (e || m)))
+one_more true u e m = refl
+one_more false true e m = refl
+one_more false false e m = refl
+
+pub taken_out : {A : Type 0} (t : Bool) (o : Option A) → cond t None o ≡ None → IsSome o → t ≡ true
+taken_out true o e h = refl
+taken_out false o e h = none_is o e h
+
+module _ (s : State) (b : Bssid) where
+  -- outs for each station that take it out of the driver's map, which has whoever was associated but for some
+  abbrev pub LetsGo : (Addr → List (Recipient × Out)) → Type 0
+  LetsGo outs_of = (a : Addr) (c : Bssid) (d : Addr) (t : Bool) → left_by c d (outs_of a) (cond t None (aid_at s c d)) ≡ cond (t || is_row b a c d) None (aid_at s c d)
+
+  pub removal_lets_go : LetsGo (removal s b)
+  removal_lets_go a c d false = left_by_removal c d s b a
+  removal_lets_go a c d true = elim (is_some (aid_at s b a)) as (λ u. left_by c d (cond u ((Radio b, Remove a) ∷ []) []) None ≡ None) [ true ↦ either (is_row b a c d) None | false ↦ refl ]
+
+  pub drop_lets_go : (reason : Reason) → LetsGo (λ a. outs_of_drop s b a reason)
+  drop_lets_go reason a c d t = left_by-append c d (removal s b a) (sent (deauthentication b a reason) ∷ []) (cond t None (aid_at s c d)) ∙ removal_lets_go a c d t
+
+  -- those of several stations take all of them out
+  all_let_go : (outs_of : Addr → List (Recipient × Out)) → LetsGo outs_of → (as' : List Addr) (c : Bssid) (d : Addr) (t : Bool) →
+      left_by c d (flat_map outs_of as') (cond t None (aid_at s c d)) ≡ cond (t || (eq_by_cmp bssid_cmp c b && is_among d as')) None (aid_at s c d)
+  all_let_go outs_of go [] c d t = ap (λ u. cond u None (aid_at s c d)) (none_more t (eq_by_cmp bssid_cmp c b))
+  all_let_go outs_of go (a ∷ as') c d t =
+      left_by-append c d (outs_of a) (flat_map outs_of as') (cond t None (aid_at s c d))
+      ∙ ap (left_by c d (flat_map outs_of as')) (go a c d t)
+      ∙ all_let_go outs_of go as' c d (t || is_row b a c d)
+      ∙ ap (λ u. cond u None (aid_at s c d)) (one_more t (eq_by_cmp bssid_cmp c b) (eq_by_cmp addr_cmp d a) (is_among d as'))
+
+  -- the rows that a test keeps are those that are left once some stations are dropped
+  abbrev pub Leave : (Bssid × Addr → Bool) → List Addr → Type 0
+  Leave stay as' = (c : Bssid) (d : Addr) → cond (eq_by_cmp bssid_cmp c b && is_among d as') None (station_at s c d) ≡ cond (stay (c, d)) (station_at s c d) None
+
+  module _ (stay : Bssid × Addr → Bool) (as' : List Addr) (leave : Leave stay as') where
+    abbrev kept : FinMap station_cmp Station
+    kept = map.retain_keys s.stations stay
+
+    pub kept_row : (c : Bssid) (d : Addr) → map.get kept (c, d) ≡ cond (stay (c, d)) (station_at s c d) None
+    kept_row c d = get-retain_keys s.stations stay (c, d) (λ x t. ap stay (sym (station_exact (c, d) x t)))
+
+    pub kept_stations : (meaning_of (drops b as') s).stations ≡ kept
+    kept_stations = same_map station_total station_exact _ _ (λ k. drops_station b as' s k.0 k.1 ∙ leave k.0 k.1 ∙ sym (kept_row k.0 k.1))
+
+    pub kept_aid : (c : Bssid) (d : Addr) → aid_of (map.get kept (c, d)) ≡ cond (eq_by_cmp bssid_cmp c b && is_among d as') None (aid_at s c d)
+    kept_aid c d = ap aid_of (kept_row c d ∙ sym (leave c d)) ∙ aid_cond (eq_by_cmp bssid_cmp c b && is_among d as') None (station_at s c d)
+
+    -- who is dropped has no row
+    pub dropped_gone : (d : Addr) → is_among d as' ≡ true → map.get kept (b, d) ≡ None
+    dropped_gone d among =
+        kept_row b d ∙ sym (leave b d) ∙ (λ i. cond (tied bssid_total bssid_exact b i && among i) None (station_at s b d))
+
+    -- and who has no row any more was dropped
+    pub gone_among : (d : Addr) → IsSome (station_at s b d) → map.get kept (b, d) ≡ None → is_among d as' ≡ true
+    gone_among d known gone =
+        (and_parts (eq_by_cmp bssid_cmp b b) (is_among d as') (taken_out (eq_by_cmp bssid_cmp b b && is_among d as') (station_at s b d) (leave b d ∙ sym (kept_row b d) ∙ gone) known)).1
+
+    -- and its driver has not got it
+    pub kept_driver : (outs_of : Addr → List (Recipient × Out)) → LetsGo outs_of → (c : Bssid) (d : Addr) →
+        left_by c d (flat_map outs_of as') (aid_at s c d) ≡ aid_of (map.get kept (c, d))
+    kept_driver outs_of go c d = all_let_go outs_of go as' c d false ∙ sym (kept_aid c d)
+
+  -- ---- those that a mode denies
+  module _ (mode : AclMode) where
+    abbrev denied : List Addr
+    denied = denied_by s b mode
+
+    -- at the BSSID: what is among the denied is gone, and so is what doesn't stay
+    denied_here : (d : Addr) (o : Option Station) → station_at s b d ≡ o → (t : Bool) → allowed_in s b d mode ≡ t → cond (is_among d denied) None o ≡ cond t o None
+    denied_here d o e true allowed =
+        elim (is_among d denied) as (λ m. is_among d denied ≡ m → cond m None o ≡ o) [
+          | true ↦ λ among. differ _ (denied_among s b mode d among).1 allowed
+          | false ↦ λ _. refl
+        ] refl
+    denied_here d None e false refused = elim (is_among d denied) as (λ m. ◌≡◌ {A = Option Station} (cond m None None) None) [ true ↦ refl | false ↦ refl ]
+    denied_here d (Some x) e false refused = ap (λ m. cond m None (Some x)) (among_denied s b mode d x e refused)
+
+    pub denied_leave : Leave (stays s b mode) denied
+    denied_leave c d =
+        elim (one_or_apart bssid_total bssid_exact c b) [
+          | inl same ↦ subst (λ (z : Bssid). cond (eq_by_cmp bssid_cmp z b && is_among d denied) None (station_at s z d) ≡ cond (stays s b mode (z, d)) (station_at s z d) None) (sym same)
+              (ap (λ t. cond (t && is_among d denied) None (station_at s b d)) (tied bssid_total bssid_exact b)
+              ∙ denied_here d (station_at s b d) refl (allowed_in s b d mode) refl
+              ∙ ap (λ t. cond (not t || allowed_in s b d mode) (station_at s b d) None) (sym (tied bssid_total bssid_exact b)))
+          | inr apart ↦ ap (λ t. cond (t && is_among d denied) None (station_at s c d)) apart
+              ∙ ap (λ t. cond (not t || allowed_in s b d mode) (station_at s c d) None) (sym (other_way b c apart))
+        ]
+
+  -- ---- all of them
+  all_here : (d : Addr) (o : Option Station) → station_at s b d ≡ o → cond (is_among d (addresses_at s b)) None o ≡ None
+  all_here d None e = elim (is_among d (addresses_at s b)) as (λ m. ◌≡◌ {A = Option Station} (cond m None None) None) [ true ↦ refl | false ↦ refl ]
+  all_here d (Some x) e = ap (λ m. cond m None (Some x)) (among_addresses s b d x e)
+
+  abbrev pub is_elsewhere : Bssid × Addr → Bool
+  is_elsewhere key = not (eq_by_cmp bssid_cmp b key.0)
+
+  pub all_leave : Leave is_elsewhere (addresses_at s b)
+  all_leave c d =
+      elim (one_or_apart bssid_total bssid_exact c b) [
+        | inl same ↦ subst (λ (z : Bssid). cond (eq_by_cmp bssid_cmp z b && is_among d (addresses_at s b)) None (station_at s z d) ≡ cond (is_elsewhere (z, d)) (station_at s z d) None) (sym same)
+            (ap (λ t. cond (t && is_among d (addresses_at s b)) None (station_at s b d)) (tied bssid_total bssid_exact b)
+            ∙ all_here d (station_at s b d) refl
+            ∙ ap (λ t. cond (not t) (station_at s b d) None) (sym (tied bssid_total bssid_exact b)))
+        | inr apart ↦ ap (λ t. cond (t && is_among d (addresses_at s b)) None (station_at s c d)) apart
+            ∙ ap (λ t. cond (not t) (station_at s c d) None) (sym (other_way b c apart))
+      ]
+
+  pub all_gone : (d : Addr) → map.get (map.retain_keys s.stations is_elsewhere) (b, d) ≡ None
+  all_gone d =
+      kept_row is_elsewhere (addresses_at s b) all_leave b d
+      ∙ ap (λ t. cond (not t) (station_at s b d) None) (tied bssid_total bssid_exact b)

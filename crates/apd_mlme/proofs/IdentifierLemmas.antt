@@ -1,0 +1,206 @@
+-- The least free identifier, and why there is always one for a station that is authenticated and not associated.
+use Rattle.std.proofs.Common.{◌≡◌, ◌≢◌, eq-eqb, ℕ, zero, suc, ◌-◌, ◌<◌, ◌≤◌, Bool, true, false, cond, not, List, [], ◌∷◌, ◌++◌, Option, Some, None, inl, inr, refl, sym, ap, subst, ◌∙◌, IsSome, IfNone, arith}
+use Rattle.std.specs.List.{find}
+use Rattle.std.specs.Option.{is_some}
+use Rattle.std.specs.Ordering.{eq_by_cmp}
+use Rattle.std.specs.FinMap as map
+use Rattle.std.proofs.Math.Nat.{eq-or-lt_of_le}
+use Rattle.std.specs.FinMap.{FinMap, len-remove, get-retain_keys, empty_of_len, get-empty}
+use Rattle.apd_base.specs.declared.address.Addr.{Addr}
+use Rattle.apd_base.specs.declared.address.Bssid.{Bssid}
+use Rattle.apd_base.specs.declared.limits.TheConstants.{MAX_STATIONS}
+use Rattle.apd_base.specs.declared.station.Aid.{Aid}
+use Rattle.apd_base.specs.declared.station.Station.{Station}
+use Rattle.apd_base.specs.declared.station.Station.TheVariants.{Authenticated, Associated}
+use Rattle.apd_base.specs.Addr.{bssid_cmp, station_cmp}
+use Rattle.apd_base.specs.State.{State, station_at, aid_of, aid_at, stations_of}
+use Rattle.apd_base.proofs.AddrLaws.{bssid_total, bssid_exact, station_total, station_exact}
+use Rattle.apd_base.proofs.MapLaws.{one_or_apart, apart, tied, get_remove_other}
+use Rattle.apd_base.proofs.StationLaws.{same_aid}
+use Rattle.apd_table.specs.LeastFree.{IsTaken, IsLeastFree}
+use Rattle.apd_table.specs.Sound.{Sound}
+use Rattle.apd_table.specs.Addresses.{addresses_at}
+use Rattle.apd_table.proofs.AllRows.{any_address}
+use Rattle.apd_mlme.specs.rules.Identifiers.{identifiers_to, identifiers, is_number, is_taken, least_free, identifier_for, one_less, at_least_one, at_most_all}
+use Rattle.apd_base.proofs.Cases.{differ, none_is, not_false, not_yes, same_some, value_of}
+use Rattle.std.proofs.lemmas.Bool.{eqb-true}
+use Rattle.std.proofs.lemmas.List.Folds.{Any-from_list_any}
+use Rattle.apd_base.proofs.StateLaws.{station_of_aid}
+
+-- what is found first among numbers that rise
+find-append_none : {A : Type 0} (p : A → Bool) (xs ys : List A) → find p xs ≡ None → find p (xs ++ ys) ≡ find p ys
+find-append_none p [] ys e = refl
+find-append_none p (x ∷ xs) ys e =
+    elim (p x) as (λ t. cond t (Some x) (find p xs) ≡ None → cond t (Some x) (find p (xs ++ ys)) ≡ find p ys) [
+      | true ↦ λ f. cc
+      | false ↦ λ f. find-append_none p xs ys f
+    ] e
+
+find-append_some : {A : Type 0} (p : A → Bool) (xs ys : List A) (z : A) → find p xs ≡ Some z → find p (xs ++ ys) ≡ Some z
+find-append_some p [] ys z e = cc
+find-append_some p (x ∷ xs) ys z e =
+    elim (p x) as (λ t. cond t (Some x) (find p xs) ≡ Some z → cond t (Some x) (find p (xs ++ ys)) ≡ Some z) [
+      | true ↦ λ f. f
+      | false ↦ λ f. find-append_some p xs ys z f
+    ] e
+
+none_some : (i : ℕ) → None ≡ Some i → ⊥
+none_some i e = cc
+
+number_is : (n : ℕ) (o : Option ℕ) → is_number n o ≡ true → o ≡ Some n
+number_is n None e = cc
+number_is n (Some m) e = ap Some (eqb-true m n e)
+
+module _ (s : State) (b : Bssid) where
+  -- whether an identifier is taken, by look-up
+  taken_of : (aid : Aid) → is_taken s b aid ≡ true → IsTaken s b aid.number
+  taken_of aid e =
+      let one = Any-from_list_any (λ a. is_number aid.number (aid_at s b a)) (addresses_at s b) e in
+      (one.1, number_is aid.number (aid_at s b one.1) one.4)
+
+  free_of : (aid : Aid) → is_taken s b aid ≡ false → (a : Addr) → aid_at s b a ≢ Some aid.number
+  free_of aid e a has =
+      let row = value_of (station_at s b a) (station_of_aid (station_at s b a) (ap is_some has)) in
+      differ _ e (any_address s b (λ c. is_number aid.number (aid_at s b c)) a row.0 row.1 (ap (is_number aid.number) has ∙ eq-eqb aid.number aid.number refl))
+
+  abbrev free : Aid → Bool
+  free aid = not (is_taken s b aid)
+
+  -- none is free: each is some station's; and the one that is found is the least
+  abbrev Scanned : (n : ℕ) → Option Aid → Type 0
+  Scanned n None = (i : ℕ) → 1 ≤ i → i ≤ n → IsTaken s b i
+  Scanned n (Some aid) = IsLeastFree s b aid.number
+
+  one_more : (P : ℕ → Type 0) (n : ℕ) → ((i : ℕ) → 1 ≤ i → i ≤ n → P i) → P (suc n) → (i : ℕ) → 1 ≤ i → i ≤ suc n → P i
+  one_more P n below here i low high =
+      elim (eq-or-lt_of_le high) [
+        | inl same ↦ subst P (sym same) here
+        | inr less ↦ below i low (omega arith)
+      ]
+
+  next_is_free : (n : ℕ) (aid : Aid) → aid.number ≡ suc n → ((i : ℕ) → 1 ≤ i → i ≤ n → IsTaken s b i) → is_taken s b aid ≡ false → IsLeastFree s b aid.number
+  next_is_free n aid is below untaken = record {
+    low = aid.low;
+    high = aid.high;
+    free = free_of aid untaken;
+    smaller = λ j low less. below j low (omega arith);
+  }
+
+  next_scanned : (n : ℕ) (aid : Aid) → aid.number ≡ suc n → ((i : ℕ) → 1 ≤ i → i ≤ n → IsTaken s b i) → Scanned (suc n) (find free (aid ∷ []))
+  next_scanned n aid is below =
+      elim (free aid) as (λ t. free aid ≡ t → Scanned (suc n) (cond t (Some aid) None)) [
+        | true ↦ λ e. next_is_free n aid is below (not_yes _ e)
+        | false ↦ λ e. one_more (IsTaken s b) n below (subst (IsTaken s b) is (taken_of aid (not_false _ e)))
+      ] refl
+
+  scanned : (n : ℕ) (high : n ≤ MAX_STATIONS) → Scanned n (find free (identifiers_to n high))
+  unfolding identifiers_to
+  scanned zero high = λ i low none. absurd (omega arith)
+  scanned (suc n) high =
+      let before = identifiers_to n (one_less n high) in
+      let last : Aid = record { number = suc n; low = at_least_one n; high = high } in
+      elim (find free before) as (λ o. find free before ≡ o → Scanned n o → Scanned (suc n) (find free (before ++ last ∷ []))) [
+        | None ↦ λ e below. subst (Scanned (suc n)) (sym (find-append_none free before (last ∷ []) e)) (next_scanned n last refl below)
+        | Some z ↦ λ e least. subst (Scanned (suc n)) (sym (find-append_some free before (last ∷ []) z e)) least
+      ] refl (scanned n (one_less n high))
+
+  abbrev pub AllTaken : Type 0
+  AllTaken = (i : ℕ) → 1 ≤ i → i ≤ MAX_STATIONS → IsTaken s b i
+
+  least_scanned : Scanned MAX_STATIONS (least_free s b)
+  unfolding identifiers least_free
+  least_scanned = scanned MAX_STATIONS at_most_all
+
+  -- two least ones are one
+  no_less : (i j : ℕ) → IsLeastFree s b i → IsLeastFree s b j → i < j → ⊥
+  no_less i j first second less = (let taken = second.smaller i first.low less in first.free taken.0 taken.1)
+
+  one_least : (i j : ℕ) → IsLeastFree s b i → IsLeastFree s b j → i ≡ j
+  one_least i j first second =
+      let up : ¬ (i < j) = no_less i j first second in
+      let down : ¬ (j < i) = no_less j i second first in
+      omega arith
+
+  pub least_free_is : (aid : Aid) → IsLeastFree s b aid.number → least_free s b ≡ Some aid
+  least_free_is aid least =
+      elim (least_free s b) as (λ o. Scanned MAX_STATIONS o → o ≡ Some aid) [
+        | None ↦ λ taken. (let one = taken aid.number aid.low aid.high in absurd (least.free one.0 one.1))
+        | Some z ↦ λ is. ap Some (same_aid z aid (one_least z.number aid.number is least))
+      ] least_scanned
+
+  pub is_least_free : (aid : Aid) → least_free s b ≡ Some aid → IsLeastFree s b aid.number
+  is_least_free aid e = subst (Scanned MAX_STATIONS) e least_scanned
+
+  -- as many rows as identifiers that are taken
+  positive : (m : FinMap station_cmp Station) (k : Bssid × Addr) → IsSome (map.get m k) → 1 ≤ map.len m
+  positive m k known =
+      elim (map.len m) as (λ n. map.len m ≡ n → 1 ≤ n) [
+        | zero ↦ λ e. absurd (none_is (map.get m k) (ap (λ x. map.get x k) (empty_of_len m e) ∙ get-empty station_cmp k) known)
+        | suc n ↦ λ e. omega arith
+      ] refl
+
+  abbrev Has : FinMap station_cmp Station → ℕ → Type 0
+  Has m i = (a : Addr) × (aid_of (map.get m (b, a)) ≡ Some i)
+
+  still_has : (m : FinMap station_cmp Station) (i j : ℕ) → i < j → (top : Has m j) → Has m i → Has (map.remove m (b, top.0)) i
+  still_has m i j less top one =
+      elim (one_or_apart station_total station_exact (b, one.0) (b, top.0)) [
+        | inl same ↦ (let number : i ≡ j = same_some i j (sym one.1 ∙ ap (λ k. aid_of (map.get m k)) same ∙ top.1) in absurd (omega arith))
+        | inr apart ↦ (one.0, ap aid_of (get_remove_other station_total station_exact m (b, top.0) (b, one.0) apart) ∙ one.1)
+      ]
+
+  as_many : (n : ℕ) (m : FinMap station_cmp Station) → ((i : ℕ) → 1 ≤ i → i ≤ n → Has m i) → n ≤ map.len m
+  as_many zero m has = omega arith
+  as_many (suc n) m has =
+      let top = has (suc n) (omega arith) (omega arith) in
+      let known : IsSome (map.get m (b, top.0)) = station_of_aid _ (ap is_some top.1) in
+      let fewer = len-remove station_total m (b, top.0) ∙ ap (λ t. cond t (map.len m - 1) (map.len m)) known in
+      let some = positive m (b, top.0) known in
+      let rest = as_many n (map.remove m (b, top.0)) (λ i low high. still_has m i (suc n) (omega arith) top (has i low (omega arith))) in
+      omega arith
+
+  kept_row : (a c : Addr) → aid_at s b a ≡ None → (i : ℕ) → aid_at s b c ≡ Some i → aid_of (map.get (map.remove (stations_of s b) (b, a)) (b, c)) ≡ Some i
+  kept_row a c none i taken =
+      elim (one_or_apart station_total station_exact (b, c) (b, a)) [
+        | inl same ↦ (let here : aid_at s b c ≡ aid_at s b a = ap (λ k. aid_of (map.get s.stations k)) same in absurd (none_some i (sym none ∙ sym here ∙ taken)))
+        | inr apart ↦ ap aid_of (get_remove_other station_total station_exact (stations_of s b) (b, a) (b, c) apart
+            ∙ get-retain_keys s.stations (λ k. eq_by_cmp bssid_cmp b k.0) (b, c) (λ x t. ap (λ k. eq_by_cmp bssid_cmp b k.0) (sym (station_exact (b, c) x t)))
+            ∙ ap (λ t. cond t (station_at s b c) None) (tied bssid_total bssid_exact b)) ∙ taken
+      ]
+
+  row_there : (a : Addr) → map.get (stations_of s b) (b, a) ≡ station_at s b a
+  row_there a =
+      get-retain_keys s.stations (λ k. eq_by_cmp bssid_cmp b k.0) (b, a) (λ x t. ap (λ k. eq_by_cmp bssid_cmp b k.0) (sym (station_exact (b, a) x t)))
+      ∙ ap (λ t. cond t (station_at s b a) None) (tied bssid_total bssid_exact b)
+
+  -- a station that has none leaves one: the others are 2006 at most
+  never_all : Sound s → (a : Addr) → IsSome (station_at s b a) → aid_at s b a ≡ None → AllTaken → ⊥
+  never_all sound a known none all =
+      let rows = stations_of s b in
+      let there : IsSome (map.get rows (b, a)) = subst IsSome (sym (row_there a)) known in
+      let fewer = len-remove station_total rows (b, a) ∙ ap (λ t. cond t (map.len rows - 1) (map.len rows)) there in
+      let few = sound.few_stations b in
+      let some = positive rows (b, a) there in
+      let many = as_many MAX_STATIONS (map.remove rows (b, a)) (λ i low high. (let one = all i low high in (one.0, kept_row a one.0 none i one.1))) in
+      omega arith
+
+  pub one_is_free : Sound s → (a : Addr) → IsSome (station_at s b a) → aid_at s b a ≡ None → IsSome (least_free s b)
+  one_is_free sound a known none =
+      elim (least_free s b) as (λ o. Scanned MAX_STATIONS o → IsSome o) [
+        | None ↦ λ all. absurd (never_all sound a known none all)
+        | Some aid ↦ λ _. refl
+      ] least_scanned
+
+  -- a station of the BSSID never lacks an identifier
+  pub identifier_is_there : Sound s → (a : Addr) (o : Option Station) → station_at s b a ≡ o → IsSome o → IsSome (identifier_for s b o)
+  identifier_is_there sound a None row known = cc
+  identifier_is_there sound a (Some Authenticated) row known = one_is_free sound a (ap is_some row) (ap aid_of row)
+  identifier_is_there sound a (Some (Associated x)) row known = refl
+
+  -- what a search for the least free number finds
+  pub one_is_left : Sound s → (a : Addr) → IsSome (station_at s b a) → aid_at s b a ≡ None → (r : Option ℕ) → IfNone r AllTaken → IsSome r
+  one_is_left sound a known none None all = absurd (never_all sound a known none all)
+  one_is_left sound a known none (Some i) all = refl
+
+  pub found_least : (n : ℕ) (aid : Aid) → IsLeastFree s b n → aid.number ≡ n → least_free s b ≡ Some aid
+  found_least n aid least same = least_free_is aid (subst (IsLeastFree s b) (sym same) least)

@@ -1,0 +1,139 @@
+-- How many bytes the records of a verdict have.
+use Rattle.std.proofs.Common.{◌≡◌, arith, ◌*◌, ◌≤◌, Bool, ◌&&◌, not, List, [], ◌∷◌, ◌++◌, Option, Some, None, Result, Ok, Err, IfOk, length, subst}
+use Rattle.std.specs.Option.{is_some}
+use Rattle.std.specs.Ordering.{eq_by_cmp}
+use Rattle.std.specs.FinMap as map
+use Rattle.std.proofs.lemmas.List.{length-append, length-map}
+use Rattle.std.proofs.lemmas.List.Sums.{length-filter, count_by-le-length}
+use Rattle.apd_base.specs.declared.address.Addr.{Addr}
+use Rattle.apd_base.specs.declared.address.Bssid.{Bssid}
+use Rattle.apd_base.specs.declared.station.Aid.{Aid}
+use Rattle.apd_base.specs.declared.station.Policy.{Policy as BssPolicy}
+use Rattle.apd_base.specs.declared.station.Which.{Which}
+use Rattle.apd_base.specs.declared.station.Which.TheVariants.{Accept, Deny}
+use Rattle.apd_base.specs.declared.station.Station.{Station}
+use Rattle.apd_base.specs.declared.station.Station.TheVariants.{Authenticated}
+use Rattle.apd_base.specs.Addr.{bssid_cmp}
+use Rattle.apd_base.specs.State.{State, aid_at, which_number}
+use Rattle.apd_conf.specs.declared.conf.Conf.{Conf}
+use Rattle.apd_conf.specs.Conf.{policy_of}
+use Rattle.apd_conf.specs.ListFile.{IsList}
+use Rattle.apd_frame.specs.declared.codes.Reason.{Reason}
+use Rattle.apd_frame.specs.Contents.{AssociationRequest}
+use Rattle.apd_record.specs.Ranges.{IsChange, AreChanges}
+use Rattle.apd_record.specs.Record.{record_of, records_of}
+use Rattle.apd_record.specs.declared.change.Change.TheVariants.{Put, Drop, ListAdd, Policy}
+use Rattle.apd_record.proofs.Lengths.{records_length-append, records_length-push}
+use Rattle.apd_table.specs.Addresses.{addresses_at}
+use Rattle.apd_table.specs.Allowed.{denied_by}
+use Rattle.apd_table.specs.Sound.{Sound}
+use Rattle.apd_table.proofs.AllRows.{addresses_few, denied_few}
+use Rattle.apd_table.proofs.Denied.{drops}
+use Rattle.apd_table.proofs.SnapshotSize.{each_length, fronts, list_length, policy_length, put_length}
+use Rattle.apd_mlme.specs.declared.decision.Decision.{Decision}
+use Rattle.apd_mlme.specs.declared.decision.TheConstants.{MAX_RECORDS}
+use Rattle.apd_mlme.specs.declared.event.Edit.{Edit}
+use Rattle.apd_mlme.specs.declared.event.Edit.TheVariants.{Add, Remove, Clear}
+use Rattle.apd_mlme.specs.Happening.{Happening}
+use Rattle.apd_mlme.specs.declared.association.Kind.{Kind}
+use Rattle.apd_mlme.specs.rules.Association.{elsewhere, put_backs, row_of}
+use Rattle.apd_mlme.specs.rules.Association as rule
+use Rattle.apd_mlme.specs.rules.Commands.{all_kicked, change_of}
+use Rattle.apd_mlme.specs.Verdict.{Verdict}
+use Rattle.apd_mlme.specs.rules.Configuration.{later_start, first_changes, additions}
+use Rattle.apd_mlme.specs.rules.{verdict, IsFit}
+use Rattle.apd_mlme.proofs.CommandLemmas.{new, edited_under}
+use Rattle.apd_mlme.proofs.Shapes as shape
+use Rattle.apd_mlme.proofs.Shapes.{Shape, by_shape}
+
+-- ---- each record
+drop_length : (b : Bssid) (a : Addr) → IsChange (Drop b a) → length (record_of (Drop b a)) ≡ 13
+drop_length b a known = omega (arith, length-append b.0.0 a.0, known.0.0, known.1.0)
+
+-- that of an edit of a list has no more
+edit_length : (b : Bssid) (w : Which) (edit : Edit) → IsChange (change_of b w edit) → length (record_of (change_of b w edit)) ≤ 14
+edit_length b w (Add a) known = omega (arith, list_length b w a known.0 known.1)
+edit_length b w (Remove a) known = omega (arith, length-append b.0.0 (which_number w ∷ a.0), known.0.0, known.1.0)
+edit_length b w Clear known = omega (arith, length-append b.0.0 (which_number w ∷ []), known.0)
+
+-- ---- several
+put_backs_length : (a : Addr) (bssids : List Bssid) → AreChanges (put_backs a bssids) → length (records_of (put_backs a bssids)) ≡ 20 * length bssids
+put_backs_length a bssids known = each_length (λ c. Put c a Authenticated) 20 (λ c is. put_length c a Authenticated is.0 is.1) bssids known
+
+drops_length : (b : Bssid) (as' : List Addr) → AreChanges (drops b as') → length (records_of (drops b as')) ≡ 13 * length as'
+drops_length b as' known = each_length (λ a. Drop b a) 13 (drop_length b) as' known
+
+additions_length : (b : Bssid) (w : Which) (as' : List Addr) → AreChanges (additions b w as') → length (records_of (additions b w as')) ≡ 14 * length as'
+additions_length b w as' known = each_length (λ a. ListAdd b w a) 14 (λ a is. list_length b w a is.0 is.1) as' known
+
+-- ---- what a verdict has
+none_long : length (records_of []) ≤ MAX_RECORDS
+none_long = omega arith
+
+one_put : (b : Bssid) (a : Addr) (station : Station) → AreChanges (Put b a station ∷ []) → length (records_of (Put b a station ∷ [])) ≤ MAX_RECORDS
+one_put b a station known = omega (arith, put_length b a station known.0.0 known.0.1, length-append (record_of (Put b a station)) [])
+
+one_drop : (b : Bssid) (a : Addr) → AreChanges (Drop b a ∷ []) → length (records_of (Drop b a ∷ [])) ≤ MAX_RECORDS
+one_drop b a known = omega (arith, drop_length b a known.0, length-append (record_of (Drop b a)) [])
+
+-- a verdict whose changes have few enough bytes, where they can be written
+abbrev pub IsShort : Verdict → Type 0
+IsShort v = AreChanges v.changes → length (records_of v.changes) ≤ MAX_RECORDS
+
+module _ (s : State) where
+  later_length : (conf : Conf) (b : Bssid) → Sound s → IsShort (later_start s conf b)
+  later_length conf b sound known =
+      let denied = denied_by s b conf.macaddr_acl in
+      let policy = Policy b (policy_of conf) in
+      let parts = fronts (drops b denied) (policy ∷ []) known in
+      omega (arith, records_length-push (drops b denied) policy, drops_length b denied parts.0, policy_length b (policy_of conf) parts.1.0, denied_few s b conf.macaddr_acl, sound.few_stations b)
+
+  first_length : (conf : Conf) (b : Bssid) (accept deny : List Addr) → IsList accept → IsList deny → AreChanges (first_changes conf b accept deny) → length (records_of (first_changes conf b accept deny)) ≤ MAX_RECORDS
+  first_length conf b accept deny accept_list deny_list known =
+      let policy = Policy b (policy_of conf) in
+      let accepts = additions b Accept accept in
+      let denials = additions b Deny deny in
+      let parts = fronts accepts denials known.1 in
+      omega (arith, length-append (record_of policy) (records_of (accepts ++ denials)), policy_length b (policy_of conf) known.0, records_length-append accepts denials, additions_length b Accept accept parts.0, additions_length b Deny deny parts.1, accept_list.few, deny_list.few)
+
+  -- at most one row at each of the eight BSSIDs
+  associated_length : (confs : List Conf) (conf : Conf) (b : Bssid) (kind : Kind) (request : AssociationRequest) (aid : Aid) → Sound s → IsShort (rule.associated s confs conf b kind request aid)
+  associated_length confs conf b kind request aid sound known =
+      let a = request.sender in
+      let here = Put b a (row_of request aid) in
+      let others = elsewhere s b a in
+      let is_other = λ (c : Bssid). not (eq_by_cmp bssid_cmp b c) && is_some (aid_at s c a) in
+      let parts = fronts (put_backs a others) (here ∷ []) known in
+      let filtered = length-filter is_other (map.keys s.policies) in
+      let fewer = count_by-le-length is_other (map.keys s.policies) in
+      let keys = length-map (map.entries s.policies) (λ row. row.0) in
+      omega (arith, records_length-push (put_backs a others) here, put_backs_length a others parts.0, put_length b a (row_of request aid) parts.1.0.0 parts.1.0.1, filtered, fewer, keys, map.len-entries s.policies, sound.few_bss)
+
+  all_length : (b : Bssid) (reason : Reason) (t : Bool) → Sound s → IsShort (all_kicked s b reason t)
+  all_length b reason t sound known = omega (arith, drops_length b (addresses_at s b) known, addresses_few s b, sound.few_stations b)
+
+  edited_length : (b : Bssid) (w : Which) (edit : Edit) (o : Option BssPolicy) → Sound s → IsShort (edited_under s b w edit o)
+  edited_length b w edit None sound known = omega (arith, edit_length b w edit known.0, length-append (record_of (change_of b w edit)) [])
+  edited_length b w edit (Some p) sound known =
+      let denied = denied_by (new s b w edit) b p.mode in
+      let change = change_of b w edit in
+      let parts = fronts (drops b denied) (change ∷ []) known in
+      omega (arith, records_length-push (drops b denied) change, drops_length b denied parts.0, edit_length b w edit parts.1.0, denied_few (new s b w edit) b p.mode, sound.few_stations b)
+
+  shape_length : (confs : List Conf) (h : Happening) → IsFit s confs h → Sound s → (v : Verdict) → Shape s confs h v → IsShort v
+  shape_length confs h fit sound _ shape.silent known = none_long
+  shape_length confs h fit sound _ (shape.told reply there so one) known = none_long
+  shape_length confs h fit sound _ (shape.admitted conf b request there is e) known = one_put b request.sender Authenticated known
+  shape_length confs h fit sound _ (shape.left b a there own row) known = one_put b a Authenticated known
+  shape_length confs h fit sound _ (shape.gone b a there own) known = one_drop b a known
+  shape_length confs h fit sound _ (shape.ended b a reason there row) known = one_put b a Authenticated known
+  shape_length confs h fit sound _ (shape.dropped b a reason there row) known = one_drop b a known
+  shape_length confs h fit sound _ (shape.associated conf b kind request aid there row own) known = associated_length confs conf b kind request aid sound known
+  shape_length confs h fit sound _ (shape.emptied b reason deauth there) known = all_length b reason deauth sound known
+  shape_length confs h fit sound _ (shape.edited b w edit o there at fits room) known = edited_length b w edit o sound known
+  shape_length confs h fit sound _ (shape.restarted conf b there policy) known = later_length conf b sound known
+  shape_length confs h fit sound _ (shape.started conf b accept deny is new) known = let fits = subst (IsFit s confs) is fit in first_length conf b accept deny fits.2 fits.3 known
+
+pub decided_length : {E : Type 0} (s : State) (confs : List Conf) (h : Happening) (r : Result Decision E) → IsFit s confs h → Sound s → IfOk r (λ d. d.changes ≡ (verdict s confs h).changes) → IfOk r (λ d. AreChanges d.changes) → IfOk r (λ d. length (records_of d.changes) ≤ MAX_RECORDS)
+decided_length s confs h (Ok d) fit sound same known = rw same (by_shape s confs IsShort (λ tag answer v short. short) h (shape_length s confs h fit sound) (subst AreChanges same known))
+decided_length s confs h (Err lack) fit sound same known = tt

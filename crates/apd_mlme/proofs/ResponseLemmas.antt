@@ -1,0 +1,110 @@
+-- The octets of responses.
+use Rattle.std.proofs.Common.{◌≡◌, ℕ, ◌+◌, List, [], ◌∷◌, ◌++◌, Option, Some, None, length, refl, ap, ◌∙◌, IsSome}
+use Rattle.std.specs.Prelude.{IsSomeAnd}
+use Rattle.std.specs.Int.{to_le_bytes, w16, w64}
+use Rattle.apd_base.specs.Number.{AreBytes}
+use Rattle.apd_base.specs.declared.address.Addr.{Addr}
+use Rattle.apd_base.specs.declared.address.Bssid.{Bssid}
+use Rattle.apd_base.specs.declared.station.Aid.{Aid}
+use Rattle.apd_base.specs.State.{State, station_at, aid_of, aid_at}
+use Rattle.apd_conf.specs.declared.conf.Conf.{Conf}
+use Rattle.apd_conf.specs.declared.hw_mode.HwMode.{HwMode}
+use Rattle.apd_conf.specs.declared.hw_mode.HwMode.TheVariants.{A, B, G}
+use Rattle.apd_frame.specs.Contents.{AssociationRequest, ProbeRequest}
+use Rattle.apd_frame.specs.Elements.{octets_of}
+use Rattle.apd_frame.specs.Wire.{aid_field, rates_element, status_code}
+use Rattle.apd_frame.specs.declared.codes.Status.{Status}
+use Rattle.apd_frame.specs.declared.codes.Status.TheVariants.{Success, RefusedReasonUnspecified, NotSupportedAuthAlgorithm, TransactionSequenceError, DeniedNoMoreStas, DeniedListenIntervalTooLarge}
+use Rattle.apd_frame.specs.declared.received.Authentication.{Authentication}
+use Rattle.apd_frame.specs.declared.replies.ReplyBody.TheVariants.{Probe}
+use Rattle.apd_table.specs.Sound.{Sound}
+use Rattle.apd_mlme.specs.declared.association.Kind.{Kind}
+use Rattle.apd_mlme.specs.declared.association.Kind.TheVariants.{Association, Reassociation}
+use Rattle.apd_mlme.specs.declared.decision.Recipient.{Recipient}
+use Rattle.apd_mlme.specs.declared.decision.Out.{Out}
+use Rattle.apd_mlme.specs.laws.Association.{IsMember}
+use Rattle.apd_mlme.specs.rules.Association as rule
+use Rattle.apd_mlme.specs.rules.Association.{association_verdict}
+use Rattle.apd_mlme.specs.rules.Authentication.{auth_verdict}
+use Rattle.apd_mlme.specs.laws.ManagementFrame.{code_of, management_frame, rates_octets, channel_octets}
+use Rattle.apd_mlme.specs.rules.Offer.{rates_in, channel_in}
+use Rattle.apd_mlme.specs.Outs.{sent}
+use Rattle.apd_mlme.specs.rules.ProbeRequest.{probe_verdict}
+use Rattle.apd_mlme.specs.laws.Probe.{IsProbeFor, response_frame}
+use Rattle.apd_mlme.specs.laws.Responses.{authentication_response, association_response, IsAuthenticationAnswered, IsAssociationAnswered}
+use Rattle.apd_mlme.proofs.AssociationResponseLemmas.{association_told}
+use Rattle.apd_mlme.proofs.AuthenticationLemmas.{auth_told}
+use Rattle.apd_mlme.proofs.ProbeLemmas.{probed}
+
+same_code : (status : Status) → status_code status ≡ code_of status
+same_code Success = refl
+same_code RefusedReasonUnspecified = refl
+same_code NotSupportedAuthAlgorithm = refl
+same_code TransactionSequenceError = refl
+same_code DeniedNoMoreStas = refl
+same_code DeniedListenIntervalTooLarge = refl
+
+-- ---- authentication
+pub authentication_answered : (s : State) (conf : Conf) (b : Bssid) (request : Authentication) → IsAuthenticationAnswered s conf b request (auth_verdict s conf b request)
+authentication_answered s conf b request =
+    let told = auth_told s conf b request in
+    record {
+      status = told.status;
+      deserved = told.deserved;
+      frame = told.answer ∙ ap (λ code. authentication_response b request code ∷ []) (same_code told.status);
+    }
+
+-- ---- association
+abbrev pub subtype_of : Kind → ℕ
+subtype_of Association = 1
+subtype_of Reassociation = 3
+
+same_rates : (mode : HwMode) → octets_of (rates_element (rates_in mode) ∷ []) ≡ rates_octets mode
+same_rates A = refl
+same_rates B = refl
+same_rates G = refl
+
+module _ (conf : Conf) (b : Bssid) (a : Addr) (status : Status) (aid : Option Aid) where
+  abbrev with_rates : Kind → List ℕ → Recipient × Out
+  with_rates kind rates = management_frame (subtype_of kind) b a ((1 ∷ 0 ∷ []) ++ to_le_bytes w16 (status_code status) ++ to_le_bytes w16 (aid_field aid) ++ rates)
+
+  same_rated : (kind : Kind) → sent (rule.association_response conf b kind a status aid) ≡ with_rates kind (rates_octets conf.hw_mode)
+  same_rated Association = ap (with_rates Association) (same_rates conf.hw_mode)
+  same_rated Reassociation = ap (with_rates Reassociation) (same_rates conf.hw_mode)
+
+  pub same_response : (kind : Kind) → sent (rule.association_response conf b kind a status aid) ≡ association_response (subtype_of kind) conf b a (code_of status) (aid_field aid)
+  same_response kind = same_rated kind ∙ ap (λ code. association_response (subtype_of kind) conf b a code (aid_field aid)) (same_code status)
+
+identified : (s : State) (b : Bssid) (request : AssociationRequest) (o : Option Aid) → IsSomeAnd o (IsMember s b request) → (n : ℕ) × (aid_field o ≡ 32768 + 16384 + n) × (aid_at s b request.sender ≡ Some n)
+identified s b request None h = absurd h
+identified s b request (Some aid) h = (aid.number, refl, ap aid_of h.row)
+
+module _ (s : State) (confs : List Conf) (conf : Conf) (b : Bssid) (kind : Kind) (request : AssociationRequest) where
+  pub association_answered : Sound s → IsSome (station_at s b request.sender) → IsAssociationAnswered (subtype_of kind) s conf b request (association_verdict s confs conf b kind request)
+  association_answered sound known =
+      let told = association_told s confs conf b kind request sound known in
+      record {
+        status = told.status;
+        deserved = told.deserved;
+        aid_field = aid_field told.aid;
+        before = told.before;
+        frame = told.answer ∙ ap (λ frame. told.before ++ frame ∷ []) (same_response conf b request.sender told.status told.aid kind);
+        accepted = λ good. identified (association_verdict s confs conf b kind request).state b request told.aid (told.success good);
+        refused = λ bad. ap aid_field (told.refused bad).1;
+      }
+
+-- ---- a probe response
+abbrev offered : Conf → Bssid → Addr → HwMode → Recipient × Out
+offered conf b a mode =
+    management_frame 5 b a (
+    to_le_bytes w64 0 ++ to_le_bytes w16 conf.beacon_int ++ (1 ∷ 0 ∷ [])
+    ++ ((0 ∷ length conf.ssid ∷ conf.ssid) ++ (rates_octets mode ++ channel_octets mode conf.channel)))
+
+same_offer : (conf : Conf) (b : Bssid) (a : Addr) (mode : HwMode) →
+    sent (record { to = a; bssid = b; body = Probe conf.beacon_int conf.ssid (rates_in mode) (channel_in mode conf.channel) }) ≡ offered conf b a mode
+same_offer conf b a A = refl
+same_offer conf b a B = refl
+same_offer conf b a G = refl
+
+pub probe_answered : (s : State) (conf : Conf) (b : Bssid) (request : ProbeRequest) → AreBytes request.elements → IsProbeFor conf request.elements → (probe_verdict s conf b request).outs ≡ response_frame conf b request.sender ∷ []
+probe_answered s conf b request bytes is = (probed s conf b request bytes).answered is ∙ ap (λ frame. frame ∷ []) (same_offer conf b request.sender conf.hw_mode)

@@ -1,0 +1,264 @@
+-- What leaves is so in the state after, and goes to a radio that is there.
+use Rattle.std.proofs.Common.{◌≡◌, ◌≢◌, inl, inr, Bool, true, false, cond, not, ◌&&◌, ◌||◌, List, [], ◌∷◌, ◌++◌, Option, Some, None, refl, sym, ap, subst, ◌∙◌, IsSome}
+use Rattle.std.specs.Prelude.{filter}
+use Rattle.std.specs.List.{AllByRecursion, flat_map}
+use Rattle.std.specs.Option.{is_some}
+use Rattle.std.specs.Ordering.{eq_by_cmp}
+use Rattle.std.proofs.lemmas.Bool.{and_parts}
+use Rattle.apd_base.specs.declared.address.Addr.{Addr}
+use Rattle.apd_base.specs.declared.address.Bssid.{Bssid}
+use Rattle.apd_base.specs.declared.station.AclMode.{AclMode}
+use Rattle.apd_base.specs.declared.station.Aid.{Aid}
+use Rattle.apd_base.specs.declared.station.Policy.{Policy}
+use Rattle.apd_base.specs.declared.station.Which.{Which}
+use Rattle.apd_base.specs.declared.station.Station.TheVariants.{Authenticated}
+use Rattle.apd_base.specs.Addr.{addr_cmp, bssid_cmp, is_among}
+use Rattle.apd_base.specs.State.{State, station_at, aid_of, aid_at}
+use Rattle.apd_base.proofs.AddrLaws.{addr_total, addr_exact, other_way}
+use Rattle.apd_base.proofs.MapLaws.{tied}
+use Rattle.apd_conf.specs.declared.conf.Conf.{Conf}
+use Rattle.apd_conf.specs.Confs.{conf_at}
+use Rattle.apd_frame.specs.Contents.{AssociationRequest}
+use Rattle.apd_frame.specs.declared.codes.Reason.{Reason}
+use Rattle.apd_frame.specs.declared.codes.Status.TheVariants.{Success}
+use Rattle.apd_frame.specs.declared.codes.TheConstants.Reason.{UNSPECIFIED}
+use Rattle.apd_frame.specs.declared.replies.Reply.{Reply}
+use Rattle.apd_record.specs.Meaning.{put_station, drop_station}
+use Rattle.apd_table.specs.Addresses.{addresses_at}
+use Rattle.apd_table.specs.Allowed.{denied_by}
+use Rattle.apd_table.specs.Sound.{Sound}
+use Rattle.apd_table.proofs.Denied.{denied_among}
+use Rattle.apd_mlme.specs.declared.association.Kind.{Kind}
+use Rattle.apd_mlme.specs.declared.association.Kind.TheVariants.{Association, Reassociation}
+use Rattle.apd_mlme.specs.declared.decision.Recipient.{Recipient}
+use Rattle.apd_mlme.specs.declared.decision.Recipient.TheVariants.{Radio, Control}
+use Rattle.apd_mlme.specs.declared.decision.Out.{Out}
+use Rattle.apd_mlme.specs.declared.decision.Out.TheVariants.{Install, Remove}
+use Rattle.apd_mlme.specs.declared.event.Edit.{Edit}
+use Rattle.apd_base.specs.declared.address.TheConstants.{BROADCAST}
+use Rattle.apd_mlme.specs.rules.Association.{without_current_ap, association_status, association_response, elsewhere, outs_elsewhere, installation}
+use Rattle.apd_mlme.specs.rules.Association as rule
+use Rattle.apd_mlme.specs.rules.Authentication.{auth_response, auth_status}
+use Rattle.apd_mlme.specs.rules.Commands.{text, farewell, all_kicked}
+use Rattle.apd_mlme.specs.rules.Configuration.{stays, later_start}
+use Rattle.apd_mlme.specs.laws.AssociationEnd.{IsMeant}
+use Rattle.apd_mlme.specs.Happening.{Happening}
+use Rattle.apd_mlme.specs.rules.Identifiers.{identifier_for}
+use Rattle.apd_mlme.specs.rules.Leaving as leaving
+use Rattle.apd_mlme.specs.rules.Leaving.{removal, outs_of_end, outs_of_drop}
+use Rattle.apd_mlme.specs.Outs.{sent}
+use Rattle.apd_mlme.specs.rules.{verdict}
+use Rattle.apd_mlme.specs.laws.Outs.{IsSaidSo, IsSo, AreSo, IsSoToAll, AreSoToAll, IsThere, AreThere}
+use Rattle.apd_mlme.specs.laws.Broadcast.{NoneIsBroadcast, NoBroadcastRow, IsFromStation}
+use Rattle.apd_mlme.specs.Verdict.{Verdict}
+use Rattle.apd_mlme.proofs.AssociationResponseLemmas.{row_here, row_elsewhere}
+use Rattle.apd_mlme.proofs.AssociationLemmas.{cleared_elsewhere}
+use Rattle.apd_mlme.proofs.Shapes as shape
+use Rattle.apd_mlme.proofs.Shapes.{Shape, by_shape}
+use Rattle.apd_mlme.proofs.CommandLemmas.{new, edited_under}
+use Rattle.apd_mlme.proofs.DropLemmas.{all_gone, dropped_gone, denied_leave}
+use Rattle.apd_mlme.proofs.DriverLemmas.{put_row, dropped_row}
+use Rattle.apd_mlme.proofs.ElsewhereLemmas as elsewhere_laws
+use Rattle.apd_mlme.proofs.LaterStartLemmas.{denied_gone}
+use Rattle.apd_base.proofs.Cases.{none_is, second_true}
+
+-- of each in two lists
+pub all_both : {X : Type 0} (P : X → Type 0) (xs ys : List X) → AllByRecursion P xs → AllByRecursion P ys → AllByRecursion P (xs ++ ys)
+all_both P [] ys h k = k
+all_both P (x ∷ xs) ys h k = (h.0, all_both P xs ys h.1 k)
+
+-- of each in a list, what follows from what is so of it
+pub each : {X : Type 0} (P Q : X → Type 0) → ((x : X) → P x → Q x) → (xs : List X) → AllByRecursion P xs → AllByRecursion Q xs
+each P Q f [] h = tt
+each P Q f (x ∷ xs) h = (f x h.0, each P Q f xs h.1)
+
+pub put_back_aid : (s : State) (b : Bssid) (a : Addr) → aid_at (put_station b a Authenticated s) b a ≡ None
+put_back_aid s b a = ap aid_of (put_row s b a Authenticated)
+
+not_here : (t u : Bool) → (not t && u) ≡ true → t ≡ false
+not_here true u e = cc
+not_here false u e = refl
+
+meant_one : (to a : Addr) → to ≢ BROADCAST → IsMeant to a → to ≡ a
+meant_one to a one (inl same) = same
+meant_one to a one (inr all) = absurd (one all)
+
+-- a radio of a configured BSSID, and not whoever gave a command
+abbrev pub IsRadio : List Conf → Recipient × Out → Type 0
+IsRadio confs (Radio b, out) = IsSome (conf_at confs b)
+IsRadio confs (Control, out) = ⊥
+
+-- what leaves over a sound state s is so of the receiver, and where no station has the broadcast address, as E says, of all
+-- that it is meant for; and it goes to a radio
+module _ (s : State) (E : Type 0) (confs : List Conf) where
+  abbrev pub IsRight : State → Recipient × Out → Type 0
+  IsRight new x = (Sound s → IsSo new x) × (Sound s → E → IsSoToAll new x) × IsRadio confs x
+
+  abbrev AreRight : State → List (Recipient × Out) → Type 0
+  AreRight new outs = AllByRecursion (IsRight new) outs
+
+  -- it is the address of one station
+  abbrev IsOne : Addr → Type 0
+  IsOne a = E → a ≢ BROADCAST
+
+  -- a frame whose body says what is so
+  said : (new : State) (reply : Reply) → IsSome (conf_at confs reply.bssid) → (Sound s → IsSaidSo new reply.bssid reply.to reply.body) → IsOne reply.to → IsRight new (sent reply)
+  said new reply there h one = (
+    λ sound. (reply, refl, refl, h sound),
+    λ sound e. (reply, refl, refl, λ a meant. subst (λ x. IsSaidSo new reply.bssid x reply.body) (meant_one reply.to a (one e) meant) (h sound)),
+    there,
+  )
+
+  -- and one whose body says what is so of everyone
+  said_to_all : (new : State) (reply : Reply) → IsSome (conf_at confs reply.bssid) → ((a : Addr) → IsSaidSo new reply.bssid a reply.body) → IsRight new (sent reply)
+  said_to_all new reply there h = (λ _. (reply, refl, refl, h reply.to), λ _ _. (reply, refl, refl, λ a _. h a), there)
+
+  all_right : (new : State) (xs ys : List (Recipient × Out)) → AreRight new xs → AreRight new ys → AreRight new (xs ++ ys)
+  all_right new = all_both (IsRight new)
+
+  row_is_one : (t : State) → (E → NoBroadcastRow t) → (b : Bssid) (a : Addr) → IsSome (station_at t b a) → IsOne a
+  row_is_one t rows b a known e same = none_is (station_at t b a) (ap (λ y. station_at t b y) same ∙ rows e b) known
+
+  -- ---- at a radio that is there
+  module _ (b : Bssid) (there : IsSome (conf_at confs b)) where
+    removed : (new : State) (a : Addr) → (Sound s → aid_at new b a ≡ None) → IsRight new (Radio b, Remove a)
+    removed new a gone = (gone, λ _ _. tt, there)
+
+    -- one row: the station has none in the state after, or is put back
+    module _ (a : Addr) where
+      removal_right : (new : State) → station_at new b a ≡ None → AreRight new (removal s b a)
+      removal_right new gone = elim (is_some (aid_at s b a)) as (λ t. AreRight new (cond t ((Radio b, Remove a) ∷ []) [])) [ true ↦ (removed new a (λ _. ap aid_of gone), tt) | false ↦ tt ]
+
+      drop_right : (new : State) → station_at new b a ≡ None → (reason : Reason) → IsOne a → AreRight new (outs_of_drop s b a reason)
+      drop_right new gone reason one = all_right new (removal s b a) (sent (leaving.deauthentication b a reason) ∷ []) (removal_right new gone) (said new (leaving.deauthentication b a reason) there (λ _. gone) one, tt)
+
+      put_back_right : (reason : Reason) → IsOne a → AreRight (put_station b a Authenticated s) (outs_of_end b a reason)
+      put_back_right reason one =
+          let new = put_station b a Authenticated s in
+          (removed new a (λ _. put_back_aid s b a), (said new (leaving.disassociation b a reason) there (λ _. put_back_aid s b a) one, tt))
+
+    -- several stations have no row in the state after
+    module _ (new : State) where
+      drops_right : (as' : List Addr) → ((d : Addr) → is_among d as' ≡ true → (station_at new b d ≡ None) × IsOne d) → AreRight new (flat_map (λ d. outs_of_drop s b d UNSPECIFIED) as')
+      drops_right [] gone = tt
+      drops_right (d ∷ as') gone =
+          let first = gone d (ap (λ t. t || is_among d as') (tied addr_total addr_exact d)) in
+          all_right new (outs_of_drop s b d UNSPECIFIED) (flat_map (λ x. outs_of_drop s b x UNSPECIFIED) as')
+          (drop_right d new first.0 UNSPECIFIED first.1)
+          (drops_right as' (λ x among. gone x (second_true (eq_by_cmp addr_cmp x d) (is_among x as') among)))
+
+      removals_right : (as' : List Addr) → ((d : Addr) → station_at new b d ≡ None) → AreRight new (flat_map (removal s b) as')
+      removals_right [] gone = tt
+      removals_right (d ∷ as') gone = all_right new (removal s b d) (flat_map (removal s b) as') (removal_right d new (gone d)) (removals_right as' gone)
+
+    -- ---- association
+    module _ (conf : Conf) (kind : Kind) (request : AssociationRequest) (one : IsOne request.sender) (aid : Aid) (own : identifier_for s b (station_at s b request.sender) ≡ Some aid) where
+      abbrev a : Addr
+      a = request.sender
+
+      abbrev answered : Verdict
+      answered = rule.associated s confs conf b kind request aid
+
+      ended : (c : Bssid) → elsewhere_laws.is_bssid_among c (filter (λ x. is_some (conf_at confs x)) (elsewhere s b a)) ≡ true → (Sound s → aid_at answered.state c a ≡ None) × IsSome (conf_at confs c)
+      ended c among =
+          let parts = and_parts _ _ (sym (elsewhere_laws.among-filter (λ x. is_some (conf_at confs x)) c (elsewhere s b a)) ∙ among) in
+          let other = not_here (eq_by_cmp bssid_cmp b c) (is_some (aid_at s c a)) (and_parts _ _ (sym (elsewhere_laws.among_elsewhere s b a c) ∙ parts.1)).0 in
+          (λ sound. ap aid_of (row_elsewhere s confs conf b kind request sound aid own c (other_way c b other) a) ∙ cleared_elsewhere s b a sound c other, parts.0)
+
+      ends_right : (bssids : List Bssid) → ((c : Bssid) → elsewhere_laws.is_bssid_among c bssids ≡ true → (Sound s → aid_at answered.state c a ≡ None) × IsSome (conf_at confs c))
+          → AreRight answered.state (flat_map (λ c. outs_of_end c a UNSPECIFIED) bssids)
+      ends_right [] gone = tt
+      ends_right (x ∷ bssids) gone =
+          let here = gone x (elsewhere_laws.first_among x bssids) in
+          ((here.0, λ _ _. tt, here.1), (said answered.state (leaving.disassociation x a UNSPECIFIED) here.1 here.0 one, ends_right bssids (λ c among. gone c (second_true (eq_by_cmp bssid_cmp c x) (elsewhere_laws.is_bssid_among c bssids) among))))
+
+      aid_here : Sound s → aid_at answered.state b a ≡ Some aid.number
+      aid_here sound = ap aid_of (row_here s confs conf b kind request sound aid own)
+
+      installation_right : AreRight answered.state (installation s b a aid)
+      installation_right = elim (is_some (aid_at s b a)) as (λ t. AreRight answered.state (cond t [] ((Radio b, Install a aid) ∷ []))) [ true ↦ tt | false ↦ ((aid_here, λ _ _. tt, there), tt) ]
+
+      response_right : (k : Kind) → IsRight answered.state (sent (association_response conf b k a Success (Some aid)))
+      response_right Association = said answered.state (association_response conf b Association a Success (Some aid)) there (λ sound _. aid_here sound) one
+      response_right Reassociation = said answered.state (association_response conf b Reassociation a Success (Some aid)) there (λ sound _. aid_here sound) one
+
+      associated_right : AreRight answered.state answered.outs
+      associated_right =
+          all_right answered.state (outs_elsewhere confs a (elsewhere s b a) ++ installation s b a aid) (sent (association_response conf b kind a Success (Some aid)) ∷ [])
+          (all_right answered.state (outs_elsewhere confs a (elsewhere s b a)) (installation s b a aid) (ends_right (filter (λ x. is_some (conf_at confs x)) (elsewhere s b a)) ended) installation_right)
+          (response_right kind, tt)
+
+    -- ---- a start, and control commands
+    denied_is_one : (t : State) → (E → NoBroadcastRow t) → (mode : AclMode) (d : Addr) → is_among d (denied_by t b mode) ≡ true → IsOne d
+    denied_is_one t rows mode d among = let row = (denied_among t b mode d among).0 in row_is_one t rows b d (ap is_some row.1)
+
+    later_right : (E → NoBroadcastRow s) → (conf : Conf) → let v = later_start s conf b in AreRight v.state v.outs
+    later_right rows conf = drops_right (later_start s conf b).state (denied_by s b conf.macaddr_acl) (λ d among. (denied_gone s conf b d among, denied_is_one s rows conf.macaddr_acl d among))
+
+    farewell_right : (new : State) (reason : Reason) (t : Bool) → ((a : Addr) → station_at new b a ≡ None) → IsRight new (sent (farewell b BROADCAST reason t))
+    farewell_right new reason true gone = said_to_all new (leaving.deauthentication b BROADCAST reason) there gone
+    farewell_right new reason false gone = said_to_all new (leaving.disassociation b BROADCAST reason) there (λ a. ap aid_of (gone a))
+
+    all_kicked_right : (reason : Reason) (t : Bool) → let v = all_kicked s b reason t in AreRight v.state v.outs
+    all_kicked_right reason t =
+        let v = all_kicked s b reason t in
+        all_right v.state (flat_map (removal s b) (addresses_at s b)) (sent (farewell b BROADCAST reason t) ∷ [])
+        (removals_right v.state (addresses_at s b) (all_gone s b)) (farewell_right v.state reason t (all_gone s b), tt)
+
+    edited_right : (E → NoBroadcastRow s) → (w : Which) (edit : Edit) (o : Option Policy) → let v = edited_under s b w edit o in AreRight v.state v.outs
+    edited_right rows w edit None = tt
+    edited_right rows w edit (Some p) =
+        let now = new s b w edit in
+        let denied = denied_by now b p.mode in
+        drops_right (edited_under s b w edit (Some p)).state denied
+        (λ d among. (dropped_gone now b (stays now b p.mode) denied (denied_leave now b p.mode) d among, denied_is_one now rows p.mode d among))
+
+-- ---- any event
+module _ (s : State) (confs : List Conf) (h : Happening) where
+  abbrev E : Type 0
+  E = NoneIsBroadcast s h
+
+  from_row : (b : Bssid) (a : Addr) → IsSome (station_at s b a) → E → a ≢ BROADCAST
+  from_row = row_is_one s E confs s (λ nobody. nobody.rows)
+
+  pub shape_right : (v : Verdict) → Shape s confs h v → AllByRecursion (IsRight s E confs v.state) v.outs
+  shape_right _ shape.silent = tt
+  shape_right _ (shape.told reply there so one) = (said s E confs s reply there (λ _. so) one, tt)
+  shape_right _ (shape.admitted conf b request there is e) = (
+    said s E confs (put_station b request.sender Authenticated s) (auth_response b request (auth_status s conf b request)) there
+        (λ _ _. ap is_some (put_row s b request.sender Authenticated)) (λ nobody. subst IsFromStation is nobody.sender),
+    tt,
+  )
+  shape_right _ (shape.left b a there own known) = (removed s E confs b there (put_station b a Authenticated s) a (λ _. put_back_aid s b a), tt)
+  shape_right _ (shape.gone b a there own) = removal_right s E confs b there a (drop_station b a s) (dropped_row s b a)
+  shape_right _ (shape.ended b a reason there known) = put_back_right s E confs b there a reason (from_row b a known)
+  shape_right _ (shape.dropped b a reason there known) = drop_right s E confs b there a (drop_station b a s) (dropped_row s b a) reason (from_row b a known)
+  shape_right _ (shape.associated conf b kind request aid there known own) = associated_right s E confs b there conf kind request (from_row b request.sender known) aid own
+  shape_right _ (shape.emptied b reason deauth there) = all_kicked_right s E confs b there reason deauth
+  shape_right _ (shape.edited b w edit o there at fits room) = edited_right s E confs b there (λ nobody. nobody.rows) w edit o
+  shape_right _ (shape.restarted conf b there known) = later_right s E confs b there (λ nobody. nobody.rows) conf
+  shape_right _ (shape.started conf b accept deny is new) = tt
+
+  -- an answer to a command says nothing of a station, and whoever gave it is there
+  abbrev Is : State → Recipient × Out → Type 0
+  Is new x = (Sound s → IsSo new x) × (Sound s → E → IsSoToAll new x) × IsThere confs x
+
+  radio_there : (x : Recipient × Out) → IsRadio confs x → IsThere confs x
+  radio_there (Radio b, out) there = there
+  radio_there (Control, out) there = absurd there
+
+  verdict_is : AllByRecursion (Is (verdict s confs h).state) (verdict s confs h).outs
+  verdict_is =
+      by_shape s confs (λ v. AllByRecursion (Is v.state) v.outs)
+      (λ tag answer v is. all_both (Is v.state) v.outs (text tag answer ∷ []) is ((λ _. tt, λ _ _. tt, tt), tt)) h
+      (λ v shape. each (IsRight s E confs v.state) (Is v.state) (λ x right. (right.0, right.1, radio_there x right.2)) v.outs (shape_right v shape))
+
+  pub verdict_there : AreThere confs (verdict s confs h).outs
+  verdict_there = each (Is (verdict s confs h).state) (IsThere confs) (λ x is. is.2) (verdict s confs h).outs verdict_is
+
+module _ (s : State) (confs : List Conf) (sound : Sound s) (h : Happening) where
+  pub verdict_so : AreSo (verdict s confs h).state (verdict s confs h).outs
+  verdict_so = each (Is s confs h (verdict s confs h).state) (IsSo (verdict s confs h).state) (λ x is. is.0 sound) (verdict s confs h).outs (verdict_is s confs h)
+
+  pub verdict_so_to_all : NoneIsBroadcast s h → AreSoToAll (verdict s confs h).state (verdict s confs h).outs
+  verdict_so_to_all nobody = each (Is s confs h (verdict s confs h).state) (IsSoToAll (verdict s confs h).state) (λ x is. is.1 sound nobody) (verdict s confs h).outs (verdict_is s confs h)

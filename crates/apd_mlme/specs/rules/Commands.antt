@@ -1,0 +1,129 @@
+-- Control commands (own): stations are sent away, and lists are edited. What stations are told is that of IEEE Std
+-- 802.11-2016, 11.3.4.4 and 11.3.5.8.
+use Rattle.std.specs.Prelude.{ℕ, Bool, not, nat_le, List, [], ◌∷◌, ◌++◌, map, Option, Some, None, codes, if◌then◌else◌}
+use Rattle.std.specs.List.{flat_map}
+use Rattle.std.specs.Ordering.{eq_by_cmp}
+use Rattle.std.specs.FinMap as maps
+use Rattle.std.specs.FinMap.{FinMap}
+use Rattle.apd_base.specs.declared.address.Addr.{Addr}
+use Rattle.apd_base.specs.declared.address.Bssid.{Bssid}
+use Rattle.apd_base.specs.declared.limits.TheConstants.{MAX_LISTED}
+use Rattle.apd_base.specs.declared.station.Policy.{Policy}
+use Rattle.apd_base.specs.declared.station.Station.{Station}
+use Rattle.apd_base.specs.declared.station.Station.TheVariants.{Authenticated, Associated}
+use Rattle.apd_base.specs.declared.station.Which.{Which}
+use Rattle.apd_base.specs.Addr.{addr_cmp, bssid_cmp, station_cmp}
+use Rattle.apd_base.specs.Sets.{contains}
+use Rattle.apd_base.specs.State.{State, station_at, policy_at, list_count}
+use Rattle.apd_frame.specs.declared.codes.Reason.{Reason}
+use Rattle.apd_frame.specs.declared.codes.TheConstants.Reason.{UNSPECIFIED}
+use Rattle.apd_frame.specs.declared.replies.Reply.{Reply}
+use Rattle.apd_record.specs.declared.change.Change.{Change}
+use Rattle.apd_record.specs.declared.change.Change.TheVariants.{Drop, ListAdd, ListDel, ListClear}
+use Rattle.apd_table.specs.Addresses.{addresses_at, denied_after, with_lists_after}
+use Rattle.apd_mlme.specs.declared.answer.Answer.{Answer}
+use Rattle.apd_mlme.specs.declared.answer.Answer.TheVariants.{Done, Refused}
+use Rattle.apd_mlme.specs.declared.decision.Recipient.{Recipient}
+use Rattle.apd_mlme.specs.declared.decision.Recipient.TheVariants.{Control}
+use Rattle.apd_mlme.specs.declared.decision.Out.{Out}
+use Rattle.apd_mlme.specs.declared.decision.Out.TheVariants.{Text}
+use Rattle.apd_mlme.specs.declared.event.Edit.{Edit}
+use Rattle.apd_mlme.specs.declared.event.Edit.TheVariants.{Add, Remove, Clear}
+use Rattle.apd_base.specs.declared.address.TheConstants.{BROADCAST}
+use Rattle.apd_mlme.specs.rules.Configuration.{stays}
+use Rattle.apd_mlme.specs.rules.Leaving.{disassociation, deauthentication, removal, outs_of_end, outs_of_drop, put_back, dropped}
+use Rattle.apd_mlme.specs.Outs.{sent}
+use Rattle.apd_mlme.specs.Verdict.{Verdict, nothing, only_sent}
+
+-- ---- answers
+
+abbrev pub text_of : Answer → List ℕ
+text_of Done = codes "OK\n"
+text_of Refused = codes "FAIL\n"
+
+-- the answer to the command of a tag
+abbrev pub text : ℕ → Answer → Recipient × Out
+text tag answer = (Control, Text tag (text_of answer))
+
+-- the same, and last of all the answer
+abbrev pub answered : ℕ → Answer → Verdict → Verdict
+answered tag answer v = record v { outs = v.outs ++ text tag answer ∷ [] }
+
+-- ---- stations are sent away
+
+-- the frame that they are told by
+abbrev pub farewell : Bssid → Addr → Reason → Bool → Reply
+farewell b to reason deauth = if deauth then deauthentication b to reason else disassociation b to reason
+
+-- by deauthentication: a station with a row has none from then on
+abbrev pub deauthenticated_of : State → Bssid → Addr → Reason → Option Station → Verdict
+deauthenticated_of s b a reason (Some row) = dropped s b a (outs_of_drop s b a reason)
+deauthenticated_of s b a reason None = only_sent s (deauthentication b a reason)
+
+abbrev pub deauthenticated : State → Bssid → Addr → Reason → Verdict
+deauthenticated s b a reason = deauthenticated_of s b a reason (station_at s b a)
+
+-- by disassociation: an associated station is authenticated from then on
+abbrev pub disassociated_of : State → Bssid → Addr → Reason → Option Station → Verdict
+disassociated_of s b a reason (Some (Associated x)) = put_back s b a (outs_of_end b a reason)
+disassociated_of s b a reason (Some Authenticated) = only_sent s (disassociation b a reason)
+disassociated_of s b a reason None = only_sent s (disassociation b a reason)
+
+abbrev pub disassociated : State → Bssid → Addr → Reason → Verdict
+disassociated s b a reason = disassociated_of s b a reason (station_at s b a)
+
+-- all: no station has a row of the BSSID from then on, by either frame, and they are told at once
+abbrev pub all_kicked : State → Bssid → Reason → Bool → Verdict
+all_kicked s b reason deauth =
+    let all = addresses_at s b in
+    record {
+      state = record s { stations = maps.retain_keys s.stations (λ key. not (eq_by_cmp bssid_cmp b key.0)) };
+      changes = map (λ a. Drop b a) all;
+      outs = flat_map (removal s b) all ++ sent (farewell b BROADCAST reason deauth) ∷ [];
+    }
+
+-- the broadcast address stands for all
+abbrev pub kicked : State → Bssid → Addr → Reason → Bool → Verdict
+kicked s b to reason deauth =
+    if eq_by_cmp addr_cmp to BROADCAST then all_kicked s b reason deauth
+    else (if deauth then deauthenticated s b to reason else disassociated s b to reason)
+
+abbrev pub kick_verdict : State → Bssid → Addr → Reason → Bool → ℕ → Verdict
+kick_verdict s b to reason deauth tag = answered tag Done (kicked s b to reason deauth)
+
+-- ---- a list is edited
+
+-- the change that an edit is
+abbrev pub change_of : Bssid → Which → Edit → Change
+change_of b w (Add a) = ListAdd b w a
+change_of b w (Remove a) = ListDel b w a
+change_of b w Clear = ListClear b w
+
+-- the rows that stay under a policy; without one nobody is denied
+abbrev pub left_under : State → Bssid → Option Policy → FinMap station_cmp Station
+left_under s b None = s.stations
+left_under s b (Some policy) = maps.retain_keys s.stations (stays s b policy.mode)
+
+-- the lists are the edited ones, and the rows that the policy denies by them are gone: they are dropped first, in address
+-- order, so that each change leaves a sound state
+abbrev pub edited : State → Bssid → Which → Edit → Verdict
+edited s b w edit =
+    let change = change_of b w edit in
+    let new = with_lists_after change s in
+    let denied = denied_after s b change in
+    record {
+      state = record new { stations = left_under new b (policy_at s b) };
+      changes = map (λ a. Drop b a) denied ++ change ∷ [];
+      outs = flat_map (λ a. outs_of_drop s b a UNSPECIFIED) denied;
+    }
+
+-- an address that is there is not put there again, and a full list takes no new one; one that is not there is not taken
+-- out; and a list is always cleared
+abbrev pub list_edit_verdict : State → Bssid → Which → Edit → ℕ → Verdict
+list_edit_verdict s b w (Add a) tag =
+    if contains s.lists (b, w, a) then answered tag Done (nothing s)
+    else (if nat_le MAX_LISTED (list_count s b w) then answered tag Refused (nothing s)
+    else answered tag Done (edited s b w (Add a)))
+list_edit_verdict s b w (Remove a) tag =
+    if contains s.lists (b, w, a) then answered tag Done (edited s b w (Remove a)) else answered tag Done (nothing s)
+list_edit_verdict s b w Clear tag = answered tag Done (edited s b w Clear)
