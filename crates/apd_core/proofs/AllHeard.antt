@@ -1,5 +1,5 @@
 -- All rows of a table heard at one moment.
-use Rattle.std.proofs.Common.{◌≡◌, ℕ, zero, suc, ◌+◌, ◌<◌, arith, Bool, true, false, cond, ◌&&◌, ◌||◌, List, [], ◌∷◌, length, drop, get_or, map as list_map, Option, Some, None, is_some, IsSome, inl, inr, refl, sym, ap, ◌∙◌, add-one}
+use Rattle.std.proofs.Common.{◌≡◌, ℕ, zero, suc, ◌+◌, ◌<◌, arith, Bool, true, false, cond, ◌&&◌, ◌||◌, List, [], ◌∷◌, length, drop, get_or, map as list_map, Option, Some, None, is_some, IsSome, refl, sym, ap, ◌∙◌, add-one}
 use Rattle.std.proofs.Math.Seq.{drop-cons}
 use Rattle.std.proofs.lemmas.Bool.{and_parts}
 use Rattle.std.proofs.lemmas.List.{length-map}
@@ -16,8 +16,8 @@ use Rattle.apd_base.specs.declared.address.Bssid.{Bssid}
 use Rattle.apd_base.specs.declared.moment.Moment.{Moment}
 use Rattle.apd_base.specs.declared.station.Policy.{Policy}
 use Rattle.apd_base.specs.declared.station.Station.{Station}
-use Rattle.apd_base.proofs.AddrLaws.{addr_total, addr_exact, bssid_total, bssid_exact, station_total, station_exact}
-use Rattle.apd_base.proofs.MapLaws.{any_passes, one_or_apart, passes_any, tied}
+use Rattle.apd_base.proofs.AddrLaws.{bssid_total, bssid_exact, same_addr, same_bssid, station_total, station_exact}
+use Rattle.apd_base.proofs.MapLaws.{any_passes, passes_any, tied}
 use Rattle.apd_table.specs.Addresses.{addresses_at}
 use Rattle.apd_table.specs.Rows as rows
 use Rattle.apd_table.specs.Sound.{Sound}
@@ -77,20 +77,14 @@ module _ (m : Moment) where
     all_heard [] heard = heard
     all_heard (b ∷ bs) heard = all_heard bs (heard_at m b (addresses_at s b) heard)
 
-    same_bssid : (b c : Bssid) → eq_by_cmp bssid_cmp b c ≡ true → b ≡ c
-    same_bssid b c e = elim (one_or_apart bssid_total bssid_exact b c) [ inl same ↦ same | inr apart ↦ cc ]
-
-    same_addr : (a d : Addr) → eq_by_cmp addr_cmp a d ≡ true → a ≡ d
-    same_addr a d e = elim (one_or_apart addr_total addr_exact a d) [ inl same ↦ same | inr apart ↦ cc ]
-
     -- an address among those of a BSSID has a row there
     has_row : (b : Bssid) (a : Addr) → is_among a (addresses_at s b) ≡ true → is_some (station_at s b a) ≡ true
     has_row b a among =
         let found = any_passes station_total station_exact (λ row. rows.is_row_of b row && eq_by_cmp addr_cmp a row.0.1) s.stations
         (sym (any_mapped (eq_by_cmp addr_cmp a) (λ row. row.0.1) (rows.is_row_of b) (maps.entries s.stations)) ∙ among) in
         let test = and_parts (eq_by_cmp bssid_cmp b (found.0).0) (eq_by_cmp addr_cmp a (found.0).1) found.3 in
-        let bssid : b ≡ (found.0).0 = same_bssid b (found.0).0 test.0 in
-        let addr : a ≡ (found.0).1 = same_addr a (found.0).1 test.1 in
+        let bssid : b ≡ (found.0).0 = same_bssid (found.0).0 b test.0 in
+        let addr : a ≡ (found.0).1 = same_addr (found.0).1 a test.1 in
         ap is_some ((λ i. station_at s (bssid i) (addr i)) ∙ found.2)
 
     as_among : (t : Bool) (o : Option Station) → ((x : Station) → o ≡ Some x → t ≡ true) → (t ≡ true → is_some o ≡ true) → t ≡ is_some o
@@ -117,7 +111,7 @@ module _ (m : Moment) where
         get-all_heard bs (heard_at m b (addresses_at s b) heard) c d
         ∙ ap (λ o. cond (later && row) (Some m) o) (get-heard_at b (addresses_at s b) heard c d)
         ∙ of_either (eq_by_cmp bssid_cmp c b) later (is_among d (addresses_at s b)) row (maps.get heard (c, d))
-        (λ same. among_rows b d ∙ ap (λ e. is_some (station_at s e d)) (sym (same_bssid c b same)))
+        (λ same. among_rows b d ∙ ap (λ e. is_some (station_at s e d)) (sym (same_bssid b c same)))
 
     has_key : (b : Bssid) (o : Option Policy) → policy_at s b ≡ o → IsSome o → list_any (eq_by_cmp bssid_cmp b) (maps.keys s.policies) ≡ true
     has_key b None is some = cc

@@ -7,8 +7,8 @@ use Rattle.std.specs.Ordering.{eq_by_cmp}
 use Rattle.std.proofs.lemmas.Bool.{lt-ltb, le-ltb, cases_lt}
 use Rattle.apd_base.specs.Addr.{bssid_cmp}
 use Rattle.apd_base.specs.declared.address.Bssid.{Bssid}
-use Rattle.apd_base.proofs.AddrLaws.{bssid_total, bssid_exact}
-use Rattle.apd_base.proofs.MapLaws.{one_or_apart, tied}
+use Rattle.apd_base.proofs.AddrLaws.{bssid_total, bssid_exact, same_bssid}
+use Rattle.apd_base.proofs.MapLaws.{tied}
 use Rattle.apd_conf.specs.declared.conf.Conf.{Conf}
 use Rattle.apd_conf.specs.Confs.{conf_at}
 use Rattle.apd_mlme.specs.declared.decision.Recipient.{Recipient}
@@ -32,9 +32,6 @@ not_first o i z e =
     let is : i ≡ m.0 + 1 = m.2 in
     omega arith
 
-one : (b c : Bssid) → eq_by_cmp bssid_cmp b c ≡ true → b ≡ c
-one b c e = elim (one_or_apart bssid_total bssid_exact b c) [ inl is ↦ is | inr f ↦ cc ]
-
 pub place_below : (confs : List Conf) (b : Bssid) (i : ℕ) → radio_place confs b ≡ Some i → i < length confs
 place_below [] b i e = cc
 place_below (c ∷ cs) b i e =
@@ -49,7 +46,7 @@ same_place (x ∷ xs) b c i e f =
     elim (eq_by_cmp bssid_cmp b x.bssid) as (λ s. eq_by_cmp bssid_cmp b x.bssid ≡ s → cond s (Some 0) (next (radio_place xs b)) ≡ Some i → eq_by_cmp bssid_cmp b c ≡ true) [
       | true ↦ λ p e'.
           elim (eq_by_cmp bssid_cmp c x.bssid) as (λ t. eq_by_cmp bssid_cmp c x.bssid ≡ t → cond t (Some 0) (next (radio_place xs c)) ≡ Some i → eq_by_cmp bssid_cmp b c ≡ true) [
-            | true ↦ λ q f'. subst (λ (z : Bssid). eq_by_cmp bssid_cmp b z ≡ true) (one b x.bssid p ∙ sym (one c x.bssid q)) (tied bssid_total bssid_exact b)
+            | true ↦ λ q f'. subst (λ (z : Bssid). eq_by_cmp bssid_cmp b z ≡ true) (same_bssid x.bssid b p ∙ sym (same_bssid x.bssid c q)) (tied bssid_total bssid_exact b)
             | false ↦ λ q f'. absurd (not_first (radio_place xs c) i e' f')
           ] refl f
       | false ↦ λ p e'.
@@ -92,7 +89,7 @@ queue_place_below confs Control i e = let z : length confs ≡ i = cc in omega a
 
 -- two recipients have one place exactly where they are one
 pub same_recipient : (confs : List Conf) (r q : Recipient) → is_same r q ≡ true → queue_place confs r ≡ queue_place confs q
-same_recipient confs (Radio b) (Radio c) e = ap (radio_place confs) (one b c e)
+same_recipient confs (Radio b) (Radio c) e = ap (radio_place confs) (same_bssid c b e)
 same_recipient confs (Radio b) Control e = cc
 same_recipient confs Control (Radio c) e = cc
 same_recipient confs Control Control e = refl

@@ -117,13 +117,14 @@ abbrev pub accepted : CoreState → Moment → Input → Accepted
 accepted s m i =
     if is_stopped s then Stopped else if is_busy s then Busy else answer_to s m i (happening_of s.confs s.heard m i)
 
--- the core is neither stopped nor busy, and there is a verdict on what happens by a request
+-- the core is neither stopped nor busy, and there is a verdict on what happens by a request, by which something changes or leaves
 pub record IsDecided (s : CoreState) (m : Moment) (i : Input) : Type 0 where
   pub going : is_stopped s ≡ false
   pub free : is_busy s ≡ false
   pub happens : Happening
   pub asked : happening_of s.confs s.heard m i ≡ Ok happens
   pub fit : unfit (front_of s) s.confs happens ≡ None
+  pub some : is_nothing (verdict (front_of s) s.confs happens) ≡ false
 
 -- an entry more: the verdict on the state after all entries; the rows that it puts were heard at its moment
 abbrev pub with_entry : CoreState → Moment → Happening → CoreState

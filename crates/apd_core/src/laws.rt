@@ -1,15 +1,16 @@
 //! What a reader may rely on, whatever a core is asked: each law is the contract of a function that does
 //! nothing.
-ghost use Rattle.std.specs.Prelude.{◌≡◌, ◌++◌, ◌↔◌, ◌⊎◌, ℕ, List, None, Some, false, IsTrue};
+ghost use Rattle.std.specs.Prelude.{◌≡◌, ◌≤◌, ◌++◌, ◌↔◌, ◌⊎◌, ℕ, List, None, Some, false, IsTrue};
 ghost use Rattle.apd_base.specs.declared.address.Addr.{Addr};
 ghost use Rattle.apd_base.specs.declared.address.Bssid.{Bssid};
 ghost use Rattle.apd_base.specs.declared.moment.Moment.{Moment};
 ghost use Rattle.apd_conf.specs.declared.conf.Conf.{Conf};
+ghost use Rattle.apd_journal.specs.declared.batch.Batch.{Batch};
 ghost use Rattle.apd_mlme.specs.declared.decision.Recipient.{Recipient};
 ghost use Rattle.apd_mlme.specs.Outs.{is_same};
 ghost use Rattle.apd_mlme.specs.Run.{outs_run, run};
 ghost use Rattle.apd_table.specs.Sound.{Sound};
-ghost use Rattle.apd_core.specs.Core.{CoreState, accepted, after_request, entered_by, front_of, handed, held_for, is_kept, published, ready_for, IsOwed, IsUnsettled};
+ghost use Rattle.apd_core.specs.Core.{CoreState, accepted, after_request, entered_by, front_of, handed, held_for, is_kept, published, ready_for, IsOwed, IsTaken, IsUnsettled};
 ghost use Rattle.apd_core.specs.Heard.{LastHeard, due};
 ghost use Rattle.apd_core.specs.Invariant.{IsCore};
 ghost use Rattle.apd_core.specs.Noted.{AreNoted};
@@ -53,6 +54,18 @@ pub fn an_entry_is_held()
 pub fn settling_gives_nothing()
     ensures front { (s : CoreState) → IsCore s → front_of (published s) ≡ front_of s }
     ensures held { (s : CoreState) (r : Recipient) → IsCore s → held_for r (published s) ≡ held_for r s }
+{}
+
+/// Taking a batch changes neither the table after all entries nor what is held.
+pub fn taking_gives_nothing()
+    ensures front { (batch : Batch) (old new : CoreState) → IsTaken batch old new → front_of new ≡ front_of old }
+    ensures held { (batch : Batch) (old new : CoreState) (r : Recipient) → IsTaken batch old new
+        → held_for r new ≡ held_for r old }
+{}
+
+/// An out was given only of a settled entry.
+pub fn what_was_given_is_settled()
+    ensures { (s : CoreState) → IsCore s → s.held.given ≤ s.number }
 {}
 
 /// What a recipient is given and what is held for it then is what was held for it; what is held for another

@@ -7,6 +7,7 @@ ghost use Rattle.apd_table.specs.Sound.{Sound, StaySound};
 ghost use Rattle.apd_mlme.specs.Happening.{happening};
 ghost use Rattle.apd_mlme.specs.rules.{verdict, IsFit};
 ghost use Rattle.apd_mlme.specs.laws.Outs.{AreThere};
+ghost use Rattle.apd_mlme.specs.Verdict.{is_nothing};
 ghost use Rattle.std.specs.List.{AllByRecursion};
 ghost use Rattle.std.specs.FinMap as map;
 ghost use Rattle.std.specs.Option.{option_map};
@@ -167,8 +168,7 @@ impl Core {
     }
 
     /// Accepts a request at a moment: the first answer that holds. Only an entry changes anything but when
-    /// stations were heard. Where memory is refused all is as it was; it takes memory only where there is a
-    /// verdict on what happens by the request.
+    /// stations were heard. Where memory is refused all is as it was; it takes memory only for an entry.
     pub fn accept<'a>(
         &mut self,
         input: Input<'a>,
@@ -214,6 +214,8 @@ impl Core {
             (λ answer. AreFit (front_of self.old) self.old.confs (entered_by answer (Ok (happening event.entry)))) }
         ensures err { OnErr result (self.new ≡ self.old) }
         ensures lacks { OnErr result (unfit (front_of self.old) self.old.confs (happening event.entry) ≡ None) }
+        ensures something { OnErr result
+            (is_nothing (verdict (front_of self.old) self.old.confs (happening event.entry)) ≡ false) }
     {
         match unfit(self.front(), &self.confs, event) {
             Some(reason) => return Ok(Accepted::Quiet(reason)),

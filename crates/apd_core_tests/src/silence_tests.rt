@@ -56,7 +56,7 @@ fn silent(alloc: Global, stations: u16) -> Option<((Told, Told, Told), Key)> {
 #[test]
 fn a_tick_names_the_only_silent_station(rt: HostRuntime) {
     let told = (("nothing", 0), ("entry", 1), ("nothing", 0));
-    assert_eq!(rt; silent(rt.alloc(), 200), Some((told, key_of(8, 199))));
+    assert_eq!(rt; silent(rt.alloc(), 2007), Some((told, key_of(8, 2006))));
 }
 
 // The station is heard at 0, at 10 and at 5: it is silent for 300 seconds at 300,005.

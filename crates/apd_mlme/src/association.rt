@@ -1,10 +1,11 @@
 //! The answer to an association or a reassociation request (IEEE Std 802.11-2016, 11.3.5.3 and 11.3.5.5).
-ghost use Rattle.std.specs.Prelude.{◌≡◌, ◌++◌, None, Some, is_some, IsSome, IfOk, OnOk};
+ghost use Rattle.std.specs.Prelude.{◌≡◌, ◌++◌, None, Some, false, is_some, IsSome, IfOk, OnOk};
 ghost use Rattle.std.specs.Option.{option_copied};
 ghost use Rattle.apd_base.specs.State.{station_at, aid_at};
 ghost use Rattle.apd_frame.specs.Contents.{association, reassociation};
 ghost use Rattle.apd_mlme.specs.rules.Association.{accepted, association_response, association_status, association_verdict, body_of, elsewhere, installation, is_elsewhere, is_named, outs_elsewhere, put_backs, row_of, without_current_ap};
 ghost use Rattle.apd_mlme.specs.rules.Identifiers.{identifier_for, least_free};
+ghost use Rattle.apd_mlme.specs.Verdict.{is_nothing};
 
 use crate::decision::{Out, Recipient, sent};
 use crate::draft::Draft;
@@ -230,6 +231,8 @@ fn accept(
         (λ d. d.outs
         ≡ (accepted table.now confs.now conf.now bssid kind (association request.now)
         (identifier_for table.now bssid (station_at table.now bssid request.now.sender))).outs) }
+    ensures some { is_nothing (accepted table.now confs.now conf.now bssid kind (association request.now)
+        (identifier_for table.now bssid (station_at table.now bssid request.now.sender))) ≡ false }
 {
     let sender = request.sender;
     let aid = identifier(table, bssid, sender);
@@ -265,6 +268,8 @@ pub fn answer(
         ≡ (association_verdict table.now confs.now conf.now bssid kind (association request.now)).changes) }
     ensures outs { IfOk result
         (λ d. d.outs ≡ (association_verdict table.now confs.now conf.now bssid kind (association request.now)).outs) }
+    ensures some { is_nothing
+        (association_verdict table.now confs.now conf.now bssid kind (association request.now)) ≡ false }
 {
     let sender = request.sender;
     if table.get(bssid, sender).is_none() {

@@ -1,7 +1,8 @@
 //! What a station brings about that leaves, or that sends data (IEEE Std 802.11-2016, 11.3.5.9, 11.3.4.5
 //! and 11.3.3).
-ghost use Rattle.std.specs.Prelude.{◌≡◌, IfOk};
+ghost use Rattle.std.specs.Prelude.{◌≡◌, false, IfOk, OnErr};
 ghost use Rattle.apd_mlme.specs.rules.Departure.{data_verdict, deauthentication_verdict, disassociation_verdict};
+ghost use Rattle.apd_mlme.specs.Verdict.{is_nothing};
 
 use crate::decision::{Out, Recipient};
 use crate::draft::Draft;
@@ -11,7 +12,7 @@ use apd_frame::Reason;
 use apd_table::Table;
 use std::alloc::{AllocError, Global};
 
-/// What a disassociation from a station brings about.
+/// What a disassociation from a station brings about. Where that is nothing it takes no memory.
 pub fn disassociated(
     alloc: Global,
     table: &Table,
@@ -20,6 +21,7 @@ pub fn disassociated(
 ) -> Result<Draft, AllocError>
     ensures changes { IfOk result (λ d. d.changes ≡ (disassociation_verdict table.now bssid sender).changes) }
     ensures outs { IfOk result (λ d. d.outs ≡ (disassociation_verdict table.now bssid sender).outs) }
+    ensures lacks { OnErr result (is_nothing (disassociation_verdict table.now bssid sender) ≡ false) }
 {
     match table.get(bssid, sender) {
         Some(Station::Associated(_)) => {
@@ -37,7 +39,7 @@ pub fn disassociated(
     }
 }
 
-/// What a deauthentication from a station brings about.
+/// What a deauthentication from a station brings about. Where that is nothing it takes no memory.
 pub fn deauthenticated(
     alloc: Global,
     table: &Table,
@@ -46,6 +48,7 @@ pub fn deauthenticated(
 ) -> Result<Draft, AllocError>
     ensures changes { IfOk result (λ d. d.changes ≡ (deauthentication_verdict table.now bssid sender).changes) }
     ensures outs { IfOk result (λ d. d.outs ≡ (deauthentication_verdict table.now bssid sender).outs) }
+    ensures lacks { OnErr result (is_nothing (deauthentication_verdict table.now bssid sender) ≡ false) }
 {
     if table.get(bssid, sender).is_none() {
         return Ok(Draft::nothing(alloc));
@@ -55,10 +58,11 @@ pub fn deauthenticated(
     dropped(alloc, bssid, sender, outs)
 }
 
-/// What data from a station bring about.
+/// What data from a station bring about. Where that is nothing it takes no memory.
 pub fn data(alloc: Global, table: &Table, bssid: Bssid, sender: Addr) -> Result<Draft, AllocError>
     ensures changes { IfOk result (λ d. d.changes ≡ (data_verdict table.now bssid sender).changes) }
     ensures outs { IfOk result (λ d. d.outs ≡ (data_verdict table.now bssid sender).outs) }
+    ensures lacks { OnErr result (is_nothing (data_verdict table.now bssid sender) ≡ false) }
 {
     match table.get(bssid, sender) {
         Some(Station::Associated(_)) => Ok(Draft::nothing(alloc)),

@@ -2,7 +2,7 @@
 //! radios because of it (IEEE Std 802.11-2016, clause 11.3).
 #![tactic(auto)]
 
-ghost use Rattle.std.specs.Prelude.{◌≡◌, ◌≤◌, length, IfOk};
+ghost use Rattle.std.specs.Prelude.{◌≡◌, ◌≤◌, false, length, IfOk, OnErr};
 ghost use Rattle.apd_frame.specs.Contents.{contents};
 ghost use Rattle.apd_record.specs.Meaning.{meaning_of};
 ghost use Rattle.apd_record.specs.Ranges.{AreChanges};
@@ -12,6 +12,7 @@ ghost use Rattle.apd_mlme.specs.laws.Driver.{FollowsDrivers};
 ghost use Rattle.apd_mlme.specs.declared.decision.TheConstants.{MAX_RECORDS};
 ghost use Rattle.apd_mlme.specs.Happening.{happening};
 ghost use Rattle.apd_mlme.specs.rules.{verdict, heard_verdict, IsFit};
+ghost use Rattle.apd_mlme.specs.Verdict.{is_nothing};
 
 mod answer;
 mod association;
@@ -65,6 +66,9 @@ pub fn decide(
     // What leaves keeps the driver of each configured BSSID at its associated stations.
     ensures driver { IfOk result
         (λ d. FollowsDrivers confs.now d.outs table.now (verdict table.now confs.now (happening event.entry)).state) }
+
+    // It takes memory only where something changes or leaves.
+    ensures lacks { OnErr result (is_nothing (verdict table.now confs.now (happening event.entry)) ≡ false) }
 {
     table.sound();
     decide_fit(alloc, table, confs, event)
@@ -80,6 +84,7 @@ fn decide_fit(
     ensures changes { IfOk result (λ d. d.changes ≡ (verdict table.now confs.now (happening event.entry)).changes) }
     ensures outs { IfOk result (λ d. d.outs ≡ (verdict table.now confs.now (happening event.entry)).outs) }
     ensures known { IfOk result (λ d. AreChanges d.changes) }
+    ensures lacks { OnErr result (is_nothing (verdict table.now confs.now (happening event.entry)) ≡ false) }
 {
     let conf = confs.with_bssid(event.bssid()).unwrap();
     let draft = match event {
@@ -119,6 +124,8 @@ fn heard(
         (λ d. d.changes ≡ (heard_verdict table.now confs.now conf.now bssid (contents frame.entry)).changes) }
     ensures outs { IfOk result
         (λ d. d.outs ≡ (heard_verdict table.now confs.now conf.now bssid (contents frame.entry)).outs) }
+    ensures lacks { OnErr result
+        (is_nothing (heard_verdict table.now confs.now conf.now bssid (contents frame.entry)) ≡ false) }
 {
     match frame {
         Frame::Auth(request) => authentication::answer(alloc, table, conf, bssid, &request),

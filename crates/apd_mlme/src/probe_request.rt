@@ -1,5 +1,5 @@
 //! The answer to a probe request (IEEE Std 802.11-2016, 11.1.4.3.4).
-ghost use Rattle.std.specs.Prelude.{◌≡◌, [], IfOk};
+ghost use Rattle.std.specs.Prelude.{◌≡◌, [], true, IfOk, OnErr};
 ghost use Rattle.std.specs.Option.{option_copied};
 ghost use Rattle.apd_frame.specs.Contents.{probe};
 ghost use Rattle.apd_mlme.specs.rules.ProbeRequest.{is_answered, is_asked, is_open, probe_outs, probe_response};
@@ -61,6 +61,7 @@ pub fn answer(
 ) -> Result<Draft, AllocError>
     ensures changes { IfOk result (λ d. d.changes ≡ []) }
     ensures outs { IfOk result (λ d. d.outs ≡ probe_outs conf.now bssid (probe request.now)) }
+    ensures lacks { OnErr result (is_answered conf.now (probe request.now).elements ≡ true) }
 {
     if !is_answered(conf, request.elements) {
         return Ok(Draft::nothing(alloc));
