@@ -16,7 +16,7 @@ use Rattle.std.specs.FinMap.{is_sorted}
 use Rattle.apd_base.specs.Sets.{contains}
 use Rattle.apd_base.specs.Addr.{addr_cmp}
 use Rattle.apd_base.specs.declared.address.Addr.{Addr}
-use Rattle.apd_base.proofs.AddrLaws.{addr_total, addr_exact}
+use Rattle.apd_base.proofs.AddrLemmas.{addr_total, addr_exact}
 use Rattle.apd_base.proofs.Trees.{in_order, rising, get_lookup, inserted, removed}
 use Rattle.apd_base.proofs.Cases.{differ}
 use Rattle.apd_acl.specs.Least.{IsLeast, IsLeastAbove}

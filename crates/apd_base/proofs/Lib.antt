@@ -1,10 +1,10 @@
-pub mod AddrLaws
+pub mod AddrLemmas
 pub mod AddrText
 pub mod Cases
-pub mod MapLaws
+pub mod MapLemmas
 pub mod NumberText
-pub mod RowsLaws
+pub mod RowsLemmas
 pub mod RowsMaps
-pub mod StateLaws
-pub mod StationLaws
+pub mod StateLemmas
+pub mod StationLemmas
 pub mod Trees

@@ -8,7 +8,7 @@ use Rattle.std.specs.FinMap as map
 use Rattle.std.specs.FinMap.{FinMap, find, put, is_sorted, IsAntisymmetric, entries, from_sorted, same_entries_map, entries-insert, entries-from_sorted, entries_sorted, get-from_sorted, get-remove, get-retain_keys, same_map}
 use Rattle.std.specs.FinMap.Entries.{where_key, is_sorted-put, is_sorted-where_key, find-where_key}
 use Rattle.apd_base.specs.Rows.{place, put_at, remove_at, value_at}
-use Rattle.apd_base.proofs.RowsLaws.{put-place, without-place, find-place}
+use Rattle.apd_base.proofs.RowsLemmas.{put-place, without-place, find-place}
 
 turned : {A : Type 0} (b : Bool) (x y : A) → cond (not b) x y ≡ cond b y x
 turned true x y = refl

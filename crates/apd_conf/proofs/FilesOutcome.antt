@@ -12,7 +12,7 @@ use Rattle.apd_conf.specs.declared.configuration.ConfigurationFault.{Configurati
 use Rattle.apd_conf.specs.declared.configuration.ConfigurationFault.TheVariants.{CannotRead, Conf as InConf, List as InList, Confs, NoMemory}
 use Rattle.apd_conf.specs.declared.configuration.FilesRead.{FilesRead}
 use Rattle.apd_conf.specs.declared.confs_fault.ConfsFault.{ConfsFault}
-use Rattle.apd_conf.proofs.FileLaws as laws
+use Rattle.apd_conf.proofs.FileLemmas as laws
 use Rattle.apd_conf.proofs.Refusals as refusals
 
 -- ---- one file

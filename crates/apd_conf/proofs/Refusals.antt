@@ -4,7 +4,7 @@ use Rattle.apd_conf.specs.declared.conf.Conf.{Conf}
 use Rattle.apd_conf.specs.declared.confs_fault.ConfsFault.{ConfsFault}
 use Rattle.apd_conf.specs.declared.confs_fault.ConfsFault.TheVariants.{Empty, TooMany, SameInterface, SameBssid}
 use Rattle.apd_conf.specs.Confs.{IsLeastRepeated, AreConfs, IsRefused}
-use Rattle.apd_conf.proofs.Told.{same_err, ok_err}
+use Rattle.apd_conf.proofs.FaultLemmas.{same_err, ok_err}
 
 least_below : {A : Type 0} (xs : List A) (p q : ℕ) → IsLeastRepeated xs p → IsLeastRepeated xs q → p < q → ⊥
 least_below xs p q hp hq lt = hq.least p lt hp.repeated

@@ -16,8 +16,8 @@ use Rattle.apd_base.specs.declared.address.Bssid.{Bssid}
 use Rattle.apd_base.specs.declared.moment.Moment.{Moment}
 use Rattle.apd_base.specs.declared.station.Policy.{Policy}
 use Rattle.apd_base.specs.declared.station.Station.{Station}
-use Rattle.apd_base.proofs.AddrLaws.{bssid_total, bssid_exact, same_addr, same_bssid, station_total, station_exact}
-use Rattle.apd_base.proofs.MapLaws.{any_passes, passes_any, tied}
+use Rattle.apd_base.proofs.AddrLemmas.{bssid_total, bssid_exact, same_addr, same_bssid, station_total, station_exact}
+use Rattle.apd_base.proofs.MapLemmas.{any_passes, passes_any, tied}
 use Rattle.apd_table.specs.Addresses.{addresses_at}
 use Rattle.apd_table.specs.Rows as rows
 use Rattle.apd_table.specs.Sound.{Sound}

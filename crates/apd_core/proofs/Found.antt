@@ -9,9 +9,9 @@ use Rattle.apd_base.specs.Addr.{station_cmp}
 use Rattle.apd_base.specs.declared.address.Addr.{Addr}
 use Rattle.apd_base.specs.declared.address.Bssid.{Bssid}
 use Rattle.apd_base.specs.declared.moment.Moment.{Moment}
-use Rattle.apd_base.proofs.AddrLaws.{station_total, station_exact}
-use Rattle.apd_base.proofs.MapLaws.{one_or_apart, tied}
-use Rattle.apd_base.proofs.RowsLaws.{below_found, is_sorted_head, is_sorted_tail, tied_not_below}
+use Rattle.apd_base.proofs.AddrLemmas.{station_total, station_exact}
+use Rattle.apd_base.proofs.MapLemmas.{one_or_apart, tied}
+use Rattle.apd_base.proofs.RowsLemmas.{below_found, is_sorted_head, is_sorted_tail, tied_not_below}
 
 abbrev pub Row : Type 0
 Row = (Bssid × Addr) × Moment

@@ -11,7 +11,7 @@ use Rattle.std.proofs.lemmas.Bool.{leb-false, lt-leb, cases_eq}
 use Rattle.apd_base.specs.declared.limits.TheConstants.{MAX_KEPT}
 use Rattle.apd_base.specs.declared.moment.Moment.{Moment}
 use Rattle.apd_base.specs.State.{State}
-use Rattle.apd_base.proofs.MapLaws as at
+use Rattle.apd_base.proofs.MapLemmas as at
 use Rattle.apd_conf.specs.Confs.{AreConfs}
 use Rattle.apd_conf.specs.declared.conf.Conf.{Conf}
 use Rattle.apd_mlme.specs.Happening.{Happening}
@@ -32,7 +32,7 @@ use Rattle.apd_core.specs.Held.{Queue, queue_of, up_to}
 use Rattle.apd_core.specs.Invariant.{IsCore, Unsettled, AreDecided, numbered_outs}
 use Rattle.apd_core.proofs.Hearing.{after_changes, after_sender}
 use Rattle.apd_core.proofs.Places.{some_is}
-use Rattle.apd_core.proofs.HeldLaws.{held_none, length-no_queues, queue_of-no_outs, length-queued, queue_of-with_outs, last_kept, held_with_outs}
+use Rattle.apd_core.proofs.HeldLemmas.{held_none, length-no_queues, queue_of-no_outs, length-queued, queue_of-with_outs, last_kept, held_with_outs}
 
 -- ---- entries one after another
 pub changes_of-append : (xs ys : List (List Change)) → changes_of (xs ++ ys) ≡ changes_of xs ++ changes_of ys

@@ -8,9 +8,9 @@ use Rattle.apd_base.specs.State.{State}
 use Rattle.apd_base.specs.declared.address.Addr.{Addr}
 use Rattle.apd_base.specs.declared.address.Bssid.{Bssid}
 use Rattle.apd_base.specs.declared.moment.Moment.{Moment}
-use Rattle.apd_base.proofs.AddrLaws.{station_total, station_exact}
+use Rattle.apd_base.proofs.AddrLemmas.{station_total, station_exact}
 use Rattle.apd_base.proofs.Cases.{differ, no_value, none_is, second_true}
-use Rattle.apd_base.proofs.MapLaws.{get_insert_other, one_or_apart, tied}
+use Rattle.apd_base.proofs.MapLemmas.{get_insert_other, one_or_apart, tied}
 use Rattle.apd_record.specs.Meaning.{meaning_of}
 use Rattle.apd_record.specs.declared.change.Change.{Change}
 use Rattle.apd_record.specs.declared.change.Change.TheVariants.{Put, Drop, ListAdd, ListDel, ListClear, Policy}

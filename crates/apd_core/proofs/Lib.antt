@@ -1,9 +1,9 @@
 pub mod Accepting
 pub mod AllHeard
-pub mod CoreLaws
+pub mod CoreLemmas
 pub mod Found
 pub mod Hearing
-pub mod HeldLaws
+pub mod HeldLemmas
 pub mod Keeping
 pub mod Kept
 pub mod Laying

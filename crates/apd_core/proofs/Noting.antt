@@ -10,8 +10,8 @@ use Rattle.apd_base.specs.declared.address.Addr.{Addr}
 use Rattle.apd_base.specs.declared.address.Bssid.{Bssid}
 use Rattle.apd_base.specs.declared.moment.Moment.{Moment}
 use Rattle.apd_base.specs.declared.station.Station.{Station}
-use Rattle.apd_base.proofs.AddrLaws.{station_total, station_exact}
-use Rattle.apd_base.proofs.MapLaws.{one_or_apart, get_inserted, get_insert_other}
+use Rattle.apd_base.proofs.AddrLemmas.{station_total, station_exact}
+use Rattle.apd_base.proofs.MapLemmas.{one_or_apart, get_inserted, get_insert_other}
 use Rattle.apd_frame.specs.Contents.{sender_of}
 use Rattle.apd_record.specs.declared.change.Change.{Change}
 use Rattle.apd_record.specs.declared.change.Change.TheVariants.{Put, Drop, ListAdd, ListDel, ListClear, Policy}
@@ -19,13 +19,13 @@ use Rattle.apd_mlme.specs.Happening.{Happening, Heard, Kick, ListEdit, Expire, C
 use Rattle.apd_mlme.specs.rules.{verdict}
 use Rattle.apd_core.specs.Core.{CoreState, accepted, after_request, front_of, state_after, with_entry, with_sender}
 use Rattle.apd_core.specs.Heard.{LastHeard, AreMomentsOf, heard_by, heard_by_change, heard_by_changes, heard_from}
-use Rattle.apd_core.specs.Noted.{AreNoted, HasPut, IsFrom, IsHeardBy, IsNoted}
+use Rattle.apd_core.specs.RowMoments.{AreNoted, HasPut, IsFrom, IsHeardBy, IsNoted}
 use Rattle.apd_core.specs.Requests.{happening_of}
 use Rattle.apd_core.specs.declared.input.Input.{Input}
 use Rattle.apd_core.specs.declared.input.QuietReason.{QuietReason}
 use Rattle.apd_core.specs.declared.ticket.Accepted.{Accepted}
 use Rattle.apd_core.specs.declared.ticket.Accepted.TheVariants.{Stopped, Busy, Quiet, Entry}
-use Rattle.apd_core.proofs.CoreLaws.{entry_front}
+use Rattle.apd_core.proofs.CoreLemmas.{entry_front}
 use Rattle.apd_core.proofs.Hearing.{after_entry, after_sender}
 
 -- a moment is this one, if there is one

@@ -7,8 +7,8 @@ use Rattle.std.specs.Ordering.{eq_by_cmp}
 use Rattle.std.proofs.lemmas.Bool.{lt-ltb, le-ltb, cases_lt}
 use Rattle.apd_base.specs.Addr.{bssid_cmp}
 use Rattle.apd_base.specs.declared.address.Bssid.{Bssid}
-use Rattle.apd_base.proofs.AddrLaws.{bssid_total, bssid_exact, same_bssid}
-use Rattle.apd_base.proofs.MapLaws.{tied}
+use Rattle.apd_base.proofs.AddrLemmas.{bssid_total, bssid_exact, same_bssid}
+use Rattle.apd_base.proofs.MapLemmas.{tied}
 use Rattle.apd_conf.specs.declared.conf.Conf.{Conf}
 use Rattle.apd_conf.specs.Confs.{conf_at}
 use Rattle.apd_mlme.specs.declared.decision.Recipient.{Recipient}

@@ -28,7 +28,7 @@ use Rattle.apd_record.specs.declared.change.Change.{Change}
 use Rattle.apd_record.specs.declared.change.Change.TheVariants.{Put, Drop, ListAdd, ListDel, ListClear, Policy}
 use Rattle.apd_record.specs.contracts.change.ChangePartialEq.TheImpl as change
 use Rattle.apd_record.specs.contracts.change.ChangeEq.TheImpl.Laws.{laws-law}
-use Rattle.apd_base.proofs.StationLaws.{same_aid, same_limit}
+use Rattle.apd_base.proofs.StationLemmas.{same_aid, same_limit}
 
 same_addr : (a d : Addr) → (addr.eq-value).it a d ≡ true → a ≡ d
 same_addr a d e = ap (λ (bytes : List ℕ). record { 0 = bytes }) ((bytes_eq-Decides a.0 d.0).0 e)

@@ -27,7 +27,7 @@ use Rattle.apd_core.specs.Held.{Queue, HeldOuts, AreHeld, queue_at, queue_of, qu
 use Rattle.apd_core.specs.Invariant.{IsCore, Unsettled, AreDecided, numbered_outs}
 use Rattle.apd_core.proofs.Keeping.{changes_of-append, decided_means, decided_length, front_runs, up_to-append, none_up_to}
 use Rattle.apd_core.proofs.Places.{some_is, same_recipient}
-use Rattle.apd_core.proofs.HeldLaws.{length-after_hand, queue_of-after_hand, queue_of-after_hand_other, get-after_hand, get-after_hand_beyond, get-after_settled, get-after_settled_other, unless_zero, unless_zero_back, one_less, less_by, less_by-none, held_after_settled, held_after_hand, given_within}
+use Rattle.apd_core.proofs.HeldLemmas.{length-after_hand, queue_of-after_hand, queue_of-after_hand_other, get-after_hand, get-after_hand_beyond, get-after_settled, get-after_settled_other, unless_zero, unless_zero_back, one_less, less_by, less_by-none, held_after_settled, held_after_hand, given_within}
 
 -- ---- a front of what happened, and the rest
 module _ (confs : List Conf) where

@@ -10,7 +10,7 @@ use Rattle.apd_base.specs.Addr.{station_cmp}
 use Rattle.apd_base.specs.declared.address.Addr.{Addr}
 use Rattle.apd_base.specs.declared.address.Bssid.{Bssid}
 use Rattle.apd_base.specs.declared.moment.Moment.{Moment}
-use Rattle.apd_base.proofs.AddrLaws.{station_total, station_exact}
+use Rattle.apd_base.proofs.AddrLemmas.{station_total, station_exact}
 use Rattle.apd_conf.specs.declared.conf.Conf.{Conf}
 use Rattle.apd_conf.specs.Confs.{conf_at}
 use Rattle.apd_core.specs.Heard.{LastHeard, due, is_due, is_too_long, silence}

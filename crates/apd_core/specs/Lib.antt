@@ -6,7 +6,7 @@ pub mod Held
 pub mod HeldCodes
 pub mod Invariant
 pub mod LaidDown
-pub mod Noted
+pub mod RowMoments
 pub mod Requests
 pub mod Silent
 pub mod TakingBack

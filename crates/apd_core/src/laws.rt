@@ -13,7 +13,7 @@ ghost use Rattle.apd_table.specs.Sound.{Sound};
 ghost use Rattle.apd_core.specs.Core.{CoreState, accepted, after_request, entered_by, front_of, handed, held_for, is_kept, published, ready_for, IsOwed, IsTaken, IsUnsettled};
 ghost use Rattle.apd_core.specs.Heard.{LastHeard, due};
 ghost use Rattle.apd_core.specs.Invariant.{IsCore};
-ghost use Rattle.apd_core.specs.Noted.{AreNoted};
+ghost use Rattle.apd_core.specs.RowMoments.{AreNoted};
 ghost use Rattle.apd_core.specs.Requests.{happening_of};
 ghost use Rattle.apd_core.specs.Silent.{IsFirstSilent, IsSilent};
 ghost use Rattle.apd_core.specs.declared.input.Input.{Input};

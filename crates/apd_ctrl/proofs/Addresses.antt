@@ -20,11 +20,11 @@ use Rattle.apd_base.specs.declared.address.Addr.{Addr}
 use Rattle.apd_base.specs.declared.address.Bssid.{Bssid}
 use Rattle.apd_base.specs.declared.station.Station.{Station}
 use Rattle.apd_base.specs.declared.station.Which.{Which}
-use Rattle.apd_base.proofs.AddrLaws.{addr_total, addr_exact, bssid_total, bssid_exact, station_total, station_exact}
-use Rattle.apd_base.proofs.StateLaws.{which_total, which_exact, list_total, list_exact}
+use Rattle.apd_base.proofs.AddrLemmas.{addr_total, addr_exact, bssid_total, bssid_exact, station_total, station_exact}
+use Rattle.apd_base.proofs.StateLemmas.{which_total, which_exact, list_total, list_exact}
 use Rattle.apd_base.proofs.Cases.{first_holds, second_holds, is_less}
-use Rattle.apd_base.proofs.MapLaws.{one_or_apart, tied}
-use Rattle.apd_base.proofs.RowsLaws.{is_sorted_head, is_sorted_tail}
+use Rattle.apd_base.proofs.MapLemmas.{one_or_apart, tied}
+use Rattle.apd_base.proofs.RowsLemmas.{is_sorted_head, is_sorted_tail}
 use Rattle.apd_base.proofs.RowsMaps.{entries-retain_keys}
 use Rattle.apd_acl.specs.Least.{IsLeast, IsLeastAbove}
 use Rattle.apd_table.specs.Addresses.{addresses_at}

@@ -1,6 +1,6 @@
 pub mod Addresses
-pub mod ArgumentLaws
-pub mod CommandLaws
-pub mod OutcomeLaws
+pub mod ArgumentLemmas
+pub mod CommandLemmas
+pub mod OutcomeLemmas
 pub mod Rising
-pub mod WordLaws
+pub mod WordLemmas

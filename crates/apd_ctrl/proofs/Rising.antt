@@ -11,8 +11,8 @@ use Rattle.std.proofs.lemmas.Option.{same_Some}
 use Rattle.std.specs.FinMap.{IsAntisymmetric}
 use Rattle.apd_base.specs.Addr.{is_among, addr_cmp}
 use Rattle.apd_base.specs.declared.address.Addr.{Addr}
-use Rattle.apd_base.proofs.AddrLaws.{addr_total, addr_exact, same_addr}
-use Rattle.apd_base.proofs.MapLaws.{one_or_apart, tied}
+use Rattle.apd_base.proofs.AddrLemmas.{addr_total, addr_exact, same_addr}
+use Rattle.apd_base.proofs.MapLemmas.{one_or_apart, tied}
 use Rattle.apd_acl.specs.Least.{IsLeast, IsLeastAbove}
 use Rattle.apd_ctrl.specs.Order.{Rising}
 use Rattle.apd_ctrl.specs.Texts.{is_above}

@@ -12,7 +12,7 @@ use Rattle.apd_core.specs.declared.input.QuietReason.TheVariants as quiet
 use Rattle.apd_core.specs.declared.ticket.Accepted.{Accepted}
 use Rattle.apd_core.specs.declared.ticket.Accepted.TheVariants.{Stopped, Busy, Quiet, Entry}
 use Rattle.apd_desk.specs.Counted.{entries_in}
-use Rattle.apd_desk.specs.Own.{IsOwn}
+use Rattle.apd_desk.specs.TicketOwner.{IsOwn}
 
 module _ (s : CoreState) (m : Moment) (i : Input) where
   -- both, of what happened and an answer

@@ -7,8 +7,8 @@ use Rattle.std.proofs.lemmas.List.Folds.{find_past}
 use Rattle.std.proofs.lemmas.List.Quantifiers.{position-Some}
 use Rattle.apd_base.specs.declared.address.Bssid.{Bssid}
 use Rattle.apd_base.specs.Addr.{bssid_cmp}
-use Rattle.apd_base.proofs.AddrLaws.{bssid_total, same_bssid}
-use Rattle.apd_desk.specs.Noted.{Noting, is_for, is_of, is_noted_up, says_up}
+use Rattle.apd_base.proofs.AddrLemmas.{bssid_total, same_bssid}
+use Rattle.apd_desk.specs.RadioNotes.{Noting, is_for, is_of, is_noted_up, says_up}
 
 -- a write of an element that passes, behind elements that fail
 finds_set : {X : Type 0} (p : X → Bool) (xs : List X) (i : ℕ) (y d : X) → i < length xs → ((k : ℕ) → k < i → p (get_or xs k d) ≡ false) → p y ≡ true → find p (set xs i y) ≡ Some y

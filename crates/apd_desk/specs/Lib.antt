@@ -1,4 +1,4 @@
 pub mod Counted
-pub mod Noted
-pub mod Own
-pub mod Seen
+pub mod RadioNotes
+pub mod TicketOwner
+pub mod SeatProgress

@@ -8,9 +8,9 @@ ghost use Rattle.apd_core.specs.Core.{accepted as accepted_by, after_request, an
 ghost use Rattle.apd_journal.specs.Half.{IsGroup};
 ghost use Rattle.apd_store.specs.Outside.{held_batch};
 ghost use Rattle.apd_desk.specs.Counted.{counted, entries_in};
-ghost use Rattle.apd_desk.specs.Noted.{is_for, is_noted_up};
-ghost use Rattle.apd_desk.specs.Own.{IsOwn};
-ghost use Rattle.apd_desk.specs.Seen.{seen_after, IsBehind};
+ghost use Rattle.apd_desk.specs.RadioNotes.{is_for, is_noted_up};
+ghost use Rattle.apd_desk.specs.TicketOwner.{IsOwn};
+ghost use Rattle.apd_desk.specs.SeatProgress.{seen_after, IsBehind};
 
 use crate::notes::Notes;
 use crate::seat::{AskFault, SEATS, Seat};

@@ -3,7 +3,7 @@ ghost use Rattle.std.specs.Prelude.{◌≡◌, ◌≢◌, ◌⊎◌, None, false
 ghost use Rattle.std.specs.List.{find, position};
 ghost use Rattle.std.specs.Option.{option_copied};
 ghost use Rattle.apd_base.specs.declared.address.Bssid.{Bssid as Address};
-ghost use Rattle.apd_desk.specs.Noted.{is_for, is_of, is_noted_up};
+ghost use Rattle.apd_desk.specs.RadioNotes.{is_for, is_of, is_noted_up};
 
 use apd_base::Bssid;
 use apd_base::limits::MAX_BSS;

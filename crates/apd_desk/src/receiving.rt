@@ -1,7 +1,7 @@
 //! The worker of a radio.
 ghost use Rattle.std.specs.Prelude.{◌≡◌};
 ghost use Rattle.apd_slot.specs.Slots.{IsExact};
-ghost use Rattle.apd_desk.specs.Seen.{IsLater};
+ghost use Rattle.apd_desk.specs.SeatProgress.{IsLater};
 
 use crate::clock::Clock;
 use crate::gate::Gate;

@@ -2,8 +2,8 @@
 ghost use Rattle.std.specs.Prelude.{◌≡◌, ◌+◌, ◌≤◌, ℕ, IfOk, IfErr, IfSome, OnErr};
 ghost use Rattle.apd_journal.specs.Half.{IsGroup};
 ghost use Rattle.apd_desk.specs.Counted.{counted, entries_in};
-ghost use Rattle.apd_desk.specs.Own.{IsOwn};
-ghost use Rattle.apd_desk.specs.Seen.{IsBehind};
+ghost use Rattle.apd_desk.specs.TicketOwner.{IsOwn};
+ghost use Rattle.apd_desk.specs.SeatProgress.{IsBehind};
 
 use crate::locked::{Locked, Look};
 use crate::seat::{AskFault, SEATS, Seat};

@@ -1,5 +1,5 @@
 //! How a worker submits.
-ghost use Rattle.apd_desk.specs.Seen.{IsLater};
+ghost use Rattle.apd_desk.specs.SeatProgress.{IsLater};
 
 use crate::gate::{Gate, Place};
 use crate::seat::Seat;

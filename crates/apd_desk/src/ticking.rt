@@ -1,5 +1,5 @@
 //! The worker of ticks.
-ghost use Rattle.apd_desk.specs.Seen.{IsLater};
+ghost use Rattle.apd_desk.specs.SeatProgress.{IsLater};
 
 use crate::clock::Clock;
 use crate::gate::Gate;

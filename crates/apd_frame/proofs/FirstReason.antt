@@ -2,8 +2,8 @@
 use Rattle.std.proofs.Common.{◌≡◌, ℕ, zero, suc, ◌<◌, Bool, true, false, cond, List, [], ◌∷◌, Some, None, refl, sym, ◌∙◌, ap, arith}
 use Rattle.std.specs.List.{find, slice_get}
 use Rattle.std.specs.Prelude.{IsTrue}
-use Rattle.apd_frame.specs.declared.reasons.Ignored.{Ignored}
-use Rattle.apd_frame.specs.declared.reasons.Ignored.TheVariants.{TooLong, Short, Version, Class, Fragment, Flags, Direction, Sender, Receiver, OtherBss, Subtype, Body}
+use Rattle.apd_frame.specs.declared.ignored.Ignored.{Ignored}
+use Rattle.apd_frame.specs.declared.ignored.Ignored.TheVariants.{TooLong, Short, Version, Class, Fragment, Flags, Direction, Sender, Receiver, OtherBss, Subtype, Body}
 use Rattle.apd_frame.specs.Outcome.{reasons, rank}
 
 -- none of the first i passes

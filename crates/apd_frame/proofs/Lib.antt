@@ -1,5 +1,5 @@
-pub mod ElementLaws
+pub mod ElementLemmas
 pub mod Fields
 pub mod FirstReason
-pub mod Says
+pub mod ContentsLemmas
 pub mod Senders

@@ -5,8 +5,8 @@ use Rattle.apd_base.specs.declared.address.TheConstants.{BROADCAST}
 use Rattle.apd_base.specs.declared.address.Bssid.{Bssid}
 use Rattle.apd_frame.specs.declared.kind.Kind.{Kind}
 use Rattle.apd_frame.specs.declared.kind.Kind.TheVariants as kind
-use Rattle.apd_frame.specs.declared.reasons.Ignored.{Ignored}
-use Rattle.apd_frame.specs.declared.reasons.Ignored.TheVariants.{Sender}
+use Rattle.apd_frame.specs.declared.ignored.Ignored.{Ignored}
+use Rattle.apd_frame.specs.declared.ignored.Ignored.TheVariants.{Sender}
 use Rattle.apd_frame.specs.Contents.{Contents, sender_of}
 use Rattle.apd_frame.specs.Kinds.{kind_of}
 use Rattle.apd_frame.specs.Octets.{sender, is_group_address, is_same_address}

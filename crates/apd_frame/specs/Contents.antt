@@ -3,7 +3,7 @@ use Rattle.std.specs.Prelude.{ℕ, List, Result, Ok, Err}
 use Rattle.apd_base.specs.declared.address.Addr.{Addr}
 use Rattle.apd_frame.specs.declared.codes.Reason.{Reason}
 use Rattle.apd_frame.specs.declared.element.Element.{Element}
-use Rattle.apd_frame.specs.declared.reasons.Ignored.{Ignored}
+use Rattle.apd_frame.specs.declared.ignored.Ignored.{Ignored}
 use Rattle.apd_frame.specs.declared.received.Authentication.{Authentication}
 use Rattle.apd_frame.specs.declared.received.Association.{Association}
 use Rattle.apd_frame.specs.declared.received.Reassociation.{Reassociation}

@@ -8,8 +8,8 @@ use Rattle.apd_base.specs.declared.address.Bssid.{Bssid}
 use Rattle.apd_frame.specs.declared.codes.Reason.{Reason}
 use Rattle.apd_frame.specs.declared.kind.Kind.{Kind}
 use Rattle.apd_frame.specs.declared.kind.Kind.TheVariants as kind
-use Rattle.apd_frame.specs.declared.reasons.Ignored.{Ignored}
-use Rattle.apd_frame.specs.declared.reasons.Ignored.TheVariants.{TooLong, Short, Version, Class, Fragment, Flags, Direction, Sender, Receiver, OtherBss, Subtype, Body}
+use Rattle.apd_frame.specs.declared.ignored.Ignored.{Ignored}
+use Rattle.apd_frame.specs.declared.ignored.Ignored.TheVariants.{TooLong, Short, Version, Class, Fragment, Flags, Direction, Sender, Receiver, OtherBss, Subtype, Body}
 use Rattle.apd_frame.specs.declared.received.Authentication.{Authentication}
 use Rattle.apd_frame.specs.Contents.{Contents, AssociationRequest, ReassociationRequest, ProbeRequest, authentication, association_request, reassociation_request, probe_request, disassociation, deauthentication, uplink}
 use Rattle.apd_frame.specs.Kinds.{is_of, kind_of, fixed_octets}

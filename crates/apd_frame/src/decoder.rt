@@ -2,7 +2,7 @@
 ghost use Rattle.std.specs.Prelude.{◌≡◌, ◌≢◌, ◌+◌, ◌≤◌, ◌↔◌, ℕ, false, List, Option, None, Some, Result, Ok, IfOk, MatchResult, length};
 ghost use Rattle.std.specs.List.{find};
 ghost use Rattle.apd_base.specs.declared.address.Bssid.{Bssid as Own};
-ghost use Rattle.apd_frame.specs.declared.reasons.Ignored.{Ignored as WhyIgnored};
+ghost use Rattle.apd_frame.specs.declared.ignored.Ignored.{Ignored as WhyIgnored};
 ghost use Rattle.apd_frame.specs.Contents.{Contents, contents, received, sender_of};
 ghost use Rattle.apd_frame.specs.Kinds.{fixed_octets, kind_of};
 ghost use Rattle.apd_base.specs.declared.address.TheConstants.{BROADCAST};
@@ -14,8 +14,8 @@ use crate::header::{
     HEADER, address_at, is_flagged, is_for, is_fragment, is_group_or_own, is_management,
     is_other_class, is_other_direction, protocol_version, rest_from,
 };
+use crate::ignored::Ignored;
 use crate::kind::Kind;
-use crate::reasons::Ignored;
 use crate::received::{Association, Authentication, Frame, Probe, Reassociation};
 use apd_base::Bssid;
 use apd_base::limits::MAX_FRAME;

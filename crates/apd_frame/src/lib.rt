@@ -8,8 +8,8 @@ mod element;
 mod element_list;
 mod encoder;
 mod header;
+mod ignored;
 mod kind;
-mod reasons;
 mod received;
 mod replies;
 
@@ -18,6 +18,6 @@ pub use decoder::{a_sender_is_one_station, decode, exactly_one_outcome};
 pub use element::{DSSS_PARAMETER_SET, Element, Elements, SSID, SUPPORTED_RATES, element_ids_law};
 pub use element_list::{elements, elements_law, first_with, well_formed};
 pub use encoder::{encode, wire_law};
-pub use reasons::Ignored;
+pub use ignored::Ignored;
 pub use received::{Association, Authentication, Frame, Probe, Reassociation};
 pub use replies::{AssociationResponse, Rates, Reply, ReplyBody, SsidField};

@@ -15,7 +15,7 @@ use Rattle.apd_base.specs.declared.station.Station.TheVariants.{Authenticated}
 use Rattle.apd_base.specs.declared.station.Which.{Which}
 use Rattle.apd_base.specs.Addr.{addr_cmp, bssid_cmp}
 use Rattle.apd_base.specs.State.{State, station_at}
-use Rattle.apd_base.proofs.AddrLaws.{station_exact, same_addr, same_bssid}
+use Rattle.apd_base.proofs.AddrLemmas.{station_exact, same_addr, same_bssid}
 use Rattle.apd_conf.specs.declared.conf.Conf.{Conf}
 use Rattle.apd_frame.specs.Contents.{AssociationRequest, authentication}
 use Rattle.apd_record.specs.Meaning.{put_station, drop_station}

@@ -51,9 +51,9 @@ use Rattle.apd_mlme.specs.laws.Start.{AreDroppedTold}
 use Rattle.apd_mlme.specs.Verdict.{Verdict}
 use Rattle.apd_mlme.proofs.AssociationLemmas.{cleared, cleared_aid, associated_aid}
 use Rattle.apd_mlme.proofs.AuthenticationLemmas.{admitted_aid}
-use Rattle.apd_base.proofs.AddrLaws.{same_bssid, same_addr}
+use Rattle.apd_base.proofs.AddrLemmas.{same_bssid, same_addr}
 use Rattle.apd_base.proofs.Cases.{none_is, same_some}
-use Rattle.apd_base.proofs.StationLaws.{same_aid}
+use Rattle.apd_base.proofs.StationLemmas.{same_aid}
 use Rattle.apd_mlme.proofs.CommandLemmas.{new, edited_under}
 use Rattle.apd_mlme.proofs.DriverLemmas.{is_row, aid_put, aid_dropped}
 use Rattle.apd_mlme.proofs.DropLemmas.{taken_out, gone_among, kept_aid, denied_leave, all_leave, is_elsewhere}

@@ -10,8 +10,8 @@ use Rattle.apd_base.specs.declared.station.Station.{Station}
 use Rattle.apd_base.specs.declared.station.Station.TheVariants.{Authenticated, Associated}
 use Rattle.apd_base.specs.Addr.{addr_cmp, bssid_cmp}
 use Rattle.apd_base.specs.State.{State, station_at, policy_at, aid_of, aid_at}
-use Rattle.apd_base.proofs.AddrLaws.{addr_total, addr_exact, bssid_total, bssid_exact}
-use Rattle.apd_base.proofs.MapLaws.{one_or_apart, apart, tied}
+use Rattle.apd_base.proofs.AddrLemmas.{addr_total, addr_exact, bssid_total, bssid_exact}
+use Rattle.apd_base.proofs.MapLemmas.{one_or_apart, apart, tied}
 use Rattle.apd_conf.specs.declared.conf.Conf.{Conf}
 use Rattle.apd_conf.specs.Confs.{conf_at}
 use Rattle.apd_frame.specs.Contents.{AssociationRequest}
@@ -35,7 +35,7 @@ use Rattle.apd_mlme.proofs.ElsewhereLemmas.{is_bssid_among, among_elsewhere, put
 use Rattle.apd_mlme.proofs.IdentifierLemmas.{is_least_free}
 use Rattle.apd_mlme.proofs.RowLemmas.{Follows}
 use Rattle.apd_base.proofs.Cases.{either, first_false, no_value, none_is, second_false}
-use Rattle.apd_base.proofs.StateLaws.{station_of_aid}
+use Rattle.apd_base.proofs.StateLemmas.{station_of_aid}
 
 pub three : (t u v : Bool) → t ≡ false → u ≡ true → v ≡ true → ((not t && u) && v) ≡ true
 three true u v e f g = cc

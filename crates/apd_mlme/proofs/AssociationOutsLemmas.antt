@@ -10,9 +10,9 @@ use Rattle.apd_base.specs.declared.station.Aid.{Aid}
 use Rattle.apd_base.specs.declared.station.Station.{Station}
 use Rattle.apd_base.specs.Addr.{bssid_cmp}
 use Rattle.apd_base.specs.State.{State, station_at, aid_at}
-use Rattle.apd_base.proofs.AddrLaws.{bssid_total, bssid_exact, same_bssid}
+use Rattle.apd_base.proofs.AddrLemmas.{bssid_total, bssid_exact, same_bssid}
 use Rattle.apd_base.proofs.Cases.{second_false}
-use Rattle.apd_base.proofs.MapLaws.{apart, tied}
+use Rattle.apd_base.proofs.MapLemmas.{apart, tied}
 use Rattle.apd_conf.specs.declared.conf.Conf.{Conf}
 use Rattle.apd_conf.specs.Confs.{conf_at}
 use Rattle.apd_frame.specs.Contents.{AssociationRequest}

@@ -15,9 +15,9 @@ use Rattle.apd_base.specs.declared.station.Which.{Which}
 use Rattle.apd_base.specs.Addr.{addr_cmp, bssid_cmp}
 use Rattle.apd_base.specs.Sets.{contains}
 use Rattle.apd_base.specs.State.{State, station_at, policy_at, aid_of, aid_at, which_cmp, list_count, IsListed}
-use Rattle.apd_base.proofs.AddrLaws.{addr_total, addr_exact, bssid_total, bssid_exact, other_way, same_addr}
-use Rattle.apd_base.proofs.MapLaws.{one_or_apart, apart, tied}
-use Rattle.apd_base.proofs.StateLaws.{which_total, which_exact}
+use Rattle.apd_base.proofs.AddrLemmas.{addr_total, addr_exact, bssid_total, bssid_exact, other_way, same_addr}
+use Rattle.apd_base.proofs.MapLemmas.{one_or_apart, apart, tied}
+use Rattle.apd_base.proofs.StateLemmas.{which_total, which_exact}
 use Rattle.apd_conf.specs.declared.conf.Conf.{Conf}
 use Rattle.apd_conf.specs.Confs.{conf_at}
 use Rattle.apd_frame.specs.declared.codes.Reason.{Reason}

@@ -14,8 +14,8 @@ use Rattle.apd_base.specs.declared.station.Which.{Which}
 use Rattle.apd_base.specs.Addr.{addr_cmp, bssid_cmp, station_cmp, is_among}
 use Rattle.apd_base.specs.Sets.{contains}
 use Rattle.apd_base.specs.State.{State, station_at, policy_at, aid_at, list_count}
-use Rattle.apd_base.proofs.AddrLaws.{bssid_total, bssid_exact, same_addr}
-use Rattle.apd_base.proofs.MapLaws.{tied}
+use Rattle.apd_base.proofs.AddrLemmas.{bssid_total, bssid_exact, same_addr}
+use Rattle.apd_base.proofs.MapLemmas.{tied}
 use Rattle.apd_frame.specs.declared.codes.Reason.{Reason}
 use Rattle.apd_frame.specs.declared.codes.TheConstants.Reason.{UNSPECIFIED}
 use Rattle.apd_record.specs.Meaning.{meaning, meaning_of}

@@ -11,8 +11,8 @@ use Rattle.apd_base.specs.declared.address.Bssid.{Bssid}
 use Rattle.apd_base.specs.declared.station.Station.{Station}
 use Rattle.apd_base.specs.Addr.{addr_cmp, bssid_cmp}
 use Rattle.apd_base.specs.State.{State, station_at, aid_of, aid_at}
-use Rattle.apd_base.proofs.AddrLaws.{addr_total, addr_exact, bssid_total, bssid_exact, station_total, same_addr, same_bssid}
-use Rattle.apd_base.proofs.MapLaws.{tied}
+use Rattle.apd_base.proofs.AddrLemmas.{addr_total, addr_exact, bssid_total, bssid_exact, station_total, same_addr, same_bssid}
+use Rattle.apd_base.proofs.MapLemmas.{tied}
 use Rattle.apd_record.specs.Meaning.{put_station, drop_station}
 use Rattle.apd_table.proofs.Denied.{one_key}
 use Rattle.apd_mlme.specs.declared.decision.Recipient.{Recipient}

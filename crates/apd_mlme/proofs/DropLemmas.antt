@@ -12,8 +12,8 @@ use Rattle.apd_base.specs.declared.station.AclMode.{AclMode}
 use Rattle.apd_base.specs.declared.station.Station.{Station}
 use Rattle.apd_base.specs.Addr.{addr_cmp, bssid_cmp, station_cmp, is_among}
 use Rattle.apd_base.specs.State.{State, station_at, aid_of, aid_at}
-use Rattle.apd_base.proofs.AddrLaws.{bssid_total, bssid_exact, station_total, station_exact, other_way}
-use Rattle.apd_base.proofs.MapLaws.{one_or_apart, tied}
+use Rattle.apd_base.proofs.AddrLemmas.{bssid_total, bssid_exact, station_total, station_exact, other_way}
+use Rattle.apd_base.proofs.MapLemmas.{one_or_apart, tied}
 use Rattle.apd_frame.specs.declared.codes.Reason.{Reason}
 use Rattle.apd_record.specs.Meaning.{meaning_of}
 use Rattle.apd_table.specs.Addresses.{addresses_at}

@@ -17,9 +17,9 @@ use Rattle.apd_base.specs.declared.station.Which.TheVariants.{Accept, Deny}
 use Rattle.apd_base.specs.Sets.{SetOf, contains}
 use Rattle.apd_base.specs.State.{State, station_at, policy_at, list_cmp, which_cmp, is_row_of, list_count, IsListed}
 use Rattle.apd_base.specs.Addr.{bssid_cmp, addr_cmp, is_among}
-use Rattle.apd_base.proofs.AddrLaws.{addr_total, bssid_total, bssid_exact, same_addr}
-use Rattle.apd_base.proofs.MapLaws.{one_or_apart, apart, tied, retain_keys-insert_in, retain_keys-insert_out}
-use Rattle.apd_base.proofs.StateLaws.{which_total, which_exact, list_total, list_exact}
+use Rattle.apd_base.proofs.AddrLemmas.{addr_total, bssid_total, bssid_exact, same_addr}
+use Rattle.apd_base.proofs.MapLemmas.{one_or_apart, apart, tied, retain_keys-insert_in, retain_keys-insert_out}
+use Rattle.apd_base.proofs.StateLemmas.{which_total, which_exact, list_total, list_exact}
 use Rattle.apd_conf.specs.declared.conf.Conf.{Conf}
 use Rattle.apd_conf.specs.Conf.{policy_of}
 use Rattle.apd_conf.specs.ListFile.{IsList}

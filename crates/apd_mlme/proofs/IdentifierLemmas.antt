@@ -14,9 +14,9 @@ use Rattle.apd_base.specs.declared.station.Station.{Station}
 use Rattle.apd_base.specs.declared.station.Station.TheVariants.{Authenticated, Associated}
 use Rattle.apd_base.specs.Addr.{bssid_cmp, station_cmp}
 use Rattle.apd_base.specs.State.{State, station_at, aid_of, aid_at, stations_of}
-use Rattle.apd_base.proofs.AddrLaws.{bssid_total, bssid_exact, station_total, station_exact}
-use Rattle.apd_base.proofs.MapLaws.{one_or_apart, apart, tied, get_remove_other}
-use Rattle.apd_base.proofs.StationLaws.{same_aid}
+use Rattle.apd_base.proofs.AddrLemmas.{bssid_total, bssid_exact, station_total, station_exact}
+use Rattle.apd_base.proofs.MapLemmas.{one_or_apart, apart, tied, get_remove_other}
+use Rattle.apd_base.proofs.StationLemmas.{same_aid}
 use Rattle.apd_table.specs.LeastFree.{IsTaken, IsLeastFree}
 use Rattle.apd_table.specs.Sound.{Sound}
 use Rattle.apd_table.specs.Addresses.{addresses_at}
@@ -25,7 +25,7 @@ use Rattle.apd_mlme.specs.rules.Identifiers.{identifiers_to, identifiers, is_num
 use Rattle.apd_base.proofs.Cases.{differ, none_is, not_false, not_yes, same_some, value_of}
 use Rattle.std.proofs.lemmas.Bool.{eqb-true}
 use Rattle.std.proofs.lemmas.List.Folds.{Any-from_list_any}
-use Rattle.apd_base.proofs.StateLaws.{station_of_aid}
+use Rattle.apd_base.proofs.StateLemmas.{station_of_aid}
 
 -- what is found first among numbers that rise
 find-append_none : {A : Type 0} (p : A → Bool) (xs ys : List A) → find p xs ≡ None → find p (xs ++ ys) ≡ find p ys

@@ -6,8 +6,8 @@ use Rattle.apd_base.specs.declared.address.Addr.{Addr}
 use Rattle.apd_base.specs.declared.address.Bssid.{Bssid}
 use Rattle.apd_base.specs.Addr.{bssid_cmp, is_among}
 use Rattle.apd_base.specs.State.{State, station_at, policy_at, aid_at}
-use Rattle.apd_base.proofs.AddrLaws.{bssid_total, bssid_exact, other_way}
-use Rattle.apd_base.proofs.MapLaws.{apart, tied}
+use Rattle.apd_base.proofs.AddrLemmas.{bssid_total, bssid_exact, other_way}
+use Rattle.apd_base.proofs.MapLemmas.{apart, tied}
 use Rattle.apd_conf.specs.declared.conf.Conf.{Conf}
 use Rattle.apd_conf.specs.Conf.{policy_of}
 use Rattle.apd_frame.specs.declared.codes.TheConstants.Reason.{UNSPECIFIED}

@@ -12,7 +12,7 @@ use Rattle.apd_conf.specs.declared.ignore_broadcast_ssid.IgnoreBroadcastSsid.The
 use Rattle.apd_frame.specs.Contents.{ProbeRequest}
 use Rattle.apd_frame.specs.Elements.{well_formed, first_with}
 use Rattle.apd_frame.specs.declared.element.TheConstants.{SSID}
-use Rattle.apd_frame.proofs.ElementLaws.{all_bytes, is_well_formed, well_formed_is}
+use Rattle.apd_frame.proofs.ElementLemmas.{all_bytes, is_well_formed, well_formed_is}
 use Rattle.apd_mlme.specs.Outs.{sent}
 use Rattle.apd_mlme.specs.rules.ProbeRequest.{is_open, is_asked, is_answered, probe_response, probe_verdict}
 use Rattle.apd_mlme.specs.laws.Probe.{AsksFor, IsProbeFor, IsProbed}

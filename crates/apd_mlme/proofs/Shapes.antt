@@ -12,9 +12,9 @@ use Rattle.apd_base.specs.declared.station.Station.TheVariants.{Authenticated, A
 use Rattle.apd_base.specs.declared.station.Which.{Which}
 use Rattle.apd_base.specs.Addr.{addr_cmp}
 use Rattle.apd_base.specs.State.{State, station_at, policy_at, aid_of}
-use Rattle.apd_base.proofs.AddrLaws.{addr_total, addr_exact}
+use Rattle.apd_base.proofs.AddrLemmas.{addr_total, addr_exact}
 use Rattle.apd_base.proofs.Cases.{differ}
-use Rattle.apd_base.proofs.MapLaws.{tied}
+use Rattle.apd_base.proofs.MapLemmas.{tied}
 use Rattle.apd_conf.specs.declared.conf.Conf.{Conf}
 use Rattle.apd_conf.specs.Confs.{conf_at}
 use Rattle.apd_frame.specs.Contents.{Contents, AssociationRequest, ProbeRequest, authentication, association_request, reassociation_request, probe_request, disassociation, deauthentication, uplink}

@@ -14,8 +14,8 @@ use Rattle.apd_base.specs.declared.station.Which.{Which}
 use Rattle.apd_base.specs.declared.station.Station.TheVariants.{Authenticated}
 use Rattle.apd_base.specs.Addr.{addr_cmp, bssid_cmp, is_among}
 use Rattle.apd_base.specs.State.{State, station_at, aid_of, aid_at}
-use Rattle.apd_base.proofs.AddrLaws.{addr_total, addr_exact, other_way}
-use Rattle.apd_base.proofs.MapLaws.{tied}
+use Rattle.apd_base.proofs.AddrLemmas.{addr_total, addr_exact, other_way}
+use Rattle.apd_base.proofs.MapLemmas.{tied}
 use Rattle.apd_conf.specs.declared.conf.Conf.{Conf}
 use Rattle.apd_conf.specs.Confs.{conf_at}
 use Rattle.apd_frame.specs.Contents.{AssociationRequest}

@@ -16,7 +16,7 @@ use Rattle.apd_base.specs.declared.station.Station.TheVariants.{Authenticated, A
 use Rattle.apd_base.specs.declared.station.StationLimit.{StationLimit}
 use Rattle.apd_base.specs.declared.station.Which.{Which}
 use Rattle.apd_base.specs.declared.station.Which.TheVariants.{Accept, Deny}
-use Rattle.apd_base.proofs.StationLaws.{same_aid, same_limit, same_mode, same_which}
+use Rattle.apd_base.proofs.StationLemmas.{same_aid, same_limit, same_mode, same_which}
 use Rattle.apd_record.specs.declared.change.Change.{Change}
 use Rattle.apd_record.specs.declared.change.Change.TheVariants.{Put, Drop, ListAdd, ListDel, ListClear, Policy}
 use Rattle.apd_record.specs.Ranges.{IsStation, IsChange, AreChanges}

@@ -4,7 +4,7 @@ use Rattle.std.specs.Prelude.{IfOk, OnOk}
 use Rattle.apd_mlme.specs.declared.decision.Recipient.{Recipient}
 use Rattle.apd_slot.specs.Wanted.{Stations}
 use Rattle.apd_world.specs.Proper.{IsProper}
-use Rattle.apd_world.specs.Seen.{durable_of}
+use Rattle.apd_world.specs.WorldParts.{durable_of}
 use Rattle.apd_world.specs.Starting.{IsFlushed, IsHandedOut, IsStarted}
 use Rattle.apd_world.specs.declared.fault.WorldFault.{WorldFault}
 use Rattle.apd_world.specs.declared.step.Told.{Told}

@@ -9,11 +9,11 @@ use Rattle.apd_core.specs.declared.input.QuietReason.{QuietReason}
 use Rattle.apd_mlme.specs.Happening.{Happening}
 use Rattle.apd_slot.specs.Wanted.{Stations}
 use Rattle.apd_world.specs.Proper.{IsProper}
-use Rattle.apd_world.specs.Seen.{durable_of}
+use Rattle.apd_world.specs.WorldParts.{durable_of}
 use Rattle.apd_world.specs.declared.step.Step.{Step}
 use Rattle.apd_world.specs.declared.world.World.{World}
 use Rattle.apd_script.specs.Lines.{Said, Empty, Received, Tick, Command, Take, Call, Publish, Hand, Flush, Stop}
-use Rattle.apd_script.specs.Meant.{conf_meant}
+use Rattle.apd_script.specs.CommandInterface.{conf_meant}
 use Rattle.apd_script.specs.Script.{AreRun, confs_of, IsCarriedOut, IsMade, IsMeant, IsPlaced, IsProperAt, IsRequested, IsRun, IsScriptRun, IsTried}
 use Rattle.apd_script.specs.declared.script.standing.Standing.{Standing}
 

@@ -9,15 +9,15 @@ use Rattle.apd_ctrl.specs.declared.parser.Refusal.{Refusal}
 use Rattle.apd_core.specs.declared.input.QuietReason.{QuietReason}
 use Rattle.apd_mlme.specs.Happening.{Happening}
 use Rattle.apd_slot.specs.Wanted.{Stations}
-use Rattle.apd_world.specs.Seen.{durable_of}
+use Rattle.apd_world.specs.WorldParts.{durable_of}
 use Rattle.apd_world.specs.Starting.{HasGoneOn, applies, hands, rounds}
 use Rattle.apd_world.specs.WorldRun.{IsWorldStep}
 use Rattle.apd_world.specs.declared.step.Step.{Step}
 use Rattle.apd_world.specs.declared.step.Told.{Told}
 use Rattle.apd_world.specs.declared.world.World.{World}
-use Rattle.apd_world.proofs.RunLaws.{gone_by_flushing, gone_by_handing, gone_then, none_made, one_made}
+use Rattle.apd_world.proofs.RunLemmas.{gone_by_flushing, gone_by_handing, gone_then, none_made, one_made}
 use Rattle.apd_script.specs.Lines.{Said, Empty, Received, Tick, Command, Take, Call, Publish, Hand, Flush, Stop, Says, HaveNoStop}
-use Rattle.apd_script.specs.Meant.{conf_meant}
+use Rattle.apd_script.specs.CommandInterface.{conf_meant}
 use Rattle.apd_script.specs.Script.{AreRun, confs_of, IsCarriedOut, IsMade, IsMeant, IsPlaced, IsRequested, IsRun, IsTried, Starts}
 use Rattle.apd_script.specs.declared.script.standing.Standing.{Standing}
 

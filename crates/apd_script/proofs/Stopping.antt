@@ -12,7 +12,7 @@ use Rattle.apd_store.specs.Image.{Shows}
 use Rattle.apd_world.specs.Outside.{device_of}
 use Rattle.apd_world.specs.Proper.{IsProper}
 use Rattle.apd_world.specs.Resumed.{AreOfSame, AreResumed}
-use Rattle.apd_world.specs.Seen.{durable_of, slots_of}
+use Rattle.apd_world.specs.WorldParts.{durable_of, slots_of}
 use Rattle.apd_world.specs.declared.world.World.{World}
 use Rattle.apd_script.specs.Script.{AreRenewed, confs_of, IsRestarted, Restarts, Starts, Stops}
 use Rattle.apd_script.specs.declared.script.fault.ScriptFault.{ScriptFault}

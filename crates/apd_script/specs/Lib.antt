@@ -1,5 +1,5 @@
 pub mod Configured
 pub mod Lines
-pub mod Meant
+pub mod CommandInterface
 pub mod Refused
 pub mod Script

@@ -24,7 +24,7 @@ use Rattle.apd_store.specs.Image.{Shows}
 use Rattle.apd_world.specs.Outside.{device_of}
 use Rattle.apd_world.specs.Proper.{IsProper}
 use Rattle.apd_world.specs.Resumed.{AreResumed}
-use Rattle.apd_world.specs.Seen.{durable_of, is_up_if, slot_at, slots_of}
+use Rattle.apd_world.specs.WorldParts.{durable_of, is_up_if, slot_at, slots_of}
 use Rattle.apd_world.specs.Starting.{IsFlushed, IsHandedOut, IsStarted}
 use Rattle.apd_world.specs.WorldRun.{IsWorldStep}
 use Rattle.apd_world.specs.declared.step.Step.{Step}
@@ -33,7 +33,7 @@ use Rattle.apd_world.specs.declared.step.Told.{Told}
 use Rattle.apd_world.specs.declared.step.Told.TheVariants.{NoMemory}
 use Rattle.apd_world.specs.declared.world.World.{World}
 use Rattle.apd_script.specs.Lines.{Said, Empty, Received, Tick, Command, Take, Call, Publish, Hand, Flush, Stop, Says, IsBad, IsNotPossible}
-use Rattle.apd_script.specs.Meant.{conf_meant}
+use Rattle.apd_script.specs.CommandInterface.{conf_meant}
 use Rattle.apd_script.specs.Refused.{refused}
 use Rattle.apd_script.specs.declared.script.fault.ScriptFault.{ScriptFault}
 use Rattle.apd_script.specs.declared.script.fault.ScriptFault.TheVariants as fault

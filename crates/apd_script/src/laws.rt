@@ -5,7 +5,7 @@ ghost use Rattle.apd_script.specs.Lines.{HaveNoStop};
 ghost use Rattle.apd_script.specs.Script.{AreRun, IsScriptRun, Starts};
 ghost use Rattle.apd_script.specs.declared.script.standing.Standing.{Standing};
 ghost use Rattle.apd_world.specs.Proper.{IsProper};
-ghost use Rattle.apd_world.specs.Seen.{durable_of};
+ghost use Rattle.apd_world.specs.WorldParts.{durable_of};
 ghost use Rattle.apd_world.specs.Starting.{HasGoneOn};
 ghost use Rattle.apd_world.specs.declared.world.World.{World as AnyWorld};
 

@@ -3,8 +3,8 @@ use Rattle.std.proofs.Common.{◌≡◌, ℕ, Some, None, Result, Ok, Err, IsOk,
 use Rattle.std.specs.FinMap as map
 use Rattle.std.specs.FinMap.{same_map}
 use Rattle.apd_base.specs.declared.address.Addr.{Addr}
-use Rattle.apd_base.proofs.AddrLaws.{addr_total, addr_exact}
-use Rattle.apd_base.proofs.MapLaws.{one_or_apart, get_inserted, get_insert_other, get_removed, get_remove_other}
+use Rattle.apd_base.proofs.AddrLemmas.{addr_total, addr_exact}
+use Rattle.apd_base.proofs.MapLemmas.{one_or_apart, get_inserted, get_insert_other, get_removed, get_remove_other}
 use Rattle.apd_slot.specs.Wanted.{Stations}
 
 -- over a value

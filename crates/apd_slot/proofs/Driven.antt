@@ -4,7 +4,7 @@ use Rattle.std.specs.Cmp.{eq_by_cmp_equiv}
 use Rattle.std.specs.FinMap as map
 use Rattle.std.specs.FinMap.{get-insert, get-remove}
 use Rattle.apd_base.specs.declared.address.Addr.{Addr}
-use Rattle.apd_base.proofs.AddrLaws.{addr_total}
+use Rattle.apd_base.proofs.AddrLemmas.{addr_total}
 use Rattle.apd_mlme.specs.laws.Driver.{driven_by}
 use Rattle.apd_mlme.specs.declared.decision.Out.{Out}
 use Rattle.apd_mlme.specs.declared.decision.Out.TheVariants.{Install, Remove, Frame, Text}

@@ -1,4 +1,4 @@
 mod Back
 pub mod Driven
 mod Pushed
-pub mod RowsLaws
+pub mod RowsLemmas

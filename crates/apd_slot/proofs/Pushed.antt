@@ -6,9 +6,9 @@ use Rattle.std.specs.FinMap as map
 use Rattle.std.specs.FinMap.{find, is_sorted, from_entries, from_entries_push, entries, entries_sorted, get-from_entries, get-entries, same_map}
 use Rattle.apd_base.specs.declared.address.Addr.{Addr}
 use Rattle.apd_base.specs.Addr.{addr_cmp}
-use Rattle.apd_base.proofs.AddrLaws.{addr_total, addr_exact}
-use Rattle.apd_base.proofs.MapLaws.{tied}
-use Rattle.apd_base.proofs.RowsLaws.{tied_not_below, is_sorted_tail}
+use Rattle.apd_base.proofs.AddrLemmas.{addr_total, addr_exact}
+use Rattle.apd_base.proofs.MapLemmas.{tied}
+use Rattle.apd_base.proofs.RowsLemmas.{tied_not_below, is_sorted_tail}
 use Rattle.apd_slot.specs.Wanted.{Stations}
 
 abbrev Row : Type 0

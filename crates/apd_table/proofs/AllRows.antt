@@ -13,10 +13,10 @@ use Rattle.apd_base.specs.declared.station.Which.TheVariants.{Accept, Deny}
 use Rattle.apd_base.specs.Addr.{addr_cmp, bssid_cmp, is_among}
 use Rattle.apd_base.specs.Sets.{contains}
 use Rattle.apd_base.specs.State.{State, is_row_of, station_at, count}
-use Rattle.apd_base.proofs.AddrLaws.{addr_total, addr_exact, bssid_total, bssid_exact, station_total, station_exact}
-use Rattle.apd_base.proofs.MapLaws.{tied, passes_any}
+use Rattle.apd_base.proofs.AddrLemmas.{addr_total, addr_exact, bssid_total, bssid_exact, station_total, station_exact}
+use Rattle.apd_base.proofs.MapLemmas.{tied, passes_any}
 use Rattle.apd_base.proofs.RowsMaps.{entries-retain_keys}
-use Rattle.apd_base.proofs.StateLaws.{list_total, list_exact}
+use Rattle.apd_base.proofs.StateLemmas.{list_total, list_exact}
 use Rattle.apd_acl.specs.Lists.{has}
 use Rattle.apd_acl.specs.Policy.{is_allowed}
 use Rattle.apd_acl.specs.declared.lists.Lists.{Lists}

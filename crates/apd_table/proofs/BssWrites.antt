@@ -10,7 +10,7 @@ use Rattle.std.specs.FinMap as map
 use Rattle.std.specs.FinMap.{FinMap, find, is_sorted, from_sorted, IsAntisymmetric, get-empty, get-insert, same_map}
 use Rattle.std.specs.FinMap.Entries.{find-put}
 use Rattle.std.proofs.lemmas.Option.{get_or_from_slice_get}
-use Rattle.apd_base.specs.Rows.{place, later, by_order, put_at, value_at}
+use Rattle.apd_base.specs.Rows.{place, shifted, by_order, put_at, value_at}
 use Rattle.apd_base.specs.Sets.{SetOf, contains}
 use Rattle.apd_base.specs.Addr.{addr_cmp, bssid_cmp}
 use Rattle.apd_base.specs.State.{list_cmp, which_cmp, is_row_of}
@@ -20,18 +20,18 @@ use Rattle.apd_base.specs.declared.station.Policy.{Policy}
 use Rattle.apd_base.specs.declared.station.Station.{Station}
 use Rattle.apd_base.specs.declared.station.Which.{Which}
 use Rattle.apd_base.specs.declared.station.Which.TheVariants.{Accept, Deny}
-use Rattle.apd_base.proofs.AddrLaws.{bssid_total, bssid_exact}
-use Rattle.apd_base.proofs.MapLaws.{one_or_apart, tied}
-use Rattle.apd_base.proofs.RowsLaws.{put-place, find-place}
+use Rattle.apd_base.proofs.AddrLemmas.{bssid_total, bssid_exact}
+use Rattle.apd_base.proofs.MapLemmas.{one_or_apart, tied}
+use Rattle.apd_base.proofs.RowsLemmas.{put-place, find-place}
 use Rattle.apd_base.proofs.RowsMaps.{sorted_put_at}
-use Rattle.apd_base.proofs.StateLaws.{list_total, list_exact}
+use Rattle.apd_base.proofs.StateLemmas.{list_total, list_exact}
 use Rattle.apd_acl.specs.Lists.{has, no_lists}
 use Rattle.apd_table.specs.BssRows.{list_rows, state_of_rows, joined, members_of, parts_of, policy_of, policy_rows, is_listed_in, with_bss, with_policy, with_added, with_removed, with_cleared, with_row, at_row}
 use Rattle.apd_table.specs.BssState.{BssState}
 use Rattle.apd_table.specs.Members.{after_row, no_members, put_after}
 use Rattle.apd_table.specs.declared.bss_rows.Bss.{Bss}
 use Rattle.apd_table.specs.declared.members.Members.{Members}
-use Rattle.apd_table.proofs.BssLaws.{get-parts_of, contains-list_rows}
+use Rattle.apd_table.proofs.BssLemmas.{get-parts_of, contains-list_rows}
 use Rattle.apd_table.proofs.ListSets.{same_set, insert_here, insert_elsewhere, remove_here, remove_elsewhere, clear_here, clear_elsewhere, has_added, has_removed, has_cleared}
 use Rattle.apd_base.proofs.Cases.{none_is}
 
@@ -49,7 +49,7 @@ module _ {K X : Type 0} {R : K → K → Ordering} (o : IsTotalOrder R) (exact :
   abbrev pub EntryAt : K → List (K × X) → ℕ → Type 0
   EntryAt k es i = (x : X) × (slice_get es i ≡ Some (k, x)) × (find R k es ≡ Some x)
 
-  deeper : (k : K) (e : K × X) (es : List (K × X)) → R k e.0 ≡ Greater → (p : Result ℕ ℕ) → ((j : ℕ) → p ≡ Ok j → EntryAt k es j) → (i : ℕ) → later 1 p ≡ Ok i → EntryAt k (e ∷ es) i
+  deeper : (k : K) (e : K × X) (es : List (K × X)) → R k e.0 ≡ Greater → (p : Result ℕ ℕ) → ((j : ℕ) → p ≡ Ok j → EntryAt k es j) → (i : ℕ) → shifted 1 p ≡ Ok i → EntryAt k (e ∷ es) i
   deeper k e es g (Err j) rest i is = err_ok (1 + j) i is
   deeper k e es g (Ok j) rest i is =
       let found = rest j refl in
@@ -58,7 +58,7 @@ module _ {K X : Type 0} {R : K → K → Ordering} (o : IsTotalOrder R) (exact :
   pub entry_at : (k : K) (es : List (K × X)) (i : ℕ) → place R k es ≡ Ok i → EntryAt k es i
   entry_at k [] i is = err_ok 0 i is
   entry_at k (e ∷ es) i is =
-      elim (R k e.0) as (λ r. R k e.0 ≡ r → by_order r (Err 0) (Ok 0) (later 1 (place R k es)) ≡ Ok i → EntryAt k (e ∷ es) i) [
+      elim (R k e.0) as (λ r. R k e.0 ≡ r → by_order r (Err 0) (Ok 0) (shifted 1 (place R k es)) ≡ Ok i → EntryAt k (e ∷ es) i) [
         | Less ↦ λ p q. err_ok 0 i q
         | Equal ↦ λ p q. (
           e.1,

@@ -7,9 +7,9 @@ use Rattle.std.specs.FinMap as map
 use Rattle.apd_base.specs.declared.address.Addr.{Addr}
 use Rattle.apd_base.specs.declared.address.Bssid.{Bssid}
 use Rattle.apd_base.specs.Addr.{bssid_cmp}
-use Rattle.apd_base.proofs.AddrLaws.{bssid_total, bssid_exact, same_bssid}
-use Rattle.apd_base.proofs.MapLaws.{one_or_apart, tied}
-use Rattle.apd_base.proofs.StateLaws.{station_of_aid}
+use Rattle.apd_base.proofs.AddrLemmas.{bssid_total, bssid_exact, same_bssid}
+use Rattle.apd_base.proofs.MapLemmas.{one_or_apart, tied}
+use Rattle.apd_base.proofs.StateLemmas.{station_of_aid}
 use Rattle.apd_base.specs.State.{State, aid_at, station_at}
 use Rattle.apd_table.specs.Can.{IsFreeFor, MayHave}
 use Rattle.apd_table.specs.Rows.{is_associated_apart}

@@ -13,8 +13,8 @@ use Rattle.apd_base.specs.declared.station.AclMode.{AclMode}
 use Rattle.apd_base.specs.declared.station.Policy.{Policy}
 use Rattle.apd_base.specs.declared.station.Station.{Station}
 use Rattle.apd_base.specs.Addr.{addr_cmp, bssid_cmp, is_among}
-use Rattle.apd_base.proofs.AddrLaws.{addr_total, addr_exact, bssid_total, bssid_exact, station_total, station_exact, same_bssid, same_addr}
-use Rattle.apd_base.proofs.MapLaws.{tied, passes_any, any_passes}
+use Rattle.apd_base.proofs.AddrLemmas.{addr_total, addr_exact, bssid_total, bssid_exact, station_total, station_exact, same_bssid, same_addr}
+use Rattle.apd_base.proofs.MapLemmas.{tied, passes_any, any_passes}
 use Rattle.apd_base.specs.State.{State, station_at, policy_at}
 use Rattle.apd_table.specs.Allowed.{allowed_in, is_denied_row, denied_by}
 use Rattle.apd_table.specs.Can.{CanSet}

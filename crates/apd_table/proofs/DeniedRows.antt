@@ -10,8 +10,8 @@ use Rattle.apd_base.specs.declared.address.Addr.{Addr}
 use Rattle.apd_base.specs.declared.address.Bssid.{Bssid}
 use Rattle.apd_base.specs.declared.station.AclMode.{AclMode}
 use Rattle.apd_base.specs.declared.station.Station.{Station}
-use Rattle.apd_base.proofs.AddrLaws.{bssid_total, bssid_exact, station_total, station_exact, same_bssid}
-use Rattle.apd_base.proofs.MapLaws.{tied, passes_any, any_passes}
+use Rattle.apd_base.proofs.AddrLemmas.{bssid_total, bssid_exact, station_total, station_exact, same_bssid}
+use Rattle.apd_base.proofs.MapLemmas.{tied, passes_any, any_passes}
 use Rattle.apd_table.specs.Allowed.{denied_by, is_denied_row}
 use Rattle.apd_table.specs.Rows.{is_row_of}
 use Rattle.apd_table.specs.Sound.{Sound}

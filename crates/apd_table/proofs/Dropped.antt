@@ -7,13 +7,13 @@ use Rattle.std.specs.FinMap.{len-remove}
 use Rattle.apd_base.specs.declared.address.Addr.{Addr}
 use Rattle.apd_base.specs.declared.address.Bssid.{Bssid}
 use Rattle.apd_base.specs.Addr.{bssid_cmp}
-use Rattle.apd_base.proofs.AddrLaws.{station_total, station_exact}
-use Rattle.apd_base.proofs.MapLaws.{one_or_apart, get_removed, get_remove_other, retain_keys-remove}
+use Rattle.apd_base.proofs.AddrLemmas.{station_total, station_exact}
+use Rattle.apd_base.proofs.MapLemmas.{one_or_apart, get_removed, get_remove_other, retain_keys-remove}
 use Rattle.apd_base.specs.State.{State, station_at, aid_of, aid_at, count, stations_of}
 use Rattle.apd_record.specs.Meaning.{drop_station}
 use Rattle.apd_table.specs.Sound.{Sound}
 use Rattle.apd_base.proofs.Cases.{none_is}
-use Rattle.apd_base.proofs.StateLaws.{station_of_aid}
+use Rattle.apd_base.proofs.StateLemmas.{station_of_aid}
 
 module _ (s : State) (b : Bssid) (a : Addr) where
   abbrev new : State

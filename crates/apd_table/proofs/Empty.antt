@@ -13,8 +13,8 @@ use Rattle.apd_base.specs.declared.station.Station.{Station}
 use Rattle.apd_base.specs.declared.station.Which.{Which}
 use Rattle.apd_base.specs.declared.station.Policy.{Policy}
 use Rattle.apd_base.specs.Addr.{station_cmp, bssid_cmp}
-use Rattle.apd_base.proofs.AddrLaws.{station_total, station_exact}
-use Rattle.apd_base.proofs.StateLaws.{list_total, list_exact}
+use Rattle.apd_base.proofs.AddrLemmas.{station_total, station_exact}
+use Rattle.apd_base.proofs.StateLemmas.{list_total, list_exact}
 use Rattle.apd_base.specs.State.{empty_state, station_at, aid_of, aid_at, list_cmp, is_row_of}
 use Rattle.apd_table.specs.Sound.{Sound}
 use Rattle.apd_base.proofs.Cases.{differ, none_is}

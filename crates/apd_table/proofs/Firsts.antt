@@ -13,8 +13,8 @@ use Rattle.apd_base.specs.declared.address.Addr.{Addr}
 use Rattle.apd_base.specs.declared.address.Bssid.{Bssid}
 use Rattle.apd_base.specs.declared.station.Station.{Station}
 use Rattle.apd_base.specs.Addr.{addr_cmp, bssid_cmp, station_cmp}
-use Rattle.apd_base.proofs.AddrLaws.{bssid_total, station_total, station_exact, same_bssid}
-use Rattle.apd_base.proofs.RowsLaws.{is_sorted_tail}
+use Rattle.apd_base.proofs.AddrLemmas.{bssid_total, station_total, station_exact, same_bssid}
+use Rattle.apd_base.proofs.RowsLemmas.{is_sorted_tail}
 use Rattle.apd_acl.specs.Least.{IsLeast, IsLeastAbove}
 use Rattle.apd_acl.proofs.Above.{found_head, head_least, IsAbove, NoneAbove}
 use Rattle.apd_table.specs.Rows.{is_row_of, if_row_of, address_and_station}

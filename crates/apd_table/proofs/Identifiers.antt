@@ -5,7 +5,7 @@ use Rattle.apd_base.specs.declared.address.Bssid.{Bssid}
 use Rattle.apd_base.specs.declared.limits.TheConstants.{MAX_STATIONS}
 use Rattle.apd_base.proofs.Cases.{differ}
 use Rattle.apd_base.specs.State.{State, station_at}
-use Rattle.apd_table.proofs.MembersLaws.{none_taken, small}
+use Rattle.apd_table.proofs.MembersLemmas.{none_taken, small}
 use Rattle.apd_table.proofs.Places.{ArePlaces}
 use Rattle.apd_table.specs.LeastFree.{IsTaken, IsLeastFree}
 use Rattle.apd_table.specs.Members.{is_set}

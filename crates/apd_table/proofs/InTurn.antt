@@ -6,8 +6,8 @@ use Rattle.std.specs.FinMap.{same_map}
 use Rattle.apd_base.specs.declared.address.Addr.{Addr}
 use Rattle.apd_base.specs.declared.address.Bssid.{Bssid}
 use Rattle.apd_base.specs.declared.station.Station.{Station}
-use Rattle.apd_base.proofs.AddrLaws.{station_total, station_exact}
-use Rattle.apd_base.proofs.MapLaws.{one_or_apart, get_inserted, get_insert_other}
+use Rattle.apd_base.proofs.AddrLemmas.{station_total, station_exact}
+use Rattle.apd_base.proofs.MapLemmas.{one_or_apart, get_inserted, get_insert_other}
 use Rattle.apd_base.specs.State.{State, station_at}
 use Rattle.apd_record.specs.declared.change.Change.{Change}
 use Rattle.apd_record.specs.Meaning.{put_station}

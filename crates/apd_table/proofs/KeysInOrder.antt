@@ -8,9 +8,9 @@ use Rattle.std.specs.FinMap.{find, get, is_sorted, entries, entries_sorted, get-
 use Rattle.apd_base.specs.Addr.{addr_cmp}
 use Rattle.apd_base.specs.Sets.{SetOf, contains}
 use Rattle.apd_base.specs.declared.address.Addr.{Addr}
-use Rattle.apd_base.proofs.AddrLaws.{addr_total, addr_exact}
-use Rattle.apd_base.proofs.MapLaws.{one_or_apart, tied}
-use Rattle.apd_base.proofs.RowsLaws.{below_found, is_sorted_head, is_sorted_tail}
+use Rattle.apd_base.proofs.AddrLemmas.{addr_total, addr_exact}
+use Rattle.apd_base.proofs.MapLemmas.{one_or_apart, tied}
+use Rattle.apd_base.proofs.RowsLemmas.{below_found, is_sorted_head, is_sorted_tail}
 use Rattle.apd_base.proofs.Cases.{value_of, is_some_of, none_is}
 use Rattle.apd_acl.proofs.Above.{found_head, head_least}
 use Rattle.apd_acl.specs.Least.{IsLeast, IsLeastAbove}

@@ -1,6 +1,6 @@
 pub mod AllRows
-mod AllowedLaws
-mod BssLaws
+mod AllowedLemmas
+mod BssLemmas
 mod BssWrites
 mod Clashes
 pub mod Denied
@@ -14,7 +14,7 @@ mod KeysInOrder
 pub mod ListChanges
 mod ListCounts
 pub mod ListSets
-mod MembersLaws
+mod MembersLemmas
 mod OneDenied
 mod Places
 pub mod PolicySet

@@ -10,14 +10,14 @@ use Rattle.apd_base.specs.declared.address.Addr.{Addr}
 use Rattle.apd_base.specs.declared.address.Bssid.{Bssid}
 use Rattle.apd_base.specs.declared.station.Which.{Which}
 use Rattle.apd_base.specs.declared.station.Which.TheVariants.{Accept, Deny}
-use Rattle.apd_base.proofs.AddrLaws.{bssid_total, bssid_exact}
-use Rattle.apd_base.proofs.MapLaws.{one_or_apart, tied, retain_keys-insert_in, retain_keys-insert_out, retain_keys-remove}
-use Rattle.apd_base.proofs.StateLaws.{which_total, which_exact, list_total, list_exact}
+use Rattle.apd_base.proofs.AddrLemmas.{bssid_total, bssid_exact}
+use Rattle.apd_base.proofs.MapLemmas.{one_or_apart, tied, retain_keys-insert_in, retain_keys-insert_out, retain_keys-remove}
+use Rattle.apd_base.proofs.StateLemmas.{which_total, which_exact, list_total, list_exact}
 use Rattle.apd_record.specs.Meaning.{add_to_list, take_from_list, clear_list}
 use Rattle.apd_table.specs.Allowed.{allowed}
 use Rattle.apd_table.specs.Can.{NoneDenied, CanAdd, CanTake, CanClear}
 use Rattle.apd_table.specs.Sound.{Sound}
-use Rattle.apd_table.proofs.AllowedLaws.{under, allowed-is}
+use Rattle.apd_table.proofs.AllowedLemmas.{under, allowed-is}
 use Rattle.apd_table.proofs.ListCounts.{row_is_of, retained_le}
 use Rattle.apd_table.proofs.ListSets.{same_set, contains-insert, contains-remove, contains-retain_keys, insert_elsewhere, remove_elsewhere, clear_elsewhere}
 

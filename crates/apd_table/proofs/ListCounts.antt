@@ -13,10 +13,10 @@ use Rattle.apd_base.specs.State.{list_cmp, which_cmp, is_row_of}
 use Rattle.apd_base.specs.declared.address.Addr.{Addr}
 use Rattle.apd_base.specs.declared.address.Bssid.{Bssid}
 use Rattle.apd_base.specs.declared.station.Which.{Which}
-use Rattle.apd_base.proofs.AddrLaws.{bssid_total, bssid_exact}
-use Rattle.apd_base.proofs.MapLaws.{one_or_apart, apart, tied}
+use Rattle.apd_base.proofs.AddrLemmas.{bssid_total, bssid_exact}
+use Rattle.apd_base.proofs.MapLemmas.{one_or_apart, apart, tied}
 use Rattle.apd_base.proofs.RowsMaps.{entries-retain_keys}
-use Rattle.apd_base.proofs.StateLaws.{which_total, which_exact, list_total, list_exact}
+use Rattle.apd_base.proofs.StateLemmas.{which_total, which_exact, list_total, list_exact}
 use Rattle.std.proofs.lemmas.Bool.{and_parts}
 use Rattle.std.proofs.lemmas.List.Sums.{length-filter, count_by-le-length}
 use Rattle.apd_table.proofs.ListSets.{same_set, same_row, contains-retain_keys}

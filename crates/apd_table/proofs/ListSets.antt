@@ -13,9 +13,9 @@ use Rattle.apd_base.specs.declared.address.Addr.{Addr}
 use Rattle.apd_base.specs.declared.address.Bssid.{Bssid}
 use Rattle.apd_base.specs.declared.station.Which.{Which}
 use Rattle.apd_base.specs.declared.station.Which.TheVariants.{Accept, Deny}
-use Rattle.apd_base.proofs.AddrLaws.{addr_total, addr_exact, bssid_total, bssid_exact}
-use Rattle.apd_base.proofs.MapLaws.{tied}
-use Rattle.apd_base.proofs.StateLaws.{list_total, list_exact}
+use Rattle.apd_base.proofs.AddrLemmas.{addr_total, addr_exact, bssid_total, bssid_exact}
+use Rattle.apd_base.proofs.MapLemmas.{tied}
+use Rattle.apd_base.proofs.StateLemmas.{list_total, list_exact}
 use Rattle.apd_acl.specs.Lists.{has, added, removed, cleared}
 use Rattle.apd_acl.specs.declared.lists.Lists.{Lists}
 use Rattle.apd_table.proofs.Denied.{one_key}

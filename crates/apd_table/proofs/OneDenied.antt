@@ -15,10 +15,10 @@ use Rattle.apd_base.specs.declared.station.Policy.{Policy}
 use Rattle.apd_base.specs.declared.station.Station.{Station}
 use Rattle.apd_base.specs.declared.station.Which.{Which}
 use Rattle.apd_base.specs.declared.station.Which.TheVariants.{Accept, Deny}
-use Rattle.apd_base.proofs.AddrLaws.{addr_total, addr_exact, bssid_total, bssid_exact, station_total, station_exact, same_bssid}
+use Rattle.apd_base.proofs.AddrLemmas.{addr_total, addr_exact, bssid_total, bssid_exact, station_total, station_exact, same_bssid}
 use Rattle.apd_base.proofs.Cases.{differ, not_yes, is_some_of, second_false}
-use Rattle.apd_base.proofs.MapLaws.{one_or_apart, tied, any_passes}
-use Rattle.apd_base.proofs.RowsLaws.{is_sorted_tail, tied_not_below}
+use Rattle.apd_base.proofs.MapLemmas.{one_or_apart, tied, any_passes}
+use Rattle.apd_base.proofs.RowsLemmas.{is_sorted_tail, tied_not_below}
 use Rattle.apd_acl.specs.Lists.{has}
 use Rattle.apd_acl.specs.Policy.{is_allowed}
 use Rattle.apd_acl.specs.declared.lists.Lists.{Lists}

@@ -8,8 +8,8 @@ use Rattle.apd_base.specs.declared.address.Addr.{Addr}
 use Rattle.apd_base.specs.declared.address.Bssid.{Bssid}
 use Rattle.apd_base.specs.declared.station.Policy.{Policy}
 use Rattle.apd_base.specs.Addr.{bssid_cmp}
-use Rattle.apd_base.proofs.AddrLaws.{bssid_total, bssid_exact}
-use Rattle.apd_base.proofs.MapLaws.{one_or_apart, get_inserted, get_insert_other}
+use Rattle.apd_base.proofs.AddrLemmas.{bssid_total, bssid_exact}
+use Rattle.apd_base.proofs.MapLemmas.{one_or_apart, get_inserted, get_insert_other}
 use Rattle.apd_base.specs.State.{State, station_at, policy_at}
 use Rattle.apd_table.specs.Allowed.{allowed, allowed_in, allowed_under}
 use Rattle.apd_table.specs.Can.{CanSet}

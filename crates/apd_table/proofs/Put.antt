@@ -8,8 +8,8 @@ use Rattle.apd_base.specs.declared.address.Addr.{Addr}
 use Rattle.apd_base.specs.declared.address.Bssid.{Bssid}
 use Rattle.apd_base.specs.declared.station.Station.{Station}
 use Rattle.apd_base.specs.Addr.{bssid_cmp}
-use Rattle.apd_base.proofs.AddrLaws.{station_total, station_exact, bssid_total, bssid_exact}
-use Rattle.apd_base.proofs.MapLaws.{one_or_apart, tied, get_inserted, get_insert_other, retain_keys-insert_in, retain_keys-insert_out}
+use Rattle.apd_base.proofs.AddrLemmas.{station_total, station_exact, bssid_total, bssid_exact}
+use Rattle.apd_base.proofs.MapLemmas.{one_or_apart, tied, get_inserted, get_insert_other, retain_keys-insert_in, retain_keys-insert_out}
 use Rattle.apd_base.specs.declared.station.Station.TheVariants.{Authenticated, Associated}
 use Rattle.apd_base.specs.State.{State, station_at, policy_at, aid_of, aid_at, count, stations_of}
 use Rattle.apd_table.specs.Allowed.{allowed}

@@ -15,11 +15,11 @@ use Rattle.apd_base.specs.declared.station.Station.{Station}
 use Rattle.apd_base.specs.declared.station.Which.{Which}
 use Rattle.apd_base.specs.Addr.{bssid_cmp, station_cmp}
 use Rattle.apd_base.specs.State.{State, empty_state, station_at, policy_at, aid_of, aid_at, list_cmp, IsListed, is_row_of}
-use Rattle.apd_base.proofs.AddrLaws.{bssid_total, bssid_exact, station_total, station_exact}
+use Rattle.apd_base.proofs.AddrLemmas.{bssid_total, bssid_exact, station_total, station_exact}
 use Rattle.apd_base.proofs.Cases.{value_of, is_some_of, none_is}
-use Rattle.apd_base.proofs.MapLaws.{one_or_apart, tied, get_inserted, get_insert_other, get_remove_other}
-use Rattle.apd_base.proofs.RowsLaws.{is_sorted_tail, tied_not_below, find_tied_head}
-use Rattle.apd_base.proofs.StateLaws.{list_total, list_exact}
+use Rattle.apd_base.proofs.MapLemmas.{one_or_apart, tied, get_inserted, get_insert_other, get_remove_other}
+use Rattle.apd_base.proofs.RowsLemmas.{is_sorted_tail, tied_not_below, find_tied_head}
+use Rattle.apd_base.proofs.StateLemmas.{list_total, list_exact}
 use Rattle.apd_record.specs.Meaning.{meaning_of}
 use Rattle.apd_record.specs.declared.change.Change.{Change}
 use Rattle.apd_table.specs.Allowed.{allowed}

@@ -16,16 +16,16 @@ use Rattle.apd_base.specs.declared.address.Addr.{Addr}
 use Rattle.apd_base.specs.declared.address.Bssid.{Bssid}
 use Rattle.apd_base.specs.declared.station.Which.{Which}
 use Rattle.apd_base.specs.declared.station.Which.TheVariants.{Accept, Deny}
-use Rattle.apd_base.proofs.AddrLaws.{bssid_total}
+use Rattle.apd_base.proofs.AddrLemmas.{bssid_total}
 use Rattle.apd_base.proofs.Cases.{first_holds, second_holds, both_hold, is_less}
-use Rattle.apd_base.proofs.RowsLaws.{is_sorted_tail}
-use Rattle.apd_base.proofs.StateLaws.{which_total, list_total}
+use Rattle.apd_base.proofs.RowsLemmas.{is_sorted_tail}
+use Rattle.apd_base.proofs.StateLemmas.{which_total, list_total}
 use Rattle.apd_acl.specs.Lists.{list_of}
 use Rattle.apd_record.specs.declared.change.Change.TheVariants.{ListAdd}
 use Rattle.apd_table.specs.BssRows.{add_rows, list_rows, policy_of, policy_rows}
 use Rattle.apd_table.specs.Snapshot.{policy_change, list_change, policies_of_rows, lists_of_rows}
 use Rattle.apd_table.specs.declared.bss_rows.Bss.{Bss}
-use Rattle.apd_table.proofs.BssLaws.{sorted-parts_of}
+use Rattle.apd_table.proofs.BssLemmas.{sorted-parts_of}
 
 abbrev pub Item : Type 0
 Item = Addr × Unit {0}

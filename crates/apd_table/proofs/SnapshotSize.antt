@@ -18,10 +18,10 @@ use Rattle.apd_base.specs.declared.station.Which.TheVariants.{Accept, Deny}
 use Rattle.apd_base.specs.Addr.{bssid_cmp}
 use Rattle.apd_base.specs.Mode.{mode_number}
 use Rattle.apd_base.specs.State.{State, which_number, which_cmp, policy_at, is_row_of}
-use Rattle.apd_base.proofs.AddrLaws.{bssid_total, station_total, station_exact}
+use Rattle.apd_base.proofs.AddrLemmas.{bssid_total, station_total, station_exact}
 use Rattle.apd_base.proofs.Cases.{is_some_of}
 use Rattle.apd_base.proofs.RowsMaps.{entries-retain_keys}
-use Rattle.apd_base.proofs.StateLaws.{list_total, list_exact}
+use Rattle.apd_base.proofs.StateLemmas.{list_total, list_exact}
 use Rattle.apd_record.specs.Ranges.{IsBssid, IsChange, AreChanges}
 use Rattle.apd_record.specs.Record.{record_of, records_of, station_bytes}
 use Rattle.apd_record.specs.declared.change.Change.{Change}

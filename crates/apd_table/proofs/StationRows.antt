@@ -19,7 +19,7 @@ use Rattle.apd_base.specs.Addr.{IsAddr, addr_cmp, bssid_cmp, station_cmp}
 use Rattle.apd_base.specs.declared.address.Addr.{Addr}
 use Rattle.apd_base.specs.declared.address.Bssid.{Bssid}
 use Rattle.apd_base.specs.declared.station.Station.{Station}
-use Rattle.apd_base.proofs.AddrLaws.{bssid_total, station_total, station_exact}
+use Rattle.apd_base.proofs.AddrLemmas.{bssid_total, station_total, station_exact}
 use Rattle.apd_base.proofs.Cases.{is_some_of, none_is}
 use Rattle.apd_base.proofs.Trees.{find-lookup, rising}
 use Rattle.apd_acl.proofs.Above.{IsAbove, NoneAbove}

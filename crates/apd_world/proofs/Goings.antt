@@ -4,8 +4,8 @@ use Rattle.std.specs.Prelude.{map}
 use Rattle.std.proofs.lemmas.List.{append-nil, map-append, length-take-le, length-drop, take-append-drop}
 use Rattle.apd_base.specs.State.{State}
 use Rattle.apd_base.specs.declared.moment.Moment.{Moment}
-use Rattle.apd_base.proofs.AddrLaws.{bssid_total, bssid_exact}
-use Rattle.apd_base.proofs.MapLaws.{one_or_apart, tied}
+use Rattle.apd_base.proofs.AddrLemmas.{bssid_total, bssid_exact}
+use Rattle.apd_base.proofs.MapLemmas.{one_or_apart, tied}
 use Rattle.apd_conf.specs.declared.conf.Conf.{Conf}
 use Rattle.apd_mlme.specs.Happening.{Happening}
 use Rattle.apd_mlme.specs.declared.decision.Recipient.{Recipient}
@@ -20,11 +20,11 @@ use Rattle.apd_core.specs.Core.{CoreState, front_of, last_of, held_for, ready_fo
 use Rattle.apd_core.specs.Heard.{LastHeard}
 use Rattle.apd_core.specs.Held.{Queue, queue_of, up_to, beyond}
 use Rattle.apd_core.specs.Invariant.{IsCore, AreDecided, numbered_outs}
-use Rattle.apd_core.proofs.CoreLaws.{entry_front, entry_held, outs_only, publish_front, publish_held, hand_held, hand_others}
-use Rattle.apd_core.proofs.HeldLaws.{queue_of-with_outs, queue_of-after_hand, queue_of-after_hand_other}
+use Rattle.apd_core.proofs.CoreLemmas.{entry_front, entry_held, outs_only, publish_front, publish_held, hand_held, hand_others}
+use Rattle.apd_core.proofs.HeldLemmas.{queue_of-with_outs, queue_of-after_hand, queue_of-after_hand_other}
 use Rattle.apd_core.proofs.Keeping.{decided_means, decided_length, decided_push, numbered_push, none_up_to, up_to-append}
 use Rattle.apd_core.proofs.Settling.{decided_split, handed_outs, numbered_split, numbered_above, numbered_within, up_to_beyond, up_to_twice, published_queue}
-use Rattle.apd_world.specs.Going.{AreUnsettled, AreHeldFor, Settles, Goes}
+use Rattle.apd_world.specs.CoreRun.{AreUnsettled, AreHeldFor, Settles, Goes}
 
 -- ---- happenings in two parts
 pub run-append : (confs : List Conf) (es fs : List Happening) (s : State) → run s confs (es ++ fs) ≡ run (run s confs es) confs fs

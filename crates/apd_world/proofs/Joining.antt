@@ -1,8 +1,8 @@
 -- What a world's step does beside its durable core.
 use Rattle.std.proofs.Common.{◌≡◌, ℕ, List, [], ◌++◌, Option, None, Some, inl, inr, refl, sym, ap, subst, ◌∙◌, set}
 use Rattle.apd_base.specs.declared.address.Bssid.{Bssid}
-use Rattle.apd_base.proofs.AddrLaws.{bssid_total, bssid_exact}
-use Rattle.apd_base.proofs.MapLaws.{one_or_apart}
+use Rattle.apd_base.proofs.AddrLemmas.{bssid_total, bssid_exact}
+use Rattle.apd_base.proofs.MapLemmas.{one_or_apart}
 use Rattle.apd_mlme.specs.declared.decision.Out.{Out}
 use Rattle.apd_mlme.specs.declared.decision.Recipient.{Recipient}
 use Rattle.apd_mlme.specs.declared.decision.Recipient.TheVariants.{Radio, Control}
@@ -12,7 +12,7 @@ use Rattle.apd_slot.specs.declared.slot.Slot.{Slot}
 use Rattle.apd_world.specs.Applying.{AppliesFirst}
 use Rattle.apd_world.specs.Queueing.{QueuesReady}
 use Rattle.apd_world.specs.Run.{IsStep}
-use Rattle.apd_world.specs.Seen.{durable_of, slots_of, slot_place, slot_at, queue_of}
+use Rattle.apd_world.specs.WorldParts.{durable_of, slots_of, slot_place, slot_at, queue_of}
 use Rattle.apd_world.specs.WorldRun.{HasNoSlot, IsApplied, IsWorldStep, OthersStay}
 use Rattle.apd_world.specs.declared.world.World.{World}
 use Rattle.apd_world.specs.declared.durable_core.DurableCore.{DurableCore}
@@ -21,7 +21,7 @@ use Rattle.apd_world.specs.declared.step.Step.TheVariants.{Hand, Apply}
 use Rattle.apd_world.specs.declared.step.Told.{Told}
 use Rattle.apd_world.specs.declared.step.Told.TheVariants.{Handed, Queued, Applied, Nothing, NoMemory}
 use Rattle.apd_world.proofs.Goings.{goes_unchanged}
-use Rattle.apd_world.proofs.StepLaws.{step_unchanged}
+use Rattle.apd_world.proofs.StepLemmas.{step_unchanged}
 
 pub some_not_none : {A : Type 0} (o : Option A) (x : A) → o ≡ Some x → ¬ (o ≡ None)
 some_not_none o x some none = cc

@@ -1,15 +1,15 @@
-mod DriveLaws
-pub mod EndLaws
-mod FollowLaws
+mod DriveLemmas
+pub mod EndLemmas
+mod FollowLemmas
 mod Goings
 mod Joining
-mod ResumeLaws
-mod SlotLaws
-mod RoundLaws
-pub mod RunLaws
+mod ResumeLemmas
+mod SlotLemmas
+mod RoundLemmas
+pub mod RunLemmas
 mod Standing
 mod Speaking
-mod StepLaws
-mod WorldDriveLaws
-mod StartLaws
+mod StepLemmas
+mod WorldDriveLemmas
+mod StartLemmas
 mod Recovering

@@ -11,12 +11,12 @@ use Rattle.apd_mlme.specs.declared.decision.Recipient.{Recipient}
 use Rattle.apd_store.specs.Image.{Shows}
 use Rattle.apd_core.specs.Core.{CoreState}
 use Rattle.apd_slot.specs.Wanted.{Stations}
-use Rattle.apd_world.specs.Going.{AreUnsettled, Settles}
+use Rattle.apd_world.specs.CoreRun.{AreUnsettled, Settles}
 use Rattle.apd_world.specs.Outside.{device_of, spoken}
 use Rattle.apd_world.specs.Proper.{IsProper, IsSafe}
 use Rattle.apd_world.specs.Recovery.{HasSpoken, LosesNothing}
 use Rattle.apd_world.specs.Run.{IsRun}
-use Rattle.apd_world.specs.Seen.{durable_of}
+use Rattle.apd_world.specs.WorldParts.{durable_of}
 use Rattle.apd_world.specs.Shown.{ShowsEither}
 use Rattle.apd_world.specs.Steps.{all_entered, all_given}
 use Rattle.apd_world.specs.declared.world.World.{World}

@@ -11,7 +11,7 @@ use Rattle.apd_ctrl.specs.Texts.{text}
 use Rattle.apd_ctrl.specs.declared.command.Query.{Query}
 use Rattle.apd_frame.specs.Contents.{Contents}
 use Rattle.apd_frame.specs.Outcome.{outcome}
-use Rattle.apd_frame.specs.declared.reasons.Ignored.{Ignored}
+use Rattle.apd_frame.specs.declared.ignored.Ignored.{Ignored}
 use Rattle.apd_frame.proofs.Senders.{sender_not_broadcast}
 use Rattle.apd_mlme.specs.laws.Broadcast.{AreFromStations, IsFromStation, NoBroadcastRow}
 use Rattle.apd_mlme.specs.Happening.{Happening, Heard, Kick, ListEdit, Expire, Configure, happening}
@@ -30,12 +30,12 @@ use Rattle.apd_core.specs.declared.input.Input.TheVariants as input
 use Rattle.apd_core.specs.declared.input.QuietReason.{QuietReason}
 use Rattle.apd_core.specs.declared.ticket.Accepted.{Accepted as CoreAccepted}
 use Rattle.apd_core.specs.declared.ticket.Accepted.TheVariants as core_accepted
-use Rattle.apd_core.proofs.HeldLaws.{given_within}
+use Rattle.apd_core.proofs.HeldLemmas.{given_within}
 use Rattle.apd_core.proofs.Settling.{settled_given}
-use Rattle.apd_world.specs.Going.{AreUnsettled}
+use Rattle.apd_world.specs.CoreRun.{AreUnsettled}
 use Rattle.apd_world.specs.Outside.{IsSpoken}
 use Rattle.apd_world.specs.Run.{AreSteps, IsRun}
-use Rattle.apd_world.specs.Spoken.{SpeaksOf}
+use Rattle.apd_world.specs.QueryAnswer.{SpeaksOf}
 use Rattle.apd_world.specs.Steps.{Account, account, all_entered, entered, entered_as, nothing_yet, one_more}
 use Rattle.apd_world.specs.Telling.{Tells}
 use Rattle.apd_world.specs.declared.durable_core.DurableCore.{DurableCore}
@@ -45,7 +45,7 @@ use Rattle.apd_world.specs.declared.step.Step.{Step}
 use Rattle.apd_world.specs.declared.step.Step.TheVariants.{Accept, Take, Call, Publish, Hand, Ask, Apply}
 use Rattle.apd_world.specs.declared.step.Told.{Told}
 use Rattle.apd_world.specs.declared.step.Told.TheVariants.{Accepted, Loaded, Called, Published, Handed, Answered, Nothing, NoMemory}
-use Rattle.apd_world.proofs.StepLaws.{fails_beside, first_within, next_core, second_within}
+use Rattle.apd_world.proofs.StepLemmas.{fails_beside, first_within, next_core, second_within}
 
 -- ---- what is spoken of is settled
 -- the number of the last settled entry doesn't fall, and all that is spoken of is within it, if it was

@@ -24,7 +24,7 @@ use Rattle.apd_flusher.specs.Phases.{phase_from}
 use Rattle.apd_flusher.specs.declared.flusher.Flusher.{Flusher}
 use Rattle.apd_flusher.specs.declared.phase.Phase.{Phase}
 use Rattle.apd_flusher.specs.declared.phase.Phase.TheVariants.{Idle, Busy, Done, Failed}
-use Rattle.apd_world.specs.Going.{AreUnsettled}
+use Rattle.apd_world.specs.CoreRun.{AreUnsettled}
 use Rattle.apd_world.specs.Proper.{IsBetween, IsWaiting, IsUnderWay, IsDurable, IsInStep, IsProper, IsSafe}
 use Rattle.apd_world.specs.Shown.{ShowsEither, ShowsFlight, state_after_flight}
 use Rattle.apd_world.specs.Telling.{IsNext, IsNextReceipt}

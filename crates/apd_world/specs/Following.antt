@@ -12,7 +12,7 @@ use Rattle.apd_mlme.specs.declared.decision.Recipient.TheVariants.{Radio}
 use Rattle.apd_slot.specs.Slots.{wanted_of, IsExact}
 use Rattle.apd_slot.specs.Wanted.{Stations}
 use Rattle.apd_slot.specs.declared.slot.Slot.{Slot}
-use Rattle.apd_world.specs.Seen.{durable_of, slots_of, slot_at, queue_of}
+use Rattle.apd_world.specs.WorldParts.{durable_of, slots_of, slot_at, queue_of}
 use Rattle.apd_world.specs.declared.world.World.{World}
 
 -- the radio of each slot that is up has what is wanted

@@ -1,8 +1,8 @@
 pub mod Applying
 pub mod BegunAnew
 pub mod Following
-pub mod Going
-pub mod Making
+pub mod CoreRun
+pub mod StepsMade
 pub mod Outside
 pub mod Proper
 pub mod Queueing
@@ -10,9 +10,9 @@ pub mod Recovery
 pub mod Resumed
 pub mod Round
 pub mod Run
-pub mod Seen
+pub mod WorldParts
 pub mod Shown
-pub mod Spoken
+pub mod QueryAnswer
 pub mod Starting
 pub mod Steps
 pub mod Telling

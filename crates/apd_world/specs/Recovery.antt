@@ -4,9 +4,9 @@ use Rattle.apd_disk.specs.Disk.{LeavesOnly}
 use Rattle.apd_mlme.specs.Happening.{Happening}
 use Rattle.apd_core.specs.Core.{CoreState}
 use Rattle.apd_slot.specs.Wanted.{Stations}
-use Rattle.apd_world.specs.Going.{AreUnsettled}
+use Rattle.apd_world.specs.CoreRun.{AreUnsettled}
 use Rattle.apd_world.specs.Outside.{device_of, spoken}
-use Rattle.apd_world.specs.Seen.{durable_of}
+use Rattle.apd_world.specs.WorldParts.{durable_of}
 use Rattle.apd_world.specs.Shown.{ShowsFront}
 use Rattle.apd_world.specs.Steps.{all_entered}
 use Rattle.apd_world.specs.WorldRun.{IsWorldRun}

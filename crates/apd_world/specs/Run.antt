@@ -1,7 +1,7 @@
 -- What a list of steps does.
 use Rattle.std.specs.Prelude.{◌≡◌, List, [], ◌∷◌}
 use Rattle.apd_core.specs.Core.{front_of}
-use Rattle.apd_world.specs.Going.{Goes}
+use Rattle.apd_world.specs.CoreRun.{Goes}
 use Rattle.apd_world.specs.Steps.{entered, given, heard_after, all_entered, all_given, all_heard}
 use Rattle.apd_world.specs.Telling.{Tells}
 use Rattle.apd_world.specs.Outside.{IsSpoken}

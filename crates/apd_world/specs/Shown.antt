@@ -7,7 +7,7 @@ use Rattle.apd_mlme.specs.Run.{run}
 use Rattle.apd_record.specs.Meaning.{meaning_of}
 use Rattle.apd_store.specs.Image.{Shows}
 use Rattle.apd_core.specs.Core.{CoreState, batch_of}
-use Rattle.apd_world.specs.Going.{AreUnsettled}
+use Rattle.apd_world.specs.CoreRun.{AreUnsettled}
 
 -- for some number, the image shows the state after so many of these
 pub record ShowsFront (s : State) (confs : List Conf) (hs : List Happening) (image : List ℕ) : Type 0 where

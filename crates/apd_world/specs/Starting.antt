@@ -14,7 +14,7 @@ use Rattle.apd_store.specs.declared.fault.StoreFault.{StoreFault}
 use Rattle.apd_store.specs.declared.fault.StoreFault.TheVariants as store_fault
 use Rattle.apd_world.specs.Outside.{device_of}
 use Rattle.apd_world.specs.Round.{answer_of, round}
-use Rattle.apd_world.specs.Seen.{durable_of, queue_of}
+use Rattle.apd_world.specs.WorldParts.{durable_of, queue_of}
 use Rattle.apd_world.specs.Shown.{ShowsFront}
 use Rattle.apd_world.specs.Steps.{all_entered}
 use Rattle.apd_world.specs.Telling.{HasNoBatch, HasNoCall, HasNoReceipt}

@@ -11,7 +11,7 @@ use Rattle.apd_slot.specs.Wanted.{Stations}
 use Rattle.apd_slot.specs.declared.slot.Slot.{Slot}
 use Rattle.apd_world.specs.Applying.{AppliesFirst}
 use Rattle.apd_world.specs.Run.{IsRun, IsStep}
-use Rattle.apd_world.specs.Seen.{durable_of, slots_of, slot_place, slot_at, queue_of}
+use Rattle.apd_world.specs.WorldParts.{durable_of, slots_of, slot_place, slot_at, queue_of}
 use Rattle.apd_world.specs.Steps.{all_entered, all_given}
 use Rattle.apd_world.specs.Telling.{Tells}
 use Rattle.apd_world.specs.declared.world.World.{World}

@@ -3,7 +3,7 @@ ghost use Rattle.std.specs.Prelude.{◌≡◌, ◌≤◌, ◌<◌, ◌+◌, ◌^
 ghost use Rattle.apd_disk.specs.Disk.{LeavesOnly};
 ghost use Rattle.apd_mlme.specs.Happening.{Happening};
 ghost use Rattle.apd_flusher.specs.Outside.{calls_left, phase_of};
-ghost use Rattle.apd_world.specs.Going.{AreUnsettled, Goes};
+ghost use Rattle.apd_world.specs.CoreRun.{AreUnsettled, Goes};
 ghost use Rattle.apd_world.specs.Round.{said};
 
 use crate::durable_core::DurableCore;

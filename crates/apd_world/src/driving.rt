@@ -3,9 +3,9 @@ ghost use Rattle.std.specs.Prelude.{◌≡◌, ◌++◌, IfOk, OnErr, OnOk, List
 ghost use Rattle.apd_disk.specs.Disk.{LeavesOnly};
 ghost use Rattle.apd_mlme.specs.Happening.{Happening};
 ghost use Rattle.apd_world.specs.Following.{AreExact, AreFollowing};
-ghost use Rattle.apd_world.specs.Going.{AreUnsettled};
+ghost use Rattle.apd_world.specs.CoreRun.{AreUnsettled};
 ghost use Rattle.apd_world.specs.Proper.{IsProper, IsShown};
-ghost use Rattle.apd_world.specs.Seen.{durable_of, slots_of};
+ghost use Rattle.apd_world.specs.WorldParts.{durable_of, slots_of};
 ghost use Rattle.apd_world.specs.Shown.{ShowsFront};
 ghost use Rattle.apd_world.specs.Steps.{all_entered};
 ghost use Rattle.apd_world.specs.Outside.{device_of};

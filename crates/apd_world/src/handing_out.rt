@@ -3,7 +3,7 @@
 ghost use Rattle.std.specs.Prelude.{◌≡◌, ◌≢◌, ◌≤◌, IfErr, IfOk, IsTrue, List, OnErr, OnOk, [], ◌∷◌, false, length};
 ghost use Rattle.apd_disk.specs.Disk.{LeavesOnly};
 ghost use Rattle.apd_mlme.specs.Happening.{Happening};
-ghost use Rattle.apd_world.specs.Going.{AreUnsettled};
+ghost use Rattle.apd_world.specs.CoreRun.{AreUnsettled};
 ghost use Rattle.apd_world.specs.Outside.{device_of};
 ghost use Rattle.apd_world.specs.Shown.{ShowsFront};
 
@@ -22,9 +22,9 @@ pub(crate) type Answers = Vec<(Recipient, Told)>;
 
 impl<D: Disk, R: Radio> World<D, R> {
     ghost use Rattle.apd_world.specs.Following.{AreExact, AreFollowing};
-    ghost use Rattle.apd_world.specs.Making.{AreAllApplied, AreAnswered, SomeAreQuietlyMade};
+    ghost use Rattle.apd_world.specs.StepsMade.{AreAllApplied, AreAnswered, SomeAreQuietlyMade};
     ghost use Rattle.apd_world.specs.Proper.{IsProper};
-    ghost use Rattle.apd_world.specs.Seen.{durable_of, queue_of, slots_of};
+    ghost use Rattle.apd_world.specs.WorldParts.{durable_of, queue_of, slots_of};
     ghost use Rattle.apd_world.specs.Starting.{HasGoneOn, IsHandedOut, IsHanding, OnlyHands, hands, recipient_of};
     ghost use Rattle.apd_world.specs.WorldRun.{IsWorldStep};
 

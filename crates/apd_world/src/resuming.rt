@@ -5,7 +5,7 @@ ghost use Rattle.apd_slot.specs.declared.slot.SlotFault.{SlotFault as Fault};
 ghost use Rattle.apd_world.specs.BegunAnew.{IsBegunAnew, IsHonestlyBegunAnew, IsHonestlyNotBegunAnew, IsNotBegunAnew};
 ghost use Rattle.apd_world.specs.Following.{AreExact, AreFollowing};
 ghost use Rattle.apd_world.specs.Resumed.{AreOfSame, AreResumed, HasNotResumed};
-ghost use Rattle.apd_world.specs.Seen.{durable_of, slots_of};
+ghost use Rattle.apd_world.specs.WorldParts.{durable_of, slots_of};
 
 use crate::fault::WorldFault;
 use crate::restarting::restart_core;

@@ -4,7 +4,7 @@ ghost use Rattle.apd_base.specs.Failures.{HasRisen};
 ghost use Rattle.apd_world.specs.Applying.{AppliesFirst};
 ghost use Rattle.apd_world.specs.Outside.{device_of};
 ghost use Rattle.apd_world.specs.Proper.{IsSafe};
-ghost use Rattle.apd_world.specs.Seen.{slot_place, queue_in};
+ghost use Rattle.apd_world.specs.WorldParts.{slot_place, queue_in};
 ghost use Rattle.apd_world.specs.Queueing.{QueuesReady};
 
 use crate::durable_core::DurableCore;

@@ -2,7 +2,7 @@
 ghost use Rattle.std.specs.Prelude.{◌≡◌, ◌<◌, IfErr, IfOk, List, OnErr, OnOk, []};
 ghost use Rattle.apd_disk.specs.Disk.{LeavesOnly};
 ghost use Rattle.apd_mlme.specs.Happening.{Happening};
-ghost use Rattle.apd_world.specs.Going.{AreUnsettled, Goes};
+ghost use Rattle.apd_world.specs.CoreRun.{AreUnsettled, Goes};
 ghost use Rattle.apd_world.specs.Outside.{device_of};
 ghost use Rattle.apd_world.specs.Shown.{ShowsFront};
 
@@ -18,10 +18,10 @@ use apd_store::StoreFault;
 
 impl<D: Disk, R: Radio> World<D, R> {
     ghost use Rattle.apd_world.specs.Following.{AreExact, AreFollowing};
-    ghost use Rattle.apd_world.specs.Making.{AreAccepted, AreSettled, SomeAreQuietlyMade, SomeAreSafelyMade};
+    ghost use Rattle.apd_world.specs.StepsMade.{AreAccepted, AreSettled, SomeAreQuietlyMade, SomeAreSafelyMade};
     ghost use Rattle.apd_world.specs.Proper.{IsProper};
     ghost use Rattle.apd_world.specs.Round.{ComesTo, IsRound};
-    ghost use Rattle.apd_world.specs.Seen.{durable_of, slots_of};
+    ghost use Rattle.apd_world.specs.WorldParts.{durable_of, slots_of};
     ghost use Rattle.apd_world.specs.Starting.{HasEnded, HasFailedCore, IsFlushed, IsStarted, IsWorldRound, LeavesFronts};
     ghost use Rattle.apd_world.specs.Telling.{HasNoBatch, HasNoCall, HasNoReceipt};
     ghost use Rattle.apd_world.specs.WorldRun.{RestStays};

@@ -7,7 +7,7 @@ ghost use Rattle.apd_mlme.specs.Run.{run};
 ghost use Rattle.apd_store.specs.Image.{Shows};
 ghost use Rattle.apd_flusher.specs.Flushing.{IsFlushing, IsGood, IsInside, IsSteady};
 ghost use Rattle.apd_flusher.specs.Outside.{phase_of};
-ghost use Rattle.apd_world.specs.Going.{AreUnsettled};
+ghost use Rattle.apd_world.specs.CoreRun.{AreUnsettled};
 ghost use Rattle.apd_world.specs.declared.step.Step.TheVariants.{Accept, Take, Call, Publish, Hand, Ask, Apply};
 ghost use Rattle.apd_world.specs.Telling.{reception_of};
 

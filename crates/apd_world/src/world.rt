@@ -33,7 +33,7 @@ impl<D: Disk, R: Radio> World<D, R> {
     ghost use Rattle.apd_world.specs.Following.{AreFollowing};
     ghost use Rattle.apd_world.specs.Proper.{IsProper, IsShown, IsUnused};
     ghost use Rattle.apd_world.specs.Resumed.{AreResumed};
-    ghost use Rattle.apd_world.specs.Seen.{durable_of, slots_of, slot_at, is_up_if};
+    ghost use Rattle.apd_world.specs.WorldParts.{durable_of, slots_of, slot_at, is_up_if};
 
     /// A flusher, a core and slots, with nothing that waits. It takes no memory. Over the flusher of a device that shows
     /// the table of a core that accepted nothing yet, what is said of a stop is so from here on; and where the slots

@@ -18,7 +18,7 @@ impl<D: Disk, R: Radio> World<D, R> {
     ghost use Rattle.apd_world.specs.Outside.{device_of};
     ghost use Rattle.apd_world.specs.Proper.{IsProper, IsSafe};
     ghost use Rattle.apd_world.specs.Recovery.{LosesNothing};
-    ghost use Rattle.apd_world.specs.Seen.{durable_of, slots_of};
+    ghost use Rattle.apd_world.specs.WorldParts.{durable_of, slots_of};
     ghost use Rattle.apd_world.specs.WorldRun.{IsWorldStep};
 
     // Hands what is ready for a radio to the queue of its slot, if it has one.

@@ -4,7 +4,7 @@ ghost use Rattle.std.specs.Option.{option_copied};
 ghost use Rattle.apd_ctrl.specs.Placing.{placing};
 ghost use Rattle.apd_ctrl.specs.Reading.{outcome as command_outcome};
 ghost use Rattle.apd_script.specs.Lines.{Received, said};
-ghost use Rattle.apd_script.specs.Meant.{conf_meant};
+ghost use Rattle.apd_script.specs.CommandInterface.{conf_meant};
 ghost use Rattle.apd_script.specs.Refused.{refused};
 ghost use Rattle.apd_world.specs.declared.step.Step.TheVariants.{Accept};
 

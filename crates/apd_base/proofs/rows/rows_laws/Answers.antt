@@ -1,6 +1,6 @@
 use Rattle.std.proofs.Common.{sym}
 use Rattle.std.specs.FinMap.{get-from_sorted}
-use Rattle.apd_base.proofs.RowsLaws.{find-place, place_bound}
+use Rattle.apd_base.proofs.RowsLemmas.{find-place, place_bound}
 use Rattle.apd_base.proofs.RowsMaps.{sorted_put_at, insert-from_sorted, sorted_remove_at, remove-from_sorted}
 use Rattle.apd_base.proofs.rows.rows_laws.Goals as goal
 

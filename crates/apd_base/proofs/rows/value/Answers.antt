@@ -2,7 +2,7 @@ use Rattle.std.proofs.Common.{sym, ap, ◌∙◌}
 use Rattle.std.specs.Option.{option_map}
 use Rattle.std.proofs.lemmas.Option.{slice_get-get_or}
 use Rattle.apd_base.specs.Rows.{value_at}
-use Rattle.apd_base.proofs.RowsLaws.{find-place}
+use Rattle.apd_base.proofs.RowsLemmas.{find-place}
 use Rattle.apd_base.proofs.rows.value.Goals as goal
 
 pub returns-in-Ok : goal.returns-in-Ok

@@ -1,7 +1,7 @@
 use Rattle.std.proofs.Common.{◌+◌, sym, ◌∙◌}
 use Rattle.apd_conf.specs.Lines.{lines}
-use Rattle.apd_conf.proofs.LineLaws.{next_of, at_end}
-use Rattle.apd_conf.proofs.SettingLaws.{told_line, first_fault, no_fault, all_faultless}
+use Rattle.apd_conf.proofs.LineLemmas.{next_of, at_end}
+use Rattle.apd_conf.proofs.SettingLemmas.{told_line, first_fault, no_fault, all_faultless}
 use Rattle.apd_conf.proofs.conf_file.check.Goals as goal
 
 pub returns-in-Some-line_fault-clause-err : goal.returns-in-Some-line_fault-clause-err

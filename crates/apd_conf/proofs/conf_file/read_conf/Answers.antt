@@ -3,8 +3,8 @@ use Rattle.std.proofs.lemmas.Result.{err_from_is_err_and}
 use Rattle.apd_conf.specs.declared.conf_fault.ConfFault.TheVariants.{NoMemory}
 use Rattle.apd_conf.specs.ConfFile.{IsFaultOf}
 use Rattle.apd_conf.specs.Lines.{lines}
-use Rattle.apd_conf.proofs.FileLaws.{one_fault}
-use Rattle.apd_conf.proofs.Told.{told}
+use Rattle.apd_conf.proofs.FileLemmas.{one_fault}
+use Rattle.apd_conf.proofs.FaultLemmas.{told}
 use Rattle.apd_conf.proofs.conf_file.read_conf.Goals as goal
 
 pub returns-in_err-check-clause-err : goal.returns-in_err-check-clause-err

@@ -1,6 +1,6 @@
 use Rattle.std.proofs.Common.{ℕ, List, Bor, sym, ◌∙◌, ap}
 use Rattle.std.specs.Option.{option_map}
-use Rattle.apd_conf.proofs.SettingLaws.{no_setting, split_setting}
+use Rattle.apd_conf.proofs.SettingLemmas.{no_setting, split_setting}
 use Rattle.apd_conf.proofs.conf_file.setting_of.Goals as goal
 
 pub returns-in_err-place : goal.returns-in_err-place

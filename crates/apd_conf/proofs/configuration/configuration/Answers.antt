@@ -4,7 +4,7 @@ use Rattle.apd_conf.specs.Files.{IsFaultOfFiles}
 use Rattle.apd_conf.specs.declared.conf.Conf.{Conf}
 use Rattle.apd_conf.specs.declared.configuration.ConfigurationFault.{ConfigurationFault}
 use Rattle.apd_conf.specs.declared.configuration.ConfigurationFault.TheVariants.{NoMemory}
-use Rattle.apd_conf.proofs.FilesLaws.{accept_fault, deny_fault}
+use Rattle.apd_conf.proofs.FilesLemmas.{accept_fault, deny_fault}
 use Rattle.apd_conf.proofs.configuration.configuration.Goals as goal
 
 pub returns-in_err-accept-clause-err : goal.returns-in_err-accept-clause-err

@@ -1,6 +1,6 @@
 use Rattle.std.proofs.Common.{Err, ap, ◌∙◌}
 use Rattle.std.proofs.lemmas.Result.{err_from_is_err_and}
-use Rattle.apd_conf.proofs.FilesLaws.{fault_of_first}
+use Rattle.apd_conf.proofs.FilesLemmas.{fault_of_first}
 use Rattle.apd_conf.proofs.configuration.configurations.Goals as goal
 
 pub returns-in_err-list-2-clause-err : goal.returns-in_err-list-2-clause-err

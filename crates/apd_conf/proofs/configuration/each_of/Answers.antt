@@ -1,7 +1,7 @@
 use Rattle.std.proofs.Common.{◌+◌, Err, sym, ap, subst, ◌∙◌}
 use Rattle.std.proofs.lemmas.List.{drop_all}
 use Rattle.std.proofs.lemmas.Result.{err_from_is_err_and}
-use Rattle.apd_conf.proofs.FilesLaws.{AreSoFar, further, fails_here, whole}
+use Rattle.apd_conf.proofs.FilesLemmas.{AreSoFar, further, fails_here, whole}
 use Rattle.apd_conf.proofs.configuration.each_of.Goals as goal
 
 pub returns-in_err-configuration-clause-err : goal.returns-in_err-configuration-clause-err

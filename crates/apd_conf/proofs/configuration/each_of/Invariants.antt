@@ -1,5 +1,5 @@
 use Rattle.std.proofs.Common.{◌≡◌, length, vec_len, vec_capacity}
-use Rattle.apd_conf.proofs.FilesLaws.{AreSoFar}
+use Rattle.apd_conf.proofs.FilesLemmas.{AreSoFar}
 use Rattle.apd_conf.proofs.configuration.each_of.Given as goal
 
 -- the files so far have a configuration each, and there is room for the others

@@ -1,4 +1,4 @@
-use Rattle.apd_conf.proofs.ConfLaws.{bssid-conf_at, conf_at-own, interface-conf_named, conf_named-own, listed_at, listed_named, none_at, none_named}
+use Rattle.apd_conf.proofs.ConfLemmas.{bssid-conf_at, conf_at-own, interface-conf_named, conf_named-own, listed_at, listed_named, none_at, none_named}
 use Rattle.apd_conf.proofs.confs.look_up_laws.Goals as goal
 
 pub returns : goal.returns

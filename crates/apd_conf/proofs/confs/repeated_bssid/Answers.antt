@@ -2,7 +2,7 @@ use Rattle.std.proofs.Common.{refl, arith, below_more}
 use Rattle.std.specs.Ordering.{eq_by_cmp}
 use Rattle.apd_base.specs.Addr.{bssid_cmp}
 use Rattle.apd_conf.specs.declared.conf.Conf.{Conf}
-use Rattle.apd_conf.proofs.ConfLaws.{bssid_same, bssid_itself}
+use Rattle.apd_conf.proofs.ConfLemmas.{bssid_same, bssid_itself}
 use Rattle.apd_conf.proofs.Repeats.{found_repeated, not_repeated, none_repeated}
 use Rattle.apd_conf.proofs.confs.repeated_bssid.Goals as goal
 

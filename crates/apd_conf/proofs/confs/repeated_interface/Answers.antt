@@ -2,7 +2,7 @@ use Rattle.std.proofs.Common.{arith, below_more}
 use Rattle.std.specs.Ordering.{nat_cmp, eq_by_cmp}
 use Rattle.std.specs.Cmp.Lexicographic.{slice_cmp}
 use Rattle.apd_conf.specs.declared.conf.Conf.{Conf}
-use Rattle.apd_conf.proofs.ConfLaws.{name_same, name_itself}
+use Rattle.apd_conf.proofs.ConfLemmas.{name_same, name_itself}
 use Rattle.apd_conf.proofs.Repeats.{found_repeated, not_repeated, none_repeated}
 use Rattle.apd_conf.proofs.confs.repeated_interface.Goals as goal
 

@@ -2,8 +2,8 @@ use Rattle.std.proofs.Common.{Some, sym, ap, ◌∙◌}
 use Rattle.std.specs.Prelude.{option_and_then}
 use Rattle.apd_conf.specs.Values.{accepts}
 use Rattle.apd_base.specs.Addr.{address_of}
-use Rattle.apd_conf.proofs.SettingLaws.{taken_value}
-use Rattle.apd_conf.proofs.TableLaws.{rule-interface, rule-bssid, rule-ssid, rule-accept_mac_file, rule-deny_mac_file}
+use Rattle.apd_conf.proofs.SettingLemmas.{taken_value}
+use Rattle.apd_conf.proofs.TableLemmas.{rule-interface, rule-bssid, rule-ssid, rule-accept_mac_file, rule-deny_mac_file}
 use Rattle.apd_conf.proofs.fields.conf_from.Goals as goal
 
 pub from_bytes-requires : goal.from_bytes-requires

@@ -1,4 +1,4 @@
-use Rattle.apd_conf.proofs.TableLaws.{rule-ignore_broadcast_ssid}
+use Rattle.apd_conf.proofs.TableLemmas.{rule-ignore_broadcast_ssid}
 use Rattle.apd_conf.proofs.fields.ignore_broadcast_ssid.Goals as goal
 
 pub number-requires-clause-rule : goal.number-requires-clause-rule

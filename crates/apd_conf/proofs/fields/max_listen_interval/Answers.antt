@@ -1,4 +1,4 @@
-use Rattle.apd_conf.proofs.TableLaws.{rule-max_listen_interval}
+use Rattle.apd_conf.proofs.TableLemmas.{rule-max_listen_interval}
 use Rattle.apd_conf.proofs.fields.max_listen_interval.Goals as goal
 
 pub number-requires-clause-rule : goal.number-requires-clause-rule

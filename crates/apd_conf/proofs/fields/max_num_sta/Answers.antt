@@ -1,4 +1,4 @@
-use Rattle.apd_conf.proofs.TableLaws.{rule-max_num_sta}
+use Rattle.apd_conf.proofs.TableLemmas.{rule-max_num_sta}
 use Rattle.apd_conf.proofs.fields.max_num_sta.Goals as goal
 
 pub number-requires-clause-rule : goal.number-requires-clause-rule

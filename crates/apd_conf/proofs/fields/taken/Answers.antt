@@ -1,5 +1,5 @@
 use Rattle.apd_conf.specs.Lines.{lines}
-use Rattle.apd_conf.proofs.SettingLaws.{taken_of, lent_taken}
+use Rattle.apd_conf.proofs.SettingLemmas.{taken_of, lent_taken}
 use Rattle.apd_conf.proofs.fields.taken.Goals as goal
 
 pub returns-clause-taken : goal.returns-clause-taken

@@ -1,4 +1,4 @@
-use Rattle.apd_conf.proofs.FileLaws as laws
+use Rattle.apd_conf.proofs.FileLemmas as laws
 use Rattle.apd_conf.proofs.LastLine.{last_line, other_line}
 use Rattle.apd_conf.proofs.laws.conf_file_laws.Goals as goal
 

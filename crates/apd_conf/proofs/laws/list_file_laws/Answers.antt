@@ -1,4 +1,4 @@
-use Rattle.apd_conf.proofs.FileLaws as laws
+use Rattle.apd_conf.proofs.FileLemmas as laws
 use Rattle.apd_conf.proofs.laws.list_file_laws.Goals as goal
 
 pub returns : goal.returns

@@ -1,5 +1,5 @@
 use Rattle.std.proofs.Common.{◌∙◌}
-use Rattle.apd_conf.proofs.LinesLaws.{lines-of}
+use Rattle.apd_conf.proofs.LinesLemmas.{lines-of}
 use Rattle.apd_conf.proofs.lines.lines_of.Goals as goal
 
 pub returns-clause-lines : goal.returns-clause-lines

@@ -1,7 +1,7 @@
 use Rattle.std.proofs.Common.{sym, ◌∙◌, rules}
 use Rattle.apd_base.specs.Addr.{addr_cmp}
 use Rattle.apd_base.proofs.RowsMaps.{placed}
-use Rattle.apd_conf.proofs.ListLaws.{there_already, sorted_insert, more_rows, no_room}
+use Rattle.apd_conf.proofs.ListLemmas.{there_already, sorted_insert, more_rows, no_room}
 use Rattle.apd_conf.proofs.list_file.add.Goals as goal
 
 pub returns-in_default-clause-ok : goal.returns-in_default-clause-ok

@@ -3,8 +3,8 @@ use Rattle.std.proofs.lemmas.Result.{err_from_is_err_and}
 use Rattle.apd_conf.specs.declared.list_fault.ListFault.TheVariants.{NoMemory}
 use Rattle.apd_conf.specs.ListFile.{IsFaultOf}
 use Rattle.apd_conf.specs.Lines.{lines}
-use Rattle.apd_conf.proofs.FileLaws.{one_list_fault}
-use Rattle.apd_conf.proofs.Told.{told}
+use Rattle.apd_conf.proofs.FileLemmas.{one_list_fault}
+use Rattle.apd_conf.proofs.FaultLemmas.{told}
 use Rattle.apd_conf.proofs.list_file.read_list.Goals as goal
 
 pub returns-in_err-list-clause-err : goal.returns-in_err-list-clause-err

@@ -5,8 +5,8 @@ use Rattle.std.specs.FinMap.{from_sorted}
 use Rattle.apd_base.specs.Addr.{addr_cmp}
 use Rattle.apd_conf.specs.Lines.{lines}
 use Rattle.apd_conf.specs.ListFile.{edit_of, IsFaultOf}
-use Rattle.apd_conf.proofs.LineLaws.{next_of, at_end}
-use Rattle.apd_conf.proofs.ListLaws.{bad_line, listed_more, too_many, fault_none, whole_list, no_rows, is_list}
+use Rattle.apd_conf.proofs.LineLemmas.{next_of, at_end}
+use Rattle.apd_conf.proofs.ListLemmas.{bad_line, listed_more, too_many, fault_none, whole_list, no_rows, is_list}
 use Rattle.apd_conf.proofs.list_file.rows_of.Goals as goal
 
 pub loop-line-init : goal.loop-line-init

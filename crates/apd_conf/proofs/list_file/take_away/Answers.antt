@@ -1,7 +1,7 @@
 use Rattle.std.proofs.Common.{Ok, Err, sym, ◌∙◌}
 use Rattle.apd_base.specs.Addr.{addr_cmp}
 use Rattle.apd_base.proofs.RowsMaps.{placed}
-use Rattle.apd_conf.proofs.ListLaws.{sorted_without, fewer_rows}
+use Rattle.apd_conf.proofs.ListLemmas.{sorted_without, fewer_rows}
 use Rattle.apd_conf.proofs.list_file.take_away.Goals as goal
 
 pub returns-in-Ok-clause-sorted : goal.returns-in-Ok-clause-sorted

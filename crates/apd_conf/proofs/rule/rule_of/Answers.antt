@@ -1,5 +1,5 @@
 use Rattle.std.proofs.Common.{◌∙◌, sym}
-use Rattle.apd_conf.proofs.TableLaws.{rule_of-settings}
+use Rattle.apd_conf.proofs.TableLemmas.{rule_of-settings}
 use Rattle.apd_conf.proofs.rule.rule_of.Goals as goal
 
 pub returns : goal.returns

@@ -1,4 +1,4 @@
-use Rattle.apd_conf.proofs.TextLaws.{file_name-text, file_name-other}
+use Rattle.apd_conf.proofs.TextLemmas.{file_name-text, file_name-other}
 use Rattle.apd_conf.proofs.values.is_file_name.Goals as goal
 
 pub returns-in-Ok : goal.returns-in-Ok

@@ -6,7 +6,7 @@ use Rattle.apd_core.specs.Held.{Queue, queue_place, queued}
 use Rattle.apd_core.specs.TakingBack.{before, MayFollow}
 use Rattle.apd_core.proofs.Places.{queue_place_below}
 use Rattle.apd_core.proofs.Queues.{added_at, length-queued_at, before-queued_at}
-use Rattle.apd_core.proofs.HeldLaws.{follow_more}
+use Rattle.apd_core.proofs.HeldLemmas.{follow_more}
 use Rattle.apd_core.proofs.held.add.Goals as goal
 
 pub bounds-queues-place : goal.bounds-queues-place

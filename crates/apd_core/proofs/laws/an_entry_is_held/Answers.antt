@@ -1,6 +1,6 @@
 use Rattle.apd_core.specs.Core.{accepted}
 use Rattle.apd_core.specs.Requests.{happening_of}
-use Rattle.apd_core.proofs.CoreLaws.{request_front, request_held}
+use Rattle.apd_core.proofs.CoreLemmas.{request_front, request_held}
 use Rattle.apd_core.proofs.laws.an_entry_is_held.Goals as goal
 
 pub returns-clause-front : goal.returns-clause-front

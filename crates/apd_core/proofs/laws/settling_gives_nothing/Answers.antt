@@ -1,4 +1,4 @@
-use Rattle.apd_core.proofs.CoreLaws.{publish_front, publish_held}
+use Rattle.apd_core.proofs.CoreLemmas.{publish_front, publish_held}
 use Rattle.apd_core.proofs.laws.settling_gives_nothing.Goals as goal
 
 pub returns-clause-front : goal.returns-clause-front

@@ -1,4 +1,4 @@
-use Rattle.apd_core.proofs.CoreLaws.{hand_held, hand_others}
+use Rattle.apd_core.proofs.CoreLemmas.{hand_held, hand_others}
 use Rattle.apd_core.proofs.laws.what_is_given_was_held.Goals as goal
 
 pub returns-clause-own : goal.returns-clause-own

@@ -2,7 +2,7 @@ use Rattle.std.proofs.Common.{ℕ, List, Option, Result, sym, subst}
 use Rattle.apd_ctrl.specs.declared.command.Command.{Command}
 use Rattle.apd_ctrl.specs.declared.parser.Refusal.{Refusal}
 use Rattle.apd_ctrl.specs.Grammar.{IsOutcome}
-use Rattle.apd_ctrl.proofs.OutcomeLaws.{only, there}
+use Rattle.apd_ctrl.proofs.OutcomeLemmas.{only, there}
 use Rattle.apd_ctrl.proofs.parser.exactly_one_outcome.Goals as goal
 
 pub returns : goal.returns

@@ -1,5 +1,5 @@
 use Rattle.std.proofs.Common.{sym, ◌∙◌}
-use Rattle.apd_ctrl.proofs.WordLaws.{whole_word, none_behind, first_word, rest_behind}
+use Rattle.apd_ctrl.proofs.WordLemmas.{whole_word, none_behind, first_word, rest_behind}
 use Rattle.apd_ctrl.proofs.parser.split_word.Goals as goal
 
 pub returns-in-None-clause-word : goal.returns-in-None-clause-word

@@ -1,4 +1,4 @@
-use Rattle.apd_desk.specs.Seen.{IsLater}
+use Rattle.apd_desk.specs.SeatProgress.{IsLater}
 use Rattle.apd_desk.proofs.controlling.control_worker.Given as goal
 
 abbrev pub invariant-loop : goal.invariant-loop

@@ -1,6 +1,6 @@
 use Rattle.std.proofs.Common.{◌≡◌}
 use Rattle.apd_slot.specs.Slots.{IsExact}
-use Rattle.apd_desk.specs.Seen.{IsLater}
+use Rattle.apd_desk.specs.SeatProgress.{IsLater}
 use Rattle.apd_desk.proofs.receiving.radio_worker.Given as goal
 
 abbrev pub invariant-loop : goal.invariant-loop

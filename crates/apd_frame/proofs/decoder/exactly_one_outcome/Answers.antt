@@ -2,13 +2,13 @@ use Rattle.std.proofs.Common.{◌≡◌, ℕ, List, Option, Some, None, Result, 
 use Rattle.std.specs.List.{find}
 use Rattle.apd_base.specs.declared.address.Bssid.{Bssid}
 use Rattle.apd_frame.specs.declared.kind.Kind.{Kind}
-use Rattle.apd_frame.specs.declared.reasons.Ignored.{Ignored}
-use Rattle.apd_frame.specs.declared.reasons.Ignored.TheVariants.{Subtype}
+use Rattle.apd_frame.specs.declared.ignored.Ignored.{Ignored}
+use Rattle.apd_frame.specs.declared.ignored.Ignored.TheVariants.{Subtype}
 use Rattle.apd_frame.specs.Contents.{Contents}
 use Rattle.apd_frame.specs.Kinds.{is_of, kinds, kind_of}
 use Rattle.apd_frame.specs.Outcome.{holds, reasons, unless, outcome, IsOutcome}
 use Rattle.apd_frame.proofs.FirstReason.{told_first, told_none, first_holds, found_passes, none_earlier, none_holds}
-use Rattle.apd_frame.proofs.Says.{said, says_at}
+use Rattle.apd_frame.proofs.ContentsLemmas.{said, says_at}
 use Rattle.apd_frame.proofs.decoder.exactly_one_outcome.Goals as goal
 
 -- what holds is the outcome

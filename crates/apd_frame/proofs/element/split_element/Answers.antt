@@ -1,4 +1,4 @@
-use Rattle.apd_frame.proofs.ElementLaws.{first_by_place}
+use Rattle.apd_frame.proofs.ElementLemmas.{first_by_place}
 use Rattle.apd_frame.proofs.element.split_element.Goals as goal
 
 pub returns-clause-first : goal.returns-clause-first

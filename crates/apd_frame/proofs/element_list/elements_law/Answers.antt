@@ -1,4 +1,4 @@
-use Rattle.apd_frame.proofs.ElementLaws.{all_bytes, longest_is, only_longest, is_well_formed, read_again, well_formed_is}
+use Rattle.apd_frame.proofs.ElementLemmas.{all_bytes, longest_is, only_longest, is_well_formed, read_again, well_formed_is}
 use Rattle.apd_frame.proofs.element_list.elements_law.Goals as goal
 
 pub returns-clause-longest : goal.returns-clause-longest

@@ -1,7 +1,7 @@
 use Rattle.std.proofs.Common.{◌≡◌, sym, ◌∙◌, ap, rules, arith}
 use Rattle.apd_frame.specs.Contents.{element}
 use Rattle.apd_frame.specs.Elements.{well_formed}
-use Rattle.apd_frame.proofs.ElementLaws.{all_bytes, tells_well_formed, well_formed-behind}
+use Rattle.apd_frame.proofs.ElementLemmas.{all_bytes, tells_well_formed, well_formed-behind}
 use Rattle.apd_frame.proofs.element_list.well_formed.Goals as goal
 
 pub loop-behind-preserved : goal.loop-behind-preserved

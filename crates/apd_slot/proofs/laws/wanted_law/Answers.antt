@@ -1,5 +1,5 @@
 use Rattle.apd_slot.proofs.Driven.{wanted_is_driven}
-use Rattle.apd_slot.proofs.RowsLaws.{installed_are}
+use Rattle.apd_slot.proofs.RowsLemmas.{installed_are}
 use Rattle.apd_slot.proofs.laws.wanted_law.Goals as goal
 
 pub returns-clause-outs : goal.returns-clause-outs

@@ -1,7 +1,7 @@
 use Rattle.std.proofs.Common.{◌+◌, ap, subst, sym, ◌∙◌, List, []}
 use Rattle.apd_world.specs.WorldRun.{IsWorldStep}
 use Rattle.apd_world.specs.declared.step.Step.{Step}
-use Rattle.apd_world.proofs.WorldDriveLaws.{IsWorldDriven, all_steps, next_step, no_step, world_moments, world_run}
+use Rattle.apd_world.proofs.WorldDriveLemmas.{IsWorldDriven, all_steps, next_step, no_step, world_moments, world_run}
 use Rattle.apd_world.proofs.driving.drive.Goals as goal
 
 pub loop-step-init : goal.loop-step-init

@@ -1,5 +1,5 @@
 use Rattle.std.proofs.Common.{◌≡◌, length, take, vec_len, vec_capacity}
-use Rattle.apd_world.proofs.WorldDriveLaws.{IsWorldDriven}
+use Rattle.apd_world.proofs.WorldDriveLemmas.{IsWorldDriven}
 use Rattle.apd_world.proofs.driving.drive.Given as goal
 
 abbrev pub invariant-loop-step : goal.invariant-loop-step

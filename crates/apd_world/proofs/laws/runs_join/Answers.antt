@@ -1,4 +1,4 @@
-use Rattle.apd_world.proofs.RunLaws.{world_entered_then, world_runs_join}
+use Rattle.apd_world.proofs.RunLemmas.{world_entered_then, world_runs_join}
 use Rattle.apd_world.proofs.laws.runs_join.Goals as goal
 
 pub returns : goal.returns

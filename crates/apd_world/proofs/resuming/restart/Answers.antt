@@ -5,7 +5,7 @@ use Rattle.apd_flusher.specs.Outside as flusher
 use Rattle.apd_world.specs.Following.{AreExact}
 use Rattle.apd_world.specs.Outside.{device_of}
 use Rattle.apd_world.specs.Resumed.{AreResumed, HasNotResumed}
-use Rattle.apd_world.proofs.ResumeLaws.{begun_following, resumed_exact}
+use Rattle.apd_world.proofs.ResumeLemmas.{begun_following, resumed_exact}
 use Rattle.apd_world.proofs.resuming.restart.Goals as goal
 
 -- as many are taken as there are

@@ -1,4 +1,4 @@
-use Rattle.apd_world.proofs.ResumeLaws.{AreSoFar}
+use Rattle.apd_world.proofs.ResumeLemmas.{AreSoFar}
 use Rattle.apd_world.proofs.resuming.resume_all.Given as goal
 
 abbrev pub invariant-loop-slot : goal.invariant-loop-slot

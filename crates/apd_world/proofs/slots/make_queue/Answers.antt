@@ -1,5 +1,5 @@
 use Rattle.std.proofs.Common.{◌∙◌}
-use Rattle.apd_world.proofs.SlotLaws.{queues_more}
+use Rattle.apd_world.proofs.SlotLemmas.{queues_more}
 use Rattle.apd_world.proofs.slots.make_queue.Goals as goal
 
 pub loop-alloc-preserved : goal.loop-alloc-preserved

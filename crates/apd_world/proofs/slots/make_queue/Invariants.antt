@@ -1,5 +1,5 @@
 use Rattle.std.proofs.Common.{◌≡◌, ◌+◌, ◌-◌, ℕ, Option, map, vec_len}
-use Rattle.apd_world.specs.Seen.{queue_in}
+use Rattle.apd_world.specs.WorldParts.{queue_in}
 use Rattle.apd_world.proofs.slots.make_queue.Given as goal
 
 -- no queue has another out

@@ -1,5 +1,5 @@
 use Rattle.std.proofs.Common.{refl}
-use Rattle.apd_conf.proofs.ConfLaws.{built_in_from}
+use Rattle.apd_conf.proofs.ConfLemmas.{built_in_from}
 use Rattle.apd_conf.proofs.conf.Conf.built_in.Goals as goal
 
 pub returns : goal.returns

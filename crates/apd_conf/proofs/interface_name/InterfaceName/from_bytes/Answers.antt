@@ -1,4 +1,4 @@
-use Rattle.apd_conf.proofs.TextLaws.{interface_utf8}
+use Rattle.apd_conf.proofs.TextLemmas.{interface_utf8}
 use Rattle.apd_conf.proofs.interface_name.InterfaceName.from_bytes.Goals as goal
 
 pub unreachable-requires : goal.unreachable-requires

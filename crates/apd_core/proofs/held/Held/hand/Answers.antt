@@ -3,7 +3,7 @@ use Rattle.std.proofs.lemmas.List.{get_or_default}
 use Rattle.apd_core.specs.Held.{Queue, HeldOuts, queue_at, queue_of, up_to, after_hand, IsInOrder}
 use Rattle.apd_core.proofs.Places.{queue_place_below}
 use Rattle.apd_core.proofs.Queues.{all_get}
-use Rattle.apd_core.proofs.HeldLaws.{given_held, after_give}
+use Rattle.apd_core.proofs.HeldLemmas.{given_held, after_give}
 use Rattle.apd_core.proofs.held.Held.hand.Goals as goal
 
 pub index_mut-requires : goal.index_mut-requires

@@ -6,7 +6,7 @@ use Rattle.apd_mlme.specs.declared.decision.Recipient.{Recipient}
 use Rattle.apd_core.specs.Held.{Queue, HeldOuts, queued, IsInOrder}
 use Rattle.apd_core.specs.TakingBack.{before, MayFollow}
 use Rattle.apd_core.proofs.Queues.{whole, on_ok, on_err, before_each}
-use Rattle.apd_core.proofs.HeldLaws.{held_same, same_held, held_below, held_with_outs, left_back, may_follow, follow_order}
+use Rattle.apd_core.proofs.HeldLemmas.{held_same, same_held, held_below, held_with_outs, left_back, may_follow, follow_order}
 use Rattle.apd_core.proofs.held.Held.keep.Goals as goal
 
 pub cut-requires : goal.cut-requires

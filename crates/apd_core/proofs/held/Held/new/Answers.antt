@@ -1,5 +1,5 @@
 use Rattle.std.proofs.Common.{refl}
-use Rattle.apd_core.proofs.HeldLaws.{held_none, held_same}
+use Rattle.apd_core.proofs.HeldLemmas.{held_none, held_same}
 use Rattle.apd_core.proofs.held.Held.new.Goals as goal
 
 pub invariant_of-result : goal.invariant_of-result

@@ -1,4 +1,4 @@
-use Rattle.apd_core.proofs.HeldLaws.{held_after_settled}
+use Rattle.apd_core.proofs.HeldLemmas.{held_after_settled}
 use Rattle.apd_core.proofs.held.Held.settle.Goals as goal
 
 pub invariant_of-self : goal.invariant_of-self

@@ -4,7 +4,7 @@ use Rattle.std.proofs.lemmas.List.{length-map}
 use Rattle.apd_core.specs.Held.{HeldOuts}
 use Rattle.apd_core.specs.TakingBack.{before}
 use Rattle.apd_core.proofs.Queues.{whole}
-use Rattle.apd_core.proofs.HeldLaws.{held_same, held_without}
+use Rattle.apd_core.proofs.HeldLemmas.{held_same, held_without}
 use Rattle.apd_core.proofs.held.Held.take_back.Goals as goal
 
 pub invariant_of-self : goal.invariant_of-self

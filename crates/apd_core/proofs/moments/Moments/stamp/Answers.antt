@@ -2,8 +2,8 @@ use Rattle.std.proofs.Common.{IsOk, Some, cond, sym, ap, ◌∙◌}
 use Rattle.std.specs.FinMap as map
 use Rattle.apd_base.specs.declared.address.Addr.{Addr}
 use Rattle.apd_base.specs.declared.address.Bssid.{Bssid}
-use Rattle.apd_base.proofs.AddrLaws.{station_total, station_exact}
-use Rattle.apd_base.proofs.MapLaws.{tied}
+use Rattle.apd_base.proofs.AddrLemmas.{station_total, station_exact}
+use Rattle.apd_base.proofs.MapLemmas.{tied}
 use Rattle.apd_core.specs.Heard.{LastHeard}
 use Rattle.apd_core.specs.LaidDown.{is_put_of}
 use Rattle.apd_core.proofs.Laying.{on_ok}

@@ -14,7 +14,7 @@ use Rattle.apd_core.specs.Heard.{heard_by_changes}
 use Rattle.apd_core.specs.Held.{HeldOuts, with_outs}
 use Rattle.apd_core.specs.TakingBack.{without}
 use Rattle.apd_core.specs.declared.entry.Entry.{Entry}
-use Rattle.apd_core.proofs.HeldLaws.{last_kept, without-with_outs}
+use Rattle.apd_core.proofs.HeldLemmas.{last_kept, without-with_outs}
 use Rattle.apd_core.proofs.Kept.{entered_kept, later_than, measured_entry, same_kept, same_view}
 use Rattle.apd_core.proofs.request_core.Core.enter.Goals as goal
 

@@ -1,5 +1,5 @@
 use Rattle.std.proofs.Common.{arith}
-use Rattle.apd_frame.proofs.ElementLaws.{all_bytes, is_longest}
+use Rattle.apd_frame.proofs.ElementLemmas.{all_bytes, is_longest}
 use Rattle.apd_frame.proofs.element.Elements.new.Goals as goal
 
 pub returns-clause-longest : goal.returns-clause-longest

@@ -1,4 +1,4 @@
-use Rattle.apd_base.proofs.AddrLaws.{addr_total, addr_exact}
+use Rattle.apd_base.proofs.AddrLemmas.{addr_total, addr_exact}
 use Rattle.apd_base.proofs.RowsMaps.{put_sorted, put_means, found_place}
 use Rattle.apd_radio.proofs.identifiers.Identifiers.insert.Goals as goal
 

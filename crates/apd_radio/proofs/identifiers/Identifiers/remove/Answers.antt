@@ -1,6 +1,6 @@
 use Rattle.std.proofs.Common.{sym, ap, ◌∙◌}
 use Rattle.std.specs.FinMap as map
-use Rattle.apd_base.proofs.AddrLaws.{addr_total, addr_exact}
+use Rattle.apd_base.proofs.AddrLemmas.{addr_total, addr_exact}
 use Rattle.apd_base.proofs.RowsMaps.{sorted_remove_at, remove-from_sorted}
 use Rattle.apd_radio.proofs.identifiers.Identifiers.remove.Goals as goal
 

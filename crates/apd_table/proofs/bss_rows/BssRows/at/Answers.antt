@@ -5,7 +5,7 @@ use Rattle.std.specs.FinMap as map
 use Rattle.apd_base.specs.declared.address.Bssid.{Bssid}
 use Rattle.apd_table.specs.BssState.{BssState}
 use Rattle.apd_table.specs.declared.bss_rows.Bss.{Bss}
-use Rattle.apd_table.proofs.BssLaws.{keys-policy_rows}
+use Rattle.apd_table.proofs.BssLemmas.{keys-policy_rows}
 use Rattle.apd_table.proofs.bss_rows.BssRows.at.Goals as goal
 
 pub returns : goal.returns

@@ -1,7 +1,7 @@
 use Rattle.std.proofs.Common.{◌≤◌, IfSome, sym, ap, subst, ◌∙◌}
 use Rattle.std.specs.FinMap as map
 use Rattle.apd_base.specs.Addr.{bssid_cmp}
-use Rattle.apd_base.proofs.AddrLaws.{bssid_total, bssid_exact}
+use Rattle.apd_base.proofs.AddrLemmas.{bssid_total, bssid_exact}
 use Rattle.apd_base.proofs.RowsMaps.{placed}
 use Rattle.apd_table.specs.BssRows.{with_row}
 use Rattle.apd_table.specs.BssState.{BssState}

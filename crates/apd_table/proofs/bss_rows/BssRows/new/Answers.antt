@@ -1,6 +1,6 @@
 use Rattle.std.proofs.Common.{ap, ◌∙◌}
 use Rattle.apd_table.specs.BssRows.{state_of_rows}
-use Rattle.apd_table.proofs.BssLaws.{no_rows}
+use Rattle.apd_table.proofs.BssLemmas.{no_rows}
 use Rattle.apd_table.proofs.bss_rows.BssRows.new.Goals as goal
 
 pub returns : goal.returns

@@ -4,7 +4,7 @@ use Rattle.apd_acl.specs.Lists.{no_lists}
 use Rattle.apd_acl.specs.declared.lists.Lists.{Lists}
 use Rattle.apd_base.specs.Addr.{bssid_cmp}
 use Rattle.apd_base.specs.Rows.{put_at}
-use Rattle.apd_base.proofs.AddrLaws.{bssid_total, bssid_exact}
+use Rattle.apd_base.proofs.AddrLemmas.{bssid_total, bssid_exact}
 use Rattle.apd_table.specs.BssRows.{with_policy, state_of_rows}
 use Rattle.apd_table.specs.BssState.{BssState}
 use Rattle.apd_table.specs.Members.{no_members}

@@ -7,7 +7,7 @@ use Rattle.apd_acl.specs.Least.{IsLeast}
 use Rattle.apd_base.specs.Addr.{station_cmp}
 use Rattle.apd_base.specs.declared.address.Addr.{Addr}
 use Rattle.apd_base.specs.declared.station.Station.{Station}
-use Rattle.apd_base.proofs.AddrLaws.{station_total, station_exact}
+use Rattle.apd_base.proofs.AddrLemmas.{station_total, station_exact}
 use Rattle.apd_base.proofs.RowsMaps.{from_sorted-entries}
 use Rattle.apd_table.specs.Rows.{address_and_station}
 use Rattle.apd_table.proofs.Firsts.{first_of, first_is_least, first_is_row, first_is_none}

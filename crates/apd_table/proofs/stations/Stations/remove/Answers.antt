@@ -5,7 +5,7 @@ use Rattle.std.specs.List.{AllByRecursion}
 use Rattle.apd_base.specs.Addr.{IsAddr, station_cmp}
 use Rattle.apd_base.specs.declared.address.Addr.{Addr}
 use Rattle.apd_base.specs.declared.address.Bssid.{Bssid}
-use Rattle.apd_base.proofs.AddrLaws.{station_total, station_exact}
+use Rattle.apd_base.proofs.AddrLemmas.{station_total, station_exact}
 use Rattle.apd_base.proofs.Trees.{in_order, removed}
 use Rattle.apd_table.proofs.StationRows.{Row, valid_removed}
 use Rattle.apd_table.proofs.stations.Stations.remove.Goals as goal

@@ -1,7 +1,7 @@
 use Rattle.std.proofs.Common.{refl}
 use Rattle.apd_table.specs.Can.{CanAdd}
 use Rattle.apd_table.specs.Table.{state_of}
-use Rattle.apd_table.proofs.MembersLaws.{same_members}
+use Rattle.apd_table.proofs.MembersLemmas.{same_members}
 use Rattle.apd_table.proofs.ListChanges.{can_add, sound_add}
 use Rattle.apd_table.proofs.table.Table.add.Goals as goal
 

@@ -1,5 +1,5 @@
 use Rattle.std.proofs.Common.{refl}
-use Rattle.apd_table.proofs.AllowedLaws.{none_denied_cleared}
+use Rattle.apd_table.proofs.AllowedLemmas.{none_denied_cleared}
 use Rattle.apd_table.proofs.table.Table.can_clear.Goals as goal
 
 pub returns-in-Deny : goal.returns-in-Deny

@@ -5,7 +5,7 @@ use Rattle.apd_base.specs.declared.station.Which.TheVariants.{Accept, Deny}
 use Rattle.apd_record.specs.Meaning.{clear_list}
 use Rattle.apd_table.specs.Allowed.{allowed, allowed_unaccepted_under}
 use Rattle.apd_table.specs.Table.{state_of}
-use Rattle.apd_table.proofs.AllowedLaws.{clearing}
+use Rattle.apd_table.proofs.AllowedLemmas.{clearing}
 use Rattle.apd_table.proofs.DeniedRows.{all_pass_as}
 use Rattle.apd_table.proofs.table.Table.can_clear_accept.Goals as goal
 

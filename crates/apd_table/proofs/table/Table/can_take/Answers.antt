@@ -1,6 +1,6 @@
 use Rattle.std.proofs.Common.{true, false, not, refl, sym, ap, ◌∙◌}
 use Rattle.std.specs.Option.{is_some}
-use Rattle.apd_table.proofs.AllowedLaws.{none_denied_undenied, take_iff}
+use Rattle.apd_table.proofs.AllowedLemmas.{none_denied_undenied, take_iff}
 use Rattle.apd_table.proofs.table.Table.can_take.Goals as goal
 
 pub returns-in-Deny : goal.returns-in-Deny

@@ -1,6 +1,6 @@
 use Rattle.std.proofs.Common.{None, refl}
 use Rattle.apd_record.specs.Meaning.{drop_station}
-use Rattle.apd_table.proofs.MembersLaws.{drop_is_change, few_members, members_changed, same_members}
+use Rattle.apd_table.proofs.MembersLemmas.{drop_is_change, few_members, members_changed, same_members}
 use Rattle.apd_table.proofs.Dropped.{sound_drop}
 use Rattle.apd_table.specs.Table.{state_of}
 use Rattle.apd_table.proofs.table.Table.drop_station.Goals as goal

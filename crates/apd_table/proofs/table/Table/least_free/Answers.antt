@@ -1,7 +1,7 @@
 use Rattle.std.proofs.Common.{sym}
 use Rattle.apd_table.specs.Table.{state_of}
 use Rattle.apd_table.proofs.Identifiers.{least_is, all_taken, first_is_free}
-use Rattle.apd_table.proofs.MembersLaws.{without_policy}
+use Rattle.apd_table.proofs.MembersLemmas.{without_policy}
 use Rattle.apd_table.proofs.Places.{ArePlaces, places_of}
 use Rattle.apd_table.proofs.table.Table.least_free.Goals as goal
 

@@ -1,6 +1,6 @@
 use Rattle.std.proofs.Common.{Some, refl}
 use Rattle.apd_record.specs.Meaning.{put_station}
-use Rattle.apd_table.proofs.MembersLaws.{few_members, members_changed, put_is_change, same_members}
+use Rattle.apd_table.proofs.MembersLemmas.{few_members, members_changed, put_is_change, same_members}
 use Rattle.apd_table.proofs.Put.{can_put, sound_put}
 use Rattle.apd_table.specs.Can.{CanPut}
 use Rattle.apd_table.specs.Table.{state_of}

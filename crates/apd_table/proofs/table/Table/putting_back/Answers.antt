@@ -1,6 +1,6 @@
 use Rattle.std.proofs.Common.{◌≡◌, None, sym, subst, ◌∙◌}
-use Rattle.apd_base.proofs.AddrLaws.{station_total, station_exact}
-use Rattle.apd_base.proofs.MapLaws.{get_inserted}
+use Rattle.apd_base.proofs.AddrLemmas.{station_total, station_exact}
+use Rattle.apd_base.proofs.MapLemmas.{get_inserted}
 use Rattle.apd_base.specs.State.{station_at}
 use Rattle.apd_record.specs.Meaning.{meaning, put_station}
 use Rattle.apd_table.proofs.InTurn.{put_back}

@@ -1,5 +1,5 @@
 use Rattle.std.proofs.Common.{refl}
-use Rattle.apd_table.proofs.MembersLaws.{members_joined, same_members}
+use Rattle.apd_table.proofs.MembersLemmas.{members_joined, same_members}
 use Rattle.apd_table.specs.Can.{CanSet}
 use Rattle.apd_table.specs.Table.{state_of}
 use Rattle.apd_table.proofs.PolicySet.{can_set, sound_set}

@@ -3,7 +3,7 @@ use Rattle.apd_world.specs.declared.step.Step.TheVariants.{Apply}
 use Rattle.apd_world.specs.declared.step.Told.TheVariants.{Nothing}
 use Rattle.apd_world.proofs.Goings.{goes_unchanged}
 use Rattle.apd_world.proofs.Standing.{safe_unchanged}
-use Rattle.apd_world.proofs.StepLaws.{step_unchanged}
+use Rattle.apd_world.proofs.StepLemmas.{step_unchanged}
 use Rattle.apd_world.proofs.durable_core.DurableCore.apply.Goals as goal
 
 pub returns-clause-step : goal.returns-clause-step

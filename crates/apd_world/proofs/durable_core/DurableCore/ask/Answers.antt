@@ -4,7 +4,7 @@ use Rattle.apd_world.specs.declared.step.Step.TheVariants.{Ask}
 use Rattle.apd_world.specs.declared.step.Told.TheVariants.{NoMemory}
 use Rattle.apd_world.proofs.Goings.{goes_unchanged}
 use Rattle.apd_world.proofs.Standing.{beside, safe_same, safe_unchanged}
-use Rattle.apd_world.proofs.StepLaws.{ask_step, step_unchanged}
+use Rattle.apd_world.proofs.StepLemmas.{ask_step, step_unchanged}
 use Rattle.apd_world.proofs.durable_core.DurableCore.ask.Goals as goal
 
 pub returns-in-Ok-clause-step : goal.returns-in-Ok-clause-step

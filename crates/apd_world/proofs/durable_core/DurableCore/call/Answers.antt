@@ -14,7 +14,7 @@ use Rattle.apd_world.specs.declared.step.Step.TheVariants.{Call}
 use Rattle.apd_world.specs.declared.step.Told.TheVariants.{Called, Nothing}
 use Rattle.apd_world.proofs.Goings.{goes_unchanged}
 use Rattle.apd_world.proofs.Standing.{call_failed, call_on, safe_call, safe_unchanged}
-use Rattle.apd_world.proofs.StepLaws.{call_step, called_done, err_same, fails_beside, failed_not_busy, ok_not_err, ok_not_fault, same_called, stays_failed, step_unchanged}
+use Rattle.apd_world.proofs.StepLemmas.{call_step, called_done, err_same, fails_beside, failed_not_busy, ok_not_err, ok_not_fault, same_called, stays_failed, step_unchanged}
 use Rattle.apd_world.proofs.durable_core.DurableCore.call.Goals as goal
 
 pub returns-in-Idle-clause-step : goal.returns-in-Idle-clause-step

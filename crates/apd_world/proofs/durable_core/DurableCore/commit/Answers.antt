@@ -4,7 +4,7 @@ use Rattle.apd_world.specs.Round.{said}
 use Rattle.apd_world.specs.Telling.{HasNoCall}
 use Rattle.apd_world.specs.declared.step.Commit.{Commit}
 use Rattle.apd_world.specs.declared.step.Commit.TheVariants.{Nothing}
-use Rattle.apd_world.proofs.RoundLaws.{Outcome, calling_begun, calling_on, commits, committed, none_when, proper_comes, some_when}
+use Rattle.apd_world.proofs.RoundLemmas.{Outcome, calling_begun, calling_on, commits, committed, none_when, proper_comes, some_when}
 use Rattle.apd_world.proofs.durable_core.DurableCore.commit.Goals.{then-loop-self-test+else-has_call, else-loop-self-test}
 use Rattle.apd_world.proofs.durable_core.DurableCore.commit.Goals as goal
 

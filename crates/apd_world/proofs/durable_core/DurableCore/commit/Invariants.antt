@@ -1,5 +1,5 @@
 use Rattle.apd_flusher.specs.Outside.{calls_left}
-use Rattle.apd_world.proofs.RoundLaws.{IsCalling, left_by}
+use Rattle.apd_world.proofs.RoundLemmas.{IsCalling, left_by}
 use Rattle.apd_world.proofs.durable_core.DurableCore.commit.Given as goal
 
 abbrev pub invariant-loop-self : goal.invariant-loop-self

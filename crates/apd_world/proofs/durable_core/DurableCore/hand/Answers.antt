@@ -5,7 +5,7 @@ use Rattle.apd_world.specs.declared.step.Told.TheVariants.{NoMemory}
 use Rattle.apd_world.specs.declared.durable_core.DurableCore.{DurableCore}
 use Rattle.apd_world.proofs.Goings.{goes_unchanged}
 use Rattle.apd_world.proofs.Standing.{beside, safe_same, safe_unchanged}
-use Rattle.apd_world.proofs.StepLaws.{hand_step, has_ready, step_unchanged}
+use Rattle.apd_world.proofs.StepLemmas.{hand_step, has_ready, step_unchanged}
 use Rattle.apd_world.proofs.durable_core.DurableCore.hand.Goals as goal
 
 pub returns-in-Ok-clause-step : goal.returns-in-Ok-clause-step

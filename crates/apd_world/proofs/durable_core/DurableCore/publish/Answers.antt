@@ -9,7 +9,7 @@ use Rattle.apd_world.specs.declared.step.Told.TheVariants.{Nothing}
 use Rattle.apd_world.specs.declared.durable_core.DurableCore.{DurableCore}
 use Rattle.apd_world.proofs.Goings.{goes_unchanged}
 use Rattle.apd_world.proofs.Standing.{publish_refused, publish_settled, received, safe_same, safe_unchanged}
-use Rattle.apd_world.proofs.StepLaws.{publish_step, step_unchanged, unpublished_step}
+use Rattle.apd_world.proofs.StepLemmas.{publish_step, step_unchanged, unpublished_step}
 use Rattle.apd_world.proofs.durable_core.DurableCore.publish.Goals as goal
 
 pub returns-in_default-clause-step : goal.returns-in_default-clause-step

@@ -9,7 +9,7 @@ use Rattle.apd_world.specs.declared.step.Told.TheVariants.{Nothing, NoMemory}
 use Rattle.apd_world.specs.declared.durable_core.DurableCore.{DurableCore}
 use Rattle.apd_world.proofs.Goings.{goes_unchanged}
 use Rattle.apd_world.proofs.Standing.{safe_same, safe_unchanged, take_loaded, take_refused}
-use Rattle.apd_world.proofs.StepLaws.{if_none, if_some, next_core, step_unchanged, take_step}
+use Rattle.apd_world.proofs.StepLemmas.{if_none, if_some, next_core, step_unchanged, take_step}
 use Rattle.apd_world.proofs.durable_core.DurableCore.take.Goals as goal
 
 pub returns-in-Ok-None-clause-step : goal.returns-in-Ok-None-clause-step

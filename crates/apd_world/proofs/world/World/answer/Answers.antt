@@ -1,5 +1,5 @@
 use Rattle.std.proofs.Common.{[], ◌∷◌, ◌++◌, ◌∙◌, ap}
-use Rattle.apd_world.proofs.RunLaws.{none_made, one_answered, one_quiet, only_hands, some_none}
+use Rattle.apd_world.proofs.RunLemmas.{none_made, one_answered, one_quiet, only_hands, some_none}
 use Rattle.apd_world.proofs.world.World.answer.Goals as goal
 
 pub returns-then-is_err-clause-err : goal.returns-then-is_err-clause-err

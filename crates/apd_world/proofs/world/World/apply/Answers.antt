@@ -5,10 +5,10 @@ use Rattle.std.proofs.lemmas.List.{get_or_past, map-set, length-map, set-get_or}
 use Rattle.apd_mlme.specs.declared.decision.Out.{Out}
 use Rattle.apd_slot.specs.Slots.{bssid_of}
 use Rattle.apd_world.specs.Applying.{AppliesFirst}
-use Rattle.apd_world.specs.Seen.{slots_of, slot_place, queue_in, queue_of}
+use Rattle.apd_world.specs.WorldParts.{slots_of, slot_place, queue_in, queue_of}
 use Rattle.apd_world.specs.declared.step.Told.{Told}
 use Rattle.apd_world.proofs.Joining.{apply_joins, applied_same, nothing_joins}
-use Rattle.apd_world.proofs.SlotLaws.{other_queues, own_queue, place_set, queue_there, slot_is}
+use Rattle.apd_world.proofs.SlotLemmas.{other_queues, own_queue, place_set, queue_there, slot_is}
 use Rattle.apd_world.proofs.Standing.{safe_unchanged}
 use Rattle.apd_world.proofs.world.World.apply.Goals as goal
 

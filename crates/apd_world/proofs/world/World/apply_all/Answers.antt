@@ -1,9 +1,9 @@
 use Rattle.std.proofs.Common.{◌∙◌, List, refl, subst, take}
 use Rattle.std.proofs.lemmas.List.{take_all}
 use Rattle.apd_conf.specs.declared.conf.Conf.{Conf}
-use Rattle.apd_world.specs.Making.{AreAllApplied}
-use Rattle.apd_world.specs.Seen.{durable_of}
-use Rattle.apd_world.proofs.RunLaws.{applying_begun, applying_done, applying_on, hands_then, none_applied, none_made, on_err, some_quiet}
+use Rattle.apd_world.specs.StepsMade.{AreAllApplied}
+use Rattle.apd_world.specs.WorldParts.{durable_of}
+use Rattle.apd_world.proofs.RunLemmas.{applying_begun, applying_done, applying_on, hands_then, none_applied, none_made, on_err, some_quiet}
 use Rattle.apd_world.proofs.world.World.apply_all.Goals as goal
 
 pub loop-conf-init : goal.loop-conf-init

@@ -1,8 +1,8 @@
 use Rattle.std.proofs.Common.{length, take}
-use Rattle.apd_world.specs.Making.{AreAllApplied}
-use Rattle.apd_world.specs.Seen.{durable_of, queue_of}
+use Rattle.apd_world.specs.StepsMade.{AreAllApplied}
+use Rattle.apd_world.specs.WorldParts.{durable_of, queue_of}
 use Rattle.apd_world.specs.Starting.{OnlyHands}
-use Rattle.apd_world.proofs.RunLaws.{IsApplying}
+use Rattle.apd_world.proofs.RunLemmas.{IsApplying}
 use Rattle.apd_world.proofs.world.World.apply_all.Given as goal
 
 -- at so many interfaces no out waits

@@ -1,6 +1,6 @@
 use Rattle.std.proofs.Common.{refl}
-use Rattle.apd_world.proofs.RunLaws.{round_lifted}
-use Rattle.apd_world.proofs.StartLaws.{rest_following}
+use Rattle.apd_world.proofs.RunLemmas.{round_lifted}
+use Rattle.apd_world.proofs.StartLemmas.{rest_following}
 use Rattle.apd_world.proofs.world.World.commit.Goals as goal
 
 pub returns-clause-run : goal.returns-clause-run

@@ -1,5 +1,5 @@
 use Rattle.std.proofs.Common.{[], ◌∷◌, ap}
-use Rattle.apd_world.proofs.RunLaws.{accepted_more, asked_of, none_accepted, none_made, one_made, some_safe}
+use Rattle.apd_world.proofs.RunLemmas.{accepted_more, asked_of, none_accepted, none_made, one_made, some_safe}
 use Rattle.apd_world.proofs.world.World.configure.Goals as goal
 
 pub loop-conf-init : goal.loop-conf-init

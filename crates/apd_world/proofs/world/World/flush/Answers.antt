@@ -1,8 +1,8 @@
 use Rattle.std.proofs.Common.{[], Err, ap, ◌∙◌}
 use Rattle.std.proofs.lemmas.Result.{err_from_is_err_and}
 use Rattle.apd_world.specs.Starting.{HasEnded, HasFailedCore, IsFlushed, IsHandedOut}
-use Rattle.apd_world.proofs.EndLaws.{if_ended_then, if_err_is, memory_ends, memory_fails_none}
-use Rattle.apd_world.proofs.RunLaws.{flushed_from, if_ok_then, quiet_after, some_moments}
+use Rattle.apd_world.proofs.EndLemmas.{if_ended_then, if_err_is, memory_ends, memory_fails_none}
+use Rattle.apd_world.proofs.RunLemmas.{flushed_from, if_ok_then, quiet_after, some_moments}
 use Rattle.apd_world.proofs.world.World.flush.Goals as goal
 
 pub returns-in_err-settle-clause-any_moment : goal.returns-in_err-settle-clause-any_moment

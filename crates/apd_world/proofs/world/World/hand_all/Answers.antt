@@ -2,12 +2,12 @@ use Rattle.std.proofs.Common.{[], ◌∷◌, ◌++◌, ◌∙◌, List, refl, sy
 use Rattle.std.proofs.lemmas.List.{take_all}
 use Rattle.apd_conf.specs.declared.conf.Conf.{Conf}
 use Rattle.apd_mlme.specs.declared.decision.Recipient.TheVariants.{Radio, Control}
-use Rattle.apd_world.specs.Making.{AreAnswered}
-use Rattle.apd_world.specs.Seen.{durable_of}
+use Rattle.apd_world.specs.StepsMade.{AreAnswered}
+use Rattle.apd_world.specs.WorldParts.{durable_of}
 use Rattle.apd_world.specs.Starting.{hands, radio_hands}
 use Rattle.apd_world.specs.declared.step.Step.{Step}
 use Rattle.apd_world.specs.declared.step.Step.TheVariants.{Hand}
-use Rattle.apd_world.proofs.RunLaws.{answered_then, hands_then, none_answered, none_made, on_err, on_err_then, on_ok_then, radio_hands_more, some_quiet}
+use Rattle.apd_world.proofs.RunLemmas.{answered_then, hands_then, none_answered, none_made, on_err, on_err_then, on_ok_then, radio_hands_more, some_quiet}
 use Rattle.apd_world.proofs.world.World.hand_all.Goals as goal
 
 pub loop-conf-init : goal.loop-conf-init

@@ -1,6 +1,6 @@
 use Rattle.std.proofs.Common.{take}
-use Rattle.apd_world.specs.Making.{AreAnswered}
-use Rattle.apd_world.specs.Seen.{durable_of}
+use Rattle.apd_world.specs.StepsMade.{AreAnswered}
+use Rattle.apd_world.specs.WorldParts.{durable_of}
 use Rattle.apd_world.specs.Starting.{OnlyHands, radio_hands}
 use Rattle.apd_world.proofs.world.World.hand_all.Given as goal
 

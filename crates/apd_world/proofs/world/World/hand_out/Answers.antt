@@ -1,7 +1,7 @@
 use Rattle.std.proofs.Common.{◌∙◌, subst}
-use Rattle.apd_world.specs.Making.{AreAnswered}
+use Rattle.apd_world.specs.StepsMade.{AreAnswered}
 use Rattle.apd_world.specs.Starting.{hands}
-use Rattle.apd_world.proofs.RunLaws.{handed_out, hands_quiet, none_made, on_err, some_moments, some_none, some_quiet}
+use Rattle.apd_world.proofs.RunLemmas.{handed_out, hands_quiet, none_made, on_err, some_moments, some_none, some_quiet}
 use Rattle.apd_world.proofs.world.World.hand_out.Goals as goal
 
 pub returns-in_default-clause-err : goal.returns-in_default-clause-err

@@ -1,5 +1,5 @@
 use Rattle.std.proofs.Common.{◌≡◌, map, ap, ◌∙◌}
-use Rattle.apd_world.proofs.ResumeLaws.{begun_following}
+use Rattle.apd_world.proofs.ResumeLemmas.{begun_following}
 use Rattle.apd_world.proofs.world.World.new.Goals as goal
 
 pub returns-clause-following : goal.returns-clause-following

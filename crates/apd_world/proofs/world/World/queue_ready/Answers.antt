@@ -3,9 +3,9 @@ use Rattle.std.specs.Vec.{with_item}
 use Rattle.std.specs.declared.collections.VecDeque.{VecDeque}
 use Rattle.std.proofs.lemmas.List.{map-set, length-map}
 use Rattle.apd_mlme.specs.declared.decision.Out.{Out}
-use Rattle.apd_world.specs.Seen.{slots_of, slot_at, slot_in, slot_place, queue_in, queue_of}
+use Rattle.apd_world.specs.WorldParts.{slots_of, slot_at, slot_in, slot_place, queue_in, queue_of}
 use Rattle.apd_world.proofs.Joining.{hand_joins, lacking_joins, no_slot_joins, some_not_none}
-use Rattle.apd_world.proofs.SlotLaws.{not_err, other_queues, own_queue, queues_stay, queue_there, slot_is, some_slot}
+use Rattle.apd_world.proofs.SlotLemmas.{not_err, other_queues, own_queue, queues_stay, queue_there, slot_is, some_slot}
 use Rattle.apd_world.proofs.Standing.{safe_unchanged}
 use Rattle.apd_world.proofs.world.World.queue_ready.Goals as goal
 

@@ -1,9 +1,9 @@
 use Rattle.std.proofs.Common.{sym, subst}
-use Rattle.apd_world.specs.Seen.{durable_of}
+use Rattle.apd_world.specs.WorldParts.{durable_of}
 use Rattle.apd_world.specs.Round.{round}
 use Rattle.apd_world.specs.Starting.{IsAtRest, rounds}
-use Rattle.apd_world.proofs.EndLaws.{another_fails, ended_by_another, ended_by_none, ended_refused, nothing_fails, refused_fails}
-use Rattle.apd_world.proofs.RunLaws.{gone_then, no_round, none_left, none_made, round_more, some_rounds, still_works, unfinished}
+use Rattle.apd_world.proofs.EndLemmas.{another_fails, ended_by_another, ended_by_none, ended_refused, nothing_fails, refused_fails}
+use Rattle.apd_world.proofs.RunLemmas.{gone_then, no_round, none_left, none_made, round_more, some_rounds, still_works, unfinished}
 use Rattle.apd_world.proofs.world.World.settle.Goals as goal
 
 pub loop-self-init : goal.loop-self-init

@@ -1,6 +1,6 @@
 use Rattle.std.proofs.Common.{length}
-use Rattle.apd_world.specs.Seen.{durable_of}
-use Rattle.apd_world.proofs.RunLaws.{AreRounds}
+use Rattle.apd_world.specs.WorldParts.{durable_of}
+use Rattle.apd_world.proofs.RunLemmas.{AreRounds}
 use Rattle.apd_world.proofs.world.World.settle.Given as goal
 
 abbrev pub invariant-loop-self : goal.invariant-loop-self

@@ -1,8 +1,8 @@
 use Rattle.std.proofs.Common.{[], Err, ap, ◌∙◌}
 use Rattle.std.proofs.lemmas.Result.{err_from_is_err_and}
 use Rattle.apd_world.specs.Starting.{HasEnded, HasFailedCore, IsFlushed, IsStarted}
-use Rattle.apd_world.proofs.EndLaws.{gone_if_ended, if_ended_then, if_err_is, memory_end, memory_fails}
-use Rattle.apd_world.proofs.RunLaws.{either_way, gone_by_flushing, if_ok_then, moments_after, started_from}
+use Rattle.apd_world.proofs.EndLemmas.{gone_if_ended, if_ended_then, if_err_is, memory_end, memory_fails}
+use Rattle.apd_world.proofs.RunLemmas.{either_way, gone_by_flushing, if_ok_then, moments_after, started_from}
 use Rattle.apd_world.proofs.world.World.start.Goals as goal
 
 pub returns-in_err-configure-clause-any_moment : goal.returns-in_err-configure-clause-any_moment

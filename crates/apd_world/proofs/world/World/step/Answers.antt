@@ -1,7 +1,7 @@
 use Rattle.std.proofs.Common.{refl, sym, subst}
 use Rattle.apd_world.specs.WorldRun.{IsWorldStep}
 use Rattle.apd_world.specs.declared.step.Step.{Step}
-use Rattle.apd_world.proofs.FollowLaws.{exact, following}
+use Rattle.apd_world.proofs.FollowLemmas.{exact, following}
 use Rattle.apd_world.proofs.Joining.{durable_joins}
 use Rattle.apd_world.proofs.Recovering.{loses_nothing}
 use Rattle.apd_world.proofs.world.World.step.Goals as goal

@@ -1,7 +1,7 @@
 use Rattle.std.proofs.Common.{ap, sym, ◌∙◌}
 use Rattle.std.specs.Option.{option_copied}
 use Rattle.apd_ctrl.specs.Placing.{placing}
-use Rattle.apd_script.specs.Meant.{conf_meant}
+use Rattle.apd_script.specs.CommandInterface.{conf_meant}
 use Rattle.apd_script.specs.Script.{confs_of}
 use Rattle.apd_script.proofs.Doing.{meant_ok, unmeant_ok}
 use Rattle.apd_script.proofs.script.standing.Standing.meant.Goals as goal

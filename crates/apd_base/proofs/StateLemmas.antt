@@ -9,7 +9,7 @@ use Rattle.apd_base.specs.declared.station.Station.{Station}
 use Rattle.apd_base.specs.declared.station.Which.{Which}
 use Rattle.apd_base.specs.declared.station.Which.TheVariants.{Accept, Deny}
 use Rattle.apd_base.specs.Addr.{addr_cmp, bssid_cmp}
-use Rattle.apd_base.proofs.AddrLaws.{addr_total, addr_exact, bssid_total, bssid_exact}
+use Rattle.apd_base.proofs.AddrLemmas.{addr_total, addr_exact, bssid_total, bssid_exact}
 use Rattle.apd_base.specs.State.{which_number, which_cmp, list_cmp, aid_of}
 
 pub which_total : IsTotalOrder which_cmp

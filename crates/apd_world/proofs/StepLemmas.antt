@@ -23,12 +23,12 @@ use Rattle.apd_core.specs.declared.input.Input.{Input}
 use Rattle.apd_core.specs.declared.input.QuietReason.{QuietReason}
 use Rattle.apd_core.specs.declared.ticket.Accepted.{Accepted as CoreAccepted}
 use Rattle.apd_core.specs.declared.ticket.Accepted.TheVariants as core_accepted
-use Rattle.apd_core.proofs.HeldLaws.{given_within}
+use Rattle.apd_core.proofs.HeldLemmas.{given_within}
 use Rattle.apd_core.proofs.Settling.{settled_given}
 use Rattle.apd_flusher.specs.declared.phase.Phase.{Phase}
 use Rattle.apd_flusher.specs.declared.phase.Phase.TheVariants as phase
 use Rattle.apd_world.specs.declared.fault.WorldFault.TheVariants as world_fault
-use Rattle.apd_world.specs.Going.{Goes}
+use Rattle.apd_world.specs.CoreRun.{Goes}
 use Rattle.apd_world.specs.Run.{IsStep}
 use Rattle.apd_world.specs.Steps.{entered, entered_as, given, heard_after, heard_as}
 use Rattle.apd_world.specs.Telling.{HasReady, IsNext, Tells, IsAccepted, IsHanded, IsPublished, IsRead, IsTakenUp, IsCalled, after_call, reception_of}

@@ -23,7 +23,7 @@ use Rattle.apd_conf.specs.Faults.{IsFirstFault, IsFaultless}
 use Rattle.apd_conf.specs.ListFile as lists
 use Rattle.apd_base.specs.Addr.{address_of}
 use Rattle.apd_conf.specs.ConfFile.{fault_at, band_name, IsConfOf, IsFaultOf, IsMissing}
-use Rattle.apd_base.proofs.StationLaws.{same_limit, same_mode}
+use Rattle.apd_base.proofs.StationLemmas.{same_limit, same_mode}
 use Rattle.apd_base.proofs.Cases.{same_some, none_is_some}
 
 -- a file has one first fault at most

@@ -11,10 +11,10 @@ use Rattle.apd_mlme.specs.Run.{outs_run}
 use Rattle.apd_mlme.specs.declared.decision.Recipient.TheVariants.{Radio, Control}
 use Rattle.apd_slot.specs.Wanted.{Stations}
 use Rattle.apd_world.specs.Following.{AreExact, AreFollowing}
-use Rattle.apd_world.specs.Going.{AreUnsettled}
+use Rattle.apd_world.specs.CoreRun.{AreUnsettled}
 use Rattle.apd_world.specs.Outside.{device_of}
 use Rattle.apd_world.specs.Proper.{IsProper, IsSafe}
-use Rattle.apd_world.specs.Seen.{durable_of, slots_of, queue_of}
+use Rattle.apd_world.specs.WorldParts.{durable_of, slots_of, queue_of}
 use Rattle.apd_world.specs.Shown.{ShowsEither, ShowsFront}
 use Rattle.apd_world.specs.Steps.{Account, account, all_entered, all_given, given, nothing_yet, one_more}
 use Rattle.apd_world.specs.Telling.{Tells}
@@ -24,8 +24,8 @@ use Rattle.apd_world.specs.declared.step.Step.{Step}
 use Rattle.apd_world.specs.declared.step.Step.TheVariants.{Hand, Apply}
 use Rattle.apd_world.specs.declared.step.Told.{Told}
 use Rattle.apd_world.specs.declared.step.Told.TheVariants.{Handed, Queued, Nothing, NoMemory}
-use Rattle.apd_world.proofs.DriveLaws.{IsDriven, account_push, given_push, none_driven, one_driven, steps_length}
-use Rattle.apd_world.proofs.FollowLaws.{exact, flows, following}
+use Rattle.apd_world.proofs.DriveLemmas.{IsDriven, account_push, given_push, none_driven, one_driven, steps_length}
+use Rattle.apd_world.proofs.FollowLemmas.{exact, flows, following}
 
 applied_push : (b : Bssid) (xs : List Step) (ts : List Told) (x : Step) (t : Told) → length ts ≡ length xs → all_applied b (xs ++ x ∷ []) (ts ++ t ∷ []) ≡ all_applied b xs ts ++ applied b x t
 applied_push b [] [] x t e = append-nil (applied b x t)

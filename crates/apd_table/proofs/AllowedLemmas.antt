@@ -11,8 +11,8 @@ use Rattle.apd_base.specs.declared.station.AclMode.{AclMode}
 use Rattle.apd_base.specs.declared.station.AclMode.TheVariants.{AcceptUnlessDenied, DenyUnlessAccepted}
 use Rattle.apd_base.specs.declared.station.Policy.{Policy}
 use Rattle.apd_base.specs.declared.station.Which.TheVariants.{Accept, Deny}
-use Rattle.apd_base.proofs.AddrLaws.{addr_total, addr_exact}
-use Rattle.apd_base.proofs.MapLaws.{one_or_apart, tied}
+use Rattle.apd_base.proofs.AddrLemmas.{addr_total, addr_exact}
+use Rattle.apd_base.proofs.MapLemmas.{one_or_apart, tied}
 use Rattle.apd_acl.specs.Policy.{is_allowed}
 use Rattle.apd_record.specs.Meaning.{add_to_list, take_from_list, clear_list}
 use Rattle.apd_table.specs.Allowed.{allowed, allowed_under, allowed_unaccepted, allowed_unaccepted_under}

@@ -7,9 +7,9 @@ use Rattle.std.specs.Option.{is_some, option_map}
 use Rattle.std.proofs.lemmas.Bool.{false_from_ne_true}
 use Rattle.std.specs.Ordering.{eq_by_cmp}
 use Rattle.std.specs.declared.cmp.Ordering.{Ordering}
-use Rattle.apd_base.proofs.AddrLaws.{addr_total, addr_exact, bssid_total, bssid_exact, station_total, station_exact}
+use Rattle.apd_base.proofs.AddrLemmas.{addr_total, addr_exact, bssid_total, bssid_exact, station_total, station_exact}
 use Rattle.apd_base.proofs.Cases.{differ, no_value, none_is, none_is_some, same_some}
-use Rattle.apd_base.proofs.MapLaws.{one_or_apart, apart, tied, get_inserted, get_insert_other, get_removed, get_remove_other, retain_keys-remove}
+use Rattle.apd_base.proofs.MapLemmas.{one_or_apart, apart, tied, get_inserted, get_insert_other, get_removed, get_remove_other, retain_keys-remove}
 use Rattle.apd_base.specs.Addr.{addr_cmp, bssid_cmp, station_cmp}
 use Rattle.apd_base.specs.declared.address.Addr.{Addr}
 use Rattle.apd_base.specs.declared.address.Bssid.{Bssid}

@@ -11,7 +11,7 @@ use Rattle.apd_base.specs.declared.address.Bssid.{Bssid}
 use Rattle.apd_conf.specs.declared.conf.Conf.{Conf}
 use Rattle.apd_core.specs.Core.{CoreState, front_of, held_for, new_core}
 use Rattle.apd_core.specs.Heard.{LastHeard}
-use Rattle.apd_core.proofs.HeldLaws.{queue_of-no_outs}
+use Rattle.apd_core.proofs.HeldLemmas.{queue_of-no_outs}
 use Rattle.apd_core.proofs.Queues.{all_push, all_weaker}
 use Rattle.apd_mlme.specs.laws.Driver.{driven}
 use Rattle.apd_mlme.specs.declared.decision.Out.{Out}
@@ -21,12 +21,12 @@ use Rattle.apd_slot.specs.Wanted.{Stations}
 use Rattle.apd_slot.specs.declared.slot.Slot.{Slot}
 use Rattle.apd_slot.specs.declared.slot.SlotFault.{SlotFault}
 use Rattle.apd_slot.specs.declared.slot.SlotFault.TheVariants.{WentDown, NoMemory}
-use Rattle.apd_slot.proofs.RowsLaws.{installed_are}
+use Rattle.apd_slot.proofs.RowsLemmas.{installed_are}
 use Rattle.apd_world.specs.Following.{AreExact}
 use Rattle.apd_world.specs.Resumed.{AreOfSame, AreResumed, HasNotResumed, IsResumed}
-use Rattle.apd_world.specs.Seen.{slot_place, slot_in, slot_at, queue_in}
-use Rattle.apd_world.proofs.FollowLaws.{all_at}
-use Rattle.apd_world.proofs.SlotLaws.{place_of_own, slot_is}
+use Rattle.apd_world.specs.WorldParts.{slot_place, slot_in, slot_at, queue_in}
+use Rattle.apd_world.proofs.FollowLemmas.{all_at}
+use Rattle.apd_world.proofs.SlotLemmas.{place_of_own, slot_is}
 
 pub not_up : (up : Bool) → (up ≡ true → ◌≡◌ {A = Bool} false true) → up ≡ false
 not_up true h = let no : ◌≡◌ {A = Bool} false true = h refl in cc

@@ -11,8 +11,8 @@ use Rattle.apd_mlme.specs.laws.Driver.{driven}
 use Rattle.apd_mlme.specs.declared.decision.Recipient.TheVariants.{Radio}
 use Rattle.apd_slot.specs.Slots.{wanted_of}
 use Rattle.apd_world.specs.Following.{AreFollowing}
-use Rattle.apd_world.specs.Going.{Goes}
-use Rattle.apd_world.specs.Seen.{durable_of, slot_at}
+use Rattle.apd_world.specs.CoreRun.{Goes}
+use Rattle.apd_world.specs.WorldParts.{durable_of, slot_at}
 use Rattle.apd_world.specs.WorldRun.{RestStays}
 use Rattle.apd_world.specs.declared.world.World.{World}
 

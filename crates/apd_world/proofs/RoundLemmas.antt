@@ -30,7 +30,7 @@ use Rattle.apd_flusher.specs.Phases.{phase_from}
 use Rattle.apd_flusher.specs.declared.flusher.Flusher.{Flusher}
 use Rattle.apd_flusher.specs.declared.phase.Phase.{Phase}
 use Rattle.apd_flusher.specs.declared.phase.Phase.TheVariants.{Idle, Busy, Done, Failed}
-use Rattle.apd_world.specs.Going.{AreUnsettled, Goes}
+use Rattle.apd_world.specs.CoreRun.{AreUnsettled, Goes}
 use Rattle.apd_world.specs.Outside.{device_of}
 use Rattle.apd_world.specs.Proper.{IsBetween, IsDurable, IsInStep, IsProper, IsSafe, IsUnderWay, IsWaiting}
 use Rattle.apd_world.specs.Round.{ComesTo, HasRoomForNext, IsRound, LacksMemory, LastsForNext, answer_of, round, said}
@@ -45,9 +45,9 @@ use Rattle.apd_world.specs.declared.step.Step.{Step}
 use Rattle.apd_world.specs.declared.step.Step.TheVariants.{Take, Call, Publish}
 use Rattle.apd_world.specs.declared.step.Told.{Told}
 use Rattle.apd_world.specs.declared.step.Told.TheVariants.{Accepted, Loaded, Called, Published, Handed, Answered, Nothing, NoMemory, Queued, Applied}
-use Rattle.apd_world.proofs.DriveLaws.{IsDriven, none_driven, one_driven}
+use Rattle.apd_world.proofs.DriveLemmas.{IsDriven, none_driven, one_driven}
 use Rattle.apd_world.proofs.Standing.{flushing_not_failed, ready, some_call}
-use Rattle.apd_world.proofs.StepLaws.{next_core}
+use Rattle.apd_world.proofs.StepLemmas.{next_core}
 
 -- ---- what is said
 -- each in turn

@@ -12,9 +12,9 @@ use Rattle.apd_ctrl.specs.declared.parser.Refusal.{Refusal}
 use Rattle.apd_ctrl.specs.declared.parser.Refusal.TheVariants.{Fail}
 use Rattle.apd_ctrl.specs.Grammar.{after_blank, IsLine, IsPrefixed, IsSplit, IsRead, IsLineOutcome, IsOutcome}
 use Rattle.apd_ctrl.specs.Reading.{line_of, word, behind, named, split_prefix, command_of, at_interface, read_line, line_outcome, outcome}
-use Rattle.apd_ctrl.proofs.WordLaws.{text_is, word_free, word_joined, behind_joined}
-use Rattle.apd_ctrl.proofs.ArgumentLaws.{split_front}
-use Rattle.apd_ctrl.proofs.CommandLaws.{says-reads, reads-says, refused-so, refusal-reads}
+use Rattle.apd_ctrl.proofs.WordLemmas.{text_is, word_free, word_joined, behind_joined}
+use Rattle.apd_ctrl.proofs.ArgumentLemmas.{split_front}
+use Rattle.apd_ctrl.proofs.CommandLemmas.{says-reads, reads-says, refused-so, refusal-reads}
 
 -- a line with a prefix
 prefixed-splits : (line name text : List ℕ) → IsPrefixed line name text → split_prefix line ≡ (Some name, text)

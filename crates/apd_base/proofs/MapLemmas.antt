@@ -8,7 +8,7 @@ use Rattle.std.specs.declared.cmp.Ordering.TheVariants.{Less, Equal, Greater}
 use Rattle.std.specs.FinMap as map
 use Rattle.std.specs.FinMap.{FinMap, find, is_sorted, IsAntisymmetric, entries, entries_sorted, get-insert, get-remove, get-entries, get-retain_keys, same_map}
 use Rattle.apd_base.proofs.Cases.{same_some}
-use Rattle.apd_base.proofs.RowsLaws.{tied_not_below, is_sorted_tail}
+use Rattle.apd_base.proofs.RowsLemmas.{tied_not_below, is_sorted_tail}
 
 equal : (r : Ordering) → is_eq r ≡ true → r ≡ Equal
 equal Less e = cc

@@ -9,12 +9,12 @@ use Rattle.std.proofs.lemmas.List.Quantifiers.{position-Some}
 use Rattle.std.proofs.lemmas.Option.{slice_get-get_or}
 use Rattle.apd_base.specs.Addr.{bssid_cmp}
 use Rattle.apd_base.specs.declared.address.Bssid.{Bssid}
-use Rattle.apd_base.proofs.AddrLaws.{bssid_total, bssid_exact}
-use Rattle.apd_base.proofs.MapLaws.{one_or_apart, tied}
+use Rattle.apd_base.proofs.AddrLemmas.{bssid_total, bssid_exact}
+use Rattle.apd_base.proofs.MapLemmas.{one_or_apart, tied}
 use Rattle.apd_mlme.specs.declared.decision.Out.{Out}
 use Rattle.apd_slot.specs.Slots.{bssid_of}
 use Rattle.apd_slot.specs.declared.slot.Slot.{Slot}
-use Rattle.apd_world.specs.Seen.{slots_of, slot_place, slot_in, slot_at, queue_in, queue_of}
+use Rattle.apd_world.specs.WorldParts.{slots_of, slot_place, slot_in, slot_at, queue_in, queue_of}
 use Rattle.apd_world.specs.WorldRun.{OthersStay}
 use Rattle.apd_world.specs.declared.world.World.{World}
 

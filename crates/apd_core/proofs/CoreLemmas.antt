@@ -18,7 +18,7 @@ use Rattle.apd_core.specs.declared.input.QuietReason.{QuietReason}
 use Rattle.apd_core.specs.declared.ticket.Accepted.{Accepted}
 use Rattle.apd_core.specs.declared.ticket.Accepted.TheVariants.{Stopped, Busy, Quiet, Entry}
 use Rattle.apd_core.proofs.Keeping.{meaning-push}
-use Rattle.apd_core.proofs.HeldLaws.{queue_of-with_outs, queue_of-after_hand, queue_of-after_hand_other, queue_in_order}
+use Rattle.apd_core.proofs.HeldLemmas.{queue_of-with_outs, queue_of-after_hand, queue_of-after_hand_other, queue_in_order}
 use Rattle.apd_core.proofs.Queues.{given_first}
 use Rattle.apd_core.proofs.Settling.{published_front, published_queue}
 

@@ -10,8 +10,8 @@ use Rattle.std.proofs.lemmas.Option.{get_or_from_slice_get}
 use Rattle.apd_base.specs.Addr.{bssid_cmp}
 use Rattle.apd_base.specs.State.{State, aid_at}
 use Rattle.apd_base.specs.declared.address.Bssid.{Bssid}
-use Rattle.apd_base.proofs.AddrLaws.{bssid_total, bssid_exact}
-use Rattle.apd_base.proofs.MapLaws.{one_or_apart, tied}
+use Rattle.apd_base.proofs.AddrLemmas.{bssid_total, bssid_exact}
+use Rattle.apd_base.proofs.MapLemmas.{one_or_apart, tied}
 use Rattle.apd_conf.specs.declared.conf.Conf.{Conf}
 use Rattle.apd_conf.specs.Confs.{conf_at}
 use Rattle.apd_core.specs.Core.{CoreState, front_of, held_for}
@@ -33,7 +33,7 @@ use Rattle.apd_slot.specs.declared.slot.SlotFault.TheVariants as fault
 use Rattle.apd_slot.proofs.Driven.{wanted_is_driven}
 use Rattle.apd_world.specs.Applying.{AppliesFirst}
 use Rattle.apd_world.specs.Following.{AreExact, AreFollowing}
-use Rattle.apd_world.specs.Seen.{durable_of, slots_of, slot_in, slot_at, queue_of}
+use Rattle.apd_world.specs.WorldParts.{durable_of, slots_of, slot_in, slot_at, queue_of}
 use Rattle.apd_world.specs.Steps.{entered, given}
 use Rattle.apd_world.specs.WorldRun.{applied, IsApplied, IsWorldStep, Joins}
 use Rattle.apd_world.specs.declared.world.World.{World}
@@ -42,7 +42,7 @@ use Rattle.apd_world.specs.declared.step.Step.TheVariants.{Hand, Apply}
 use Rattle.apd_world.specs.declared.step.Told.{Told}
 use Rattle.apd_world.specs.declared.step.Told.TheVariants.{Handed, Queued, Applied, Nothing, NoMemory}
 use Rattle.apd_world.proofs.Joining.{applied_same}
-use Rattle.apd_world.proofs.SlotLaws.{slot_set, slot_set_other}
+use Rattle.apd_world.proofs.SlotLemmas.{slot_set, slot_set_other}
 
 -- ---- the outs of what happened, at a radio
 pub follows_run : (confs : List Conf) (es : List Happening) (s : State) (b : Bssid) → IsSome (conf_at confs b) → driven (outs_run (Radio b) s confs es) (aid_at s b) ≡ aid_at (run s confs es) b

@@ -8,9 +8,9 @@ use Rattle.std.proofs.lemmas.List.{length-map}
 use Rattle.std.specs.Ordering.{is_lt}
 use Rattle.std.specs.declared.cmp.Ordering.TheVariants.{Less, Equal, Greater}
 use Rattle.std.specs.FinMap.Entries.{below_all}
-use Rattle.apd_base.specs.Rows.{place, later, by_order, put_at, remove_at}
-use Rattle.apd_base.proofs.AddrLaws.{addr_total, addr_exact}
-use Rattle.apd_base.proofs.RowsLaws.{is_sorted_head, is_sorted_tail, put-place}
+use Rattle.apd_base.specs.Rows.{place, shifted, by_order, put_at, remove_at}
+use Rattle.apd_base.proofs.AddrLemmas.{addr_total, addr_exact}
+use Rattle.apd_base.proofs.RowsLemmas.{is_sorted_head, is_sorted_tail, put-place}
 use Rattle.apd_base.proofs.RowsMaps.{sorted_put_at, insert-from_sorted, sorted_remove_at, remove-from_sorted}
 use Rattle.std.specs.FinMap as finmap
 use Rattle.std.specs.FinMap.{put, is_sorted, from_sorted, entries-from_sorted, len-entries}
@@ -20,13 +20,13 @@ use Rattle.apd_base.specs.declared.address.Addr.{Addr}
 use Rattle.apd_conf.specs.declared.list_file.Edit.{Edit}
 use Rattle.apd_conf.specs.declared.list_fault.ListFault.TheVariants.{BadAddress, TooMany}
 use Rattle.apd_conf.specs.ListFile.{edit_of, edited, listed, fault_of, fault_by, fault_at, IsListOf, IsList, IsFaultOf}
-use Rattle.apd_conf.proofs.LineLaws.{IsNext, behind_none}
+use Rattle.apd_conf.proofs.LineLemmas.{IsNext, behind_none}
 use Rattle.apd_base.proofs.Cases.{first_holds, second_holds, is_less}
 
 len-from_sorted : (rows : List (Addr × Unit {0})) → T (is_sorted addr_cmp rows) → finmap.len (from_sorted {R = addr_cmp} rows) ≡ length rows
 len-from_sorted rows sorted = len-entries (from_sorted {R = addr_cmp} rows) ∙ ap length (entries-from_sorted addr_cmp rows sorted)
 
-ok_later : (r : Result ℕ ℕ) → IsOk (later 1 r) → IsOk r
+ok_later : (r : Result ℕ ℕ) → IsOk (shifted 1 r) → IsOk r
 ok_later (Ok i) h = refl
 ok_later (Err i) h = cc
 
@@ -34,7 +34,7 @@ ok_later (Err i) h = cc
 put_there : (a : Addr) (rows : List (Addr × Unit {0})) → IsOk (place addr_cmp a rows) → put addr_cmp a tt rows ≡ rows
 put_there a [] h = cc
 put_there a (row ∷ rows) h =
-    elim (addr_cmp a row.0) as (λ r. IsOk (by_order r (Err 0) (Ok 0) (later 1 (place addr_cmp a rows))) → by_order r ((a, tt) ∷ row ∷ rows) ((row.0, tt) ∷ rows) (row ∷ put addr_cmp a tt rows) ≡ row ∷ rows) [
+    elim (addr_cmp a row.0) as (λ r. IsOk (by_order r (Err 0) (Ok 0) (shifted 1 (place addr_cmp a rows))) → by_order r ((a, tt) ∷ row ∷ rows) ((row.0, tt) ∷ rows) (row ∷ put addr_cmp a tt rows) ≡ row ∷ rows) [
       | Less ↦ λ g. cc
       | Equal ↦ λ g. refl
       | Greater ↦ λ g. ap (λ fs. row ∷ fs) (put_there a rows (ok_later _ g))

@@ -21,7 +21,7 @@ use Rattle.apd_ctrl.specs.declared.command.Command.{Command}
 use Rattle.apd_ctrl.specs.declared.command.Command.TheVariants as c
 use Rattle.apd_ctrl.specs.Grammar.{after_blank, list_word, IsReasonNumber, IsReason, IsDismissal, IsEdit, Says}
 use Rattle.apd_ctrl.specs.Reading.{word, behind, as_reason, reason_number, reason_given, reason_of, both, dismissal_of, list_with, list_command}
-use Rattle.apd_ctrl.proofs.WordLaws.{text_is}
+use Rattle.apd_ctrl.proofs.WordLemmas.{text_is}
 
 -- what is mapped was there
 pub mapped : {A B : Type 0} (f : A → B) (o : Option A) (y : B) → option_map f o ≡ Some y → (x : A) × (o ≡ Some x) × (f x ≡ y)

@@ -12,10 +12,10 @@ use Rattle.apd_conf.specs.declared.conf.Conf.{Conf}
 use Rattle.apd_core.specs.Core.{CoreState, front_of, handed, held_for, ready_for}
 use Rattle.apd_core.specs.Heard.{LastHeard}
 use Rattle.apd_core.specs.Held.{HeldOuts, queue_of as core_queue, up_to}
-use Rattle.apd_core.proofs.HeldLaws.{queue_of-after_hand, queue_of-after_hand_other}
+use Rattle.apd_core.proofs.HeldLemmas.{queue_of-after_hand, queue_of-after_hand_other}
 use Rattle.apd_core.proofs.Settling.{up_to_beyond}
-use Rattle.apd_base.proofs.AddrLaws.{bssid_total, bssid_exact}
-use Rattle.apd_base.proofs.MapLaws.{one_or_apart}
+use Rattle.apd_base.proofs.AddrLemmas.{bssid_total, bssid_exact}
+use Rattle.apd_base.proofs.MapLemmas.{one_or_apart}
 use Rattle.apd_core.specs.declared.input.QuietReason.{QuietReason}
 use Rattle.apd_disk.specs.Disk.{LeavesOnly}
 use Rattle.apd_disk.proofs.Moments.{started, then_run, weaker}
@@ -27,13 +27,13 @@ use Rattle.apd_mlme.specs.declared.decision.Recipient.TheVariants.{Radio, Contro
 use Rattle.apd_slot.specs.Wanted.{Stations}
 use Rattle.apd_store.specs.Image.{Shows}
 use Rattle.apd_world.specs.Following.{AreExact, AreFollowing}
-use Rattle.apd_world.specs.Going.{AreUnsettled, Goes, Settles}
-use Rattle.apd_world.specs.Making.{AreAccepted, AreAllApplied, AreAnswered, AreQuietlyMade, AreSafelyMade, SomeAreQuietlyMade, SomeAreSafelyMade}
+use Rattle.apd_world.specs.CoreRun.{AreUnsettled, Goes, Settles}
+use Rattle.apd_world.specs.StepsMade.{AreAccepted, AreAllApplied, AreAnswered, AreQuietlyMade, AreSafelyMade, SomeAreQuietlyMade, SomeAreSafelyMade}
 use Rattle.apd_world.specs.Outside.{device_of}
 use Rattle.apd_world.specs.Proper.{IsProper, IsSafe}
 use Rattle.apd_world.specs.Round.{round}
 use Rattle.apd_world.specs.Run.{AreSteps, IsRun}
-use Rattle.apd_world.specs.Seen.{durable_of, slot_at, slots_of, queue_of}
+use Rattle.apd_world.specs.WorldParts.{durable_of, slot_at, slots_of, queue_of}
 use Rattle.apd_world.specs.Shown.{ShowsEither, ShowsFront}
 use Rattle.apd_world.specs.Starting.{AreConfiguring, HasGoneOn, IsAtRest, IsFlushed, IsHandedOut, IsGiven, IsHanding, IsStarted, IsWorldRound, LeavesFronts, OnlyHands, applies, asked, hands, radio_hands, recipient_of, rounds}
 use Rattle.apd_world.specs.Steps.{Account, account, all_entered, all_given, entered, given, heard_after, nothing_yet, one_more}
@@ -46,13 +46,13 @@ use Rattle.apd_world.specs.declared.step.Step.TheVariants.{Accept, Take, Call, P
 use Rattle.apd_world.specs.declared.step.Told.{Told}
 use Rattle.apd_world.specs.declared.step.Told.TheVariants.{Handed, Nothing, NoMemory, Queued}
 use Rattle.apd_world.specs.declared.world.World.{World}
-use Rattle.apd_world.proofs.DriveLaws.{shows_front, shows_later, shows_more, steps_length}
-use Rattle.apd_world.proofs.FollowLaws.{exact, flows, following, own_of, turned as bssids_turned}
+use Rattle.apd_world.proofs.DriveLemmas.{shows_front, shows_later, shows_more, steps_length}
+use Rattle.apd_world.proofs.FollowLemmas.{exact, flows, following, own_of, turned as bssids_turned}
 use Rattle.apd_world.proofs.Goings.{goes_then, goes_unchanged, is_or_not, run-append, turned}
-use Rattle.apd_world.proofs.RoundLaws.{round_enters_none}
-use Rattle.apd_world.proofs.SlotLaws.{slot_set_other}
+use Rattle.apd_world.proofs.RoundLemmas.{round_enters_none}
+use Rattle.apd_world.proofs.SlotLemmas.{slot_set_other}
 use Rattle.apd_world.proofs.Standing.{shows_flight}
-use Rattle.apd_world.proofs.WorldDriveLaws.{given_alike, happens_alike}
+use Rattle.apd_world.proofs.WorldDriveLemmas.{given_alike, happens_alike}
 
 -- ---- accounts of two lists
 account_append : (confs : List Conf) (xs ys : List Step) (ts us : List Told) (a : Account) → length ts ≡ length xs → account confs (xs ++ ys) (ts ++ us) a ≡ account confs ys us (account confs xs ts a)

@@ -21,8 +21,8 @@ use Rattle.apd_ctrl.specs.declared.word.Word.TheVariants as w
 use Rattle.apd_ctrl.specs.Words.{spelling, words, word_of, word_among}
 use Rattle.apd_ctrl.specs.Grammar.{after_blank, IsListed, IsRefused, Says}
 use Rattle.apd_ctrl.specs.Reading.{word, behind, dismissal_of, command_with, told, command_after, command_of}
-use Rattle.apd_ctrl.proofs.WordLaws.{text_is, word_joined, behind_joined, free_from}
-use Rattle.apd_ctrl.proofs.ArgumentLaws.{mapped, dismissal-reads, dismissal-says, edit-reads, show-reads, list-says}
+use Rattle.apd_ctrl.proofs.WordLemmas.{text_is, word_joined, behind_joined, free_from}
+use Rattle.apd_ctrl.proofs.ArgumentLemmas.{mapped, dismissal-reads, dismissal-says, edit-reads, show-reads, list-says}
 
 -- a word that is found is spelled so, and each is found by its spelling
 known_spelled : (text : List ℕ) (k : Word) → word_of text ≡ Some k → text ≡ spelling k

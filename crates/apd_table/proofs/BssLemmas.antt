@@ -14,9 +14,9 @@ use Rattle.apd_base.specs.declared.address.Bssid.{Bssid}
 use Rattle.apd_base.specs.declared.station.Policy.{Policy}
 use Rattle.apd_base.specs.declared.station.Which.{Which}
 use Rattle.apd_base.specs.declared.station.Which.TheVariants.{Accept, Deny}
-use Rattle.apd_base.proofs.AddrLaws.{bssid_total}
-use Rattle.apd_base.proofs.RowsLaws.{find_tied_head, is_sorted_tail}
-use Rattle.apd_base.proofs.StateLaws.{list_total, list_exact}
+use Rattle.apd_base.proofs.AddrLemmas.{bssid_total}
+use Rattle.apd_base.proofs.RowsLemmas.{find_tied_head, is_sorted_tail}
+use Rattle.apd_base.proofs.StateLemmas.{list_total, list_exact}
 use Rattle.apd_acl.specs.Lists.{list_of, has}
 use Rattle.apd_acl.specs.declared.lists.Lists.{Lists}
 use Rattle.apd_table.specs.BssRows.{add_rows, list_rows, members_of, parts_of, policy_of, policy_rows, state_of_rows, no_bss, is_listed_in}

@@ -18,7 +18,7 @@ use Rattle.apd_conf.specs.Lines.{is_skipped}
 use Rattle.apd_conf.specs.Table.{rule_of}
 use Rattle.apd_conf.specs.Values.{accepts}
 use Rattle.apd_conf.specs.ConfFile.{setting_of, refusal, value_fault, setting_fault, line_fault, fault_by, fault_at, value_for, value_in, value_of, IsFaultOf}
-use Rattle.apd_conf.proofs.LineLaws.{IsNext, behind_none}
+use Rattle.apd_conf.proofs.LineLemmas.{IsNext, behind_none}
 use Rattle.apd_base.proofs.Cases.{same_some}
 
 is_equals : ℕ → Bool

@@ -12,7 +12,7 @@ use Rattle.apd_mlme.specs.declared.decision.Out.{Out}
 use Rattle.apd_mlme.specs.declared.decision.Recipient.{Recipient}
 use Rattle.apd_store.specs.Image.{Shows}
 use Rattle.apd_core.specs.Core.{CoreState, front_of}
-use Rattle.apd_world.specs.Going.{AreUnsettled, Goes, Settles}
+use Rattle.apd_world.specs.CoreRun.{AreUnsettled, Goes, Settles}
 use Rattle.apd_world.specs.Proper.{IsProper, IsSafe}
 use Rattle.apd_world.specs.Run.{AreSteps, IsStep}
 use Rattle.apd_world.specs.Shown.{ShowsEither, ShowsFront}

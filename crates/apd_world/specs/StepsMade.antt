@@ -7,10 +7,10 @@ use Rattle.apd_mlme.specs.Happening.{Happening}
 use Rattle.apd_mlme.specs.declared.decision.Recipient.{Recipient}
 use Rattle.apd_slot.specs.Wanted.{Stations}
 use Rattle.apd_world.specs.Following.{AreExact, AreFollowing}
-use Rattle.apd_world.specs.Going.{AreUnsettled}
+use Rattle.apd_world.specs.CoreRun.{AreUnsettled}
 use Rattle.apd_world.specs.Outside.{device_of}
 use Rattle.apd_world.specs.Proper.{IsProper}
-use Rattle.apd_world.specs.Seen.{durable_of, queue_of, slots_of}
+use Rattle.apd_world.specs.WorldParts.{durable_of, queue_of, slots_of}
 use Rattle.apd_world.specs.Shown.{ShowsFront}
 use Rattle.apd_world.specs.Starting.{AreConfiguring, IsAtRest, applies, recipient_of, rounds}
 use Rattle.apd_world.specs.Steps.{all_entered}

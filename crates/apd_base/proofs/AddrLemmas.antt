@@ -8,7 +8,7 @@ use Rattle.apd_base.specs.declared.address.Addr.{Addr}
 use Rattle.apd_base.specs.declared.address.Bssid.{Bssid}
 use Rattle.apd_base.specs.Addr.{addr_cmp, bssid_cmp, station_cmp}
 use Rattle.apd_base.proofs.Cases.{differ}
-use Rattle.apd_base.proofs.MapLaws.{one_or_apart}
+use Rattle.apd_base.proofs.MapLemmas.{one_or_apart}
 
 pub addr_total : IsTotalOrder addr_cmp
 addr_total = on_total (λ (a : Addr). a.0) nat_list_cmp_total

@@ -7,7 +7,7 @@ use Rattle.apd_store.specs.declared.fault.StoreFault.{StoreFault}
 use Rattle.apd_store.specs.declared.fault.StoreFault.TheVariants as store_fault
 use Rattle.apd_world.specs.Round.{ComesTo, round}
 use Rattle.apd_world.specs.Run.{AreSteps}
-use Rattle.apd_world.specs.Seen.{durable_of}
+use Rattle.apd_world.specs.WorldParts.{durable_of}
 use Rattle.apd_world.specs.Starting.{Ends, HasEnded, HasFailedCore, HasGoneOn, IsUnfinished, IsWorldRound}
 use Rattle.apd_world.specs.Telling.{Tells, after_call}
 use Rattle.apd_world.specs.WorldRun.{IsWorldRun}
@@ -21,8 +21,8 @@ use Rattle.apd_world.specs.declared.step.Step.TheVariants.{Take, Call, Publish}
 use Rattle.apd_world.specs.declared.step.Told.{Told}
 use Rattle.apd_world.specs.declared.step.Told.TheVariants.{Accepted, Loaded, Called, Published, Handed, Queued, Answered, Applied, Nothing, NoMemory}
 use Rattle.apd_world.specs.declared.world.World.{World}
-use Rattle.apd_world.proofs.RunLaws.{gone_then}
-use Rattle.apd_world.proofs.StepLaws.{next_core}
+use Rattle.apd_world.proofs.RunLemmas.{gone_then}
+use Rattle.apd_world.proofs.StepLemmas.{next_core}
 
 -- ---- a core that has failed stays so
 failed_called : (result : Result (Unit {0}) StoreFault) (s : CoreState) → s.failed ≡ true → (after_call result s).failed ≡ true
