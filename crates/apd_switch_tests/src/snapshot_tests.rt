@@ -6,6 +6,7 @@ use apd_base::{Addr, Sequence};
 use apd_disk::Disk;
 use apd_journal::Batch;
 use apd_record::Change;
+use apd_table::MAX_SNAPSHOT;
 use std::alloc::Global;
 
 /// The record by which the first station of the first radio goes.
@@ -103,9 +104,10 @@ fn greatest_switch(alloc: Global) -> Option<(usize, (bool, usize))> {
 
 #[test]
 fn the_greatest_table(rt: HostRuntime) {
+    assert_eq!(rt; MAX_SNAPSHOT, 550_576);
     assert_eq!(rt;
         greatest_switch(rt.alloc()),
-        Some((550_576, (true, 16_055)))
+        Some((MAX_SNAPSHOT, (true, 16_055)))
     );
 }
 

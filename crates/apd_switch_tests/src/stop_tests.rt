@@ -59,21 +59,29 @@ fn a_switch_of_six_calls(rt: HostRuntime) {
     }
 }
 
-// Stopped in its third call a switch leaves any bytes behind the closed gate: the next one has four calls, and is
-// stopped in each.
+// What is shown after a stop in a switch over what another one left, which was stopped in its third call.
+fn shown_over(alloc: Global, calls: u64, torn: Torn) -> &'static str {
+    let left = stopped(alloc, both_open(alloc), 3, Torn::Byte(0xff));
+    shown(alloc, stopped(alloc, left, calls, torn))
+}
+
+// Stopped in its third call a switch leaves any bytes behind the closed gate: the next one has four calls. It is
+// stopped in each, and in each of the four calls of its group.
 #[test]
 fn a_switch_over_what_another_left(rt: HostRuntime) {
     let alloc = rt.alloc();
+    for calls in 1..=6 {
+        for torn in [Torn::Old, Torn::Byte(1), Torn::Byte(0xff)] {
+            let found = shown_over(alloc, calls, torn);
+            assert_eq!(rt; found, "before", "{torn:?} in call {calls}");
+        }
+    }
     for (calls, torn, is) in [
-        (1, Torn::Byte(1), "before"),
-        (2, Torn::New, "before"),
-        (3, Torn::Byte(1), "before"),
-        (4, Torn::New, "before"),
         (7, Torn::Byte(0), "before"),
+        (7, Torn::Byte(1), "after"),
         (8, Torn::Byte(0), "after"),
     ] {
-        let left = stopped(alloc, both_open(alloc), 3, Torn::Byte(0xff));
-        let found = shown(alloc, stopped(alloc, left, calls, torn));
+        let found = shown_over(alloc, calls, torn);
         assert_eq!(rt; found, is, "{torn:?} in call {calls}");
     }
 }
