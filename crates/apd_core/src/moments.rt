@@ -138,7 +138,7 @@ impl Moments {
         self.rows.remove(&(bssid, addr));
     }
 
-    /// The row that a change puts is given the moment, if it has none.
+    /// The row that a change puts is given a moment, if it has none: room for the one that `stamp` gives it.
     fn lay(&mut self, change: &Change, moment: Moment) -> Result<(), AllocError>
         ensures kept { AreLaidDown (change.now ∷ []) self.old self.new }
         ensures there { OnOk result ((k : Bssid × Addr) → is_put_of k change.now ≡ true → IsSome (map.get self.new k)) }
