@@ -2,11 +2,11 @@
 //! is given.
 #![tactic(auto)]
 
-pub mod configuration_files;
+mod configuration_files;
 mod formatting;
 pub mod laws;
 mod on_store;
-pub mod script;
+mod script;
 
 pub use apd_core::QuietReason;
 pub use configuration_files::read_configurations;
