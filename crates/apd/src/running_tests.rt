@@ -1,5 +1,5 @@
 use crate::running::run_and_log;
-use crate::{ProgramFault, command, told};
+use crate::{ProgramFault, command, no_text, told};
 use apd_disk::FileDisk;
 use apd_store::format;
 use log::Log;
@@ -120,6 +120,16 @@ fn wrong_words_are_told(rt: HostRuntime) -> Result<(), Fail> {
         assert!(rt; page.as_str().starts_with(text), "{page}");
         assert!(rt; ended, "{page}");
     }
+    Ok(())
+}
+
+#[test]
+fn words_that_are_no_text_are_wrong(rt: HostRuntime) -> Result<(), Fail> {
+    let error = no_text(rt.alloc())?;
+    let (page, ended) = printed_page(rt.alloc(), Ok(Some(error)), 2)?;
+    let text = "2error: invalid UTF-8 was detected in one or more arguments\n";
+    assert!(rt; page.as_str().starts_with(text), "{page}");
+    assert!(rt; ended, "{page}");
     Ok(())
 }
 

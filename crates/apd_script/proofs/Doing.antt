@@ -18,10 +18,12 @@ use Rattle.apd_world.specs.declared.step.Step.{Step}
 use Rattle.apd_world.specs.declared.step.Told.{Told}
 use Rattle.apd_script.specs.Lines.{Said, Says, IsNotPossible}
 use Rattle.apd_script.specs.Refused.{refused}
+use Rattle.apd_script.specs.Safely.{GoesSafely}
 use Rattle.apd_script.specs.Script.{asked_at, confs_of, is_up_at, IsCarriedOut, IsLineFault, IsMade, IsMeant, IsNoBadLine, IsPlaced, IsReceived, IsRequested, IsRun, IsSaidFault, IsTried, Makes, SaysAndIsRun}
 use Rattle.apd_script.specs.declared.script.fault.ScriptFault.{ScriptFault}
 use Rattle.apd_script.specs.declared.script.fault.ScriptFault.TheVariants as fault
 use Rattle.apd_script.specs.declared.script.standing.Standing.{Standing}
+use Rattle.apd_script.proofs.Parts.{by_line}
 
 module _ {D R : Type 0} where
   -- what is no bad line tells nothing of what was said
@@ -62,10 +64,10 @@ pub same_ok : {A E : Type 0} (P : A → Type 0) (r : Result A E) (x : A) → P x
 same_ok P (Ok y) x p same = subst P (sym same) p
 same_ok P (Err why) x p same = tt
 
-module _ {D R : Type 0} (honest : D → Type 0) (reads : D → List ℕ) (may_leave : D → List ℕ → Type 0) (size : D → ℕ) (stations : R → Stations) (faults : R → ℕ) where
+module _ {D R : Type 0} (honest : D → Type 0) (reads : D → List ℕ) (may_leave : D → List ℕ → Type 0) (moment : D → ℕ) (left_since : D → ℕ → List ℕ → Type 0) (size : D → ℕ) (stations : R → Stations) (faults : R → ℕ) where
   -- a step is tried
-  pub tried : (made : Step) (told : Told) (old mid : Standing D R) (kept refusal : Option StoreFault) → Makes honest reads may_leave size stations faults made told old mid → kept ≡ option_or mid.refusal refusal
-      → refusal ≡ refused told → IsTried honest reads may_leave size stations faults made old (record mid { refusal = kept })
+  pub tried : (made : Step) (told : Told) (old mid : Standing D R) (kept refusal : Option StoreFault) → Makes honest reads may_leave moment left_since size stations faults made told old mid → kept ≡ option_or mid.refusal refusal
+      → refusal ≡ refused told → IsTried honest reads may_leave moment left_since size stations faults made old (record mid { refusal = kept })
   tried made told old mid kept refusal makes is known = record {
     told = told;
     mid = mid;
@@ -76,47 +78,53 @@ module _ {D R : Type 0} (honest : D → Type 0) (reads : D → List ℕ) (may_le
   -- a frame is received
   pub received_ok : (r : Result (Standing D R) ScriptFault) (interface frame : List ℕ) (conf : Conf) (request : Step) (old : Standing D R)
       → conf_named (confs_of old) interface ≡ Some conf → asked_at request ≡ Some (Some (unless_ignored conf.bssid (outcome frame conf.bssid)), old.moment)
-      → IfOk r (λ new. IsMade honest reads may_leave size stations faults request old new) → IfOk r (λ new. IsReceived honest reads may_leave size stations faults interface frame old new)
+      → IfOk r (λ new. IsMade honest reads may_leave moment left_since size stations faults request old new) → IfOk r (λ new. IsReceived honest reads may_leave moment left_since size stations faults interface frame old new)
   received_ok (Ok new) interface frame conf request old configured asks made = record { conf = conf; configured = configured; requested = record { request = request; asks = asks; made = made } }
   received_ok (Err why) interface frame conf request old configured asks made = tt
 
   -- it is another moment
   pub ticked_ok : (r : Result (Standing D R) ScriptFault) (m : Moment) (request : Step) (old at : Standing D R) → at ≡ record old { moment = m } → asked_at request ≡ Some (None, m)
-      → IfOk r (λ new. IsMade honest reads may_leave size stations faults request at new) → IfOk r (λ new. IsRequested honest reads may_leave size stations faults None (record old { moment = m }) new)
+      → IfOk r (λ new. IsMade honest reads may_leave moment left_since size stations faults request at new) → IfOk r (λ new. IsRequested honest reads may_leave moment left_since size stations faults None (record old { moment = m }) new)
   ticked_ok (Ok new) m request old at is asks made =
-      record { request = request; asks = asks; made = subst (λ (s : Standing D R). IsMade honest reads may_leave size stations faults request s new) is made }
+      record { request = request; asks = asks; made = subst (λ (s : Standing D R). IsMade honest reads may_leave moment left_since size stations faults request s new) is made }
   ticked_ok (Err why) m request old at is asks made = tt
 
   -- an event is ordered, or a query asked
   pub ordered_ok : (r : Result (Standing D R) ScriptFault) (request : Step) (event : Happening) (old : Standing D R) → asked_at request ≡ Some (Some (ordered event), old.moment)
-      → IfOk r (λ new. IsMade honest reads may_leave size stations faults request old new) → IfOk r (λ new. IsPlaced honest reads may_leave size stations faults (Does event) old new)
+      → IfOk r (λ new. IsMade honest reads may_leave moment left_since size stations faults request old new) → IfOk r (λ new. IsPlaced honest reads may_leave moment left_since size stations faults (Does event) old new)
   ordered_ok (Ok new) request event old asks made = record { request = request; asks = asks; made = made }
   ordered_ok (Err why) request event old asks made = tt
 
   pub placed_ok : (r : Result (Standing D R) ScriptFault) (p q : Placing) (old : Standing D R) → p ≡ q
-      → IfOk r (λ new. IsPlaced honest reads may_leave size stations faults q old new) → IfOk r (λ new. IsPlaced honest reads may_leave size stations faults p old new)
-  placed_ok r p q old same h = subst (λ x. IfOk r (λ new. IsPlaced honest reads may_leave size stations faults x old new)) (sym same) h
+      → IfOk r (λ new. IsPlaced honest reads may_leave moment left_since size stations faults q old new) → IfOk r (λ new. IsPlaced honest reads may_leave moment left_since size stations faults p old new)
+  placed_ok r p q old same h = subst (λ x. IfOk r (λ new. IsPlaced honest reads may_leave moment left_since size stations faults x old new)) (sym same) h
 
   -- at the interface that is meant, or at none
   pub meant_ok : (r : Result (Standing D R) ScriptFault) (tag : ℕ) (order : Order) (found : Option Conf) (conf : Conf) (p : Placing) (up : Bool) (old : Standing D R)
       → found ≡ Some conf → p ≡ placed order conf.bssid up tag → up ≡ is_up_at old conf
-      → IfOk r (λ new. IsPlaced honest reads may_leave size stations faults p old new) → IfOk r (λ new. IsMeant honest reads may_leave size stations faults tag order found old new)
+      → IfOk r (λ new. IsPlaced honest reads may_leave moment left_since size stations faults p old new) → IfOk r (λ new. IsMeant honest reads may_leave moment left_since size stations faults tag order found old new)
   meant_ok r tag order found conf p up old is at up_is h =
-      let here : IfOk r (λ new. IsMeant honest reads may_leave size stations faults tag order (Some conf) old new) =
+      let here : IfOk r (λ new. IsMeant honest reads may_leave moment left_since size stations faults tag order (Some conf) old new) =
       placed_ok r (placed order conf.bssid (is_up_at old conf) tag) p old (ap (λ u. placed order conf.bssid u tag) (sym up_is) ∙ sym at) h in
-      subst (λ f. IfOk r (λ new. IsMeant honest reads may_leave size stations faults tag order f old new)) (sym is) here
+      subst (λ f. IfOk r (λ new. IsMeant honest reads may_leave moment left_since size stations faults tag order f old new)) (sym is) here
 
   pub unmeant_ok : (r : Result (Standing D R) ScriptFault) (tag : ℕ) (order : Order) (found : Option Conf) (old : Standing D R) → found ≡ None
-      → IfOk r (λ new. new ≡ old) → IfOk r (λ new. IsMeant honest reads may_leave size stations faults tag order found old new)
-  unmeant_ok r tag order found old is h = subst (λ f. IfOk r (λ new. IsMeant honest reads may_leave size stations faults tag order f old new)) (sym is) h
+      → IfOk r (λ new. new ≡ old) → IfOk r (λ new. IsMeant honest reads may_leave moment left_since size stations faults tag order found old new)
+  unmeant_ok r tag order found old is h = subst (λ f. IfOk r (λ new. IsMeant honest reads may_leave moment left_since size stations faults tag order f old new)) (sym is) h
 
   -- by what a text is as a command
   pub command_ok : (r : Result (Standing D R) ScriptFault) (tag : ℕ) (text : List ℕ) (read : Result (Option (List ℕ) × Order) Refusal) (old : Standing D R) → read ≡ command_outcome text
-      → IfOk r (λ new. IsCarriedOut honest reads may_leave size stations faults tag read old new) → IfOk r (λ new. IsCarriedOut honest reads may_leave size stations faults tag (command_outcome text) old new)
-  command_ok r tag text read old is h = subst (λ o. IfOk r (λ new. IsCarriedOut honest reads may_leave size stations faults tag o old new)) is h
+      → IfOk r (λ new. IsCarriedOut honest reads may_leave moment left_since size stations faults tag read old new) → IfOk r (λ new. IsCarriedOut honest reads may_leave moment left_since size stations faults tag (command_outcome text) old new)
+  command_ok r tag text read old is h = subst (λ o. IfOk r (λ new. IsCarriedOut honest reads may_leave moment left_since size stations faults tag o old new)) is h
 
   -- a text says what is run
   pub says_ok : (r : Result (Standing D R) ScriptFault) (n : ℕ) (text : List ℕ) (what : Said) (old : Standing D R) → Says text what
-      → IfOk r (λ new. IsRun honest reads may_leave size stations faults n what old new) → IfOk r (λ new. SaysAndIsRun honest reads may_leave size stations faults n text old new)
-  says_ok (Ok new) n text what old says run = record { what = what; says = says; run = run }
-  says_ok (Err why) n text what old says run = tt
+      → GoesSafely honest reads may_leave moment left_since size stations faults old.world old.world
+      → IfOk r (λ new. IsRun honest reads may_leave moment left_since size stations faults n what old new) → IfOk r (λ new. SaysAndIsRun honest reads may_leave moment left_since size stations faults n text old new)
+  says_ok (Ok new) n text what old says still run = record {
+    what = what;
+    says = says;
+    run = run;
+    safely = λ none. by_line honest reads may_leave moment left_since size stations faults old new still n what none run;
+  }
+  says_ok (Err why) n text what old says still run = tt

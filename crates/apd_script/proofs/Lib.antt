@@ -1,8 +1,11 @@
 pub mod Calling
 pub mod Doing
 pub mod Keeping
+pub mod OnStore
 pub mod OneRun
+pub mod Parts
 pub mod Running
+pub mod Safely
 pub mod Saying
 pub mod ScriptLines
 pub mod Stopping

@@ -1,69 +1,73 @@
 -- What a stop does, from what its parts do.
-use Rattle.std.proofs.Common.{◌≡◌, ℕ, List, map, drop, length, None, Result, Ok, Err, sym, ap, subst, ◌∙◌}
+use Rattle.std.proofs.Common.{◌≡◌, ℕ, List, map, drop, take, length, None, Result, Ok, Err, sym, ap, subst, ◌∙◌}
 use Rattle.std.specs.Prelude.{IfOk}
+use Rattle.apd_base.specs.State.{State}
 use Rattle.apd_base.specs.declared.moment.Moment.{Moment}
 use Rattle.apd_conf.specs.declared.conf.Conf.{Conf}
-use Rattle.apd_core.specs.Core.{new_core}
-use Rattle.apd_core.specs.Heard.{AreHeardAt}
+use Rattle.apd_mlme.specs.Run.{run}
 use Rattle.apd_slot.specs.Slots.{bssid_of}
 use Rattle.apd_slot.specs.Wanted.{Stations}
 use Rattle.apd_slot.specs.declared.slot.Slot.{Slot}
 use Rattle.apd_store.specs.Image.{Shows}
 use Rattle.apd_world.specs.Outside.{device_of}
-use Rattle.apd_world.specs.Proper.{IsProper}
-use Rattle.apd_world.specs.Resumed.{AreOfSame, AreResumed}
-use Rattle.apd_world.specs.WorldParts.{durable_of, slots_of}
+use Rattle.apd_world.specs.Proper.{IsProper, IsShown}
+use Rattle.apd_world.specs.WorldParts.{durable_of}
 use Rattle.apd_world.specs.declared.world.World.{World}
-use Rattle.apd_script.specs.Script.{AreRenewed, confs_of, IsRestarted, Restarts, Starts, Stops}
+use Rattle.apd_script.specs.Script.{AreRenewed, confs_of, IsBegunFrom, IsRestarted, Restarts, Starts, Stops}
 use Rattle.apd_script.specs.declared.script.fault.ScriptFault.{ScriptFault}
 use Rattle.apd_script.specs.declared.script.standing.Standing.{Standing}
 
-module _ {D R : Type 0} (honest : D → Type 0) (reads : D → List ℕ) (may_leave : D → List ℕ → Type 0) (size : D → ℕ) (stations : R → Stations) (faults : R → ℕ) where
+module _ {D R : Type 0} (honest : D → Type 0) (reads : D → List ℕ) (may_leave : D → List ℕ → Type 0) (moment : D → ℕ) (left_since : D → ℕ → List ℕ → Type 0) (size : D → ℕ) (stations : R → Stations) (faults : R → ℕ) where
   -- a world is begun anew from the device of another
-  pub anew : (m : Moment) (device : D) (old new : World D R) (confs : List Conf) (slots : List (Slot R)) → device ≡ device_of (durable_of old)
-      → (honest device → Shows (reads device) (durable_of new).core.settled)
-      → (durable_of new).core ≡ new_core (durable_of new).core.settled confs (durable_of new).core.heard
-      → AreHeardAt m (durable_of new).core.settled (durable_of new).core.heard
-      → AreOfSame slots (slots_of new)
-      → AreResumed stations (durable_of new).core.settled (slots_of new)
-      → (honest device → IsProper honest reads may_leave size (durable_of new))
-      → confs ≡ (durable_of old).core.confs → map bssid_of slots ≡ map (λ conf. conf.bssid) confs
-      → IsRestarted honest reads may_leave size stations faults m old new
-  anew m device old new confs slots is shown core heard same resumed proper configured each = record {
-    shown = subst (λ (d : D). honest d → Shows (reads d) (durable_of new).core.settled) is shown;
-    core = core ∙ ap (λ cs. new_core (durable_of new).core.settled cs (durable_of new).core.heard) configured;
-    heard = heard;
-    slots = same ∙ each ∙ ap (λ cs. map (λ conf. conf.bssid) cs) configured;
-    resumed = resumed;
-    proper = subst (λ (d : D). honest d → IsProper honest reads may_leave size (durable_of new)) is proper;
-  }
+  pub anew : (m : Moment) (device : D) (old new : World D R) (confs : List Conf) → device ≡ device_of (durable_of old)
+      → (IsProper honest reads may_leave size (durable_of old) → IsShown may_leave (durable_of old))
+      → (honest (device_of (durable_of old)) → may_leave (device_of (durable_of old)) (reads (device_of (durable_of old))))
+      → ((image : List ℕ) (s t : State) → Shows image s → Shows image t → s ≡ t)
+      → confs ≡ (durable_of old).core.confs
+      → IsBegunFrom honest reads may_leave moment left_since size stations faults m device confs new
+      → IsRestarted honest reads may_leave moment left_since size stations faults m old new
+  anew m device old new confs is shown left one configured begun =
+      let core = (durable_of old).core in
+      let own = device_of (durable_of old) in
+      let of_own : IsBegunFrom honest reads may_leave moment left_since size stations faults m own confs new =
+      subst (λ (d : D). IsBegunFrom honest reads may_leave moment left_since size stations faults m d confs new) is begun in
+      record {
+        begun = subst (λ cs. IsBegunFrom honest reads may_leave moment left_since size stations faults m own cs new) configured of_own;
+        recovered = λ p hs u.
+            let flight = (shown p).now hs u (reads own) (left p.device) in
+            record {
+              count = flight.count;
+              some_of = flight.some_of;
+              is = one (reads own) (durable_of new).core.settled (run core.settled core.confs (take flight.count hs)) (of_own.shown p.device) flight.shows;
+            };
+      }
 
   -- what is given up and begun anew is restarted
   pub restarts_ok : (r : Result (Standing D R) ScriptFault) (old : Standing D R) (mid : Standing D R) (confs : List Conf) (slots : List (Slot R)) → AreRenewed confs slots old mid
-      → IfOk r (λ new. confs ≡ confs_of mid → map bssid_of slots ≡ map (λ conf. conf.bssid) confs → IsRestarted honest reads may_leave size stations faults mid.moment mid.world new.world)
+      → IfOk r (λ new. confs ≡ confs_of mid → map bssid_of slots ≡ map (λ conf. conf.bssid) confs → IsRestarted honest reads may_leave moment left_since size stations faults mid.moment mid.world new.world)
       → IfOk r (λ new. new ≡ record mid { world = new.world; refusal = None })
-      → IfOk r (λ new. Restarts honest reads may_leave size stations faults old new)
+      → IfOk r (λ new. Restarts honest reads may_leave moment left_since size stations faults old new)
   restarts_ok (Ok new) old mid confs slots renewed restarted only =
       let same = renewed.only in
       let configured = renewed.own in
       let world : mid.world ≡ old.world = ap (λ (s : Standing D R). s.world) same in
-      let moment : mid.moment ≡ old.moment = ap (λ (s : Standing D R). s.moment) same in
+      let same_moment : mid.moment ≡ old.moment = ap (λ (s : Standing D R). s.moment) same in
       let spares : new.spares ≡ mid.spares = ap (λ (s : Standing D R). s.spares) only in
       let whole = restarted (configured ∙ ap (λ (w : World D R). (durable_of w).core.confs) (sym world)) renewed.each in
-      let at_world : IsRestarted honest reads may_leave size stations faults mid.moment old.world new.world = subst (λ (w : World D R). IsRestarted honest reads may_leave size stations faults mid.moment w new.world) world whole in
+      let at_world : IsRestarted honest reads may_leave moment left_since size stations faults mid.moment old.world new.world = subst (λ (w : World D R). IsRestarted honest reads may_leave moment left_since size stations faults mid.moment w new.world) world whole in
       record {
-        restarted = subst (λ m. IsRestarted honest reads may_leave size stations faults m old.world new.world) moment at_world;
+        restarted = subst (λ m. IsRestarted honest reads may_leave moment left_since size stations faults m old.world new.world) same_moment at_world;
         spares = ap (λ s. s.items) spares ∙ renewed.spares ∙ ap (λ cs. drop (length cs) old.spares.items) configured;
         only = only ∙ ap (λ (s : Standing D R). record s { world = new.world; refusal = None }) same ∙ ap (λ s. record old { world = new.world; spares = s; refusal = None }) (sym spares);
       }
   restarts_ok (Err why) old mid confs slots renewed restarted only = tt
 
   -- and then started
-  pub stops_ok : (r : Result (Standing D R) ScriptFault) (old first mid : Standing D R) → Restarts honest reads may_leave size stations faults old first → mid ≡ first
-      → IfOk r (λ new. Starts honest reads may_leave size stations faults mid new) → IfOk r (λ new. Stops honest reads may_leave size stations faults old new)
+  pub stops_ok : (r : Result (Standing D R) ScriptFault) (old first mid : Standing D R) → Restarts honest reads may_leave moment left_since size stations faults old first → mid ≡ first
+      → IfOk r (λ new. Starts honest reads may_leave moment left_since size stations faults mid new) → IfOk r (λ new. Stops honest reads may_leave moment left_since size stations faults old new)
   stops_ok (Ok new) old first mid restarts same starts = record {
     mid = mid;
-    restarts = subst (λ (s : Standing D R). Restarts honest reads may_leave size stations faults old s) (sym same) restarts;
+    restarts = subst (λ (s : Standing D R). Restarts honest reads may_leave moment left_since size stations faults old s) (sym same) restarts;
     starts = starts;
   }
   stops_ok (Err why) old first mid restarts same starts = tt

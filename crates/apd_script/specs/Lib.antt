@@ -2,4 +2,5 @@ pub mod Configured
 pub mod Lines
 pub mod CommandInterface
 pub mod Refused
+pub mod Safely
 pub mod Script

@@ -1,5 +1,5 @@
 -- What running a script does, in the words of its world. What it prints is not spoken of.
-use Rattle.std.specs.Prelude.{◌≡◌, ◌≢◌, ℕ, Bool, ◌+◌, ◌≤◌, List, [], ◌∷◌, ◌++◌, map, length, drop, Option, None, Some, Result, Ok, Err, IfSome}
+use Rattle.std.specs.Prelude.{◌≡◌, ◌≢◌, ℕ, Bool, ◌+◌, ◌*◌, ◌≤◌, List, [], ◌∷◌, ◌++◌, map, length, drop, Option, None, Some, Result, Ok, Err, IfSome}
 use Rattle.std.specs.Option.{option_or}
 use Rattle.apd_base.specs.Text.{lines}
 use Rattle.apd_base.specs.declared.limits.TheConstants.{MAX_SCRIPT}
@@ -14,6 +14,7 @@ use Rattle.apd_ctrl.specs.Placing.{Placing, Asks, Does, placed}
 use Rattle.apd_ctrl.specs.Reading.{outcome as command_outcome}
 use Rattle.apd_ctrl.specs.declared.command.Command.{Command as Order}
 use Rattle.apd_ctrl.specs.declared.parser.Refusal.{Refusal}
+use Rattle.apd_disk.specs.Disk.{LeavesOnly}
 use Rattle.apd_frame.specs.Outcome.{outcome}
 use Rattle.apd_mlme.specs.Happening.{Happening}
 use Rattle.apd_mlme.specs.declared.decision.Recipient.{Recipient}
@@ -21,6 +22,9 @@ use Rattle.apd_slot.specs.Slots.{bssid_of}
 use Rattle.apd_slot.specs.Wanted.{Stations}
 use Rattle.apd_slot.specs.declared.slot.Slot.{Slot}
 use Rattle.apd_store.specs.Image.{Shows}
+use Rattle.apd_table.specs.Sound.{Sound}
+use Rattle.apd_world.specs.Following.{AreFollowing}
+use Rattle.apd_world.specs.CoreRun.{AreUnsettled}
 use Rattle.apd_world.specs.Outside.{device_of}
 use Rattle.apd_world.specs.Proper.{IsProper}
 use Rattle.apd_world.specs.Resumed.{AreResumed}
@@ -35,6 +39,7 @@ use Rattle.apd_world.specs.declared.world.World.{World}
 use Rattle.apd_script.specs.Lines.{Said, Empty, Received, Tick, Command, Take, Call, Publish, Hand, Flush, Stop, Says, IsBad, IsNotPossible}
 use Rattle.apd_script.specs.CommandInterface.{conf_meant}
 use Rattle.apd_script.specs.Refused.{refused}
+use Rattle.apd_script.specs.Safely.{GoesSafely, IsAfterFlight}
 use Rattle.apd_script.specs.declared.script.fault.ScriptFault.{ScriptFault}
 use Rattle.apd_script.specs.declared.script.fault.ScriptFault.TheVariants as fault
 use Rattle.apd_script.specs.declared.script.standing.Standing.{Standing}
@@ -67,16 +72,16 @@ abbrev pub asked_at : Step → Option (Option (Result Happening QuietReason) × 
 asked_at (step.Accept i m) = Some (said_by i, m)
 asked_at other = None
 
-module _ {D R : Type 0} (honest : D → Type 0) (reads : D → List ℕ) (may_leave : D → List ℕ → Type 0) (size : D → ℕ)
-    (stations : R → Stations) (faults : R → ℕ) where
+module _ {D R : Type 0} (honest : D → Type 0) (reads : D → List ℕ) (may_leave : D → List ℕ → Type 0) (moment : D → ℕ)
+    (left_since : D → ℕ → List ℕ → Type 0) (size : D → ℕ) (stations : R → Stations) (faults : R → ℕ) where
   -- the world is proper
   abbrev pub IsProperAt : Standing D R → Type 0
   IsProperAt s = IsProper honest reads may_leave size (durable_of s.world)
 
-  -- nothing changes but the world, which stays proper
+  -- nothing changes but the world, by steps
   pub record GoesOn (old new : Standing D R) : Type 0 where
     pub only : new ≡ record old { world = new.world }
-    pub proper : IsProperAt old → IsProperAt new
+    pub safely : GoesSafely honest reads may_leave moment left_since size stations faults old.world new.world
 
   -- this step was made, and told so
   pub record Makes (made : Step) (told : Told) (old new : Standing D R) : Type 0 where
@@ -142,17 +147,27 @@ module _ {D R : Type 0} (honest : D → Type 0) (reads : D → List ℕ) (may_le
     pub started : IsStarted stations faults answers old.world new.world
     pub goes_on : GoesOn old new
 
-  -- A world begun anew at a moment from what the device of another reads: its table is the state that the device shows, nothing is
-  -- unsettled, and its slots, one for each interface, have resumed by that table. It is proper.
-  pub record IsRestarted (m : Moment) (old new : World D R) : Type 0 where
-    pub shown : honest (device_of (durable_of old))
-        → Shows (reads (device_of (durable_of old))) (durable_of new).core.settled
-    pub core : (durable_of new).core
-        ≡ new_core (durable_of new).core.settled (durable_of old).core.confs (durable_of new).core.heard
+  -- A world begun at a moment from what a device reads, of these configurations: its table is the state that the device shows, nothing is
+  -- unsettled, and its slots, one for each interface, have resumed by that table. It is proper, and a stop until it is begun leaves what it
+  -- could leave before.
+  pub record IsBegunFrom (m : Moment) (device : D) (confs : List Conf) (new : World D R) : Type 0 where
+    pub shown : honest device → Shows (reads device) (durable_of new).core.settled
+    pub core : (durable_of new).core ≡ new_core (durable_of new).core.settled confs (durable_of new).core.heard
     pub heard : AreHeardAt m (durable_of new).core.settled (durable_of new).core.heard
-    pub slots : map bssid_of (slots_of new) ≡ map (λ conf. conf.bssid) (durable_of old).core.confs
+    pub sound : Sound (durable_of new).core.settled
+    pub slots : map bssid_of (slots_of new) ≡ map (λ conf. conf.bssid) confs
     pub resumed : AreResumed stations (durable_of new).core.settled (slots_of new)
-    pub proper : honest (device_of (durable_of old)) → IsProper honest reads may_leave size (durable_of new)
+    pub following : AreFollowing new
+    pub proper : honest device → IsProper honest reads may_leave size (durable_of new)
+    pub any_moment : honest device
+        → LeavesOnly moment left_since device (device_of (durable_of new)) (may_leave device)
+
+  -- A world begun anew at a moment from what the device of another reads, with its configurations. Where that one was proper, the table is
+  -- its settled one, or that after its batch in flight.
+  pub record IsRestarted (m : Moment) (old new : World D R) : Type 0 where
+    pub begun : IsBegunFrom m (device_of (durable_of old)) (durable_of old).core.confs new
+    pub recovered : IsProper honest reads may_leave size (durable_of old) → (hs : List Happening)
+        → AreUnsettled hs (durable_of old).core → IsAfterFlight (durable_of old).core hs (durable_of new).core.settled
 
   -- the world is begun anew, with a radio from the front for each interface, and no refusal is known
   pub record Restarts (old new : Standing D R) : Type 0 where
@@ -180,11 +195,13 @@ module _ {D R : Type 0} (honest : D → Type 0) (reads : D → List ℕ) (may_le
   IsRun n Flush old new = Flushes old new
   IsRun n Stop old new = Stops old new
 
-  -- a text says something, which is run
+  -- a text says something, which is run; but for a stop, by steps alone
   pub record SaysAndIsRun (n : ℕ) (text : List ℕ) (old new : Standing D R) : Type 0 where
     pub what : Said
     pub says : Says text what
     pub run : IsRun n what old new
+    pub safely : what ≢ Stop
+        → GoesSafely honest reads may_leave moment left_since size stations faults old.world new.world
 
   -- texts are run one after the other, the first of which has this number
   abbrev pub AreRun : ℕ → List (List ℕ) → Standing D R → Standing D R → Type 0
@@ -222,6 +239,29 @@ module _ {D R : Type 0} (honest : D → Type 0) (reads : D → List ℕ) (may_le
   abbrev pub IsFault : Option (List ℕ) → List R → World D R → ScriptFault → Type 0
   IsFault known radios old (fault.BadLine n) = IsBadAt n known radios old
   IsFault known radios old why = Unit {0}
+
+  -- ---- on the store of a device
+  -- A script is run to its end on the store of a device: a world of these configurations is begun from it at moment 0, with as many radios
+  -- besides as so many stops of each interface take, and from there the script ends so.
+  pub record IsRunOn (stops : ℕ) (device : D) (confs : List Conf) (known : Option (List ℕ))
+      (new : World D R) : Type 0 where
+    pub first : World D R
+    pub begun : IsBegunFrom (record { 0 = 0 }) device confs first
+    pub radios : List R
+    pub enough : length radios ≡ stops * length confs
+    pub ends : Ends known radios first new
+
+  -- or from there line n is bad
+  pub record IsBadOn (stops : ℕ) (device : D) (confs : List Conf) (known : Option (List ℕ)) (n : ℕ) : Type 0 where
+    pub first : World D R
+    pub begun : IsBegunFrom (record { 0 = 0 }) device confs first
+    pub radios : List R
+    pub enough : length radios ≡ stops * length confs
+    pub is_bad : IsBadAt n known radios first
+
+  abbrev pub IsFaultOn : ℕ → D → List Conf → Option (List ℕ) → ScriptFault → Type 0
+  IsFaultOn stops device confs known (fault.BadLine n) = IsBadOn stops device confs known n
+  IsFaultOn stops device confs known why = Unit {0}
 
 -- no line is bad
 abbrev pub IsNoBadLine : ScriptFault → Type 0

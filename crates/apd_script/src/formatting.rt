@@ -1,5 +1,6 @@
 //! A device that is made a store: `apd format STORE`.
-ghost use Rattle.std.specs.Prelude.{◌≡◌, ◌≢◌, ◌↔◌, ℕ, List, IfErr, IfOk, OnOk};
+ghost use Rattle.std.specs.Prelude.{◌≡◌, ◌≢◌, ◌≤◌, ◌+◌, ◌⊎◌, ◌↔◌, ℕ, List, IfErr, IfOk, OnOk};
+ghost use Rattle.apd_base.specs.Failures.{HasRisen};
 ghost use Rattle.apd_base.specs.State.{empty_state};
 ghost use Rattle.apd_base.specs.declared.limits.TheConstants.{DEVICE_LENGTH};
 ghost use Rattle.apd_disk.specs.Disk.{LeavesOnly};
@@ -43,10 +44,21 @@ pub fn run_format<D: Disk, W: Write>(
         → IfOk result (λ made. LeavesOnly D.moment D.left_since device made (MayBeMade (D.may_leave device))) }
     ensures any_moment_err { D.honest device
         → IfErr result (λ e. LeavesOnly D.moment D.left_since device e.0 (MayBeMade (D.may_leave device))) }
+    ensures calls { D.honest device → IfOk result (λ made. D.moment made ≤ D.moment device + 9) }
+    ensures calls_err { D.honest device → IfErr result (λ e. D.moment e.0 ≤ D.moment device + 9) }
+    ensures honest { IfOk result (λ made. D.honest device ↔ D.honest made) }
+    ensures honest_err { IfErr result (λ e. D.honest device ↔ D.honest e.0) }
     ensures length { OnOk result (D.size device ≡ DEVICE_LENGTH) }
     ensures not_a_store { IfErr result
         (λ e. (e.1 ≡ FormatFault.Store StoreFault.NotAStore) ↔ (D.size device ≢ DEVICE_LENGTH)) }
     ensures untouched { IfErr result (λ e. e.1 ≡ FormatFault.Store StoreFault.NotAStore → e.0 ≡ device) }
+    ensures only { IfErr result
+        (λ e. (e.1 ≡ FormatFault.Store StoreFault.NotAStore) ⊎ (e.1 ≡ FormatFault.Store StoreFault.Device)
+        ⊎ (e.1 ≡ FormatFault.Writer)) }
+    ensures device { IfErr result
+        (λ e. e.1 ≡ FormatFault.Store StoreFault.Device → HasRisen (D.failed device) (D.failed e.0)) }
+    ensures count { IfOk result (λ made. D.failed made ≡ D.failed device) }
+    ensures count_writer { IfErr result (λ e. e.1 ≡ FormatFault.Writer → D.failed e.0 ≡ D.failed device) }
 {
     let device = match format(alloc, device) {
         Ok(store) => store.into_device(),

@@ -1,7 +1,8 @@
 //! What a reader may rely on, whatever lines a script has: each law is the contract of a function that does
 //! nothing.
-ghost use Rattle.std.specs.Prelude.{List, ℕ};
+ghost use Rattle.std.specs.Prelude.{◌∷◌, List, ℕ};
 ghost use Rattle.apd_script.specs.Lines.{HaveNoStop};
+ghost use Rattle.apd_script.specs.Safely.{GoesSafely, KeepsSpoken};
 ghost use Rattle.apd_script.specs.Script.{AreRun, IsScriptRun, Starts};
 ghost use Rattle.apd_script.specs.declared.script.standing.Standing.{Standing};
 ghost use Rattle.apd_world.specs.Proper.{IsProper};
@@ -17,11 +18,11 @@ use apd_radio::Radio;
 /// part of a script from one start to the next `stop`, or to its end.
 pub fn lines_without_a_stop_are_one_run<D: Disk, R: Radio>()
     ensures lines { (n : ℕ) (texts : List (List ℕ)) (old new : Standing D R) → HaveNoStop texts
-        → AreRun D.honest D.reads D.may_leave D.size R.stations R.faults n texts old new
+        → AreRun D.honest D.reads D.may_leave D.moment D.left_since D.size R.stations R.faults n texts old new
         → HasGoneOn R.stations R.faults old.world new.world }
     ensures part { (n : ℕ) (texts : List (List ℕ)) (old started new : Standing D R)
-        → Starts D.honest D.reads D.may_leave D.size R.stations R.faults old started → HaveNoStop texts
-        → AreRun D.honest D.reads D.may_leave D.size R.stations R.faults n texts started new
+        → Starts D.honest D.reads D.may_leave D.moment D.left_since D.size R.stations R.faults old started → HaveNoStop texts
+        → AreRun D.honest D.reads D.may_leave D.moment D.left_since D.size R.stations R.faults n texts started new
         → HasGoneOn R.stations R.faults old.world new.world }
 {}
 
@@ -29,7 +30,27 @@ pub fn lines_without_a_stop_are_one_run<D: Disk, R: Radio>()
 /// after them is. So what is proved of the steps from a proper world holds at each line.
 pub fn a_script_leaves_a_proper_world_proper<D: Disk, R: Radio>()
     ensures { (texts : List (List ℕ)) (w : AnyWorld D R) (radios : List R) (last : Standing D R)
-        → IsScriptRun D.honest D.reads D.may_leave D.size R.stations R.faults texts w radios last
+        → IsScriptRun D.honest D.reads D.may_leave D.moment D.left_since D.size R.stations R.faults texts w radios last
         → IsProper D.honest D.reads D.may_leave D.size (durable_of w)
         → IsProper D.honest D.reads D.may_leave D.size (durable_of last.world) }
+{}
+
+/// A stop within a script, at any moment since a line began or since a start, leaves the table after a front of what was
+/// not settled by then and of what happened since; and of all that happened before, whatever that was, each entry is in it
+/// that had been spoken of. So what is proved of every list of steps is so of the lines of a script, and nothing that it
+/// told is lost. At a `stop` itself, what it begins anew from is said where it is run.
+pub fn a_stop_within_a_script_loses_nothing_told<D: Disk, R: Radio>()
+    ensures lines { (n : ℕ) (text : List ℕ) (texts : List (List ℕ)) (old new : Standing D R)
+        → HaveNoStop (text ∷ texts)
+        → AreRun D.honest D.reads D.may_leave D.moment D.left_since D.size R.stations R.faults n (text ∷ texts) old new
+        → GoesSafely D.honest D.reads D.may_leave D.moment D.left_since D.size R.stations R.faults old.world new.world }
+    ensures part { (n : ℕ) (texts : List (List ℕ)) (old started new : Standing D R)
+        → Starts D.honest D.reads D.may_leave D.moment D.left_since D.size R.stations R.faults old started
+        → HaveNoStop texts
+        → AreRun D.honest D.reads D.may_leave D.moment D.left_since D.size R.stations R.faults n texts started new
+        → GoesSafely D.honest D.reads D.may_leave D.moment D.left_since D.size R.stations R.faults old.world new.world }
+    ensures spoken { (old new : AnyWorld D R)
+        → GoesSafely D.honest D.reads D.may_leave D.moment D.left_since D.size R.stations R.faults old new
+        → IsProper D.honest D.reads D.may_leave D.size (durable_of old)
+        → KeepsSpoken D.moment D.left_since R.stations R.faults old new }
 {}

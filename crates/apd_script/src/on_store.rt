@@ -1,5 +1,11 @@
 //! A script on the store of a device: radios in memory, a world begun from the store, and its lines.
-use crate::script::{ScriptFault, run_script};
+ghost use Rattle.std.specs.Prelude.{◌≡◌, ◌*◌, ℕ, List, IfErr, IfOk, length, map};
+ghost use Rattle.apd_base.specs.State.{empty_state};
+ghost use Rattle.apd_script.specs.Script.{Ends, IsFault, IsFaultOn, IsRunOn};
+ghost use Rattle.apd_slot.specs.Slots.{bssid_of};
+ghost use Rattle.apd_store.specs.Image.{Shows};
+
+use crate::script::{ScriptFault, begun, run_script};
 use apd_base::Moment;
 use apd_base::limits::DEVICE_LENGTH;
 use apd_conf::Confs;
@@ -7,7 +13,7 @@ use apd_disk::{Disk, MemDisk};
 use apd_radio::{Radio, Sim};
 use apd_slot::Slot;
 use apd_store::format;
-use apd_world::{World, WorldFault, restart};
+use apd_world::{World, WorldFault};
 use std::alloc::{AllocError, Global};
 use std::io::{BufRead, Write};
 
@@ -19,12 +25,15 @@ fn blank_device(alloc: Global) -> Result<MemDisk, AllocError> {
     MemDisk::new(alloc, vec![in alloc; 0u8; DEVICE_LENGTH as usize]?)
 }
 
-/// A new store, in memory.
+/// A new store of the empty table, in memory.
 ///
 /// # Errors
 ///
 /// `World` where the device can't record its calls, and `NoMemory`.
-pub fn new_store(alloc: Global) -> Result<MemDisk, ScriptFault> {
+pub fn new_store(alloc: Global) -> Result<MemDisk, ScriptFault>
+    ensures { IfOk result
+        (λ disk. (image : List ℕ) → ⟦<MemDisk as Disk>⟧.may_leave disk image → Shows image empty_state) }
+{
     match format(alloc, blank_device(alloc)?) {
         Ok(store) => Ok(store.into_device()),
         Err((_device, fault)) => Err(ScriptFault::World(WorldFault::Store(fault))),
@@ -32,7 +41,9 @@ pub fn new_store(alloc: Global) -> Result<MemDisk, ScriptFault> {
 }
 
 /// A slot for each configuration, in their order, with a radio in memory.
-fn slots_of(alloc: Global, confs: &Confs) -> Result<Vec<Slot<Sim>>, AllocError> {
+fn slots_of(alloc: Global, confs: &Confs) -> Result<Vec<Slot<Sim>>, AllocError>
+    ensures { IfOk result (λ slots. map bssid_of slots.items ≡ map (λ conf. conf.bssid) confs.now) }
+{
     let mut slots = Vec::new(alloc);
     for conf in confs.list() {
         slots.push(Slot::new(alloc, Sim::new(alloc), conf.bssid))?;
@@ -40,39 +51,47 @@ fn slots_of(alloc: Global, confs: &Confs) -> Result<Vec<Slot<Sim>>, AllocError> 
     Ok(slots)
 }
 
-/// The radios in memory that the stops of these interfaces take.
-fn spares_for(alloc: Global, confs: &Confs) -> Result<Vec<Sim>, AllocError> {
-    let mut spares = Vec::new(alloc);
-    for _conf in confs.list() {
-        for _stop in 0..STOPS {
-            spares.push(Sim::new(alloc))?;
-        }
+/// So many radios in memory.
+fn radios(alloc: Global, count: usize) -> Result<Vec<Sim>, AllocError>
+    ensures { IfOk result (λ radios. length radios.items ≡ count) }
+{
+    let mut radios = Vec::new(alloc);
+    for _place in 0..count {
+        radios.push(Sim::new(alloc))?;
     }
-    Ok(spares)
+    Ok(radios)
 }
 
-/// The world of the store that a device holds, at moment 0, with these slots.
-fn begun<D: Disk + Drop, R: Radio>(
+/// The radios in memory that the stops of these interfaces take.
+fn spares_for(alloc: Global, confs: &Confs) -> Result<Vec<Sim>, AllocError>
+    ensures { IfOk result (λ radios. length radios.items ≡ STOPS * length confs.now) }
+{
+    radios(alloc, STOPS * confs.list().len())
+}
+
+/// Recovers the store that a device holds, and runs a script on it as `run_script` does, with a radio for each
+/// interface and as many more as eight stops take.
+fn run_from<D: Disk + Drop, R: Radio, I: BufRead + Drop, W: Write>(
     alloc: Global,
     disk: D,
     confs: Confs,
     slots: Vec<Slot<R>>,
-) -> Result<World<D, R>, ScriptFault> {
-    match restart(alloc, disk, confs, slots, Moment(0)) {
-        Ok(world) => Ok(world),
-        Err((_device, _slots, fault)) => Err(ScriptFault::World(fault)),
-    }
-}
-
-/// Runs a script on a world. It says nothing of what that does, so that its callers' proofs needn't carry what
-/// `run_script` says.
-fn run_with<D: Disk + Drop, R: Radio, I: BufRead + Drop, W: Write>(
-    alloc: Global,
-    world: World<D, R>,
+    spares: Vec<R>,
     reader: I,
     writer: &mut W,
-    spares: Vec<R>,
-) -> Result<World<D, R>, ScriptFault> {
+) -> Result<World<D, R>, ScriptFault>
+    ensures ok { IfOk result
+        (λ new. map bssid_of slots.items ≡ map (λ conf. conf.bssid) confs
+        → length spares.items ≡ STOPS * length confs
+        → IsRunOn D.honest D.reads D.may_leave D.moment D.left_since D.size R.stations R.faults
+        STOPS disk confs (I.remaining reader) new) }
+    ensures err { IfErr result
+        (λ why. map bssid_of slots.items ≡ map (λ conf. conf.bssid) confs
+        → length spares.items ≡ STOPS * length confs
+        → IsFaultOn D.honest D.reads D.may_leave D.moment D.left_since D.size R.stations R.faults
+        STOPS disk confs (I.remaining reader) why) }
+{
+    let world = begun(alloc, disk, confs, slots, Moment(0))?;
     run_script(alloc, world, reader, writer, spares)
 }
 
@@ -88,9 +107,15 @@ pub fn run_on_store<D: Disk + Drop, I: BufRead + Drop, W: Write>(
     confs: Confs,
     reader: I,
     writer: &mut W,
-) -> Result<World<D, Sim>, ScriptFault> {
+) -> Result<World<D, Sim>, ScriptFault>
+    ensures ok { IfOk result
+        (IsRunOn D.honest D.reads D.may_leave D.moment D.left_since D.size ⟦<Sim as Radio>⟧.stations
+        ⟦<Sim as Radio>⟧.faults STOPS disk confs (I.remaining reader)) }
+    ensures err { IfErr result
+        (IsFaultOn D.honest D.reads D.may_leave D.moment D.left_since D.size ⟦<Sim as Radio>⟧.stations
+        ⟦<Sim as Radio>⟧.faults STOPS disk confs (I.remaining reader)) }
+{
     let slots = slots_of(alloc, &confs)?;
     let spares = spares_for(alloc, &confs)?;
-    let world = begun(alloc, disk, confs, slots)?;
-    run_with(alloc, world, reader, writer, spares)
+    run_from(alloc, disk, confs, slots, spares, reader, writer)
 }

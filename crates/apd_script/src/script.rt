@@ -20,6 +20,7 @@ ghost use Rattle.apd_ctrl.specs.Reading.{line_of};
 ghost use Rattle.apd_script.specs.Lines.{IsRead};
 ghost use Rattle.apd_script.specs.Script.{Ends, IsFault, IsNoBadLine};
 
+mod beginning;
 mod calling;
 mod fault;
 mod line;
@@ -31,6 +32,7 @@ use apd_base::limits::MAX_SCRIPT;
 use apd_disk::Disk;
 use apd_radio::Radio;
 use apd_world::World;
+pub(crate) use beginning::begun;
 pub use fault::ScriptFault;
 use fault::reader_fault;
 pub use line::exactly_one_line;
@@ -83,10 +85,10 @@ pub fn run_script<D: Disk + Drop, R: Radio, I: BufRead + Drop, W: Write>(
     spares: Vec<R>,
 ) -> Result<World<D, R>, ScriptFault>
     ensures ends { IfOk result
-        (λ new. Ends D.honest D.reads D.may_leave D.size R.stations R.faults
+        (λ new. Ends D.honest D.reads D.may_leave D.moment D.left_since D.size R.stations R.faults
         (I.remaining reader) spares.items world new) }
     ensures fault { IfErr result
-        (IsFault D.honest D.reads D.may_leave D.size R.stations R.faults (I.remaining reader) spares.items world) }
+        (IsFault D.honest D.reads D.may_leave D.moment D.left_since D.size R.stations R.faults (I.remaining reader) spares.items world) }
 {
     let mut standing = Standing::begin(alloc, world, spares).started(writer)?;
     let mut reader = reader.take(MAX_SCRIPT as u64 + 1);

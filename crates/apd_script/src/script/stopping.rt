@@ -3,6 +3,7 @@ ghost use Rattle.std.specs.Prelude.{◌≡◌, ◌<◌, IfErr, IfNone, IfOk, IfS
 ghost use Rattle.apd_slot.specs.Slots.{bssid_of};
 ghost use Rattle.apd_script.specs.Lines.{Stop};
 
+use super::beginning::begun;
 use super::fault::{ScriptFault, writer_fault};
 use super::output::write_recovered;
 use super::standing::Standing;
@@ -10,7 +11,7 @@ use apd_conf::Confs;
 use apd_disk::Disk;
 use apd_radio::Radio;
 use apd_slot::Slot;
-use apd_world::restart;
+use apd_store::an_image_shows_one_state;
 use std::alloc::{AllocError, Global};
 use std::collections::VecDeque;
 use std::io::Write;
@@ -45,10 +46,12 @@ impl<D: Disk + Drop, R: Radio> Standing<D, R> {
     fn restarted(self, confs: Confs, slots: Vec<Slot<R>>) -> Result<Standing<D, R>, ScriptFault>
         ensures ok { IfOk result
             (λ new. confs ≡ confs_of self → map bssid_of slots.items ≡ map (λ conf. conf.bssid) confs
-            → IsRestarted D.honest D.reads D.may_leave D.size R.stations R.faults self.moment self.world new.world) }
+            → IsRestarted D.honest D.reads D.may_leave D.moment D.left_since D.size R.stations R.faults self.moment self.world new.world) }
         ensures only { IfOk result (λ new. new ≡ record self { world = new.world; refusal = None }) }
         ensures err { IfErr result IsNoBadLine }
     {
+        an_image_shows_one_state();
+        self.world.shown();
         let Standing {
             alloc,
             world,
@@ -57,16 +60,14 @@ impl<D: Disk + Drop, R: Radio> Standing<D, R> {
             ..
         } = self;
         let (flusher, _core, _slots) = world.into_parts();
-        match restart(alloc, flusher.into_device(), confs, slots, moment) {
-            Ok(world) => Ok(Standing {
-                alloc,
-                world,
-                moment,
-                spares,
-                refusal: None,
-            }),
-            Err((_device, _slots, fault)) => Err(ScriptFault::World(fault)),
-        }
+        let world = begun(alloc, flusher.into_device(), confs, slots, moment)?;
+        Ok(Standing {
+            alloc,
+            world,
+            moment,
+            spares,
+            refusal: None,
+        })
     }
 
     /// The configurations, and a slot for each with a radio from the front.
@@ -83,7 +84,7 @@ impl<D: Disk + Drop, R: Radio> Standing<D, R> {
 
     /// Gives up the world, and begins it anew with a radio from the front for each interface.
     fn begun_anew(self, number: u64) -> Result<Standing<D, R>, ScriptFault>
-        ensures ok { IfOk result (λ new. Restarts D.honest D.reads D.may_leave D.size R.stations R.faults self new) }
+        ensures ok { IfOk result (λ new. Restarts D.honest D.reads D.may_leave D.moment D.left_since D.size R.stations R.faults self new) }
         ensures err { IfErr result (IsSaidFault number Stop self) }
     {
         let mut standing = self;
@@ -107,7 +108,7 @@ impl<D: Disk + Drop, R: Radio> Standing<D, R> {
         writer: &mut W,
         number: u64,
     ) -> Result<Standing<D, R>, ScriptFault>
-        ensures ok { IfOk result (λ new. Stops D.honest D.reads D.may_leave D.size R.stations R.faults self new) }
+        ensures ok { IfOk result (λ new. Stops D.honest D.reads D.may_leave D.moment D.left_since D.size R.stations R.faults self new) }
         ensures err { IfErr result (IsSaidFault number Stop self) }
     {
         let standing = self.begun_anew(number)?.recovered(writer)?;

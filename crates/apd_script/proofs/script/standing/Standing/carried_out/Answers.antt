@@ -4,5 +4,5 @@ use Rattle.apd_script.proofs.script.standing.Standing.carried_out.Goals as goal
 
 pub returns-clause-ok : goal.returns-clause-ok
 returns-clause-ok g c =
-    same_ok (IsMade g.D.Disk.honest g.D.Disk.reads g.D.Disk.may_leave g.D.Disk.size g.R.Radio.stations g.R.Radio.faults c.args.step.now c.args.self) c.command_answered.result c.made.new.self
+    same_ok (IsMade g.D.Disk.honest g.D.Disk.reads g.D.Disk.may_leave g.D.Disk.moment g.D.Disk.left_since g.D.Disk.size g.R.Radio.stations g.R.Radio.faults c.args.step.now c.args.self) c.command_answered.result c.made.new.self
     c.in_ok-told.ensures.ok c.command_answered.ensures.ok

@@ -4,5 +4,5 @@ use Rattle.apd_script.proofs.script.standing.Standing.handed_out.Goals as goal
 
 pub returns-clause-ok : goal.returns-clause-ok
 returns-clause-ok g c =
-    same_ok (HandsOut g.D.Disk.honest g.D.Disk.reads g.D.Disk.may_leave g.D.Disk.size g.R.Radio.stations g.R.Radio.faults c.args.self) c.printed.result c.hand_out.new.self
+    same_ok (HandsOut g.D.Disk.honest g.D.Disk.reads g.D.Disk.may_leave g.D.Disk.moment g.D.Disk.left_since g.D.Disk.size g.R.Radio.stations g.R.Radio.faults c.args.self) c.printed.result c.hand_out.new.self
     c.in_ok-answers.ensures c.printed.ensures.ok

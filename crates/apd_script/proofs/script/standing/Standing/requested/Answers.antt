@@ -5,5 +5,5 @@ use Rattle.apd_script.proofs.script.standing.Standing.requested.Goals as goal
 
 pub returns-clause-ok : goal.returns-clause-ok
 returns-clause-ok g c =
-    same_ok (IsMade g.D.Disk.honest g.D.Disk.reads g.D.Disk.may_leave g.D.Disk.size g.R.Radio.stations g.R.Radio.faults (Accept c.args.input c.args.self.moment) c.args.self) c.answered.result c.made.new.self
+    same_ok (IsMade g.D.Disk.honest g.D.Disk.reads g.D.Disk.may_leave g.D.Disk.moment g.D.Disk.left_since g.D.Disk.size g.R.Radio.stations g.R.Radio.faults (Accept c.args.input c.args.self.moment) c.args.self) c.answered.result c.made.new.self
     c.in_ok-told.ensures.ok c.answered.ensures.ok

@@ -6,5 +6,5 @@ use Rattle.apd_script.proofs.script.standing.Standing.ticked.Goals as goal
 
 pub returns-clause-ok : goal.returns-clause-ok
 returns-clause-ok g c =
-    ticked_ok g.D.Disk.honest g.D.Disk.reads g.D.Disk.may_leave g.D.Disk.size g.R.Radio.stations g.R.Radio.faults c.requested.result c.args.moment (Accept input.Tick c.args.moment) c.args.self
+    ticked_ok g.D.Disk.honest g.D.Disk.reads g.D.Disk.may_leave g.D.Disk.moment g.D.Disk.left_since g.D.Disk.size g.R.Radio.stations g.R.Radio.faults c.requested.result c.args.moment (Accept input.Tick c.args.moment) c.args.self
     (record c.args.self { moment = c.args.moment }) refl refl c.requested.ensures.ok

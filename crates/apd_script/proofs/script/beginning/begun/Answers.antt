@@ -1,0 +1,15 @@
+use Rattle.std.proofs.Common.{◌∙◌}
+use Rattle.apd_script.proofs.script.beginning.begun.Goals as goal
+
+pub returns-in-Ok-clause-ok : goal.returns-in-Ok-clause-ok
+returns-in-Ok-clause-ok g c = λ each. record {
+  shown = λ honest. (c.in-Ok.ensures.begun_honest honest).shown;
+  core = c.in-Ok.ensures.begun.core;
+  heard = c.in-Ok.ensures.begun.heard;
+  sound = c.in-Ok.ensures.begun.sound;
+  slots = c.in-Ok.ensures.slots ∙ each;
+  resumed = c.in-Ok.ensures.resumed;
+  following = c.in-Ok.ensures.following;
+  proper = λ honest. (c.in-Ok.ensures.begun_honest honest).proper;
+  any_moment = λ honest. (c.in-Ok.ensures.begun_honest honest).any_moment;
+}
