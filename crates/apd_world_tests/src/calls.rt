@@ -1,0 +1,93 @@
+//! Calls whose contracts are long, each by a function of its own without a clause, so that the proof of a test needn't
+//! carry them.
+use apd_base::Moment;
+use apd_conf::{Conf, Confs};
+use apd_core::Core;
+use apd_disk::{Disk, MemDisk};
+use apd_flusher::Flusher;
+use apd_mlme::Recipient;
+use apd_radio::Radio;
+use apd_slot::Slot;
+use apd_store::{Store, format};
+use apd_table::Table;
+use apd_world::{Step, Told, World, WorldFault, drive, restart};
+use std::alloc::Global;
+
+/// What was handed out and applied, each with its recipient.
+pub(crate) type Answers = Vec<(Recipient, Told)>;
+
+/// A world, or what a refusal hands back.
+pub(crate) type Restarted<D, R> = Result<World<D, R>, (D, Vec<Slot<R>>, WorldFault)>;
+
+/// The number of a device's bytes.
+const LENGTH: usize = 2_097_216;
+
+// No clause says what the disk holds: a proof would go through two million bytes.
+pub(crate) fn blank_disk(alloc: Global) -> Option<MemDisk> {
+    MemDisk::new(alloc, vec![in alloc; 0u8; LENGTH].ok()?).ok()
+}
+
+/// A list of configurations that is taken.
+pub(crate) fn confs_of(list: Vec<Conf>) -> Option<Confs> {
+    Confs::new(list).ok()
+}
+
+/// The store of a device that is formatted.
+pub(crate) fn store<D: Disk + Drop>(alloc: Global, disk: D) -> Option<Store<D>> {
+    format(alloc, disk).ok()
+}
+
+/// A flusher of a new store.
+pub(crate) fn flusher<D: Disk + Drop>(alloc: Global, store: Store<D>) -> Option<Flusher<D>> {
+    Flusher::new(alloc, store, Table::new(alloc)).ok()
+}
+
+/// A core of the empty table.
+pub(crate) fn core(alloc: Global, confs: Confs) -> Option<Core> {
+    Core::new(alloc, Table::new(alloc), confs, Moment(0)).ok()
+}
+
+/// A world of these.
+pub(crate) fn joined<D: Disk, R: Radio>(
+    alloc: Global,
+    flusher: Flusher<D>,
+    core: Core,
+    slots: Vec<Slot<R>>,
+) -> World<D, R> {
+    World::new(alloc, flusher, core, slots)
+}
+
+/// Starts the interfaces.
+pub(crate) fn start<D: Disk, R: Radio>(world: &mut World<D, R>) -> Result<Answers, WorldFault> {
+    world.start()
+}
+
+/// What these steps tell.
+pub(crate) fn told<D: Disk, R: Radio>(
+    world: &mut World<D, R>,
+    steps: &[Step<'_>],
+) -> Option<Vec<Told>> {
+    drive(world, steps).ok()
+}
+
+/// The flusher and the slots of a world that stops.
+pub(crate) fn parts<D: Disk, R: Radio>(world: World<D, R>) -> (Flusher<D>, Vec<Slot<R>>) {
+    let (flusher, _core, slots) = world.into_parts();
+    (flusher, slots)
+}
+
+/// The device of a world that stops.
+pub(crate) fn device<D: Disk, R: Radio>(world: World<D, R>) -> D {
+    let (flusher, _slots) = parts(world);
+    flusher.into_device()
+}
+
+/// The world of the store that a device holds, with these slots.
+pub(crate) fn restarted<D: Disk + Drop, R: Radio>(
+    alloc: Global,
+    device: D,
+    confs: Confs,
+    slots: Vec<Slot<R>>,
+) -> Restarted<D, R> {
+    restart(alloc, device, confs, slots, Moment(0))
+}
