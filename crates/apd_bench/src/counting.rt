@@ -1,21 +1,20 @@
 //! A disk whose calls are counted.
-ghost use Rattle.std.specs.Prelude.{◌≡◌, ◌≤◌, ◌+◌, [], length};
-ghost use Rattle.apd_disk.specs.Disk.{Counts};
+ghost use Rattle.std.specs.Prelude.{◌≡◌};
 
 use apd_disk::{Disk, DiskFault};
 use std::cell::Cell;
 
 /// How many calls a disk served, and how many bytes were written by them.
 #[derive(Clone, Copy, Debug)]
-pub struct Counts {
+pub struct DiskWork {
     pub calls: u64,
     pub bytes: u64,
 }
 
-impl Counts {
+impl DiskWork {
     /// What came after these earlier counts.
-    pub fn since(&self, earlier: Counts) -> Counts {
-        Counts {
+    pub fn since(&self, earlier: DiskWork) -> DiskWork {
+        DiskWork {
             calls: self.calls.saturating_sub(earlier.calls),
             bytes: self.bytes.saturating_sub(earlier.bytes),
         }
@@ -25,33 +24,33 @@ impl Counts {
 /// The counts of a disk, for who doesn't hold the disk.
 #[derive(Drop)]
 pub struct Tally {
-    counts: Cell<Counts>,
+    counts: Cell<DiskWork>,
 }
 
 impl Tally {
     /// Nothing so far.
     pub fn new() -> Tally {
         Tally {
-            counts: Cell::new(Counts { calls: 0, bytes: 0 }),
+            counts: Cell::new(DiskWork { calls: 0, bytes: 0 }),
         }
     }
 
     /// What was counted so far.
-    pub fn counts(&self) -> Counts {
+    pub fn counts(&self) -> DiskWork {
         self.counts.get()
     }
 
     // One more call, which writes so many bytes.
     fn count(&self, bytes: usize) {
-        let Counts { calls, bytes: sum } = self.counts.get();
-        self.counts.set(Counts {
+        let DiskWork { calls, bytes: sum } = self.counts.get();
+        self.counts.set(DiskWork {
             calls: calls.saturating_add(1),
             bytes: sum.saturating_add(bytes as u64),
         });
     }
 }
 
-/// A disk that counts its calls, and claims of what it holds nothing but its length and its count of failures.
+/// A disk that counts its calls, and else is the one inside.
 #[derive(Drop)]
 pub struct Counting<'a, D: Disk> {
     inner: D,
@@ -66,29 +65,29 @@ impl<'a, D: Disk> Counting<'a, D> {
 }
 
 impl<D: Disk> Disk for Counting<'_, D> {
-    ghost honest = { λ _. ⊥ };
+    ghost honest = { λ d. D.honest d.inner };
 
-    ghost reads = { λ _. [] };
+    ghost reads = { λ d. D.reads d.inner };
 
-    ghost may_leave = { λ _ _. ⊥ };
+    ghost may_leave = { λ d. D.may_leave d.inner };
 
-    ghost moment = { λ _. 0 };
+    ghost moment = { λ d. D.moment d.inner };
 
-    ghost left_since = { λ _ _ _. ⊥ };
+    ghost left_since = { λ d. D.left_since d.inner };
 
     ghost size = { λ d. D.size d.inner };
 
     ghost failed = { λ d. D.failed d.inner };
 
-    ghost reads_may_be_left = { λ d h. absurd h };
+    ghost reads_may_be_left = { λ d h. D.reads_may_be_left d.inner h };
 
-    ghost counts_now = { λ d t c h le left. absurd h };
+    ghost counts_now = { λ d t c h le left. D.counts_now d.inner t c h le left };
 
-    ghost only_now = { λ d c h left. absurd h };
+    ghost only_now = { λ d c h left. D.only_now d.inner c h left };
 
-    ghost since_earlier = { λ d t u c h le left. absurd h };
+    ghost since_earlier = { λ d t u c h le left. D.since_earlier d.inner t u c h le left };
 
-    ghost same_size = { λ d t c h left. absurd h };
+    ghost same_size = { λ d t c h left. D.same_size d.inner t c h left };
 
     fn len(&self) -> usize {
         self.inner.len()
@@ -98,28 +97,17 @@ impl<D: Disk> Disk for Counting<'_, D> {
         self.inner.failures()
     }
 
-    fn read_at(&mut self, at: usize, buf: &mut [u8]) -> Result<(), DiskFault>
-        requires { at + length buf.old ≤ D.size self.old.inner }
-        ensures size { D.size self.new.inner ≡ D.size self.old.inner }
-        ensures count { Counts (D.failed self.old.inner) (D.failed self.new.inner) result }
-    {
+    fn read_at(&mut self, at: usize, buf: &mut [u8]) -> Result<(), DiskFault> {
         self.tally.count(0);
         self.inner.read_at(at, buf)
     }
 
-    fn write_at(&mut self, at: usize, bytes: &[u8]) -> Result<(), DiskFault>
-        requires { at + length bytes.now ≤ D.size self.old.inner }
-        ensures size { D.size self.new.inner ≡ D.size self.old.inner }
-        ensures count { Counts (D.failed self.old.inner) (D.failed self.new.inner) result }
-    {
+    fn write_at(&mut self, at: usize, bytes: &[u8]) -> Result<(), DiskFault> {
         self.tally.count(bytes.len());
         self.inner.write_at(at, bytes)
     }
 
-    fn sync(&mut self) -> Result<(), DiskFault>
-        ensures size { D.size self.new.inner ≡ D.size self.old.inner }
-        ensures count { Counts (D.failed self.old.inner) (D.failed self.new.inner) result }
-    {
+    fn sync(&mut self) -> Result<(), DiskFault> {
         self.tally.count(0);
         self.inner.sync()
     }

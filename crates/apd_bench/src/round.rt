@@ -1,6 +1,6 @@
 //! One round of a case.
 use crate::case::{Asking, Case, Counted};
-use crate::counting::{Counts, Tally};
+use crate::counting::{DiskWork, Tally};
 use crate::fault::BenchFault;
 use crate::frames::StationFrame;
 use crate::requests::{accept, hand, settle};
@@ -23,7 +23,7 @@ const STATIONS_AT_ONCE: u16 = 256;
 pub struct Round {
     pub requests: u64,
     pub commits: u64,
-    pub device: Counts,
+    pub device: DiskWork,
     /// The time of all, and of the commits alone.
     pub time: Option<Duration>,
     pub committing: Option<Duration>,
