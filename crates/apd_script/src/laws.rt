@@ -21,7 +21,8 @@ pub fn lines_without_a_stop_are_one_run<D: Disk, R: Radio>()
         → AreRun D.honest D.reads D.may_leave D.moment D.left_since D.size R.stations R.faults n texts old new
         → HasGoneOn R.stations R.faults old.world new.world }
     ensures part { (n : ℕ) (texts : List (List ℕ)) (old started new : Standing D R)
-        → Starts D.honest D.reads D.may_leave D.moment D.left_since D.size R.stations R.faults old started → HaveNoStop texts
+        → Starts D.honest D.reads D.may_leave D.moment D.left_since D.size R.stations R.faults old started
+        → HaveNoStop texts
         → AreRun D.honest D.reads D.may_leave D.moment D.left_since D.size R.stations R.faults n texts started new
         → HasGoneOn R.stations R.faults old.world new.world }
 {}

@@ -88,7 +88,8 @@ pub fn run_script<D: Disk + Drop, R: Radio, I: BufRead + Drop, W: Write>(
         (λ new. Ends D.honest D.reads D.may_leave D.moment D.left_since D.size R.stations R.faults
         (I.remaining reader) spares.items world new) }
     ensures fault { IfErr result
-        (IsFault D.honest D.reads D.may_leave D.moment D.left_since D.size R.stations R.faults (I.remaining reader) spares.items world) }
+        (IsFault D.honest D.reads D.may_leave D.moment D.left_since D.size R.stations R.faults
+        (I.remaining reader) spares.items world) }
 {
     let mut standing = Standing::begin(alloc, world, spares).started(writer)?;
     let mut reader = reader.take(MAX_SCRIPT as u64 + 1);

@@ -6,7 +6,7 @@ use apd_core::Core;
 use apd_disk::{Disk, MemDisk};
 use apd_flusher::Flusher;
 use apd_mlme::Recipient;
-use apd_radio::Radio;
+use apd_radio::{Radio, Sim};
 use apd_slot::Slot;
 use apd_store::{Store, format};
 use apd_table::Table;
@@ -17,7 +17,7 @@ use std::alloc::Global;
 pub(crate) type Answers = Vec<(Recipient, Told)>;
 
 /// A world, or what a refusal hands back.
-pub(crate) type Restarted<D, R> = Result<World<D, R>, (D, Vec<Slot<R>>, WorldFault)>;
+pub(crate) type Restarted = Result<World<MemDisk, Sim>, (MemDisk, Vec<Slot<Sim>>, WorldFault)>;
 
 /// The number of a device's bytes.
 const LENGTH: usize = 2_097_216;
@@ -83,11 +83,14 @@ pub(crate) fn device<D: Disk, R: Radio>(world: World<D, R>) -> D {
 }
 
 /// The world of the store that a device holds, with these slots.
-pub(crate) fn restarted<D: Disk + Drop, R: Radio>(
+pub(crate) fn restarted(
     alloc: Global,
-    device: D,
+    device: MemDisk,
     confs: Confs,
-    slots: Vec<Slot<R>>,
-) -> Restarted<D, R> {
-    restart(alloc, device, confs, slots, Moment(0))
+    slots: Vec<Slot<Sim>>,
+) -> Restarted {
+    match restart(alloc, device, confs, slots, Moment(0)) {
+        Ok(world) => Ok(world),
+        Err((device, slots, fault)) => Err((device, slots, fault)),
+    }
 }

@@ -74,7 +74,8 @@ impl<D: Disk + Drop, R: Radio> Standing<D, R> {
     /// Makes a step, which may not lack memory.
     fn made(&mut self, step: &Step<'_>) -> Result<Told, ScriptFault>
         ensures ok { OnOk result
-            (IsMade D.honest D.reads D.may_leave D.moment D.left_since D.size R.stations R.faults step.now self.old self.new) }
+            (IsMade D.honest D.reads D.may_leave D.moment D.left_since D.size R.stations R.faults
+            step.now self.old self.new) }
         ensures err { IfErr result IsNoBadLine }
     {
         match self.make(step) {
@@ -85,7 +86,8 @@ impl<D: Disk + Drop, R: Radio> Standing<D, R> {
 
     /// Makes a step of a batch. What it tells is printed nowhere, and the first refusal is kept.
     fn attempted(self, step: &Step<'_>) -> Standing<D, R>
-        ensures { IsTried D.honest D.reads D.may_leave D.moment D.left_since D.size R.stations R.faults step.now self result }
+        ensures { IsTried D.honest D.reads D.may_leave D.moment D.left_since D.size R.stations R.faults
+            step.now self result }
     {
         let mut standing = self;
         let told = standing.make(step);
@@ -108,7 +110,8 @@ impl<D: Disk + Drop, R: Radio> Standing<D, R> {
 
     /// Starts the interfaces, and prints what was handed out.
     pub fn started<W: Write>(self, writer: &mut W) -> Result<Standing<D, R>, ScriptFault>
-        ensures ok { IfOk result (λ new. Starts D.honest D.reads D.may_leave D.moment D.left_since D.size R.stations R.faults self new) }
+        ensures ok { IfOk result
+            (λ new. Starts D.honest D.reads D.may_leave D.moment D.left_since D.size R.stations R.faults self new) }
         ensures err { IfErr result IsNoBadLine }
     {
         let mut standing = self;
@@ -118,7 +121,8 @@ impl<D: Disk + Drop, R: Radio> Standing<D, R> {
 
     /// Hands out what is settled, and prints it.
     fn handed_out<W: Write>(self, writer: &mut W) -> Result<Standing<D, R>, ScriptFault>
-        ensures ok { IfOk result (λ new. HandsOut D.honest D.reads D.may_leave D.moment D.left_since D.size R.stations R.faults self new) }
+        ensures ok { IfOk result
+            (λ new. HandsOut D.honest D.reads D.may_leave D.moment D.left_since D.size R.stations R.faults self new) }
         ensures err { IfErr result IsNoBadLine }
     {
         let mut standing = self;
@@ -128,7 +132,8 @@ impl<D: Disk + Drop, R: Radio> Standing<D, R> {
 
     /// Commits until nothing is unsettled, hands out and prints that; or tells the first refusal.
     fn flushed<W: Write>(self, writer: &mut W) -> Result<Standing<D, R>, ScriptFault>
-        ensures ok { IfOk result (λ new. Flushes D.honest D.reads D.may_leave D.moment D.left_since D.size R.stations R.faults self new) }
+        ensures ok { IfOk result
+            (λ new. Flushes D.honest D.reads D.may_leave D.moment D.left_since D.size R.stations R.faults self new) }
         ensures refused { IfSome self.refusal (λ fault. result ≡ Err (ScriptFault.World (WorldFault.Store fault))) }
         ensures err { IfErr result IsNoBadLine }
     {
@@ -208,7 +213,8 @@ impl<D: Disk + Drop, R: Radio> Standing<D, R> {
         step: &Step<'_>,
     ) -> Result<Standing<D, R>, ScriptFault>
         ensures ok { IfOk result
-            (λ new. IsMade D.honest D.reads D.may_leave D.moment D.left_since D.size R.stations R.faults step.now self new) }
+            (λ new. IsMade D.honest D.reads D.may_leave D.moment D.left_since D.size R.stations R.faults
+            step.now self new) }
         ensures err { IfErr result IsNoBadLine }
     {
         let mut standing = self;
@@ -238,7 +244,8 @@ impl<D: Disk + Drop, R: Radio> Standing<D, R> {
         what: Placed,
     ) -> Result<Standing<D, R>, ScriptFault>
         ensures ok { IfOk result
-            (λ new. IsPlaced D.honest D.reads D.may_leave D.moment D.left_since D.size R.stations R.faults (placing what) self new) }
+            (λ new. IsPlaced D.honest D.reads D.may_leave D.moment D.left_since D.size R.stations R.faults
+            (placing what) self new) }
         ensures err { IfErr result IsNoBadLine }
     {
         match what {
@@ -313,7 +320,8 @@ impl<D: Disk + Drop, R: Radio> Standing<D, R> {
         line: &Line<'_>,
     ) -> Result<Standing<D, R>, ScriptFault>
         ensures ok { IfOk result
-            (λ new. IsRun D.honest D.reads D.may_leave D.moment D.left_since D.size R.stations R.faults number (said line.now) self new) }
+            (λ new. IsRun D.honest D.reads D.may_leave D.moment D.left_since D.size R.stations R.faults number
+            (said line.now) self new) }
         ensures err { IfErr result (IsSaidFault number (said line.now) self) }
     {
         match line {
@@ -340,7 +348,8 @@ impl<D: Disk + Drop, R: Radio> Standing<D, R> {
         text: &[u8],
     ) -> Result<Standing<D, R>, ScriptFault>
         ensures ok { IfOk result
-            (λ new. SaysAndIsRun D.honest D.reads D.may_leave D.moment D.left_since D.size R.stations R.faults number text.now self new) }
+            (λ new. SaysAndIsRun D.honest D.reads D.may_leave D.moment D.left_since D.size R.stations R.faults
+            number text.now self new) }
         ensures err { IfErr result (IsLineFault number text.now self) }
     {
         exactly_one_line();
