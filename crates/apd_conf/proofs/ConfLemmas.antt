@@ -10,24 +10,18 @@ use Rattle.apd_conf.specs.BuiltIn.{built_in}
 use Rattle.std.proofs.Common.{ap, zero, suc, arith, ◌<◌, ◌≤◌, ◌≡◌, ℕ, Bool, true, false, cond, List, [], ◌∷◌, Some, None, inl, inr, refl, sym, subst, ◌∙◌}
 use Rattle.std.specs.List.{find}
 use Rattle.std.specs.Ordering.{nat_cmp, eq_by_cmp}
-use Rattle.std.specs.Cmp.{IsTotalOrder}
 use Rattle.std.specs.Cmp.Lexicographic.{slice_cmp}
-use Rattle.std.specs.FinMap.{IsAntisymmetric}
-use Rattle.std.specs.declared.cmp.Ordering.{Ordering}
 use Rattle.std.proofs.lemmas.Cmp.{nat_list_cmp_total}
 use Rattle.std.proofs.lemmas.Map.Lookups.{exact_bytes}
 use Rattle.apd_base.specs.declared.address.Addr.{Addr}
 use Rattle.apd_base.specs.declared.address.Bssid.{Bssid}
 use Rattle.apd_base.specs.Addr.{bssid_cmp}
-use Rattle.apd_base.proofs.AddrLemmas.{bssid_total, bssid_exact}
+use Rattle.apd_base.proofs.AddrLemmas.{bssid_total, bssid_exact, same_bssid}
 use Rattle.apd_base.proofs.MapLemmas.{one_or_apart, tied}
 use Rattle.apd_base.proofs.StationLemmas.{same_limit}
 use Rattle.apd_conf.specs.declared.conf.Conf.{Conf}
 use Rattle.apd_conf.specs.Confs.{conf_at, conf_named, AreConfs, IsRepeatedAt}
-use Rattle.apd_base.proofs.Cases.{same_some}
-
-not_both : (b : Bool) → b ≡ true → b ≡ false → ⊥
-not_both b t f = cc
+use Rattle.apd_base.proofs.Cases.{same_some, differ}
 
 find_passes : {A : Type 0} (test : A → Bool) (xs : List A) (x : A) → find test xs ≡ Some x → test x ≡ true
 find_passes test [] x f = cc
@@ -37,24 +31,18 @@ find_passes test (y ∷ xs) x f =
       | false ↦ λ t g. find_passes test xs x g
     ] refl f
 
-tied_same : {K : Type 0} {R : K → K → Ordering} (o : IsTotalOrder R) (exact : IsAntisymmetric R) (q k : K) → eq_by_cmp R q k ≡ true → q ≡ k
-tied_same o exact q k t = elim (one_or_apart o exact q k) [ inl e ↦ e | inr f ↦ absurd (not_both _ t f) ]
-
-pub bssid_same : (a b : Bssid) → eq_by_cmp bssid_cmp a b ≡ true → a ≡ b
-bssid_same a b t = tied_same bssid_total bssid_exact a b t
-
 pub bssid_itself : (a : Bssid) → eq_by_cmp bssid_cmp a a ≡ true
 bssid_itself a = tied bssid_total bssid_exact a
 
 pub name_same : (a b : List ℕ) → eq_by_cmp (slice_cmp nat_cmp) a b ≡ true → a ≡ b
-name_same a b t = tied_same nat_list_cmp_total exact_bytes a b t
+name_same a b t = elim (one_or_apart nat_list_cmp_total exact_bytes a b) [ inl e ↦ e | inr apart ↦ differ _ apart t ]
 
 pub name_itself : (a : List ℕ) → eq_by_cmp (slice_cmp nat_cmp) a a ≡ true
 name_itself a = tied nat_list_cmp_total exact_bytes a
 
 -- what is found for a BSSID has it
 pub bssid-conf_at : (confs : List Conf) (b : Bssid) (c : Conf) → conf_at confs b ≡ Some c → c.bssid ≡ b
-bssid-conf_at confs b c f = sym (bssid_same b c.bssid (find_passes (λ (d : Conf). eq_by_cmp bssid_cmp b d.bssid) confs c f))
+bssid-conf_at confs b c f = sym (same_bssid c.bssid b (find_passes (λ (d : Conf). eq_by_cmp bssid_cmp b d.bssid) confs c f))
 
 -- what is found for an interface has it
 pub interface-conf_named : (confs : List Conf) (name : List ℕ) (c : Conf) → conf_named confs name ≡ Some c → c.interface ≡ name
@@ -82,7 +70,7 @@ own eq part same itself (y ∷ ys) (suc place) x at once =
 
 -- each configuration is found by its own BSSID
 pub conf_at-own : (confs : List Conf) → AreConfs confs → (place : ℕ) (c : Conf) → slice_get confs place ≡ Some c → conf_at confs c.bssid ≡ Some c
-conf_at-own confs h place c at = own (eq_by_cmp bssid_cmp) (λ (d : Conf). d.bssid) bssid_same bssid_itself confs place c at (h.bssids place)
+conf_at-own confs h place c at = own (eq_by_cmp bssid_cmp) (λ (d : Conf). d.bssid) (λ a b. same_bssid b a) bssid_itself confs place c at (h.bssids place)
 
 -- and by its own interface
 pub conf_named-own : (confs : List Conf) → AreConfs confs → (place : ℕ) (c : Conf) → slice_get confs place ≡ Some c → conf_named confs c.interface ≡ Some c
@@ -119,9 +107,9 @@ listed_named confs name c f = find_place (λ (d : Conf). eq_by_cmp (slice_cmp na
 -- where none is found, none in the list has it
 pub none_at : (confs : List Conf) (b : Bssid) → conf_at confs b ≡ None → (place : ℕ) (c : Conf) → slice_get confs place ≡ Some c → c.bssid ≡ b → ⊥
 none_at confs b none place c at e =
-    not_both (eq_by_cmp bssid_cmp b c.bssid) (subst (λ x. eq_by_cmp bssid_cmp b x ≡ true) (sym e) (bssid_itself b)) (find_fails (λ (d : Conf). eq_by_cmp bssid_cmp b d.bssid) confs none place c at)
+    differ _ (find_fails (λ (d : Conf). eq_by_cmp bssid_cmp b d.bssid) confs none place c at) (subst (λ x. eq_by_cmp bssid_cmp b x ≡ true) (sym e) (bssid_itself b))
 
 pub none_named : (confs : List Conf) (name : List ℕ) → conf_named confs name ≡ None → (place : ℕ) (c : Conf) → slice_get confs place ≡ Some c → c.interface ≡ name → ⊥
 none_named confs name none place c at e =
-    not_both (eq_by_cmp (slice_cmp nat_cmp) name c.interface) (subst (λ x. eq_by_cmp (slice_cmp nat_cmp) name x ≡ true) (sym e) (name_itself name))
-    (find_fails (λ (d : Conf). eq_by_cmp (slice_cmp nat_cmp) name d.interface) confs none place c at)
+    differ _ (find_fails (λ (d : Conf). eq_by_cmp (slice_cmp nat_cmp) name d.interface) confs none place c at)
+    (subst (λ x. eq_by_cmp (slice_cmp nat_cmp) name x ≡ true) (sym e) (name_itself name))

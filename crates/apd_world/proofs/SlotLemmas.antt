@@ -9,8 +9,8 @@ use Rattle.std.proofs.lemmas.List.Quantifiers.{position-Some}
 use Rattle.std.proofs.lemmas.Option.{slice_get-get_or}
 use Rattle.apd_base.specs.Addr.{bssid_cmp}
 use Rattle.apd_base.specs.declared.address.Bssid.{Bssid}
-use Rattle.apd_base.proofs.AddrLemmas.{bssid_total, bssid_exact}
-use Rattle.apd_base.proofs.MapLemmas.{one_or_apart, tied}
+use Rattle.apd_base.proofs.AddrLemmas.{bssid_total, bssid_exact, same_bssid}
+use Rattle.apd_base.proofs.MapLemmas.{tied}
 use Rattle.apd_mlme.specs.declared.decision.Out.{Out}
 use Rattle.apd_slot.specs.Slots.{bssid_of}
 use Rattle.apd_slot.specs.declared.slot.Slot.{Slot}
@@ -51,9 +51,6 @@ other_item (x ∷ xs) zero (suc j) y ne = refl
 other_item (x ∷ xs) (suc i) zero y ne = refl
 other_item (x ∷ xs) (suc i) (suc j) y ne = other_item xs i j y (λ e. ne (ap suc e))
 
-same : (b c : Bssid) → eq_by_cmp bssid_cmp b c ≡ true → b ≡ c
-same b c e = elim (one_or_apart bssid_total bssid_exact b c) [ inl is ↦ is | inr f ↦ cc ]
-
 module _ {R : Type 0} where
   -- a place is in a list with some slot
   pub some_slot : (slots : List (Slot R)) (b : Bssid) (i : ℕ) → slot_place slots b ≡ Some i → Slot R
@@ -65,7 +62,7 @@ module _ {R : Type 0} where
 
   -- the slot there is the BSSID's
   pub place_of_own : (slots : List (Slot R)) (b : Bssid) (i : ℕ) (d : Slot R) → slot_place slots b ≡ Some i → b ≡ bssid_of (get_or slots i d)
-  place_of_own slots b i d at = same b _ (position-Some (λ slot. eq_by_cmp bssid_cmp b (bssid_of slot)) slots i d at).1
+  place_of_own slots b i d at = same_bssid _ b (position-Some (λ slot. eq_by_cmp bssid_cmp b (bssid_of slot)) slots i d at).1
 
   pub slot_is : (slots : List (Slot R)) (b : Bssid) (i : ℕ) (d : Slot R) → slot_place slots b ≡ Some i → slot_at slots b ≡ Some (get_or slots i d)
   slot_is slots b i d at = ap (slot_in slots) at ∙ slice_get-get_or slots i d (place_within slots b i d at)
