@@ -1,5 +1,6 @@
 -- A flusher between batches, in one, and after a fault; and what a stop then shows.
 use Rattle.std.specs.Prelude.{◌≡◌, ◌≤◌, ◌<◌, ◌+◌, ◌^◌, ◌⊎◌, ℕ, List}
+use Rattle.apd_base.specs.Failures.{HasRisen}
 use Rattle.apd_base.specs.State.{State}
 use Rattle.apd_record.specs.declared.change.Change.{Change}
 use Rattle.apd_table.specs.Sound.{StaySound}
@@ -7,7 +8,9 @@ use Rattle.apd_journal.specs.Half.{IsGroup}
 use Rattle.apd_store.specs.Image.{Shows}
 use Rattle.apd_store.specs.Commit.{IsIdle, IsCommitting, HasFailed, HasRoom as StoreHasRoom}
 use Rattle.apd_store.specs.Outside.{IsInside as StoreIsInside}
-use Rattle.apd_flusher.specs.Outside.{phase_of, table_of, epoch_of}
+use Rattle.apd_store.specs.declared.fault.StoreFault.{StoreFault}
+use Rattle.apd_store.specs.declared.fault.StoreFault.TheVariants as store_fault
+use Rattle.apd_flusher.specs.Outside.{device_of, phase_of, table_of, epoch_of}
 use Rattle.apd_flusher.specs.declared.flusher.Flusher.{Flusher}
 use Rattle.apd_flusher.specs.declared.phase.Phase.{Phase}
 use Rattle.apd_flusher.specs.declared.phase.Phase.TheVariants.{Idle, Busy, Done, Failed}
@@ -60,3 +63,17 @@ pub record MayCommit {D : Type 0} (size : D → ℕ) (flusher : Flusher D) (chan
   pub inside : IsInside size flusher
   pub good : IsGood changes (table_of flusher)
   pub lasts : ¬ HasRoom flusher changes → epoch_of flusher + 1 < 2 ^ 64
+
+-- why a batch of these changes got no receipt, by the fault that was told
+abbrev pub IsRefused : {D : Type 0} → (D → ℕ) → (D → ℕ) → StoreFault → List Change → Flusher D → Flusher D → Type 0
+IsRefused size failed store_fault.NotIdle changes old new = (phase_of old ≡ Busy) ⊎ (phase_of old ≡ Done)
+IsRefused size failed store_fault.BadBatch changes old new = ¬ IsGood changes (table_of old)
+-- its group doesn't fit, and no half can begin anew
+IsRefused size failed store_fault.Worn changes old new = (¬ HasRoom old changes) × (2 ^ 64 ≤ epoch_of old + 1)
+-- the device failed before
+IsRefused size failed store_fault.Failed changes old new = IsInside size old → phase_of old ≡ Failed
+-- or in this commit
+IsRefused size failed store_fault.Device changes old new = HasRisen (failed (device_of old)) (failed (device_of new))
+IsRefused size failed store_fault.NoMemory changes old new = Unit {0}
+-- nothing else is told
+IsRefused size failed fault changes old new = ⊥

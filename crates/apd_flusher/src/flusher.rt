@@ -28,7 +28,7 @@ pub struct Flusher<D: Disk> {
 }
 
 impl<D: Disk> Flusher<D> {
-    ghost use Rattle.apd_flusher.specs.Flushing.{IsSteady, IsFlushing, IsStuck, Stands, StopShows, IsGood, HasRoom, IsInside, MayCommit};
+    ghost use Rattle.apd_flusher.specs.Flushing.{IsSteady, IsFlushing, IsStuck, Stands, StopShows, IsGood, HasRoom, IsInside, MayCommit, IsRefused};
     ghost use Rattle.apd_flusher.specs.Outside.{store_of, device_of, phase_of, calls_left, batch_of, epoch_of, table_of, next_of};
 
     /// A flusher of a store and the table of everything that it has committed, as `format` and `recover` of
@@ -223,12 +223,13 @@ impl<D: Disk> Flusher<D> {
     /// Loads a batch and makes all calls of it, one a turn, to its receipt: what `load`, `turn` and `unload` do
     /// where nothing else is asked of the flusher in between.
     ///
-    /// Errors: those of `load`, where the batch is let go; those of `turn`.
+    /// Errors: those of `load`, each for its reason, where the batch is let go; those of `turn`.
     pub fn commit(&mut self, batch: Batch) -> Result<Receipt, StoreFault>
         // Where the device does not fail, nothing but want of memory keeps such a batch from its receipt.
         ensures always { MayCommit D.size self.old batch.changes → D.failed (device_of self.old) + 1 < 2 ^ 64
             → D.failed (device_of self.new) ≡ D.failed (device_of self.old) → result ≢ Err StoreFault.NoMemory
             → IsOk result }
+        ensures refused { IfErr result (λ fault. IsRefused D.size D.failed fault batch.changes self.old self.new) }
         ensures receipt { IfOk result (λ receipt. held_batch receipt ≡ batch) }
         ensures settled { (state : State) → D.honest (device_of self.old) → IsSteady D.reads D.may_leave self.old state
             → OnOk result (IsSteady D.reads D.may_leave self.new (meaning_of batch.changes state)) }
@@ -256,8 +257,9 @@ impl<D: Disk> Flusher<D> {
         ensures batch { batch_of self.new ≡ batch_of self.old }
         ensures calls { D.honest (device_of self.old)
             → D.moment (device_of self.new) ≤ D.moment (device_of self.old) + calls_left self.old }
-        ensures device { IsInside D.size self.old
-            → OnErr result (HasRisen (D.failed (device_of self.old)) (D.failed (device_of self.new))) }
+        ensures device { IsErrOf result StoreFault.Device
+            → HasRisen (D.failed (device_of self.old)) (D.failed (device_of self.new)) }
+        ensures works { IsInside D.size self.old → result ≢ Err StoreFault.Failed }
         ensures only { OnErr result ((result ≡ Err StoreFault.Device) ⊎ (result ≡ Err StoreFault.Failed)) }
     {
         while self.phase() == Phase::Busy {
