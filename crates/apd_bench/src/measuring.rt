@@ -1,10 +1,10 @@
 //! A case, done over a store of its own.
 use crate::bare::bare_round;
 use crate::calling::{formatted, restarted, start};
-use crate::case::{Case, Counted, Medium};
+use crate::case::{Case, Medium};
 use crate::counting::{Counting, Tally};
 use crate::fault::BenchFault;
-use crate::rate::{median, per_second};
+use crate::rate::{median, per_second, rate};
 use crate::requests::BSSID;
 use crate::round::{Round, associate, go_round, undo};
 use apd_base::limits::DEVICE_LENGTH;
@@ -98,14 +98,6 @@ fn bare_rate<C: Clock>(
     let bytes = round.device.bytes.checked_div(round.commits).unwrap_or(0);
     let (turns, time) = bare_round(rt, alloc, file, bytes as usize)?;
     Ok(per_second(turns, time))
-}
-
-// The rate of a round.
-fn rate(case: &Case, round: &Round) -> Option<u64> {
-    match case.counted {
-        Counted::Requests => per_second(round.requests, round.time),
-        Counted::Commits | Counted::Switches => per_second(round.commits, round.committing),
-    }
 }
 
 // A round of a case, after which its stations are as before.

@@ -1,4 +1,6 @@
 //! How often in a second.
+use crate::case::{Case, Counted};
+use crate::round::Round;
 use std::alloc::{AllocError, Global};
 use std::time::Duration;
 
@@ -7,6 +9,14 @@ pub fn per_second(count: u64, time: Option<Duration>) -> Option<u64> {
     let nanos = time?.as_nanos();
     let in_all = u128::from(count).checked_mul(1_000_000_000)?;
     u64::try_from(in_all.checked_div(nanos)?).ok()
+}
+
+/// The rate of a round: of what its case counts.
+pub fn rate(case: &Case, round: &Round) -> Option<u64> {
+    match case.counted {
+        Counted::Requests => per_second(round.requests, round.time),
+        Counted::Commits | Counted::Switches => per_second(round.commits, round.committing),
+    }
 }
 
 /// The one in the middle of the rates of some rounds; none where a round wasn't timed.

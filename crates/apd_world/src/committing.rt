@@ -8,9 +8,11 @@ ghost use Rattle.apd_world.specs.Round.{said};
 
 use crate::durable_core::DurableCore;
 use crate::step::{Commit, Step, Told};
+use crate::world::World;
 use apd_core::PublishFault;
 use apd_disk::Disk;
 use apd_flusher::Phase;
+use apd_radio::Radio;
 
 // What a step says of its round.
 fn said(told: Told) -> Option<Commit>
@@ -87,5 +89,44 @@ impl<D: Disk> DurableCore<D> {
         }
         let published = said(self.step(&Step::Publish));
         taken.or(called).or(published).unwrap_or(Commit::Nothing)
+    }
+}
+
+impl<D: Disk, R: Radio> World<D, R> {
+    ghost use Rattle.apd_world.specs.Following.{AreExact, AreFollowing};
+    ghost use Rattle.apd_world.specs.Outside.{device_of};
+    ghost use Rattle.apd_world.specs.Proper.{IsProper};
+    ghost use Rattle.apd_world.specs.Round.{ComesTo, IsRound};
+    ghost use Rattle.apd_world.specs.Shown.{ShowsFront};
+    ghost use Rattle.apd_world.specs.WorldParts.{durable_of, slots_of};
+    ghost use Rattle.apd_world.specs.Starting.{IsWorldRound};
+    ghost use Rattle.apd_world.specs.Telling.{HasNoBatch, HasNoCall, HasNoReceipt};
+    ghost use Rattle.apd_world.specs.WorldRun.{RestStays};
+
+    /// Commits a batch by one round of the durable core's steps; the slots and their queues stay.
+    pub fn commit(&mut self) -> Commit
+        ensures round { IsRound result (durable_of self.old) (durable_of self.new) }
+        ensures run { IsWorldRound R.stations R.faults result self.old self.new }
+        ensures comes_to { IsProper D.honest D.reads D.may_leave D.size (durable_of self.old)
+            → ComesTo D.failed result (durable_of self.old) (durable_of self.new) }
+        ensures rest_stays { RestStays self.old self.new }
+        ensures settled { result ≡ Commit.Settled
+            → ((durable_of self.old).core.number < (durable_of self.new).core.number)
+            × ((durable_of self.new).core.flight ≡ 0) }
+        ensures nothing { result ≡ Commit.Nothing → HasNoBatch (durable_of self.old) × HasNoCall (durable_of self.old)
+            × HasNoReceipt (durable_of self.old) × (durable_of self.new ≡ durable_of self.old) }
+        ensures proper { IsProper D.honest D.reads D.may_leave D.size (durable_of self.old)
+            → IsProper D.honest D.reads D.may_leave D.size (durable_of self.new) }
+        ensures any_moment { IsProper D.honest D.reads D.may_leave D.size (durable_of self.old) → (hs : List Happening)
+            → AreUnsettled hs (durable_of self.old).core
+            → LeavesOnly D.moment D.left_since (device_of (durable_of self.old)) (device_of
+            (durable_of self.new))
+            (ShowsFront (durable_of self.old).core.settled (durable_of self.old).core.confs hs) }
+        ensures quiet { Goes [] (λ r. []) (durable_of self.old).core (durable_of self.new).core }
+        ensures heard { (durable_of self.new).core.heard ≡ (durable_of self.old).core.heard }
+        ensures exact { AreExact R.stations (slots_of self.old) → AreExact R.stations (slots_of self.new) }
+        ensures following { AreFollowing self.old → AreFollowing self.new }
+    {
+        self.durable.commit()
     }
 }

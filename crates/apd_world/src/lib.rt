@@ -2,13 +2,14 @@
 #![tactic(auto)]
 
 mod committing;
+mod core_restarting;
 mod driving;
 mod durable_core;
 mod fault;
+mod flushing;
 mod handing_out;
 pub mod laws;
 mod restarting;
-mod resuming;
 mod slots;
 mod starting;
 mod step;
@@ -19,6 +20,6 @@ mod world_stepping;
 pub use driving::drive;
 pub use durable_core::DurableCore;
 pub use fault::WorldFault;
-pub use resuming::restart;
+pub use restarting::restart;
 pub use step::{Commit, Reception, Step, Told};
 pub use world::World;

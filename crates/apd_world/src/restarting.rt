@@ -1,96 +1,101 @@
-//! A durable core begun anew, from what a device holds.
-ghost use Rattle.std.specs.Prelude.{◌≡◌, ◌⊎◌, ◌↔◌, None, IfOk, IfErr};
-ghost use Rattle.apd_table.specs.Sound.{Sound};
-ghost use Rattle.apd_store.specs.Commit.{IsIdle};
-ghost use Rattle.apd_store.specs.Outside.{device_of as store_device};
-ghost use Rattle.apd_core.specs.Core.{new_core};
-ghost use Rattle.apd_core.specs.Heard.{AreHeardAt};
-ghost use Rattle.apd_flusher.specs.Flushing.{IsSteady};
-ghost use Rattle.apd_flusher.specs.Outside.{store_of};
+//! A world begun anew, from what a device holds: its slots resume by the table.
+ghost use Rattle.std.specs.Prelude.{◌≡◌, ◌≢◌, ◌⊎◌, IfOk, IfErr, OnOk};
+ghost use Rattle.apd_base.specs.declared.address.Bssid.{Bssid as Address};
+ghost use Rattle.apd_slot.specs.declared.slot.SlotFault.{SlotFault as Fault};
 ghost use Rattle.apd_world.specs.BegunAnew.{IsBegunAnew, IsHonestlyBegunAnew, IsHonestlyNotBegunAnew, IsNotBegunAnew};
-ghost use Rattle.apd_world.specs.Outside.{device_of};
+ghost use Rattle.apd_world.specs.Following.{AreExact, AreFollowing};
+ghost use Rattle.apd_world.specs.Resumed.{AreOfSame, AreResumed, HasNotResumed};
+ghost use Rattle.apd_world.specs.WorldParts.{durable_of, slots_of};
 
-use crate::durable_core::DurableCore;
+use crate::core_restarting::restart_core;
 use crate::fault::WorldFault;
-use apd_base::Moment;
+use crate::world::World;
+use apd_base::{Bssid, Moment};
 use apd_conf::Confs;
-use apd_core::Core;
 use apd_disk::Disk;
-use apd_flusher::Flusher;
-use apd_store::{Store, StoreFault, an_image_shows_one_state, recover};
+use apd_radio::Radio;
+use apd_slot::{Slot, SlotFault};
+use apd_store::StoreFault;
 use apd_table::Table;
 use std::alloc::Global;
 
-// A durable core of a store and its table, with nothing accepted yet.
+// Resumes each slot by a table, in order.
 //
-// Errors, with the store's device: where memory ran out.
-fn durable_core_of<D: Disk>(
+// Errors: why the first that did not resume did not, with its BSSID.
+fn resume_all<R: Radio>(
     alloc: Global,
-    store: Store<D>,
-    table: Table,
-    confs: Confs,
-    moment: Moment,
-) -> Result<DurableCore<D>, D>
-    ensures core { IfOk result (λ durable. durable.core ≡ new_core table confs durable.core.heard) }
-    ensures heard { IfOk result (λ durable. AreHeardAt moment table durable.core.heard) }
-    ensures sound { IfOk result (λ durable. Sound table) }
-    ensures store { IfOk result (λ durable. store_of durable.flusher ≡ store) }
-    ensures steady { IsIdle D.reads D.may_leave store table
-        → IfOk result (λ durable. IsSteady D.reads D.may_leave durable.flusher table) }
-    ensures batch { IfOk result (λ durable. durable.batch ≡ None) }
-    ensures receipt { IfOk result (λ durable. durable.receipt ≡ None) }
-    ensures told { IfOk result (λ durable. durable.told ≡ 0) }
-    ensures device { IfErr result (λ device. device ≡ store_device store) }
+    table: &Table,
+    slots: &mut [Slot<R>],
+) -> Result<(), (Bssid, SlotFault)>
+    ensures ok { OnOk result (AreResumed R.stations table.now slots.new) }
+    ensures same { AreOfSame slots.old slots.new }
+    ensures err { IfErr result (λ e. HasNotResumed R.faults e.0 e.1 slots.old slots.new) }
 {
-    table.sound();
-    let Ok(own) = table.copy(alloc) else {
-        return Err(store.into_device());
-    };
-    let Ok(core) = Core::new(alloc, own, confs, moment) else {
-        return Err(store.into_device());
-    };
-    match Flusher::new(alloc, store, table) {
-        Ok(flusher) => Ok(DurableCore::new(alloc, flusher, core)),
-        Err((device, _fault)) => Err(device),
+    for slot in slots.iter_mut() {
+        if let Err(fault) = slot.resume(alloc, table) {
+            return Err((slot.bssid(), fault));
+        }
     }
+    Ok(())
 }
 
-/// The durable core of the store that a device holds: its table is the state that the device's bytes show, nothing
-/// is unsettled, and every station was heard at this moment. Where the bytes show the state after a front of
-/// what happened before, as a stop leaves them, the table is that state. A stop within it leaves what could
-/// be left before.
+/// The world of the store that a device holds, and of these slots: its table is the state that the device's bytes
+/// show, nothing is unsettled, and every station was heard at this moment. Where the bytes show the state after
+/// a front of what happened before, as a stop leaves them, the table is that state. Each slot is up, and its
+/// radio has the associated stations of its BSSID in that table. A stop within it leaves what could be left
+/// before.
 ///
-/// Errors, with the device handed back: `Store` with `NotAStore` where its length or its magic differ; else
-/// with `Damaged` where the bytes show no state; with `Device` where the device failed in this call; with
-/// `NoMemory`; `NoMemory`. Where a stop left one image before the call, as after a sync, it leaves that one
-/// after any of them.
-pub(crate) fn restart_core<D: Disk>(
+/// Errors, with the device and the slots handed back: `Store` with `NotAStore` where its length or its magic
+/// differ; else with `Damaged` where the bytes show no state; with `Device` where the device failed in this
+/// call; with `NoMemory`; `Slot`, with the BSSID of a slot that did not resume, which is down, and
+/// `WentDown`, where its radio's device failed in this call, or `NoMemory`; `NoMemory`. Where a stop left one
+/// image before the call, as after a sync, it leaves that one after any of them.
+pub fn restart<D: Disk, R: Radio>(
     alloc: Global,
     device: D,
     confs: Confs,
+    slots: Vec<Slot<R>>,
     moment: Moment,
-) -> Result<DurableCore<D>, (D, WorldFault)>
-    ensures begun { IfOk result (λ durable. IsBegunAnew D.size D.failed device confs moment durable) }
+) -> Result<World<D, R>, (D, Vec<Slot<R>>, WorldFault)>
+    ensures begun { IfOk result
+        (λ world. IsBegunAnew D.size D.failed device confs moment (durable_of world)) }
     ensures begun_honest { D.honest device
-        → IfOk result (λ durable. IsHonestlyBegunAnew D.honest D.reads D.may_leave D.moment D.left_since D.size
-        device durable) }
-    ensures none { IfErr result (λ e. IsNotBegunAnew D.honest D.failed device e.0 e.1) }
+        → IfOk result (λ world. IsHonestlyBegunAnew D.honest D.reads D.may_leave D.moment D.left_since D.size
+        device (durable_of world)) }
+    ensures resumed { IfOk result (λ world. AreResumed R.stations (durable_of world).core.settled (slots_of world)) }
+    ensures exact { IfOk result (λ world. AreExact R.stations (slots_of world)) }
+    ensures following { IfOk result AreFollowing }
+    ensures slots { IfOk result (λ world. AreOfSame slots.items (slots_of world)) }
+    ensures none { IfErr result (λ e. IsNotBegunAnew D.honest D.failed device e.0 e.2) }
     ensures none_honest { D.honest device
         → IfErr result
-        (λ e. IsHonestlyNotBegunAnew D.reads D.may_leave D.moment D.left_since device e.0 e.1) }
+        (λ e. IsHonestlyNotBegunAnew D.reads D.may_leave D.moment D.left_since device e.0 e.2) }
     ensures only { IfErr result
-        (λ e. (e.1 ≡ WorldFault.Store StoreFault.NotAStore) ⊎ (e.1 ≡ WorldFault.Store StoreFault.Damaged)
-        ⊎ (e.1 ≡ WorldFault.Store StoreFault.Device) ⊎ (e.1 ≡ WorldFault.Store StoreFault.NoMemory)
-        ⊎ (e.1 ≡ WorldFault.NoMemory)) }
-    ensures honest { IfOk result (λ durable. D.honest device ↔ D.honest (device_of durable)) }
-    ensures reads { D.honest device → IfOk result (λ durable. D.reads (device_of durable) ≡ D.reads device) }
+        (λ e. (e.2 ≡ WorldFault.Store StoreFault.NotAStore) ⊎ (e.2 ≡ WorldFault.Store StoreFault.Damaged)
+        ⊎ (e.2 ≡ WorldFault.Store StoreFault.Device) ⊎ (e.2 ≡ WorldFault.Store StoreFault.NoMemory)
+        ⊎ (e.2 ≡ WorldFault.NoMemory)
+        ⊎ ((b : Address) × (fault : Fault) × (e.2 ≡ WorldFault.Slot b fault)
+        × HasNotResumed R.faults b fault slots.items e.1.items)) }
+    ensures still_slots { IfErr result (λ e. ((b : Address) (fault : Fault) → e.2 ≢ WorldFault.Slot b fault)
+        → e.1.items ≡ slots.items) }
+    ensures slots_err { IfErr result (λ e. AreOfSame slots.items e.1.items) }
 {
-    an_image_shows_one_state();
-    match recover(alloc, device) {
-        Err((device, fault)) => Err((device, WorldFault::Store(fault))),
-        Ok((store, table)) => match durable_core_of(alloc, store, table, confs, moment) {
-            Ok(durable) => Ok(durable),
-            Err(device) => Err((device, WorldFault::NoMemory)),
-        },
+    let mut slots = slots;
+    let durable = match restart_core(alloc, device, confs, moment) {
+        Ok(durable) => durable,
+        Err((device, fault)) => return Err((device, slots, fault)),
+    };
+    match resume_all(alloc, durable.table(), slots.as_mut_slice()) {
+        Ok(()) => Ok(World {
+            alloc,
+            durable,
+            slots,
+            queues: Vec::new(alloc),
+        }),
+        Err((bssid, fault)) => {
+            let (flusher, _core) = durable.into_parts();
+            let fault = WorldFault::Slot(bssid, fault);
+            Err((flusher.into_device(), slots, fault))
+        }
     }
 }

@@ -1,57 +1,23 @@
 //! A world started: its interfaces are configured, and what that brings about is committed, handed out and applied.
-ghost use Rattle.std.specs.Prelude.{◌≡◌, ◌<◌, IfErr, IfOk, List, OnErr, OnOk, []};
-ghost use Rattle.apd_disk.specs.Disk.{LeavesOnly};
+ghost use Rattle.std.specs.Prelude.{◌≡◌, IfErr, IfOk, List, OnErr, OnOk};
 ghost use Rattle.apd_mlme.specs.Happening.{Happening};
-ghost use Rattle.apd_world.specs.CoreRun.{AreUnsettled, Goes};
-ghost use Rattle.apd_world.specs.Outside.{device_of};
-ghost use Rattle.apd_world.specs.Shown.{ShowsFront};
+ghost use Rattle.apd_world.specs.CoreRun.{AreUnsettled};
 
 use crate::fault::WorldFault;
-use crate::step::{Commit, Step, Told};
+use crate::step::{Step, Told};
 use crate::world::World;
 use apd_base::Moment;
 use apd_core::Input;
 use apd_disk::Disk;
 use apd_mlme::Recipient;
 use apd_radio::Radio;
-use apd_store::StoreFault;
 
 impl<D: Disk, R: Radio> World<D, R> {
     ghost use Rattle.apd_world.specs.Following.{AreExact, AreFollowing};
-    ghost use Rattle.apd_world.specs.StepsMade.{AreAccepted, AreSettled, SomeAreQuietlyMade, SomeAreSafelyMade};
+    ghost use Rattle.apd_world.specs.StepsMade.{AreAccepted, SomeAreSafelyMade};
     ghost use Rattle.apd_world.specs.Proper.{IsProper};
-    ghost use Rattle.apd_world.specs.Round.{ComesTo, IsRound};
     ghost use Rattle.apd_world.specs.WorldParts.{durable_of, slots_of};
-    ghost use Rattle.apd_world.specs.Starting.{HasEnded, HasFailedCore, IsFlushed, IsStarted, IsWorldRound, LeavesFronts};
-    ghost use Rattle.apd_world.specs.Telling.{HasNoBatch, HasNoCall, HasNoReceipt};
-    ghost use Rattle.apd_world.specs.WorldRun.{RestStays};
-
-    /// Commits a batch by one round of the durable core's steps; the slots and their queues stay.
-    pub fn commit(&mut self) -> Commit
-        ensures round { IsRound result (durable_of self.old) (durable_of self.new) }
-        ensures run { IsWorldRound R.stations R.faults result self.old self.new }
-        ensures comes_to { IsProper D.honest D.reads D.may_leave D.size (durable_of self.old)
-            → ComesTo D.failed result (durable_of self.old) (durable_of self.new) }
-        ensures rest_stays { RestStays self.old self.new }
-        ensures settled { result ≡ Commit.Settled
-            → ((durable_of self.old).core.number < (durable_of self.new).core.number)
-            × ((durable_of self.new).core.flight ≡ 0) }
-        ensures nothing { result ≡ Commit.Nothing → HasNoBatch (durable_of self.old) × HasNoCall (durable_of self.old)
-            × HasNoReceipt (durable_of self.old) × (durable_of self.new ≡ durable_of self.old) }
-        ensures proper { IsProper D.honest D.reads D.may_leave D.size (durable_of self.old)
-            → IsProper D.honest D.reads D.may_leave D.size (durable_of self.new) }
-        ensures any_moment { IsProper D.honest D.reads D.may_leave D.size (durable_of self.old) → (hs : List Happening)
-            → AreUnsettled hs (durable_of self.old).core
-            → LeavesOnly D.moment D.left_since (device_of (durable_of self.old)) (device_of
-            (durable_of self.new))
-            (ShowsFront (durable_of self.old).core.settled (durable_of self.old).core.confs hs) }
-        ensures quiet { Goes [] (λ r. []) (durable_of self.old).core (durable_of self.new).core }
-        ensures heard { (durable_of self.new).core.heard ≡ (durable_of self.old).core.heard }
-        ensures exact { AreExact R.stations (slots_of self.old) → AreExact R.stations (slots_of self.new) }
-        ensures following { AreFollowing self.old → AreFollowing self.new }
-    {
-        self.durable.commit()
-    }
+    ghost use Rattle.apd_world.specs.Starting.{HasEnded, HasFailedCore, IsStarted, LeavesFronts};
 
     // Accepts each interface's configuration, with its lists, in order. One that is no entry is passed over.
     fn configure(&mut self) -> Result<(), WorldFault>
@@ -78,55 +44,6 @@ impl<D: Disk, R: Radio> World<D, R> {
             }
         }
         Ok(())
-    }
-
-    // Commits until nothing is unsettled.
-    fn settle(&mut self) -> Result<(), WorldFault>
-        ensures ok { OnOk result
-            (AreSettled D.honest D.reads D.may_leave D.moment D.left_since D.size R.stations R.faults
-            self.old self.new) }
-        ensures err { OnErr result
-            (SomeAreQuietlyMade D.honest D.reads D.may_leave D.moment D.left_since D.size R.stations R.faults
-            self.old self.new) }
-        ensures ended { IfErr result (λ fault. HasEnded R.stations R.faults fault self.old self.new) }
-        ensures failed { IsProper D.honest D.reads D.may_leave D.size (durable_of self.old)
-            → IfErr result (λ fault. HasFailedCore fault self.new) }
-    {
-        self.durable.stops();
-        loop {
-            match self.commit() {
-                Commit::Settled => {}
-                Commit::Nothing if self.durable.is_settled() => return Ok(()),
-                Commit::Nothing => return Err(WorldFault::Store(StoreFault::Failed)),
-                Commit::Foreign => return Err(WorldFault::Store(StoreFault::Failed)),
-                Commit::Refused(fault) => return Err(WorldFault::Store(fault)),
-                Commit::NoMemory => return Err(WorldFault::NoMemory),
-            }
-        }
-    }
-
-    /// Commits until nothing is unsettled, and hands out what is settled. A batch or a receipt that is under way is
-    /// gone on with. It answers as `hand_out` does.
-    ///
-    /// Errors: `Store` where the store refuses, with the fault that a step told, and with `Failed` where the core has
-    /// failed or a round settled nothing; `NoMemory`. The steps that were made stand.
-    pub fn flush(&mut self) -> Result<Vec<(Recipient, Told)>, WorldFault>
-        ensures flushed { IfOk result (λ answers. IsFlushed R.stations R.faults [] answers.items self.old self.new) }
-        ensures err { IfErr result (λ fault. HasEnded R.stations R.faults fault self.old self.new) }
-        ensures failed { IsProper D.honest D.reads D.may_leave D.size (durable_of self.old)
-            → IfErr result (λ fault. HasFailedCore fault self.new) }
-        ensures proper { IsProper D.honest D.reads D.may_leave D.size (durable_of self.old)
-            → IsProper D.honest D.reads D.may_leave D.size (durable_of self.new) }
-        ensures any_moment { IsProper D.honest D.reads D.may_leave D.size (durable_of self.old) → (hs : List Happening)
-            → AreUnsettled hs (durable_of self.old).core
-            → LeavesOnly D.moment D.left_since (device_of (durable_of self.old)) (device_of
-            (durable_of self.new))
-            (ShowsFront (durable_of self.old).core.settled (durable_of self.old).core.confs hs) }
-        ensures exact { AreExact R.stations (slots_of self.old) → AreExact R.stations (slots_of self.new) }
-        ensures following { AreFollowing self.old → AreFollowing self.new }
-    {
-        self.settle()?;
-        self.hand_out()
     }
 
     /// Starts each interface: accepts its configuration, with its lists, in order, and flushes what that brings

@@ -6,7 +6,7 @@ use Rattle.apd_world.specs.Following.{AreExact}
 use Rattle.apd_world.specs.Outside.{device_of}
 use Rattle.apd_world.specs.Resumed.{AreResumed, HasNotResumed}
 use Rattle.apd_world.proofs.ResumeLemmas.{begun_following, resumed_exact}
-use Rattle.apd_world.proofs.resuming.restart.Goals as goal
+use Rattle.apd_world.proofs.restarting.restart.Goals as goal
 
 -- as many are taken as there are
 whole : {A : Type 0} (xs ys : List A) (n : _) → n ≡ length xs → take n (xs ++ drop (length xs) ys) ≡ xs

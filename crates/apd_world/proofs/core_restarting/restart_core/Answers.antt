@@ -2,7 +2,7 @@ use Rattle.std.proofs.Common.{ap, take, ◌∙◌, rules}
 use Rattle.apd_mlme.specs.Run.{run}
 use Rattle.apd_core.specs.Core.{CoreState}
 use Rattle.apd_world.proofs.StepLemmas.{same_fault}
-use Rattle.apd_world.proofs.restarting.restart_core.Goals as goal
+use Rattle.apd_world.proofs.core_restarting.restart_core.Goals as goal
 
 pub returns-in-Err-clause-none_honest : goal.returns-in-Err-clause-none_honest
 returns-in-Err-clause-none_honest g c = λ honest.

@@ -3,7 +3,7 @@ use Rattle.std.proofs.lemmas.List.{get_or_default}
 use Rattle.apd_slot.specs.Rows.{installed_rows}
 use Rattle.apd_world.specs.Resumed.{HasNotResumed, IsResumed}
 use Rattle.apd_world.proofs.ResumeLemmas.{none_so_far, not_up, one_failed, one_same, one_so_far}
-use Rattle.apd_world.proofs.resuming.resume_all.Goals as goal
+use Rattle.apd_world.proofs.restarting.resume_all.Goals as goal
 
 pub loop-slot-init : goal.loop-slot-init
 loop-slot-init g c = none_so_far g.R.Radio.stations g.R.Radio.faults c.args.table.now c.args.slots.now
