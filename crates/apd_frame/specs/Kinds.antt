@@ -3,9 +3,16 @@ use Rattle.std.specs.Prelude.{ℕ, Bool, ◌==◌, ◌&&◌, List, [], ◌∷◌
 use Rattle.std.specs.List.{find}
 use Rattle.apd_frame.specs.declared.kind.Kind.{Kind}
 use Rattle.apd_frame.specs.declared.kind.Kind.TheVariants.{Uplink, AssociationRequest, ReassociationRequest, ProbeRequest, Disassociation, Authentication, Deauthentication}
-use Rattle.apd_frame.specs.Octets.{is_data, is_management, subtype}
+use Rattle.apd_frame.specs.Octets.{frame_type, subtype}
 
--- by Type and Subtype (IEEE Std 802.11-2016, 9.2.4.1.3, Table 9-1); every subtype of data is alike
+-- management and data frames, by Type (IEEE Std 802.11-2016, 9.2.4.1.3, Table 9-1)
+abbrev pub is_management : List ℕ → Bool
+is_management f = frame_type f == 0
+
+abbrev pub is_data : List ℕ → Bool
+is_data f = frame_type f == 2
+
+-- by Type and Subtype; every subtype of data is alike
 abbrev pub is_of : List ℕ → Kind → Bool
 is_of f Uplink = is_data f
 is_of f AssociationRequest = is_management f && (subtype f == 0)

@@ -1,7 +1,7 @@
 -- The fields of a management or data frame by the place of their octets (IEEE Std 802.11-2016, 9.2.4,
 -- 9.3.2.1, 9.3.3). Octet 0 is sent first, bit 0 of an octet is its lowest, and a number of two octets has
 -- the lower one in front (9.2.2). What a short list lacks counts as 0.
-use Rattle.std.specs.Prelude.{ℕ, Bool, ◌+◌, ◌/◌, ◌%◌, ◌^◌, ◌==◌, ◌&&◌, List, [], ◌∷◌, drop, take, slice_index}
+use Rattle.std.specs.Prelude.{ℕ, Bool, ◌+◌, ◌/◌, ◌%◌, ◌^◌, ◌==◌, List, [], ◌∷◌, drop, take, slice_index}
 use Rattle.std.specs.Int.{from_le_bytes, w64}
 use Rattle.std.specs.Str.{bytes_eq}
 use Rattle.apd_base.specs.Number.{u16_at}
@@ -133,16 +133,6 @@ probe_capability f = u16_at f 34
 
 abbrev pub probe_response_elements : List ℕ → List ℕ
 probe_response_elements f = drop 36 f
-
--- management and data frames, and the one kind that is told apart in the header (9.2.4.1.3, Table 9-1)
-abbrev pub is_management : List ℕ → Bool
-is_management f = frame_type f == 0
-
-abbrev pub is_data : List ℕ → Bool
-is_data f = frame_type f == 2
-
-abbrev pub is_probe_request : List ℕ → Bool
-is_probe_request f = is_management f && (subtype f == 4)
 
 -- a group's address: bit 0 of its first octet is 1 (9.2.4.3.3)
 abbrev pub is_group_address : Addr → Bool

@@ -12,12 +12,12 @@ use Rattle.apd_frame.specs.declared.ignored.Ignored.{Ignored}
 use Rattle.apd_frame.specs.declared.ignored.Ignored.TheVariants.{TooLong, Short, Version, Class, Fragment, Flags, Direction, Sender, Receiver, OtherBss, Subtype, Body}
 use Rattle.apd_frame.specs.declared.received.Authentication.{Authentication}
 use Rattle.apd_frame.specs.Contents.{Contents, AssociationRequest, ReassociationRequest, ProbeRequest, authentication, association_request, reassociation_request, probe_request, disassociation, deauthentication, uplink}
-use Rattle.apd_frame.specs.Kinds.{is_of, kind_of, fixed_octets}
-use Rattle.apd_frame.specs.Octets.{protocol_version, frame_type, to_ds, from_ds, more_fragments, protected_frame, order, fragment_number, sender, receiver, bssid, algorithm_number, transaction_number, status_field, reason_field, capability_information, listen_interval, association_elements, current_ap_address, reassociation_elements, probe_elements, is_management, is_data, is_probe_request, is_group_address, is_same_address}
+use Rattle.apd_frame.specs.Kinds.{is_data, is_management, is_of, kind_of, fixed_octets}
+use Rattle.apd_frame.specs.Octets.{protocol_version, frame_type, to_ds, from_ds, more_fragments, protected_frame, order, fragment_number, sender, receiver, bssid, algorithm_number, transaction_number, status_field, reason_field, capability_information, listen_interval, association_elements, current_ap_address, reassociation_elements, probe_elements, is_group_address, is_same_address}
 
 -- an address is the radio's own, or the broadcast address where a probe request may have it (9.3.3.2, 9.2.4.3.4)
 abbrev pub is_for : List ℕ → Bssid → Addr → Bool
-is_for f own a = is_same_address a own.0 || (is_probe_request f && is_same_address a BROADCAST)
+is_for f own a = is_same_address a own.0 || (is_of f kind.ProbeRequest && is_same_address a BROADCAST)
 
 -- it ends before the fixed fields of its kind do
 abbrev pub lacks_fields : List ℕ → Option Kind → Bool

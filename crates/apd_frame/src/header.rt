@@ -1,6 +1,8 @@
 //! The fields of a frame's header (IEEE Std 802.11-2016, 9.2.4), and what is asked of them.
 ghost use Rattle.std.specs.Prelude.{◌≡◌, ◌+◌, ◌<◌, ◌≤◌, ◌&&◌, ◌||◌, ◌==◌, not, drop, length};
-ghost use Rattle.apd_frame.specs.Octets.{address_at, bit, fragment_number, frame_type, from_ds, is_data, is_group_address, is_management, is_probe_request, is_same_address, more_fragments, order, protected_frame, protocol_version, subtype, to_ds};
+ghost use Rattle.apd_frame.specs.declared.kind.Kind.TheVariants.{ProbeRequest};
+ghost use Rattle.apd_frame.specs.Kinds.{is_data, is_management, is_of};
+ghost use Rattle.apd_frame.specs.Octets.{address_at, bit, fragment_number, frame_type, from_ds, is_group_address, is_same_address, more_fragments, order, protected_frame, protocol_version, subtype, to_ds};
 ghost use Rattle.apd_frame.specs.Outcome.{is_for};
 
 use apd_base::{Addr, BROADCAST, Bssid};
@@ -75,7 +77,7 @@ pub(crate) fn is_data(bytes: &[u8]) -> bool
 
 fn is_probe_request(bytes: &[u8]) -> bool
     requires { 24 ≤ length bytes.now }
-    ensures { result ≡ is_probe_request bytes.now }
+    ensures { result ≡ is_of bytes.now ProbeRequest }
 {
     is_management(bytes) && subtype(bytes) == 4
 }
