@@ -3,18 +3,18 @@
 
 mod call;
 mod disk;
+mod failing_once;
 mod fault;
 mod file;
 mod fuse;
 mod mem;
-mod once;
 mod torn;
 
 pub use call::Call;
 pub use disk::Disk;
+pub use failing_once::OnceDisk;
 pub use fault::DiskFault;
 pub use file::FileDisk;
 pub use fuse::FuseDisk;
 pub use mem::MemDisk;
-pub use once::OnceDisk;
 pub use torn::Torn;
