@@ -2,6 +2,8 @@
 //! or the table after it.
 #![tactic(auto)]
 
+mod beginning;
+mod calling;
 mod fault;
 mod formatting;
 mod half;

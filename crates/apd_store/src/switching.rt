@@ -7,9 +7,10 @@ ghost use Rattle.apd_journal.specs.declared.writer.TheConstants.{HALF_LENGTH};
 ghost use Rattle.apd_store.specs.Image.{Shows};
 ghost use Rattle.apd_store.specs.Layout.{opposite};
 
+use crate::calling::{moved, write_in_half};
 use crate::fault::StoreFault;
 use crate::phase::Phase;
-use crate::store::{Store, last_place, moved, no_plan, write_in_half};
+use crate::store::{Store, last_place, no_plan};
 use apd_disk::Disk;
 
 impl<D: Disk> Store<D> {
