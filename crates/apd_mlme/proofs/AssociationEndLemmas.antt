@@ -23,7 +23,7 @@ use Rattle.apd_frame.specs.declared.codes.Status.TheVariants.{Success}
 use Rattle.apd_frame.specs.declared.codes.TheConstants.Reason.{UNSPECIFIED}
 use Rattle.apd_table.specs.Addresses.{addresses_at}
 use Rattle.apd_table.specs.Allowed.{denied_by}
-use Rattle.apd_mlme.specs.declared.answer.Answer.{Answer}
+use Rattle.apd_mlme.specs.declared.command_answer.Answer.{Answer}
 use Rattle.apd_mlme.specs.declared.association.Kind.{Kind}
 use Rattle.apd_mlme.specs.declared.association.Kind.TheVariants.{Association, Reassociation}
 use Rattle.apd_mlme.specs.declared.decision.Recipient.{Recipient}

@@ -27,7 +27,7 @@ use Rattle.apd_table.specs.Addresses.{addresses_at}
 use Rattle.apd_table.specs.Allowed.{allowed, allowed_in, allowed_under, denied_by}
 use Rattle.apd_table.specs.Sound.{Sound}
 use Rattle.apd_table.proofs.ListSets.{insert_here, remove_here, clear_here, insert_elsewhere, remove_elsewhere, clear_elsewhere}
-use Rattle.apd_mlme.specs.declared.answer.Answer.TheVariants.{Done, Refused}
+use Rattle.apd_mlme.specs.declared.command_answer.Answer.TheVariants.{Done, Refused}
 use Rattle.apd_mlme.specs.declared.decision.Recipient.{Recipient}
 use Rattle.apd_mlme.specs.declared.decision.Recipient.TheVariants.{Radio}
 use Rattle.apd_mlme.specs.declared.decision.Out.{Out}

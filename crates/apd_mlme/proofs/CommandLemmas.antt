@@ -25,8 +25,8 @@ use Rattle.apd_table.specs.Can.{NoneDenied}
 use Rattle.apd_table.specs.Sound.{Sound, StaySound}
 use Rattle.apd_table.proofs.Denied.{drops, meaning_of-append, drops_lists, drops_policies, drops_station, drops_sound, drops_stay, left_allowed, some_row}
 use Rattle.apd_table.proofs.ListChanges.{sound_add, sound_take, sound_clear}
-use Rattle.apd_mlme.specs.declared.answer.Answer.{Answer}
-use Rattle.apd_mlme.specs.declared.answer.Answer.TheVariants.{Done, Refused}
+use Rattle.apd_mlme.specs.declared.command_answer.Answer.{Answer}
+use Rattle.apd_mlme.specs.declared.command_answer.Answer.TheVariants.{Done, Refused}
 use Rattle.apd_mlme.specs.declared.event.Edit.{Edit}
 use Rattle.apd_mlme.specs.declared.event.Edit.TheVariants.{Add, Remove, Clear}
 use Rattle.apd_base.specs.declared.address.TheConstants.{BROADCAST}

@@ -24,8 +24,8 @@ use Rattle.apd_frame.specs.declared.received.Authentication.{Authentication}
 use Rattle.apd_frame.specs.declared.replies.Reply.{Reply}
 use Rattle.apd_record.specs.declared.change.Change.TheVariants.{Put}
 use Rattle.apd_record.specs.Meaning.{put_station}
-use Rattle.apd_mlme.specs.declared.answer.Answer.{Answer}
-use Rattle.apd_mlme.specs.declared.answer.Answer.TheVariants.{Done, Refused}
+use Rattle.apd_mlme.specs.declared.command_answer.Answer.{Answer}
+use Rattle.apd_mlme.specs.declared.command_answer.Answer.TheVariants.{Done, Refused}
 use Rattle.apd_mlme.specs.declared.association.Kind.{Kind}
 use Rattle.apd_mlme.specs.declared.association.Kind.TheVariants.{Association, Reassociation}
 use Rattle.apd_mlme.specs.declared.decision.Recipient.TheVariants.{Radio}

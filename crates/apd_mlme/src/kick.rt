@@ -5,7 +5,7 @@ ghost use Rattle.apd_base.specs.Addr.{addr_cmp};
 ghost use Rattle.apd_base.specs.declared.address.TheConstants.{BROADCAST};
 ghost use Rattle.apd_mlme.specs.rules.Commands.{all_kicked, deauthenticated, disassociated, farewell, kick_verdict, kicked};
 
-use crate::answer::{Answer, answered};
+use crate::command_answer::{Answer, answered};
 use crate::decision::sent;
 use crate::draft::Draft;
 use crate::leaving::{

@@ -14,9 +14,9 @@ ghost use Rattle.apd_mlme.specs.Happening.{happening};
 ghost use Rattle.apd_mlme.specs.rules.{verdict, heard_verdict, IsFit};
 ghost use Rattle.apd_mlme.specs.Verdict.{is_nothing};
 
-mod answer;
 mod association;
 mod authentication;
+mod command_answer;
 mod configuration;
 mod decision;
 mod departure;
@@ -30,12 +30,12 @@ mod list_edit;
 mod offer;
 mod probe_request;
 
-pub use answer::Answer;
 use apd_base::Bssid;
 use apd_conf::{Conf, Confs};
 use apd_frame::Frame;
 use apd_table::Table;
 use association::Kind;
+pub use command_answer::Answer;
 pub use decision::{Decision, MAX_RECORDS, Out, Recipient};
 use draft::Draft;
 pub use event::{Edit, Event};

@@ -5,7 +5,7 @@ ghost use Rattle.apd_base.specs.State.{list_count, policy_at};
 ghost use Rattle.apd_base.specs.declared.limits.TheConstants.{MAX_LISTED};
 ghost use Rattle.apd_mlme.specs.rules.Commands.{change_of, edited, list_edit_verdict};
 
-use crate::answer::{Answer, answered};
+use crate::command_answer::{Answer, answered};
 use crate::draft::Draft;
 use crate::event::Edit;
 use crate::leaving::denied_dropped;

@@ -10,8 +10,8 @@ use Rattle.apd_base.specs.State.{State, station_at, aid_at, list_count, IsListed
 use Rattle.apd_frame.specs.declared.codes.Reason.{Reason}
 use Rattle.apd_frame.specs.declared.codes.TheConstants.Reason.{UNSPECIFIED}
 use Rattle.apd_table.specs.Allowed.{allowed}
-use Rattle.apd_mlme.specs.declared.answer.Answer.{Answer}
-use Rattle.apd_mlme.specs.declared.answer.Answer.TheVariants.{Done, Refused}
+use Rattle.apd_mlme.specs.declared.command_answer.Answer.{Answer}
+use Rattle.apd_mlme.specs.declared.command_answer.Answer.TheVariants.{Done, Refused}
 use Rattle.apd_mlme.specs.declared.decision.Recipient.{Recipient}
 use Rattle.apd_mlme.specs.declared.decision.Recipient.TheVariants.{Radio, Control}
 use Rattle.apd_mlme.specs.declared.decision.Out.{Out}

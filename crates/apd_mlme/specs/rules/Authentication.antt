@@ -61,7 +61,8 @@ is_admitted s conf b request = is_success (auth_status s conf b request) && not 
 abbrev pub auth_verdict : State → Conf → Bssid → Authentication → Verdict
 auth_verdict s conf b request = record {
   state =
-      if is_admitted s conf b request then record s { stations = map.insert s.stations (b, request.sender) Authenticated }
+      if is_admitted s conf b request
+      then record s { stations = map.insert s.stations (b, request.sender) Authenticated }
       else s;
   changes = if is_admitted s conf b request then Put b request.sender Authenticated ∷ [] else [];
   outs = sent (auth_response b request (auth_status s conf b request)) ∷ [];

@@ -21,8 +21,8 @@ use Rattle.apd_frame.specs.declared.replies.Reply.{Reply}
 use Rattle.apd_record.specs.declared.change.Change.{Change}
 use Rattle.apd_record.specs.declared.change.Change.TheVariants.{Drop, ListAdd, ListDel, ListClear}
 use Rattle.apd_table.specs.Addresses.{addresses_at, denied_after, with_lists_after}
-use Rattle.apd_mlme.specs.declared.answer.Answer.{Answer}
-use Rattle.apd_mlme.specs.declared.answer.Answer.TheVariants.{Done, Refused}
+use Rattle.apd_mlme.specs.declared.command_answer.Answer.{Answer}
+use Rattle.apd_mlme.specs.declared.command_answer.Answer.TheVariants.{Done, Refused}
 use Rattle.apd_mlme.specs.declared.decision.Recipient.{Recipient}
 use Rattle.apd_mlme.specs.declared.decision.Recipient.TheVariants.{Control}
 use Rattle.apd_mlme.specs.declared.decision.Out.{Out}
