@@ -15,7 +15,8 @@ use Rattle.apd_record.specs.Meaning.{meaning_of}
 use Rattle.apd_record.specs.declared.change.Change.{Change}
 use Rattle.apd_record.specs.declared.change.Change.TheVariants.{Put, Drop, ListAdd, ListDel, ListClear, Policy}
 use Rattle.apd_core.specs.Heard.{LastHeard, AreMomentsOf, heard_by_change, heard_by_changes}
-use Rattle.apd_core.specs.LaidDown.{AreLaidDown, is_of, is_put_of, puts_row, tidied, touches_row}
+use Rattle.apd_core.specs.ChangedRows.{is_of, is_put_of, puts_row, touches_row}
+use Rattle.apd_core.specs.LaidDown.{AreLaidDown, tidied}
 use Rattle.apd_core.proofs.Hearing.{after_changes}
 
 abbrev Key : Type 0

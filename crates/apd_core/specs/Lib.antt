@@ -1,3 +1,4 @@
+pub mod ChangedRows
 pub mod Core
 pub mod CoreCodes
 pub mod Fields
@@ -6,7 +7,7 @@ pub mod Held
 pub mod HeldCodes
 pub mod Invariant
 pub mod LaidDown
-pub mod RowMoments
 pub mod Requests
+pub mod RowMoments
 pub mod Silent
 pub mod TakingBack

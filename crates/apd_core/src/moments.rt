@@ -12,7 +12,8 @@ ghost use Rattle.apd_mlme.specs.Happening.{happening};
 ghost use Rattle.apd_record.specs.Meaning.{meaning_of};
 ghost use Rattle.apd_table.specs.Sound.{StaySound};
 ghost use Rattle.apd_core.specs.Heard.{due, heard_by, heard_by_changes, heard_from, is_due, is_too_long, AreHeardAt, AreMomentsOf};
-ghost use Rattle.apd_core.specs.LaidDown.{heard_at, is_of, is_put_of, puts_row, tidied, touches_row, AreLaidDown};
+ghost use Rattle.apd_core.specs.ChangedRows.{is_of, is_put_of, puts_row, touches_row};
+ghost use Rattle.apd_core.specs.LaidDown.{heard_at, tidied, AreLaidDown};
 
 use apd_base::{Addr, Bssid, Moment};
 use apd_conf::{Conf, Confs};

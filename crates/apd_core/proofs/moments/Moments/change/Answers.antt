@@ -1,7 +1,8 @@
 use Rattle.std.proofs.Common.{is_some, ap, ◌∙◌}
 use Rattle.std.specs.FinMap as map
 use Rattle.apd_base.specs.State.{State}
-use Rattle.apd_core.specs.LaidDown.{tidied, touches_row}
+use Rattle.apd_core.specs.ChangedRows.{touches_row}
+use Rattle.apd_core.specs.LaidDown.{tidied}
 use Rattle.apd_core.proofs.Laying.{changed, taken_back}
 use Rattle.apd_core.proofs.moments.Moments.change.Goals as goal
 

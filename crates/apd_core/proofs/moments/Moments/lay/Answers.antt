@@ -2,7 +2,7 @@ use Rattle.std.proofs.Common.{◌≡◌, true, false, not, ◌||◌, ◌⊎◌, 
 use Rattle.std.specs.FinMap as map
 use Rattle.apd_base.specs.declared.address.Addr.{Addr}
 use Rattle.apd_base.specs.declared.address.Bssid.{Bssid}
-use Rattle.apd_core.specs.LaidDown.{is_put_of}
+use Rattle.apd_core.specs.ChangedRows.{is_put_of}
 use Rattle.apd_core.proofs.Laying.{laid_put, put_there, was_there}
 use Rattle.apd_core.proofs.moments.Moments.lay.Goals as goal
 

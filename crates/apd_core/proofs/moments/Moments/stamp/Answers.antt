@@ -5,7 +5,7 @@ use Rattle.apd_base.specs.declared.address.Bssid.{Bssid}
 use Rattle.apd_base.proofs.AddrLemmas.{station_total, station_exact}
 use Rattle.apd_base.proofs.MapLemmas.{tied}
 use Rattle.apd_core.specs.Heard.{LastHeard}
-use Rattle.apd_core.specs.LaidDown.{is_put_of}
+use Rattle.apd_core.specs.ChangedRows.{is_put_of}
 use Rattle.apd_core.proofs.Laying.{on_ok}
 use Rattle.apd_core.proofs.moments.Moments.stamp.Goals as goal
 

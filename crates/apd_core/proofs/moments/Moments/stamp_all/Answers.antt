@@ -3,7 +3,7 @@ use Rattle.std.specs.FinMap as map
 use Rattle.std.specs.List.{list_any}
 use Rattle.std.proofs.lemmas.List.{drop_all}
 use Rattle.apd_record.specs.declared.change.Change.{Change}
-use Rattle.apd_core.specs.LaidDown.{is_put_of}
+use Rattle.apd_core.specs.ChangedRows.{is_put_of}
 use Rattle.apd_core.proofs.Hearing.{next_change}
 use Rattle.apd_core.proofs.Laying.{put_of_all, stamped_on, stamped_some}
 use Rattle.apd_core.proofs.moments.Moments.stamp_all.Goals as goal

@@ -3,7 +3,7 @@ use Rattle.std.specs.FinMap as map
 use Rattle.std.specs.List.{list_any}
 use Rattle.apd_base.specs.declared.address.Addr.{Addr}
 use Rattle.apd_base.specs.declared.address.Bssid.{Bssid}
-use Rattle.apd_core.specs.LaidDown.{is_put_of, puts_row}
+use Rattle.apd_core.specs.ChangedRows.{is_put_of, puts_row}
 use Rattle.apd_core.proofs.moments.Moments.stamp_all.Given as goal
 
 -- what is left leads where all of it leads

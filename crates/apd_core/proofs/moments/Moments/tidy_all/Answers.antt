@@ -3,7 +3,8 @@ use Rattle.std.specs.FinMap as map
 use Rattle.std.specs.List.{list_any}
 use Rattle.std.proofs.lemmas.List.{drop_all}
 use Rattle.apd_record.specs.declared.change.Change.{Change}
-use Rattle.apd_core.specs.LaidDown.{is_of, tidied}
+use Rattle.apd_core.specs.ChangedRows.{is_of}
+use Rattle.apd_core.specs.LaidDown.{tidied}
 use Rattle.apd_core.proofs.Hearing.{next_change}
 use Rattle.apd_core.proofs.Laying.{nothing_tidied, tidied_on}
 use Rattle.apd_core.proofs.moments.Moments.tidy_all.Goals as goal

@@ -3,7 +3,8 @@ use Rattle.std.specs.FinMap as map
 use Rattle.std.specs.List.{list_any}
 use Rattle.apd_base.specs.declared.address.Addr.{Addr}
 use Rattle.apd_base.specs.declared.address.Bssid.{Bssid}
-use Rattle.apd_core.specs.LaidDown.{is_of, tidied, touches_row}
+use Rattle.apd_core.specs.ChangedRows.{is_of, touches_row}
+use Rattle.apd_core.specs.LaidDown.{tidied}
 use Rattle.apd_core.proofs.moments.Moments.tidy_all.Given as goal
 
 -- what is left leads where all of it leads
