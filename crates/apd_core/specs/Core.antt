@@ -20,7 +20,7 @@ use Rattle.apd_record.specs.declared.change.Change.{Change}
 use Rattle.apd_core.specs.Heard.{LastHeard, heard_by, heard_by_changes}
 use Rattle.apd_core.specs.Held.{HeldOuts, no_outs, queue_of, up_to, with_outs, after_hand, after_settled}
 use Rattle.apd_core.specs.Requests.{happening_of, unfit}
-use Rattle.apd_core.specs.declared.answer.Answer.{Answer}
+use Rattle.apd_core.specs.declared.query_answer.Answer.{Answer}
 use Rattle.apd_core.specs.declared.input.Input.{Input}
 use Rattle.apd_core.specs.declared.input.QuietReason.{QuietReason}
 use Rattle.apd_core.specs.declared.input.QuietReason.TheVariants as quiet

@@ -20,12 +20,12 @@ ghost use Rattle.apd_core.specs.Fields.{entries_of, IsMeasured};
 ghost use Rattle.apd_journal.specs.Half.{IsGroup};
 ghost use Rattle.apd_store.specs.Outside.{held_batch};
 
-use crate::answer::Answer;
 use crate::entry::Entry;
 use crate::held::Held;
 use crate::input::{Input, QuietReason, event_said, expiry, unfit};
 use crate::moments::Moments;
 use crate::publish_fault::PublishFault;
+use crate::query_answer::Answer;
 use crate::ticket::{Accepted, Ticket};
 use apd_base::limits::{MAX_GROUP, MAX_KEPT};
 use apd_base::{Moment, Sequence};

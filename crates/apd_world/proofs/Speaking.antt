@@ -24,7 +24,7 @@ use Rattle.apd_table.specs.Sound.{Sound}
 use Rattle.apd_core.specs.Core.{CoreState, front_of, state_after}
 use Rattle.apd_core.specs.Heard.{LastHeard, due}
 use Rattle.apd_core.specs.Requests.{expiry, happening_of, ordered, unless_ignored}
-use Rattle.apd_core.specs.declared.answer.Answer.{Answer}
+use Rattle.apd_core.specs.declared.query_answer.Answer.{Answer}
 use Rattle.apd_core.specs.declared.input.Input.{Input}
 use Rattle.apd_core.specs.declared.input.Input.TheVariants as input
 use Rattle.apd_core.specs.declared.input.QuietReason.{QuietReason}

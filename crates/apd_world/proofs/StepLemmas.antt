@@ -18,7 +18,7 @@ use Rattle.apd_core.specs.Core.{CoreState, accepted, after_request, batch_of, ch
 use Rattle.apd_core.specs.Heard.{heard_by}
 use Rattle.apd_core.specs.Invariant.{IsCore}
 use Rattle.apd_core.specs.Requests.{happening_of}
-use Rattle.apd_core.specs.declared.answer.Answer.{Answer}
+use Rattle.apd_core.specs.declared.query_answer.Answer.{Answer}
 use Rattle.apd_core.specs.declared.input.Input.{Input}
 use Rattle.apd_core.specs.declared.input.QuietReason.{QuietReason}
 use Rattle.apd_core.specs.declared.ticket.Accepted.{Accepted as CoreAccepted}

@@ -13,7 +13,7 @@ use Rattle.apd_store.specs.declared.fault.StoreFault.TheVariants as store_fault
 use Rattle.apd_store.specs.declared.store.Receipt.{Receipt}
 use Rattle.apd_core.specs.Core.{CoreState, accepted, after_request, answered, cannot_take, front_of, handed, published, ready_for, IsDecided, IsFlight, IsTaken}
 use Rattle.apd_core.specs.Requests.{happening_of}
-use Rattle.apd_core.specs.declared.answer.Answer.{Answer}
+use Rattle.apd_core.specs.declared.query_answer.Answer.{Answer}
 use Rattle.apd_core.specs.declared.input.Input.{Input}
 use Rattle.apd_core.specs.declared.publish_fault.PublishFault.{PublishFault}
 use Rattle.apd_core.specs.declared.publish_fault.PublishFault.TheVariants as publish_fault

@@ -10,7 +10,7 @@ ghost use Rattle.apd_mlme.specs.laws.Broadcast.{IsFromStation, NoBroadcastRow};
 ghost use Rattle.apd_table.specs.Sound.{Sound};
 ghost use Rattle.apd_core.specs.Core.{CoreState, front_of};
 ghost use Rattle.apd_core.specs.Requests.{happening_of};
-ghost use Rattle.apd_core.specs.declared.answer.Answer.{Answer};
+ghost use Rattle.apd_core.specs.declared.query_answer.Answer.{Answer};
 ghost use Rattle.apd_core.specs.declared.input.Input.{Input};
 ghost use Rattle.apd_world.specs.CoreRun.{AreUnsettled};
 ghost use Rattle.apd_world.specs.Outside.{IsSpoken};
