@@ -1,5 +1,5 @@
 -- The fields of what is written.
-use Rattle.std.proofs.Common.{◌≡◌, ℕ, ◌^◌, ◌<◌, Option, Some, None, List, [], ◌∷◌, length, refl, arith, lit<}
+use Rattle.std.proofs.Common.{◌≡◌, ℕ, ◌*◌, ◌/◌, ◌%◌, ◌^◌, ◌<◌, Option, Some, None, List, [], ◌∷◌, length, refl, arith, lit<}
 use Rattle.std.proofs.lemmas.Nat.{from_le_bytes-to_le_bytes_2}
 use Rattle.apd_base.specs.declared.station.Aid.{Aid}
 use Rattle.apd_frame.specs.declared.codes.Status.{Status}
@@ -7,7 +7,7 @@ use Rattle.apd_frame.specs.declared.codes.Status.TheVariants.{Success, RefusedRe
 use Rattle.apd_frame.specs.declared.replies.Reply.{Reply}
 use Rattle.apd_frame.specs.declared.replies.ReplyBody.{ReplyBody}
 use Rattle.apd_frame.specs.declared.replies.ReplyBody.TheVariants.{Auth, Assoc, Reassoc, Probe, Disassoc, Deauth}
-use Rattle.apd_frame.specs.Wire.{wire, status_code, aid_field, HasNumbers, IsReply, Carries, CarriesBody}
+use Rattle.apd_frame.specs.Wire.{wire, subtype_of, status_code, aid_field, HasNumbers, IsReply, Carries, CarriesBody}
 
 -- what holds of six cells holds of a list of length six
 for_six : (P : List ℕ → Type 0) → ((a b c d e f : ℕ) → P (a ∷ b ∷ c ∷ d ∷ e ∷ f ∷ [])) → (xs : List ℕ) → length xs ≡ 6 → P xs
@@ -65,79 +65,30 @@ body_cells (Probe beacon_interval ssid rates channel) n t u v w x y g h i j k l 
 body_cells (Disassoc reason) n t u v w x y g h i j k l = (refl, from_le_bytes-to_le_bytes_2 reason.0 n)
 body_cells (Deauth reason) n t u v w x y g h i j k l = (refl, from_le_bytes-to_le_bytes_2 reason.0 n)
 
+-- the first octet, of each kind
+first_octet : (b : ReplyBody) → (16 * subtype_of b % 4 ≡ 0) × (16 * subtype_of b / 4 % 4 ≡ 0) × (16 * subtype_of b / 16 ≡ subtype_of b)
+first_octet (Auth algorithm transaction status) = (refl, refl, refl)
+first_octet (Assoc response) = (refl, refl, refl)
+first_octet (Reassoc response) = (refl, refl, refl)
+first_octet (Probe beacon_interval ssid rates channel) = (refl, refl, refl)
+first_octet (Disassoc reason) = (refl, refl, refl)
+first_octet (Deauth reason) = (refl, refl, refl)
+
 cells : (b : ReplyBody) → HasNumbers b → (t u v w x y g h i j k l : ℕ) → IsCarried b (t ∷ u ∷ v ∷ w ∷ x ∷ y ∷ []) (g ∷ h ∷ i ∷ j ∷ k ∷ l ∷ [])
-cells (Auth algorithm transaction status) n t u v w x y g h i j k l = record {
-  version_zero = refl;
-  management = refl;
-  subtype_at = refl;
-  no_flag = refl;
-  no_duration = refl;
-  receiver_at = refl;
-  sender_at = refl;
-  bssid_at = refl;
-  no_sequence = refl;
-  body_at = body_cells (Auth algorithm transaction status) n t u v w x y g h i j k l;
-}
-cells (Assoc response) n t u v w x y g h i j k l = record {
-  version_zero = refl;
-  management = refl;
-  subtype_at = refl;
-  no_flag = refl;
-  no_duration = refl;
-  receiver_at = refl;
-  sender_at = refl;
-  bssid_at = refl;
-  no_sequence = refl;
-  body_at = body_cells (Assoc response) n t u v w x y g h i j k l;
-}
-cells (Reassoc response) n t u v w x y g h i j k l = record {
-  version_zero = refl;
-  management = refl;
-  subtype_at = refl;
-  no_flag = refl;
-  no_duration = refl;
-  receiver_at = refl;
-  sender_at = refl;
-  bssid_at = refl;
-  no_sequence = refl;
-  body_at = body_cells (Reassoc response) n t u v w x y g h i j k l;
-}
-cells (Probe beacon_interval ssid rates channel) n t u v w x y g h i j k l = record {
-  version_zero = refl;
-  management = refl;
-  subtype_at = refl;
-  no_flag = refl;
-  no_duration = refl;
-  receiver_at = refl;
-  sender_at = refl;
-  bssid_at = refl;
-  no_sequence = refl;
-  body_at = body_cells (Probe beacon_interval ssid rates channel) n t u v w x y g h i j k l;
-}
-cells (Disassoc reason) n t u v w x y g h i j k l = record {
-  version_zero = refl;
-  management = refl;
-  subtype_at = refl;
-  no_flag = refl;
-  no_duration = refl;
-  receiver_at = refl;
-  sender_at = refl;
-  bssid_at = refl;
-  no_sequence = refl;
-  body_at = body_cells (Disassoc reason) n t u v w x y g h i j k l;
-}
-cells (Deauth reason) n t u v w x y g h i j k l = record {
-  version_zero = refl;
-  management = refl;
-  subtype_at = refl;
-  no_flag = refl;
-  no_duration = refl;
-  receiver_at = refl;
-  sender_at = refl;
-  bssid_at = refl;
-  no_sequence = refl;
-  body_at = body_cells (Deauth reason) n t u v w x y g h i j k l;
-}
+cells b n t u v w x y g h i j k l =
+    let first = first_octet b in
+    record {
+      version_zero = first.0;
+      management = first.1;
+      subtype_at = first.2;
+      no_flag = refl;
+      no_duration = refl;
+      receiver_at = refl;
+      sender_at = refl;
+      bssid_at = refl;
+      no_sequence = refl;
+      body_at = body_cells b n t u v w x y g h i j k l;
+    }
 
 pub carried : (reply : Reply) → IsReply reply → Carries (wire reply) reply
 carried reply h =
