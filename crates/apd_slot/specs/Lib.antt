@@ -1,3 +1,4 @@
+pub mod Applying
 pub mod Rows
 pub mod Slots
 pub mod Wanted

@@ -1,5 +1,5 @@
 //! A slot: a radio, and the stations that it should have.
-ghost use Rattle.std.specs.Prelude.{◌≡◌, ◌≢◌, ◌≤◌, ◌⊎◌, ◌↔◌, ℕ, None, OnOk, OnErr, IfOk, IfErr, IsOk, IsTrue, true, false};
+ghost use Rattle.std.specs.Prelude.{◌≡◌, ◌≤◌, ◌⊎◌, ◌↔◌, ℕ, None, OnOk, OnErr, IfOk, IfErr, IsOk, IsTrue, true, false};
 ghost use Rattle.std.specs.FinMap as map;
 ghost use Rattle.std.specs.Option.{option_map};
 ghost use Rattle.apd_base.specs.Failures.{HasRisen};
@@ -44,9 +44,10 @@ pub struct Slot<R> {
 }
 
 impl<R: Radio> Slot<R> {
+    ghost use Rattle.apd_slot.specs.Applying.{IsGivenOut};
     ghost use Rattle.apd_slot.specs.Rows.{installed_rows};
     ghost use Rattle.apd_slot.specs.Slots.{IsExact};
-    ghost use Rattle.apd_slot.specs.Wanted.{Stations, wanted_after, wanted_by, installed_by, up_by, IsFrame, IsText, IsRemoval};
+    ghost use Rattle.apd_slot.specs.Wanted.{Stations};
 
     /// Takes the radio down. The slot is up, and no station is wanted. It takes no memory.
     pub fn new(alloc: Global, radio: R, bssid: Bssid) -> Slot<R>
@@ -123,26 +124,8 @@ impl<R: Radio> Slot<R> {
     /// Errors: as said; `NoMemory`, which leaves all as it was, so that the out can be given again. `Remove`
     /// and a text take no memory.
     pub fn apply(&mut self, out: &Out) -> Result<(), SlotFault>
-        ensures exact { IsExact R.stations self.old → IsExact R.stations self.new }
-        ensures wanted { self.new.wanted ≡ wanted_by out.now result self.old.wanted }
-        ensures installed { R.stations self.new.radio
-            ≡ installed_by out.now result self.old.up (R.stations self.old.radio) }
-        ensures up { self.new.up ≡ up_by result self.old.up }
-        ensures down { result ≡ Err SlotFault.WentDown
-            → (self.old.up ≡ true) × HasRisen (R.faults self.old.radio) (R.faults self.new.radio) }
-        ensures lost { result ≡ Err SlotFault.Lost
-            → IsFrame out.now × ((self.old.up ≡ false) ⊎ HasRisen (R.faults self.old.radio) (R.faults self.new.radio)) }
-        ensures silent { IsFrame out.now → self.old.up ≡ false → result ≡ Err SlotFault.Lost }
-        ensures frame { IsFrame out.now → result ≢ Err SlotFault.WentDown }
-        ensures not_mine { (result ≡ Err SlotFault.NotMine) ↔ IsText out.now }
-        ensures text { IsText out.now → self.new ≡ self.old }
-        ensures asleep { self.old.up ≡ false → self.new.radio ≡ self.old.radio }
-        ensures memory { IsRemoval out.now → result ≢ Err SlotFault.NoMemory }
-        ensures stays { OnOk result (R.faults self.new.radio ≡ R.faults self.old.radio) }
-        ensures short { result ≡ Err SlotFault.NoMemory → R.faults self.new.radio ≡ R.faults self.old.radio }
-        ensures count { R.faults self.old.radio ≤ R.faults self.new.radio }
+        ensures given { IsGivenOut R.stations R.faults out.now result self.old self.new }
         ensures frames { R.frames self.new.radio ≡ R.frames self.old.radio }
-        ensures bssid { self.new.bssid ≡ self.old.bssid }
     {
         match out {
             Out::Install(addr, aid) => self.install(*addr, aid.number),
