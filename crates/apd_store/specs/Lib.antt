@@ -1,3 +1,4 @@
+pub mod Beginning
 pub mod Commit
 pub mod Formatting
 pub mod Image

@@ -1,12 +1,8 @@
 //! A batch begun: the bytes of all its calls are laid down.
-ghost use Rattle.std.specs.Prelude.{◌≡◌, ◌≢◌, ◌↔◌, ◌≤◌, ◌<◌, ◌+◌, ◌^◌, ◌⊎◌, true, false, min, length, IfOk, OnOk, IfErr};
-ghost use Rattle.apd_base.specs.declared.limits.TheConstants.{MAX_GROUP};
+ghost use Rattle.std.specs.Prelude.{◌≡◌, ◌<◌, ◌+◌, ◌-◌, ◌^◌, true, false, min, IfOk, OnOk, IfErr};
 ghost use Rattle.apd_base.specs.State.{State};
-ghost use Rattle.apd_record.specs.Meaning.{meaning_of};
-ghost use Rattle.apd_record.specs.Record.{records_of};
 ghost use Rattle.apd_table.specs.Snapshot.{canonical};
-ghost use Rattle.apd_table.specs.Sound.{StaySound};
-ghost use Rattle.apd_journal.specs.Half.{IsGroup, begun_bytes};
+ghost use Rattle.apd_journal.specs.Half.{begun_bytes};
 
 use crate::fault::StoreFault;
 use crate::phase::Phase;
@@ -30,9 +26,10 @@ fn first_of_a_switch(other_open: bool) -> Phase
 }
 
 impl<D: Disk> Store<D> {
-    ghost use Rattle.apd_store.specs.Commit.{IsIdle, IsCommitting, IsWriting, HasRoom};
-    ghost use Rattle.apd_store.specs.Switch.{IsSnapshot, IsSwitching, FitsAnew};
-    ghost use Rattle.apd_store.specs.Outside.{device_of, phase_of, calls_left, batch_of, epoch_of, is_other_open, IsInside};
+    ghost use Rattle.apd_store.specs.Beginning.{IsBegun, IsNotBegun};
+    ghost use Rattle.apd_store.specs.Commit.{HasRoom};
+    ghost use Rattle.apd_store.specs.Switch.{IsSnapshot};
+    ghost use Rattle.apd_store.specs.Outside.{device_of, phase_of, epoch_of, IsInside};
 
     /// Lays down all bytes of the batch's group and, where it does not fit behind the closed gate, of the other
     /// half, which then begins anew with a snapshot of the table before it. The table is that of everything
@@ -46,36 +43,11 @@ impl<D: Disk> Store<D> {
     /// 65,536 bytes), and then `Worn` exactly where the epoch is the greatest. `NoMemory` may come in the place
     /// of the last two.
     pub fn begin(&mut self, batch: Batch, table: &Table) -> Result<(), (Batch, StoreFault)>
-        ensures inside { IsInside D.size self.old → IsInside D.size self.new }
-        ensures begun { IsIdle D.reads D.may_leave self.old table.now → IsGroup batch.changes
-            → StaySound batch.changes table.now
-            → OnOk result (IsCommitting D.reads D.may_leave self.new table.now (meaning_of batch.changes table.now)) }
-        ensures idle { OnOk result (phase_of self.old ≡ Phase.Idle) }
-        ensures calls { OnOk result ((4 ≤ calls_left self.new) × (calls_left self.new ≤ 10)) }
-        ensures four { HasRoom self.old batch.changes → OnOk result (calls_left self.new ≡ 4) }
-        ensures eight { ¬ HasRoom self.old batch.changes → is_other_open self.old ≡ false
-            → OnOk result (calls_left self.new ≡ 8) }
-        ensures ten { ¬ HasRoom self.old batch.changes → is_other_open self.old ≡ true
-            → OnOk result (calls_left self.new ≡ 10) }
-        ensures batch { OnOk result (batch_of self.new ≡ batch) }
-        ensures device { device_of self.new ≡ device_of self.old }
+        ensures begun { OnOk result (IsBegun D.reads D.may_leave batch table.now self.old self.new) }
         ensures refused { IfErr result (λ e. (e.0 ≡ batch) × (self.new ≡ self.old)) }
-        ensures failed { IfErr result (λ e. (e.1 ≡ StoreFault.Failed) ↔ (phase_of self.old ≡ Phase.Failed)) }
-        ensures not_idle { IfErr result
-            (λ e. (e.1 ≡ StoreFault.NotIdle)
-            ↔ ((phase_of self.old ≢ Phase.Failed) × (phase_of self.old ≢ Phase.Idle))) }
-        ensures bad { IfErr result
-            (λ e. e.1 ≡ StoreFault.BadBatch
-            → (¬ HasRoom self.old batch.changes) × (¬ FitsAnew table.now batch.changes)) }
-        ensures long { IfErr result (λ e. e.1 ≡ StoreFault.BadBatch → MAX_GROUP < length (records_of batch.changes)) }
-        ensures worn { IfErr result
-            (λ e. e.1 ≡ StoreFault.Worn → (¬ HasRoom self.old batch.changes) × FitsAnew table.now batch.changes
-            × (2 ^ 64 ≤ epoch_of self.old + 1)) }
-        ensures anew { ¬ HasRoom self.old batch.changes → OnOk result (FitsAnew table.now batch.changes) }
-        ensures lasts { ¬ HasRoom self.old batch.changes → OnOk result (epoch_of self.old + 1 < 2 ^ 64) }
-        ensures only { IfErr result
-            (λ e. (e.1 ≡ StoreFault.Failed) ⊎ (e.1 ≡ StoreFault.NotIdle) ⊎ (e.1 ≡ StoreFault.BadBatch)
-            ⊎ (e.1 ≡ StoreFault.Worn) ⊎ (e.1 ≡ StoreFault.NoMemory)) }
+        ensures why { IfErr result (λ e. IsNotBegun batch table.now self.old e.1) }
+        ensures device { device_of self.new ≡ device_of self.old }
+        ensures inside { IsInside D.size self.old → IsInside D.size self.new }
     {
         match self.phase {
             Phase::Idle => {}
@@ -93,11 +65,7 @@ impl<D: Disk> Store<D> {
         requires room { HasRoom self.old batch.changes }
         requires idle { phase_of self.old ≡ Phase.Idle }
         ensures inside { IsInside D.size self.old → IsInside D.size self.new }
-        ensures begun { (state : State) → IsIdle D.reads D.may_leave self.old state → IsGroup batch.changes
-            → StaySound batch.changes state
-            → OnOk result (IsWriting D.reads D.may_leave self.new state (meaning_of batch.changes state)) }
-        ensures calls { OnOk result (calls_left self.new ≡ 4) }
-        ensures batch { OnOk result (batch_of self.new ≡ batch) }
+        ensures begun { (state : State) → OnOk result (IsBegun D.reads D.may_leave batch state self.old self.new) }
         ensures device { device_of self.new ≡ device_of self.old }
         ensures refused { IfErr result (λ e. (e.0 ≡ batch) × (self.new ≡ self.old)) }
         ensures only { IfErr result (λ e. e.1 ≡ StoreFault.NoMemory) }
@@ -124,24 +92,13 @@ impl<D: Disk> Store<D> {
 
     // Plans the calls of a switch, and the four of the group behind the snapshot.
     fn begin_switch(&mut self, batch: Batch, table: &Table) -> Result<(), (Batch, StoreFault)>
+        requires room { ¬ HasRoom self.old batch.changes }
         requires idle { phase_of self.old ≡ Phase.Idle }
         ensures inside { IsInside D.size self.old → IsInside D.size self.new }
-        ensures begun { IsIdle D.reads D.may_leave self.old table.now → IsGroup batch.changes
-            → StaySound batch.changes table.now
-            → OnOk result (IsSwitching D.reads D.may_leave self.new table.now (meaning_of batch.changes table.now)) }
-        ensures eight { is_other_open self.old ≡ false → OnOk result (calls_left self.new ≡ 8) }
-        ensures ten { is_other_open self.old ≡ true → OnOk result (calls_left self.new ≡ 10) }
-        ensures batch { OnOk result (batch_of self.new ≡ batch) }
-        ensures device { device_of self.new ≡ device_of self.old }
+        ensures begun { OnOk result (IsBegun D.reads D.may_leave batch table.now self.old self.new) }
         ensures refused { IfErr result (λ e. (e.0 ≡ batch) × (self.new ≡ self.old)) }
-        ensures bad { IfErr result (λ e. e.1 ≡ StoreFault.BadBatch → ¬ FitsAnew table.now batch.changes) }
-        ensures long { IfErr result (λ e. e.1 ≡ StoreFault.BadBatch → MAX_GROUP < length (records_of batch.changes)) }
-        ensures worn { IfErr result
-            (λ e. e.1 ≡ StoreFault.Worn → FitsAnew table.now batch.changes × (2 ^ 64 ≤ epoch_of self.old + 1)) }
-        ensures anew { OnOk result (FitsAnew table.now batch.changes) }
-        ensures lasts { OnOk result (epoch_of self.old + 1 < 2 ^ 64) }
-        ensures only { IfErr result
-            (λ e. (e.1 ≡ StoreFault.BadBatch) ⊎ (e.1 ≡ StoreFault.Worn) ⊎ (e.1 ≡ StoreFault.NoMemory)) }
+        ensures why { IfErr result (λ e. IsNotBegun batch table.now self.old e.1) }
+        ensures device { device_of self.new ≡ device_of self.old }
     {
         let Ok(fresh) = self.new_half(table) else {
             return Err((batch, StoreFault::NoMemory));

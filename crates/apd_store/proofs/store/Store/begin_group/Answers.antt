@@ -1,10 +1,20 @@
-use Rattle.std.proofs.Common.{refl, arith}
+use Rattle.std.proofs.Common.{inr, refl, arith}
 use Rattle.apd_store.specs.declared.phase.Phase.TheVariants.{WriteGroup}
 use Rattle.apd_store.proofs.SwitchSteps.{group_begins}
 use Rattle.apd_store.proofs.store.Store.begin_group.Goals as goal
 
 pub returns-clause-begun : goal.returns-clause-begun
-returns-clause-begun g c = λ state idle group sound.
+returns-clause-begun g c = λ state.
     let store = c.args.self.now in
-    group_begins g.D.Disk.reads g.D.Disk.may_leave store (record store { phase = WriteGroup; batch = c.args.batch; plan = c.in-Ok.plan }) state idle group sound refl refl refl refl refl refl
-    c.requires.room (omega (arith, c.in-Ok.ensures.place, c.requires.room)) c.in-Ok.ensures.bytes
+    record {
+      was_idle = c.requires.idle;
+      batch_is = refl;
+      committing = λ idle group sound. inr (group_begins g.D.Disk.reads g.D.Disk.may_leave store (record store { phase = WriteGroup; batch = c.args.batch; plan = c.in-Ok.plan }) state idle group sound refl refl refl refl refl refl
+          c.requires.room (omega (arith, c.in-Ok.ensures.place, c.requires.room)) c.in-Ok.ensures.bytes);
+      some_calls = (omega arith, omega arith);
+      four_calls = λ room. refl;
+      eight_calls = λ none side. absurd (none c.requires.room);
+      ten_calls = λ none side. absurd (none c.requires.room);
+      anew = λ none. absurd (none c.requires.room);
+      lasts = λ none. absurd (none c.requires.room);
+    }
