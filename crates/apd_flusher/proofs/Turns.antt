@@ -1,6 +1,6 @@
 -- What a stop shows of a flusher, and within one turn.
 use Rattle.std.proofs.Common.{◌≡◌, ◌≤◌, ◌+◌, ◌⊎◌, inl, inr, ⊎_elim, ℕ, List, refl, sym, ◌∙◌, ap, subst, arith}
-use Rattle.std.specs.Prelude.{Result, Ok, Err, OnOk, OnErr, is_ok, Option, Some, None, IsSome, OnSome}
+use Rattle.std.specs.Prelude.{Result, Ok, Err, OnOk, Option, Some, None, IsSome, OnSome}
 use Rattle.std.proofs.lemmas.Bool.{false≢true}
 use Rattle.apd_base.specs.State.{State}
 use Rattle.apd_record.specs.declared.change.Change.{Change}
@@ -123,19 +123,6 @@ pub settles : {D : Type 0} (reads : D → List ℕ) (may_leave : D → List ℕ 
     → ((state after : State) → IsCommitting reads may_leave old.store state after → IsIdle reads may_leave now.store after) → now.tables ≡ alone old.tables.staged
     → (state after : State) → IsFlushing reads may_leave old state after → IsSteady reads may_leave now after
 settles reads may_leave old now settled tables state after s = record { idle = settled state after s.committing; table = ap (λ (t : StagedTables). t.table) tables ∙ s.next }
-
--- of two answers of one kind
-pub on_ok_as : {T U E : Type 0} (r : Result T E) (s : Result U E) (A B : Type 0) → is_ok s ≡ is_ok r → OnOk r A → (A → B) → OnOk s B
-on_ok_as (Ok t) (Ok u) A B same a go = go a
-on_ok_as (Ok t) (Err e) A B same a go = tt
-on_ok_as (Err e) (Ok u) A B same a go = absurd (false≢true (sym same))
-on_ok_as (Err e) (Err f) A B same a go = tt
-
-pub on_err_as : {T U E : Type 0} (r : Result T E) (s : Result U E) (A : Type 0) → is_ok s ≡ is_ok r → OnErr r A → OnErr s A
-on_err_as (Ok t) (Ok u) A same a = tt
-on_err_as (Ok t) (Err e) A same a = absurd (false≢true same)
-on_err_as (Err e) (Ok u) A same a = tt
-on_err_as (Err e) (Err f) A same a = a
 
 -- of a receipt that is there, in an answer that hands it out
 pub some_to_ok : {T E : Type 0} (o : Option T) (r : Result T E) (Q : Type 0) → IsSome o → OnSome o Q → OnOk r Q

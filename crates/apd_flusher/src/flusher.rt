@@ -4,7 +4,6 @@ ghost use Rattle.std.specs.Prelude.{◌≡◌, ◌≢◌, ◌↔◌, ◌≤◌, 
 ghost use Rattle.apd_base.specs.Failures.{HasRisen};
 ghost use Rattle.apd_base.specs.State.{State};
 ghost use Rattle.apd_record.specs.Meaning.{meaning_of};
-ghost use Rattle.apd_disk.specs.Disk.{LeavesOnly};
 ghost use Rattle.apd_store.specs.Commit.{IsIdle};
 ghost use Rattle.apd_store.specs.Image.{Shows};
 ghost use Rattle.apd_store.specs.Outside.{device_of as store_device, held_batch};
@@ -28,8 +27,10 @@ pub struct Flusher<D: Disk> {
 }
 
 impl<D: Disk> Flusher<D> {
-    ghost use Rattle.apd_flusher.specs.Flushing.{IsSteady, IsFlushing, IsStuck, Stands, StopShows, IsGood, HasRoom, IsInside, MayCommit, IsRefused};
-    ghost use Rattle.apd_flusher.specs.Outside.{store_of, device_of, phase_of, calls_left, batch_of, epoch_of, table_of, next_of};
+    ghost use Rattle.apd_flusher.specs.Flushing.{IsSteady, IsFlushing, Stands, StopShows, IsGood, HasRoom, IsInside, IsRefused, MayCommit};
+    ghost use Rattle.apd_flusher.specs.Loading.{IsLoaded, IsNotLoaded};
+    ghost use Rattle.apd_flusher.specs.Turning.{IsTurn, IsTurned, IsHonestTurn, IsNotTurned};
+    ghost use Rattle.apd_flusher.specs.Outside.{store_of, device_of, phase_of, calls_left, batch_of, table_of, next_of};
 
     /// A flusher of a store and the table of everything that it has committed, as `format` and `recover` of
     /// the store give them. It copies the table once.
@@ -91,33 +92,14 @@ impl<D: Disk> Flusher<D> {
     /// unsound; `Worn` exactly where the group does not fit and the epoch is the greatest. `NoMemory` may come
     /// in the place of the last two. A refusal leaves phase, table and device.
     pub fn load(&mut self, batch: Batch) -> Result<(), (Batch, StoreFault)>
-        ensures loaded { (state : State) → IsSteady D.reads D.may_leave self.old state
+        ensures flushing { (state : State) → IsSteady D.reads D.may_leave self.old state
             → OnOk result (IsFlushing D.reads D.may_leave self.new state (meaning_of batch.changes state)) }
-        ensures idle { OnOk result (phase_of self.old ≡ Phase.Idle) }
-        ensures busy { OnOk result (phase_of self.new ≡ Phase.Busy) }
-        ensures calls { OnOk result ((4 ≤ calls_left self.new) × (calls_left self.new ≤ 10)) }
-        ensures four { HasRoom self.old batch.changes → OnOk result (calls_left self.new ≡ 4) }
-        ensures batch { OnOk result (batch_of self.new ≡ batch) }
-        ensures next { OnOk result (next_of self.new ≡ meaning_of batch.changes (table_of self.old)) }
-        ensures good { OnOk result (IsGood batch.changes (table_of self.old)) }
-        ensures lasts { ¬ HasRoom self.old batch.changes → OnOk result (epoch_of self.old + 1 < 2 ^ 64) }
-        ensures table { table_of self.new ≡ table_of self.old }
+        ensures loaded { OnOk result (IsLoaded batch self.old self.new) }
+        ensures refused { IfErr result (λ e. IsNotLoaded e.1 batch self.old self.new) }
+        ensures back { IfErr result (λ e. e.0 ≡ batch) }
+        ensures rest { phase_of self.old ≢ Phase.Idle → self.new ≡ self.old }
         ensures device { device_of self.new ≡ device_of self.old }
         ensures inside { IsInside D.size self.old → IsInside D.size self.new }
-
-        ensures back { IfErr result (λ e. e.0 ≡ batch) }
-        ensures stays { OnErr result (store_of self.new ≡ store_of self.old) }
-        ensures rest { phase_of self.old ≢ Phase.Idle → self.new ≡ self.old }
-        ensures failed { IfErr result (λ e. (e.1 ≡ StoreFault.Failed) ↔ (phase_of self.old ≡ Phase.Failed)) }
-        ensures not_idle { IfErr result (λ e. (e.1 ≡ StoreFault.NotIdle)
-            ↔ ((phase_of self.old ≡ Phase.Busy) ⊎ (phase_of self.old ≡ Phase.Done))) }
-        ensures bad { IfErr result (λ e. e.1 ≡ StoreFault.BadBatch → ¬ IsGood batch.changes (table_of self.old)) }
-        ensures worn { IfErr result (λ e. e.1 ≡ StoreFault.Worn
-            → IsGood batch.changes (table_of self.old) × (¬ HasRoom self.old batch.changes)
-            × (2 ^ 64 ≤ epoch_of self.old + 1)) }
-        ensures only { IfErr result
-            (λ e. (e.1 ≡ StoreFault.Failed) ⊎ (e.1 ≡ StoreFault.NotIdle) ⊎ (e.1 ≡ StoreFault.BadBatch)
-            ⊎ (e.1 ≡ StoreFault.Worn) ⊎ (e.1 ≡ StoreFault.NoMemory)) }
     {
         match self.phase() {
             Phase::Idle => {}
@@ -156,50 +138,19 @@ impl<D: Disk> Flusher<D> {
     /// Errors: `Device` where the device failed in this call, and it is `Failed` for good; `Failed` in that
     /// phase. A flusher whose store lies inside its device answers `Failed` only after a `Device`.
     pub fn turn(&mut self) -> Result<(), StoreFault>
-        // A stop at some moment since the call began shows what the phase before it says.
-        ensures any_moment { (state after : State) → D.honest (device_of self.old)
-            → Stands D.reads D.may_leave self.old state after
-            → LeavesOnly D.moment D.left_since (device_of self.old) (device_of self.new)
-            (StopShows (phase_of self.old) (calls_left self.old) state after) }
-        ensures on { (state after : State) → D.honest (device_of self.old)
-            → IsFlushing D.reads D.may_leave self.old state after
-            → OnOk result (IsFlushing D.reads D.may_leave self.new state after) }
-        ensures stuck { (state after : State) → D.honest (device_of self.old)
-            → IsFlushing D.reads D.may_leave self.old state after
-            → OnErr result (IsStuck D.may_leave self.new state after) }
-        ensures stuck_early { (state after : State) → D.honest (device_of self.old)
-            → IsFlushing D.reads D.may_leave self.old state after
-            → 2 < calls_left self.old → OnErr result (IsStuck D.may_leave self.new state state) }
-
-        // It makes the call that is next, and no other: each call takes the device's moment on by one at most.
-        ensures one_call { D.honest (device_of self.old)
-            → D.moment (device_of self.new) ≤ D.moment (device_of self.old) + 1 }
-        ensures step { phase_of self.old ≡ Phase.Busy → OnOk result (calls_left self.new + 1 ≡ calls_left self.old) }
-        ensures busy { phase_of self.old ≡ Phase.Busy
-            → OnOk result ((phase_of self.new ≡ Phase.Busy) ⊎ (phase_of self.new ≡ Phase.Done)) }
-        ensures done { OnOk result ((phase_of self.new ≡ Phase.Done)
-            ↔ ((calls_left self.old ≡ 1) ⊎ (phase_of self.old ≡ Phase.Done))) }
-        ensures rest { phase_of self.old ≢ Phase.Busy → self.new ≡ self.old }
+        ensures turn { IsTurn D.honest D.moment D.size D.failed self.old self.new }
+        ensures turned { OnOk result (IsTurned D.failed self.old self.new) }
+        ensures fault { IfErr result (IsNotTurned D.size D.failed self.old self.new) }
+        ensures honest { D.honest (device_of self.old) → (state after : State)
+            → IsHonestTurn D.reads D.may_leave D.moment D.left_since result self.old self.new state after }
         ensures quiet { (phase_of self.old ≡ Phase.Idle) ⊎ (phase_of self.old ≡ Phase.Done) → IsOk result }
-        ensures batch { batch_of self.new ≡ batch_of self.old }
-        ensures table { table_of self.new ≡ table_of self.old }
-        ensures next { next_of self.new ≡ next_of self.old }
-        ensures honest { D.honest (device_of self.old) ↔ D.honest (device_of self.new) }
-        ensures inside { IsInside D.size self.old → IsInside D.size self.new }
-
-        ensures err { OnErr result (phase_of self.new ≡ Phase.Failed) }
-        ensures only { OnErr result ((result ≡ Err StoreFault.Device) ⊎ (result ≡ Err StoreFault.Failed)) }
         ensures failed { phase_of self.old ≡ Phase.Failed → result ≡ Err StoreFault.Failed }
-        ensures only_after { IsInside D.size self.old → IsErrOf result StoreFault.Failed
-            → phase_of self.old ≡ Phase.Failed }
-        ensures no_call { IsErrOf result StoreFault.Failed → device_of self.new ≡ device_of self.old }
-        ensures count { D.failed (device_of self.old) ≤ D.failed (device_of self.new) }
-        ensures no_fault { OnOk result (D.failed (device_of self.new) ≡ D.failed (device_of self.old)) }
-        ensures device { IsErrOf result StoreFault.Device
-            → HasRisen (D.failed (device_of self.old)) (D.failed (device_of self.new)) }
     {
         self.shown();
-        self.store.next_call().map(|_| ())
+        match self.store.next_call() {
+            Ok(_) => Ok(()),
+            Err(fault) => Err(fault),
+        }
     }
 
     /// The receipt of the batch whose last call succeeded, once; the flusher is then idle, and its table the

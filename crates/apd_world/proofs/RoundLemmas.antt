@@ -23,6 +23,7 @@ use Rattle.apd_store.specs.declared.store.Store.{Store}
 use Rattle.apd_core.specs.Core.{CoreState, batch_of, front_of, IsFlight}
 use Rattle.apd_core.specs.Heard.{LastHeard}
 use Rattle.apd_core.specs.declared.publish_fault.PublishFault.TheVariants as publish_fault
+use Rattle.apd_flusher.specs.Loading.{IsNotLoaded}
 use Rattle.apd_flusher.proofs.Turns.{quiet_or_busy, under_way}
 use Rattle.apd_flusher.specs.Flushing.{IsGood}
 use Rattle.apd_flusher.specs.Outside.{calls_left, phase_of, table_of}
@@ -37,7 +38,7 @@ use Rattle.apd_world.specs.Round.{ComesTo, HasRoomForNext, IsRound, LacksMemory,
 use Rattle.apd_world.specs.Run.{IsStep}
 use Rattle.apd_world.specs.Shown.{ShowsEither, ShowsFront, state_after_flight}
 use Rattle.apd_world.specs.Steps.{Account, account, all_given, nothing_yet}
-use Rattle.apd_world.specs.Telling.{HasNoBatch, HasNoCall, HasNoReceipt, IsCalled, IsNext, IsNextReceipt, IsPublished, IsRefused, IsTakenUp, Tells, after_call}
+use Rattle.apd_world.specs.Telling.{HasNoBatch, HasNoCall, HasNoReceipt, IsCalled, IsNext, IsNextReceipt, IsPublished, IsTakenUp, Tells, after_call}
 use Rattle.apd_world.specs.declared.durable_core.DurableCore.{DurableCore}
 use Rattle.apd_world.specs.declared.step.Commit.{Commit}
 use Rattle.apd_world.specs.declared.step.Commit.TheVariants as commit
@@ -241,7 +242,7 @@ module _ {D : Type 0} (honest : D → Type 0) (reads : D → List ℕ) (may_leav
         let own : batch_of start.core ≡ batch = (let both : Some (batch_of start.core) ≡ Some batch = sym w.batch ∙ waits in cc) in
         subst (λ (s : State). IsGood batch.changes s) same_settled (subst (λ (x : Batch). IsGood x.changes start.core.settled) own w.good)
 
-    pub refused_comes : (fault : StoreFault) (new : DurableCore D) → IsRefused fault batch old.flusher start.flusher → ComesTo failed (commit.Refused fault) old new
+    pub refused_comes : (fault : StoreFault) (new : DurableCore D) → IsNotLoaded fault batch old.flusher start.flusher → ComesTo failed (commit.Refused fault) old new
     refused_comes fault new h =
         let r = ready honest reads may_leave batch old start.core next (λ none. good) p.stands in
         let idle : phase_of old.flusher ≡ Idle = ap phase_from r.steady.idle.phase in

@@ -1,5 +1,5 @@
 -- What each step does, and what it tells.
-use Rattle.std.specs.Prelude.{◌≡◌, ◌⊎◌, ◌↔◌, ◌≤◌, ◌+◌, ◌^◌, List, length, Option, Some, None, Result, Ok, Err, true, max, IsTrue}
+use Rattle.std.specs.Prelude.{◌≡◌, ◌⊎◌, ◌↔◌, ◌≤◌, ◌+◌, List, length, Option, Some, None, Result, Ok, Err, true, max, IsTrue}
 use Rattle.apd_base.specs.declared.moment.Moment.{Moment}
 use Rattle.apd_ctrl.specs.declared.command.Query.{Query}
 use Rattle.apd_journal.specs.declared.batch.Batch.{Batch}
@@ -19,8 +19,8 @@ use Rattle.apd_core.specs.declared.publish_fault.PublishFault.{PublishFault}
 use Rattle.apd_core.specs.declared.publish_fault.PublishFault.TheVariants as publish_fault
 use Rattle.apd_core.specs.declared.ticket.Accepted.{Accepted as CoreAccepted}
 use Rattle.apd_core.specs.declared.ticket.Accepted.TheVariants as core_accepted
-use Rattle.apd_flusher.specs.Flushing.{IsGood, HasRoom}
-use Rattle.apd_flusher.specs.Outside.{store_of, phase_of, calls_left, batch_of, epoch_of, table_of, next_of}
+use Rattle.apd_flusher.specs.Loading.{IsLoaded, IsNotLoaded}
+use Rattle.apd_flusher.specs.Outside.{phase_of, calls_left, batch_of, table_of, next_of}
 use Rattle.apd_flusher.specs.declared.flusher.Flusher.{Flusher}
 use Rattle.apd_flusher.specs.declared.phase.Phase.TheVariants as phase
 use Rattle.apd_world.specs.Steps.{entered_as}
@@ -55,31 +55,10 @@ IsNext batch old core =
     ((old.batch ≡ Some batch) × (core ≡ old.core))
     ⊎ ((old.batch ≡ None) × (¬ IsTrue (cannot_take old.core)) × IsTaken batch old.core core)
 
--- the flusher took the batch
-pub record IsLoaded {D : Type 0} (batch : Batch) (old new : Flusher D) : Type 0 where
-  pub was_idle : phase_of old ≡ phase.Idle
-  pub busy : phase_of new ≡ phase.Busy
-  pub some_calls : (4 ≤ calls_left new) × (calls_left new ≤ 10)
-  pub four_calls : HasRoom old batch.changes → calls_left new ≡ 4
-  pub batch_is : batch_of new ≡ batch
-  pub good : IsGood batch.changes (table_of old)
-  pub table : table_of new ≡ table_of old
-
--- it refused the batch, for this reason
-pub record IsRefused {D : Type 0} (fault : StoreFault) (batch : Batch) (old new : Flusher D) : Type 0 where
-  pub stays : store_of new ≡ store_of old
-  pub table : table_of new ≡ table_of old
-  pub failed : (fault ≡ store_fault.Failed) ↔ (phase_of old ≡ phase.Failed)
-  pub not_idle : (fault ≡ store_fault.NotIdle) ↔ ((phase_of old ≡ phase.Busy) ⊎ (phase_of old ≡ phase.Done))
-  pub bad : fault ≡ store_fault.BadBatch → ¬ IsGood batch.changes (table_of old)
-  pub worn : fault ≡ store_fault.Worn → IsGood batch.changes (table_of old) × (¬ HasRoom old batch.changes)
-      × (2 ^ 64 ≤ epoch_of old + 1)
-  pub few : (fault ≡ store_fault.Failed) ⊎ (fault ≡ store_fault.NotIdle) ⊎ (fault ≡ store_fault.BadBatch)
-      ⊎ (fault ≡ store_fault.Worn) ⊎ (fault ≡ store_fault.NoMemory)
-
+-- the flusher took the batch, or refused it
 abbrev pub LoadTells : {D : Type 0} → Result (Unit {0}) StoreFault → Batch → Flusher D → Flusher D → Type 0
 LoadTells (Ok _) batch old new = IsLoaded batch old new
-LoadTells (Err fault) batch old new = IsRefused fault batch old new
+LoadTells (Err fault) batch old new = IsNotLoaded fault batch old new
 
 -- a batch that is refused waits
 abbrev pub waiting : Result (Unit {0}) StoreFault → Batch → Option Batch

@@ -10,5 +10,7 @@ loop-self-init g c = turned_none g.D.Disk.honest g.D.Disk.reads g.D.Disk.may_lea
 pub loop-self-preserved : goal.loop-self-preserved
 loop-self-preserved g c =
     let busy : phase_of c.loop-self.self ≡ Busy = search rules in
+    let t = c.turn.ensures.turn in
+    let turned = c.in_ok-turn.ensures.turned in
     turned_more g.D.Disk.honest g.D.Disk.reads g.D.Disk.may_leave g.D.Disk.moment g.D.Disk.size g.D.Disk.failed c.args.self.now c.loop-self.self c.turn.new.self c.loop-self.invariant busy
-    c.in_ok-turn.ensures.on c.turn.ensures.batch c.turn.ensures.inside c.turn.ensures.honest.0 c.turn.ensures.one_call (c.in_ok-turn.ensures.step busy) c.in_ok-turn.ensures.no_fault (c.in_ok-turn.ensures.busy busy)
+    (λ state after h. (c.in_ok-turn.ensures.honest h state after).on) t.batch_is t.inside t.stays_honest.0 t.one_call (turned.step busy) turned.no_fault (turned.busy busy)

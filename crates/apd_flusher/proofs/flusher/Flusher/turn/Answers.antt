@@ -1,15 +1,24 @@
-use Rattle.apd_flusher.proofs.Turns.{turn_run, on_ok_as, on_err_as}
+use Rattle.apd_flusher.proofs.Turns.{turn_run}
 use Rattle.apd_flusher.proofs.flusher.Flusher.turn.Goals as goal
 
-pub returns-clause-any_moment : goal.returns-clause-any_moment
-returns-clause-any_moment g c = λ state after h stands.
+pub returns-in-Err-clause-honest : goal.returns-in-Err-clause-honest
+returns-in-Err-clause-honest g c = λ h state after.
     let old = c.args.self.now in
-    turn_run g.D.Disk.reads g.D.Disk.may_leave old state after g.D.Disk.moment g.D.Disk.left_since c.next_call.new.self stands
-    (λ i left. c.shown.ensures.shown state after stands i (g.met.D.Disk.only_now old.store.device i h left)) c.next_call.ensures.rest (c.next_call.ensures.any_moment state after h)
+    record {
+      any_moment = λ stands. turn_run g.D.Disk.reads g.D.Disk.may_leave old state after g.D.Disk.moment g.D.Disk.left_since c.next_call.new.self stands
+          (λ i left. c.shown.ensures.shown state after stands i (g.met.D.Disk.only_now old.store.device i h left)) c.next_call.ensures.rest (c.next_call.ensures.any_moment state after h);
+      on = λ s. tt;
+      stuck = λ s. c.in-Err.ensures.stuck state after h s.committing;
+      stuck_early = λ s early. c.in-Err.ensures.stuck_early state after h s.committing early;
+    }
 
-pub returns-clause-on : goal.returns-clause-on
-returns-clause-on g c = λ state after h s. on_ok_as c.next_call.result c.map.result _ _ c.map.ensures.variant (c.next_call.ensures.on state after h s.committing)
-    (λ going. record { committing = going; table = s.table; next = s.next })
-
-pub returns-clause-stuck_early : goal.returns-clause-stuck_early
-returns-clause-stuck_early g c = λ state after h s early. on_err_as c.next_call.result c.map.result _ c.map.ensures.variant (c.next_call.ensures.stuck_early state after h s.committing early)
+pub returns-in-Ok-clause-honest : goal.returns-in-Ok-clause-honest
+returns-in-Ok-clause-honest g c = λ h state after.
+    let old = c.args.self.now in
+    record {
+      any_moment = λ stands. turn_run g.D.Disk.reads g.D.Disk.may_leave old state after g.D.Disk.moment g.D.Disk.left_since c.next_call.new.self stands
+          (λ i left. c.shown.ensures.shown state after stands i (g.met.D.Disk.only_now old.store.device i h left)) c.next_call.ensures.rest (c.next_call.ensures.any_moment state after h);
+      on = λ s. record { committing = c.in-Ok.ensures.on state after h s.committing; table = s.table; next = s.next };
+      stuck = λ s. tt;
+      stuck_early = λ s early. tt;
+    }

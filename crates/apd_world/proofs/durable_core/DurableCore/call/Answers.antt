@@ -36,20 +36,20 @@ returns-in-Ok g c =
     let busy : phase_of old.flusher ≡ Busy = ⊎_elim (λ busy. busy) (λ failed. absurd (ok failed)) some in
     let is : IsCalled (Ok tt) old new = record {
       some_call = some;
-      tells = (t.step busy, called_done _ busy t.done, t.busy busy);
-      batch_is = t.batch;
-      table = t.table;
-      next = t.next;
+      tells = (t.turned.step busy, called_done _ busy t.turned.done, t.turned.busy busy);
+      batch_is = t.turn.batch_is;
+      table = t.turn.table;
+      next = t.turn.next;
       only = refl;
     } in
     let step = call_step old new (Ok tt) old.core.failed refl is in
     record {
       step = step;
-      one_call = t.one_call;
-      count = t.count;
+      one_call = t.turn.one_call;
+      count = t.turn.count;
       fault = λ told. ok_not_fault tt _ told;
-      safe = safe_call g.D.Disk.honest g.D.Disk.reads g.D.Disk.may_leave g.D.Disk.moment g.D.Disk.left_since g.D.Disk.size old new t.honest.0 t.inside some t.any_moment step.spoken
-          (λ honest inside way. call_on g.D.Disk.honest g.D.Disk.reads g.D.Disk.may_leave old new way refl t.batch refl refl (λ state after f. t.on state after honest f) ok);
+      safe = safe_call g.D.Disk.honest g.D.Disk.reads g.D.Disk.may_leave g.D.Disk.moment g.D.Disk.left_since g.D.Disk.size old new t.turn.stays_honest.0 t.turn.inside some (λ state after honest. (t.honest honest state after).any_moment) step.spoken
+          (λ honest inside way. call_on g.D.Disk.honest g.D.Disk.reads g.D.Disk.may_leave old new way refl t.turn.batch_is refl refl (λ state after f. (t.honest honest state after).on f) ok);
     }
 
 pub returns-in-Err : goal.returns-in-Err
@@ -65,23 +65,23 @@ returns-in-Err g c =
     let f = beside.is in
     let is : IsCalled (Err fault) old new = record {
       some_call = some;
-      tells = (t.err, (λ failed. err_same _ _ (t.failed failed)), ⊎_elim (λ device. inl (err_same _ _ device)) (λ failed. inr (err_same _ _ failed)) t.only);
-      batch_is = t.batch;
-      table = t.table;
-      next = t.next;
+      tells = (t.fault.phase, (λ failed. err_same _ _ (t.failed failed)), t.fault.few);
+      batch_is = t.turn.batch_is;
+      table = t.turn.table;
+      next = t.turn.next;
       only = refl;
     } in
     let step = call_step old new (Err fault) beside.failed f is in
-    let safe = safe_call g.D.Disk.honest g.D.Disk.reads g.D.Disk.may_leave g.D.Disk.moment g.D.Disk.left_since g.D.Disk.size old new t.honest.0 t.inside some t.any_moment step.spoken
-    (λ honest inside way. call_failed g.D.Disk.honest g.D.Disk.reads g.D.Disk.may_leave old new way (ap (λ (s : CoreState). s.flight) f) (ap (λ (s : CoreState). s.settled) f) (ap batch_of f) t.batch refl refl
-    (λ state after h. t.stuck state after honest h) (λ failed. t.rest (λ busy. failed_not_busy _ failed busy))
-    (⊎_elim (λ device. inr (ap (λ (e : StoreFault). (after_call (Err e) old.core).failed) (err_same _ _ device))) (λ told. inl (t.only_after inside told)) t.only)
+    let safe = safe_call g.D.Disk.honest g.D.Disk.reads g.D.Disk.may_leave g.D.Disk.moment g.D.Disk.left_since g.D.Disk.size old new t.turn.stays_honest.0 t.turn.inside some (λ state after honest. (t.honest honest state after).any_moment) step.spoken
+    (λ honest inside way. call_failed g.D.Disk.honest g.D.Disk.reads g.D.Disk.may_leave old new way (ap (λ (s : CoreState). s.flight) f) (ap (λ (s : CoreState). s.settled) f) (ap batch_of f) t.turn.batch_is refl refl
+    (λ state after h. (t.honest honest state after).stuck h) (λ failed. t.turn.rest (λ busy. failed_not_busy _ failed busy))
+    (⊎_elim (λ device. inr (ap (λ (e : StoreFault). (after_call (Err e) old.core).failed) device)) (λ told. inl (t.fault.only_after inside told)) t.fault.few)
     (stays_failed fault old.core)) in
     let device : device_of c.fail_on.new.self ≡ device_of mid = ap device_of now in
     record {
-      one_call = λ honest. subst (λ (d : _). g.D.Disk.moment d ≤ g.D.Disk.moment (device_of old) + 1) (sym device) (t.one_call honest);
-      count = subst (λ (d : _). g.D.Disk.failed (device_of old) ≤ g.D.Disk.failed d) (sym device) t.count;
-      fault = λ told. subst (λ (d : _). HasRisen (g.D.Disk.failed (device_of old)) (g.D.Disk.failed d)) (sym device) (t.device (same_called _ _ told));
+      one_call = λ honest. subst (λ (d : _). g.D.Disk.moment d ≤ g.D.Disk.moment (device_of old) + 1) (sym device) (t.turn.one_call honest);
+      count = subst (λ (d : _). g.D.Disk.failed (device_of old) ≤ g.D.Disk.failed d) (sym device) t.turn.count;
+      fault = λ told. subst (λ (d : _). HasRisen (g.D.Disk.failed (device_of old)) (g.D.Disk.failed d)) (sym device) (t.fault.device_failed (err_same _ _ (same_called _ _ told)));
       step = subst (λ (w : DurableCore _). IsStep Call (Called (Err fault)) old w) (sym now) step;
       safe = subst (λ (w : DurableCore _). IsSafe g.D.Disk.honest g.D.Disk.reads g.D.Disk.may_leave g.D.Disk.moment g.D.Disk.left_since g.D.Disk.size old w) (sym now) safe;
     }

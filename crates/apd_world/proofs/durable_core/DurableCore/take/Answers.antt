@@ -1,8 +1,9 @@
 use Rattle.std.proofs.Common.{◌≡◌, Some, None, Ok, Err, refl, sym, ap, subst, ◌∙◌}
 use Rattle.apd_flusher.specs.Flushing.{IsGood, IsInside, IsSteady}
+use Rattle.apd_flusher.specs.Loading.{IsLoaded, IsNotLoaded}
 use Rattle.apd_flusher.specs.Outside.{store_of, table_of}
 use Rattle.apd_flusher.specs.declared.flusher.Flusher.{Flusher}
-use Rattle.apd_world.specs.Telling.{HasNoBatch, IsLoaded, IsNext, IsRefused, IsTakenUp}
+use Rattle.apd_world.specs.Telling.{HasNoBatch, IsNext, IsTakenUp}
 use Rattle.apd_world.specs.Outside.{device_of}
 use Rattle.apd_world.specs.declared.step.Step.TheVariants.{Take}
 use Rattle.apd_world.specs.declared.step.Told.TheVariants.{Nothing, NoMemory}
@@ -46,11 +47,10 @@ returns-in-Ok g c =
     let next : IsNext batch old mid.core = if_some c.in-Ok-Some.field-0 batch (λ b. IsNext b old mid.core) c.in-Ok-Some.field-0-is c.in-Ok-Some.ensures.given in
     let good = if_some c.in-Ok-Some.field-0 batch (λ b. old.batch ≡ None → IsGood b.changes old.core.settled) c.in-Ok-Some.field-0-is c.in-Ok-Some.ensures.good in
     let inside = λ (i : IsInside g.D.Disk.size old.flusher). t.inside (subst (λ (z : Flusher _). IsInside g.D.Disk.size z) (sym flusher) i) in
-    let loaded : IsLoaded batch mid.flusher f = record { was_idle = t.idle; busy = t.busy; some_calls = t.calls; four_calls = t.four; batch_is = t.batch; good = t.good; table = t.table } in
     let is : IsTakenUp (Ok tt) old new = record {
       batch = batch;
       next = next;
-      tells = subst (λ (z : Flusher _). IsLoaded batch z f) flusher loaded;
+      tells = subst (λ (z : Flusher _). IsLoaded batch z f) flusher t.loaded;
       only = λ i. record (only i) { flusher = f };
     } in
     let step = take_step old new (Ok tt) mid.core.flight (next_core batch old mid.core next) is in
@@ -58,7 +58,7 @@ returns-in-Ok g c =
       step = step;
       device = t.device ∙ ap device_of only;
       safe = safe_same g.D.Disk.honest g.D.Disk.reads g.D.Disk.may_leave g.D.Disk.moment g.D.Disk.left_since g.D.Disk.size old new (t.device ∙ ap device_of only) inside c.stops.ensures step.spoken
-          (take_loaded g.D.Disk.honest g.D.Disk.reads g.D.Disk.may_leave batch old new next good (λ state steady. t.loaded state (subst (λ (z : Flusher _). IsSteady g.D.Disk.reads g.D.Disk.may_leave z state) (sym flusher) steady)) t.batch
+          (take_loaded g.D.Disk.honest g.D.Disk.reads g.D.Disk.may_leave batch old new next good (λ state steady. t.flushing state (subst (λ (z : Flusher _). IsSteady g.D.Disk.reads g.D.Disk.may_leave z state) (sym flusher) steady)) t.loaded.batch_is
           (ap (λ (w : DurableCore _). w.batch) only) (ap (λ (w : DurableCore _). w.receipt) only));
     }
 
@@ -77,11 +77,10 @@ returns-in-Err-load g c =
     let next : IsNext batch old mid.core = if_some c.in-Ok-Some.field-0 batch (λ b. IsNext b old mid.core) c.in-Ok-Some.field-0-is c.in-Ok-Some.ensures.given in
     let good = if_some c.in-Ok-Some.field-0 batch (λ b. old.batch ≡ None → IsGood b.changes old.core.settled) c.in-Ok-Some.field-0-is c.in-Ok-Some.ensures.good in
     let inside = λ (i : IsInside g.D.Disk.size old.flusher). t.inside (subst (λ (z : Flusher _). IsInside g.D.Disk.size z) (sym flusher) i) in
-    let refused : IsRefused fault batch mid.flusher f = record { stays = t.stays; table = t.table; failed = t.failed; not_idle = t.not_idle; bad = t.bad; worn = t.worn; few = t.only } in
     let is : IsTakenUp (Err fault) old new = record {
       batch = batch;
       next = next;
-      tells = subst (λ (z : Flusher _). IsRefused fault batch z f) flusher refused;
+      tells = subst (λ (z : Flusher _). IsNotLoaded fault batch z f) flusher t.refused;
       only = λ i. record (only i) { core = mid.core; flusher = f; batch = Some (back i) };
     } in
     let step = take_step old new (Err fault) mid.core.flight (next_core batch old mid.core next) is in
@@ -89,5 +88,5 @@ returns-in-Err-load g c =
       step = step;
       device = t.device ∙ ap device_of only;
       safe = safe_same g.D.Disk.honest g.D.Disk.reads g.D.Disk.may_leave g.D.Disk.moment g.D.Disk.left_since g.D.Disk.size old new (t.device ∙ ap device_of only) inside c.stops.ensures step.spoken
-          (take_refused g.D.Disk.honest g.D.Disk.reads g.D.Disk.may_leave batch old new next good (t.stays ∙ ap store_of flusher) (t.table ∙ ap table_of flusher) (ap Some back) (ap (λ (w : DurableCore _). w.receipt) only));
+          (take_refused g.D.Disk.honest g.D.Disk.reads g.D.Disk.may_leave batch old new next good (t.refused.stays ∙ ap store_of flusher) (t.refused.table ∙ ap table_of flusher) (ap Some back) (ap (λ (w : DurableCore _). w.receipt) only));
     }
