@@ -85,7 +85,8 @@ fn counted_on<C: Clock, D: Disk + Drop>(
     go_round(rt, &mut world, &tally, case, requests)
 }
 
-// The rate of the bare loop over a file, with as many bytes a turn as the commits of a round wrote; none without a file.
+// The rate of the bare loop over a file, with as many bytes a turn as the commits of a round wrote; none without a
+// file.
 fn bare_rate<C: Clock>(
     rt: &C,
     alloc: Global,

@@ -28,9 +28,9 @@ use Rattle.apd_core.specs.declared.ticket.Accepted.{Accepted}
 use Rattle.apd_core.specs.declared.ticket.Accepted.TheVariants.{Stopped, Busy, Quiet, Entry}
 use Rattle.apd_core.specs.declared.ticket.Ticket.{Ticket}
 
--- The configurations; the settled state, and the number of the last settled entry; the changes of each entry that is not settled,
--- which are numbered from there on; how many of these the batch in flight has, and 0 where none is; the outs that are held; when
--- each station was heard last; and whether the core has failed.
+-- The configurations; the settled state, and the number of the last settled entry; the changes of each entry that is
+-- not settled, which are numbered from there on; how many of these the batch in flight has, and 0 where none is; the
+-- outs that are held; when each station was heard last; and whether the core has failed.
 pub record CoreState : Type 0 where
   pub confs : List Conf
   pub settled : State
@@ -117,7 +117,8 @@ abbrev pub accepted : CoreState → Moment → Input → Accepted
 accepted s m i =
     if is_stopped s then Stopped else if is_busy s then Busy else answer_to s m i (happening_of s.confs s.heard m i)
 
--- the core is neither stopped nor busy, and there is a verdict on what happens by a request, by which something changes or leaves
+-- the core is neither stopped nor busy, and there is a verdict on what happens by a request, by which something changes
+-- or leaves
 pub record IsDecided (s : CoreState) (m : Moment) (i : Input) : Type 0 where
   pub going : is_stopped s ≡ false
   pub free : is_busy s ≡ false

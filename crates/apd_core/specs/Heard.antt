@@ -55,7 +55,8 @@ heard_by m (Configure b accept deny) heard = heard
 abbrev pub silence : Moment → Moment → ℕ
 silence now heard = now.0 - heard.0
 
--- whether that is as long as its BSSID's configuration says, in seconds, or longer; a BSSID that is not configured has no limit
+-- whether that is as long as its BSSID's configuration says, in seconds, or longer; a BSSID that is not configured has
+-- no limit
 abbrev pub is_too_long : Option Conf → ℕ → Bool
 is_too_long None milliseconds = false
 is_too_long (Some conf) milliseconds = nat_le (conf.ap_max_inactivity * 1000) milliseconds

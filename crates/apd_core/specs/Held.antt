@@ -16,8 +16,8 @@ use Rattle.apd_mlme.specs.declared.decision.Out.{Out}
 abbrev pub Queue : Type 0
 Queue = List (ℕ × Out)
 
--- a queue for each radio, in the order of the configurations, and one for whoever gave control commands; for each kept entry, by
--- its number, how many of its outs are held; and the greatest number of an entry of which an out was given
+-- a queue for each radio, in the order of the configurations, and one for whoever gave control commands; for each kept
+-- entry, by its number, how many of its outs are held; and the greatest number of an entry of which an out was given
 pub record HeldOuts : Type 0 where
   pub queues : List Queue
   pub left : FinMap nat_cmp ℕ

@@ -30,8 +30,8 @@ numbered_outs r confs number s (h ∷ hs) =
     map (λ out. (number + 1, out)) (outs_to r (verdict s confs h).outs)
     ++ numbered_outs r confs (number + 1) (verdict s confs h).state hs
 
--- What happened, so that the entries that are not settled are the verdicts on it, one after another from the settled state on:
--- their changes, and for each recipient its outs, behind those of settled entries.
+-- What happened, so that the entries that are not settled are the verdicts on it, one after another from the settled
+-- state on: their changes, and for each recipient its outs, behind those of settled entries.
 pub record Unsettled (s : CoreState) : Type 0 where
   pub happened : List Happening
   pub decided : AreDecided s.confs s.settled happened s.unsettled

@@ -31,8 +31,8 @@ IsFrom (Configure c accept deny) b a = ⊥
 abbrev pub HasPut : List Change → Bssid → Addr → Type 0
 HasPut changes b a = (station : Station) × Contains changes (Put b a station)
 
--- a row is heard by what happens by a request, by its answer: by a frame from its station, also where the answer is quiet, and
--- by an entry that puts it; by nothing where nothing happens, where the core is busy, and once it stopped
+-- a row is heard by what happens by a request, by its answer: by a frame from its station, also where the answer is
+-- quiet, and by an entry that puts it; by nothing where nothing happens, where the core is busy, and once it stopped
 abbrev pub IsHeardBy : CoreState → Result Happening QuietReason → Accepted → Bssid → Addr → Type 0
 IsHeardBy s (Ok h) (Entry ticket) b a = IsFrom h b a ⊎ HasPut (verdict (front_of s) s.confs h).changes b a
 IsHeardBy s (Ok h) (Quiet reason) b a = IsFrom h b a
@@ -40,8 +40,8 @@ IsHeardBy s (Ok h) Busy b a = ⊥
 IsHeardBy s (Ok h) Stopped b a = ⊥
 IsHeardBy s (Err reason) answer b a = ⊥
 
--- the row after a request at a moment, and its moments before and after: a row that was heard has this moment, any other has the
--- one that it had, and where there is no row there is no moment
+-- the row after a request at a moment, and its moments before and after: a row that was heard has this moment, any
+-- other has the one that it had, and where there is no row there is no moment
 pub record IsNoted (m : Moment) (IsHeard : Type 0) (row : Option Station) (old new : Option Moment) : Type 0 where
   pub heard : IsHeard → IsSome row → new ≡ Some m
   pub others : ¬ IsHeard → IsSome row → new ≡ old

@@ -10,7 +10,8 @@ use Rattle.apd_conf.specs.declared.conf.Conf.{Conf}
 use Rattle.apd_conf.specs.Confs.{conf_at}
 use Rattle.apd_core.specs.Heard.{LastHeard, silence}
 
--- a row of a configured BSSID was heard last so long ago, in milliseconds, as the configuration says, in seconds, or longer
+-- a row of a configured BSSID was heard last so long ago, in milliseconds, as the configuration says, in seconds, or
+-- longer
 pub record IsSilent (confs : List Conf) (now : Moment) (heard : LastHeard) (row : Bssid × Addr) : Type 0 where
   pub conf : Conf
   pub configured : conf_at confs row.0 ≡ Some conf

@@ -1,4 +1,5 @@
--- The last entry's outs, as they are added and taken back where memory was refused (own). No public call's contract cites these.
+-- The last entry's outs, as they are added and taken back where memory was refused (own). No public call's contract
+-- cites these.
 use Rattle.std.specs.Prelude.{ℕ, ◌≤◌, map, filter, nat_lt}
 use Rattle.std.specs.List.{AllByRecursion}
 use Rattle.std.specs.FinMap as maps

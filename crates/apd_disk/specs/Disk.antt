@@ -38,8 +38,8 @@ pub record Counts {T E : Type 0} (before now : ℕ) (result : Result T E) : Type
   pub stays : OnOk result (now ≡ before)
   pub rises : OnErr result (HasRisen before now)
 
--- A stop at any moment since old leaves an image that has P. It is for the contracts of those who make several calls, as a store;
--- the lemmas on how such runs go on are in proofs/Moments.
+-- A stop at any moment since old leaves an image that has P. It is for the contracts of those who make several calls,
+-- as a store; the lemmas on how such runs go on are in proofs/Moments.
 pub record LeavesOnly {D : Type 0} (moment : D → ℕ) (left_since : D → ℕ → List ℕ → Type 0) (old new : D)
     (P : List ℕ → Type 0) : Type 0 where
   pub later : moment old ≤ moment new

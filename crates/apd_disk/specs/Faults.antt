@@ -6,7 +6,8 @@ use Rattle.apd_disk.specs.Disk.{Counts}
 abbrev pub sum_of : ℕ → ℕ → ℕ
 sum_of inner own = min (inner + own) (2 ^ 64 - 1)
 
--- One call of a fuse over this disk, which became that. The numbers are how many calls it still passes; it has none once a call has failed.
+-- One call of a fuse over this disk, which became that. The numbers are how many calls it still passes; it has none
+-- once a call has failed.
 pub record FuseCall {D T E : Type 0} (failed : D → ℕ) (old new : D) (before after : Option ℕ)
     (result : Result T E) : Type 0 where
   -- passed on: a fault is the disk's own
@@ -16,7 +17,8 @@ pub record FuseCall {D T E : Type 0} (failed : D → ℕ) (old new : D) (before 
   -- later ones are not passed on
   pub blown : before ≡ None → (after ≡ None) × IsErr result × (new ≡ old)
 
--- One call of a disk that fails one call alone. The numbers are how many calls come before it; there is none once it has failed.
+-- One call of a disk that fails one call alone. The numbers are how many calls come before it; there is none once it
+-- has failed.
 pub record OnceCall {D T E : Type 0} (failed : D → ℕ) (old new : D) (before after : Option ℕ)
     (result : Result T E) : Type 0 where
   -- passed on: a fault is the disk's own

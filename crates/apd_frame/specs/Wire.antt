@@ -52,8 +52,8 @@ abbrev pub channel_elements : Option ℕ → List (ℕ × List ℕ)
 channel_elements None = []
 channel_elements (Some channel) = (DSSS_PARAMETER_SET, channel ∷ []) ∷ []
 
--- the elements of a reply: the rates alone in an association and a reassociation response (own); the SSID (9.4.2.2), the
--- rates and the channel in a probe response
+-- the elements of a reply: the rates alone in an association and a reassociation response (own); the SSID (9.4.2.2),
+-- the rates and the channel in a probe response
 abbrev pub elements_in : ReplyBody → List (ℕ × List ℕ)
 elements_in (Auth algorithm transaction status) = []
 elements_in (Assoc response) = rates_element response.rates ∷ []

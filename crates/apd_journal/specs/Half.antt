@@ -19,7 +19,8 @@ group_of changes = 1 ∷ block_of changes
 abbrev pub planned_bytes : List Change → List ℕ
 planned_bytes changes = block_of changes ++ 0 ∷ []
 
--- what stands behind the gate of a half that begins anew: an epoch, a snapshot, and the first group's gate, which is closed
+-- what stands behind the gate of a half that begins anew: an epoch, a snapshot, and the first group's gate, which is
+-- closed
 abbrev pub begun_bytes : ℕ → List Change → List ℕ
 begun_bytes epoch snapshot = to_le_bytes w64 epoch ++ planned_bytes snapshot
 

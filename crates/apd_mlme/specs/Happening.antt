@@ -1,4 +1,5 @@
--- What happened at a BSSID: an event with its lists and its frame written out, since a definition can't make a reference.
+-- What happened at a BSSID: an event with its lists and its frame written out, since a definition can't make a
+-- reference.
 use Rattle.std.specs.Prelude.{ℕ, Bool, List}
 use Rattle.apd_base.specs.declared.address.Addr.{Addr}
 use Rattle.apd_base.specs.declared.address.Bssid.{Bssid}
@@ -12,8 +13,8 @@ use Rattle.apd_mlme.specs.declared.event.Event.TheVariants as event
 pub data Happening : Type 0 where
   -- its radio received a frame
   Heard : Bssid → Contents → Happening
-  -- a control command sends a station away, or all where the address is the broadcast address, with this reason; it is told
-  -- by a deauthentication, or else by a disassociation; and the tag of the answer
+  -- a control command sends a station away, or all where the address is the broadcast address, with this reason; it is
+  -- told by a deauthentication, or else by a disassociation; and the tag of the answer
   Kick : Bssid → Addr → Reason → Bool → ℕ → Happening
   -- a control command edits one of its lists; and the tag of the answer
   ListEdit : Bssid → Which → Edit → ℕ → Happening

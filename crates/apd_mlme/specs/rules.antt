@@ -31,8 +31,8 @@ use Rattle.apd_mlme.specs.rules.Inactivity.{inactivity_verdict}
 use Rattle.apd_mlme.specs.rules.ProbeRequest.{probe_verdict}
 use Rattle.apd_mlme.specs.Verdict.{Verdict, nothing}
 
--- the BSSID is configured; a frame, a command or a silence needs its policy row, and a start a policy row or room for one,
--- and lists as list files give them
+-- the BSSID is configured; a frame, a command or a silence needs its policy row, and a start a policy row or room for
+-- one, and lists as list files give them
 abbrev pub IsFit : State → List Conf → Happening → Type 0
 IsFit s confs (Heard b frame) = IsSome (conf_at confs b) × IsSome (policy_at s b)
 IsFit s confs (Kick b to reason deauth tag) = IsSome (conf_at confs b) × IsSome (policy_at s b)

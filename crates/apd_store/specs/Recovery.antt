@@ -1,4 +1,5 @@
--- What a recovery finds on a device, and what it leaves of it. What is so of an honest device alone stands in records of its own.
+-- What a recovery finds on a device, and what it leaves of it. What is so of an honest device alone stands in records
+-- of its own.
 use Rattle.std.specs.Prelude.{◌≡◌, ◌≢◌, ◌≤◌, ◌+◌, ◌↔◌, ◌⊎◌, ℕ, List}
 use Rattle.apd_base.specs.declared.limits.TheConstants.{DEVICE_LENGTH}
 use Rattle.apd_base.specs.Failures.{HasRisen}

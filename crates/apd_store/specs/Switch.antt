@@ -1,5 +1,5 @@
--- A switch on its way to the device, call by call: the other half begins anew with the table before the batch, while the
--- current half stays as it is. Whatever call is next, each image shows that table.
+-- A switch on its way to the device, call by call: the other half begins anew with the table before the batch, while
+-- the current half stays as it is. Whatever call is next, each image shows that table.
 use Rattle.std.specs.Prelude.{◌≡◌, ◌<◌, ◌≤◌, ◌+◌, ◌^◌, ℕ, List, [], ◌∷◌, length}
 use Rattle.apd_base.specs.State.{State, empty_state}
 use Rattle.apd_record.specs.Meaning.{meaning_of}

@@ -83,7 +83,8 @@ impl<D: Disk> Store<D> {
         ensures inside { IsInside D.size self.old → IsInside D.size self.new }
         ensures honest { D.honest (device_of self.old) ↔ D.honest (device_of self.new) }
 
-        // A stop within the call shows the state before the batch, and where two calls are left or fewer it or the one after.
+        // A stop within the call shows the state before the batch, and where two calls are left or fewer it or the one
+        // after.
         ensures any_moment { (state after : State) → D.honest (device_of self.old)
             → IsCommitting D.reads D.may_leave self.old state after
             → LeavesOnly D.moment D.left_since (device_of self.old) (device_of self.new)
@@ -92,7 +93,8 @@ impl<D: Disk> Store<D> {
             → IsCommitting D.reads D.may_leave self.old state after
             → OnOk result (IsCommitting D.reads D.may_leave self.new state after) }
 
-        // The same of a call that failed, once it has; where more than two calls were left the state after shows nowhere.
+        // The same of a call that failed, once it has; where more than two calls were left the state after shows
+        // nowhere.
         ensures stuck { (state after : State) → D.honest (device_of self.old)
             → IsCommitting D.reads D.may_leave self.old state after
             → OnErr result (HasFailed D.may_leave self.new state after) }

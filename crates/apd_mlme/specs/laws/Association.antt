@@ -25,8 +25,8 @@ use Rattle.apd_mlme.specs.declared.decision.Recipient.TheVariants.{Radio}
 use Rattle.apd_mlme.specs.declared.decision.Out.TheVariants.{Install, Remove}
 use Rattle.apd_mlme.specs.laws.ManagementFrame.{disassociation_frame}
 
--- the station is associated at the BSSID, with this identifier and with what it asked; no other station of the BSSID has the
--- identifier, and the station is associated nowhere else
+-- the station is associated at the BSSID, with this identifier and with what it asked; no other station of the BSSID
+-- has the identifier, and the station is associated nowhere else
 pub record IsMember (s : State) (b : Bssid) (request : AssociationRequest) (aid : Aid) : Type 0 where
   pub row : station_at s b request.sender ≡ Some (row_of request aid)
   pub nobody_else : (d : Addr) → aid_at s b d ≡ Some aid.number → d ≡ request.sender
@@ -38,7 +38,8 @@ pub record IsForNetwork (conf : Conf) (request : AssociationRequest) : Type 0 wh
   pub named : first_with SSID request.elements ≡ Some conf.ssid
   pub rated : IsSome (first_with SUPPORTED_RATES request.elements)
 
--- what a status code (IEEE Std 802.11-2016, 9.4.1.9) says of the request (11.3.5.3 and 11.3.5.5); none is told for two reasons
+-- what a status code (IEEE Std 802.11-2016, 9.4.1.9) says of the request (11.3.5.3 and 11.3.5.5); none is told for two
+-- reasons
 abbrev pub IsDeserved : Conf → AssociationRequest → Status → Type 0
 IsDeserved conf request RefusedReasonUnspecified = ¬ (IsForNetwork conf request)
 -- the station would listen too seldom
@@ -90,7 +91,8 @@ pub record IsJoined (s : State) (b : Bssid) (a : Addr) (capability listen_interv
   -- its row is what it asked for
   pub row : station_at v.state b a
       ≡ Some (Associated (record { aid = aid; capability = capability; listen_interval = listen_interval }))
-  -- the driver takes it in, but where it was associated at this radio before; then it gets the response; and nothing else leaves
+  -- the driver takes it in, but where it was associated at this radio before; then it gets the response; and nothing
+  -- else leaves
   pub anew : aid_at s b a ≡ None → outs_to (Radio b) v.outs ≡ Install a aid ∷ response ∷ []
   pub again : IsSome (aid_at s b a) → outs_to (Radio b) v.outs ≡ response ∷ []
   -- at every other radio nothing leaves but the end of its association there

@@ -30,8 +30,8 @@ HasLeft (ListEdit c which edit tag) b a = ⊥
 HasLeft (Expire c d) b a = ⊥
 HasLeft (Configure c accept deny) b a = ⊥
 
--- a frame to this address is meant for a station: it is the station's own, or the broadcast address (9.2.4.3.3). A command
--- may name another group's address: that frame is sent too, and counts as meant for nobody who has a row (own)
+-- a frame to this address is meant for a station: it is the station's own, or the broadcast address (9.2.4.3.3). A
+-- command may name another group's address: that frame is sent too, and counts as meant for nobody who has a row (own)
 abbrev pub IsMeant : Addr → Addr → Type 0
 IsMeant to a = (to ≡ a) ⊎ (to ≡ BROADCAST)
 

@@ -1,4 +1,5 @@
--- What is left of a station that leaves, or is silent for too long (IEEE Std 802.11-2016, 11.3.5.9, 11.3.4.5; 11.3.5.8, 11.3.4.4).
+-- What is left of a station that leaves, or is silent for too long (IEEE Std 802.11-2016, 11.3.5.9, 11.3.4.5; 11.3.5.8,
+-- 11.3.4.4).
 use Rattle.std.specs.Prelude.{◌≡◌, [], ◌∷◌, None, Some, IsSome}
 use Rattle.apd_base.specs.declared.address.Addr.{Addr}
 use Rattle.apd_base.specs.declared.address.Bssid.{Bssid}

@@ -29,8 +29,8 @@ abbrev pub driven : List Out → DriverMap → DriverMap
 driven [] driver = driver
 driven (out ∷ outs) driver = driven outs (driven_by out driver)
 
--- where the driver of a configured BSSID had its associated stations under their identifiers, it has them after the outs to
--- its radio
+-- where the driver of a configured BSSID had its associated stations under their identifiers, it has them after the
+-- outs to its radio
 abbrev pub FollowsDrivers : List Conf → List (Recipient × Out) → State → State → Type 0
 FollowsDrivers confs outs old new =
     (b : Bssid) → IsSome (conf_at confs b) → (a : Addr)

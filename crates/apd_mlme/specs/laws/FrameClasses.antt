@@ -25,8 +25,8 @@ pub record IsOnlyAnswered (s : State) (out : Recipient × Out) (v : Verdict) : T
   pub changes : v.changes ≡ []
   pub state : v.state ≡ s
 
--- a frame of class 2 is for who is authenticated, and one of class 3 for who is associated: any other sender is told that it
--- isn't, by the reason code of the class (9.4.1.7, Table 9-45)
+-- a frame of class 2 is for who is authenticated, and one of class 3 for who is associated: any other sender is told
+-- that it isn't, by the reason code of the class (9.4.1.7, Table 9-45)
 pub record AreClassesKept (s : State) (b : Bssid) (frame : Contents) (v : Verdict) : Type 0 where
   pub class2_unauthenticated : class_of frame ≡ 2 → station_at s b (sender_of frame) ≡ None
       → IsOnlyAnswered s (deauthentication_frame b (sender_of frame) 6) v

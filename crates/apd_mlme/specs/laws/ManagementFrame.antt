@@ -37,8 +37,8 @@ code_of TransactionSequenceError = 14
 code_of DeniedNoMoreStas = 17
 code_of DeniedListenIntervalTooLarge = 51
 
--- the Supported Rates element of a radio (9.4.2.3): 6, 12 and 24 Mb/s at 5 GHz, and 1, 2, 5.5 and 11 Mb/s at 2.4 GHz, all
--- of them basic, in units of 500 kb/s (own)
+-- the Supported Rates element of a radio (9.4.2.3): 6, 12 and 24 Mb/s at 5 GHz, and 1, 2, 5.5 and 11 Mb/s at 2.4 GHz,
+-- all of them basic, in units of 500 kb/s (own)
 abbrev pub rates_octets : HwMode → List ℕ
 rates_octets A = 1 ∷ 3 ∷ (128 + 12) ∷ (128 + 24) ∷ (128 + 48) ∷ []
 rates_octets B = 1 ∷ 4 ∷ (128 + 2) ∷ (128 + 4) ∷ (128 + 11) ∷ (128 + 22) ∷ []

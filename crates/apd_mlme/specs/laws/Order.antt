@@ -1,5 +1,5 @@
--- In which order a driver and a station are told (own): at each radio the driver lets a station go before the station is
--- told that its association is at an end, and takes it in before it is told that it is associated.
+-- In which order a driver and a station are told (own): at each radio the driver lets a station go before the station
+-- is told that its association is at an end, and takes it in before it is told that it is associated.
 use Rattle.std.specs.Prelude.{◌≡◌, ◌⊎◌, ℕ, ◌+◌, List, [], ◌∷◌, ◌++◌}
 use Rattle.std.specs.Int.{to_le_bytes, w16}
 use Rattle.std.specs.List.{Contains}
@@ -25,8 +25,8 @@ IsLetGoFirst outs b a =
     × (Precedes outs (Radio b, Remove a) (disassociation_frame b to reason)
     ⊎ Precedes outs (Radio b, Remove a) (deauthentication_frame b to reason))
 
--- the driver takes in a station, and then it is told in an association or a reassociation response that it is associated
--- (status 0), under this identifier
+-- the driver takes in a station, and then it is told in an association or a reassociation response that it is
+-- associated (status 0), under this identifier
 abbrev pub IsTakenInFirst : List (Recipient × Out) → Bssid → Addr → Aid → Type 0
 IsTakenInFirst outs b a aid =
     (subtype : ℕ) × ((subtype ≡ 1) ⊎ (subtype ≡ 3)) × (rates : List ℕ)

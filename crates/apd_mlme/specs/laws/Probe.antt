@@ -16,7 +16,8 @@ use Rattle.apd_mlme.specs.Outs.{sent}
 use Rattle.apd_mlme.specs.rules.ProbeRequest.{probe_response}
 use Rattle.apd_mlme.specs.Verdict.{Verdict}
 
--- an SSID asks for the network: it is its name, or it is empty, which asks for any (9.4.2.2), and the network doesn't hide
+-- an SSID asks for the network: it is its name, or it is empty, which asks for any (9.4.2.2), and the network doesn't
+-- hide
 abbrev pub AsksFor : Conf → List ℕ → Type 0
 AsksFor conf ssid = (ssid ≡ conf.ssid) ⊎ ((ssid ≡ []) × (conf.ignore_broadcast_ssid ≡ No))
 

@@ -1,4 +1,5 @@
--- The fields of authentication, association and reassociation responses (IEEE Std 802.11-2016, 9.3.3.12, 9.3.3.7 and 9.3.3.9).
+-- The fields of authentication, association and reassociation responses (IEEE Std 802.11-2016, 9.3.3.12, 9.3.3.7 and
+-- 9.3.3.9).
 use Rattle.std.specs.Prelude.{◌≡◌, ◌≢◌, ℕ, ◌+◌, ◌%◌, List, [], ◌∷◌, ◌++◌, Some}
 use Rattle.std.specs.Int.{to_le_bytes, w16}
 use Rattle.apd_base.specs.declared.address.Addr.{Addr}

@@ -1,5 +1,5 @@
--- An association or a reassociation request (IEEE Std 802.11-2016, 11.3.5.3 and 11.3.5.5): what the access point does on
--- receipt.
+-- An association or a reassociation request (IEEE Std 802.11-2016, 11.3.5.3 and 11.3.5.5): what the access point does
+-- on receipt.
 use Rattle.std.specs.Prelude.{ℕ, Bool, false, not, ◌&&◌, nat_lt, List, [], ◌∷◌, ◌++◌, map, filter, fold, Option, None, Some, is_some, if◌then◌else◌}
 use Rattle.std.specs.List.{flat_map}
 use Rattle.std.specs.Ordering.{eq_by_cmp}
@@ -125,9 +125,8 @@ abbrev pub accepted : State → List Conf → Conf → Bssid → Kind → Associ
 accepted s confs conf b kind request None = nothing s
 accepted s confs conf b kind request (Some aid) = associated s confs conf b kind request aid
 
--- By the station's row at the BSSID: it is a class 2 frame, so a station without one is told that it is not authenticated
--- (11.3.3).
--- A refused station stays as it is (own).
+-- By the station's row at the BSSID: it is a class 2 frame, so a station without one is told that it is not
+-- authenticated (11.3.3). A refused station stays as it is (own).
 abbrev pub association_of : State → List Conf → Conf → Bssid → Kind → AssociationRequest → Option Station → Verdict
 association_of s confs conf b kind request None = only_sent s (deauthentication b request.sender INVALID_CLASS2_FRAME)
 association_of s confs conf b kind request (Some row) =

@@ -104,8 +104,8 @@ abbrev pub left_under : State → Bssid → Option Policy → FinMap station_cmp
 left_under s b None = s.stations
 left_under s b (Some policy) = maps.retain_keys s.stations (stays s b policy.mode)
 
--- the lists are the edited ones, and the rows that the policy denies by them are gone: they are dropped first, in address
--- order, so that each change leaves a sound state
+-- the lists are the edited ones, and the rows that the policy denies by them are gone: they are dropped first, in
+-- address order, so that each change leaves a sound state
 abbrev pub edited : State → Bssid → Which → Edit → Verdict
 edited s b w edit =
     let change = change_of b w edit in

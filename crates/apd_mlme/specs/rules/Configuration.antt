@@ -24,8 +24,8 @@ use Rattle.apd_mlme.specs.Verdict.{Verdict}
 abbrev pub stays : State → Bssid → AclMode → Bssid × Addr → Bool
 stays s b mode key = not (eq_by_cmp bssid_cmp b key.0) || allowed_in s b key.1 mode
 
--- a BSSID that was started before has the configured policy and its stored lists, and the rows that these deny are gone:
--- they are dropped first, in address order, so that each change leaves a sound state
+-- a BSSID that was started before has the configured policy and its stored lists, and the rows that these deny are
+-- gone: they are dropped first, in address order, so that each change leaves a sound state
 abbrev pub later_start : State → Conf → Bssid → Verdict
 later_start s conf b =
     let denied = denied_by s b conf.macaddr_acl in

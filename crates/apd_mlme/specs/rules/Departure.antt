@@ -1,5 +1,5 @@
--- A station leaves, or sends data (IEEE Std 802.11-2016, 11.3.5.9, 11.3.4.5 and 11.3.3). Each rule goes by the station's
--- row at the BSSID.
+-- A station leaves, or sends data (IEEE Std 802.11-2016, 11.3.5.9, 11.3.4.5 and 11.3.3). Each rule goes by the
+-- station's row at the BSSID.
 use Rattle.std.specs.Prelude.{[], ◌∷◌, Option, Some, None}
 use Rattle.apd_base.specs.declared.address.Addr.{Addr}
 use Rattle.apd_base.specs.declared.address.Bssid.{Bssid}

@@ -1,4 +1,5 @@
--- Association identifiers (IEEE Std 802.11-2016, 9.4.1.8): which of them are free at a BSSID, and which one a station gets.
+-- Association identifiers (IEEE Std 802.11-2016, 9.4.1.8): which of them are free at a BSSID, and which one a station
+-- gets.
 use Rattle.std.specs.Prelude.{ℕ, zero, suc, ◌≤◌, ◌==◌, Bool, false, not, List, [], ◌∷◌, ◌++◌, Option, Some, None}
 use Rattle.std.specs.List.{find, list_any}
 use Rattle.std.proofs.Common.{arith}

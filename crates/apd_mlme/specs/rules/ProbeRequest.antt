@@ -24,8 +24,8 @@ is_open No = true
 is_open Empty = false
 is_open Cleared = false
 
--- whether an SSID stands for the network: it is its name, or it is empty, which stands for any (9.4.2.2), and the network
--- doesn't hide
+-- whether an SSID stands for the network: it is its name, or it is empty, which stands for any (9.4.2.2), and the
+-- network doesn't hide
 abbrev pub is_asked : Conf → Option (List ℕ) → Bool
 is_asked conf None = false
 is_asked conf (Some ssid) = bytes_eq ssid conf.ssid || ((length ssid == 0) && is_open conf.ignore_broadcast_ssid)

@@ -1,4 +1,5 @@
--- The status of a response: that of the first reason to refuse that holds, in the order in which they are looked for (own).
+-- The status of a response: that of the first reason to refuse that holds, in the order in which they are looked for
+-- (own).
 use Rattle.std.specs.Prelude.{Bool, true, false, List, [], ◌∷◌, if◌then◌else◌}
 use Rattle.apd_frame.specs.declared.codes.Status.{Status}
 use Rattle.apd_frame.specs.declared.codes.Status.TheVariants.{Success, RefusedReasonUnspecified, NotSupportedAuthAlgorithm, TransactionSequenceError, DeniedNoMoreStas, DeniedListenIntervalTooLarge}
