@@ -30,6 +30,9 @@ keys_of-rows_of (key ∷ keys) = ap (λ ks. key ∷ ks) (keys_of-rows_of keys)
 pub rows_sorted : (keys : List Addr) → IsStrictlySortedBy addr_cmp keys → T (is_sorted addr_cmp (rows_of keys))
 rows_sorted keys rise = in_order addr_cmp (rows_of keys) (subst (IsStrictlySortedBy addr_cmp) (sym (keys_of-rows_of keys)) rise)
 
+pub keys_are : (keys : List Addr) → T (is_sorted addr_cmp (rows_of keys)) → keys ≡ map.keys (set_of keys)
+keys_are keys sorted = sym (ap keys_of (map.entries-from_sorted addr_cmp (rows_of keys) sorted) ∙ keys_of-rows_of keys)
+
 length-rows_of : (keys : List Addr) → length (rows_of keys) ≡ length keys
 length-rows_of [] = refl
 length-rows_of (key ∷ keys) = ap suc (length-rows_of keys)

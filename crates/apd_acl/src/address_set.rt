@@ -75,6 +75,13 @@ impl AddressSet {
         self.keys.len()
     }
 
+    /// The addresses, rising.
+    pub fn keys(&self) -> &BTreeSet<Addr>
+        ensures { result.now.keys ≡ map.keys self.now }
+    {
+        &self.keys
+    }
+
     /// The least address.
     pub fn least(&self) -> Option<Addr>
         ensures some { IfSome result (IsLeast (λ a. IsTrue (contains self.now a))) }

@@ -11,6 +11,7 @@ use crate::address_set::AddressSet;
 use crate::policy::is_allowed;
 use apd_base::{AclMode, Addr, Which};
 use std::alloc::{AllocError, Global};
+use std::collections::BTreeSet;
 
 /// The two lists of a BSSID. The readers take no memory.
 #[derive(Drop)]
@@ -61,6 +62,13 @@ impl Lists {
         ensures { result ≡ map.len (list_of self.now which) }
     {
         self.list(which).len()
+    }
+
+    /// The addresses of a list, rising.
+    pub fn keys(&self, which: Which) -> &BTreeSet<Addr>
+        ensures { result.now.keys ≡ map.keys (list_of self.now which) }
+    {
+        self.list(which).keys()
     }
 
     /// The least address of a list; `None` exactly where it has none.

@@ -9,7 +9,7 @@ use Rattle.apd_mlme.specs.declared.decision.Out.{Out}
 use Rattle.apd_mlme.specs.Outs.{outs_to, is_same}
 use Rattle.apd_mlme.specs.rules.{verdict}
 use Rattle.apd_mlme.specs.Run.{run, outs_run}
-use Rattle.apd_mlme.proofs.RadioLemmas.{verdict_there}
+use Rattle.apd_mlme.proofs.TrueOutsLemmas.{verdict_there}
 use Rattle.apd_mlme.proofs.VerdictLemmas.{meaning_in}
 use Rattle.apd_core.specs.Core.{CoreState, front_of, last_of, held_for, ready_for, with_entry, published, handed, entered_by, state_after}
 use Rattle.apd_core.specs.Held.{queue_of, up_to, beyond}

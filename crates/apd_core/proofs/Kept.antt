@@ -9,7 +9,7 @@ use Rattle.apd_base.specs.State.{State}
 use Rattle.apd_mlme.specs.Happening.{Happening}
 use Rattle.apd_mlme.specs.declared.decision.Recipient.{Recipient}
 use Rattle.apd_mlme.specs.rules.{verdict, IsFit}
-use Rattle.apd_mlme.proofs.RadioLemmas.{verdict_there}
+use Rattle.apd_mlme.proofs.TrueOutsLemmas.{verdict_there}
 use Rattle.apd_record.specs.Meaning.{meaning_of}
 use Rattle.apd_record.specs.Ranges.{AreChanges}
 use Rattle.apd_record.specs.Record.{records_of}

@@ -1,6 +1,6 @@
 -- Who comes into the table.
 use Rattle.std.proofs.Common.{◌≡◌, suc, Bool, true, false, cond, not, ◌&&◌, List, [], ◌∷◌, Option, Some, None, refl, sym, ap, subst, ◌∙◌, IsSome, arith}
-use Rattle.std.specs.Option.{is_some}
+use Rattle.std.specs.Option.{is_some, option_map}
 use Rattle.std.specs.Ordering.{eq_by_cmp}
 use Rattle.std.specs.FinMap as map
 use Rattle.std.specs.FinMap.{get-retain_keys}
@@ -9,34 +9,30 @@ use Rattle.std.proofs.lemmas.List.Elements.{All-head, All-tail}
 use Rattle.apd_base.specs.declared.address.Addr.{Addr}
 use Rattle.apd_base.specs.declared.address.Bssid.{Bssid}
 use Rattle.apd_base.specs.declared.station.Aid.{Aid}
-use Rattle.apd_base.specs.declared.station.Policy.{Policy}
 use Rattle.apd_base.specs.declared.station.Station.{Station}
 use Rattle.apd_base.specs.declared.station.Station.TheVariants.{Authenticated}
-use Rattle.apd_base.specs.declared.station.Which.{Which}
 use Rattle.apd_base.specs.Addr.{addr_cmp, bssid_cmp}
 use Rattle.apd_base.specs.State.{State, station_at}
 use Rattle.apd_base.proofs.AddrLemmas.{station_exact, same_addr, same_bssid}
 use Rattle.apd_conf.specs.declared.conf.Conf.{Conf}
 use Rattle.apd_frame.specs.Contents.{AssociationRequest, authentication}
-use Rattle.apd_record.specs.Meaning.{put_station, drop_station}
 use Rattle.apd_mlme.specs.declared.association.Kind.{Kind}
-use Rattle.apd_mlme.specs.declared.event.Edit.{Edit}
 use Rattle.apd_base.specs.declared.address.TheConstants.{BROADCAST}
 use Rattle.apd_mlme.specs.laws.Admission.{Asks, HasAsked}
 use Rattle.apd_mlme.specs.laws.Broadcast.{AreFromStations, IsFromStation, NoBroadcastRow}
 use Rattle.apd_mlme.specs.rules.Association.{elsewhere, row_of}
 use Rattle.apd_mlme.specs.rules.Association as rule
 use Rattle.apd_mlme.specs.rules.Configuration.{stays}
+use Rattle.apd_mlme.specs.rules.Leaving.{authenticated_where, is_row_at}
 use Rattle.apd_mlme.specs.Happening.{Happening, Heard}
 use Rattle.apd_mlme.specs.rules.{verdict}
 use Rattle.apd_mlme.specs.Run.{run}
 use Rattle.apd_mlme.specs.Verdict.{Verdict}
-use Rattle.apd_mlme.proofs.AssociationLemmas.{cleared, elsewhere_rows, associated_station}
+use Rattle.apd_mlme.proofs.AssociationLemmas.{cleared, associated_station}
 use Rattle.apd_base.proofs.Cases.{no_value, none_is}
-use Rattle.apd_mlme.proofs.CommandLemmas.{new, edited_under}
-use Rattle.apd_mlme.proofs.DriverLemmas.{is_row, station_put, station_dropped}
+use Rattle.apd_mlme.proofs.EnforcementLemmas.{new}
+use Rattle.apd_mlme.proofs.RowLemmas.{is_row, station_put, authenticated_station, row_known}
 use Rattle.apd_mlme.proofs.ElsewhereLemmas as elsewhere_laws
-use Rattle.apd_mlme.proofs.Shapes as shape
 use Rattle.apd_mlme.proofs.Shapes as shape
 use Rattle.apd_mlme.proofs.Shapes.{Shape, by_shape}
 
@@ -44,58 +40,30 @@ use Rattle.apd_mlme.proofs.Shapes.{Shape, by_shape}
 abbrev NoneIsNew : State → State → Type 0
 NoneIsNew s new = (c : Bssid) (d : Addr) → station_at s c d ≡ None → station_at new c d ≡ None
 
--- a row that is put where there was one is not new, and none is by rows that are taken out or kept
 not_put : (t : Bool) (x o : Option Station) → (t ≡ true → IsSome o) → o ≡ None → cond t x o ≡ None
 not_put true x o known none = none_is o none (known refl)
 not_put false x o known none = none
-
-taken_out : (t : Bool) (o : Option Station) → o ≡ None → cond t None o ≡ None
-taken_out true o none = refl
-taken_out false o none = none
 
 kept : (t : Bool) (o : Option Station) → o ≡ None → cond t o None ≡ None
 kept true o none = none
 kept false o none = refl
 
--- ---- one row
-module _ (s : State) (b : Bssid) (a : Addr) where
-  row_known : IsSome (station_at s b a) → (c : Bssid) (d : Addr) → is_row b a c d ≡ true → IsSome (station_at s c d)
-  row_known known c d here =
-      let parts = and_parts (eq_by_cmp bssid_cmp c b) (eq_by_cmp addr_cmp d a) here in
-      subst IsSome (λ i. station_at s (sym (same_bssid b c parts.0) i) (sym (same_addr a d parts.1) i)) known
+-- a row that says authenticated was there, and so was one that is kept
+turned_new : (s : State) (test : Bssid × Addr → Bool) → NoneIsNew s (record s { stations = authenticated_where test s.stations })
+turned_new s test c d none = authenticated_station test s.stations (c, d) ∙ ap (option_map (λ x. cond (test (c, d)) Authenticated x)) none
 
-  put_back_new : IsSome (station_at s b a) → NoneIsNew s (put_station b a Authenticated s)
-  put_back_new known c d none = station_put s b a Authenticated c d ∙ not_put (is_row b a c d) (Some Authenticated) (station_at s c d) (row_known known c d) none
-
-  dropped_new : NoneIsNew s (drop_station b a s)
-  dropped_new c d none = station_dropped s b a c d ∙ taken_out (is_row b a c d) (station_at s c d) none
+kept_new : (s : State) (stay : Bssid × Addr → Bool) (c : Bssid) (d : Addr) → station_at s c d ≡ None → map.get (map.retain_keys s.stations stay) (c, d) ≡ None
+kept_new s stay c d none = get-retain_keys s.stations stay (c, d) (λ x t. ap stay (sym (station_exact (c, d) x t))) ∙ kept (stay (c, d)) (station_at s c d) none
 
 -- ---- association: a station with a row
 module _ (s : State) (confs : List Conf) (conf : Conf) (b : Bssid) (kind : Kind) (request : AssociationRequest) where
   abbrev a : Addr
   a = request.sender
 
-  cleared_new : NoneIsNew s (cleared s b a)
-  cleared_new c d none =
-      elsewhere_laws.put_backs_station a (elsewhere s b a) s c d
-      ∙ not_put (elsewhere_laws.is_bssid_among c (elsewhere s b a) && eq_by_cmp addr_cmp d a) (Some Authenticated) (station_at s c d)
-      (λ there. (let parts = and_parts (elsewhere_laws.is_bssid_among c (elsewhere s b a)) (eq_by_cmp addr_cmp d a) there in
-      subst (λ x. IsSome (station_at s c x)) (sym (same_addr a d parts.1)) (elsewhere_rows s b a c parts.0)))
-      none
-
   associated_new : IsSome (station_at s b a) → (aid : Aid) → NoneIsNew s (rule.associated s confs conf b kind request aid).state
   associated_new known aid c d none =
       associated_station s confs conf b kind request aid c d
-      ∙ not_put (is_row b a c d) (Some (row_of request aid)) (station_at (cleared s b a) c d) (λ here. none_is (station_at s c d) none (row_known s b a known c d here)) (cleared_new c d none)
-
--- ---- rows are kept or gone
-kept_new : (s : State) (stay : Bssid × Addr → Bool) (c : Bssid) (d : Addr) → station_at s c d ≡ None → map.get (map.retain_keys s.stations stay) (c, d) ≡ None
-kept_new s stay c d none = get-retain_keys s.stations stay (c, d) (λ x t. ap stay (sym (station_exact (c, d) x t))) ∙ kept (stay (c, d)) (station_at s c d) none
-
-module _ (s : State) (b : Bssid) where
-  edited_new : (w : Which) (edit : Edit) (o : Option Policy) → NoneIsNew s (edited_under s b w edit o).state
-  edited_new w edit None = λ c d none. none
-  edited_new w edit (Some p) = kept_new s (stays (new s b w edit) b p.mode)
+      ∙ not_put (is_row b a c d) (Some (row_of request aid)) (station_at (cleared s b a) c d) (λ here. none_is (station_at s c d) none (row_known s b a known c d here)) (turned_new s (λ key. elsewhere_laws.is_bssid_among key.0 (elsewhere s b a) && eq_by_cmp addr_cmp key.1 a) c d none)
 
 -- ---- any event
 module _ (s : State) (confs : List Conf) (c : Bssid) (d : Addr) (none : station_at s c d ≡ None) where
@@ -109,15 +77,14 @@ module _ (s : State) (confs : List Conf) (c : Bssid) (d : Addr) (none : station_
             (request, sym (same_addr request.sender d parts.1), is ∙ ap (λ x. Heard x (authentication request)) (sym (same_bssid b c parts.0)))
         | false ↦ λ _ old. none_is (station_at s c d) none old
       ] refl (subst IsSome (station_put s b request.sender Authenticated c d) known)
-  shape_admits h _ (shape.left b a there own known) = none_is _ (put_back_new s b a known c d none)
-  shape_admits h _ (shape.gone b a there own) = none_is _ (dropped_new s b a c d none)
-  shape_admits h _ (shape.ended b a reason there known) = none_is _ (put_back_new s b a known c d none)
-  shape_admits h _ (shape.dropped b a reason there known) = none_is _ (dropped_new s b a c d none)
+  shape_admits h _ (shape.left b a there own known) = none_is _ (turned_new s (is_row_at b a) c d none)
+  shape_admits h _ (shape.gone b a there own) = none_is _ (kept_new s (λ key. not (is_row_at b a key)) c d none)
+  shape_admits h _ (shape.ended b a reason there known) = none_is _ (turned_new s (is_row_at b a) c d none)
+  shape_admits h _ (shape.dropped b a reason there known) = none_is _ (kept_new s (λ key. not (is_row_at b a key)) c d none)
   shape_admits h _ (shape.associated conf b kind request aid there known own) = none_is _ (associated_new s confs conf b kind request known aid c d none)
   shape_admits h _ (shape.emptied b reason deauth there) = none_is _ (kept_new s (λ key. not (eq_by_cmp bssid_cmp b key.0)) c d none)
-  shape_admits h _ (shape.edited b w edit o there at fits room) = none_is _ (edited_new s b w edit o c d none)
-  shape_admits h _ (shape.restarted conf b there known) = none_is _ (kept_new s (stays s b conf.macaddr_acl) c d none)
-  shape_admits h _ (shape.started conf b accept deny is new) = none_is _ none
+  shape_admits h _ (shape.enforced b p change l q there makes keep short) = none_is _ (kept_new s (stays (new s b p change l q) b p.mode) c d none)
+  shape_admits h _ (shape.started conf b accept deny is first) = none_is _ none
 
   pub verdict_admits : (h : Happening) → IsSome (station_at (verdict s confs h).state c d) → Asks c d h
   verdict_admits h = by_shape s confs (λ v. IsSome (station_at v.state c d) → Asks c d h) (λ tag answer v asks. asks) h (shape_admits h)

@@ -4,6 +4,8 @@ use Rattle.std.specs.Prelude.{filter}
 use Rattle.std.specs.List.{flat_map, list_any, Contains}
 use Rattle.std.specs.Option.{is_some}
 use Rattle.std.specs.Ordering.{eq_by_cmp}
+use Rattle.std.specs.FinMap as map
+use Rattle.std.specs.FinMap.{FinMap}
 use Rattle.std.proofs.lemmas.Bool.{and_parts}
 use Rattle.std.proofs.lemmas.List.{append_assoc}
 use Rattle.std.proofs.lemmas.List.Elements.{Contains-append_left, Contains-append_right, Contains-push}
@@ -11,18 +13,18 @@ use Rattle.apd_base.specs.declared.address.Addr.{Addr}
 use Rattle.apd_base.specs.declared.address.Bssid.{Bssid}
 use Rattle.apd_base.specs.declared.station.Aid.{Aid}
 use Rattle.apd_base.specs.declared.station.Policy.{Policy}
-use Rattle.apd_base.specs.declared.station.Which.{Which}
 use Rattle.apd_base.specs.declared.station.Station.TheVariants.{Authenticated}
 use Rattle.apd_base.specs.Addr.{addr_cmp, bssid_cmp, is_among}
-use Rattle.apd_base.specs.State.{State, station_at, policy_at, aid_at}
+use Rattle.apd_base.specs.Sets.{SetOf}
+use Rattle.apd_base.specs.State.{State, list_cmp, station_at, policy_at, aid_at}
 use Rattle.apd_conf.specs.declared.conf.Conf.{Conf}
+use Rattle.apd_conf.specs.Conf.{policy_of}
 use Rattle.apd_conf.specs.Confs.{conf_at}
 use Rattle.apd_frame.specs.Contents.{AssociationRequest}
 use Rattle.apd_frame.specs.declared.codes.Reason.{Reason}
 use Rattle.apd_frame.specs.declared.codes.Status.TheVariants.{Success}
 use Rattle.apd_frame.specs.declared.codes.TheConstants.Reason.{UNSPECIFIED}
 use Rattle.apd_table.specs.Addresses.{addresses_at}
-use Rattle.apd_table.specs.Allowed.{denied_by}
 use Rattle.apd_mlme.specs.declared.command_answer.Answer.{Answer}
 use Rattle.apd_mlme.specs.declared.association.Kind.{Kind}
 use Rattle.apd_mlme.specs.declared.association.Kind.TheVariants.{Association, Reassociation}
@@ -30,11 +32,10 @@ use Rattle.apd_mlme.specs.declared.decision.Recipient.{Recipient}
 use Rattle.apd_mlme.specs.declared.decision.Recipient.TheVariants.{Radio}
 use Rattle.apd_mlme.specs.declared.decision.Out.{Out}
 use Rattle.apd_mlme.specs.declared.decision.Out.TheVariants.{Install, Remove}
-use Rattle.apd_mlme.specs.declared.event.Edit.{Edit}
 use Rattle.apd_base.specs.declared.address.TheConstants.{BROADCAST}
 use Rattle.apd_mlme.specs.rules.Association.{association_response, elsewhere, outs_elsewhere, installation}
 use Rattle.apd_mlme.specs.rules.Association as rule
-use Rattle.apd_mlme.specs.rules.Configuration.{stays, configure_verdict, later_start, first_start}
+use Rattle.apd_mlme.specs.rules.Configuration.{later_start, first_start}
 use Rattle.apd_mlme.specs.rules.Commands.{text, answered, farewell, all_kicked}
 use Rattle.apd_mlme.specs.laws.AssociationEnd.{HasLeft, IsMeant, IsToldOfEnd}
 use Rattle.apd_mlme.specs.Happening.{Happening, Configure}
@@ -43,6 +44,8 @@ use Rattle.apd_mlme.specs.rules.Offer.{rates_in}
 use Rattle.apd_frame.specs.Elements.{octets_of}
 use Rattle.apd_frame.specs.Wire.{rates_element}
 use Rattle.apd_record.specs.Meaning.{put_station}
+use Rattle.apd_record.specs.declared.change.Change.{Change}
+use Rattle.apd_record.specs.declared.change.Change.TheVariants.{Policy as SetPolicy}
 use Rattle.apd_mlme.specs.rules.Leaving as told
 use Rattle.apd_mlme.specs.rules.Leaving.{removal, outs_of_end, outs_of_drop, put_back, dropped}
 use Rattle.apd_mlme.specs.Outs.{sent}
@@ -54,15 +57,12 @@ use Rattle.apd_mlme.proofs.AuthenticationLemmas.{admitted_aid}
 use Rattle.apd_base.proofs.AddrLemmas.{same_bssid, same_addr}
 use Rattle.apd_base.proofs.Cases.{none_is, same_some}
 use Rattle.apd_base.proofs.StationLemmas.{same_aid}
-use Rattle.apd_mlme.proofs.CommandLemmas.{new, edited_under}
-use Rattle.apd_mlme.proofs.DriverLemmas.{is_row, aid_put, aid_dropped}
-use Rattle.apd_mlme.proofs.DropLemmas.{taken_out, gone_among, kept_aid, denied_leave, all_leave, is_elsewhere}
+use Rattle.apd_mlme.proofs.EnforcementLemmas.{denied, v, enforced_aid, enforced_gone}
+use Rattle.apd_mlme.proofs.RowLemmas.{is_row, back_aid, out_aid}
+use Rattle.apd_mlme.proofs.DropLemmas.{taken_out, kept_aid, all_leave, is_elsewhere}
 use Rattle.apd_mlme.proofs.ElsewhereLemmas as elsewhere_laws
 use Rattle.apd_mlme.proofs.Shapes as shape
-use Rattle.apd_mlme.proofs.Shapes as shape
-use Rattle.apd_mlme.proofs.Shapes as shape
 use Rattle.apd_mlme.proofs.Shapes.{Shape, by_shape}
-use Rattle.apd_mlme.proofs.LaterStartLemmas.{later_aid}
 
 -- the association of one station ends
 record Ends (s new : State) (b : Bssid) (a : Addr) : Type 0 where
@@ -129,10 +129,10 @@ module _ (s : State) (b : Bssid) (a : Addr) where
   drop_first reason known = farewell_first a reason true (removal s b a) (inl refl) (let_go known)
 
   put_back_ends : (outs : List (Recipient × Out)) (c : Bssid) (d : Addr) → Ends s (put_back s b a outs).state c d → (c ≡ b) × (d ≡ a)
-  put_back_ends outs c d ends = row_meant s b a c d (aid_at (put_back s b a outs).state c d) (aid_put s b a Authenticated c d) ends.after ends.before
+  put_back_ends outs c d ends = row_meant s b a c d (aid_at (put_back s b a outs).state c d) (back_aid s b a c d) ends.after ends.before
 
   dropped_ends : (outs : List (Recipient × Out)) (c : Bssid) (d : Addr) → Ends s (dropped s b a outs).state c d → (c ≡ b) × (d ≡ a)
-  dropped_ends outs c d ends = row_meant s b a c d (aid_at (dropped s b a outs).state c d) (aid_dropped s b a c d) ends.after ends.before
+  dropped_ends outs c d ends = row_meant s b a c d (aid_at (dropped s b a outs).state c d) (out_aid s b a c d) ends.after ends.before
 
   -- the station that is dropped was associated
   was_known : (c : Bssid) (d : Addr) → (c ≡ b) × (d ≡ a) → IsSome (aid_at s c d) → IsSome (aid_at s b a)
@@ -220,19 +220,14 @@ module _ (s : State) (b : Bssid) (d : Addr) (as' : List Addr) (among : is_among 
       somewhere (eq_by_cmp addr_cmp) (λ x y e. sym (same_addr y x e)) (removal s b) (λ outs. Contains outs go) (λ xs ys. Contains-append_left xs ys go) (λ xs ys. Contains-append_right xs ys go)
       d as' (let_go s b d known) among
 
-module _ (s : State) (conf : Conf) (b : Bssid) where
-  later_ended : (c : Bssid) (d : Addr) → Ends s (later_start s conf b).state c d → IsLetGoFirst (later_start s conf b).outs c d
-  later_ended c d ends =
-      let denied = denied_by s b conf.macaddr_acl in
-      let was = of_them s b denied c d (aid_at (later_start s conf b).state c d) (later_aid s conf b c d) ends.after ends.before in
-      moved (later_start s conf b).outs b d c d (was.0, refl) (drops_first s b d denied was.1 was.2)
+module _ (s : State) (b : Bssid) (p : Policy) (change : Change) (l : SetOf list_cmp) (q : FinMap bssid_cmp Policy) where
+  enforced_ended : (c : Bssid) (d : Addr) → Ends s (v s b p change l q).state c d → IsLetGoFirst (v s b p change l q).outs c d
+  enforced_ended c d ends =
+      let was = of_them s b (denied s b p change l q) c d (aid_at (v s b p change l q).state c d) (enforced_aid s b p change l q c d) ends.after ends.before in
+      moved (v s b p change l q).outs b d c d (was.0, refl) (drops_first s b d (denied s b p change l q) was.1 was.2)
 
-  pub configure_tells : (accept deny : List Addr) → AreDroppedTold s b (configure_verdict s conf b accept deny)
-  configure_tells accept deny =
-      elim (is_some (policy_at s b)) as (λ t. AreDroppedTold s b (cond t (later_start s conf b) (first_start s conf b accept deny))) [
-        | true ↦ λ d known gone. contains_drop s b d (denied_by s b conf.macaddr_acl) (gone_among s b (stays s b conf.macaddr_acl) (denied_by s b conf.macaddr_acl) (denied_leave s b conf.macaddr_acl) d known gone)
-        | false ↦ λ d known gone. none_is (station_at s b d) gone known
-      ]
+  pub enforced_told : (d : Addr) → IsSome (station_at s b d) → station_at (v s b p change l q).state b d ≡ None → Contains (v s b p change l q).outs (sent (told.deauthentication b d UNSPECIFIED))
+  enforced_told d known gone = contains_drop s b d (denied s b p change l q) (enforced_gone s b p change l q d known gone)
 
 -- ---- control commands
 module _ (s : State) (b : Bssid) (c : Bssid) (d : Addr) where
@@ -241,15 +236,6 @@ module _ (s : State) (b : Bssid) (c : Bssid) (d : Addr) where
       let all = addresses_at s b in
       let was = of_them s b all c d (aid_at (all_kicked s b reason t).state c d) (kept_aid s b (is_elsewhere s b) all (all_leave s b) c d) ends.after ends.before in
       moved (all_kicked s b reason t).outs b d c d (was.0, refl) (farewell_first s b d BROADCAST reason t (flat_map (removal s b) all) (inr refl) (all_go s b d all was.1 was.2))
-
-  module _ (w : Which) (edit : Edit) where
-    edited_ended : (o : Option Policy) → Ends s (edited_under s b w edit o).state c d → IsLetGoFirst (edited_under s b w edit o).outs c d
-    edited_ended None ends = kept s (edited_under s b w edit None).state c d ends refl
-    edited_ended (Some p) ends =
-        let now = new s b w edit in
-        let denied = denied_by now b p.mode in
-        let was = of_them s b denied c d (aid_at (edited_under s b w edit (Some p)).state c d) (kept_aid now b (stays now b p.mode) denied (denied_leave now b p.mode) c d) ends.after ends.before in
-        moved (edited_under s b w edit (Some p)).outs b d c d (was.0, refl) (drops_first s b d denied was.1 was.2)
 
 -- ---- any event
 module _ (s : State) (confs : List Conf) (c : Bssid) (configured : IsSome (conf_at confs c)) (d : Addr) where
@@ -269,9 +255,8 @@ module _ (s : State) (confs : List Conf) (c : Bssid) (configured : IsSome (conf_
   shape_ended h _ (shape.dropped b a reason there known) ends = inr (dropped_first s b a c d reason ends)
   shape_ended h _ (shape.associated conf b kind request aid there known own) ends = inr (associated_ended s confs conf b kind request c configured d aid ends)
   shape_ended h _ (shape.emptied b reason deauth there) ends = inr (all_ended s b c d reason deauth ends)
-  shape_ended h _ (shape.edited b w edit o there at fits room) ends = inr (edited_ended s b c d w edit o ends)
-  shape_ended h _ (shape.restarted conf b there known) ends = inr (later_ended s conf b c d ends)
-  shape_ended h _ (shape.started conf b accept deny is new) ends = kept s (first_start s conf b accept deny).state c d ends refl
+  shape_ended h _ (shape.enforced b p change l q there makes keep short) ends = inr (enforced_ended s b p change l q c d ends)
+  shape_ended h _ (shape.started conf b accept deny is first) ends = kept s (first_start s conf b accept deny).state c d ends refl
 
   answered_ended : (h : Happening) (tag : ℕ) (answer : Answer) (v : Verdict) → IsEnded h v → IsEnded h (answered tag answer v)
   answered_ended h tag answer v is ends = elim (is (record { before = ends.before; after = ends.after })) [ inl own ↦ inl own | inr first ↦ inr (first_part v.outs (text tag answer ∷ []) c d first) ]
@@ -304,26 +289,18 @@ module _ (s : State) (confs : List Conf) (c : Bssid) (d : Addr) (aid : Aid) wher
         | false ↦ λ e other. not_now (elsewhere_laws.is_bssid_among c (elsewhere s b a) && eq_by_cmp addr_cmp d a) _ (cleared_aid s b a c d) none other
       ] refl (sym (associated_aid s confs conf b kind request own c d) ∙ now)
 
-  edited_begun : (b : Bssid) (w : Which) (edit : Edit) (o : Option Policy) → IsBegun (edited_under s b w edit o)
-  edited_begun b w edit None none now = not_now false (aid_at s c d) refl none now
-  edited_begun b w edit (Some p) none now =
-      let later = new s b w edit in
-      let denied = denied_by later b p.mode in
-      not_now (eq_by_cmp bssid_cmp c b && is_among d denied) _ (kept_aid later b (stays later b p.mode) denied (denied_leave later b p.mode) c d) none now
-
   shape_begun : (h : Happening) (v : Verdict) → Shape s confs h v → IsBegun v
   shape_begun h _ shape.silent none now = not_now false (aid_at s c d) refl none now
   shape_begun h _ (shape.told reply there so one) none now = not_now false (aid_at s c d) refl none now
   shape_begun h _ (shape.admitted conf b request there is e) none now = not_now false _ (admitted_aid s conf b request e c d) none now
-  shape_begun h _ (shape.left b a there own known) none now = not_now (is_row b a c d) _ (aid_put s b a Authenticated c d) none now
-  shape_begun h _ (shape.gone b a there own) none now = not_now (is_row b a c d) _ (aid_dropped s b a c d) none now
-  shape_begun h _ (shape.ended b a reason there known) none now = not_now (is_row b a c d) _ (aid_put s b a Authenticated c d) none now
-  shape_begun h _ (shape.dropped b a reason there known) none now = not_now (is_row b a c d) _ (aid_dropped s b a c d) none now
+  shape_begun h _ (shape.left b a there own known) none now = not_now (is_row b a c d) _ (back_aid s b a c d) none now
+  shape_begun h _ (shape.gone b a there own) none now = not_now (is_row b a c d) _ (out_aid s b a c d) none now
+  shape_begun h _ (shape.ended b a reason there known) none now = not_now (is_row b a c d) _ (back_aid s b a c d) none now
+  shape_begun h _ (shape.dropped b a reason there known) none now = not_now (is_row b a c d) _ (out_aid s b a c d) none now
   shape_begun h _ (shape.associated conf b kind request own there known is) none now = associated_begun conf b kind request own none now
   shape_begun h _ (shape.emptied b reason deauth there) none now = not_now (eq_by_cmp bssid_cmp c b && is_among d (addresses_at s b)) _ (kept_aid s b (is_elsewhere s b) (addresses_at s b) (all_leave s b) c d) none now
-  shape_begun h _ (shape.edited b w edit o there at fits room) none now = edited_begun b w edit o none now
-  shape_begun h _ (shape.restarted conf b there known) none now = not_now (eq_by_cmp bssid_cmp c b && is_among d (denied_by s b conf.macaddr_acl)) _ (later_aid s conf b c d) none now
-  shape_begun h _ (shape.started conf b accept deny is new) none now = not_now false (aid_at s c d) refl none now
+  shape_begun h _ (shape.enforced b p change l q there makes keep short) none now = not_now (eq_by_cmp bssid_cmp c b && is_among d (denied s b p change l q)) _ (enforced_aid s b p change l q c d) none now
+  shape_begun h _ (shape.started conf b accept deny is first) none now = not_now false (aid_at s c d) refl none now
 
   answered_begun : (tag : ℕ) (answer : Answer) (v : Verdict) → IsBegun v → IsBegun (answered tag answer v)
   answered_begun tag answer v is none now =
@@ -333,9 +310,14 @@ module _ (s : State) (confs : List Conf) (c : Bssid) (d : Addr) (aid : Aid) wher
   pub verdict_begun : (h : Happening) → IsBegun (verdict s confs h)
   verdict_begun h = by_shape s confs IsBegun answered_begun h (shape_begun h)
 
+-- a start tells whom it drops
 pub start_tells : (s : State) (confs : List Conf) (b : Bssid) (accept deny : List Addr) (o : Option Conf) → AreDroppedTold s b (verdict_under s confs o (Configure b accept deny))
 start_tells s confs b accept deny None = λ d known gone. none_is (station_at s b d) gone known
-start_tells s confs b accept deny (Some conf) = configure_tells s conf b accept deny
+start_tells s confs b accept deny (Some conf) =
+    elim (is_some (policy_at s b)) as (λ t. AreDroppedTold s b (cond t (later_start s conf b) (first_start s conf b accept deny))) [
+      | true ↦ enforced_told s b (policy_of conf) (SetPolicy b (policy_of conf)) s.lists (map.insert s.policies b (policy_of conf))
+      | false ↦ λ d known gone. none_is (station_at s b d) gone known
+    ]
 
 -- who is told behind its driver is told
 pub is_told : (outs : List (Recipient × Out)) (b : Bssid) (a : Addr) → IsLetGoFirst outs b a → IsToldOfEnd outs b a

@@ -1,6 +1,6 @@
 -- What an association or a reassociation request leaves.
-use Rattle.std.proofs.Common.{◌≡◌, Bool, true, false, cond, not, ◌&&◌, List, [], ◌∷◌, ◌++◌, Option, Some, None, inl, inr, refl, sym, ap, subst, ◌∙◌, IsSome, IsTrue}
-use Rattle.std.specs.Option.{is_some}
+use Rattle.std.proofs.Common.{◌≡◌, Bool, true, false, cond, not, ◌&&◌, List, [], ◌∷◌, ◌++◌, Option, Some, None, inl, inr, refl, sym, ap, subst, ◌∙◌, IsSome}
+use Rattle.std.specs.Option.{is_some, option_map}
 use Rattle.std.specs.Ordering.{eq_by_cmp}
 use Rattle.std.proofs.lemmas.Bool.{and_parts}
 use Rattle.apd_base.specs.declared.address.Addr.{Addr}
@@ -18,7 +18,6 @@ use Rattle.apd_frame.specs.Contents.{AssociationRequest}
 use Rattle.apd_frame.specs.declared.codes.Status.TheVariants.{Success}
 use Rattle.apd_record.specs.declared.change.Change.TheVariants.{Put}
 use Rattle.apd_record.specs.Meaning.{put_station, meaning_of}
-use Rattle.apd_table.specs.Allowed.{allowed}
 use Rattle.apd_table.specs.Can.{CanPut}
 use Rattle.apd_table.specs.Sound.{Sound, StaySound}
 use Rattle.apd_table.proofs.Denied.{meaning_of-append}
@@ -30,10 +29,9 @@ use Rattle.apd_mlme.specs.rules.Association.{association_response, elsewhere, wi
 use Rattle.apd_mlme.specs.rules.Identifiers.{identifier_for}
 use Rattle.apd_mlme.specs.Outs.{sent}
 use Rattle.apd_mlme.specs.Verdict.{Verdict}
-use Rattle.apd_mlme.proofs.DriverLemmas.{is_row, station_put, aid_cond, left_by, left_by-append}
-use Rattle.apd_mlme.proofs.ElsewhereLemmas.{is_bssid_among, among_elsewhere, put_backs_meaning, put_backs_station, HasRows, put_backs_sound, put_backs_stay, elsewhere_driven}
+use Rattle.apd_mlme.proofs.RowLemmas.{is_row, station_put, aid_cond, left_by, left_by-append, Follows, aid_turned, authenticated_station, turned_not}
+use Rattle.apd_mlme.proofs.ElsewhereLemmas.{is_bssid_among, among_elsewhere, put_backs_meaning, HasRows, put_backs_sound, put_backs_stay, elsewhere_driven}
 use Rattle.apd_mlme.proofs.IdentifierLemmas.{is_least_free}
-use Rattle.apd_mlme.proofs.RowLemmas.{Follows}
 use Rattle.apd_base.proofs.Cases.{either, first_false, no_value, none_is, second_false}
 use Rattle.apd_base.proofs.StateLemmas.{station_of_aid}
 
@@ -50,7 +48,10 @@ module _ (s : State) (b : Bssid) (a : Addr) where
 
   -- the state once the station was put back there
   abbrev pub cleared : State
-  cleared = meaning_of (put_backs a others) s
+  cleared = record s { stations = with_authenticated a others s.stations }
+
+  pub cleared_station : (c : Bssid) (d : Addr) → station_at cleared c d ≡ option_map (λ x. cond (is_bssid_among c others && eq_by_cmp addr_cmp d a) Authenticated x) (station_at s c d)
+  cleared_station c d = authenticated_station (λ key. is_bssid_among key.0 others && eq_by_cmp addr_cmp key.1 a) s.stations (c, d)
 
   pub elsewhere_rows : HasRows s a others
   elsewhere_rows c among =
@@ -65,13 +66,16 @@ module _ (s : State) (b : Bssid) (a : Addr) where
   not_here = among_elsewhere s b a b ∙ ap (λ t. t && is_some (policy_at s b)) (not_among (eq_by_cmp bssid_cmp b b) (is_some (aid_at s b a)) (tied bssid_total bssid_exact b))
 
   pub cleared_here : (d : Addr) → station_at cleared b d ≡ station_at s b d
-  cleared_here d = put_backs_station a others s b d ∙ ap (λ t. cond (t && eq_by_cmp addr_cmp d a) (Some Authenticated) (station_at s b d)) not_here
+  cleared_here d = cleared_station b d ∙ turned_not _ (station_at s b d) (first_false (is_bssid_among b others) (eq_by_cmp addr_cmp d a) not_here)
 
   pub cleared_aid : (c : Bssid) (d : Addr) → aid_at cleared c d ≡ cond (is_bssid_among c others && eq_by_cmp addr_cmp d a) None (aid_at s c d)
-  cleared_aid c d = ap aid_of (put_backs_station a others s c d) ∙ aid_cond (is_bssid_among c others && eq_by_cmp addr_cmp d a) (Some Authenticated) (station_at s c d)
+  cleared_aid c d = ap aid_of (cleared_station c d) ∙ aid_turned (is_bssid_among c others && eq_by_cmp addr_cmp d a) (station_at s c d)
+
+  pub cleared_is : meaning_of (put_backs a others) s ≡ cleared
+  cleared_is = put_backs_meaning a others s elsewhere_rows
 
   pub cleared_sound : Sound s → Sound cleared
-  cleared_sound sound = put_backs_sound a others s elsewhere_rows sound
+  cleared_sound sound = subst Sound cleared_is (put_backs_sound a others s elsewhere_rows sound)
 
   -- it is associated nowhere else then
   pub cleared_elsewhere : Sound s → (c : Bssid) → eq_by_cmp bssid_cmp b c ≡ false → aid_at cleared c a ≡ None
@@ -115,7 +119,7 @@ module _ (s : State) (confs : List Conf) (conf : Conf) (b : Bssid) (kind : Kind)
   pub associated_meaning : meaning_of answered.changes s ≡ answered.state
   associated_meaning =
       meaning_of-append (put_backs sender (elsewhere s b sender)) (Put b sender row ∷ []) s
-      ∙ ap (put_station b sender row) (put_backs_meaning sender (elsewhere s b sender) s)
+      ∙ ap (put_station b sender row) (cleared_is s b sender)
 
   can_put : Sound s → IsSome (station_at s b sender) → IsItsOwn → CanPut (cleared s b sender) b sender row
   can_put sound known own = record {
@@ -126,7 +130,7 @@ module _ (s : State) (confs : List Conf) (conf : Conf) (b : Bssid) (kind : Kind)
         | inr apart ↦ none_is (aid_at (cleared s b sender) c sender) (cleared_elsewhere s b sender sound c apart) h
       ];
     };
-    allowed = subst (λ (t : State). IsSome (policy_at t b) × IsTrue (allowed t b sender)) (sym (put_backs_meaning sender (elsewhere s b sender) s)) (sound.stations_have_policy b sender known, sound.none_denied b sender known);
+    allowed = (sound.stations_have_policy b sender known, sound.none_denied b sender known);
     room = inl (subst IsSome (sym (cleared_here s b sender sender)) known);
   }
 
@@ -134,13 +138,11 @@ module _ (s : State) (confs : List Conf) (conf : Conf) (b : Bssid) (kind : Kind)
   associated_sound sound known own =
       let before = cleared_sound s b sender sound in
       put_backs_stay sender (elsewhere s b sender) (Put b sender row ∷ []) s (elsewhere_rows s b sender) sound
-      (before, sound_put (cleared s b sender) b sender row before (can_put sound known own))
+      (subst (StaySound (Put b sender row ∷ [])) (sym (cleared_is s b sender)) (before, sound_put (cleared s b sender) b sender row before (can_put sound known own)))
 
   -- the rows and the identifiers afterwards
   pub associated_station : (c : Bssid) (d : Addr) → station_at answered.state c d ≡ cond (is_row b sender c d) (Some row) (station_at (cleared s b sender) c d)
-  associated_station c d =
-      station_put (record s { stations = with_authenticated sender (elsewhere s b sender) s.stations }) b sender row c d
-      ∙ ap (λ (t : State). cond (is_row b sender c d) (Some row) (station_at t c d)) (sym (put_backs_meaning sender (elsewhere s b sender) s))
+  associated_station = station_put (cleared s b sender) b sender row
 
   pub associated_aid : (c : Bssid) (d : Addr) → aid_at answered.state c d ≡ cond (is_row b sender c d) (Some aid.number) (aid_at (cleared s b sender) c d)
   associated_aid c d = ap aid_of (associated_station c d) ∙ aid_cond (is_row b sender c d) (Some row) (station_at (cleared s b sender) c d)

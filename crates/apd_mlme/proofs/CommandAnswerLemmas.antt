@@ -22,9 +22,8 @@ use Rattle.apd_conf.specs.declared.conf.Conf.{Conf}
 use Rattle.apd_conf.specs.Confs.{conf_at}
 use Rattle.apd_frame.specs.declared.codes.Reason.{Reason}
 use Rattle.apd_frame.specs.declared.codes.TheConstants.Reason.{UNSPECIFIED}
-use Rattle.apd_record.specs.Meaning.{put_station, drop_station}
 use Rattle.apd_table.specs.Addresses.{addresses_at}
-use Rattle.apd_table.specs.Allowed.{allowed, allowed_in, allowed_under, denied_by}
+use Rattle.apd_table.specs.Allowed.{allowed, allowed_under}
 use Rattle.apd_table.specs.Sound.{Sound}
 use Rattle.apd_table.proofs.ListSets.{insert_here, remove_here, clear_here, insert_elsewhere, remove_elsewhere, clear_elsewhere}
 use Rattle.apd_mlme.specs.declared.command_answer.Answer.TheVariants.{Done, Refused}
@@ -37,8 +36,8 @@ use Rattle.apd_mlme.specs.declared.event.Edit.TheVariants.{Add, Remove, Clear}
 use Rattle.apd_base.specs.declared.address.TheConstants.{BROADCAST}
 use Rattle.apd_mlme.specs.laws.Association.{only_authenticated}
 use Rattle.apd_mlme.specs.laws.Command.{IsKicked, IsOnAfter, IsEdited, IsFull, IsAnsweredTo}
-use Rattle.apd_mlme.specs.rules.Commands.{text, answered, farewell, deauthenticated_of, disassociated_of, all_kicked, kicked, kick_verdict, edited, list_edit_verdict}
-use Rattle.apd_mlme.specs.rules.Configuration.{stays, configure_verdict}
+use Rattle.apd_mlme.specs.rules.Commands.{text, answered, farewell, deauthenticated_of, disassociated_of, all_kicked, kicked, kick_verdict, change_of, edited_under, edited, list_edit_verdict}
+use Rattle.apd_mlme.specs.rules.Configuration.{configure_verdict}
 use Rattle.apd_mlme.specs.laws.AssociationEnd.{IsMeant}
 use Rattle.apd_mlme.specs.Happening.{Happening, Heard, Kick, ListEdit, Expire, Configure, bssid_of}
 use Rattle.apd_mlme.specs.rules.Inactivity.{inactivity_verdict}
@@ -47,14 +46,14 @@ use Rattle.apd_mlme.specs.Outs.{sent}
 use Rattle.apd_mlme.specs.rules.{verdict, verdict_under, heard_verdict, IsFit}
 use Rattle.apd_mlme.specs.Verdict.{nothing, only_sent}
 use Rattle.apd_base.proofs.Cases.{differ, either, none_is, not_yes, second_true}
-use Rattle.apd_mlme.proofs.CommandLemmas.{by_kick, by_edit, IsUnneeded, IsTooMany, new, edited_under}
-use Rattle.apd_mlme.proofs.DriverLemmas.{other_row, put_row, dropped_row, station_put, station_dropped}
-use Rattle.apd_mlme.proofs.DropLemmas.{all_gone, all_leave, denied_leave, gone_among, is_elsewhere, kept_row}
-use Rattle.apd_mlme.proofs.RadioLemmas.{radios_only, shape_radios}
-use Rattle.apd_mlme.proofs.Shapes as shape
-use Rattle.apd_mlme.proofs.Shapes.{heard_shape, inactivity_shape, configure_shape, kicked_shape}
-use Rattle.apd_mlme.proofs.AssociationEndLemmas.{contains_drop}
-use Rattle.apd_mlme.proofs.TrueOutsLemmas.{put_back_aid}
+use Rattle.apd_mlme.proofs.CommandLemmas.{by_kick, by_edit, IsUnneeded, IsTooMany, new}
+use Rattle.apd_mlme.proofs.RowLemmas.{other_row}
+use Rattle.apd_mlme.proofs.RowLemmas as leave
+use Rattle.apd_mlme.proofs.DropLemmas.{all_gone, all_leave, is_elsewhere, kept_row}
+use Rattle.apd_mlme.proofs.Shapes.{heard_shape, inactivity_shape, configure_shape, edited_shape, kicked_shape}
+use Rattle.apd_mlme.proofs.AssociationEndLemmas.{enforced_told}
+use Rattle.apd_mlme.proofs.EnforcementLemmas.{enforced_here, enforced_elsewhere}
+use Rattle.apd_mlme.proofs.TrueOutsLemmas.{radios_only, shape_radios}
 
 -- ---- a kick
 -- the removals of several stations are those of the associated ones
@@ -132,11 +131,11 @@ module _ (s : State) (b : Bssid) (to : Addr) (reason : Reason) (tag : ℕ) where
     deauthenticated_answered (Some row) at = record {
       removed = associated s b (to ∷ []);
       told = told_by b (associated s b (to ∷ [])) (removal s b to) (sent (farewell b to reason true)) (text tag Done) (removal_is s b to);
-      deauthenticated = λ _. of_meant (λ a. station_at (drop_station b to s) b a ≡ None) (dropped_row s b to);
-      disassociated = of_meant (λ a. aid_at (drop_station b to s) b a ≡ None) (ap aid_of (dropped_row s b to));
+      deauthenticated = λ _. of_meant (λ a. station_at (leave.out s b to) b a ≡ None) (leave.out_row s b to);
+      disassociated = of_meant (λ a. aid_at (leave.out s b to) b a ≡ None) (ap aid_of (leave.out_row s b to));
       everyone = λ all. one_meant to one all;
       kept = λ h. differ true h refl;
-      others = λ c a other. station_dropped s b to c a ∙ other_row b to c a None (station_at s c a) (λ same. other (same.0, inl (sym same.1)));
+      others = λ c a other. leave.out_station s b to c a ∙ other_row b to c a None (station_at s c a) (λ same. other (same.0, inl (sym same.1)));
       lists = refl;
       policies = refl;
     }
@@ -148,10 +147,10 @@ module _ (s : State) (b : Bssid) (to : Addr) (reason : Reason) (tag : ℕ) where
       removed = to ∷ [];
       told = refl;
       deauthenticated = λ h. differ false refl h;
-      disassociated = of_meant (λ a. aid_at (put_station b to Authenticated s) b a ≡ None) (put_back_aid s b to);
+      disassociated = of_meant (λ a. aid_at (leave.back s b to) b a ≡ None) (leave.put_back_aid s b to);
       everyone = λ all. one_meant to one all;
-      kept = λ _ _. put_row s b to Authenticated ∙ ap only_authenticated (sym at);
-      others = λ c a other. station_put s b to Authenticated c a ∙ other_row b to c a (Some Authenticated) (station_at s c a) (λ same. other (same.0, inl (sym same.1)));
+      kept = λ _ _. leave.back_row s b to;
+      others = λ c a other. leave.back_other s b to c a (λ same. other (same.0, inl (sym same.1)));
       lists = refl;
       policies = refl;
     }
@@ -215,18 +214,13 @@ module _ (s : State) (b : Bssid) (w : Which) where
   edited_answered edit tag None at known = cc
   edited_answered edit tag (Some p) at known =
       let now = new s b w edit in
-      let denied = denied_by now b p.mode in
-      let leave = denied_leave now b p.mode in
-      let row = kept_row now b (stays now b p.mode) denied leave in
+      let change = change_of b w edit in
       record {
         list = on_after edit;
-        stations = λ d. row b d
-            ∙ ap (λ t. cond (not t || allowed_in now b d p.mode) (station_at s b d) None) (tied bssid_total bssid_exact b)
-            ∙ ap (λ q. cond (allowed_under now b d q) (station_at s b d) None) (sym at);
-        told = λ d had gone.
-            Contains-append_left (edited_under s b w edit (Some p)).outs (text tag Done ∷ []) (sent (deauthentication b d UNSPECIFIED)) (contains_drop s b d denied (gone_among now b (stays now b p.mode) denied leave d had gone));
+        stations = λ d. enforced_here s b p change now.lists s.policies d ∙ ap (λ q. cond (allowed_under now b d q) (station_at s b d) None) (sym at);
+        told = λ d had gone. Contains-append_left (edited_under s b w edit (Some p)).outs (text tag Done ∷ []) (sent (deauthentication b d UNSPECIFIED)) (enforced_told s b p change now.lists s.policies d had gone);
         other_lists = other_list edit;
-        other_stations = λ c ne d. row c d ∙ ap (λ t. cond (not t || allowed_in now b d p.mode) (station_at s c d) None) (other_way b c (apart bssid_total bssid_exact c b ne));
+        other_stations = enforced_elsewhere s b p change now.lists s.policies;
         policies = refl;
       }
 
@@ -273,7 +267,7 @@ module _ (s : State) (confs : List Conf) (sound : Sound s) where
       (λ none. inl (record { before = []; last = refl; alone = refl }, unneeded_answered s b w edit tag sound none))
       (λ many. inr (record { before = []; last = refl; alone = refl }, full_answered s b w edit tag sound many))
       (λ room. inl (
-        record { before = (edited s b w edit).outs; last = refl; alone = radios_only confs (edited s b w edit).outs (shape_radios s confs (ListEdit b w edit tag) _ (shape.edited b w edit (policy_at s b) there refl (λ fit. fit.1) room)) },
+        record { before = (edited s b w edit).outs; last = refl; alone = radios_only confs (edited s b w edit).outs (shape_radios s confs (ListEdit b w edit tag) _ (edited_shape s confs b there (ListEdit b w edit tag) w edit room (policy_at s b) refl)) },
         edited_answered s b w edit tag (policy_at s b) refl known,
       ))
 

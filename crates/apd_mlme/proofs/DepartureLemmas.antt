@@ -7,7 +7,6 @@ use Rattle.apd_base.specs.declared.station.Station.{Station}
 use Rattle.apd_base.specs.declared.station.Station.TheVariants.{Authenticated, Associated}
 use Rattle.apd_base.specs.State.{State, station_at, aid_of, aid_at}
 use Rattle.apd_base.proofs.Cases.{none_is}
-use Rattle.apd_record.specs.Meaning.{put_station, drop_station}
 use Rattle.apd_mlme.specs.declared.decision.Recipient.TheVariants.{Radio}
 use Rattle.apd_mlme.specs.declared.decision.Out.TheVariants.{Remove}
 use Rattle.apd_mlme.specs.laws.Association.{only_authenticated}
@@ -15,14 +14,14 @@ use Rattle.apd_mlme.specs.laws.Departure.{IsAlone, IsDisassociated, IsDeauthenti
 use Rattle.apd_mlme.specs.rules.Departure.{disassociation_of, deauthentication_of}
 use Rattle.apd_mlme.specs.rules.Inactivity.{inactivity_of}
 use Rattle.apd_mlme.specs.laws.ManagementFrame.{deauthentication_frame}
-use Rattle.apd_mlme.proofs.DriverLemmas.{other_row, put_row, dropped_row, station_put, station_dropped}
+use Rattle.apd_mlme.proofs.RowLemmas.{other_row, back, back_other, back_row, out, out_row, out_station}
 
 module _ (s : State) (b : Bssid) (a : Addr) where
-  put_back_alone : IsAlone s b a (put_station b a Authenticated s)
-  put_back_alone = record { others = λ c d other. station_put s b a Authenticated c d ∙ other_row b a c d (Some Authenticated) (station_at s c d) other; lists = refl; policies = refl }
+  put_back_alone : IsAlone s b a (back s b a)
+  put_back_alone = record { others = λ c d other. back_other s b a c d other; lists = refl; policies = refl }
 
-  dropped_alone : IsAlone s b a (drop_station b a s)
-  dropped_alone = record { others = λ c d other. station_dropped s b a c d ∙ other_row b a c d None (station_at s c d) other; lists = refl; policies = refl }
+  dropped_alone : IsAlone s b a (out s b a)
+  dropped_alone = record { others = λ c d other. out_station s b a c d ∙ other_row b a c d None (station_at s c d) other; lists = refl; policies = refl }
 
   kept_alone : IsAlone s b a s
   kept_alone = record { others = λ c d other. refl; lists = refl; policies = refl }
@@ -43,7 +42,7 @@ module _ (s : State) (b : Bssid) (a : Addr) where
     alone = kept_alone;
   }
   disassociated (Some (Associated x)) at known = record {
-    row = put_row s b a Authenticated ∙ ap only_authenticated (sym at);
+    row = back_row s b a;
     associated = λ _. refl;
     authenticated = λ is. unassociated (ap aid_of is) (ap (λ o. is_some (aid_of o)) at);
     alone = put_back_alone;
@@ -52,7 +51,7 @@ module _ (s : State) (b : Bssid) (a : Addr) where
   pub deauthenticated : (o : Option Station) → station_at s b a ≡ o → IsDeauthenticated s b a (deauthentication_of s b a o)
   deauthenticated None at = record { row = at; associated = unassociated (ap aid_of at); unassociated = λ _. refl; alone = kept_alone }
   deauthenticated (Some row) at = record {
-    row = dropped_row s b a;
+    row = out_row s b a;
     associated = λ known. ap (λ t. cond t ((Radio b, Remove a) ∷ []) []) known;
     unassociated = λ none. ap (λ o. cond (is_some o) ((Radio b, Remove a) ∷ []) []) none;
     alone = dropped_alone;
@@ -67,12 +66,12 @@ module _ (s : State) (b : Bssid) (a : Addr) where
   }
   silenced (Some Authenticated) at = record {
     associated = unassociated (ap aid_of at);
-    authenticated = λ _. (dropped_row s b a, ap (λ o. cond (is_some (aid_of o)) ((Radio b, Remove a) ∷ []) [] ++ deauthentication_frame b a 2 ∷ []) at);
+    authenticated = λ _. (out_row s b a, ap (λ o. cond (is_some (aid_of o)) ((Radio b, Remove a) ∷ []) [] ++ deauthentication_frame b a 2 ∷ []) at);
     unknown = λ none. unknown none (ap is_some at);
     alone = dropped_alone;
   }
   silenced (Some (Associated x)) at = record {
-    associated = λ _. (put_row s b a Authenticated, refl);
+    associated = λ _. (back_row s b a ∙ ap only_authenticated at, refl);
     authenticated = λ is. unassociated (ap aid_of is) (ap (λ o. is_some (aid_of o)) at);
     unknown = λ none. unknown none (ap is_some at);
     alone = put_back_alone;

@@ -27,7 +27,7 @@ use Rattle.apd_mlme.specs.declared.decision.Out.TheVariants.{Remove}
 use Rattle.apd_mlme.specs.rules.Configuration.{stays}
 use Rattle.apd_mlme.specs.rules.Leaving.{deauthentication, outs_of_drop, removal}
 use Rattle.apd_mlme.specs.Outs.{sent}
-use Rattle.apd_mlme.proofs.DriverLemmas.{aid_cond, is_row, left_by, left_by-append, left_by_removal}
+use Rattle.apd_mlme.proofs.RowLemmas.{aid_cond, is_row, left_by, left_by-append, left_by_removal}
 use Rattle.apd_base.proofs.Cases.{differ, either, none_is}
 
 none_more : (t u : Bool) → t ≡ (t || (u && false))

@@ -6,6 +6,7 @@ use Rattle.std.specs.Option.{is_some}
 use Rattle.std.specs.Ordering.{eq_by_cmp}
 use Rattle.std.specs.FinMap as map
 use Rattle.std.specs.FinMap.{contains_key-keys}
+use Rattle.std.proofs.lemmas.Bool.{and_parts}
 use Rattle.std.proofs.lemmas.Map.Views.{any-filter_same}
 use Rattle.apd_base.specs.declared.address.Addr.{Addr}
 use Rattle.apd_base.specs.declared.address.Bssid.{Bssid}
@@ -13,7 +14,7 @@ use Rattle.apd_base.specs.declared.station.Station.{Station}
 use Rattle.apd_base.specs.declared.station.Station.TheVariants.{Authenticated}
 use Rattle.apd_base.specs.Addr.{addr_cmp, bssid_cmp}
 use Rattle.apd_base.specs.State.{State, station_at, policy_at, aid_at}
-use Rattle.apd_base.proofs.AddrLemmas.{bssid_total, bssid_exact, same_bssid}
+use Rattle.apd_base.proofs.AddrLemmas.{bssid_total, bssid_exact, same_addr, same_bssid}
 use Rattle.apd_base.proofs.MapLemmas.{tied}
 use Rattle.apd_conf.specs.declared.conf.Conf.{Conf}
 use Rattle.apd_conf.specs.Confs.{conf_at}
@@ -25,8 +26,7 @@ use Rattle.apd_mlme.specs.declared.decision.Recipient.{Recipient}
 use Rattle.apd_mlme.specs.declared.decision.Out.{Out}
 use Rattle.apd_mlme.specs.rules.Association.{elsewhere, with_authenticated, put_backs, outs_elsewhere}
 use Rattle.apd_mlme.specs.rules.Leaving.{outs_of_end}
-use Rattle.apd_mlme.proofs.DriverLemmas.{is_row, station_put, left_by}
-use Rattle.apd_mlme.proofs.RowLemmas.{sound_put_back}
+use Rattle.apd_mlme.proofs.RowLemmas.{is_row, station_put, left_by, authenticated_is, sound_put_back}
 use Rattle.apd_base.proofs.Cases.{second_true}
 
 -- whether a BSSID is among some
@@ -44,9 +44,9 @@ among_elsewhere s b a c =
 
 -- ---- the changes
 
-pub put_backs_meaning : (a : Addr) (bssids : List Bssid) (s : State) → meaning_of (put_backs a bssids) s ≡ record s { stations = with_authenticated a bssids s.stations }
-put_backs_meaning a [] s = refl
-put_backs_meaning a (c ∷ bssids) s = put_backs_meaning a bssids (put_station c a Authenticated s)
+pub put_backs_rest : (a : Addr) (bssids : List Bssid) (s : State) → meaning_of (put_backs a bssids) s ≡ record s { stations = (meaning_of (put_backs a bssids) s).stations }
+put_backs_rest a [] s = refl
+put_backs_rest a (c ∷ bssids) s = put_backs_rest a bssids (put_station c a Authenticated s)
 
 two_put : {A : Type 0} (t u v : Bool) (x o : A) → cond (v && t) x (cond (u && t) x o) ≡ cond ((u || v) && t) x o
 two_put true true true x o = refl
@@ -54,7 +54,7 @@ two_put false true true x o = refl
 two_put t true false x o = refl
 two_put t false v x o = refl
 
-pub put_backs_station : (a : Addr) (bssids : List Bssid) (s : State) (c : Bssid) (d : Addr) →
+put_backs_station : (a : Addr) (bssids : List Bssid) (s : State) (c : Bssid) (d : Addr) →
     station_at (meaning_of (put_backs a bssids) s) c d ≡ cond (is_bssid_among c bssids && eq_by_cmp addr_cmp d a) (Some Authenticated) (station_at s c d)
 put_backs_station a [] s c d = refl
 put_backs_station a (x ∷ bssids) s c d =
@@ -65,6 +65,13 @@ put_backs_station a (x ∷ bssids) s c d =
 -- the station has a row at each of these BSSIDs
 abbrev pub HasRows : State → Addr → List Bssid → Type 0
 HasRows s a bssids = (c : Bssid) → is_bssid_among c bssids ≡ true → IsSome (station_at s c a)
+
+-- with one at each of them it says authenticated there, and nothing else changes
+pub put_backs_meaning : (a : Addr) (bssids : List Bssid) (s : State) → HasRows s a bssids → meaning_of (put_backs a bssids) s ≡ record s { stations = with_authenticated a bssids s.stations }
+put_backs_meaning a bssids s rows =
+    put_backs_rest a bssids s
+    ∙ ap (λ k. record s { stations = k }) (authenticated_is (λ key. is_bssid_among key.0 bssids && eq_by_cmp addr_cmp key.1 a) s.stations (meaning_of (put_backs a bssids) s).stations (λ q. put_backs_station a bssids s q.0 q.1)
+    (λ q there. (let parts = and_parts (is_bssid_among q.0 bssids) (eq_by_cmp addr_cmp q.1 a) there in subst (λ x. IsSome (station_at s q.0 x)) (sym (same_addr a q.1 parts.1)) (rows q.0 parts.0))))
 
 some_put : (t : Bool) (o : Option Station) → IsSome o → IsSome (cond t (Some Authenticated) o)
 some_put true o h = refl

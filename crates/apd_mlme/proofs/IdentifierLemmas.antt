@@ -1,11 +1,10 @@
 -- The least free identifier, and why there is always one for a station that is authenticated and not associated.
-use Rattle.std.proofs.Common.{◌≡◌, ◌≢◌, eq-eqb, ℕ, zero, suc, ◌-◌, ◌<◌, ◌≤◌, Bool, true, false, cond, not, List, [], ◌∷◌, ◌++◌, Option, Some, None, inl, inr, refl, sym, ap, subst, ◌∙◌, IsSome, IfNone, arith}
-use Rattle.std.specs.List.{find}
-use Rattle.std.specs.Option.{is_some}
+use Rattle.std.proofs.Common.{◌≡◌, ◌≢◌, eq-eqb, ℕ, zero, suc, ◌-◌, ◌<◌, ◌≤◌, true, false, cond, Option, Some, None, inl, inr, refl, sym, ap, subst, ◌∙◌, IsSome, IfNone, arith}
+use Rattle.std.specs.Option.{is_some, option_or}
 use Rattle.std.specs.Ordering.{eq_by_cmp}
 use Rattle.std.specs.FinMap as map
 use Rattle.std.proofs.Math.Nat.{eq-or-lt_of_le}
-use Rattle.std.specs.FinMap.{FinMap, len-remove, get-retain_keys, empty_of_len, get-empty}
+use Rattle.std.specs.FinMap.{FinMap, len-remove, get-retain_keys}
 use Rattle.apd_base.specs.declared.address.Addr.{Addr}
 use Rattle.apd_base.specs.declared.address.Bssid.{Bssid}
 use Rattle.apd_base.specs.declared.limits.TheConstants.{MAX_STATIONS}
@@ -21,28 +20,12 @@ use Rattle.apd_table.specs.LeastFree.{IsTaken, IsLeastFree}
 use Rattle.apd_table.specs.Sound.{Sound}
 use Rattle.apd_table.specs.Addresses.{addresses_at}
 use Rattle.apd_table.proofs.AllRows.{any_address}
-use Rattle.apd_mlme.specs.rules.Identifiers.{identifiers_to, identifiers, is_number, is_taken, least_free, identifier_for, one_less, at_least_one, at_most_all}
-use Rattle.apd_base.proofs.Cases.{differ, none_is, not_false, not_yes, same_some, value_of}
+use Rattle.apd_table.proofs.Parts.{has_one}
+use Rattle.apd_mlme.specs.rules.Identifiers.{is_number, is_taken, least_free_to, least_free, identifier_for, one_less, at_least_one, at_most_all}
+use Rattle.apd_base.proofs.Cases.{differ, same_some, value_of}
 use Rattle.std.proofs.lemmas.Bool.{eqb-true}
 use Rattle.std.proofs.lemmas.List.Folds.{Any-from_list_any}
 use Rattle.apd_base.proofs.StateLemmas.{station_of_aid}
-
--- what is found first among numbers that rise
-find-append_none : {A : Type 0} (p : A → Bool) (xs ys : List A) → find p xs ≡ None → find p (xs ++ ys) ≡ find p ys
-find-append_none p [] ys e = refl
-find-append_none p (x ∷ xs) ys e =
-    elim (p x) as (λ t. cond t (Some x) (find p xs) ≡ None → cond t (Some x) (find p (xs ++ ys)) ≡ find p ys) [
-      | true ↦ λ f. cc
-      | false ↦ λ f. find-append_none p xs ys f
-    ] e
-
-find-append_some : {A : Type 0} (p : A → Bool) (xs ys : List A) (z : A) → find p xs ≡ Some z → find p (xs ++ ys) ≡ Some z
-find-append_some p [] ys z e = cc
-find-append_some p (x ∷ xs) ys z e =
-    elim (p x) as (λ t. cond t (Some x) (find p xs) ≡ Some z → cond t (Some x) (find p (xs ++ ys)) ≡ Some z) [
-      | true ↦ λ f. f
-      | false ↦ λ f. find-append_some p xs ys z f
-    ] e
 
 none_some : (i : ℕ) → None ≡ Some i → ⊥
 none_some i e = cc
@@ -62,9 +45,6 @@ module _ (s : State) (b : Bssid) where
   free_of aid e a has =
       let row = value_of (station_at s b a) (station_of_aid (station_at s b a) (ap is_some has)) in
       differ _ e (any_address s b (λ c. is_number aid.number (aid_at s b c)) a row.0 row.1 (ap (is_number aid.number) has ∙ eq-eqb aid.number aid.number refl))
-
-  abbrev free : Aid → Bool
-  free aid = not (is_taken s b aid)
 
   -- none is free: each is some station's; and the one that is found is the least
   abbrev Scanned : (n : ℕ) → Option Aid → Type 0
@@ -86,29 +66,28 @@ module _ (s : State) (b : Bssid) where
     smaller = λ j low less. below j low (omega arith);
   }
 
-  next_scanned : (n : ℕ) (aid : Aid) → aid.number ≡ suc n → ((i : ℕ) → 1 ≤ i → i ≤ n → IsTaken s b i) → Scanned (suc n) (find free (aid ∷ []))
+  next_scanned : (n : ℕ) (aid : Aid) → aid.number ≡ suc n → ((i : ℕ) → 1 ≤ i → i ≤ n → IsTaken s b i) → Scanned (suc n) (cond (is_taken s b aid) None (Some aid))
   next_scanned n aid is below =
-      elim (free aid) as (λ t. free aid ≡ t → Scanned (suc n) (cond t (Some aid) None)) [
-        | true ↦ λ e. next_is_free n aid is below (not_yes _ e)
-        | false ↦ λ e. one_more (IsTaken s b) n below (subst (IsTaken s b) is (taken_of aid (not_false _ e)))
+      elim (is_taken s b aid) as (λ t. is_taken s b aid ≡ t → Scanned (suc n) (cond t None (Some aid))) [
+        | true ↦ λ e. one_more (IsTaken s b) n below (subst (IsTaken s b) is (taken_of aid e))
+        | false ↦ λ e. next_is_free n aid is below e
       ] refl
 
-  scanned : (n : ℕ) (high : n ≤ MAX_STATIONS) → Scanned n (find free (identifiers_to n high))
-  unfolding identifiers_to
+  scanned : (n : ℕ) (high : n ≤ MAX_STATIONS) → Scanned n (least_free_to s b n high)
+  unfolding least_free_to
   scanned zero high = λ i low none. absurd (omega arith)
   scanned (suc n) high =
-      let before = identifiers_to n (one_less n high) in
       let last : Aid = record { number = suc n; low = at_least_one n; high = high } in
-      elim (find free before) as (λ o. find free before ≡ o → Scanned n o → Scanned (suc n) (find free (before ++ last ∷ []))) [
-        | None ↦ λ e below. subst (Scanned (suc n)) (sym (find-append_none free before (last ∷ []) e)) (next_scanned n last refl below)
-        | Some z ↦ λ e least. subst (Scanned (suc n)) (sym (find-append_some free before (last ∷ []) z e)) least
-      ] refl (scanned n (one_less n high))
+      elim (least_free_to s b n (one_less n high)) as (λ o. Scanned n o → Scanned (suc n) (option_or o (cond (is_taken s b last) None (Some last)))) [
+        | None ↦ λ below. next_scanned n last refl below
+        | Some z ↦ λ least. least
+      ] (scanned n (one_less n high))
 
   abbrev pub AllTaken : Type 0
   AllTaken = (i : ℕ) → 1 ≤ i → i ≤ MAX_STATIONS → IsTaken s b i
 
   least_scanned : Scanned MAX_STATIONS (least_free s b)
-  unfolding identifiers least_free
+  unfolding least_free
   least_scanned = scanned MAX_STATIONS at_most_all
 
   -- two least ones are one
@@ -132,13 +111,6 @@ module _ (s : State) (b : Bssid) where
   is_least_free aid e = subst (Scanned MAX_STATIONS) e least_scanned
 
   -- as many rows as identifiers that are taken
-  positive : (m : FinMap station_cmp Station) (k : Bssid × Addr) → IsSome (map.get m k) → 1 ≤ map.len m
-  positive m k known =
-      elim (map.len m) as (λ n. map.len m ≡ n → 1 ≤ n) [
-        | zero ↦ λ e. absurd (none_is (map.get m k) (ap (λ x. map.get x k) (empty_of_len m e) ∙ get-empty station_cmp k) known)
-        | suc n ↦ λ e. omega arith
-      ] refl
-
   abbrev Has : FinMap station_cmp Station → ℕ → Type 0
   Has m i = (a : Addr) × (aid_of (map.get m (b, a)) ≡ Some i)
 
@@ -155,23 +127,22 @@ module _ (s : State) (b : Bssid) where
       let top = has (suc n) (omega arith) (omega arith) in
       let known : IsSome (map.get m (b, top.0)) = station_of_aid _ (ap is_some top.1) in
       let fewer = len-remove station_total m (b, top.0) ∙ ap (λ t. cond t (map.len m - 1) (map.len m)) known in
-      let some = positive m (b, top.0) known in
+      let row = value_of _ known in
+      let some = has_one station_total station_exact m (b, top.0) row.0 row.1 in
       let rest = as_many n (map.remove m (b, top.0)) (λ i low high. still_has m i (suc n) (omega arith) top (has i low (omega arith))) in
       omega arith
-
-  kept_row : (a c : Addr) → aid_at s b a ≡ None → (i : ℕ) → aid_at s b c ≡ Some i → aid_of (map.get (map.remove (stations_of s b) (b, a)) (b, c)) ≡ Some i
-  kept_row a c none i taken =
-      elim (one_or_apart station_total station_exact (b, c) (b, a)) [
-        | inl same ↦ (let here : aid_at s b c ≡ aid_at s b a = ap (λ k. aid_of (map.get s.stations k)) same in absurd (none_some i (sym none ∙ sym here ∙ taken)))
-        | inr apart ↦ ap aid_of (get_remove_other station_total station_exact (stations_of s b) (b, a) (b, c) apart
-            ∙ get-retain_keys s.stations (λ k. eq_by_cmp bssid_cmp b k.0) (b, c) (λ x t. ap (λ k. eq_by_cmp bssid_cmp b k.0) (sym (station_exact (b, c) x t)))
-            ∙ ap (λ t. cond t (station_at s b c) None) (tied bssid_total bssid_exact b)) ∙ taken
-      ]
 
   row_there : (a : Addr) → map.get (stations_of s b) (b, a) ≡ station_at s b a
   row_there a =
       get-retain_keys s.stations (λ k. eq_by_cmp bssid_cmp b k.0) (b, a) (λ x t. ap (λ k. eq_by_cmp bssid_cmp b k.0) (sym (station_exact (b, a) x t)))
       ∙ ap (λ t. cond t (station_at s b a) None) (tied bssid_total bssid_exact b)
+
+  kept_row : (a c : Addr) → aid_at s b a ≡ None → (i : ℕ) → aid_at s b c ≡ Some i → aid_of (map.get (map.remove (stations_of s b) (b, a)) (b, c)) ≡ Some i
+  kept_row a c none i taken =
+      elim (one_or_apart station_total station_exact (b, c) (b, a)) [
+        | inl same ↦ (let here : aid_at s b c ≡ aid_at s b a = ap (λ k. aid_of (map.get s.stations k)) same in absurd (none_some i (sym none ∙ sym here ∙ taken)))
+        | inr apart ↦ ap aid_of (get_remove_other station_total station_exact (stations_of s b) (b, a) (b, c) apart ∙ row_there c) ∙ taken
+      ]
 
   -- a station that has none leaves one: the others are 2006 at most
   never_all : Sound s → (a : Addr) → IsSome (station_at s b a) → aid_at s b a ≡ None → AllTaken → ⊥
@@ -180,7 +151,8 @@ module _ (s : State) (b : Bssid) where
       let there : IsSome (map.get rows (b, a)) = subst IsSome (sym (row_there a)) known in
       let fewer = len-remove station_total rows (b, a) ∙ ap (λ t. cond t (map.len rows - 1) (map.len rows)) there in
       let few = sound.few_stations b in
-      let some = positive rows (b, a) there in
+      let row = value_of _ there in
+      let some = has_one station_total station_exact rows (b, a) row.0 row.1 in
       let many = as_many MAX_STATIONS (map.remove rows (b, a)) (λ i low high. (let one = all i low high in (one.0, kept_row a one.0 none i one.1))) in
       omega arith
 

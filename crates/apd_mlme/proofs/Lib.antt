@@ -1,21 +1,16 @@
 pub mod AdmissionLemmas
 mod AssociationEndLemmas
 mod AssociationLemmas
-mod AssociationOutsLemmas
 mod AssociationResponseLemmas
 pub mod AuthenticationLemmas
 mod CommandAnswerLemmas
 mod CommandLemmas
 mod DepartureLemmas
-mod DriverLemmas
 mod DropLemmas
 mod ElsewhereLemmas
-mod FirstStartLemmas
+mod EnforcementLemmas
 mod IdentifierLemmas
-mod LaterStartLemmas
 pub mod OutsLemmas
-mod ProbeLemmas
-pub mod RadioLemmas
 mod RecordLengthLemmas
 mod RefusalLemmas
 mod ResponseLemmas

@@ -1,8 +1,9 @@
 -- How many bytes the records of a verdict have.
-use Rattle.std.proofs.Common.{◌≡◌, arith, ◌*◌, ◌≤◌, Bool, ◌&&◌, not, List, [], ◌∷◌, ◌++◌, Option, Some, None, Result, Ok, Err, IfOk, length, subst}
+use Rattle.std.proofs.Common.{◌≡◌, arith, ◌*◌, ◌≤◌, Bool, ◌&&◌, not, List, [], ◌∷◌, ◌++◌, Result, Ok, Err, IfOk, length, subst}
 use Rattle.std.specs.Option.{is_some}
 use Rattle.std.specs.Ordering.{eq_by_cmp}
 use Rattle.std.specs.FinMap as map
+use Rattle.std.specs.FinMap.{FinMap}
 use Rattle.std.proofs.lemmas.List.{length-append, length-map}
 use Rattle.std.proofs.lemmas.List.Sums.{length-filter, count_by-le-length}
 use Rattle.apd_base.specs.declared.address.Addr.{Addr}
@@ -14,7 +15,8 @@ use Rattle.apd_base.specs.declared.station.Which.TheVariants.{Accept, Deny}
 use Rattle.apd_base.specs.declared.station.Station.{Station}
 use Rattle.apd_base.specs.declared.station.Station.TheVariants.{Authenticated}
 use Rattle.apd_base.specs.Addr.{bssid_cmp}
-use Rattle.apd_base.specs.State.{State, aid_at, which_number}
+use Rattle.apd_base.specs.Sets.{SetOf}
+use Rattle.apd_base.specs.State.{State, list_cmp, aid_at}
 use Rattle.apd_conf.specs.declared.conf.Conf.{Conf}
 use Rattle.apd_conf.specs.Conf.{policy_of}
 use Rattle.apd_conf.specs.ListFile.{IsList}
@@ -22,39 +24,31 @@ use Rattle.apd_frame.specs.declared.codes.Reason.{Reason}
 use Rattle.apd_frame.specs.Contents.{AssociationRequest}
 use Rattle.apd_record.specs.Ranges.{IsChange, AreChanges}
 use Rattle.apd_record.specs.Record.{record_of, records_of}
+use Rattle.apd_record.specs.declared.change.Change.{Change}
 use Rattle.apd_record.specs.declared.change.Change.TheVariants.{Put, Drop, ListAdd, Policy}
 use Rattle.apd_record.proofs.Lengths.{records_length-append, records_length-push}
 use Rattle.apd_table.specs.Addresses.{addresses_at}
-use Rattle.apd_table.specs.Allowed.{denied_by}
 use Rattle.apd_table.specs.Sound.{Sound}
 use Rattle.apd_table.proofs.AllRows.{addresses_few, denied_few}
 use Rattle.apd_table.proofs.Denied.{drops}
 use Rattle.apd_table.proofs.SnapshotSize.{each_length, fronts, list_length, policy_length, put_length}
 use Rattle.apd_mlme.specs.declared.decision.Decision.{Decision}
 use Rattle.apd_mlme.specs.declared.decision.TheConstants.{MAX_RECORDS}
-use Rattle.apd_mlme.specs.declared.event.Edit.{Edit}
-use Rattle.apd_mlme.specs.declared.event.Edit.TheVariants.{Add, Remove, Clear}
 use Rattle.apd_mlme.specs.Happening.{Happening}
 use Rattle.apd_mlme.specs.declared.association.Kind.{Kind}
 use Rattle.apd_mlme.specs.rules.Association.{elsewhere, put_backs, row_of}
 use Rattle.apd_mlme.specs.rules.Association as rule
-use Rattle.apd_mlme.specs.rules.Commands.{all_kicked, change_of}
+use Rattle.apd_mlme.specs.rules.Commands.{all_kicked}
 use Rattle.apd_mlme.specs.Verdict.{Verdict}
-use Rattle.apd_mlme.specs.rules.Configuration.{later_start, first_changes, additions}
+use Rattle.apd_mlme.specs.rules.Configuration.{first_changes, additions}
 use Rattle.apd_mlme.specs.rules.{verdict, IsFit}
-use Rattle.apd_mlme.proofs.CommandLemmas.{new, edited_under}
+use Rattle.apd_mlme.proofs.EnforcementLemmas.{new, denied, v}
 use Rattle.apd_mlme.proofs.Shapes as shape
 use Rattle.apd_mlme.proofs.Shapes.{Shape, by_shape}
 
 -- ---- each record
 drop_length : (b : Bssid) (a : Addr) → IsChange (Drop b a) → length (record_of (Drop b a)) ≡ 13
 drop_length b a known = omega (arith, length-append b.0.0 a.0, known.0.0, known.1.0)
-
--- that of an edit of a list has no more
-edit_length : (b : Bssid) (w : Which) (edit : Edit) → IsChange (change_of b w edit) → length (record_of (change_of b w edit)) ≤ 14
-edit_length b w (Add a) known = omega (arith, list_length b w a known.0 known.1)
-edit_length b w (Remove a) known = omega (arith, length-append b.0.0 (which_number w ∷ a.0), known.0.0, known.1.0)
-edit_length b w Clear known = omega (arith, length-append b.0.0 (which_number w ∷ []), known.0)
 
 -- ---- several
 put_backs_length : (a : Addr) (bssids : List Bssid) → AreChanges (put_backs a bssids) → length (records_of (put_backs a bssids)) ≡ 20 * length bssids
@@ -81,12 +75,11 @@ abbrev pub IsShort : Verdict → Type 0
 IsShort v = AreChanges v.changes → length (records_of v.changes) ≤ MAX_RECORDS
 
 module _ (s : State) where
-  later_length : (conf : Conf) (b : Bssid) → Sound s → IsShort (later_start s conf b)
-  later_length conf b sound known =
-      let denied = denied_by s b conf.macaddr_acl in
-      let policy = Policy b (policy_of conf) in
-      let parts = fronts (drops b denied) (policy ∷ []) known in
-      omega (arith, records_length-push (drops b denied) policy, drops_length b denied parts.0, policy_length b (policy_of conf) parts.1.0, denied_few s b conf.macaddr_acl, sound.few_stations b)
+  enforced_length : (b : Bssid) (p : BssPolicy) (change : Change) (l : SetOf list_cmp) (q : FinMap bssid_cmp BssPolicy) → (IsChange change → length (record_of change) ≤ 14) → Sound s → IsShort (v s b p change l q)
+  enforced_length b p change l q short sound known =
+      let denied = denied s b p change l q in
+      let parts = fronts (drops b denied) (change ∷ []) known in
+      omega (arith, records_length-push (drops b denied) change, drops_length b denied parts.0, short parts.1.0, denied_few (new s b p change l q) b p.mode, sound.few_stations b)
 
   first_length : (conf : Conf) (b : Bssid) (accept deny : List Addr) → IsList accept → IsList deny → AreChanges (first_changes conf b accept deny) → length (records_of (first_changes conf b accept deny)) ≤ MAX_RECORDS
   first_length conf b accept deny accept_list deny_list known =
@@ -112,14 +105,6 @@ module _ (s : State) where
   all_length : (b : Bssid) (reason : Reason) (t : Bool) → Sound s → IsShort (all_kicked s b reason t)
   all_length b reason t sound known = omega (arith, drops_length b (addresses_at s b) known, addresses_few s b, sound.few_stations b)
 
-  edited_length : (b : Bssid) (w : Which) (edit : Edit) (o : Option BssPolicy) → Sound s → IsShort (edited_under s b w edit o)
-  edited_length b w edit None sound known = omega (arith, edit_length b w edit known.0, length-append (record_of (change_of b w edit)) [])
-  edited_length b w edit (Some p) sound known =
-      let denied = denied_by (new s b w edit) b p.mode in
-      let change = change_of b w edit in
-      let parts = fronts (drops b denied) (change ∷ []) known in
-      omega (arith, records_length-push (drops b denied) change, drops_length b denied parts.0, edit_length b w edit parts.1.0, denied_few (new s b w edit) b p.mode, sound.few_stations b)
-
   shape_length : (confs : List Conf) (h : Happening) → IsFit s confs h → Sound s → (v : Verdict) → Shape s confs h v → IsShort v
   shape_length confs h fit sound _ shape.silent known = none_long
   shape_length confs h fit sound _ (shape.told reply there so one) known = none_long
@@ -130,9 +115,8 @@ module _ (s : State) where
   shape_length confs h fit sound _ (shape.dropped b a reason there row) known = one_drop b a known
   shape_length confs h fit sound _ (shape.associated conf b kind request aid there row own) known = associated_length confs conf b kind request aid sound known
   shape_length confs h fit sound _ (shape.emptied b reason deauth there) known = all_length b reason deauth sound known
-  shape_length confs h fit sound _ (shape.edited b w edit o there at fits room) known = edited_length b w edit o sound known
-  shape_length confs h fit sound _ (shape.restarted conf b there policy) known = later_length conf b sound known
-  shape_length confs h fit sound _ (shape.started conf b accept deny is new) known = let fits = subst (IsFit s confs) is fit in first_length conf b accept deny fits.2 fits.3 known
+  shape_length confs h fit sound _ (shape.enforced b p change l q there makes keep short) known = enforced_length b p change l q short sound known
+  shape_length confs h fit sound _ (shape.started conf b accept deny is first) known = let fits = subst (IsFit s confs) is fit in first_length conf b accept deny fits.2 fits.3 known
 
 pub decided_length : {E : Type 0} (s : State) (confs : List Conf) (h : Happening) (r : Result Decision E) → IsFit s confs h → Sound s → IfOk r (λ d. d.changes ≡ (verdict s confs h).changes) → IfOk r (λ d. AreChanges d.changes) → IfOk r (λ d. length (records_of d.changes) ≤ MAX_RECORDS)
 decided_length s confs h (Ok d) fit sound same known = rw same (by_shape s confs IsShort (λ tag answer v short. short) h (shape_length s confs h fit sound) (subst AreChanges same known))

@@ -1,17 +1,27 @@
--- The octets of responses.
-use Rattle.std.proofs.Common.{◌≡◌, ℕ, ◌+◌, List, [], ◌∷◌, ◌++◌, Option, Some, None, length, refl, ap, ◌∙◌, IsSome}
-use Rattle.std.specs.Prelude.{IsSomeAnd}
-use Rattle.std.specs.Int.{to_le_bytes, w16, w64}
+-- Which probe requests a network answers, and the octets of responses.
+use Rattle.std.proofs.Common.{◌≡◌, ℕ, Bool, true, false, cond, ◌&&◌, ◌||◌, ◌==◌, List, [], ◌∷◌, length, Option, Some, None, inl, inr, refl, ap, IsSomeAnd, ◌+◌, ◌++◌, ◌∙◌, IsSome}
+use Rattle.std.proofs.lemmas.Bool.{and_parts, eqb-true, false_from_ne_true}
+use Rattle.std.proofs.lemmas.Slice.Eq.{bytes_eq-Decides}
+use Rattle.std.specs.Str.{bytes_eq}
 use Rattle.apd_base.specs.Number.{AreBytes}
-use Rattle.apd_base.specs.declared.address.Addr.{Addr}
 use Rattle.apd_base.specs.declared.address.Bssid.{Bssid}
-use Rattle.apd_base.specs.declared.station.Aid.{Aid}
 use Rattle.apd_base.specs.State.{State, station_at, aid_of, aid_at}
 use Rattle.apd_conf.specs.declared.conf.Conf.{Conf}
+use Rattle.apd_conf.specs.declared.ignore_broadcast_ssid.IgnoreBroadcastSsid.{IgnoreBroadcastSsid}
+use Rattle.apd_conf.specs.declared.ignore_broadcast_ssid.IgnoreBroadcastSsid.TheVariants.{No, Empty, Cleared}
+use Rattle.apd_frame.specs.Contents.{ProbeRequest, AssociationRequest}
+use Rattle.apd_frame.specs.Elements.{well_formed, first_with, octets_of}
+use Rattle.apd_frame.specs.declared.element.TheConstants.{SSID}
+use Rattle.apd_frame.proofs.ElementLemmas.{all_bytes, is_well_formed, well_formed_is}
+use Rattle.apd_mlme.specs.Outs.{sent}
+use Rattle.apd_mlme.specs.rules.ProbeRequest.{is_open, is_asked, is_answered, probe_response, probe_verdict}
+use Rattle.apd_mlme.specs.laws.Probe.{AsksFor, IsProbeFor, IsProbed, response_frame}
+use Rattle.apd_base.proofs.Cases.{both_true, second_true}
+use Rattle.std.specs.Int.{to_le_bytes, w16, w64}
+use Rattle.apd_base.specs.declared.address.Addr.{Addr}
+use Rattle.apd_base.specs.declared.station.Aid.{Aid}
 use Rattle.apd_conf.specs.declared.hw_mode.HwMode.{HwMode}
 use Rattle.apd_conf.specs.declared.hw_mode.HwMode.TheVariants.{A, B, G}
-use Rattle.apd_frame.specs.Contents.{AssociationRequest, ProbeRequest}
-use Rattle.apd_frame.specs.Elements.{octets_of}
 use Rattle.apd_frame.specs.Wire.{aid_field, rates_element, status_code}
 use Rattle.apd_frame.specs.declared.codes.Status.{Status}
 use Rattle.apd_frame.specs.declared.codes.Status.TheVariants.{Success, RefusedReasonUnspecified, NotSupportedAuthAlgorithm, TransactionSequenceError, DeniedNoMoreStas, DeniedListenIntervalTooLarge}
@@ -28,13 +38,60 @@ use Rattle.apd_mlme.specs.rules.Association.{association_verdict}
 use Rattle.apd_mlme.specs.rules.Authentication.{auth_verdict}
 use Rattle.apd_mlme.specs.laws.ManagementFrame.{code_of, management_frame, rates_octets, channel_octets}
 use Rattle.apd_mlme.specs.rules.Offer.{rates_in, channel_in}
-use Rattle.apd_mlme.specs.Outs.{sent}
-use Rattle.apd_mlme.specs.rules.ProbeRequest.{probe_verdict}
-use Rattle.apd_mlme.specs.laws.Probe.{IsProbeFor, response_frame}
 use Rattle.apd_mlme.specs.laws.Responses.{authentication_response, association_response, IsAuthenticationAnswered, IsAssociationAnswered}
 use Rattle.apd_mlme.proofs.AssociationResponseLemmas.{association_told}
 use Rattle.apd_mlme.proofs.AuthenticationLemmas.{auth_told}
-use Rattle.apd_mlme.proofs.ProbeLemmas.{probed}
+
+opens : (hides : IgnoreBroadcastSsid) → is_open hides ≡ true → hides ≡ No
+opens No e = refl
+opens Empty e = cc
+opens Cleared e = cc
+
+is_empty : (ssid : List ℕ) → length ssid ≡ 0 → ssid ≡ []
+is_empty [] e = refl
+is_empty (x ∷ ssid) e = cc
+
+module _ (conf : Conf) where
+  asks_any : (ssid : List ℕ) → ((length ssid == 0) && is_open conf.ignore_broadcast_ssid) ≡ true → AsksFor conf ssid
+  asks_any ssid e =
+      let parts = and_parts (length ssid == 0) (is_open conf.ignore_broadcast_ssid) e in
+      inr (is_empty ssid (eqb-true (length ssid) 0 parts.0), opens conf.ignore_broadcast_ssid parts.1)
+
+  asks_one : (ssid : List ℕ) (t : Bool) → bytes_eq ssid conf.ssid ≡ t → (t || ((length ssid == 0) && is_open conf.ignore_broadcast_ssid)) ≡ true → AsksFor conf ssid
+  asks_one ssid true same e = inl ((bytes_eq-Decides ssid conf.ssid).0 same)
+  asks_one ssid false same e = asks_any ssid e
+
+  asks : (o : Option (List ℕ)) → is_asked conf o ≡ true → IsSomeAnd o (AsksFor conf)
+  asks None e = cc
+  asks (Some ssid) e = asks_one ssid (bytes_eq ssid conf.ssid) refl e
+
+  is_asked_for : (ssid : List ℕ) → AsksFor conf ssid → is_asked conf (Some ssid) ≡ true
+  is_asked_for ssid (inl same) = ap (λ t. t || ((length ssid == 0) && is_open conf.ignore_broadcast_ssid)) ((bytes_eq-Decides ssid conf.ssid).1 same)
+  is_asked_for ssid (inr any) =
+      second_true (bytes_eq ssid conf.ssid) ((length ssid == 0) && is_open conf.ignore_broadcast_ssid)
+      (both_true (length ssid == 0) (is_open conf.ignore_broadcast_ssid) (ap (λ f. length f == 0) any.0) (ap is_open any.1))
+
+  is_asked_by : (o : Option (List ℕ)) → IsSomeAnd o (AsksFor conf) → is_asked conf o ≡ true
+  is_asked_by None h = absurd h
+  is_asked_by (Some ssid) h = is_asked_for ssid h
+
+  module _ (elements : List ℕ) (bytes : AreBytes elements) where
+    for_it : is_answered conf elements ≡ true → IsProbeFor conf elements
+    for_it e =
+        let parts = and_parts (well_formed elements) (is_asked conf (first_with SSID elements)) e in
+        (is_well_formed elements (all_bytes elements bytes) parts.0, asks (first_with SSID elements) parts.1)
+
+    answers : IsProbeFor conf elements → is_answered conf elements ≡ true
+    answers is = both_true (well_formed elements) (is_asked conf (first_with SSID elements)) (well_formed_is elements is.0) (is_asked_by (first_with SSID elements) is.1)
+
+pub probed : (s : State) (conf : Conf) (b : Bssid) (request : ProbeRequest) → AreBytes request.elements → IsProbed s conf b request (probe_verdict s conf b request)
+probed s conf b request bytes =
+    let response = sent (probe_response conf b request.sender) ∷ [] in
+    record {
+      answered = λ is. ap (λ t. cond t response []) (answers conf request.elements bytes is);
+      silent = λ none. ap (λ t. cond t response []) (false_from_ne_true (is_answered conf request.elements) (λ e. none (for_it conf request.elements bytes e)));
+      stays = refl;
+    }
 
 same_code : (status : Status) → status_code status ≡ code_of status
 same_code Success = refl

@@ -1,29 +1,38 @@
 -- The shapes that a verdict has, taken apart once: what is so of each of them is so of every verdict.
-use Rattle.std.proofs.Common.{◌≡◌, ◌≢◌, ℕ, Bool, true, false, cond, [], ◌∷◌, List, Option, Some, None, refl, ap, ◌∙◌, IsSome}
+use Rattle.std.proofs.Common.{◌≡◌, ◌≢◌, ◌≤◌, arith, length, ℕ, Bool, true, false, cond, [], ◌∷◌, List, Option, Some, None, refl, ap, ◌∙◌, IsSome}
 use Rattle.std.specs.Option.{is_some}
 use Rattle.std.specs.Ordering.{eq_by_cmp}
+use Rattle.std.specs.FinMap as map
+use Rattle.std.specs.FinMap.{FinMap}
 use Rattle.apd_base.specs.declared.address.Addr.{Addr}
 use Rattle.apd_base.specs.declared.address.Bssid.{Bssid}
 use Rattle.apd_base.specs.declared.address.TheConstants.{BROADCAST}
 use Rattle.apd_base.specs.declared.station.Aid.{Aid}
-use Rattle.apd_base.specs.declared.station.Policy.{Policy}
+use Rattle.apd_base.specs.declared.station.Policy.{Policy as BssPolicy}
 use Rattle.apd_base.specs.declared.station.Station.{Station}
 use Rattle.apd_base.specs.declared.station.Station.TheVariants.{Authenticated, Associated}
 use Rattle.apd_base.specs.declared.station.Which.{Which}
-use Rattle.apd_base.specs.Addr.{addr_cmp}
-use Rattle.apd_base.specs.State.{State, station_at, policy_at, aid_of}
+use Rattle.apd_base.specs.Addr.{addr_cmp, bssid_cmp}
+use Rattle.apd_base.specs.Sets.{SetOf}
+use Rattle.apd_base.specs.State.{State, list_cmp, station_at, policy_at, aid_of}
 use Rattle.apd_base.proofs.AddrLemmas.{addr_total, addr_exact}
 use Rattle.apd_base.proofs.Cases.{differ}
 use Rattle.apd_base.proofs.MapLemmas.{tied}
 use Rattle.apd_conf.specs.declared.conf.Conf.{Conf}
+use Rattle.apd_conf.specs.Conf.{policy_of}
 use Rattle.apd_conf.specs.Confs.{conf_at}
 use Rattle.apd_frame.specs.Contents.{Contents, AssociationRequest, ProbeRequest, authentication, association_request, reassociation_request, probe_request, disassociation, deauthentication, uplink}
 use Rattle.apd_frame.specs.declared.codes.Reason.{Reason}
 use Rattle.apd_frame.specs.declared.codes.TheConstants.Reason.{INVALID_AUTHENTICATION, INACTIVITY, INVALID_CLASS2_FRAME, INVALID_CLASS3_FRAME}
 use Rattle.apd_frame.specs.declared.received.Authentication.{Authentication}
 use Rattle.apd_frame.specs.declared.replies.Reply.{Reply}
-use Rattle.apd_record.specs.declared.change.Change.TheVariants.{Put}
+use Rattle.apd_record.specs.declared.change.Change.{Change}
+use Rattle.apd_record.specs.declared.change.Change.TheVariants.{Put, Policy}
 use Rattle.apd_record.specs.Meaning.{put_station}
+use Rattle.apd_record.specs.Ranges.{IsChange}
+use Rattle.apd_record.specs.Record.{record_of}
+use Rattle.apd_table.specs.Sound.{Sound, StaySound}
+use Rattle.apd_table.proofs.SnapshotSize.{policy_length}
 use Rattle.apd_mlme.specs.declared.command_answer.Answer.{Answer}
 use Rattle.apd_mlme.specs.declared.command_answer.Answer.TheVariants.{Done, Refused}
 use Rattle.apd_mlme.specs.declared.association.Kind.{Kind}
@@ -34,7 +43,7 @@ use Rattle.apd_mlme.specs.declared.event.Edit.{Edit}
 use Rattle.apd_mlme.specs.rules.Association as rule
 use Rattle.apd_mlme.specs.rules.Association.{association_status, association_response, association_of, accepted, without_current_ap}
 use Rattle.apd_mlme.specs.rules.Authentication.{auth_status, auth_response, auth_verdict, is_admitted}
-use Rattle.apd_mlme.specs.rules.Commands.{answered, all_kicked, deauthenticated_of, disassociated_of, kicked}
+use Rattle.apd_mlme.specs.rules.Commands.{answered, all_kicked, change_of, deauthenticated_of, disassociated_of, edited_under, kicked}
 use Rattle.apd_mlme.specs.rules.Configuration.{configure_verdict, later_start, first_start}
 use Rattle.apd_mlme.specs.rules.Departure.{disassociation_of, deauthentication_of, data_of}
 use Rattle.apd_mlme.specs.laws.AssociationEnd.{HasLeft}
@@ -46,13 +55,15 @@ use Rattle.apd_mlme.specs.rules.Leaving.{removal, outs_of_end, outs_of_drop, put
 use Rattle.apd_mlme.specs.Outs.{sent}
 use Rattle.apd_mlme.specs.rules.ProbeRequest.{is_answered, probe_response, probe_verdict}
 use Rattle.apd_mlme.specs.rules.Refusals.{is_success}
-use Rattle.apd_mlme.specs.rules.{verdict, verdict_under, heard_verdict, IsFit}
+use Rattle.apd_mlme.specs.rules.{verdict, verdict_under, heard_verdict}
 use Rattle.apd_mlme.specs.laws.Outs.{IsSaidSo}
 use Rattle.apd_mlme.specs.laws.Broadcast.{NoneIsBroadcast}
 use Rattle.apd_mlme.specs.Verdict.{Verdict, nothing, only_sent}
 use Rattle.apd_mlme.proofs.AssociationResponseLemmas.{refuses}
 use Rattle.apd_mlme.proofs.AuthenticationLemmas.{known_already}
-use Rattle.apd_mlme.proofs.CommandLemmas.{by_kick, by_edit, HasRoom, edited_under}
+use Rattle.apd_mlme.proofs.CommandLemmas.{by_kick, by_edit, HasRoom, new, change_with, edited_sound, edit_length}
+use Rattle.apd_mlme.proofs.EnforcementLemmas.{Makes, v}
+use Rattle.apd_mlme.proofs.StartLemmas.{later_sound}
 
 -- what an event brings about, but for the answer to a command, and what is known where it does
 pub data Shape (s : State) (confs : List Conf) (h : Happening) : Verdict → Type 0 where
@@ -73,8 +84,8 @@ pub data Shape (s : State) (confs : List Conf) (h : Happening) : Verdict → Typ
       → Shape s confs h (rule.associated s confs conf b kind request aid)
   -- all are sent away, or those that an edit or a start denies
   emptied : (b : Bssid) (reason : Reason) (deauth : Bool) → IsSome (conf_at confs b) → Shape s confs h (all_kicked s b reason deauth)
-  edited : (b : Bssid) (w : Which) (edit : Edit) (o : Option Policy) → IsSome (conf_at confs b) → policy_at s b ≡ o → (IsFit s confs h → IsSome o) → HasRoom s b w edit → Shape s confs h (edited_under s b w edit o)
-  restarted : (conf : Conf) (b : Bssid) → IsSome (conf_at confs b) → IsSome (policy_at s b) → Shape s confs h (later_start s conf b)
+  enforced : (b : Bssid) (p : BssPolicy) (change : Change) (l : SetOf list_cmp) (q : FinMap bssid_cmp BssPolicy) → IsSome (conf_at confs b) → Makes s b p change l q → (Sound s → StaySound (v s b p change l q).changes s)
+      → (IsChange change → length (record_of change) ≤ 14) → Shape s confs h (v s b p change l q)
   started : (conf : Conf) (b : Bssid) (accept deny : List Addr) → h ≡ Configure b accept deny → is_some (policy_at s b) ≡ false → Shape s confs h (first_start s conf b accept deny)
 
 module _ (s : State) (confs : List Conf) (b : Bssid) (there : IsSome (conf_at confs b)) where
@@ -145,7 +156,7 @@ module _ (s : State) (confs : List Conf) (b : Bssid) (there : IsSome (conf_at co
     pub configure_shape : (accept deny : List Addr) → Shape s confs (Configure b accept deny) (configure_verdict s conf b accept deny)
     configure_shape accept deny =
         elim (is_some (policy_at s b)) as (λ t. is_some (policy_at s b) ≡ t → Shape s confs (Configure b accept deny) (cond t (later_start s conf b) (first_start s conf b accept deny))) [
-          | true ↦ λ e. restarted conf b there e
+          | true ↦ λ e. enforced b (policy_of conf) (Policy b (policy_of conf)) s.lists (map.insert s.policies b (policy_of conf)) there (λ k. refl) (later_sound s conf b e) (λ known. omega (arith, policy_length b (policy_of conf) known))
           | false ↦ λ e. started conf b accept deny refl e
         ] refl
 
@@ -164,6 +175,12 @@ module _ (s : State) (confs : List Conf) (b : Bssid) (there : IsSome (conf_at co
     disassociated_shape a reason one (Some Authenticated) at = told (leaving.disassociation b a reason) there (ap aid_of at) (λ _. one)
     disassociated_shape a reason one (Some (Associated x)) at = ended b a reason there (ap is_some at)
 
+    -- an edit that is made
+    pub edited_shape : (w : Which) (edit : Edit) → HasRoom s b w edit → (o : Option BssPolicy) → policy_at s b ≡ o → Shape s confs h (edited_under s b w edit o)
+    edited_shape w edit room None at = silent
+    edited_shape w edit room (Some p) at =
+        enforced b p (change_of b w edit) (new s b w edit).lists s.policies there (change_with s b w p edit) (edited_sound s b w p edit at room) (edit_length b w edit)
+
     pub kicked_shape : (to : Addr) (reason : Reason) (deauth : Bool) → Shape s confs h (kicked s b to reason deauth)
     kicked_shape to reason deauth =
         by_kick s b to reason (λ t v. Shape s confs h v) (λ t e. emptied b reason t there)
@@ -177,7 +194,7 @@ module _ (s : State) (confs : List Conf) (P : Verdict → Type 0) (more : (tag :
   under_shape (Kick b to reason deauth tag) (Some conf) at all = more tag Done _ (all _ (kicked_shape s confs b (ap is_some at) (Kick b to reason deauth tag) to reason deauth))
   under_shape (ListEdit b w edit tag) (Some conf) at all =
       by_edit s b w tag P edit (λ _. more tag Done _ (all _ silent)) (λ _. more tag Refused _ (all _ silent))
-      (λ room. more tag Done _ (all _ (edited b w edit (policy_at s b) (ap is_some at) refl (λ fit. fit.1) room)))
+      (λ room. more tag Done _ (all _ (edited_shape s confs b (ap is_some at) (ListEdit b w edit tag) w edit room (policy_at s b) refl)))
   under_shape (Expire b a) (Some conf) at all = all _ (inactivity_shape s confs b (ap is_some at) a (station_at s b a) refl)
   under_shape (Configure b accept deny) (Some conf) at all = all _ (configure_shape s confs b (ap is_some at) conf accept deny)
 

@@ -1,19 +1,20 @@
 -- What leaves is so in the state after, and goes to a radio that is there.
-use Rattle.std.proofs.Common.{◌≡◌, ◌≢◌, inl, inr, Bool, true, false, cond, not, ◌&&◌, ◌||◌, List, [], ◌∷◌, ◌++◌, Option, Some, None, refl, sym, ap, subst, ◌∙◌, IsSome}
+use Rattle.std.proofs.Common.{◌≡◌, ◌≢◌, inl, inr, Bool, true, false, cond, not, ◌&&◌, ◌||◌, List, [], ◌∷◌, ◌++◌, Some, None, refl, sym, ap, subst, ◌∙◌, IsSome}
 use Rattle.std.specs.Prelude.{filter}
 use Rattle.std.specs.List.{AllByRecursion, flat_map}
 use Rattle.std.specs.Option.{is_some}
 use Rattle.std.specs.Ordering.{eq_by_cmp}
+use Rattle.std.specs.FinMap.{FinMap}
 use Rattle.std.proofs.lemmas.Bool.{and_parts}
 use Rattle.apd_base.specs.declared.address.Addr.{Addr}
 use Rattle.apd_base.specs.declared.address.Bssid.{Bssid}
 use Rattle.apd_base.specs.declared.station.AclMode.{AclMode}
 use Rattle.apd_base.specs.declared.station.Aid.{Aid}
 use Rattle.apd_base.specs.declared.station.Policy.{Policy}
-use Rattle.apd_base.specs.declared.station.Which.{Which}
 use Rattle.apd_base.specs.declared.station.Station.TheVariants.{Authenticated}
 use Rattle.apd_base.specs.Addr.{addr_cmp, bssid_cmp, is_among}
-use Rattle.apd_base.specs.State.{State, station_at, aid_of, aid_at}
+use Rattle.apd_base.specs.Sets.{SetOf}
+use Rattle.apd_base.specs.State.{State, list_cmp, station_at, aid_of, aid_at}
 use Rattle.apd_base.proofs.AddrLemmas.{addr_total, addr_exact, other_way}
 use Rattle.apd_base.proofs.MapLemmas.{tied}
 use Rattle.apd_conf.specs.declared.conf.Conf.{Conf}
@@ -23,7 +24,8 @@ use Rattle.apd_frame.specs.declared.codes.Reason.{Reason}
 use Rattle.apd_frame.specs.declared.codes.Status.TheVariants.{Success}
 use Rattle.apd_frame.specs.declared.codes.TheConstants.Reason.{UNSPECIFIED}
 use Rattle.apd_frame.specs.declared.replies.Reply.{Reply}
-use Rattle.apd_record.specs.Meaning.{put_station, drop_station}
+use Rattle.apd_record.specs.Meaning.{put_station}
+use Rattle.apd_record.specs.declared.change.Change.{Change}
 use Rattle.apd_table.specs.Addresses.{addresses_at}
 use Rattle.apd_table.specs.Allowed.{denied_by}
 use Rattle.apd_table.specs.Sound.{Sound}
@@ -34,19 +36,17 @@ use Rattle.apd_mlme.specs.declared.decision.Recipient.{Recipient}
 use Rattle.apd_mlme.specs.declared.decision.Recipient.TheVariants.{Radio, Control}
 use Rattle.apd_mlme.specs.declared.decision.Out.{Out}
 use Rattle.apd_mlme.specs.declared.decision.Out.TheVariants.{Install, Remove}
-use Rattle.apd_mlme.specs.declared.event.Edit.{Edit}
 use Rattle.apd_base.specs.declared.address.TheConstants.{BROADCAST}
-use Rattle.apd_mlme.specs.rules.Association.{without_current_ap, association_status, association_response, elsewhere, outs_elsewhere, installation}
+use Rattle.apd_mlme.specs.rules.Association.{association_response, elsewhere, outs_elsewhere, installation}
 use Rattle.apd_mlme.specs.rules.Association as rule
 use Rattle.apd_mlme.specs.rules.Authentication.{auth_response, auth_status}
 use Rattle.apd_mlme.specs.rules.Commands.{text, farewell, all_kicked}
-use Rattle.apd_mlme.specs.rules.Configuration.{stays, later_start}
 use Rattle.apd_mlme.specs.laws.AssociationEnd.{IsMeant}
 use Rattle.apd_mlme.specs.Happening.{Happening}
 use Rattle.apd_mlme.specs.rules.Identifiers.{identifier_for}
 use Rattle.apd_mlme.specs.rules.Leaving as leaving
 use Rattle.apd_mlme.specs.rules.Leaving.{removal, outs_of_end, outs_of_drop}
-use Rattle.apd_mlme.specs.Outs.{sent}
+use Rattle.apd_mlme.specs.Outs.{outs_to, sent}
 use Rattle.apd_mlme.specs.rules.{verdict}
 use Rattle.apd_mlme.specs.laws.Outs.{IsSaidSo, IsSo, AreSo, IsSoToAll, AreSoToAll, IsThere, AreThere}
 use Rattle.apd_mlme.specs.laws.Broadcast.{NoneIsBroadcast, NoBroadcastRow, IsFromStation}
@@ -55,11 +55,10 @@ use Rattle.apd_mlme.proofs.AssociationResponseLemmas.{row_here, row_elsewhere}
 use Rattle.apd_mlme.proofs.AssociationLemmas.{cleared_elsewhere}
 use Rattle.apd_mlme.proofs.Shapes as shape
 use Rattle.apd_mlme.proofs.Shapes.{Shape, by_shape}
-use Rattle.apd_mlme.proofs.CommandLemmas.{new, edited_under}
-use Rattle.apd_mlme.proofs.DropLemmas.{all_gone, dropped_gone, denied_leave}
-use Rattle.apd_mlme.proofs.DriverLemmas.{put_row, dropped_row}
+use Rattle.apd_mlme.proofs.DropLemmas.{all_gone}
+use Rattle.apd_mlme.proofs.RowLemmas.{put_row, back, out, out_row, put_back_aid}
 use Rattle.apd_mlme.proofs.ElsewhereLemmas as elsewhere_laws
-use Rattle.apd_mlme.proofs.LaterStartLemmas.{denied_gone}
+use Rattle.apd_mlme.proofs.EnforcementLemmas.{new, denied, v, enforced_dropped}
 use Rattle.apd_base.proofs.Cases.{none_is, second_true}
 
 -- of each in two lists
@@ -72,9 +71,6 @@ pub each : {X : Type 0} (P Q : X → Type 0) → ((x : X) → P x → Q x) → (
 each P Q f [] h = tt
 each P Q f (x ∷ xs) h = (f x h.0, each P Q f xs h.1)
 
-pub put_back_aid : (s : State) (b : Bssid) (a : Addr) → aid_at (put_station b a Authenticated s) b a ≡ None
-put_back_aid s b a = ap aid_of (put_row s b a Authenticated)
-
 not_here : (t u : Bool) → (not t && u) ≡ true → t ≡ false
 not_here true u e = cc
 not_here false u e = refl
@@ -85,8 +81,13 @@ meant_one to a one (inr all) = absurd (one all)
 
 -- a radio of a configured BSSID, and not whoever gave a command
 abbrev pub IsRadio : List Conf → Recipient × Out → Type 0
-IsRadio confs (Radio b, out) = IsSome (conf_at confs b)
+IsRadio confs (Radio b, what) = IsSome (conf_at confs b)
 IsRadio confs (Control, out) = ⊥
+
+pub radios_only : (confs : List Conf) (outs : List (Recipient × Out)) → AllByRecursion (IsRadio confs) outs → outs_to Control outs ≡ []
+radios_only confs [] h = refl
+radios_only confs ((Radio b, what) ∷ outs) h = radios_only confs outs h.1
+radios_only confs ((Control, out) ∷ outs) h = absurd h.0
 
 -- what leaves over a sound state s is so of the receiver, and where no station has the broadcast address, as E says, of all
 -- that it is meant for; and it goes to a radio
@@ -111,7 +112,7 @@ module _ (s : State) (E : Type 0) (confs : List Conf) where
 
   -- and one whose body says what is so of everyone
   said_to_all : (new : State) (reply : Reply) → IsSome (conf_at confs reply.bssid) → ((a : Addr) → IsSaidSo new reply.bssid a reply.body) → IsRight new (sent reply)
-  said_to_all new reply there h = (λ _. (reply, refl, refl, h reply.to), λ _ _. (reply, refl, refl, λ a _. h a), there)
+  said_to_all t reply there h = (λ _. (reply, refl, refl, h reply.to), λ _ _. (reply, refl, refl, λ a _. h a), there)
 
   all_right : (new : State) (xs ys : List (Recipient × Out)) → AreRight new xs → AreRight new ys → AreRight new (xs ++ ys)
   all_right new = all_both (IsRight new)
@@ -122,7 +123,7 @@ module _ (s : State) (E : Type 0) (confs : List Conf) where
   -- ---- at a radio that is there
   module _ (b : Bssid) (there : IsSome (conf_at confs b)) where
     removed : (new : State) (a : Addr) → (Sound s → aid_at new b a ≡ None) → IsRight new (Radio b, Remove a)
-    removed new a gone = (gone, λ _ _. tt, there)
+    removed t a gone = (gone, λ _ _. tt, there)
 
     -- one row: the station has none in the state after, or is put back
     module _ (a : Addr) where
@@ -132,9 +133,9 @@ module _ (s : State) (E : Type 0) (confs : List Conf) where
       drop_right : (new : State) → station_at new b a ≡ None → (reason : Reason) → IsOne a → AreRight new (outs_of_drop s b a reason)
       drop_right new gone reason one = all_right new (removal s b a) (sent (leaving.deauthentication b a reason) ∷ []) (removal_right new gone) (said new (leaving.deauthentication b a reason) there (λ _. gone) one, tt)
 
-      put_back_right : (reason : Reason) → IsOne a → AreRight (put_station b a Authenticated s) (outs_of_end b a reason)
+      put_back_right : (reason : Reason) → IsOne a → AreRight (back s b a) (outs_of_end b a reason)
       put_back_right reason one =
-          let new = put_station b a Authenticated s in
+          let new = back s b a in
           (removed new a (λ _. put_back_aid s b a), (said new (leaving.disassociation b a reason) there (λ _. put_back_aid s b a) one, tt))
 
     -- several stations have no row in the state after
@@ -192,8 +193,9 @@ module _ (s : State) (E : Type 0) (confs : List Conf) where
     denied_is_one : (t : State) → (E → NoBroadcastRow t) → (mode : AclMode) (d : Addr) → is_among d (denied_by t b mode) ≡ true → IsOne d
     denied_is_one t rows mode d among = let row = (denied_among t b mode d among).0 in row_is_one t rows b d (ap is_some row.1)
 
-    later_right : (E → NoBroadcastRow s) → (conf : Conf) → let v = later_start s conf b in AreRight v.state v.outs
-    later_right rows conf = drops_right (later_start s conf b).state (denied_by s b conf.macaddr_acl) (λ d among. (denied_gone s conf b d among, denied_is_one s rows conf.macaddr_acl d among))
+    enforced_right : (E → NoBroadcastRow s) → (p : Policy) (change : Change) (l : SetOf list_cmp) (q : FinMap bssid_cmp Policy) → AreRight (v s b p change l q).state (v s b p change l q).outs
+    enforced_right rows p change l q = drops_right (v s b p change l q).state (denied s b p change l q)
+        (λ d among. (enforced_dropped s b p change l q d among, denied_is_one (new s b p change l q) rows p.mode d among))
 
     farewell_right : (new : State) (reason : Reason) (t : Bool) → ((a : Addr) → station_at new b a ≡ None) → IsRight new (sent (farewell b BROADCAST reason t))
     farewell_right new reason true gone = said_to_all new (leaving.deauthentication b BROADCAST reason) there gone
@@ -204,14 +206,6 @@ module _ (s : State) (E : Type 0) (confs : List Conf) where
         let v = all_kicked s b reason t in
         all_right v.state (flat_map (removal s b) (addresses_at s b)) (sent (farewell b BROADCAST reason t) ∷ [])
         (removals_right v.state (addresses_at s b) (all_gone s b)) (farewell_right v.state reason t (all_gone s b), tt)
-
-    edited_right : (E → NoBroadcastRow s) → (w : Which) (edit : Edit) (o : Option Policy) → let v = edited_under s b w edit o in AreRight v.state v.outs
-    edited_right rows w edit None = tt
-    edited_right rows w edit (Some p) =
-        let now = new s b w edit in
-        let denied = denied_by now b p.mode in
-        drops_right (edited_under s b w edit (Some p)).state denied
-        (λ d among. (dropped_gone now b (stays now b p.mode) denied (denied_leave now b p.mode) d among, denied_is_one now rows p.mode d among))
 
 -- ---- any event
 module _ (s : State) (confs : List Conf) (h : Happening) where
@@ -229,22 +223,24 @@ module _ (s : State) (confs : List Conf) (h : Happening) where
         (λ _ _. ap is_some (put_row s b request.sender Authenticated)) (λ nobody. subst IsFromStation is nobody.sender),
     tt,
   )
-  shape_right _ (shape.left b a there own known) = (removed s E confs b there (put_station b a Authenticated s) a (λ _. put_back_aid s b a), tt)
-  shape_right _ (shape.gone b a there own) = removal_right s E confs b there a (drop_station b a s) (dropped_row s b a)
+  shape_right _ (shape.left b a there own known) = (removed s E confs b there (back s b a) a (λ _. put_back_aid s b a), tt)
+  shape_right _ (shape.gone b a there own) = removal_right s E confs b there a (out s b a) (out_row s b a)
   shape_right _ (shape.ended b a reason there known) = put_back_right s E confs b there a reason (from_row b a known)
-  shape_right _ (shape.dropped b a reason there known) = drop_right s E confs b there a (drop_station b a s) (dropped_row s b a) reason (from_row b a known)
+  shape_right _ (shape.dropped b a reason there known) = drop_right s E confs b there a (out s b a) (out_row s b a) reason (from_row b a known)
   shape_right _ (shape.associated conf b kind request aid there known own) = associated_right s E confs b there conf kind request (from_row b request.sender known) aid own
   shape_right _ (shape.emptied b reason deauth there) = all_kicked_right s E confs b there reason deauth
-  shape_right _ (shape.edited b w edit o there at fits room) = edited_right s E confs b there (λ nobody. nobody.rows) w edit o
-  shape_right _ (shape.restarted conf b there known) = later_right s E confs b there (λ nobody. nobody.rows) conf
-  shape_right _ (shape.started conf b accept deny is new) = tt
+  shape_right _ (shape.enforced b p change l q there makes keep short) = enforced_right s E confs b there (λ nobody. nobody.rows) p change l q
+  shape_right _ (shape.started conf b accept deny is first) = tt
+
+  pub shape_radios : (v : Verdict) → Shape s confs h v → AllByRecursion (IsRadio confs) v.outs
+  shape_radios v shape = each (IsRight s E confs v.state) (IsRadio confs) (λ x right. right.2) v.outs (shape_right v shape)
 
   -- an answer to a command says nothing of a station, and whoever gave it is there
   abbrev Is : State → Recipient × Out → Type 0
   Is new x = (Sound s → IsSo new x) × (Sound s → E → IsSoToAll new x) × IsThere confs x
 
   radio_there : (x : Recipient × Out) → IsRadio confs x → IsThere confs x
-  radio_there (Radio b, out) there = there
+  radio_there (Radio b, what) there = there
   radio_there (Control, out) there = absurd there
 
   verdict_is : AllByRecursion (Is (verdict s confs h).state) (verdict s confs h).outs

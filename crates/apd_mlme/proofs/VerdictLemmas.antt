@@ -1,31 +1,26 @@
 -- The laws of every verdict, and of runs.
-use Rattle.std.proofs.Common.{◌≡◌, ℕ, Bool, true, false, List, [], ◌∷◌, Some, Result, Ok, Err, IfOk, ◌⊎◌, ◌<◌, inl, inr, refl, sym, ap, subst, ◌∙◌, IsSome}
+use Rattle.std.proofs.Common.{◌≡◌, ℕ, Bool, true, false, List, [], ◌∷◌, Result, Ok, Err, IfOk, ◌⊎◌, ◌<◌, inl, inr, refl, sym, ap, subst, ◌∙◌, IsSome}
 use Rattle.std.specs.FinMap as map
 use Rattle.std.specs.Option.{is_some}
 use Rattle.apd_base.specs.declared.address.Bssid.{Bssid}
-use Rattle.apd_base.specs.declared.station.Station.TheVariants.{Authenticated}
 use Rattle.apd_base.specs.State.{State, policy_at, aid_at}
 use Rattle.apd_conf.specs.declared.conf.Conf.{Conf}
 use Rattle.apd_conf.specs.Confs.{conf_at}
-use Rattle.apd_frame.specs.declared.received.Authentication.{Authentication}
 use Rattle.apd_record.specs.declared.change.Change.{Change}
 use Rattle.apd_record.specs.Meaning.{meaning, meaning_of}
 use Rattle.apd_table.specs.Sound.{Sound, StaySound}
 use Rattle.apd_mlme.specs.declared.decision.Decision.{Decision}
 use Rattle.apd_mlme.specs.laws.Driver.{FollowsDrivers}
-use Rattle.apd_mlme.specs.rules.{verdict, verdict_under, IsFit}
+use Rattle.apd_mlme.specs.rules.{verdict, IsFit}
 use Rattle.apd_mlme.specs.Run.{run, AreFit}
-use Rattle.apd_mlme.specs.laws.Authentication.{IsToldTruly}
 use Rattle.apd_mlme.specs.Verdict.{Verdict}
-use Rattle.apd_mlme.specs.Happening.{Happening, Heard}
-use Rattle.apd_frame.specs.Contents.{authentication}
+use Rattle.apd_mlme.specs.Happening.{Happening}
 use Rattle.apd_mlme.proofs.AssociationLemmas.{associated_meaning, associated_sound, associated_follows}
-use Rattle.apd_mlme.proofs.AuthenticationLemmas.{admitted_sound, admitted_aid, auth_told}
-use Rattle.apd_mlme.proofs.CommandLemmas.{all_meaning, all_sound, all_follows, edited_meaning, under_sound, edited_follows, answered_follows}
-use Rattle.apd_mlme.proofs.DriverLemmas.{aid_put, driven_left}
-use Rattle.apd_mlme.proofs.FirstStartLemmas.{first_meaning, first_sound}
-use Rattle.apd_mlme.proofs.LaterStartLemmas.{later_meaning, later_sound, later_driver}
-use Rattle.apd_mlme.proofs.RowLemmas.{Follows, put_back_stays, dropped_stays, removal_follows, drop_follows}
+use Rattle.apd_mlme.proofs.AuthenticationLemmas.{admitted_sound, admitted_aid}
+use Rattle.apd_mlme.proofs.CommandLemmas.{all_meaning, all_sound, all_follows, answered_follows}
+use Rattle.apd_mlme.proofs.RowLemmas.{driven_left, Follows, back_aid, back_meaning, out_meaning, put_back_stays, dropped_stays, removal_follows, drop_follows}
+use Rattle.apd_mlme.proofs.StartLemmas.{first_meaning, first_sound}
+use Rattle.apd_mlme.proofs.EnforcementLemmas.{enforced_meaning, enforced_follows}
 use Rattle.apd_mlme.proofs.Shapes as shape
 use Rattle.apd_mlme.proofs.Shapes.{Shape, by_shape}
 
@@ -40,15 +35,14 @@ module _ (s : State) (confs : List Conf) where
   shape_meaning h _ shape.silent = refl
   shape_meaning h _ (shape.told reply there so one) = refl
   shape_meaning h _ (shape.admitted conf b request there is e) = refl
-  shape_meaning h _ (shape.left b a there own known) = refl
-  shape_meaning h _ (shape.gone b a there own) = refl
-  shape_meaning h _ (shape.ended b a reason there known) = refl
-  shape_meaning h _ (shape.dropped b a reason there known) = refl
+  shape_meaning h _ (shape.left b a there own known) = back_meaning s b a known
+  shape_meaning h _ (shape.gone b a there own) = out_meaning s b a
+  shape_meaning h _ (shape.ended b a reason there known) = back_meaning s b a known
+  shape_meaning h _ (shape.dropped b a reason there known) = out_meaning s b a
   shape_meaning h _ (shape.associated conf b kind request aid there known own) = associated_meaning s confs conf b kind request aid
   shape_meaning h _ (shape.emptied b reason deauth there) = all_meaning s b reason deauth
-  shape_meaning h _ (shape.edited b w edit o there at fits room) = edited_meaning s b w edit o
-  shape_meaning h _ (shape.restarted conf b there known) = later_meaning s conf b
-  shape_meaning h _ (shape.started conf b accept deny is new) = first_meaning s conf b accept deny
+  shape_meaning h _ (shape.enforced b p change l q there makes keep short) = enforced_meaning s b p change l q makes
+  shape_meaning h _ (shape.started conf b accept deny is first) = first_meaning s conf b accept deny
 
   pub meaning_in : (h : Happening) → meaning_of (verdict s confs h).changes s ≡ (verdict s confs h).state
   meaning_in h = by_shape s confs (λ v. meaning_of v.changes s ≡ v.state) (λ tag answer v same. same) h (shape_meaning h)
@@ -67,12 +61,11 @@ module _ (s : State) (confs : List Conf) where
     shape_sound _ (shape.ended b a reason there known) = put_back_stays s b a [] known sound
     shape_sound _ (shape.dropped b a reason there known) = dropped_stays s b a [] sound
     shape_sound _ (shape.associated conf b kind request aid there known own) = associated_sound s confs conf b kind request aid sound known own
-    shape_sound _ (shape.emptied b reason deauth there) = all_sound s b sound reason deauth
-    shape_sound _ (shape.edited b w edit o there at fits room) = under_sound s b w sound edit o at (fits fit) room
-    shape_sound _ (shape.restarted conf b there known) = later_sound s conf b (inl known) sound
-    shape_sound _ (shape.started conf b accept deny is new) =
+    shape_sound _ (shape.emptied b reason deauth there) = all_sound s b reason deauth sound
+    shape_sound _ (shape.enforced b p change l q there makes keep short) = keep sound
+    shape_sound _ (shape.started conf b accept deny is first) =
         let fits = subst (IsFit s confs) is fit in
-        first_sound b s new sound conf accept deny (room_for_one (is_some (policy_at s b)) (map.len s.policies) new fits.1) fits.2 fits.3
+        first_sound b s first sound conf accept deny (room_for_one (is_some (policy_at s b)) (map.len s.policies) first fits.1) fits.2 fits.3
 
   pub sound_in : (h : Happening) → IsFit s confs h → Sound s → StaySound (verdict s confs h).changes s
   sound_in h fit sound = by_shape s confs (λ v. StaySound v.changes s) (λ tag answer v stays. stays) h (shape_sound sound h fit)
@@ -83,22 +76,17 @@ module _ (s : State) (confs : List Conf) where
     shape_follows h _ shape.silent d = refl
     shape_follows h _ (shape.told reply there so one) d = refl
     shape_follows h _ (shape.admitted conf b request there is e) d = sym (admitted_aid s conf b request e c d)
-    shape_follows h _ (shape.left b a there own known) d = sym (aid_put s b a Authenticated c d)
+    shape_follows h _ (shape.left b a there own known) d = sym (back_aid s b a c d)
     shape_follows h _ (shape.gone b a there own) d = removal_follows s b a c d
-    shape_follows h _ (shape.ended b a reason there known) d = sym (aid_put s b a Authenticated c d)
+    shape_follows h _ (shape.ended b a reason there known) d = sym (back_aid s b a c d)
     shape_follows h _ (shape.dropped b a reason there known) d = drop_follows s b a c reason d
     shape_follows h _ (shape.associated conf b kind request aid there known own) d = associated_follows s confs conf b kind request aid c configured own d
-    shape_follows h _ (shape.emptied b reason deauth there) d = all_follows c s b reason deauth d
-    shape_follows h _ (shape.edited b w edit o there at fits room) d = edited_follows c s b w edit o d
-    shape_follows h _ (shape.restarted conf b there known) d = later_driver s conf b c d
-    shape_follows h _ (shape.started conf b accept deny is new) d = refl
+    shape_follows h _ (shape.emptied b reason deauth there) d = all_follows s b reason deauth c d
+    shape_follows h _ (shape.enforced b p change l q there makes keep short) d = enforced_follows s b p change l q c d
+    shape_follows h _ (shape.started conf b accept deny is first) d = refl
 
   pub follows_in : (h : Happening) → FollowsDrivers confs (verdict s confs h).outs s (verdict s confs h).state
   follows_in h = λ c configured d. driven_left c d (verdict s confs h).outs (aid_at s c) ∙ by_shape s confs (Follows c s) (answered_follows c s) h (shape_follows c configured h) d
-
-  -- ---- what an authentication response tells
-  pub told_in : (conf : Conf) (b : Bssid) (request : Authentication) → conf_at confs b ≡ Some conf → IsToldTruly s conf b request (verdict s confs (Heard b (authentication request)))
-  told_in conf b request is = subst (λ o. IsToldTruly s conf b request (verdict_under s confs o (Heard b (authentication request)))) (sym is) (auth_told s conf b request)
 
 -- the last state of a row of sound states
 pub stay_end : (changes : List Change) (s : State) → StaySound changes s → Sound (meaning_of changes s)

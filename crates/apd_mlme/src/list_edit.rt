@@ -34,6 +34,7 @@ fn edited(
     which: Which,
     edit: Edit,
 ) -> Result<Draft, AllocError>
+    requires { IsSome (policy_at table.now bssid) }
     ensures changes { IfOk result (λ d. d.changes ≡ (edited table.now bssid which edit).changes) }
     ensures outs { IfOk result (λ d. d.outs ≡ (edited table.now bssid which edit).outs) }
 {

@@ -1,5 +1,5 @@
 -- The rows of a BSSID, and what is left of them once lists are changed.
-use Rattle.std.proofs.Common.{◌≡◌, ◌≤◌, Bool, true, not, ◌&&◌, ◌||◌, List, length, map as list_map, filter, Some, sym, ap, subst, ◌∙◌}
+use Rattle.std.proofs.Common.{◌≡◌, ◌≤◌, Bool, true, false, cond, not, ◌&&◌, ◌||◌, List, length, map as list_map, filter, Some, refl, sym, ap, subst, ◌∙◌}
 use Rattle.std.proofs.lemmas.List.{length-map}
 use Rattle.std.specs.Ordering.{eq_by_cmp}
 use Rattle.std.specs.List.{list_any}
@@ -7,12 +7,13 @@ use Rattle.std.specs.FinMap as map
 use Rattle.apd_base.specs.declared.address.Addr.{Addr}
 use Rattle.apd_base.specs.declared.address.Bssid.{Bssid}
 use Rattle.apd_base.specs.declared.station.AclMode.{AclMode}
+use Rattle.apd_base.specs.declared.station.Policy.{Policy}
 use Rattle.apd_base.specs.declared.station.Station.{Station}
 use Rattle.apd_base.specs.declared.station.Which.{Which}
 use Rattle.apd_base.specs.declared.station.Which.TheVariants.{Accept, Deny}
 use Rattle.apd_base.specs.Addr.{addr_cmp, bssid_cmp, is_among}
 use Rattle.apd_base.specs.Sets.{contains}
-use Rattle.apd_base.specs.State.{State, is_row_of, station_at, count}
+use Rattle.apd_base.specs.State.{State, is_row_of, station_at, policy_at, count}
 use Rattle.apd_base.proofs.AddrLemmas.{addr_total, addr_exact, bssid_total, bssid_exact, station_total, station_exact}
 use Rattle.apd_base.proofs.MapLemmas.{tied, passes_any}
 use Rattle.apd_base.proofs.RowsMaps.{entries-retain_keys}
@@ -20,10 +21,11 @@ use Rattle.apd_base.proofs.StateLemmas.{list_total, list_exact}
 use Rattle.apd_acl.specs.Lists.{has}
 use Rattle.apd_acl.specs.Policy.{is_allowed}
 use Rattle.apd_acl.specs.declared.lists.Lists.{Lists}
+use Rattle.apd_record.specs.Meaning.{meaning}
 use Rattle.apd_record.specs.declared.change.Change.{Change}
-use Rattle.apd_record.specs.declared.change.Change.TheVariants.{Put, Drop, ListAdd, ListDel, ListClear, Policy}
-use Rattle.apd_table.specs.Addresses.{addresses_at, with_lists_after, has_after, is_denied_after}
-use Rattle.apd_table.specs.Allowed.{allowed_in, denied_by, is_denied_row}
+use Rattle.apd_record.specs.declared.change.Change.TheVariants.{Put, Drop, ListAdd, ListDel, ListClear, Policy as SetPolicy}
+use Rattle.apd_table.specs.Addresses.{addresses_at, with_lists_after, has_after, policy_after, is_denied_after}
+use Rattle.apd_table.specs.Allowed.{allowed, allowed_in, allowed_under, denied_by, is_denied_row}
 use Rattle.apd_table.specs.Rows as rows
 use Rattle.apd_table.proofs.Denied.{any_mapped}
 use Rattle.apd_table.proofs.ListCounts.{length-filter_le}
@@ -69,7 +71,24 @@ module _ (s : State) (b : Bssid) (lists : Lists) (same : (w : Which) (a : Addr) 
       ap (λ t. not (is_row_of c v (b, w, a)) && t) (same w a) ∙ sym (contains-retain_keys list_total list_exact s.lists (λ row. not (is_row_of c v row)) (b, w, a))
   has_after-is (Put c d station) w a = same w a
   has_after-is (Drop c d) w a = same w a
-  has_after-is (Policy c policy) w a = same w a
+  has_after-is (SetPolicy c policy) w a = same w a
+
+  -- and its policy is that of the state after
+  some_either : (t : Bool) (p q : Policy) → Some (cond t q p) ≡ cond t (Some q) (Some p)
+  some_either true p q = refl
+  some_either false p q = refl
+
+  policy_is : (p : Policy) → Some p ≡ policy_at s b → (change : Change) → Some (policy_after p b change) ≡ policy_at (meaning change s) b
+  policy_is p at (SetPolicy c q) = some_either (eq_by_cmp bssid_cmp b c) p q ∙ ap (cond (eq_by_cmp bssid_cmp b c) (Some q)) at ∙ sym (map.get-insert bssid_total s.policies c q b)
+  policy_is p at (ListAdd c v d) = at
+  policy_is p at (ListDel c v d) = at
+  policy_is p at (ListClear c v) = at
+  policy_is p at (Put c d station) = at
+  policy_is p at (Drop c d) = at
+
+  pub allowed_after : (p : Policy) → Some p ≡ policy_at s b → (change : Change) (a : Addr) → is_allowed (policy_after p b change).mode (has_after lists b change Accept a) (has_after lists b change Deny a) ≡ allowed (meaning change s) b a
+  allowed_after p at change a =
+      (λ i. is_allowed (policy_after p b change).mode (has_after-is change Accept a i) (has_after-is change Deny a i)) ∙ ap (allowed_under (meaning change s) b a) (policy_is p at change)
 
   -- so the rows that are denied are those that the state after denies
   pub denied_after-is : (mode : AclMode) (change : Change) → list_map (λ (row : (Bssid × Addr) × Station). row.0.1) (filter (is_denied_after lists mode b change) (map.entries s.stations)) ≡ denied_by (with_lists_after change s) b mode

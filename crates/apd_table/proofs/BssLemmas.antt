@@ -1,6 +1,8 @@
 -- The rows of BSSIDs in order, as policy rows and list rows.
-use Rattle.std.proofs.Common.{◌≡◌, ℕ, zero, suc, Bool, true, false, cond, ◌&&◌, ◌||◌, List, [], ◌∷◌, length, map as list_map, Some, refl, sym, ap, subst, ◌∙◌, T}
+use Rattle.std.proofs.Common.{◌≡◌, ℕ, Bool, true, false, cond, ◌&&◌, ◌||◌, List, [], ◌∷◌, length, map as list_map, Some, refl, sym, ap, subst, ◌∙◌, T}
 use Rattle.std.specs.List.{list_any, slice_get}
+use Rattle.std.proofs.lemmas.List.{length-map}
+use Rattle.std.proofs.lemmas.Option.{slice_get-map}
 use Rattle.std.specs.Option.{option_map, is_some}
 use Rattle.std.specs.Ordering.{eq_by_cmp, is_lt}
 use Rattle.std.specs.FinMap as map
@@ -48,30 +50,20 @@ module _ {V : Type 0} (part : Bss → V) where
   pub get-parts_of : (xs : List (Bssid × Bss)) → T (is_sorted bssid_cmp xs) → (b : Bssid) → map.get (from_sorted {R = bssid_cmp} (parts_of part xs)) b ≡ option_map part (find bssid_cmp b xs)
   get-parts_of xs h b = get-from_sorted bssid_cmp (parts_of part xs) b (sorted-parts_of xs h) ∙ find-parts_of b xs
 
-  length-parts_of : (xs : List (Bssid × Bss)) → length (parts_of part xs) ≡ length xs
-  length-parts_of [] = refl
-  length-parts_of (x ∷ xs) = ap suc (length-parts_of xs)
-
   -- there are as many as rows
   pub len-parts_of : (xs : List (Bssid × Bss)) → T (is_sorted bssid_cmp xs) → map.len (from_sorted {R = bssid_cmp} (parts_of part xs)) ≡ length xs
-  len-parts_of xs h = len-entries _ ∙ ap length (entries-from_sorted bssid_cmp (parts_of part xs) (sorted-parts_of xs h)) ∙ length-parts_of xs
+  len-parts_of xs h = len-entries _ ∙ ap length (entries-from_sorted bssid_cmp (parts_of part xs) (sorted-parts_of xs h)) ∙ length-map xs (λ x. (x.0, part x.1))
 
 -- the policies are of the same BSSIDs
-same_keys : (xs : List (Bssid × Bss)) (place : ℕ) → slice_get (list_map (λ (row : Bssid × Policy). row.0) (policy_rows xs)) place ≡ option_map (λ (row : Bssid × Bss). row.0) (slice_get xs place)
-same_keys [] place = refl
-same_keys (x ∷ xs) zero = refl
-same_keys (x ∷ xs) (suc place) = same_keys xs place
-
-pub keys-policy_rows : (xs : List (Bssid × Bss)) → T (is_sorted bssid_cmp xs) → (place : ℕ) → slice_get (map.keys (from_sorted {R = bssid_cmp} (policy_rows xs))) place ≡ option_map (λ (row : Bssid × Bss). row.0) (slice_get xs place)
-keys-policy_rows xs h place =
-    ap (λ rows. slice_get (list_map (λ (row : Bssid × Policy). row.0) rows) place) (entries-from_sorted bssid_cmp (policy_rows xs) (sorted-parts_of policy_of xs h)) ∙ same_keys xs place
-
 all_keys : (xs : List (Bssid × Bss)) → list_map (λ (row : Bssid × Policy). row.0) (policy_rows xs) ≡ list_map (λ (row : Bssid × Bss). row.0) xs
 all_keys [] = refl
 all_keys (x ∷ xs) = ap (λ ks. x.0 ∷ ks) (all_keys xs)
 
 pub keys_are : (xs : List (Bssid × Bss)) → T (is_sorted bssid_cmp xs) → list_map (λ (row : Bssid × Bss). row.0) xs ≡ map.keys (from_sorted {R = bssid_cmp} (policy_rows xs))
 keys_are xs h = sym (ap (list_map (λ (row : Bssid × Policy). row.0)) (entries-from_sorted bssid_cmp (policy_rows xs) (sorted-parts_of policy_of xs h)) ∙ all_keys xs)
+
+pub keys-policy_rows : (xs : List (Bssid × Bss)) → T (is_sorted bssid_cmp xs) → (place : ℕ) → slice_get (map.keys (from_sorted {R = bssid_cmp} (policy_rows xs))) place ≡ option_map (λ (row : Bssid × Bss). row.0) (slice_get xs place)
+keys-policy_rows xs h place = ap (λ ks. slice_get ks place) (sym (keys_are xs h)) ∙ slice_get-map (λ (row : Bssid × Bss). row.0) xs place
 
 pub no_rows : state_of_rows [] ≡ no_bss
 no_rows = λ i. record {

@@ -1,6 +1,7 @@
 -- What the look-ups for a clash say of the state.
-use Rattle.std.proofs.Common.{◌≡◌, ◌↔◌, ℕ, Bool, true, false, not, ◌&&◌, ◌||◌, List, [], ◌∷◌, inl, inr, refl, sym, ap, ◌∙◌, IsSome}
+use Rattle.std.proofs.Common.{◌≡◌, ◌↔◌, ℕ, Bool, true, false, not, ◌&&◌, List, inl, inr, refl, sym, ap, ◌∙◌, IsSome}
 use Rattle.std.proofs.lemmas.Bool.{and_parts}
+use Rattle.std.proofs.lemmas.List.Folds.{Any-from_list_any, list_any-from_Any}
 use Rattle.std.specs.List.{list_any}
 use Rattle.std.specs.Ordering.{eq_by_cmp}
 use Rattle.std.specs.FinMap as map
@@ -14,21 +15,13 @@ use Rattle.apd_base.specs.State.{State, aid_at, station_at}
 use Rattle.apd_table.specs.Can.{IsFreeFor, MayHave}
 use Rattle.apd_table.specs.Rows.{is_associated_apart}
 use Rattle.apd_table.specs.Sound.{Sound}
-use Rattle.apd_base.proofs.Cases.{differ, not_yes, second_true}
+use Rattle.apd_base.proofs.Cases.{differ, not_yes}
 
 -- an item that a test tells from all others is among some that one ties with
 one_of : (c : Bssid) (test : Bssid → Bool) (ks : List Bssid) → list_any (eq_by_cmp bssid_cmp c) ks ≡ true → test c ≡ true → list_any test ks ≡ true
-one_of c test [] h e = cc
-one_of c test (k ∷ ks) h e =
-    elim (eq_by_cmp bssid_cmp c k) as (λ t. eq_by_cmp bssid_cmp c k ≡ t → (t || list_any (eq_by_cmp bssid_cmp c) ks) ≡ true → (test k || list_any test ks) ≡ true) [
-      | true ↦ λ t _. ap (λ b. b || list_any test ks) (sym (ap test (same_bssid k c t)) ∙ e)
-      | false ↦ λ t rest. second_true (test k) _ (one_of c test ks rest e)
-    ] refl h
-
-some_one : (test : Bssid → Bool) (ks : List Bssid) → list_any test ks ≡ true → (c : Bssid) × (test c ≡ true)
-some_one test [] h = cc
-some_one test (k ∷ ks) h =
-    elim (test k) as (λ t. test k ≡ t → (t || list_any test ks) ≡ true → (c : Bssid) × (test c ≡ true)) [ true ↦ λ e _. (k, e) | false ↦ λ e rest. some_one test ks rest ] refl h
+one_of c test ks h e =
+    let one = Any-from_list_any (eq_by_cmp bssid_cmp c) ks h in
+    list_any-from_Any test ks (one.0, one.1, one.2, one.3, sym (ap test (same_bssid one.1 c one.4)) ∙ e)
 
 module _ (s : State) (sound : Sound s) (b : Bssid) (a : Addr) (i : ℕ) where
   abbrev is_apart : Bssid → Bool
@@ -55,5 +48,5 @@ module _ (s : State) (sound : Sound s) (b : Bssid) (a : Addr) (i : ℕ) where
   -- a station may have the identifier exactly where no other has it and the station is associated nowhere else
   pub may_have_iff : (t u : Bool) → (t ≡ true) ↔ IsFreeFor s b a i → u ≡ apart → ((t && not u) ≡ true) ↔ MayHave s b a i
   may_have_iff false u free f = (λ h. cc, λ may. free.1 may.free)
-  may_have_iff true true free f = (λ h. cc, λ may. (let found = some_one is_apart (map.keys s.policies) (sym f) in absurd (apart_from found.0 found.1 may)))
+  may_have_iff true true free f = (λ h. cc, λ may. (let found = Any-from_list_any is_apart (map.keys s.policies) (sym f) in absurd (apart_from found.1 found.4 may)))
   may_have_iff true false free f = (λ h. record { free = free.0 refl; alone = alone_of (sym f) }, λ may. refl)

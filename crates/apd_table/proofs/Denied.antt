@@ -1,5 +1,5 @@
 -- The rows that a mode denies, and what is left once they are dropped.
-use Rattle.std.proofs.Common.{◌≡◌, ◌<◌, Bool, true, false, cond, not, ◌&&◌, ◌||◌, List, [], ◌∷◌, ◌++◌, map as list_map, filter, Option, Some, None, ◌⊎◌, refl, sym, ap, subst, ◌∙◌, IsSome, IsTrue}
+use Rattle.std.proofs.Common.{◌≡◌, Bool, true, false, cond, not, ◌&&◌, ◌||◌, List, [], ◌∷◌, ◌++◌, map as list_map, filter, Option, Some, None, refl, sym, ap, ◌∙◌}
 use Rattle.std.proofs.lemmas.Bool.{and_parts}
 use Rattle.std.specs.List.{list_any}
 use Rattle.std.specs.declared.cmp.Ordering.{Ordering}
@@ -10,20 +10,17 @@ use Rattle.std.specs.FinMap.{get-remove}
 use Rattle.apd_base.specs.declared.address.Addr.{Addr}
 use Rattle.apd_base.specs.declared.address.Bssid.{Bssid}
 use Rattle.apd_base.specs.declared.station.AclMode.{AclMode}
-use Rattle.apd_base.specs.declared.station.Policy.{Policy}
 use Rattle.apd_base.specs.declared.station.Station.{Station}
 use Rattle.apd_base.specs.Addr.{addr_cmp, bssid_cmp, is_among}
 use Rattle.apd_base.proofs.AddrLemmas.{addr_total, addr_exact, bssid_total, bssid_exact, station_total, station_exact, same_bssid, same_addr}
 use Rattle.apd_base.proofs.MapLemmas.{tied, passes_any, any_passes}
-use Rattle.apd_base.specs.State.{State, station_at, policy_at}
+use Rattle.apd_base.specs.State.{State, station_at}
 use Rattle.apd_table.specs.Allowed.{allowed_in, is_denied_row, denied_by}
-use Rattle.apd_table.specs.Can.{CanSet}
-use Rattle.apd_record.specs.Meaning.{drop_station, set_policy, meaning, meaning_of}
+use Rattle.apd_record.specs.Meaning.{drop_station, meaning, meaning_of}
 use Rattle.apd_table.specs.Sound.{Sound, StaySound}
 use Rattle.apd_record.specs.declared.change.Change.{Change}
 use Rattle.apd_record.specs.declared.change.Change.TheVariants.{Drop}
-use Rattle.apd_table.proofs.Dropped.{sound_drop}
-use Rattle.apd_table.proofs.PolicySet.{sound_set}
+use Rattle.apd_table.proofs.Parts.{sound_drop}
 use Rattle.apd_base.proofs.Cases.{both_true, not_yes, not_no}
 
 -- dropping the rows of some addresses of a BSSID, one after the other
@@ -68,13 +65,9 @@ meaning_of-append [] ys s = refl
 meaning_of-append (x ∷ xs) ys s = meaning_of-append xs ys (meaning x s)
 
 -- the lists and the policies stay as they are
-pub drops_lists : (b : Bssid) (as' : List Addr) (s : State) → (meaning_of (drops b as') s).lists ≡ s.lists
-drops_lists b [] s = refl
-drops_lists b (a ∷ as') s = drops_lists b as' (drop_station b a s)
-
-pub drops_policies : (b : Bssid) (as' : List Addr) (s : State) → (meaning_of (drops b as') s).policies ≡ s.policies
-drops_policies b [] s = refl
-drops_policies b (a ∷ as') s = drops_policies b as' (drop_station b a s)
+pub drops_rest : (b : Bssid) (as' : List Addr) (s : State) → meaning_of (drops b as') s ≡ record s { stations = (meaning_of (drops b as') s).stations }
+drops_rest b [] s = refl
+drops_rest b (a ∷ as') s = drops_rest b as' (drop_station b a s)
 
 pub one_key : (r q : Ordering) → is_eq (ordering_then r q) ≡ (is_eq r && is_eq q)
 one_key Less q = refl
@@ -111,30 +104,3 @@ drops_sound b (a ∷ as') s sound = drops_sound b as' (drop_station b a s) (soun
 pub drops_stay : (b : Bssid) (as' : List Addr) (rest : List Change) (s : State) → Sound s → StaySound rest (meaning_of (drops b as') s) → StaySound (drops b as' ++ rest) s
 drops_stay b [] rest s sound h = h
 drops_stay b (a ∷ as') rest s sound h = (sound, drops_stay b as' rest (drop_station b a s) (sound_drop s b a sound) h)
-
-pub left_allowed : {A : Type 0} (t u v : Bool) (o : Option A) → t ≡ true → (v ≡ false → IsSome o → u ≡ true) → IsSome (cond (t && u) None o) → v ≡ true
-left_allowed t u true o e f h = refl
-left_allowed true true false o e f h = cc
-left_allowed true false false o e f h = f refl h
-left_allowed false u false o e f h = cc
-
-pub some_row : (s : State) (b : Bssid) (mode : AclMode) (a : Addr) (o : Option Station) → station_at s b a ≡ o → allowed_in s b a mode ≡ false → IsSome o → is_among a (denied_by s b mode) ≡ true
-some_row s b mode a None e denied h = cc
-some_row s b mode a (Some x) e denied h = among_denied s b mode a x e denied
-
--- once those that its mode denies are dropped, a policy may be set
-pub can_set_dropped : (s : State) (b : Bssid) (p : Policy) → IsSome (policy_at s b) ⊎ (map.len s.policies < 8) → CanSet (meaning_of (drops b (denied_by s b p.mode)) s) b p
-can_set_dropped s b p room =
-    let denied = denied_by s b p.mode in
-    record {
-      room = subst (λ m. IsSome (map.get m b) ⊎ (map.len m < 8)) (sym (drops_policies b denied s)) room;
-      allowed = λ a h. subst (λ l. IsTrue (allowed_in (record s { lists = l }) b a p.mode)) (sym (drops_lists b denied s))
-          (left_allowed (eq_by_cmp bssid_cmp b b) (is_among a denied) (allowed_in s b a p.mode) (station_at s b a) (tied bssid_total bssid_exact b)
-          (λ no_more row. some_row s b p.mode a (station_at s b a) refl no_more row)
-          (subst IsSome (drops_station b denied s b a) h));
-    }
-
-pub sound_set_dropped : (s : State) (b : Bssid) (p : Policy) → Sound s → IsSome (policy_at s b) ⊎ (map.len s.policies < 8) → Sound (set_policy b p (meaning_of (drops b (denied_by s b p.mode)) s))
-sound_set_dropped s b p sound room =
-    let denied = denied_by s b p.mode in
-    sound_set (meaning_of (drops b denied) s) b p (drops_sound b denied s sound) (can_set_dropped s b p room)

@@ -1,5 +1,5 @@
 -- What a scan for denied rows says of a state.
-use Rattle.std.proofs.Common.{◌≡◌, Bool, true, false, cond, not, ◌&&◌, ◌||◌, List, [], ◌∷◌, map as list_map, filter, None, IsSome, refl, sym, ap, ◌∙◌}
+use Rattle.std.proofs.Common.{◌≡◌, ◌↔◌, Bool, true, false, cond, not, ◌&&◌, ◌||◌, List, [], ◌∷◌, map as list_map, filter, None, IsSome, refl, sym, ap, ◌∙◌}
 use Rattle.std.proofs.lemmas.Bool.{and_parts, false_from_ne_true, true_from_ne_false}
 use Rattle.std.specs.List.{list_any}
 use Rattle.std.specs.Ordering.{eq_by_cmp}
@@ -36,15 +36,9 @@ module _ (s : State) (b : Bssid) (g : Addr → Bool) where
   AllPass = (a : Addr) → IsSome (station_at s b a) → g a ≡ true
 
   -- no row fails exactly where each passes
-  pub all_pass_iff : (t : Bool) → t ≡ list_any fails (map.entries s.stations) → (not t ≡ true → AllPass) × (AllPass → not t ≡ true)
+  pub all_pass_iff : (t : Bool) → t ≡ list_any fails (map.entries s.stations) → (not t ≡ true) ↔ AllPass
   all_pass_iff true e = (λ h. cc, λ all. one_fails (sym e) all)
   all_pass_iff false e = (λ h. none_fails (sym e), λ all. refl)
-
--- the same told in other words
-pub all_pass_as : (s : State) (b : Bssid) (g f : Addr → Bool) → ((a : Addr) → g a ≡ f a) → (t : Bool) → t ≡ list_any (fails s b g) (map.entries s.stations)
-    → (not t ≡ true → AllPass s b f) × (AllPass s b f → not t ≡ true)
-all_pass_as s b g f same t e =
-    let here = all_pass_iff s b g t e in (λ h a row. sym (same a) ∙ here.0 h a row, λ all. here.1 (λ a row. same a ∙ all a row))
 
 pub none_passes : {X : Type 0} (p : X → Bool) (xs : List X) → list_any p xs ≡ false → filter p xs ≡ []
 none_passes p [] e = refl

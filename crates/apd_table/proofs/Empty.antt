@@ -1,11 +1,11 @@
 -- The state without rows is sound.
-use Rattle.std.proofs.Common.{◌≡◌, ℕ, ◌≤◌, Bool, true, false, cond, Option, Some, None, refl, sym, ap, ◌∙◌, arith}
+use Rattle.std.proofs.Common.{◌≡◌, ℕ, ◌≤◌, Bool, false, None, sym, ap, ◌∙◌, arith}
 use Rattle.std.specs.Option.{is_some}
 use Rattle.std.specs.Ordering.{eq_by_cmp}
 use Rattle.std.specs.Cmp.{IsTotalOrder}
 use Rattle.std.specs.declared.cmp.Ordering.{Ordering}
 use Rattle.std.specs.FinMap as map
-use Rattle.std.specs.FinMap.{IsAntisymmetric, get-empty, get-retain_keys, len-empty, same_map}
+use Rattle.std.specs.FinMap.{IsAntisymmetric, get-empty, len-empty}
 use Rattle.apd_base.specs.Sets as set
 use Rattle.apd_base.specs.declared.address.Addr.{Addr}
 use Rattle.apd_base.specs.declared.address.Bssid.{Bssid}
@@ -17,20 +17,12 @@ use Rattle.apd_base.proofs.AddrLemmas.{station_total, station_exact}
 use Rattle.apd_base.proofs.StateLemmas.{list_total, list_exact}
 use Rattle.apd_base.specs.State.{empty_state, station_at, aid_of, aid_at, list_cmp, is_row_of}
 use Rattle.apd_table.specs.Sound.{Sound}
-use Rattle.apd_base.proofs.Cases.{differ, none_is}
+use Rattle.apd_base.proofs.Cases.{differ, none_is, none_is_some}
+use Rattle.apd_table.proofs.Parts.{part_kept, part_len}
 
-pub none_either : {X : Type 0} (t : Bool) → ◌≡◌ {A = Option X} (cond t None None) None
-none_either true = refl
-none_either false = refl
-
+-- a part of nothing has nothing
 no_part : {K : Type 0} (X : Type 0) {R : K → K → Ordering} (o : IsTotalOrder R) (exact : IsAntisymmetric R) (p : K → Bool) → map.len (map.retain_keys (map.empty {X = X} {R = R}) p) ≡ 0
-no_part {K} X {R} o exact p =
-    ap map.len (same_map o exact (map.retain_keys (map.empty {X = X} {R = R}) p) map.empty (λ q.
-    get-retain_keys map.empty p q (λ x t. ap p (sym (exact q x t))) ∙ ap (λ v. cond (p q) v None) (get-empty R q) ∙ none_either (p q) ∙ sym (get-empty R q)))
-    ∙ len-empty R X
-
-some_is : {B : Type 0} (o : Option ℕ) (i : ℕ) → o ≡ None → o ≡ Some i → B
-some_is o i e h = cc
+no_part X {R} o exact p = omega (arith, part_len o exact (map.retain_keys (map.empty {X = X} {R = R}) p) map.empty (part_kept o exact map.empty p), len-empty R X)
 
 few : (n m : ℕ) → n ≡ 0 → n ≤ m
 few n m e = omega arith
@@ -46,8 +38,8 @@ no_list_row b w a = ap is_some (get-empty list_cmp (b, w, a))
 
 pub sound_empty : Sound empty_state
 sound_empty = record {
-  identifiers = λ b a i h. some_is (aid_at empty_state b a) i (no_aid b a) h;
-  distinct = λ b a c i h k. some_is (aid_at empty_state b a) i (no_aid b a) h;
+  identifiers = λ b a i h. none_is_some i (sym (no_aid b a) ∙ h);
+  distinct = λ b a c i h k. none_is_some i (sym (no_aid b a) ∙ h);
   one_association = λ b c a h k. none_is (aid_at empty_state b a) (no_aid b a) h;
   stations_have_policy = λ b a h. none_is (station_at empty_state b a) (no_station b a) h;
   lists_have_policy = λ b w a h. differ _ (no_list_row b w a) h;

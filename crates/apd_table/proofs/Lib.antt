@@ -1,25 +1,24 @@
 pub mod AllRows
-mod AllowedLemmas
 mod BssLemmas
 mod BssWrites
 mod Clashes
 pub mod Denied
 mod DeniedRows
-pub mod Dropped
 pub mod Empty
 mod Firsts
 mod Identifiers
 pub mod InTurn
-mod KeysInOrder
 pub mod ListChanges
-mod ListCounts
+pub mod ListCounts
 pub mod ListSets
-mod MembersLemmas
+pub mod MembersLemmas
 mod OneDenied
+pub mod Parts
 mod Places
 pub mod PolicySet
 pub mod Put
 mod Replays
+mod Rooms
 mod RowChanges
 pub mod SnapshotSize
 mod StationRows

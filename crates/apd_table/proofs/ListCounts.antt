@@ -2,10 +2,9 @@
 use Rattle.std.proofs.Common.{◌≡◌, suc, ◌≤◌, Bool, true, false, cond, ◌&&◌, List, [], ◌∷◌, map as list_map, filter, Some, None, length, inl, inr, refl, sym, ap, subst, ◌∙◌, T}
 use Rattle.std.specs.Option.{is_some}
 use Rattle.std.specs.Ordering.{eq_by_cmp, is_lt, ordering_then}
-use Rattle.std.specs.Cmp.{IsTotalOrder, tied_itself}
-use Rattle.std.specs.declared.cmp.Ordering.{Ordering}
+use Rattle.std.specs.Cmp.{tied_itself}
 use Rattle.std.specs.FinMap as map
-use Rattle.std.specs.FinMap.{FinMap, IsAntisymmetric, find, is_sorted, from_sorted, entries, entries_sorted, get-entries, get-from_sorted, entries-from_sorted, len-entries}
+use Rattle.std.specs.FinMap.{find, is_sorted, from_sorted, entries, entries_sorted, get-entries, get-from_sorted, entries-from_sorted, len-entries}
 use Rattle.std.specs.FinMap.Entries.{below_all}
 use Rattle.apd_base.specs.Sets.{SetOf, contains}
 use Rattle.apd_base.specs.Addr.{addr_cmp, bssid_cmp}
@@ -15,7 +14,6 @@ use Rattle.apd_base.specs.declared.address.Bssid.{Bssid}
 use Rattle.apd_base.specs.declared.station.Which.{Which}
 use Rattle.apd_base.proofs.AddrLemmas.{bssid_total, bssid_exact}
 use Rattle.apd_base.proofs.MapLemmas.{one_or_apart, apart, tied}
-use Rattle.apd_base.proofs.RowsMaps.{entries-retain_keys}
 use Rattle.apd_base.proofs.StateLemmas.{which_total, which_exact, list_total, list_exact}
 use Rattle.std.proofs.lemmas.Bool.{and_parts}
 use Rattle.std.proofs.lemmas.List.Sums.{length-filter, count_by-le-length}
@@ -33,20 +31,21 @@ row_is_of b w q e =
       elim (one_or_apart which_total which_exact w q.1) [ inl same ↦ sym same | inr ne ↦ differ _ ne parts.1 ],
     )
 
-abbrev Item : Type 0
+abbrev pub Item : Type 0
 Item = Addr × Unit {0}
 
-abbrev Row : Type 0
+abbrev pub Row : Type 0
 Row = (Bssid × Which × Addr) × Unit {0}
 
 module _ (b : Bssid) (w : Which) where
-  abbrev rows_of : List Item → List Row
+  -- the rows of one list
+  abbrev pub rows_of : List Item → List Row
   rows_of es = list_map (λ (e : Item). ((b, w, e.0), e.1)) es
 
   at_list : (x y : Addr) → list_cmp (b, w, x) (b, w, y) ≡ addr_cmp x y
   at_list x y = (λ i. ordering_then (tied_itself bssid_total b i) (ordering_then (tied_itself which_total w i) (addr_cmp x y)))
 
-  below-rows_of : (x : Addr) (es : List Item) → below_all list_cmp (b, w, x) (rows_of es) ≡ below_all addr_cmp x es
+  pub below-rows_of : (x : Addr) (es : List Item) → below_all list_cmp (b, w, x) (rows_of es) ≡ below_all addr_cmp x es
   below-rows_of x [] = refl
   below-rows_of x (e ∷ es) = λ i. is_lt (at_list x e.0 i) && below-rows_of x es i
 
@@ -95,8 +94,3 @@ module _ (b : Bssid) (w : Which) where
 -- a part has no more than the whole
 pub length-filter_le : {X : Type 0} (p : X → Bool) (xs : List X) → length (filter p xs) ≤ length xs
 length-filter_le p xs = rw (length-filter p xs) (count_by-le-length p xs)
-
-pub retained_le : {K X : Type 0} {R : K → K → Ordering} (o : IsTotalOrder R) (exact : IsAntisymmetric R) (p : K → Bool) (m : FinMap R X) → map.len (map.retain_keys m p) ≤ map.len m
-retained_le {R = R} o exact p m =
-    let fewer = length-filter_le (λ e. p e.0) (entries m) in
-    rw (len-entries (map.retain_keys m p) ∙ ap length (entries-retain_keys o exact p m), len-entries m) fewer

@@ -1,14 +1,14 @@
 -- What is kept of the stations of each BSSID stays true of them.
 use Rattle.std.proofs.Common.{◌≡◌, ◌≢◌, ℕ, ◌<◌, ◌≤◌, Bool, true, false, cond, List, length, replicate, Option, Some, None, IfSome, inl, inr, refl, sym, ap, subst, ◌∙◌, arith, ◌+◌, ◌-◌}
 use Rattle.std.specs.FinMap as map
-use Rattle.std.specs.FinMap.{FinMap, IsAntisymmetric, get-empty, get-retain_keys, len-empty, len-remove, same_map}
+use Rattle.std.specs.FinMap.{FinMap, IsAntisymmetric, get-retain_keys, len-empty, len-remove}
 use Rattle.std.specs.Cmp.{IsTotalOrder}
 use Rattle.std.specs.Option.{is_some, option_map}
 use Rattle.std.proofs.lemmas.Bool.{false_from_ne_true}
 use Rattle.std.specs.Ordering.{eq_by_cmp}
 use Rattle.std.specs.declared.cmp.Ordering.{Ordering}
-use Rattle.apd_base.proofs.AddrLemmas.{addr_total, addr_exact, bssid_total, bssid_exact, station_total, station_exact}
-use Rattle.apd_base.proofs.Cases.{differ, no_value, none_is, none_is_some, same_some}
+use Rattle.apd_base.proofs.AddrLemmas.{addr_total, addr_exact, bssid_total, bssid_exact, same_bssid, station_total, station_exact}
+use Rattle.apd_base.proofs.Cases.{differ, is_some_of, no_value, none_is, none_is_some, same_some}
 use Rattle.apd_base.proofs.MapLemmas.{one_or_apart, apart, tied, get_inserted, get_insert_other, get_removed, get_remove_other, retain_keys-remove}
 use Rattle.apd_base.specs.Addr.{addr_cmp, bssid_cmp, station_cmp}
 use Rattle.apd_base.specs.declared.address.Addr.{Addr}
@@ -18,7 +18,7 @@ use Rattle.apd_base.specs.declared.station.Station.{Station}
 use Rattle.apd_base.specs.State.{State, aid_of, aid_at, station_at, policy_at, count, stations_of}
 use Rattle.apd_record.specs.Meaning.{put_station, drop_station}
 use Rattle.apd_table.proofs.Places.{ArePlaces, HasPlace, places_of, words_of, many_with, many_without, with_is, without_is, none_set}
-use Rattle.apd_table.proofs.Empty.{none_either}
+use Rattle.apd_table.proofs.Parts.{part_len, part_passes}
 use Rattle.apd_table.proofs.Put.{aid_range, put_here, count_put_in, count_put_out, is_some_there}
 use Rattle.apd_table.specs.BssRows.{joined}
 use Rattle.apd_table.specs.LeastFree.{IsTaken}
@@ -186,19 +186,10 @@ same_members s t same m are c x got =
 -- ---- a BSSID without stations
 
 module _ (s : State) (b : Bssid) (none : (a : Addr) → station_at s b a ≡ None) where
-  none_of : (q : Bssid × Addr) → cond (eq_by_cmp bssid_cmp b q.0) (map.get s.stations q) None ≡ None
-  none_of q =
-      elim (one_or_apart bssid_total bssid_exact b q.0) [
-        | inl e ↦ ap (λ o. cond (eq_by_cmp bssid_cmp b q.0) o None) (ap (λ c. map.get s.stations (c, q.1)) (sym e) ∙ none q.1) ∙ none_either (eq_by_cmp bssid_cmp b q.0)
-        | inr ne ↦ ap (λ t. cond t (map.get s.stations q) None) ne
-      ]
-
   pub count_none : count s b ≡ 0
-  count_none =
-      ap map.len (same_map station_total station_exact (stations_of s b) map.empty (λ q.
-      get-retain_keys s.stations (λ k. eq_by_cmp bssid_cmp b k.0) q (λ x t. ap (λ k. eq_by_cmp bssid_cmp b k.0) (sym (station_exact q x t)))
-      ∙ none_of q ∙ sym (get-empty station_cmp q)))
-      ∙ len-empty station_cmp Station
+  count_none = omega (arith, len-empty station_cmp Station, part_len station_total station_exact (stations_of s b) map.empty (λ k v g.
+      let row = part_passes station_total station_exact s.stations (λ q. eq_by_cmp bssid_cmp b q.0) k v g in
+      none_is (station_at s b k.1) (none k.1) (is_some_of _ v ((λ i. map.get s.stations (same_bssid k.0 b row.0 i, k.1)) ∙ row.1))))
 
   pub none_taken : {A : Type 0} (j : ℕ) → IsTaken s b j → A
   none_taken j taken = none_is_some j (sym (ap aid_of (none taken.0)) ∙ taken.1)

@@ -1,5 +1,5 @@
 -- Who is denied once one address is added to a list or taken out of one: in a sound state that address alone.
-use Rattle.std.proofs.Common.{◌≡◌, Bool, true, false, cond, not, ◌&&◌, ◌||◌, List, [], ◌∷◌, map as list_map, filter, Option, Some, None, inl, inr, refl, sym, ap, ◌∙◌, T}
+use Rattle.std.proofs.Common.{◌≡◌, ◌↔◌, Bool, true, false, cond, not, ◌&&◌, ◌||◌, List, [], ◌∷◌, map as list_map, filter, Option, Some, None, inl, inr, refl, sym, ap, ◌∙◌, T}
 use Rattle.std.proofs.lemmas.Bool.{and_parts, false_from_ne_true}
 use Rattle.std.specs.List.{list_any}
 use Rattle.std.specs.Option.{is_some}
@@ -23,12 +23,16 @@ use Rattle.apd_acl.specs.Lists.{has}
 use Rattle.apd_acl.specs.Policy.{is_allowed}
 use Rattle.apd_acl.specs.declared.lists.Lists.{Lists}
 use Rattle.apd_acl.proofs.Above.{found_head}
+use Rattle.apd_record.specs.Meaning.{meaning}
 use Rattle.apd_record.specs.declared.change.Change.{Change}
 use Rattle.apd_record.specs.declared.change.Change.TheVariants.{Put, Drop, ListAdd, ListDel, ListClear, Policy as SetPolicy}
-use Rattle.apd_table.specs.Addresses.{has_after, is_list_row, listed_address, is_address_denied_after, is_denied_after}
-use Rattle.apd_table.specs.Allowed.{allowed_under}
+use Rattle.apd_table.specs.Addresses.{has_after, is_list_row, listed_address, policy_after, is_address_denied_after, is_denied_after}
+use Rattle.apd_table.specs.Allowed.{allowed, allowed_under}
+use Rattle.apd_table.specs.Can.{NoneDeniedAfter}
+use Rattle.apd_table.specs.Rows.{is_row_of}
 use Rattle.apd_table.specs.Sound.{Sound}
-use Rattle.apd_table.proofs.DeniedRows.{none_passes}
+use Rattle.apd_table.proofs.AllRows.{allowed_after}
+use Rattle.apd_table.proofs.DeniedRows.{all_pass_iff, none_passes}
 use Rattle.apd_table.proofs.StationRows.{Row}
 
 abbrev address : Row → Addr
@@ -77,6 +81,15 @@ only_one p key (row ∷ rows) sorted only =
           ] refl
     ]
 
+-- whether there is one
+abbrev is_any : {X : Type 0} → List X → Bool
+is_any [] = false
+is_any (x ∷ xs) = true
+
+any_is : (p : Row → Bool) (rows : List Row) → is_any (list_map address (filter p rows)) ≡ list_any p rows
+any_is p [] = refl
+any_is p (row ∷ rows) = elim (p row) as (λ t. is_any (list_map address (cond t (row ∷ filter p rows) (filter p rows))) ≡ (t || list_any p rows)) [ true ↦ refl | false ↦ any_is p rows ]
+
 abbrev eq_or_false : Addr → Option Addr → Bool
 eq_or_false a None = false
 eq_or_false a (Some d) = eq_by_cmp addr_cmp a d
@@ -92,6 +105,15 @@ kept_lists lists b (ListClear c v) d is w a apart = cc
 kept_lists lists b (Put c x station) d is w a apart = cc
 kept_lists lists b (Drop c x) d is w a apart = cc
 kept_lists lists b (SetPolicy c policy) d is w a apart = cc
+
+-- nor is the policy another
+pub kept_policy : (policy : Policy) (b : Bssid) (change : Change) (d : Addr) → Some d ≡ listed_address change → policy_after policy b change ≡ policy
+kept_policy policy b (ListAdd c v x) d is = refl
+kept_policy policy b (ListDel c v x) d is = refl
+kept_policy policy b (ListClear c v) d is = refl
+kept_policy policy b (Put c x station) d is = refl
+kept_policy policy b (Drop c x) d is = refl
+kept_policy policy b (SetPolicy c new) d is = cc
 
 module _ (s : State) (b : Bssid) (sound : Sound s) (policy : Policy) (at_b : Some policy ≡ policy_at s b) (lists : Lists) (same : (w : Which) (a : Addr) → has lists w a ≡ contains s.lists (b, w, a))
     (change : Change) (d : Addr) (is : Some d ≡ listed_address change) where
@@ -120,3 +142,17 @@ module _ (s : State) (b : Bssid) (sound : Sound s) (policy : Policy) (at_b : Som
   pub one_denied : cond (is_some (station_at s b d) && is_address_denied_after lists policy.mode b change d) (d ∷ []) [] ≡ list_map address (filter denies (map.entries s.stations))
   one_denied =
       sym (only_one denies (b, d) (map.entries s.stations) (map.entries_sorted s.stations) only_it ∙ ap (alone denies (b, d)) (sym (map.get-entries s.stations (b, d))) ∙ alone_is (station_at s b d))
+
+  -- so a row is denied exactly where it is
+  pub any_denied : (is_some (station_at s b d) && is_address_denied_after lists policy.mode b change d) ≡ list_any denies (map.entries s.stations)
+  any_denied = sym (any_alone _) ∙ ap is_any one_denied ∙ any_is denies (map.entries s.stations)
+    where
+      any_alone : (t : Bool) → is_any (cond t (d ∷ []) []) ≡ t
+      any_alone true = refl
+      any_alone false = refl
+
+-- a test of all rows tells whether a row is denied once a change is made
+pub none_denied_iff : (s : State) (b : Bssid) (policy : Policy) (at_b : Some policy ≡ policy_at s b) (lists : Lists) (same : (w : Which) (a : Addr) → has lists w a ≡ contains s.lists (b, w, a)) (change : Change) (t : Bool)
+    → t ≡ list_any (is_denied_after lists (policy_after policy b change).mode b change) (map.entries s.stations) → (not t ≡ true) ↔ NoneDeniedAfter s b change
+none_denied_iff s b policy at_b lists same change t e =
+    all_pass_iff s b (allowed (meaning change s) b) t (e ∙ (λ i. list_any (λ (row : Row). is_row_of b row && not (allowed_after s b lists same policy at_b change row.0.1 i)) (map.entries s.stations)))

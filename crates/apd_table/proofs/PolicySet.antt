@@ -1,5 +1,5 @@
 -- When a state stays sound as a BSSID's policy is set.
-use Rattle.std.proofs.Common.{◌≡◌, ℕ, ◌+◌, ◌≤◌, ◌<◌, false, cond, Option, Some, None, ◌⊎◌, inl, inr, refl, sym, ap, subst, ◌∙◌, IsSome, IsTrue, arith}
+use Rattle.std.proofs.Common.{◌≡◌, ◌+◌, false, cond, Some, inl, inr, sym, ap, subst, ◌∙◌, IsSome, IsTrue}
 use Rattle.std.specs.Option.{is_some}
 use Rattle.std.specs.Ordering.{eq_by_cmp}
 use Rattle.std.specs.FinMap as map
@@ -11,10 +11,11 @@ use Rattle.apd_base.specs.Addr.{bssid_cmp}
 use Rattle.apd_base.proofs.AddrLemmas.{bssid_total, bssid_exact}
 use Rattle.apd_base.proofs.MapLemmas.{one_or_apart, get_inserted, get_insert_other}
 use Rattle.apd_base.specs.State.{State, station_at, policy_at}
-use Rattle.apd_table.specs.Allowed.{allowed, allowed_in, allowed_under}
+use Rattle.apd_table.specs.Allowed.{allowed, allowed_under}
 use Rattle.apd_table.specs.Can.{CanSet}
 use Rattle.apd_record.specs.Meaning.{set_policy}
 use Rattle.apd_table.specs.Sound.{Sound}
+use Rattle.apd_table.proofs.Rooms.{room_after, room_before}
 
 module _ (s : State) (b : Bssid) (p : Policy) where
   abbrev new : State
@@ -33,20 +34,8 @@ module _ (s : State) (b : Bssid) (p : Policy) where
         | inr ne ↦ ap is_some (policy_elsewhere c ne) ∙ h
       ]
 
-  allowed_here : (a : Addr) → allowed new b a ≡ allowed_in s b a p.mode
-  allowed_here a = ap (allowed_under s b a) policy_here
-
   allowed_elsewhere : (c : Bssid) (a : Addr) → eq_by_cmp bssid_cmp c b ≡ false → allowed new c a ≡ allowed s c a
   allowed_elsewhere c a ne = ap (allowed_under s c a) (policy_elsewhere c ne)
-
-  room_after : (o : Option Policy) (n : ℕ) → IsSome o ⊎ (n < 8) → n ≤ 8 → cond (is_some o) n (n + 1) ≤ 8
-  room_after None n (inl h) le = cc
-  room_after None n (inr h) le = omega arith
-  room_after (Some x) n h le = le
-
-  room_before : (o : Option Policy) (n : ℕ) → cond (is_some o) n (n + 1) ≤ 8 → IsSome o ⊎ (n < 8)
-  room_before None n h = inr (omega arith)
-  room_before (Some x) n h = inl refl
 
   len_set : map.len new.policies ≡ cond (is_some (policy_at s b)) (map.len s.policies) (map.len s.policies + 1)
   len_set = len-insert bssid_total s.policies b p
@@ -59,10 +48,10 @@ module _ (s : State) (b : Bssid) (p : Policy) where
     stations_have_policy = λ c d h. kept c (sound.stations_have_policy c d h);
     lists_have_policy = λ c w d h. kept c (sound.lists_have_policy c w d h);
     none_denied = λ c d h. elim (one_or_apart bssid_total bssid_exact c b) [
-      | inl e ↦ subst (λ x. IsTrue (allowed new x d)) (sym e) (allowed_here d ∙ can.allowed d (subst (λ x. IsSome (station_at s x d)) e h))
+      | inl e ↦ subst (λ x. IsTrue (allowed new x d)) (sym e) (can.allowed d (subst (λ x. IsSome (station_at s x d)) e h))
       | inr ne ↦ allowed_elsewhere c d ne ∙ sound.none_denied c d h
     ];
-    few_bss = rw len_set (room_after (policy_at s b) (map.len s.policies) can.room sound.few_bss);
+    few_bss = rw len_set (room_after (is_some (policy_at s b)) (map.len s.policies) 8 can.room sound.few_bss);
     few_stations = sound.few_stations;
     few_listed = sound.few_listed;
   }
@@ -70,6 +59,6 @@ module _ (s : State) (b : Bssid) (p : Policy) where
   -- the same the other way
   pub can_set : Sound new → CanSet s b p
   can_set sound = record {
-    room = room_before (policy_at s b) (map.len s.policies) (rw len_set at sound.few_bss);
-    allowed = λ a h. sym (allowed_here a) ∙ sound.none_denied b a h;
+    room = room_before (is_some (policy_at s b)) (map.len s.policies) 8 (rw len_set at sound.few_bss);
+    allowed = sound.none_denied b;
   }

@@ -1,5 +1,5 @@
 -- When a state stays sound as a station's row is put.
-use Rattle.std.proofs.Common.{◌≡◌, ℕ, ◌+◌, ◌≤◌, ◌<◌, false, cond, Option, Some, None, ◌⊎◌, inl, inr, refl, sym, ap, subst, ◌∙◌, IsSome, IfSome, IsTrue, arith}
+use Rattle.std.proofs.Common.{◌≡◌, ℕ, ◌+◌, ◌≤◌, false, cond, Option, Some, None, ◌⊎◌, inl, inr, refl, sym, ap, subst, ◌∙◌, IsSome, IfSome, IsTrue}
 use Rattle.std.specs.Option.{is_some}
 use Rattle.std.specs.Ordering.{eq_by_cmp}
 use Rattle.std.specs.FinMap as map
@@ -16,6 +16,7 @@ use Rattle.apd_table.specs.Allowed.{allowed}
 use Rattle.apd_table.specs.Can.{MayHave, CanPut}
 use Rattle.apd_record.specs.Meaning.{put_station}
 use Rattle.apd_table.specs.Sound.{Sound}
+use Rattle.apd_table.proofs.Rooms.{room_after, room_before}
 use Rattle.apd_base.proofs.Cases.{value_of}
 
 -- an identifier keeps its range by its type
@@ -65,15 +66,6 @@ module _ (s : State) (b : Bssid) (a : Addr) (v : Station) where
   pub count_put_out : (c : Bssid) → eq_by_cmp bssid_cmp c b ≡ false → count new c ≡ count s c
   count_put_out c ne = ap map.len (retain_keys-insert_out station_total station_exact (λ k. eq_by_cmp bssid_cmp c k.0) s.stations (b, a) v ne)
 
-  room_after : (o : Option Station) (n : ℕ) → IsSome o ⊎ (n < 2007) → n ≤ 2007 → cond (is_some o) n (n + 1) ≤ 2007
-  room_after None n (inl h) le = cc
-  room_after None n (inr h) le = omega arith
-  room_after (Some x) n h le = le
-
-  room_before : (o : Option Station) (n : ℕ) → cond (is_some o) n (n + 1) ≤ 2007 → IsSome o ⊎ (n < 2007)
-  room_before None n h = inr (omega arith)
-  room_before (Some x) n h = inl refl
-
   pub sound_put : Sound s → CanPut s b a v → Sound new
   sound_put sound can =
       let may : (i : ℕ) → aid_of (Some v) ≡ Some i → MayHave s b a i = λ i e. if_some_at (MayHave s b a) (aid_of (Some v)) i can.identified e in
@@ -111,7 +103,7 @@ module _ (s : State) (b : Bssid) (a : Addr) (v : Station) where
         ];
         few_bss = sound.few_bss;
         few_stations = λ c. elim (one_or_apart bssid_total bssid_exact c b) [
-          | inl e ↦ subst (λ x. count new x ≤ 2007) (sym e) (rw count_put_in (room_after (station_at s b a) (count s b) can.room (sound.few_stations b)))
+          | inl e ↦ subst (λ x. count new x ≤ 2007) (sym e) (rw count_put_in (room_after (is_some (station_at s b a)) (count s b) 2007 can.room (sound.few_stations b)))
           | inr ne ↦ rw (count_put_out c ne) (sound.few_stations c)
         ];
         few_listed = sound.few_listed;
@@ -136,5 +128,5 @@ module _ (s : State) (b : Bssid) (a : Addr) (v : Station) where
           ];
         });
     allowed = (sound.stations_have_policy b a some_here, sound.none_denied b a some_here);
-    room = room_before (station_at s b a) (count s b) (rw count_put_in at (sound.few_stations b));
+    room = room_before (is_some (station_at s b a)) (count s b) 2007 (rw count_put_in at (sound.few_stations b));
   }

@@ -1,30 +1,28 @@
 -- The changes of a snapshot lead from the empty state to the state, by sound ones.
-use Rattle.std.proofs.Common.{◌≡◌, ℕ, ◌-◌, ◌≤◌, Bool, true, false, cond, List, [], ◌∷◌, ◌++◌, length, map as list_map, Option, Some, None, IsSome, IsTrue, inl, inr, refl, sym, ap, subst, ◌∙◌, T, arith}
+use Rattle.std.proofs.Common.{◌≡◌, true, false, cond, List, [], ◌∷◌, ◌++◌, map as list_map, Option, Some, None, IsSome, refl, sym, ap, subst, ◌∙◌, T}
 use Rattle.std.specs.List.{AllByRecursion}
-use Rattle.std.specs.Option.{is_some}
 use Rattle.std.specs.Ordering.{eq_by_cmp}
 use Rattle.std.specs.Cmp.{IsTotalOrder}
 use Rattle.std.specs.declared.cmp.Ordering.{Ordering}
-use Rattle.std.specs.declared.cmp.Ordering.TheVariants.{Equal}
 use Rattle.std.specs.FinMap as map
-use Rattle.std.specs.FinMap.{FinMap, IsAntisymmetric, find, is_sorted, entries, entries_sorted, get-entries, get-insert, get-empty, get-retain_keys, len-entries, len-remove, same_map}
+use Rattle.std.specs.FinMap.{FinMap, IsAntisymmetric, find, is_sorted, entries, entries_sorted, get-entries, get-insert, get-empty, same_map}
 use Rattle.apd_base.specs.declared.address.Addr.{Addr}
 use Rattle.apd_base.specs.declared.address.Bssid.{Bssid}
 use Rattle.apd_base.specs.declared.station.Policy.{Policy}
 use Rattle.apd_base.specs.declared.station.Station.{Station}
 use Rattle.apd_base.specs.declared.station.Which.{Which}
 use Rattle.apd_base.specs.Addr.{bssid_cmp, station_cmp}
-use Rattle.apd_base.specs.State.{State, empty_state, station_at, policy_at, aid_of, aid_at, list_cmp, IsListed, is_row_of}
+use Rattle.apd_base.specs.State.{State, empty_state, list_cmp}
 use Rattle.apd_base.proofs.AddrLemmas.{bssid_total, bssid_exact, station_total, station_exact}
-use Rattle.apd_base.proofs.Cases.{value_of, is_some_of, none_is}
-use Rattle.apd_base.proofs.MapLemmas.{one_or_apart, tied, get_inserted, get_insert_other, get_remove_other}
+use Rattle.apd_base.proofs.Cases.{none_is}
+use Rattle.apd_base.proofs.MapLemmas.{tied}
 use Rattle.apd_base.proofs.RowsLemmas.{is_sorted_tail, tied_not_below, find_tied_head}
 use Rattle.apd_base.proofs.StateLemmas.{list_total, list_exact}
 use Rattle.apd_record.specs.Meaning.{meaning_of}
 use Rattle.apd_record.specs.declared.change.Change.{Change}
-use Rattle.apd_table.specs.Allowed.{allowed}
 use Rattle.apd_table.specs.Snapshot.{policy_change, list_change, station_change, list_changes, station_changes, canonical}
 use Rattle.apd_table.specs.Sound.{Sound, StaySound}
+use Rattle.apd_table.proofs.Parts.{IsPart, part_more, part_some, empty_part, sound_part}
 
 -- ---- maps filled row by row
 
@@ -34,19 +32,8 @@ module _ {K X : Type 0} {R : K → K → Ordering} (o : IsTotalOrder R) (exact :
   filled m [] = m
   filled m (e ∷ es) = filled (map.insert m e.0 e.1) es
 
-  -- the entries of one are entries of the other
-  abbrev pub IsPart : FinMap R X → FinMap R X → Type 0
-  IsPart part m = (k : K) (v : X) → map.get part k ≡ Some v → map.get m k ≡ Some v
-
   abbrev pub AreOf : FinMap R X → List (K × X) → Type 0
   AreOf m es = AllByRecursion (λ (e : K × X). map.get m e.0 ≡ Some e.1) es
-
-  pub part_more : (part m : FinMap R X) (k : K) (v : X) → IsPart part m → map.get m k ≡ Some v → IsPart (map.insert part k v) m
-  part_more part m k v is here q x g =
-      elim (one_or_apart o exact q k) [
-        | inl e ↦ ap (map.get m) e ∙ here ∙ sym (get_inserted o exact part k v) ∙ ap (map.get (map.insert part k v)) (sym e) ∙ g
-        | inr ne ↦ is q x (sym (get_insert_other o exact part k v q ne) ∙ g)
-      ]
 
   -- the one of two that is there, the first one first
   abbrev pub either : Option X → Option X → Option X
@@ -86,77 +73,6 @@ module _ {K X : Type 0} {R : K → K → Ordering} (o : IsTotalOrder R) (exact :
 
   pub entries_are : (m : FinMap R X) → AreOf m (entries m)
   entries_are m = as_map m (entries m) (each_found (entries m) (entries_sorted m))
-
-  -- ---- how many
-
-  found_one : (k : K) (v : X) (es : List (K × X)) → find R k es ≡ Some v → 1 ≤ length es
-  found_one k v [] f = cc
-  found_one k v (e ∷ es) f = omega arith
-
-  head_apart : (e : K × X) (es : List (K × X)) → T (is_sorted R (e ∷ es)) → (q : K) (v : X) → find R q es ≡ Some v → eq_by_cmp R q e.0 ≡ false
-  head_apart e es sorted q v f = tied_not_below o q e es sorted v f
-
-  has_one : (m : FinMap R X) (k : K) (v : X) → map.get m k ≡ Some v → 1 ≤ map.len m
-  has_one m k v here = subst (λ n. 1 ≤ n) (sym (len-entries m)) (found_one k v (entries m) (sym (get-entries m k) ∙ here))
-
-  no_more : (es : List (K × X)) → T (is_sorted R es) → (m : FinMap R X) → ((q : K) (v : X) → find R q es ≡ Some v → map.get m q ≡ Some v) → length es ≤ map.len m
-  no_more [] sorted m is = omega arith
-  no_more (e ∷ es) sorted m is =
-      let here : map.get m e.0 ≡ Some e.1 = is e.0 e.1 (ap (λ t. cond t (Some e.1) (find R e.0 es)) (tied o exact e.0)) in
-      let rest = no_more es (is_sorted_tail o e es sorted) (map.remove m e.0) (λ q v f.
-      let ne = head_apart e es sorted q v f in
-      get_remove_other o exact m e.0 q ne ∙ is q v (ap (λ t. cond t (Some e.1) (find R q es)) ne ∙ f)) in
-      let fewer : map.len (map.remove m e.0) ≡ map.len m - 1 = len-remove o m e.0 ∙ ap (λ x. cond (is_some x) (map.len m - 1) (map.len m)) here in
-      omega (arith, rest, fewer, has_one m e.0 e.1 here)
-
-  pub part_len : (part m : FinMap R X) → IsPart part m → map.len part ≤ map.len m
-  part_len part m is =
-      let n = no_more (entries part) (entries_sorted part) m (λ q v f. is q v (get-entries part q ∙ f)) in
-      subst (λ k. k ≤ map.len m) (sym (len-entries part)) n
-
-  cond_some : (t : Bool) (a : Option X) (v : X) → cond t a None ≡ Some v → (t ≡ true) × (a ≡ Some v)
-  cond_some true a v e = (refl, e)
-  cond_some false a v e = cc
-
-  pub part_retained : (p : K → Bool) (part m : FinMap R X) → IsPart part m → IsPart (map.retain_keys part p) (map.retain_keys m p)
-  part_retained p part m is k v g =
-      let alike : (x : K) → R k x ≡ Equal → p x ≡ p k = λ x t. ap p (sym (exact k x t)) in
-      let both = cond_some (p k) (map.get part k) v (sym (get-retain_keys part p k alike) ∙ g) in
-      get-retain_keys m p k alike ∙ ap (λ t. cond t (map.get m k) None) both.0 ∙ is k v both.1
-
-  pub part_some : (part m : FinMap R X) → IsPart part m → (k : K) → IsSome (map.get part k) → IsSome (map.get m k)
-  part_some part m is k h = let v = value_of _ h in is_some_of _ v.0 (is k v.0 v.1)
-
-  pub empty_part : (m : FinMap R X) → IsPart map.empty m
-  empty_part m k v g = none_is (map.get (map.empty {X = X} {R = R}) k) (get-empty R k) (is_some_of _ v g)
-
--- ---- states with a part of the rows
-
-aid_from : (a b : Option Station) (i : ℕ) → ((v : Station) → a ≡ Some v → b ≡ Some v) → aid_of a ≡ Some i → aid_of b ≡ Some i
-aid_from None b i part h = cc
-aid_from (Some x) b i part h = ap aid_of (part x refl) ∙ h
-
--- a part of a sound state is sound, where each of its rows has what it needs
-module _ (s : State) (sound : Sound s) (t : State)
-    (stations : IsPart station_total station_exact t.stations s.stations) (lists : IsPart list_total list_exact t.lists s.lists) (policies : IsPart bssid_total bssid_exact t.policies s.policies) where
-  aid_part : (b : Bssid) (a : Addr) (i : ℕ) → aid_at t b a ≡ Some i → aid_at s b a ≡ Some i
-  aid_part b a i h = aid_from (station_at t b a) (station_at s b a) i (λ v g. stations (b, a) v g) h
-
-  aid_some : (b : Bssid) (a : Addr) → IsSome (aid_at t b a) → IsSome (aid_at s b a)
-  aid_some b a h = let v = value_of _ h in is_some_of _ v.0 (aid_part b a v.0 v.1)
-
-  pub sound_part : ((b : Bssid) (a : Addr) → IsSome (station_at t b a) → IsSome (policy_at t b) × IsTrue (allowed t b a)) → ((b : Bssid) (w : Which) (a : Addr) → IsListed t b w a → IsSome (policy_at t b)) → Sound t
-  sound_part of_stations of_lists = record {
-    identifiers = λ b a i h. sound.identifiers b a i (aid_part b a i h);
-    distinct = λ b a c i h k. sound.distinct b a c i (aid_part b a i h) (aid_part b c i k);
-    one_association = λ b c a h k. sound.one_association b c a (aid_some b a h) (aid_some c a k);
-    stations_have_policy = λ b a h. (of_stations b a h).0;
-    lists_have_policy = of_lists;
-    none_denied = λ b a h. (of_stations b a h).1;
-    few_bss = omega (arith, part_len bssid_total bssid_exact t.policies s.policies policies, sound.few_bss);
-    few_stations = λ b. omega (arith, part_len station_total station_exact _ _ (part_retained station_total station_exact (λ k. eq_by_cmp bssid_cmp b k.0) t.stations s.stations stations), sound.few_stations b);
-    few_listed = λ b w. omega (arith, part_len list_total list_exact _ _ (part_retained list_total list_exact (is_row_of b w) t.lists s.lists lists), sound.few_listed b w);
-  }
 
 -- ---- the three parts of a snapshot, one after another
 

@@ -19,19 +19,14 @@ use Rattle.apd_base.specs.declared.station.Which.TheVariants.{Accept, Deny}
 use Rattle.apd_base.proofs.AddrLemmas.{bssid_total}
 use Rattle.apd_base.proofs.Cases.{first_holds, second_holds, both_hold, is_less}
 use Rattle.apd_base.proofs.RowsLemmas.{is_sorted_tail}
-use Rattle.apd_base.proofs.StateLemmas.{which_total, list_total}
+use Rattle.apd_base.proofs.StateLemmas.{list_total}
 use Rattle.apd_acl.specs.Lists.{list_of}
 use Rattle.apd_record.specs.declared.change.Change.TheVariants.{ListAdd}
 use Rattle.apd_table.specs.BssRows.{add_rows, list_rows, policy_of, policy_rows}
 use Rattle.apd_table.specs.Snapshot.{policy_change, list_change, policies_of_rows, lists_of_rows}
 use Rattle.apd_table.specs.declared.bss_rows.Bss.{Bss}
 use Rattle.apd_table.proofs.BssLemmas.{sorted-parts_of}
-
-abbrev pub Item : Type 0
-Item = Addr × Unit {0}
-
-abbrev pub Row : Type 0
-Row = (Bssid × Which × Addr) × Unit {0}
+use Rattle.apd_table.proofs.ListCounts.{Item, Row, rows_of, below-rows_of}
 
 -- ---- policies
 
@@ -43,10 +38,6 @@ pub policies_are : (xs : List (Bssid × Bss)) → T (is_sorted bssid_cmp xs) →
 policies_are xs sorted = same_policies xs ∙ ap (list_map policy_change) (sym (entries-from_sorted bssid_cmp (policy_rows xs) (sorted-parts_of policy_of xs sorted)))
 
 -- ---- list rows in their order
-
--- the rows of one list
-abbrev pub rows_of : Bssid → Which → List Item → List Row
-rows_of b w items = list_map (λ (item : Item). ((b, w, item.0), item.1)) items
 
 less : (r : Ordering) → r ≡ Less → T (is_lt r)
 less r e = subst (λ x. T (is_lt x)) (sym e) tt
@@ -60,13 +51,6 @@ below-append : (k : Bssid × Which × Addr) (es fs : List Row) → T (below_all 
 below-append k [] fs h j = j
 below-append k (e ∷ es) fs h j = both_hold _ _ (first_holds _ _ h) (below-append k es fs (second_holds _ _ h) j)
 
-at_list : (b : Bssid) (w : Which) (x y : Addr) → list_cmp (b, w, x) (b, w, y) ≡ addr_cmp x y
-at_list b w x y = (λ i. ordering_then (tied_itself bssid_total b i) (ordering_then (tied_itself which_total w i) (addr_cmp x y)))
-
-below_items : (b : Bssid) (w : Which) (x : Addr) (items : List Item) → T (below_all addr_cmp x items) → T (below_all list_cmp (b, w, x) (rows_of b w items))
-below_items b w x [] h = tt
-below_items b w x (item ∷ items) h = both_hold _ _ (subst (λ r. T (is_lt r)) (sym (at_list b w x item.0)) (first_holds _ _ h)) (below_items b w x items (second_holds _ _ h))
-
 -- the rows of a list are put before those that each of them is below
 module _ (b : Bssid) (w : Which) (s : SetOf list_cmp) (all_below : (x : Addr) → T (below_all list_cmp (b, w, x) (entries s))) where
   pub entries-add_rows : (items : List Item) → T (is_sorted addr_cmp items) → entries (add_rows b w (list_map (λ (item : Item). item.0) items) s) ≡ rows_of b w items ++ entries s
@@ -75,7 +59,7 @@ module _ (b : Bssid) (w : Which) (s : SetOf list_cmp) (all_below : (x : Addr) �
       let k : Bssid × Which × Addr = (b, w, item.0) in
       entries-insert list_total (add_rows b w (list_map (λ (i : Item). i.0) items) s) k tt
       ∙ ap (put list_cmp k tt) (entries-add_rows items (second_holds _ _ sorted))
-      ∙ put_first k (rows_of b w items ++ entries s) (below-append k (rows_of b w items) (entries s) (below_items b w item.0 items (first_holds _ _ sorted)) (all_below item.0))
+      ∙ put_first k (rows_of b w items ++ entries s) (below-append k (rows_of b w items) (entries s) (subst T (sym (below-rows_of b w item.0 items)) (first_holds _ _ sorted)) (all_below item.0))
 
 -- ---- the lists of all rows
 
@@ -132,7 +116,7 @@ entries-list_rows (row ∷ xs) sorted =
 
 -- ---- as changes
 
-changes_of_rows : (b : Bssid) (w : Which) (items : List Item) → list_map list_change (rows_of b w items) ≡ list_map (λ (item : Item). ListAdd b w item.0) items
+changes_of_rows : (b : Bssid) (w : Which) (items : List Item) → list_map list_change (rows_of b w items) ≡ list_map (λ a. ListAdd b w a) (list_map (λ (item : Item). item.0) items)
 changes_of_rows b w [] = refl
 changes_of_rows b w (item ∷ items) = λ i. ListAdd b w item.0 ∷ changes_of_rows b w items i
 

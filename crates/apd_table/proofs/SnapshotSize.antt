@@ -55,19 +55,6 @@ fronts (x ∷ xs) ys are = let rest = fronts xs ys are.1 in ((are.0, rest.0), re
 
 -- ---- how many there are, class by class
 
--- as many for each
-abbrev total : {B : Type 0} → ℕ → List B → ℕ
-total n [] = 0
-total n (b ∷ bs) = n + total n bs
-
-total_stations : {B : Type 0} (bs : List B) → total 2007 bs ≡ 2007 * length bs
-total_stations [] = refl
-total_stations (b ∷ bs) = omega (arith, total_stations bs)
-
-total_listed : {B : Type 0} (bs : List B) → total 2048 bs ≡ 2048 * length bs
-total_listed [] = refl
-total_listed (b ∷ bs) = omega (arith, total_listed bs)
-
 filter_fewer : {X : Type 0} (p q : X → Bool) (xs : List X) → length (filter q (filter p xs)) ≤ length (filter q xs)
 filter_fewer p q [] = omega arith
 filter_fewer p q (x ∷ xs) =
@@ -94,13 +81,13 @@ module _ {B X : Type 0} (p : B → X → Bool) where
         | false ↦ λ e. (not_first (p b x) (list_any (λ c. p c x) bs) e all.0, in_rest b bs xs all.1)
       ] refl
 
-  pub at_most : (n : ℕ) (bs : List B) (xs : List X) → AllIn bs xs → ((b : B) → length (filter (p b) xs) ≤ n) → length xs ≤ total n bs
+  pub at_most : (n : ℕ) (bs : List B) (xs : List X) → AllIn bs xs → ((b : B) → length (filter (p b) xs) ≤ n) → length xs ≤ n * length bs
   at_most n [] [] all few = omega arith
   at_most n [] (x ∷ xs) all few = cc
   at_most n (b ∷ bs) xs all few =
       let rest = filter (λ x. not (p b x)) xs in
       let fewer = at_most n bs rest (in_rest b bs xs all) (λ c. omega (arith, filter_fewer (λ x. not (p b x)) (p c) xs, few c)) in
-      omega (arith, length-filter_both (p b) (λ x. not (p b x)) (λ x. refl) xs, few b, fewer)
+      omega (arith, length-filter_both (p b) (λ x. not (p b x)) (λ x. refl) xs, few b, fewer, mul-suc n (length bs))
 
 -- ---- the rows of a sound state
 
@@ -125,7 +112,7 @@ module _ (s : State) (sound : Sound s) where
   few_of b = subst (λ n. n ≤ 2007) (len-entries _ ∙ ap length (entries-retain_keys station_total station_exact (λ k. eq_by_cmp bssid_cmp b k.0) s.stations)) (sound.few_stations b)
 
   stations_bound : length (entries s.stations) ≤ 16056
-  stations_bound = omega (arith, at_most of_bssid 2007 bssids (entries s.stations) (all_stations (entries s.stations) (entries_are station_total station_exact s.stations)) few_of, total_stations bssids, few_bssids)
+  stations_bound = omega (arith, at_most of_bssid 2007 bssids (entries s.stations) (all_stations (entries s.stations) (entries_are station_total station_exact s.stations)) few_of, few_bssids)
 
   abbrev ListRow : Type 0
   ListRow = (Bssid × Which × Addr) × Unit {0}
@@ -160,7 +147,7 @@ module _ (s : State) (sound : Sound s) where
       (λ w. omega (arith, filter_fewer (listed_at b) (of_list b w) (entries s.lists), few_list b w))
 
   lists_bound : length (entries s.lists) ≤ 16384
-  lists_bound = omega (arith, at_most listed_at 2048 bssids (entries s.lists) (all_listed (entries s.lists) (entries_are list_total list_exact s.lists)) few_at, total_listed bssids, few_bssids)
+  lists_bound = omega (arith, at_most listed_at 2048 bssids (entries s.lists) (all_listed (entries s.lists) (entries_are list_total list_exact s.lists)) few_at, few_bssids)
 
   policies_bound : length (entries s.policies) ≤ 8
   policies_bound = subst (λ n. n ≤ 8) (len-entries s.policies) sound.few_bss

@@ -1,5 +1,5 @@
 -- The addresses of the rows of a BSSID: all of them, and those that its policy denies once a list is changed.
-use Rattle.std.specs.Prelude.{Bool, not, ◌&&◌, ◌||◌, List, [], map as list_map, filter, Option, Some, None}
+use Rattle.std.specs.Prelude.{Bool, not, ◌&&◌, ◌||◌, List, [], map as list_map, filter, Option, Some, None, if◌then◌else◌}
 use Rattle.std.specs.Ordering.{eq_by_cmp}
 use Rattle.std.specs.FinMap as map
 use Rattle.apd_base.specs.declared.address.Addr.{Addr}
@@ -59,7 +59,16 @@ has_after lists b (Put c d station) w a = has lists w a
 has_after lists b (Drop c d) w a = has lists w a
 has_after lists b (SetPolicy c policy) w a = has lists w a
 
--- whether a mode denies an address of the BSSID once a change is made, and whether a row is one of those
+-- the policy of the BSSID once a change is made
+abbrev pub policy_after : Policy → Bssid → Change → Policy
+policy_after policy b (SetPolicy c new) = if eq_by_cmp bssid_cmp b c then new else policy
+policy_after policy b (Put c d station) = policy
+policy_after policy b (Drop c d) = policy
+policy_after policy b (ListAdd c v d) = policy
+policy_after policy b (ListDel c v d) = policy
+policy_after policy b (ListClear c v) = policy
+
+-- whether a mode denies an address of the BSSID by the lists that a change leaves, and whether a row is one of those
 abbrev pub is_address_denied_after : Lists → AclMode → Bssid → Change → Addr → Bool
 is_address_denied_after lists mode b change a =
     not (is_allowed mode (has_after lists b change Accept a) (has_after lists b change Deny a))

@@ -1,5 +1,5 @@
 -- Which stations the policy of a BSSID allows.
-use Rattle.std.specs.Prelude.{ℕ, Bool, false, not, ◌&&◌, List, map as list_map, filter, Option, Some, None}
+use Rattle.std.specs.Prelude.{ℕ, Bool, not, ◌&&◌, List, map as list_map, filter, Option, Some, None}
 use Rattle.std.specs.Ordering.{eq_by_cmp}
 use Rattle.std.specs.FinMap as map
 use Rattle.apd_base.specs.Sets as set
@@ -18,22 +18,18 @@ use Rattle.apd_acl.specs.Policy.{is_allowed}
 abbrev pub allowed_in : State → Bssid → Addr → AclMode → Bool
 allowed_in s b a mode = is_allowed mode (set.contains s.lists (b, Accept, a)) (set.contains s.lists (b, Deny, a))
 
--- under a policy; where there is none there is no mode, and the accept list alone counts
-abbrev pub allowed_under : State → Bssid → Addr → Option Policy → Bool
-allowed_under s b a None = set.contains s.lists (b, Accept, a)
-allowed_under s b a (Some policy) = allowed_in s b a policy.mode
+-- under a policy, one that is on the accept list or not, and on the deny list or not; where there is no policy there is no
+-- mode, and the accept list alone counts
+abbrev pub allowed_by : Option Policy → Bool → Bool → Bool
+allowed_by None accepted denied = accepted
+allowed_by (Some policy) accepted denied = is_allowed policy.mode accepted denied
 
-abbrev pub allowed_unaccepted_under : State → Bssid → Addr → Option Policy → Bool
-allowed_unaccepted_under s b a None = false
-allowed_unaccepted_under s b a (Some policy) = is_allowed policy.mode false (set.contains s.lists (b, Deny, a))
+abbrev pub allowed_under : State → Bssid → Addr → Option Policy → Bool
+allowed_under s b a policy = allowed_by policy (set.contains s.lists (b, Accept, a)) (set.contains s.lists (b, Deny, a))
 
 -- under the policy of the BSSID
 abbrev pub allowed : State → Bssid → Addr → Bool
 allowed s b a = allowed_under s b a (policy_at s b)
-
--- and if its accept list were empty
-abbrev pub allowed_unaccepted : State → Bssid → Addr → Bool
-allowed_unaccepted s b a = allowed_unaccepted_under s b a (policy_at s b)
 
 -- whether a row is one of the BSSID that this mode would deny
 abbrev pub is_denied_row : State → Bssid → AclMode → (Bssid × Addr) × Station → Bool

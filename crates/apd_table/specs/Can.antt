@@ -8,8 +8,10 @@ use Rattle.apd_base.specs.declared.station.Station.{Station}
 use Rattle.apd_base.specs.declared.station.Policy.{Policy}
 use Rattle.apd_base.specs.declared.station.Which.{Which}
 use Rattle.apd_base.specs.State.{State, station_at, policy_at, aid_of, aid_at, count, list_count, IsListed}
-use Rattle.apd_record.specs.Meaning.{add_to_list, take_from_list, clear_list}
-use Rattle.apd_table.specs.Allowed.{allowed, allowed_in}
+use Rattle.apd_record.specs.Meaning.{meaning}
+use Rattle.apd_record.specs.declared.change.Change.{Change}
+use Rattle.apd_record.specs.declared.change.Change.TheVariants.{ListAdd, Policy as SetPolicy}
+use Rattle.apd_table.specs.Allowed.{allowed}
 
 -- no other station of the BSSID has the identifier
 abbrev pub IsFreeFor : State → Bssid → Addr → ℕ → Type 0
@@ -27,24 +29,17 @@ pub record CanPut (s : State) (b : Bssid) (a : Addr) (v : Station) : Type 0 wher
   pub allowed : IsSome (policy_at s b) × IsTrue (allowed s b a)
   pub room : IsSome (station_at s b a) ⊎ (count s b < MAX_STATIONS)
 
+-- each station with a row at the BSSID is allowed there once a change is made
+abbrev pub NoneDeniedAfter : State → Bssid → Change → Type 0
+NoneDeniedAfter s b change = (a : Addr) → IsSome (station_at s b a) → IsTrue (allowed (meaning change s) b a)
+
 -- a BSSID's policy
 pub record CanSet (s : State) (b : Bssid) (p : Policy) : Type 0 where
   pub room : IsSome (policy_at s b) ⊎ (map.len s.policies < MAX_BSS)
-  pub allowed : (a : Addr) → IsSome (station_at s b a) → IsTrue (allowed_in s b a p.mode)
+  pub allowed : NoneDeniedAfter s b (SetPolicy b p)
 
--- each station with a row at the BSSID is allowed there
-abbrev pub NoneDenied : State → Bssid → Type 0
-NoneDenied s b = (a : Addr) → IsSome (station_at s b a) → IsTrue (allowed s b a)
-
--- an address more in a list
+-- an address more in a list. For one less, and for none, no station may be denied after it
 pub record CanAdd (s : State) (b : Bssid) (w : Which) (a : Addr) : Type 0 where
   pub policy : IsSome (policy_at s b)
   pub room : IsListed s b w a ⊎ (list_count s b w < MAX_LISTED)
-  pub allowed : NoneDenied (add_to_list b w a s) b
-
--- one less, and none
-abbrev pub CanTake : State → Bssid → Which → Addr → Type 0
-CanTake s b w a = NoneDenied (take_from_list b w a s) b
-
-abbrev pub CanClear : State → Bssid → Which → Type 0
-CanClear s b w = NoneDenied (clear_list b w s) b
+  pub allowed : NoneDeniedAfter s b (ListAdd b w a)

@@ -7,14 +7,9 @@ use Rattle.std.specs.Ordering.{eq_by_cmp}
 use Rattle.apd_base.specs.declared.address.Addr.{Addr}
 use Rattle.apd_base.specs.declared.address.Bssid.{Bssid}
 use Rattle.apd_base.specs.declared.limits.TheConstants.{MAX_STATIONS}
-use Rattle.apd_base.specs.declared.station.AclMode.{AclMode}
 use Rattle.apd_base.specs.declared.station.Station.{Station}
-use Rattle.apd_base.specs.declared.station.Which.TheVariants.{Deny}
 use Rattle.apd_base.specs.Addr.{IsAddr, bssid_cmp, station_cmp}
 use Rattle.apd_base.specs.State.{aid_of}
-use Rattle.apd_acl.specs.Lists.{has, allowed}
-use Rattle.apd_acl.specs.Policy.{is_allowed}
-use Rattle.apd_acl.specs.declared.lists.Lists.{Lists}
 
 -- entries in the order of their keys, each with an address of six bytes
 abbrev pub AreRows : List ((Bssid × Addr) × Station) → Type 0
@@ -42,11 +37,3 @@ address_and_station row = (row.0.1, row.1)
 abbrev pub if_row_of : Bssid → Option ((Bssid × Addr) × Station) → Option (Addr × Station)
 if_row_of b None = None
 if_row_of b (Some row) = cond (is_row_of b row) (Some (address_and_station row)) None
-
--- whether a row is one of the BSSID that these lists and this mode deny, and whether it is one that they
--- would deny if the accept list were empty
-abbrev pub is_denied_row_by : Lists → AclMode → Bssid → (Bssid × Addr) × Station → Bool
-is_denied_row_by lists mode b row = is_row_of b row && not (allowed lists row.0.1 mode)
-
-abbrev pub is_denied_unaccepted : Lists → AclMode → Bssid → (Bssid × Addr) × Station → Bool
-is_denied_unaccepted lists mode b row = is_row_of b row && not (is_allowed mode false (has lists Deny row.0.1))

@@ -45,7 +45,7 @@ canonical s = policy_changes s.policies ++ (list_changes s.lists ++ station_chan
 
 -- one list of a BSSID
 abbrev pub changes_of_list : Bssid → Which → SetOf addr_cmp → List Change
-changes_of_list b w list = list_map (λ (row : Addr × Unit {0}). ListAdd b w row.0) (map.entries list)
+changes_of_list b w list = list_map (λ a. ListAdd b w a) (map.keys list)
 
 -- both lists of a row
 abbrev pub changes_of_lists : Bssid × Bss → List Change

@@ -1,100 +1,18 @@
-//! Which rows of a BSSID lists and a mode deny.
-ghost use Rattle.std.specs.Prelude.{◌≡◌, [], ◌∷◌, IfOk, cond, false, filter, not, map as list_map};
+//! Which rows of a BSSID a mode denies by the lists that a change leaves.
+ghost use Rattle.std.specs.Prelude.{◌≡◌, [], ◌∷◌, IfOk, cond, filter, map as list_map};
 ghost use Rattle.std.specs.FinMap as map;
 ghost use Rattle.std.specs.List.{list_any};
 ghost use Rattle.std.specs.Ordering.{eq_by_cmp};
-ghost use Rattle.apd_acl.specs.Lists.{allowed, has};
-ghost use Rattle.apd_acl.specs.Policy.{is_allowed};
 ghost use Rattle.apd_base.specs.State.{which_cmp};
-ghost use Rattle.apd_base.specs.declared.station.Which.TheVariants.{Deny};
-ghost use Rattle.apd_table.specs.Addresses.{has_after, listed_address, is_denied_after, is_address_denied_after};
-ghost use Rattle.apd_table.specs.Rows.{is_denied_row_by, is_denied_unaccepted, is_row_of};
+ghost use Rattle.apd_table.specs.Addresses.{has_after, listed_address, policy_after, is_denied_after, is_address_denied_after};
+ghost use Rattle.apd_table.specs.Rows.{is_row_of};
 
 use crate::stations::Stations;
 use apd_acl::{Lists, policy};
-use apd_base::{AclMode, Addr, Bssid, Station, Which};
+use apd_base::{AclMode, Addr, Bssid, Policy, Station, Which};
 use apd_record::Change;
 use std::alloc::{AllocError, Global};
 use std::collections::btree_map::Range;
-
-// Whether these lists and this mode deny an address.
-fn is_denied(addr: Addr, lists: &Lists, mode: AclMode) -> bool
-    ensures { result ≡ not (allowed lists.now addr mode) }
-{
-    !lists.allowed(addr, mode)
-}
-
-// The same if the accept list were empty.
-fn is_denied_unaccepted(addr: Addr, lists: &Lists, mode: AclMode) -> bool
-    ensures { result ≡ not (is_allowed mode false (has lists.now Deny addr)) }
-{
-    !policy::is_allowed(mode, false, lists.has(Which::Deny, addr))
-}
-
-// Whether one of some rows is denied.
-fn any_of(rows: Range<'_, (Bssid, Addr), Station>, lists: &Lists, mode: AclMode) -> bool
-    ensures { result ≡ list_any (λ row. not (allowed lists.now row.0.1 mode)) rows.entry }
-{
-    let mut rows = rows;
-    rows.any(|row| is_denied(row.0.1, lists, mode))
-}
-
-// The same if the accept list were empty.
-fn any_unaccepted_of(rows: Range<'_, (Bssid, Addr), Station>, lists: &Lists, mode: AclMode) -> bool
-    ensures { result ≡ list_any (λ row. not (is_allowed mode false (has lists.now Deny row.0.1))) rows.entry }
-{
-    let mut rows = rows;
-    rows.any(|row| is_denied_unaccepted(row.0.1, lists, mode))
-}
-
-/// Whether a row of the BSSID is denied.
-pub fn any_denied(stations: &Stations, bssid: Bssid, lists: &Lists, mode: AclMode) -> bool
-    ensures { result ≡ list_any (is_denied_row_by lists.now mode bssid) (map.entries stations.now) }
-{
-    any_of(stations.of(bssid), lists, mode)
-}
-
-/// Whether a row of the BSSID would be denied if the accept list were empty.
-pub fn any_denied_unaccepted(
-    stations: &Stations,
-    bssid: Bssid,
-    lists: &Lists,
-    mode: AclMode,
-) -> bool
-    ensures { result ≡ list_any (is_denied_unaccepted lists.now mode bssid) (map.entries stations.now) }
-{
-    any_unaccepted_of(stations.of(bssid), lists, mode)
-}
-
-// The addresses of those rows that are denied.
-fn denied_of(
-    alloc: Global,
-    rows: Range<'_, (Bssid, Addr), Station>,
-    lists: &Lists,
-    mode: AclMode,
-) -> Result<Vec<Addr>, AllocError>
-    ensures { IfOk result
-        (λ v. v.items ≡ list_map (λ row. row.0.1) (filter (λ row. not (allowed lists.now row.0.1 mode)) rows.entry)) }
-{
-    rows.filter(|row| is_denied(row.0.1, lists, mode))
-        .map(|row| row.0.1)
-        .collect(alloc)
-}
-
-/// The addresses of the rows of the BSSID that are denied.
-pub fn denied(
-    alloc: Global,
-    stations: &Stations,
-    bssid: Bssid,
-    lists: &Lists,
-    mode: AclMode,
-) -> Result<Vec<Addr>, AllocError>
-    ensures { IfOk result
-        (λ v. v.items
-        ≡ list_map (λ row. row.0.1) (filter (is_denied_row_by lists.now mode bssid) (map.entries stations.now))) }
-{
-    denied_of(alloc, stations.of(bssid), lists, mode)
-}
 
 /// The addresses of all rows of the BSSID.
 pub fn addresses(alloc: Global, stations: &Stations, bssid: Bssid) -> Result<Vec<Addr>, AllocError>
@@ -160,6 +78,57 @@ pub fn is_denied_after(
     let is_accepted = is_listed_after(lists, bssid, change, Which::Accept, addr);
     let is_denied = is_listed_after(lists, bssid, change, Which::Deny, addr);
     !policy::is_allowed(mode, is_accepted, is_denied)
+}
+
+/// The policy of the BSSID once a change is made.
+pub fn policy_after(bssid: Bssid, policy: Policy, change: &Change) -> Policy
+    ensures { result ≡ policy_after policy bssid change.now }
+{
+    match *change {
+        Change::Policy {
+            bssid: at,
+            policy: new,
+        } => {
+            if bssid.cmp(&at).is_eq() {
+                new
+            } else {
+                policy
+            }
+        }
+        Change::Put { .. }
+        | Change::Drop { .. }
+        | Change::ListAdd { .. }
+        | Change::ListDel { .. }
+        | Change::ListClear { .. } => policy,
+    }
+}
+
+// Whether one of some rows is denied once a change is made.
+fn any_denied_of(
+    rows: Range<'_, (Bssid, Addr), Station>,
+    bssid: Bssid,
+    lists: &Lists,
+    mode: AclMode,
+    change: &Change,
+) -> bool
+    ensures { result
+        ≡ list_any (λ row. is_address_denied_after lists.now mode bssid change.now row.0.1) rows.entry }
+{
+    let mut rows = rows;
+    rows.any(|row| is_denied_after(row.0.1, bssid, lists, mode, change))
+}
+
+/// Whether a row of the BSSID is denied once a change is made.
+pub fn any_denied_after(
+    stations: &Stations,
+    bssid: Bssid,
+    lists: &Lists,
+    mode: AclMode,
+    change: &Change,
+) -> bool
+    ensures { result ≡ list_any (is_denied_after lists.now mode bssid change.now) (map.entries stations.now) }
+{
+    any_denied_of(stations.of(bssid), bssid, lists, mode, change)
 }
 
 // The addresses of those rows that are denied once a change is made.

@@ -1,6 +1,7 @@
 //! The rows of a table as changes.
 ghost use Rattle.std.specs.Prelude.{◌≡◌, ◌++◌, map as list_map, OnOk};
 ghost use Rattle.apd_acl.specs.Lists.{list_of};
+ghost use Rattle.apd_record.specs.declared.change.Change.TheVariants.{ListAdd};
 ghost use Rattle.apd_table.specs.Snapshot.{changes_of_list, lists_of_rows, policies_of_rows, station_change};
 
 use crate::bss_rows::Bss;
@@ -8,7 +9,7 @@ use apd_acl::Lists;
 use apd_base::{Addr, Bssid, Station, Which};
 use apd_record::{Change, Changes};
 use std::alloc::{AllocError, Global};
-use std::collections::BTreeMap;
+use std::collections::{BTreeMap, BTreeSet};
 
 /// The most bytes that the records of a snapshot have (own): 8 policies of 10 bytes, 16,384 addresses of
 /// 14 in lists, and 16,056 stations of 20.
@@ -27,6 +28,25 @@ pub(crate) fn add_policies(changes: &mut Changes, rows: &[(Bssid, Bss)]) -> Resu
     Ok(())
 }
 
+// Adds addresses to a list, in order.
+fn add_keys(
+    changes: &mut Changes,
+    bssid: Bssid,
+    which: Which,
+    keys: &BTreeSet<Addr>,
+) -> Result<(), AllocError>
+    ensures { OnOk result (changes.new ≡ changes.old ++ list_map (λ a. ListAdd bssid which a) keys.now.keys) }
+{
+    for addr in keys {
+        changes.push(Change::ListAdd {
+            bssid,
+            which,
+            addr: *addr,
+        })?;
+    }
+    Ok(())
+}
+
 // Adds the addresses of one list, rising.
 fn add_list(
     changes: &mut Changes,
@@ -36,12 +56,7 @@ fn add_list(
 ) -> Result<(), AllocError>
     ensures { OnOk result (changes.new ≡ changes.old ++ changes_of_list bssid which (list_of lists.now which)) }
 {
-    let mut next = lists.least(which);
-    while let Some(addr) = next {
-        changes.push(Change::ListAdd { bssid, which, addr })?;
-        next = lists.after(which, addr);
-    }
-    Ok(())
+    add_keys(changes, bssid, which, lists.keys(which))
 }
 
 /// Adds the lists of rows, the accept list of each first.

@@ -10,16 +10,15 @@ ghost use Rattle.apd_base.specs.declared.address.Addr.{Addr};
 ghost use Rattle.apd_base.specs.declared.address.Bssid.{Bssid};
 ghost use Rattle.apd_base.specs.declared.limits.TheConstants.{MAX_BSS, MAX_STATIONS, MAX_LISTED};
 ghost use Rattle.apd_base.specs.declared.station.Which.{Which};
-ghost use Rattle.apd_base.specs.declared.station.Which.TheVariants.{Accept};
 ghost use Rattle.apd_base.specs.State.{aid_of, aid_at, station_at, policy_at, count, list_count, IsListed, empty_state};
 ghost use Rattle.apd_acl.specs.Least.{IsLeast, IsLeastAbove};
 ghost use Rattle.apd_acl.specs.Lists.{has, list_of};
 ghost use Rattle.apd_record.specs.Meaning.{meaning, meaning_of, put_station, drop_station, add_to_list, take_from_list, clear_list, set_policy};
 ghost use Rattle.apd_record.specs.Record.{records_of};
-ghost use Rattle.apd_record.specs.declared.change.Change.TheVariants.{Drop};
+ghost use Rattle.apd_record.specs.declared.change.Change.TheVariants.{Drop, ListAdd, Policy as SetPolicy};
 ghost use Rattle.apd_table.specs.Addresses.{addresses_at, denied_after, is_denied_after, is_address_denied_after};
-ghost use Rattle.apd_table.specs.Allowed.{allowed, allowed_in, allowed_unaccepted, denied_by, mode_and_max};
-ghost use Rattle.apd_table.specs.Can.{CanPut, CanSet, CanAdd, CanTake, CanClear, IsFreeFor, MayHave, NoneDenied};
+ghost use Rattle.apd_table.specs.Allowed.{allowed, denied_by, mode_and_max};
+ghost use Rattle.apd_table.specs.Can.{CanPut, CanSet, CanAdd, IsFreeFor, MayHave, NoneDeniedAfter};
 ghost use Rattle.apd_table.specs.LeastFree.{IsLeastFree, IsTaken};
 ghost use Rattle.apd_table.specs.NewRow.{IsNewRow};
 ghost use Rattle.apd_table.specs.Rows.{is_associated_apart};
@@ -33,7 +32,7 @@ ghost use Rattle.apd_table.specs.declared.table.TableFault.TheVariants.{NoMemory
 use crate::bss_rows::{Bss, BssRows};
 use crate::denials;
 use crate::stations::Stations;
-use apd_acl::{Lists, policy};
+use apd_acl::Lists;
 use apd_base::limits::{MAX_BSS, MAX_LISTED, MAX_STATIONS};
 use apd_base::{AclMode, Addr, Bssid, Policy, Station, Which};
 use apd_record::{Change, Changes};
@@ -232,7 +231,12 @@ impl Table {
         ensures { IfOk result (λ v. v.items ≡ denied_by self.now bssid mode) }
     {
         match self.bss.get(bssid) {
-            Some(bss) => denials::denied(alloc, &self.stations, bssid, &bss.lists, mode),
+            Some(bss) => {
+                let max = bss.policy.max;
+                let policy = Policy { mode, max };
+                let change = Change::Policy { bssid, policy };
+                denials::denied_after(alloc, &self.stations, bssid, &bss.lists, mode, &change)
+            }
             None => Ok(Vec::new(alloc)),
         }
     }
@@ -338,20 +342,41 @@ impl Table {
         ensures drop { (b : Bssid) (a : Addr) → change.now ≡ Drop b a → IsOk result }
         ensures err { OnErr result (self.new ≡ self.old) }
     {
+        if !self.can_make(change) {
+            return Err(TableFault::Invalid);
+        }
         match *change {
             Change::Put {
                 bssid,
                 addr,
                 station,
-            } => self.put(bssid, addr, station),
-            Change::Drop { bssid, addr } => {
-                self.drop_station(bssid, addr);
-                Ok(())
-            }
-            Change::ListAdd { bssid, which, addr } => self.add(bssid, which, addr),
+            } => self.put(bssid, addr, station)?,
+            Change::Drop { bssid, addr } => self.drop_station(bssid, addr),
+            Change::ListAdd { bssid, which, addr } => self.add(bssid, which, addr)?,
             Change::ListDel { bssid, which, addr } => self.take(bssid, which, addr),
             Change::ListClear { bssid, which } => self.clear(bssid, which),
-            Change::Policy { bssid, policy } => self.set(bssid, policy),
+            Change::Policy { bssid, policy } => self.set(bssid, policy)?,
+        }
+        Ok(())
+    }
+
+    // Whether the state after a change is sound. One after a drop is.
+    fn can_make(&self, change: &Change) -> bool
+        ensures sound { IsTrue result ↔ Sound (meaning change.now self.now) }
+        ensures drop { (b : Bssid) (a : Addr) → change.now ≡ Drop b a → IsTrue result }
+    {
+        self.sound();
+        match *change {
+            Change::Put {
+                bssid,
+                addr,
+                station,
+            } => self.can_put(bssid, addr, station),
+            Change::Drop { .. } => true,
+            Change::ListAdd { bssid, which, addr } => self.can_add(bssid, which, addr, change),
+            Change::ListDel { bssid, .. } => self.denies_none_after(bssid, change),
+            Change::ListClear { bssid, .. } => self.denies_none_after(bssid, change),
+            Change::Policy { bssid, policy } => self.can_set(bssid, policy, change),
         }
     }
 
@@ -447,14 +472,22 @@ impl Table {
         identified && self.allows(bssid, addr) && self.has_room(bssid, addr)
     }
 
-    // Whether a mode allows each station with a row at the BSSID.
-    fn denies_none(&self, bssid: Bssid, mode: AclMode) -> bool
-        ensures { IsTrue result
-            ↔ ((a : Addr) → IsSome (station_at self.now bssid a) → IsTrue (allowed_in self.now bssid a mode)) }
+    // Whether each station with a row at the BSSID is allowed there once a change is made. Each was before,
+    // so where one address is added to a list or taken out of one it is the only one to look at.
+    fn denies_none_after(&self, bssid: Bssid, change: &Change) -> bool
+        ensures { IsTrue result ↔ NoneDeniedAfter self.now bssid change.now }
     {
-        match self.bss.get(bssid) {
-            Some(bss) => !denials::any_denied(&self.stations, bssid, &bss.lists, mode),
-            None => true,
+        self.sound();
+        let Some(bss) = self.bss.get(bssid) else {
+            return true;
+        };
+        match denials::listed_address(change) {
+            Some(addr) => !self.is_denied_after(bssid, addr, bss, change),
+            None => {
+                let (stations, lists) = (&self.stations, &bss.lists);
+                let policy = denials::policy_after(bssid, bss.policy, change);
+                !denials::any_denied_after(stations, bssid, lists, policy.mode, change)
+            }
         }
     }
 
@@ -465,20 +498,11 @@ impl Table {
         self.has_policy(bssid) || self.bss.len() < MAX_BSS
     }
 
-    fn can_set(&self, bssid: Bssid, policy: Policy) -> bool
+    fn can_set(&self, bssid: Bssid, policy: Policy, change: &Change) -> bool
+        requires { change.now ≡ SetPolicy bssid policy }
         ensures { IsTrue result ↔ CanSet self.now bssid policy }
     {
-        self.has_place(bssid) && self.denies_none(bssid, policy.mode)
-    }
-
-    // Whether a list of the BSSID has the address.
-    fn is_listed(&self, bssid: Bssid, which: Which, addr: Addr) -> bool
-        ensures { result ≡ contains self.now.lists (bssid, which, addr) }
-    {
-        match self.bss.get(bssid) {
-            Some(bss) => bss.lists.has(which, addr),
-            None => false,
-        }
+        self.has_place(bssid) && self.denies_none_after(bssid, change)
     }
 
     // Whether a list of the BSSID has the address, or room for one more.
@@ -492,157 +516,67 @@ impl Table {
         }
     }
 
-    // Whether no station row is denied once a list has an address more. Adding to the deny list can deny
-    // the station itself alone, and only where it is not accepted.
-    fn may_list(&self, bssid: Bssid, which: Which, addr: Addr) -> bool
-        ensures { IsTrue result ↔ NoneDenied (add_to_list bssid which addr self.now) bssid }
-    {
-        self.sound();
-        match which {
-            Which::Accept => true,
-            Which::Deny => {
-                self.get(bssid, addr).is_none() || self.is_listed(bssid, Which::Accept, addr)
-            }
-        }
-    }
-
-    fn can_add(&self, bssid: Bssid, which: Which, addr: Addr) -> bool
+    fn can_add(&self, bssid: Bssid, which: Which, addr: Addr, change: &Change) -> bool
+        requires { change.now ≡ ListAdd bssid which addr }
         ensures { IsTrue result ↔ CanAdd self.now bssid which addr }
     {
         self.has_policy(bssid)
             && self.has_list_room(bssid, which, addr)
-            && self.may_list(bssid, which, addr)
-    }
-
-    // Whether the BSSID has a policy that allows the station if it is not accepted.
-    fn allows_unaccepted(&self, bssid: Bssid, addr: Addr) -> bool
-        ensures { result ≡ allowed_unaccepted self.now bssid addr }
-    {
-        match self.bss.get(bssid) {
-            Some(bss) => {
-                policy::is_allowed(bss.policy.mode, false, bss.lists.has(Which::Deny, addr))
-            }
-            None => false,
-        }
-    }
-
-    // Whether no station row is denied once a list has an address less.
-    fn can_take(&self, bssid: Bssid, which: Which, addr: Addr) -> bool
-        ensures { IsTrue result ↔ CanTake self.now bssid which addr }
-    {
-        self.sound();
-        match which {
-            Which::Accept => {
-                self.get(bssid, addr).is_none() || self.allows_unaccepted(bssid, addr)
-            }
-            Which::Deny => true,
-        }
-    }
-
-    // Whether no station row is denied once the accept list is empty.
-    fn can_clear_accept(&self, bssid: Bssid) -> bool
-        ensures { IsTrue result ↔ CanClear self.now bssid Accept }
-    {
-        match self.bss.get(bssid) {
-            Some(bss) => {
-                let stations = &self.stations;
-                !denials::any_denied_unaccepted(stations, bssid, &bss.lists, bss.policy.mode)
-            }
-            None => true,
-        }
-    }
-
-    fn can_clear(&self, bssid: Bssid, which: Which) -> bool
-        ensures { IsTrue result ↔ CanClear self.now bssid which }
-    {
-        self.sound();
-        match which {
-            Which::Accept => self.can_clear_accept(bssid),
-            Which::Deny => true,
-        }
+            && self.denies_none_after(bssid, change)
     }
 
     fn drop_station(&mut self, bssid: Bssid, addr: Addr)
-        ensures change { self.new ≡ drop_station bssid addr self.old }
-        ensures sound { Sound (drop_station bssid addr self.old) }
+        ensures { self.new ≡ drop_station bssid addr self.old }
     {
         let old = self.stations.get(bssid, addr);
         self.stations.remove(bssid, addr);
         self.bss.change_row(bssid, old, None);
     }
 
-    fn put(&mut self, bssid: Bssid, addr: Addr, station: Station) -> Result<(), TableFault>
+    // This change and those below are made where the state after them is sound.
+    fn put(&mut self, bssid: Bssid, addr: Addr, station: Station) -> Result<(), AllocError>
+        requires { Sound (put_station bssid addr station self.old) }
         ensures ok { OnOk result (self.new ≡ put_station bssid addr station self.old) }
-        ensures sound { OnOk result (Sound (put_station bssid addr station self.old)) }
-        ensures invalid { result ≡ Err TableFault.Invalid → ¬ (Sound (put_station bssid addr station self.old)) }
-        ensures memory { result ≡ Err TableFault.NoMemory → station_at self.old bssid addr ≡ None }
-        ensures wanted { result ≡ Err TableFault.NoMemory → Sound (put_station bssid addr station self.old) }
+        ensures memory { OnErr result (station_at self.old bssid addr ≡ None) }
         ensures err { OnErr result (self.new ≡ self.old) }
     {
-        if !self.can_put(bssid, addr, station) {
-            return Err(TableFault::Invalid);
-        }
         let old = self.stations.get(bssid, addr);
         self.stations.put(bssid, addr, station)?;
         self.bss.change_row(bssid, old, Some(station));
         Ok(())
     }
 
-    fn set(&mut self, bssid: Bssid, policy: Policy) -> Result<(), TableFault>
+    fn set(&mut self, bssid: Bssid, policy: Policy) -> Result<(), AllocError>
+        requires { Sound (set_policy bssid policy self.old) }
         ensures ok { OnOk result (self.new ≡ set_policy bssid policy self.old) }
-        ensures sound { OnOk result (Sound (set_policy bssid policy self.old)) }
-        ensures invalid { result ≡ Err TableFault.Invalid → ¬ (Sound (set_policy bssid policy self.old)) }
-        ensures memory { result ≡ Err TableFault.NoMemory → policy_at self.old bssid ≡ None }
-        ensures wanted { result ≡ Err TableFault.NoMemory → Sound (set_policy bssid policy self.old) }
+        ensures memory { OnErr result (policy_at self.old bssid ≡ None) }
         ensures err { OnErr result (self.new ≡ self.old) }
     {
-        if !self.can_set(bssid, policy) {
-            return Err(TableFault::Invalid);
-        }
         self.bss.set(bssid, policy)?;
         Ok(())
     }
 
-    fn add(&mut self, bssid: Bssid, which: Which, addr: Addr) -> Result<(), TableFault>
+    fn add(&mut self, bssid: Bssid, which: Which, addr: Addr) -> Result<(), AllocError>
+        requires { Sound (add_to_list bssid which addr self.old) }
         ensures ok { OnOk result (self.new ≡ add_to_list bssid which addr self.old) }
-        ensures sound { OnOk result (Sound (add_to_list bssid which addr self.old)) }
-        ensures invalid { result ≡ Err TableFault.Invalid → ¬ (Sound (add_to_list bssid which addr self.old)) }
-        ensures memory { result ≡ Err TableFault.NoMemory → ¬ (IsListed self.old bssid which addr) }
-        ensures wanted { result ≡ Err TableFault.NoMemory → Sound (add_to_list bssid which addr self.old) }
+        ensures memory { OnErr result (¬ (IsListed self.old bssid which addr)) }
         ensures err { OnErr result (self.new ≡ self.old) }
     {
-        if !self.can_add(bssid, which, addr) {
-            return Err(TableFault::Invalid);
-        }
         self.bss.add(bssid, which, addr)?;
         Ok(())
     }
 
-    fn take(&mut self, bssid: Bssid, which: Which, addr: Addr) -> Result<(), TableFault>
-        ensures ok { OnOk result (self.new ≡ take_from_list bssid which addr self.old) }
-        ensures sound { OnOk result (Sound (take_from_list bssid which addr self.old)) }
-        ensures invalid { OnErr result (¬ (Sound (take_from_list bssid which addr self.old))) }
-        ensures memory { result ≢ Err TableFault.NoMemory }
-        ensures err { OnErr result (self.new ≡ self.old) }
+    fn take(&mut self, bssid: Bssid, which: Which, addr: Addr)
+        requires { Sound (take_from_list bssid which addr self.old) }
+        ensures { self.new ≡ take_from_list bssid which addr self.old }
     {
-        if !self.can_take(bssid, which, addr) {
-            return Err(TableFault::Invalid);
-        }
         self.bss.remove(bssid, which, addr);
-        Ok(())
     }
 
-    fn clear(&mut self, bssid: Bssid, which: Which) -> Result<(), TableFault>
-        ensures ok { OnOk result (self.new ≡ clear_list bssid which self.old) }
-        ensures sound { OnOk result (Sound (clear_list bssid which self.old)) }
-        ensures invalid { OnErr result (¬ (Sound (clear_list bssid which self.old))) }
-        ensures memory { result ≢ Err TableFault.NoMemory }
-        ensures err { OnErr result (self.new ≡ self.old) }
+    fn clear(&mut self, bssid: Bssid, which: Which)
+        requires { Sound (clear_list bssid which self.old) }
+        ensures { self.new ≡ clear_list bssid which self.old }
     {
-        if !self.can_clear(bssid, which) {
-            return Err(TableFault::Invalid);
-        }
         self.bss.clear(bssid, which);
-        Ok(())
     }
 }

@@ -14,7 +14,7 @@ use Rattle.apd_mlme.specs.declared.decision.Out.{Out}
 use Rattle.apd_mlme.specs.Outs.{outs_to, is_same}
 use Rattle.apd_mlme.specs.rules.{verdict, IsFit}
 use Rattle.apd_mlme.specs.Run.{run, outs_run, AreFit}
-use Rattle.apd_mlme.proofs.RadioLemmas.{verdict_there}
+use Rattle.apd_mlme.proofs.TrueOutsLemmas.{verdict_there}
 use Rattle.apd_record.specs.declared.change.Change.{Change}
 use Rattle.apd_core.specs.Core.{CoreState, front_of, last_of, held_for, ready_for, with_entry, with_sender, published, handed}
 use Rattle.apd_core.specs.Heard.{LastHeard}

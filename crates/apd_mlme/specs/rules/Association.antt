@@ -1,7 +1,7 @@
--- An association or a reassociation request (IEEE Std 802.11-2016, 11.3.5.3 and 11.3.5.5): what the access point does
--- on receipt.
-use Rattle.std.specs.Prelude.{ℕ, Bool, false, not, ◌&&◌, nat_lt, List, [], ◌∷◌, ◌++◌, map, filter, fold, Option, None, Some, is_some, if◌then◌else◌}
-use Rattle.std.specs.List.{flat_map}
+-- An association or a reassociation request (IEEE Std 802.11-2016, 11.3.5.3 and 11.3.5.5): what the access point does on
+-- receipt.
+use Rattle.std.specs.Prelude.{ℕ, Bool, false, not, ◌&&◌, nat_lt, List, [], ◌∷◌, ◌++◌, map, filter, Option, None, Some, is_some, if◌then◌else◌}
+use Rattle.std.specs.List.{flat_map, list_any}
 use Rattle.std.specs.Ordering.{eq_by_cmp}
 use Rattle.std.specs.Str.{bytes_eq}
 use Rattle.std.specs.FinMap as maps
@@ -11,7 +11,7 @@ use Rattle.apd_base.specs.declared.address.Bssid.{Bssid}
 use Rattle.apd_base.specs.declared.station.Aid.{Aid}
 use Rattle.apd_base.specs.declared.station.Station.{Station}
 use Rattle.apd_base.specs.declared.station.Station.TheVariants.{Authenticated, Associated}
-use Rattle.apd_base.specs.Addr.{bssid_cmp, station_cmp}
+use Rattle.apd_base.specs.Addr.{addr_cmp, bssid_cmp, station_cmp}
 use Rattle.apd_base.specs.State.{State, station_at, aid_at}
 use Rattle.apd_conf.specs.declared.conf.Conf.{Conf}
 use Rattle.apd_conf.specs.Confs.{conf_at}
@@ -34,7 +34,7 @@ use Rattle.apd_mlme.specs.declared.decision.Recipient.TheVariants.{Radio}
 use Rattle.apd_mlme.specs.declared.decision.Out.{Out}
 use Rattle.apd_mlme.specs.declared.decision.Out.TheVariants.{Install}
 use Rattle.apd_mlme.specs.rules.Identifiers.{identifier_for}
-use Rattle.apd_mlme.specs.rules.Leaving.{deauthentication, outs_of_end}
+use Rattle.apd_mlme.specs.rules.Leaving.{authenticated_where, deauthentication, outs_of_end}
 use Rattle.apd_mlme.specs.rules.Offer.{rates_in}
 use Rattle.apd_mlme.specs.Outs.{sent}
 use Rattle.apd_mlme.specs.rules.Refusals.{first_status, is_success}
@@ -87,9 +87,10 @@ is_elsewhere s b a c = not (eq_by_cmp bssid_cmp b c) && is_some (aid_at s c a)
 abbrev pub elsewhere : State → Bssid → Addr → List Bssid
 elsewhere s b a = filter (is_elsewhere s b a) (maps.keys s.policies)
 
--- rows in which the station is only authenticated at these BSSIDs, and every other row is kept
+-- the station's rows at these BSSIDs say authenticated, and every other row is kept
 abbrev pub with_authenticated : Addr → List Bssid → FinMap station_cmp Station → FinMap station_cmp Station
-with_authenticated a bssids rows = fold (λ more c. maps.insert more (c, a) Authenticated) rows bssids
+with_authenticated a bssids rows =
+    authenticated_where (λ key. list_any (eq_by_cmp bssid_cmp key.0) bssids && eq_by_cmp addr_cmp key.1 a) rows
 
 abbrev pub put_backs : Addr → List Bssid → List Change
 put_backs a bssids = map (λ c. Put c a Authenticated) bssids

@@ -4,7 +4,6 @@ use Rattle.std.specs.Prelude.{ℕ, Bool, not, nat_le, List, [], ◌∷◌, ◌++
 use Rattle.std.specs.List.{flat_map}
 use Rattle.std.specs.Ordering.{eq_by_cmp}
 use Rattle.std.specs.FinMap as maps
-use Rattle.std.specs.FinMap.{FinMap}
 use Rattle.apd_base.specs.declared.address.Addr.{Addr}
 use Rattle.apd_base.specs.declared.address.Bssid.{Bssid}
 use Rattle.apd_base.specs.declared.limits.TheConstants.{MAX_LISTED}
@@ -12,15 +11,14 @@ use Rattle.apd_base.specs.declared.station.Policy.{Policy}
 use Rattle.apd_base.specs.declared.station.Station.{Station}
 use Rattle.apd_base.specs.declared.station.Station.TheVariants.{Authenticated, Associated}
 use Rattle.apd_base.specs.declared.station.Which.{Which}
-use Rattle.apd_base.specs.Addr.{addr_cmp, bssid_cmp, station_cmp}
+use Rattle.apd_base.specs.Addr.{addr_cmp, bssid_cmp}
 use Rattle.apd_base.specs.Sets.{contains}
 use Rattle.apd_base.specs.State.{State, station_at, policy_at, list_count}
 use Rattle.apd_frame.specs.declared.codes.Reason.{Reason}
-use Rattle.apd_frame.specs.declared.codes.TheConstants.Reason.{UNSPECIFIED}
 use Rattle.apd_frame.specs.declared.replies.Reply.{Reply}
 use Rattle.apd_record.specs.declared.change.Change.{Change}
 use Rattle.apd_record.specs.declared.change.Change.TheVariants.{Drop, ListAdd, ListDel, ListClear}
-use Rattle.apd_table.specs.Addresses.{addresses_at, denied_after, with_lists_after}
+use Rattle.apd_table.specs.Addresses.{addresses_at, with_lists_after}
 use Rattle.apd_mlme.specs.declared.command_answer.Answer.{Answer}
 use Rattle.apd_mlme.specs.declared.command_answer.Answer.TheVariants.{Done, Refused}
 use Rattle.apd_mlme.specs.declared.decision.Recipient.{Recipient}
@@ -30,7 +28,7 @@ use Rattle.apd_mlme.specs.declared.decision.Out.TheVariants.{Text}
 use Rattle.apd_mlme.specs.declared.event.Edit.{Edit}
 use Rattle.apd_mlme.specs.declared.event.Edit.TheVariants.{Add, Remove, Clear}
 use Rattle.apd_base.specs.declared.address.TheConstants.{BROADCAST}
-use Rattle.apd_mlme.specs.rules.Configuration.{stays}
+use Rattle.apd_mlme.specs.rules.Configuration.{enforced}
 use Rattle.apd_mlme.specs.rules.Leaving.{disassociation, deauthentication, removal, outs_of_end, outs_of_drop, put_back, dropped}
 use Rattle.apd_mlme.specs.Outs.{sent}
 use Rattle.apd_mlme.specs.Verdict.{Verdict, nothing, only_sent}
@@ -99,23 +97,15 @@ change_of b w (Add a) = ListAdd b w a
 change_of b w (Remove a) = ListDel b w a
 change_of b w Clear = ListClear b w
 
--- the rows that stay under a policy; without one nobody is denied
-abbrev pub left_under : State → Bssid → Option Policy → FinMap station_cmp Station
-left_under s b None = s.stations
-left_under s b (Some policy) = maps.retain_keys s.stations (stays s b policy.mode)
-
--- the lists are the edited ones, and the rows that the policy denies by them are gone: they are dropped first, in
--- address order, so that each change leaves a sound state
-abbrev pub edited : State → Bssid → Which → Edit → Verdict
-edited s b w edit =
+-- the lists are the edited ones; without a policy it is not fit, and nothing
+abbrev pub edited_under : State → Bssid → Which → Edit → Option Policy → Verdict
+edited_under s b w edit None = nothing s
+edited_under s b w edit (Some policy) =
     let change = change_of b w edit in
-    let new = with_lists_after change s in
-    let denied = denied_after s b change in
-    record {
-      state = record new { stations = left_under new b (policy_at s b) };
-      changes = map (λ a. Drop b a) denied ++ change ∷ [];
-      outs = flat_map (λ a. outs_of_drop s b a UNSPECIFIED) denied;
-    }
+    enforced s b policy.mode change (with_lists_after change s)
+
+abbrev pub edited : State → Bssid → Which → Edit → Verdict
+edited s b w edit = edited_under s b w edit (policy_at s b)
 
 -- an address that is there is not put there again, and a full list takes no new one; one that is not there is not taken
 -- out; and a list is always cleared

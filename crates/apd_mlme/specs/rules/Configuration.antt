@@ -1,5 +1,5 @@
 -- A BSSID starts with its configuration and its lists (own).
-use Rattle.std.specs.Prelude.{Bool, not, ◌||◌, List, [], ◌∷◌, ◌++◌, map, fold, is_some, if◌then◌else◌}
+use Rattle.std.specs.Prelude.{Bool, not, ◌||◌, List, [], ◌∷◌, ◌++◌, map, is_some, if◌then◌else◌}
 use Rattle.std.specs.List.{flat_map}
 use Rattle.std.specs.Ordering.{eq_by_cmp}
 use Rattle.std.specs.FinMap as maps
@@ -24,23 +24,25 @@ use Rattle.apd_mlme.specs.Verdict.{Verdict}
 abbrev pub stays : State → Bssid → AclMode → Bssid × Addr → Bool
 stays s b mode key = not (eq_by_cmp bssid_cmp b key.0) || allowed_in s b key.1 mode
 
--- a BSSID that was started before has the configured policy and its stored lists, and the rows that these deny are
--- gone: they are dropped first, in address order, so that each change leaves a sound state
-abbrev pub later_start : State → Conf → Bssid → Verdict
-later_start s conf b =
-    let denied = denied_by s b conf.macaddr_acl in
+-- a change of the BSSID's lists or of its policy that leads to a new state, but for the rows that a mode denies there: they
+-- are gone. They are dropped first, in address order, so that each change leaves a sound state
+abbrev pub enforced : State → Bssid → AclMode → Change → State → Verdict
+enforced s b mode change new =
+    let denied = denied_by new b mode in
     record {
-      state = record s {
-        stations = maps.retain_keys s.stations (stays s b conf.macaddr_acl);
-        policies = maps.insert s.policies b (policy_of conf);
-      };
-      changes = map (λ a. Drop b a) denied ++ Policy b (policy_of conf) ∷ [];
+      state = record new { stations = maps.retain_keys s.stations (stays new b mode) };
+      changes = map (λ a. Drop b a) denied ++ change ∷ [];
       outs = flat_map (λ a. outs_of_drop s b a UNSPECIFIED) denied;
     }
 
+-- a BSSID that was started before has the configured policy and its stored lists
+abbrev pub later_start : State → Conf → Bssid → Verdict
+later_start s conf b =
+    enforced s b conf.macaddr_acl (Policy b (policy_of conf)) (record s { policies = maps.insert s.policies b (policy_of conf) })
+
 -- list rows with a row for each of these addresses beside them
 abbrev pub with_listed : Bssid → Which → List Addr → SetOf list_cmp → SetOf list_cmp
-with_listed b w addresses rows = fold (λ more a. maps.insert more (b, w, a) tt) rows addresses
+with_listed b w addresses rows = maps.from_entries (map (λ a. ((b, w, a), tt)) addresses ++ maps.entries rows)
 
 abbrev pub additions : Bssid → Which → List Addr → List Change
 additions b w addresses = map (λ a. ListAdd b w a) addresses

@@ -1,10 +1,14 @@
 -- An association or an authentication comes to its end: what a station is told where the access point ends it (IEEE Std
 -- 802.11-2016, 11.3.4.4 and 11.3.5.8), and what becomes of its row.
-use Rattle.std.specs.Prelude.{List, [], ◌∷◌, ◌++◌, is_some, if◌then◌else◌}
+use Rattle.std.specs.Prelude.{Bool, not, ◌&&◌, List, [], ◌∷◌, ◌++◌, map, is_some, if◌then◌else◌}
+use Rattle.std.specs.Ordering.{eq_by_cmp}
 use Rattle.std.specs.FinMap as maps
+use Rattle.std.specs.FinMap.{FinMap}
 use Rattle.apd_base.specs.declared.address.Addr.{Addr}
 use Rattle.apd_base.specs.declared.address.Bssid.{Bssid}
+use Rattle.apd_base.specs.declared.station.Station.{Station}
 use Rattle.apd_base.specs.declared.station.Station.TheVariants.{Authenticated}
+use Rattle.apd_base.specs.Addr.{addr_cmp, bssid_cmp, station_cmp}
 use Rattle.apd_base.specs.State.{State, aid_at}
 use Rattle.apd_frame.specs.declared.codes.Reason.{Reason}
 use Rattle.apd_frame.specs.declared.replies.Reply.{Reply}
@@ -37,10 +41,19 @@ outs_of_end b a reason = (Radio b, Remove a) ∷ sent (disassociation b a reason
 abbrev pub outs_of_drop : State → Bssid → Addr → Reason → List (Recipient × Out)
 outs_of_drop s b a reason = removal s b a ++ sent (deauthentication b a reason) ∷ []
 
--- the station has a row as authenticated, and every other row is kept
+-- the rows, of which those that pass a test say authenticated
+abbrev pub authenticated_where : (Bssid × Addr → Bool) → FinMap station_cmp Station → FinMap station_cmp Station
+authenticated_where test rows =
+    maps.from_entries (map (λ row. (row.0, if test row.0 then Authenticated else row.1)) (maps.entries rows))
+
+-- whether it is the station's row
+abbrev pub is_row_at : Bssid → Addr → Bssid × Addr → Bool
+is_row_at b a key = eq_by_cmp bssid_cmp key.0 b && eq_by_cmp addr_cmp key.1 a
+
+-- the station's row says authenticated, and every other row is kept
 abbrev pub put_back : State → Bssid → Addr → List (Recipient × Out) → Verdict
 put_back s b a outs = record {
-  state = record s { stations = maps.insert s.stations (b, a) Authenticated };
+  state = record s { stations = authenticated_where (is_row_at b a) s.stations };
   changes = Put b a Authenticated ∷ [];
   outs = outs;
 }
@@ -48,7 +61,7 @@ put_back s b a outs = record {
 -- the station has no row, and every other row is kept
 abbrev pub dropped : State → Bssid → Addr → List (Recipient × Out) → Verdict
 dropped s b a outs = record {
-  state = record s { stations = maps.remove s.stations (b, a) };
+  state = record s { stations = maps.retain_keys s.stations (λ key. not (is_row_at b a key)) };
   changes = Drop b a ∷ [];
   outs = outs;
 }

@@ -1,5 +1,5 @@
-use Rattle.apd_mlme.proofs.VerdictLemmas.{told_in}
+use Rattle.apd_mlme.proofs.AuthenticationLemmas.{auth_told}
 use Rattle.apd_mlme.proofs.laws.told_only_when_so.Goals as goal
 
 pub returns : goal.returns
-returns c = told_in
+returns c = λ s confs conf b request is. rw is (auth_told s conf b request)

@@ -1,5 +1,4 @@
-use Rattle.apd_mlme.proofs.RadioLemmas.{verdict_there}
-use Rattle.apd_mlme.proofs.TrueOutsLemmas.{verdict_so, verdict_so_to_all}
+use Rattle.apd_mlme.proofs.TrueOutsLemmas.{verdict_there, verdict_so, verdict_so_to_all}
 use Rattle.apd_mlme.proofs.laws.what_leaves_is_so.Goals as goal
 
 pub returns-clause-so : goal.returns-clause-so

@@ -4,7 +4,7 @@ use Rattle.std.specs.FinMap as map
 use Rattle.apd_mlme.specs.Happening.{happening}
 use Rattle.apd_mlme.specs.rules.{verdict, IsFit}
 use Rattle.apd_mlme.specs.laws.Outs.{AreThere}
-use Rattle.apd_mlme.proofs.RadioLemmas.{verdict_there}
+use Rattle.apd_mlme.proofs.TrueOutsLemmas.{verdict_there}
 use Rattle.apd_record.specs.Meaning.{meaning_of}
 use Rattle.apd_record.specs.Ranges.{AreChanges}
 use Rattle.apd_record.specs.Record.{records_of}

@@ -1,7 +1,7 @@
 use Rattle.std.proofs.Common.{None, refl}
 use Rattle.apd_record.specs.Meaning.{drop_station}
 use Rattle.apd_table.proofs.MembersLemmas.{drop_is_change, few_members, members_changed, same_members}
-use Rattle.apd_table.proofs.Dropped.{sound_drop}
+use Rattle.apd_table.proofs.Parts.{sound_drop}
 use Rattle.apd_table.specs.Table.{state_of}
 use Rattle.apd_table.proofs.table.Table.drop_station.Goals as goal
 
@@ -16,6 +16,3 @@ invariant_of-self c =
       members = rw (c.change_row.ensures, c.remove.ensures, c.get-old.ensures) (same_members (drop_station c.args.bssid c.args.addr s) _ refl _
           (members_changed s _ c.self.invariant.sound c.args.bssid c.args.addr None (drop_is_change s c.args.bssid c.args.addr) _ c.self.invariant.members));
     }
-
-pub returns-clause-sound : goal.returns-clause-sound
-returns-clause-sound c = sound_drop c.args.self.now c.args.bssid c.args.addr (rw (← c.self.view_is) c.self.invariant.sound)

@@ -1,0 +1,12 @@
+use Rattle.std.proofs.Common.{ap, ◌∙◌}
+use Rattle.std.specs.FinMap as map
+use Rattle.std.specs.List.{list_any}
+use Rattle.apd_table.specs.Addresses.{is_address_denied_after}
+use Rattle.apd_table.specs.Rows.{is_row_of}
+use Rattle.apd_table.proofs.StationRows.{Row, any_filtered}
+use Rattle.apd_table.proofs.denials.any_denied_after.Goals as goal
+
+pub returns : goal.returns
+returns c =
+    let test = λ (row : Row). is_address_denied_after c.args.lists.now c.args.mode c.args.bssid c.args.change.now row.0.1 in
+    c.any_denied_of.ensures ∙ ap (list_any test) c.of.ensures.rows ∙ any_filtered (is_row_of c.args.bssid) test (map.entries c.args.stations.now)
