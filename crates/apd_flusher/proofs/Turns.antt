@@ -1,6 +1,6 @@
 -- What a stop shows of a flusher, and within one turn.
 use Rattle.std.proofs.Common.{◌≡◌, ◌≤◌, ◌+◌, ◌⊎◌, inl, inr, ⊎_elim, ℕ, List, refl, sym, ◌∙◌, ap, subst, arith}
-use Rattle.std.specs.Prelude.{Result, Ok, Err, OnOk, Option, Some, None, IsSome, OnSome}
+use Rattle.std.specs.Prelude.{◌↔◌, Result, Ok, Err, OnOk, OnErr, Option, Some, None, IsSome, OnSome}
 use Rattle.std.proofs.lemmas.Bool.{false≢true}
 use Rattle.apd_base.specs.State.{State}
 use Rattle.apd_record.specs.declared.change.Change.{Change}
@@ -130,13 +130,18 @@ some_to_ok (Some t) (Ok u) Q is q = q
 some_to_ok (Some t) (Err e) Q is q = tt
 some_to_ok None r Q is q = absurd (false≢true is)
 
+-- what is so is so where a result is a fault
+pub on_fault : {T E : Type 0} (r : Result T E) (Q : Type 0) → Q → OnErr r Q
+on_fault (Ok t) Q q = tt
+on_fault (Err e) Q q = q
+
 -- ---- turns one after another, as long as it is busy
 
 pub record Turned {D : Type 0} (honest : D → Type 0) (reads : D → List ℕ) (may_leave : D → List ℕ → Type 0) (moment size failed : D → ℕ) (old now : Flusher D) : Type 0 where
   pub flushing : (state after : State) → honest old.store.device → IsFlushing reads may_leave old state after → IsFlushing reads may_leave now state after
   pub batch : now.store.batch ≡ old.store.batch
   pub inside : StoreIsInside size old.store → StoreIsInside size now.store
-  pub stays : honest old.store.device → honest now.store.device
+  pub stays : honest old.store.device ↔ honest now.store.device
   pub calls : honest old.store.device → moment now.store.device + calls_from now.store.phase ≤ moment old.store.device + calls_from old.store.phase
   pub count : failed now.store.device ≡ failed old.store.device
   pub phase : (phase_of now ≡ Busy) ⊎ (phase_of now ≡ Done)
@@ -147,7 +152,7 @@ turned_none honest reads may_leave moment size failed now busy = record {
   flushing = λ state after h s. s;
   batch = refl;
   inside = λ i. i;
-  stays = λ h. h;
+  stays = (λ h. h, λ h. h);
   calls = λ h. omega arith;
   count = refl;
   phase = inl busy;
@@ -157,15 +162,15 @@ turned_none honest reads may_leave moment size failed now busy = record {
 pub turned_more : {D : Type 0} (honest : D → Type 0) (reads : D → List ℕ) (may_leave : D → List ℕ → Type 0) (moment size failed : D → ℕ) (old now next : Flusher D)
     → Turned honest reads may_leave moment size failed old now → phase_of now ≡ Busy
     → ((state after : State) → honest now.store.device → IsFlushing reads may_leave now state after → IsFlushing reads may_leave next state after)
-    → next.store.batch ≡ now.store.batch → (StoreIsInside size now.store → StoreIsInside size next.store) → (honest now.store.device → honest next.store.device)
+    → next.store.batch ≡ now.store.batch → (StoreIsInside size now.store → StoreIsInside size next.store) → (honest now.store.device ↔ honest next.store.device)
     → (honest now.store.device → moment next.store.device ≤ moment now.store.device + 1) → calls_from next.store.phase + 1 ≡ calls_from now.store.phase
     → failed next.store.device ≡ failed now.store.device → (phase_of next ≡ Busy) ⊎ (phase_of next ≡ Done) → Turned honest reads may_leave moment size failed old next
 turned_more honest reads may_leave moment size failed old now next turned busy on batch inside stays one step count phase = record {
-  flushing = λ state after h s. on state after (turned.stays h) (turned.flushing state after h s);
+  flushing = λ state after h s. on state after (turned.stays.0 h) (turned.flushing state after h s);
   batch = batch ∙ turned.batch;
   inside = λ i. inside (turned.inside i);
-  stays = λ h. stays (turned.stays h);
-  calls = λ h. omega (arith, turned.calls h, one (turned.stays h), step);
+  stays = (λ h. stays.0 (turned.stays.0 h), λ h. turned.stays.1 (stays.1 h));
+  calls = λ h. omega (arith, turned.calls h, one (turned.stays.0 h), step);
   count = count ∙ turned.count;
   phase = phase;
 }

@@ -27,7 +27,7 @@ pub struct Flusher<D: Disk> {
 }
 
 impl<D: Disk> Flusher<D> {
-    ghost use Rattle.apd_flusher.specs.Flushing.{IsSteady, IsFlushing, Stands, StopShows, IsGood, HasRoom, IsInside, IsRefused, MayCommit};
+    ghost use Rattle.apd_flusher.specs.Flushing.{IsSteady, IsFlushing, IsStuck, Stands, StopShows, IsGood, HasRoom, IsInside, IsRefused, MayCommit};
     ghost use Rattle.apd_flusher.specs.Loading.{IsLoaded, IsNotLoaded};
     ghost use Rattle.apd_flusher.specs.Turning.{IsTurn, IsTurned, IsHonestTurn, IsNotTurned};
     ghost use Rattle.apd_flusher.specs.Outside.{store_of, device_of, phase_of, calls_left, batch_of, table_of, next_of};
@@ -184,6 +184,12 @@ impl<D: Disk> Flusher<D> {
         ensures receipt { IfOk result (λ receipt. held_batch receipt ≡ batch) }
         ensures settled { (state : State) → D.honest (device_of self.old) → IsSteady D.reads D.may_leave self.old state
             → OnOk result (IsSteady D.reads D.may_leave self.new (meaning_of batch.changes state)) }
+        // After a fault of the device in it a stop leaves the table before the batch or the one after, for good.
+        ensures stuck { (state : State) → D.honest (device_of self.old) → IsSteady D.reads D.may_leave self.old state
+            → IsErrOf result StoreFault.Device
+            → IsStuck D.may_leave self.new state (meaning_of batch.changes state) }
+        ensures honest { D.honest (device_of self.old) ↔ D.honest (device_of self.new) }
+        ensures inside { IsInside D.size self.old → IsInside D.size self.new }
 
         // Each turn is one call of the device at most: four where the group fits, and ten at most.
         ensures ten { D.honest (device_of self.old)
@@ -204,8 +210,13 @@ impl<D: Disk> Flusher<D> {
         ensures on { (state after : State) → D.honest (device_of self.old)
             → IsFlushing D.reads D.may_leave self.old state after
             → OnOk result (IsFlushing D.reads D.may_leave self.new state after) }
+        ensures stuck { (state after : State) → D.honest (device_of self.old)
+            → IsFlushing D.reads D.may_leave self.old state after
+            → OnErr result (IsStuck D.may_leave self.new state after) }
         ensures done { OnOk result (phase_of self.new ≡ Phase.Done) }
         ensures batch { batch_of self.new ≡ batch_of self.old }
+        ensures honest { D.honest (device_of self.old) ↔ D.honest (device_of self.new) }
+        ensures inside { IsInside D.size self.old → IsInside D.size self.new }
         ensures calls { D.honest (device_of self.old)
             → D.moment (device_of self.new) ≤ D.moment (device_of self.old) + calls_left self.old }
         ensures device { IsErrOf result StoreFault.Device

@@ -1,7 +1,7 @@
 use Rattle.std.proofs.Common.{◌≡◌, rules}
 use Rattle.apd_flusher.specs.Outside.{phase_of}
 use Rattle.apd_flusher.specs.declared.phase.Phase.TheVariants.{Busy}
-use Rattle.apd_flusher.proofs.Turns.{turned_none, turned_more}
+use Rattle.apd_flusher.proofs.Turns.{turned_none, turned_more, on_fault}
 use Rattle.apd_flusher.proofs.flusher.Flusher.make_calls.Goals as goal
 
 pub loop-self-init : goal.loop-self-init
@@ -13,4 +13,18 @@ loop-self-preserved g c =
     let t = c.turn.ensures.turn in
     let turned = c.in_ok-turn.ensures.turned in
     turned_more g.D.Disk.honest g.D.Disk.reads g.D.Disk.may_leave g.D.Disk.moment g.D.Disk.size g.D.Disk.failed c.args.self.now c.loop-self.self c.turn.new.self c.loop-self.invariant busy
-    (λ state after h. (c.in_ok-turn.ensures.honest h state after).on) t.batch_is t.inside t.stays_honest.0 t.one_call (turned.step busy) turned.no_fault (turned.busy busy)
+    (λ state after h. (c.in_ok-turn.ensures.honest h state after).on) t.batch_is t.inside t.stays_honest t.one_call (turned.step busy) turned.no_fault (turned.busy busy)
+
+pub returns-in_err-turn-clause-stuck : goal.returns-in_err-turn-clause-stuck
+returns-in_err-turn-clause-stuck g c = λ state after h flushing.
+    let kept = c.loop-self.invariant in
+    on_fault c.from_residual.result _ ((c.in_err-turn.ensures.honest (kept.stays.0 h) state after).stuck (kept.flushing state after h flushing))
+
+pub returns-in_err-turn-clause-honest : goal.returns-in_err-turn-clause-honest
+returns-in_err-turn-clause-honest g c =
+    let kept = c.loop-self.invariant.stays in
+    let turned = c.turn.ensures.turn.stays_honest in
+    (λ h. turned.0 (kept.0 h), λ h. kept.1 (turned.1 h))
+
+pub returns-clause-honest : goal.returns-clause-honest
+returns-clause-honest g c = c.loop-self.invariant.stays
