@@ -21,7 +21,7 @@ use Rattle.apd_base.proofs.RowsLemmas.{find_tied_head, is_sorted_tail}
 use Rattle.apd_base.proofs.StateLemmas.{list_total, list_exact}
 use Rattle.apd_acl.specs.Lists.{list_of, has}
 use Rattle.apd_acl.specs.declared.lists.Lists.{Lists}
-use Rattle.apd_table.specs.BssRows.{add_rows, list_rows, members_of, parts_of, policy_of, policy_rows, state_of_rows, no_bss, is_listed_in}
+use Rattle.apd_table.specs.fields.BssRows.{add_rows, list_rows, members_of, parts_of, policy_of, policy_rows, state_of_rows, no_bss, is_listed_in}
 use Rattle.apd_table.specs.declared.bss_rows.Bss.{Bss}
 use Rattle.apd_table.proofs.ListSets.{contains-insert, same_row}
 

@@ -26,9 +26,9 @@ use Rattle.apd_base.proofs.RowsLemmas.{put-place, find-place}
 use Rattle.apd_base.proofs.RowsMaps.{sorted_put_at}
 use Rattle.apd_base.proofs.StateLemmas.{list_total, list_exact}
 use Rattle.apd_acl.specs.Lists.{has, no_lists}
-use Rattle.apd_table.specs.BssRows.{list_rows, state_of_rows, joined, members_of, parts_of, policy_of, policy_rows, is_listed_in, with_bss, with_policy, with_added, with_removed, with_cleared, with_row, at_row}
-use Rattle.apd_table.specs.BssState.{BssState}
-use Rattle.apd_table.specs.Members.{after_row, no_members, put_after}
+use Rattle.apd_table.specs.fields.BssRows.{list_rows, state_of_rows, joined, members_of, parts_of, policy_of, policy_rows, is_listed_in, with_bss, with_policy, with_added, with_removed, with_cleared, with_row, at_row}
+use Rattle.apd_table.specs.fields.BssState.{BssState}
+use Rattle.apd_table.specs.fields.Members.{after_row, no_members, put_after}
 use Rattle.apd_table.specs.declared.bss_rows.Bss.{Bss}
 use Rattle.apd_table.specs.declared.members.Members.{Members}
 use Rattle.apd_table.proofs.BssLemmas.{get-parts_of, contains-list_rows}

@@ -8,7 +8,7 @@ use Rattle.apd_base.specs.State.{State, station_at}
 use Rattle.apd_table.proofs.MembersLemmas.{none_taken, small}
 use Rattle.apd_table.proofs.Places.{ArePlaces}
 use Rattle.apd_table.specs.LeastFree.{IsTaken, IsLeastFree}
-use Rattle.apd_table.specs.Members.{is_set}
+use Rattle.apd_table.specs.fields.Members.{is_set}
 use Rattle.apd_table.specs.Rows.{IsLeastUnmarked}
 
 module _ (s : State) (b : Bssid) (words : List ℕ) (are : ArePlaces s b words) where

@@ -20,9 +20,9 @@ use Rattle.apd_record.specs.Meaning.{put_station, drop_station}
 use Rattle.apd_table.proofs.Places.{ArePlaces, HasPlace, places_of, words_of, many_with, many_without, with_is, without_is, none_set}
 use Rattle.apd_table.proofs.Parts.{part_len, part_passes}
 use Rattle.apd_table.proofs.Put.{aid_range, put_here, count_put_in, count_put_out, is_some_there}
-use Rattle.apd_table.specs.BssRows.{joined}
+use Rattle.apd_table.specs.fields.BssRows.{joined}
 use Rattle.apd_table.specs.LeastFree.{IsTaken}
-use Rattle.apd_table.specs.Members.{AreMembers, IsMembers, after_row, counted, members_after, no_members, put_after, with_aid, without_aid, is_set}
+use Rattle.apd_table.specs.fields.Members.{AreMembers, IsMembers, after_row, counted, members_after, no_members, put_after, with_aid, without_aid, is_set}
 use Rattle.apd_table.specs.Sound.{Sound}
 use Rattle.apd_table.specs.declared.members.Members.{Members}
 

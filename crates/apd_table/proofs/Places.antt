@@ -9,7 +9,7 @@ use Rattle.apd_base.proofs.Cases.{differ}
 use Rattle.apd_base.specs.declared.address.Bssid.{Bssid}
 use Rattle.apd_base.specs.State.{State}
 use Rattle.apd_table.specs.LeastFree.{IsTaken}
-use Rattle.apd_table.specs.Members.{IsFirstClear, is_set, with_place, without_place, with_aid, without_aid}
+use Rattle.apd_table.specs.fields.Members.{IsFirstClear, is_set, with_place, without_place, with_aid, without_aid}
 use Rattle.apd_table.specs.Rows.{IsLeastUnmarked}
 use Rattle.apd_table.specs.Words.{has_bit, AreWords}
 

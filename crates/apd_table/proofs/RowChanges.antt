@@ -22,7 +22,7 @@ use Rattle.apd_base.proofs.RowsLemmas.{is_sorted_tail}
 use Rattle.apd_base.proofs.StateLemmas.{list_total}
 use Rattle.apd_acl.specs.Lists.{list_of}
 use Rattle.apd_record.specs.declared.change.Change.TheVariants.{ListAdd}
-use Rattle.apd_table.specs.BssRows.{add_rows, list_rows, policy_of, policy_rows}
+use Rattle.apd_table.specs.fields.BssRows.{add_rows, list_rows, policy_of, policy_rows}
 use Rattle.apd_table.specs.Snapshot.{policy_change, list_change, policies_of_rows, lists_of_rows}
 use Rattle.apd_table.specs.declared.bss_rows.Bss.{Bss}
 use Rattle.apd_table.proofs.BssLemmas.{sorted-parts_of}

@@ -1,16 +1,12 @@
 pub mod Addresses
 pub mod Allowed
-pub mod BssRows
-pub mod BssState
 pub mod Can
 pub mod InPlace
 pub mod LeastFree
-pub mod Members
 pub mod NewRow
 pub mod Rows
 pub mod Snapshot
 pub mod Sound
 pub mod Staged
-pub mod Standing
-pub mod Table
 pub mod Words
+pub mod fields

@@ -74,7 +74,7 @@ impl Model for Table {
 
     ghost coded = { coded_state };
 
-    ghost use Rattle.apd_table.specs.Table.{state_of, IsTable};
+    ghost use Rattle.apd_table.specs.fields.Table.{state_of, IsTable};
 
     ghost view = { state_of };
 

@@ -1,5 +1,5 @@
 use Rattle.std.proofs.Common.{◌++◌, append_assoc, ap, ◌∙◌}
-use Rattle.apd_table.specs.BssState.{BssState}
+use Rattle.apd_table.specs.fields.BssState.{BssState}
 use Rattle.apd_table.specs.Snapshot.{policy_changes, list_changes, policies_of_rows, lists_of_rows}
 use Rattle.apd_table.proofs.RowChanges.{policies_are, lists_are}
 use Rattle.apd_table.proofs.bss_rows.BssRows.add_changes.Goals as goal

@@ -3,8 +3,8 @@ use Rattle.std.specs.Option.{option_map}
 use Rattle.std.specs.FinMap as map
 use Rattle.apd_base.specs.Addr.{bssid_cmp}
 use Rattle.apd_base.specs.Sets.{contains}
-use Rattle.apd_table.specs.BssRows.{policy_of, members_of, is_listed_in}
-use Rattle.apd_table.specs.BssState.{BssState}
+use Rattle.apd_table.specs.fields.BssRows.{policy_of, members_of, is_listed_in}
+use Rattle.apd_table.specs.fields.BssState.{BssState}
 use Rattle.apd_table.proofs.BssLemmas.{get-parts_of, contains-list_rows}
 use Rattle.apd_base.proofs.RowsMaps.{valued}
 use Rattle.apd_table.proofs.bss_rows.BssRows.get.Goals as goal

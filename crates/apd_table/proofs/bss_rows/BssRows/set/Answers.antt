@@ -5,9 +5,9 @@ use Rattle.apd_acl.specs.declared.lists.Lists.{Lists}
 use Rattle.apd_base.specs.Addr.{bssid_cmp}
 use Rattle.apd_base.specs.Rows.{put_at}
 use Rattle.apd_base.proofs.AddrLemmas.{bssid_total, bssid_exact}
-use Rattle.apd_table.specs.BssRows.{with_policy, state_of_rows}
-use Rattle.apd_table.specs.BssState.{BssState}
-use Rattle.apd_table.specs.Members.{no_members}
+use Rattle.apd_table.specs.fields.BssRows.{with_policy, state_of_rows}
+use Rattle.apd_table.specs.fields.BssState.{BssState}
+use Rattle.apd_table.specs.fields.Members.{no_members}
 use Rattle.apd_table.specs.declared.members.Members.{Members}
 use Rattle.apd_table.proofs.BssWrites.{sorted_after, state_after, state_set, state_new, policies_with, sorted_new, absent_at, has_place}
 use Rattle.apd_base.proofs.RowsMaps.{placed}

@@ -1,7 +1,7 @@
 use Rattle.std.proofs.Common.{sym, ap, ◌∙◌}
 use Rattle.apd_base.specs.State.{State}
 use Rattle.apd_table.specs.Allowed.{denied_by}
-use Rattle.apd_table.specs.Table.{state_of}
+use Rattle.apd_table.specs.fields.Table.{state_of}
 use Rattle.apd_table.proofs.DeniedRows.{none_denied_by}
 use Rattle.apd_table.proofs.table.Table.denied_by.Goals as goal
 

@@ -3,7 +3,7 @@ use Rattle.std.specs.FinMap as map
 use Rattle.std.specs.List.{list_any}
 use Rattle.apd_base.specs.declared.station.Policy.{Policy}
 use Rattle.apd_table.specs.Addresses.{is_denied_after}
-use Rattle.apd_table.specs.Table.{state_of}
+use Rattle.apd_table.specs.fields.Table.{state_of}
 use Rattle.apd_table.proofs.OneDenied.{any_denied, kept_policy, none_denied_iff}
 use Rattle.apd_table.proofs.table.Table.denies_none_after.Goals as goal
 

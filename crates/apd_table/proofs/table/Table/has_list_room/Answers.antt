@@ -5,7 +5,7 @@ use Rattle.std.specs.FinMap as map
 use Rattle.std.proofs.lemmas.Grind.{common_steps}
 use Rattle.apd_acl.specs.Lists.{list_of}
 use Rattle.apd_base.specs.Addr.{addr_cmp}
-use Rattle.apd_table.specs.Table.{state_of}
+use Rattle.apd_table.specs.fields.Table.{state_of}
 use Rattle.apd_table.proofs.ListCounts.{list_count-is}
 use Rattle.apd_table.proofs.table.Table.has_list_room.Goals as goal
 

@@ -1,5 +1,5 @@
 use Rattle.std.proofs.Common.{◌<◌, sym, arith}
-use Rattle.apd_table.specs.Table.{state_of}
+use Rattle.apd_table.specs.fields.Table.{state_of}
 use Rattle.apd_table.proofs.MembersLemmas.{none_taken, without_policy}
 use Rattle.apd_table.proofs.Places.{places_of}
 use Rattle.apd_table.proofs.table.Table.is_taken.Goals as goal

@@ -8,7 +8,7 @@ use Rattle.apd_base.specs.Addr.{bssid_cmp, coded_bssid}
 use Rattle.apd_base.specs.Codes.{coded_list_row, coded_policy}
 use Rattle.apd_base.specs.State.{list_cmp}
 use Rattle.apd_base.specs.declared.station.Policy.{Policy}
-use Rattle.apd_table.specs.Members.{coded_members}
+use Rattle.apd_table.specs.fields.Members.{coded_members}
 use Rattle.apd_table.specs.declared.members.Members.{Members}
 
 pub record BssState : Type 0 where
