@@ -29,7 +29,7 @@ use Rattle.apd_mlme.specs.rules.{verdict}
 use Rattle.apd_mlme.specs.Run.{run}
 use Rattle.apd_mlme.specs.Verdict.{Verdict}
 use Rattle.apd_mlme.proofs.AssociationLemmas.{cleared, associated_station}
-use Rattle.apd_base.proofs.Cases.{no_value, none_is}
+use Rattle.apd_base.proofs.Cases.{either, no_value, none_is}
 use Rattle.apd_mlme.proofs.EnforcementLemmas.{new}
 use Rattle.apd_mlme.proofs.RowLemmas.{is_row, station_put, authenticated_station, row_known}
 use Rattle.apd_mlme.proofs.ElsewhereLemmas as elsewhere_laws
@@ -44,16 +44,12 @@ not_put : (t : Bool) (x o : Option Station) → (t ≡ true → IsSome o) → o 
 not_put true x o known none = none_is o none (known refl)
 not_put false x o known none = none
 
-kept : (t : Bool) (o : Option Station) → o ≡ None → cond t o None ≡ None
-kept true o none = none
-kept false o none = refl
-
 -- a row that says authenticated was there, and so was one that is kept
 turned_new : (s : State) (test : Bssid × Addr → Bool) → NoneIsNew s (record s { stations = authenticated_where test s.stations })
 turned_new s test c d none = authenticated_station test s.stations (c, d) ∙ ap (option_map (λ x. cond (test (c, d)) Authenticated x)) none
 
 kept_new : (s : State) (stay : Bssid × Addr → Bool) (c : Bssid) (d : Addr) → station_at s c d ≡ None → map.get (map.retain_keys s.stations stay) (c, d) ≡ None
-kept_new s stay c d none = get-retain_keys s.stations stay (c, d) (λ x t. ap stay (sym (station_exact (c, d) x t))) ∙ kept (stay (c, d)) (station_at s c d) none
+kept_new s stay c d none = get-retain_keys s.stations stay (c, d) (λ x t. ap stay (sym (station_exact (c, d) x t))) ∙ ap (λ o. cond (stay (c, d)) o None) none ∙ either (stay (c, d)) None
 
 -- ---- association: a station with a row
 module _ (s : State) (confs : List Conf) (conf : Conf) (b : Bssid) (kind : Kind) (request : AssociationRequest) where

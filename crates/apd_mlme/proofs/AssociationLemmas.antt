@@ -1,5 +1,5 @@
 -- What an association or a reassociation request leaves.
-use Rattle.std.proofs.Common.{◌≡◌, Bool, true, false, cond, not, ◌&&◌, List, [], ◌∷◌, ◌++◌, Option, Some, None, inl, inr, refl, sym, ap, subst, ◌∙◌, IsSome}
+use Rattle.std.proofs.Common.{◌≡◌, true, false, cond, not, ◌&&◌, List, [], ◌∷◌, ◌++◌, Option, Some, None, inl, inr, refl, sym, ap, subst, ◌∙◌, IsSome}
 use Rattle.std.specs.Option.{is_some, option_map}
 use Rattle.std.specs.Ordering.{eq_by_cmp}
 use Rattle.std.proofs.lemmas.Bool.{and_parts}
@@ -30,16 +30,10 @@ use Rattle.apd_mlme.specs.rules.Identifiers.{identifier_for}
 use Rattle.apd_mlme.specs.Outs.{sent}
 use Rattle.apd_mlme.specs.Verdict.{Verdict}
 use Rattle.apd_mlme.proofs.RowLemmas.{is_row, station_put, aid_cond, left_by, left_by-append, Follows, aid_turned, authenticated_station, turned_not}
-use Rattle.apd_mlme.proofs.ElsewhereLemmas.{is_bssid_among, among_elsewhere, put_backs_meaning, HasRows, put_backs_sound, put_backs_stay, elsewhere_driven}
+use Rattle.apd_mlme.proofs.ElsewhereLemmas.{is_bssid_among, among_elsewhere, put_backs_meaning, HasRows, put_backs_stay, elsewhere_driven}
 use Rattle.apd_mlme.proofs.IdentifierLemmas.{is_least_free}
 use Rattle.apd_base.proofs.Cases.{either, first_false, no_value, none_is, second_false}
 use Rattle.apd_base.proofs.StateLemmas.{station_of_aid}
-
-pub three : (t u v : Bool) → t ≡ false → u ≡ true → v ≡ true → ((not t && u) && v) ≡ true
-three true u v e f g = cc
-three false true true e f g = refl
-three false true false e f g = cc
-three false false v e f g = cc
 
 -- ---- at the other BSSIDs
 module _ (s : State) (b : Bssid) (a : Addr) where
@@ -58,12 +52,8 @@ module _ (s : State) (b : Bssid) (a : Addr) where
       let parts = and_parts _ _ (and_parts _ _ (sym (among_elsewhere s b a c) ∙ among)).0 in
       station_of_aid (station_at s c a) parts.1
 
-  not_among : (t u : Bool) → t ≡ true → ((not t && u)) ≡ false
-  not_among true u e = refl
-  not_among false u e = cc
-
   pub not_here : is_bssid_among b others ≡ false
-  not_here = among_elsewhere s b a b ∙ ap (λ t. t && is_some (policy_at s b)) (not_among (eq_by_cmp bssid_cmp b b) (is_some (aid_at s b a)) (tied bssid_total bssid_exact b))
+  not_here = among_elsewhere s b a b ∙ ap (λ t. (not t && is_some (aid_at s b a)) && is_some (policy_at s b)) (tied bssid_total bssid_exact b)
 
   pub cleared_here : (d : Addr) → station_at cleared b d ≡ station_at s b d
   cleared_here d = cleared_station b d ∙ turned_not _ (station_at s b d) (first_false (is_bssid_among b others) (eq_by_cmp addr_cmp d a) not_here)
@@ -74,16 +64,13 @@ module _ (s : State) (b : Bssid) (a : Addr) where
   pub cleared_is : meaning_of (put_backs a others) s ≡ cleared
   cleared_is = put_backs_meaning a others s elsewhere_rows
 
-  pub cleared_sound : Sound s → Sound cleared
-  cleared_sound sound = subst Sound cleared_is (put_backs_sound a others s elsewhere_rows sound)
-
   -- it is associated nowhere else then
   pub cleared_elsewhere : Sound s → (c : Bssid) → eq_by_cmp bssid_cmp b c ≡ false → aid_at cleared c a ≡ None
   cleared_elsewhere sound c other =
       elim (is_some (aid_at s c a)) as (λ t. is_some (aid_at s c a) ≡ t → aid_at cleared c a ≡ None) [
         | true ↦ λ e.
             let known = sound.stations_have_policy c a (station_of_aid (station_at s c a) e) in
-            let among : is_bssid_among c others ≡ true = among_elsewhere s b a c ∙ three (eq_by_cmp bssid_cmp b c) (is_some (aid_at s c a)) (is_some (policy_at s c)) other e known in
+            let among : is_bssid_among c others ≡ true = among_elsewhere s b a c ∙ (λ i. (not (other i) && e i) && known i) in
             cleared_aid c a ∙ (λ i. cond (among i && tied addr_total addr_exact a i) None (aid_at s c a))
         | false ↦ λ e. cleared_aid c a ∙ ap (λ o. cond (is_bssid_among c others && eq_by_cmp addr_cmp a a) None o) (no_value (aid_at s c a) e) ∙ either (is_bssid_among c others && eq_by_cmp addr_cmp a a) None
       ] refl
@@ -136,9 +123,9 @@ module _ (s : State) (confs : List Conf) (conf : Conf) (b : Bssid) (kind : Kind)
 
   pub associated_sound : Sound s → IsSome (station_at s b sender) → IsItsOwn → StaySound answered.changes s
   associated_sound sound known own =
-      let before = cleared_sound s b sender sound in
       put_backs_stay sender (elsewhere s b sender) (Put b sender row ∷ []) s (elsewhere_rows s b sender) sound
-      (subst (StaySound (Put b sender row ∷ [])) (sym (cleared_is s b sender)) (before, sound_put (cleared s b sender) b sender row before (can_put sound known own)))
+      (λ left. (let before = subst Sound (cleared_is s b sender) left in
+      subst (StaySound (Put b sender row ∷ [])) (sym (cleared_is s b sender)) (before, sound_put (cleared s b sender) b sender row before (can_put sound known own))))
 
   -- the rows and the identifiers afterwards
   pub associated_station : (c : Bssid) (d : Addr) → station_at answered.state c d ≡ cond (is_row b sender c d) (Some row) (station_at (cleared s b sender) c d)

@@ -1,5 +1,5 @@
 -- What an association or a reassociation response tells its station, and what leaves at each radio.
-use Rattle.std.proofs.Common.{◌≡◌, ◌≢◌, ℕ, Bool, true, false, cond, ◌&&◌, [], ◌++◌, List, Option, Some, None, inl, inr, refl, sym, ap, subst, ◌∙◌, IsSome, ◌||◌, ◌∷◌, append-nil}
+use Rattle.std.proofs.Common.{◌≡◌, ◌≢◌, ℕ, Bool, true, false, cond, not, ◌&&◌, [], ◌++◌, List, Option, Some, None, inl, inr, refl, sym, ap, subst, ◌∙◌, IsSome, ◌||◌, ◌∷◌, append-nil}
 use Rattle.std.specs.Option.{is_some, option_map}
 use Rattle.std.specs.Ordering.{eq_by_cmp}
 use Rattle.std.proofs.lemmas.Bool.{ltb-true, ltb-false}
@@ -10,7 +10,7 @@ use Rattle.apd_base.specs.declared.station.Aid.{Aid}
 use Rattle.apd_base.specs.declared.station.Station.{Station}
 use Rattle.apd_base.specs.declared.station.Station.TheVariants.{Authenticated, Associated}
 use Rattle.apd_base.specs.Addr.{addr_cmp, bssid_cmp}
-use Rattle.apd_base.specs.State.{State, station_at, policy_at, aid_of, aid_at}
+use Rattle.apd_base.specs.State.{State, station_at, aid_of, aid_at}
 use Rattle.apd_base.proofs.AddrLemmas.{addr_total, addr_exact, bssid_total, bssid_exact, same_bssid}
 use Rattle.apd_base.proofs.MapLemmas.{one_or_apart, apart, tied}
 use Rattle.apd_conf.specs.declared.conf.Conf.{Conf}
@@ -27,7 +27,7 @@ use Rattle.apd_mlme.specs.rules.Association.{is_named, association_refusals, ass
 use Rattle.apd_mlme.specs.rules.Identifiers.{identifier_for}
 use Rattle.apd_mlme.specs.rules.Refusals.{is_success}
 use Rattle.apd_mlme.specs.Verdict.{Verdict, only_sent}
-use Rattle.apd_mlme.proofs.AssociationLemmas.{three, others, cleared, cleared_station, cleared_here, cleared_elsewhere, own_or_free, own_kept, associated_station, not_here}
+use Rattle.apd_mlme.proofs.AssociationLemmas.{others, cleared, cleared_station, cleared_here, cleared_elsewhere, own_or_free, own_kept, associated_station, not_here}
 use Rattle.apd_mlme.proofs.ElsewhereLemmas.{is_bssid_among, among_elsewhere, among-filter}
 use Rattle.apd_mlme.proofs.IdentifierLemmas.{is_least_free, identifier_is_there}
 use Rattle.apd_mlme.proofs.RefusalLemmas.{by_lines, status_success, not_less}
@@ -96,7 +96,7 @@ module _ (s : State) (b : Bssid) (a : Addr) where
   cleared_as sound c other (Some (Associated x)) at =
       let known : is_some (aid_at s c a) ≡ true = ap (λ o. is_some (aid_of o)) at in
       let policy = sound.stations_have_policy c a (ap is_some at) in
-      let among : is_bssid_among c (others s b a) ≡ true = among_elsewhere s b a c ∙ three (eq_by_cmp bssid_cmp b c) (is_some (aid_at s c a)) (is_some (policy_at s c)) other known policy in
+      let among : is_bssid_among c (others s b a) ≡ true = among_elsewhere s b a c ∙ (λ i. (not (other i) && known i) && policy i) in
       ap (λ t. Some (cond t Authenticated (Associated x))) (both_true (is_bssid_among c (others s b a)) (eq_by_cmp addr_cmp a a) among (tied addr_total addr_exact a))
 
   pub cleared_row : Sound s → (c : Bssid) → eq_by_cmp bssid_cmp b c ≡ false → station_at (cleared s b a) c a ≡ only_authenticated (station_at s c a)

@@ -6,7 +6,6 @@ use Rattle.std.proofs.lemmas.Bool.{and_parts, eqb-true, eqb-false, eq-eqb, leb-t
 use Rattle.apd_base.specs.declared.address.Addr.{Addr}
 use Rattle.apd_base.specs.declared.address.Bssid.{Bssid}
 use Rattle.apd_base.specs.declared.station.Policy.{Policy}
-use Rattle.apd_base.specs.declared.station.Station.{Station}
 use Rattle.apd_base.specs.declared.station.Station.TheVariants.{Authenticated}
 use Rattle.apd_base.specs.State.{State, station_at, policy_at, aid_of, aid_at, count}
 use Rattle.apd_base.proofs.AddrLemmas.{station_total, station_exact}
@@ -33,10 +32,6 @@ use Rattle.apd_mlme.specs.Verdict.{Verdict}
 room : (o : Option Policy) (n : ℕ) → n < station_limit o → n < 2007
 room None n few = absurd (omega arith)
 room (Some p) n few = let high = p.max.in_range in omega arith
-
-nothing_there : (o : Option Station) → not (is_some o) ≡ true → aid_of o ≡ None
-nothing_there None e = refl
-nothing_there (Some x) e = cc
 
 module _ (s : State) (conf : Conf) (b : Bssid) (request : Authentication) where
   abbrev admitted : Bool
@@ -98,17 +93,13 @@ module _ (s : State) (conf : Conf) (b : Bssid) (request : Authentication) where
       let key : Bssid × Addr = (b, request.sender) in
       elim (one_or_apart station_total station_exact (c, d) key) [
         | inl same ↦ ap (λ k. aid_of (map.get new.stations k)) same ∙ ap aid_of (get_inserted station_total station_exact s.stations key Authenticated)
-            ∙ sym (nothing_there (station_at s b request.sender) parts.1) ∙ ap (λ k. aid_of (map.get s.stations k)) (sym same)
+            ∙ sym (ap aid_of (no_value (station_at s b request.sender) (not_yes (is_known s b request) parts.1))) ∙ ap (λ k. aid_of (map.get s.stations k)) (sym same)
         | inr apart ↦ ap aid_of (get_insert_other station_total station_exact s.stations key Authenticated (c, d) apart)
       ]
 
-  known_some : (o : Option Station) → not (is_some o) ≡ false → IsSome o
-  known_some None e = cc
-  known_some (Some x) e = refl
-
   -- one that is not admitted, and is told success, was known before
   pub known_already : admitted ≡ false → auth_status s conf b request ≡ Success → IsSome (station_at s b request.sender)
-  known_already e good = known_some (station_at s b request.sender) (not_and (is_success (auth_status s conf b request)) (not (is_known s b request)) (ap is_success good) e)
+  known_already e good = not_false (is_known s b request) (not_and (is_success (auth_status s conf b request)) (not (is_known s b request)) (ap is_success good) e)
 
   abbrev decided : Bool → Verdict
   decided t = record { state = cond t new s; changes = cond t (Put b request.sender Authenticated ∷ []) []; outs = sent (auth_response b request (auth_status s conf b request)) ∷ [] }

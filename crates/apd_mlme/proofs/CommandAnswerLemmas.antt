@@ -1,5 +1,5 @@
 -- What the answer to a control command says is so.
-use Rattle.std.proofs.Common.{◌≡◌, ◌≢◌, ℕ, Bool, true, false, cond, not, ◌&&◌, ◌||◌, List, [], ◌∷◌, ◌++◌, Option, Some, None, ◌⊎◌, inl, inr, refl, sym, ap, subst, ◌∙◌, IsSome, arith}
+use Rattle.std.proofs.Common.{◌≡◌, ◌≢◌, ℕ, Bool, true, false, cond, not, ◌&&◌, ◌||◌, List, [], ◌∷◌, ◌++◌, Option, Some, None, ◌⊎◌, inl, inr, refl, sym, ap, subst, ◌∙◌, IsSome, arith, append_assoc}
 use Rattle.std.specs.Prelude.{map as list_map, filter, ◌↔◌}
 use Rattle.std.specs.List.{flat_map, Contains}
 use Rattle.std.specs.Option.{is_some}
@@ -47,10 +47,9 @@ use Rattle.apd_mlme.specs.rules.{verdict, verdict_under, heard_verdict, IsFit}
 use Rattle.apd_mlme.specs.Verdict.{nothing, only_sent}
 use Rattle.apd_base.proofs.Cases.{differ, either, none_is, not_yes, second_true}
 use Rattle.apd_mlme.proofs.CommandLemmas.{by_kick, by_edit, IsUnneeded, IsTooMany, new}
-use Rattle.apd_mlme.proofs.RowLemmas.{other_row}
 use Rattle.apd_mlme.proofs.RowLemmas as leave
 use Rattle.apd_mlme.proofs.DropLemmas.{all_gone, all_leave, is_elsewhere, kept_row}
-use Rattle.apd_mlme.proofs.Shapes.{heard_shape, inactivity_shape, configure_shape, edited_shape, kicked_shape}
+use Rattle.apd_mlme.proofs.Shapes.{heard_shape, inactivity_shape, configure_shape, edited_shape, kicked_shape, one_station}
 use Rattle.apd_mlme.proofs.AssociationEndLemmas.{enforced_told}
 use Rattle.apd_mlme.proofs.EnforcementLemmas.{enforced_here, enforced_elsewhere}
 use Rattle.apd_mlme.proofs.TrueOutsLemmas.{radios_only, shape_radios}
@@ -75,20 +74,13 @@ module _ (s : State) (b : Bssid) where
   removal_is a = elim (is_some (aid_at s b a)) as (λ t. cond t (lets_go b a ∷ []) [] ≡ list_map (lets_go b) (cond t (a ∷ []) [])) [ true ↦ refl | false ↦ refl ]
 
 -- a frame and an answer behind them
-two_behind : {X : Type 0} (xs : List X) (y z : X) → (xs ++ y ∷ []) ++ z ∷ [] ≡ xs ++ y ∷ z ∷ []
-two_behind [] y z = refl
-two_behind (x ∷ xs) y z = ap (λ zs. x ∷ zs) (two_behind xs y z)
-
 told_by : (b : Bssid) (removed : List Addr) (outs : List (Recipient × Out)) (y z : Recipient × Out) → outs ≡ list_map (lets_go b) removed → (outs ++ y ∷ []) ++ z ∷ [] ≡ list_map (lets_go b) removed ++ y ∷ z ∷ []
-told_by b removed outs y z same = two_behind outs y z ∙ ap (λ xs. xs ++ y ∷ z ∷ []) same
+told_by b removed outs y z same = append_assoc outs (y ∷ []) (z ∷ []) ∙ ap (λ xs. xs ++ y ∷ z ∷ []) same
 
 -- a frame that is not a broadcast is meant for one station
-one_meant : {A : Type 0} (to : Addr) → eq_by_cmp addr_cmp to BROADCAST ≡ false → to ≡ BROADCAST → A
-one_meant to e all = differ _ e (ap (λ x. eq_by_cmp addr_cmp x BROADCAST) all ∙ tied addr_total addr_exact BROADCAST)
-
 meant_is : (to a : Addr) → eq_by_cmp addr_cmp to BROADCAST ≡ false → IsMeant to a → to ≡ a
 meant_is to a e (inl same) = same
-meant_is to a e (inr all) = one_meant to e all
+meant_is to a e (inr all) = one_station to e all
 
 module _ (s : State) (b : Bssid) (to : Addr) (reason : Reason) (tag : ℕ) where
   all_answered : (t : Bool) → to ≡ BROADCAST → IsKicked s b to reason t tag (answered tag Done (all_kicked s b reason t))
@@ -119,7 +111,7 @@ module _ (s : State) (b : Bssid) (to : Addr) (reason : Reason) (tag : ℕ) where
       told = refl;
       deauthenticated = λ h. of_meant (λ a. station_at s b a ≡ None) (gone h);
       disassociated = of_meant (λ a. aid_at s b a ≡ None) none;
-      everyone = λ all. one_meant to one all;
+      everyone = λ all. one_station to one all;
       kept = λ h _. stays h;
       others = λ c a other. refl;
       lists = refl;
@@ -133,9 +125,9 @@ module _ (s : State) (b : Bssid) (to : Addr) (reason : Reason) (tag : ℕ) where
       told = told_by b (associated s b (to ∷ [])) (removal s b to) (sent (farewell b to reason true)) (text tag Done) (removal_is s b to);
       deauthenticated = λ _. of_meant (λ a. station_at (leave.out s b to) b a ≡ None) (leave.out_row s b to);
       disassociated = of_meant (λ a. aid_at (leave.out s b to) b a ≡ None) (ap aid_of (leave.out_row s b to));
-      everyone = λ all. one_meant to one all;
+      everyone = λ all. one_station to one all;
       kept = λ h. differ true h refl;
-      others = λ c a other. leave.out_station s b to c a ∙ other_row b to c a None (station_at s c a) (λ same. other (same.0, inl (sym same.1)));
+      others = λ c a other. leave.out_station s b to c a ∙ leave.other_row b to c a None (station_at s c a) (λ same. other (same.0, inl (sym same.1)));
       lists = refl;
       policies = refl;
     }
@@ -148,7 +140,7 @@ module _ (s : State) (b : Bssid) (to : Addr) (reason : Reason) (tag : ℕ) where
       told = refl;
       deauthenticated = λ h. differ false refl h;
       disassociated = of_meant (λ a. aid_at (leave.back s b to) b a ≡ None) (leave.put_back_aid s b to);
-      everyone = λ all. one_meant to one all;
+      everyone = λ all. one_station to one all;
       kept = λ _ _. leave.back_row s b to;
       others = λ c a other. leave.back_other s b to c a (λ same. other (same.0, inl (sym same.1)));
       lists = refl;

@@ -98,6 +98,16 @@ module _ (s : State) (b : Bssid) where
         left_by c d (flat_map outs_of as') (aid_at s c d) ≡ aid_of (map.get kept (c, d))
     kept_driver outs_of go c d = all_let_go outs_of go as' c d false ∙ sym (kept_aid c d)
 
+  -- those of the BSSID alone
+  leave_there : (stay : Bssid × Addr → Bool) (as' : List Addr) → ((c : Bssid) (d : Addr) → eq_by_cmp bssid_cmp b c ≡ false → stay (c, d) ≡ true)
+      → ((d : Addr) → cond (is_among d as') None (station_at s b d) ≡ cond (stay (b, d)) (station_at s b d) None) → Leave stay as'
+  leave_there stay as' elsewhere here c d =
+      elim (one_or_apart bssid_total bssid_exact c b) [
+        | inl same ↦ subst (λ (z : Bssid). cond (eq_by_cmp bssid_cmp z b && is_among d as') None (station_at s z d) ≡ cond (stay (z, d)) (station_at s z d) None) (sym same)
+            (ap (λ t. cond (t && is_among d as') None (station_at s b d)) (tied bssid_total bssid_exact b) ∙ here d)
+        | inr apart ↦ ap (λ t. cond (t && is_among d as') None (station_at s c d)) apart ∙ ap (λ t. cond t (station_at s c d) None) (sym (elsewhere c d (other_way b c apart)))
+      ]
+
   -- ---- those that a mode denies
   module _ (mode : AclMode) where
     abbrev denied : List Addr
@@ -114,15 +124,9 @@ module _ (s : State) (b : Bssid) where
     denied_here d (Some x) e false refused = ap (λ m. cond m None (Some x)) (among_denied s b mode d x e refused)
 
     pub denied_leave : Leave (stays s b mode) denied
-    denied_leave c d =
-        elim (one_or_apart bssid_total bssid_exact c b) [
-          | inl same ↦ subst (λ (z : Bssid). cond (eq_by_cmp bssid_cmp z b && is_among d denied) None (station_at s z d) ≡ cond (stays s b mode (z, d)) (station_at s z d) None) (sym same)
-              (ap (λ t. cond (t && is_among d denied) None (station_at s b d)) (tied bssid_total bssid_exact b)
-              ∙ denied_here d (station_at s b d) refl (allowed_in s b d mode) refl
-              ∙ ap (λ t. cond (not t || allowed_in s b d mode) (station_at s b d) None) (sym (tied bssid_total bssid_exact b)))
-          | inr apart ↦ ap (λ t. cond (t && is_among d denied) None (station_at s c d)) apart
-              ∙ ap (λ t. cond (not t || allowed_in s b d mode) (station_at s c d) None) (sym (other_way b c apart))
-        ]
+    denied_leave =
+        leave_there (stays s b mode) denied (λ c d e. ap (λ t. not t || allowed_in s b d mode) e)
+        (λ d. denied_here d (station_at s b d) refl (allowed_in s b d mode) refl ∙ ap (λ t. cond (not t || allowed_in s b d mode) (station_at s b d) None) (sym (tied bssid_total bssid_exact b)))
 
   -- ---- all of them
   all_here : (d : Addr) (o : Option Station) → station_at s b d ≡ o → cond (is_among d (addresses_at s b)) None o ≡ None
@@ -133,15 +137,9 @@ module _ (s : State) (b : Bssid) where
   is_elsewhere key = not (eq_by_cmp bssid_cmp b key.0)
 
   pub all_leave : Leave is_elsewhere (addresses_at s b)
-  all_leave c d =
-      elim (one_or_apart bssid_total bssid_exact c b) [
-        | inl same ↦ subst (λ (z : Bssid). cond (eq_by_cmp bssid_cmp z b && is_among d (addresses_at s b)) None (station_at s z d) ≡ cond (is_elsewhere (z, d)) (station_at s z d) None) (sym same)
-            (ap (λ t. cond (t && is_among d (addresses_at s b)) None (station_at s b d)) (tied bssid_total bssid_exact b)
-            ∙ all_here d (station_at s b d) refl
-            ∙ ap (λ t. cond (not t) (station_at s b d) None) (sym (tied bssid_total bssid_exact b)))
-        | inr apart ↦ ap (λ t. cond (t && is_among d (addresses_at s b)) None (station_at s c d)) apart
-            ∙ ap (λ t. cond (not t) (station_at s c d) None) (sym (other_way b c apart))
-      ]
+  all_leave =
+      leave_there is_elsewhere (addresses_at s b) (λ c d e. ap not e)
+      (λ d. all_here d (station_at s b d) refl ∙ ap (λ t. cond (not t) (station_at s b d) None) (sym (tied bssid_total bssid_exact b)))
 
   pub all_gone : (d : Addr) → map.get (map.retain_keys s.stations is_elsewhere) (b, d) ≡ None
   all_gone d =

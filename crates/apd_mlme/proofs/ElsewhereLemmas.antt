@@ -84,13 +84,9 @@ rows_after s a x bssids rows c among =
 pub first_among : (x : Bssid) (bssids : List Bssid) → is_bssid_among x (x ∷ bssids) ≡ true
 first_among x bssids = ap (λ t. t || is_bssid_among x bssids) (tied bssid_total bssid_exact x)
 
-pub put_backs_sound : (a : Addr) (bssids : List Bssid) (s : State) → HasRows s a bssids → Sound s → Sound (meaning_of (put_backs a bssids) s)
-put_backs_sound a [] s rows sound = sound
-put_backs_sound a (x ∷ bssids) s rows sound = put_backs_sound a bssids (put_station x a Authenticated s) (rows_after s a x bssids rows) (sound_put_back s x a (rows x (first_among x bssids)) sound)
-
 -- changes behind them need to be looked at only from there
-pub put_backs_stay : (a : Addr) (bssids : List Bssid) (rest : List Change) (s : State) → HasRows s a bssids → Sound s → StaySound rest (meaning_of (put_backs a bssids) s) → StaySound (put_backs a bssids ++ rest) s
-put_backs_stay a [] rest s rows sound h = h
+pub put_backs_stay : (a : Addr) (bssids : List Bssid) (rest : List Change) (s : State) → HasRows s a bssids → Sound s → (Sound (meaning_of (put_backs a bssids) s) → StaySound rest (meaning_of (put_backs a bssids) s)) → StaySound (put_backs a bssids ++ rest) s
+put_backs_stay a [] rest s rows sound h = h sound
 put_backs_stay a (x ∷ bssids) rest s rows sound h =
     (sound, put_backs_stay a bssids rest (put_station x a Authenticated s) (rows_after s a x bssids rows) (sound_put_back s x a (rows x (first_among x bssids)) sound) h)
 

@@ -22,13 +22,10 @@ use Rattle.apd_table.specs.Addresses.{addresses_at}
 use Rattle.apd_table.proofs.AllRows.{any_address}
 use Rattle.apd_table.proofs.Parts.{has_one}
 use Rattle.apd_mlme.specs.rules.Identifiers.{is_number, is_taken, least_free_to, least_free, identifier_for, one_less, at_least_one, at_most_all}
-use Rattle.apd_base.proofs.Cases.{differ, same_some, value_of}
+use Rattle.apd_base.proofs.Cases.{differ, none_is, same_some, value_of}
 use Rattle.std.proofs.lemmas.Bool.{eqb-true}
 use Rattle.std.proofs.lemmas.List.Folds.{Any-from_list_any}
 use Rattle.apd_base.proofs.StateLemmas.{station_of_aid}
-
-none_some : (i : ℕ) → None ≡ Some i → ⊥
-none_some i e = cc
 
 number_is : (n : ℕ) (o : Option ℕ) → is_number n o ≡ true → o ≡ Some n
 number_is n None e = cc
@@ -100,11 +97,11 @@ module _ (s : State) (b : Bssid) where
       let down : ¬ (j < i) = no_less j i second first in
       omega arith
 
-  pub least_free_is : (aid : Aid) → IsLeastFree s b aid.number → least_free s b ≡ Some aid
-  least_free_is aid least =
+  pub found_least : (n : ℕ) (aid : Aid) → IsLeastFree s b n → aid.number ≡ n → least_free s b ≡ Some aid
+  found_least n aid least same =
       elim (least_free s b) as (λ o. Scanned MAX_STATIONS o → o ≡ Some aid) [
-        | None ↦ λ taken. (let one = taken aid.number aid.low aid.high in absurd (least.free one.0 one.1))
-        | Some z ↦ λ is. ap Some (same_aid z aid (one_least z.number aid.number is least))
+        | None ↦ λ taken. (let one = taken n least.low least.high in absurd (least.free one.0 one.1))
+        | Some z ↦ λ is. ap Some (same_aid z aid (one_least z.number n is least ∙ sym same))
       ] least_scanned
 
   pub is_least_free : (aid : Aid) → least_free s b ≡ Some aid → IsLeastFree s b aid.number
@@ -140,7 +137,7 @@ module _ (s : State) (b : Bssid) where
   kept_row : (a c : Addr) → aid_at s b a ≡ None → (i : ℕ) → aid_at s b c ≡ Some i → aid_of (map.get (map.remove (stations_of s b) (b, a)) (b, c)) ≡ Some i
   kept_row a c none i taken =
       elim (one_or_apart station_total station_exact (b, c) (b, a)) [
-        | inl same ↦ (let here : aid_at s b c ≡ aid_at s b a = ap (λ k. aid_of (map.get s.stations k)) same in absurd (none_some i (sym none ∙ sym here ∙ taken)))
+        | inl same ↦ none_is (aid_at s b c) (ap (λ k. aid_of (map.get s.stations k)) same ∙ none) (ap is_some taken)
         | inr apart ↦ ap aid_of (get_remove_other station_total station_exact (stations_of s b) (b, a) (b, c) apart ∙ row_there c) ∙ taken
       ]
 
@@ -173,6 +170,3 @@ module _ (s : State) (b : Bssid) where
   pub one_is_left : Sound s → (a : Addr) → IsSome (station_at s b a) → aid_at s b a ≡ None → (r : Option ℕ) → IfNone r AllTaken → IsSome r
   one_is_left sound a known none None all = absurd (never_all sound a known none all)
   one_is_left sound a known none (Some i) all = refl
-
-  pub found_least : (n : ℕ) (aid : Aid) → IsLeastFree s b n → aid.number ≡ n → least_free s b ≡ Some aid
-  found_least n aid least same = least_free_is aid (subst (IsLeastFree s b) (sym same) least)

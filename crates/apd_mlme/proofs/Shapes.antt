@@ -88,6 +88,10 @@ pub data Shape (s : State) (confs : List Conf) (h : Happening) : Verdict → Typ
       → (IsChange change → length (record_of change) ≤ 14) → Shape s confs h (v s b p change l q)
   started : (conf : Conf) (b : Bssid) (accept deny : List Addr) → h ≡ Configure b accept deny → is_some (policy_at s b) ≡ false → Shape s confs h (first_start s conf b accept deny)
 
+-- a frame that is not a broadcast is one station's
+pub one_station : {A : Type 0} (to : Addr) → eq_by_cmp addr_cmp to BROADCAST ≡ false → to ≡ BROADCAST → A
+one_station to e all = differ _ e (ap (λ x. eq_by_cmp addr_cmp x BROADCAST) all ∙ tied addr_total addr_exact BROADCAST)
+
 module _ (s : State) (confs : List Conf) (b : Bssid) (there : IsSome (conf_at confs b)) where
   disassociation_shape : (a : Addr) (reason : Reason) (o : Option Station) → station_at s b a ≡ o → Shape s confs (Heard b (disassociation a reason)) (disassociation_of s b a o)
   disassociation_shape a reason None at = told (leaving.deauthentication b a INVALID_CLASS2_FRAME) there at (λ nobody. nobody.sender)
@@ -162,10 +166,6 @@ module _ (s : State) (confs : List Conf) (b : Bssid) (there : IsSome (conf_at co
 
   -- ---- control commands, but for their answers
   module _ (h : Happening) where
-    -- the frame of one station is not the broadcast
-    one_station : (to : Addr) → eq_by_cmp addr_cmp to BROADCAST ≡ false → to ≢ BROADCAST
-    one_station to e all = differ _ e (ap (λ x. eq_by_cmp addr_cmp x BROADCAST) all ∙ tied addr_total addr_exact BROADCAST)
-
     deauthenticated_shape : (a : Addr) (reason : Reason) → a ≢ BROADCAST → (o : Option Station) → station_at s b a ≡ o → Shape s confs h (deauthenticated_of s b a reason o)
     deauthenticated_shape a reason one None at = told (leaving.deauthentication b a reason) there at (λ _. one)
     deauthenticated_shape a reason one (Some row) at = dropped b a reason there (ap is_some at)
@@ -184,7 +184,7 @@ module _ (s : State) (confs : List Conf) (b : Bssid) (there : IsSome (conf_at co
     pub kicked_shape : (to : Addr) (reason : Reason) (deauth : Bool) → Shape s confs h (kicked s b to reason deauth)
     kicked_shape to reason deauth =
         by_kick s b to reason (λ t v. Shape s confs h v) (λ t e. emptied b reason t there)
-        (λ e. deauthenticated_shape to reason (one_station to e) (station_at s b to) refl) (λ e. disassociated_shape to reason (one_station to e) (station_at s b to) refl) deauth
+        (λ e. deauthenticated_shape to reason (λ all. one_station to e all) (station_at s b to) refl) (λ e. disassociated_shape to reason (λ all. one_station to e all) (station_at s b to) refl) deauth
 
 -- ---- any event
 module _ (s : State) (confs : List Conf) (P : Verdict → Type 0) (more : (tag : ℕ) (answer : Answer) (v : Verdict) → P v → P (answered tag answer v)) where

@@ -1,5 +1,5 @@
 -- What the first start of a BSSID leaves, and a later one.
-use Rattle.std.proofs.Common.{◌≡◌, ◌≢◌, ℕ, ◌+◌, ◌≤◌, ◌<◌, Bool, true, false, cond, ◌&&◌, ◌||◌, List, [], ◌∷◌, ◌++◌, Option, None, inr, length, refl, sym, ap, subst, ◌∙◌, IsSome, arith, append-nil, Some, inl}
+use Rattle.std.proofs.Common.{◌≡◌, ◌≢◌, ℕ, ◌+◌, ◌≤◌, ◌<◌, Bool, true, false, cond, ◌&&◌, ◌||◌, List, [], ◌∷◌, ◌++◌, None, inr, length, refl, sym, ap, subst, ◌∙◌, IsSome, arith, append-nil, Some, inl}
 use Rattle.std.specs.Cmp.{eq_by_cmp_equiv}
 use Rattle.std.specs.List.{Contains}
 use Rattle.std.specs.Prelude.{◌↔◌}
@@ -11,7 +11,6 @@ use Rattle.std.proofs.lemmas.Bool.{false_from_ne_true}
 use Rattle.std.proofs.lemmas.Map.Views.{Contains-from_any, list_any-from_Contains}
 use Rattle.apd_base.specs.declared.address.Addr.{Addr}
 use Rattle.apd_base.specs.declared.address.Bssid.{Bssid}
-use Rattle.apd_base.specs.declared.station.Station.{Station}
 use Rattle.apd_base.specs.declared.station.Which.{Which}
 use Rattle.apd_base.specs.declared.station.Which.TheVariants.{Accept, Deny}
 use Rattle.apd_base.specs.Sets.{SetOf, contains}
@@ -35,7 +34,7 @@ use Rattle.apd_table.proofs.ListSets.{contains-insert, same_row, same_set}
 use Rattle.apd_table.proofs.PolicySet.{sound_set, policy_here, policy_elsewhere}
 use Rattle.apd_mlme.specs.laws.Start.{IsStarted}
 use Rattle.apd_mlme.specs.rules.Configuration.{with_listed, additions, first_start, later_start, configure_verdict}
-use Rattle.apd_base.proofs.Cases.{differ, no_value, none_is}
+use Rattle.apd_base.proofs.Cases.{differ, either, no_value, none_is}
 use Rattle.apd_record.specs.declared.change.Change.TheVariants.{Policy}
 use Rattle.apd_mlme.proofs.EnforcementLemmas.{rest, enforced_here, enforced_elsewhere, enforced_sound}
 
@@ -195,17 +194,13 @@ module _ (b : Bssid) where
           listed b Deny deny rows c w a ∙ ap (λ t. (t && (eq_by_cmp which_cmp w Deny && is_among a deny)) || contains rows (c, w, a)) other
           ∙ listed b Accept accept s.lists c w a ∙ ap (λ t. (t && (eq_by_cmp which_cmp w Accept && is_among a accept)) || contains s.lists (c, w, a)) other
 
-      nobody_either : (o : Option Station) → o ≡ None → (t : Bool) → o ≡ cond t o None
-      nobody_either o e true = refl
-      nobody_either o e false = e
-
       pub first_started : IsStarted s conf b accept deny (first_start s conf b accept deny).state
       first_started = record {
         policy = policy_here s b (policy_of conf);
         accepted = λ _ a. on_list Accept a;
         denied = λ _ a. on_list Deny a;
         stored = λ h. differ _ new h;
-        stations = λ a. nobody_either (station_at s b a) (nobody a) (allowed (first_start s conf b accept deny).state b a);
+        stations = λ a. nobody a ∙ sym (ap (λ o. cond (allowed (first_start s conf b accept deny).state b a) o None) (nobody a) ∙ either (allowed (first_start s conf b accept deny).state b a) None);
         other_policies = λ c ne. policy_elsewhere s b (policy_of conf) c (apart bssid_total bssid_exact c b ne);
         other_lists = other_rows;
         other_stations = λ c ne a. refl;

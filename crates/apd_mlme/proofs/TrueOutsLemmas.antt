@@ -82,12 +82,12 @@ meant_one to a one (inr all) = absurd (one all)
 -- a radio of a configured BSSID, and not whoever gave a command
 abbrev pub IsRadio : List Conf → Recipient × Out → Type 0
 IsRadio confs (Radio b, what) = IsSome (conf_at confs b)
-IsRadio confs (Control, out) = ⊥
+IsRadio confs (Control, what) = ⊥
 
 pub radios_only : (confs : List Conf) (outs : List (Recipient × Out)) → AllByRecursion (IsRadio confs) outs → outs_to Control outs ≡ []
 radios_only confs [] h = refl
 radios_only confs ((Radio b, what) ∷ outs) h = radios_only confs outs h.1
-radios_only confs ((Control, out) ∷ outs) h = absurd h.0
+radios_only confs ((Control, what) ∷ outs) h = absurd h.0
 
 -- what leaves over a sound state s is so of the receiver, and where no station has the broadcast address, as E says, of all
 -- that it is meant for; and it goes to a radio
@@ -241,7 +241,7 @@ module _ (s : State) (confs : List Conf) (h : Happening) where
 
   radio_there : (x : Recipient × Out) → IsRadio confs x → IsThere confs x
   radio_there (Radio b, what) there = there
-  radio_there (Control, out) there = absurd there
+  radio_there (Control, what) there = absurd there
 
   verdict_is : AllByRecursion (Is (verdict s confs h).state) (verdict s confs h).outs
   verdict_is =

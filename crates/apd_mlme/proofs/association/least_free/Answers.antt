@@ -13,9 +13,7 @@ unwrap-number-requires c = one_is_left c.args.table.now c.args.bssid c.sound.ens
 -- the number that was found, as an identifier
 found : (s : State) (b : Bssid) (r : Option ℕ) (n : ℕ) (o : Option Aid) (aid : Aid) → IfSome r (IsLeastFree s b) → r ≡ Some n → IfSome o (λ x. x.number ≡ n) → o ≡ Some aid → least_free s b ≡ Some aid
 found s b r n o aid least is number was =
-    let first : IsLeastFree s b n = subst (λ q. IfSome q (IsLeastFree s b)) is least in
-    let second : aid.number ≡ n = subst (λ q. IfSome q (λ (x : Aid). x.number ≡ n)) was number in
-    found_least s b n aid first second
+    found_least s b n aid (subst (λ q. IfSome q (IsLeastFree s b)) is least) (subst (λ q. IfSome q (λ (x : Aid). x.number ≡ n)) was number)
 
 pub returns : goal.returns
 returns c = found c.args.table.now c.args.bssid c.least_free.result c.unwrap-number.result c.new.result c.unwrap.result c.least_free.ensures.some c.unwrap-number.ensures c.new.ensures.number c.unwrap.ensures
