@@ -13,6 +13,10 @@ mod journal_tests;
 #[cfg(test)]
 mod radio_tests;
 #[cfg(test)]
+mod slot_calls;
+#[cfg(test)]
+mod slot_memory_tests;
+#[cfg(test)]
 mod slot_tests;
 #[cfg(test)]
 mod store_tests;

@@ -1,9 +1,10 @@
+use crate::slot_calls::{apply, change, replace, resume};
 use apd_base::{AclMode, Addr, Aid, Association, Bssid, Policy, Sequence, Station, StationLimit};
 use apd_mlme::Out;
 use apd_radio::{Radio, Recording, Replaying, Sim};
 use apd_record::Change;
 use apd_slot::{Slot, SlotFault};
-use apd_table::{Table, TableFault};
+use apd_table::Table;
 use std::alloc::Global;
 use std::test::Fail;
 
@@ -26,24 +27,11 @@ const ASSOCIATED: [u8; 36] = [
     0xc0, 1, 4, 0x82, 0x84, 0x8b, 0x96,
 ];
 
-// Calls whose contracts are long, each by a function of its own.
-fn apply<R: Radio>(slot: &mut Slot<R>, out: &Out) -> Result<(), SlotFault> {
-    slot.apply(out)
-}
-
-fn resume<R: Radio>(slot: &mut Slot<R>, alloc: Global, table: &Table) -> Result<(), SlotFault> {
-    slot.resume(alloc, table)
-}
-
-fn replace<R: Radio>(slot: &mut Slot<R>, radio: R) -> Result<R, Fail> {
-    match slot.replace(radio) {
+fn replaced<R: Radio>(slot: &mut Slot<R>, radio: R) -> Result<R, Fail> {
+    match replace(slot, radio) {
         Ok(old) => Ok(old),
         Err(_) => Err(Fail::new("a radio is not replaced")),
     }
-}
-
-fn change(table: &mut Table, change: &Change) -> Result<(), TableFault> {
-    table.apply(change)
 }
 
 fn frame(alloc: Global, bytes: &[u8]) -> Result<Out, Fail> {
@@ -143,7 +131,7 @@ fn each_kind_is_replaced_by_another(rt: HostRuntime) -> Result<(), Fail> {
     let install = Out::Install(SECOND, identifier(7)?);
     for (slot, other) in slots.iter_mut().zip(others) {
         assert_eq!(rt; apply(slot, &install), Ok(()));
-        let old = replace(slot, other)?;
+        let old = replaced(slot, other)?;
         assert_eq!(rt; old.installed(SECOND), None);
         assert_eq!(rt; slot.installed(SECOND), Some(7));
         assert!(rt; slot.is_up());

@@ -1,0 +1,28 @@
+//! Calls of slots and tables whose contracts are long, each by a function of its own, so that the proof of a test
+//! needn't carry them.
+use apd_mlme::Out;
+use apd_radio::Radio;
+use apd_record::Change;
+use apd_slot::{Slot, SlotFault};
+use apd_table::{Table, TableFault};
+use std::alloc::Global;
+
+pub(crate) fn apply<R: Radio>(slot: &mut Slot<R>, out: &Out) -> Result<(), SlotFault> {
+    slot.apply(out)
+}
+
+pub(crate) fn resume<R: Radio>(
+    slot: &mut Slot<R>,
+    alloc: Global,
+    table: &Table,
+) -> Result<(), SlotFault> {
+    slot.resume(alloc, table)
+}
+
+pub(crate) fn replace<R: Radio>(slot: &mut Slot<R>, radio: R) -> Result<R, (R, SlotFault)> {
+    slot.replace(radio)
+}
+
+pub(crate) fn change(table: &mut Table, change: &Change) -> Result<(), TableFault> {
+    table.apply(change)
+}
