@@ -1,12 +1,13 @@
 -- What the lines of a script do, from what the steps do that they ask for.
-use Rattle.std.proofs.Common.{◌≡◌, ℕ, List, Option, Some, None, Result, Ok, Err, IfOk, IfErr, Bool, ap, subst, sym, ◌∙◌}
+use Rattle.std.proofs.Common.{◌≡◌, ℕ, List, Option, Some, None, Result, Ok, Err, IfOk, IfErr, Bool, ap, refl, subst, sym, ◌∙◌}
 use Rattle.std.specs.Option.{option_or}
-use Rattle.std.specs.Prelude.{length}
+use Rattle.std.specs.Prelude.{length, OnOk}
 use Rattle.apd_base.specs.declared.moment.Moment.{Moment}
 use Rattle.apd_conf.specs.declared.conf.Conf.{Conf}
 use Rattle.apd_conf.specs.Confs.{conf_named}
-use Rattle.apd_core.specs.Requests.{ordered, unless_ignored}
-use Rattle.apd_ctrl.specs.Placing.{Placing, Does, placed}
+use Rattle.apd_core.specs.Requests.{unless_ignored}
+use Rattle.apd_core.specs.declared.input.QuietReason.{QuietReason}
+use Rattle.apd_ctrl.specs.Placing.{Placing, placed}
 use Rattle.apd_ctrl.specs.Reading.{outcome as command_outcome}
 use Rattle.apd_ctrl.specs.declared.command.Command.{Command as Order}
 use Rattle.apd_ctrl.specs.declared.parser.Refusal.{Refusal}
@@ -59,10 +60,19 @@ module _ {D R : Type 0} where
   line_fault one (Ok x) n text what s says h = tt
   line_fault one (Err why) n text what s says h = said_fault one n text what s why says h
 
--- what holds of a value holds of what is told to be it
-pub same_ok : {A E : Type 0} (P : A → Type 0) (r : Result A E) (x : A) → P x → IfOk r (λ y. y ≡ x) → IfOk r P
-same_ok P (Ok y) x p same = subst P (sym same) p
-same_ok P (Err why) x p same = tt
+-- what holds is so whatever else went well
+pub on_ok : {A E : Type 0} (P : Type 0) (r : Result A E) → P → OnOk r P
+on_ok P (Ok x) p = p
+on_ok P (Err why) p = tt
+
+-- what is kept where what was done on it went well
+pub kept_ok : {U S E : Type 0} (P : S → Type 0) (done : Result U E) (r : Result S E) (s : S) → OnOk done (r ≡ Ok s) → IfErr done (λ why. r ≡ Err why) → OnOk done (P s) → IfOk r P
+kept_ok P (Ok u) r s is none p = subst (λ x. IfOk x P) (sym is) p
+kept_ok P (Err why) r s none is p = subst (λ x. IfOk x P) (sym is) tt
+
+pub kept_err : {U S E : Type 0} (P : E → Type 0) (done : Result U E) (r : Result S E) (s : S) → OnOk done (r ≡ Ok s) → IfErr done (λ why. r ≡ Err why) → IfErr done P → IfErr r P
+kept_err P (Ok u) r s is none p = subst (λ x. IfErr x P) (sym is) tt
+kept_err P (Err why) r s none is p = subst (λ x. IfErr x P) (sym is) p
 
 module _ {D R : Type 0} (honest : D → Type 0) (reads : D → List ℕ) (may_leave : D → List ℕ → Type 0) (moment : D → ℕ) (left_since : D → ℕ → List ℕ → Type 0) (size : D → ℕ) (stations : R → Stations) (faults : R → ℕ) where
   -- a step is tried
@@ -76,46 +86,39 @@ module _ {D R : Type 0} (honest : D → Type 0) (reads : D → List ℕ) (may_le
   }
 
   -- a frame is received
-  pub received_ok : (r : Result (Standing D R) ScriptFault) (interface frame : List ℕ) (conf : Conf) (request : Step) (old : Standing D R)
+  pub received_ok : {A : Type 0} (r : Result A ScriptFault) (interface frame : List ℕ) (conf : Conf) (request : Step) (old new : Standing D R)
       → conf_named (confs_of old) interface ≡ Some conf → asked_at request ≡ Some (Some (unless_ignored conf.bssid (outcome frame conf.bssid)), old.moment)
-      → IfOk r (λ new. IsMade honest reads may_leave moment left_since size stations faults request old new) → IfOk r (λ new. IsReceived honest reads may_leave moment left_since size stations faults interface frame old new)
-  received_ok (Ok new) interface frame conf request old configured asks made = record { conf = conf; configured = configured; requested = record { request = request; asks = asks; made = made } }
-  received_ok (Err why) interface frame conf request old configured asks made = tt
+      → OnOk r (IsMade honest reads may_leave moment left_since size stations faults request old new) → OnOk r (IsReceived honest reads may_leave moment left_since size stations faults interface frame old new)
+  received_ok (Ok x) interface frame conf request old new configured asks made = record { conf = conf; configured = configured; requested = record { request = request; asks = asks; made = made } }
+  received_ok (Err why) interface frame conf request old new configured asks made = tt
 
-  -- it is another moment
-  pub ticked_ok : (r : Result (Standing D R) ScriptFault) (m : Moment) (request : Step) (old at : Standing D R) → at ≡ record old { moment = m } → asked_at request ≡ Some (None, m)
-      → IfOk r (λ new. IsMade honest reads may_leave moment left_since size stations faults request at new) → IfOk r (λ new. IsRequested honest reads may_leave moment left_since size stations faults None (record old { moment = m }) new)
-  ticked_ok (Ok new) m request old at is asks made =
-      record { request = request; asks = asks; made = subst (λ (s : Standing D R). IsMade honest reads may_leave moment left_since size stations faults request s new) is made }
-  ticked_ok (Err why) m request old at is asks made = tt
+  -- something is accepted, or the moment is
+  pub requested_ok : {A : Type 0} (r : Result A ScriptFault) (said : Option (Result Happening QuietReason)) (request : Step) (old new : Standing D R) → asked_at request ≡ Some (said, old.moment)
+      → OnOk r (IsMade honest reads may_leave moment left_since size stations faults request old new) → OnOk r (IsRequested honest reads may_leave moment left_since size stations faults said old new)
+  requested_ok (Ok x) said request old new asks made = record { request = request; asks = asks; made = made }
+  requested_ok (Err why) said request old new asks made = tt
 
-  -- an event is ordered, or a query asked
-  pub ordered_ok : (r : Result (Standing D R) ScriptFault) (request : Step) (event : Happening) (old : Standing D R) → asked_at request ≡ Some (Some (ordered event), old.moment)
-      → IfOk r (λ new. IsMade honest reads may_leave moment left_since size stations faults request old new) → IfOk r (λ new. IsPlaced honest reads may_leave moment left_since size stations faults (Does event) old new)
-  ordered_ok (Ok new) request event old asks made = record { request = request; asks = asks; made = made }
-  ordered_ok (Err why) request event old asks made = tt
-
-  pub placed_ok : (r : Result (Standing D R) ScriptFault) (p q : Placing) (old : Standing D R) → p ≡ q
-      → IfOk r (λ new. IsPlaced honest reads may_leave moment left_since size stations faults q old new) → IfOk r (λ new. IsPlaced honest reads may_leave moment left_since size stations faults p old new)
-  placed_ok r p q old same h = subst (λ x. IfOk r (λ new. IsPlaced honest reads may_leave moment left_since size stations faults x old new)) (sym same) h
+  pub placed_ok : {A : Type 0} (r : Result A ScriptFault) (p q : Placing) (old new : Standing D R) → p ≡ q
+      → OnOk r (IsPlaced honest reads may_leave moment left_since size stations faults q old new) → OnOk r (IsPlaced honest reads may_leave moment left_since size stations faults p old new)
+  placed_ok r p q old new same h = subst (λ x. OnOk r (IsPlaced honest reads may_leave moment left_since size stations faults x old new)) (sym same) h
 
   -- at the interface that is meant, or at none
-  pub meant_ok : (r : Result (Standing D R) ScriptFault) (tag : ℕ) (order : Order) (found : Option Conf) (conf : Conf) (p : Placing) (up : Bool) (old : Standing D R)
+  pub meant_ok : {A : Type 0} (r : Result A ScriptFault) (tag : ℕ) (order : Order) (found : Option Conf) (conf : Conf) (p : Placing) (up : Bool) (old new : Standing D R)
       → found ≡ Some conf → p ≡ placed order conf.bssid up tag → up ≡ is_up_at old conf
-      → IfOk r (λ new. IsPlaced honest reads may_leave moment left_since size stations faults p old new) → IfOk r (λ new. IsMeant honest reads may_leave moment left_since size stations faults tag order found old new)
-  meant_ok r tag order found conf p up old is at up_is h =
-      let here : IfOk r (λ new. IsMeant honest reads may_leave moment left_since size stations faults tag order (Some conf) old new) =
-      placed_ok r (placed order conf.bssid (is_up_at old conf) tag) p old (ap (λ u. placed order conf.bssid u tag) (sym up_is) ∙ sym at) h in
-      subst (λ f. IfOk r (λ new. IsMeant honest reads may_leave moment left_since size stations faults tag order f old new)) (sym is) here
+      → OnOk r (IsPlaced honest reads may_leave moment left_since size stations faults p old new) → OnOk r (IsMeant honest reads may_leave moment left_since size stations faults tag order found old new)
+  meant_ok r tag order found conf p up old new is at up_is h =
+      let here : OnOk r (IsMeant honest reads may_leave moment left_since size stations faults tag order (Some conf) old new) =
+      placed_ok r (placed order conf.bssid (is_up_at old conf) tag) p old new (ap (λ u. placed order conf.bssid u tag) (sym up_is) ∙ sym at) h in
+      subst (λ f. OnOk r (IsMeant honest reads may_leave moment left_since size stations faults tag order f old new)) (sym is) here
 
-  pub unmeant_ok : (r : Result (Standing D R) ScriptFault) (tag : ℕ) (order : Order) (found : Option Conf) (old : Standing D R) → found ≡ None
-      → IfOk r (λ new. new ≡ old) → IfOk r (λ new. IsMeant honest reads may_leave moment left_since size stations faults tag order found old new)
-  unmeant_ok r tag order found old is h = subst (λ f. IfOk r (λ new. IsMeant honest reads may_leave moment left_since size stations faults tag order f old new)) (sym is) h
+  pub unmeant_ok : {A : Type 0} (r : Result A ScriptFault) (tag : ℕ) (order : Order) (found : Option Conf) (old : Standing D R) → found ≡ None
+      → OnOk r (IsMeant honest reads may_leave moment left_since size stations faults tag order found old old)
+  unmeant_ok r tag order found old is = subst (λ f. OnOk r (IsMeant honest reads may_leave moment left_since size stations faults tag order f old old)) (sym is) (on_ok (old ≡ old) r refl)
 
   -- by what a text is as a command
-  pub command_ok : (r : Result (Standing D R) ScriptFault) (tag : ℕ) (text : List ℕ) (read : Result (Option (List ℕ) × Order) Refusal) (old : Standing D R) → read ≡ command_outcome text
-      → IfOk r (λ new. IsCarriedOut honest reads may_leave moment left_since size stations faults tag read old new) → IfOk r (λ new. IsCarriedOut honest reads may_leave moment left_since size stations faults tag (command_outcome text) old new)
-  command_ok r tag text read old is h = subst (λ o. IfOk r (λ new. IsCarriedOut honest reads may_leave moment left_since size stations faults tag o old new)) is h
+  pub command_ok : {A : Type 0} (r : Result A ScriptFault) (tag : ℕ) (text : List ℕ) (read : Result (Option (List ℕ) × Order) Refusal) (old new : Standing D R) → read ≡ command_outcome text
+      → OnOk r (IsCarriedOut honest reads may_leave moment left_since size stations faults tag read old new) → OnOk r (IsCarriedOut honest reads may_leave moment left_since size stations faults tag (command_outcome text) old new)
+  command_ok r tag text read old new is h = subst (λ o. OnOk r (IsCarriedOut honest reads may_leave moment left_since size stations faults tag o old new)) is h
 
   -- a text says what is run
   pub says_ok : (r : Result (Standing D R) ScriptFault) (n : ℕ) (text : List ℕ) (what : Said) (old : Standing D R) → Says text what

@@ -44,25 +44,34 @@ fn read_list_file<R: Files + AllocGlobal>(
     }
 }
 
+/// What is read of the accept file and the deny file that a configuration file names.
+fn read_list_files<R: Files + AllocGlobal>(
+    rt: &R,
+    file: &Option<Sequence<u8>>,
+) -> Result<(Option<Sequence<u8>>, Option<Sequence<u8>>), AllocError> {
+    let Some(bytes) = file else {
+        return Ok((None, None));
+    };
+    let Ok(conf) = read_conf(rt.alloc(), bytes.as_slice()) else {
+        return Ok((None, None));
+    };
+    let accept = read_list_file(rt, &conf.accept_mac_file)?;
+    Ok((accept, read_list_file(rt, &conf.deny_mac_file)?))
+}
+
 /// What is read for one radio: the configuration file of this name, and the list files that it names.
 fn read_files<R: Files + AllocGlobal>(rt: &R, name: &str) -> Result<FilesRead, AllocError>
     ensures { IfOk result (λ read. string_bytes read.name ≡ name.now) }
 {
+    let own_name = String::from_str(rt.alloc(), name)?;
     let file = read_file(rt, name)?;
-    let mut read = FilesRead {
-        name: String::from_str(rt.alloc(), name)?,
+    let (accept, deny) = read_list_files(rt, &file)?;
+    Ok(FilesRead {
+        name: own_name,
         file,
-        accept: None,
-        deny: None,
-    };
-    let Some(bytes) = &read.file else {
-        return Ok(read);
-    };
-    if let Ok(conf) = read_conf(rt.alloc(), bytes.as_slice()) {
-        read.accept = read_list_file(rt, &conf.accept_mac_file)?;
-        read.deny = read_list_file(rt, &conf.deny_mac_file)?;
-    }
-    Ok(read)
+        accept,
+        deny,
+    })
 }
 
 /// The same for each of these names, in their order.

@@ -73,6 +73,25 @@ fn within(length: usize, read: usize) -> Option<usize>
     }
 }
 
+/// Reads the next line, tells how many bytes it has, and counts them. A script that is too long is refused as `Reader`.
+fn next_line<I: BufRead>(
+    reader: &mut I,
+    text: &mut Vec<u8>,
+    count: &mut usize,
+) -> Result<usize, ScriptFault>
+    ensures read { OnOk result (IsRead (I.remaining reader.old) (I.remaining reader.new) text.new.items) }
+    ensures length { IfOk result (λ read. length text.new.items ≡ read) }
+    ensures count { IfOk result (λ read. (count.new ≡ count.old + read) × (count.new ≤ MOST)) }
+    ensures err { IfErr result IsNoBadLine }
+{
+    let read = read_line(reader, text)?;
+    let Some(sum) = within(*count, read) else {
+        return Err(ScriptFault::Reader);
+    };
+    *count = sum;
+    Ok(read)
+}
+
 /// Starts a world at moment 0, runs a script on it, line by line as it comes, and hands the world back.
 /// It reads at most 16,777,217 bytes, and a script that has so many is refused as `Reader`. Each `stop`
 /// takes a radio for each interface from the front of `spares`. A fault ends the script and gives the world
@@ -91,20 +110,19 @@ pub fn run_script<D: Disk + Drop, R: Radio, I: BufRead + Drop, W: Write>(
         (IsFault D.honest D.reads D.may_leave D.moment D.left_since D.size R.stations R.faults
         (I.remaining reader) spares.items world) }
 {
-    let mut standing = Standing::begin(alloc, world, spares).started(writer)?;
+    let mut standing = Standing::begin(alloc, world, spares).gone_on(writer)?;
     let mut reader = reader.take(MAX_SCRIPT as u64 + 1);
     let mut text = Vec::new(alloc);
     let mut length = 0usize;
     for number in 1..u64::MAX {
-        let read = read_line(&mut reader, &mut text)?;
+        let read = match next_line(&mut reader, &mut text, &mut length) {
+            Ok(read) => read,
+            Err(fault) => return standing.given_up(fault),
+        };
         if read == 0 {
             break;
         }
-        let Some(sum) = within(length, read) else {
-            return Err(ScriptFault::Reader);
-        };
-        length = sum;
         standing = standing.ran(writer, number, line_of(text.as_slice()))?;
     }
-    Ok(standing.world)
+    Ok(standing.into_world())
 }

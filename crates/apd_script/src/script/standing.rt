@@ -1,9 +1,9 @@
 //! What a script stands at, and what each of its lines does there.
-ghost use Rattle.std.specs.Prelude.{◌≡◌, ◌≢◌, None, IfErr, IfOk, IfSome, OnOk, Err};
+ghost use Rattle.std.specs.Prelude.{◌≡◌, ◌≢◌, None, IfErr, IfOk, IfSome, OnOk, Err, Ok};
 ghost use Rattle.std.specs.Option.{option_copied};
 ghost use Rattle.apd_ctrl.specs.Placing.{placing};
 ghost use Rattle.apd_ctrl.specs.Reading.{outcome as command_outcome};
-ghost use Rattle.apd_script.specs.Lines.{Received, said};
+ghost use Rattle.apd_script.specs.Lines.{Received, Says, said};
 ghost use Rattle.apd_script.specs.CommandInterface.{conf_meant};
 ghost use Rattle.apd_script.specs.Refused.{refused};
 ghost use Rattle.apd_world.specs.declared.step.Step.TheVariants.{Accept};
@@ -71,6 +71,32 @@ impl<D: Disk + Drop, R: Radio> Standing<D, R> {
         }
     }
 
+    /// Gives the script up, by a fault. Only here is one dropped, since a proof goes through all that it holds.
+    pub fn given_up<T>(self, fault: ScriptFault) -> Result<T, ScriptFault>
+        ensures { result ≡ Err fault }
+    {
+        Err(fault)
+    }
+
+    /// The script, where what was done on it went well. A fault gives it up.
+    pub fn kept(self, done: Result<(), ScriptFault>) -> Result<Standing<D, R>, ScriptFault>
+        ensures ok { OnOk done (result ≡ Ok self) }
+        ensures err { IfErr done (λ fault. result ≡ Err fault) }
+    {
+        match done {
+            Ok(()) => Ok(self),
+            Err(fault) => self.given_up(fault),
+        }
+    }
+
+    /// The world that it ends with.
+    pub fn into_world(self) -> World<D, R>
+        ensures { result ≡ self.world }
+    {
+        let Standing { world, .. } = self;
+        world
+    }
+
     /// Makes a step, which may not lack memory.
     fn made(&mut self, step: &Step<'_>) -> Result<Told, ScriptFault>
         ensures ok { OnOk result
@@ -85,104 +111,101 @@ impl<D: Disk + Drop, R: Radio> Standing<D, R> {
     }
 
     /// Makes a step of a batch. What it tells is printed nowhere, and the first refusal is kept.
-    fn attempted(self, step: &Step<'_>) -> Standing<D, R>
+    fn attempted(&mut self, step: &Step<'_>)
         ensures { IsTried D.honest D.reads D.may_leave D.moment D.left_since D.size R.stations R.faults
-            step.now self result }
+            step.now self.old self.new }
     {
-        let mut standing = self;
-        let told = standing.make(step);
-        standing.refusal = standing.refusal.or(refused(&told));
-        standing
+        let told = self.make(step);
+        self.refusal = self.refusal.or(refused(&told));
     }
 
     /// Prints what was handed out.
     fn printed<W: Write>(
-        self,
+        &self,
         writer: &mut W,
         answers: &[(Recipient, Told)],
-    ) -> Result<Standing<D, R>, ScriptFault>
-        ensures ok { IfOk result (λ new. new ≡ self) }
-        ensures err { IfErr result IsNoBadLine }
+    ) -> Result<(), ScriptFault>
+        ensures { IfErr result IsNoBadLine }
     {
-        write_answers(self.alloc, writer, self.world.confs(), answers).map_err(writer_fault)?;
-        Ok(self)
+        write_answers(self.alloc, writer, self.world.confs(), answers).map_err(writer_fault)
     }
 
     /// Starts the interfaces, and prints what was handed out.
-    pub fn started<W: Write>(self, writer: &mut W) -> Result<Standing<D, R>, ScriptFault>
+    fn started<W: Write>(&mut self, writer: &mut W) -> Result<(), ScriptFault>
+        ensures ok { OnOk result
+            (Starts D.honest D.reads D.may_leave D.moment D.left_since D.size R.stations R.faults self.old self.new) }
+        ensures err { IfErr result IsNoBadLine }
+    {
+        let answers = self.start()?;
+        self.printed(writer, &answers)
+    }
+
+    /// Starts the interfaces of a script, or gives it up.
+    pub fn gone_on<W: Write>(self, writer: &mut W) -> Result<Standing<D, R>, ScriptFault>
         ensures ok { IfOk result
             (λ new. Starts D.honest D.reads D.may_leave D.moment D.left_since D.size R.stations R.faults self new) }
         ensures err { IfErr result IsNoBadLine }
     {
         let mut standing = self;
-        let answers = standing.start()?;
-        standing.printed(writer, &answers)
+        let done = standing.started(writer);
+        standing.kept(done)
     }
 
     /// Hands out what is settled, and prints it.
-    fn handed_out<W: Write>(self, writer: &mut W) -> Result<Standing<D, R>, ScriptFault>
-        ensures ok { IfOk result
-            (λ new. HandsOut D.honest D.reads D.may_leave D.moment D.left_since D.size R.stations R.faults self new) }
+    fn handed_out<W: Write>(&mut self, writer: &mut W) -> Result<(), ScriptFault>
+        ensures ok { OnOk result
+            (HandsOut D.honest D.reads D.may_leave D.moment D.left_since D.size R.stations R.faults self.old self.new) }
         ensures err { IfErr result IsNoBadLine }
     {
-        let mut standing = self;
-        let answers = standing.hand_out()?;
-        standing.printed(writer, &answers)
+        let answers = self.hand_out()?;
+        self.printed(writer, &answers)
     }
 
     /// Commits until nothing is unsettled, hands out and prints that; or tells the first refusal.
-    fn flushed<W: Write>(self, writer: &mut W) -> Result<Standing<D, R>, ScriptFault>
-        ensures ok { IfOk result
-            (λ new. Flushes D.honest D.reads D.may_leave D.moment D.left_since D.size R.stations R.faults self new) }
-        ensures refused { IfSome self.refusal (λ fault. result ≡ Err (ScriptFault.World (WorldFault.Store fault))) }
+    fn flushed<W: Write>(&mut self, writer: &mut W) -> Result<(), ScriptFault>
+        ensures ok { OnOk result
+            (Flushes D.honest D.reads D.may_leave D.moment D.left_since D.size R.stations R.faults self.old self.new) }
+        ensures refused { IfSome self.old.refusal (λ fault. result ≡ Err (ScriptFault.World (WorldFault.Store fault))) }
         ensures err { IfErr result IsNoBadLine }
     {
-        let mut standing = self;
-        if let Some(fault) = standing.refusal {
+        if let Some(fault) = self.refusal {
             return Err(ScriptFault::World(WorldFault::Store(fault)));
         }
-        let answers = standing.flush()?;
-        standing.printed(writer, &answers)
+        let answers = self.flush()?;
+        self.printed(writer, &answers)
     }
 
     /// Prints what the step of a request told.
-    fn answered<W: Write>(self, writer: &mut W, told: &Told) -> Result<Standing<D, R>, ScriptFault>
-        ensures ok { IfOk result (λ new. new ≡ self) }
-        ensures err { IfErr result IsNoBadLine }
+    fn answered<W: Write>(&self, writer: &mut W, told: &Told) -> Result<(), ScriptFault>
+        ensures { IfErr result IsNoBadLine }
     {
-        write_told(self.alloc, writer, told).map_err(writer_fault)?;
-        Ok(self)
+        write_told(self.alloc, writer, told).map_err(writer_fault)
     }
 
     /// Accepts a request at the moment, and prints the answer.
-    fn requested<W: Write>(
-        self,
-        writer: &mut W,
-        input: Input<'_>,
-    ) -> Result<Standing<D, R>, ScriptFault>
-        ensures ok { IfOk result
-            (λ new. IsMade D.honest D.reads D.may_leave D.moment D.left_since D.size R.stations R.faults
-            (Accept input.entry self.moment) self new) }
+    fn requested<W: Write>(&mut self, writer: &mut W, input: Input<'_>) -> Result<(), ScriptFault>
+        ensures ok { OnOk result
+            (IsMade D.honest D.reads D.may_leave D.moment D.left_since D.size R.stations R.faults
+            (Accept input.entry self.old.moment) self.old self.new) }
         ensures err { IfErr result IsNoBadLine }
     {
-        let mut standing = self;
-        let step = Step::Accept(input, standing.moment);
-        let told = standing.made(&step)?;
-        standing.answered(writer, &told)
+        let step = Step::Accept(input, self.moment);
+        let told = self.made(&step)?;
+        self.answered(writer, &told)
     }
 
     /// Accepts the frame of a line.
     fn received<W: Write>(
-        self,
+        &mut self,
         writer: &mut W,
         number: u64,
         interface: &[u8],
         frame: &[u8],
-    ) -> Result<Standing<D, R>, ScriptFault>
-        ensures ok { IfOk result
-            (λ new. IsReceived D.honest D.reads D.may_leave D.moment D.left_since D.size R.stations R.faults
-            interface.now frame.now self new) }
-        ensures err { IfErr result (IsSaidFault number (Received interface.now frame.now) self) }
+    ) -> Result<(), ScriptFault>
+        ensures ok { OnOk result
+            (IsReceived D.honest D.reads D.may_leave D.moment D.left_since D.size R.stations R.faults
+            interface.now frame.now self.old self.new) }
+        ensures err { IfErr result (IsSaidFault number (Received interface.now frame.now) self.old) }
     {
         let Some(conf) = self.world.confs().with_interface(interface) else {
             return Err(ScriptFault::BadLine(number));
@@ -193,59 +216,49 @@ impl<D: Disk + Drop, R: Radio> Standing<D, R> {
 
     /// Prints what the step of a command told.
     fn command_answered<W: Write>(
-        self,
+        &self,
         writer: &mut W,
         tag: u64,
         told: &Told,
-    ) -> Result<Standing<D, R>, ScriptFault>
-        ensures ok { IfOk result (λ new. new ≡ self) }
-        ensures err { IfErr result IsNoBadLine }
+    ) -> Result<(), ScriptFault>
+        ensures { IfErr result IsNoBadLine }
     {
-        write_command_told(self.alloc, writer, tag, told).map_err(writer_fault)?;
-        Ok(self)
+        write_command_told(self.alloc, writer, tag, told).map_err(writer_fault)
     }
 
     /// Makes the step of a command, and prints what it told.
     fn carried_out<W: Write>(
-        self,
+        &mut self,
         writer: &mut W,
         tag: u64,
         step: &Step<'_>,
-    ) -> Result<Standing<D, R>, ScriptFault>
-        ensures ok { IfOk result
-            (λ new. IsMade D.honest D.reads D.may_leave D.moment D.left_since D.size R.stations R.faults
-            step.now self new) }
+    ) -> Result<(), ScriptFault>
+        ensures ok { OnOk result
+            (IsMade D.honest D.reads D.may_leave D.moment D.left_since D.size R.stations R.faults
+            step.now self.old self.new) }
         ensures err { IfErr result IsNoBadLine }
     {
-        let mut standing = self;
-        let told = standing.made(step)?;
-        standing.command_answered(writer, tag, &told)
+        let told = self.made(step)?;
+        self.command_answered(writer, tag, &told)
     }
 
     /// Prints the refusal of a command.
-    fn replied<W: Write>(
-        self,
-        writer: &mut W,
-        tag: u64,
-        text: &[u8],
-    ) -> Result<Standing<D, R>, ScriptFault>
-        ensures ok { IfOk result (λ new. new ≡ self) }
-        ensures err { IfErr result IsNoBadLine }
+    fn replied<W: Write>(&self, writer: &mut W, tag: u64, text: &[u8]) -> Result<(), ScriptFault>
+        ensures { IfErr result IsNoBadLine }
     {
-        write_reply(self.alloc, writer, tag, text).map_err(writer_fault)?;
-        Ok(self)
+        write_reply(self.alloc, writer, tag, text).map_err(writer_fault)
     }
 
     /// Makes the step that becomes of a command.
     fn placed<W: Write>(
-        self,
+        &mut self,
         writer: &mut W,
         tag: u64,
         what: Placed,
-    ) -> Result<Standing<D, R>, ScriptFault>
-        ensures ok { IfOk result
-            (λ new. IsPlaced D.honest D.reads D.may_leave D.moment D.left_since D.size R.stations R.faults
-            (placing what) self new) }
+    ) -> Result<(), ScriptFault>
+        ensures ok { OnOk result
+            (IsPlaced D.honest D.reads D.may_leave D.moment D.left_since D.size R.stations R.faults
+            (placing what) self.old self.new) }
         ensures err { IfErr result IsNoBadLine }
     {
         match what {
@@ -262,15 +275,15 @@ impl<D: Disk + Drop, R: Radio> Standing<D, R> {
 
     /// Carries out a control command at the interface that it means, if it is configured.
     fn meant<W: Write>(
-        self,
+        &mut self,
         writer: &mut W,
         tag: u64,
         interface: Option<&[u8]>,
         command: Command,
-    ) -> Result<Standing<D, R>, ScriptFault>
-        ensures ok { IfOk result
-            (λ new. IsMeant D.honest D.reads D.may_leave D.moment D.left_since D.size R.stations R.faults tag command
-            (conf_meant (confs_of self) (option_copied interface.entry)) self new) }
+    ) -> Result<(), ScriptFault>
+        ensures ok { OnOk result
+            (IsMeant D.honest D.reads D.may_leave D.moment D.left_since D.size R.stations R.faults tag command
+            (conf_meant (confs_of self.old) (option_copied interface.entry)) self.old self.new) }
         ensures err { IfErr result IsNoBadLine }
     {
         let Some(conf) = conf_meant(self.world.confs(), interface) else {
@@ -283,14 +296,14 @@ impl<D: Disk + Drop, R: Radio> Standing<D, R> {
 
     /// Carries out a text as a control command.
     fn commanded<W: Write>(
-        self,
+        &mut self,
         writer: &mut W,
         tag: u64,
         text: &[u8],
-    ) -> Result<Standing<D, R>, ScriptFault>
-        ensures ok { IfOk result
-            (λ new. IsCarriedOut D.honest D.reads D.may_leave D.moment D.left_since D.size R.stations R.faults tag
-            (command_outcome text.now) self new) }
+    ) -> Result<(), ScriptFault>
+        ensures ok { OnOk result
+            (IsCarriedOut D.honest D.reads D.may_leave D.moment D.left_since D.size R.stations R.faults tag
+            (command_outcome text.now) self.old self.new) }
         ensures err { IfErr result IsNoBadLine }
     {
         match parse_command(text) {
@@ -301,18 +314,45 @@ impl<D: Disk + Drop, R: Radio> Standing<D, R> {
     }
 
     /// It is this moment from now on.
-    fn ticked<W: Write>(self, writer: &mut W, moment: Moment) -> Result<Standing<D, R>, ScriptFault>
-        ensures ok { IfOk result
-            (λ new. IsRequested D.honest D.reads D.may_leave D.moment D.left_since D.size R.stations R.faults None
-            (record self { moment = moment }) new) }
+    fn ticked<W: Write>(&mut self, writer: &mut W, moment: Moment) -> Result<(), ScriptFault>
+        ensures ok { OnOk result
+            (IsRequested D.honest D.reads D.may_leave D.moment D.left_since D.size R.stations R.faults None
+            (record self.old { moment = moment }) self.new) }
         ensures err { IfErr result IsNoBadLine }
     {
-        let mut standing = self;
-        standing.moment = moment;
-        standing.requested(writer, Input::Tick)
+        self.moment = moment;
+        self.requested(writer, Input::Tick)
     }
 
-    /// Does what a line says.
+    /// Does what a line says that is no stop.
+    fn acted<W: Write>(
+        &mut self,
+        writer: &mut W,
+        number: u64,
+        line: &Line<'_>,
+    ) -> Result<(), ScriptFault>
+        ensures ok { line.now ≢ Line.Stop → OnOk result
+            (IsRun D.honest D.reads D.may_leave D.moment D.left_since D.size R.stations R.faults number
+            (said line.now) self.old self.new) }
+        ensures err { IfErr result (IsSaidFault number (said line.now) self.old) }
+    {
+        match line {
+            Line::Received { interface, frame } => {
+                self.received(writer, number, interface, frame.as_slice())
+            }
+            Line::Command(text) => self.commanded(writer, number, text),
+            Line::Tick(moment) => self.ticked(writer, *moment),
+            Line::Hand => self.handed_out(writer),
+            Line::Flush => self.flushed(writer),
+            Line::Take => Ok(self.attempted(&Step::Take)),
+            Line::Call => Ok(self.attempted(&Step::Call)),
+            Line::Publish => Ok(self.attempted(&Step::Publish)),
+            Line::Empty => Ok(()),
+            Line::Stop => Ok(()),
+        }
+    }
+
+    /// Does what a line says. A fault gives the script up.
     fn done<W: Write>(
         self,
         writer: &mut W,
@@ -325,22 +365,27 @@ impl<D: Disk + Drop, R: Radio> Standing<D, R> {
         ensures err { IfErr result (IsSaidFault number (said line.now) self) }
     {
         match line {
-            Line::Empty => Ok(self),
-            Line::Received { interface, frame } => {
-                self.received(writer, number, interface, frame.as_slice())
-            }
-            Line::Command(text) => self.commanded(writer, number, text),
-            Line::Tick(moment) => self.ticked(writer, *moment),
-            Line::Take => Ok(self.attempted(&Step::Take)),
-            Line::Call => Ok(self.attempted(&Step::Call)),
-            Line::Publish => Ok(self.attempted(&Step::Publish)),
-            Line::Hand => self.handed_out(writer),
-            Line::Flush => self.flushed(writer),
             Line::Stop => self.stopped(writer, number),
+            _ => {
+                let mut standing = self;
+                let done = standing.acted(writer, number, line);
+                standing.kept(done)
+            }
         }
     }
 
-    /// Runs the line of a number.
+    /// What a text says as a line.
+    fn parsed<'a>(&self, number: u64, text: &'a [u8]) -> Result<Line<'a>, ScriptFault>
+        ensures ok { IfOk result (λ line. Says text.now (said line)) }
+        ensures err { IfErr result (IsLineFault number text.now self.now) }
+    {
+        match parse_line(self.alloc, text)? {
+            Some(line) => Ok(line),
+            None => Err(ScriptFault::BadLine(number)),
+        }
+    }
+
+    /// Runs the line of a number. A fault gives the script up.
     pub fn ran<W: Write>(
         self,
         writer: &mut W,
@@ -354,9 +399,9 @@ impl<D: Disk + Drop, R: Radio> Standing<D, R> {
     {
         exactly_one_line();
         self.world.shown();
-        match parse_line(self.alloc, text)? {
-            Some(line) => self.done(writer, number, &line),
-            None => Err(ScriptFault::BadLine(number)),
+        match self.parsed(number, text) {
+            Ok(line) => self.done(writer, number, &line),
+            Err(fault) => self.given_up(fault),
         }
     }
 }

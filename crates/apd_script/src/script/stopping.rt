@@ -2,6 +2,8 @@
 ghost use Rattle.std.specs.Prelude.{◌≡◌, ◌<◌, IfErr, IfNone, IfOk, IfSome, drop, length, map};
 ghost use Rattle.apd_slot.specs.Slots.{bssid_of};
 ghost use Rattle.apd_script.specs.Lines.{Stop};
+ghost use Rattle.apd_world.specs.Outside.{device_of};
+ghost use Rattle.apd_world.specs.WorldParts.{durable_of};
 
 use super::beginning::begun;
 use super::fault::{ScriptFault, writer_fault};
@@ -12,6 +14,7 @@ use apd_disk::Disk;
 use apd_radio::Radio;
 use apd_slot::Slot;
 use apd_store::an_image_shows_one_state;
+use apd_world::World;
 use std::alloc::{AllocError, Global};
 use std::collections::VecDeque;
 use std::io::Write;
@@ -38,6 +41,14 @@ fn fresh_slots<R: Radio>(
     Ok(Some(slots))
 }
 
+/// The device of a world that is given up.
+fn device_of<D: Disk, R: Radio>(world: World<D, R>) -> D
+    ensures { result ≡ device_of (durable_of world) }
+{
+    let (flusher, _core, _slots) = world.into_parts();
+    flusher.into_device()
+}
+
 impl<D: Disk + Drop, R: Radio> Standing<D, R> {
     ghost use Rattle.apd_script.specs.Script.{AreRenewed, IsNoBadLine, IsRestarted, IsSaidFault, Restarts, Stops, confs_of};
 
@@ -60,8 +71,7 @@ impl<D: Disk + Drop, R: Radio> Standing<D, R> {
             spares,
             ..
         } = self;
-        let (flusher, _core, _slots) = world.into_parts();
-        let world = begun(alloc, flusher.into_device(), confs, slots, moment)?;
+        let world = begun(alloc, device_of(world), confs, slots, moment)?;
         Ok(Standing {
             alloc,
             world,
@@ -90,18 +100,26 @@ impl<D: Disk + Drop, R: Radio> Standing<D, R> {
         ensures err { IfErr result (IsSaidFault number Stop self) }
     {
         let mut standing = self;
-        let (confs, slots) = standing.renewed(number)?;
-        standing.restarted(confs, slots)
+        match standing.renewed(number) {
+            Ok((confs, slots)) => standing.restarted(confs, slots),
+            Err(fault) => standing.given_up(fault),
+        }
     }
 
     /// Prints how many station rows the device held.
+    fn rows_printed<W: Write>(&self, writer: &mut W) -> Result<(), ScriptFault>
+        ensures { IfErr result IsNoBadLine }
+    {
+        write_recovered(self.alloc, writer, self.world.table().rows()).map_err(writer_fault)
+    }
+
+    /// The same, with the script handed back.
     fn recovered<W: Write>(self, writer: &mut W) -> Result<Standing<D, R>, ScriptFault>
         ensures ok { IfOk result (λ new. new ≡ self) }
         ensures err { IfErr result IsNoBadLine }
     {
-        let rows = self.world.table().rows();
-        write_recovered(self.alloc, writer, rows).map_err(writer_fault)?;
-        Ok(self)
+        let printed = self.rows_printed(writer);
+        self.kept(printed)
     }
 
     /// Stops and restarts, prints how many station rows the device held, and starts the interfaces.
@@ -115,6 +133,6 @@ impl<D: Disk + Drop, R: Radio> Standing<D, R> {
         ensures err { IfErr result (IsSaidFault number Stop self) }
     {
         let standing = self.begun_anew(number)?.recovered(writer)?;
-        standing.started(writer)
+        standing.gone_on(writer)
     }
 }

@@ -5,7 +5,7 @@ use Rattle.std.specs.Io.Take.{take_remaining}
 use Rattle.apd_script.specs.Script.{IsFault}
 use Rattle.apd_script.proofs.Running.{begins_so_far, ends_so_far, fails_elsewhere, fails_so_far, further_so_far}
 use Rattle.apd_script.proofs.script.run_script.Goals as goal
-use Rattle.apd_script.proofs.script.run_script.Goals.{else-loop-number-test, then-loop-number-test+in_ok-read+then-read-eq0}
+use Rattle.apd_script.proofs.script.run_script.Goals.{else-loop-number-test, then-loop-number-test+in-Ok+then-read-eq0}
 
 pub loop-number-init : goal.loop-number-init
 loop-number-init g c =
@@ -16,33 +16,34 @@ loop-number-init g c =
 
 pub loop-number-preserved : goal.loop-number-preserved
 loop-number-preserved g c =
-    let some : 0 < c.in_ok-read.read = omega (arith, c.if-read-eq0.false) in
-    further_so_far g.D.Disk.honest g.D.Disk.reads g.D.Disk.may_leave g.D.Disk.moment g.D.Disk.left_since g.D.Disk.size g.R.Radio.stations g.R.Radio.faults (g.I.Read.remaining c.args.reader) (take_remaining g.I.Read.remaining c.loop-number.reader) (take_remaining g.I.Read.remaining c.read_line.new.reader)
-    c.loop-number.number c.loop-number.length c.in_ok-read.read c.in-Some.sum c.args.spares.items c.args.world c.loop-number.standing c.in_ok-standing-2.standing c.read_line.new.text.items
-    c.loop-number.invariant c.in_ok-read.ensures.read c.in_ok-read.ensures.length some c.in-Some.ensures.some (rw (c.line_of.ensures, c.as_slice.ensures.value) at c.in_ok-standing-2.ensures.ok)
+    let some : 0 < c.in-Ok.read = omega (arith, c.if-read-eq0.false) in
+    further_so_far g.D.Disk.honest g.D.Disk.reads g.D.Disk.may_leave g.D.Disk.moment g.D.Disk.left_since g.D.Disk.size g.R.Radio.stations g.R.Radio.faults (g.I.Read.remaining c.args.reader) (take_remaining g.I.Read.remaining c.loop-number.reader) (take_remaining g.I.Read.remaining c.next_line.new.reader)
+    c.loop-number.number c.loop-number.length c.in-Ok.read c.next_line.new.count c.args.spares.items c.args.world c.loop-number.standing c.in_ok-standing-2.standing c.next_line.new.text.items
+    c.loop-number.invariant c.in-Ok.ensures.read c.in-Ok.ensures.length some c.in-Ok.ensures.count (rw (c.line_of.ensures, c.as_slice.ensures.value) at c.in_ok-standing-2.ensures.ok)
 
 pub returns-in_err-standing-2-clause-fault : goal.returns-in_err-standing-2-clause-fault
 returns-in_err-standing-2-clause-fault g c =
-    let some : 0 < c.in_ok-read.read = omega (arith, c.if-read-eq0.false) in
-    let fails = fails_so_far g.D.Disk.honest g.D.Disk.reads g.D.Disk.may_leave g.D.Disk.moment g.D.Disk.left_since g.D.Disk.size g.R.Radio.stations g.R.Radio.faults c.in_err-standing-2.field-0.0 (g.I.Read.remaining c.args.reader) (take_remaining g.I.Read.remaining c.loop-number.reader) (take_remaining g.I.Read.remaining c.read_line.new.reader)
-    c.loop-number.number c.loop-number.length c.in_ok-read.read c.in-Some.sum c.args.spares.items c.args.world c.loop-number.standing c.read_line.new.text.items
-    c.loop-number.invariant c.in_ok-read.ensures.read c.in_ok-read.ensures.length some c.in-Some.ensures.some (rw (c.line_of.ensures, c.as_slice.ensures.value) at c.in_err-standing-2.ensures.err) in
+    let some : 0 < c.in-Ok.read = omega (arith, c.if-read-eq0.false) in
+    let fails = fails_so_far g.D.Disk.honest g.D.Disk.reads g.D.Disk.may_leave g.D.Disk.moment g.D.Disk.left_since g.D.Disk.size g.R.Radio.stations g.R.Radio.faults c.in_err-standing-2.field-0.0 (g.I.Read.remaining c.args.reader) (take_remaining g.I.Read.remaining c.loop-number.reader) (take_remaining g.I.Read.remaining c.next_line.new.reader)
+    c.loop-number.number c.loop-number.length c.in-Ok.read c.next_line.new.count c.args.spares.items c.args.world c.loop-number.standing c.next_line.new.text.items
+    c.loop-number.invariant c.in-Ok.ensures.read c.in-Ok.ensures.length some c.in-Ok.ensures.count (rw (c.line_of.ensures, c.as_slice.ensures.value) at c.in_err-standing-2.ensures.err) in
     let told = err_from_is_err_and c.from_residual-in_err-standing-2.result c.from_residual-in_err-standing-2.ensures.1 in
     subst (λ r. IfErr r (IsFault g.D.Disk.honest g.D.Disk.reads g.D.Disk.may_leave g.D.Disk.moment g.D.Disk.left_since g.D.Disk.size g.R.Radio.stations g.R.Radio.faults (g.I.Read.remaining c.args.reader) c.args.spares.items c.args.world)) (sym (told.1 ∙ ap Err told.2)) fails
 
-pub returns-in_err-read-clause-fault : goal.returns-in_err-read-clause-fault
-returns-in_err-read-clause-fault g c =
-    let told = err_from_is_err_and c.from_residual-in_err-read.result c.from_residual-in_err-read.ensures.1 in
-    subst (λ r. IfErr r (IsFault g.D.Disk.honest g.D.Disk.reads g.D.Disk.may_leave g.D.Disk.moment g.D.Disk.left_since g.D.Disk.size g.R.Radio.stations g.R.Radio.faults (g.I.Read.remaining c.args.reader) c.args.spares.items c.args.world)) (sym (told.1 ∙ ap Err told.2))
-    (fails_elsewhere g.D.Disk.honest g.D.Disk.reads g.D.Disk.may_leave g.D.Disk.moment g.D.Disk.left_since g.D.Disk.size g.R.Radio.stations g.R.Radio.faults c.in_err-read.field-0.0 (g.I.Read.remaining c.args.reader) c.args.spares.items c.args.world c.in_err-read.ensures.err)
+pub returns-in-Err-clause-ends : goal.returns-in-Err-clause-ends
+returns-in-Err-clause-ends g c = rw c.given_up.ensures tt
+
+pub returns-in-Err-clause-fault : goal.returns-in-Err-clause-fault
+returns-in-Err-clause-fault g c =
+    rw c.given_up.ensures (fails_elsewhere g.D.Disk.honest g.D.Disk.reads g.D.Disk.may_leave g.D.Disk.moment g.D.Disk.left_since g.D.Disk.size g.R.Radio.stations g.R.Radio.faults c.in-Err.fault (g.I.Read.remaining c.args.reader) c.args.spares.items c.args.world c.in-Err.ensures.err)
 
 pub returns-clause-ends : goal.returns-clause-ends
 returns-clause-ends g c =
     let so_far = c.loop-number.invariant in
-    elim c.loop-number-test.branch [
+    rw c.into_world.ensures (elim c.loop-number-test.branch [
       | else-loop-number-test w ↦ absurd (omega (arith, so_far.counted, so_far.short, so_far.fits, w.loop-number-test.false))
-      | then-loop-number-test+in_ok-read+then-read-eq0 w ↦
-          ends_so_far g.D.Disk.honest g.D.Disk.reads g.D.Disk.may_leave g.D.Disk.moment g.D.Disk.left_since g.D.Disk.size g.R.Radio.stations g.R.Radio.faults (g.I.Read.remaining c.args.reader) (take_remaining g.I.Read.remaining c.loop-number.reader) (take_remaining g.I.Read.remaining w.read_line.new.reader)
-          c.loop-number.number c.loop-number.length c.args.spares.items c.args.world c.loop-number.standing w.read_line.new.text.items
-          so_far w.in_ok-read.ensures.read (w.in_ok-read.ensures.length ∙ w.if-read-eq0.true)
-    ]
+      | then-loop-number-test+in-Ok+then-read-eq0 w ↦
+          ends_so_far g.D.Disk.honest g.D.Disk.reads g.D.Disk.may_leave g.D.Disk.moment g.D.Disk.left_since g.D.Disk.size g.R.Radio.stations g.R.Radio.faults (g.I.Read.remaining c.args.reader) (take_remaining g.I.Read.remaining c.loop-number.reader) (take_remaining g.I.Read.remaining w.next_line.new.reader)
+          c.loop-number.number c.loop-number.length c.args.spares.items c.args.world c.loop-number.standing w.next_line.new.text.items
+          so_far w.in-Ok.ensures.read (w.in-Ok.ensures.length ∙ w.if-read-eq0.true)
+    ])

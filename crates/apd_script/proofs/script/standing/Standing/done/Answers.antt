@@ -1,48 +1,19 @@
 use Rattle.apd_script.specs.Lines.{said}
-use Rattle.apd_script.proofs.Doing.{all_elsewhere}
+use Rattle.apd_script.specs.Script.{IsRun, IsSaidFault}
+use Rattle.apd_script.proofs.Doing.{kept_err, kept_ok}
 use Rattle.apd_script.proofs.script.standing.Standing.done.Goals as goal
-
-pub returns-in-Received-clause-ok : goal.returns-in-Received-clause-ok
-returns-in-Received-clause-ok g c = rw c.in-Received.is (rw c.as_slice.ensures at c.received.ensures.ok)
-
-pub returns-in-Received-clause-err : goal.returns-in-Received-clause-err
-returns-in-Received-clause-err g c = rw c.in-Received.is c.received.ensures.err
-
-pub returns-in-Command-clause-ok : goal.returns-in-Command-clause-ok
-returns-in-Command-clause-ok g c = rw c.in-Command.is c.commanded.ensures.ok
-
-pub returns-in-Command-clause-err : goal.returns-in-Command-clause-err
-returns-in-Command-clause-err g c = all_elsewhere c.commanded.result c.args.number (said c.args.line.now) c.args.self c.commanded.ensures.err
-
-pub returns-in-Tick-clause-ok : goal.returns-in-Tick-clause-ok
-returns-in-Tick-clause-ok g c = rw c.in-Tick.is c.ticked.ensures.ok
-
-pub returns-in-Tick-clause-err : goal.returns-in-Tick-clause-err
-returns-in-Tick-clause-err g c = all_elsewhere c.ticked.result c.args.number (said c.args.line.now) c.args.self c.ticked.ensures.err
-
-pub returns-in-Take-clause-ok : goal.returns-in-Take-clause-ok
-returns-in-Take-clause-ok g c = rw c.in-Take.is c.attempted.ensures
-
-pub returns-in-Call-clause-ok : goal.returns-in-Call-clause-ok
-returns-in-Call-clause-ok g c = rw c.in-Call.is c.attempted-in-Call.ensures
-
-pub returns-in-Publish-clause-ok : goal.returns-in-Publish-clause-ok
-returns-in-Publish-clause-ok g c = rw c.in-Publish.is c.attempted-in-Publish.ensures
-
-pub returns-in-Hand-clause-ok : goal.returns-in-Hand-clause-ok
-returns-in-Hand-clause-ok g c = rw c.in-Hand.is c.handed_out.ensures.ok
-
-pub returns-in-Hand-clause-err : goal.returns-in-Hand-clause-err
-returns-in-Hand-clause-err g c = all_elsewhere c.handed_out.result c.args.number (said c.args.line.now) c.args.self c.handed_out.ensures.err
-
-pub returns-in-Flush-clause-ok : goal.returns-in-Flush-clause-ok
-returns-in-Flush-clause-ok g c = rw c.in-Flush.is c.flushed.ensures.ok
-
-pub returns-in-Flush-clause-err : goal.returns-in-Flush-clause-err
-returns-in-Flush-clause-err g c = all_elsewhere c.flushed.result c.args.number (said c.args.line.now) c.args.self c.flushed.ensures.err
 
 pub returns-in-Stop-clause-ok : goal.returns-in-Stop-clause-ok
 returns-in-Stop-clause-ok g c = rw c.in-Stop.is c.stopped.ensures.ok
 
 pub returns-in-Stop-clause-err : goal.returns-in-Stop-clause-err
 returns-in-Stop-clause-err g c = rw c.in-Stop.is c.stopped.ensures.err
+
+pub returns-in_default-clause-ok : goal.returns-in_default-clause-ok
+returns-in_default-clause-ok g c =
+    kept_ok (IsRun g.D.Disk.honest g.D.Disk.reads g.D.Disk.may_leave g.D.Disk.moment g.D.Disk.left_since g.D.Disk.size g.R.Radio.stations g.R.Radio.faults c.args.number (said c.args.line.now) c.args.self) c.acted-done.result c.kept.result c.acted-done.new.self c.kept.ensures.ok c.kept.ensures.err
+    (c.acted-done.ensures.ok c.in_default.not-Stop)
+
+pub returns-in_default-clause-err : goal.returns-in_default-clause-err
+returns-in_default-clause-err g c =
+    kept_err (IsSaidFault c.args.number (said c.args.line.now) c.args.self) c.acted-done.result c.kept.result c.acted-done.new.self c.kept.ensures.ok c.kept.ensures.err c.acted-done.ensures.err

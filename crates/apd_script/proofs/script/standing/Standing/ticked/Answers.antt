@@ -1,10 +1,9 @@
-use Rattle.std.proofs.Common.{refl}
+use Rattle.std.proofs.Common.{None, refl}
 use Rattle.apd_core.specs.declared.input.Input.TheVariants as input
 use Rattle.apd_world.specs.declared.step.Step.TheVariants.{Accept}
-use Rattle.apd_script.proofs.Doing.{ticked_ok}
+use Rattle.apd_script.proofs.Doing.{requested_ok}
 use Rattle.apd_script.proofs.script.standing.Standing.ticked.Goals as goal
 
 pub returns-clause-ok : goal.returns-clause-ok
 returns-clause-ok g c =
-    ticked_ok g.D.Disk.honest g.D.Disk.reads g.D.Disk.may_leave g.D.Disk.moment g.D.Disk.left_since g.D.Disk.size g.R.Radio.stations g.R.Radio.faults c.requested.result c.args.moment (Accept input.Tick c.args.moment) c.args.self
-    (record c.args.self { moment = c.args.moment }) refl refl c.requested.ensures.ok
+    requested_ok g.D.Disk.honest g.D.Disk.reads g.D.Disk.may_leave g.D.Disk.moment g.D.Disk.left_since g.D.Disk.size g.R.Radio.stations g.R.Radio.faults c.requested.result None (Accept input.Tick c.args.moment) (record c.args.self.now { moment = c.args.moment }) c.requested.new.self refl c.requested.ensures.ok
