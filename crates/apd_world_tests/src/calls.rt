@@ -1,0 +1,92 @@
+//! Calls whose contracts are long, each by a function of its own without a clause, so that the proof of a test needn't
+//! carry them.
+use apd_base::Moment;
+use apd_conf::{Conf, Confs};
+use apd_core::Core;
+use apd_disk::{Disk, MemDisk};
+use apd_flusher::Flusher;
+use apd_radio::{Radio, Sim};
+use apd_slot::Slot;
+use apd_store::{Store, format};
+use apd_table::Table;
+use apd_world::{Step, Told, World, WorldFault, drive, restart};
+use std::alloc::Global;
+
+/// A world on a device of memory, with radios that do nothing.
+pub(crate) type Memory = World<MemDisk, Sim>;
+
+/// What a restart that is refused hands back.
+pub(crate) type Refused = (MemDisk, Vec<Slot<Sim>>, WorldFault);
+
+/// The number of a device's bytes.
+const LENGTH: usize = 2_097_216;
+
+// No clause says what the disk holds: a proof would go through two million bytes.
+pub(crate) fn blank_disk(alloc: Global) -> Option<MemDisk> {
+    MemDisk::new(alloc, vec![in alloc; 0u8; LENGTH].ok()?).ok()
+}
+
+/// The store of a device that is formatted.
+pub(crate) fn store<D: Disk + Drop>(alloc: Global, disk: D) -> Option<Store<D>> {
+    format(alloc, disk).ok()
+}
+
+/// A list of configurations that is taken.
+pub(crate) fn confs_of(list: Vec<Conf>) -> Option<Confs> {
+    Confs::new(list).ok()
+}
+
+/// A flusher of a new store.
+pub(crate) fn flusher<D: Disk + Drop>(alloc: Global, store: Store<D>) -> Option<Flusher<D>> {
+    Flusher::new(alloc, store, Table::new(alloc)).ok()
+}
+
+/// A core of the empty table.
+pub(crate) fn core(alloc: Global, confs: Confs) -> Option<Core> {
+    Core::new(alloc, Table::new(alloc), confs, Moment(0)).ok()
+}
+
+/// A world of these, of which no interface was started.
+pub(crate) fn joined<D: Disk, R: Radio>(
+    alloc: Global,
+    flusher: Flusher<D>,
+    core: Core,
+    slots: Vec<Slot<R>>,
+) -> World<D, R> {
+    World::new(alloc, flusher, core, slots)
+}
+
+/// The world of the store that a device holds.
+pub(crate) fn restarted(
+    alloc: Global,
+    device: MemDisk,
+    confs: Confs,
+    slots: Vec<Slot<Sim>>,
+) -> Result<Memory, Refused> {
+    restart(alloc, device, confs, slots, Moment(0))
+}
+
+/// Why a start is refused; none where it is not.
+pub(crate) fn refusal<D: Disk, R: Radio>(world: &mut World<D, R>) -> Option<WorldFault> {
+    world.start().err()
+}
+
+/// What these steps tell.
+pub(crate) fn told<D: Disk, R: Radio>(
+    world: &mut World<D, R>,
+    steps: &[Step<'_>],
+) -> Option<Vec<Told>> {
+    drive(world, steps).ok()
+}
+
+/// The device of a world that stops.
+pub(crate) fn device<R: Radio>(world: World<MemDisk, R>) -> MemDisk {
+    let (flusher, _core, _slots) = world.into_parts();
+    flusher.into_device()
+}
+
+/// Its slots.
+pub(crate) fn slots_of(world: Memory) -> Vec<Slot<Sim>> {
+    let (_flusher, _core, slots) = world.into_parts();
+    slots
+}

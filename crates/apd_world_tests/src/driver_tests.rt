@@ -1,0 +1,195 @@
+//! What the drivers are told of a run, and of the next one.
+use crate::calls::{Memory, slots_of};
+use crate::steps::{
+    ASSOCIATES, ASSOCIATES_ELSEWHERE, AT_WLAN0, AT_WLAN1, AUTHENTICATES, AUTHENTICATES_ELSEWHERE,
+    COMMITS, STATION, TO_WLAN0, TO_WLAN1, WLAN0, WLAN1,
+};
+use crate::worlds::{recovered, started_with, stopped};
+use apd_base::Bssid;
+use apd_disk::MemDisk;
+use apd_radio::{Recording, Sim};
+use apd_slot::Slot;
+use apd_world::Step;
+use std::alloc::Global;
+use std::test::Fail;
+
+type Recorded<'a> = Slot<Recording<Sim, &'a mut Vec<u8>>>;
+
+/// A slot whose radio writes down what it is told.
+fn recorded(alloc: Global, bssid: Bssid, written: &mut Vec<u8>) -> Recorded<'_> {
+    let radio = Recording::new(alloc, Sim::new(alloc), written);
+    Slot::new(alloc, radio, bssid)
+}
+
+/// Slots for two BSSIDs. What their radios are told is written.
+fn both<'a>(
+    alloc: Global,
+    first: &'a mut Vec<u8>,
+    second: &'a mut Vec<u8>,
+) -> Option<Vec<Recorded<'a>>> {
+    let mut slots = Vec::new(alloc);
+    slots.push(recorded(alloc, WLAN0, first)).ok()?;
+    slots.push(recorded(alloc, WLAN1, second)).ok()?;
+    Some(slots)
+}
+
+/// The device after these steps of a world of two radios. What they are told is written.
+fn device_after(
+    alloc: Global,
+    steps: &[Step<'static>],
+    first: &mut Vec<u8>,
+    second: &mut Vec<u8>,
+) -> Option<MemDisk> {
+    let slots = both(alloc, first, second)?;
+    stopped(started_with(alloc, &[1, 2], slots)?, steps)
+}
+
+/// What both radios are told of these steps, until their world ends.
+fn told_of(alloc: Global, steps: &[Step<'static>]) -> Option<[Vec<u8>; 2]> {
+    let (mut first, mut second) = (Vec::new(alloc), Vec::new(alloc));
+    let _device = device_after(alloc, steps, &mut first, &mut second)?;
+    Some([first, second])
+}
+
+fn nothing() -> &'static [u8] {
+    b"down\ndown\n"
+}
+
+#[test]
+fn nothing_is_sent_of_what_was_not_handed_out(rt: HostRuntime) -> Result<(), Fail> {
+    let [first, second] = told_of(rt.alloc(), &COMMITS).ok_or("memory")?;
+    assert_eq!(rt; first.as_slice(), nothing());
+    assert_eq!(rt; second.as_slice(), nothing());
+    Ok(())
+}
+
+/// A station authenticates, and then associates.
+const JOINS: [Step<'static>; 19] = [
+    AUTHENTICATES,
+    Step::Take,
+    Step::Call,
+    Step::Call,
+    Step::Call,
+    Step::Call,
+    Step::Publish,
+    TO_WLAN0,
+    AT_WLAN0,
+    ASSOCIATES,
+    Step::Take,
+    Step::Call,
+    Step::Call,
+    Step::Call,
+    Step::Call,
+    Step::Publish,
+    TO_WLAN0,
+    AT_WLAN0,
+    AT_WLAN0,
+];
+
+fn first_lines() -> &'static [u8] {
+    b"down
+tx b00000000200000000aa0200000000010200000000010000000002000000
+install 02:00:00:00:00:aa 1
+tx 100000000200000000aa02000000000102000000000100000100000001c0010482848b96
+down
+"
+}
+
+#[test]
+fn a_run_is_recorded(rt: HostRuntime) -> Result<(), Fail> {
+    let [first, second] = told_of(rt.alloc(), &JOINS).ok_or("memory")?;
+    assert_eq!(rt; first.as_slice(), first_lines());
+    assert_eq!(rt; second.as_slice(), nothing());
+    Ok(())
+}
+
+/// It associates at the first radio, and then at the second, which is committed at once.
+const ROAMS: [Step<'static>; 20] = [
+    AUTHENTICATES,
+    ASSOCIATES,
+    AUTHENTICATES_ELSEWHERE,
+    ASSOCIATES_ELSEWHERE,
+    Step::Take,
+    Step::Call,
+    Step::Call,
+    Step::Call,
+    Step::Call,
+    Step::Publish,
+    TO_WLAN0,
+    AT_WLAN0,
+    AT_WLAN0,
+    AT_WLAN0,
+    AT_WLAN0,
+    AT_WLAN0,
+    TO_WLAN1,
+    AT_WLAN1,
+    AT_WLAN1,
+    AT_WLAN1,
+];
+
+fn left_lines() -> &'static [u8] {
+    b"down
+tx b00000000200000000aa0200000000010200000000010000000002000000
+install 02:00:00:00:00:aa 1
+tx 100000000200000000aa02000000000102000000000100000100000001c0010482848b96
+remove 02:00:00:00:00:aa
+tx a00000000200000000aa02000000000102000000000100000100
+down
+"
+}
+
+fn joined_lines() -> &'static [u8] {
+    b"down
+tx b00000000200000000aa0200000000020200000000020000000002000000
+install 02:00:00:00:00:aa 1
+tx 100000000200000000aa02000000000202000000000200000100000001c0010482848b96
+down
+"
+}
+
+#[test]
+fn a_station_goes_to_another_radio(rt: HostRuntime) -> Result<(), Fail> {
+    let [first, second] = told_of(rt.alloc(), &ROAMS).ok_or("memory")?;
+    assert_eq!(rt; first.as_slice(), left_lines());
+    assert_eq!(rt; second.as_slice(), joined_lines());
+    Ok(())
+}
+
+/// The device after the station went to the other radio.
+fn roamed(alloc: Global) -> Option<MemDisk> {
+    let (mut first, mut second) = (Vec::new(alloc), Vec::new(alloc));
+    device_after(alloc, &ROAMS, &mut first, &mut second)
+}
+
+/// Whether a slot is up, and the identifier that its radio has for the station.
+type Seen = (bool, Option<u16>);
+
+fn seen_at(slot: &Slot<Sim>) -> Seen {
+    (slot.is_up(), slot.installed(STATION))
+}
+
+/// What is seen of both slots.
+fn seen(slots: &[Slot<Sim>]) -> Option<[Seen; 2]> {
+    let (first, second) = (slots.first()?, slots.get(1)?);
+    Some([seen_at(first), seen_at(second)])
+}
+
+/// How many rows a world has, and what is seen of its slots.
+fn found(world: Memory) -> (usize, Option<[Seen; 2]>) {
+    let rows = world.table().rows();
+    let slots = slots_of(world);
+    (rows, seen(&slots))
+}
+
+/// The world begun anew of that device.
+fn resumed(alloc: Global) -> Option<Memory> {
+    recovered(alloc, roamed(alloc)?, &[1, 2])
+}
+
+#[test]
+fn the_drivers_have_the_stations_of_the_table_again(rt: HostRuntime) -> Result<(), Fail> {
+    let world = resumed(rt.alloc()).ok_or("memory")?;
+    let slots = Some([(true, None), (true, Some(1))]);
+    assert_eq!(rt; found(world), (2, slots));
+    Ok(())
+}

@@ -1,0 +1,18 @@
+//! Tests of the world by its public calls alone, over a device of memory: what no clause says of a run by an example.
+//! A test is a list of steps, what is left of the device, and what is found by who comes next.
+#![tactic(auto)]
+
+#[cfg(test)]
+mod calls;
+#[cfg(test)]
+mod driver_tests;
+#[cfg(test)]
+mod memory_tests;
+#[cfg(test)]
+mod start_tests;
+#[cfg(test)]
+mod steps;
+#[cfg(test)]
+mod stop_tests;
+#[cfg(test)]
+mod worlds;

@@ -1,0 +1,130 @@
+//! Restarts where memory is refused: each is tried once more, and has to come to the same. Where memory is ample
+//! nothing is refused; by hand each allocation is refused in turn.
+use crate::calls::{Memory, Refused, restarted, slots_of};
+use crate::steps::{
+    ASSOCIATES, AUTHENTICATES, OTHER, OTHER_ASSOCIATES, OTHER_AUTHENTICATES, STATION, WLAN0, WLAN1,
+};
+use crate::worlds::{confs, sims, started, stopped};
+use apd_base::Addr;
+use apd_conf::Confs;
+use apd_disk::{MemDisk, Torn};
+use apd_radio::Sim;
+use apd_slot::{Slot, SlotFault};
+use apd_store::StoreFault;
+use apd_world::{Step, WorldFault};
+use std::alloc::Global;
+use std::test::Fail;
+
+/// A station is associated at each radio, which is committed.
+const ASSOCIATED: [Step<'static>; 10] = [
+    AUTHENTICATES,
+    ASSOCIATES,
+    OTHER_AUTHENTICATES,
+    OTHER_ASSOCIATES,
+    Step::Take,
+    Step::Call,
+    Step::Call,
+    Step::Call,
+    Step::Call,
+    Step::Publish,
+];
+
+/// The device after that.
+fn settled(alloc: Global) -> Option<MemDisk> {
+    stopped(started(alloc, &[1, 2])?, &ASSOCIATED)
+}
+
+fn settled_device(alloc: Global) -> Option<MemDisk> {
+    match settled(alloc) {
+        Some(device) => Some(device),
+        None => settled(alloc),
+    }
+}
+
+/// Whether a slot is up, and the identifier under which its station is wanted, and installed.
+type Seen = (bool, Option<u16>, Option<u16>);
+
+fn seen_at(slot: &Slot<Sim>, station: Addr) -> Seen {
+    (slot.is_up(), slot.wanted(station), slot.installed(station))
+}
+
+/// What is seen of both slots.
+fn seen(slots: &[Slot<Sim>]) -> Option<[Seen; 2]> {
+    let (first, second) = (slots.first()?, slots.get(1)?);
+    Some([seen_at(first, STATION), seen_at(second, OTHER)])
+}
+
+/// A slot as it is new, one that has resumed, and one that has not.
+const NEW: Seen = (true, None, None);
+
+const RESUMED: Seen = (true, Some(1), Some(1));
+
+const DOWN: Seen = (false, None, None);
+
+/// What a restart that is refused so leaves of the slots. Want of memory alone refuses one here; the device, too,
+/// fails for it.
+fn left_by(fault: WorldFault) -> Option<[Seen; 2]> {
+    match fault {
+        WorldFault::NoMemory
+        | WorldFault::Store(StoreFault::NoMemory)
+        | WorldFault::Store(StoreFault::Device) => Some([NEW, NEW]),
+        WorldFault::Slot(bssid, SlotFault::NoMemory) if bssid == WLAN0 => Some([DOWN, NEW]),
+        WorldFault::Slot(bssid, SlotFault::NoMemory) if bssid == WLAN1 => Some([RESUMED, DOWN]),
+        _ => None,
+    }
+}
+
+fn both(alloc: Global) -> Option<Confs> {
+    match confs(alloc, &[1, 2]) {
+        Some(confs) => Some(confs),
+        None => confs(alloc, &[1, 2]),
+    }
+}
+
+fn new_slots(alloc: Global) -> Option<Vec<Slot<Sim>>> {
+    match sims(alloc, &[1, 2]) {
+        Some(slots) => Some(slots),
+        None => sims(alloc, &[1, 2]),
+    }
+}
+
+/// Another world of what a refusal handed back, behind a stop that leaves such an image; none where the slots are
+/// not as they should be.
+fn begun_again(alloc: Global, refused: Refused, torn: Torn) -> Option<Memory> {
+    let (device, slots, fault) = refused;
+    if seen(&slots) != left_by(fault) {
+        return None;
+    }
+    restarted(alloc, device.crash(torn), both(alloc)?, slots).ok()
+}
+
+/// The world of the device, where memory is refused that of the second try.
+fn begun(alloc: Global, device: MemDisk, torn: Torn) -> Option<Memory> {
+    let confs = both(alloc)?;
+    let slots = new_slots(alloc)?;
+    match restarted(alloc, device, confs, slots) {
+        Ok(world) => Some(world),
+        Err(refused) => begun_again(alloc, refused, torn),
+    }
+}
+
+/// How many rows both BSSIDs have, and what is seen of the slots.
+fn found(world: Memory) -> (usize, Option<[Seen; 2]>) {
+    let rows = world.table().rows();
+    let slots = slots_of(world);
+    (rows, seen(&slots))
+}
+
+/// The world of a device on which a station was associated at each radio.
+fn resumed(alloc: Global, torn: Torn) -> Option<Memory> {
+    begun(alloc, settled_device(alloc)?, torn)
+}
+
+#[test]
+fn a_restart_that_is_refused_memory_leaves_what_was(rt: HostRuntime) -> Result<(), Fail> {
+    for torn in [Torn::Old, Torn::New, Torn::Byte(0x55)] {
+        let world = resumed(rt.alloc(), torn).ok_or("a refusal left something else")?;
+        assert_eq!(rt; found(world), (2, Some([RESUMED, RESUMED])));
+    }
+    Ok(())
+}

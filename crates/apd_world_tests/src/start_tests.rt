@@ -1,0 +1,99 @@
+//! Starts that find a full store, or a device that fails.
+use crate::calls::{Memory, blank_disk, refusal, told};
+use crate::steps::WLAN0;
+use crate::worlds::{new_world, radio, recovered, sims, started, stopped};
+use apd_base::Moment;
+use apd_conf::AddressList;
+use apd_core::{Input, QuietReason};
+use apd_disk::{FuseDisk, MemDisk};
+use apd_radio::Sim;
+use apd_store::StoreFault;
+use apd_world::{Reception, Step, Told, World, WorldFault};
+use std::alloc::Global;
+use std::test::Fail;
+
+/// A store of which eight interfaces were started.
+fn full_store(alloc: Global) -> Option<MemDisk> {
+    stopped(started(alloc, &[1, 2, 3, 4, 5, 6, 7, 8])?, &[])
+}
+
+/// What is told of the first step.
+fn reception(tolds: &[Told]) -> Option<Reception> {
+    match tolds.first()? {
+        Told::Accepted(reception) => Some(*reception),
+        _ => None,
+    }
+}
+
+/// What is told of a configuration of the ninth BSSID.
+fn configured(alloc: Global, world: &mut Memory) -> Option<Reception> {
+    let none = AddressList::new(alloc);
+    let configure = Input::Configure {
+        bssid: radio(9),
+        accept: &none,
+        deny: &none,
+    };
+    let tolds = told(world, &[Step::Accept(configure, Moment(0))])?;
+    reception(tolds.as_slice())
+}
+
+/// Whether the ninth BSSID has a policy, and whether the first.
+fn have_policies(world: &Memory) -> (bool, bool) {
+    let table = world.table();
+    (
+        table.policy(radio(9)).is_some(),
+        table.policy(WLAN0).is_some(),
+    )
+}
+
+/// Of a world that comes upon the ninth BSSID first: after its start, which have policies, and what the ninth is told.
+fn ninth(alloc: Global, world: &mut Memory) -> Option<((bool, bool), Reception)> {
+    if refusal(world).is_some() {
+        return None;
+    }
+    let policies = have_policies(world);
+    let reception = configured(alloc, world)?;
+    Some((policies, reception))
+}
+
+/// The same of the full store.
+fn found(alloc: Global) -> Option<((bool, bool), Reception)> {
+    let mut world = recovered(alloc, full_store(alloc)?, &[9, 1])?;
+    ninth(alloc, &mut world)
+}
+
+#[test]
+fn a_start_passes_over_a_ninth_bssid(rt: HostRuntime) -> Result<(), Fail> {
+    let too_many = Reception::Quiet(QuietReason::TooManyBss);
+    assert_eq!(rt; found(rt.alloc()), Some(((false, true), too_many)));
+    Ok(())
+}
+
+/// A world of one radio on a device that passes this many calls and fails then.
+fn fused(alloc: Global, passes: u64) -> Option<World<FuseDisk<MemDisk>, Sim>> {
+    let disk = FuseDisk::new(blank_disk(alloc)?, passes);
+    new_world(alloc, disk, &[1], sims(alloc, &[1])?)
+}
+
+/// Why two starts are refused.
+fn refusals(alloc: Global, passes: u64) -> Option<[Option<WorldFault>; 2]> {
+    let mut world = fused(alloc, passes)?;
+    Some([refusal(&mut world), refusal(&mut world)])
+}
+
+// The store is formatted by seven calls, and each start commits a batch by four.
+#[test]
+fn a_start_tells_which_fault_of_the_store_ends_it(rt: HostRuntime) -> Result<(), Fail> {
+    let device = Some(WorldFault::Store(StoreFault::Device));
+    let failed = Some(WorldFault::Store(StoreFault::Failed));
+    for (passes, found) in [
+        (7, [device, failed]),
+        (10, [device, failed]),
+        (11, [None, device]),
+        (14, [None, device]),
+        (15, [None, None]),
+    ] {
+        assert_eq!(rt; refusals(rt.alloc(), passes), Some(found), "{passes}");
+    }
+    Ok(())
+}

@@ -1,0 +1,191 @@
+//! A run that stops, and what the next one finds.
+use crate::calls::{Memory, told};
+use crate::steps::{ASSOCIATES, AUTHENTICATES, COMMITS, DENIES, STATION, TO_WLAN0, WLAN0};
+use crate::worlds::{recovered, started, stopped};
+use apd_base::{Station, Which};
+use apd_ctrl::Query;
+use apd_disk::{MemDisk, Torn};
+use apd_mlme::Recipient;
+use apd_world::{Step, Told};
+use std::alloc::Global;
+use std::test::Fail;
+
+/// The device of one radio after these steps.
+fn device_after(alloc: Global, steps: &[Step<'static>]) -> Option<MemDisk> {
+    stopped(started(alloc, &[1])?, steps)
+}
+
+/// Half A from its first byte on, after the start of one interface and an authentication.
+const TWO_GROUPS: [u8; 54] = [
+    1, 1, 0, 0, 0, 0, 0, 0, 0, 0, 0, 0, 0, // the gate, the epoch and the snapshot
+    1, 10, 0, 0, 0, 6, 2, 0, 0, 0, 0, 1, 0, 0xd7, 7, // at 77
+    1, 20, 0, 0, 0, 1, 2, 0, 0, 0, 0, 1, 2, 0, 0, 0, 0, 0xaa, 1, 0, 0, 0, 0, 0, 0, // at 92
+    0, // at 117
+];
+
+fn two_groups() -> &'static [u8] {
+    &TWO_GROUPS
+}
+
+/// The bytes of half A that are in use on a device.
+fn in_use(alloc: Global, device: &MemDisk) -> Option<Vec<u8>> {
+    Vec::from_slice(alloc, device.bytes().get(64..118)?).ok()
+}
+
+#[test]
+fn the_bytes_after_an_authentication(rt: HostRuntime) -> Result<(), Fail> {
+    let alloc = rt.alloc();
+    let device = device_after(alloc, &COMMITS).ok_or("memory")?;
+    let bytes = in_use(alloc, &device).ok_or("memory")?;
+    assert_eq!(rt; bytes.as_slice(), two_groups());
+    Ok(())
+}
+
+/// How many steps of an authentication and its commit are made, what the stop leaves of what was not synced (else the
+/// device is as it reads), and whether the station is found.
+type Stop = (usize, Option<Torn>, bool);
+
+const STOPS: [Stop; 9] = [
+    // before the third call
+    (4, None, false),
+    (4, Some(Torn::Old), false),
+    (4, Some(Torn::New), false),
+    // inside it
+    (5, Some(Torn::Byte(0x01)), true),
+    (5, Some(Torn::Byte(0x7f)), false),
+    // after it
+    (5, None, true),
+    (5, Some(Torn::Old), false),
+    // after the fourth
+    (6, Some(Torn::Old), true),
+    (6, None, true),
+];
+
+fn stops() -> &'static [Stop] {
+    &STOPS
+}
+
+/// What a stop leaves on a device.
+fn image(device: MemDisk, torn: Option<Torn>) -> MemDisk {
+    match torn {
+        Some(torn) => device.crash(torn),
+        None => device,
+    }
+}
+
+/// Whether there is the station.
+fn is_there(world: &Memory) -> bool {
+    world.table().get(WLAN0, STATION).is_some()
+}
+
+/// The world begun anew after such a stop.
+fn begun_after(alloc: Global, made: usize, torn: Option<Torn>) -> Option<Memory> {
+    let device = device_after(alloc, COMMITS.get(..made)?)?;
+    recovered(alloc, image(device, torn), &[1])
+}
+
+/// Whether the station is found in it.
+fn is_found(alloc: Global, made: usize, torn: Option<Torn>) -> Option<bool> {
+    let world = begun_after(alloc, made, torn)?;
+    Some(is_there(&world))
+}
+
+/// The first of these stops after which something else is found.
+fn otherwise(alloc: Global) -> Option<Stop> {
+    for stop in stops() {
+        let (made, torn, found) = *stop;
+        if is_found(alloc, made, torn) != Some(found) {
+            return Some(*stop);
+        }
+    }
+    None
+}
+
+#[test]
+fn a_stop_in_a_commit(rt: HostRuntime) -> Result<(), Fail> {
+    assert_eq!(rt; otherwise(rt.alloc()), None);
+    Ok(())
+}
+
+/// The station associates, which is committed; it is put on the deny list, which is committed and handed out.
+const DENIED: [Step<'static>; 17] = [
+    AUTHENTICATES,
+    ASSOCIATES,
+    Step::Take,
+    Step::Call,
+    Step::Call,
+    Step::Call,
+    Step::Call,
+    Step::Publish,
+    DENIES,
+    Step::Take,
+    Step::Call,
+    Step::Call,
+    Step::Call,
+    Step::Call,
+    Step::Publish,
+    TO_WLAN0,
+    Step::Hand(Recipient::Control),
+];
+
+/// Whether the station is associated, and whether the deny list has it.
+fn seen(world: &Memory) -> Option<(bool, bool)> {
+    let table = world.table();
+    let is_associated = matches!(table.get(WLAN0, STATION), Some(Station::Associated(_)));
+    Some((is_associated, table.lists(WLAN0)?.has(Which::Deny, STATION)))
+}
+
+/// What is seen after a stop behind so many of these steps.
+fn seen_after(alloc: Global, made: usize) -> Option<(bool, bool)> {
+    let device = device_after(alloc, DENIED.get(..made)?)?;
+    let world = recovered(alloc, device, &[1])?;
+    seen(&world)
+}
+
+#[test]
+fn a_denial_outlives_a_stop(rt: HostRuntime) -> Result<(), Fail> {
+    assert_eq!(rt; seen_after(rt.alloc(), 8), Some((true, false)));
+    assert_eq!(rt; seen_after(rt.alloc(), 17), Some((false, true)));
+    Ok(())
+}
+
+const ASKS: Step<'static> = Step::Ask(Query::Sta(WLAN0, STATION));
+
+/// The station is asked for before its authentication is published, and behind.
+const ASKED_TWICE: [Step<'static>; 9] = [
+    AUTHENTICATES,
+    Step::Take,
+    Step::Call,
+    Step::Call,
+    Step::Call,
+    Step::Call,
+    ASKS,
+    Step::Publish,
+    ASKS,
+];
+
+/// What a started world tells of these steps.
+fn answers(alloc: Global, steps: &[Step<'static>]) -> Option<Vec<Told>> {
+    let mut world = started(alloc, &[1])?;
+    told(&mut world, steps)
+}
+
+/// The text of an answer to a query.
+fn text(told: Option<&Told>) -> &[u8] {
+    match told {
+        Some(Told::Answered(answer)) => answer.text(),
+        _ => b"no answer",
+    }
+}
+
+fn shown() -> &'static [u8] {
+    b"02:00:00:00:00:aa\nflags=[AUTH]\naid=0\ncapability=0x0\nlisten_interval=0\n"
+}
+
+#[test]
+fn a_query_sees_the_older_table_until_a_batch_is_published(rt: HostRuntime) -> Result<(), Fail> {
+    let tolds = answers(rt.alloc(), &ASKED_TWICE).ok_or("memory")?;
+    assert_eq!(rt; text(tolds.get(6)), b"FAIL\n".as_slice());
+    assert_eq!(rt; text(tolds.get(8)), shown());
+    Ok(())
+}

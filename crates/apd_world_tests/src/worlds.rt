@@ -1,0 +1,105 @@
+//! The worlds of which tests speak, on devices of memory.
+use crate::calls::{
+    Memory, blank_disk, confs_of, core, device, flusher, joined, refusal, restarted, store, told,
+};
+use apd_base::{Addr, Bssid};
+use apd_conf::{Conf, Confs, InterfaceName};
+use apd_disk::{Disk, MemDisk};
+use apd_radio::{Radio, Sim};
+use apd_slot::Slot;
+use apd_world::{Step, World};
+use std::alloc::Global;
+
+/// The BSSID that ends by this byte.
+pub(crate) fn radio(last: u8) -> Bssid {
+    Bssid(Addr([2, 0, 0, 0, 0, last]))
+}
+
+fn name_of(alloc: Global, name: [u8; 2]) -> Option<InterfaceName> {
+    if InterfaceName::is_name(&name) {
+        InterfaceName::from_bytes(&name, alloc).ok()
+    } else {
+        None
+    }
+}
+
+fn conf(alloc: Global, last: u8) -> Option<Conf> {
+    let mut conf = Conf::built_in(alloc).ok()?;
+    conf.interface = name_of(alloc, [b'w', b'0' | last])?;
+    conf.bssid = radio(last);
+    Some(conf)
+}
+
+/// Interfaces with the network `net`, at the BSSIDs that end by these bytes.
+pub(crate) fn confs(alloc: Global, lasts: &[u8]) -> Option<Confs> {
+    let mut list = Vec::new(alloc);
+    for last in lasts {
+        list.push(conf(alloc, *last)?).ok()?;
+    }
+    confs_of(list)
+}
+
+/// A slot for each of them, with a radio that does nothing.
+pub(crate) fn sims(alloc: Global, lasts: &[u8]) -> Option<Vec<Slot<Sim>>> {
+    let mut slots = Vec::new(alloc);
+    for last in lasts {
+        slots
+            .push(Slot::new(alloc, Sim::new(alloc), radio(*last)))
+            .ok()?;
+    }
+    Some(slots)
+}
+
+/// A world on a store that the device is given, of which no interface was started.
+pub(crate) fn new_world<D: Disk + Drop, R: Radio>(
+    alloc: Global,
+    disk: D,
+    lasts: &[u8],
+    slots: Vec<Slot<R>>,
+) -> Option<World<D, R>> {
+    let flusher = flusher(alloc, store(alloc, disk)?)?;
+    let core = core(alloc, confs(alloc, lasts)?)?;
+    Some(joined(alloc, flusher, core, slots))
+}
+
+/// A started world on a new store, with these slots.
+pub(crate) fn started_with<R: Radio>(
+    alloc: Global,
+    lasts: &[u8],
+    slots: Vec<Slot<R>>,
+) -> Option<World<MemDisk, R>> {
+    running(new_world(alloc, blank_disk(alloc)?, lasts, slots)?)
+}
+
+/// The same with radios that do nothing.
+pub(crate) fn started(alloc: Global, lasts: &[u8]) -> Option<Memory> {
+    started_with(alloc, lasts, sims(alloc, lasts)?)
+}
+
+/// The world of the store that a device holds, of which no interface was started.
+pub(crate) fn recovered(alloc: Global, device: MemDisk, lasts: &[u8]) -> Option<Memory> {
+    let confs = confs(alloc, lasts)?;
+    let slots = sims(alloc, lasts)?;
+    restarted(alloc, device, confs, slots).ok()
+}
+
+/// The world, started.
+fn running<R: Radio>(world: World<MemDisk, R>) -> Option<World<MemDisk, R>> {
+    let mut world = world;
+    match refusal(&mut world) {
+        None => Some(world),
+        Some(_) => None,
+    }
+}
+
+/// The device after these steps of a world.
+pub(crate) fn stopped<R: Radio>(
+    world: World<MemDisk, R>,
+    steps: &[Step<'static>],
+) -> Option<MemDisk> {
+    let mut world = world;
+    match told(&mut world, steps) {
+        Some(_) => Some(device(world)),
+        None => None,
+    }
+}
