@@ -84,6 +84,10 @@ none_waits : (p : Option ℕ) → queue_in [] p ≡ []
 none_waits None = refl
 none_waits (Some i) = refl
 
+-- without queues no out waits
+pub no_out_waits : (queues : List (List Out)) (p : Option ℕ) → queues ≡ [] → queue_in queues p ≡ []
+no_out_waits queues p empty = ap (λ qs. queue_in qs p) empty ∙ none_waits p
+
 module _ {R : Type 0} (stations : R → Stations) (slots : List (Slot R)) (table : State) (resumed : AreResumed stations table slots) where
   found : (b : Bssid) (slot : Slot R) (p : Option ℕ) → slot_place slots b ≡ p → slot_in slots p ≡ Some slot → IsResumed stations table slot × (bssid_of slot ≡ b)
   found b slot None at is = let none : ◌≡◌ {A = Option (Slot R)} None (Some slot) = is in cc
@@ -96,7 +100,7 @@ module _ {R : Type 0} (stations : R → Stations) (slots : List (Slot R)) (table
       → (b : Bssid) (slot : Slot R) → slot_at slots b ≡ Some slot → (a : Addr) → driven (queue_in queues (slot_place slots b) ++ held_for (Radio b) core) (maps.get (wanted_of slot)) a ≡ aid_at (front_of core) b a
   begun_following core queues confs heard is empty b slot at a =
       let f = found b slot (slot_place slots b) refl at in
-      let none : queue_in queues (slot_place slots b) ≡ [] = ap (λ qs. queue_in qs (slot_place slots b)) empty ∙ none_waits (slot_place slots b) in
+      let none : queue_in queues (slot_place slots b) ≡ [] = no_out_waits queues (slot_place slots b) empty in
       let held : held_for (Radio b) core ≡ [] = ap (held_for (Radio b)) is ∙ ap (map (λ x. x.1)) (queue_of-no_outs confs (Radio b)) in
       (λ i. driven (none i ++ held i) (maps.get (wanted_of slot)) a)
       ∙ ap (λ m. maps.get m a) f.0.wanted ∙ (λ i. installed_are table (bssid_of slot) i a) ∙ ap (λ c. aid_at table c a) f.1

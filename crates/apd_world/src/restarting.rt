@@ -1,11 +1,11 @@
 //! A world begun anew, from what a device holds: its slots resume by the table.
-ghost use Rattle.std.specs.Prelude.{◌≡◌, ◌≢◌, ◌⊎◌, IfOk, IfErr, OnOk};
+ghost use Rattle.std.specs.Prelude.{◌≡◌, ◌≢◌, ◌⊎◌, [], IfOk, IfErr, OnOk};
 ghost use Rattle.apd_base.specs.declared.address.Bssid.{Bssid as Address};
 ghost use Rattle.apd_slot.specs.declared.slot.SlotFault.{SlotFault as Fault};
 ghost use Rattle.apd_world.specs.BegunAnew.{IsBegunAnew, IsHonestlyBegunAnew, IsHonestlyNotBegunAnew, IsNotBegunAnew};
 ghost use Rattle.apd_world.specs.Following.{AreExact, AreFollowing};
 ghost use Rattle.apd_world.specs.Resumed.{AreOfSame, AreResumed, HasNotResumed};
-ghost use Rattle.apd_world.specs.WorldParts.{durable_of, slots_of};
+ghost use Rattle.apd_world.specs.WorldParts.{durable_of, queue_of, slots_of};
 
 use crate::core_restarting::restart_core;
 use crate::fault::WorldFault;
@@ -42,8 +42,8 @@ fn resume_all<R: Radio>(
 /// The world of the store that a device holds, and of these slots: its table is the state that the device's bytes
 /// show, nothing is unsettled, and every station was heard at this moment. Where the bytes show the state after
 /// a front of what happened before, as a stop leaves them, the table is that state. Each slot is up, and its
-/// radio has the associated stations of its BSSID in that table. A stop within it leaves what could be left
-/// before.
+/// radio has the associated stations of its BSSID in that table; no out waits. A stop within it leaves what could
+/// be left before.
 ///
 /// Errors, with the device and the slots handed back: `Store` with `NotAStore` where its length or its magic
 /// differ; else with `Damaged` where the bytes show no state; with `Device` where the device failed in this
@@ -65,6 +65,7 @@ pub fn restart<D: Disk, R: Radio>(
     ensures resumed { IfOk result (λ world. AreResumed R.stations (durable_of world).core.settled (slots_of world)) }
     ensures exact { IfOk result (λ world. AreExact R.stations (slots_of world)) }
     ensures following { IfOk result AreFollowing }
+    ensures queues { IfOk result (λ world. (b : Address) → queue_of world b ≡ []) }
     ensures slots { IfOk result (λ world. AreOfSame slots.items (slots_of world)) }
     ensures none { IfErr result (λ e. IsNotBegunAnew D.honest D.failed device e.0 e.2) }
     ensures none_honest { D.honest device

@@ -1,5 +1,6 @@
 //! A world: a durable core, and a slot for each interface.
-ghost use Rattle.std.specs.Prelude.{◌≡◌, None};
+ghost use Rattle.std.specs.Prelude.{◌≡◌, None, []};
+ghost use Rattle.apd_base.specs.declared.address.Bssid.{Bssid as Address};
 ghost use Rattle.apd_flusher.specs.Flushing.{IsInside, IsSteady};
 ghost use Rattle.apd_flusher.specs.Outside.{device_of as device_in};
 
@@ -33,7 +34,7 @@ impl<D: Disk, R: Radio> World<D, R> {
     ghost use Rattle.apd_world.specs.Following.{AreFollowing};
     ghost use Rattle.apd_world.specs.Proper.{IsProper, IsShown, IsUnused};
     ghost use Rattle.apd_world.specs.Resumed.{AreResumed};
-    ghost use Rattle.apd_world.specs.WorldParts.{durable_of, slots_of, slot_at, is_up_if};
+    ghost use Rattle.apd_world.specs.WorldParts.{durable_of, slots_of, slot_at, is_up_if, queue_of};
 
     /// A flusher, a core and slots, with nothing that waits. It takes no memory. Over the flusher of a device that shows
     /// the table of a core that accepted nothing yet, what is said of a stop is so from here on; and where the slots
@@ -45,6 +46,7 @@ impl<D: Disk, R: Radio> World<D, R> {
         ensures receipt { (durable_of result).receipt ≡ None }
         ensures told { (durable_of result).told ≡ 0 }
         ensures slots { slots_of result ≡ slots.items }
+        ensures queues { (b : Address) → queue_of result b ≡ [] }
         ensures proper { IsUnused core → D.honest (device_in flusher) → IsInside D.size flusher
             → IsSteady D.reads D.may_leave flusher core.settled
             → IsProper D.honest D.reads D.may_leave D.size (durable_of result) }

@@ -5,7 +5,7 @@ use Rattle.apd_flusher.specs.Outside as flusher
 use Rattle.apd_world.specs.Following.{AreExact}
 use Rattle.apd_world.specs.Outside.{device_of}
 use Rattle.apd_world.specs.Resumed.{AreResumed, HasNotResumed}
-use Rattle.apd_world.proofs.ResumeLemmas.{begun_following, resumed_exact}
+use Rattle.apd_world.proofs.ResumeLemmas.{begun_following, no_out_waits, resumed_exact}
 use Rattle.apd_world.proofs.restarting.restart.Goals as goal
 
 -- as many are taken as there are
@@ -25,6 +25,9 @@ returns-in-Ok-resume_all-clause-following g c = λ b configured slot at a.
     let core = c.in-Ok.durable.core in
     let resumed = subst (AreResumed g.R.Radio.stations core.settled) (sym (whole xs c.args.slots.items c.args.slots.len many)) (subst (λ s. AreResumed g.R.Radio.stations s xs) c.table.ensures c.in-Ok-resume_all.ensures.ok) in
     begun_following g.R.Radio.stations _ core.settled resumed core (map (λ queue. queue.items) c.new.result.items) c.args.confs core.heard c.in-Ok.ensures.begun.core (ap (map (λ queue. queue.items)) c.new.ensures.items) b slot at a
+
+pub returns-in-Ok-resume_all-clause-queues : goal.returns-in-Ok-resume_all-clause-queues
+returns-in-Ok-resume_all-clause-queues g c = λ b. no_out_waits (map (λ queue. queue.items) c.new.result.items) _ (ap (map (λ queue. queue.items)) c.new.ensures.items)
 
 pub returns-in-Err-resume_all-clause-none_honest : goal.returns-in-Err-resume_all-clause-none_honest
 returns-in-Err-resume_all-clause-none_honest g c = λ honest.
