@@ -1,5 +1,5 @@
 use crate::running::run_and_log;
-use crate::{ProgramFault, command, told};
+use crate::{ProgramFault, command, no_text, told};
 use apd_disk::FileDisk;
 use apd_store::format;
 use log::Log;
@@ -124,6 +124,16 @@ fn wrong_words_are_told(rt: HostRuntime) -> Result<(), Fail> {
 }
 
 #[test]
+fn words_that_are_no_text_are_wrong(rt: HostRuntime) -> Result<(), Fail> {
+    let error = no_text(rt.alloc())?;
+    let (page, ended) = printed_page(rt.alloc(), Ok(Some(error)), 2)?;
+    let text = "2error: invalid UTF-8 was detected in one or more arguments\n";
+    assert!(rt; page.as_str().starts_with(text), "{page}");
+    assert!(rt; ended, "{page}");
+    Ok(())
+}
+
+#[test]
 fn a_fault_is_told(rt: HostRuntime) -> Result<(), Fail> {
     let (text, ended) = printed_page(rt.alloc(), Err(ProgramFault::NoMemory), 1)?;
     assert_eq!(rt; (text.as_str(), ended), ("2apd: out of memory\n", true));
@@ -132,7 +142,7 @@ fn a_fault_is_told(rt: HostRuntime) -> Result<(), Fail> {
     Ok(())
 }
 
-/// Why `apd run` over a store, with this configuration, at this port, doesn't serve.
+/// What `apd run` over a store, with this configuration, at this port, prints where it doesn't serve and ends with 1.
 fn fault_of<
     R: Input + Files<File = File> + Net + Wait + Threads + Clock + AllocGlobal + Log + Sync,
 >(rt: &R, store: &str, port: &str, conf: &str) -> Result<String, Fail> {
@@ -149,10 +159,10 @@ fn fault_of<
     };
     match run_and_log(rt, matches) {
         Ok(()) => Err(Fail::new("it served")),
-        Err(fault) => {
-            let fault = ProgramFault::Running(fault);
-            Ok(format!(in alloc; "{fault}")?)
-        }
+        Err(fault) => match printed_page(alloc, Err(ProgramFault::Running(fault)), 1)? {
+            (text, true) => Ok(text),
+            _ => Err(Fail::new("another status")),
+        },
     }
 }
 
@@ -171,16 +181,29 @@ fn faults_of_a_run_are_told_in_their_order(rt: HostRuntime) -> Result<(), Fail> 
     let port = format!(in rt.alloc(); "{}", taken.local_addr()?.port())?;
     let port = port.as_str();
     let told = fault_of(&rt, "run_test_store", port, "run_test_conf")?;
-    assert_eq!(rt; told.as_str(), "cannot read run_test_conf");
+    assert_eq!(rt; told.as_str(), "2apd: cannot read run_test_conf\n");
     fs::write(&rt, "run_test_conf", CONF.as_bytes())?;
     let told = fault_of(&rt, "run_test_store", port, "run_test_conf")?;
-    assert_eq!(rt; told.as_str(), "cannot read run_test_store");
+    assert_eq!(rt; told.as_str(), "2apd: cannot read run_test_store\n");
     make_store(&rt, "run_test_store")?;
     let told = fault_of(&rt, "run_test_store", port, "run_test_conf")?;
-    assert_eq!(rt; told.as_str(), "no socket");
+    assert_eq!(rt; told.as_str(), "2apd: no socket\n");
     // By then the recording stood.
     fs::remove_file(&rt, "run_test.0")?;
     fs::remove_file(&rt, "run_test_store")?;
     fs::remove_file(&rt, "run_test_conf")?;
+    Ok(())
+}
+
+#[test]
+fn a_missing_configuration_leaves_the_store_as_it_was(rt: HostRuntime) -> Result<(), Fail> {
+    let store = "run_test_untouched_store";
+    make_store(&rt, store)?;
+    let before = fs::read(&rt, store)?;
+    let told = fault_of(&rt, store, "1024", "run_test_no_conf")?;
+    assert_eq!(rt; told.as_str(), "2apd: cannot read run_test_no_conf\n");
+    let after = fs::read(&rt, store)?;
+    assert!(rt; before == after);
+    fs::remove_file(&rt, store)?;
     Ok(())
 }

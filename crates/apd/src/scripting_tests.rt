@@ -194,17 +194,28 @@ fn fault_with(
     }
 }
 
+/// Whether that is this text, and the store stays as it was.
+fn is_untouched(
+    rt: &(impl Input + Print + Files<File = File> + AllocGlobal),
+    store: &str,
+    names: &[&str],
+    want: &str,
+) -> Result<bool, Fail> {
+    let made = fs::read(rt, store)?;
+    let text = fault_with(rt, store, names)?;
+    let left = fs::read(rt, store)?;
+    Ok(text.as_str() == want && left.as_slice() == made.as_slice())
+}
+
 #[test]
 fn a_faulty_configuration_leaves_the_store_untouched(rt: HostRuntime) -> Result<(), Fail> {
     let name = "untouched_store_of_a_script_test";
     let conf = "faulty_configuration_of_a_script_test";
     make_store(&rt, name)?;
-    let made = fs::read(&rt, name)?;
+    fs::write(&rt, conf, b"interface=wlan0\nbssid=02:00:00:00:00:01\nssid=net\n")?;
+    assert!(rt; is_untouched(&rt, name, &[conf, conf], "interface given twice")?);
     fs::write(&rt, conf, b"interface=wlan0\nfoo\n")?;
-    let text = fault_with(&rt, name, &[conf])?;
-    assert_eq!(rt; text.as_str(), "line 2: no '='");
-    let left = fs::read(&rt, name)?;
-    assert!(rt; left.as_slice() == made.as_slice());
+    assert!(rt; is_untouched(&rt, name, &[conf], "line 2: no '='")?);
     // It is told in front of a store that can't be read.
     fs::remove_file(&rt, name)?;
     let text = fault_with(&rt, name, &[conf])?;
