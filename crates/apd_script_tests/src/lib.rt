@@ -20,3 +20,5 @@ mod script_tests;
 mod stop_tests;
 #[cfg(test)]
 mod worlds;
+#[cfg(test)]
+mod worn_tests;

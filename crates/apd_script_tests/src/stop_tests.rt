@@ -1,7 +1,7 @@
 //! Stops and restarts, steps of a commit, and refusals of the store.
 use crate::calls::{one_radio, two_radios};
 use crate::rows::{JOINED, JOINS, Row, ends, joint, prints};
-use crate::worlds::{fresh_store, printed, run_on};
+use crate::worlds::{fresh_store, printed, run_on, slots_after};
 use apd_base::Addr;
 use apd_conf::InterfaceName;
 use apd_disk::FuseDisk;
@@ -116,6 +116,38 @@ fn a_stop_leaves_what_the_device_reads(rt: HostRuntime) -> Result<(), Fail> {
         prints(&rt, one_radio(rt.alloc())?, row)?;
     }
     prints(&rt, two_radios(rt.alloc())?, moves())
+}
+
+/// The first frame that each slot's radio receives.
+fn frames_of(
+    alloc: Global,
+    script: &[u8],
+    radios: &[&str],
+    spares: &[&str],
+) -> Result<Vec<u8>, Fail> {
+    let mut frames = Vec::new(alloc);
+    let mut slots = slots_after(alloc, two_radios(alloc)?, script, radios, spares)?;
+    for slot in slots.iter_mut() {
+        let Ok(Some(frame)) = slot.poll() else {
+            return Err(Fail::new("a radio has no frame"));
+        };
+        frames.extend_from_slice(frame.as_slice())?;
+    }
+    Ok(frames)
+}
+
+#[test]
+fn a_stop_takes_a_fresh_radio_from_the_front_for_each_slot(rt: HostRuntime) -> Result<(), Fail> {
+    let spares = ["rx 0c", "rx 0d", "rx 0e", "rx 0f", "rx 10"];
+    for (script, want) in [
+        (b"".as_slice(), b"\x0a\x0b"),
+        (b"stop\n", b"\x0c\x0d"),
+        (b"stop\nflush\nstop\n", b"\x0e\x0f"),
+    ] {
+        let frames = frames_of(rt.alloc(), script, &["rx 0a", "rx 0b"], &spares)?;
+        assert_eq!(rt; frames.as_slice(), want.as_slice());
+    }
+    Ok(())
 }
 
 #[test]
@@ -257,7 +289,8 @@ fn printed_on_fuse(
     Ok((fault, out))
 }
 
-/// The calls of a recovery and of the start, and two of the next batch.
+/// The calls of a recovery and of the start, and two of the next batch. The third fails; those behind it are refused
+/// otherwise.
 const FUSE: u64 = 2 + 4 + 2;
 
 const REFUSED: Option<ScriptFault> = Some(ScriptFault::World(WorldFault::Store(
@@ -268,8 +301,8 @@ const REFUSED: Option<ScriptFault> = Some(ScriptFault::World(WorldFault::Store(
 fn a_refusal_ends_a_script_at_its_next_flush(rt: HostRuntime) -> Result<(), Fail> {
     let alloc = rt.alloc();
     let lines =
-        "rx wlan0 b00000000200000000010200000000aa0200000000011000000001000000\ntake\ncall\ncall\ncall\npublish\nrx wlan0\ncmd DENY_ACL CLEAR\ncmd PING\nhand\n";
-    let want = "entry 2\nstopped\nctrl 8 FAIL\\n\nctrl 9 PONG\\n\n";
+        "rx wlan0 b00000000200000000010200000000aa0200000000011000000001000000\ntake\ncall\ncall\ncall\ncall\npublish\ntake\nrx wlan0\ncmd DENY_ACL CLEAR\ncmd PING\nhand\n";
+    let want = "entry 2\nstopped\nctrl 10 FAIL\\n\nctrl 11 PONG\\n\n";
     for (last, fault) in [("", None), ("flush\ncmd PING\n", REFUSED)] {
         let script = joint(alloc, &[lines, last])?;
         let (told, out) = printed_on_fuse(alloc, FUSE, script.as_slice())?;

@@ -3,8 +3,8 @@
 use apd_base::Moment;
 use apd_conf::Confs;
 use apd_disk::{Disk, MemDisk};
-use apd_radio::Sim;
-use apd_script::{ScriptFault, new_store, run_on_store};
+use apd_radio::{Replaying, Sim};
+use apd_script::{ScriptFault, new_store, run_on_store, run_script};
 use apd_slot::Slot;
 use apd_world::{World, restart};
 use std::alloc::Global;
@@ -53,4 +53,71 @@ pub fn new_world(alloc: Global, confs: Confs) -> Result<World<MemDisk, Sim>, Fai
         Ok(world) => Ok(world),
         Err(_) => Err(Fail::new("a world is not begun")),
     }
+}
+
+/// A radio that receives the frames of a recording.
+fn replaying(alloc: Global, recording: &str) -> Result<Replaying, Fail> {
+    match Replaying::new(alloc, recording.as_bytes()) {
+        Ok(radio) => Ok(radio),
+        Err(_) => Err(Fail::new("a recording is refused")),
+    }
+}
+
+/// Slots with these radios, one for each configuration.
+fn slots_with(
+    alloc: Global,
+    confs: &Confs,
+    recordings: &[&str],
+) -> Result<Vec<Slot<Replaying>>, Fail> {
+    let mut slots = Vec::new(alloc);
+    for (conf, recording) in confs.list().iter().zip(recordings) {
+        slots.push(Slot::new(alloc, replaying(alloc, recording)?, conf.bssid))?;
+    }
+    Ok(slots)
+}
+
+/// A world of a new store and these slots, which is not started yet.
+fn replaying_world(
+    alloc: Global,
+    confs: Confs,
+    slots: Vec<Slot<Replaying>>,
+) -> Result<World<MemDisk, Replaying>, Fail> {
+    match restart(alloc, fresh_store(alloc)?, confs, slots, Moment(0)) {
+        Ok(world) => Ok(world),
+        Err(_) => Err(Fail::new("a world is not begun")),
+    }
+}
+
+/// Radios that receive the frames of these recordings.
+fn all_replaying(alloc: Global, recordings: &[&str]) -> Result<Vec<Replaying>, Fail> {
+    let mut radios = Vec::new(alloc);
+    for recording in recordings {
+        radios.push(replaying(alloc, recording)?)?;
+    }
+    Ok(radios)
+}
+
+/// The slots of the world that a script left.
+fn slots_left(
+    ended: Result<World<MemDisk, Replaying>, ScriptFault>,
+) -> Result<Vec<Slot<Replaying>>, Fail> {
+    match ended {
+        Ok(world) => Ok(world.into_parts().2),
+        Err(_) => Err(Fail::new("the script has a fault")),
+    }
+}
+
+/// The slots of a world once a script was run on it, whose stops take these radios.
+pub fn slots_after(
+    alloc: Global,
+    confs: Confs,
+    script: &[u8],
+    radios: &[&str],
+    spares: &[&str],
+) -> Result<Vec<Slot<Replaying>>, Fail> {
+    let left = all_replaying(alloc, spares)?;
+    let slots = slots_with(alloc, &confs, radios)?;
+    let world = replaying_world(alloc, confs, slots)?;
+    let mut out = Vec::new(alloc);
+    slots_left(run_script(alloc, world, script, &mut out, left))
 }
