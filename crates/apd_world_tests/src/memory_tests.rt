@@ -1,10 +1,10 @@
 //! Restarts where memory is refused: each is tried once more, and has to come to the same. Where memory is ample
 //! nothing is refused; by hand each allocation is refused in turn.
-use crate::calls::{Memory, Refused, restarted, slots_of};
+use crate::calls::{Memory, Refused, device, restarted, slots_of, told};
 use crate::steps::{
     ASSOCIATES, AUTHENTICATES, OTHER, OTHER_ASSOCIATES, OTHER_AUTHENTICATES, STATION, WLAN0, WLAN1,
 };
-use crate::worlds::{confs, sims, started, stopped};
+use crate::worlds::{confs, sims, started};
 use apd_base::Addr;
 use apd_conf::Confs;
 use apd_disk::{MemDisk, Torn};
@@ -29,9 +29,13 @@ const ASSOCIATED: [Step<'static>; 10] = [
     Step::Publish,
 ];
 
-/// The device after that.
+/// The device after that; none where a step was refused memory.
 fn settled(alloc: Global) -> Option<MemDisk> {
-    stopped(started(alloc, &[1, 2])?, &ASSOCIATED)
+    let mut world = started(alloc, &[1, 2])?;
+    match told(&mut world, &ASSOCIATED) {
+        Some(_) if world.table().rows() == 2 => Some(device(world)),
+        _ => None,
+    }
 }
 
 fn settled_device(alloc: Global) -> Option<MemDisk> {
