@@ -212,7 +212,11 @@ fn a_faulty_configuration_leaves_the_store_untouched(rt: HostRuntime) -> Result<
     let name = "untouched_store_of_a_script_test";
     let conf = "faulty_configuration_of_a_script_test";
     make_store(&rt, name)?;
-    fs::write(&rt, conf, b"interface=wlan0\nbssid=02:00:00:00:00:01\nssid=net\n")?;
+    fs::write(
+        &rt,
+        conf,
+        b"interface=wlan0\nbssid=02:00:00:00:00:01\nssid=net\n",
+    )?;
     assert!(rt; is_untouched(&rt, name, &[conf, conf], "interface given twice")?);
     fs::write(&rt, conf, b"interface=wlan0\nfoo\n")?;
     assert!(rt; is_untouched(&rt, name, &[conf], "line 2: no '='")?);

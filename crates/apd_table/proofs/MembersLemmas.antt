@@ -187,9 +187,11 @@ same_members s t same m are c x got =
 
 module _ (s : State) (b : Bssid) (none : (a : Addr) → station_at s b a ≡ None) where
   pub count_none : count s b ≡ 0
-  count_none = omega (arith, len-empty station_cmp Station, part_len station_total station_exact (stations_of s b) map.empty (λ k v g.
+  count_none =
+      let left = part_len station_total station_exact (stations_of s b) map.empty (λ k v g.
       let row = part_passes station_total station_exact s.stations (λ q. eq_by_cmp bssid_cmp b q.0) k v g in
-      none_is (station_at s b k.1) (none k.1) (is_some_of _ v ((λ i. map.get s.stations (same_bssid k.0 b row.0 i, k.1)) ∙ row.1))))
+      none_is (station_at s b k.1) (none k.1) (is_some_of _ v ((λ i. map.get s.stations (same_bssid k.0 b row.0 i, k.1)) ∙ row.1))) in
+      omega (arith, len-empty station_cmp Station, left)
 
   pub none_taken : {A : Type 0} (j : ℕ) → IsTaken s b j → A
   none_taken j taken = none_is_some j (sym (ap aid_of (none taken.0)) ∙ taken.1)

@@ -88,13 +88,7 @@ pub fn policy_after(bssid: Bssid, policy: Policy, change: &Change) -> Policy
         Change::Policy {
             bssid: at,
             policy: new,
-        } => {
-            if bssid.cmp(&at).is_eq() {
-                new
-            } else {
-                policy
-            }
-        }
+        } => { if bssid.cmp(&at).is_eq() { new } else { policy } }
         Change::Put { .. }
         | Change::Drop { .. }
         | Change::ListAdd { .. }
