@@ -5,6 +5,7 @@ use apd_base::limits::DEVICE_LENGTH;
 use apd_disk::{Call, Disk, DiskFault, FileDisk, FuseDisk, MemDisk, OnceDisk, Torn};
 use std::fs::{self, File};
 use std::io::{self, ErrorKind};
+use std::os::unix::fs::PermissionsExt;
 use std::rt::Files;
 use std::test::Fail;
 
@@ -234,6 +235,103 @@ fn a_file_that_is_cut_empty_missing_or_a_folder(rt: HostRuntime) -> Result<(), F
     let mut bytes = [0; 4];
     assert_eq!(rt; disk.read_at(1, &mut bytes), Err(DiskFault));
     assert_eq!(rt; disk.failures(), 1);
+    fs::remove_dir_all(&rt, folder)?;
+    Ok(())
+}
+
+// Who may do what with a file.
+fn mode_of(files: &impl Files<File = File>, path: &str) -> io::Result<u32> {
+    Ok(fs::metadata(files, path)?.permissions().mode() & 0o777)
+}
+
+#[test]
+fn a_new_file_is_its_owners_alone_and_another_keeps_its_mode(rt: HostRuntime) -> Result<(), Fail> {
+    let folder = "disk_modes";
+    let store = "disk_modes/store";
+    empty_folder(&rt, folder)?;
+    drop(FileDisk::create(&rt, store)?);
+    assert_eq!(rt; mode_of(&rt, store)?, 0o600);
+    fs::set_permissions(&rt, store, PermissionsExt::from_mode(0o640))?;
+    let mut disk = FileDisk::open(&rt, store)?;
+    disk.sync()?;
+    assert_eq!(rt; mode_of(&rt, store)?, 0o640);
+    fs::remove_dir_all(&rt, folder)?;
+    Ok(())
+}
+
+// The first sync drops the file's pages, and the second doesn't. What a read gives stays.
+#[test]
+fn a_read_gives_the_same_after_each_sync(rt: HostRuntime) -> Result<(), Fail> {
+    let file = "disk_pages";
+    fs::write(&rt, file, b"0123456789".as_slice())?;
+    let mut disk = FileDisk::open(&rt, file)?;
+    let mut bytes = [0; 4];
+    for (new, want) in [(b"a", *b"2a45"), (b"b", *b"2b45"), (b"c", *b"2c45")] {
+        disk.write_at(3, new)?;
+        disk.sync()?;
+        disk.read_at(2, &mut bytes)?;
+        assert_eq!(rt; bytes, want);
+    }
+    assert_eq!(rt; disk.failures(), 0);
+    fs::remove_file(&rt, file)?;
+    Ok(())
+}
+
+#[test]
+fn a_file_is_read_by_two_and_written_by_neither(rt: HostRuntime) -> Result<(), Fail> {
+    let file = "disk_read";
+    fs::write(&rt, file, b"0123456789".as_slice())?;
+    fs::set_permissions(&rt, file, PermissionsExt::from_mode(0o400))?;
+    let mut disk = FileDisk::open_to_read(&rt, file)?;
+    let mut other = FileDisk::open_to_read(&rt, file)?;
+    let mut bytes = [0; 3];
+    assert_eq!(rt; disk.len(), 10);
+    assert_eq!(rt; disk.sync(), Ok(()));
+    assert_eq!(rt; disk.read_at(7, &mut bytes), Ok(()));
+    assert_eq!(rt; bytes, *b"789");
+    assert_eq!(rt; other.read_at(0, &mut bytes), Ok(()));
+    assert_eq!(rt; bytes, *b"012");
+    assert_eq!(rt; disk.failures(), 0);
+    assert_eq!(rt; disk.write_at(7, b"ab"), Err(DiskFault));
+    assert_eq!(rt; disk.failures(), 1);
+    assert_eq!(rt; fs::read(&rt, file)?.as_slice(), b"0123456789".as_slice());
+    fs::remove_file(&rt, file)?;
+    Ok(())
+}
+
+#[test]
+fn who_reads_keeps_a_writer_out_and_the_other_way_round(rt: HostRuntime) -> Result<(), Fail> {
+    let file = "disk_shared";
+    let held = Some(ErrorKind::WouldBlock);
+    fs::write(&rt, file, b"12345".as_slice())?;
+    let reader = FileDisk::open_to_read(&rt, file)?;
+    assert_eq!(rt; refusal(FileDisk::open(&rt, file)), held);
+    drop(reader);
+    let writer = FileDisk::open(&rt, file)?;
+    assert_eq!(rt; refusal(FileDisk::open_to_read(&rt, file)), held);
+    drop(writer);
+    assert_eq!(rt; refusal(FileDisk::open_to_read(&rt, file)), None);
+    fs::remove_file(&rt, file)?;
+    Ok(())
+}
+
+#[test]
+fn only_a_regular_file_is_opened_to_read(rt: HostRuntime) -> Result<(), Fail> {
+    let folder = "disk_regular";
+    let missing = "disk_regular/store";
+    empty_folder(&rt, folder)?;
+    assert_eq!(rt;
+        refusal(FileDisk::open_to_read(&rt, missing)),
+        Some(ErrorKind::NotFound)
+    );
+    for other in [folder, "/dev/null"] {
+        assert_eq!(rt;
+            refusal(FileDisk::open_to_read(&rt, other)),
+            Some(ErrorKind::InvalidInput),
+            "{other}"
+        );
+    }
+    assert_eq!(rt; fs::read_dir(&rt, folder)?.count(), 0);
     fs::remove_dir_all(&rt, folder)?;
     Ok(())
 }

@@ -1,5 +1,5 @@
 //! A file as a disk. It claims its length and its count of failures, and nothing of what it holds.
-ghost use Rattle.std.specs.Prelude.{◌≡◌, ◌≤◌, ◌+◌, [], length, true, false, IfOk, OnOk, OnErr};
+ghost use Rattle.std.specs.Prelude.{◌≡◌, ◌≤◌, ◌+◌, [], length, true, false, IsErr, IfOk, OnOk, OnErr};
 ghost use Rattle.apd_disk.specs.Disk.{Counts};
 
 use crate::fault::fail;
@@ -7,7 +7,8 @@ use crate::{Disk, DiskFault};
 use apd_base::limits::DEVICE_LENGTH;
 use std::fs::{self, File};
 use std::io::{self, ErrorKind, Read};
-use std::os::unix::fs::FileExt;
+use std::os::fd::AsRawFd;
+use std::os::unix::fs::{FileExt, OpenOptionsExt};
 use std::path::{AsPath, Path};
 use std::rt::Files;
 
@@ -18,10 +19,17 @@ pub struct FileDisk {
     file: File,
     len: usize,
     failures: u64,
+    // Whether it was opened for writing too.
+    may_write: bool,
     // Once a sync has failed the system may have dropped what it could not write, and would answer a later
     // one well for nothing.
     sync_failed: bool,
+    // Whether the system was told to forget what it holds of the file.
+    pages_dropped: bool,
 }
+
+// Nobody but the owner may open a new file: who may only read it could keep its owner out by a lock.
+const OWNER_ALONE: u32 = 0o600;
 
 // Real zeros, so that a full file system shows now and not at a later write, and a file with no holes.
 fn write_zeros(mut file: &File, length: u64) -> io::Result<()> {
@@ -49,7 +57,13 @@ fn create_beside(
 ) -> io::Result<(File, String)> {
     for number in 0..u32::MAX {
         let name = format!(in files.alloc(); "{path}.new{number}")?;
-        match File::create_new(files, name.as_str()) {
+        let made = File::options()
+            .read(true)
+            .write(true)
+            .create_new(true)
+            .mode(OWNER_ALONE)
+            .open(files, name.as_str());
+        match made {
             Err(error) if error.kind() == ErrorKind::AlreadyExists => {}
             made => return Ok((made?, name)),
         }
@@ -69,23 +83,44 @@ fn give_name(
     fs::hard_link(files, name, path)
 }
 
-fn fresh(file: File, len: usize) -> FileDisk
+fn fresh(file: File, len: usize, may_write: bool) -> FileDisk
     ensures length { result.len ≡ len }
+    ensures may_write { result.may_write ≡ may_write }
     ensures failures { result.failures ≡ 0 }
     ensures sync_failed { result.sync_failed ≡ false }
+    ensures pages_dropped { result.pages_dropped ≡ false }
 {
     FileDisk {
         file,
         len,
         failures: 0,
+        may_write,
         sync_failed: false,
+        pages_dropped: false,
     }
+}
+
+// After a sync that failed, the system may keep what it could not write as if it had been written, also for
+// those who open the file later. So that a read comes from the medium, the system is told to forget what it
+// holds. It may answer well and forget nothing (posix_fadvise(2)).
+fn drop_pages(file: &File) {
+    let _ = libc::posix_fadvise(file.as_raw_fd(), 0, 0, libc::POSIX_FADV_DONTNEED);
+}
+
+// The length of an open file, where it is a regular one.
+fn length_of(file: &File) -> io::Result<usize> {
+    let metadata = file.metadata()?;
+    if !metadata.is_file() {
+        return Err(ErrorKind::InvalidInput.into());
+    }
+    Ok(metadata.len() as usize)
 }
 
 impl FileDisk {
     /// Makes a file of the device's length, 2,097,216 bytes, all of them zero and written through, and opens
-    /// it. Until it is whole and locked it has another name: the path with `.new` and a number behind it. A
-    /// kill may leave a file of such a name, which may be removed.
+    /// it. Only its owner may read or write it (mode 0600). Until it is whole and locked it has another name:
+    /// the path with `.new` and a number behind it. A kill may leave a file of such a name, which may be
+    /// removed.
     ///
     /// Errors: the file system's own, as where it has no hard links; `AlreadyExists` where there is such a
     /// file or folder, which is left alone; `OutOfMemory`. What was made is removed again, if that succeeds.
@@ -94,8 +129,10 @@ impl FileDisk {
         path: P,
     ) -> io::Result<FileDisk>
         ensures length { IfOk result (λ d. d.len ≡ DEVICE_LENGTH) }
+        ensures may_write { IfOk result (λ d. d.may_write ≡ true) }
         ensures failures { IfOk result (λ d. d.failures ≡ 0) }
         ensures sync_failed { IfOk result (λ d. d.sync_failed ≡ false) }
+        ensures pages_dropped { IfOk result (λ d. d.pages_dropped ≡ false) }
     {
         let path = path.path_text();
         if fs::symlink_metadata(files, path).is_ok() {
@@ -109,28 +146,60 @@ impl FileDisk {
             let _ = fs::remove_file(files, path);
             return Err(error);
         }
-        Ok(fresh(file, DEVICE_LENGTH as usize))
+        Ok(fresh(file, DEVICE_LENGTH as usize, true))
     }
 
-    /// Opens a file as a disk of the length that it has now.
+    /// Opens a file as a disk of the length that it has now. Its mode stays as it is.
     ///
     /// Errors: the file system's own, as `NotFound`, `IsADirectory` or `PermissionDenied`; `InvalidInput`
     /// where it is no regular file; `WouldBlock` where another `FileDisk` holds it.
     pub fn open<P: AsPath>(files: &impl Files<File = File>, path: P) -> io::Result<FileDisk>
+        ensures may_write { IfOk result (λ d. d.may_write ≡ true) }
         ensures failures { IfOk result (λ d. d.failures ≡ 0) }
         ensures sync_failed { IfOk result (λ d. d.sync_failed ≡ false) }
+        ensures pages_dropped { IfOk result (λ d. d.pages_dropped ≡ false) }
     {
         let file = File::options().read(true).write(true).open(files, path)?;
         file.try_lock()?;
-        let metadata = file.metadata()?;
-        if !metadata.is_file() {
+        let len = length_of(&file)?;
+        Ok(fresh(file, len, true))
+    }
+
+    /// Opens a file for reading alone, as a disk of the length that it has now. It takes no leave to write
+    /// the file, and each write of the disk is a fault. Several may hold a file in this way at once, and then
+    /// nobody can `open` it.
+    ///
+    /// Errors: the file system's own, as `NotFound` or `PermissionDenied`; `InvalidInput` where it is no
+    /// regular file; `WouldBlock` where a `FileDisk` that may write holds it.
+    pub fn open_to_read<P: AsPath>(files: &impl Files<File = File>, path: P) -> io::Result<FileDisk>
+        ensures may_write { IfOk result (λ d. d.may_write ≡ false) }
+        ensures failures { IfOk result (λ d. d.failures ≡ 0) }
+        ensures sync_failed { IfOk result (λ d. d.sync_failed ≡ false) }
+        ensures pages_dropped { IfOk result (λ d. d.pages_dropped ≡ false) }
+    {
+        let path = path.path_text();
+        // Looked at by its name first: to open a FIFO for reading would wait for a writer.
+        if !fs::metadata(files, path)?.is_file() {
             return Err(ErrorKind::InvalidInput.into());
         }
-        Ok(fresh(file, metadata.len() as usize))
+        let file = File::open(files, path)?;
+        file.try_lock_shared()?;
+        let len = length_of(&file)?;
+        Ok(fresh(file, len, false))
+    }
+
+    // `sync_data` and not `sync_all`: the file's length never changes, and its times are not needed. What
+    // is needed to find its bytes again goes with them (fdatasync(2)). Some file systems can't sync; a disk
+    // that is only read has written nothing that could be lost there.
+    fn sync_file(&self) -> io::Result<()> {
+        match self.file.sync_data() {
+            Err(error) if !self.may_write && error.kind() == ErrorKind::InvalidInput => Ok(()),
+            synced => synced,
+        }
     }
 }
 
-// The clauses of each call are those of its length and its count, and what becomes of `sync_failed`.
+// The clauses of each call are those of its length and its count, and what becomes of the other fields.
 impl Disk for FileDisk {
     ghost honest = { λ _. ⊥ };
 
@@ -169,7 +238,9 @@ impl Disk for FileDisk {
         requires { at + length buf.old ≤ self.old.len }
         ensures size { self.new.len ≡ self.old.len }
         ensures count { Counts self.old.failures self.new.failures result }
+        ensures may_write { self.new.may_write ≡ self.old.may_write }
         ensures sync_failed { self.new.sync_failed ≡ self.old.sync_failed }
+        ensures pages_dropped { self.new.pages_dropped ≡ self.old.pages_dropped }
     {
         match self.file.read_exact_at(buf, at as u64) {
             Ok(()) => Ok(()),
@@ -182,26 +253,33 @@ impl Disk for FileDisk {
         requires { at + length bytes.now ≤ self.old.len }
         ensures size { self.new.len ≡ self.old.len }
         ensures count { Counts self.old.failures self.new.failures result }
+        ensures refused { self.old.may_write ≡ false → IsErr result }
+        ensures may_write { self.new.may_write ≡ self.old.may_write }
         ensures sync_failed { self.new.sync_failed ≡ self.old.sync_failed }
+        ensures pages_dropped { self.new.pages_dropped ≡ self.old.pages_dropped }
     {
-        match self.file.write_all_at(bytes, at as u64) {
-            Ok(()) => Ok(()),
-            Err(_) => fail(&mut self.failures),
+        if self.may_write && self.file.write_all_at(bytes, at as u64).is_ok() {
+            return Ok(());
         }
+        fail(&mut self.failures)
     }
 
-    // `sync_data` and not `sync_all`: the file's length never changes, and its times are not needed. What
-    // is needed to find its bytes again goes with them (fdatasync(2)).
     fn sync(&mut self) -> Result<(), DiskFault>
         ensures size { self.new.len ≡ self.old.len }
         ensures count { Counts self.old.failures self.new.failures result }
+        ensures may_write { self.new.may_write ≡ self.old.may_write }
         ensures ok { OnOk result ((self.old.sync_failed ≡ false) × (self.new.sync_failed ≡ false)) }
         ensures err { OnErr result (self.new.sync_failed ≡ true) }
+        ensures dropped { OnOk result (self.new.pages_dropped ≡ true) }
     {
-        if !self.sync_failed && self.file.sync_data().is_ok() {
-            return Ok(());
+        if self.sync_failed || self.sync_file().is_err() {
+            self.sync_failed = true;
+            return fail(&mut self.failures);
         }
-        self.sync_failed = true;
-        fail(&mut self.failures)
+        if !self.pages_dropped {
+            drop_pages(&self.file);
+            self.pages_dropped = true;
+        }
+        Ok(())
     }
 }
