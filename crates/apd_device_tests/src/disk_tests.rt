@@ -267,6 +267,7 @@ fn a_read_gives_the_same_after_each_sync(rt: HostRuntime) -> Result<(), Fail> {
     let mut disk = FileDisk::open(&rt, file)?;
     let mut bytes = [0; 4];
     for (new, want) in [(b"a", *b"2a45"), (b"b", *b"2b45"), (b"c", *b"2c45")] {
+        assert_eq!(rt; disk.len(), 10);
         disk.write_at(3, new)?;
         disk.sync()?;
         disk.read_at(2, &mut bytes)?;
@@ -286,6 +287,7 @@ fn a_file_is_read_by_two_and_written_by_neither(rt: HostRuntime) -> Result<(), F
     let mut other = FileDisk::open_to_read(&rt, file)?;
     let mut bytes = [0; 3];
     assert_eq!(rt; disk.len(), 10);
+    assert_eq!(rt; other.len(), 10);
     assert_eq!(rt; disk.sync(), Ok(()));
     assert_eq!(rt; disk.read_at(7, &mut bytes), Ok(()));
     assert_eq!(rt; bytes, *b"789");
