@@ -318,6 +318,14 @@ fn who_reads_keeps_a_writer_out_and_the_other_way_round(rt: HostRuntime) -> Resu
 }
 
 #[test]
+fn a_file_that_cannot_be_synced_is_read_all_the_same(rt: HostRuntime) -> Result<(), Fail> {
+    let mut disk = FileDisk::open_to_read(&rt, "/proc/version")?;
+    assert_eq!(rt; disk.sync(), Ok(()));
+    assert_eq!(rt; disk.failures(), 0);
+    Ok(())
+}
+
+#[test]
 fn only_a_regular_file_is_opened_to_read(rt: HostRuntime) -> Result<(), Fail> {
     let folder = "disk_regular";
     let missing = "disk_regular/store";

@@ -7,6 +7,8 @@ mod common;
 #[cfg(test)]
 mod disk_tests;
 #[cfg(test)]
+mod failing_tests;
+#[cfg(test)]
 mod flusher_tests;
 #[cfg(test)]
 mod journal_tests;

@@ -1,6 +1,8 @@
 use apd_base::Addr;
 use apd_base::limits::MAX_FRAME;
-use apd_radio::{Radio, RadioFault, Recording, ReplayFault, Replaying, Sim, SocketFault, UdpSim};
+use apd_radio::{
+    Failing, Radio, RadioFault, Recording, ReplayFault, Replaying, Sim, SocketFault, UdpSim,
+};
 use std::io::{self, Write};
 use std::test::Fail;
 
@@ -14,6 +16,7 @@ fn each_kind_in_a_box(rt: HostRuntime) -> Result<(), Fail> {
     let writer: Vec<u8> = Vec::new(alloc);
     radios.push(Box::new(alloc, Recording::new(alloc, Sim::new(alloc), writer))?)?;
     radios.push(Box::new(alloc, Replaying::new(alloc, b"rx 00")?)?)?;
+    radios.push(Box::new(alloc, Failing::new(Sim::new(alloc), 4))?)?;
     radios.push(Box::new(alloc, UdpSim::new(&rt, alloc, 0)?)?)?;
     for radio in &mut radios {
         assert!(rt; radio.install(STATION, 7).is_ok());
@@ -57,6 +60,48 @@ fn a_recording_has_a_line_for_each_call(rt: HostRuntime) -> Result<(), Fail> {
     assert_eq!(rt; again.poll()?.as_deref(), Some(b"\xb0\x00\xaa".as_slice()));
     assert_eq!(rt; again.poll()?.as_deref(), Some(b"".as_slice()));
     assert_eq!(rt; again.poll()?.as_deref(), None);
+    Ok(())
+}
+
+/// A writer that takes whole lines, one a call, and refuses anything else.
+#[derive(Drop)]
+struct WholeLines {
+    taken: Vec<u8>,
+}
+
+impl Write for WholeLines {
+    fn write(&mut self, buf: &[u8]) -> io::Result<usize> {
+        if buf.iter().position(|byte| *byte == b'\n') != buf.len().checked_sub(1) {
+            return Err(io::Error::from(io::ErrorKind::BrokenPipe));
+        }
+        self.taken.extend_from_slice(buf)?;
+        Ok(buf.len())
+    }
+
+    fn flush(&mut self) -> io::Result<()> {
+        Ok(())
+    }
+}
+
+#[test]
+fn a_line_is_one_write(rt: HostRuntime) -> Result<(), Fail> {
+    let alloc = rt.alloc();
+    let mut writer = WholeLines {
+        taken: Vec::new(alloc),
+    };
+    {
+        let inner = Replaying::new(alloc, b"rx b0\n")?;
+        let mut radio = Recording::new(alloc, inner, &mut writer);
+        assert!(rt; radio.poll().is_ok());
+        assert!(rt; radio.transmit(b"\xb0\x00").is_ok());
+        assert!(rt; radio.install(STATION, 65535).is_ok());
+        assert!(rt; radio.remove(STATION).is_ok());
+        radio.take_down();
+    }
+    assert_eq!(rt;
+        writer.taken.as_slice(),
+        b"rx b0\ntx b000\ninstall 02:00:00:00:00:aa 65535\nremove 02:00:00:00:00:aa\ndown\ndown\n".as_slice()
+    );
     Ok(())
 }
 

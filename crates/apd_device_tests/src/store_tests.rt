@@ -327,10 +327,10 @@ fn two_open_halves(rt: HostRuntime) -> Result<(), Fail> {
 }
 
 #[test]
-fn each_byte_of_the_magic(rt: HostRuntime) -> Result<(), Fail> {
+fn each_byte_in_front_of_the_halves(rt: HostRuntime) -> Result<(), Fail> {
     let alloc = rt.alloc();
     let disk = device(alloc, 2)?;
-    for place in 0..9 {
+    for place in 0..64 {
         let found = changed(alloc, &disk, place, &[7])?;
         if place < 8 {
             assert_eq!(rt; found, Err(StoreFault::NotAStore), "{place}");

@@ -4,7 +4,9 @@
 
 mod boxed;
 mod call;
+mod counting;
 mod datagrams;
+mod failing;
 mod identifiers;
 pub mod laws;
 mod log;
@@ -16,6 +18,7 @@ mod udp_sim;
 
 pub use call::Call;
 pub use datagrams::{Datagrams, SocketFault};
+pub use failing::Failing;
 pub use identifiers::Identifiers;
 pub use radio::{Radio, RadioFault};
 pub use recording::Recording;

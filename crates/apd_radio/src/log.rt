@@ -1,4 +1,4 @@
-//! What a recording writes.
+//! What a recording writes: each line by one call of its writer, so that a process which is killed leaves whole lines.
 ghost use Rattle.std.specs.Prelude.{◌≡◌, false, OnOk};
 ghost use Rattle.std.specs.Io.KnownBytes.{Appends};
 ghost use Rattle.apd_base.specs.Text.{with_newline};
@@ -16,7 +16,8 @@ fn write_received<W: Write>(alloc: Global, writer: &mut W, frame: &[u8]) -> io::
         (Appends (W.contents writer.old) (W.contents writer.new) (with_newline (line_of (calls.Received frame.now)))) }
 {
     let digits = hex::encode(alloc, frame)?;
-    writeln!(writer, "rx {digits}")
+    let line = format!(in alloc; "rx {digits}\n")?;
+    writer.write_all(line.as_bytes())
 }
 
 fn write_sent<W: Write>(alloc: Global, writer: &mut W, frame: &[u8]) -> io::Result<()>
@@ -24,25 +25,25 @@ fn write_sent<W: Write>(alloc: Global, writer: &mut W, frame: &[u8]) -> io::Resu
         (Appends (W.contents writer.old) (W.contents writer.new) (with_newline (line_of (calls.Sent frame.now)))) }
 {
     let digits = hex::encode(alloc, frame)?;
-    writeln!(writer, "tx {digits}")
+    let line = format!(in alloc; "tx {digits}\n")?;
+    writer.write_all(line.as_bytes())
 }
 
-fn write_installed<W: Write>(writer: &mut W, addr: Addr, aid: u16) -> io::Result<()>
+fn write_installed<W: Write>(alloc: Global, writer: &mut W, addr: Addr, aid: u16) -> io::Result<()>
     ensures { OnOk result
         (Appends (W.contents writer.old) (W.contents writer.new) (with_newline (line_of (calls.Installed addr aid)))) }
 {
-    writer.write_all(b"install ")?;
-    writer.write_all(&addr.text())?;
-    writeln!(writer, " {aid}")
+    let line = format!(in alloc; "install {addr} {aid}\n")?;
+    writer.write_all(line.as_bytes())
 }
 
 fn write_removed<W: Write>(writer: &mut W, addr: Addr) -> io::Result<()>
     ensures { OnOk result
         (Appends (W.contents writer.old) (W.contents writer.new) (with_newline (line_of (calls.Removed addr)))) }
 {
-    writer.write_all(b"remove ")?;
-    writer.write_all(&addr.text())?;
-    writer.write_all(b"\n")
+    let mut line = *b"remove ..:..:..:..:..:..\n";
+    line[7..24].copy_from_slice(&addr.text());
+    writer.write_all(&line)
 }
 
 fn write_down<W: Write>(writer: &mut W) -> io::Result<()>
@@ -86,7 +87,7 @@ impl<W: Write + Drop> Log<W> {
             (W.contents self.new.writer) }
     {
         if !self.ended {
-            self.ended = write_installed(&mut self.writer, addr, aid).is_err();
+            self.ended = write_installed(self.alloc, &mut self.writer, addr, aid).is_err();
         }
     }
 

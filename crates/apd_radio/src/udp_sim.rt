@@ -1,8 +1,8 @@
 //! A radio whose frames are datagrams.
-ghost use Rattle.std.specs.Prelude.{◌≡◌, ◌≤◌, IfOk};
+ghost use Rattle.std.specs.Prelude.{◌≡◌, IfOk};
 ghost use Rattle.std.specs.FinMap as map;
-ghost use Rattle.apd_base.specs.Failures.{HasRisen};
 
+use crate::counting::counted;
 use crate::datagrams::{Datagrams, SocketFault};
 use crate::identifiers::Identifiers;
 use crate::radio::{Radio, RadioFault};
@@ -43,20 +43,6 @@ impl UdpSim {
             failures: 0,
         })
     }
-
-    // A fault of the device is counted.
-    fn counted(&mut self, fault: RadioFault) -> RadioFault
-        ensures same { result ≡ fault }
-        ensures risen { fault ≡ RadioFault.Device → HasRisen self.old.failures self.new.failures }
-        ensures kept { fault ≡ RadioFault.NoMemory → self.new.failures ≡ self.old.failures }
-        ensures count { self.old.failures ≤ self.new.failures }
-        ensures stations { self.new.stations ≡ self.old.stations }
-    {
-        if fault == RadioFault::Device {
-            self.failures = self.failures.saturating_add(1);
-        }
-        fault
-    }
 }
 
 impl Drop for UdpSim {
@@ -77,14 +63,12 @@ impl Radio for UdpSim {
     ghost faults = { λ radio. radio.failures };
 
     fn poll(&mut self) -> Result<Option<Vec<u8>>, RadioFault> {
-        match self.datagrams.receive() {
-            Ok(Some((peer, frame))) => {
-                self.peer = Some(peer);
-                Ok(Some(frame))
-            }
-            Ok(None) => Ok(None),
-            Err(fault) => Err(self.counted(fault)),
-        }
+        let answer = self.datagrams.receive();
+        let Some((peer, frame)) = counted(&mut self.failures, answer)? else {
+            return Ok(None);
+        };
+        self.peer = Some(peer);
+        Ok(Some(frame))
     }
 
     fn install(&mut self, addr: Addr, aid: u16) -> Result<(), RadioFault> {
@@ -100,10 +84,8 @@ impl Radio for UdpSim {
         let Some(peer) = self.peer else {
             return Ok(());
         };
-        match self.datagrams.send(peer, frame) {
-            Ok(()) => Ok(()),
-            Err(fault) => Err(self.counted(fault)),
-        }
+        let answer = self.datagrams.send(peer, frame);
+        counted(&mut self.failures, answer)
     }
 
     fn take_down(&mut self) {

@@ -16,7 +16,7 @@ use std::alloc::Global;
 pub(crate) type Memory = World<MemDisk, Sim>;
 
 /// What a restart that is refused hands back.
-pub(crate) type Refused = (MemDisk, Vec<Slot<Sim>>, WorldFault);
+pub(crate) type Refused<R> = (MemDisk, Vec<Slot<R>>, WorldFault);
 
 /// The number of a device's bytes.
 const LENGTH: usize = 2_097_216;
@@ -57,12 +57,12 @@ pub(crate) fn joined<D: Disk, R: Radio>(
 }
 
 /// The world of the store that a device holds.
-pub(crate) fn restarted(
+pub(crate) fn restarted<R: Radio>(
     alloc: Global,
     device: MemDisk,
     confs: Confs,
-    slots: Vec<Slot<Sim>>,
-) -> Result<Memory, Refused> {
+    slots: Vec<Slot<R>>,
+) -> Result<World<MemDisk, R>, Refused<R>> {
     restart(alloc, device, confs, slots, Moment(0))
 }
 
@@ -86,7 +86,7 @@ pub(crate) fn device<R: Radio>(world: World<MemDisk, R>) -> MemDisk {
 }
 
 /// Its slots.
-pub(crate) fn slots_of(world: Memory) -> Vec<Slot<Sim>> {
+pub(crate) fn slots_of<R: Radio>(world: World<MemDisk, R>) -> Vec<Slot<R>> {
     let (_flusher, _core, slots) = world.into_parts();
     slots
 }

@@ -7,6 +7,8 @@ mod calls;
 #[cfg(test)]
 mod driver_tests;
 #[cfg(test)]
+mod failing_tests;
+#[cfg(test)]
 mod memory_tests;
 #[cfg(test)]
 mod start_tests;

@@ -94,7 +94,7 @@ fn new_slots(alloc: Global) -> Option<Vec<Slot<Sim>>> {
 
 /// Another world of what a refusal handed back, behind a stop that leaves such an image; none where the slots are
 /// not as they should be.
-fn begun_again(alloc: Global, refused: Refused, torn: Torn) -> Option<Memory> {
+fn begun_again(alloc: Global, refused: Refused<Sim>, torn: Torn) -> Option<Memory> {
     let (device, slots, fault) = refused;
     if seen(&slots) != left_by(fault) {
         return None;

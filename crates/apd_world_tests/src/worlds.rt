@@ -23,7 +23,8 @@ fn name_of(alloc: Global, name: [u8; 2]) -> Option<InterfaceName> {
     }
 }
 
-fn conf(alloc: Global, last: u8) -> Option<Conf> {
+/// An interface with the network `net`, at the BSSID that ends by this byte.
+pub(crate) fn conf(alloc: Global, last: u8) -> Option<Conf> {
     let mut conf = Conf::built_in(alloc).ok()?;
     conf.interface = name_of(alloc, [b'w', b'0' | last])?;
     conf.bssid = radio(last);
