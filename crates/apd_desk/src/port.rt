@@ -1,6 +1,7 @@
 //! Where control commands come from.
 ghost use Rattle.std.specs.Prelude.{◌≡◌};
 
+use std::alloc::AllocError;
 use thiserror::Error;
 
 /// Why a port did not do what it was asked for.
@@ -9,17 +10,30 @@ pub enum PortFault {
     /// The device failed.
     #[error("device fault")]
     Device = 1,
+    /// Memory ran out.
+    #[error("out of memory")]
+    NoMemory,
+}
+
+impl From<AllocError> for PortFault {
+    ghost use Rattle.apd_desk.specs.declared.port.PortFault.TheVariants.{NoMemory};
+
+    ghost from_gives = { λ _ fault. fault ≡ NoMemory };
+
+    fn from(_error: AllocError) -> PortFault {
+        PortFault::NoMemory
+    }
 }
 
 /// Gives commands and takes replies. A tag tells which command a reply is to; nothing is promised of it.
 pub trait Port {
     /// The next command, by its tag and its bytes, if one waits. It doesn't wait for one.
     ///
-    /// Errors: `Device`.
+    /// Errors: `Device`, `NoMemory`. A command that meets want of memory may be given by a later call.
     fn poll(&mut self) -> Result<Option<(u64, Vec<u8>)>, PortFault>;
 
     /// Sends the reply to the command of this tag.
     ///
-    /// Errors: `Device`, and the reply is lost.
+    /// Errors: `Device`, `NoMemory`, and the reply is lost.
     fn reply(&mut self, tag: u64, text: &[u8]) -> Result<(), PortFault>;
 }

@@ -86,7 +86,8 @@ fn apply_settled<L: Ledger, W: Wait, R: Radio>(
 
 /// Serves a radio until a stop, and gives its seat and its slot back: submits the frames that it receives, gives
 /// its slot what of settled entries is for it, and notes whether it is up. An out that meets want of memory stays
-/// first and is tried again. It holds the lock for no call of the radio.
+/// first and is tried again, and so are those behind it: after a stop it ends once it has given all that it
+/// collected. It holds the lock for no call of the radio.
 pub fn radio_worker<L: Ledger, W: Wait + SystemClock, R: Radio, C: Clock, G: Gate>(
     rt: &W,
     alloc: Global,
@@ -107,10 +108,10 @@ pub fn radio_worker<L: Ledger, W: Wait + SystemClock, R: Radio, C: Clock, G: Gat
     shared.note(rt, slot.bssid(), slot.is_up());
     for _ in rt.forever() {
         let seen = shared.look(rt);
-        if seen.stopped {
+        if seen.stopped && outs.is_empty() {
             break;
         }
-        let received = receive(rt, shared, &mut seat, &mut slot, clock, gate);
+        let received = !seen.stopped && receive(rt, shared, &mut seat, &mut slot, clock, gate);
         let applied = apply_settled(rt, shared, &mut seat, &mut slot, &mut outs);
         if received || applied {
             idle.end();

@@ -2,9 +2,10 @@
 ghost use Rattle.std.specs.Prelude.{◌≡◌};
 
 use crate::common::{
-    ASSOCIATION, WLAN0, authentication, commit_all, enters, memory_flusher, share, started, submits,
+    ASSOCIATION, FIRST, WLAN0, authentication, commit_all, enters_both, memory_flusher, settles,
+    share, started, submits,
 };
-use apd_core::{Core, Input};
+use apd_core::Core;
 use apd_ctrl::Query;
 use apd_desk::{NoGate, Seat, Shared, flush_worker};
 use apd_disk::Disk;
@@ -19,10 +20,6 @@ use std::time::Clock;
 
 /// How often a seat collects at most, each time with a yield: a test that waits for an answer ends.
 const LOOKS: u64 = 10_000_000;
-
-/// What is told of the associated station.
-const FIRST: &[u8] =
-    b"02:00:00:00:00:aa\nflags=[AUTH][ASSOC][AUTHORIZED]\naid=1\ncapability=0x431\nlisten_interval=10\n";
 
 fn collect<L: Ledger, W: Wait>(rt: &W, shared: &Shared<L>, seat: &mut Seat<L>) -> Option<Vec<Out>> {
     shared.collect(rt, seat, Recipient::Radio(WLAN0)).ok()
@@ -102,27 +99,8 @@ fn a_seat_is_told_of_what_it_collected(rt: HostRuntime) {
     assert_eq!(rt; told, Some(true));
 }
 
-// Commits what is not settled, as one batch without a switch.
-fn settles<D: Disk>(core: &mut Core, flusher: &mut Flusher<D>) -> bool {
-    let Ok(Some(batch)) = core.take() else {
-        return false;
-    };
-    if flusher.load(batch).is_err() || (0..4).any(|_turn| flusher.turn().is_err()) {
-        return false;
-    }
-    match flusher.unload() {
-        Some(receipt) => core.publish(receipt).is_ok(),
-        None => false,
-    }
-}
-
 fn hand(core: &mut Core) -> Option<Vec<Out>> {
     core.hand(Recipient::Radio(WLAN0)).ok()
-}
-
-fn enters_both(core: &mut Core) -> bool {
-    enters(core, Input::Received(WLAN0, &authentication(0xaa)))
-        && enters(core, Input::Received(WLAN0, &ASSOCIATION))
 }
 
 fn hand_after_both<D: Disk>(core: &mut Core, flusher: &mut Flusher<D>) -> Option<Vec<Out>> {

@@ -39,6 +39,10 @@ pub(crate) const ASSOCIATION: [u8; 39] = [
     0, 3, 0x6e, 0x65, 0x74, 1, 4, 0x82, 0x84, 0x8b, 0x96,
 ];
 
+/// What is told of that station once it is associated.
+pub(crate) const FIRST: &[u8] =
+    b"02:00:00:00:00:aa\nflags=[AUTH][ASSOC][AUTHORIZED]\naid=1\ncapability=0x431\nlisten_interval=10\n";
+
 /// A clock that stands still.
 pub(crate) struct Still;
 
@@ -64,10 +68,10 @@ pub(crate) fn enters(core: &mut Core, input: Input<'_>) -> bool {
     matches!(core.accept(input, Moment(0)), Ok(Accepted::Entry(_)))
 }
 
-fn start(alloc: Global, core: &mut Core) -> bool {
+/// Whether the start of an interface becomes an entry.
+pub(crate) fn start(alloc: Global, core: &mut Core, bssid: Bssid) -> bool {
     let none = AddressList::new(alloc);
     let (accept, deny) = (&none, &none);
-    let bssid = WLAN0;
     enters(
         core,
         Input::Configure {
@@ -81,7 +85,38 @@ fn start(alloc: Global, core: &mut Core) -> bool {
 /// A core whose radio was started by entry 1, which is not settled.
 pub(crate) fn started(alloc: Global) -> Option<Core> {
     let mut core = new_core(alloc)?;
-    if start(alloc, &mut core) {
+    if start(alloc, &mut core, WLAN0) {
+        Some(core)
+    } else {
+        None
+    }
+}
+
+/// Whether a station asks for authentication and association.
+pub(crate) fn enters_both(core: &mut Core) -> bool {
+    enters(core, Input::Received(WLAN0, &authentication(0xaa)))
+        && enters(core, Input::Received(WLAN0, &ASSOCIATION))
+}
+
+/// Commits what is not settled, as one batch without a switch.
+pub(crate) fn settles<D: Disk>(core: &mut Core, flusher: &mut Flusher<D>) -> bool {
+    let Ok(Some(batch)) = core.take() else {
+        return false;
+    };
+    if flusher.load(batch).is_err() || (0..4).any(|_turn| flusher.turn().is_err()) {
+        return false;
+    }
+    match flusher.unload() {
+        Some(receipt) => core.publish(receipt).is_ok(),
+        None => false,
+    }
+}
+
+/// A core at which a station associated, which is settled and not handed out.
+pub(crate) fn associated(alloc: Global) -> Option<Core> {
+    let mut core = started(alloc)?;
+    let mut flusher = memory_flusher(alloc)?;
+    if enters_both(&mut core) && settles(&mut core, &mut flusher) {
         Some(core)
     } else {
         None

@@ -1,10 +1,15 @@
 // What the worker of the control port replies to what is refused.
 ghost use Rattle.std.specs.Prelude.{◌≡◌};
 
-use crate::common::{Still, WLAN0, authentication, enters, new_core, share, started};
+use crate::common::{
+    Still, WLAN0, authentication, enters, memory_flusher, new_core, settles, share, start, started,
+};
 use crate::operator::{Operator, are};
+use apd_base::{Addr, Bssid, Moment};
+use apd_conf::{Conf, Confs, InterfaceName};
 use apd_core::{Core, Input};
 use apd_desk::{NoGate, Seat, Shared, control_worker};
+use apd_table::Table;
 use std::alloc::Global;
 use std::marker::Brand;
 use std::sync::Wait;
@@ -112,4 +117,73 @@ fn an_order_fails_on_a_full_core(rt: HostRuntime) {
     let (core, blank) = (busy(alloc), Blank::new(65_536));
     let replied = replies::<Brand, _>(&rt, alloc, core, blank, ORDERS, FAILS);
     assert_eq!(rt; replied, Some(true));
+}
+
+const WLAN1: Bssid = Bssid(Addr([2, 0, 0, 0, 0, 2]));
+
+fn wlan1(alloc: Global) -> Option<Conf> {
+    let mut conf = Conf::built_in(alloc).ok()?;
+    conf.interface = InterfaceName::new("wlan1", alloc).ok()?;
+    conf.bssid = WLAN1;
+    Some(conf)
+}
+
+fn two_confs(alloc: Global) -> Option<Confs> {
+    let mut list = Vec::new(alloc);
+    list.push(Conf::built_in(alloc).ok()?).ok()?;
+    list.push(wlan1(alloc)?).ok()?;
+    Confs::new(list).ok()
+}
+
+// A core of two radios, the start of which is settled.
+fn two_radios(alloc: Global) -> Option<Core> {
+    let mut core = Core::new(alloc, Table::new(alloc), two_confs(alloc)?, Moment(0)).ok()?;
+    let mut flusher = memory_flusher(alloc)?;
+    let both = start(alloc, &mut core, WLAN0) && start(alloc, &mut core, WLAN1);
+    if both && settles(&mut core, &mut flusher) {
+        Some(core)
+    } else {
+        None
+    }
+}
+
+const ASKED: &[&[u8]] = &[b"STATUS", b"IFNAME=wlan1 STATUS", b"IFNAME=wlan0 STATUS"];
+
+const DOWN: &[u8] = b"state=DISABLED
+channel=6
+beacon_int=100
+bss[0]=wlan0
+bssid[0]=02:00:00:00:00:01
+ssid[0]=net
+num_sta[0]=0
+";
+
+const UP: &[u8] = b"state=ENABLED
+channel=6
+beacon_int=100
+bss[0]=wlan1
+bssid[0]=02:00:00:00:00:02
+ssid[0]=net
+num_sta[0]=0
+";
+
+const STATES: &[&[u8]] = &[DOWN, UP, DOWN];
+
+// Whether each of two radios shows its own state, the first of which is down.
+fn shows_both<L: Ledger, W: Wait + Clock>(rt: &W, alloc: Global, blank: Blank) -> Option<bool>
+    requires name { blank.name ≡ L.name }
+    requires parts { blank.parts ≡ L.parts }
+    requires all { blank.parts ≡ 65536 }
+{
+    let shared: Shared<L> = share(two_radios(alloc), blank)?;
+    let seat = shared.seat(rt)?;
+    shared.note(rt, WLAN0, false);
+    shared.note(rt, WLAN1, true);
+    Some(serve(rt, alloc, &shared, seat, ASKED, STATES))
+}
+
+#[test]
+fn a_command_is_of_the_interface_that_it_names(rt: HostRuntime) {
+    let shown = shows_both::<Brand, _>(&rt, rt.alloc(), Blank::new(65_536));
+    assert_eq!(rt; shown, Some(true));
 }

@@ -14,6 +14,14 @@ mod fault_tests;
 #[cfg(test)]
 mod hold;
 #[cfg(test)]
+mod memory_tests;
+#[cfg(test)]
 mod operator;
 #[cfg(test)]
+mod radio_tests;
+#[cfg(test)]
 mod seat_tests;
+#[cfg(test)]
+mod staged;
+#[cfg(test)]
+mod tick_tests;

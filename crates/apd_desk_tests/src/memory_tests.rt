@@ -1,0 +1,68 @@
+// A commit that is refused memory. Where memory is ample nothing is refused; by hand each allocation is refused in turn.
+ghost use Rattle.std.specs.Prelude.{◌≡◌};
+
+use crate::common::{FIRST, WLAN0, enters_both, memory_flusher, share, started};
+use apd_core::Core;
+use apd_ctrl::Query;
+use apd_desk::{NoGate, Seat, Shared, flush_worker};
+use apd_disk::MemDisk;
+use apd_flusher::Flusher;
+use std::alloc::Global;
+use std::marker::Brand;
+use std::sync::Wait;
+use std::sync::ledger::{Blank, Ledger};
+use std::time::Clock;
+
+fn asked(alloc: Global) -> Option<Core> {
+    let mut core = started(alloc)?;
+    if enters_both(&mut core) {
+        Some(core)
+    } else {
+        None
+    }
+}
+
+// A core at which a station associates, which is not settled.
+fn unsettled(alloc: Global) -> Option<Core> {
+    match asked(alloc) {
+        Some(core) => Some(core),
+        None => asked(alloc),
+    }
+}
+
+fn new_flusher(alloc: Global) -> Option<Flusher<MemDisk>> {
+    match memory_flusher(alloc) {
+        Some(flusher) => Some(flusher),
+        None => memory_flusher(alloc),
+    }
+}
+
+fn is_told<L: Ledger, W: Wait>(rt: &W, shared: &Shared<L>, seat: &mut Seat<L>) -> bool {
+    match shared.ask(rt, seat, Query::First(WLAN0)) {
+        Ok(answer) => answer.text() == FIRST,
+        Err(_) => false,
+    }
+}
+
+// Whether the station is there after the commit.
+fn commits<L: Ledger, W: Wait + Clock>(rt: &W, alloc: Global, shared: &Shared<L>) -> Option<bool> {
+    let mut seat = shared.seat(rt)?;
+    shared.stop(rt);
+    let _flusher = flush_worker(rt, shared, new_flusher(alloc)?, &NoGate);
+    Some(is_told(rt, shared, &mut seat) || is_told(rt, shared, &mut seat))
+}
+
+fn committed<L: Ledger, W: Wait + Clock>(rt: &W, alloc: Global, blank: Blank) -> Option<bool>
+    requires name { blank.name ≡ L.name }
+    requires parts { blank.parts ≡ L.parts }
+    requires all { blank.parts ≡ 65536 }
+{
+    let shared: Shared<L> = share(unsettled(alloc), blank)?;
+    commits(rt, alloc, &shared)
+}
+
+#[test]
+fn a_commit_that_is_refused_memory_is_tried_again(rt: HostRuntime) {
+    let committed = committed::<Brand, _>(&rt, rt.alloc(), Blank::new(65_536));
+    assert_eq!(rt; committed, Some(true));
+}

@@ -1,0 +1,202 @@
+// What the worker of a radio does with what comes and what goes out.
+ghost use Rattle.std.specs.Prelude.{◌≡◌};
+
+use crate::common::{
+    ASSOCIATION, Still, WLAN0, associated, authentication, memory_flusher, share, started,
+};
+use crate::staged::{At, Log, Short, Staged};
+use apd_base::Moment;
+use apd_core::{Accepted, Input};
+use apd_desk::{Clock, Gate, NoGate, Seat, Shared, flush_worker, radio_worker};
+use apd_radio::{Failing, Radio, Recording, Sim};
+use apd_slot::Slot;
+use std::alloc::Global;
+use std::marker::Brand;
+use std::sync::Wait;
+use std::sync::ledger::{Blank, Ledger};
+use std::time;
+
+// Serves a radio that receives these frames, until the look behind them. Gives the seat.
+fn serve<L: Ledger, W: Wait + time::Clock, R: Radio, C: Clock, G: Gate>(
+    rt: &W,
+    alloc: Global,
+    shared: &Shared<L>,
+    inner: R,
+    frames: &[&[u8]],
+    clock: &C,
+    gate: &G,
+) -> Option<Seat<L>> {
+    let seat = shared.seat(rt)?;
+    let radio = Staged::new(rt, alloc, shared, inner, frames);
+    let slot = Slot::new(alloc, radio, WLAN0);
+    let (seat, _slot) = radio_worker(rt, alloc, shared, seat, slot, clock, gate);
+    Some(seat)
+}
+
+// What a radio is told that meets want of memory once, at the first of the outs that wait. All are told to stop before
+// the first of them.
+fn told<L: Ledger, W: Wait + time::Clock>(rt: &W, alloc: Global, blank: Blank) -> Option<Vec<u8>>
+    requires name { blank.name ≡ L.name }
+    requires parts { blank.parts ≡ L.parts }
+    requires all { blank.parts ≡ 65536 }
+{
+    let shared: Shared<L> = share(associated(alloc), blank)?;
+    let mut written = Vec::new(alloc);
+    write_told(rt, alloc, &shared, &mut written)?;
+    Some(written)
+}
+
+fn write_told<L: Ledger, W: Wait + time::Clock>(
+    rt: &W,
+    alloc: Global,
+    shared: &Shared<L>,
+    written: &mut Vec<u8>,
+) -> Option<()> {
+    let recording = Recording::new(alloc, Sim::new(alloc), written);
+    let radio = Short {
+        inner: recording,
+        was_short: false,
+    };
+    serve(rt, alloc, shared, radio, &[], &Still, &NoGate)?;
+    Some(())
+}
+
+fn all_lines() -> &'static [u8] {
+    b"down
+tx b00000000200000000aa0200000000010200000000010000000002000000
+install 02:00:00:00:00:aa 1
+tx 100000000200000000aa02000000000102000000000100000100000001c0010482848b96
+down
+"
+}
+
+#[test]
+fn no_out_is_lost_at_want_of_memory_or_at_a_stop(rt: HostRuntime) {
+    let told = told::<Brand, _>(&rt, rt.alloc(), Blank::new(65_536));
+    assert_eq!(rt; told.as_deref(), Some(all_lines()));
+}
+
+// Whether a tick at this moment lets a station go.
+fn lets_go<L: Ledger, W: Wait>(
+    rt: &W,
+    shared: &Shared<L>,
+    seat: &mut Seat<L>,
+    moment: u64,
+) -> bool {
+    let answer = shared.submit(rt, seat, Input::Tick, Moment(moment));
+    matches!(answer, Ok(Accepted::Entry(_)))
+}
+
+// Whether a station that was heard at 200 s is let go at 400 s, and at 500 s.
+fn gone<L: Ledger, W: Wait + time::Clock>(rt: &W, alloc: Global, blank: Blank) -> Option<[bool; 2]>
+    requires name { blank.name ≡ L.name }
+    requires parts { blank.parts ≡ L.parts }
+    requires all { blank.parts ≡ 65536 }
+{
+    let shared: Shared<L> = share(started(alloc), blank)?;
+    gone_at(rt, alloc, &shared)
+}
+
+fn gone_at<L: Ledger, W: Wait + time::Clock>(
+    rt: &W,
+    alloc: Global,
+    shared: &Shared<L>,
+) -> Option<[bool; 2]> {
+    let frame = authentication(0xaa);
+    let radio = Sim::new(alloc);
+    let mut seat = serve(rt, alloc, shared, radio, &[&frame], &At(200_000), &NoGate)?;
+    Some([
+        lets_go(rt, shared, &mut seat, 400_000),
+        lets_go(rt, shared, &mut seat, 500_000),
+    ])
+}
+
+#[test]
+fn a_frame_is_heard_at_its_moment(rt: HostRuntime) {
+    let gone = gone::<Brand, _>(&rt, rt.alloc(), Blank::new(65_536));
+    assert_eq!(rt; gone, Some([false, true]));
+}
+
+// Whether a radio is noted as up, by the worker that served it.
+fn noted<L: Ledger, W: Wait + time::Clock>(
+    rt: &W,
+    alloc: Global,
+    shared: &Shared<L>,
+    calls: u64,
+) -> Option<bool> {
+    let radio = Failing::new(Sim::new(alloc), calls);
+    serve(rt, alloc, shared, radio, &[], &Still, &NoGate)?;
+    Some(shared.noted(rt, WLAN0))
+}
+
+// The same, where a station is to be installed or none, by a radio that passes so many calls.
+fn is_up<L: Ledger, W: Wait + time::Clock>(
+    rt: &W,
+    alloc: Global,
+    blank: Blank,
+    installs: bool,
+    calls: u64,
+) -> Option<bool>
+    requires name { blank.name ≡ L.name }
+    requires parts { blank.parts ≡ L.parts }
+    requires all { blank.parts ≡ 65536 }
+{
+    let core = if installs {
+        associated(alloc)
+    } else {
+        started(alloc)
+    };
+    let shared: Shared<L> = share(core, blank)?;
+    noted(rt, alloc, &shared, calls)
+}
+
+#[test]
+fn whether_a_radio_is_up_is_noted(rt: HostRuntime) {
+    for (installs, calls, up) in [
+        (false, 0, true),
+        (true, 0, false),
+        (true, 1, false),
+        (true, 2, true),
+    ] {
+        let is_up = is_up::<Brand, _>(&rt, rt.alloc(), Blank::new(65_536), installs, calls);
+        assert_eq!(rt; is_up, Some(up), "{calls}");
+    }
+}
+
+// What passes the gate of two frames and their commit.
+fn logged<L: Ledger, W: Wait + time::Clock>(rt: &W, alloc: Global, blank: Blank) -> Option<u64>
+    requires name { blank.name ≡ L.name }
+    requires parts { blank.parts ≡ L.parts }
+    requires all { blank.parts ≡ 65536 }
+{
+    let shared: Shared<L> = share(started(alloc), blank)?;
+    log_both(rt, alloc, &shared)
+}
+
+fn log_both<L: Ledger, W: Wait + time::Clock>(
+    rt: &W,
+    alloc: Global,
+    shared: &Shared<L>,
+) -> Option<u64> {
+    let log = Log::new();
+    let frame = authentication(0xaa);
+    let radio = Sim::new(alloc);
+    serve(
+        rt,
+        alloc,
+        shared,
+        radio,
+        &[&frame, &ASSOCIATION],
+        &Still,
+        &log,
+    )?;
+    let _flusher = flush_worker(rt, shared, memory_flusher(alloc)?, &log);
+    Some(log.digits())
+}
+
+// The entries 2 and 3, and the four turns of a commit.
+#[test]
+fn a_gate_is_passed_at_each_entry_and_each_turn(rt: HostRuntime) {
+    let logged = logged::<Brand, _>(&rt, rt.alloc(), Blank::new(65_536));
+    assert_eq!(rt; logged, Some(0x23_baba_baba));
+}

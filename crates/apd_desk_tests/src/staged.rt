@@ -1,0 +1,203 @@
+//! A clock, a gate and radios by which a test says when something comes, and when all are to stop.
+ghost use Rattle.std.specs.Prelude.{◌≡◌};
+ghost use Rattle.std.specs.FinMap as map;
+
+use apd_base::{Addr, Moment};
+use apd_desk::{Clock, Gate, Place, Shared};
+use apd_radio::{Radio, RadioFault};
+use std::alloc::Global;
+use std::sync::Wait;
+use std::sync::atomic::{AtomicU64, AtomicUsize, Ordering};
+use std::sync::ledger::Ledger;
+
+/// Tells its moments one after another, and with the last one tells all to stop.
+#[derive(Drop)]
+pub(crate) struct StagedClock<'a, L: Ledger, W: Wait> {
+    rt: &'a W,
+    shared: &'a Shared<L>,
+    moments: &'a [u64],
+    told: AtomicUsize,
+}
+
+impl<'a, L: Ledger, W: Wait> StagedClock<'a, L, W> {
+    pub(crate) fn new(
+        rt: &'a W,
+        shared: &'a Shared<L>,
+        moments: &'a [u64],
+    ) -> StagedClock<'a, L, W> {
+        StagedClock {
+            rt,
+            shared,
+            moments,
+            told: AtomicUsize::new(0),
+        }
+    }
+}
+
+impl<L: Ledger, W: Wait> Clock for StagedClock<'_, L, W> {
+    fn now(&self) -> Moment {
+        let at = self.told.fetch_add(1, Ordering::SeqCst);
+        if at.saturating_add(1) >= self.moments.len() {
+            self.shared.stop(self.rt);
+        }
+        Moment(self.moments.get(at).copied().unwrap_or(0))
+    }
+}
+
+/// A clock that stands at a moment, in milliseconds.
+pub(crate) struct At(pub(crate) u64);
+
+impl Clock for At {
+    fn now(&self) -> Moment {
+        Moment(self.0)
+    }
+}
+
+/// Keeps what passes it, a hexadecimal digit each: b and a before and after a turn, else the number of an entry.
+#[derive(Drop)]
+pub(crate) struct Log {
+    digits: AtomicU64,
+}
+
+impl Log {
+    pub(crate) fn new() -> Log {
+        Log {
+            digits: AtomicU64::new(0),
+        }
+    }
+
+    pub(crate) fn digits(&self) -> u64 {
+        self.digits.load(Ordering::SeqCst)
+    }
+}
+
+fn digit(at: Place) -> u64 {
+    match at {
+        Place::BeforeCall => 0xb,
+        Place::AfterCall => 0xa,
+        Place::Accepted(number) => number.min(9),
+    }
+}
+
+impl Gate for Log {
+    fn pass(&self, at: Place) {
+        let digits = self.digits.load(Ordering::SeqCst);
+        self.digits
+            .store(digits.wrapping_mul(16) | digit(at), Ordering::SeqCst);
+    }
+}
+
+/// The radio inside, which receives these frames, one at each look, and tells all to stop at the look behind them.
+#[derive(Drop)]
+pub(crate) struct Staged<'a, R: Radio, L: Ledger, W: Wait> {
+    rt: &'a W,
+    alloc: Global,
+    shared: &'a Shared<L>,
+    inner: R,
+    frames: &'a [&'a [u8]],
+    given: usize,
+}
+
+impl<'a, R: Radio, L: Ledger, W: Wait> Staged<'a, R, L, W> {
+    pub(crate) fn new(
+        rt: &'a W,
+        alloc: Global,
+        shared: &'a Shared<L>,
+        inner: R,
+        frames: &'a [&'a [u8]],
+    ) -> Staged<'a, R, L, W> {
+        Staged {
+            rt,
+            alloc,
+            shared,
+            inner,
+            frames,
+            given: 0,
+        }
+    }
+}
+
+impl<R: Radio, L: Ledger, W: Wait> Radio for Staged<'_, R, L, W> {
+    ghost stations = { λ radio. R.stations radio.inner };
+
+    ghost faults = { λ radio. R.faults radio.inner };
+
+    fn poll(&mut self) -> Result<Option<Vec<u8>>, RadioFault> {
+        let Some(frame) = self.frames.get(self.given) else {
+            self.shared.stop(self.rt);
+            return Ok(None);
+        };
+        let frame = Vec::from_slice(self.alloc, frame)?;
+        self.given += 1;
+        Ok(Some(frame))
+    }
+
+    fn install(&mut self, addr: Addr, aid: u16) -> Result<(), RadioFault> {
+        self.inner.install(addr, aid)
+    }
+
+    fn remove(&mut self, addr: Addr) -> Result<(), RadioFault> {
+        self.inner.remove(addr)
+    }
+
+    fn transmit(&mut self, frame: &[u8]) -> Result<(), RadioFault> {
+        self.inner.transmit(frame)
+    }
+
+    fn take_down(&mut self) {
+        self.inner.take_down();
+    }
+
+    fn installed(&self, addr: Addr) -> Option<u16> {
+        self.inner.installed(addr)
+    }
+
+    fn failures(&self) -> u64 {
+        self.inner.failures()
+    }
+}
+
+/// The radio inside, which meets want of memory at its first frame, once.
+#[derive(Drop)]
+pub(crate) struct Short<R: Radio> {
+    pub(crate) inner: R,
+    pub(crate) was_short: bool,
+}
+
+impl<R: Radio> Radio for Short<R> {
+    ghost stations = { λ radio. R.stations radio.inner };
+
+    ghost faults = { λ radio. R.faults radio.inner };
+
+    fn poll(&mut self) -> Result<Option<Vec<u8>>, RadioFault> {
+        self.inner.poll()
+    }
+
+    fn install(&mut self, addr: Addr, aid: u16) -> Result<(), RadioFault> {
+        self.inner.install(addr, aid)
+    }
+
+    fn remove(&mut self, addr: Addr) -> Result<(), RadioFault> {
+        self.inner.remove(addr)
+    }
+
+    fn transmit(&mut self, frame: &[u8]) -> Result<(), RadioFault> {
+        if !self.was_short {
+            self.was_short = true;
+            return Err(RadioFault::NoMemory);
+        }
+        self.inner.transmit(frame)
+    }
+
+    fn take_down(&mut self) {
+        self.inner.take_down();
+    }
+
+    fn installed(&self, addr: Addr) -> Option<u16> {
+        self.inner.installed(addr)
+    }
+
+    fn failures(&self) -> u64 {
+        self.inner.failures()
+    }
+}

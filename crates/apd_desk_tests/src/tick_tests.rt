@@ -1,0 +1,67 @@
+// When the worker of ticks lets stations go.
+ghost use Rattle.std.specs.Prelude.{◌≡◌};
+
+use crate::common::{WLAN0, authentication, share, started};
+use crate::staged::StagedClock;
+use apd_base::Moment;
+use apd_core::{Accepted, Core, Input};
+use apd_desk::{NoGate, Shared, tick_worker};
+use std::alloc::Global;
+use std::marker::Brand;
+use std::sync::Wait;
+use std::sync::ledger::{Blank, Ledger};
+use std::time;
+
+// Whether a station is heard at 100 s, by a frame that becomes an entry.
+fn hears(core: &mut Core, last: u8) -> bool {
+    let frame = authentication(last);
+    let answer = core.accept(Input::Received(WLAN0, &frame), Moment(100_000));
+    matches!(answer, Ok(Accepted::Entry(_)))
+}
+
+// A core that two stations told something at 100 s, and nothing since.
+fn silent(alloc: Global) -> Option<Core> {
+    let mut core = started(alloc)?;
+    if hears(&mut core, 0xaa) && hears(&mut core, 0xbb) {
+        Some(core)
+    } else {
+        None
+    }
+}
+
+// How many ticks become entries at these moments, the first of which is that of the worker's begin.
+fn ticks<L: Ledger, W: Wait + time::Clock>(
+    rt: &W,
+    alloc: Global,
+    blank: Blank,
+    moments: &[u64],
+) -> Option<u64>
+    requires name { blank.name ≡ L.name }
+    requires parts { blank.parts ≡ L.parts }
+    requires all { blank.parts ≡ 65536 }
+{
+    let shared: Shared<L> = share(silent(alloc), blank)?;
+    count(rt, &shared, moments)
+}
+
+fn count<L: Ledger, W: Wait + time::Clock>(
+    rt: &W,
+    shared: &Shared<L>,
+    moments: &[u64],
+) -> Option<u64> {
+    let clock = StagedClock::new(rt, shared, moments);
+    let seat = tick_worker(rt, shared, shared.seat(rt)?, &clock, &NoGate);
+    Some(seat.count())
+}
+
+#[test]
+fn two_silent_stations_go_a_second_apart(rt: HostRuntime) {
+    for (moments, gone) in [
+        ([399_000, 399_500, 399_999].as_slice(), 0),
+        (&[399_000, 400_000, 400_500, 400_999], 1),
+        (&[399_000, 400_000, 400_500, 400_999, 401_000], 2),
+    ] {
+        let ticks = ticks::<Brand, _>(&rt, rt.alloc(), Blank::new(65_536), moments);
+        assert_eq!(rt; ticks, Some(gone));
+    }
+}
