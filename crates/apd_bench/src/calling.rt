@@ -1,4 +1,5 @@
 //! The calls of an access point, each in a function without clauses, so that no caller's proof carries a long contract.
+use crate::fault::BenchFault;
 use apd_base::Moment;
 use apd_conf::Confs;
 use apd_disk::Disk;
@@ -9,10 +10,10 @@ use apd_world::{Commit, Step, Told, World};
 use std::alloc::Global;
 
 /// The disk, with a new store on it.
-pub fn formatted<D: Disk + Drop>(alloc: Global, disk: D) -> Option<D> {
+pub fn formatted<D: Disk + Drop>(alloc: Global, disk: D) -> Result<D, BenchFault> {
     match format(alloc, disk) {
-        Ok(store) => Some(store.into_device()),
-        Err(_) => None,
+        Ok(store) => Ok(store.into_device()),
+        Err(_) => Err(BenchFault::File),
     }
 }
 
@@ -22,10 +23,10 @@ pub fn restarted<D: Disk + Drop, R: Radio>(
     disk: D,
     confs: Confs,
     slots: Vec<Slot<R>>,
-) -> Option<World<D, R>> {
+) -> Result<World<D, R>, BenchFault> {
     match apd_world::restart(alloc, disk, confs, slots, Moment(0)) {
-        Ok(world) => Some(world),
-        Err(_) => None,
+        Ok(world) => Ok(world),
+        Err(_) => Err(BenchFault::Refused),
     }
 }
 

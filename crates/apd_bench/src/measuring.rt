@@ -52,11 +52,9 @@ fn slots(alloc: Global) -> Result<Vec<Slot<Sim>>, BenchFault> {
 
 // The world of the built-in configuration over a disk, on which it makes a new store. It isn't started.
 fn new_world<D: Disk + Drop>(alloc: Global, disk: D) -> Result<World<D, Sim>, BenchFault> {
-    let (confs, slots) = (confs(alloc)?, slots(alloc)?);
-    let Some(disk) = formatted(alloc, disk) else {
-        return Err(BenchFault::File);
-    };
-    restarted(alloc, disk, confs, slots).ok_or(BenchFault::Refused)
+    let disk = formatted(alloc, disk)?;
+    let slots = slots(alloc)?;
+    restarted(alloc, disk, confs(alloc)?, slots)
 }
 
 // Starts the interface, and has this many stations associated.
@@ -71,7 +69,19 @@ fn prepare<C: Clock, D: Disk, R: Radio>(
     associate(rt, world, stations)
 }
 
-// One round over a store on a disk, of few requests.
+// One round of few requests, of a world that isn't started.
+fn counted<C: Clock, D: Disk, R: Radio>(
+    rt: &C,
+    world: &mut World<D, R>,
+    tally: &Tally,
+    case: &Case,
+) -> Result<Round, BenchFault> {
+    let requests = case.requests(FEW);
+    prepare(rt, world, case.associated(requests))?;
+    go_round(rt, world, tally, case, requests)
+}
+
+// The same over a new store on a disk.
 fn counted_on<C: Clock, D: Disk + Drop>(
     rt: &C,
     alloc: Global,
@@ -80,9 +90,7 @@ fn counted_on<C: Clock, D: Disk + Drop>(
 ) -> Result<Round, BenchFault> {
     let tally = Tally::new();
     let mut world = new_world(alloc, Counting::new(disk, &tally))?;
-    let requests = case.requests(FEW);
-    prepare(rt, &mut world, case.associated(requests))?;
-    go_round(rt, &mut world, &tally, case, requests)
+    counted(rt, &mut world, &tally, case)
 }
 
 // The rate of the bare loop over a file, with as many bytes a turn as the commits of a round wrote; none without a

@@ -4,6 +4,7 @@ pub mod Keeping
 pub mod OnStore
 pub mod OneRun
 pub mod Parts
+pub mod Printing
 pub mod Running
 pub mod Safely
 pub mod Saying

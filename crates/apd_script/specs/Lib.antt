@@ -1,3 +1,4 @@
+pub mod Checking
 pub mod Configured
 pub mod Lines
 pub mod CommandInterface

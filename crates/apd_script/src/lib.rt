@@ -2,6 +2,7 @@
 //! is given.
 #![tactic(auto)]
 
+mod checking;
 mod configuration_files;
 mod formatting;
 pub mod laws;
@@ -9,6 +10,7 @@ mod on_store;
 mod script;
 
 pub use apd_core::QuietReason;
+pub use checking::{CheckFault, run_check};
 pub use configuration_files::read_configurations;
 pub use formatting::{FormatFault, run_format};
 pub use on_store::{STOPS, new_store, run_on_store};

@@ -1,7 +1,7 @@
 //! Calls whose contracts are long, each by a function of its own, so that the proof of a test needn't carry
 //! them.
 use apd_base::{Addr, Bssid};
-use apd_conf::{AddressList, Conf, Confs, InterfaceName, read_conf, read_list};
+use apd_conf::{AddressList, Conf, Confs, InterfaceName, read_list};
 use std::alloc::Global;
 use std::test::Fail;
 
@@ -39,14 +39,6 @@ pub fn both(alloc: Global, first: Conf, second: Conf) -> Result<Confs, Fail> {
     list.push(first)?;
     list.push(second)?;
     confs_of(list)
-}
-
-/// The configuration of a file that is taken.
-pub fn conf_of(alloc: Global, file: &[u8]) -> Result<Conf, Fail> {
-    match read_conf(alloc, file) {
-        Ok(conf) => Ok(conf),
-        Err(_) => Err(Fail::new("a configuration file is refused")),
-    }
 }
 
 /// The addresses of a list file that is taken.

@@ -1,137 +1,13 @@
-use crate::calls::{addresses_of, alone, conf_of, confs_of};
-use crate::worlds::printed;
 use apd_base::Addr;
-use apd_conf::{AddressList, ConfFault, ConfigurationFault, ConfsFault, ListFault};
+use apd_conf::{ConfFault, ConfigurationFault, ConfsFault, ListFault};
 use apd_script::read_configurations;
 use std::alloc::Global;
 use std::fs;
 use std::rt::Files;
 use std::test::Fail;
 
-/// The lines that every configuration of wlan0 has.
-const RADIO: &str = "interface=wlan0\nbssid=02:00:00:00:00:01\nssid=net\n";
-
-/// An authentication request of the station 02:00:00:00:00:aa at wlan0.
-fn request() -> &'static [u8] {
-    b"rx wlan0 b00000000200000000010200000000aa0200000000011000000001000000\nflush\n"
-}
-
 /// Where the tests' files stand.
 const FOLDER: &str = "configuration_files_of_a_test";
-
-const STATION: &str = "02:00:00:00:00:aa";
-
-/// Lines of a configuration, its lists, and the body of its answer.
-struct Policy {
-    lines: &'static str,
-    accept: &'static str,
-    deny: &'static str,
-    body: &'static str,
-}
-
-const POLICIES: [Policy; 7] = [
-    // No room: status 17.
-    Policy {
-        lines: "max_num_sta=0",
-        accept: "",
-        deny: "",
-        body: "000002001100",
-    },
-    // Open System is not configured: status 13.
-    Policy {
-        lines: "auth_algs=2",
-        accept: "",
-        deny: "",
-        body: "000002000d00",
-    },
-    // Denied, and no room: status 1 comes first.
-    Policy {
-        lines: "macaddr_acl=1\nmax_num_sta=0",
-        accept: "",
-        deny: "",
-        body: "000002000100",
-    },
-    // Neither on a list nor allowed by the mode: status 1.
-    Policy {
-        lines: "macaddr_acl=1",
-        accept: "",
-        deny: "",
-        body: "000002000100",
-    },
-    // On the deny list: status 1.
-    Policy {
-        lines: "macaddr_acl=0",
-        accept: "",
-        deny: STATION,
-        body: "000002000100",
-    },
-    // On the accept list: status 0, also where it is on both.
-    Policy {
-        lines: "macaddr_acl=1",
-        accept: STATION,
-        deny: "",
-        body: "000002000000",
-    },
-    Policy {
-        lines: "macaddr_acl=0",
-        accept: STATION,
-        deny: STATION,
-        body: "000002000000",
-    },
-];
-
-/// The policies, each with its answer.
-fn policies() -> &'static [Policy] {
-    &POLICIES
-}
-
-#[test]
-fn the_policy_answers_authentications(rt: HostRuntime) -> Result<(), Fail> {
-    let alloc = rt.alloc();
-    for policy in policies() {
-        let lines = policy.lines;
-        let body = policy.body;
-        let text = format!(in alloc; "{RADIO}{lines}\n")?;
-        let mut conf = conf_of(alloc, text.as_bytes())?;
-        let accept = addresses_of(alloc, policy.accept.as_bytes())?;
-        let deny = addresses_of(alloc, policy.deny.as_bytes())?;
-        conf.set_lists(accept, deny);
-        let (fault, out) = printed(alloc, alone(alloc, conf)?, request())?;
-        assert_eq!(rt; fault, None, "{lines}");
-        let want = format!(in alloc;
-            "entry 2\nwlan0 tx b00000000200000000aa0200000000010200000000010000{body}\n"
-        )?;
-        assert_eq!(rt; out.as_slice(), want.as_bytes(), "{lines}");
-    }
-    Ok(())
-}
-
-/// An authentication request of the station at each of two radios.
-fn requests_to_both() -> &'static [u8] {
-    b"rx wlan0 b00000000200000000010200000000aa0200000000011000000001000000\nrx wlan1 b00000000200000000020200000000aa0200000000021000000001000000\nflush\n"
-}
-
-/// The first radio denies the station, and the second lets it in.
-fn answers_of_both() -> &'static [u8] {
-    b"entry 3\nentry 4\nwlan0 tx b00000000200000000aa0200000000010200000000010000000002000100\nwlan1 tx b00000000200000000aa0200000000020200000000020000000002000000\n"
-}
-
-#[test]
-fn each_radio_starts_with_its_own_lists(rt: HostRuntime) -> Result<(), Fail> {
-    let alloc = rt.alloc();
-    let mut list = Vec::new(alloc);
-    for (name, last, deny) in [("wlan0", 1, "02:00:00:00:00:aa"), ("wlan1", 2, "")] {
-        let text = format!(in alloc; "interface={name}\nbssid=02:00:00:00:00:0{last}\nssid=net")?;
-        let mut conf = conf_of(alloc, text.as_bytes())?;
-        let deny = addresses_of(alloc, deny.as_bytes())?;
-        conf.set_lists(AddressList::new(alloc), deny);
-        list.push(conf)?;
-    }
-    let (fault, out) = printed(alloc, confs_of(list)?, requests_to_both())?;
-    assert_eq!(rt; fault, None);
-    assert_eq!(rt; out.as_slice(), answers_of_both());
-    Ok(())
-}
 
 /// A fault as it is printed.
 fn text_of(alloc: Global, fault: ConfigurationFault) -> Result<String, Fail> {

@@ -3,9 +3,9 @@
 #![tactic(auto)]
 
 #[cfg(test)]
-mod association_tests;
-#[cfg(test)]
 mod calls;
+#[cfg(test)]
+mod check_tests;
 #[cfg(test)]
 mod command_tests;
 #[cfg(test)]
@@ -13,9 +13,9 @@ mod configuration_tests;
 #[cfg(test)]
 mod decision_tests;
 #[cfg(test)]
-mod rows;
-#[cfg(test)]
 mod script_tests;
+#[cfg(test)]
+mod scripts;
 #[cfg(test)]
 mod stop_tests;
 #[cfg(test)]

@@ -1,7 +1,7 @@
-use crate::calls::{both, built_in, one_radio, second};
+use crate::calls::one_radio;
 use crate::worlds::{fresh_store, printed, run_on};
 use apd_base::limits::MAX_SCRIPT;
-use apd_base::{Addr, Aid, Bssid};
+use apd_base::{Addr, Aid};
 use apd_conf::InterfaceName;
 use apd_mlme::Out;
 use apd_script::{QuietReason, ScriptFault, write_out, write_reception};
@@ -11,37 +11,13 @@ use std::io::{self, BufRead, BufReader, Read, Write};
 use std::test::Fail;
 
 #[test]
-fn an_authentication_is_answered_once_it_is_flushed(rt: HostRuntime) -> Result<(), Fail> {
+fn lines_end_at_a_newline_alone_and_the_last_needs_none(rt: HostRuntime) -> Result<(), Fail> {
     for (script, want) in [
-        // Open System, the first frame, in either case and with blanks among the digits.
         (
             b"rx wlan0 b000 0000 020000000001 0200000000AA 020000000001 1000 0000 0100 00 0 0\nflush".as_slice(),
             b"entry 2\nwlan0 tx b00000000200000000aa0200000000010200000000010000000002000000\n".as_slice(),
         ),
-        // Nothing is handed out before.
-        (
-            b"rx wlan0 b000 0000 020000000001 0200000000AA 020000000001 1000 0000 0100 00 0 0\n",
-            b"entry 2\n",
-        ),
-        (
-            b"rx wlan0 b00000000200000000010200000000aa0200000000011000000001000000\nhand\n",
-            b"entry 2\n",
-        ),
-        // Another algorithm, and the greatest transaction number.
-        (
-            b"rx wlan0 b00000000200000000010200000000aa02000000000110000100ffff0000\n\nflush\n",
-            b"entry 2\nwlan0 tx b00000000200000000aa0200000000010200000000010000010000000d00\n",
-        ),
-        // Out of sequence.
-        (
-            b"rx wlan0 b00000000200000000010200000000aa0200000000011000000003000000\nflush\nflush\nhand\n",
-            b"entry 2\nwlan0 tx b00000000200000000aa0200000000010200000000010000000004000e00\n",
-        ),
-        // No frames: of 23 bytes, and of none.
-        (
-            b"rx wlan0 b00000000200000000010200000000aa02000000000110\nrx wlan0\nrx wlan0 \n",
-            b"quiet short\nquiet short\nquiet short\n",
-        ),
+        (b"cmd PING\r\n", b"ctrl 1 UNKNOWN COMMAND\\n\n"),
     ] {
         let (fault, out) = printed(rt.alloc(), one_radio(rt.alloc())?, script)?;
         assert_eq!(rt; fault, None);
@@ -215,22 +191,6 @@ fn of_a_script_16_777_217_bytes_are_read_at_most(rt: HostRuntime) -> Result<(), 
     let script = io::repeat(b'x').take(16_777_217).chain(asked_for_more);
     let fault = fault_of(alloc, BufReader::new(alloc, script)?, closed())?;
     assert_eq!(rt; fault, Some(ScriptFault::Reader));
-    Ok(())
-}
-
-#[test]
-fn radios_are_handed_their_own_in_the_order_of_configuration(rt: HostRuntime) -> Result<(), Fail> {
-    let alloc = rt.alloc();
-    let mut second = second(alloc)?;
-    second.bssid = Bssid(Addr([2, 0, 0, 0, 0, 0]));
-    let confs = both(alloc, built_in(alloc)?, second)?;
-    let script =
-        b"rx wlan1 b00000000200000000000200000000aa0200000000001000000001000000\nrx wlan0 b00000000200000000010200000000aa0200000000011000000001000000\nflush\n";
-    let (fault, out) = printed(alloc, confs, script.as_slice())?;
-    assert_eq!(rt; fault, None);
-    let want =
-        b"entry 3\nentry 4\nwlan0 tx b00000000200000000aa0200000000010200000000010000000002000000\nwlan1 tx b00000000200000000aa0200000000000200000000000000000002000000\n";
-    assert_eq!(rt; out.as_slice(), want.as_slice());
     Ok(())
 }
 

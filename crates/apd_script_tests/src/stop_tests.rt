@@ -1,6 +1,6 @@
 //! Stops and restarts, steps of a commit, and refusals of the store.
 use crate::calls::{one_radio, two_radios};
-use crate::rows::{JOINED, JOINS, Row, ends, joint, prints};
+use crate::scripts::{JOINS, joint};
 use crate::worlds::{fresh_store, printed, run_on, slots_after};
 use apd_base::Addr;
 use apd_conf::InterfaceName;
@@ -12,111 +12,6 @@ use apd_store::StoreFault;
 use apd_world::WorldFault;
 use std::alloc::Global;
 use std::test::Fail;
-
-/// The station authenticates, and its batch is taken.
-const BEGINS: &str =
-    "rx wlan0 b00000000200000000010200000000aa0200000000011000000001000000\ntake\n";
-
-const AT_ONE_RADIO: [Row; 8] = [
-    Row {
-        about: "a station that is denied stays away",
-        script: &[
-            JOINS,
-            "cmd DENY_ACL ADD_MAC 02:00:00:00:00:AA\nflush\nstop\ncmd DENY_ACL SHOW\nflush\n",
-        ],
-        want: &[
-            JOINED,
-            "entry 4\nwlan0 remove 02:00:00:00:00:aa\nwlan0 tx c00000000200000000aa02000000000102000000000100000100\nctrl 5 OK\\n\nrecovered 0\nctrl 8 02:00:00:00:00:aa VLAN_ID=0\\n\n",
-        ],
-    },
-    Row {
-        about: "a batch with none of its calls made",
-        script: &[BEGINS, "stop\nflush\n"],
-        want: &["entry 2\nrecovered 0\n"],
-    },
-    Row {
-        about: "with two of its calls",
-        script: &[BEGINS, "call\ncall\nstop\nflush\n"],
-        want: &["entry 2\nrecovered 0\n"],
-    },
-    Row {
-        about: "with three of its calls, the last of which opens its gate",
-        script: &[BEGINS, "call\ncall\ncall\nstop\nflush\n"],
-        want: &["entry 2\nrecovered 1\n"],
-    },
-    Row {
-        about: "settled; nothing of it was handed out, and nothing will be",
-        script: &[BEGINS, "call\ncall\ncall\ncall\npublish\nstop\nflush\n"],
-        want: &["entry 2\nrecovered 1\n"],
-    },
-    Row {
-        about: "a query is answered from what is published",
-        script: &[
-            BEGINS,
-            "call\ncall\ncall\ncall\ncmd STA-FIRST\npublish\ncmd STA-FIRST\nhand\n",
-        ],
-        want: &[
-            "entry 2\nctrl 7 \nctrl 9 02:00:00:00:00:aa\\nflags=[AUTH]\\naid=0\\ncapability=0x0\\nlisten_interval=0\\n\n",
-            "wlan0 tx b00000000200000000aa0200000000010200000000010000000002000000\n",
-        ],
-    },
-    Row {
-        about: "a flush goes on with a batch under way; steps for which there is nothing are passed over",
-        script: &[
-            BEGINS,
-            "call\nrx wlan0 b00000000200000000010200000000ab0200000000011000000001000000\ntake\nflush\npublish\ncall\ntake\nhand\n",
-        ],
-        want: &[
-            "entry 2\nentry 3\n",
-            "wlan0 tx b00000000200000000aa0200000000010200000000010000000002000000\nwlan0 tx b00000000200000000ab0200000000010200000000010000000002000000\n",
-        ],
-    },
-    Row {
-        about: "a stop leaves the moment, and the station was then heard at it",
-        script: &[
-            JOINS,
-            "tick 200000\nstop\ntick 499999\ntick 500000\nflush\n",
-        ],
-        want: &[
-            JOINED,
-            "quiet nothing\nrecovered 1\nquiet nothing\nentry 2\nwlan0 remove 02:00:00:00:00:aa\nwlan0 tx a00000000200000000aa02000000000102000000000100000400\n",
-        ],
-    },
-];
-
-/// The rows of one radio.
-fn at_one_radio() -> &'static [Row] {
-    &AT_ONE_RADIO
-}
-
-/// The station joins wlan0, and then wlan1, which stays so after a stop: its data are quiet at wlan1, and answered
-/// by reason 7 at wlan0.
-const MOVES: Row = Row {
-    about: "a station is where it joined last",
-    script: &[
-        JOINS,
-        "rx wlan1 b00000000200000000020200000000aa0200000000021000000001000000\nflush\nrx wlan1 000000000200000000020200000000aa020000000002200031040a0000036e6574010482848b96\nflush\n",
-        "stop\nrx wlan1 080100000200000000020200000000aa0200000000020000\nrx wlan0 080100000200000000010200000000aa0200000000010000\nflush\n",
-    ],
-    want: &[
-        "entry 3\nwlan0 tx b00000000200000000aa0200000000010200000000010000000002000000\nentry 4\nwlan0 install 02:00:00:00:00:aa 1\nwlan0 tx 100000000200000000aa02000000000102000000000100000100000001c0010482848b96\n",
-        "entry 5\nwlan1 tx b00000000200000000aa0200000000020200000000020000000002000000\nentry 6\nwlan0 remove 02:00:00:00:00:aa\nwlan0 tx a00000000200000000aa02000000000102000000000100000100\nwlan1 install 02:00:00:00:00:aa 1\nwlan1 tx 100000000200000000aa02000000000202000000000200000100000001c0010482848b96\n",
-        "recovered 2\nquiet nothing\nentry 3\nwlan0 tx a00000000200000000aa02000000000102000000000100000700\n",
-    ],
-};
-
-/// The row of two radios.
-fn moves() -> &'static Row {
-    &MOVES
-}
-
-#[test]
-fn a_stop_leaves_what_the_device_reads(rt: HostRuntime) -> Result<(), Fail> {
-    for row in at_one_radio() {
-        prints(&rt, one_radio(rt.alloc())?, row)?;
-    }
-    prints(&rt, two_radios(rt.alloc())?, moves())
-}
 
 /// The first frame that each slot's radio receives.
 fn frames_of(
@@ -146,24 +41,6 @@ fn a_stop_takes_a_fresh_radio_from_the_front_for_each_slot(rt: HostRuntime) -> R
     ] {
         let frames = frames_of(rt.alloc(), script, &["rx 0a", "rx 0b"], &spares)?;
         assert_eq!(rt; frames.as_slice(), want.as_slice());
-    }
-    Ok(())
-}
-
-#[test]
-fn each_interface_stops_eight_times(rt: HostRuntime) -> Result<(), Fail> {
-    let script = b"stop\nstop\nstop\nstop\nstop\nstop\nstop\nstop\nstop\n";
-    let want =
-        b"recovered 0\nrecovered 0\nrecovered 0\nrecovered 0\nrecovered 0\nrecovered 0\nrecovered 0\nrecovered 0\n";
-    for confs in [one_radio(rt.alloc())?, two_radios(rt.alloc())?] {
-        ends(
-            &rt,
-            "nine stops",
-            confs,
-            script,
-            want,
-            Some(ScriptFault::BadLine(9)),
-        )?;
     }
     Ok(())
 }

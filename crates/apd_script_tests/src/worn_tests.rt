@@ -1,6 +1,6 @@
 //! Scripts on a store whose current half has the greatest epoch and little room: the other half can't begin anew.
 use crate::calls::one_radio;
-use crate::rows::JOINS;
+use crate::scripts::JOINS;
 use crate::worlds::run_on;
 use apd_disk::MemDisk;
 use apd_script::ScriptFault;
