@@ -1,6 +1,7 @@
 #!/bin/sh
 # Kills a script on a store at a random moment, twenty times. Each time the next run recovers the store, and each
-# station to whom an association response was printed as sent is associated there.
+# station to whom an association response was printed as sent is associated there. A kill shows nothing of syncs, since
+# the system has what was written: so first, where there is strace, it looks at the calls that a run makes of the system.
 # Use: examples/kill.sh, from anywhere. It ends with status 1 at the first run that shows anything else.
 set -eu
 here=$(dirname "$(readlink -f "$0")")
@@ -21,6 +22,33 @@ joins() {
         number=$((number + 1))
     done
 }
+
+# The calls of ten stations that join, a letter each: W a write of the store, S a sync, D a word that the system may drop what
+# it holds of the file, E a request that became an entry, T a frame that is told of. Recovery syncs once and drops; a commit
+# writes, syncs, writes its gate and syncs, and is then told of. The first commit is that of the start.
+calls() {
+    "$apd" format "$store" >/dev/null
+    joins | head -n 40 >"$folder/script"
+    strace -f -qq -e trace=pwrite64,fdatasync,fadvise64,write -e signal=none -o "$folder/calls" \
+        "$program" script --store "$store" <"$folder/script" >/dev/null
+    sed -n -e 's/.* pwrite64(.*/W/p' -e 's/.* fdatasync(.* = 0$/S/p' \
+        -e 's/.* fadvise64(.* = 0$/D/p' -e 's/.* write(1, "entry.*/E/p' \
+        -e 's/.* write(1, "wlan0 tx.*/T/p' "$folder/calls" | tr -d '\n'
+}
+
+"$apd" --version >/dev/null
+program=$here/../crates/apd/out/apd
+if strace -o /dev/null true 2>/dev/null; then
+    found=$(calls)
+    wanted=SDWSWS$(printf 'EWSWST%.0s' 1 2 3 4 5 6 7 8 9 10 11 12 13 14 15 16 17 18 19 20)
+    echo "calls: $(printf %s "$found" | tr -cd S | wc -c) syncs"
+    [ "$found" = "$wanted" ] || {
+        echo "wanted $wanted, found $found"
+        exit 1
+    }
+else
+    echo "calls: not looked at, since strace is missing or may not trace"
+fi
 
 joins >"$folder/script"
 run=1

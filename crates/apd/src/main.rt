@@ -1,6 +1,10 @@
-//! `apd`: an access point daemon. It serves over a store and datagrams, runs scripts on a store, and makes stores.
+//! `apd`: an access point daemon. It serves over a store and datagrams, runs scripts on a store, makes stores, and looks
+//! into them.
 #![tactic(auto)]
 
+mod checking;
+#[cfg(test)]
+mod checking_tests;
 mod running;
 #[cfg(test)]
 mod running_tests;
@@ -10,12 +14,16 @@ mod scripting_tests;
 mod store_file;
 #[cfg(test)]
 mod store_file_tests;
+mod streams;
+#[cfg(test)]
+mod streams_tests;
 
 ghost use Rattle.std.specs.Prelude.{◌≡◌};
 ghost use Rattle.apd.specs.declared.ProgramFault.TheVariants.{NoMemory};
 
 use apd_conf::ConfigurationFault;
-use apd_script::{FormatFault, ScriptFault, run_format};
+use apd_script::{CheckFault, FormatFault, ScriptFault, run_format};
+use checking::{check_and_print, check_command};
 use clap::error::ErrorKind;
 use clap::{Arg, Command};
 use log::Log;
@@ -31,6 +39,7 @@ use std::sync::Wait;
 use std::thread::Threads;
 use std::time::Clock;
 use store_file::{OpenFault, open_or_create};
+use streams::hold_closed_streams;
 use thiserror::Error;
 
 /// What the program's help says beside its subcommands.
@@ -55,6 +64,7 @@ fn format_command<'a>(alloc: Global) -> Result<Command<'a>, AllocError> {
 
 /// The command line.
 fn command<'a>(alloc: Global) -> Result<Command<'a>, AllocError> {
+    let check = check_command(alloc)?;
     let format = format_command(alloc)?;
     let run = run_command(alloc)?;
     let script = script_command(alloc)?;
@@ -64,6 +74,7 @@ fn command<'a>(alloc: Global) -> Result<Command<'a>, AllocError> {
         .about("An access point daemon whose promises are proved")
         .after_help(HELP)
         .subcommand_required(true)
+        .subcommand(check)?
         .subcommand(format)?
         .subcommand(run)?
         .subcommand(script)
@@ -78,6 +89,8 @@ enum ProgramFault {
     Script(ScriptFault),
     #[error("{0}")]
     Open(OpenFault),
+    #[error("{0}")]
+    Check(CheckFault),
     #[error("{0}")]
     Format(FormatFault),
     #[error("{0}")]
@@ -137,7 +150,10 @@ fn run<
         + AllocGlobal
         + Log
         + Sync,
->(rt: &R) -> Result<Option<clap::Error>, ProgramFault> {
+>(rt: &R) -> Result<Option<clap::Error>, ProgramFault>
+where
+    R::Dir: Send + Sync,
+{
     let alloc = rt.alloc();
     let Some(words) = words(rt)? else {
         return Ok(Some(no_text(alloc)?));
@@ -146,6 +162,14 @@ fn run<
         Ok(matches) => matches,
         Err(error) => return Ok(Some(error)),
     };
+    if let Some(check) = matches.subcommand_matches("check") {
+        check_and_print(
+            rt,
+            check.get_str("STORE").unwrap_or(""),
+            &mut io::writer(rt),
+        )?;
+        return Ok(None);
+    }
     if let Some(format) = matches.subcommand_matches("format") {
         format_and_print(rt, format.get_str("STORE").unwrap_or(""))?;
         return Ok(None);
@@ -185,5 +209,11 @@ fn told(
 }
 
 fn main(rt: HostRuntime) -> io::Result<ExitCode> {
-    told(&rt, run(&rt))
+    let streams = match hold_closed_streams(&rt) {
+        Ok(streams) => streams,
+        Err(fault) => return told(&rt, Err(ProgramFault::Open(fault))),
+    };
+    let ended = told(&rt, run(&rt));
+    drop(streams);
+    ended
 }

@@ -4,7 +4,7 @@ ghost use Rattle.apd.specs.declared.running.RunningFault.TheVariants.{NoMemory};
 
 use apd_conf::ConfigurationFault;
 use apd_script::read_configurations;
-use apd_serve::{RunFault, Site, log_entries, run};
+use apd_serve::{RunFault, Site, run};
 use clap::{Arg, ArgAction, ArgMatches, Command, value_parser};
 use log::Log;
 use std::alloc::{AllocError, Global};
@@ -80,18 +80,21 @@ pub fn run_command<'a>(alloc: Global) -> Result<Command<'a>, AllocError> {
         .arg(files)
 }
 
-/// Does what the subcommand's words say, and logs how many requests became entries.
+/// Does what the subcommand's words say.
 pub fn run_and_log<
     R: Input + Files<File = File> + Net + Wait + Threads + Clock + AllocGlobal + Log + Sync,
->(rt: &R, matches: &ArgMatches<'_>) -> Result<(), RunningFault> {
+>(rt: &R, matches: &ArgMatches<'_>) -> Result<(), RunningFault>
+where
+    R::Dir: Send + Sync,
+{
     let names = matches.get_strs("CONF").unwrap_or(&[]);
     let confs = read_configurations(rt, names).map_err(RunningFault::Configuration)?;
     let site = Site {
         store: matches.get_str("store").unwrap_or(""),
         port: matches.get_one("port").unwrap_or(0),
         recordings: matches.get_str("record"),
+        configurations: names,
     };
-    let entries = run(rt, confs, &site, rt.reader()).map_err(RunningFault::Run)?;
-    log_entries(rt, entries);
+    run(rt, confs, &site, rt.reader()).map_err(RunningFault::Run)?;
     Ok(())
 }

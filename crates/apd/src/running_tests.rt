@@ -19,7 +19,7 @@ use std::time::Clock;
 const CONF: &str = "interface=wlan0\nbssid=02:00:00:00:00:01\nssid=net\n";
 
 /// Command lines, the status that they end with, and how what is printed begins.
-const WORDS: [(&[&str], u8, &str); 7] = [
+const WORDS: [(&[&str], u8, &str); 9] = [
     (
         &["apd", "run", "--store", "s", "--port", "1023", "c"],
         2,
@@ -49,6 +49,16 @@ const WORDS: [(&[&str], u8, &str); 7] = [
         &["apd", "run", "--help"],
         2,
         "2Serves over a store and datagrams until standard input ends\n",
+    ),
+    (
+        &["apd", "check"],
+        2,
+        "2error: the following required arguments were not provided:\n  <STORE>\n",
+    ),
+    (
+        &["apd", "check", "--help"],
+        2,
+        "2Says what a store has, or what is wrong with it, and changes nothing\n",
     ),
     (&["apd", "--version"], 0, "1apd 0.1.0\n"),
 ];
@@ -145,7 +155,10 @@ fn a_fault_is_told(rt: HostRuntime) -> Result<(), Fail> {
 /// What `apd run` over a store, with this configuration, at this port, prints where it doesn't serve and ends with 1.
 fn fault_of<
     R: Input + Files<File = File> + Net + Wait + Threads + Clock + AllocGlobal + Log + Sync,
->(rt: &R, store: &str, port: &str, conf: &str) -> Result<String, Fail> {
+>(rt: &R, store: &str, port: &str, conf: &str) -> Result<String, Fail>
+where
+    R::Dir: Send + Sync,
+{
     let words = [
         "apd", "run", "--store", store, "--port", port, "--record", "run_test", conf,
     ];

@@ -18,7 +18,7 @@ fn built_in(alloc: Global) -> Result<Confs, Fail> {
 }
 
 /// Makes the file of a name a new store.
-fn make_store(rt: &(impl Files<File = File> + AllocGlobal), name: &str) -> Result<(), Fail> {
+pub fn make_store(rt: &(impl Files<File = File> + AllocGlobal), name: &str) -> Result<(), Fail> {
     let _ = fs::remove_file(rt, name);
     let Ok(disk) = open_or_create(rt, name) else {
         return Err(Fail::new("a file can't be opened"));
@@ -62,7 +62,7 @@ fn printed(
     Ok(out)
 }
 
-const JOINS: &[u8] =
+pub const JOINS: &[u8] =
     b"rx wlan0 b00000000200000000010200000000aa0200000000011000000001000000\nflush\nrx wlan0 000000000200000000010200000000aa020000000001200031040a0000036e6574010482848b96\nflush\n";
 
 const JOINED: &[u8] =
@@ -159,7 +159,7 @@ fn noise(alloc: Global) -> Result<Vec<u8>, Fail> {
 }
 
 /// The file of a new store, once a script was run on it, and what that printed.
-fn left_by(
+pub fn left_by(
     rt: &(impl Files<File = File> + AllocGlobal),
     name: &str,
     script: &[u8],

@@ -28,14 +28,14 @@ impl From<AllocError> for OpenFault {
     }
 }
 
-/// The disk, or why there is none.
-fn opened(
+/// What was opened of this name, or why it wasn't.
+pub fn opened<T: Drop>(
     rt: &impl AllocGlobal,
     name: &str,
-    disk: io::Result<FileDisk>,
-) -> Result<FileDisk, OpenFault> {
-    match disk {
-        Ok(disk) => Ok(disk),
+    file: io::Result<T>,
+) -> Result<T, OpenFault> {
+    match file {
+        Ok(file) => Ok(file),
         Err(error) if error.kind() == ErrorKind::OutOfMemory => Err(OpenFault::NoMemory),
         Err(_) => Err(OpenFault::CannotRead(String::from_str(rt.alloc(), name)?)),
     }
@@ -51,6 +51,14 @@ pub fn open_or_create(
         opened => opened,
     };
     opened(rt, name, disk)
+}
+
+/// The file of this name, which is there, for reading alone.
+pub fn open_to_read(
+    rt: &(impl Files<File = File> + AllocGlobal),
+    name: &str,
+) -> Result<FileDisk, OpenFault> {
+    opened(rt, name, FileDisk::open_to_read(rt, name))
 }
 
 /// The file of this name, which is there.

@@ -1,63 +1,105 @@
 //! Control commands as datagrams.
-ghost use Rattle.std.specs.Prelude.{◌≡◌, IsSome, IsNone};
+ghost use Rattle.std.specs.Prelude.{◌≡◌, ◌≢◌, Some, IfOk, IfSome, OnOk, OnErr, IsSome, IsNone};
+ghost use Rattle.std.specs.Option.{ForSome, option_map};
 
 use crate::senders::Senders;
 use apd_desk::{Port, PortFault};
-use apd_radio::{Datagrams, SocketFault};
+use apd_radio::{Datagrams, RadioFault, SocketFault};
 use std::alloc::Global;
-use std::net::{Net, SocketAddr};
+use std::net::{IpAddr, Ipv4Addr, Net, SocketAddr};
+
+// A fault of the port's socket.
+fn of_socket(fault: RadioFault) -> PortFault
+    ensures memory { fault ≡ RadioFault.NoMemory → result ≡ PortFault.NoMemory }
+    ensures device { fault ≡ RadioFault.Device → result ≡ PortFault.Device }
+{
+    match fault {
+        RadioFault::Device => PortFault::Device,
+        RadioFault::NoMemory => PortFault::NoMemory,
+    }
+}
 
 /// A port of 127.0.0.1 on which each datagram is a command. The reply to a command is a datagram to the sender of
-/// that command; an empty reply is a datagram of no bytes.
+/// that command; an empty reply is a datagram of no bytes. A datagram that names the port itself as its sender is
+/// dropped: the reply to it would be the next command, for ever.
 #[derive(Drop)]
 pub struct ControlPort {
     datagrams: Datagrams,
     senders: Senders,
     // A command that waits for the memory of its tag.
     received: Option<(SocketAddr, Vec<u8>)>,
+    // Where its own datagrams come from.
+    own: SocketAddr,
     ghost one: { IsSome received → IsNone datagrams },
+    ghost foreign: { ForSome received (λ command. command.0 ≢ own) },
 }
 
 impl ControlPort {
-    /// Opens the port. Port 0 is for tests: the system chooses one that is free.
+    ghost use Rattle.apd_serve.specs.Commands.{IsLocal};
+
+    /// Opens the port. Port 0 is for tests: the system chooses one that is free, and nothing is dropped, since no
+    /// datagram comes from port 0.
     ///
     /// Errors: `NoSocket` where the port can't be had, `NoMemory` where memory runs out.
-    pub fn open<R: Net>(rt: &R, alloc: Global, port: u16) -> Result<ControlPort, SocketFault> {
+    pub fn open<R: Net>(rt: &R, alloc: Global, port: u16) -> Result<ControlPort, SocketFault>
+        ensures own { IfOk result (λ opened. IsLocal opened.own port) }
+    {
         Ok(ControlPort {
             datagrams: Datagrams::bind(rt, alloc, port)?,
             senders: Senders::new(alloc),
             received: None,
+            own: SocketAddr::new(IpAddr::V4(Ipv4Addr::new(127, 0, 0, 1)), port),
         })
     }
 }
 
+// The next datagram, if one waits. One whose sender is this address is dropped.
+fn next_command(
+    datagrams: &mut Datagrams,
+    own: SocketAddr,
+) -> Result<Option<(SocketAddr, Vec<u8>)>, PortFault>
+    ensures foreign { IfOk result (λ got. ForSome got (λ command. command.0 ≢ own)) }
+    ensures first { IfSome datagrams.old
+        (λ waited. waited.0 ≢ own
+        → IfOk result (λ got. option_map (λ command. (command.0, command.1.items)) got ≡ Some waited)) }
+    ensures given { OnOk result (IsNone datagrams.new) }
+    ensures kept { IsSome datagrams.old
+        → OnErr result ((result ≡ Err PortFault.NoMemory) × (datagrams.new ≡ datagrams.old)) }
+{
+    let received = datagrams.receive().map_err(of_socket)?;
+    Ok(received.filter(|(sender, _)| *sender != own))
+}
+
 impl Port for ControlPort {
-    ghost use Rattle.std.specs.Prelude.{IfOk, OnOk, OnErr, MatchOption, IfSome, IsSomeAnd};
+    ghost use Rattle.std.specs.Prelude.{◌⊎◌, ◌-◌, ◌^◌, MatchOption, IsSomeAnd};
     ghost use Rattle.std.specs.declared.net.socket_addr.SocketAddr.{SocketAddr};
     ghost use Rattle.apd_serve.specs.Commands.{waiting};
     ghost use Rattle.apd_serve.specs.Tags.{Adds, AreSame, Forgets};
 
-    /// A command that was received and meets want of memory is told as `Device`, and stays: a later call gives it.
+    /// A command that was received and meets want of memory stays: a later call gives it.
     fn poll(&mut self) -> Result<Option<(u64, Vec<u8>)>, PortFault>
         ensures command { IfOk result
             (λ got. MatchOption got (AreSame self.old.senders self.new.senders)
-            (λ command. (sender : SocketAddr) × Adds self.old.senders command.0 sender self.new.senders)) }
+            (λ command. (sender : SocketAddr) × (sender ≢ self.old.own)
+            × Adds self.old.senders command.0 sender self.new.senders)) }
         ensures own { IfSome (waiting self.old)
-            (λ waited. IfOk result
+            (λ waited. waited.0 ≢ self.old.own → IfOk result
             (λ got. IsSomeAnd got
             (λ command. Adds self.old.senders command.0 waited.0 self.new.senders
             × (command.1.items ≡ waited.1)))) }
         ensures given { OnOk result (IsNone (waiting self.new)) }
         ensures stays { IsSome (waiting self.old) → OnErr result (waiting self.new ≡ waiting self.old) }
+        ensures short { IsSome (waiting self.old)
+            → OnErr result ((result ≡ Err PortFault.NoMemory) ⊎ (self.old.senders.given ≡ 2 ^ 64 - 1)) }
         ensures err { OnErr result (AreSame self.old.senders self.new.senders) }
     {
         if self.received.is_none() {
-            self.received = self.datagrams.receive().map_err(|_| PortFault::Device)?;
+            self.received = next_command(&mut self.datagrams, self.own)?;
         }
         let Some((sender, _)) = &self.received else {
             return Ok(None);
         };
-        let Ok(Some(tag)) = self.senders.add(*sender) else {
+        let Some(tag) = self.senders.add(*sender)? else {
             return Err(PortFault::Device);
         };
         Ok(self.received.take().map(|(_, bytes)| (tag, bytes)))
@@ -72,8 +114,6 @@ impl Port for ControlPort {
         let Some(sender) = self.senders.take(tag) else {
             return Ok(());
         };
-        self.datagrams
-            .send(sender, text)
-            .map_err(|_| PortFault::Device)
+        self.datagrams.send(sender, text).map_err(of_socket)
     }
 }

@@ -5,6 +5,7 @@ use std::alloc::Global;
 use std::io::Read;
 use std::sync::Wait;
 use std::thread::{self, JoinHandle, Scope, Threads};
+use std::time::Clock;
 
 /// What one thread does, with what it owns.
 pub(crate) trait Job<X> {
@@ -41,19 +42,18 @@ fn start_all<'s, E, X: Sync + 's, J: Job<X> + Send + Drop + 's>(
 ///
 /// Errors: `Thread` where one can't be made: those that run are stopped, and have ended; `NoMemory`, and none was
 /// started.
-pub(crate) fn work_until_end<W: Wait + Threads, X: Stops + Sync, J: Job<X> + Send + Drop, B: Read>(
-    rt: &W,
-    alloc: Global,
-    shared: &X,
-    jobs: Vec<J>,
-    reader: &mut B,
-) -> Result<Vec<J>, ServeFault> {
+pub(crate) fn work_until_end<
+    W: Wait + Threads + Clock,
+    X: Stops + Sync,
+    J: Job<X> + Send + Drop,
+    B: Read,
+>(rt: &W, alloc: Global, shared: &X, jobs: Vec<J>, reader: &mut B) -> Result<Vec<J>, ServeFault> {
     let mut threads = Vec::with_capacity(alloc, jobs.len())?;
     let mut ended = Vec::with_capacity(alloc, jobs.len())?;
     let all = thread::scope(thread::scope_env(), rt, |scope| {
         let started = start_all(scope, shared, jobs, &mut threads);
         if started {
-            read_to_its_end(reader);
+            read_to_its_end(rt, reader);
         }
         shared.stop();
         for thread in threads {

@@ -3,18 +3,20 @@
 #![tactic(auto)]
 
 mod clock;
-mod closing;
 mod control_port;
 mod crew;
 mod fault;
+mod identity;
 mod input;
+mod notices;
+mod recordings;
 mod running;
 mod senders;
 mod serving;
+mod store_watch;
 mod worker;
 
 pub use clock::SystemClock;
-pub use closing::log_entries;
 pub use control_port::ControlPort;
 pub use fault::ServeFault;
 pub use running::{RunFault, Site, run};

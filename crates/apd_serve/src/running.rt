@@ -1,11 +1,16 @@
 //! An access point over a file, datagrams and recordings.
 ghost use Rattle.std.specs.Prelude.{◌≡◌};
+ghost use Rattle.std.specs.Thread.{IsSend};
 ghost use Rattle.apd_serve.specs.declared.running.RunFault.TheVariants.{NoMemory};
 
 use crate::clock::SystemClock;
 use crate::control_port::ControlPort;
 use crate::fault::ServeFault;
-use crate::serving::serve;
+use crate::identity::Identity;
+use crate::notices::{tell_entries, tell_start};
+use crate::recordings::{RecordingFile, emptied, open_recordings};
+use crate::serving::{serve_started, start};
+use crate::store_watch::{Ending, StoreWatch, watch};
 use apd_base::Moment;
 use apd_conf::Confs;
 use apd_desk::NoGate;
@@ -13,14 +18,15 @@ use apd_disk::FileDisk;
 use apd_radio::{Radio, Recording, SocketFault, UdpSim};
 use apd_slot::Slot;
 use apd_store::recover;
-use apd_world::{WorldFault, restart};
+use apd_world::{World, WorldFault, restart};
+use log::Log;
 use std::alloc::{AllocError, Global};
 use std::fs::File;
 use std::io::{self, ErrorKind, Read};
 use std::net::Net;
 use std::rt::Files;
 use std::sync::Wait;
-use std::thread::Threads;
+use std::thread::{self, Threads};
 use std::time;
 use thiserror::Error;
 
@@ -34,12 +40,16 @@ pub struct Site<'a> {
     /// What the names of the recordings begin with, where the radios are recorded: that of the radio at place i ends
     /// in `.` and i in decimal.
     pub recordings: Option<&'a str>,
+    /// The names of the files that the configurations were read from: none of them, nor of the list files that they
+    /// name, becomes a recording.
+    pub configurations: &'a [&'a str],
 }
 
 /// Why an access point didn't run to the end of its input.
 #[derive(Debug, Drop, Error)]
 pub enum RunFault {
-    /// The file of this name can't be opened, or not be made, or another process holds it.
+    /// The file of this name can't be opened, or not be made, or another process holds it, or it is none that may
+    /// become a recording.
     #[error("cannot read {0}")]
     CannotRead(String),
     /// The store refuses, or a slot doesn't resume.
@@ -64,8 +74,8 @@ impl From<AllocError> for RunFault {
     }
 }
 
-// Why a file of this name was not had.
-fn cannot_read(rt: &impl AllocGlobal, name: &str, error: &io::Error) -> RunFault {
+/// Why a file of this name was not had.
+pub(crate) fn cannot_read(rt: &impl AllocGlobal, name: &str, error: &io::Error) -> RunFault {
     if error.kind() == ErrorKind::OutOfMemory {
         return RunFault::NoMemory;
     }
@@ -90,21 +100,63 @@ fn open_store(
     }
 }
 
-// Makes the files of so many recordings; what one of them held is lost.
-fn make_recordings(
+// Opens the store's file once more, to look at it alone. The disk holds the lock of its own: a file that can be locked
+// is another one, which was given the name meanwhile.
+fn open_watch<'a>(
     rt: &(impl Files<File = File> + AllocGlobal),
-    prefix: &str,
-    count: usize,
-) -> Result<Vec<File>, RunFault> {
-    let mut files = Vec::with_capacity(rt.alloc(), count)?;
-    for place in 0..count {
-        let name = format!(in rt.alloc(); "{prefix}.{place}")?;
-        match File::create(rt, name.as_str()) {
-            Ok(file) => files.push(file).map_err(AllocError::from)?,
-            Err(error) => return Err(cannot_read(rt, &name, &error)),
+    name: &'a str,
+) -> Result<StoreWatch<'a>, RunFault> {
+    match StoreWatch::open(rt, name) {
+        Ok(store) => Ok(store),
+        Err(error) => Err(cannot_read(rt, name, &error)),
+    }
+}
+
+// The files that no recording may be made over: the store, those of the configurations, and the list files that
+// these name. A name of no file is passed over.
+fn kept_files(
+    rt: &(impl Files<File = File> + AllocGlobal),
+    confs: &Confs,
+    site: &Site<'_>,
+) -> Result<Vec<Identity>, AllocError> {
+    let mut kept = Vec::new(rt.alloc());
+    keep(rt, &mut kept, site.store)?;
+    for name in site.configurations {
+        keep(rt, &mut kept, name)?;
+    }
+    for conf in confs.list() {
+        for list in [&conf.accept_mac_file, &conf.deny_mac_file] {
+            if let Some(list) = list {
+                keep(rt, &mut kept, list.as_str())?;
+            }
         }
     }
-    Ok(files)
+    Ok(kept)
+}
+
+// Adds the file of a name, if there is one.
+fn keep(
+    files: &impl Files<File = File>,
+    kept: &mut Vec<Identity>,
+    name: &str,
+) -> Result<(), AllocError> {
+    if let Some(found) = Identity::named(files, name) {
+        kept.push(found)?;
+    }
+    Ok(())
+}
+
+// Opens the files of a site's recordings, where there are to be any.
+fn open_all_recordings(
+    rt: &(impl Files<File = File> + AllocGlobal),
+    confs: &Confs,
+    site: &Site<'_>,
+) -> Result<Option<Vec<RecordingFile>>, RunFault> {
+    let Some(prefix) = site.recordings else {
+        return Ok(None);
+    };
+    let kept = kept_files(rt, confs, site)?;
+    Ok(Some(open_recordings(rt, prefix, confs.list().len(), &kept)?))
 }
 
 // Opens so many ports, one after the other above this one.
@@ -154,48 +206,113 @@ fn slots_of<R: Radio>(
     Ok(slots)
 }
 
-// Serves with these radios, one for each configuration, in their order. It recovers at the moment 0.
-fn run_with<W: Wait + Threads + time::Clock + AllocGlobal + Sync, R: Radio + Send, B: Read + Drop>(
-    rt: &W,
-    confs: Confs,
+// What was opened of a site, but for its radios.
+#[derive(Drop)]
+struct Opened<'a> {
     disk: FileDisk,
-    port: ControlPort,
-    radios: Vec<R>,
+    store: StoreWatch<'a>,
+    commands: ControlPort,
+    port: u16,
+}
+
+// Serves a world that is started, and watches its store's file meanwhile.
+fn serve_watched<
+    W: Files<File = File> + Wait + Threads + time::Clock + AllocGlobal + Log + Sync,
+    R: Radio + Send,
+    B: Read + Drop,
+>(
+    rt: &W,
+    world: World<FileDisk, R>,
+    store: &StoreWatch<'_>,
+    commands: ControlPort,
+    clock: SystemClock<&W>,
     reader: B,
-) -> Result<u64, RunFault> {
-    let alloc = rt.alloc();
-    let slots = slots_of(alloc, &confs, radios)?;
+) -> Result<u64, ServeFault>
+where
+    W::Dir: Send + Sync,
+{
+    let ending = Ending::new();
+    thread::scope(
+        thread::scope_env(),
+        rt,
+        |scope|
+            requires { IsSend R.row }
+        {
+            let Ok(watcher) = scope.spawn(|| watch(rt, store, &ending)) else {
+                return Err(ServeFault::Thread);
+            };
+            let answer = serve_started(rt, rt.alloc(), world, commands, clock, &NoGate, reader);
+            ending.end(rt);
+            watcher.join(rt);
+            answer
+        },
+    )
+}
+
+// Serves with these radios, one for each configuration, in their order, and tells what is served. It recovers at the
+// moment 0.
+fn run_with<
+    W: Files<File = File> + Wait + Threads + time::Clock + AllocGlobal + Log + Sync,
+    R: Radio + Send,
+    B: Read + Drop,
+>(rt: &W, confs: Confs, opened: Opened<'_>, radios: Vec<R>, reader: B) -> Result<u64, RunFault>
+where
+    W::Dir: Send + Sync,
+{
+    let Opened {
+        disk,
+        store,
+        commands,
+        port,
+    } = opened;
+    let slots = slots_of(rt.alloc(), &confs, radios)?;
     let clock = SystemClock::new(rt);
-    let world = match restart(alloc, disk, confs, slots, Moment(0)) {
+    let mut world = match restart(rt.alloc(), disk, confs, slots, Moment(0)) {
         Ok(world) => world,
         Err((_disk, _slots, fault)) => return Err(RunFault::World(fault)),
     };
-    serve(rt, alloc, world, port, clock, &NoGate, reader).map_err(RunFault::Serve)
+    let recovered = world.table().rows();
+    start(&mut world).map_err(RunFault::Serve)?;
+    tell_start(rt, port, world.confs(), world.table(), recovered);
+    serve_watched(rt, world, &store, commands, clock, reader).map_err(RunFault::Serve)
 }
 
 /// Serves an access point of these configurations, over the store, the ports and the recordings of a site, until the
-/// input ends, and answers how many requests became entries.
+/// input ends, and answers how many requests became entries. That is logged too, and so is what is served, once it was
+/// started; at the level warn an interface that isn't; and at the level error, when it comes, that the store's device
+/// failed, or that the store's name is not that of the file that is served any more.
 ///
 /// Errors, looked for in this order: the store's file can't be opened, or the store is refused; a recording can't
-/// be made; a port can't be had; what a second look at the store tells; `Serve`. Before `Serve` nothing is sent, and the
-/// store is as it was; with it the start may have been committed and handed out. `NoMemory` comes at any place.
+/// be made; a port can't be had; a recording can't be emptied; what a second look at the store tells; `Serve`. Before
+/// `Serve` nothing is sent, and the store is as it was; with it the start may have been committed and handed out.
+/// Before the ports are had no file is emptied. `NoMemory` comes at any place.
 pub fn run<
-    W: Files<File = File> + Net + Wait + Threads + time::Clock + AllocGlobal + Sync,
+    W: Files<File = File> + Net + Wait + Threads + time::Clock + AllocGlobal + Log + Sync,
     B: Read + Drop,
->(rt: &W, confs: Confs, site: &Site<'_>, reader: B) -> Result<u64, RunFault> {
+>(rt: &W, confs: Confs, site: &Site<'_>, reader: B) -> Result<u64, RunFault>
+where
+    W::Dir: Send + Sync,
+{
     let count = confs.list().len();
     let disk = open_store(rt, site.store)?;
-    let files = match site.recordings {
-        Some(prefix) => Some(make_recordings(rt, prefix, count)?),
-        None => None,
-    };
-    let port = ControlPort::open(rt, rt.alloc(), site.port).map_err(RunFault::Socket)?;
+    let store = open_watch(rt, site.store)?;
+    let recordings = open_all_recordings(rt, &confs, site)?;
+    let commands = ControlPort::open(rt, rt.alloc(), site.port).map_err(RunFault::Socket)?;
     let radios = open_radios(rt, site.port, count)?;
-    match files {
-        None => run_with(rt, confs, disk, port, radios, reader),
-        Some(files) => {
+    let opened = Opened {
+        disk,
+        store,
+        commands,
+        port: site.port,
+    };
+    let entries = match recordings {
+        None => run_with(rt, confs, opened, radios, reader)?,
+        Some(recordings) => {
+            let files = emptied(rt, recordings)?;
             let radios = recorded(rt.alloc(), radios, files)?;
-            run_with(rt, confs, disk, port, radios, reader)
+            run_with(rt, confs, opened, radios, reader)?
         }
-    }
+    };
+    tell_entries(rt, entries);
+    Ok(entries)
 }

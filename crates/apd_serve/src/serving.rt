@@ -13,6 +13,7 @@ use apd_flusher::Flusher;
 use apd_radio::Radio;
 use apd_slot::Slot;
 use apd_world::World;
+use log::Log;
 use std::alloc::{AllocError, Global};
 use std::io::Read;
 use std::marker::Brand;
@@ -59,7 +60,14 @@ fn keep<L: Ledger>(seats: &mut Vec<Seat<L>>, seat: Option<Seat<L>>) -> Result<()
 }
 
 // Lets each worker go, in order, and keeps its seat.
-fn dismiss<L: Ledger, W: Wait + time::Clock, D: Disk + Drop, R: Radio, P: Port + Drop, G: Gate>(
+fn dismiss<
+    L: Ledger,
+    W: Wait + time::Clock + Log,
+    D: Disk + Drop,
+    R: Radio,
+    P: Port + Drop,
+    G: Gate,
+>(
     rt: &W,
     shared: &Shared<L>,
     workers: Vec<Worker<L, D, R, P>>,
@@ -78,7 +86,14 @@ fn dismiss<L: Ledger, W: Wait + time::Clock, D: Disk + Drop, R: Radio, P: Port +
 // once more what was settled.
 //
 // Errors: `Thread` where a seat is missing; `NoMemory`, which can't come where the seats have room for all.
-fn closed<L: Ledger, W: Wait + time::Clock, D: Disk + Drop, R: Radio, P: Port + Drop, G: Gate>(
+fn closed<
+    L: Ledger,
+    W: Wait + time::Clock + Log,
+    D: Disk + Drop,
+    R: Radio,
+    P: Port + Drop,
+    G: Gate,
+>(
     rt: &W,
     shared: Shared<L>,
     workers: Vec<Worker<L, D, R, P>>,
@@ -100,7 +115,7 @@ fn closed<L: Ledger, W: Wait + time::Clock, D: Disk + Drop, R: Radio, P: Port + 
 // As `serve`, with the world started, over one ledger.
 fn served<
     L: Ledger + Send + Sync,
-    W: Wait + Threads + time::Clock + Sync,
+    W: Wait + Threads + time::Clock + Log + Sync,
     D: Disk + Drop + Send,
     R: Radio + Send,
     P: Port + Drop + Send,
@@ -139,6 +154,37 @@ fn served<
     closed(rt, shared, workers, gate, seats)
 }
 
+/// Starts a world: configures each interface, which is committed and handed out.
+pub(crate) fn start<D: Disk + Drop, R: Radio>(world: &mut World<D, R>) -> Result<(), ServeFault> {
+    match world.start() {
+        Ok(_told) => Ok(()),
+        Err(fault) => Err(of_start(fault)),
+    }
+}
+
+/// As `serve`, with the world started.
+pub(crate) fn serve_started<
+    W: Wait + Threads + time::Clock + Log + Sync,
+    D: Disk + Drop + Send,
+    R: Radio + Send,
+    P: Port + Drop + Send,
+    C: Clock + Drop + Sync,
+    G: Gate + Sync,
+    B: Read + Drop,
+>(
+    rt: &W,
+    alloc: Global,
+    world: World<D, R>,
+    port: P,
+    clock: C,
+    gate: &G,
+    reader: B,
+) -> Result<u64, ServeFault> {
+    let mut reader = reader;
+    let blank = Blank::new(u64::from(SEATS));
+    served::<Brand, W, D, R, P, C, G, B>(rt, alloc, blank, world, port, &clock, gate, &mut reader)
+}
+
 /// Serves an access point until the input ends or fails: configures each interface, which is committed and handed
 /// out first, and then receives frames, carries out the commands of the control port, lets silent stations go,
 /// commits, and hands out what is settled, each in a thread of its own, a thread for each radio. What is read of the
@@ -148,10 +194,10 @@ fn served<
 ///
 /// Errors: `Store` where the store refuses the start; `Thread` where a thread can't be made, with those that run
 /// stopped first, or was lost; `NoMemory`. The start may have been committed and handed out before any of them. A fault
-/// of the device that comes later is none: what it leaves undone is never told, and what comes after is refused, until
-/// a restart.
+/// of the device that comes later is none: it is logged at the level error when it comes, what it leaves undone is never
+/// told, and what comes after is refused, until a restart.
 pub fn serve<
-    W: Wait + Threads + time::Clock + Sync,
+    W: Wait + Threads + time::Clock + Log + Sync,
     D: Disk + Drop + Send,
     R: Radio + Send,
     P: Port + Drop + Send,
@@ -168,10 +214,6 @@ pub fn serve<
     reader: B,
 ) -> Result<u64, ServeFault> {
     let mut world = world;
-    let mut reader = reader;
-    if let Err(fault) = world.start() {
-        return Err(of_start(fault));
-    }
-    let blank = Blank::new(u64::from(SEATS));
-    served::<Brand, W, D, R, P, C, G, B>(rt, alloc, blank, world, port, &clock, gate, &mut reader)
+    start(&mut world)?;
+    serve_started(rt, alloc, world, port, clock, gate, reader)
 }

@@ -3,18 +3,26 @@ ghost use Rattle.std.specs.Prelude.{◌≡◌, ◌≤◌};
 ghost use Rattle.apd_serve.specs.Entries.{entries_of, entries_of_seat};
 
 use crate::crew::{Job, Stops};
+use crate::notices::{tell_device_fault, tell_not_handed_out};
 use apd_desk::{
     Clock, Gate, Port, Seat, Shared, control_worker, flush_worker, radio_worker, tick_worker,
 };
 use apd_disk::Disk;
-use apd_flusher::Flusher;
+use apd_flusher::{Flusher, Phase};
 use apd_mlme::{Out, Recipient};
 use apd_radio::Radio;
-use apd_slot::Slot;
+use apd_slot::{Slot, SlotFault};
+use log::Log;
 use std::alloc::Global;
 use std::sync::Wait;
 use std::sync::ledger::Ledger;
-use std::time;
+use std::thread::sleep;
+use std::time::{self, Duration};
+
+/// How often the last hand-out tries what meets want of memory, and the pause before it tries again, in milliseconds.
+const TRIES: u32 = 1_000;
+
+const PAUSE: u64 = 1;
 
 /// What the workers share.
 #[derive(Drop)]
@@ -51,7 +59,7 @@ impl<
     D: Disk + Drop,
     R: Radio,
     P: Port + Drop,
-    W: Wait + time::Clock,
+    W: Wait + time::Clock + Log,
     C: Clock,
     G: Gate,
 > Job<Desk<'a, L, W, C, G>> for Worker<L, D, R, P> {
@@ -66,9 +74,9 @@ impl<
             gate,
         } = desk;
         match self {
-            Worker::Flushing(flusher) => Worker::Flushing(flush_worker(
-                *rt, *shared, flusher, *gate,
-            )),
+            Worker::Flushing(flusher) => {
+                Worker::Flushing(commit_all(*rt, *shared, flusher, *gate))
+            }
             Worker::Radio(seat, slot) => {
                 let (seat, slot) = radio_worker(*rt, *alloc, *shared, seat, slot, *clock, *gate);
                 Worker::Radio(seat, slot)
@@ -82,8 +90,54 @@ impl<
     }
 }
 
-// Gives a slot what of settled entries it was not given yet. What meets a fault is lost.
-fn apply_settled<L: Ledger, W: Wait, R: Radio>(
+// Commits until a stop, or until the device fails, which is told when it comes.
+fn commit_all<L: Ledger, W: Wait + time::Clock + Log, D: Disk, G: Gate>(
+    rt: &W,
+    shared: &Shared<L>,
+    flusher: Flusher<D>,
+    gate: &G,
+) -> Flusher<D> {
+    let had_failed = flusher.phase() == Phase::Failed;
+    let flusher = flush_worker(rt, shared, flusher, gate);
+    if !had_failed && flusher.phase() == Phase::Failed {
+        tell_device_fault(rt);
+    }
+    flusher
+}
+
+// What of settled entries a recipient was not given yet. It tries again where memory lacks; where it lacks in the end,
+// there is none.
+fn collected<L: Ledger, W: Wait + time::Clock>(
+    rt: &W,
+    shared: &Shared<L>,
+    seat: &mut Seat<L>,
+    to: Recipient,
+) -> Option<Vec<Out>>
+    ensures { seat.new.count ≡ seat.old.count }
+{
+    for _ in 0..TRIES {
+        if let Ok(outs) = shared.collect(rt, seat, to) {
+            return Some(outs);
+        }
+        sleep(rt, Duration::from_millis(PAUSE));
+    }
+    None
+}
+
+// Applies an out, and tries again where memory lacks. Tells whether it was taken.
+fn is_taken<W: time::Clock, R: Radio>(rt: &W, slot: &mut Slot<R>, out: &Out) -> bool {
+    for _ in 0..TRIES {
+        if slot.apply(out) != Err(SlotFault::NoMemory) {
+            return true;
+        }
+        sleep(rt, Duration::from_millis(PAUSE));
+    }
+    false
+}
+
+// Gives a slot what of settled entries it was not given yet, in order, and nothing behind an out that wasn't taken.
+// What meets a fault of the device is lost.
+fn apply_settled<L: Ledger, W: Wait + time::Clock + Log, R: Radio>(
     rt: &W,
     shared: &Shared<L>,
     seat: &mut Seat<L>,
@@ -91,16 +145,17 @@ fn apply_settled<L: Ledger, W: Wait, R: Radio>(
 )
     ensures { seat.new.count ≡ seat.old.count }
 {
-    let Ok(outs) = shared.collect(rt, seat, Recipient::Radio(slot.bssid())) else {
+    let Some(outs) = collected(rt, shared, seat, Recipient::Radio(slot.bssid())) else {
+        tell_not_handed_out(rt);
         return;
     };
-    for out in outs.iter() {
-        let _applied = slot.apply(out);
+    if !outs.iter().all(|out| is_taken(rt, slot, out)) {
+        tell_not_handed_out(rt);
     }
 }
 
 // Sends the replies to orders that are settled. What the port loses is lost.
-fn reply_settled<L: Ledger, W: Wait, P: Port>(
+fn reply_settled<L: Ledger, W: Wait + time::Clock + Log, P: Port>(
     rt: &W,
     shared: &Shared<L>,
     seat: &mut Seat<L>,
@@ -108,7 +163,8 @@ fn reply_settled<L: Ledger, W: Wait, P: Port>(
 )
     ensures { seat.new.count ≡ seat.old.count }
 {
-    let Ok(outs) = shared.collect(rt, seat, Recipient::Control) else {
+    let Some(outs) = collected(rt, shared, seat, Recipient::Control) else {
+        tell_not_handed_out(rt);
         return;
     };
     for out in outs.iter() {
@@ -121,7 +177,7 @@ fn reply_settled<L: Ledger, W: Wait, P: Port>(
 impl<L: Ledger, D: Disk + Drop, R: Radio, P: Port + Drop> Worker<L, D, R, P> {
     /// Does once more what it is for: commits what was accepted since it looked last, or hands out what was settled.
     /// Then it lets go what it owned, and gives its seat, if it had one.
-    pub(crate) fn leave<W: Wait + time::Clock, G: Gate>(
+    pub(crate) fn leave<W: Wait + time::Clock + Log, G: Gate>(
         self,
         rt: &W,
         shared: &Shared<L>,
@@ -131,7 +187,7 @@ impl<L: Ledger, D: Disk + Drop, R: Radio, P: Port + Drop> Worker<L, D, R, P> {
     {
         match self {
             Worker::Flushing(flusher) => {
-                let _flusher = flush_worker(rt, shared, flusher, gate);
+                let _flusher = commit_all(rt, shared, flusher, gate);
                 None
             }
             Worker::Radio(seat, slot) => {

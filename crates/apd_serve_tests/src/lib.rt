@@ -5,12 +5,18 @@
 #[cfg(test)]
 mod clock_tests;
 #[cfg(test)]
-mod closing_tests;
+mod hearing;
+#[cfg(test)]
+mod recording_tests;
 #[cfg(test)]
 mod running_tests;
 #[cfg(test)]
 mod serving_tests;
 #[cfg(test)]
+mod short_radio;
+#[cfg(test)]
 mod stage;
 #[cfg(test)]
 mod talk;
+#[cfg(test)]
+mod telling_tests;

@@ -8,6 +8,7 @@ use apd_conf::{Conf, Confs, InterfaceName};
 use apd_disk::FileDisk;
 use apd_serve::{RunFault, Site, run};
 use apd_store::{format, recover};
+use log::Log;
 use std::alloc::Global;
 use std::fs::{self, File};
 use std::io;
@@ -17,6 +18,13 @@ use std::sync::Wait;
 use std::test::Fail;
 use std::thread::Threads;
 use std::time::Clock;
+
+/// The name of a configuration's file that is not there.
+pub(crate) const CONF: &str = "no_conf_of_a_test";
+
+/// The second interface's state.
+const SECOND_STATUS: &str =
+    "state=ENABLED\nchannel=6\nbeacon_int=100\nbss[0]=wlan1\nbssid[0]=02:00:00:00:00:02\nssid[0]=net\nnum_sta[0]=0\n";
 
 /// The station of the first run, in the second.
 const STATION: &str =
@@ -42,7 +50,7 @@ fn second(alloc: Global) -> Result<Conf, Fail> {
 }
 
 /// The built-in configuration, and the second one where there are to be more radios than one.
-fn confs(rt: &impl AllocGlobal, radios: u16) -> Result<Confs, Fail> {
+pub(crate) fn confs(rt: &impl AllocGlobal, radios: u16) -> Result<Confs, Fail> {
     let mut list = Vec::new(rt.alloc());
     list.push(Conf::built_in(rt.alloc())?)?;
     if radios > 1 {
@@ -55,7 +63,10 @@ fn confs(rt: &impl AllocGlobal, radios: u16) -> Result<Confs, Fail> {
 }
 
 /// Makes the file of a name a new store.
-fn new_store(rt: &(impl Files<File = File> + AllocGlobal), name: &str) -> Result<(), Fail> {
+pub(crate) fn new_store(
+    rt: &(impl Files<File = File> + AllocGlobal),
+    name: &str,
+) -> Result<(), Fail> {
     let _ = fs::remove_file(rt, name);
     let disk = FileDisk::create(rt, name)?;
     match format(rt.alloc(), disk) {
@@ -64,28 +75,49 @@ fn new_store(rt: &(impl Files<File = File> + AllocGlobal), name: &str) -> Result
     }
 }
 
-/// What `run` with so many radios answers of a talk, as text, and how many of its lines were said.
-fn ran<R: Files<File = File> + Net + Wait + Threads + Clock + AllocGlobal + Sync>(
+/// What `run` of these configurations answers of a talk, as text, how many of its lines were said, and at which port.
+pub(crate) fn ran_with<
+    R: Files<File = File> + Net + Wait + Threads + Clock + AllocGlobal + Log + Sync,
+>(
     rt: &R,
     store: &str,
-    radios: u16,
+    confs: Confs,
     recordings: Option<&str>,
     lines: &[Line],
-) -> Result<(String, usize), Fail> {
+) -> Result<(String, usize, u16), Fail>
+where
+    R::Dir: Send + Sync,
+{
     let stage = Stage::new(false);
-    let port = free_ports(rt, radios)?;
+    let port = free_ports(rt, 8)?;
     let mut talk = Talk::new(rt, rt.alloc(), port, lines, &stage)?;
     let site = Site {
         store,
         port,
         recordings,
+        configurations: &[],
     };
-    let answer = run(rt, confs(rt, radios)?, &site, &mut talk);
-    Ok((told(rt, answer)?, talk.said()))
+    let answer = run(rt, confs, &site, &mut talk);
+    Ok((told(rt, answer)?, talk.said(), port))
+}
+
+/// The same with so many radios, without the port.
+fn ran<R: Files<File = File> + Net + Wait + Threads + Clock + AllocGlobal + Log + Sync>(
+    rt: &R,
+    store: &str,
+    radios: u16,
+    recordings: Option<&str>,
+    lines: &[Line],
+) -> Result<(String, usize), Fail>
+where
+    R::Dir: Send + Sync,
+{
+    let (answer, said, _) = ran_with(rt, store, confs(rt, radios)?, recordings, lines)?;
+    Ok((answer, said))
 }
 
 /// The number of entries, or the fault, as text.
-fn told(rt: &impl AllocGlobal, answer: Result<u64, RunFault>) -> Result<String, Fail> {
+pub(crate) fn told(rt: &impl AllocGlobal, answer: Result<u64, RunFault>) -> Result<String, Fail> {
     match answer {
         Ok(entries) => Ok(format!(in rt.alloc(); "{entries}")?),
         Err(fault) => Ok(format!(in rt.alloc(); "{fault}")?),
@@ -121,6 +153,8 @@ fn a_second_run_goes_on_where_the_first_ended(rt: HostRuntime) -> Result<(), Fai
 fn each_radio_has_its_port_and_its_recording(rt: HostRuntime) -> Result<(), Fail> {
     let name = "two_radios_store";
     new_store(&rt, name)?;
+    // What is there is emptied first.
+    fs::write(&rt, "two_radios.0", &[b'x'; 4_096])?;
     let lines = [
         Line::Sends(1, SECOND_RADIO, Datagram::Hex(SECOND_AUTHENTICATION)),
         Line::Gets(1, SECOND_RADIO, Datagram::Hex(SECOND_AUTHENTICATED)),
@@ -135,6 +169,20 @@ fn each_radio_has_its_port_and_its_recording(rt: HostRuntime) -> Result<(), Fail
     assert_eq!(rt; second.as_slice(), SECOND_RECORDING.as_bytes());
     fs::remove_file(&rt, "two_radios.0")?;
     fs::remove_file(&rt, "two_radios.1")?;
+    fs::remove_file(&rt, name)?;
+    Ok(())
+}
+
+#[test]
+fn a_command_is_of_the_interface_that_it_names(rt: HostRuntime) -> Result<(), Fail> {
+    let name = "named_interface_store";
+    new_store(&rt, name)?;
+    let lines = [
+        Line::Sends(0, CONTROL, Datagram::Text("IFNAME=wlan1 STATUS")),
+        Line::Gets(0, CONTROL, Datagram::Text(SECOND_STATUS)),
+    ];
+    let (answer, said) = ran(&rt, name, 2, None, &lines)?;
+    assert_eq!(rt; (answer.as_str(), said), ("0", 2));
     fs::remove_file(&rt, name)?;
     Ok(())
 }
@@ -162,17 +210,24 @@ fn the_start_is_committed_and_not_counted(rt: HostRuntime) -> Result<(), Fail> {
     Ok(())
 }
 
-/// Why `run` of a store at this port refuses.
-fn refusal<R: Files<File = File> + Net + Wait + Threads + Clock + AllocGlobal + Sync>(
+/// Why `run` of a store at this port refuses, where the configuration is of a file of this name.
+pub(crate) fn refusal<
+    R: Files<File = File> + Net + Wait + Threads + Clock + AllocGlobal + Log + Sync,
+>(
     rt: &R,
     store: &str,
     recordings: Option<&str>,
     port: u16,
-) -> Result<String, Fail> {
+    configuration: &str,
+) -> Result<String, Fail>
+where
+    R::Dir: Send + Sync,
+{
     let site = Site {
         store,
         port,
         recordings,
+        configurations: &[configuration],
     };
     let answer = run(rt, confs(rt, 1)?, &site, io::empty());
     told(rt, answer)
@@ -186,10 +241,10 @@ fn a_refusal_leaves_the_store_as_it_was(rt: HostRuntime) -> Result<(), Fail> {
     let port = free_ports(&rt, 1)?;
     for taken in [port, port.wrapping_add(RADIO)] {
         let _socket = UdpSocket::bind(&rt, (Ipv4Addr::LOCALHOST, taken))?;
-        let told = refusal(&rt, name, None, port)?;
+        let told = refusal(&rt, name, None, port, CONF)?;
         assert_eq!(rt; told.as_str(), "no socket");
     }
-    let told = refusal(&rt, name, Some("no_folder_of_a_test/r"), port)?;
+    let told = refusal(&rt, name, Some("no_folder_of_a_test/r"), port, CONF)?;
     assert_eq!(rt; told.as_str(), "cannot read no_folder_of_a_test/r.0");
     let after = fs::read(&rt, name)?;
     assert!(rt; before == after);
@@ -206,11 +261,12 @@ fn a_file_that_is_no_store_is_left_as_it_was(rt: HostRuntime) -> Result<(), Fail
         name,
         Some("no_folder_of_a_test/r"),
         free_ports(&rt, 1)?,
+        CONF,
     )?;
     assert_eq!(rt; told.as_str(), "not a store");
     assert_eq!(rt; fs::read(&rt, name)?.as_slice(), b"RAPSTOR1".as_slice());
     fs::remove_file(&rt, name)?;
-    let told = refusal(&rt, name, None, free_ports(&rt, 1)?)?;
+    let told = refusal(&rt, name, None, free_ports(&rt, 1)?, CONF)?;
     assert_eq!(rt; told.as_str(), "cannot read short_store");
     Ok(())
 }

@@ -1,17 +1,20 @@
+use crate::hearing::Hearing;
+use crate::short_radio::Short;
 use crate::stage::{HeldGate, Stage, StageClock};
 use crate::talk::{
-    ASSOCIATED, ASSOCIATION, AUTHENTICATED, AUTHENTICATION, CONTROL, DISASSOCIATED, Datagram, Line,
-    RADIO, Talk, free_ports,
+    ASSOCIATED, ASSOCIATION, AUTHENTICATED, AUTHENTICATION, CONTROL, DATA, DISASSOCIATED, Datagram,
+    Line, OTHER_AUTHENTICATED, OTHER_AUTHENTICATION, RADIO, Talk, free_ports,
 };
 use apd_base::Moment;
 use apd_conf::{AddressList, Conf, Confs, read_list};
 use apd_desk::{Clock, Gate, NoGate};
 use apd_disk::{MemDisk, OnceDisk};
-use apd_radio::UdpSim;
+use apd_radio::{Radio, UdpSim};
 use apd_serve::{ControlPort, ServeFault, SystemClock, serve};
 use apd_slot::Slot;
 use apd_store::{StoreFault, format};
 use apd_world::{World, restart};
+use log::Log;
 use std::alloc::Global;
 use std::net::Net;
 use std::sync::Wait;
@@ -28,6 +31,14 @@ const STATUS: &str =
 const DENIED: &str = "02:00:00:00:00:ac\n";
 
 const BOTH_DENIED: &str = "02:00:00:00:00:ab VLAN_ID=0\n02:00:00:00:00:ac VLAN_ID=0\n";
+
+/// The station that was heard.
+const HEARD: &str =
+    "02:00:00:00:00:aa\nflags=[AUTH][ASSOC][AUTHORIZED]\naid=1\ncapability=0x431\nlisten_interval=10\n";
+
+/// What is told of a device that failed.
+const FAILED: &str =
+    "[ERROR apd] device fault: nothing more is made durable, and what would change the table is refused; end it, see to the disk, and start it again\n";
 
 /// A device call that doesn't come.
 const NEVER: u64 = u64::MAX;
@@ -54,16 +65,15 @@ fn disk(alloc: Global, calls: u64) -> Result<OnceDisk<MemDisk>, Fail> {
     }
 }
 
-/// The world of the one configuration over this disk, with a radio on this port.
-fn world(
-    rt: &impl Net,
+/// The world of the one configuration over this disk, with this radio.
+fn world<R: Radio>(
     alloc: Global,
     disk: OnceDisk<MemDisk>,
-    port: u16,
-) -> Result<World<OnceDisk<MemDisk>, UdpSim>, Fail> {
+    radio: R,
+) -> Result<World<OnceDisk<MemDisk>, R>, Fail> {
     let conf = conf(alloc)?;
     let mut slots = Vec::new(alloc);
-    slots.push(Slot::new(alloc, UdpSim::new(rt, alloc, port)?, conf.bssid))?;
+    slots.push(Slot::new(alloc, radio, conf.bssid))?;
     let mut list = Vec::new(alloc);
     list.push(conf)?;
     let Ok(confs) = Confs::new(list) else {
@@ -84,7 +94,11 @@ struct Scene<'a> {
 }
 
 /// What `serve` answers in a scene, and how many of its lines were said.
-fn served<R: Net + Wait + Threads + time::Clock + Sync, C: Clock + Drop + Sync, G: Gate + Sync>(
+fn served<
+    R: Net + Wait + Threads + time::Clock + Log + Sync,
+    C: Clock + Drop + Sync,
+    G: Gate + Sync,
+>(
     rt: &R,
     alloc: Global,
     scene: Scene<'_>,
@@ -96,14 +110,15 @@ fn served<R: Net + Wait + Threads + time::Clock + Sync, C: Clock + Drop + Sync, 
     let mut talk = Talk::new(rt, alloc, port, scene.lines, stage)?;
     let control = ControlPort::open(rt, alloc, port)?;
     let disk = disk(alloc, scene.calls)?;
-    let world = world(rt, alloc, disk, port.wrapping_add(RADIO))?;
+    let radio = UdpSim::new(rt, alloc, port.wrapping_add(RADIO))?;
+    let world = world(alloc, disk, radio)?;
     let answer = serve(rt, alloc, world, control, clock, gate, &mut talk);
     talk.say(scene.after);
     Ok((answer, talk.said()))
 }
 
 /// The same, where only lines are said, the device fails the call after so many, and nothing is held.
-fn talked<R: Net + Wait + Threads + time::Clock + Sync>(
+fn talked<R: Net + Wait + Threads + time::Clock + Log + Sync>(
     rt: &R,
     alloc: Global,
     lines: &[Line],
@@ -221,7 +236,7 @@ fn an_answer_waits_for_its_commit_and_the_start_for_nothing(rt: HostRuntime) -> 
 }
 
 /// What is told in a scene by the stage's clock.
-fn staged<R: Net + Wait + Threads + time::Clock + Sync>(
+fn staged<R: Net + Wait + Threads + time::Clock + Log + Sync>(
     rt: &R,
     alloc: Global,
     scene: Scene<'_>,
@@ -272,6 +287,66 @@ fn a_silent_station_goes(rt: HostRuntime) -> Result<(), Fail> {
         calls: NEVER,
     };
     assert_eq!(rt; staged(&rt, rt.alloc(), scene, false)?, (Ok(3), 7));
+    Ok(())
+}
+
+#[test]
+fn an_answer_that_lacked_memory_is_given_at_the_end(rt: HostRuntime) -> Result<(), Fail> {
+    let (stage, alloc) = (Stage::new(true), rt.alloc());
+    let lines = [
+        Line::Sends(0, RADIO, Datagram::Hex(AUTHENTICATION)),
+        Line::Asked(2),
+    ];
+    let port = free_ports(&rt, 1)?;
+    let mut talk = Talk::new(&rt, alloc, port, &lines, &stage)?;
+    let control = ControlPort::open(&rt, alloc, port)?;
+    let radio = Short::new(UdpSim::new(&rt, alloc, port.wrapping_add(RADIO))?);
+    let world = world(alloc, disk(alloc, NEVER)?, radio)?;
+    let clock = StageClock {
+        rt: &rt,
+        stage: &stage,
+    };
+    let answer = serve(&rt, alloc, world, control, clock, &NoGate, &mut talk);
+    talk.say(&[Line::Gets(0, RADIO, Datagram::Hex(AUTHENTICATED))]);
+    assert_eq!(rt; (answer, talk.said()), (Ok(1), 3));
+    Ok(())
+}
+
+#[test]
+fn a_station_that_was_heard_stays(rt: HostRuntime) -> Result<(), Fail> {
+    // Once the other station is answered, what came before it was heard, at 200 s.
+    let scene = Scene {
+        lines: &[
+            Line::Sends(0, RADIO, Datagram::Hex(AUTHENTICATION)),
+            Line::Gets(0, RADIO, Datagram::Hex(AUTHENTICATED)),
+            Line::Sends(0, RADIO, Datagram::Hex(ASSOCIATION)),
+            Line::Gets(0, RADIO, Datagram::Hex(ASSOCIATED)),
+            Line::Jumps(200_000),
+            Line::Sends(0, RADIO, Datagram::Hex(DATA)),
+            Line::Sends(0, RADIO, Datagram::Hex(OTHER_AUTHENTICATION)),
+            Line::Gets(0, RADIO, Datagram::Hex(OTHER_AUTHENTICATED)),
+            Line::Jumps(400_000),
+            Line::GetsNothing(0),
+            Line::Sends(1, CONTROL, Datagram::Text("STA-FIRST")),
+            Line::Gets(1, CONTROL, Datagram::Text(HEARD)),
+        ],
+        after: &[],
+        calls: NEVER,
+    };
+    assert_eq!(rt; staged(&rt, rt.alloc(), scene, false)?, (Ok(3), 12));
+    Ok(())
+}
+
+#[test]
+fn a_device_fault_is_told_once(rt: HostRuntime) -> Result<(), Fail> {
+    let lines = [
+        Line::Sends(0, RADIO, Datagram::Hex(AUTHENTICATION)),
+        Line::GetsNothing(0),
+    ];
+    let hearing = Hearing::new(rt, rt.alloc());
+    assert_eq!(rt; talked(&hearing, rt.alloc(), &lines, STARTED)?, (Ok(1), 2));
+    let told = hearing.heard()?;
+    assert_eq!(rt; told.as_str(), FAILED);
     Ok(())
 }
 

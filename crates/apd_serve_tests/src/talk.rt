@@ -30,6 +30,16 @@ pub(crate) const ASSOCIATED: &str =
 /// It is silent for too long, and is disassociated for that reason.
 pub(crate) const DISASSOCIATED: &str = "a00000000200000000aa02000000000102000000000100000400";
 
+/// A data frame of the first station, which has no answer.
+pub(crate) const DATA: &str = "080100000200000000010200000000aa0200000000020000";
+
+/// Another station asks to be authenticated, and is.
+pub(crate) const OTHER_AUTHENTICATION: &str =
+    "b00000000200000000010200000000ab0200000000011000000001000000";
+
+pub(crate) const OTHER_AUTHENTICATED: &str =
+    "b00000000200000000ab0200000000010200000000010000000002000000";
+
 /// A station asks the second radio to be authenticated, and is.
 pub(crate) const SECOND_AUTHENTICATION: &str =
     "b00000000200000000020200000000aa0200000000021000000001000000";
@@ -91,6 +101,8 @@ pub(crate) struct Talk<'a> {
     lines: &'a [Line],
     stage: &'a Stage,
     said: usize,
+    // Whether it was asked for what is said, and had nothing yet.
+    asked: bool,
 }
 
 /// The socket of a sender.
@@ -131,6 +143,7 @@ impl<'a> Talk<'a> {
             lines,
             stage,
             said: 0,
+            asked: false,
         })
     }
 
@@ -204,7 +217,12 @@ impl<'a> Talk<'a> {
 }
 
 impl Read for Talk<'_> {
+    // It has nothing at first, as an input that doesn't wait.
     fn read(&mut self, _buf: &mut [u8]) -> io::Result<usize> {
+        if !self.asked {
+            self.asked = true;
+            return Err(ErrorKind::WouldBlock.into());
+        }
         self.say(self.lines);
         // Nothing is held behind the end.
         self.stage.let_go();

@@ -1,4 +1,4 @@
-use Rattle.apd_serve.proofs.serving.serve.Given as goal
+use Rattle.apd_serve.proofs.serving.serve_started.Given as goal
 
 abbrev pub ghosts-served : goal.ghosts-served
 ghosts-served g a = record { name = a.blank.name; parts = a.blank.parts }

@@ -1,0 +1,101 @@
+//! The files of recordings.
+use crate::identity::Identity;
+use crate::running::{RunFault, cannot_read};
+use std::alloc::AllocError;
+use std::fs::File;
+use std::io::{self, ErrorKind};
+use std::os::unix::fs::{FileExt, OpenOptionsExt};
+use std::rt::Files;
+
+/// What a store begins with. No such file becomes a recording.
+const STORE_HEAD: [u8; 8] = *b"RAPSTOR1";
+
+/// Who may read and write a recording that is made: its owner alone.
+const MODE: u32 = 0o600;
+
+/// A file that a recording is going to be written into, and its name. It holds an advisory lock on it (flock(2)).
+#[derive(Drop)]
+pub(crate) struct RecordingFile {
+    name: String,
+    file: File,
+}
+
+// Whether a file begins as a store does.
+fn begins_as_a_store(file: &File) -> io::Result<bool> {
+    let mut head = [0u8; STORE_HEAD.len()];
+    match file.read_exact_at(&mut head, 0) {
+        Ok(()) => Ok(head == STORE_HEAD),
+        Err(error) if error.kind() == ErrorKind::UnexpectedEof => Ok(false),
+        Err(error) => Err(error),
+    }
+}
+
+// Locks a file that may be emptied.
+//
+// Errors: `InvalidInput` where it is no regular file, one of those that are taken, or begins as a store does;
+// `WouldBlock` where it is locked.
+fn claim(file: &File, taken: &[Identity]) -> io::Result<()> {
+    let metadata = file.metadata()?;
+    let own = Identity::of(&metadata);
+    if !metadata.is_file() || taken.iter().any(|other| own.is(*other)) {
+        return Err(ErrorKind::InvalidInput.into());
+    }
+    file.try_lock()?;
+    if begins_as_a_store(file)? {
+        return Err(ErrorKind::InvalidInput.into());
+    }
+    Ok(())
+}
+
+// The file of a name, which is made where there is none, and claimed. What it holds stays.
+fn open(files: &impl Files<File = File>, name: &str, taken: &[Identity]) -> io::Result<File> {
+    let file = File::options()
+        .read(true)
+        .write(true)
+        .create(true)
+        .mode(MODE)
+        .open(files, name)?;
+    claim(&file, taken)?;
+    Ok(file)
+}
+
+/// Opens the files of so many recordings, none of which is one of those that are taken. What they hold stays.
+///
+/// Errors: `CannotRead` where one can't be opened or made, is taken, is locked, begins as a store does or is no regular
+/// file. Files that were made before it stay, with nothing in them.
+pub(crate) fn open_recordings(
+    rt: &(impl Files<File = File> + AllocGlobal),
+    prefix: &str,
+    count: usize,
+    taken: &[Identity],
+) -> Result<Vec<RecordingFile>, RunFault> {
+    let mut opened = Vec::with_capacity(rt.alloc(), count)?;
+    for place in 0..count {
+        let name = format!(in rt.alloc(); "{prefix}.{place}")?;
+        match open(rt, name.as_str(), taken) {
+            Ok(file) => opened
+                .push(RecordingFile { name, file })
+                .map_err(AllocError::from)?,
+            Err(error) => return Err(cannot_read(rt, &name, &error)),
+        }
+    }
+    Ok(opened)
+}
+
+/// Empties the files, and gives them, in their order.
+///
+/// Errors: `CannotRead` where one can't be emptied.
+pub(crate) fn emptied(
+    rt: &impl AllocGlobal,
+    opened: Vec<RecordingFile>,
+) -> Result<Vec<File>, RunFault> {
+    let mut files = Vec::with_capacity(rt.alloc(), opened.len())?;
+    for recording in opened {
+        let RecordingFile { name, file } = recording;
+        if let Err(error) = file.set_len(0) {
+            return Err(cannot_read(rt, &name, &error));
+        }
+        files.push(file).map_err(AllocError::from)?;
+    }
+    Ok(files)
+}

@@ -1,0 +1,144 @@
+use crate::hearing::Hearing;
+use crate::running_tests::{confs, new_store, ran_with};
+use crate::talk::{CONTROL, Datagram, Line, free_ports};
+use apd_base::{Addr, Bssid};
+use apd_conf::{Conf, Confs, InterfaceName};
+use apd_serve::{Site, run};
+use log::Log;
+use std::alloc::Global;
+use std::fs::{self, File};
+use std::io::{self, Read};
+use std::net::Net;
+use std::rt::Files;
+use std::sync::Wait;
+use std::test::Fail;
+use std::thread::{Threads, sleep};
+use std::time::{Clock, Duration};
+
+/// How long the store's name is watched in a test, in milliseconds.
+const WATCHED: u64 = 2_500;
+
+#[test]
+fn the_start_and_the_entries_are_told(rt: HostRuntime) -> Result<(), Fail> {
+    let name = "told_store";
+    new_store(&rt, name)?;
+    let hearing = Hearing::new(rt, rt.alloc());
+    let lines = [
+        Line::Sends(
+            0,
+            CONTROL,
+            Datagram::Text("DENY_ACL ADD_MAC 02:00:00:00:00:ab"),
+        ),
+        Line::Gets(0, CONTROL, Datagram::Text("OK\n")),
+    ];
+    let (answer, said, port) = ran_with(&hearing, name, confs(&rt, 2)?, None, &lines)?;
+    assert_eq!(rt; (answer.as_str(), said), ("1", 2));
+    let wanted = format!(in rt.alloc();
+        "[INFO  apd] serves commands on port {port}, wlan0 on port {}, wlan1 on port {}; stations recovered: 0\n[INFO  apd] entries 1\n",
+        port.wrapping_add(1),
+        port.wrapping_add(2)
+    )?;
+    assert_eq!(rt; hearing.heard()?, wanted);
+    fs::remove_file(&rt, name)?;
+    Ok(())
+}
+
+/// A configuration whose interface has this name, and whose BSSID ends in this number.
+fn conf(alloc: Global, interface: &str, number: u8) -> Result<Conf, Fail> {
+    let mut conf = Conf::built_in(alloc)?;
+    conf.interface = InterfaceName::new(interface, alloc)?;
+    conf.bssid = Bssid(Addr([2, 0, 0, 0, 0, number]));
+    Ok(conf)
+}
+
+/// The configurations of these interfaces, whose BSSIDs end in their places from this number on.
+fn numbered(alloc: Global, interfaces: &[&str], first: u8) -> Result<Confs, Fail> {
+    let mut list = Vec::new(alloc);
+    let mut number = first;
+    for interface in interfaces {
+        list.push(conf(alloc, interface, number)?)?;
+        number = number.wrapping_add(1);
+    }
+    match Confs::new(list) {
+        Ok(confs) => Ok(confs),
+        Err(_) => Err(Fail::new("no configurations")),
+    }
+}
+
+#[test]
+fn a_ninth_bssid_of_a_store_is_told(rt: HostRuntime) -> Result<(), Fail> {
+    let alloc = rt.alloc();
+    let name = "full_store";
+    new_store(&rt, name)?;
+    let eight = numbered(alloc, &["a", "b", "c", "d", "e", "f", "g", "h"], 1)?;
+    let (answer, _, _) = ran_with(&rt, name, eight, None, &[])?;
+    assert_eq!(rt; answer.as_str(), "0");
+    let hearing = Hearing::new(rt, rt.alloc());
+    let (answer, _, port) = ran_with(&hearing, name, numbered(alloc, &["i"], 9)?, None, &[])?;
+    assert_eq!(rt; answer.as_str(), "0");
+    let wanted = format!(in alloc;
+        "[WARN  apd] i is not served: the store has as many other BSSIDs as it can have\n[INFO  apd] serves commands on port {port}; stations recovered: 0\n[INFO  apd] entries 0\n"
+    )?;
+    assert_eq!(rt; hearing.heard()?, wanted);
+    fs::remove_file(&rt, name)?;
+    Ok(())
+}
+
+/// An input during which a store's file loses its name, and goes on for a while.
+#[derive(Drop)]
+struct Renaming<'a, R> {
+    rt: &'a R,
+    name: &'a str,
+    gone: Option<&'a str>,
+}
+
+impl<R: Files<File = File> + Clock> Read for Renaming<'_, R> {
+    fn read(&mut self, _buf: &mut [u8]) -> io::Result<usize> {
+        match self.gone {
+            Some(other) => fs::rename(self.rt, self.name, other)?,
+            None => fs::remove_file(self.rt, self.name)?,
+        }
+        sleep(self.rt, Duration::from_millis(WATCHED));
+        Ok(0)
+    }
+}
+
+/// What is told of a store whose file gets another name while it is served, or is removed.
+fn told_of<
+    R: Files<File = File> + Net + Wait + Threads + Clock + AllocGlobal + Log + Sync + Copy + Drop,
+>(rt: R, name: &str, gone: Option<&str>) -> Result<String, Fail>
+where
+    R::Dir: Send + Sync,
+{
+    new_store(&rt, name)?;
+    let hearing = Hearing::new(rt, rt.alloc());
+    let site = Site {
+        store: name,
+        port: free_ports(&rt, 1)?,
+        recordings: None,
+        configurations: &[],
+    };
+    let reader = Renaming {
+        rt: &rt,
+        name,
+        gone,
+    };
+    match run(&hearing, confs(&rt, 1)?, &site, reader) {
+        Ok(_) => hearing.heard(),
+        Err(_) => Err(Fail::new("it didn't serve")),
+    }
+}
+
+#[test]
+fn a_store_that_lost_its_name_is_told(rt: HostRuntime) -> Result<(), Fail> {
+    let told = told_of(rt, "removed_store", None)?;
+    let line =
+        "[ERROR apd] removed_store was removed: what the store holds, and what is told from now on, is lost when this ends\n";
+    assert_eq!(rt; told.as_str().matches(line).count(), 1);
+    let told = told_of(rt, "moved_store", Some("store_elsewhere"))?;
+    let line =
+        "[ERROR apd] moved_store is not the store that is served any more: a start from moved_store knows nothing of what is told from now on\n";
+    assert_eq!(rt; told.as_str().matches(line).count(), 1);
+    fs::remove_file(&rt, "store_elsewhere")?;
+    Ok(())
+}
