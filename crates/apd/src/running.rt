@@ -80,6 +80,21 @@ pub fn run_command<'a>(alloc: Global) -> Result<Command<'a>, AllocError> {
         .arg(files)
 }
 
+// A site of which all lives as long as what lives shortest of it.
+fn site_of<'a>(
+    store: &'a str,
+    port: u16,
+    recordings: Option<&'a str>,
+    configurations: &'a [&'a str],
+) -> Site<'a> {
+    Site {
+        store,
+        port,
+        recordings,
+        configurations,
+    }
+}
+
 /// Does what the subcommand's words say.
 pub fn run_and_log<
     R: Input + Files<File = File> + Net + Wait + Threads + Clock + AllocGlobal + Log + Sync,
@@ -89,12 +104,9 @@ where
 {
     let names = matches.get_strs("CONF").unwrap_or(&[]);
     let confs = read_configurations(rt, names).map_err(RunningFault::Configuration)?;
-    let site = Site {
-        store: matches.get_str("store").unwrap_or(""),
-        port: matches.get_one("port").unwrap_or(0),
-        recordings: matches.get_str("record"),
-        configurations: names,
-    };
+    let store = matches.get_str("store").unwrap_or("");
+    let port = matches.get_one("port").unwrap_or(0);
+    let site = site_of(store, port, matches.get_str("record"), names);
     run(rt, confs, &site, rt.reader()).map_err(RunningFault::Run)?;
     Ok(())
 }

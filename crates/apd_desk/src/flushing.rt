@@ -35,8 +35,8 @@ enum Went {
 
 impl<D: Disk> Flushing<D> {
     fn step<L: Ledger, W: Wait, G: Gate>(&mut self, rt: &W, shared: &Shared<L>, gate: &G) -> Went
-        ensures inside { IsInside D.size self.old.flusher → IsInside D.size self.new.flusher }
-        ensures honest { D.honest (device_of self.old.flusher) ↔ D.honest (device_of self.new.flusher) }
+        ensures inside { IsInside D.model self.old.flusher → IsInside D.model self.new.flusher }
+        ensures honest { D.model.honest (device_of self.old.flusher) ↔ D.model.honest (device_of self.new.flusher) }
     {
         match self.flusher.phase() {
             Phase::Idle => match self.receipt.take() {
@@ -53,8 +53,8 @@ impl<D: Disk> Flushing<D> {
     }
 
     fn load<L: Ledger, W: Wait>(&mut self, rt: &W, shared: &Shared<L>) -> Went
-        ensures inside { IsInside D.size self.old.flusher → IsInside D.size self.new.flusher }
-        ensures honest { D.honest (device_of self.old.flusher) ↔ D.honest (device_of self.new.flusher) }
+        ensures inside { IsInside D.model self.old.flusher → IsInside D.model self.new.flusher }
+        ensures honest { D.model.honest (device_of self.old.flusher) ↔ D.model.honest (device_of self.new.flusher) }
     {
         let batch = match self.batch.take() {
             Some(batch) => batch,
@@ -75,8 +75,8 @@ impl<D: Disk> Flushing<D> {
     }
 
     fn turn<G: Gate>(&mut self, gate: &G) -> Went
-        ensures inside { IsInside D.size self.old.flusher → IsInside D.size self.new.flusher }
-        ensures honest { D.honest (device_of self.old.flusher) ↔ D.honest (device_of self.new.flusher) }
+        ensures inside { IsInside D.model self.old.flusher → IsInside D.model self.new.flusher }
+        ensures honest { D.model.honest (device_of self.old.flusher) ↔ D.model.honest (device_of self.new.flusher) }
     {
         gate.pass(Place::BeforeCall);
         let answer = self.flusher.turn();
@@ -88,8 +88,8 @@ impl<D: Disk> Flushing<D> {
     }
 
     fn publish<L: Ledger, W: Wait>(&mut self, rt: &W, shared: &Shared<L>, receipt: Receipt) -> Went
-        ensures inside { IsInside D.size self.old.flusher → IsInside D.size self.new.flusher }
-        ensures honest { D.honest (device_of self.old.flusher) ↔ D.honest (device_of self.new.flusher) }
+        ensures inside { IsInside D.model self.old.flusher → IsInside D.model self.new.flusher }
+        ensures honest { D.model.honest (device_of self.old.flusher) ↔ D.model.honest (device_of self.new.flusher) }
     {
         match shared.publish(rt, receipt) {
             Ok(()) => Went::On,
@@ -111,8 +111,8 @@ pub fn flush_worker<L: Ledger, W: Wait + Clock, D: Disk, G: Gate>(
     flusher: Flusher<D>,
     gate: &G,
 ) -> Flusher<D>
-    ensures inside { IsInside D.size flusher → IsInside D.size result }
-    ensures honest { D.honest (device_of flusher) ↔ D.honest (device_of result) }
+    ensures inside { IsInside D.model flusher → IsInside D.model result }
+    ensures honest { D.model.honest (device_of flusher) ↔ D.model.honest (device_of result) }
 {
     let mut flushing = Flushing {
         flusher,

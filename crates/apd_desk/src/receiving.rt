@@ -29,7 +29,7 @@ fn receive<L: Ledger, W: Wait, R: Radio, C: Clock, G: Gate>(
     gate: &G,
 ) -> bool
     ensures seat { IsLater seat.old seat.new }
-    ensures exact { IsExact R.stations slot.old → IsExact R.stations slot.new }
+    ensures exact { IsExact R.model slot.old → IsExact R.model slot.new }
     ensures bssid { slot.new.bssid ≡ slot.old.bssid }
 {
     let Ok(Some(frame)) = slot.poll() else {
@@ -47,7 +47,7 @@ fn apply_all<L: Ledger, W: Wait, R: Radio>(
     slot: &mut Slot<R>,
     outs: &mut Vec<Out>,
 ) -> bool
-    ensures exact { IsExact R.stations slot.old → IsExact R.stations slot.new }
+    ensures exact { IsExact R.model slot.old → IsExact R.model slot.new }
     ensures bssid { slot.new.bssid ≡ slot.old.bssid }
 {
     let mut some = false;
@@ -72,7 +72,7 @@ fn apply_settled<L: Ledger, W: Wait, R: Radio>(
     outs: &mut Vec<Out>,
 ) -> bool
     ensures seat { IsLater seat.old seat.new }
-    ensures exact { IsExact R.stations slot.old → IsExact R.stations slot.new }
+    ensures exact { IsExact R.model slot.old → IsExact R.model slot.new }
     ensures bssid { slot.new.bssid ≡ slot.old.bssid }
 {
     if outs.is_empty() {
@@ -98,7 +98,7 @@ pub fn radio_worker<L: Ledger, W: Wait + SystemClock, R: Radio, C: Clock, G: Gat
     gate: &G,
 ) -> (Seat<L>, Slot<R>)
     ensures seat { IsLater seat result.0 }
-    ensures exact { IsExact R.stations slot → IsExact R.stations result.1 }
+    ensures exact { IsExact R.model slot → IsExact R.model result.1 }
     ensures bssid { result.1.bssid ≡ slot.bssid }
 {
     let mut seat = seat;

@@ -1,5 +1,6 @@
 //! A disk whose sync is held until requests were accepted.
 ghost use Rattle.std.specs.Prelude.{◌≡◌};
+ghost use Rattle.apd_disk.specs.Disk.{inside};
 
 use apd_desk::{Gate, Place};
 use apd_disk::{Disk, DiskFault};
@@ -85,19 +86,7 @@ impl<'a, D: Disk> HoldDisk<'a, D> {
 }
 
 impl<D: Disk> Disk for HoldDisk<'_, D> {
-    ghost honest = { λ d. D.honest d.inner };
-
-    ghost reads = { λ d. D.reads d.inner };
-
-    ghost may_leave = { λ d. D.may_leave d.inner };
-
-    ghost moment = { λ d. D.moment d.inner };
-
-    ghost left_since = { λ d. D.left_since d.inner };
-
-    ghost size = { λ d. D.size d.inner };
-
-    ghost failed = { λ d. D.failed d.inner };
+    ghost model = { inside D.model (λ d. d.inner) };
 
     ghost reads_may_be_left = { λ d h. D.reads_may_be_left d.inner h };
 

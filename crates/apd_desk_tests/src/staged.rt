@@ -1,6 +1,7 @@
 //! A clock, a gate and radios by which a test says when something comes, and when all are to stop.
 ghost use Rattle.std.specs.Prelude.{◌≡◌};
 ghost use Rattle.std.specs.FinMap as map;
+ghost use Rattle.apd_radio.specs.Model.{inside};
 
 use apd_base::{Addr, Moment};
 use apd_desk::{Clock, Gate, Place, Shared};
@@ -118,9 +119,7 @@ impl<'a, R: Radio, L: Ledger, W: Wait> Staged<'a, R, L, W> {
 }
 
 impl<R: Radio, L: Ledger, W: Wait> Radio for Staged<'_, R, L, W> {
-    ghost stations = { λ radio. R.stations radio.inner };
-
-    ghost faults = { λ radio. R.faults radio.inner };
+    ghost model = { inside R.model (λ radio. radio.inner) };
 
     fn poll(&mut self) -> Result<Option<Vec<u8>>, RadioFault> {
         let Some(frame) = self.frames.get(self.given) else {
@@ -165,9 +164,7 @@ pub(crate) struct Short<R: Radio> {
 }
 
 impl<R: Radio> Radio for Short<R> {
-    ghost stations = { λ radio. R.stations radio.inner };
-
-    ghost faults = { λ radio. R.faults radio.inner };
+    ghost model = { inside R.model (λ radio. radio.inner) };
 
     fn poll(&mut self) -> Result<Option<Vec<u8>>, RadioFault> {
         self.inner.poll()

@@ -53,8 +53,8 @@ fn a_crash_after_a_first_write_and_after_a_crash(rt: HostRuntime) -> Result<(), 
 
 // Five calls, and whether each succeeded.
 fn commit<D: Disk>(disk: &mut D) -> [bool; 5]
-    requires { 2 ≤ D.size disk.old }
-    ensures { D.size disk.new ≡ D.size disk.old }
+    requires { 2 ≤ D.model.size disk.old }
+    ensures { D.model.size disk.new ≡ D.model.size disk.old }
 {
     let mut byte = [0];
     [

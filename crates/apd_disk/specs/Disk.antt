@@ -2,6 +2,39 @@
 use Rattle.std.specs.Prelude.{◌≡◌, ◌⊎◌, ◌↔◌, ℕ, ◌+◌, ◌≤◌, List, ◌++◌, length, take, drop, Result, OnErr, OnOk}
 use Rattle.apd_base.specs.Failures.{HasRisen}
 
+-- What is meant by a disk of this type. All of it but the size and the count of failures is said of an honest disk alone.
+pub record DiskModel (D : Type 0) : Type 1 where
+  -- whether the disk keeps what is said of it
+  pub honest : D → Type 0
+  -- the bytes that a read gives
+  pub reads : D → List ℕ
+  -- the images that a stop now may leave
+  pub may_leave : D → List ℕ → Type 0
+  -- the moment, as a number that doesn't fall
+  pub moment : D → ℕ
+  -- the images of a stop at some moment since that one, during a call or between two
+  pub left_since : D → ℕ → List ℕ → Type 0
+  -- the number of bytes
+  pub size : D → ℕ
+  -- how often the device has failed, up to 2^64 - 1
+  pub failed : D → ℕ
+
+-- the model of a disk that lies inside another value
+abbrev pub inside : {D E : Type 0} → DiskModel D → (E → D) → DiskModel E
+inside disk inner = record {
+  honest = λ e. disk.honest (inner e);
+  reads = λ e. disk.reads (inner e);
+  may_leave = λ e. disk.may_leave (inner e);
+  moment = λ e. disk.moment (inner e);
+  left_since = λ e. disk.left_since (inner e);
+  size = λ e. disk.size (inner e);
+  failed = λ e. disk.failed (inner e);
+}
+
+-- the same model, but for the count of failures
+abbrev pub counting : {D : Type 0} → DiskModel D → (D → ℕ) → DiskModel D
+counting disk failed = record disk { failed = failed }
+
 -- the image with these bytes at this place
 abbrev pub overwritten : List ℕ → ℕ → List ℕ → List ℕ
 overwritten image at bytes = take at image ++ bytes ++ drop (at + length bytes) image
@@ -40,38 +73,37 @@ pub record Counts {T E : Type 0} (before now : ℕ) (result : Result T E) : Type
 
 -- A stop at any moment since old leaves an image that has P. It is for the contracts of those who make several calls,
 -- as a store; the lemmas on how such runs go on are in proofs/Moments.
-pub record LeavesOnly {D : Type 0} (moment : D → ℕ) (left_since : D → ℕ → List ℕ → Type 0) (old new : D)
+pub record LeavesOnly {D : Type 0} (disk : DiskModel D) (old new : D)
     (P : List ℕ → Type 0) : Type 0 where
-  pub later : moment old ≤ moment new
-  pub each : (c : List ℕ) → left_since new (moment old) c → P c
+  pub later : disk.moment old ≤ disk.moment new
+  pub each : (c : List ℕ) → disk.left_since new (disk.moment old) c → P c
   -- for a run that began earlier
-  pub before : (t : ℕ) (c : List ℕ) → t ≤ moment old → left_since new t c → left_since old t c ⊎ P c
+  pub before : (t : ℕ) (c : List ℕ) → t ≤ disk.moment old → disk.left_since new t c → disk.left_since old t c ⊎ P c
 
 -- ---- What one call does, on a disk of this kind: all of it but the length is said of an honest disk alone.
-module _ {D T E : Type 0} (honest : D → Type 0) (reads : D → List ℕ) (may_leave : D → List ℕ → Type 0) (moment : D → ℕ)
-    (left_since : D → ℕ → List ℕ → Type 0) (size : D → ℕ) (old new : D) (result : Result T E) where
+module _ {D T E : Type 0} (disk : DiskModel D) (old new : D) (result : Result T E) where
   -- a buffer that held something is filled with the bytes from a place on
   pub record IsRead (at : ℕ) (before after : List ℕ) : Type 0 where
-    pub length_stays : size new ≡ size old
-    pub stays_honest : honest old ↔ honest new
-    pub bytes : honest old → OnOk result (after ≡ take (length before) (drop at (reads old)))
-    pub stays : honest old → OnOk result (reads new ≡ reads old)
-    pub stop : honest old → Within (left_since new (moment old)) (may_leave old)
-    pub time : honest old → Elapses (moment old) (moment new) (left_since old) (left_since new)
+    pub length_stays : disk.size new ≡ disk.size old
+    pub stays_honest : disk.honest old ↔ disk.honest new
+    pub bytes : disk.honest old → OnOk result (after ≡ take (length before) (drop at (disk.reads old)))
+    pub stays : disk.honest old → OnOk result (disk.reads new ≡ disk.reads old)
+    pub stop : disk.honest old → Within (disk.left_since new (disk.moment old)) (disk.may_leave old)
+    pub time : disk.honest old → Elapses (disk.moment old) (disk.moment new) (disk.left_since old) (disk.left_since new)
 
   -- the bytes are written from a place on
   pub record IsWritten (at : ℕ) (bytes : List ℕ) : Type 0 where
-    pub length_stays : size new ≡ size old
-    pub stays_honest : honest old ↔ honest new
-    pub written : honest old → OnOk result (reads new ≡ overwritten (reads old) at bytes)
-    pub stop : honest old → Follows (TornWithin at (length bytes)) (may_leave old) (left_since new (moment old))
-    pub time : honest old → Elapses (moment old) (moment new) (left_since old) (left_since new)
+    pub length_stays : disk.size new ≡ disk.size old
+    pub stays_honest : disk.honest old ↔ disk.honest new
+    pub written : disk.honest old → OnOk result (disk.reads new ≡ overwritten (disk.reads old) at bytes)
+    pub stop : disk.honest old → Follows (TornWithin at (length bytes)) (disk.may_leave old) (disk.left_since new (disk.moment old))
+    pub time : disk.honest old → Elapses (disk.moment old) (disk.moment new) (disk.left_since old) (disk.left_since new)
 
   -- what was written is made durable
   pub record IsSynced : Type 0 where
-    pub length_stays : size new ≡ size old
-    pub stays_honest : honest old ↔ honest new
-    pub durable : honest old → OnOk result (Only (reads old) (may_leave new))
-    pub stays : honest old → OnOk result (reads new ≡ reads old)
-    pub stop : honest old → Within (left_since new (moment old)) (may_leave old)
-    pub time : honest old → Elapses (moment old) (moment new) (left_since old) (left_since new)
+    pub length_stays : disk.size new ≡ disk.size old
+    pub stays_honest : disk.honest old ↔ disk.honest new
+    pub durable : disk.honest old → OnOk result (Only (disk.reads old) (disk.may_leave new))
+    pub stays : disk.honest old → OnOk result (disk.reads new ≡ disk.reads old)
+    pub stop : disk.honest old → Within (disk.left_since new (disk.moment old)) (disk.may_leave old)
+    pub time : disk.honest old → Elapses (disk.moment old) (disk.moment new) (disk.left_since old) (disk.left_since new)

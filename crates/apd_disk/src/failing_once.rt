@@ -1,6 +1,6 @@
 //! A disk that fails one call.
 ghost use Rattle.std.specs.Prelude.{◌≡◌, ◌≤◌, ◌+◌, length, Some};
-ghost use Rattle.apd_disk.specs.Disk.{Counts, IsRead, IsSynced, IsWritten};
+ghost use Rattle.apd_disk.specs.Disk.{counting, inside, Counts, IsRead, IsSynced, IsWritten};
 ghost use Rattle.apd_disk.specs.Faults.{sum_of, OnceCall};
 
 use crate::fault::fail;
@@ -46,19 +46,7 @@ impl<D: Disk> OnceDisk<D> {
 // A method with an `ensures` of its own has its clauses in place of the trait's. So each one here repeats
 // the trait's record, of the disk inside, beside the clause that is its own (`passed`).
 impl<D: Disk> Disk for OnceDisk<D> {
-    ghost honest = { λ d. D.honest d.inner };
-
-    ghost reads = { λ d. D.reads d.inner };
-
-    ghost may_leave = { λ d. D.may_leave d.inner };
-
-    ghost moment = { λ d. D.moment d.inner };
-
-    ghost left_since = { λ d. D.left_since d.inner };
-
-    ghost size = { λ d. D.size d.inner };
-
-    ghost failed = { λ d. sum_of (D.failed d.inner) d.failures };
+    ghost model = { counting (inside D.model (λ d. d.inner)) (λ d. sum_of (D.model.failed d.inner) d.failures) };
 
     ghost reads_may_be_left = { λ d h. D.reads_may_be_left d.inner h };
 
@@ -79,12 +67,11 @@ impl<D: Disk> Disk for OnceDisk<D> {
     }
 
     fn read_at(&mut self, at: usize, buf: &mut [u8]) -> Result<(), DiskFault>
-        requires { at + length buf.old ≤ D.size self.old.inner }
-        ensures count { Counts (sum_of (D.failed self.old.inner) self.old.failures)
-            (sum_of (D.failed self.new.inner) self.new.failures) result }
-        ensures call { IsRead D.honest D.reads D.may_leave D.moment D.left_since D.size
-            self.old.inner self.new.inner result at buf.old buf.new }
-        ensures passed { OnceCall D.failed self.old.inner self.new.inner self.old.before self.new.before result }
+        requires { at + length buf.old ≤ D.model.size self.old.inner }
+        ensures count { Counts (sum_of (D.model.failed self.old.inner) self.old.failures)
+            (sum_of (D.model.failed self.new.inner) self.new.failures) result }
+        ensures call { IsRead D.model self.old.inner self.new.inner result at buf.old buf.new }
+        ensures passed { OnceCall D.model self.old.inner self.new.inner self.old.before self.new.before result }
     {
         match self.before {
             None => self.inner.read_at(at, buf),
@@ -100,12 +87,11 @@ impl<D: Disk> Disk for OnceDisk<D> {
     }
 
     fn write_at(&mut self, at: usize, bytes: &[u8]) -> Result<(), DiskFault>
-        requires { at + length bytes.now ≤ D.size self.old.inner }
-        ensures count { Counts (sum_of (D.failed self.old.inner) self.old.failures)
-            (sum_of (D.failed self.new.inner) self.new.failures) result }
-        ensures call { IsWritten D.honest D.reads D.may_leave D.moment D.left_since D.size
-            self.old.inner self.new.inner result at bytes.now }
-        ensures passed { OnceCall D.failed self.old.inner self.new.inner self.old.before self.new.before result }
+        requires { at + length bytes.now ≤ D.model.size self.old.inner }
+        ensures count { Counts (sum_of (D.model.failed self.old.inner) self.old.failures)
+            (sum_of (D.model.failed self.new.inner) self.new.failures) result }
+        ensures call { IsWritten D.model self.old.inner self.new.inner result at bytes.now }
+        ensures passed { OnceCall D.model self.old.inner self.new.inner self.old.before self.new.before result }
     {
         match self.before {
             None => self.inner.write_at(at, bytes),
@@ -121,11 +107,10 @@ impl<D: Disk> Disk for OnceDisk<D> {
     }
 
     fn sync(&mut self) -> Result<(), DiskFault>
-        ensures count { Counts (sum_of (D.failed self.old.inner) self.old.failures)
-            (sum_of (D.failed self.new.inner) self.new.failures) result }
-        ensures call { IsSynced D.honest D.reads D.may_leave D.moment D.left_since D.size
-            self.old.inner self.new.inner result }
-        ensures passed { OnceCall D.failed self.old.inner self.new.inner self.old.before self.new.before result }
+        ensures count { Counts (sum_of (D.model.failed self.old.inner) self.old.failures)
+            (sum_of (D.model.failed self.new.inner) self.new.failures) result }
+        ensures call { IsSynced D.model self.old.inner self.new.inner result }
+        ensures passed { OnceCall D.model self.old.inner self.new.inner self.old.before self.new.before result }
     {
         match self.before {
             None => self.inner.sync(),

@@ -201,19 +201,15 @@ impl FileDisk {
 
 // The clauses of each call are those of its length and its count, and what becomes of the other fields.
 impl Disk for FileDisk {
-    ghost honest = { λ _. ⊥ };
-
-    ghost reads = { λ _. [] };
-
-    ghost may_leave = { λ _ _. ⊥ };
-
-    ghost moment = { λ _. 0 };
-
-    ghost left_since = { λ _ _ _. ⊥ };
-
-    ghost size = { λ d. d.len };
-
-    ghost failed = { λ d. d.failures };
+    ghost model = { record {
+      honest = λ _. ⊥;
+      reads = λ _. [];
+      may_leave = λ _ _. ⊥;
+      moment = λ _. 0;
+      left_since = λ _ _ _. ⊥;
+      size = λ d. d.len;
+      failed = λ d. d.failures;
+    } };
 
     ghost reads_may_be_left = { λ d h. absurd h };
 

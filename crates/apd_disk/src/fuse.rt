@@ -1,7 +1,7 @@
 //! A disk that fails for good after some calls.
 ghost use Rattle.std.specs.Prelude.{◌≡◌, ◌≤◌, ◌+◌, length, take, drop, Some, ◌⊎◌};
 ghost use Rattle.apd_base.specs.Failures.{HasRisen};
-ghost use Rattle.apd_disk.specs.Disk.{overwritten, IsRead, IsSynced, IsWritten, Only, Counts};
+ghost use Rattle.apd_disk.specs.Disk.{counting, inside, overwritten, IsRead, IsSynced, IsWritten, Only, Counts};
 ghost use Rattle.apd_disk.specs.Faults.{sum_of, FuseCall};
 
 use crate::fault::fail;
@@ -48,19 +48,7 @@ impl<D: Disk> FuseDisk<D> {
 // A method with an `ensures` of its own has its clauses in place of the trait's. So each one here repeats
 // the trait's record, of the disk inside, beside the clause that is its own (`passed`, `passed_on`).
 impl<D: Disk> Disk for FuseDisk<D> {
-    ghost honest = { λ d. D.honest d.inner };
-
-    ghost reads = { λ d. D.reads d.inner };
-
-    ghost may_leave = { λ d. D.may_leave d.inner };
-
-    ghost moment = { λ d. D.moment d.inner };
-
-    ghost left_since = { λ d. D.left_since d.inner };
-
-    ghost size = { λ d. D.size d.inner };
-
-    ghost failed = { λ d. sum_of (D.failed d.inner) d.failures };
+    ghost model = { counting (inside D.model (λ d. d.inner)) (λ d. sum_of (D.model.failed d.inner) d.failures) };
 
     ghost reads_may_be_left = { λ d h. D.reads_may_be_left d.inner h };
 
@@ -81,15 +69,14 @@ impl<D: Disk> Disk for FuseDisk<D> {
     }
 
     fn read_at(&mut self, at: usize, buf: &mut [u8]) -> Result<(), DiskFault>
-        requires { at + length buf.old ≤ D.size self.old.inner }
-        ensures count { Counts (sum_of (D.failed self.old.inner) self.old.failures)
-            (sum_of (D.failed self.new.inner) self.new.failures) result }
-        ensures call { IsRead D.honest D.reads D.may_leave D.moment D.left_since D.size
-            self.old.inner self.new.inner result at buf.old buf.new }
-        ensures passed { FuseCall D.failed self.old.inner self.new.inner self.old.passes self.new.passes result }
-        ensures passed_on { D.honest self.old.inner → self.old.passes ≡ Some 0
-            → (buf.new ≡ take (length buf.old) (drop at (D.reads self.old.inner)))
-            ⊎ HasRisen (D.failed self.old.inner) (D.failed self.new.inner) }
+        requires { at + length buf.old ≤ D.model.size self.old.inner }
+        ensures count { Counts (sum_of (D.model.failed self.old.inner) self.old.failures)
+            (sum_of (D.model.failed self.new.inner) self.new.failures) result }
+        ensures call { IsRead D.model self.old.inner self.new.inner result at buf.old buf.new }
+        ensures passed { FuseCall D.model self.old.inner self.new.inner self.old.passes self.new.passes result }
+        ensures passed_on { D.model.honest self.old.inner → self.old.passes ≡ Some 0
+            → (buf.new ≡ take (length buf.old) (drop at (D.model.reads self.old.inner)))
+            ⊎ HasRisen (D.model.failed self.old.inner) (D.model.failed self.new.inner) }
     {
         match self.passes {
             Some(0) => {
@@ -106,15 +93,14 @@ impl<D: Disk> Disk for FuseDisk<D> {
     }
 
     fn write_at(&mut self, at: usize, bytes: &[u8]) -> Result<(), DiskFault>
-        requires { at + length bytes.now ≤ D.size self.old.inner }
-        ensures count { Counts (sum_of (D.failed self.old.inner) self.old.failures)
-            (sum_of (D.failed self.new.inner) self.new.failures) result }
-        ensures call { IsWritten D.honest D.reads D.may_leave D.moment D.left_since D.size
-            self.old.inner self.new.inner result at bytes.now }
-        ensures passed { FuseCall D.failed self.old.inner self.new.inner self.old.passes self.new.passes result }
-        ensures passed_on { D.honest self.old.inner → self.old.passes ≡ Some 0
-            → (D.reads self.new.inner ≡ overwritten (D.reads self.old.inner) at bytes.now)
-            ⊎ HasRisen (D.failed self.old.inner) (D.failed self.new.inner) }
+        requires { at + length bytes.now ≤ D.model.size self.old.inner }
+        ensures count { Counts (sum_of (D.model.failed self.old.inner) self.old.failures)
+            (sum_of (D.model.failed self.new.inner) self.new.failures) result }
+        ensures call { IsWritten D.model self.old.inner self.new.inner result at bytes.now }
+        ensures passed { FuseCall D.model self.old.inner self.new.inner self.old.passes self.new.passes result }
+        ensures passed_on { D.model.honest self.old.inner → self.old.passes ≡ Some 0
+            → (D.model.reads self.new.inner ≡ overwritten (D.model.reads self.old.inner) at bytes.now)
+            ⊎ HasRisen (D.model.failed self.old.inner) (D.model.failed self.new.inner) }
     {
         match self.passes {
             Some(0) => {
@@ -131,14 +117,13 @@ impl<D: Disk> Disk for FuseDisk<D> {
     }
 
     fn sync(&mut self) -> Result<(), DiskFault>
-        ensures count { Counts (sum_of (D.failed self.old.inner) self.old.failures)
-            (sum_of (D.failed self.new.inner) self.new.failures) result }
-        ensures call { IsSynced D.honest D.reads D.may_leave D.moment D.left_since D.size
-            self.old.inner self.new.inner result }
-        ensures passed { FuseCall D.failed self.old.inner self.new.inner self.old.passes self.new.passes result }
-        ensures passed_on { D.honest self.old.inner → self.old.passes ≡ Some 0
-            → Only (D.reads self.old.inner) (D.may_leave self.new.inner)
-            ⊎ HasRisen (D.failed self.old.inner) (D.failed self.new.inner) }
+        ensures count { Counts (sum_of (D.model.failed self.old.inner) self.old.failures)
+            (sum_of (D.model.failed self.new.inner) self.new.failures) result }
+        ensures call { IsSynced D.model self.old.inner self.new.inner result }
+        ensures passed { FuseCall D.model self.old.inner self.new.inner self.old.passes self.new.passes result }
+        ensures passed_on { D.model.honest self.old.inner → self.old.passes ≡ Some 0
+            → Only (D.model.reads self.old.inner) (D.model.may_leave self.new.inner)
+            ⊎ HasRisen (D.model.failed self.old.inner) (D.model.failed self.new.inner) }
     {
         match self.passes {
             Some(0) => {

@@ -177,19 +177,15 @@ impl MemDisk {
 }
 
 impl Disk for MemDisk {
-    ghost honest = { λ _. Unit {0} };
-
-    ghost reads = { λ d. d.bytes.items };
-
-    ghost may_leave = { λ d. LeftAfter d.initial.items d.calls.items };
-
-    ghost moment = { λ d. length d.calls.items };
-
-    ghost left_since = { λ d. LeftBetween d.initial.items d.calls.items };
-
-    ghost size = { λ d. length d.bytes.items };
-
-    ghost failed = { λ d. d.failures };
+    ghost model = { record {
+      honest = λ _. Unit {0};
+      reads = λ d. d.bytes.items;
+      may_leave = λ d. LeftAfter d.initial.items d.calls.items;
+      moment = λ d. length d.calls.items;
+      left_since = λ d. LeftBetween d.initial.items d.calls.items;
+      size = λ d. length d.bytes.items;
+      failed = λ d. d.failures;
+    } };
 
     ghost reads_may_be_left = { λ d h. reads_left d.initial.items d.calls.items d.bytes.items d.stands d.fit };
 

@@ -4,7 +4,7 @@ use Rattle.std.specs.Prelude.{◌↔◌, Result, Ok, Err, OnOk, OnErr, Option, S
 use Rattle.std.proofs.lemmas.Bool.{false≢true}
 use Rattle.apd_base.specs.State.{State}
 use Rattle.apd_record.specs.declared.change.Change.{Change}
-use Rattle.apd_disk.specs.Disk.{LeavesOnly}
+use Rattle.apd_disk.specs.Disk.{LeavesOnly, DiskModel}
 use Rattle.apd_disk.proofs.Moments.{started}
 use Rattle.apd_table.specs.Staged.{StagedTables, alone}
 use Rattle.apd_store.specs.Image.{Shows}
@@ -74,19 +74,19 @@ busy_or_done SyncGate side reserved half other gate group reads images at = inl 
 busy_or_done StoreDone side reserved half other gate group reads images at = inr refl
 busy_or_done StoreFailed side reserved half other gate group reads images at = absurd at
 
-module _ {D : Type 0} (reads : D → List ℕ) (may_leave : D → List ℕ → Type 0) (flusher : Flusher D) (state after : State) where
+module _ {D : Type 0} (disk : DiskModel D) (flusher : Flusher D) (state after : State) where
   abbrev store : Store D
   store = flusher.store
 
-  pub under_way : IsCommitting reads may_leave flusher.store state after → (phase_from flusher.store.phase ≡ Busy) ⊎ (flusher.store.phase ≡ StoreDone)
+  pub under_way : IsCommitting disk flusher.store state after → (phase_from flusher.store.phase ≡ Busy) ⊎ (flusher.store.phase ≡ StoreDone)
   under_way s = ⊎_elim
-      (λ switching. inl (busy_at store.phase (opposite store.half) switching.reserved switching.other switching.half store.fresh.bytes (reads store.device) (may_leave store.device) switching.at))
-      (λ writing. busy_or_done store.phase store.half writing.reserved writing.half writing.other store.gate store.batch.changes (reads store.device) (may_leave store.device) writing.at) s
+      (λ switching. inl (busy_at store.phase (opposite store.half) switching.reserved switching.other switching.half store.fresh.bytes (disk.reads store.device) (disk.may_leave store.device) switching.at))
+      (λ writing. busy_or_done store.phase store.half writing.reserved writing.half writing.other store.gate store.batch.changes (disk.reads store.device) (disk.may_leave store.device) writing.at) s
 
   -- what the store tells of one image, as the flusher tells it
-  pub shows : (c : List ℕ) → (IsIdle reads may_leave flusher.store state → Shows c state) → (IsCommitting reads may_leave flusher.store state after → MayShow (calls_from flusher.store.phase) state after c)
-      → (IsCommitting reads may_leave flusher.store state after → flusher.store.phase ≡ StoreDone → Shows c after) → (HasFailed may_leave flusher.store state after → Shows c state ⊎ Shows c after)
-      → Stands reads may_leave flusher state after → StopShows (phase_from flusher.store.phase) (calls_from flusher.store.phase) state after c
+  pub shows : (c : List ℕ) → (IsIdle disk flusher.store state → Shows c state) → (IsCommitting disk flusher.store state after → MayShow (calls_from flusher.store.phase) state after c)
+      → (IsCommitting disk flusher.store state after → flusher.store.phase ≡ StoreDone → Shows c after) → (HasFailed disk flusher.store state after → Shows c state ⊎ Shows c after)
+      → Stands disk flusher state after → StopShows (phase_from flusher.store.phase) (calls_from flusher.store.phase) state after c
   shows c idle way done stuck stands = ⊎_elim
       (λ steady. subst (λ (p : StorePhase). StopShows (phase_from p) (calls_from p) state after c) (sym steady.idle.phase) (idle steady.idle))
       (λ late. ⊎_elim
@@ -99,30 +99,30 @@ module _ {D : Type 0} (reads : D → List ℕ) (may_leave : D → List ℕ → T
       stands
 
   -- of a busy flusher a batch is under way
-  committing : phase_from flusher.store.phase ≡ Busy → Stands reads may_leave flusher state after → IsCommitting reads may_leave flusher.store state after
+  committing : phase_from flusher.store.phase ≡ Busy → Stands disk flusher state after → IsCommitting disk flusher.store state after
   committing busy stands = ⊎_elim
       (λ steady. let no : Idle ≡ Busy = ap phase_from (sym steady.idle.phase) ∙ busy in absurd (cc))
       (λ late. ⊎_elim (λ flushing. flushing.committing) (λ failed. let no : Failed ≡ Busy = ap phase_from (sym failed.phase) ∙ busy in absurd (cc)) late)
       stands
 
   -- one turn
-  pub turn_run : (moment : D → ℕ) (left_since : D → ℕ → List ℕ → Type 0) (now : Store D) → Stands reads may_leave flusher state after
-      → ((c : List ℕ) → left_since flusher.store.device (moment flusher.store.device) c → StopShows (phase_from flusher.store.phase) (calls_from flusher.store.phase) state after c)
+  pub turn_run : (now : Store D) → Stands disk flusher state after
+      → ((c : List ℕ) → disk.left_since flusher.store.device (disk.moment flusher.store.device) c → StopShows (phase_from flusher.store.phase) (calls_from flusher.store.phase) state after c)
       → (calls_from flusher.store.phase ≡ 0 → now ≡ flusher.store)
-      → (IsCommitting reads may_leave flusher.store state after → LeavesOnly moment left_since flusher.store.device now.device (MayShow (calls_from flusher.store.phase) state after))
-      → LeavesOnly moment left_since flusher.store.device now.device (StopShows (phase_from flusher.store.phase) (calls_from flusher.store.phase) state after)
-  turn_run moment left_since now stands here rest run =
+      → (IsCommitting disk flusher.store state after → LeavesOnly disk flusher.store.device now.device (MayShow (calls_from flusher.store.phase) state after))
+      → LeavesOnly disk flusher.store.device now.device (StopShows (phase_from flusher.store.phase) (calls_from flusher.store.phase) state after)
+  turn_run now stands here rest run =
       let P = StopShows (phase_from store.phase) (calls_from store.phase) state after in
       ⊎_elim
-      (λ none. subst (λ (s : Store D). LeavesOnly moment left_since store.device s.device P) (sym (rest none)) (started moment left_since store.device P here))
-      (λ busy. subst (λ (p : Phase). LeavesOnly moment left_since store.device now.device (StopShows p (calls_from store.phase) state after)) (sym busy) (run (committing busy stands)))
+      (λ none. subst (λ (s : Store D). LeavesOnly disk store.device s.device P) (sym (rest none)) (started disk store.device P here))
+      (λ busy. subst (λ (p : Phase). LeavesOnly disk store.device now.device (StopShows p (calls_from store.phase) state after)) (sym busy) (run (committing busy stands)))
       (quiet_or_busy store.phase)
 
 -- the receipt is taken
-pub settles : {D : Type 0} (reads : D → List ℕ) (may_leave : D → List ℕ → Type 0) (old now : Flusher D)
-    → ((state after : State) → IsCommitting reads may_leave old.store state after → IsIdle reads may_leave now.store after) → now.tables ≡ alone old.tables.staged
-    → (state after : State) → IsFlushing reads may_leave old state after → IsSteady reads may_leave now after
-settles reads may_leave old now settled tables state after s = record { idle = settled state after s.committing; table = ap (λ (t : StagedTables). t.table) tables ∙ s.next }
+pub settles : {D : Type 0} (disk : DiskModel D) (old now : Flusher D)
+    → ((state after : State) → IsCommitting disk old.store state after → IsIdle disk now.store after) → now.tables ≡ alone old.tables.staged
+    → (state after : State) → IsFlushing disk old state after → IsSteady disk now after
+settles disk old now settled tables state after s = record { idle = settled state after s.committing; table = ap (λ (t : StagedTables). t.table) tables ∙ s.next }
 
 -- of a receipt that is there, in an answer that hands it out
 pub some_to_ok : {T E : Type 0} (o : Option T) (r : Result T E) (Q : Type 0) → IsSome o → OnSome o Q → OnOk r Q
@@ -137,18 +137,18 @@ on_fault (Err e) Q q = q
 
 -- ---- turns one after another, as long as it is busy
 
-pub record Turned {D : Type 0} (honest : D → Type 0) (reads : D → List ℕ) (may_leave : D → List ℕ → Type 0) (moment size failed : D → ℕ) (old now : Flusher D) : Type 0 where
-  pub flushing : (state after : State) → honest old.store.device → IsFlushing reads may_leave old state after → IsFlushing reads may_leave now state after
+pub record Turned {D : Type 0} (disk : DiskModel D) (old now : Flusher D) : Type 0 where
+  pub flushing : (state after : State) → disk.honest old.store.device → IsFlushing disk old state after → IsFlushing disk now state after
   pub batch : now.store.batch ≡ old.store.batch
-  pub inside : StoreIsInside size old.store → StoreIsInside size now.store
-  pub stays : honest old.store.device ↔ honest now.store.device
-  pub calls : honest old.store.device → moment now.store.device + calls_from now.store.phase ≤ moment old.store.device + calls_from old.store.phase
-  pub count : failed now.store.device ≡ failed old.store.device
+  pub inside : StoreIsInside disk old.store → StoreIsInside disk now.store
+  pub stays : disk.honest old.store.device ↔ disk.honest now.store.device
+  pub calls : disk.honest old.store.device → disk.moment now.store.device + calls_from now.store.phase ≤ disk.moment old.store.device + calls_from old.store.phase
+  pub count : disk.failed now.store.device ≡ disk.failed old.store.device
   pub phase : (phase_of now ≡ Busy) ⊎ (phase_of now ≡ Done)
 
-pub turned_none : {D : Type 0} (honest : D → Type 0) (reads : D → List ℕ) (may_leave : D → List ℕ → Type 0) (moment size failed : D → ℕ) (now : Flusher D) → phase_of now ≡ Busy
-    → Turned honest reads may_leave moment size failed now now
-turned_none honest reads may_leave moment size failed now busy = record {
+pub turned_none : {D : Type 0} (disk : DiskModel D) (now : Flusher D) → phase_of now ≡ Busy
+    → Turned disk now now
+turned_none disk now busy = record {
   flushing = λ state after h s. s;
   batch = refl;
   inside = λ i. i;
@@ -159,13 +159,13 @@ turned_none honest reads may_leave moment size failed now busy = record {
 }
 
 -- and one more
-pub turned_more : {D : Type 0} (honest : D → Type 0) (reads : D → List ℕ) (may_leave : D → List ℕ → Type 0) (moment size failed : D → ℕ) (old now next : Flusher D)
-    → Turned honest reads may_leave moment size failed old now → phase_of now ≡ Busy
-    → ((state after : State) → honest now.store.device → IsFlushing reads may_leave now state after → IsFlushing reads may_leave next state after)
-    → next.store.batch ≡ now.store.batch → (StoreIsInside size now.store → StoreIsInside size next.store) → (honest now.store.device ↔ honest next.store.device)
-    → (honest now.store.device → moment next.store.device ≤ moment now.store.device + 1) → calls_from next.store.phase + 1 ≡ calls_from now.store.phase
-    → failed next.store.device ≡ failed now.store.device → (phase_of next ≡ Busy) ⊎ (phase_of next ≡ Done) → Turned honest reads may_leave moment size failed old next
-turned_more honest reads may_leave moment size failed old now next turned busy on batch inside stays one step count phase = record {
+pub turned_more : {D : Type 0} (disk : DiskModel D) (old now next : Flusher D)
+    → Turned disk old now → phase_of now ≡ Busy
+    → ((state after : State) → disk.honest now.store.device → IsFlushing disk now state after → IsFlushing disk next state after)
+    → next.store.batch ≡ now.store.batch → (StoreIsInside disk now.store → StoreIsInside disk next.store) → (disk.honest now.store.device ↔ disk.honest next.store.device)
+    → (disk.honest now.store.device → disk.moment next.store.device ≤ disk.moment now.store.device + 1) → calls_from next.store.phase + 1 ≡ calls_from now.store.phase
+    → disk.failed next.store.device ≡ disk.failed now.store.device → (phase_of next ≡ Busy) ⊎ (phase_of next ≡ Done) → Turned disk old next
+turned_more disk old now next turned busy on batch inside stays one step count phase = record {
   flushing = λ state after h s. on state after (turned.stays.0 h) (turned.flushing state after h s);
   batch = batch ∙ turned.batch;
   inside = λ i. inside (turned.inside i);

@@ -2,7 +2,7 @@
 use Rattle.std.specs.Prelude.{◌≡◌, ◌≢◌, ◌≤◌, ◌<◌, ◌+◌, ◌⊎◌, ◌↔◌, ℕ, List, Result, OnOk, OnErr}
 use Rattle.apd_base.specs.Failures.{HasRisen}
 use Rattle.apd_base.specs.State.{State}
-use Rattle.apd_disk.specs.Disk.{LeavesOnly}
+use Rattle.apd_disk.specs.Disk.{LeavesOnly, DiskModel}
 use Rattle.apd_store.specs.declared.fault.StoreFault.{StoreFault}
 use Rattle.apd_store.specs.declared.fault.StoreFault.TheVariants as store_fault
 use Rattle.apd_flusher.specs.Flushing.{IsFlushing, IsInside, IsStuck, Stands, StopShows}
@@ -11,40 +11,39 @@ use Rattle.apd_flusher.specs.declared.flusher.Flusher.{Flusher}
 use Rattle.apd_flusher.specs.declared.phase.Phase.TheVariants.{Busy, Done, Failed}
 
 -- however it ended
-pub record IsTurn {D : Type 0} (honest : D → Type 0) (moment size failed : D → ℕ) (old new : Flusher D) : Type 0 where
+pub record IsTurn {D : Type 0} (disk : DiskModel D) (old new : Flusher D) : Type 0 where
   -- one call at most, which takes the device's moment on by one at most
-  pub one_call : honest (device_of old) → moment (device_of new) ≤ moment (device_of old) + 1
+  pub one_call : disk.honest (device_of old) → disk.moment (device_of new) ≤ disk.moment (device_of old) + 1
   pub rest : phase_of old ≢ Busy → new ≡ old
   pub batch_is : batch_of new ≡ batch_of old
   pub table : table_of new ≡ table_of old
   pub next : next_of new ≡ next_of old
-  pub stays_honest : honest (device_of old) ↔ honest (device_of new)
-  pub inside : IsInside size old → IsInside size new
-  pub count : failed (device_of old) ≤ failed (device_of new)
+  pub stays_honest : disk.honest (device_of old) ↔ disk.honest (device_of new)
+  pub inside : IsInside disk old → IsInside disk new
+  pub count : disk.failed (device_of old) ≤ disk.failed (device_of new)
 
 -- the call succeeded, or none was left
-pub record IsTurned {D : Type 0} (failed : D → ℕ) (old new : Flusher D) : Type 0 where
+pub record IsTurned {D : Type 0} (disk : DiskModel D) (old new : Flusher D) : Type 0 where
   pub step : phase_of old ≡ Busy → calls_left new + 1 ≡ calls_left old
   pub busy : phase_of old ≡ Busy → (phase_of new ≡ Busy) ⊎ (phase_of new ≡ Done)
   pub done : (phase_of new ≡ Done) ↔ ((calls_left old ≡ 1) ⊎ (phase_of old ≡ Done))
-  pub no_fault : failed (device_of new) ≡ failed (device_of old)
+  pub no_fault : disk.failed (device_of new) ≡ disk.failed (device_of old)
 
 -- it ended with this fault
-pub record IsNotTurned {D : Type 0} (size failed : D → ℕ) (old new : Flusher D) (fault : StoreFault) : Type 0 where
+pub record IsNotTurned {D : Type 0} (disk : DiskModel D) (old new : Flusher D) (fault : StoreFault) : Type 0 where
   pub phase : phase_of new ≡ Failed
   pub few : (fault ≡ store_fault.Device) ⊎ (fault ≡ store_fault.Failed)
-  pub only_after : IsInside size old → fault ≡ store_fault.Failed → phase_of old ≡ Failed
+  pub only_after : IsInside disk old → fault ≡ store_fault.Failed → phase_of old ≡ Failed
   pub no_call : fault ≡ store_fault.Failed → device_of new ≡ device_of old
-  pub device_failed : fault ≡ store_fault.Device → HasRisen (failed (device_of old)) (failed (device_of new))
+  pub device_failed : fault ≡ store_fault.Device → HasRisen (disk.failed (device_of old)) (disk.failed (device_of new))
 
 -- on an honest device, from one state on its way to the next
-pub record IsHonestTurn {D : Type 0} (reads : D → List ℕ) (may_leave : D → List ℕ → Type 0) (moment : D → ℕ)
-    (left_since : D → ℕ → List ℕ → Type 0) (result : Result (Unit {0}) StoreFault) (old new : Flusher D)
+pub record IsHonestTurn {D : Type 0} (disk : DiskModel D) (result : Result (Unit {0}) StoreFault) (old new : Flusher D)
     (state after : State) : Type 0 where
   -- a stop at some moment since it began shows what the phase before it says
-  pub any_moment : Stands reads may_leave old state after
-      → LeavesOnly moment left_since (device_of old) (device_of new) (StopShows (phase_of old) (calls_left old) state after)
-  pub on : IsFlushing reads may_leave old state after → OnOk result (IsFlushing reads may_leave new state after)
-  pub stuck : IsFlushing reads may_leave old state after → OnErr result (IsStuck may_leave new state after)
-  pub stuck_early : IsFlushing reads may_leave old state after → 2 < calls_left old
-      → OnErr result (IsStuck may_leave new state state)
+  pub any_moment : Stands disk old state after
+      → LeavesOnly disk (device_of old) (device_of new) (StopShows (phase_of old) (calls_left old) state after)
+  pub on : IsFlushing disk old state after → OnOk result (IsFlushing disk new state after)
+  pub stuck : IsFlushing disk old state after → OnErr result (IsStuck disk new state after)
+  pub stuck_early : IsFlushing disk old state after → 2 < calls_left old
+      → OnErr result (IsStuck disk new state state)

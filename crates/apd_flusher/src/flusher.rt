@@ -39,8 +39,8 @@ impl<D: Disk> Flusher<D> {
     pub fn new(alloc: Global, store: Store<D>, table: Table) -> Result<Flusher<D>, (D, StoreFault)>
         ensures store { IfOk result (λ flusher. store_of flusher ≡ store) }
         ensures table { IfOk result (λ flusher. table_of flusher ≡ table) }
-        ensures steady { IsIdle D.reads D.may_leave store table
-            → IfOk result (λ flusher. IsSteady D.reads D.may_leave flusher table) }
+        ensures steady { IsIdle D.model store table
+            → IfOk result (λ flusher. IsSteady D.model flusher table) }
         ensures device { IfErr result (λ e. e.0 ≡ store_device store) }
         ensures only { IfErr result (λ e. e.1 ≡ StoreFault.NoMemory) }
     {
@@ -92,14 +92,14 @@ impl<D: Disk> Flusher<D> {
     /// unsound; `Worn` exactly where the group does not fit and the epoch is the greatest. `NoMemory` may come
     /// in the place of the last two. A refusal leaves phase, table and device.
     pub fn load(&mut self, batch: Batch) -> Result<(), (Batch, StoreFault)>
-        ensures flushing { (state : State) → IsSteady D.reads D.may_leave self.old state
-            → OnOk result (IsFlushing D.reads D.may_leave self.new state (meaning_of batch.changes state)) }
+        ensures flushing { (state : State) → IsSteady D.model self.old state
+            → OnOk result (IsFlushing D.model self.new state (meaning_of batch.changes state)) }
         ensures loaded { OnOk result (IsLoaded batch self.old self.new) }
         ensures refused { IfErr result (λ e. IsNotLoaded e.1 batch self.old self.new) }
         ensures back { IfErr result (λ e. e.0 ≡ batch) }
         ensures rest { phase_of self.old ≢ Phase.Idle → self.new ≡ self.old }
         ensures device { device_of self.new ≡ device_of self.old }
-        ensures inside { IsInside D.size self.old → IsInside D.size self.new }
+        ensures inside { IsInside D.model self.old → IsInside D.model self.new }
     {
         match self.phase() {
             Phase::Idle => {}
@@ -138,11 +138,11 @@ impl<D: Disk> Flusher<D> {
     /// Errors: `Device` where the device failed in this call, and it is `Failed` for good; `Failed` in that
     /// phase. A flusher whose store lies inside its device answers `Failed` only after a `Device`.
     pub fn turn(&mut self) -> Result<(), StoreFault>
-        ensures turn { IsTurn D.honest D.moment D.size D.failed self.old self.new }
-        ensures turned { OnOk result (IsTurned D.failed self.old self.new) }
-        ensures fault { IfErr result (IsNotTurned D.size D.failed self.old self.new) }
-        ensures honest { D.honest (device_of self.old) → (state after : State)
-            → IsHonestTurn D.reads D.may_leave D.moment D.left_since result self.old self.new state after }
+        ensures turn { IsTurn D.model self.old self.new }
+        ensures turned { OnOk result (IsTurned D.model self.old self.new) }
+        ensures fault { IfErr result (IsNotTurned D.model self.old self.new) }
+        ensures honest { D.model.honest (device_of self.old) → (state after : State)
+            → IsHonestTurn D.model result self.old self.new state after }
         ensures quiet { (phase_of self.old ≡ Phase.Idle) ⊎ (phase_of self.old ≡ Phase.Done) → IsOk result }
         ensures failed { phase_of self.old ≡ Phase.Failed → result ≡ Err StoreFault.Failed }
     {
@@ -158,13 +158,13 @@ impl<D: Disk> Flusher<D> {
     pub fn unload(&mut self) -> Option<Receipt>
         ensures exactly { IsSome result ↔ (phase_of self.old ≡ Phase.Done) }
         ensures receipt { IfSome result (λ receipt. held_batch receipt ≡ batch_of self.old) }
-        ensures settled { (state after : State) → IsFlushing D.reads D.may_leave self.old state after
-            → OnSome result (IsSteady D.reads D.may_leave self.new after) }
+        ensures settled { (state after : State) → IsFlushing D.model self.old state after
+            → OnSome result (IsSteady D.model self.new after) }
         ensures idle { OnSome result (phase_of self.new ≡ Phase.Idle) }
         ensures table { OnSome result (table_of self.new ≡ next_of self.old) }
         ensures none { phase_of self.old ≢ Phase.Done → self.new ≡ self.old }
         ensures device { device_of self.new ≡ device_of self.old }
-        ensures inside { IsInside D.size self.old → IsInside D.size self.new }
+        ensures inside { IsInside D.model self.old → IsInside D.model self.new }
     {
         let receipt = self.store.finish()?;
         self.tables.commit();
@@ -177,25 +177,25 @@ impl<D: Disk> Flusher<D> {
     /// Errors: those of `load`, each for its reason, where the batch is let go; those of `turn`.
     pub fn commit(&mut self, batch: Batch) -> Result<Receipt, StoreFault>
         // Where the device does not fail, nothing but want of memory keeps such a batch from its receipt.
-        ensures always { MayCommit D.size self.old batch.changes → D.failed (device_of self.old) + 1 < 2 ^ 64
-            → D.failed (device_of self.new) ≡ D.failed (device_of self.old) → result ≢ Err StoreFault.NoMemory
+        ensures always { MayCommit D.model self.old batch.changes → D.model.failed (device_of self.old) + 1 < 2 ^ 64
+            → D.model.failed (device_of self.new) ≡ D.model.failed (device_of self.old) → result ≢ Err StoreFault.NoMemory
             → IsOk result }
-        ensures refused { IfErr result (λ fault. IsRefused D.size D.failed fault batch.changes self.old self.new) }
+        ensures refused { IfErr result (λ fault. IsRefused D.model fault batch.changes self.old self.new) }
         ensures receipt { IfOk result (λ receipt. held_batch receipt ≡ batch) }
-        ensures settled { (state : State) → D.honest (device_of self.old) → IsSteady D.reads D.may_leave self.old state
-            → OnOk result (IsSteady D.reads D.may_leave self.new (meaning_of batch.changes state)) }
+        ensures settled { (state : State) → D.model.honest (device_of self.old) → IsSteady D.model self.old state
+            → OnOk result (IsSteady D.model self.new (meaning_of batch.changes state)) }
         // After a fault of the device in it a stop leaves the table before the batch or the one after, for good.
-        ensures stuck { (state : State) → D.honest (device_of self.old) → IsSteady D.reads D.may_leave self.old state
+        ensures stuck { (state : State) → D.model.honest (device_of self.old) → IsSteady D.model self.old state
             → IsErrOf result StoreFault.Device
-            → IsStuck D.may_leave self.new state (meaning_of batch.changes state) }
-        ensures honest { D.honest (device_of self.old) ↔ D.honest (device_of self.new) }
-        ensures inside { IsInside D.size self.old → IsInside D.size self.new }
+            → IsStuck D.model self.new state (meaning_of batch.changes state) }
+        ensures honest { D.model.honest (device_of self.old) ↔ D.model.honest (device_of self.new) }
+        ensures inside { IsInside D.model self.old → IsInside D.model self.new }
 
         // Each turn is one call of the device at most: four where the group fits, and ten at most.
-        ensures ten { D.honest (device_of self.old)
-            → D.moment (device_of self.new) ≤ D.moment (device_of self.old) + 10 }
-        ensures four { D.honest (device_of self.old) → HasRoom self.old batch.changes
-            → D.moment (device_of self.new) ≤ D.moment (device_of self.old) + 4 }
+        ensures ten { D.model.honest (device_of self.old)
+            → D.model.moment (device_of self.new) ≤ D.model.moment (device_of self.old) + 10 }
+        ensures four { D.model.honest (device_of self.old) → HasRoom self.old batch.changes
+            → D.model.moment (device_of self.new) ≤ D.model.moment (device_of self.old) + 4 }
     {
         if let Err((_, fault)) = self.load(batch) {
             return Err(fault);
@@ -207,21 +207,21 @@ impl<D: Disk> Flusher<D> {
     // Makes the calls that are left of a batch, one after another.
     fn make_calls(&mut self) -> Result<(), StoreFault>
         requires { phase_of self.old ≡ Phase.Busy }
-        ensures on { (state after : State) → D.honest (device_of self.old)
-            → IsFlushing D.reads D.may_leave self.old state after
-            → OnOk result (IsFlushing D.reads D.may_leave self.new state after) }
-        ensures stuck { (state after : State) → D.honest (device_of self.old)
-            → IsFlushing D.reads D.may_leave self.old state after
-            → OnErr result (IsStuck D.may_leave self.new state after) }
+        ensures on { (state after : State) → D.model.honest (device_of self.old)
+            → IsFlushing D.model self.old state after
+            → OnOk result (IsFlushing D.model self.new state after) }
+        ensures stuck { (state after : State) → D.model.honest (device_of self.old)
+            → IsFlushing D.model self.old state after
+            → OnErr result (IsStuck D.model self.new state after) }
         ensures done { OnOk result (phase_of self.new ≡ Phase.Done) }
         ensures batch { batch_of self.new ≡ batch_of self.old }
-        ensures honest { D.honest (device_of self.old) ↔ D.honest (device_of self.new) }
-        ensures inside { IsInside D.size self.old → IsInside D.size self.new }
-        ensures calls { D.honest (device_of self.old)
-            → D.moment (device_of self.new) ≤ D.moment (device_of self.old) + calls_left self.old }
+        ensures honest { D.model.honest (device_of self.old) ↔ D.model.honest (device_of self.new) }
+        ensures inside { IsInside D.model self.old → IsInside D.model self.new }
+        ensures calls { D.model.honest (device_of self.old)
+            → D.model.moment (device_of self.new) ≤ D.model.moment (device_of self.old) + calls_left self.old }
         ensures device { IsErrOf result StoreFault.Device
-            → HasRisen (D.failed (device_of self.old)) (D.failed (device_of self.new)) }
-        ensures works { IsInside D.size self.old → result ≢ Err StoreFault.Failed }
+            → HasRisen (D.model.failed (device_of self.old)) (D.model.failed (device_of self.new)) }
+        ensures works { IsInside D.model self.old → result ≢ Err StoreFault.Failed }
         ensures only { OnErr result ((result ≡ Err StoreFault.Device) ⊎ (result ≡ Err StoreFault.Failed)) }
     {
         while self.phase() == Phase::Busy {
@@ -234,10 +234,10 @@ impl<D: Disk> Flusher<D> {
     /// busy with two calls left or more; that table or the next one where one call is left; the next one alone
     /// where it is done; one of the two where it has failed. It does nothing.
     pub fn shown(&self)
-        ensures shown { (state after : State) → Stands D.reads D.may_leave self.now state after → (c : List ℕ)
-            → D.may_leave (device_of self.now) c → StopShows (phase_of self.now) (calls_left self.now) state after c }
-        ensures before { (state after : State) → IsFlushing D.reads D.may_leave self.now state after
-            → 2 ≤ calls_left self.now → (c : List ℕ) → D.may_leave (device_of self.now) c → Shows c state }
+        ensures shown { (state after : State) → Stands D.model self.now state after → (c : List ℕ)
+            → D.model.may_leave (device_of self.now) c → StopShows (phase_of self.now) (calls_left self.now) state after c }
+        ensures before { (state after : State) → IsFlushing D.model self.now state after
+            → 2 ≤ calls_left self.now → (c : List ℕ) → D.model.may_leave (device_of self.now) c → Shows c state }
     {
         self.store.shown();
     }

@@ -3,9 +3,10 @@ use crate::radio::{Radio, RadioFault};
 use apd_base::Addr;
 
 impl Radio for Box<dyn Radio + Send> {
-    ghost stations = { λ b. (Radio-box b).stations b.value };
-
-    ghost faults = { λ b. (Radio-box b).faults b.value };
+    ghost model = { record {
+      stations = λ b. (Radio-box b).model.stations b.value;
+      faults = λ b. (Radio-box b).model.faults b.value;
+    } };
 
     ghost frames = { λ b. (Radio-box b).frames b.value };
 

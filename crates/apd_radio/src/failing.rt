@@ -25,7 +25,7 @@ impl<R: Radio> Failing<R> {
     pub fn new(inner: R, calls: u64) -> Failing<R>
         ensures inner { result.inner ≡ inner }
         ensures calls { result.passes ≡ calls }
-        ensures failures { result.failures ≡ R.faults inner }
+        ensures failures { result.failures ≡ R.model.faults inner }
     {
         let failures = inner.failures();
         Failing {
@@ -65,9 +65,7 @@ impl<R: Radio> Drop for Failing<R> {
 // A method with an `ensures` of its own has its clauses in place of the trait's. So each one here repeats
 // the trait's, of the radio inside and of the count here, beside those that are its own (`calls`, `passed`).
 impl<R: Radio> Radio for Failing<R> {
-    ghost stations = { λ radio. R.stations radio.inner };
-
-    ghost faults = { λ radio. radio.failures };
+    ghost model = { record { stations = λ radio. R.model.stations radio.inner; faults = λ radio. radio.failures } };
 
     ghost frames = { λ radio. R.frames radio.inner };
 
@@ -76,27 +74,27 @@ impl<R: Radio> Radio for Failing<R> {
             (λ got. Polls (R.frames self.old.inner) (option_map (λ frame. frame.items) got)
             (R.frames self.new.inner)) }
         ensures unknown { OnErr result ((R.frames self.old.inner ≡ None) × (R.frames self.new.inner ≡ None)) }
-        ensures same { R.stations self.new.inner ≡ R.stations self.old.inner }
+        ensures same { R.model.stations self.new.inner ≡ R.model.stations self.old.inner }
         ensures stays { OnOk result (self.new.failures ≡ self.old.failures) }
         ensures memory { result ≡ Err RadioFault.NoMemory → self.new.failures ≡ self.old.failures }
         ensures device { result ≡ Err RadioFault.Device → HasRisen self.old.failures self.new.failures }
         ensures count { self.old.failures ≤ self.new.failures }
         ensures calls { self.new.passes ≡ self.old.passes }
-        ensures passed { Counts (R.faults self.old.inner) (R.faults self.new.inner) result }
+        ensures passed { Counts (R.model.faults self.old.inner) (R.model.faults self.new.inner) result }
     {
         let answer = self.inner.poll();
         counted(&mut self.failures, answer)
     }
 
     fn install(&mut self, addr: Addr, aid: u16) -> Result<(), RadioFault>
-        ensures ok { OnOk result (R.stations self.new.inner ≡ map.insert (R.stations self.old.inner) addr aid) }
-        ensures err { OnErr result (R.stations self.new.inner ≡ R.stations self.old.inner) }
+        ensures ok { OnOk result (R.model.stations self.new.inner ≡ map.insert (R.model.stations self.old.inner) addr aid) }
+        ensures err { OnErr result (R.model.stations self.new.inner ≡ R.model.stations self.old.inner) }
         ensures kept { R.frames self.new.inner ≡ R.frames self.old.inner }
         ensures stays { OnOk result (self.new.failures ≡ self.old.failures) }
         ensures memory { result ≡ Err RadioFault.NoMemory → self.new.failures ≡ self.old.failures }
         ensures device { result ≡ Err RadioFault.Device → HasRisen self.old.failures self.new.failures }
         ensures count { self.old.failures ≤ self.new.failures }
-        ensures passed { FailingCall R.faults self.old.inner self.new.inner self.old.passes self.new.passes result }
+        ensures passed { FailingCall R.model self.old.inner self.new.inner self.old.passes self.new.passes result }
     {
         self.pass()?;
         let answer = self.inner.install(addr, aid);
@@ -104,14 +102,14 @@ impl<R: Radio> Radio for Failing<R> {
     }
 
     fn remove(&mut self, addr: Addr) -> Result<(), RadioFault>
-        ensures ok { OnOk result (R.stations self.new.inner ≡ map.remove (R.stations self.old.inner) addr) }
-        ensures err { OnErr result (R.stations self.new.inner ≡ R.stations self.old.inner) }
+        ensures ok { OnOk result (R.model.stations self.new.inner ≡ map.remove (R.model.stations self.old.inner) addr) }
+        ensures err { OnErr result (R.model.stations self.new.inner ≡ R.model.stations self.old.inner) }
         ensures kept { R.frames self.new.inner ≡ R.frames self.old.inner }
         ensures only_device { OnErr result (result ≡ Err RadioFault.Device) }
         ensures stays { OnOk result (self.new.failures ≡ self.old.failures) }
         ensures device { result ≡ Err RadioFault.Device → HasRisen self.old.failures self.new.failures }
         ensures count { self.old.failures ≤ self.new.failures }
-        ensures passed { FailingCall R.faults self.old.inner self.new.inner self.old.passes self.new.passes result }
+        ensures passed { FailingCall R.model self.old.inner self.new.inner self.old.passes self.new.passes result }
     {
         self.pass()?;
         let answer = self.inner.remove(addr);
@@ -119,13 +117,13 @@ impl<R: Radio> Radio for Failing<R> {
     }
 
     fn transmit(&mut self, frame: &[u8]) -> Result<(), RadioFault>
-        ensures same { R.stations self.new.inner ≡ R.stations self.old.inner }
+        ensures same { R.model.stations self.new.inner ≡ R.model.stations self.old.inner }
         ensures kept { R.frames self.new.inner ≡ R.frames self.old.inner }
         ensures stays { OnOk result (self.new.failures ≡ self.old.failures) }
         ensures memory { result ≡ Err RadioFault.NoMemory → self.new.failures ≡ self.old.failures }
         ensures device { result ≡ Err RadioFault.Device → HasRisen self.old.failures self.new.failures }
         ensures count { self.old.failures ≤ self.new.failures }
-        ensures passed { FailingCall R.faults self.old.inner self.new.inner self.old.passes self.new.passes result }
+        ensures passed { FailingCall R.model self.old.inner self.new.inner self.old.passes self.new.passes result }
     {
         self.pass()?;
         let answer = self.inner.transmit(frame);
@@ -133,7 +131,7 @@ impl<R: Radio> Radio for Failing<R> {
     }
 
     fn take_down(&mut self)
-        ensures empty { R.stations self.new.inner ≡ map.empty }
+        ensures empty { R.model.stations self.new.inner ≡ map.empty }
         ensures kept { R.frames self.new.inner ≡ R.frames self.old.inner }
         ensures stays { self.new.failures ≡ self.old.failures }
         ensures calls { self.new.passes ≡ self.old.passes }

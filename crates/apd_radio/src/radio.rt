@@ -2,9 +2,9 @@
 ghost use Rattle.std.specs.Prelude.{◌≡◌, IfOk, OnOk, OnErr, ℕ, ◌≤◌, List, Option, None};
 ghost use Rattle.std.specs.Option.{option_map};
 ghost use Rattle.std.specs.FinMap as map;
-ghost use Rattle.apd_base.specs.Addr.{addr_cmp};
 ghost use Rattle.apd_base.specs.Failures.{HasRisen};
 ghost use Rattle.apd_radio.specs.Frames.{Polls};
+ghost use Rattle.apd_radio.specs.Model.{RadioModel};
 
 use apd_base::Addr;
 use std::alloc::AllocError;
@@ -38,11 +38,8 @@ impl From<AllocError> for RadioFault {
 /// count of failures, and `Device` is told only where the count rose in that call, or stood at its greatest
 /// value.
 pub trait Radio: Drop {
-    /// The installed addresses, with their identifiers.
-    ghost stations: { Self → map.FinMap addr_cmp ℕ };
-
-    /// How many calls failed in the device, up to 2^64 - 1, where the count stays.
-    ghost faults: { Self → ℕ };
+    /// Its meaning: the installed addresses with their identifiers, and how many calls failed in the device.
+    ghost model: { RadioModel Self };
 
     /// The frames that it is going to give, where they are known.
     ghost frames: { Self → Option (List (List ℕ)) } = { λ _. None };
@@ -54,58 +51,58 @@ pub trait Radio: Drop {
         ensures next { IfOk result
             (λ got. Polls (frames self.old) (option_map (λ frame. frame.items) got) (frames self.new)) }
         ensures unknown { OnErr result ((frames self.old ≡ None) × (frames self.new ≡ None)) }
-        ensures same { stations self.new ≡ stations self.old }
-        ensures stays { OnOk result (faults self.new ≡ faults self.old) }
-        ensures memory { result ≡ Err RadioFault.NoMemory → faults self.new ≡ faults self.old }
-        ensures device { result ≡ Err RadioFault.Device → HasRisen (faults self.old) (faults self.new) }
-        ensures count { faults self.old ≤ faults self.new };
+        ensures same { model.stations self.new ≡ model.stations self.old }
+        ensures stays { OnOk result (model.faults self.new ≡ model.faults self.old) }
+        ensures memory { result ≡ Err RadioFault.NoMemory → model.faults self.new ≡ model.faults self.old }
+        ensures device { result ≡ Err RadioFault.Device → HasRisen (model.faults self.old) (model.faults self.new) }
+        ensures count { model.faults self.old ≤ model.faults self.new };
 
     /// Installs a station, over what was installed at its address.
     ///
     /// Errors: `Device`, `NoMemory`.
     fn install(&mut self, addr: Addr, aid: u16) -> Result<(), RadioFault>
-        ensures ok { OnOk result (stations self.new ≡ map.insert (stations self.old) addr aid) }
-        ensures err { OnErr result (stations self.new ≡ stations self.old) }
+        ensures ok { OnOk result (model.stations self.new ≡ map.insert (model.stations self.old) addr aid) }
+        ensures err { OnErr result (model.stations self.new ≡ model.stations self.old) }
         ensures kept { frames self.new ≡ frames self.old }
-        ensures stays { OnOk result (faults self.new ≡ faults self.old) }
-        ensures memory { result ≡ Err RadioFault.NoMemory → faults self.new ≡ faults self.old }
-        ensures device { result ≡ Err RadioFault.Device → HasRisen (faults self.old) (faults self.new) }
-        ensures count { faults self.old ≤ faults self.new };
+        ensures stays { OnOk result (model.faults self.new ≡ model.faults self.old) }
+        ensures memory { result ≡ Err RadioFault.NoMemory → model.faults self.new ≡ model.faults self.old }
+        ensures device { result ≡ Err RadioFault.Device → HasRisen (model.faults self.old) (model.faults self.new) }
+        ensures count { model.faults self.old ≤ model.faults self.new };
 
     /// Takes a station out, if it is installed. It takes no memory.
     ///
     /// Errors: `Device`.
     fn remove(&mut self, addr: Addr) -> Result<(), RadioFault>
-        ensures ok { OnOk result (stations self.new ≡ map.remove (stations self.old) addr) }
-        ensures err { OnErr result (stations self.new ≡ stations self.old) }
+        ensures ok { OnOk result (model.stations self.new ≡ map.remove (model.stations self.old) addr) }
+        ensures err { OnErr result (model.stations self.new ≡ model.stations self.old) }
         ensures kept { frames self.new ≡ frames self.old }
         ensures only_device { OnErr result (result ≡ Err RadioFault.Device) }
-        ensures stays { OnOk result (faults self.new ≡ faults self.old) }
-        ensures device { result ≡ Err RadioFault.Device → HasRisen (faults self.old) (faults self.new) }
-        ensures count { faults self.old ≤ faults self.new };
+        ensures stays { OnOk result (model.faults self.new ≡ model.faults self.old) }
+        ensures device { result ≡ Err RadioFault.Device → HasRisen (model.faults self.old) (model.faults self.new) }
+        ensures count { model.faults self.old ≤ model.faults self.new };
 
     /// Sends a frame, without its frame check sequence.
     ///
     /// Errors: `Device`, and the frame is lost; `NoMemory`, and it was not sent: the call can be made again.
     fn transmit(&mut self, frame: &[u8]) -> Result<(), RadioFault>
-        ensures same { stations self.new ≡ stations self.old }
+        ensures same { model.stations self.new ≡ model.stations self.old }
         ensures kept { frames self.new ≡ frames self.old }
-        ensures stays { OnOk result (faults self.new ≡ faults self.old) }
-        ensures memory { result ≡ Err RadioFault.NoMemory → faults self.new ≡ faults self.old }
-        ensures device { result ≡ Err RadioFault.Device → HasRisen (faults self.old) (faults self.new) }
-        ensures count { faults self.old ≤ faults self.new };
+        ensures stays { OnOk result (model.faults self.new ≡ model.faults self.old) }
+        ensures memory { result ≡ Err RadioFault.NoMemory → model.faults self.new ≡ model.faults self.old }
+        ensures device { result ≡ Err RadioFault.Device → HasRisen (model.faults self.old) (model.faults self.new) }
+        ensures count { model.faults self.old ≤ model.faults self.new };
 
     /// Takes all stations out. It takes no memory and can't fail, so it leaves the count of failures.
     fn take_down(&mut self)
-        ensures empty { stations self.new ≡ map.empty }
+        ensures empty { model.stations self.new ≡ map.empty }
         ensures kept { frames self.new ≡ frames self.old }
-        ensures stays { faults self.new ≡ faults self.old };
+        ensures stays { model.faults self.new ≡ model.faults self.old };
 
     /// The identifier of an installed station. It takes no memory.
     fn installed(&self, addr: Addr) -> Option<u16>
-        ensures { result ≡ map.get (stations self.now) addr };
+        ensures { result ≡ map.get (model.stations self.now) addr };
 
     /// How many calls failed in the device. It takes no memory.
     fn failures(&self) -> u64
-        ensures { result ≡ faults self.now };
+        ensures { result ≡ model.faults self.now };
 }

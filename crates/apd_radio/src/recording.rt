@@ -4,6 +4,7 @@ ghost use Rattle.std.specs.Option.{option_map};
 ghost use Rattle.std.specs.FinMap as map;
 ghost use Rattle.apd_base.specs.Failures.{HasRisen};
 ghost use Rattle.apd_radio.specs.Frames.{Polls};
+ghost use Rattle.apd_radio.specs.Model.{inside};
 ghost use Rattle.apd_radio.specs.Recordings.{Records};
 ghost use Rattle.apd_radio.specs.declared.call.Call.TheVariants as calls;
 
@@ -43,9 +44,7 @@ impl<R: Radio, W: Write + Drop> Drop for Recording<R, W> {
 }
 
 impl<R: Radio, W: Write + Drop> Radio for Recording<R, W> {
-    ghost stations = { λ radio. R.stations radio.inner };
-
-    ghost faults = { λ radio. R.faults radio.inner };
+    ghost model = { inside R.model (λ radio. radio.inner) };
 
     ghost frames = { λ radio. R.frames radio.inner };
 
@@ -54,11 +53,11 @@ impl<R: Radio, W: Write + Drop> Radio for Recording<R, W> {
             (λ got. Polls (R.frames self.old.inner) (option_map (λ frame. frame.items) got)
             (R.frames self.new.inner)) }
         ensures unknown { OnErr result ((R.frames self.old.inner ≡ None) × (R.frames self.new.inner ≡ None)) }
-        ensures same { R.stations self.new.inner ≡ R.stations self.old.inner }
-        ensures stays { OnOk result (R.faults self.new.inner ≡ R.faults self.old.inner) }
-        ensures memory { result ≡ Err RadioFault.NoMemory → R.faults self.new.inner ≡ R.faults self.old.inner }
-        ensures device { result ≡ Err RadioFault.Device → HasRisen (R.faults self.old.inner) (R.faults self.new.inner) }
-        ensures count { R.faults self.old.inner ≤ R.faults self.new.inner }
+        ensures same { R.model.stations self.new.inner ≡ R.model.stations self.old.inner }
+        ensures stays { OnOk result (R.model.faults self.new.inner ≡ R.model.faults self.old.inner) }
+        ensures memory { result ≡ Err RadioFault.NoMemory → R.model.faults self.new.inner ≡ R.model.faults self.old.inner }
+        ensures device { result ≡ Err RadioFault.Device → HasRisen (R.model.faults self.old.inner) (R.model.faults self.new.inner) }
+        ensures count { R.model.faults self.old.inner ≤ R.model.faults self.new.inner }
         ensures written { IfOk result
             (λ got. IfSome got
             (λ frame. Records self.old.log.ended (W.contents self.old.log.writer)
@@ -74,13 +73,13 @@ impl<R: Radio, W: Write + Drop> Radio for Recording<R, W> {
     }
 
     fn install(&mut self, addr: Addr, aid: u16) -> Result<(), RadioFault>
-        ensures ok { OnOk result (R.stations self.new.inner ≡ map.insert (R.stations self.old.inner) addr aid) }
-        ensures err { OnErr result (R.stations self.new.inner ≡ R.stations self.old.inner) }
+        ensures ok { OnOk result (R.model.stations self.new.inner ≡ map.insert (R.model.stations self.old.inner) addr aid) }
+        ensures err { OnErr result (R.model.stations self.new.inner ≡ R.model.stations self.old.inner) }
         ensures kept { R.frames self.new.inner ≡ R.frames self.old.inner }
-        ensures stays { OnOk result (R.faults self.new.inner ≡ R.faults self.old.inner) }
-        ensures memory { result ≡ Err RadioFault.NoMemory → R.faults self.new.inner ≡ R.faults self.old.inner }
-        ensures device { result ≡ Err RadioFault.Device → HasRisen (R.faults self.old.inner) (R.faults self.new.inner) }
-        ensures count { R.faults self.old.inner ≤ R.faults self.new.inner }
+        ensures stays { OnOk result (R.model.faults self.new.inner ≡ R.model.faults self.old.inner) }
+        ensures memory { result ≡ Err RadioFault.NoMemory → R.model.faults self.new.inner ≡ R.model.faults self.old.inner }
+        ensures device { result ≡ Err RadioFault.Device → HasRisen (R.model.faults self.old.inner) (R.model.faults self.new.inner) }
+        ensures count { R.model.faults self.old.inner ≤ R.model.faults self.new.inner }
         ensures written { OnOk result
             (Records self.old.log.ended (W.contents self.old.log.writer)
             (calls.Installed addr aid) self.new.log.ended (W.contents self.new.log.writer)) }
@@ -92,13 +91,13 @@ impl<R: Radio, W: Write + Drop> Radio for Recording<R, W> {
     }
 
     fn remove(&mut self, addr: Addr) -> Result<(), RadioFault>
-        ensures ok { OnOk result (R.stations self.new.inner ≡ map.remove (R.stations self.old.inner) addr) }
-        ensures err { OnErr result (R.stations self.new.inner ≡ R.stations self.old.inner) }
+        ensures ok { OnOk result (R.model.stations self.new.inner ≡ map.remove (R.model.stations self.old.inner) addr) }
+        ensures err { OnErr result (R.model.stations self.new.inner ≡ R.model.stations self.old.inner) }
         ensures kept { R.frames self.new.inner ≡ R.frames self.old.inner }
         ensures only_device { OnErr result (result ≡ Err RadioFault.Device) }
-        ensures stays { OnOk result (R.faults self.new.inner ≡ R.faults self.old.inner) }
-        ensures device { result ≡ Err RadioFault.Device → HasRisen (R.faults self.old.inner) (R.faults self.new.inner) }
-        ensures count { R.faults self.old.inner ≤ R.faults self.new.inner }
+        ensures stays { OnOk result (R.model.faults self.new.inner ≡ R.model.faults self.old.inner) }
+        ensures device { result ≡ Err RadioFault.Device → HasRisen (R.model.faults self.old.inner) (R.model.faults self.new.inner) }
+        ensures count { R.model.faults self.old.inner ≤ R.model.faults self.new.inner }
         ensures written { OnOk result
             (Records self.old.log.ended (W.contents self.old.log.writer) (calls.Removed addr) self.new.log.ended
             (W.contents self.new.log.writer)) }
@@ -110,12 +109,12 @@ impl<R: Radio, W: Write + Drop> Radio for Recording<R, W> {
     }
 
     fn transmit(&mut self, frame: &[u8]) -> Result<(), RadioFault>
-        ensures same { R.stations self.new.inner ≡ R.stations self.old.inner }
+        ensures same { R.model.stations self.new.inner ≡ R.model.stations self.old.inner }
         ensures kept { R.frames self.new.inner ≡ R.frames self.old.inner }
-        ensures stays { OnOk result (R.faults self.new.inner ≡ R.faults self.old.inner) }
-        ensures memory { result ≡ Err RadioFault.NoMemory → R.faults self.new.inner ≡ R.faults self.old.inner }
-        ensures device { result ≡ Err RadioFault.Device → HasRisen (R.faults self.old.inner) (R.faults self.new.inner) }
-        ensures count { R.faults self.old.inner ≤ R.faults self.new.inner }
+        ensures stays { OnOk result (R.model.faults self.new.inner ≡ R.model.faults self.old.inner) }
+        ensures memory { result ≡ Err RadioFault.NoMemory → R.model.faults self.new.inner ≡ R.model.faults self.old.inner }
+        ensures device { result ≡ Err RadioFault.Device → HasRisen (R.model.faults self.old.inner) (R.model.faults self.new.inner) }
+        ensures count { R.model.faults self.old.inner ≤ R.model.faults self.new.inner }
         ensures written { OnOk result
             (Records self.old.log.ended (W.contents self.old.log.writer) (calls.Sent frame.now) self.new.log.ended
             (W.contents self.new.log.writer)) }
@@ -127,9 +126,9 @@ impl<R: Radio, W: Write + Drop> Radio for Recording<R, W> {
     }
 
     fn take_down(&mut self)
-        ensures empty { R.stations self.new.inner ≡ map.empty }
+        ensures empty { R.model.stations self.new.inner ≡ map.empty }
         ensures kept { R.frames self.new.inner ≡ R.frames self.old.inner }
-        ensures stays { R.faults self.new.inner ≡ R.faults self.old.inner }
+        ensures stays { R.model.faults self.new.inner ≡ R.model.faults self.old.inner }
         ensures written { Records self.old.log.ended (W.contents self.old.log.writer) calls.Down self.new.log.ended
             (W.contents self.new.log.writer) }
     {

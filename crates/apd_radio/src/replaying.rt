@@ -111,9 +111,7 @@ impl Drop for Replaying {
 impl Radio for Replaying {
     ghost use Rattle.std.specs.Prelude.{Some};
 
-    ghost stations = { λ radio. radio.stations };
-
-    ghost faults = { λ _. 0 };
+    ghost model = { record { stations = λ radio. radio.stations; faults = λ _. 0 } };
 
     ghost frames = { λ radio. Some radio.frames.items };
 

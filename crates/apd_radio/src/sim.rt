@@ -33,9 +33,7 @@ impl Drop for Sim {
 impl Radio for Sim {
     ghost use Rattle.std.specs.Prelude.{Some, []};
 
-    ghost stations = { λ radio. radio.stations };
-
-    ghost faults = { λ _. 0 };
+    ghost model = { record { stations = λ radio. radio.stations; faults = λ _. 0 } };
 
     ghost frames = { λ _. Some [] };
 

@@ -58,9 +58,7 @@ impl Drop for UdpSim {
 }
 
 impl Radio for UdpSim {
-    ghost stations = { λ radio. radio.stations };
-
-    ghost faults = { λ radio. radio.failures };
+    ghost model = { record { stations = λ radio. radio.stations; faults = λ radio. radio.failures } };
 
     fn poll(&mut self) -> Result<Option<Vec<u8>>, RadioFault> {
         let answer = self.datagrams.receive();

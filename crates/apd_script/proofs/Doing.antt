@@ -5,6 +5,7 @@ use Rattle.std.specs.Prelude.{length, OnOk}
 use Rattle.apd_base.specs.declared.moment.Moment.{Moment}
 use Rattle.apd_conf.specs.declared.conf.Conf.{Conf}
 use Rattle.apd_conf.specs.Confs.{conf_named}
+use Rattle.apd_disk.specs.Disk.{DiskModel}
 use Rattle.apd_core.specs.Requests.{unless_ignored}
 use Rattle.apd_core.specs.declared.input.QuietReason.{QuietReason}
 use Rattle.apd_ctrl.specs.Placing.{Placing, placed}
@@ -13,7 +14,7 @@ use Rattle.apd_ctrl.specs.declared.command.Command.{Command as Order}
 use Rattle.apd_ctrl.specs.declared.parser.Refusal.{Refusal}
 use Rattle.apd_frame.specs.Outcome.{outcome}
 use Rattle.apd_mlme.specs.Happening.{Happening}
-use Rattle.apd_slot.specs.Wanted.{Stations}
+use Rattle.apd_radio.specs.Model.{RadioModel}
 use Rattle.apd_store.specs.declared.fault.StoreFault.{StoreFault}
 use Rattle.apd_world.specs.declared.step.Step.{Step}
 use Rattle.apd_world.specs.declared.step.Told.{Told}
@@ -74,10 +75,10 @@ pub kept_err : {U S E : Type 0} (P : E → Type 0) (done : Result U E) (r : Resu
 kept_err P (Ok u) r s is none p = subst (λ x. IfErr x P) (sym is) tt
 kept_err P (Err why) r s none is p = subst (λ x. IfErr x P) (sym is) p
 
-module _ {D R : Type 0} (honest : D → Type 0) (reads : D → List ℕ) (may_leave : D → List ℕ → Type 0) (moment : D → ℕ) (left_since : D → ℕ → List ℕ → Type 0) (size : D → ℕ) (stations : R → Stations) (faults : R → ℕ) where
+module _ {D R : Type 0} (disk : DiskModel D) (radio : RadioModel R) where
   -- a step is tried
-  pub tried : (made : Step) (told : Told) (old mid : Standing D R) (kept refusal : Option StoreFault) → Makes honest reads may_leave moment left_since size stations faults made told old mid → kept ≡ option_or mid.refusal refusal
-      → refusal ≡ refused told → IsTried honest reads may_leave moment left_since size stations faults made old (record mid { refusal = kept })
+  pub tried : (made : Step) (told : Told) (old mid : Standing D R) (kept refusal : Option StoreFault) → Makes disk radio made told old mid → kept ≡ option_or mid.refusal refusal
+      → refusal ≡ refused told → IsTried disk radio made old (record mid { refusal = kept })
   tried made told old mid kept refusal makes is known = record {
     told = told;
     mid = mid;
@@ -88,46 +89,46 @@ module _ {D R : Type 0} (honest : D → Type 0) (reads : D → List ℕ) (may_le
   -- a frame is received
   pub received_ok : {A : Type 0} (r : Result A ScriptFault) (interface frame : List ℕ) (conf : Conf) (request : Step) (old new : Standing D R)
       → conf_named (confs_of old) interface ≡ Some conf → asked_at request ≡ Some (Some (unless_ignored conf.bssid (outcome frame conf.bssid)), old.moment)
-      → OnOk r (IsMade honest reads may_leave moment left_since size stations faults request old new) → OnOk r (IsReceived honest reads may_leave moment left_since size stations faults interface frame old new)
+      → OnOk r (IsMade disk radio request old new) → OnOk r (IsReceived disk radio interface frame old new)
   received_ok (Ok x) interface frame conf request old new configured asks made = record { conf = conf; configured = configured; requested = record { request = request; asks = asks; made = made } }
   received_ok (Err why) interface frame conf request old new configured asks made = tt
 
   -- something is accepted, or the moment is
   pub requested_ok : {A : Type 0} (r : Result A ScriptFault) (said : Option (Result Happening QuietReason)) (request : Step) (old new : Standing D R) → asked_at request ≡ Some (said, old.moment)
-      → OnOk r (IsMade honest reads may_leave moment left_since size stations faults request old new) → OnOk r (IsRequested honest reads may_leave moment left_since size stations faults said old new)
+      → OnOk r (IsMade disk radio request old new) → OnOk r (IsRequested disk radio said old new)
   requested_ok (Ok x) said request old new asks made = record { request = request; asks = asks; made = made }
   requested_ok (Err why) said request old new asks made = tt
 
   pub placed_ok : {A : Type 0} (r : Result A ScriptFault) (p q : Placing) (old new : Standing D R) → p ≡ q
-      → OnOk r (IsPlaced honest reads may_leave moment left_since size stations faults q old new) → OnOk r (IsPlaced honest reads may_leave moment left_since size stations faults p old new)
-  placed_ok r p q old new same h = subst (λ x. OnOk r (IsPlaced honest reads may_leave moment left_since size stations faults x old new)) (sym same) h
+      → OnOk r (IsPlaced disk radio q old new) → OnOk r (IsPlaced disk radio p old new)
+  placed_ok r p q old new same h = subst (λ x. OnOk r (IsPlaced disk radio x old new)) (sym same) h
 
   -- at the interface that is meant, or at none
   pub meant_ok : {A : Type 0} (r : Result A ScriptFault) (tag : ℕ) (order : Order) (found : Option Conf) (conf : Conf) (p : Placing) (up : Bool) (old new : Standing D R)
       → found ≡ Some conf → p ≡ placed order conf.bssid up tag → up ≡ is_up_at old conf
-      → OnOk r (IsPlaced honest reads may_leave moment left_since size stations faults p old new) → OnOk r (IsMeant honest reads may_leave moment left_since size stations faults tag order found old new)
+      → OnOk r (IsPlaced disk radio p old new) → OnOk r (IsMeant disk radio tag order found old new)
   meant_ok r tag order found conf p up old new is at up_is h =
-      let here : OnOk r (IsMeant honest reads may_leave moment left_since size stations faults tag order (Some conf) old new) =
+      let here : OnOk r (IsMeant disk radio tag order (Some conf) old new) =
       placed_ok r (placed order conf.bssid (is_up_at old conf) tag) p old new (ap (λ u. placed order conf.bssid u tag) (sym up_is) ∙ sym at) h in
-      subst (λ f. OnOk r (IsMeant honest reads may_leave moment left_since size stations faults tag order f old new)) (sym is) here
+      subst (λ f. OnOk r (IsMeant disk radio tag order f old new)) (sym is) here
 
   pub unmeant_ok : {A : Type 0} (r : Result A ScriptFault) (tag : ℕ) (order : Order) (found : Option Conf) (old : Standing D R) → found ≡ None
-      → OnOk r (IsMeant honest reads may_leave moment left_since size stations faults tag order found old old)
-  unmeant_ok r tag order found old is = subst (λ f. OnOk r (IsMeant honest reads may_leave moment left_since size stations faults tag order f old old)) (sym is) (on_ok (old ≡ old) r refl)
+      → OnOk r (IsMeant disk radio tag order found old old)
+  unmeant_ok r tag order found old is = subst (λ f. OnOk r (IsMeant disk radio tag order f old old)) (sym is) (on_ok (old ≡ old) r refl)
 
   -- by what a text is as a command
   pub command_ok : {A : Type 0} (r : Result A ScriptFault) (tag : ℕ) (text : List ℕ) (read : Result (Option (List ℕ) × Order) Refusal) (old new : Standing D R) → read ≡ command_outcome text
-      → OnOk r (IsCarriedOut honest reads may_leave moment left_since size stations faults tag read old new) → OnOk r (IsCarriedOut honest reads may_leave moment left_since size stations faults tag (command_outcome text) old new)
-  command_ok r tag text read old new is h = subst (λ o. OnOk r (IsCarriedOut honest reads may_leave moment left_since size stations faults tag o old new)) is h
+      → OnOk r (IsCarriedOut disk radio tag read old new) → OnOk r (IsCarriedOut disk radio tag (command_outcome text) old new)
+  command_ok r tag text read old new is h = subst (λ o. OnOk r (IsCarriedOut disk radio tag o old new)) is h
 
   -- a text says what is run
   pub says_ok : (r : Result (Standing D R) ScriptFault) (n : ℕ) (text : List ℕ) (what : Said) (old : Standing D R) → Says text what
-      → GoesSafely honest reads may_leave moment left_since size stations faults old.world old.world
-      → IfOk r (λ new. IsRun honest reads may_leave moment left_since size stations faults n what old new) → IfOk r (λ new. SaysAndIsRun honest reads may_leave moment left_since size stations faults n text old new)
+      → GoesSafely disk radio old.world old.world
+      → IfOk r (λ new. IsRun disk radio n what old new) → IfOk r (λ new. SaysAndIsRun disk radio n text old new)
   says_ok (Ok new) n text what old says still run = record {
     what = what;
     says = says;
     run = run;
-    safely = λ none. by_line honest reads may_leave moment left_since size stations faults old new still n what none run;
+    safely = λ none. by_line disk radio old new still n what none run;
   }
   says_ok (Err why) n text what old says still run = tt

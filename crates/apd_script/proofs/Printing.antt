@@ -7,7 +7,7 @@ use Rattle.apd_base.specs.State.{State, count, list_count, policy_at}
 use Rattle.apd_base.specs.declared.address.Bssid.{Bssid}
 use Rattle.apd_base.specs.declared.station.Policy.{Policy}
 use Rattle.apd_base.specs.declared.station.Which.TheVariants.{Accept, Deny}
-use Rattle.apd_disk.specs.Disk.{Only}
+use Rattle.apd_disk.specs.Disk.{Only, DiskModel}
 use Rattle.apd_store.specs.Outside.{device_of}
 use Rattle.apd_store.specs.Recovery.{IsHonestlyRecovered}
 use Rattle.apd_store.specs.declared.store.Store.{Store}
@@ -29,22 +29,22 @@ line_is bytes (Err e) s b policy stations accept deny has n a d told = tt
 pub all_bss : (s : State) → map.len s.policies ≡ length (map.keys s.policies)
 all_bss s = map.len-entries s.policies ∙ sym (length-map (map.entries s.policies) (λ (row : Bssid × Policy). row.0))
 
-module _ {D : Type 0} (reads : D → List ℕ) (may_leave : D → List ℕ → Type 0) (moment : D → ℕ) (left_since : D → ℕ → List ℕ → Type 0) (device : D) where
+module _ {D : Type 0} (disk : DiskModel D) (device : D) where
   -- a device was read where its store was recovered
   pub was_read : (left : D) (store : Store D) (table : State) → left ≡ device_of store
-      → IsHonestlyRecovered reads may_leave moment left_since device store table → IsHonestlyRead reads may_leave moment left_since device left table
+      → IsHonestlyRecovered disk device store table → IsHonestlyRead disk device left table
   was_read left store table same h =
-      let inside : IsHonestlyRead reads may_leave moment left_since device (device_of store) table = record {
+      let inside : IsHonestlyRead disk device (device_of store) table = record {
         shown = h.shown;
         stays = h.stays;
-        durable = subst (λ (image : List ℕ). Only image (may_leave (device_of store))) h.stays h.idle.durable;
+        durable = subst (λ (image : List ℕ). Only image (disk.may_leave (device_of store))) h.stays h.idle.durable;
         any_moment = h.any_moment;
         calls = h.calls;
       } in
-      subst (λ (d : D). IsHonestlyRead reads may_leave moment left_since device d table) (sym same) inside
+      subst (λ (d : D). IsHonestlyRead disk device d table) (sym same) inside
 
   -- and so it was where its table could not be printed
   pub not_printed : (left : D) (table : State) (why : CheckFault) → (why ≡ fault.Writer) ⊎ (why ≡ fault.NoMemory)
-      → IsHonestlyRead reads may_leave moment left_since device left table → IsHonestlyRefused reads may_leave moment left_since device left why
-  not_printed left table why (inl is) h = subst (IsHonestlyRefused reads may_leave moment left_since device left) (sym is) (table, h)
-  not_printed left table why (inr is) h = subst (IsHonestlyRefused reads may_leave moment left_since device left) (sym is) (table, h)
+      → IsHonestlyRead disk device left table → IsHonestlyRefused disk device left why
+  not_printed left table why (inl is) h = subst (IsHonestlyRefused disk device left) (sym is) (table, h)
+  not_printed left table why (inr is) h = subst (IsHonestlyRefused disk device left) (sym is) (table, h)

@@ -8,8 +8,9 @@ use Rattle.std.specs.Option.{option_map}
 use Rattle.std.specs.Prelude.{IfSome}
 use Rattle.apd_base.specs.Text.{lines}
 use Rattle.apd_base.specs.declared.limits.TheConstants.{MAX_SCRIPT}
+use Rattle.apd_disk.specs.Disk.{DiskModel}
 use Rattle.apd_ctrl.specs.Reading.{line_of}
-use Rattle.apd_slot.specs.Wanted.{Stations}
+use Rattle.apd_radio.specs.Model.{RadioModel}
 use Rattle.apd_world.specs.declared.world.World.{World}
 use Rattle.apd_script.specs.Lines.{IsRead}
 use Rattle.apd_script.specs.Script.{AreRun, Ends, IsBegun, IsFault, IsLineFault, IsNoBadLine, IsScriptRun, SaysAndIsRun, Starts}
@@ -85,16 +86,16 @@ one_further n k = omega arith
 no_further : (n : ℕ) → n + 0 ≡ n
 no_further n = omega arith
 
-module _ {D R : Type 0} (honest : D → Type 0) (reads : D → List ℕ) (may_leave : D → List ℕ → Type 0) (moment : D → ℕ) (left_since : D → ℕ → List ℕ → Type 0) (size : D → ℕ) (stations : R → Stations) (faults : R → ℕ) where
+module _ {D R : Type 0} (disk : DiskModel D) (radio : RadioModel R) where
   -- one line more is run
-  runs_further : (n : ℕ) (texts : List (List ℕ)) (text : List ℕ) (a b c : Standing D R) → AreRun honest reads may_leave moment left_since size stations faults n texts a b
-      → SaysAndIsRun honest reads may_leave moment left_since size stations faults (n + length texts) text b c → AreRun honest reads may_leave moment left_since size stations faults n (texts ++ text ∷ []) a c
+  runs_further : (n : ℕ) (texts : List (List ℕ)) (text : List ℕ) (a b c : Standing D R) → AreRun disk radio n texts a b
+      → SaysAndIsRun disk radio (n + length texts) text b c → AreRun disk radio n (texts ++ text ∷ []) a c
   runs_further n [] text a b c same one =
-      let here : SaysAndIsRun honest reads may_leave moment left_since size stations faults n text a c =
-      subst (λ k. SaysAndIsRun honest reads may_leave moment left_since size stations faults k text a c) (no_further n) (subst (λ w. SaysAndIsRun honest reads may_leave moment left_since size stations faults (n + 0) text w c) same one) in
+      let here : SaysAndIsRun disk radio n text a c =
+      subst (λ k. SaysAndIsRun disk radio k text a c) (no_further n) (subst (λ w. SaysAndIsRun disk radio (n + 0) text w c) same one) in
       (c, here, refl)
   runs_further n (first ∷ texts) text a b c (mid, one, past) last =
-      let last_one : SaysAndIsRun honest reads may_leave moment left_since size stations faults ((n + 1) + length texts) text b c = subst (λ k. SaysAndIsRun honest reads may_leave moment left_since size stations faults k text b c) (one_further n (length texts)) last in
+      let last_one : SaysAndIsRun disk radio ((n + 1) + length texts) text b c = subst (λ k. SaysAndIsRun disk radio k text b c) (one_further n (length texts)) last in
       (mid, one, runs_further (n + 1) texts text mid b c past last_one)
 
   -- so many lines of so many bytes were run, and the next has this number
@@ -104,10 +105,10 @@ module _ {D R : Type 0} (honest : D → Type 0) (reads : D → List ℕ) (may_le
     pub counted : number ≡ length texts + 1
     pub short : length texts ≤ n
     pub fits : n ≤ MAX_SCRIPT
-    pub run : IsScriptRun honest reads may_leave moment left_since size stations faults texts old radios new
+    pub run : IsScriptRun disk radio texts old radios new
 
   pub begins_so_far : (known left : Option (List ℕ)) (radios : List R) (old : World D R) (first new : Standing D R) → left ≡ option_map (take (MAX_SCRIPT + 1)) known
-      → IsBegun old radios first → Starts honest reads may_leave moment left_since size stations faults first new → IsSoFar known left 1 0 radios old new
+      → IsBegun old radios first → Starts disk radio first new → IsSoFar known left 1 0 radios old new
   begins_so_far known left radios old first new e begun starts = record {
     texts = [];
     read = none_read known left e;
@@ -119,12 +120,12 @@ module _ {D R : Type 0} (honest : D → Type 0) (reads : D → List ℕ) (may_le
 
   pub further_so_far : (known left next : Option (List ℕ)) (number n k sum : ℕ) (radios : List R) (old : World D R) (new newer : Standing D R) (bytes : List ℕ)
       → IsSoFar known left number n radios old new → IsRead left next bytes → length bytes ≡ k → 0 < k → (sum ≡ n + k) × (sum ≤ MAX_SCRIPT)
-      → SaysAndIsRun honest reads may_leave moment left_since size stations faults number (line_of bytes) new newer → IsSoFar known next (number + 1) sum radios old newer
+      → SaysAndIsRun disk radio number (line_of bytes) new newer → IsSoFar known next (number + 1) sum radios old newer
   further_so_far known left next number n k sum radios old new newer bytes past piece long some within one =
       let run = past.run in
       let fits : n + k ≤ MAX_SCRIPT = omega (arith, within.0, within.1) in
       let counted : number ≡ 1 + length past.texts = omega (arith, past.counted) in
-      let one_run : SaysAndIsRun honest reads may_leave moment left_since size stations faults (1 + length past.texts) (line_of bytes) new newer = subst (λ k. SaysAndIsRun honest reads may_leave moment left_since size stations faults k (line_of bytes) new newer) counted one in
+      let one_run : SaysAndIsRun disk radio (1 + length past.texts) (line_of bytes) new newer = subst (λ k. SaysAndIsRun disk radio k (line_of bytes) new newer) counted one in
       record {
         texts = past.texts ++ line_of bytes ∷ [];
         read = subst (AreRead known next (past.texts ++ line_of bytes ∷ [])) (sym within.0) (read_further known left next past.texts n k bytes past.read piece long some fits);
@@ -141,7 +142,7 @@ module _ {D R : Type 0} (honest : D → Type 0) (reads : D → List ℕ) (may_le
       }
 
   pub ends_so_far : (known left next : Option (List ℕ)) (number n : ℕ) (radios : List R) (old : World D R) (new : Standing D R) (bytes : List ℕ)
-      → IsSoFar known left number n radios old new → IsRead left next bytes → length bytes ≡ 0 → Ends honest reads may_leave moment left_since size stations faults known radios old new.world
+      → IsSoFar known left number n radios old new → IsRead left next bytes → length bytes ≡ 0 → Ends disk radio known radios old new.world
   ends_so_far known left next number n radios old new bytes past piece none = record {
     texts = past.texts;
     whole = all_read known left past.texts n past.read past.fits (IsAtEnd-of_take_through 10 left [] bytes piece.taken none);
@@ -152,7 +153,7 @@ module _ {D R : Type 0} (honest : D → Type 0) (reads : D → List ℕ) (may_le
 
   pub fails_so_far : (why : ScriptFault) (known left next : Option (List ℕ)) (number n k sum : ℕ) (radios : List R) (old : World D R) (new : Standing D R) (bytes : List ℕ)
       → IsSoFar known left number n radios old new → IsRead left next bytes → length bytes ≡ k → 0 < k → (sum ≡ n + k) × (sum ≤ MAX_SCRIPT)
-      → IsLineFault number (line_of bytes) new why → IsFault honest reads may_leave moment left_since size stations faults known radios old why
+      → IsLineFault number (line_of bytes) new why → IsFault disk radio known radios old why
   fails_so_far (fault.BadLine j) known left next number n k sum radios old new bytes past piece long some within (same, bad) =
       let fits : n + k ≤ MAX_SCRIPT = omega (arith, within.0, within.1) in
       let (behind, text) = bad_read known left next past.texts n k bytes past.read piece long some fits in
@@ -163,7 +164,7 @@ module _ {D R : Type 0} (honest : D → Type 0) (reads : D → List ℕ) (may_le
   fails_so_far fault.NoMemory known left next number n k sum radios old new bytes past piece long some within h = tt
 
   -- what is no bad line tells nothing of the script
-  pub fails_elsewhere : (why : ScriptFault) (known : Option (List ℕ)) (radios : List R) (old : World D R) → IsNoBadLine why → IsFault honest reads may_leave moment left_since size stations faults known radios old why
+  pub fails_elsewhere : (why : ScriptFault) (known : Option (List ℕ)) (radios : List R) (old : World D R) → IsNoBadLine why → IsFault disk radio known radios old why
   fails_elsewhere (fault.BadLine j) known radios old h = absurd h
   fails_elsewhere fault.Reader known radios old h = tt
   fails_elsewhere fault.Writer known radios old h = tt

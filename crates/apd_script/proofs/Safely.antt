@@ -5,28 +5,28 @@ use Rattle.std.proofs.Math.Seq.{take-append_seam}
 use Rattle.apd_base.specs.State.{State}
 use Rattle.apd_conf.specs.declared.conf.Conf.{Conf}
 use Rattle.apd_core.specs.Core.{CoreState}
-use Rattle.apd_disk.specs.Disk.{LeavesOnly}
+use Rattle.apd_disk.specs.Disk.{LeavesOnly, DiskModel}
 use Rattle.apd_disk.proofs.Moments.{started, then_run, weaker}
 use Rattle.apd_mlme.specs.Happening.{Happening}
 use Rattle.apd_mlme.specs.Run.{run}
 use Rattle.apd_mlme.specs.declared.decision.Out.{Out}
 use Rattle.apd_mlme.specs.declared.decision.Recipient.{Recipient}
-use Rattle.apd_slot.specs.Wanted.{Stations}
+use Rattle.apd_radio.specs.Model.{RadioModel}
 use Rattle.apd_store.specs.Image.{Shows}
-use Rattle.apd_world.specs.Following.{AreExact, AreFollowing}
-use Rattle.apd_world.specs.CoreRun.{AreUnsettled, Goes, Settles}
+use Rattle.apd_world.specs.CoreRun.{Goes, Settles}
 use Rattle.apd_world.specs.Outside.{device_of, spoken}
 use Rattle.apd_world.specs.Proper.{IsProper, IsSafe, IsShown}
 use Rattle.apd_world.specs.Recovery.{HasSpoken}
-use Rattle.apd_world.specs.WorldParts.{durable_of, slots_of}
+use Rattle.apd_world.specs.WorldParts.{durable_of}
 use Rattle.apd_world.specs.Shown.{ShowsFront}
-use Rattle.apd_world.specs.Starting.{HasGoneOn}
+use Rattle.apd_world.specs.Starting.{HasGoneOn, LeavesFront}
 use Rattle.apd_world.specs.Steps.{all_entered, all_given}
+use Rattle.apd_world.specs.StepsMade.{StaysSafe}
 use Rattle.apd_world.specs.WorldRun.{IsWorldStep}
 use Rattle.apd_world.specs.declared.step.Step.{Step}
 use Rattle.apd_world.specs.declared.step.Told.{Told}
 use Rattle.apd_world.specs.declared.world.World.{World}
-use Rattle.apd_world.proofs.RunLemmas.{one_made, world_entered_then, world_runs_join}
+use Rattle.apd_world.proofs.RunLemmas.{one_made, some_safely, stays_made, world_entered_then, world_runs_join}
 use Rattle.apd_script.specs.Safely.{GoesSafely, KeepsSpoken}
 use Rattle.apd_script.proofs.OneRun.{no_run}
 
@@ -76,26 +76,26 @@ shows_before a b hs es fs g confs settles n most c h =
       holds = omega (arith, most, number, lengths);
     }
 
-module _ {D R : Type 0} (honest : D → Type 0) (reads : D → List ℕ) (may_leave : D → List ℕ → Type 0) (moment : D → ℕ) (left_since : D → ℕ → List ℕ → Type 0) (size : D → ℕ) (stations : R → Stations) (faults : R → ℕ) where
+module _ {D R : Type 0} (disk : DiskModel D) (radio : RadioModel R) where
   abbrev Safely : World D R → World D R → Type 0
-  Safely a b = GoesSafely honest reads may_leave moment left_since size stations faults a b
+  Safely a b = GoesSafely disk radio a b
 
   abbrev Proper : World D R → Type 0
-  Proper w = IsProper honest reads may_leave size (durable_of w)
+  Proper w = IsProper disk (durable_of w)
 
   abbrev Leaves : World D R → World D R → (List ℕ → Type 0) → Type 0
-  Leaves a b P = LeavesOnly moment left_since (device_of (durable_of a)) (device_of (durable_of b)) P
+  Leaves a b P = LeavesOnly disk (device_of (durable_of a)) (device_of (durable_of b)) P
 
   -- no step is made
-  pub none_safely : (w : World D R) → (Proper w → IsShown may_leave (durable_of w))
-      → ((image : List ℕ) → honest (device_of (durable_of w)) → left_since (device_of (durable_of w)) (moment (device_of (durable_of w))) image → may_leave (device_of (durable_of w)) image) → Safely w w
+  pub none_safely : (w : World D R) → (Proper w → IsShown disk (durable_of w))
+      → ((image : List ℕ) → disk.honest (device_of (durable_of w)) → disk.left_since (device_of (durable_of w)) (disk.moment (device_of (durable_of w))) image → disk.may_leave (device_of (durable_of w)) image) → Safely w w
   none_safely w shown now =
       let core = (durable_of w).core in
       record {
         proper = λ p. p;
         any_moment = λ p hs u. record {
-          gone_on = record { steps = []; tolds = []; run = no_run stations faults w };
-          leaves = started moment left_since (device_of (durable_of w)) (ShowsFront core.settled core.confs (hs ++ []))
+          gone_on = record { steps = []; tolds = []; run = no_run radio w };
+          leaves = started disk (device_of (durable_of w)) (ShowsFront core.settled core.confs (hs ++ []))
               (λ c left.
               let flight = (shown p).now hs u c (now c p.device left) in
               shows_front core.settled core.confs c (hs ++ []) (take flight.count hs) (drop flight.count hs) (append-nil hs ∙ sym (take-append-drop flight.count hs)) flight.shows);
@@ -105,33 +105,15 @@ module _ {D R : Type 0} (honest : D → Type 0) (reads : D → List ℕ) (may_le
       }
 
   -- one step is
-  pub one_safely : (step : Step) (told : Told) (a b : World D R) → IsWorldStep stations faults step told a b → IsSafe honest reads may_leave moment left_since size (durable_of a) (durable_of b) → Safely a b
+  pub one_safely : (step : Step) (told : Told) (a b : World D R) → IsWorldStep radio step told a b → IsSafe disk (durable_of a) (durable_of b) → Safely a b
   one_safely step told a b is safe =
-      let made = one_made honest reads may_leave moment left_since size stations faults step told a b is safe in
-      record {
-        proper = made.proper;
-        any_moment = λ p hs u. record { gone_on = record { steps = step ∷ []; tolds = told ∷ []; run = made.run }; leaves = made.any_moment p hs u };
-        exact = made.exact;
-        following = made.following;
-      }
+      some_safely disk radio a b (record { steps = step ∷ []; tolds = told ∷ []; made = one_made disk radio step told a b is safe })
 
   -- some are, by which nothing happens
-  pub quiet_safely : (a b : World D R) → HasGoneOn stations faults a b → (Proper a → Proper b)
-      → (Proper a → (hs : List Happening) → AreUnsettled hs (durable_of a).core → Leaves a b (ShowsFront (durable_of a).core.settled (durable_of a).core.confs hs))
-      → (AreExact stations (slots_of a) → AreExact stations (slots_of b)) → (AreFollowing a → AreFollowing b) → Safely a b
-  quiet_safely a b gone proper moments exact following =
-      let core = (durable_of a).core in
-      let fs = all_entered gone.steps gone.tolds core in
-      record {
-        proper = proper;
-        any_moment = λ p hs u. record {
-          gone_on = gone;
-          leaves = weaker moment left_since (device_of (durable_of a)) (device_of (durable_of b)) (ShowsFront core.settled core.confs hs) (ShowsFront core.settled core.confs (hs ++ fs))
-              (λ image. shows_more core.settled core.confs image hs fs) (moments p hs u);
-        };
-        exact = exact;
-        following = following;
-      }
+  pub quiet_safely : (a b : World D R) → HasGoneOn radio a b → StaysSafe disk radio (LeavesFront disk) a b → Safely a b
+  quiet_safely a b gone stays =
+      some_safely disk radio a b
+      (record { steps = gone.steps; tolds = gone.tolds; made = stays_made disk radio gone.steps gone.tolds a b gone.run stays })
 
   -- some, and then some more
   pub then_safely : (a b c : World D R) → Safely a b → Safely b c → Safely a c
@@ -150,22 +132,22 @@ module _ {D R : Type 0} (honest : D → Type 0) (reads : D → List ℕ) (may_le
         let fs = all_entered two.steps two.tolds cb in
         let whole = (hs ++ es) ++ fs in
         let both : Leaves a c (ShowsFront ca.settled ca.confs whole) =
-        then_run moment left_since (device_of (durable_of a)) (device_of (durable_of b)) (device_of (durable_of c)) (ShowsFront ca.settled ca.confs whole)
-        (weaker moment left_since (device_of (durable_of a)) (device_of (durable_of b)) (ShowsFront ca.settled ca.confs (hs ++ es)) (ShowsFront ca.settled ca.confs whole)
+        then_run disk (device_of (durable_of a)) (device_of (durable_of b)) (device_of (durable_of c)) (ShowsFront ca.settled ca.confs whole)
+        (weaker disk (device_of (durable_of a)) (device_of (durable_of b)) (ShowsFront ca.settled ca.confs (hs ++ es)) (ShowsFront ca.settled ca.confs whole)
         (λ image. shows_more ca.settled ca.confs image (hs ++ es) fs) first.leaves)
-        (weaker moment left_since (device_of (durable_of b)) (device_of (durable_of c)) (ShowsFront cb.settled cb.confs (settles.left ++ fs)) (ShowsFront ca.settled ca.confs whole)
+        (weaker disk (device_of (durable_of b)) (device_of (durable_of c)) (ShowsFront cb.settled cb.confs (settles.left ++ fs)) (ShowsFront ca.settled ca.confs whole)
         (λ image h. (shows_before ca cb hs es fs (λ r. all_given r one.steps one.run.insides) goes.confs settles 0 (omega arith) image h).front) second.leaves) in
         record {
-          gone_on = record { steps = one.steps ++ two.steps; tolds = one.tolds ++ two.tolds; run = world_runs_join stations faults one.steps two.steps one.tolds two.tolds a b c one.run two.run };
+          gone_on = record { steps = one.steps ++ two.steps; tolds = one.tolds ++ two.tolds; run = world_runs_join radio one.steps two.steps one.tolds two.tolds a b c one.run two.run };
           leaves = subst (λ zs. Leaves a c (ShowsFront ca.settled ca.confs zs))
-              (append_assoc hs es fs ∙ ap (λ zs. hs ++ zs) (sym (world_entered_then stations faults one.steps two.steps one.tolds two.tolds a b c one.run two.run))) both;
+              (append_assoc hs es fs ∙ ap (λ zs. hs ++ zs) (sym (world_entered_then radio one.steps two.steps one.tolds two.tolds a b c one.run two.run))) both;
         };
     exact = λ all. step.exact (past.exact all);
     following = λ f. step.following (past.following f);
   }
 
   -- what was spoken of when they began is in what is left
-  pub keeps_spoken : (a b : World D R) → Safely a b → Proper a → KeepsSpoken moment left_since stations faults a b
+  pub keeps_spoken : (a b : World D R) → Safely a b → Proper a → KeepsSpoken disk radio a b
   keeps_spoken a b goes p = λ from steps tolds hs made u.
       let cf = (durable_of from).core in
       let ca = (durable_of a).core in
@@ -177,7 +159,7 @@ module _ {D R : Type 0} (honest : D → Type 0) (reads : D → List ℕ) (may_le
       let fs = all_entered one.steps one.tolds ca in
       record {
         gone_on = one;
-        leaves = weaker moment left_since (device_of (durable_of a)) (device_of (durable_of b)) (ShowsFront ca.settled ca.confs (settles.left ++ fs))
+        leaves = weaker disk (device_of (durable_of a)) (device_of (durable_of b)) (ShowsFront ca.settled ca.confs (settles.left ++ fs))
             (HasSpoken cf ((hs ++ es) ++ fs) (spoken (durable_of a)))
             (λ image h. shows_before cf ca hs es fs (λ r. all_given r steps made.insides) gone.confs settles (spoken (durable_of a)) p.spoken image h) since.leaves;
       }

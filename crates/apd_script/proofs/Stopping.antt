@@ -5,8 +5,9 @@ use Rattle.apd_base.specs.State.{State}
 use Rattle.apd_base.specs.declared.moment.Moment.{Moment}
 use Rattle.apd_conf.specs.declared.conf.Conf.{Conf}
 use Rattle.apd_mlme.specs.Run.{run}
+use Rattle.apd_disk.specs.Disk.{DiskModel}
+use Rattle.apd_radio.specs.Model.{RadioModel}
 use Rattle.apd_slot.specs.Slots.{bssid_of}
-use Rattle.apd_slot.specs.Wanted.{Stations}
 use Rattle.apd_slot.specs.declared.slot.Slot.{Slot}
 use Rattle.apd_store.specs.Image.{Shows}
 use Rattle.apd_world.specs.Outside.{device_of}
@@ -17,36 +18,36 @@ use Rattle.apd_script.specs.Script.{AreRenewed, confs_of, IsBegunFrom, IsRestart
 use Rattle.apd_script.specs.declared.script.fault.ScriptFault.{ScriptFault}
 use Rattle.apd_script.specs.declared.script.standing.Standing.{Standing}
 
-module _ {D R : Type 0} (honest : D → Type 0) (reads : D → List ℕ) (may_leave : D → List ℕ → Type 0) (moment : D → ℕ) (left_since : D → ℕ → List ℕ → Type 0) (size : D → ℕ) (stations : R → Stations) (faults : R → ℕ) where
+module _ {D R : Type 0} (disk : DiskModel D) (radio : RadioModel R) where
   -- a world is begun anew from the device of another
   pub anew : (m : Moment) (device : D) (old new : World D R) (confs : List Conf) → device ≡ device_of (durable_of old)
-      → (IsProper honest reads may_leave size (durable_of old) → IsShown may_leave (durable_of old))
-      → (honest (device_of (durable_of old)) → may_leave (device_of (durable_of old)) (reads (device_of (durable_of old))))
+      → (IsProper disk (durable_of old) → IsShown disk (durable_of old))
+      → (disk.honest (device_of (durable_of old)) → disk.may_leave (device_of (durable_of old)) (disk.reads (device_of (durable_of old))))
       → ((image : List ℕ) (s t : State) → Shows image s → Shows image t → s ≡ t)
       → confs ≡ (durable_of old).core.confs
-      → IsBegunFrom honest reads may_leave moment left_since size stations faults m device confs new
-      → IsRestarted honest reads may_leave moment left_since size stations faults m old new
+      → IsBegunFrom disk radio m device confs new
+      → IsRestarted disk radio m old new
   anew m device old new confs is shown left one configured begun =
       let core = (durable_of old).core in
       let own = device_of (durable_of old) in
-      let of_own : IsBegunFrom honest reads may_leave moment left_since size stations faults m own confs new =
-      subst (λ (d : D). IsBegunFrom honest reads may_leave moment left_since size stations faults m d confs new) is begun in
+      let of_own : IsBegunFrom disk radio m own confs new =
+      subst (λ (d : D). IsBegunFrom disk radio m d confs new) is begun in
       record {
-        begun = subst (λ cs. IsBegunFrom honest reads may_leave moment left_since size stations faults m own cs new) configured of_own;
+        begun = subst (λ cs. IsBegunFrom disk radio m own cs new) configured of_own;
         recovered = λ p hs u.
-            let flight = (shown p).now hs u (reads own) (left p.device) in
+            let flight = (shown p).now hs u (disk.reads own) (left p.device) in
             record {
               count = flight.count;
               some_of = flight.some_of;
-              is = one (reads own) (durable_of new).core.settled (run core.settled core.confs (take flight.count hs)) (of_own.shown p.device) flight.shows;
+              is = one (disk.reads own) (durable_of new).core.settled (run core.settled core.confs (take flight.count hs)) (of_own.shown p.device) flight.shows;
             };
       }
 
   -- what is given up and begun anew is restarted
   pub restarts_ok : (r : Result (Standing D R) ScriptFault) (old : Standing D R) (mid : Standing D R) (confs : List Conf) (slots : List (Slot R)) → AreRenewed confs slots old mid
-      → IfOk r (λ new. confs ≡ confs_of mid → map bssid_of slots ≡ map (λ conf. conf.bssid) confs → IsRestarted honest reads may_leave moment left_since size stations faults mid.moment mid.world new.world)
+      → IfOk r (λ new. confs ≡ confs_of mid → map bssid_of slots ≡ map (λ conf. conf.bssid) confs → IsRestarted disk radio mid.moment mid.world new.world)
       → IfOk r (λ new. new ≡ record mid { world = new.world; refusal = None })
-      → IfOk r (λ new. Restarts honest reads may_leave moment left_since size stations faults old new)
+      → IfOk r (λ new. Restarts disk radio old new)
   restarts_ok (Ok new) old mid confs slots renewed restarted only =
       let same = renewed.only in
       let configured = renewed.own in
@@ -54,20 +55,20 @@ module _ {D R : Type 0} (honest : D → Type 0) (reads : D → List ℕ) (may_le
       let same_moment : mid.moment ≡ old.moment = ap (λ (s : Standing D R). s.moment) same in
       let spares : new.spares ≡ mid.spares = ap (λ (s : Standing D R). s.spares) only in
       let whole = restarted (configured ∙ ap (λ (w : World D R). (durable_of w).core.confs) (sym world)) renewed.each in
-      let at_world : IsRestarted honest reads may_leave moment left_since size stations faults mid.moment old.world new.world = subst (λ (w : World D R). IsRestarted honest reads may_leave moment left_since size stations faults mid.moment w new.world) world whole in
+      let at_world : IsRestarted disk radio mid.moment old.world new.world = subst (λ (w : World D R). IsRestarted disk radio mid.moment w new.world) world whole in
       record {
-        restarted = subst (λ m. IsRestarted honest reads may_leave moment left_since size stations faults m old.world new.world) same_moment at_world;
+        restarted = subst (λ m. IsRestarted disk radio m old.world new.world) same_moment at_world;
         spares = ap (λ s. s.items) spares ∙ renewed.spares ∙ ap (λ cs. drop (length cs) old.spares.items) configured;
         only = only ∙ ap (λ (s : Standing D R). record s { world = new.world; refusal = None }) same ∙ ap (λ s. record old { world = new.world; spares = s; refusal = None }) (sym spares);
       }
   restarts_ok (Err why) old mid confs slots renewed restarted only = tt
 
   -- and then started
-  pub stops_ok : (r : Result (Standing D R) ScriptFault) (old first mid : Standing D R) → Restarts honest reads may_leave moment left_since size stations faults old first → mid ≡ first
-      → IfOk r (λ new. Starts honest reads may_leave moment left_since size stations faults mid new) → IfOk r (λ new. Stops honest reads may_leave moment left_since size stations faults old new)
+  pub stops_ok : (r : Result (Standing D R) ScriptFault) (old first mid : Standing D R) → Restarts disk radio old first → mid ≡ first
+      → IfOk r (λ new. Starts disk radio mid new) → IfOk r (λ new. Stops disk radio old new)
   stops_ok (Ok new) old first mid restarts same starts = record {
     mid = mid;
-    restarts = subst (λ (s : Standing D R). Restarts honest reads may_leave moment left_since size stations faults old s) (sym same) restarts;
+    restarts = subst (λ (s : Standing D R). Restarts disk radio old s) (sym same) restarts;
     starts = starts;
   }
   stops_ok (Err why) old first mid restarts same starts = tt

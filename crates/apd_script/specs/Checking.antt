@@ -10,7 +10,7 @@ use Rattle.apd_base.specs.State.{State, count, list_count, policy_at}
 use Rattle.apd_base.specs.declared.address.Bssid.{Bssid}
 use Rattle.apd_base.specs.declared.limits.TheConstants.{DEVICE_LENGTH}
 use Rattle.apd_base.specs.declared.station.Which.TheVariants.{Accept, Deny}
-use Rattle.apd_disk.specs.Disk.{LeavesOnly, Only}
+use Rattle.apd_disk.specs.Disk.{LeavesOnly, Only, DiskModel}
 use Rattle.apd_store.specs.Image.{Shows}
 use Rattle.apd_store.specs.Recovery.{IsHonestlyNotRecovered, IsNotRecovered}
 use Rattle.apd_table.specs.Allowed.{mode_and_max}
@@ -45,46 +45,42 @@ table_text s = flat_map (line_of s) (map.keys s.policies)
 
 -- ---- what is found of the device, and left of it
 -- it holds a store; the count of its failures stays
-pub record IsRead {D : Type 0} (honest : D → Type 0) (size failed : D → ℕ) (device left : D) : Type 0 where
-  pub length : size device ≡ DEVICE_LENGTH
-  pub count : failed left ≡ failed device
-  pub stays_honest : honest device ↔ honest left
+pub record IsRead {D : Type 0} (disk : DiskModel D) (device left : D) : Type 0 where
+  pub length : disk.size device ≡ DEVICE_LENGTH
+  pub count : disk.failed left ≡ disk.failed device
+  pub stays_honest : disk.honest device ↔ disk.honest left
 
 -- an honest one shows this table, reads as it did, and leaves no image that could not be left before
-pub record IsHonestlyRead {D : Type 0} (reads : D → List ℕ) (may_leave : D → List ℕ → Type 0) (moment : D → ℕ)
-    (left_since : D → ℕ → List ℕ → Type 0) (device left : D) (table : State) : Type 0 where
-  pub shown : Shows (reads device) table
-  pub stays : reads left ≡ reads device
-  pub durable : Only (reads device) (may_leave left)
-  pub any_moment : LeavesOnly moment left_since device left (may_leave device)
-  pub calls : moment left ≤ moment device + 2
+pub record IsHonestlyRead {D : Type 0} (disk : DiskModel D) (device left : D) (table : State) : Type 0 where
+  pub shown : Shows (disk.reads device) table
+  pub stays : disk.reads left ≡ disk.reads device
+  pub durable : Only (disk.reads device) (disk.may_leave left)
+  pub any_moment : LeavesOnly disk device left (disk.may_leave device)
+  pub calls : disk.moment left ≤ disk.moment device + 2
 
 -- its table was printed behind what a writer held
-pub record IsPrinted {D : Type 0} (reads : D → List ℕ) (may_leave : D → List ℕ → Type 0) (moment : D → ℕ)
-    (left_since : D → ℕ → List ℕ → Type 0) (held holds : Option (List ℕ)) (device left : D) : Type 0 where
+pub record IsPrinted {D : Type 0} (disk : DiskModel D) (held holds : Option (List ℕ)) (device left : D) : Type 0 where
   pub table : State
-  pub read : IsHonestlyRead reads may_leave moment left_since device left table
+  pub read : IsHonestlyRead disk device left table
   pub printed : Appends held holds (table_text table)
 
 -- it was refused as a recovery refuses it; or it is a store, whose table could not be printed
-abbrev pub IsRefused : {D : Type 0} → (D → Type 0) → (D → ℕ) → (D → ℕ) → D → D → CheckFault → Type 0
-IsRefused honest size failed device left (fault.Store why) = IsNotRecovered honest size failed device left why
-IsRefused honest size failed device left fault.Writer = IsRead honest size failed device left
-IsRefused honest size failed device left fault.NoMemory = IsRead honest size failed device left
+abbrev pub IsRefused : {D : Type 0} → DiskModel D → D → D → CheckFault → Type 0
+IsRefused disk device left (fault.Store why) = IsNotRecovered disk device left why
+IsRefused disk device left fault.Writer = IsRead disk device left
+IsRefused disk device left fault.NoMemory = IsRead disk device left
 
-abbrev pub IsHonestlyRefused : {D : Type 0} → (D → List ℕ) → (D → List ℕ → Type 0) → (D → ℕ) → (D → ℕ → List ℕ → Type 0)
-    → D → D → CheckFault → Type 0
-IsHonestlyRefused reads may_leave moment left_since device left (fault.Store why) =
-    IsHonestlyNotRecovered reads may_leave moment left_since device left why
-IsHonestlyRefused reads may_leave moment left_since device left fault.Writer =
-    (table : State) × IsHonestlyRead reads may_leave moment left_since device left table
-IsHonestlyRefused reads may_leave moment left_since device left fault.NoMemory =
-    (table : State) × IsHonestlyRead reads may_leave moment left_since device left table
+abbrev pub IsHonestlyRefused : {D : Type 0} → DiskModel D → D → D → CheckFault → Type 0
+IsHonestlyRefused disk device left (fault.Store why) =
+    IsHonestlyNotRecovered disk device left why
+IsHonestlyRefused disk device left fault.Writer =
+    (table : State) × IsHonestlyRead disk device left table
+IsHonestlyRefused disk device left fault.NoMemory =
+    (table : State) × IsHonestlyRead disk device left table
 
 -- a device was given up so
-pub record IsGivenUp {D : Type 0} (honest : D → Type 0) (reads : D → List ℕ) (may_leave : D → List ℕ → Type 0)
-    (moment : D → ℕ) (left_since : D → ℕ → List ℕ → Type 0) (size failed : D → ℕ) (device : D) (fault : CheckFault)
+pub record IsGivenUp {D : Type 0} (disk : DiskModel D) (device : D) (fault : CheckFault)
     : Type 0 where
   pub left : D
-  pub refused : IsRefused honest size failed device left fault
-  pub refused_honest : honest device → IsHonestlyRefused reads may_leave moment left_since device left fault
+  pub refused : IsRefused disk device left fault
+  pub refused_honest : disk.honest device → IsHonestlyRefused disk device left fault

@@ -14,12 +14,12 @@ use Rattle.apd_ctrl.specs.Placing.{Placing, Asks, Does, placed}
 use Rattle.apd_ctrl.specs.Reading.{outcome as command_outcome}
 use Rattle.apd_ctrl.specs.declared.command.Command.{Command as Order}
 use Rattle.apd_ctrl.specs.declared.parser.Refusal.{Refusal}
-use Rattle.apd_disk.specs.Disk.{LeavesOnly}
+use Rattle.apd_disk.specs.Disk.{LeavesOnly, DiskModel}
 use Rattle.apd_frame.specs.Outcome.{outcome}
 use Rattle.apd_mlme.specs.Happening.{Happening}
 use Rattle.apd_mlme.specs.declared.decision.Recipient.{Recipient}
+use Rattle.apd_radio.specs.Model.{RadioModel}
 use Rattle.apd_slot.specs.Slots.{bssid_of}
-use Rattle.apd_slot.specs.Wanted.{Stations}
 use Rattle.apd_slot.specs.declared.slot.Slot.{Slot}
 use Rattle.apd_store.specs.Image.{Shows}
 use Rattle.apd_table.specs.Sound.{Sound}
@@ -72,20 +72,19 @@ abbrev pub asked_at : Step → Option (Option (Result Happening QuietReason) × 
 asked_at (step.Accept i m) = Some (said_by i, m)
 asked_at other = None
 
-module _ {D R : Type 0} (honest : D → Type 0) (reads : D → List ℕ) (may_leave : D → List ℕ → Type 0) (moment : D → ℕ)
-    (left_since : D → ℕ → List ℕ → Type 0) (size : D → ℕ) (stations : R → Stations) (faults : R → ℕ) where
+module _ {D R : Type 0} (disk : DiskModel D) (radio : RadioModel R) where
   -- the world is proper
   abbrev pub IsProperAt : Standing D R → Type 0
-  IsProperAt s = IsProper honest reads may_leave size (durable_of s.world)
+  IsProperAt s = IsProper disk (durable_of s.world)
 
   -- nothing changes but the world, by steps
   pub record GoesOn (old new : Standing D R) : Type 0 where
     pub only : new ≡ record old { world = new.world }
-    pub safely : GoesSafely honest reads may_leave moment left_since size stations faults old.world new.world
+    pub safely : GoesSafely disk radio old.world new.world
 
   -- this step was made, and told so
   pub record Makes (made : Step) (told : Told) (old new : Standing D R) : Type 0 where
-    pub is : IsWorldStep stations faults made told old.world new.world
+    pub is : IsWorldStep radio made told old.world new.world
     pub goes_on : GoesOn old new
 
   -- one was made, and did not lack memory
@@ -131,42 +130,42 @@ module _ {D R : Type 0} (honest : D → Type 0) (reads : D → List ℕ) (may_le
   -- what is settled is handed out
   pub record HandsOut (old new : Standing D R) : Type 0 where
     pub answers : List (Recipient × Told)
-    pub handed : IsHandedOut stations faults [] answers old.world new.world
+    pub handed : IsHandedOut radio [] answers old.world new.world
     pub goes_on : GoesOn old new
 
   -- all is committed, and handed out: where no refusal was met
   pub record Flushes (old new : Standing D R) : Type 0 where
     pub none : old.refusal ≡ None
     pub answers : List (Recipient × Told)
-    pub flushed : IsFlushed stations faults [] answers old.world new.world
+    pub flushed : IsFlushed radio [] answers old.world new.world
     pub goes_on : GoesOn old new
 
   -- the interfaces are started
   pub record Starts (old new : Standing D R) : Type 0 where
     pub answers : List (Recipient × Told)
-    pub started : IsStarted stations faults answers old.world new.world
+    pub started : IsStarted radio answers old.world new.world
     pub goes_on : GoesOn old new
 
   -- A world begun at a moment from what a device reads, of these configurations: its table is the state that the device shows, nothing is
   -- unsettled, and its slots, one for each interface, have resumed by that table. It is proper, and a stop until it is begun leaves what it
   -- could leave before.
   pub record IsBegunFrom (m : Moment) (device : D) (confs : List Conf) (new : World D R) : Type 0 where
-    pub shown : honest device → Shows (reads device) (durable_of new).core.settled
+    pub shown : disk.honest device → Shows (disk.reads device) (durable_of new).core.settled
     pub core : (durable_of new).core ≡ new_core (durable_of new).core.settled confs (durable_of new).core.heard
     pub heard : AreHeardAt m (durable_of new).core.settled (durable_of new).core.heard
     pub sound : Sound (durable_of new).core.settled
     pub slots : map bssid_of (slots_of new) ≡ map (λ conf. conf.bssid) confs
-    pub resumed : AreResumed stations (durable_of new).core.settled (slots_of new)
+    pub resumed : AreResumed radio (durable_of new).core.settled (slots_of new)
     pub following : AreFollowing new
-    pub proper : honest device → IsProper honest reads may_leave size (durable_of new)
-    pub any_moment : honest device
-        → LeavesOnly moment left_since device (device_of (durable_of new)) (may_leave device)
+    pub proper : disk.honest device → IsProper disk (durable_of new)
+    pub any_moment : disk.honest device
+        → LeavesOnly disk device (device_of (durable_of new)) (disk.may_leave device)
 
   -- A world begun anew at a moment from what the device of another reads, with its configurations. Where that one was proper, the table is
   -- its settled one, or that after its batch in flight.
   pub record IsRestarted (m : Moment) (old new : World D R) : Type 0 where
     pub begun : IsBegunFrom m (device_of (durable_of old)) (durable_of old).core.confs new
-    pub recovered : IsProper honest reads may_leave size (durable_of old) → (hs : List Happening)
+    pub recovered : IsProper disk (durable_of old) → (hs : List Happening)
         → AreUnsettled hs (durable_of old).core → IsAfterFlight (durable_of old).core hs (durable_of new).core.settled
 
   -- the world is begun anew, with a radio from the front for each interface, and no refusal is known
@@ -201,7 +200,7 @@ module _ {D R : Type 0} (honest : D → Type 0) (reads : D → List ℕ) (may_le
     pub says : Says text what
     pub run : IsRun n what old new
     pub safely : what ≢ Stop
-        → GoesSafely honest reads may_leave moment left_since size stations faults old.world new.world
+        → GoesSafely disk radio old.world new.world
 
   -- texts are run one after the other, the first of which has this number
   abbrev pub AreRun : ℕ → List (List ℕ) → Standing D R → Standing D R → Type 0

@@ -119,13 +119,13 @@ fn checked<D: Disk, W: Write>(
     device: D,
     writer: &mut W,
 ) -> Result<D, (D, CheckFault)>
-    ensures read { IfOk result (λ left. IsRead D.honest D.size D.failed device left) }
-    ensures printed { D.honest device
-        → IfOk result (λ left. IsPrinted D.reads D.may_leave D.moment D.left_since
+    ensures read { IfOk result (λ left. IsRead D.model device left) }
+    ensures printed { D.model.honest device
+        → IfOk result (λ left. IsPrinted D.model
         (W.contents writer.old) (W.contents writer.new) device left) }
-    ensures refused { IfErr result (λ e. IsRefused D.honest D.size D.failed device e.0 e.1) }
-    ensures refused_honest { D.honest device
-        → IfErr result (λ e. IsHonestlyRefused D.reads D.may_leave D.moment D.left_since device e.0 e.1) }
+    ensures refused { IfErr result (λ e. IsRefused D.model device e.0 e.1) }
+    ensures refused_honest { D.model.honest device
+        → IfErr result (λ e. IsHonestlyRefused D.model device e.0 e.1) }
 {
     let (store, table) = match recover(alloc, device) {
         Ok(found) => found,
@@ -153,12 +153,12 @@ pub fn run_check<D: Disk + Drop, W: Write>(
     device: D,
     writer: &mut W,
 ) -> Result<D, CheckFault>
-    ensures read { IfOk result (λ left. IsRead D.honest D.size D.failed device left) }
-    ensures printed { D.honest device
-        → IfOk result (λ left. IsPrinted D.reads D.may_leave D.moment D.left_since
+    ensures read { IfOk result (λ left. IsRead D.model device left) }
+    ensures printed { D.model.honest device
+        → IfOk result (λ left. IsPrinted D.model
         (W.contents writer.old) (W.contents writer.new) device left) }
     ensures refused { IfErr result
-        (IsGivenUp D.honest D.reads D.may_leave D.moment D.left_since D.size D.failed device) }
+        (IsGivenUp D.model device) }
 {
     match checked(alloc, device, writer) {
         Ok(device) => Ok(device),

@@ -1,10 +1,6 @@
 //! A device that is made a store: `apd format STORE`.
-ghost use Rattle.std.specs.Prelude.{◌≡◌, ◌≢◌, ◌≤◌, ◌+◌, ◌⊎◌, ◌↔◌, ℕ, List, IfErr, IfOk, OnOk};
-ghost use Rattle.apd_base.specs.Failures.{HasRisen};
-ghost use Rattle.apd_base.specs.State.{empty_state};
-ghost use Rattle.apd_base.specs.declared.limits.TheConstants.{DEVICE_LENGTH};
-ghost use Rattle.apd_disk.specs.Disk.{LeavesOnly};
-ghost use Rattle.apd_store.specs.Image.{MayBeMade, Shows};
+ghost use Rattle.std.specs.Prelude.{IfErr, IfOk};
+ghost use Rattle.apd_script.specs.Formatting.{IsHonestlyNewStore, IsHonestlyNotTold, IsNewStore, IsNotTold};
 
 use apd_disk::Disk;
 use apd_store::{StoreFault, format};
@@ -35,30 +31,10 @@ pub fn run_format<D: Disk, W: Write>(
     device: D,
     writer: &mut W,
 ) -> Result<D, (D, FormatFault)>
-    ensures empty { D.honest device
-        → IfOk result (λ made. (image : List ℕ) → D.may_leave made image → Shows image empty_state) }
-    ensures empty_err { D.honest device
-        → IfErr result (λ e. e.1 ≡ FormatFault.Writer → (image : List ℕ) → D.may_leave e.0 image
-        → Shows image empty_state) }
-    ensures any_moment { D.honest device
-        → IfOk result (λ made. LeavesOnly D.moment D.left_since device made (MayBeMade (D.may_leave device))) }
-    ensures any_moment_err { D.honest device
-        → IfErr result (λ e. LeavesOnly D.moment D.left_since device e.0 (MayBeMade (D.may_leave device))) }
-    ensures calls { D.honest device → IfOk result (λ made. D.moment made ≤ D.moment device + 9) }
-    ensures calls_err { D.honest device → IfErr result (λ e. D.moment e.0 ≤ D.moment device + 9) }
-    ensures honest { IfOk result (λ made. D.honest device ↔ D.honest made) }
-    ensures honest_err { IfErr result (λ e. D.honest device ↔ D.honest e.0) }
-    ensures length { OnOk result (D.size device ≡ DEVICE_LENGTH) }
-    ensures not_a_store { IfErr result
-        (λ e. (e.1 ≡ FormatFault.Store StoreFault.NotAStore) ↔ (D.size device ≢ DEVICE_LENGTH)) }
-    ensures untouched { IfErr result (λ e. e.1 ≡ FormatFault.Store StoreFault.NotAStore → e.0 ≡ device) }
-    ensures only { IfErr result
-        (λ e. (e.1 ≡ FormatFault.Store StoreFault.NotAStore) ⊎ (e.1 ≡ FormatFault.Store StoreFault.Device)
-        ⊎ (e.1 ≡ FormatFault.Writer)) }
-    ensures device { IfErr result
-        (λ e. e.1 ≡ FormatFault.Store StoreFault.Device → HasRisen (D.failed device) (D.failed e.0)) }
-    ensures count { IfOk result (λ made. D.failed made ≡ D.failed device) }
-    ensures count_writer { IfErr result (λ e. e.1 ≡ FormatFault.Writer → D.failed e.0 ≡ D.failed device) }
+    ensures made { IfOk result (λ made. IsNewStore D.model device made) }
+    ensures made_honest { D.model.honest device → IfOk result (λ made. IsHonestlyNewStore D.model device made) }
+    ensures refused { IfErr result (λ e. IsNotTold D.model device e.0 e.1) }
+    ensures refused_honest { D.model.honest device → IfErr result (λ e. IsHonestlyNotTold D.model device e.0 e.1) }
 {
     let device = match format(alloc, device) {
         Ok(store) => store.into_device(),

@@ -18,22 +18,18 @@ use apd_radio::Radio;
 /// part of a script from one start to the next `stop`, or to its end.
 pub fn lines_without_a_stop_are_one_run<D: Disk, R: Radio>()
     ensures lines { (n : ℕ) (texts : List (List ℕ)) (old new : Standing D R) → HaveNoStop texts
-        → AreRun D.honest D.reads D.may_leave D.moment D.left_since D.size R.stations R.faults n texts old new
-        → HasGoneOn R.stations R.faults old.world new.world }
+        → AreRun D.model R.model n texts old new → HasGoneOn R.model old.world new.world }
     ensures part { (n : ℕ) (texts : List (List ℕ)) (old started new : Standing D R)
-        → Starts D.honest D.reads D.may_leave D.moment D.left_since D.size R.stations R.faults old started
-        → HaveNoStop texts
-        → AreRun D.honest D.reads D.may_leave D.moment D.left_since D.size R.stations R.faults n texts started new
-        → HasGoneOn R.stations R.faults old.world new.world }
+        → Starts D.model R.model old started → HaveNoStop texts → AreRun D.model R.model n texts started new
+        → HasGoneOn R.model old.world new.world }
 {}
 
 /// Whatever lines a script has, a `stop` among them: where its world was proper, as of an honest device, the one
 /// after them is. So what is proved of the steps from a proper world holds at each line.
 pub fn a_script_leaves_a_proper_world_proper<D: Disk, R: Radio>()
     ensures { (texts : List (List ℕ)) (w : AnyWorld D R) (radios : List R) (last : Standing D R)
-        → IsScriptRun D.honest D.reads D.may_leave D.moment D.left_since D.size R.stations R.faults texts w radios last
-        → IsProper D.honest D.reads D.may_leave D.size (durable_of w)
-        → IsProper D.honest D.reads D.may_leave D.size (durable_of last.world) }
+        → IsScriptRun D.model R.model texts w radios last → IsProper D.model (durable_of w)
+        → IsProper D.model (durable_of last.world) }
 {}
 
 /// A stop within a script, at any moment since a line began or since a start, leaves the table after a front of what was
@@ -42,16 +38,11 @@ pub fn a_script_leaves_a_proper_world_proper<D: Disk, R: Radio>()
 /// told is lost. At a `stop` itself, what it begins anew from is said where it is run.
 pub fn a_stop_within_a_script_loses_nothing_told<D: Disk, R: Radio>()
     ensures lines { (n : ℕ) (text : List ℕ) (texts : List (List ℕ)) (old new : Standing D R)
-        → HaveNoStop (text ∷ texts)
-        → AreRun D.honest D.reads D.may_leave D.moment D.left_since D.size R.stations R.faults n (text ∷ texts) old new
-        → GoesSafely D.honest D.reads D.may_leave D.moment D.left_since D.size R.stations R.faults old.world new.world }
+        → HaveNoStop (text ∷ texts) → AreRun D.model R.model n (text ∷ texts) old new
+        → GoesSafely D.model R.model old.world new.world }
     ensures part { (n : ℕ) (texts : List (List ℕ)) (old started new : Standing D R)
-        → Starts D.honest D.reads D.may_leave D.moment D.left_since D.size R.stations R.faults old started
-        → HaveNoStop texts
-        → AreRun D.honest D.reads D.may_leave D.moment D.left_since D.size R.stations R.faults n texts started new
-        → GoesSafely D.honest D.reads D.may_leave D.moment D.left_since D.size R.stations R.faults old.world new.world }
-    ensures spoken { (old new : AnyWorld D R)
-        → GoesSafely D.honest D.reads D.may_leave D.moment D.left_since D.size R.stations R.faults old new
-        → IsProper D.honest D.reads D.may_leave D.size (durable_of old)
-        → KeepsSpoken D.moment D.left_since R.stations R.faults old new }
+        → Starts D.model R.model old started → HaveNoStop texts → AreRun D.model R.model n texts started new
+        → GoesSafely D.model R.model old.world new.world }
+    ensures spoken { (old new : AnyWorld D R) → GoesSafely D.model R.model old new → IsProper D.model (durable_of old)
+        → KeepsSpoken D.model R.model old new }
 {}

@@ -32,7 +32,7 @@ fn blank_device(alloc: Global) -> Result<MemDisk, AllocError> {
 /// `World` where the device can't record its calls, and `NoMemory`.
 pub fn new_store(alloc: Global) -> Result<MemDisk, ScriptFault>
     ensures { IfOk result
-        (λ disk. (image : List ℕ) → ⟦<MemDisk as Disk>⟧.may_leave disk image → Shows image empty_state) }
+        (λ disk. (image : List ℕ) → ⟦<MemDisk as Disk>⟧.model.may_leave disk image → Shows image empty_state) }
 {
     match format(alloc, blank_device(alloc)?) {
         Ok(store) => Ok(store.into_device()),
@@ -80,15 +80,11 @@ fn run_from<D: Disk + Drop, R: Radio, I: BufRead + Drop, W: Write>(
     reader: I,
     writer: &mut W,
 ) -> Result<World<D, R>, ScriptFault>
-    ensures ok { IfOk result
-        (λ new. map bssid_of slots.items ≡ map (λ conf. conf.bssid) confs
-        → length spares.items ≡ STOPS * length confs
-        → IsRunOn D.honest D.reads D.may_leave D.moment D.left_since D.size R.stations R.faults
+    ensures ok { IfOk result (λ new. map bssid_of slots.items ≡ map (λ conf. conf.bssid) confs
+        → length spares.items ≡ STOPS * length confs → IsRunOn D.model R.model
         STOPS disk confs (I.remaining reader) new) }
-    ensures err { IfErr result
-        (λ why. map bssid_of slots.items ≡ map (λ conf. conf.bssid) confs
-        → length spares.items ≡ STOPS * length confs
-        → IsFaultOn D.honest D.reads D.may_leave D.moment D.left_since D.size R.stations R.faults
+    ensures err { IfErr result (λ why. map bssid_of slots.items ≡ map (λ conf. conf.bssid) confs
+        → length spares.items ≡ STOPS * length confs → IsFaultOn D.model R.model
         STOPS disk confs (I.remaining reader) why) }
 {
     let world = begun(alloc, disk, confs, slots, Moment(0))?;
@@ -108,12 +104,8 @@ pub fn run_on_store<D: Disk + Drop, I: BufRead + Drop, W: Write>(
     reader: I,
     writer: &mut W,
 ) -> Result<World<D, Sim>, ScriptFault>
-    ensures ok { IfOk result
-        (IsRunOn D.honest D.reads D.may_leave D.moment D.left_since D.size ⟦<Sim as Radio>⟧.stations
-        ⟦<Sim as Radio>⟧.faults STOPS disk confs (I.remaining reader)) }
-    ensures err { IfErr result
-        (IsFaultOn D.honest D.reads D.may_leave D.moment D.left_since D.size ⟦<Sim as Radio>⟧.stations
-        ⟦<Sim as Radio>⟧.faults STOPS disk confs (I.remaining reader)) }
+    ensures ok { IfOk result (IsRunOn D.model ⟦<Sim as Radio>⟧.model STOPS disk confs (I.remaining reader)) }
+    ensures err { IfErr result (IsFaultOn D.model ⟦<Sim as Radio>⟧.model STOPS disk confs (I.remaining reader)) }
 {
     let slots = slots_of(alloc, &confs)?;
     let spares = spares_for(alloc, &confs)?;

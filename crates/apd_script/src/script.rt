@@ -103,12 +103,8 @@ pub fn run_script<D: Disk + Drop, R: Radio, I: BufRead + Drop, W: Write>(
     writer: &mut W,
     spares: Vec<R>,
 ) -> Result<World<D, R>, ScriptFault>
-    ensures ends { IfOk result
-        (λ new. Ends D.honest D.reads D.may_leave D.moment D.left_since D.size R.stations R.faults
-        (I.remaining reader) spares.items world new) }
-    ensures fault { IfErr result
-        (IsFault D.honest D.reads D.may_leave D.moment D.left_since D.size R.stations R.faults
-        (I.remaining reader) spares.items world) }
+    ensures ends { IfOk result (λ new. Ends D.model R.model (I.remaining reader) spares.items world new) }
+    ensures fault { IfErr result (IsFault D.model R.model (I.remaining reader) spares.items world) }
 {
     let mut standing = Standing::begin(alloc, world, spares).gone_on(writer)?;
     let mut reader = reader.take(MAX_SCRIPT as u64 + 1);

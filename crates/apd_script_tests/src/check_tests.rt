@@ -104,7 +104,7 @@ fn zeros_of_another_length_are_no_store(rt: HostRuntime) -> Result<(), Fail> {
 }
 
 /// Checks a store with these bytes at a place.
-fn changed(alloc: Global, disk: &MemDisk, place: usize, bytes: &[u8]) -> Result<Check, Fail> {
+fn check_changed(alloc: Global, disk: &MemDisk, place: usize, bytes: &[u8]) -> Result<Check, Fail> {
     let mut image = Vec::from_slice(alloc, disk.bytes())?;
     for (behind, byte) in bytes.iter().enumerate() {
         if let Some(old) = image.get_mut(place.saturating_add(behind)) {
@@ -117,7 +117,7 @@ fn changed(alloc: Global, disk: &MemDisk, place: usize, bytes: &[u8]) -> Result<
 /// Checks a store with each byte of its front changed in turn.
 fn each_of_the_front(rt: &(impl Abort + AllocGlobal), disk: &MemDisk) -> Result<(), Fail> {
     for place in 0..64 {
-        let (fault, out) = changed(rt.alloc(), disk, place, &[7])?;
+        let (fault, out) = check_changed(rt.alloc(), disk, place, &[7])?;
         let (told, want) = if place < 8 {
             (NO_STORE, "")
         } else {
@@ -169,7 +169,7 @@ fn a_store_with_changed_bytes_is_checked(rt: HostRuntime) -> Result<(), Fail> {
         changed_to(142, b"\x01\x01\x00\x01\x00", DAMAGED, ""),
     ] {
         let place = row.place;
-        let (fault, out) = changed(rt.alloc(), &disk, place, row.bytes)?;
+        let (fault, out) = check_changed(rt.alloc(), &disk, place, row.bytes)?;
         assert_eq!(rt; fault, row.fault, "{place}");
         assert_eq!(rt; out.as_slice(), row.want.as_bytes(), "{place}");
     }

@@ -1,5 +1,5 @@
 //! Control commands as datagrams.
-ghost use Rattle.std.specs.Prelude.{◌≡◌, ◌≢◌, Some, IfOk, IfSome, OnOk, OnErr, IsSome, IsNone};
+ghost use Rattle.std.specs.Prelude.{◌≡◌, ◌≢◌, Some, Err, IfOk, IfSome, OnOk, OnErr, IsSome, IsNone};
 ghost use Rattle.std.specs.Option.{ForSome, option_map};
 
 use crate::senders::Senders;
@@ -35,7 +35,7 @@ pub struct ControlPort {
 }
 
 impl ControlPort {
-    ghost use Rattle.apd_serve.specs.Commands.{IsLocal};
+    ghost use Rattle.apd_serve.specs.Commands.{IsLocal, waiting};
 
     /// Opens the port. Port 0 is for tests: the system chooses one that is free, and nothing is dropped, since no
     /// datagram comes from port 0.
@@ -51,6 +51,25 @@ impl ControlPort {
             own: SocketAddr::new(IpAddr::V4(Ipv4Addr::new(127, 0, 0, 1)), port),
         })
     }
+
+    // Receives the next command, where none was received and not given. One of the port's own is dropped.
+    fn receive(&mut self) -> Result<(), PortFault>
+        ensures senders { self.new.senders ≡ self.old.senders }
+        ensures own { self.new.own ≡ self.old.own }
+        ensures given { OnOk result (IsNone self.new.datagrams) }
+        ensures foreign { IfSome (waiting self.old)
+            (λ waited. waited.0 ≢ self.old.own → OnOk result (waiting self.new ≡ Some waited)) }
+        ensures same { IfSome (waiting self.old)
+            (λ waited. IsSome self.new.received → OnOk result (waiting self.new ≡ Some waited)) }
+        ensures kept { IsSome (waiting self.old)
+            → OnErr result ((result ≡ Err PortFault.NoMemory) × (waiting self.new ≡ waiting self.old)) }
+    {
+        if self.received.is_some() {
+            return Ok(());
+        }
+        self.received = next_command(&mut self.datagrams, self.own)?;
+        Ok(())
+    }
 }
 
 // The next datagram, if one waits. One whose sender is this address is dropped.
@@ -62,6 +81,8 @@ fn next_command(
     ensures first { IfSome datagrams.old
         (λ waited. waited.0 ≢ own
         → IfOk result (λ got. option_map (λ command. (command.0, command.1.items)) got ≡ Some waited)) }
+    ensures same { IfSome datagrams.old
+        (λ waited. IfOk result (λ got. ForSome got (λ command. (command.0, command.1.items) ≡ waited))) }
     ensures given { OnOk result (IsNone datagrams.new) }
     ensures kept { IsSome datagrams.old
         → OnErr result ((result ≡ Err PortFault.NoMemory) × (datagrams.new ≡ datagrams.old)) }
@@ -93,9 +114,7 @@ impl Port for ControlPort {
             → OnErr result ((result ≡ Err PortFault.NoMemory) ⊎ (self.old.senders.given ≡ 2 ^ 64 - 1)) }
         ensures err { OnErr result (AreSame self.old.senders self.new.senders) }
     {
-        if self.received.is_none() {
-            self.received = next_command(&mut self.datagrams, self.own)?;
-        }
+        self.receive()?;
         let Some((sender, _)) = &self.received else {
             return Ok(None);
         };

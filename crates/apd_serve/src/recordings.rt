@@ -1,14 +1,12 @@
 //! The files of recordings.
 use crate::identity::Identity;
 use crate::running::{RunFault, cannot_read};
+use apd_store::MAGIC;
 use std::alloc::AllocError;
 use std::fs::File;
 use std::io::{self, ErrorKind};
 use std::os::unix::fs::{FileExt, OpenOptionsExt};
 use std::rt::Files;
-
-/// What a store begins with. No such file becomes a recording.
-const STORE_HEAD: [u8; 8] = *b"RAPSTOR1";
 
 /// Who may read and write a recording that is made: its owner alone.
 const MODE: u32 = 0o600;
@@ -20,11 +18,11 @@ pub(crate) struct RecordingFile {
     file: File,
 }
 
-// Whether a file begins as a store does.
+// Whether a file begins as a store does. No such file becomes a recording.
 fn begins_as_a_store(file: &File) -> io::Result<bool> {
-    let mut head = [0u8; STORE_HEAD.len()];
+    let mut head = [0u8; MAGIC.len()];
     match file.read_exact_at(&mut head, 0) {
-        Ok(()) => Ok(head == STORE_HEAD),
+        Ok(()) => Ok(head == MAGIC),
         Err(error) if error.kind() == ErrorKind::UnexpectedEof => Ok(false),
         Err(error) => Err(error),
     }

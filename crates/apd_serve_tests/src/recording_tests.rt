@@ -1,11 +1,9 @@
-use crate::running_tests::{CONF, new_store, refusal, told};
+use crate::running_tests::{CONF, new_store, ran_with, refusal};
 use crate::talk::free_ports;
 use apd_conf::{Conf, Confs, FileName};
 use apd_disk::FileDisk;
-use apd_serve::{Site, run};
 use log::Log;
 use std::fs::{self, File};
-use std::io;
 use std::net::{Ipv4Addr, Net, UdpSocket};
 use std::os::unix::fs::{PermissionsExt, symlink};
 use std::rt::Files;
@@ -96,13 +94,7 @@ fn no_recording_is_made_over_a_list_file(rt: HostRuntime) -> Result<(), Fail> {
     let Ok(confs) = Confs::new(list) else {
         return Err(Fail::new("no configurations"));
     };
-    let site = Site {
-        store: "listed_store",
-        port: free_ports(&rt, 1)?,
-        recordings: Some("listed"),
-        configurations: &[],
-    };
-    let told = told(&rt, run(&rt, confs, &site, io::empty()))?;
+    let (told, _, _) = ran_with(&rt, "listed_store", confs, Some("listed"), &[])?;
     assert_eq!(rt; told.as_str(), "cannot read listed.0");
     let left = fs::read(&rt, "listed.0")?;
     assert_eq!(rt; left.as_slice(), b"02:00:00:00:00:ac\n".as_slice());

@@ -1,4 +1,6 @@
 //! A radio that lacks memory once.
+ghost use Rattle.apd_radio.specs.Model.{inside};
+
 use apd_base::Addr;
 use apd_radio::{Radio, RadioFault};
 
@@ -16,9 +18,7 @@ impl<R: Radio> Short<R> {
 }
 
 impl<R: Radio> Radio for Short<R> {
-    ghost stations = { λ radio. R.stations radio.inner };
-
-    ghost faults = { λ radio. R.faults radio.inner };
+    ghost model = { inside R.model (λ radio. radio.inner) };
 
     ghost frames = { λ radio. R.frames radio.inner };
 

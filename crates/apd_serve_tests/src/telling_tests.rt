@@ -3,7 +3,7 @@ use crate::running_tests::{confs, new_store, ran_with};
 use crate::talk::{CONTROL, Datagram, Line, free_ports};
 use apd_base::{Addr, Bssid};
 use apd_conf::{Conf, Confs, InterfaceName};
-use apd_serve::{Site, run};
+use apd_serve::{RunFault, Site, run};
 use log::Log;
 use std::alloc::Global;
 use std::fs::{self, File};
@@ -46,6 +46,9 @@ fn the_start_and_the_entries_are_told(rt: HostRuntime) -> Result<(), Fail> {
 /// A configuration whose interface has this name, and whose BSSID ends in this number.
 fn conf(alloc: Global, interface: &str, number: u8) -> Result<Conf, Fail> {
     let mut conf = Conf::built_in(alloc)?;
+    if !InterfaceName::is_name(interface.as_bytes()) {
+        return Err(Fail::new("no name of an interface"));
+    }
     conf.interface = InterfaceName::new(interface, alloc)?;
     conf.bssid = Bssid(Addr([2, 0, 0, 0, 0, number]));
     Ok(conf)
@@ -86,59 +89,82 @@ fn a_ninth_bssid_of_a_store_is_told(rt: HostRuntime) -> Result<(), Fail> {
 
 /// An input during which a store's file loses its name, and goes on for a while.
 #[derive(Drop)]
-struct Renaming<'a, R> {
-    rt: &'a R,
-    name: &'a str,
-    gone: Option<&'a str>,
+struct Renaming<R> {
+    rt: R,
+    name: &'static str,
+    gone: Option<&'static str>,
 }
 
-impl<R: Files<File = File> + Clock> Read for Renaming<'_, R> {
+impl<R: Files<File = File> + Clock> Read for Renaming<R> {
     fn read(&mut self, _buf: &mut [u8]) -> io::Result<usize> {
         match self.gone {
-            Some(other) => fs::rename(self.rt, self.name, other)?,
-            None => fs::remove_file(self.rt, self.name)?,
+            Some(other) => fs::rename(&self.rt, self.name, other)?,
+            None => fs::remove_file(&self.rt, self.name)?,
         }
-        sleep(self.rt, Duration::from_millis(WATCHED));
+        sleep(&self.rt, Duration::from_millis(WATCHED));
         Ok(0)
     }
 }
 
-/// What is told of a store whose file gets another name while it is served, or is removed.
-fn told_of<
-    R: Files<File = File> + Net + Wait + Threads + Clock + AllocGlobal + Log + Sync + Copy + Drop,
->(rt: R, name: &str, gone: Option<&str>) -> Result<String, Fail>
+/// What `run` of a store at this port answers.
+fn served<
+    R: Files<File = File> + Net + Wait + Threads + Clock + AllocGlobal + Log + Sync,
+    B: Read + Drop,
+>(
+    rt: &R,
+    store: &str,
+    recordings: Option<&str>,
+    confs: Confs,
+    port: u16,
+    reader: B,
+) -> Result<u64, RunFault>
 where
     R::Dir: Send + Sync,
 {
-    new_store(&rt, name)?;
-    let hearing = Hearing::new(rt, rt.alloc());
     let site = Site {
-        store: name,
-        port: free_ports(&rt, 1)?,
-        recordings: None,
+        store,
+        port,
+        recordings,
         configurations: &[],
     };
-    let reader = Renaming {
-        rt: &rt,
-        name,
-        gone,
-    };
-    match run(&hearing, confs(&rt, 1)?, &site, reader) {
-        Ok(_) => hearing.heard(),
-        Err(_) => Err(Fail::new("it didn't serve")),
+    run(rt, confs, &site, reader)
+}
+
+impl<R> Renaming<R> {
+    fn new(rt: R, name: &'static str, gone: Option<&'static str>) -> Renaming<R> {
+        Renaming { rt, name, gone }
     }
 }
 
 #[test]
-fn a_store_that_lost_its_name_is_told(rt: HostRuntime) -> Result<(), Fail> {
-    let told = told_of(rt, "removed_store", None)?;
+fn a_store_that_is_removed_is_told(rt: HostRuntime) -> Result<(), Fail> {
+    let name = "removed_store";
+    new_store(&rt, name)?;
+    let hearing = Hearing::new(rt, rt.alloc());
+    let port = free_ports(&rt, 1)?;
+    let confs = confs(&rt, 1)?;
+    let reader = Renaming::new(rt, name, None);
+    let answer = served(&hearing, name, None, confs, port, reader);
+    assert!(rt; answer.is_ok());
     let line =
         "[ERROR apd] removed_store was removed: what the store holds, and what is told from now on, is lost when this ends\n";
-    assert_eq!(rt; told.as_str().matches(line).count(), 1);
-    let told = told_of(rt, "moved_store", Some("store_elsewhere"))?;
+    assert_eq!(rt; hearing.heard()?.as_str().matches(line).count(), 1);
+    Ok(())
+}
+
+#[test]
+fn a_store_that_gets_another_name_is_told(rt: HostRuntime) -> Result<(), Fail> {
+    let name = "moved_store";
+    new_store(&rt, name)?;
+    let hearing = Hearing::new(rt, rt.alloc());
+    let port = free_ports(&rt, 1)?;
+    let confs = confs(&rt, 1)?;
+    let reader = Renaming::new(rt, name, Some("store_elsewhere"));
+    let answer = served(&hearing, name, None, confs, port, reader);
+    assert!(rt; answer.is_ok());
     let line =
         "[ERROR apd] moved_store is not the store that is served any more: a start from moved_store knows nothing of what is told from now on\n";
-    assert_eq!(rt; told.as_str().matches(line).count(), 1);
+    assert_eq!(rt; hearing.heard()?.as_str().matches(line).count(), 1);
     fs::remove_file(&rt, "store_elsewhere")?;
     Ok(())
 }

@@ -2,30 +2,31 @@
 use Rattle.std.specs.Prelude.{◌≡◌, ◌≢◌, ◌≤◌, ◌⊎◌, ◌↔◌, ℕ, true, false, Result, Err, OnOk}
 use Rattle.apd_base.specs.Failures.{HasRisen}
 use Rattle.apd_mlme.specs.declared.decision.Out.{Out}
+use Rattle.apd_radio.specs.Model.{RadioModel}
 use Rattle.apd_slot.specs.Slots.{bssid_of, is_up_of, radio_of, wanted_of, IsExact}
-use Rattle.apd_slot.specs.Wanted.{Stations, wanted_by, installed_by, up_by, IsFrame, IsText, IsRemoval}
+use Rattle.apd_slot.specs.Wanted.{wanted_by, installed_by, up_by, IsFrame, IsText, IsRemoval}
 use Rattle.apd_slot.specs.declared.slot.Slot.{Slot}
 use Rattle.apd_slot.specs.declared.slot.SlotFault.{SlotFault}
 use Rattle.apd_slot.specs.declared.slot.SlotFault.TheVariants.{WentDown, Lost, NotMine, NoMemory}
 
 -- the slot was given the out, and answered so
-pub record IsGivenOut {R : Type 0} (stations : R → Stations) (faults : R → ℕ) (out : Out)
+pub record IsGivenOut {R : Type 0} (radio : RadioModel R) (out : Out)
     (answer : Result (Unit {0}) SlotFault) (old new : Slot R) : Type 0 where
   pub bssid : bssid_of new ≡ bssid_of old
-  pub exact : IsExact stations old → IsExact stations new
+  pub exact : IsExact radio old → IsExact radio new
   pub wanted : wanted_of new ≡ wanted_by out answer (wanted_of old)
-  pub installed : stations (radio_of new) ≡ installed_by out answer (is_up_of old) (stations (radio_of old))
+  pub installed : radio.stations (radio_of new) ≡ installed_by out answer (is_up_of old) (radio.stations (radio_of old))
   pub up : is_up_of new ≡ up_by answer (is_up_of old)
   pub down : answer ≡ Err WentDown
-      → (is_up_of old ≡ true) × HasRisen (faults (radio_of old)) (faults (radio_of new))
+      → (is_up_of old ≡ true) × HasRisen (radio.faults (radio_of old)) (radio.faults (radio_of new))
   pub lost : answer ≡ Err Lost
-      → IsFrame out × ((is_up_of old ≡ false) ⊎ HasRisen (faults (radio_of old)) (faults (radio_of new)))
+      → IsFrame out × ((is_up_of old ≡ false) ⊎ HasRisen (radio.faults (radio_of old)) (radio.faults (radio_of new)))
   pub silent : IsFrame out → is_up_of old ≡ false → answer ≡ Err Lost
   pub frame : IsFrame out → answer ≢ Err WentDown
   pub not_mine : (answer ≡ Err NotMine) ↔ IsText out
   pub text : IsText out → new ≡ old
   pub memory : IsRemoval out → answer ≢ Err NoMemory
   pub asleep : is_up_of old ≡ false → radio_of new ≡ radio_of old
-  pub stays : OnOk answer (faults (radio_of new) ≡ faults (radio_of old))
-  pub short : answer ≡ Err NoMemory → faults (radio_of new) ≡ faults (radio_of old)
-  pub count : faults (radio_of old) ≤ faults (radio_of new)
+  pub stays : OnOk answer (radio.faults (radio_of new) ≡ radio.faults (radio_of old))
+  pub short : answer ≡ Err NoMemory → radio.faults (radio_of new) ≡ radio.faults (radio_of old)
+  pub count : radio.faults (radio_of old) ≤ radio.faults (radio_of new)

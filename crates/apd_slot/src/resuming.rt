@@ -25,12 +25,12 @@ pub fn associated(alloc: Global, table: &Table, bssid: Bssid) -> Result<Identifi
 
 /// Installs these stations, one by one, into a radio that has none.
 pub fn install_all<R: Radio>(radio: &mut R, stations: &Identifiers) -> Result<(), RadioFault>
-    requires { R.stations radio.old ≡ map.empty }
-    ensures ok { OnOk result (R.stations radio.new ≡ stations.now) }
+    requires { R.model.stations radio.old ≡ map.empty }
+    ensures ok { OnOk result (R.model.stations radio.new ≡ stations.now) }
     ensures kept { R.frames radio.new ≡ R.frames radio.old }
-    ensures stays { OnOk result (R.faults radio.new ≡ R.faults radio.old) }
-    ensures memory { result ≡ Err RadioFault.NoMemory → R.faults radio.new ≡ R.faults radio.old }
-    ensures device { result ≡ Err RadioFault.Device → HasRisen (R.faults radio.old) (R.faults radio.new) }
+    ensures stays { OnOk result (R.model.faults radio.new ≡ R.model.faults radio.old) }
+    ensures memory { result ≡ Err RadioFault.NoMemory → R.model.faults radio.new ≡ R.model.faults radio.old }
+    ensures device { result ≡ Err RadioFault.Device → HasRisen (R.model.faults radio.old) (R.model.faults radio.new) }
 {
     for (addr, aid) in stations.rows() {
         radio.install(*addr, *aid)?;

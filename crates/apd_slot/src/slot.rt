@@ -53,9 +53,9 @@ impl<R: Radio> Slot<R> {
     pub fn new(alloc: Global, radio: R, bssid: Bssid) -> Slot<R>
         ensures up { result.up ≡ true }
         ensures wanted { result.wanted ≡ map.empty }
-        ensures installed { R.stations result.radio ≡ map.empty }
+        ensures installed { R.model.stations result.radio ≡ map.empty }
         ensures frames { R.frames result.radio ≡ R.frames radio }
-        ensures failures { R.faults result.radio ≡ R.faults radio }
+        ensures failures { R.model.faults result.radio ≡ R.model.faults radio }
         ensures bssid { result.bssid ≡ bssid }
     {
         let mut radio = radio;
@@ -91,7 +91,7 @@ impl<R: Radio> Slot<R> {
 
     /// The identifier under which a station is installed. It takes no memory.
     pub fn installed(&self, addr: Addr) -> Option<u16>
-        ensures { result ≡ map.get (R.stations self.now.radio) addr }
+        ensures { result ≡ map.get (R.model.stations self.now.radio) addr }
     {
         self.radio.installed(addr)
     }
@@ -104,11 +104,11 @@ impl<R: Radio> Slot<R> {
             (λ got. Polls (R.frames self.old.radio) (option_map (λ frame. frame.items) got)
             (R.frames self.new.radio)) }
         ensures unknown { OnErr result ((R.frames self.old.radio ≡ None) × (R.frames self.new.radio ≡ None)) }
-        ensures installed { R.stations self.new.radio ≡ R.stations self.old.radio }
-        ensures stays { OnOk result (R.faults self.new.radio ≡ R.faults self.old.radio) }
-        ensures short { result ≡ Err RadioFault.NoMemory → R.faults self.new.radio ≡ R.faults self.old.radio }
-        ensures device { result ≡ Err RadioFault.Device → HasRisen (R.faults self.old.radio) (R.faults self.new.radio) }
-        ensures count { R.faults self.old.radio ≤ R.faults self.new.radio }
+        ensures installed { R.model.stations self.new.radio ≡ R.model.stations self.old.radio }
+        ensures stays { OnOk result (R.model.faults self.new.radio ≡ R.model.faults self.old.radio) }
+        ensures short { result ≡ Err RadioFault.NoMemory → R.model.faults self.new.radio ≡ R.model.faults self.old.radio }
+        ensures device { result ≡ Err RadioFault.Device → HasRisen (R.model.faults self.old.radio) (R.model.faults self.new.radio) }
+        ensures count { R.model.faults self.old.radio ≤ R.model.faults self.new.radio }
         ensures wanted { self.new.wanted ≡ self.old.wanted }
         ensures up { self.new.up ≡ self.old.up }
         ensures bssid { self.new.bssid ≡ self.old.bssid }
@@ -124,7 +124,7 @@ impl<R: Radio> Slot<R> {
     /// Errors: as said; `NoMemory`, which leaves all as it was, so that the out can be given again. `Remove`
     /// and a text take no memory.
     pub fn apply(&mut self, out: &Out) -> Result<(), SlotFault>
-        ensures given { IsGivenOut R.stations R.faults out.now result self.old self.new }
+        ensures given { IsGivenOut R.model out.now result self.old self.new }
         ensures frames { R.frames self.new.radio ≡ R.frames self.old.radio }
     {
         match out {
@@ -138,19 +138,19 @@ impl<R: Radio> Slot<R> {
     fn install(&mut self, addr: Addr, aid: u16) -> Result<(), SlotFault>
         ensures wanted { OnOk result (self.new.wanted ≡ map.insert self.old.wanted addr aid) }
         ensures installed { OnOk result (self.old.up ≡ true
-            → R.stations self.new.radio ≡ map.insert (R.stations self.old.radio) addr aid) }
+            → R.model.stations self.new.radio ≡ map.insert (R.model.stations self.old.radio) addr aid) }
         ensures asleep { self.old.up ≡ false → self.new.radio ≡ self.old.radio }
-        ensures failed { OnErr result (R.stations self.new.radio ≡ R.stations self.old.radio) }
+        ensures failed { OnErr result (R.model.stations self.new.radio ≡ R.model.stations self.old.radio) }
         ensures up { OnOk result (self.new.up ≡ self.old.up) }
         ensures down { result ≡ Err SlotFault.WentDown
             → (self.old.up ≡ true) × (self.new.up ≡ false) × (self.new.wanted ≡ map.insert self.old.wanted addr aid)
-            × HasRisen (R.faults self.old.radio) (R.faults self.new.radio) }
+            × HasRisen (R.model.faults self.old.radio) (R.model.faults self.new.radio) }
         ensures memory { result ≡ Err SlotFault.NoMemory
             → (self.new.up ≡ self.old.up) × (self.new.wanted ≡ self.old.wanted) }
         ensures errors { IfErr result (λ fault. (fault ≡ SlotFault.WentDown) ⊎ (fault ≡ SlotFault.NoMemory)) }
-        ensures stays { OnOk result (R.faults self.new.radio ≡ R.faults self.old.radio) }
-        ensures short { result ≡ Err SlotFault.NoMemory → R.faults self.new.radio ≡ R.faults self.old.radio }
-        ensures count { R.faults self.old.radio ≤ R.faults self.new.radio }
+        ensures stays { OnOk result (R.model.faults self.new.radio ≡ R.model.faults self.old.radio) }
+        ensures short { result ≡ Err SlotFault.NoMemory → R.model.faults self.new.radio ≡ R.model.faults self.old.radio }
+        ensures count { R.model.faults self.old.radio ≤ R.model.faults self.new.radio }
         ensures same { (R.frames self.new.radio ≡ R.frames self.old.radio) × (self.new.bssid ≡ self.old.bssid) }
     {
         let before = self.wanted.get(addr);
@@ -190,15 +190,15 @@ impl<R: Radio> Slot<R> {
     fn remove(&mut self, addr: Addr) -> Result<(), SlotFault>
         ensures wanted { self.new.wanted ≡ map.remove self.old.wanted addr }
         ensures installed { OnOk result (self.old.up ≡ true
-            → R.stations self.new.radio ≡ map.remove (R.stations self.old.radio) addr) }
+            → R.model.stations self.new.radio ≡ map.remove (R.model.stations self.old.radio) addr) }
         ensures asleep { self.old.up ≡ false → self.new.radio ≡ self.old.radio }
-        ensures failed { OnErr result (R.stations self.new.radio ≡ R.stations self.old.radio) }
+        ensures failed { OnErr result (R.model.stations self.new.radio ≡ R.model.stations self.old.radio) }
         ensures up { OnOk result (self.new.up ≡ self.old.up) }
         ensures down { IfErr result
             (λ fault. (fault ≡ SlotFault.WentDown) × (self.old.up ≡ true) × (self.new.up ≡ false)
-            × HasRisen (R.faults self.old.radio) (R.faults self.new.radio)) }
-        ensures stays { OnOk result (R.faults self.new.radio ≡ R.faults self.old.radio) }
-        ensures count { R.faults self.old.radio ≤ R.faults self.new.radio }
+            × HasRisen (R.model.faults self.old.radio) (R.model.faults self.new.radio)) }
+        ensures stays { OnOk result (R.model.faults self.new.radio ≡ R.model.faults self.old.radio) }
+        ensures count { R.model.faults self.old.radio ≤ R.model.faults self.new.radio }
         ensures same { (R.frames self.new.radio ≡ R.frames self.old.radio) × (self.new.bssid ≡ self.old.bssid) }
     {
         self.wanted.remove(addr);
@@ -213,17 +213,17 @@ impl<R: Radio> Slot<R> {
     }
 
     fn transmit(&mut self, frame: &[u8]) -> Result<(), SlotFault>
-        ensures installed { R.stations self.new.radio ≡ R.stations self.old.radio }
+        ensures installed { R.model.stations self.new.radio ≡ R.model.stations self.old.radio }
         ensures same { (self.new.up ≡ self.old.up) × (self.new.wanted ≡ self.old.wanted)
             × (self.new.bssid ≡ self.old.bssid) × (R.frames self.new.radio ≡ R.frames self.old.radio) }
         ensures lost { result ≡ Err SlotFault.Lost
-            → (self.old.up ≡ false) ⊎ HasRisen (R.faults self.old.radio) (R.faults self.new.radio) }
+            → (self.old.up ≡ false) ⊎ HasRisen (R.model.faults self.old.radio) (R.model.faults self.new.radio) }
         ensures silent { self.old.up ≡ false → result ≡ Err SlotFault.Lost }
         ensures asleep { self.old.up ≡ false → self.new.radio ≡ self.old.radio }
         ensures errors { IfErr result (λ fault. (fault ≡ SlotFault.Lost) ⊎ (fault ≡ SlotFault.NoMemory)) }
-        ensures stays { OnOk result (R.faults self.new.radio ≡ R.faults self.old.radio) }
-        ensures short { result ≡ Err SlotFault.NoMemory → R.faults self.new.radio ≡ R.faults self.old.radio }
-        ensures count { R.faults self.old.radio ≤ R.faults self.new.radio }
+        ensures stays { OnOk result (R.model.faults self.new.radio ≡ R.model.faults self.old.radio) }
+        ensures short { result ≡ Err SlotFault.NoMemory → R.model.faults self.new.radio ≡ R.model.faults self.old.radio }
+        ensures count { R.model.faults self.old.radio ≤ R.model.faults self.new.radio }
     {
         if !self.up {
             return Err(SlotFault::Lost);
@@ -242,13 +242,13 @@ impl<R: Radio> Slot<R> {
     pub fn resume(&mut self, alloc: Global, table: &Table) -> Result<(), SlotFault>
         ensures up { IsTrue self.new.up ↔ IsOk result }
         ensures wanted { OnOk result (self.new.wanted ≡ installed_rows table.now self.old.bssid) }
-        ensures installed { OnOk result (R.stations self.new.radio ≡ installed_rows table.now self.old.bssid) }
-        ensures exact { IsExact R.stations self.new }
+        ensures installed { OnOk result (R.model.stations self.new.radio ≡ installed_rows table.now self.old.bssid) }
+        ensures exact { IsExact R.model self.new }
         ensures failed { OnErr result (self.new.wanted ≡ self.old.wanted) }
         ensures errors { IfErr result (λ fault. (fault ≡ SlotFault.WentDown) ⊎ (fault ≡ SlotFault.NoMemory)) }
-        ensures down { result ≡ Err SlotFault.WentDown → HasRisen (R.faults self.old.radio) (R.faults self.new.radio) }
-        ensures stays { OnOk result (R.faults self.new.radio ≡ R.faults self.old.radio) }
-        ensures short { result ≡ Err SlotFault.NoMemory → R.faults self.new.radio ≡ R.faults self.old.radio }
+        ensures down { result ≡ Err SlotFault.WentDown → HasRisen (R.model.faults self.old.radio) (R.model.faults self.new.radio) }
+        ensures stays { OnOk result (R.model.faults self.new.radio ≡ R.model.faults self.old.radio) }
+        ensures short { result ≡ Err SlotFault.NoMemory → R.model.faults self.new.radio ≡ R.model.faults self.old.radio }
         ensures frames { R.frames self.new.radio ≡ R.frames self.old.radio }
         ensures bssid { self.new.bssid ≡ self.old.bssid }
     {
@@ -277,20 +277,20 @@ impl<R: Radio> Slot<R> {
     pub fn replace(&mut self, radio: R) -> Result<R, (R, SlotFault)>
         ensures up { IsTrue self.new.up ↔ IsOk result }
         ensures wanted { self.new.wanted ≡ self.old.wanted }
-        ensures installed { OnOk result (R.stations self.new.radio ≡ self.old.wanted) }
-        ensures exact { IsExact R.stations self.new }
+        ensures installed { OnOk result (R.model.stations self.new.radio ≡ self.old.wanted) }
+        ensures exact { IsExact R.model self.new }
         ensures other { OnOk result
-            ((R.frames self.new.radio ≡ R.frames radio) × (R.faults self.new.radio ≡ R.faults radio)) }
+            ((R.frames self.new.radio ≡ R.frames radio) × (R.model.faults self.new.radio ≡ R.model.faults radio)) }
         ensures own { IfOk result
-            (λ old. (R.frames old ≡ R.frames self.old.radio) × (R.faults old ≡ R.faults self.old.radio)) }
-        ensures emptied { IfOk result (λ old. R.stations old ≡ map.empty) }
+            (λ old. (R.frames old ≡ R.frames self.old.radio) × (R.model.faults old ≡ R.model.faults self.old.radio)) }
+        ensures emptied { IfOk result (λ old. R.model.stations old ≡ map.empty) }
         ensures kept { OnErr result (self.new.radio ≡ self.old.radio) }
         ensures back { IfErr result
-            (λ failed. (R.stations failed.0 ≡ map.empty) × (R.frames failed.0 ≡ R.frames radio)) }
+            (λ failed. (R.model.stations failed.0 ≡ map.empty) × (R.frames failed.0 ≡ R.frames radio)) }
         ensures errors { IfErr result (λ failed. (failed.1 ≡ SlotFault.WentDown) ⊎ (failed.1 ≡ SlotFault.NoMemory)) }
         ensures down { IfErr result
-            (λ failed. failed.1 ≡ SlotFault.WentDown → HasRisen (R.faults radio) (R.faults failed.0)) }
-        ensures short { IfErr result (λ failed. failed.1 ≡ SlotFault.NoMemory → R.faults failed.0 ≡ R.faults radio) }
+            (λ failed. failed.1 ≡ SlotFault.WentDown → HasRisen (R.model.faults radio) (R.model.faults failed.0)) }
+        ensures short { IfErr result (λ failed. failed.1 ≡ SlotFault.NoMemory → R.model.faults failed.0 ≡ R.model.faults radio) }
         ensures bssid { self.new.bssid ≡ self.old.bssid }
     {
         let mut radio = radio;

@@ -3,7 +3,7 @@ use Rattle.std.proofs.Common.{◌≡◌, ◌≢◌, ◌≤◌, ◌<◌, ◌⊎�
 use Rattle.std.specs.Prelude.{◌↔◌, Result, Ok, Err, OnOk, OnErr, IfOk, IsOk, is_ok, MatchResult}
 use Rattle.std.proofs.lemmas.Bool.{false≢true}
 use Rattle.apd_base.specs.State.{State}
-use Rattle.apd_disk.specs.Disk.{Elapses, LeavesOnly}
+use Rattle.apd_disk.specs.Disk.{Elapses, LeavesOnly, DiskModel}
 use Rattle.apd_disk.proofs.Moments.{started, one_call}
 use Rattle.apd_store.specs.Commit.{HasFailed, MayShow}
 use Rattle.apd_store.specs.Image.{Shows}
@@ -48,35 +48,35 @@ made_or_refused : (made : Result (Unit {0}) StoreFault) → OnErr made ((made �
 made_or_refused (Ok u) only = inl (λ e. cc)
 made_or_refused (Err e) only = ⊎_elim (λ d. inl (λ f. let x : Err Device ≡ Err Refused = sym d ∙ f in cc)) (λ d. inr d) only
 
-module _ {D : Type 0} (moment : D → ℕ) (left_since : D → ℕ → List ℕ → Type 0) where
+module _ {D : Type 0} (disk : DiskModel D) where
   -- a write to a half, which is refused where it lies outside
   pub write_run : (made : Result (Unit {0}) StoreFault) (old new : D) (P : List ℕ → Type 0) → OnErr made ((made ≡ Err Device) ⊎ (made ≡ Err Refused)) → (made ≡ Err Refused → new ≡ old)
-      → (made ≢ Err Refused → Elapses (moment old) (moment new) (left_since old) (left_since new))
-      → (made ≢ Err Refused → (c : List ℕ) → left_since new (moment old) c → P c) → ((c : List ℕ) → left_since old (moment old) c → P c) → LeavesOnly moment left_since old new P
+      → (made ≢ Err Refused → Elapses (disk.moment old) (disk.moment new) (disk.left_since old) (disk.left_since new))
+      → (made ≢ Err Refused → (c : List ℕ) → disk.left_since new (disk.moment old) c → P c) → ((c : List ℕ) → disk.left_since old (disk.moment old) c → P c) → LeavesOnly disk old new P
   write_run made old new P only same time during here = ⊎_elim
-      (λ was. one_call moment left_since old new P (time was) (during was))
-      (λ was. subst (λ (d : D). LeavesOnly moment left_since old d P) (sym (same was)) (started moment left_since old P here))
+      (λ was. one_call disk old new P (time was) (during was))
+      (λ was. subst (λ (d : D). LeavesOnly disk old d P) (sym (same was)) (started disk old P here))
       (made_or_refused made only)
 
   -- what a call that failed leaves
-  pub leaves_stuck : (may_leave : D → List ℕ → Type 0) (old : D) (new : Store D) (calls : ℕ) (state after : State) → ((t : ℕ) (c : List ℕ) → t ≤ moment new.device → may_leave new.device c → left_since new.device t c)
-      → LeavesOnly moment left_since old new.device (MayShow calls state after) → new.phase ≡ Failed → HasFailed may_leave new state after
-  leaves_stuck may_leave old new calls state after counts run failed = record {
+  pub leaves_stuck : (old : D) (new : Store D) (calls : ℕ) (state after : State) → ((t : ℕ) (c : List ℕ) → t ≤ disk.moment new.device → disk.may_leave new.device c → disk.left_since new.device t c)
+      → LeavesOnly disk old new.device (MayShow calls state after) → new.phase ≡ Failed → HasFailed disk new state after
+  leaves_stuck old new calls state after counts run failed = record {
     phase = failed;
-    shows = λ c left. ⊎_elim (λ shown. inl shown) (λ late. inr late.1) (run.each c (counts (moment old) c run.later left));
+    shows = λ c left. ⊎_elim (λ shown. inl shown) (λ late. inr late.1) (run.each c (counts (disk.moment old) c run.later left));
   }
 
-  pub leaves_stuck_early : (may_leave : D → List ℕ → Type 0) (old : D) (new : Store D) (calls : ℕ) (state after : State) → ((t : ℕ) (c : List ℕ) → t ≤ moment new.device → may_leave new.device c → left_since new.device t c)
-      → LeavesOnly moment left_since old new.device (MayShow calls state after) → 2 < calls → new.phase ≡ Failed → HasFailed may_leave new state state
-  leaves_stuck_early may_leave old new calls state after counts run early failed = record {
+  pub leaves_stuck_early : (old : D) (new : Store D) (calls : ℕ) (state after : State) → ((t : ℕ) (c : List ℕ) → t ≤ disk.moment new.device → disk.may_leave new.device c → disk.left_since new.device t c)
+      → LeavesOnly disk old new.device (MayShow calls state after) → 2 < calls → new.phase ≡ Failed → HasFailed disk new state state
+  leaves_stuck_early old new calls state after counts run early failed = record {
     phase = failed;
-    shows = λ c left. ⊎_elim (λ shown. inl shown) (λ late. absurd (omega (arith, late.0, early))) (run.each c (counts (moment old) c run.later left));
+    shows = λ c left. ⊎_elim (λ shown. inl shown) (λ late. absurd (omega (arith, late.0, early))) (run.each c (counts (disk.moment old) c run.later left));
   }
 
   -- the same where each image shows one state
-  pub leaves_stuck_shown : (may_leave : D → List ℕ → Type 0) (old : D) (new : Store D) (state : State) → ((t : ℕ) (c : List ℕ) → t ≤ moment new.device → may_leave new.device c → left_since new.device t c)
-      → LeavesOnly moment left_since old new.device (λ c. Shows c state) → new.phase ≡ Failed → HasFailed may_leave new state state
-  leaves_stuck_shown may_leave old new state counts run failed = record {
+  pub leaves_stuck_shown : (old : D) (new : Store D) (state : State) → ((t : ℕ) (c : List ℕ) → t ≤ disk.moment new.device → disk.may_leave new.device c → disk.left_since new.device t c)
+      → LeavesOnly disk old new.device (λ c. Shows c state) → new.phase ≡ Failed → HasFailed disk new state state
+  leaves_stuck_shown old new state counts run failed = record {
     phase = failed;
-    shows = λ c left. inl (run.each c (counts (moment old) c run.later left));
+    shows = λ c left. inl (run.each c (counts (disk.moment old) c run.later left));
   }

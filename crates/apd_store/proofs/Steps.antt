@@ -5,7 +5,7 @@ use Rattle.apd_base.specs.State.{State}
 use Rattle.apd_record.specs.Record.{records_of}
 use Rattle.apd_record.specs.declared.change.Change.{Change}
 use Rattle.apd_journal.specs.declared.writer.TheConstants.{HALF_LENGTH}
-use Rattle.apd_disk.specs.Disk.{overwritten, TornWithin, Only, Follows}
+use Rattle.apd_disk.specs.Disk.{overwritten, TornWithin, Only, Follows, DiskModel}
 use Rattle.apd_journal.specs.Half.{planned_bytes}
 use Rattle.apd_store.specs.Image.{IsCurrent, Shows}
 use Rattle.apd_store.specs.Layout.{start_of, image_of, AreParts, AreTorn, IsFound}
@@ -19,10 +19,10 @@ use Rattle.apd_store.specs.declared.store.Store.{Store}
 use Rattle.apd_store.proofs.Parts.{written_in_half, torn_in_half}
 use Rattle.apd_store.proofs.Current.{image_shows, found_shows, same_parts, current_behind, laid_fits, laid_length, laid_current, opened_length, opened_current, opened_epoch, torn_gate, gate_before_end}
 
-pub idle_shows : {D : Type 0} (reads : D → List ℕ) (may_leave : D → List ℕ → Type 0) (store : Store D) (state : State) → IsIdle reads may_leave store state → (c : List ℕ) → may_leave store.device c → Shows c state
-idle_shows reads may_leave store state s c left = subst (λ (l : List ℕ). Shows l state) (sym (s.durable c left)) (found_shows (reads store.device) store.half store.epoch store.gate store.other_open state s.found)
+pub idle_shows : {D : Type 0} (disk : DiskModel D) (store : Store D) (state : State) → IsIdle disk store state → (c : List ℕ) → disk.may_leave store.device c → Shows c state
+idle_shows disk store state s c left = subst (λ (l : List ℕ). Shows l state) (sym (s.durable c left)) (found_shows (disk.reads store.device) store.half store.epoch store.gate store.other_open state s.found)
 
-module _ {D : Type 0} (reads : D → List ℕ) (may_leave : D → List ℕ → Type 0) (store : Store D) (state after : State) (s : IsWriting reads may_leave store state after) where
+module _ {D : Type 0} (disk : DiskModel D) (store : Store D) (state after : State) (s : IsWriting disk store state after) where
   abbrev group : List Change
   group = store.batch.changes
 
@@ -58,10 +58,10 @@ module _ {D : Type 0} (reads : D → List ℕ) (may_leave : D → List ℕ → T
   -- ---- the calls
 
   abbrev At : Phase → Type 0
-  At phase = AtPhase phase store.half s.reserved s.half s.other store.gate group (reads store.device) (may_leave store.device)
+  At phase = AtPhase phase store.half s.reserved s.half s.other store.gate group (disk.reads store.device) (disk.may_leave store.device)
 
-  pub at_phase : (phase : Phase) → store.phase ≡ phase → AtPhase phase store.half s.reserved s.half s.other store.gate store.batch.changes (reads store.device) (may_leave store.device)
-  at_phase phase is = subst (λ (p : Phase). AtPhase p store.half s.reserved s.half s.other store.gate store.batch.changes (reads store.device) (may_leave store.device)) is s.at
+  pub at_phase : (phase : Phase) → store.phase ≡ phase → AtPhase phase store.half s.reserved s.half s.other store.gate store.batch.changes (disk.reads store.device) (disk.may_leave store.device)
+  at_phase phase is = subst (λ (p : Phase). AtPhase p store.half s.reserved s.half s.other store.gate store.batch.changes (disk.reads store.device) (disk.may_leave store.device)) is s.at
 
   group_fits : (store.gate + 1) + length (planned_bytes group) ≤ length s.half
   group_fits = laid_fits s.half s.other store.gate state s.current group after s.group s.sound s.after_is room
@@ -73,7 +73,7 @@ module _ {D : Type 0} (reads : D → List ℕ) (may_leave : D → List ℕ → T
     planned : bytes ≡ planned_bytes group
     planned = bytes_are ∙ s.bytes
 
-    pub write_images : store.phase ≡ WriteGroup → (during : List ℕ → Type 0) → Follows (TornWithin at (length bytes)) (may_leave store.device) during → AreTorn store.half s.reserved s.half s.other (store.gate + 1) (length (planned_bytes store.batch.changes)) during
+    pub write_images : store.phase ≡ WriteGroup → (during : List ℕ → Type 0) → Follows (TornWithin at (length bytes)) (disk.may_leave store.device) during → AreTorn store.half s.reserved s.half s.other (store.gate + 1) (length (planned_bytes store.batch.changes)) during
     write_images is during follows c left =
         let from = follows c left in
         let d_is : from.0 ≡ image_of store.half s.reserved s.half s.other = (at_phase WriteGroup is).1 from.0 from.1 ∙ (at_phase WriteGroup is).0 in
@@ -82,12 +82,12 @@ module _ {D : Type 0} (reads : D → List ℕ) (may_leave : D → List ℕ → T
         (subst (λ (n : ℕ). TornWithin n (length bytes) (image_of store.half s.reserved s.half s.other) c) place_is
         (subst (λ (l : List ℕ). TornWithin at (length bytes) l c) d_is from.2)))
 
-    pub write_reads : store.phase ≡ WriteGroup → (now : List ℕ) → now ≡ overwritten (reads store.device) at bytes → now ≡ image_of store.half s.reserved (laid s.half store.gate store.batch.changes) s.other
+    pub write_reads : store.phase ≡ WriteGroup → (now : List ℕ) → now ≡ overwritten (disk.reads store.device) at bytes → now ≡ image_of store.half s.reserved (laid s.half store.gate store.batch.changes) s.other
     write_reads is now written =
         written ∙ (λ i. overwritten ((at_phase WriteGroup is).0 i) (place_is i) (planned i))
         ∙ written_in_half s.reserved s.half s.other s.parts (store.gate + 1) (length (planned_bytes group)) group_fits store.half (planned_bytes group) refl
 
-    pub during_write : store.phase ≡ WriteGroup → (during : List ℕ → Type 0) → Follows (TornWithin at (length bytes)) (may_leave store.device) during → (c : List ℕ) → during c → MayShow (calls_from store.phase) state after c
+    pub during_write : store.phase ≡ WriteGroup → (during : List ℕ → Type 0) → Follows (TornWithin at (length bytes)) (disk.may_leave store.device) during → (c : List ℕ) → during c → MayShow (calls_from store.phase) state after c
     during_write is during follows c left =
         let found = write_images is during follows c left in
         inl (subst (λ (l : List ℕ). Shows l state) (sym found.2) (torn_group_shows found.0 found.1))
@@ -99,7 +99,7 @@ module _ {D : Type 0} (reads : D → List ℕ) (may_leave : D → List ℕ → T
     gate_fits : store.gate + 1 ≤ length (laid s.half store.gate group)
     gate_fits = omega (arith, gate_before_end s.half s.other store.gate state s.current, laid_length s.half s.other store.gate state s.current group after s.group s.sound s.after_is room)
 
-    pub gate_images : store.phase ≡ OpenGate → (during : List ℕ → Type 0) → Follows (TornWithin at 1) (may_leave store.device) during → AreTorn store.half s.reserved (laid s.half store.gate store.batch.changes) s.other store.gate 1 during
+    pub gate_images : store.phase ≡ OpenGate → (during : List ℕ → Type 0) → Follows (TornWithin at 1) (disk.may_leave store.device) during → AreTorn store.half s.reserved (laid s.half store.gate store.batch.changes) s.other store.gate 1 during
     gate_images is during follows c left =
         let from = follows c left in
         let d_is : from.0 ≡ image_of store.half s.reserved (laid s.half store.gate group) s.other = (at_phase OpenGate is).1 from.0 from.1 ∙ (at_phase OpenGate is).0 in
@@ -107,18 +107,18 @@ module _ {D : Type 0} (reads : D → List ℕ) (may_leave : D → List ℕ → T
         (subst (λ (n : ℕ). TornWithin n 1 (image_of store.half s.reserved (laid s.half store.gate group) s.other) c) at_is
         (subst (λ (l : List ℕ). TornWithin at 1 l c) d_is from.2))
 
-    pub gate_reads : store.phase ≡ OpenGate → (now : List ℕ) → now ≡ overwritten (reads store.device) at (1 ∷ []) → now ≡ image_of store.half s.reserved (opened s.half store.gate store.batch.changes) s.other
+    pub gate_reads : store.phase ≡ OpenGate → (now : List ℕ) → now ≡ overwritten (disk.reads store.device) at (1 ∷ []) → now ≡ image_of store.half s.reserved (opened s.half store.gate store.batch.changes) s.other
     gate_reads is now written =
         written ∙ (λ i. overwritten ((at_phase OpenGate is).0 i) (at_is i) (1 ∷ []))
         ∙ written_in_half s.reserved (laid s.half store.gate group) s.other laid_parts store.gate 1 gate_fits store.half (1 ∷ []) refl
 
-    pub during_gate : store.phase ≡ OpenGate → (during : List ℕ → Type 0) → Follows (TornWithin at 1) (may_leave store.device) during → (c : List ℕ) → during c → MayShow (calls_from store.phase) state after c
+    pub during_gate : store.phase ≡ OpenGate → (during : List ℕ → Type 0) → Follows (TornWithin at 1) (disk.may_leave store.device) during → (c : List ℕ) → during c → MayShow (calls_from store.phase) state after c
     during_gate is during follows c left =
         let found = gate_images is during follows c left in
         subst (MayShow (calls_from store.phase) state after) (sym found.2) (torn_gate_shows (calls_from store.phase) (subst (λ (p : Phase). calls_from p ≤ 2) (sym is) (omega arith)) found.0 found.1)
 
   -- what a stop now shows, when this call is next and the gate was not written
-  before_gate_at : (phase : Phase) → AtPhase phase store.half s.reserved s.half s.other store.gate store.batch.changes (reads store.device) (may_leave store.device) → 2 ≤ calls_from phase → (c : List ℕ) → may_leave store.device c → Shows c state
+  before_gate_at : (phase : Phase) → AtPhase phase store.half s.reserved s.half s.other store.gate store.batch.changes (disk.reads store.device) (disk.may_leave store.device) → 2 ≤ calls_from phase → (c : List ℕ) → disk.may_leave store.device c → Shows c state
   before_gate_at WriteGroup (is, only) early c left = subst (λ (l : List ℕ). Shows l state) (sym (only c left ∙ is)) (shows_half s.half store.gate state refl s.current)
   before_gate_at SyncGroup (is, torn) early c left = let found = torn c left in subst (λ (l : List ℕ). Shows l state) (sym found.2) (torn_group_shows found.0 found.1)
   before_gate_at OpenGate (is, only) early c left = subst (λ (l : List ℕ). Shows l state) (sym (only c left ∙ is)) laid_shows
@@ -134,7 +134,7 @@ module _ {D : Type 0} (reads : D → List ℕ) (may_leave : D → List ℕ → T
   before_gate_at Failed at early c left = absurd at
 
   -- what a stop now shows, when this call is next
-  shows_at : (phase : Phase) → AtPhase phase store.half s.reserved s.half s.other store.gate store.batch.changes (reads store.device) (may_leave store.device) → (c : List ℕ) → may_leave store.device c → MayShow (calls_from phase) state after c
+  shows_at : (phase : Phase) → AtPhase phase store.half s.reserved s.half s.other store.gate store.batch.changes (disk.reads store.device) (disk.may_leave store.device) → (c : List ℕ) → disk.may_leave store.device c → MayShow (calls_from phase) state after c
   shows_at WriteGroup at c left = inl (before_gate_at WriteGroup at (omega arith) c left)
   shows_at SyncGroup at c left = inl (before_gate_at SyncGroup at (omega arith) c left)
   shows_at OpenGate at c left = inl (before_gate_at OpenGate at (omega arith) c left)
@@ -149,18 +149,18 @@ module _ {D : Type 0} (reads : D → List ℕ) (may_leave : D → List ℕ → T
   shows_at SyncOpened at c left = absurd at
   shows_at Failed at c left = absurd at
 
-  pub now_shows : (c : List ℕ) → may_leave store.device c → MayShow (calls_from store.phase) state after c
+  pub now_shows : (c : List ℕ) → disk.may_leave store.device c → MayShow (calls_from store.phase) state after c
   now_shows c left = shows_at store.phase s.at c left
 
-  pub before_gate : 2 ≤ calls_from store.phase → (c : List ℕ) → may_leave store.device c → Shows c state
+  pub before_gate : 2 ≤ calls_from store.phase → (c : List ℕ) → disk.may_leave store.device c → Shows c state
   before_gate early c left = before_gate_at store.phase s.at early c left
 
-  pub done_shows : store.phase ≡ Done → (c : List ℕ) → may_leave store.device c → Shows c after
+  pub done_shows : store.phase ≡ Done → (c : List ℕ) → disk.may_leave store.device c → Shows c after
   done_shows is c left = subst (λ (l : List ℕ). Shows l after) (sym ((at_phase Done is).1 c left ∙ (at_phase Done is).0)) opened_shows
 
   -- the batch goes on, over another device in another phase
-  pub moves : (device : D) (phase : Phase) → AtPhase phase store.half s.reserved s.half s.other store.gate store.batch.changes (reads device) (may_leave device)
-      → IsWriting reads may_leave (record store { device = device; phase = phase }) state after
+  pub moves : (device : D) (phase : Phase) → AtPhase phase store.half s.reserved s.half s.other store.gate store.batch.changes (disk.reads device) (disk.may_leave device)
+      → IsWriting disk (record store { device = device; phase = phase }) state after
   moves device phase at = record {
     reserved = s.reserved;
     half = s.half;
@@ -185,12 +185,12 @@ module _ {D : Type 0} (reads : D → List ℕ) (may_leave : D → List ℕ → T
 
   -- the receipt is taken
   pub settles : (now : Store D) → store.phase ≡ Done → now.device ≡ store.device → now.half ≡ store.half → now.epoch ≡ store.epoch → now.other_open ≡ store.other_open
-      → (store.plan.place + length store.plan.bytes ≤ HALF_LENGTH → now.gate ≡ store.plan.place + length store.plan.bytes - 1) → now.phase ≡ Idle → IsIdle reads may_leave now after
+      → (store.plan.place + length store.plan.bytes ≤ HALF_LENGTH → now.gate ≡ store.plan.place + length store.plan.bytes - 1) → now.phase ≡ Idle → IsIdle disk now after
   settles now is device half epoch other gate phase =
       let here = at_phase Done is in
       let reaches : store.plan.place + length store.plan.bytes ≤ HALF_LENGTH = omega (arith, s.place, ap length s.bytes, length-planned group, s.room) in
       let longer : store.gate + 5 + length (records_of group) ≡ now.gate = omega (arith, gate reaches, s.place, ap length s.bytes, length-planned group, s.room) in
-      let found : IsFound (reads store.device) store.half store.epoch now.gate store.other_open after = record {
+      let found : IsFound (disk.reads store.device) store.half store.epoch now.gate store.other_open after = record {
         reserved = s.reserved;
         half = opened s.half store.gate group;
         other = s.other;
@@ -201,10 +201,10 @@ module _ {D : Type 0} (reads : D → List ℕ) (may_leave : D → List ℕ → T
         gate_is = s.gate_is;
       } in
       record {
-        found = subst (λ (b : Bool). IsFound (reads now.device) now.half now.epoch now.gate b after) (sym other)
-            (subst (λ (e : ℕ). IsFound (reads now.device) now.half e now.gate store.other_open after) (sym epoch)
-            (subst (λ (h : Half). IsFound (reads now.device) h store.epoch now.gate store.other_open after) (sym half)
-            (subst (λ (d : D). IsFound (reads d) store.half store.epoch now.gate store.other_open after) (sym device) found)));
-        durable = subst (λ (d : D). Only (reads d) (may_leave d)) (sym device) here.1;
+        found = subst (λ (b : Bool). IsFound (disk.reads now.device) now.half now.epoch now.gate b after) (sym other)
+            (subst (λ (e : ℕ). IsFound (disk.reads now.device) now.half e now.gate store.other_open after) (sym epoch)
+            (subst (λ (h : Half). IsFound (disk.reads now.device) h store.epoch now.gate store.other_open after) (sym half)
+            (subst (λ (d : D). IsFound (disk.reads d) store.half store.epoch now.gate store.other_open after) (sym device) found)));
+        durable = subst (λ (d : D). Only (disk.reads d) (disk.may_leave d)) (sym device) here.1;
         phase = phase;
       }

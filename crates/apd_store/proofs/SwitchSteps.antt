@@ -7,7 +7,7 @@ use Rattle.apd_record.specs.Meaning.{meaning_of}
 use Rattle.apd_record.specs.declared.change.Change.{Change}
 use Rattle.apd_table.specs.Snapshot.{canonical}
 use Rattle.apd_table.specs.Sound.{StaySound}
-use Rattle.apd_disk.specs.Disk.{overwritten, TornWithin, Only, Follows}
+use Rattle.apd_disk.specs.Disk.{overwritten, TornWithin, Only, Follows, DiskModel}
 use Rattle.apd_disk.specs.MemLaws.{length-overwritten, torn_overwritten}
 use Rattle.apd_journal.specs.Half.{HalfHolds, IsGroup, begun_bytes, planned_bytes}
 use Rattle.apd_journal.specs.declared.batch.Batch.{Batch}
@@ -77,7 +77,7 @@ module _ (reserved half current : List ℕ) (parts : AreParts reserved half curr
 
 -- ---- a switch
 
-module _ {D : Type 0} (reads : D → List ℕ) (may_leave : D → List ℕ → Type 0) (store : Store D) (state after : State) (s : IsSwitching reads may_leave store state after) where
+module _ {D : Type 0} (disk : DiskModel D) (store : Store D) (state after : State) (s : IsSwitching disk store state after) where
   abbrev back : Half
   back = opposite store.half
 
@@ -170,9 +170,9 @@ module _ {D : Type 0} (reads : D → List ℕ) (may_leave : D → List ℕ → T
   -- ---- what a stop now shows, by the call that is next
 
   abbrev pub At : Phase → Type 0
-  At phase = AtSwitch phase (opposite store.half) s.reserved s.other s.half store.fresh.bytes (reads store.device) (may_leave store.device)
+  At phase = AtSwitch phase (opposite store.half) s.reserved s.other s.half store.fresh.bytes (disk.reads store.device) (disk.may_leave store.device)
 
-  shows_at : (phase : Phase) → At phase → (c : List ℕ) → may_leave store.device c → Shows c state
+  shows_at : (phase : Phase) → At phase → (c : List ℕ) → disk.may_leave store.device c → Shows c state
   shows_at CloseOther (was, is, only) c left = subst (λ (l : List ℕ). Shows l state) (sym (only c left ∙ is)) as_it_was
   shows_at SyncClosed (was, is, torn) c left = let found = torn c left in subst (λ (l : List ℕ). Shows l state) (sym found.2) (closing_shows was found.0 found.1)
   shows_at WriteHalf (was, is, only) c left = subst (λ (l : List ℕ). Shows l state) (sym (only c left ∙ is)) as_it_was
@@ -187,7 +187,7 @@ module _ {D : Type 0} (reads : D → List ℕ) (may_leave : D → List ℕ → T
   shows_at Done at c left = absurd at
   shows_at Failed at c left = absurd at
 
-  pub switch_shows : (c : List ℕ) → may_leave store.device c → Shows c state
+  pub switch_shows : (c : List ℕ) → disk.may_leave store.device c → Shows c state
   switch_shows c left = shows_at store.phase s.at c left
 
   pub at_call : (phase : Phase) → store.phase ≡ phase → At phase
@@ -196,41 +196,41 @@ module _ {D : Type 0} (reads : D → List ℕ) (may_leave : D → List ℕ → T
   -- ---- what each write leaves
 
   module _ (side : Half) (side_is : side ≡ opposite store.half) where
-    pub closing_images : store.phase ≡ CloseOther → (during : List ℕ → Type 0) → Follows (TornWithin (start_of side + 0) 1) (may_leave store.device) during → AreTorn back s.reserved s.other s.half 0 1 during
+    pub closing_images : store.phase ≡ CloseOther → (during : List ℕ → Type 0) → Follows (TornWithin (start_of side + 0) 1) (disk.may_leave store.device) during → AreTorn back s.reserved s.other s.half 0 1 during
     closing_images is during follows =
         let at = at_call CloseOther is in
-        write_images s.reserved s.other s.half (other_parts s.other refl) back 0 1 (start_of side + 0) (gate_fits s.other refl) (ap (λ (h : Half). start_of h + 0) side_is) (reads store.device) (may_leave store.device) during at.1 at.2 follows
+        write_images s.reserved s.other s.half (other_parts s.other refl) back 0 1 (start_of side + 0) (gate_fits s.other refl) (ap (λ (h : Half). start_of h + 0) side_is) (disk.reads store.device) (disk.may_leave store.device) during at.1 at.2 follows
 
-    pub closing_reads : store.phase ≡ CloseOther → (now : List ℕ) → now ≡ overwritten (reads store.device) (start_of side + 0) (0 ∷ []) → now ≡ image_of back s.reserved (closed s.other) s.half
+    pub closing_reads : store.phase ≡ CloseOther → (now : List ℕ) → now ≡ overwritten (disk.reads store.device) (start_of side + 0) (0 ∷ []) → now ≡ image_of back s.reserved (closed s.other) s.half
     closing_reads is now made =
-        write_reads s.reserved s.other s.half (other_parts s.other refl) back 0 1 (start_of side + 0) (gate_fits s.other refl) (ap (λ (h : Half). start_of h + 0) side_is) (reads store.device) now (0 ∷ []) (at_call CloseOther is).1 refl made
+        write_reads s.reserved s.other s.half (other_parts s.other refl) back 0 1 (start_of side + 0) (gate_fits s.other refl) (ap (λ (h : Half). start_of h + 0) side_is) (disk.reads store.device) now (0 ∷ []) (at_call CloseOther is).1 refl made
 
     opening_parts : AreParts s.reserved (written s.other bytes) s.half
     opening_parts = other_parts (written s.other bytes) written_length
 
-    pub opening_images : store.phase ≡ OpenHalf → (during : List ℕ → Type 0) → Follows (TornWithin (start_of side + 0) 1) (may_leave store.device) during → AreTorn back s.reserved (written s.other bytes) s.half 0 1 during
+    pub opening_images : store.phase ≡ OpenHalf → (during : List ℕ → Type 0) → Follows (TornWithin (start_of side + 0) 1) (disk.may_leave store.device) during → AreTorn back s.reserved (written s.other bytes) s.half 0 1 during
     opening_images is during follows =
         let at = at_call OpenHalf is in
-        write_images s.reserved (written s.other bytes) s.half opening_parts back 0 1 (start_of side + 0) (gate_fits (written s.other bytes) written_length) (ap (λ (h : Half). start_of h + 0) side_is) (reads store.device) (may_leave store.device) during at.1 at.2 follows
+        write_images s.reserved (written s.other bytes) s.half opening_parts back 0 1 (start_of side + 0) (gate_fits (written s.other bytes) written_length) (ap (λ (h : Half). start_of h + 0) side_is) (disk.reads store.device) (disk.may_leave store.device) during at.1 at.2 follows
 
-    pub opening_reads : store.phase ≡ OpenHalf → (now : List ℕ) → now ≡ overwritten (reads store.device) (start_of side + 0) (1 ∷ []) → now ≡ image_of back s.reserved (begun s.other bytes) s.half
+    pub opening_reads : store.phase ≡ OpenHalf → (now : List ℕ) → now ≡ overwritten (disk.reads store.device) (start_of side + 0) (1 ∷ []) → now ≡ image_of back s.reserved (begun s.other bytes) s.half
     opening_reads is now made =
-        write_reads s.reserved (written s.other bytes) s.half opening_parts back 0 1 (start_of side + 0) (gate_fits (written s.other bytes) written_length) (ap (λ (h : Half). start_of h + 0) side_is) (reads store.device) now (1 ∷ []) (at_call OpenHalf is).1 refl made
+        write_reads s.reserved (written s.other bytes) s.half opening_parts back 0 1 (start_of side + 0) (gate_fits (written s.other bytes) written_length) (ap (λ (h : Half). start_of h + 0) side_is) (disk.reads store.device) now (1 ∷ []) (at_call OpenHalf is).1 refl made
 
     place_is : start_of side + store.fresh.place ≡ start_of back + 1
     place_is = λ i. start_of (side_is i) + s.begins_at i
 
     module _ (given : List ℕ) (given_is : given ≡ store.fresh.bytes) where
-      pub writing_images : store.phase ≡ WriteHalf → (during : List ℕ → Type 0) → Follows (TornWithin (start_of side + store.fresh.place) (length given)) (may_leave store.device) during → AreTorn back s.reserved s.other s.half 1 (length bytes) during
+      pub writing_images : store.phase ≡ WriteHalf → (during : List ℕ → Type 0) → Follows (TornWithin (start_of side + store.fresh.place) (length given)) (disk.may_leave store.device) during → AreTorn back s.reserved s.other s.half 1 (length bytes) during
       writing_images is during follows =
           let at = at_call WriteHalf is in
-          write_images s.reserved s.other s.half (other_parts s.other refl) back 1 (length bytes) (start_of side + store.fresh.place) half_fits place_is (reads store.device) (may_leave store.device) during at.1 at.2
-          (subst (λ (l : List ℕ). Follows (TornWithin (start_of side + store.fresh.place) (length l)) (may_leave store.device) during) given_is follows)
+          write_images s.reserved s.other s.half (other_parts s.other refl) back 1 (length bytes) (start_of side + store.fresh.place) half_fits place_is (disk.reads store.device) (disk.may_leave store.device) during at.1 at.2
+          (subst (λ (l : List ℕ). Follows (TornWithin (start_of side + store.fresh.place) (length l)) (disk.may_leave store.device) during) given_is follows)
 
-      pub writing_reads : store.phase ≡ WriteHalf → (now : List ℕ) → now ≡ overwritten (reads store.device) (start_of side + store.fresh.place) given → now ≡ image_of back s.reserved (written s.other bytes) s.half
+      pub writing_reads : store.phase ≡ WriteHalf → (now : List ℕ) → now ≡ overwritten (disk.reads store.device) (start_of side + store.fresh.place) given → now ≡ image_of back s.reserved (written s.other bytes) s.half
       writing_reads is now made =
-          write_reads s.reserved s.other s.half (other_parts s.other refl) back 1 (length bytes) (start_of side + store.fresh.place) half_fits place_is (reads store.device) now bytes (at_call WriteHalf is).1 refl
-          (made ∙ ap (λ (l : List ℕ). overwritten (reads store.device) (start_of side + store.fresh.place) l) given_is)
+          write_reads s.reserved s.other s.half (other_parts s.other refl) back 1 (length bytes) (start_of side + store.fresh.place) half_fits place_is (disk.reads store.device) now bytes (at_call WriteHalf is).1 refl
+          (made ∙ ap (λ (l : List ℕ). overwritten (disk.reads store.device) (start_of side + store.fresh.place) l) given_is)
 
   -- what a stop within a write shows
   pub during_closing : store.phase ≡ CloseOther → (during : List ℕ → Type 0) → AreTorn back s.reserved s.other s.half 0 1 during → (c : List ℕ) → during c → Shows c state
@@ -245,7 +245,7 @@ module _ {D : Type 0} (reads : D → List ℕ) (may_leave : D → List ℕ → T
   -- ---- how it goes on
 
   -- over another device, with another call next
-  pub switch_moves : (device : D) (phase : Phase) → AtSwitch phase (opposite store.half) s.reserved s.other s.half store.fresh.bytes (reads device) (may_leave device) → IsSwitching reads may_leave (record store { device = device; phase = phase }) state after
+  pub switch_moves : (device : D) (phase : Phase) → AtSwitch phase (opposite store.half) s.reserved s.other s.half store.fresh.bytes (disk.reads device) (disk.may_leave device) → IsSwitching disk (record store { device = device; phase = phase }) state after
   switch_moves device phase at = record {
     reserved = s.reserved;
     half = s.half;
@@ -266,7 +266,7 @@ module _ {D : Type 0} (reads : D → List ℕ) (may_leave : D → List ℕ → T
   }
 
   -- the closed gate is durable
-  pub switch_closed : (device : D) → reads device ≡ image_of back s.reserved (closed s.other) s.half → Only (reads device) (may_leave device) → IsSwitching reads may_leave (record store { device = device; phase = WriteHalf }) state after
+  pub switch_closed : (device : D) → disk.reads device ≡ image_of back s.reserved (closed s.other) s.half → Only (disk.reads device) (disk.may_leave device) → IsSwitching disk (record store { device = device; phase = WriteHalf }) state after
   switch_closed device is only = record {
     reserved = s.reserved;
     half = s.half;
@@ -289,7 +289,7 @@ module _ {D : Type 0} (reads : D → List ℕ) (may_leave : D → List ℕ → T
   -- the new half is durable, and the store goes on in it
   pub switch_ends : (now : Store D) → now.half ≡ opposite store.half → (store.epoch + 1 < 2 ^ 64 → now.epoch ≡ store.epoch + 1) → (store.fresh.place + length store.fresh.bytes ≤ HALF_LENGTH → now.gate ≡ store.fresh.place + length store.fresh.bytes - 1)
       → now.other_open ≡ true → now.phase ≡ WriteGroup → now.batch ≡ store.batch → now.plan ≡ store.plan
-      → reads now.device ≡ image_of back s.reserved (begun s.other bytes) s.half → Only (reads now.device) (may_leave now.device) → IsWriting reads may_leave now state after
+      → disk.reads now.device ≡ image_of back s.reserved (begun s.other bytes) s.half → Only (disk.reads now.device) (disk.may_leave now.device) → IsWriting disk now state after
   switch_ends now half epoch gate other phase batch plan is only =
       let reaches : store.fresh.place + length store.fresh.bytes ≤ HALF_LENGTH = omega (arith, s.begins_at, half_fits, s.parts.other_length) in
       let gate_now : now.gate ≡ 13 + length (records_of (canonical state)) = omega (arith, gate reaches, s.begins_at, bytes_length) in
@@ -307,7 +307,7 @@ module _ {D : Type 0} (reads : D → List ℕ) (may_leave : D → List ℕ → T
         room = subst (λ (b : Batch). now.gate + length (records_of b.changes) + 6 ≤ HALF_LENGTH) (sym batch) (omega (arith, gate_now, s.snapshot.size, s.group.1));
         place = ap (λ (p : Plan). p.place) plan ∙ s.place ∙ (omega (arith, bytes_length, gate_now));
         bytes = ap (λ (p : Plan). p.bytes) plan ∙ s.bytes ∙ ap (λ (b : Batch). planned_bytes b.changes) (sym batch);
-        at = subst (λ (p : Phase). AtPhase p now.half s.reserved (begun s.other bytes) s.half now.gate now.batch.changes (reads now.device) (may_leave now.device)) (sym phase)
+        at = subst (λ (p : Phase). AtPhase p now.half s.reserved (begun s.other bytes) s.half now.gate now.batch.changes (disk.reads now.device) (disk.may_leave now.device)) (sym phase)
             (is ∙ (λ i. image_of (sym half i) s.reserved (begun s.other bytes) s.half), only);
       }
 
@@ -317,10 +317,10 @@ found_at : {image : List ℕ} {side : Half} {epoch gate : ℕ} {other_open : Boo
 found_at {epoch = epoch} {state = state} f g e gate_is epoch_is =
     subst (λ (n : ℕ). (current : IsCurrent f.half f.other n state) × (current.epoch ≡ e)) gate_is (f.current, f.epoch_is ∙ epoch_is)
 
-pub group_begins : {D : Type 0} (reads : D → List ℕ) (may_leave : D → List ℕ → Type 0) (store now : Store D) (state : State) → IsIdle reads may_leave store state → IsGroup now.batch.changes → StaySound now.batch.changes state
+pub group_begins : {D : Type 0} (disk : DiskModel D) (store now : Store D) (state : State) → IsIdle disk store state → IsGroup now.batch.changes → StaySound now.batch.changes state
     → now.device ≡ store.device → now.half ≡ store.half → now.epoch ≡ store.epoch → now.gate ≡ store.gate → now.other_open ≡ store.other_open → now.phase ≡ WriteGroup
-    → store.gate + length (records_of now.batch.changes) + 6 ≤ HALF_LENGTH → now.plan.place ≡ store.gate + 1 → now.plan.bytes ≡ planned_bytes now.batch.changes → IsWriting reads may_leave now state (meaning_of now.batch.changes state)
-group_begins {D = D} reads may_leave store now state idle group sound device half epoch gate other phase room place begins =
+    → store.gate + length (records_of now.batch.changes) + 6 ≤ HALF_LENGTH → now.plan.place ≡ store.gate + 1 → now.plan.bytes ≡ planned_bytes now.batch.changes → IsWriting disk now state (meaning_of now.batch.changes state)
+group_begins {D = D} disk store now state idle group sound device half epoch gate other phase room place begins =
     let f = idle.found in
     record {
       reserved = f.reserved;
@@ -336,8 +336,8 @@ group_begins {D = D} reads may_leave store now state idle group sound device hal
       room = omega (arith, room, gate);
       place = omega (arith, place, gate);
       bytes = begins;
-      at = subst (λ (p : Phase). AtPhase p now.half f.reserved f.half f.other now.gate now.batch.changes (reads now.device) (may_leave now.device)) (sym phase)
-          (subst (λ (d : D). (reads d ≡ image_of now.half f.reserved f.half f.other) × Only (reads d) (may_leave d)) (sym device) (f.is ∙ (λ i. image_of (sym half i) f.reserved f.half f.other), idle.durable));
+      at = subst (λ (p : Phase). AtPhase p now.half f.reserved f.half f.other now.gate now.batch.changes (disk.reads now.device) (disk.may_leave now.device)) (sym phase)
+          (subst (λ (d : D). (disk.reads d ≡ image_of now.half f.reserved f.half f.other) × Only (disk.reads d) (disk.may_leave d)) (sym device) (f.is ∙ (λ i. image_of (sym half i) f.reserved f.half f.other), idle.durable));
     }
 
 -- a switch begins by closing the other half where its gate is open, and else by writing it
@@ -346,10 +346,10 @@ first_call : (other_open : Bool) (side : Half) (reserved other half bytes : List
 first_call true side reserved other half bytes reads images phase shut opens gate is only = subst (λ (p : Phase). AtSwitch p side reserved other half bytes reads images) (sym (opens refl)) (gate.0 refl, is, only)
 first_call false side reserved other half bytes reads images phase shut opens gate is only = subst (λ (p : Phase). AtSwitch p side reserved other half bytes reads images) (sym (shut refl)) ((λ e. false≢true (gate.1 e)), is, only)
 
-pub switch_begins : {D : Type 0} (reads : D → List ℕ) (may_leave : D → List ℕ → Type 0) (store : Store D) (batch : Batch) (plan fresh : Plan) (phase : Phase) (state : State) → IsIdle reads may_leave store state → IsGroup batch.changes → StaySound batch.changes state
+pub switch_begins : {D : Type 0} (disk : DiskModel D) (store : Store D) (batch : Batch) (plan fresh : Plan) (phase : Phase) (state : State) → IsIdle disk store state → IsGroup batch.changes → StaySound batch.changes state
     → store.epoch + 1 < 2 ^ 64 → IsSnapshot (canonical state) state → fresh.place ≡ 1 → fresh.bytes ≡ begun_bytes (store.epoch + 1) (canonical state) → plan.place ≡ length fresh.bytes + 1 → plan.bytes ≡ planned_bytes batch.changes
-    → (store.other_open ≡ false → phase ≡ WriteHalf) → (store.other_open ≡ true → phase ≡ CloseOther) → IsSwitching reads may_leave (record store { phase = phase; batch = batch; plan = plan; fresh = fresh }) state (meaning_of batch.changes state)
-switch_begins reads may_leave store batch plan fresh phase state idle group sound epoch_fits snapshot begins_at begins_with place bytes shut opens =
+    → (store.other_open ≡ false → phase ≡ WriteHalf) → (store.other_open ≡ true → phase ≡ CloseOther) → IsSwitching disk (record store { phase = phase; batch = batch; plan = plan; fresh = fresh }) state (meaning_of batch.changes state)
+switch_begins disk store batch plan fresh phase state idle group sound epoch_fits snapshot begins_at begins_with place bytes shut opens =
     let f = idle.found in
     record {
       reserved = f.reserved;
@@ -367,7 +367,7 @@ switch_begins reads may_leave store batch plan fresh phase state idle group soun
       after_is = refl;
       place = place;
       bytes = bytes;
-      at = first_call store.other_open (opposite store.half) f.reserved f.other f.half fresh.bytes (reads store.device) (may_leave store.device) phase shut opens f.gate_is (f.is ∙ sym (turned store.half f.reserved f.half f.other)) idle.durable;
+      at = first_call store.other_open (opposite store.half) f.reserved f.other f.half fresh.bytes (disk.reads store.device) (disk.may_leave store.device) phase shut opens f.gate_is (f.is ∙ sym (turned store.half f.reserved f.half f.other)) idle.durable;
     }
 
 -- ---- which calls are left
@@ -402,23 +402,23 @@ group_calls OpenHalf side reserved half other gate group reads images at = absur
 group_calls SyncOpened side reserved half other gate group reads images at = absurd at
 group_calls Failed side reserved half other gate group reads images at = absurd at
 
-module _ {D : Type 0} (reads : D → List ℕ) (may_leave : D → List ℕ → Type 0) (store : Store D) (state after : State) where
+module _ {D : Type 0} (disk : DiskModel D) (store : Store D) (state after : State) where
   -- a batch with four calls left or fewer writes its group, and one with more is switching
-  pub writes : calls_from store.phase ≤ 4 → IsCommitting reads may_leave store state after → IsWriting reads may_leave store state after
+  pub writes : calls_from store.phase ≤ 4 → IsCommitting disk store state after → IsWriting disk store state after
   writes few s = ⊎_elim
-      (λ switching. absurd (omega (arith, few, switch_calls store.phase (opposite store.half) switching.reserved switching.other switching.half store.fresh.bytes (reads store.device) (may_leave store.device) switching.at)))
+      (λ switching. absurd (omega (arith, few, switch_calls store.phase (opposite store.half) switching.reserved switching.other switching.half store.fresh.bytes (disk.reads store.device) (disk.may_leave store.device) switching.at)))
       (λ writing. writing) s
 
-  pub switches : 4 < calls_from store.phase → IsCommitting reads may_leave store state after → IsSwitching reads may_leave store state after
+  pub switches : 4 < calls_from store.phase → IsCommitting disk store state after → IsSwitching disk store state after
   switches many s = ⊎_elim
       (λ switching. switching)
-      (λ writing. absurd (omega (arith, many, group_calls store.phase store.half writing.reserved writing.half writing.other store.gate store.batch.changes (reads store.device) (may_leave store.device) writing.at))) s
+      (λ writing. absurd (omega (arith, many, group_calls store.phase store.half writing.reserved writing.half writing.other store.gate store.batch.changes (disk.reads store.device) (disk.may_leave store.device) writing.at))) s
 
   -- what a stop now shows
-  pub committing_shows : IsCommitting reads may_leave store state after → (c : List ℕ) → may_leave store.device c → MayShow (calls_from store.phase) state after c
+  pub committing_shows : IsCommitting disk store state after → (c : List ℕ) → disk.may_leave store.device c → MayShow (calls_from store.phase) state after c
   committing_shows s c left = ⊎_elim
-      (λ switching. inl (switch_shows reads may_leave store state after switching c left))
-      (λ writing. now_shows reads may_leave store state after writing c left) s
+      (λ switching. inl (switch_shows disk store state after switching c left))
+      (λ writing. now_shows disk store state after writing c left) s
 
 -- the calls of a switch, and those of a group
 many_at : (phase at : Phase) → 4 < calls_from at → phase ≡ at → 4 < calls_from phase

@@ -5,6 +5,7 @@ use Rattle.apd_base.specs.State.{State}
 use Rattle.apd_record.specs.Meaning.{meaning_of}
 use Rattle.apd_record.specs.Record.{records_of}
 use Rattle.apd_table.specs.Sound.{StaySound}
+use Rattle.apd_disk.specs.Disk.{DiskModel}
 use Rattle.apd_journal.specs.Half.{IsGroup}
 use Rattle.apd_journal.specs.declared.batch.Batch.{Batch}
 use Rattle.apd_store.specs.Commit.{HasRoom, IsCommitting, IsIdle}
@@ -16,12 +17,12 @@ use Rattle.apd_store.specs.declared.phase.Phase.TheVariants.{Failed, Idle}
 use Rattle.apd_store.specs.declared.store.Store.{Store}
 
 -- the bytes of all calls of the batch are laid down, over a table of everything committed
-pub record IsBegun {D : Type 0} (reads : D → List ℕ) (may_leave : D → List ℕ → Type 0) (batch : Batch) (table : State)
+pub record IsBegun {D : Type 0} (disk : DiskModel D) (batch : Batch) (table : State)
     (old new : Store D) : Type 0 where
   pub was_idle : phase_of old ≡ Idle
   pub batch_is : batch_of new ≡ batch
-  pub committing : IsIdle reads may_leave old table → IsGroup batch.changes → StaySound batch.changes table
-      → IsCommitting reads may_leave new table (meaning_of batch.changes table)
+  pub committing : IsIdle disk old table → IsGroup batch.changes → StaySound batch.changes table
+      → IsCommitting disk new table (meaning_of batch.changes table)
   pub some_calls : (4 ≤ calls_left new) × (calls_left new ≤ 10)
   pub four_calls : HasRoom old batch.changes → calls_left new ≡ 4
   -- where the group does not fit behind the closed gate, the other half begins anew

@@ -5,7 +5,7 @@ use Rattle.apd_record.specs.Meaning.{meaning_of}
 use Rattle.apd_record.specs.Record.{records_of}
 use Rattle.apd_record.specs.declared.change.Change.{Change}
 use Rattle.apd_table.specs.Sound.{StaySound}
-use Rattle.apd_disk.specs.Disk.{Only, overwritten}
+use Rattle.apd_disk.specs.Disk.{Only, overwritten, DiskModel}
 use Rattle.apd_journal.specs.Half.{IsGroup, planned_bytes}
 use Rattle.apd_journal.specs.declared.writer.TheConstants.{HALF_LENGTH}
 use Rattle.apd_store.specs.Image.{HasOpenGate, IsCurrent, Shows}
@@ -47,14 +47,14 @@ AtPhase SyncOpened side reserved half other gate group reads images = ⊥
 AtPhase Failed side reserved half other gate group reads images = ⊥
 
 -- no batch is begun, and what a read gives, which is all that a stop may leave, shows the state
-pub record IsIdle {D : Type 0} (reads : D → List ℕ) (may_leave : D → List ℕ → Type 0) (store : Store D)
+pub record IsIdle {D : Type 0} (disk : DiskModel D) (store : Store D)
     (state : State) : Type 0 where
-  pub found : IsFound (reads store.device) store.half store.epoch store.gate store.other_open state
-  pub durable : Only (reads store.device) (may_leave store.device)
+  pub found : IsFound (disk.reads store.device) store.half store.epoch store.gate store.other_open state
+  pub durable : Only (disk.reads store.device) (disk.may_leave store.device)
   pub phase : store.phase ≡ Idle
 
 -- the group of a batch is on its way behind the closed gate of the current half
-pub record IsWriting {D : Type 0} (reads : D → List ℕ) (may_leave : D → List ℕ → Type 0) (store : Store D)
+pub record IsWriting {D : Type 0} (disk : DiskModel D) (store : Store D)
     (state after : State) : Type 0 where
   pub reserved : List ℕ
   pub half : List ℕ
@@ -69,23 +69,23 @@ pub record IsWriting {D : Type 0} (reads : D → List ℕ) (may_leave : D → Li
   pub room : store.gate + length (records_of store.batch.changes) + 6 ≤ HALF_LENGTH
   pub place : store.plan.place ≡ store.gate + 1
   pub bytes : store.plan.bytes ≡ planned_bytes store.batch.changes
-  pub at : AtPhase store.phase store.half reserved half other store.gate store.batch.changes (reads store.device)
-      (may_leave store.device)
+  pub at : AtPhase store.phase store.half reserved half other store.gate store.batch.changes (disk.reads store.device)
+      (disk.may_leave store.device)
 
 -- a batch is on its way from one state to the next: its switch, and then its group
-abbrev pub IsCommitting : {D : Type 0} → (D → List ℕ) → (D → List ℕ → Type 0) → Store D → State → State → Type 0
-IsCommitting reads may_leave store state after =
-    IsSwitching reads may_leave store state after ⊎ IsWriting reads may_leave store state after
+abbrev pub IsCommitting : {D : Type 0} → DiskModel D → Store D → State → State → Type 0
+IsCommitting disk store state after =
+    IsSwitching disk store state after ⊎ IsWriting disk store state after
 
 -- what a stop may show within a call where as many calls of the batch are left, itself among them
 abbrev pub MayShow : ℕ → State → State → List ℕ → Type 0
 MayShow calls state after image = Shows image state ⊎ ((calls ≤ 2) × Shows image after)
 
 -- a call of a batch has failed, and a stop leaves the state before the batch or the one after
-pub record HasFailed {D : Type 0} (may_leave : D → List ℕ → Type 0) (store : Store D)
+pub record HasFailed {D : Type 0} (disk : DiskModel D) (store : Store D)
     (state after : State) : Type 0 where
   pub phase : store.phase ≡ Failed
-  pub shows : (c : List ℕ) → may_leave store.device c → Shows c state ⊎ Shows c after
+  pub shows : (c : List ℕ) → disk.may_leave store.device c → Shows c state ⊎ Shows c after
 
 -- the group of these changes fits behind the closed gate, with the next gate inside the half
 abbrev pub HasRoom : {D : Type 0} → Store D → List Change → Type 0

@@ -3,7 +3,7 @@ use Rattle.std.specs.Prelude.{◌≡◌, ◌≢◌, ◌≤◌, ◌+◌, ◌↔�
 use Rattle.apd_base.specs.declared.limits.TheConstants.{DEVICE_LENGTH}
 use Rattle.apd_base.specs.Failures.{HasRisen}
 use Rattle.apd_base.specs.State.{empty_state}
-use Rattle.apd_disk.specs.Disk.{LeavesOnly}
+use Rattle.apd_disk.specs.Disk.{LeavesOnly, DiskModel}
 use Rattle.apd_store.specs.Commit.{IsIdle}
 use Rattle.apd_store.specs.Image.{MayBeMade, Shows}
 use Rattle.apd_store.specs.Outside.{device_of, phase_of, IsInside}
@@ -13,33 +13,31 @@ use Rattle.apd_store.specs.declared.phase.Phase.TheVariants.{Idle}
 use Rattle.apd_store.specs.declared.store.Store.{Store}
 
 -- the device became this store
-pub record IsFormatted {D : Type 0} (honest : D → Type 0) (size failed : D → ℕ) (device : D)
+pub record IsFormatted {D : Type 0} (disk : DiskModel D) (device : D)
     (store : Store D) : Type 0 where
-  pub length : size device ≡ DEVICE_LENGTH
-  pub inside : IsInside size store
+  pub length : disk.size device ≡ DEVICE_LENGTH
+  pub inside : IsInside disk store
   pub ready : phase_of store ≡ Idle
-  pub count : failed (device_of store) ≡ failed device
-  pub stays_honest : honest device ↔ honest (device_of store)
+  pub count : disk.failed (device_of store) ≡ disk.failed device
+  pub stays_honest : disk.honest device ↔ disk.honest (device_of store)
 
 -- of the empty table, which alone a stop leaves from now on
-pub record IsHonestlyFormatted {D : Type 0} (reads : D → List ℕ) (may_leave : D → List ℕ → Type 0) (moment : D → ℕ)
-    (left_since : D → ℕ → List ℕ → Type 0) (device : D) (store : Store D) : Type 0 where
-  pub empty : IsIdle reads may_leave store empty_state
-  pub shown : (c : List ℕ) → may_leave (device_of store) c → Shows c empty_state
-  pub any_moment : LeavesOnly moment left_since device (device_of store) (MayBeMade (may_leave device))
-  pub calls : moment (device_of store) ≤ moment device + 9
+pub record IsHonestlyFormatted {D : Type 0} (disk : DiskModel D) (device : D) (store : Store D) : Type 0 where
+  pub empty : IsIdle disk store empty_state
+  pub shown : (c : List ℕ) → disk.may_leave (device_of store) c → Shows c empty_state
+  pub any_moment : LeavesOnly disk device (device_of store) (MayBeMade (disk.may_leave device))
+  pub calls : disk.moment (device_of store) ≤ disk.moment device + 9
 
 -- the device is handed back, with this fault
-pub record IsNotFormatted {D : Type 0} (honest : D → Type 0) (size failed : D → ℕ) (device left : D)
+pub record IsNotFormatted {D : Type 0} (disk : DiskModel D) (device left : D)
     (fault : StoreFault) : Type 0 where
   pub few : (fault ≡ NotAStore) ⊎ (fault ≡ Device)
-  pub not_a_store : (fault ≡ NotAStore) ↔ (size device ≢ DEVICE_LENGTH)
+  pub not_a_store : (fault ≡ NotAStore) ↔ (disk.size device ≢ DEVICE_LENGTH)
   pub untouched : fault ≡ NotAStore → left ≡ device
-  pub device_failed : fault ≡ Device → HasRisen (failed device) (failed left)
-  pub count : failed device ≤ failed left
-  pub stays_honest : honest device ↔ honest left
+  pub device_failed : fault ≡ Device → HasRisen (disk.failed device) (disk.failed left)
+  pub count : disk.failed device ≤ disk.failed left
+  pub stays_honest : disk.honest device ↔ disk.honest left
 
-pub record IsHonestlyNotFormatted {D : Type 0} (may_leave : D → List ℕ → Type 0) (moment : D → ℕ)
-    (left_since : D → ℕ → List ℕ → Type 0) (device left : D) : Type 0 where
-  pub any_moment : LeavesOnly moment left_since device left (MayBeMade (may_leave device))
-  pub calls : moment left ≤ moment device + 9
+pub record IsHonestlyNotFormatted {D : Type 0} (disk : DiskModel D) (device left : D) : Type 0 where
+  pub any_moment : LeavesOnly disk device left (MayBeMade (disk.may_leave device))
+  pub calls : disk.moment left ≤ disk.moment device + 9

@@ -1,4 +1,5 @@
 pub mod Beginning
+pub mod Calling
 pub mod Commit
 pub mod Formatting
 pub mod Image

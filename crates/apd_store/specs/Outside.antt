@@ -1,6 +1,7 @@
 -- What is seen of a store and of a receipt from outside.
 use Rattle.std.specs.Prelude.{◌≡◌, ◌≤◌, ◌<◌, ◌+◌, ℕ, Bool, length}
 use Rattle.apd_base.specs.declared.limits.TheConstants.{DEVICE_LENGTH}
+use Rattle.apd_disk.specs.Disk.{DiskModel}
 use Rattle.apd_journal.specs.declared.batch.Batch.{Batch}
 use Rattle.apd_journal.specs.declared.writer.TheConstants.{HALF_LENGTH}
 use Rattle.apd_store.specs.Phases.{calls_from}
@@ -36,8 +37,8 @@ held_batch receipt = receipt.batch
 
 -- The device has the store's length, and what is to be written to either half lies inside it, whatever the device
 -- keeps of it.
-pub record IsInside {D : Type 0} (size : D → ℕ) (store : Store D) : Type 0 where
+pub record IsInside {D : Type 0} (disk : DiskModel D) (store : Store D) : Type 0 where
   pub gate : store.gate < HALF_LENGTH
   pub group : store.plan.place + length store.plan.bytes ≤ HALF_LENGTH
   pub half : store.fresh.place + length store.fresh.bytes ≤ HALF_LENGTH
-  pub device : size store.device ≡ DEVICE_LENGTH
+  pub device : disk.size store.device ≡ DEVICE_LENGTH

@@ -9,7 +9,7 @@ use Rattle.apd_record.specs.declared.change.Change.{Change}
 use Rattle.apd_table.specs.Snapshot.{canonical}
 use Rattle.apd_table.specs.Sound.{StaySound}
 use Rattle.apd_table.specs.declared.snapshot.TheConstants.{MAX_SNAPSHOT}
-use Rattle.apd_disk.specs.Disk.{Only, overwritten}
+use Rattle.apd_disk.specs.Disk.{Only, overwritten, DiskModel}
 use Rattle.apd_journal.specs.Half.{IsGroup, begun_bytes, planned_bytes}
 use Rattle.apd_journal.specs.declared.writer.TheConstants.{HALF_LENGTH}
 use Rattle.apd_store.specs.Image.{HasOpenGate, IsCurrent}
@@ -68,7 +68,7 @@ abbrev pub FitsAnew : State → List Change → Type 0
 FitsAnew state changes = (13 + length (records_of (canonical state))) + length (records_of changes) + 6 ≤ HALF_LENGTH
 
 -- a switch is on its way, before the batch that leads from one state to the next
-pub record IsSwitching {D : Type 0} (reads : D → List ℕ) (may_leave : D → List ℕ → Type 0) (store : Store D)
+pub record IsSwitching {D : Type 0} (disk : DiskModel D) (store : Store D)
     (state after : State) : Type 0 where
   pub reserved : List ℕ
   pub half : List ℕ
@@ -85,5 +85,5 @@ pub record IsSwitching {D : Type 0} (reads : D → List ℕ) (may_leave : D → 
   pub after_is : meaning_of store.batch.changes state ≡ after
   pub place : store.plan.place ≡ length store.fresh.bytes + 1
   pub bytes : store.plan.bytes ≡ planned_bytes store.batch.changes
-  pub at : AtSwitch store.phase (opposite store.half) reserved other half store.fresh.bytes (reads store.device)
-      (may_leave store.device)
+  pub at : AtSwitch store.phase (opposite store.half) reserved other half store.fresh.bytes (disk.reads store.device)
+      (disk.may_leave store.device)

@@ -43,11 +43,11 @@ impl<D: Disk> Store<D> {
     /// 65,536 bytes), and then `Worn` exactly where the epoch is the greatest. `NoMemory` may come in the place
     /// of the last two.
     pub fn begin(&mut self, batch: Batch, table: &Table) -> Result<(), (Batch, StoreFault)>
-        ensures begun { OnOk result (IsBegun D.reads D.may_leave batch table.now self.old self.new) }
+        ensures begun { OnOk result (IsBegun D.model batch table.now self.old self.new) }
         ensures refused { IfErr result (λ e. (e.0 ≡ batch) × (self.new ≡ self.old)) }
         ensures why { IfErr result (λ e. IsNotBegun batch table.now self.old e.1) }
         ensures device { device_of self.new ≡ device_of self.old }
-        ensures inside { IsInside D.size self.old → IsInside D.size self.new }
+        ensures inside { IsInside D.model self.old → IsInside D.model self.new }
     {
         match self.phase {
             Phase::Idle => {}
@@ -64,8 +64,8 @@ impl<D: Disk> Store<D> {
     fn begin_group(&mut self, batch: Batch) -> Result<(), (Batch, StoreFault)>
         requires room { HasRoom self.old batch.changes }
         requires idle { phase_of self.old ≡ Phase.Idle }
-        ensures inside { IsInside D.size self.old → IsInside D.size self.new }
-        ensures begun { (state : State) → OnOk result (IsBegun D.reads D.may_leave batch state self.old self.new) }
+        ensures inside { IsInside D.model self.old → IsInside D.model self.new }
+        ensures begun { (state : State) → OnOk result (IsBegun D.model batch state self.old self.new) }
         ensures device { device_of self.new ≡ device_of self.old }
         ensures refused { IfErr result (λ e. (e.0 ≡ batch) × (self.new ≡ self.old)) }
         ensures only { IfErr result (λ e. e.1 ≡ StoreFault.NoMemory) }
@@ -94,8 +94,8 @@ impl<D: Disk> Store<D> {
     fn begin_switch(&mut self, batch: Batch, table: &Table) -> Result<(), (Batch, StoreFault)>
         requires room { ¬ HasRoom self.old batch.changes }
         requires idle { phase_of self.old ≡ Phase.Idle }
-        ensures inside { IsInside D.size self.old → IsInside D.size self.new }
-        ensures begun { OnOk result (IsBegun D.reads D.may_leave batch table.now self.old self.new) }
+        ensures inside { IsInside D.model self.old → IsInside D.model self.new }
+        ensures begun { OnOk result (IsBegun D.model batch table.now self.old self.new) }
         ensures refused { IfErr result (λ e. (e.0 ≡ batch) × (self.new ≡ self.old)) }
         ensures why { IfErr result (λ e. IsNotBegun batch table.now self.old e.1) }
         ensures device { device_of self.new ≡ device_of self.old }

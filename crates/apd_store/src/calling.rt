@@ -20,22 +20,22 @@ pub(crate) fn write_in_half<D: Disk>(
     place: usize,
     bytes: &[u8],
 ) -> Result<(), StoreFault>
-    ensures size { D.size device.new ≡ D.size device.old }
-    ensures honest { D.honest device.old ↔ D.honest device.new }
-    ensures written { D.honest device.old
-        → OnOk result (D.reads device.new ≡ overwritten (D.reads device.old) (start_of half + place) bytes.now) }
-    ensures stop { D.honest device.old → result ≢ Err StoreFault.Failed
-        → Follows (TornWithin (start_of half + place) (length bytes.now)) (D.may_leave device.old)
-        (D.left_since device.new (D.moment device.old)) }
-    ensures time { D.honest device.old → result ≢ Err StoreFault.Failed
-        → Elapses (D.moment device.old) (D.moment device.new) (D.left_since device.old) (D.left_since device.new) }
+    ensures size { D.model.size device.new ≡ D.model.size device.old }
+    ensures honest { D.model.honest device.old ↔ D.model.honest device.new }
+    ensures written { D.model.honest device.old
+        → OnOk result (D.model.reads device.new ≡ overwritten (D.model.reads device.old) (start_of half + place) bytes.now) }
+    ensures stop { D.model.honest device.old → result ≢ Err StoreFault.Failed
+        → Follows (TornWithin (start_of half + place) (length bytes.now)) (D.model.may_leave device.old)
+        (D.model.left_since device.new (D.model.moment device.old)) }
+    ensures time { D.model.honest device.old → result ≢ Err StoreFault.Failed
+        → Elapses (D.model.moment device.old) (D.model.moment device.new) (D.model.left_since device.old) (D.model.left_since device.new) }
     ensures outside { result ≡ Err StoreFault.Failed → device.new ≡ device.old }
-    ensures inside { D.size device.old ≡ DEVICE_LENGTH → place + length bytes.now ≤ HALF_LENGTH
+    ensures inside { D.model.size device.old ≡ DEVICE_LENGTH → place + length bytes.now ≤ HALF_LENGTH
         → result ≢ Err StoreFault.Failed }
     ensures only { OnErr result ((result ≡ Err StoreFault.Device) ⊎ (result ≡ Err StoreFault.Failed)) }
-    ensures count { D.failed device.old ≤ D.failed device.new }
-    ensures no_fault { OnOk result (D.failed device.new ≡ D.failed device.old) }
-    ensures device { IsErrOf result StoreFault.Device → HasRisen (D.failed device.old) (D.failed device.new) }
+    ensures count { D.model.failed device.old ≤ D.model.failed device.new }
+    ensures no_fault { OnOk result (D.model.failed device.new ≡ D.model.failed device.old) }
+    ensures device { IsErrOf result StoreFault.Device → HasRisen (D.model.failed device.old) (D.model.failed device.new) }
 {
     let length = device.len();
     let Some(at) = half.start().checked_add(place) else {
@@ -71,8 +71,9 @@ pub(crate) fn moved(
 }
 
 impl<D: Disk> Store<D> {
+    ghost use Rattle.apd_store.specs.Calling.{IsCallMade};
     ghost use Rattle.apd_store.specs.Commit.{IsCommitting, IsWriting, HasFailed, MayShow};
-    ghost use Rattle.apd_store.specs.Outside.{device_of, phase_of, calls_left, batch_of, IsInside};
+    ghost use Rattle.apd_store.specs.Outside.{device_of, phase_of, calls_left};
 
     /// Makes the next call of the batch, and answers whether calls are left. With no batch begun or no call
     /// left there is none, and nothing is done.
@@ -80,47 +81,26 @@ impl<D: Disk> Store<D> {
     /// Errors: `Device` where the device failed in this call; `Failed` where it did in an earlier one, or where
     /// the place that is next does not lie inside the device, and no call is then made. It takes no memory.
     pub fn next_call(&mut self) -> Result<bool, StoreFault>
-        ensures inside { IsInside D.size self.old → IsInside D.size self.new }
-        ensures honest { D.honest (device_of self.old) ↔ D.honest (device_of self.new) }
+        ensures made { IsCallMade D.model self.old self.new result }
 
         // A stop within the call shows the state before the batch, and where two calls are left or fewer it or the one
         // after.
-        ensures any_moment { (state after : State) → D.honest (device_of self.old)
-            → IsCommitting D.reads D.may_leave self.old state after
-            → LeavesOnly D.moment D.left_since (device_of self.old) (device_of self.new)
-            (MayShow (calls_left self.old) state after) }
-        ensures on { (state after : State) → D.honest (device_of self.old)
-            → IsCommitting D.reads D.may_leave self.old state after
-            → OnOk result (IsCommitting D.reads D.may_leave self.new state after) }
+        ensures any_moment { (state after : State) → D.model.honest (device_of self.old)
+            → IsCommitting D.model self.old state after
+            → LeavesOnly D.model (device_of self.old) (device_of self.new) (MayShow (calls_left self.old) state after) }
+        ensures on { (state after : State) → D.model.honest (device_of self.old)
+            → IsCommitting D.model self.old state after → OnOk result (IsCommitting D.model self.new state after) }
 
         // The same of a call that failed, once it has; where more than two calls were left the state after shows
         // nowhere.
-        ensures stuck { (state after : State) → D.honest (device_of self.old)
-            → IsCommitting D.reads D.may_leave self.old state after
-            → OnErr result (HasFailed D.may_leave self.new state after) }
-        ensures stuck_early { (state after : State) → D.honest (device_of self.old)
-            → IsCommitting D.reads D.may_leave self.old state after
-            → 2 < calls_left self.old → OnErr result (HasFailed D.may_leave self.new state state) }
+        ensures stuck { (state after : State) → D.model.honest (device_of self.old)
+            → IsCommitting D.model self.old state after → OnErr result (HasFailed D.model self.new state after) }
+        ensures stuck_early { (state after : State) → D.model.honest (device_of self.old)
+            → IsCommitting D.model self.old state after
+            → 2 < calls_left self.old → OnErr result (HasFailed D.model self.new state state) }
 
-        // It makes the call that is next, and no other: each call takes the device's moment on by one at most.
-        ensures one_call { D.honest (device_of self.old)
-            → D.moment (device_of self.new) ≤ D.moment (device_of self.old) + 1 }
-        ensures step { 0 < calls_left self.old → OnOk result (calls_left self.new + 1 ≡ calls_left self.old) }
-        ensures done { calls_left self.old ≡ 1 → OnOk result (phase_of self.new ≡ Phase.Done) }
         ensures rest { calls_left self.old ≡ 0 → self.new ≡ self.old }
-        ensures batch { batch_of self.new ≡ batch_of self.old }
-        ensures left { IfOk result (λ more. IsTrue more ↔ (0 < calls_left self.new)) }
-        ensures err { IfErr result (λ e. (phase_of self.new ≡ Phase.Failed)
-            × ((e ≡ StoreFault.Device) ⊎ (e ≡ StoreFault.Failed))) }
         ensures failed { phase_of self.old ≡ Phase.Failed → result ≡ Err StoreFault.Failed }
-        ensures no_call { IsErrOf result StoreFault.Failed → device_of self.new ≡ device_of self.old }
-        ensures only_after { IsInside D.size self.old → IsErrOf result StoreFault.Failed
-            → phase_of self.old ≡ Phase.Failed }
-
-        ensures count { D.failed (device_of self.old) ≤ D.failed (device_of self.new) }
-        ensures no_fault { OnOk result (D.failed (device_of self.new) ≡ D.failed (device_of self.old)) }
-        ensures device { IsErrOf result StoreFault.Device
-            → HasRisen (D.failed (device_of self.old)) (D.failed (device_of self.new)) }
     {
         match self.phase {
             Phase::Idle | Phase::Done => Ok(false),
@@ -140,35 +120,17 @@ impl<D: Disk> Store<D> {
     // The next of the four calls of a group.
     fn next_of_group(&mut self) -> Result<bool, StoreFault>
         requires { (1 ≤ calls_left self.old) × (calls_left self.old ≤ 4) }
-        ensures inside { IsInside D.size self.old → IsInside D.size self.new }
-        ensures honest { D.honest (device_of self.old) ↔ D.honest (device_of self.new) }
-        ensures any_moment { (state after : State) → D.honest (device_of self.old)
-            → IsWriting D.reads D.may_leave self.old state after
-            → LeavesOnly D.moment D.left_since (device_of self.old) (device_of self.new)
-            (MayShow (calls_left self.old) state after) }
-        ensures on { (state after : State) → D.honest (device_of self.old)
-            → IsWriting D.reads D.may_leave self.old state after
-            → OnOk result (IsWriting D.reads D.may_leave self.new state after) }
-        ensures stuck { (state after : State) → D.honest (device_of self.old)
-            → IsWriting D.reads D.may_leave self.old state after
-            → OnErr result (HasFailed D.may_leave self.new state after) }
-        ensures stuck_early { (state after : State) → D.honest (device_of self.old)
-            → IsWriting D.reads D.may_leave self.old state after
-            → 2 < calls_left self.old → OnErr result (HasFailed D.may_leave self.new state state) }
-        ensures one_call { D.honest (device_of self.old)
-            → D.moment (device_of self.new) ≤ D.moment (device_of self.old) + 1 }
-        ensures step { OnOk result (calls_left self.new + 1 ≡ calls_left self.old) }
-        ensures done { calls_left self.old ≡ 1 → OnOk result (phase_of self.new ≡ Phase.Done) }
-        ensures batch { batch_of self.new ≡ batch_of self.old }
-        ensures left { IfOk result (λ more. IsTrue more ↔ (0 < calls_left self.new)) }
-        ensures err { IfErr result (λ e. (phase_of self.new ≡ Phase.Failed)
-            × ((e ≡ StoreFault.Device) ⊎ (e ≡ StoreFault.Failed))) }
-        ensures no_call { IsErrOf result StoreFault.Failed → device_of self.new ≡ device_of self.old }
-        ensures only_after { IsInside D.size self.old → ¬ IsErrOf result StoreFault.Failed }
-        ensures count { D.failed (device_of self.old) ≤ D.failed (device_of self.new) }
-        ensures no_fault { OnOk result (D.failed (device_of self.new) ≡ D.failed (device_of self.old)) }
-        ensures device { IsErrOf result StoreFault.Device
-            → HasRisen (D.failed (device_of self.old)) (D.failed (device_of self.new)) }
+        ensures made { IsCallMade D.model self.old self.new result }
+        ensures any_moment { (state after : State) → D.model.honest (device_of self.old)
+            → IsWriting D.model self.old state after
+            → LeavesOnly D.model (device_of self.old) (device_of self.new) (MayShow (calls_left self.old) state after) }
+        ensures on { (state after : State) → D.model.honest (device_of self.old)
+            → IsWriting D.model self.old state after → OnOk result (IsWriting D.model self.new state after) }
+        ensures stuck { (state after : State) → D.model.honest (device_of self.old)
+            → IsWriting D.model self.old state after → OnErr result (HasFailed D.model self.new state after) }
+        ensures stuck_early { (state after : State) → D.model.honest (device_of self.old)
+            → IsWriting D.model self.old state after
+            → 2 < calls_left self.old → OnErr result (HasFailed D.model self.new state state) }
     {
         match self.phase {
             Phase::WriteGroup => {

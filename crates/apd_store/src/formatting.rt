@@ -26,17 +26,17 @@ const HEAD_B: [u8; 13] = [0; 13];
 
 /// Writes zeros over the mark, where it stands.
 fn unmark<D: Disk>(device: &mut D, mark: &[u8; 8]) -> Result<(), DiskFault>
-    requires size { D.size device.old ≡ DEVICE_LENGTH }
+    requires size { D.model.size device.old ≡ DEVICE_LENGTH }
     requires marks { mark.now ≢ blank }
-    ensures size { D.size device.new ≡ D.size device.old }
-    ensures count { Counts (D.failed device.old) (D.failed device.new) result }
-    ensures honest { D.honest device.old ↔ D.honest device.new }
-    ensures calls { D.honest device.old → D.moment device.new ≤ D.moment device.old + 4 }
-    ensures any_moment { D.honest device.old
-        → LeavesOnly D.moment D.left_since device.old device.new (λ c. IsMarkedBy mark.now c
-        → D.may_leave device.old c) }
-    ensures unmarked { D.honest device.old
-        → OnOk result ((take 8 (D.reads device.new) ≢ mark.now) × Only (D.reads device.new) (D.may_leave device.new)) }
+    ensures size { D.model.size device.new ≡ D.model.size device.old }
+    ensures count { Counts (D.model.failed device.old) (D.model.failed device.new) result }
+    ensures honest { D.model.honest device.old ↔ D.model.honest device.new }
+    ensures calls { D.model.honest device.old → D.model.moment device.new ≤ D.model.moment device.old + 4 }
+    ensures any_moment { D.model.honest device.old
+        → LeavesOnly D.model device.old device.new (λ c. IsMarkedBy mark.now c
+        → D.model.may_leave device.old c) }
+    ensures unmarked { D.model.honest device.old
+        → OnOk result ((take 8 (D.model.reads device.new) ≢ mark.now) × Only (D.model.reads device.new) (D.model.may_leave device.new)) }
 {
     device.sync()?;
     let mut first = [0; 8];
@@ -50,20 +50,20 @@ fn unmark<D: Disk>(device: &mut D, mark: &[u8; 8]) -> Result<(), DiskFault>
 
 /// Writes the heads of both halves, where the mark does not stand.
 fn write_heads<D: Disk>(device: &mut D, a: &[u8], b: &[u8]) -> Result<(), DiskFault>
-    requires size { D.size device.old ≡ DEVICE_LENGTH }
+    requires size { D.model.size device.old ≡ DEVICE_LENGTH }
     requires fits { (length a.now ≤ HALF_LENGTH) × (length b.now ≤ HALF_LENGTH) }
-    ensures size { D.size device.new ≡ D.size device.old }
-    ensures count { Counts (D.failed device.old) (D.failed device.new) result }
-    ensures honest { D.honest device.old ↔ D.honest device.new }
-    ensures calls { D.honest device.old → D.moment device.new ≤ D.moment device.old + 3 }
-    ensures any_moment { (mark : List ℕ) → D.honest device.old → take 8 (D.reads device.old) ≢ mark
-        → Only (D.reads device.old) (D.may_leave device.old)
-        → LeavesOnly D.moment D.left_since device.old device.new (λ c. take 8 c ≢ mark) }
-    ensures heads { (mark : List ℕ) (epoch gate : ℕ) (state : State) → D.honest device.old
-        → take 8 (D.reads device.old) ≢ mark
-        → Only (D.reads device.old) (D.may_leave device.old) → BeginsBy a.now epoch gate state → HasZeroGate b.now
-        → OnOk result (IsLaidOut (D.reads device.new) epoch gate state × (take 8 (D.reads device.new) ≢ mark)
-        × Only (D.reads device.new) (D.may_leave device.new)) }
+    ensures size { D.model.size device.new ≡ D.model.size device.old }
+    ensures count { Counts (D.model.failed device.old) (D.model.failed device.new) result }
+    ensures honest { D.model.honest device.old ↔ D.model.honest device.new }
+    ensures calls { D.model.honest device.old → D.model.moment device.new ≤ D.model.moment device.old + 3 }
+    ensures any_moment { (mark : List ℕ) → D.model.honest device.old → take 8 (D.model.reads device.old) ≢ mark
+        → Only (D.model.reads device.old) (D.model.may_leave device.old)
+        → LeavesOnly D.model device.old device.new (λ c. take 8 c ≢ mark) }
+    ensures heads { (mark : List ℕ) (epoch gate : ℕ) (state : State) → D.model.honest device.old
+        → take 8 (D.model.reads device.old) ≢ mark
+        → Only (D.model.reads device.old) (D.model.may_leave device.old) → BeginsBy a.now epoch gate state → HasZeroGate b.now
+        → OnOk result (IsLaidOut (D.model.reads device.new) epoch gate state × (take 8 (D.model.reads device.new) ≢ mark)
+        × Only (D.model.reads device.new) (D.model.may_leave device.new)) }
 {
     device.write_at(START_A, a)?;
     device.write_at(START_B, b)?;
@@ -72,21 +72,21 @@ fn write_heads<D: Disk>(device: &mut D, a: &[u8], b: &[u8]) -> Result<(), DiskFa
 
 /// Writes the mark before the heads.
 fn write_mark<D: Disk>(device: &mut D, mark: &[u8; 8]) -> Result<(), DiskFault>
-    requires { D.size device.old ≡ DEVICE_LENGTH }
-    ensures size { D.size device.new ≡ D.size device.old }
-    ensures count { Counts (D.failed device.old) (D.failed device.new) result }
-    ensures honest { D.honest device.old ↔ D.honest device.new }
-    ensures calls { D.honest device.old → D.moment device.new ≤ D.moment device.old + 2 }
-    ensures any_moment { (epoch gate : ℕ) (state : State) → D.honest device.old
-        → IsLaidOut (D.reads device.old) epoch gate state
-        → Only (D.reads device.old) (D.may_leave device.old)
-        → LeavesOnly D.moment D.left_since device.old device.new (λ c. IsMarkedBy mark.now c
+    requires { D.model.size device.old ≡ DEVICE_LENGTH }
+    ensures size { D.model.size device.new ≡ D.model.size device.old }
+    ensures count { Counts (D.model.failed device.old) (D.model.failed device.new) result }
+    ensures honest { D.model.honest device.old ↔ D.model.honest device.new }
+    ensures calls { D.model.honest device.old → D.model.moment device.new ≤ D.model.moment device.old + 2 }
+    ensures any_moment { (epoch gate : ℕ) (state : State) → D.model.honest device.old
+        → IsLaidOut (D.model.reads device.old) epoch gate state
+        → Only (D.model.reads device.old) (D.model.may_leave device.old)
+        → LeavesOnly D.model device.old device.new (λ c. IsMarkedBy mark.now c
         → ShowsBy mark.now c state) }
-    ensures found { (epoch gate : ℕ) (state : State) → D.honest device.old
-        → IsLaidOut (D.reads device.old) epoch gate state
-        → Only (D.reads device.old) (D.may_leave device.old)
-        → OnOk result (IsFoundBy mark.now (D.reads device.new) A epoch gate false state
-        × Only (D.reads device.new) (D.may_leave device.new)) }
+    ensures found { (epoch gate : ℕ) (state : State) → D.model.honest device.old
+        → IsLaidOut (D.model.reads device.old) epoch gate state
+        → Only (D.model.reads device.old) (D.model.may_leave device.old)
+        → OnOk result (IsFoundBy mark.now (D.model.reads device.new) A epoch gate false state
+        × Only (D.model.reads device.new) (D.model.may_leave device.new)) }
 {
     device.write_at(0, mark)?;
     device.sync()
@@ -95,20 +95,20 @@ fn write_mark<D: Disk>(device: &mut D, mark: &[u8; 8]) -> Result<(), DiskFault>
 /// Lays out a store of this mark, whose halves begin so, whatever version and state they are of: each part is
 /// at most four calls.
 fn lay_out<D: Disk>(device: &mut D, mark: &[u8; 8], a: &[u8], b: &[u8]) -> Result<(), DiskFault>
-    requires size { D.size device.old ≡ DEVICE_LENGTH }
+    requires size { D.model.size device.old ≡ DEVICE_LENGTH }
     requires marks { mark.now ≢ blank }
     requires fits { (length a.now ≤ HALF_LENGTH) × (length b.now ≤ HALF_LENGTH) }
-    ensures size { D.size device.new ≡ D.size device.old }
-    ensures count { Counts (D.failed device.old) (D.failed device.new) result }
-    ensures honest { D.honest device.old ↔ D.honest device.new }
-    ensures calls { D.honest device.old → D.moment device.new ≤ D.moment device.old + 9 }
-    ensures any_moment { (epoch gate : ℕ) (state : State) → D.honest device.old → BeginsBy a.now epoch gate state
+    ensures size { D.model.size device.new ≡ D.model.size device.old }
+    ensures count { Counts (D.model.failed device.old) (D.model.failed device.new) result }
+    ensures honest { D.model.honest device.old ↔ D.model.honest device.new }
+    ensures calls { D.model.honest device.old → D.model.moment device.new ≤ D.model.moment device.old + 9 }
+    ensures any_moment { (epoch gate : ℕ) (state : State) → D.model.honest device.old → BeginsBy a.now epoch gate state
         → HasZeroGate b.now
-        → LeavesOnly D.moment D.left_since device.old device.new (MayBeMadeBy mark.now state (D.may_leave device.old)) }
-    ensures found { (epoch gate : ℕ) (state : State) → D.honest device.old → BeginsBy a.now epoch gate state
+        → LeavesOnly D.model device.old device.new (MayBeMadeBy mark.now state (D.model.may_leave device.old)) }
+    ensures found { (epoch gate : ℕ) (state : State) → D.model.honest device.old → BeginsBy a.now epoch gate state
         → HasZeroGate b.now
-        → OnOk result (IsFoundBy mark.now (D.reads device.new) A epoch gate false state
-        × Only (D.reads device.new) (D.may_leave device.new)) }
+        → OnOk result (IsFoundBy mark.now (D.model.reads device.new) A epoch gate false state
+        × Only (D.model.reads device.new) (D.model.may_leave device.new)) }
 {
     unmark(device, mark)?;
     write_heads(device, a, b)?;
@@ -117,16 +117,16 @@ fn lay_out<D: Disk>(device: &mut D, mark: &[u8; 8], a: &[u8], b: &[u8]) -> Resul
 
 /// Lays out a new store of today's version and the empty table.
 fn lay_out_empty<D: Disk>(device: &mut D) -> Result<(), DiskFault>
-    requires { D.size device.old ≡ DEVICE_LENGTH }
-    ensures size { D.size device.new ≡ D.size device.old }
-    ensures count { Counts (D.failed device.old) (D.failed device.new) result }
-    ensures honest { D.honest device.old ↔ D.honest device.new }
-    ensures calls { D.honest device.old → D.moment device.new ≤ D.moment device.old + 9 }
-    ensures any_moment { D.honest device.old
-        → LeavesOnly D.moment D.left_since device.old device.new (MayBeMade (D.may_leave device.old)) }
-    ensures found { D.honest device.old
-        → OnOk result (IsFound (D.reads device.new) A 1 13 false empty_state
-        × Only (D.reads device.new) (D.may_leave device.new)) }
+    requires { D.model.size device.old ≡ DEVICE_LENGTH }
+    ensures size { D.model.size device.new ≡ D.model.size device.old }
+    ensures count { Counts (D.model.failed device.old) (D.model.failed device.new) result }
+    ensures honest { D.model.honest device.old ↔ D.model.honest device.new }
+    ensures calls { D.model.honest device.old → D.model.moment device.new ≤ D.model.moment device.old + 9 }
+    ensures any_moment { D.model.honest device.old
+        → LeavesOnly D.model device.old device.new (MayBeMade (D.model.may_leave device.old)) }
+    ensures found { D.model.honest device.old
+        → OnOk result (IsFound (D.model.reads device.new) A 1 13 false empty_state
+        × Only (D.model.reads device.new) (D.model.may_leave device.new)) }
 {
     lay_out(device, &MAGIC, &HEAD_A, &HEAD_B)
 }
@@ -138,12 +138,12 @@ fn lay_out_empty<D: Disk>(device: &mut D) -> Result<(), DiskFault>
 /// nothing is then done; `Device` where it failed in this call. So it succeeds exactly where the length is
 /// right and no call of the device failed: the count of failures is then as it was.
 pub fn format<D: Disk>(alloc: Global, device: D) -> Result<Store<D>, (D, StoreFault)>
-    ensures made { IfOk result (λ store. IsFormatted D.honest D.size D.failed device store) }
-    ensures made_honest { D.honest device
-        → IfOk result (λ store. IsHonestlyFormatted D.reads D.may_leave D.moment D.left_since device store) }
-    ensures none { IfErr result (λ e. IsNotFormatted D.honest D.size D.failed device e.0 e.1) }
-    ensures none_honest { D.honest device
-        → IfErr result (λ e. IsHonestlyNotFormatted D.may_leave D.moment D.left_since device e.0) }
+    ensures made { IfOk result (λ store. IsFormatted D.model device store) }
+    ensures made_honest { D.model.honest device
+        → IfOk result (λ store. IsHonestlyFormatted D.model device store) }
+    ensures none { IfErr result (λ e. IsNotFormatted D.model device e.0 e.1) }
+    ensures none_honest { D.model.honest device
+        → IfErr result (λ e. IsHonestlyNotFormatted D.model device e.0) }
 {
     let mut device = device;
     if device.len() != DEVICE_LENGTH as usize {

@@ -19,5 +19,6 @@ pub use formatting::format;
 pub use half::Half;
 pub use laws::an_image_shows_one_state;
 pub use phase::Phase;
+pub use reading::MAGIC;
 pub use recovery::recover;
 pub use store::{Receipt, Store};

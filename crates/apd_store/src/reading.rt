@@ -16,7 +16,7 @@ use apd_table::{Table, TableFault};
 use std::alloc::Global;
 
 /// `RAPSTOR1`, with which a store begins.
-pub(crate) const MAGIC: [u8; 8] = [b'R', b'A', b'P', b'S', b'T', b'O', b'R', b'1'];
+pub const MAGIC: [u8; 8] = [b'R', b'A', b'P', b'S', b'T', b'O', b'R', b'1'];
 
 /// The table that changes lead to, one after another, from the empty one.
 fn table_of(alloc: Global, changes: &[Change]) -> Result<Table, TableFault>

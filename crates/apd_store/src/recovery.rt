@@ -23,22 +23,22 @@ fn blank(alloc: Global, size: usize) -> Result<Vec<u8>, AllocError>
 
 /// All bytes of a store's device, after a sync.
 fn read_device<D: Disk>(alloc: Global, device: &mut D) -> Result<Vec<u8>, StoreFault>
-    ensures size { D.size device.new ≡ D.size device.old }
-    ensures honest { D.honest device.old ↔ D.honest device.new }
+    ensures size { D.model.size device.new ≡ D.model.size device.old }
+    ensures honest { D.model.honest device.old ↔ D.model.honest device.new }
     ensures length { IfOk result (λ bytes. length bytes.items ≡ DEVICE_LENGTH) }
-    ensures right_length { OnOk result (D.size device.old ≡ DEVICE_LENGTH) }
-    ensures bytes { D.honest device.old → IfOk result (λ bytes. bytes.items ≡ D.reads device.old) }
-    ensures reads { D.honest device.old → OnOk result (D.reads device.new ≡ D.reads device.old) }
-    ensures durable { D.honest device.old → result ≢ Err StoreFault.Device
-        → Only (D.reads device.old) (D.may_leave device.new) }
-    ensures calls { D.honest device.old → D.moment device.new ≤ D.moment device.old + 2 }
-    ensures any_moment { D.honest device.old
-        → LeavesOnly D.moment D.left_since device.old device.new (D.may_leave device.old) }
-    ensures not_a_store { result ≡ Err StoreFault.NotAStore → D.size device.old ≢ DEVICE_LENGTH }
-    ensures memory { result ≡ Err StoreFault.NoMemory → D.size device.old ≡ DEVICE_LENGTH }
-    ensures count { D.failed device.old ≤ D.failed device.new }
-    ensures no_fault { result ≢ Err StoreFault.Device → D.failed device.new ≡ D.failed device.old }
-    ensures device { IsErrOf result StoreFault.Device → HasRisen (D.failed device.old) (D.failed device.new) }
+    ensures right_length { OnOk result (D.model.size device.old ≡ DEVICE_LENGTH) }
+    ensures bytes { D.model.honest device.old → IfOk result (λ bytes. bytes.items ≡ D.model.reads device.old) }
+    ensures reads { D.model.honest device.old → OnOk result (D.model.reads device.new ≡ D.model.reads device.old) }
+    ensures durable { D.model.honest device.old → result ≢ Err StoreFault.Device
+        → Only (D.model.reads device.old) (D.model.may_leave device.new) }
+    ensures calls { D.model.honest device.old → D.model.moment device.new ≤ D.model.moment device.old + 2 }
+    ensures any_moment { D.model.honest device.old
+        → LeavesOnly D.model device.old device.new (D.model.may_leave device.old) }
+    ensures not_a_store { result ≡ Err StoreFault.NotAStore → D.model.size device.old ≢ DEVICE_LENGTH }
+    ensures memory { result ≡ Err StoreFault.NoMemory → D.model.size device.old ≡ DEVICE_LENGTH }
+    ensures count { D.model.failed device.old ≤ D.model.failed device.new }
+    ensures no_fault { result ≢ Err StoreFault.Device → D.model.failed device.new ≡ D.model.failed device.old }
+    ensures device { IsErrOf result StoreFault.Device → HasRisen (D.model.failed device.old) (D.model.failed device.new) }
     ensures only { OnErr result ((result ≡ Err StoreFault.NotAStore) ⊎ (result ≡ Err StoreFault.Device)
         ⊎ (result ≡ Err StoreFault.NoMemory)) }
 {
@@ -66,13 +66,13 @@ fn read_device<D: Disk>(alloc: Global, device: &mut D) -> Result<Vec<u8>, StoreF
 /// the bytes show no state; `Device` where the device failed in this call; `NoMemory`. Where a stop left one
 /// image before the call, as after a sync, it leaves that one after any of them.
 pub fn recover<D: Disk>(alloc: Global, device: D) -> Result<(Store<D>, Table), (D, StoreFault)>
-    ensures found { IfOk result (λ found. IsRecovered D.honest D.size D.failed device found.0) }
-    ensures found_honest { D.honest device
+    ensures found { IfOk result (λ found. IsRecovered D.model device found.0) }
+    ensures found_honest { D.model.honest device
         → IfOk result
-        (λ found. IsHonestlyRecovered D.reads D.may_leave D.moment D.left_since device found.0 found.1) }
-    ensures none { IfErr result (λ e. IsNotRecovered D.honest D.size D.failed device e.0 e.1) }
-    ensures none_honest { D.honest device
-        → IfErr result (λ e. IsHonestlyNotRecovered D.reads D.may_leave D.moment D.left_since device e.0 e.1) }
+        (λ found. IsHonestlyRecovered D.model device found.0 found.1) }
+    ensures none { IfErr result (λ e. IsNotRecovered D.model device e.0 e.1) }
+    ensures none_honest { D.model.honest device
+        → IfErr result (λ e. IsHonestlyNotRecovered D.model device e.0 e.1) }
 {
     let mut device = device;
     let bytes = match read_device(alloc, &mut device) {

@@ -141,11 +141,11 @@ impl<D: Disk> Store<D> {
 
     /// The receipt of a batch whose last call succeeded, once. The store is then idle. It takes no memory.
     pub fn finish(&mut self) -> Option<Receipt>
-        ensures inside { IsInside D.size self.old → IsInside D.size self.new }
+        ensures inside { IsInside D.model self.old → IsInside D.model self.new }
         ensures exactly { IsSome result ↔ (phase_of self.old ≡ Phase.Done) }
         ensures receipt { IfSome result (λ receipt. held_batch receipt ≡ batch_of self.old) }
-        ensures settled { (state after : State) → IsCommitting D.reads D.may_leave self.old state after
-            → OnSome result (IsIdle D.reads D.may_leave self.new after) }
+        ensures settled { (state after : State) → IsCommitting D.model self.old state after
+            → OnSome result (IsIdle D.model self.new after) }
         ensures idle { OnSome result (phase_of self.new ≡ Phase.Idle) }
         ensures none { phase_of self.old ≢ Phase.Done → self.new ≡ self.old }
         ensures device { device_of self.new ≡ device_of self.old }
@@ -164,16 +164,16 @@ impl<D: Disk> Store<D> {
     /// state before it, and where one call is left that state or the one after; once its last call succeeded
     /// the state after alone; where a call failed one of the two. It does nothing.
     pub fn shown(&self)
-        ensures idle { (state : State) → IsIdle D.reads D.may_leave self.now state → (c : List ℕ)
-            → D.may_leave (device_of self.now) c → Shows c state }
-        ensures under_way { (state after : State) → IsCommitting D.reads D.may_leave self.now state after
-            → (c : List ℕ) → D.may_leave (device_of self.now) c → MayShow (calls_left self.now) state after c }
-        ensures before { (state after : State) → IsCommitting D.reads D.may_leave self.now state after
-            → 2 ≤ calls_left self.now → (c : List ℕ) → D.may_leave (device_of self.now) c → Shows c state }
-        ensures done { (state after : State) → IsCommitting D.reads D.may_leave self.now state after
-            → phase_of self.now ≡ Phase.Done → (c : List ℕ) → D.may_leave (device_of self.now) c → Shows c after }
-        ensures stuck { (state after : State) → HasFailed D.may_leave self.now state after → (c : List ℕ)
-            → D.may_leave (device_of self.now) c → Shows c state ⊎ Shows c after }
+        ensures idle { (state : State) → IsIdle D.model self.now state → (c : List ℕ)
+            → D.model.may_leave (device_of self.now) c → Shows c state }
+        ensures under_way { (state after : State) → IsCommitting D.model self.now state after
+            → (c : List ℕ) → D.model.may_leave (device_of self.now) c → MayShow (calls_left self.now) state after c }
+        ensures before { (state after : State) → IsCommitting D.model self.now state after
+            → 2 ≤ calls_left self.now → (c : List ℕ) → D.model.may_leave (device_of self.now) c → Shows c state }
+        ensures done { (state after : State) → IsCommitting D.model self.now state after
+            → phase_of self.now ≡ Phase.Done → (c : List ℕ) → D.model.may_leave (device_of self.now) c → Shows c after }
+        ensures stuck { (state after : State) → HasFailed D.model self.now state after → (c : List ℕ)
+            → D.model.may_leave (device_of self.now) c → Shows c state ⊎ Shows c after }
     {
         let _ = &self.device;
     }

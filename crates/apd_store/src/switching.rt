@@ -14,6 +14,7 @@ use crate::store::{Store, last_place, no_plan};
 use apd_disk::Disk;
 
 impl<D: Disk> Store<D> {
+    ghost use Rattle.apd_store.specs.Calling.{IsCallMade};
     ghost use Rattle.apd_store.specs.Commit.{IsWriting, HasFailed};
     ghost use Rattle.apd_store.specs.Switch.{IsSwitching};
     ghost use Rattle.apd_store.specs.Outside.{device_of, phase_of, calls_left, batch_of, IsInside};
@@ -21,31 +22,15 @@ impl<D: Disk> Store<D> {
     /// The next call of a switch.
     pub(crate) fn next_of_switch(&mut self) -> Result<bool, StoreFault>
         requires { 4 < calls_left self.old }
-        ensures inside { IsInside D.size self.old → IsInside D.size self.new }
-        ensures honest { D.honest (device_of self.old) ↔ D.honest (device_of self.new) }
-        ensures any_moment { (state after : State) → D.honest (device_of self.old)
-            → IsSwitching D.reads D.may_leave self.old state after
-            → LeavesOnly D.moment D.left_since (device_of self.old) (device_of self.new) (λ c. Shows c state) }
-        ensures on { (state after : State) → D.honest (device_of self.old)
-            → IsSwitching D.reads D.may_leave self.old state after
-            → OnOk result (IsSwitching D.reads D.may_leave self.new state after
-            ⊎ IsWriting D.reads D.may_leave self.new state after) }
-        ensures stuck { (state after : State) → D.honest (device_of self.old)
-            → IsSwitching D.reads D.may_leave self.old state after
-            → OnErr result (HasFailed D.may_leave self.new state state) }
-        ensures one_call { D.honest (device_of self.old)
-            → D.moment (device_of self.new) ≤ D.moment (device_of self.old) + 1 }
-        ensures step { OnOk result (calls_left self.new + 1 ≡ calls_left self.old) }
-        ensures batch { batch_of self.new ≡ batch_of self.old }
-        ensures left { IfOk result (λ more. IsTrue more ↔ (0 < calls_left self.new)) }
-        ensures err { IfErr result (λ e. (phase_of self.new ≡ Phase.Failed)
-            × ((e ≡ StoreFault.Device) ⊎ (e ≡ StoreFault.Failed))) }
-        ensures no_call { IsErrOf result StoreFault.Failed → device_of self.new ≡ device_of self.old }
-        ensures only_after { IsInside D.size self.old → ¬ IsErrOf result StoreFault.Failed }
-        ensures count { D.failed (device_of self.old) ≤ D.failed (device_of self.new) }
-        ensures no_fault { OnOk result (D.failed (device_of self.new) ≡ D.failed (device_of self.old)) }
-        ensures device { IsErrOf result StoreFault.Device
-            → HasRisen (D.failed (device_of self.old)) (D.failed (device_of self.new)) }
+        ensures made { IsCallMade D.model self.old self.new result }
+        ensures any_moment { (state after : State) → D.model.honest (device_of self.old)
+            → IsSwitching D.model self.old state after
+            → LeavesOnly D.model (device_of self.old) (device_of self.new) (λ c. Shows c state) }
+        ensures on { (state after : State) → D.model.honest (device_of self.old)
+            → IsSwitching D.model self.old state after
+            → OnOk result (IsSwitching D.model self.new state after ⊎ IsWriting D.model self.new state after) }
+        ensures stuck { (state after : State) → D.model.honest (device_of self.old)
+            → IsSwitching D.model self.old state after → OnErr result (HasFailed D.model self.new state state) }
     {
         let side = self.half.other();
         match self.phase {
@@ -84,7 +69,7 @@ impl<D: Disk> Store<D> {
 
     // Goes on in the other half, which began anew, with the batch's group.
     fn turn_over(&mut self)
-        ensures inside { IsInside D.size self.old → IsInside D.size self.new }
+        ensures inside { IsInside D.model self.old → IsInside D.model self.new }
         ensures device { device_of self.new ≡ device_of self.old }
         ensures half { self.new.half ≡ opposite self.old.half }
         ensures epoch { self.old.epoch + 1 < 2 ^ 64 → self.new.epoch ≡ self.old.epoch + 1 }

@@ -4,7 +4,7 @@ use Rattle.std.proofs.lemmas.List.{append-nil, take-append-le, take-append-drop,
 use Rattle.std.proofs.Math.Seq.{take-suc, take-append_seam}
 use Rattle.apd_base.specs.State.{State}
 use Rattle.apd_conf.specs.declared.conf.Conf.{Conf}
-use Rattle.apd_disk.specs.Disk.{LeavesOnly}
+use Rattle.apd_disk.specs.Disk.{LeavesOnly, DiskModel}
 use Rattle.apd_disk.proofs.Moments.{started, then_run, weaker}
 use Rattle.apd_mlme.specs.Happening.{Happening}
 use Rattle.apd_mlme.specs.Run.{run}
@@ -82,7 +82,7 @@ shows_later a b hs es g confs settles more c either =
     (λ i. run (settles.state i) (confs i) front) ∙ sym (run-append a.confs settles.settled front a.settled) in
     shows_front a.settled a.confs c (hs ++ (es ++ more)) (settles.settled ++ front) (rest ++ more) parts (subst (Shows c) is flight.shows)
 
-module _ {D : Type 0} (honest : D → Type 0) (reads : D → List ℕ) (may_leave : D → List ℕ → Type 0) (moment : D → ℕ) (left_since : D → ℕ → List ℕ → Type 0) (size : D → ℕ) where
+module _ {D : Type 0} (disk : DiskModel D) where
   abbrev accounted : List Step → List Told → DurableCore D → Account
   accounted xs ts a = account a.core.confs xs ts (nothing_yet a.core)
 
@@ -93,12 +93,12 @@ module _ {D : Type 0} (honest : D → Type 0) (reads : D → List ℕ) (may_leav
     pub state : front_of new.core ≡ (accounted steps tolds old).state
     pub heard : new.core.heard ≡ (accounted steps tolds old).heard
     pub spoken : IsSpoken old → IsSpoken new
-    pub proper : IsProper honest reads may_leave size old → IsProper honest reads may_leave size new
-    pub any_moment : IsProper honest reads may_leave size old → (hs : List Happening) → AreUnsettled hs old.core
-        → LeavesOnly moment left_since (device_of old) (device_of new) (ShowsFront old.core.settled old.core.confs (hs ++ (accounted steps tolds old).happened))
+    pub proper : IsProper disk old → IsProper disk new
+    pub any_moment : IsProper disk old → (hs : List Happening) → AreUnsettled hs old.core
+        → LeavesOnly disk (device_of old) (device_of new) (ShowsFront old.core.settled old.core.confs (hs ++ (accounted steps tolds old).happened))
 
   -- none
-  pub none_driven : (w : DurableCore D) → (IsProper honest reads may_leave size w → (image : List ℕ) → left_since (device_of w) (moment (device_of w)) image → ShowsEither w.core image) → IsDriven [] [] w w
+  pub none_driven : (w : DurableCore D) → (IsProper disk w → (image : List ℕ) → disk.left_since (device_of w) (disk.moment (device_of w)) image → ShowsEither w.core image) → IsDriven [] [] w w
   none_driven w stops = record {
     steps_are = refl;
     goes = goes_unchanged w.core;
@@ -106,14 +106,14 @@ module _ {D : Type 0} (honest : D → Type 0) (reads : D → List ℕ) (may_leav
     heard = refl;
     spoken = λ h. h;
     proper = λ p. p;
-    any_moment = λ p hs u. started moment left_since (device_of w) (ShowsFront w.core.settled w.core.confs (hs ++ []))
+    any_moment = λ p hs u. started disk (device_of w) (ShowsFront w.core.settled w.core.confs (hs ++ []))
         (λ c left.
         let flight = shows_flight w.core hs u c (stops p c left) in
         shows_front w.core.settled w.core.confs c (hs ++ []) (take flight.count hs) (drop flight.count hs) (append-nil hs ∙ sym (take-append-drop flight.count hs)) flight.shows);
   }
 
   -- one more
-  module _ (xs : List Step) (ts : List Told) (x : Step) (t : Told) (a b c : DurableCore D) (past : IsDriven xs ts a b) (step : IsStep x t b c) (safe : IsSafe honest reads may_leave moment left_since size b c) where
+  module _ (xs : List Step) (ts : List Told) (x : Step) (t : Told) (a b c : DurableCore D) (past : IsDriven xs ts a b) (step : IsStep x t b c) (safe : IsSafe disk b c) where
     abbrev before : Account
     before = accounted xs ts a
 
@@ -135,17 +135,17 @@ module _ {D : Type 0} (honest : D → Type 0) (reads : D → List ℕ) (may_leav
         let both = goes_then before.happened es (λ r. all_given r xs ts) (λ r. given r x t) a.core b.core c.core past.goes own in
         subst (λ (g : Recipient → List Out). Goes (before.happened ++ es) g a.core c.core) (λ i r. sym (given_push r xs ts x t same_length) i) both
 
-    more_moments : IsProper honest reads may_leave size a → (hs : List Happening) → AreUnsettled hs a.core
-        → LeavesOnly moment left_since (device_of a) (device_of c) (ShowsFront a.core.settled a.core.confs (hs ++ (before.happened ++ es)))
+    more_moments : IsProper disk a → (hs : List Happening) → AreUnsettled hs a.core
+        → LeavesOnly disk (device_of a) (device_of c) (ShowsFront a.core.settled a.core.confs (hs ++ (before.happened ++ es)))
     more_moments p hs u =
         let S = a.core.settled in
         let confs = a.core.confs in
         let whole = hs ++ (before.happened ++ es) in
         let settles = past.goes.settles hs u in
-        then_run moment left_since (device_of a) (device_of b) (device_of c) (ShowsFront S confs whole)
-        (weaker moment left_since (device_of a) (device_of b) (ShowsFront S confs (hs ++ before.happened)) (ShowsFront S confs whole)
+        then_run disk (device_of a) (device_of b) (device_of c) (ShowsFront S confs whole)
+        (weaker disk (device_of a) (device_of b) (ShowsFront S confs (hs ++ before.happened)) (ShowsFront S confs whole)
         (λ image. shows_more S confs image (hs ++ before.happened) es whole (sym (append_assoc hs before.happened es))) (past.any_moment p hs u))
-        (weaker moment left_since (device_of b) (device_of c) (ShowsEither b.core) (ShowsFront S confs whole)
+        (weaker disk (device_of b) (device_of c) (ShowsEither b.core) (ShowsFront S confs whole)
         (shows_later a.core b.core hs before.happened (λ r. all_given r xs ts) past.goes.confs settles es) (safe.inside (past.proper p)))
 
     pub one_driven : IsDriven (xs ++ x ∷ []) (ts ++ t ∷ []) a c
@@ -156,12 +156,12 @@ module _ {D : Type 0} (honest : D → Type 0) (reads : D → List ℕ) (may_leav
       heard = step.heard ∙ (λ i. heard_after (past.goes.confs i) (past.state i) (past.heard i) x t) ∙ ap (λ (z : Account). z.heard) (sym pushed);
       spoken = λ h. step.spoken (past.spoken h);
       proper = λ p. safe.proper (past.proper p);
-      any_moment = λ p hs u. subst (λ (z : Account). LeavesOnly moment left_since (device_of a) (device_of c) (ShowsFront a.core.settled a.core.confs (hs ++ z.happened))) (sym pushed) (more_moments p hs u);
+      any_moment = λ p hs u. subst (λ (z : Account). LeavesOnly disk (device_of a) (device_of c) (ShowsFront a.core.settled a.core.confs (hs ++ z.happened))) (sym pushed) (more_moments p hs u);
     }
 
   -- the next of these
   pub next_driven : (steps : List Step) (i : ℕ) (ts us : List Told) (d : Step) (t : Told) (a b c : DurableCore D) → IsDriven (take i steps) ts a b → i < length steps
-      → IsStep (get_or steps i d) t b c → IsSafe honest reads may_leave moment left_since size b c → us ≡ ts ++ t ∷ [] → IsDriven (take (i + 1) steps) us a c
+      → IsStep (get_or steps i d) t b c → IsSafe disk b c → us ≡ ts ++ t ∷ [] → IsDriven (take (i + 1) steps) us a c
   next_driven steps i ts us d t a b c past lt step safe now =
       let x = get_or steps i d in
       let more : take (i + 1) steps ≡ take i steps ++ x ∷ [] = ap (λ n. take n steps) (add-one i) ∙ take-suc steps i d lt in

@@ -1,8 +1,9 @@
 -- What ends a start or a flush early.
 use Rattle.std.proofs.Common.{true, ⊎_elim, Result, Ok, Err, ◌≡◌, ℕ, zero, suc, List, [], ◌∷◌, ◌++◌, refl, sym, ap, subst, ◌∙◌}
 use Rattle.std.specs.Prelude.{IfErr, OnErr, replicate}
+use Rattle.apd_disk.specs.Disk.{DiskModel}
 use Rattle.apd_core.specs.Core.{CoreState}
-use Rattle.apd_slot.specs.Wanted.{Stations}
+use Rattle.apd_radio.specs.Model.{RadioModel}
 use Rattle.apd_store.specs.declared.fault.StoreFault.{StoreFault}
 use Rattle.apd_store.specs.declared.fault.StoreFault.TheVariants as store_fault
 use Rattle.apd_world.specs.Round.{ComesTo, round}
@@ -101,80 +102,80 @@ pub memory_fails_none : {D R A : Type 0} (r : Result A WorldFault) (b : World D 
 memory_fails_none (Ok x) b is = tt
 memory_fails_none (Err fault) b is = memory_fails fault b is
 
-module _ {D R : Type 0} (stations : R → Stations) (faults : R → ℕ) where
+module _ {D R : Type 0} (radio : RadioModel R) where
   -- ---- what a last round ends
-  pub ended_refused : (fault : StoreFault) (answer : Commit) (a b c : World D R) → HasGoneOn stations faults a b → IsWorldRound stations faults answer b c → answer ≡ commit.Refused fault
-      → HasEnded stations faults (world_fault.Store fault) a c
+  pub ended_refused : (fault : StoreFault) (answer : Commit) (a b c : World D R) → HasGoneOn radio a b → IsWorldRound radio answer b c → answer ≡ commit.Refused fault
+      → HasEnded radio (world_fault.Store fault) a c
   ended_refused fault answer a b c before one is =
       record { last = b; before = before; answer = answer; round_is = one; ends = subst (λ (x : Commit). Ends x fault (durable_of c)) (sym is) refl }
 
-  pub ended_by_none : (answer : Commit) (a b c : World D R) → HasGoneOn stations faults a b → IsWorldRound stations faults answer b c → answer ≡ commit.Nothing → IsUnfinished (durable_of c)
-      → HasEnded stations faults (world_fault.Store store_fault.Failed) a c
+  pub ended_by_none : (answer : Commit) (a b c : World D R) → HasGoneOn radio a b → IsWorldRound radio answer b c → answer ≡ commit.Nothing → IsUnfinished (durable_of c)
+      → HasEnded radio (world_fault.Store store_fault.Failed) a c
   ended_by_none answer a b c before one is left =
       record { last = b; before = before; answer = answer; round_is = one; ends = subst (λ (x : Commit). Ends x store_fault.Failed (durable_of c)) (sym is) (refl, left) }
 
-  pub ended_by_another : (answer : Commit) (a b c : World D R) → HasGoneOn stations faults a b → IsWorldRound stations faults answer b c → answer ≡ commit.Foreign
-      → HasEnded stations faults (world_fault.Store store_fault.Failed) a c
+  pub ended_by_another : (answer : Commit) (a b c : World D R) → HasGoneOn radio a b → IsWorldRound radio answer b c → answer ≡ commit.Foreign
+      → HasEnded radio (world_fault.Store store_fault.Failed) a c
   ended_by_another answer a b c before one is =
       record { last = b; before = before; answer = answer; round_is = one; ends = subst (λ (x : Commit). Ends x store_fault.Failed (durable_of c)) (sym is) refl }
 
   -- it is ended also where other steps were made before
-  pub ended_then : (fault : WorldFault) (xs : List Step) (ts : List Told) (a b c : World D R) → IsWorldRun stations faults xs ts a b → HasEnded stations faults fault b c → HasEnded stations faults fault a c
+  pub ended_then : (fault : WorldFault) (xs : List Step) (ts : List Told) (a b c : World D R) → IsWorldRun radio xs ts a b → HasEnded radio fault b c → HasEnded radio fault a c
   ended_then (world_fault.Store fault) xs ts a b c past h =
-      record { last = h.last; before = gone_then stations faults xs ts a b h.last past h.before; answer = h.answer; round_is = h.round_is; ends = h.ends }
+      record { last = h.last; before = gone_then radio xs ts a b h.last past h.before; answer = h.answer; round_is = h.round_is; ends = h.ends }
   ended_then (world_fault.Slot at fault) xs ts a b c past h = absurd h
-  ended_then world_fault.NoMemory xs ts a b c past h = gone_then stations faults xs ts a b c past h
+  ended_then world_fault.NoMemory xs ts a b c past h = gone_then radio xs ts a b c past h
 
-  pub if_ended_then : {A : Type 0} (r : Result A WorldFault) (xs : List Step) (ts : List Told) (a b c : World D R) → IsWorldRun stations faults xs ts a b → IfErr r (λ fault. HasEnded stations faults fault b c)
-      → IfErr r (λ fault. HasEnded stations faults fault a c)
+  pub if_ended_then : {A : Type 0} (r : Result A WorldFault) (xs : List Step) (ts : List Told) (a b c : World D R) → IsWorldRun radio xs ts a b → IfErr r (λ fault. HasEnded radio fault b c)
+      → IfErr r (λ fault. HasEnded radio fault a c)
   if_ended_then (Ok x) xs ts a b c past h = tt
   if_ended_then (Err fault) xs ts a b c past h = ended_then fault xs ts a b c past h
 
   -- for want of memory after some steps
-  pub memory_end : (fault : WorldFault) (a b : World D R) → fault ≡ world_fault.NoMemory → HasGoneOn stations faults a b → HasEnded stations faults fault a b
-  memory_end fault a b is gone = subst (λ (e : WorldFault). HasEnded stations faults e a b) (sym is) gone
+  pub memory_end : (fault : WorldFault) (a b : World D R) → fault ≡ world_fault.NoMemory → HasGoneOn radio a b → HasEnded radio fault a b
+  memory_end fault a b is gone = subst (λ (e : WorldFault). HasEnded radio e a b) (sym is) gone
 
-  pub memory_ends : {A : Type 0} (r : Result A WorldFault) (a b : World D R) → IfErr r (λ fault. fault ≡ world_fault.NoMemory) → OnErr r (HasGoneOn stations faults a b) → IfErr r (λ fault. HasEnded stations faults fault a b)
+  pub memory_ends : {A : Type 0} (r : Result A WorldFault) (a b : World D R) → IfErr r (λ fault. fault ≡ world_fault.NoMemory) → OnErr r (HasGoneOn radio a b) → IfErr r (λ fault. HasEnded radio fault a b)
   memory_ends (Ok x) a b is gone = tt
   memory_ends (Err fault) a b is gone = memory_end fault a b is gone
 
   -- whatever ended it, some steps were made
-  gone_by_ending : (fault : WorldFault) (a b : World D R) → HasEnded stations faults fault a b → HasGoneOn stations faults a b
+  gone_by_ending : (fault : WorldFault) (a b : World D R) → HasEnded radio fault a b → HasGoneOn radio a b
   gone_by_ending (world_fault.Store fault) a b h =
       let one = h.round_is in
-      gone_then stations faults h.before.steps h.before.tolds a h.last b h.before.run (record { steps = round one.calls; tolds = one.tolds; run = one.run })
+      gone_then radio h.before.steps h.before.tolds a h.last b h.before.run (record { steps = round one.calls; tolds = one.tolds; run = one.run })
   gone_by_ending (world_fault.Slot at fault) a b h = absurd h
   gone_by_ending world_fault.NoMemory a b h = h
 
-  pub gone_if_ended : {A : Type 0} (r : Result A WorldFault) (a b : World D R) → IfErr r (λ fault. HasEnded stations faults fault a b) → OnErr r (HasGoneOn stations faults a b)
+  pub gone_if_ended : {A : Type 0} (r : Result A WorldFault) (a b : World D R) → IfErr r (λ fault. HasEnded radio fault a b) → OnErr r (HasGoneOn radio a b)
   gone_if_ended (Ok x) a b h = tt
   gone_if_ended (Err fault) a b h = gone_by_ending fault a b h
 
   -- ---- where it is told that the store has failed, the core has
-  refusal_fails : (failed : D → ℕ) (fault : StoreFault) (b c : World D R) → IsWorldRound stations faults (commit.Refused fault) b c → ComesTo failed (commit.Refused fault) (durable_of b) (durable_of c)
+  refusal_fails : (disk : DiskModel D) (fault : StoreFault) (b c : World D R) → IsWorldRound radio (commit.Refused fault) b c → ComesTo disk (commit.Refused fault) (durable_of b) (durable_of c)
       → HasFailedCore (world_fault.Store fault) c
-  refusal_fails failed store_fault.Failed b c one comes = failed_round one.calls one.run.insides (durable_of b) (durable_of c) one.run.run.steps_are comes
-  refusal_fails failed store_fault.Device b c one comes = tt
-  refusal_fails failed store_fault.Worn b c one comes = tt
-  refusal_fails failed store_fault.NoMemory b c one comes = tt
-  refusal_fails failed store_fault.NotAStore b c one comes = tt
-  refusal_fails failed store_fault.Damaged b c one comes = tt
-  refusal_fails failed store_fault.NotIdle b c one comes = tt
-  refusal_fails failed store_fault.BadBatch b c one comes = tt
+  refusal_fails disk store_fault.Failed b c one comes = failed_round one.calls one.run.insides (durable_of b) (durable_of c) one.run.run.steps_are comes
+  refusal_fails disk store_fault.Device b c one comes = tt
+  refusal_fails disk store_fault.Worn b c one comes = tt
+  refusal_fails disk store_fault.NoMemory b c one comes = tt
+  refusal_fails disk store_fault.NotAStore b c one comes = tt
+  refusal_fails disk store_fault.Damaged b c one comes = tt
+  refusal_fails disk store_fault.NotIdle b c one comes = tt
+  refusal_fails disk store_fault.BadBatch b c one comes = tt
 
-  pub refused_fails : (failed : D → ℕ) (fault : StoreFault) (answer : Commit) (b c : World D R) → IsWorldRound stations faults answer b c → answer ≡ commit.Refused fault → ComesTo failed answer (durable_of b) (durable_of c)
+  pub refused_fails : (disk : DiskModel D) (fault : StoreFault) (answer : Commit) (b c : World D R) → IsWorldRound radio answer b c → answer ≡ commit.Refused fault → ComesTo disk answer (durable_of b) (durable_of c)
       → HasFailedCore (world_fault.Store fault) c
-  refused_fails failed fault answer b c one is comes =
-      refusal_fails failed fault b c (subst (λ (x : Commit). IsWorldRound stations faults x b c) is one) (subst (λ (x : Commit). ComesTo failed x (durable_of b) (durable_of c)) is comes)
+  refused_fails disk fault answer b c one is comes =
+      refusal_fails disk fault b c (subst (λ (x : Commit). IsWorldRound radio x b c) is one) (subst (λ (x : Commit). ComesTo disk x (durable_of b) (durable_of c)) is comes)
 
-  pub nothing_fails : (failed : D → ℕ) (answer : Commit) (b c : World D R) → answer ≡ commit.Nothing → ComesTo failed answer (durable_of b) (durable_of c) → IsUnfinished (durable_of c)
+  pub nothing_fails : (disk : DiskModel D) (answer : Commit) (b c : World D R) → answer ≡ commit.Nothing → ComesTo disk answer (durable_of b) (durable_of c) → IsUnfinished (durable_of c)
       → HasFailedCore (world_fault.Store store_fault.Failed) c
-  nothing_fails failed answer b c is comes left =
-      let was : ComesTo failed commit.Nothing (durable_of b) (durable_of c) = subst (λ (x : Commit). ComesTo failed x (durable_of b) (durable_of c)) is comes in
+  nothing_fails disk answer b c is comes left =
+      let was : ComesTo disk commit.Nothing (durable_of b) (durable_of c) = subst (λ (x : Commit). ComesTo disk x (durable_of b) (durable_of c)) is comes in
       ⊎_elim (λ fails. failed_alike (durable_of b) (durable_of c) was.0 fails)
       (λ none. ⊎_elim (λ fails. fails) (λ some. absurd (some (ap (λ (w : DurableCore D). w.core.unsettled) was.0 ∙ none))) left)
       was.1
 
   -- of a proper one no receipt is another batch's
-  pub another_fails : (failed : D → ℕ) (answer : Commit) (b c : World D R) → answer ≡ commit.Foreign → ComesTo failed answer (durable_of b) (durable_of c) → HasFailedCore (world_fault.Store store_fault.Failed) c
-  another_fails failed answer b c is comes = absurd (subst (λ (x : Commit). ComesTo failed x (durable_of b) (durable_of c)) is comes)
+  pub another_fails : (disk : DiskModel D) (answer : Commit) (b c : World D R) → answer ≡ commit.Foreign → ComesTo disk answer (durable_of b) (durable_of c) → HasFailedCore (world_fault.Store store_fault.Failed) c
+  another_fails disk answer b c is comes = absurd (subst (λ (x : Commit). ComesTo disk x (durable_of b) (durable_of c)) is comes)

@@ -25,6 +25,7 @@ use Rattle.apd_mlme.specs.declared.decision.Out.{Out}
 use Rattle.apd_mlme.specs.declared.decision.Recipient.TheVariants.{Radio, Control}
 use Rattle.apd_mlme.proofs.OutsLemmas.{driven-append}
 use Rattle.apd_mlme.proofs.VerdictLemmas.{follows_in}
+use Rattle.apd_radio.specs.Model.{RadioModel}
 use Rattle.apd_slot.specs.Slots.{bssid_of, wanted_of, IsExact}
 use Rattle.apd_slot.specs.Wanted.{Stations, wanted_after, wanted_by}
 use Rattle.apd_slot.specs.declared.slot.Slot.{Slot}
@@ -68,12 +69,12 @@ all_at P [] i x e all = let none : ◌≡◌ {A = Option _} None (Some x) = e in
 all_at P (y ∷ xs) zero x e all = let is : y ≡ x = (cc) in subst P is all.0
 all_at P (y ∷ xs) (suc i) x e all = all_at P xs i x e all.1
 
-module _ {D R : Type 0} (stations : R → Stations) (faults : R → ℕ) (old new : World D R) where
+module _ {D R : Type 0} (radio : RadioModel R) (old new : World D R) where
   -- what goes in and out of a queue
   both_stay : (b : Bssid) → queue_of new b ≡ queue_of old b → [] ++ queue_of new b ≡ queue_of old b ++ []
   both_stay b same = same ∙ sym (append-nil (queue_of old b))
 
-  applied_flows : (b c : Bssid) (told : Told) → IsApplied stations faults c told old new → applied b (Apply c) told ++ queue_of new b ≡ queue_of old b ++ []
+  applied_flows : (b c : Bssid) (told : Told) → IsApplied radio c told old new → applied b (Apply c) told ++ queue_of new b ≡ queue_of old b ++ []
   applied_flows b c (Applied out answer) h = elim (one_or_apart bssid_total bssid_exact b c) [
     | inl one ↦
         ap (λ t. cond t (out ∷ []) [] ++ queue_of new b) (subst (λ (z : Bssid). eq_by_cmp bssid_cmp b z ≡ true) one (tied bssid_total bssid_exact b))
@@ -90,7 +91,7 @@ module _ {D R : Type 0} (stations : R → Stations) (faults : R → ℕ) (old ne
   ]
   applied_flows b c told h = absurd h.tells
 
-  pub flows : (b : Bssid) (step : Step) (inside told : Told) → Joins stations faults step inside told old new → applied b step told ++ queue_of new b ≡ queue_of old b ++ given (Radio b) step inside
+  pub flows : (b : Bssid) (step : Step) (inside told : Told) → Joins radio step inside told old new → applied b step told ++ queue_of new b ≡ queue_of old b ++ given (Radio b) step inside
   flows b (Hand (Radio c)) (Handed outs) (Queued count) h = elim (one_or_apart bssid_total bssid_exact b c) [
     | inl one ↦
         subst (λ (z : Bssid). queue_of new z ≡ queue_of old z ++ outs) (sym one) h.1.queue
@@ -114,21 +115,21 @@ module _ {D R : Type 0} (stations : R → Stations) (faults : R → ℕ) (old ne
   was_same : (b : Bssid) (now : Slot R) → slots_of new ≡ slots_of old → slot_at (slots_of new) b ≡ Some now → Was b [] now
   was_same b now same at = (now, ap (λ slots. slot_at slots b) (sym same) ∙ at, refl)
 
-  pub own_of : (c : Bssid) (told : Told) (h : IsApplied stations faults c told old new) → bssid_of h.after ≡ bssid_of (get_or (slots_of old) h.place h.slot)
+  pub own_of : (c : Bssid) (told : Told) (h : IsApplied radio c told old new) → bssid_of h.after ≡ bssid_of (get_or (slots_of old) h.place h.slot)
   own_of c told h =
-      applied_same stations faults told h.slot h.after (queue_of old c) (queue_of new c) h.tells
+      applied_same radio told h.slot h.after (queue_of old c) (queue_of new c) h.tells
       ∙ ap bssid_of (sym (get_or_from_slice_get (slots_of old) h.place h.slot h.slot (ap (slot_in (slots_of old)) (sym h.at) ∙ h.has_slot)))
 
-  now_is : (b c : Bssid) (told : Told) (now : Slot R) (h : IsApplied stations faults c told old new) → b ≡ c → slot_at (slots_of new) b ≡ Some now → now ≡ h.after
+  now_is : (b c : Bssid) (told : Told) (now : Slot R) (h : IsApplied radio c told old new) → b ≡ c → slot_at (slots_of new) b ≡ Some now → now ≡ h.after
   now_is b c told now h one at =
       let found : Some now ≡ Some h.after = sym at ∙ ap (λ slots. slot_at slots b) h.slots ∙ ap (slot_at (set (slots_of old) h.place h.after)) one ∙ slot_set (slots_of old) h.place h.after h.slot c (own_of c told h) h.at in
       cc
 
-  other_was : (b c : Bssid) (told : Told) (now : Slot R) → IsApplied stations faults c told old new → eq_by_cmp bssid_cmp b c ≡ false → slot_at (slots_of new) b ≡ Some now → Was b [] now
+  other_was : (b c : Bssid) (told : Told) (now : Slot R) → IsApplied radio c told old new → eq_by_cmp bssid_cmp b c ≡ false → slot_at (slots_of new) b ≡ Some now → Was b [] now
   other_was b c told now h apart at =
       (now, sym (slot_set_other (slots_of old) h.place h.after h.slot c b (own_of c told h) h.at (turned b c apart)) ∙ ap (λ slots. slot_at slots b) (sym h.slots) ∙ at, refl)
 
-  applied_wants : (b c : Bssid) (told : Told) (now : Slot R) → IsApplied stations faults c told old new → slot_at (slots_of new) b ≡ Some now → Was b (applied b (Apply c) told) now
+  applied_wants : (b c : Bssid) (told : Told) (now : Slot R) → IsApplied radio c told old new → slot_at (slots_of new) b ≡ Some now → Was b (applied b (Apply c) told) now
   applied_wants b c (Applied out answer) now h at = elim (one_or_apart bssid_total bssid_exact b c) [
     | inl one ↦
         let taken_out : wanted_of now ≡ wanted_after out (wanted_of h.slot) = ap wanted_of (now_is b c (Applied out answer) now h one at) ∙ h.tells.2.wanted ∙ taken out answer (wanted_of h.slot) h.tells.1 in (
@@ -149,7 +150,7 @@ module _ {D R : Type 0} (stations : R → Stations) (faults : R → ℕ) (old ne
   ]
   applied_wants b c told now h at = absurd h.tells
 
-  wants : (b : Bssid) (step : Step) (inside told : Told) (now : Slot R) → Joins stations faults step inside told old new → slot_at (slots_of new) b ≡ Some now → Was b (applied b step told) now
+  wants : (b : Bssid) (step : Step) (inside told : Told) (now : Slot R) → Joins radio step inside told old new → slot_at (slots_of new) b ≡ Some now → Was b (applied b step told) now
   wants b (Hand (Radio c)) (Handed outs) (Queued count) now h at = was_same b now h.1.slots at
   wants b (Hand (Radio c)) NoMemory NoMemory now h at = was_same b now h.1.slots at
   wants b (Hand (Radio c)) NoMemory Nothing now h at = was_same b now h.1.slots at
@@ -160,21 +161,21 @@ module _ {D R : Type 0} (stations : R → Stations) (faults : R → ℕ) (old ne
   wants b step inside told now h at = was_same b now h.1.slots at
 
   -- exactness
-  rest_exact : slots_of new ≡ slots_of old → AreExact stations (slots_of old) → AreExact stations (slots_of new)
-  rest_exact same all = subst (AreExact stations) (sym same) all
+  rest_exact : slots_of new ≡ slots_of old → AreExact radio (slots_of old) → AreExact radio (slots_of new)
+  rest_exact same all = subst (AreExact radio) (sym same) all
 
-  after_exact : (told : Told) (slot after : Slot R) (queue now : List Out) → AppliesFirst stations faults told slot after queue now → IsExact stations slot → IsExact stations after
+  after_exact : (told : Told) (slot after : Slot R) (queue now : List Out) → AppliesFirst radio told slot after queue now → IsExact radio slot → IsExact radio after
   after_exact (Applied out answer) slot after queue now h e = h.2.exact e
   after_exact NoMemory slot after queue now h e = h.1.gives.exact e
-  after_exact Nothing slot after queue now h e = subst (IsExact stations) (sym h.2) e
+  after_exact Nothing slot after queue now h e = subst (IsExact radio) (sym h.2) e
   after_exact told slot after queue now h e = absurd h
 
-  applied_exact : (c : Bssid) (told : Told) → IsApplied stations faults c told old new → AreExact stations (slots_of old) → AreExact stations (slots_of new)
+  applied_exact : (c : Bssid) (told : Told) → IsApplied radio c told old new → AreExact radio (slots_of old) → AreExact radio (slots_of new)
   applied_exact c told h all =
-      let before : IsExact stations h.slot = all_at (IsExact stations) (slots_of old) h.place h.slot (ap (slot_in (slots_of old)) (sym h.at) ∙ h.has_slot) all in
-      subst (AreExact stations) (sym h.slots) (all_set (IsExact stations) (slots_of old) h.place h.after all (after_exact told h.slot h.after (queue_of old c) (queue_of new c) h.tells before))
+      let before : IsExact radio h.slot = all_at (IsExact radio) (slots_of old) h.place h.slot (ap (slot_in (slots_of old)) (sym h.at) ∙ h.has_slot) all in
+      subst (AreExact radio) (sym h.slots) (all_set (IsExact radio) (slots_of old) h.place h.after all (after_exact told h.slot h.after (queue_of old c) (queue_of new c) h.tells before))
 
-  pub exact : (step : Step) (inside told : Told) → Joins stations faults step inside told old new → AreExact stations (slots_of old) → AreExact stations (slots_of new)
+  pub exact : (step : Step) (inside told : Told) → Joins radio step inside told old new → AreExact radio (slots_of old) → AreExact radio (slots_of new)
   exact (Hand (Radio c)) (Handed outs) (Queued count) h all = rest_exact h.1.slots all
   exact (Hand (Radio c)) NoMemory NoMemory h all = rest_exact h.1.slots all
   exact (Hand (Radio c)) NoMemory Nothing h all = rest_exact h.1.slots all
@@ -185,7 +186,7 @@ module _ {D R : Type 0} (stations : R → Stations) (faults : R → ℕ) (old ne
   exact step inside told h all = rest_exact h.1.slots all
 
   -- a step leads on
-  module _ (step : Step) (told : Told) (h : IsWorldStep stations faults step told old new) (b : Bssid) where
+  module _ (step : Step) (told : Told) (h : IsWorldStep radio step told old new) (b : Bssid) where
     abbrev ca : CoreState
     ca = (durable_of old).core
 
@@ -215,6 +216,6 @@ module _ {D R : Type 0} (stations : R → Stations) (faults : R → ℕ) (old ne
         ∙ ap (λ xs. driven xs m) (leads ∙ sym (append_assoc (queue_of old b) (held_for (Radio b) ca) outs))
         ∙ driven-append waits outs m ∙ ap (driven outs) base ∙ follows_run ca.confs es (front_of ca) b known ∙ ap (λ (s : State). aid_at s b) (sym h.durable.goes.front)
 
-  pub following : (step : Step) (told : Told) → IsWorldStep stations faults step told old new → AreFollowing old → AreFollowing new
+  pub following : (step : Step) (told : Told) → IsWorldStep radio step told old new → AreFollowing old → AreFollowing new
   following step told h before = λ b configured now at a i.
       lead_on step told h b before configured now (wants b step h.inside told now h.joins at) i a

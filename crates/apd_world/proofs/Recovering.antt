@@ -2,15 +2,15 @@
 use Rattle.std.proofs.Common.{◌≡◌, ℕ, ◌+◌, ◌≤◌, List, ◌++◌, length, take, drop, sym, ap, subst, ◌∙◌, arith, append_assoc, length-append}
 use Rattle.std.proofs.lemmas.List.{take-append-drop}
 use Rattle.std.proofs.Math.Seq.{take-append_seam}
-use Rattle.apd_disk.specs.Disk.{LeavesOnly}
+use Rattle.apd_disk.specs.Disk.{LeavesOnly, DiskModel}
 use Rattle.apd_disk.proofs.Moments.{weaker}
 use Rattle.apd_mlme.specs.Happening.{Happening}
 use Rattle.apd_mlme.specs.Run.{run}
 use Rattle.apd_mlme.specs.declared.decision.Out.{Out}
 use Rattle.apd_mlme.specs.declared.decision.Recipient.{Recipient}
+use Rattle.apd_radio.specs.Model.{RadioModel}
 use Rattle.apd_store.specs.Image.{Shows}
 use Rattle.apd_core.specs.Core.{CoreState}
-use Rattle.apd_slot.specs.Wanted.{Stations}
 use Rattle.apd_world.specs.CoreRun.{AreUnsettled, Settles}
 use Rattle.apd_world.specs.Outside.{device_of, spoken}
 use Rattle.apd_world.specs.Proper.{IsProper, IsSafe}
@@ -50,19 +50,19 @@ has_settled a b hs es g confs settles n most c either =
       holds = omega (arith, most, number, lengths);
     }
 
-module _ {D : Type 0} (honest : D → Type 0) (reads : D → List ℕ) (may_leave : D → List ℕ → Type 0) (moment : D → ℕ) (left_since : D → ℕ → List ℕ → Type 0) (size : D → ℕ) where
+module _ {D : Type 0} (disk : DiskModel D) where
   -- of a durable core
   core_has_spoken : (steps : List Step) (tolds : List Told) (from old new : DurableCore D) (hs : List Happening) → IsRun steps tolds from old → AreUnsettled hs from.core
-      → IsProper honest reads may_leave size old → IsSafe honest reads may_leave moment left_since size old new
-      → LeavesOnly moment left_since (device_of old) (device_of new) (HasSpoken from.core (hs ++ all_entered steps tolds from.core) (spoken old))
+      → IsProper disk old → IsSafe disk old new
+      → LeavesOnly disk (device_of old) (device_of new) (HasSpoken from.core (hs ++ all_entered steps tolds from.core) (spoken old))
   core_has_spoken steps tolds from old new hs made unsettled proper safe =
       let es = all_entered steps tolds from.core in
-      weaker moment left_since (device_of old) (device_of new) (ShowsEither old.core) (HasSpoken from.core (hs ++ es) (spoken old))
+      weaker disk (device_of old) (device_of new) (ShowsEither old.core) (HasSpoken from.core (hs ++ es) (spoken old))
       (has_settled from.core old.core hs es (λ r. all_given r steps tolds) made.goes.confs (made.goes.settles hs unsettled) (spoken old) proper.spoken) (safe.inside proper)
 
   -- of a world
-  pub loses_nothing : {R : Type 0} (stations : R → Stations) (faults : R → ℕ) (old new : World D R) → IsSafe honest reads may_leave moment left_since size (durable_of old) (durable_of new)
-      → IsProper honest reads may_leave size (durable_of old) → LosesNothing stations faults moment left_since old new
-  loses_nothing stations faults old new safe proper from steps tolds hs made unsettled =
-      subst (λ es. LeavesOnly moment left_since (device_of (durable_of old)) (device_of (durable_of new)) (HasSpoken (durable_of from).core (hs ++ es) (spoken (durable_of old)))) made.entered
+  pub loses_nothing : {R : Type 0} (radio : RadioModel R) (old new : World D R) → IsSafe disk (durable_of old) (durable_of new)
+      → IsProper disk (durable_of old) → LosesNothing disk radio old new
+  loses_nothing radio old new safe proper from steps tolds hs made unsettled =
+      subst (λ es. LeavesOnly disk (device_of (durable_of old)) (device_of (durable_of new)) (HasSpoken (durable_of from).core (hs ++ es) (spoken (durable_of old)))) made.entered
       (core_has_spoken steps made.insides (durable_of from) (durable_of old) (durable_of new) hs made.run unsettled proper safe)

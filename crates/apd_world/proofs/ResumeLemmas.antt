@@ -16,8 +16,8 @@ use Rattle.apd_core.proofs.Queues.{all_push, all_weaker}
 use Rattle.apd_mlme.specs.laws.Driver.{driven}
 use Rattle.apd_mlme.specs.declared.decision.Out.{Out}
 use Rattle.apd_mlme.specs.declared.decision.Recipient.TheVariants.{Radio}
+use Rattle.apd_radio.specs.Model.{RadioModel}
 use Rattle.apd_slot.specs.Slots.{bssid_of, is_up_of, radio_of, wanted_of, IsExact}
-use Rattle.apd_slot.specs.Wanted.{Stations}
 use Rattle.apd_slot.specs.declared.slot.Slot.{Slot}
 use Rattle.apd_slot.specs.declared.slot.SlotFault.{SlotFault}
 use Rattle.apd_slot.specs.declared.slot.SlotFault.TheVariants.{WentDown, NoMemory}
@@ -32,31 +32,31 @@ pub not_up : (up : Bool) → (up ≡ true → ◌≡◌ {A = Bool} false true) �
 not_up true h = let no : ◌≡◌ {A = Bool} false true = h refl in cc
 not_up false h = refl
 
-module _ {R : Type 0} (stations : R → Stations) (faults : R → ℕ) (s : State) where
+module _ {R : Type 0} (radio : RadioModel R) (s : State) where
   -- so many have resumed, and the others are as they were
   pub record AreSoFar (i : ℕ) (old now : List (Slot R)) : Type 0 where
     pub same : AreOfSame old now
     pub many : length now ≡ length old
-    pub resumed : AreResumed stations s (take i now)
+    pub resumed : AreResumed radio s (take i now)
     pub rest : (k : ℕ) (d : Slot R) → i ≤ k → get_or now k d ≡ get_or old k d
 
   pub none_so_far : (slots : List (Slot R)) → AreSoFar 0 slots slots
   none_so_far slots = record { same = refl; many = refl; resumed = tt; rest = λ k d l. refl }
 
   -- one more
-  pub one_so_far : (i : ℕ) (old now : List (Slot R)) (before after : Slot R) → i < length now → before ≡ get_or now i before → bssid_of after ≡ bssid_of before → IsResumed stations s after → AreSoFar i old now
+  pub one_so_far : (i : ℕ) (old now : List (Slot R)) (before after : Slot R) → i < length now → before ≡ get_or now i before → bssid_of after ≡ bssid_of before → IsResumed radio s after → AreSoFar i old now
       → AreSoFar (i + 1) old (set now i after)
   one_so_far i old now before after lt is own resumed h = record {
     same = map-set_same bssid_of now i after before (own ∙ ap bssid_of is) ∙ h.same;
     many = length-set now i after ∙ h.many;
-    resumed = subst (AreResumed stations s) (sym (ap (λ n. take n (set now i after)) (add-one i) ∙ take-suc-set now i after lt)) (all_push (IsResumed stations s) (take i now) after h.resumed resumed);
+    resumed = subst (AreResumed radio s) (sym (ap (λ n. take n (set now i after)) (add-one i) ∙ take-suc-set now i after lt)) (all_push (IsResumed radio s) (take i now) after h.resumed resumed);
     rest = λ k d l. get_or-set_other now i k after d (λ same. let no : ⊥ = omega (arith, l, same) in no) ∙ h.rest k d (omega (arith, l));
   }
 
   -- one has not
   pub one_failed : (i : ℕ) (old now : List (Slot R)) (before after : Slot R) (fault : SlotFault) → i < length now → before ≡ get_or now i before → bssid_of after ≡ bssid_of before → is_up_of after ≡ false
-      → (fault ≡ WentDown) ⊎ (fault ≡ NoMemory) → (fault ≡ WentDown → HasRisen (faults (radio_of before)) (faults (radio_of after))) → AreSoFar i old now
-      → HasNotResumed faults (bssid_of after) fault old (set now i after)
+      → (fault ≡ WentDown) ⊎ (fault ≡ NoMemory) → (fault ≡ WentDown → HasRisen (radio.faults (radio_of before)) (radio.faults (radio_of after))) → AreSoFar i old now
+      → HasNotResumed radio (bssid_of after) fault old (set now i after)
   one_failed i old now before after fault lt is own down few risen h =
       let there : i < length old = let m = h.many in omega (arith, lt, m) in
       let there_now : i < length (set now i after) = let m = length-set now i after in omega (arith, lt, m) in
@@ -76,8 +76,8 @@ module _ {R : Type 0} (stations : R → Stations) (faults : R → ℕ) (s : Stat
   one_same i old now before after is own h = map-set_same bssid_of now i after before (own ∙ ap bssid_of is) ∙ h.same
 
   -- slots that have resumed have what is wanted
-  pub resumed_exact : (slots : List (Slot R)) → AreResumed stations s slots → AreExact stations slots
-  resumed_exact slots all = all_weaker (IsResumed stations s) (IsExact stations) (λ slot r up. r.installed ∙ sym r.wanted) slots all
+  pub resumed_exact : (slots : List (Slot R)) → AreResumed radio s slots → AreExact radio slots
+  resumed_exact slots all = all_weaker (IsResumed radio s) (IsExact radio) (λ slot r up. r.installed ∙ sym r.wanted) slots all
 
 -- ---- a world begun anew
 none_waits : (p : Option ℕ) → queue_in [] p ≡ []
@@ -88,12 +88,12 @@ none_waits (Some i) = refl
 pub no_out_waits : (queues : List (List Out)) (p : Option ℕ) → queues ≡ [] → queue_in queues p ≡ []
 no_out_waits queues p empty = ap (λ qs. queue_in qs p) empty ∙ none_waits p
 
-module _ {R : Type 0} (stations : R → Stations) (slots : List (Slot R)) (table : State) (resumed : AreResumed stations table slots) where
-  found : (b : Bssid) (slot : Slot R) (p : Option ℕ) → slot_place slots b ≡ p → slot_in slots p ≡ Some slot → IsResumed stations table slot × (bssid_of slot ≡ b)
+module _ {R : Type 0} (radio : RadioModel R) (slots : List (Slot R)) (table : State) (resumed : AreResumed radio table slots) where
+  found : (b : Bssid) (slot : Slot R) (p : Option ℕ) → slot_place slots b ≡ p → slot_in slots p ≡ Some slot → IsResumed radio table slot × (bssid_of slot ≡ b)
   found b slot None at is = let none : ◌≡◌ {A = Option (Slot R)} None (Some slot) = is in cc
   found b slot (Some i) at is =
       let own : get_or slots i slot ≡ slot = (let both : Some (get_or slots i slot) ≡ Some slot = sym (slot_is slots b i slot at) ∙ ap (slot_in slots) at ∙ is in cc) in
-      (all_at (IsResumed stations table) slots i slot is resumed, ap bssid_of (sym own) ∙ sym (place_of_own slots b i slot at))
+      (all_at (IsResumed radio table) slots i slot is resumed, ap bssid_of (sym own) ∙ sym (place_of_own slots b i slot at))
 
   -- nothing waits, and nothing is held
   pub begun_following : (core : CoreState) (queues : List (List Out)) (confs : List Conf) (heard : LastHeard) → core ≡ new_core table confs heard → queues ≡ []

@@ -7,7 +7,7 @@ use Rattle.std.proofs.lemmas.List.{append-nil, replicate_more}
 use Rattle.apd_base.specs.Failures.{HasRisen}
 use Rattle.apd_base.specs.State.{State}
 use Rattle.apd_conf.specs.declared.conf.Conf.{Conf}
-use Rattle.apd_disk.specs.Disk.{LeavesOnly}
+use Rattle.apd_disk.specs.Disk.{LeavesOnly, DiskModel}
 use Rattle.apd_journal.specs.declared.batch.Batch.{Batch}
 use Rattle.apd_mlme.specs.Happening.{Happening}
 use Rattle.apd_mlme.specs.declared.decision.Out.{Out}
@@ -31,7 +31,7 @@ use Rattle.apd_flusher.specs.Phases.{phase_from}
 use Rattle.apd_flusher.specs.declared.flusher.Flusher.{Flusher}
 use Rattle.apd_flusher.specs.declared.phase.Phase.{Phase}
 use Rattle.apd_flusher.specs.declared.phase.Phase.TheVariants.{Idle, Busy, Done, Failed}
-use Rattle.apd_world.specs.CoreRun.{AreUnsettled, Goes}
+use Rattle.apd_world.specs.CoreRun.{AreUnsettled, Goes, GoesQuietly}
 use Rattle.apd_world.specs.Outside.{device_of}
 use Rattle.apd_world.specs.Proper.{IsBetween, IsDurable, IsInStep, IsProper, IsSafe, IsUnderWay, IsWaiting}
 use Rattle.apd_world.specs.Round.{ComesTo, HasRoomForNext, IsRound, LacksMemory, LastsForNext, answer_of, round, said}
@@ -151,9 +151,9 @@ left_by None calls = calls + 1
 left_by (Some answer) calls = 0
 
 -- ---- the calls of a round
-module _ {D : Type 0} (honest : D → Type 0) (reads : D → List ℕ) (may_leave : D → List ℕ → Type 0) (moment : D → ℕ) (left_since : D → ℕ → List ℕ → Type 0) (size failed : D → ℕ) where
+module _ {D : Type 0} (disk : DiskModel D) where
   abbrev Proper : DurableCore D → Type 0
-  Proper w = IsProper honest reads may_leave size w
+  Proper w = IsProper disk w
 
   -- so many calls were made, and none was refused
   pub record AreMade (calls : ℕ) (start now : DurableCore D) : Type 0 where
@@ -168,7 +168,7 @@ module _ {D : Type 0} (honest : D → Type 0) (reads : D → List ℕ) (may_leav
     pub some : (phase_of start.flusher ≡ Busy) ⊎ (phase_of start.flusher ≡ Failed)
     pub within : phase_of start.flusher ≡ Busy → calls ≤ calls_left start.flusher
     pub kind : (fault ≡ store_fault.Device) ⊎ (fault ≡ store_fault.Failed)
-    pub risen : fault ≡ store_fault.Device → HasRisen (failed (device_of old)) (failed (device_of now))
+    pub risen : fault ≡ store_fault.Device → HasRisen (disk.failed (device_of old)) (disk.failed (device_of now))
     pub same : fault ≡ store_fault.Failed → now.core ≡ start.core
     pub phase : phase_of now.flusher ≡ Failed
 
@@ -186,7 +186,7 @@ module _ {D : Type 0} (honest : D → Type 0) (reads : D → List ℕ) (may_leav
     was_busy busy = ⊎_elim (λ same. sym (ap (λ (w : DurableCore D). phase_of w.flusher) same) ∙ busy) (λ way. way.0) made.way
 
     was_failed : phase_of mid.flusher ≡ Failed → mid ≡ start
-    was_failed failed = ⊎_elim (λ same. same) (λ way. absurd (⊎_elim (λ busy. busy_not_failed (phase_of mid.flusher) busy failed) (λ is. busy_or_failed_not_done (phase_of mid.flusher) is (inr failed)) way.1)) made.way
+    was_failed disk = ⊎_elim (λ same. same) (λ way. absurd (⊎_elim (λ busy. busy_not_failed (phase_of mid.flusher) busy disk) (λ is. busy_or_failed_not_done (phase_of mid.flusher) is (inr disk)) way.1)) made.way
 
     pub call_made : (x : Unit {0}) → IsCalled (Ok x) mid new → phase_of mid.flusher ≡ Busy → AreMade (calls + 1) start new
     call_made x h busy =
@@ -199,8 +199,8 @@ module _ {D : Type 0} (honest : D → Type 0) (reads : D → List ℕ) (may_leav
           way = inr (was_busy busy, h.tells.2);
         }
 
-    pub call_refused : (fault : StoreFault) (old : DurableCore D) → IsCalled (Err fault) mid new → failed (device_of old) ≤ failed (device_of mid) → failed (device_of mid) ≤ failed (device_of new)
-        → (fault ≡ store_fault.Device → HasRisen (failed (device_of mid)) (failed (device_of new))) → (phase_of mid.flusher ≡ Busy → 1 ≤ calls_left mid.flusher)
+    pub call_refused : (fault : StoreFault) (old : DurableCore D) → IsCalled (Err fault) mid new → disk.failed (device_of old) ≤ disk.failed (device_of mid) → disk.failed (device_of mid) ≤ disk.failed (device_of new)
+        → (fault ≡ store_fault.Device → HasRisen (disk.failed (device_of mid)) (disk.failed (device_of new))) → (phase_of mid.flusher ≡ Busy → 1 ≤ calls_left mid.flusher)
         → IsRefusedFor fault (calls + 1) old start new
     call_refused fault old h count later rises more =
         let l = made.left in
@@ -212,7 +212,7 @@ module _ {D : Type 0} (honest : D → Type 0) (reads : D → List ℕ) (may_leav
           within = λ began. ⊎_elim (λ busy. let m = more busy in omega (arith, l, m))
               (λ was. absurd (busy_not_failed (phase_of start.flusher) began (sym (ap (λ (w : DurableCore D). phase_of w.flusher) (was_failed was)) ∙ was))) some;
           kind = h.tells.2;
-          risen = λ is first. risen_since (failed (device_of old)) (failed (device_of mid)) (failed (device_of new)) (rises is) count later first;
+          risen = λ is first. risen_since (disk.failed (device_of old)) (disk.failed (device_of mid)) (disk.failed (device_of new)) (rises is) count later first;
           same = λ is. ap (λ (w : DurableCore D). w.core) h.only ∙ ap (λ (e : StoreFault). after_call (Err e) mid.core) is ∙ made.core;
           phase = h.tells.0;
         }
@@ -221,16 +221,16 @@ module _ {D : Type 0} (honest : D → Type 0) (reads : D → List ℕ) (may_leav
   abbrev pub Outcome : Commit → DurableCore D → DurableCore D → Type 0
   Outcome commit.Settled old new = (old.core.number < new.core.number) × (new.core.flight ≡ 0)
   Outcome commit.Nothing old new = HasNoBatch old × HasNoCall old × HasNoReceipt old × (new ≡ old)
-  Outcome (commit.Refused fault) old new = Proper old → ComesTo failed (commit.Refused fault) old new
+  Outcome (commit.Refused fault) old new = Proper old → ComesTo disk (commit.Refused fault) old new
   Outcome commit.Foreign old new = Proper old → ⊥
   Outcome commit.NoMemory old new = Unit {0}
 
   -- a batch is refused
   module _ (batch : Batch) (old start : DurableCore D) (next : IsNext batch old start.core) (waits : start.batch ≡ Some batch) (p : Proper old) (q : Proper start) where
-    is_waiting : IsWaiting reads may_leave start
-    is_waiting = ⊎_elim (λ (b : IsBetween reads may_leave start). none_is_some start.batch batch b.batch waits)
-        (⊎_elim (λ (b : IsWaiting reads may_leave start). b)
-        (⊎_elim (λ (b : IsUnderWay reads may_leave start). none_is_some start.batch batch b.batch waits) (λ (b : IsDurable reads may_leave start). none_is_some start.batch batch b.batch waits)))
+    is_waiting : IsWaiting disk start
+    is_waiting = ⊎_elim (λ (b : IsBetween disk start). none_is_some start.batch batch b.batch waits)
+        (⊎_elim (λ (b : IsWaiting disk start). b)
+        (⊎_elim (λ (b : IsUnderWay disk start). none_is_some start.batch batch b.batch waits) (λ (b : IsDurable disk start). none_is_some start.batch batch b.batch waits)))
         q.stands
 
     same_settled : start.core.settled ≡ old.core.settled
@@ -242,16 +242,16 @@ module _ {D : Type 0} (honest : D → Type 0) (reads : D → List ℕ) (may_leav
         let own : batch_of start.core ≡ batch = (let both : Some (batch_of start.core) ≡ Some batch = sym w.batch ∙ waits in cc) in
         subst (λ (s : State). IsGood batch.changes s) same_settled (subst (λ (x : Batch). IsGood x.changes start.core.settled) own w.good)
 
-    pub refused_comes : (fault : StoreFault) (new : DurableCore D) → IsNotLoaded fault batch old.flusher start.flusher → ComesTo failed (commit.Refused fault) old new
+    pub refused_comes : (fault : StoreFault) (new : DurableCore D) → IsNotLoaded fault batch old.flusher start.flusher → ComesTo disk (commit.Refused fault) old new
     refused_comes fault new h =
-        let r = ready honest reads may_leave batch old start.core next (λ none. good) p.stands in
+        let r = ready disk batch old start.core next (λ none. good) p.stands in
         let idle : phase_of old.flusher ≡ Idle = ap phase_from r.steady.idle.phase in
         let table : table_of old.flusher ≡ old.core.settled = r.steady.table in
         ⊎_elim (λ is. busy_or_failed_not_idle (phase_of old.flusher) idle (inr (h.failed.0 is)))
         (⊎_elim (λ is. absurd (⊎_elim (λ busy. busy_or_failed_not_idle (phase_of old.flusher) idle (inl busy)) (λ was. (let no : Idle ≡ Done = sym idle ∙ was in cc)) (h.not_idle.0 is)))
         (⊎_elim (λ is. absurd (h.bad is (subst (λ (s : State). IsGood batch.changes s) (sym table) good)))
-        (⊎_elim (λ is. subst (λ (e : StoreFault). ComesTo failed (commit.Refused e) old new) (sym is) (λ lasts. ⊎_elim (h.worn is).1 (λ left. let over = (h.worn is).2 in omega (arith, left, over)) (lasts batch start.core next)))
-        (λ is. subst (λ (e : StoreFault). ComesTo failed (commit.Refused e) old new) (sym is) tt))))
+        (⊎_elim (λ is. subst (λ (e : StoreFault). ComesTo disk (commit.Refused e) old new) (sym is) (λ lasts. ⊎_elim (h.worn is).1 (λ left. let over = (h.worn is).2 in omega (arith, left, over)) (lasts batch start.core next)))
+        (λ is. subst (λ (e : StoreFault). ComesTo disk (commit.Refused e) old new) (sym is) tt))))
         h.few
 
   -- ---- the batch is taken, or there is none
@@ -275,8 +275,8 @@ module _ {D : Type 0} (honest : D → Type 0) (reads : D → List ℕ) (may_leav
     pub ended : (answer : Commit) → called ≡ Some answer → IsRefusedCall answer calls old start now
     pub none : called ≡ None → HasNoCall now
     pub publishes : Tells Publish last now new
-    pub count_calls : failed (device_of old) ≤ failed (device_of now)
-    pub count_last : failed (device_of now) ≤ failed (device_of new)
+    pub count_calls : disk.failed (device_of old) ≤ disk.failed (device_of now)
+    pub count_last : disk.failed (device_of now) ≤ disk.failed (device_of new)
     pub proper_start : Proper old → Proper start
     pub proper_now : Proper old → Proper now
     pub proper_new : Proper old → Proper new
@@ -306,10 +306,10 @@ module _ {D : Type 0} (honest : D → Type 0) (reads : D → List ℕ) (may_leav
     not_foreign h q =
         let kept = ap (λ (w : DurableCore D). w.receipt) h.only in
         let other = h.tells.0.0 refl in
-        ⊎_elim (λ (b : IsBetween reads may_leave new). none_is_some new.receipt h.receipt b.receipt kept)
-        (⊎_elim (λ (b : IsWaiting reads may_leave new). none_is_some new.receipt h.receipt b.receipt kept)
-        (⊎_elim (λ (b : IsUnderWay reads may_leave new). none_is_some new.receipt h.receipt b.receipt kept)
-        (λ (b : IsDurable reads may_leave new).
+        ⊎_elim (λ (b : IsBetween disk new). none_is_some new.receipt h.receipt b.receipt kept)
+        (⊎_elim (λ (b : IsWaiting disk new). none_is_some new.receipt h.receipt b.receipt kept)
+        (⊎_elim (λ (b : IsUnderWay disk new). none_is_some new.receipt h.receipt b.receipt kept)
+        (λ (b : IsDurable disk new).
         let own : b.given ≡ h.receipt = (let both : Some b.given ≡ Some h.receipt = sym b.receipt ∙ kept in cc) in
         other (subst (λ (s : CoreState). IsFlight (held_batch h.receipt) s) h.tells.1 (b.some, ap held_batch (sym own) ∙ b.of_batch)))))
         q.stands
@@ -329,18 +329,18 @@ module _ {D : Type 0} (honest : D → Type 0) (reads : D → List ℕ) (may_leav
     published_comes (Applied o r) begun made none h proper = absurd h
 
     -- a call was refused
-    call_comes : (fault : StoreFault) → IsBegun old start → IsRefusedFor fault calls old start now → failed (device_of now) ≤ failed (device_of new) → (Proper old → Proper now) → Proper old
-        → ComesTo failed (commit.Refused fault) old new
+    call_comes : (fault : StoreFault) → IsBegun old start → IsRefusedFor fault calls old start now → disk.failed (device_of now) ≤ disk.failed (device_of new) → (Proper old → Proper now) → Proper old
+        → ComesTo disk (commit.Refused fault) old new
     call_comes fault begun h count proper p = ⊎_elim
-        (λ is. subst (λ (e : StoreFault). ComesTo failed (commit.Refused e) old new) (sym is) (λ first. let r = h.risen is first in omega (arith, r, count)))
+        (λ is. subst (λ (e : StoreFault). ComesTo disk (commit.Refused e) old new) (sym is) (λ first. let r = h.risen is first in omega (arith, r, count)))
         (λ is.
-        let way = some_call honest reads may_leave now (inr h.phase) (proper p).stands in
-        let fails : now.core.failed ≡ true = ⊎_elim (λ f. flushing_not_failed honest reads may_leave now.flusher now.core.settled (state_after_flight now.core) f h.phase) (λ stuck. stuck.1) way.flushing in
-        subst (λ (e : StoreFault). ComesTo failed (commit.Refused e) old new) (sym is) (sym begun.fails ∙ sym (ap (λ (s : CoreState). s.failed) (h.same is)) ∙ fails))
+        let way = some_call disk now (inr h.phase) (proper p).stands in
+        let fails : now.core.failed ≡ true = ⊎_elim (λ f. flushing_not_failed disk now.flusher now.core.settled (state_after_flight now.core) f h.phase) (λ stuck. stuck.1) way.flushing in
+        subst (λ (e : StoreFault). ComesTo disk (commit.Refused e) old new) (sym is) (sym begun.fails ∙ sym (ap (λ (s : CoreState). s.failed) (h.same is)) ∙ fails))
         h.kind
 
     calls_come : (last : Told) (called : Option Commit) → IsBegun old start → (called ≡ None → AreMade calls start now) → ((answer : Commit) → called ≡ Some answer → IsRefusedCall answer calls old start now)
-        → (called ≡ None → HasNoCall now) → Tells Publish last now new → failed (device_of now) ≤ failed (device_of new) → (Proper old → Proper now) → (Proper old → Proper new)
+        → (called ≡ None → HasNoCall now) → Tells Publish last now new → disk.failed (device_of now) ≤ disk.failed (device_of new) → (Proper old → Proper now) → (Proper old → Proper new)
         → Outcome (unwrap_or called (unwrap_or (said last) commit.Nothing)) old new
     calls_come last None begun made ended none publishes count proper_now proper_new = published_comes last begun (made refl) (none refl) publishes proper_new
     calls_come last (Some answer) begun made ended none publishes count proper_now proper_new =
@@ -433,30 +433,30 @@ module _ {D : Type 0} (honest : D → Type 0) (reads : D → List ℕ) (may_leav
     four_calls (Applied o r) last called m idle room = absurd m.takes
 
   -- ---- from a proper durable core
-  none_flies : (w : DurableCore D) → IsInStep reads may_leave w → HasNoBatch w → HasNoCall w → HasNoReceipt w → w.core.flight ≡ 0
+  none_flies : (w : DurableCore D) → IsInStep disk w → HasNoBatch w → HasNoCall w → HasNoReceipt w → w.core.flight ≡ 0
   none_flies w h none still free = ⊎_elim
-      (λ (b : IsBetween reads may_leave w). b.none)
+      (λ (b : IsBetween disk w). b.none)
       (⊎_elim
-      (λ (b : IsWaiting reads may_leave w). none_is_some w.batch (batch_of w.core) none.0 b.batch)
+      (λ (b : IsWaiting disk w). none_is_some w.batch (batch_of w.core) none.0 b.batch)
       (⊎_elim
-      (λ (b : IsUnderWay reads may_leave w). ⊎_elim
+      (λ (b : IsUnderWay disk w). ⊎_elim
       (λ f. ⊎_elim
       (λ busy. no_call_left (phase_of w.flusher) still (inl busy))
       (λ is. absurd (free.1 (ap phase_from is)))
-      (under_way reads may_leave w.flusher w.core.settled (state_after_flight w.core) f.committing))
+      (under_way disk w.flusher w.core.settled (state_after_flight w.core) f.committing))
       (λ stuck. no_call_left (phase_of w.flusher) still (inr (ap phase_from stuck.0.phase)))
       b.flushing)
-      (λ (b : IsDurable reads may_leave w). none_is_some w.receipt b.given free.0 b.receipt)))
+      (λ (b : IsDurable disk w). none_is_some w.receipt b.given free.0 b.receipt)))
       h
 
-  pub proper_comes : (answer : Commit) (old new : DurableCore D) → Outcome answer old new → Proper old → ComesTo failed answer old new
+  pub proper_comes : (answer : Commit) (old new : DurableCore D) → Outcome answer old new → Proper old → ComesTo disk answer old new
   proper_comes commit.Settled old new o p = o
   proper_comes commit.Nothing old new o p = (o.3, none_taken old.core.failed old.core.flight old.core.unsettled (none_flies old p.stands o.0 o.1 o.2) o.0.1)
   proper_comes (commit.Refused fault) old new o p = o p
   proper_comes commit.Foreign old new o p = absurd (o p)
   proper_comes commit.NoMemory old new o p = tt
 
-  pub commits : (answer : Commit) (old new : DurableCore D) → ComesTo failed answer old new → old.core.failed ≡ false → failed (device_of new) ≡ failed (device_of old) → failed (device_of old) + 1 < 2 ^ 64
+  pub commits : (answer : Commit) (old new : DurableCore D) → ComesTo disk answer old new → old.core.failed ≡ false → disk.failed (device_of new) ≡ disk.failed (device_of old) → disk.failed (device_of old) + 1 < 2 ^ 64
       → ¬ LacksMemory answer → LastsForNext old → 1 ≤ length old.core.unsettled → (answer ≡ commit.Settled) × (old.core.number < new.core.number)
   commits commit.Settled old new c ok same below memory room some = (refl, c.0)
   commits commit.Nothing old new c ok same below memory room some =
@@ -481,15 +481,15 @@ module _ {D : Type 0} (honest : D → Type 0) (reads : D → List ℕ) (may_leav
     pub takes : Tells Take first old start
     pub taken_is : taken ≡ said first
     pub proper_start : Proper old → Proper start
-    pub driven : IsDriven honest reads may_leave moment left_since size (Take ∷ replicate calls Call) (first ∷ tolds) old now
-    pub count : failed (device_of old) ≤ failed (device_of now)
+    pub driven : IsDriven disk (Take ∷ replicate calls Call) (first ∷ tolds) old now
+    pub count : disk.failed (device_of old) ≤ disk.failed (device_of now)
     pub says : (rest : List Told) → answer_of (tolds ++ rest) ≡ unwrap_or called (answer_of rest)
     pub made : called ≡ None → AreMade calls start now
     pub ended : (answer : Commit) → called ≡ Some answer → IsRefusedCall answer calls old start now
 
   pub calling_begun : (first : Told) (taken called : Option Commit) (old start : DurableCore D)
-      → (Proper old → (image : List ℕ) → left_since (device_of old) (moment (device_of old)) image → ShowsEither old.core image)
-      → IsStep Take first old start → IsSafe honest reads may_leave moment left_since size old start → failed (device_of old) ≤ failed (device_of start) → taken ≡ said first → called ≡ None
+      → (Proper old → (image : List ℕ) → disk.left_since (device_of old) (disk.moment (device_of old)) image → ShowsEither old.core image)
+      → IsStep Take first old start → IsSafe disk old start → disk.failed (device_of old) ≤ disk.failed (device_of start) → taken ≡ said first → called ≡ None
       → IsCalling taken called old start
   calling_begun first taken called old start stops step safe count is none = record {
     calls = 0;
@@ -499,7 +499,7 @@ module _ {D : Type 0} (honest : D → Type 0) (reads : D → List ℕ) (may_leav
     takes = step.tells;
     taken_is = is;
     proper_start = safe.proper;
-    driven = one_driven honest reads may_leave moment left_since size [] [] Take first old old start (none_driven honest reads may_leave moment left_since size old stops) step safe;
+    driven = one_driven disk [] [] Take first old old start (none_driven disk old stops) step safe;
     count = count;
     says = λ rest. sym (ap (λ o. unwrap_or o (answer_of rest)) none);
     made = λ no. none_made start;
@@ -522,8 +522,8 @@ module _ {D : Type 0} (honest : D → Type 0) (reads : D → List ℕ) (may_leav
   next_made (Applied o r) calls start mid new h made some none = absurd h
 
   next_refused : (told : Told) (answer : Commit) (calls : ℕ) (old start mid new : DurableCore D) → Tells Call told mid new → AreMade calls start mid → (phase_of mid.flusher ≡ Busy) ⊎ (phase_of mid.flusher ≡ Failed)
-      → (phase_of mid.flusher ≡ Busy → 1 ≤ calls_left mid.flusher) → failed (device_of old) ≤ failed (device_of mid) → failed (device_of mid) ≤ failed (device_of new)
-      → (told ≡ Called (Err store_fault.Device) → HasRisen (failed (device_of mid)) (failed (device_of new))) → said told ≡ Some answer → IsRefusedCall answer (calls + 1) old start new
+      → (phase_of mid.flusher ≡ Busy → 1 ≤ calls_left mid.flusher) → disk.failed (device_of old) ≤ disk.failed (device_of mid) → disk.failed (device_of mid) ≤ disk.failed (device_of new)
+      → (told ≡ Called (Err store_fault.Device) → HasRisen (disk.failed (device_of mid)) (disk.failed (device_of new))) → said told ≡ Some answer → IsRefusedCall answer (calls + 1) old start new
   next_refused (Called (Err fault)) answer calls old start mid new h made some more count later rises is = record {
     fault = fault;
     is = let both : Some (commit.Refused fault) ≡ Some answer = is in cc;
@@ -556,8 +556,8 @@ module _ {D : Type 0} (honest : D → Type 0) (reads : D → List ℕ) (may_leav
 
   pub calling_on : (told : Told) (taken called more_called : Option Commit) (old mid new : DurableCore D) → IsCalling taken called old mid → called ≡ None
       → (phase_of mid.flusher ≡ Busy) ⊎ (phase_of mid.flusher ≡ Failed) → (phase_of mid.flusher ≡ Busy → 1 ≤ calls_left mid.flusher)
-      → IsStep Call told mid new → IsSafe honest reads may_leave moment left_since size mid new → failed (device_of mid) ≤ failed (device_of new)
-      → (told ≡ Called (Err store_fault.Device) → HasRisen (failed (device_of mid)) (failed (device_of new))) → more_called ≡ said told → IsCalling taken more_called old new
+      → IsStep Call told mid new → IsSafe disk mid new → disk.failed (device_of mid) ≤ disk.failed (device_of new)
+      → (told ≡ Called (Err store_fault.Device) → HasRisen (disk.failed (device_of mid)) (disk.failed (device_of new))) → more_called ≡ said told → IsCalling taken more_called old new
   calling_on told taken called more_called old mid new k none some more step safe count rises is =
       let before = k.count in
       record {
@@ -568,8 +568,8 @@ module _ {D : Type 0} (honest : D → Type 0) (reads : D → List ℕ) (may_leav
         takes = k.takes;
         taken_is = k.taken_is;
         proper_start = k.proper_start;
-        driven = subst (λ (calls : List Step). IsDriven honest reads may_leave moment left_since size (Take ∷ calls) (k.first ∷ (k.tolds ++ told ∷ [])) old new) (replicate_more k.calls Call)
-            (one_driven honest reads may_leave moment left_since size (Take ∷ replicate k.calls Call) (k.first ∷ k.tolds) Call told old mid new k.driven step safe);
+        driven = subst (λ (calls : List Step). IsDriven disk (Take ∷ calls) (k.first ∷ (k.tolds ++ told ∷ [])) old new) (replicate_more k.calls Call)
+            (one_driven disk (Take ∷ replicate k.calls Call) (k.first ∷ k.tolds) Call told old mid new k.driven step safe);
         count = omega (arith, before, count);
         says = λ rest. said_more k.tolds told called none k.says rest ∙ ap (λ o. unwrap_or o (answer_of rest)) (sym is);
         made = λ no. next_made told k.calls k.start mid new step.tells (k.made none) some (sym is ∙ no);
@@ -582,19 +582,18 @@ module _ {D : Type 0} (honest : D → Type 0) (reads : D → List ℕ) (may_leav
     pub outcome : Outcome result old new
     pub rests : HasNoBatch old → HasNoCall old → HasNoReceipt old → result ≡ commit.Nothing
     pub proper : Proper old → Proper new
-    pub moments : Proper old → (hs : List Happening) → AreUnsettled hs old.core → LeavesOnly moment left_since (device_of old) (device_of new) (ShowsFront old.core.settled old.core.confs hs)
-    pub quiet : Goes [] (λ r. []) old.core new.core
-    pub heard : new.core.heard ≡ old.core.heard
-    pub count : failed (device_of old) ≤ failed (device_of new)
+    pub moments : Proper old → (hs : List Happening) → AreUnsettled hs old.core → LeavesOnly disk (device_of old) (device_of new) (ShowsFront old.core.settled old.core.confs hs)
+    pub quiet : GoesQuietly old.core new.core
+    pub count : disk.failed (device_of old) ≤ disk.failed (device_of new)
 
   module _ (taken called : Option Commit) (last : Told) (old now new : DurableCore D) (k : IsCalling taken called old now) (none : called ≡ None → HasNoCall now)
-      (step : IsStep Publish last now new) (safe : IsSafe honest reads may_leave moment left_since size now new) (count : failed (device_of now) ≤ failed (device_of new))
+      (step : IsStep Publish last now new) (safe : IsSafe disk now new) (count : disk.failed (device_of now) ≤ disk.failed (device_of new))
       (result : Commit) (is : result ≡ unwrap_or (option_or (option_or taken called) (said last)) commit.Nothing) where
     abbrev tolds : List Told
     tolds = k.first ∷ (k.tolds ++ last ∷ [])
 
-    whole : IsDriven honest reads may_leave moment left_since size (round k.calls) tolds old new
-    whole = one_driven honest reads may_leave moment left_since size (Take ∷ replicate k.calls Call) (k.first ∷ k.tolds) Publish last old now new k.driven step safe
+    whole : IsDriven disk (round k.calls) tolds old new
+    whole = one_driven disk (Take ∷ replicate k.calls Call) (k.first ∷ k.tolds) Publish last old now new k.driven step safe
 
     made_all : IsMade k.first last called k.calls old k.start now new
     made_all = record {
@@ -640,13 +639,13 @@ module _ {D : Type 0} (honest : D → Type 0) (reads : D → List ℕ) (may_leav
     same_heard : new.core.heard ≡ old.core.heard
     same_heard = whole.heard ∙ ap (λ (z : Account). z.heard) nothing_entered
 
-    same_moments : Proper old → (hs : List Happening) → AreUnsettled hs old.core → LeavesOnly moment left_since (device_of old) (device_of new) (ShowsFront old.core.settled old.core.confs hs)
+    same_moments : Proper old → (hs : List Happening) → AreUnsettled hs old.core → LeavesOnly disk (device_of old) (device_of new) (ShowsFront old.core.settled old.core.confs hs)
     same_moments p hs u =
-        subst (λ (xs : List Happening). LeavesOnly moment left_since (device_of old) (device_of new) (ShowsFront old.core.settled old.core.confs xs)) (append-nil hs)
-        (subst (λ (z : Account). LeavesOnly moment left_since (device_of old) (device_of new) (ShowsFront old.core.settled old.core.confs (hs ++ z.happened))) nothing_entered (whole.any_moment p hs u))
+        subst (λ (xs : List Happening). LeavesOnly disk (device_of old) (device_of new) (ShowsFront old.core.settled old.core.confs xs)) (append-nil hs)
+        (subst (λ (z : Account). LeavesOnly disk (device_of old) (device_of new) (ShowsFront old.core.settled old.core.confs (hs ++ z.happened))) nothing_entered (whole.any_moment p hs u))
 
-    count_all : failed (device_of old) ≤ failed (device_of new)
+    count_all : disk.failed (device_of old) ≤ disk.failed (device_of new)
     count_all = let before = k.count in omega (arith, before, count)
 
     pub committed : IsCommitted result old new
-    committed = record { round = round_is; outcome = outcome; rests = rests_so; proper = whole.proper; moments = same_moments; quiet = quiet; heard = same_heard; count = count_all }
+    committed = record { round = round_is; outcome = outcome; rests = rests_so; proper = whole.proper; moments = same_moments; quiet = record { goes = quiet; heard = same_heard }; count = count_all }

@@ -17,25 +17,25 @@ use Rattle.apd_core.proofs.Settling.{up_to_beyond}
 use Rattle.apd_base.proofs.AddrLemmas.{bssid_total, bssid_exact}
 use Rattle.apd_base.proofs.MapLemmas.{one_or_apart}
 use Rattle.apd_core.specs.declared.input.QuietReason.{QuietReason}
-use Rattle.apd_disk.specs.Disk.{LeavesOnly}
+use Rattle.apd_disk.specs.Disk.{LeavesOnly, DiskModel}
 use Rattle.apd_disk.proofs.Moments.{started, then_run, weaker}
 use Rattle.apd_mlme.specs.Happening.{Happening, Configure}
 use Rattle.apd_mlme.specs.Run.{run, outs_run}
 use Rattle.apd_mlme.specs.declared.decision.Out.{Out}
 use Rattle.apd_mlme.specs.declared.decision.Recipient.{Recipient}
 use Rattle.apd_mlme.specs.declared.decision.Recipient.TheVariants.{Radio, Control}
-use Rattle.apd_slot.specs.Wanted.{Stations}
+use Rattle.apd_radio.specs.Model.{RadioModel}
 use Rattle.apd_store.specs.Image.{Shows}
 use Rattle.apd_world.specs.Following.{AreExact, AreFollowing}
 use Rattle.apd_world.specs.CoreRun.{AreUnsettled, Goes, Settles}
-use Rattle.apd_world.specs.StepsMade.{AreAccepted, AreAllApplied, AreAnswered, AreQuietlyMade, AreSafelyMade, SomeAreQuietlyMade, SomeAreSafelyMade}
+use Rattle.apd_world.specs.StepsMade.{AreAccepted, AreAllApplied, AreAnswered, AreQuietlyMade, AreSafelyMade, SomeAreQuietlyMade, SomeAreSafelyMade, StaysSafe}
 use Rattle.apd_world.specs.Outside.{device_of}
 use Rattle.apd_world.specs.Proper.{IsProper, IsSafe}
 use Rattle.apd_world.specs.Round.{round}
 use Rattle.apd_world.specs.Run.{AreSteps, IsRun}
 use Rattle.apd_world.specs.WorldParts.{durable_of, slot_at, slots_of, queue_of}
 use Rattle.apd_world.specs.Shown.{ShowsEither, ShowsFront}
-use Rattle.apd_world.specs.Starting.{AreConfiguring, HasGoneOn, IsAtRest, IsFlushed, IsHandedOut, IsGiven, IsHanding, IsStarted, IsWorldRound, LeavesFronts, OnlyHands, applies, asked, hands, radio_hands, recipient_of, rounds}
+use Rattle.apd_world.specs.Starting.{AreConfiguring, HasGoneOn, IsAtRest, IsFlushed, IsHandedOut, IsGiven, IsHanding, IsStarted, IsWorldRound, LeavesFront, LeavesFronts, OnlyHands, applies, asked, hands, radio_hands, recipient_of, rounds}
 use Rattle.apd_world.specs.Steps.{Account, account, all_entered, all_given, entered, given, heard_after, nothing_yet, one_more}
 use Rattle.apd_world.specs.Telling.{Tells}
 use Rattle.apd_world.specs.WorldRun.{all_applied, applied, AreWorldSteps, HasNoSlot, IsApplied, IsWorldRun, IsWorldStep, Joins}
@@ -137,10 +137,10 @@ module _ {D : Type 0} (xs ys : List Step) (ts us : List Told) (a b c : DurableCo
   }
 
 -- ---- two runs of a world
-module _ {D R : Type 0} (stations : R → Stations) (faults : R → ℕ) where
-  world_steps_then : (xs ys : List Step) (is js ts us : List Told) (a b c : World D R) → AreWorldSteps stations faults xs is ts a b → AreWorldSteps stations faults ys js us b c
-      → AreWorldSteps stations faults (xs ++ ys) (is ++ js) (ts ++ us) a c
-  world_steps_then [] ys [] js [] us a b c past step = subst (λ w. AreWorldSteps stations faults ys js us w c) past step
+module _ {D R : Type 0} (radio : RadioModel R) where
+  world_steps_then : (xs ys : List Step) (is js ts us : List Told) (a b c : World D R) → AreWorldSteps radio xs is ts a b → AreWorldSteps radio ys js us b c
+      → AreWorldSteps radio (xs ++ ys) (is ++ js) (ts ++ us) a c
+  world_steps_then [] ys [] js [] us a b c past step = subst (λ w. AreWorldSteps radio ys js us w c) past step
   world_steps_then (x ∷ xs) ys (i ∷ is) js (t ∷ ts) us a b c past step = (past.0, past.1, past.2, world_steps_then xs ys is js ts us past.0 b c past.3 step)
   world_steps_then [] ys [] js (t ∷ ts) us a b c past step = absurd past
   world_steps_then [] ys (i ∷ is) js ts us a b c past step = absurd past
@@ -148,28 +148,28 @@ module _ {D R : Type 0} (stations : R → Stations) (faults : R → ℕ) where
   world_steps_then (x ∷ xs) ys (i ∷ is) js [] us a b c past step = absurd past
 
   -- what is told inside and outside comes to the same
-  accounts_alike : (confs : List Conf) (xs : List Step) (is ts : List Told) (a b : World D R) (z : Account) → AreWorldSteps stations faults xs is ts a b → account confs xs is z ≡ account confs xs ts z
+  accounts_alike : (confs : List Conf) (xs : List Step) (is ts : List Told) (a b : World D R) (z : Account) → AreWorldSteps radio xs is ts a b → account confs xs is z ≡ account confs xs ts z
   accounts_alike confs [] [] [] a b z h = refl
   accounts_alike confs (x ∷ xs) (i ∷ is) (t ∷ ts) a b z h =
-      accounts_alike confs xs is ts h.0 b (one_more confs x i z) h.3 ∙ ap (account confs xs ts) (happens_alike stations faults a h.0 confs x i t z h.2)
+      accounts_alike confs xs is ts h.0 b (one_more confs x i z) h.3 ∙ ap (account confs xs ts) (happens_alike radio a h.0 confs x i t z h.2)
   accounts_alike confs [] [] (t ∷ ts) a b z h = absurd h
   accounts_alike confs [] (i ∷ is) ts a b z h = absurd h
   accounts_alike confs (x ∷ xs) [] ts a b z h = absurd h
   accounts_alike confs (x ∷ xs) (i ∷ is) [] a b z h = absurd h
 
-  controls_alike : (xs : List Step) (is ts : List Told) (a b : World D R) → AreWorldSteps stations faults xs is ts a b → all_given Control xs is ≡ all_given Control xs ts
+  controls_alike : (xs : List Step) (is ts : List Told) (a b : World D R) → AreWorldSteps radio xs is ts a b → all_given Control xs is ≡ all_given Control xs ts
   controls_alike [] [] [] a b h = refl
-  controls_alike (x ∷ xs) (i ∷ is) (t ∷ ts) a b h = λ k. given_alike stations faults a h.0 x i t h.2 k ++ controls_alike xs is ts h.0 b h.3 k
+  controls_alike (x ∷ xs) (i ∷ is) (t ∷ ts) a b h = λ k. given_alike radio a h.0 x i t h.2 k ++ controls_alike xs is ts h.0 b h.3 k
   controls_alike [] [] (t ∷ ts) a b h = absurd h
   controls_alike [] (i ∷ is) ts a b h = absurd h
   controls_alike (x ∷ xs) [] ts a b h = absurd h
   controls_alike (x ∷ xs) (i ∷ is) [] a b h = absurd h
 
-  all_flow : (r : Bssid) (xs : List Step) (is ts : List Told) (a b : World D R) → AreWorldSteps stations faults xs is ts a b → all_applied r xs ts ++ queue_of b r ≡ queue_of a r ++ all_given (Radio r) xs is
+  all_flow : (r : Bssid) (xs : List Step) (is ts : List Told) (a b : World D R) → AreWorldSteps radio xs is ts a b → all_applied r xs ts ++ queue_of b r ≡ queue_of a r ++ all_given (Radio r) xs is
   all_flow r [] [] [] a b h = ap (λ w. queue_of w r) h ∙ sym (append-nil (queue_of a r))
   all_flow r (x ∷ xs) (i ∷ is) (t ∷ ts) a b h =
       append_assoc (applied r x t) (all_applied r xs ts) (queue_of b r) ∙ ap (λ os. applied r x t ++ os) (all_flow r xs is ts h.0 b h.3)
-      ∙ sym (append_assoc (applied r x t) (queue_of h.0 r) (all_given (Radio r) xs is)) ∙ ap (λ os. os ++ all_given (Radio r) xs is) (flows stations faults a h.0 r x i t h.2)
+      ∙ sym (append_assoc (applied r x t) (queue_of h.0 r) (all_given (Radio r) xs is)) ∙ ap (λ os. os ++ all_given (Radio r) xs is) (flows radio a h.0 r x i t h.2)
       ∙ append_assoc (queue_of a r) (given (Radio r) x i) (all_given (Radio r) xs is)
   all_flow r [] [] (t ∷ ts) a b h = absurd h
   all_flow r [] (i ∷ is) ts a b h = absurd h
@@ -177,7 +177,7 @@ module _ {D R : Type 0} (stations : R → Stations) (faults : R → ℕ) where
   all_flow r (x ∷ xs) (i ∷ is) [] a b h = absurd h
 
   -- a run inside, and what the steps do beside it, are a run
-  pub run_of : (xs : List Step) (is ts : List Told) (a b : World D R) → AreWorldSteps stations faults xs is ts a b → IsRun xs is (durable_of a) (durable_of b) → IsWorldRun stations faults xs ts a b
+  pub run_of : (xs : List Step) (is ts : List Told) (a b : World D R) → AreWorldSteps radio xs is ts a b → IsRun xs is (durable_of a) (durable_of b) → IsWorldRun radio xs ts a b
   run_of xs is ts a b steps inside =
       let core = (durable_of a).core in
       let same : all_entered xs is core ≡ all_entered xs ts core = ap (λ (z : Account). z.happened) (accounts_alike core.confs xs is ts a b (nothing_yet core) steps) in
@@ -194,13 +194,13 @@ module _ {D R : Type 0} (stations : R → Stations) (faults : R → ℕ) where
             ∙ ap (λ es. queue_of a r ++ (held_for (Radio r) core ++ outs_run (Radio r) (front_of core) core.confs es)) same;
       }
 
-  pub world_runs_join : (xs ys : List Step) (ts us : List Told) (a b c : World D R) → IsWorldRun stations faults xs ts a b → IsWorldRun stations faults ys us b c → IsWorldRun stations faults (xs ++ ys) (ts ++ us) a c
+  pub world_runs_join : (xs ys : List Step) (ts us : List Told) (a b c : World D R) → IsWorldRun radio xs ts a b → IsWorldRun radio ys us b c → IsWorldRun radio (xs ++ ys) (ts ++ us) a c
   world_runs_join xs ys ts us a b c past step =
       run_of (xs ++ ys) (past.insides ++ step.insides) (ts ++ us) a c
       (world_steps_then xs ys past.insides step.insides ts us a b c past.steps_are step.steps_are)
       (runs_join xs ys past.insides step.insides (durable_of a) (durable_of b) (durable_of c) past.run step.run)
 
-  pub tolds_length : (xs : List Step) (is ts : List Told) (a b : World D R) → AreWorldSteps stations faults xs is ts a b → length ts ≡ length xs
+  pub tolds_length : (xs : List Step) (is ts : List Told) (a b : World D R) → AreWorldSteps radio xs is ts a b → length ts ≡ length xs
   tolds_length [] [] [] a b h = refl
   tolds_length (x ∷ xs) (i ∷ is) (t ∷ ts) a b h = ap suc (tolds_length xs is ts h.0 b h.3)
   tolds_length [] [] (t ∷ ts) a b h = absurd h
@@ -209,7 +209,7 @@ module _ {D R : Type 0} (stations : R → Stations) (faults : R → ℕ) where
   tolds_length (x ∷ xs) (i ∷ is) [] a b h = absurd h
 
   -- what happened by the first, and then by the others
-  pub world_entered_then : (xs ys : List Step) (ts us : List Told) (a b c : World D R) → IsWorldRun stations faults xs ts a b → IsWorldRun stations faults ys us b c
+  pub world_entered_then : (xs ys : List Step) (ts us : List Told) (a b c : World D R) → IsWorldRun radio xs ts a b → IsWorldRun radio ys us b c
       → all_entered (xs ++ ys) (ts ++ us) (durable_of a).core ≡ all_entered xs ts (durable_of a).core ++ all_entered ys us (durable_of b).core
   unfolding world_runs_join run_of
   world_entered_then xs ys ts us a b c past step =
@@ -228,8 +228,8 @@ calls_of_store : (n : ℕ) → AllByRecursion IsOfStore (replicate n Call ++ Pub
 calls_of_store zero = (tt, tt)
 calls_of_store (suc n) = (tt, calls_of_store n)
 
-module _ {D R : Type 0} (stations : R → Stations) (faults : R → ℕ) where
-  lifted : (xs : List Step) (ts : List Told) (w : World D R) (d : DurableCore D) → AllByRecursion IsOfStore xs → AreSteps xs ts (durable_of w) d → AreWorldSteps stations faults xs ts ts w (record w { durable = d })
+module _ {D R : Type 0} (radio : RadioModel R) where
+  lifted : (xs : List Step) (ts : List Told) (w : World D R) (d : DurableCore D) → AllByRecursion IsOfStore xs → AreSteps xs ts (durable_of w) d → AreWorldSteps radio xs ts ts w (record w { durable = d })
   lifted [] [] w d all h = ap (λ (e : DurableCore D). record w { durable = e }) h
   lifted (Take ∷ xs) (t ∷ ts) w d all h = (record w { durable = h.0 }, h.1, (refl, record { slots = refl; queues = λ b. refl }), lifted xs ts (record w { durable = h.0 }) d all.1 h.2)
   lifted (Call ∷ xs) (t ∷ ts) w d all h = (record w { durable = h.0 }, h.1, (refl, record { slots = refl; queues = λ b. refl }), lifted xs ts (record w { durable = h.0 }) d all.1 h.2)
@@ -241,8 +241,8 @@ module _ {D R : Type 0} (stations : R → Stations) (faults : R → ℕ) where
   lifted [] (t ∷ ts) w d all h = absurd h
   lifted (x ∷ xs) [] w d all h = absurd h
 
-  pub round_lifted : (n : ℕ) (ts : List Told) (w : World D R) (d : DurableCore D) → IsRun (round n) ts (durable_of w) d → IsWorldRun stations faults (round n) ts w (record w { durable = d })
-  round_lifted n ts w d h = run_of stations faults (round n) ts ts w (record w { durable = d }) (lifted (round n) ts w d (tt, calls_of_store n) h.steps_are) h
+  pub round_lifted : (n : ℕ) (ts : List Told) (w : World D R) (d : DurableCore D) → IsRun (round n) ts (durable_of w) d → IsWorldRun radio (round n) ts w (record w { durable = d })
+  round_lifted n ts w d h = run_of radio (round n) ts ts w (record w { durable = d }) (lifted (round n) ts w d (tt, calls_of_store n) h.steps_are) h
 
 -- ---- what is safely made
 -- what is shown of a core some time later is shown of it before
@@ -259,30 +259,35 @@ front_later a b hs es fs g confs settles c h =
     (λ i. run (settles.state i) (confs i) front) ∙ sym (run-append a.confs settles.settled front a.settled) in
     shows_front a.settled a.confs c (hs ++ (es ++ fs)) (settles.settled ++ front) rest parts (subst (Shows c) is h.shows)
 
-module _ {D R : Type 0} (honest : D → Type 0) (reads : D → List ℕ) (may_leave : D → List ℕ → Type 0) (moment : D → ℕ) (left_since : D → ℕ → List ℕ → Type 0) (size : D → ℕ) (stations : R → Stations) (faults : R → ℕ) where
+module _ {D R : Type 0} (disk : DiskModel D) (radio : RadioModel R) where
   abbrev Safe : List Step → List Told → World D R → World D R → Type 0
-  Safe xs ts a b = AreSafelyMade honest reads may_leave moment left_since size stations faults xs ts a b
+  Safe xs ts a b = AreSafelyMade disk radio xs ts a b
 
-  abbrev Fronts : World D R → World D R → World D R → List Happening → Type 0
-  Fronts w a b hs = LeavesOnly moment left_since (device_of (durable_of a)) (device_of (durable_of b)) (ShowsFront (durable_of w).core.settled (durable_of w).core.confs hs)
+  abbrev Fronts : World D R → World D R → List Happening → Type 0
+  Fronts a b hs = LeavesFront disk hs a b
 
-  pub none_made : (w : World D R) → (IsProper honest reads may_leave size (durable_of w) → (image : List ℕ) → left_since (device_of (durable_of w)) (moment (device_of (durable_of w))) image → ShowsEither (durable_of w).core image)
+  abbrev Stays : World D R → World D R → Type 0
+  Stays a b = StaysSafe disk radio (LeavesFront disk) a b
+
+  pub none_made : (w : World D R) → (IsProper disk (durable_of w) → (image : List ℕ) → disk.left_since (device_of (durable_of w)) (disk.moment (device_of (durable_of w))) image → ShowsEither (durable_of w).core image)
       → Safe [] [] w w
   none_made w stops = record {
-    run = run_of stations faults [] [] [] w w refl (record { steps_are = refl; goes = goes_unchanged (durable_of w).core; heard = refl; spoken = λ h. h });
-    proper = λ p. p;
-    any_moment = λ p hs u. started moment left_since (device_of (durable_of w)) (ShowsFront (durable_of w).core.settled (durable_of w).core.confs (hs ++ []))
-        (λ c left.
-        let flight = shows_flight (durable_of w).core hs u c (stops p c left) in
-        shows_front (durable_of w).core.settled (durable_of w).core.confs c (hs ++ []) (take flight.count hs) (drop flight.count hs) (append-nil hs ∙ sym (take-append-drop flight.count hs)) flight.shows);
-    exact = λ all. all;
-    following = λ f. f;
+    run = run_of radio [] [] [] w w refl (record { steps_are = refl; goes = goes_unchanged (durable_of w).core; heard = refl; spoken = λ h. h });
+    safe = record {
+      proper = λ p. p;
+      any_moment = λ p hs u. started disk (device_of (durable_of w)) (ShowsFront (durable_of w).core.settled (durable_of w).core.confs (hs ++ []))
+          (λ c left.
+          let flight = shows_flight (durable_of w).core hs u c (stops p c left) in
+          shows_front (durable_of w).core.settled (durable_of w).core.confs c (hs ++ []) (take flight.count hs) (drop flight.count hs) (append-nil hs ∙ sym (take-append-drop flight.count hs)) flight.shows);
+      exact = λ all. all;
+      following = λ f. f;
+    };
   }
 
-  pub one_made : (x : Step) (t : Told) (a b : World D R) → IsWorldStep stations faults x t a b → IsSafe honest reads may_leave moment left_since size (durable_of a) (durable_of b) → Safe (x ∷ []) (t ∷ []) a b
+  pub one_made : (x : Step) (t : Told) (a b : World D R) → IsWorldStep radio x t a b → IsSafe disk (durable_of a) (durable_of b) → Safe (x ∷ []) (t ∷ []) a b
   one_made x t a b step safe =
       let ca = (durable_of a).core in
-      let run = run_of stations faults (x ∷ []) (step.inside ∷ []) (t ∷ []) a b (b, step.durable.tells, step.joins, refl)
+      let run = run_of radio (x ∷ []) (step.inside ∷ []) (t ∷ []) a b (b, step.durable.tells, step.joins, refl)
       (record {
         steps_are = (durable_of b, step.durable.tells, refl);
         goes = subst (λ (g : Recipient → List Out). Goes (entered ca.confs ca.heard x step.inside) g ca (durable_of b).core) (λ i r. sym (append-nil (given r x step.inside)) i) step.durable.goes;
@@ -291,11 +296,13 @@ module _ {D R : Type 0} (honest : D → Type 0) (reads : D → List ℕ) (may_le
       }) in
       record {
         run = run;
-        proper = safe.proper;
-        any_moment = λ p hs u. weaker moment left_since (device_of (durable_of a)) (device_of (durable_of b)) (ShowsEither ca) (ShowsFront ca.settled ca.confs (hs ++ all_entered (x ∷ []) (t ∷ []) ca))
-            (shows_later ca ca hs [] (λ _. []) refl ((goes_unchanged ca).settles hs u) (all_entered (x ∷ []) (t ∷ []) ca)) (safe.inside p);
-        exact = exact stations faults a b x step.inside t step.joins;
-        following = following stations faults a b x t step;
+        safe = record {
+          proper = safe.proper;
+          any_moment = λ p hs u. weaker disk (device_of (durable_of a)) (device_of (durable_of b)) (ShowsEither ca) (ShowsFront ca.settled ca.confs (hs ++ all_entered (x ∷ []) (t ∷ []) ca))
+              (shows_later ca ca hs [] (λ _. []) refl ((goes_unchanged ca).settles hs u) (all_entered (x ∷ []) (t ∷ []) ca)) (safe.inside p);
+          exact = exact radio a b x step.inside t step.joins;
+          following = following radio a b x t step;
+        };
       }
 
   pub made_then : (xs ys : List Step) (ts us : List Told) (a b c : World D R) → Safe xs ts a b → Safe ys us b c → Safe (xs ++ ys) (ts ++ us) a c
@@ -305,74 +312,79 @@ module _ {D R : Type 0} (honest : D → Type 0) (reads : D → List ℕ) (may_le
       let es = all_entered xs ts ca in
       let fs = all_entered ys us cb in
       record {
-        run = world_runs_join stations faults xs ys ts us a b c past.run step.run;
-        proper = λ p. step.proper (past.proper p);
-        any_moment = λ p hs u.
-            let goes = subst (λ (zs : List Happening). Goes zs (λ r. all_given r xs past.run.insides) ca cb) past.run.entered past.run.run.goes in
-            let settles = goes.settles hs u in
-            let both : Fronts a a c (hs ++ (es ++ fs)) =
-            then_run moment left_since (device_of (durable_of a)) (device_of (durable_of b)) (device_of (durable_of c)) (ShowsFront ca.settled ca.confs (hs ++ (es ++ fs)))
-            (weaker moment left_since (device_of (durable_of a)) (device_of (durable_of b)) (ShowsFront ca.settled ca.confs (hs ++ es)) (ShowsFront ca.settled ca.confs (hs ++ (es ++ fs)))
-            (λ image. shows_more ca.settled ca.confs image (hs ++ es) fs (hs ++ (es ++ fs)) (sym (append_assoc hs es fs))) (past.any_moment p hs u))
-            (weaker moment left_since (device_of (durable_of b)) (device_of (durable_of c)) (ShowsFront cb.settled cb.confs (settles.left ++ fs)) (ShowsFront ca.settled ca.confs (hs ++ (es ++ fs)))
-            (front_later ca cb hs es fs (λ r. all_given r xs past.run.insides) goes.confs settles) (step.any_moment (past.proper p) settles.left settles.decided)) in
-            subst (λ zs. Fronts a a c (hs ++ zs)) (sym (world_entered_then stations faults xs ys ts us a b c past.run step.run)) both;
-        exact = λ all. step.exact (past.exact all);
-        following = λ f. step.following (past.following f);
-      }
-
-  -- a round of the store's steps
-  round_made : (n : ℕ) (ts : List Told) (a b : World D R) → IsWorldRun stations faults (round n) ts a b
-      → (IsProper honest reads may_leave size (durable_of a) → IsProper honest reads may_leave size (durable_of b))
-      → (IsProper honest reads may_leave size (durable_of a) → (hs : List Happening) → AreUnsettled hs (durable_of a).core → Fronts a a b hs)
-      → (AreExact stations (slots_of a) → AreExact stations (slots_of b)) → (AreFollowing a → AreFollowing b) → Safe (round n) ts a b
-  round_made n ts a b run proper moments exact following =
-      let ca = (durable_of a).core in
-      let none : [] ≡ all_entered (round n) ts ca = sym (ap (λ (z : Account). z.happened) (round_enters_none ca.confs (front_of ca) ca.heard n ts)) in
-      record {
-        run = run;
-        proper = proper;
-        any_moment = λ p hs u. subst (λ zs. Fronts a a b (hs ++ zs)) none (subst (λ zs. Fronts a a b zs) (sym (append-nil hs)) (moments p hs u));
-        exact = exact;
-        following = following;
+        run = world_runs_join radio xs ys ts us a b c past.run step.run;
+        safe = record {
+          proper = λ p. step.safe.proper (past.safe.proper p);
+          any_moment = λ p hs u.
+              let goes = subst (λ (zs : List Happening). Goes zs (λ r. all_given r xs past.run.insides) ca cb) past.run.entered past.run.run.goes in
+              let settles = goes.settles hs u in
+              let both : Fronts a c (hs ++ (es ++ fs)) =
+              then_run disk (device_of (durable_of a)) (device_of (durable_of b)) (device_of (durable_of c)) (ShowsFront ca.settled ca.confs (hs ++ (es ++ fs)))
+              (weaker disk (device_of (durable_of a)) (device_of (durable_of b)) (ShowsFront ca.settled ca.confs (hs ++ es)) (ShowsFront ca.settled ca.confs (hs ++ (es ++ fs)))
+              (λ image. shows_more ca.settled ca.confs image (hs ++ es) fs (hs ++ (es ++ fs)) (sym (append_assoc hs es fs))) (past.safe.any_moment p hs u))
+              (weaker disk (device_of (durable_of b)) (device_of (durable_of c)) (ShowsFront cb.settled cb.confs (settles.left ++ fs)) (ShowsFront ca.settled ca.confs (hs ++ (es ++ fs)))
+              (front_later ca cb hs es fs (λ r. all_given r xs past.run.insides) goes.confs settles) (step.safe.any_moment (past.safe.proper p) settles.left settles.decided)) in
+              subst (λ zs. Fronts a c (hs ++ zs)) (sym (world_entered_then radio xs ys ts us a b c past.run step.run)) both;
+          exact = λ all. step.safe.exact (past.safe.exact all);
+          following = λ f. step.safe.following (past.safe.following f);
+        };
       }
 
   -- ---- nothing happens
   abbrev Quiet : List Step → List Told → World D R → World D R → Type 0
-  Quiet xs ts a b = AreQuietlyMade honest reads may_leave moment left_since size stations faults xs ts a b
+  Quiet xs ts a b = AreQuietlyMade disk radio xs ts a b
 
   pub quiet_then : (xs ys : List Step) (ts us : List Told) (a b c : World D R) → Quiet xs ts a b → Quiet ys us b c → Quiet (xs ++ ys) (ts ++ us) a c
   quiet_then xs ys ts us a b c past step = record {
     made = made_then xs ys ts us a b c past.made step.made;
-    none = world_entered_then stations faults xs ys ts us a b c past.made.run step.made.run ∙ (λ i. past.none i ++ step.none i);
+    none = world_entered_then radio xs ys ts us a b c past.made.run step.made.run ∙ (λ i. past.none i ++ step.none i);
   }
 
-  pub round_quiet : (n : ℕ) (ts : List Told) (a b : World D R) → IsWorldRun stations faults (round n) ts a b
-      → (IsProper honest reads may_leave size (durable_of a) → IsProper honest reads may_leave size (durable_of b))
-      → (IsProper honest reads may_leave size (durable_of a) → (hs : List Happening) → AreUnsettled hs (durable_of a).core → Fronts a a b hs)
-      → (AreExact stations (slots_of a) → AreExact stations (slots_of b)) → (AreFollowing a → AreFollowing b) → Quiet (round n) ts a b
-  round_quiet n ts a b run proper moments exact following = record {
-    made = round_made n ts a b run proper moments exact following;
+  -- some steps, of which a stop within them leaves a front of what was not settled, are safely made
+  pub stays_made : (xs : List Step) (ts : List Told) (a b : World D R) → IsWorldRun radio xs ts a b → Stays a b → Safe xs ts a b
+  stays_made xs ts a b run stays =
+      let ca = (durable_of a).core in
+      let fs = all_entered xs ts ca in
+      record {
+        run = run;
+        safe = record {
+          proper = stays.proper;
+          any_moment = λ p hs u. weaker disk (device_of (durable_of a)) (device_of (durable_of b)) (ShowsFront ca.settled ca.confs hs) (ShowsFront ca.settled ca.confs (hs ++ fs))
+              (λ image. shows_more ca.settled ca.confs image hs fs (hs ++ fs) refl) (stays.any_moment p hs u);
+          exact = stays.exact;
+          following = stays.following;
+        };
+      }
+
+  -- a round of the store's steps
+  pub round_quiet : (n : ℕ) (ts : List Told) (a b : World D R) → IsWorldRun radio (round n) ts a b → Stays a b → Quiet (round n) ts a b
+  round_quiet n ts a b run stays = record {
+    made = stays_made (round n) ts a b run stays;
     none = ap (λ (z : Account). z.happened) (round_enters_none (durable_of a).core.confs (front_of (durable_of a).core) (durable_of a).core.heard n ts);
   }
 
-  pub some_none : (w : World D R) → Safe [] [] w w → SomeAreQuietlyMade honest reads may_leave moment left_since size stations faults w w
+  pub some_none : (w : World D R) → Safe [] [] w w → SomeAreQuietlyMade disk radio w w
   some_none w made = record { steps = []; tolds = []; quiet = record { made = made; none = refl } }
 
-  pub some_quiet : (xs : List Step) (ts : List Told) (a b c : World D R) → Quiet xs ts a b → SomeAreQuietlyMade honest reads may_leave moment left_since size stations faults b c
-      → SomeAreQuietlyMade honest reads may_leave moment left_since size stations faults a c
+  pub some_quiet : (xs : List Step) (ts : List Told) (a b c : World D R) → Quiet xs ts a b → SomeAreQuietlyMade disk radio b c
+      → SomeAreQuietlyMade disk radio a c
   some_quiet xs ts a b c past some = record { steps = xs ++ some.steps; tolds = ts ++ some.tolds; quiet = quiet_then xs some.steps ts some.tolds a b c past some.quiet }
 
-  pub some_safe : (xs : List Step) (ts : List Told) (a b c : World D R) → Safe xs ts a b → SomeAreSafelyMade honest reads may_leave moment left_since size stations faults b c
-      → SomeAreSafelyMade honest reads may_leave moment left_since size stations faults a c
+  pub some_safe : (xs : List Step) (ts : List Told) (a b c : World D R) → Safe xs ts a b → SomeAreSafelyMade disk radio b c
+      → SomeAreSafelyMade disk radio a c
   some_safe xs ts a b c past some = record { steps = xs ++ some.steps; tolds = ts ++ some.tolds; made = made_then xs some.steps ts some.tolds a b c past some.made }
 
-  pub quiet_moments : (xs : List Step) (ts : List Told) (a b : World D R) → Quiet xs ts a b → IsProper honest reads may_leave size (durable_of a) → (hs : List Happening) → AreUnsettled hs (durable_of a).core → Fronts a a b hs
-  quiet_moments xs ts a b q p hs u = subst (λ zs. Fronts a a b zs) (append-nil hs) (subst (λ zs. Fronts a a b (hs ++ zs)) q.none (q.made.any_moment p hs u))
+  pub quiet_stays : (xs : List Step) (ts : List Told) (a b : World D R) → Quiet xs ts a b → Stays a b
+  quiet_stays xs ts a b q = record {
+    proper = q.made.safe.proper;
+    any_moment = λ p hs u. subst (λ zs. Fronts a b zs) (append-nil hs) (subst (λ zs. Fronts a b (hs ++ zs)) q.none (q.made.safe.any_moment p hs u));
+    exact = q.made.safe.exact;
+    following = q.made.safe.following;
+  }
 
   -- ---- what is answered
   abbrev Answered : List Step → List (Recipient × Told) → List (Recipient × Told) → World D R → World D R → Type 0
-  Answered xs before after a b = AreAnswered honest reads may_leave moment left_since size stations faults xs before after a b
+  Answered xs before after a b = AreAnswered disk radio xs before after a b
 
   pub none_answered : (answers : List (Recipient × Told)) (w : World D R) → Safe [] [] w w → Answered [] answers answers w w
   none_answered answers w made = record { more = []; all = sym (append-nil answers); recipients = refl; told = All-nil (λ (a : Recipient × Told). a.1 ≢ NoMemory); quiet = record { made = made; none = refl } }
@@ -396,11 +408,11 @@ module _ {D R : Type 0} (honest : D → Type 0) (reads : D → List ℕ) (may_le
   none_entered Publish t s h = absurd h
   none_entered (Ask q) t s h = absurd h
 
-  pub one_quiet : (x : Step) (t : Told) (a b : World D R) → IsHanding x → IsWorldStep stations faults x t a b → IsSafe honest reads may_leave moment left_since size (durable_of a) (durable_of b) → Quiet (x ∷ []) (t ∷ []) a b
+  pub one_quiet : (x : Step) (t : Told) (a b : World D R) → IsHanding x → IsWorldStep radio x t a b → IsSafe disk (durable_of a) (durable_of b) → Quiet (x ∷ []) (t ∷ []) a b
   one_quiet x t a b hands step safe = record { made = one_made x t a b step safe; none = none_entered x t (durable_of a).core hands }
 
-  pub one_answered : (x : Step) (t : Told) (r : Recipient) (before after : List (Recipient × Told)) (a b : World D R) → IsHanding x → r ≡ recipient_of x → IsWorldStep stations faults x t a b
-      → IsSafe honest reads may_leave moment left_since size (durable_of a) (durable_of b) → (t ≡ NoMemory → ⊥) → after ≡ before ++ (r, t) ∷ [] → Answered (x ∷ []) before after a b
+  pub one_answered : (x : Step) (t : Told) (r : Recipient) (before after : List (Recipient × Told)) (a b : World D R) → IsHanding x → r ≡ recipient_of x → IsWorldStep radio x t a b
+      → IsSafe disk (durable_of a) (durable_of b) → (t ≡ NoMemory → ⊥) → after ≡ before ++ (r, t) ∷ [] → Answered (x ∷ []) before after a b
   one_answered x t r before after a b hands is step safe told all = record { more = (r, t) ∷ []; all = all; recipients = ap (λ (z : Recipient). z ∷ []) is; told = All-push (λ (a : Recipient × Told). a.1 ≢ NoMemory) [] (r, t) (All-nil (λ (a : Recipient × Told). a.1 ≢ NoMemory)) told; quiet = one_quiet x t a b hands step safe }
 
 -- ---- what a step that hands out or applies leaves
@@ -430,12 +442,12 @@ tells_only Call told d e hands h = absurd hands
 tells_only Publish told d e hands h = absurd hands
 tells_only (Ask q) told d e hands h = absurd hands
 
-module _ {D R : Type 0} (stations : R → Stations) (faults : R → ℕ) where
-  pub only_hands : (x : Step) (t : Told) (a b : World D R) → IsHanding x → IsWorldStep stations faults x t a b → OnlyHands (durable_of a) (durable_of b)
+module _ {D R : Type 0} (radio : RadioModel R) where
+  pub only_hands : (x : Step) (t : Told) (a b : World D R) → IsHanding x → IsWorldStep radio x t a b → OnlyHands (durable_of a) (durable_of b)
   only_hands x t a b hands step = tells_only x step.inside (durable_of a) (durable_of b) hands step.durable.tells
 
   -- no out comes to an empty queue by applying
-  pub all_stay_empty : (b : Bssid) (ts : List Told) (a c : World D R) → IsWorldRun stations faults (Apply b ∷ []) ts a c → (r : Bssid) → queue_of a r ≡ [] → queue_of c r ≡ []
+  pub all_stay_empty : (b : Bssid) (ts : List Told) (a c : World D R) → IsWorldRun radio (Apply b ∷ []) ts a c → (r : Bssid) → queue_of a r ≡ [] → queue_of c r ≡ []
   all_stay_empty b ts a c run r none =
       nothing_left (all_applied r (Apply b ∷ []) ts) (queue_of c r) (run.queues r ∙ (λ i. none i ++ gives_none r b run.insides i))
 
@@ -490,8 +502,8 @@ applies_of_slot [] counts = tt
 applies_of_slot (c ∷ confs) [] = tt
 applies_of_slot (c ∷ confs) (n ∷ counts) = more_of_slot n c.bssid (applies confs counts) (applies_of_slot confs counts)
 
-module _ {D R : Type 0} (stations : R → Stations) (faults : R → ℕ) where
-  hand_slots : (q : Recipient) (i t : Told) (a b : World D R) → Joins stations faults (Hand q) i t a b → slots_of b ≡ slots_of a
+module _ {D R : Type 0} (radio : RadioModel R) where
+  hand_slots : (q : Recipient) (i t : Told) (a b : World D R) → Joins radio (Hand q) i t a b → slots_of b ≡ slots_of a
   hand_slots (Radio r) (Handed outs) (Queued count) a b h = h.1.slots
   hand_slots (Radio r) NoMemory NoMemory a b h = h.1.slots
   hand_slots (Radio r) NoMemory Nothing a b h = h.1.slots
@@ -501,7 +513,7 @@ module _ {D R : Type 0} (stations : R → Stations) (faults : R → ℕ) where
   no_slot_at : (r : Bssid) (a b : World D R) → slots_of b ≡ slots_of a → HasNoSlot r a → HasNoSlot r b
   no_slot_at r a b same none = ap (λ slots. slot_at slots r) same ∙ none
 
-  gives : (q : Recipient) (i t : Told) (a b : World D R) → Tells (Hand q) i (durable_of a) (durable_of b) → Joins stations faults (Hand q) i t a b → (t ≡ NoMemory → ⊥) → IsGiven q b
+  gives : (q : Recipient) (i t : Told) (a b : World D R) → Tells (Hand q) i (durable_of a) (durable_of b) → Joins radio (Hand q) i t a b → (t ≡ NoMemory → ⊥) → IsGiven q b
   gives (Radio r) (Handed outs) (Queued count) a b h joins told = inr (ap (λ (w : DurableCore D). ready_for (Radio r) w.core) h.only ∙ ready_none (Radio r) (durable_of a).core)
   gives (Radio r) NoMemory NoMemory a b h joins told = absurd (told refl)
   gives (Radio r) NoMemory Nothing a b h joins told = inl (no_slot_at r a b joins.1.slots joins.0)
@@ -510,12 +522,12 @@ module _ {D R : Type 0} (stations : R → Stations) (faults : R → ℕ) where
   gives Control NoMemory t a b h joins told = absurd (told joins.0)
   gives Control i t a b h joins told = absurd h
 
-  stays_given : (r q : Recipient) (i t : Told) (a b : World D R) → Tells (Hand q) i (durable_of a) (durable_of b) → Joins stations faults (Hand q) i t a b → IsGiven r a → IsGiven r b
+  stays_given : (r q : Recipient) (i t : Told) (a b : World D R) → Tells (Hand q) i (durable_of a) (durable_of b) → Joins radio (Hand q) i t a b → IsGiven r a → IsGiven r b
   stays_given (Radio r) q i t a b h joins (inl none) = inl (no_slot_at r a b (hand_slots q i t a b joins) none)
   stays_given (Radio r) q i t a b h joins (inr none) = inr (keeps_ready (Radio r) q i (durable_of a) (durable_of b) h none)
   stays_given Control q i t a b h joins none = keeps_ready Control q i (durable_of a) (durable_of b) h none
 
-  all_stay_given : (r : Recipient) (confs : List Conf) (is ts : List Told) (a b : World D R) → AreWorldSteps stations faults (hands confs) is ts a b → IsGiven r a → IsGiven r b
+  all_stay_given : (r : Recipient) (confs : List Conf) (is ts : List Told) (a b : World D R) → AreWorldSteps radio (hands confs) is ts a b → IsGiven r a → IsGiven r b
   all_stay_given r [] (i ∷ []) (t ∷ []) a b h g = subst (IsGiven r) (sym h.3) (stays_given r Control i t a h.0 h.1 h.2 g)
   all_stay_given r (c ∷ confs) (i ∷ is) (t ∷ ts) a b h g = all_stay_given r confs is ts h.0 b h.3 (stays_given r (Radio c.bssid) i t a h.0 h.1 h.2 g)
   all_stay_given r [] (i ∷ []) (t ∷ u ∷ ts) a b h g = absurd h.3
@@ -525,7 +537,7 @@ module _ {D R : Type 0} (stations : R → Stations) (faults : R → ℕ) where
   all_stay_given r (c ∷ confs) [] ts a b h g = absurd h
   all_stay_given r (c ∷ confs) (i ∷ is) [] a b h g = absurd h
 
-  hands_give : (confs : List Conf) (is ts : List Told) (a b : World D R) → AreWorldSteps stations faults (hands confs) is ts a b → All (λ told. told ≢ NoMemory) ts
+  hands_give : (confs : List Conf) (is ts : List Told) (a b : World D R) → AreWorldSteps radio (hands confs) is ts a b → All (λ told. told ≢ NoMemory) ts
       → All (λ conf. IsGiven (Radio conf.bssid) b) confs × IsGiven Control b
   hands_give [] (i ∷ []) (t ∷ []) a b h told =
       (All-nil (λ conf. IsGiven (Radio conf.bssid) b), subst (IsGiven Control) (sym h.3) (gives Control i t a h.0 h.1 h.2 (All-head (λ told. told ≢ NoMemory) t [] told)))
@@ -541,14 +553,14 @@ module _ {D R : Type 0} (stations : R → Stations) (faults : R → ℕ) where
   hands_give (c ∷ confs) (i ∷ is) [] a b h told = absurd h
 
   -- applying leaves what was given
-  no_slot_stays : (r c : Bssid) (t : Told) (a b : World D R) → IsApplied stations faults c t a b → HasNoSlot r a → HasNoSlot r b
+  no_slot_stays : (r c : Bssid) (t : Told) (a b : World D R) → IsApplied radio c t a b → HasNoSlot r a → HasNoSlot r b
   no_slot_stays r c t a b h none = elim (one_or_apart bssid_total bssid_exact r c) [
     | inl one ↦ absurd (let wrong : Some h.slot ≡ None = sym h.has_slot ∙ ap (slot_at (slots_of a)) (sym one) ∙ none in cc)
     | inr apart ↦
-        ap (λ slots. slot_at slots r) h.slots ∙ slot_set_other (slots_of a) h.place h.after h.slot c r (own_of stations faults a b c t h) h.at (bssids_turned r c apart) ∙ none
+        ap (λ slots. slot_at slots r) h.slots ∙ slot_set_other (slots_of a) h.place h.after h.slot c r (own_of radio a b c t h) h.at (bssids_turned r c apart) ∙ none
   ]
 
-  apply_keeps : (r c : Bssid) (i t : Told) (a b : World D R) → Joins stations faults (Apply c) i t a b → HasNoSlot r a → HasNoSlot r b
+  apply_keeps : (r c : Bssid) (i t : Told) (a b : World D R) → Joins radio (Apply c) i t a b → HasNoSlot r a → HasNoSlot r b
   apply_keeps r c Nothing Nothing a b h none = no_slot_at r a b h.1.slots none
   apply_keeps r c Nothing t a b h none = no_slot_stays r c t a b h none
   apply_keeps r c i t a b h none = absurd h
@@ -557,12 +569,12 @@ module _ {D R : Type 0} (stations : R → Stations) (faults : R → ℕ) where
   apply_core c Nothing a b h = h
   apply_core c i a b h = absurd h
 
-  apply_given : (r : Recipient) (c : Bssid) (i t : Told) (a b : World D R) → Tells (Apply c) i (durable_of a) (durable_of b) → Joins stations faults (Apply c) i t a b → IsGiven r a → IsGiven r b
+  apply_given : (r : Recipient) (c : Bssid) (i t : Told) (a b : World D R) → Tells (Apply c) i (durable_of a) (durable_of b) → Joins radio (Apply c) i t a b → IsGiven r a → IsGiven r b
   apply_given (Radio r) c i t a b h joins (inl none) = inl (apply_keeps r c i t a b joins none)
   apply_given (Radio r) c i t a b h joins (inr none) = inr (ap (λ (w : DurableCore D). ready_for (Radio r) w.core) (apply_core c i a b h) ∙ none)
   apply_given Control c i t a b h joins none = ap (λ (w : DurableCore D). ready_for Control w.core) (apply_core c i a b h) ∙ none
 
-  applies_given : (r : Recipient) (xs : List Step) (is ts : List Told) (a b : World D R) → AllByRecursion IsOfSlot xs → AreWorldSteps stations faults xs is ts a b → IsGiven r a → IsGiven r b
+  applies_given : (r : Recipient) (xs : List Step) (is ts : List Told) (a b : World D R) → AllByRecursion IsOfSlot xs → AreWorldSteps radio xs is ts a b → IsGiven r a → IsGiven r b
   applies_given r [] [] [] a b all h g = subst (IsGiven r) (sym h) g
   applies_given r (Apply c ∷ xs) (i ∷ is) (t ∷ ts) a b all h g = applies_given r xs is ts h.0 b all.1 h.3 (apply_given r c i t a h.0 h.1 h.2 g)
   applies_given r (Accept i m ∷ xs) is ts a b all h g = absurd all.0
@@ -588,41 +600,41 @@ applies_push (c ∷ confs) (k ∷ counts) conf n e =
 applies_push [] (k ∷ counts) conf n e = absurd (omega (arith, e))
 applies_push (c ∷ confs) [] conf n e = absurd (omega (arith, e))
 
-module _ {D R : Type 0} (honest : D → Type 0) (reads : D → List ℕ) (may_leave : D → List ℕ → Type 0) (moment : D → ℕ) (left_since : D → ℕ → List ℕ → Type 0) (size : D → ℕ) (stations : R → Stations) (faults : R → ℕ) where
+module _ {D R : Type 0} (disk : DiskModel D) (radio : RadioModel R) where
   abbrev Applied_at : List Conf → List (Recipient × Told) → List (Recipient × Told) → World D R → World D R → Type 0
-  Applied_at confs before after a b = AreAllApplied honest reads may_leave moment left_since size stations faults confs before after a b
+  Applied_at confs before after a b = AreAllApplied disk radio confs before after a b
 
   -- so many outs were applied at the next interface
   pub record IsApplying (confs : List Conf) (b : Bssid) (before after : List (Recipient × Told)) (old new : World D R) : Type 0 where
     pub counts : List ℕ
     pub count : ℕ
     pub each : length counts ≡ length confs
-    pub answered : AreAnswered honest reads may_leave moment left_since size stations faults (applies confs counts ++ replicate count (Apply b)) before after old new
+    pub answered : AreAnswered disk radio (applies confs counts ++ replicate count (Apply b)) before after old new
     pub empty : All (λ conf. queue_of new conf.bssid ≡ []) confs
 
-  pub none_applied : (answers : List (Recipient × Told)) (w : World D R) → AreSafelyMade honest reads may_leave moment left_since size stations faults [] [] w w → Applied_at [] answers answers w w
-  none_applied answers w made = record { counts = []; each = refl; answered = none_answered honest reads may_leave moment left_since size stations faults answers w made; empty = All-nil (λ conf. queue_of w conf.bssid ≡ []) }
+  pub none_applied : (answers : List (Recipient × Told)) (w : World D R) → AreSafelyMade disk radio [] [] w w → Applied_at [] answers answers w w
+  none_applied answers w made = record { counts = []; each = refl; answered = none_answered disk radio answers w made; empty = All-nil (λ conf. queue_of w conf.bssid ≡ []) }
 
   pub applying_begun : (confs : List Conf) (b : Bssid) (before after : List (Recipient × Told)) (a c : World D R) → Applied_at confs before after a c → IsApplying confs b before after a c
   applying_begun confs b before after a c h = record {
     counts = h.counts;
     count = 0;
     each = h.each;
-    answered = subst (λ (xs : List Step). AreAnswered honest reads may_leave moment left_since size stations faults xs before after a c) (sym (append-nil (applies confs h.counts))) h.answered;
+    answered = subst (λ (xs : List Step). AreAnswered disk radio xs before after a c) (sym (append-nil (applies confs h.counts))) h.answered;
     empty = h.empty;
   }
 
   pub applying_on : (confs : List Conf) (b : Bssid) (before mid after : List (Recipient × Told)) (a w c : World D R) → IsApplying confs b before mid a w
-      → AreAnswered honest reads may_leave moment left_since size stations faults (Apply b ∷ []) mid after w c → IsApplying confs b before after a c
+      → AreAnswered disk radio (Apply b ∷ []) mid after w c → IsApplying confs b before after a c
   applying_on confs b before mid after a w c k step = record {
     counts = k.counts;
     count = k.count + 1;
     each = k.each;
-    answered = subst (λ (xs : List Step). AreAnswered honest reads may_leave moment left_since size stations faults xs before after a c)
+    answered = subst (λ (xs : List Step). AreAnswered disk radio xs before after a c)
         (append_assoc (applies confs k.counts) (replicate k.count (Apply b)) (Apply b ∷ []) ∙ ap (λ xs. applies confs k.counts ++ xs) (replicate_more k.count (Apply b)))
-        (answered_then honest reads may_leave moment left_since size stations faults (applies confs k.counts ++ replicate k.count (Apply b)) (Apply b ∷ []) before mid after a w c k.answered step);
+        (answered_then disk radio (applies confs k.counts ++ replicate k.count (Apply b)) (Apply b ∷ []) before mid after a w c k.answered step);
     empty = All-weaker (λ conf. queue_of w conf.bssid ≡ []) (λ conf. queue_of c conf.bssid ≡ [])
-        (λ conf none. all_stay_empty stations faults b (map (λ x. x.1) step.more) w c step.quiet.made.run conf.bssid none) confs k.empty;
+        (λ conf none. all_stay_empty radio b (map (λ x. x.1) step.more) w c step.quiet.made.run conf.bssid none) confs k.empty;
   }
 
   pub applying_done : (confs : List Conf) (i : ℕ) (conf : Conf) (before after : List (Recipient × Told)) (a c : World D R) → i < length confs
@@ -637,26 +649,26 @@ module _ {D R : Type 0} (honest : D → Type 0) (reads : D → List ℕ) (may_le
       (record {
         counts = k.counts ++ k.count ∷ [];
         each = omega (arith, one, two, each);
-        answered = subst (λ (xs : List Step). AreAnswered honest reads may_leave moment left_since size stations faults xs before after a c) (sym (applies_push front k.counts conf k.count k.each)) k.answered;
+        answered = subst (λ (xs : List Step). AreAnswered disk radio xs before after a c) (sym (applies_push front k.counts conf k.count k.each)) k.answered;
         empty = All-push (λ z. queue_of c z.bssid ≡ []) front conf k.empty none;
       })
 
   -- ---- the whole of it
   pub handed_out : (confs : List Conf) (mid after : List (Recipient × Told)) (a b c : World D R) → confs ≡ (durable_of a).core.confs
-      → AreAnswered honest reads may_leave moment left_since size stations faults (hands confs) [] mid a b → Applied_at confs mid after b c
-      → IsHandedOut stations faults [] after a c
+      → AreAnswered disk radio (hands confs) [] mid a b → Applied_at confs mid after b c
+      → IsHandedOut radio [] after a c
   handed_out confs mid after a b c is first second =
-      let both = answered_then honest reads may_leave moment left_since size stations faults (hands confs) (applies confs second.counts) [] mid after a b c first second.answered in
+      let both = answered_then disk radio (hands confs) (applies confs second.counts) [] mid after a b c first second.answered in
       let hand = first.quiet.made.run in
       let apply = second.answered.quiet.made.run in
-      let given = hands_give stations faults confs hand.insides (map (λ x. x.1) first.more) a b hand.steps_are (All-map (λ told. told ≢ NoMemory) (λ (x : Recipient × Told). x.1) first.more first.told) in
+      let given = hands_give radio confs hand.insides (map (λ x. x.1) first.more) a b hand.steps_are (All-map (λ told. told ≢ NoMemory) (λ (x : Recipient × Told). x.1) first.more first.told) in
       let later : (r : Recipient) → IsGiven r b → IsGiven r c =
-      λ r. applies_given stations faults r (applies confs second.counts) apply.insides (map (λ x. x.1) second.answered.more) b c (applies_of_slot confs second.counts) apply.steps_are in
-      subst (λ (xs : List (Recipient × Told)). IsHandedOut stations faults [] xs a c) (sym both.all)
+      λ r. applies_given radio r (applies confs second.counts) apply.insides (map (λ x. x.1) second.answered.more) b c (applies_of_slot confs second.counts) apply.steps_are in
+      subst (λ (xs : List (Recipient × Told)). IsHandedOut radio [] xs a c) (sym both.all)
       (record {
         counts = second.counts;
         tolds = [];
-        run = subst (λ (cs : List Conf). IsWorldRun stations faults (hands cs ++ applies cs second.counts) (map (λ x. x.1) both.more) a c) is both.quiet.made.run;
+        run = subst (λ (cs : List Conf). IsWorldRun radio (hands cs ++ applies cs second.counts) (map (λ x. x.1) both.more) a c) is both.quiet.made.run;
         recipients = subst (λ (cs : List Conf). map (λ x. x.0) both.more ≡ map recipient_of (hands cs ++ applies cs second.counts)) is both.recipients;
         told = both.told;
         each = second.each ∙ ap length is;
@@ -665,77 +677,66 @@ module _ {D R : Type 0} (honest : D → Type 0) (reads : D → List ℕ) (may_le
         control = later Control given.1;
       })
 
-  pub hands_quiet : (xs : List Step) (confs : List Conf) (before mid after : List (Recipient × Told)) (a b c : World D R) → AreAnswered honest reads may_leave moment left_since size stations faults xs before mid a b → Applied_at confs mid after b c
-      → SomeAreQuietlyMade honest reads may_leave moment left_since size stations faults a c
+  pub hands_quiet : (xs : List Step) (confs : List Conf) (before mid after : List (Recipient × Told)) (a b c : World D R) → AreAnswered disk radio xs before mid a b → Applied_at confs mid after b c
+      → SomeAreQuietlyMade disk radio a c
   hands_quiet xs confs before mid after a b c first second =
-      let both = answered_then honest reads may_leave moment left_since size stations faults xs (applies confs second.counts) before mid after a b c first second.answered in
+      let both = answered_then disk radio xs (applies confs second.counts) before mid after a b c first second.answered in
       record { steps = xs ++ applies confs second.counts; tolds = map (λ x. x.1) both.more; quiet = both.quiet }
 
-  abbrev Fronts_of : World D R → World D R → List Happening → Type 0
-  Fronts_of a b hs = LeavesOnly moment left_since (device_of (durable_of a)) (device_of (durable_of b)) (ShowsFront (durable_of a).core.settled (durable_of a).core.confs hs)
+  pub some_stay : (a b : World D R) → SomeAreQuietlyMade disk radio a b → StaysSafe disk radio (LeavesFront disk) a b
+  some_stay a b some = quiet_stays disk radio some.steps some.tolds a b some.quiet
 
-  pub some_moments : (a b : World D R) → SomeAreQuietlyMade honest reads may_leave moment left_since size stations faults a b → IsProper honest reads may_leave size (durable_of a)
-      → (hs : List Happening) → AreUnsettled hs (durable_of a).core → Fronts_of a b hs
-  some_moments a b some = quiet_moments honest reads may_leave moment left_since size stations faults some.steps some.tolds a b some.quiet
+  -- some are safely made
+  pub some_safely : (a b : World D R) → SomeAreSafelyMade disk radio a b → StaysSafe disk radio (LeavesFronts disk radio) a b
+  some_safely a b some = record {
+    proper = some.made.safe.proper;
+    any_moment = λ p hs u. record { gone_on = record { steps = some.steps; tolds = some.tolds; run = some.made.run }; leaves = some.made.safe.any_moment p hs u };
+    exact = some.made.safe.exact;
+    following = some.made.safe.following;
+  }
 
-  -- some steps, of which a stop within them leaves a front of what was not settled, are safely made
-  gone_safely : (a b : World D R) (g : HasGoneOn stations faults a b) → (IsProper honest reads may_leave size (durable_of a) → IsProper honest reads may_leave size (durable_of b))
-      → (IsProper honest reads may_leave size (durable_of a) → (hs : List Happening) → AreUnsettled hs (durable_of a).core → Fronts_of a b hs)
-      → (AreExact stations (slots_of a) → AreExact stations (slots_of b)) → (AreFollowing a → AreFollowing b)
-      → AreSafelyMade honest reads may_leave moment left_since size stations faults g.steps g.tolds a b
-  gone_safely a b g proper moments exact following =
-      let ca = (durable_of a).core in
-      let fs = all_entered g.steps g.tolds ca in
-      record {
-        run = g.run;
-        proper = proper;
-        any_moment = λ p hs u. weaker moment left_since (device_of (durable_of a)) (device_of (durable_of b)) (ShowsFront ca.settled ca.confs hs) (ShowsFront ca.settled ca.confs (hs ++ fs))
-            (λ image. shows_more ca.settled ca.confs image hs fs (hs ++ fs) refl) (moments p hs u);
-        exact = exact;
-        following = following;
-      }
-
-  pub moments_after : (xs : List Step) (ts : List Told) (a b c : World D R) → AreSafelyMade honest reads may_leave moment left_since size stations faults xs ts a b → HasGoneOn stations faults b c
-      → (IsProper honest reads may_leave size (durable_of b) → IsProper honest reads may_leave size (durable_of c))
-      → (IsProper honest reads may_leave size (durable_of b) → (hs : List Happening) → AreUnsettled hs (durable_of b).core → Fronts_of b c hs)
-      → (AreExact stations (slots_of b) → AreExact stations (slots_of c)) → (AreFollowing b → AreFollowing c)
-      → IsProper honest reads may_leave size (durable_of a) → (hs : List Happening) → AreUnsettled hs (durable_of a).core → LeavesFronts moment left_since stations faults hs a c
-  moments_after xs ts a b c past g proper moments exact following p hs u =
-      let both = made_then honest reads may_leave moment left_since size stations faults xs g.steps ts g.tolds a b c past (gone_safely b c g proper moments exact following) in
-      record { gone_on = record { steps = xs ++ g.steps; tolds = ts ++ g.tolds; run = both.run }; leaves = both.any_moment p hs u }
+  -- after some steps some were made by which a stop leaves a front of what was not settled between
+  pub stays_after : (xs : List Step) (ts : List Told) (a b c : World D R) → AreSafelyMade disk radio xs ts a b → HasGoneOn radio b c
+      → StaysSafe disk radio (LeavesFront disk) b c → StaysSafe disk radio (LeavesFronts disk radio) a c
+  stays_after xs ts a b c past g stays = some_safely a c (some_safe disk radio xs ts a b c past
+      (record { steps = g.steps; tolds = g.tolds; made = stays_made disk radio g.steps g.tolds b c g.run stays }))
 
   -- the same, where nothing happens by the first
-  pub quiet_after : (xs : List Step) (ts : List Told) (a b c : World D R) → AreQuietlyMade honest reads may_leave moment left_since size stations faults xs ts a b
-      → (IsProper honest reads may_leave size (durable_of b) → (hs : List Happening) → AreUnsettled hs (durable_of b).core → Fronts_of b c hs)
-      → IsProper honest reads may_leave size (durable_of a) → (hs : List Happening) → AreUnsettled hs (durable_of a).core → Fronts_of a c hs
-  quiet_after xs ts a b c past moments p hs u =
-      let ca = (durable_of a).core in
-      let cb = (durable_of b).core in
-      let run = past.made.run in
-      let none : all_entered xs run.insides ca ≡ [] = run.entered ∙ past.none in
-      let goes = subst (λ (zs : List Happening). Goes zs (λ r. all_given r xs run.insides) ca cb) none run.run.goes in
-      let settles = goes.settles hs u in
-      let later : (image : List ℕ) → ShowsFront cb.settled cb.confs settles.left image → ShowsFront ca.settled ca.confs hs image =
-      λ image h. subst (λ (zs : List Happening). ShowsFront ca.settled ca.confs zs image) (append-nil hs)
-      (front_later ca cb hs [] [] (λ r. all_given r xs run.insides) goes.confs settles image (subst (λ (zs : List Happening). ShowsFront cb.settled cb.confs zs image) (sym (append-nil settles.left)) h)) in
-      then_run moment left_since (device_of (durable_of a)) (device_of (durable_of b)) (device_of (durable_of c)) (ShowsFront ca.settled ca.confs hs)
-      (quiet_moments honest reads may_leave moment left_since size stations faults xs ts a b past p hs u)
-      (weaker moment left_since (device_of (durable_of b)) (device_of (durable_of c)) (ShowsFront cb.settled cb.confs settles.left) (ShowsFront ca.settled ca.confs hs) later
-      (moments (past.made.proper p) settles.left settles.decided))
+  pub quiet_after : (xs : List Step) (ts : List Told) (a b c : World D R) → AreQuietlyMade disk radio xs ts a b
+      → StaysSafe disk radio (LeavesFront disk) b c → StaysSafe disk radio (LeavesFront disk) a c
+  quiet_after xs ts a b c past stays = record {
+    proper = λ p. stays.proper (past.made.safe.proper p);
+    any_moment = λ p hs u.
+        let ca = (durable_of a).core in
+        let cb = (durable_of b).core in
+        let run = past.made.run in
+        let none : all_entered xs run.insides ca ≡ [] = run.entered ∙ past.none in
+        let goes = subst (λ (zs : List Happening). Goes zs (λ r. all_given r xs run.insides) ca cb) none run.run.goes in
+        let settles = goes.settles hs u in
+        let later : (image : List ℕ) → ShowsFront cb.settled cb.confs settles.left image → ShowsFront ca.settled ca.confs hs image =
+        λ image h. subst (λ (zs : List Happening). ShowsFront ca.settled ca.confs zs image) (append-nil hs)
+        (front_later ca cb hs [] [] (λ r. all_given r xs run.insides) goes.confs settles image (subst (λ (zs : List Happening). ShowsFront cb.settled cb.confs zs image) (sym (append-nil settles.left)) h)) in
+        then_run disk (device_of (durable_of a)) (device_of (durable_of b)) (device_of (durable_of c)) (ShowsFront ca.settled ca.confs hs)
+        ((quiet_stays disk radio xs ts a b past).any_moment p hs u)
+        (weaker disk (device_of (durable_of b)) (device_of (durable_of c)) (ShowsFront cb.settled cb.confs settles.left) (ShowsFront ca.settled ca.confs hs) later
+        (stays.any_moment (past.made.safe.proper p) settles.left settles.decided));
+    exact = λ all. stays.exact (past.made.safe.exact all);
+    following = λ f. stays.following (past.made.safe.following f);
+  }
 
 -- ---- from one call to the next
-module _ {D R : Type 0} (stations : R → Stations) (faults : R → ℕ) where
-  pub handed_after : (xs fs : List Step) (ts : List Told) (answers : List (Recipient × Told)) (a b c : World D R) → IsWorldRun stations faults xs ts a b → IsHandedOut stations faults fs answers b c → IsHandedOut stations faults (xs ++ fs) answers a c
+module _ {D R : Type 0} (radio : RadioModel R) where
+  pub handed_after : (xs fs : List Step) (ts : List Told) (answers : List (Recipient × Told)) (a b c : World D R) → IsWorldRun radio xs ts a b → IsHandedOut radio fs answers b c → IsHandedOut radio (xs ++ fs) answers a c
   handed_after xs fs ts answers a b c past h =
       let confs : (durable_of b).core.confs ≡ (durable_of a).core.confs = past.run.goes.confs in
       let last = λ (cs : List Conf). hands cs ++ applies cs h.counts in
-      let both = world_runs_join stations faults xs (fs ++ last (durable_of b).core.confs) ts (h.tolds ++ map (λ x. x.1) answers) a b c past h.run in
+      let both = world_runs_join radio xs (fs ++ last (durable_of b).core.confs) ts (h.tolds ++ map (λ x. x.1) answers) a b c past h.run in
       record {
         counts = h.counts;
         tolds = ts ++ h.tolds;
         run =
-            subst (λ (us : List Told). IsWorldRun stations faults ((xs ++ fs) ++ last (durable_of a).core.confs) us a c) (sym (append_assoc ts h.tolds (map (λ x. x.1) answers)))
-            (subst (λ (ys : List Step). IsWorldRun stations faults ys (ts ++ (h.tolds ++ map (λ x. x.1) answers)) a c)
+            subst (λ (us : List Told). IsWorldRun radio ((xs ++ fs) ++ last (durable_of a).core.confs) us a c) (sym (append_assoc ts h.tolds (map (λ x. x.1) answers)))
+            (subst (λ (ys : List Step). IsWorldRun radio ys (ts ++ (h.tolds ++ map (λ x. x.1) answers)) a c)
             (ap (λ cs. xs ++ (fs ++ last cs)) confs ∙ sym (append_assoc xs fs (last (durable_of a).core.confs))) both);
         recipients = h.recipients ∙ ap (λ cs. map recipient_of (last cs)) confs;
         told = h.told;
@@ -745,26 +746,26 @@ module _ {D R : Type 0} (stations : R → Stations) (faults : R → ℕ) where
         control = h.control;
       }
 
-  pub flushed_after : (xs fs : List Step) (ts : List Told) (answers : List (Recipient × Told)) (a b c : World D R) → IsWorldRun stations faults xs ts a b → IsFlushed stations faults fs answers b c → IsFlushed stations faults (xs ++ fs) answers a c
+  pub flushed_after : (xs fs : List Step) (ts : List Told) (answers : List (Recipient × Told)) (a b c : World D R) → IsWorldRun radio xs ts a b → IsFlushed radio fs answers b c → IsFlushed radio (xs ++ fs) answers a c
   flushed_after xs fs ts answers a b c past h = record {
     calls = h.calls;
-    handed = subst (λ (ys : List Step). IsHandedOut stations faults ys answers a c) (sym (append_assoc xs fs (rounds h.calls))) (handed_after xs (fs ++ rounds h.calls) ts answers a b c past h.handed);
+    handed = subst (λ (ys : List Step). IsHandedOut radio ys answers a c) (sym (append_assoc xs fs (rounds h.calls))) (handed_after xs (fs ++ rounds h.calls) ts answers a b c past h.handed);
     settled = h.settled;
     works = h.works;
     rests = h.rests;
   }
 
-  pub gone_then : (xs : List Step) (ts : List Told) (a b c : World D R) → IsWorldRun stations faults xs ts a b → HasGoneOn stations faults b c → HasGoneOn stations faults a c
-  gone_then xs ts a b c past g = record { steps = xs ++ g.steps; tolds = ts ++ g.tolds; run = world_runs_join stations faults xs g.steps ts g.tolds a b c past g.run }
+  pub gone_then : (xs : List Step) (ts : List Told) (a b c : World D R) → IsWorldRun radio xs ts a b → HasGoneOn radio b c → HasGoneOn radio a c
+  gone_then xs ts a b c past g = record { steps = xs ++ g.steps; tolds = ts ++ g.tolds; run = world_runs_join radio xs g.steps ts g.tolds a b c past g.run }
 
-  pub gone_by_handing : (answers : List (Recipient × Told)) (a b : World D R) → IsHandedOut stations faults [] answers a b → HasGoneOn stations faults a b
+  pub gone_by_handing : (answers : List (Recipient × Told)) (a b : World D R) → IsHandedOut radio [] answers a b → HasGoneOn radio a b
   gone_by_handing answers a b h = record {
     steps = hands (durable_of a).core.confs ++ applies (durable_of a).core.confs h.counts;
     tolds = h.tolds ++ map (λ x. x.1) answers;
     run = h.run;
   }
 
-  pub gone_by_flushing : (answers : List (Recipient × Told)) (a b : World D R) → IsFlushed stations faults [] answers a b → HasGoneOn stations faults a b
+  pub gone_by_flushing : (answers : List (Recipient × Told)) (a b : World D R) → IsFlushed radio [] answers a b → HasGoneOn radio a b
   gone_by_flushing answers a b h = record {
     steps = rounds h.calls ++ (hands (durable_of a).core.confs ++ applies (durable_of a).core.confs h.handed.counts);
     tolds = h.handed.tolds ++ map (λ x. x.1) answers;
@@ -775,21 +776,21 @@ module _ {D R : Type 0} (stations : R → Stations) (faults : R → ℕ) where
   rests_after : (d e : DurableCore D) → OnlyHands d e → IsAtRest d → IsAtRest e
   rests_after d e only rests = subst IsAtRest (sym only) (record { batch = rests.batch; call = rests.call; receipt = rests.receipt })
 
-  pub flushed_from : (calls : List ℕ) (ts : List Told) (answers : List (Recipient × Told)) (a b c : World D R) → IsWorldRun stations faults (rounds calls) ts a b → (durable_of b).core.unsettled ≡ [] → (durable_of b).core.failed ≡ false → IsAtRest (durable_of b)
-      → OnlyHands (durable_of b) (durable_of c) → IsHandedOut stations faults [] answers b c → IsFlushed stations faults [] answers a c
+  pub flushed_from : (calls : List ℕ) (ts : List Told) (answers : List (Recipient × Told)) (a b c : World D R) → IsWorldRun radio (rounds calls) ts a b → (durable_of b).core.unsettled ≡ [] → (durable_of b).core.failed ≡ false → IsAtRest (durable_of b)
+      → OnlyHands (durable_of b) (durable_of c) → IsHandedOut radio [] answers b c → IsFlushed radio [] answers a c
   flushed_from calls ts answers a b c run settled works rests only h = record {
     calls = calls;
-    handed = subst (λ (xs : List Step). IsHandedOut stations faults xs answers a c) (append-nil (rounds calls)) (handed_after (rounds calls) [] ts answers a b c run h);
+    handed = subst (λ (xs : List Step). IsHandedOut radio xs answers a c) (append-nil (rounds calls)) (handed_after (rounds calls) [] ts answers a b c run h);
     settled = ap (λ (w : DurableCore D). w.core.unsettled) only ∙ settled;
     works = ap (λ (w : DurableCore D). w.core.failed) only ∙ works;
     rests = rests_after (durable_of b) (durable_of c) only rests;
   }
 
-  pub started_from : (first : List Step) (ts : List Told) (answers : List (Recipient × Told)) (a b c : World D R) → AreConfiguring (durable_of a).core.confs first → All (λ told. told ≢ NoMemory) ts → IsWorldRun stations faults first ts a b
-      → IsFlushed stations faults [] answers b c → IsStarted stations faults answers a c
+  pub started_from : (first : List Step) (ts : List Told) (answers : List (Recipient × Told)) (a b c : World D R) → AreConfiguring (durable_of a).core.confs first → All (λ told. told ≢ NoMemory) ts → IsWorldRun radio first ts a b
+      → IsFlushed radio [] answers b c → IsStarted radio answers a c
   unfolding handed_after
   started_from first ts answers a b c configuring told run h =
-      let same = tolds_length stations faults first run.insides ts a b run.steps_are in
+      let same = tolds_length radio first run.insides ts a b run.steps_are in
       let is : take (length first) (ts ++ h.handed.tolds) ≡ ts = ap (λ n. take n (ts ++ h.handed.tolds)) (sym same) ∙ take-append_seam ts h.handed.tolds in
       record {
         first = first;
@@ -801,31 +802,27 @@ module _ {D R : Type 0} (stations : R → Stations) (faults : R → ℕ) where
 pub rounds_more : (calls : List ℕ) (n : ℕ) → rounds (calls ++ n ∷ []) ≡ rounds calls ++ round n
 rounds_more calls n = flat_map-append round calls (n ∷ []) ∙ ap (λ xs. rounds calls ++ xs) (append-nil (round n))
 
-module _ {D R : Type 0} (honest : D → Type 0) (reads : D → List ℕ) (may_leave : D → List ℕ → Type 0) (moment : D → ℕ) (left_since : D → ℕ → List ℕ → Type 0) (size : D → ℕ) (stations : R → Stations) (faults : R → ℕ) where
+module _ {D R : Type 0} (disk : DiskModel D) (radio : RadioModel R) where
   -- so many rounds were made
   pub record AreRounds (old new : World D R) : Type 0 where
     pub calls : List ℕ
     pub tolds : List Told
-    pub quiet : AreQuietlyMade honest reads may_leave moment left_since size stations faults (rounds calls) tolds old new
+    pub quiet : AreQuietlyMade disk radio (rounds calls) tolds old new
 
-  pub no_round : (w : World D R) → AreSafelyMade honest reads may_leave moment left_since size stations faults [] [] w w → AreRounds w w
+  pub no_round : (w : World D R) → AreSafelyMade disk radio [] [] w w → AreRounds w w
   no_round w made = record { calls = []; tolds = []; quiet = record { made = made; none = refl } }
 
   -- one more
-  pub round_more : (answer : Commit) (a b c : World D R) → AreRounds a b → IsWorldRound stations faults answer b c
-      → (IsProper honest reads may_leave size (durable_of b) → IsProper honest reads may_leave size (durable_of c))
-      → (IsProper honest reads may_leave size (durable_of b) → (hs : List Happening) → AreUnsettled hs (durable_of b).core
-      → LeavesOnly moment left_since (device_of (durable_of b)) (device_of (durable_of c)) (ShowsFront (durable_of b).core.settled (durable_of b).core.confs hs))
-      → (AreExact stations (slots_of b) → AreExact stations (slots_of c)) → (AreFollowing b → AreFollowing c) → AreRounds a c
-  round_more answer a b c past one proper moments exact following = record {
+  pub round_more : (answer : Commit) (a b c : World D R) → AreRounds a b → IsWorldRound radio answer b c → StaysSafe disk radio (LeavesFront disk) b c → AreRounds a c
+  round_more answer a b c past one stays = record {
     calls = past.calls ++ one.calls ∷ [];
     tolds = past.tolds ++ one.tolds;
-    quiet = subst (λ (xs : List Step). AreQuietlyMade honest reads may_leave moment left_since size stations faults xs (past.tolds ++ one.tolds) a c) (sym (rounds_more past.calls one.calls))
-        (quiet_then honest reads may_leave moment left_since size stations faults (rounds past.calls) (round one.calls) past.tolds one.tolds a b c past.quiet
-        (round_quiet honest reads may_leave moment left_since size stations faults one.calls one.tolds b c one.run proper moments exact following));
+    quiet = subst (λ (xs : List Step). AreQuietlyMade disk radio xs (past.tolds ++ one.tolds) a c) (sym (rounds_more past.calls one.calls))
+        (quiet_then disk radio (rounds past.calls) (round one.calls) past.tolds one.tolds a b c past.quiet
+        (round_quiet disk radio one.calls one.tolds b c one.run stays));
   }
 
-  pub some_rounds : (a b : World D R) → AreRounds a b → SomeAreQuietlyMade honest reads may_leave moment left_since size stations faults a b
+  pub some_rounds : (a b : World D R) → AreRounds a b → SomeAreQuietlyMade disk radio a b
   some_rounds a b k = record { steps = rounds k.calls; tolds = k.tolds; quiet = k.quiet }
 
 -- a test that nothing is left
@@ -855,18 +852,18 @@ configuring_more confs i d steps x lt past is =
     map-append asked steps (x ∷ []) ∙ (λ j. past j ++ is j ∷ []) ∙ sym (map-append asked_of (take i confs) (get_or confs i d ∷ []))
     ∙ sym (ap (λ n. map asked_of (take n confs)) (add-one i) ∙ ap (map asked_of) (take-suc confs i d lt))
 
-module _ {D R : Type 0} (honest : D → Type 0) (reads : D → List ℕ) (may_leave : D → List ℕ → Type 0) (moment : D → ℕ) (left_since : D → ℕ → List ℕ → Type 0) (size : D → ℕ) (stations : R → Stations) (faults : R → ℕ) where
-  pub none_accepted : (w : World D R) → AreSafelyMade honest reads may_leave moment left_since size stations faults [] [] w w → AreAccepted honest reads may_leave moment left_since size stations faults [] w w
+module _ {D R : Type 0} (disk : DiskModel D) (radio : RadioModel R) where
+  pub none_accepted : (w : World D R) → AreSafelyMade disk radio [] [] w w → AreAccepted disk radio [] w w
   none_accepted w made = record { steps = []; tolds = []; configuring = refl; told = All-nil (λ told. told ≢ NoMemory); made = made }
 
-  pub accepted_more : (confs : List Conf) (i : ℕ) (d : Conf) (x : Step) (t : Told) (a b c : World D R) → i < length confs → AreAccepted honest reads may_leave moment left_since size stations faults (take i confs) a b
-      → asked x ≡ asked_of (get_or confs i d) → (t ≡ NoMemory → ⊥) → IsWorldStep stations faults x t b c → IsSafe honest reads may_leave moment left_since size (durable_of b) (durable_of c)
-      → AreAccepted honest reads may_leave moment left_since size stations faults (take (i + 1) confs) a c
+  pub accepted_more : (confs : List Conf) (i : ℕ) (d : Conf) (x : Step) (t : Told) (a b c : World D R) → i < length confs → AreAccepted disk radio (take i confs) a b
+      → asked x ≡ asked_of (get_or confs i d) → (t ≡ NoMemory → ⊥) → IsWorldStep radio x t b c → IsSafe disk (durable_of b) (durable_of c)
+      → AreAccepted disk radio (take (i + 1) confs) a c
   accepted_more confs i d x t a b c lt past is told step safe = record {
     steps = past.steps ++ x ∷ [];
     tolds = past.tolds ++ t ∷ [];
     configuring = configuring_more confs i d past.steps x lt past.configuring is;
     told = All-push (λ z. z ≢ NoMemory) past.tolds t past.told told;
-    made = made_then honest reads may_leave moment left_since size stations faults past.steps (x ∷ []) past.tolds (t ∷ []) a b c past.made
-        (one_made honest reads may_leave moment left_since size stations faults x t b c step safe);
+    made = made_then disk radio past.steps (x ∷ []) past.tolds (t ∷ []) a b c past.made
+        (one_made disk radio x t b c step safe);
   }

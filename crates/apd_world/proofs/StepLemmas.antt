@@ -37,7 +37,7 @@ use Rattle.apd_world.specs.declared.step.Reception.{Reception}
 use Rattle.apd_world.specs.declared.step.Step.{Step}
 use Rattle.apd_world.specs.declared.step.Step.TheVariants.{Accept, Take, Call, Publish, Hand, Ask}
 use Rattle.apd_world.specs.declared.step.Told.{Told}
-use Rattle.apd_world.specs.declared.step.Told.TheVariants.{Accepted, Loaded, Called, Published, Handed, Answered}
+use Rattle.apd_world.specs.declared.step.Told.TheVariants.{Accepted, Loaded, Called, Published, Handed, Answered, Nothing, NoMemory}
 use Rattle.apd_world.specs.declared.durable_core.DurableCore.{DurableCore}
 use Rattle.apd_world.proofs.Goings.{goes_beside, goes_entry, goes_handed, goes_published, goes_unchanged}
 
@@ -142,6 +142,12 @@ ok_not_err x e same = cc
 
 pub same_called : (r s : Result (Unit {0}) StoreFault) → Called r ≡ Called s → r ≡ s
 same_called r s same = cc
+
+pub nothing_not_called : (r : Result (Unit {0}) StoreFault) → Nothing ≡ Called r → ⊥
+nothing_not_called r told = cc
+
+pub lacking_not_called : (r : Result (Unit {0}) StoreFault) → NoMemory ≡ Called r → ⊥
+lacking_not_called r told = cc
 
 pub ok_not_fault : {A : Type 0} (x : Unit {0}) (fault : StoreFault) → Called (Ok x) ≡ Called (Err fault) → A
 ok_not_fault x fault same = absurd (ok_not_err x fault (same_called (Ok x) (Err fault) same))

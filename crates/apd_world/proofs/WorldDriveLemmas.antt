@@ -5,11 +5,11 @@ use Rattle.std.proofs.Math.Seq.{take-suc}
 use Rattle.apd_base.specs.declared.address.Bssid.{Bssid}
 use Rattle.apd_conf.specs.declared.conf.Conf.{Conf}
 use Rattle.apd_core.specs.Core.{front_of, held_for}
-use Rattle.apd_disk.specs.Disk.{LeavesOnly}
+use Rattle.apd_disk.specs.Disk.{LeavesOnly, DiskModel}
 use Rattle.apd_mlme.specs.Happening.{Happening}
 use Rattle.apd_mlme.specs.Run.{outs_run}
 use Rattle.apd_mlme.specs.declared.decision.Recipient.TheVariants.{Radio, Control}
-use Rattle.apd_slot.specs.Wanted.{Stations}
+use Rattle.apd_radio.specs.Model.{RadioModel}
 use Rattle.apd_world.specs.Following.{AreExact, AreFollowing}
 use Rattle.apd_world.specs.CoreRun.{AreUnsettled}
 use Rattle.apd_world.specs.Outside.{device_of}
@@ -34,14 +34,14 @@ applied_push b [] (u ∷ ts) x t e = absurd (omega (arith, e))
 applied_push b (y ∷ xs) [] x t e = absurd (omega (arith, e))
 
 -- ---- what is told inside
-module _ {D R : Type 0} (stations : R → Stations) (faults : R → ℕ) (old new : World D R) where
+module _ {D R : Type 0} (radio : RadioModel R) (old new : World D R) where
   -- the same happens by it, and control is given the same
-  pub happens_alike : (confs : List Conf) (step : Step) (inside told : Told) (a : Account) → Joins stations faults step inside told old new → one_more confs step inside a ≡ one_more confs step told a
+  pub happens_alike : (confs : List Conf) (step : Step) (inside told : Told) (a : Account) → Joins radio step inside told old new → one_more confs step inside a ≡ one_more confs step told a
   happens_alike confs (Hand r) inside told a h = refl
   happens_alike confs (Apply b) inside told a h = refl
   happens_alike confs step inside told a h = ap (λ t. one_more confs step t a) (sym h.0)
 
-  pub given_alike : (step : Step) (inside told : Told) → Joins stations faults step inside told old new → given Control step inside ≡ given Control step told
+  pub given_alike : (step : Step) (inside told : Told) → Joins radio step inside told old new → given Control step inside ≡ given Control step told
   given_alike (Hand (Radio b)) (Handed outs) (Queued count) h = refl
   given_alike (Hand (Radio b)) NoMemory NoMemory h = refl
   given_alike (Hand (Radio b)) NoMemory Nothing h = refl
@@ -49,34 +49,34 @@ module _ {D R : Type 0} (stations : R → Stations) (faults : R → ℕ) (old ne
   given_alike (Apply b) inside told h = refl
   given_alike step inside told h = ap (given Control step) (sym h.0)
 
-  steps_push : (xs : List Step) (is ts : List Told) (x : Step) (i t : Told) (from : World D R) → AreWorldSteps stations faults xs is ts from old → Tells x i (durable_of old) (durable_of new) → Joins stations faults x i t old new
-      → AreWorldSteps stations faults (xs ++ x ∷ []) (is ++ i ∷ []) (ts ++ t ∷ []) from new
-  steps_push [] [] [] x i t from past tells joins = (new, subst (λ w. Tells x i (durable_of w) (durable_of new)) past tells, subst (λ w. Joins stations faults x i t w new) past joins, refl)
+  steps_push : (xs : List Step) (is ts : List Told) (x : Step) (i t : Told) (from : World D R) → AreWorldSteps radio xs is ts from old → Tells x i (durable_of old) (durable_of new) → Joins radio x i t old new
+      → AreWorldSteps radio (xs ++ x ∷ []) (is ++ i ∷ []) (ts ++ t ∷ []) from new
+  steps_push [] [] [] x i t from past tells joins = (new, subst (λ w. Tells x i (durable_of w) (durable_of new)) past tells, subst (λ w. Joins radio x i t w new) past joins, refl)
   steps_push (y ∷ ys) (j ∷ js) (u ∷ us) x i t from past tells joins = (past.0, past.1, past.2, steps_push ys js us x i t past.0 past.3 tells joins)
   steps_push [] [] (u ∷ us) x i t from past tells joins = absurd past
   steps_push [] (j ∷ js) us x i t from past tells joins = absurd past
   steps_push (y ∷ ys) [] us x i t from past tells joins = absurd past
   steps_push (y ∷ ys) (j ∷ js) [] x i t from past tells joins = absurd past
 
-module _ {D R : Type 0} (honest : D → Type 0) (reads : D → List ℕ) (may_leave : D → List ℕ → Type 0) (moment : D → ℕ) (left_since : D → ℕ → List ℕ → Type 0) (size : D → ℕ) (stations : R → Stations) (faults : R → ℕ) where
+module _ {D R : Type 0} (disk : DiskModel D) (radio : RadioModel R) where
   -- so many steps were made
   pub record IsWorldDriven (steps : List Step) (tolds : List Told) (old new : World D R) : Type 0 where
     pub insides : List Told
-    pub steps_are : AreWorldSteps stations faults steps insides tolds old new
-    pub durable : IsDriven honest reads may_leave moment left_since size steps insides (durable_of old) (durable_of new)
+    pub steps_are : AreWorldSteps radio steps insides tolds old new
+    pub durable : IsDriven disk steps insides (durable_of old) (durable_of new)
     pub told : length tolds ≡ length steps
     pub happens : (confs : List Conf) (a : Account) → account confs steps insides a ≡ account confs steps tolds a
     pub control : all_given Control steps insides ≡ all_given Control steps tolds
     pub queues : (b : Bssid) → all_applied b steps tolds ++ queue_of new b ≡ queue_of old b ++ all_given (Radio b) steps insides
-    pub exact : AreExact stations (slots_of old) → AreExact stations (slots_of new)
+    pub exact : AreExact radio (slots_of old) → AreExact radio (slots_of new)
     pub following : AreFollowing old → AreFollowing new
 
-  pub no_step : (w : World D R) → (IsProper honest reads may_leave size (durable_of w) → (image : List ℕ) → left_since (device_of (durable_of w)) (moment (device_of (durable_of w))) image → ShowsEither (durable_of w).core image)
+  pub no_step : (w : World D R) → (IsProper disk (durable_of w) → (image : List ℕ) → disk.left_since (device_of (durable_of w)) (disk.moment (device_of (durable_of w))) image → ShowsEither (durable_of w).core image)
       → IsWorldDriven [] [] w w
   no_step w stops = record {
     insides = [];
     steps_are = refl;
-    durable = none_driven honest reads may_leave moment left_since size (durable_of w) stops;
+    durable = none_driven disk (durable_of w) stops;
     told = refl;
     happens = λ confs a. refl;
     control = refl;
@@ -86,8 +86,8 @@ module _ {D R : Type 0} (honest : D → Type 0) (reads : D → List ℕ) (may_le
   }
 
   -- one more
-  module _ (xs : List Step) (ts : List Told) (x : Step) (t : Told) (a b c : World D R) (past : IsWorldDriven xs ts a b) (step : IsWorldStep stations faults x t b c)
-      (safe : IsSafe honest reads may_leave moment left_since size (durable_of b) (durable_of c)) where
+  module _ (xs : List Step) (ts : List Told) (x : Step) (t : Told) (a b c : World D R) (past : IsWorldDriven xs ts a b) (step : IsWorldStep radio x t b c)
+      (safe : IsSafe disk (durable_of b) (durable_of c)) where
     abbrev more : List Step
     more = xs ++ x ∷ []
 
@@ -96,7 +96,7 @@ module _ {D R : Type 0} (honest : D → Type 0) (reads : D → List ℕ) (may_le
 
     more_queues : (r : Bssid) → all_applied r more (ts ++ t ∷ []) ++ queue_of c r ≡ queue_of a r ++ all_given (Radio r) more (past.insides ++ step.inside ∷ [])
     more_queues r =
-        let one = flows stations faults b c r x step.inside t step.joins in
+        let one = flows radio b c r x step.inside t step.joins in
         ap (λ os. os ++ queue_of c r) (applied_push r xs ts x t past.told)
         ∙ append_assoc (all_applied r xs ts) (applied r x t) (queue_of c r) ∙ ap (λ os. all_applied r xs ts ++ os) one
         ∙ sym (append_assoc (all_applied r xs ts) (queue_of b r) (given (Radio r) x step.inside)) ∙ ap (λ os. os ++ given (Radio r) x step.inside) (past.queues r)
@@ -106,23 +106,23 @@ module _ {D R : Type 0} (honest : D → Type 0) (reads : D → List ℕ) (may_le
     one_step : IsWorldDriven more (ts ++ t ∷ []) a c
     one_step = record {
       insides = past.insides ++ step.inside ∷ [];
-      steps_are = steps_push stations faults b c xs past.insides ts x step.inside t a past.steps_are step.durable.tells step.joins;
-      durable = one_driven honest reads may_leave moment left_since size xs past.insides x step.inside (durable_of a) (durable_of b) (durable_of c) past.durable step.durable safe;
+      steps_are = steps_push radio b c xs past.insides ts x step.inside t a past.steps_are step.durable.tells step.joins;
+      durable = one_driven disk xs past.insides x step.inside (durable_of a) (durable_of b) (durable_of c) past.durable step.durable safe;
       told = let first = length-append ts (t ∷ []) in let second = length-append xs (x ∷ []) in let same = past.told in omega (arith, first, second, same);
       happens = λ confs z.
           account_push confs xs past.insides x step.inside z inside_length
-          ∙ happens_alike stations faults b c confs x step.inside t (account confs xs past.insides z) step.joins
+          ∙ happens_alike radio b c confs x step.inside t (account confs xs past.insides z) step.joins
           ∙ ap (one_more confs x t) (past.happens confs z) ∙ sym (account_push confs xs ts x t z past.told);
       control =
-          given_push Control xs past.insides x step.inside inside_length ∙ (λ i. past.control i ++ given_alike stations faults b c x step.inside t step.joins i) ∙ sym (given_push Control xs ts x t past.told);
+          given_push Control xs past.insides x step.inside inside_length ∙ (λ i. past.control i ++ given_alike radio b c x step.inside t step.joins i) ∙ sym (given_push Control xs ts x t past.told);
       queues = more_queues;
-      exact = λ all. exact stations faults b c x step.inside t step.joins (past.exact all);
-      following = λ f. following stations faults b c x t step (past.following f);
+      exact = λ all. exact radio b c x step.inside t step.joins (past.exact all);
+      following = λ f. following radio b c x t step (past.following f);
     }
 
   -- the next of these
   pub next_step : (steps : List Step) (i : ℕ) (ts us : List Told) (d : Step) (t : Told) (a b c : World D R) → IsWorldDriven (take i steps) ts a b → i < length steps
-      → IsWorldStep stations faults (get_or steps i d) t b c → IsSafe honest reads may_leave moment left_since size (durable_of b) (durable_of c) → us ≡ ts ++ t ∷ [] → IsWorldDriven (take (i + 1) steps) us a c
+      → IsWorldStep radio (get_or steps i d) t b c → IsSafe disk (durable_of b) (durable_of c) → us ≡ ts ++ t ∷ [] → IsWorldDriven (take (i + 1) steps) us a c
   next_step steps i ts us d t a b c past lt step safe now =
       let x = get_or steps i d in
       let more : take (i + 1) steps ≡ take i steps ++ x ∷ [] = ap (λ n. take n steps) (add-one i) ∙ take-suc steps i d lt in
@@ -136,7 +136,7 @@ module _ {D R : Type 0} (honest : D → Type 0) (reads : D → List ℕ) (may_le
     same_entered : all_entered steps h.insides (durable_of a).core ≡ all_entered steps ts (durable_of a).core
     same_entered = ap (λ (z : Account). z.happened) (h.happens (durable_of a).core.confs (nothing_yet (durable_of a).core))
 
-    pub world_run : IsWorldRun stations faults steps ts a b
+    pub world_run : IsWorldRun radio steps ts a b
     world_run = record {
       insides = h.insides;
       steps_are = h.steps_are;
@@ -151,7 +151,7 @@ module _ {D R : Type 0} (honest : D → Type 0) (reads : D → List ℕ) (may_le
           ∙ ap (λ es. queue_of a r ++ (held_for (Radio r) core ++ outs_run (Radio r) (front_of core) core.confs es)) same_entered;
     }
 
-    pub world_moments : IsProper honest reads may_leave size (durable_of a) → (hs : List Happening) → AreUnsettled hs (durable_of a).core
-        → LeavesOnly moment left_since (device_of (durable_of a)) (device_of (durable_of b)) (ShowsFront (durable_of a).core.settled (durable_of a).core.confs (hs ++ all_entered steps ts (durable_of a).core))
+    pub world_moments : IsProper disk (durable_of a) → (hs : List Happening) → AreUnsettled hs (durable_of a).core
+        → LeavesOnly disk (device_of (durable_of a)) (device_of (durable_of b)) (ShowsFront (durable_of a).core.settled (durable_of a).core.confs (hs ++ all_entered steps ts (durable_of a).core))
     world_moments p hs u =
-        subst (λ es. LeavesOnly moment left_since (device_of (durable_of a)) (device_of (durable_of b)) (ShowsFront (durable_of a).core.settled (durable_of a).core.confs (hs ++ es))) same_entered (h.durable.any_moment p hs u)
+        subst (λ es. LeavesOnly disk (device_of (durable_of a)) (device_of (durable_of b)) (ShowsFront (durable_of a).core.settled (durable_of a).core.confs (hs ++ es))) same_entered (h.durable.any_moment p hs u)

@@ -1,5 +1,5 @@
 -- How a core goes on: what happened is kept, given and settled, each in order (own).
-use Rattle.std.specs.Prelude.{◌≡◌, ◌+◌, ◌≤◌, List, ◌++◌, length}
+use Rattle.std.specs.Prelude.{◌≡◌, ◌+◌, ◌≤◌, List, [], ◌++◌, length}
 use Rattle.apd_mlme.specs.Happening.{Happening}
 use Rattle.apd_mlme.specs.Run.{run, outs_run, AreFit}
 use Rattle.apd_mlme.specs.declared.decision.Out.{Out}
@@ -43,3 +43,8 @@ pub record Goes (happened : List Happening) (given : Recipient → List Out) (ol
   pub last : last_of new ≡ last_of old + length happened
   pub number : old.number ≤ new.number
   pub settles : (hs : List Happening) → AreUnsettled hs old → Settles hs happened given old new
+
+-- nothing happens, nothing is given, and no station is heard
+pub record GoesQuietly (old new : CoreState) : Type 0 where
+  pub goes : Goes [] (λ r. []) old new
+  pub heard : new.heard ≡ old.heard

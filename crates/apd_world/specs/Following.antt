@@ -9,15 +9,15 @@ use Rattle.apd_conf.specs.Confs.{conf_at}
 use Rattle.apd_core.specs.Core.{front_of, held_for}
 use Rattle.apd_mlme.specs.laws.Driver.{driven}
 use Rattle.apd_mlme.specs.declared.decision.Recipient.TheVariants.{Radio}
+use Rattle.apd_radio.specs.Model.{RadioModel}
 use Rattle.apd_slot.specs.Slots.{wanted_of, IsExact}
-use Rattle.apd_slot.specs.Wanted.{Stations}
 use Rattle.apd_slot.specs.declared.slot.Slot.{Slot}
 use Rattle.apd_world.specs.WorldParts.{durable_of, slots_of, slot_at, queue_of}
 use Rattle.apd_world.specs.declared.world.World.{World}
 
 -- the radio of each slot that is up has what is wanted
-abbrev pub AreExact : {R : Type 0} → (R → Stations) → List (Slot R) → Type 0
-AreExact stations slots = AllByRecursion (IsExact stations) slots
+abbrev pub AreExact : {R : Type 0} → RadioModel R → List (Slot R) → Type 0
+AreExact radio slots = AllByRecursion (IsExact radio) slots
 
 -- For each configured BSSID that has a slot, the outs that wait there and then those that are held for its radio lead from the
 -- stations that are wanted to those that are associated after all entries.

@@ -2,6 +2,7 @@ pub mod Applying
 pub mod BegunAnew
 pub mod Following
 pub mod CoreRun
+pub mod StepMade
 pub mod StepsMade
 pub mod Outside
 pub mod Proper

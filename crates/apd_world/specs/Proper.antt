@@ -1,6 +1,6 @@
 -- The durable cores of which something is said of a stop: the flusher stands where the core takes it to be (own).
 use Rattle.std.specs.Prelude.{◌≡◌, ◌≤◌, ◌⊎◌, ℕ, List, Some, None, IsSome, true}
-use Rattle.apd_disk.specs.Disk.{LeavesOnly}
+use Rattle.apd_disk.specs.Disk.{LeavesOnly, DiskModel}
 use Rattle.apd_store.specs.Outside.{held_batch}
 use Rattle.apd_store.specs.declared.store.Receipt.{Receipt}
 use Rattle.apd_core.specs.Core.{CoreState, batch_of, new_core}
@@ -12,60 +12,55 @@ use Rattle.apd_world.specs.Outside.{device_of, IsSpoken}
 use Rattle.apd_world.specs.declared.durable_core.DurableCore.{DurableCore}
 
 -- no batch is in flight
-pub record IsBetween {D : Type 0} (reads : D → List ℕ) (may_leave : D → List ℕ → Type 0)
-    (w : DurableCore D) : Type 0 where
+pub record IsBetween {D : Type 0} (disk : DiskModel D) (w : DurableCore D) : Type 0 where
   pub none : w.core.flight ≡ 0
   pub batch : w.batch ≡ None
   pub receipt : w.receipt ≡ None
-  pub steady : IsSteady reads may_leave w.flusher w.core.settled
+  pub steady : IsSteady disk w.flusher w.core.settled
 
 -- the batch in flight waits, and is refused for want of room or of memory alone
-pub record IsWaiting {D : Type 0} (reads : D → List ℕ) (may_leave : D → List ℕ → Type 0)
-    (w : DurableCore D) : Type 0 where
+pub record IsWaiting {D : Type 0} (disk : DiskModel D) (w : DurableCore D) : Type 0 where
   pub some : 1 ≤ w.core.flight
   pub batch : w.batch ≡ Some (batch_of w.core)
   pub good : IsGood (batch_of w.core).changes w.core.settled
   pub receipt : w.receipt ≡ None
-  pub steady : IsSteady reads may_leave w.flusher w.core.settled
+  pub steady : IsSteady disk w.flusher w.core.settled
 
 -- the flusher has the batch in flight, or has failed with it, and the core too
-pub record IsUnderWay {D : Type 0} (reads : D → List ℕ) (may_leave : D → List ℕ → Type 0)
-    (w : DurableCore D) : Type 0 where
+pub record IsUnderWay {D : Type 0} (disk : DiskModel D) (w : DurableCore D) : Type 0 where
   pub some : 1 ≤ w.core.flight
   pub batch : w.batch ≡ None
   pub receipt : w.receipt ≡ None
   pub loaded : loaded_batch w.flusher ≡ batch_of w.core
-  pub flushing : IsFlushing reads may_leave w.flusher w.core.settled (state_after_flight w.core)
-      ⊎ (IsStuck may_leave w.flusher w.core.settled (state_after_flight w.core) × (w.core.failed ≡ true))
+  pub flushing : IsFlushing disk w.flusher w.core.settled (state_after_flight w.core)
+      ⊎ (IsStuck disk w.flusher w.core.settled (state_after_flight w.core) × (w.core.failed ≡ true))
 
 -- the receipt of the batch in flight waits
-pub record IsDurable {D : Type 0} (reads : D → List ℕ) (may_leave : D → List ℕ → Type 0)
-    (w : DurableCore D) : Type 0 where
+pub record IsDurable {D : Type 0} (disk : DiskModel D) (w : DurableCore D) : Type 0 where
   pub some : 1 ≤ w.core.flight
   pub batch : w.batch ≡ None
   pub given : Receipt
   pub receipt : w.receipt ≡ Some given
   pub of_batch : held_batch given ≡ batch_of w.core
-  pub steady : IsSteady reads may_leave w.flusher (state_after_flight w.core)
+  pub steady : IsSteady disk w.flusher (state_after_flight w.core)
 
 -- one of these
-abbrev pub IsInStep : {D : Type 0} → (D → List ℕ) → (D → List ℕ → Type 0) → DurableCore D → Type 0
-IsInStep reads may_leave w =
-    IsBetween reads may_leave w ⊎ IsWaiting reads may_leave w ⊎ IsUnderWay reads may_leave w
-    ⊎ IsDurable reads may_leave w
+abbrev pub IsInStep : {D : Type 0} → DiskModel D → DurableCore D → Type 0
+IsInStep disk w =
+    IsBetween disk w ⊎ IsWaiting disk w ⊎ IsUnderWay disk w ⊎ IsDurable disk w
 
-pub record IsProper {D : Type 0} (honest : D → Type 0) (reads : D → List ℕ) (may_leave : D → List ℕ → Type 0)
-    (size : D → ℕ) (w : DurableCore D) : Type 0 where
-  pub device : honest (device_of w)
-  pub inside : IsInside size w.flusher
+pub record IsProper {D : Type 0} (disk : DiskModel D) (w : DurableCore D) : Type 0 where
+  pub device : disk.honest (device_of w)
+  pub inside : IsInside disk w.flusher
   pub spoken : IsSpoken w
-  pub stands : IsInStep reads may_leave w
+  pub stands : IsInStep disk w
 
 -- Between two steps: a stop leaves images of the settled state, or of that after the batch in flight; from the batch's last call on, if
 -- that succeeded, until it is published, of that after the batch.
-pub record IsShown {D : Type 0} (may_leave : D → List ℕ → Type 0) (w : DurableCore D) : Type 0 where
-  pub now : AreOfFlight w.core (may_leave (device_of w))
-  pub durable : (phase_of w.flusher ≡ phase.Done) ⊎ IsSome w.receipt → AreAfterFlight w.core (may_leave (device_of w))
+pub record IsShown {D : Type 0} (disk : DiskModel D) (w : DurableCore D) : Type 0 where
+  pub now : AreOfFlight w.core (disk.may_leave (device_of w))
+  pub durable : (phase_of w.flusher ≡ phase.Done) ⊎ IsSome w.receipt
+      → AreAfterFlight w.core (disk.may_leave (device_of w))
 
 -- a core that accepted nothing yet
 abbrev pub IsUnused : CoreState → Type 0
@@ -73,8 +68,6 @@ IsUnused s = s ≡ new_core s.settled s.confs s.heard
 
 -- A step from a proper one leaves one, and a stop since its start leaves an image of the settled state, or of that after the
 -- batch in flight.
-pub record IsSafe {D : Type 0} (honest : D → Type 0) (reads : D → List ℕ) (may_leave : D → List ℕ → Type 0)
-    (moment : D → ℕ) (left_since : D → ℕ → List ℕ → Type 0) (size : D → ℕ) (old new : DurableCore D) : Type 0 where
-  pub proper : IsProper honest reads may_leave size old → IsProper honest reads may_leave size new
-  pub inside : IsProper honest reads may_leave size old
-      → LeavesOnly moment left_since (device_of old) (device_of new) (ShowsEither old.core)
+pub record IsSafe {D : Type 0} (disk : DiskModel D) (old new : DurableCore D) : Type 0 where
+  pub proper : IsProper disk old → IsProper disk new
+  pub inside : IsProper disk old → LeavesOnly disk (device_of old) (device_of new) (ShowsEither old.core)

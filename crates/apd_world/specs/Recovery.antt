@@ -1,9 +1,9 @@
 -- What a stop leaves has everything that was spoken of (own).
 use Rattle.std.specs.Prelude.{◌≤◌, ◌+◌, ℕ, List, ◌++◌}
-use Rattle.apd_disk.specs.Disk.{LeavesOnly}
+use Rattle.apd_disk.specs.Disk.{LeavesOnly, DiskModel}
 use Rattle.apd_mlme.specs.Happening.{Happening}
 use Rattle.apd_core.specs.Core.{CoreState}
-use Rattle.apd_slot.specs.Wanted.{Stations}
+use Rattle.apd_radio.specs.Model.{RadioModel}
 use Rattle.apd_world.specs.CoreRun.{AreUnsettled}
 use Rattle.apd_world.specs.Outside.{device_of, spoken}
 use Rattle.apd_world.specs.WorldParts.{durable_of}
@@ -21,10 +21,9 @@ pub record HasSpoken (from : CoreState) (hs : List Happening) (number : ℕ) (im
 
 -- By whatever steps the old world came about, of what was not settled before them and of what they entered, a stop at any moment from
 -- it to the new one leaves a front that has every entry that had been spoken of.
-abbrev pub LosesNothing : {D R : Type 0} → (R → Stations) → (R → ℕ) → (D → ℕ) → (D → ℕ → List ℕ → Type 0) → World D R
-    → World D R → Type 0
-LosesNothing {D} {R} stations faults moment left_since old new =
+abbrev pub LosesNothing : {D R : Type 0} → DiskModel D → RadioModel R → World D R → World D R → Type 0
+LosesNothing {D} {R} disk radio old new =
     (from : World D R) (steps : List Step) (tolds : List Told) (hs : List Happening)
-    → IsWorldRun stations faults steps tolds from old → AreUnsettled hs (durable_of from).core
-    → LeavesOnly moment left_since (device_of (durable_of old)) (device_of (durable_of new))
+    → IsWorldRun radio steps tolds from old → AreUnsettled hs (durable_of from).core
+    → LeavesOnly disk (device_of (durable_of old)) (device_of (durable_of new))
     (HasSpoken (durable_of from).core (hs ++ all_entered steps tolds (durable_of from).core) (spoken (durable_of old)))

@@ -2,6 +2,7 @@
 use Rattle.std.specs.Option.{unwrap_or}
 use Rattle.std.specs.Prelude.{◌≡◌, ◌⊎◌, ◌+◌, ◌≤◌, ◌<◌, ◌^◌, ℕ, List, [], ◌∷◌, ◌++◌, replicate, Option, Some, None, Ok, Err, true}
 use Rattle.apd_base.specs.Failures.{HasRisen}
+use Rattle.apd_disk.specs.Disk.{DiskModel}
 use Rattle.apd_journal.specs.declared.batch.Batch.{Batch}
 use Rattle.apd_store.specs.declared.fault.StoreFault.TheVariants as store_fault
 use Rattle.apd_core.specs.Core.{CoreState}
@@ -64,18 +65,18 @@ LacksMemory NoMemory = Unit {0}
 LacksMemory answer = ⊥
 
 -- What a round of a proper durable core comes to, by its answer.
-abbrev pub ComesTo : {D : Type 0} → (D → ℕ) → Commit → DurableCore D → DurableCore D → Type 0
+abbrev pub ComesTo : {D : Type 0} → DiskModel D → Commit → DurableCore D → DurableCore D → Type 0
 -- one entry or more is settled, and none is in flight
-ComesTo failed Settled old new = (old.core.number < new.core.number) × (new.core.flight ≡ 0)
+ComesTo disk Settled old new = (old.core.number < new.core.number) × (new.core.flight ≡ 0)
 -- the core has failed, or every entry was settled
-ComesTo failed Nothing old new = (new ≡ old) × ((old.core.failed ≡ true) ⊎ (old.core.unsettled ≡ []))
+ComesTo disk Nothing old new = (new ≡ old) × ((old.core.failed ≡ true) ⊎ (old.core.unsettled ≡ []))
 -- the device failed in this round
-ComesTo failed (Refused store_fault.Device) old new = HasRisen (failed (device_of old)) (failed (device_of new))
+ComesTo disk (Refused store_fault.Device) old new = HasRisen (disk.failed (device_of old)) (disk.failed (device_of new))
 -- or before
-ComesTo failed (Refused store_fault.Failed) old new = old.core.failed ≡ true
+ComesTo disk (Refused store_fault.Failed) old new = old.core.failed ≡ true
 -- the next batch doesn't fit, and no half can begin anew
-ComesTo failed (Refused store_fault.Worn) old new = ¬ LastsForNext old
-ComesTo failed (Refused store_fault.NoMemory) old new = Unit {0}
-ComesTo failed NoMemory old new = Unit {0}
+ComesTo disk (Refused store_fault.Worn) old new = ¬ LastsForNext old
+ComesTo disk (Refused store_fault.NoMemory) old new = Unit {0}
+ComesTo disk NoMemory old new = Unit {0}
 -- nothing else is answered
-ComesTo failed answer old new = ⊥
+ComesTo disk answer old new = ⊥

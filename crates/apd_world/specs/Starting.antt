@@ -2,14 +2,14 @@
 use Rattle.std.specs.Prelude.{◌≡◌, ◌≢◌, ◌⊎◌, ℕ, List, [], ◌∷◌, ◌++◌, map, replicate, length, take, Option, None, Some, Result, Ok, true, false}
 use Rattle.std.specs.List.{All, flat_map}
 use Rattle.apd_conf.specs.declared.conf.Conf.{Conf}
-use Rattle.apd_disk.specs.Disk.{LeavesOnly}
+use Rattle.apd_disk.specs.Disk.{LeavesOnly, DiskModel}
 use Rattle.apd_mlme.specs.Happening.{Happening, Configure}
 use Rattle.apd_mlme.specs.declared.decision.Recipient.{Recipient}
 use Rattle.apd_mlme.specs.declared.decision.Recipient.TheVariants.{Radio, Control}
 use Rattle.apd_core.specs.Core.{ready_for}
 use Rattle.apd_core.specs.Requests.{said_by}
 use Rattle.apd_core.specs.declared.input.QuietReason.{QuietReason}
-use Rattle.apd_slot.specs.Wanted.{Stations}
+use Rattle.apd_radio.specs.Model.{RadioModel}
 use Rattle.apd_store.specs.declared.fault.StoreFault.{StoreFault}
 use Rattle.apd_store.specs.declared.fault.StoreFault.TheVariants as store_fault
 use Rattle.apd_world.specs.Outside.{device_of}
@@ -81,11 +81,10 @@ abbrev pub OnlyHands : {D : Type 0} → DurableCore D → DurableCore D → Type
 OnlyHands old new = new ≡ record old { core = record old.core { held = new.core.held } }
 
 -- So many calls of the store are made by a round, which comes to this.
-pub record IsWorldRound {D R : Type 0} (stations : R → Stations) (faults : R → ℕ) (answer : Commit)
-    (old new : World D R) : Type 0 where
+pub record IsWorldRound {D R : Type 0} (radio : RadioModel R) (answer : Commit) (old new : World D R) : Type 0 where
   pub calls : ℕ
   pub tolds : List Told
-  pub run : IsWorldRun stations faults (round calls) tolds old new
+  pub run : IsWorldRun radio (round calls) tolds old new
   pub answer_is : answer ≡ answer_of tolds
 
 -- a recipient was given all that is settled for it; a radio without a slot is given nothing
@@ -96,11 +95,11 @@ IsGiven Control w = ready_for Control (durable_of w).core ≡ []
 -- After these first steps what is settled is handed out, to each radio and then to control, and each out is applied. The answers
 -- are what these last steps told, each with its recipient, and none met want of memory; no queue of a configured interface has an
 -- out, and each recipient was given all that is settled for it.
-pub record IsHandedOut {D R : Type 0} (stations : R → Stations) (faults : R → ℕ) (first : List Step)
+pub record IsHandedOut {D R : Type 0} (radio : RadioModel R) (first : List Step)
     (answers : List (Recipient × Told)) (old new : World D R) : Type 0 where
   pub counts : List ℕ
   pub tolds : List Told
-  pub run : IsWorldRun stations faults
+  pub run : IsWorldRun radio
       (first ++ (hands (durable_of old).core.confs ++ applies (durable_of old).core.confs counts))
       (tolds ++ map (λ a. a.1) answers) old new
   pub recipients : map (λ a. a.0) answers
@@ -112,36 +111,41 @@ pub record IsHandedOut {D R : Type 0} (stations : R → Stations) (faults : R �
   pub control : IsGiven Control new
 
 -- After these first steps batches are committed until every entry is settled, and what is settled is handed out. The core has not failed.
-pub record IsFlushed {D R : Type 0} (stations : R → Stations) (faults : R → ℕ) (first : List Step)
+pub record IsFlushed {D R : Type 0} (radio : RadioModel R) (first : List Step)
     (answers : List (Recipient × Told)) (old new : World D R) : Type 0 where
   pub calls : List ℕ
-  pub handed : IsHandedOut stations faults (first ++ rounds calls) answers old new
+  pub handed : IsHandedOut radio (first ++ rounds calls) answers old new
   pub settled : (durable_of new).core.unsettled ≡ []
   pub works : (durable_of new).core.failed ≡ false
   pub rests : IsAtRest (durable_of new)
 
 -- Each interface is configured, in order, where none met want of memory, and what that brings about is flushed.
-pub record IsStarted {D R : Type 0} (stations : R → Stations) (faults : R → ℕ) (answers : List (Recipient × Told))
+pub record IsStarted {D R : Type 0} (radio : RadioModel R) (answers : List (Recipient × Told))
     (old new : World D R) : Type 0 where
   pub first : List Step
   pub configuring : AreConfiguring (durable_of old).core.confs first
-  pub flushed : IsFlushed stations faults first answers old new
+  pub flushed : IsFlushed radio first answers old new
   pub accepted : All (λ told. told ≢ NoMemory) (take (length first) flushed.handed.tolds)
 
 -- Some steps were made.
-pub record HasGoneOn {D R : Type 0} (stations : R → Stations) (faults : R → ℕ) (old new : World D R) : Type 0 where
+pub record HasGoneOn {D R : Type 0} (radio : RadioModel R) (old new : World D R) : Type 0 where
   pub steps : List Step
   pub tolds : List Told
-  pub run : IsWorldRun stations faults steps tolds old new
+  pub run : IsWorldRun radio steps tolds old new
 
--- Some steps were, and a stop at any moment since leaves an image of the table after a front of these, which were not settled, and then
--- of what happened by the steps.
-pub record LeavesFronts {D R : Type 0} (moment : D → ℕ) (left_since : D → ℕ → List ℕ → Type 0)
-    (stations : R → Stations) (faults : R → ℕ) (hs : List Happening) (old new : World D R) : Type 0 where
-  pub gone_on : HasGoneOn stations faults old new
-  pub leaves : LeavesOnly moment left_since (device_of (durable_of old)) (device_of (durable_of new))
-      (ShowsFront (durable_of old).core.settled (durable_of old).core.confs
-      (hs ++ all_entered gone_on.steps gone_on.tolds (durable_of old).core))
+-- a stop at any moment from one world to another leaves an image of the table after a front of these
+abbrev pub LeavesFront : {D R : Type 0} → DiskModel D → List Happening → World D R → World D R → Type 0
+LeavesFront disk hs old new =
+    LeavesOnly disk (device_of (durable_of old)) (device_of (durable_of new))
+    (ShowsFront (durable_of old).core.settled (durable_of old).core.confs hs)
+
+-- Some steps were made, and a stop at any moment since leaves an image of the table after a front of these, which were not settled, and
+-- then of what happened by the steps.
+pub record LeavesFronts {D R : Type 0} (disk : DiskModel D) (radio : RadioModel R) (hs : List Happening)
+    (old new : World D R) : Type 0 where
+  pub gone_on : HasGoneOn radio old new
+  pub leaves : LeavesFront disk (hs ++ all_entered gone_on.steps gone_on.tolds (durable_of old).core)
+      old new
 
 -- ---- what ends them early
 -- the core has failed, or an entry is not settled
@@ -157,19 +161,19 @@ Ends commit.Foreign fault w = fault ≡ store_fault.Failed
 Ends answer fault w = ⊥
 
 -- Some steps were made, and then a last round, which ends with this fault.
-pub record IsEndedByStore {D R : Type 0} (stations : R → Stations) (faults : R → ℕ) (fault : StoreFault)
+pub record IsEndedByStore {D R : Type 0} (radio : RadioModel R) (fault : StoreFault)
     (old new : World D R) : Type 0 where
   pub last : World D R
-  pub before : HasGoneOn stations faults old last
+  pub before : HasGoneOn radio old last
   pub answer : Commit
-  pub round_is : IsWorldRound stations faults answer last new
+  pub round_is : IsWorldRound radio answer last new
   pub ends : Ends answer fault (durable_of new)
 
 -- A start or a flush ends early by a round that the store ends, or where memory is refused. No slot ends it.
-abbrev pub HasEnded : {D R : Type 0} → (R → Stations) → (R → ℕ) → WorldFault → World D R → World D R → Type 0
-HasEnded stations faults (world_fault.Store fault) old new = IsEndedByStore stations faults fault old new
-HasEnded stations faults (world_fault.Slot b fault) old new = ⊥
-HasEnded stations faults world_fault.NoMemory old new = HasGoneOn stations faults old new
+abbrev pub HasEnded : {D R : Type 0} → RadioModel R → WorldFault → World D R → World D R → Type 0
+HasEnded radio (world_fault.Store fault) old new = IsEndedByStore radio fault old new
+HasEnded radio (world_fault.Slot b fault) old new = ⊥
+HasEnded radio world_fault.NoMemory old new = HasGoneOn radio old new
 
 -- where the store is told as failed, the core has failed
 abbrev pub HasFailedCore : {D R : Type 0} → WorldFault → World D R → Type 0

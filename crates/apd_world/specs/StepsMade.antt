@@ -1,18 +1,16 @@
--- What a call that makes steps leaves (own).
+-- What a call that makes steps keeps and leaves (own).
 use Rattle.std.specs.Prelude.{◌≡◌, ◌≢◌, ℕ, List, [], ◌++◌, map, length, false}
 use Rattle.std.specs.List.{All}
 use Rattle.apd_conf.specs.declared.conf.Conf.{Conf}
-use Rattle.apd_disk.specs.Disk.{LeavesOnly}
 use Rattle.apd_mlme.specs.Happening.{Happening}
 use Rattle.apd_mlme.specs.declared.decision.Recipient.{Recipient}
-use Rattle.apd_slot.specs.Wanted.{Stations}
+use Rattle.apd_disk.specs.Disk.{DiskModel}
+use Rattle.apd_radio.specs.Model.{RadioModel}
 use Rattle.apd_world.specs.Following.{AreExact, AreFollowing}
 use Rattle.apd_world.specs.CoreRun.{AreUnsettled}
-use Rattle.apd_world.specs.Outside.{device_of}
 use Rattle.apd_world.specs.Proper.{IsProper}
 use Rattle.apd_world.specs.WorldParts.{durable_of, queue_of, slots_of}
-use Rattle.apd_world.specs.Shown.{ShowsFront}
-use Rattle.apd_world.specs.Starting.{AreConfiguring, IsAtRest, applies, recipient_of, rounds}
+use Rattle.apd_world.specs.Starting.{AreConfiguring, IsAtRest, LeavesFront, applies, recipient_of, rounds}
 use Rattle.apd_world.specs.Steps.{all_entered}
 use Rattle.apd_world.specs.WorldRun.{IsWorldRun}
 use Rattle.apd_world.specs.declared.step.Step.{Step}
@@ -20,21 +18,23 @@ use Rattle.apd_world.specs.declared.step.Told.{Told}
 use Rattle.apd_world.specs.declared.step.Told.TheVariants.{NoMemory}
 use Rattle.apd_world.specs.declared.world.World.{World}
 
-module _ {D R : Type 0} (honest : D → Type 0) (reads : D → List ℕ) (may_leave : D → List ℕ → Type 0) (moment : D → ℕ)
-    (left_since : D → ℕ → List ℕ → Type 0) (size : D → ℕ) (stations : R → Stations) (faults : R → ℕ) where
-  -- These steps were made, and told so. They keep what a step keeps, and a stop at any moment since they began leaves an image of the
-  -- table after a front of what was not settled then and of what happened.
+-- A proper world stays proper, and a stop at any moment from the old one to the new leaves this, of what was not settled in the old one.
+-- The radio of each slot that is up has what is wanted, and the slots follow the table, if they did before.
+pub record StaysSafe {D R : Type 0} (disk : DiskModel D) (radio : RadioModel R)
+    (leaves : List Happening → World D R → World D R → Type 0) (old new : World D R) : Type 0 where
+  pub proper : IsProper disk (durable_of old) → IsProper disk (durable_of new)
+  pub any_moment : IsProper disk (durable_of old) → (hs : List Happening)
+      → AreUnsettled hs (durable_of old).core → leaves hs old new
+  pub exact : AreExact radio (slots_of old) → AreExact radio (slots_of new)
+  pub following : AreFollowing old → AreFollowing new
+
+module _ {D R : Type 0} (disk : DiskModel D) (radio : RadioModel R) where
+  -- These steps were made, and told so. A stop at any moment since they began leaves an image of the table after a front of what was not
+  -- settled then and of what happened.
   pub record AreSafelyMade (steps : List Step) (tolds : List Told) (old new : World D R) : Type 0 where
-    pub run : IsWorldRun stations faults steps tolds old new
-    pub proper : IsProper honest reads may_leave size (durable_of old)
-        → IsProper honest reads may_leave size (durable_of new)
-    pub any_moment : IsProper honest reads may_leave size (durable_of old) → (hs : List Happening)
-        → AreUnsettled hs (durable_of old).core
-        → LeavesOnly moment left_since (device_of (durable_of old)) (device_of (durable_of new))
-        (ShowsFront (durable_of old).core.settled (durable_of old).core.confs
-        (hs ++ all_entered steps tolds (durable_of old).core))
-    pub exact : AreExact stations (slots_of old) → AreExact stations (slots_of new)
-    pub following : AreFollowing old → AreFollowing new
+    pub run : IsWorldRun radio steps tolds old new
+    pub safe : StaysSafe disk radio
+        (λ hs. LeavesFront disk (hs ++ all_entered steps tolds (durable_of old).core)) old new
 
   -- and nothing happened by them
   pub record AreQuietlyMade (steps : List Step) (tolds : List Told) (old new : World D R) : Type 0 where

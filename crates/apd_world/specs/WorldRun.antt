@@ -7,7 +7,7 @@ use Rattle.apd_mlme.specs.declared.decision.Out.{Out}
 use Rattle.apd_mlme.specs.declared.decision.Recipient.TheVariants.{Radio, Control}
 use Rattle.apd_mlme.specs.Run.{outs_run}
 use Rattle.apd_core.specs.Core.{front_of, held_for}
-use Rattle.apd_slot.specs.Wanted.{Stations}
+use Rattle.apd_radio.specs.Model.{RadioModel}
 use Rattle.apd_slot.specs.declared.slot.Slot.{Slot}
 use Rattle.apd_world.specs.Applying.{AppliesFirst}
 use Rattle.apd_world.specs.Run.{IsRun, IsStep}
@@ -41,7 +41,7 @@ abbrev pub HasNoSlot : {D R : Type 0} → Bssid → World D R → Type 0
 HasNoSlot b w = slot_at (slots_of w) b ≡ None
 
 -- the first out of a BSSID's queue is applied at its slot
-pub record IsApplied {D R : Type 0} (stations : R → Stations) (faults : R → ℕ) (b : Bssid) (told : Told)
+pub record IsApplied {D R : Type 0} (radio : RadioModel R) (b : Bssid) (told : Told)
     (old new : World D R) : Type 0 where
   pub place : ℕ
   pub slot : Slot R
@@ -49,37 +49,37 @@ pub record IsApplied {D R : Type 0} (stations : R → Stations) (faults : R → 
   pub at : slot_place (slots_of old) b ≡ Some place
   pub has_slot : slot_at (slots_of old) b ≡ Some slot
   pub slots : slots_of new ≡ slice_set (slots_of old) place after
-  pub tells : AppliesFirst stations faults told slot after (queue_of old b) (queue_of new b)
+  pub tells : AppliesFirst radio told slot after (queue_of old b) (queue_of new b)
   pub others : OthersStay b old new
 
 -- What a step does beside the durable core, by what that told inside: outs for a radio go to its queue, and their count is told; without a
 -- slot nothing is done, and where no out waits nothing is applied. All else is told as it was inside.
-abbrev pub Joins : {D R : Type 0} → (R → Stations) → (R → ℕ) → Step → Told → Told → World D R → World D R → Type 0
-Joins stations faults (Hand (Radio b)) (Handed outs) (Queued count) old new =
+abbrev pub Joins : {D R : Type 0} → RadioModel R → Step → Told → Told → World D R → World D R → Type 0
+Joins radio (Hand (Radio b)) (Handed outs) (Queued count) old new =
     (count ≡ length outs) × AreQueued b outs old new
-Joins stations faults (Hand (Radio b)) NoMemory NoMemory old new = (¬ HasNoSlot b old) × RestStays old new
-Joins stations faults (Hand (Radio b)) NoMemory Nothing old new = HasNoSlot b old × RestStays old new
-Joins stations faults (Hand (Radio b)) inside told old new = ⊥
-Joins stations faults (Apply b) Nothing Nothing old new = (queue_of old b ≡ []) × RestStays old new
-Joins stations faults (Apply b) Nothing told old new = IsApplied stations faults b told old new
-Joins stations faults (Apply b) inside told old new = ⊥
-Joins stations faults step inside told old new = (told ≡ inside) × RestStays old new
+Joins radio (Hand (Radio b)) NoMemory NoMemory old new = (¬ HasNoSlot b old) × RestStays old new
+Joins radio (Hand (Radio b)) NoMemory Nothing old new = HasNoSlot b old × RestStays old new
+Joins radio (Hand (Radio b)) inside told old new = ⊥
+Joins radio (Apply b) Nothing Nothing old new = (queue_of old b ≡ []) × RestStays old new
+Joins radio (Apply b) Nothing told old new = IsApplied radio b told old new
+Joins radio (Apply b) inside told old new = ⊥
+Joins radio step inside told old new = (told ≡ inside) × RestStays old new
 
 -- one step, and what it tells; inside, the durable core makes one, or lacks memory
-pub record IsWorldStep {D R : Type 0} (stations : R → Stations) (faults : R → ℕ) (step : Step) (told : Told)
+pub record IsWorldStep {D R : Type 0} (radio : RadioModel R) (step : Step) (told : Told)
     (old new : World D R) : Type 0 where
   pub inside : Told
   pub durable : IsStep step inside (durable_of old) (durable_of new)
-  pub joins : Joins stations faults step inside told old new
+  pub joins : Joins radio step inside told old new
 
 -- one step after the other, each telling one answer
-abbrev pub AreWorldSteps : {D R : Type 0} → (R → Stations) → (R → ℕ) → List Step → List Told → List Told → World D R
+abbrev pub AreWorldSteps : {D R : Type 0} → RadioModel R → List Step → List Told → List Told → World D R
     → World D R → Type 0
-AreWorldSteps stations faults [] [] [] old new = new ≡ old
-AreWorldSteps {D} {R} stations faults (step ∷ steps) (inside ∷ insides) (told ∷ tolds) old new =
+AreWorldSteps radio [] [] [] old new = new ≡ old
+AreWorldSteps {D} {R} radio (step ∷ steps) (inside ∷ insides) (told ∷ tolds) old new =
     (mid : World D R) × Tells step inside (durable_of old) (durable_of mid)
-    × Joins stations faults step inside told old mid × AreWorldSteps stations faults steps insides tolds mid new
-AreWorldSteps stations faults steps insides tolds old new = ⊥
+    × Joins radio step inside told old mid × AreWorldSteps radio steps insides tolds mid new
+AreWorldSteps radio steps insides tolds old new = ⊥
 
 -- the out that a step applied at a BSSID's slot
 abbrev pub applied : Bssid → Step → Told → List Out
@@ -93,17 +93,16 @@ all_applied b steps tolds = []
 -- What a list of steps told is what they do. Inside, it is a run of the durable core, by which the same happened; control was
 -- given what is told. At each radio, what was applied, then its queue, then what is held for it, is its queue before, what was
 -- held for it before, and then the outs of what happened.
-pub record IsWorldRun {D R : Type 0} (stations : R → Stations) (faults : R → ℕ) (steps : List Step) (tolds : List Told)
+pub record IsWorldRun {D R : Type 0} (radio : RadioModel R) (steps : List Step) (tolds : List Told)
     (old new : World D R) : Type 0 where
   pub insides : List Told
-  pub steps_are : AreWorldSteps stations faults steps insides tolds old new
+  pub steps_are : AreWorldSteps radio steps insides tolds old new
   pub run : IsRun steps insides (durable_of old) (durable_of new)
   pub entered : all_entered steps insides (durable_of old).core ≡ all_entered steps tolds (durable_of old).core
   pub control : all_given Control steps insides ≡ all_given Control steps tolds
   pub queues : (b : Bssid)
       → all_applied b steps tolds ++ queue_of new b ≡ queue_of old b ++ all_given (Radio b) steps insides
-  pub radios : (b : Bssid)
-      → all_applied b steps tolds ++ (queue_of new b ++ held_for (Radio b) (durable_of new).core)
+  pub radios : (b : Bssid) → all_applied b steps tolds ++ (queue_of new b ++ held_for (Radio b) (durable_of new).core)
       ≡ queue_of old b
       ++ (held_for (Radio b) (durable_of old).core
       ++ outs_run (Radio b) (front_of (durable_of old).core) (durable_of old).core.confs
@@ -111,10 +110,10 @@ pub record IsWorldRun {D R : Type 0} (stations : R → Stations) (faults : R →
 
 -- Two lists of steps that are made one after the other are one list, by which what happened by the first happens, and then what happened
 -- by the second.
-abbrev pub RunsJoin : (D : Type 0) {R : Type 0} → (R → Stations) → (R → ℕ) → Type 0
-RunsJoin D {R} stations faults =
-    (xs ys : List Step) (ts us : List Told) (old mid new : World D R) → IsWorldRun stations faults xs ts old mid
-    → IsWorldRun stations faults ys us mid new
-    → IsWorldRun stations faults (xs ++ ys) (ts ++ us) old new
+abbrev pub RunsJoin : (D : Type 0) {R : Type 0} → RadioModel R → Type 0
+RunsJoin D {R} radio =
+    (xs ys : List Step) (ts us : List Told) (old mid new : World D R) → IsWorldRun radio xs ts old mid
+    → IsWorldRun radio ys us mid new
+    → IsWorldRun radio (xs ++ ys) (ts ++ us) old new
     × (all_entered (xs ++ ys) (ts ++ us) (durable_of old).core
     ≡ all_entered xs ts (durable_of old).core ++ all_entered ys us (durable_of mid).core)

@@ -1,9 +1,9 @@
 //! A batch committed, by a round of steps.
-ghost use Rattle.std.specs.Prelude.{◌≡◌, ◌≤◌, ◌<◌, ◌+◌, ◌^◌, ◌⊎◌, List, [], IsTrue, false, length};
+ghost use Rattle.std.specs.Prelude.{◌≡◌, ◌≤◌, ◌<◌, ◌+◌, ◌^◌, ◌⊎◌, List, IsTrue, false, length};
 ghost use Rattle.apd_disk.specs.Disk.{LeavesOnly};
 ghost use Rattle.apd_mlme.specs.Happening.{Happening};
 ghost use Rattle.apd_flusher.specs.Outside.{calls_left, phase_of};
-ghost use Rattle.apd_world.specs.CoreRun.{AreUnsettled, Goes};
+ghost use Rattle.apd_world.specs.CoreRun.{AreUnsettled, GoesQuietly};
 ghost use Rattle.apd_world.specs.Round.{said};
 
 use crate::durable_core::DurableCore;
@@ -59,11 +59,10 @@ impl<D: Disk> DurableCore<D> {
     /// of what was not settled then.
     pub fn commit(&mut self) -> Commit
         ensures round { IsRound result self.old self.new }
-        ensures comes_to { IsProper D.honest D.reads D.may_leave D.size self.old
-            → ComesTo D.failed result self.old self.new }
-        ensures commits { IsProper D.honest D.reads D.may_leave D.size self.old → self.old.core.failed ≡ false
-            → D.failed (device_of self.new) ≡ D.failed (device_of self.old)
-            → D.failed (device_of self.old) + 1 < 2 ^ 64 → ¬ LacksMemory result → LastsForNext self.old
+        ensures comes_to { IsProper D.model self.old → ComesTo D.model result self.old self.new }
+        ensures commits { IsProper D.model self.old → self.old.core.failed ≡ false
+            → D.model.failed (device_of self.new) ≡ D.model.failed (device_of self.old)
+            → D.model.failed (device_of self.old) + 1 < 2 ^ 64 → ¬ LacksMemory result → LastsForNext self.old
             → 1 ≤ length self.old.core.unsettled
             → (result ≡ Commit.Settled) × (self.old.core.number < self.new.core.number) }
         ensures settled { result ≡ Commit.Settled
@@ -71,15 +70,12 @@ impl<D: Disk> DurableCore<D> {
         ensures nothing { result ≡ Commit.Nothing → HasNoBatch self.old × HasNoCall self.old × HasNoReceipt self.old
             × (self.new ≡ self.old) }
         ensures rests { HasNoBatch self.old → HasNoCall self.old → HasNoReceipt self.old → result ≡ Commit.Nothing }
-        ensures proper { IsProper D.honest D.reads D.may_leave D.size self.old
-            → IsProper D.honest D.reads D.may_leave D.size self.new }
-        ensures any_moment { IsProper D.honest D.reads D.may_leave D.size self.old → (hs : List Happening)
-            → AreUnsettled hs self.old.core
-            → LeavesOnly D.moment D.left_since (device_of self.old) (device_of self.new)
+        ensures proper { IsProper D.model self.old → IsProper D.model self.new }
+        ensures any_moment { IsProper D.model self.old → (hs : List Happening) → AreUnsettled hs self.old.core
+            → LeavesOnly D.model (device_of self.old) (device_of self.new)
             (ShowsFront self.old.core.settled self.old.core.confs hs) }
-        ensures quiet { Goes [] (λ r. []) self.old.core self.new.core }
-        ensures heard { self.new.core.heard ≡ self.old.core.heard }
-        ensures count { D.failed (device_of self.old) ≤ D.failed (device_of self.new) }
+        ensures quiet { GoesQuietly self.old.core self.new.core }
+        ensures count { D.model.failed (device_of self.old) ≤ D.model.failed (device_of self.new) }
     {
         self.stops();
         let taken = said(self.step(&Step::Take));
@@ -93,39 +89,28 @@ impl<D: Disk> DurableCore<D> {
 }
 
 impl<D: Disk, R: Radio> World<D, R> {
-    ghost use Rattle.apd_world.specs.Following.{AreExact, AreFollowing};
-    ghost use Rattle.apd_world.specs.Outside.{device_of};
     ghost use Rattle.apd_world.specs.Proper.{IsProper};
     ghost use Rattle.apd_world.specs.Round.{ComesTo, IsRound};
-    ghost use Rattle.apd_world.specs.Shown.{ShowsFront};
-    ghost use Rattle.apd_world.specs.WorldParts.{durable_of, slots_of};
-    ghost use Rattle.apd_world.specs.Starting.{IsWorldRound};
+    ghost use Rattle.apd_world.specs.WorldParts.{durable_of};
+    ghost use Rattle.apd_world.specs.Starting.{IsWorldRound, LeavesFront};
+    ghost use Rattle.apd_world.specs.StepsMade.{StaysSafe};
     ghost use Rattle.apd_world.specs.Telling.{HasNoBatch, HasNoCall, HasNoReceipt};
     ghost use Rattle.apd_world.specs.WorldRun.{RestStays};
 
     /// Commits a batch by one round of the durable core's steps; the slots and their queues stay.
     pub fn commit(&mut self) -> Commit
         ensures round { IsRound result (durable_of self.old) (durable_of self.new) }
-        ensures run { IsWorldRound R.stations R.faults result self.old self.new }
-        ensures comes_to { IsProper D.honest D.reads D.may_leave D.size (durable_of self.old)
-            → ComesTo D.failed result (durable_of self.old) (durable_of self.new) }
+        ensures run { IsWorldRound R.model result self.old self.new }
+        ensures comes_to { IsProper D.model (durable_of self.old)
+            → ComesTo D.model result (durable_of self.old) (durable_of self.new) }
         ensures rest_stays { RestStays self.old self.new }
         ensures settled { result ≡ Commit.Settled
             → ((durable_of self.old).core.number < (durable_of self.new).core.number)
             × ((durable_of self.new).core.flight ≡ 0) }
         ensures nothing { result ≡ Commit.Nothing → HasNoBatch (durable_of self.old) × HasNoCall (durable_of self.old)
             × HasNoReceipt (durable_of self.old) × (durable_of self.new ≡ durable_of self.old) }
-        ensures proper { IsProper D.honest D.reads D.may_leave D.size (durable_of self.old)
-            → IsProper D.honest D.reads D.may_leave D.size (durable_of self.new) }
-        ensures any_moment { IsProper D.honest D.reads D.may_leave D.size (durable_of self.old) → (hs : List Happening)
-            → AreUnsettled hs (durable_of self.old).core
-            → LeavesOnly D.moment D.left_since (device_of (durable_of self.old)) (device_of
-            (durable_of self.new))
-            (ShowsFront (durable_of self.old).core.settled (durable_of self.old).core.confs hs) }
-        ensures quiet { Goes [] (λ r. []) (durable_of self.old).core (durable_of self.new).core }
-        ensures heard { (durable_of self.new).core.heard ≡ (durable_of self.old).core.heard }
-        ensures exact { AreExact R.stations (slots_of self.old) → AreExact R.stations (slots_of self.new) }
-        ensures following { AreFollowing self.old → AreFollowing self.new }
+        ensures safe { StaysSafe D.model R.model (LeavesFront D.model) self.old self.new }
+        ensures quiet { GoesQuietly (durable_of self.old).core (durable_of self.new).core }
     {
         self.durable.commit()
     }

@@ -35,8 +35,7 @@ fn durable_core_of<D: Disk>(
     ensures heard { IfOk result (λ durable. AreHeardAt moment table durable.core.heard) }
     ensures sound { IfOk result (λ durable. Sound table) }
     ensures store { IfOk result (λ durable. store_of durable.flusher ≡ store) }
-    ensures steady { IsIdle D.reads D.may_leave store table
-        → IfOk result (λ durable. IsSteady D.reads D.may_leave durable.flusher table) }
+    ensures steady { IsIdle D.model store table → IfOk result (λ durable. IsSteady D.model durable.flusher table) }
     ensures batch { IfOk result (λ durable. durable.batch ≡ None) }
     ensures receipt { IfOk result (λ durable. durable.receipt ≡ None) }
     ensures told { IfOk result (λ durable. durable.told ≡ 0) }
@@ -70,20 +69,18 @@ pub(crate) fn restart_core<D: Disk>(
     confs: Confs,
     moment: Moment,
 ) -> Result<DurableCore<D>, (D, WorldFault)>
-    ensures begun { IfOk result (λ durable. IsBegunAnew D.size D.failed device confs moment durable) }
-    ensures begun_honest { D.honest device
-        → IfOk result (λ durable. IsHonestlyBegunAnew D.honest D.reads D.may_leave D.moment D.left_since D.size
+    ensures begun { IfOk result (λ durable. IsBegunAnew D.model device confs moment durable) }
+    ensures begun_honest { D.model.honest device → IfOk result (λ durable. IsHonestlyBegunAnew D.model
         device durable) }
-    ensures none { IfErr result (λ e. IsNotBegunAnew D.honest D.failed device e.0 e.1) }
-    ensures none_honest { D.honest device
-        → IfErr result
-        (λ e. IsHonestlyNotBegunAnew D.reads D.may_leave D.moment D.left_since device e.0 e.1) }
+    ensures none { IfErr result (λ e. IsNotBegunAnew D.model device e.0 e.1) }
+    ensures none_honest { D.model.honest device → IfErr result (λ e. IsHonestlyNotBegunAnew D.model device e.0 e.1) }
     ensures only { IfErr result
         (λ e. (e.1 ≡ WorldFault.Store StoreFault.NotAStore) ⊎ (e.1 ≡ WorldFault.Store StoreFault.Damaged)
         ⊎ (e.1 ≡ WorldFault.Store StoreFault.Device) ⊎ (e.1 ≡ WorldFault.Store StoreFault.NoMemory)
         ⊎ (e.1 ≡ WorldFault.NoMemory)) }
-    ensures honest { IfOk result (λ durable. D.honest device ↔ D.honest (device_of durable)) }
-    ensures reads { D.honest device → IfOk result (λ durable. D.reads (device_of durable) ≡ D.reads device) }
+    ensures honest { IfOk result (λ durable. D.model.honest device ↔ D.model.honest (device_of durable)) }
+    ensures reads { D.model.honest device
+        → IfOk result (λ durable. D.model.reads (device_of durable) ≡ D.model.reads device) }
 {
     an_image_shows_one_state();
     match recover(alloc, device) {

@@ -1,14 +1,10 @@
 //! A list of steps.
-ghost use Rattle.std.specs.Prelude.{◌≡◌, ◌++◌, IfOk, OnErr, OnOk, List, ℕ};
-ghost use Rattle.apd_disk.specs.Disk.{LeavesOnly};
-ghost use Rattle.apd_mlme.specs.Happening.{Happening};
-ghost use Rattle.apd_world.specs.Following.{AreExact, AreFollowing};
-ghost use Rattle.apd_world.specs.CoreRun.{AreUnsettled};
+ghost use Rattle.std.specs.Prelude.{◌≡◌, ◌++◌, IfOk, OnErr, OnOk};
 ghost use Rattle.apd_world.specs.Proper.{IsProper, IsShown};
-ghost use Rattle.apd_world.specs.WorldParts.{durable_of, slots_of};
-ghost use Rattle.apd_world.specs.Shown.{ShowsFront};
+ghost use Rattle.apd_world.specs.WorldParts.{durable_of};
+ghost use Rattle.apd_world.specs.Starting.{LeavesFront};
 ghost use Rattle.apd_world.specs.Steps.{all_entered};
-ghost use Rattle.apd_world.specs.Outside.{device_of};
+ghost use Rattle.apd_world.specs.StepsMade.{StaysSafe};
 ghost use Rattle.apd_world.specs.WorldRun.{IsWorldRun};
 
 use crate::step::{Step, Told};
@@ -27,19 +23,10 @@ pub fn drive<D: Disk, R: Radio>(
     world: &mut World<D, R>,
     steps: &[Step<'_>],
 ) -> Result<Vec<Told>, AllocError>
-    ensures run { IfOk result (λ tolds. IsWorldRun R.stations R.faults steps.now tolds.items world.old world.new) }
-    ensures proper { IsProper D.honest D.reads D.may_leave D.size (durable_of world.old)
-        → IsProper D.honest D.reads D.may_leave D.size (durable_of world.new) }
-    ensures any_moment { IsProper D.honest D.reads D.may_leave D.size (durable_of world.old)
-        → IfOk result (λ tolds. (hs : List Happening) → AreUnsettled hs (durable_of world.old).core
-        → LeavesOnly D.moment D.left_since (device_of (durable_of world.old)) (device_of
-        (durable_of world.new))
-        (ShowsFront (durable_of world.old).core.settled (durable_of world.old).core.confs
-        (hs ++ all_entered steps.now tolds.items (durable_of world.old).core))) }
-    ensures between { IsProper D.honest D.reads D.may_leave D.size (durable_of world.old)
-        → OnOk result (IsShown D.may_leave (durable_of world.new)) }
-    ensures exact { AreExact R.stations (slots_of world.old) → AreExact R.stations (slots_of world.new) }
-    ensures following { AreFollowing world.old → AreFollowing world.new }
+    ensures run { IfOk result (λ tolds. IsWorldRun R.model steps.now tolds.items world.old world.new) }
+    ensures safe { StaysSafe D.model R.model (λ hs old new. IfOk result (λ tolds. LeavesFront D.model
+        (hs ++ all_entered steps.now tolds.items (durable_of old).core) old new)) world.old world.new }
+    ensures between { IsProper D.model (durable_of world.old) → OnOk result (IsShown D.model (durable_of world.new)) }
     ensures err { OnErr result (world.new ≡ world.old) }
 {
     let mut tolds = Vec::with_capacity(world.alloc, steps.len())?;

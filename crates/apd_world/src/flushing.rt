@@ -1,10 +1,5 @@
 //! A world flushed: what is unsettled is committed, and what is settled is handed out and applied.
-ghost use Rattle.std.specs.Prelude.{◌≡◌, IfErr, IfOk, List, OnErr, OnOk, []};
-ghost use Rattle.apd_disk.specs.Disk.{LeavesOnly};
-ghost use Rattle.apd_mlme.specs.Happening.{Happening};
-ghost use Rattle.apd_world.specs.CoreRun.{AreUnsettled};
-ghost use Rattle.apd_world.specs.Outside.{device_of};
-ghost use Rattle.apd_world.specs.Shown.{ShowsFront};
+ghost use Rattle.std.specs.Prelude.{IfErr, IfOk, OnErr, OnOk, []};
 
 use crate::fault::WorldFault;
 use crate::step::{Commit, Told};
@@ -15,22 +10,17 @@ use apd_radio::Radio;
 use apd_store::StoreFault;
 
 impl<D: Disk, R: Radio> World<D, R> {
-    ghost use Rattle.apd_world.specs.Following.{AreExact, AreFollowing};
-    ghost use Rattle.apd_world.specs.StepsMade.{AreSettled, SomeAreQuietlyMade};
+    ghost use Rattle.apd_world.specs.StepsMade.{AreSettled, SomeAreQuietlyMade, StaysSafe};
     ghost use Rattle.apd_world.specs.Proper.{IsProper};
-    ghost use Rattle.apd_world.specs.WorldParts.{durable_of, slots_of};
-    ghost use Rattle.apd_world.specs.Starting.{HasEnded, HasFailedCore, IsFlushed};
+    ghost use Rattle.apd_world.specs.WorldParts.{durable_of};
+    ghost use Rattle.apd_world.specs.Starting.{HasEnded, HasFailedCore, IsFlushed, LeavesFront};
 
     // Commits until nothing is unsettled.
     fn settle(&mut self) -> Result<(), WorldFault>
-        ensures ok { OnOk result
-            (AreSettled D.honest D.reads D.may_leave D.moment D.left_since D.size R.stations R.faults
-            self.old self.new) }
-        ensures err { OnErr result
-            (SomeAreQuietlyMade D.honest D.reads D.may_leave D.moment D.left_since D.size R.stations R.faults
-            self.old self.new) }
-        ensures ended { IfErr result (λ fault. HasEnded R.stations R.faults fault self.old self.new) }
-        ensures failed { IsProper D.honest D.reads D.may_leave D.size (durable_of self.old)
+        ensures ok { OnOk result (AreSettled D.model R.model self.old self.new) }
+        ensures err { OnErr result (SomeAreQuietlyMade D.model R.model self.old self.new) }
+        ensures ended { IfErr result (λ fault. HasEnded R.model fault self.old self.new) }
+        ensures failed { IsProper D.model (durable_of self.old)
             → IfErr result (λ fault. HasFailedCore fault self.new) }
     {
         self.durable.stops();
@@ -52,19 +42,11 @@ impl<D: Disk, R: Radio> World<D, R> {
     /// Errors: `Store` where the store refuses, with the fault that a step told, and with `Failed` where the core has
     /// failed or a round settled nothing; `NoMemory`. The steps that were made stand.
     pub fn flush(&mut self) -> Result<Vec<(Recipient, Told)>, WorldFault>
-        ensures flushed { IfOk result (λ answers. IsFlushed R.stations R.faults [] answers.items self.old self.new) }
-        ensures err { IfErr result (λ fault. HasEnded R.stations R.faults fault self.old self.new) }
-        ensures failed { IsProper D.honest D.reads D.may_leave D.size (durable_of self.old)
+        ensures flushed { IfOk result (λ answers. IsFlushed R.model [] answers.items self.old self.new) }
+        ensures err { IfErr result (λ fault. HasEnded R.model fault self.old self.new) }
+        ensures failed { IsProper D.model (durable_of self.old)
             → IfErr result (λ fault. HasFailedCore fault self.new) }
-        ensures proper { IsProper D.honest D.reads D.may_leave D.size (durable_of self.old)
-            → IsProper D.honest D.reads D.may_leave D.size (durable_of self.new) }
-        ensures any_moment { IsProper D.honest D.reads D.may_leave D.size (durable_of self.old) → (hs : List Happening)
-            → AreUnsettled hs (durable_of self.old).core
-            → LeavesOnly D.moment D.left_since (device_of (durable_of self.old)) (device_of
-            (durable_of self.new))
-            (ShowsFront (durable_of self.old).core.settled (durable_of self.old).core.confs hs) }
-        ensures exact { AreExact R.stations (slots_of self.old) → AreExact R.stations (slots_of self.new) }
-        ensures following { AreFollowing self.old → AreFollowing self.new }
+        ensures safe { StaysSafe D.model R.model (LeavesFront D.model) self.old self.new }
     {
         self.settle()?;
         self.hand_out()

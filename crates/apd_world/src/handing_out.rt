@@ -1,11 +1,6 @@
 //! What is settled is handed out: to each radio into the queue of its slot, and to control; and each out that waits
 //! at a slot is applied.
-ghost use Rattle.std.specs.Prelude.{◌≡◌, ◌≢◌, ◌≤◌, IfErr, IfOk, IsTrue, List, OnErr, OnOk, [], ◌∷◌, false, length};
-ghost use Rattle.apd_disk.specs.Disk.{LeavesOnly};
-ghost use Rattle.apd_mlme.specs.Happening.{Happening};
-ghost use Rattle.apd_world.specs.CoreRun.{AreUnsettled};
-ghost use Rattle.apd_world.specs.Outside.{device_of};
-ghost use Rattle.apd_world.specs.Shown.{ShowsFront};
+ghost use Rattle.std.specs.Prelude.{◌≡◌, ◌≢◌, ◌≤◌, IfErr, IfOk, IsTrue, OnErr, OnOk, [], ◌∷◌, false, length};
 
 use crate::fault::WorldFault;
 use crate::slots::place_of;
@@ -21,11 +16,9 @@ use apd_radio::Radio;
 pub(crate) type Answers = Vec<(Recipient, Told)>;
 
 impl<D: Disk, R: Radio> World<D, R> {
-    ghost use Rattle.apd_world.specs.Following.{AreExact, AreFollowing};
-    ghost use Rattle.apd_world.specs.StepsMade.{AreAllApplied, AreAnswered, SomeAreQuietlyMade};
-    ghost use Rattle.apd_world.specs.Proper.{IsProper};
-    ghost use Rattle.apd_world.specs.WorldParts.{durable_of, queue_of, slots_of};
-    ghost use Rattle.apd_world.specs.Starting.{HasGoneOn, IsHandedOut, IsHanding, OnlyHands, hands, recipient_of};
+    ghost use Rattle.apd_world.specs.StepsMade.{AreAllApplied, AreAnswered, SomeAreQuietlyMade, StaysSafe};
+    ghost use Rattle.apd_world.specs.WorldParts.{durable_of, queue_of};
+    ghost use Rattle.apd_world.specs.Starting.{HasGoneOn, IsHandedOut, IsHanding, LeavesFront, OnlyHands, hands, recipient_of};
     ghost use Rattle.apd_world.specs.WorldRun.{IsWorldStep};
 
     // Makes a step, and adds what it told, for a recipient. Room is made before.
@@ -36,15 +29,10 @@ impl<D: Disk, R: Radio> World<D, R> {
         answers: &mut Answers,
     ) -> Result<(), WorldFault>
         ensures step { OnOk result
-            ((told : Told) × (told ≢ Told.NoMemory) × IsWorldStep R.stations R.faults step.now told self.old self.new) }
-        ensures ok { OnOk result
-            (IsHanding step.now → to ≡ recipient_of step.now
-            → AreAnswered D.honest D.reads D.may_leave D.moment D.left_since D.size R.stations R.faults (step.now
-            ∷ []) answers.old.items answers.new.items self.old self.new) }
-        ensures err { OnErr result
-            (IsHanding step.now
-            → SomeAreQuietlyMade D.honest D.reads D.may_leave D.moment D.left_since D.size R.stations R.faults
-            self.old self.new) }
+            ((told : Told) × (told ≢ Told.NoMemory) × IsWorldStep R.model step.now told self.old self.new) }
+        ensures ok { OnOk result (IsHanding step.now → to ≡ recipient_of step.now
+            → AreAnswered D.model R.model (step.now ∷ []) answers.old.items answers.new.items self.old self.new) }
+        ensures err { OnErr result (IsHanding step.now → SomeAreQuietlyMade D.model R.model self.old self.new) }
         ensures fault { IfErr result (λ fault. fault ≡ WorldFault.NoMemory) }
         ensures only { IsHanding step.now → OnlyHands (durable_of self.old) (durable_of self.new) }
     {
@@ -63,12 +51,9 @@ impl<D: Disk, R: Radio> World<D, R> {
 
     // Hands out to each radio, in the order of the configurations, and then to control.
     fn hand_all(&mut self, confs: &Confs, answers: &mut Answers) -> Result<(), WorldFault>
-        ensures ok { OnOk result
-            (AreAnswered D.honest D.reads D.may_leave D.moment D.left_since D.size R.stations R.faults
+        ensures ok { OnOk result (AreAnswered D.model R.model
             (hands confs.now) answers.old.items answers.new.items self.old self.new) }
-        ensures err { OnErr result
-            (SomeAreQuietlyMade D.honest D.reads D.may_leave D.moment D.left_since D.size R.stations R.faults
-            self.old self.new) }
+        ensures err { OnErr result (SomeAreQuietlyMade D.model R.model self.old self.new) }
         ensures fault { IfErr result (λ fault. fault ≡ WorldFault.NoMemory) }
         ensures only { OnlyHands (durable_of self.old) (durable_of self.new) }
     {
@@ -93,12 +78,9 @@ impl<D: Disk, R: Radio> World<D, R> {
 
     // Applies each out that waits at a slot, in the order of the configurations.
     fn apply_all(&mut self, confs: &Confs, answers: &mut Answers) -> Result<(), WorldFault>
-        ensures ok { OnOk result
-            (AreAllApplied D.honest D.reads D.may_leave D.moment D.left_since D.size R.stations R.faults
+        ensures ok { OnOk result (AreAllApplied D.model R.model
             confs.now answers.old.items answers.new.items self.old self.new) }
-        ensures err { OnErr result
-            (SomeAreQuietlyMade D.honest D.reads D.may_leave D.moment D.left_since D.size R.stations R.faults
-            self.old self.new) }
+        ensures err { OnErr result (SomeAreQuietlyMade D.model R.model self.old self.new) }
         ensures fault { IfErr result (λ fault. fault ≡ WorldFault.NoMemory) }
         ensures only { OnlyHands (durable_of self.old) (durable_of self.new) }
     {
@@ -121,19 +103,11 @@ impl<D: Disk, R: Radio> World<D, R> {
     ///
     /// Errors: `NoMemory`. The steps that were made stand.
     pub fn hand_out(&mut self) -> Result<Vec<(Recipient, Told)>, WorldFault>
-        ensures handed { IfOk result (λ answers. IsHandedOut R.stations R.faults [] answers.items self.old self.new) }
-        ensures err { OnErr result (HasGoneOn R.stations R.faults self.old self.new) }
+        ensures handed { IfOk result (λ answers. IsHandedOut R.model [] answers.items self.old self.new) }
+        ensures err { OnErr result (HasGoneOn R.model self.old self.new) }
         ensures fault { IfErr result (λ fault. fault ≡ WorldFault.NoMemory) }
         ensures only { OnlyHands (durable_of self.old) (durable_of self.new) }
-        ensures proper { IsProper D.honest D.reads D.may_leave D.size (durable_of self.old)
-            → IsProper D.honest D.reads D.may_leave D.size (durable_of self.new) }
-        ensures any_moment { IsProper D.honest D.reads D.may_leave D.size (durable_of self.old) → (hs : List Happening)
-            → AreUnsettled hs (durable_of self.old).core
-            → LeavesOnly D.moment D.left_since (device_of (durable_of self.old)) (device_of
-            (durable_of self.new))
-            (ShowsFront (durable_of self.old).core.settled (durable_of self.old).core.confs hs) }
-        ensures exact { AreExact R.stations (slots_of self.old) → AreExact R.stations (slots_of self.new) }
-        ensures following { AreFollowing self.old → AreFollowing self.new }
+        ensures safe { StaysSafe D.model R.model (LeavesFront D.model) self.old self.new }
     {
         self.durable.stops();
         let Ok(confs) = self.confs().copy(self.alloc) else {

@@ -66,5 +66,5 @@ pub fn a_query_speaks_of_what_was_settled<D: Disk>()
 /// Steps of a world, and then further steps, are one list of steps: what they told is what that list tells, and
 /// what happened by the first happened first.
 pub fn runs_join<D: Disk, R: Radio>()
-    ensures { RunsJoin D R.stations R.faults }
+    ensures { RunsJoin D R.model }
 {}

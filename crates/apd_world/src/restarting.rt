@@ -1,11 +1,10 @@
 //! A world begun anew, from what a device holds: its slots resume by the table.
-ghost use Rattle.std.specs.Prelude.{◌≡◌, ◌≢◌, ◌⊎◌, [], IfOk, IfErr, OnOk};
+ghost use Rattle.std.specs.Prelude.{◌≡◌, ◌≢◌, ◌⊎◌, IfOk, IfErr, OnOk};
 ghost use Rattle.apd_base.specs.declared.address.Bssid.{Bssid as Address};
 ghost use Rattle.apd_slot.specs.declared.slot.SlotFault.{SlotFault as Fault};
 ghost use Rattle.apd_world.specs.BegunAnew.{IsBegunAnew, IsHonestlyBegunAnew, IsHonestlyNotBegunAnew, IsNotBegunAnew};
-ghost use Rattle.apd_world.specs.Following.{AreExact, AreFollowing};
-ghost use Rattle.apd_world.specs.Resumed.{AreOfSame, AreResumed, HasNotResumed};
-ghost use Rattle.apd_world.specs.WorldParts.{durable_of, queue_of, slots_of};
+ghost use Rattle.apd_world.specs.Resumed.{AreOfSame, AreResumed, HasNotResumed, HasResumed};
+ghost use Rattle.apd_world.specs.WorldParts.{durable_of};
 
 use crate::core_restarting::restart_core;
 use crate::fault::WorldFault;
@@ -27,9 +26,9 @@ fn resume_all<R: Radio>(
     table: &Table,
     slots: &mut [Slot<R>],
 ) -> Result<(), (Bssid, SlotFault)>
-    ensures ok { OnOk result (AreResumed R.stations table.now slots.new) }
+    ensures ok { OnOk result (AreResumed R.model table.now slots.new) }
     ensures same { AreOfSame slots.old slots.new }
-    ensures err { IfErr result (λ e. HasNotResumed R.faults e.0 e.1 slots.old slots.new) }
+    ensures err { IfErr result (λ e. HasNotResumed R.model e.0 e.1 slots.old slots.new) }
 {
     for slot in slots.iter_mut() {
         if let Err(fault) = slot.resume(alloc, table) {
@@ -57,26 +56,17 @@ pub fn restart<D: Disk, R: Radio>(
     slots: Vec<Slot<R>>,
     moment: Moment,
 ) -> Result<World<D, R>, (D, Vec<Slot<R>>, WorldFault)>
-    ensures begun { IfOk result
-        (λ world. IsBegunAnew D.size D.failed device confs moment (durable_of world)) }
-    ensures begun_honest { D.honest device
-        → IfOk result (λ world. IsHonestlyBegunAnew D.honest D.reads D.may_leave D.moment D.left_since D.size
+    ensures begun { IfOk result (λ world. IsBegunAnew D.model device confs moment (durable_of world)) }
+    ensures begun_honest { D.model.honest device → IfOk result (λ world. IsHonestlyBegunAnew D.model
         device (durable_of world)) }
-    ensures resumed { IfOk result (λ world. AreResumed R.stations (durable_of world).core.settled (slots_of world)) }
-    ensures exact { IfOk result (λ world. AreExact R.stations (slots_of world)) }
-    ensures following { IfOk result AreFollowing }
-    ensures queues { IfOk result (λ world. (b : Address) → queue_of world b ≡ []) }
-    ensures slots { IfOk result (λ world. AreOfSame slots.items (slots_of world)) }
-    ensures none { IfErr result (λ e. IsNotBegunAnew D.honest D.failed device e.0 e.2) }
-    ensures none_honest { D.honest device
-        → IfErr result
-        (λ e. IsHonestlyNotBegunAnew D.reads D.may_leave D.moment D.left_since device e.0 e.2) }
+    ensures resumed { IfOk result (HasResumed R.model slots.items) }
+    ensures none { IfErr result (λ e. IsNotBegunAnew D.model device e.0 e.2) }
+    ensures none_honest { D.model.honest device → IfErr result (λ e. IsHonestlyNotBegunAnew D.model device e.0 e.2) }
     ensures only { IfErr result
         (λ e. (e.2 ≡ WorldFault.Store StoreFault.NotAStore) ⊎ (e.2 ≡ WorldFault.Store StoreFault.Damaged)
         ⊎ (e.2 ≡ WorldFault.Store StoreFault.Device) ⊎ (e.2 ≡ WorldFault.Store StoreFault.NoMemory)
-        ⊎ (e.2 ≡ WorldFault.NoMemory)
-        ⊎ ((b : Address) × (fault : Fault) × (e.2 ≡ WorldFault.Slot b fault)
-        × HasNotResumed R.faults b fault slots.items e.1.items)) }
+        ⊎ (e.2 ≡ WorldFault.NoMemory) ⊎ ((b : Address) × (fault : Fault) × (e.2 ≡ WorldFault.Slot b fault)
+        × HasNotResumed R.model b fault slots.items e.1.items)) }
     ensures still_slots { IfErr result (λ e. ((b : Address) (fault : Fault) → e.2 ≢ WorldFault.Slot b fault)
         → e.1.items ≡ slots.items) }
     ensures slots_err { IfErr result (λ e. AreOfSame slots.items e.1.items) }

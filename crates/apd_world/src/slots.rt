@@ -1,9 +1,7 @@
 //! Slots and their queues: where a BSSID's are, and what goes in and out of them.
-ghost use Rattle.std.specs.Prelude.{◌≡◌, ◌<◌, ◌≤◌, ◌+◌, ℕ, Option, OnOk, Err, length, map};
-ghost use Rattle.apd_base.specs.Failures.{HasRisen};
+ghost use Rattle.std.specs.Prelude.{◌≡◌, ◌<◌, ℕ, Option, OnOk, length, map};
 ghost use Rattle.apd_world.specs.Applying.{AppliesFirst};
-ghost use Rattle.apd_world.specs.Outside.{device_of};
-ghost use Rattle.apd_world.specs.Proper.{IsSafe};
+ghost use Rattle.apd_world.specs.StepMade.{IsStepMade};
 ghost use Rattle.apd_world.specs.WorldParts.{slot_place, queue_in};
 ghost use Rattle.apd_world.specs.Queueing.{QueuesReady};
 
@@ -14,7 +12,6 @@ use apd_disk::Disk;
 use apd_mlme::{Out, Recipient};
 use apd_radio::Radio;
 use apd_slot::{Slot, SlotFault};
-use apd_store::StoreFault;
 use std::alloc::{AllocError, Global};
 use std::collections::VecDeque;
 
@@ -51,12 +48,7 @@ pub(crate) fn hand_to<D: Disk>(
     bssid: Bssid,
 ) -> Told
     ensures queues { QueuesReady bssid result durable.old durable.new queue.old.items queue.new.items }
-    ensures safe { IsSafe D.honest D.reads D.may_leave D.moment D.left_since D.size durable.old durable.new }
-    ensures one_call { D.honest (device_of durable.old)
-        → D.moment (device_of durable.new) ≤ D.moment (device_of durable.old) + 1 }
-    ensures count { D.failed (device_of durable.old) ≤ D.failed (device_of durable.new) }
-    ensures fault { result ≡ Told.Called (Err StoreFault.Device)
-        → HasRisen (D.failed (device_of durable.old)) (D.failed (device_of durable.new)) }
+    ensures made { IsStepMade D.model result durable.old durable.new }
 {
     durable.stops();
     let to = Recipient::Radio(bssid);
@@ -75,7 +67,7 @@ pub(crate) fn hand_to<D: Disk>(
 
 /// Applies the first out of a queue at a slot. It stays first where memory ran out.
 pub(crate) fn apply_first<R: Radio>(slot: &mut Slot<R>, queue: &mut VecDeque<Out>) -> Told
-    ensures { AppliesFirst R.stations R.faults result slot.old slot.new queue.old.items queue.new.items }
+    ensures { AppliesFirst R.model result slot.old slot.new queue.old.items queue.new.items }
 {
     let Some(out) = queue.front() else {
         return Told::Nothing;

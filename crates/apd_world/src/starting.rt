@@ -1,7 +1,5 @@
 //! A world started: its interfaces are configured, and what that brings about is committed, handed out and applied.
-ghost use Rattle.std.specs.Prelude.{◌≡◌, IfErr, IfOk, List, OnErr, OnOk};
-ghost use Rattle.apd_mlme.specs.Happening.{Happening};
-ghost use Rattle.apd_world.specs.CoreRun.{AreUnsettled};
+ghost use Rattle.std.specs.Prelude.{◌≡◌, IfErr, IfOk, OnErr, OnOk};
 
 use crate::fault::WorldFault;
 use crate::step::{Step, Told};
@@ -13,20 +11,15 @@ use apd_mlme::Recipient;
 use apd_radio::Radio;
 
 impl<D: Disk, R: Radio> World<D, R> {
-    ghost use Rattle.apd_world.specs.Following.{AreExact, AreFollowing};
-    ghost use Rattle.apd_world.specs.StepsMade.{AreAccepted, SomeAreSafelyMade};
+    ghost use Rattle.apd_world.specs.StepsMade.{AreAccepted, SomeAreSafelyMade, StaysSafe};
     ghost use Rattle.apd_world.specs.Proper.{IsProper};
-    ghost use Rattle.apd_world.specs.WorldParts.{durable_of, slots_of};
+    ghost use Rattle.apd_world.specs.WorldParts.{durable_of};
     ghost use Rattle.apd_world.specs.Starting.{HasEnded, HasFailedCore, IsStarted, LeavesFronts};
 
     // Accepts each interface's configuration, with its lists, in order. One that is no entry is passed over.
     fn configure(&mut self) -> Result<(), WorldFault>
-        ensures ok { OnOk result
-            (AreAccepted D.honest D.reads D.may_leave D.moment D.left_since D.size R.stations R.faults
-            (durable_of self.old).core.confs self.old self.new) }
-        ensures err { OnErr result
-            (SomeAreSafelyMade D.honest D.reads D.may_leave D.moment D.left_since D.size R.stations R.faults
-            self.old self.new) }
+        ensures ok { OnOk result (AreAccepted D.model R.model (durable_of self.old).core.confs self.old self.new) }
+        ensures err { OnErr result (SomeAreSafelyMade D.model R.model self.old self.new) }
         ensures fault { IfErr result (λ fault. fault ≡ WorldFault.NoMemory) }
     {
         self.durable.stops();
@@ -53,17 +46,11 @@ impl<D: Disk, R: Radio> World<D, R> {
     /// Errors: `Store` where the store refuses, with the fault that a step told, and with `Failed` where the core has
     /// failed or a round settled nothing; `NoMemory`. The steps that were made stand.
     pub fn start(&mut self) -> Result<Vec<(Recipient, Told)>, WorldFault>
-        ensures started { IfOk result (λ answers. IsStarted R.stations R.faults answers.items self.old self.new) }
-        ensures err { IfErr result (λ fault. HasEnded R.stations R.faults fault self.old self.new) }
-        ensures failed { IsProper D.honest D.reads D.may_leave D.size (durable_of self.old)
+        ensures started { IfOk result (λ answers. IsStarted R.model answers.items self.old self.new) }
+        ensures err { IfErr result (λ fault. HasEnded R.model fault self.old self.new) }
+        ensures failed { IsProper D.model (durable_of self.old)
             → IfErr result (λ fault. HasFailedCore fault self.new) }
-        ensures proper { IsProper D.honest D.reads D.may_leave D.size (durable_of self.old)
-            → IsProper D.honest D.reads D.may_leave D.size (durable_of self.new) }
-        ensures any_moment { IsProper D.honest D.reads D.may_leave D.size (durable_of self.old) → (hs : List Happening)
-            → AreUnsettled hs (durable_of self.old).core
-            → LeavesFronts D.moment D.left_since R.stations R.faults hs self.old self.new }
-        ensures exact { AreExact R.stations (slots_of self.old) → AreExact R.stations (slots_of self.new) }
-        ensures following { AreFollowing self.old → AreFollowing self.new }
+        ensures safe { StaysSafe D.model R.model (LeavesFronts D.model R.model) self.old self.new }
     {
         self.configure()?;
         self.flush()

@@ -1,6 +1,5 @@
 //! The steps of a durable core.
-ghost use Rattle.std.specs.Prelude.{◌≡◌, ◌⊎◌, ◌+◌, ◌≤◌, ℕ, List, None, IfOk, IfSome, IfNone, OnErr, OnSome, IsNone, IsSome, Err, take};
-ghost use Rattle.apd_base.specs.Failures.{HasRisen};
+ghost use Rattle.std.specs.Prelude.{◌≡◌, ◌⊎◌, ℕ, List, None, IfOk, IfSome, IfNone, OnErr, OnSome, IsNone, IsSome, Err, take};
 ghost use Rattle.apd_base.specs.State.{State};
 ghost use Rattle.apd_mlme.specs.Happening.{Happening};
 ghost use Rattle.apd_mlme.specs.Run.{run};
@@ -37,14 +36,15 @@ fn reception(answer: Accepted<'_>) -> Reception
 impl<D: Disk> DurableCore<D> {
     ghost use Rattle.apd_world.specs.Proper.{IsProper, IsSafe};
     ghost use Rattle.apd_world.specs.Run.{IsStep};
+    ghost use Rattle.apd_world.specs.StepMade.{IsStepMade};
     ghost use Rattle.apd_world.specs.Shown.{ShowsEither, ShowsFlight};
     ghost use Rattle.apd_world.specs.Telling.{CanTake, HasNoBatch, HasNoReceipt, IsNext, IsNextReceipt, after_call};
     ghost use Rattle.apd_world.specs.Outside.{device_of};
 
     // What a stop now shows of a proper durable core. It does nothing.
     pub(crate) fn stops(&self)
-        ensures { IsProper D.honest D.reads D.may_leave D.size self.now → (image : List ℕ)
-            → D.left_since (device_of self.now) (D.moment (device_of self.now)) image
+        ensures { IsProper D.model self.now → (image : List ℕ)
+            → D.model.left_since (device_of self.now) (D.model.moment (device_of self.now)) image
             → ShowsEither self.now.core image }
     {
         self.flusher.shown();
@@ -54,12 +54,12 @@ impl<D: Disk> DurableCore<D> {
     /// what is not settled, or after the batch in flight; from the last call of a batch on, if that
     /// succeeded, until it is published, after that batch. It does nothing.
     pub fn shown(&self)
-        ensures now { IsProper D.honest D.reads D.may_leave D.size self.now → (hs : List Happening)
-            → AreUnsettled hs self.now.core → (image : List ℕ) → D.may_leave (device_of self.now) image
+        ensures now { IsProper D.model self.now → (hs : List Happening)
+            → AreUnsettled hs self.now.core → (image : List ℕ) → D.model.may_leave (device_of self.now) image
             → ShowsFlight self.now.core hs image }
-        ensures durable { IsProper D.honest D.reads D.may_leave D.size self.now → (hs : List Happening)
+        ensures durable { IsProper D.model self.now → (hs : List Happening)
             → AreUnsettled hs self.now.core → (phase_of self.now.flusher ≡ Phase.Done) ⊎ IsSome self.now.receipt
-            → (image : List ℕ) → D.may_leave (device_of self.now) image
+            → (image : List ℕ) → D.model.may_leave (device_of self.now) image
             → Shows image (run self.now.core.settled self.now.core.confs (take self.now.core.flight hs)) }
     {
         self.flusher.shown();
@@ -67,7 +67,7 @@ impl<D: Disk> DurableCore<D> {
 
     fn accept(&mut self, input: Input<'_>, moment: Moment) -> Told
         ensures step { IsStep (Accept input.entry moment) result self.old self.new }
-        ensures safe { IsSafe D.honest D.reads D.may_leave D.moment D.left_since D.size self.old self.new }
+        ensures safe { IsSafe D.model self.old self.new }
         ensures device { device_of self.new ≡ device_of self.old }
     {
         self.stops();
@@ -95,7 +95,7 @@ impl<D: Disk> DurableCore<D> {
 
     fn take(&mut self) -> Told
         ensures step { IsStep Take result self.old self.new }
-        ensures safe { IsSafe D.honest D.reads D.may_leave D.moment D.left_since D.size self.old self.new }
+        ensures safe { IsSafe D.model self.old self.new }
         ensures device { device_of self.new ≡ device_of self.old }
     {
         self.stops();
@@ -125,12 +125,7 @@ impl<D: Disk> DurableCore<D> {
 
     fn call(&mut self) -> Told
         ensures step { IsStep Call result self.old self.new }
-        ensures safe { IsSafe D.honest D.reads D.may_leave D.moment D.left_since D.size self.old self.new }
-        ensures one_call { D.honest (device_of self.old)
-            → D.moment (device_of self.new) ≤ D.moment (device_of self.old) + 1 }
-        ensures count { D.failed (device_of self.old) ≤ D.failed (device_of self.new) }
-        ensures fault { result ≡ Told.Called (Err StoreFault.Device)
-            → HasRisen (D.failed (device_of self.old)) (D.failed (device_of self.new)) }
+        ensures made { IsStepMade D.model result self.old self.new }
     {
         self.stops();
         match self.flusher.phase() {
@@ -152,10 +147,10 @@ impl<D: Disk> DurableCore<D> {
         ensures only { self.new ≡ record self.old { flusher = self.new.flusher; receipt = None } }
         ensures none { IsNone result → HasNoReceipt self.old × (self.new ≡ self.old) }
         ensures device { device_of self.new ≡ device_of self.old }
-        ensures inside { IsInside D.size self.old.flusher → IsInside D.size self.new.flusher }
+        ensures inside { IsInside D.model self.old.flusher → IsInside D.model self.new.flusher }
         ensures durable { (state after : State) → self.old.receipt ≡ None
-            → IsFlushing D.reads D.may_leave self.old.flusher state after
-            → OnSome result (IsSteady D.reads D.may_leave self.new.flusher after) }
+            → IsFlushing D.model self.old.flusher state after
+            → OnSome result (IsSteady D.model self.new.flusher after) }
     {
         match self.receipt.take() {
             Some(receipt) => Some(receipt),
@@ -165,7 +160,7 @@ impl<D: Disk> DurableCore<D> {
 
     fn publish(&mut self) -> Told
         ensures step { IsStep Publish result self.old self.new }
-        ensures safe { IsSafe D.honest D.reads D.may_leave D.moment D.left_since D.size self.old self.new }
+        ensures safe { IsSafe D.model self.old self.new }
         ensures device { device_of self.new ≡ device_of self.old }
     {
         self.stops();
@@ -184,7 +179,7 @@ impl<D: Disk> DurableCore<D> {
 
     fn hand(&mut self, to: Recipient) -> Told
         ensures step { IsStep (Hand to) result self.old self.new }
-        ensures safe { IsSafe D.honest D.reads D.may_leave D.moment D.left_since D.size self.old self.new }
+        ensures safe { IsSafe D.model self.old self.new }
         ensures device { device_of self.new ≡ device_of self.old }
     {
         self.stops();
@@ -197,7 +192,7 @@ impl<D: Disk> DurableCore<D> {
 
     fn ask(&mut self, query: Query) -> Told
         ensures step { IsStep (Ask query) result self.old self.new }
-        ensures safe { IsSafe D.honest D.reads D.may_leave D.moment D.left_since D.size self.old self.new }
+        ensures safe { IsSafe D.model self.old self.new }
         ensures device { device_of self.new ≡ device_of self.old }
     {
         self.stops();
@@ -213,7 +208,7 @@ impl<D: Disk> DurableCore<D> {
     // The outs of a radio wait at its slot, beside this.
     fn apply(&mut self, bssid: Bssid) -> Told
         ensures step { IsStep (Apply bssid) result self.old self.new }
-        ensures safe { IsSafe D.honest D.reads D.may_leave D.moment D.left_since D.size self.old self.new }
+        ensures safe { IsSafe D.model self.old self.new }
         ensures device { device_of self.new ≡ device_of self.old }
     {
         self.stops();
@@ -226,12 +221,7 @@ impl<D: Disk> DurableCore<D> {
     /// device at most.
     pub fn step(&mut self, step: &Step<'_>) -> Told
         ensures step { IsStep step.now result self.old self.new }
-        ensures safe { IsSafe D.honest D.reads D.may_leave D.moment D.left_since D.size self.old self.new }
-        ensures one_call { D.honest (device_of self.old)
-            → D.moment (device_of self.new) ≤ D.moment (device_of self.old) + 1 }
-        ensures count { D.failed (device_of self.old) ≤ D.failed (device_of self.new) }
-        ensures fault { result ≡ Told.Called (Err StoreFault.Device)
-            → HasRisen (D.failed (device_of self.old)) (D.failed (device_of self.new)) }
+        ensures made { IsStepMade D.model result self.old self.new }
     {
         match *step {
             Step::Accept(input, moment) => self.accept(input, moment),

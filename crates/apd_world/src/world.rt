@@ -47,10 +47,9 @@ impl<D: Disk, R: Radio> World<D, R> {
         ensures told { (durable_of result).told ≡ 0 }
         ensures slots { slots_of result ≡ slots.items }
         ensures queues { (b : Address) → queue_of result b ≡ [] }
-        ensures proper { IsUnused core → D.honest (device_in flusher) → IsInside D.size flusher
-            → IsSteady D.reads D.may_leave flusher core.settled
-            → IsProper D.honest D.reads D.may_leave D.size (durable_of result) }
-        ensures following { IsUnused core → AreResumed R.stations core.settled slots.items → AreFollowing result }
+        ensures proper { IsUnused core → D.model.honest (device_in flusher) → IsInside D.model flusher
+            → IsSteady D.model flusher core.settled → IsProper D.model (durable_of result) }
+        ensures following { IsUnused core → AreResumed R.model core.settled slots.items → AreFollowing result }
     {
         World {
             alloc,
@@ -78,8 +77,7 @@ impl<D: Disk, R: Radio> World<D, R> {
     /// settled, or after the batch in flight; from the last call of a batch on, if that succeeded, until it is
     /// published, after that batch. It does nothing.
     pub fn shown(&self)
-        ensures { IsProper D.honest D.reads D.may_leave D.size (durable_of self.now)
-            → IsShown D.may_leave (durable_of self.now) }
+        ensures { IsProper D.model (durable_of self.now) → IsShown D.model (durable_of self.now) }
     {
         self.durable.shown();
     }

@@ -1,6 +1,4 @@
 //! The steps of a world.
-ghost use Rattle.std.specs.Prelude.{◌≡◌, ◌+◌, ◌≤◌, Err};
-ghost use Rattle.apd_base.specs.Failures.{HasRisen};
 ghost use Rattle.apd_world.specs.declared.step.Step.TheVariants.{Hand, Apply};
 ghost use Rattle.apd_mlme.specs.declared.decision.Recipient.TheVariants.{Radio as Of};
 
@@ -11,26 +9,19 @@ use apd_base::Bssid;
 use apd_disk::Disk;
 use apd_mlme::Recipient;
 use apd_radio::Radio;
-use apd_store::StoreFault;
 
 impl<D: Disk, R: Radio> World<D, R> {
     ghost use Rattle.apd_world.specs.Following.{AreExact, AreFollowing};
-    ghost use Rattle.apd_world.specs.Outside.{device_of};
-    ghost use Rattle.apd_world.specs.Proper.{IsProper, IsSafe};
+    ghost use Rattle.apd_world.specs.Proper.{IsProper};
     ghost use Rattle.apd_world.specs.Recovery.{LosesNothing};
+    ghost use Rattle.apd_world.specs.StepMade.{IsStepMade};
     ghost use Rattle.apd_world.specs.WorldParts.{durable_of, slots_of};
     ghost use Rattle.apd_world.specs.WorldRun.{IsWorldStep};
 
     // Hands what is ready for a radio to the queue of its slot, if it has one.
     fn queue_ready(&mut self, bssid: Bssid) -> Told
-        ensures step { IsWorldStep R.stations R.faults (Hand (Of bssid)) result self.old self.new }
-        ensures safe { IsSafe D.honest D.reads D.may_leave D.moment D.left_since D.size (durable_of self.old)
-            (durable_of self.new) }
-        ensures one_call { D.honest (device_of (durable_of self.old))
-            → D.moment (device_of (durable_of self.new)) ≤ D.moment (device_of (durable_of self.old)) + 1 }
-        ensures count { D.failed (device_of (durable_of self.old)) ≤ D.failed (device_of (durable_of self.new)) }
-        ensures fault { result ≡ Told.Called (Err StoreFault.Device)
-            → HasRisen (D.failed (device_of (durable_of self.old))) (D.failed (device_of (durable_of self.new))) }
+        ensures step { IsWorldStep R.model (Hand (Of bssid)) result self.old self.new }
+        ensures made { IsStepMade D.model result (durable_of self.old) (durable_of self.new) }
     {
         self.durable.stops();
         let Some(place) = place_of(&self.slots, bssid) else {
@@ -44,14 +35,8 @@ impl<D: Disk, R: Radio> World<D, R> {
 
     // Hands out what is ready for a recipient: to control itself, to a radio into the queue of its slot.
     fn hand(&mut self, to: Recipient) -> Told
-        ensures step { IsWorldStep R.stations R.faults (Hand to) result self.old self.new }
-        ensures safe { IsSafe D.honest D.reads D.may_leave D.moment D.left_since D.size (durable_of self.old)
-            (durable_of self.new) }
-        ensures one_call { D.honest (device_of (durable_of self.old))
-            → D.moment (device_of (durable_of self.new)) ≤ D.moment (device_of (durable_of self.old)) + 1 }
-        ensures count { D.failed (device_of (durable_of self.old)) ≤ D.failed (device_of (durable_of self.new)) }
-        ensures fault { result ≡ Told.Called (Err StoreFault.Device)
-            → HasRisen (D.failed (device_of (durable_of self.old))) (D.failed (device_of (durable_of self.new))) }
+        ensures step { IsWorldStep R.model (Hand to) result self.old self.new }
+        ensures made { IsStepMade D.model result (durable_of self.old) (durable_of self.new) }
     {
         match to {
             Recipient::Radio(bssid) => self.queue_ready(bssid),
@@ -61,14 +46,8 @@ impl<D: Disk, R: Radio> World<D, R> {
 
     // Applies the first out of a BSSID's queue at its slot.
     fn apply(&mut self, bssid: Bssid) -> Told
-        ensures step { IsWorldStep R.stations R.faults (Apply bssid) result self.old self.new }
-        ensures safe { IsSafe D.honest D.reads D.may_leave D.moment D.left_since D.size (durable_of self.old)
-            (durable_of self.new) }
-        ensures one_call { D.honest (device_of (durable_of self.old))
-            → D.moment (device_of (durable_of self.new)) ≤ D.moment (device_of (durable_of self.old)) + 1 }
-        ensures count { D.failed (device_of (durable_of self.old)) ≤ D.failed (device_of (durable_of self.new)) }
-        ensures fault { result ≡ Told.Called (Err StoreFault.Device)
-            → HasRisen (D.failed (device_of (durable_of self.old))) (D.failed (device_of (durable_of self.new))) }
+        ensures step { IsWorldStep R.model (Apply bssid) result self.old self.new }
+        ensures made { IsStepMade D.model result (durable_of self.old) (durable_of self.new) }
     {
         self.durable.stops();
         let Some(place) = place_of(&self.slots, bssid) else {
@@ -86,18 +65,12 @@ impl<D: Disk, R: Radio> World<D, R> {
     /// Whatever steps came before, a stop at any moment until this one is done leaves an image of the table after a
     /// front of what happened, and every entry that was spoken of by then is in that front (own).
     pub fn step(&mut self, step: &Step<'_>) -> Told
-        ensures step { IsWorldStep R.stations R.faults step.now result self.old self.new }
-        ensures safe { IsSafe D.honest D.reads D.may_leave D.moment D.left_since D.size (durable_of self.old)
-            (durable_of self.new) }
-        ensures one_call { D.honest (device_of (durable_of self.old))
-            → D.moment (device_of (durable_of self.new)) ≤ D.moment (device_of (durable_of self.old)) + 1 }
-        ensures count { D.failed (device_of (durable_of self.old)) ≤ D.failed (device_of (durable_of self.new)) }
-        ensures fault { result ≡ Told.Called (Err StoreFault.Device)
-            → HasRisen (D.failed (device_of (durable_of self.old))) (D.failed (device_of (durable_of self.new))) }
-        ensures exact { AreExact R.stations (slots_of self.old) → AreExact R.stations (slots_of self.new) }
+        ensures step { IsWorldStep R.model step.now result self.old self.new }
+        ensures made { IsStepMade D.model result (durable_of self.old) (durable_of self.new) }
+        ensures exact { AreExact R.model (slots_of self.old) → AreExact R.model (slots_of self.new) }
         ensures following { AreFollowing self.old → AreFollowing self.new }
-        ensures nothing_is_lost { IsProper D.honest D.reads D.may_leave D.size (durable_of self.old)
-            → LosesNothing R.stations R.faults D.moment D.left_since self.old self.new }
+        ensures nothing_is_lost { IsProper D.model (durable_of self.old)
+            → LosesNothing D.model R.model self.old self.new }
     {
         match *step {
             Step::Hand(to) => self.hand(to),

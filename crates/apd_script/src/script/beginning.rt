@@ -24,10 +24,8 @@ pub fn begun<D: Disk + Drop, R: Radio>(
     slots: Vec<Slot<R>>,
     moment: Moment,
 ) -> Result<World<D, R>, ScriptFault>
-    ensures ok { IfOk result
-        (λ world. map bssid_of slots.items ≡ map (λ conf. conf.bssid) confs
-        → IsBegunFrom D.honest D.reads D.may_leave D.moment D.left_since D.size R.stations R.faults
-        moment device confs world) }
+    ensures ok { IfOk result (λ world. map bssid_of slots.items ≡ map (λ conf. conf.bssid) confs
+        → IsBegunFrom D.model R.model moment device confs world) }
     ensures err { IfErr result IsNoBadLine }
 {
     match restart(alloc, device, confs, slots, moment) {

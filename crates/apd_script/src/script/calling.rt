@@ -16,33 +16,28 @@ impl<D: Disk + Drop, R: Radio> Standing<D, R> {
 
     /// Makes a step.
     pub fn make(&mut self, step: &Step<'_>) -> Told
-        ensures { Makes D.honest D.reads D.may_leave D.moment D.left_since D.size R.stations R.faults
-            step.now result self.old self.new }
+        ensures { Makes D.model R.model step.now result self.old self.new }
     {
         self.world.step(step)
     }
 
     /// Hands out what is settled.
     pub fn hand_out(&mut self) -> Result<Answers, WorldFault>
-        ensures { OnOk result
-            (HandsOut D.honest D.reads D.may_leave D.moment D.left_since D.size R.stations R.faults self.old self.new) }
+        ensures { OnOk result (HandsOut D.model R.model self.old self.new) }
     {
         self.world.hand_out()
     }
 
     /// Commits until nothing is unsettled, and hands out: where no refusal was met.
     pub fn flush(&mut self) -> Result<Answers, WorldFault>
-        ensures { self.old.refusal ≡ None
-            → OnOk result (Flushes D.honest D.reads D.may_leave D.moment D.left_since D.size R.stations R.faults
-            self.old self.new) }
+        ensures { self.old.refusal ≡ None → OnOk result (Flushes D.model R.model self.old self.new) }
     {
         self.world.flush()
     }
 
     /// Starts the interfaces.
     pub fn start(&mut self) -> Result<Answers, WorldFault>
-        ensures { OnOk result
-            (Starts D.honest D.reads D.may_leave D.moment D.left_since D.size R.stations R.faults self.old self.new) }
+        ensures { OnOk result (Starts D.model R.model self.old self.new) }
     {
         self.world.start()
     }

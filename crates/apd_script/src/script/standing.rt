@@ -99,9 +99,7 @@ impl<D: Disk + Drop, R: Radio> Standing<D, R> {
 
     /// Makes a step, which may not lack memory.
     fn made(&mut self, step: &Step<'_>) -> Result<Told, ScriptFault>
-        ensures ok { OnOk result
-            (IsMade D.honest D.reads D.may_leave D.moment D.left_since D.size R.stations R.faults
-            step.now self.old self.new) }
+        ensures ok { OnOk result (IsMade D.model R.model step.now self.old self.new) }
         ensures err { IfErr result IsNoBadLine }
     {
         match self.make(step) {
@@ -112,8 +110,7 @@ impl<D: Disk + Drop, R: Radio> Standing<D, R> {
 
     /// Makes a step of a batch. What it tells is printed nowhere, and the first refusal is kept.
     fn attempted(&mut self, step: &Step<'_>)
-        ensures { IsTried D.honest D.reads D.may_leave D.moment D.left_since D.size R.stations R.faults
-            step.now self.old self.new }
+        ensures { IsTried D.model R.model step.now self.old self.new }
     {
         let told = self.make(step);
         self.refusal = self.refusal.or(refused(&told));
@@ -132,8 +129,7 @@ impl<D: Disk + Drop, R: Radio> Standing<D, R> {
 
     /// Starts the interfaces, and prints what was handed out.
     fn started<W: Write>(&mut self, writer: &mut W) -> Result<(), ScriptFault>
-        ensures ok { OnOk result
-            (Starts D.honest D.reads D.may_leave D.moment D.left_since D.size R.stations R.faults self.old self.new) }
+        ensures ok { OnOk result (Starts D.model R.model self.old self.new) }
         ensures err { IfErr result IsNoBadLine }
     {
         let answers = self.start()?;
@@ -142,8 +138,7 @@ impl<D: Disk + Drop, R: Radio> Standing<D, R> {
 
     /// Starts the interfaces of a script, or gives it up.
     pub fn gone_on<W: Write>(self, writer: &mut W) -> Result<Standing<D, R>, ScriptFault>
-        ensures ok { IfOk result
-            (λ new. Starts D.honest D.reads D.may_leave D.moment D.left_since D.size R.stations R.faults self new) }
+        ensures ok { IfOk result (λ new. Starts D.model R.model self new) }
         ensures err { IfErr result IsNoBadLine }
     {
         let mut standing = self;
@@ -153,8 +148,7 @@ impl<D: Disk + Drop, R: Radio> Standing<D, R> {
 
     /// Hands out what is settled, and prints it.
     fn handed_out<W: Write>(&mut self, writer: &mut W) -> Result<(), ScriptFault>
-        ensures ok { OnOk result
-            (HandsOut D.honest D.reads D.may_leave D.moment D.left_since D.size R.stations R.faults self.old self.new) }
+        ensures ok { OnOk result (HandsOut D.model R.model self.old self.new) }
         ensures err { IfErr result IsNoBadLine }
     {
         let answers = self.hand_out()?;
@@ -163,8 +157,7 @@ impl<D: Disk + Drop, R: Radio> Standing<D, R> {
 
     /// Commits until nothing is unsettled, hands out and prints that; or tells the first refusal.
     fn flushed<W: Write>(&mut self, writer: &mut W) -> Result<(), ScriptFault>
-        ensures ok { OnOk result
-            (Flushes D.honest D.reads D.may_leave D.moment D.left_since D.size R.stations R.faults self.old self.new) }
+        ensures ok { OnOk result (Flushes D.model R.model self.old self.new) }
         ensures refused { IfSome self.old.refusal (λ fault. result ≡ Err (ScriptFault.World (WorldFault.Store fault))) }
         ensures err { IfErr result IsNoBadLine }
     {
@@ -184,9 +177,7 @@ impl<D: Disk + Drop, R: Radio> Standing<D, R> {
 
     /// Accepts a request at the moment, and prints the answer.
     fn requested<W: Write>(&mut self, writer: &mut W, input: Input<'_>) -> Result<(), ScriptFault>
-        ensures ok { OnOk result
-            (IsMade D.honest D.reads D.may_leave D.moment D.left_since D.size R.stations R.faults
-            (Accept input.entry self.old.moment) self.old self.new) }
+        ensures ok { OnOk result (IsMade D.model R.model (Accept input.entry self.old.moment) self.old self.new) }
         ensures err { IfErr result IsNoBadLine }
     {
         let step = Step::Accept(input, self.moment);
@@ -202,9 +193,7 @@ impl<D: Disk + Drop, R: Radio> Standing<D, R> {
         interface: &[u8],
         frame: &[u8],
     ) -> Result<(), ScriptFault>
-        ensures ok { OnOk result
-            (IsReceived D.honest D.reads D.may_leave D.moment D.left_since D.size R.stations R.faults
-            interface.now frame.now self.old self.new) }
+        ensures ok { OnOk result (IsReceived D.model R.model interface.now frame.now self.old self.new) }
         ensures err { IfErr result (IsSaidFault number (Received interface.now frame.now) self.old) }
     {
         let Some(conf) = self.world.confs().with_interface(interface) else {
@@ -233,9 +222,7 @@ impl<D: Disk + Drop, R: Radio> Standing<D, R> {
         tag: u64,
         step: &Step<'_>,
     ) -> Result<(), ScriptFault>
-        ensures ok { OnOk result
-            (IsMade D.honest D.reads D.may_leave D.moment D.left_since D.size R.stations R.faults
-            step.now self.old self.new) }
+        ensures ok { OnOk result (IsMade D.model R.model step.now self.old self.new) }
         ensures err { IfErr result IsNoBadLine }
     {
         let told = self.made(step)?;
@@ -256,9 +243,7 @@ impl<D: Disk + Drop, R: Radio> Standing<D, R> {
         tag: u64,
         what: Placed,
     ) -> Result<(), ScriptFault>
-        ensures ok { OnOk result
-            (IsPlaced D.honest D.reads D.may_leave D.moment D.left_since D.size R.stations R.faults
-            (placing what) self.old self.new) }
+        ensures ok { OnOk result (IsPlaced D.model R.model (placing what) self.old self.new) }
         ensures err { IfErr result IsNoBadLine }
     {
         match what {
@@ -281,8 +266,7 @@ impl<D: Disk + Drop, R: Radio> Standing<D, R> {
         interface: Option<&[u8]>,
         command: Command,
     ) -> Result<(), ScriptFault>
-        ensures ok { OnOk result
-            (IsMeant D.honest D.reads D.may_leave D.moment D.left_since D.size R.stations R.faults tag command
+        ensures ok { OnOk result (IsMeant D.model R.model tag command
             (conf_meant (confs_of self.old) (option_copied interface.entry)) self.old self.new) }
         ensures err { IfErr result IsNoBadLine }
     {
@@ -301,9 +285,7 @@ impl<D: Disk + Drop, R: Radio> Standing<D, R> {
         tag: u64,
         text: &[u8],
     ) -> Result<(), ScriptFault>
-        ensures ok { OnOk result
-            (IsCarriedOut D.honest D.reads D.may_leave D.moment D.left_since D.size R.stations R.faults tag
-            (command_outcome text.now) self.old self.new) }
+        ensures ok { OnOk result (IsCarriedOut D.model R.model tag (command_outcome text.now) self.old self.new) }
         ensures err { IfErr result IsNoBadLine }
     {
         match parse_command(text) {
@@ -315,9 +297,7 @@ impl<D: Disk + Drop, R: Radio> Standing<D, R> {
 
     /// It is this moment from now on.
     fn ticked<W: Write>(&mut self, writer: &mut W, moment: Moment) -> Result<(), ScriptFault>
-        ensures ok { OnOk result
-            (IsRequested D.honest D.reads D.may_leave D.moment D.left_since D.size R.stations R.faults None
-            (record self.old { moment = moment }) self.new) }
+        ensures ok { OnOk result (IsRequested D.model R.model None (record self.old { moment = moment }) self.new) }
         ensures err { IfErr result IsNoBadLine }
     {
         self.moment = moment;
@@ -331,8 +311,7 @@ impl<D: Disk + Drop, R: Radio> Standing<D, R> {
         number: u64,
         line: &Line<'_>,
     ) -> Result<(), ScriptFault>
-        ensures ok { line.now ≢ Line.Stop → OnOk result
-            (IsRun D.honest D.reads D.may_leave D.moment D.left_since D.size R.stations R.faults number
+        ensures ok { line.now ≢ Line.Stop → OnOk result (IsRun D.model R.model number
             (said line.now) self.old self.new) }
         ensures err { IfErr result (IsSaidFault number (said line.now) self.old) }
     {
@@ -359,9 +338,7 @@ impl<D: Disk + Drop, R: Radio> Standing<D, R> {
         number: u64,
         line: &Line<'_>,
     ) -> Result<Standing<D, R>, ScriptFault>
-        ensures ok { IfOk result
-            (λ new. IsRun D.honest D.reads D.may_leave D.moment D.left_since D.size R.stations R.faults number
-            (said line.now) self new) }
+        ensures ok { IfOk result (λ new. IsRun D.model R.model number (said line.now) self new) }
         ensures err { IfErr result (IsSaidFault number (said line.now) self) }
     {
         match line {
@@ -392,9 +369,7 @@ impl<D: Disk + Drop, R: Radio> Standing<D, R> {
         number: u64,
         text: &[u8],
     ) -> Result<Standing<D, R>, ScriptFault>
-        ensures ok { IfOk result
-            (λ new. SaysAndIsRun D.honest D.reads D.may_leave D.moment D.left_since D.size R.stations R.faults
-            number text.now self new) }
+        ensures ok { IfOk result (λ new. SaysAndIsRun D.model R.model number text.now self new) }
         ensures err { IfErr result (IsLineFault number text.now self) }
     {
         exactly_one_line();

@@ -57,8 +57,7 @@ impl<D: Disk + Drop, R: Radio> Standing<D, R> {
     fn restarted(self, confs: Confs, slots: Vec<Slot<R>>) -> Result<Standing<D, R>, ScriptFault>
         ensures ok { IfOk result
             (λ new. confs ≡ confs_of self → map bssid_of slots.items ≡ map (λ conf. conf.bssid) confs
-            → IsRestarted D.honest D.reads D.may_leave D.moment D.left_since D.size R.stations R.faults
-            self.moment self.world new.world) }
+            → IsRestarted D.model R.model self.moment self.world new.world) }
         ensures only { IfOk result (λ new. new ≡ record self { world = new.world; refusal = None }) }
         ensures err { IfErr result IsNoBadLine }
     {
@@ -95,8 +94,7 @@ impl<D: Disk + Drop, R: Radio> Standing<D, R> {
 
     /// Gives up the world, and begins it anew with a radio from the front for each interface.
     fn begun_anew(self, number: u64) -> Result<Standing<D, R>, ScriptFault>
-        ensures ok { IfOk result
-            (λ new. Restarts D.honest D.reads D.may_leave D.moment D.left_since D.size R.stations R.faults self new) }
+        ensures ok { IfOk result (λ new. Restarts D.model R.model self new) }
         ensures err { IfErr result (IsSaidFault number Stop self) }
     {
         let mut standing = self;
@@ -128,8 +126,7 @@ impl<D: Disk + Drop, R: Radio> Standing<D, R> {
         writer: &mut W,
         number: u64,
     ) -> Result<Standing<D, R>, ScriptFault>
-        ensures ok { IfOk result
-            (λ new. Stops D.honest D.reads D.may_leave D.moment D.left_since D.size R.stations R.faults self new) }
+        ensures ok { IfOk result (λ new. Stops D.model R.model self new) }
         ensures err { IfErr result (IsSaidFault number Stop self) }
     {
         let standing = self.begun_anew(number)?.recovered(writer)?;

@@ -2,4 +2,4 @@ use Rattle.apd_script.proofs.Keeping.{stays_proper}
 use Rattle.apd_script.proofs.laws.a_script_leaves_a_proper_world_proper.Goals as goal
 
 pub returns : goal.returns
-returns g c = stays_proper g.D.Disk.honest g.D.Disk.reads g.D.Disk.may_leave g.D.Disk.moment g.D.Disk.left_since g.D.Disk.size g.R.Radio.stations g.R.Radio.faults
+returns g c = stays_proper g.D.Disk.model g.R.Radio.model

@@ -9,7 +9,7 @@ use Rattle.apd_script.proofs.script.run_script.Goals.{else-loop-number-test, the
 
 pub loop-number-init : goal.loop-number-init
 loop-number-init g c =
-    begins_so_far g.D.Disk.honest g.D.Disk.reads g.D.Disk.may_leave g.D.Disk.moment g.D.Disk.left_since g.D.Disk.size g.R.Radio.stations g.R.Radio.faults (g.I.Read.remaining c.args.reader) (take_remaining g.I.Read.remaining c.take-reader.result)
+    begins_so_far g.D.Disk.model g.R.Radio.model (g.I.Read.remaining c.args.reader) (take_remaining g.I.Read.remaining c.take-reader.result)
     c.args.spares.items c.args.world c.begin.result c.in_ok-standing.standing
     (λ i. option_map (take (c.take-reader.ensures.limit i)) (g.I.Read.remaining (c.take-reader.ensures.inner i)))
     c.begin.ensures c.in_ok-standing.ensures.ok
@@ -17,25 +17,25 @@ loop-number-init g c =
 pub loop-number-preserved : goal.loop-number-preserved
 loop-number-preserved g c =
     let some : 0 < c.in-Ok.read = omega (arith, c.if-read-eq0.false) in
-    further_so_far g.D.Disk.honest g.D.Disk.reads g.D.Disk.may_leave g.D.Disk.moment g.D.Disk.left_since g.D.Disk.size g.R.Radio.stations g.R.Radio.faults (g.I.Read.remaining c.args.reader) (take_remaining g.I.Read.remaining c.loop-number.reader) (take_remaining g.I.Read.remaining c.next_line.new.reader)
+    further_so_far g.D.Disk.model g.R.Radio.model (g.I.Read.remaining c.args.reader) (take_remaining g.I.Read.remaining c.loop-number.reader) (take_remaining g.I.Read.remaining c.next_line.new.reader)
     c.loop-number.number c.loop-number.length c.in-Ok.read c.next_line.new.count c.args.spares.items c.args.world c.loop-number.standing c.in_ok-standing-2.standing c.next_line.new.text.items
     c.loop-number.invariant c.in-Ok.ensures.read c.in-Ok.ensures.length some c.in-Ok.ensures.count (rw (c.line_of.ensures, c.as_slice.ensures.value) at c.in_ok-standing-2.ensures.ok)
 
 pub returns-in_err-standing-2-clause-fault : goal.returns-in_err-standing-2-clause-fault
 returns-in_err-standing-2-clause-fault g c =
     let some : 0 < c.in-Ok.read = omega (arith, c.if-read-eq0.false) in
-    let fails = fails_so_far g.D.Disk.honest g.D.Disk.reads g.D.Disk.may_leave g.D.Disk.moment g.D.Disk.left_since g.D.Disk.size g.R.Radio.stations g.R.Radio.faults c.in_err-standing-2.field-0.0 (g.I.Read.remaining c.args.reader) (take_remaining g.I.Read.remaining c.loop-number.reader) (take_remaining g.I.Read.remaining c.next_line.new.reader)
+    let fails = fails_so_far g.D.Disk.model g.R.Radio.model c.in_err-standing-2.field-0.0 (g.I.Read.remaining c.args.reader) (take_remaining g.I.Read.remaining c.loop-number.reader) (take_remaining g.I.Read.remaining c.next_line.new.reader)
     c.loop-number.number c.loop-number.length c.in-Ok.read c.next_line.new.count c.args.spares.items c.args.world c.loop-number.standing c.next_line.new.text.items
     c.loop-number.invariant c.in-Ok.ensures.read c.in-Ok.ensures.length some c.in-Ok.ensures.count (rw (c.line_of.ensures, c.as_slice.ensures.value) at c.in_err-standing-2.ensures.err) in
     let told = err_from_is_err_and c.from_residual-in_err-standing-2.result c.from_residual-in_err-standing-2.ensures.1 in
-    subst (λ r. IfErr r (IsFault g.D.Disk.honest g.D.Disk.reads g.D.Disk.may_leave g.D.Disk.moment g.D.Disk.left_since g.D.Disk.size g.R.Radio.stations g.R.Radio.faults (g.I.Read.remaining c.args.reader) c.args.spares.items c.args.world)) (sym (told.1 ∙ ap Err told.2)) fails
+    subst (λ r. IfErr r (IsFault g.D.Disk.model g.R.Radio.model (g.I.Read.remaining c.args.reader) c.args.spares.items c.args.world)) (sym (told.1 ∙ ap Err told.2)) fails
 
 pub returns-in-Err-clause-ends : goal.returns-in-Err-clause-ends
 returns-in-Err-clause-ends g c = rw c.given_up.ensures tt
 
 pub returns-in-Err-clause-fault : goal.returns-in-Err-clause-fault
 returns-in-Err-clause-fault g c =
-    rw c.given_up.ensures (fails_elsewhere g.D.Disk.honest g.D.Disk.reads g.D.Disk.may_leave g.D.Disk.moment g.D.Disk.left_since g.D.Disk.size g.R.Radio.stations g.R.Radio.faults c.in-Err.fault (g.I.Read.remaining c.args.reader) c.args.spares.items c.args.world c.in-Err.ensures.err)
+    rw c.given_up.ensures (fails_elsewhere g.D.Disk.model g.R.Radio.model c.in-Err.fault (g.I.Read.remaining c.args.reader) c.args.spares.items c.args.world c.in-Err.ensures.err)
 
 pub returns-clause-ends : goal.returns-clause-ends
 returns-clause-ends g c =
@@ -43,7 +43,7 @@ returns-clause-ends g c =
     rw c.into_world.ensures (elim c.loop-number-test.branch [
       | else-loop-number-test w ↦ absurd (omega (arith, so_far.counted, so_far.short, so_far.fits, w.loop-number-test.false))
       | then-loop-number-test+in-Ok+then-read-eq0 w ↦
-          ends_so_far g.D.Disk.honest g.D.Disk.reads g.D.Disk.may_leave g.D.Disk.moment g.D.Disk.left_since g.D.Disk.size g.R.Radio.stations g.R.Radio.faults (g.I.Read.remaining c.args.reader) (take_remaining g.I.Read.remaining c.loop-number.reader) (take_remaining g.I.Read.remaining w.next_line.new.reader)
+          ends_so_far g.D.Disk.model g.R.Radio.model (g.I.Read.remaining c.args.reader) (take_remaining g.I.Read.remaining c.loop-number.reader) (take_remaining g.I.Read.remaining w.next_line.new.reader)
           c.loop-number.number c.loop-number.length c.args.spares.items c.args.world c.loop-number.standing w.next_line.new.text.items
           so_far w.in-Ok.ensures.read (w.in-Ok.ensures.length ∙ w.if-read-eq0.true)
     ])

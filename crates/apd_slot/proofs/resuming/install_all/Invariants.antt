@@ -6,7 +6,7 @@ use Rattle.apd_slot.proofs.resuming.install_all.Given as goal
 abbrev pub invariant-loop-addr : goal.invariant-loop-addr
 invariant-loop-addr g l = record {
   rows : l.addr-items ≡ map.entries l.stations;
-  installed : g.R.Radio.stations l.radio ≡ map.from_entries (take l.addr-index l.addr-items);
+  installed : g.R.Radio.model.stations l.radio ≡ map.from_entries (take l.addr-index l.addr-items);
   frames : g.R.Radio.frames l.radio ≡ g.R.Radio.frames l.initial.radio;
-  faults : g.R.Radio.faults l.radio ≡ g.R.Radio.faults l.initial.radio;
+  faults : g.R.Radio.model.faults l.radio ≡ g.R.Radio.model.faults l.initial.radio;
 }

@@ -12,8 +12,8 @@ returns-clause-made_honest g c = λ h.
     record {
       empty = search rules;
       shown = λ i left.
-          let is : i ≡ g.D.Disk.reads device = found.1 i (subst (λ d. g.D.Disk.may_leave d i) c.new.ensures.device left) in
-          subst (λ (l : List ℕ). Shows l empty_state) (sym is) (found_shows (g.D.Disk.reads device) A 1 13 false empty_state found.0);
+          let is : i ≡ g.D.Disk.model.reads device = found.1 i (subst (λ d. g.D.Disk.model.may_leave d i) c.new.ensures.device left) in
+          subst (λ (l : List ℕ). Shows l empty_state) (sym is) (found_shows (g.D.Disk.model.reads device) A 1 13 false empty_state found.0);
       any_moment = search rules;
       calls = search rules;
     }

@@ -7,8 +7,8 @@ use Rattle.apd_store.proofs.formatting.write_mark.Goals as goal
 pub returns-in_err-write_at-clause-any_moment : goal.returns-in_err-write_at-clause-any_moment
 returns-in_err-write_at-clause-any_moment g c = λ epoch gate state h laid only.
     let d = g.D.Disk in
-    one_call d.moment d.left_since c.args.device.now c.write_at.new.self (λ i. IsMarkedBy c.args.mark.now i → ShowsBy c.args.mark.now i state) (c.write_at.ensures.call.time h)
-    (mark_images c.args.mark.now (d.reads c.args.device.now) (d.may_leave c.args.device.now) (d.left_since c.write_at.new.self (d.moment c.args.device.now)) epoch gate state (omega arith) laid only (c.write_at.ensures.call.stop h))
+    one_call d.model c.args.device.now c.write_at.new.self (λ i. IsMarkedBy c.args.mark.now i → ShowsBy c.args.mark.now i state) (c.write_at.ensures.call.time h)
+    (mark_images c.args.mark.now (d.model.reads c.args.device.now) (d.model.may_leave c.args.device.now) (d.model.left_since c.write_at.new.self (d.model.moment c.args.device.now)) epoch gate state (omega arith) laid only (c.write_at.ensures.call.stop h))
 
 pub returns-clause-any_moment : goal.returns-clause-any_moment
 returns-clause-any_moment g c = λ epoch gate state h laid only.
@@ -16,13 +16,13 @@ returns-clause-any_moment g c = λ epoch gate state h laid only.
     let P = λ (i : List ℕ). IsMarkedBy c.args.mark.now i → ShowsBy c.args.mark.now i state in
     let mid = c.write_at.new.self in
     let here = c.write_at.ensures.call.stays_honest.0 h in
-    let first = one_call d.moment d.left_since c.args.device.now mid P (c.write_at.ensures.call.time h)
-    (mark_images c.args.mark.now (d.reads c.args.device.now) (d.may_leave c.args.device.now) (d.left_since mid (d.moment c.args.device.now)) epoch gate state (omega arith) laid only (c.write_at.ensures.call.stop h)) in
-    quiet_call d.moment d.left_since d.may_leave c.args.device.now mid c.sync.new.self P (λ t i le left. g.met.D.Disk.counts_now mid t i here le left) first (c.sync.ensures.call.time here) (c.sync.ensures.call.stop here)
+    let first = one_call d.model c.args.device.now mid P (c.write_at.ensures.call.time h)
+    (mark_images c.args.mark.now (d.model.reads c.args.device.now) (d.model.may_leave c.args.device.now) (d.model.left_since mid (d.model.moment c.args.device.now)) epoch gate state (omega arith) laid only (c.write_at.ensures.call.stop h)) in
+    quiet_call d.model c.args.device.now mid c.sync.new.self P (λ t i le left. g.met.D.Disk.counts_now mid t i here le left) first (c.sync.ensures.call.time here) (c.sync.ensures.call.stop here)
 
 pub returns-clause-found : goal.returns-clause-found
 returns-clause-found g c = λ epoch gate state h laid only.
     let d = g.D.Disk in
     let here = c.write_at.ensures.call.stays_honest.0 h in
     on_map c.sync.result _ _ _ (c.sync.ensures.call.stays here) (c.sync.ensures.call.durable here)
-    (λ same durable. (mark_found c.args.mark.now (d.reads c.args.device.now) (d.reads c.sync.new.self) epoch gate state (omega arith) laid (same ∙ c.in_ok-write_at.ensures.call.written h), λ i left. durable i left ∙ sym same))
+    (λ same durable. (mark_found c.args.mark.now (d.model.reads c.args.device.now) (d.model.reads c.sync.new.self) epoch gate state (omega arith) laid (same ∙ c.in_ok-write_at.ensures.call.written h), λ i left. durable i left ∙ sym same))

@@ -8,7 +8,7 @@ use Rattle.apd_store.proofs.recovery.recover.Goals as goal
 pub returns-in-Ok-read_image-clause-found_honest : goal.returns-in-Ok-read_image-clause-found_honest
 returns-in-Ok-read_image-clause-found_honest g c = λ h.
     let found = c.in-Ok-read_image.found in
-    let is : c.deref.result.now ≡ g.D.Disk.reads c.args.device = c.deref.ensures.value ∙ c.in-Ok.ensures.bytes h in
+    let is : c.deref.result.now ≡ g.D.Disk.model.reads c.args.device = c.deref.ensures.value ∙ c.in-Ok.ensures.bytes h in
     let f : IsFound c.deref.result.now found.half found.epoch found.gate found.other_open found.table = c.in-Ok-read_image.ensures.ok in
     record {
       shown = subst (λ (l : List ℕ). Shows l found.table) is (found_shows c.deref.result.now found.half found.epoch found.gate found.other_open found.table f);
@@ -20,7 +20,7 @@ returns-in-Ok-read_image-clause-found_honest g c = λ h.
 
 pub returns-clause-none_honest : goal.returns-clause-none_honest
 returns-clause-none_honest g c = λ h.
-    let is : c.deref.result.now ≡ g.D.Disk.reads c.args.device = c.deref.ensures.value ∙ c.in-Ok.ensures.bytes h in
+    let is : c.deref.result.now ≡ g.D.Disk.model.reads c.args.device = c.deref.ensures.value ∙ c.in-Ok.ensures.bytes h in
     record {
       not_a_store = search rules;
       damaged = λ e. subst (λ (l : List ℕ). IsMarked l × ShowsNone l) is (c.read_image.ensures.damaged (c.in-Err-read_image.is ∙ ap Err e));

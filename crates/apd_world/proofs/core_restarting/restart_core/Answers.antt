@@ -21,7 +21,7 @@ returns-in-Ok-durable_core_of-clause-begun_honest g c = λ honest.
     record {
       shown = search rules;
       recovered = λ s old hs front. ap (λ (core : CoreState). core.settled) c.in-Ok-durable_core_of.ensures.core
-          ∙ c.an_image_shows_one_state.ensures (g.D.Disk.reads c.args.device) c.in-Ok.table (run s old (take front.count hs)) found.shown front.shows;
+          ∙ c.an_image_shows_one_state.ensures (g.D.Disk.model.reads c.args.device) c.in-Ok.table (run s old (take front.count hs)) found.shown front.shows;
       proper = search rules;
       images = search rules;
       any_moment = search rules;

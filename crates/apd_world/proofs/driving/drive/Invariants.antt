@@ -4,7 +4,7 @@ use Rattle.apd_world.proofs.driving.drive.Given as goal
 
 abbrev pub invariant-loop-step : goal.invariant-loop-step
 invariant-loop-step g l = record {
-  driven : IsWorldDriven g.D.Disk.honest g.D.Disk.reads g.D.Disk.may_leave g.D.Disk.moment g.D.Disk.left_since g.D.Disk.size g.R.Radio.stations g.R.Radio.faults (take l.step-index l.steps) l.tolds.items l.initial.world l.world;
+  driven : IsWorldDriven g.D.Disk.model g.R.Radio.model (take l.step-index l.steps) l.tolds.items l.initial.world l.world;
   room : vec_capacity l.tolds ≡ length l.steps;
   made : vec_len l.tolds ≡ l.step-index;
 }

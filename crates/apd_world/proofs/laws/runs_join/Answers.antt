@@ -3,6 +3,6 @@ use Rattle.apd_world.proofs.laws.runs_join.Goals as goal
 
 pub returns : goal.returns
 returns g c = λ xs ys ts us old mid new first second. (
-  world_runs_join g.R.Radio.stations g.R.Radio.faults xs ys ts us old mid new first second,
-  world_entered_then g.R.Radio.stations g.R.Radio.faults xs ys ts us old mid new first second,
+  world_runs_join g.R.Radio.model xs ys ts us old mid new first second,
+  world_entered_then g.R.Radio.model xs ys ts us old mid new first second,
 )

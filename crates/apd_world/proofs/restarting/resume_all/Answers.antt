@@ -6,7 +6,7 @@ use Rattle.apd_world.proofs.ResumeLemmas.{none_so_far, not_up, one_failed, one_s
 use Rattle.apd_world.proofs.restarting.resume_all.Goals as goal
 
 pub loop-slot-init : goal.loop-slot-init
-loop-slot-init g c = none_so_far g.R.Radio.stations g.R.Radio.faults c.args.table.now c.args.slots.now
+loop-slot-init g c = none_so_far g.R.Radio.model c.args.table.now c.args.slots.now
 
 pub loop-slot-preserved : goal.loop-slot-preserved
 loop-slot-preserved g c =
@@ -17,12 +17,12 @@ loop-slot-preserved g c =
     let lt : c.loop-slot.slot-index < length c.loop-slot.slots = omega (arith, h.many, c.loop-slot-test.true) in
     let is = get_or_default c.loop-slot.slots c.loop-slot.slot-index c.slot-item.result before lt in
     let s = c.args.table.now in
-    let resumed : IsResumed g.R.Radio.stations s after = record {
+    let resumed : IsResumed g.R.Radio.model s after = record {
       up = e.up.1 refl;
       wanted = e.wanted ∙ ap (installed_rows s) (sym e.bssid);
       installed = e.installed ∙ ap (installed_rows s) (sym e.bssid);
     } in
-    one_so_far g.R.Radio.stations g.R.Radio.faults s c.loop-slot.slot-index c.args.slots.now c.loop-slot.slots before after lt is e.bssid resumed h
+    one_so_far g.R.Radio.model s c.loop-slot.slot-index c.args.slots.now c.loop-slot.slots before after lt is e.bssid resumed h
 
 pub returns-in-Err : goal.returns-in-Err
 returns-in-Err g c =
@@ -34,10 +34,10 @@ returns-in-Err g c =
     let lt : i < length c.loop-slot.slots = omega (arith, h.many, c.loop-slot-test.true) in
     let is = get_or_default c.loop-slot.slots i c.slot-item.result before lt in
     let s = c.args.table.now in
-    let failed = one_failed g.R.Radio.stations g.R.Radio.faults s i c.args.slots.now c.loop-slot.slots before after c.in-Err.fault lt is e.bssid (not_up after.up e.up.0) e.errors
+    let failed = one_failed g.R.Radio.model s i c.args.slots.now c.loop-slot.slots before after c.in-Err.fault lt is e.bssid (not_up after.up e.up.0) e.errors
     (λ went. e.down (ap Err went)) h in
     record {
       ok = tt;
-      same = one_same g.R.Radio.stations g.R.Radio.faults s i c.args.slots.now c.loop-slot.slots before after is e.bssid h;
-      err = subst (λ b. HasNotResumed g.R.Radio.faults b c.in-Err.fault c.args.slots.now (set c.loop-slot.slots i after)) (sym c.bssid.ensures) failed;
+      same = one_same g.R.Radio.model s i c.args.slots.now c.loop-slot.slots before after is e.bssid h;
+      err = subst (λ b. HasNotResumed g.R.Radio.model b c.in-Err.fault c.args.slots.now (set c.loop-slot.slots i after)) (sym c.bssid.ensures) failed;
     }

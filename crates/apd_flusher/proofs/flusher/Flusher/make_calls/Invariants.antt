@@ -4,7 +4,7 @@ use Rattle.apd_flusher.proofs.flusher.Flusher.make_calls.Given as goal
 
 -- what the turns so far keep
 abbrev pub invariant-loop-self : goal.invariant-loop-self
-invariant-loop-self g l = Turned g.D.Disk.honest g.D.Disk.reads g.D.Disk.may_leave g.D.Disk.moment g.D.Disk.size g.D.Disk.failed l.fn.self l.self
+invariant-loop-self g l = Turned g.D.Disk.model l.fn.self l.self
 
 abbrev pub decreases-loop-self : goal.decreases-loop-self
 decreases-loop-self g l = calls_left l.self

@@ -4,7 +4,7 @@ use Rattle.apd_flusher.proofs.flusher.Flusher.shown.Goals as goal
 pub returns-clause-shown : goal.returns-clause-shown
 returns-clause-shown g c = λ state after stands i left.
     let of = c.shown.ensures in
-    shows g.D.Disk.reads g.D.Disk.may_leave c.args.self.now state after i
+    shows g.D.Disk.model c.args.self.now state after i
     (λ s. of.idle state s i left) (λ s. of.under_way state after s i left) (λ s done. of.done state after s done i left) (λ s. of.stuck state after s i left) stands
 
 pub returns-clause-before : goal.returns-clause-before

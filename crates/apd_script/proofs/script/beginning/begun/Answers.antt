@@ -7,9 +7,9 @@ returns-in-Ok-clause-ok g c = λ each. record {
   core = c.in-Ok.ensures.begun.core;
   heard = c.in-Ok.ensures.begun.heard;
   sound = c.in-Ok.ensures.begun.sound;
-  slots = c.in-Ok.ensures.slots ∙ each;
-  resumed = c.in-Ok.ensures.resumed;
-  following = c.in-Ok.ensures.following;
+  slots = c.in-Ok.ensures.resumed.same ∙ each;
+  resumed = c.in-Ok.ensures.resumed.resumed;
+  following = c.in-Ok.ensures.resumed.following;
   proper = λ honest. (c.in-Ok.ensures.begun_honest honest).proper;
   any_moment = λ honest. (c.in-Ok.ensures.begun_honest honest).any_moment;
 }

@@ -9,7 +9,7 @@ returns-clause-begun g c = λ state.
     record {
       was_idle = c.requires.idle;
       batch_is = refl;
-      committing = λ idle group sound. inr (group_begins g.D.Disk.reads g.D.Disk.may_leave store (record store { phase = WriteGroup; batch = c.args.batch; plan = c.in-Ok.plan }) state idle group sound refl refl refl refl refl refl
+      committing = λ idle group sound. inr (group_begins g.D.Disk.model store (record store { phase = WriteGroup; batch = c.args.batch; plan = c.in-Ok.plan }) state idle group sound refl refl refl refl refl refl
           c.requires.room (omega (arith, c.in-Ok.ensures.place, c.requires.room)) c.in-Ok.ensures.bytes);
       some_calls = (omega arith, omega arith);
       four_calls = λ room. refl;

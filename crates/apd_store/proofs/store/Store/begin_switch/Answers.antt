@@ -24,7 +24,7 @@ returns-clause-begun g c =
     record {
       was_idle = c.requires.idle;
       batch_is = refl;
-      committing = λ idle group sound. inl (switch_begins g.D.Disk.reads g.D.Disk.may_leave store c.args.batch c.in-Ok-plan.plan c.in-Ok.fresh c.first_of_a_switch-self.result c.args.table.now idle group sound
+      committing = λ idle group sound. inl (switch_begins g.D.Disk.model store c.args.batch c.in-Ok-plan.plan c.in-Ok.fresh c.first_of_a_switch-self.result c.args.table.now idle group sound
           fits (search rules) c.in-Ok.ensures.place (c.in-Ok.ensures.bytes ∙ ap (λ (n : ℕ). begun_bytes n (canonical c.args.table.now)) next) (omega (arith, c.in-Ok-plan.ensures.place, c.len-gate.ensures)) c.in-Ok-plan.ensures.bytes
           first.closed first.open);
       some_calls = switch_calls store.other_open c.first_of_a_switch-self.result first.closed first.open;

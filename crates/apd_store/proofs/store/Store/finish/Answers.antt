@@ -10,7 +10,7 @@ pub returns-clause-settled : goal.returns-clause-settled
 returns-clause-settled g c = λ state after s.
     let done : c.args.self.now.phase ≡ Done = search rules in
     let few : calls_from c.args.self.now.phase ≤ 4 = subst (λ (p : Phase). calls_from p ≤ 4) (sym done) (omega arith) in
-    settles g.D.Disk.reads g.D.Disk.may_leave c.args.self.now state after (writes g.D.Disk.reads g.D.Disk.may_leave c.args.self.now state after few s)
+    settles g.D.Disk.model c.args.self.now state after (writes g.D.Disk.model c.args.self.now state after few s)
     (record {
       alloc = c.args.self.now.alloc;
       device = c.args.self.now.device;

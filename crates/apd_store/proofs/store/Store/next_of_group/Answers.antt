@@ -14,23 +14,23 @@ pub returns-in-WriteGroup-clause-any_moment : goal.returns-in-WriteGroup-clause-
 returns-in-WriteGroup-clause-any_moment g c = λ state after h s.
     let store = c.args.self.now in
     let device = c.write_in_half-made.new.device in
-    write_run g.D.Disk.moment g.D.Disk.left_since c.write_in_half-made.result store.device device (MayShow (calls_from store.phase) state after) c.write_in_half-made.ensures.only c.write_in_half-made.ensures.outside (c.write_in_half-made.ensures.time h)
-    (λ made. during_write g.D.Disk.reads g.D.Disk.may_leave store state after s (start_of store.half + store.plan.place) c.as_slice-bytes.result.now refl c.as_slice-bytes.ensures
-    c.in-WriteGroup.is (g.D.Disk.left_since device (g.D.Disk.moment store.device)) (c.write_in_half-made.ensures.stop h made))
-    (λ i left. now_shows g.D.Disk.reads g.D.Disk.may_leave store state after s i (g.met.D.Disk.only_now store.device i h left))
+    write_run g.D.Disk.model c.write_in_half-made.result store.device device (MayShow (calls_from store.phase) state after) c.write_in_half-made.ensures.only c.write_in_half-made.ensures.outside (c.write_in_half-made.ensures.time h)
+    (λ made. during_write g.D.Disk.model store state after s (start_of store.half + store.plan.place) c.as_slice-bytes.result.now refl c.as_slice-bytes.ensures
+    c.in-WriteGroup.is (g.D.Disk.model.left_since device (g.D.Disk.model.moment store.device)) (c.write_in_half-made.ensures.stop h made))
+    (λ i left. now_shows g.D.Disk.model store state after s i (g.met.D.Disk.only_now store.device i h left))
 
 pub returns-in-WriteGroup-clause-on : goal.returns-in-WriteGroup-clause-on
 returns-in-WriteGroup-clause-on g c = λ state after h s.
     let store = c.args.self.now in
     let device = c.write_in_half-made.new.device in
     let at = start_of store.half + store.plan.place in
-    let P = λ (phase : Phase). IsWriting g.D.Disk.reads g.D.Disk.may_leave (record store { device = device; phase = phase }) state after in
-    let during = g.D.Disk.left_since device (g.D.Disk.moment store.device) in
+    let P = λ (phase : Phase). IsWriting g.D.Disk.model (record store { device = device; phase = phase }) state after in
+    let during = g.D.Disk.model.left_since device (g.D.Disk.model.moment store.device) in
     moved_made c.write_in_half-made.result SyncGroup c.moved.new.phase c.moved.result _ P c.moved.ensures (c.write_in_half-made.ensures.written h)
-    (λ made written. moves g.D.Disk.reads g.D.Disk.may_leave store state after s device SyncGroup (
-      write_reads g.D.Disk.reads g.D.Disk.may_leave store state after s at c.as_slice-bytes.result.now refl c.as_slice-bytes.ensures c.in-WriteGroup.is (g.D.Disk.reads device) written,
-      λ i left. write_images g.D.Disk.reads g.D.Disk.may_leave store state after s at c.as_slice-bytes.result.now refl c.as_slice-bytes.ensures c.in-WriteGroup.is during (c.write_in_half-made.ensures.stop h made) i
-          (g.met.D.Disk.counts_now device (g.D.Disk.moment store.device) i (c.write_in_half-made.ensures.honest.0 h) ((c.write_in_half-made.ensures.time h made).later) left),
+    (λ made written. moves g.D.Disk.model store state after s device SyncGroup (
+      write_reads g.D.Disk.model store state after s at c.as_slice-bytes.result.now refl c.as_slice-bytes.ensures c.in-WriteGroup.is (g.D.Disk.model.reads device) written,
+      λ i left. write_images g.D.Disk.model store state after s at c.as_slice-bytes.result.now refl c.as_slice-bytes.ensures c.in-WriteGroup.is during (c.write_in_half-made.ensures.stop h made) i
+          (g.met.D.Disk.counts_now device (g.D.Disk.model.moment store.device) i (c.write_in_half-made.ensures.honest.0 h) ((c.write_in_half-made.ensures.time h made).later) left),
     ))
 
 pub returns-in-WriteGroup-clause-stuck : goal.returns-in-WriteGroup-clause-stuck
@@ -38,7 +38,7 @@ returns-in-WriteGroup-clause-stuck g c = λ state after h s.
     let store = c.args.self.now in
     let now = record store { device = c.write_in_half-made.new.device; phase = c.moved.new.phase } in
     moved_stuck c.write_in_half-made.result SyncGroup c.moved.new.phase c.moved.result _ c.moved.ensures
-    (leaves_stuck g.D.Disk.moment g.D.Disk.left_since g.D.Disk.may_leave store.device now (calls_from store.phase) state after
+    (leaves_stuck g.D.Disk.model store.device now (calls_from store.phase) state after
     (λ t i le left. g.met.D.Disk.counts_now c.write_in_half-made.new.device t i (c.write_in_half-made.ensures.honest.0 h) le left) (returns-in-WriteGroup-clause-any_moment g c state after h s))
 
 pub returns-in-WriteGroup-clause-stuck_early : goal.returns-in-WriteGroup-clause-stuck_early
@@ -46,21 +46,21 @@ returns-in-WriteGroup-clause-stuck_early g c = λ state after h s early.
     let store = c.args.self.now in
     let now = record store { device = c.write_in_half-made.new.device; phase = c.moved.new.phase } in
     moved_stuck c.write_in_half-made.result SyncGroup c.moved.new.phase c.moved.result _ c.moved.ensures
-    (leaves_stuck_early g.D.Disk.moment g.D.Disk.left_since g.D.Disk.may_leave store.device now (calls_from store.phase) state after
+    (leaves_stuck_early g.D.Disk.model store.device now (calls_from store.phase) state after
     (λ t i le left. g.met.D.Disk.counts_now c.write_in_half-made.new.device t i (c.write_in_half-made.ensures.honest.0 h) le left) (returns-in-WriteGroup-clause-any_moment g c state after h s) early)
 
 pub returns-in-SyncGroup-clause-any_moment : goal.returns-in-SyncGroup-clause-any_moment
 returns-in-SyncGroup-clause-any_moment g c = λ state after h s.
     let store = c.args.self.now in
-    one_call g.D.Disk.moment g.D.Disk.left_since store.device c.sync.new.self (MayShow (calls_from store.phase) state after) (c.sync.ensures.call.time h)
-    (λ i during. now_shows g.D.Disk.reads g.D.Disk.may_leave store state after s i (c.sync.ensures.call.stop h i during))
+    one_call g.D.Disk.model store.device c.sync.new.self (MayShow (calls_from store.phase) state after) (c.sync.ensures.call.time h)
+    (λ i during. now_shows g.D.Disk.model store state after s i (c.sync.ensures.call.stop h i during))
 
 pub returns-in-SyncGroup-clause-stuck : goal.returns-in-SyncGroup-clause-stuck
 returns-in-SyncGroup-clause-stuck g c = λ state after h s.
     let store = c.args.self.now in
     let now = record store { device = c.sync.new.self; phase = c.moved-in-SyncGroup.new.phase } in
     moved_stuck c.map_err-made.result OpenGate c.moved-in-SyncGroup.new.phase c.moved-in-SyncGroup.result _ c.moved-in-SyncGroup.ensures
-    (leaves_stuck g.D.Disk.moment g.D.Disk.left_since g.D.Disk.may_leave store.device now (calls_from store.phase) state after
+    (leaves_stuck g.D.Disk.model store.device now (calls_from store.phase) state after
     (λ t i le left. g.met.D.Disk.counts_now c.sync.new.self t i (c.sync.ensures.call.stays_honest.0 h) le left) (returns-in-SyncGroup-clause-any_moment g c state after h s))
 
 pub returns-in-SyncGroup-clause-stuck_early : goal.returns-in-SyncGroup-clause-stuck_early
@@ -68,30 +68,30 @@ returns-in-SyncGroup-clause-stuck_early g c = λ state after h s early.
     let store = c.args.self.now in
     let now = record store { device = c.sync.new.self; phase = c.moved-in-SyncGroup.new.phase } in
     moved_stuck c.map_err-made.result OpenGate c.moved-in-SyncGroup.new.phase c.moved-in-SyncGroup.result _ c.moved-in-SyncGroup.ensures
-    (leaves_stuck_early g.D.Disk.moment g.D.Disk.left_since g.D.Disk.may_leave store.device now (calls_from store.phase) state after
+    (leaves_stuck_early g.D.Disk.model store.device now (calls_from store.phase) state after
     (λ t i le left. g.met.D.Disk.counts_now c.sync.new.self t i (c.sync.ensures.call.stays_honest.0 h) le left) (returns-in-SyncGroup-clause-any_moment g c state after h s) early)
 
 pub returns-in-OpenGate-clause-any_moment : goal.returns-in-OpenGate-clause-any_moment
 returns-in-OpenGate-clause-any_moment g c = λ state after h s.
     let store = c.args.self.now in
     let device = c.write_in_half-made-in-OpenGate.new.device in
-    write_run g.D.Disk.moment g.D.Disk.left_since c.write_in_half-made-in-OpenGate.result store.device device (MayShow (calls_from store.phase) state after) c.write_in_half-made-in-OpenGate.ensures.only c.write_in_half-made-in-OpenGate.ensures.outside (c.write_in_half-made-in-OpenGate.ensures.time h)
-    (λ made. during_gate g.D.Disk.reads g.D.Disk.may_leave store state after s (start_of store.half + store.gate) refl
-    c.in-OpenGate.is (g.D.Disk.left_since device (g.D.Disk.moment store.device)) (c.write_in_half-made-in-OpenGate.ensures.stop h made))
-    (λ i left. now_shows g.D.Disk.reads g.D.Disk.may_leave store state after s i (g.met.D.Disk.only_now store.device i h left))
+    write_run g.D.Disk.model c.write_in_half-made-in-OpenGate.result store.device device (MayShow (calls_from store.phase) state after) c.write_in_half-made-in-OpenGate.ensures.only c.write_in_half-made-in-OpenGate.ensures.outside (c.write_in_half-made-in-OpenGate.ensures.time h)
+    (λ made. during_gate g.D.Disk.model store state after s (start_of store.half + store.gate) refl
+    c.in-OpenGate.is (g.D.Disk.model.left_since device (g.D.Disk.model.moment store.device)) (c.write_in_half-made-in-OpenGate.ensures.stop h made))
+    (λ i left. now_shows g.D.Disk.model store state after s i (g.met.D.Disk.only_now store.device i h left))
 
 pub returns-in-OpenGate-clause-on : goal.returns-in-OpenGate-clause-on
 returns-in-OpenGate-clause-on g c = λ state after h s.
     let store = c.args.self.now in
     let device = c.write_in_half-made-in-OpenGate.new.device in
     let at = start_of store.half + store.gate in
-    let P = λ (phase : Phase). IsWriting g.D.Disk.reads g.D.Disk.may_leave (record store { device = device; phase = phase }) state after in
-    let during = g.D.Disk.left_since device (g.D.Disk.moment store.device) in
+    let P = λ (phase : Phase). IsWriting g.D.Disk.model (record store { device = device; phase = phase }) state after in
+    let during = g.D.Disk.model.left_since device (g.D.Disk.model.moment store.device) in
     moved_made c.write_in_half-made-in-OpenGate.result SyncGate c.moved-in-OpenGate.new.phase c.moved-in-OpenGate.result _ P c.moved-in-OpenGate.ensures (c.write_in_half-made-in-OpenGate.ensures.written h)
-    (λ made written. moves g.D.Disk.reads g.D.Disk.may_leave store state after s device SyncGate (
-      gate_reads g.D.Disk.reads g.D.Disk.may_leave store state after s at refl c.in-OpenGate.is (g.D.Disk.reads device) written,
-      λ i left. gate_images g.D.Disk.reads g.D.Disk.may_leave store state after s at refl c.in-OpenGate.is during (c.write_in_half-made-in-OpenGate.ensures.stop h made) i
-          (g.met.D.Disk.counts_now device (g.D.Disk.moment store.device) i (c.write_in_half-made-in-OpenGate.ensures.honest.0 h) ((c.write_in_half-made-in-OpenGate.ensures.time h made).later) left),
+    (λ made written. moves g.D.Disk.model store state after s device SyncGate (
+      gate_reads g.D.Disk.model store state after s at refl c.in-OpenGate.is (g.D.Disk.model.reads device) written,
+      λ i left. gate_images g.D.Disk.model store state after s at refl c.in-OpenGate.is during (c.write_in_half-made-in-OpenGate.ensures.stop h made) i
+          (g.met.D.Disk.counts_now device (g.D.Disk.model.moment store.device) i (c.write_in_half-made-in-OpenGate.ensures.honest.0 h) ((c.write_in_half-made-in-OpenGate.ensures.time h made).later) left),
     ))
 
 pub returns-in-OpenGate-clause-stuck : goal.returns-in-OpenGate-clause-stuck
@@ -99,39 +99,39 @@ returns-in-OpenGate-clause-stuck g c = λ state after h s.
     let store = c.args.self.now in
     let now = record store { device = c.write_in_half-made-in-OpenGate.new.device; phase = c.moved-in-OpenGate.new.phase } in
     moved_stuck c.write_in_half-made-in-OpenGate.result SyncGate c.moved-in-OpenGate.new.phase c.moved-in-OpenGate.result _ c.moved-in-OpenGate.ensures
-    (leaves_stuck g.D.Disk.moment g.D.Disk.left_since g.D.Disk.may_leave store.device now (calls_from store.phase) state after
+    (leaves_stuck g.D.Disk.model store.device now (calls_from store.phase) state after
     (λ t i le left. g.met.D.Disk.counts_now c.write_in_half-made-in-OpenGate.new.device t i (c.write_in_half-made-in-OpenGate.ensures.honest.0 h) le left) (returns-in-OpenGate-clause-any_moment g c state after h s))
 
 pub returns-in-SyncGate-clause-any_moment : goal.returns-in-SyncGate-clause-any_moment
 returns-in-SyncGate-clause-any_moment g c = λ state after h s.
     let store = c.args.self.now in
-    one_call g.D.Disk.moment g.D.Disk.left_since store.device c.sync-in-SyncGate.new.self (MayShow (calls_from store.phase) state after) (c.sync-in-SyncGate.ensures.call.time h)
-    (λ i during. now_shows g.D.Disk.reads g.D.Disk.may_leave store state after s i (c.sync-in-SyncGate.ensures.call.stop h i during))
+    one_call g.D.Disk.model store.device c.sync-in-SyncGate.new.self (MayShow (calls_from store.phase) state after) (c.sync-in-SyncGate.ensures.call.time h)
+    (λ i during. now_shows g.D.Disk.model store state after s i (c.sync-in-SyncGate.ensures.call.stop h i during))
 
 pub returns-in-SyncGate-clause-stuck : goal.returns-in-SyncGate-clause-stuck
 returns-in-SyncGate-clause-stuck g c = λ state after h s.
     let store = c.args.self.now in
     let now = record store { device = c.sync-in-SyncGate.new.self; phase = c.moved-in-SyncGate.new.phase } in
     moved_stuck c.map_err-made-in-SyncGate.result Done c.moved-in-SyncGate.new.phase c.moved-in-SyncGate.result _ c.moved-in-SyncGate.ensures
-    (leaves_stuck g.D.Disk.moment g.D.Disk.left_since g.D.Disk.may_leave store.device now (calls_from store.phase) state after
+    (leaves_stuck g.D.Disk.model store.device now (calls_from store.phase) state after
     (λ t i le left. g.met.D.Disk.counts_now c.sync-in-SyncGate.new.self t i (c.sync-in-SyncGate.ensures.call.stays_honest.0 h) le left) (returns-in-SyncGate-clause-any_moment g c state after h s))
 
 pub returns-in-SyncGroup-clause-on : goal.returns-in-SyncGroup-clause-on
 returns-in-SyncGroup-clause-on g c = λ state after h s.
     let store = c.args.self.now in
     let device = c.sync.new.self in
-    let P = λ (phase : Phase). IsWriting g.D.Disk.reads g.D.Disk.may_leave (record store { device = device; phase = phase }) state after in
-    moved_made c.map_err-made.result OpenGate c.moved-in-SyncGroup.new.phase c.moved-in-SyncGroup.result (g.D.Disk.reads device ≡ g.D.Disk.reads store.device × Only (g.D.Disk.reads store.device) (g.D.Disk.may_leave device)) P c.moved-in-SyncGroup.ensures
+    let P = λ (phase : Phase). IsWriting g.D.Disk.model (record store { device = device; phase = phase }) state after in
+    moved_made c.map_err-made.result OpenGate c.moved-in-SyncGroup.new.phase c.moved-in-SyncGroup.result (g.D.Disk.model.reads device ≡ g.D.Disk.model.reads store.device × Only (g.D.Disk.model.reads store.device) (g.D.Disk.model.may_leave device)) P c.moved-in-SyncGroup.ensures
     (synced c.sync.result c.map_err-made.result _ _ c.map_err-made.ensures.variant (c.sync.ensures.call.stays h) (c.sync.ensures.call.durable h))
-    (λ made both. moves g.D.Disk.reads g.D.Disk.may_leave store state after s device OpenGate
-    (both.0 ∙ (at_phase g.D.Disk.reads g.D.Disk.may_leave store state after s SyncGroup c.in-SyncGroup.is).0, λ i left. both.1 i left ∙ sym both.0))
+    (λ made both. moves g.D.Disk.model store state after s device OpenGate
+    (both.0 ∙ (at_phase g.D.Disk.model store state after s SyncGroup c.in-SyncGroup.is).0, λ i left. both.1 i left ∙ sym both.0))
 
 pub returns-in-SyncGate-clause-on : goal.returns-in-SyncGate-clause-on
 returns-in-SyncGate-clause-on g c = λ state after h s.
     let store = c.args.self.now in
     let device = c.sync-in-SyncGate.new.self in
-    let P = λ (phase : Phase). IsWriting g.D.Disk.reads g.D.Disk.may_leave (record store { device = device; phase = phase }) state after in
-    moved_made c.map_err-made-in-SyncGate.result Done c.moved-in-SyncGate.new.phase c.moved-in-SyncGate.result (g.D.Disk.reads device ≡ g.D.Disk.reads store.device × Only (g.D.Disk.reads store.device) (g.D.Disk.may_leave device)) P c.moved-in-SyncGate.ensures
+    let P = λ (phase : Phase). IsWriting g.D.Disk.model (record store { device = device; phase = phase }) state after in
+    moved_made c.map_err-made-in-SyncGate.result Done c.moved-in-SyncGate.new.phase c.moved-in-SyncGate.result (g.D.Disk.model.reads device ≡ g.D.Disk.model.reads store.device × Only (g.D.Disk.model.reads store.device) (g.D.Disk.model.may_leave device)) P c.moved-in-SyncGate.ensures
     (synced c.sync-in-SyncGate.result c.map_err-made-in-SyncGate.result _ _ c.map_err-made-in-SyncGate.ensures.variant (c.sync-in-SyncGate.ensures.call.stays h) (c.sync-in-SyncGate.ensures.call.durable h))
-    (λ made both. moves g.D.Disk.reads g.D.Disk.may_leave store state after s device Done
-    (both.0 ∙ (at_phase g.D.Disk.reads g.D.Disk.may_leave store state after s SyncGate c.in-SyncGate.is).0, λ i left. both.1 i left ∙ sym both.0))
+    (λ made both. moves g.D.Disk.model store state after s device Done
+    (both.0 ∙ (at_phase g.D.Disk.model store state after s SyncGate c.in-SyncGate.is).0, λ i left. both.1 i left ∙ sym both.0))

@@ -21,9 +21,9 @@ returns-in-Ok-clause-safe g c =
     let is = accepted_is c.args.input c.args.moment c.reception.result c.in-Ok.answer old c.accept.new.self c.reception.ensures c.in-Ok.ensures.answer c.in-Ok.ensures.fit c.in-Ok.ensures.ok in
     let done = accept_request old new c.args.input c.args.moment c.reception.result c.sound.ensures is in
     let ok = c.in-Ok.ensures.ok in
-    safe_same g.D.Disk.honest g.D.Disk.reads g.D.Disk.may_leave g.D.Disk.moment g.D.Disk.left_since g.D.Disk.size old new refl (λ i. i) c.stops.ensures
+    safe_same g.D.Disk.model old new refl (λ i. i) c.stops.ensures
     (accept_step old new c.args.input c.args.moment c.reception.result c.sound.ensures is).spoken
-    (beside g.D.Disk.honest g.D.Disk.reads g.D.Disk.may_leave old new (ap (λ (s : CoreState). s.flight) ok ∙ done.flight) (ap (λ (s : CoreState). s.settled) ok ∙ done.settled) (ap batch_of ok ∙ done.batch) (ap (λ (s : CoreState). s.failed) ok ∙ done.failed) refl refl refl)
+    (beside g.D.Disk.model old new (ap (λ (s : CoreState). s.flight) ok ∙ done.flight) (ap (λ (s : CoreState). s.settled) ok ∙ done.settled) (ap batch_of ok ∙ done.batch) (ap (λ (s : CoreState). s.failed) ok ∙ done.failed) refl refl refl)
 
 pub returns-in-Err-clause-step : goal.returns-in-Err-clause-step
 returns-in-Err-clause-step g c =
@@ -35,4 +35,4 @@ returns-in-Err-clause-step g c =
 pub returns-in-Err-clause-safe : goal.returns-in-Err-clause-safe
 returns-in-Err-clause-safe g c =
     let old = c.args.self.now in
-    safe_unchanged g.D.Disk.honest g.D.Disk.reads g.D.Disk.may_leave g.D.Disk.moment g.D.Disk.left_since g.D.Disk.size old (record old { core = c.accept.new.self }) (λ i. record old { core = c.in-Err.ensures.err i }) c.stops.ensures
+    safe_unchanged g.D.Disk.model old (record old { core = c.accept.new.self }) (λ i. record old { core = c.in-Err.ensures.err i }) c.stops.ensures

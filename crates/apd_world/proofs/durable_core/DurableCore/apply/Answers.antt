@@ -11,4 +11,4 @@ returns-clause-step g c =
     let old = c.args.self.now in step_unchanged (Apply c.args.bssid) Nothing old old refl refl (goes_unchanged old.core) refl
 
 pub returns-clause-safe : goal.returns-clause-safe
-returns-clause-safe g c = safe_unchanged g.D.Disk.honest g.D.Disk.reads g.D.Disk.may_leave g.D.Disk.moment g.D.Disk.left_since g.D.Disk.size c.args.self.now c.args.self.now refl c.stops.ensures
+returns-clause-safe g c = safe_unchanged g.D.Disk.model c.args.self.now c.args.self.now refl c.stops.ensures

@@ -17,13 +17,13 @@ pub returns-in-Ok-clause-safe : goal.returns-in-Ok-clause-safe
 returns-in-Ok-clause-safe g c =
     let old = c.args.self.now in
     let new = record old { told = c.max-self.result } in
-    safe_same g.D.Disk.honest g.D.Disk.reads g.D.Disk.may_leave g.D.Disk.moment g.D.Disk.left_since g.D.Disk.size old new refl (λ i. i) c.stops.ensures
+    safe_same g.D.Disk.model old new refl (λ i. i) c.stops.ensures
     (ask_step old new c.args.query c.in-Ok.answer (record { answer_is = c.in-Ok.ensures; only = λ i. record old { told = (c.max-self.ensures ∙ ap (max old.told) c.number.ensures) i } })).spoken
-    (beside g.D.Disk.honest g.D.Disk.reads g.D.Disk.may_leave old new refl refl refl refl refl refl refl)
+    (beside g.D.Disk.model old new refl refl refl refl refl refl refl)
 
 pub returns-in-Err-clause-step : goal.returns-in-Err-clause-step
 returns-in-Err-clause-step g c =
     let old = c.args.self.now in step_unchanged (Ask c.args.query) NoMemory old old refl refl (goes_unchanged old.core) refl
 
 pub returns-in-Err-clause-safe : goal.returns-in-Err-clause-safe
-returns-in-Err-clause-safe g c = safe_unchanged g.D.Disk.honest g.D.Disk.reads g.D.Disk.may_leave g.D.Disk.moment g.D.Disk.left_since g.D.Disk.size c.args.self.now c.args.self.now refl c.stops.ensures
+returns-in-Err-clause-safe g c = safe_unchanged g.D.Disk.model c.args.self.now c.args.self.now refl c.stops.ensures

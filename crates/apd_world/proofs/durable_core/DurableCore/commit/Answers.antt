@@ -10,13 +10,13 @@ use Rattle.apd_world.proofs.durable_core.DurableCore.commit.Goals as goal
 
 pub loop-self-init : goal.loop-self-init
 loop-self-init g c =
-    calling_begun g.D.Disk.honest g.D.Disk.reads g.D.Disk.may_leave g.D.Disk.moment g.D.Disk.left_since g.D.Disk.size g.D.Disk.failed c.step.result c.said-taken.result None c.args.self.now c.step.new.self c.stops.ensures c.step.ensures.step c.step.ensures.safe c.step.ensures.count c.said-taken.ensures refl
+    calling_begun g.D.Disk.model c.step.result c.said-taken.result None c.args.self.now c.step.new.self c.stops.ensures c.step.ensures.step c.step.ensures.made.safe c.step.ensures.made.count c.said-taken.ensures refl
 
 pub loop-self-preserved : goal.loop-self-preserved
 loop-self-preserved g c =
     let none = none_when c.loop-self.called c.is_none.result c.is_none.ensures c.loop-self-test.true in
-    calling_on g.D.Disk.honest g.D.Disk.reads g.D.Disk.may_leave g.D.Disk.moment g.D.Disk.left_since g.D.Disk.size g.D.Disk.failed c.step-in-loop-self.result c.said-taken.result c.loop-self.called c.said-called.result c.args.self.now c.loop-self.self c.step-in-loop-self.new.self c.loop-self.invariant
-    none (c.has_call.ensures.some c.if-has_call.true) c.has_call.ensures.left c.step-in-loop-self.ensures.step c.step-in-loop-self.ensures.safe c.step-in-loop-self.ensures.count c.step-in-loop-self.ensures.fault c.said-called.ensures
+    calling_on g.D.Disk.model c.step-in-loop-self.result c.said-taken.result c.loop-self.called c.said-called.result c.args.self.now c.loop-self.self c.step-in-loop-self.new.self c.loop-self.invariant
+    none (c.has_call.ensures.some c.if-has_call.true) c.has_call.ensures.left c.step-in-loop-self.ensures.step c.step-in-loop-self.ensures.made.safe c.step-in-loop-self.ensures.made.count c.step-in-loop-self.ensures.made.fault c.said-called.ensures
 
 pub returns : goal.returns
 returns g c =
@@ -29,18 +29,17 @@ returns g c =
     ] in
     let is : result ≡ unwrap_or (option_or (option_or c.said-taken.result c.loop-self.called) (said c.step-2.result)) Nothing =
     c.unwrap_or.ensures ∙ ap (λ (o : Option Commit). unwrap_or o Nothing) (c.or-2.ensures ∙ (λ i. option_or (c.or.ensures i) (c.said-published.ensures i))) in
-    let k = committed g.D.Disk.honest g.D.Disk.reads g.D.Disk.may_leave g.D.Disk.moment g.D.Disk.left_since g.D.Disk.size g.D.Disk.failed c.said-taken.result c.loop-self.called c.step-2.result old c.loop-self.self new c.loop-self.invariant none c.step-2.ensures.step c.step-2.ensures.safe c.step-2.ensures.count result is in
-    let comes = proper_comes g.D.Disk.honest g.D.Disk.reads g.D.Disk.may_leave g.D.Disk.moment g.D.Disk.left_since g.D.Disk.size g.D.Disk.failed result old new k.outcome in
+    let k = committed g.D.Disk.model c.said-taken.result c.loop-self.called c.step-2.result old c.loop-self.self new c.loop-self.invariant none c.step-2.ensures.step c.step-2.ensures.made.safe c.step-2.ensures.made.count result is in
+    let comes = proper_comes g.D.Disk.model result old new k.outcome in
     record {
       round = k.round;
       comes_to = comes;
-      commits = λ p. commits g.D.Disk.honest g.D.Disk.reads g.D.Disk.may_leave g.D.Disk.moment g.D.Disk.left_since g.D.Disk.size g.D.Disk.failed result old new (comes p);
-      settled = λ is. subst (λ (a : Commit). Outcome g.D.Disk.honest g.D.Disk.reads g.D.Disk.may_leave g.D.Disk.moment g.D.Disk.left_since g.D.Disk.size g.D.Disk.failed a old new) is k.outcome;
-      nothing = λ is. subst (λ (a : Commit). Outcome g.D.Disk.honest g.D.Disk.reads g.D.Disk.may_leave g.D.Disk.moment g.D.Disk.left_since g.D.Disk.size g.D.Disk.failed a old new) is k.outcome;
+      commits = λ p. commits g.D.Disk.model result old new (comes p);
+      settled = λ is. subst (λ (a : Commit). Outcome g.D.Disk.model a old new) is k.outcome;
+      nothing = λ is. subst (λ (a : Commit). Outcome g.D.Disk.model a old new) is k.outcome;
       rests = k.rests;
       proper = k.proper;
       any_moment = k.moments;
       quiet = k.quiet;
-      heard = k.heard;
       count = k.count;
     }

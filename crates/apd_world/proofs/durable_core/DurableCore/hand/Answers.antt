@@ -18,9 +18,9 @@ returns-in-Ok-clause-safe g c =
     let old = c.args.self.now in
     let new = record old { core = c.hand.new.self } in
     let ok = c.in-Ok.ensures.ok in
-    safe_same g.D.Disk.honest g.D.Disk.reads g.D.Disk.may_leave g.D.Disk.moment g.D.Disk.left_since g.D.Disk.size old new refl (λ i. i) c.stops.ensures
+    safe_same g.D.Disk.model old new refl (λ i. i) c.stops.ensures
     (hand_step old new c.args.to c.from_vec.result c.sound.ensures (record { outs_are = c.from_vec.ensures ∙ c.in-Ok.ensures.outs; only = λ i. record old { core = ok i } })).spoken
-    (beside g.D.Disk.honest g.D.Disk.reads g.D.Disk.may_leave old new (ap (λ (s : CoreState). s.flight) ok) (ap (λ (s : CoreState). s.settled) ok) (ap batch_of ok) (ap (λ (s : CoreState). s.failed) ok) refl refl refl)
+    (beside g.D.Disk.model old new (ap (λ (s : CoreState). s.flight) ok) (ap (λ (s : CoreState). s.settled) ok) (ap batch_of ok) (ap (λ (s : CoreState). s.failed) ok) refl refl refl)
 
 pub returns-in-Err-clause-step : goal.returns-in-Err-clause-step
 returns-in-Err-clause-step g c =
@@ -32,4 +32,4 @@ returns-in-Err-clause-step g c =
 pub returns-in-Err-clause-safe : goal.returns-in-Err-clause-safe
 returns-in-Err-clause-safe g c =
     let old = c.args.self.now in
-    safe_unchanged g.D.Disk.honest g.D.Disk.reads g.D.Disk.may_leave g.D.Disk.moment g.D.Disk.left_since g.D.Disk.size old (record old { core = c.hand.new.self }) (λ i. record old { core = c.in-Err.ensures.err i }) c.stops.ensures
+    safe_unchanged g.D.Disk.model old (record old { core = c.hand.new.self }) (λ i. record old { core = c.in-Err.ensures.err i }) c.stops.ensures

@@ -19,7 +19,7 @@ returns-in_default-clause-step g c =
     step_unchanged Publish Nothing old c.next_receipt.new.self none.1 none (goes_unchanged old.core) refl
 
 pub returns-in_default-clause-safe : goal.returns-in_default-clause-safe
-returns-in_default-clause-safe g c = safe_unchanged g.D.Disk.honest g.D.Disk.reads g.D.Disk.may_leave g.D.Disk.moment g.D.Disk.left_since g.D.Disk.size c.args.self.now c.next_receipt.new.self (c.in_default.ensures.none refl).1 c.stops.ensures
+returns-in_default-clause-safe g c = safe_unchanged g.D.Disk.model c.args.self.now c.next_receipt.new.self (c.in_default.ensures.none refl).1 c.stops.ensures
 
 pub returns-in-Ok : goal.returns-in-Ok
 returns-in-Ok g c =
@@ -42,8 +42,8 @@ returns-in-Ok g c =
     record {
       step = step;
       device = c.next_receipt.ensures.device;
-      safe = safe_same g.D.Disk.honest g.D.Disk.reads g.D.Disk.may_leave g.D.Disk.moment g.D.Disk.left_since g.D.Disk.size old new c.next_receipt.ensures.device c.next_receipt.ensures.inside c.stops.ensures step.spoken
-          (λ h. publish_settled g.D.Disk.honest g.D.Disk.reads g.D.Disk.may_leave receipt old new (received g.D.Disk.honest g.D.Disk.reads g.D.Disk.may_leave receipt old mid.flusher next c.in-Some.ensures.durable h) done (ap (λ (w : DurableCore _). w.batch) only) (ap (λ (w : DurableCore _). w.receipt) only));
+      safe = safe_same g.D.Disk.model old new c.next_receipt.ensures.device c.next_receipt.ensures.inside c.stops.ensures step.spoken
+          (λ h. publish_settled g.D.Disk.model receipt old new (received g.D.Disk.model receipt old mid.flusher next c.in-Some.ensures.durable h) done (ap (λ (w : DurableCore _). w.batch) only) (ap (λ (w : DurableCore _). w.receipt) only));
     }
 
 pub returns-in-Err : goal.returns-in-Err
@@ -68,6 +68,6 @@ returns-in-Err g c =
     record {
       step = step;
       device = c.next_receipt.ensures.device;
-      safe = safe_same g.D.Disk.honest g.D.Disk.reads g.D.Disk.may_leave g.D.Disk.moment g.D.Disk.left_since g.D.Disk.size old new c.next_receipt.ensures.device c.next_receipt.ensures.inside c.stops.ensures step.spoken
-          (λ h. publish_refused g.D.Disk.honest g.D.Disk.reads g.D.Disk.may_leave receipt old new (received g.D.Disk.honest g.D.Disk.reads g.D.Disk.may_leave receipt old mid.flusher next c.in-Some.ensures.durable h) same (ap (λ (w : DurableCore _). w.batch) only) (ap Some back));
+      safe = safe_same g.D.Disk.model old new c.next_receipt.ensures.device c.next_receipt.ensures.inside c.stops.ensures step.spoken
+          (λ h. publish_refused g.D.Disk.model receipt old new (received g.D.Disk.model receipt old mid.flusher next c.in-Some.ensures.durable h) same (ap (λ (w : DurableCore _). w.batch) only) (ap Some back));
     }

@@ -3,4 +3,4 @@ use Rattle.apd_world.proofs.durable_core.DurableCore.stops.Goals as goal
 
 pub returns : goal.returns
 returns g c = λ p image left.
-    stops_either g.D.Disk.honest g.D.Disk.reads g.D.Disk.may_leave c.args.self.now c.shown.ensures.shown p.stands image (g.met.D.Disk.only_now _ image p.device left)
+    stops_either g.D.Disk.model c.args.self.now c.shown.ensures.shown p.stands image (g.met.D.Disk.only_now _ image p.device left)

@@ -23,7 +23,7 @@ pub returns-in-Ok-None-clause-safe : goal.returns-in-Ok-None-clause-safe
 returns-in-Ok-None-clause-safe g c =
     let old = c.args.self.now in
     let none = if_none c.in-Ok-None.field-0 (HasNoBatch old × (c.next_batch.new.self ≡ old)) c.in-Ok-None.field-0-is c.in-Ok-None.ensures.none in
-    safe_unchanged g.D.Disk.honest g.D.Disk.reads g.D.Disk.may_leave g.D.Disk.moment g.D.Disk.left_since g.D.Disk.size old c.next_batch.new.self none.1 c.stops.ensures
+    safe_unchanged g.D.Disk.model old c.next_batch.new.self none.1 c.stops.ensures
 
 pub returns-in-Err-clause-step : goal.returns-in-Err-clause-step
 returns-in-Err-clause-step g c =
@@ -32,7 +32,7 @@ returns-in-Err-clause-step g c =
     step_unchanged Take NoMemory old c.next_batch.new.self lack.1 lack (goes_unchanged old.core) refl
 
 pub returns-in-Err-clause-safe : goal.returns-in-Err-clause-safe
-returns-in-Err-clause-safe g c = safe_unchanged g.D.Disk.honest g.D.Disk.reads g.D.Disk.may_leave g.D.Disk.moment g.D.Disk.left_since g.D.Disk.size c.args.self.now c.next_batch.new.self c.in-Err.ensures.err.1 c.stops.ensures
+returns-in-Err-clause-safe g c = safe_unchanged g.D.Disk.model c.args.self.now c.next_batch.new.self c.in-Err.ensures.err.1 c.stops.ensures
 
 pub returns-in-Ok : goal.returns-in-Ok
 returns-in-Ok g c =
@@ -46,7 +46,7 @@ returns-in-Ok g c =
     let flusher : mid.flusher ≡ old.flusher = ap (λ (w : DurableCore _). w.flusher) only in
     let next : IsNext batch old mid.core = if_some c.in-Ok-Some.field-0 batch (λ b. IsNext b old mid.core) c.in-Ok-Some.field-0-is c.in-Ok-Some.ensures.given in
     let good = if_some c.in-Ok-Some.field-0 batch (λ b. old.batch ≡ None → IsGood b.changes old.core.settled) c.in-Ok-Some.field-0-is c.in-Ok-Some.ensures.good in
-    let inside = λ (i : IsInside g.D.Disk.size old.flusher). t.inside (subst (λ (z : Flusher _). IsInside g.D.Disk.size z) (sym flusher) i) in
+    let inside = λ (i : IsInside g.D.Disk.model old.flusher). t.inside (subst (λ (z : Flusher _). IsInside g.D.Disk.model z) (sym flusher) i) in
     let is : IsTakenUp (Ok tt) old new = record {
       batch = batch;
       next = next;
@@ -57,8 +57,8 @@ returns-in-Ok g c =
     record {
       step = step;
       device = t.device ∙ ap device_of only;
-      safe = safe_same g.D.Disk.honest g.D.Disk.reads g.D.Disk.may_leave g.D.Disk.moment g.D.Disk.left_since g.D.Disk.size old new (t.device ∙ ap device_of only) inside c.stops.ensures step.spoken
-          (take_loaded g.D.Disk.honest g.D.Disk.reads g.D.Disk.may_leave batch old new next good (λ state steady. t.flushing state (subst (λ (z : Flusher _). IsSteady g.D.Disk.reads g.D.Disk.may_leave z state) (sym flusher) steady)) t.loaded.batch_is
+      safe = safe_same g.D.Disk.model old new (t.device ∙ ap device_of only) inside c.stops.ensures step.spoken
+          (take_loaded g.D.Disk.model batch old new next good (λ state steady. t.flushing state (subst (λ (z : Flusher _). IsSteady g.D.Disk.model z state) (sym flusher) steady)) t.loaded.batch_is
           (ap (λ (w : DurableCore _). w.batch) only) (ap (λ (w : DurableCore _). w.receipt) only));
     }
 
@@ -76,7 +76,7 @@ returns-in-Err-load g c =
     let flusher : mid.flusher ≡ old.flusher = ap (λ (w : DurableCore _). w.flusher) only in
     let next : IsNext batch old mid.core = if_some c.in-Ok-Some.field-0 batch (λ b. IsNext b old mid.core) c.in-Ok-Some.field-0-is c.in-Ok-Some.ensures.given in
     let good = if_some c.in-Ok-Some.field-0 batch (λ b. old.batch ≡ None → IsGood b.changes old.core.settled) c.in-Ok-Some.field-0-is c.in-Ok-Some.ensures.good in
-    let inside = λ (i : IsInside g.D.Disk.size old.flusher). t.inside (subst (λ (z : Flusher _). IsInside g.D.Disk.size z) (sym flusher) i) in
+    let inside = λ (i : IsInside g.D.Disk.model old.flusher). t.inside (subst (λ (z : Flusher _). IsInside g.D.Disk.model z) (sym flusher) i) in
     let is : IsTakenUp (Err fault) old new = record {
       batch = batch;
       next = next;
@@ -87,6 +87,6 @@ returns-in-Err-load g c =
     record {
       step = step;
       device = t.device ∙ ap device_of only;
-      safe = safe_same g.D.Disk.honest g.D.Disk.reads g.D.Disk.may_leave g.D.Disk.moment g.D.Disk.left_since g.D.Disk.size old new (t.device ∙ ap device_of only) inside c.stops.ensures step.spoken
-          (take_refused g.D.Disk.honest g.D.Disk.reads g.D.Disk.may_leave batch old new next good (t.refused.stays ∙ ap store_of flusher) (t.refused.table ∙ ap table_of flusher) (ap Some back) (ap (λ (w : DurableCore _). w.receipt) only));
+      safe = safe_same g.D.Disk.model old new (t.device ∙ ap device_of only) inside c.stops.ensures step.spoken
+          (take_refused g.D.Disk.model batch old new next good (t.refused.stays ∙ ap store_of flusher) (t.refused.table ∙ ap table_of flusher) (ap Some back) (ap (λ (w : DurableCore _). w.receipt) only));
     }

@@ -7,20 +7,22 @@ use Rattle.apd_slot.specs.Slots.{bssid_of}
 use Rattle.apd_world.specs.Applying.{AppliesFirst}
 use Rattle.apd_world.specs.WorldParts.{slots_of, slot_place, queue_in, queue_of}
 use Rattle.apd_world.specs.declared.step.Told.{Told}
+use Rattle.apd_world.specs.declared.step.Told.TheVariants.{Nothing}
 use Rattle.apd_world.proofs.Joining.{apply_joins, applied_same, nothing_joins}
 use Rattle.apd_world.proofs.SlotLemmas.{other_queues, own_queue, place_set, queue_there, slot_is}
-use Rattle.apd_world.proofs.Standing.{safe_unchanged}
+use Rattle.apd_world.proofs.Standing.{made_unchanged}
+use Rattle.apd_world.proofs.StepLemmas.{nothing_not_called}
 use Rattle.apd_world.proofs.world.World.apply.Goals as goal
 
 pub returns-in_default-clause-step : goal.returns-in_default-clause-step
 returns-in_default-clause-step g c =
     let old = c.args.self.now in
     let none : slot_place (slots_of old) c.args.bssid ≡ None = ap (λ slots. slot_place slots c.args.bssid) (sym c.deref.ensures.value) ∙ sym c.in_default.ensures in
-    nothing_joins g.R.Radio.stations g.R.Radio.faults c.args.bssid old old refl refl (λ b. refl) (ap (queue_in (map (λ queue. queue.items) old.queues.items)) none)
+    nothing_joins g.R.Radio.model c.args.bssid old old refl refl (λ b. refl) (ap (queue_in (map (λ queue. queue.items) old.queues.items)) none)
 
-pub returns-in_default-clause-safe : goal.returns-in_default-clause-safe
-returns-in_default-clause-safe g c =
-    safe_unchanged g.D.Disk.honest g.D.Disk.reads g.D.Disk.may_leave g.D.Disk.moment g.D.Disk.left_since g.D.Disk.size c.args.self.now.durable c.args.self.now.durable refl c.stops.ensures
+pub returns-in_default-clause-made : goal.returns-in_default-clause-made
+returns-in_default-clause-made g c =
+    made_unchanged g.D.Disk.model Nothing c.args.self.now.durable c.args.self.now.durable refl (nothing_not_called _) c.stops.ensures
 
 pub returns-then-place-len-clause-step : goal.returns-then-place-len-clause-step
 returns-then-place-len-clause-step g c =
@@ -28,11 +30,11 @@ returns-then-place-len-clause-step g c =
     let f : VecDeque Out _ → List Out = λ queue. queue.items in
     let at : slot_place (slots_of old) c.args.bssid ≡ Some c.in-Some.place = ap (λ slots. slot_place slots c.args.bssid) (sym c.deref.ensures.value) ∙ sym c.in-Some.ensures in
     let past : length (map f old.queues.items) ≤ c.in-Some.place = let same = length-map old.queues.items f in let ok = old.queues.ok.0 in omega (arith, same, ok, c.if-place-len.true, c.len.ensures) in
-    nothing_joins g.R.Radio.stations g.R.Radio.faults c.args.bssid old old refl refl (λ b. refl) (ap (queue_in (map f old.queues.items)) at ∙ get_or_past (map f old.queues.items) c.in-Some.place [] past)
+    nothing_joins g.R.Radio.model c.args.bssid old old refl refl (λ b. refl) (ap (queue_in (map f old.queues.items)) at ∙ get_or_past (map f old.queues.items) c.in-Some.place [] past)
 
-pub returns-then-place-len-clause-safe : goal.returns-then-place-len-clause-safe
-returns-then-place-len-clause-safe g c =
-    safe_unchanged g.D.Disk.honest g.D.Disk.reads g.D.Disk.may_leave g.D.Disk.moment g.D.Disk.left_since g.D.Disk.size c.args.self.now.durable c.args.self.now.durable refl c.stops.ensures
+pub returns-then-place-len-clause-made : goal.returns-then-place-len-clause-made
+returns-then-place-len-clause-made g c =
+    made_unchanged g.D.Disk.model Nothing c.args.self.now.durable c.args.self.now.durable refl (nothing_not_called _) c.stops.ensures
 
 pub returns-clause-step : goal.returns-clause-step
 returns-clause-step g c =
@@ -49,16 +51,14 @@ returns-clause-step g c =
     let there : place < length qs = let same = length-map old.queues.items f in omega (arith, lt, same) in
     let is : map f new.queues.items ≡ set qs place (f c.apply_first.new.queue) = map-set f old.queues.items place c.apply_first.new.queue in
     let was : f c.index_mut-2.result.now ≡ queue_of old b = queue_there f old.queues.items place c.index_mut-2.result.now lt c.index_mut-2.ensures.value ∙ ap (queue_in qs) (sym at) in
-    let own : bssid_of after ≡ bssid_of (get_or (slots_of old) place slot) = applied_same g.R.Radio.stations g.R.Radio.faults c.apply_first.result slot after (f c.index_mut-2.result.now) (f c.apply_first.new.queue) c.apply_first.ensures ∙ ap bssid_of c.index_mut.ensures.value in
+    let own : bssid_of after ≡ bssid_of (get_or (slots_of old) place slot) = applied_same g.R.Radio.model c.apply_first.result slot after (f c.index_mut-2.result.now) (f c.apply_first.new.queue) c.apply_first.ensures ∙ ap bssid_of c.index_mut.ensures.value in
     let places = place_set (slots_of old) place after slot own in
     let unchanged : after ≡ slot → slots_of new ≡ slots_of old = λ same. ap (set (slots_of old) place) (same ∙ c.index_mut.ensures.value) ∙ set-get_or (slots_of old) place slot in
-    apply_joins g.R.Radio.stations g.R.Radio.faults b old new place slot after at (slot_is (slots_of old) b place slot at ∙ ap Some (sym c.index_mut.ensures.value)) refl refl unchanged c.apply_first.result
+    apply_joins g.R.Radio.model b old new place slot after at (slot_is (slots_of old) b place slot at ∙ ap Some (sym c.index_mut.ensures.value)) refl refl unchanged c.apply_first.result
     (f c.index_mut-2.result.now) (f c.apply_first.new.queue) was
     (own_queue old new places b place slot at qs there (λ p. refl) (f c.apply_first.new.queue) is) (other_queues old new places b place slot at qs there (λ p. refl) (f c.apply_first.new.queue) is) c.apply_first.ensures
 
-pub returns-clause-safe : goal.returns-clause-safe
-returns-clause-safe g c =
-    safe_unchanged g.D.Disk.honest g.D.Disk.reads g.D.Disk.may_leave g.D.Disk.moment g.D.Disk.left_since g.D.Disk.size c.args.self.now.durable c.args.self.now.durable refl c.stops.ensures
-
-pub returns-clause-fault : goal.returns-clause-fault
-returns-clause-fault g c = λ told. absurd (subst (λ (t : Told). AppliesFirst g.R.Radio.stations g.R.Radio.faults t c.index_mut.result.now c.apply_first.new.slot c.index_mut-2.result.now.items c.apply_first.new.queue.items) told c.apply_first.ensures)
+pub returns-clause-made : goal.returns-clause-made
+returns-clause-made g c =
+    made_unchanged g.D.Disk.model c.apply_first.result c.args.self.now.durable c.args.self.now.durable refl
+    (λ told. subst (λ (t : Told). AppliesFirst g.R.Radio.model t c.index_mut.result.now c.apply_first.new.slot c.index_mut-2.result.now.items c.apply_first.new.queue.items) told c.apply_first.ensures) c.stops.ensures

@@ -8,14 +8,14 @@ use Rattle.apd_world.proofs.world.World.apply_all.Given as goal
 -- at so many interfaces no out waits
 abbrev pub invariant-loop-conf : goal.invariant-loop-conf
 invariant-loop-conf g l = record {
-  applied : AreAllApplied g.D.Disk.honest g.D.Disk.reads g.D.Disk.may_leave g.D.Disk.moment g.D.Disk.left_since g.D.Disk.size g.R.Radio.stations g.R.Radio.faults (take l.conf-index l.conf-items) l.fn.answers.items l.answers.items l.fn.self l.self;
+  applied : AreAllApplied g.D.Disk.model g.R.Radio.model (take l.conf-index l.conf-items) l.fn.answers.items l.answers.items l.fn.self l.self;
   only : OnlyHands (durable_of l.fn.self) (durable_of l.self);
 }
 
 -- and at the next some were applied
 abbrev pub invariant-loop-conf-2 : goal.invariant-loop-conf-2
 invariant-loop-conf-2 g l = record {
-  applying : IsApplying g.D.Disk.honest g.D.Disk.reads g.D.Disk.may_leave g.D.Disk.moment g.D.Disk.left_since g.D.Disk.size g.R.Radio.stations g.R.Radio.faults (take l.conf-index l.conf-items) l.conf.bssid l.fn.answers.items l.answers.items l.fn.self l.self;
+  applying : IsApplying g.D.Disk.model g.R.Radio.model (take l.conf-index l.conf-items) l.conf.bssid l.fn.answers.items l.answers.items l.fn.self l.self;
   only : OnlyHands (durable_of l.fn.self) (durable_of l.self);
 }
 

@@ -9,12 +9,17 @@ returns-clause-run g c =
     record {
       calls = round.calls;
       tolds = round.tolds;
-      run = round_lifted g.R.Radio.stations g.R.Radio.faults round.calls round.tolds c.args.self.now c.commit.new.self round.run;
+      run = round_lifted g.R.Radio.model round.calls round.tolds c.args.self.now c.commit.new.self round.run;
       answer_is = round.answer_is;
     }
 
-pub returns-clause-following : goal.returns-clause-following
-returns-clause-following g c =
+pub returns-clause-safe : goal.returns-clause-safe
+returns-clause-safe g c =
     let old = c.args.self.now in
     let new = record old { durable = c.commit.new.self } in
-    rest_following old new (record { slots = refl; queues = λ b. refl }) c.commit.ensures.quiet
+    record {
+      proper = c.commit.ensures.proper;
+      any_moment = c.commit.ensures.any_moment;
+      exact = λ all. all;
+      following = rest_following old new (record { slots = refl; queues = λ b. refl }) c.commit.ensures.quiet.goes;
+    }

@@ -5,7 +5,7 @@ use Rattle.apd_world.proofs.world.World.new.Goals as goal
 pub returns-clause-following : goal.returns-clause-following
 returns-clause-following g c = λ unused resumed b configured slot at a.
     let core = c.args.core in
-    begun_following g.R.Radio.stations _ core.settled resumed c.new.result.core (map (λ queue. queue.items) c.new-2.result.items) core.confs core.heard (c.new.ensures.core ∙ unused)
+    begun_following g.R.Radio.model _ core.settled resumed c.new.result.core (map (λ queue. queue.items) c.new-2.result.items) core.confs core.heard (c.new.ensures.core ∙ unused)
     (ap (map (λ queue. queue.items)) c.new-2.ensures.items) b slot at a
 
 pub returns-clause-queues : goal.returns-clause-queues

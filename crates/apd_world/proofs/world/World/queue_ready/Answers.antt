@@ -6,18 +6,20 @@ use Rattle.apd_mlme.specs.declared.decision.Out.{Out}
 use Rattle.apd_world.specs.WorldParts.{slots_of, slot_at, slot_in, slot_place, queue_in, queue_of}
 use Rattle.apd_world.proofs.Joining.{hand_joins, lacking_joins, no_slot_joins, some_not_none}
 use Rattle.apd_world.proofs.SlotLemmas.{not_err, other_queues, own_queue, queues_stay, queue_there, slot_is, some_slot}
-use Rattle.apd_world.proofs.Standing.{safe_unchanged}
+use Rattle.apd_world.specs.declared.step.Told.TheVariants.{Nothing, NoMemory}
+use Rattle.apd_world.proofs.Standing.{made_unchanged}
+use Rattle.apd_world.proofs.StepLemmas.{lacking_not_called, nothing_not_called}
 use Rattle.apd_world.proofs.world.World.queue_ready.Goals as goal
 
 pub returns-in_default-clause-step : goal.returns-in_default-clause-step
 returns-in_default-clause-step g c =
     let old = c.args.self.now in
     let none : slot_place (slots_of old) c.args.bssid ≡ None = ap (λ slots. slot_place slots c.args.bssid) (sym c.deref.ensures.value) ∙ sym c.in_default.ensures in
-    no_slot_joins g.R.Radio.stations g.R.Radio.faults c.args.bssid old old refl refl (λ b. refl) (ap (slot_in (slots_of old)) none)
+    no_slot_joins g.R.Radio.model c.args.bssid old old refl refl (λ b. refl) (ap (slot_in (slots_of old)) none)
 
-pub returns-in_default-clause-safe : goal.returns-in_default-clause-safe
-returns-in_default-clause-safe g c =
-    safe_unchanged g.D.Disk.honest g.D.Disk.reads g.D.Disk.may_leave g.D.Disk.moment g.D.Disk.left_since g.D.Disk.size c.args.self.now.durable c.args.self.now.durable refl c.stops.ensures
+pub returns-in_default-clause-made : goal.returns-in_default-clause-made
+returns-in_default-clause-made g c =
+    made_unchanged g.D.Disk.model Nothing c.args.self.now.durable c.args.self.now.durable refl (nothing_not_called _) c.stops.ensures
 
 pub returns-then-is_err-clause-step : goal.returns-then-is_err-clause-step
 returns-then-is_err-clause-step g c =
@@ -25,12 +27,12 @@ returns-then-is_err-clause-step g c =
     let new = record old { queues = c.make_queue.new.queues } in
     let at : slot_place (slots_of old) c.args.bssid ≡ Some c.in-Some.place = ap (λ slots. slot_place slots c.args.bssid) (sym c.deref.ensures.value) ∙ sym c.in-Some.ensures in
     let slot = some_slot (slots_of old) c.args.bssid c.in-Some.place at in
-    lacking_joins g.R.Radio.stations g.R.Radio.faults c.args.bssid old new refl refl (queues_stay old new (λ b. refl) c.make_queue.ensures.same)
+    lacking_joins g.R.Radio.model c.args.bssid old new refl refl (queues_stay old new (λ b. refl) c.make_queue.ensures.same)
     (some_not_none (slot_at (slots_of old) c.args.bssid) (get_or (slots_of old) c.in-Some.place slot) (slot_is (slots_of old) c.args.bssid c.in-Some.place slot at))
 
-pub returns-then-is_err-clause-safe : goal.returns-then-is_err-clause-safe
-returns-then-is_err-clause-safe g c =
-    safe_unchanged g.D.Disk.honest g.D.Disk.reads g.D.Disk.may_leave g.D.Disk.moment g.D.Disk.left_since g.D.Disk.size c.args.self.now.durable c.args.self.now.durable refl c.stops.ensures
+pub returns-then-is_err-clause-made : goal.returns-then-is_err-clause-made
+returns-then-is_err-clause-made g c =
+    made_unchanged g.D.Disk.model NoMemory c.args.self.now.durable c.args.self.now.durable refl (lacking_not_called _) c.stops.ensures
 
 pub returns-clause-step : goal.returns-clause-step
 returns-clause-step g c =
@@ -48,5 +50,5 @@ returns-clause-step g c =
     let is : map f new.queues.items ≡ set qs place (f c.hand_to.new.queue) = map-set f mid.items place c.hand_to.new.queue in
     let stay = c.make_queue.ensures.same in
     let was : f c.index_mut.result.now ≡ queue_of old b = queue_there f mid.items place c.index_mut.result.now lt c.index_mut.ensures.value ∙ stay (Some place) ∙ ap (queue_in (map f old.queues.items)) (sym at) in
-    hand_joins g.R.Radio.stations g.R.Radio.faults b old new c.hand_to.result (get_or (slots_of old) place d) (f c.index_mut.result.now) (f c.hand_to.new.queue) (slot_is (slots_of old) b place d at) refl was
+    hand_joins g.R.Radio.model b old new c.hand_to.result (get_or (slots_of old) place d) (f c.index_mut.result.now) (f c.hand_to.new.queue) (slot_is (slots_of old) b place d at) refl was
     (own_queue old new (λ b. refl) b place d at qs there stay (f c.hand_to.new.queue) is) (other_queues old new (λ b. refl) b place d at qs there stay (f c.hand_to.new.queue) is) c.hand_to.ensures.queues

@@ -10,47 +10,38 @@ pub returns-in-Hand : goal.returns-in-Hand
 returns-in-Hand g c =
     let old = c.args.self.now in
     let new = c.hand.new.self in
-    let step = subst (λ (s : Step). IsWorldStep g.R.Radio.stations g.R.Radio.faults s c.hand.result old new) (sym c.in-Hand.is) c.hand.ensures.step in
+    let step = subst (λ (s : Step). IsWorldStep g.R.Radio.model s c.hand.result old new) (sym c.in-Hand.is) c.hand.ensures.step in
     record {
       step = step;
-      safe = c.hand.ensures.safe;
-      one_call = c.hand.ensures.one_call;
-      count = c.hand.ensures.count;
-      fault = c.hand.ensures.fault;
-      exact = exact g.R.Radio.stations g.R.Radio.faults old new c.args.step.now step.inside c.hand.result step.joins;
-      following = following g.R.Radio.stations g.R.Radio.faults old new c.args.step.now c.hand.result step;
-      nothing_is_lost = loses_nothing g.D.Disk.honest g.D.Disk.reads g.D.Disk.may_leave g.D.Disk.moment g.D.Disk.left_since g.D.Disk.size g.R.Radio.stations g.R.Radio.faults old new c.hand.ensures.safe;
+      made = c.hand.ensures.made;
+      exact = exact g.R.Radio.model old new c.args.step.now step.inside c.hand.result step.joins;
+      following = following g.R.Radio.model old new c.args.step.now c.hand.result step;
+      nothing_is_lost = loses_nothing g.D.Disk.model g.R.Radio.model old new c.hand.ensures.made.safe;
     }
 
 pub returns-in-Apply : goal.returns-in-Apply
 returns-in-Apply g c =
     let old = c.args.self.now in
     let new = c.apply.new.self in
-    let step = subst (λ (s : Step). IsWorldStep g.R.Radio.stations g.R.Radio.faults s c.apply.result old new) (sym c.in-Apply.is) c.apply.ensures.step in
+    let step = subst (λ (s : Step). IsWorldStep g.R.Radio.model s c.apply.result old new) (sym c.in-Apply.is) c.apply.ensures.step in
     record {
       step = step;
-      safe = c.apply.ensures.safe;
-      one_call = c.apply.ensures.one_call;
-      count = c.apply.ensures.count;
-      fault = c.apply.ensures.fault;
-      exact = exact g.R.Radio.stations g.R.Radio.faults old new c.args.step.now step.inside c.apply.result step.joins;
-      following = following g.R.Radio.stations g.R.Radio.faults old new c.args.step.now c.apply.result step;
-      nothing_is_lost = loses_nothing g.D.Disk.honest g.D.Disk.reads g.D.Disk.may_leave g.D.Disk.moment g.D.Disk.left_since g.D.Disk.size g.R.Radio.stations g.R.Radio.faults old new c.apply.ensures.safe;
+      made = c.apply.ensures.made;
+      exact = exact g.R.Radio.model old new c.args.step.now step.inside c.apply.result step.joins;
+      following = following g.R.Radio.model old new c.args.step.now c.apply.result step;
+      nothing_is_lost = loses_nothing g.D.Disk.model g.R.Radio.model old new c.apply.ensures.made.safe;
     }
 
 pub returns-in_default : goal.returns-in_default
 returns-in_default g c =
     let old = c.args.self.now in
     let new = record old { durable = c.step.new.self } in
-    let step : IsWorldStep g.R.Radio.stations g.R.Radio.faults c.args.step.now c.step.result old new =
-    durable_joins g.R.Radio.stations g.R.Radio.faults c.args.step.now c.step.result old new c.in_default.not-Hand c.in_default.not-Apply refl (λ b. refl) c.step.ensures.step in
+    let step : IsWorldStep g.R.Radio.model c.args.step.now c.step.result old new =
+    durable_joins g.R.Radio.model c.args.step.now c.step.result old new c.in_default.not-Hand c.in_default.not-Apply refl (λ b. refl) c.step.ensures.step in
     record {
       step = step;
-      safe = c.step.ensures.safe;
-      one_call = c.step.ensures.one_call;
-      count = c.step.ensures.count;
-      fault = c.step.ensures.fault;
+      made = c.step.ensures.made;
       exact = λ all. all;
-      following = following g.R.Radio.stations g.R.Radio.faults old new c.args.step.now c.step.result step;
-      nothing_is_lost = loses_nothing g.D.Disk.honest g.D.Disk.reads g.D.Disk.may_leave g.D.Disk.moment g.D.Disk.left_since g.D.Disk.size g.R.Radio.stations g.R.Radio.faults old new c.step.ensures.safe;
+      following = following g.R.Radio.model old new c.args.step.now c.step.result step;
+      nothing_is_lost = loses_nothing g.D.Disk.model g.R.Radio.model old new c.step.ensures.made.safe;
     }

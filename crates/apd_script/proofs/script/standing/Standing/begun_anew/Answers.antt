@@ -5,7 +5,7 @@ use Rattle.apd_script.proofs.script.standing.Standing.begun_anew.Goals as goal
 
 pub returns-in-Ok-clause-ok : goal.returns-in-Ok-clause-ok
 returns-in-Ok-clause-ok g c =
-    restarts_ok g.D.Disk.honest g.D.Disk.reads g.D.Disk.may_leave g.D.Disk.moment g.D.Disk.left_since g.D.Disk.size g.R.Radio.stations g.R.Radio.faults c.restarted.result c.args.self c.renewed.new.self c.in-Ok.confs c.in-Ok.slots.items
+    restarts_ok g.D.Disk.model g.R.Radio.model c.restarted.result c.args.self c.renewed.new.self c.in-Ok.confs c.in-Ok.slots.items
     c.in-Ok.ensures.ok c.restarted.ensures.ok c.restarted.ensures.only
 
 pub returns-in-Ok-clause-err : goal.returns-in-Ok-clause-err

@@ -11,7 +11,7 @@ returns-in-Stop-clause-err g c = rw c.in-Stop.is c.stopped.ensures.err
 
 pub returns-in_default-clause-ok : goal.returns-in_default-clause-ok
 returns-in_default-clause-ok g c =
-    kept_ok (IsRun g.D.Disk.honest g.D.Disk.reads g.D.Disk.may_leave g.D.Disk.moment g.D.Disk.left_since g.D.Disk.size g.R.Radio.stations g.R.Radio.faults c.args.number (said c.args.line.now) c.args.self) c.acted-done.result c.kept.result c.acted-done.new.self c.kept.ensures.ok c.kept.ensures.err
+    kept_ok (IsRun g.D.Disk.model g.R.Radio.model c.args.number (said c.args.line.now) c.args.self) c.acted-done.result c.kept.result c.acted-done.new.self c.kept.ensures.ok c.kept.ensures.err
     (c.acted-done.ensures.ok c.in_default.not-Stop)
 
 pub returns-in_default-clause-err : goal.returns-in_default-clause-err

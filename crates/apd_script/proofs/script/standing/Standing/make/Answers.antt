@@ -7,7 +7,7 @@ returns g c = record {
   is = c.step.ensures.step;
   goes_on = record {
     only = refl;
-    safely = one_safely g.D.Disk.honest g.D.Disk.reads g.D.Disk.may_leave g.D.Disk.moment g.D.Disk.left_since g.D.Disk.size g.R.Radio.stations g.R.Radio.faults c.args.step.now c.step.result c.args.self.now.world c.step.new.self
-        c.step.ensures.step c.step.ensures.safe;
+    safely = one_safely g.D.Disk.model g.R.Radio.model c.args.step.now c.step.result c.args.self.now.world c.step.new.self
+        c.step.ensures.step c.step.ensures.made.safe;
   };
 }

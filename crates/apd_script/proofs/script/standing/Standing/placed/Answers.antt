@@ -8,9 +8,9 @@ use Rattle.apd_script.proofs.Doing.{placed_ok, requested_ok}
 use Rattle.apd_script.proofs.script.standing.Standing.placed.Goals as goal
 
 pub returns-in-Ask-clause-ok : goal.returns-in-Ask-clause-ok
-returns-in-Ask-clause-ok g c = placed_ok g.D.Disk.honest g.D.Disk.reads g.D.Disk.may_leave g.D.Disk.moment g.D.Disk.left_since g.D.Disk.size g.R.Radio.stations g.R.Radio.faults c.carried_out.result (placing c.args.what) (Asks c.in-Ask.query) c.args.self.now c.carried_out.new.self (ap placing c.in-Ask.is) c.carried_out.ensures.ok
+returns-in-Ask-clause-ok g c = placed_ok g.D.Disk.model g.R.Radio.model c.carried_out.result (placing c.args.what) (Asks c.in-Ask.query) c.args.self.now c.carried_out.new.self (ap placing c.in-Ask.is) c.carried_out.ensures.ok
 
 pub returns-in-Do-clause-ok : goal.returns-in-Do-clause-ok
 returns-in-Do-clause-ok g c =
-    placed_ok g.D.Disk.honest g.D.Disk.reads g.D.Disk.may_leave g.D.Disk.moment g.D.Disk.left_since g.D.Disk.size g.R.Radio.stations g.R.Radio.faults c.carried_out-in-Do.result (placing c.args.what) (Does (happening c.in-Do.event)) c.args.self.now c.carried_out-in-Do.new.self (ap placing c.in-Do.is)
-    (requested_ok g.D.Disk.honest g.D.Disk.reads g.D.Disk.may_leave g.D.Disk.moment g.D.Disk.left_since g.D.Disk.size g.R.Radio.stations g.R.Radio.faults c.carried_out-in-Do.result (Some (ordered (happening c.in-Do.event))) (Accept (input.Order c.in-Do.event) c.args.self.now.moment) c.args.self.now c.carried_out-in-Do.new.self refl c.carried_out-in-Do.ensures.ok)
+    placed_ok g.D.Disk.model g.R.Radio.model c.carried_out-in-Do.result (placing c.args.what) (Does (happening c.in-Do.event)) c.args.self.now c.carried_out-in-Do.new.self (ap placing c.in-Do.is)
+    (requested_ok g.D.Disk.model g.R.Radio.model c.carried_out-in-Do.result (Some (ordered (happening c.in-Do.event))) (Accept (input.Order c.in-Do.event) c.args.self.now.moment) c.args.self.now c.carried_out-in-Do.new.self refl c.carried_out-in-Do.ensures.ok)

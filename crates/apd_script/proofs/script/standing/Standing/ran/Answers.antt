@@ -5,8 +5,8 @@ use Rattle.apd_script.proofs.script.standing.Standing.ran.Goals as goal
 
 pub returns-in-Ok-clause-ok : goal.returns-in-Ok-clause-ok
 returns-in-Ok-clause-ok g c =
-    says_ok g.D.Disk.honest g.D.Disk.reads g.D.Disk.may_leave g.D.Disk.moment g.D.Disk.left_since g.D.Disk.size g.R.Radio.stations g.R.Radio.faults c.done.result c.args.number c.args.text.now (said c.in-Ok.line) c.args.self c.in-Ok.ensures.ok
-    (none_safely g.D.Disk.honest g.D.Disk.reads g.D.Disk.may_leave g.D.Disk.moment g.D.Disk.left_since g.D.Disk.size g.R.Radio.stations g.R.Radio.faults c.args.self.world c.shown.ensures (λ image honest left. g.met.D.Disk.only_now _ image honest left))
+    says_ok g.D.Disk.model g.R.Radio.model c.done.result c.args.number c.args.text.now (said c.in-Ok.line) c.args.self c.in-Ok.ensures.ok
+    (none_safely g.D.Disk.model g.R.Radio.model c.args.self.world c.shown.ensures (λ image honest left. g.met.D.Disk.only_now _ image honest left))
     c.done.ensures.ok
 
 pub returns-in-Ok-clause-err : goal.returns-in-Ok-clause-err

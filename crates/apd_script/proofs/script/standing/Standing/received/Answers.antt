@@ -8,7 +8,7 @@ use Rattle.apd_script.proofs.script.standing.Standing.received.Goals as goal
 
 pub returns-clause-ok : goal.returns-clause-ok
 returns-clause-ok g c =
-    received_ok g.D.Disk.honest g.D.Disk.reads g.D.Disk.may_leave g.D.Disk.moment g.D.Disk.left_since g.D.Disk.size g.R.Radio.stations g.R.Radio.faults c.requested.result c.args.interface.now c.args.frame.now c.in-Some.conf.now
+    received_ok g.D.Disk.model g.R.Radio.model c.requested.result c.args.interface.now c.args.frame.now c.in-Some.conf.now
     (Accept (Input c.in-Some.conf.now.bssid c.args.frame) c.args.self.now.moment) c.args.self.now c.requested.new.self (rw c.confs.ensures at (sym c.with_interface.ensures ∙ ap option_copied c.in-Some.is)) refl c.requested.ensures.ok
 
 pub returns-clause-err : goal.returns-clause-err

@@ -4,4 +4,4 @@ use Rattle.apd_script.proofs.Doing.{on_ok}
 use Rattle.apd_script.proofs.script.standing.Standing.requested.Goals as goal
 
 pub returns-clause-ok : goal.returns-clause-ok
-returns-clause-ok g c = on_ok (IsMade g.D.Disk.honest g.D.Disk.reads g.D.Disk.may_leave g.D.Disk.moment g.D.Disk.left_since g.D.Disk.size g.R.Radio.stations g.R.Radio.faults (Accept c.args.input c.args.self.now.moment) c.args.self.now c.made.new.self) c.answered.result c.in_ok-told.ensures.ok
+returns-clause-ok g c = on_ok (IsMade g.D.Disk.model g.R.Radio.model (Accept c.args.input c.args.self.now.moment) c.args.self.now c.made.new.self) c.answered.result c.in_ok-told.ensures.ok

@@ -5,7 +5,7 @@ use Rattle.apd_script.proofs.script.standing.Standing.stopped.Goals as goal
 
 pub returns-clause-ok : goal.returns-clause-ok
 returns-clause-ok g c =
-    stops_ok g.D.Disk.honest g.D.Disk.reads g.D.Disk.may_leave g.D.Disk.moment g.D.Disk.left_since g.D.Disk.size g.R.Radio.stations g.R.Radio.faults c.gone_on.result c.args.self c.in_ok-begun_anew.field-0 c.in_ok-standing.standing
+    stops_ok g.D.Disk.model g.R.Radio.model c.gone_on.result c.args.self c.in_ok-begun_anew.field-0 c.in_ok-standing.standing
     c.in_ok-begun_anew.ensures.ok c.in_ok-standing.ensures.ok c.gone_on.ensures.ok
 
 pub returns-clause-err : goal.returns-clause-err

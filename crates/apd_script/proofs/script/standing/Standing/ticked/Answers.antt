@@ -6,4 +6,4 @@ use Rattle.apd_script.proofs.script.standing.Standing.ticked.Goals as goal
 
 pub returns-clause-ok : goal.returns-clause-ok
 returns-clause-ok g c =
-    requested_ok g.D.Disk.honest g.D.Disk.reads g.D.Disk.may_leave g.D.Disk.moment g.D.Disk.left_since g.D.Disk.size g.R.Radio.stations g.R.Radio.faults c.requested.result None (Accept input.Tick c.args.moment) (record c.args.self.now { moment = c.args.moment }) c.requested.new.self refl c.requested.ensures.ok
+    requested_ok g.D.Disk.model g.R.Radio.model c.requested.result None (Accept input.Tick c.args.moment) (record c.args.self.now { moment = c.args.moment }) c.requested.new.self refl c.requested.ensures.ok

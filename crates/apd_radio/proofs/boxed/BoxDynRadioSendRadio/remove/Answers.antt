@@ -1,0 +1,30 @@
+use Rattle.std.proofs.Common.{subst}
+use Rattle.std.specs.Prelude.{◌≡◌, ◌≤◌, OnOk, OnErr, Err}
+use Rattle.std.specs.FinMap as map
+use Rattle.apd_base.specs.Failures.{HasRisen}
+use Rattle.apd_radio.specs.declared.radio.RadioFault.TheVariants.{Device}
+use Rattle.apd_radio.proofs.boxed.BoxDynRadioSendRadio.remove.Goals as goal
+
+pub returns-clause-ok : goal.returns-clause-ok
+returns-clause-ok g c =
+    subst (λ p. OnOk c.remove.result ((g.dyn-1.0.entry c.deref_box_mut-1.result.now.0).1.model.stations c.remove.new.self ≡ map.remove ((g.dyn-1.0.entry p.0).1.model.stations p.1) c.args.addr)) c.deref_box_mut-1.ensures.value.1 c.remove.ensures.0
+
+pub returns-clause-err : goal.returns-clause-err
+returns-clause-err g c =
+    subst (λ p. OnErr c.remove.result ((g.dyn-1.0.entry c.deref_box_mut-1.result.now.0).1.model.stations c.remove.new.self ≡ (g.dyn-1.0.entry p.0).1.model.stations p.1)) c.deref_box_mut-1.ensures.value.1 c.remove.ensures.1.0
+
+pub returns-clause-kept : goal.returns-clause-kept
+returns-clause-kept g c =
+    subst (λ p. (g.dyn-1.0.entry c.deref_box_mut-1.result.now.0).1.frames c.remove.new.self ≡ (g.dyn-1.0.entry p.0).1.frames p.1) c.deref_box_mut-1.ensures.value.1 c.remove.ensures.1.1.0
+
+pub returns-clause-stays : goal.returns-clause-stays
+returns-clause-stays g c =
+    subst (λ p. OnOk c.remove.result ((g.dyn-1.0.entry c.deref_box_mut-1.result.now.0).1.model.faults c.remove.new.self ≡ (g.dyn-1.0.entry p.0).1.model.faults p.1)) c.deref_box_mut-1.ensures.value.1 c.remove.ensures.1.1.1.1.0
+
+pub returns-clause-device : goal.returns-clause-device
+returns-clause-device g c =
+    subst (λ p. c.remove.result ≡ Err Device → HasRisen ((g.dyn-1.0.entry p.0).1.model.faults p.1) ((g.dyn-1.0.entry c.deref_box_mut-1.result.now.0).1.model.faults c.remove.new.self)) c.deref_box_mut-1.ensures.value.1 c.remove.ensures.1.1.1.1.1.0
+
+pub returns-clause-count : goal.returns-clause-count
+returns-clause-count g c =
+    subst (λ p. (g.dyn-1.0.entry p.0).1.model.faults p.1 ≤ (g.dyn-1.0.entry c.deref_box_mut-1.result.now.0).1.model.faults c.remove.new.self) c.deref_box_mut-1.ensures.value.1 c.remove.ensures.1.1.1.1.1.1
