@@ -8,7 +8,7 @@ use Rattle.apd_base.specs.State.{which_number}
 use Rattle.apd_base.specs.declared.station.AclMode.{AclMode}
 use Rattle.apd_base.specs.declared.station.AclMode.TheVariants.{AcceptUnlessDenied, DenyUnlessAccepted}
 use Rattle.apd_base.specs.declared.station.Aid.{Aid}
-use Rattle.apd_base.specs.declared.station.StationLimit.{StationLimit}
+use Rattle.apd_base.specs.declared.station.StationNumber.{StationNumber}
 use Rattle.apd_base.specs.declared.station.Which.{Which}
 use Rattle.apd_base.specs.declared.station.Which.TheVariants.{Accept, Deny}
 
@@ -17,8 +17,8 @@ same_aid x y e =
     let low = Σ_prop_path {B = λ n. (1 ≤ n) × (n ≤ MAX_STATIONS)} (λ n. ×_prop le_prop le_prop) {u = (x.number, (x.low, x.high))} {v = (y.number, (y.low, y.high))} e in
     ap (λ (p : (n : ℕ) × ((1 ≤ n) × (n ≤ MAX_STATIONS))). record { number = p.0; low = p.1.0; high = p.1.1 }) low
 
-pub same_limit : (x y : StationLimit) → x.count ≡ y.count → x ≡ y
-same_limit x y e = ap (λ (p : (n : ℕ) × (n ≤ MAX_STATIONS)). record { count = p.0; in_range = p.1 }) (Σ_prop_path {B = λ n. n ≤ MAX_STATIONS} (λ n. le_prop) {u = (x.count, x.in_range)} {v = (y.count, y.in_range)} e)
+pub same_station_number : (x y : StationNumber) → x.number ≡ y.number → x ≡ y
+same_station_number x y e = ap (λ (p : (n : ℕ) × (n ≤ MAX_STATIONS)). record { number = p.0; in_range = p.1 }) (Σ_prop_path {B = λ n. n ≤ MAX_STATIONS} (λ n. le_prop) {u = (x.number, x.in_range)} {v = (y.number, y.in_range)} e)
 
 pub same_mode : (x y : AclMode) → mode_number x ≡ mode_number y → x ≡ y
 same_mode AcceptUnlessDenied AcceptUnlessDenied e = refl

@@ -15,7 +15,7 @@ use Rattle.apd_base.specs.declared.station.Which.{Which}
 use Rattle.apd_base.specs.declared.station.Which.TheVariants.{Accept, Deny}
 use Rattle.apd_base.specs.declared.station.AclMode.{AclMode}
 use Rattle.apd_base.specs.declared.station.AclMode.TheVariants.{AcceptUnlessDenied, DenyUnlessAccepted}
-use Rattle.apd_base.specs.declared.station.StationLimit.{StationLimit}
+use Rattle.apd_base.specs.declared.station.StationNumber.{StationNumber}
 use Rattle.apd_base.specs.declared.station.Policy.{Policy}
 use Rattle.apd_base.specs.Addr.{bssid_cmp, station_cmp, coded_addr, coded_bssid}
 use Rattle.apd_base.specs.declared.limits.TheConstants.{MAX_STATIONS}
@@ -63,14 +63,14 @@ mode_from-mode_number DenyUnlessAccepted = refl
 abbrev pub coded_mode : Coded AclMode
 coded_mode = code_by ℕ coded_ℕ mode_number mode_from mode_from-mode_number
 
-abbrev pub coded_limit : Coded StationLimit
-coded_limit =
+abbrev pub coded_station_number : Coded StationNumber
+coded_station_number =
     code_by ((n : ℕ) × (n ≤ MAX_STATIONS)) (coded_sub coded_ℕ (λ n. n ≤ MAX_STATIONS) (λ n. le_prop))
-    (λ limit. (limit.count, limit.in_range)) (λ p. record { count = p.0; in_range = p.1 }) (λ _. refl)
+    (λ x. (x.number, x.in_range)) (λ p. record { number = p.0; in_range = p.1 }) (λ _. refl)
 
 abbrev pub coded_policy : Coded Policy
 coded_policy =
-    code_by (AclMode × StationLimit) (coded× coded_mode coded_limit) (λ p. (p.mode, p.max))
+    code_by (AclMode × StationNumber) (coded× coded_mode coded_station_number) (λ p. (p.mode, p.max))
     (λ p. record { mode = p.0; max = p.1 }) (λ _. refl)
 
 abbrev pub which_from : ℕ → Which
@@ -91,8 +91,10 @@ coded_list_row =
 
 abbrev pub coded_state : Coded State
 coded_state =
-    code_by (FinMap station_cmp Station × (SetOf list_cmp × FinMap bssid_cmp Policy))
+    code_by (FinMap station_cmp Station × (SetOf list_cmp × (FinMap bssid_cmp Policy × FinMap bssid_cmp StationNumber)))
     (coded× (map.code (coded× coded_bssid coded_addr) coded_station)
-    (coded× (coded_set coded_list_row) (map.code coded_bssid coded_policy)))
-    (λ s. (s.stations, (s.lists, s.policies))) (λ p. record { stations = p.0; lists = p.1.0; policies = p.1.1 })
+    (coded× (coded_set coded_list_row)
+    (coded× (map.code coded_bssid coded_policy) (map.code coded_bssid coded_station_number))))
+    (λ s. (s.stations, (s.lists, (s.policies, s.cursors))))
+    (λ p. record { stations = p.0; lists = p.1.0; policies = p.1.1.0; cursors = p.1.1.1 })
     (λ _. refl)

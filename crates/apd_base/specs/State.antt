@@ -1,4 +1,5 @@
--- The state of an access point: the station rows by (BSSID, address), the list rows, and each BSSID's policy.
+-- The state of an access point: the station rows by (BSSID, address), the list rows, and the policy and the cursor of
+-- each BSSID.
 use Rattle.std.specs.Prelude.{ℕ, Bool, ◌&&◌, Option, Some, None, IsTrue}
 use Rattle.std.specs.declared.cmp.Ordering.{Ordering}
 use Rattle.std.specs.Ordering.{nat_cmp, ordering_then, eq_by_cmp}
@@ -13,6 +14,7 @@ use Rattle.apd_base.specs.declared.station.Station.TheVariants.{Authenticated, A
 use Rattle.apd_base.specs.declared.station.Which.{Which}
 use Rattle.apd_base.specs.declared.station.Which.TheVariants.{Accept, Deny}
 use Rattle.apd_base.specs.declared.station.Policy.{Policy}
+use Rattle.apd_base.specs.declared.station.StationNumber.{StationNumber}
 use Rattle.apd_base.specs.Addr.{addr_cmp, bssid_cmp, station_cmp}
 
 -- the accept list first
@@ -31,16 +33,21 @@ pub record State : Type 0 where
   pub stations : FinMap station_cmp Station
   pub lists : SetOf list_cmp
   pub policies : FinMap bssid_cmp Policy
+  -- the identifier that each BSSID with a policy gave last, 0 where it gave none yet
+  pub cursors : FinMap bssid_cmp StationNumber
 
 -- no row
 abbrev pub empty_state : State
-empty_state = record { stations = map.empty; lists = map.empty; policies = map.empty }
+empty_state = record { stations = map.empty; lists = map.empty; policies = map.empty; cursors = map.empty }
 
 abbrev pub station_at : State → Bssid → Addr → Option Station
 station_at s b a = map.get s.stations (b, a)
 
 abbrev pub policy_at : State → Bssid → Option Policy
 policy_at s b = map.get s.policies b
+
+abbrev pub cursor_at : State → Bssid → Option StationNumber
+cursor_at s b = map.get s.cursors b
 
 abbrev pub IsListed : State → Bssid → Which → Addr → Type 0
 IsListed s b w a = IsTrue (set.contains s.lists (b, w, a))

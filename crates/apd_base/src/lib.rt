@@ -14,4 +14,4 @@ pub mod text;
 pub use address::{Addr, BROADCAST, Bssid, TEXT_LENGTH, broadcast_law, orders_law, text_law};
 pub use moment::Moment;
 pub use sequence::Sequence;
-pub use station::{AclMode, Aid, Association, Policy, Station, StationLimit, Which};
+pub use station::{AclMode, Aid, Association, Policy, Station, StationNumber, Which};

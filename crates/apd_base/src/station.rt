@@ -78,22 +78,22 @@ impl AclMode {
     }
 }
 
-/// From how many rows of a BSSID on a new station is refused, at most 2007. There may be more rows than
-/// that, where it was lowered.
+/// A number from 0 to 2007, as an identifier or the count of a BSSID's stations is: how many stations a
+/// policy admits, and the identifier that a BSSID gave last (0: none yet).
 #[derive(Clone, Copy, Debug, PartialEq, Eq)]
-pub struct StationLimit {
-    pub count: u16,
-    pub ghost in_range: { count ≤ MAX_STATIONS },
+pub struct StationNumber {
+    pub number: u16,
+    pub ghost in_range: { number ≤ MAX_STATIONS },
 }
 
-impl StationLimit {
-    /// The limit of a number, exactly where it is at most 2007.
-    pub fn new(count: u16) -> Option<StationLimit>
-        ensures some { IsSome result ↔ (count ≤ MAX_STATIONS) }
-        ensures count { IfSome result (λ limit. limit.count ≡ count) }
+impl StationNumber {
+    /// The same number, exactly where it is at most 2007.
+    pub fn new(number: u16) -> Option<StationNumber>
+        ensures some { IsSome result ↔ (number ≤ MAX_STATIONS) }
+        ensures number { IfSome result (λ found. found.number ≡ number) }
     {
-        if count as usize <= MAX_STATIONS {
-            Some(StationLimit { count })
+        if number as usize <= MAX_STATIONS {
+            Some(StationNumber { number })
         } else {
             None
         }
@@ -104,5 +104,7 @@ impl StationLimit {
 #[derive(Clone, Copy, Debug, PartialEq, Eq)]
 pub struct Policy {
     pub mode: AclMode,
-    pub max: StationLimit,
+    /// From how many rows on a new station is refused. There may be more rows than that, where it was
+    /// lowered.
+    pub max: StationNumber,
 }

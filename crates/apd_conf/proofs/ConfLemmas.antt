@@ -5,7 +5,7 @@ use Rattle.std.specs.Option.{option_map}
 use Rattle.std.proofs.lemmas.Option.{slice_get-map}
 use Rattle.std.specs.Coded.{le_prop}
 use Rattle.apd_base.specs.declared.limits.TheConstants.{MAX_STATIONS}
-use Rattle.apd_base.specs.declared.station.StationLimit.{StationLimit}
+use Rattle.apd_base.specs.declared.station.StationNumber.{StationNumber}
 use Rattle.apd_conf.specs.BuiltIn.{built_in}
 use Rattle.std.proofs.Common.{ap, zero, suc, arith, ◌<◌, ◌≤◌, ◌≡◌, ℕ, Bool, true, false, cond, List, [], ◌∷◌, Some, None, inl, inr, refl, sym, subst, ◌∙◌}
 use Rattle.std.specs.List.{find}
@@ -18,7 +18,7 @@ use Rattle.apd_base.specs.declared.address.Bssid.{Bssid}
 use Rattle.apd_base.specs.Addr.{bssid_cmp}
 use Rattle.apd_base.proofs.AddrLemmas.{bssid_total, bssid_exact, same_bssid}
 use Rattle.apd_base.proofs.MapLemmas.{one_or_apart, tied}
-use Rattle.apd_base.proofs.StationLemmas.{same_limit}
+use Rattle.apd_base.proofs.StationLemmas.{same_station_number}
 use Rattle.apd_conf.specs.declared.conf.Conf.{Conf}
 use Rattle.apd_conf.specs.Confs.{conf_at, conf_named, AreConfs, IsRepeatedAt}
 use Rattle.apd_base.proofs.Cases.{same_some, differ}
@@ -49,10 +49,10 @@ pub interface-conf_named : (confs : List Conf) (name : List ℕ) (c : Conf) → 
 interface-conf_named confs name c f = sym (name_same name c.interface (find_passes (λ (d : Conf). eq_by_cmp (slice_cmp nat_cmp) name d.interface) confs c f))
 
 -- a configuration with the values of the built-in one
-pub built_in_from : (name ssid : List ℕ) (limit : StationLimit) (accept deny : List Addr) → name ≡ codes "wlan0" → ssid ≡ codes "net" → limit.count ≡ MAX_STATIONS → accept ≡ [] → deny ≡ []
+pub built_in_from : (name ssid : List ℕ) (limit : StationNumber) (accept deny : List Addr) → name ≡ codes "wlan0" → ssid ≡ codes "net" → limit.number ≡ MAX_STATIONS → accept ≡ [] → deny ≡ []
     → record built_in { interface = name; ssid = ssid; max_num_sta = limit; accept = accept; deny = deny } ≡ built_in
 built_in_from name ssid limit accept deny n s l a d =
-    λ i. record built_in { interface = n i; ssid = s i; max_num_sta = same_limit limit built_in.max_num_sta l i; accept = a i; deny = d i }
+    λ i. record built_in { interface = n i; ssid = s i; max_num_sta = same_station_number limit built_in.max_num_sta l i; accept = a i; deny = d i }
 
 own : {X A : Type 0} (eq : A → A → Bool) (part : X → A) → ((a b : A) → eq a b ≡ true → a ≡ b) → ((a : A) → eq a a ≡ true) → (xs : List X) (place : ℕ) (x : X)
     → slice_get xs place ≡ Some x → ¬ (IsRepeatedAt (map part xs) place) → find (λ y. eq (part x) (part y)) xs ≡ Some x

@@ -23,7 +23,7 @@ use Rattle.apd_conf.specs.Faults.{IsFirstFault, IsFaultless}
 use Rattle.apd_conf.specs.ListFile as lists
 use Rattle.apd_base.specs.Addr.{address_of}
 use Rattle.apd_conf.specs.ConfFile.{fault_at, band_name, IsConfOf, IsFaultOf, IsMissing}
-use Rattle.apd_base.proofs.StationLemmas.{same_limit, same_mode}
+use Rattle.apd_base.proofs.StationLemmas.{same_station_number, same_mode}
 use Rattle.apd_base.proofs.Cases.{same_some, none_is_some}
 
 -- a file has one first fault at most
@@ -64,7 +64,7 @@ one_conf lines a b h k =
     let bssid : a.bssid.0 ≡ b.bssid.0 = same_some _ _ (sym h.bssid ∙ k.bssid) in
     let ssid : a.ssid ≡ b.ssid = same_some _ _ (sym h.ssid ∙ k.ssid) in
     let hw_mode : a.hw_mode ≡ b.hw_mode = band_from_name a.hw_mode b.hw_mode (h.hw_mode ∙ sym k.hw_mode) in
-    let limit : a.max_num_sta ≡ b.max_num_sta = same_limit a.max_num_sta b.max_num_sta (h.max_num_sta ∙ sym k.max_num_sta) in
+    let limit : a.max_num_sta ≡ b.max_num_sta = same_station_number a.max_num_sta b.max_num_sta (h.max_num_sta ∙ sym k.max_num_sta) in
     let algs : a.auth_algs ≡ b.auth_algs = same_algs a.auth_algs b.auth_algs (h.auth_algs ∙ sym k.auth_algs) in
     let quiet : a.ignore_broadcast_ssid ≡ b.ignore_broadcast_ssid = same_quiet a.ignore_broadcast_ssid b.ignore_broadcast_ssid (h.ignore_broadcast_ssid ∙ sym k.ignore_broadcast_ssid) in
     let mode : a.macaddr_acl ≡ b.macaddr_acl = same_mode a.macaddr_acl b.macaddr_acl (h.macaddr_acl ∙ sym k.macaddr_acl) in

@@ -16,7 +16,7 @@ built_in = record {
   hw_mode = G;
   channel = 6;
   beacon_int = 100;
-  max_num_sta = record { count = MAX_STATIONS; in_range = lit≤ tt };
+  max_num_sta = record { number = MAX_STATIONS; in_range = lit≤ tt };
   auth_algs = OpenAndShared;
   ap_max_inactivity = 300;
   ignore_broadcast_ssid = No;

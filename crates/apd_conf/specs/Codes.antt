@@ -3,10 +3,10 @@ use Rattle.std.specs.Prelude.{◌≡◌, ℕ, zero, suc, List, Option, refl}
 use Rattle.std.specs.Coded.{Coded, code_by, coded×, coded_ℕ, coded_list, coded_option}
 use Rattle.apd_base.specs.declared.address.Bssid.{Bssid}
 use Rattle.apd_base.specs.declared.station.AclMode.{AclMode}
-use Rattle.apd_base.specs.declared.station.StationLimit.{StationLimit}
+use Rattle.apd_base.specs.declared.station.StationNumber.{StationNumber}
 use Rattle.apd_base.specs.declared.address.Addr.{Addr}
 use Rattle.apd_base.specs.Addr.{coded_addr, coded_bssid}
-use Rattle.apd_base.specs.Codes.{coded_limit, coded_mode}
+use Rattle.apd_base.specs.Codes.{coded_station_number, coded_mode}
 use Rattle.apd_conf.specs.Auth.{algs_number}
 use Rattle.apd_conf.specs.declared.conf.Conf.{Conf}
 use Rattle.apd_conf.specs.declared.hw_mode.HwMode.{HwMode}
@@ -77,7 +77,7 @@ abbrev pub Radio : Type 0
 Radio = HwMode × (ℕ × (ℕ × IgnoreBroadcastSsid))
 
 abbrev pub Stations : Type 0
-Stations = StationLimit × (AuthAlgs × (ℕ × (ℕ × AclMode)))
+Stations = StationNumber × (AuthAlgs × (ℕ × (ℕ × AclMode)))
 
 abbrev pub coded_names : Coded Names
 coded_names =
@@ -88,7 +88,7 @@ abbrev pub coded_radio : Coded Radio
 coded_radio = coded× coded_band (coded× coded_ℕ (coded× coded_ℕ coded_quiet))
 
 abbrev pub coded_stations : Coded Stations
-coded_stations = coded× coded_limit (coded× coded_algs (coded× coded_ℕ (coded× coded_ℕ coded_mode)))
+coded_stations = coded× coded_station_number (coded× coded_algs (coded× coded_ℕ (coded× coded_ℕ coded_mode)))
 
 abbrev pub Lists : Type 0
 Lists = List Addr × List Addr

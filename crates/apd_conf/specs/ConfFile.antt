@@ -81,7 +81,7 @@ pub record IsConfOf (lines : List (List ℕ)) (conf : Conf) : Type 0 where
   pub hw_mode : band_name conf.hw_mode ≡ unwrap_or (value_of (codes "hw_mode") lines) (codes "b")
   pub channel : conf.channel ≡ number_or_default channel (value_of (codes "channel") lines)
   pub beacon_int : conf.beacon_int ≡ number_or_default beacon_int (value_of (codes "beacon_int") lines)
-  pub max_num_sta : conf.max_num_sta.count ≡ number_or_default max_num_sta (value_of (codes "max_num_sta") lines)
+  pub max_num_sta : conf.max_num_sta.number ≡ number_or_default max_num_sta (value_of (codes "max_num_sta") lines)
   pub auth_algs : algs_number conf.auth_algs ≡ number_or_default auth_algs (value_of (codes "auth_algs") lines)
   pub ap_max_inactivity : conf.ap_max_inactivity
       ≡ number_or_default ap_max_inactivity (value_of (codes "ap_max_inactivity") lines)

@@ -5,7 +5,7 @@ ghost use Rattle.apd_conf.specs.Conf.{policy_of};
 
 use crate::{AddressList, AuthAlgs, FileName, HwMode, IgnoreBroadcastSsid, InterfaceName, Ssid};
 use apd_base::limits::MAX_STATIONS;
-use apd_base::{AclMode, Addr, Bssid, Policy, StationLimit};
+use apd_base::{AclMode, Addr, Bssid, Policy, StationNumber};
 use std::alloc::{AllocError, Global};
 
 /// The configuration of one radio. A field has the name, and the unit, that it has in a file.
@@ -25,7 +25,7 @@ pub struct Conf {
     /// Files have 15 to 65535; the type keeps no range.
     pub beacon_int: u16,
     /// From how many stations on a new one is refused, 0 to 2007.
-    pub max_num_sta: StationLimit,
+    pub max_num_sta: StationNumber,
     /// The authentication algorithms that are taken.
     pub auth_algs: AuthAlgs,
     /// After how many seconds of silence a station is disassociated, and after as many again
@@ -69,8 +69,8 @@ impl Conf {
             hw_mode: HwMode::G,
             channel: 6,
             beacon_int: 100,
-            max_num_sta: StationLimit {
-                count: MAX_STATIONS as u16,
+            max_num_sta: StationNumber {
+                number: MAX_STATIONS as u16,
             },
             auth_algs: AuthAlgs::OpenAndShared,
             ap_max_inactivity: 300,

@@ -26,7 +26,7 @@ use crate::{
     AddressList, AuthAlgs, Conf, ConfFault, FileName, HwMode, IgnoreBroadcastSsid, InterfaceName,
     Required, Ssid,
 };
-use apd_base::{AclMode, Addr, Bssid, StationLimit};
+use apd_base::{AclMode, Addr, Bssid, StationNumber};
 use std::alloc::{AllocError, Global};
 
 // The value of a name, which its rule takes.
@@ -70,12 +70,12 @@ fn number(name: &[u8], range: Range, file: &[u8]) -> u32
 }
 
 // The number of stations from which on a new one is refused.
-fn max_num_sta(file: &[u8]) -> StationLimit
+fn max_num_sta(file: &[u8]) -> StationNumber
     requires { IsFaultless (fault_at (lines file.now)) }
-    ensures { result.count ≡ number_or_default table.max_num_sta (value_of (codes "max_num_sta") (lines file.now)) }
+    ensures { result.number ≡ number_or_default table.max_num_sta (value_of (codes "max_num_sta") (lines file.now)) }
 {
-    StationLimit {
-        count: number(b"max_num_sta", MAX_NUM_STA, file) as u16,
+    StationNumber {
+        number: number(b"max_num_sta", MAX_NUM_STA, file) as u16,
     }
 }
 

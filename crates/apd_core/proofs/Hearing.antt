@@ -17,7 +17,7 @@ use Rattle.apd_mlme.specs.Happening.{Happening, Heard, Kick, ListEdit, Expire, C
 use Rattle.apd_mlme.specs.rules.{verdict}
 use Rattle.apd_mlme.proofs.VerdictLemmas.{meaning_in}
 use Rattle.apd_record.specs.declared.change.Change.{Change}
-use Rattle.apd_record.specs.declared.change.Change.TheVariants.{Put, Drop, ListAdd, ListDel, ListClear, Policy}
+use Rattle.apd_record.specs.declared.change.Change.TheVariants.{Put, Drop}
 use Rattle.apd_record.specs.Meaning.{meaning, meaning_of}
 use Rattle.apd_core.specs.Heard.{LastHeard, AreHeardAt, AreMomentsOf, heard_by, heard_by_change, heard_by_changes, heard_from}
 
@@ -53,10 +53,7 @@ module _ (m : Moment) where
       ap is_some (maps.get-remove station_total heard (b, a) (c, d))
       ∙ both_removed (eq_by_cmp station_cmp (c, d) (b, a)) _ _ (h c d)
       ∙ sym (ap is_some (maps.get-remove station_total s.stations (b, a) (c, d)))
-  after_change (ListAdd b w a) s heard h = h
-  after_change (ListDel b w a) s heard h = h
-  after_change (ListClear b w) s heard h = h
-  after_change (Policy b policy) s heard h = h
+  after_change other s heard h = h
 
   pub after_changes : (changes : List Change) (s : State) (heard : LastHeard) → AreMomentsOf s heard → AreMomentsOf (meaning_of changes s) (heard_by_changes m changes heard)
   after_changes [] s heard h = h

@@ -13,7 +13,7 @@ use Rattle.apd_base.proofs.Cases.{differ, no_value, none_is, second_true}
 use Rattle.apd_base.proofs.MapLemmas.{get_insert_other, one_or_apart, tied}
 use Rattle.apd_record.specs.Meaning.{meaning_of}
 use Rattle.apd_record.specs.declared.change.Change.{Change}
-use Rattle.apd_record.specs.declared.change.Change.TheVariants.{Put, Drop, ListAdd, ListDel, ListClear, Policy}
+use Rattle.apd_record.specs.declared.change.Change.TheVariants.{Put, Drop}
 use Rattle.apd_core.specs.Heard.{LastHeard, AreMomentsOf, heard_by_change, heard_by_changes}
 use Rattle.apd_core.specs.ChangedRows.{is_of, is_put_of, puts_row, touches_row}
 use Rattle.apd_core.specs.LaidDown.{AreLaidDown, tidied}
@@ -163,10 +163,7 @@ module _ (m : Moment) (k : Key) where
   left_alone : (change : Change) (heard : LastHeard) → is_of k change ≡ false → at (heard_by_change m change heard) ≡ at heard
   left_alone (Put b a station) heard e = maps.get-insert station_total heard (b, a) m k ∙ ap (λ t. cond t (Some m) (at heard)) e
   left_alone (Drop b a) heard e = maps.get-remove station_total heard (b, a) k ∙ ap (λ t. cond t None (at heard)) e
-  left_alone (ListAdd b w a) heard e = refl
-  left_alone (ListDel b w a) heard e = refl
-  left_alone (ListClear b w) heard e = refl
-  left_alone (Policy b policy) heard e = refl
+  left_alone other heard e = refl
 
   untouched : (changes : List Change) (heard : LastHeard) → touches_row changes k ≡ false → at (heard_by_changes m changes heard) ≡ at heard
   untouched [] heard e = refl
@@ -185,10 +182,7 @@ module _ (m : Moment) (k : Key) where
         | true ↦ λ e. none_is _ e some
         | false ↦ λ e. e
       ] (maps.get-remove station_total heard (b, a) k)
-  by_change (ListAdd b w a) heard some = refl
-  by_change (ListDel b w a) heard some = refl
-  by_change (ListClear b w) heard some = refl
-  by_change (Policy b policy) heard some = refl
+  by_change other heard some = refl
 
   then_stamped : (p q : Bool) (before between after : Option Moment) → Stamped p before between → Stamped q between after → Stamped (p || q) before after
   then_stamped true true before between after first second some = second some
@@ -205,10 +199,7 @@ module _ (m : Moment) (k : Key) where
 put_is_touch : (k : Key) (change : Change) → is_put_of k change ≡ true → is_of k change ≡ true
 put_is_touch k (Put b a station) e = e
 put_is_touch k (Drop b a) e = cc
-put_is_touch k (ListAdd b w a) e = e
-put_is_touch k (ListDel b w a) e = e
-put_is_touch k (ListClear b w) e = e
-put_is_touch k (Policy b policy) e = e
+put_is_touch k other e = e
 
 puts_are_touches : (k : Key) (changes : List Change) → touches_row changes k ≡ false → puts_row changes k ≡ false
 puts_are_touches k [] e = e

@@ -14,7 +14,7 @@ use Rattle.apd_base.proofs.AddrLemmas.{station_total, station_exact}
 use Rattle.apd_base.proofs.MapLemmas.{one_or_apart, get_inserted, get_insert_other}
 use Rattle.apd_frame.specs.Contents.{sender_of}
 use Rattle.apd_record.specs.declared.change.Change.{Change}
-use Rattle.apd_record.specs.declared.change.Change.TheVariants.{Put, Drop, ListAdd, ListDel, ListClear, Policy}
+use Rattle.apd_record.specs.declared.change.Change.TheVariants.{Put, Drop}
 use Rattle.apd_mlme.specs.Happening.{Happening, Heard, Kick, ListEdit, Expire, Configure}
 use Rattle.apd_mlme.specs.rules.{verdict}
 use Rattle.apd_core.specs.Core.{CoreState, accepted, after_request, front_of, state_after, with_entry, with_sender}
@@ -55,10 +55,7 @@ module _ (m : Moment) (b : Bssid) (a : Addr) where
       ]
   by_change before (Drop c d) put heard h =
       subst (λ o. IsAtMost before o) (sym (maps.get-remove station_total heard (c, d) (b, a))) (or_gone (eq_by_cmp station_cmp (b, a) (c, d)) before (at heard) h)
-  by_change before (ListAdd c w d) put heard h = h
-  by_change before (ListDel c w d) put heard h = h
-  by_change before (ListClear c w) put heard h = h
-  by_change before (Policy c policy) put heard h = h
+  by_change before other put heard h = h
 
   by_changes : (before : Option Moment) (changes : List Change) → (HasPut changes b a → Some m ≡ before) → (heard : LastHeard)
       → IsAtMost before (at heard) → IsAtMost before (at (heard_by_changes m changes heard))

@@ -1,7 +1,5 @@
 -- What `==` says of changes: they are the same.
-use mathlib.Core.HLevel.{Σ_prop_path}
-use Rattle.std.specs.Coded.{le_prop}
-use Rattle.std.proofs.Common.{◌≡◌, ℕ, ◌≤◌, Bool, true, List, Decides, ◌&&◌, refl, sym, ap, ◌∙◌}
+use Rattle.std.proofs.Common.{◌≡◌, ℕ, Bool, true, List, Decides, ◌&&◌, refl, sym, ap, ◌∙◌}
 use Rattle.std.specs.Cmp.Lexicographic.{pointwise}
 use Rattle.std.specs.Prelude.{◌==◌}
 use Rattle.std.proofs.lemmas.Bool.{false≢true, and_parts}
@@ -14,10 +12,8 @@ use Rattle.apd_base.specs.declared.station.AclMode.TheVariants.{AcceptUnlessDeni
 use Rattle.apd_base.specs.declared.station.Policy.{Policy as BssPolicy}
 use Rattle.apd_base.specs.declared.station.Station.{Station}
 use Rattle.apd_base.specs.declared.station.Station.TheVariants.{Authenticated, Associated}
-use Rattle.apd_base.specs.declared.station.StationLimit.{StationLimit}
 use Rattle.apd_base.specs.declared.station.Which.{Which}
 use Rattle.apd_base.specs.declared.station.Which.TheVariants.{Accept, Deny}
-use Rattle.apd_base.specs.declared.limits.TheConstants.{MAX_STATIONS}
 use Rattle.apd_base.specs.contracts.address.AddrPartialEq.TheImpl as addr
 use Rattle.apd_base.specs.contracts.address.BssidPartialEq.TheImpl as bssid
 use Rattle.apd_base.specs.contracts.station.AclModePartialEq.TheImpl as mode
@@ -25,10 +21,10 @@ use Rattle.apd_base.specs.contracts.station.PolicyPartialEq.TheImpl as policy
 use Rattle.apd_base.specs.contracts.station.StationPartialEq.TheImpl as station
 use Rattle.apd_base.specs.contracts.station.WhichPartialEq.TheImpl as which
 use Rattle.apd_record.specs.declared.change.Change.{Change}
-use Rattle.apd_record.specs.declared.change.Change.TheVariants.{Put, Drop, ListAdd, ListDel, ListClear, Policy}
+use Rattle.apd_record.specs.declared.change.Change.TheVariants.{Put, Drop, ListAdd, ListDel, ListClear, Policy, Cursor}
 use Rattle.apd_record.specs.contracts.change.ChangePartialEq.TheImpl as change
 use Rattle.apd_record.specs.contracts.change.ChangeEq.TheImpl.Laws.{laws-law}
-use Rattle.apd_base.proofs.StationLemmas.{same_aid, same_limit}
+use Rattle.apd_base.proofs.StationLemmas.{same_aid, same_station_number}
 
 same_addr : (a d : Addr) → (addr.eq-value).it a d ≡ true → a ≡ d
 same_addr a d e = ap (λ (bytes : List ℕ). record { 0 = bytes }) ((bytes_eq-Decides a.0 d.0).0 e)
@@ -57,9 +53,9 @@ same_station s t e = absurd (false≢true e)
 
 same_policy : (x y : BssPolicy) → (policy.eq-value).it x y ≡ true → x ≡ y
 same_policy x y e =
-    let parts = and_parts ((mode.eq-value).it x.mode y.mode) (x.max.count == y.max.count) e in
+    let parts = and_parts ((mode.eq-value).it x.mode y.mode) (x.max.number == y.max.number) e in
     let modes = same_mode x.mode y.mode parts.0 in
-    let limits = same_limit x.max y.max ((Decides-eqb x.max.count y.max.count).0 parts.1) in
+    let limits = same_station_number x.max y.max ((Decides-eqb x.max.number y.max.number).0 parts.1) in
     (λ i. record { mode = modes i; max = limits i })
 
 same_change : (x y : Change) → (change.eq-value).it x y ≡ true → x ≡ y
@@ -84,6 +80,10 @@ same_change (ListClear b w) (ListClear c v) e =
 same_change (Policy b x) (Policy c y) e =
     let parts = and_parts ((bssid.eq-value).it b c) ((policy.eq-value).it x y) e in
     (λ i. Policy (same_bssid b c parts.0 i) (same_policy x y parts.1 i))
+same_change (Cursor b x) (Cursor c y) e =
+    let parts = and_parts ((bssid.eq-value).it b c) (x.number == y.number) e in
+    let numbers = same_station_number x y ((Decides-eqb x.number y.number).0 parts.1) in
+    (λ i. Cursor (same_bssid b c parts.0 i) (numbers i))
 same_change x y e = absurd (false≢true e)
 
 change_decides : (x y : Change) → Decides ((change.eq-value).it x y) (x ≡ y)

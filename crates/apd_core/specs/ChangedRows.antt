@@ -6,25 +6,18 @@ use Rattle.apd_base.specs.Addr.{station_cmp}
 use Rattle.apd_base.specs.declared.address.Addr.{Addr}
 use Rattle.apd_base.specs.declared.address.Bssid.{Bssid}
 use Rattle.apd_record.specs.declared.change.Change.{Change}
-use Rattle.apd_record.specs.declared.change.Change.TheVariants.{Put, Drop, ListAdd, ListDel, ListClear, Policy}
+use Rattle.apd_record.specs.declared.change.Change.TheVariants.{Put, Drop}
 
 -- whether a change puts the row of a station
 abbrev pub is_put_of : Bssid × Addr → Change → Bool
 is_put_of k (Put b a station) = eq_by_cmp station_cmp k (b, a)
-is_put_of k (Drop b a) = false
-is_put_of k (ListAdd b w a) = false
-is_put_of k (ListDel b w a) = false
-is_put_of k (ListClear b w) = false
-is_put_of k (Policy b policy) = false
+is_put_of k other = false
 
 -- and whether it puts or drops it
 abbrev pub is_of : Bssid × Addr → Change → Bool
 is_of k (Put b a station) = eq_by_cmp station_cmp k (b, a)
 is_of k (Drop b a) = eq_by_cmp station_cmp k (b, a)
-is_of k (ListAdd b w a) = false
-is_of k (ListDel b w a) = false
-is_of k (ListClear b w) = false
-is_of k (Policy b policy) = false
+is_of k other = false
 
 abbrev pub puts_row : List Change → Bssid × Addr → Bool
 puts_row changes k = list_any (is_put_of k) changes

@@ -16,7 +16,7 @@ use Rattle.apd_conf.specs.Confs.{conf_at}
 use Rattle.apd_frame.specs.Contents.{sender_of}
 use Rattle.apd_mlme.specs.Happening.{Happening, Heard, Kick, ListEdit, Expire, Configure}
 use Rattle.apd_record.specs.declared.change.Change.{Change}
-use Rattle.apd_record.specs.declared.change.Change.TheVariants.{Put, Drop, ListAdd, ListDel, ListClear, Policy}
+use Rattle.apd_record.specs.declared.change.Change.TheVariants.{Put, Drop}
 
 -- a moment for each row, by (BSSID, address)
 abbrev pub LastHeard : Type 0
@@ -25,14 +25,11 @@ LastHeard = FinMap station_cmp Moment
 abbrev pub coded_moment : Coded Moment
 coded_moment = code_by ℕ coded_ℕ (λ m. m.0) (λ n. record { 0 = n }) (λ _. refl)
 
--- a row that is put counts as heard, and one that is dropped has no moment
+-- a row that is put counts as heard, and one that is dropped has no moment; no other change touches one
 abbrev pub heard_by_change : Moment → Change → LastHeard → LastHeard
 heard_by_change m (Put b a station) heard = maps.insert heard (b, a) m
 heard_by_change m (Drop b a) heard = maps.remove heard (b, a)
-heard_by_change m (ListAdd b w a) heard = heard
-heard_by_change m (ListDel b w a) heard = heard
-heard_by_change m (ListClear b w) heard = heard
-heard_by_change m (Policy b policy) heard = heard
+heard_by_change m other heard = heard
 
 -- the same by changes, one after another
 abbrev pub heard_by_changes : Moment → List Change → LastHeard → LastHeard

@@ -207,10 +207,7 @@ impl Moments {
         match *change {
             Change::Put { bssid, addr, .. } => self.tidy_row(bssid, addr, table),
             Change::Drop { bssid, addr } => self.tidy_row(bssid, addr, table),
-            Change::ListAdd { .. }
-            | Change::ListDel { .. }
-            | Change::ListClear { .. }
-            | Change::Policy { .. } => {}
+            _ => {}
         }
     }
 

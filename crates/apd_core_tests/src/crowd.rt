@@ -1,6 +1,6 @@
 //! Eight radios, their stations, and what these send.
 use crate::common::core_of;
-use apd_base::{AclMode, Addr, Bssid, Policy, Station, StationLimit};
+use apd_base::{AclMode, Addr, Bssid, Policy, Station, StationNumber};
 use apd_conf::{Conf, InterfaceName};
 use apd_core::Core;
 use apd_record::Change;
@@ -52,7 +52,7 @@ fn add_radio(table: &mut Table, radio: u8, stations: u16) -> Option<()> {
     let (bssid, _) = key_of(radio, 0);
     let policy = Policy {
         mode: AclMode::AcceptUnlessDenied,
-        max: StationLimit::new(2007)?,
+        max: StationNumber::new(2007)?,
     };
     change(table, Change::Policy { bssid, policy })?;
     for number in 0..stations {

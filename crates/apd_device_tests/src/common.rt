@@ -1,5 +1,5 @@
 //! What several tests of stores and of what stands on them use.
-use apd_base::{AclMode, Addr, Aid, Association, Bssid, Policy, Sequence, Station, StationLimit};
+use apd_base::{AclMode, Addr, Aid, Association, Bssid, Policy, Sequence, Station, StationNumber};
 use apd_disk::{Call, MemDisk};
 use apd_journal::Batch;
 use apd_record::Change;
@@ -31,7 +31,7 @@ pub(crate) fn policy() -> Result<Change, Fail> {
         bssid: BSSID,
         policy: Policy {
             mode: AclMode::AcceptUnlessDenied,
-            max: StationLimit::new(2007).ok_or("2007 is a limit")?,
+            max: StationNumber::new(2007).ok_or("2007 is a limit")?,
         },
     })
 }

@@ -1,5 +1,5 @@
 //! A half in bytes, what its cuts and changed bytes hold, and the bytes of groups.
-use apd_base::{AclMode, Addr, Aid, Association, Bssid, Policy, Sequence, Station, StationLimit};
+use apd_base::{AclMode, Addr, Aid, Association, Bssid, Policy, Sequence, Station, StationNumber};
 use apd_journal::{Batch, Plan, fits, plan, read_groups};
 use apd_record::Change;
 use std::alloc::{AllocError, Global};
@@ -23,7 +23,7 @@ fn policy() -> Option<Change> {
         bssid: BSSID,
         policy: Policy {
             mode: AclMode::AcceptUnlessDenied,
-            max: StationLimit::new(2007)?,
+            max: StationNumber::new(2007)?,
         },
     })
 }

@@ -1,7 +1,7 @@
 //! Slots that are refused memory: each call is made once more, and has to come to the same. Where memory is ample
 //! nothing is refused; by hand each allocation is refused in turn.
 use crate::slot_calls::{apply, change, replace, resume};
-use apd_base::{AclMode, Addr, Aid, Association, Bssid, Policy, Station, StationLimit};
+use apd_base::{AclMode, Addr, Aid, Association, Bssid, Policy, Station, StationNumber};
 use apd_mlme::Out;
 use apd_radio::{Radio, Sim};
 use apd_record::Change;
@@ -98,7 +98,7 @@ fn changes(table: &mut Table, to: &Change) -> Option<()> {
 
 fn policy() -> Option<Change> {
     let mode = AclMode::AcceptUnlessDenied;
-    let max = StationLimit::new(2007)?;
+    let max = StationNumber::new(2007)?;
     let policy = Policy { mode, max };
     let bssid = WLAN0;
     Some(Change::Policy { bssid, policy })

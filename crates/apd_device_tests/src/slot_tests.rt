@@ -1,5 +1,5 @@
 use crate::slot_calls::{apply, change, replace, resume};
-use apd_base::{AclMode, Addr, Aid, Association, Bssid, Policy, Sequence, Station, StationLimit};
+use apd_base::{AclMode, Addr, Aid, Association, Bssid, Policy, Sequence, Station, StationNumber};
 use apd_mlme::Out;
 use apd_radio::{Radio, Recording, Replaying, Sim};
 use apd_record::Change;
@@ -47,7 +47,7 @@ fn identifier(number: u16) -> Result<Aid, Fail> {
 fn table(alloc: Global) -> Result<Table, Fail> {
     let mut table = Table::new(alloc);
     let mode = AclMode::AcceptUnlessDenied;
-    let max = StationLimit::new(2007).ok_or("limit")?;
+    let max = StationNumber::new(2007).ok_or("limit")?;
     let policy = Policy { mode, max };
     for bssid in [WLAN0, WLAN1] {
         change(&mut table, &Change::Policy { bssid, policy })?;

@@ -5,7 +5,7 @@ use crate::common::{
 };
 use apd_base::Station;
 use apd_disk::{Disk, FuseDisk, MemDisk, Torn};
-use apd_record::Change;
+use apd_record::{Change, write};
 use apd_store::{Receipt, Store, StoreFault, format, recover};
 use apd_table::Table;
 use std::alloc::Global;
@@ -186,6 +186,37 @@ fn changed(alloc: Global, disk: &MemDisk, place: usize, bytes: &[u8]) -> Result<
     let mut changed = MemDisk::new(alloc, Vec::from_slice(alloc, disk.bytes())?)?;
     write_bytes(&mut changed, place, bytes)?;
     Ok(seen(alloc, changed))
+}
+
+// The record of a policy of the BSSID.
+const POLICY: &[u8] = &[6, 2, 0, 0, 0, 0, 1, 0, 0xd7, 7];
+
+// Half A from its first byte on, with a group of each of these records.
+fn half_of(alloc: Global, records: &[&[u8]]) -> Result<Vec<u8>, Fail> {
+    let mut half = Vec::from_slice(alloc, &[1, 1, 0, 0, 0, 0, 0, 0, 0, 0, 0, 0, 0])?;
+    for record in records {
+        let length = u8::try_from(record.len())?;
+        half.extend_from_slice(&[1, length, 0, 0, 0])?;
+        half.extend_from_slice(record)?;
+    }
+    Ok(half)
+}
+
+// The identifier that the BSSID of a recovered table gives next, and the records of its snapshot.
+type Given = Result<(Option<u16>, Vec<u8>), StoreFault>;
+
+// What a store is recovered with whose groups have these records.
+fn given(alloc: Global, records: &[&[u8]]) -> Result<Given, Fail> {
+    let mut disk = blank_disk(alloc, LENGTH)?;
+    write_bytes(&mut disk, 0, b"RAPSTOR1")?;
+    write_bytes(&mut disk, 64, &half_of(alloc, records)?)?;
+    match recover(alloc, disk) {
+        Ok((_store, table)) => {
+            let snapshot = write(alloc, &table.snapshot(alloc)?)?;
+            Ok(Ok((table.next_free(BSSID), snapshot)))
+        }
+        Err((_disk, fault)) => Ok(Err(fault)),
+    }
 }
 
 // What is seen of a half A with a policy and a station, and a half B of this epoch with another policy.
@@ -372,6 +403,39 @@ fn changed_bytes(rt: HostRuntime) -> Result<(), Fail> {
     }
     let long = changed(alloc, &disk, 142, &[1, 1, 0, 1, 0])?;
     assert_eq!(rt; long, Err(StoreFault::Damaged));
+    Ok(())
+}
+
+#[test]
+fn a_cursor_in_a_group(rt: HostRuntime) -> Result<(), Fail> {
+    let alloc = rt.alloc();
+    // The least free identifier above the one given last, and the first one behind the greatest.
+    for (cursor, next) in [
+        ([7, 2, 0, 0, 0, 0, 1, 5, 0], 6),
+        ([7, 2, 0, 0, 0, 0, 1, 0xd7, 7], 1),
+    ] {
+        let mut records = Vec::from_slice(alloc, POLICY)?;
+        records.extend_from_slice(&cursor)?;
+        let found = given(alloc, &[POLICY, &cursor])?;
+        assert_eq!(rt; found, Ok((Some(next), records)), "{cursor:?}");
+    }
+    // Where none was given yet it has no record.
+    let none = [7, 2, 0, 0, 0, 0, 1, 0, 0];
+    let first = given(alloc, &[POLICY, &none])?;
+    assert_eq!(rt; first, Ok((Some(1), Vec::from_slice(alloc, POLICY)?)));
+    Ok(())
+}
+
+#[test]
+fn a_cursor_that_is_refused(rt: HostRuntime) -> Result<(), Fail> {
+    let alloc = rt.alloc();
+    // Its BSSID has no policy, and 2008 is no identifier.
+    for cursor in [[7, 2, 0, 0, 0, 0, 1, 5, 0], [7, 2, 0, 0, 0, 0, 1, 0, 0]] {
+        let found = given(alloc, &[&cursor])?;
+        assert_eq!(rt; found, Err(StoreFault::Damaged), "{cursor:?}");
+    }
+    let found = given(alloc, &[POLICY, &[7, 2, 0, 0, 0, 0, 1, 0xd8, 7]])?;
+    assert_eq!(rt; found, Err(StoreFault::Damaged));
     Ok(())
 }
 

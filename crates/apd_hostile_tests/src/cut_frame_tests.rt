@@ -1,5 +1,5 @@
 //! An association request that is cut short at each of its bytes.
-use apd_base::{AclMode, Addr, Bssid, Policy, Station, StationLimit};
+use apd_base::{AclMode, Addr, Bssid, Policy, Station, StationNumber};
 use apd_conf::{Conf, Confs};
 use apd_frame::{Ignored, decode};
 use apd_mlme::{Decision, Event, Out, decide};
@@ -40,7 +40,7 @@ fn table(alloc: Global) -> Result<Table, Fail> {
     let mut table = Table::new(alloc);
     let policy = Policy {
         mode: AclMode::AcceptUnlessDenied,
-        max: StationLimit::new(2007).ok_or("a limit")?,
+        max: StationNumber::new(2007).ok_or("a limit")?,
     };
     make(
         &mut table,

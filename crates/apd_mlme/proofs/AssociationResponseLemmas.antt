@@ -161,6 +161,7 @@ module _ (s : State) (confs : List Conf) (conf : Conf) (b : Bssid) (kind : Kind)
     others = λ c d ne. row_of_another c d (apart addr_total addr_exact d a ne) ∙ cleared_others s b a c d ne;
     lists = refl;
     policies = refl;
+    cursors = refl;
   }
 
 -- ---- any request of a station with a row
@@ -186,6 +187,7 @@ module _ (s : State) (confs : List Conf) (conf : Conf) (b : Bssid) (kind : Kind)
     others = λ c d ne. refl;
     lists = refl;
     policies = refl;
+    cursors = refl;
   }
 
   told_known : association_status conf request ≡ Success → (o : Option Aid) → identifier_for s b (station_at s b request.sender) ≡ o → IsSome o → IsAnsweredTruly s conf b kind request (accepted s confs conf b kind request o)

@@ -119,6 +119,7 @@ module _ (s : State) (conf : Conf) (b : Bssid) (request : Authentication) where
               (apart station_total station_exact (c, d) (b, request.sender) (λ same. other (ap (λ k. k.0) same, ap (λ k. k.1) same)));
           lists = refl;
           policies = refl;
+          cursors = refl;
         }
     | false ↦ λ e. record {
       status = auth_status s conf b request;
@@ -130,6 +131,7 @@ module _ (s : State) (conf : Conf) (b : Bssid) (request : Authentication) where
       others = λ c d other. refl;
       lists = refl;
       policies = refl;
+      cursors = refl;
     }
   ] refl
 

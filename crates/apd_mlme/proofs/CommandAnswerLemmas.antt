@@ -96,6 +96,7 @@ module _ (s : State) (b : Bssid) (to : Addr) (reason : Reason) (tag : ℕ) where
         ∙ ap (λ u. cond (not u) (station_at s c a) None) (other_way b c (apart bssid_total bssid_exact c b (λ same. other (same, inr all))));
     lists = refl;
     policies = refl;
+    cursors = refl;
   }
 
   module _ (one : eq_by_cmp addr_cmp to BROADCAST ≡ false) where
@@ -116,6 +117,7 @@ module _ (s : State) (b : Bssid) (to : Addr) (reason : Reason) (tag : ℕ) where
       others = λ c a other. refl;
       lists = refl;
       policies = refl;
+      cursors = refl;
     }
 
     deauthenticated_answered : (o : Option Station) → station_at s b to ≡ o → IsKicked s b to reason true tag (answered tag Done (deauthenticated_of s b to reason o))
@@ -130,6 +132,7 @@ module _ (s : State) (b : Bssid) (to : Addr) (reason : Reason) (tag : ℕ) where
       others = λ c a other. leave.out_station s b to c a ∙ leave.other_row b to c a None (station_at s c a) (λ same. other (same.0, inl (sym same.1)));
       lists = refl;
       policies = refl;
+      cursors = refl;
     }
 
     disassociated_answered : (o : Option Station) → station_at s b to ≡ o → IsKicked s b to reason false tag (answered tag Done (disassociated_of s b to reason o))
@@ -145,6 +148,7 @@ module _ (s : State) (b : Bssid) (to : Addr) (reason : Reason) (tag : ℕ) where
       others = λ c a other. leave.back_other s b to c a (λ same. other (same.0, inl (sym same.1)));
       lists = refl;
       policies = refl;
+      cursors = refl;
     }
 
   kick_done : (deauth : Bool) → IsKicked s b to reason deauth tag (kick_verdict s b to reason deauth tag)
@@ -214,6 +218,7 @@ module _ (s : State) (b : Bssid) (w : Which) where
         other_lists = other_list edit;
         other_stations = enforced_elsewhere s b p change now.lists s.policies;
         policies = refl;
+        cursors = refl;
       }
 
   -- there was nothing to do
@@ -234,6 +239,7 @@ module _ (s : State) (b : Bssid) (w : Which) where
     other_lists = λ c v other d. refl;
     other_stations = λ c ne d. refl;
     policies = refl;
+    cursors = refl;
   }
 
   -- the list was full

@@ -18,13 +18,13 @@ use Rattle.apd_mlme.proofs.RowLemmas.{other_row, back, back_other, back_row, out
 
 module _ (s : State) (b : Bssid) (a : Addr) where
   put_back_alone : IsAlone s b a (back s b a)
-  put_back_alone = record { others = λ c d other. back_other s b a c d other; lists = refl; policies = refl }
+  put_back_alone = record { others = λ c d other. back_other s b a c d other; lists = refl; policies = refl; cursors = refl }
 
   dropped_alone : IsAlone s b a (out s b a)
-  dropped_alone = record { others = λ c d other. out_station s b a c d ∙ other_row b a c d None (station_at s c d) other; lists = refl; policies = refl }
+  dropped_alone = record { others = λ c d other. out_station s b a c d ∙ other_row b a c d None (station_at s c d) other; lists = refl; policies = refl; cursors = refl }
 
   kept_alone : IsAlone s b a s
-  kept_alone = record { others = λ c d other. refl; lists = refl; policies = refl }
+  kept_alone = record { others = λ c d other. refl; lists = refl; policies = refl; cursors = refl }
 
   -- a row is one of the three
   unknown : {A : Type 0} → station_at s b a ≡ None → IsSome (station_at s b a) → A

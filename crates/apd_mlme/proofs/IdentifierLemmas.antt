@@ -16,7 +16,7 @@ use Rattle.apd_base.specs.State.{State, station_at, aid_of, aid_at, stations_of}
 use Rattle.apd_base.proofs.AddrLemmas.{bssid_total, bssid_exact, station_total, station_exact}
 use Rattle.apd_base.proofs.MapLemmas.{one_or_apart, apart, tied, get_remove_other}
 use Rattle.apd_base.proofs.StationLemmas.{same_aid}
-use Rattle.apd_table.specs.LeastFree.{IsTaken, IsLeastFree}
+use Rattle.apd_table.specs.LeastFree.{AreTakenAbove, IsTaken, IsLeastFree}
 use Rattle.apd_table.specs.Sound.{Sound}
 use Rattle.apd_table.specs.Addresses.{addresses_at}
 use Rattle.apd_table.proofs.AllRows.{any_address}
@@ -45,25 +45,25 @@ module _ (s : State) (b : Bssid) where
 
   -- none is free: each is some station's; and the one that is found is the least
   abbrev Scanned : (n : ℕ) → Option Aid → Type 0
-  Scanned n None = (i : ℕ) → 1 ≤ i → i ≤ n → IsTaken s b i
+  Scanned n None = (i : ℕ) → 0 < i → i ≤ n → IsTaken s b i
   Scanned n (Some aid) = IsLeastFree s b aid.number
 
-  one_more : (P : ℕ → Type 0) (n : ℕ) → ((i : ℕ) → 1 ≤ i → i ≤ n → P i) → P (suc n) → (i : ℕ) → 1 ≤ i → i ≤ suc n → P i
+  one_more : (P : ℕ → Type 0) (n : ℕ) → ((i : ℕ) → 0 < i → i ≤ n → P i) → P (suc n) → (i : ℕ) → 0 < i → i ≤ suc n → P i
   one_more P n below here i low high =
       elim (eq-or-lt_of_le high) [
         | inl same ↦ subst P (sym same) here
         | inr less ↦ below i low (omega arith)
       ]
 
-  next_is_free : (n : ℕ) (aid : Aid) → aid.number ≡ suc n → ((i : ℕ) → 1 ≤ i → i ≤ n → IsTaken s b i) → is_taken s b aid ≡ false → IsLeastFree s b aid.number
+  next_is_free : (n : ℕ) (aid : Aid) → aid.number ≡ suc n → ((i : ℕ) → 0 < i → i ≤ n → IsTaken s b i) → is_taken s b aid ≡ false → IsLeastFree s b aid.number
   next_is_free n aid is below untaken = record {
-    low = aid.low;
+    low = omega (arith, aid.low);
     high = aid.high;
     free = free_of aid untaken;
     smaller = λ j low less. below j low (omega arith);
   }
 
-  next_scanned : (n : ℕ) (aid : Aid) → aid.number ≡ suc n → ((i : ℕ) → 1 ≤ i → i ≤ n → IsTaken s b i) → Scanned (suc n) (cond (is_taken s b aid) None (Some aid))
+  next_scanned : (n : ℕ) (aid : Aid) → aid.number ≡ suc n → ((i : ℕ) → 0 < i → i ≤ n → IsTaken s b i) → Scanned (suc n) (cond (is_taken s b aid) None (Some aid))
   next_scanned n aid is below =
       elim (is_taken s b aid) as (λ t. is_taken s b aid ≡ t → Scanned (suc n) (cond t None (Some aid))) [
         | true ↦ λ e. one_more (IsTaken s b) n below (subst (IsTaken s b) is (taken_of aid e))
@@ -79,9 +79,6 @@ module _ (s : State) (b : Bssid) where
         | None ↦ λ below. next_scanned n last refl below
         | Some z ↦ λ least. least
       ] (scanned n (one_less n high))
-
-  abbrev pub AllTaken : Type 0
-  AllTaken = (i : ℕ) → 1 ≤ i → i ≤ MAX_STATIONS → IsTaken s b i
 
   least_scanned : Scanned MAX_STATIONS (least_free s b)
   unfolding least_free
@@ -118,7 +115,7 @@ module _ (s : State) (b : Bssid) where
         | inr apart ↦ (one.0, ap aid_of (get_remove_other station_total station_exact m (b, top.0) (b, one.0) apart) ∙ one.1)
       ]
 
-  as_many : (n : ℕ) (m : FinMap station_cmp Station) → ((i : ℕ) → 1 ≤ i → i ≤ n → Has m i) → n ≤ map.len m
+  as_many : (n : ℕ) (m : FinMap station_cmp Station) → ((i : ℕ) → 0 < i → i ≤ n → Has m i) → n ≤ map.len m
   as_many zero m has = omega arith
   as_many (suc n) m has =
       let top = has (suc n) (omega arith) (omega arith) in
@@ -142,7 +139,7 @@ module _ (s : State) (b : Bssid) where
       ]
 
   -- a station that has none leaves one: the others are 2006 at most
-  never_all : Sound s → (a : Addr) → IsSome (station_at s b a) → aid_at s b a ≡ None → AllTaken → ⊥
+  never_all : Sound s → (a : Addr) → IsSome (station_at s b a) → aid_at s b a ≡ None → AreTakenAbove s b 0 → ⊥
   never_all sound a known none all =
       let rows = stations_of s b in
       let there : IsSome (map.get rows (b, a)) = subst IsSome (sym (row_there a)) known in
@@ -167,6 +164,6 @@ module _ (s : State) (b : Bssid) where
   identifier_is_there sound a (Some (Associated x)) row known = refl
 
   -- what a search for the least free number finds
-  pub one_is_left : Sound s → (a : Addr) → IsSome (station_at s b a) → aid_at s b a ≡ None → (r : Option ℕ) → IfNone r AllTaken → IsSome r
+  pub one_is_left : Sound s → (a : Addr) → IsSome (station_at s b a) → aid_at s b a ≡ None → (r : Option ℕ) → IfNone r (AreTakenAbove s b 0) → IsSome r
   one_is_left sound a known none None all = absurd (never_all sound a known none all)
   one_is_left sound a known none (Some i) all = refl

@@ -63,7 +63,7 @@ use Rattle.apd_mlme.proofs.AssociationResponseLemmas.{refuses}
 use Rattle.apd_mlme.proofs.AuthenticationLemmas.{known_already}
 use Rattle.apd_mlme.proofs.CommandLemmas.{by_kick, by_edit, HasRoom, new, change_with, edited_sound, edit_length}
 use Rattle.apd_mlme.proofs.EnforcementLemmas.{Makes, v}
-use Rattle.apd_mlme.proofs.StartLemmas.{later_sound}
+use Rattle.apd_mlme.proofs.StartLemmas.{later_makes, later_sound}
 
 -- what an event brings about, but for the answer to a command, and what is known where it does
 pub data Shape (s : State) (confs : List Conf) (h : Happening) : Verdict → Type 0 where
@@ -160,7 +160,7 @@ module _ (s : State) (confs : List Conf) (b : Bssid) (there : IsSome (conf_at co
     pub configure_shape : (accept deny : List Addr) → Shape s confs (Configure b accept deny) (configure_verdict s conf b accept deny)
     configure_shape accept deny =
         elim (is_some (policy_at s b)) as (λ t. is_some (policy_at s b) ≡ t → Shape s confs (Configure b accept deny) (cond t (later_start s conf b) (first_start s conf b accept deny))) [
-          | true ↦ λ e. enforced b (policy_of conf) (Policy b (policy_of conf)) s.lists (map.insert s.policies b (policy_of conf)) there (λ k. refl) (later_sound s conf b e) (λ known. omega (arith, policy_length b (policy_of conf) known))
+          | true ↦ λ e. enforced b (policy_of conf) (Policy b (policy_of conf)) s.lists (map.insert s.policies b (policy_of conf)) there (later_makes s conf b e) (later_sound s conf b e) (λ known. omega (arith, policy_length b (policy_of conf) known))
           | false ↦ λ e. started conf b accept deny refl e
         ] refl
 

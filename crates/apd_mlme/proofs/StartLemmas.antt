@@ -1,29 +1,31 @@
 -- What the first start of a BSSID leaves, and a later one.
-use Rattle.std.proofs.Common.{◌≡◌, ◌≢◌, ℕ, ◌+◌, ◌≤◌, ◌<◌, Bool, true, false, cond, ◌&&◌, ◌||◌, List, [], ◌∷◌, ◌++◌, None, inr, length, refl, sym, ap, subst, ◌∙◌, IsSome, arith, append-nil, Some, inl}
+use Rattle.std.proofs.Common.{◌≡◌, ◌≢◌, ℕ, ◌+◌, ◌≤◌, ◌<◌, Bool, true, false, cond, ◌&&◌, ◌||◌, List, [], ◌∷◌, ◌++◌, None, inr, length, refl, sym, ap, subst, ◌∙◌, IsSome, arith, append-nil, Some, inl, Option}
 use Rattle.std.specs.Cmp.{eq_by_cmp_equiv}
 use Rattle.std.specs.List.{Contains}
 use Rattle.std.specs.Prelude.{◌↔◌}
 use Rattle.std.specs.Option.{is_some}
 use Rattle.std.specs.Ordering.{eq_by_cmp}
 use Rattle.std.specs.FinMap as map
-use Rattle.std.specs.FinMap.{get-empty, get-entries, get-from_entries, len-empty}
+use Rattle.std.specs.FinMap.{FinMap, get-empty, get-entries, get-from_entries, len-empty}
 use Rattle.std.proofs.lemmas.Bool.{false_from_ne_true}
 use Rattle.std.proofs.lemmas.Map.Views.{Contains-from_any, list_any-from_Contains}
 use Rattle.apd_base.specs.declared.address.Addr.{Addr}
 use Rattle.apd_base.specs.declared.address.Bssid.{Bssid}
+use Rattle.apd_base.specs.declared.station.Policy.{Policy as BssPolicy}
+use Rattle.apd_base.specs.declared.station.StationNumber.{StationNumber}
 use Rattle.apd_base.specs.declared.station.Which.{Which}
 use Rattle.apd_base.specs.declared.station.Which.TheVariants.{Accept, Deny}
 use Rattle.apd_base.specs.Sets.{SetOf, contains}
 use Rattle.apd_base.specs.State.{State, station_at, policy_at, list_cmp, which_cmp, is_row_of, list_count, IsListed}
 use Rattle.apd_base.specs.Addr.{bssid_cmp, addr_cmp, is_among}
 use Rattle.apd_base.proofs.AddrLemmas.{addr_total, bssid_total, bssid_exact, same_addr}
-use Rattle.apd_base.proofs.MapLemmas.{apart, tied, retain_keys-insert_out}
+use Rattle.apd_base.proofs.MapLemmas.{apart, tied, get_inserted, get_insert_other, retain_keys-insert_out}
 use Rattle.apd_base.proofs.StateLemmas.{list_total, list_exact}
 use Rattle.apd_conf.specs.declared.conf.Conf.{Conf}
 use Rattle.apd_conf.specs.Conf.{policy_of}
 use Rattle.apd_conf.specs.ListFile.{IsList}
 use Rattle.apd_record.specs.declared.change.Change.{Change}
-use Rattle.apd_record.specs.Meaning.{add_to_list, set_policy, meaning_of}
+use Rattle.apd_record.specs.Meaning.{add_to_list, cursors_with, none_given, set_policy, meaning_of}
 use Rattle.apd_table.specs.Allowed.{allowed, allowed_under}
 use Rattle.apd_table.specs.Sound.{Sound, StaySound}
 use Rattle.apd_table.proofs.Denied.{meaning_of-append}
@@ -36,7 +38,16 @@ use Rattle.apd_mlme.specs.laws.Start.{IsStarted}
 use Rattle.apd_mlme.specs.rules.Configuration.{with_listed, additions, first_start, later_start, configure_verdict}
 use Rattle.apd_base.proofs.Cases.{differ, either, no_value, none_is}
 use Rattle.apd_record.specs.declared.change.Change.TheVariants.{Policy}
-use Rattle.apd_mlme.proofs.EnforcementLemmas.{rest, enforced_here, enforced_elsewhere, enforced_sound}
+use Rattle.apd_mlme.proofs.EnforcementLemmas.{Makes, rest, enforced_here, enforced_elsewhere, enforced_sound}
+
+-- a first policy brings a cursor, and a later one leaves it
+cursors_first : (o : Option BssPolicy) → is_some o ≡ false → (cursors : FinMap bssid_cmp StationNumber) (b : Bssid) → cursors_with o cursors b ≡ map.insert cursors b none_given
+cursors_first None e cursors b = refl
+cursors_first (Some policy) e cursors b = cc
+
+cursors_later : (o : Option BssPolicy) → IsSome o → (cursors : FinMap bssid_cmp StationNumber) (b : Bssid) → cursors_with o cursors b ≡ cursors
+cursors_later None h cursors b = cc
+cursors_later (Some policy) h cursors b = refl
 
 one_more : (t : Bool) (n : ℕ) → cond t n (n + 1) ≤ n + 1
 one_more true n = omega arith
@@ -79,12 +90,13 @@ pub additions_meaning : (b : Bssid) (w : Which) (as' : List Addr) (s : State) �
 additions_meaning b w [] s = ap (λ l. record s { lists = l }) (same_set list_total list_exact s.lists (with_listed b w [] s.lists) (λ q. sym (ap is_some (get-from_entries list_total (map.entries s.lists) q ∙ sym (get-entries s.lists q)))))
 additions_meaning b w (a ∷ as') s = additions_meaning b w as' (add_to_list b w a s) ∙ ap (λ l. record s { lists = l }) (sooner b w a as' s.lists)
 
-pub first_meaning : (s : State) (conf : Conf) (b : Bssid) (accept deny : List Addr) → meaning_of (first_start s conf b accept deny).changes s ≡ (first_start s conf b accept deny).state
-first_meaning s conf b accept deny =
+pub first_meaning : (s : State) (conf : Conf) (b : Bssid) (accept deny : List Addr) → is_some (policy_at s b) ≡ false → meaning_of (first_start s conf b accept deny).changes s ≡ (first_start s conf b accept deny).state
+first_meaning s conf b accept deny new =
     let started = set_policy b (policy_of conf) s in
     meaning_of-append (additions b Accept accept) (additions b Deny deny) started
     ∙ ap (meaning_of (additions b Deny deny)) (additions_meaning b Accept accept started)
     ∙ additions_meaning b Deny deny (record started { lists = with_listed b Accept accept s.lists })
+    ∙ ap (λ c. record (first_start s conf b accept deny).state { cursors = c }) (cursors_first (policy_at s b) new s.cursors b)
 
 or_none : (t u : Bool) → u ≡ false → (t || u) ≡ t
 or_none true u e = refl
@@ -197,19 +209,26 @@ module _ (b : Bssid) where
       pub first_started : IsStarted s conf b accept deny (first_start s conf b accept deny).state
       first_started = record {
         policy = policy_here s b (policy_of conf);
+        first_cursor = λ _. get_inserted bssid_total bssid_exact s.cursors b none_given;
+        cursor = λ known. differ _ new known;
         accepted = λ _ a. on_list Accept a;
         denied = λ _ a. on_list Deny a;
         stored = λ h. differ _ new h;
         stations = λ a. nobody a ∙ sym (ap (λ o. cond (allowed (first_start s conf b accept deny).state b a) o None) (nobody a) ∙ either (allowed (first_start s conf b accept deny).state b a) None);
         other_policies = λ c ne. policy_elsewhere s b (policy_of conf) c (apart bssid_total bssid_exact c b ne);
+        other_cursors = λ c ne. get_insert_other bssid_total bssid_exact s.cursors b none_given c (apart bssid_total bssid_exact c b ne);
         other_lists = other_rows;
         other_stations = λ c ne a. refl;
       }
 
 module _ (s : State) (conf : Conf) (b : Bssid) (known : IsSome (policy_at s b)) where
+  -- the policy is made anew, and nothing else
+  pub later_makes : Makes s b (policy_of conf) (Policy b (policy_of conf)) s.lists (map.insert s.policies b (policy_of conf))
+  later_makes k = ap (λ c. record s { stations = k; policies = map.insert s.policies b (policy_of conf); cursors = c }) (cursors_later (policy_at s b) known s.cursors b)
+
   pub later_sound : Sound s → StaySound (later_start s conf b).changes s
   later_sound =
-      enforced_sound s b (policy_of conf) (Policy b (policy_of conf)) s.lists (map.insert s.policies b (policy_of conf)) (λ k. refl) (policy_here s b (policy_of conf))
+      enforced_sound s b (policy_of conf) (Policy b (policy_of conf)) s.lists (map.insert s.policies b (policy_of conf)) later_makes (policy_here s b (policy_of conf))
       (λ left none. sound_set (rest s b (policy_of conf) (Policy b (policy_of conf)) s.lists (map.insert s.policies b (policy_of conf))) b (policy_of conf) left (record { room = inl known; allowed = none }))
 
   pub later_started : (accept deny : List Addr) → IsStarted s conf b accept deny (later_start s conf b).state
@@ -218,11 +237,14 @@ module _ (s : State) (conf : Conf) (b : Bssid) (known : IsSome (policy_at s b)) 
       let here : policy_at (later_start s conf b).state b ≡ Some (policy_of conf) = policy_here s b (policy_of conf) in
       record {
         policy = here;
+        first_cursor = λ new. none_is (policy_at s b) new known;
+        cursor = λ _. refl;
         accepted = λ new a. none_is (policy_at s b) new known;
         denied = λ new a. none_is (policy_at s b) new known;
         stored = λ h. refl;
         stations = λ d. enforced_here s b (policy_of conf) (Policy b (policy_of conf)) s.lists policies d ∙ ap (λ o. cond (allowed_under (later_start s conf b).state b d o) (station_at s b d) None) (sym here);
         other_policies = λ c ne. policy_elsewhere s b (policy_of conf) c (apart bssid_total bssid_exact c b ne);
+        other_cursors = λ c ne. refl;
         other_lists = λ c ne w a. refl;
         other_stations = enforced_elsewhere s b (policy_of conf) (Policy b (policy_of conf)) s.lists policies;
       }

@@ -42,7 +42,7 @@ module _ (s : State) (confs : List Conf) where
   shape_meaning h _ (shape.associated conf b kind request aid there known own) = associated_meaning s confs conf b kind request aid
   shape_meaning h _ (shape.emptied b reason deauth there) = all_meaning s b reason deauth
   shape_meaning h _ (shape.enforced b p change l q there makes keep short) = enforced_meaning s b p change l q makes
-  shape_meaning h _ (shape.started conf b accept deny is first) = first_meaning s conf b accept deny
+  shape_meaning h _ (shape.started conf b accept deny is first) = first_meaning s conf b accept deny first
 
   pub meaning_in : (h : Happening) → meaning_of (verdict s confs h).changes s ≡ (verdict s confs h).state
   meaning_in h = by_shape s confs (λ v. meaning_of v.changes s ≡ v.state) (λ tag answer v same. same) h (shape_meaning h)

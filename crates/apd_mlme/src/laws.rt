@@ -77,8 +77,9 @@ pub fn drivers_follow()
 {}
 
 /// The lists that come with the first start of a BSSID are its lists from then on, and those of a later
-/// start change nothing: the stored ones stay. Each station that the new policy denies is gone, and every
-/// other is as it was.
+/// start change nothing: the stored ones stay. A first start has given no identifier yet, and a later one
+/// leaves which was given last. Each station that the new policy denies is gone, and every other is as it
+/// was.
 pub fn lists_come_with_the_first_start()
     ensures { (s : State) (confs : List Conf) (conf : Conf) (b : Bssid) (accept : List Addr) (deny : List Addr)
         → conf_at confs b ≡ Some conf → Sound s

@@ -10,9 +10,10 @@ use Rattle.apd_base.specs.declared.address.Addr.{Addr}
 use Rattle.apd_base.specs.declared.address.Bssid.{Bssid}
 use Rattle.apd_base.specs.declared.station.Policy.{Policy as BssPolicy}
 use Rattle.apd_base.specs.declared.station.Station.{Station}
+use Rattle.apd_base.specs.declared.station.StationNumber.{StationNumber}
 use Rattle.apd_base.specs.declared.station.Which.{Which}
 use Rattle.apd_record.specs.declared.change.Change.{Change}
-use Rattle.apd_record.specs.declared.change.Change.TheVariants.{Put, Drop, ListAdd, ListDel, ListClear, Policy}
+use Rattle.apd_record.specs.declared.change.Change.TheVariants.{Put, Drop, ListAdd, ListDel, ListClear, Policy, Cursor}
 use Rattle.apd_record.specs.Ranges.{IsStation, IsChange}
 use Rattle.apd_record.specs.Record.{station_bytes, record_of}
 use Rattle.apd_record.proofs.Fronts.{same_front}
@@ -65,10 +66,15 @@ clear_body : (bytes : List ℕ) → ((w : Which) (r : List ℕ) → bytes ≡ wh
 clear_body bytes none (ListClear b w) rest is t e = none w rest e
 clear_body bytes none x rest is t e = absurd (omega arith)
 
-policy_body : (bytes : List ℕ) → ((policy : BssPolicy) (r : List ℕ) → bytes ≡ mode_number policy.mode ∷ to_le_bytes w16 policy.max.count ++ r → ⊥)
+policy_body : (bytes : List ℕ) → ((policy : BssPolicy) (r : List ℕ) → bytes ≡ mode_number policy.mode ∷ to_le_bytes w16 policy.max.number ++ r → ⊥)
     → (x : Change) (rest : List ℕ) → IsChange x → 6 ≡ tag_of x → bytes ≡ body_of x ++ rest → ⊥
 policy_body bytes none (Policy b policy) rest is t e = none policy rest e
 policy_body bytes none x rest is t e = absurd (omega arith)
+
+cursor_body : (bytes : List ℕ) → ((last : StationNumber) (r : List ℕ) → bytes ≡ to_le_bytes w16 last.number ++ r → ⊥)
+    → (x : Change) (rest : List ℕ) → IsChange x → 7 ≡ tag_of x → bytes ≡ body_of x ++ rest → ⊥
+cursor_body bytes none (Cursor b last) rest is t e = none last rest e
+cursor_body bytes none x rest is t e = absurd (omega arith)
 
 -- ---- the fields that are not there
 
@@ -106,5 +112,8 @@ pub clear_without_which : (b : Bssid) (bytes : List ℕ) → length b.0.0 ≡ 6 
 clear_without_which b bytes six none = by_body 5 b bytes six (clear_body bytes none)
 
 pub policy_without_fields : (b : Bssid) (bytes : List ℕ) → length b.0.0 ≡ 6
-    → ((policy : BssPolicy) (r : List ℕ) → bytes ≡ mode_number policy.mode ∷ to_le_bytes w16 policy.max.count ++ r → ⊥) → NoRecord 6 b bytes
+    → ((policy : BssPolicy) (r : List ℕ) → bytes ≡ mode_number policy.mode ∷ to_le_bytes w16 policy.max.number ++ r → ⊥) → NoRecord 6 b bytes
 policy_without_fields b bytes six none = by_body 6 b bytes six (policy_body bytes none)
+
+pub cursor_without_number : (b : Bssid) (bytes : List ℕ) → length b.0.0 ≡ 6 → ((last : StationNumber) (r : List ℕ) → bytes ≡ to_le_bytes w16 last.number ++ r → ⊥) → NoRecord 7 b bytes
+cursor_without_number b bytes six none = by_body 7 b bytes six (cursor_body bytes none)

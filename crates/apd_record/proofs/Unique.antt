@@ -1,24 +1,15 @@
 -- No record begins another, and so records are read in one way.
-use mathlib.Core.HLevel.{Σ_prop_path}
-use Rattle.std.specs.Coded.{le_prop, ×_prop}
-use Rattle.std.proofs.Common.{◌≡◌, ℕ, ◌≤◌, List, [], ◌∷◌, ◌++◌, length, refl, sym, ap, ◌∙◌, append_assoc, arith}
+use Rattle.std.proofs.Common.{◌≡◌, ℕ, List, [], ◌∷◌, ◌++◌, length, refl, sym, ap, ◌∙◌, append_assoc, arith}
 use Rattle.std.specs.Int.{to_le_bytes, w16}
-use Rattle.apd_base.specs.declared.limits.TheConstants.{MAX_STATIONS}
 use Rattle.apd_base.specs.Mode.{mode_number}
 use Rattle.apd_base.specs.State.{which_number}
 use Rattle.apd_base.specs.declared.address.Addr.{Addr}
-use Rattle.apd_base.specs.declared.station.AclMode.{AclMode}
-use Rattle.apd_base.specs.declared.station.AclMode.TheVariants.{AcceptUnlessDenied, DenyUnlessAccepted}
-use Rattle.apd_base.specs.declared.station.Aid.{Aid}
 use Rattle.apd_base.specs.declared.station.Policy.{Policy as BssPolicy}
 use Rattle.apd_base.specs.declared.station.Station.{Station}
 use Rattle.apd_base.specs.declared.station.Station.TheVariants.{Authenticated, Associated}
-use Rattle.apd_base.specs.declared.station.StationLimit.{StationLimit}
-use Rattle.apd_base.specs.declared.station.Which.{Which}
-use Rattle.apd_base.specs.declared.station.Which.TheVariants.{Accept, Deny}
-use Rattle.apd_base.proofs.StationLemmas.{same_aid, same_limit, same_mode, same_which}
+use Rattle.apd_base.proofs.StationLemmas.{same_aid, same_station_number, same_mode, same_which}
 use Rattle.apd_record.specs.declared.change.Change.{Change}
-use Rattle.apd_record.specs.declared.change.Change.TheVariants.{Put, Drop, ListAdd, ListDel, ListClear, Policy}
+use Rattle.apd_record.specs.declared.change.Change.TheVariants.{Put, Drop, ListAdd, ListDel, ListClear, Policy, Cursor}
 use Rattle.apd_record.specs.Ranges.{IsStation, IsChange, AreChanges}
 use Rattle.apd_record.specs.Record.{station_bytes, record_of, records_of}
 use Rattle.apd_record.proofs.Fronts.{same_front, same_number}
@@ -45,13 +36,13 @@ station_once (Associated x) (Associated y) r s p q e =
     let aids = same_aid x.aid y.aid aid.0 in
     (λ i. Associated (record { aid = aids i; capability = capability.0 i; listen_interval = listen.0 i }), listen.1)
 
-policy_once : (x y : BssPolicy) (r s : List ℕ) → mode_number x.mode ∷ to_le_bytes w16 x.max.count ++ r ≡ mode_number y.mode ∷ to_le_bytes w16 y.max.count ++ s → (x ≡ y) × (r ≡ s)
+policy_once : (x y : BssPolicy) (r s : List ℕ) → mode_number x.mode ∷ to_le_bytes w16 x.max.number ++ r ≡ mode_number y.mode ∷ to_le_bytes w16 y.max.number ++ s → (x ≡ y) × (r ≡ s)
 policy_once x y r s e =
     let first : mode_number x.mode ≡ mode_number y.mode = cc in
-    let behind : to_le_bytes w16 x.max.count ++ r ≡ to_le_bytes w16 y.max.count ++ s = cc in
-    let count = same_number x.max.count y.max.count r s (omega (arith, x.max.in_range)) (omega (arith, y.max.in_range)) behind in
+    let behind : to_le_bytes w16 x.max.number ++ r ≡ to_le_bytes w16 y.max.number ++ s = cc in
+    let count = same_number x.max.number y.max.number r s (omega (arith, x.max.in_range)) (omega (arith, y.max.in_range)) behind in
     let modes = same_mode x.mode y.mode first in
-    let limits = same_limit x.max y.max count.0 in
+    let limits = same_station_number x.max y.max count.0 in
     (λ i. record { mode = modes i; max = limits i }, count.1)
 
 -- ---- records
@@ -84,6 +75,10 @@ body_once (ListClear b v) (ListClear c w) r s p q t h e =
 body_once (Policy b x) (Policy c y) r s p q t h e =
     let policy = policy_once x y r s e in
     (λ i. Policy (h i) (policy.0 i), policy.1)
+body_once (Cursor b x) (Cursor c y) r s p q t h e =
+    let count = same_number x.number y.number r s (omega (arith, x.in_range)) (omega (arith, y.in_range)) e in
+    let limits = same_station_number x y count.0 in
+    (λ i. Cursor (h i) (limits i), count.1)
 body_once x y r s p q t h e = absurd (omega arith)
 
 pub record_once : (x y : Change) (r s : List ℕ) → IsChange x → IsChange y → record_of x ++ r ≡ record_of y ++ s → (x ≡ y) × (r ≡ s)

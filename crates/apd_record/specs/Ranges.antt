@@ -6,7 +6,7 @@ use Rattle.apd_base.specs.declared.address.Bssid.{Bssid}
 use Rattle.apd_base.specs.declared.station.Station.{Station}
 use Rattle.apd_base.specs.declared.station.Station.TheVariants.{Authenticated, Associated}
 use Rattle.apd_record.specs.declared.change.Change.{Change}
-use Rattle.apd_record.specs.declared.change.Change.TheVariants.{Put, Drop, ListAdd, ListDel, ListClear, Policy}
+use Rattle.apd_record.specs.declared.change.Change.TheVariants.{Put, Drop, ListAdd, ListDel, ListClear, Policy, Cursor}
 
 abbrev pub IsBssid : Bssid → Type 0
 IsBssid b = IsAddr b.0
@@ -23,6 +23,7 @@ IsChange (ListAdd b w a) = IsBssid b × IsAddr a
 IsChange (ListDel b w a) = IsBssid b × IsAddr a
 IsChange (ListClear b w) = IsBssid b
 IsChange (Policy b policy) = IsBssid b
+IsChange (Cursor b last) = IsBssid b
 
 abbrev pub AreChanges : List Change → Type 0
 AreChanges changes = AllByRecursion IsChange changes

@@ -6,7 +6,7 @@ use Rattle.apd_base.specs.State.{which_number}
 use Rattle.apd_base.specs.declared.station.Station.{Station}
 use Rattle.apd_base.specs.declared.station.Station.TheVariants.{Authenticated, Associated}
 use Rattle.apd_record.specs.declared.change.Change.{Change}
-use Rattle.apd_record.specs.declared.change.Change.TheVariants.{Put, Drop, ListAdd, ListDel, ListClear, Policy}
+use Rattle.apd_record.specs.declared.change.Change.TheVariants.{Put, Drop, ListAdd, ListDel, ListClear, Policy, Cursor}
 
 -- the kind of a station, 1 or 2, its identifier, capability and listen interval
 abbrev pub station_bytes : Station → List ℕ
@@ -21,7 +21,8 @@ record_of (Drop b a) = 2 ∷ b.0.0 ++ a.0
 record_of (ListAdd b w a) = 3 ∷ b.0.0 ++ which_number w ∷ a.0
 record_of (ListDel b w a) = 4 ∷ b.0.0 ++ which_number w ∷ a.0
 record_of (ListClear b w) = 5 ∷ b.0.0 ++ which_number w ∷ []
-record_of (Policy b policy) = 6 ∷ b.0.0 ++ mode_number policy.mode ∷ to_le_bytes w16 policy.max.count
+record_of (Policy b policy) = 6 ∷ b.0.0 ++ mode_number policy.mode ∷ to_le_bytes w16 policy.max.number
+record_of (Cursor b last) = 7 ∷ b.0.0 ++ to_le_bytes w16 last.number
 
 -- the bytes of changes: their records, one behind another
 abbrev pub records_of : List Change → List ℕ

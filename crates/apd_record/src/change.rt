@@ -1,8 +1,8 @@
 //! The changes that a table takes, and a journal keeps.
-use apd_base::{Addr, Bssid, Policy, Station, Which};
+use apd_base::{Addr, Bssid, Policy, Station, StationNumber, Which};
 
 /// One change of a table. It holds only what a record can say: an identifier from 1 to 2007, mode 0 or
-/// 1, and a limit of at most 2007 stations, by their types.
+/// 1, a limit of at most 2007 stations, and a cursor from 0 to 2007, by their types.
 #[derive(Clone, Copy, Debug, PartialEq, Eq)]
 pub enum Change {
     /// The row of a station: a new one, or one in the place of its old one.
@@ -33,9 +33,15 @@ pub enum Change {
         bssid: Bssid,
         which: Which,
     },
-    /// The policy of a BSSID: its first one, or one in the place of its old one.
+    /// The policy of a BSSID: its first one, with which its cursor begins at 0, or one in the place of its
+    /// old one.
     Policy {
         bssid: Bssid,
         policy: Policy,
+    },
+    /// The cursor of a BSSID: the identifier that it gave last, 0 where it gave none yet.
+    Cursor {
+        bssid: Bssid,
+        last: StationNumber,
     },
 }

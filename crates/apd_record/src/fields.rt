@@ -10,12 +10,12 @@ ghost use Rattle.apd_base.specs.declared.station.Station.TheVariants.{Associated
 ghost use Rattle.apd_base.specs.declared.station.AclMode.{AclMode as Mode};
 ghost use Rattle.apd_base.specs.declared.station.Policy.{Policy as BssPolicy};
 ghost use Rattle.apd_base.specs.declared.station.Station.{Station as Row};
-ghost use Rattle.apd_base.specs.declared.station.StationLimit.{StationLimit as Limit};
+ghost use Rattle.apd_base.specs.declared.station.StationNumber.{StationNumber as Number};
 ghost use Rattle.apd_base.specs.declared.station.Which.{Which as WhichList};
 ghost use Rattle.apd_record.specs.Ranges.{IsBssid, IsStation};
 ghost use Rattle.apd_record.specs.Record.{station_bytes};
 
-use apd_base::{AclMode, Addr, Aid, Association, Bssid, Policy, Station, StationLimit, Which};
+use apd_base::{AclMode, Addr, Aid, Association, Bssid, Policy, Station, StationNumber, Which};
 
 /// An address: six bytes.
 pub fn split_addr(bytes: &[u8]) -> Option<(Addr, &[u8])>
@@ -70,24 +70,24 @@ fn split_mode(bytes: &[u8]) -> Option<(AclMode, &[u8])>
     }
 }
 
-/// A limit of stations: a number of at most 2007.
-fn split_limit(bytes: &[u8]) -> Option<(StationLimit, &[u8])>
-    ensures some { IfSome result (λ found. bytes.now ≡ to_le_bytes w16 found.0.count ++ found.1.now) }
-    ensures none { IfNone result ((limit : Limit) (rest : List ℕ) → bytes.now ≢ to_le_bytes w16 limit.count ++ rest) }
+/// A number of at most 2007.
+pub fn split_station_number(bytes: &[u8]) -> Option<(StationNumber, &[u8])>
+    ensures some { IfSome result (λ found. bytes.now ≡ to_le_bytes w16 found.0.number ++ found.1.now) }
+    ensures none { IfNone result ((x : Number) (rest : List ℕ) → bytes.now ≢ to_le_bytes w16 x.number ++ rest) }
 {
-    let (count, rest) = split_number(bytes)?;
-    Some((StationLimit::new(count)?, rest))
+    let (number, rest) = split_number(bytes)?;
+    Some((StationNumber::new(number)?, rest))
 }
 
 /// A policy: its mode and its limit.
 pub fn split_policy(bytes: &[u8]) -> Option<(Policy, &[u8])>
     ensures some { IfSome result
-        (λ found. bytes.now ≡ mode_number found.0.mode ∷ to_le_bytes w16 found.0.max.count ++ found.1.now) }
+        (λ found. bytes.now ≡ mode_number found.0.mode ∷ to_le_bytes w16 found.0.max.number ++ found.1.now) }
     ensures none { IfNone result ((policy : BssPolicy) (rest : List ℕ)
-        → bytes.now ≢ mode_number policy.mode ∷ to_le_bytes w16 policy.max.count ++ rest) }
+        → bytes.now ≢ mode_number policy.mode ∷ to_le_bytes w16 policy.max.number ++ rest) }
 {
     let (mode, rest) = split_mode(bytes)?;
-    let (max, rest) = split_limit(rest)?;
+    let (max, rest) = split_station_number(rest)?;
     Some((Policy { mode, max }, rest))
 }
 

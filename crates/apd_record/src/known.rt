@@ -56,7 +56,9 @@ impl Change {
                 known_addr(bssid.0);
                 known_addr(*addr);
             }
-            Change::ListClear { bssid, .. } | Change::Policy { bssid, .. } => known_addr(bssid.0),
+            Change::ListClear { bssid, .. }
+            | Change::Policy { bssid, .. }
+            | Change::Cursor { bssid, .. } => known_addr(bssid.0),
         }
     }
 }

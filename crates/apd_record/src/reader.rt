@@ -5,7 +5,9 @@ ghost use Rattle.apd_record.specs.Record.{record_of, records_of};
 ghost use Rattle.apd_record.specs.declared.change.Change.{Change as AnyChange};
 
 use crate::change::Change;
-use crate::fields::{split_addr, split_bssid, split_policy, split_station, split_which};
+use crate::fields::{
+    split_addr, split_bssid, split_policy, split_station, split_station_number, split_which,
+};
 use apd_base::Bssid;
 use std::alloc::{AllocError, Global};
 
@@ -50,6 +52,10 @@ fn split_fields(tag: u8, bssid: Bssid, bytes: &[u8]) -> Option<(Change, &[u8])>
         6 => {
             let (policy, rest) = split_policy(bytes)?;
             Some((Change::Policy { bssid, policy }, rest))
+        }
+        7 => {
+            let (last, rest) = split_station_number(bytes)?;
+            Some((Change::Cursor { bssid, last }, rest))
         }
         _ => None,
     }

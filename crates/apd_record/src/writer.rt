@@ -33,6 +33,7 @@ impl Change {
             }
             Change::ListClear { bssid, .. } => 1 + address_length(bssid.0) + 1,
             Change::Policy { bssid, .. } => 1 + address_length(bssid.0) + 1 + 2,
+            Change::Cursor { bssid, .. } => 1 + address_length(bssid.0) + 2,
         }
     }
 }
@@ -123,7 +124,11 @@ fn write_record(bytes: &mut Vec<u8>, change: &Change) -> Result<(), AllocError>
         Change::Policy { bssid, policy } => {
             write_front(bytes, 6, *bssid)?;
             bytes.push(policy.mode.number())?;
-            bytes.extend_from_slice(&policy.max.count.to_le_bytes())
+            bytes.extend_from_slice(&policy.max.number.to_le_bytes())
+        }
+        Change::Cursor { bssid, last } => {
+            write_front(bytes, 7, *bssid)?;
+            bytes.extend_from_slice(&last.number.to_le_bytes())
         }
     }
 }

@@ -1,5 +1,5 @@
 -- What an out does to a slot, by its answer (own).
-use Rattle.std.specs.Prelude.{◌≡◌, ◌≢◌, ◌≤◌, ◌⊎◌, ◌↔◌, ℕ, true, false, Result, Err, OnOk}
+use Rattle.std.specs.Prelude.{◌≡◌, ◌≢◌, ◌≤◌, ◌⊎◌, ◌↔◌, true, false, Result, Err, OnOk}
 use Rattle.apd_base.specs.Failures.{HasRisen}
 use Rattle.apd_mlme.specs.declared.decision.Out.{Out}
 use Rattle.apd_radio.specs.Model.{RadioModel}

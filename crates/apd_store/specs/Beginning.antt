@@ -1,5 +1,5 @@
 -- A batch that is begun, or refused.
-use Rattle.std.specs.Prelude.{◌≡◌, ◌≢◌, ◌≤◌, ◌<◌, ◌+◌, ◌^◌, ◌⊎◌, ◌↔◌, ℕ, List, true, false, length}
+use Rattle.std.specs.Prelude.{◌≡◌, ◌≢◌, ◌≤◌, ◌<◌, ◌+◌, ◌^◌, ◌⊎◌, ◌↔◌, true, false, length}
 use Rattle.apd_base.specs.declared.limits.TheConstants.{MAX_GROUP}
 use Rattle.apd_base.specs.State.{State}
 use Rattle.apd_record.specs.Meaning.{meaning_of}

@@ -74,13 +74,17 @@ fn add_station(records: &mut Vec<u8>, radio: u8, aid: u16) -> Option<()> {
     records.extend_from_slice(&record).ok()
 }
 
-// The records of the greatest table: eight radios, each with two full lists and all its identifiers given, to
-// stations of its own.
+// The records of the greatest table: eight radios, each with two full lists and all its identifiers given, the
+// last one last, to stations of its own.
 fn greatest(alloc: Global) -> Option<Vec<u8>> {
     let mut records = Vec::new(alloc);
     for radio in 1..=8 {
         let policy = [6, 2, 0, 0, 0, 0, radio, 0, 0xd7, 7];
         records.extend_from_slice(&policy).ok()?;
+    }
+    for radio in 1..=8 {
+        let cursor = [7, 2, 0, 0, 0, 0, radio, 0xd7, 7];
+        records.extend_from_slice(&cursor).ok()?;
     }
     for radio in 1..=8 {
         for number in 0..2048 {
@@ -104,7 +108,7 @@ fn greatest_switch(alloc: Global) -> Option<(usize, (bool, usize))> {
 
 #[test]
 fn the_greatest_table(rt: HostRuntime) {
-    assert_eq!(rt; MAX_SNAPSHOT, 550_576);
+    assert_eq!(rt; MAX_SNAPSHOT, 550_648);
     assert_eq!(rt;
         greatest_switch(rt.alloc()),
         Some((MAX_SNAPSHOT, (true, 16_055)))
@@ -113,7 +117,13 @@ fn the_greatest_table(rt: HostRuntime) {
 
 const ANY_ORDER: &[u8] = &[
     6, 2, 0, 0, 0, 0, 2, 1, 5, 0, // the policy of the second radio
-    6, 2, 0, 0, 0, 0, 1, 1, 1, 0, // of the first radio
+    7, 2, 0, 0, 0, 0, 2, 3, 0, // it gave 3 last
+    6, 2, 0, 0, 0, 0, 1, 1, 1, 0, // the policy of the first radio
+    7, 2, 0, 0, 0, 0, 1, 4, 0, // it gave 4 last
+    6, 2, 0, 0, 0, 0, 3, 0, 5, 0, // the policy of the third radio
+    7, 2, 0, 0, 0, 0, 3, 6, 0, // it gave 6 last
+    7, 2, 0, 0, 0, 0, 3, 0, 0, // none yet
+    7, 2, 0, 0, 0, 0, 1, 5, 0, // the first radio gave 5 last
     3, 2, 0, 0, 0, 0, 1, 1, 2, 2, 0, 0, 0, 9, // denied: 9
     3, 2, 0, 0, 0, 0, 1, 1, 2, 2, 0, 0, 0, 8, // 8
     3, 2, 0, 0, 0, 0, 1, 0, 2, 2, 0, 0, 0, 7, // accepted: 7
@@ -130,6 +140,9 @@ const ANY_ORDER: &[u8] = &[
 const CANONICAL: &[u8] = &[
     6, 2, 0, 0, 0, 0, 1, 0, 0xd7, 7, // policies
     6, 2, 0, 0, 0, 0, 2, 1, 5, 0, //
+    6, 2, 0, 0, 0, 0, 3, 0, 5, 0, //
+    7, 2, 0, 0, 0, 0, 1, 5, 0, // cursors
+    7, 2, 0, 0, 0, 0, 2, 3, 0, //
     3, 2, 0, 0, 0, 0, 1, 0, 2, 2, 0, 0, 0, 6, // lists
     3, 2, 0, 0, 0, 0, 1, 1, 2, 2, 0, 0, 0, 8, //
     3, 2, 0, 0, 0, 0, 1, 1, 2, 2, 0, 0, 0, 9, //

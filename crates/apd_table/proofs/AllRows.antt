@@ -23,7 +23,7 @@ use Rattle.apd_acl.specs.Policy.{is_allowed}
 use Rattle.apd_acl.specs.declared.lists.Lists.{Lists}
 use Rattle.apd_record.specs.Meaning.{meaning}
 use Rattle.apd_record.specs.declared.change.Change.{Change}
-use Rattle.apd_record.specs.declared.change.Change.TheVariants.{Put, Drop, ListAdd, ListDel, ListClear, Policy as SetPolicy}
+use Rattle.apd_record.specs.declared.change.Change.TheVariants.{Put, Drop, ListAdd, ListDel, ListClear, Policy as SetPolicy, Cursor}
 use Rattle.apd_table.specs.Addresses.{addresses_at, with_lists_after, has_after, policy_after, is_denied_after}
 use Rattle.apd_table.specs.Allowed.{allowed, allowed_in, allowed_under, denied_by, is_denied_row}
 use Rattle.apd_table.specs.Rows as rows
@@ -72,6 +72,7 @@ module _ (s : State) (b : Bssid) (lists : Lists) (same : (w : Which) (a : Addr) 
   has_after-is (Put c d station) w a = same w a
   has_after-is (Drop c d) w a = same w a
   has_after-is (SetPolicy c policy) w a = same w a
+  has_after-is (Cursor c last) w a = same w a
 
   -- and its policy is that of the state after
   some_either : (t : Bool) (p q : Policy) → Some (cond t q p) ≡ cond t (Some q) (Some p)
@@ -85,6 +86,7 @@ module _ (s : State) (b : Bssid) (lists : Lists) (same : (w : Which) (a : Addr) 
   policy_is p at (ListClear c v) = at
   policy_is p at (Put c d station) = at
   policy_is p at (Drop c d) = at
+  policy_is p at (Cursor c last) = at
 
   pub allowed_after : (p : Policy) → Some p ≡ policy_at s b → (change : Change) (a : Addr) → is_allowed (policy_after p b change).mode (has_after lists b change Accept a) (has_after lists b change Deny a) ≡ allowed (meaning change s) b a
   allowed_after p at change a =

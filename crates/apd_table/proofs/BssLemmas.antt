@@ -21,7 +21,7 @@ use Rattle.apd_base.proofs.RowsLemmas.{find_tied_head, is_sorted_tail}
 use Rattle.apd_base.proofs.StateLemmas.{list_total, list_exact}
 use Rattle.apd_acl.specs.Lists.{list_of, has}
 use Rattle.apd_acl.specs.declared.lists.Lists.{Lists}
-use Rattle.apd_table.specs.fields.BssRows.{add_rows, list_rows, members_of, parts_of, policy_of, policy_rows, state_of_rows, no_bss, is_listed_in}
+use Rattle.apd_table.specs.fields.BssRows.{add_rows, cursor_of, list_rows, members_of, parts_of, policy_of, policy_rows, state_of_rows, no_bss, is_listed_in}
 use Rattle.apd_table.specs.declared.bss_rows.Bss.{Bss}
 use Rattle.apd_table.proofs.ListSets.{contains-insert, same_row}
 
@@ -54,6 +54,9 @@ module _ {V : Type 0} (part : Bss → V) where
   pub len-parts_of : (xs : List (Bssid × Bss)) → T (is_sorted bssid_cmp xs) → map.len (from_sorted {R = bssid_cmp} (parts_of part xs)) ≡ length xs
   len-parts_of xs h = len-entries _ ∙ ap length (entries-from_sorted bssid_cmp (parts_of part xs) (sorted-parts_of xs h)) ∙ length-map xs (λ x. (x.0, part x.1))
 
+  no_part : from_sorted {R = bssid_cmp} (parts_of part []) ≡ map.empty
+  no_part = empty_of_len (from_sorted {R = bssid_cmp} (parts_of part [])) (len-parts_of [] tt)
+
 -- the policies are of the same BSSIDs
 all_keys : (xs : List (Bssid × Bss)) → list_map (λ (row : Bssid × Policy). row.0) (policy_rows xs) ≡ list_map (λ (row : Bssid × Bss). row.0) xs
 all_keys [] = refl
@@ -68,8 +71,9 @@ keys-policy_rows xs h place = ap (λ ks. slice_get ks place) (sym (keys_are xs h
 pub no_rows : state_of_rows [] ≡ no_bss
 no_rows = λ i. record {
   lists = map.empty;
-  policies = empty_of_len (from_sorted {R = bssid_cmp} (policy_rows [])) (len-parts_of policy_of [] tt) i;
-  members = empty_of_len (from_sorted {R = bssid_cmp} (parts_of members_of [])) (len-parts_of members_of [] tt) i;
+  policies = no_part policy_of i;
+  cursors = no_part cursor_of i;
+  members = no_part members_of i;
 }
 
 spread : (e f g l s : Bool) → ((e && (f && g)) || ((e && (f && l)) || s)) ≡ ((e && (f && (g || l))) || s)

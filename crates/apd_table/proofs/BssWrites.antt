@@ -18,6 +18,7 @@ use Rattle.apd_base.specs.declared.address.Addr.{Addr}
 use Rattle.apd_base.specs.declared.address.Bssid.{Bssid}
 use Rattle.apd_base.specs.declared.station.Policy.{Policy}
 use Rattle.apd_base.specs.declared.station.Station.{Station}
+use Rattle.apd_base.specs.declared.station.StationNumber.{StationNumber}
 use Rattle.apd_base.specs.declared.station.Which.{Which}
 use Rattle.apd_base.specs.declared.station.Which.TheVariants.{Accept, Deny}
 use Rattle.apd_base.proofs.AddrLemmas.{bssid_total, bssid_exact}
@@ -25,8 +26,10 @@ use Rattle.apd_base.proofs.MapLemmas.{one_or_apart, tied}
 use Rattle.apd_base.proofs.RowsLemmas.{put-place, find-place}
 use Rattle.apd_base.proofs.RowsMaps.{sorted_put_at}
 use Rattle.apd_base.proofs.StateLemmas.{list_total, list_exact}
+use Rattle.apd_base.proofs.StationLemmas.{same_station_number}
 use Rattle.apd_acl.specs.Lists.{has, no_lists}
-use Rattle.apd_table.specs.fields.BssRows.{list_rows, state_of_rows, joined, members_of, parts_of, policy_of, policy_rows, is_listed_in, with_bss, with_policy, with_added, with_removed, with_cleared, with_row, at_row}
+use Rattle.apd_record.specs.Meaning.{cursors_with, none_given}
+use Rattle.apd_table.specs.fields.BssRows.{cursor_of, list_rows, state_of_rows, joined, members_of, parts_of, policy_of, policy_rows, is_listed_in, with_bss, with_policy, with_cursor, with_added, with_removed, with_cleared, with_row, at_row}
 use Rattle.apd_table.specs.fields.BssState.{BssState}
 use Rattle.apd_table.specs.fields.Members.{after_row, no_members, put_after}
 use Rattle.apd_table.specs.declared.bss_rows.Bss.{Bss}
@@ -102,13 +105,20 @@ module _ (xs : List Row) (sorted : T (is_sorted bssid_cmp xs)) (b : Bssid) where
         get-parts_of part (written y) (sorted_written y) c ∙ ap (option_map part) (find_written y c) ∙ map_cond part (eq_by_cmp bssid_cmp c b) y (find bssid_cmp c xs)
         ∙ ap (cond (eq_by_cmp bssid_cmp c b) (Some (part y))) (sym (get-parts_of part xs sorted c))
 
+    -- that of the BSSID itself
+    pub part_is : (x : Bss) → find bssid_cmp b xs ≡ Some x → map.get olds b ≡ Some (part x)
+    part_is x found = get-parts_of part xs sorted b ∙ ap (option_map part) found
+
+    pub part_absent : find bssid_cmp b xs ≡ None → map.get olds b ≡ None
+    part_absent none = get-parts_of part xs sorted b ∙ ap (option_map part) none
+
     pub parts_set : (y : Bss) → from_sorted {R = bssid_cmp} (parts_of part (written y)) ≡ map.insert olds b (part y)
     parts_set y = same_map bssid_total bssid_exact _ _ (λ c. get_written y c ∙ sym (get-insert bssid_total olds b (part y) c))
 
     pub parts_kept : (x : Bss) → find bssid_cmp b xs ≡ Some x → (y : Bss) → part y ≡ part x → from_sorted {R = bssid_cmp} (parts_of part (written y)) ≡ olds
     parts_kept x found y same = same_map bssid_total bssid_exact _ _ (λ c. get_written y c ∙ elim (one_or_apart bssid_total bssid_exact c b) [
       | inl e ↦ ap (λ t. cond t (Some (part y)) (map.get olds c)) (ap (λ d. eq_by_cmp bssid_cmp d b) e ∙ tied bssid_total bssid_exact b)
-          ∙ ap Some same ∙ sym (ap (map.get olds) e ∙ get-parts_of part xs sorted b ∙ ap (option_map part) found)
+          ∙ ap Some same ∙ sym (ap (map.get olds) e ∙ part_is x found)
       | inr apart ↦ ap (λ t. cond t (Some (part y)) (map.get olds c)) apart
     ])
 
@@ -163,12 +173,6 @@ module _ (xs : List Row) (sorted : T (is_sorted bssid_cmp xs)) (b : Bssid) where
     pub lists_kept : (y : Bss) → y.lists ≡ x.lists → list_rows (written y) ≡ list_rows xs
     lists_kept y same = lists_become y (list_rows xs) (λ v d. listed_here v d ∙ ap (λ lists. has lists v d) (sym same)) (λ c apart v d. refl)
 
-    pub policy_is : map.get (from_sorted {R = bssid_cmp} (policy_rows xs)) b ≡ Some (policy_of x)
-    policy_is = get-parts_of policy_of xs sorted b ∙ ap (option_map policy_of) found
-
-    pub members_are : map.get (from_sorted {R = bssid_cmp} (parts_of members_of xs)) b ≡ Some (members_of x)
-    members_are = get-parts_of members_of xs sorted b ∙ ap (option_map members_of) found
-
 -- the rows after a write at the place of a BSSID
 pub write_is : (xs : List Row) (b : Bssid) (at : ℕ) (is : Ok at ≡ place bssid_cmp b xs) (write : Bss → Bss) (x : Bss) → slice_get xs at ≡ Some (b, x)
     → (ys : List Row) → ((d : Row) → ys ≡ slice_set xs at (at_row write (slice_index_or xs at d))) → ys ≡ put_at xs b (write x) (place bssid_cmp b xs)
@@ -183,6 +187,9 @@ none_has Deny d = ap is_some (get-empty addr_cmp d)
 abbrev pub policies_with : Bssid → Policy → BssState → BssState
 policies_with b p s = with_bss s b p
 
+abbrev pub cursors_at : Bssid → StationNumber → BssState → BssState
+cursors_at b last s = record s { cursors = map.insert s.cursors b last }
+
 abbrev pub members_with : Option Station → Option Station → Bssid → BssState → BssState
 members_with old new b s = record s { members = after_row old new b s.members }
 
@@ -196,25 +203,46 @@ abbrev pub lists_clear : Bssid → Which → BssState → BssState
 lists_clear b w s = record s { lists = map.retain_keys s.lists (λ row. not (is_row_of b w row)) }
 
 module _ (xs : List Row) (sorted : T (is_sorted bssid_cmp xs)) (b : Bssid) where
+  abbrev policies : FinMap bssid_cmp Policy
+  policies = from_sorted (policy_rows xs)
+
+  abbrev cursors : FinMap bssid_cmp StationNumber
+  cursors = from_sorted (parts_of cursor_of xs)
+
   abbrev members : FinMap bssid_cmp Members
   members = from_sorted (parts_of members_of xs)
 
-  pub state_new : find bssid_cmp b xs ≡ None → (p : Policy) → state_of_rows (put_at xs b (record { policy = p; lists = no_lists; members = no_members }) (place bssid_cmp b xs)) ≡ policies_with b p (state_of_rows xs)
-  state_new none p =
-      let y : Bss = record { policy = p; lists = no_lists; members = no_members } in
-      let without : map.get (from_sorted {R = bssid_cmp} (policy_rows xs)) b ≡ None = get-parts_of policy_of xs sorted b ∙ ap (option_map policy_of) none in
+  -- a new row, which has its policy alone
+  pub state_new : find bssid_cmp b xs ≡ None → (y : Bss) → y.cursor.number ≡ 0 → y.lists ≡ no_lists → y.members ≡ no_members
+      → state_of_rows (put_at xs b y (place bssid_cmp b xs)) ≡ policies_with b y.policy (state_of_rows xs)
+  state_new none y zero empty alone =
+      let without = sym (part_absent xs sorted b policy_of none) in
       λ i. record {
-        lists = lists_new xs sorted b none y (λ v d. none_has v d) i;
+        lists = lists_new xs sorted b none y (λ v d. ap (λ lists. has lists v d) empty ∙ none_has v d) i;
         policies = parts_set xs sorted b policy_of y i;
-        members = (parts_set xs sorted b members_of y ∙ ap (λ o. joined o members b) (sym without)) i;
+        cursors = (parts_set xs sorted b cursor_of y ∙ ap (map.insert cursors b) (same_station_number y.cursor none_given zero) ∙ ap (λ o. cursors_with o cursors b) without) i;
+        members = (parts_set xs sorted b members_of y ∙ ap (map.insert members b) alone ∙ ap (λ o. joined o members b) without) i;
       }
 
   module _ (x : Bss) (found : find bssid_cmp b xs ≡ Some x) where
     pub state_set : (p : Policy) → state_of_rows (put_at xs b (with_policy p x) (place bssid_cmp b xs)) ≡ policies_with b p (state_of_rows xs)
-    state_set p = λ i. record {
-      lists = lists_kept xs sorted b x found (with_policy p x) refl i;
-      policies = parts_set xs sorted b policy_of (with_policy p x) i;
-      members = (parts_kept xs sorted b members_of x found (with_policy p x) refl ∙ ap (λ o. joined o members b) (sym (policy_is xs sorted b x found))) i;
+    state_set p =
+        let y = with_policy p x in
+        let old = sym (part_is xs sorted b policy_of x found) in
+        λ i. record {
+          lists = lists_kept xs sorted b x found y refl i;
+          policies = parts_set xs sorted b policy_of y i;
+          cursors = (parts_kept xs sorted b cursor_of x found y refl ∙ ap (λ o. cursors_with o cursors b) old) i;
+          members = (parts_kept xs sorted b members_of x found y refl ∙ ap (λ o. joined o members b) old) i;
+        }
+
+    -- the identifier that was given last
+    pub state_cursor : (last : StationNumber) → state_of_rows (put_at xs b (with_cursor last x) (place bssid_cmp b xs)) ≡ cursors_at b last (state_of_rows xs)
+    state_cursor last = λ i. record {
+      lists = lists_kept xs sorted b x found (with_cursor last x) refl i;
+      policies = parts_kept xs sorted b policy_of x found (with_cursor last x) refl i;
+      cursors = parts_set xs sorted b cursor_of (with_cursor last x) i;
+      members = parts_kept xs sorted b members_of x found (with_cursor last x) refl i;
     }
 
     -- what is kept of the stations
@@ -222,16 +250,18 @@ module _ (xs : List Row) (sorted : T (is_sorted bssid_cmp xs)) (b : Bssid) where
     state_row old new = λ i. record {
       lists = lists_kept xs sorted b x found (with_row old new x) refl i;
       policies = parts_kept xs sorted b policy_of x found (with_row old new x) refl i;
-      members = (parts_set xs sorted b members_of (with_row old new x) ∙ ap (put_after old new b members) (sym (members_are xs sorted b x found))) i;
+      cursors = parts_kept xs sorted b cursor_of x found (with_row old new x) refl i;
+      members = (parts_set xs sorted b members_of (with_row old new x) ∙ ap (put_after old new b members) (sym (part_is xs sorted b members_of x found))) i;
     }
 
     -- a write of the lists alone
-    state_listed : (y : Bss) → y.policy ≡ x.policy → y.members ≡ x.members → (l : SetOf list_cmp) → ((v : Which) (d : Addr) → contains l (b, v, d) ≡ has y.lists v d)
+    state_listed : (y : Bss) → y.policy ≡ x.policy → y.cursor ≡ x.cursor → y.members ≡ x.members → (l : SetOf list_cmp) → ((v : Which) (d : Addr) → contains l (b, v, d) ≡ has y.lists v d)
         → ((c : Bssid) → eq_by_cmp bssid_cmp c b ≡ false → (v : Which) (d : Addr) → contains l (c, v, d) ≡ contains (list_rows xs) (c, v, d))
         → state_of_rows (put_at xs b y (place bssid_cmp b xs)) ≡ record (state_of_rows xs) { lists = l }
-    state_listed y policy kept l here elsewhere = λ i. record {
+    state_listed y policy cursor kept l here elsewhere = λ i. record {
       lists = lists_become xs sorted b y l here elsewhere i;
       policies = parts_kept xs sorted b policy_of x found y policy i;
+      cursors = parts_kept xs sorted b cursor_of x found y cursor i;
       members = parts_kept xs sorted b members_of x found y kept i;
     }
 
@@ -239,31 +269,32 @@ module _ (xs : List Row) (sorted : T (is_sorted bssid_cmp xs)) (b : Bssid) where
     listed = listed_here xs sorted b x found
 
     pub state_added : (w : Which) (a : Addr) → state_of_rows (put_at xs b (with_added w a x) (place bssid_cmp b xs)) ≡ lists_with b w a (state_of_rows xs)
-    state_added w a = state_listed (with_added w a x) refl refl (map.insert (list_rows xs) (b, w, a) tt)
+    state_added w a = state_listed (with_added w a x) refl refl refl (map.insert (list_rows xs) (b, w, a) tt)
         (λ v d. insert_here (list_rows xs) b w a v d ∙ ap (λ t. (eq_by_cmp which_cmp v w && eq_by_cmp addr_cmp d a) || t) (listed v d) ∙ sym (has_added x.lists a d w v))
         (λ c apart v d. insert_elsewhere (list_rows xs) b w c apart v d a)
 
     pub state_removed : (w : Which) (a : Addr) → state_of_rows (put_at xs b (with_removed w a x) (place bssid_cmp b xs)) ≡ lists_without b w a (state_of_rows xs)
-    state_removed w a = state_listed (with_removed w a x) refl refl (map.remove (list_rows xs) (b, w, a))
+    state_removed w a = state_listed (with_removed w a x) refl refl refl (map.remove (list_rows xs) (b, w, a))
         (λ v d. remove_here (list_rows xs) b w a v d ∙ ap (λ t. not (eq_by_cmp which_cmp v w && eq_by_cmp addr_cmp d a) && t) (listed v d) ∙ sym (has_removed x.lists a d w v))
         (λ c apart v d. remove_elsewhere (list_rows xs) b w c apart v d a)
 
     pub state_cleared : (w : Which) → state_of_rows (put_at xs b (with_cleared w x) (place bssid_cmp b xs)) ≡ lists_clear b w (state_of_rows xs)
-    state_cleared w = state_listed (with_cleared w x) refl refl (map.retain_keys (list_rows xs) (λ row. not (is_row_of b w row)))
+    state_cleared w = state_listed (with_cleared w x) refl refl refl (map.retain_keys (list_rows xs) (λ row. not (is_row_of b w row)))
         (λ v d. clear_here (list_rows xs) b w v d ∙ ap (λ t. not (eq_by_cmp which_cmp w v) && t) (listed v d) ∙ sym (has_cleared x.lists w v d))
         (λ c apart v d. clear_elsewhere (list_rows xs) b w c apart v d)
 
   pub same_removed : find bssid_cmp b xs ≡ None → (w : Which) (a : Addr) → state_of_rows xs ≡ lists_without b w a (state_of_rows xs)
-  same_removed none w a = λ i. record { lists = nothing_removed xs sorted b none w a i; policies = from_sorted (policy_rows xs); members = members }
+  same_removed none w a = λ i. record { lists = nothing_removed xs sorted b none w a i; policies = policies; cursors = cursors; members = members }
 
   pub same_cleared : find bssid_cmp b xs ≡ None → (w : Which) → state_of_rows xs ≡ lists_clear b w (state_of_rows xs)
-  same_cleared none w = λ i. record { lists = nothing_cleared xs sorted b none w i; policies = from_sorted (policy_rows xs); members = members }
+  same_cleared none w = λ i. record { lists = nothing_cleared xs sorted b none w i; policies = policies; cursors = cursors; members = members }
 
   pub same_members : find bssid_cmp b xs ≡ None → (old new : Option Station) → state_of_rows xs ≡ members_with old new b (state_of_rows xs)
   same_members none old new = λ i. record {
     lists = list_rows xs;
-    policies = from_sorted (policy_rows xs);
-    members = ap (put_after old new b members) (sym (get-parts_of members_of xs sorted b ∙ ap (option_map members_of) none)) i;
+    policies = policies;
+    cursors = cursors;
+    members = ap (put_after old new b members) (sym (part_absent xs sorted b members_of none)) i;
   }
 
   -- a write at the place where the BSSID's row is
@@ -306,11 +337,11 @@ module _ (xs : List Row) (sorted : T (is_sorted bssid_cmp xs)) (b : Bssid) where
   pub row_members : (at : ℕ) (is : Ok at ≡ place bssid_cmp b xs) (P : Members → Type 0) → IfSome (map.get members b) P → (d : Row) → P ((slice_index_or xs at d).1.members)
   row_members at is P h d =
       let e = entry_at bssid_total bssid_exact b xs at (sym is) in
-      subst (λ (r : Row). P r.1.members) (sym (get_or_from_slice_get xs at (b, e.0) d e.1)) (subst (λ (o : Option Members). IfSome o P) (members_are xs sorted b e.0 e.2) h)
+      subst (λ (r : Row). P r.1.members) (sym (get_or_from_slice_get xs at (b, e.0) d e.1)) (subst (λ (o : Option Members). IfSome o P) (part_is xs sorted b members_of e.0 e.2) h)
 
   -- a BSSID with a policy has a row
-  pub has_place : {A : Type 0} (at : ℕ) → Err at ≡ place bssid_cmp b xs → IsSome (map.get (from_sorted {R = bssid_cmp} (policy_rows xs)) b) → A
-  has_place at is h = none_is _ (get-parts_of policy_of xs sorted b ∙ ap (option_map policy_of) (absent_at bssid_total bssid_exact b xs sorted at (sym is))) h
+  pub has_place : {A : Type 0} (at : ℕ) → Err at ≡ place bssid_cmp b xs → IsSome (map.get policies b) → A
+  has_place at is h = none_is _ (part_absent xs sorted b policy_of (absent_at bssid_total bssid_exact b xs sorted at (sym is))) h
 
 -- a new row in its place
 pub sorted_new : (xs : List Row) (sorted : T (is_sorted bssid_cmp xs)) (b : Bssid) (at : ℕ) → Err at ≡ place bssid_cmp b xs → (y : Bss) (ys : List Row) → ys ≡ put_at xs b y (Err at) → T (is_sorted bssid_cmp ys)

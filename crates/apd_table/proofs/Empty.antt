@@ -10,6 +10,7 @@ use Rattle.apd_base.specs.Sets as set
 use Rattle.apd_base.specs.declared.address.Addr.{Addr}
 use Rattle.apd_base.specs.declared.address.Bssid.{Bssid}
 use Rattle.apd_base.specs.declared.station.Station.{Station}
+use Rattle.apd_base.specs.declared.station.StationNumber.{StationNumber}
 use Rattle.apd_base.specs.declared.station.Which.{Which}
 use Rattle.apd_base.specs.declared.station.Policy.{Policy}
 use Rattle.apd_base.specs.Addr.{station_cmp, bssid_cmp}
@@ -43,6 +44,7 @@ sound_empty = record {
   one_association = λ b c a h k. none_is (aid_at empty_state b a) (no_aid b a) h;
   stations_have_policy = λ b a h. none_is (station_at empty_state b a) (no_station b a) h;
   lists_have_policy = λ b w a h. differ _ (no_list_row b w a) h;
+  cursors_have_policy = λ b. ap is_some (get-empty {X = StationNumber} bssid_cmp b) ∙ sym (ap is_some (get-empty {X = Policy} bssid_cmp b));
   none_denied = λ b a h. none_is (station_at empty_state b a) (no_station b a) h;
   few_bss = few _ 8 (len-empty bssid_cmp Policy);
   few_stations = λ b. few _ 2007 (no_part Station station_total station_exact (λ k. eq_by_cmp bssid_cmp b k.0));

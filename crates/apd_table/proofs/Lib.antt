@@ -1,7 +1,9 @@
 pub mod AllRows
+pub mod Behind
 mod BssLemmas
 mod BssWrites
 mod Clashes
+pub mod Cursors
 pub mod Denied
 mod DeniedRows
 pub mod Empty
@@ -12,6 +14,7 @@ pub mod ListChanges
 pub mod ListCounts
 pub mod ListSets
 pub mod MembersLemmas
+mod NextFree
 mod OneDenied
 pub mod Parts
 mod Places

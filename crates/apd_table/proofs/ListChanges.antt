@@ -44,7 +44,7 @@ module _ (s : State) (l : SetOf list_cmp) (b : Bssid) (sound : Sound s) where
   sound_less : IsPart list_total list_exact l s.lists → Elsewhere → NoneDeniedHere → Sound changed
   sound_less part elsewhere none =
       sound_part s sound changed (λ k v g. g) part (λ k v g. g) (λ c d h. (sound.stations_have_policy c d h, none_denied elsewhere none c d h))
-      (λ c v d h. sound.lists_have_policy c v d (part_some list_total list_exact l s.lists part (c, v, d) h))
+      (λ c v d h. sound.lists_have_policy c v d (part_some list_total list_exact l s.lists part (c, v, d) h)) sound.cursors_have_policy
 
 module _ (s : State) (b : Bssid) (w : Which) (a : Addr) where
   abbrev key : Bssid × Which × Addr
@@ -76,6 +76,7 @@ module _ (s : State) (b : Bssid) (w : Which) (a : Addr) where
           | inl e ↦ subst (λ x. IsSome (policy_at s x)) (sym e) can.policy
           | inr apart ↦ sound.lists_have_policy c v d (sym (elsewhere c apart v d) ∙ h)
         ];
+        cursors_have_policy = sound.cursors_have_policy;
         none_denied = none_denied s l b sound elsewhere can.allowed;
         few_bss = sound.few_bss;
         few_stations = sound.few_stations;

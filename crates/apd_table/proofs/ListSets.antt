@@ -5,7 +5,7 @@ use Rattle.std.specs.declared.cmp.Ordering.{Ordering}
 use Rattle.std.specs.Ordering.{eq_by_cmp}
 use Rattle.std.specs.Cmp.{IsTotalOrder, eq_by_cmp_equiv}
 use Rattle.std.specs.FinMap as map
-use Rattle.std.specs.FinMap.{IsAntisymmetric, get-empty, get-insert, get-remove, get-retain_keys, same_map}
+use Rattle.std.specs.FinMap.{FinMap, IsAntisymmetric, get-empty, get-insert, get-remove, get-retain_keys, same_map}
 use Rattle.apd_base.specs.Sets.{SetOf, contains}
 use Rattle.apd_base.specs.Addr.{addr_cmp, bssid_cmp}
 use Rattle.apd_base.specs.State.{list_cmp, which_cmp, is_row_of}
@@ -20,9 +20,9 @@ use Rattle.apd_acl.specs.Lists.{has, added, removed, cleared}
 use Rattle.apd_acl.specs.declared.lists.Lists.{Lists}
 use Rattle.apd_table.proofs.Denied.{one_key}
 
-some_or : (t : Bool) (o : Option (Unit {0})) → is_some (cond t (Some tt) o) ≡ (t || is_some o)
-some_or true o = refl
-some_or false o = refl
+some_or : {X : Type 0} (t : Bool) (x : X) (o : Option X) → is_some (cond t (Some x) o) ≡ (t || is_some o)
+some_or true x o = refl
+some_or false x o = refl
 
 none_and : (t : Bool) (o : Option (Unit {0})) → is_some (cond t None o) ≡ (not t && is_some o)
 none_and true o = refl
@@ -39,8 +39,12 @@ same_unit (Some x) None e = cc
 same_unit (Some x) (Some y) e = refl
 
 module _ {K : Type 0} {R : K → K → Ordering} (o : IsTotalOrder R) (exact : IsAntisymmetric R) where
+  -- where a value is put one is there, and elsewhere where one was
+  pub is_some-insert : {X : Type 0} (m : FinMap R X) (k : K) (x : X) (q : K) → is_some (map.get (map.insert m k x) q) ≡ (eq_by_cmp R q k || is_some (map.get m q))
+  is_some-insert m k x q = ap is_some (get-insert o m k x q) ∙ some_or (eq_by_cmp R q k) x (map.get m q)
+
   pub contains-insert : (s : SetOf R) (k q : K) → contains (map.insert s k tt) q ≡ (eq_by_cmp R q k || contains s q)
-  contains-insert s k q = ap is_some (get-insert o s k tt q) ∙ some_or (eq_by_cmp R q k) (map.get s q)
+  contains-insert s k q = is_some-insert s k tt q
 
   pub contains-remove : (s : SetOf R) (k q : K) → contains (map.remove s k) q ≡ (not (eq_by_cmp R q k) && contains s q)
   contains-remove s k q = ap is_some (get-remove o s k q) ∙ none_and (eq_by_cmp R q k) (map.get s q)

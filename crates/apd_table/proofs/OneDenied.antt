@@ -25,7 +25,7 @@ use Rattle.apd_acl.specs.declared.lists.Lists.{Lists}
 use Rattle.apd_acl.proofs.Above.{found_head}
 use Rattle.apd_record.specs.Meaning.{meaning}
 use Rattle.apd_record.specs.declared.change.Change.{Change}
-use Rattle.apd_record.specs.declared.change.Change.TheVariants.{Put, Drop, ListAdd, ListDel, ListClear, Policy as SetPolicy}
+use Rattle.apd_record.specs.declared.change.Change.TheVariants.{Put, Drop, ListAdd, ListDel, ListClear, Policy as SetPolicy, Cursor}
 use Rattle.apd_table.specs.Addresses.{has_after, is_list_row, listed_address, policy_after, is_address_denied_after, is_denied_after}
 use Rattle.apd_table.specs.Allowed.{allowed, allowed_under}
 use Rattle.apd_table.specs.Can.{NoneDeniedAfter}
@@ -105,6 +105,7 @@ kept_lists lists b (ListClear c v) d is w a apart = cc
 kept_lists lists b (Put c x station) d is w a apart = cc
 kept_lists lists b (Drop c x) d is w a apart = cc
 kept_lists lists b (SetPolicy c policy) d is w a apart = cc
+kept_lists lists b (Cursor c last) d is w a apart = cc
 
 -- nor is the policy another
 pub kept_policy : (policy : Policy) (b : Bssid) (change : Change) (d : Addr) → Some d ≡ listed_address change → policy_after policy b change ≡ policy
@@ -114,6 +115,7 @@ kept_policy policy b (ListClear c v) d is = refl
 kept_policy policy b (Put c x station) d is = refl
 kept_policy policy b (Drop c x) d is = refl
 kept_policy policy b (SetPolicy c new) d is = cc
+kept_policy policy b (Cursor c last) d is = refl
 
 module _ (s : State) (b : Bssid) (sound : Sound s) (policy : Policy) (at_b : Some policy ≡ policy_at s b) (lists : Lists) (same : (w : Which) (a : Addr) → has lists w a ≡ contains s.lists (b, w, a))
     (change : Change) (d : Addr) (is : Some d ≡ listed_address change) where

@@ -10,7 +10,7 @@ use Rattle.apd_base.specs.declared.address.Addr.{Addr}
 use Rattle.apd_base.specs.declared.address.Bssid.{Bssid}
 use Rattle.apd_base.specs.declared.station.Which.{Which}
 use Rattle.apd_base.specs.Addr.{bssid_cmp}
-use Rattle.apd_base.specs.State.{State, station_at, policy_at, aid_of, aid_at, IsListed, is_row_of}
+use Rattle.apd_base.specs.State.{State, station_at, policy_at, cursor_at, aid_of, aid_at, IsListed, is_row_of}
 use Rattle.apd_base.proofs.AddrLemmas.{bssid_total, bssid_exact, station_total, station_exact}
 use Rattle.apd_base.proofs.Cases.{value_of, is_some_of, none_is, none_is_some}
 use Rattle.apd_base.proofs.MapLemmas.{one_or_apart, tied, get_inserted, get_insert_other, get_remove_other}
@@ -48,20 +48,29 @@ module _ {K X : Type 0} {R : K → K → Ordering} (o : IsTotalOrder R) (exact :
   pub has_one : (m : FinMap R X) (k : K) (v : X) → map.get m k ≡ Some v → 1 ≤ map.len m
   has_one m k v here = subst (λ n. 1 ≤ n) (sym (len-entries m)) (found_one k v (entries m) (sym (get-entries m k) ∙ here))
 
-  no_more : (es : List (K × X)) → T (is_sorted R es) → (m : FinMap R X) → ((q : K) (v : X) → find R q es ≡ Some v → map.get m q ≡ Some v) → length es ≤ map.len m
+  pub part_some : (part m : FinMap R X) → IsPart part m → (k : K) → IsSome (map.get part k) → IsSome (map.get m k)
+  part_some part m is k h = let v = value_of _ h in is_some_of _ v.0 (is k v.0 v.1)
+
+module _ {K X Y : Type 0} {R : K → K → Ordering} (o : IsTotalOrder R) (exact : IsAntisymmetric R) where
+  no_more : (es : List (K × X)) → T (is_sorted R es) → (m : FinMap R Y) → ((q : K) → IsSome (find R q es) → IsSome (map.get m q)) → length es ≤ map.len m
   no_more [] sorted m is = omega arith
   no_more (e ∷ es) sorted m is =
-      let here : map.get m e.0 ≡ Some e.1 = is e.0 e.1 (ap (λ t. cond t (Some e.1) (find R e.0 es)) (tied o exact e.0)) in
-      let rest = no_more es (is_sorted_tail o e es sorted) (map.remove m e.0) (λ q v f.
-      let ne = tied_not_below o q e es sorted v f in
-      get_remove_other o exact m e.0 q ne ∙ is q v (ap (λ t. cond t (Some e.1) (find R q es)) ne ∙ f)) in
-      let fewer : map.len (map.remove m e.0) ≡ map.len m - 1 = len-remove o m e.0 ∙ ap (λ x. cond (is_some x) (map.len m - 1) (map.len m)) here in
-      omega (arith, rest, fewer, has_one m e.0 e.1 here)
+      let here : IsSome (map.get m e.0) = is e.0 (ap (λ t. is_some (cond t (Some e.1) (find R e.0 es))) (tied o exact e.0)) in
+      let rest = no_more es (is_sorted_tail o e es sorted) (map.remove m e.0) (λ q f.
+      let v = value_of (find R q es) f in
+      let ne = tied_not_below o q e es sorted v.0 v.1 in
+      ap is_some (get_remove_other o exact m e.0 q ne) ∙ is q (ap (λ t. is_some (cond t (Some e.1) (find R q es))) ne ∙ f)) in
+      let fewer : map.len (map.remove m e.0) ≡ map.len m - 1 = len-remove o m e.0 ∙ ap (λ t. cond t (map.len m - 1) (map.len m)) here in
+      let v = value_of (map.get m e.0) here in
+      omega (arith, rest, fewer, has_one o exact m e.0 v.0 v.1)
 
-  pub part_len : (part m : FinMap R X) → IsPart part m → map.len part ≤ map.len m
-  part_len part m is =
-      let n = no_more (entries part) (entries_sorted part) m (λ q v f. is q v (get-entries part q ∙ f)) in
-      subst (λ k. k ≤ map.len m) (sym (len-entries part)) n
+  -- a map has no more keys than one that has each of them
+  pub len_within : (n : FinMap R X) (m : FinMap R Y) → ((q : K) → IsSome (map.get n q) → IsSome (map.get m q)) → map.len n ≤ map.len m
+  len_within n m is = subst (λ k. k ≤ map.len m) (sym (len-entries n)) (no_more (entries n) (entries_sorted n) m (λ q f. is q (ap is_some (get-entries n q) ∙ f)))
+
+module _ {K X : Type 0} {R : K → K → Ordering} (o : IsTotalOrder R) (exact : IsAntisymmetric R) where
+  pub part_len : (part m : FinMap R X) → IsPart o exact part m → map.len part ≤ map.len m
+  part_len part m is = len_within o exact part m (part_some o exact part m is)
 
   cond_some : (t : Bool) (a : Option X) (v : X) → cond t a None ≡ Some v → (t ≡ true) × (a ≡ Some v)
   cond_some true a v e = (refl, e)
@@ -70,18 +79,15 @@ module _ {K X : Type 0} {R : K → K → Ordering} (o : IsTotalOrder R) (exact :
   pub part_passes : (m : FinMap R X) (p : K → Bool) (k : K) (v : X) → map.get (map.retain_keys m p) k ≡ Some v → (p k ≡ true) × (map.get m k ≡ Some v)
   part_passes m p k v g = cond_some (p k) (map.get m k) v (sym (get-retain_keys m p k (λ x t. ap p (sym (exact k x t)))) ∙ g)
 
-  pub part_kept : (m : FinMap R X) (p : K → Bool) → IsPart (map.retain_keys m p) m
+  pub part_kept : (m : FinMap R X) (p : K → Bool) → IsPart o exact (map.retain_keys m p) m
   part_kept m p k v g = (part_passes m p k v g).1
 
-  pub part_retained : (p : K → Bool) (part m : FinMap R X) → IsPart part m → IsPart (map.retain_keys part p) (map.retain_keys m p)
+  pub part_retained : (p : K → Bool) (part m : FinMap R X) → IsPart o exact part m → IsPart o exact (map.retain_keys part p) (map.retain_keys m p)
   part_retained p part m is k v g =
       let both = part_passes part p k v g in
       get-retain_keys m p k (λ x t. ap p (sym (exact k x t))) ∙ ap (λ t. cond t (map.get m k) None) both.0 ∙ is k v both.1
 
-  pub part_some : (part m : FinMap R X) → IsPart part m → (k : K) → IsSome (map.get part k) → IsSome (map.get m k)
-  part_some part m is k h = let v = value_of _ h in is_some_of _ v.0 (is k v.0 v.1)
-
-  pub empty_part : (m : FinMap R X) → IsPart map.empty m
+  pub empty_part : (m : FinMap R X) → IsPart o exact map.empty m
   empty_part m k v g = none_is (map.get (map.empty {X = X} {R = R}) k) (get-empty R k) (is_some_of _ v g)
 
 -- ---- states with a part of the rows
@@ -95,13 +101,15 @@ module _ (s : State) (sound : Sound s) (t : State)
   aid_some : (b : Bssid) (a : Addr) → IsSome (aid_at t b a) → IsSome (aid_at s b a)
   aid_some b a h = let v = value_of _ h in is_some_of _ v.0 (aid_part b a v.0 v.1)
 
-  pub sound_part : ((b : Bssid) (a : Addr) → IsSome (station_at t b a) → IsSome (policy_at t b) × IsTrue (allowed t b a)) → ((b : Bssid) (w : Which) (a : Addr) → IsListed t b w a → IsSome (policy_at t b)) → Sound t
-  sound_part of_stations of_lists = record {
+  pub sound_part : ((b : Bssid) (a : Addr) → IsSome (station_at t b a) → IsSome (policy_at t b) × IsTrue (allowed t b a)) → ((b : Bssid) (w : Which) (a : Addr) → IsListed t b w a → IsSome (policy_at t b))
+      → ((b : Bssid) → is_some (cursor_at t b) ≡ is_some (policy_at t b)) → Sound t
+  sound_part of_stations of_lists of_cursors = record {
     identifiers = λ b a i h. sound.identifiers b a i (aid_part b a i h);
     distinct = λ b a c i h k. sound.distinct b a c i (aid_part b a i h) (aid_part b c i k);
     one_association = λ b c a h k. sound.one_association b c a (aid_some b a h) (aid_some c a k);
     stations_have_policy = λ b a h. (of_stations b a h).0;
     lists_have_policy = of_lists;
+    cursors_have_policy = of_cursors;
     none_denied = λ b a h. (of_stations b a h).1;
     few_bss = omega (arith, part_len bssid_total bssid_exact t.policies s.policies policies, sound.few_bss);
     few_stations = λ b. omega (arith, part_len station_total station_exact _ _ (part_retained station_total station_exact (λ k. eq_by_cmp bssid_cmp b k.0) t.stations s.stations stations), sound.few_stations b);
@@ -114,4 +122,4 @@ sound_drop s b a sound =
     let part = part_removed station_total station_exact s.stations (b, a) in
     sound_part s sound (drop_station b a s) part (λ k v g. g) (λ k v g. g)
     (λ c d h. let there = part_some station_total station_exact _ s.stations part (c, d) h in (sound.stations_have_policy c d there, sound.none_denied c d there))
-    sound.lists_have_policy
+    sound.lists_have_policy sound.cursors_have_policy

@@ -1,8 +1,8 @@
 -- The places of identifiers in words: what setting or clearing one makes of all.
-use Rattle.std.proofs.Common.{◌≡◌, ◌≢◌, ℕ, ◌+◌, ◌*◌, ◌/◌, ◌%◌, ◌^◌, ◌<◌, ◌≤◌, ◌↔◌, true, false, List, length, replicate, eqb, Option, Some, None, ◌⊎◌, inl, inr, IsTrue, IfSome, IfNone, refl, sym, ap, subst, ◌∙◌, arith, w64}
+use Rattle.std.proofs.Common.{◌≡◌, ◌≢◌, ℕ, ◌+◌, ◌-◌, ◌*◌, ◌/◌, ◌%◌, ◌^◌, ◌<◌, ◌≤◌, ◌↔◌, true, false, List, length, replicate, eqb, Option, Some, None, ◌⊎◌, inl, inr, IsTrue, IfSome, IfNone, refl, sym, ap, subst, ◌∙◌, arith, w64}
 use Rattle.std.proofs.lemmas.Bool.{cases_eq, cases_lt}
 use Rattle.std.proofs.lemmas.List.{get_or-replicate, get_or-set_same, get_or-set_other, length-set}
-use Rattle.std.proofs.lemmas.Nat.Bits.{bit_at-lt, bit_at-pow_other, bit_at-zero, bit_at_or, bit_at_set_same, bit_at_set_other, bit_at_clear_same, bit_at_clear_other}
+use Rattle.std.proofs.lemmas.Nat.Bits.{bit_at-lt, bit_at-zero, bit_at_ones, bit_at_ones_above, bit_at_or, bit_at_set_same, bit_at_set_other, bit_at_clear_same, bit_at_clear_other, ones_shr}
 use Rattle.std.specs.Int.{bit_at, bit_not}
 use Rattle.std.specs.Prelude.{bit_and, bit_or, slice_index, slice_set}
 use Rattle.apd_base.proofs.Cases.{differ}
@@ -10,7 +10,7 @@ use Rattle.apd_base.specs.declared.address.Bssid.{Bssid}
 use Rattle.apd_base.specs.State.{State}
 use Rattle.apd_table.specs.LeastFree.{IsTaken}
 use Rattle.apd_table.specs.fields.Members.{IsFirstClear, is_set, with_place, without_place, with_aid, without_aid}
-use Rattle.apd_table.specs.Rows.{IsLeastUnmarked}
+use Rattle.apd_table.specs.Rows.{AreMarkedAbove, IsLeastUnmarked}
 use Rattle.apd_table.specs.Words.{has_bit, AreWords}
 
 -- ---- bits of words are places
@@ -131,48 +131,56 @@ module _ (words : List ℕ) (many : length words ≡ 32) where
             (λ h. (λ e. ne (same_number i j e), sym same ∙ h), λ h. same ∙ h.1)
       ]
 
--- ---- the first place that is not set
+-- ---- the first place above one that is not set
 
-other_bits : (n j : ℕ) → 1 ≤ j → bit_at (bit_or n 1) j ≡ bit_at n j
-other_bits n j low =
-    let ne : j ≢ 0 = omega arith in
-    let none : bit_at 1 j ≡ 0 = bit_at-pow_other 0 j ne in
-    omega (arith, bit_at_or n 1 j)
+-- a word with its lowest bits set, up to one
+up_to : (k : ℕ) → k < 64 → (2 ^ 64 - 1) / 2 ^ (63 - k) ≡ 2 ^ (k + 1) - 1
+up_to k lt =
+    let more : 64 - (63 - k) ≡ k + 1 = omega arith in
+    ones_shr 64 (63 - k) (omega arith) ∙ ap (λ n. 2 ^ n - 1) more
 
-first_bit : (n : ℕ) → bit_at (bit_or n 1) 0 ≡ 1
-first_bit n =
-    let one : bit_at 1 0 ≡ 1 = refl in
-    omega (arith, bit_at_or n 1 0, bit_at-lt n 0)
+set_up_to : (n k j : ℕ) → j ≤ k → bit_at (bit_or n (2 ^ (k + 1) - 1)) j ≡ 1
+set_up_to n k j le =
+    let one : bit_at (2 ^ (k + 1) - 1) j ≡ 1 = bit_at_ones (k + 1) j (omega arith) in
+    omega (arith, bit_at_or n (2 ^ (k + 1) - 1) j, bit_at-lt n j)
 
--- a word with bit 0 set
-pub others_kept : (words : List ℕ) (w : ℕ) → w ≡ 0 → (j : ℕ) → 1 ≤ 64 * w + j → bit_at (bit_or (slice_index words 0) 1) j ≡ bit_at (slice_index words w) j
-others_kept words w zero j low = other_bits (slice_index words 0) j (omega arith) ∙ ap (λ k. bit_at (slice_index words k) j) (sym zero)
+kept_above : (n k j : ℕ) → k < j → bit_at (bit_or n (2 ^ (k + 1) - 1)) j ≡ bit_at n j
+kept_above n k j lt =
+    let none : bit_at (2 ^ (k + 1) - 1) j ≡ 0 = bit_at_ones_above (k + 1) j (omega arith) in
+    omega (arith, bit_at_or n (2 ^ (k + 1) - 1) j)
 
-pub first_set : (words : List ℕ) → bit_at (bit_or (slice_index words 0) 1) 0 ≡ 1
-first_set words = first_bit (slice_index words 0)
+-- the word of a place, with the bits up to that place set
+module _ (words : List ℕ) (last w : ℕ) (here : w ≡ last / 64) where
+  abbrev masked : ℕ
+  masked = bit_or (slice_index words w) ((2 ^ 64 - 1) / 2 ^ (63 - last % 64))
 
--- a word that is read with place 0 as if it were set
-module _ (words : List ℕ) (w word : ℕ) (others : (j : ℕ) → 1 ≤ 64 * w + j → bit_at word j ≡ bit_at (slice_index words w) j) (first : w ≡ 0 → bit_at word 0 ≡ 1) where
-  bit_of : (j : ℕ) → 1 ≤ j → 64 * w ≤ j → j < 64 * w + 64 → is_set words j ≡ eqb (bit_at word (j % 64)) 1
+  masked_is : masked ≡ bit_or (slice_index words w) (2 ^ (last % 64 + 1) - 1)
+  masked_is = ap (bit_or (slice_index words w)) (up_to (last % 64) (bit_below last))
+
+  pub others_kept : (j : ℕ) → last < 64 * w + j → bit_at masked j ≡ bit_at (slice_index words w) j
+  others_kept j above = ap (λ n. bit_at n j) masked_is ∙ kept_above (slice_index words w) (last % 64) j (omega arith)
+
+  pub first_set : (j : ℕ) → j < 64 → 64 * w + j ≤ last → bit_at masked j ≡ 1
+  first_set j lt below = ap (λ n. bit_at n j) masked_is ∙ set_up_to (slice_index words w) (last % 64) j (omega arith)
+
+-- a word that is read with the places up to one as if they were set
+module _ (words : List ℕ) (last w word : ℕ) (others : (j : ℕ) → last < 64 * w + j → bit_at word j ≡ bit_at (slice_index words w) j) (first : (j : ℕ) → j < 64 → 64 * w + j ≤ last → bit_at word j ≡ 1) where
+  bit_of : (j : ℕ) → last < j → 64 * w ≤ j → j < 64 * w + 64 → is_set words j ≡ eqb (bit_at word (j % 64)) 1
   bit_of j low from below =
       let at : j / 64 ≡ w = omega arith in
-      let some : 1 ≤ 64 * w + j % 64 = omega arith in
-      ap (λ k. eqb (bit_at (slice_index words k) (j % 64)) 1) at ∙ ap (λ x. eqb x 1) (sym (others (j % 64) some))
+      let above : last < 64 * w + j % 64 = omega arith in
+      ap (λ k. eqb (bit_at (slice_index words k) (j % 64)) 1) at ∙ ap (λ x. eqb x 1) (sym (others (j % 64) above))
 
-  not_first : (i : ℕ) → bit_at word i ≡ 0 → 1 ≤ w * 64 + i
-  not_first i clear =
-      elim (cases_eq (w * 64 + i) 0) [
-        | inl e ↦
-            let at : w ≡ 0 = omega arith in
-            let low : i ≡ 0 = omega arith in
-            let set : bit_at word i ≡ 1 = ap (bit_at word) low ∙ first at in
-            absurd (omega arith)
-        | inr ne ↦ omega arith
+  not_first : (i : ℕ) → i < 64 → bit_at word i ≡ 0 → last < w * 64 + i
+  not_first i fits clear =
+      elim (cases_lt last (w * 64 + i)) [
+        | inl above ↦ above
+        | inr below ↦ (let set : bit_at word i ≡ 1 = first i fits (omega arith) in absurd (omega arith))
       ]
 
-  pub first_clear_is : (i : ℕ) → i < 64 → bit_at word i ≡ 0 → ((j : ℕ) → j < i → bit_at word j ≡ 1) → IsFirstClear words w (w * 64 + i)
+  pub first_clear_is : (i : ℕ) → i < 64 → bit_at word i ≡ 0 → ((j : ℕ) → j < i → bit_at word j ≡ 1) → IsFirstClear words last w (w * 64 + i)
   first_clear_is i fits clear before =
-      let low = not_first i clear in
+      let low = not_first i fits clear in
       let bit : (w * 64 + i) % 64 ≡ i = omega arith in
       record {
         low = low;
@@ -185,24 +193,24 @@ module _ (words : List ℕ) (w word : ℕ) (others : (j : ℕ) → 1 ≤ 64 * w 
       }
 
 -- the first of all words, where those before are set
-module _ (words : List ℕ) (w i : ℕ) (below : (j : ℕ) → 1 ≤ j → j < 64 * w → is_set words j ≡ true) (is : IsFirstClear words w i) where
-  all_before : (j : ℕ) → 1 ≤ j → j < i → is_set words j ≡ true
+module _ (words : List ℕ) (last w i : ℕ) (below : (j : ℕ) → last < j → j < 64 * w → is_set words j ≡ true) (is : IsFirstClear words last w i) where
+  all_before : (j : ℕ) → last < j → j < i → is_set words j ≡ true
   all_before j low lt =
       elim (cases_lt j (64 * w)) [
         | inl in' ↦ below j low in'
         | inr from ↦ is.before j low from lt
       ]
 
-  pub least_within : (r : Option ℕ) → IfSome r (λ x. (x ≡ i) × (x ≤ 2007)) → IfSome r (IsLeastUnmarked (is_set words))
+  pub least_within : (r : Option ℕ) → IfSome r (λ x. (x ≡ i) × (x ≤ 2007)) → IfSome r (IsLeastUnmarked (is_set words) last)
   least_within None h = tt
   least_within (Some x) h = record {
-    low = subst (λ n. 1 ≤ n) (sym h.0) is.low;
+    low = subst (λ n. last < n) (sym h.0) is.low;
     high = h.1;
     free = ap (is_set words) h.0 ∙ is.clear;
     smaller = λ j low lt. all_before j low (subst (λ n. j < n) h.0 lt);
   }
 
-  pub full_within : (r : Option ℕ) → IfNone r (2007 < i) → IfNone r ((j : ℕ) → 1 ≤ j → j ≤ 2007 → is_set words j ≡ true)
+  pub full_within : (r : Option ℕ) → IfNone r (2007 < i) → IfNone r (AreMarkedAbove (is_set words) last)
   full_within None h = λ j low high. all_before j low (omega arith)
   full_within (Some x) h = tt
 

@@ -15,6 +15,7 @@ use Rattle.apd_table.specs.Allowed.{allowed, allowed_under}
 use Rattle.apd_table.specs.Can.{CanSet}
 use Rattle.apd_record.specs.Meaning.{set_policy}
 use Rattle.apd_table.specs.Sound.{Sound}
+use Rattle.apd_table.proofs.Cursors.{cursors_set}
 use Rattle.apd_table.proofs.Rooms.{room_after, room_before}
 
 module _ (s : State) (b : Bssid) (p : Policy) where
@@ -27,7 +28,7 @@ module _ (s : State) (b : Bssid) (p : Policy) where
   pub policy_elsewhere : (c : Bssid) → eq_by_cmp bssid_cmp c b ≡ false → policy_at new c ≡ policy_at s c
   policy_elsewhere c ne = get_insert_other bssid_total bssid_exact s.policies b p c ne
 
-  kept : (c : Bssid) → IsSome (policy_at s c) → IsSome (policy_at new c)
+  pub kept : (c : Bssid) → IsSome (policy_at s c) → IsSome (policy_at new c)
   kept c h =
       elim (one_or_apart bssid_total bssid_exact c b) [
         | inl e ↦ ap (λ x. is_some (policy_at new x)) e ∙ ap is_some policy_here
@@ -47,6 +48,7 @@ module _ (s : State) (b : Bssid) (p : Policy) where
     one_association = sound.one_association;
     stations_have_policy = λ c d h. kept c (sound.stations_have_policy c d h);
     lists_have_policy = λ c w d h. kept c (sound.lists_have_policy c w d h);
+    cursors_have_policy = cursors_set s b sound.cursors_have_policy p;
     none_denied = λ c d h. elim (one_or_apart bssid_total bssid_exact c b) [
       | inl e ↦ subst (λ x. IsTrue (allowed new x d)) (sym e) (can.allowed d (subst (λ x. IsSome (station_at s x d)) e h))
       | inr ne ↦ allowed_elsewhere c d ne ∙ sound.none_denied c d h

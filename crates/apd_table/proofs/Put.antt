@@ -97,6 +97,7 @@ module _ (s : State) (b : Bssid) (a : Addr) (v : Station) where
           | inr p ↦ sound.stations_have_policy c d (subst IsSome p h)
         ];
         lists_have_policy = sound.lists_have_policy;
+        cursors_have_policy = sound.cursors_have_policy;
         none_denied = λ c d h. elim (put_case c d) [
           | inl p ↦ subst (λ x. IsTrue (allowed s x d)) (sym p.0) (subst (λ x. IsTrue (allowed s b x)) (sym p.1) can.allowed.1)
           | inr p ↦ sound.none_denied c d (subst IsSome p h)

@@ -1,5 +1,5 @@
 -- The changes of the rows of BSSIDs in order are those of their policies and their list rows.
-use Rattle.std.proofs.Common.{◌≡◌, List, [], ◌∷◌, ◌++◌, map as list_map, append_assoc, refl, sym, ap, subst, ◌∙◌, T}
+use Rattle.std.proofs.Common.{◌≡◌, Bool, true, false, cond, List, [], ◌∷◌, ◌++◌, filter, map as list_map, append_assoc, refl, sym, ap, subst, ◌∙◌, T}
 use Rattle.std.proofs.lemmas.List.{map-append, nil_from_length}
 use Rattle.std.specs.List.{flat_map}
 use Rattle.std.specs.Ordering.{is_lt, ordering_then}
@@ -14,6 +14,7 @@ use Rattle.apd_base.specs.Addr.{addr_cmp, bssid_cmp}
 use Rattle.apd_base.specs.State.{list_cmp, which_cmp}
 use Rattle.apd_base.specs.declared.address.Addr.{Addr}
 use Rattle.apd_base.specs.declared.address.Bssid.{Bssid}
+use Rattle.apd_base.specs.declared.station.StationNumber.{StationNumber}
 use Rattle.apd_base.specs.declared.station.Which.{Which}
 use Rattle.apd_base.specs.declared.station.Which.TheVariants.{Accept, Deny}
 use Rattle.apd_base.proofs.AddrLemmas.{bssid_total}
@@ -21,9 +22,9 @@ use Rattle.apd_base.proofs.Cases.{first_holds, second_holds, both_hold, is_less}
 use Rattle.apd_base.proofs.RowsLemmas.{is_sorted_tail}
 use Rattle.apd_base.proofs.StateLemmas.{list_total}
 use Rattle.apd_acl.specs.Lists.{list_of}
-use Rattle.apd_record.specs.declared.change.Change.TheVariants.{ListAdd}
-use Rattle.apd_table.specs.fields.BssRows.{add_rows, list_rows, policy_of, policy_rows}
-use Rattle.apd_table.specs.Snapshot.{policy_change, list_change, policies_of_rows, lists_of_rows}
+use Rattle.apd_record.specs.declared.change.Change.TheVariants.{ListAdd, Cursor}
+use Rattle.apd_table.specs.fields.BssRows.{add_rows, cursor_of, list_rows, parts_of, policy_of, policy_rows}
+use Rattle.apd_table.specs.Snapshot.{is_given, cursor_change, cursor_changes, policy_change, list_change, policies_of_rows, cursors_of_rows, lists_of_rows}
 use Rattle.apd_table.specs.declared.bss_rows.Bss.{Bss}
 use Rattle.apd_table.proofs.BssLemmas.{sorted-parts_of}
 use Rattle.apd_table.proofs.ListCounts.{Item, Row, rows_of, below-rows_of}
@@ -36,6 +37,24 @@ same_policies (x ∷ xs) = λ i. policy_change (x.0, x.1.policy) ∷ same_polici
 
 pub policies_are : (xs : List (Bssid × Bss)) → T (is_sorted bssid_cmp xs) → policies_of_rows xs ≡ list_map policy_change (entries (from_sorted {R = bssid_cmp} (policy_rows xs)))
 policies_are xs sorted = same_policies xs ∙ ap (list_map policy_change) (sym (entries-from_sorted bssid_cmp (policy_rows xs) (sorted-parts_of policy_of xs sorted)))
+
+-- ---- what was given last, but where that is none
+
+abbrev given : Bssid × StationNumber → Bool
+given row = is_given row.1
+
+same_cursors : (xs : List (Bssid × Bss)) → cursors_of_rows xs ≡ list_map cursor_change (filter given (parts_of cursor_of xs))
+same_cursors [] = refl
+same_cursors (x ∷ xs) =
+    let given_row = λ (row : Bssid × Bss). is_given row.1.cursor in
+    elim (is_given x.1.cursor) as (λ t. list_map (λ (row : Bssid × Bss). Cursor row.0 row.1.cursor) (cond t (x ∷ filter given_row xs) (filter given_row xs))
+    ≡ list_map cursor_change (cond t ((x.0, x.1.cursor) ∷ filter given (parts_of cursor_of xs)) (filter given (parts_of cursor_of xs)))) [
+      | true ↦ ap (λ changes. Cursor x.0 x.1.cursor ∷ changes) (same_cursors xs)
+      | false ↦ same_cursors xs
+    ]
+
+pub cursors_are : (xs : List (Bssid × Bss)) → T (is_sorted bssid_cmp xs) → cursors_of_rows xs ≡ cursor_changes (from_sorted {R = bssid_cmp} (parts_of cursor_of xs))
+cursors_are xs sorted = same_cursors xs ∙ ap (λ rows. list_map cursor_change (filter given rows)) (sym (entries-from_sorted bssid_cmp (parts_of cursor_of xs) (sorted-parts_of cursor_of xs sorted)))
 
 -- ---- list rows in their order
 

@@ -13,29 +13,35 @@ use Rattle.apd_base.specs.declared.address.Addr.{Addr}
 use Rattle.apd_base.specs.declared.address.Bssid.{Bssid}
 use Rattle.apd_base.specs.declared.station.Policy.{Policy}
 use Rattle.apd_base.specs.declared.station.Station.{Station}
+use Rattle.apd_base.specs.declared.station.StationNumber.{StationNumber}
 use Rattle.apd_base.specs.declared.station.Which.{Which}
 use Rattle.apd_base.specs.declared.station.Which.TheVariants.{Accept, Deny}
 use Rattle.apd_base.specs.Addr.{bssid_cmp}
 use Rattle.apd_base.specs.Mode.{mode_number}
 use Rattle.apd_base.specs.State.{State, which_number, which_cmp, policy_at, is_row_of}
-use Rattle.apd_base.proofs.AddrLemmas.{bssid_total, station_total, station_exact}
+use Rattle.apd_base.proofs.AddrLemmas.{bssid_total, bssid_exact, station_total, station_exact}
 use Rattle.apd_base.proofs.Cases.{is_some_of}
 use Rattle.apd_base.proofs.RowsMaps.{entries-retain_keys}
 use Rattle.apd_base.proofs.StateLemmas.{list_total, list_exact}
 use Rattle.apd_record.specs.Ranges.{IsBssid, IsChange, AreChanges}
 use Rattle.apd_record.specs.Record.{record_of, records_of, station_bytes}
 use Rattle.apd_record.specs.declared.change.Change.{Change}
-use Rattle.apd_record.specs.declared.change.Change.TheVariants.{Put, ListAdd, Policy as SetPolicy}
+use Rattle.apd_record.specs.declared.change.Change.TheVariants.{Put, ListAdd, Policy as SetPolicy, Cursor}
 use Rattle.apd_record.proofs.Lengths.{station_length, records_length-append}
 use Rattle.apd_base.specs.Addr.{IsAddr}
-use Rattle.apd_table.specs.Snapshot.{policy_change, list_change, station_change, canonical, policy_changes, list_changes, station_changes}
+use Rattle.apd_table.specs.Snapshot.{policy_change, cursor_change, list_change, station_change, canonical, policy_changes, cursor_changes, list_changes, station_changes}
 use Rattle.apd_table.specs.Sound.{Sound}
-use Rattle.apd_table.proofs.Replays.{entries_are}
+use Rattle.apd_table.proofs.ListCounts.{length-filter_le}
+use Rattle.apd_table.proofs.Parts.{len_within}
+use Rattle.apd_table.proofs.Replays.{entries_are, given}
 
 -- ---- each record
 
 pub policy_length : (b : Bssid) (p : Policy) → IsBssid b → length (record_of (SetPolicy b p)) ≡ 10
-policy_length b p is = omega (arith, length-append b.0.0 (mode_number p.mode ∷ to_le_bytes w16 p.max.count), is.0)
+policy_length b p is = omega (arith, length-append b.0.0 (mode_number p.mode ∷ to_le_bytes w16 p.max.number), is.0)
+
+pub cursor_length : (b : Bssid) (last : StationNumber) → IsBssid b → length (record_of (Cursor b last)) ≡ 9
+cursor_length b last is = omega (arith, length-append b.0.0 (to_le_bytes w16 last.number), is.0)
 
 pub list_length : (b : Bssid) (w : Which) (a : Addr) → IsBssid b → IsAddr a → length (record_of (ListAdd b w a)) ≡ 14
 list_length b w a is of = omega (arith, length-append b.0.0 (which_number w ∷ a.0), is.0, of.0)
@@ -152,18 +158,34 @@ module _ (s : State) (sound : Sound s) where
   policies_bound : length (entries s.policies) ≤ 8
   policies_bound = subst (λ n. n ≤ 8) (len-entries s.policies) sound.few_bss
 
-  pub canonical_size : AreChanges (canonical s) → length (records_of (canonical s)) ≤ 550576
-  canonical_size are =
-      let first = fronts (policy_changes s.policies) (list_changes s.lists ++ station_changes s.stations) are in
-      let second = fronts (list_changes s.lists) (station_changes s.stations) first.1 in
+  -- there are no more than policies
+  cursors_bound : length (filter given (entries s.cursors)) ≤ 8
+  cursors_bound =
       omega (
         arith,
-        records_length-append (policy_changes s.policies) (list_changes s.lists ++ station_changes s.stations),
+        length-filter_le given (entries s.cursors),
+        len-entries s.cursors,
+        len_within bssid_total bssid_exact s.cursors s.policies (λ b h. sym (sound.cursors_have_policy b) ∙ h),
+        sound.few_bss,
+      )
+
+  pub canonical_size : AreChanges (canonical s) → length (records_of (canonical s)) ≤ 550648
+  canonical_size are =
+      let last = list_changes s.lists ++ station_changes s.stations in
+      let first = fronts (policy_changes s.policies) (cursor_changes s.cursors ++ last) are in
+      let second = fronts (cursor_changes s.cursors) last first.1 in
+      let third = fronts (list_changes s.lists) (station_changes s.stations) second.1 in
+      omega (
+        arith,
+        records_length-append (policy_changes s.policies) (cursor_changes s.cursors ++ last),
+        records_length-append (cursor_changes s.cursors) last,
         records_length-append (list_changes s.lists) (station_changes s.stations),
         each_length policy_change 10 (λ row. policy_length row.0 row.1) (entries s.policies) first.0,
-        each_length list_change 14 (λ row is. list_length row.0.0 row.0.1 row.0.2 is.0 is.1) (entries s.lists) second.0,
-        each_length station_change 20 (λ row is. put_length row.0.0 row.0.1 row.1 is.0 is.1) (entries s.stations) second.1,
+        each_length cursor_change 9 (λ row. cursor_length row.0 row.1) (filter given (entries s.cursors)) second.0,
+        each_length list_change 14 (λ row is. list_length row.0.0 row.0.1 row.0.2 is.0 is.1) (entries s.lists) third.0,
+        each_length station_change 20 (λ row is. put_length row.0.0 row.0.1 row.1 is.0 is.1) (entries s.stations) third.1,
         policies_bound,
+        cursors_bound,
         lists_bound,
         stations_bound,
       )

@@ -16,7 +16,7 @@ use Rattle.apd_acl.specs.Policy.{is_allowed}
 use Rattle.apd_acl.specs.declared.lists.Lists.{Lists}
 use Rattle.apd_record.specs.Meaning.{meaning}
 use Rattle.apd_record.specs.declared.change.Change.{Change}
-use Rattle.apd_record.specs.declared.change.Change.TheVariants.{Put, Drop, ListAdd, ListDel, ListClear, Policy as SetPolicy}
+use Rattle.apd_record.specs.declared.change.Change.TheVariants.{ListAdd, ListDel, ListClear, Policy as SetPolicy}
 use Rattle.apd_table.specs.Allowed.{denied_by}
 use Rattle.apd_table.specs.Rows.{is_row_of}
 
@@ -41,10 +41,7 @@ denied_after s b change = denied_under (with_lists_after change s) b (policy_at 
 abbrev pub listed_address : Change → Option Addr
 listed_address (ListAdd c v d) = Some d
 listed_address (ListDel c v d) = Some d
-listed_address (ListClear c v) = None
-listed_address (Put c d station) = None
-listed_address (Drop c d) = None
-listed_address (SetPolicy c policy) = None
+listed_address other = None
 
 -- whether two list rows are one
 abbrev pub is_list_row : Bssid → Which → Addr → Bssid → Which → Addr → Bool
@@ -55,18 +52,12 @@ abbrev pub has_after : Lists → Bssid → Change → Which → Addr → Bool
 has_after lists b (ListAdd c v d) w a = is_list_row b w a c v d || has lists w a
 has_after lists b (ListDel c v d) w a = not (is_list_row b w a c v d) && has lists w a
 has_after lists b (ListClear c v) w a = not (eq_by_cmp bssid_cmp c b && eq_by_cmp which_cmp v w) && has lists w a
-has_after lists b (Put c d station) w a = has lists w a
-has_after lists b (Drop c d) w a = has lists w a
-has_after lists b (SetPolicy c policy) w a = has lists w a
+has_after lists b other w a = has lists w a
 
 -- the policy of the BSSID once a change is made
 abbrev pub policy_after : Policy → Bssid → Change → Policy
 policy_after policy b (SetPolicy c new) = if eq_by_cmp bssid_cmp b c then new else policy
-policy_after policy b (Put c d station) = policy
-policy_after policy b (Drop c d) = policy
-policy_after policy b (ListAdd c v d) = policy
-policy_after policy b (ListDel c v d) = policy
-policy_after policy b (ListClear c v) = policy
+policy_after policy b other = policy
 
 -- whether a mode denies an address of the BSSID by the lists that a change leaves, and whether a row is one of those
 abbrev pub is_address_denied_after : Lists → AclMode → Bssid → Change → Addr → Bool

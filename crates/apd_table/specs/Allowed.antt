@@ -41,4 +41,4 @@ denied_by s b mode = list_map (λ row. row.0.1) (filter (is_denied_row s b mode)
 
 -- the number of a policy's mode and its greatest number of stations
 abbrev pub mode_and_max : Policy → ℕ × ℕ
-mode_and_max policy = (mode_number policy.mode, policy.max.count)
+mode_and_max policy = (mode_number policy.mode, policy.max.number)

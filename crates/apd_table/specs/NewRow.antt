@@ -2,12 +2,10 @@
 use Rattle.std.specs.Prelude.{◌≡◌, None}
 use Rattle.apd_base.specs.State.{State, station_at, policy_at, IsListed}
 use Rattle.apd_record.specs.declared.change.Change.{Change}
-use Rattle.apd_record.specs.declared.change.Change.TheVariants.{Put, Drop, ListAdd, ListDel, ListClear, Policy}
+use Rattle.apd_record.specs.declared.change.Change.TheVariants.{Put, ListAdd, Policy}
 
 abbrev pub IsNewRow : Change → State → Type 0
 IsNewRow (Put b a station) s = station_at s b a ≡ None
-IsNewRow (Drop b a) s = ⊥
 IsNewRow (ListAdd b w a) s = ¬ (IsListed s b w a)
-IsNewRow (ListDel b w a) s = ⊥
-IsNewRow (ListClear b w) s = ⊥
 IsNewRow (Policy b policy) s = policy_at s b ≡ None
+IsNewRow other s = ⊥

@@ -22,12 +22,16 @@ is_row_of b row = eq_by_cmp bssid_cmp b row.0.0
 abbrev pub is_associated_apart : Bssid → Bssid → Option Station → Bool
 is_associated_apart b c station = not (eq_by_cmp bssid_cmp b c) && is_some (aid_of station)
 
--- the least identifier, from 1 on, that is not marked
-pub record IsLeastUnmarked (marked : ℕ → Bool) (i : ℕ) : Type 0 where
-  pub low : 1 ≤ i
+-- the least identifier above a number that is not marked
+pub record IsLeastUnmarked (marked : ℕ → Bool) (last i : ℕ) : Type 0 where
+  pub low : last < i
   pub high : i ≤ MAX_STATIONS
   pub free : marked i ≡ false
-  pub smaller : (j : ℕ) → 1 ≤ j → j < i → marked j ≡ true
+  pub smaller : (j : ℕ) → last < j → j < i → marked j ≡ true
+
+-- each above it is
+abbrev pub AreMarkedAbove : (ℕ → Bool) → ℕ → Type 0
+AreMarkedAbove marked last = (j : ℕ) → last < j → j ≤ MAX_STATIONS → marked j ≡ true
 
 -- what is told of a row
 abbrev pub address_and_station : (Bssid × Addr) × Station → Addr × Station

@@ -1,11 +1,12 @@
 -- The states that an access point may be in.
 use Rattle.std.specs.Prelude.{◌≡◌, ℕ, ◌≤◌, List, [], ◌∷◌, Some, IsSome, IsTrue}
 use Rattle.std.specs.FinMap as map
+use Rattle.std.specs.Option.{is_some}
 use Rattle.apd_base.specs.declared.address.Addr.{Addr}
 use Rattle.apd_base.specs.declared.address.Bssid.{Bssid}
 use Rattle.apd_base.specs.declared.limits.TheConstants.{MAX_BSS, MAX_STATIONS, MAX_LISTED}
 use Rattle.apd_base.specs.declared.station.Which.{Which}
-use Rattle.apd_base.specs.State.{State, station_at, policy_at, aid_at, count, list_count, IsListed}
+use Rattle.apd_base.specs.State.{State, station_at, policy_at, cursor_at, aid_at, count, list_count, IsListed}
 use Rattle.apd_record.specs.Meaning.{meaning}
 use Rattle.apd_record.specs.declared.change.Change.{Change}
 use Rattle.apd_table.specs.Allowed.{allowed}
@@ -20,6 +21,8 @@ pub record Sound (s : State) : Type 0 where
   -- each BSSID of a row has a policy
   pub stations_have_policy : (b : Bssid) (a : Addr) → IsSome (station_at s b a) → IsSome (policy_at s b)
   pub lists_have_policy : (b : Bssid) (w : Which) (a : Addr) → IsListed s b w a → IsSome (policy_at s b)
+  -- exactly a BSSID with a policy has a cursor
+  pub cursors_have_policy : (b : Bssid) → is_some (cursor_at s b) ≡ is_some (policy_at s b)
   -- no station has a row that the policy denies
   pub none_denied : (b : Bssid) (a : Addr) → IsSome (station_at s b a) → IsTrue (allowed s b a)
   -- the limits

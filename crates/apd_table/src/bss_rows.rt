@@ -9,16 +9,16 @@ ghost use Rattle.apd_base.specs.State.{is_row_of};
 ghost use Rattle.apd_base.specs.declared.address.Addr.{Addr};
 ghost use Rattle.apd_base.specs.declared.limits.TheConstants.{MAX_STATIONS};
 ghost use Rattle.apd_base.specs.declared.station.Which.{Which};
-ghost use Rattle.apd_table.specs.fields.BssRows.{no_bss, policy_of, members_of, with_bss, is_listed_in};
+ghost use Rattle.apd_table.specs.fields.BssRows.{no_bss, policy_of, cursor_of, members_of, with_bss, is_listed_in};
 ghost use Rattle.apd_table.specs.fields.Members.{after_row};
-ghost use Rattle.apd_table.specs.Snapshot.{list_changes, policy_changes};
+ghost use Rattle.apd_table.specs.Snapshot.{cursor_changes, list_changes, policy_changes};
 ghost use Rattle.apd_table.specs.declared.bss_rows.Bss.{Bss};
 
 use crate::members::Members;
-use crate::snapshot::{add_lists, add_policies};
-use crate::writes::{add_at, change_row_at, clear_at, remove_at, set_policy_at};
+use crate::snapshot::{add_cursors, add_lists, add_policies};
+use crate::writes::{add_at, change_row_at, clear_at, remove_at, set_cursor_at, set_policy_at};
 use apd_acl::Lists;
-use apd_base::{Addr, Bssid, Policy, Station, Which, rows};
+use apd_base::{Addr, Bssid, Policy, Station, StationNumber, Which, rows};
 use apd_record::Changes;
 use std::alloc::{AllocError, Global};
 use std::marker::Model;
@@ -27,12 +27,14 @@ use std::marker::Model;
 #[derive(Drop)]
 pub struct Bss {
     pub policy: Policy,
+    // The identifier that was given last, 0 where none was yet.
+    pub cursor: StationNumber,
     pub lists: Lists,
     pub members: Members,
 }
 
-/// The rows in the order of BSSIDs, seen as the list rows and the policy rows of a state, and what is kept
-/// of the stations of each.
+/// The rows in the order of BSSIDs, seen as the list rows and the policy rows of a state, the identifier that
+/// each gave last, and what is kept of the stations of each.
 #[derive(Drop)]
 pub struct BssRows {
     rows: Vec<(Bssid, Bss)>,
@@ -80,6 +82,7 @@ impl BssRows {
         ensures lists { (w : Which) (a : Addr)
             → is_listed_in (option_copied result) w a ≡ contains self.now.lists (bssid, w, a) }
         ensures members { option_map members_of (option_copied result) ≡ map.get self.now.members bssid }
+        ensures cursor { option_map cursor_of (option_copied result) ≡ map.get self.now.cursors bssid }
     {
         rows::value(&self.rows, &bssid)
     }
@@ -105,18 +108,22 @@ impl BssRows {
         bssid_at(&self.rows, place)
     }
 
-    /// Adds the changes that make the rows: all policies, and then all lists.
+    /// Adds the changes that make the rows: all policies, then the identifiers given last but where none
+    /// was, and then all lists.
     pub fn add_changes(&self, changes: &mut Changes) -> Result<(), AllocError>
         ensures { OnOk result
-            (changes.new ≡ changes.old ++ (policy_changes self.now.policies ++ list_changes self.now.lists)) }
+            (changes.new
+            ≡ changes.old
+            ++ (policy_changes self.now.policies ++ (cursor_changes self.now.cursors ++ list_changes self.now.lists))) }
     {
         add_policies(changes, &self.rows)?;
+        add_cursors(changes, &self.rows)?;
         add_lists(changes, &self.rows)?;
         Ok(())
     }
 
-    /// Sets a BSSID's policy, or leaves all as it was. It lacks memory only for a BSSID without a row,
-    /// whose lists are then empty, and which has no station.
+    /// Sets a BSSID's policy, or leaves all as it was. It lacks memory only for a BSSID without a row, whose
+    /// lists are then empty, and which has no station and gave no identifier yet.
     pub fn set(&mut self, bssid: Bssid, policy: Policy) -> Result<(), AllocError>
         ensures ok { OnOk result (self.new ≡ with_bss self.old bssid policy) }
         ensures err { OnErr result (self.new ≡ self.old) }
@@ -132,11 +139,22 @@ impl BssRows {
                 let members = Members::none();
                 let bss = Bss {
                     policy,
+                    cursor: StationNumber { number: 0 },
                     lists,
                     members,
                 };
                 Ok(self.rows.insert(at, (bssid, bss))?)
             }
+        }
+    }
+
+    /// Sets the identifier that was given last at a BSSID with a row.
+    pub fn set_cursor(&mut self, bssid: Bssid, last: StationNumber)
+        requires { IsSome (map.get self.old.policies bssid) }
+        ensures { self.new ≡ record self.old { cursors = map.insert self.old.cursors bssid last } }
+    {
+        if let Ok(at) = rows::place(&self.rows, &bssid) {
+            set_cursor_at(&mut self.rows, at, last);
         }
     }
 
@@ -211,6 +229,7 @@ fn copy_of_bss(alloc: Global, bss: &Bss) -> Result<Bss, AllocError>
 {
     Ok(Bss {
         policy: bss.policy,
+        cursor: bss.cursor,
         lists: bss.lists.copy(alloc)?,
         members: bss.members,
     })

@@ -1,12 +1,14 @@
 //! Changes that a table makes all, or none of them.
 ghost use Rattle.std.specs.Prelude.{◌≡◌, ◌≢◌, ◌↔◌, ◌∷◌, OnOk, OnErr, IsOk, IsSome, IfSome, IsTrue, Err};
 ghost use Rattle.apd_record.specs.Meaning.{meaning, meaning_of};
-ghost use Rattle.apd_table.specs.InPlace.{AreDrops, IsDrop, IsInPlace, IsPutOver, NoNewRow};
+ghost use Rattle.apd_record.specs.declared.change.Change.TheVariants.{Cursor};
+ghost use Rattle.apd_table.specs.InPlace.{AreDrops, AreFewInPlace, IsCursorThere, IsDrop, IsInPlace, IsPutOver, NoNewRow};
 ghost use Rattle.apd_table.specs.NewRow.{IsNewRow};
 ghost use Rattle.apd_table.specs.Sound.{Sound, StaySound};
 ghost use Rattle.apd_table.specs.declared.table.TableFault.{TableFault};
 
 use crate::table::{Table, TableFault};
+use apd_base::{Bssid, StationNumber};
 use apd_record::Change;
 use std::alloc::Global;
 
@@ -23,13 +25,46 @@ impl Table {
     /// them; else the answer is `Invalid`. A refusal leaves the table as it was.
     ///
     /// Made in place, with memory wanted for new rows alone: no change; any change and drops alone
-    /// behind it; a row over an old one and any change behind it. Any others are made on a copy of the
-    /// table. Drops alone are never refused.
+    /// behind it; a row over an old one and any change behind it; and any of these with a cursor behind
+    /// it, at a BSSID that had a policy before. Any others are made on a copy of the table. Drops alone
+    /// are never refused.
     pub fn apply_all(&mut self, alloc: Global, changes: &[Change]) -> Result<(), TableFault>
         ensures ok { OnOk result (self.new ≡ meaning_of changes.now self.old) }
         ensures sound { OnOk result (StaySound changes.now self.old) }
         ensures invalid { result ≡ Err TableFault.Invalid → ¬ (StaySound changes.now self.old) }
         ensures memory { IsInPlace changes.now self.old → NoNewRow changes.now self.old
+            → result ≢ Err TableFault.NoMemory }
+        ensures drops { AreDrops changes.now → IsOk result }
+        ensures err { OnErr result (self.new ≡ self.old) }
+    {
+        let [front @ .., last] = changes else {
+            return self.apply_few(alloc, changes);
+        };
+        let Some((bssid, number)) = self.cursor_there(last) else {
+            return self.apply_few(alloc, changes);
+        };
+        self.apply_few(alloc, front)?;
+        self.set_cursor(bssid, number);
+        Ok(())
+    }
+
+    // The BSSID and the identifier of a cursor at a BSSID with a policy.
+    fn cursor_there(&self, change: &Change) -> Option<(Bssid, StationNumber)>
+        ensures cursor { IfSome result (λ x. change.now ≡ Cursor x.0 x.1) }
+        ensures there { IsSome result ↔ IsCursorThere change.now self.now }
+    {
+        match *change {
+            Change::Cursor { bssid, last } if self.has_policy(bssid) => Some((bssid, last)),
+            _ => None,
+        }
+    }
+
+    // The same, where a cursor at the end is made as any other change is.
+    fn apply_few(&mut self, alloc: Global, changes: &[Change]) -> Result<(), TableFault>
+        ensures ok { OnOk result (self.new ≡ meaning_of changes.now self.old) }
+        ensures sound { OnOk result (StaySound changes.now self.old) }
+        ensures invalid { result ≡ Err TableFault.Invalid → ¬ (StaySound changes.now self.old) }
+        ensures memory { AreFewInPlace changes.now self.old → NoNewRow changes.now self.old
             → result ≢ Err TableFault.NoMemory }
         ensures drops { AreDrops changes.now → IsOk result }
         ensures err { OnErr result (self.new ≡ self.old) }

@@ -61,7 +61,8 @@ fn is_listed_after(lists: &Lists, bssid: Bssid, change: &Change, which: Which, a
             let is_cleared = at.cmp(&bssid).is_eq() && is_same_list(list, which);
             !is_cleared && is_listed
         }
-        Change::Put { .. } | Change::Drop { .. } | Change::Policy { .. } => is_listed,
+        Change::Put { .. } | Change::Drop { .. } | Change::Policy { .. } | Change::Cursor { .. } =>
+            is_listed,
     }
 }
 
@@ -93,7 +94,8 @@ pub fn policy_after(bssid: Bssid, policy: Policy, change: &Change) -> Policy
         | Change::Drop { .. }
         | Change::ListAdd { .. }
         | Change::ListDel { .. }
-        | Change::ListClear { .. } => policy,
+        | Change::ListClear { .. }
+        | Change::Cursor { .. } => policy,
     }
 }
 
@@ -170,7 +172,8 @@ pub fn listed_address(change: &Change) -> Option<Addr>
         Change::Put { .. }
         | Change::Drop { .. }
         | Change::ListClear { .. }
-        | Change::Policy { .. } => None,
+        | Change::Policy { .. }
+        | Change::Cursor { .. } => None,
     }
 }
 

@@ -1,11 +1,11 @@
 //! How many stations a BSSID has, and which association identifiers they have.
-ghost use Rattle.std.specs.Prelude.{◌≡◌, ℕ, ◌+◌, ◌*◌, ◌<◌, ◌≤◌, true, false, IfSome, IfNone, slice_index};
+ghost use Rattle.std.specs.Prelude.{◌≡◌, ℕ, ◌+◌, ◌*◌, ◌/◌, ◌<◌, ◌≤◌, true, false, IfSome, IfNone, slice_index};
 ghost use Rattle.std.specs.Int.{bit_at};
 ghost use Rattle.std.specs.Option.{is_some};
 ghost use Rattle.apd_base.specs.State.{aid_of};
 ghost use Rattle.apd_base.specs.declared.limits.TheConstants.{MAX_STATIONS};
 ghost use Rattle.apd_table.specs.fields.Members.{AreSet, IsFirstClear, counted, is_set, members_after, no_members, with_aid, with_place, without_aid, without_place};
-ghost use Rattle.apd_table.specs.Rows.{IsLeastUnmarked};
+ghost use Rattle.apd_table.specs.Rows.{AreMarkedAbove, IsLeastUnmarked};
 
 use apd_base::Station;
 use apd_base::limits::MAX_STATIONS;
@@ -88,22 +88,28 @@ fn first_clear(word: u64) -> Option<u32>
     }
 }
 
-// A word, with place 0 as if it were set.
-fn word_from_1(words: &[u64; WORDS], w: usize) -> u64
-    requires { w < WORDS }
-    ensures others { (j : ℕ) → 1 ≤ 64 * w + j → bit_at result j ≡ bit_at (slice_index words.now w) j }
-    ensures first { w ≡ 0 → bit_at result 0 ≡ 1 }
+// A word, with the places up to one in it as if they were set.
+fn word_above(words: &[u64; WORDS], last: u16, w: usize) -> u64
+    requires within { w < WORDS }
+    requires from { last / 64 ≤ w }
+    ensures others { (j : ℕ) → last < 64 * w + j → bit_at result j ≡ bit_at (slice_index words.now w) j }
+    ensures first { (j : ℕ) → j < 64 → 64 * w + j ≤ last → bit_at result j ≡ 1 }
 {
-    if w == 0 { words[0] | 1 } else { words[w] }
+    if w == last as usize / 64 {
+        words[w] | (u64::MAX >> (63 - last % 64))
+    } else {
+        words[w]
+    }
 }
 
-// The first place of a word, but 0, that is not set.
-fn free_in(words: &[u64; WORDS], w: usize) -> Option<u16>
-    requires { w < WORDS }
-    ensures some { IfSome result (IsFirstClear words.now w) }
-    ensures none { IfNone result (AreSet words.now w) }
+// The first place of a word above one that is not set.
+fn free_in(words: &[u64; WORDS], last: u16, w: usize) -> Option<u16>
+    requires within { w < WORDS }
+    requires from { last / 64 ≤ w }
+    ensures some { IfSome result (IsFirstClear words.now last w) }
+    ensures none { IfNone result (AreSet words.now last w) }
 {
-    let bit = first_clear(word_from_1(words, w))?;
+    let bit = first_clear(word_above(words, last, w))?;
     Some(w as u16 * 64 + bit as u16)
 }
 
@@ -148,13 +154,14 @@ impl Members {
         self.count = counted(old.is_some(), new.is_some(), self.count);
     }
 
-    /// The least identifier, from 1 on, that no station has.
-    pub fn least_free(&self) -> Option<u16>
-        ensures some { IfSome result (IsLeastUnmarked (is_set self.now.words)) }
-        ensures none { IfNone result ((j : ℕ) → 1 ≤ j → j ≤ MAX_STATIONS → is_set self.now.words j ≡ true) }
+    /// The least identifier above a number that no station has: the least of all above 0.
+    pub fn free_above(&self, last: u16) -> Option<u16>
+        requires { last ≤ MAX_STATIONS }
+        ensures some { IfSome result (IsLeastUnmarked (is_set self.now.words) last) }
+        ensures none { IfNone result (AreMarkedAbove (is_set self.now.words) last) }
     {
-        for w in 0..WORDS {
-            if let Some(aid) = free_in(&self.words, w) {
+        for w in last as usize / 64..WORDS {
+            if let Some(aid) = free_in(&self.words, last, w) {
                 return within(aid);
             }
         }

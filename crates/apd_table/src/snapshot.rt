@@ -2,7 +2,7 @@
 ghost use Rattle.std.specs.Prelude.{◌≡◌, ◌++◌, map as list_map, OnOk};
 ghost use Rattle.apd_acl.specs.Lists.{list_of};
 ghost use Rattle.apd_record.specs.declared.change.Change.TheVariants.{ListAdd};
-ghost use Rattle.apd_table.specs.Snapshot.{changes_of_list, lists_of_rows, policies_of_rows, station_change};
+ghost use Rattle.apd_table.specs.Snapshot.{changes_of_list, lists_of_rows, policies_of_rows, cursors_of_rows, station_change};
 
 use crate::bss_rows::Bss;
 use apd_acl::Lists;
@@ -11,9 +11,9 @@ use apd_record::{Change, Changes};
 use std::alloc::{AllocError, Global};
 use std::collections::{BTreeMap, BTreeSet};
 
-/// The most bytes that the records of a snapshot have (own): 8 policies of 10 bytes, 16,384 addresses of
-/// 14 in lists, and 16,056 stations of 20.
-pub const MAX_SNAPSHOT: usize = 550_576;
+/// The most bytes that the records of a snapshot have (own): 8 policies of 10 bytes, 8 identifiers given
+/// last of 9, 16,384 addresses of 14 in lists, and 16,056 stations of 20.
+pub const MAX_SNAPSHOT: usize = 550_648;
 
 /// Adds the policies of rows.
 pub(crate) fn add_policies(changes: &mut Changes, rows: &[(Bssid, Bss)]) -> Result<(), AllocError>
@@ -24,6 +24,21 @@ pub(crate) fn add_policies(changes: &mut Changes, rows: &[(Bssid, Bss)]) -> Resu
             bssid: row.0,
             policy: row.1.policy,
         })?;
+    }
+    Ok(())
+}
+
+/// Adds the identifiers that were given last at rows, but where none was.
+pub(crate) fn add_cursors(changes: &mut Changes, rows: &[(Bssid, Bss)]) -> Result<(), AllocError>
+    ensures { OnOk result (changes.new ≡ changes.old ++ cursors_of_rows rows.now) }
+{
+    for row in rows {
+        if row.1.cursor.number != 0 {
+            changes.push(Change::Cursor {
+                bssid: row.0,
+                last: row.1.cursor,
+            })?;
+        }
     }
     Ok(())
 }

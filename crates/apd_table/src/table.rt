@@ -13,15 +13,16 @@ ghost use Rattle.apd_base.specs.declared.station.Which.{Which};
 ghost use Rattle.apd_base.specs.State.{aid_of, aid_at, station_at, policy_at, count, list_count, IsListed, empty_state};
 ghost use Rattle.apd_acl.specs.Least.{IsLeast, IsLeastAbove};
 ghost use Rattle.apd_acl.specs.Lists.{has, list_of};
-ghost use Rattle.apd_record.specs.Meaning.{meaning, meaning_of, put_station, drop_station, add_to_list, take_from_list, clear_list, set_policy};
+ghost use Rattle.apd_record.specs.Meaning.{meaning, meaning_of, put_station, drop_station, add_to_list, take_from_list, clear_list, set_policy, set_cursor};
 ghost use Rattle.apd_record.specs.Record.{records_of};
 ghost use Rattle.apd_record.specs.declared.change.Change.TheVariants.{Drop, ListAdd, Policy as SetPolicy};
 ghost use Rattle.apd_table.specs.Addresses.{addresses_at, denied_after, is_denied_after, is_address_denied_after};
 ghost use Rattle.apd_table.specs.Allowed.{allowed, denied_by, mode_and_max};
 ghost use Rattle.apd_table.specs.Can.{CanPut, CanSet, CanAdd, IsFreeFor, MayHave, NoneDeniedAfter};
-ghost use Rattle.apd_table.specs.LeastFree.{IsLeastFree, IsTaken};
+ghost use Rattle.apd_table.specs.LeastFree.{AreTakenAbove, IsLeastFree, IsNextFree, IsTaken};
 ghost use Rattle.apd_table.specs.NewRow.{IsNewRow};
-ghost use Rattle.apd_table.specs.Rows.{is_associated_apart};
+ghost use Rattle.apd_table.specs.Rows.{AreMarkedAbove, IsLeastUnmarked, is_associated_apart};
+ghost use Rattle.apd_table.specs.fields.Members.{is_set};
 ghost use Rattle.apd_table.specs.Snapshot.{canonical};
 ghost use Rattle.apd_table.specs.Sound.{Sound, StaySound};
 ghost use Rattle.apd_table.specs.Words.{AreWords};
@@ -31,10 +32,11 @@ ghost use Rattle.apd_table.specs.declared.table.TableFault.TheVariants.{NoMemory
 
 use crate::bss_rows::{Bss, BssRows};
 use crate::denials;
+use crate::members::Members;
 use crate::stations::Stations;
 use apd_acl::Lists;
 use apd_base::limits::{MAX_BSS, MAX_LISTED, MAX_STATIONS};
-use apd_base::{AclMode, Addr, Bssid, Policy, Station, Which};
+use apd_base::{AclMode, Addr, Bssid, Policy, Station, StationNumber, Which};
 use apd_record::{Change, Changes};
 use std::alloc::{AllocError, Global};
 use std::marker::Model;
@@ -45,7 +47,7 @@ use thiserror::Error;
 pub enum TableFault {
     /// The state after it would not be sound.
     #[error("invalid change")]
-    Invalid,
+    Invalid = 1,
     /// There is no memory for a new row.
     #[error("out of memory")]
     NoMemory,
@@ -59,7 +61,8 @@ impl From<AllocError> for TableFault {
     }
 }
 
-/// The stations, the lists and the policies of an access point, in a sound state.
+/// The stations, the lists and the policies of an access point, and the identifier that each BSSID gave
+/// last, in a sound state.
 #[derive(Drop)]
 pub struct Table {
     stations: Stations,
@@ -87,6 +90,18 @@ fn is_associated(station: Option<Station>) -> bool
     match station {
         Some(Station::Associated(_)) => true,
         Some(Station::Authenticated) | None => false,
+    }
+}
+
+// The least identifier above the one given last that is not marked, or the least of all.
+fn next_free(members: &Members, last: StationNumber) -> Option<u16>
+    ensures some { IfSome result (λ i. IsLeastUnmarked (is_set members.now.words) last.number i
+        ⊎ (AreMarkedAbove (is_set members.now.words) last.number × IsLeastUnmarked (is_set members.now.words) 0 i)) }
+    ensures none { IfNone result (AreMarkedAbove (is_set members.now.words) 0) }
+{
+    match members.free_above(last.number) {
+        Some(aid) => Some(aid),
+        None => members.free_above(0),
     }
 }
 
@@ -122,7 +137,7 @@ impl Table {
         ensures { result ≡ option_map mode_and_max (policy_at self.now bssid) }
     {
         let policy = self.bss.get(bssid)?.policy;
-        Some((policy.mode.number(), policy.max.count))
+        Some((policy.mode.number(), policy.max.number))
     }
 
     /// The lists of a BSSID; `None` exactly where it has no policy row, and then it has no list row
@@ -161,10 +176,23 @@ impl Table {
     /// 1 to 2007 is some station's.
     pub fn least_free(&self, bssid: Bssid) -> Option<u16>
         ensures some { IfSome result (IsLeastFree self.now bssid) }
-        ensures none { IfNone result ((i : ℕ) → 1 ≤ i → i ≤ MAX_STATIONS → IsTaken self.now bssid i) }
+        ensures none { IfNone result (AreTakenAbove self.now bssid 0) }
     {
         match self.bss.get(bssid) {
-            Some(bss) => bss.members.least_free(),
+            Some(bss) => bss.members.free_above(0),
+            None => Some(1),
+        }
+    }
+
+    /// The association identifier that a BSSID gives next, so that they go round: the least above the one
+    /// that it gave last that no station of it has; where there is none, the least of all. Without a policy
+    /// row it gave none. `None` exactly where `least_free` is.
+    pub fn next_free(&self, bssid: Bssid) -> Option<u16>
+        ensures some { IfSome result (IsNextFree self.now bssid) }
+        ensures none { IfNone result (AreTakenAbove self.now bssid 0) }
+    {
+        match self.bss.get(bssid) {
+            Some(bss) => next_free(&bss.members, bss.cursor),
             None => Some(1),
         }
     }
@@ -313,10 +341,10 @@ impl Table {
         })
     }
 
-    /// The changes that lead from the empty table to this one: each policy by BSSID, then each address of a
-    /// list by BSSID, list and address, then each station by BSSID and address. Made one after another from
-    /// the empty table on, each of them leaves a sound one. It takes memory for the changes alone, and
-    /// answers want of it.
+    /// The changes that lead from the empty table to this one: each policy by BSSID, then each identifier
+    /// given last by BSSID where one was given, then each address of a list by BSSID, list and address, then
+    /// each station by BSSID and address. Made one after another from the empty table on, each of them leaves
+    /// a sound one. It takes memory for the changes alone, and answers want of it.
     pub fn snapshot(&self, alloc: Global) -> Result<Vec<Change>, AllocError>
         ensures canonical { IfOk result (λ changes. changes.items ≡ canonical self.now) }
         ensures sound { IfOk result (λ changes. StaySound changes.items empty_state) }
@@ -332,7 +360,7 @@ impl Table {
 
     /// Makes a change, exactly where the state after it is sound; else the answer is `Invalid`, and
     /// nothing changed. `NoMemory` comes only where that state is sound and a row must be added, and
-    /// changes nothing either: so `Drop`, `ListDel` and `ListClear` never lack memory.
+    /// changes nothing either: so `Drop`, `ListDel`, `ListClear` and `Cursor` never lack memory.
     pub fn apply(&mut self, change: &Change) -> Result<(), TableFault>
         ensures ok { OnOk result (self.new ≡ meaning change.now self.old) }
         ensures sound { OnOk result (Sound (meaning change.now self.old)) }
@@ -356,6 +384,7 @@ impl Table {
             Change::ListDel { bssid, which, addr } => self.take(bssid, which, addr),
             Change::ListClear { bssid, which } => self.clear(bssid, which),
             Change::Policy { bssid, policy } => self.set(bssid, policy)?,
+            Change::Cursor { bssid, last } => self.set_cursor(bssid, last),
         }
         Ok(())
     }
@@ -377,6 +406,7 @@ impl Table {
             Change::ListDel { bssid, .. } => self.denies_none_after(bssid, change),
             Change::ListClear { bssid, .. } => self.denies_none_after(bssid, change),
             Change::Policy { bssid, policy } => self.can_set(bssid, policy, change),
+            Change::Cursor { bssid, .. } => self.has_policy(bssid),
         }
     }
 
@@ -442,7 +472,7 @@ impl Table {
         !bssid.cmp(&other).is_eq() && is_associated(self.get(other, addr))
     }
 
-    fn has_policy(&self, bssid: Bssid) -> bool
+    pub(crate) fn has_policy(&self, bssid: Bssid) -> bool
         ensures { IsTrue result ↔ IsSome (policy_at self.now bssid) }
     {
         self.bss.get(bssid).is_some()
@@ -554,6 +584,13 @@ impl Table {
     {
         self.bss.set(bssid, policy)?;
         Ok(())
+    }
+
+    pub(crate) fn set_cursor(&mut self, bssid: Bssid, last: StationNumber)
+        requires { Sound (set_cursor bssid last self.old) }
+        ensures { self.new ≡ set_cursor bssid last self.old }
+    {
+        self.bss.set_cursor(bssid, last);
     }
 
     fn add(&mut self, bssid: Bssid, which: Which, addr: Addr) -> Result<(), AllocError>

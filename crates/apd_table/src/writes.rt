@@ -3,11 +3,11 @@ ghost use Rattle.std.specs.Prelude.{◌≡◌, ◌<◌, ◌≤◌, OnOk, OnErr, 
 ghost use Rattle.apd_acl.specs.Lists.{has};
 ghost use Rattle.apd_base.specs.declared.address.Bssid.{Bssid};
 ghost use Rattle.apd_base.specs.declared.limits.TheConstants.{MAX_STATIONS};
-ghost use Rattle.apd_table.specs.fields.BssRows.{at_row, with_policy, with_added, with_removed, with_cleared, with_row};
+ghost use Rattle.apd_table.specs.fields.BssRows.{at_row, with_policy, with_cursor, with_added, with_removed, with_cleared, with_row};
 ghost use Rattle.apd_table.specs.declared.bss_rows.Bss.{Bss};
 
 use crate::bss_rows::Bss;
-use apd_base::{Addr, Bssid, Policy, Station, Which};
+use apd_base::{Addr, Bssid, Policy, Station, StationNumber, Which};
 use std::alloc::AllocError;
 
 /// Sets the policy of the row at a place.
@@ -19,6 +19,17 @@ pub fn set_policy_at(rows: &mut Vec<(Bssid, Bss)>, at: usize, policy: Policy)
 {
     let row = &mut rows[at];
     row.1.policy = policy;
+}
+
+/// Sets the identifier that was given last at the row at a place.
+pub fn set_cursor_at(rows: &mut Vec<(Bssid, Bss)>, at: usize, last: StationNumber)
+    requires { at < vec_len rows.old }
+    ensures { (d : Bssid × Bss)
+        → rows.new.items
+        ≡ slice_set rows.old.items at (at_row (with_cursor last) (slice_index_or rows.old.items at d)) }
+{
+    let row = &mut rows[at];
+    row.1.cursor = last;
 }
 
 /// Puts an address into a list of the row at a place.

@@ -60,7 +60,7 @@ fn names_that_no_line_gives_have_their_defaults(rt: HostRuntime) -> Result<(), F
     assert_eq!(rt; conf.hw_mode, HwMode::B);
     assert_eq!(rt; conf.channel, 0);
     assert_eq!(rt; conf.beacon_int, 100);
-    assert_eq!(rt; conf.max_num_sta.count, 2007);
+    assert_eq!(rt; conf.max_num_sta.number, 2007);
     assert_eq!(rt; conf.auth_algs, AuthAlgs::OpenAndShared);
     assert_eq!(rt; conf.ap_max_inactivity, 300);
     assert_eq!(rt; conf.ignore_broadcast_ssid, IgnoreBroadcastSsid::No);

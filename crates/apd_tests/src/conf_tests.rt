@@ -9,7 +9,7 @@ use std::test::Fail;
 fn the_built_in_policy_allows_all(rt: HostRuntime) -> Result<(), Fail> {
     let conf = built_in(rt.alloc())?;
     assert!(rt; conf.auth_algs.allows_open());
-    assert_eq!(rt; conf.policy().max.count, 2007);
+    assert_eq!(rt; conf.policy().max.number, 2007);
     assert_eq!(rt; conf.policy().mode, AclMode::AcceptUnlessDenied);
     Ok(())
 }

@@ -1,5 +1,5 @@
 use crate::calls::built_in;
-use apd_base::{AclMode, Addr, Aid, Association, Bssid, Policy, Station, StationLimit, Which};
+use apd_base::{AclMode, Addr, Aid, Association, Bssid, Policy, Station, StationNumber, Which};
 use apd_conf::{Conf, Confs, Ssid};
 use apd_ctrl::{
     Command, FAIL, Parsed, Placed, Query, UNKNOWN_COMMAND, escape, parse_command, reply,
@@ -272,7 +272,7 @@ fn table(alloc: Global) -> Result<Table, Fail> {
     let mut table = Table::new(alloc);
     let policy = Policy {
         mode: AclMode::AcceptUnlessDenied,
-        max: StationLimit::new(2007).ok_or("limit")?,
+        max: StationNumber::new(2007).ok_or("limit")?,
     };
     change(&mut table, &Change::Policy { bssid, policy })?;
     let station = Station::Associated(Association {

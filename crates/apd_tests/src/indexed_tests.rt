@@ -1,6 +1,6 @@
 //! The table keeps indices beside its rows: what it tells by them is what a look through all rows would.
 use crate::plain_table::PlainTable;
-use apd_base::{AclMode, Addr, Aid, Association, Bssid, Policy, Station, StationLimit, Which};
+use apd_base::{AclMode, Addr, Aid, Association, Bssid, Policy, Station, StationNumber, Which};
 use apd_record::Change;
 use apd_table::Table;
 use std::alloc::Global;
@@ -49,15 +49,25 @@ fn a_policy(seed: &mut u32) -> Result<Policy, Fail> {
     } else {
         AclMode::AcceptUnlessDenied
     };
-    let max = StationLimit::new(2007).ok_or("limit")?;
+    let max = StationNumber::new(2007).ok_or("limit")?;
     Ok(Policy { mode, max })
+}
+
+// A number that was given last: where stations have identifiers, or near the greatest.
+fn a_cursor(seed: &mut u32) -> Result<StationNumber, Fail> {
+    let low = u16::try_from(step(seed, 17)).unwrap_or(0);
+    let number = match step(seed, 8) {
+        0 => 2007u16.saturating_sub(low),
+        _ => low,
+    };
+    Ok(StationNumber::new(number).ok_or("number")?)
 }
 
 // A change at one of nine BSSIDs, of which eight may have a policy, of one of twelve addresses.
 fn a_change(seed: &mut u32) -> Result<Change, Fail> {
     let bssid = bssid(step(seed, 9));
     let addr = addr(step(seed, 12));
-    Ok(match step(seed, 20) {
+    Ok(match step(seed, 22) {
         0..=9 => Change::Put {
             bssid,
             addr,
@@ -78,9 +88,13 @@ fn a_change(seed: &mut u32) -> Result<Change, Fail> {
             bssid,
             which: a_list(seed),
         },
-        _ => Change::Policy {
+        18..=19 => Change::Policy {
             bssid,
             policy: a_policy(seed)?,
+        },
+        _ => Change::Cursor {
+            bssid,
+            last: a_cursor(seed)?,
         },
     })
 }
@@ -93,6 +107,7 @@ fn places_of(change: &Change) -> (Bssid, Option<Addr>) {
         Change::ListDel { bssid, addr, .. } => (bssid, Some(addr)),
         Change::ListClear { bssid, .. } => (bssid, None),
         Change::Policy { bssid, .. } => (bssid, None),
+        Change::Cursor { bssid, .. } => (bssid, None),
     }
 }
 
@@ -126,6 +141,10 @@ fn numbers(table: &Table, bssid: Bssid) -> (usize, Option<u16>) {
     (table.count(bssid), table.least_free(bssid))
 }
 
+fn next_free(table: &Table, bssid: Bssid) -> Option<u16> {
+    table.next_free(bssid)
+}
+
 fn words(table: &Table, bssid: Bssid) -> Option<[u64; 32]> {
     table.words(bssid).copied()
 }
@@ -139,6 +158,7 @@ fn same_at(rt: &impl Abort, table: &Table, plain: &PlainTable, change: &Change) 
     let (bssid, named) = places_of(change);
     let plain_numbers = (plain.count(bssid), plain.least_free(bssid));
     assert_eq!(rt; numbers(table, bssid), plain_numbers);
+    assert_eq!(rt; next_free(table, bssid), plain.next_free(bssid));
     assert_eq!(rt; next(table, bssid, None), plain.next(bssid, None));
     if let Some(addr) = named {
         assert_eq!(rt; get(table, bssid, addr), plain.get(bssid, addr));
@@ -165,6 +185,7 @@ fn same_bss(rt: &impl Abort, table: &Table, plain: &PlainTable, bssid: Bssid) {
         mode(table, bssid),
         plain.mode(bssid).map(|mode| mode.number())
     );
+    assert_eq!(rt; next_free(table, bssid), plain.next_free(bssid));
     for number in 0..12 {
         let addr = addr(number);
         assert_eq!(rt; get(table, bssid, addr), plain.get(bssid, addr));
@@ -196,20 +217,19 @@ fn snapshot(alloc: Global, table: &Table) -> Result<Vec<Change>, Fail> {
     Ok(table.snapshot(alloc)?)
 }
 
-// The snapshot makes the same rows.
+// The snapshot is the same, in its order, and makes the same rows.
 fn same_snapshot(
     rt: &impl Abort,
     alloc: Global,
     table: &Table,
     plain: &PlainTable,
 ) -> Result<(), Fail> {
+    let changes = snapshot(alloc, table)?;
+    assert_eq!(rt; changes.as_slice(), plain.snapshot(alloc)?.as_slice());
     let mut made = PlainTable::new(alloc);
-    for change in &snapshot(alloc, table)? {
+    for change in &changes {
         made.make(change)?;
     }
-    assert_eq!(rt; made.stations.len(), plain.stations.len());
-    assert_eq!(rt; made.lists.len(), plain.lists.len());
-    assert_eq!(rt; made.policies.len(), plain.policies.len());
     for number in 0..9 {
         same_bss(rt, table, &made, bssid(number));
         same_bss(rt, table, plain, bssid(number));
@@ -231,7 +251,7 @@ fn five_thousand_changes_leave_what_plain_vectors_have(rt: HostRuntime) -> Resul
         assert_eq!(rt; apply(&mut table, &change), is_made);
         made = made.saturating_add(u32::from(is_made));
         same_at(&rt, &table, &plain, &change);
-        if number % 1000 == 999 {
+        if number % 100 == 99 {
             same_snapshot(&rt, alloc, &table, &plain)?;
         }
     }
@@ -242,7 +262,7 @@ fn five_thousand_changes_leave_what_plain_vectors_have(rt: HostRuntime) -> Resul
 
 fn open(table: &mut Table, bssid: Bssid) -> Result<(), Fail> {
     let mode = AclMode::AcceptUnlessDenied;
-    let max = StationLimit::new(2007).ok_or("limit")?;
+    let max = StationNumber::new(2007).ok_or("limit")?;
     let policy = Policy { mode, max };
     if apply(table, &Change::Policy { bssid, policy }) {
         Ok(())

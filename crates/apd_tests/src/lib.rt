@@ -13,6 +13,8 @@ mod conf_tests;
 #[cfg(test)]
 mod control_tests;
 #[cfg(test)]
+mod cursor_tests;
+#[cfg(test)]
 mod frame_tests;
 #[cfg(test)]
 mod indexed_tests;

@@ -1,15 +1,16 @@
 //! A table of plain vectors, in no order, which looks through all of them: the other side of the tests of
 //! `apd_table`.
-use apd_base::{AclMode, Addr, Bssid, Policy, Station, Which};
+use apd_base::{AclMode, Addr, Bssid, Policy, Station, StationNumber, Which};
 use apd_record::Change;
 use std::alloc::{AllocError, Global};
 
-/// Rows by (BSSID, address), addresses of lists, and policies.
+/// Rows by (BSSID, address), addresses of lists, policies, and the identifiers that were given last.
 #[derive(Drop)]
 pub struct PlainTable {
     pub stations: Vec<(Bssid, Addr, Station)>,
     pub lists: Vec<(Bssid, Which, Addr)>,
     pub policies: Vec<(Bssid, Policy)>,
+    pub cursors: Vec<(Bssid, StationNumber)>,
 }
 
 /// The identifier of a station, where it is associated.
@@ -33,12 +34,49 @@ fn clash(one: &(Bssid, Addr, Station), other: &(Bssid, Addr, Station)) -> bool {
     }
 }
 
+// Where a change stands among those of a snapshot: its kind, its BSSID, its list and its address.
+fn place_key(change: &Change) -> (u8, Bssid, u8, Addr) {
+    let none = Addr([0; 6]);
+    match *change {
+        Change::Policy { bssid, .. } => (1, bssid, 0, none),
+        Change::Cursor { bssid, .. } => (2, bssid, 0, none),
+        Change::ListAdd {
+            bssid,
+            which: Which::Accept,
+            addr,
+        } => (3, bssid, 0, addr),
+        Change::ListAdd {
+            bssid,
+            which: Which::Deny,
+            addr,
+        } => (3, bssid, 1, addr),
+        Change::Put { bssid, addr, .. } => (4, bssid, 0, addr),
+        Change::Drop { bssid, .. }
+        | Change::ListDel { bssid, .. }
+        | Change::ListClear { bssid, .. } => (0, bssid, 0, none),
+    }
+}
+
+fn insert_in_order(changes: &mut Vec<Change>, change: Change) -> Result<(), AllocError> {
+    let key = place_key(&change);
+    let mut place = changes.len();
+    for (at, other) in changes.iter().enumerate() {
+        if key < place_key(other) {
+            place = at;
+            break;
+        }
+    }
+    changes.insert(place, change)?;
+    Ok(())
+}
+
 impl PlainTable {
     pub fn new(alloc: Global) -> PlainTable {
         PlainTable {
             stations: Vec::new(alloc),
             lists: Vec::new(alloc),
             policies: Vec::new(alloc),
+            cursors: Vec::new(alloc),
         }
     }
 
@@ -47,6 +85,7 @@ impl PlainTable {
             stations: Vec::from_slice(alloc, &self.stations)?,
             lists: Vec::from_slice(alloc, &self.lists)?,
             policies: Vec::from_slice(alloc, &self.policies)?,
+            cursors: Vec::from_slice(alloc, &self.cursors)?,
         })
     }
 
@@ -57,6 +96,22 @@ impl PlainTable {
     fn remove_listed(&mut self, bssid: Bssid, which: Which, addr: Addr) {
         self.lists
             .retain(|row| row.0 != bssid || row.1 != which || row.2 != addr);
+    }
+
+    // Sets a policy. The first of a BSSID comes with no identifier given.
+    fn set_policy(&mut self, bssid: Bssid, policy: Policy) -> Result<(), AllocError> {
+        if self.mode(bssid).is_none() {
+            self.set_cursor(bssid, StationNumber { number: 0 })?;
+        }
+        self.policies.retain(|row| row.0 != bssid);
+        self.policies.push((bssid, policy))?;
+        Ok(())
+    }
+
+    fn set_cursor(&mut self, bssid: Bssid, last: StationNumber) -> Result<(), AllocError> {
+        self.cursors.retain(|row| row.0 != bssid);
+        self.cursors.push((bssid, last))?;
+        Ok(())
     }
 
     /// Makes a change, whatever state it leaves.
@@ -79,10 +134,8 @@ impl PlainTable {
             Change::ListClear { bssid, which } => {
                 self.lists.retain(|row| row.0 != bssid || row.1 != which);
             }
-            Change::Policy { bssid, policy } => {
-                self.policies.retain(|row| row.0 != bssid);
-                self.policies.push((bssid, policy))?;
-            }
+            Change::Policy { bssid, policy } => self.set_policy(bssid, policy)?,
+            Change::Cursor { bssid, last } => self.set_cursor(bssid, last)?,
         }
         Ok(())
     }
@@ -91,6 +144,16 @@ impl PlainTable {
         for row in &self.policies {
             if row.0 == bssid {
                 return Some(row.1.mode);
+            }
+        }
+        None
+    }
+
+    /// The identifier that a BSSID gave last, 0 where it gave none yet.
+    pub fn last_given(&self, bssid: Bssid) -> Option<u16> {
+        for row in &self.cursors {
+            if row.0 == bssid {
+                return Some(row.1.number);
             }
         }
         None
@@ -122,6 +185,7 @@ impl PlainTable {
         let is_open = self.mode(bssid).is_some();
         self.policies.len() <= 8
             && (is_open || !self.lists.iter().any(|row| row.0 == bssid))
+            && is_open == self.last_given(bssid).is_some()
             && self
                 .stations
                 .iter()
@@ -160,13 +224,56 @@ impl PlainTable {
             .any(|row| row.0 == bssid && aid_of(row.2) == Some(aid))
     }
 
-    /// The least identifier of a BSSID that no row has.
-    pub fn least_free(&self, bssid: Bssid) -> Option<u16> {
+    // The least identifier of a BSSID above a number that no row has.
+    fn free_above(&self, bssid: Bssid, last: u16) -> Option<u16> {
         for aid in 1..=2007 {
-            if !self.has_aid(bssid, aid) {
+            if last < aid && !self.has_aid(bssid, aid) {
                 return Some(aid);
             }
         }
         None
+    }
+
+    /// The least of all.
+    pub fn least_free(&self, bssid: Bssid) -> Option<u16> {
+        self.free_above(bssid, 0)
+    }
+
+    /// The least above the one given last, or else the least of all.
+    pub fn next_free(&self, bssid: Bssid) -> Option<u16> {
+        let last = self.last_given(bssid).unwrap_or(0);
+        match self.free_above(bssid, last) {
+            Some(aid) => Some(aid),
+            None => self.least_free(bssid),
+        }
+    }
+
+    /// The changes that make the rows: policies, cursors other than 0, lists and stations, each by its key.
+    pub fn snapshot(&self, alloc: Global) -> Result<Vec<Change>, AllocError> {
+        let mut changes = Vec::new(alloc);
+        for row in &self.stations {
+            let (bssid, addr, station) = *row;
+            let put = Change::Put {
+                bssid,
+                addr,
+                station,
+            };
+            insert_in_order(&mut changes, put)?;
+        }
+        for row in &self.lists {
+            let (bssid, which, addr) = *row;
+            insert_in_order(&mut changes, Change::ListAdd { bssid, which, addr })?;
+        }
+        for row in &self.cursors {
+            let (bssid, last) = *row;
+            if last.number != 0 {
+                insert_in_order(&mut changes, Change::Cursor { bssid, last })?;
+            }
+        }
+        for row in &self.policies {
+            let (bssid, policy) = *row;
+            insert_in_order(&mut changes, Change::Policy { bssid, policy })?;
+        }
+        Ok(changes)
     }
 }

@@ -1,5 +1,5 @@
 //! The table of records in bytes, and what is no list of records.
-use apd_base::{AclMode, Addr, Aid, Association, Bssid, Policy, Station, StationLimit, Which};
+use apd_base::{AclMode, Addr, Aid, Association, Bssid, Policy, Station, StationNumber, Which};
 use apd_record::{Change, read_all, write};
 use std::alloc::{AllocError, Global};
 use std::test::Fail;
@@ -29,6 +29,9 @@ const LIST_CLEAR: [u8; 8] = [5, 2, 0, 0, 0, 0, 1, 1];
 // Mode 1, and a limit of 2007 stations.
 const POLICY: [u8; 10] = [6, 2, 0, 0, 0, 0, 1, 1, 0xd7, 7];
 
+// The identifier that was given last: 2007.
+const CURSOR: [u8; 9] = [7, 2, 0, 0, 0, 0, 1, 0xd7, 7];
+
 fn put(station: Station) -> Change {
     Change::Put {
         bssid: BSSID,
@@ -50,8 +53,15 @@ fn policy(count: u16) -> Option<Change> {
         bssid: BSSID,
         policy: Policy {
             mode: AclMode::DenyUnlessAccepted,
-            max: StationLimit::new(count)?,
+            max: StationNumber::new(count)?,
         },
+    })
+}
+
+fn cursor(number: u16) -> Option<Change> {
+    Some(Change::Cursor {
+        bssid: BSSID,
+        last: StationNumber::new(number)?,
     })
 }
 
@@ -111,6 +121,9 @@ fn the_table_of_records(rt: HostRuntime) -> Result<(), Fail> {
     assert!(rt; is_record(alloc, list_clear(), &LIST_CLEAR)?);
     let change = policy(2007).ok_or("2007 is a limit")?;
     assert!(rt; is_record(alloc, change, &POLICY)?);
+    let change = cursor(2007).ok_or("2007 is a number")?;
+    assert!(rt; is_record(alloc, change, &CURSOR)?);
+    assert!(rt; is_none(alloc, &CURSOR[..8])?);
     Ok(())
 }
 
@@ -126,7 +139,7 @@ fn nothing_is_no_change(rt: HostRuntime) -> Result<(), Fail> {
 #[test]
 fn each_unknown_tag(rt: HostRuntime) -> Result<(), Fail> {
     let mut bytes = AUTHENTICATED;
-    for tag in [0].into_iter().chain(7..=255) {
+    for tag in [0].into_iter().chain(8..=255) {
         bytes[0] = tag;
         assert!(rt; is_none(rt.alloc(), &bytes)?, "{tag}");
     }
@@ -153,6 +166,8 @@ fn values_out_of_range(rt: HostRuntime) -> Result<(), Fail> {
         (POLICY.as_slice(), 7, 2),
         (POLICY.as_slice(), 8, 0xd8),
         (POLICY.as_slice(), 9, 8),
+        (CURSOR.as_slice(), 7, 0xd8),
+        (CURSOR.as_slice(), 8, 8),
     ] {
         let mut bytes = Vec::from_slice(rt.alloc(), record)?;
         if let Some(byte) = bytes.get_mut(place) {
@@ -175,14 +190,16 @@ fn identifier_zero(rt: HostRuntime) -> Result<(), Fail> {
 #[test]
 fn each_cut(rt: HostRuntime) -> Result<(), Fail> {
     let alloc = rt.alloc();
-    let last = policy(0).ok_or("0 is a limit")?;
+    let limit = policy(0).ok_or("0 is a limit")?;
+    let none_given = cursor(0).ok_or("0 is a number")?;
     let row = put(Station::Authenticated);
-    let changes = [row, drop_row(), list_add(), list_del(), list_clear(), last];
+    let (added, taken, cleared) = (list_add(), list_del(), list_clear());
+    let changes = [row, drop_row(), added, taken, cleared, limit, none_given];
     let bytes = write(alloc, &changes)?;
     // Where a record ends, the front is a list of records.
-    let ends = [0, 20, 33, 47, 61, 69, 79];
-    assert_eq!(rt; bytes.len(), 79);
-    for end in 0..80 {
+    let ends = [0, 20, 33, 47, 61, 69, 79, 88];
+    assert_eq!(rt; bytes.len(), 88);
+    for end in 0..89 {
         let is_list = !is_none(alloc, &bytes[..end])?;
         assert_eq!(rt; is_list, ends.contains(&end), "{end}");
     }

@@ -1,7 +1,7 @@
 //! No clause says that a change can be made, nor that a table can be copied: memory may lack. So these calls
 //! are made with ample memory, at the limits too.
-use apd_base::{AclMode, Addr, Aid, Association, Bssid, Policy, Station, StationLimit, Which};
-use apd_record::Change;
+use apd_base::{AclMode, Addr, Aid, Association, Bssid, Policy, Station, StationNumber, Which};
+use apd_record::{Change, read_all, write};
 use apd_table::{Staged, Table, TableFault};
 use std::alloc::Global;
 use std::test::Fail;
@@ -18,7 +18,7 @@ fn apply(table: &mut Table, change: &Change) -> Result<(), TableFault> {
 }
 
 fn policy_of(bssid: Bssid, mode: AclMode) -> Result<Change, Fail> {
-    let max = StationLimit::new(2007).ok_or("limit")?;
+    let max = StationNumber::new(2007).ok_or("limit")?;
     let policy = Policy { mode, max };
     Ok(Change::Policy { bssid, policy })
 }
@@ -333,6 +333,73 @@ fn an_association_moves(rt: HostRuntime) -> Result<(), Fail> {
     assert_eq!(rt; apply_all(alloc, &mut table, &changes), Ok(()));
     assert_eq!(rt; table.get(BSSID, FIRST), Some(Station::Authenticated));
     assert_eq!(rt; table.get(bssid_of(0), FIRST), old);
+    Ok(())
+}
+
+// The number that a BSSID gave last.
+fn point(bssid: Bssid, number: u16) -> Result<Change, Fail> {
+    let last = StationNumber::new(number).ok_or("number")?;
+    Ok(Change::Cursor { bssid, last })
+}
+
+fn next_free(table: &Table, bssid: Bssid) -> Option<u16> {
+    table.next_free(bssid)
+}
+
+// Two BSSIDs, of which the second gave no identifier yet, with a list and the rows of stations.
+fn pointed(alloc: Global) -> Result<Table, Fail> {
+    let mut table = three_rows(alloc)?;
+    apply(&mut table, &add(Which::Accept, 9))?;
+    apply(&mut table, &open(bssid_of(0))?)?;
+    apply(&mut table, &point(BSSID, 2006)?)?;
+    Ok(table)
+}
+
+#[test]
+fn cursors_are_copied_and_read_back(rt: HostRuntime) -> Result<(), Fail> {
+    let alloc = rt.alloc();
+    let table = pointed(alloc)?;
+    assert_eq!(rt; next_free(&table.copy(alloc)?, BSSID), Some(2007));
+    let changes = table.snapshot(alloc)?;
+    let other = open(bssid_of(0))?;
+    let firsts = [open(BSSID)?, other, point(BSSID, 2006)?];
+    assert_eq!(rt; changes.as_slice()[..3], firsts[..]);
+    assert_eq!(rt; (changes.len(), changes[3]), (7, add(Which::Accept, 9)));
+    let records = write(alloc, changes.as_slice())?;
+    let read = read_all(alloc, records.as_slice())?.ok_or("records")?;
+    let mut made = Table::new(alloc);
+    assert_eq!(rt; apply_all(alloc, &mut made, read.as_slice()), Ok(()));
+    assert_eq!(rt; made.snapshot(alloc)?.as_slice(), changes.as_slice());
+    assert_eq!(rt; next_free(&made, BSSID), Some(2007));
+    assert_eq!(rt; next_free(&made, bssid_of(0)), Some(1));
+    Ok(())
+}
+
+#[test]
+fn a_cursor_comes_behind_other_changes(rt: HostRuntime) -> Result<(), Fail> {
+    let alloc = rt.alloc();
+    let mut table = pointed(alloc)?;
+    let given = point(bssid_of(0), 1)?;
+    let moved = Change::Put {
+        bssid: bssid_of(0),
+        addr: FIRST,
+        station: table.get(BSSID, FIRST).ok_or("a row")?,
+    };
+    // The station is associated elsewhere: nothing is made, and the cursor is not.
+    let answer = apply_all(alloc, &mut table, &[moved, given]);
+    assert_eq!(rt; answer, Err(TableFault::Invalid));
+    assert_eq!(rt; next_free(&table, bssid_of(0)), Some(1));
+    let changes = [authenticated(FIRST), moved, given];
+    assert_eq!(rt; apply_all(alloc, &mut table, &changes), Ok(()));
+    assert_eq!(rt; next_free(&table, bssid_of(0)), Some(2));
+    // A third BSSID has no policy, and then gets it by the same changes.
+    let third = point(bssid_of(1), 4)?;
+    let answer = apply_all(alloc, &mut table, &[drop(FIRST), third]);
+    assert_eq!(rt; answer, Err(TableFault::Invalid));
+    assert_eq!(rt; table.get(BSSID, FIRST), Some(Station::Authenticated));
+    let changes = [open(bssid_of(1))?, third];
+    assert_eq!(rt; apply_all(alloc, &mut table, &changes), Ok(()));
+    assert_eq!(rt; next_free(&table, bssid_of(1)), Some(5));
     Ok(())
 }
 

@@ -1,6 +1,6 @@
 //! The largest events, each once: a contract can't say that memory and time are left for them.
 use crate::calls::{addresses_of, built_in};
-use apd_base::{AclMode, Addr, Aid, Association, Bssid, Policy, Station, StationLimit, Which};
+use apd_base::{AclMode, Addr, Aid, Association, Bssid, Policy, Station, StationNumber, Which};
 use apd_conf::Confs;
 use apd_mlme::{Decision, Event, Out, decide};
 use apd_record::{Change, write};
@@ -100,7 +100,7 @@ fn a_first_start_with_two_full_lists(rt: HostRuntime) -> Result<(), Fail> {
 
 // The policy of the radio in a mode, for 2,007 stations.
 fn policy(mode: AclMode) -> Result<Change, Fail> {
-    let max = StationLimit::new(2007).ok_or("limit")?;
+    let max = StationNumber::new(2007).ok_or("limit")?;
     let policy = Policy { mode, max };
     Ok(Change::Policy {
         bssid: RADIO,

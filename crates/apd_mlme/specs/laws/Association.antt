@@ -80,6 +80,7 @@ pub record IsAnsweredTruly (s : State) (conf : Conf) (b : Bssid) (kind : Kind) (
   pub others : (c : Bssid) (d : Addr) → d ≢ request.sender → station_at v.state c d ≡ station_at s c d
   pub lists : v.state.lists ≡ s.lists
   pub policies : v.state.policies ≡ s.policies
+  pub cursors : v.state.cursors ≡ s.cursors
 
 -- a driver lets a station go, or the station is told a disassociation with reason 1 (unspecified, 9.4.1.7)
 abbrev pub IsOfEnd : Bssid → Addr → Out → Type 0

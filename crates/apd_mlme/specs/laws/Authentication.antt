@@ -55,10 +55,11 @@ pub record IsToldTruly (s : State) (conf : Conf) (b : Bssid) (request : Authenti
   pub others : (c : Bssid) (d : Addr) → ¬ ((c ≡ b) × (d ≡ request.sender)) → station_at v.state c d ≡ station_at s c d
   pub lists : v.state.lists ≡ s.lists
   pub policies : v.state.policies ≡ s.policies
+  pub cursors : v.state.cursors ≡ s.cursors
 
 pub record IsRoomKept (s : State) (conf : Conf) (b : Bssid) (policy : Policy) (request : Authentication)
     (v : Verdict) : Type 0 where
   -- where so many have rows no other station gets one
-  pub full : policy.max.count ≤ count s b → station_at s b request.sender ≡ None → v.state ≡ s
+  pub full : policy.max.number ≤ count s b → station_at s b request.sender ≡ None → v.state ≡ s
   -- where fewer have, whoever asks as it must, and is allowed, has one then
-  pub room : count s b < policy.max.count → IsAllowed s conf b request → IsSome (station_at v.state b request.sender)
+  pub room : count s b < policy.max.number → IsAllowed s conf b request → IsSome (station_at v.state b request.sender)

@@ -51,6 +51,7 @@ pub record IsKicked (s : State) (b : Bssid) (to : Addr) (reason : Reason) (deaut
   pub others : (c : Bssid) (a : Addr) → ¬ ((c ≡ b) × IsMeant to a) → station_at v.state c a ≡ station_at s c a
   pub lists : v.state.lists ≡ s.lists
   pub policies : v.state.policies ≡ s.policies
+  pub cursors : v.state.cursors ≡ s.cursors
 
 -- who is on a list after an edit of it
 abbrev pub IsOnAfter : State → Bssid → Which → Edit → Addr → Type 0
@@ -71,6 +72,7 @@ pub record IsEdited (s : State) (b : Bssid) (w : Which) (edit : Edit) (v : Verdi
       → contains v.state.lists (c, x, d) ≡ contains s.lists (c, x, d)
   pub other_stations : (c : Bssid) → c ≢ b → (d : Addr) → station_at v.state c d ≡ station_at s c d
   pub policies : v.state.policies ≡ s.policies
+  pub cursors : v.state.cursors ≡ s.cursors
 
 -- a new address came to a full list
 pub record IsFull (s : State) (b : Bssid) (w : Which) (edit : Edit) (tag : ℕ) (v : Verdict) : Type 0 where

@@ -11,11 +11,12 @@ use Rattle.apd_mlme.specs.laws.Association.{only_authenticated}
 use Rattle.apd_mlme.specs.laws.ManagementFrame.{disassociation_frame, deauthentication_frame}
 use Rattle.apd_mlme.specs.Verdict.{Verdict}
 
--- nobody else's row changes, no list and no policy
+-- nobody else's row changes, no list, no policy and no cursor
 pub record IsAlone (s : State) (b : Bssid) (a : Addr) (new : State) : Type 0 where
   pub others : (c : Bssid) (d : Addr) → ¬ ((c ≡ b) × (d ≡ a)) → station_at new c d ≡ station_at s c d
   pub lists : new.lists ≡ s.lists
   pub policies : new.policies ≡ s.policies
+  pub cursors : new.cursors ≡ s.cursors
 
 -- a station disassociates: it is authenticated at most, and its driver lets it go. It is not told
 pub record IsDisassociated (s : State) (b : Bssid) (a : Addr) (v : Verdict) : Type 0 where

@@ -26,7 +26,7 @@ is_known s b request = is_some (station_at s b request.sender)
 -- the greatest number of stations that the BSSID's policy lets authenticate
 abbrev pub station_limit : Option Policy → ℕ
 station_limit None = 0
-station_limit (Some policy) = policy.max.count
+station_limit (Some policy) = policy.max.number
 
 -- whether the BSSID has as many rows as its policy lets authenticate, or more
 abbrev pub is_full : State → Bssid → Bool

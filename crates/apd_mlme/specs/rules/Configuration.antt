@@ -14,6 +14,7 @@ use Rattle.apd_base.specs.State.{State, list_cmp, policy_at}
 use Rattle.apd_conf.specs.declared.conf.Conf.{Conf}
 use Rattle.apd_conf.specs.Conf.{policy_of}
 use Rattle.apd_frame.specs.declared.codes.TheConstants.Reason.{UNSPECIFIED}
+use Rattle.apd_record.specs.Meaning.{none_given}
 use Rattle.apd_record.specs.declared.change.Change.{Change}
 use Rattle.apd_record.specs.declared.change.Change.TheVariants.{Drop, ListAdd, Policy}
 use Rattle.apd_table.specs.Allowed.{allowed_in, denied_by}
@@ -51,12 +52,14 @@ additions b w addresses = map (λ a. ListAdd b w a) addresses
 abbrev pub first_changes : Conf → Bssid → List Addr → List Addr → List Change
 first_changes conf b accept deny = Policy b (policy_of conf) ∷ additions b Accept accept ++ additions b Deny deny
 
--- a BSSID that was never started has the configured policy and the addresses of both lists, and every other row is kept
+-- a BSSID that was never started has the configured policy, the addresses of both lists, and gave no identifier yet; and
+-- every other row is kept
 abbrev pub first_start : State → Conf → Bssid → List Addr → List Addr → Verdict
 first_start s conf b accept deny = record {
   state = record s {
     lists = with_listed b Deny deny (with_listed b Accept accept s.lists);
     policies = maps.insert s.policies b (policy_of conf);
+    cursors = maps.insert s.cursors b none_given;
   };
   changes = first_changes conf b accept deny;
   outs = [];

@@ -7,6 +7,8 @@ use Rattle.apd_base.specs.declared.address.Bssid.{Bssid}
 use Rattle.apd_base.specs.declared.station.Which.{Which}
 use Rattle.apd_base.specs.declared.station.Which.TheVariants.{Accept, Deny}
 use Rattle.apd_base.specs.declared.station.Policy.{Policy}
+use Rattle.apd_base.specs.declared.station.StationNumber.{StationNumber}
+use Rattle.apd_record.specs.Meaning.{cursors_with}
 use Rattle.apd_base.specs.Sets.{SetOf}
 use Rattle.apd_base.specs.declared.station.Station.{Station}
 use Rattle.apd_base.specs.Addr.{bssid_cmp}
@@ -32,6 +34,9 @@ list_rows (x ∷ xs) =
 abbrev pub policy_of : Bss → Policy
 policy_of x = x.policy
 
+abbrev pub cursor_of : Bss → StationNumber
+cursor_of x = x.cursor
+
 abbrev pub members_of : Bss → Members
 members_of x = x.members
 
@@ -47,11 +52,12 @@ state_of_rows xs =
     record {
       lists = list_rows xs;
       policies = map.from_sorted (policy_rows xs);
+      cursors = map.from_sorted (parts_of cursor_of xs);
       members = map.from_sorted (parts_of members_of xs);
     }
 
 abbrev pub no_bss : BssState
-no_bss = record { lists = map.empty; policies = map.empty; members = map.empty }
+no_bss = record { lists = map.empty; policies = map.empty; cursors = map.empty; members = map.empty }
 
 -- a BSSID that had no policy comes without stations
 abbrev pub joined : Option Policy → FinMap bssid_cmp Members → Bssid → FinMap bssid_cmp Members
@@ -60,7 +66,11 @@ joined (Some policy) members b = members
 
 abbrev pub with_bss : BssState → Bssid → Policy → BssState
 with_bss s b policy =
-    record s { policies = map.insert s.policies b policy; members = joined (map.get s.policies b) s.members b }
+    record s {
+      policies = map.insert s.policies b policy;
+      cursors = cursors_with (map.get s.policies b) s.cursors b;
+      members = joined (map.get s.policies b) s.members b;
+    }
 
 -- whether the lists of a row have an address
 abbrev pub is_listed_in : Option Bss → Which → Addr → Bool
@@ -70,6 +80,9 @@ is_listed_in (Some x) w a = has x.lists w a
 -- what is written into a row
 abbrev pub with_policy : Policy → Bss → Bss
 with_policy policy x = record x { policy = policy }
+
+abbrev pub with_cursor : StationNumber → Bss → Bss
+with_cursor last x = record x { cursor = last }
 
 abbrev pub with_added : Which → Addr → Bss → Bss
 with_added w a x = record x { lists = added x.lists w a }

@@ -76,14 +76,14 @@ put_after old new b members (Some x) = map.insert members b (members_after old n
 abbrev pub after_row : Option Station → Option Station → Bssid → FinMap bssid_cmp Members → FinMap bssid_cmp Members
 after_row old new b members = put_after old new b members (map.get members b)
 
--- the places of a word, but 0, are set
-abbrev pub AreSet : List ℕ → ℕ → Type 0
-AreSet words w = (j : ℕ) → 1 ≤ j → 64 * w ≤ j → j < 64 * w + 64 → is_set words j ≡ true
+-- the places of a word above a place are set
+abbrev pub AreSet : List ℕ → ℕ → ℕ → Type 0
+AreSet words last w = (j : ℕ) → last < j → 64 * w ≤ j → j < 64 * w + 64 → is_set words j ≡ true
 
--- the first place of a word, but 0, that is not
-pub record IsFirstClear (words : List ℕ) (w i : ℕ) : Type 0 where
-  pub low : 1 ≤ i
+-- the first place of a word above a place that is not
+pub record IsFirstClear (words : List ℕ) (last w i : ℕ) : Type 0 where
+  pub low : last < i
   pub from : 64 * w ≤ i
   pub below : i < 64 * w + 64
   pub clear : is_set words i ≡ false
-  pub before : (j : ℕ) → 1 ≤ j → 64 * w ≤ j → j < i → is_set words j ≡ true
+  pub before : (j : ℕ) → last < j → 64 * w ≤ j → j < i → is_set words j ≡ true

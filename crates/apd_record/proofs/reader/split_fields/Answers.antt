@@ -1,5 +1,5 @@
 use Rattle.std.proofs.Common.{arith}
-use Rattle.apd_record.proofs.Absent.{passed_on, put_without_address, put_without_station, drop_without_address, add_without_which, add_without_address, del_without_which, del_without_address, clear_without_which, policy_without_fields}
+use Rattle.apd_record.proofs.Absent.{passed_on, put_without_address, put_without_station, drop_without_address, add_without_which, add_without_address, del_without_which, del_without_address, clear_without_which, policy_without_fields, cursor_without_number}
 use Rattle.apd_record.proofs.reader.split_fields.Goals as goal
 
 pub returns-in_err-addr-in-1-clause-none : goal.returns-in_err-addr-in-1-clause-none
@@ -28,3 +28,6 @@ returns-in_err-which-in-5-clause-none c = passed_on c.from_residual-in_err-which
 
 pub returns-in_err-policy-in-6-clause-none : goal.returns-in_err-policy-in-6-clause-none
 returns-in_err-policy-in-6-clause-none c = passed_on c.from_residual-in_err-policy-in-6.result c.args.tag 6 c.args.bssid c.args.bytes.now c.in-6.is (policy_without_fields c.args.bssid c.args.bytes.now (omega arith) c.in_err-policy-in-6.ensures.none)
+
+pub returns-in_err-last-in-7-clause-none : goal.returns-in_err-last-in-7-clause-none
+returns-in_err-last-in-7-clause-none c = passed_on c.from_residual-in_err-last-in-7.result c.args.tag 7 c.args.bssid c.args.bytes.now c.in-7.is (cursor_without_number c.args.bssid c.args.bytes.now (omega arith) c.in_err-last-in-7.ensures.none)

@@ -3,7 +3,7 @@ use Rattle.std.specs.Option.{option_map}
 use Rattle.std.specs.FinMap as map
 use Rattle.apd_base.specs.Addr.{bssid_cmp}
 use Rattle.apd_base.specs.Sets.{contains}
-use Rattle.apd_table.specs.fields.BssRows.{policy_of, members_of, is_listed_in}
+use Rattle.apd_table.specs.fields.BssRows.{policy_of, cursor_of, members_of, is_listed_in}
 use Rattle.apd_table.specs.fields.BssState.{BssState}
 use Rattle.apd_table.proofs.BssLemmas.{get-parts_of, contains-list_rows}
 use Rattle.apd_base.proofs.RowsMaps.{valued}
@@ -23,3 +23,8 @@ pub returns-clause-members : goal.returns-clause-members
 returns-clause-members c =
     ap (option_map members_of) (valued bssid_cmp c.args.bssid c.self.inside.rows.items _ c.deref.ensures.value c.self.invariant _ c.value.ensures)
     ∙ sym (get-parts_of members_of c.self.inside.rows.items c.self.invariant c.args.bssid) ∙ ap (λ (s : BssState). map.get s.members c.args.bssid) c.self.view_is
+
+pub returns-clause-cursor : goal.returns-clause-cursor
+returns-clause-cursor c =
+    ap (option_map cursor_of) (valued bssid_cmp c.args.bssid c.self.inside.rows.items _ c.deref.ensures.value c.self.invariant _ c.value.ensures)
+    ∙ sym (get-parts_of cursor_of c.self.inside.rows.items c.self.invariant c.args.bssid) ∙ ap (λ (s : BssState). map.get s.cursors c.args.bssid) c.self.view_is

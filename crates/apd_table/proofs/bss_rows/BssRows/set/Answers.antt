@@ -1,14 +1,10 @@
-use Rattle.std.proofs.Common.{IsSome, Err, sym, ap, subst, ◌∙◌}
+use Rattle.std.proofs.Common.{IsSome, refl, sym, ap, subst, ◌∙◌}
 use Rattle.std.specs.FinMap as map
-use Rattle.apd_acl.specs.Lists.{no_lists}
-use Rattle.apd_acl.specs.declared.lists.Lists.{Lists}
 use Rattle.apd_base.specs.Addr.{bssid_cmp}
 use Rattle.apd_base.specs.Rows.{put_at}
 use Rattle.apd_base.proofs.AddrLemmas.{bssid_total, bssid_exact}
 use Rattle.apd_table.specs.fields.BssRows.{with_policy, state_of_rows}
 use Rattle.apd_table.specs.fields.BssState.{BssState}
-use Rattle.apd_table.specs.fields.Members.{no_members}
-use Rattle.apd_table.specs.declared.members.Members.{Members}
 use Rattle.apd_table.proofs.BssWrites.{sorted_after, state_after, state_set, state_new, policies_with, sorted_new, absent_at, has_place}
 use Rattle.apd_base.proofs.RowsMaps.{placed}
 use Rattle.apd_table.proofs.bss_rows.BssRows.set.Goals as goal
@@ -26,16 +22,14 @@ returns-in-Ok-clause-ok c =
 pub invariant_of-self-in-Err : goal.invariant_of-self-in-Err
 invariant_of-self-in-Err c =
     sorted_new c.self.inside.rows.items c.self.invariant c.args.bssid c.in-Err.at (placed bssid_cmp c.args.bssid c.self.inside.rows.items _ c.deref.ensures.value c.self.invariant _ c.in-Err.ensures.exact)
-    (record { policy = c.args.policy; lists = c.new-lists.result; members = c.none-members.result }) c.insert.new.self.items c.in_ok-insert-in-Err.ensures.items
+    _ c.insert.new.self.items c.in_ok-insert-in-Err.ensures.items
 
 pub returns-in_ok-insert-in-Err-clause-ok : goal.returns-in_ok-insert-in-Err-clause-ok
 returns-in_ok-insert-in-Err-clause-ok c =
     let xs = c.self.inside.rows.items in
     let is = (placed bssid_cmp c.args.bssid c.self.inside.rows.items _ c.deref.ensures.value c.self.invariant _ c.in-Err.ensures.exact) in
-    ap state_of_rows (c.in_ok-insert-in-Err.ensures.items ∙ ap (λ (lists : Lists). put_at xs c.args.bssid (record { policy = c.args.policy; lists = lists; members = c.none-members.result }) (Err c.in-Err.at)) c.new-lists.ensures
-    ∙ ap (λ (members : Members). put_at xs c.args.bssid (record { policy = c.args.policy; lists = no_lists; members = members }) (Err c.in-Err.at)) c.none-members.ensures
-    ∙ ap (put_at xs c.args.bssid (record { policy = c.args.policy; lists = no_lists; members = no_members })) is)
-    ∙ state_new xs c.self.invariant c.args.bssid (absent_at bssid_total bssid_exact c.args.bssid xs c.self.invariant c.in-Err.at (sym is)) c.args.policy
+    ap state_of_rows (c.in_ok-insert-in-Err.ensures.items ∙ ap (put_at xs c.args.bssid _) is)
+    ∙ state_new xs c.self.invariant c.args.bssid (absent_at bssid_total bssid_exact c.args.bssid xs c.self.invariant c.in-Err.at (sym is)) _ refl c.new-lists.ensures c.none-members.ensures
     ∙ ap (policies_with c.args.bssid c.args.policy) c.self.view_is
 
 -- memory is wanting only where there is no row

@@ -1,4 +1,5 @@
 use Rattle.std.proofs.Common.{refl}
+use Rattle.apd_table.proofs.Cursors.{can_cursor, sound_cursor}
 use Rattle.apd_table.proofs.ListChanges.{can_add, sound_add, sound_clear, sound_take}
 use Rattle.apd_table.proofs.Parts.{sound_drop}
 use Rattle.apd_table.proofs.PolicySet.{can_set, sound_set}
@@ -30,3 +31,8 @@ returns-in-ListClear-clause-sound c =
     let s = c.args.self.now in
     let none = rw c.in-ListClear.is at c.denies_none_after-in-ListClear.ensures in
     rw c.in-ListClear.is (λ h. sound_clear s _ _ c.sound.ensures (none.0 h), λ sound. none.1 (sound.none_denied _))
+
+pub returns-in-Cursor-clause-sound : goal.returns-in-Cursor-clause-sound
+returns-in-Cursor-clause-sound c =
+    let s = c.args.self.now in
+    rw c.in-Cursor.is (λ h. sound_cursor s _ _ c.sound.ensures (c.has_policy.ensures.0 h), λ sound. c.has_policy.ensures.1 (can_cursor s _ _ sound))

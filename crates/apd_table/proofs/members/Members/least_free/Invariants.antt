@@ -1,7 +1,0 @@
-use Rattle.std.proofs.Common.{◌≡◌, ℕ, ◌*◌, ◌<◌, ◌≤◌, true}
-use Rattle.apd_table.specs.fields.Members.{is_set}
-use Rattle.apd_table.proofs.members.Members.least_free.Given as goal
-
--- the places of the words so far are set
-abbrev pub invariant-loop-w : goal.invariant-loop-w
-invariant-loop-w l = (j : ℕ) → 1 ≤ j → j < 64 * l.w → is_set l.self.words j ≡ true
