@@ -59,13 +59,8 @@ fn place_key(change: &Change) -> (u8, Bssid, u8, Addr) {
 
 fn insert_in_order(changes: &mut Vec<Change>, change: Change) -> Result<(), AllocError> {
     let key = place_key(&change);
-    let mut place = changes.len();
-    for (at, other) in changes.iter().enumerate() {
-        if key < place_key(other) {
-            place = at;
-            break;
-        }
-    }
+    let behind = changes.iter().position(|other| key < place_key(other));
+    let place = behind.unwrap_or(changes.len());
     changes.insert(place, change)?;
     Ok(())
 }
