@@ -6,13 +6,16 @@ use apd_disk::{Disk, DiskFault};
 use std::cell::Cell;
 
 /// How many calls a disk served, and how many bytes were written by them.
-#[derive(Clone, Copy, Debug)]
+#[derive(Clone, Copy)]
 pub struct DiskWork {
     pub calls: u64,
     pub bytes: u64,
 }
 
 impl DiskWork {
+    /// Nothing so far.
+    pub const NONE: DiskWork = DiskWork { calls: 0, bytes: 0 };
+
     /// What came after these earlier counts.
     pub fn since(&self, earlier: DiskWork) -> DiskWork {
         DiskWork {
@@ -23,46 +26,22 @@ impl DiskWork {
 }
 
 /// The counts of a disk, for who doesn't hold the disk.
-#[derive(Drop)]
-pub struct Tally {
-    counts: Cell<DiskWork>,
-}
+pub type Tally = Cell<DiskWork>;
 
-impl Tally {
-    /// Nothing so far.
-    pub fn new() -> Tally {
-        Tally {
-            counts: Cell::new(DiskWork { calls: 0, bytes: 0 }),
-        }
-    }
-
-    /// What was counted so far.
-    pub fn counts(&self) -> DiskWork {
-        self.counts.get()
-    }
-
-    // One more call, which writes so many bytes.
-    fn count(&self, bytes: usize) {
-        let DiskWork { calls, bytes: sum } = self.counts.get();
-        self.counts.set(DiskWork {
-            calls: calls.saturating_add(1),
-            bytes: sum.saturating_add(bytes as u64),
-        });
-    }
+// One more call, which writes so many bytes.
+fn count(tally: &Tally, bytes: usize) {
+    let DiskWork { calls, bytes: sum } = tally.get();
+    tally.set(DiskWork {
+        calls: calls.saturating_add(1),
+        bytes: sum.saturating_add(bytes as u64),
+    });
 }
 
 /// A disk that counts its calls, and else is the one inside.
 #[derive(Drop)]
 pub struct Counting<'a, D: Disk> {
-    inner: D,
-    tally: &'a Tally,
-}
-
-impl<'a, D: Disk> Counting<'a, D> {
-    /// Counts the calls of a disk.
-    pub fn new(inner: D, tally: &'a Tally) -> Counting<'a, D> {
-        Counting { inner, tally }
-    }
+    pub inner: D,
+    pub tally: &'a Tally,
 }
 
 impl<D: Disk> Disk for Counting<'_, D> {
@@ -87,17 +66,17 @@ impl<D: Disk> Disk for Counting<'_, D> {
     }
 
     fn read_at(&mut self, at: usize, buf: &mut [u8]) -> Result<(), DiskFault> {
-        self.tally.count(0);
+        count(self.tally, 0);
         self.inner.read_at(at, buf)
     }
 
     fn write_at(&mut self, at: usize, bytes: &[u8]) -> Result<(), DiskFault> {
-        self.tally.count(bytes.len());
+        count(self.tally, bytes.len());
         self.inner.write_at(at, bytes)
     }
 
     fn sync(&mut self) -> Result<(), DiskFault> {
-        self.tally.count(0);
+        count(self.tally, 0);
         self.inner.sync()
     }
 }

@@ -1,31 +1,40 @@
 //! Why there are no numbers.
-ghost use Rattle.std.specs.Prelude.{◌≡◌};
-ghost use Rattle.apd_bench.specs.declared.fault.BenchFault.TheVariants.{NoMemory};
 
-use std::alloc::AllocError;
-use thiserror::Error;
+use std::alloc::{AllocError, AllocFailed};
 
 /// Why a case was not done.
-#[derive(Debug, Drop, Error)]
+#[derive(Clone, Copy)]
 pub enum BenchFault {
     /// A file can't be made, as where one of its name is there, or not be written or read.
-    #[error("the file can't be used")]
     File,
     /// Nothing can be printed.
-    #[error("nothing can be printed")]
     Output,
     /// The access point didn't take a request, or didn't commit.
-    #[error("a request was refused")]
     Refused,
     /// Memory ran out.
-    #[error("out of memory")]
     NoMemory,
 }
 
-impl From<AllocError> for BenchFault {
-    ghost from_gives = { λ _ fault. fault ≡ NoMemory };
+impl BenchFault {
+    /// What is printed of it.
+    pub fn text(self) -> &'static str {
+        match self {
+            BenchFault::File => "the file can't be used",
+            BenchFault::Output => "nothing can be printed",
+            BenchFault::Refused => "a request was refused",
+            BenchFault::NoMemory => "out of memory",
+        }
+    }
+}
 
+impl From<AllocError> for BenchFault {
     fn from(_: AllocError) -> BenchFault {
+        BenchFault::NoMemory
+    }
+}
+
+impl<T: Drop> From<AllocFailed<T>> for BenchFault {
+    fn from(_: AllocFailed<T>) -> BenchFault {
         BenchFault::NoMemory
     }
 }

@@ -1,8 +1,8 @@
 //! `apd_bench`: what the promises of `apd` cost. It is no part of the daemon.
 #![tactic(auto)]
 
+mod access_point;
 mod bare;
-mod calling;
 mod case;
 mod counting;
 mod fault;
@@ -10,8 +10,8 @@ mod frames;
 mod measuring;
 mod printing;
 mod rate;
-mod requests;
 mod round;
+mod world;
 
 use printing::{print_counts, print_rates};
 use std::io;
@@ -46,7 +46,7 @@ fn main(rt: HostRuntime) -> io::Result<ExitCode> {
     match done {
         Ok(()) => Ok(ExitCode::SUCCESS),
         Err(fault) => {
-            eprintln!(rt; "apd_bench: {fault}")?;
+            eprintln!(rt; "apd_bench: {}", fault.text())?;
             Ok(ExitCode::FAILURE)
         }
     }

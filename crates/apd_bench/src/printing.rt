@@ -1,9 +1,10 @@
 //! What is printed: a line for each case.
 use crate::bare::fill;
-use crate::case::{Case, Medium, cases};
+use crate::case::{CASES, COUNTED, Case};
 use crate::fault::BenchFault;
-use crate::measuring::{Rates, count, measure};
-use crate::rate::hundredths;
+use crate::measuring::{Task, measure};
+use crate::rate::{hundredths, medians};
+use crate::round::Round;
 use std::alloc::{AllocError, Global};
 use std::fs::{self, File};
 use std::io::{self, Write};
@@ -13,15 +14,22 @@ use std::time::Clock;
 /// The names of the columns.
 const HEAD: &str = "case                    stations  window  per second   bare loop   ratio";
 
-// Does a case at a few requests, and prints its line.
-fn print_count(
-    rt: &(impl Print + Files<File = File> + Clock + AllocGlobal),
-    name: &str,
-    case: &Case,
-) -> Result<(), BenchFault> {
-    let round = count(rt, name, case)?;
-    let printed = writeln!(
-        io::writer(rt),
+/// How many windows a round has where only calls are counted.
+const FEW: u16 = 2;
+
+/// How many rounds a case has that is measured.
+const ROUNDS: u16 = 5;
+
+fn print(rt: &impl Print, line: &str) -> Result<(), BenchFault> {
+    match io::writer(rt).writeln(line) {
+        Ok(()) => Ok(()),
+        Err(_) => Err(BenchFault::Output),
+    }
+}
+
+// What is printed of a case at a few requests.
+fn count_line(alloc: Global, case: &Case, round: &Round) -> Result<String, AllocError> {
+    format!(in alloc;
         "{}, {} stations, window {}: {} requests, {} commits, {} calls, {} bytes",
         case.name(),
         case.stations,
@@ -30,8 +38,7 @@ fn print_count(
         round.commits,
         round.device.calls,
         round.device.bytes
-    );
-    printed.map_err(|_| BenchFault::Output)
+    )
 }
 
 /// Does each case at a few requests, and prints what is the same on each run.
@@ -39,19 +46,30 @@ pub fn print_counts(
     rt: &(impl Print + Files<File = File> + Clock + AllocGlobal),
     name: &str,
 ) -> Result<(), BenchFault> {
-    for case in &cases() {
-        if case.is_counted() {
-            print_count(rt, name, &case.at_few_stations())?;
+    for (kind, stations, window) in COUNTED {
+        let case = Case {
+            kind,
+            stations,
+            window,
+        };
+        let task = Task {
+            case: &case,
+            rounds: 1,
+            requests: case.requests(FEW),
+            bare: None,
+        };
+        for measured in &measure(rt, name, &task)? {
+            print(rt, &count_line(rt.alloc(), &case, &measured.round)?)?;
         }
     }
     Ok(())
 }
 
-// What is printed of a rate that may not have been timed.
-fn rate_text(alloc: Global, rate: Option<u64>) -> Result<String, AllocError> {
+// What is printed of a rate, or else in its place.
+fn rate_text(alloc: Global, rate: Option<u64>, none: &str) -> Result<String, AllocError> {
     match rate {
         Some(rate) => format!(in alloc; "{rate}"),
-        None => String::from_str(alloc, "not timed"),
+        None => String::from_str(alloc, none),
     }
 }
 
@@ -63,34 +81,27 @@ fn ratio_text(alloc: Global, ratio: Option<u64>) -> Result<String, AllocError> {
     }
 }
 
-// What is printed of a case's bare loop, which there is none of beside a store in memory.
-fn bare_text(alloc: Global, case: &Case, rates: &Rates) -> Result<String, AllocError> {
-    match case.medium {
-        Medium::Memory => String::from_str(alloc, "-"),
-        Medium::File => rate_text(alloc, rates.bare),
-    }
-}
-
-// Measures a case, and prints its line.
-fn print_case(
-    rt: &(impl Print + Files<File = File> + Clock + AllocGlobal),
-    name: &str,
-    bare: &File,
+// What is printed of a case that was measured. Beside a store in memory there is no bare loop.
+fn table_line(
+    alloc: Global,
     case: &Case,
-) -> Result<(), BenchFault> {
-    let alloc = rt.alloc();
-    let rates = measure(rt, name, bare, case)?;
-    let printed = writeln!(
-        io::writer(rt),
+    rate: Option<u64>,
+    bare: Option<u64>,
+) -> Result<String, AllocError> {
+    let none = if case.is_in_memory() {
+        "-"
+    } else {
+        "not timed"
+    };
+    format!(in alloc;
         "{:<24}{:>8}{:>8}{:>12}{:>12}{:>8}",
         case.name(),
         case.stations,
         case.window,
-        rate_text(alloc, rates.case)?,
-        bare_text(alloc, case, &rates)?,
-        ratio_text(alloc, hundredths(rates.case, rates.bare))?
-    );
-    printed.map_err(|_| BenchFault::Output)
+        rate_text(alloc, rate, "not timed")?,
+        rate_text(alloc, bare, none)?,
+        ratio_text(alloc, hundredths(rate, bare))?
+    )
 }
 
 // Measures each case, beside the bare loop's new file, and prints the table.
@@ -99,12 +110,29 @@ fn print_table(
     name: &str,
     bare: &File,
 ) -> Result<(), BenchFault> {
-    fill(bare)?;
-    if io::writer(rt).writeln(HEAD).is_err() {
-        return Err(BenchFault::Output);
+    if fill(bare).is_err() {
+        return Err(BenchFault::File);
     }
-    for case in &cases() {
-        print_case(rt, name, bare, case)?;
+    print(rt, HEAD)?;
+    for (kind, stations, window) in CASES {
+        let case = Case {
+            kind,
+            stations,
+            window,
+        };
+        let task = Task {
+            case: &case,
+            rounds: ROUNDS,
+            requests: case.requests(case.windows()),
+            bare: if case.is_in_memory() {
+                None
+            } else {
+                Some(bare)
+            },
+        };
+        let rounds = measure(rt, name, &task)?;
+        let (rate, bare_rate) = medians(rt.alloc(), &case, &rounds)?;
+        print(rt, &table_line(rt.alloc(), &case, rate, bare_rate)?)?;
     }
     Ok(())
 }

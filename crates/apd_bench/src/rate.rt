@@ -1,5 +1,6 @@
 //! How often in a second.
-use crate::case::{Case, Counted};
+use crate::case::Case;
+use crate::measuring::Measured;
 use crate::round::Round;
 use std::alloc::{AllocError, Global};
 use std::time::Duration;
@@ -11,25 +12,36 @@ pub fn per_second(count: u64, time: Option<Duration>) -> Option<u64> {
     u64::try_from(in_all.checked_div(nanos)?).ok()
 }
 
-/// The rate of a round: of what its case counts.
-pub fn rate(case: &Case, round: &Round) -> Option<u64> {
-    match case.counted {
-        Counted::Requests => per_second(round.requests, round.time),
-        Counted::Commits | Counted::Switches => per_second(round.commits, round.committing),
+// The rate of a round: of what its case counts.
+fn rate(case: &Case, round: &Round) -> Option<u64> {
+    if case.counts_commits() {
+        per_second(round.commits, round.committing)
+    } else {
+        per_second(u64::from(round.requests), round.time)
     }
 }
 
-/// The one in the middle of the rates of some rounds; none where a round wasn't timed.
-pub fn median(alloc: Global, rates: &[Option<u64>]) -> Result<Option<u64>, AllocError> {
-    let mut timed = Vec::new(alloc);
-    for rate in rates {
-        match rate {
-            Some(rate) => timed.push(*rate)?,
-            None => return Ok(None),
-        }
+// The one in the middle of some rates, which it puts in order; none where one wasn't timed.
+fn median(rates: &mut Vec<Option<u64>>) -> Result<Option<u64>, AllocError> {
+    rates.sort()?;
+    match rates.first() {
+        Some(Some(_)) => Ok(rates[rates.len() / 2]),
+        _ => Ok(None),
     }
-    timed.sort()?;
-    Ok(timed.get(timed.len() / 2).copied())
+}
+
+/// How often a second in the median of some rounds of a case, and how often the bare loop.
+pub fn medians(
+    alloc: Global,
+    case: &Case,
+    rounds: &[Measured],
+) -> Result<(Option<u64>, Option<u64>), AllocError> {
+    let (mut rates, mut bare_rates) = (Vec::new(alloc), Vec::new(alloc));
+    for measured in rounds {
+        rates.push(rate(case, &measured.round))?;
+        bare_rates.push(measured.bare)?;
+    }
+    Ok((median(&mut rates)?, median(&mut bare_rates)?))
 }
 
 /// The ratio of two rates, in hundredths.
