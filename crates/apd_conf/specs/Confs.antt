@@ -1,6 +1,6 @@
 -- The configurations of one daemon, which has a radio for each: which lists of them are taken, which
 -- fault is told of the others, and which one is a given radio's.
-use Rattle.std.specs.Prelude.{◌≡◌, ℕ, ◌<◌, ◌≤◌, List, length, map, Option, Some, slice_get}
+use Rattle.std.specs.Prelude.{◌≡◌, ℕ, ◌<◌, ◌≤◌, List, length, map, Option, None, Some, slice_get}
 use Rattle.std.specs.List.{find}
 use Rattle.std.specs.Ordering.{nat_cmp, eq_by_cmp}
 use Rattle.std.specs.Cmp.Lexicographic.{slice_cmp}
@@ -59,3 +59,8 @@ conf_at confs bssid = find (λ c. eq_by_cmp bssid_cmp bssid c.bssid) confs
 -- the configuration of an interface, by the bytes of its name
 abbrev pub conf_named : List Conf → List ℕ → Option Conf
 conf_named confs name = find (λ c. eq_by_cmp (slice_cmp nat_cmp) name c.interface) confs
+
+-- the configuration that a command means: that of the interface which it names, and the first one where it names none
+abbrev pub conf_meant : List Conf → Option (List ℕ) → Option Conf
+conf_meant confs None = slice_get confs 0
+conf_meant confs (Some name) = conf_named confs name

@@ -1,7 +1,7 @@
 //! The configurations of the daemon's radios.
 ghost use Rattle.std.specs.Prelude.{◌≡◌, ◌≢◌, None, ◌↔◌, ℕ, List, slice_get, Err, IsOk, IfOk, OnOk, IfErr, IfSome, IfNone};
 ghost use Rattle.std.specs.Option.{option_copied};
-ghost use Rattle.apd_conf.specs.Confs.{interfaces, bssids, IsLeastRepeated, AreDistinct, AreConfs, IsRefused, conf_at, conf_named};
+ghost use Rattle.apd_conf.specs.Confs.{interfaces, bssids, IsLeastRepeated, AreDistinct, AreConfs, IsRefused, conf_at, conf_meant, conf_named};
 ghost use Rattle.apd_conf.specs.declared.confs_fault.ConfsFault.{ConfsFault as Fault};
 ghost use Rattle.apd_conf.specs.declared.conf.Conf.{Conf as Configuration};
 ghost use Rattle.apd_base.specs.declared.address.Bssid.{Bssid as Address};
@@ -133,6 +133,17 @@ impl Confs {
         ensures { option_copied result ≡ conf_named self.now name.now }
     {
         at_interface(&self.list, name)
+    }
+
+    /// The configuration of the interface that a command names, and the first one where it names none. It takes no
+    /// memory.
+    pub fn for_command(&self, interface: Option<&[u8]>) -> Option<&Conf>
+        ensures { option_copied result ≡ conf_meant self.now (option_copied interface.entry) }
+    {
+        match interface {
+            Some(name) => self.with_interface(name),
+            None => self.list().first(),
+        }
     }
 
     /// A second list of them.

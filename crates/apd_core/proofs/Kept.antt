@@ -7,6 +7,7 @@ use Rattle.std.proofs.lemmas.List.{map-append, take-append-le}
 use Rattle.apd_base.specs.declared.moment.Moment.{Moment}
 use Rattle.apd_base.specs.State.{State}
 use Rattle.apd_mlme.specs.Happening.{Happening}
+use Rattle.apd_mlme.specs.declared.decision.Out.{Out}
 use Rattle.apd_mlme.specs.declared.decision.Recipient.{Recipient}
 use Rattle.apd_mlme.specs.rules.{verdict, IsFit}
 use Rattle.apd_mlme.proofs.TrueOutsLemmas.{verdict_there}
@@ -22,8 +23,10 @@ use Rattle.apd_core.specs.Fields.{core_of, entries_of, IsKept, IsMeasured}
 use Rattle.apd_core.specs.Heard.{AreMomentsOf, heard_by_changes}
 use Rattle.apd_core.specs.Held.{HeldOuts, no_outs, with_outs, after_hand}
 use Rattle.apd_core.specs.Invariant.{IsCore}
+use Rattle.apd_core.specs.TakingBack.{without}
 use Rattle.apd_core.specs.declared.entry.Entry.{Entry}
 use Rattle.apd_core.specs.declared.request_core.Core.TheInside.{Inside}
+use Rattle.apd_core.proofs.HeldLemmas.{last_kept, without-with_outs}
 use Rattle.apd_core.proofs.Keeping.{entry_core, new_is_core, sender_core, meaning-push, one_more}
 use Rattle.apd_core.proofs.Settling.{handed_core}
 
@@ -31,6 +34,10 @@ pub kept_from : (c : Inside) (s : CoreState) → core_of c ≡ s → IsCore s �
     → c.batch ≡ changes_of (take c.flight (entries_of c.unsettled.items)) → AllByRecursion IsMeasured c.unsettled.items → IsKept c
 kept_from c s view core front last batch measured =
     record { core = subst IsCore (sym view) core; front_is = front ∙ ap front_of (sym view); last_is = last ∙ ap last_of (sym view); batch_is = batch; measured = measured }
+
+-- exactly the rows of the table after all entries have moments
+pub front_moments : (c : Inside) → IsKept c → AreMomentsOf c.front c.heard
+front_moments c kept = subst (λ (t : State). AreMomentsOf t c.heard) (sym kept.front_is) kept.core.moments
 
 -- the number of an entry more is above those of all that are kept
 pub later_than : (c : Inside) → IsKept c → (k : ℕ) → IsSome (maps.get c.held.left k) → k < c.last + 1
@@ -117,6 +124,25 @@ handed_kept c d to (Ok v) kept ok err same =
     subst IsKept (sym e)
     (kept_from _ (handed to (core_of c)) refl (handed_core (core_of c) to kept.core) kept.front_is kept.last_is kept.batch_is kept.measured)
 handed_kept c d to (Err x) kept ok err same = subst IsKept (sym (same ∙ ap (λ (hs : HeldOuts). record c { held = hs }) err)) kept
+
+-- ---- an entry is refused memory: its outs, that were kept already, are taken back
+pub last_there : (c : Inside) → IsKept c → (outs : List (Recipient × Out)) (grown : HeldOuts) → grown ≡ with_outs c.confs (c.last + 1) outs c.held
+    → (k : ℕ) → IsSome (maps.get grown.left k) → k ≤ c.last + 1
+last_there c kept outs grown keeping k is =
+    last_kept c.confs (c.last + 1) outs c.held (later_than c kept) k (subst (λ (hs : HeldOuts). IsSome (maps.get hs.left k)) keeping is)
+
+module _ (c d : Inside) (kept : IsKept c) (outs : List (Recipient × Out)) (grown : HeldOuts)
+    (keeping : grown ≡ with_outs c.confs (c.last + 1) outs c.held) (back : d.held ≡ without (c.last + 1) grown)
+    (confs : d.confs ≡ c.confs) (settled : d.settled.table ≡ c.settled.table) (number : d.number ≡ c.number) (items : d.unsettled.items ≡ c.unsettled.items) (flight : d.flight ≡ c.flight)
+    (heard : d.heard ≡ c.heard) (failed : d.failed ≡ c.failed) where
+  pub refused_view : core_of d ≡ core_of c
+  refused_view =
+      same_view c d confs settled number items flight
+      (back ∙ ap (without (c.last + 1)) keeping ∙ without-with_outs c.confs (c.last + 1) outs c.held kept.core.held (later_than c kept))
+      heard failed
+
+  pub refused_kept : d.front ≡ c.front → d.last ≡ c.last → d.batch ≡ c.batch → IsKept d
+  refused_kept front last batch = same_kept c d kept refused_view front last batch items flight
 
 -- ---- a new core
 pub new_kept : (c : Inside) (table : State) (confs : List Conf) → c.confs ≡ confs → c.settled.table ≡ table → c.number ≡ 0 → c.unsettled.items ≡ [] → c.flight ≡ 0

@@ -1,6 +1,6 @@
 -- Moments that are laid down before the rows of a table change, and tidied afterwards (own). No public call's contract
 -- cites these.
-use Rattle.std.specs.Prelude.{◌≡◌, Bool, true, cond, List, [], ◌∷◌, Option, None, ◌⊎◌}
+use Rattle.std.specs.Prelude.{◌≡◌, Bool, true, cond, List, [], ◌∷◌, Option, None, IsSome, ◌⊎◌}
 use Rattle.std.specs.FinMap as maps
 use Rattle.apd_base.specs.declared.address.Addr.{Addr}
 use Rattle.apd_base.specs.declared.address.Bssid.{Bssid}
@@ -18,6 +18,10 @@ heard_at m b (a ∷ addrs) heard = heard_at m b addrs (maps.insert heard (b, a) 
 abbrev pub AreLaidDown : List Change → LastHeard → LastHeard → Type 0
 AreLaidDown changes old new =
     (k : Bssid × Addr) → (maps.get new k ≡ maps.get old k) ⊎ ((puts_row changes k ≡ true) × (maps.get old k ≡ None))
+
+-- each row that is put has a moment, which another one may be written over
+abbrev pub HaveRoomFor : List Change → LastHeard → Type 0
+HaveRoomFor changes heard = (k : Bssid × Addr) → puts_row changes k ≡ true → IsSome (maps.get heard k)
 
 -- a row that is put or dropped, and is not there, has no moment
 abbrev pub tidied : Bool → Bool → Option Moment → Option Moment

@@ -6,20 +6,20 @@ ghost use Rattle.std.specs.Map.Iter.{deref_pair};
 ghost use Rattle.std.specs.Option.{option_copied, option_map};
 ghost use Rattle.std.specs.Ordering.{eq_by_cmp};
 ghost use Rattle.apd_base.specs.Addr.{station_cmp};
+ghost use Rattle.apd_base.specs.State.{State};
 ghost use Rattle.apd_base.specs.declared.address.Addr.{Addr};
 ghost use Rattle.apd_base.specs.declared.address.Bssid.{Bssid};
 ghost use Rattle.apd_mlme.specs.Happening.{happening};
 ghost use Rattle.apd_record.specs.Meaning.{meaning_of};
-ghost use Rattle.apd_table.specs.Sound.{StaySound};
-ghost use Rattle.apd_core.specs.Heard.{due, heard_by, heard_by_changes, heard_from, is_due, is_too_long, AreHeardAt, AreMomentsOf};
+ghost use Rattle.apd_core.specs.Heard.{due, heard_by, heard_by_changes, heard_from, is_due, is_too_long, AreHeardAt, AreMomentsOf, LastHeard};
 ghost use Rattle.apd_core.specs.ChangedRows.{is_of, is_put_of, puts_row, touches_row};
-ghost use Rattle.apd_core.specs.LaidDown.{heard_at, tidied, AreLaidDown};
+ghost use Rattle.apd_core.specs.LaidDown.{heard_at, tidied, AreLaidDown, HaveRoomFor};
 
 use apd_base::{Addr, Bssid, Moment};
 use apd_conf::{Conf, Confs};
 use apd_mlme::Event;
 use apd_record::Change;
-use apd_table::{Table, TableFault};
+use apd_table::Table;
 use std::alloc::{AllocError, Global};
 use std::collections::BTreeMap;
 use std::marker::Model;
@@ -156,7 +156,7 @@ impl Moments {
     /// The same for changes: then each row that one of them puts has a moment.
     fn lay_all(&mut self, changes: &[Change], moment: Moment) -> Result<(), AllocError>
         ensures kept { AreLaidDown changes.now self.old self.new }
-        ensures there { OnOk result ((k : Bssid × Addr) → puts_row changes.now k ≡ true → IsSome (map.get self.new k)) }
+        ensures there { OnOk result (HaveRoomFor changes.now self.new) }
     {
         for change in changes {
             self.lay(change, moment)?;
@@ -177,7 +177,7 @@ impl Moments {
 
     /// The same for changes.
     fn stamp_all(&mut self, changes: &[Change], moment: Moment)
-        requires { (k : Bssid × Addr) → puts_row changes.now k ≡ true → IsSome (map.get self.old k) }
+        requires { HaveRoomFor changes.now self.old }
         ensures { (k : Bssid × Addr)
             → map.get self.new k ≡ cond (puts_row changes.now k) (Some moment) (map.get self.old k) }
     {
@@ -222,38 +222,44 @@ impl Moments {
         }
     }
 
-    /// Makes changes in a table whose rows these are the moments of, at a moment. The moments of new rows are laid
-    /// down before, so that nothing is refused afterwards. Where memory is refused all is as it was.
-    pub(crate) fn change(
+    /// Lays down a moment for each row that changes put, so that `hear_changes` wants no memory once a table, whose
+    /// rows these are the moments of, has changed. Where memory is refused all is as it was.
+    pub(crate) fn make_room(
         &mut self,
-        alloc: Global,
-        table: &mut Table,
         changes: &[Change],
         moment: Moment,
+        table: &Table,
     ) -> Result<(), AllocError>
-        requires sound { StaySound changes.now table.old }
-        requires rows { AreMomentsOf table.old self.old }
-        ensures table { OnOk result (table.new ≡ meaning_of changes.now table.old) }
-        ensures heard { OnOk result (self.new ≡ heard_by_changes moment changes.now self.old) }
-        ensures table_stays { OnErr result (table.new ≡ table.old) }
-        ensures heard_stays { OnErr result (self.new ≡ self.old) }
+        requires { AreMomentsOf table.now self.old }
+        ensures laid { OnOk result (AreLaidDown changes.now self.old self.new) }
+        ensures room { OnOk result (HaveRoomFor changes.now self.new) }
+        ensures err { OnErr result (self.new ≡ self.old) }
     {
         let Ok(()) = self.lay_all(changes, moment) else {
-            self.tidy_all(changes, table);
+            self.give_back(changes, table);
             return Err(AllocError);
         };
-        match table.apply_all(alloc, changes) {
-            Ok(()) => {}
-            // They leave the table sound.
-            Err(TableFault::Invalid) => unreachable!(),
-            Err(TableFault::NoMemory) => {
-                self.tidy_all(changes, table);
-                return Err(AllocError);
-            }
-        }
+        Ok(())
+    }
+
+    /// Takes back what was laid down for changes which the table was not given: all is as it was before.
+    pub(crate) fn give_back(&mut self, changes: &[Change], table: &Table)
+        ensures { (before : LastHeard)
+            → AreMomentsOf table.now before → AreLaidDown changes.now before self.old → self.new ≡ before }
+    {
+        self.tidy_all(changes, table);
+    }
+
+    /// The rows that changes put were heard, and those that they drop have no moment any more: once the table has
+    /// changed, on the moments that were laid down before. It takes no memory.
+    pub(crate) fn hear_changes(&mut self, changes: &[Change], moment: Moment, table: &Table)
+        requires { HaveRoomFor changes.now self.old }
+        ensures { (state : State) (before : LastHeard)
+            → AreMomentsOf state before → AreLaidDown changes.now before self.old
+            → table.now ≡ meaning_of changes.now state → self.new ≡ heard_by_changes moment changes.now before }
+    {
         self.stamp_all(changes, moment);
         self.tidy_all(changes, table);
-        Ok(())
     }
 
     /// A station was heard. Without a row it has no moment. It takes no memory, and looks at its row alone.

@@ -229,7 +229,8 @@ impl Core {
         Ok(Accepted::Entry(Ticket::new(self.last(), input, moment)))
     }
 
-    /// Makes an entry of the decision on an event, which is fit.
+    /// Makes an entry of the decision on an event, which is fit. All that wants memory for the entry, the outs and the
+    /// moments of new rows is laid down before the table changes, and taken back where memory is refused.
     fn enter(
         &mut self,
         event: Event<'_>,
@@ -247,15 +248,26 @@ impl Core {
         ensures err { OnErr result (self.new ≡ self.old) }
     {
         let Decision { changes, outs } = decision;
-        let length = total_length(changes.as_slice());
+        let list = changes.as_slice();
+        let length = total_length(list);
         let number = self.last + 1;
         self.unsettled.reserve(1)?;
         self.held.keep(&self.confs, number, outs)?;
-        let (alloc, list) = (self.alloc, changes.as_slice());
-        let Ok(()) = self.heard.change(alloc, &mut self.front, list, moment) else {
+        let Ok(()) = self.heard.make_room(list, moment, &self.front) else {
             self.held.take_back(number);
             return Err(AllocError);
         };
+        match self.front.apply_all(self.alloc, list) {
+            Ok(()) => {}
+            // The changes of a decision leave the table sound.
+            Err(TableFault::Invalid) => unreachable!(),
+            Err(TableFault::NoMemory) => {
+                self.heard.give_back(list, &self.front);
+                self.held.take_back(number);
+                return Err(AllocError);
+            }
+        }
+        self.heard.hear_changes(list, moment, &self.front);
         let Ok(()) = self.unsettled.push_back(Entry { changes, length }) else {
             unreachable!();
         };
@@ -343,12 +355,13 @@ impl Core {
     /// changes nothing.
     ///
     /// Errors: `Foreign` exactly where the receipt's batch is not the one in flight, by numbers or changes;
-    /// `NoMemory`.
+    /// `NoMemory`, for the batch in flight alone.
     pub fn publish(&mut self, receipt: Receipt) -> Result<(), (Receipt, PublishFault)>
         ensures flight { OnOk result (IsFlight (held_batch receipt) self.old) }
         ensures ok { OnOk result (self.new ≡ published self.old) }
         ensures foreign { IfErr result (λ e. (e.1 ≡ PublishFault.Foreign) ↔ ¬ IsFlight (held_batch receipt) self.old) }
         ensures err { IfErr result (λ e. (e.0 ≡ receipt) × (self.new ≡ self.old)) }
+        ensures lacks { IfErr result (λ e. e.1 ≡ PublishFault.NoMemory → IsFlight (held_batch receipt) self.old) }
     {
         if !self.is_in_flight(receipt.batch()) {
             return Err((receipt, PublishFault::Foreign));
