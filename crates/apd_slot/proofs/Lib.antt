@@ -2,3 +2,4 @@ mod Back
 pub mod Driven
 mod Pushed
 pub mod RowsLemmas
+mod Waiting

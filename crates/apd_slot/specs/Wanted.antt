@@ -1,5 +1,5 @@
 -- The stations that a radio should have, and those that it has, after the outs that it was given (own).
-use Rattle.std.specs.Prelude.{ℕ, Bool, true, false, Result, Ok, Err}
+use Rattle.std.specs.Prelude.{ℕ, Bool, true, false, List, [], ◌∷◌, Result, Ok, Err}
 use Rattle.std.specs.FinMap as map
 use Rattle.apd_base.specs.Addr.{addr_cmp}
 use Rattle.apd_mlme.specs.declared.decision.Out.{Out}
@@ -17,6 +17,11 @@ wanted_after (Install a aid) wanted = map.insert wanted a aid.number
 wanted_after (Remove a) wanted = map.remove wanted a
 wanted_after (Frame bytes) wanted = wanted
 wanted_after (Text tag text) wanted = wanted
+
+-- after outs, one after the other
+abbrev pub wanted_after_all : List Out → Stations → Stations
+wanted_after_all [] wanted = wanted
+wanted_after_all (out ∷ outs) wanted = wanted_after_all outs (wanted_after out wanted)
 
 -- those that are wanted once an out was answered: one that met want of memory was not taken, any other was
 abbrev pub wanted_by : Out → Result (Unit {0}) SlotFault → Stations → Stations

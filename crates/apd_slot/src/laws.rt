@@ -1,17 +1,20 @@
 //! What holds of the stations that a slot wants.
-ghost use Rattle.std.specs.Prelude.{◌≡◌};
+ghost use Rattle.std.specs.Prelude.{◌≡◌, List};
 ghost use Rattle.std.specs.FinMap as map;
 ghost use Rattle.apd_base.specs.State.{State, aid_at};
 ghost use Rattle.apd_base.specs.declared.address.Bssid.{Bssid};
-ghost use Rattle.apd_mlme.specs.laws.Driver.{driven_by};
+ghost use Rattle.apd_mlme.specs.laws.Driver.{driven, driven_by};
 ghost use Rattle.apd_mlme.specs.declared.decision.Out.{Out};
 ghost use Rattle.apd_slot.specs.Rows.{installed_rows};
-ghost use Rattle.apd_slot.specs.Wanted.{Stations, wanted_after};
+ghost use Rattle.apd_slot.specs.Wanted.{Stations, wanted_after, wanted_after_all};
 
-/// What a slot wants after an out is, address by address, the driver's map after that out; and the rows that
-/// it installs when it resumes are, address by address, the identifiers of its BSSID's associated stations.
+/// What a slot wants after an out is, address by address, the driver's map after that out, and so it is after
+/// outs; and the rows that it installs when it resumes are, address by address, the identifiers of its BSSID's
+/// associated stations.
 pub fn wanted_law()
     ensures outs { (out : Out) (wanted : Stations)
         → map.get (wanted_after out wanted) ≡ driven_by out (map.get wanted) }
+    ensures all { (outs : List Out) (wanted : Stations)
+        → map.get (wanted_after_all outs wanted) ≡ driven outs (map.get wanted) }
     ensures rows { (s : State) (b : Bssid) → map.get (installed_rows s b) ≡ aid_at s b }
 {}

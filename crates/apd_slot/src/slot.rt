@@ -1,16 +1,17 @@
-//! A slot: a radio, and the stations that it should have.
-ghost use Rattle.std.specs.Prelude.{◌≡◌, ◌≤◌, ◌⊎◌, ◌↔◌, ℕ, None, OnOk, OnErr, IfOk, IfErr, IsOk, IsTrue, true, false};
+//! A slot: a radio, the stations that it should have, and the outs that wait to be applied.
+ghost use Rattle.std.specs.Prelude.{◌≡◌, ◌≤◌, ℕ, true, None, [], ◌++◌, length, OnOk, OnErr, IfOk, IfErr, IsOk};
 ghost use Rattle.std.specs.FinMap as map;
 ghost use Rattle.std.specs.Option.{option_map};
 ghost use Rattle.apd_base.specs.Failures.{HasRisen};
 ghost use Rattle.apd_radio.specs.Frames.{Polls};
 
 use crate::resuming::{associated, install_all};
-use apd_base::{Addr, Bssid};
+use apd_base::{Addr, Aid, Bssid, Sequence};
 use apd_mlme::Out;
 use apd_radio::{Identifiers, Radio, RadioFault};
 use apd_table::Table;
-use std::alloc::Global;
+use std::alloc::{AllocError, Global};
+use std::collections::VecDeque;
 use std::mem;
 use thiserror::Error;
 
@@ -32,31 +33,35 @@ pub enum SlotFault {
     NoMemory,
 }
 
-/// A BSSID's radio, of one kind or in a box, and the stations that it should have. While it is up, the radio has
-/// exactly these. While it is down the radio is asked for nothing but received frames, and what it should have
-/// is kept.
+/// A BSSID's radio, of one kind or in a box, the stations that it should have, and the outs that wait to be
+/// applied, in order. While it is up, the radio has exactly these stations. While it is down the radio is asked
+/// for nothing but received frames, and what it should have is kept.
 #[derive(Drop)]
 pub struct Slot<R> {
     bssid: Bssid,
     radio: R,
     wanted: Identifiers,
     up: bool,
+    queue: VecDeque<Out>,
 }
 
 impl<R: Radio> Slot<R> {
-    ghost use Rattle.apd_slot.specs.Applying.{IsGivenOut};
+    ghost use Rattle.apd_slot.specs.Applying.{AppliesNext, IsGivenOut};
+    ghost use Rattle.apd_slot.specs.Resuming.{IsGivenRadio, IsGivenRows};
     ghost use Rattle.apd_slot.specs.Rows.{installed_rows};
-    ghost use Rattle.apd_slot.specs.Slots.{IsExact};
-    ghost use Rattle.apd_slot.specs.Wanted.{Stations};
+    ghost use Rattle.apd_slot.specs.Slots.{bssid_of, is_up_of, queue_of, radio_of, room_of, wanted_of, wanted_then};
+    ghost use Rattle.apd_slot.specs.Slots.{HasForgotten, HasRoomFor, SameButQueue, SameButRadio, SameButRoom};
+    ghost use Rattle.apd_slot.specs.Wanted.{wanted_after_all, IsText, Stations};
 
-    /// Takes the radio down. The slot is up, and no station is wanted. It takes no memory.
+    /// Takes the radio down. The slot is up, no station is wanted, and no out waits. It takes no memory.
     pub fn new(alloc: Global, radio: R, bssid: Bssid) -> Slot<R>
-        ensures up { result.up ≡ true }
-        ensures wanted { result.wanted ≡ map.empty }
-        ensures installed { R.model.stations result.radio ≡ map.empty }
-        ensures frames { R.frames result.radio ≡ R.frames radio }
-        ensures failures { R.model.faults result.radio ≡ R.model.faults radio }
-        ensures bssid { result.bssid ≡ bssid }
+        ensures up { is_up_of result ≡ true }
+        ensures wanted { wanted_of result ≡ map.empty }
+        ensures installed { R.model.stations (radio_of result) ≡ map.empty }
+        ensures queue { queue_of result ≡ [] }
+        ensures frames { R.frames (radio_of result) ≡ R.frames radio }
+        ensures failures { R.model.faults (radio_of result) ≡ R.model.faults radio }
+        ensures bssid { bssid_of result ≡ bssid }
     {
         let mut radio = radio;
         radio.take_down();
@@ -65,35 +70,43 @@ impl<R: Radio> Slot<R> {
             radio,
             wanted: Identifiers::new(alloc),
             up: true,
+            queue: VecDeque::new(alloc),
         }
     }
 
     /// The BSSID that it is for.
     pub fn bssid(&self) -> Bssid
-        ensures { result ≡ self.now.bssid }
+        ensures { result ≡ bssid_of self.now }
     {
         self.bssid
     }
 
     /// Whether its radio has the stations that it should have.
     pub fn is_up(&self) -> bool
-        ensures { result ≡ self.now.up }
+        ensures { result ≡ is_up_of self.now }
     {
         self.up
     }
 
     /// The identifier under which a station should be installed. It takes no memory.
     pub fn wanted(&self, addr: Addr) -> Option<u16>
-        ensures { result ≡ map.get self.now.wanted addr }
+        ensures { result ≡ map.get (wanted_of self.now) addr }
     {
         self.wanted.get(addr)
     }
 
     /// The identifier under which a station is installed. It takes no memory.
     pub fn installed(&self, addr: Addr) -> Option<u16>
-        ensures { result ≡ map.get (R.model.stations self.now.radio) addr }
+        ensures { result ≡ map.get (R.model.stations (radio_of self.now)) addr }
     {
         self.radio.installed(addr)
+    }
+
+    /// How many outs wait to be applied.
+    pub fn waiting(&self) -> usize
+        ensures { result ≡ length (queue_of self.now) }
+    {
+        self.queue.len()
     }
 
     /// The next frame that the radio received, whether the slot is up or down.
@@ -101,22 +114,84 @@ impl<R: Radio> Slot<R> {
     /// Errors: the radio's.
     pub fn poll(&mut self) -> Result<Option<Vec<u8>>, RadioFault>
         ensures next { IfOk result
-            (λ got. Polls (R.frames self.old.radio) (option_map (λ frame. frame.items) got)
-            (R.frames self.new.radio)) }
-        ensures unknown { OnErr result ((R.frames self.old.radio ≡ None) × (R.frames self.new.radio ≡ None)) }
-        ensures installed { R.model.stations self.new.radio ≡ R.model.stations self.old.radio }
-        ensures stays { OnOk result (R.model.faults self.new.radio ≡ R.model.faults self.old.radio) }
-        ensures short { result ≡ Err RadioFault.NoMemory → R.model.faults self.new.radio ≡ R.model.faults self.old.radio }
-        ensures device { result ≡ Err RadioFault.Device → HasRisen (R.model.faults self.old.radio) (R.model.faults self.new.radio) }
-        ensures count { R.model.faults self.old.radio ≤ R.model.faults self.new.radio }
-        ensures wanted { self.new.wanted ≡ self.old.wanted }
-        ensures up { self.new.up ≡ self.old.up }
-        ensures bssid { self.new.bssid ≡ self.old.bssid }
+            (λ got. Polls (R.frames (radio_of self.old)) (option_map (λ frame. frame.items) got)
+            (R.frames (radio_of self.new))) }
+        ensures unknown { OnErr result
+            ((R.frames (radio_of self.old) ≡ None) × (R.frames (radio_of self.new) ≡ None)) }
+        ensures installed { R.model.stations (radio_of self.new) ≡ R.model.stations (radio_of self.old) }
+        ensures stays { OnOk result (R.model.faults (radio_of self.new) ≡ R.model.faults (radio_of self.old)) }
+        ensures short { result ≡ Err RadioFault.NoMemory
+            → R.model.faults (radio_of self.new) ≡ R.model.faults (radio_of self.old) }
+        ensures device { result ≡ Err RadioFault.Device
+            → HasRisen (R.model.faults (radio_of self.old)) (R.model.faults (radio_of self.new)) }
+        ensures count { R.model.faults (radio_of self.old) ≤ R.model.faults (radio_of self.new) }
+        ensures same { SameButRadio self.old self.new }
+        ensures wanted_then { wanted_then self.new ≡ wanted_then self.old }
     {
         self.radio.poll()
     }
 
-    /// Gives the radio an out, if the slot is up, and keeps the stations that are wanted.
+    /// Makes room for so many outs behind those that wait, if any does: where none waits, `queue` needs none.
+    pub fn make_room(&mut self, count: usize) -> Result<(), AllocError>
+        ensures room { OnOk result (HasRoomFor count self.new) }
+        ensures idle { queue_of self.old ≡ [] → IsOk result }
+        ensures same { SameButRoom self.old self.new }
+        ensures wanted_then { wanted_then self.new ≡ wanted_then self.old }
+    {
+        if self.queue.is_empty() {
+            return Ok(());
+        }
+        self.queue.reserve(count)
+    }
+
+    /// Puts outs behind those that wait, for which there is room. It takes no memory.
+    #[tactic(auto, using(crate::proofs::Waiting::queued_behind))]
+    pub fn queue(&mut self, outs: Vec<Out>)
+        requires { HasRoomFor (length outs.items) self.old }
+        ensures queue { queue_of self.new ≡ queue_of self.old ++ outs.items }
+        ensures same { SameButQueue self.old self.new }
+        ensures wanted_then { wanted_then self.new ≡ wanted_after_all outs.items (wanted_then self.old) }
+    {
+        let mut outs = VecDeque::from_vec(outs);
+        if self.queue.is_empty() {
+            self.queue = outs;
+        } else {
+            let _ = self.queue.append(&mut outs);
+        }
+    }
+
+    /// Drops the outs that wait.
+    pub fn forget(&mut self)
+        ensures { HasForgotten self.old self.new }
+    {
+        self.queue.clear();
+    }
+
+    /// Applies the first of the outs that wait, and takes it off: it comes back beside the answer of `apply` to it.
+    /// None where none waits.
+    ///
+    /// Errors: where memory ran out, all is as it was, and the out stays first.
+    pub fn apply_next(&mut self) -> Option<Result<(Out, Result<(), SlotFault>), AllocError>>
+        ensures applied { AppliesNext R.model result self.old self.new }
+        ensures frames { R.frames (radio_of self.new) ≡ R.frames (radio_of self.old) }
+        ensures wanted_then { wanted_then self.new ≡ wanted_then self.old }
+    {
+        if self.queue.is_empty() {
+            return None;
+        }
+        let Some(out) = self.queue.pop_front() else {
+            unreachable!()
+        };
+        let answer = self.apply(&out);
+        if answer == Err(SlotFault::NoMemory) {
+            self.queue.push_front_reserved(out);
+            return Some(Err(AllocError));
+        }
+        Some(Ok((out, answer)))
+    }
+
+    /// Gives the radio an out, if the slot is up, and keeps the stations that are wanted. It leaves the outs that
+    /// wait, and their room.
     ///
     /// `Install` and `Remove` change what is wanted, and where the slot is up the radio too: it goes down where
     /// the device fails there (`WentDown`). A frame is sent once, or `Lost`. A text is no radio's (`NotMine`).
@@ -125,42 +200,32 @@ impl<R: Radio> Slot<R> {
     /// and a text take no memory.
     pub fn apply(&mut self, out: &Out) -> Result<(), SlotFault>
         ensures given { IsGivenOut R.model out.now result self.old self.new }
-        ensures frames { R.frames self.new.radio ≡ R.frames self.old.radio }
+        ensures queue { queue_of self.new ≡ queue_of self.old }
+        ensures room { room_of self.new ≡ room_of self.old }
+        ensures text { IsText out.now → self.new ≡ self.old }
+        ensures frames { R.frames (radio_of self.new) ≡ R.frames (radio_of self.old) }
     {
         match out {
-            Out::Install(addr, aid) => self.install(*addr, aid.number),
+            Out::Install(addr, aid) => self.install(*addr, *aid),
             Out::Remove(addr) => self.remove(*addr),
-            Out::Frame(frame) => self.transmit(frame.as_slice()),
+            Out::Frame(frame) => self.transmit(frame),
             Out::Text(_, _) => Err(SlotFault::NotMine),
         }
     }
 
-    fn install(&mut self, addr: Addr, aid: u16) -> Result<(), SlotFault>
-        ensures wanted { OnOk result (self.new.wanted ≡ map.insert self.old.wanted addr aid) }
-        ensures installed { OnOk result (self.old.up ≡ true
-            → R.model.stations self.new.radio ≡ map.insert (R.model.stations self.old.radio) addr aid) }
-        ensures asleep { self.old.up ≡ false → self.new.radio ≡ self.old.radio }
-        ensures failed { OnErr result (R.model.stations self.new.radio ≡ R.model.stations self.old.radio) }
-        ensures up { OnOk result (self.new.up ≡ self.old.up) }
-        ensures down { result ≡ Err SlotFault.WentDown
-            → (self.old.up ≡ true) × (self.new.up ≡ false) × (self.new.wanted ≡ map.insert self.old.wanted addr aid)
-            × HasRisen (R.model.faults self.old.radio) (R.model.faults self.new.radio) }
-        ensures memory { result ≡ Err SlotFault.NoMemory
-            → (self.new.up ≡ self.old.up) × (self.new.wanted ≡ self.old.wanted) }
-        ensures errors { IfErr result (λ fault. (fault ≡ SlotFault.WentDown) ⊎ (fault ≡ SlotFault.NoMemory)) }
-        ensures stays { OnOk result (R.model.faults self.new.radio ≡ R.model.faults self.old.radio) }
-        ensures short { result ≡ Err SlotFault.NoMemory → R.model.faults self.new.radio ≡ R.model.faults self.old.radio }
-        ensures count { R.model.faults self.old.radio ≤ R.model.faults self.new.radio }
-        ensures same { (R.frames self.new.radio ≡ R.frames self.old.radio) × (self.new.bssid ≡ self.old.bssid) }
+    fn install(&mut self, addr: Addr, aid: Aid) -> Result<(), SlotFault>
+        ensures given { IsGivenOut R.model (Out.Install addr aid) result self.old self.new }
+        ensures queue { self.new.queue ≡ self.old.queue }
+        ensures frames { R.frames (radio_of self.new) ≡ R.frames (radio_of self.old) }
     {
         let before = self.wanted.get(addr);
-        let Ok(()) = self.wanted.insert(addr, aid) else {
+        let Ok(()) = self.wanted.insert(addr, aid.number) else {
             return Err(SlotFault::NoMemory);
         };
         if !self.up {
             return Ok(());
         }
-        match self.radio.install(addr, aid) {
+        match self.radio.install(addr, aid.number) {
             Ok(()) => Ok(()),
             Err(RadioFault::Device) => {
                 self.up = false;
@@ -188,18 +253,9 @@ impl<R: Radio> Slot<R> {
     }
 
     fn remove(&mut self, addr: Addr) -> Result<(), SlotFault>
-        ensures wanted { self.new.wanted ≡ map.remove self.old.wanted addr }
-        ensures installed { OnOk result (self.old.up ≡ true
-            → R.model.stations self.new.radio ≡ map.remove (R.model.stations self.old.radio) addr) }
-        ensures asleep { self.old.up ≡ false → self.new.radio ≡ self.old.radio }
-        ensures failed { OnErr result (R.model.stations self.new.radio ≡ R.model.stations self.old.radio) }
-        ensures up { OnOk result (self.new.up ≡ self.old.up) }
-        ensures down { IfErr result
-            (λ fault. (fault ≡ SlotFault.WentDown) × (self.old.up ≡ true) × (self.new.up ≡ false)
-            × HasRisen (R.model.faults self.old.radio) (R.model.faults self.new.radio)) }
-        ensures stays { OnOk result (R.model.faults self.new.radio ≡ R.model.faults self.old.radio) }
-        ensures count { R.model.faults self.old.radio ≤ R.model.faults self.new.radio }
-        ensures same { (R.frames self.new.radio ≡ R.frames self.old.radio) × (self.new.bssid ≡ self.old.bssid) }
+        ensures given { IsGivenOut R.model (Out.Remove addr) result self.old self.new }
+        ensures queue { self.new.queue ≡ self.old.queue }
+        ensures frames { R.frames (radio_of self.new) ≡ R.frames (radio_of self.old) }
     {
         self.wanted.remove(addr);
         if !self.up {
@@ -212,23 +268,15 @@ impl<R: Radio> Slot<R> {
         Ok(())
     }
 
-    fn transmit(&mut self, frame: &[u8]) -> Result<(), SlotFault>
-        ensures installed { R.model.stations self.new.radio ≡ R.model.stations self.old.radio }
-        ensures same { (self.new.up ≡ self.old.up) × (self.new.wanted ≡ self.old.wanted)
-            × (self.new.bssid ≡ self.old.bssid) × (R.frames self.new.radio ≡ R.frames self.old.radio) }
-        ensures lost { result ≡ Err SlotFault.Lost
-            → (self.old.up ≡ false) ⊎ HasRisen (R.model.faults self.old.radio) (R.model.faults self.new.radio) }
-        ensures silent { self.old.up ≡ false → result ≡ Err SlotFault.Lost }
-        ensures asleep { self.old.up ≡ false → self.new.radio ≡ self.old.radio }
-        ensures errors { IfErr result (λ fault. (fault ≡ SlotFault.Lost) ⊎ (fault ≡ SlotFault.NoMemory)) }
-        ensures stays { OnOk result (R.model.faults self.new.radio ≡ R.model.faults self.old.radio) }
-        ensures short { result ≡ Err SlotFault.NoMemory → R.model.faults self.new.radio ≡ R.model.faults self.old.radio }
-        ensures count { R.model.faults self.old.radio ≤ R.model.faults self.new.radio }
+    fn transmit(&mut self, frame: &Sequence<u8>) -> Result<(), SlotFault>
+        ensures given { IsGivenOut R.model (Out.Frame frame.now) result self.old self.new }
+        ensures queue { self.new.queue ≡ self.old.queue }
+        ensures frames { R.frames (radio_of self.new) ≡ R.frames (radio_of self.old) }
     {
         if !self.up {
             return Err(SlotFault::Lost);
         }
-        match self.radio.transmit(frame) {
+        match self.radio.transmit(frame.as_slice()) {
             Ok(()) => Ok(()),
             Err(RadioFault::Device) => Err(SlotFault::Lost),
             Err(RadioFault::NoMemory) => Err(SlotFault::NoMemory),
@@ -236,21 +284,13 @@ impl<R: Radio> Slot<R> {
     }
 
     /// Gives the radio the associated stations of its BSSID in a table, and no others; they are what is wanted
-    /// from then on, and the slot is up. The radio is taken down first, and gets one call a station.
+    /// from then on, and the slot is up. The radio is taken down first, and gets one call a station. The outs that
+    /// wait are dropped: they are older than the table.
     ///
-    /// Errors: `WentDown`, `NoMemory`. The slot is down then, and what is wanted is as before.
+    /// Errors: `WentDown`, `NoMemory`. The slot is down then; what is wanted, and what waits, is as before.
     pub fn resume(&mut self, alloc: Global, table: &Table) -> Result<(), SlotFault>
-        ensures up { IsTrue self.new.up ↔ IsOk result }
-        ensures wanted { OnOk result (self.new.wanted ≡ installed_rows table.now self.old.bssid) }
-        ensures installed { OnOk result (R.model.stations self.new.radio ≡ installed_rows table.now self.old.bssid) }
-        ensures exact { IsExact R.model self.new }
-        ensures failed { OnErr result (self.new.wanted ≡ self.old.wanted) }
-        ensures errors { IfErr result (λ fault. (fault ≡ SlotFault.WentDown) ⊎ (fault ≡ SlotFault.NoMemory)) }
-        ensures down { result ≡ Err SlotFault.WentDown → HasRisen (R.model.faults self.old.radio) (R.model.faults self.new.radio) }
-        ensures stays { OnOk result (R.model.faults self.new.radio ≡ R.model.faults self.old.radio) }
-        ensures short { result ≡ Err SlotFault.NoMemory → R.model.faults self.new.radio ≡ R.model.faults self.old.radio }
-        ensures frames { R.frames self.new.radio ≡ R.frames self.old.radio }
-        ensures bssid { self.new.bssid ≡ self.old.bssid }
+        ensures given { IsGivenRows R.model (installed_rows table.now (bssid_of self.old)) result self.old self.new }
+        ensures frames { R.frames (radio_of self.new) ≡ R.frames (radio_of self.old) }
     {
         self.up = false;
         self.radio.take_down();
@@ -260,6 +300,7 @@ impl<R: Radio> Slot<R> {
         match install_all(&mut self.radio, &wanted) {
             Ok(()) => {
                 self.wanted = wanted;
+                self.forget();
                 self.up = true;
                 Ok(())
             }
@@ -270,28 +311,16 @@ impl<R: Radio> Slot<R> {
 
     /// Puts another radio in the place of this one, with the stations that are wanted and no others, and gives
     /// this one back, taken down; the slot is up then. The other one is taken down first, and gets one call a
-    /// station.
+    /// station. The outs that wait stay.
     ///
     /// Errors: `WentDown`, where the other radio's device failed, and `NoMemory`, beside that radio, taken down.
     /// The slot keeps its own radio, and is down.
     pub fn replace(&mut self, radio: R) -> Result<R, (R, SlotFault)>
-        ensures up { IsTrue self.new.up ↔ IsOk result }
-        ensures wanted { self.new.wanted ≡ self.old.wanted }
-        ensures installed { OnOk result (R.model.stations self.new.radio ≡ self.old.wanted) }
-        ensures exact { IsExact R.model self.new }
-        ensures other { OnOk result
-            ((R.frames self.new.radio ≡ R.frames radio) × (R.model.faults self.new.radio ≡ R.model.faults radio)) }
-        ensures own { IfOk result
-            (λ old. (R.frames old ≡ R.frames self.old.radio) × (R.model.faults old ≡ R.model.faults self.old.radio)) }
-        ensures emptied { IfOk result (λ old. R.model.stations old ≡ map.empty) }
-        ensures kept { OnErr result (self.new.radio ≡ self.old.radio) }
-        ensures back { IfErr result
-            (λ failed. (R.model.stations failed.0 ≡ map.empty) × (R.frames failed.0 ≡ R.frames radio)) }
-        ensures errors { IfErr result (λ failed. (failed.1 ≡ SlotFault.WentDown) ⊎ (failed.1 ≡ SlotFault.NoMemory)) }
-        ensures down { IfErr result
-            (λ failed. failed.1 ≡ SlotFault.WentDown → HasRisen (R.model.faults radio) (R.model.faults failed.0)) }
-        ensures short { IfErr result (λ failed. failed.1 ≡ SlotFault.NoMemory → R.model.faults failed.0 ≡ R.model.faults radio) }
-        ensures bssid { self.new.bssid ≡ self.old.bssid }
+        ensures given { IsGivenRadio R.model radio result self.old self.new }
+        ensures own { IfOk result (λ own. R.frames own ≡ R.frames (radio_of self.old)) }
+        ensures other { OnOk result (R.frames (radio_of self.new) ≡ R.frames radio) }
+        ensures back { IfErr result (λ failed. R.frames failed.0 ≡ R.frames radio) }
+        ensures wanted_then { wanted_then self.new ≡ wanted_then self.old }
     {
         let mut radio = radio;
         radio.take_down();
