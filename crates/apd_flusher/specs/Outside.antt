@@ -1,10 +1,12 @@
--- What is seen of a flusher from outside.
-use Rattle.std.specs.Prelude.{ℕ}
+-- What is seen of a flusher and of a committer from outside.
+use Rattle.std.specs.Prelude.{ℕ, Option}
 use Rattle.apd_base.specs.State.{State}
 use Rattle.apd_journal.specs.declared.batch.Batch.{Batch}
 use Rattle.apd_store.specs.Outside.{device_of as store_device, phase_of as store_phase, calls_left as store_calls, batch_of as store_batch, epoch_of as store_epoch}
+use Rattle.apd_store.specs.declared.store.Receipt.{Receipt}
 use Rattle.apd_store.specs.declared.store.Store.{Store}
 use Rattle.apd_flusher.specs.Phases.{phase_from}
+use Rattle.apd_flusher.specs.declared.committer.Committer.{Committer}
 use Rattle.apd_flusher.specs.declared.flusher.Flusher.{Flusher}
 use Rattle.apd_flusher.specs.declared.phase.Phase.{Phase}
 
@@ -36,3 +38,15 @@ table_of flusher = flusher.tables.table
 -- that table after the batch that is under way
 abbrev pub next_of : {D : Type 0} → Flusher D → State
 next_of flusher = flusher.tables.staged
+
+-- ---- a committer
+abbrev pub flusher_of : {D : Type 0} → Committer D → Flusher D
+flusher_of c = c.flusher
+
+-- the batch that the flusher refused
+abbrev pub waiting_batch : {D : Type 0} → Committer D → Option Batch
+waiting_batch c = c.batch
+
+-- the receipt that the core refused
+abbrev pub waiting_receipt : {D : Type 0} → Committer D → Option Receipt
+waiting_receipt c = c.receipt
