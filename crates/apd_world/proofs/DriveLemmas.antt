@@ -1,60 +1,137 @@
--- Steps, one after another, and what a stop at any moment since the first leaves.
-use Rattle.std.proofs.Common.{◌≡◌, ℕ, suc, ◌+◌, ◌<◌, ◌≤◌, List, [], ◌∷◌, ◌++◌, length, take, drop, get_or, refl, sym, ap, subst, ◌∙◌, arith, add-one, append_assoc, length-append}
-use Rattle.std.proofs.lemmas.List.{append-nil, take-append-le, take-append-drop, take_all}
-use Rattle.std.proofs.Math.Seq.{take-suc, take-append_seam}
-use Rattle.apd_base.specs.State.{State}
-use Rattle.apd_conf.specs.declared.conf.Conf.{Conf}
-use Rattle.apd_disk.specs.Disk.{LeavesOnly, DiskModel}
-use Rattle.apd_disk.proofs.Moments.{started, then_run, weaker}
-use Rattle.apd_mlme.specs.Happening.{Happening}
-use Rattle.apd_mlme.specs.Run.{run}
-use Rattle.apd_mlme.specs.declared.decision.Out.{Out}
-use Rattle.apd_mlme.specs.declared.decision.Recipient.{Recipient}
-use Rattle.apd_store.specs.Image.{Shows}
-use Rattle.apd_core.specs.Core.{CoreState, front_of}
-use Rattle.apd_world.specs.CoreRun.{AreUnsettled, Goes, Settles}
-use Rattle.apd_world.specs.Proper.{IsProper, IsSafe}
-use Rattle.apd_world.specs.Run.{AreSteps, IsStep}
-use Rattle.apd_world.specs.Shown.{ShowsEither, ShowsFront}
-use Rattle.apd_world.specs.Steps.{Account, account, all_given, entered, given, heard_after, nothing_yet, one_more}
-use Rattle.apd_world.specs.Telling.{Tells}
-use Rattle.apd_world.specs.Outside.{device_of, IsSpoken}
-use Rattle.apd_world.specs.declared.step.Step.{Step}
-use Rattle.apd_world.specs.declared.step.Told.{Told}
-use Rattle.apd_world.specs.declared.durable_core.DurableCore.{DurableCore}
+-- Runs of a durable core, one after another, and what a stop at any moment since the first leaves.
+use Rattle.std.proofs.Common.{◌≡◌, ℕ, zero, suc, ◌≤◌, List, [], ◌∷◌, ◌++◌, length, take, drop, refl, sym, ap, subst, ◌∙◌, arith, append_assoc, length-append}
+use Rattle.std.specs.Prelude.{replicate}
+use Rattle.std.proofs.lemmas.List.{append-nil, take-append-le, take-append-drop}
+use Rattle.std.proofs.Math.Seq.{take-append_seam}
+use Rattle.apd_world.proofs.Words.{Account, AreSteps, AreUnsettled, Call, Conf, CoreState, DiskModel, DurableCore, Goes, Happening, HasSpoken, IsProper, IsRun, IsSafe, IsStep, LastHeard, LeavesOnly, Out, Publish, Recipient, Settles, Shows, ShowsEither, ShowsFlight, ShowsFront, State, Step, Told, account, all_entered, all_given, device_of, entered, front_of, given, heard_after, nothing_yet, one_more, round, run}
+use Rattle.apd_disk.proofs.Moments.{then_run, weaker}
 use Rattle.apd_world.proofs.Goings.{goes_then, goes_unchanged, run-append}
 use Rattle.apd_world.proofs.Standing.{shows_flight}
-
--- ---- a step more
-steps_push : {D : Type 0} (steps : List Step) (tolds : List Told) (x : Step) (t : Told) (a b c : DurableCore D) → AreSteps steps tolds a b → Tells x t b c → AreSteps (steps ++ x ∷ []) (tolds ++ t ∷ []) a c
-steps_push [] [] x t a b c past step = (c, subst (λ w. Tells x t w c) past step, refl)
-steps_push (y ∷ ys) (u ∷ us) x t a b c past step = (past.0, past.1, steps_push ys us x t past.0 b c past.2 step)
-steps_push [] (u ∷ us) x t a b c past step = absurd past
-steps_push (y ∷ ys) [] x t a b c past step = absurd past
 
 pub steps_length : {D : Type 0} (steps : List Step) (tolds : List Told) (a b : DurableCore D) → AreSteps steps tolds a b → length tolds ≡ length steps
 steps_length [] [] a b h = refl
 steps_length (y ∷ ys) (u ∷ us) a b h = ap suc (steps_length ys us h.0 b h.2)
-steps_length [] (u ∷ us) a b h = absurd h
-steps_length (y ∷ ys) [] a b h = absurd h
+steps_length ys us a b h = absurd h
 
-pub account_push : (confs : List Conf) (xs : List Step) (ts : List Told) (x : Step) (t : Told) (a : Account) → length ts ≡ length xs
-    → account confs (xs ++ x ∷ []) (ts ++ t ∷ []) a ≡ one_more confs x t (account confs xs ts a)
-account_push confs [] [] x t a e = refl
-account_push confs (y ∷ xs) (u ∷ ts) x t a e = account_push confs xs ts x t (one_more confs y u a) (omega (arith, e))
-account_push confs [] (u ∷ ts) x t a e = absurd (omega (arith, e))
-account_push confs (y ∷ xs) [] x t a e = absurd (omega (arith, e))
+-- ---- accounts of two lists
+account_append : (confs : List Conf) (xs ys : List Step) (ts us : List Told) (a : Account) → length ts ≡ length xs → account confs (xs ++ ys) (ts ++ us) a ≡ account confs ys us (account confs xs ts a)
+account_append confs [] ys [] us a e = refl
+account_append confs (x ∷ xs) ys (t ∷ ts) us a e = account_append confs xs ys ts us (one_more confs x t a) (omega (arith, e))
+account_append confs xs ys ts us a e = absurd (omega (arith, e))
 
-pub given_push : (r : Recipient) (xs : List Step) (ts : List Told) (x : Step) (t : Told) → length ts ≡ length xs → all_given r (xs ++ x ∷ []) (ts ++ t ∷ []) ≡ all_given r xs ts ++ given r x t
-given_push r [] [] x t e = append-nil (given r x t)
-given_push r (y ∷ xs) (u ∷ ts) x t e = ap (λ os. given r y u ++ os) (given_push r xs ts x t (omega (arith, e))) ∙ sym (append_assoc (given r y u) (all_given r xs ts) (given r x t))
-given_push r [] (u ∷ ts) x t e = absurd (omega (arith, e))
-given_push r (y ∷ xs) [] x t e = absurd (omega (arith, e))
+given_append : (r : Recipient) (xs ys : List Step) (ts us : List Told) → length ts ≡ length xs → all_given r (xs ++ ys) (ts ++ us) ≡ all_given r xs ts ++ all_given r ys us
+given_append r [] ys [] us e = refl
+given_append r (x ∷ xs) ys (t ∷ ts) us e = ap (λ os. given r x t ++ os) (given_append r xs ys ts us (omega (arith, e))) ∙ sym (append_assoc (given r x t) (all_given r xs ts) (all_given r ys us))
+given_append r xs ys ts us e = absurd (omega (arith, e))
+
+-- what happened before stands first, and changes no state and no moment
+happened_from : (confs : List Conf) (xs : List Step) (ts : List Told) (es : List Happening) (s : State) (h : LastHeard)
+    → (account confs xs ts (record { happened = es; state = s; heard = h })).happened ≡ es ++ (account confs xs ts (record { happened = []; state = s; heard = h })).happened
+happened_from confs [] ts es s h = sym (append-nil es)
+happened_from confs (x ∷ xs) [] es s h = sym (append-nil es)
+happened_from confs (x ∷ xs) (t ∷ ts) es s h =
+    let e = entered confs h x t in
+    let s' = run s confs e in
+    let h' = heard_after confs s h x t in
+    happened_from confs xs ts (es ++ e) s' h' ∙ append_assoc es e (account confs xs ts (record { happened = []; state = s'; heard = h' })).happened ∙ ap (λ os. es ++ os) (sym (happened_from confs xs ts e s' h'))
+
+heard_from : (confs : List Conf) (xs : List Step) (ts : List Told) (es : List Happening) (s : State) (h : LastHeard)
+    → (account confs xs ts (record { happened = es; state = s; heard = h })).heard ≡ (account confs xs ts (record { happened = []; state = s; heard = h })).heard
+heard_from confs [] ts es s h = refl
+heard_from confs (x ∷ xs) [] es s h = refl
+heard_from confs (x ∷ xs) (t ∷ ts) es s h =
+    let e = entered confs h x t in
+    let s' = run s confs e in
+    let h' = heard_after confs s h x t in
+    heard_from confs xs ts (es ++ e) s' h' ∙ sym (heard_from confs xs ts e s' h')
+
+-- the state is the one after what happened
+account_state : (confs : List Conf) (xs : List Step) (ts : List Told) (s : State) (a : Account) → a.state ≡ run s confs a.happened → (account confs xs ts a).state ≡ run s confs (account confs xs ts a).happened
+account_state confs [] ts s a e = e
+account_state confs (x ∷ xs) [] s a e = e
+account_state confs (x ∷ xs) (t ∷ ts) s a e =
+    let es = entered confs a.heard x t in
+    account_state confs xs ts s (one_more confs x t a) (ap (λ (z : State). run z confs es) e ∙ sym (run-append confs a.happened es s))
+
+-- ---- two runs of a durable core
+steps_then : {D : Type 0} (xs ys : List Step) (ts us : List Told) (a b c : DurableCore D) → AreSteps xs ts a b → AreSteps ys us b c → AreSteps (xs ++ ys) (ts ++ us) a c
+steps_then [] ys [] us a b c past step = subst (λ w. AreSteps ys us w c) past step
+steps_then (x ∷ xs) ys (t ∷ ts) us a b c past step = (past.0, past.1, steps_then xs ys ts us past.0 b c past.2 step)
+steps_then xs ys ts us a b c past step = absurd past
+
+module _ {D : Type 0} (xs ys : List Step) (ts us : List Told) (a b c : DurableCore D) (past : IsRun xs ts a b) (step : IsRun ys us b c) where
+  abbrev first : Account
+  first = account a.core.confs xs ts (nothing_yet a.core)
+
+  same_length : length ts ≡ length xs
+  same_length = steps_length xs ts a b past.steps_are
+
+  parts : account a.core.confs (xs ++ ys) (ts ++ us) (nothing_yet a.core) ≡ account a.core.confs ys us first
+  parts = account_append a.core.confs xs ys ts us (nothing_yet a.core) same_length
+
+  state_is : first.state ≡ front_of b.core
+  state_is = account_state a.core.confs xs ts (front_of a.core) (nothing_yet a.core) refl ∙ sym past.goes.front
+
+  second_is : account a.core.confs ys us (record { happened = []; state = first.state; heard = first.heard }) ≡ account b.core.confs ys us (nothing_yet b.core)
+  second_is = λ i. account (sym past.goes.confs i) ys us (record { happened = []; state = state_is i; heard = sym past.heard i })
+
+  pub entered_then : all_entered (xs ++ ys) (ts ++ us) a.core ≡ all_entered xs ts a.core ++ all_entered ys us b.core
+  entered_then =
+      ap (λ (z : Account). z.happened) parts ∙ happened_from a.core.confs ys us first.happened first.state first.heard
+      ∙ ap (λ (z : Account). first.happened ++ z.happened) second_is
+
+  pub runs_join : IsRun (xs ++ ys) (ts ++ us) a c
+  runs_join = record {
+    steps_are = steps_then xs ys ts us a b c past.steps_are step.steps_are;
+    goes =
+        let both = goes_then (all_entered xs ts a.core) (all_entered ys us b.core) (λ r. all_given r xs ts) (λ r. all_given r ys us) a.core b.core c.core past.goes step.goes in
+        subst (λ (g : Recipient → List Out). Goes (all_entered (xs ++ ys) (ts ++ us) a.core) g a.core c.core) (λ i r. sym (given_append r xs ys ts us same_length) i)
+        (subst (λ (es : List Happening). Goes es (λ r. all_given r xs ts ++ all_given r ys us) a.core c.core) (sym entered_then) both);
+    heard =
+        step.heard ∙ ap (λ (z : Account). z.heard) (sym second_is) ∙ sym (heard_from a.core.confs ys us first.happened first.state first.heard) ∙ ap (λ (z : Account). z.heard) (sym parts);
+    spoken = λ h. step.spoken (past.spoken h);
+  }
+
+pub no_run : {D : Type 0} (w : DurableCore D) → IsRun [] [] w w
+no_run w = record { steps_are = refl; goes = goes_unchanged w.core; heard = refl; spoken = λ h. h }
+
+pub one_run : {D : Type 0} (x : Step) (t : Told) (a b : DurableCore D) → IsStep x t a b → IsRun (x ∷ []) (t ∷ []) a b
+one_run x t a b step = record {
+  steps_are = (b, step.tells, refl);
+  goes = subst (λ (g : Recipient → List Out). Goes (entered a.core.confs a.core.heard x t) g a.core b.core) (λ i r. sym (append-nil (given r x t)) i) step.goes;
+  heard = step.heard;
+  spoken = step.spoken;
+}
+
+-- ---- nothing happens in a round, and nothing is given
+module _ (confs : List Conf) (s : State) (heard : LastHeard) where
+  abbrev none_yet : Account
+  none_yet = record { happened = []; state = s; heard = heard }
+
+  calls_enter_none : (n : ℕ) (tolds : List Told) → account confs (replicate n Call ++ Publish ∷ []) tolds none_yet ≡ none_yet
+  calls_enter_none zero [] = refl
+  calls_enter_none zero (t ∷ tolds) = refl
+  calls_enter_none (suc n) [] = refl
+  calls_enter_none (suc n) (t ∷ tolds) = calls_enter_none n tolds
+
+  pub round_enters_none : (n : ℕ) (tolds : List Told) → account confs (round n) tolds none_yet ≡ none_yet
+  round_enters_none n [] = refl
+  round_enters_none n (t ∷ tolds) = calls_enter_none n tolds
+
+calls_give_none : (r : Recipient) (n : ℕ) (tolds : List Told) → all_given r (replicate n Call ++ Publish ∷ []) tolds ≡ []
+calls_give_none r zero [] = refl
+calls_give_none r zero (t ∷ tolds) = refl
+calls_give_none r (suc n) [] = refl
+calls_give_none r (suc n) (t ∷ tolds) = calls_give_none r n tolds
+
+pub round_gives_none : (r : Recipient) (n : ℕ) (tolds : List Told) → all_given r (round n) tolds ≡ []
+round_gives_none r n [] = refl
+round_gives_none r n (t ∷ tolds) = calls_give_none r n tolds
 
 -- ---- fronts
 module _ (s : State) (confs : List Conf) (c : List ℕ) where
   -- the state after a front is shown
-  pub shows_front : (whole front rest : List Happening) → whole ≡ front ++ rest → Shows c (run s confs front) → ShowsFront s confs whole c
+  abbrev shows_front : (whole front rest : List Happening) → whole ≡ front ++ rest → Shows c (run s confs front) → ShowsFront s confs whole c
   shows_front whole front rest parts shows =
       let lengths = ap length parts ∙ length-append front rest in
       let is : take (length front) whole ≡ front = ap (take (length front)) parts ∙ take-append_seam front rest in
@@ -68,105 +145,49 @@ module _ (s : State) (confs : List Conf) (c : List ℕ) where
       let is : take h.count whole ≡ take h.count hs = ap (take h.count) parts ∙ take-append-le h.count hs more within in
       record { count = h.count; within = omega (arith, lengths, within); shows = subst (λ xs. Shows c (run s confs xs)) (sym is) h.shows }
 
--- what a stop shows of a core is the state after a front of what was not settled some time before, and of what happened since
-pub shows_later : (a b : CoreState) (hs es : List Happening) (g : Recipient → List Out) → b.confs ≡ a.confs → Settles hs es g a b → (more : List Happening) (c : List ℕ) → ShowsEither b c
-    → ShowsFront a.settled a.confs (hs ++ (es ++ more)) c
-shows_later a b hs es g confs settles more c either =
-    let flight = shows_flight b settles.left settles.decided c either in
-    let front = take flight.count settles.left in
-    let rest = drop flight.count settles.left in
-    let parts : hs ++ (es ++ more) ≡ (settles.settled ++ front) ++ (rest ++ more) =
-    sym (append_assoc hs es more) ∙ ap (λ xs. xs ++ more) (settles.split ∙ ap (λ xs. settles.settled ++ xs) (sym (take-append-drop flight.count settles.left)) ∙ sym (append_assoc settles.settled front rest))
-    ∙ append_assoc (settles.settled ++ front) rest more in
-    let is : run b.settled b.confs front ≡ run a.settled a.confs (settles.settled ++ front) =
-    (λ i. run (settles.state i) (confs i) front) ∙ sym (run-append a.confs settles.settled front a.settled) in
-    shows_front a.settled a.confs c (hs ++ (es ++ more)) (settles.settled ++ front) (rest ++ more) parts (subst (Shows c) is flight.shows)
+-- what is shown of a core some time later is shown of it before, and what was settled since is in it
+pub front_later : (a b : CoreState) (hs es fs : List Happening) (g : Recipient → List Out) → b.confs ≡ a.confs → (settles : Settles hs es g a b) → (n : ℕ) → n ≤ b.number → (c : List ℕ)
+    → ShowsFront b.settled b.confs (settles.left ++ fs) c → HasSpoken a (hs ++ (es ++ fs)) n c
+front_later a b hs es fs g confs settles n most c h =
+    let left = settles.left ++ fs in
+    let front = settles.settled ++ take h.count left in
+    let rest = drop h.count left in
+    let parts : hs ++ (es ++ fs) ≡ front ++ rest =
+    sym (append_assoc hs es fs) ∙ ap (λ xs. xs ++ fs) settles.split ∙ append_assoc settles.settled settles.left fs ∙ ap (λ xs. settles.settled ++ xs) (sym (take-append-drop h.count left))
+    ∙ sym (append_assoc settles.settled (take h.count left) rest) in
+    let is : run b.settled b.confs (take h.count left) ≡ run a.settled a.confs front =
+    (λ i. run (settles.state i) (confs i) (take h.count left)) ∙ sym (run-append a.confs settles.settled (take h.count left) a.settled) in
+    let one = length-append settles.settled (take h.count left) in
+    let number = settles.number in
+    record { front = shows_front a.settled a.confs c (hs ++ (es ++ fs)) front rest parts (subst (Shows c) is h.shows); holds = omega (arith, most, number, one) }
 
+-- what a stop shows of a core is the state after a front of what was not settled
+pub front_of_flight : (s : CoreState) (hs more : List Happening) (c : List ℕ) → ShowsFlight s hs c → ShowsFront s.settled s.confs (hs ++ more) c
+front_of_flight s hs more c flight =
+    let front = take flight.count hs in
+    let rest = drop flight.count hs in
+    shows_front s.settled s.confs c (hs ++ more) front (rest ++ more) (ap (λ xs. xs ++ more) (sym (take-append-drop flight.count hs)) ∙ append_assoc front rest more) flight.shows
+
+pub flight_front : (s : CoreState) (hs more : List Happening) → AreUnsettled hs s → (c : List ℕ) → ShowsEither s c → ShowsFront s.settled s.confs (hs ++ more) c
+flight_front s hs more u c either = front_of_flight s hs more c (shows_flight s hs u c either)
+
+-- ---- what a stop at any moment leaves
 module _ {D : Type 0} (disk : DiskModel D) where
-  abbrev accounted : List Step → List Told → DurableCore D → Account
-  accounted xs ts a = account a.core.confs xs ts (nothing_yet a.core)
+  -- a front of what was not settled, and then of this
+  abbrev pub Moments : List Happening → DurableCore D → DurableCore D → Type 0
+  Moments es a b = IsProper disk a → (hs : List Happening) → AreUnsettled hs a.core → LeavesOnly disk (device_of a) (device_of b) (ShowsFront a.core.settled a.core.confs (hs ++ es))
 
-  -- so many steps were made
-  pub record IsDriven (steps : List Step) (tolds : List Told) (old new : DurableCore D) : Type 0 where
-    pub steps_are : AreSteps steps tolds old new
-    pub goes : Goes (accounted steps tolds old).happened (λ r. all_given r steps tolds) old.core new.core
-    pub state : front_of new.core ≡ (accounted steps tolds old).state
-    pub heard : new.core.heard ≡ (accounted steps tolds old).heard
-    pub spoken : IsSpoken old → IsSpoken new
-    pub proper : IsProper disk old → IsProper disk new
-    pub any_moment : IsProper disk old → (hs : List Happening) → AreUnsettled hs old.core
-        → LeavesOnly disk (device_of old) (device_of new) (ShowsFront old.core.settled old.core.confs (hs ++ (accounted steps tolds old).happened))
+  pub safe_moments : (es : List Happening) (a b : DurableCore D) → IsSafe disk a b → Moments es a b
+  safe_moments es a b safe = λ p hs u.
+      weaker disk (device_of a) (device_of b) (ShowsEither a.core) (ShowsFront a.core.settled a.core.confs (hs ++ es)) (flight_front a.core hs es u) (safe.inside p)
 
-  -- none
-  pub none_driven : (w : DurableCore D) → (IsProper disk w → (image : List ℕ) → disk.left_since (device_of w) (disk.moment (device_of w)) image → ShowsEither w.core image) → IsDriven [] [] w w
-  none_driven w stops = record {
-    steps_are = refl;
-    goes = goes_unchanged w.core;
-    state = refl;
-    heard = refl;
-    spoken = λ h. h;
-    proper = λ p. p;
-    any_moment = λ p hs u. started disk (device_of w) (ShowsFront w.core.settled w.core.confs (hs ++ []))
-        (λ c left.
-        let flight = shows_flight w.core hs u c (stops p c left) in
-        shows_front w.core.settled w.core.confs c (hs ++ []) (take flight.count hs) (drop flight.count hs) (append-nil hs ∙ sym (take-append-drop flight.count hs)) flight.shows);
-  }
-
-  -- one more
-  module _ (xs : List Step) (ts : List Told) (x : Step) (t : Told) (a b c : DurableCore D) (past : IsDriven xs ts a b) (step : IsStep x t b c) (safe : IsSafe disk b c) where
-    abbrev before : Account
-    before = accounted xs ts a
-
-    abbrev es : List Happening
-    es = entered a.core.confs before.heard x t
-
-    same_length : length ts ≡ length xs
-    same_length = steps_length xs ts a b past.steps_are
-
-    pushed : accounted (xs ++ x ∷ []) (ts ++ t ∷ []) a ≡ one_more a.core.confs x t before
-    pushed = account_push a.core.confs xs ts x t (nothing_yet a.core) same_length
-
-    same_entered : entered b.core.confs b.core.heard x t ≡ es
-    same_entered = λ i. entered (past.goes.confs i) (past.heard i) x t
-
-    more_goes : Goes (before.happened ++ es) (λ r. all_given r (xs ++ x ∷ []) (ts ++ t ∷ [])) a.core c.core
-    more_goes =
-        let own : Goes es (λ r. given r x t) b.core c.core = subst (λ (hs : List Happening). Goes hs (λ r. given r x t) b.core c.core) same_entered step.goes in
-        let both = goes_then before.happened es (λ r. all_given r xs ts) (λ r. given r x t) a.core b.core c.core past.goes own in
-        subst (λ (g : Recipient → List Out). Goes (before.happened ++ es) g a.core c.core) (λ i r. sym (given_push r xs ts x t same_length) i) both
-
-    more_moments : IsProper disk a → (hs : List Happening) → AreUnsettled hs a.core
-        → LeavesOnly disk (device_of a) (device_of c) (ShowsFront a.core.settled a.core.confs (hs ++ (before.happened ++ es)))
-    more_moments p hs u =
-        let S = a.core.settled in
-        let confs = a.core.confs in
-        let whole = hs ++ (before.happened ++ es) in
-        let settles = past.goes.settles hs u in
-        then_run disk (device_of a) (device_of b) (device_of c) (ShowsFront S confs whole)
-        (weaker disk (device_of a) (device_of b) (ShowsFront S confs (hs ++ before.happened)) (ShowsFront S confs whole)
-        (λ image. shows_more S confs image (hs ++ before.happened) es whole (sym (append_assoc hs before.happened es))) (past.any_moment p hs u))
-        (weaker disk (device_of b) (device_of c) (ShowsEither b.core) (ShowsFront S confs whole)
-        (shows_later a.core b.core hs before.happened (λ r. all_given r xs ts) past.goes.confs settles es) (safe.inside (past.proper p)))
-
-    pub one_driven : IsDriven (xs ++ x ∷ []) (ts ++ t ∷ []) a c
-    one_driven = record {
-      steps_are = steps_push xs ts x t a b c past.steps_are step.tells;
-      goes = subst (λ (z : Account). Goes z.happened (λ r. all_given r (xs ++ x ∷ []) (ts ++ t ∷ [])) a.core c.core) (sym pushed) more_goes;
-      state = step.goes.front ∙ (λ i. run (past.state i) (past.goes.confs i) (same_entered i)) ∙ ap (λ (z : Account). z.state) (sym pushed);
-      heard = step.heard ∙ (λ i. heard_after (past.goes.confs i) (past.state i) (past.heard i) x t) ∙ ap (λ (z : Account). z.heard) (sym pushed);
-      spoken = λ h. step.spoken (past.spoken h);
-      proper = λ p. safe.proper (past.proper p);
-      any_moment = λ p hs u. subst (λ (z : Account). LeavesOnly disk (device_of a) (device_of c) (ShowsFront a.core.settled a.core.confs (hs ++ z.happened))) (sym pushed) (more_moments p hs u);
-    }
-
-  -- the next of these
-  pub next_driven : (steps : List Step) (i : ℕ) (ts us : List Told) (d : Step) (t : Told) (a b c : DurableCore D) → IsDriven (take i steps) ts a b → i < length steps
-      → IsStep (get_or steps i d) t b c → IsSafe disk b c → us ≡ ts ++ t ∷ [] → IsDriven (take (i + 1) steps) us a c
-  next_driven steps i ts us d t a b c past lt step safe now =
-      let x = get_or steps i d in
-      let more : take (i + 1) steps ≡ take i steps ++ x ∷ [] = ap (λ n. take n steps) (add-one i) ∙ take-suc steps i d lt in
-      subst (λ vs. IsDriven (take (i + 1) steps) vs a c) (sym now) (subst (λ ys. IsDriven ys (ts ++ t ∷ []) a c) (sym more) (one_driven (take i steps) ts x t a b c past step safe))
-
-  -- all of them
-  pub all_driven : (steps : List Step) (i : ℕ) (ts : List Told) (a b : DurableCore D) → length steps ≤ i → IsDriven (take i steps) ts a b → IsDriven steps ts a b
-  all_driven steps i ts a b most h = subst (λ xs. IsDriven xs ts a b) (take_all i steps most) h
+  pub moments_then : (es fs : List Happening) (g : Recipient → List Out) (a b c : DurableCore D) → Goes es g a.core b.core → Moments es a b → (IsProper disk a → IsProper disk b) → Moments fs b c → Moments (es ++ fs) a c
+  moments_then es fs g a b c goes past stays step = λ p hs u.
+      let S = a.core.settled in
+      let confs = a.core.confs in
+      let whole = hs ++ (es ++ fs) in
+      let settles = goes.settles hs u in
+      then_run disk (device_of a) (device_of b) (device_of c) (ShowsFront S confs whole)
+      (weaker disk (device_of a) (device_of b) (ShowsFront S confs (hs ++ es)) (ShowsFront S confs whole) (λ image. shows_more S confs image (hs ++ es) fs whole (sym (append_assoc hs es fs))) (past p hs u))
+      (weaker disk (device_of b) (device_of c) (ShowsFront b.core.settled b.core.confs (settles.left ++ fs)) (ShowsFront S confs whole)
+      (λ image h. (front_later a.core b.core hs es fs g goes.confs settles 0 (omega arith) image h).front) (step (stays p) settles.left settles.decided))

@@ -1,181 +1,150 @@
 -- What ends a start or a flush early.
-use Rattle.std.proofs.Common.{true, ⊎_elim, Result, Ok, Err, ◌≡◌, ℕ, zero, suc, List, [], ◌∷◌, ◌++◌, refl, sym, ap, subst, ◌∙◌}
-use Rattle.std.specs.Prelude.{IfErr, OnErr, replicate}
-use Rattle.apd_disk.specs.Disk.{DiskModel}
-use Rattle.apd_core.specs.Core.{CoreState}
-use Rattle.apd_radio.specs.Model.{RadioModel}
-use Rattle.apd_store.specs.declared.fault.StoreFault.{StoreFault}
+use Rattle.std.proofs.Common.{◌⊎◌, inl, inr, ⊎_elim, Result, Ok, Err, None, Some, true, ◌≡◌, ℕ, zero, suc, List, [], ◌∷◌, ◌++◌, refl, sym, ap, subst, ◌∙◌, arith}
+use Rattle.std.specs.List.{All}
+use Rattle.std.specs.Option.{unwrap_or}
+use Rattle.std.specs.Prelude.{IfErr, IsErrAnd, OnErr, OnOk, replicate}
+use Rattle.std.proofs.lemmas.List.Elements.{All-cons, All-nil}
+use Rattle.std.proofs.lemmas.Result.{IfErr-weaker}
+use Rattle.apd_world.proofs.Words.{AreSafelyMade, Call, Called, ComesTo, Commit, DiskModel, DurableCore, GoesQuietly, HasGoneUnrefused, HasNoBatch, HasNoCall, HasNoReceipt, IsAtRest, IsNoRefusal, IsRound, IsWhole, Loaded, NoMemory, Nothing, Publish, Published, RadioModel, Step, StoreFault, Take, Tells, Told, World, WorldFault, answer_of, durable_of, flusher_of, phase_of, round, said, waiting_receipt}
 use Rattle.apd_store.specs.declared.fault.StoreFault.TheVariants as store_fault
-use Rattle.apd_world.specs.Round.{ComesTo, round}
-use Rattle.apd_world.specs.Run.{AreSteps}
-use Rattle.apd_world.specs.WorldParts.{durable_of}
-use Rattle.apd_world.specs.Starting.{Ends, HasEnded, HasFailedCore, HasGoneOn, IsUnfinished, IsWorldRound}
-use Rattle.apd_world.specs.Telling.{Tells, after_call}
-use Rattle.apd_world.specs.WorldRun.{IsWorldRun}
-use Rattle.apd_world.specs.declared.durable_core.DurableCore.{DurableCore}
-use Rattle.apd_world.specs.declared.fault.WorldFault.{WorldFault}
+use Rattle.apd_core.specs.declared.publish_fault.PublishFault.TheVariants as publish_fault
+use Rattle.apd_flusher.specs.Committing.{IsInStep}
+use Rattle.apd_flusher.specs.declared.phase.Phase.TheVariants.{Done, Idle}
+use Rattle.apd_world.specs.StepsMade.{AreSettled}
+use Rattle.apd_world.specs.Starting.{Ends, HasEnded, HasFailedCore, IsEnd, IsNoOtherRefusal}
+use Rattle.apd_world.specs.WorldRun.{AreWorldSteps}
 use Rattle.apd_world.specs.declared.fault.WorldFault.TheVariants as world_fault
-use Rattle.apd_world.specs.declared.step.Commit.{Commit}
 use Rattle.apd_world.specs.declared.step.Commit.TheVariants as commit
-use Rattle.apd_world.specs.declared.step.Step.{Step}
-use Rattle.apd_world.specs.declared.step.Step.TheVariants.{Take, Call, Publish}
-use Rattle.apd_world.specs.declared.step.Told.{Told}
-use Rattle.apd_world.specs.declared.step.Told.TheVariants.{Accepted, Loaded, Called, Published, Handed, Queued, Answered, Applied, Nothing, NoMemory}
-use Rattle.apd_world.specs.declared.world.World.{World}
-use Rattle.apd_world.proofs.RunLemmas.{gone_then}
-use Rattle.apd_world.proofs.StepLemmas.{next_core}
+use Rattle.apd_world.proofs.RunLemmas.{AreRounds, IsUnrefused, failures, gone_rounds, gone_then, risen_since, round_more, unrefused_then}
+use Rattle.apd_world.proofs.RoundLemmas.{no_call_left}
+use Rattle.apd_world.proofs.Speaking.{steps_speak}
+use Rattle.apd_world.proofs.Standing.{can_take_none, none_some}
 
--- ---- a core that has failed stays so
-failed_called : (result : Result (Unit {0}) StoreFault) (s : CoreState) → s.failed ≡ true → (after_call result s).failed ≡ true
-failed_called (Ok x) s was = was
-failed_called (Err store_fault.Device) s was = refl
-failed_called (Err store_fault.Failed) s was = was
-failed_called (Err store_fault.NoMemory) s was = was
-failed_called (Err store_fault.Worn) s was = was
-failed_called (Err store_fault.NotAStore) s was = was
-failed_called (Err store_fault.Damaged) s was = was
-failed_called (Err store_fault.NotIdle) s was = was
-failed_called (Err store_fault.BadBatch) s was = was
-
-failed_alike : {D : Type 0} (v w : DurableCore D) → w ≡ v → v.core.failed ≡ true → w.core.failed ≡ true
-failed_alike {D = D} v w same was = ap (λ (x : DurableCore D). x.core.failed) same ∙ was
-
-failed_taken : {D : Type 0} (told : Told) (v w : DurableCore D) → Tells Take told v w → v.core.failed ≡ true → w.core.failed ≡ true
-failed_taken (Loaded r) v w h was = ap (λ (s : CoreState). s.failed) (next_core h.batch v w.core h.next) ∙ was
-failed_taken Nothing v w h was = failed_alike v w h.1 was
-failed_taken NoMemory v w h was = failed_alike v w h.1 was
-failed_taken (Accepted r) v w h was = absurd h
-failed_taken (Called r) v w h was = absurd h
-failed_taken (Published r) v w h was = absurd h
-failed_taken (Handed r) v w h was = absurd h
-failed_taken (Queued r) v w h was = absurd h
-failed_taken (Answered r) v w h was = absurd h
-failed_taken (Applied o r) v w h was = absurd h
-
-failed_call : {D : Type 0} (told : Told) (v w : DurableCore D) → Tells Call told v w → v.core.failed ≡ true → w.core.failed ≡ true
-failed_call {D = D} (Called r) v w h was = ap (λ (x : DurableCore D). x.core.failed) h.only ∙ failed_called r v.core was
-failed_call Nothing v w h was = failed_alike v w h.1 was
-failed_call NoMemory v w h was = absurd h
-failed_call (Accepted r) v w h was = absurd h
-failed_call (Loaded r) v w h was = absurd h
-failed_call (Published r) v w h was = absurd h
-failed_call (Handed r) v w h was = absurd h
-failed_call (Queued r) v w h was = absurd h
-failed_call (Answered r) v w h was = absurd h
-failed_call (Applied o r) v w h was = absurd h
-
-failed_published : {D : Type 0} (told : Told) (v w : DurableCore D) → Tells Publish told v w → v.core.failed ≡ true → w.core.failed ≡ true
-failed_published (Published (Ok x)) v w h was = ap (λ (s : CoreState). s.failed) h.tells.1 ∙ was
-failed_published (Published (Err fault)) v w h was = ap (λ (s : CoreState). s.failed) h.tells.1 ∙ was
-failed_published Nothing v w h was = failed_alike v w h.1 was
-failed_published NoMemory v w h was = absurd h
-failed_published (Accepted r) v w h was = absurd h
-failed_published (Loaded r) v w h was = absurd h
-failed_published (Called r) v w h was = absurd h
-failed_published (Handed r) v w h was = absurd h
-failed_published (Queued r) v w h was = absurd h
-failed_published (Answered r) v w h was = absurd h
-failed_published (Applied o r) v w h was = absurd h
-
-failed_last : {D : Type 0} (tolds : List Told) (v w : DurableCore D) → AreSteps (Publish ∷ []) tolds v w → v.core.failed ≡ true → w.core.failed ≡ true
-failed_last [] v w h was = absurd h
-failed_last (told ∷ []) v w h was = failed_alike h.0 w h.2 (failed_published told v h.0 h.1 was)
-failed_last (told ∷ other ∷ tolds) v w h was = absurd h.2
-
-failed_calls : {D : Type 0} (calls : ℕ) (tolds : List Told) (v w : DurableCore D) → AreSteps (replicate calls Call ++ Publish ∷ []) tolds v w → v.core.failed ≡ true → w.core.failed ≡ true
-failed_calls zero tolds v w h was = failed_last tolds v w h was
-failed_calls (suc n) [] v w h was = absurd h
-failed_calls (suc n) (told ∷ tolds) v w h was = failed_calls n tolds h.0 w h.2 (failed_call told v h.0 h.1 was)
-
-failed_round : {D : Type 0} (calls : ℕ) (tolds : List Told) (v w : DurableCore D) → AreSteps (round calls) tolds v w → v.core.failed ≡ true → w.core.failed ≡ true
-failed_round calls [] v w h was = absurd h
-failed_round calls (told ∷ tolds) v w h was = failed_calls calls tolds h.0 w h.2 (failed_taken told v h.0 h.1 was)
+-- ---- an error that `?` makes
+pub if_residual : {A E : Type 0} (P : E → Type 0) (r : Result A E) (e : E) → IsErrAnd r (λ x. x ≡ e) → P e → IfErr r P
+if_residual P (Ok x) e is p = absurd is
+if_residual P (Err x) e is p = subst P (sym is) p
 
 -- ---- where memory is refused, no failure is told
-pub if_err_is : {A E : Type 0} (P : E → Type 0) (r : Result A E) (e : E) → r ≡ Err e → P e → IfErr r P
-if_err_is {A = A} {E = E} P r e is p = subst (λ (x : Result A E). IfErr x P) (sym is) p
-
 pub memory_fails : {D R : Type 0} (fault : WorldFault) (b : World D R) → fault ≡ world_fault.NoMemory → HasFailedCore fault b
 memory_fails fault b is = subst (λ (e : WorldFault). HasFailedCore e b) (sym is) tt
 
 pub memory_fails_none : {D R A : Type 0} (r : Result A WorldFault) (b : World D R) → IfErr r (λ fault. fault ≡ world_fault.NoMemory) → IfErr r (λ fault. HasFailedCore fault b)
-memory_fails_none (Ok x) b is = tt
-memory_fails_none (Err fault) b is = memory_fails fault b is
+memory_fails_none r b = IfErr-weaker r _ _ (λ fault. memory_fails fault b)
 
-module _ {D R : Type 0} (radio : RadioModel R) where
+-- the device is told as failed where the round told it
+device_told : {D : Type 0} (answer : Commit) (fault : StoreFault) (w : DurableCore D) → Ends answer fault w → fault ≡ store_fault.Device → answer ≡ commit.Refused store_fault.Device
+device_told (commit.Refused told) fault w ends is = ap commit.Refused (sym ends ∙ is)
+device_told commit.Nothing fault w ends is = absurd (let no : store_fault.Failed ≡ store_fault.Device = sym ends.0 ∙ is in cc)
+device_told commit.Foreign fault w ends is = absurd (let no : store_fault.Failed ≡ store_fault.Device = sym ends ∙ is in cc)
+device_told answer fault w ends is = absurd ends
+
+failed_core : {D : Type 0} (disk : DiskModel D) (old new : DurableCore D) (answer : Commit) → Ends answer store_fault.Failed new → ComesTo disk answer old new → (old.core.failed ≡ true → new.core.failed ≡ true) → new.core.failed ≡ true
+failed_core disk old new (commit.Refused told) ends comes still = still (subst (λ (e : StoreFault). ComesTo disk (commit.Refused e) old new) (sym ends) comes)
+failed_core disk old new commit.Nothing ends comes still =
+    ⊎_elim still (λ none. ⊎_elim (λ fails. fails) (λ some. absurd (some (ap (λ (w : DurableCore _). w.core.unsettled) comes.0 ∙ none))) ends.1) comes.1
+failed_core disk old new commit.Foreign ends comes still = absurd comes
+failed_core disk old new answer ends comes still = absurd ends
+
+-- ---- a round that comes to want of memory
+module _ {D R : Type 0} (disk : DiskModel D) (radio : RadioModel R) where
+  -- no call and no receipt is left, or want of memory is said
+  abbrev IsShort : DurableCore D → Commit → Type 0
+  IsShort w answer = (HasNoCall w × HasNoReceipt w) ⊎ (answer ≡ commit.NoMemory)
+
+  publish_short : (t : Told) (d e : DurableCore D) → Tells Publish t d e → IsShort d (unwrap_or (said t) commit.Nothing) → IsNoOtherRefusal t
+  publish_short (Published (Ok x)) d e h way = inl tt
+  publish_short (Published (Err publish_fault.NoMemory)) d e h way = inr refl
+  publish_short (Published (Err publish_fault.Foreign)) d e h way = ⊎_elim
+      (λ none. ⊎_elim (λ waits. none_some (waiting_receipt d.committer) h.receipt none.1.0 waits.0) (λ given. absurd (none.1.1 given.1.done)) h.next)
+      (λ is. absurd (let no : commit.Foreign ≡ commit.NoMemory = is in cc)) way
+  publish_short Nothing d e h way = inl tt
+  publish_short t d e h way = absurd h
+
+  call_short : (t : Told) (rest : Commit) (d e : DurableCore D) → Tells Call t d e → IsShort d (unwrap_or (said t) rest) → IsNoOtherRefusal t × IsShort e rest
+  call_short (Called (Ok x)) rest d e h way = (inl tt, ⊎_elim (λ none. no_call_left (phase_of (flusher_of d)) none.0 h.some_call) (λ is. inr is) way)
+  call_short (Called (Err fault)) rest d e h way =
+      ⊎_elim (λ none. no_call_left (phase_of (flusher_of d)) none.0 h.some_call) (λ is. absurd (let no : commit.Refused fault ≡ commit.NoMemory = is in cc)) way
+  call_short Nothing rest d e h way = (inl tt, subst (λ w. IsShort w rest) (sym h.1) way)
+  call_short t rest d e h way = absurd h
+
+  calls_short : (n : ℕ) (is ts : List Told) (a b : World D R) → AreWorldSteps radio (replicate n Call ++ Publish ∷ []) is ts a b → IsShort (durable_of a) (answer_of ts) → All IsNoOtherRefusal ts
+  calls_short zero (i ∷ []) (t ∷ []) a b h way =
+      All-cons IsNoOtherRefusal t [] (publish_short t (durable_of a) (durable_of h.0) (subst (λ z. Tells Publish z (durable_of a) (durable_of h.0)) (sym h.2.0) h.1) way) (All-nil IsNoOtherRefusal)
+  calls_short (suc n) (i ∷ is) (t ∷ ts) a b h way =
+      let one = call_short t (answer_of ts) (durable_of a) (durable_of h.0) (subst (λ z. Tells Call z (durable_of a) (durable_of h.0)) (sym h.2.0) h.1) way in
+      All-cons IsNoOtherRefusal t ts one.0 (calls_short n is ts h.0 b h.3 one.1)
+  calls_short zero (i ∷ is) (t ∷ ts) a b h way = absurd h.3
+  calls_short n is ts a b h way = absurd h
+
+  -- a core that can give a batch has none in flight, so no call and no receipt is left
+  take_short : (t : Told) (rest : Commit) (d e : DurableCore D) → Tells Take t d e → IsWhole disk d → unwrap_or (said t) rest ≡ commit.NoMemory → IsNoOtherRefusal t × IsShort e rest
+  take_short (Loaded (Ok x)) rest d e h whole is = (inl tt, inr is)
+  take_short (Loaded (Err fault)) rest d e h whole is = absurd (let no : commit.Refused fault ≡ commit.NoMemory = is in cc)
+  take_short Nothing rest d e h whole is = (inl tt, inr is)
+  take_short NoMemory rest d e h whole is =
+      let between : IsInStep d.committer d.core.settled None d.core.failed = subst (λ o. IsInStep d.committer d.core.settled o d.core.failed) (can_take_none d.core h.0.1) whole.in_step in
+      (inl tt, subst (λ w. IsShort w rest) (sym h.1) (inl (inl between.idle, (between.receipt, λ done. let no : Idle ≡ Done = sym between.idle ∙ done in cc))))
+  take_short t rest d e h whole is = absurd h
+
+  round_short : (n : ℕ) (is ts : List Told) (a b : World D R) → AreWorldSteps radio (round n) is ts a b → IsWhole disk (durable_of a) → commit.NoMemory ≡ answer_of ts → All IsNoOtherRefusal ts
+  round_short n (i ∷ is) (t ∷ ts) a b h whole is_short =
+      let one = take_short t (answer_of ts) (durable_of a) (durable_of h.0) (subst (λ z. Tells Take z (durable_of a) (durable_of h.0)) (sym h.2.0) h.1) whole (sym is_short) in
+      All-cons IsNoOtherRefusal t ts one.0 (calls_short n is ts h.0 b h.3 one.1)
+  round_short n is ts a b h whole is_short = absurd h
+
+module _ {D R : Type 0} (disk : DiskModel D) (radio : RadioModel R) where
   -- ---- what a last round ends
-  pub ended_refused : (fault : StoreFault) (answer : Commit) (a b c : World D R) → HasGoneOn radio a b → IsWorldRound radio answer b c → answer ≡ commit.Refused fault
-      → HasEnded radio (world_fault.Store fault) a c
-  ended_refused fault answer a b c before one is =
-      record { last = b; before = before; answer = answer; round_is = one; ends = subst (λ (x : Commit). Ends x fault (durable_of c)) (sym is) refl }
+  module _ (answer : Commit) (a b c : World D R) (before : AreRounds disk radio a b) (one : IsRound disk radio answer b c) where
+    pub ends_ok : GoesQuietly (durable_of b).core (durable_of c).core
+        → (answer ≡ commit.Nothing → HasNoBatch (durable_of b) × HasNoCall (durable_of b) × HasNoReceipt (durable_of b) × (durable_of c ≡ durable_of b))
+        → (r : Result (Unit {0}) WorldFault) → IsEnd answer (durable_of c) (Some r) → OnOk r (AreSettled disk radio a c)
+    ends_ok quiet nothing (Ok x) end =
+        let more = round_more disk radio answer a b c before one quiet (subst IsUnrefused (sym end.0) tt) in
+        let none = nothing end.0 in
+        record {
+          calls = more.calls;
+          tolds = more.tolds;
+          none = more.none;
+          made = more.made;
+          settled = end.2;
+          works = end.1;
+          rests = subst IsAtRest (sym none.3) (record { batch = none.0; call = none.1; receipt = none.2 });
+        }
+    ends_ok quiet nothing (Err fault) end = tt
 
-  pub ended_by_none : (answer : Commit) (a b c : World D R) → HasGoneOn radio a b → IsWorldRound radio answer b c → answer ≡ commit.Nothing → IsUnfinished (durable_of c)
-      → HasEnded radio (world_fault.Store store_fault.Failed) a c
-  ended_by_none answer a b c before one is left =
-      record { last = b; before = before; answer = answer; round_is = one; ends = subst (λ (x : Commit). Ends x store_fault.Failed (durable_of c)) (sym is) (refl, left) }
+    pub ends_err : (r : Result (Unit {0}) WorldFault) → IsEnd answer (durable_of c) (Some r) → IfErr r (λ fault. HasEnded disk radio fault a c)
+    ends_err (Ok x) end = tt
+    ends_err (Err (world_fault.Store fault)) end =
+        let gone = (gone_rounds disk radio a b before).gone_on in
+        record { last = b; before = gone; answer = answer; round_is = one; ends = end; risen = λ is. risen_since (failures disk radio a) (failures disk radio b) (failures disk radio c) (one.risen (device_told answer fault (durable_of c) end is)) gone.made.count one.made.count }
+    ends_err (Err (world_fault.Slot at fault)) end = absurd end
+    ends_err (Err world_fault.NoMemory) end =
+        let last = subst (λ (x : Commit). IsRound disk radio x b c) end one in
+        record { last = b; before = gone_rounds disk radio a b before; way = inr (record { round_is = last; none = λ whole. round_short disk radio last.calls last.made.run.insides last.tolds b c last.made.run.steps_are whole last.answer_is }) }
 
-  pub ended_by_another : (answer : Commit) (a b c : World D R) → HasGoneOn radio a b → IsWorldRound radio answer b c → answer ≡ commit.Foreign
-      → HasEnded radio (world_fault.Store store_fault.Failed) a c
-  ended_by_another answer a b c before one is =
-      record { last = b; before = before; answer = answer; round_is = one; ends = subst (λ (x : Commit). Ends x store_fault.Failed (durable_of c)) (sym is) refl }
+    -- where it is told that the store has failed, the core has
+    still_fails : (durable_of b).core.failed ≡ true → (durable_of c).core.failed ≡ true
+    still_fails = (steps_speak (round one.calls) one.made.run.insides (durable_of b) (durable_of c) one.made.run.run.steps_are).failed
 
-  -- it is ended also where other steps were made before
-  pub ended_then : (fault : WorldFault) (xs : List Step) (ts : List Told) (a b c : World D R) → IsWorldRun radio xs ts a b → HasEnded radio fault b c → HasEnded radio fault a c
-  ended_then (world_fault.Store fault) xs ts a b c past h =
-      record { last = h.last; before = gone_then radio xs ts a b h.last past h.before; answer = h.answer; round_is = h.round_is; ends = h.ends }
-  ended_then (world_fault.Slot at fault) xs ts a b c past h = absurd h
-  ended_then world_fault.NoMemory xs ts a b c past h = gone_then radio xs ts a b c past h
+    pub ends_failed : (r : Result (Unit {0}) WorldFault) → IsEnd answer (durable_of c) (Some r) → ComesTo disk answer (durable_of b) (durable_of c) → IfErr r (λ fault. HasFailedCore fault c)
+    ends_failed (Err (world_fault.Store store_fault.Failed)) end comes = failed_core disk (durable_of b) (durable_of c) answer end comes still_fails
+    ends_failed r end comes = tt
 
-  pub if_ended_then : {A : Type 0} (r : Result A WorldFault) (xs : List Step) (ts : List Told) (a b c : World D R) → IsWorldRun radio xs ts a b → IfErr r (λ fault. HasEnded radio fault b c)
-      → IfErr r (λ fault. HasEnded radio fault a c)
-  if_ended_then (Ok x) xs ts a b c past h = tt
-  if_ended_then (Err fault) xs ts a b c past h = ended_then fault xs ts a b c past h
+  -- ---- it is ended also where other steps were made before
+  ended_then : (fault : WorldFault) (xs : List Step) (ts : List Told) (a b c : World D R) → AreSafelyMade disk radio xs ts a b → All IsNoRefusal ts → HasEnded disk radio fault b c → HasEnded disk radio fault a c
+  ended_then (world_fault.Store fault) xs ts a b c past none h = record { last = h.last; before = gone_then disk radio xs ts a b h.last past h.before; answer = h.answer; round_is = h.round_is; ends = h.ends; risen = λ is. let later = h.before.made.count in let more = h.round_is.made.count in risen_since (failures disk radio a) (failures disk radio b) (failures disk radio c) (h.risen is) past.count (omega (arith, later, more)) }
+  ended_then (world_fault.Slot at fault) xs ts a b c past none h = absurd h
+  ended_then world_fault.NoMemory xs ts a b c past none h = record { last = h.last; before = unrefused_then disk radio xs ts a b h.last past none h.before; way = h.way }
+
+  pub if_ended_then : {A : Type 0} (r : Result A WorldFault) (xs : List Step) (ts : List Told) (a b c : World D R) → AreSafelyMade disk radio xs ts a b → All IsNoRefusal ts → IfErr r (λ fault. HasEnded disk radio fault b c)
+      → IfErr r (λ fault. HasEnded disk radio fault a c)
+  if_ended_then r xs ts a b c past none = IfErr-weaker r _ _ (λ fault. ended_then fault xs ts a b c past none)
 
   -- for want of memory after some steps
-  pub memory_end : (fault : WorldFault) (a b : World D R) → fault ≡ world_fault.NoMemory → HasGoneOn radio a b → HasEnded radio fault a b
-  memory_end fault a b is gone = subst (λ (e : WorldFault). HasEnded radio e a b) (sym is) gone
+  pub memory_end : (fault : WorldFault) (a b : World D R) → fault ≡ world_fault.NoMemory → HasGoneUnrefused disk radio a b → HasEnded disk radio fault a b
+  memory_end fault a b is gone = subst (λ (e : WorldFault). HasEnded disk radio e a b) (sym is) (record { last = b; before = gone; way = inl refl })
 
-  pub memory_ends : {A : Type 0} (r : Result A WorldFault) (a b : World D R) → IfErr r (λ fault. fault ≡ world_fault.NoMemory) → OnErr r (HasGoneOn radio a b) → IfErr r (λ fault. HasEnded radio fault a b)
+  pub memory_ends : {A : Type 0} (r : Result A WorldFault) (a b : World D R) → IfErr r (λ fault. fault ≡ world_fault.NoMemory) → OnErr r (HasGoneUnrefused disk radio a b) → IfErr r (λ fault. HasEnded disk radio fault a b)
   memory_ends (Ok x) a b is gone = tt
   memory_ends (Err fault) a b is gone = memory_end fault a b is gone
-
-  -- whatever ended it, some steps were made
-  gone_by_ending : (fault : WorldFault) (a b : World D R) → HasEnded radio fault a b → HasGoneOn radio a b
-  gone_by_ending (world_fault.Store fault) a b h =
-      let one = h.round_is in
-      gone_then radio h.before.steps h.before.tolds a h.last b h.before.run (record { steps = round one.calls; tolds = one.tolds; run = one.run })
-  gone_by_ending (world_fault.Slot at fault) a b h = absurd h
-  gone_by_ending world_fault.NoMemory a b h = h
-
-  pub gone_if_ended : {A : Type 0} (r : Result A WorldFault) (a b : World D R) → IfErr r (λ fault. HasEnded radio fault a b) → OnErr r (HasGoneOn radio a b)
-  gone_if_ended (Ok x) a b h = tt
-  gone_if_ended (Err fault) a b h = gone_by_ending fault a b h
-
-  -- ---- where it is told that the store has failed, the core has
-  refusal_fails : (disk : DiskModel D) (fault : StoreFault) (b c : World D R) → IsWorldRound radio (commit.Refused fault) b c → ComesTo disk (commit.Refused fault) (durable_of b) (durable_of c)
-      → HasFailedCore (world_fault.Store fault) c
-  refusal_fails disk store_fault.Failed b c one comes = failed_round one.calls one.run.insides (durable_of b) (durable_of c) one.run.run.steps_are comes
-  refusal_fails disk store_fault.Device b c one comes = tt
-  refusal_fails disk store_fault.Worn b c one comes = tt
-  refusal_fails disk store_fault.NoMemory b c one comes = tt
-  refusal_fails disk store_fault.NotAStore b c one comes = tt
-  refusal_fails disk store_fault.Damaged b c one comes = tt
-  refusal_fails disk store_fault.NotIdle b c one comes = tt
-  refusal_fails disk store_fault.BadBatch b c one comes = tt
-
-  pub refused_fails : (disk : DiskModel D) (fault : StoreFault) (answer : Commit) (b c : World D R) → IsWorldRound radio answer b c → answer ≡ commit.Refused fault → ComesTo disk answer (durable_of b) (durable_of c)
-      → HasFailedCore (world_fault.Store fault) c
-  refused_fails disk fault answer b c one is comes =
-      refusal_fails disk fault b c (subst (λ (x : Commit). IsWorldRound radio x b c) is one) (subst (λ (x : Commit). ComesTo disk x (durable_of b) (durable_of c)) is comes)
-
-  pub nothing_fails : (disk : DiskModel D) (answer : Commit) (b c : World D R) → answer ≡ commit.Nothing → ComesTo disk answer (durable_of b) (durable_of c) → IsUnfinished (durable_of c)
-      → HasFailedCore (world_fault.Store store_fault.Failed) c
-  nothing_fails disk answer b c is comes left =
-      let was : ComesTo disk commit.Nothing (durable_of b) (durable_of c) = subst (λ (x : Commit). ComesTo disk x (durable_of b) (durable_of c)) is comes in
-      ⊎_elim (λ fails. failed_alike (durable_of b) (durable_of c) was.0 fails)
-      (λ none. ⊎_elim (λ fails. fails) (λ some. absurd (some (ap (λ (w : DurableCore D). w.core.unsettled) was.0 ∙ none))) left)
-      was.1
-
-  -- of a proper one no receipt is another batch's
-  pub another_fails : (disk : DiskModel D) (answer : Commit) (b c : World D R) → answer ≡ commit.Foreign → ComesTo disk answer (durable_of b) (durable_of c) → HasFailedCore (world_fault.Store store_fault.Failed) c
-  another_fails disk answer b c is comes = absurd (subst (λ (x : Commit). ComesTo disk x (durable_of b) (durable_of c)) is comes)

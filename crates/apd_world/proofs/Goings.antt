@@ -2,29 +2,20 @@
 use Rattle.std.proofs.Common.{◌≡◌, ℕ, ◌+◌, ◌≤◌, Bool, true, false, cond, List, [], ◌∷◌, ◌++◌, length, take, drop, ◌⊎◌, inl, inr, refl, sym, ap, subst, ◌∙◌, arith, append_assoc, length-append}
 use Rattle.std.specs.Prelude.{map}
 use Rattle.std.proofs.lemmas.List.{append-nil, map-append, length-take-le, length-drop, take-append-drop}
-use Rattle.apd_base.specs.State.{State}
-use Rattle.apd_base.specs.declared.moment.Moment.{Moment}
+use Rattle.apd_world.proofs.Words.{AreFit, AreUnsettled, Change, Conf, Control, CoreState, Goes, Happening, IsCore, LastHeard, Moment, Out, Radio, Recipient, Settles, State, front_of, handed, held_for, last_of, outs_run, outs_to, published, ready_for, run, up_to, verdict}
 use Rattle.apd_base.proofs.AddrLemmas.{bssid_total, bssid_exact}
 use Rattle.apd_base.proofs.MapLemmas.{one_or_apart, tied}
-use Rattle.apd_conf.specs.declared.conf.Conf.{Conf}
-use Rattle.apd_mlme.specs.Happening.{Happening}
-use Rattle.apd_mlme.specs.declared.decision.Recipient.{Recipient}
-use Rattle.apd_mlme.specs.declared.decision.Recipient.TheVariants.{Radio, Control}
-use Rattle.apd_mlme.specs.declared.decision.Out.{Out}
-use Rattle.apd_mlme.specs.Outs.{outs_to, is_same}
-use Rattle.apd_mlme.specs.rules.{verdict, IsFit}
-use Rattle.apd_mlme.specs.Run.{run, outs_run, AreFit}
+use Rattle.apd_mlme.specs.Outs.{is_same}
+use Rattle.apd_mlme.specs.rules.{IsFit}
 use Rattle.apd_mlme.proofs.TrueOutsLemmas.{verdict_there}
-use Rattle.apd_record.specs.declared.change.Change.{Change}
-use Rattle.apd_core.specs.Core.{CoreState, front_of, last_of, held_for, ready_for, with_entry, with_sender, published, handed}
-use Rattle.apd_core.specs.Heard.{LastHeard}
-use Rattle.apd_core.specs.Held.{Queue, queue_of, up_to, beyond}
-use Rattle.apd_core.specs.Invariant.{IsCore, AreDecided, numbered_outs}
+use Rattle.apd_core.specs.Core.{with_entry, with_sender}
+use Rattle.apd_core.specs.Held.{Queue, queue_of}
+use Rattle.apd_core.specs.Invariant.{AreDecided, numbered_outs}
 use Rattle.apd_core.proofs.CoreLemmas.{entry_front, entry_held, outs_only, publish_front, publish_held, hand_held, hand_others}
 use Rattle.apd_core.proofs.HeldLemmas.{queue_of-with_outs, queue_of-after_hand, queue_of-after_hand_other}
 use Rattle.apd_core.proofs.Keeping.{decided_means, decided_length, decided_push, numbered_push, none_up_to, up_to-append}
 use Rattle.apd_core.proofs.Settling.{decided_split, handed_outs, numbered_split, numbered_above, numbered_within, up_to_beyond, up_to_twice, published_queue}
-use Rattle.apd_world.specs.CoreRun.{AreUnsettled, AreHeldFor, Settles, Goes}
+use Rattle.apd_world.specs.CoreRun.{AreHeldFor}
 
 -- ---- happenings in two parts
 pub run-append : (confs : List Conf) (es fs : List Happening) (s : State) → run s confs (es ++ fs) ≡ run (run s confs es) confs fs
@@ -232,6 +223,9 @@ turned r q apart = elim (is_or_not q r) [
   | inr ne ↦ ne
 ]
 
+pub ready_none : (q : Recipient) (s : CoreState) → ready_for q (handed q s) ≡ []
+ready_none q s = ap (map (λ (x : ℕ × Out). x.1)) (ap (up_to s.number) (queue_of-after_hand s.confs s.number q s.held) ∙ up_to_beyond s.number (queue_of s.confs s.held q))
+
 module _ (q : Recipient) (s : CoreState) (core : IsCore s) where
   abbrev after : CoreState
   after = handed q s
@@ -253,20 +247,14 @@ module _ (q : Recipient) (s : CoreState) (core : IsCore s) where
     | inr apart ↦ (ap (λ os. os ++ held_for r after) (given_none r apart) ∙ hand_others s q r (turned r q apart) ∙ sym (append-nil (held_for r s)))
   ]
 
-  own_queue : queue_of s.confs after.held q ≡ beyond s.number (queue_of s.confs s.held q)
-  own_queue = queue_of-after_hand s.confs s.number q s.held
-
   other_queue : (r : Recipient) → is_same r q ≡ false → queue_of s.confs after.held r ≡ queue_of s.confs s.held r
   other_queue r apart = queue_of-after_hand_other s.confs s.number q r s.held (turned r q apart)
-
-  none_ready : ready_for q after ≡ []
-  none_ready = ap (map (λ (x : ℕ × Out). x.1)) (ap (up_to s.number) own_queue ∙ up_to_beyond s.number (queue_of s.confs s.held q))
 
   hand_released : (r : Recipient) → gives r ++ ready_for r after ≡ ready_for r s ++ []
   hand_released r = elim (is_or_not r q) [
     | inl same ↦
         (ap (λ os. os ++ ready_for r after) (given_own r same)
-        ∙ ap (λ (z : Recipient). ready_for q s ++ ready_for z after) same ∙ ap (λ os. ready_for q s ++ os) none_ready ∙ ap (λ (z : Recipient). ready_for z s ++ []) (sym same))
+        ∙ ap (λ (z : Recipient). ready_for q s ++ ready_for z after) same ∙ ap (λ os. ready_for q s ++ os) (ready_none q s) ∙ ap (λ (z : Recipient). ready_for z s ++ []) (sym same))
     | inr apart ↦
         (ap (λ os. os ++ ready_for r after) (given_none r apart) ∙ ap (λ p. map (λ (x : ℕ × Out). x.1) (up_to s.number p)) (other_queue r apart) ∙ sym (append-nil (ready_for r s)))
   ]

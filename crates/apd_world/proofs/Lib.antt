@@ -1,15 +1,16 @@
-mod DriveLemmas
+pub mod DriveLemmas
 pub mod EndLemmas
 mod FollowLemmas
+mod Moving
 mod Goings
 mod Joining
 mod ResumeLemmas
 mod SlotLemmas
 mod RoundLemmas
+mod SoFar
 pub mod RunLemmas
 mod Standing
 mod Speaking
 mod StepLemmas
-mod WorldDriveLemmas
-mod StartLemmas
 mod Recovering
+mod Words

@@ -1,93 +1,56 @@
--- Slots that resume, one after another.
-use Rattle.std.proofs.Common.{◌≡◌, ℕ, ◌+◌, ◌<◌, ◌≤◌, Bool, true, false, List, [], ◌++◌, length, map, take, Option, Some, None, ◌⊎◌, refl, sym, ap, subst, ◌∙◌, arith, get_or, set, length-set, add-one}
+-- Slots that resume, and a world begun anew with them.
+use Rattle.std.proofs.Common.{◌≡◌, ◌⊎◌, inl, inr, ℕ, ◌<◌, List, [], length, map, Option, Some, None, Err, take, refl, sym, ap, subst, ◌∙◌, arith, get_or, set, length-set}
 use Rattle.std.specs.FinMap as maps
-use Rattle.std.proofs.Math.Seq.{map-set_same, take-suc-set}
-use Rattle.std.proofs.lemmas.List.{get_or-set_same, get_or-set_other}
+use Rattle.std.specs.Prelude.{◌↔◌}
+use Rattle.std.proofs.lemmas.List.{get_or-set_same, take-set}
 use Rattle.std.proofs.lemmas.Option.{slice_get-get_or}
-use Rattle.apd_base.specs.Failures.{HasRisen}
-use Rattle.apd_base.specs.State.{State, aid_at}
-use Rattle.apd_base.specs.declared.address.Addr.{Addr}
-use Rattle.apd_base.specs.declared.address.Bssid.{Bssid}
-use Rattle.apd_conf.specs.declared.conf.Conf.{Conf}
-use Rattle.apd_core.specs.Core.{CoreState, front_of, held_for, new_core}
-use Rattle.apd_core.specs.Heard.{LastHeard}
+use Rattle.apd_world.proofs.Words.{Addr, AreExact, AreResumed, Bssid, Conf, CoreState, DiskModel, DurableCore, HasNotResumed, IsExact, IsResumed, LastHeard, LeavesOnly, Moment, Radio, RadioModel, Shows, Slot, SlotFault, Sound, State, Store, StoreFault, WorldFault, aid_at, bssid_of, driven, front_of, held_for, installed_rows, queue_if, run, slot_at, slot_in, slot_place, wanted_after_all, wanted_then}
+use Rattle.apd_core.specs.Core.{new_core}
+use Rattle.apd_core.specs.Heard.{AreHeardAt}
 use Rattle.apd_core.proofs.HeldLemmas.{queue_of-no_outs}
-use Rattle.apd_core.proofs.Queues.{all_push, all_weaker}
-use Rattle.apd_mlme.specs.laws.Driver.{driven}
-use Rattle.apd_mlme.specs.declared.decision.Out.{Out}
-use Rattle.apd_mlme.specs.declared.decision.Recipient.TheVariants.{Radio}
-use Rattle.apd_radio.specs.Model.{RadioModel}
-use Rattle.apd_slot.specs.Slots.{bssid_of, is_up_of, radio_of, wanted_of, IsExact}
-use Rattle.apd_slot.specs.declared.slot.Slot.{Slot}
-use Rattle.apd_slot.specs.declared.slot.SlotFault.{SlotFault}
-use Rattle.apd_slot.specs.declared.slot.SlotFault.TheVariants.{WentDown, NoMemory}
+use Rattle.apd_core.proofs.Queues.{all_weaker}
+use Rattle.apd_disk.specs.Disk.{Only}
+use Rattle.apd_slot.specs.Resuming.{IsGivenRows}
 use Rattle.apd_slot.proofs.RowsLemmas.{installed_are}
-use Rattle.apd_world.specs.Following.{AreExact}
-use Rattle.apd_world.specs.Resumed.{AreOfSame, AreResumed, HasNotResumed, IsResumed}
-use Rattle.apd_world.specs.WorldParts.{slot_place, slot_in, slot_at, queue_in}
-use Rattle.apd_world.proofs.FollowLemmas.{all_at}
-use Rattle.apd_world.proofs.SlotLemmas.{place_of_own, slot_is}
-
-pub not_up : (up : Bool) → (up ≡ true → ◌≡◌ {A = Bool} false true) → up ≡ false
-not_up true h = let no : ◌≡◌ {A = Bool} false true = h refl in cc
-not_up false h = refl
+use Rattle.apd_store.specs.Outside.{device_of as store_device}
+use Rattle.apd_store.specs.Recovery.{IsHonestlyRecovered, IsRecovered}
+use Rattle.apd_store.specs.declared.fault.StoreFault.TheVariants as store_fault
+use Rattle.apd_world.specs.BegunAnew.{IsBegunAnew, IsBegunWith, IsHonestlyBegunAnew, IsHonestlyNotBegunAnew, IsNotBegunAnew}
+use Rattle.apd_world.specs.Resumed.{AreHandedBack, AreLeft, EndsAtSlot}
+use Rattle.apd_world.specs.declared.fault.WorldFault.TheVariants as world_fault
+use Rattle.apd_world.proofs.SlotLemmas.{all_at, place_of_own, slot_is}
+use Rattle.apd_world.proofs.SoFar.{first_is, rest_is, zip_all, AreSoFar}
 
 module _ {R : Type 0} (radio : RadioModel R) (s : State) where
-  -- so many have resumed, and the others are as they were
-  pub record AreSoFar (i : ℕ) (old now : List (Slot R)) : Type 0 where
-    pub same : AreOfSame old now
-    pub many : length now ≡ length old
-    pub resumed : AreResumed radio s (take i now)
-    pub rest : (k : ℕ) (d : Slot R) → i ≤ k → get_or now k d ≡ get_or old k d
-
-  pub none_so_far : (slots : List (Slot R)) → AreSoFar 0 slots slots
-  none_so_far slots = record { same = refl; many = refl; resumed = tt; rest = λ k d l. refl }
-
-  -- one more
-  pub one_so_far : (i : ℕ) (old now : List (Slot R)) (before after : Slot R) → i < length now → before ≡ get_or now i before → bssid_of after ≡ bssid_of before → IsResumed radio s after → AreSoFar i old now
-      → AreSoFar (i + 1) old (set now i after)
-  one_so_far i old now before after lt is own resumed h = record {
-    same = map-set_same bssid_of now i after before (own ∙ ap bssid_of is) ∙ h.same;
-    many = length-set now i after ∙ h.many;
-    resumed = subst (AreResumed radio s) (sym (ap (λ n. take n (set now i after)) (add-one i) ∙ take-suc-set now i after lt)) (all_push (IsResumed radio s) (take i now) after h.resumed resumed);
-    rest = λ k d l. get_or-set_other now i k after d (λ same. let no : ⊥ = omega (arith, l, same) in no) ∙ h.rest k d (omega (arith, l));
-  }
+  abbrev pub Resumes : Slot R → Slot R → Type 0
+  Resumes before after = IsResumed radio s after
 
   -- one has not
-  pub one_failed : (i : ℕ) (old now : List (Slot R)) (before after : Slot R) (fault : SlotFault) → i < length now → before ≡ get_or now i before → bssid_of after ≡ bssid_of before → is_up_of after ≡ false
-      → (fault ≡ WentDown) ⊎ (fault ≡ NoMemory) → (fault ≡ WentDown → HasRisen (radio.faults (radio_of before)) (radio.faults (radio_of after))) → AreSoFar i old now
-      → HasNotResumed radio (bssid_of after) fault old (set now i after)
-  one_failed i old now before after fault lt is own down few risen h =
+  pub one_failed : (i : ℕ) (old now : List (Slot R)) (before after : Slot R) (fault : SlotFault) → i < length now → before ≡ get_or now i before
+      → IsGivenRows radio (installed_rows s (bssid_of before)) (Err fault) before after → AreSoFar Resumes i old now
+      → HasNotResumed radio s (bssid_of before) fault old (set now i after)
+  one_failed i old now before after fault lt is given h =
       let there : i < length old = let m = h.many in omega (arith, lt, m) in
       let there_now : i < length (set now i after) = let m = length-set now i after in omega (arith, lt, m) in
       record {
         place = i;
         before = before;
         after = after;
-        was = slice_get-get_or old i before there ∙ ap Some (sym (h.rest i before (omega arith)) ∙ sym is);
+        was = slice_get-get_or old i before there ∙ ap Some
+            (first_is Resumes i old now before after is given.bssid h lt);
         is = slice_get-get_or (set now i after) i after there_now ∙ ap Some (get_or-set_same now i after after lt);
         bssid = refl;
-        down = down;
-        few = few;
-        risen = risen;
+        given = given;
+        resumed = subst (AreResumed radio s) (sym (take-set now i after))
+            (zip_all (IsResumed radio s) (take i old) (take i now) h.changed);
+        rest = rest_is Resumes i old now before after is given.bssid h lt;
       }
-
-  pub one_same : (i : ℕ) (old now : List (Slot R)) (before after : Slot R) → before ≡ get_or now i before → bssid_of after ≡ bssid_of before → AreSoFar i old now → AreOfSame old (set now i after)
-  one_same i old now before after is own h = map-set_same bssid_of now i after before (own ∙ ap bssid_of is) ∙ h.same
 
   -- slots that have resumed have what is wanted
   pub resumed_exact : (slots : List (Slot R)) → AreResumed radio s slots → AreExact radio slots
   resumed_exact slots all = all_weaker (IsResumed radio s) (IsExact radio) (λ slot r up. r.installed ∙ sym r.wanted) slots all
 
 -- ---- a world begun anew
-none_waits : (p : Option ℕ) → queue_in [] p ≡ []
-none_waits None = refl
-none_waits (Some i) = refl
-
--- without queues no out waits
-pub no_out_waits : (queues : List (List Out)) (p : Option ℕ) → queues ≡ [] → queue_in queues p ≡ []
-no_out_waits queues p empty = ap (λ qs. queue_in qs p) empty ∙ none_waits p
-
 module _ {R : Type 0} (radio : RadioModel R) (slots : List (Slot R)) (table : State) (resumed : AreResumed radio table slots) where
   found : (b : Bssid) (slot : Slot R) (p : Option ℕ) → slot_place slots b ≡ p → slot_in slots p ≡ Some slot → IsResumed radio table slot × (bssid_of slot ≡ b)
   found b slot None at is = let none : ◌≡◌ {A = Option (Slot R)} None (Some slot) = is in cc
@@ -95,13 +58,99 @@ module _ {R : Type 0} (radio : RadioModel R) (slots : List (Slot R)) (table : St
       let own : get_or slots i slot ≡ slot = (let both : Some (get_or slots i slot) ≡ Some slot = sym (slot_is slots b i slot at) ∙ ap (slot_in slots) at ∙ is in cc) in
       (all_at (IsResumed radio table) slots i slot is resumed, ap bssid_of (sym own) ∙ sym (place_of_own slots b i slot at))
 
+  none_waits : (b : Bssid) (o : Option (Slot R)) → slot_at slots b ≡ o → queue_if o ≡ []
+  none_waits b None at = refl
+  none_waits b (Some slot) at = (found b slot (slot_place slots b) refl at).0.queue
+
+  pub no_out_waits : (b : Bssid) → queue_if (slot_at slots b) ≡ []
+  no_out_waits b = none_waits b (slot_at slots b) refl
+
   -- nothing waits, and nothing is held
-  pub begun_following : (core : CoreState) (queues : List (List Out)) (confs : List Conf) (heard : LastHeard) → core ≡ new_core table confs heard → queues ≡ []
-      → (b : Bssid) (slot : Slot R) → slot_at slots b ≡ Some slot → (a : Addr) → driven (queue_in queues (slot_place slots b) ++ held_for (Radio b) core) (maps.get (wanted_of slot)) a ≡ aid_at (front_of core) b a
-  begun_following core queues confs heard is empty b slot at a =
+  pub begun_following : (core : CoreState) (confs : List Conf) (heard : LastHeard) → core ≡ new_core table confs heard
+      → (b : Bssid) (slot : Slot R) → slot_at slots b ≡ Some slot → (a : Addr) → driven (held_for (Radio b) core) (maps.get (wanted_then slot)) a ≡ aid_at (front_of core) b a
+  begun_following core confs heard is b slot at a =
       let f = found b slot (slot_place slots b) refl at in
-      let none : queue_in queues (slot_place slots b) ≡ [] = no_out_waits queues (slot_place slots b) empty in
       let held : held_for (Radio b) core ≡ [] = ap (held_for (Radio b)) is ∙ ap (map (λ x. x.1)) (queue_of-no_outs confs (Radio b)) in
-      (λ i. driven (none i ++ held i) (maps.get (wanted_of slot)) a)
-      ∙ ap (λ m. maps.get m a) f.0.wanted ∙ (λ i. installed_are table (bssid_of slot) i a) ∙ ap (λ c. aid_at table c a) f.1
+      (λ i. driven (held i) (maps.get (wanted_after_all (f.0.queue i) (f.0.wanted i))) a)
+      ∙ (λ i. installed_are table (bssid_of slot) i a) ∙ ap (λ c. aid_at table c a) f.1
       ∙ ap (λ (z : CoreState). aid_at (front_of z) b a) (sym is)
+
+-- ---- over the store that a device holds
+module _ {D : Type 0} (disk : DiskModel D) (device : D) (store : Store D) (table : State)
+    (found : IsRecovered disk device store) where
+  images : IsHonestlyRecovered disk device store table → Only (disk.reads device) (disk.may_leave (store_device store))
+  images held image left = held.idle.durable image left ∙ held.stays
+
+  -- a world was begun
+  module _ (confs : List Conf) (m : Moment) (new : DurableCore D) (begun : IsBegunWith disk store table confs m new)
+    where
+      same_table : new.core.settled ≡ table
+      same_table = ap (λ (s : CoreState). s.settled) begun.core
+
+      pub begun_from : IsBegunAnew disk device confs m new
+      begun_from = record {
+        length = found.length;
+        core = begun.core ∙ ap (λ s. new_core s confs new.core.heard) (sym same_table);
+        heard = subst (λ s. AreHeardAt m s new.core.heard) (sym same_table) begun.heard;
+        sound = subst Sound (sym same_table) begun.sound;
+        whole = begun.whole found.inside found.ready;
+        count = ap (λ (s : Store D). disk.failed (store_device s)) begun.over ∙ found.count;
+      }
+
+      pub honestly_begun_from : disk.honest device → IsHonestlyRecovered disk device store table
+          → ((s : State) → Shows (disk.reads device) s → table ≡ s) → IsHonestlyBegunAnew disk device new
+      honestly_begun_from honest held one = record {
+        shown = subst (Shows (disk.reads device)) (sym same_table) held.shown;
+        recovered = λ s old hs front. same_table ∙ one (run s old (take front.count hs)) front.shows;
+        proper = begun.proper (found.stays_honest.0 honest) found.inside held.idle;
+        images = subst (λ (s : Store D). Only (disk.reads device) (disk.may_leave (store_device s))) (sym begun.over)
+            (images held);
+        any_moment = subst (λ (s : Store D). LeavesOnly disk device (store_device s) (disk.may_leave device))
+            (sym begun.over) held.any_moment;
+      }
+
+  -- none was
+  module _ {R : Type 0} (radio : RadioModel R) (slots left : List (Slot R)) (back : D) (fault : WorldFault)
+      (h : AreHandedBack radio store table slots back left fault) where
+    no_refusal : {A : Type 0} (e : StoreFault) → fault ≡ world_fault.Store e → A
+    no_refusal e is = absurd (subst (λ f. AreLeft radio table f slots left) is h.slots_are)
+
+    pub not_begun_from : IsNotBegunAnew disk device back fault
+    not_begun_from = record {
+      device_failed = λ is. no_refusal store_fault.Device is;
+      no_fault = λ other. ap disk.failed h.device_is ∙ found.count;
+      stays_honest = subst (λ d. disk.honest device ↔ disk.honest d) (sym h.device_is) found.stays_honest;
+    }
+
+    pub honestly_not_begun_from : IsHonestlyRecovered disk device store table
+        → disk.may_leave device (disk.reads device) → IsHonestlyNotBegunAnew disk device back fault
+    honestly_not_begun_from held may = record {
+      not_a_store = λ is. no_refusal store_fault.NotAStore is;
+      damaged = λ is. no_refusal store_fault.Damaged is;
+      durable = λ other. subst (λ d. Only (disk.reads device) (disk.may_leave d)) (sym h.device_is) (images held);
+      still = λ image only.
+          let same = only (disk.reads device) may in (
+            (λ other left. images held other (subst (λ d. disk.may_leave d other) h.device_is left) ∙ same),
+            ap
+                disk.reads h.device_is ∙ held.stays ∙ same,
+          );
+      any_moment = subst (λ d. LeavesOnly disk device d (disk.may_leave device)) (sym h.device_is) held.any_moment;
+    }
+
+  -- for want of memory, or at a slot
+  pub ends_so : {R : Type 0} (radio : RadioModel R) (slots left : List (Slot R)) (fault : WorldFault)
+      → (disk.honest device → Shows (disk.reads device) table) → AreLeft radio table fault slots left
+      → (fault ≡ world_fault.NoMemory) ⊎ ((b : Bssid) × (f : SlotFault) × (fault ≡ world_fault.Slot b f)
+      × EndsAtSlot disk radio device b f slots left)
+  ends_so radio slots left (world_fault.Slot b f) shown h =
+      inr (b, f, refl, record { table = table; shown = shown; not_resumed = h })
+  ends_so radio slots left world_fault.NoMemory shown h = inl refl
+  ends_so radio slots left (world_fault.Store e) shown h = absurd h
+
+-- before any slot they are as they were
+pub still_left : {R : Type 0} (radio : RadioModel R) (table : State) (slots left : List (Slot R)) (fault : WorldFault)
+    → AreLeft radio table fault slots left
+    → ((b : Bssid) (f : SlotFault) → fault ≡ world_fault.Slot b f → ⊥) → left ≡ slots
+still_left radio table slots left (world_fault.Slot b f) h other = absurd (other b f refl)
+still_left radio table slots left world_fault.NoMemory h other = h
+still_left radio table slots left (world_fault.Store e) h other = absurd h

@@ -1,140 +1,45 @@
 -- Runs, one after another, and what is safely made by them.
-use Rattle.std.proofs.Common.{Bool, true, false, Option, Some, None, inl, inr, Result, Ok, Err, ◌≡◌, ◌≢◌, ◌⊎◌, ℕ, zero, suc, ◌+◌, ◌<◌, List, [], ◌∷◌, ◌++◌, length, take, drop, get_or, add-one, refl, sym, ap, subst, ◌∙◌, arith, append_assoc, length-append}
-use Rattle.std.specs.Prelude.{⊤, IfOk, OnErr, OnOk, ◌==◌, ◌&&◌, not, map, replicate}
-use Rattle.std.specs.List.{All, AllByRecursion}
-use Rattle.std.proofs.lemmas.List.{append-nil, map-append, replicate_more, take-append-drop}
+use Rattle.std.proofs.Common.{false, Option, Some, inl, inr, ⊎_elim, Result, Ok, Err, ◌≡◌, ◌≢◌, ◌⊎◌, ℕ, zero, suc, ◌+◌, ◌<◌, ◌≤◌, ◌^◌, List, [], ◌∷◌, ◌++◌, length, take, drop, get_or, add-one, refl, sym, ap, subst, ◌∙◌, arith, append_assoc, length-append}
+use Rattle.std.specs.Option.{unwrap_or}
+use Rattle.std.specs.Prelude.{⊤, OnErr, map, replicate}
+use Rattle.std.specs.List.{All, AllByRecursion, Contains}
+use Rattle.std.proofs.lemmas.Bool.{cases_lt}
+use Rattle.std.proofs.lemmas.List.{append-nil, map-append, replicate_more}
 use Rattle.std.proofs.lemmas.List.Elements.{All-append, All-cons, All-head, All-map, All-nil, All-push, All-tail, All-weaker}
 use Rattle.std.proofs.lemmas.Grind.{flat_map-append}
 use Rattle.std.proofs.Math.Seq.{take-append_seam, take-suc}
-use Rattle.apd_base.specs.State.{State}
-use Rattle.apd_base.specs.declared.address.Bssid.{Bssid}
-use Rattle.apd_conf.specs.declared.conf.Conf.{Conf}
-use Rattle.apd_core.specs.Core.{CoreState, front_of, handed, held_for, ready_for}
-use Rattle.apd_core.specs.Heard.{LastHeard}
-use Rattle.apd_core.specs.Held.{HeldOuts, queue_of as core_queue, up_to}
-use Rattle.apd_core.proofs.HeldLemmas.{queue_of-after_hand, queue_of-after_hand_other}
-use Rattle.apd_core.proofs.Settling.{up_to_beyond}
-use Rattle.apd_base.proofs.AddrLemmas.{bssid_total, bssid_exact}
-use Rattle.apd_base.proofs.MapLemmas.{one_or_apart}
-use Rattle.apd_core.specs.declared.input.QuietReason.{QuietReason}
-use Rattle.apd_disk.specs.Disk.{LeavesOnly, DiskModel}
-use Rattle.apd_disk.proofs.Moments.{started, then_run, weaker}
-use Rattle.apd_mlme.specs.Happening.{Happening, Configure}
-use Rattle.apd_mlme.specs.Run.{run, outs_run}
-use Rattle.apd_mlme.specs.declared.decision.Out.{Out}
-use Rattle.apd_mlme.specs.declared.decision.Recipient.{Recipient}
-use Rattle.apd_mlme.specs.declared.decision.Recipient.TheVariants.{Radio, Control}
-use Rattle.apd_radio.specs.Model.{RadioModel}
-use Rattle.apd_store.specs.Image.{Shows}
-use Rattle.apd_world.specs.Following.{AreExact, AreFollowing}
-use Rattle.apd_world.specs.CoreRun.{AreUnsettled, Goes, Settles}
-use Rattle.apd_world.specs.StepsMade.{AreAccepted, AreAllApplied, AreAnswered, AreQuietlyMade, AreSafelyMade, SomeAreQuietlyMade, SomeAreSafelyMade, StaysSafe}
-use Rattle.apd_world.specs.Outside.{device_of}
-use Rattle.apd_world.specs.Proper.{IsProper, IsSafe}
-use Rattle.apd_world.specs.Round.{round}
-use Rattle.apd_world.specs.Run.{AreSteps, IsRun}
-use Rattle.apd_world.specs.WorldParts.{durable_of, slot_at, slots_of, queue_of}
-use Rattle.apd_world.specs.Shown.{ShowsEither, ShowsFront}
-use Rattle.apd_world.specs.Starting.{AreConfiguring, HasGoneOn, IsAtRest, IsFlushed, IsHandedOut, IsGiven, IsHanding, IsStarted, IsWorldRound, LeavesFront, LeavesFronts, OnlyHands, applies, asked, hands, radio_hands, recipient_of, rounds}
-use Rattle.apd_world.specs.Steps.{Account, account, all_entered, all_given, entered, given, heard_after, nothing_yet, one_more}
-use Rattle.apd_world.specs.Telling.{Tells}
-use Rattle.apd_world.specs.WorldRun.{all_applied, applied, AreWorldSteps, HasNoSlot, IsApplied, IsWorldRun, IsWorldStep, Joins}
-use Rattle.apd_world.specs.declared.durable_core.DurableCore.{DurableCore}
-use Rattle.apd_world.specs.declared.step.Commit.{Commit}
-use Rattle.apd_world.specs.declared.step.Step.{Step}
-use Rattle.apd_world.specs.declared.step.Step.TheVariants.{Accept, Take, Call, Publish, Hand, Ask, Apply}
-use Rattle.apd_world.specs.declared.step.Told.{Told}
-use Rattle.apd_world.specs.declared.step.Told.TheVariants.{Handed, Nothing, NoMemory, Queued}
-use Rattle.apd_world.specs.declared.world.World.{World}
-use Rattle.apd_world.proofs.DriveLemmas.{shows_front, shows_later, shows_more, steps_length}
-use Rattle.apd_world.proofs.FollowLemmas.{exact, flows, following, own_of, turned as bssids_turned}
-use Rattle.apd_world.proofs.Goings.{goes_then, goes_unchanged, is_or_not, run-append, turned}
-use Rattle.apd_world.proofs.RoundLemmas.{round_enters_none}
-use Rattle.apd_world.proofs.SlotLemmas.{slot_set_other}
-use Rattle.apd_world.proofs.Standing.{shows_flight}
-use Rattle.apd_world.proofs.WorldDriveLemmas.{given_alike, happens_alike}
+use Rattle.apd_world.proofs.Words.{Accept, Accepted, Account, Applied, Apply, AreAccepted, AreAllApplied, AreAnswered, AreExact, AreFollowing, AreSafelyMade, Ask, Bssid, Call, Called, Commit, Conf, Configure, Control, CoreState, Device, DiskModel, DurableCore, Goes, GoesQuietly, Hand, Handed, Happening, HasGoneUnrefused, HasRisen, IsAtRest, IsNoRefusal, IsProper, IsRound, IsRun, IsSafe, IsStepMade, IsWhole, IsWorldStep, Joins, Loaded, NoMemory, Nothing, OnlyHands, Out, Publish, Published, Queued, QuietReason, Radio, RadioModel, Recipient, Step, Take, Tells, Told, World, account, all_entered, all_given, answer_of, applied, device_of, durable_of, front_of, given, handed, hands, held_for, last_of, nothing_yet, one_more, outs_run, queue_of, radio_hands, ready_for, round, run, said, slots_of, up_to}
+use Rattle.apd_core.specs.Held.{HeldOuts}
+use Rattle.apd_core.proofs.HeldLemmas.{queue_of-after_hand_other}
+use Rattle.apd_core.specs.declared.publish_fault.PublishFault.{PublishFault}
+use Rattle.apd_core.specs.declared.publish_fault.PublishFault.TheVariants as publish_fault
+use Rattle.apd_world.specs.SafelyMade.{AreMadeInTurn}
+use Rattle.apd_world.specs.Starting.{AreConfiguring, HasGoneOn, IsFlushed, IsHandedOut, IsGiven, IsHanding, IsStarted, applies, asked, recipient_of, rounds}
+use Rattle.apd_world.specs.WorldRun.{all_applied, AreWorldSteps, IsWorldRun}
+use Rattle.apd_world.specs.declared.step.Commit.TheVariants as commit
+use Rattle.apd_world.specs.declared.step.Told.TheVariants.{Answered as Read}
+use Rattle.apd_world.proofs.DriveLemmas.{Moments, entered_then, moments_then, no_run, one_run, runs_join, safe_moments}
+use Rattle.apd_world.proofs.FollowLemmas.{following}
+use Rattle.apd_world.proofs.Goings.{is_or_not, ready_none, turned}
+use Rattle.apd_world.proofs.Moving.{exact, flows, no_slot}
+use Rattle.apd_world.proofs.Recovering.{loses_nothing}
+use Rattle.apd_world.proofs.Standing.{none_some}
 
--- ---- accounts of two lists
-account_append : (confs : List Conf) (xs ys : List Step) (ts us : List Told) (a : Account) → length ts ≡ length xs → account confs (xs ++ ys) (ts ++ us) a ≡ account confs ys us (account confs xs ts a)
-account_append confs [] ys [] us a e = refl
-account_append confs (x ∷ xs) ys (t ∷ ts) us a e = account_append confs xs ys ts us (one_more confs x t a) (omega (arith, e))
-account_append confs [] ys (t ∷ ts) us a e = absurd (omega (arith, e))
-account_append confs (x ∷ xs) ys [] us a e = absurd (omega (arith, e))
+-- ---- what is told inside
+module _ {D R : Type 0} (radio : RadioModel R) (old new : World D R) where
+  -- the same happens by it, and control is given the same
+  happens_alike : (confs : List Conf) (step : Step) (inside told : Told) (a : Account) → Joins radio step inside told old new → one_more confs step inside a ≡ one_more confs step told a
+  happens_alike confs (Hand r) inside told a h = refl
+  happens_alike confs (Apply b) inside told a h = refl
+  happens_alike confs step inside told a h = ap (λ t. one_more confs step t a) (sym h.0)
 
-given_append : (r : Recipient) (xs ys : List Step) (ts us : List Told) → length ts ≡ length xs → all_given r (xs ++ ys) (ts ++ us) ≡ all_given r xs ts ++ all_given r ys us
-given_append r [] ys [] us e = refl
-given_append r (x ∷ xs) ys (t ∷ ts) us e = ap (λ os. given r x t ++ os) (given_append r xs ys ts us (omega (arith, e))) ∙ sym (append_assoc (given r x t) (all_given r xs ts) (all_given r ys us))
-given_append r [] ys (t ∷ ts) us e = absurd (omega (arith, e))
-given_append r (x ∷ xs) ys [] us e = absurd (omega (arith, e))
-
--- what happened before stands first, and changes no state and no moment
-happened_from : (confs : List Conf) (xs : List Step) (ts : List Told) (es : List Happening) (s : State) (h : LastHeard)
-    → (account confs xs ts (record { happened = es; state = s; heard = h })).happened ≡ es ++ (account confs xs ts (record { happened = []; state = s; heard = h })).happened
-happened_from confs [] ts es s h = sym (append-nil es)
-happened_from confs (x ∷ xs) [] es s h = sym (append-nil es)
-happened_from confs (x ∷ xs) (t ∷ ts) es s h =
-    let e = entered confs h x t in
-    let s' = run s confs e in
-    let h' = heard_after confs s h x t in
-    happened_from confs xs ts (es ++ e) s' h' ∙ append_assoc es e (account confs xs ts (record { happened = []; state = s'; heard = h' })).happened ∙ ap (λ os. es ++ os) (sym (happened_from confs xs ts e s' h'))
-
-heard_from : (confs : List Conf) (xs : List Step) (ts : List Told) (es : List Happening) (s : State) (h : LastHeard)
-    → (account confs xs ts (record { happened = es; state = s; heard = h })).heard ≡ (account confs xs ts (record { happened = []; state = s; heard = h })).heard
-heard_from confs [] ts es s h = refl
-heard_from confs (x ∷ xs) [] es s h = refl
-heard_from confs (x ∷ xs) (t ∷ ts) es s h =
-    let e = entered confs h x t in
-    let s' = run s confs e in
-    let h' = heard_after confs s h x t in
-    heard_from confs xs ts (es ++ e) s' h' ∙ sym (heard_from confs xs ts e s' h')
-
--- the state is the one after what happened
-account_state : (confs : List Conf) (xs : List Step) (ts : List Told) (s : State) (a : Account) → a.state ≡ run s confs a.happened → (account confs xs ts a).state ≡ run s confs (account confs xs ts a).happened
-account_state confs [] ts s a e = e
-account_state confs (x ∷ xs) [] s a e = e
-account_state confs (x ∷ xs) (t ∷ ts) s a e =
-    let es = entered confs a.heard x t in
-    account_state confs xs ts s (one_more confs x t a) (ap (λ (z : State). run z confs es) e ∙ sym (run-append confs a.happened es s))
-
--- ---- two runs of a durable core
-steps_then : {D : Type 0} (xs ys : List Step) (ts us : List Told) (a b c : DurableCore D) → AreSteps xs ts a b → AreSteps ys us b c → AreSteps (xs ++ ys) (ts ++ us) a c
-steps_then [] ys [] us a b c past step = subst (λ w. AreSteps ys us w c) past step
-steps_then (x ∷ xs) ys (t ∷ ts) us a b c past step = (past.0, past.1, steps_then xs ys ts us past.0 b c past.2 step)
-steps_then [] ys (t ∷ ts) us a b c past step = absurd past
-steps_then (x ∷ xs) ys [] us a b c past step = absurd past
-
-module _ {D : Type 0} (xs ys : List Step) (ts us : List Told) (a b c : DurableCore D) (past : IsRun xs ts a b) (step : IsRun ys us b c) where
-  abbrev first : Account
-  first = account a.core.confs xs ts (nothing_yet a.core)
-
-  same_length : length ts ≡ length xs
-  same_length = steps_length xs ts a b past.steps_are
-
-  parts : account a.core.confs (xs ++ ys) (ts ++ us) (nothing_yet a.core) ≡ account a.core.confs ys us first
-  parts = account_append a.core.confs xs ys ts us (nothing_yet a.core) same_length
-
-  state_is : first.state ≡ front_of b.core
-  state_is = account_state a.core.confs xs ts (front_of a.core) (nothing_yet a.core) refl ∙ sym past.goes.front
-
-  second_is : account a.core.confs ys us (record { happened = []; state = first.state; heard = first.heard }) ≡ account b.core.confs ys us (nothing_yet b.core)
-  second_is = λ i. account (sym past.goes.confs i) ys us (record { happened = []; state = state_is i; heard = sym past.heard i })
-
-  pub entered_then : all_entered (xs ++ ys) (ts ++ us) a.core ≡ all_entered xs ts a.core ++ all_entered ys us b.core
-  entered_then =
-      ap (λ (z : Account). z.happened) parts ∙ happened_from a.core.confs ys us first.happened first.state first.heard
-      ∙ ap (λ (z : Account). first.happened ++ z.happened) second_is
-
-  pub runs_join : IsRun (xs ++ ys) (ts ++ us) a c
-  runs_join = record {
-    steps_are = steps_then xs ys ts us a b c past.steps_are step.steps_are;
-    goes =
-        let both = goes_then (all_entered xs ts a.core) (all_entered ys us b.core) (λ r. all_given r xs ts) (λ r. all_given r ys us) a.core b.core c.core past.goes step.goes in
-        subst (λ (g : Recipient → List Out). Goes (all_entered (xs ++ ys) (ts ++ us) a.core) g a.core c.core) (λ i r. sym (given_append r xs ys ts us same_length) i)
-        (subst (λ (es : List Happening). Goes es (λ r. all_given r xs ts ++ all_given r ys us) a.core c.core) (sym entered_then) both);
-    heard =
-        step.heard ∙ ap (λ (z : Account). z.heard) (sym second_is) ∙ sym (heard_from a.core.confs ys us first.happened first.state first.heard) ∙ ap (λ (z : Account). z.heard) (sym parts);
-    spoken = λ h. step.spoken (past.spoken h);
-  }
+  given_alike : (step : Step) (inside told : Told) → Joins radio step inside told old new → given Control step inside ≡ given Control step told
+  given_alike (Hand (Radio b)) (Handed outs) (Queued count) h = refl
+  given_alike (Hand (Radio b)) NoMemory NoMemory h = refl
+  given_alike (Hand (Radio b)) NoMemory Nothing h = refl
+  given_alike (Hand (Radio b)) inside told h = absurd h
+  given_alike (Apply b) inside told h = refl
+  given_alike step inside told h = ap (given Control step) (sym h.0)
 
 -- ---- two runs of a world
 module _ {D R : Type 0} (radio : RadioModel R) where
@@ -142,28 +47,19 @@ module _ {D R : Type 0} (radio : RadioModel R) where
       → AreWorldSteps radio (xs ++ ys) (is ++ js) (ts ++ us) a c
   world_steps_then [] ys [] js [] us a b c past step = subst (λ w. AreWorldSteps radio ys js us w c) past step
   world_steps_then (x ∷ xs) ys (i ∷ is) js (t ∷ ts) us a b c past step = (past.0, past.1, past.2, world_steps_then xs ys is js ts us past.0 b c past.3 step)
-  world_steps_then [] ys [] js (t ∷ ts) us a b c past step = absurd past
-  world_steps_then [] ys (i ∷ is) js ts us a b c past step = absurd past
-  world_steps_then (x ∷ xs) ys [] js ts us a b c past step = absurd past
-  world_steps_then (x ∷ xs) ys (i ∷ is) js [] us a b c past step = absurd past
+  world_steps_then xs ys is js ts us a b c past step = absurd past
 
   -- what is told inside and outside comes to the same
   accounts_alike : (confs : List Conf) (xs : List Step) (is ts : List Told) (a b : World D R) (z : Account) → AreWorldSteps radio xs is ts a b → account confs xs is z ≡ account confs xs ts z
   accounts_alike confs [] [] [] a b z h = refl
   accounts_alike confs (x ∷ xs) (i ∷ is) (t ∷ ts) a b z h =
       accounts_alike confs xs is ts h.0 b (one_more confs x i z) h.3 ∙ ap (account confs xs ts) (happens_alike radio a h.0 confs x i t z h.2)
-  accounts_alike confs [] [] (t ∷ ts) a b z h = absurd h
-  accounts_alike confs [] (i ∷ is) ts a b z h = absurd h
-  accounts_alike confs (x ∷ xs) [] ts a b z h = absurd h
-  accounts_alike confs (x ∷ xs) (i ∷ is) [] a b z h = absurd h
+  accounts_alike confs xs is ts a b z h = absurd h
 
   controls_alike : (xs : List Step) (is ts : List Told) (a b : World D R) → AreWorldSteps radio xs is ts a b → all_given Control xs is ≡ all_given Control xs ts
   controls_alike [] [] [] a b h = refl
   controls_alike (x ∷ xs) (i ∷ is) (t ∷ ts) a b h = λ k. given_alike radio a h.0 x i t h.2 k ++ controls_alike xs is ts h.0 b h.3 k
-  controls_alike [] [] (t ∷ ts) a b h = absurd h
-  controls_alike [] (i ∷ is) ts a b h = absurd h
-  controls_alike (x ∷ xs) [] ts a b h = absurd h
-  controls_alike (x ∷ xs) (i ∷ is) [] a b h = absurd h
+  controls_alike xs is ts a b h = absurd h
 
   all_flow : (r : Bssid) (xs : List Step) (is ts : List Told) (a b : World D R) → AreWorldSteps radio xs is ts a b → all_applied r xs ts ++ queue_of b r ≡ queue_of a r ++ all_given (Radio r) xs is
   all_flow r [] [] [] a b h = ap (λ w. queue_of w r) h ∙ sym (append-nil (queue_of a r))
@@ -171,10 +67,7 @@ module _ {D R : Type 0} (radio : RadioModel R) where
       append_assoc (applied r x t) (all_applied r xs ts) (queue_of b r) ∙ ap (λ os. applied r x t ++ os) (all_flow r xs is ts h.0 b h.3)
       ∙ sym (append_assoc (applied r x t) (queue_of h.0 r) (all_given (Radio r) xs is)) ∙ ap (λ os. os ++ all_given (Radio r) xs is) (flows radio a h.0 r x i t h.2)
       ∙ append_assoc (queue_of a r) (given (Radio r) x i) (all_given (Radio r) xs is)
-  all_flow r [] [] (t ∷ ts) a b h = absurd h
-  all_flow r [] (i ∷ is) ts a b h = absurd h
-  all_flow r (x ∷ xs) [] ts a b h = absurd h
-  all_flow r (x ∷ xs) (i ∷ is) [] a b h = absurd h
+  all_flow r xs is ts a b h = absurd h
 
   -- a run inside, and what the steps do beside it, are a run
   pub run_of : (xs : List Step) (is ts : List Told) (a b : World D R) → AreWorldSteps radio xs is ts a b → IsRun xs is (durable_of a) (durable_of b) → IsWorldRun radio xs ts a b
@@ -194,6 +87,12 @@ module _ {D R : Type 0} (radio : RadioModel R) where
             ∙ ap (λ es. queue_of a r ++ (held_for (Radio r) core ++ outs_run (Radio r) (front_of core) core.confs es)) same;
       }
 
+  pub no_world_run : (w : World D R) → IsWorldRun radio [] [] w w
+  no_world_run w = run_of [] [] [] w w refl (no_run (durable_of w))
+
+  pub one_world_run : (x : Step) (t : Told) (a b : World D R) → IsWorldStep radio x t a b → IsWorldRun radio (x ∷ []) (t ∷ []) a b
+  one_world_run x t a b step = run_of (x ∷ []) (step.inside ∷ []) (t ∷ []) a b (b, step.durable.tells, step.joins, refl) (one_run x step.inside (durable_of a) (durable_of b) step.durable)
+
   pub world_runs_join : (xs ys : List Step) (ts us : List Told) (a b c : World D R) → IsWorldRun radio xs ts a b → IsWorldRun radio ys us b c → IsWorldRun radio (xs ++ ys) (ts ++ us) a c
   world_runs_join xs ys ts us a b c past step =
       run_of (xs ++ ys) (past.insides ++ step.insides) (ts ++ us) a c
@@ -203,10 +102,7 @@ module _ {D R : Type 0} (radio : RadioModel R) where
   pub tolds_length : (xs : List Step) (is ts : List Told) (a b : World D R) → AreWorldSteps radio xs is ts a b → length ts ≡ length xs
   tolds_length [] [] [] a b h = refl
   tolds_length (x ∷ xs) (i ∷ is) (t ∷ ts) a b h = ap suc (tolds_length xs is ts h.0 b h.3)
-  tolds_length [] [] (t ∷ ts) a b h = absurd h
-  tolds_length [] (i ∷ is) ts a b h = absurd h
-  tolds_length (x ∷ xs) [] ts a b h = absurd h
-  tolds_length (x ∷ xs) (i ∷ is) [] a b h = absurd h
+  tolds_length xs is ts a b h = absurd h
 
   -- what happened by the first, and then by the others
   pub world_entered_then : (xs ys : List Step) (ts us : List Told) (a b c : World D R) → IsWorldRun radio xs ts a b → IsWorldRun radio ys us b c
@@ -217,177 +113,234 @@ module _ {D R : Type 0} (radio : RadioModel R) where
       ∙ entered_then xs ys past.insides step.insides (durable_of a) (durable_of b) (durable_of c) past.run step.run
       ∙ (λ i. past.entered i ++ step.entered i)
 
--- ---- a run of the store's steps is a world's
-abbrev pub IsOfStore : Step → Type 0
-IsOfStore Take = ⊤
-IsOfStore Call = ⊤
-IsOfStore Publish = ⊤
-IsOfStore step = ⊥
+-- ---- what is told more
+more_told : {X : Type 0} (t : X) (ts : List X) (x : X) → Contains (t ∷ ts) x → (t ≡ x) ⊎ Contains ts x
+more_told t ts x (zero, lt, is) = inl is
+more_told t ts x (suc k, lt, is) = inr (k, omega (arith, lt), is)
 
-calls_of_store : (n : ℕ) → AllByRecursion IsOfStore (replicate n Call ++ Publish ∷ [])
-calls_of_store zero = (tt, tt)
-calls_of_store (suc n) = (tt, calls_of_store n)
+-- a count that rose has risen since before, and later
+pub risen_since : (first mid last : ℕ) → HasRisen mid last → first ≤ mid → mid ≤ last → HasRisen first last
+risen_since first mid last risen before later below = elim (cases_lt (mid + 1) (2 ^ 64)) [
+  | inl room ↦ (let more = risen room in omega (arith, more, before))
+  | inr top ↦ omega (arith, top, below, later)
+]
+
+-- ---- one step after the other
+module _ {D R : Type 0} (disk : DiskModel D) (radio : RadioModel R) where
+  abbrev In_turn : List Step → List Told → World D R → World D R → Type 0
+  In_turn xs ts a b = AreMadeInTurn disk radio xs ts a b
+
+  abbrev pub failures : World D R → ℕ
+  failures w = disk.failed (device_of (durable_of w))
+
+  turn_then : (xs ys : List Step) (ts us : List Told) (a b c : World D R) → In_turn xs ts a b → In_turn ys us b c → In_turn (xs ++ ys) (ts ++ us) a c
+  turn_then [] ys [] us a b c past more = subst (λ w. In_turn ys us w c) past.0 more
+  turn_then (x ∷ xs) ys (t ∷ ts) us a b c past more = (past.0, past.1, past.2, turn_then xs ys ts us past.0 b c past.3 more)
+  turn_then xs ys ts us a b c past more = absurd past
+
+  -- what each step keeps
+  kept : (P : World D R → Type 0) → ((x : Step) (t : Told) (a b : World D R) → IsWorldStep radio x t a b → IsStepMade disk t (durable_of a) (durable_of b) → P a → P b)
+      → (xs : List Step) (ts : List Told) (a b : World D R) → In_turn xs ts a b → P a → P b
+  kept P each [] [] a b h was = subst P (sym h.0) was
+  kept P each (x ∷ xs) (t ∷ ts) a b h was = kept P each xs ts h.0 b h.3 (each x t a h.0 h.1 h.2 was)
+  kept P each xs ts a b h was = absurd h
+
+  run_in_turn : (xs : List Step) (ts : List Told) (a b : World D R) → In_turn xs ts a b → IsWorldRun radio xs ts a b
+  run_in_turn [] [] a b h = subst (λ w. IsWorldRun radio [] [] a w) (sym h.0) (no_world_run radio a)
+  run_in_turn (x ∷ xs) (t ∷ ts) a b h = world_runs_join radio (x ∷ []) xs (t ∷ []) ts a h.0 b (one_world_run radio x t a h.0 h.1) (run_in_turn xs ts h.0 b h.3)
+  run_in_turn xs ts a b h = absurd h
+
+  moments_in_turn : (xs : List Step) (ts : List Told) (a b : World D R) → In_turn xs ts a b → Moments disk (all_entered xs ts (durable_of a).core) (durable_of a) (durable_of b)
+  moments_in_turn [] [] a b h = subst (λ w. Moments disk [] (durable_of a) (durable_of w)) (sym h.0) (safe_moments disk [] (durable_of a) (durable_of a) h.1)
+  moments_in_turn (x ∷ xs) (t ∷ ts) a b h =
+      let mid = h.0 in
+      let one = one_world_run radio x t a mid h.1 in
+      let es = all_entered (x ∷ []) (t ∷ []) (durable_of a).core in
+      let given = λ (r : Recipient). all_given r (x ∷ []) one.insides in
+      let goes = subst (λ (zs : List Happening). Goes zs given (durable_of a).core (durable_of mid).core) one.entered one.run.goes in
+      subst (λ (zs : List Happening). Moments disk zs (durable_of a) (durable_of b)) (sym (world_entered_then radio (x ∷ []) xs (t ∷ []) ts a mid b one (run_in_turn xs ts mid b h.3)))
+      (moments_then disk es (all_entered xs ts (durable_of mid).core) given (durable_of a) (durable_of mid) (durable_of b) goes (safe_moments disk es (durable_of a) (durable_of mid) h.2.safe) h.2.safe.proper (moments_in_turn xs ts mid b h.3))
+  moments_in_turn xs ts a b h = absurd h
+
+  later_count : (xs : List Step) (ts : List Told) (a b : World D R) → In_turn xs ts a b → failures a ≤ failures b
+  later_count xs ts a b h = kept (λ w. failures a ≤ failures w) (λ x t v w step made before. let more = made.count in omega (arith, before, more)) xs ts a b h (omega arith)
+
+  risen_in_turn : (xs : List Step) (ts : List Told) (a b : World D R) → In_turn xs ts a b → Contains ts (Called (Err Device)) → HasRisen (failures a) (failures b)
+  risen_in_turn [] [] a b h (k, lt, is) = absurd (omega (arith, lt))
+  risen_in_turn (x ∷ xs) (t ∷ ts) a b h some = ⊎_elim
+      (λ one. λ below. let now = h.2.fault one below in let later = later_count xs ts h.0 b h.3 in omega (arith, now, later))
+      (λ more. risen_since (failures a) (failures h.0) (failures b) (risen_in_turn xs ts h.0 b h.3 more) h.2.count (later_count xs ts h.0 b h.3))
+      (more_told t ts (Called (Err Device)) some)
+  risen_in_turn xs ts a b h some = absurd h
+
+  -- so many of them, and the others
+  record AreParted (n : ℕ) (xs : List Step) (ts : List Told) (a b : World D R) : Type 0 where
+    pub mid : World D R
+    pub first : IsWorldRun radio (take n xs) (take n ts) a mid
+    pub proper : IsProper disk (durable_of a) → IsProper disk (durable_of mid)
+    pub rest : In_turn (drop n xs) (drop n ts) mid b
+
+  parted : (n : ℕ) (xs : List Step) (ts : List Told) (a b : World D R) → In_turn xs ts a b → AreParted n xs ts a b
+  parted zero xs ts a b h = record { mid = a; first = no_world_run radio a; proper = λ p. p; rest = h }
+  parted (suc n) [] [] a b h = record { mid = a; first = no_world_run radio a; proper = λ p. p; rest = h }
+  parted (suc n) (x ∷ xs) (t ∷ ts) a b h =
+      let k = parted n xs ts h.0 b h.3 in
+      record {
+        mid = k.mid;
+        first = world_runs_join radio (x ∷ []) (take n xs) (t ∷ []) (take n ts) a h.0 k.mid (one_world_run radio x t a h.0 h.1) k.first;
+        proper = λ p. k.proper (h.2.safe.proper p);
+        rest = k.rest;
+      }
+  parted (suc n) xs ts a b h = absurd h
+
+  all_made : (xs : List Step) (ts : List Told) (a b : World D R) → In_turn xs ts a b → AreSafelyMade disk radio xs ts a b
+  all_made xs ts a b h = record {
+    in_turn = h;
+    run = run_in_turn xs ts a b h;
+    whole = kept (λ w. IsWhole disk (durable_of w)) (λ x t v w step made. made.safe.whole) xs ts a b h;
+    proper = kept (λ w. IsProper disk (durable_of w)) (λ x t v w step made. made.safe.proper) xs ts a b h;
+    any_moment = moments_in_turn xs ts a b h;
+    nothing_is_lost = λ p n.
+        let k = parted n xs ts a b h in
+        let es = all_entered (drop n xs) (drop n ts) (durable_of k.mid).core in
+        record {
+          mid = k.mid;
+          first = k.first;
+          rest = run_in_turn (drop n xs) (drop n ts) k.mid b k.rest;
+          proper = k.proper p;
+          loses_nothing = loses_nothing disk es (durable_of k.mid) (durable_of b) (k.proper p) (moments_in_turn (drop n xs) (drop n ts) k.mid b k.rest);
+        };
+    exact = kept (λ w. AreExact radio (slots_of w)) (λ x t v w step made. exact radio v w x step.inside t step.joins) xs ts a b h;
+    following = kept AreFollowing (λ x t v w step made. following radio v w x t step) xs ts a b h;
+    count = later_count xs ts a b h;
+    risen = risen_in_turn xs ts a b h;
+  }
+
+-- ---- what is refused
+-- a step that is not the store's
+abbrev pub IsBeside : Step → Type 0
+IsBeside Take = ⊥
+IsBeside Call = ⊥
+IsBeside Publish = ⊥
+IsBeside step = ⊤
+
+pub handing_beside : (x : Step) → IsHanding x → IsBeside x
+handing_beside (Hand r) h = tt
+handing_beside (Apply b) h = tt
+handing_beside x h = absurd h
+
+pub asked_beside : (x : Step) (o : Option (Result Happening QuietReason)) → asked x ≡ Some o → IsBeside x
+asked_beside Take o is = none_some (asked Take) o refl is
+asked_beside Call o is = none_some (asked Call) o refl is
+asked_beside Publish o is = none_some (asked Publish) o refl is
+asked_beside x o is = tt
+
+-- a round in which none is told comes to one of these
+abbrev pub IsUnrefused : Commit → Type 0
+IsUnrefused commit.Settled = ⊤
+IsUnrefused commit.Nothing = ⊤
+IsUnrefused answer = ⊥
+
+first_unrefused : (t : Told) (rest : Commit) → IsUnrefused (unwrap_or (said t) rest) → IsNoRefusal t
+first_unrefused (Loaded (Err f)) rest h = h
+first_unrefused (Called (Err f)) rest h = h
+first_unrefused (Published (Err publish_fault.Foreign)) rest h = h
+first_unrefused (Published (Err publish_fault.NoMemory)) rest h = h
+first_unrefused t rest h = tt
+
+rest_unrefused : (t : Told) (rest : Commit) → ((r : Result (Unit {0}) PublishFault) → t ≡ Published r → ⊥) → IsUnrefused (unwrap_or (said t) rest) → IsUnrefused rest
+rest_unrefused (Published r) rest other h = absurd (other r refl)
+rest_unrefused (Loaded (Err f)) rest other h = absurd h
+rest_unrefused (Called (Err f)) rest other h = absurd h
+rest_unrefused NoMemory rest other h = absurd h
+rest_unrefused t rest other h = h
 
 module _ {D R : Type 0} (radio : RadioModel R) where
-  lifted : (xs : List Step) (ts : List Told) (w : World D R) (d : DurableCore D) → AllByRecursion IsOfStore xs → AreSteps xs ts (durable_of w) d → AreWorldSteps radio xs ts ts w (record w { durable = d })
-  lifted [] [] w d all h = ap (λ (e : DurableCore D). record w { durable = e }) h
-  lifted (Take ∷ xs) (t ∷ ts) w d all h = (record w { durable = h.0 }, h.1, (refl, record { slots = refl; queues = λ b. refl }), lifted xs ts (record w { durable = h.0 }) d all.1 h.2)
-  lifted (Call ∷ xs) (t ∷ ts) w d all h = (record w { durable = h.0 }, h.1, (refl, record { slots = refl; queues = λ b. refl }), lifted xs ts (record w { durable = h.0 }) d all.1 h.2)
-  lifted (Publish ∷ xs) (t ∷ ts) w d all h = (record w { durable = h.0 }, h.1, (refl, record { slots = refl; queues = λ b. refl }), lifted xs ts (record w { durable = h.0 }) d all.1 h.2)
-  lifted (Accept i m ∷ xs) (t ∷ ts) w d all h = absurd all.0
-  lifted (Hand r ∷ xs) (t ∷ ts) w d all h = absurd all.0
-  lifted (Ask q ∷ xs) (t ∷ ts) w d all h = absurd all.0
-  lifted (Apply b ∷ xs) (t ∷ ts) w d all h = absurd all.0
-  lifted [] (t ∷ ts) w d all h = absurd h
-  lifted (x ∷ xs) [] w d all h = absurd h
+  -- a step that is not the store's is told no refusal
+  beside_none : (x : Step) (i t : Told) (a b : World D R) → IsBeside x → Tells x i (durable_of a) (durable_of b) → Joins radio x i t a b → IsNoRefusal t
+  beside_none (Accept m h) (Accepted answer) t a b beside tells joins = subst IsNoRefusal (sym joins.0) tt
+  beside_none (Accept m h) NoMemory t a b beside tells joins = subst IsNoRefusal (sym joins.0) tt
+  beside_none (Ask q) (Read answer) t a b beside tells joins = subst IsNoRefusal (sym joins.0) tt
+  beside_none (Ask q) NoMemory t a b beside tells joins = subst IsNoRefusal (sym joins.0) tt
+  beside_none (Hand Control) (Handed outs) t a b beside tells joins = subst IsNoRefusal (sym joins.0) tt
+  beside_none (Hand Control) NoMemory t a b beside tells joins = subst IsNoRefusal (sym joins.0) tt
+  beside_none (Hand (Radio r)) (Handed outs) (Queued count) a b beside tells joins = tt
+  beside_none (Hand (Radio r)) NoMemory NoMemory a b beside tells joins = tt
+  beside_none (Hand (Radio r)) NoMemory Nothing a b beside tells joins = tt
+  beside_none (Hand (Radio r)) i t a b beside tells joins = absurd joins
+  beside_none (Apply r) Nothing (Applied out answer) a b beside tells joins = tt
+  beside_none (Apply r) Nothing NoMemory a b beside tells joins = tt
+  beside_none (Apply r) Nothing Nothing a b beside tells joins = tt
+  beside_none (Apply r) Nothing t a b beside tells joins = absurd joins.goes.first
+  beside_none Take i t a b beside tells joins = absurd beside
+  beside_none Call i t a b beside tells joins = absurd beside
+  beside_none Publish i t a b beside tells joins = absurd beside
+  beside_none x i t a b beside tells joins = absurd tells
 
-  pub round_lifted : (n : ℕ) (ts : List Told) (w : World D R) (d : DurableCore D) → IsRun (round n) ts (durable_of w) d → IsWorldRun radio (round n) ts w (record w { durable = d })
-  round_lifted n ts w d h = run_of radio (round n) ts ts w (record w { durable = d }) (lifted (round n) ts w d (tt, calls_of_store n) h.steps_are) h
+  pub one_unrefused : (x : Step) (t : Told) (a b : World D R) → IsBeside x → IsWorldStep radio x t a b → All IsNoRefusal (t ∷ [])
+  one_unrefused x t a b beside step = All-cons IsNoRefusal t [] (beside_none x step.inside t a b beside step.durable.tells step.joins) (All-nil IsNoRefusal)
+
+  calls_unrefused : (n : ℕ) (is ts : List Told) (a b : World D R) → AreWorldSteps radio (replicate n Call ++ Publish ∷ []) is ts a b → IsUnrefused (answer_of ts) → All IsNoRefusal ts
+  calls_unrefused zero (i ∷ []) (t ∷ []) a b h u = All-cons IsNoRefusal t [] (first_unrefused t commit.Nothing u) (All-nil IsNoRefusal)
+  calls_unrefused (suc n) (i ∷ is) (t ∷ ts) a b h u =
+      All-cons IsNoRefusal t ts (first_unrefused t (answer_of ts) u) (calls_unrefused n is ts h.0 b h.3
+      (rest_unrefused t (answer_of ts) (λ r is. subst (λ z. Tells Call z (durable_of a) (durable_of h.0)) (sym h.2.0 ∙ is) h.1) u))
+  calls_unrefused zero (i ∷ is) (t ∷ ts) a b h u = absurd h.3
+  calls_unrefused n is ts a b h u = absurd h
+
+  round_unrefused : (n : ℕ) (is ts : List Told) (a b : World D R) → AreWorldSteps radio (round n) is ts a b → IsUnrefused (answer_of ts) → All IsNoRefusal ts
+  round_unrefused n (i ∷ is) (t ∷ ts) a b h u =
+      All-cons IsNoRefusal t ts (first_unrefused t (answer_of ts) u) (calls_unrefused n is ts h.0 b h.3
+      (rest_unrefused t (answer_of ts) (λ r is. subst (λ z. Tells Take z (durable_of a) (durable_of h.0)) (sym h.2.0 ∙ is) h.1) u))
+  round_unrefused n is ts a b h u = absurd h
 
 -- ---- what is safely made
--- what is shown of a core some time later is shown of it before
-front_later : (a b : CoreState) (hs es fs : List Happening) (g : Recipient → List Out) → b.confs ≡ a.confs → (settles : Settles hs es g a b) → (c : List ℕ) → ShowsFront b.settled b.confs (settles.left ++ fs) c
-    → ShowsFront a.settled a.confs (hs ++ (es ++ fs)) c
-front_later a b hs es fs g confs settles c h =
-    let whole = settles.left ++ fs in
-    let front = take h.count whole in
-    let rest = drop h.count whole in
-    let parts : hs ++ (es ++ fs) ≡ (settles.settled ++ front) ++ rest =
-    sym (append_assoc hs es fs) ∙ ap (λ xs. xs ++ fs) settles.split ∙ append_assoc settles.settled settles.left fs ∙ ap (λ xs. settles.settled ++ xs) (sym (take-append-drop h.count whole))
-    ∙ sym (append_assoc settles.settled front rest) in
-    let is : run b.settled b.confs front ≡ run a.settled a.confs (settles.settled ++ front) =
-    (λ i. run (settles.state i) (confs i) front) ∙ sym (run-append a.confs settles.settled front a.settled) in
-    shows_front a.settled a.confs c (hs ++ (es ++ fs)) (settles.settled ++ front) rest parts (subst (Shows c) is h.shows)
-
 module _ {D R : Type 0} (disk : DiskModel D) (radio : RadioModel R) where
   abbrev Safe : List Step → List Told → World D R → World D R → Type 0
   Safe xs ts a b = AreSafelyMade disk radio xs ts a b
 
-  abbrev Fronts : World D R → World D R → List Happening → Type 0
-  Fronts a b hs = LeavesFront disk hs a b
+  pub none_made : (w : World D R) → IsSafe disk (durable_of w) (durable_of w) → Safe [] [] w w
+  none_made w here = all_made disk radio [] [] w w (refl, here)
 
-  abbrev Stays : World D R → World D R → Type 0
-  Stays a b = StaysSafe disk radio (LeavesFront disk) a b
-
-  pub none_made : (w : World D R) → (IsProper disk (durable_of w) → (image : List ℕ) → disk.left_since (device_of (durable_of w)) (disk.moment (device_of (durable_of w))) image → ShowsEither (durable_of w).core image)
-      → Safe [] [] w w
-  none_made w stops = record {
-    run = run_of radio [] [] [] w w refl (record { steps_are = refl; goes = goes_unchanged (durable_of w).core; heard = refl; spoken = λ h. h });
-    safe = record {
-      proper = λ p. p;
-      any_moment = λ p hs u. started disk (device_of (durable_of w)) (ShowsFront (durable_of w).core.settled (durable_of w).core.confs (hs ++ []))
-          (λ c left.
-          let flight = shows_flight (durable_of w).core hs u c (stops p c left) in
-          shows_front (durable_of w).core.settled (durable_of w).core.confs c (hs ++ []) (take flight.count hs) (drop flight.count hs) (append-nil hs ∙ sym (take-append-drop flight.count hs)) flight.shows);
-      exact = λ all. all;
-      following = λ f. f;
-    };
-  }
-
-  pub one_made : (x : Step) (t : Told) (a b : World D R) → IsWorldStep radio x t a b → IsSafe disk (durable_of a) (durable_of b) → Safe (x ∷ []) (t ∷ []) a b
-  one_made x t a b step safe =
-      let ca = (durable_of a).core in
-      let run = run_of radio (x ∷ []) (step.inside ∷ []) (t ∷ []) a b (b, step.durable.tells, step.joins, refl)
-      (record {
-        steps_are = (durable_of b, step.durable.tells, refl);
-        goes = subst (λ (g : Recipient → List Out). Goes (entered ca.confs ca.heard x step.inside) g ca (durable_of b).core) (λ i r. sym (append-nil (given r x step.inside)) i) step.durable.goes;
-        heard = step.durable.heard;
-        spoken = step.durable.spoken;
-      }) in
-      record {
-        run = run;
-        safe = record {
-          proper = safe.proper;
-          any_moment = λ p hs u. weaker disk (device_of (durable_of a)) (device_of (durable_of b)) (ShowsEither ca) (ShowsFront ca.settled ca.confs (hs ++ all_entered (x ∷ []) (t ∷ []) ca))
-              (shows_later ca ca hs [] (λ _. []) refl ((goes_unchanged ca).settles hs u) (all_entered (x ∷ []) (t ∷ []) ca)) (safe.inside p);
-          exact = exact radio a b x step.inside t step.joins;
-          following = following radio a b x t step;
-        };
-      }
+  pub one_made : (x : Step) (t : Told) (a b : World D R) → IsWorldStep radio x t a b → IsStepMade disk t (durable_of a) (durable_of b)
+      → IsSafe disk (durable_of b) (durable_of b) → Safe (x ∷ []) (t ∷ []) a b
+  one_made x t a b step made here = all_made disk radio (x ∷ []) (t ∷ []) a b (b, step, made, (refl, here))
 
   pub made_then : (xs ys : List Step) (ts us : List Told) (a b c : World D R) → Safe xs ts a b → Safe ys us b c → Safe (xs ++ ys) (ts ++ us) a c
-  made_then xs ys ts us a b c past step =
-      let ca = (durable_of a).core in
-      let cb = (durable_of b).core in
-      let es = all_entered xs ts ca in
-      let fs = all_entered ys us cb in
-      record {
-        run = world_runs_join radio xs ys ts us a b c past.run step.run;
-        safe = record {
-          proper = λ p. step.safe.proper (past.safe.proper p);
-          any_moment = λ p hs u.
-              let goes = subst (λ (zs : List Happening). Goes zs (λ r. all_given r xs past.run.insides) ca cb) past.run.entered past.run.run.goes in
-              let settles = goes.settles hs u in
-              let both : Fronts a c (hs ++ (es ++ fs)) =
-              then_run disk (device_of (durable_of a)) (device_of (durable_of b)) (device_of (durable_of c)) (ShowsFront ca.settled ca.confs (hs ++ (es ++ fs)))
-              (weaker disk (device_of (durable_of a)) (device_of (durable_of b)) (ShowsFront ca.settled ca.confs (hs ++ es)) (ShowsFront ca.settled ca.confs (hs ++ (es ++ fs)))
-              (λ image. shows_more ca.settled ca.confs image (hs ++ es) fs (hs ++ (es ++ fs)) (sym (append_assoc hs es fs))) (past.safe.any_moment p hs u))
-              (weaker disk (device_of (durable_of b)) (device_of (durable_of c)) (ShowsFront cb.settled cb.confs (settles.left ++ fs)) (ShowsFront ca.settled ca.confs (hs ++ (es ++ fs)))
-              (front_later ca cb hs es fs (λ r. all_given r xs past.run.insides) goes.confs settles) (step.safe.any_moment (past.safe.proper p) settles.left settles.decided)) in
-              subst (λ zs. Fronts a c (hs ++ zs)) (sym (world_entered_then radio xs ys ts us a b c past.run step.run)) both;
-          exact = λ all. step.safe.exact (past.safe.exact all);
-          following = λ f. step.safe.following (past.safe.following f);
-        };
-      }
+  made_then xs ys ts us a b c past more = all_made disk radio (xs ++ ys) (ts ++ us) a c (turn_then disk radio xs ys ts us a b c past.in_turn more.in_turn)
 
-  -- ---- nothing happens
-  abbrev Quiet : List Step → List Told → World D R → World D R → Type 0
-  Quiet xs ts a b = AreQuietlyMade disk radio xs ts a b
+  -- the next of these steps
+  pub next_made : (steps : List Step) (i : ℕ) (ts us : List Told) (d : Step) (t : Told) (a b c : World D R) → Safe (take i steps) ts a b → i < length steps
+      → IsWorldStep radio (get_or steps i d) t b c → IsStepMade disk t (durable_of b) (durable_of c) → IsSafe disk (durable_of c) (durable_of c) → us ≡ ts ++ t ∷ []
+      → Safe (take (i + 1) steps) us a c
+  next_made steps i ts us d t a b c past lt step made here now =
+      let x = get_or steps i d in
+      let more : take (i + 1) steps ≡ take i steps ++ x ∷ [] = ap (λ n. take n steps) (add-one i) ∙ take-suc steps i d lt in
+      subst (λ vs. Safe (take (i + 1) steps) vs a c) (sym now) (subst (λ ys. Safe ys (ts ++ t ∷ []) a c) (sym more) (made_then (take i steps) (x ∷ []) ts (t ∷ []) a b c past (one_made x t b c step made here)))
 
-  pub quiet_then : (xs ys : List Step) (ts us : List Told) (a b c : World D R) → Quiet xs ts a b → Quiet ys us b c → Quiet (xs ++ ys) (ts ++ us) a c
-  quiet_then xs ys ts us a b c past step = record {
-    made = made_then xs ys ts us a b c past.made step.made;
-    none = world_entered_then radio xs ys ts us a b c past.made.run step.made.run ∙ (λ i. past.none i ++ step.none i);
-  }
+  -- some are, and none told a refusal
+  abbrev Unrefused : World D R → World D R → Type 0
+  Unrefused a b = HasGoneUnrefused disk radio a b
 
-  -- some steps, of which a stop within them leaves a front of what was not settled, are safely made
-  pub stays_made : (xs : List Step) (ts : List Told) (a b : World D R) → IsWorldRun radio xs ts a b → Stays a b → Safe xs ts a b
-  stays_made xs ts a b run stays =
-      let ca = (durable_of a).core in
-      let fs = all_entered xs ts ca in
-      record {
-        run = run;
-        safe = record {
-          proper = stays.proper;
-          any_moment = λ p hs u. weaker disk (device_of (durable_of a)) (device_of (durable_of b)) (ShowsFront ca.settled ca.confs hs) (ShowsFront ca.settled ca.confs (hs ++ fs))
-              (λ image. shows_more ca.settled ca.confs image hs fs (hs ++ fs) refl) (stays.any_moment p hs u);
-          exact = stays.exact;
-          following = stays.following;
-        };
-      }
+  pub none_gone : (w : World D R) → Safe [] [] w w → Unrefused w w
+  none_gone w made = record { gone_on = record { steps = []; tolds = []; made = made }; none = All-nil IsNoRefusal }
 
-  -- a round of the store's steps
-  pub round_quiet : (n : ℕ) (ts : List Told) (a b : World D R) → IsWorldRun radio (round n) ts a b → Stays a b → Quiet (round n) ts a b
-  round_quiet n ts a b run stays = record {
-    made = stays_made (round n) ts a b run stays;
-    none = ap (λ (z : Account). z.happened) (round_enters_none (durable_of a).core.confs (front_of (durable_of a).core) (durable_of a).core.heard n ts);
-  }
+  pub one_gone : (x : Step) (t : Told) (a b : World D R) → IsBeside x → IsWorldStep radio x t a b → IsStepMade disk t (durable_of a) (durable_of b) → IsSafe disk (durable_of b) (durable_of b) → Unrefused a b
+  one_gone x t a b beside step made here = record { gone_on = record { steps = x ∷ []; tolds = t ∷ []; made = one_made x t a b step made here }; none = one_unrefused radio x t a b beside step }
 
-  pub some_none : (w : World D R) → Safe [] [] w w → SomeAreQuietlyMade disk radio w w
-  some_none w made = record { steps = []; tolds = []; quiet = record { made = made; none = refl } }
+  pub gone_then : (xs : List Step) (ts : List Told) (a b c : World D R) → Safe xs ts a b → HasGoneOn disk radio b c → HasGoneOn disk radio a c
+  gone_then xs ts a b c past g = record { steps = xs ++ g.steps; tolds = ts ++ g.tolds; made = made_then xs g.steps ts g.tolds a b c past g.made }
 
-  pub some_quiet : (xs : List Step) (ts : List Told) (a b c : World D R) → Quiet xs ts a b → SomeAreQuietlyMade disk radio b c
-      → SomeAreQuietlyMade disk radio a c
-  some_quiet xs ts a b c past some = record { steps = xs ++ some.steps; tolds = ts ++ some.tolds; quiet = quiet_then xs some.steps ts some.tolds a b c past some.quiet }
-
-  pub some_safe : (xs : List Step) (ts : List Told) (a b c : World D R) → Safe xs ts a b → SomeAreSafelyMade disk radio b c
-      → SomeAreSafelyMade disk radio a c
-  some_safe xs ts a b c past some = record { steps = xs ++ some.steps; tolds = ts ++ some.tolds; made = made_then xs some.steps ts some.tolds a b c past some.made }
-
-  pub quiet_stays : (xs : List Step) (ts : List Told) (a b : World D R) → Quiet xs ts a b → Stays a b
-  quiet_stays xs ts a b q = record {
-    proper = q.made.safe.proper;
-    any_moment = λ p hs u. subst (λ zs. Fronts a b zs) (append-nil hs) (subst (λ zs. Fronts a b (hs ++ zs)) q.none (q.made.safe.any_moment p hs u));
-    exact = q.made.safe.exact;
-    following = q.made.safe.following;
-  }
+  pub unrefused_then : (xs : List Step) (ts : List Told) (a b c : World D R) → Safe xs ts a b → All IsNoRefusal ts → Unrefused b c → Unrefused a c
+  unfolding gone_then
+  unrefused_then xs ts a b c past none h = record { gone_on = gone_then xs ts a b c past h.gone_on; none = All-append IsNoRefusal ts h.gone_on.tolds none h.none }
 
   -- ---- what is answered
   abbrev Answered : List Step → List (Recipient × Told) → List (Recipient × Told) → World D R → World D R → Type 0
   Answered xs before after a b = AreAnswered disk radio xs before after a b
 
   pub none_answered : (answers : List (Recipient × Told)) (w : World D R) → Safe [] [] w w → Answered [] answers answers w w
-  none_answered answers w made = record { more = []; all = sym (append-nil answers); recipients = refl; told = All-nil (λ (a : Recipient × Told). a.1 ≢ NoMemory); quiet = record { made = made; none = refl } }
+  none_answered answers w made = record { more = []; all = sym (append-nil answers); recipients = refl; told = All-nil (λ (a : Recipient × Told). a.1 ≢ NoMemory); none = All-nil IsNoRefusal; made = made }
 
   pub answered_then : (xs ys : List Step) (before mid after : List (Recipient × Told)) (a b c : World D R) → Answered xs before mid a b → Answered ys mid after b c → Answered (xs ++ ys) before after a c
   answered_then xs ys before mid after a b c past step = record {
@@ -395,25 +348,21 @@ module _ {D R : Type 0} (disk : DiskModel D) (radio : RadioModel R) where
     all = step.all ∙ ap (λ xs. xs ++ step.more) past.all ∙ append_assoc before past.more step.more;
     recipients = map-append (λ (x : Recipient × Told). x.0) past.more step.more ∙ (λ i. past.recipients i ++ step.recipients i) ∙ sym (map-append recipient_of xs ys);
     told = All-append (λ (a : Recipient × Told). a.1 ≢ NoMemory) past.more step.more past.told step.told;
-    quiet = subst (λ ts. Quiet (xs ++ ys) ts a c) (sym (map-append (λ (x : Recipient × Told). x.1) past.more step.more))
-        (quiet_then xs ys (map (λ x. x.1) past.more) (map (λ x. x.1) step.more) a b c past.quiet step.quiet);
+    none = subst (All IsNoRefusal) (sym (map-append (λ (x : Recipient × Told). x.1) past.more step.more)) (All-append IsNoRefusal (map (λ x. x.1) past.more) (map (λ x. x.1) step.more) past.none step.none);
+    made = subst (λ ts. Safe (xs ++ ys) ts a c) (sym (map-append (λ (x : Recipient × Told). x.1) past.more step.more))
+        (made_then xs ys (map (λ x. x.1) past.more) (map (λ x. x.1) step.more) a b c past.made step.made);
   }
 
-  none_entered : (x : Step) (t : Told) (s : CoreState) → IsHanding x → all_entered (x ∷ []) (t ∷ []) s ≡ []
-  none_entered (Hand r) t s h = refl
-  none_entered (Apply b) t s h = refl
-  none_entered (Accept i m) t s h = absurd h
-  none_entered Take t s h = absurd h
-  none_entered Call t s h = absurd h
-  none_entered Publish t s h = absurd h
-  none_entered (Ask q) t s h = absurd h
-
-  pub one_quiet : (x : Step) (t : Told) (a b : World D R) → IsHanding x → IsWorldStep radio x t a b → IsSafe disk (durable_of a) (durable_of b) → Quiet (x ∷ []) (t ∷ []) a b
-  one_quiet x t a b hands step safe = record { made = one_made x t a b step safe; none = none_entered x t (durable_of a).core hands }
-
   pub one_answered : (x : Step) (t : Told) (r : Recipient) (before after : List (Recipient × Told)) (a b : World D R) → IsHanding x → r ≡ recipient_of x → IsWorldStep radio x t a b
-      → IsSafe disk (durable_of a) (durable_of b) → (t ≡ NoMemory → ⊥) → after ≡ before ++ (r, t) ∷ [] → Answered (x ∷ []) before after a b
-  one_answered x t r before after a b hands is step safe told all = record { more = (r, t) ∷ []; all = all; recipients = ap (λ (z : Recipient). z ∷ []) is; told = All-push (λ (a : Recipient × Told). a.1 ≢ NoMemory) [] (r, t) (All-nil (λ (a : Recipient × Told). a.1 ≢ NoMemory)) told; quiet = one_quiet x t a b hands step safe }
+      → IsStepMade disk t (durable_of a) (durable_of b) → IsSafe disk (durable_of b) (durable_of b) → (t ≡ NoMemory → ⊥) → after ≡ before ++ (r, t) ∷ [] → Answered (x ∷ []) before after a b
+  one_answered x t r before after a b hands is step made here told all = record {
+    more = (r, t) ∷ [];
+    all = all;
+    recipients = ap (λ (z : Recipient). z ∷ []) is;
+    told = All-push (λ (a : Recipient × Told). a.1 ≢ NoMemory) [] (r, t) (All-nil (λ (a : Recipient × Told). a.1 ≢ NoMemory)) told;
+    none = one_unrefused radio x t a b (handing_beside x hands) step;
+    made = one_made x t a b step made here;
+  }
 
 -- ---- what a step that hands out or applies leaves
 gives_none : (r b : Bssid) (is : List Told) → all_given (Radio r) (Apply b ∷ []) is ≡ []
@@ -436,11 +385,7 @@ tells_only (Hand r) NoMemory d e hands h = same_hands d e h.1
 tells_only (Hand r) told d e hands h = absurd h
 tells_only (Apply b) Nothing d e hands h = same_hands d e h
 tells_only (Apply b) told d e hands h = absurd h
-tells_only (Accept i m) told d e hands h = absurd hands
-tells_only Take told d e hands h = absurd hands
-tells_only Call told d e hands h = absurd hands
-tells_only Publish told d e hands h = absurd hands
-tells_only (Ask q) told d e hands h = absurd hands
+tells_only x told d e hands h = absurd hands
 
 module _ {D R : Type 0} (radio : RadioModel R) where
   pub only_hands : (x : Step) (t : Told) (a b : World D R) → IsHanding x → IsWorldStep radio x t a b → OnlyHands (durable_of a) (durable_of b)
@@ -456,27 +401,7 @@ pub on_err : {A E P : Type 0} (r : Result A E) → P → OnErr r P
 on_err (Ok x) p = tt
 on_err (Err e) p = p
 
-pub on_err_then : {A E P Q : Type 0} (r : Result A E) → (P → Q) → OnErr r P → OnErr r Q
-on_err_then (Ok x) f p = tt
-on_err_then (Err e) f p = f p
-
-pub if_ok_then : {A E : Type 0} (P Q : A → Type 0) (r : Result A E) → ((x : A) → P x → Q x) → IfOk r P → IfOk r Q
-if_ok_then P Q (Ok x) f p = f x p
-if_ok_then P Q (Err e) f p = tt
-
--- either way
-pub either_way : {A E Q : Type 0} (P : A → Type 0) (r : Result A E) → ((x : A) → P x → Q) → IfOk r P → OnErr r Q → Q
-either_way P (Ok x) f p q = f x p
-either_way P (Err e) f p q = q
-
-pub on_ok_then : {A E P Q : Type 0} (r : Result A E) → (P → Q) → OnOk r P → OnOk r Q
-on_ok_then (Ok x) f p = f p
-on_ok_then (Err e) f p = tt
-
 -- ---- what is settled is given
-ready_none : (q : Recipient) (s : CoreState) → ready_for q (handed q s) ≡ []
-ready_none q s = ap (map (λ (x : ℕ × Out). x.1)) (ap (up_to s.number) (queue_of-after_hand s.confs s.number q s.held) ∙ up_to_beyond s.number (core_queue s.confs s.held q))
-
 ready_kept : (r q : Recipient) (s : CoreState) → ready_for r s ≡ [] → ready_for r (handed q s) ≡ []
 ready_kept r q s none = elim (is_or_not r q) [
   | inl same ↦ subst (λ (z : Recipient). ready_for z (handed q s) ≡ []) (sym same) (ready_none q s)
@@ -503,39 +428,25 @@ applies_of_slot (c ∷ confs) [] = tt
 applies_of_slot (c ∷ confs) (n ∷ counts) = more_of_slot n c.bssid (applies confs counts) (applies_of_slot confs counts)
 
 module _ {D R : Type 0} (radio : RadioModel R) where
-  hand_slots : (q : Recipient) (i t : Told) (a b : World D R) → Joins radio (Hand q) i t a b → slots_of b ≡ slots_of a
-  hand_slots (Radio r) (Handed outs) (Queued count) a b h = h.1.slots
-  hand_slots (Radio r) NoMemory NoMemory a b h = h.1.slots
-  hand_slots (Radio r) NoMemory Nothing a b h = h.1.slots
-  hand_slots (Radio r) i t a b h = absurd h
-  hand_slots Control i t a b h = h.1.slots
-
-  no_slot_at : (r : Bssid) (a b : World D R) → slots_of b ≡ slots_of a → HasNoSlot r a → HasNoSlot r b
-  no_slot_at r a b same none = ap (λ slots. slot_at slots r) same ∙ none
-
   gives : (q : Recipient) (i t : Told) (a b : World D R) → Tells (Hand q) i (durable_of a) (durable_of b) → Joins radio (Hand q) i t a b → (t ≡ NoMemory → ⊥) → IsGiven q b
   gives (Radio r) (Handed outs) (Queued count) a b h joins told = inr (ap (λ (w : DurableCore D). ready_for (Radio r) w.core) h.only ∙ ready_none (Radio r) (durable_of a).core)
   gives (Radio r) NoMemory NoMemory a b h joins told = absurd (told refl)
-  gives (Radio r) NoMemory Nothing a b h joins told = inl (no_slot_at r a b joins.1.slots joins.0)
+  gives (Radio r) NoMemory Nothing a b h joins told = inl (no_slot radio a b r (Hand (Radio r)) NoMemory Nothing joins joins.0)
   gives (Radio r) i t a b h joins told = absurd joins
   gives Control (Handed outs) t a b h joins told = ap (λ (w : DurableCore D). ready_for Control w.core) h.only ∙ ready_none Control (durable_of a).core
   gives Control NoMemory t a b h joins told = absurd (told joins.0)
   gives Control i t a b h joins told = absurd h
 
   stays_given : (r q : Recipient) (i t : Told) (a b : World D R) → Tells (Hand q) i (durable_of a) (durable_of b) → Joins radio (Hand q) i t a b → IsGiven r a → IsGiven r b
-  stays_given (Radio r) q i t a b h joins (inl none) = inl (no_slot_at r a b (hand_slots q i t a b joins) none)
+  stays_given (Radio r) q i t a b h joins (inl none) = inl (no_slot radio a b r (Hand q) i t joins none)
   stays_given (Radio r) q i t a b h joins (inr none) = inr (keeps_ready (Radio r) q i (durable_of a) (durable_of b) h none)
   stays_given Control q i t a b h joins none = keeps_ready Control q i (durable_of a) (durable_of b) h none
 
   all_stay_given : (r : Recipient) (confs : List Conf) (is ts : List Told) (a b : World D R) → AreWorldSteps radio (hands confs) is ts a b → IsGiven r a → IsGiven r b
   all_stay_given r [] (i ∷ []) (t ∷ []) a b h g = subst (IsGiven r) (sym h.3) (stays_given r Control i t a h.0 h.1 h.2 g)
   all_stay_given r (c ∷ confs) (i ∷ is) (t ∷ ts) a b h g = all_stay_given r confs is ts h.0 b h.3 (stays_given r (Radio c.bssid) i t a h.0 h.1 h.2 g)
-  all_stay_given r [] (i ∷ []) (t ∷ u ∷ ts) a b h g = absurd h.3
-  all_stay_given r [] (i ∷ j ∷ is) (t ∷ ts) a b h g = absurd h.3
-  all_stay_given r [] (i ∷ is) [] a b h g = absurd h
-  all_stay_given r [] [] ts a b h g = absurd h
-  all_stay_given r (c ∷ confs) [] ts a b h g = absurd h
-  all_stay_given r (c ∷ confs) (i ∷ is) [] a b h g = absurd h
+  all_stay_given r [] (i ∷ is) (t ∷ ts) a b h g = absurd h.3
+  all_stay_given r confs is ts a b h g = absurd h
 
   hands_give : (confs : List Conf) (is ts : List Told) (a b : World D R) → AreWorldSteps radio (hands confs) is ts a b → All (λ told. told ≢ NoMemory) ts
       → All (λ conf. IsGiven (Radio conf.bssid) b) confs × IsGiven Control b
@@ -545,48 +456,25 @@ module _ {D R : Type 0} (radio : RadioModel R) where
       let more = hands_give confs is ts h.0 b h.3 (All-tail (λ told. told ≢ NoMemory) t ts told) in
       let one : IsGiven (Radio c.bssid) b = all_stay_given (Radio c.bssid) confs is ts h.0 b h.3 (gives (Radio c.bssid) i t a h.0 h.1 h.2 (All-head (λ told. told ≢ NoMemory) t ts told)) in
       (All-cons (λ conf. IsGiven (Radio conf.bssid) b) c confs one more.0, more.1)
-  hands_give [] (i ∷ []) (t ∷ u ∷ ts) a b h told = absurd h.3
-  hands_give [] (i ∷ j ∷ is) (t ∷ ts) a b h told = absurd h.3
-  hands_give [] (i ∷ is) [] a b h told = absurd h
-  hands_give [] [] ts a b h told = absurd h
-  hands_give (c ∷ confs) [] ts a b h told = absurd h
-  hands_give (c ∷ confs) (i ∷ is) [] a b h told = absurd h
+  hands_give [] (i ∷ is) (t ∷ ts) a b h told = absurd h.3
+  hands_give confs is ts a b h told = absurd h
 
   -- applying leaves what was given
-  no_slot_stays : (r c : Bssid) (t : Told) (a b : World D R) → IsApplied radio c t a b → HasNoSlot r a → HasNoSlot r b
-  no_slot_stays r c t a b h none = elim (one_or_apart bssid_total bssid_exact r c) [
-    | inl one ↦ absurd (let wrong : Some h.slot ≡ None = sym h.has_slot ∙ ap (slot_at (slots_of a)) (sym one) ∙ none in cc)
-    | inr apart ↦
-        ap (λ slots. slot_at slots r) h.slots ∙ slot_set_other (slots_of a) h.place h.after h.slot c r (own_of radio a b c t h) h.at (bssids_turned r c apart) ∙ none
-  ]
-
-  apply_keeps : (r c : Bssid) (i t : Told) (a b : World D R) → Joins radio (Apply c) i t a b → HasNoSlot r a → HasNoSlot r b
-  apply_keeps r c Nothing Nothing a b h none = no_slot_at r a b h.1.slots none
-  apply_keeps r c Nothing t a b h none = no_slot_stays r c t a b h none
-  apply_keeps r c i t a b h none = absurd h
-
   apply_core : (c : Bssid) (i : Told) (a b : World D R) → Tells (Apply c) i (durable_of a) (durable_of b) → durable_of b ≡ durable_of a
   apply_core c Nothing a b h = h
   apply_core c i a b h = absurd h
 
   apply_given : (r : Recipient) (c : Bssid) (i t : Told) (a b : World D R) → Tells (Apply c) i (durable_of a) (durable_of b) → Joins radio (Apply c) i t a b → IsGiven r a → IsGiven r b
-  apply_given (Radio r) c i t a b h joins (inl none) = inl (apply_keeps r c i t a b joins none)
+  apply_given (Radio r) c i t a b h joins (inl none) = inl (no_slot radio a b r (Apply c) i t joins none)
   apply_given (Radio r) c i t a b h joins (inr none) = inr (ap (λ (w : DurableCore D). ready_for (Radio r) w.core) (apply_core c i a b h) ∙ none)
   apply_given Control c i t a b h joins none = ap (λ (w : DurableCore D). ready_for Control w.core) (apply_core c i a b h) ∙ none
 
   applies_given : (r : Recipient) (xs : List Step) (is ts : List Told) (a b : World D R) → AllByRecursion IsOfSlot xs → AreWorldSteps radio xs is ts a b → IsGiven r a → IsGiven r b
   applies_given r [] [] [] a b all h g = subst (IsGiven r) (sym h) g
   applies_given r (Apply c ∷ xs) (i ∷ is) (t ∷ ts) a b all h g = applies_given r xs is ts h.0 b all.1 h.3 (apply_given r c i t a h.0 h.1 h.2 g)
-  applies_given r (Accept i m ∷ xs) is ts a b all h g = absurd all.0
-  applies_given r (Take ∷ xs) is ts a b all h g = absurd all.0
-  applies_given r (Call ∷ xs) is ts a b all h g = absurd all.0
-  applies_given r (Publish ∷ xs) is ts a b all h g = absurd all.0
-  applies_given r (Hand q ∷ xs) is ts a b all h g = absurd all.0
-  applies_given r (Ask q ∷ xs) is ts a b all h g = absurd all.0
-  applies_given r [] [] (t ∷ ts) a b all h g = absurd h
-  applies_given r [] (i ∷ is) ts a b all h g = absurd h
-  applies_given r (Apply c ∷ xs) [] ts a b all h g = absurd h
-  applies_given r (Apply c ∷ xs) (i ∷ is) [] a b all h g = absurd h
+  applies_given r [] is ts a b all h g = absurd h
+  applies_given r (Apply c ∷ xs) is ts a b all h g = absurd h
+  applies_given r (x ∷ xs) is ts a b all h g = absurd all.0
 
 -- ---- handing out, from one interface to the next
 pub radio_hands_more : (confs : List Conf) (i : ℕ) (d : Conf) → i < length confs → radio_hands (take (i + 1) confs) ≡ radio_hands (take i confs) ++ Hand (Radio (get_or confs i d).bssid) ∷ []
@@ -597,8 +485,7 @@ applies_push : (confs : List Conf) (counts : List ℕ) (conf : Conf) (n : ℕ) �
 applies_push [] [] conf n e = append-nil (replicate n (Apply conf.bssid))
 applies_push (c ∷ confs) (k ∷ counts) conf n e =
     ap (λ xs. replicate k (Apply c.bssid) ++ xs) (applies_push confs counts conf n (omega (arith, e))) ∙ sym (append_assoc (replicate k (Apply c.bssid)) (applies confs counts) (replicate n (Apply conf.bssid)))
-applies_push [] (k ∷ counts) conf n e = absurd (omega (arith, e))
-applies_push (c ∷ confs) [] conf n e = absurd (omega (arith, e))
+applies_push confs counts conf n e = absurd (omega (arith, e))
 
 module _ {D R : Type 0} (disk : DiskModel D) (radio : RadioModel R) where
   abbrev Applied_at : List Conf → List (Recipient × Told) → List (Recipient × Told) → World D R → World D R → Type 0
@@ -634,7 +521,7 @@ module _ {D R : Type 0} (disk : DiskModel D) (radio : RadioModel R) where
         (append_assoc (applies confs k.counts) (replicate k.count (Apply b)) (Apply b ∷ []) ∙ ap (λ xs. applies confs k.counts ++ xs) (replicate_more k.count (Apply b)))
         (answered_then disk radio (applies confs k.counts ++ replicate k.count (Apply b)) (Apply b ∷ []) before mid after a w c k.answered step);
     empty = All-weaker (λ conf. queue_of w conf.bssid ≡ []) (λ conf. queue_of c conf.bssid ≡ [])
-        (λ conf none. all_stay_empty radio b (map (λ x. x.1) step.more) w c step.quiet.made.run conf.bssid none) confs k.empty;
+        (λ conf none. all_stay_empty radio b (map (λ x. x.1) step.more) w c step.made.run conf.bssid none) confs k.empty;
   }
 
   pub applying_done : (confs : List Conf) (i : ℕ) (conf : Conf) (before after : List (Recipient × Told)) (a c : World D R) → i < length confs
@@ -654,89 +541,49 @@ module _ {D R : Type 0} (disk : DiskModel D) (radio : RadioModel R) where
       })
 
   -- ---- the whole of it
-  pub handed_out : (confs : List Conf) (mid after : List (Recipient × Told)) (a b c : World D R) → confs ≡ (durable_of a).core.confs
-      → AreAnswered disk radio (hands confs) [] mid a b → Applied_at confs mid after b c
-      → IsHandedOut radio [] after a c
-  handed_out confs mid after a b c is first second =
+  pub handed_out : (mid after : List (Recipient × Told)) (a b c : World D R) → AreAnswered disk radio (hands (durable_of a).core.confs) [] mid a b → Applied_at (durable_of b).core.confs mid after b c
+      → IsHandedOut disk radio [] after a c
+  handed_out mid after a b c first applied =
+      let confs = (durable_of a).core.confs in
+      let second = subst (λ (cs : List Conf). Applied_at cs mid after b c) first.made.run.run.goes.confs applied in
       let both = answered_then disk radio (hands confs) (applies confs second.counts) [] mid after a b c first second.answered in
-      let hand = first.quiet.made.run in
-      let apply = second.answered.quiet.made.run in
+      let hand = first.made.run in
+      let apply = second.answered.made.run in
       let given = hands_give radio confs hand.insides (map (λ x. x.1) first.more) a b hand.steps_are (All-map (λ told. told ≢ NoMemory) (λ (x : Recipient × Told). x.1) first.more first.told) in
       let later : (r : Recipient) → IsGiven r b → IsGiven r c =
       λ r. applies_given radio r (applies confs second.counts) apply.insides (map (λ x. x.1) second.answered.more) b c (applies_of_slot confs second.counts) apply.steps_are in
-      subst (λ (xs : List (Recipient × Told)). IsHandedOut radio [] xs a c) (sym both.all)
+      subst (λ (xs : List (Recipient × Told)). IsHandedOut disk radio [] xs a c) (sym both.all)
       (record {
         counts = second.counts;
         tolds = [];
-        run = subst (λ (cs : List Conf). IsWorldRun radio (hands cs ++ applies cs second.counts) (map (λ x. x.1) both.more) a c) is both.quiet.made.run;
-        recipients = subst (λ (cs : List Conf). map (λ x. x.0) both.more ≡ map recipient_of (hands cs ++ applies cs second.counts)) is both.recipients;
+        made = both.made;
+        recipients = both.recipients;
         told = both.told;
-        each = second.each ∙ ap length is;
-        empty = subst (λ (cs : List Conf). All (λ conf. queue_of c conf.bssid ≡ []) cs) is second.empty;
-        radios = subst (λ (cs : List Conf). All (λ conf. IsGiven (Radio conf.bssid) c) cs) is (All-weaker (λ conf. IsGiven (Radio conf.bssid) b) (λ conf. IsGiven (Radio conf.bssid) c) (λ conf. later (Radio conf.bssid)) confs given.0);
+        each = second.each;
+        empty = second.empty;
+        radios = All-weaker (λ conf. IsGiven (Radio conf.bssid) b) (λ conf. IsGiven (Radio conf.bssid) c) (λ conf. later (Radio conf.bssid)) confs given.0;
         control = later Control given.1;
       })
 
-  pub hands_quiet : (xs : List Step) (confs : List Conf) (before mid after : List (Recipient × Told)) (a b c : World D R) → AreAnswered disk radio xs before mid a b → Applied_at confs mid after b c
-      → SomeAreQuietlyMade disk radio a c
-  hands_quiet xs confs before mid after a b c first second =
-      let both = answered_then disk radio xs (applies confs second.counts) before mid after a b c first second.answered in
-      record { steps = xs ++ applies confs second.counts; tolds = map (λ x. x.1) both.more; quiet = both.quiet }
-
-  pub some_stay : (a b : World D R) → SomeAreQuietlyMade disk radio a b → StaysSafe disk radio (LeavesFront disk) a b
-  some_stay a b some = quiet_stays disk radio some.steps some.tolds a b some.quiet
-
-  -- some are safely made
-  pub some_safely : (a b : World D R) → SomeAreSafelyMade disk radio a b → StaysSafe disk radio (LeavesFronts disk radio) a b
-  some_safely a b some = record {
-    proper = some.made.safe.proper;
-    any_moment = λ p hs u. record { gone_on = record { steps = some.steps; tolds = some.tolds; run = some.made.run }; leaves = some.made.safe.any_moment p hs u };
-    exact = some.made.safe.exact;
-    following = some.made.safe.following;
-  }
-
-  -- after some steps some were made by which a stop leaves a front of what was not settled between
-  pub stays_after : (xs : List Step) (ts : List Told) (a b c : World D R) → AreSafelyMade disk radio xs ts a b → HasGoneOn radio b c
-      → StaysSafe disk radio (LeavesFront disk) b c → StaysSafe disk radio (LeavesFronts disk radio) a c
-  stays_after xs ts a b c past g stays = some_safely a c (some_safe disk radio xs ts a b c past
-      (record { steps = g.steps; tolds = g.tolds; made = stays_made disk radio g.steps g.tolds b c g.run stays }))
-
-  -- the same, where nothing happens by the first
-  pub quiet_after : (xs : List Step) (ts : List Told) (a b c : World D R) → AreQuietlyMade disk radio xs ts a b
-      → StaysSafe disk radio (LeavesFront disk) b c → StaysSafe disk radio (LeavesFront disk) a c
-  quiet_after xs ts a b c past stays = record {
-    proper = λ p. stays.proper (past.made.safe.proper p);
-    any_moment = λ p hs u.
-        let ca = (durable_of a).core in
-        let cb = (durable_of b).core in
-        let run = past.made.run in
-        let none : all_entered xs run.insides ca ≡ [] = run.entered ∙ past.none in
-        let goes = subst (λ (zs : List Happening). Goes zs (λ r. all_given r xs run.insides) ca cb) none run.run.goes in
-        let settles = goes.settles hs u in
-        let later : (image : List ℕ) → ShowsFront cb.settled cb.confs settles.left image → ShowsFront ca.settled ca.confs hs image =
-        λ image h. subst (λ (zs : List Happening). ShowsFront ca.settled ca.confs zs image) (append-nil hs)
-        (front_later ca cb hs [] [] (λ r. all_given r xs run.insides) goes.confs settles image (subst (λ (zs : List Happening). ShowsFront cb.settled cb.confs zs image) (sym (append-nil settles.left)) h)) in
-        then_run disk (device_of (durable_of a)) (device_of (durable_of b)) (device_of (durable_of c)) (ShowsFront ca.settled ca.confs hs)
-        ((quiet_stays disk radio xs ts a b past).any_moment p hs u)
-        (weaker disk (device_of (durable_of b)) (device_of (durable_of c)) (ShowsFront cb.settled cb.confs settles.left) (ShowsFront ca.settled ca.confs hs) later
-        (stays.any_moment (past.made.safe.proper p) settles.left settles.decided));
-    exact = λ all. stays.exact (past.made.safe.exact all);
-    following = λ f. stays.following (past.made.safe.following f);
-  }
-
 -- ---- from one call to the next
-module _ {D R : Type 0} (radio : RadioModel R) where
-  pub handed_after : (xs fs : List Step) (ts : List Told) (answers : List (Recipient × Told)) (a b c : World D R) → IsWorldRun radio xs ts a b → IsHandedOut radio fs answers b c → IsHandedOut radio (xs ++ fs) answers a c
+module _ {D R : Type 0} (disk : DiskModel D) (radio : RadioModel R) where
+  abbrev Made : List Step → List Told → World D R → World D R → Type 0
+  Made xs ts a b = AreSafelyMade disk radio xs ts a b
+
+  abbrev Handed_out : List Step → List (Recipient × Told) → World D R → World D R → Type 0
+  Handed_out xs answers a b = IsHandedOut disk radio xs answers a b
+
+  pub handed_after : (xs fs : List Step) (ts : List Told) (answers : List (Recipient × Told)) (a b c : World D R) → Made xs ts a b → Handed_out fs answers b c → Handed_out (xs ++ fs) answers a c
   handed_after xs fs ts answers a b c past h =
-      let confs : (durable_of b).core.confs ≡ (durable_of a).core.confs = past.run.goes.confs in
+      let confs : (durable_of b).core.confs ≡ (durable_of a).core.confs = past.run.run.goes.confs in
       let last = λ (cs : List Conf). hands cs ++ applies cs h.counts in
-      let both = world_runs_join radio xs (fs ++ last (durable_of b).core.confs) ts (h.tolds ++ map (λ x. x.1) answers) a b c past h.run in
+      let both = made_then disk radio xs (fs ++ last (durable_of b).core.confs) ts (h.tolds ++ map (λ x. x.1) answers) a b c past h.made in
       record {
         counts = h.counts;
         tolds = ts ++ h.tolds;
-        run =
-            subst (λ (us : List Told). IsWorldRun radio ((xs ++ fs) ++ last (durable_of a).core.confs) us a c) (sym (append_assoc ts h.tolds (map (λ x. x.1) answers)))
-            (subst (λ (ys : List Step). IsWorldRun radio ys (ts ++ (h.tolds ++ map (λ x. x.1) answers)) a c)
+        made =
+            subst (λ (us : List Told). Made ((xs ++ fs) ++ last (durable_of a).core.confs) us a c) (sym (append_assoc ts h.tolds (map (λ x. x.1) answers)))
+            (subst (λ (ys : List Step). Made ys (ts ++ (h.tolds ++ map (λ x. x.1) answers)) a c)
             (ap (λ cs. xs ++ (fs ++ last cs)) confs ∙ sym (append_assoc xs fs (last (durable_of a).core.confs))) both);
         recipients = h.recipients ∙ ap (λ cs. map recipient_of (last cs)) confs;
         told = h.told;
@@ -746,56 +593,47 @@ module _ {D R : Type 0} (radio : RadioModel R) where
         control = h.control;
       }
 
-  pub flushed_after : (xs fs : List Step) (ts : List Told) (answers : List (Recipient × Told)) (a b c : World D R) → IsWorldRun radio xs ts a b → IsFlushed radio fs answers b c → IsFlushed radio (xs ++ fs) answers a c
-  flushed_after xs fs ts answers a b c past h = record {
-    calls = h.calls;
-    handed = subst (λ (ys : List Step). IsHandedOut radio ys answers a c) (sym (append_assoc xs fs (rounds h.calls))) (handed_after xs (fs ++ rounds h.calls) ts answers a b c past h.handed);
-    settled = h.settled;
-    works = h.works;
-    rests = h.rests;
-  }
-
-  pub gone_then : (xs : List Step) (ts : List Told) (a b c : World D R) → IsWorldRun radio xs ts a b → HasGoneOn radio b c → HasGoneOn radio a c
-  gone_then xs ts a b c past g = record { steps = xs ++ g.steps; tolds = ts ++ g.tolds; run = world_runs_join radio xs g.steps ts g.tolds a b c past g.run }
-
-  pub gone_by_handing : (answers : List (Recipient × Told)) (a b : World D R) → IsHandedOut radio [] answers a b → HasGoneOn radio a b
+  pub gone_by_handing : (answers : List (Recipient × Told)) (a b : World D R) → Handed_out [] answers a b → HasGoneOn disk radio a b
   gone_by_handing answers a b h = record {
     steps = hands (durable_of a).core.confs ++ applies (durable_of a).core.confs h.counts;
     tolds = h.tolds ++ map (λ x. x.1) answers;
-    run = h.run;
+    made = h.made;
   }
 
-  pub gone_by_flushing : (answers : List (Recipient × Told)) (a b : World D R) → IsFlushed radio [] answers a b → HasGoneOn radio a b
+  pub gone_by_flushing : (answers : List (Recipient × Told)) (a b : World D R) → IsFlushed disk radio [] answers a b → HasGoneOn disk radio a b
   gone_by_flushing answers a b h = record {
     steps = rounds h.calls ++ (hands (durable_of a).core.confs ++ applies (durable_of a).core.confs h.handed.counts);
     tolds = h.handed.tolds ++ map (λ x. x.1) answers;
-    run = h.handed.run;
+    made = h.handed.made;
   }
 
   -- nothing is left to do for the store by handing out
   rests_after : (d e : DurableCore D) → OnlyHands d e → IsAtRest d → IsAtRest e
   rests_after d e only rests = subst IsAtRest (sym only) (record { batch = rests.batch; call = rests.call; receipt = rests.receipt })
 
-  pub flushed_from : (calls : List ℕ) (ts : List Told) (answers : List (Recipient × Told)) (a b c : World D R) → IsWorldRun radio (rounds calls) ts a b → (durable_of b).core.unsettled ≡ [] → (durable_of b).core.failed ≡ false → IsAtRest (durable_of b)
-      → OnlyHands (durable_of b) (durable_of c) → IsHandedOut radio [] answers b c → IsFlushed radio [] answers a c
-  flushed_from calls ts answers a b c run settled works rests only h = record {
+  pub last_stays : (d e : DurableCore D) → OnlyHands d e → last_of e.core ≡ last_of d.core
+  last_stays d e only = ap (λ (w : DurableCore D). last_of w.core) only
+
+  pub flushed_from : (calls : List ℕ) (ts : List Told) (answers : List (Recipient × Told)) (a b c : World D R) → Made (rounds calls) ts a b → (durable_of b).core.unsettled ≡ [] → (durable_of b).core.failed ≡ false → IsAtRest (durable_of b)
+      → OnlyHands (durable_of b) (durable_of c) → Handed_out [] answers b c → IsFlushed disk radio [] answers a c
+  flushed_from calls ts answers a b c made settled works rests only h = record {
     calls = calls;
-    handed = subst (λ (xs : List Step). IsHandedOut radio xs answers a c) (append-nil (rounds calls)) (handed_after (rounds calls) [] ts answers a b c run h);
+    handed = subst (λ (xs : List Step). Handed_out xs answers a c) (append-nil (rounds calls)) (handed_after (rounds calls) [] ts answers a b c made h);
     settled = ap (λ (w : DurableCore D). w.core.unsettled) only ∙ settled;
     works = ap (λ (w : DurableCore D). w.core.failed) only ∙ works;
     rests = rests_after (durable_of b) (durable_of c) only rests;
   }
 
-  pub started_from : (first : List Step) (ts : List Told) (answers : List (Recipient × Told)) (a b c : World D R) → AreConfiguring (durable_of a).core.confs first → All (λ told. told ≢ NoMemory) ts → IsWorldRun radio first ts a b
-      → IsFlushed radio [] answers b c → IsStarted radio answers a c
+  pub started_from : (first : List Step) (ts : List Told) (answers : List (Recipient × Told)) (a b c : World D R) → AreConfiguring (durable_of a).core.confs first → All (λ told. told ≢ NoMemory) ts → Made first ts a b
+      → IsFlushed disk radio [] answers b c → IsStarted disk radio answers a c
   unfolding handed_after
-  started_from first ts answers a b c configuring told run h =
-      let same = tolds_length radio first run.insides ts a b run.steps_are in
+  started_from first ts answers a b c configuring told made h =
+      let same = tolds_length radio first made.run.insides ts a b made.run.steps_are in
       let is : take (length first) (ts ++ h.handed.tolds) ≡ ts = ap (λ n. take n (ts ++ h.handed.tolds)) (sym same) ∙ take-append_seam ts h.handed.tolds in
       record {
         first = first;
         configuring = configuring;
-        flushed = record { calls = h.calls; handed = handed_after first (rounds h.calls) ts answers a b c run h.handed; settled = h.settled; works = h.works; rests = h.rests };
+        flushed = record { calls = h.calls; handed = handed_after first (rounds h.calls) ts answers a b c made h.handed; settled = h.settled; works = h.works; rests = h.rests };
         accepted = subst (All (λ told. told ≢ NoMemory)) (sym is) told;
       }
 
@@ -803,44 +641,33 @@ pub rounds_more : (calls : List ℕ) (n : ℕ) → rounds (calls ++ n ∷ []) �
 rounds_more calls n = flat_map-append round calls (n ∷ []) ∙ ap (λ xs. rounds calls ++ xs) (append-nil (round n))
 
 module _ {D R : Type 0} (disk : DiskModel D) (radio : RadioModel R) where
-  -- so many rounds were made
+  -- so many rounds were made, none told a refusal, and no entry was made
   pub record AreRounds (old new : World D R) : Type 0 where
     pub calls : List ℕ
     pub tolds : List Told
-    pub quiet : AreQuietlyMade disk radio (rounds calls) tolds old new
+    pub none : All IsNoRefusal tolds
+    pub made : AreSafelyMade disk radio (rounds calls) tolds old new
+    pub last : last_of (durable_of new).core ≡ last_of (durable_of old).core
 
   pub no_round : (w : World D R) → AreSafelyMade disk radio [] [] w w → AreRounds w w
-  no_round w made = record { calls = []; tolds = []; quiet = record { made = made; none = refl } }
+  no_round w made = record { calls = []; tolds = []; none = All-nil IsNoRefusal; made = made; last = refl }
+
+  pub last_more : (s : CoreState) (a b : World D R) → last_of (durable_of a).core ≡ last_of s → GoesQuietly (durable_of a).core (durable_of b).core → last_of (durable_of b).core ≡ last_of s
+  last_more s a b same quiet = let last = quiet.goes.last in omega (arith, same, last)
 
   -- one more
-  pub round_more : (answer : Commit) (a b c : World D R) → AreRounds a b → IsWorldRound radio answer b c → StaysSafe disk radio (LeavesFront disk) b c → AreRounds a c
-  round_more answer a b c past one stays = record {
+  pub round_more : (answer : Commit) (a b c : World D R) → AreRounds a b → IsRound disk radio answer b c → GoesQuietly (durable_of b).core (durable_of c).core → IsUnrefused answer → AreRounds a c
+  round_more answer a b c past one quiet u = record {
     calls = past.calls ++ one.calls ∷ [];
     tolds = past.tolds ++ one.tolds;
-    quiet = subst (λ (xs : List Step). AreQuietlyMade disk radio xs (past.tolds ++ one.tolds) a c) (sym (rounds_more past.calls one.calls))
-        (quiet_then disk radio (rounds past.calls) (round one.calls) past.tolds one.tolds a b c past.quiet
-        (round_quiet disk radio one.calls one.tolds b c one.run stays));
+    none = All-append IsNoRefusal past.tolds one.tolds past.none (round_unrefused radio one.calls one.made.run.insides one.tolds b c one.made.run.steps_are (subst IsUnrefused one.answer_is u));
+    made = subst (λ (xs : List Step). AreSafelyMade disk radio xs (past.tolds ++ one.tolds) a c) (sym (rounds_more past.calls one.calls))
+        (made_then disk radio (rounds past.calls) (round one.calls) past.tolds one.tolds a b c past.made one.made);
+    last = last_more (durable_of a).core b c past.last quiet;
   }
 
-  pub some_rounds : (a b : World D R) → AreRounds a b → SomeAreQuietlyMade disk radio a b
-  some_rounds a b k = record { steps = rounds k.calls; tolds = k.tolds; quiet = k.quiet }
-
--- a test that nothing is left
-pub none_left : {A : Type 0} (fails : Bool) (xs : List A) (b : Bool) → b ≡ (not fails && (length xs == 0)) → b ≡ true → xs ≡ []
-none_left fails [] b is test = refl
-none_left true (x ∷ xs) b is test = absurd (let wrong : false ≡ true = sym is ∙ test in cc)
-none_left false (x ∷ xs) b is test = absurd (let zero : (length (x ∷ xs) == 0) ≡ true = sym is ∙ test in grind arith)
-
--- and that nothing has failed
-pub still_works : {A : Type 0} (fails : Bool) (xs : List A) (b : Bool) → b ≡ (not fails && (length xs == 0)) → b ≡ true → fails ≡ false
-still_works false xs b is test = refl
-still_works true xs b is test = absurd (let wrong : false ≡ true = sym is ∙ test in cc)
-
--- or fails
-pub unfinished : {A : Type 0} (fails : Bool) (xs : List A) (b : Bool) → b ≡ (not fails && (length xs == 0)) → b ≡ false → (fails ≡ true) ⊎ (xs ≢ [])
-unfinished true xs b is test = inl refl
-unfinished false [] b is test = absurd (let wrong : true ≡ false = sym is ∙ test in cc)
-unfinished false (x ∷ xs) b is test = inr (λ none. let no : (x ∷ xs) ≡ [] = none in cc)
+  pub gone_rounds : (a b : World D R) → AreRounds a b → HasGoneUnrefused disk radio a b
+  gone_rounds a b k = record { gone_on = record { steps = rounds k.calls; tolds = k.tolds; made = k.made }; none = k.none }
 
 -- ---- the next interface is configured
 abbrev pub asked_of : Conf → Option (Option (Result Happening QuietReason))
@@ -854,16 +681,17 @@ configuring_more confs i d steps x lt past is =
 
 module _ {D R : Type 0} (disk : DiskModel D) (radio : RadioModel R) where
   pub none_accepted : (w : World D R) → AreSafelyMade disk radio [] [] w w → AreAccepted disk radio [] w w
-  none_accepted w made = record { steps = []; tolds = []; configuring = refl; told = All-nil (λ told. told ≢ NoMemory); made = made }
+  none_accepted w made = record { steps = []; tolds = []; configuring = refl; told = All-nil (λ told. told ≢ NoMemory); none = All-nil IsNoRefusal; made = made }
 
   pub accepted_more : (confs : List Conf) (i : ℕ) (d : Conf) (x : Step) (t : Told) (a b c : World D R) → i < length confs → AreAccepted disk radio (take i confs) a b
-      → asked x ≡ asked_of (get_or confs i d) → (t ≡ NoMemory → ⊥) → IsWorldStep radio x t b c → IsSafe disk (durable_of b) (durable_of c)
-      → AreAccepted disk radio (take (i + 1) confs) a c
-  accepted_more confs i d x t a b c lt past is told step safe = record {
+      → asked x ≡ asked_of (get_or confs i d) → (t ≡ NoMemory → ⊥) → IsWorldStep radio x t b c → IsStepMade disk t (durable_of b) (durable_of c)
+      → IsSafe disk (durable_of c) (durable_of c) → AreAccepted disk radio (take (i + 1) confs) a c
+  accepted_more confs i d x t a b c lt past is told step made here = record {
     steps = past.steps ++ x ∷ [];
     tolds = past.tolds ++ t ∷ [];
     configuring = configuring_more confs i d past.steps x lt past.configuring is;
     told = All-push (λ z. z ≢ NoMemory) past.tolds t past.told told;
+    none = All-append IsNoRefusal past.tolds (t ∷ []) past.none (one_unrefused radio x t b c (asked_beside x _ is) step);
     made = made_then disk radio past.steps (x ∷ []) past.tolds (t ∷ []) a b c past.made
-        (one_made disk radio x t b c step safe);
+        (one_made disk radio x t b c step made here);
   }

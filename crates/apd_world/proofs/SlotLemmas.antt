@@ -1,49 +1,21 @@
--- Where a BSSID's slot and queue are, and what is there after a change.
-use Rattle.std.proofs.Common.{◌≡◌, ℕ, zero, suc, ◌<◌, Bool, true, false, cond, List, [], ◌∷◌, ◌++◌, length, map, Option, Some, None, Result, Ok, Err, inl, inr, refl, sym, ap, subst, ◌∙◌, arith, get_or, set, length-set}
-use Rattle.std.specs.Prelude.{nat_lt, slice_get, OnOk, is_err}
-use Rattle.std.specs.List.{position_or_len}
+-- Where a BSSID's slot is, and what is there after a change.
+use Rattle.std.proofs.Common.{◌≡◌, ℕ, zero, suc, ◌<◌, Bool, true, false, cond, List, [], ◌∷◌, length, Option, Some, None, refl, sym, ap, subst, ◌∙◌, arith, get_or, set, length-set}
+use Rattle.std.specs.Prelude.{nat_lt, slice_get}
+use Rattle.std.specs.List.{position_or_len, AllByRecursion}
 use Rattle.std.specs.Ordering.{eq_by_cmp}
-use Rattle.std.proofs.lemmas.List.{get_or-set_same, get_or-set_other, get_or-map, map-append}
+use Rattle.std.proofs.lemmas.List.{get_or-set_same}
 use Rattle.std.proofs.lemmas.List.Folds.{position_or_len-set}
 use Rattle.std.proofs.lemmas.List.Quantifiers.{position-Some}
-use Rattle.std.proofs.lemmas.Option.{slice_get-get_or}
-use Rattle.apd_base.specs.Addr.{bssid_cmp}
-use Rattle.apd_base.specs.declared.address.Bssid.{Bssid}
+use Rattle.std.proofs.lemmas.Option.{get_or_from_slice_get, slice_get-get_or}
+use Rattle.apd_world.proofs.Words.{Bssid, Slot, SlotGoes, World, bssid_cmp, bssid_of, slot_at, slot_in, slot_place, slots_of}
 use Rattle.apd_base.proofs.AddrLemmas.{bssid_total, bssid_exact, same_bssid}
 use Rattle.apd_base.proofs.MapLemmas.{tied}
-use Rattle.apd_mlme.specs.declared.decision.Out.{Out}
-use Rattle.apd_slot.specs.Slots.{bssid_of}
-use Rattle.apd_slot.specs.declared.slot.Slot.{Slot}
-use Rattle.apd_world.specs.WorldParts.{slots_of, slot_place, slot_in, slot_at, queue_in, queue_of}
-use Rattle.apd_world.specs.WorldRun.{OthersStay}
-use Rattle.apd_world.specs.declared.world.World.{World}
 
--- ---- queues
--- one more, without an out
-past_end : (qs : List (List Out)) (i : ℕ) → get_or (qs ++ [] ∷ []) i [] ≡ get_or qs i []
-past_end [] zero = refl
-past_end [] (suc i) = refl
-past_end (q ∷ qs) zero = refl
-past_end (q ∷ qs) (suc i) = past_end qs i
+pub all_at : {A : Type 0} (P : A → Type 0) (xs : List A) (i : ℕ) (x : A) → slice_get xs i ≡ Some x → AllByRecursion P xs → P x
+all_at P [] i x e all = let none : ◌≡◌ {A = Option _} None (Some x) = e in absurd (let no : ⊥ = cc in no)
+all_at P (y ∷ xs) zero x e all = let is : y ≡ x = (cc) in subst P is all.0
+all_at P (y ∷ xs) (suc i) x e all = all_at P xs i x e all.1
 
-queue_more : (qs : List (List Out)) (p : Option ℕ) → queue_in (qs ++ [] ∷ []) p ≡ queue_in qs p
-queue_more qs None = refl
-queue_more qs (Some i) = past_end qs i
-
--- another in its place
-pub queue_set : (qs : List (List Out)) (i : ℕ) (q : List Out) → i < length qs → queue_in (set qs i q) (Some i) ≡ q
-queue_set qs i q lt = get_or-set_same qs i q [] lt
-
-pub queue_set_other : (qs : List (List Out)) (i : ℕ) (q : List Out) (p : Option ℕ) → (p ≡ Some i → ⊥) → queue_in (set qs i q) p ≡ queue_in qs p
-queue_set_other qs i q None ne = refl
-queue_set_other qs i q (Some j) ne = get_or-set_other qs i j q [] (λ e. ne (ap Some e))
-
--- of no effect is one without an out
-pub queues_more : {A : Type 0} (f : A → List Out) (xs ys : List A) (x : A) → ys ≡ xs ++ x ∷ [] → f x ≡ [] → (p : Option ℕ) → queue_in (map f ys) p ≡ queue_in (map f xs) p
-queues_more f xs ys x is none p =
-    ap (λ qs. queue_in qs p) (ap (map f) is ∙ map-append f xs (x ∷ []) ∙ ap (λ q. map f xs ++ q ∷ []) none) ∙ queue_more (map f xs) p
-
--- ---- places
 other_item : {A : Type 0} (xs : List A) (i j : ℕ) (y : A) → (j ≡ i → ⊥) → slice_get (set xs i y) j ≡ slice_get xs j
 other_item [] i j y ne = refl
 other_item (x ∷ xs) zero zero y ne = absurd (ne refl)
@@ -52,12 +24,7 @@ other_item (x ∷ xs) (suc i) zero y ne = refl
 other_item (x ∷ xs) (suc i) (suc j) y ne = other_item xs i j y (λ e. ne (ap suc e))
 
 module _ {R : Type 0} where
-  -- a place is in a list with some slot
-  pub some_slot : (slots : List (Slot R)) (b : Bssid) (i : ℕ) → slot_place slots b ≡ Some i → Slot R
-  some_slot [] b i at = let none : ◌≡◌ {A = Option ℕ} None (Some i) = at in absurd (let no : ⊥ = cc in no)
-  some_slot (slot ∷ slots) b i at = slot
-
-  pub place_within : (slots : List (Slot R)) (b : Bssid) (i : ℕ) (d : Slot R) → slot_place slots b ≡ Some i → i < length slots
+  place_within : (slots : List (Slot R)) (b : Bssid) (i : ℕ) (d : Slot R) → slot_place slots b ≡ Some i → i < length slots
   place_within slots b i d at = (position-Some (λ slot. eq_by_cmp bssid_cmp b (bssid_of slot)) slots i d at).0
 
   -- the slot there is the BSSID's
@@ -68,21 +35,21 @@ module _ {R : Type 0} where
   slot_is slots b i d at = ap (slot_in slots) at ∙ slice_get-get_or slots i d (place_within slots b i d at)
 
   -- two BSSIDs have two places
-  pub places_apart : (slots : List (Slot R)) (b c : Bssid) (i : ℕ) (d : Slot R) → eq_by_cmp bssid_cmp b c ≡ false → slot_place slots b ≡ Some i → slot_place slots c ≡ Some i → ⊥
+  places_apart : (slots : List (Slot R)) (b c : Bssid) (i : ℕ) (d : Slot R) → eq_by_cmp bssid_cmp b c ≡ false → slot_place slots b ≡ Some i → slot_place slots c ≡ Some i → ⊥
   places_apart slots b c i d apart at also =
       let one : b ≡ c = place_of_own slots b i d at ∙ sym (place_of_own slots c i d also) in
       let own : eq_by_cmp bssid_cmp b c ≡ true = subst (λ (z : Bssid). eq_by_cmp bssid_cmp b z ≡ true) one (tied bssid_total bssid_exact b) in
       cc
 
   -- a slot in the place of one of the same BSSID
-  pub place_set : (slots : List (Slot R)) (i : ℕ) (s d : Slot R) → bssid_of s ≡ bssid_of (get_or slots i d) → (c : Bssid) → slot_place (set slots i s) c ≡ slot_place slots c
+  place_set : (slots : List (Slot R)) (i : ℕ) (s d : Slot R) → bssid_of s ≡ bssid_of (get_or slots i d) → (c : Bssid) → slot_place (set slots i s) c ≡ slot_place slots c
   place_set slots i s d own c =
       let p : Slot R → Bool = λ slot. eq_by_cmp bssid_cmp c (bssid_of slot) in
       let e : position_or_len p (set slots i s) ≡ position_or_len p slots = position_or_len-set p slots i s d (ap (eq_by_cmp bssid_cmp c) own) in
       λ j. cond (nat_lt (e j) (length-set slots i s j)) (Some (e j)) None
 
   -- what is found then
-  pub slot_set : (slots : List (Slot R)) (i : ℕ) (s d : Slot R) (b : Bssid) → bssid_of s ≡ bssid_of (get_or slots i d) → slot_place slots b ≡ Some i → slot_at (set slots i s) b ≡ Some s
+  slot_set : (slots : List (Slot R)) (i : ℕ) (s d : Slot R) (b : Bssid) → bssid_of s ≡ bssid_of (get_or slots i d) → slot_place slots b ≡ Some i → slot_at (set slots i s) b ≡ Some s
   slot_set slots i s d b own at =
       let there : i < length (set slots i s) = let lt = place_within slots b i d at in let same = length-set slots i s in omega (arith, lt, same) in
       ap (slot_in (set slots i s)) (place_set slots i s d own b ∙ at) ∙ slice_get-get_or (set slots i s) i d there ∙ ap Some (get_or-set_same slots i s d (place_within slots b i d at))
@@ -91,40 +58,37 @@ module _ {R : Type 0} where
   get_set_other slots i s None ne = refl
   get_set_other slots i s (Some j) ne = other_item slots i j s (λ e. ne (ap Some e))
 
-  pub slot_set_other : (slots : List (Slot R)) (i : ℕ) (s d : Slot R) (b c : Bssid) → bssid_of s ≡ bssid_of (get_or slots i d) → slot_place slots b ≡ Some i → eq_by_cmp bssid_cmp b c ≡ false
+  slot_set_other : (slots : List (Slot R)) (i : ℕ) (s d : Slot R) (b c : Bssid) → bssid_of s ≡ bssid_of (get_or slots i d) → slot_place slots b ≡ Some i → eq_by_cmp bssid_cmp b c ≡ false
       → slot_at (set slots i s) c ≡ slot_at slots c
   slot_set_other slots i s d b c own at apart =
       ap (slot_in (set slots i s)) (place_set slots i s d own c) ∙ get_set_other slots i s (slot_place slots c) (λ also. places_apart slots b c i d apart at also)
 
--- ---- a world
-module _ {D R : Type 0} (old new : World D R) (places : (c : Bssid) → slot_place (slots_of new) c ≡ slot_place (slots_of old) c) where
-  abbrev before : List (List Out)
-  before = map (λ queue. queue.items) old.queues.items
+-- a place that was found in what is seen of slots
+pub place_seen : {R : Type 0} (slots seen : List (Slot R)) (b : Bssid) (place : Option ℕ) → seen ≡ slots → place ≡ slot_place seen b → slot_place slots b ≡ place
+place_seen slots seen b place same is = ap (λ xs. slot_place xs b) (sym same) ∙ sym is
 
-  abbrev now : List (List Out)
-  now = map (λ queue. queue.items) new.queues.items
+-- ---- a world, where the slot of a BSSID goes on
+module _ {D R : Type 0} (b : Bssid) (So : Slot R → Slot R → Type 0) (old new : World D R) where
+  -- the slot at its place does
+  pub slot_goes : (place : ℕ) (slot after : Slot R) → slot_place (slots_of old) b ≡ Some place → slot ≡ get_or (slots_of old) place slot → slots_of new ≡ set (slots_of old) place after
+      → bssid_of after ≡ bssid_of slot → So slot after → SlotGoes b So old new
+  slot_goes place slot after at is slots bssid goes = record {
+    place = place;
+    slot = slot;
+    after = after;
+    at = at;
+    has_slot = slot_is (slots_of old) b place slot at ∙ ap Some (sym is);
+    slots = slots;
+    bssid = bssid;
+    goes = goes;
+  }
 
-  -- the same queues
-  pub queues_stay : ((p : Option ℕ) → queue_in now p ≡ queue_in before p) → (c : Bssid) → queue_of new c ≡ queue_of old c
-  queues_stay stay c = ap (queue_in now) (places c) ∙ stay (slot_place (slots_of old) c)
+  module _ (h : SlotGoes b So old new) where
+    own : bssid_of h.after ≡ bssid_of (get_or (slots_of old) h.place h.slot)
+    own = h.bssid ∙ ap bssid_of (sym (get_or_from_slice_get (slots_of old) h.place h.slot h.slot (ap (slot_in (slots_of old)) (sym h.at) ∙ h.has_slot)))
 
-  -- another queue at a BSSID's place
-  module _ (b : Bssid) (place : ℕ) (d : Slot R) (at : slot_place (slots_of old) b ≡ Some place) (qs : List (List Out)) (there : place < length qs) (stay : (p : Option ℕ) → queue_in qs p ≡ queue_in before p)
-      (after : List Out) (is : now ≡ set qs place after) where
-    pub own_queue : queue_of new b ≡ after
-    own_queue = (λ j. queue_in (is j) ((places b ∙ at) j)) ∙ queue_set qs place after there
+    pub own_slot : slot_at (slots_of new) b ≡ Some h.after
+    own_slot = ap (λ slots. slot_at slots b) h.slots ∙ slot_set (slots_of old) h.place h.after h.slot b own h.at
 
-    pub other_queues : OthersStay b old new
-    other_queues c apart =
-        (λ j. queue_in (is j) (places c j))
-        ∙ queue_set_other qs place after (slot_place (slots_of old) c) (λ also. places_apart (slots_of old) b c place d apart at also)
-        ∙ stay (slot_place (slots_of old) c)
-
--- what stands at a place, as a queue
-pub queue_there : {A : Type 0} (f : A → List Out) (xs : List A) (i : ℕ) (x : A) → i < length xs → x ≡ get_or xs i x → f x ≡ queue_in (map f xs) (Some i)
-queue_there f xs i x lt is = ap f is ∙ sym (get_or-map f xs i x [] lt)
-
--- where it is not an error
-pub not_err : {A E P : Type 0} (r : Result A E) → false ≡ is_err r → OnOk r P → P
-not_err (Ok x) e h = h
-not_err (Err x) e h = cc
+    pub other_slot : (c : Bssid) → eq_by_cmp bssid_cmp b c ≡ false → slot_at (slots_of new) c ≡ slot_at (slots_of old) c
+    other_slot c apart = ap (λ slots. slot_at slots c) h.slots ∙ slot_set_other (slots_of old) h.place h.after h.slot b c own h.at apart

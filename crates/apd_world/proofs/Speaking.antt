@@ -1,92 +1,87 @@
 -- What is spoken of, and by whom, after steps of any kind.
-use Rattle.std.proofs.Common.{◌≡◌, ℕ, ◌≤◌, List, [], ◌∷◌, ◌++◌, Option, Some, None, Result, Ok, Err, refl, sym, ap, subst, ◌∙◌, arith}
+use Rattle.std.proofs.Common.{Bool, true, ⊎_elim, ◌≡◌, ℕ, ◌≤◌, List, [], ◌∷◌, ◌++◌, Option, Some, None, Result, Ok, Err, refl, sym, ap, subst, ◌∙◌, arith}
 use Rattle.std.specs.Prelude.{max}
-use Rattle.std.proofs.Math.Nat.{max-le}
+use Rattle.std.proofs.Math.Nat.{le-max_left, le-max_right, max-le}
 use Rattle.std.proofs.lemmas.List.Elements.{All-nil, All-cons, All-append}
-use Rattle.apd_base.specs.declared.address.Addr.{Addr}
-use Rattle.apd_base.specs.declared.address.Bssid.{Bssid}
-use Rattle.apd_base.specs.declared.moment.Moment.{Moment}
-use Rattle.apd_conf.specs.declared.conf.Conf.{Conf}
+use Rattle.apd_world.proofs.Words.{Accept, Accepted, Account, Addr, Answer, Answered, Apply, AreSteps, AreUnsettled, Ask, Batch, Bssid, Call, Called, Conf, Configure, CoreState, DurableCore, Hand, Handed, Happening, Input, IsNext, IsRun, IsSpoken, LastHeard, Loaded, Moment, NoMemory, Nothing, Publish, Published, Query, QuietReason, Reception, Sound, Step, StoreFault, Take, Tells, Told, account, all_entered, entered, entered_as, failed_after, front_of, happening_of, nothing_yet, one_more, state_after, verdict}
 use Rattle.apd_ctrl.specs.Texts.{text}
-use Rattle.apd_ctrl.specs.declared.command.Query.{Query}
 use Rattle.apd_frame.specs.Contents.{Contents}
 use Rattle.apd_frame.specs.Outcome.{outcome}
 use Rattle.apd_frame.specs.declared.ignored.Ignored.{Ignored}
 use Rattle.apd_frame.proofs.Senders.{sender_not_broadcast}
 use Rattle.apd_mlme.specs.laws.Broadcast.{AreFromStations, IsFromStation, NoBroadcastRow}
-use Rattle.apd_mlme.specs.Happening.{Happening, Heard, Kick, ListEdit, Expire, Configure, happening}
-use Rattle.apd_mlme.specs.rules.{verdict}
+use Rattle.apd_mlme.specs.Happening.{Heard, Kick, ListEdit, Expire, happening}
 use Rattle.apd_mlme.specs.laws.Outs.{AreSoToAll}
 use Rattle.apd_mlme.proofs.AdmissionLemmas.{run_broadcast}
 use Rattle.apd_mlme.proofs.TrueOutsLemmas.{verdict_so_to_all}
 use Rattle.apd_mlme.proofs.VerdictLemmas.{run_sound}
-use Rattle.apd_table.specs.Sound.{Sound}
-use Rattle.apd_core.specs.Core.{CoreState, front_of, state_after}
-use Rattle.apd_core.specs.Heard.{LastHeard, due}
-use Rattle.apd_core.specs.Requests.{expiry, happening_of, ordered, unless_ignored}
-use Rattle.apd_core.specs.declared.query_answer.Answer.{Answer}
-use Rattle.apd_core.specs.declared.input.Input.{Input}
+use Rattle.apd_core.specs.Heard.{due}
+use Rattle.apd_core.specs.Requests.{expiry, ordered, unless_ignored}
 use Rattle.apd_core.specs.declared.input.Input.TheVariants as input
-use Rattle.apd_core.specs.declared.input.QuietReason.{QuietReason}
 use Rattle.apd_core.specs.declared.ticket.Accepted.{Accepted as CoreAccepted}
 use Rattle.apd_core.specs.declared.ticket.Accepted.TheVariants as core_accepted
 use Rattle.apd_core.proofs.HeldLemmas.{given_within}
 use Rattle.apd_core.proofs.Settling.{settled_given}
-use Rattle.apd_world.specs.CoreRun.{AreUnsettled}
-use Rattle.apd_world.specs.Outside.{IsSpoken}
-use Rattle.apd_world.specs.Run.{AreSteps, IsRun}
+use Rattle.apd_store.specs.declared.fault.StoreFault.TheVariants as store_fault
 use Rattle.apd_world.specs.QueryAnswer.{SpeaksOf}
-use Rattle.apd_world.specs.Steps.{Account, account, all_entered, entered, entered_as, nothing_yet, one_more}
-use Rattle.apd_world.specs.Telling.{Tells}
-use Rattle.apd_world.specs.declared.durable_core.DurableCore.{DurableCore}
-use Rattle.apd_world.specs.declared.step.Reception.{Reception}
 use Rattle.apd_world.specs.declared.step.Reception.TheVariants as reception
-use Rattle.apd_world.specs.declared.step.Step.{Step}
-use Rattle.apd_world.specs.declared.step.Step.TheVariants.{Accept, Take, Call, Publish, Hand, Ask, Apply}
-use Rattle.apd_world.specs.declared.step.Told.{Told}
-use Rattle.apd_world.specs.declared.step.Told.TheVariants.{Accepted, Loaded, Called, Published, Handed, Answered, Nothing, NoMemory}
-use Rattle.apd_world.proofs.StepLemmas.{fails_beside, first_within, next_core, second_within}
+
+-- ---- the max of two
+first_within : (a b n : ℕ) → max a b ≤ n → a ≤ n
+first_within a b n h = let l = le-max_left a b in omega (arith, l, h)
+
+second_within : (a b n : ℕ) → max a b ≤ n → b ≤ n
+second_within a b n h = let l = le-max_right a b in omega (arith, l, h)
+
+-- ---- what a batch taken does to a core
+pub next_core : {D : Type 0} (batch : Batch) (old : DurableCore D) (core : CoreState) → IsNext batch old core → core ≡ record old.core { flight = core.flight }
+next_core batch old core next = ⊎_elim (λ waits. let same : old.core ≡ core = sym waits.1 in waits.1 ∙ (λ i. record old.core { flight = (same i).flight })) (λ taken. taken.2.only) next
 
 -- ---- what is spoken of is settled
--- the number of the last settled entry doesn't fall, and all that is spoken of is within it, if it was
+-- The number of the last settled entry doesn't fall, and all that is spoken of is within it, if it was. A core that has failed stays so.
 pub record Speaks {D : Type 0} (old new : DurableCore D) : Type 0 where
   pub spoken : IsSpoken old → IsSpoken new
   pub number : old.core.number ≤ new.core.number
+  pub failed : old.core.failed ≡ true → new.core.failed ≡ true
 
 -- a core that gives nothing and settles nothing
-silent : {D : Type 0} (old new : DurableCore D) → new.core.held.given ≡ old.core.held.given → new.core.number ≡ old.core.number → new.told ≡ old.told → Speaks old new
-silent old new given number told = record {
+silent : {D : Type 0} (old new : DurableCore D) → new.core.held.given ≡ old.core.held.given → new.core.number ≡ old.core.number → new.told ≡ old.told → (old.core.failed ≡ true → new.core.failed ≡ true) → Speaks old new
+silent old new given number told failed = record {
   spoken = λ was. subst (λ (n : ℕ). max new.core.held.given new.told ≤ n) (sym number) (subst (λ (t : ℕ). max new.core.held.given t ≤ old.core.number) (sym told)
       (subst (λ (g : ℕ). max g old.told ≤ old.core.number) (sym given) was));
   number = omega (arith, number);
+  failed = failed;
 }
 
 unchanged : {D : Type 0} (old new : DurableCore D) → new ≡ old → Speaks old new
-unchanged {D} old new same = silent old new (ap (λ (w : DurableCore D). w.core.held.given) same) (ap (λ (w : DurableCore D). w.core.number) same) (ap (λ (w : DurableCore D). w.told) same)
+unchanged {D} old new same = silent old new (ap (λ (w : DurableCore D). w.core.held.given) same) (ap (λ (w : DurableCore D). w.core.number) same) (ap (λ (w : DurableCore D). w.told) same) (λ was. ap (λ (w : DurableCore D). w.core.failed) same ∙ was)
 
-request_gives_none : (s : CoreState) (m : Moment) (asked : Result Happening QuietReason) (a : CoreAccepted) → ((state_after s m asked a).held.given ≡ s.held.given) × ((state_after s m asked a).number ≡ s.number)
-request_gives_none s m (Ok h) (core_accepted.Entry t) = (refl, refl)
-request_gives_none s m (Ok h) (core_accepted.Quiet reason) = (refl, refl)
-request_gives_none s m (Ok h) core_accepted.Busy = (refl, refl)
-request_gives_none s m (Ok h) core_accepted.Stopped = (refl, refl)
-request_gives_none s m (Err reason) a = (refl, refl)
+request_gives_none : (s : CoreState) (m : Moment) (asked : Result Happening QuietReason) (a : CoreAccepted)
+    → ((state_after s m asked a).held.given ≡ s.held.given) × ((state_after s m asked a).number ≡ s.number) × ((state_after s m asked a).failed ≡ s.failed)
+request_gives_none s m (Ok h) (core_accepted.Entry t) = (refl, refl, refl)
+request_gives_none s m (Ok h) (core_accepted.Quiet reason) = (refl, refl, refl)
+request_gives_none s m (Ok h) a = (refl, refl, refl)
+request_gives_none s m (Err reason) a = (refl, refl, refl)
+
+still_failed : (result : Result (Unit {0}) StoreFault) (failed : Bool) → failed ≡ true → failed_after result failed ≡ true
+still_failed (Ok x) failed was = was
+still_failed (Err store_fault.Device) failed was = refl
+still_failed (Err fault) failed was = was
 
 module _ {D : Type 0} (old new : DurableCore D) where
-  speaks : (step : Step) (told : Told) → Tells step told old new → Speaks old new
+  pub speaks : (step : Step) (told : Told) → Tells step told old new → Speaks old new
   speaks (Accept i m) (Accepted answer) h =
       let core = ap (λ (w : DurableCore D). w.core) h.only in
       let none = request_gives_none old.core m (happening_of old.core.confs old.core.heard m i) _ in
-      silent old new (ap (λ (s : CoreState). s.held.given) core ∙ none.0) (ap (λ (s : CoreState). s.number) core ∙ none.1) (ap (λ (w : DurableCore D). w.told) h.only)
+      silent old new (ap (λ (s : CoreState). s.held.given) core ∙ none.0) (ap (λ (s : CoreState). s.number) core ∙ none.1) (ap (λ (w : DurableCore D). w.told) h.only) (λ was. ap (λ (s : CoreState). s.failed) core ∙ none.2 ∙ was)
   speaks Take (Loaded result) h =
-      let core = next_core h.batch old new.core h.next in
-      silent old new (ap (λ (s : CoreState). s.held.given) core) (ap (λ (s : CoreState). s.number) core) (ap (λ (w : DurableCore D). w.told) h.only)
+      let core = next_core h.load.batch old new.core h.next in
+      silent old new (ap (λ (s : CoreState). s.held.given) core) (ap (λ (s : CoreState). s.number) core) (ap (λ (w : DurableCore D). w.told) h.only) (λ was. ap (λ (s : CoreState). s.failed) core ∙ was)
   speaks Take Nothing h = unchanged old new h.1
   speaks Take NoMemory h = unchanged old new h.1
-  speaks Call (Called (Ok x)) h =
-      silent old new (ap (λ (w : DurableCore D). w.core.held.given) h.only) (ap (λ (w : DurableCore D). w.core.number) h.only) (ap (λ (w : DurableCore D). w.told) h.only)
-  speaks Call (Called (Err fault)) h =
-      let core = ap (λ (w : DurableCore D). w.core) h.only ∙ (fails_beside fault old.core).is in
-      silent old new (ap (λ (s : CoreState). s.held.given) core) (ap (λ (s : CoreState). s.number) core) (ap (λ (w : DurableCore D). w.told) h.only)
+  speaks Call (Called r) h =
+      let core = ap (λ (w : DurableCore D). w.core) h.only in
+      silent old new (ap (λ (s : CoreState). s.held.given) core) (ap (λ (s : CoreState). s.number) core) (ap (λ (w : DurableCore D). w.told) h.only) (λ was. ap (λ (s : CoreState). s.failed) core ∙ still_failed r old.core.failed was)
   speaks Call Nothing h = unchanged old new h.1
   speaks Publish (Published (Ok x)) h =
       let given = ap (λ (s : CoreState). s.held.given) h.tells.1 ∙ settled_given old.core.number old.core.held old.core.flight in
@@ -98,9 +93,10 @@ module _ {D : Type 0} (old new : DurableCore D) where
             let k = second_within old.core.held.given old.told old.core.number was in
             max-le (omega (arith, given, number, l)) (omega (arith, told, number, k));
         number = omega (arith, number);
+        failed = λ was. ap (λ (s : CoreState). s.failed) h.tells.1 ∙ was;
       }
   speaks Publish (Published (Err fault)) h =
-      silent old new (ap (λ (s : CoreState). s.held.given) h.tells.1) (ap (λ (s : CoreState). s.number) h.tells.1) (ap (λ (w : DurableCore D). w.told) h.only)
+      silent old new (ap (λ (s : CoreState). s.held.given) h.tells.1) (ap (λ (s : CoreState). s.number) h.tells.1) (ap (λ (w : DurableCore D). w.told) h.only) (λ was. ap (λ (s : CoreState). s.failed) h.tells.1 ∙ was)
   speaks Publish Nothing h = unchanged old new h.1
   speaks (Hand r) (Handed outs) h =
       let core = ap (λ (w : DurableCore D). w.core) h.only in
@@ -113,6 +109,7 @@ module _ {D : Type 0} (old new : DurableCore D) where
             let k = second_within old.core.held.given old.told old.core.number was in
             max-le (omega (arith, given, number, l)) (omega (arith, told, number, k));
         number = omega (arith, number);
+        failed = λ was. ap (λ (s : CoreState). s.failed) core ∙ was;
       }
   speaks (Hand r) NoMemory h = unchanged old new h.1
   speaks (Ask q) (Answered answer) h =
@@ -127,6 +124,7 @@ module _ {D : Type 0} (old new : DurableCore D) where
             let m : max old.told old.core.number ≤ old.core.number = max-le k (omega arith) in
             max-le (omega (arith, given, number, l)) (omega (arith, told, number, m));
         number = omega (arith, number);
+        failed = λ was. ap (λ (s : CoreState). s.failed) core ∙ was;
       }
   speaks (Ask q) NoMemory h = unchanged old new h
   speaks (Apply b) Nothing h = unchanged old new h
@@ -138,9 +136,8 @@ steps_speak [] [] old new h = unchanged old new h
 steps_speak (step ∷ steps) (told ∷ tolds) old new h =
     let first = speaks old h.0 step told h.1 in
     let rest = steps_speak steps tolds h.0 new h.2 in
-    record { spoken = λ was. rest.spoken (first.spoken was); number = let a = first.number in let b = rest.number in omega (arith, a, b) }
-steps_speak [] (told ∷ tolds) old new h = absurd h
-steps_speak (step ∷ steps) [] old new h = absurd h
+    record { spoken = λ was. rest.spoken (first.spoken was); number = let a = first.number in let b = rest.number in omega (arith, a, b); failed = λ was. rest.failed (first.failed was) }
+steps_speak steps tolds old new h = absurd h
 
 -- ---- an answer to a query
 pub query_speaks : {D : Type 0} (steps : List Step) (tolds : List Told) (old mid new : DurableCore D) (hs : List Happening) (query : Query) (answer : Answer) → IsRun steps tolds old mid → AreUnsettled hs old.core

@@ -1,71 +1,44 @@
 -- How a durable core goes on by each kind of step.
-use Rattle.std.proofs.Common.{◌≡◌, ℕ, ◌+◌, ◌≤◌, Bool, true, List, [], ◌∷◌, length, Option, Some, None, ◌⊎◌, inl, ⊎_elim, refl, sym, ap, subst, ◌∙◌, arith, Result, Ok, Err}
-use Rattle.std.specs.Prelude.{max, ◌↔◌, IfSome, IfNone}
-use Rattle.std.proofs.Math.Nat.{le-max_left, le-max_right, max-le}
+use Rattle.std.proofs.Common.{◌≡◌, ◌+◌, ◌≤◌, Bool, List, [], ◌∷◌, length, Option, Some, None, ◌⊎◌, inl, inr, ⊎_elim, refl, sym, ap, subst, ◌∙◌, Result, Ok, Err}
+use Rattle.std.specs.Prelude.{◌↔◌, ◌==◌, if◌then◌else◌, is_some, IfSome, IfNone, IsSome, IsNone, IsTrue}
+use Rattle.std.proofs.lemmas.Bool.{false≢true}
 use Rattle.std.proofs.lemmas.List.{take-append-le}
-use Rattle.apd_base.specs.declared.moment.Moment.{Moment}
-use Rattle.apd_ctrl.specs.declared.command.Query.{Query}
-use Rattle.apd_journal.specs.declared.batch.Batch.{Batch}
-use Rattle.apd_mlme.specs.Happening.{Happening}
-use Rattle.apd_mlme.specs.rules.{verdict}
-use Rattle.apd_mlme.specs.Run.{AreFit}
-use Rattle.apd_mlme.specs.declared.decision.Out.{Out}
-use Rattle.apd_mlme.specs.declared.decision.Recipient.{Recipient}
-use Rattle.apd_mlme.specs.declared.decision.Recipient.TheVariants.{Radio, Control}
-use Rattle.apd_store.specs.declared.fault.StoreFault.{StoreFault}
+use Rattle.apd_world.proofs.Words.{Accept, Accepted, Answer, Answered, AreFit, Ask, Batch, Call, Called, Committer, Control, CoreState, DiskModel, DurableCore, Flusher, Goes, Hand, Handed, Happening, HasNoBatch, HasNoneToLoad, HasRisen, Input, IsCalled, IsCore, IsGood, IsImaged, IsNext, IsPublished, IsStep, IsStepMade, IsTaken, IsTakenUp, IsWhole, LeavesOnly, Loaded, Moment, NoMemory, Nothing, Out, Phase, Publish, Published, Query, QuietReason, Radio, Reception, Recipient, State, Step, StoreFault, Take, Tells, Told, after_call, cannot_take, device_of, entered, entered_as, failed_after, flight_of, flusher_of, front_of, given, handed, happening_of, heard_after, phase_of, published, ready_for, state_after, verdict, waiting_batch}
+use Rattle.apd_journal.specs.Half.{IsGroup}
 use Rattle.apd_store.specs.declared.fault.StoreFault.TheVariants as store_fault
-use Rattle.apd_core.specs.Core.{CoreState, accepted, after_request, batch_of, changes_of, entered_by, front_of, handed, published, ready_for, state_after}
+use Rattle.apd_core.specs.Core.{accepted, after_request, changes_of, entered_by}
 use Rattle.apd_core.specs.Heard.{heard_by}
-use Rattle.apd_core.specs.Invariant.{IsCore}
-use Rattle.apd_core.specs.Requests.{happening_of}
-use Rattle.apd_core.specs.declared.query_answer.Answer.{Answer}
-use Rattle.apd_core.specs.declared.input.Input.{Input}
-use Rattle.apd_core.specs.declared.input.QuietReason.{QuietReason}
 use Rattle.apd_core.specs.declared.ticket.Accepted.{Accepted as CoreAccepted}
 use Rattle.apd_core.specs.declared.ticket.Accepted.TheVariants as core_accepted
-use Rattle.apd_core.proofs.HeldLemmas.{given_within}
-use Rattle.apd_core.proofs.Settling.{settled_given}
-use Rattle.apd_flusher.specs.declared.phase.Phase.{Phase}
+use Rattle.apd_table.specs.Sound.{StaySound}
+use Rattle.apd_flusher.specs.Committing.{IsWhole as IsCommitter}
+use Rattle.apd_flusher.specs.Committing as committing
+use Rattle.apd_flusher.specs.Handing.{IsNextBatch, IsTurnMade, Keeps, TurnTells}
+use Rattle.apd_flusher.specs.Outside.{device_of as device_in}
 use Rattle.apd_flusher.specs.declared.phase.Phase.TheVariants as phase
 use Rattle.apd_world.specs.declared.fault.WorldFault.TheVariants as world_fault
-use Rattle.apd_world.specs.CoreRun.{Goes}
-use Rattle.apd_world.specs.Run.{IsStep}
-use Rattle.apd_world.specs.Steps.{entered, entered_as, given, heard_after, heard_as}
-use Rattle.apd_world.specs.Telling.{HasReady, IsNext, Tells, IsAccepted, IsHanded, IsPublished, IsRead, IsTakenUp, IsCalled, after_call, reception_of}
-use Rattle.apd_world.specs.Outside.{IsSpoken}
-use Rattle.apd_world.specs.declared.step.Reception.{Reception}
-use Rattle.apd_world.specs.declared.step.Step.{Step}
-use Rattle.apd_world.specs.declared.step.Step.TheVariants.{Accept, Take, Call, Publish, Hand, Ask}
-use Rattle.apd_world.specs.declared.step.Told.{Told}
-use Rattle.apd_world.specs.declared.step.Told.TheVariants.{Accepted, Loaded, Called, Published, Handed, Answered, Nothing, NoMemory}
-use Rattle.apd_world.specs.declared.durable_core.DurableCore.{DurableCore}
+use Rattle.apd_world.specs.Steps.{heard_as}
+use Rattle.apd_world.specs.Telling.{CallTells, HasReady, IsAccepted, IsHanded, IsRead, reception_of}
+use Rattle.apd_world.proofs.Speaking.{next_core, speaks}
+use Rattle.apd_world.proofs.Standing.{gives_whole, none_some}
 use Rattle.apd_world.proofs.Goings.{goes_beside, goes_entry, goes_handed, goes_published, goes_unchanged}
-
--- ---- the max of two
-pub first_within : (a b n : ℕ) → max a b ≤ n → a ≤ n
-first_within a b n h = let l = le-max_left a b in omega (arith, l, h)
-
-pub second_within : (a b n : ℕ) → max a b ≤ n → b ≤ n
-second_within a b n h = let l = le-max_right a b in omega (arith, l, h)
 
 -- ---- any step that leaves this core
 module _ {D : Type 0} (step : Step) (told : Told) (old new : DurableCore D) where
-  pub step_by : (core : CoreState) → new.core ≡ core → new.told ≡ old.told → Tells step told old new
-      → Goes (entered old.core.confs old.core.heard step told) (λ r. given r step told) old.core core
-      → core.heard ≡ heard_after old.core.confs (front_of old.core) old.core.heard step told
-      → (IsSpoken old → max core.held.given old.told ≤ core.number) → IsStep step told old new
-  step_by core is same tells goes heard spoken = record {
+  pub step_by : (core : CoreState) → new.core ≡ core → Tells step told old new → Goes (entered old.core.confs old.core.heard step told) (λ r. given r step told) old.core core
+      → core.heard ≡ heard_after old.core.confs (front_of old.core) old.core.heard step told → IsStep step told old new
+  step_by core is tells goes heard = record {
     tells = tells;
     goes = subst (λ (s : CoreState). Goes (entered old.core.confs old.core.heard step told) (λ r. given r step told) old.core s) (sym is) goes;
     heard = ap (λ (s : CoreState). s.heard) is ∙ heard;
-    spoken = λ was. subst (λ (t : ℕ). max new.core.held.given t ≤ new.core.number) (sym same) (subst (λ (s : CoreState). max s.held.given old.told ≤ s.number) (sym is) (spoken was));
+    spoken = (speaks old new step told tells).spoken;
   }
 
   -- nothing has changed
   pub step_unchanged : new ≡ old → Tells step told old new
       → Goes (entered old.core.confs old.core.heard step told) (λ r. given r step told) old.core old.core
       → old.core.heard ≡ heard_after old.core.confs (front_of old.core) old.core.heard step told → IsStep step told old new
-  step_unchanged is tells goes heard = step_by old.core (ap (λ (w : DurableCore D). w.core) is) (ap (λ (w : DurableCore D). w.told) is) tells goes heard (λ was. was)
+  step_unchanged is tells goes heard = step_by old.core (ap (λ (w : DurableCore D). w.core) is) tells goes heard
 
 -- what is ready
 pub has_ready : (r : Recipient) (s : CoreState) → 1 ≤ length (ready_for r s) → HasReady r s
@@ -76,38 +49,30 @@ has_ready (Radio b) s some = tt
 pub record IsRequested (s : CoreState) (m : Moment) (asked : Result Happening QuietReason) (answer : Reception) (next : CoreState) : Type 0 where
   pub goes : Goes (entered_as answer asked) (λ _. []) s next
   pub heard : next.heard ≡ heard_as s.confs (front_of s) m answer asked s.heard
-  pub given : next.held.given ≡ s.held.given
-  pub number : next.number ≡ s.number
-  pub flight : next.flight ≡ s.flight
   pub failed : next.failed ≡ s.failed
   pub settled : next.settled ≡ s.settled
-  pub batch : batch_of next ≡ batch_of s
+  pub flight : flight_of next ≡ flight_of s
 
 unchanged_request : (s : CoreState) (m : Moment) (asked : Result Happening QuietReason) (answer : Reception) → entered_as answer asked ≡ [] → s.heard ≡ heard_as s.confs (front_of s) m answer asked s.heard
     → IsRequested s m asked answer s
 unchanged_request s m asked answer none heard =
-    record { goes = subst (λ (es : List Happening). Goes es (λ _. []) s s) (sym none) (goes_unchanged s); heard = heard; given = refl; number = refl; flight = refl; failed = refl; settled = refl; batch = refl }
+    record { goes = subst (λ (es : List Happening). Goes es (λ _. []) s s) (sym none) (goes_unchanged s); heard = heard; failed = refl; settled = refl; flight = refl }
 
 pub requested : (s : CoreState) (m : Moment) (asked : Result Happening QuietReason) (a : CoreAccepted) → IsCore s → AreFit (front_of s) s.confs (entered_as (reception_of a) asked)
     → IsRequested s m asked (reception_of a) (state_after s m asked a)
 requested s m (Ok h) (core_accepted.Entry t) core fit = record {
   goes = goes_entry s m h core fit.0;
   heard = refl;
-  given = refl;
-  number = refl;
-  flight = refl;
   failed = refl;
   settled = refl;
-  batch = λ i. record { first = s.number + 1; last = s.number + s.flight; changes = changes_of (take-append-le s.flight s.unsettled ((verdict (front_of s) s.confs h).changes ∷ []) core.in_flight i) };
+  flight = λ i. if s.flight == 0 then None
+      else Some (record { first = s.number + 1; last = s.number + s.flight; changes = changes_of (take-append-le s.flight s.unsettled ((verdict (front_of s) s.confs h).changes ∷ []) core.in_flight i) });
 }
 requested s m (Ok h) (core_accepted.Quiet reason) core fit =
-    record { goes = goes_beside s s.flight (heard_by m h s.heard) s.failed; heard = refl; given = refl; number = refl; flight = refl; failed = refl; settled = refl; batch = refl }
-requested s m (Ok h) core_accepted.Busy core fit = unchanged_request s m _ _ refl refl
-requested s m (Ok h) core_accepted.Stopped core fit = unchanged_request s m _ _ refl refl
+    record { goes = goes_beside s s.flight (heard_by m h s.heard) s.failed; heard = refl; failed = refl; settled = refl; flight = refl }
+requested s m (Ok h) a core fit = unchanged_request s m (Ok h) (reception_of a) refl refl
 requested s m (Err reason) (core_accepted.Entry t) core fit = unchanged_request s m _ _ refl refl
-requested s m (Err reason) (core_accepted.Quiet why) core fit = unchanged_request s m _ _ refl refl
-requested s m (Err reason) core_accepted.Busy core fit = unchanged_request s m _ _ refl refl
-requested s m (Err reason) core_accepted.Stopped core fit = unchanged_request s m _ _ refl refl
+requested s m (Err reason) a core fit = unchanged_request s m (Err reason) (reception_of a) refl refl
 
 same_entered : (a : CoreAccepted) (asked : Result Happening QuietReason) → entered_by a asked ≡ entered_as (reception_of a) asked
 same_entered (core_accepted.Entry t) (Ok h) = refl
@@ -126,21 +91,11 @@ accepted_is i m answer a old core is told fit after =
       only = λ j. record old { core = after j };
     }
 
--- ---- what a batch taken does to a core
-pub next_core : {D : Type 0} (batch : Batch) (old : DurableCore D) (core : CoreState) → IsNext batch old core → core ≡ record old.core { flight = core.flight }
-next_core batch old core next = ⊎_elim (λ waits. let same : old.core ≡ core = sym waits.1 in waits.1 ∙ (λ i. record old.core { flight = (same i).flight })) (λ taken. taken.2.only) next
-
-pub if_some : {A : Type 0} (o : Option A) (x : A) (P : A → Type 0) → o ≡ Some x → IfSome o P → P x
-if_some o x P e h = subst (λ z. IfSome z P) e h
-
-pub if_none : {A : Type 0} (o : Option A) (P : Type 0) → o ≡ None → IfNone o P → P
-if_none o P e h = subst (λ z. IfNone z P) e h
-
 -- ---- what a call tells
-pub ok_not_err : {A E : Type 0} (x : A) (e : E) → ◌≡◌ {A = Result A E} (Ok x) (Err e) → ⊥
+ok_not_err : {A E : Type 0} (x : A) (e : E) → ◌≡◌ {A = Result A E} (Ok x) (Err e) → ⊥
 ok_not_err x e same = cc
 
-pub same_called : (r s : Result (Unit {0}) StoreFault) → Called r ≡ Called s → r ≡ s
+same_called : (r s : Result (Unit {0}) StoreFault) → Called r ≡ Called s → r ≡ s
 same_called r s same = cc
 
 pub nothing_not_called : (r : Result (Unit {0}) StoreFault) → Nothing ≡ Called r → ⊥
@@ -149,36 +104,13 @@ nothing_not_called r told = cc
 pub lacking_not_called : (r : Result (Unit {0}) StoreFault) → NoMemory ≡ Called r → ⊥
 lacking_not_called r told = cc
 
-pub ok_not_fault : {A : Type 0} (x : Unit {0}) (fault : StoreFault) → Called (Ok x) ≡ Called (Err fault) → A
-ok_not_fault x fault same = absurd (ok_not_err x fault (same_called (Ok x) (Err fault) same))
-
-pub err_same : {A E : Type 0} (e f : E) → ◌≡◌ {A = Result A E} (Err e) (Err f) → e ≡ f
+err_same : {A E : Type 0} (e f : E) → ◌≡◌ {A = Result A E} (Err e) (Err f) → e ≡ f
 err_same e f same = cc
-
-pub after_other : (fault : StoreFault) (s : CoreState) → (fault ≡ store_fault.Device → ⊥) → after_call (Err fault) s ≡ s
-after_other store_fault.Device s h = absurd (h refl)
-after_other fault s h = refl
-
--- what a call that fails does to a core
-pub record FailsBeside (fault : StoreFault) (s : CoreState) : Type 0 where
-  pub failed : Bool
-  pub is : after_call (Err fault) s ≡ record s { failed = failed }
-
-pub fails_beside : (fault : StoreFault) (s : CoreState) → FailsBeside fault s
-fails_beside store_fault.Device s = record { failed = true; is = refl }
-fails_beside fault s = record { failed = s.failed; is = refl }
-
-pub stays_failed : (fault : StoreFault) (s : CoreState) → s.failed ≡ true → (after_call (Err fault) s).failed ≡ true
-stays_failed store_fault.Device s failed = refl
-stays_failed fault s failed = failed
 
 pub same_fault : (e f : StoreFault) → world_fault.Store e ≡ world_fault.Store f → e ≡ f
 same_fault e f same = cc
 
-pub failed_not_busy : (p : Phase) → p ≡ phase.Failed → p ≡ phase.Busy → ⊥
-failed_not_busy p failed busy = cc
-
-pub called_done : {P N : Type 0} (p : Phase) → p ≡ phase.Busy → P ↔ (N ⊎ (p ≡ phase.Done)) → P ↔ N
+called_done : {P N : Type 0} (p : Phase) → p ≡ phase.Busy → P ↔ (N ⊎ (p ≡ phase.Done)) → P ↔ N
 called_done p busy done = ((λ h. ⊎_elim (λ n. n) (λ was. (let none : ⊥ = cc in absurd none)) (done.0 h)), (λ n. done.1 (inl n)))
 
 module _ {D : Type 0} (old new : DurableCore D) where
@@ -192,47 +124,107 @@ module _ {D : Type 0} (old new : DurableCore D) where
   pub accept_step : (i : Input) (m : Moment) (answer : Reception) → IsCore old.core → IsAccepted i m answer old new → IsStep (Accept i m) (Accepted answer) old new
   accept_step i m answer core h =
       let done = accept_request i m answer core h in
-      step_by (Accept i m) (Accepted answer) old new (after_request old.core m i) (ap (λ (w : DurableCore D). w.core) h.only) (ap (λ (w : DurableCore D). w.told) h.only) h done.goes done.heard
-      (λ was. subst (λ (n : ℕ). max (after_request old.core m i).held.given old.told ≤ n) (sym done.number) (subst (λ (g : ℕ). max g old.told ≤ old.core.number) (sym done.given) was))
+      step_by (Accept i m) (Accepted answer) old new (after_request old.core m i) (ap (λ (w : DurableCore D). w.core) h.only) h done.goes done.heard
 
   -- a batch is taken, or waits
-  pub take_step : (result : Result (Unit {0}) _) (flight : ℕ) → new.core ≡ record old.core { flight = flight } → IsTakenUp result old new → IsStep Take (Loaded result) old new
-  take_step result flight is h =
-      step_by Take (Loaded result) old new (record old.core { flight = flight }) is (ap (λ (w : DurableCore D). w.told) h.only) h (goes_beside old.core flight old.core.heard old.core.failed) refl (λ was. was)
+  pub take_step : (result : Result (Unit {0}) _) → IsTakenUp result old new → IsStep Take (Loaded result) old new
+  take_step result h =
+      step_by Take (Loaded result) old new (record old.core { flight = new.core.flight }) (next_core h.load.batch old new.core h.next) h (goes_beside old.core new.core.flight old.core.heard old.core.failed) refl
 
-  pub call_step : (result : Result (Unit {0}) _) (failed : Bool) → new.core ≡ record old.core { failed = failed } → IsCalled result old new → IsStep Call (Called result) old new
-  call_step result failed is h =
-      step_by Call (Called result) old new (record old.core { failed = failed }) is (ap (λ (w : DurableCore D). w.told) h.only) h (goes_beside old.core old.core.flight old.core.heard failed) refl (λ was. was)
+  call_step : (result : Result (Unit {0}) StoreFault) → IsCalled result old new → IsStep Call (Called result) old new
+  call_step result h =
+      step_by Call (Called result) old new (after_call result old.core) (ap (λ (w : DurableCore D). w.core) h.only) h (goes_beside old.core old.core.flight old.core.heard (failed_after result old.core.failed)) refl
 
   pub publish_step : (x : Unit {0}) → IsCore old.core → IsPublished (Ok x) old new → IsStep Publish (Published (Ok x)) old new
-  publish_step x core h =
-      step_by Publish (Published (Ok x)) old new (published old.core) h.tells.1 (ap (λ (w : DurableCore D). w.told) h.only) h (goes_published old.core core) refl
-      (λ was.
-      let same = settled_given old.core.number old.core.held old.core.flight in
-      let l : max (published old.core).held.given old.told ≤ old.core.number = subst (λ (g : ℕ). max g old.told ≤ old.core.number) (sym same) was in
-      omega (arith, l))
+  publish_step x core h = step_by Publish (Published (Ok x)) old new (published old.core) h.tells.1 h (goes_published old.core core) refl
 
   pub unpublished_step : (fault : _) → IsPublished (Err fault) old new → IsStep Publish (Published (Err fault)) old new
-  unpublished_step fault h =
-      step_by Publish (Published (Err fault)) old new old.core h.tells.1 (ap (λ (w : DurableCore D). w.told) h.only) h (goes_unchanged old.core) refl (λ was. was)
+  unpublished_step fault h = step_by Publish (Published (Err fault)) old new old.core h.tells.1 h (goes_unchanged old.core) refl
 
   pub hand_step : (q : Recipient) (outs : List Out) → IsCore old.core → IsHanded q outs old new → IsStep (Hand q) (Handed outs) old new
   hand_step q outs core h =
-      step_by (Hand q) (Handed outs) old new (handed q old.core) (ap (λ (w : DurableCore D). w.core) h.only) (ap (λ (w : DurableCore D). w.told) h.only) h
+      step_by (Hand q) (Handed outs) old new (handed q old.core) (ap (λ (w : DurableCore D). w.core) h.only) h
       (subst (λ (os : List Out). Goes [] (λ r. given r (Hand q) (Handed os)) old.core (handed q old.core)) (sym h.outs_are) (goes_handed q old.core core)) refl
-      (λ was. max-le (given_within old.core.confs old.core.number q old.core.held core.given) (second_within old.core.held.given old.told old.core.number was))
 
   pub ask_step : (q : Query) (answer : Answer) → IsRead q answer old new → IsStep (Ask q) (Answered answer) old new
-  ask_step q answer h =
-      let core = ap (λ (w : DurableCore D). w.core) h.only in
-      let told : new.told ≡ max old.told old.core.number = ap (λ (w : DurableCore D). w.told) h.only ∙ ap (λ (a : Answer). max old.told a.number) h.answer_is in
+  ask_step q answer h = step_by (Ask q) (Answered answer) old new old.core (ap (λ (w : DurableCore D). w.core) h.only) h (goes_unchanged old.core) refl
+
+-- ---- what is handed to a committer: nothing where a batch waits, or else what the core gives
+module _ {D : Type 0} (disk : DiskModel D) where
+  pub record IsOffered (given : Option Batch) (old mid : DurableCore D) : Type 0 where
+    pub only : mid ≡ record old { core = mid.core }
+    pub next : (batch : Batch) → IsNextBatch batch given old.committer → IsNext batch old mid.core
+    pub none : HasNoneToLoad given old.committer → HasNoBatch old × (mid ≡ old)
+    pub whole : (c : Committer D)
+        → ((s : State) (flight : Option Batch) (failed : Bool) → given ≡ None → IsCommitter disk mid.committer s flight failed → IsCommitter disk c s flight failed)
+        → ((s : State) (batch : Batch) (failed : Bool) → given ≡ Some batch → IsGood batch.changes s → IsCommitter disk mid.committer s None failed → IsCommitter disk c s (Some batch) failed)
+        → IsWhole disk old → IsWhole disk (record mid { committer = c })
+
+  pub waits_offered : (old : DurableCore D) → IsSome (waiting_batch old.committer) → IsOffered None old old
+  waits_offered old some = record {
+    only = refl;
+    next = λ batch next. ⊎_elim (λ waits. inl (waits, refl)) (λ given. none_some None batch refl given.1) next;
+    none = λ none. absurd (false≢true (sym (ap is_some none.0) ∙ some));
+    whole = λ c loads hands h. loads old.core.settled (flight_of old.core) old.core.failed refl h;
+  }
+
+  pub core_offered : (given : Option Batch) (old : DurableCore D) (core : CoreState) → waiting_batch old.committer ≡ None → (IsNone given ↔ IsTrue (cannot_take old.core)) → IfNone given (core ≡ old.core)
+      → IfSome given (λ batch. IsTaken batch old.core core) → IfSome given (λ batch. IsGroup batch.changes) → IfSome given (λ batch. StaySound batch.changes old.core.settled) → IsOffered given old (record old { core = core })
+  core_offered None old core none cannot same taken group sound = record {
+    only = refl;
+    next = λ batch next. ⊎_elim (λ waits. none_some (waiting_batch old.committer) batch none waits) (λ given. none_some None batch refl given.1) next;
+    none = λ h. ((none, cannot.0 refl), λ i. record old { core = same i });
+    whole = λ c loads hands h. subst (λ (s : CoreState). IsWhole disk (record old { core = s; committer = c })) (sym same) (loads old.core.settled (flight_of old.core) old.core.failed refl h);
+  }
+  core_offered (Some b) old core none cannot same taken group sound =
+      let can : ¬ IsTrue (cannot_take old.core) = λ t. false≢true (sym (cannot.1 t)) in
       record {
-        tells = h;
-        goes = subst (λ (s : CoreState). Goes [] (λ _. []) old.core s) (sym core) (goes_unchanged old.core);
-        heard = ap (λ (s : CoreState). s.heard) core;
-        spoken = λ was.
-            let n = old.core.number in
-            let told_within = max-le (second_within old.core.held.given old.told n was) (omega arith) in
-            let within = max-le (first_within old.core.held.given old.told n was) told_within in
-            subst (λ (s : CoreState). max s.held.given new.told ≤ s.number) (sym core) (subst (λ (t : ℕ). max old.core.held.given t ≤ n) (sym told) within);
+        only = refl;
+        next = λ batch next. ⊎_elim (λ waits. none_some (waiting_batch old.committer) batch none waits)
+            (λ given. inr (none, can, (let own : b ≡ batch = (let both : Some b ≡ Some batch = given.1 in cc) in subst (λ (x : Batch). IsTaken x old.core core) own taken))) next;
+        none = λ h. absurd (let no : Some b ≡ None = h.1 in cc);
+        whole = λ c loads hands h. gives_whole disk b old core c can taken (hands old.core.settled b old.core.failed refl (group, sound)) h;
       }
+
+  -- ---- a call
+  call_tells : (r : Result (Unit {0}) StoreFault) (f g : Flusher D) → TurnTells disk r f g → (phase_of f ≡ phase.Busy) ⊎ (phase_of f ≡ phase.Failed) → (phase_of f ≡ phase.Failed → r ≡ Err store_fault.Failed) → CallTells r f g
+  call_tells (Ok x) f g t some fails =
+      let busy : phase_of f ≡ phase.Busy = ⊎_elim (λ busy. busy) (λ was. absurd (ok_not_err x _ (fails was))) some in
+      (t.step busy, called_done (phase_of f) busy t.done, t.busy busy)
+  call_tells (Err fault) f g t some fails = (t.phase, (λ was. err_same fault _ (fails was)), t.few)
+
+  call_rises : (r : Result (Unit {0}) StoreFault) (f g : Flusher D) → TurnTells disk r f g → r ≡ Err store_fault.Device → HasRisen (disk.failed (device_in f)) (disk.failed (device_in g))
+  call_rises (Ok x) f g t is = absurd (ok_not_err x _ is)
+  call_rises (Err fault) f g t is = t.device_failed (err_same fault _ is)
+
+  pub called : (r : Result (Unit {0}) StoreFault) (old new : DurableCore D) (p : Phase) → p ≡ phase_of (flusher_of old) → (p ≡ phase.Busy) ⊎ (p ≡ phase.Failed)
+      → new ≡ record old { core = after_call r old.core; committer = new.committer } → IsTurnMade disk r old.committer new.committer → Keeps disk old.committer new.committer
+      → ((s : State) (flight : Option Batch) (failed : Bool) → IsCommitter disk old.committer s flight failed → IsCommitter disk new.committer s flight (failed_after r failed))
+      → ((s : State) (flight : Option Batch) (failed : Bool) → IsCommitter disk old.committer s flight failed → IsImaged disk old.committer → LeavesOnly disk (device_of old) (device_of new) (committing.ShowsEither s flight))
+      → IsStep Call (Called r) old new × IsStepMade disk (Called r) old new
+  called r old new p is way only t keeps turns moments =
+      let s = old.core in
+      let some = subst (λ (q : Phase). (q ≡ phase.Busy) ⊎ (q ≡ phase.Failed)) is way in
+      let step = call_step old new r (record {
+        some_call = some;
+        tells = call_tells r (flusher_of old) (flusher_of new) t.tells some t.failed;
+        batch_is = t.turn.batch_is;
+        table = t.turn.table;
+        next = t.turn.next;
+        batch = t.batch;
+        receipt = t.receipt;
+        only = only;
+      }) in
+      let whole : IsWhole disk old → IsWhole disk new = λ h. subst (λ (z : CoreState). IsCommitter disk new.committer z.settled (flight_of z) z.failed) (sym (ap (λ (w : DurableCore D). w.core) only)) (turns s.settled (flight_of s) s.failed h) in (
+        step,
+        record {
+          one_call = t.turn.one_call;
+          count = t.turn.count;
+          fault = λ told. call_rises r (flusher_of old) (flusher_of new) t.tells (same_called r _ told);
+          safe = record {
+            whole = whole;
+            proper = λ p. record { whole = whole p.whole; imaged = keeps.imaged p.imaged; spoken = step.spoken p.spoken };
+            inside = λ p. moments s.settled (flight_of s) s.failed p.whole p.imaged;
+          };
+        },
+      )

@@ -1,32 +1,36 @@
 -- A durable core begun anew from what a device holds. What is so of an honest device alone stands in records of its own.
 use Rattle.std.specs.Prelude.{◌≡◌, ◌≢◌, ◌↔◌, ℕ, List, take}
 use Rattle.apd_base.specs.declared.limits.TheConstants.{DEVICE_LENGTH}
-use Rattle.apd_base.specs.declared.moment.Moment.{Moment}
-use Rattle.apd_base.specs.Failures.{HasRisen}
-use Rattle.apd_base.specs.State.{State}
-use Rattle.apd_conf.specs.declared.conf.Conf.{Conf}
-use Rattle.apd_disk.specs.Disk.{LeavesOnly, Only, DiskModel}
-use Rattle.apd_mlme.specs.Happening.{Happening}
-use Rattle.apd_mlme.specs.Run.{run}
-use Rattle.apd_table.specs.Sound.{Sound}
-use Rattle.apd_store.specs.Image.{IsMarked, Shows, ShowsNone}
+use Rattle.apd_world.specs.Words.{AreHeardAt, Conf, DiskModel, DurableCore, Happening, HasRisen, LeavesOnly, Moment, Only, Shows, Sound, State, Store, WorldFault, new_core, run}
+use Rattle.apd_store.specs.Commit.{IsIdle}
+use Rattle.apd_store.specs.Image.{IsMarked, ShowsNone}
+use Rattle.apd_store.specs.Outside.{IsInside, device_of as store_device, phase_of}
 use Rattle.apd_store.specs.declared.fault.StoreFault.TheVariants as store_fault
-use Rattle.apd_core.specs.Core.{new_core}
-use Rattle.apd_core.specs.Heard.{AreHeardAt}
-use Rattle.apd_world.specs.Outside.{device_of}
-use Rattle.apd_world.specs.Proper.{IsProper}
+use Rattle.apd_store.specs.declared.phase.Phase.TheVariants.{Idle}
+use Rattle.apd_flusher.specs.Outside.{store_of}
+use Rattle.apd_world.specs.Outside.{device_of, flusher_of}
+use Rattle.apd_world.specs.Proper.{IsProper, IsWhole}
 use Rattle.apd_world.specs.Shown.{ShowsFront}
-use Rattle.apd_world.specs.declared.durable_core.DurableCore.{DurableCore}
-use Rattle.apd_world.specs.declared.fault.WorldFault.{WorldFault}
-use Rattle.apd_world.specs.declared.fault.WorldFault.TheVariants.{Store}
+use Rattle.apd_world.specs.declared.fault.WorldFault.TheVariants as world_fault
 
--- nothing is unsettled, and every station was heard at this moment
+-- of a store and its table: nothing is unsettled, and every station was heard at this moment
+pub record IsBegunWith {D : Type 0} (disk : DiskModel D) (store : Store D) (table : State)
+    (confs : List Conf) (m : Moment) (new : DurableCore D) : Type 0 where
+  pub over : store_of (flusher_of new) ≡ store
+  pub core : new.core ≡ new_core table confs new.core.heard
+  pub heard : AreHeardAt m table new.core.heard
+  pub sound : Sound table
+  pub whole : IsInside disk store → phase_of store ≡ Idle → IsWhole disk new
+  pub proper : disk.honest (store_device store) → IsInside disk store → IsIdle disk store table → IsProper disk new
+
+-- of the store that a device holds
 pub record IsBegunAnew {D : Type 0} (disk : DiskModel D) (device : D) (confs : List Conf) (m : Moment)
     (new : DurableCore D) : Type 0 where
   pub length : disk.size device ≡ DEVICE_LENGTH
   pub core : new.core ≡ new_core new.core.settled confs new.core.heard
   pub heard : AreHeardAt m new.core.settled new.core.heard
   pub sound : Sound new.core.settled
+  pub whole : IsWhole disk new
   pub count : disk.failed (device_of new) ≡ disk.failed device
 
 -- its table is the state that the device's bytes show, after a stop that of a front of what happened before
@@ -40,14 +44,15 @@ pub record IsHonestlyBegunAnew {D : Type 0} (disk : DiskModel D) (device : D) (n
 
 -- the device is handed back, with this fault
 pub record IsNotBegunAnew {D : Type 0} (disk : DiskModel D) (device left : D) (fault : WorldFault) : Type 0 where
-  pub device_failed : fault ≡ Store store_fault.Device → HasRisen (disk.failed device) (disk.failed left)
-  pub no_fault : fault ≢ Store store_fault.Device → disk.failed left ≡ disk.failed device
+  pub device_failed : fault ≡ world_fault.Store store_fault.Device → HasRisen (disk.failed device) (disk.failed left)
+  pub no_fault : fault ≢ world_fault.Store store_fault.Device → disk.failed left ≡ disk.failed device
   pub stays_honest : disk.honest device ↔ disk.honest left
 
 pub record IsHonestlyNotBegunAnew {D : Type 0} (disk : DiskModel D) (device left : D) (fault : WorldFault) : Type 0 where
-  pub not_a_store : fault ≡ Store store_fault.NotAStore → ¬ IsMarked (disk.reads device)
-  pub damaged : fault ≡ Store store_fault.Damaged → IsMarked (disk.reads device) × ShowsNone (disk.reads device)
-  pub durable : fault ≢ Store store_fault.Device → Only (disk.reads device) (disk.may_leave left)
+  pub not_a_store : fault ≡ world_fault.Store store_fault.NotAStore → ¬ IsMarked (disk.reads device)
+  pub damaged : fault ≡ world_fault.Store store_fault.Damaged
+      → IsMarked (disk.reads device) × ShowsNone (disk.reads device)
+  pub durable : fault ≢ world_fault.Store store_fault.Device → Only (disk.reads device) (disk.may_leave left)
   -- where a stop left one image before, as after a sync, it leaves that one
   pub still : (image : List ℕ) → Only image (disk.may_leave device)
       → Only image (disk.may_leave left) × (disk.reads left ≡ image)

@@ -1,12 +1,6 @@
 -- How a core goes on: what happened is kept, given and settled, each in order (own).
 use Rattle.std.specs.Prelude.{◌≡◌, ◌+◌, ◌≤◌, List, [], ◌++◌, length}
-use Rattle.apd_mlme.specs.Happening.{Happening}
-use Rattle.apd_mlme.specs.Run.{run, outs_run, AreFit}
-use Rattle.apd_mlme.specs.declared.decision.Out.{Out}
-use Rattle.apd_mlme.specs.declared.decision.Recipient.{Recipient}
-use Rattle.apd_core.specs.Core.{CoreState, front_of, last_of, held_for, ready_for}
-use Rattle.apd_core.specs.Held.{queue_of, up_to}
-use Rattle.apd_core.specs.Invariant.{AreDecided, numbered_outs}
+use Rattle.apd_world.specs.Words.{AreDecided, AreFit, CoreState, Happening, Out, Recipient, front_of, held_for, last_of, numbered_outs, outs_run, queue_of, ready_for, run, up_to}
 
 -- these happened, so that the entries that are not settled are the verdicts on them
 abbrev pub AreUnsettled : List Happening → CoreState → Type 0

@@ -10,6 +10,7 @@ pub mod Queueing
 pub mod Recovery
 pub mod Resumed
 pub mod Round
+pub mod SafelyMade
 pub mod Run
 pub mod WorldParts
 pub mod Shown
@@ -18,3 +19,4 @@ pub mod Starting
 pub mod Steps
 pub mod Telling
 pub mod WorldRun
+pub mod Words

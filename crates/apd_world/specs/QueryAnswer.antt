@@ -1,10 +1,6 @@
 -- What an answer to a query speaks of.
 use Rattle.std.specs.Prelude.{◌≡◌, ◌+◌, List, ◌++◌, length}
-use Rattle.apd_ctrl.specs.Texts.{text}
-use Rattle.apd_mlme.specs.Happening.{Happening}
-use Rattle.apd_mlme.specs.Run.{run}
-use Rattle.apd_core.specs.Core.{CoreState}
-use Rattle.apd_core.specs.declared.query_answer.Answer.{Answer}
+use Rattle.apd_world.specs.Words.{Answer, CoreState, Happening, run, text}
 
 -- of a front of what happened from a settled state on: its text is that of the state after it, and its number is that of its last
 -- entry

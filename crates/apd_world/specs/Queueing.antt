@@ -1,17 +1,18 @@
--- What is handed to a queue (own).
+-- What is handed to a slot (own).
 use Rattle.std.specs.Prelude.{◌≡◌, List, ◌++◌, length}
-use Rattle.apd_base.specs.declared.address.Bssid.{Bssid}
-use Rattle.apd_mlme.specs.declared.decision.Out.{Out}
-use Rattle.apd_mlme.specs.declared.decision.Recipient.TheVariants.{Radio}
+use Rattle.apd_world.specs.Words.{Bssid, DurableCore, Hand, Handed, NoMemory, Out, Queued, Radio, SameButRoom, Slot, Told, wanted_after_all, wanted_then}
+use Rattle.apd_slot.specs.Slots.{queue_of, SameButQueue}
 use Rattle.apd_world.specs.Run.{IsStep}
-use Rattle.apd_world.specs.declared.durable_core.DurableCore.{DurableCore}
-use Rattle.apd_world.specs.declared.step.Step.TheVariants.{Hand}
-use Rattle.apd_world.specs.declared.step.Told.{Told}
-use Rattle.apd_world.specs.declared.step.Told.TheVariants.{Handed, Queued, NoMemory}
 
--- what is ready for a radio goes to the end of a queue, and its count is told; or memory is lacking
-abbrev pub QueuesReady : {D : Type 0} → Bssid → Told → DurableCore D → DurableCore D → List Out → List Out → Type 0
-QueuesReady b (Queued count) old new queue now = (outs : List Out) × IsStep (Hand (Radio b)) (Handed outs) old new
-    × (count ≡ length outs) × (now ≡ queue ++ outs)
-QueuesReady b NoMemory old new queue now = IsStep (Hand (Radio b)) NoMemory old new × (now ≡ queue)
-QueuesReady b told old new queue now = ⊥
+-- outs go behind those that wait
+pub record AreQueued {R : Type 0} (outs : List Out) (old new : Slot R) : Type 0 where
+  pub queue : queue_of new ≡ queue_of old ++ outs
+  pub wanted_then : wanted_then new ≡ wanted_after_all outs (wanted_then old)
+  pub same : SameButQueue old new
+
+-- what is ready for a radio goes to its slot, and its count is told; or memory is lacking
+abbrev pub QueuesReady : {D R : Type 0} → Bssid → Told → DurableCore D → DurableCore D → Slot R → Slot R → Type 0
+QueuesReady b (Queued count) old new slot after = (outs : List Out) × IsStep (Hand (Radio b)) (Handed outs) old new
+    × (count ≡ length outs) × AreQueued outs slot after
+QueuesReady b NoMemory old new slot after = IsStep (Hand (Radio b)) NoMemory old new × SameButRoom slot after
+QueuesReady b told old new slot after = ⊥

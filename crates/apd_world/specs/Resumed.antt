@@ -1,24 +1,19 @@
 -- Slots that resume by a table (own).
-use Rattle.std.specs.Prelude.{◌≡◌, ◌⊎◌, ℕ, true, false, List, [], map, Some, slice_get}
+use Rattle.std.specs.Prelude.{◌≡◌, ◌+◌, ℕ, true, List, [], drop, map, take, Some, Err, slice_get}
 use Rattle.std.specs.List.{AllByRecursion}
-use Rattle.apd_base.specs.Failures.{HasRisen}
-use Rattle.apd_base.specs.State.{State}
-use Rattle.apd_base.specs.declared.address.Bssid.{Bssid}
-use Rattle.apd_radio.specs.Model.{RadioModel}
-use Rattle.apd_slot.specs.Rows.{installed_rows}
-use Rattle.apd_slot.specs.Slots.{bssid_of, is_up_of, radio_of, wanted_of}
-use Rattle.apd_slot.specs.declared.slot.Slot.{Slot}
-use Rattle.apd_slot.specs.declared.slot.SlotFault.{SlotFault}
-use Rattle.apd_slot.specs.declared.slot.SlotFault.TheVariants.{WentDown, NoMemory}
+use Rattle.apd_world.specs.Words.{Bssid, DiskModel, IsGivenRows, RadioModel, Shows, Slot, SlotFault, State, Store, World, WorldFault, bssid_of, installed_rows, is_up_of, radio_of, wanted_of}
+use Rattle.apd_slot.specs.Slots.{queue_of as slot_queue}
+use Rattle.apd_store.specs.Outside.{device_of}
 use Rattle.apd_world.specs.Following.{AreExact, AreFollowing}
 use Rattle.apd_world.specs.WorldParts.{durable_of, queue_of, slots_of}
-use Rattle.apd_world.specs.declared.world.World.{World}
+use Rattle.apd_world.specs.declared.fault.WorldFault.TheVariants as world_fault
 
--- the slot is up, and its radio has the associated stations of its BSSID, which are wanted
+-- the slot is up, its radio has the associated stations of its BSSID, which are wanted, and no out waits
 pub record IsResumed {R : Type 0} (radio : RadioModel R) (s : State) (slot : Slot R) : Type 0 where
   pub up : is_up_of slot ≡ true
   pub wanted : wanted_of slot ≡ installed_rows s (bssid_of slot)
   pub installed : radio.stations (radio_of slot) ≡ installed_rows s (bssid_of slot)
+  pub queue : slot_queue slot ≡ []
 
 abbrev pub AreResumed : {R : Type 0} → RadioModel R → State → List (Slot R) → Type 0
 AreResumed radio s slots = AllByRecursion (IsResumed radio s) slots
@@ -35,15 +30,36 @@ pub record HasResumed {D R : Type 0} (radio : RadioModel R) (slots : List (Slot 
   pub queues : (b : Bssid) → queue_of w b ≡ []
   pub same : AreOfSame slots (slots_of w)
 
--- the slot of a BSSID has not resumed, for this reason, and is down
-pub record HasNotResumed {R : Type 0} (radio : RadioModel R) (b : Bssid) (fault : SlotFault)
+-- The slot of a BSSID has not resumed by the table, for this reason, and is down; those before it have, and those behind
+-- it are as they were.
+pub record HasNotResumed {R : Type 0} (radio : RadioModel R) (s : State) (b : Bssid) (fault : SlotFault)
     (old new : List (Slot R)) : Type 0 where
   pub place : ℕ
   pub before : Slot R
   pub after : Slot R
   pub was : slice_get old place ≡ Some before
   pub is : slice_get new place ≡ Some after
-  pub bssid : bssid_of after ≡ b
-  pub down : is_up_of after ≡ false
-  pub few : (fault ≡ WentDown) ⊎ (fault ≡ NoMemory)
-  pub risen : fault ≡ WentDown → HasRisen (radio.faults (radio_of before)) (radio.faults (radio_of after))
+  pub bssid : bssid_of before ≡ b
+  pub given : IsGivenRows radio (installed_rows s b) (Err fault) before after
+  pub resumed : AreResumed radio s (take place new)
+  pub rest : drop (place + 1) new ≡ drop (place + 1) old
+
+-- a device was the store of a table by which the slot of a BSSID has not resumed
+pub record EndsAtSlot {D R : Type 0} (disk : DiskModel D) (radio : RadioModel R) (device : D)
+    (b : Bssid) (fault : SlotFault) (old new : List (Slot R)) : Type 0 where
+  pub table : State
+  pub shown : disk.honest device → Shows (disk.reads device) table
+  pub not_resumed : HasNotResumed radio table b fault old new
+
+-- what a fault leaves of the slots: memory ran out before any, or one has not resumed
+abbrev pub AreLeft : {R : Type 0} → RadioModel R → State → WorldFault → List (Slot R) → List (Slot R) → Type 0
+AreLeft radio s (world_fault.Slot b fault) old new = HasNotResumed radio s b fault old new
+AreLeft radio s world_fault.NoMemory old new = new ≡ old
+AreLeft radio s (world_fault.Store fault) old new = ⊥
+
+-- no world was begun over this store and its table: the device and the slots are handed back, with this fault
+pub record AreHandedBack {D R : Type 0} (radio : RadioModel R) (store : Store D) (s : State) (slots : List (Slot R))
+    (device : D) (left : List (Slot R)) (fault : WorldFault) : Type 0 where
+  pub device_is : device ≡ device_of store
+  pub slots_are : AreLeft radio s fault slots left
+  pub same : AreOfSame slots left

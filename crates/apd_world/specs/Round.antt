@@ -1,24 +1,17 @@
 -- A round of steps, by which a batch is committed, and what it comes to (own).
 use Rattle.std.specs.Option.{unwrap_or}
-use Rattle.std.specs.Prelude.{◌≡◌, ◌⊎◌, ◌+◌, ◌≤◌, ◌<◌, ◌^◌, ℕ, List, [], ◌∷◌, ◌++◌, replicate, Option, Some, None, Ok, Err, true}
-use Rattle.apd_base.specs.Failures.{HasRisen}
-use Rattle.apd_disk.specs.Disk.{DiskModel}
-use Rattle.apd_journal.specs.declared.batch.Batch.{Batch}
+use Rattle.std.specs.Prelude.{◌≡◌, ◌⊎◌, ◌+◌, ◌≤◌, ◌<◌, ◌^◌, ℕ, List, [], ◌∷◌, ◌++◌, replicate, Option, Some, None, Ok, Err, true, false, length}
+use Rattle.apd_world.specs.Words.{Batch, Call, Commit, CoreState, DiskModel, DurableCore, HasRisen, Publish, RadioModel, Step, Take, Told, World, phase_of}
 use Rattle.apd_store.specs.declared.fault.StoreFault.TheVariants as store_fault
-use Rattle.apd_core.specs.Core.{CoreState}
 use Rattle.apd_core.specs.declared.publish_fault.PublishFault.TheVariants as publish_fault
 use Rattle.apd_flusher.specs.Flushing.{HasRoom}
-use Rattle.apd_flusher.specs.Outside.{epoch_of, phase_of}
+use Rattle.apd_flusher.specs.Outside.{epoch_of}
 use Rattle.apd_flusher.specs.declared.phase.Phase.TheVariants as phase
-use Rattle.apd_world.specs.Outside.{device_of}
-use Rattle.apd_world.specs.Run.{IsRun}
+use Rattle.apd_world.specs.Outside.{device_of, flusher_of}
+use Rattle.apd_world.specs.SafelyMade.{AreSafelyMade}
 use Rattle.apd_world.specs.Telling.{IsNext}
-use Rattle.apd_world.specs.declared.step.Commit.{Commit}
+use Rattle.apd_world.specs.WorldParts.{durable_of}
 use Rattle.apd_world.specs.declared.step.Commit.TheVariants.{Settled, Nothing, Refused, Foreign, NoMemory}
-use Rattle.apd_world.specs.declared.durable_core.DurableCore.{DurableCore}
-use Rattle.apd_world.specs.declared.step.Step.{Step}
-use Rattle.apd_world.specs.declared.step.Step.TheVariants.{Take, Call, Publish}
-use Rattle.apd_world.specs.declared.step.Told.{Told}
 use Rattle.apd_world.specs.declared.step.Told.TheVariants as told
 
 -- a batch is taken, so many calls are made, and a receipt is published
@@ -42,21 +35,25 @@ answer_of (told ∷ tolds) = unwrap_or (said told) (answer_of tolds)
 
 -- the batch that is taken next fits
 abbrev pub HasRoomForNext : {D : Type 0} → DurableCore D → Type 0
-HasRoomForNext w = (batch : Batch) (core : CoreState) → IsNext batch w core → HasRoom w.flusher batch.changes
+HasRoomForNext w = (batch : Batch) (core : CoreState) → IsNext batch w core → HasRoom (flusher_of w) batch.changes
 
 -- it fits, or the other half can begin anew: there is an epoch left for it
 abbrev pub LastsForNext : {D : Type 0} → DurableCore D → Type 0
 LastsForNext w = (batch : Batch) (core : CoreState) → IsNext batch w core
-    → HasRoom w.flusher batch.changes ⊎ (epoch_of w.flusher + 1 < 2 ^ 64)
+    → HasRoom (flusher_of w) batch.changes ⊎ (epoch_of (flusher_of w) + 1 < 2 ^ 64)
 
--- One round of steps, with ten calls at most: four, where the batch is new and fits.
-pub record IsRound {D : Type 0} (answer : Commit) (old new : DurableCore D) : Type 0 where
+-- One round of steps, with ten calls at most: four, where the batch is new and fits. It tells that the device failed
+-- only where that is so.
+pub record IsRound {D R : Type 0} (disk : DiskModel D) (radio : RadioModel R) (answer : Commit)
+    (old new : World D R) : Type 0 where
   pub calls : ℕ
   pub few : calls ≤ 10
-  pub four : phase_of old.flusher ≡ phase.Idle → HasRoomForNext old → calls ≤ 4
+  pub four : phase_of (flusher_of (durable_of old)) ≡ phase.Idle → HasRoomForNext (durable_of old) → calls ≤ 4
   pub tolds : List Told
-  pub run : IsRun (round calls) tolds old new
+  pub made : AreSafelyMade disk radio (round calls) tolds old new
   pub answer_is : answer ≡ answer_of tolds
+  pub risen : answer ≡ Refused store_fault.Device
+      → HasRisen (disk.failed (device_of (durable_of old))) (disk.failed (device_of (durable_of new)))
 
 -- memory was refused
 abbrev pub LacksMemory : Commit → Type 0
@@ -64,7 +61,7 @@ LacksMemory (Refused store_fault.NoMemory) = Unit {0}
 LacksMemory NoMemory = Unit {0}
 LacksMemory answer = ⊥
 
--- What a round of a proper durable core comes to, by its answer.
+-- What a round of a whole durable core comes to, by its answer.
 abbrev pub ComesTo : {D : Type 0} → DiskModel D → Commit → DurableCore D → DurableCore D → Type 0
 -- one entry or more is settled, and none is in flight
 ComesTo disk Settled old new = (old.core.number < new.core.number) × (new.core.flight ≡ 0)
@@ -80,3 +77,11 @@ ComesTo disk (Refused store_fault.NoMemory) old new = Unit {0}
 ComesTo disk NoMemory old new = Unit {0}
 -- nothing else is answered
 ComesTo disk answer old new = ⊥
+
+-- One in which the device didn't fail, no memory was refused and the batch fits, or the other half can begin anew,
+-- settles one entry or more, where the core has not failed and any is unsettled.
+abbrev pub Commits : {D : Type 0} → DiskModel D → Commit → DurableCore D → DurableCore D → Type 0
+Commits disk answer old new =
+    old.core.failed ≡ false → disk.failed (device_of new) ≡ disk.failed (device_of old)
+    → disk.failed (device_of old) + 1 < 2 ^ 64 → ¬ LacksMemory answer → LastsForNext old → 1 ≤ length old.core.unsettled
+    → (answer ≡ Settled) × (old.core.number < new.core.number)

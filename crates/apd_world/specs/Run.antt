@@ -1,13 +1,10 @@
 -- What a list of steps does.
 use Rattle.std.specs.Prelude.{◌≡◌, List, [], ◌∷◌}
-use Rattle.apd_core.specs.Core.{front_of}
+use Rattle.apd_world.specs.Words.{DurableCore, Step, Told, front_of}
 use Rattle.apd_world.specs.CoreRun.{Goes}
 use Rattle.apd_world.specs.Steps.{entered, given, heard_after, all_entered, all_given, all_heard}
 use Rattle.apd_world.specs.Telling.{Tells}
 use Rattle.apd_world.specs.Outside.{IsSpoken}
-use Rattle.apd_world.specs.declared.step.Step.{Step}
-use Rattle.apd_world.specs.declared.step.Told.{Told}
-use Rattle.apd_world.specs.declared.durable_core.DurableCore.{DurableCore}
 
 -- one step, and what it tells
 pub record IsStep {D : Type 0} (step : Step) (told : Told) (old new : DurableCore D) : Type 0 where

@@ -1,12 +1,7 @@
 -- What a stop leaves of a durable core: the state after a front of what happened.
-use Rattle.std.specs.Prelude.{◌≡◌, ◌≤◌, ◌⊎◌, ℕ, List, length, take}
-use Rattle.apd_base.specs.State.{State}
-use Rattle.apd_conf.specs.declared.conf.Conf.{Conf}
-use Rattle.apd_mlme.specs.Happening.{Happening}
-use Rattle.apd_mlme.specs.Run.{run}
-use Rattle.apd_record.specs.Meaning.{meaning_of}
-use Rattle.apd_store.specs.Image.{Shows}
-use Rattle.apd_core.specs.Core.{CoreState, batch_of}
+use Rattle.std.specs.Prelude.{◌≡◌, ◌≤◌, ◌⊎◌, ◌==◌, ℕ, List, length, take, Option, None, Some, if◌then◌else◌}
+use Rattle.apd_world.specs.Words.{Batch, Conf, CoreState, Happening, Shows, State, batch_of, run}
+use Rattle.apd_flusher.specs.Committing as committer
 use Rattle.apd_world.specs.CoreRun.{AreUnsettled}
 
 -- for some number, the image shows the state after so many of these
@@ -32,10 +27,10 @@ AreAfterFlight s images =
     (hs : List Happening) → AreUnsettled hs s → (image : List ℕ) → images image
     → Shows image (run s.settled s.confs (take s.flight hs))
 
--- the settled state after the batch in flight
-abbrev pub state_after_flight : CoreState → State
-state_after_flight s = meaning_of (batch_of s).changes s.settled
+-- the batch in flight
+abbrev pub flight_of : CoreState → Option Batch
+flight_of s = if s.flight == 0 then None else Some (batch_of s)
 
 -- the image shows the settled state, or that after the batch in flight
 abbrev pub ShowsEither : CoreState → List ℕ → Type 0
-ShowsEither s image = Shows image s.settled ⊎ Shows image (state_after_flight s)
+ShowsEither s image = committer.ShowsEither s.settled (flight_of s) image

@@ -1,13 +1,9 @@
 -- What one step leaves of a durable core, and how it calls the device (own).
-use Rattle.std.specs.Prelude.{◌≡◌, ◌≤◌, ◌+◌, ℕ, List, Err}
-use Rattle.apd_base.specs.Failures.{HasRisen}
-use Rattle.apd_disk.specs.Disk.{DiskModel}
+use Rattle.std.specs.Prelude.{◌≡◌, ◌≤◌, ◌+◌, Err}
+use Rattle.apd_world.specs.Words.{Called, DiskModel, DurableCore, HasRisen, Told}
 use Rattle.apd_store.specs.declared.fault.StoreFault.TheVariants as store_fault
 use Rattle.apd_world.specs.Outside.{device_of}
 use Rattle.apd_world.specs.Proper.{IsSafe}
-use Rattle.apd_world.specs.declared.durable_core.DurableCore.{DurableCore}
-use Rattle.apd_world.specs.declared.step.Told.{Told}
-use Rattle.apd_world.specs.declared.step.Told.TheVariants.{Called}
 
 -- A step that told so is safe. It makes one call of the device at most; the device's failures never fall, and rise where the step tells
 -- that the device failed.

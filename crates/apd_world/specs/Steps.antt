@@ -1,24 +1,8 @@
 -- What happened by steps, by what they told, and what was given.
 use Rattle.std.specs.Prelude.{List, [], ◌∷◌, ◌++◌, Result, Ok, if◌then◌else◌}
-use Rattle.apd_base.specs.State.{State}
-use Rattle.apd_base.specs.declared.moment.Moment.{Moment}
-use Rattle.apd_conf.specs.declared.conf.Conf.{Conf}
-use Rattle.apd_mlme.specs.Happening.{Happening}
-use Rattle.apd_mlme.specs.Outs.{is_same}
-use Rattle.apd_mlme.specs.rules.{verdict}
-use Rattle.apd_mlme.specs.Run.{run}
-use Rattle.apd_mlme.specs.declared.decision.Out.{Out}
-use Rattle.apd_mlme.specs.declared.decision.Recipient.{Recipient}
-use Rattle.apd_core.specs.Core.{CoreState, front_of}
-use Rattle.apd_core.specs.Heard.{LastHeard, heard_by, heard_by_changes}
-use Rattle.apd_core.specs.Requests.{happening_of}
-use Rattle.apd_core.specs.declared.input.QuietReason.{QuietReason}
-use Rattle.apd_world.specs.declared.step.Reception.{Reception}
+use Rattle.apd_world.specs.Words.{Accept, Accepted, Conf, CoreState, Hand, Handed, Happening, LastHeard, Moment, Out, QuietReason, Reception, Recipient, State, Step, Told, front_of, happening_of, heard_by, is_same, run, verdict}
+use Rattle.apd_core.specs.Heard.{heard_by_changes}
 use Rattle.apd_world.specs.declared.step.Reception.TheVariants.{Quiet, Entry}
-use Rattle.apd_world.specs.declared.step.Step.{Step}
-use Rattle.apd_world.specs.declared.step.Step.TheVariants.{Accept, Hand}
-use Rattle.apd_world.specs.declared.step.Told.{Told}
-use Rattle.apd_world.specs.declared.step.Told.TheVariants.{Accepted, Handed}
 
 -- what a request enters by its answer
 abbrev pub entered_as : Reception → Result Happening QuietReason → List Happening

@@ -1,14 +1,9 @@
--- What is seen of a world: its durable core, its slots, and for each BSSID the queue of outs that wait at its slot (own).
-use Rattle.std.specs.Prelude.{ℕ, Bool, false, List, [], map, Option, None, Some, slice_get, slice_index_or}
+-- What is seen of a world: its durable core, its slots, and for each BSSID the outs that wait at its slot (own).
+use Rattle.std.specs.Prelude.{ℕ, Bool, false, List, [], Option, None, Some, slice_get}
 use Rattle.std.specs.List.{position}
 use Rattle.std.specs.Ordering.{eq_by_cmp}
-use Rattle.apd_base.specs.Addr.{bssid_cmp}
-use Rattle.apd_base.specs.declared.address.Bssid.{Bssid}
-use Rattle.apd_mlme.specs.declared.decision.Out.{Out}
-use Rattle.apd_slot.specs.Slots.{bssid_of, is_up_of}
-use Rattle.apd_slot.specs.declared.slot.Slot.{Slot}
-use Rattle.apd_world.specs.declared.world.World.{World}
-use Rattle.apd_world.specs.declared.durable_core.DurableCore.{DurableCore}
+use Rattle.apd_world.specs.Words.{Bssid, DurableCore, Out, Slot, World, bssid_cmp, bssid_of, is_up_of}
+use Rattle.apd_slot.specs.Slots.{queue_of as slot_queue}
 
 abbrev pub durable_of : {D R : Type 0} → World D R → DurableCore D
 durable_of w = w.durable
@@ -36,11 +31,11 @@ abbrev pub is_up_if : {R : Type 0} → Option (Slot R) → Bool
 is_up_if None = false
 is_up_if (Some slot) = is_up_of slot
 
--- a queue that is missing is empty
-abbrev pub queue_in : List (List Out) → Option ℕ → List Out
-queue_in queues None = []
-queue_in queues (Some place) = slice_index_or queues place []
+-- at a slot that is not there no out waits
+abbrev pub queue_if : {R : Type 0} → Option (Slot R) → List Out
+queue_if None = []
+queue_if (Some slot) = slot_queue slot
 
 -- the outs that wait at a BSSID's slot, in order
 abbrev pub queue_of : {D R : Type 0} → World D R → Bssid → List Out
-queue_of w b = queue_in (map (λ queue. queue.items) w.queues.items) (slot_place (slots_of w) b)
+queue_of w b = queue_if (slot_at (slots_of w) b)

@@ -1,67 +1,41 @@
--- What the steps of a world do and tell: those of its durable core, and beside it what the slots and their queues do (own).
-use Rattle.std.specs.Prelude.{◌≡◌, ℕ, List, [], ◌∷◌, ◌++◌, length, None, Some, false, slice_set, if◌then◌else◌}
+-- What the steps of a world do and tell: those of its durable core, and beside it what the slots do (own).
+use Rattle.std.specs.Prelude.{◌≡◌, ℕ, List, [], ◌∷◌, ◌++◌, length, None, Some, slice_set, if◌then◌else◌}
 use Rattle.std.specs.Ordering.{eq_by_cmp}
-use Rattle.apd_base.specs.Addr.{bssid_cmp}
-use Rattle.apd_base.specs.declared.address.Bssid.{Bssid}
-use Rattle.apd_mlme.specs.declared.decision.Out.{Out}
-use Rattle.apd_mlme.specs.declared.decision.Recipient.TheVariants.{Radio, Control}
-use Rattle.apd_mlme.specs.Run.{outs_run}
-use Rattle.apd_core.specs.Core.{front_of, held_for}
-use Rattle.apd_radio.specs.Model.{RadioModel}
-use Rattle.apd_slot.specs.declared.slot.Slot.{Slot}
-use Rattle.apd_world.specs.Applying.{AppliesFirst}
+use Rattle.apd_world.specs.Words.{Applied, Apply, Bssid, Control, Hand, Handed, NoMemory, Nothing, Out, Queued, Radio, RadioModel, SameButRoom, Slot, Step, Told, World, bssid_cmp, bssid_of, front_of, held_for, outs_run}
+use Rattle.apd_world.specs.Applying.{IsApplied}
+use Rattle.apd_world.specs.Queueing.{AreQueued}
 use Rattle.apd_world.specs.Run.{IsRun, IsStep}
 use Rattle.apd_world.specs.WorldParts.{durable_of, slots_of, slot_place, slot_at, queue_of}
 use Rattle.apd_world.specs.Steps.{all_entered, all_given}
 use Rattle.apd_world.specs.Telling.{Tells}
-use Rattle.apd_world.specs.declared.world.World.{World}
-use Rattle.apd_world.specs.declared.step.Step.{Step}
-use Rattle.apd_world.specs.declared.step.Step.TheVariants.{Hand, Apply}
-use Rattle.apd_world.specs.declared.step.Told.{Told}
-use Rattle.apd_world.specs.declared.step.Told.TheVariants.{Handed, Queued, Applied, Nothing, NoMemory}
 
--- the queues of all BSSIDs but one stay
-abbrev pub OthersStay : {D R : Type 0} → Bssid → World D R → World D R → Type 0
-OthersStay b old new = (c : Bssid) → eq_by_cmp bssid_cmp b c ≡ false → queue_of new c ≡ queue_of old c
-
--- all slots and queues stay
-pub record RestStays {D R : Type 0} (old new : World D R) : Type 0 where
-  pub slots : slots_of new ≡ slots_of old
-  pub queues : (b : Bssid) → queue_of new b ≡ queue_of old b
-
--- outs go to the end of a BSSID's queue
-pub record AreQueued {D R : Type 0} (b : Bssid) (outs : List Out) (old new : World D R) : Type 0 where
-  pub slot : Slot R
-  pub has_slot : slot_at (slots_of old) b ≡ Some slot
-  pub slots : slots_of new ≡ slots_of old
-  pub queue : queue_of new b ≡ queue_of old b ++ outs
-  pub others : OthersStay b old new
+abbrev pub RestStays : {D R : Type 0} → World D R → World D R → Type 0
+RestStays old new = slots_of new ≡ slots_of old
 
 abbrev pub HasNoSlot : {D R : Type 0} → Bssid → World D R → Type 0
 HasNoSlot b w = slot_at (slots_of w) b ≡ None
 
--- the first out of a BSSID's queue is applied at its slot
-pub record IsApplied {D R : Type 0} (radio : RadioModel R) (b : Bssid) (told : Told)
-    (old new : World D R) : Type 0 where
+-- the slot of a BSSID goes on so, and all others stay
+pub record SlotGoes {D R : Type 0} (b : Bssid) (So : Slot R → Slot R → Type 0) (old new : World D R) : Type 0 where
   pub place : ℕ
   pub slot : Slot R
   pub after : Slot R
   pub at : slot_place (slots_of old) b ≡ Some place
   pub has_slot : slot_at (slots_of old) b ≡ Some slot
   pub slots : slots_of new ≡ slice_set (slots_of old) place after
-  pub tells : AppliesFirst radio told slot after (queue_of old b) (queue_of new b)
-  pub others : OthersStay b old new
+  pub bssid : bssid_of after ≡ bssid_of slot
+  pub goes : So slot after
 
--- What a step does beside the durable core, by what that told inside: outs for a radio go to its queue, and their count is told; without a
+-- What a step does beside the durable core, by what that told inside: outs for a radio go to its slot, and their count is told; without a
 -- slot nothing is done, and where no out waits nothing is applied. All else is told as it was inside.
 abbrev pub Joins : {D R : Type 0} → RadioModel R → Step → Told → Told → World D R → World D R → Type 0
 Joins radio (Hand (Radio b)) (Handed outs) (Queued count) old new =
-    (count ≡ length outs) × AreQueued b outs old new
-Joins radio (Hand (Radio b)) NoMemory NoMemory old new = (¬ HasNoSlot b old) × RestStays old new
+    (count ≡ length outs) × SlotGoes b (AreQueued outs) old new
+Joins radio (Hand (Radio b)) NoMemory NoMemory old new = SlotGoes b SameButRoom old new
 Joins radio (Hand (Radio b)) NoMemory Nothing old new = HasNoSlot b old × RestStays old new
 Joins radio (Hand (Radio b)) inside told old new = ⊥
 Joins radio (Apply b) Nothing Nothing old new = (queue_of old b ≡ []) × RestStays old new
-Joins radio (Apply b) Nothing told old new = IsApplied radio b told old new
+Joins radio (Apply b) Nothing told old new = SlotGoes b (IsApplied radio told) old new
 Joins radio (Apply b) inside told old new = ⊥
 Joins radio step inside told old new = (told ≡ inside) × RestStays old new
 

@@ -1,46 +1,45 @@
-//! A durable core: a core and the flusher of its store.
+//! A durable core: a core and the committer of its batches.
 ghost use Rattle.std.specs.Prelude.{◌≡◌, ◌==◌, ◌&&◌, not, None, length};
 ghost use Rattle.apd_core.specs.Core.{ready_for};
-ghost use Rattle.apd_flusher.specs.Flushing.{IsSteady};
+ghost use Rattle.apd_flusher.specs.Flushing.{IsInside, IsSteady};
+ghost use Rattle.apd_flusher.specs.Outside.{device_of as device_in, phase_of, table_of, waiting_batch, waiting_receipt};
 
 use apd_conf::Confs;
 use apd_core::Core;
 use apd_disk::Disk;
-use apd_flusher::Flusher;
-use apd_journal::Batch;
+use apd_flusher::{Committer, Flusher, Phase};
 use apd_mlme::Recipient;
-use apd_store::Receipt;
 use apd_table::Table;
-use std::alloc::Global;
 
-/// A core and the flusher of its store, and what waits between the two.
+/// A core, and the committer that brings its batches to the device.
 #[derive(Drop)]
 pub struct DurableCore<D: Disk> {
-    pub(crate) alloc: Global,
     pub(crate) core: Core,
-    pub(crate) flusher: Flusher<D>,
-    // A batch that the flusher refused, and a receipt that the core refused.
-    pub(crate) batch: Option<Batch>,
-    pub(crate) receipt: Option<Receipt>,
+    pub(crate) committer: Committer<D>,
     // The greatest number that came with an answer to a query.
     pub(crate) told: u64,
 }
 
 impl<D: Disk> DurableCore<D> {
-    /// A flusher and a core, with nothing that waits.
-    pub fn new(alloc: Global, flusher: Flusher<D>, core: Core) -> DurableCore<D>
+    ghost use Rattle.apd_world.specs.Outside.{flusher_of};
+    ghost use Rattle.apd_world.specs.Proper.{IsProper, IsUnused, IsWhole};
+
+    /// A flusher and a core, with nothing that waits. Over an idle flusher of the table of a core that accepted nothing
+    /// yet it is whole, and proper where the device shows that table.
+    pub fn new(flusher: Flusher<D>, core: Core) -> DurableCore<D>
         ensures core { result.core ≡ core }
-        ensures flusher { result.flusher ≡ flusher }
-        ensures batch { result.batch ≡ None }
-        ensures receipt { result.receipt ≡ None }
+        ensures flusher { flusher_of result ≡ flusher }
+        ensures batch { waiting_batch result.committer ≡ None }
+        ensures receipt { waiting_receipt result.committer ≡ None }
         ensures told { result.told ≡ 0 }
+        ensures whole { IsUnused core → phase_of flusher ≡ Phase.Idle → IsInside D.model flusher
+            → table_of flusher ≡ core.settled → IsWhole D.model result }
+        ensures proper { IsUnused core → D.model.honest (device_in flusher) → IsInside D.model flusher
+            → IsSteady D.model flusher core.settled → IsProper D.model result }
     {
         DurableCore {
-            alloc,
             core,
-            flusher,
-            batch: None,
-            receipt: None,
+            committer: Committer::new(flusher),
             told: 0,
         }
     }
@@ -75,9 +74,10 @@ impl<D: Disk> DurableCore<D> {
 
     /// The flusher and the core. A batch or a receipt that waits is dropped.
     pub fn into_parts(self) -> (Flusher<D>, Core)
-        ensures flusher { result.0 ≡ self.flusher }
+        ensures flusher { result.0 ≡ flusher_of self }
         ensures core { result.1 ≡ self.core }
     {
-        (self.flusher, self.core)
+        let (flusher, _, _) = self.committer.into_parts();
+        (flusher, self.core)
     }
 }

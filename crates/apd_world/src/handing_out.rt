@@ -7,7 +7,6 @@ use crate::slots::place_of;
 use crate::step::{Step, Told};
 use crate::world::World;
 use apd_base::Bssid;
-use apd_conf::Confs;
 use apd_disk::Disk;
 use apd_mlme::Recipient;
 use apd_radio::Radio;
@@ -16,11 +15,12 @@ use apd_radio::Radio;
 pub(crate) type Answers = Vec<(Recipient, Told)>;
 
 impl<D: Disk, R: Radio> World<D, R> {
-    ghost use Rattle.apd_world.specs.StepsMade.{AreAllApplied, AreAnswered, SomeAreQuietlyMade, StaysSafe};
+    ghost use Rattle.apd_world.specs.StepsMade.{AreAllApplied, AreAnswered};
     ghost use Rattle.apd_world.specs.WorldParts.{durable_of, queue_of};
-    ghost use Rattle.apd_world.specs.Starting.{HasGoneOn, IsHandedOut, IsHanding, LeavesFront, OnlyHands, hands, recipient_of};
+    ghost use Rattle.apd_world.specs.Starting.{HasGoneUnrefused, IsHandedOut, IsHanding, OnlyHands, hands, recipient_of};
     ghost use Rattle.apd_world.specs.WorldRun.{IsWorldStep};
 
+    #[tactic(auto, using(crate::proofs::RunLemmas::only_hands))]
     // Makes a step, and adds what it told, for a recipient. Room is made before.
     fn answer(
         &mut self,
@@ -32,7 +32,7 @@ impl<D: Disk, R: Radio> World<D, R> {
             ((told : Told) × (told ≢ Told.NoMemory) × IsWorldStep R.model step.now told self.old self.new) }
         ensures ok { OnOk result (IsHanding step.now → to ≡ recipient_of step.now
             → AreAnswered D.model R.model (step.now ∷ []) answers.old.items answers.new.items self.old self.new) }
-        ensures err { OnErr result (IsHanding step.now → SomeAreQuietlyMade D.model R.model self.old self.new) }
+        ensures err { OnErr result (IsHanding step.now → HasGoneUnrefused D.model R.model self.old self.new) }
         ensures fault { IfErr result (λ fault. fault ≡ WorldFault.NoMemory) }
         ensures only { IsHanding step.now → OnlyHands (durable_of self.old) (durable_of self.new) }
     {
@@ -49,17 +49,18 @@ impl<D: Disk, R: Radio> World<D, R> {
         }
     }
 
+    #[tactic(auto, using(crate::proofs::RunLemmas::hands_then))]
     // Hands out to each radio, in the order of the configurations, and then to control.
-    fn hand_all(&mut self, confs: &Confs, answers: &mut Answers) -> Result<(), WorldFault>
+    fn hand_all(&mut self, answers: &mut Answers) -> Result<(), WorldFault>
         ensures ok { OnOk result (AreAnswered D.model R.model
-            (hands confs.now) answers.old.items answers.new.items self.old self.new) }
-        ensures err { OnErr result (SomeAreQuietlyMade D.model R.model self.old self.new) }
+            (hands (durable_of self.old).core.confs) answers.old.items answers.new.items self.old self.new) }
+        ensures err { OnErr result (HasGoneUnrefused D.model R.model self.old self.new) }
         ensures fault { IfErr result (λ fault. fault ≡ WorldFault.NoMemory) }
         ensures only { OnlyHands (durable_of self.old) (durable_of self.new) }
     {
         self.durable.stops();
-        for conf in confs.list() {
-            let to = Recipient::Radio(conf.bssid);
+        for place in 0..self.confs().list().len() {
+            let to = Recipient::Radio(self.confs().list()[place].bssid);
             self.answer(to, &Step::Hand(to), answers)?;
         }
         self.answer(Recipient::Control, &Step::Hand(Recipient::Control), answers)
@@ -71,27 +72,25 @@ impl<D: Disk, R: Radio> World<D, R> {
         ensures none { result ≡ false → queue_of self.now bssid ≡ [] }
     {
         match place_of(&self.slots, bssid) {
-            Some(place) => place < self.queues.len() && !self.queues[place].is_empty(),
+            Some(place) => self.slots[place].waiting() > 0,
             None => false,
         }
     }
 
+    #[tactic(auto, using(crate::proofs::RunLemmas::hands_then))]
     // Applies each out that waits at a slot, in the order of the configurations.
-    fn apply_all(&mut self, confs: &Confs, answers: &mut Answers) -> Result<(), WorldFault>
+    fn apply_all(&mut self, answers: &mut Answers) -> Result<(), WorldFault>
         ensures ok { OnOk result (AreAllApplied D.model R.model
-            confs.now answers.old.items answers.new.items self.old self.new) }
-        ensures err { OnErr result (SomeAreQuietlyMade D.model R.model self.old self.new) }
+            (durable_of self.old).core.confs answers.old.items answers.new.items self.old self.new) }
+        ensures err { OnErr result (HasGoneUnrefused D.model R.model self.old self.new) }
         ensures fault { IfErr result (λ fault. fault ≡ WorldFault.NoMemory) }
         ensures only { OnlyHands (durable_of self.old) (durable_of self.new) }
     {
         self.durable.stops();
-        for conf in confs.list() {
-            while self.has_out(conf.bssid) {
-                self.answer(
-                    Recipient::Radio(conf.bssid),
-                    &Step::Apply(conf.bssid),
-                    answers,
-                )?;
+        for place in 0..self.confs().list().len() {
+            let bssid = self.confs().list()[place].bssid;
+            while self.has_out(bssid) {
+                self.answer(Recipient::Radio(bssid), &Step::Apply(bssid), answers)?;
             }
         }
         Ok(())
@@ -103,19 +102,15 @@ impl<D: Disk, R: Radio> World<D, R> {
     ///
     /// Errors: `NoMemory`. The steps that were made stand.
     pub fn hand_out(&mut self) -> Result<Vec<(Recipient, Told)>, WorldFault>
-        ensures handed { IfOk result (λ answers. IsHandedOut R.model [] answers.items self.old self.new) }
-        ensures err { OnErr result (HasGoneOn R.model self.old self.new) }
+        ensures handed { IfOk result (λ answers. IsHandedOut D.model R.model [] answers.items self.old self.new) }
+        ensures err { OnErr result (HasGoneUnrefused D.model R.model self.old self.new) }
         ensures fault { IfErr result (λ fault. fault ≡ WorldFault.NoMemory) }
         ensures only { OnlyHands (durable_of self.old) (durable_of self.new) }
-        ensures safe { StaysSafe D.model R.model (LeavesFront D.model) self.old self.new }
     {
         self.durable.stops();
-        let Ok(confs) = self.confs().copy(self.alloc) else {
-            return Err(WorldFault::NoMemory);
-        };
         let mut answers = Vec::new(self.alloc);
-        self.hand_all(&confs, &mut answers)?;
-        self.apply_all(&confs, &mut answers)?;
+        self.hand_all(&mut answers)?;
+        self.apply_all(&mut answers)?;
         Ok(answers)
     }
 }

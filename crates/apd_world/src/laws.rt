@@ -1,8 +1,9 @@
 //! What a reader may rely on, whatever steps a durable core or a world makes: each law is the contract of a
 //! function that does nothing.
-ghost use Rattle.std.specs.Prelude.{◌≡◌, ◌≤◌, ◌++◌, List, Ok};
+ghost use Rattle.std.specs.Prelude.{◌≡◌, ◌≤◌, ◌++◌, List, Ok, ℕ};
 ghost use Rattle.apd_base.specs.declared.moment.Moment.{Moment};
 ghost use Rattle.apd_ctrl.specs.declared.command.Query.{Query};
+ghost use Rattle.apd_disk.specs.Disk.{LeavesOnly};
 ghost use Rattle.apd_mlme.specs.Happening.{Happening};
 ghost use Rattle.apd_mlme.specs.rules.{verdict};
 ghost use Rattle.apd_mlme.specs.laws.Outs.{AreSoToAll};
@@ -13,9 +14,12 @@ ghost use Rattle.apd_core.specs.Requests.{happening_of};
 ghost use Rattle.apd_core.specs.declared.query_answer.Answer.{Answer};
 ghost use Rattle.apd_core.specs.declared.input.Input.{Input};
 ghost use Rattle.apd_world.specs.CoreRun.{AreUnsettled};
-ghost use Rattle.apd_world.specs.Outside.{IsSpoken};
+ghost use Rattle.apd_world.specs.Outside.{device_of, IsSpoken};
+ghost use Rattle.apd_world.specs.Proper.{IsProper, IsSafe};
 ghost use Rattle.apd_world.specs.Run.{AreSteps, IsRun};
 ghost use Rattle.apd_world.specs.QueryAnswer.{SpeaksOf};
+ghost use Rattle.apd_world.specs.SafelyMade.{AreSafelyMade};
+ghost use Rattle.apd_world.specs.Shown.{ShowsEither, ShowsFlight};
 ghost use Rattle.apd_world.specs.Steps.{all_entered};
 ghost use Rattle.apd_world.specs.Telling.{Tells};
 ghost use Rattle.apd_world.specs.WorldRun.{RunsJoin};
@@ -24,6 +28,7 @@ ghost use Rattle.apd_world.specs.declared.step.Step.{Step};
 ghost use Rattle.apd_world.specs.declared.step.Step.TheVariants.{Ask};
 ghost use Rattle.apd_world.specs.declared.step.Told.{Told};
 ghost use Rattle.apd_world.specs.declared.step.Told.TheVariants.{Answered};
+ghost use Rattle.apd_world.specs.declared.world.World.{World};
 
 use apd_disk::Disk;
 use apd_radio::Radio;
@@ -64,7 +69,20 @@ pub fn a_query_speaks_of_what_was_settled<D: Disk>()
 {}
 
 /// Steps of a world, and then further steps, are one list of steps: what they told is what that list tells, and
-/// what happened by the first happened first.
+/// what happened by the first happened first; what is said of a stop since the first, and of all that had been spoken
+/// of by then, is so of the whole list.
 pub fn runs_join<D: Disk, R: Radio>()
-    ensures { RunsJoin D R.model }
+    ensures runs { RunsJoin D R.model }
+    ensures made { (xs ys : List Step) (ts us : List Told) (old mid new : World D R)
+        → AreSafelyMade D.model R.model xs ts old mid → AreSafelyMade D.model R.model ys us mid new
+        → AreSafelyMade D.model R.model (xs ++ ys) (ts ++ us) old new }
+{}
+
+/// Inside a step, whatever it is, a stop leaves an image of the settled table, or of that after the batch in flight:
+/// the table after none of what is not settled, or after as much of it as is in flight.
+pub fn a_stop_within_a_step_leaves_all_of_a_batch_or_none<D: Disk>()
+    ensures image { (s : CoreState) (hs : List Happening) (image : List ℕ) → AreUnsettled hs s → ShowsEither s image
+        → ShowsFlight s hs image }
+    ensures step { (old new : DurableCore D) (hs : List Happening) → IsSafe D.model old new → IsProper D.model old
+        → AreUnsettled hs old.core → LeavesOnly D.model (device_of old) (device_of new) (ShowsFlight old.core hs) }
 {}

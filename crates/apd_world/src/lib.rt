@@ -20,6 +20,7 @@ mod world_stepping;
 pub use driving::drive;
 pub use durable_core::DurableCore;
 pub use fault::WorldFault;
-pub use restarting::restart;
+pub use restarting::{begin_anew, restart};
+pub use slots::slots_for;
 pub use step::{Commit, Reception, Step, Told};
 pub use world::World;

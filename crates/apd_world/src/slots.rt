@@ -1,19 +1,46 @@
-//! Slots and their queues: where a BSSID's are, and what goes in and out of them.
-ghost use Rattle.std.specs.Prelude.{◌≡◌, ◌<◌, ℕ, Option, OnOk, length, map};
-ghost use Rattle.apd_world.specs.Applying.{AppliesFirst};
-ghost use Rattle.apd_world.specs.StepMade.{IsStepMade};
-ghost use Rattle.apd_world.specs.WorldParts.{slot_place, queue_in};
+//! Slots and the outs that wait there: where a BSSID's is, and what goes in and out.
+ghost use Rattle.std.specs.Prelude.{◌≡◌, ◌≤◌, IfOk, length, map, take};
+ghost use Rattle.std.specs.List.{AllZip};
+ghost use Rattle.apd_slot.specs.Slots.{bssid_of, radio_of, HasForgotten};
+ghost use Rattle.apd_world.specs.Applying.{IsApplied};
 ghost use Rattle.apd_world.specs.Queueing.{QueuesReady};
+ghost use Rattle.apd_world.specs.StepMade.{IsStepMade};
+ghost use Rattle.apd_world.specs.WorldParts.{slot_place};
 
 use crate::durable_core::DurableCore;
 use crate::step::{Step, Told};
 use apd_base::Bssid;
+use apd_conf::Confs;
 use apd_disk::Disk;
-use apd_mlme::{Out, Recipient};
+use apd_mlme::Recipient;
 use apd_radio::Radio;
-use apd_slot::{Slot, SlotFault};
+use apd_slot::Slot;
 use std::alloc::{AllocError, Global};
 use std::collections::VecDeque;
+
+/// A new slot for each configuration, in their order, with the radio at its place. Where there are too few radios, the
+/// last configurations have no slot.
+pub fn slots_for<R: Radio>(
+    alloc: Global,
+    confs: &Confs,
+    radios: Vec<R>,
+) -> Result<Vec<Slot<R>>, AllocError>
+    ensures bssids { length confs.now ≤ length radios.items
+        → IfOk result (λ slots. map bssid_of slots.items ≡ map (λ conf. conf.bssid) confs.now) }
+    ensures frames { length confs.now ≤ length radios.items
+        → IfOk result (λ slots. map (λ slot. R.frames (radio_of slot)) slots.items
+        ≡ map R.frames (take (length confs.now) radios.items)) }
+{
+    let mut radios = VecDeque::from_vec(radios);
+    let mut slots = Vec::with_capacity(alloc, confs.list().len())?;
+    for conf in confs.list() {
+        let Some(radio) = radios.pop_front() else {
+            return Ok(slots);
+        };
+        slots.push(Slot::new(alloc, radio, conf.bssid))?;
+    }
+    Ok(slots)
+}
 
 /// The place of a BSSID's slot.
 pub(crate) fn place_of<R: Radio>(slots: &[Slot<R>], bssid: Bssid) -> Option<usize>
@@ -24,60 +51,46 @@ pub(crate) fn place_of<R: Radio>(slots: &[Slot<R>], bssid: Bssid) -> Option<usiz
         .position(|slot| bssid.cmp(&slot.bssid()).is_eq())
 }
 
-/// Makes a queue at the place, and at each before it, where there is none. No queue has another out then.
-pub(crate) fn make_queue(
-    alloc: Global,
-    queues: &mut Vec<VecDeque<Out>>,
-    place: usize,
-) -> Result<(), AllocError>
-    ensures same { (p : Option ℕ)
-        → queue_in (map (λ queue. queue.items) queues.new.items) p
-        ≡ queue_in (map (λ queue. queue.items) queues.old.items) p }
-    ensures there { OnOk result (place < length queues.new.items) }
+/// Drops the outs that wait at each slot.
+pub(crate) fn forget_all<R: Radio>(slots: &mut [Slot<R>])
+    ensures { AllZip HasForgotten slots.old slots.new }
 {
-    while queues.len() <= place {
-        queues.push(VecDeque::new(alloc))?;
+    for slot in slots.iter_mut() {
+        slot.forget();
     }
-    Ok(())
 }
 
-/// Hands what is ready for a radio to a queue, and tells how many outs. Room is made before.
-pub(crate) fn hand_to<D: Disk>(
+/// Hands what is ready for a radio to its slot, and tells how many outs. Room is made before.
+pub(crate) fn hand_to<D: Disk, R: Radio>(
     durable: &mut DurableCore<D>,
-    queue: &mut VecDeque<Out>,
+    slot: &mut Slot<R>,
     bssid: Bssid,
 ) -> Told
-    ensures queues { QueuesReady bssid result durable.old durable.new queue.old.items queue.new.items }
+    ensures queues { QueuesReady bssid result durable.old durable.new slot.old slot.new }
     ensures made { IsStepMade D.model result durable.old durable.new }
 {
     durable.stops();
     let to = Recipient::Radio(bssid);
-    if queue.reserve(durable.ready(to)).is_err() {
+    if slot.make_room(durable.ready(to)).is_err() {
         return Told::NoMemory;
     }
     match durable.step(&Step::Hand(to)) {
         Told::Handed(outs) => {
             let count = outs.len();
-            let _ = queue.append(&mut VecDeque::from_vec(outs.into_vec()));
+            slot.queue(outs.into_vec());
             Told::Queued(count)
         }
         told => told,
     }
 }
 
-/// Applies the first out of a queue at a slot. It stays first where memory ran out.
-pub(crate) fn apply_first<R: Radio>(slot: &mut Slot<R>, queue: &mut VecDeque<Out>) -> Told
-    ensures { AppliesFirst R.model result slot.old slot.new queue.old.items queue.new.items }
+/// Applies the first of the outs that wait at a slot.
+pub(crate) fn apply_first<R: Radio>(slot: &mut Slot<R>) -> Told
+    ensures { IsApplied R.model result slot.old slot.new }
 {
-    let Some(out) = queue.front() else {
-        return Told::Nothing;
-    };
-    let answer = slot.apply(out);
-    if answer == Err(SlotFault::NoMemory) {
-        return Told::NoMemory;
-    }
-    match queue.pop_front() {
-        Some(out) => Told::Applied(out, answer),
-        None => unreachable!(),
+    match slot.apply_next() {
+        Some(Ok((out, answer))) => Told::Applied(out, answer),
+        Some(Err(_short)) => Told::NoMemory,
+        None => Told::Nothing,
     }
 }

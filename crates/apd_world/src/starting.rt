@@ -11,15 +11,15 @@ use apd_mlme::Recipient;
 use apd_radio::Radio;
 
 impl<D: Disk, R: Radio> World<D, R> {
-    ghost use Rattle.apd_world.specs.StepsMade.{AreAccepted, SomeAreSafelyMade, StaysSafe};
-    ghost use Rattle.apd_world.specs.Proper.{IsProper};
+    ghost use Rattle.apd_world.specs.StepsMade.{AreAccepted};
+    ghost use Rattle.apd_world.specs.Proper.{IsWhole};
     ghost use Rattle.apd_world.specs.WorldParts.{durable_of};
-    ghost use Rattle.apd_world.specs.Starting.{HasEnded, HasFailedCore, IsStarted, LeavesFronts};
+    ghost use Rattle.apd_world.specs.Starting.{HasEnded, HasFailedCore, HasGoneUnrefused, IsStarted};
 
     // Accepts each interface's configuration, with its lists, in order. One that is no entry is passed over.
     fn configure(&mut self) -> Result<(), WorldFault>
         ensures ok { OnOk result (AreAccepted D.model R.model (durable_of self.old).core.confs self.old self.new) }
-        ensures err { OnErr result (SomeAreSafelyMade D.model R.model self.old self.new) }
+        ensures err { OnErr result (HasGoneUnrefused D.model R.model self.old self.new) }
         ensures fault { IfErr result (λ fault. fault ≡ WorldFault.NoMemory) }
     {
         self.durable.stops();
@@ -45,12 +45,12 @@ impl<D: Disk, R: Radio> World<D, R> {
     ///
     /// Errors: `Store` where the store refuses, with the fault that a step told, and with `Failed` where the core has
     /// failed or a round settled nothing; `NoMemory`. The steps that were made stand.
+    #[tactic(auto, using(crate::proofs::EndLemmas::if_residual, crate::proofs::EndLemmas::memory_fails))]
     pub fn start(&mut self) -> Result<Vec<(Recipient, Told)>, WorldFault>
-        ensures started { IfOk result (λ answers. IsStarted R.model answers.items self.old self.new) }
-        ensures err { IfErr result (λ fault. HasEnded R.model fault self.old self.new) }
-        ensures failed { IsProper D.model (durable_of self.old)
+        ensures started { IfOk result (λ answers. IsStarted D.model R.model answers.items self.old self.new) }
+        ensures err { IfErr result (λ fault. HasEnded D.model R.model fault self.old self.new) }
+        ensures failed { IsWhole D.model (durable_of self.old)
             → IfErr result (λ fault. HasFailedCore fault self.new) }
-        ensures safe { StaysSafe D.model R.model (LeavesFronts D.model R.model) self.old self.new }
     {
         self.configure()?;
         self.flush()

@@ -1,11 +1,9 @@
 //! The steps of a durable core.
-ghost use Rattle.std.specs.Prelude.{◌≡◌, ◌⊎◌, ℕ, List, None, IfOk, IfSome, IfNone, OnErr, OnSome, IsNone, IsSome, Err, take};
-ghost use Rattle.apd_base.specs.State.{State};
+ghost use Rattle.std.specs.Prelude.{◌≡◌, ◌⊎◌, ℕ, List, IsSome, take};
 ghost use Rattle.apd_mlme.specs.Happening.{Happening};
 ghost use Rattle.apd_mlme.specs.Run.{run};
 ghost use Rattle.apd_store.specs.Image.{Shows};
-ghost use Rattle.apd_flusher.specs.Flushing.{IsFlushing, IsGood, IsInside, IsSteady};
-ghost use Rattle.apd_flusher.specs.Outside.{phase_of};
+ghost use Rattle.apd_flusher.specs.Outside.{phase_of, waiting_receipt};
 ghost use Rattle.apd_world.specs.CoreRun.{AreUnsettled};
 ghost use Rattle.apd_world.specs.declared.step.Step.TheVariants.{Accept, Take, Call, Publish, Hand, Ask, Apply};
 ghost use Rattle.apd_world.specs.Telling.{reception_of};
@@ -17,10 +15,8 @@ use apd_core::{Accepted, Input};
 use apd_ctrl::Query;
 use apd_disk::Disk;
 use apd_flusher::Phase;
-use apd_journal::Batch;
 use apd_mlme::Recipient;
-use apd_store::{Receipt, StoreFault};
-use std::alloc::AllocError;
+use apd_store::StoreFault;
 
 fn reception(answer: Accepted<'_>) -> Reception
     ensures { result ≡ reception_of answer.entry }
@@ -37,17 +33,14 @@ impl<D: Disk> DurableCore<D> {
     ghost use Rattle.apd_world.specs.Proper.{IsProper, IsSafe};
     ghost use Rattle.apd_world.specs.Run.{IsStep};
     ghost use Rattle.apd_world.specs.StepMade.{IsStepMade};
-    ghost use Rattle.apd_world.specs.Shown.{ShowsEither, ShowsFlight};
-    ghost use Rattle.apd_world.specs.Telling.{CanTake, HasNoBatch, HasNoReceipt, IsNext, IsNextReceipt, after_call};
-    ghost use Rattle.apd_world.specs.Outside.{device_of};
+    ghost use Rattle.apd_world.specs.Shown.{ShowsFlight};
+    ghost use Rattle.apd_world.specs.Outside.{device_of, flusher_of};
 
-    // What a stop now shows of a proper durable core. It does nothing.
+    // A step that does nothing is safe. It does nothing.
     pub(crate) fn stops(&self)
-        ensures { IsProper D.model self.now → (image : List ℕ)
-            → D.model.left_since (device_of self.now) (D.model.moment (device_of self.now)) image
-            → ShowsEither self.now.core image }
+        ensures { IsSafe D.model self.now self.now }
     {
-        self.flusher.shown();
+        self.committer.shown();
     }
 
     /// Tells a caller's proof what a stop now leaves of a proper durable core: an image of the table after none of
@@ -58,11 +51,12 @@ impl<D: Disk> DurableCore<D> {
             → AreUnsettled hs self.now.core → (image : List ℕ) → D.model.may_leave (device_of self.now) image
             → ShowsFlight self.now.core hs image }
         ensures durable { IsProper D.model self.now → (hs : List Happening)
-            → AreUnsettled hs self.now.core → (phase_of self.now.flusher ≡ Phase.Done) ⊎ IsSome self.now.receipt
+            → AreUnsettled hs self.now.core
+            → (phase_of (flusher_of self.now) ≡ Phase.Done) ⊎ IsSome (waiting_receipt self.now.committer)
             → (image : List ℕ) → D.model.may_leave (device_of self.now) image
             → Shows image (run self.now.core.settled self.now.core.confs (take self.now.core.flight hs)) }
     {
-        self.flusher.shown();
+        self.committer.shown();
     }
 
     fn accept(&mut self, input: Input<'_>, moment: Moment) -> Told
@@ -78,21 +72,6 @@ impl<D: Disk> DurableCore<D> {
         }
     }
 
-    // The batch that waits, or else one that the core gives.
-    fn next_batch(&mut self) -> Result<Option<Batch>, AllocError>
-        ensures given { IfOk result (λ found. IfSome found (λ batch. IsNext batch self.old self.new.core)) }
-        ensures only { self.new ≡ record self.old { core = self.new.core; batch = None } }
-        ensures none { IfOk result (λ found. IfNone found (HasNoBatch self.old × (self.new ≡ self.old))) }
-        ensures good { IfOk result
-            (λ found. IfSome found (λ batch. self.old.batch ≡ None → IsGood batch.changes self.old.core.settled)) }
-        ensures err { OnErr result (CanTake self.old × (self.new ≡ self.old)) }
-    {
-        match self.batch.take() {
-            Some(batch) => Ok(Some(batch)),
-            None => self.core.take(),
-        }
-    }
-
     fn take(&mut self) -> Told
         ensures step { IsStep Take result self.old self.new }
         ensures safe { IsSafe D.model self.old self.new }
@@ -100,61 +79,38 @@ impl<D: Disk> DurableCore<D> {
     {
         self.stops();
         self.core.sound();
-        let batch = match self.next_batch() {
-            Ok(Some(batch)) => batch,
-            Ok(None) => return Told::Nothing,
-            Err(_) => return Told::NoMemory,
-        };
-        match self.flusher.load(batch) {
-            Ok(()) => Told::Loaded(Ok(())),
-            Err((batch, fault)) => {
-                self.batch = Some(batch);
-                Told::Loaded(Err(fault))
+        let given = if self.committer.has_batch() {
+            None
+        } else {
+            match self.core.take() {
+                Ok(given) => given,
+                Err(_) => return Told::NoMemory,
             }
+        };
+        match self.committer.load(given) {
+            Some(result) => Told::Loaded(result),
+            None => Told::Nothing,
         }
     }
 
     // The core fails with the device.
-    fn fail_on(&mut self, fault: StoreFault)
-        ensures { self.new ≡ record self.old { core = after_call (Err fault) self.old.core } }
-    {
-        if fault == StoreFault::Device {
-            self.core.fail();
-        }
-    }
-
     fn call(&mut self) -> Told
         ensures step { IsStep Call result self.old self.new }
         ensures made { IsStepMade D.model result self.old self.new }
     {
         self.stops();
-        match self.flusher.phase() {
+        match self.committer.phase() {
             Phase::Idle | Phase::Done => return Told::Nothing,
             Phase::Busy | Phase::Failed => {}
         }
-        match self.flusher.turn() {
+        match self.committer.turn() {
             Ok(()) => Told::Called(Ok(())),
             Err(fault) => {
-                self.fail_on(fault);
+                if fault == StoreFault::Device {
+                    self.core.fail();
+                }
                 Told::Called(Err(fault))
             }
-        }
-    }
-
-    // The receipt that waits, or else the one that the flusher gives.
-    fn next_receipt(&mut self) -> Option<Receipt>
-        ensures given { IfSome result (λ receipt. IsNextReceipt receipt self.old self.new.flusher) }
-        ensures only { self.new ≡ record self.old { flusher = self.new.flusher; receipt = None } }
-        ensures none { IsNone result → HasNoReceipt self.old × (self.new ≡ self.old) }
-        ensures device { device_of self.new ≡ device_of self.old }
-        ensures inside { IsInside D.model self.old.flusher → IsInside D.model self.new.flusher }
-        ensures durable { (state after : State) → self.old.receipt ≡ None
-            → IsFlushing D.model self.old.flusher state after
-            → OnSome result (IsSteady D.model self.new.flusher after) }
-    {
-        match self.receipt.take() {
-            Some(receipt) => Some(receipt),
-            None => self.flusher.unload(),
         }
     }
 
@@ -165,13 +121,13 @@ impl<D: Disk> DurableCore<D> {
     {
         self.stops();
         self.core.sound();
-        let Some(receipt) = self.next_receipt() else {
+        let Some(receipt) = self.committer.receipt() else {
             return Told::Nothing;
         };
         match self.core.publish(receipt) {
             Ok(()) => Told::Published(Ok(())),
             Err((receipt, fault)) => {
-                self.receipt = Some(receipt);
+                self.committer.take_back(receipt);
                 Told::Published(Err(fault))
             }
         }
@@ -216,9 +172,9 @@ impl<D: Disk> DurableCore<D> {
         Told::Nothing
     }
 
-    /// Makes one step, and tells its answer. From a proper one it leaves one, and a stop since its start
-    /// leaves an image of the settled table, or of that after the batch in flight. It makes one call of the
-    /// device at most.
+    /// Makes one step, and tells its answer. From a whole one it leaves one, whatever the device; from a proper one it
+    /// leaves one, and a stop since its start leaves an image of the settled table, or of that after the batch in
+    /// flight. It makes one call of the device at most.
     pub fn step(&mut self, step: &Step<'_>) -> Told
         ensures step { IsStep step.now result self.old self.new }
         ensures made { IsStepMade D.model result self.old self.new }

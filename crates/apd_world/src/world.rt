@@ -1,61 +1,59 @@
 //! A world: a durable core, and a slot for each interface.
-ghost use Rattle.std.specs.Prelude.{◌≡◌, None, []};
-ghost use Rattle.apd_base.specs.declared.address.Bssid.{Bssid as Address};
+ghost use Rattle.std.specs.Prelude.{◌≡◌, None};
+ghost use Rattle.std.specs.List.{AllZip};
 ghost use Rattle.apd_flusher.specs.Flushing.{IsInside, IsSteady};
-ghost use Rattle.apd_flusher.specs.Outside.{device_of as device_in};
+ghost use Rattle.apd_flusher.specs.Outside.{device_of as device_in, phase_of, table_of, waiting_batch, waiting_receipt};
+ghost use Rattle.apd_slot.specs.Slots.{HasForgotten};
 
 use crate::durable_core::DurableCore;
-use crate::slots::place_of;
+use crate::slots::{forget_all, place_of};
 use apd_base::Bssid;
 use apd_conf::Confs;
 use apd_core::Core;
 use apd_disk::Disk;
-use apd_flusher::Flusher;
-use apd_mlme::Out;
+use apd_flusher::{Flusher, Phase};
 use apd_radio::Radio;
 use apd_slot::Slot;
 use apd_table::Table;
 use std::alloc::Global;
-use std::collections::VecDeque;
 
-/// A durable core and its slots, each with a queue of the outs that wait to be applied there. The slots are one
-/// for each configured BSSID and no other, as the caller gives them: outs for a BSSID without a slot are held
-/// for ever, and a second slot of a BSSID is given none.
+/// A durable core and its slots, with the outs that wait to be applied there. The slots are one for each configured
+/// BSSID and no other, as the caller gives them: outs for a BSSID without a slot are held for ever, and a second slot
+/// of a BSSID is given none.
 #[derive(Drop)]
 pub struct World<D: Disk, R: Radio> {
     pub(crate) alloc: Global,
     pub(crate) durable: DurableCore<D>,
     pub(crate) slots: Vec<Slot<R>>,
-    // The queue of each slot, at its place. One that is missing is empty.
-    pub(crate) queues: Vec<VecDeque<Out>>,
 }
 
 impl<D: Disk, R: Radio> World<D, R> {
     ghost use Rattle.apd_world.specs.Following.{AreFollowing};
-    ghost use Rattle.apd_world.specs.Proper.{IsProper, IsShown, IsUnused};
+    ghost use Rattle.apd_world.specs.Outside.{flusher_of};
+    ghost use Rattle.apd_world.specs.Proper.{IsProper, IsSafe, IsShown, IsUnused, IsWhole};
     ghost use Rattle.apd_world.specs.Resumed.{AreResumed};
-    ghost use Rattle.apd_world.specs.WorldParts.{durable_of, slots_of, slot_at, is_up_if, queue_of};
+    ghost use Rattle.apd_world.specs.WorldParts.{durable_of, slots_of, slot_at, is_up_if};
 
-    /// A flusher, a core and slots, with nothing that waits. It takes no memory. Over the flusher of a device that shows
-    /// the table of a core that accepted nothing yet, what is said of a stop is so from here on; and where the slots
-    /// have resumed by that table, they follow it.
+    /// A flusher, a core and slots, which keep the outs that wait there; no batch and no receipt waits. It takes no
+    /// memory. Over the flusher of a device that shows the table of a core that accepted nothing yet, what is said of a
+    /// stop is so from here on; and where the slots have resumed by that table, they follow it.
     pub fn new(alloc: Global, flusher: Flusher<D>, core: Core, slots: Vec<Slot<R>>) -> World<D, R>
         ensures core { (durable_of result).core ≡ core }
-        ensures flusher { (durable_of result).flusher ≡ flusher }
-        ensures batch { (durable_of result).batch ≡ None }
-        ensures receipt { (durable_of result).receipt ≡ None }
+        ensures flusher { flusher_of (durable_of result) ≡ flusher }
+        ensures batch { waiting_batch (durable_of result).committer ≡ None }
+        ensures receipt { waiting_receipt (durable_of result).committer ≡ None }
         ensures told { (durable_of result).told ≡ 0 }
         ensures slots { slots_of result ≡ slots.items }
-        ensures queues { (b : Address) → queue_of result b ≡ [] }
+        ensures whole { IsUnused core → phase_of flusher ≡ Phase.Idle → IsInside D.model flusher
+            → table_of flusher ≡ core.settled → IsWhole D.model (durable_of result) }
         ensures proper { IsUnused core → D.model.honest (device_in flusher) → IsInside D.model flusher
             → IsSteady D.model flusher core.settled → IsProper D.model (durable_of result) }
         ensures following { IsUnused core → AreResumed R.model core.settled slots.items → AreFollowing result }
     {
         World {
             alloc,
-            durable: DurableCore::new(alloc, flusher, core),
+            durable: DurableCore::new(flusher, core),
             slots,
-            queues: Vec::new(alloc),
         }
     }
 
@@ -82,6 +80,13 @@ impl<D: Disk, R: Radio> World<D, R> {
         self.durable.shown();
     }
 
+    /// Tells a caller's proof that a stop now, where no step is made, is as safe as within one. It does nothing.
+    pub fn stops(&self)
+        ensures { IsSafe D.model (durable_of self.now) (durable_of self.now) }
+    {
+        self.durable.stops();
+    }
+
     /// Whether the slot of a BSSID is up; not so where it has no slot.
     pub fn is_up(&self, bssid: Bssid) -> bool
         ensures { result ≡ is_up_if (slot_at (slots_of self.now) bssid) }
@@ -92,13 +97,18 @@ impl<D: Disk, R: Radio> World<D, R> {
         }
     }
 
-    /// The flusher, the core and the slots. A batch or a receipt that waits is dropped, and so is each queue.
+    /// The flusher, the core and the slots. A batch or a receipt that waits is dropped, and so is each out.
     pub fn into_parts(self) -> (Flusher<D>, Core, Vec<Slot<R>>)
-        ensures flusher { result.0 ≡ (durable_of self).flusher }
+        ensures flusher { result.0 ≡ flusher_of (durable_of self) }
         ensures core { result.1 ≡ (durable_of self).core }
-        ensures slots { result.2.items ≡ slots_of self }
+        ensures slots { AllZip HasForgotten (slots_of self) result.2.items }
     {
-        let World { durable, slots, .. } = self;
+        let World {
+            durable,
+            mut slots,
+            ..
+        } = self;
+        forget_all(slots.as_mut_slice());
         let (flusher, core) = durable.into_parts();
         (flusher, core, slots)
     }

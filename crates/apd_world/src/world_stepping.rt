@@ -1,8 +1,9 @@
 //! The steps of a world.
+ghost use Rattle.std.specs.Prelude.{[]};
 ghost use Rattle.apd_world.specs.declared.step.Step.TheVariants.{Hand, Apply};
 ghost use Rattle.apd_mlme.specs.declared.decision.Recipient.TheVariants.{Radio as Of};
 
-use crate::slots::{apply_first, hand_to, make_queue, place_of};
+use crate::slots::{apply_first, hand_to, place_of};
 use crate::step::{Step, Told};
 use crate::world::World;
 use apd_base::Bssid;
@@ -12,13 +13,13 @@ use apd_radio::Radio;
 
 impl<D: Disk, R: Radio> World<D, R> {
     ghost use Rattle.apd_world.specs.Following.{AreExact, AreFollowing};
-    ghost use Rattle.apd_world.specs.Proper.{IsProper};
+    ghost use Rattle.apd_world.specs.Proper.{IsProper, IsSafe};
     ghost use Rattle.apd_world.specs.Recovery.{LosesNothing};
     ghost use Rattle.apd_world.specs.StepMade.{IsStepMade};
     ghost use Rattle.apd_world.specs.WorldParts.{durable_of, slots_of};
     ghost use Rattle.apd_world.specs.WorldRun.{IsWorldStep};
 
-    // Hands what is ready for a radio to the queue of its slot, if it has one.
+    // Hands what is ready for a radio to its slot, if it has one.
     fn queue_ready(&mut self, bssid: Bssid) -> Told
         ensures step { IsWorldStep R.model (Hand (Of bssid)) result self.old self.new }
         ensures made { IsStepMade D.model result (durable_of self.old) (durable_of self.new) }
@@ -27,13 +28,10 @@ impl<D: Disk, R: Radio> World<D, R> {
         let Some(place) = place_of(&self.slots, bssid) else {
             return Told::Nothing;
         };
-        if make_queue(self.alloc, &mut self.queues, place).is_err() {
-            return Told::NoMemory;
-        }
-        hand_to(&mut self.durable, &mut self.queues[place], bssid)
+        hand_to(&mut self.durable, &mut self.slots[place], bssid)
     }
 
-    // Hands out what is ready for a recipient: to control itself, to a radio into the queue of its slot.
+    // Hands out what is ready for a recipient: to control itself, to a radio's slot behind what waits there.
     fn hand(&mut self, to: Recipient) -> Told
         ensures step { IsWorldStep R.model (Hand to) result self.old self.new }
         ensures made { IsStepMade D.model result (durable_of self.old) (durable_of self.new) }
@@ -44,7 +42,7 @@ impl<D: Disk, R: Radio> World<D, R> {
         }
     }
 
-    // Applies the first out of a BSSID's queue at its slot.
+    // Applies the first out that waits at a BSSID's slot.
     fn apply(&mut self, bssid: Bssid) -> Told
         ensures step { IsWorldStep R.model (Apply bssid) result self.old self.new }
         ensures made { IsStepMade D.model result (durable_of self.old) (durable_of self.new) }
@@ -53,10 +51,19 @@ impl<D: Disk, R: Radio> World<D, R> {
         let Some(place) = place_of(&self.slots, bssid) else {
             return Told::Nothing;
         };
-        if place >= self.queues.len() {
-            return Told::Nothing;
+        apply_first(&mut self.slots[place])
+    }
+
+    // Makes one step.
+    fn make(&mut self, step: &Step<'_>) -> Told
+        ensures step { IsWorldStep R.model step.now result self.old self.new }
+        ensures made { IsStepMade D.model result (durable_of self.old) (durable_of self.new) }
+    {
+        match *step {
+            Step::Hand(to) => self.hand(to),
+            Step::Apply(bssid) => self.apply(bssid),
+            _ => self.durable.step(step),
         }
-        apply_first(&mut self.slots[place], &mut self.queues[place])
     }
 
     /// Makes one step, and tells its answer. What a stop leaves, and what is spoken of, is as of the durable core's
@@ -64,18 +71,18 @@ impl<D: Disk, R: Radio> World<D, R> {
     ///
     /// Whatever steps came before, a stop at any moment until this one is done leaves an image of the table after a
     /// front of what happened, and every entry that was spoken of by then is in that front (own).
+    #[tactic(auto, using(crate::proofs::Moving::exact))]
     pub fn step(&mut self, step: &Step<'_>) -> Told
         ensures step { IsWorldStep R.model step.now result self.old self.new }
         ensures made { IsStepMade D.model result (durable_of self.old) (durable_of self.new) }
+        ensures stops { IsSafe D.model (durable_of self.new) (durable_of self.new) }
         ensures exact { AreExact R.model (slots_of self.old) → AreExact R.model (slots_of self.new) }
         ensures following { AreFollowing self.old → AreFollowing self.new }
         ensures nothing_is_lost { IsProper D.model (durable_of self.old)
-            → LosesNothing D.model R.model self.old self.new }
+            → LosesNothing D.model [] (durable_of self.old) (durable_of self.new) }
     {
-        match *step {
-            Step::Hand(to) => self.hand(to),
-            Step::Apply(bssid) => self.apply(bssid),
-            _ => self.durable.step(step),
-        }
+        let told = self.make(step);
+        self.durable.stops();
+        told
     }
 }

@@ -1,56 +1,61 @@
-use Rattle.std.proofs.Common.{◌≡◌, List, ◌++◌, length, map, take, drop, inr, refl, sym, ap, subst, ◌∙◌, arith, rules}
-use Rattle.std.proofs.Math.Seq.{take-append_seam}
-use Rattle.apd_disk.specs.Disk.{Only}
-use Rattle.apd_flusher.specs.Outside as flusher
-use Rattle.apd_world.specs.Following.{AreExact}
-use Rattle.apd_world.specs.Outside.{device_of}
-use Rattle.apd_world.specs.Resumed.{AreResumed, HasNotResumed}
-use Rattle.apd_world.proofs.ResumeLemmas.{begun_following, no_out_waits, resumed_exact}
+use Rattle.std.proofs.Common.{inr, ap}
+use Rattle.std.proofs.lemmas.Result.{IfErr-weaker, IfOk-weaker}
+use Rattle.apd_world.proofs.ResumeLemmas.{begun_from, ends_so, honestly_begun_from, honestly_not_begun_from, not_begun_from, still_left}
+use Rattle.apd_world.specs.declared.fault.WorldFault.TheVariants as world_fault
+use Rattle.apd_world.proofs.StepLemmas.{same_fault}
 use Rattle.apd_world.proofs.restarting.restart.Goals as goal
 
--- as many are taken as there are
-whole : {A : Type 0} (xs ys : List A) (n : _) → n ≡ length xs → take n (xs ++ drop (length xs) ys) ≡ xs
-whole xs ys n same = ap (λ k. take k (xs ++ drop (length xs) ys)) same ∙ take-append_seam xs (drop (length xs) ys)
+pub returns-in-Ok-clause-begun : goal.returns-in-Ok-clause-begun
+returns-in-Ok-clause-begun g c =
+    IfOk-weaker c.begin_anew.result _ _
+    (λ w h. begun_from g.D.Disk.model c.args.device c.in-Ok.store c.in-Ok.table c.in-Ok.ensures.found c.args.confs
+    c.args.moment w.durable h) c.begin_anew.ensures.begun
 
-pub returns-in-Ok-resume_all-clause-resumed : goal.returns-in-Ok-resume_all-clause-resumed
-returns-in-Ok-resume_all-clause-resumed g c =
-    let xs = c.resume_all.new.slots in
-    let many : c.args.slots.len ≡ length xs = omega (arith, c.args.slots.ok.0, c.resume_all.auto.slots, c.as_mut_slice.ensures.len) in
-    let core = c.in-Ok.durable.core in
-    let are = whole xs c.args.slots.items c.args.slots.len many in
-    let resumed = subst (AreResumed g.R.Radio.model core.settled) (sym are) (subst (λ s. AreResumed g.R.Radio.model s xs) c.table.ensures c.in-Ok-resume_all.ensures.ok) in
-    let none = ap (map (λ queue. queue.items)) c.new.ensures.items in
+pub returns-in-Ok-clause-begun_honest : goal.returns-in-Ok-clause-begun_honest
+returns-in-Ok-clause-begun_honest g c = λ honest.
+    let held = c.in-Ok.ensures.found_honest honest in
+    IfOk-weaker c.begin_anew.result _ _
+    (λ w h. honestly_begun_from g.D.Disk.model c.args.device c.in-Ok.store c.in-Ok.table c.in-Ok.ensures.found
+    c.args.confs c.args.moment w.durable h honest held
+    (λ s shown. c.an_image_shows_one_state.ensures (g.D.Disk.model.reads c.args.device) c.in-Ok.table s held.shown
+    shown)) c.begin_anew.ensures.begun
+
+pub returns-in-Ok-clause-none : goal.returns-in-Ok-clause-none
+returns-in-Ok-clause-none g c =
+    IfErr-weaker c.begin_anew.result _ _
+    (λ e h. not_begun_from g.D.Disk.model c.args.device c.in-Ok.store c.in-Ok.table c.in-Ok.ensures.found
+    g.R.Radio.model c.args.slots.items e.1.items e.0 e.2 h) c.begin_anew.ensures.none
+
+pub returns-in-Ok-clause-none_honest : goal.returns-in-Ok-clause-none_honest
+returns-in-Ok-clause-none_honest g c = λ honest.
+    IfErr-weaker c.begin_anew.result _ _
+    (λ e h. honestly_not_begun_from g.D.Disk.model c.args.device c.in-Ok.store c.in-Ok.table c.in-Ok.ensures.found
+    g.R.Radio.model c.args.slots.items e.1.items e.0 e.2 h
+    (c.in-Ok.ensures.found_honest honest) (g.met.D.Disk.reads_may_be_left c.args.device honest))
+    c.begin_anew.ensures.none
+
+pub returns-in-Ok-clause-only : goal.returns-in-Ok-clause-only
+returns-in-Ok-clause-only g c =
+    IfErr-weaker c.begin_anew.result _ _
+    (λ e h. inr (inr (inr (inr (ends_so g.D.Disk.model c.args.device c.in-Ok.store c.in-Ok.table c.in-Ok.ensures.found
+    g.R.Radio.model c.args.slots.items e.1.items e.2
+    (λ honest. (c.in-Ok.ensures.found_honest honest).shown) h.slots_are))))) c.begin_anew.ensures.none
+
+pub returns-in-Ok-clause-still_slots : goal.returns-in-Ok-clause-still_slots
+returns-in-Ok-clause-still_slots g c =
+    IfErr-weaker c.begin_anew.result _ _ (λ e h other. still_left g.R.Radio.model c.in-Ok.table c.args.slots.items
+    e.1.items e.2 h.slots_are other) c.begin_anew.ensures.none
+
+pub returns-in-Ok-clause-slots_err : goal.returns-in-Ok-clause-slots_err
+returns-in-Ok-clause-slots_err g c = IfErr-weaker c.begin_anew.result _ _ (λ e h. h.same) c.begin_anew.ensures.none
+
+pub returns-in-Err-clause-none_honest : goal.returns-in-Err-clause-none_honest
+returns-in-Err-clause-none_honest g c = λ honest.
+    let e = c.in-Err.ensures.none_honest honest in
     record {
-      resumed = resumed;
-      exact = subst (AreExact g.R.Radio.model) (sym are) (resumed_exact g.R.Radio.model c.table.result.now xs c.in-Ok-resume_all.ensures.ok);
-      following = λ b configured slot at a.
-          begun_following g.R.Radio.model _ core.settled resumed core (map (λ queue. queue.items) c.new.result.items) c.args.confs core.heard c.in-Ok.ensures.begun.core none b slot at a;
-      queues = λ b. no_out_waits (map (λ queue. queue.items) c.new.result.items) _ none;
-      same = search rules;
+      not_a_store = λ told. e.not_a_store (same_fault _ _ told);
+      damaged = λ told. e.damaged (same_fault _ _ told);
+      durable = λ other. e.durable (λ is. other (ap world_fault.Store is));
+      still = e.still;
+      any_moment = e.any_moment;
     }
-
-pub returns-in-Err-resume_all-clause-none_honest : goal.returns-in-Err-resume_all-clause-none_honest
-returns-in-Err-resume_all-clause-none_honest g c = λ honest.
-    let begun = c.in-Ok.ensures.begun_honest honest in
-    let device : c.into_device.result ≡ device_of c.in-Ok.durable = c.into_device.ensures ∙ ap flusher.device_of c.into_parts-flusher.ensures.flusher in
-    record {
-      not_a_store = search rules;
-      damaged = search rules;
-      durable = λ other. subst (λ d. Only (g.D.Disk.model.reads c.args.device) (g.D.Disk.model.may_leave d)) (sym device) begun.images;
-      still = λ image only.
-          let same = only (g.D.Disk.model.reads c.args.device) (g.met.D.Disk.reads_may_be_left c.args.device honest) in
-          ((λ other left. begun.images other (subst (λ d. g.D.Disk.model.may_leave d other) device left) ∙ same), ap g.D.Disk.model.reads device ∙ c.in-Ok.ensures.reads honest ∙ same);
-      any_moment = search rules;
-    }
-
-pub returns-in-Err-resume_all-clause-only : goal.returns-in-Err-resume_all-clause-only
-returns-in-Err-resume_all-clause-only g c =
-    let xs = c.resume_all.new.slots in
-    let many : c.args.slots.len ≡ length xs = omega (arith, c.args.slots.ok.0, c.resume_all.auto.slots, c.as_mut_slice.ensures.len) in
-    let bssid = c.in-Err-resume_all.bssid in
-    let fault = c.in-Err-resume_all.fault in
-    let failed = subst (λ zs. HasNotResumed g.R.Radio.model bssid fault zs xs) c.as_mut_slice.ensures.value c.in-Err-resume_all.ensures.err in
-    inr (inr (inr (inr (inr (bssid, fault, refl, subst (HasNotResumed g.R.Radio.model bssid fault c.args.slots.items) (sym (whole xs c.args.slots.items c.args.slots.len many)) failed)))))
-
-pub returns-in-Err-resume_all-clause-still_slots : goal.returns-in-Err-resume_all-clause-still_slots
-returns-in-Err-resume_all-clause-still_slots g c = λ other. absurd (other c.in-Err-resume_all.bssid c.in-Err-resume_all.fault refl)

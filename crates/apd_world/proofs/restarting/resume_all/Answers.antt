@@ -1,43 +1,55 @@
-use Rattle.std.proofs.Common.{◌<◌, Err, refl, sym, ap, subst, ◌∙◌, arith, length, get_or, set}
+use Rattle.std.proofs.Common.{◌<◌, sym, ap, subst, ◌∙◌, arith, length, get_or, set}
 use Rattle.std.proofs.lemmas.List.{get_or_default}
-use Rattle.apd_slot.specs.Rows.{installed_rows}
-use Rattle.apd_world.specs.Resumed.{HasNotResumed, IsResumed}
-use Rattle.apd_world.proofs.ResumeLemmas.{none_so_far, not_up, one_failed, one_same, one_so_far}
+use Rattle.apd_world.proofs.Words.{HasNotResumed, IsResumed, installed_rows}
+use Rattle.apd_world.proofs.ResumeLemmas.{one_failed, Resumes}
+use Rattle.apd_world.proofs.SoFar.{all_so_far, none_so_far, one_so_far, still_same, zip_all}
 use Rattle.apd_world.proofs.restarting.resume_all.Goals as goal
 
 pub loop-slot-init : goal.loop-slot-init
-loop-slot-init g c = none_so_far g.R.Radio.model c.args.table.now c.args.slots.now
+loop-slot-init g c = none_so_far (Resumes g.R.Radio.model c.args.table.now) c.args.slots.now
 
 pub loop-slot-preserved : goal.loop-slot-preserved
 loop-slot-preserved g c =
     let h = c.loop-slot.invariant in
-    let e = c.in_default.ensures in
-    let before = get_or c.loop-slot.slots c.loop-slot.slot-index c.slot-item.result in
-    let after = c.resume.new.self in
-    let lt : c.loop-slot.slot-index < length c.loop-slot.slots = omega (arith, h.many, c.loop-slot-test.true) in
-    let is = get_or_default c.loop-slot.slots c.loop-slot.slot-index c.slot-item.result before lt in
+    let given = c.in_default.ensures.given in
+    let now = c.loop-slot.slots in
+    let i = c.loop-slot.slot-index in
+    let before = get_or now i c.slot-item.result in
+    let lt : i < length now = omega (arith, h.many, c.loop-slot-test.true) in
     let s = c.args.table.now in
-    let resumed : IsResumed g.R.Radio.model s after = record {
-      up = e.up.1 refl;
-      wanted = e.wanted ∙ ap (installed_rows s) (sym e.bssid);
-      installed = e.installed ∙ ap (installed_rows s) (sym e.bssid);
+    let resumed : IsResumed g.R.Radio.model s c.resume.new.self = record {
+      up = given.up;
+      wanted = given.wanted ∙ ap (installed_rows s) (sym given.bssid);
+      installed = given.installed ∙ ap (installed_rows s) (sym given.bssid);
+      queue = given.queue;
     } in
-    one_so_far g.R.Radio.model s c.loop-slot.slot-index c.args.slots.now c.loop-slot.slots before after lt is e.bssid resumed h
+    one_so_far (Resumes g.R.Radio.model s) i c.args.slots.now now before c.resume.new.self (get_or_default now i c.slot-item.result before lt) given.bssid h lt resumed
 
 pub returns-in-Err : goal.returns-in-Err
 returns-in-Err g c =
     let h = c.loop-slot.invariant in
-    let e = c.in-Err.ensures in
+    let given = c.in-Err.ensures.given in
+    let now = c.loop-slot.slots in
     let i = c.loop-slot.slot-index in
-    let before = get_or c.loop-slot.slots i c.slot-item.result in
+    let before = get_or now i c.slot-item.result in
     let after = c.resume.new.self in
-    let lt : i < length c.loop-slot.slots = omega (arith, h.many, c.loop-slot-test.true) in
-    let is = get_or_default c.loop-slot.slots i c.slot-item.result before lt in
+    let lt : i < length now = omega (arith, h.many, c.loop-slot-test.true) in
+    let is = get_or_default now i c.slot-item.result before lt in
     let s = c.args.table.now in
-    let failed = one_failed g.R.Radio.model s i c.args.slots.now c.loop-slot.slots before after c.in-Err.fault lt is e.bssid (not_up after.up e.up.0) e.errors
-    (λ went. e.down (ap Err went)) h in
     record {
       ok = tt;
-      same = one_same g.R.Radio.model s i c.args.slots.now c.loop-slot.slots before after is e.bssid h;
-      err = subst (λ b. HasNotResumed g.R.Radio.model b c.in-Err.fault c.args.slots.now (set c.loop-slot.slots i after)) (sym c.bssid.ensures) failed;
+      same = still_same (Resumes g.R.Radio.model s) i c.args.slots.now now before after is given.bssid h;
+      err = subst (λ b. HasNotResumed g.R.Radio.model s b c.in-Err.fault c.args.slots.now (set now i after))
+          (sym (c.bssid.ensures ∙ given.bssid))
+          (one_failed g.R.Radio.model s i c.args.slots.now now before after c.in-Err.fault lt is given h);
+    }
+
+pub returns : goal.returns
+returns g c =
+    let s = c.args.table.now in
+    let h = c.loop-slot.invariant in
+    record {
+      ok = zip_all (IsResumed g.R.Radio.model s) c.args.slots.now c.loop-slot.slots (all_so_far (Resumes g.R.Radio.model s) c.loop-slot.slot-index c.args.slots.now c.loop-slot.slots c.loop-slot-test.false h);
+      same = h.same;
+      err = tt;
     }

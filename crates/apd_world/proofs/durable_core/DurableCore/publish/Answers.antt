@@ -1,73 +1,70 @@
-use Rattle.std.proofs.Common.{◌≡◌, Some, Ok, Err, refl, ap, subst, ◌∙◌}
-use Rattle.std.specs.Prelude.{◌↔◌}
-use Rattle.apd_store.specs.Outside.{held_batch}
-use Rattle.apd_core.specs.Core.{CoreState, published, IsFlight}
-use Rattle.apd_core.specs.declared.publish_fault.PublishFault.TheVariants.{Foreign}
-use Rattle.apd_world.specs.Telling.{IsNextReceipt, IsPublished}
-use Rattle.apd_world.specs.declared.step.Step.TheVariants.{Publish}
-use Rattle.apd_world.specs.declared.step.Told.TheVariants.{Nothing}
-use Rattle.apd_world.specs.declared.durable_core.DurableCore.{DurableCore}
+use Rattle.std.proofs.Common.{◌≡◌, ◌⊎◌, Some, None, refl, sym, ap, subst, ◌∙◌}
+use Rattle.apd_flusher.specs.Handing.{IsUnloaded}
+use Rattle.apd_world.proofs.Words.{Flusher, Nothing, Publish, flight_of, waiting_receipt}
+use Rattle.apd_flusher.specs.Outside.{device_of as device_in, flusher_of as flusher_in}
 use Rattle.apd_world.proofs.Goings.{goes_unchanged}
-use Rattle.apd_world.proofs.Standing.{publish_refused, publish_settled, received, safe_same, safe_unchanged}
+use Rattle.apd_world.proofs.Standing.{refused_whole, safe_same, settled_whole}
 use Rattle.apd_world.proofs.StepLemmas.{publish_step, step_unchanged, unpublished_step}
 use Rattle.apd_world.proofs.durable_core.DurableCore.publish.Goals as goal
-
-pub returns-in_default-clause-step : goal.returns-in_default-clause-step
-returns-in_default-clause-step g c =
-    let old = c.args.self.now in
-    let none = c.in_default.ensures.none refl in
-    step_unchanged Publish Nothing old c.next_receipt.new.self none.1 none (goes_unchanged old.core) refl
-
-pub returns-in_default-clause-safe : goal.returns-in_default-clause-safe
-returns-in_default-clause-safe g c = safe_unchanged g.D.Disk.model c.args.self.now c.next_receipt.new.self (c.in_default.ensures.none refl).1 c.stops.ensures
 
 pub returns-in-Ok : goal.returns-in-Ok
 returns-in-Ok g c =
     let old = c.args.self.now in
-    let mid = c.next_receipt.new.self in
-    let new = record mid { core = c.publish.new.self } in
-    let receipt = c.in-Some.receipt in
-    let only = c.in-Some.ensures.only in
-    let core : mid.core ≡ old.core = ap (λ (w : DurableCore _). w.core) only in
-    let next : IsNextReceipt receipt old mid.flusher = c.in-Some.ensures.given in
-    let done : new.core ≡ published old.core = c.in-Ok.ensures.ok ∙ ap published core in
-    let is : IsPublished (Ok tt) old new = record {
-      receipt = receipt;
-      next = next;
-      tells = (subst (λ (s : CoreState). IsFlight (held_batch receipt) s) core c.in-Ok.ensures.flight, done);
-      device = c.next_receipt.ensures.device;
-      only = λ i. record (only i) { core = c.publish.new.self };
-    } in
-    let step = publish_step old new tt c.sound.ensures is in
+    let s = old.core in
+    let new = record old { core = c.publish.new.self; committer = c.receipt.new.self } in
+    let given = c.in-Some.ensures.given in
+    let done = c.in-Ok.ensures in
+    let step = publish_step old new tt c.sound.ensures (record {
+      receipt = c.in-Some.receipt;
+      next = given.next;
+      tells = (done.flight, done.ok);
+      device = c.receipt.ensures.device;
+      batch = given.batch;
+      kept = given.none;
+      only = refl;
+    }) in
     record {
       step = step;
-      device = c.next_receipt.ensures.device;
-      safe = safe_same g.D.Disk.model old new c.next_receipt.ensures.device c.next_receipt.ensures.inside c.stops.ensures step.spoken
-          (λ h. publish_settled g.D.Disk.model receipt old new (received g.D.Disk.model receipt old mid.flusher next c.in-Some.ensures.durable h) done (ap (λ (w : DurableCore _). w.batch) only) (ap (λ (w : DurableCore _). w.receipt) only));
+      device = c.receipt.ensures.device;
+      safe = safe_same g.D.Disk.model old new c.receipt.ensures.device c.stops.ensures
+          (λ h. settled_whole g.D.Disk.model c.in-Some.receipt old c.publish.new.self c.receipt.new.self done.flight done.ok (c.in-Some.ensures.whole s.settled (flight_of s) s.failed h).1)
+          c.receipt.ensures.keeps.imaged step.spoken;
     }
 
 pub returns-in-Err : goal.returns-in-Err
 returns-in-Err g c =
     let old = c.args.self.now in
-    let mid = c.next_receipt.new.self in
-    let new = record mid { core = c.publish.new.self; receipt = Some c.in-Err.receipt } in
+    let s = old.core in
+    let mid = c.receipt.new.self in
+    let c' = c.take_back.new.self in
+    let new = record old { core = c.publish.new.self; committer = c' } in
     let receipt = c.in-Some.receipt in
-    let only = c.in-Some.ensures.only in
-    let core : mid.core ≡ old.core = ap (λ (w : DurableCore _). w.core) only in
-    let back : c.in-Err.receipt ≡ receipt = c.in-Err.ensures.err.0 in
-    let next : IsNextReceipt receipt old mid.flusher = c.in-Some.ensures.given in
-    let same : new.core ≡ old.core = c.in-Err.ensures.err.1 ∙ core in
-    let is : IsPublished (Err c.in-Err.fault) old new = record {
+    let given = c.in-Some.ensures.given in
+    let back = c.take_back.ensures in
+    let own : c.in-Err.receipt ≡ receipt = c.in-Err.ensures.err.0 in
+    let device = ap device_in back.flusher ∙ c.receipt.ensures.device in
+    let step = unpublished_step old new c.in-Err.fault (record {
       receipt = receipt;
-      next = next;
-      tells = (subst (λ (s : CoreState). (c.in-Err.fault ≡ Foreign) ↔ ¬ IsFlight (held_batch receipt) s) core c.in-Err.ensures.foreign, same);
-      device = c.next_receipt.ensures.device;
-      only = λ i. record (only i) { core = c.publish.new.self; receipt = Some (back i) };
-    } in
-    let step = unpublished_step old new c.in-Err.fault is in
+      next = subst (λ (f : Flusher _). ((waiting_receipt old.committer ≡ Some receipt) × (f ≡ flusher_in old.committer)) ⊎ ((waiting_receipt old.committer ≡ None) × IsUnloaded receipt (flusher_in old.committer) f)) (sym back.flusher) given.next;
+      tells = (c.in-Err.ensures.foreign, c.in-Err.ensures.err.1);
+      device = device;
+      batch = back.batch ∙ given.batch;
+      kept = back.receipt ∙ ap Some own;
+      only = refl;
+    }) in
     record {
       step = step;
-      device = c.next_receipt.ensures.device;
-      safe = safe_same g.D.Disk.model old new c.next_receipt.ensures.device c.next_receipt.ensures.inside c.stops.ensures step.spoken
-          (λ h. publish_refused g.D.Disk.model receipt old new (received g.D.Disk.model receipt old mid.flusher next c.in-Some.ensures.durable h) same (ap (λ (w : DurableCore _). w.batch) only) (ap Some back));
+      device = device;
+      safe = safe_same g.D.Disk.model old new device c.stops.ensures
+          (λ h.
+          let k = c.in-Some.ensures.whole s.settled (flight_of s) s.failed h in
+          refused_whole g.D.Disk.model receipt c.in-Err.receipt old c.publish.new.self mid c' own c.in-Err.ensures.err.1 k.0 k.1 (back.whole s.settled s.failed))
+          (λ i. back.keeps.imaged (c.receipt.ensures.keeps.imaged i)) step.spoken;
     }
+
+pub returns-in_default-clause-step : goal.returns-in_default-clause-step
+returns-in_default-clause-step g c =
+    let old = c.args.self.now in
+    let none = c.in_default.ensures.none refl in
+    let same : record old { committer = c.receipt.new.self } ≡ old = λ i. record old { committer = none.1 i } in
+    step_unchanged Publish Nothing old (record old { committer = c.receipt.new.self }) same (none.0, same) (goes_unchanged old.core) refl

@@ -1,6 +1,7 @@
-use Rattle.apd_world.proofs.Standing.{stops_either}
+use Rattle.apd_world.proofs.Words.{flight_of}
 use Rattle.apd_world.proofs.durable_core.DurableCore.stops.Goals as goal
 
 pub returns : goal.returns
-returns g c = λ p image left.
-    stops_either g.D.Disk.model c.args.self.now c.shown.ensures.shown p.stands image (g.met.D.Disk.only_now _ image p.device left)
+returns g c =
+    let s = c.args.self.now.core in
+    record { whole = λ h. h; proper = λ p. p; inside = λ p. c.shown.ensures.any_moment s.settled (flight_of s) s.failed p.whole p.imaged }

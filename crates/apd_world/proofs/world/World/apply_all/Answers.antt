@@ -1,52 +1,69 @@
-use Rattle.std.proofs.Common.{◌∙◌, List, refl, subst, take}
+use Rattle.std.proofs.Common.{◌≡◌, ◌∙◌, List, length, take, get_or, refl, ap, subst, arith}
 use Rattle.std.proofs.lemmas.List.{take_all}
-use Rattle.apd_conf.specs.declared.conf.Conf.{Conf}
-use Rattle.apd_world.specs.StepsMade.{AreAllApplied}
-use Rattle.apd_world.specs.WorldParts.{durable_of}
-use Rattle.apd_world.proofs.RunLemmas.{applying_begun, applying_done, applying_on, hands_then, none_applied, none_made, on_err, some_quiet}
+use Rattle.apd_world.proofs.Words.{AreAllApplied, Conf, DurableCore, durable_of}
+use Rattle.apd_world.proofs.Moving.{fewer}
+use Rattle.apd_world.proofs.RunLemmas.{applying_begun, applying_done, applying_on, hands_then, none_applied, none_made, on_err, unrefused_then}
 use Rattle.apd_world.proofs.world.World.apply_all.Goals as goal
 
-pub loop-conf-init : goal.loop-conf-init
-loop-conf-init g c = record {
+pub loop-place-init : goal.loop-place-init
+loop-place-init g c = record {
   applied = none_applied g.D.Disk.model g.R.Radio.model c.args.answers.now.items c.args.self.now (none_made g.D.Disk.model g.R.Radio.model c.args.self.now c.stops.ensures);
   only = refl;
 }
 
-pub loop-conf-2-init : goal.loop-conf-2-init
-loop-conf-2-init g c =
-    let k = c.loop-conf.invariant in
+-- the configurations are the same as before all hands
+pub bounds-list-place-in-loop-place : goal.bounds-list-place-in-loop-place
+bounds-list-place-in-loop-place g c =
+    let same = ap length (c.list.ensures.list ∙ c.confs-in-loop-place.ensures ∙ ap (λ (w : DurableCore _). w.core.confs) c.loop-place.invariant.only) in
+    let end = ap length (c.list-place-end.ensures.list ∙ c.confs.ensures) in
+    let lt = c.loop-place-test.true in
+    omega (arith, same, end, lt)
+
+pub loop-bssid-init : goal.loop-bssid-init
+loop-bssid-init g c =
+    let k = c.loop-place.invariant in
     record {
-      applying = applying_begun g.D.Disk.model g.R.Radio.model (take c.loop-conf.conf-index c.list-conf-items.result.now) c.conf-item.result.bssid c.args.answers.now.items c.loop-conf.answers.items c.args.self.now c.loop-conf.self k.applied;
+      applying = applying_begun g.D.Disk.model g.R.Radio.model (take c.loop-place.place (durable_of c.args.self.now).core.confs) _ c.args.answers.now.items c.loop-place.answers.items c.args.self.now c.loop-place.self k.applied;
       only = k.only;
     }
 
-pub loop-conf-2-preserved : goal.loop-conf-2-preserved
-loop-conf-2-preserved g c =
-    let k = c.loop-conf-2.invariant in
+pub loop-bssid-preserved : goal.loop-bssid-preserved
+loop-bssid-preserved g c =
+    let k = c.loop-bssid.invariant in
     record {
-      applying = applying_on g.D.Disk.model g.R.Radio.model (take c.loop-conf.conf-index c.list-conf-items.result.now) c.conf-item.result.bssid c.args.answers.now.items c.loop-conf-2.answers.items c.answer.new.answers.items
-          c.args.self.now c.loop-conf-2.self c.answer.new.self k.applying (c.in_ok-answer.ensures.ok tt refl);
-      only = hands_then (durable_of c.args.self.now) (durable_of c.loop-conf-2.self) (durable_of c.answer.new.self) k.only (c.answer.ensures.only tt);
+      applying = applying_on g.D.Disk.model g.R.Radio.model (take c.loop-place.place (durable_of c.args.self.now).core.confs) _ c.args.answers.now.items c.loop-bssid.answers.items c.answer.new.answers.items
+          c.args.self.now c.loop-bssid.self c.answer.new.self k.applying (c.in_ok-answer.ensures.ok tt refl);
+      only = hands_then (durable_of c.args.self.now) (durable_of c.loop-bssid.self) (durable_of c.answer.new.self) k.only (c.answer.ensures.only tt);
     }
 
-pub loop-conf-preserved : goal.loop-conf-preserved
-loop-conf-preserved g c =
-    let k = c.loop-conf-2.invariant in
+pub loop-bssid-smaller : goal.loop-bssid-smaller
+loop-bssid-smaller g c =
+    let step = c.in_ok-answer.ensures.step in
+    fewer g.R.Radio.model c.loop-bssid.self c.answer.new.self _ step.2.inside step.0 step.2.joins step.1 (c.has_out.ensures.some c.loop-bssid-test.true)
+
+pub loop-place-preserved : goal.loop-place-preserved
+loop-place-preserved g c =
+    let k = c.loop-bssid.invariant in
+    let confs = (durable_of c.args.self.now).core.confs in
+    let i = c.loop-place.place in
+    let conf = get_or c.list.result.now i c.index-list-place.result in
+    let same : c.list.result.now ≡ confs = c.list.ensures.list ∙ c.confs-in-loop-place.ensures ∙ ap (λ (w : DurableCore _). w.core.confs) c.loop-place.invariant.only in
+    let end = ap length (c.list-place-end.ensures.list ∙ c.confs.ensures) in
+    let lt = c.loop-place-test.true in
     record {
-      applied = applying_done g.D.Disk.model g.R.Radio.model c.list-conf-items.result.now c.loop-conf.conf-index c.conf-item.result c.args.answers.now.items c.loop-conf-2.answers.items
-          c.args.self.now c.loop-conf-2.self c.loop-conf-test.true c.conf-item.is k.applying (c.has_out.ensures.none c.loop-conf-2-test.false);
+      applied = applying_done g.D.Disk.model g.R.Radio.model confs i conf c.args.answers.now.items c.loop-bssid.answers.items c.args.self.now c.loop-bssid.self
+          (omega (arith, end, lt)) (ap (λ (cs : List Conf). get_or cs i c.index-list-place.result) same ∙ ap (get_or confs i) c.index-list-place.is) k.applying (c.has_out.ensures.none c.loop-bssid-test.false);
       only = k.only;
     }
 
 pub returns-in_err-answer-clause-err : goal.returns-in_err-answer-clause-err
 returns-in_err-answer-clause-err g c =
     on_err c.from_residual.result
-    (some_quiet g.D.Disk.model g.R.Radio.model _ _ c.args.self.now c.loop-conf-2.self c.answer.new.self c.loop-conf-2.invariant.applying.answered.quiet (c.in_err-answer.ensures.err tt))
-
-pub returns-in_err-answer-clause-only : goal.returns-in_err-answer-clause-only
-returns-in_err-answer-clause-only g c = hands_then (durable_of c.args.self.now) (durable_of c.loop-conf-2.self) (durable_of c.answer.new.self) c.loop-conf-2.invariant.only (c.answer.ensures.only tt)
+    (unrefused_then g.D.Disk.model g.R.Radio.model _ _ c.args.self.now c.loop-bssid.self c.answer.new.self c.loop-bssid.invariant.applying.answered.made c.loop-bssid.invariant.applying.answered.none (c.in_err-answer.ensures.err tt))
 
 pub returns-clause-ok : goal.returns-clause-ok
 returns-clause-ok g c =
-    subst (λ (cs : List Conf). AreAllApplied g.D.Disk.model g.R.Radio.model cs c.args.answers.now.items c.loop-conf.answers.items c.args.self.now c.loop-conf.self)
-    (take_all c.loop-conf.conf-index c.list-conf-items.result.now c.loop-conf-test.false ∙ c.list-conf-items.ensures.list) c.loop-conf.invariant.applied
+    let end = ap length (c.list-place-end.ensures.list ∙ c.confs.ensures) in
+    let past = c.loop-place-test.false in
+    subst (λ (cs : List Conf). AreAllApplied g.D.Disk.model g.R.Radio.model cs c.args.answers.now.items c.loop-place.answers.items c.args.self.now c.loop-place.self)
+    (take_all c.loop-place.place (durable_of c.args.self.now).core.confs (omega (arith, end, past))) c.loop-place.invariant.applied

@@ -1,5 +1,5 @@
 use Rattle.std.proofs.Common.{take}
-use Rattle.apd_world.specs.StepsMade.{AreAccepted}
+use Rattle.apd_world.proofs.Words.{AreAccepted}
 use Rattle.apd_world.proofs.world.World.configure.Given as goal
 
 -- so many interfaces are configured

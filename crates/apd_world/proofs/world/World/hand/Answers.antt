@@ -1,7 +1,5 @@
 use Rattle.std.proofs.Common.{refl, sym, subst}
-use Rattle.apd_mlme.specs.declared.decision.Recipient.{Recipient}
-use Rattle.apd_world.specs.WorldRun.{IsWorldStep}
-use Rattle.apd_world.specs.declared.step.Step.TheVariants.{Hand}
+use Rattle.apd_world.proofs.Words.{Hand, IsWorldStep, Recipient}
 use Rattle.apd_world.proofs.Joining.{control_joins}
 use Rattle.apd_world.proofs.world.World.hand.Goals as goal
 
@@ -12,4 +10,4 @@ returns-in-Radio-clause-step g c =
 pub returns-in-Control-clause-step : goal.returns-in-Control-clause-step
 returns-in-Control-clause-step g c =
     let old = c.args.self.now in
-    control_joins g.R.Radio.model c.args.to c.step.result old (record old { durable = c.step.new.self }) c.in-Control.is refl (λ b. refl) c.step.ensures.step
+    control_joins g.R.Radio.model c.args.to c.step.result old (record old { durable = c.step.new.self }) c.in-Control.is refl c.step.ensures.step
