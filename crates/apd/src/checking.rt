@@ -1,7 +1,7 @@
 //! The subcommand that looks into a store.
 use crate::ProgramFault;
-use crate::store_file::open_to_read;
 use apd_script::run_check;
+use apd_serve::{Access, open_disk};
 use clap::{Arg, Command};
 use std::alloc::{AllocError, Global};
 use std::fs::File;
@@ -33,7 +33,7 @@ pub fn check_and_print(
     name: &str,
     writer: &mut impl Write,
 ) -> Result<(), ProgramFault> {
-    let disk = open_to_read(rt, name).map_err(ProgramFault::Open)?;
+    let disk = open_disk(rt, name, Access::Read).map_err(ProgramFault::Open)?;
     match run_check(rt.alloc(), disk, writer) {
         Ok(_) => Ok(()),
         Err(fault) => Err(ProgramFault::Check(fault)),

@@ -1,8 +1,8 @@
 use crate::checking::check_and_print;
 use crate::scripting_tests::{JOINS, left_by, make_store};
-use crate::store_file::{open, open_to_read};
 use apd_conf::Confs;
 use apd_script::{read_configurations, run_on_store};
+use apd_serve::{Access, open_disk};
 use std::fs::{self, File};
 use std::os::unix::fs::FileExt;
 use std::rt::Files;
@@ -73,7 +73,7 @@ fn each_interface_has_a_line_in_order(rt: HostRuntime) -> Result<(), Fail> {
     let alloc = rt.alloc();
     let name = "store_of_two_of_a_check_test";
     make_store(&rt, name)?;
-    let Ok(disk) = open(&rt, name) else {
+    let Ok(disk) = open_disk(&rt, name, Access::Write) else {
         return Err(Fail::new("the store can't be opened"));
     };
     let mut out = Vec::new(alloc);
@@ -161,13 +161,13 @@ fn two_checks_go_together_and_neither_with_a_start(rt: HostRuntime) -> Result<()
     let refused: &[u8] = b"apd: cannot read shared_store_of_a_check_test\n";
     make_store(&rt, name)?;
     {
-        let looking = open_to_read(&rt, name);
+        let looking = open_disk(&rt, name, Access::Read);
         assert!(rt; looking.is_ok());
         assert_eq!(rt; checked(&rt, name)?.as_slice(), b"".as_slice());
-        assert!(rt; open(&rt, name).is_err());
+        assert!(rt; open_disk(&rt, name, Access::Write).is_err());
         drop(looking);
     }
-    let serving = open(&rt, name);
+    let serving = open_disk(&rt, name, Access::Write);
     assert!(rt; serving.is_ok());
     assert_eq!(rt; checked(&rt, name)?.as_slice(), refused);
     drop(serving);

@@ -5,15 +5,14 @@
 mod checking;
 #[cfg(test)]
 mod checking_tests;
+#[cfg(test)]
+mod formatting_tests;
 mod running;
 #[cfg(test)]
 mod running_tests;
 mod scripting;
 #[cfg(test)]
 mod scripting_tests;
-mod store_file;
-#[cfg(test)]
-mod store_file_tests;
 mod streams;
 #[cfg(test)]
 mod streams_tests;
@@ -23,6 +22,7 @@ ghost use Rattle.apd.specs.declared.ProgramFault.TheVariants.{NoMemory};
 
 use apd_conf::ConfigurationFault;
 use apd_script::{CheckFault, FormatFault, ScriptFault, run_format};
+use apd_serve::{Access, OpenFault, open_disk};
 use checking::{check_and_print, check_command};
 use clap::error::ErrorKind;
 use clap::{Arg, Command};
@@ -38,7 +38,6 @@ use std::rt::{Env, Files};
 use std::sync::Wait;
 use std::thread::Threads;
 use std::time::Clock;
-use store_file::{OpenFault, open_or_create};
 use streams::hold_closed_streams;
 use thiserror::Error;
 
@@ -112,7 +111,7 @@ fn format_and_print(
     rt: &(impl Print + Files<File = File> + AllocGlobal),
     name: &str,
 ) -> Result<(), ProgramFault> {
-    let disk = open_or_create(rt, name).map_err(ProgramFault::Open)?;
+    let disk = open_disk(rt, name, Access::Make).map_err(ProgramFault::Open)?;
     match run_format(rt.alloc(), disk, &mut io::writer(rt)) {
         Ok(_) => Ok(()),
         Err((_, fault)) => Err(ProgramFault::Format(fault)),

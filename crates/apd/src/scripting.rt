@@ -1,7 +1,7 @@
 //! The subcommand that runs a script.
 use crate::ProgramFault;
-use crate::store_file::open;
 use apd_script::{new_store, read_configurations, run_on_store};
+use apd_serve::{Access, open_disk};
 use clap::{Arg, ArgAction, Command};
 use std::alloc::{AllocError, Global};
 use std::fs::File;
@@ -67,7 +67,7 @@ pub fn run_script_of_input(
     let mut writer = io::writer(rt);
     let ended = match store {
         Some(name) => {
-            let disk = open(rt, name).map_err(ProgramFault::Open)?;
+            let disk = open_disk(rt, name, Access::Write).map_err(ProgramFault::Open)?;
             run_on_store(alloc, disk, confs, reader, &mut writer).err()
         }
         None => {

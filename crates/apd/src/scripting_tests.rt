@@ -1,8 +1,8 @@
 use crate::ProgramFault;
 use crate::scripting::run_script_of_input;
-use crate::store_file::{open, open_or_create};
 use apd_conf::{Conf, Confs};
 use apd_script::{run_format, run_on_store};
+use apd_serve::{Access, open_disk};
 use std::alloc::Global;
 use std::fs::{self, File};
 use std::rt::Files;
@@ -20,7 +20,7 @@ fn built_in(alloc: Global) -> Result<Confs, Fail> {
 /// Makes the file of a name a new store.
 pub fn make_store(rt: &(impl Files<File = File> + AllocGlobal), name: &str) -> Result<(), Fail> {
     let _ = fs::remove_file(rt, name);
-    let Ok(disk) = open_or_create(rt, name) else {
+    let Ok(disk) = open_disk(rt, name, Access::Make) else {
         return Err(Fail::new("a file can't be opened"));
     };
     let mut out = Vec::new(rt.alloc());
@@ -38,7 +38,7 @@ fn fault_of(
     out: &mut Vec<u8>,
 ) -> Result<Option<ProgramFault>, Fail> {
     let alloc = rt.alloc();
-    let disk = match open(rt, name) {
+    let disk = match open_disk(rt, name, Access::Write) {
         Ok(disk) => disk,
         Err(fault) => return Ok(Some(ProgramFault::Open(fault))),
     };

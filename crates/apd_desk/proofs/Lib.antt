@@ -1,2 +1,5 @@
 mod Counting
+pub mod Giving
+mod Holding
 mod Noting
+mod Stepping

@@ -1,5 +1,5 @@
 -- Counting entries (own).
-use Rattle.std.specs.Prelude.{◌≡◌, ℕ, List, sum_by}
+use Rattle.std.specs.Prelude.{ℕ, List, sum_by}
 use Rattle.apd_core.specs.declared.ticket.Accepted.{Accepted}
 use Rattle.apd_core.specs.declared.ticket.Accepted.TheVariants.{Stopped, Busy, Quiet, Entry}
 use Rattle.apd_desk.specs.declared.seat.Seat.{Seat}

@@ -2,14 +2,17 @@
 #![tactic(auto)]
 
 mod clock;
+mod committing;
 mod controlling;
 mod flushing;
 mod gate;
+mod handed;
 mod idle;
 pub mod laws;
 mod locked;
 mod notes;
 mod port;
+mod published;
 mod receiving;
 mod seat;
 mod shared;
@@ -17,9 +20,11 @@ mod submitting;
 mod ticking;
 
 pub use clock::Clock;
+pub use committing::commit_all;
 pub use controlling::control_worker;
 pub use flushing::flush_worker;
 pub use gate::{Gate, NoGate, Place};
+pub use handed::Handed;
 pub use port::{Port, PortFault};
 pub use receiving::radio_worker;
 pub use seat::{AskFault, SEATS, Seat};

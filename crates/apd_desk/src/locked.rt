@@ -1,23 +1,25 @@
 //! What lies under the lock.
-ghost use Rattle.std.specs.Prelude.{◌≡◌, ◌≢◌, ◌⊎◌, ◌+◌, ◌≤◌, ◌<◌, ◌↔◌, ℕ, List, length, vec_len, IfOk, IfErr, IfSome, OnOk, OnErr, IsNone, IsOk, IsTrue, IfNone, Some, None, true};
+ghost use Rattle.std.specs.Prelude.{◌≡◌, ◌≢◌, ◌⊎◌, ◌+◌, ◌≤◌, ◌<◌, ◌↔◌, ℕ, List, length, vec_len, IfOk, IfErr, IfSome, OnOk, OnErr, IsNone, IsOk, IsTrue, IfNone, Some, None, [], true};
 ghost use Rattle.std.specs.List.{position};
 ghost use Rattle.std.specs.Option.{option_copied, option_map};
 ghost use Rattle.apd_base.specs.declared.address.Bssid.{Bssid as Address};
-ghost use Rattle.apd_conf.specs.Confs.{conf_named};
+ghost use Rattle.apd_conf.specs.Confs.{conf_meant};
 ghost use Rattle.apd_core.specs.Core.{accepted as accepted_by, after_request, answered, cannot_take, handed, last_of, published, ready_for, IsFlight, IsTaken};
 ghost use Rattle.apd_journal.specs.Half.{IsGroup};
 ghost use Rattle.apd_store.specs.Outside.{held_batch};
 ghost use Rattle.apd_desk.specs.Counted.{counted, entries_in};
 ghost use Rattle.apd_desk.specs.RadioNotes.{is_for, is_noted_up};
+ghost use Rattle.apd_desk.specs.Steps.{IsOf};
 ghost use Rattle.apd_desk.specs.TicketOwner.{IsOwn};
 ghost use Rattle.apd_desk.specs.SeatProgress.{seen_after, IsBehind};
 
+use crate::handed::Taken;
 use crate::notes::Notes;
+use crate::published::Published;
 use crate::seat::{AskFault, SEATS, Seat};
 use apd_base::{Bssid, Moment};
 use apd_core::{Accepted, Answer, Core, Input, PublishFault};
 use apd_ctrl::Query;
-use apd_journal::Batch;
 use apd_mlme::{Out, Recipient};
 use apd_store::Receipt;
 use std::alloc::AllocError;
@@ -171,32 +173,37 @@ impl<L: Ledger> Locked<L> {
     }
 
     /// The core's `take`.
-    pub(crate) fn take(&mut self) -> Result<Option<Batch>, AllocError>
-        ensures none { IfOk result (λ batch. IsNone batch ↔ IsTrue (cannot_take self.old.core)) }
-        ensures stays { IfOk result (λ batch. IfNone batch (self.new.core ≡ self.old.core)) }
-        ensures taken { IfOk result (λ batch. IfSome batch (λ batch. IsTaken batch self.old.core self.new.core)) }
-        ensures group { IfOk result (λ batch. IfSome batch (λ batch. IsGroup batch.changes)) }
+    pub(crate) fn take(&mut self) -> Result<Option<Taken>, AllocError>
+        ensures none { IfOk result (λ taken. IsNone taken ↔ IsTrue (cannot_take self.old.core)) }
+        ensures stays { IfOk result (λ taken. IfNone taken (self.new.core ≡ self.old.core)) }
+        ensures taken { IfOk result (λ taken. IfSome taken (λ t. IsTaken t.batch self.old.core self.new.core)) }
+        ensures group { IfOk result (λ taken. IfSome taken (λ t. IsGroup t.batch.changes)) }
         ensures accepted { self.new.accepted ≡ self.old.accepted }
         ensures given { self.new.given ≡ self.old.given }
         ensures err { OnErr result (self.new.core ≡ self.old.core) }
     {
         let Locked { core, .. } = self;
-        core.take()
+        match core.take()? {
+            Some(batch) => Ok(Some(Taken::new(batch))),
+            None => Ok(None),
+        }
     }
 
     /// The core's `publish`.
-    pub(crate) fn publish(&mut self, receipt: Receipt) -> Result<(), (Receipt, PublishFault)>
+    pub(crate) fn publish(&mut self, receipt: Receipt) -> Result<Published, (Receipt, PublishFault)>
+        ensures own { IfOk result (λ published. IsOf published receipt) }
         ensures flight { OnOk result (IsFlight (held_batch receipt) self.old.core) }
         ensures core { OnOk result (self.new.core ≡ published self.old.core) }
         ensures foreign { IfErr result
             (λ e. (e.1 ≡ PublishFault.Foreign) ↔ ¬ IsFlight (held_batch receipt) self.old.core) }
         ensures err { IfErr result (λ e. (e.0 ≡ receipt) × (self.new.core ≡ self.old.core)) }
+        ensures lacks { IfErr result
+            (λ e. e.1 ≡ PublishFault.NoMemory → IsFlight (held_batch receipt) self.old.core) }
         ensures accepted { self.new.accepted ≡ self.old.accepted }
         ensures given { self.new.given ≡ self.old.given }
     {
         let Locked { core, .. } = self;
-        core.sound();
-        core.publish(receipt)
+        Published::by(core, receipt)
     }
 
     /// The core's `fail`.
@@ -256,15 +263,9 @@ impl<L: Ledger> Locked<L> {
 
     /// The BSSID of the interface of a name, and where none is named that of the first one.
     pub(crate) fn interface(&self, name: Option<&[u8]>) -> Option<Bssid>
-        ensures named { (text : List ℕ) → option_copied name.entry ≡ Some text
-            → result ≡ option_map (λ conf. conf.bssid) (conf_named self.now.core.confs text) }
+        ensures { result ≡ option_map (λ conf. conf.bssid) (conf_meant self.now.core.confs (option_copied name.entry)) }
     {
-        let confs = self.core.confs();
-        let conf = match name {
-            Some(name) => confs.with_interface(name),
-            None => confs.list().first(),
-        };
-        conf.map(|conf| conf.bssid)
+        Some(self.core.confs().for_command(name)?.bssid)
     }
 
     /// The core, and the entries that it accepted since it was shared, which are those that the seats count. It is

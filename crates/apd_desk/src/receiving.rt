@@ -1,6 +1,7 @@
 //! The worker of a radio.
-ghost use Rattle.std.specs.Prelude.{◌≡◌};
-ghost use Rattle.apd_slot.specs.Slots.{IsExact};
+ghost use Rattle.std.specs.Prelude.{◌≡◌, ◌<◌, [], length, IsTrue};
+ghost use Rattle.apd_slot.specs.Slots.{bssid_of, queue_of, IsExact};
+ghost use Rattle.apd_desk.specs.Giving.{IsGivenOn, IsServed};
 ghost use Rattle.apd_desk.specs.SeatProgress.{IsLater};
 
 use crate::clock::Clock;
@@ -10,9 +11,8 @@ use crate::seat::Seat;
 use crate::shared::Shared;
 use crate::submitting::submit_passing;
 use apd_core::Input;
-use apd_mlme::{Out, Recipient};
 use apd_radio::Radio;
-use apd_slot::{Slot, SlotFault};
+use apd_slot::Slot;
 use std::alloc::Global;
 use std::sync::Wait;
 use std::sync::ledger::Ledger;
@@ -29,8 +29,7 @@ fn receive<L: Ledger, W: Wait, R: Radio, C: Clock, G: Gate>(
     gate: &G,
 ) -> bool
     ensures seat { IsLater seat.old seat.new }
-    ensures exact { IsExact R.model slot.old → IsExact R.model slot.new }
-    ensures bssid { slot.new.bssid ≡ slot.old.bssid }
+    ensures served { IsServed R.model [] slot.old slot.new }
 {
     let Ok(Some(frame)) = slot.poll() else {
         return false;
@@ -40,57 +39,84 @@ fn receive<L: Ledger, W: Wait, R: Radio, C: Clock, G: Gate>(
     true
 }
 
-// Applies outs, the first of which stands last. One that meets want of memory stays. Tells whether one was taken.
-fn apply_all<L: Ledger, W: Wait, R: Radio>(
+// Puts into a slot's queue, if none waits there, what of settled entries it was not given yet.
+fn collect<L: Ledger, W: Wait, R: Radio>(
     rt: &W,
     shared: &Shared<L>,
+    seat: &mut Seat<L>,
     slot: &mut Slot<R>,
-    outs: &mut Vec<Out>,
-) -> bool
-    ensures exact { IsExact R.model slot.old → IsExact R.model slot.new }
-    ensures bssid { slot.new.bssid ≡ slot.old.bssid }
+)
+    ensures seat { IsLater seat.old seat.new }
+    ensures given { IsGivenOn R.model slot.old slot.new }
 {
-    let mut some = false;
-    while let Some(out) = outs.last() {
-        let answer = slot.apply(out);
-        shared.note(rt, slot.bssid(), slot.is_up());
-        if answer == Err(SlotFault::NoMemory) {
-            break;
-        }
-        outs.pop();
-        some = true;
+    if slot.waiting() > 0 {
+        return;
     }
-    some
+    if let Ok(outs) = shared.hand(rt, seat, slot.bssid()) {
+        outs.queue_in(slot);
+    }
 }
 
-// Gives a slot what of settled entries it was not given yet. Tells whether there was any.
+// Applies the first of the outs that wait. One that meets want of memory stays first. Tells whether one was taken.
+fn apply_first<L: Ledger, W: Wait, R: Radio>(rt: &W, shared: &Shared<L>, slot: &mut Slot<R>) -> bool
+    ensures served { IsServed R.model [] slot.old slot.new }
+    ensures fewer { IsTrue result → length (queue_of slot.new) < length (queue_of slot.old) }
+{
+    match slot.apply_next() {
+        Some(Ok(_applied)) => {
+            shared.note(rt, slot.bssid(), slot.is_up());
+            true
+        }
+        Some(Err(_)) | None => false,
+    }
+}
+
+// Gives a slot what of settled entries it was not given yet, behind what waits. Tells whether it took any.
 fn apply_settled<L: Ledger, W: Wait, R: Radio>(
     rt: &W,
     shared: &Shared<L>,
     seat: &mut Seat<L>,
     slot: &mut Slot<R>,
-    outs: &mut Vec<Out>,
 ) -> bool
     ensures seat { IsLater seat.old seat.new }
-    ensures exact { IsExact R.model slot.old → IsExact R.model slot.new }
-    ensures bssid { slot.new.bssid ≡ slot.old.bssid }
+    ensures given { IsGivenOn R.model slot.old slot.new }
 {
-    if outs.is_empty() {
-        if let Ok(collected) = shared.collect(rt, seat, Recipient::Radio(slot.bssid())) {
-            *outs = collected;
-            outs.reverse();
-        }
+    collect(rt, shared, seat, slot);
+    let mut some = false;
+    while apply_first(rt, shared, slot) {
+        some = true;
     }
-    apply_all(rt, shared, slot, outs)
+    some
+}
+
+// Receives, unless all are to stop, and gives the slot what is settled. Tells whether there was anything to do.
+fn serve<L: Ledger, W: Wait, R: Radio, C: Clock, G: Gate>(
+    rt: &W,
+    shared: &Shared<L>,
+    seat: &mut Seat<L>,
+    slot: &mut Slot<R>,
+    stopped: bool,
+    clock: &C,
+    gate: &G,
+) -> bool
+    ensures seat { IsLater seat.old seat.new }
+    ensures given { IsGivenOn R.model slot.old slot.new }
+{
+    if stopped {
+        return apply_settled(rt, shared, seat, slot);
+    }
+    let received = receive(rt, shared, seat, slot, clock, gate);
+    let applied = apply_settled(rt, shared, seat, slot);
+    received || applied
 }
 
 /// Serves a radio until a stop, and gives its seat and its slot back: submits the frames that it receives, gives
 /// its slot what of settled entries is for it, and notes whether it is up. An out that meets want of memory stays
-/// first and is tried again, and so are those behind it: after a stop it ends once it has given all that it
-/// collected. It holds the lock for no call of the radio.
+/// first in the slot's queue and is tried again, and so are those behind it: after a stop it ends once none waits. It
+/// holds the lock for no call of the radio.
 pub fn radio_worker<L: Ledger, W: Wait + SystemClock, R: Radio, C: Clock, G: Gate>(
     rt: &W,
-    alloc: Global,
+    _alloc: Global,
     shared: &Shared<L>,
     seat: Seat<L>,
     slot: Slot<R>,
@@ -99,21 +125,20 @@ pub fn radio_worker<L: Ledger, W: Wait + SystemClock, R: Radio, C: Clock, G: Gat
 ) -> (Seat<L>, Slot<R>)
     ensures seat { IsLater seat result.0 }
     ensures exact { IsExact R.model slot → IsExact R.model result.1 }
-    ensures bssid { result.1.bssid ≡ slot.bssid }
+    ensures bssid { bssid_of result.1 ≡ bssid_of slot }
+    ensures given { IsGivenOn R.model slot result.1 }
+    ensures none_waits { queue_of result.1 ≡ [] }
 {
     let mut seat = seat;
     let mut slot = slot;
-    let mut outs = Vec::new(alloc);
     let mut idle = Idle::new();
     shared.note(rt, slot.bssid(), slot.is_up());
     for _ in rt.forever() {
         let seen = shared.look(rt);
-        if seen.stopped && outs.is_empty() {
+        if seen.stopped && slot.waiting() == 0 {
             break;
         }
-        let received = !seen.stopped && receive(rt, shared, &mut seat, &mut slot, clock, gate);
-        let applied = apply_settled(rt, shared, &mut seat, &mut slot, &mut outs);
-        if received || applied {
+        if serve(rt, shared, &mut seat, &mut slot, seen.stopped, clock, gate) {
             idle.end();
         } else {
             idle.rest(rt, shared, seen);

@@ -3,14 +3,16 @@ ghost use Rattle.std.specs.Prelude.{◌≡◌, ◌+◌, ◌≤◌, ℕ, IfOk, If
 ghost use Rattle.apd_journal.specs.Half.{IsGroup};
 ghost use Rattle.apd_desk.specs.Counted.{counted, entries_in};
 ghost use Rattle.apd_desk.specs.TicketOwner.{IsOwn};
-ghost use Rattle.apd_desk.specs.SeatProgress.{IsBehind};
+ghost use Rattle.apd_desk.specs.SeatProgress.{IsBehind, IsLater};
+ghost use Rattle.apd_desk.specs.Steps.{IsOf};
 
+use crate::handed::{Handed, Taken};
 use crate::locked::{Locked, Look};
+use crate::published::Published;
 use crate::seat::{AskFault, SEATS, Seat};
 use apd_base::{Bssid, Moment};
 use apd_core::{Accepted, Answer, Core, Input, PublishFault};
 use apd_ctrl::Query;
-use apd_journal::Batch;
 use apd_mlme::{Out, Recipient};
 use apd_store::Receipt;
 use std::alloc::AllocError;
@@ -105,6 +107,20 @@ impl<L: Ledger> Shared<L> {
         self.locked.lock(rt).hand(seat, to)
     }
 
+    /// The same of the radio of a BSSID, to be put into its slot's queue.
+    pub fn hand(
+        &self,
+        rt: &impl Wait,
+        seat: &mut Seat<L>,
+        bssid: Bssid,
+    ) -> Result<Handed, AllocError>
+        ensures later { IsLater seat.old seat.new }
+        ensures count { seat.new.count ≡ seat.old.count }
+    {
+        let outs = self.collect(rt, seat, Recipient::Radio(bssid))?;
+        Ok(Handed::new(outs))
+    }
+
     /// The core, and how many entries it accepted since it was shared: the sum of the seats' counts. It waits for
     /// nobody and takes no memory. It is refused exactly where a seat is missing, and hands all back.
     pub fn close(self, seats: Vec<Seat<L>>) -> Result<(Core, u64), (Shared<L>, Vec<Seat<L>>)>
@@ -150,8 +166,8 @@ impl<L: Ledger> Shared<L> {
     }
 
     // A batch for which a group has room. Of which entries it is, is said where the lock is held.
-    pub(crate) fn take(&self, rt: &impl Wait) -> Result<Option<Batch>, AllocError>
-        ensures { IfOk result (λ batch. IfSome batch (λ batch. IsGroup batch.changes)) }
+    pub(crate) fn take(&self, rt: &impl Wait) -> Result<Option<Taken>, AllocError>
+        ensures { IfOk result (λ taken. IfSome taken (λ t. IsGroup t.batch.changes)) }
     {
         self.locked.lock(rt).take()
     }
@@ -161,8 +177,9 @@ impl<L: Ledger> Shared<L> {
         &self,
         rt: &impl Wait,
         receipt: Receipt,
-    ) -> Result<(), (Receipt, PublishFault)>
-        ensures { IfErr result (λ back. back.0 ≡ receipt) }
+    ) -> Result<Published, (Receipt, PublishFault)>
+        ensures own { IfOk result (λ published. IsOf published receipt) }
+        ensures back { IfErr result (λ back. back.0 ≡ receipt) }
     {
         let answer = self.locked.lock(rt).publish(receipt);
         if answer.is_ok() {

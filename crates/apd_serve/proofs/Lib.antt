@@ -1,1 +1,3 @@
+mod Giving
 mod Waiting
+mod Working

@@ -6,7 +6,7 @@ use Rattle.apd_serve.specs.declared.worker.Worker.TheVariants.{Flushing, Radio, 
 
 -- the entries of a worker: those that its seat counts; the one that commits has no seat
 abbrev pub entries_of : {L D R P : Type 0} → Worker L D R P → ℕ
-entries_of (Flushing flusher) = 0
+entries_of (Flushing committer) = 0
 entries_of (Radio seat slot) = seat.count
 entries_of (Control seat port) = seat.count
 entries_of (Ticks seat) = seat.count

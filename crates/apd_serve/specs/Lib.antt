@@ -1,3 +1,4 @@
 pub mod Commands
 pub mod Entries
 pub mod Tags
+pub mod Worked

@@ -1,6 +1,6 @@
 //! The files of recordings.
 use crate::identity::Identity;
-use crate::running::{RunFault, cannot_read};
+use crate::opening::{OpenFault, opened};
 use apd_store::MAGIC;
 use std::alloc::AllocError;
 use std::fs::File;
@@ -66,18 +66,16 @@ pub(crate) fn open_recordings(
     prefix: &str,
     count: usize,
     taken: &[Identity],
-) -> Result<Vec<RecordingFile>, RunFault> {
-    let mut opened = Vec::with_capacity(rt.alloc(), count)?;
+) -> Result<Vec<RecordingFile>, OpenFault> {
+    let mut recordings = Vec::with_capacity(rt.alloc(), count)?;
     for place in 0..count {
         let name = format!(in rt.alloc(); "{prefix}.{place}")?;
-        match open(rt, name.as_str(), taken) {
-            Ok(file) => opened
-                .push(RecordingFile { name, file })
-                .map_err(AllocError::from)?,
-            Err(error) => return Err(cannot_read(rt, &name, &error)),
-        }
+        let file = opened(rt, name.as_str(), open(rt, name.as_str(), taken))?;
+        recordings
+            .push(RecordingFile { name, file })
+            .map_err(AllocError::from)?;
     }
-    Ok(opened)
+    Ok(recordings)
 }
 
 /// Empties the files, and gives them, in their order.
@@ -85,14 +83,12 @@ pub(crate) fn open_recordings(
 /// Errors: `CannotRead` where one can't be emptied.
 pub(crate) fn emptied(
     rt: &impl AllocGlobal,
-    opened: Vec<RecordingFile>,
-) -> Result<Vec<File>, RunFault> {
-    let mut files = Vec::with_capacity(rt.alloc(), opened.len())?;
-    for recording in opened {
+    recordings: Vec<RecordingFile>,
+) -> Result<Vec<File>, OpenFault> {
+    let mut files = Vec::with_capacity(rt.alloc(), recordings.len())?;
+    for recording in recordings {
         let RecordingFile { name, file } = recording;
-        if let Err(error) = file.set_len(0) {
-            return Err(cannot_read(rt, &name, &error));
-        }
+        opened(rt, name.as_str(), file.set_len(0))?;
         files.push(file).map_err(AllocError::from)?;
     }
     Ok(files)

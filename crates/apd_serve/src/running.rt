@@ -1,13 +1,14 @@
 //! An access point over a file, datagrams and recordings.
 ghost use Rattle.std.specs.Prelude.{◌≡◌};
 ghost use Rattle.std.specs.Thread.{IsSend};
-ghost use Rattle.apd_serve.specs.declared.running.RunFault.TheVariants.{NoMemory};
+ghost use Rattle.apd_serve.specs.declared.running.RunFault.TheVariants.{NoMemory, Open};
 
 use crate::clock::SystemClock;
 use crate::control_port::ControlPort;
 use crate::fault::ServeFault;
 use crate::identity::Identity;
 use crate::notices::{tell_entries, tell_start};
+use crate::opening::{Access, OpenFault, open_disk, opened};
 use crate::recordings::{RecordingFile, emptied, open_recordings};
 use crate::serving::{serve_started, start};
 use crate::store_watch::{Ending, StoreWatch, watch};
@@ -16,13 +17,13 @@ use apd_conf::Confs;
 use apd_desk::NoGate;
 use apd_disk::FileDisk;
 use apd_radio::{Radio, Recording, SocketFault, UdpSim};
-use apd_slot::Slot;
-use apd_store::recover;
-use apd_world::{World, WorldFault, restart};
+use apd_store::{Store, recover};
+use apd_table::Table;
+use apd_world::{World, WorldFault, begin_anew, slots_for};
 use log::Log;
 use std::alloc::{AllocError, Global};
 use std::fs::File;
-use std::io::{self, ErrorKind, Read};
+use std::io::Read;
 use std::net::Net;
 use std::rt::Files;
 use std::sync::Wait;
@@ -48,10 +49,9 @@ pub struct Site<'a> {
 /// Why an access point didn't run to the end of its input.
 #[derive(Debug, Drop, Error)]
 pub enum RunFault {
-    /// The file of this name can't be opened, or not be made, or another process holds it, or it is none that may
-    /// become a recording.
-    #[error("cannot read {0}")]
-    CannotRead(String),
+    /// A file was not had.
+    #[error("{0}")]
+    Open(OpenFault),
     /// The store refuses, or a slot doesn't resume.
     #[error("{0}")]
     World(WorldFault),
@@ -74,28 +74,22 @@ impl From<AllocError> for RunFault {
     }
 }
 
-/// Why a file of this name was not had.
-pub(crate) fn cannot_read(rt: &impl AllocGlobal, name: &str, error: &io::Error) -> RunFault {
-    if error.kind() == ErrorKind::OutOfMemory {
-        return RunFault::NoMemory;
-    }
-    match String::from_str(rt.alloc(), name) {
-        Ok(name) => RunFault::CannotRead(name),
-        Err(_) => RunFault::NoMemory,
+impl From<OpenFault> for RunFault {
+    ghost from_gives = { λ inner fault. fault ≡ Open inner };
+
+    fn from(fault: OpenFault) -> RunFault {
+        RunFault::Open(fault)
     }
 }
 
-// The store's file as a disk, on which there is a store. Nothing of it is changed.
+// The store of a file, and its table. Nothing of it is changed.
 fn open_store(
     rt: &(impl Files<File = File> + AllocGlobal),
     name: &str,
-) -> Result<FileDisk, RunFault> {
-    let disk = match FileDisk::open(rt, name) {
-        Ok(disk) => disk,
-        Err(error) => return Err(cannot_read(rt, name, &error)),
-    };
+) -> Result<(Store<FileDisk>, Table), RunFault> {
+    let disk = open_disk(rt, name, Access::Write)?;
     match recover(rt.alloc(), disk) {
-        Ok((store, _table)) => Ok(store.into_device()),
+        Ok(found) => Ok(found),
         Err((_disk, fault)) => Err(RunFault::World(WorldFault::Store(fault))),
     }
 }
@@ -105,11 +99,8 @@ fn open_store(
 fn open_watch<'a>(
     rt: &(impl Files<File = File> + AllocGlobal),
     name: &'a str,
-) -> Result<StoreWatch<'a>, RunFault> {
-    match StoreWatch::open(rt, name) {
-        Ok(store) => Ok(store),
-        Err(error) => Err(cannot_read(rt, name, &error)),
-    }
+) -> Result<StoreWatch<'a>, OpenFault> {
+    opened(rt, name, StoreWatch::open(rt, name))
 }
 
 // The files that no recording may be made over: the store, those of the configurations, and the list files that
@@ -193,24 +184,12 @@ fn recorded(
     Ok(recorded)
 }
 
-// A slot for each configuration, in their order, with the radio at its place.
-fn slots_of<R: Radio>(
-    alloc: Global,
-    confs: &Confs,
-    radios: Vec<R>,
-) -> Result<Vec<Slot<R>>, AllocError> {
-    let mut slots = Vec::with_capacity(alloc, radios.len())?;
-    for (conf, radio) in confs.list().iter().zip(radios) {
-        slots.push(Slot::new(alloc, radio, conf.bssid))?;
-    }
-    Ok(slots)
-}
-
 // What was opened of a site, but for its radios.
 #[derive(Drop)]
 struct Opened<'a> {
-    disk: FileDisk,
-    store: StoreWatch<'a>,
+    store: Store<FileDisk>,
+    table: Table,
+    watched: StoreWatch<'a>,
     commands: ControlPort,
     port: u16,
 }
@@ -223,7 +202,7 @@ fn serve_watched<
 >(
     rt: &W,
     world: World<FileDisk, R>,
-    store: &StoreWatch<'_>,
+    watched: &StoreWatch<'_>,
     commands: ControlPort,
     clock: SystemClock<&W>,
     reader: B,
@@ -238,7 +217,7 @@ where
         |scope|
             requires { IsSend R.row }
         {
-            let Ok(watcher) = scope.spawn(|| watch(rt, store, &ending)) else {
+            let Ok(watcher) = scope.spawn(|| watch(rt, watched, &ending)) else {
                 return Err(ServeFault::Thread);
             };
             let answer = serve_started(rt, rt.alloc(), world, commands, clock, &NoGate, reader);
@@ -249,8 +228,8 @@ where
     )
 }
 
-// Serves with these radios, one for each configuration, in their order, and tells what is served. It recovers at the
-// moment 0.
+// Serves with these radios, one for each configuration, in their order, and tells what is served. Each station of the
+// table was heard at the moment 0.
 fn run_with<
     W: Files<File = File> + Wait + Threads + time::Clock + AllocGlobal + Log + Sync,
     R: Radio + Send,
@@ -260,21 +239,22 @@ where
     W::Dir: Send + Sync,
 {
     let Opened {
-        disk,
         store,
+        table,
+        watched,
         commands,
         port,
     } = opened;
-    let slots = slots_of(rt.alloc(), &confs, radios)?;
+    let slots = slots_for(rt.alloc(), &confs, radios)?;
     let clock = SystemClock::new(rt);
-    let mut world = match restart(rt.alloc(), disk, confs, slots, Moment(0)) {
+    let mut world = match begin_anew(rt.alloc(), store, table, confs, slots, Moment(0)) {
         Ok(world) => world,
         Err((_disk, _slots, fault)) => return Err(RunFault::World(fault)),
     };
     let recovered = world.table().rows();
     start(&mut world).map_err(RunFault::Serve)?;
     tell_start(rt, port, world.confs(), world.table(), recovered);
-    serve_watched(rt, world, &store, commands, clock, reader).map_err(RunFault::Serve)
+    serve_watched(rt, world, &watched, commands, clock, reader).map_err(RunFault::Serve)
 }
 
 /// Serves an access point of these configurations, over the store, the ports and the recordings of a site, until the
@@ -283,7 +263,7 @@ where
 /// failed, or that the store's name is not that of the file that is served any more.
 ///
 /// Errors, looked for in this order: the store's file can't be opened, or the store is refused; a recording can't
-/// be made; a port can't be had; a recording can't be emptied; what a second look at the store tells; `Serve`. Before
+/// be made; a port can't be had; a recording can't be emptied; a slot doesn't resume; `Serve`. Before
 /// `Serve` nothing is sent, and the store is as it was; with it the start may have been committed and handed out.
 /// Before the ports are had no file is emptied. `NoMemory` comes at any place.
 pub fn run<
@@ -294,23 +274,24 @@ where
     W::Dir: Send + Sync,
 {
     let count = confs.list().len();
-    let disk = open_store(rt, site.store)?;
-    let store = open_watch(rt, site.store)?;
+    let (store, table) = open_store(rt, site.store)?;
+    let watched = open_watch(rt, site.store)?;
     let recordings = open_all_recordings(rt, &confs, site)?;
     let commands = ControlPort::open(rt, rt.alloc(), site.port).map_err(RunFault::Socket)?;
     let radios = open_radios(rt, site.port, count)?;
-    let opened = Opened {
-        disk,
+    let opened_site = Opened {
         store,
+        table,
+        watched,
         commands,
         port: site.port,
     };
     let entries = match recordings {
-        None => run_with(rt, confs, opened, radios, reader)?,
+        None => run_with(rt, confs, opened_site, radios, reader)?,
         Some(recordings) => {
             let files = emptied(rt, recordings)?;
             let radios = recorded(rt.alloc(), radios, files)?;
-            run_with(rt, confs, opened, radios, reader)?
+            run_with(rt, confs, opened_site, radios, reader)?
         }
     };
     tell_entries(rt, entries);

@@ -9,7 +9,7 @@ use crate::worker::{Desk, Worker};
 use apd_core::Core;
 use apd_desk::{Clock, Gate, Port, SEATS, Seat, Shared};
 use apd_disk::Disk;
-use apd_flusher::Flusher;
+use apd_flusher::Committer;
 use apd_radio::Radio;
 use apd_slot::Slot;
 use apd_world::World;
@@ -28,12 +28,12 @@ fn crew<L: Ledger, W: Wait, D: Disk + Drop, R: Radio, P: Port + Drop>(
     rt: &W,
     alloc: Global,
     shared: &Shared<L>,
-    flusher: Flusher<D>,
+    committer: Committer<D>,
     slots: Vec<Slot<R>>,
     port: P,
 ) -> Result<Option<Vec<Worker<L, D, R, P>>>, AllocError> {
     let mut workers = Vec::new(alloc);
-    workers.push(Worker::Flushing(flusher))?;
+    workers.push(Worker::Flushing(committer))?;
     for slot in slots {
         let Some(seat) = shared.seat(rt) else {
             return Ok(None);
@@ -138,7 +138,7 @@ fn served<
 {
     let (flusher, core, slots) = world.into_parts();
     let shared = Shared::<L>::new(core, blank);
-    let Some(workers) = crew(rt, alloc, &shared, flusher, slots, port)? else {
+    let Some(workers) = crew(rt, alloc, &shared, Committer::new(flusher), slots, port)? else {
         return Err(ServeFault::Thread);
     };
     let seats = Vec::with_capacity(alloc, workers.len())?;
@@ -154,7 +154,8 @@ fn served<
     closed(rt, shared, workers, gate, seats)
 }
 
-/// Starts a world: configures each interface, which is committed and handed out.
+/// Starts a world: configures each interface, which is committed and handed out. Then nothing waits in it that would be
+/// lost where it is taken apart.
 pub(crate) fn start<D: Disk + Drop, R: Radio>(world: &mut World<D, R>) -> Result<(), ServeFault> {
     match world.start() {
         Ok(_told) => Ok(()),
@@ -188,14 +189,16 @@ pub(crate) fn serve_started<
 /// Serves an access point until the input ends or fails: configures each interface, which is committed and handed
 /// out first, and then receives frames, carries out the commands of the control port, lets silent stations go,
 /// commits, and hands out what is settled, each in a thread of its own, a thread for each radio. What is read of the
-/// input is dropped. At its end the threads are stopped; once all have ended, what they accepted is committed, and
-/// what was settled is handed out once more. It answers how many requests became entries: the sum of what the
-/// threads' seats counted, which the start isn't part of.
+/// input is dropped. At its end the threads are stopped. Once all have ended, what they accepted is committed: a batch
+/// or a receipt that the thread which commits left goes first. Then what was settled is handed out once more, in order.
+/// What meets want of memory is tried again for about a second; what meets it still is lost with all that waits behind
+/// it, which is logged at the level error. It answers how many requests became entries: the sum of what the threads'
+/// seats counted, which the start isn't part of.
 ///
 /// Errors: `Store` where the store refuses the start; `Thread` where a thread can't be made, with those that run
 /// stopped first, or was lost; `NoMemory`. The start may have been committed and handed out before any of them. A fault
-/// of the device that comes later is none: it is logged at the level error when it comes, what it leaves undone is never
-/// told, and what comes after is refused, until a restart.
+/// of the device that comes later is none: it is logged at the level error when it comes, what it leaves undone is
+/// never told, and what comes after is refused, until a restart.
 pub fn serve<
     W: Wait + Threads + time::Clock + Log + Sync,
     D: Disk + Drop + Send,

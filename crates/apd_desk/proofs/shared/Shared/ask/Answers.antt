@@ -1,4 +1,4 @@
-use Rattle.std.proofs.Common.{ℕ, ap, arith}
+use Rattle.std.proofs.Common.{arith}
 use Rattle.apd_desk.proofs.shared.Shared.ask.Goals as goal
 
 pub returns-clause-behind : goal.returns-clause-behind

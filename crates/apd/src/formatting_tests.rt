@@ -1,7 +1,7 @@
 use crate::ProgramFault;
-use crate::store_file::open_or_create;
 use apd_disk::FileDisk;
 use apd_script::{FormatFault, run_format};
+use apd_serve::{Access, open_disk};
 use apd_store::{StoreFault, recover};
 use std::fs::{self, File};
 use std::rt::Files;
@@ -42,7 +42,7 @@ fn formatted(
     rt: &(impl Files<File = File> + AllocGlobal),
     name: &str,
 ) -> Result<(Option<FormatFault>, Vec<u8>), Fail> {
-    let Ok(disk) = open_or_create(rt, name) else {
+    let Ok(disk) = open_disk(rt, name, Access::Make) else {
         return Err(Fail::new("a file can't be opened"));
     };
     let mut out = Vec::new(rt.alloc());
@@ -91,7 +91,7 @@ fn faults_of_a_store_s_file_are_printed_in_these_words(rt: HostRuntime) -> Resul
         let told = ProgramFault::Format(fault);
         assert_eq!(rt; format!(in alloc; "{told}")?.as_str(), text);
     }
-    match open_or_create(&rt, "no_folder_of_a_test/store") {
+    match open_disk(&rt, "no_folder_of_a_test/store", Access::Make) {
         Err(fault) => {
             let told = ProgramFault::Open(fault);
             let text = format!(in alloc; "{told}")?;

@@ -1,0 +1,162 @@
+-- Each step of the worker that commits keeps what it took and did not publish.
+use Rattle.std.proofs.Common.{◌≡◌, ◌⊎◌, ⊎_elim, List, [], ◌∷◌, ◌++◌, Option, Some, None, Result, Ok, Err, refl, sym, ap, subst, ◌∙◌, append_assoc}
+use Rattle.std.proofs.lemmas.List.{append-nil}
+use Rattle.apd_disk.specs.Disk.{DiskModel}
+use Rattle.apd_journal.specs.declared.batch.Batch.{Batch}
+use Rattle.apd_store.specs.Outside.{held_batch, batch_of as store_batch, phase_of as store_phase}
+use Rattle.apd_store.specs.declared.fault.StoreFault.{StoreFault}
+use Rattle.apd_store.specs.declared.store.Receipt.{Receipt}
+use Rattle.apd_store.specs.declared.store.Store.{Store}
+use Rattle.apd_flusher.specs.Handing.{IsLoadGiven, IsTurnMade, Keeps, TurnTells}
+use Rattle.apd_flusher.specs.Outside.{batch_of, flusher_of, phase_of, waiting_batch, waiting_receipt}
+use Rattle.apd_flusher.specs.Phases.{phase_from}
+use Rattle.apd_flusher.specs.Turning.{IsTurn}
+use Rattle.apd_flusher.specs.declared.committer.Committer.{Committer}
+use Rattle.apd_flusher.specs.declared.flusher.Flusher.{Flusher}
+use Rattle.apd_flusher.specs.declared.phase.Phase.{Phase}
+use Rattle.apd_flusher.specs.declared.phase.Phase.TheVariants.{Idle, Busy, Done, Failed}
+use Rattle.apd_core.specs.declared.publish_fault.PublishFault.{PublishFault}
+use Rattle.apd_desk.proofs.Stepping.{keeps_on}
+use Rattle.apd_desk.specs.Holding.{IsLed, held_by, in_flusher, in_receipt, in_waiting, published, published_in, taken, taken_in}
+use Rattle.apd_desk.specs.Steps.{AreSteps, IsReceiptHanded, IsStep, IsStepped, Load, Publish, Step, Turn}
+use Rattle.apd_desk.specs.declared.published.Published.{Published}
+
+-- more behind the last of three
+behind : (r f w more : List Batch) → (r ++ (f ++ w)) ++ more ≡ r ++ (f ++ (w ++ more))
+behind r f w more = append_assoc r (f ++ w) more ∙ ap (λ (z : List Batch). r ++ z) (append_assoc f w more)
+
+-- the one batch that waited or was handed in
+next_batch : (batch : Batch) (given waits : Option Batch) → (waits ≡ None) ⊎ (given ≡ None)
+    → (waits ≡ Some batch) ⊎ ((waits ≡ None) × (given ≡ Some batch)) → in_waiting waits ++ in_waiting given ≡ batch ∷ []
+next_batch batch given waits alone next =
+    ⊎_elim
+    (λ is. ⊎_elim
+    (λ none. absurd (some_none (sym is ∙ none)))
+    (λ none. ap (λ (z : Option Batch). in_waiting z ++ in_waiting given) is ∙ ap (λ (z : Option Batch). (batch ∷ []) ++ in_waiting z) none)
+    alone)
+    (λ is. ap (λ (z : Option Batch). in_waiting z ++ in_waiting given) is.0 ∙ ap in_waiting is.1)
+    next
+  where
+    some_none : Some batch ≡ None → ⊥
+    some_none same = cc
+
+module _ {D : Type 0} where
+  held_as : (c : Committer D) (r : Option Receipt) (p : Phase) (x : Batch) (w : Option Batch) → waiting_receipt c ≡ r
+      → phase_of (flusher_of c) ≡ p → batch_of (flusher_of c) ≡ x → waiting_batch c ≡ w → held_by c ≡ in_receipt r ++ (in_flusher p x ++ in_waiting w)
+  held_as c r p x w receipt phase under_way waits =
+      let f = flusher_of c in
+      ap (λ (z : Option Receipt). in_receipt z ++ (in_flusher (phase_of f) (batch_of f) ++ in_waiting (waiting_batch c))) receipt
+      ∙ ap (λ (z : Phase). in_receipt r ++ (in_flusher z (batch_of f) ++ in_waiting (waiting_batch c))) phase
+      ∙ ap (λ (z : Batch). in_receipt r ++ (in_flusher p z ++ in_waiting (waiting_batch c))) under_way
+      ∙ ap (λ (z : Option Batch). in_receipt r ++ (in_flusher p x ++ in_waiting z)) waits
+
+  -- ---- a load
+  loaded : (answer : Result (Unit {0}) StoreFault) (given : Option Batch) (a b : Committer D)
+      → (waiting_batch a ≡ None) ⊎ (given ≡ None)
+      → IsLoadGiven answer given a b → held_by a ++ in_waiting given ≡ held_by b
+  loaded (Ok _) given a b alone is =
+      let r = in_receipt (waiting_receipt a) in
+      let f = flusher_of a in
+      behind r (in_flusher (phase_of f) (batch_of f)) (in_waiting (waiting_batch a)) (in_waiting given)
+      ∙ ap (λ (z : List Batch). r ++ (in_flusher (phase_of f) (batch_of f) ++ z)) (next_batch is.batch given (waiting_batch a) alone is.next)
+      ∙ ap (λ (z : Phase). r ++ (in_flusher z (batch_of f) ++ (is.batch ∷ []))) is.tells.was_idle
+      ∙ sym (held_as b (waiting_receipt a) Busy is.batch None is.receipt is.tells.busy is.tells.batch_is is.waits)
+  loaded (Err fault) given a b alone is =
+      let r = in_receipt (waiting_receipt a) in
+      let f = flusher_of a in
+      behind r (in_flusher (phase_of f) (batch_of f)) (in_waiting (waiting_batch a)) (in_waiting given)
+      ∙ ap (λ (z : List Batch). r ++ (in_flusher (phase_of f) (batch_of f) ++ z)) (next_batch is.batch given (waiting_batch a) alone is.next)
+      ∙ sym (held_as b (waiting_receipt a) (phase_of f) (batch_of f) (Some is.batch) is.receipt
+      (ap (λ (z : Store D). phase_from (store_phase z)) is.tells.stays) (ap (λ (z : Store D). store_batch z) is.tells.stays) is.waits)
+
+  -- ---- a turn
+  under_way : (disk : DiskModel D) (answer : Result (Unit {0}) StoreFault) (f g : Flusher D)
+      → TurnTells disk answer f g → phase_of f ≡ Busy
+      → in_flusher (phase_of g) (batch_of g) ≡ batch_of g ∷ []
+  under_way disk (Ok _) f g tells busy =
+      ⊎_elim (λ is. ap (λ (z : Phase). in_flusher z (batch_of g)) is) (λ is. ap (λ (z : Phase). in_flusher z (batch_of g)) is) (tells.busy busy)
+  under_way disk (Err fault) f g tells busy = ap (λ (z : Phase). in_flusher z (batch_of g)) tells.phase
+
+  turned_list : (disk : DiskModel D) (answer : Result (Unit {0}) StoreFault) (f g : Flusher D) → IsTurn disk f g
+      → TurnTells disk answer f g
+      → in_flusher (phase_of g) (batch_of g) ≡ in_flusher (phase_of f) (batch_of f)
+  turned_list disk answer f g turn tells = by (phase_of f) refl
+    where
+      rests : (p : Phase) → phase_of f ≡ p → (p ≡ Busy → ⊥)
+          → in_flusher (phase_of g) (batch_of g) ≡ in_flusher (phase_of f) (batch_of f)
+      rests p is other = ap (λ (z : Flusher D). in_flusher (phase_of z) (batch_of z)) (turn.rest (λ busy. other (sym is ∙ busy)))
+
+      by : (p : Phase) → phase_of f ≡ p → in_flusher (phase_of g) (batch_of g) ≡ in_flusher (phase_of f) (batch_of f)
+      by Idle is = rests Idle is (λ same. cc)
+      by Busy is =
+          under_way disk answer f g tells is ∙ ap (λ (z : Batch). z ∷ []) turn.batch_is ∙ sym (ap (λ (z : Phase). in_flusher z (batch_of f)) is)
+      by Done is = rests Done is (λ same. cc)
+      by Failed is = rests Failed is (λ same. cc)
+
+  turned : (disk : DiskModel D) (answer : Result (Unit {0}) StoreFault) (a b : Committer D)
+      → IsTurnMade disk answer a b → held_by a ++ [] ≡ held_by b
+  turned disk answer a b is =
+      let f = flusher_of a in
+      let g = flusher_of b in
+      append-nil (held_by a)
+      ∙ sym (held_as b (waiting_receipt a) (phase_of g) (batch_of g) (waiting_batch a) is.receipt refl refl is.batch
+      ∙ ap (λ (z : List Batch). in_receipt (waiting_receipt a) ++ (z ++ in_waiting (waiting_batch a))) (turned_list disk answer f g is.turn is.tells))
+
+  -- ---- a receipt
+  handed : (answer : Result (Unit {0}) PublishFault) (receipt : Receipt) (a b : Committer D)
+      → IsReceiptHanded answer receipt a b
+      → held_by a ++ [] ≡ published_in (Publish receipt answer) ++ held_by b
+  handed (Ok _) receipt a b is =
+      let f = flusher_of a in
+      let own = λ (z : List Batch). held_batch receipt ∷ z in
+      append-nil (held_by a)
+      ∙ ⊎_elim
+      (λ waits. held_as a (Some receipt) (phase_of f) (batch_of f) (waiting_batch a) waits.0 refl refl refl
+      ∙ sym (ap own (held_as b None (phase_of f) (batch_of f) (waiting_batch a) is.waits (ap phase_of waits.1) (ap batch_of waits.1) is.batch)))
+      (λ given. held_as a None Done (batch_of f) (waiting_batch a) given.0 given.1.done refl refl
+      ∙ ap (λ (z : Batch). z ∷ in_waiting (waiting_batch a)) (sym given.1.batch_is)
+      ∙ sym (ap own (held_as b None Idle (batch_of (flusher_of b)) (waiting_batch a) is.waits given.1.idle refl is.batch)))
+      is.next
+  handed (Err fault) receipt a b is =
+      let f = flusher_of a in
+      append-nil (held_by a)
+      ∙ ⊎_elim
+      (λ waits. held_as a (Some receipt) (phase_of f) (batch_of f) (waiting_batch a) waits.0 refl refl refl
+      ∙ sym (held_as b (Some receipt) (phase_of f) (batch_of f) (waiting_batch a) is.waits (ap phase_of waits.1) (ap batch_of waits.1) is.batch))
+      (λ given. held_as a None Done (batch_of f) (waiting_batch a) given.0 given.1.done refl refl
+      ∙ ap (λ (z : Batch). z ∷ in_waiting (waiting_batch a)) (sym given.1.batch_is)
+      ∙ sym (held_as b (Some receipt) Idle (batch_of (flusher_of b)) (waiting_batch a) is.waits given.1.idle refl is.batch))
+      is.next
+
+  step_keeps : (disk : DiskModel D) (step : Step) (a b : Committer D) → IsStep disk step a b
+      → held_by a ++ taken_in step ≡ published_in step ++ held_by b
+  step_keeps disk (Load given answer) a b is = loaded answer given a b is.0 is.1
+  step_keeps disk (Turn answer) a b is = turned disk answer a b is
+  step_keeps disk (Publish receipt answer) a b is = handed answer receipt a b is
+
+  steps_keep : (disk : DiskModel D) (steps : List Step) (a c : Committer D) → AreSteps disk steps a c
+      → held_by a ++ taken steps ≡ published steps ++ held_by c
+  steps_keep disk [] a c is = append-nil (held_by a) ∙ ap held_by (sym is)
+  steps_keep disk (step ∷ before) a c is =
+      let b = is.0 in
+      sym (append_assoc (held_by a) (taken before) (taken_in step))
+      ∙ ap (λ (z : List Batch). z ++ taken_in step) (steps_keep disk before a b is.1)
+      ∙ append_assoc (published before) (held_by b) (taken_in step)
+      ∙ ap (λ (z : List Batch). published before ++ z) (step_keeps disk step b c is.2)
+      ∙ sym (append_assoc (published before) (published_in step) (held_by c))
+
+  led : (disk : DiskModel D) (steps : List Step) (a b : Committer D) → AreSteps disk steps a b → IsLed disk a b
+  led disk steps a b are = record { steps = steps; are = are; held = steps_keep disk steps a b are }
+
+  led_on : (disk : DiskModel D) (told : Option Published) (a b c : Committer D) → IsLed disk a b
+      → IsStepped disk told b c → IsLed disk a c
+  led_on disk told a b c is stepped =
+      ⊎_elim
+      (λ same. subst (λ (z : Committer D). IsLed disk a z) (sym same.0) is)
+      (λ step. led disk (step.0 ∷ is.steps) a c (b, is.are, step.1))
+      stepped
+
+  pub both_on : (disk : DiskModel D) (told : Option Published) (a b c : Committer D) → IsLed disk a b × Keeps disk a b
+      → IsStepped disk told b c × Keeps disk b c
+      → IsLed disk a c × Keeps disk a c
+  both_on disk told a b c first next = (led_on disk told a b c first.0 next.0, keeps_on disk a b c first.1 next.1)

@@ -1,0 +1,5 @@
+use Rattle.apd_desk.proofs.Giving.{next_served}
+use Rattle.apd_desk.proofs.receiving.apply_first.Goals as goal
+
+pub returns-in-Some-Ok-clause-served : goal.returns-in-Some-Ok-clause-served
+returns-in-Some-Ok-clause-served g c = next_served g.R.Radio.model _ _ _ c.apply_next.ensures.applied

@@ -1,0 +1,60 @@
+-- The batches that a committer holds (own).
+use Rattle.std.specs.Prelude.{◌≡◌, ◌++◌, List, [], ◌∷◌, Option, Some, None, Ok, Err}
+use Rattle.apd_disk.specs.Disk.{DiskModel}
+use Rattle.apd_journal.specs.declared.batch.Batch.{Batch}
+use Rattle.apd_store.specs.Outside.{held_batch}
+use Rattle.apd_store.specs.declared.store.Receipt.{Receipt}
+use Rattle.apd_flusher.specs.Outside.{batch_of, flusher_of, phase_of, waiting_batch, waiting_receipt}
+use Rattle.apd_flusher.specs.declared.committer.Committer.{Committer}
+use Rattle.apd_flusher.specs.declared.phase.Phase.{Phase}
+use Rattle.apd_flusher.specs.declared.phase.Phase.TheVariants.{Idle, Busy, Done, Failed}
+use Rattle.apd_desk.specs.Steps.{AreSteps, Step, Load, Turn, Publish}
+
+abbrev pub in_receipt : Option Receipt → List Batch
+in_receipt None = []
+in_receipt (Some receipt) = held_batch receipt ∷ []
+
+abbrev pub in_flusher : Phase → Batch → List Batch
+in_flusher Idle batch = []
+in_flusher Busy batch = batch ∷ []
+in_flusher Done batch = batch ∷ []
+in_flusher Failed batch = batch ∷ []
+
+abbrev pub in_waiting : Option Batch → List Batch
+in_waiting None = []
+in_waiting (Some batch) = batch ∷ []
+
+-- the oldest first: that of the receipt that waits, the flusher's, and the one that waits for the flusher
+abbrev pub held_by : {D : Type 0} → Committer D → List Batch
+held_by c = in_receipt (waiting_receipt c)
+    ++ (in_flusher (phase_of (flusher_of c)) (batch_of (flusher_of c)) ++ in_waiting (waiting_batch c))
+
+-- what a step took from the core
+abbrev pub taken_in : Step → List Batch
+taken_in (Load given answer) = in_waiting given
+taken_in (Turn answer) = []
+taken_in (Publish receipt answer) = []
+
+-- what it published
+abbrev pub published_in : Step → List Batch
+published_in (Load given answer) = []
+published_in (Turn answer) = []
+published_in (Publish receipt (Ok _)) = held_batch receipt ∷ []
+published_in (Publish receipt (Err fault)) = []
+
+-- of steps, the last of which stands first
+abbrev pub taken : List Step → List Batch
+taken [] = []
+taken (step ∷ before) = taken before ++ taken_in step
+
+abbrev pub published : List Step → List Batch
+published [] = []
+published (step ∷ before) = published before ++ published_in step
+
+-- steps lead from one to the other, and nothing else happened
+pub record IsLed {D : Type 0} (disk : DiskModel D) (old new : Committer D) : Type 0 where
+  pub steps : List Step
+  pub are : AreSteps disk steps old new
+  -- no batch is lost, and no receipt: what was held and what was taken since is, in order, what was published and
+  -- what is held
+  pub held : held_by old ++ taken steps ≡ published steps ++ held_by new

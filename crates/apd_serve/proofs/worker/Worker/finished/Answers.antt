@@ -1,0 +1,26 @@
+use Rattle.std.proofs.Common.{le_of_eq, refl, subst, sym}
+use Rattle.apd_serve.specs.Worked.{HasWorked}
+use Rattle.apd_serve.specs.declared.worker.Worker.{Worker}
+use Rattle.apd_serve.specs.declared.worker.Worker.TheVariants.{Flushing, Radio, Control, Ticks}
+use Rattle.apd_serve.proofs.Working.{has_committed, has_replied, has_served, has_ticked}
+use Rattle.apd_serve.proofs.worker.Worker.finished.Goals as goal
+
+pub returns-in-Flushing-clause-worked : goal.returns-in-Flushing-clause-worked
+returns-in-Flushing-clause-worked g c =
+    subst (λ (old : Worker g.row.L.Denot g.row.D.Denot g.row.R.Denot g.row.P.Denot). HasWorked g.D.Disk.model g.R.Radio.model old (Flushing c.committed.result)) (sym c.in-Flushing.is)
+    (has_committed g.D.Disk.model g.R.Radio.model c.in-Flushing.committer c.committed.result c.committed.ensures.led c.committed.ensures.keeps)
+
+pub returns-in-Radio-clause-worked : goal.returns-in-Radio-clause-worked
+returns-in-Radio-clause-worked g c =
+    subst (λ (old : Worker g.row.L.Denot g.row.D.Denot g.row.R.Denot g.row.P.Denot). HasWorked g.D.Disk.model g.R.Radio.model old (Radio c.hand_out.new.seat c.hand_out.new.slot)) (sym c.in-Radio.is)
+    (has_served g.D.Disk.model g.R.Radio.model c.in-Radio.seat c.hand_out.new.seat c.in-Radio.slot c.hand_out.new.slot c.hand_out.ensures.later c.hand_out.ensures.given)
+
+pub returns-in-Control-clause-worked : goal.returns-in-Control-clause-worked
+returns-in-Control-clause-worked g c =
+    subst (λ (old : Worker g.row.L.Denot g.row.D.Denot g.row.R.Denot g.row.P.Denot). HasWorked g.D.Disk.model g.R.Radio.model old (Control c.reply_settled.new.seat c.reply_settled.new.port)) (sym c.in-Control.is)
+    (has_replied g.D.Disk.model g.R.Radio.model c.in-Control.seat c.reply_settled.new.seat c.in-Control.port c.reply_settled.new.port c.reply_settled.ensures.later)
+
+pub returns-in-Ticks-clause-worked : goal.returns-in-Ticks-clause-worked
+returns-in-Ticks-clause-worked g c =
+    subst (λ (old : Worker g.row.L.Denot g.row.D.Denot g.row.R.Denot g.row.P.Denot). HasWorked g.D.Disk.model g.R.Radio.model old (Ticks c.in-Ticks.seat)) (sym c.in-Ticks.is)
+    (has_ticked g.D.Disk.model g.R.Radio.model c.in-Ticks.seat c.in-Ticks.seat (le_of_eq refl, le_of_eq refl))
