@@ -1,8 +1,7 @@
 -- What the lines of a script do, from what the steps do that they ask for.
-use Rattle.std.proofs.Common.{◌≡◌, ℕ, List, Option, Some, None, Result, Ok, Err, IfOk, IfErr, Bool, ap, refl, subst, sym, ◌∙◌}
+use Rattle.std.proofs.Common.{◌≡◌, ℕ, List, [], Option, Some, None, Result, Ok, Err, IfOk, IfErr, Bool, ap, refl, subst, sym, ◌∙◌}
 use Rattle.std.specs.Option.{option_or}
 use Rattle.std.specs.Prelude.{length, OnOk}
-use Rattle.apd_base.specs.declared.moment.Moment.{Moment}
 use Rattle.apd_conf.specs.declared.conf.Conf.{Conf}
 use Rattle.apd_conf.specs.Confs.{conf_named}
 use Rattle.apd_disk.specs.Disk.{DiskModel}
@@ -16,11 +15,13 @@ use Rattle.apd_frame.specs.Outcome.{outcome}
 use Rattle.apd_mlme.specs.Happening.{Happening}
 use Rattle.apd_radio.specs.Model.{RadioModel}
 use Rattle.apd_store.specs.declared.fault.StoreFault.{StoreFault}
+use Rattle.apd_world.specs.Proper.{IsSafe}
+use Rattle.apd_world.specs.WorldParts.{durable_of}
 use Rattle.apd_world.specs.declared.step.Step.{Step}
 use Rattle.apd_world.specs.declared.step.Told.{Told}
+use Rattle.apd_world.proofs.RunLemmas.{none_made}
 use Rattle.apd_script.specs.Lines.{Said, Says, IsNotPossible}
 use Rattle.apd_script.specs.Refused.{refused}
-use Rattle.apd_script.specs.Safely.{GoesSafely}
 use Rattle.apd_script.specs.Script.{asked_at, confs_of, is_up_at, IsCarriedOut, IsLineFault, IsMade, IsMeant, IsNoBadLine, IsPlaced, IsReceived, IsRequested, IsRun, IsSaidFault, IsTried, Makes, SaysAndIsRun}
 use Rattle.apd_script.specs.declared.script.fault.ScriptFault.{ScriptFault}
 use Rattle.apd_script.specs.declared.script.fault.ScriptFault.TheVariants as fault
@@ -31,10 +32,7 @@ module _ {D R : Type 0} where
   -- what is no bad line tells nothing of what was said
   pub said_elsewhere : (n : ℕ) (what : Said) (s : Standing D R) (why : ScriptFault) → IsNoBadLine why → IsSaidFault n what s why
   said_elsewhere n what s (fault.BadLine k) h = absurd h
-  said_elsewhere n what s fault.Reader h = tt
-  said_elsewhere n what s fault.Writer h = tt
-  said_elsewhere n what s (fault.World why) h = tt
-  said_elsewhere n what s fault.NoMemory h = tt
+  said_elsewhere n what s why h = tt
 
   pub all_elsewhere : {A : Type 0} (r : Result A ScriptFault) (n : ℕ) (what : Said) (s : Standing D R) → IfErr r IsNoBadLine → IfErr r (IsSaidFault n what s)
   all_elsewhere (Ok x) n what s h = tt
@@ -42,19 +40,13 @@ module _ {D R : Type 0} where
 
   pub lines_elsewhere : (n : ℕ) (text : List ℕ) (s : Standing D R) (why : ScriptFault) → IsNoBadLine why → IsLineFault n text s why
   lines_elsewhere n text s (fault.BadLine k) h = absurd h
-  lines_elsewhere n text s fault.Reader h = tt
-  lines_elsewhere n text s fault.Writer h = tt
-  lines_elsewhere n text s (fault.World why) h = tt
-  lines_elsewhere n text s fault.NoMemory h = tt
+  lines_elsewhere n text s why h = tt
 
   -- what can't be carried out is bad, since a text says one thing alone
   said_fault : (one : (text : List ℕ) (a b : Said) → Says text a → Says text b → a ≡ b) (n : ℕ) (text : List ℕ) (what : Said) (s : Standing D R) (why : ScriptFault)
       → Says text what → IsSaidFault n what s why → IsLineFault n text s why
   said_fault one n text what s (fault.BadLine k) says (same, impossible) = (same, λ other says_other. subst (λ w. IsNotPossible (confs_of s) (length s.spares.items) w) (one text what other says says_other) impossible)
-  said_fault one n text what s fault.Reader says h = tt
-  said_fault one n text what s fault.Writer says h = tt
-  said_fault one n text what s (fault.World why) says h = tt
-  said_fault one n text what s fault.NoMemory says h = tt
+  said_fault one n text what s why says h = tt
 
   pub line_fault : {A : Type 0} (one : (text : List ℕ) (a b : Said) → Says text a → Says text b → a ≡ b) (r : Result A ScriptFault) (n : ℕ) (text : List ℕ) (what : Said) (s : Standing D R)
       → Says text what → IfErr r (IsSaidFault n what s) → IfErr r (IsLineFault n text s)
@@ -83,7 +75,7 @@ module _ {D R : Type 0} (disk : DiskModel D) (radio : RadioModel R) where
     told = told;
     mid = mid;
     makes = makes;
-    kept = ap (λ (r : Option StoreFault). record mid { refusal = r }) (is ∙ ap (λ r. option_or mid.refusal r) known ∙ ap (λ (s : Standing D R). option_or s.refusal (refused told)) makes.goes_on.only);
+    kept = ap (λ (r : Option StoreFault). record mid { refusal = r }) (is ∙ ap (λ r. option_or mid.refusal r) known ∙ ap (λ (s : Standing D R). option_or s.refusal (refused told)) makes.only);
   }
 
   -- a frame is received
@@ -123,12 +115,12 @@ module _ {D R : Type 0} (disk : DiskModel D) (radio : RadioModel R) where
 
   -- a text says what is run
   pub says_ok : (r : Result (Standing D R) ScriptFault) (n : ℕ) (text : List ℕ) (what : Said) (old : Standing D R) → Says text what
-      → GoesSafely disk radio old.world old.world
+      → IsSafe disk (durable_of old.world) (durable_of old.world)
       → IfOk r (λ new. IsRun disk radio n what old new) → IfOk r (λ new. SaysAndIsRun disk radio n text old new)
   says_ok (Ok new) n text what old says still run = record {
     what = what;
     says = says;
     run = run;
-    safely = λ none. by_line disk radio old new still n what none run;
+    safely = λ none. by_line disk radio old new (record { steps = []; tolds = []; made = none_made disk radio old.world still }) n what none run;
   }
   says_ok (Err why) n text what old says still run = tt

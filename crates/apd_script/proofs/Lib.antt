@@ -1,12 +1,8 @@
-pub mod Calling
 pub mod Doing
-pub mod Keeping
 pub mod OnStore
-pub mod OneRun
 pub mod Parts
 pub mod Printing
 pub mod Running
-pub mod Safely
 pub mod Saying
 pub mod ScriptLines
 pub mod Stopping

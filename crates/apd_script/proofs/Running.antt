@@ -158,15 +158,9 @@ module _ {D R : Type 0} (disk : DiskModel D) (radio : RadioModel R) where
       let fits : n + k ≤ MAX_SCRIPT = omega (arith, within.0, within.1) in
       let (behind, text) = bad_read known left next past.texts n k bytes past.read piece long some fits in
       record { front = past.texts; bad = line_of bytes; behind = behind; text = text; number = same ∙ past.counted; last = new; run = past.run; is_bad = bad }
-  fails_so_far fault.Reader known left next number n k sum radios old new bytes past piece long some within h = tt
-  fails_so_far fault.Writer known left next number n k sum radios old new bytes past piece long some within h = tt
-  fails_so_far (fault.World why) known left next number n k sum radios old new bytes past piece long some within h = tt
-  fails_so_far fault.NoMemory known left next number n k sum radios old new bytes past piece long some within h = tt
+  fails_so_far why known left next number n k sum radios old new bytes past piece long some within h = tt
 
   -- what is no bad line tells nothing of the script
   pub fails_elsewhere : (why : ScriptFault) (known : Option (List ℕ)) (radios : List R) (old : World D R) → IsNoBadLine why → IsFault disk radio known radios old why
   fails_elsewhere (fault.BadLine j) known radios old h = absurd h
-  fails_elsewhere fault.Reader known radios old h = tt
-  fails_elsewhere fault.Writer known radios old h = tt
-  fails_elsewhere (fault.World why) known radios old h = tt
-  fails_elsewhere fault.NoMemory known radios old h = tt
+  fails_elsewhere why known radios old h = tt

@@ -35,11 +35,11 @@ module _ {D R : Type 0} (disk : DiskModel D) (radio : RadioModel R) where
       record {
         begun = subst (λ cs. IsBegunFrom disk radio m own cs new) configured of_own;
         recovered = λ p hs u.
-            let flight = (shown p).now hs u (disk.reads own) (left p.device) in
+            let flight = (shown p).now hs u (disk.reads own) (left p.imaged.honest) in
             record {
               count = flight.count;
               some_of = flight.some_of;
-              is = one (disk.reads own) (durable_of new).core.settled (run core.settled core.confs (take flight.count hs)) (of_own.shown p.device) flight.shows;
+              is = one (disk.reads own) (durable_of new).core.settled (run core.settled core.confs (take flight.count hs)) (of_own.shown p.imaged.honest) flight.shows;
             };
       }
 

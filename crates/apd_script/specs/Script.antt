@@ -1,12 +1,13 @@
 -- What running a script does, in the words of its world. What it prints is not spoken of.
-use Rattle.std.specs.Prelude.{◌≡◌, ◌≢◌, ℕ, Bool, ◌+◌, ◌*◌, ◌≤◌, List, [], ◌∷◌, ◌++◌, map, length, drop, Option, None, Some, Result, Ok, Err, IfSome}
+use Rattle.std.specs.Prelude.{◌≡◌, ◌≢◌, ℕ, Bool, ◌+◌, ◌*◌, ◌≤◌, ◌⊎◌, List, [], ◌∷◌, ◌++◌, map, length, take, drop, Option, None, Some, Result, Ok, Err, IfSome}
 use Rattle.std.specs.Option.{option_or}
+use Rattle.apd_base.specs.State.{State}
 use Rattle.apd_base.specs.Text.{lines}
 use Rattle.apd_base.specs.declared.limits.TheConstants.{MAX_SCRIPT}
 use Rattle.apd_base.specs.declared.moment.Moment.{Moment}
-use Rattle.apd_conf.specs.Confs.{conf_named}
+use Rattle.apd_conf.specs.Confs.{conf_meant, conf_named}
 use Rattle.apd_conf.specs.declared.conf.Conf.{Conf}
-use Rattle.apd_core.specs.Core.{new_core}
+use Rattle.apd_core.specs.Core.{CoreState, new_core}
 use Rattle.apd_core.specs.Heard.{AreHeardAt}
 use Rattle.apd_core.specs.Requests.{ordered, said_by, unless_ignored}
 use Rattle.apd_core.specs.declared.input.QuietReason.{QuietReason}
@@ -17,6 +18,7 @@ use Rattle.apd_ctrl.specs.declared.parser.Refusal.{Refusal}
 use Rattle.apd_disk.specs.Disk.{LeavesOnly, DiskModel}
 use Rattle.apd_frame.specs.Outcome.{outcome}
 use Rattle.apd_mlme.specs.Happening.{Happening}
+use Rattle.apd_mlme.specs.Run.{run}
 use Rattle.apd_mlme.specs.declared.decision.Recipient.{Recipient}
 use Rattle.apd_radio.specs.Model.{RadioModel}
 use Rattle.apd_slot.specs.Slots.{bssid_of}
@@ -29,17 +31,15 @@ use Rattle.apd_world.specs.Outside.{device_of}
 use Rattle.apd_world.specs.Proper.{IsProper}
 use Rattle.apd_world.specs.Resumed.{AreResumed}
 use Rattle.apd_world.specs.WorldParts.{durable_of, is_up_if, slot_at, slots_of}
-use Rattle.apd_world.specs.Starting.{IsFlushed, IsHandedOut, IsStarted}
-use Rattle.apd_world.specs.WorldRun.{IsWorldStep}
+use Rattle.apd_world.specs.Starting.{HasGoneOn, IsFlushed, IsHandedOut, IsStarted}
+use Rattle.apd_world.specs.SafelyMade.{AreSafelyMade}
 use Rattle.apd_world.specs.declared.step.Step.{Step}
 use Rattle.apd_world.specs.declared.step.Step.TheVariants as step
 use Rattle.apd_world.specs.declared.step.Told.{Told}
 use Rattle.apd_world.specs.declared.step.Told.TheVariants.{NoMemory}
 use Rattle.apd_world.specs.declared.world.World.{World}
 use Rattle.apd_script.specs.Lines.{Said, Empty, Received, Tick, Command, Take, Call, Publish, Hand, Flush, Stop, Says, IsBad, IsNotPossible}
-use Rattle.apd_script.specs.CommandInterface.{conf_meant}
 use Rattle.apd_script.specs.Refused.{refused}
-use Rattle.apd_script.specs.Safely.{GoesSafely, IsAfterFlight}
 use Rattle.apd_script.specs.declared.script.fault.ScriptFault.{ScriptFault}
 use Rattle.apd_script.specs.declared.script.fault.ScriptFault.TheVariants as fault
 use Rattle.apd_script.specs.declared.script.standing.Standing.{Standing}
@@ -66,6 +66,12 @@ pub record AreRenewed {D R : Type 0} (confs : List Conf) (slots : List (Slot R))
   pub spares : new.spares.items ≡ drop (length confs) old.spares.items
   pub only : new ≡ record old { spares = new.spares }
 
+-- the state is the settled one, or that after the batch in flight
+pub record IsAfterFlight (s : CoreState) (hs : List Happening) (after : State) : Type 0 where
+  pub count : ℕ
+  pub some_of : (count ≡ 0) ⊎ (count ≡ s.flight)
+  pub is : after ≡ run s.settled s.confs (take count hs)
+
 -- ---- the steps that its lines ask for
 -- what a step asks to be accepted, and at which moment
 abbrev pub asked_at : Step → Option (Option (Result Happening QuietReason) × Moment)
@@ -77,15 +83,14 @@ module _ {D R : Type 0} (disk : DiskModel D) (radio : RadioModel R) where
   abbrev pub IsProperAt : Standing D R → Type 0
   IsProperAt s = IsProper disk (durable_of s.world)
 
-  -- nothing changes but the world, by steps
-  pub record GoesOn (old new : Standing D R) : Type 0 where
-    pub only : new ≡ record old { world = new.world }
-    pub safely : GoesSafely disk radio old.world new.world
+  -- nothing changes but the world
+  abbrev pub OnlyWorld : Standing D R → Standing D R → Type 0
+  OnlyWorld old new = new ≡ record old { world = new.world }
 
   -- this step was made, and told so
   pub record Makes (made : Step) (told : Told) (old new : Standing D R) : Type 0 where
-    pub is : IsWorldStep radio made told old.world new.world
-    pub goes_on : GoesOn old new
+    pub safely : AreSafelyMade disk radio (made ∷ []) (told ∷ []) old.world new.world
+    pub only : OnlyWorld old new
 
   -- one was made, and did not lack memory
   pub record IsMade (made : Step) (old new : Standing D R) : Type 0 where
@@ -130,21 +135,21 @@ module _ {D R : Type 0} (disk : DiskModel D) (radio : RadioModel R) where
   -- what is settled is handed out
   pub record HandsOut (old new : Standing D R) : Type 0 where
     pub answers : List (Recipient × Told)
-    pub handed : IsHandedOut radio [] answers old.world new.world
-    pub goes_on : GoesOn old new
+    pub handed : IsHandedOut disk radio [] answers old.world new.world
+    pub only : OnlyWorld old new
 
   -- all is committed, and handed out: where no refusal was met
   pub record Flushes (old new : Standing D R) : Type 0 where
     pub none : old.refusal ≡ None
     pub answers : List (Recipient × Told)
-    pub flushed : IsFlushed radio [] answers old.world new.world
-    pub goes_on : GoesOn old new
+    pub flushed : IsFlushed disk radio [] answers old.world new.world
+    pub only : OnlyWorld old new
 
   -- the interfaces are started
   pub record Starts (old new : Standing D R) : Type 0 where
     pub answers : List (Recipient × Told)
-    pub started : IsStarted radio answers old.world new.world
-    pub goes_on : GoesOn old new
+    pub started : IsStarted disk radio answers old.world new.world
+    pub only : OnlyWorld old new
 
   -- A world begun at a moment from what a device reads, of these configurations: its table is the state that the device shows, nothing is
   -- unsettled, and its slots, one for each interface, have resumed by that table. It is proper, and a stop until it is begun leaves what it
@@ -199,8 +204,7 @@ module _ {D R : Type 0} (disk : DiskModel D) (radio : RadioModel R) where
     pub what : Said
     pub says : Says text what
     pub run : IsRun n what old new
-    pub safely : what ≢ Stop
-        → GoesSafely disk radio old.world new.world
+    pub safely : what ≢ Stop → HasGoneOn disk radio old.world new.world
 
   -- texts are run one after the other, the first of which has this number
   abbrev pub AreRun : ℕ → List (List ℕ) → Standing D R → Standing D R → Type 0

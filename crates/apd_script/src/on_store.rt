@@ -13,7 +13,7 @@ use apd_disk::{Disk, MemDisk};
 use apd_radio::{Radio, Sim};
 use apd_slot::Slot;
 use apd_store::format;
-use apd_world::{World, WorldFault};
+use apd_world::{World, WorldFault, slots_for};
 use std::alloc::{AllocError, Global};
 use std::io::{BufRead, Write};
 
@@ -38,17 +38,6 @@ pub fn new_store(alloc: Global) -> Result<MemDisk, ScriptFault>
         Ok(store) => Ok(store.into_device()),
         Err((_device, fault)) => Err(ScriptFault::World(WorldFault::Store(fault))),
     }
-}
-
-/// A slot for each configuration, in their order, with a radio in memory.
-fn slots_of(alloc: Global, confs: &Confs) -> Result<Vec<Slot<Sim>>, AllocError>
-    ensures { IfOk result (λ slots. map bssid_of slots.items ≡ map (λ conf. conf.bssid) confs.now) }
-{
-    let mut slots = Vec::new(alloc);
-    for conf in confs.list() {
-        slots.push(Slot::new(alloc, Sim::new(alloc), conf.bssid))?;
-    }
-    Ok(slots)
 }
 
 /// So many radios in memory.
@@ -107,7 +96,8 @@ pub fn run_on_store<D: Disk + Drop, I: BufRead + Drop, W: Write>(
     ensures ok { IfOk result (IsRunOn D.model ⟦<Sim as Radio>⟧.model STOPS disk confs (I.remaining reader)) }
     ensures err { IfErr result (IsFaultOn D.model ⟦<Sim as Radio>⟧.model STOPS disk confs (I.remaining reader)) }
 {
-    let slots = slots_of(alloc, &confs)?;
+    let radios = radios(alloc, confs.list().len())?;
+    let slots = slots_for(alloc, &confs, radios)?;
     let spares = spares_for(alloc, &confs)?;
     run_from(alloc, disk, confs, slots, spares, reader, writer)
 }

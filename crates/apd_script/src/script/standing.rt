@@ -4,7 +4,7 @@ ghost use Rattle.std.specs.Option.{option_copied};
 ghost use Rattle.apd_ctrl.specs.Placing.{placing};
 ghost use Rattle.apd_ctrl.specs.Reading.{outcome as command_outcome};
 ghost use Rattle.apd_script.specs.Lines.{Received, Says, said};
-ghost use Rattle.apd_script.specs.CommandInterface.{conf_meant};
+ghost use Rattle.apd_conf.specs.Confs.{conf_meant};
 ghost use Rattle.apd_script.specs.Refused.{refused};
 ghost use Rattle.apd_world.specs.declared.step.Step.TheVariants.{Accept};
 
@@ -12,7 +12,6 @@ use super::fault::{ScriptFault, writer_fault};
 use super::line::{Line, exactly_one_line, parse_line};
 use super::output::{write_answers, write_command_told, write_reply, write_told};
 use apd_base::Moment;
-use apd_conf::{Conf, Confs};
 use apd_core::Input;
 use apd_ctrl::{Command, FAIL, Parsed, Placed, UNKNOWN_COMMAND, parse_command};
 use apd_disk::Disk;
@@ -21,7 +20,6 @@ use apd_radio::Radio;
 use apd_store::StoreFault;
 use apd_world::{Step, Told, World, WorldFault};
 use std::alloc::Global;
-use std::collections::VecDeque;
 use std::io::Write;
 
 /// A script that runs: its world, the moment that it is at, the radios that are left for restarts, and
@@ -31,18 +29,8 @@ pub struct Standing<D: Disk, R: Radio> {
     pub(super) alloc: Global,
     pub(super) world: World<D, R>,
     pub(super) moment: Moment,
-    pub(super) spares: VecDeque<R>,
+    pub(super) spares: Vec<R>,
     pub(super) refusal: Option<StoreFault>,
-}
-
-/// The configuration of the interface that a command names, and the first one where it names none.
-fn conf_meant<'a>(confs: &'a Confs, interface: Option<&[u8]>) -> Option<&'a Conf>
-    ensures { option_copied result ≡ conf_meant confs.now (option_copied interface.entry) }
-{
-    match interface {
-        Some(name) => confs.with_interface(name),
-        None => confs.list().first(),
-    }
 }
 
 /// Why the store refused a step of a batch, if it did.
@@ -66,7 +54,7 @@ impl<D: Disk + Drop, R: Radio> Standing<D, R> {
             alloc,
             world,
             moment: Moment(0),
-            spares: VecDeque::from_vec(spares),
+            spares,
             refusal: None,
         }
     }
@@ -270,7 +258,7 @@ impl<D: Disk + Drop, R: Radio> Standing<D, R> {
             (conf_meant (confs_of self.old) (option_copied interface.entry)) self.old self.new) }
         ensures err { IfErr result IsNoBadLine }
     {
-        let Some(conf) = conf_meant(self.world.confs(), interface) else {
+        let Some(conf) = self.world.confs().for_command(interface) else {
             return self.replied(writer, tag, FAIL);
         };
         let bssid = conf.bssid;
@@ -373,7 +361,7 @@ impl<D: Disk + Drop, R: Radio> Standing<D, R> {
         ensures err { IfErr result (IsLineFault number text.now self) }
     {
         exactly_one_line();
-        self.world.shown();
+        self.world.stops();
         match self.parsed(number, text) {
             Ok(line) => self.done(writer, number, &line),
             Err(fault) => self.given_up(fault),

@@ -14,16 +14,16 @@ use apd_disk::Disk;
 use apd_radio::Radio;
 use apd_slot::Slot;
 use apd_store::an_image_shows_one_state;
-use apd_world::World;
+use apd_world::{World, slots_for};
 use std::alloc::{AllocError, Global};
-use std::collections::VecDeque;
 use std::io::Write;
+use std::mem;
 
 /// A slot for each interface, each with a radio from the front; none where there are too few.
 fn fresh_slots<R: Radio>(
     alloc: Global,
     confs: &Confs,
-    spares: &mut VecDeque<R>,
+    spares: &mut Vec<R>,
 ) -> Result<Option<Vec<Slot<R>>>, AllocError>
     ensures slots { IfOk result
         (λ found. IfSome found (λ slots. map bssid_of slots.items ≡ map (λ conf. conf.bssid) confs.now)) }
@@ -31,14 +31,13 @@ fn fresh_slots<R: Radio>(
         (λ found. IfSome found (λ slots. spares.new.items ≡ drop (length confs.now) spares.old.items)) }
     ensures none { IfOk result (λ found. IfNone found (length spares.old.items < length confs.now)) }
 {
-    let mut slots = Vec::new(alloc);
-    for conf in confs.list() {
-        let Some(radio) = spares.pop_front() else {
-            return Ok(None);
-        };
-        slots.push(Slot::new(alloc, radio, conf.bssid))?;
+    let count = confs.list().len();
+    if spares.len() < count {
+        return Ok(None);
     }
-    Ok(Some(slots))
+    let rest = spares.split_off(count)?;
+    let radios = mem::replace(spares, rest);
+    Ok(Some(slots_for(alloc, confs, radios)?))
 }
 
 /// The device of a world that is given up.

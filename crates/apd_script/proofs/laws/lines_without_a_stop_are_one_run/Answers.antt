@@ -1,4 +1,4 @@
-use Rattle.apd_script.proofs.OneRun.{by_lines, by_part}
+use Rattle.apd_script.proofs.Parts.{by_lines, by_part}
 use Rattle.apd_script.proofs.laws.lines_without_a_stop_are_one_run.Goals as goal
 
 pub returns-clause-lines : goal.returns-clause-lines

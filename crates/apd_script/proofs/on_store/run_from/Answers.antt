@@ -1,8 +1,7 @@
-use Rattle.std.proofs.Common.{IfErr, Err, map, sym, ap, subst, ◌≡◌, ◌∙◌}
-use Rattle.std.proofs.lemmas.Result.{err_from_is_err_and}
+use Rattle.std.proofs.Common.{map, ◌≡◌}
 use Rattle.apd_slot.specs.Slots.{bssid_of}
 use Rattle.apd_script.specs.declared.on_store.TheConstants.{STOPS}
-use Rattle.apd_script.proofs.OnStore.{fails_before, fails_on, runs_on}
+use Rattle.apd_script.proofs.OnStore.{fails_on, runs_on}
 use Rattle.apd_script.proofs.on_store.run_from.Goals as goal
 
 pub returns-clause-ok : goal.returns-clause-ok

@@ -1,7 +1,6 @@
-use Rattle.apd_script.proofs.Calling.{flushes}
+use Rattle.std.proofs.Common.{refl}
+use Rattle.std.proofs.lemmas.Result.{IfOk-weaker}
 use Rattle.apd_script.proofs.script.standing.Standing.flush.Goals as goal
 
 pub returns : goal.returns
-returns g c =
-    flushes g.D.Disk.model g.R.Radio.model (λ answers. answers.items) c.args.self.now c.flush.new.self
-    c.flush.ensures.safe c.flush.result c.flush.ensures.flushed
+returns g c = λ none. IfOk-weaker c.flush.result _ _ (λ all h. record { none = none; answers = all.items; flushed = h; only = refl }) c.flush.ensures.flushed

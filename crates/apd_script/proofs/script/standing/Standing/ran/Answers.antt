@@ -1,13 +1,11 @@
 use Rattle.apd_script.specs.Lines.{said}
 use Rattle.apd_script.proofs.Doing.{line_fault, says_ok}
-use Rattle.apd_script.proofs.Safely.{none_safely}
 use Rattle.apd_script.proofs.script.standing.Standing.ran.Goals as goal
 
 pub returns-in-Ok-clause-ok : goal.returns-in-Ok-clause-ok
 returns-in-Ok-clause-ok g c =
     says_ok g.D.Disk.model g.R.Radio.model c.done.result c.args.number c.args.text.now (said c.in-Ok.line) c.args.self c.in-Ok.ensures.ok
-    (none_safely g.D.Disk.model g.R.Radio.model c.args.self.world c.shown.ensures (λ image honest left. g.met.D.Disk.only_now _ image honest left))
-    c.done.ensures.ok
+    c.stops.ensures c.done.ensures.ok
 
 pub returns-in-Ok-clause-err : goal.returns-in-Ok-clause-err
 returns-in-Ok-clause-err g c =

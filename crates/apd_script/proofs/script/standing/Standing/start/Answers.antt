@@ -1,7 +1,6 @@
-use Rattle.apd_script.proofs.Calling.{starts}
+use Rattle.std.proofs.Common.{refl}
+use Rattle.std.proofs.lemmas.Result.{IfOk-weaker}
 use Rattle.apd_script.proofs.script.standing.Standing.start.Goals as goal
 
 pub returns : goal.returns
-returns g c =
-    starts g.D.Disk.model g.R.Radio.model (λ answers. answers.items) c.args.self.now c.start.new.self
-    c.start.ensures.safe c.start.result c.start.ensures.started
+returns g c = IfOk-weaker c.start.result _ _ (λ all h. record { answers = all.items; started = h; only = refl }) c.start.ensures.started
