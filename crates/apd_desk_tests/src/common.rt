@@ -4,6 +4,7 @@ ghost use Rattle.std.specs.Prelude.{◌≡◌};
 use apd_base::{Addr, Bssid, Moment};
 use apd_conf::{AddressList, Conf, Confs};
 use apd_core::{Accepted, Core, Input};
+use apd_ctrl::Query;
 use apd_desk::{Clock, NoGate, Seat, Shared, flush_worker};
 use apd_disk::{Disk, MemDisk};
 use apd_flusher::Flusher;
@@ -98,6 +99,16 @@ pub(crate) fn enters_both(core: &mut Core) -> bool {
         && enters(core, Input::Received(WLAN0, &ASSOCIATION))
 }
 
+/// A core at which a station associates, which is not settled.
+pub(crate) fn asked(alloc: Global) -> Option<Core> {
+    let mut core = started(alloc)?;
+    if enters_both(&mut core) {
+        Some(core)
+    } else {
+        None
+    }
+}
+
 /// Commits what is not settled, as one batch without a switch.
 pub(crate) fn settles<D: Disk>(core: &mut Core, flusher: &mut Flusher<D>) -> bool {
     let Ok(Some(batch)) = core.take() else {
@@ -114,9 +125,9 @@ pub(crate) fn settles<D: Disk>(core: &mut Core, flusher: &mut Flusher<D>) -> boo
 
 /// A core at which a station associated, which is settled and not handed out.
 pub(crate) fn associated(alloc: Global) -> Option<Core> {
-    let mut core = started(alloc)?;
+    let mut core = asked(alloc)?;
     let mut flusher = memory_flusher(alloc)?;
-    if enters_both(&mut core) && settles(&mut core, &mut flusher) {
+    if settles(&mut core, &mut flusher) {
         Some(core)
     } else {
         None
@@ -160,6 +171,14 @@ pub(crate) fn submits<L: Ledger, W: Wait>(
 ) -> bool {
     let answer = shared.submit(rt, seat, Input::Received(WLAN0, frame), Moment(0));
     matches!(answer, Ok(Accepted::Entry(_)))
+}
+
+/// Whether that station is there, as a seat is told.
+pub(crate) fn is_told<L: Ledger, W: Wait>(rt: &W, shared: &Shared<L>, seat: &mut Seat<L>) -> bool {
+    match shared.ask(rt, seat, Query::First(WLAN0)) {
+        Ok(answer) => answer.text() == FIRST,
+        Err(_) => false,
+    }
 }
 
 /// Tells all to stop, and commits what is not settled. Whether there was a flusher.

@@ -6,6 +6,8 @@ mod accepting_tests;
 #[cfg(test)]
 mod association_tests;
 #[cfg(test)]
+mod committer_tests;
+#[cfg(test)]
 mod common;
 #[cfg(test)]
 mod control_tests;

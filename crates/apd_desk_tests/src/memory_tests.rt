@@ -1,10 +1,9 @@
 // A commit that is refused memory. Where memory is ample nothing is refused; by hand each allocation is refused in turn.
 ghost use Rattle.std.specs.Prelude.{◌≡◌};
 
-use crate::common::{FIRST, WLAN0, enters_both, memory_flusher, share, started};
+use crate::common::{asked, is_told, memory_flusher, share};
 use apd_core::Core;
-use apd_ctrl::Query;
-use apd_desk::{NoGate, Seat, Shared, flush_worker};
+use apd_desk::{NoGate, Shared, flush_worker};
 use apd_disk::MemDisk;
 use apd_flusher::Flusher;
 use std::alloc::Global;
@@ -12,15 +11,6 @@ use std::marker::Brand;
 use std::sync::Wait;
 use std::sync::ledger::{Blank, Ledger};
 use std::time::Clock;
-
-fn asked(alloc: Global) -> Option<Core> {
-    let mut core = started(alloc)?;
-    if enters_both(&mut core) {
-        Some(core)
-    } else {
-        None
-    }
-}
 
 // A core at which a station associates, which is not settled.
 fn unsettled(alloc: Global) -> Option<Core> {
@@ -34,13 +24,6 @@ fn new_flusher(alloc: Global) -> Option<Flusher<MemDisk>> {
     match memory_flusher(alloc) {
         Some(flusher) => Some(flusher),
         None => memory_flusher(alloc),
-    }
-}
-
-fn is_told<L: Ledger, W: Wait>(rt: &W, shared: &Shared<L>, seat: &mut Seat<L>) -> bool {
-    match shared.ask(rt, seat, Query::First(WLAN0)) {
-        Ok(answer) => answer.text() == FIRST,
-        Err(_) => false,
     }
 }
 

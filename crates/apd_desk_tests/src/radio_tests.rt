@@ -33,16 +33,21 @@ fn serve<L: Ledger, W: Wait + time::Clock, R: Radio, C: Clock, G: Gate>(
     Some(seat)
 }
 
-// What a radio is told that meets want of memory once, at the first of the outs that wait. All are told to stop before
-// the first of them.
-fn told<L: Ledger, W: Wait + time::Clock>(rt: &W, alloc: Global, blank: Blank) -> Option<Vec<u8>>
+// What a radio is told that meets want of memory so many times, at the first of the outs that wait. All are told to stop
+// before the first of them.
+fn told<L: Ledger, W: Wait + time::Clock>(
+    rt: &W,
+    alloc: Global,
+    blank: Blank,
+    times: u64,
+) -> Option<Vec<u8>>
     requires name { blank.name ≡ L.name }
     requires parts { blank.parts ≡ L.parts }
     requires all { blank.parts ≡ 65536 }
 {
     let shared: Shared<L> = share(associated(alloc), blank)?;
     let mut written = Vec::new(alloc);
-    write_told(rt, alloc, &shared, &mut written)?;
+    write_told(rt, alloc, &shared, times, &mut written)?;
     Some(written)
 }
 
@@ -50,12 +55,13 @@ fn write_told<L: Ledger, W: Wait + time::Clock>(
     rt: &W,
     alloc: Global,
     shared: &Shared<L>,
+    times: u64,
     written: &mut Vec<u8>,
 ) -> Option<()> {
     let recording = Recording::new(alloc, Sim::new(alloc), written);
     let radio = Short {
         inner: recording,
-        was_short: false,
+        times,
     };
     serve(rt, alloc, shared, radio, &[], &Still, &NoGate)?;
     Some(())
@@ -70,10 +76,13 @@ down
 "
 }
 
+// Sixty times in a row are more than a worker looks again before it waits.
 #[test]
 fn no_out_is_lost_at_want_of_memory_or_at_a_stop(rt: HostRuntime) {
-    let told = told::<Brand, _>(&rt, rt.alloc(), Blank::new(65_536));
-    assert_eq!(rt; told.as_deref(), Some(all_lines()));
+    for times in [0, 1, 60] {
+        let told = told::<Brand, _>(&rt, rt.alloc(), Blank::new(65_536), times);
+        assert_eq!(rt; told.as_deref(), Some(all_lines()), "{times}");
+    }
 }
 
 // Whether a tick at this moment lets a station go.

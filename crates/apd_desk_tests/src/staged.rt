@@ -156,11 +156,11 @@ impl<R: Radio, L: Ledger, W: Wait> Radio for Staged<'_, R, L, W> {
     }
 }
 
-/// The radio inside, which meets want of memory at its first frame, once.
+/// The radio inside, which meets want of memory at its first frame, so many times.
 #[derive(Drop)]
 pub(crate) struct Short<R: Radio> {
     pub(crate) inner: R,
-    pub(crate) was_short: bool,
+    pub(crate) times: u64,
 }
 
 impl<R: Radio> Radio for Short<R> {
@@ -179,8 +179,8 @@ impl<R: Radio> Radio for Short<R> {
     }
 
     fn transmit(&mut self, frame: &[u8]) -> Result<(), RadioFault> {
-        if !self.was_short {
-            self.was_short = true;
+        if self.times > 0 {
+            self.times -= 1;
             return Err(RadioFault::NoMemory);
         }
         self.inner.transmit(frame)

@@ -3,6 +3,8 @@
 #![tactic(auto)]
 
 #[cfg(test)]
+mod committer_tests;
+#[cfg(test)]
 mod common;
 #[cfg(test)]
 mod disk_tests;
@@ -13,11 +15,15 @@ mod flusher_tests;
 #[cfg(test)]
 mod journal_tests;
 #[cfg(test)]
+mod queue_tests;
+#[cfg(test)]
 mod radio_tests;
 #[cfg(test)]
 mod slot_calls;
 #[cfg(test)]
 mod slot_memory_tests;
+#[cfg(test)]
+mod slot_samples;
 #[cfg(test)]
 mod slot_tests;
 #[cfg(test)]

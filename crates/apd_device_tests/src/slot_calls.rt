@@ -5,10 +5,27 @@ use apd_radio::Radio;
 use apd_record::Change;
 use apd_slot::{Slot, SlotFault};
 use apd_table::{Table, TableFault};
-use std::alloc::Global;
+use std::alloc::{AllocError, Global};
 
 pub(crate) fn apply<R: Radio>(slot: &mut Slot<R>, out: &Out) -> Result<(), SlotFault> {
     slot.apply(out)
+}
+
+pub(crate) fn make_room<R: Radio>(slot: &mut Slot<R>, count: usize) -> Result<(), AllocError> {
+    slot.make_room(count)
+}
+
+/// Makes room for outs, and puts them behind those that wait.
+pub(crate) fn queue<R: Radio>(slot: &mut Slot<R>, outs: Vec<Out>) -> Result<(), AllocError> {
+    slot.make_room(outs.len())?;
+    slot.queue(outs);
+    Ok(())
+}
+
+pub(crate) fn apply_next<R: Radio>(
+    slot: &mut Slot<R>,
+) -> Option<Result<(Out, Result<(), SlotFault>), AllocError>> {
+    slot.apply_next()
 }
 
 pub(crate) fn resume<R: Radio>(

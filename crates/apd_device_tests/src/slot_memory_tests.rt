@@ -1,6 +1,6 @@
 //! Slots that are refused memory: each call is made once more, and has to come to the same. Where memory is ample
 //! nothing is refused; by hand each allocation is refused in turn.
-use crate::slot_calls::{apply, change, replace, resume};
+use crate::slot_calls::{apply, apply_next, change, make_room, queue, replace, resume};
 use apd_base::{AclMode, Addr, Aid, Association, Bssid, Policy, Station, StationNumber};
 use apd_mlme::Out;
 use apd_radio::{Radio, Sim};
@@ -85,6 +85,58 @@ fn an_out_that_is_refused_memory_changes_nothing(rt: HostRuntime) -> Result<(), 
     let mut slot = Slot::new(alloc, Sim::new(alloc), WLAN0);
     assert!(rt; installs_all(&mut slot).is_some());
     assert!(rt; is_up_with(&slot, STATIONS));
+    Ok(())
+}
+
+/// The outs that install the stations from one on, up to another. What memory is refused for is asked once more.
+fn installations(alloc: Global, from: u8, to: u8) -> Option<Vec<Out>> {
+    let mut outs = Vec::new(alloc);
+    if outs.reserve(STATIONS as usize).is_err() {
+        outs.reserve(STATIONS as usize).ok()?;
+    }
+    for number in from..to {
+        let aid = Aid::new(identifier(number, STATIONS)?)?;
+        outs.push(Out::Install(station(number), aid)).ok()?;
+    }
+    Some(outs)
+}
+
+/// Puts outs behind so many that wait. Where memory is refused these wait still.
+fn queues<R: Radio>(slot: &mut Slot<R>, outs: Vec<Out>, waiting: usize) -> Option<()> {
+    if make_room(slot, outs.len()).is_err() && slot.waiting() != waiting {
+        return None;
+    }
+    queue(slot, outs).ok()
+}
+
+/// Applies the next out, which installs the station behind the first so many. Where memory is refused nothing has
+/// changed, and it is still the first.
+fn applies_next<R: Radio>(slot: &mut Slot<R>, count: u8) -> Option<()> {
+    let waiting = slot.waiting();
+    let (_out, answer) = match apply_next(slot)? {
+        Err(_) if is_up_with(slot, count) && slot.waiting() == waiting => apply_next(slot)?.ok()?,
+        applied => applied.ok()?,
+    };
+    answer.ok()
+}
+
+/// Queues the installation of each station in two parts, and applies each.
+fn applies_all<R: Radio>(alloc: Global, slot: &mut Slot<R>) -> Option<()> {
+    queues(slot, installations(alloc, 0, 7)?, 0)?;
+    queues(slot, installations(alloc, 7, STATIONS)?, 7)?;
+    for count in 0..STATIONS {
+        applies_next(slot, count)?;
+    }
+    Some(())
+}
+
+#[test]
+fn an_out_that_waits_stays_first_where_memory_is_refused(rt: HostRuntime) -> Result<(), Fail> {
+    let alloc = rt.alloc();
+    let mut slot = Slot::new(alloc, Sim::new(alloc), WLAN0);
+    assert!(rt; applies_all(alloc, &mut slot).is_some());
+    assert!(rt; is_up_with(&slot, STATIONS));
+    assert_eq!(rt; slot.waiting(), 0);
     Ok(())
 }
 

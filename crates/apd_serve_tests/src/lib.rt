@@ -5,6 +5,8 @@
 #[cfg(test)]
 mod clock_tests;
 #[cfg(test)]
+mod ending_tests;
+#[cfg(test)]
 mod hearing;
 #[cfg(test)]
 mod recording_tests;

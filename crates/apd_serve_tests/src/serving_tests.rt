@@ -1,5 +1,4 @@
 use crate::hearing::Hearing;
-use crate::short_radio::Short;
 use crate::stage::{HeldGate, Stage, StageClock};
 use crate::talk::{
     ASSOCIATED, ASSOCIATION, AUTHENTICATED, AUTHENTICATION, CONTROL, DATA, DISASSOCIATED, Datagram,
@@ -41,7 +40,7 @@ const FAILED: &str =
     "[ERROR apd] device fault: nothing more is made durable, and what would change the table is refused; end it, see to the disk, and start it again\n";
 
 /// A device call that doesn't come.
-const NEVER: u64 = u64::MAX;
+pub(crate) const NEVER: u64 = u64::MAX;
 
 /// How many calls come before the first of the first request's commit: a recovery has two, and the commit of the start four.
 const STARTED: u64 = 6;
@@ -57,7 +56,7 @@ fn conf(alloc: Global) -> Result<Conf, Fail> {
 }
 
 /// A new store in memory, whose device fails the call after so many.
-fn disk(alloc: Global, calls: u64) -> Result<OnceDisk<MemDisk>, Fail> {
+pub(crate) fn disk(alloc: Global, calls: u64) -> Result<OnceDisk<MemDisk>, Fail> {
     let disk = MemDisk::new(alloc, vec![in alloc; 0u8; LENGTH]?)?;
     match format(alloc, disk) {
         Ok(store) => Ok(OnceDisk::new(store.into_device(), calls)),
@@ -66,7 +65,7 @@ fn disk(alloc: Global, calls: u64) -> Result<OnceDisk<MemDisk>, Fail> {
 }
 
 /// The world of the one configuration over this disk, with this radio.
-fn world<R: Radio>(
+pub(crate) fn world<R: Radio>(
     alloc: Global,
     disk: OnceDisk<MemDisk>,
     radio: R,
@@ -87,10 +86,10 @@ fn world<R: Radio>(
 
 /// What is said while it serves and when it has ended. Its device fails the call after so many.
 #[derive(Clone, Copy)]
-struct Scene<'a> {
-    lines: &'a [Line],
-    after: &'a [Line],
-    calls: u64,
+pub(crate) struct Scene<'a> {
+    pub(crate) lines: &'a [Line],
+    pub(crate) after: &'a [Line],
+    pub(crate) calls: u64,
 }
 
 /// What `serve` answers in a scene, and how many of its lines were said.
@@ -236,7 +235,7 @@ fn an_answer_waits_for_its_commit_and_the_start_for_nothing(rt: HostRuntime) -> 
 }
 
 /// What is told in a scene by the stage's clock.
-fn staged<R: Net + Wait + Threads + time::Clock + Log + Sync>(
+pub(crate) fn staged<R: Net + Wait + Threads + time::Clock + Log + Sync>(
     rt: &R,
     alloc: Global,
     scene: Scene<'_>,
@@ -245,29 +244,6 @@ fn staged<R: Net + Wait + Threads + time::Clock + Log + Sync>(
     let stage = Stage::new(held);
     let clock = StageClock { rt, stage: &stage };
     served(rt, alloc, scene, &stage, clock, &NoGate)
-}
-
-#[test]
-fn what_is_accepted_at_the_end_is_committed_and_answered(rt: HostRuntime) -> Result<(), Fail> {
-    // Each of three workers asks the clock, and gets its moment when the one that commits has ended.
-    let scene = Scene {
-        lines: &[
-            Line::Sends(0, RADIO, Datagram::Hex(AUTHENTICATION)),
-            Line::Sends(
-                1,
-                CONTROL,
-                Datagram::Text("DENY_ACL ADD_MAC 02:00:00:00:00:ab"),
-            ),
-            Line::Asked(3),
-        ],
-        after: &[
-            Line::Gets(0, RADIO, Datagram::Hex(AUTHENTICATED)),
-            Line::Gets(1, CONTROL, Datagram::Text("OK\n")),
-        ],
-        calls: NEVER,
-    };
-    assert_eq!(rt; staged(&rt, rt.alloc(), scene, true)?, (Ok(2), 5));
-    Ok(())
 }
 
 #[test]
@@ -287,28 +263,6 @@ fn a_silent_station_goes(rt: HostRuntime) -> Result<(), Fail> {
         calls: NEVER,
     };
     assert_eq!(rt; staged(&rt, rt.alloc(), scene, false)?, (Ok(3), 7));
-    Ok(())
-}
-
-#[test]
-fn an_answer_that_lacked_memory_is_given_at_the_end(rt: HostRuntime) -> Result<(), Fail> {
-    let (stage, alloc) = (Stage::new(true), rt.alloc());
-    let lines = [
-        Line::Sends(0, RADIO, Datagram::Hex(AUTHENTICATION)),
-        Line::Asked(2),
-    ];
-    let port = free_ports(&rt, 1)?;
-    let mut talk = Talk::new(&rt, alloc, port, &lines, &stage)?;
-    let control = ControlPort::open(&rt, alloc, port)?;
-    let radio = Short::new(UdpSim::new(&rt, alloc, port.wrapping_add(RADIO))?);
-    let world = world(alloc, disk(alloc, NEVER)?, radio)?;
-    let clock = StageClock {
-        rt: &rt,
-        stage: &stage,
-    };
-    let answer = serve(&rt, alloc, world, control, clock, &NoGate, &mut talk);
-    talk.say(&[Line::Gets(0, RADIO, Datagram::Hex(AUTHENTICATED))]);
-    assert_eq!(rt; (answer, talk.said()), (Ok(1), 3));
     Ok(())
 }
 

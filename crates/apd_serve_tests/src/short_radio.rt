@@ -1,23 +1,46 @@
-//! A radio that lacks memory once.
+//! A radio that lacks memory for a while.
 ghost use Rattle.apd_radio.specs.Model.{inside};
 
+use crate::stage::Stage;
 use apd_base::Addr;
 use apd_radio::{Radio, RadioFault};
 
-/// A radio over another one, which lacks memory for the first frame that it is to send, and for no other.
+/// A radio over another one, which lacks memory so often when it is to send a frame, and so often when a station is to
+/// be installed. The stage counts each frame that it is to send behind a station that it didn't install.
 #[derive(Drop)]
-pub(crate) struct Short<R: Radio> {
+pub(crate) struct Short<'a, R: Radio> {
     inner: R,
-    lacks: bool,
+    frames: u32,
+    stations: u32,
+    // Whether the last station met want of memory.
+    waits: bool,
+    stage: &'a Stage,
 }
 
-impl<R: Radio> Short<R> {
-    pub(crate) fn new(inner: R) -> Short<R> {
-        Short { inner, lacks: true }
+impl<'a, R: Radio> Short<'a, R> {
+    pub(crate) fn new(inner: R, frames: u32, stations: u32, stage: &'a Stage) -> Short<'a, R> {
+        Short {
+            inner,
+            frames,
+            stations,
+            waits: false,
+            stage,
+        }
     }
 }
 
-impl<R: Radio> Radio for Short<R> {
+/// Takes one off, if there is one. Tells whether there was.
+fn lacks(count: &mut u32) -> bool {
+    match count.checked_sub(1) {
+        Some(rest) => {
+            *count = rest;
+            true
+        }
+        None => false,
+    }
+}
+
+impl<R: Radio> Radio for Short<'_, R> {
     ghost model = { inside R.model (λ radio. radio.inner) };
 
     ghost frames = { λ radio. R.frames radio.inner };
@@ -27,6 +50,10 @@ impl<R: Radio> Radio for Short<R> {
     }
 
     fn install(&mut self, addr: Addr, aid: u16) -> Result<(), RadioFault> {
+        self.waits = lacks(&mut self.stations);
+        if self.waits {
+            return Err(RadioFault::NoMemory);
+        }
         self.inner.install(addr, aid)
     }
 
@@ -35,8 +62,10 @@ impl<R: Radio> Radio for Short<R> {
     }
 
     fn transmit(&mut self, frame: &[u8]) -> Result<(), RadioFault> {
-        if self.lacks {
-            self.lacks = false;
+        if self.waits {
+            self.stage.note_hole();
+        }
+        if lacks(&mut self.frames) {
             return Err(RadioFault::NoMemory);
         }
         self.inner.transmit(frame)

@@ -10,12 +10,14 @@ use std::time::{self, Duration};
 /// How long a clock that was held stays so after it is let go, in milliseconds.
 const LATER: u64 = 300;
 
-/// Whether something is held, the moment in milliseconds, and how often it was asked for.
+/// Whether something is held, the moment in milliseconds, how often it was asked for, and how many frames were to be
+/// sent behind a station that was not installed.
 #[derive(Drop)]
 pub(crate) struct Stage {
     held: AtomicBool,
     moment: AtomicU64,
     asked: AtomicU64,
+    holes: AtomicU64,
 }
 
 impl Stage {
@@ -25,6 +27,7 @@ impl Stage {
             held: AtomicBool::new(held),
             moment: AtomicU64::new(0),
             asked: AtomicU64::new(0),
+            holes: AtomicU64::new(0),
         }
     }
 
@@ -41,6 +44,16 @@ impl Stage {
     /// How often the clock was asked.
     pub(crate) fn asked(&self) -> u64 {
         self.asked.load(SeqCst)
+    }
+
+    /// A frame was to be sent behind a station that was not installed.
+    pub(crate) fn note_hole(&self) {
+        self.holes.fetch_add(1, SeqCst);
+    }
+
+    /// How many were.
+    pub(crate) fn holes(&self) -> u64 {
+        self.holes.load(SeqCst)
     }
 
     // Waits for as long as it is held. Tells whether it was.

@@ -5,6 +5,7 @@ use apd_conf::{Conf, Confs};
 use apd_core::Core;
 use apd_disk::{Disk, MemDisk};
 use apd_flusher::Flusher;
+use apd_mlme::{Out, Recipient};
 use apd_radio::{Radio, Sim};
 use apd_slot::Slot;
 use apd_store::{Store, format};
@@ -71,12 +72,46 @@ pub(crate) fn refusal<D: Disk, R: Radio>(world: &mut World<D, R>) -> Option<Worl
     world.start().err()
 }
 
+/// What is told, each with its recipient.
+pub(crate) type Answers = Vec<(Recipient, Told)>;
+
+/// What a start answers.
+pub(crate) fn started_answers<D: Disk, R: Radio>(
+    world: &mut World<D, R>,
+) -> Result<Answers, WorldFault> {
+    world.start()
+}
+
+/// What a flush answers.
+pub(crate) fn flushed<D: Disk, R: Radio>(world: &mut World<D, R>) -> Result<Answers, WorldFault> {
+    world.flush()
+}
+
+/// What a hand-out answers.
+pub(crate) fn handed_out<D: Disk, R: Radio>(
+    world: &mut World<D, R>,
+) -> Result<Answers, WorldFault> {
+    world.hand_out()
+}
+
 /// What these steps tell.
 pub(crate) fn told<D: Disk, R: Radio>(
     world: &mut World<D, R>,
     steps: &[Step<'_>],
 ) -> Option<Vec<Told>> {
     drive(world, steps).ok()
+}
+
+/// Gives a slot an out, beside those that wait.
+pub(crate) fn applies<R: Radio>(slot: &mut Slot<R>, out: &Out) -> Option<()> {
+    slot.apply(out).ok()
+}
+
+/// Puts outs behind those that wait at a slot.
+pub(crate) fn queues<R: Radio>(slot: &mut Slot<R>, outs: Vec<Out>) -> Option<()> {
+    slot.make_room(outs.len()).ok()?;
+    slot.queue(outs);
+    Some(())
 }
 
 /// The device of a world that stops.

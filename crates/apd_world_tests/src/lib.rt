@@ -3,13 +3,21 @@
 #![tactic(auto)]
 
 #[cfg(test)]
+mod answer_tests;
+#[cfg(test)]
 mod calls;
 #[cfg(test)]
 mod driver_tests;
 #[cfg(test)]
 mod failing_tests;
 #[cfg(test)]
+mod flush_tests;
+#[cfg(test)]
 mod memory_tests;
+#[cfg(test)]
+mod parts_tests;
+#[cfg(test)]
+mod refusal_tests;
 #[cfg(test)]
 mod start_tests;
 #[cfg(test)]

@@ -1,9 +1,7 @@
 //! Restarts where memory is refused: each is tried once more, and has to come to the same. Where memory is ample
 //! nothing is refused; by hand each allocation is refused in turn.
 use crate::calls::{Memory, Refused, device, restarted, slots_of, told};
-use crate::steps::{
-    ASSOCIATES, AUTHENTICATES, OTHER, OTHER_ASSOCIATES, OTHER_AUTHENTICATES, STATION, WLAN0, WLAN1,
-};
+use crate::steps::{ASSOCIATIONS, OTHER, STATION, WLAN0, WLAN1};
 use crate::worlds::{confs, sims, started};
 use apd_base::Addr;
 use apd_conf::Confs;
@@ -11,28 +9,14 @@ use apd_disk::{MemDisk, Torn};
 use apd_radio::Sim;
 use apd_slot::{Slot, SlotFault};
 use apd_store::StoreFault;
-use apd_world::{Step, WorldFault};
+use apd_world::WorldFault;
 use std::alloc::Global;
 use std::test::Fail;
 
-/// A station is associated at each radio, which is committed.
-const ASSOCIATED: [Step<'static>; 10] = [
-    AUTHENTICATES,
-    ASSOCIATES,
-    OTHER_AUTHENTICATES,
-    OTHER_ASSOCIATES,
-    Step::Take,
-    Step::Call,
-    Step::Call,
-    Step::Call,
-    Step::Call,
-    Step::Publish,
-];
-
-/// The device after that; none where a step was refused memory.
+/// The device on which a station is associated at each radio; none where a step was refused memory.
 fn settled(alloc: Global) -> Option<MemDisk> {
     let mut world = started(alloc, &[1, 2])?;
-    match told(&mut world, &ASSOCIATED) {
+    match told(&mut world, &ASSOCIATIONS) {
         Some(_) if world.table().rows() == 2 => Some(device(world)),
         _ => None,
     }

@@ -1,14 +1,12 @@
 //! Starts that find a full store, or a device that fails.
-use crate::calls::{Memory, blank_disk, refusal, told};
+use crate::calls::{Memory, blank_disk, refusal};
 use crate::steps::WLAN0;
-use crate::worlds::{new_world, radio, recovered, sims, started, stopped};
-use apd_base::Moment;
-use apd_conf::AddressList;
-use apd_core::{Input, QuietReason};
+use crate::worlds::{configured, new_world, radio, recovered, sims, started, stopped};
+use apd_core::QuietReason;
 use apd_disk::{FuseDisk, MemDisk};
 use apd_radio::Sim;
 use apd_store::StoreFault;
-use apd_world::{Reception, Step, Told, World, WorldFault};
+use apd_world::{Reception, Told, World, WorldFault};
 use std::alloc::Global;
 use std::test::Fail;
 
@@ -23,18 +21,6 @@ fn reception(tolds: &[Told]) -> Option<Reception> {
         Told::Accepted(reception) => Some(*reception),
         _ => None,
     }
-}
-
-/// What is told of a configuration of the ninth BSSID.
-fn configured(alloc: Global, world: &mut Memory) -> Option<Reception> {
-    let none = AddressList::new(alloc);
-    let configure = Input::Configure {
-        bssid: radio(9),
-        accept: &none,
-        deny: &none,
-    };
-    let tolds = told(world, &[Step::Accept(configure, Moment(0))])?;
-    reception(tolds.as_slice())
 }
 
 /// Whether the ninth BSSID has a policy, and whether the first.
@@ -52,8 +38,8 @@ fn ninth(alloc: Global, world: &mut Memory) -> Option<((bool, bool), Reception)>
         return None;
     }
     let policies = have_policies(world);
-    let reception = configured(alloc, world)?;
-    Some((policies, reception))
+    let tolds = configured(alloc, world, 9)?;
+    Some((policies, reception(tolds.as_slice())?))
 }
 
 /// The same of the full store.

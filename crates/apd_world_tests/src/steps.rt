@@ -113,3 +113,29 @@ pub(crate) const COMMITS: [Step<'static>; 7] = [
     Step::Call,
     Step::Publish,
 ];
+
+/// The station authenticates and associates at wlan0, and that is committed.
+pub(crate) const ASSOCIATION: [Step<'static>; 8] = [
+    AUTHENTICATES,
+    ASSOCIATES,
+    Step::Take,
+    Step::Call,
+    Step::Call,
+    Step::Call,
+    Step::Call,
+    Step::Publish,
+];
+
+/// The same, and the other station does so at wlan1.
+pub(crate) const ASSOCIATIONS: [Step<'static>; 10] = [
+    AUTHENTICATES,
+    ASSOCIATES,
+    OTHER_AUTHENTICATES,
+    OTHER_ASSOCIATES,
+    Step::Take,
+    Step::Call,
+    Step::Call,
+    Step::Call,
+    Step::Call,
+    Step::Publish,
+];

@@ -2,12 +2,14 @@
 use crate::calls::{
     Memory, blank_disk, confs_of, core, device, flusher, joined, refusal, restarted, store, told,
 };
-use apd_base::{Addr, Bssid};
-use apd_conf::{Conf, Confs, InterfaceName};
+use crate::steps::WLAN0;
+use apd_base::{Addr, Bssid, Moment};
+use apd_conf::{AddressList, Conf, Confs, InterfaceName};
+use apd_core::Input;
 use apd_disk::{Disk, MemDisk};
-use apd_radio::{Radio, Sim};
+use apd_radio::{Failing, Radio, Sim};
 use apd_slot::Slot;
-use apd_world::{Step, World};
+use apd_world::{Step, Told, World};
 use std::alloc::Global;
 
 /// The BSSID that ends by this byte.
@@ -51,6 +53,14 @@ pub(crate) fn sims(alloc: Global, lasts: &[u8]) -> Option<Vec<Slot<Sim>>> {
     Some(slots)
 }
 
+/// A slot for the first of them, whose radio passes so many calls and fails then.
+pub(crate) fn failing(alloc: Global, calls: u64) -> Option<Vec<Slot<Failing<Sim>>>> {
+    let radio = Failing::new(Sim::new(alloc), calls);
+    let mut slots = Vec::new(alloc);
+    slots.push(Slot::new(alloc, radio, WLAN0)).ok()?;
+    Some(slots)
+}
+
 /// A world on a store that the device is given, of which no interface was started.
 pub(crate) fn new_world<D: Disk + Drop, R: Radio>(
     alloc: Global,
@@ -91,6 +101,21 @@ fn running<R: Radio>(world: World<MemDisk, R>) -> Option<World<MemDisk, R>> {
         None => Some(world),
         Some(_) => None,
     }
+}
+
+/// What is told of the configuration of the interface at the BSSID that ends by this byte.
+pub(crate) fn configured<D: Disk, R: Radio>(
+    alloc: Global,
+    world: &mut World<D, R>,
+    last: u8,
+) -> Option<Vec<Told>> {
+    let none = AddressList::new(alloc);
+    let input = Input::Configure {
+        bssid: radio(last),
+        accept: &none,
+        deny: &none,
+    };
+    told(world, &[Step::Accept(input, Moment(0))])
 }
 
 /// The device after these steps of a world.

@@ -1,0 +1,193 @@
+//! What a start, a flush and a hand-out answer over a radio whose device fails: they end well, and tell it.
+use crate::calls::{
+    Answers, confs_of, flushed, handed_out, restarted, slots_of, started_answers, told,
+};
+use crate::steps::{ASSOCIATES, ASSOCIATION, AUTHENTICATES, STATION, WLAN0};
+use crate::worlds::{conf, failing, started, started_with, stopped};
+use apd_base::AclMode;
+use apd_conf::Confs;
+use apd_disk::MemDisk;
+use apd_mlme::Recipient;
+use apd_radio::{Failing, Radio, Sim};
+use apd_slot::{Slot, SlotFault};
+use apd_world::{Step, Told, World};
+use std::alloc::Global;
+use std::test::Fail;
+
+/// A world with a radio whose device fails.
+type Failed = World<MemDisk, Failing<Sim>>;
+
+/// What is told of a step, in short: of an out that was applied only whether it was.
+#[derive(Clone, Copy, Debug, PartialEq, Eq)]
+enum Said {
+    Queued(usize),
+    Handed(usize),
+    Done,
+    Refused(SlotFault),
+    Other,
+}
+
+/// An answer, with its recipient.
+type Answer = (Recipient, Said);
+
+fn in_short(told: &Told) -> Said {
+    match told {
+        Told::Queued(count) => Said::Queued(*count),
+        Told::Handed(outs) => Said::Handed(outs.len()),
+        Told::Applied(_, Ok(())) => Said::Done,
+        Told::Applied(_, Err(fault)) => Said::Refused(*fault),
+        _ => Said::Other,
+    }
+}
+
+fn all_said(alloc: Global, answers: &Answers) -> Option<Vec<Answer>> {
+    let mut all = Vec::new(alloc);
+    for (to, told) in answers {
+        all.push((*to, in_short(told))).ok()?;
+    }
+    Some(all)
+}
+
+const RADIO: Recipient = Recipient::Radio(WLAN0);
+
+/// What is told of an out at which the slot went down, and of a frame that was not sent.
+const DOWN: Said = Said::Refused(SlotFault::WentDown);
+
+const LOST: Said = Said::Refused(SlotFault::Lost);
+
+/// The answers to a hand-out to the radio, and none to control, where this is told of each out that is applied.
+fn answers_of(alloc: Global, applied: &[Said]) -> Option<Vec<Answer>> {
+    let mut answers = Vec::new(alloc);
+    answers.push((RADIO, Said::Queued(applied.len()))).ok()?;
+    answers.push((Recipient::Control, Said::Handed(0))).ok()?;
+    for said in applied {
+        answers.push((RADIO, *said)).ok()?;
+    }
+    Some(answers)
+}
+
+/// What a flush answers behind these steps.
+fn flush_after(alloc: Global, world: &mut Failed, steps: &[Step<'static>]) -> Option<Vec<Answer>> {
+    let _tolds = told(world, steps)?;
+    all_said(alloc, &flushed(world).ok()?)
+}
+
+/// What a flush answers once a station has authenticated and associated, over a radio that passes so many calls.
+fn flush(alloc: Global, calls: u64) -> Option<Vec<Answer>> {
+    let mut world = started_with(alloc, &[1], failing(alloc, calls)?)?;
+    flush_after(alloc, &mut world, &[AUTHENTICATES, ASSOCIATES])
+}
+
+/// What a hand-out answers once that is committed.
+fn hand_out(alloc: Global, calls: u64) -> Option<Vec<Answer>> {
+    let mut world = started_with(alloc, &[1], failing(alloc, calls)?)?;
+    let _tolds = told(&mut world, &ASSOCIATION)?;
+    all_said(alloc, &handed_out(&mut world).ok()?)
+}
+
+/// How many calls a radio passes, and what is then told of both answers' frames, and of the installation between them.
+type Row = (u64, [Said; 3]);
+
+fn rows() -> [Row; 4] {
+    [
+        (0, [LOST, DOWN, LOST]),
+        (1, [Said::Done, DOWN, LOST]),
+        (2, [Said::Done, Said::Done, LOST]),
+        (3, [Said::Done, Said::Done, Said::Done]),
+    ]
+}
+
+#[test]
+fn a_flush_tells_what_a_radio_was_not_given(rt: HostRuntime) -> Result<(), Fail> {
+    for (calls, applied) in rows() {
+        let found = flush(rt.alloc(), calls).ok_or("it was refused")?;
+        let answers = answers_of(rt.alloc(), &applied).ok_or("memory")?;
+        assert_eq!(rt; found.as_slice(), answers.as_slice(), "{calls}");
+    }
+    Ok(())
+}
+
+#[test]
+fn a_hand_out_tells_what_a_radio_was_not_given(rt: HostRuntime) -> Result<(), Fail> {
+    for (calls, applied) in rows() {
+        let found = hand_out(rt.alloc(), calls).ok_or("it was refused")?;
+        let answers = answers_of(rt.alloc(), &applied).ok_or("memory")?;
+        assert_eq!(rt; found.as_slice(), answers.as_slice(), "{calls}");
+    }
+    Ok(())
+}
+
+/// Whether a flush behind a step tells this of the outs.
+fn tells(alloc: Global, world: &mut Failed, step: Step<'static>, applied: &[Said]) -> Option<bool> {
+    let found = flush_after(alloc, world, &[step])?;
+    Some(found.as_slice() == answers_of(alloc, applied)?.as_slice())
+}
+
+/// Whether each tells what it should, where the station authenticates, associates and does so once more, at a radio
+/// that passes one call.
+fn all_tell(alloc: Global, world: &mut Failed) -> Option<[bool; 4]> {
+    Some([
+        tells(alloc, world, AUTHENTICATES, &[Said::Done])?,
+        tells(alloc, world, ASSOCIATES, &[DOWN, LOST])?,
+        tells(alloc, world, ASSOCIATES, &[LOST])?,
+        tells(alloc, world, Step::Take, &[])?,
+    ])
+}
+
+fn flushes(alloc: Global) -> Option<[bool; 4]> {
+    let mut world = started_with(alloc, &[1], failing(alloc, 1)?)?;
+    all_tell(alloc, &mut world)
+}
+
+#[test]
+fn a_slot_that_is_down_is_told_by_each_flush(rt: HostRuntime) -> Result<(), Fail> {
+    assert_eq!(rt; flushes(rt.alloc()), Some([true, true, true, true]));
+    Ok(())
+}
+
+/// The device of a world in which the station is associated.
+fn device(alloc: Global) -> Option<MemDisk> {
+    stopped(started(alloc, &[1])?, &ASSOCIATION)
+}
+
+/// The interface, at which no station is allowed.
+fn closed(alloc: Global) -> Option<Confs> {
+    let mut conf = conf(alloc, 1)?;
+    conf.macaddr_acl = AclMode::DenyUnlessAccepted;
+    let mut list = Vec::new(alloc);
+    list.push(conf).ok()?;
+    confs_of(list)
+}
+
+/// A world begun anew there, with a radio that passes the installation of the station alone.
+fn begun(alloc: Global) -> Option<Failed> {
+    restarted(alloc, device(alloc)?, closed(alloc)?, failing(alloc, 1)?).ok()
+}
+
+/// Whether a slot is up, and the identifier under which the station is wanted, and installed.
+type Seen = (bool, Option<u16>, Option<u16>);
+
+fn seen<R: Radio>(slots: &[Slot<R>]) -> Option<Seen> {
+    let slot = slots.first()?;
+    Some((slot.is_up(), slot.wanted(STATION), slot.installed(STATION)))
+}
+
+/// What its start answers, how many rows it has then, and what is seen of its slot.
+fn start(alloc: Global) -> Option<(Vec<Answer>, usize, Option<Seen>)> {
+    let mut world = begun(alloc)?;
+    let answers = all_said(alloc, &started_answers(&mut world).ok()?)?;
+    let rows = world.table().rows();
+    Some((answers, rows, seen(&slots_of(world))))
+}
+
+// The station is dropped: its removal fails, and the frame that tells it so is lost.
+#[test]
+fn a_start_tells_what_a_radio_was_not_given(rt: HostRuntime) -> Result<(), Fail> {
+    let alloc = rt.alloc();
+    let (answers, rows, slot) = start(alloc).ok_or("it was refused")?;
+    let all = answers_of(alloc, &[DOWN, LOST]).ok_or("memory")?;
+    assert_eq!(rt; answers.as_slice(), all.as_slice());
+    assert_eq!(rt; rows, 0);
+    assert_eq!(rt; slot, Some((false, None, Some(1))));
+    Ok(())
+}

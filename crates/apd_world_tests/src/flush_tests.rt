@@ -1,0 +1,78 @@
+//! Flushes over a device that fails: they end by the store's fault, and never by want of memory.
+use crate::calls::{blank_disk, flushed, handed_out, refusal, told};
+use crate::steps::AUTHENTICATES;
+use crate::worlds::{failing, new_world, sims};
+use apd_disk::{Disk, FuseDisk, OnceDisk};
+use apd_radio::Radio;
+use apd_slot::Slot;
+use apd_store::StoreFault;
+use apd_world::{World, WorldFault};
+use std::alloc::Global;
+use std::test::Fail;
+
+/// Why a flush is refused; none where it is not.
+fn refused<D: Disk, R: Radio>(world: &mut World<D, R>) -> Option<WorldFault> {
+    flushed(world).err()
+}
+
+/// Why three flushes are refused, and a hand-out behind them.
+type Refusals = ([Option<WorldFault>; 3], Option<WorldFault>);
+
+/// The same of a started world, once a station has authenticated.
+fn refusals<D: Disk, R: Radio>(world: &mut World<D, R>) -> Option<Refusals> {
+    let _tolds = told(world, &[AUTHENTICATES])?;
+    let flushes = [refused(world), refused(world), refused(world)];
+    Some((flushes, handed_out(world).err()))
+}
+
+/// The same of a world on a store that the device is given, whose start is not refused.
+fn refusals_over<D: Disk + Drop, R: Radio>(
+    alloc: Global,
+    disk: D,
+    slots: Vec<Slot<R>>,
+) -> Option<Refusals> {
+    let mut world = new_world(alloc, disk, &[1], slots)?;
+    match refusal(&mut world) {
+        Some(_) => None,
+        None => refusals(&mut world),
+    }
+}
+
+/// Over a device that passes this many calls, and fails for good then.
+fn over_fuse(alloc: Global, passes: u64) -> Option<Refusals> {
+    let disk = FuseDisk::new(blank_disk(alloc)?, passes);
+    refusals_over(alloc, disk, sims(alloc, &[1])?)
+}
+
+/// Over one that fails the call behind this many alone.
+fn over_once(alloc: Global, passes: u64) -> Option<Refusals> {
+    let disk = OnceDisk::new(blank_disk(alloc)?, passes);
+    refusals_over(alloc, disk, sims(alloc, &[1])?)
+}
+
+/// The same, with a radio that fails at once.
+fn over_both(alloc: Global, passes: u64) -> Option<Refusals> {
+    let disk = OnceDisk::new(blank_disk(alloc)?, passes);
+    refusals_over(alloc, disk, failing(alloc, 0)?)
+}
+
+// The store is formatted by seven calls, and a batch is committed by four: that of the start, and the station's.
+#[test]
+fn a_flush_tells_which_fault_of_the_store_ends_it(rt: HostRuntime) -> Result<(), Fail> {
+    let alloc = rt.alloc();
+    let device = Some(WorldFault::Store(StoreFault::Device));
+    let failed = Some(WorldFault::Store(StoreFault::Failed));
+    for (passes, flushes) in [
+        (11, [device, failed, failed]),
+        (12, [device, failed, failed]),
+        (13, [device, failed, failed]),
+        (14, [device, failed, failed]),
+        (15, [None, None, None]),
+    ] {
+        let found = Some((flushes, None));
+        assert_eq!(rt; over_fuse(alloc, passes), found, "{passes}");
+        assert_eq!(rt; over_once(alloc, passes), found, "{passes}");
+        assert_eq!(rt; over_both(alloc, passes), found, "{passes}");
+    }
+    Ok(())
+}

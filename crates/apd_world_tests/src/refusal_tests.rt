@@ -1,0 +1,125 @@
+//! Restarts that a radio refuses: which slot is told, and what is left of it, of those before it and of those behind.
+use crate::calls::{Refused, applies, queues, restarted, slots_of};
+use crate::steps::{ASSOCIATIONS, OTHER, STATION, WLAN0, WLAN1};
+use crate::worlds::{confs, radio, recovered, started, stopped};
+use apd_base::{Addr, Aid};
+use apd_disk::MemDisk;
+use apd_mlme::Out;
+use apd_radio::{Failing, Sim};
+use apd_slot::{Slot, SlotFault};
+use apd_world::WorldFault;
+use std::alloc::Global;
+use std::test::Fail;
+
+type Used = Slot<Failing<Sim>>;
+
+/// A station that each radio has before.
+const EARLIER: Addr = Addr([2, 0, 0, 0, 0, 0xcc]);
+
+/// One whose installation waits.
+const LATER: Addr = Addr([2, 0, 0, 0, 0, 0xdd]);
+
+/// Has a station installed, and queues the installation of another one.
+fn uses(alloc: Global, slot: &mut Used) -> Option<()> {
+    applies(slot, &Out::Install(EARLIER, Aid::new(7)?))?;
+    let mut outs = Vec::new(alloc);
+    outs.push(Out::Install(LATER, Aid::new(8)?)).ok()?;
+    queues(slot, outs)
+}
+
+/// A slot that was used so, whose radio passes so many calls more.
+fn used(alloc: Global, last: u8, calls: u64) -> Option<Used> {
+    let radio_of = Failing::new(Sim::new(alloc), calls.checked_add(1)?);
+    let mut slot = Slot::new(alloc, radio_of, radio(last));
+    uses(alloc, &mut slot)?;
+    Some(slot)
+}
+
+/// Three of them.
+fn three(alloc: Global, calls: [u64; 3]) -> Option<Vec<Used>> {
+    let [first, second, third] = calls;
+    let mut slots = Vec::new(alloc);
+    slots.push(used(alloc, 1, first)?).ok()?;
+    slots.push(used(alloc, 2, second)?).ok()?;
+    slots.push(used(alloc, 3, third)?).ok()?;
+    Some(slots)
+}
+
+/// Whether a slot is up, how many outs wait, and the identifiers under which the earlier station and that of the table
+/// are wanted, and installed.
+type Seen = (bool, usize, [Option<u16>; 2], [Option<u16>; 2]);
+
+fn seen_at(slot: &Used, station: Addr) -> Seen {
+    (
+        slot.is_up(),
+        slot.waiting(),
+        [slot.wanted(EARLIER), slot.installed(EARLIER)],
+        [slot.wanted(station), slot.installed(station)],
+    )
+}
+
+/// A slot as it was, one that has resumed, also at a BSSID without stations, and one that has not.
+const AS_BEFORE: Seen = (true, 1, [Some(7), Some(7)], [None, None]);
+
+const RESUMED: Seen = (true, 0, [None, None], [Some(1), Some(1)]);
+
+const EMPTY: Seen = (true, 0, [None, None], [None, None]);
+
+const DOWN: Seen = (false, 1, [Some(7), None], [None, None]);
+
+/// What is seen of the three slots.
+fn seen(slots: &[Used]) -> Option<[Seen; 3]> {
+    Some([
+        seen_at(slots.first()?, STATION),
+        seen_at(slots.get(1)?, OTHER),
+        seen_at(slots.get(2)?, OTHER),
+    ])
+}
+
+/// A device on which a station is associated at the first radio, another at the second, and none at the third.
+fn device(alloc: Global) -> Option<MemDisk> {
+    stopped(started(alloc, &[1, 2, 3])?, &ASSOCIATIONS)
+}
+
+/// What a restart is refused with there.
+fn refused(alloc: Global, calls: [u64; 3]) -> Option<Refused<Failing<Sim>>> {
+    let confs = confs(alloc, &[1, 2, 3])?;
+    restarted(alloc, device(alloc)?, confs, three(alloc, calls)?).err()
+}
+
+/// Why it is refused, what is seen of the slots, and how many rows another restart finds.
+fn refusal_of(alloc: Global, calls: [u64; 3]) -> Option<(WorldFault, [Seen; 3], usize)> {
+    let (device, slots, fault) = refused(alloc, calls)?;
+    let world = recovered(alloc, device, &[1, 2, 3])?;
+    Some((fault, seen(&slots)?, world.table().rows()))
+}
+
+#[test]
+fn a_radio_that_fails_is_told_and_leaves_those_behind(rt: HostRuntime) -> Result<(), Fail> {
+    let down = SlotFault::WentDown;
+    for (calls, bssid, slots) in [
+        ([0, 9, 9], WLAN0, [DOWN, AS_BEFORE, AS_BEFORE]),
+        ([9, 0, 9], WLAN1, [RESUMED, DOWN, AS_BEFORE]),
+        ([1, 0, 0], WLAN1, [RESUMED, DOWN, AS_BEFORE]),
+    ] {
+        let found = refusal_of(rt.alloc(), calls).ok_or("it was not refused")?;
+        let fault = WorldFault::Slot(bssid, down);
+        assert_eq!(rt; found, (fault, slots, 2), "{calls:?}");
+    }
+    Ok(())
+}
+
+/// What is seen of the slots behind a restart that is not refused.
+fn begun(alloc: Global, calls: [u64; 3]) -> Option<[Seen; 3]> {
+    let confs = confs(alloc, &[1, 2, 3])?;
+    let world = restarted(alloc, device(alloc)?, confs, three(alloc, calls)?).ok()?;
+    seen(&slots_of(world))
+}
+
+// It is asked for nothing but to be taken down.
+#[test]
+fn a_radio_without_stations_refuses_nothing(rt: HostRuntime) -> Result<(), Fail> {
+    let found = begun(rt.alloc(), [1, 1, 0]).ok_or("it was refused")?;
+    assert_eq!(rt; found, [RESUMED, RESUMED, EMPTY]);
+    Ok(())
+}
