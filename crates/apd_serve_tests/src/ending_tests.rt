@@ -4,7 +4,8 @@ use crate::serving_tests::{NEVER, Scene, disk, staged, world};
 use crate::short_radio::Short;
 use crate::stage::{Stage, StageClock};
 use crate::talk::{
-    ASSOCIATED, ASSOCIATION, AUTHENTICATED, AUTHENTICATION, CONTROL, Datagram, Line, RADIO, Talk, free_ports,
+    ASSOCIATED, ASSOCIATION, AUTHENTICATED, AUTHENTICATION, CONTROL, Datagram, Line, RADIO, Talk,
+    free_ports,
 };
 use apd_base::{Addr, Bssid, Moment};
 use apd_core::Input;
@@ -25,8 +26,7 @@ use std::time;
 const LONG: u32 = 1_200;
 
 /// What is told where memory lacks to the end.
-const NOT_HANDED_OUT: &str =
-    "[ERROR apd] out of memory: not all that is durable was answered\n";
+const NOT_HANDED_OUT: &str = "[ERROR apd] out of memory: not all that is durable was answered\n";
 
 #[test]
 fn what_is_accepted_at_the_end_is_committed_and_answered(rt: HostRuntime) -> Result<(), Fail> {
@@ -92,10 +92,7 @@ fn ended<R: Net + Wait + Threads + time::Clock + AllocGlobal + Log + Sync>(
     after: Line,
 ) -> Result<(Result<u64, ServeFault>, usize), Fail> {
     let alloc = rt.alloc();
-    let lines = [
-        Line::Sends(0, RADIO, Datagram::Hex(frame)),
-        Line::Asked(2),
-    ];
+    let lines = [Line::Sends(0, RADIO, Datagram::Hex(frame)), Line::Asked(2)];
     let mut talk = Talk::new(rt, alloc, port, &lines, stage)?;
     let control = ControlPort::open(rt, alloc, port)?;
     let clock = StageClock { rt, stage };
@@ -135,7 +132,14 @@ fn nothing_is_sent_behind_a_station_that_lacks_memory(rt: HostRuntime) -> Result
     let mut world = short_world(&rt, port, 0, LONG, &stage)?;
     authenticate(rt.alloc(), &mut world)?;
     let hearing = Hearing::new(rt, rt.alloc());
-    let (answer, said) = ended(&hearing, port, world, &stage, ASSOCIATION, Line::GetsNothing(0))?;
+    let (answer, said) = ended(
+        &hearing,
+        port,
+        world,
+        &stage,
+        ASSOCIATION,
+        Line::GetsNothing(0),
+    )?;
     assert_eq!(rt; (answer, stage.holes()), (Ok(1), 0));
     // A worker that is still there to give it tries until it is installed.
     let wanted = if said == 3 { NOT_HANDED_OUT } else { "" };

@@ -10,5 +10,5 @@ returns-then-not-is_handed-clause-given g c =
 pub returns-clause-given : goal.returns-clause-given
 returns-clause-given g c =
     given_on g.R.Radio.model _ _ _
-      (given_after g.R.Radio.model _ _ _ c.is_emptied.ensures.served c.is_handed.ensures.given)
-      ([], c.is_emptied-2.ensures.served)
+    (given_after g.R.Radio.model _ _ _ c.is_emptied.ensures.served c.is_handed.ensures.given)
+    ([], c.is_emptied-2.ensures.served)
