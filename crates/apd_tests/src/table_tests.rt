@@ -356,22 +356,52 @@ fn pointed(alloc: Global) -> Result<Table, Fail> {
 }
 
 #[test]
-fn cursors_are_copied_and_read_back(rt: HostRuntime) -> Result<(), Fail> {
+fn a_copy_has_the_cursors(rt: HostRuntime) -> Result<(), Fail> {
     let alloc = rt.alloc();
-    let table = pointed(alloc)?;
-    assert_eq!(rt; next_free(&table.copy(alloc)?, BSSID), Some(2007));
-    let changes = table.snapshot(alloc)?;
+    let copy = pointed(alloc)?.copy(alloc)?;
+    assert_eq!(rt; next_free(&copy, BSSID), Some(2007));
+    Ok(())
+}
+
+// The first four changes.
+fn first_four(changes: &[Change]) -> Option<[Change; 4]> {
+    match changes {
+        [first, second, third, fourth, ..] => Some([*first, *second, *third, *fourth]),
+        _ => None,
+    }
+}
+
+#[test]
+fn a_snapshot_has_the_cursors_behind_the_policies(rt: HostRuntime) -> Result<(), Fail> {
+    let alloc = rt.alloc();
+    let changes = pointed(alloc)?.snapshot(alloc)?;
+    let front = first_four(changes.as_slice()).ok_or("four changes")?;
     let other = open(bssid_of(0))?;
-    let firsts = [open(BSSID)?, other, point(BSSID, 2006)?];
-    assert_eq!(rt; changes.as_slice()[..3], firsts[..]);
-    assert_eq!(rt; (changes.len(), changes[3]), (7, add(Which::Accept, 9)));
-    let records = write(alloc, changes.as_slice())?;
+    let last = point(BSSID, 2006)?;
+    assert_eq!(rt; front, [open(BSSID)?, other, last, add(Which::Accept, 9)]);
+    assert_eq!(rt; changes.len(), 7);
+    Ok(())
+}
+
+// The table that the records of changes lead to.
+fn read_back(alloc: Global, changes: &[Change]) -> Result<Table, Fail> {
+    let records = write(alloc, changes)?;
     let read = read_all(alloc, records.as_slice())?.ok_or("records")?;
-    let mut made = Table::new(alloc);
-    assert_eq!(rt; apply_all(alloc, &mut made, read.as_slice()), Ok(()));
-    assert_eq!(rt; made.snapshot(alloc)?.as_slice(), changes.as_slice());
-    assert_eq!(rt; next_free(&made, BSSID), Some(2007));
-    assert_eq!(rt; next_free(&made, bssid_of(0)), Some(1));
+    let mut table = Table::new(alloc);
+    let made = apply_all(alloc, &mut table, read.as_slice());
+    made.ok().ok_or("changes of a table")?;
+    Ok(table)
+}
+
+#[test]
+fn cursors_are_read_back(rt: HostRuntime) -> Result<(), Fail> {
+    let alloc = rt.alloc();
+    let changes = pointed(alloc)?.snapshot(alloc)?;
+    let table = read_back(alloc, changes.as_slice())?;
+    assert_eq!(rt; next_free(&table, BSSID), Some(2007));
+    assert_eq!(rt; next_free(&table, bssid_of(0)), Some(1));
+    let again = table.snapshot(alloc)?;
+    assert_eq!(rt; again.as_slice(), changes.as_slice());
     Ok(())
 }
 
