@@ -6,7 +6,7 @@ ghost use Rattle.apd_script.specs.Script.{AreRun, IsProperAt, IsScriptRun, Start
 ghost use Rattle.apd_script.specs.declared.script.standing.Standing.{Standing};
 ghost use Rattle.apd_world.specs.Proper.{IsProper, IsSafe};
 ghost use Rattle.apd_world.specs.SafelyMade.{LosesNothingSince};
-ghost use Rattle.apd_world.specs.Starting.{HasGoneOn};
+ghost use Rattle.apd_world.specs.Ending.{HasGoneOn};
 ghost use Rattle.apd_world.specs.WorldParts.{durable_of};
 ghost use Rattle.apd_world.specs.declared.step.Step.{Step};
 ghost use Rattle.apd_world.specs.declared.step.Told.{Told};

@@ -135,6 +135,7 @@ impl<R: Radio> Slot<R> {
     pub fn make_room(&mut self, count: usize) -> Result<(), AllocError>
         ensures room { OnOk result (HasRoomFor count self.new) }
         ensures idle { queue_of self.old ≡ [] → IsOk result }
+        ensures lacks { OnErr result (1 ≤ count) }
         ensures same { SameButRoom self.old self.new }
         ensures wanted_then { wanted_then self.new ≡ wanted_then self.old }
     {

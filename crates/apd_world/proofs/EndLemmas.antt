@@ -11,7 +11,7 @@ use Rattle.apd_core.specs.declared.publish_fault.PublishFault.TheVariants as pub
 use Rattle.apd_flusher.specs.Committing.{IsInStep}
 use Rattle.apd_flusher.specs.declared.phase.Phase.TheVariants.{Done, Idle}
 use Rattle.apd_world.specs.StepsMade.{AreSettled}
-use Rattle.apd_world.specs.Starting.{Ends, HasEnded, HasFailedCore, IsEnd, IsNoOtherRefusal}
+use Rattle.apd_world.specs.Ending.{Ends, HasEnded, HasFailedCore, IsEnd, IsNoOtherRefusal}
 use Rattle.apd_world.specs.WorldRun.{AreWorldSteps}
 use Rattle.apd_world.specs.declared.fault.WorldFault.TheVariants as world_fault
 use Rattle.apd_world.specs.declared.step.Commit.TheVariants as commit

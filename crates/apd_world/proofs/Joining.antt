@@ -7,9 +7,9 @@ use Rattle.apd_world.proofs.Goings.{goes_unchanged}
 use Rattle.apd_world.proofs.SlotLemmas.{slot_goes, slot_is}
 use Rattle.apd_world.proofs.StepLemmas.{step_unchanged}
 
--- inside, memory is lacking or nothing is asked for
-lacking : {D : Type 0} (b : Bssid) (d : DurableCore D) → IsStep (Hand (Radio b)) NoMemory d d
-lacking b d = step_unchanged (Hand (Radio b)) NoMemory d d refl (tt, refl) (goes_unchanged d.core) refl
+-- inside, nothing is asked for
+not_asked : {D : Type 0} (b : Bssid) (d : DurableCore D) → IsStep (Hand (Radio b)) Nothing d d
+not_asked b d = step_unchanged (Hand (Radio b)) Nothing d d refl refl (goes_unchanged d.core) refl
 
 passed_over : {D : Type 0} (b : Bssid) (d : DurableCore D) → IsStep (Apply b) Nothing d d
 passed_over b d = step_unchanged (Apply b) Nothing d d refl refl (goes_unchanged d.core) refl
@@ -17,7 +17,7 @@ passed_over b d = step_unchanged (Apply b) Nothing d d refl refl (goes_unchanged
 module _ {D R : Type 0} (radio : RadioModel R) (b : Bssid) where
   -- without a slot nothing is done
   pub no_slot_joins : (w : World D R) → HasNoSlot b w → IsWorldStep radio (Hand (Radio b)) Nothing w w
-  no_slot_joins w none = record { inside = NoMemory; durable = lacking b (durable_of w); joins = (none, refl) }
+  no_slot_joins w none = record { inside = Nothing; durable = not_asked b (durable_of w); joins = (none, refl) }
 
   pub nothing_joins : (w : World D R) → HasNoSlot b w → IsWorldStep radio (Apply b) Nothing w w
   nothing_joins w none = record { inside = Nothing; durable = passed_over b (durable_of w); joins = (ap queue_if none, refl) }

@@ -89,7 +89,7 @@ module _ {D R : Type 0} (radio : RadioModel R) (old new : World D R) where
   pub moved : (b : Bssid) (step : Step) (inside told : Told) → Joins radio step inside told old new → MovedAt b (applied b step told) (given (Radio b) step inside)
   moved b (Hand (Radio c)) (Handed outs) (Queued count) h = goes_moved b c (AreQueued outs) (λ t. []) (λ t. cond t outs []) refl refl (queued outs) h.1
   moved b (Hand (Radio c)) NoMemory NoMemory h = goes_moved b c SameButRoom (λ t. []) (λ t. []) refl refl same_but_room h
-  moved b (Hand (Radio c)) NoMemory Nothing h = rest_moved b h.1
+  moved b (Hand (Radio c)) Nothing Nothing h = rest_moved b h.1
   moved b (Hand (Radio c)) inside told h = absurd h
   moved b (Hand Control) (Handed outs) told h = rest_moved b h.1
   moved b (Hand Control) inside told h = rest_moved b h.1
@@ -136,7 +136,7 @@ module _ {D R : Type 0} (radio : RadioModel R) (old new : World D R) where
   pub exact : (step : Step) (inside told : Told) → Joins radio step inside told old new → AreExact radio (slots_of old) → AreExact radio (slots_of new)
   exact (Hand (Radio c)) (Handed outs) (Queued count) h = goes_exact c (AreQueued outs) (λ was now q. same_exact was now q.same.radio q.same.wanted q.same.up) h.1
   exact (Hand (Radio c)) NoMemory NoMemory h = goes_exact c SameButRoom (λ was now q. same_exact was now q.radio q.wanted q.up) h
-  exact (Hand (Radio c)) NoMemory Nothing h = rest_exact h.1
+  exact (Hand (Radio c)) Nothing Nothing h = rest_exact h.1
   exact (Hand (Radio c)) inside told h = absurd h
   exact (Hand Control) inside told h = rest_exact h.1
   exact (Apply c) Nothing Nothing h = rest_exact h.1

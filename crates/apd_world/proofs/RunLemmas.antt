@@ -14,7 +14,10 @@ use Rattle.apd_core.proofs.HeldLemmas.{queue_of-after_hand_other}
 use Rattle.apd_core.specs.declared.publish_fault.PublishFault.{PublishFault}
 use Rattle.apd_core.specs.declared.publish_fault.PublishFault.TheVariants as publish_fault
 use Rattle.apd_world.specs.SafelyMade.{AreMadeInTurn}
-use Rattle.apd_world.specs.Starting.{AreConfiguring, HasGoneOn, IsFlushed, IsHandedOut, IsGiven, IsHanding, IsStarted, applies, asked, recipient_of, rounds}
+use Rattle.apd_world.specs.Ending.{HasGoneOn}
+use Rattle.apd_world.specs.Flushing.{IsFlushed, rounds}
+use Rattle.apd_world.specs.HandingOut.{IsHandedOut, IsGiven, IsHanding, applies, recipient_of}
+use Rattle.apd_world.specs.Starting.{AreConfiguring, IsStarted, asked}
 use Rattle.apd_world.specs.WorldRun.{all_applied, AreWorldSteps, IsWorldRun}
 use Rattle.apd_world.specs.declared.step.Commit.TheVariants as commit
 use Rattle.apd_world.specs.declared.step.Told.TheVariants.{Answered as Read}
@@ -36,7 +39,7 @@ module _ {D R : Type 0} (radio : RadioModel R) (old new : World D R) where
   given_alike : (step : Step) (inside told : Told) → Joins radio step inside told old new → given Control step inside ≡ given Control step told
   given_alike (Hand (Radio b)) (Handed outs) (Queued count) h = refl
   given_alike (Hand (Radio b)) NoMemory NoMemory h = refl
-  given_alike (Hand (Radio b)) NoMemory Nothing h = refl
+  given_alike (Hand (Radio b)) Nothing Nothing h = refl
   given_alike (Hand (Radio b)) inside told h = absurd h
   given_alike (Apply b) inside told h = refl
   given_alike step inside told h = ap (given Control step) (sym h.0)
@@ -266,7 +269,7 @@ module _ {D R : Type 0} (radio : RadioModel R) where
   beside_none (Hand Control) NoMemory t a b beside tells joins = subst IsNoRefusal (sym joins.0) tt
   beside_none (Hand (Radio r)) (Handed outs) (Queued count) a b beside tells joins = tt
   beside_none (Hand (Radio r)) NoMemory NoMemory a b beside tells joins = tt
-  beside_none (Hand (Radio r)) NoMemory Nothing a b beside tells joins = tt
+  beside_none (Hand (Radio r)) Nothing Nothing a b beside tells joins = tt
   beside_none (Hand (Radio r)) i t a b beside tells joins = absurd joins
   beside_none (Apply r) Nothing (Applied out answer) a b beside tells joins = tt
   beside_none (Apply r) Nothing NoMemory a b beside tells joins = tt
@@ -382,6 +385,7 @@ hands_then d e f past step = step ∙ ap (λ (w : DurableCore _). record w { cor
 tells_only : {D : Type 0} (x : Step) (i : Told) (d e : DurableCore D) → IsHanding x → Tells x i d e → OnlyHands d e
 tells_only (Hand r) (Handed outs) d e hands h = h.only ∙ ap (λ (held : HeldOuts). record d { core = record d.core { held = held } }) (sym (ap (λ (w : DurableCore _). w.core.held) h.only))
 tells_only (Hand r) NoMemory d e hands h = same_hands d e h.1
+tells_only (Hand (Radio b)) Nothing d e hands h = same_hands d e h
 tells_only (Hand r) told d e hands h = absurd h
 tells_only (Apply b) Nothing d e hands h = same_hands d e h
 tells_only (Apply b) told d e hands h = absurd h
@@ -412,6 +416,7 @@ ready_kept r q s none = elim (is_or_not r q) [
 keeps_ready : {D : Type 0} (r q : Recipient) (i : Told) (d e : DurableCore D) → Tells (Hand q) i d e → ready_for r d.core ≡ [] → ready_for r e.core ≡ []
 keeps_ready r q (Handed outs) d e h none = ap (λ (w : DurableCore _). ready_for r w.core) h.only ∙ ready_kept r q d.core none
 keeps_ready r q NoMemory d e h none = ap (λ (w : DurableCore _). ready_for r w.core) h.1 ∙ none
+keeps_ready r (Radio b) Nothing d e h none = ap (λ (w : DurableCore _). ready_for r w.core) h ∙ none
 keeps_ready r q told d e h none = absurd h
 
 abbrev pub IsOfSlot : Step → Type 0
@@ -431,7 +436,7 @@ module _ {D R : Type 0} (radio : RadioModel R) where
   gives : (q : Recipient) (i t : Told) (a b : World D R) → Tells (Hand q) i (durable_of a) (durable_of b) → Joins radio (Hand q) i t a b → (t ≡ NoMemory → ⊥) → IsGiven q b
   gives (Radio r) (Handed outs) (Queued count) a b h joins told = inr (ap (λ (w : DurableCore D). ready_for (Radio r) w.core) h.only ∙ ready_none (Radio r) (durable_of a).core)
   gives (Radio r) NoMemory NoMemory a b h joins told = absurd (told refl)
-  gives (Radio r) NoMemory Nothing a b h joins told = inl (no_slot radio a b r (Hand (Radio r)) NoMemory Nothing joins joins.0)
+  gives (Radio r) Nothing Nothing a b h joins told = inl (no_slot radio a b r (Hand (Radio r)) Nothing Nothing joins joins.0)
   gives (Radio r) i t a b h joins told = absurd joins
   gives Control (Handed outs) t a b h joins told = ap (λ (w : DurableCore D). ready_for Control w.core) h.only ∙ ready_none Control (durable_of a).core
   gives Control NoMemory t a b h joins told = absurd (told joins.0)

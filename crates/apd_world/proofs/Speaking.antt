@@ -112,6 +112,7 @@ module _ {D : Type 0} (old new : DurableCore D) where
         failed = λ was. ap (λ (s : CoreState). s.failed) core ∙ was;
       }
   speaks (Hand r) NoMemory h = unchanged old new h.1
+  speaks (Hand (Radio b)) Nothing h = unchanged old new h
   speaks (Ask q) (Answered answer) h =
       let core = ap (λ (w : DurableCore D). w.core) h.only in
       let number = ap (λ (s : CoreState). s.number) core in

@@ -18,7 +18,7 @@ use Rattle.apd_flusher.specs.Outside.{device_of as device_in}
 use Rattle.apd_flusher.specs.declared.phase.Phase.TheVariants as phase
 use Rattle.apd_world.specs.declared.fault.WorldFault.TheVariants as world_fault
 use Rattle.apd_world.specs.Steps.{heard_as}
-use Rattle.apd_world.specs.Telling.{CallTells, HasReady, IsAccepted, IsHanded, IsRead, reception_of}
+use Rattle.apd_world.specs.Telling.{CallTells, IsAccepted, IsHanded, IsRead, reception_of}
 use Rattle.apd_world.proofs.Speaking.{next_core, speaks}
 use Rattle.apd_world.proofs.Standing.{gives_whole, none_some}
 use Rattle.apd_world.proofs.Goings.{goes_beside, goes_entry, goes_handed, goes_published, goes_unchanged}
@@ -39,11 +39,6 @@ module _ {D : Type 0} (step : Step) (told : Told) (old new : DurableCore D) wher
       → Goes (entered old.core.confs old.core.heard step told) (λ r. given r step told) old.core old.core
       → old.core.heard ≡ heard_after old.core.confs (front_of old.core) old.core.heard step told → IsStep step told old new
   step_unchanged is tells goes heard = step_by old.core (ap (λ (w : DurableCore D). w.core) is) tells goes heard
-
--- what is ready
-pub has_ready : (r : Recipient) (s : CoreState) → 1 ≤ length (ready_for r s) → HasReady r s
-has_ready Control s some = some
-has_ready (Radio b) s some = tt
 
 -- ---- a request
 pub record IsRequested (s : CoreState) (m : Moment) (asked : Result Happening QuietReason) (answer : Reception) (next : CoreState) : Type 0 where

@@ -11,7 +11,9 @@ pub use Rattle.apd_world.specs.Round.{ComesTo, IsRound, answer_of, round, said}
 pub use Rattle.apd_world.specs.Run.{AreSteps, IsRun, IsStep}
 pub use Rattle.apd_world.specs.SafelyMade.{AreSafelyMade}
 pub use Rattle.apd_world.specs.Shown.{ShowsEither, ShowsFlight, ShowsFront, flight_of}
-pub use Rattle.apd_world.specs.Starting.{HasGoneUnrefused, IsAtRest, IsNoRefusal, OnlyHands, hands, radio_hands}
+pub use Rattle.apd_world.specs.Ending.{HasGoneUnrefused, IsNoRefusal}
+pub use Rattle.apd_world.specs.Flushing.{IsAtRest}
+pub use Rattle.apd_world.specs.HandingOut.{OnlyHands, hands, radio_hands}
 pub use Rattle.apd_world.specs.StepMade.{IsStepMade}
 pub use Rattle.apd_world.specs.Steps.{Account, account, all_entered, all_given, entered, entered_as, given, heard_after, nothing_yet, one_more}
 pub use Rattle.apd_world.specs.StepsMade.{AreAccepted, AreAllApplied, AreAnswered}

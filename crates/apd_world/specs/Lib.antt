@@ -16,6 +16,9 @@ pub mod WorldParts
 pub mod Shown
 pub mod QueryAnswer
 pub mod Starting
+pub mod Flushing
+pub mod HandingOut
+pub mod Ending
 pub mod Steps
 pub mod Telling
 pub mod WorldRun

@@ -4,7 +4,10 @@ use Rattle.std.specs.List.{All}
 use Rattle.apd_world.specs.Words.{Conf, DiskModel, NoMemory, RadioModel, Recipient, Step, Told, World}
 use Rattle.apd_world.specs.SafelyMade.{AreSafelyMade}
 use Rattle.apd_world.specs.WorldParts.{durable_of, queue_of}
-use Rattle.apd_world.specs.Starting.{AreConfiguring, IsAtRest, IsNoRefusal, applies, recipient_of, rounds}
+use Rattle.apd_world.specs.Ending.{IsNoRefusal}
+use Rattle.apd_world.specs.Flushing.{IsAtRest, rounds}
+use Rattle.apd_world.specs.HandingOut.{applies, recipient_of}
+use Rattle.apd_world.specs.Starting.{AreConfiguring}
 
 module _ {D R : Type 0} (disk : DiskModel D) (radio : RadioModel R) where
   -- steps that configure the interfaces

@@ -107,10 +107,9 @@ pub record IsRead {D : Type 0} (q : Query) (answer : Answer) (old new : DurableC
   pub answer_is : answer ≡ answered old.core q
   pub only : new ≡ record old { told = max old.told answer.number }
 
--- some out is ready for control; a radio's may lack room in its queue before
+-- some out is ready for a recipient
 abbrev pub HasReady : Recipient → CoreState → Type 0
-HasReady Control s = 1 ≤ length (ready_for Control s)
-HasReady (Radio b) s = Unit {0}
+HasReady r s = 1 ≤ length (ready_for r s)
 
 -- ---- any step
 abbrev pub Tells : {D : Type 0} → Step → Told → DurableCore D → DurableCore D → Type 0
@@ -122,6 +121,8 @@ Tells Call Nothing old new = HasNoCall old × (new ≡ old)
 Tells Publish (Published result) old new = IsPublished result old new
 Tells Publish Nothing old new = HasNoReceipt old × (new ≡ old)
 Tells (Hand r) (Handed outs) old new = IsHanded r outs old new
+-- nothing is asked for a radio that isn't there
+Tells (Hand (Radio b)) Nothing old new = new ≡ old
 Tells (Ask q) (Answered answer) old new = IsRead q answer old new
 Tells (Apply b) Nothing old new = new ≡ old
 Tells (Accept i m) NoMemory old new = IsDecided old.core m i × (new ≡ old)

@@ -32,14 +32,14 @@ abbrev pub Joins : {D R : Type 0} → RadioModel R → Step → Told → Told �
 Joins radio (Hand (Radio b)) (Handed outs) (Queued count) old new =
     (count ≡ length outs) × SlotGoes b (AreQueued outs) old new
 Joins radio (Hand (Radio b)) NoMemory NoMemory old new = SlotGoes b SameButRoom old new
-Joins radio (Hand (Radio b)) NoMemory Nothing old new = HasNoSlot b old × RestStays old new
+Joins radio (Hand (Radio b)) Nothing Nothing old new = HasNoSlot b old × RestStays old new
 Joins radio (Hand (Radio b)) inside told old new = ⊥
 Joins radio (Apply b) Nothing Nothing old new = (queue_of old b ≡ []) × RestStays old new
 Joins radio (Apply b) Nothing told old new = SlotGoes b (IsApplied radio told) old new
 Joins radio (Apply b) inside told old new = ⊥
 Joins radio step inside told old new = (told ≡ inside) × RestStays old new
 
--- one step, and what it tells; inside, the durable core makes one, or lacks memory
+-- one step, and what it tells; inside, the durable core makes one
 pub record IsWorldStep {D R : Type 0} (radio : RadioModel R) (step : Step) (told : Told)
     (old new : World D R) : Type 0 where
   pub inside : Told

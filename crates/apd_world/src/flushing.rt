@@ -12,7 +12,7 @@ use apd_radio::Radio;
 use apd_store::StoreFault;
 
 impl<D: Disk> DurableCore<D> {
-    ghost use Rattle.apd_world.specs.Starting.{IsEnd};
+    ghost use Rattle.apd_world.specs.Ending.{IsEnd};
 
     // What commits end with, after a round that came to this. A settled batch ends nothing.
     fn end_by(&self, answer: Commit) -> Option<Result<(), WorldFault>>
@@ -32,7 +32,8 @@ impl<D: Disk, R: Radio> World<D, R> {
     ghost use Rattle.apd_world.specs.StepsMade.{AreSettled};
     ghost use Rattle.apd_world.specs.Proper.{IsWhole};
     ghost use Rattle.apd_world.specs.WorldParts.{durable_of};
-    ghost use Rattle.apd_world.specs.Starting.{HasEnded, HasFailedCore, IsFlushed};
+    ghost use Rattle.apd_world.specs.Ending.{HasEnded, HasFailedCore};
+    ghost use Rattle.apd_world.specs.Flushing.{IsFlushed};
 
     // Commits until nothing is unsettled.
     fn settle(&mut self) -> Result<(), WorldFault>

@@ -17,7 +17,8 @@ pub(crate) type Answers = Vec<(Recipient, Told)>;
 impl<D: Disk, R: Radio> World<D, R> {
     ghost use Rattle.apd_world.specs.StepsMade.{AreAllApplied, AreAnswered};
     ghost use Rattle.apd_world.specs.WorldParts.{durable_of, queue_of};
-    ghost use Rattle.apd_world.specs.Starting.{HasGoneUnrefused, IsHandedOut, IsHanding, OnlyHands, hands, recipient_of};
+    ghost use Rattle.apd_world.specs.Ending.{HasGoneUnrefused};
+    ghost use Rattle.apd_world.specs.HandingOut.{IsHandedOut, IsHanding, OnlyHands, hands, recipient_of};
     ghost use Rattle.apd_world.specs.WorldRun.{IsWorldStep};
 
     #[tactic(auto, using(crate::proofs::RunLemmas::only_hands))]

@@ -8,7 +8,7 @@ ghost use Rattle.apd_world.specs.StepMade.{IsStepMade};
 ghost use Rattle.apd_world.specs.WorldParts.{slot_place};
 
 use crate::durable_core::DurableCore;
-use crate::step::{Step, Told};
+use crate::step::Told;
 use apd_base::Bssid;
 use apd_conf::Confs;
 use apd_disk::Disk;
@@ -74,14 +74,12 @@ pub(crate) fn hand_to<D: Disk, R: Radio>(
     if slot.make_room(durable.ready(to)).is_err() {
         return Told::NoMemory;
     }
-    match durable.step(&Step::Hand(to)) {
-        Told::Handed(outs) => {
-            let count = outs.len();
-            slot.queue(outs.into_vec());
-            Told::Queued(count)
-        }
-        told => told,
-    }
+    let Ok(outs) = durable.hand(to) else {
+        return Told::NoMemory;
+    };
+    let count = outs.len();
+    slot.queue(outs);
+    Told::Queued(count)
 }
 
 /// Applies the first of the outs that wait at a slot.

@@ -14,7 +14,8 @@ impl<D: Disk, R: Radio> World<D, R> {
     ghost use Rattle.apd_world.specs.StepsMade.{AreAccepted};
     ghost use Rattle.apd_world.specs.Proper.{IsWhole};
     ghost use Rattle.apd_world.specs.WorldParts.{durable_of};
-    ghost use Rattle.apd_world.specs.Starting.{HasEnded, HasFailedCore, HasGoneUnrefused, IsStarted};
+    ghost use Rattle.apd_world.specs.Ending.{HasEnded, HasFailedCore, HasGoneUnrefused};
+    ghost use Rattle.apd_world.specs.Starting.{IsStarted};
 
     // Accepts each interface's configuration, with its lists, in order. One that is no entry is passed over.
     fn configure(&mut self) -> Result<(), WorldFault>

@@ -1,11 +1,12 @@
 //! The steps of a durable core.
-ghost use Rattle.std.specs.Prelude.{◌≡◌, ◌⊎◌, ℕ, List, IsSome, take};
+ghost use Rattle.std.specs.Prelude.{◌≡◌, ◌⊎◌, ℕ, List, IfOk, IsSome, OnErr, take};
 ghost use Rattle.apd_mlme.specs.Happening.{Happening};
 ghost use Rattle.apd_mlme.specs.Run.{run};
 ghost use Rattle.apd_store.specs.Image.{Shows};
 ghost use Rattle.apd_flusher.specs.Outside.{phase_of, waiting_receipt};
 ghost use Rattle.apd_world.specs.CoreRun.{AreUnsettled};
 ghost use Rattle.apd_world.specs.declared.step.Step.TheVariants.{Accept, Take, Call, Publish, Hand, Ask, Apply};
+ghost use Rattle.apd_world.specs.declared.step.Told.TheVariants.{Handed, NoMemory};
 ghost use Rattle.apd_world.specs.Telling.{reception_of};
 
 use crate::durable_core::DurableCore;
@@ -15,8 +16,9 @@ use apd_core::{Accepted, Input};
 use apd_ctrl::Query;
 use apd_disk::Disk;
 use apd_flusher::Phase;
-use apd_mlme::Recipient;
+use apd_mlme::{Out, Recipient};
 use apd_store::StoreFault;
+use std::alloc::AllocError;
 
 fn reception(answer: Accepted<'_>) -> Reception
     ensures { result ≡ reception_of answer.entry }
@@ -133,17 +135,16 @@ impl<D: Disk> DurableCore<D> {
         }
     }
 
-    fn hand(&mut self, to: Recipient) -> Told
-        ensures step { IsStep (Hand to) result self.old self.new }
+    /// Gives a recipient what is ready for it: the step of a hand.
+    pub(crate) fn hand(&mut self, to: Recipient) -> Result<Vec<Out>, AllocError>
+        ensures ok { IfOk result (λ outs. IsStep (Hand to) (Handed outs.items) self.old self.new) }
+        ensures err { OnErr result (IsStep (Hand to) NoMemory self.old self.new) }
         ensures safe { IsSafe D.model self.old self.new }
         ensures device { device_of self.new ≡ device_of self.old }
     {
         self.stops();
         self.core.sound();
-        match self.core.hand(to) {
-            Ok(outs) => Told::Handed(Sequence::from_vec(outs)),
-            Err(_) => Told::NoMemory,
-        }
+        self.core.hand(to)
     }
 
     fn ask(&mut self, query: Query) -> Told
@@ -184,7 +185,10 @@ impl<D: Disk> DurableCore<D> {
             Step::Take => self.take(),
             Step::Call => self.call(),
             Step::Publish => self.publish(),
-            Step::Hand(to) => self.hand(to),
+            Step::Hand(to) => match self.hand(to) {
+                Ok(outs) => Told::Handed(Sequence::from_vec(outs)),
+                Err(_) => Told::NoMemory,
+            },
             Step::Ask(query) => self.ask(query),
             Step::Apply(bssid) => self.apply(bssid),
         }

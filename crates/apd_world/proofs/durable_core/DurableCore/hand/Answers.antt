@@ -2,7 +2,7 @@ use Rattle.std.proofs.Common.{◌≡◌, refl, ap, ◌∙◌}
 use Rattle.apd_world.proofs.Words.{CoreState, DurableCore, Hand, NoMemory, flight_of}
 use Rattle.apd_world.proofs.Goings.{goes_unchanged}
 use Rattle.apd_world.proofs.Standing.{safe_beside}
-use Rattle.apd_world.proofs.StepLemmas.{hand_step, has_ready, step_unchanged}
+use Rattle.apd_world.proofs.StepLemmas.{hand_step, step_unchanged}
 use Rattle.apd_world.proofs.durable_core.DurableCore.hand.Goals as goal
 
 pub returns-in-Ok : goal.returns-in-Ok
@@ -10,16 +10,16 @@ returns-in-Ok g c =
     let old = c.args.self.now in
     let new = record old { core = c.hand.new.self } in
     let ok = c.in-Ok.ensures.ok in
-    let step = hand_step old new c.args.to c.from_vec.result c.sound.ensures (record { outs_are = c.from_vec.ensures ∙ c.in-Ok.ensures.outs; only = λ i. record old { core = ok i } }) in
+    let step = hand_step old new c.args.to c.in-Ok.outs.items c.sound.ensures (record { outs_are = c.in-Ok.ensures.outs; only = λ i. record old { core = ok i } }) in
     record {
-      step = step;
+      ok = step;
       safe = safe_beside g.D.Disk.model old new refl (ap (λ (s : CoreState). s.settled) ok) (ap flight_of ok) (ap (λ (s : CoreState). s.failed) ok) c.stops.ensures step.spoken;
       device = refl;
     }
 
-pub returns-in-Err-clause-step : goal.returns-in-Err-clause-step
-returns-in-Err-clause-step g c =
+pub returns-in-Err-clause-err : goal.returns-in-Err-clause-err
+returns-in-Err-clause-err g c =
     let old = c.args.self.now in
     let new : DurableCore _ = record old { core = c.hand.new.self } in
     let same : new ≡ old = λ i. record old { core = c.in-Err.ensures.err i } in
-    step_unchanged (Hand c.args.to) NoMemory old new same (has_ready c.args.to old.core c.in-Err.ensures.lacks, same) (goes_unchanged old.core) refl
+    step_unchanged (Hand c.args.to) NoMemory old new same (c.in-Err.ensures.lacks, same) (goes_unchanged old.core) refl
