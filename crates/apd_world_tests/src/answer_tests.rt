@@ -1,6 +1,6 @@
 //! What a start, a flush and a hand-out answer over a radio whose device fails: they end well, and tell it.
 use crate::calls::{
-    Answers, confs_of, flushed, handed_out, restarted, slots_of, started_answers, told,
+    Answers, confs_of, flushed, handed_out, makes, restarted, slots_of, started_answers,
 };
 use crate::steps::{ASSOCIATES, ASSOCIATION, AUTHENTICATES, STATION, WLAN0};
 use crate::worlds::{conf, failing, started, started_with, stopped};
@@ -10,7 +10,7 @@ use apd_disk::MemDisk;
 use apd_mlme::Recipient;
 use apd_radio::{Failing, Radio, Sim};
 use apd_slot::{Slot, SlotFault};
-use apd_world::{Step, Told, World};
+use apd_world::{Step, Told, World, WorldFault};
 use std::alloc::Global;
 use std::test::Fail;
 
@@ -40,12 +40,20 @@ fn in_short(told: &Told) -> Said {
     }
 }
 
-fn all_said(alloc: Global, answers: &Answers) -> Option<Vec<Answer>> {
+fn all_said(alloc: Global, answers: &[(Recipient, Told)]) -> Option<Vec<Answer>> {
     let mut all = Vec::new(alloc);
     for (to, told) in answers {
         all.push((*to, in_short(told))).ok()?;
     }
     Some(all)
+}
+
+/// The same of a call that is not refused.
+fn said(alloc: Global, answers: Result<Answers, WorldFault>) -> Option<Vec<Answer>> {
+    match answers {
+        Ok(answers) => all_said(alloc, &answers),
+        Err(_) => None,
+    }
 }
 
 const RADIO: Recipient = Recipient::Radio(WLAN0);
@@ -68,8 +76,8 @@ fn answers_of(alloc: Global, applied: &[Said]) -> Option<Vec<Answer>> {
 
 /// What a flush answers behind these steps.
 fn flush_after(alloc: Global, world: &mut Failed, steps: &[Step<'static>]) -> Option<Vec<Answer>> {
-    let _tolds = told(world, steps)?;
-    all_said(alloc, &flushed(world).ok()?)
+    makes(world, steps)?;
+    said(alloc, flushed(world))
 }
 
 /// What a flush answers once a station has authenticated and associated, over a radio that passes so many calls.
@@ -78,11 +86,20 @@ fn flush(alloc: Global, calls: u64) -> Option<Vec<Answer>> {
     flush_after(alloc, &mut world, &[AUTHENTICATES, ASSOCIATES])
 }
 
+/// What a hand-out answers behind these steps.
+fn hand_out_after(
+    alloc: Global,
+    world: &mut Failed,
+    steps: &[Step<'static>],
+) -> Option<Vec<Answer>> {
+    makes(world, steps)?;
+    said(alloc, handed_out(world))
+}
+
 /// What a hand-out answers once that is committed.
 fn hand_out(alloc: Global, calls: u64) -> Option<Vec<Answer>> {
     let mut world = started_with(alloc, &[1], failing(alloc, calls)?)?;
-    let _tolds = told(&mut world, &ASSOCIATION)?;
-    all_said(alloc, &handed_out(&mut world).ok()?)
+    hand_out_after(alloc, &mut world, &ASSOCIATION)
 }
 
 /// How many calls a radio passes, and what is then told of both answers' frames, and of the installation between them.
@@ -172,22 +189,31 @@ fn seen<R: Radio>(slots: &[Slot<R>]) -> Option<Seen> {
     Some((slot.is_up(), slot.wanted(STATION), slot.installed(STATION)))
 }
 
-/// What its start answers, how many rows it has then, and what is seen of its slot.
-fn start(alloc: Global) -> Option<(Vec<Answer>, usize, Option<Seen>)> {
-    let mut world = begun(alloc)?;
-    let answers = all_said(alloc, &started_answers(&mut world).ok()?)?;
+/// What a world's start answers.
+fn start(alloc: Global, world: &mut Failed) -> Option<Vec<Answer>> {
+    said(alloc, started_answers(world))
+}
+
+/// How many rows a world has, and what is seen of its slot.
+fn found(world: Failed) -> (usize, Option<Seen>) {
     let rows = world.table().rows();
-    Some((answers, rows, seen(&slots_of(world))))
+    (rows, seen(&slots_of(world)))
+}
+
+/// What the start of that world answers, and what is found then.
+fn started_anew(alloc: Global) -> Option<(Vec<Answer>, (usize, Option<Seen>))> {
+    let mut world = begun(alloc)?;
+    let answers = start(alloc, &mut world)?;
+    Some((answers, found(world)))
 }
 
 // The station is dropped: its removal fails, and the frame that tells it so is lost.
 #[test]
 fn a_start_tells_what_a_radio_was_not_given(rt: HostRuntime) -> Result<(), Fail> {
     let alloc = rt.alloc();
-    let (answers, rows, slot) = start(alloc).ok_or("it was refused")?;
+    let (answers, found) = started_anew(alloc).ok_or("it was refused")?;
     let all = answers_of(alloc, &[DOWN, LOST]).ok_or("memory")?;
     assert_eq!(rt; answers.as_slice(), all.as_slice());
-    assert_eq!(rt; rows, 0);
-    assert_eq!(rt; slot, Some((false, None, Some(1))));
+    assert_eq!(rt; found, (0, Some((false, None, Some(1)))));
     Ok(())
 }

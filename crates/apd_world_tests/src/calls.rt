@@ -102,6 +102,14 @@ pub(crate) fn told<D: Disk, R: Radio>(
     drive(world, steps).ok()
 }
 
+/// Makes these steps.
+pub(crate) fn makes<D: Disk, R: Radio>(world: &mut World<D, R>, steps: &[Step<'_>]) -> Option<()> {
+    match drive(world, steps) {
+        Ok(_) => Some(()),
+        Err(_) => None,
+    }
+}
+
 /// Gives a slot an out, beside those that wait.
 pub(crate) fn applies<R: Radio>(slot: &mut Slot<R>, out: &Out) -> Option<()> {
     slot.apply(out).ok()

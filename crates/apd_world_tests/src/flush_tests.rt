@@ -1,5 +1,5 @@
 //! Flushes over a device that fails: they end by the store's fault, and never by want of memory.
-use crate::calls::{blank_disk, flushed, handed_out, refusal, told};
+use crate::calls::{blank_disk, flushed, handed_out, makes, refusal};
 use crate::steps::AUTHENTICATES;
 use crate::worlds::{failing, new_world, sims};
 use apd_disk::{Disk, FuseDisk, OnceDisk};
@@ -20,7 +20,7 @@ type Refusals = ([Option<WorldFault>; 3], Option<WorldFault>);
 
 /// The same of a started world, once a station has authenticated.
 fn refusals<D: Disk, R: Radio>(world: &mut World<D, R>) -> Option<Refusals> {
-    let _tolds = told(world, &[AUTHENTICATES])?;
+    makes(world, &[AUTHENTICATES])?;
     let flushes = [refused(world), refused(world), refused(world)];
     Some((flushes, handed_out(world).err()))
 }

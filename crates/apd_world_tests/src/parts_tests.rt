@@ -1,5 +1,5 @@
 //! Slots at which outs wait: what a world that is made of them does with these, and what it gives back.
-use crate::calls::{Memory, blank_disk, queues, slots_of, started_answers, told};
+use crate::calls::{Memory, blank_disk, makes, queues, slots_of, started_answers, told};
 use crate::steps::{AT_WLAN0, AUTHENTICATES, OTHER, STATION, TO_WLAN0, WLAN0};
 use crate::worlds::{configured, new_world};
 use apd_base::Aid;
@@ -78,11 +78,24 @@ fn said_behind(alloc: Global, tolds: &[Told], steps: usize) -> Option<Vec<Said>>
     Some(all)
 }
 
+/// Has the interface configured.
+fn configures(alloc: Global, world: &mut Memory) -> Option<()> {
+    match configured(alloc, world, 1) {
+        Some(_) => Some(()),
+        None => None,
+    }
+}
+
 /// What is told of the hand-out, and of what is applied.
+fn run_on(alloc: Global, world: &mut Memory) -> Option<Vec<Said>> {
+    configures(alloc, world)?;
+    said_behind(alloc, &told(world, &STEPS)?, 7)
+}
+
+/// The same of that world.
 fn run(alloc: Global) -> Option<Vec<Said>> {
     let mut world = world(alloc)?;
-    let _accepted = configured(alloc, &mut world, 1)?;
-    said_behind(alloc, &told(&mut world, &STEPS)?, 7)
+    run_on(alloc, &mut world)
 }
 
 #[test]
@@ -131,12 +144,19 @@ fn seen(slots: &[Slot<Sim>]) -> Option<Seen> {
     Some((slot.waiting(), installed))
 }
 
+/// Makes so many of the steps.
+fn goes_on(alloc: Global, world: &mut Memory, steps: usize) -> Option<()> {
+    configures(alloc, world)?;
+    makes(world, STEPS.get(..steps)?)
+}
+
 /// What is seen of the slot that a world gives back behind so many of the steps.
 fn given_back(alloc: Global, steps: usize) -> Option<Seen> {
     let mut world = world(alloc)?;
-    let _accepted = configured(alloc, &mut world, 1)?;
-    let _tolds = told(&mut world, STEPS.get(..steps)?)?;
-    seen(&slots_of(world))
+    match goes_on(alloc, &mut world, steps) {
+        Some(()) => seen(&slots_of(world)),
+        None => None,
+    }
 }
 
 #[test]
