@@ -28,7 +28,11 @@ module _ {D R : Type 0} (radio : RadioModel R) (b : Bssid) where
     -- what is ready for its radio is handed to it
     pub hand_joins : (told : Told) → QueuesReady b told (durable_of old) (durable_of new) slot after → IsWorldStep radio (Hand (Radio b)) told old new
     hand_joins (Queued count) h = record { inside = Handed h.0; durable = h.1; joins = (h.2, slot_goes b (AreQueued h.0) old new place slot after at is slots h.3.same.bssid h.3) }
-    hand_joins NoMemory h = record { inside = NoMemory; durable = h.0; joins = slot_goes b SameButRoom old new place slot after at is slots h.1.bssid h.1 }
+    hand_joins NoMemory h = record {
+      inside = NoMemory;
+      durable = step_unchanged (Hand (Radio b)) NoMemory (durable_of old) (durable_of new) h.1 (h.0, h.1) (goes_unchanged (durable_of old).core) refl;
+      joins = slot_goes b SameButRoom old new place slot after at is slots h.2.bssid h.2;
+    }
     hand_joins told h = absurd h
 
     -- the first out that waits is applied

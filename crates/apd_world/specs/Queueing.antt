@@ -3,6 +3,7 @@ use Rattle.std.specs.Prelude.{◌≡◌, List, ◌++◌, length}
 use Rattle.apd_world.specs.Words.{Bssid, DurableCore, Hand, Handed, NoMemory, Out, Queued, Radio, SameButRoom, Slot, Told, wanted_after_all, wanted_then}
 use Rattle.apd_slot.specs.Slots.{queue_of, SameButQueue}
 use Rattle.apd_world.specs.Run.{IsStep}
+use Rattle.apd_world.specs.Telling.{HasReady}
 
 -- outs go behind those that wait
 pub record AreQueued {R : Type 0} (outs : List Out) (old new : Slot R) : Type 0 where
@@ -10,9 +11,9 @@ pub record AreQueued {R : Type 0} (outs : List Out) (old new : Slot R) : Type 0 
   pub wanted_then : wanted_then new ≡ wanted_after_all outs (wanted_then old)
   pub same : SameButQueue old new
 
--- what is ready for a radio goes to its slot, and its count is told; or memory is lacking
+-- what is ready for a radio goes to its slot, and its count is told; or memory is lacking, and some is ready
 abbrev pub QueuesReady : {D R : Type 0} → Bssid → Told → DurableCore D → DurableCore D → Slot R → Slot R → Type 0
 QueuesReady b (Queued count) old new slot after = (outs : List Out) × IsStep (Hand (Radio b)) (Handed outs) old new
     × (count ≡ length outs) × AreQueued outs slot after
-QueuesReady b NoMemory old new slot after = IsStep (Hand (Radio b)) NoMemory old new × SameButRoom slot after
+QueuesReady b NoMemory old new slot after = HasReady (Radio b) old.core × (new ≡ old) × SameButRoom slot after
 QueuesReady b told old new slot after = ⊥

@@ -74,12 +74,14 @@ pub(crate) fn hand_to<D: Disk, R: Radio>(
     if slot.make_room(durable.ready(to)).is_err() {
         return Told::NoMemory;
     }
-    let Ok(outs) = durable.hand(to) else {
-        return Told::NoMemory;
-    };
-    let count = outs.len();
-    slot.queue(outs);
-    Told::Queued(count)
+    match durable.hand(to) {
+        Ok(outs) => {
+            let count = outs.len();
+            slot.queue(outs.into_vec());
+            Told::Queued(count)
+        }
+        Err(_) => Told::NoMemory,
+    }
 }
 
 /// Applies the first of the outs that wait at a slot.

@@ -37,6 +37,7 @@ impl<D: Disk> DurableCore<D> {
     ghost use Rattle.apd_world.specs.StepMade.{IsStepMade};
     ghost use Rattle.apd_world.specs.Shown.{ShowsFlight};
     ghost use Rattle.apd_world.specs.Outside.{device_of, flusher_of};
+    ghost use Rattle.apd_world.specs.Telling.{HasReady};
 
     // A step that does nothing is safe. It does nothing.
     pub(crate) fn stops(&self)
@@ -136,15 +137,18 @@ impl<D: Disk> DurableCore<D> {
     }
 
     /// Gives a recipient what is ready for it: the step of a hand.
-    pub(crate) fn hand(&mut self, to: Recipient) -> Result<Vec<Out>, AllocError>
-        ensures ok { IfOk result (λ outs. IsStep (Hand to) (Handed outs.items) self.old self.new) }
+    pub(crate) fn hand(&mut self, to: Recipient) -> Result<Sequence<Out>, AllocError>
+        ensures ok { IfOk result (λ outs. IsStep (Hand to) (Handed outs) self.old self.new) }
         ensures err { OnErr result (IsStep (Hand to) NoMemory self.old self.new) }
-        ensures safe { IsSafe D.model self.old self.new }
-        ensures device { device_of self.new ≡ device_of self.old }
+        ensures lacks { OnErr result (HasReady to self.old.core × (self.new ≡ self.old)) }
+        ensures made { IsStepMade D.model NoMemory self.old self.new }
     {
         self.stops();
         self.core.sound();
-        self.core.hand(to)
+        match self.core.hand(to) {
+            Ok(outs) => Ok(Sequence::from_vec(outs)),
+            Err(short) => Err(short),
+        }
     }
 
     fn ask(&mut self, query: Query) -> Told
@@ -186,7 +190,7 @@ impl<D: Disk> DurableCore<D> {
             Step::Call => self.call(),
             Step::Publish => self.publish(),
             Step::Hand(to) => match self.hand(to) {
-                Ok(outs) => Told::Handed(Sequence::from_vec(outs)),
+                Ok(outs) => Told::Handed(outs),
                 Err(_) => Told::NoMemory,
             },
             Step::Ask(query) => self.ask(query),
