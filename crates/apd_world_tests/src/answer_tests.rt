@@ -49,7 +49,7 @@ fn all_said(alloc: Global, answers: &[(Recipient, Told)]) -> Option<Vec<Answer>>
 }
 
 /// The same of a call that is not refused.
-fn said(alloc: Global, answers: Result<Answers, WorldFault>) -> Option<Vec<Answer>> {
+fn said_if_ok(alloc: Global, answers: Result<Answers, WorldFault>) -> Option<Vec<Answer>> {
     match answers {
         Ok(answers) => all_said(alloc, &answers),
         Err(_) => None,
@@ -77,7 +77,7 @@ fn answers_of(alloc: Global, applied: &[Said]) -> Option<Vec<Answer>> {
 /// What a flush answers behind these steps.
 fn flush_after(alloc: Global, world: &mut Failed, steps: &[Step<'static>]) -> Option<Vec<Answer>> {
     makes(world, steps)?;
-    said(alloc, flushed(world))
+    said_if_ok(alloc, flushed(world))
 }
 
 /// What a flush answers once a station has authenticated and associated, over a radio that passes so many calls.
@@ -93,7 +93,7 @@ fn hand_out_after(
     steps: &[Step<'static>],
 ) -> Option<Vec<Answer>> {
     makes(world, steps)?;
-    said(alloc, handed_out(world))
+    said_if_ok(alloc, handed_out(world))
 }
 
 /// What a hand-out answers once that is committed.
@@ -191,7 +191,7 @@ fn seen<R: Radio>(slots: &[Slot<R>]) -> Option<Seen> {
 
 /// What a world's start answers.
 fn start(alloc: Global, world: &mut Failed) -> Option<Vec<Answer>> {
-    said(alloc, started_answers(world))
+    said_if_ok(alloc, started_answers(world))
 }
 
 /// How many rows a world has, and what is seen of its slot.
