@@ -6,7 +6,7 @@ ghost use Rattle.apd_script.specs.Configured.{AreOfNames, AreReadFrom, IsFaultFr
 
 use apd_base::Sequence;
 use apd_conf::{
-    ConfigurationFault, Confs, FileName, FilesRead, MAX_FILE, configurations, read_conf,
+    ConfFault, ConfigurationFault, Confs, FileName, FilesRead, MAX_FILE, configurations, read_conf,
 };
 use std::alloc::AllocError;
 use std::fs;
@@ -52,8 +52,10 @@ fn read_list_files<R: Files + AllocGlobal>(
     let Some(bytes) = file else {
         return Ok((None, None));
     };
-    let Ok(conf) = read_conf(rt.alloc(), bytes.as_slice()) else {
-        return Ok((None, None));
+    let conf = match read_conf(rt.alloc(), bytes.as_slice()) {
+        Ok(conf) => conf,
+        Err(ConfFault::NoMemory) => return Err(AllocError),
+        Err(_) => return Ok((None, None)),
     };
     let accept = read_list_file(rt, &conf.accept_mac_file)?;
     Ok((accept, read_list_file(rt, &conf.deny_mac_file)?))
