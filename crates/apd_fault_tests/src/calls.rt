@@ -7,9 +7,9 @@ use apd_flusher::Flusher;
 use apd_journal::Batch;
 use apd_radio::Sim;
 use apd_slot::Slot;
-use apd_store::{StoreFault, format, recover};
+use apd_store::{Store, StoreFault, format, recover};
 use apd_table::Table;
-use apd_world::{Step, Told, World, WorldFault, drive, restart};
+use apd_world::{Commit, Step, Told, World, WorldFault, begin_anew, drive, restart, slots_for};
 use std::alloc::Global;
 
 /// What a restart that is refused hands back.
@@ -29,6 +29,14 @@ pub(crate) fn recovered<D: Disk + Drop>(
     Ok(table)
 }
 
+/// The store that a device holds, and its table.
+pub(crate) fn recovered_store<D: Disk + Drop>(
+    alloc: Global,
+    device: D,
+) -> Option<(Store<D>, Table)> {
+    recover(alloc, device).ok()
+}
+
 /// The built-in configuration alone.
 pub(crate) fn confs(alloc: Global) -> Option<Confs> {
     let mut list = Vec::new(alloc);
@@ -44,6 +52,31 @@ pub(crate) fn restarted<D: Disk>(
     slots: Vec<Slot<Sim>>,
 ) -> Result<World<D, Sim>, Refused<D>> {
     restart(alloc, device, confs, slots, Moment(0))
+}
+
+/// A slot for each configuration, with a radio that does nothing.
+pub(crate) fn new_slots(alloc: Global, confs: &Confs) -> Option<Vec<Slot<Sim>>> {
+    let mut radios = Vec::new(alloc);
+    for _conf in confs.list() {
+        radios.push(Sim::new(alloc)).ok()?;
+    }
+    slots_for(alloc, confs, radios).ok()
+}
+
+/// The world of a store that is recovered.
+pub(crate) fn begun<D: Disk + Drop>(
+    alloc: Global,
+    store: Store<D>,
+    table: Table,
+    confs: Confs,
+    slots: Vec<Slot<Sim>>,
+) -> Option<World<D, Sim>> {
+    begin_anew(alloc, store, table, confs, slots, Moment(0)).ok()
+}
+
+/// What a commit comes to.
+pub(crate) fn committed<D: Disk>(world: &mut World<D, Sim>) -> Commit {
+    world.commit()
 }
 
 /// What these steps tell.

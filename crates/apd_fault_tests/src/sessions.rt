@@ -93,27 +93,37 @@ fn see(seen: &mut Seen, told: &Told) {
     }
 }
 
-/// A request is accepted, committed and handed out.
-fn stage<D: Disk>(world: &mut World<D, Sim>, request: Step<'_>, seen: &mut Seen) -> Option<()> {
-    let _accepted = told(world, &[request])?;
-    let tolds = told(world, &COMMITS)?;
-    for told in tolds.iter() {
-        see(seen, told);
-    }
-    Some(())
-}
-
-/// The radio starts, its station authenticates, and associates; until a call of the device fails.
-fn three_commits<D: Disk>(alloc: Global, world: &mut World<D, Sim>) -> Option<Seen> {
+/// The radio is to start.
+pub(crate) fn starts<D: Disk>(alloc: Global, world: &mut World<D, Sim>) -> Option<Vec<Told>> {
     let none = AddressList::new(alloc);
     let input = Input::Configure {
         bssid: WLAN0,
         accept: &none,
         deny: &none,
     };
-    let starts = Step::Accept(input, Moment(0));
+    told(world, &[Step::Accept(input, Moment(0))])
+}
+
+/// Commits what was accepted, and hands it out.
+fn commit<D: Disk>(world: &mut World<D, Sim>, seen: &mut Seen) -> Option<()> {
+    for told in told(world, &COMMITS)?.iter() {
+        see(seen, told);
+    }
+    Some(())
+}
+
+/// A request is accepted, committed and handed out.
+fn stage<D: Disk>(world: &mut World<D, Sim>, request: Step<'_>, seen: &mut Seen) -> Option<()> {
+    let _accepted = told(world, &[request])?;
+    commit(world, seen)
+}
+
+/// The radio starts, its station authenticates, and associates; until a call of the device fails.
+fn three_commits<D: Disk>(alloc: Global, world: &mut World<D, Sim>) -> Option<Seen> {
     let mut seen = NOTHING;
-    for request in [starts, AUTHENTICATES, ASSOCIATES] {
+    let _accepted = starts(alloc, world)?;
+    commit(world, &mut seen)?;
+    for request in [AUTHENTICATES, ASSOCIATES] {
         if seen.faults == 0 {
             stage(world, request, &mut seen)?;
         }
