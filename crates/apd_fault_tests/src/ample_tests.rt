@@ -72,10 +72,11 @@ fn a_half_is_planned_of_changes_that_are_collected(rt: HostRuntime) -> Result<()
     assert_eq!(rt; plan.place, 1);
     assert_eq!(rt;
         plan.bytes.as_slice(),
-        &[
+        [
             2, 1, 0, 0, 0, 0, 0, 0, 26, 0, 0, 0, 2, 2, 0, 0, 0, 0, 2, 2, 0, 0, 0, 0, 0xaa, 2, 2, 0,
             0, 0, 0, 0xaa, 2, 0, 0, 0, 0, 0xaa, 0
         ]
+        .as_slice()
     );
     Ok(())
 }
@@ -86,6 +87,6 @@ fn identifiers_are_kept_by_address(rt: HostRuntime) -> Result<(), Fail> {
     identifiers.insert(STATION, 2)?;
     identifiers.insert(WLAN1.0, 7)?;
     identifiers.insert(STATION, 3)?;
-    assert_eq!(rt; identifiers.rows(), &[(WLAN1.0, 7), (STATION, 3)]);
+    assert_eq!(rt; identifiers.rows(), [(WLAN1.0, 7), (STATION, 3)].as_slice());
     Ok(())
 }

@@ -1,8 +1,8 @@
 //! Each device call of a whole session stopped in turn, and failing in turn: what a world tells behind it, and what a
 //! recovery finds. By public calls alone, over devices of memory.
 //!
-//! No clause says that a call which takes memory succeeds where there is enough of it. So each is made by a test with ample
-//! memory, which compares what it answers:
+//! No clause says that a call which takes memory succeeds where there is enough of it. So each is made by a test with
+//! ample memory, which compares what it answers:
 //!
 //! | Call | The test, and its crate |
 //! |---|---|
@@ -16,13 +16,15 @@
 //! | `Confs::copy`, `InterfaceName::{new, copy}` | `eight_are_taken`, `apd_tests` |
 //! | `Ssid::{new, copy}` | `the_status_is_told`, `eight_configurations_are_copied`, `apd_tests` |
 //! | `read_list` | `addresses_are_added_and_taken_away`, `apd_tests` |
-//! | `configurations`, `read_configurations` | `files_are_read_in_turn_and_the_first_fault_is_told`, `apd_script_tests` |
+//! | `configurations` | the same as of `read_configurations` |
+//! | `read_configurations` | `files_are_read_in_turn_and_the_first_fault_is_told`, `apd_script_tests` |
 //! | `write`, `read_all` | `the_table_of_records`, `apd_tests` |
 //! | `Changes::push`, `plan_half` | `a_half_is_planned_of_changes_that_are_collected`, here |
 //! | `Lists::{add, copy}` | `addresses_are_added_where_memory_is_ample`, `apd_tests` |
 //! | `Table::apply` | `stations_and_policies_are_changed`, `lists_are_changed`, `apd_tests` |
 //! | `Table::apply_all` | `drops_come_behind_no_change_and_behind_one`, `an_association_moves`, `apd_tests` |
-//! | `Table::{addresses, denied_by, denied_after}` | `addresses_are_told`, `apd_tests` |
+//! | `Table::{addresses, denied_after}` | `addresses_are_told`, `apd_tests` |
+//! | `Table::denied_by` | `stations_and_policies_are_changed`, `apd_tests` |
 //! | `Table::copy` | `a_copy_has_the_cursors`, `apd_tests` |
 //! | `Table::snapshot` | `a_snapshot_has_the_cursors_behind_the_policies`, `apd_tests` |
 //! | `Staged::{new, stage}` | `changes_are_staged_and_committed`, `apd_tests` |
@@ -44,19 +46,21 @@
 //! | `Slot::poll` | `a_slot_gives_what_its_radio_received`, the same |
 //! | `Slot::resume` | `a_slot_resumes_its_own_rows_in_order`, the same |
 //! | `Slot::replace` | `each_kind_is_replaced_by_another`, the same |
-//! | `Core::{new, accept, take, publish, hand, read}` | `five_thousand_requests_against_a_plain_list`, `apd_core_tests` |
-//! | `World::step`, `drive`, `restart` | `the_bytes_after_an_authentication`, `apd_world_tests` |
+//! | `Core`, its calls | `five_thousand_requests_against_a_plain_list`, `apd_core_tests` |
+//! | `drive`, `World::step` in it, `restart` | `the_bytes_after_an_authentication`, `apd_world_tests` |
 //! | `World::commit` | `a_commit_settles_all_that_waits`, here |
 //! | `begin_anew`, `slots_for` | `a_world_is_begun_anew`, here |
 //! | `World::{start, flush, hand_out}` | `a_start_tells_what_a_radio_was_not_given`, and its like, `apd_world_tests` |
 //! | `Shared::{submit, ask}` | `each_seat_its_station`, `apd_desk_tests` |
 //! | `Shared::collect` | `what_is_collected_is_what_a_core_hands_out`, `apd_desk_tests` |
-//! | `Shared::hand`, and the workers | `a_frame_is_heard_at_its_moment`, `apd_desk_tests` |
+//! | `radio_worker`, `Shared::hand` in it | `a_frame_is_heard_at_its_moment`, `apd_desk_tests` |
 //! | `ControlPort`, `Senders::add` in it, `serve` | `each_sender_gets_its_own_replies`, `apd_serve_tests` |
-//! | `open_disk`, `run` | `a_second_run_goes_on_where_the_first_ended`, `apd_serve_tests` |
+//! | `run`, `open_disk` in it | `a_second_run_goes_on_where_the_first_ended`, `apd_serve_tests` |
 //! | `run_check` | `a_check_prints_a_line_for_each_bssid_rising`, `apd_script_tests` |
-//! | `new_store`, `run_on_store`, `run_script` | `lists_say_who_is_let_in`, `apd_script_tests` |
-//! | `write_out`, `write_applied` | `driver_calls_are_printed_in_these_words`, `apd_script_tests` |
+//! | `new_store`, `run_on_store` | `lines_end_at_a_newline_alone_and_the_last_needs_none`, `apd_script_tests` |
+//! | `run_script` | `a_stop_takes_a_fresh_radio_from_the_front_for_each_slot`, `apd_script_tests` |
+//! | `write_out` | `driver_calls_are_printed_in_these_words`, `apd_script_tests` |
+//! | `write_applied` | `lost_frames_and_failed_drivers_are_printed_in_these_words`, `apd_script_tests` |
 //! | `write_reception` | `answers_are_printed_in_these_words`, `apd_script_tests` |
 //!
 //! `format`, `run_format` and all other calls of a store and of a flusher take none.
