@@ -73,14 +73,18 @@ pub(crate) fn device_of(alloc: Global, image: &[u8]) -> Option<MemDisk> {
     MemDisk::new(alloc, image.to_vec(alloc).ok()?).ok()
 }
 
+fn write_again(device: &mut MemDisk, at: usize, bytes: &[u8]) -> Option<()> {
+    if at.checked_add(bytes.len())? > device.len() {
+        return None;
+    }
+    device.write_at(at, bytes).ok()
+}
+
 /// Makes a call again, but for a read.
 fn again(device: &mut MemDisk, call: &Call) -> Option<()> {
     match call {
         Call::Read(_, _) => Some(()),
-        Call::Write(at, bytes) if at.checked_add(bytes.len())? <= device.len() => {
-            device.write_at(*at, bytes.as_slice()).ok()
-        }
-        Call::Write(_, _) => None,
+        Call::Write(at, bytes) => write_again(device, *at, bytes.as_slice()),
         Call::Sync => device.sync().ok(),
     }
 }

@@ -1,17 +1,17 @@
 //! How a session begins: a device, its configurations, and the world of its store.
 use crate::ending::say_left;
 use crate::images::{blank_disk, stored_disk};
-use crate::saying::{again, say, say_table};
+use crate::saying::{again, say, say_refusal};
 use crate::world::Memory;
 use apd_base::Moment;
 use apd_conf::{Conf, Confs};
 use apd_disk::MemDisk;
 use apd_radio::Sim;
-use apd_slot::Slot;
+use apd_slot::{Slot, SlotFault};
 use apd_store::{StoreFault, format};
 use apd_world::{WorldFault, restart, slots_for};
 use std::alloc::{AllocError, Global};
-use std::io;
+use std::io::{self, Write};
 
 /// What hands a device back.
 type Refused = (MemDisk, WorldFault);
@@ -49,8 +49,9 @@ pub fn new_store(rt: &impl Print, alloc: Global) -> io::Result<Option<MemDisk>> 
     say(rt, "no store")?;
     match formatted(alloc, disk) {
         Ok(disk) => Ok(Some(disk)),
-        Err((disk, _fault)) => {
-            say_left(rt, alloc, disk, true)?;
+        Err((disk, fault)) => {
+            say_refusal(rt, fault)?;
+            say_left(rt, alloc, disk)?;
             Ok(None)
         }
     }
@@ -134,36 +135,34 @@ fn lacks_memory(fault: WorldFault) -> bool {
         fault,
         WorldFault::NoMemory
             | WorldFault::Store(StoreFault::NoMemory)
-            | WorldFault::Slot(_, apd_slot::SlotFault::NoMemory)
+            | WorldFault::Slot(_, SlotFault::NoMemory)
     )
 }
 
-/// The world of the store that a device holds; none where a call of it failed, and the session has ended.
+/// Says why a restart is refused, and what its device shows.
+fn say_refused(rt: &impl Print, alloc: Global, refused: Refused) -> io::Result<Option<Memory>> {
+    let (disk, fault) = refused;
+    writeln!(io::writer(rt), "{fault}")?;
+    say_left(rt, alloc, disk)?;
+    Ok(None)
+}
+
+/// The world of the store that a device holds; none where it is refused, as where a call of it failed, and the session has
+/// ended.
 pub fn begun(
     rt: &impl Print,
     alloc: Global,
     disk: MemDisk,
     confs: &Confs,
 ) -> io::Result<Option<Memory>> {
-    let (disk, fault) = match tried(rt, alloc, disk, confs)? {
+    let disk = match tried(rt, alloc, disk, confs)? {
         Ok(world) => return Ok(Some(world)),
-        Err(refused) => refused,
+        Err((disk, fault)) if lacks_memory(fault) => disk,
+        Err(refused) => return say_refused(rt, alloc, refused),
     };
-    if !lacks_memory(fault) {
-        say_left(rt, alloc, disk, true)?;
-        return Ok(None);
-    }
     again(rt, "restart")?;
     match tried(rt, alloc, disk, confs)? {
         Ok(world) => Ok(Some(world)),
-        Err((disk, _fault)) => {
-            say_left(rt, alloc, disk, true)?;
-            Ok(None)
-        }
+        Err(refused) => say_refused(rt, alloc, refused),
     }
-}
-
-/// Says what a world begins with.
-pub fn say_begun(rt: &impl Print, world: &Memory) -> io::Result<()> {
-    say_table(rt, world.table())
 }

@@ -26,19 +26,15 @@ fn say_shown(rt: &impl Print, found: Result<Table, (MemDisk, StoreFault)>) -> io
     }
 }
 
-/// Says what a device shows, also that it failed before. Where it fails in the recovery, or that lacks memory, it is
-/// recovered once more.
-pub fn say_left(rt: &impl Print, alloc: Global, disk: MemDisk, failed: bool) -> io::Result<()> {
-    if failed {
-        say(rt, "device fault")?;
-    }
+/// Says what a device shows. Where it fails in the recovery, or that lacks memory, it is recovered once more.
+pub fn say_left(rt: &impl Print, alloc: Global, disk: MemDisk) -> io::Result<()> {
     let found = match recovered(alloc, disk) {
         Err((disk, StoreFault::NoMemory)) => {
             again(rt, "recover")?;
             recovered(alloc, disk)
         }
         Err((disk, StoreFault::Device)) => {
-            say(rt, "device fault")?;
+            say_refusal(rt, StoreFault::Device)?;
             recovered(alloc, disk)
         }
         found => found,
@@ -80,5 +76,5 @@ pub fn end(rt: &impl Print, alloc: Global, world: Memory, calls: Calls) -> io::R
         say_calls(rt, disk.calls(), calls.made)?;
         say_slots(rt, &slots)?;
     }
-    say_left(rt, alloc, disk, calls.failed)
+    say_left(rt, alloc, disk)
 }

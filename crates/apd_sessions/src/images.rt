@@ -38,7 +38,8 @@ pub fn stored_disk(alloc: Global) -> Result<MemDisk, AllocError> {
     bytes.extend_from_slice(b"RAPSTOR1")?;
     pad(&mut bytes, HALF_A)?;
     bytes.extend_from_slice(&[1, 1, 0, 0, 0, 0, 0, 0, 0])?;
-    bytes.extend_from_slice(&(SNAPSHOT.len() as u32).to_le_bytes())?;
+    let length = u32::try_from(SNAPSHOT.len()).unwrap_or(0);
+    bytes.extend_from_slice(&length.to_le_bytes())?;
     bytes.extend_from_slice(SNAPSHOT)?;
     pad(&mut bytes, DEVICE_LENGTH as usize)?;
     MemDisk::new(alloc, bytes)

@@ -50,7 +50,7 @@ pub const ANOTHER_AUTHENTICATES: Step<'static> = Step::Accept(
     Moment(0),
 );
 
-/// The first station asks the second radio for authentication, and for association.
+/// The first station asks the second radio for authentication.
 pub const AUTHENTICATES_ELSEWHERE: Step<'static> = Step::Accept(
     Input::Received(
         WLAN1,
@@ -62,6 +62,7 @@ pub const AUTHENTICATES_ELSEWHERE: Step<'static> = Step::Accept(
     Moment(0),
 );
 
+/// It asks the second radio for association.
 pub const ASSOCIATES_ELSEWHERE: Step<'static> = Step::Accept(
     Input::Received(
         WLAN1,

@@ -1,12 +1,12 @@
 //! The sessions, by name.
-use crate::beginning::{begun, built_in, new_store, say_begun, stored};
+use crate::beginning::{begun, built_in, new_store, stored};
 use crate::ending::end;
 use crate::filed::{check, files, read};
 use crate::requests::{
     ANOTHER_AUTHENTICATES, ASSOCIATES, ASSOCIATES_ELSEWHERE, AUTHENTICATES,
     AUTHENTICATES_ELSEWHERE, command, starts,
 };
-use crate::saying::say;
+use crate::saying::{say, say_table};
 use crate::world::{Calls, Memory, serve, start};
 use apd_conf::Confs;
 use apd_world::Step;
@@ -86,7 +86,7 @@ fn serve_session(
     session: Session,
 ) -> io::Result<Calls> {
     let mut calls = NONE;
-    say_begun(rt, world)?;
+    say_table(rt, world.table())?;
     for conf in confs.list() {
         serve(rt, world, &[starts(conf)], &mut calls)?;
     }
@@ -137,7 +137,7 @@ fn restart<R: Print + Files<File = File> + AllocGlobal>(rt: &R) -> io::Result<()
         return Ok(());
     };
     let mut calls = NONE;
-    say_begun(rt, &world)?;
+    say_table(rt, world.table())?;
     start(rt, &mut world, &mut calls)?;
     end(rt, rt.alloc(), world, calls)
 }

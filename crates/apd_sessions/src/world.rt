@@ -1,6 +1,6 @@
 //! The steps of a session: each is made once more where it lacked memory, and what it told is printed.
 use crate::requests::{COMMITS, WLAN0, WLAN1};
-use crate::saying::{again, say_table};
+use crate::saying::{again, say_refusal, say_table};
 use crate::sum::sum_of;
 use apd_core::PublishFault;
 use apd_disk::MemDisk;
@@ -77,27 +77,20 @@ fn told(rt: &impl Print, world: &mut Memory, step: &Step<'_>) -> io::Result<Told
     Ok(tell(world, step))
 }
 
-/// Counts a call of the device.
-fn count(calls: &mut Calls, told: &Told) {
-    match told {
-        Told::Called(Ok(())) => calls.made = calls.made.saturating_add(1),
-        Told::Called(Err(_)) => calls.failed = true,
-        _ => {}
-    }
-}
-
 /// Makes a step, and prints what it told, and what is settled.
 fn make(rt: &impl Print, world: &mut Memory, step: &Step<'_>, calls: &mut Calls) -> io::Result<()> {
     let told = told(rt, world, step)?;
-    count(calls, &told);
-    if calls.failed {
-        return Ok(());
+    if let Told::Called(Err(fault)) = told {
+        calls.failed = true;
+        return say_refusal(rt, fault);
     }
     writeln!(io::writer(rt), "{told:?}")?;
     match told {
-        Told::Published(_) => say_table(rt, world.table()),
-        _ => Ok(()),
+        Told::Called(_) => calls.made = calls.made.saturating_add(1),
+        Told::Published(_) => say_table(rt, world.table())?,
+        _ => {}
     }
+    Ok(())
 }
 
 /// Makes steps in order, until a call of the device fails.
@@ -146,9 +139,9 @@ pub fn start(rt: &impl Print, world: &mut Memory, calls: &mut Calls) -> io::Resu
     }
     match fault {
         None => say_table(rt, world.table()),
-        Some(_) => {
+        Some(fault) => {
             calls.failed = true;
-            Ok(())
+            writeln!(io::writer(rt), "{fault}")
         }
     }
 }
