@@ -1,0 +1,130 @@
+//! Devices of memory, and what they show.
+use crate::calls::{formatted, recovered};
+use crate::sessions::{STATION, WLAN0};
+use apd_base::{Aid, Association, Station};
+use apd_disk::{Call, Disk, MemDisk};
+use apd_table::Table;
+use std::alloc::Global;
+
+/// How many bytes a device of a store has.
+const LENGTH: usize = 2_097_216;
+
+/// The places of its halves.
+const HALF_A: usize = 64;
+
+const HALF_B: usize = 1_048_640;
+
+/// The record of the radio's policy, and of its station, which is authenticated.
+const POLICY: &[u8] = &[6, 2, 0, 0, 0, 0, 1, 0, 0xd7, 7];
+
+const AUTHENTICATED: &[u8] = &[
+    1, 2, 0, 0, 0, 0, 1, 2, 0, 0, 0, 0, 0xaa, 1, 0, 0, 0, 0, 0, 0,
+];
+
+/// So many of the latter, behind the former, leave a half no room for a group of one more.
+const ROWS: u32 = 52_427;
+
+// No clause says what the disk holds: a proof would go through two million bytes.
+fn blank_disk(alloc: Global) -> Option<MemDisk> {
+    MemDisk::new(alloc, vec![in alloc; 0u8; LENGTH].ok()?).ok()
+}
+
+/// The bytes of a new store, which is formatted by seven calls.
+pub(crate) fn new_image(alloc: Global) -> Option<Vec<u8>> {
+    formatted(alloc, blank_disk(alloc)?)?
+        .bytes()
+        .to_vec(alloc)
+        .ok()
+}
+
+/// Adds zeros up to a length, which no proof meets here.
+fn pad(bytes: &mut Vec<u8>, length: usize) -> Option<()> {
+    bytes.resize(length, 0).ok()
+}
+
+/// Adds an open half of this epoch, whose snapshot has the radio's policy, and its station so many times.
+fn add_half(bytes: &mut Vec<u8>, epoch: u64, rows: u32) -> Option<()> {
+    bytes.push(1).ok()?;
+    bytes.extend_from_slice(&epoch.to_le_bytes()).ok()?;
+    let length = rows.checked_mul(20)?.checked_add(10)?;
+    bytes.extend_from_slice(&length.to_le_bytes()).ok()?;
+    bytes.extend_from_slice(POLICY).ok()?;
+    for _row in 0..rows {
+        bytes.extend_from_slice(AUTHENTICATED).ok()?;
+    }
+    Some(())
+}
+
+/// The bytes of a full store: both halves are open, the older one with the radio's policy alone, and the newer one, of
+/// this epoch, with its station too, and no room for one more group of it.
+pub(crate) fn full_image(alloc: Global, epoch: u64) -> Option<Vec<u8>> {
+    let mut bytes = Vec::new(alloc);
+    bytes.extend_from_slice(b"RAPSTOR1").ok()?;
+    pad(&mut bytes, HALF_A)?;
+    add_half(&mut bytes, 1, 0)?;
+    pad(&mut bytes, HALF_B)?;
+    add_half(&mut bytes, epoch, ROWS)?;
+    pad(&mut bytes, LENGTH)?;
+    Some(bytes)
+}
+
+/// A device that holds these bytes, and has served no call.
+pub(crate) fn device_of(alloc: Global, image: &[u8]) -> Option<MemDisk> {
+    MemDisk::new(alloc, image.to_vec(alloc).ok()?).ok()
+}
+
+fn write_again(device: &mut MemDisk, at: usize, bytes: &[u8]) -> Option<()> {
+    if at.checked_add(bytes.len())? > device.len() {
+        return None;
+    }
+    device.write_at(at, bytes).ok()
+}
+
+/// Makes a call again, but for a read.
+fn again(device: &mut MemDisk, call: &Call) -> Option<()> {
+    match call {
+        Call::Read(_, _) => Some(()),
+        Call::Write(at, bytes) => write_again(device, *at, bytes.as_slice()),
+        Call::Sync => device.sync().ok(),
+    }
+}
+
+/// A device that held these bytes, and has served these calls but for the reads: a stop leaves of it what it leaves of
+/// the one that served them first.
+pub(crate) fn device_after(alloc: Global, image: &[u8], calls: &[Call]) -> Option<MemDisk> {
+    let mut device = device_of(alloc, image)?;
+    for call in calls {
+        again(&mut device, call)?;
+    }
+    Some(device)
+}
+
+/// The station's association by its second request.
+fn association() -> Option<Association> {
+    Some(Association {
+        aid: Aid::new(1)?,
+        capability: 0x0431,
+        listen_interval: 10,
+    })
+}
+
+/// Which table of a session this is: the empty one (0), that of the radio's policy (1), or that with its station too,
+/// authenticated (2) or associated (3).
+pub(crate) fn place_of(table: &Table) -> Option<u64> {
+    let policy = table.policy(WLAN0);
+    let station = table.get(WLAN0, STATION);
+    match (table.bss_count(), table.rows(), policy, station) {
+        (0, 0, None, None) => Some(0),
+        (1, 0, Some((0, 2007)), None) => Some(1),
+        (1, 1, Some((0, 2007)), Some(Station::Authenticated)) => Some(2),
+        (1, 1, Some((0, 2007)), Some(Station::Associated(row))) if Some(row) == association() => {
+            Some(3)
+        }
+        _ => None,
+    }
+}
+
+/// Which table a device shows.
+pub(crate) fn shown<D: Disk + Drop>(alloc: Global, device: D) -> Option<u64> {
+    place_of(&recovered(alloc, device).ok()?)
+}

@@ -1,0 +1,80 @@
+//! A full store of the greatest epoch: it refuses each batch, which waits, and nothing else has failed.
+use crate::calls::{flush_refusal, flusher, told};
+use crate::devices::{device_of, full_image, shown};
+use crate::sessions::{ASSOCIATES, Said, in_short, world};
+use apd_disk::{Disk, MemDisk};
+use apd_radio::Sim;
+use apd_store::StoreFault;
+use apd_world::{Reception, Step, World, WorldFault};
+use std::alloc::Global;
+use std::test::Fail;
+
+fn worn(alloc: Global) -> Option<World<MemDisk, Sim>> {
+    world(alloc, device_of(alloc, &full_image(alloc, u64::MAX)?)?)
+}
+
+/// What is told of a step.
+fn told_of<D: Disk>(world: &mut World<D, Sim>, step: Step<'static>) -> Option<Said> {
+    Some(in_short(told(world, &[step])?.first()?))
+}
+
+/// Steps, and what is told of each: the batch of the first request waits, and the second one is accepted behind it.
+fn rows() -> [(Step<'static>, Said); 8] {
+    let worn = Said::Loaded(Some(StoreFault::Worn));
+    [
+        (Step::Take, Said::Nothing),
+        (ASSOCIATES, Said::Accepted(Reception::Entry(1))),
+        (Step::Take, worn),
+        (Step::Call, Said::Nothing),
+        (Step::Publish, Said::Nothing),
+        (ASSOCIATES, Said::Accepted(Reception::Entry(2))),
+        (Step::Take, worn),
+        (Step::Take, worn),
+    ]
+}
+
+/// The first of these steps of which something else is told, and what.
+fn otherwise<D: Disk>(world: &mut World<D, Sim>) -> Option<(usize, Option<Said>)> {
+    for (place, (step, is)) in rows().iter().enumerate() {
+        let told = told_of(world, *step);
+        if told != Some(*is) {
+            return Some((place, told));
+        }
+    }
+    None
+}
+
+#[test]
+fn a_batch_that_is_refused_waits(rt: HostRuntime) -> Result<(), Fail> {
+    let mut world = worn(rt.alloc()).ok_or("memory")?;
+    assert_eq!(rt; otherwise(&mut world), None);
+    Ok(())
+}
+
+/// Why two flushes are refused behind a request.
+fn refusals<D: Disk>(world: &mut World<D, Sim>) -> Option<[Option<WorldFault>; 2]> {
+    let _accepted = told(world, &[ASSOCIATES])?;
+    Some([flush_refusal(world), flush_refusal(world)])
+}
+
+#[test]
+fn a_flush_tells_that_the_store_is_worn(rt: HostRuntime) -> Result<(), Fail> {
+    let mut world = worn(rt.alloc()).ok_or("memory")?;
+    let worn = Some(WorldFault::Store(StoreFault::Worn));
+    assert_eq!(rt; refusals(&mut world), Some([worn, worn]));
+    Ok(())
+}
+
+/// How many calls the device of such a world has served, and the table that it shows.
+fn left(alloc: Global) -> Option<(usize, Option<u64>)> {
+    let mut world = worn(alloc)?;
+    let _refusals = refusals(&mut world)?;
+    let device = flusher(world).into_device();
+    Some((device.calls().len(), shown(alloc, device)))
+}
+
+// The recovery makes two calls.
+#[test]
+fn no_call_is_made_for_it(rt: HostRuntime) {
+    assert_eq!(rt; left(rt.alloc()), Some((2, Some(2))));
+}

@@ -1,0 +1,168 @@
+//! How a session begins: a device, its configurations, and the world of its store.
+use crate::ending::say_left;
+use crate::images::{blank_disk, stored_disk};
+use crate::saying::{again, say, say_refusal};
+use crate::world::Memory;
+use apd_base::Moment;
+use apd_conf::{Conf, Confs};
+use apd_disk::MemDisk;
+use apd_radio::Sim;
+use apd_slot::{Slot, SlotFault};
+use apd_store::{StoreFault, format};
+use apd_world::{WorldFault, restart, slots_for};
+use std::alloc::{AllocError, Global};
+use std::io::{self, Write};
+
+/// What hands a device back.
+type Refused = (MemDisk, WorldFault);
+
+fn formatted(alloc: Global, disk: MemDisk) -> Result<MemDisk, (MemDisk, StoreFault)> {
+    Ok(format(alloc, disk)?.into_device())
+}
+
+/// A blank device.
+fn blank(rt: &impl Print, alloc: Global) -> io::Result<MemDisk> {
+    match blank_disk(alloc) {
+        Ok(disk) => Ok(disk),
+        Err(_) => {
+            again(rt, "a device")?;
+            Ok(blank_disk(alloc)?)
+        }
+    }
+}
+
+/// A device with stations of two radios.
+pub fn stored(rt: &impl Print, alloc: Global) -> io::Result<MemDisk> {
+    match stored_disk(alloc) {
+        Ok(disk) => Ok(disk),
+        Err(_) => {
+            again(rt, "a device")?;
+            Ok(stored_disk(alloc)?)
+        }
+    }
+}
+
+/// A device of a new store; none where a call of it failed, and the session has ended. A format takes no memory but that in
+/// which the device keeps its calls.
+pub fn new_store(rt: &impl Print, alloc: Global) -> io::Result<Option<MemDisk>> {
+    let disk = blank(rt, alloc)?;
+    say(rt, "no store")?;
+    match formatted(alloc, disk) {
+        Ok(disk) => Ok(Some(disk)),
+        Err((disk, fault)) => {
+            say_refusal(rt, fault)?;
+            say_left(rt, alloc, disk)?;
+            Ok(None)
+        }
+    }
+}
+
+fn built_in_list(alloc: Global) -> Result<Vec<Conf>, AllocError> {
+    let mut list = Vec::new(alloc);
+    list.push(Conf::built_in(alloc)?)?;
+    Ok(list)
+}
+
+/// The built-in configuration alone.
+pub fn built_in(rt: &impl Print, alloc: Global) -> io::Result<Option<Confs>> {
+    let list = match built_in_list(alloc) {
+        Ok(list) => list,
+        Err(_) => {
+            again(rt, "the configuration")?;
+            built_in_list(alloc)?
+        }
+    };
+    Ok(Confs::new(list).ok())
+}
+
+/// A slot for each interface, with a radio that does nothing.
+fn new_slots(alloc: Global, confs: &Confs) -> Result<Vec<Slot<Sim>>, AllocError> {
+    let mut radios = Vec::new(alloc);
+    for _conf in confs.list() {
+        radios.push(Sim::new(alloc))?;
+    }
+    slots_for(alloc, confs, radios)
+}
+
+fn slots(rt: &impl Print, alloc: Global, confs: &Confs) -> io::Result<Vec<Slot<Sim>>> {
+    match new_slots(alloc, confs) {
+        Ok(slots) => Ok(slots),
+        Err(_) => {
+            again(rt, "slots")?;
+            Ok(new_slots(alloc, confs)?)
+        }
+    }
+}
+
+fn copied(rt: &impl Print, alloc: Global, confs: &Confs) -> io::Result<Confs> {
+    match confs.copy(alloc) {
+        Ok(copy) => Ok(copy),
+        Err(_) => {
+            again(rt, "a copy of the configurations")?;
+            Ok(confs.copy(alloc)?)
+        }
+    }
+}
+
+/// The world of a store, without a clause.
+fn restarted(
+    alloc: Global,
+    disk: MemDisk,
+    confs: Confs,
+    slots: Vec<Slot<Sim>>,
+) -> Result<Memory, Refused> {
+    match restart(alloc, disk, confs, slots, Moment(0)) {
+        Ok(world) => Ok(world),
+        Err((disk, _slots, fault)) => Err((disk, fault)),
+    }
+}
+
+/// Once, with slots and configurations of its own.
+fn tried(
+    rt: &impl Print,
+    alloc: Global,
+    disk: MemDisk,
+    confs: &Confs,
+) -> io::Result<Result<Memory, Refused>> {
+    let slots = slots(rt, alloc, confs)?;
+    let copy = copied(rt, alloc, confs)?;
+    Ok(restarted(alloc, disk, copy, slots))
+}
+
+/// Whether a restart is refused for want of memory, of the store or of a slot too.
+fn lacks_memory(fault: WorldFault) -> bool {
+    matches!(
+        fault,
+        WorldFault::NoMemory
+            | WorldFault::Store(StoreFault::NoMemory)
+            | WorldFault::Slot(_, SlotFault::NoMemory)
+    )
+}
+
+/// Says why a restart is refused, and what its device shows.
+fn say_refused(rt: &impl Print, alloc: Global, refused: Refused) -> io::Result<Option<Memory>> {
+    let (disk, fault) = refused;
+    writeln!(io::writer(rt), "{fault}")?;
+    say_left(rt, alloc, disk)?;
+    Ok(None)
+}
+
+/// The world of the store that a device holds; none where it is refused, as where a call of it failed, and the session has
+/// ended.
+pub fn begun(
+    rt: &impl Print,
+    alloc: Global,
+    disk: MemDisk,
+    confs: &Confs,
+) -> io::Result<Option<Memory>> {
+    let disk = match tried(rt, alloc, disk, confs)? {
+        Ok(world) => return Ok(Some(world)),
+        Err((disk, fault)) if lacks_memory(fault) => disk,
+        Err(refused) => return say_refused(rt, alloc, refused),
+    };
+    again(rt, "restart")?;
+    match tried(rt, alloc, disk, confs)? {
+        Ok(world) => Ok(Some(world)),
+        Err(refused) => say_refused(rt, alloc, refused),
+    }
+}

@@ -1,0 +1,89 @@
+//! What is read of files, and what is printed of a store by a check.
+use crate::beginning::stored;
+use crate::saying::{again, say};
+use apd_conf::{ConfigurationFault, Confs};
+use apd_disk::MemDisk;
+use apd_script::{CheckFault, read_configurations, run_check};
+use apd_store::StoreFault;
+use std::alloc::Global;
+use std::fs::File;
+use std::io::{self, Write};
+use std::rt::Files;
+
+/// The names of the configuration files.
+const NAMES: &[&str] = &["wlan0.conf", "wlan1.conf"];
+
+fn confs_of<R: Files<File = File> + AllocGlobal>(rt: &R) -> Result<Confs, ConfigurationFault> {
+    read_configurations(rt, NAMES)
+}
+
+/// The configurations of two radios, with their lists; none where they can't be read.
+pub fn read<R: Print + Files<File = File> + AllocGlobal>(rt: &R) -> io::Result<Option<Confs>> {
+    match confs_of(rt) {
+        Ok(confs) => Ok(Some(confs)),
+        Err(ConfigurationFault::NoMemory) => {
+            again(rt, "read")?;
+            Ok(confs_of(rt).ok())
+        }
+        Err(fault) => {
+            writeln!(io::writer(rt), "{fault}")?;
+            Ok(None)
+        }
+    }
+}
+
+/// Reads the configurations of two radios, and prints them.
+pub fn files<R: Print + Files<File = File> + AllocGlobal>(rt: &R) -> io::Result<()> {
+    let Some(confs) = read(rt)? else {
+        return Ok(());
+    };
+    for conf in confs.list() {
+        writeln!(io::writer(rt), "{conf:?}")?;
+    }
+    Ok(())
+}
+
+/// What a check prints of a device; nothing where it is refused.
+fn checked(alloc: Global, disk: MemDisk, text: &mut Vec<u8>) -> Option<CheckFault> {
+    run_check(alloc, disk, text).err()
+}
+
+/// Whether a check is refused for want of memory: to read the device, for the text, or where that is put.
+fn lacks_memory(fault: CheckFault) -> bool {
+    matches!(
+        fault,
+        CheckFault::NoMemory | CheckFault::Writer | CheckFault::Store(StoreFault::NoMemory)
+    )
+}
+
+/// A check that is refused for want of memory is made once more, of a device like it, which it gave up.
+fn check_again(
+    rt: &impl Print,
+    alloc: Global,
+    fault: CheckFault,
+    text: &mut Vec<u8>,
+) -> io::Result<Option<CheckFault>> {
+    if !lacks_memory(fault) {
+        return Ok(Some(fault));
+    }
+    again(rt, "check")?;
+    if !text.is_empty() {
+        say(rt, "changed: check")?;
+    }
+    let disk = stored(rt, alloc)?;
+    Ok(checked(alloc, disk, text))
+}
+
+/// Checks a store with stations of two radios.
+pub fn check(rt: &impl Print, alloc: Global) -> io::Result<()> {
+    let mut text = Vec::new(alloc);
+    let disk = stored(rt, alloc)?;
+    let fault = match checked(alloc, disk, &mut text) {
+        None => None,
+        Some(fault) => check_again(rt, alloc, fault, &mut text)?,
+    };
+    match fault {
+        None => io::writer(rt).write_all(text.as_slice()),
+        Some(fault) => writeln!(io::writer(rt), "{fault}"),
+    }
+}

@@ -1,0 +1,46 @@
+//! Devices of memory: blank, and with a store that is made byte by byte.
+use apd_base::limits::DEVICE_LENGTH;
+use apd_disk::MemDisk;
+use std::alloc::{AllocError, Global};
+
+/// The records of a policy, a denied address and two stations at `02:00:00:00:00:01`, the first of them associated, and
+/// of a policy and a station that is authenticated at `02:00:00:00:00:02`.
+const SNAPSHOT: &[u8] = &[
+    6, 2, 0, 0, 0, 0, 1, 0, 0xd7, 7, //
+    6, 2, 0, 0, 0, 0, 2, 0, 0xd7, 7, //
+    3, 2, 0, 0, 0, 0, 1, 1, 2, 0, 0, 0, 0, 0xcc, //
+    1, 2, 0, 0, 0, 0, 1, 2, 0, 0, 0, 0, 0xaa, 2, 1, 0, 0x31, 4, 10, 0, //
+    1, 2, 0, 0, 0, 0, 1, 2, 0, 0, 0, 0, 0xbb, 1, 0, 0, 0, 0, 0, 0, //
+    1, 2, 0, 0, 0, 0, 2, 2, 0, 0, 0, 0, 0xaa, 1, 0, 0, 0, 0, 0, 0,
+];
+
+/// The place of half A.
+const HALF_A: usize = 64;
+
+// No clause says what it holds: a proof would go through two million bytes.
+fn zeros(alloc: Global) -> Result<Vec<u8>, AllocError> {
+    vec![in alloc; 0u8; DEVICE_LENGTH as usize]
+}
+
+/// A device of zeros.
+pub fn blank_disk(alloc: Global) -> Result<MemDisk, AllocError> {
+    MemDisk::new(alloc, zeros(alloc)?)
+}
+
+/// Adds zeros up to a length, which no proof meets here.
+fn pad(bytes: &mut Vec<u8>, length: usize) -> Result<(), AllocError> {
+    bytes.resize(length, 0)
+}
+
+/// A device of a store with stations at two radios.
+pub fn stored_disk(alloc: Global) -> Result<MemDisk, AllocError> {
+    let mut bytes = Vec::with_capacity(alloc, DEVICE_LENGTH as usize)?;
+    bytes.extend_from_slice(b"RAPSTOR1")?;
+    pad(&mut bytes, HALF_A)?;
+    bytes.extend_from_slice(&[1, 1, 0, 0, 0, 0, 0, 0, 0])?;
+    let length = u32::try_from(SNAPSHOT.len()).unwrap_or(0);
+    bytes.extend_from_slice(&length.to_le_bytes())?;
+    bytes.extend_from_slice(SNAPSHOT)?;
+    pad(&mut bytes, DEVICE_LENGTH as usize)?;
+    MemDisk::new(alloc, bytes)
+}

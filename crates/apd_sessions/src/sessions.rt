@@ -1,0 +1,160 @@
+//! The sessions, by name.
+use crate::beginning::{begun, built_in, new_store, stored};
+use crate::ending::end;
+use crate::filed::{check, files, read};
+use crate::requests::{
+    ANOTHER_AUTHENTICATES, ASSOCIATES, ASSOCIATES_ELSEWHERE, AUTHENTICATES,
+    AUTHENTICATES_ELSEWHERE, command, starts,
+};
+use crate::saying::{say, say_table};
+use crate::world::{Calls, Memory, serve, start};
+use apd_conf::Confs;
+use apd_world::Step;
+use std::alloc::Global;
+use std::fs::File;
+use std::io::{self, Write};
+use std::rt::Files;
+
+const NONE: Calls = Calls {
+    made: 0,
+    failed: false,
+};
+
+/// The requests of a session.
+#[derive(Clone, Copy, PartialEq, Eq)]
+enum Session {
+    Stations,
+    Commands,
+    Radios,
+}
+
+/// A station authenticates and associates.
+const STATIONS: [Step<'static>; 2] = [AUTHENTICATES, ASSOCIATES];
+
+/// So does one station; another authenticates.
+const BEFORE_COMMANDS: [Step<'static>; 3] = [AUTHENTICATES, ASSOCIATES, ANOTHER_AUTHENTICATES];
+
+/// A station comes to the first radio, and then to the second.
+const RADIOS: [Step<'static>; 4] = [
+    AUTHENTICATES,
+    ASSOCIATES,
+    AUTHENTICATES_ELSEWHERE,
+    ASSOCIATES_ELSEWHERE,
+];
+
+/// The first station is denied, all are sent away, and the lists are shown.
+const COMMANDS: &[&[u8]] = &[
+    b"STA-FIRST",
+    b"DENY_ACL ADD_MAC 02:00:00:00:00:aa",
+    b"STA-FIRST",
+    b"DENY_ACL SHOW",
+    b"DEAUTHENTICATE ff:ff:ff:ff:ff:ff",
+    b"STATUS",
+];
+
+fn command_all(rt: &impl Print, world: &mut Memory, calls: &mut Calls) -> io::Result<()> {
+    for bytes in COMMANDS {
+        if let Some(step) = command(bytes) {
+            serve(rt, world, &[step], calls)?;
+        }
+    }
+    Ok(())
+}
+
+/// The requests behind the start.
+fn serve_all(
+    rt: &impl Print,
+    world: &mut Memory,
+    session: Session,
+    calls: &mut Calls,
+) -> io::Result<()> {
+    match session {
+        Session::Stations => serve(rt, world, &STATIONS, calls),
+        Session::Commands => {
+            serve(rt, world, &BEFORE_COMMANDS, calls)?;
+            command_all(rt, world, calls)
+        }
+        Session::Radios => serve(rt, world, &RADIOS, calls),
+    }
+}
+
+/// Each radio starts, and then comes what the session asks for.
+fn serve_session(
+    rt: &impl Print,
+    world: &mut Memory,
+    confs: &Confs,
+    session: Session,
+) -> io::Result<Calls> {
+    let mut calls = NONE;
+    say_table(rt, world.table())?;
+    for conf in confs.list() {
+        serve(rt, world, &[starts(conf)], &mut calls)?;
+    }
+    serve_all(rt, world, session, &mut calls)?;
+    Ok(calls)
+}
+
+/// A session on a new store.
+fn on_a_new_store(
+    rt: &impl Print,
+    alloc: Global,
+    confs: &Confs,
+    session: Session,
+) -> io::Result<()> {
+    let Some(disk) = new_store(rt, alloc)? else {
+        return Ok(());
+    };
+    let Some(mut world) = begun(rt, alloc, disk, confs)? else {
+        return Ok(());
+    };
+    let calls = serve_session(rt, &mut world, confs, session)?;
+    end(rt, alloc, world, calls)
+}
+
+/// A session of the built-in configuration.
+fn of_one_radio(rt: &impl Print, alloc: Global, session: Session) -> io::Result<()> {
+    match built_in(rt, alloc)? {
+        Some(confs) => on_a_new_store(rt, alloc, &confs, session),
+        None => Ok(()),
+    }
+}
+
+/// A session of two radios with lists.
+fn of_two_radios<R: Print + Files<File = File> + AllocGlobal>(rt: &R) -> io::Result<()> {
+    match read(rt)? {
+        Some(confs) => on_a_new_store(rt, rt.alloc(), &confs, Session::Radios),
+        None => Ok(()),
+    }
+}
+
+/// A store with stations at both radios is begun anew, and started by one call.
+fn restart<R: Print + Files<File = File> + AllocGlobal>(rt: &R) -> io::Result<()> {
+    let Some(confs) = read(rt)? else {
+        return Ok(());
+    };
+    let disk = stored(rt, rt.alloc())?;
+    let Some(mut world) = begun(rt, rt.alloc(), disk, &confs)? else {
+        return Ok(());
+    };
+    let mut calls = NONE;
+    say_table(rt, world.table())?;
+    start(rt, &mut world, &mut calls)?;
+    end(rt, rt.alloc(), world, calls)
+}
+
+/// Runs the session of this name.
+pub fn run_session<R: Print + Files<File = File> + AllocGlobal>(
+    rt: &R,
+    name: &str,
+) -> io::Result<()> {
+    writeln!(io::writer(rt), "= {name}")?;
+    match name {
+        "stations" => of_one_radio(rt, rt.alloc(), Session::Stations),
+        "commands" => of_one_radio(rt, rt.alloc(), Session::Commands),
+        "radios" => of_two_radios(rt),
+        "restart" => restart(rt),
+        "files" => files(rt),
+        "check" => check(rt, rt.alloc()),
+        _ => say(rt, "no such session"),
+    }
+}

@@ -1,0 +1,147 @@
+//! The steps of a session: each is made once more where it lacked memory, and what it told is printed.
+use crate::requests::{COMMITS, WLAN0, WLAN1};
+use crate::saying::{again, say_refusal, say_table};
+use crate::sum::sum_of;
+use apd_core::PublishFault;
+use apd_disk::MemDisk;
+use apd_radio::Sim;
+use apd_slot::SlotFault;
+use apd_store::StoreFault;
+use apd_world::{Step, Told, World, WorldFault};
+use std::io::{self, Write};
+
+/// A world on a device of memory, with radios that do nothing.
+pub type Memory = World<MemDisk, Sim>;
+
+/// How many calls of the device were answered well, and whether one failed.
+#[derive(Clone, Copy, PartialEq, Eq)]
+pub struct Calls {
+    pub made: usize,
+    pub failed: bool,
+}
+
+/// What can be seen of a world without memory: its table, and which slots are up.
+type Look = (usize, usize, u64, bool, bool);
+
+fn look(world: &Memory) -> Look {
+    let table = world.table();
+    let (wlan0, wlan1) = (world.is_up(WLAN0), world.is_up(WLAN1));
+    (table.bss_count(), table.rows(), sum_of(table), wlan0, wlan1)
+}
+
+fn lacks_memory(told: &Told) -> bool {
+    matches!(
+        told,
+        Told::NoMemory
+            | Told::Loaded(Err(StoreFault::NoMemory))
+            | Told::Published(Err(PublishFault::NoMemory))
+            | Told::Applied(_, Err(SlotFault::NoMemory))
+    )
+}
+
+/// What a step is called where it is made once more.
+fn name_of(step: &Step<'_>) -> &'static str {
+    match step {
+        Step::Accept(..) => "accept",
+        Step::Take => "take",
+        Step::Call => "call",
+        Step::Publish => "publish",
+        Step::Hand(_) => "hand",
+        Step::Ask(_) => "ask",
+        Step::Apply(_) => "apply",
+    }
+}
+
+/// The world's own call, without a clause.
+fn tell(world: &mut Memory, step: &Step<'_>) -> Told {
+    world.step(step)
+}
+
+/// Says that a step lacked memory, and else that what can be seen has changed.
+fn say_lack(rt: &impl Print, step: &Step<'_>, is_as_it_was: bool) -> io::Result<()> {
+    if is_as_it_was {
+        again(rt, name_of(step))
+    } else {
+        writeln!(io::writer(rt), "changed: {}", name_of(step))
+    }
+}
+
+/// What a step tells, made once more where it lacked memory.
+fn told(rt: &impl Print, world: &mut Memory, step: &Step<'_>) -> io::Result<Told> {
+    let before = look(world);
+    let told = tell(world, step);
+    if !lacks_memory(&told) {
+        return Ok(told);
+    }
+    say_lack(rt, step, look(world) == before)?;
+    Ok(tell(world, step))
+}
+
+/// Makes a step, and prints what it told, and what is settled.
+fn make(rt: &impl Print, world: &mut Memory, step: &Step<'_>, calls: &mut Calls) -> io::Result<()> {
+    let told = told(rt, world, step)?;
+    if let Told::Called(Err(fault)) = told {
+        calls.failed = true;
+        return say_refusal(rt, fault);
+    }
+    writeln!(io::writer(rt), "{told:?}")?;
+    match told {
+        Told::Called(_) => calls.made = calls.made.saturating_add(1),
+        Told::Published(_) => say_table(rt, world.table())?,
+        _ => {}
+    }
+    Ok(())
+}
+
+/// Makes steps in order, until a call of the device fails.
+fn make_all(
+    rt: &impl Print,
+    world: &mut Memory,
+    steps: &[Step<'_>],
+    calls: &mut Calls,
+) -> io::Result<()> {
+    for step in steps {
+        if !calls.failed {
+            make(rt, world, step, calls)?;
+        }
+    }
+    Ok(())
+}
+
+/// Accepts requests, and commits and hands out each before the next.
+pub fn serve(
+    rt: &impl Print,
+    world: &mut Memory,
+    requests: &[Step<'_>],
+    calls: &mut Calls,
+) -> io::Result<()> {
+    for request in requests {
+        if !calls.failed {
+            make(rt, world, request, calls)?;
+        }
+        make_all(rt, world, &COMMITS, calls)?;
+    }
+    Ok(())
+}
+
+/// Why a start is refused; none where it is not.
+fn refusal(world: &mut Memory) -> Option<WorldFault> {
+    world.start().err()
+}
+
+/// Starts each interface by one call, made once more where it lacked memory. What was settled before it was refused
+/// stands, so that what can be seen may have changed by then.
+pub fn start(rt: &impl Print, world: &mut Memory, calls: &mut Calls) -> io::Result<()> {
+    let mut fault = refusal(world);
+    if fault == Some(WorldFault::NoMemory) {
+        again(rt, "start")?;
+        fault = refusal(world);
+    }
+    match fault {
+        None => say_table(rt, world.table()),
+        Some(fault) => {
+            calls.failed = true;
+            writeln!(io::writer(rt), "{fault}")
+        }
+    }
+}

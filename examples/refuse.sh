@@ -1,0 +1,71 @@
+#!/bin/sh
+# Runs each session of apd_sessions with each of its allocations refused, one a run, until a run meets no refusal. The call
+# that met it must say so, leave what can be seen as it was, and be made once more; and then the session must go on as with
+# ample memory, to the byte. Where a device in memory met it, that is a device fault, at which the session ends: its device must
+# then show the table before or after the commit that was under way.
+# Use: examples/refuse.sh [SESSION..], from anywhere; it needs a C compiler. It ends with status 1 at the first run that shows
+# anything else, and prints for each session how many allocations there are, and who met them.
+set -eu
+here=$(dirname "$(readlink -f "$0")")
+crate=$here/../crates/apd_sessions
+program=${SESSIONS:-$crate/out/apd_sessions}
+[ -x "$program" ] || (cd "$crate" && rt run >/dev/null)
+folder=$(mktemp -d)
+trap 'rm -rf "$folder"' EXIT
+${CC:-cc} -O2 -shared -fPIC -o "$folder/refuse.so" "$here/refuse.c" -ldl
+cp "$crate"/data/* "$folder"
+cd "$folder"
+
+# Whether what was found is what was wanted. A line "again: .." is taken out; without one the library made up for what it was
+# refused, as where it collects and had asked for room beforehand. Behind a device fault must stand the last table before it, or
+# the next one that was wanted.
+judge() {
+    awk '
+        function bad(why) { print why; failed = 1; exit 1 }
+        function is_state(line) { return line ~ /^table: / || line == "no store" }
+        FILENAME == "wanted" { wanted[++all] = $0; next }
+        /^changed: / { bad($0) }
+        /^again: / { again++; next }
+        $0 == "device fault" { device++; next }
+        device && $0 == "left:" { behind = 1; next }
+        behind { left = $0; next }
+        { if ($0 != wanted[++line]) bad("line " line ": " $0) }
+        END {
+            if (failed) exit 1
+            if (device + again > 1) bad("told " device + again " times")
+            if (!device && line != all) bad("ended at line " line)
+            if (!device) exit 0
+            for (i = 1; i <= line; i++) if (is_state(wanted[i])) before = wanted[i]
+            for (i = all; i > line; i--) if (is_state(wanted[i])) after = wanted[i]
+            if (left != before && left != after) bad("left " left)
+        }' wanted found
+}
+
+# Runs a session with the allocation of this number refused; whether there is one.
+is_refused() {
+    REFUSE=$2 LD_PRELOAD=$folder/refuse.so "$program" "$1" >found 2>said && status=0 || status=$?
+    [ -s said ]
+}
+
+# How many allocations come before a session: those of the command line's words.
+words=0
+while is_refused nothing "$((words + 1))"; do words=$((words + 1)); done
+
+for session in ${*:-stations commands radios restart files check}; do
+    "$program" "$session" >wanted
+    count=0
+    device=0
+    again=0
+    while is_refused "$session" "$((words + count + 1))"; do
+        if [ "$status $(cat said)" != "0 refused" ] || ! judge; then
+            echo "$session, allocation $((count + 1)): status $status, otherwise than with ample memory"
+            exit 1
+        fi
+        count=$((count + 1))
+        ! grep -q -x "device fault" found || device=$((device + 1))
+        ! grep -q "^again: " found || again=$((again + 1))
+    done
+    cmp -s wanted found || { echo "$session: another run"; exit 1; }
+    echo "$session: $count allocations: $again by calls that were made again, $device by a device," \
+        "$((count - again - device)) made up for"
+done
