@@ -1,5 +1,5 @@
-/* Preloaded into a program, it refuses one growth: the call of malloc or realloc whose number, from 1, the variable REFUSE of
-   the environment has. It then says so on standard error. Built and used by refuse.sh. */
+/* Preloaded into a program, it refuses one growth: the call of malloc or realloc whose number, from 1, the variable
+   REFUSE of the environment has. It then says so on standard error. Built and used by refuse.sh. */
 #define _GNU_SOURCE
 #include <dlfcn.h>
 #include <stdlib.h>

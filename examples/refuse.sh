@@ -1,10 +1,10 @@
 #!/bin/sh
-# Runs each session of apd_sessions with each of its allocations refused, one a run, until a run meets no refusal. The call
-# that met it must say so, leave what can be seen as it was, and be made once more; and then the session must go on as with
-# ample memory, to the byte. Where a device in memory met it, that is a device fault, at which the session ends: its device must
-# then show the table before or after the commit that was under way.
-# Use: examples/refuse.sh [SESSION..], from anywhere; it needs a C compiler. It ends with status 1 at the first run that shows
-# anything else, and prints for each session how many allocations there are, and who met them.
+# Runs each session of apd_sessions with each of its allocations refused, one a run, until a run meets no refusal. The
+# call that met it must say so, leave what can be seen as it was, and be made once more; and then the session must go
+# on as with ample memory, to the byte. Where a device in memory met it, that is a device fault, at which the session
+# ends: its device must then show the table before or after the commit that was under way.
+# Use: examples/refuse.sh [SESSION..], from anywhere; it needs a C compiler. It ends with status 1 at the first run
+# that shows anything else, and prints for each session how many allocations there are, and who met them.
 set -eu
 here=$(dirname "$(readlink -f "$0")")
 crate=$here/../crates/apd_sessions
@@ -16,9 +16,9 @@ ${CC:-cc} -O2 -shared -fPIC -o "$folder/refuse.so" "$here/refuse.c" -ldl
 cp "$crate"/data/* "$folder"
 cd "$folder"
 
-# Whether what was found is what was wanted. A line "again: .." is taken out; without one the library made up for what it was
-# refused, as where it collects and had asked for room beforehand. Behind a device fault must stand the last table before it, or
-# the next one that was wanted.
+# Whether what was found is what was wanted. A line "again: .." is taken out; without one the library made up for what
+# it was refused, as where it collects and had asked for room beforehand. Behind a device fault must stand the last
+# table before it, or the next one that was wanted.
 judge() {
     awk '
         function bad(why) { print why; failed = 1; exit 1 }

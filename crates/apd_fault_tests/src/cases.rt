@@ -8,8 +8,8 @@ use std::alloc::Global;
 pub(crate) const RECOVERY: u64 = 2;
 
 /// So many calls behind the recovery are answered well, and the next one, if there is one, fails. Behind it this is the
-/// greatest number that was spoken of, and so many outs were given. Then this table is found where the bytes of what was
-/// not synced are as they were written, or all 1, and this one where they are any others.
+/// greatest number that was spoken of, and so many outs were given. Then this table is found where the bytes of what
+/// was not synced are as they were written, or all 1, and this one where they are any others.
 #[derive(Clone, Copy, Debug, PartialEq, Eq)]
 pub(crate) struct Row {
     pub(crate) calls: u64,

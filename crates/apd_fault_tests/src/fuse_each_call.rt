@@ -51,8 +51,8 @@ fn in_the_third_commit(rt: HostRuntime) {
     assert_eq!(rt; in_commits(rt.alloc(), &rows), None);
 }
 
-/// The same on a full store. Six calls close the other half, lay it down and open it, which changes nothing that is shown;
-/// and four commit the station's association there.
+/// The same on a full store. Six calls close the other half, lay it down and open it, which changes nothing that is
+/// shown; and four commit the station's association there.
 fn in_a_switch(alloc: Global, rows: &[Row]) -> Option<(Row, Difference)> {
     let stops = [
         Some(Torn::Old),

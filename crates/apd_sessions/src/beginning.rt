@@ -42,8 +42,8 @@ pub fn stored(rt: &impl Print, alloc: Global) -> io::Result<MemDisk> {
     }
 }
 
-/// A device of a new store; none where a call of it failed, and the session has ended. A format takes no memory but that in
-/// which the device keeps its calls.
+/// A device of a new store; none where a call of it failed, and the session has ended. A format takes no memory but
+/// that in which the device keeps its calls.
 pub fn new_store(rt: &impl Print, alloc: Global) -> io::Result<Option<MemDisk>> {
     let disk = blank(rt, alloc)?;
     say(rt, "no store")?;
@@ -147,8 +147,8 @@ fn say_refused(rt: &impl Print, alloc: Global, refused: Refused) -> io::Result<O
     Ok(None)
 }
 
-/// The world of the store that a device holds; none where it is refused, as where a call of it failed, and the session has
-/// ended.
+/// The world of the store that a device holds; none where it is refused, as where a call of it failed, and the session
+/// has ended.
 pub fn begun(
     rt: &impl Print,
     alloc: Global,

@@ -1,5 +1,5 @@
-//! `apd_sessions`: sessions of an access point in memory, with all that is told in them. Each call that lacked memory is
-//! made once more, and this is printed too, in a line that begins with `again: `. It is no part of the daemon.
+//! `apd_sessions`: sessions of an access point in memory, with all that is told in them. Each call that lacked memory
+//! is made once more, and this is printed too, in a line that begins with `again: `. It is no part of the daemon.
 #![tactic(auto)]
 
 mod beginning;
