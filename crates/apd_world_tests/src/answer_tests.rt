@@ -74,6 +74,10 @@ fn answers_of(alloc: Global, applied: &[Said]) -> Option<Vec<Answer>> {
     Some(answers)
 }
 
+fn answers_of_three(alloc: Global, applied: [Said; 3]) -> Option<Vec<Answer>> {
+    answers_of(alloc, &applied)
+}
+
 /// What a flush answers behind these steps.
 fn flush_after(alloc: Global, world: &mut Failed, steps: &[Step<'static>]) -> Option<Vec<Answer>> {
     makes(world, steps)?;
@@ -118,7 +122,7 @@ fn rows() -> [Row; 4] {
 fn a_flush_tells_what_a_radio_was_not_given(rt: HostRuntime) -> Result<(), Fail> {
     for (calls, applied) in rows() {
         let found = flush(rt.alloc(), calls).ok_or("it was refused")?;
-        let answers = answers_of(rt.alloc(), &applied).ok_or("memory")?;
+        let answers = answers_of_three(rt.alloc(), applied).ok_or("memory")?;
         assert_eq!(rt; found.as_slice(), answers.as_slice(), "{calls}");
     }
     Ok(())
@@ -128,7 +132,7 @@ fn a_flush_tells_what_a_radio_was_not_given(rt: HostRuntime) -> Result<(), Fail>
 fn a_hand_out_tells_what_a_radio_was_not_given(rt: HostRuntime) -> Result<(), Fail> {
     for (calls, applied) in rows() {
         let found = hand_out(rt.alloc(), calls).ok_or("it was refused")?;
-        let answers = answers_of(rt.alloc(), &applied).ok_or("memory")?;
+        let answers = answers_of_three(rt.alloc(), applied).ok_or("memory")?;
         assert_eq!(rt; found.as_slice(), answers.as_slice(), "{calls}");
     }
     Ok(())
