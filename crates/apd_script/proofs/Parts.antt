@@ -13,7 +13,7 @@ use Rattle.apd_mlme.specs.Happening.{Happening}
 use Rattle.apd_radio.specs.Model.{RadioModel}
 use Rattle.apd_world.specs.Proper.{IsProper, IsSafe}
 use Rattle.apd_world.specs.Ending.{HasGoneOn}
-use Rattle.apd_world.specs.Flushing.{rounds}
+use Rattle.apd_world.specs.Starting.{rounds}
 use Rattle.apd_world.specs.HandingOut.{applies, hands}
 use Rattle.apd_world.specs.WorldParts.{durable_of}
 use Rattle.apd_world.specs.declared.step.Step.{Step}

@@ -32,9 +32,8 @@ use Rattle.apd_world.specs.Proper.{IsProper}
 use Rattle.apd_world.specs.Resumed.{AreResumed}
 use Rattle.apd_world.specs.WorldParts.{durable_of, is_up_if, slot_at, slots_of}
 use Rattle.apd_world.specs.Ending.{HasGoneOn}
-use Rattle.apd_world.specs.Flushing.{IsFlushed}
 use Rattle.apd_world.specs.HandingOut.{IsHandedOut}
-use Rattle.apd_world.specs.Starting.{IsStarted}
+use Rattle.apd_world.specs.Starting.{IsFlushed, IsStarted}
 use Rattle.apd_world.specs.SafelyMade.{AreSafelyMade}
 use Rattle.apd_world.specs.declared.step.Step.{Step}
 use Rattle.apd_world.specs.declared.step.Step.TheVariants as step

@@ -5,14 +5,9 @@ use Rattle.std.specs.Option.{unwrap_or}
 use Rattle.std.specs.Prelude.{IfErr, IsErrAnd, OnErr, OnOk, replicate}
 use Rattle.std.proofs.lemmas.List.Elements.{All-cons, All-nil}
 use Rattle.std.proofs.lemmas.Result.{IfErr-weaker}
-use Rattle.apd_world.proofs.Words.{AreSafelyMade, Call, Called, ComesTo, Commit, DiskModel, DurableCore, GoesQuietly, HasGoneUnrefused, HasNoBatch, HasNoCall, HasNoReceipt, IsAtRest, IsNoRefusal, IsRound, IsWhole, Loaded, NoMemory, Nothing, Publish, Published, RadioModel, Step, StoreFault, Take, Tells, Told, World, WorldFault, answer_of, durable_of, flusher_of, phase_of, round, said, waiting_receipt}
+use Rattle.apd_world.proofs.Words.{AreSafelyMade, AreSettled, AreWorldSteps, Call, Called, ComesTo, Commit, DiskModel, Done, DurableCore, Ends, GoesQuietly, HasEnded, HasFailedCore, HasGoneUnrefused, HasNoBatch, HasNoCall, HasNoReceipt, Idle, IsAtRest, IsEnd, IsInStep, IsNoOtherRefusal, IsNoRefusal, IsRound, IsWhole, Loaded, NoMemory, Nothing, Publish, Published, RadioModel, Step, StoreFault, Take, Tells, Told, World, WorldFault, answer_of, durable_of, flusher_of, phase_of, round, said, waiting_receipt}
 use Rattle.apd_store.specs.declared.fault.StoreFault.TheVariants as store_fault
 use Rattle.apd_core.specs.declared.publish_fault.PublishFault.TheVariants as publish_fault
-use Rattle.apd_flusher.specs.Committing.{IsInStep}
-use Rattle.apd_flusher.specs.declared.phase.Phase.TheVariants.{Done, Idle}
-use Rattle.apd_world.specs.StepsMade.{AreSettled}
-use Rattle.apd_world.specs.Ending.{Ends, HasEnded, HasFailedCore, IsEnd, IsNoOtherRefusal}
-use Rattle.apd_world.specs.WorldRun.{AreWorldSteps}
 use Rattle.apd_world.specs.declared.fault.WorldFault.TheVariants as world_fault
 use Rattle.apd_world.specs.declared.step.Commit.TheVariants as commit
 use Rattle.apd_world.proofs.RunLemmas.{AreRounds, IsUnrefused, failures, gone_rounds, gone_then, risen_since, round_more, unrefused_then}

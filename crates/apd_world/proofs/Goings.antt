@@ -2,20 +2,18 @@
 use Rattle.std.proofs.Common.{◌≡◌, ℕ, ◌+◌, ◌≤◌, Bool, true, false, cond, List, [], ◌∷◌, ◌++◌, length, take, drop, ◌⊎◌, inl, inr, refl, sym, ap, subst, ◌∙◌, arith, append_assoc, length-append}
 use Rattle.std.specs.Prelude.{map}
 use Rattle.std.proofs.lemmas.List.{append-nil, map-append, length-take-le, length-drop, take-append-drop}
-use Rattle.apd_world.proofs.Words.{AreFit, AreUnsettled, Change, Conf, Control, CoreState, Goes, Happening, IsCore, LastHeard, Moment, Out, Radio, Recipient, Settles, State, front_of, handed, held_for, last_of, outs_run, outs_to, published, ready_for, run, up_to, verdict}
+use Rattle.apd_world.proofs.Words.{AreFit, AreHeldFor, AreUnsettled, Change, Conf, Control, CoreState, Goes, Happening, IsCore, LastHeard, Moment, Out, Radio, Recipient, Settles, State, front_of, handed, held_for, last_of, outs_run, outs_to, published, ready_for, run, up_to, verdict, with_entry, with_sender}
 use Rattle.apd_base.proofs.AddrLemmas.{bssid_total, bssid_exact}
 use Rattle.apd_base.proofs.MapLemmas.{one_or_apart, tied}
 use Rattle.apd_mlme.specs.Outs.{is_same}
 use Rattle.apd_mlme.specs.rules.{IsFit}
 use Rattle.apd_mlme.proofs.TrueOutsLemmas.{verdict_there}
-use Rattle.apd_core.specs.Core.{with_entry, with_sender}
 use Rattle.apd_core.specs.Held.{Queue, queue_of}
 use Rattle.apd_core.specs.Invariant.{AreDecided, numbered_outs}
 use Rattle.apd_core.proofs.CoreLemmas.{entry_front, entry_held, outs_only, publish_front, publish_held, hand_held, hand_others}
 use Rattle.apd_core.proofs.HeldLemmas.{queue_of-with_outs, queue_of-after_hand, queue_of-after_hand_other}
 use Rattle.apd_core.proofs.Keeping.{decided_means, decided_length, decided_push, numbered_push, none_up_to, up_to-append}
 use Rattle.apd_core.proofs.Settling.{decided_split, handed_outs, numbered_split, numbered_above, numbered_within, up_to_beyond, up_to_twice, published_queue}
-use Rattle.apd_world.specs.CoreRun.{AreHeldFor}
 
 -- ---- happenings in two parts
 pub run-append : (confs : List Conf) (es fs : List Happening) (s : State) → run s confs (es ++ fs) ≡ run (run s confs es) confs fs

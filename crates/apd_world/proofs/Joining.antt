@@ -1,8 +1,7 @@
 -- What a world's step does beside its durable core.
 use Rattle.std.proofs.Common.{◌≡◌, ℕ, Some, refl, sym, ap, subst, ◌∙◌, get_or, set}
 use Rattle.std.proofs.lemmas.List.{set-get_or}
-use Rattle.apd_world.proofs.Words.{Applied, Apply, AreQueued, Bssid, Control, DurableCore, Hand, Handed, HasNoSlot, IsApplied, IsStep, IsWorldStep, NoMemory, Nothing, Queued, Radio, RadioModel, Recipient, RestStays, SameButRoom, Slot, Step, Told, World, durable_of, queue_if, slot_place, slots_of}
-use Rattle.apd_world.specs.Queueing.{QueuesReady}
+use Rattle.apd_world.proofs.Words.{Applied, Apply, AreQueued, Bssid, Control, DurableCore, Hand, Handed, HasNoSlot, IsApplied, IsStep, IsWorldStep, NoMemory, Nothing, Queued, QueuesReady, Radio, RadioModel, Recipient, RestStays, SameButRoom, Slot, Step, Told, World, durable_of, queue_if, slot_place, slots_of}
 use Rattle.apd_world.proofs.Goings.{goes_unchanged}
 use Rattle.apd_world.proofs.SlotLemmas.{slot_goes, slot_is}
 use Rattle.apd_world.proofs.StepLemmas.{step_unchanged}

@@ -1,9 +1,7 @@
 -- A stop leaves everything that was spoken of.
 use Rattle.std.proofs.Common.{List, [], ◌++◌}
-use Rattle.apd_world.proofs.Words.{DiskModel, DurableCore, Happening, HasSpoken, IsProper, IsSafe, ShowsFront, all_entered, all_given, device_of}
+use Rattle.apd_world.proofs.Words.{DiskModel, DurableCore, Happening, HasSpoken, IsProper, IsSafe, LosesNothing, ShowsFront, all_entered, all_given, device_of, spoken}
 use Rattle.apd_disk.proofs.Moments.{weaker}
-use Rattle.apd_world.specs.Outside.{spoken}
-use Rattle.apd_world.specs.Recovery.{LosesNothing}
 use Rattle.apd_world.proofs.DriveLemmas.{Moments, front_later, safe_moments}
 
 module _ {D : Type 0} (disk : DiskModel D) where

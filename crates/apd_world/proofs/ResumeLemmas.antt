@@ -4,9 +4,7 @@ use Rattle.std.specs.FinMap as maps
 use Rattle.std.specs.Prelude.{◌↔◌}
 use Rattle.std.proofs.lemmas.List.{get_or-set_same, take-set}
 use Rattle.std.proofs.lemmas.Option.{slice_get-get_or}
-use Rattle.apd_world.proofs.Words.{Addr, AreExact, AreResumed, Bssid, Conf, CoreState, DiskModel, DurableCore, HasNotResumed, IsExact, IsResumed, LastHeard, LeavesOnly, Moment, Radio, RadioModel, Shows, Slot, SlotFault, Sound, State, Store, StoreFault, WorldFault, aid_at, bssid_of, driven, front_of, held_for, installed_rows, queue_if, run, slot_at, slot_in, slot_place, wanted_after_all, wanted_then}
-use Rattle.apd_core.specs.Core.{new_core}
-use Rattle.apd_core.specs.Heard.{AreHeardAt}
+use Rattle.apd_world.proofs.Words.{Addr, AreExact, AreHandedBack, AreHeardAt, AreLeft, AreResumed, Bssid, Conf, CoreState, DiskModel, DurableCore, EndsAtSlot, HasNotResumed, IsExact, IsResumed, LastHeard, LeavesOnly, Moment, Radio, RadioModel, Shows, Slot, SlotFault, Sound, State, Store, StoreFault, WorldFault, aid_at, bssid_of, driven, front_of, held_for, installed_rows, new_core, queue_if, run, slot_at, slot_in, slot_place, wanted_after_all, wanted_then}
 use Rattle.apd_core.proofs.HeldLemmas.{queue_of-no_outs}
 use Rattle.apd_core.proofs.Queues.{all_weaker}
 use Rattle.apd_disk.specs.Disk.{Only}
@@ -16,7 +14,6 @@ use Rattle.apd_store.specs.Outside.{device_of as store_device}
 use Rattle.apd_store.specs.Recovery.{IsHonestlyRecovered, IsRecovered}
 use Rattle.apd_store.specs.declared.fault.StoreFault.TheVariants as store_fault
 use Rattle.apd_world.specs.BegunAnew.{IsBegunAnew, IsBegunWith, IsHonestlyBegunAnew, IsHonestlyNotBegunAnew, IsNotBegunAnew}
-use Rattle.apd_world.specs.Resumed.{AreHandedBack, AreLeft, EndsAtSlot}
 use Rattle.apd_world.specs.declared.fault.WorldFault.TheVariants as world_fault
 use Rattle.apd_world.proofs.SlotLemmas.{all_at, place_of_own, slot_is}
 use Rattle.apd_world.proofs.SoFar.{first_is, rest_is, zip_all, AreSoFar}

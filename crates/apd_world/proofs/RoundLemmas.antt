@@ -4,20 +4,17 @@ use Rattle.std.proofs.lemmas.Bool.{false≢true, lt-leb, ne_eqb}
 use Rattle.std.specs.Prelude.{⊤, ◌≢◌, IsTrue, is_some, not, replicate, nat_le, ◌||◌, ◌==◌}
 use Rattle.std.specs.Option.{option_or, unwrap_or}
 use Rattle.std.proofs.lemmas.List.{replicate_more}
-use Rattle.apd_world.proofs.Words.{Account, AreSafelyMade, Batch, Call, Called, Change, ComesTo, Commit, Committer, CoreState, DiskModel, DurableCore, Flusher, Goes, GoesQuietly, HasNoBatch, HasNoCall, HasNoReceipt, HasRisen, IsCalled, IsFlight, IsGood, IsNext, IsPublished, IsRound, IsRun, IsSafe, IsStepMade, IsTakenUp, IsWhole, IsWorldStep, Loaded, NoMemory, Nothing, Out, Phase, Publish, Published, RadioModel, Receipt, Recipient, RestStays, State, Step, Store, StoreFault, Take, Tells, Told, World, account, after_call, answer_of, calls_left, device_of, durable_of, flight_of, flusher_of, front_of, held_batch, nothing_yet, phase_of, round, said, waiting_batch, waiting_receipt}
+use Rattle.apd_world.proofs.Words.{Account, AreSafelyMade, Batch, Busy, Call, Called, Change, ComesTo, Commit, Commits, Committer, CoreState, DiskModel, Done, DurableCore, Failed, Flusher, Goes, GoesQuietly, HasNoBatch, HasNoCall, HasNoReceipt, HasRisen, HasRoomForNext, Idle, IsCalled, IsDurable, IsFlight, IsGood, IsInStep, IsNext, IsPublished, IsRound, IsRun, IsSafe, IsStepMade, IsTakenUp, IsUnderWay, IsWaiting, IsWhole, IsWorldStep, Loaded, NoMemory, Nothing, Out, Phase, Publish, Published, RadioModel, Receipt, Recipient, RestStays, State, Step, Store, StoreFault, Take, Tells, Told, World, account, after_call, answer_of, calls_left, device_of, durable_of, flight_of, flusher_of, front_of, held_batch, nothing_yet, phase_of, round, said, waiting_batch, waiting_receipt}
 use Rattle.apd_store.specs.Phases.{calls_from}
 use Rattle.apd_store.specs.declared.fault.StoreFault.TheVariants as store_fault
 use Rattle.apd_store.specs.declared.phase.Phase.{Phase as StorePhase}
 use Rattle.apd_store.specs.declared.phase.Phase.TheVariants as store_phase
 use Rattle.apd_core.specs.declared.publish_fault.PublishFault.TheVariants as publish_fault
 use Rattle.apd_flusher.proofs.Turns.{quiet_or_busy}
-use Rattle.apd_flusher.specs.Committing.{IsDurable, IsInStep, IsUnderWay, IsWaiting}
 use Rattle.apd_flusher.specs.Handing.{HasNoReceipt as HasNone, IsNextReceipt}
 use Rattle.apd_flusher.specs.Loading.{IsNotLoaded}
 use Rattle.apd_flusher.specs.Outside.{flusher_of as flusher_in, table_of}
 use Rattle.apd_flusher.specs.Phases.{phase_from}
-use Rattle.apd_flusher.specs.declared.phase.Phase.TheVariants.{Idle, Busy, Done, Failed}
-use Rattle.apd_world.specs.Round.{Commits, HasRoomForNext}
 use Rattle.apd_world.specs.declared.step.Commit.TheVariants as commit
 use Rattle.apd_world.proofs.DriveLemmas.{round_enters_none, round_gives_none}
 use Rattle.apd_world.proofs.RunLemmas.{made_then, one_made, risen_since}

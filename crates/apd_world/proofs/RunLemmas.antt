@@ -8,17 +8,12 @@ use Rattle.std.proofs.lemmas.List.{append-nil, map-append, replicate_more}
 use Rattle.std.proofs.lemmas.List.Elements.{All-append, All-cons, All-head, All-map, All-nil, All-push, All-tail, All-weaker}
 use Rattle.std.proofs.lemmas.Grind.{flat_map-append}
 use Rattle.std.proofs.Math.Seq.{take-append_seam, take-suc}
-use Rattle.apd_world.proofs.Words.{Accept, Accepted, Account, Applied, Apply, AreAccepted, AreAllApplied, AreAnswered, AreExact, AreFollowing, AreSafelyMade, Ask, Bssid, Call, Called, Commit, Conf, Configure, Control, CoreState, Device, DiskModel, DurableCore, Goes, GoesQuietly, Hand, Handed, Happening, HasGoneUnrefused, HasRisen, IsAtRest, IsNoRefusal, IsProper, IsRound, IsRun, IsSafe, IsStepMade, IsWhole, IsWorldStep, Joins, Loaded, NoMemory, Nothing, OnlyHands, Out, Publish, Published, Queued, QuietReason, Radio, RadioModel, Recipient, Step, Take, Tells, Told, World, account, all_entered, all_given, answer_of, applied, device_of, durable_of, front_of, given, handed, hands, held_for, last_of, nothing_yet, one_more, outs_run, queue_of, radio_hands, ready_for, round, run, said, slots_of, up_to}
+use Rattle.apd_world.proofs.Words.{Accept, Accepted, Account, Applied, Apply, AreAccepted, AreAllApplied, AreAnswered, AreExact, AreFollowing, AreMadeInTurn, AreSafelyMade, AreWorldSteps, Ask, Bssid, Call, Called, Commit, Conf, Configure, Control, CoreState, Device, DiskModel, DurableCore, Goes, GoesQuietly, Hand, Handed, Happening, HasGoneOn, HasGoneUnrefused, HasRisen, IsAtRest, IsFlushed, IsGiven, IsHandedOut, IsHanding, IsNoRefusal, IsProper, IsRound, IsRun, IsSafe, IsStepMade, IsWhole, IsWorldRun, IsWorldStep, Joins, Loaded, NoMemory, Nothing, OnlyHands, Out, Publish, Published, Queued, QuietReason, Radio, RadioModel, Recipient, Step, Take, Tells, Told, World, account, all_applied, all_entered, all_given, answer_of, applied, applies, device_of, durable_of, front_of, given, handed, hands, held_for, last_of, nothing_yet, one_more, outs_run, queue_of, radio_hands, ready_for, recipient_of, round, rounds, run, said, slots_of, up_to}
 use Rattle.apd_core.specs.Held.{HeldOuts}
 use Rattle.apd_core.proofs.HeldLemmas.{queue_of-after_hand_other}
 use Rattle.apd_core.specs.declared.publish_fault.PublishFault.{PublishFault}
 use Rattle.apd_core.specs.declared.publish_fault.PublishFault.TheVariants as publish_fault
-use Rattle.apd_world.specs.SafelyMade.{AreMadeInTurn}
-use Rattle.apd_world.specs.Ending.{HasGoneOn}
-use Rattle.apd_world.specs.Flushing.{IsFlushed, rounds}
-use Rattle.apd_world.specs.HandingOut.{IsHandedOut, IsGiven, IsHanding, applies, recipient_of}
 use Rattle.apd_world.specs.Starting.{AreConfiguring, IsStarted, asked}
-use Rattle.apd_world.specs.WorldRun.{all_applied, AreWorldSteps, IsWorldRun}
 use Rattle.apd_world.specs.declared.step.Commit.TheVariants as commit
 use Rattle.apd_world.specs.declared.step.Told.TheVariants.{Answered as Read}
 use Rattle.apd_world.proofs.DriveLemmas.{Moments, entered_then, moments_then, no_run, one_run, runs_join, safe_moments}

@@ -3,7 +3,7 @@ use Rattle.std.proofs.Common.{Bool, true, ⊎_elim, ◌≡◌, ℕ, ◌≤◌, L
 use Rattle.std.specs.Prelude.{max}
 use Rattle.std.proofs.Math.Nat.{le-max_left, le-max_right, max-le}
 use Rattle.std.proofs.lemmas.List.Elements.{All-nil, All-cons, All-append}
-use Rattle.apd_world.proofs.Words.{Accept, Accepted, Account, Addr, Answer, Answered, Apply, AreSteps, AreUnsettled, Ask, Batch, Bssid, Call, Called, Conf, Configure, CoreState, DurableCore, Hand, Handed, Happening, Input, IsNext, IsRun, IsSpoken, LastHeard, Loaded, Moment, NoMemory, Nothing, Publish, Published, Query, QuietReason, Radio, Reception, Sound, Step, StoreFault, Take, Tells, Told, account, all_entered, entered, entered_as, failed_after, front_of, happening_of, nothing_yet, one_more, state_after, verdict}
+use Rattle.apd_world.proofs.Words.{Accept, Accepted, Account, Addr, Answer, Answered, Apply, AreSteps, AreUnsettled, Ask, Batch, Bssid, Call, Called, Conf, Configure, CoreState, DurableCore, Hand, Handed, Happening, Input, IsNext, IsRun, IsSpoken, LastHeard, Loaded, Moment, NoMemory, Nothing, Publish, Published, Query, QuietReason, Radio, Reception, Sound, Step, StoreFault, Take, Tells, Told, account, all_entered, due, entered, entered_as, failed_after, front_of, happening_of, nothing_yet, one_more, state_after, verdict}
 use Rattle.apd_ctrl.specs.Texts.{text}
 use Rattle.apd_frame.specs.Contents.{Contents}
 use Rattle.apd_frame.specs.Outcome.{outcome}
@@ -15,7 +15,6 @@ use Rattle.apd_mlme.specs.laws.Outs.{AreSoToAll}
 use Rattle.apd_mlme.proofs.AdmissionLemmas.{run_broadcast}
 use Rattle.apd_mlme.proofs.TrueOutsLemmas.{verdict_so_to_all}
 use Rattle.apd_mlme.proofs.VerdictLemmas.{run_sound}
-use Rattle.apd_core.specs.Heard.{due}
 use Rattle.apd_core.specs.Requests.{expiry, ordered, unless_ignored}
 use Rattle.apd_core.specs.declared.input.Input.TheVariants as input
 use Rattle.apd_core.specs.declared.ticket.Accepted.{Accepted as CoreAccepted}

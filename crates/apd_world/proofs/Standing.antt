@@ -2,9 +2,8 @@
 use Rattle.std.proofs.Common.{◌≡◌, ℕ, zero, suc, ◌≤◌, ◌+◌, Err, true, false, Bool, List, take, Option, Some, None, ◌⊎◌, inl, inr, ⊎_elim, refl, sym, ap, subst, ◌∙◌, arith}
 use Rattle.std.specs.Prelude.{IsTrue, if◌then◌else◌, nat_le, ◌||◌, ◌==◌, length}
 use Rattle.std.proofs.lemmas.Bool.{le-leb, ne_eqb}
-use Rattle.apd_world.proofs.Words.{AreUnsettled, Batch, Called, Committer, CoreState, Device, DiskModel, DurableCore, Happening, IsFlight, IsImaged, IsSafe, IsSpoken, IsStepMade, IsTaken, IsWhole, LeavesOnly, Receipt, Shows, ShowsEither, ShowsFlight, State, Told, cannot_take, device_of, flight_of, held_batch, published, run}
+use Rattle.apd_world.proofs.Words.{AreUnsettled, Batch, Called, Committer, CoreState, Device, DiskModel, DurableCore, Happening, IsFlight, IsImaged, IsSafe, IsSpoken, IsStepMade, IsTaken, IsWhole, LeavesOnly, Receipt, Shows, ShowsEither, ShowsFlight, State, Told, batch_of, cannot_take, device_of, flight_of, held_batch, published, run}
 use Rattle.apd_record.specs.Meaning.{meaning_of}
-use Rattle.apd_core.specs.Core.{batch_of}
 use Rattle.apd_core.proofs.Keeping.{decided_means}
 use Rattle.apd_core.proofs.Settling.{decided_split}
 use Rattle.apd_flusher.specs.Committing.{IsWhole as IsCommitter, state_after_flight}

@@ -3,22 +3,17 @@ use Rattle.std.proofs.Common.{◌≡◌, ◌+◌, ◌≤◌, Bool, List, [], ◌
 use Rattle.std.specs.Prelude.{◌↔◌, ◌==◌, if◌then◌else◌, is_some, IfSome, IfNone, IsSome, IsNone, IsTrue}
 use Rattle.std.proofs.lemmas.Bool.{false≢true}
 use Rattle.std.proofs.lemmas.List.{take-append-le}
-use Rattle.apd_world.proofs.Words.{Accept, Accepted, Answer, Answered, AreFit, Ask, Batch, Call, Called, Committer, Control, CoreState, DiskModel, DurableCore, Flusher, Goes, Hand, Handed, Happening, HasNoBatch, HasNoneToLoad, HasRisen, Input, IsCalled, IsCore, IsGood, IsImaged, IsNext, IsPublished, IsStep, IsStepMade, IsTaken, IsTakenUp, IsWhole, LeavesOnly, Loaded, Moment, NoMemory, Nothing, Out, Phase, Publish, Published, Query, QuietReason, Radio, Reception, Recipient, State, Step, StoreFault, Take, Tells, Told, after_call, cannot_take, device_of, entered, entered_as, failed_after, flight_of, flusher_of, front_of, given, handed, happening_of, heard_after, phase_of, published, ready_for, state_after, verdict, waiting_batch}
+use Rattle.apd_world.proofs.Words.{Accept, Accepted, Answer, Answered, AreFit, Ask, Batch, Call, CallTells, Called, Committer, Control, CoreState, DiskModel, DurableCore, Flusher, Goes, Hand, Handed, Happening, HasNoBatch, HasNoneToLoad, HasRisen, Input, IsAccepted, IsCalled, IsCore, IsGood, IsHanded, IsImaged, IsNext, IsNextBatch, IsPublished, IsRead, IsStep, IsStepMade, IsTaken, IsTakenUp, IsTurnMade, IsWhole, Keeps, LeavesOnly, Loaded, Moment, NoMemory, Nothing, Out, Phase, Publish, Published, Query, QuietReason, Radio, Reception, Recipient, State, Step, StoreFault, Take, Tells, Told, TurnTells, accepted, after_call, after_request, cannot_take, changes_of, device_of, entered, entered_as, entered_by, failed_after, flight_of, flusher_of, front_of, given, handed, happening_of, heard_after, heard_as, heard_by, phase_of, published, ready_for, reception_of, state_after, verdict, waiting_batch}
 use Rattle.apd_journal.specs.Half.{IsGroup}
 use Rattle.apd_store.specs.declared.fault.StoreFault.TheVariants as store_fault
-use Rattle.apd_core.specs.Core.{accepted, after_request, changes_of, entered_by}
-use Rattle.apd_core.specs.Heard.{heard_by}
 use Rattle.apd_core.specs.declared.ticket.Accepted.{Accepted as CoreAccepted}
 use Rattle.apd_core.specs.declared.ticket.Accepted.TheVariants as core_accepted
 use Rattle.apd_table.specs.Sound.{StaySound}
 use Rattle.apd_flusher.specs.Committing.{IsWhole as IsCommitter}
 use Rattle.apd_flusher.specs.Committing as committing
-use Rattle.apd_flusher.specs.Handing.{IsNextBatch, IsTurnMade, Keeps, TurnTells}
 use Rattle.apd_flusher.specs.Outside.{device_of as device_in}
 use Rattle.apd_flusher.specs.declared.phase.Phase.TheVariants as phase
 use Rattle.apd_world.specs.declared.fault.WorldFault.TheVariants as world_fault
-use Rattle.apd_world.specs.Steps.{heard_as}
-use Rattle.apd_world.specs.Telling.{CallTells, IsAccepted, IsHanded, IsRead, reception_of}
 use Rattle.apd_world.proofs.Speaking.{next_core, speaks}
 use Rattle.apd_world.proofs.Standing.{gives_whole, none_some}
 use Rattle.apd_world.proofs.Goings.{goes_beside, goes_entry, goes_handed, goes_published, goes_unchanged}

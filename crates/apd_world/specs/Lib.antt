@@ -2,7 +2,6 @@ pub mod Applying
 pub mod BegunAnew
 pub mod Following
 pub mod CoreRun
-pub mod StepMade
 pub mod StepsMade
 pub mod Outside
 pub mod Proper
@@ -16,7 +15,6 @@ pub mod WorldParts
 pub mod Shown
 pub mod QueryAnswer
 pub mod Starting
-pub mod Flushing
 pub mod HandingOut
 pub mod Ending
 pub mod Steps

@@ -1,8 +1,9 @@
 -- The durable cores of which something is said of a stop: the committer stands where the core takes it to be (own).
-use Rattle.std.specs.Prelude.{◌≡◌, ◌⊎◌, IsSome}
-use Rattle.apd_world.specs.Words.{CoreState, DiskModel, DurableCore, LeavesOnly, new_core, phase_of, waiting_receipt}
+use Rattle.std.specs.Prelude.{◌≡◌, ◌⊎◌, ◌≤◌, ◌+◌, IsSome, Err}
+use Rattle.apd_world.specs.Words.{Called, CoreState, DiskModel, DurableCore, HasRisen, LeavesOnly, Told, new_core, phase_of, waiting_receipt}
 use Rattle.apd_flusher.specs.Committing as committer
 use Rattle.apd_flusher.specs.declared.phase.Phase.TheVariants as phase
+use Rattle.apd_store.specs.declared.fault.StoreFault.TheVariants as store_fault
 use Rattle.apd_world.specs.Shown.{AreAfterFlight, AreOfFlight, ShowsEither, flight_of}
 use Rattle.apd_world.specs.Outside.{device_of, flusher_of, IsSpoken}
 
@@ -33,3 +34,11 @@ pub record IsSafe {D : Type 0} (disk : DiskModel D) (old new : DurableCore D) : 
   pub whole : IsWhole disk old → IsWhole disk new
   pub proper : IsProper disk old → IsProper disk new
   pub inside : IsProper disk old → LeavesOnly disk (device_of old) (device_of new) (ShowsEither old.core)
+
+-- A step that told so is safe. It makes one call of the device at most; the device's failures never fall, and rise where the step tells
+-- that the device failed.
+pub record IsStepMade {D : Type 0} (disk : DiskModel D) (told : Told) (old new : DurableCore D) : Type 0 where
+  pub safe : IsSafe disk old new
+  pub one_call : disk.honest (device_of old) → disk.moment (device_of new) ≤ disk.moment (device_of old) + 1
+  pub count : disk.failed (device_of old) ≤ disk.failed (device_of new)
+  pub fault : told ≡ Called (Err store_fault.Device) → HasRisen (disk.failed (device_of old)) (disk.failed (device_of new))

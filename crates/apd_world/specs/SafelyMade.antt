@@ -6,10 +6,9 @@ use Rattle.apd_store.specs.declared.fault.StoreFault.TheVariants as store_fault
 use Rattle.apd_world.specs.CoreRun.{AreUnsettled}
 use Rattle.apd_world.specs.Following.{AreExact, AreFollowing}
 use Rattle.apd_world.specs.Outside.{device_of}
-use Rattle.apd_world.specs.Proper.{IsProper, IsSafe, IsWhole}
+use Rattle.apd_world.specs.Proper.{IsProper, IsSafe, IsStepMade, IsWhole}
 use Rattle.apd_world.specs.Recovery.{LosesNothing}
 use Rattle.apd_world.specs.Shown.{ShowsFront}
-use Rattle.apd_world.specs.StepMade.{IsStepMade}
 use Rattle.apd_world.specs.Steps.{all_entered}
 use Rattle.apd_world.specs.WorldParts.{durable_of, slots_of}
 use Rattle.apd_world.specs.WorldRun.{IsWorldRun, IsWorldStep}

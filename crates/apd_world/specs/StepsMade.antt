@@ -5,9 +5,8 @@ use Rattle.apd_world.specs.Words.{Conf, DiskModel, NoMemory, RadioModel, Recipie
 use Rattle.apd_world.specs.SafelyMade.{AreSafelyMade}
 use Rattle.apd_world.specs.WorldParts.{durable_of, queue_of}
 use Rattle.apd_world.specs.Ending.{IsNoRefusal}
-use Rattle.apd_world.specs.Flushing.{IsAtRest, rounds}
 use Rattle.apd_world.specs.HandingOut.{applies, recipient_of}
-use Rattle.apd_world.specs.Starting.{AreConfiguring}
+use Rattle.apd_world.specs.Starting.{AreConfiguring, IsAtRest, rounds}
 
 module _ {D R : Type 0} (disk : DiskModel D) (radio : RadioModel R) where
   -- steps that configure the interfaces

@@ -33,7 +33,7 @@ impl<D: Disk, R: Radio> World<D, R> {
     ghost use Rattle.apd_world.specs.Proper.{IsWhole};
     ghost use Rattle.apd_world.specs.WorldParts.{durable_of};
     ghost use Rattle.apd_world.specs.Ending.{HasEnded, HasFailedCore};
-    ghost use Rattle.apd_world.specs.Flushing.{IsFlushed};
+    ghost use Rattle.apd_world.specs.Starting.{IsFlushed};
 
     // Commits until nothing is unsettled.
     fn settle(&mut self) -> Result<(), WorldFault>

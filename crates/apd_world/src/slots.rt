@@ -4,7 +4,7 @@ ghost use Rattle.std.specs.List.{AllZip};
 ghost use Rattle.apd_slot.specs.Slots.{bssid_of, radio_of, HasForgotten};
 ghost use Rattle.apd_world.specs.Applying.{IsApplied};
 ghost use Rattle.apd_world.specs.Queueing.{QueuesReady};
-ghost use Rattle.apd_world.specs.StepMade.{IsStepMade};
+ghost use Rattle.apd_world.specs.Proper.{IsStepMade};
 ghost use Rattle.apd_world.specs.WorldParts.{slot_place};
 
 use crate::durable_core::DurableCore;

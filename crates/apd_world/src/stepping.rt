@@ -32,9 +32,8 @@ fn reception(answer: Accepted<'_>) -> Reception
 }
 
 impl<D: Disk> DurableCore<D> {
-    ghost use Rattle.apd_world.specs.Proper.{IsProper, IsSafe};
+    ghost use Rattle.apd_world.specs.Proper.{IsProper, IsSafe, IsStepMade};
     ghost use Rattle.apd_world.specs.Run.{IsStep};
-    ghost use Rattle.apd_world.specs.StepMade.{IsStepMade};
     ghost use Rattle.apd_world.specs.Shown.{ShowsFlight};
     ghost use Rattle.apd_world.specs.Outside.{device_of, flusher_of};
     ghost use Rattle.apd_world.specs.Telling.{HasReady};

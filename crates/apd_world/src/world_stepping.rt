@@ -13,9 +13,8 @@ use apd_radio::Radio;
 
 impl<D: Disk, R: Radio> World<D, R> {
     ghost use Rattle.apd_world.specs.Following.{AreExact, AreFollowing};
-    ghost use Rattle.apd_world.specs.Proper.{IsProper, IsSafe};
+    ghost use Rattle.apd_world.specs.Proper.{IsProper, IsSafe, IsStepMade};
     ghost use Rattle.apd_world.specs.Recovery.{LosesNothing};
-    ghost use Rattle.apd_world.specs.StepMade.{IsStepMade};
     ghost use Rattle.apd_world.specs.WorldParts.{durable_of, slots_of};
     ghost use Rattle.apd_world.specs.WorldRun.{IsWorldStep};
 

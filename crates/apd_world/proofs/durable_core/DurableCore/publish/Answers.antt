@@ -1,6 +1,5 @@
 use Rattle.std.proofs.Common.{◌≡◌, ◌⊎◌, Some, None, refl, sym, ap, subst, ◌∙◌}
-use Rattle.apd_flusher.specs.Handing.{IsUnloaded}
-use Rattle.apd_world.proofs.Words.{Flusher, Nothing, Publish, flight_of, waiting_receipt}
+use Rattle.apd_world.proofs.Words.{Flusher, IsUnloaded, Nothing, Publish, flight_of, waiting_receipt}
 use Rattle.apd_flusher.specs.Outside.{device_of as device_in, flusher_of as flusher_in}
 use Rattle.apd_world.proofs.Goings.{goes_unchanged}
 use Rattle.apd_world.proofs.Standing.{refused_whole, safe_same, settled_whole}

@@ -1,6 +1,5 @@
 use Rattle.std.proofs.Common.{◌≡◌, Option, refl, sym, ap, subst, ◌∙◌}
-use Rattle.apd_world.proofs.Words.{Batch, Committer, DurableCore, HasNoneToLoad, IsImaged, Nothing, Take, device_of}
-use Rattle.apd_flusher.specs.Handing.{IsLoadGiven}
+use Rattle.apd_world.proofs.Words.{Batch, Committer, DurableCore, HasNoneToLoad, IsImaged, IsLoadGiven, Nothing, Take, device_of}
 use Rattle.apd_flusher.specs.Outside.{device_of as device_in, flusher_of as flusher_in}
 use Rattle.apd_world.proofs.Goings.{goes_unchanged}
 use Rattle.apd_world.proofs.Standing.{safe_same, safe_unchanged}

@@ -1,7 +1,6 @@
 use Rattle.std.proofs.Common.{◌≡◌, Some, None, refl, ap, subst}
 use Rattle.std.specs.Vec.{with_item}
-use Rattle.apd_world.specs.Applying.{AppliesFirst}
-use Rattle.apd_world.proofs.Words.{Nothing, Told, slot_in, slot_place, slots_of}
+use Rattle.apd_world.proofs.Words.{AppliesFirst, Nothing, Told, slot_in, slot_place, slots_of}
 use Rattle.apd_world.proofs.Joining.{apply_joins, nothing_joins}
 use Rattle.apd_world.proofs.SlotLemmas.{place_seen}
 use Rattle.apd_world.proofs.Standing.{made_unchanged}
