@@ -121,7 +121,7 @@ Tells Call Nothing old new = HasNoCall old × (new ≡ old)
 Tells Publish (Published result) old new = IsPublished result old new
 Tells Publish Nothing old new = HasNoReceipt old × (new ≡ old)
 Tells (Hand r) (Handed outs) old new = IsHanded r outs old new
--- nothing is asked for a radio that isn't there
+-- a world asks nothing for a radio that has no slot; a durable core by itself never tells so
 Tells (Hand (Radio b)) Nothing old new = new ≡ old
 Tells (Ask q) (Answered answer) old new = IsRead q answer old new
 Tells (Apply b) Nothing old new = new ≡ old

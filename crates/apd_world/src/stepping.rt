@@ -1,5 +1,5 @@
 //! The steps of a durable core.
-ghost use Rattle.std.specs.Prelude.{◌≡◌, ◌⊎◌, ℕ, List, IfOk, IsSome, OnErr, take};
+ghost use Rattle.std.specs.Prelude.{◌≡◌, ◌≢◌, ◌⊎◌, ℕ, List, IfOk, IsSome, OnErr, take};
 ghost use Rattle.apd_mlme.specs.Happening.{Happening};
 ghost use Rattle.apd_mlme.specs.Run.{run};
 ghost use Rattle.apd_store.specs.Image.{Shows};
@@ -178,10 +178,11 @@ impl<D: Disk> DurableCore<D> {
 
     /// Makes one step, and tells its answer. From a whole one it leaves one, whatever the device; from a proper one it
     /// leaves one, and a stop since its start leaves an image of the settled table, or of that after the batch in
-    /// flight. It makes one call of the device at most.
+    /// flight. It makes one call of the device at most. A hand is never told as nothing: it asks for no slot.
     pub fn step(&mut self, step: &Step<'_>) -> Told
         ensures step { IsStep step.now result self.old self.new }
         ensures made { IsStepMade D.model result self.old self.new }
+        ensures handed { (to : Recipient) → step.now ≡ Hand to → result ≢ Told.Nothing }
     {
         match *step {
             Step::Accept(input, moment) => self.accept(input, moment),
