@@ -65,7 +65,7 @@ module _ (s : State) (confs : List Conf) (conf : Conf) (b : Bssid) (kind : Kind)
 module _ (s : State) (confs : List Conf) (c : Bssid) (d : Addr) (none : station_at s c d ≡ None) where
   shape_admits : (h : Happening) (v : Verdict) → Shape s confs h v → IsSome (station_at v.state c d) → Asks c d h
   shape_admits h _ shape.silent = none_is _ none
-  shape_admits h _ (shape.told reply there so one) = none_is _ none
+  shape_admits h _ (shape.told reply there so one named) = none_is _ none
   shape_admits h _ (shape.admitted conf b request there is e) = λ known.
       elim (is_row b request.sender c d) as (λ t. is_row b request.sender c d ≡ t → IsSome (cond t (Some Authenticated) (station_at s c d)) → Asks c d h) [
         | true ↦ λ here _.
@@ -74,12 +74,12 @@ module _ (s : State) (confs : List Conf) (c : Bssid) (d : Addr) (none : station_
         | false ↦ λ _ old. none_is (station_at s c d) none old
       ] refl (subst IsSome (station_put s b request.sender Authenticated c d) known)
   shape_admits h _ (shape.left b a there own known) = none_is _ (turned_new s (is_row_at b a) c d none)
-  shape_admits h _ (shape.gone b a there own) = none_is _ (kept_new s (λ key. not (is_row_at b a key)) c d none)
-  shape_admits h _ (shape.ended b a reason there known) = none_is _ (turned_new s (is_row_at b a) c d none)
-  shape_admits h _ (shape.dropped b a reason there known) = none_is _ (kept_new s (λ key. not (is_row_at b a key)) c d none)
-  shape_admits h _ (shape.associated conf b kind request aid there known own) = none_is _ (associated_new s confs conf b kind request known aid c d none)
-  shape_admits h _ (shape.emptied b reason deauth there) = none_is _ (kept_new s (λ key. not (eq_by_cmp bssid_cmp b key.0)) c d none)
-  shape_admits h _ (shape.enforced b p change l q there makes keep short) = none_is _ (kept_new s (stays (new s b p change l q) b p.mode) c d none)
+  shape_admits h _ (shape.gone b a there own known) = none_is _ (kept_new s (λ key. not (is_row_at b a key)) c d none)
+  shape_admits h _ (shape.ended b a reason there known others) = none_is _ (turned_new s (is_row_at b a) c d none)
+  shape_admits h _ (shape.dropped b a reason there known others) = none_is _ (kept_new s (λ key. not (is_row_at b a key)) c d none)
+  shape_admits h _ (shape.associated conf b kind request aid there known own asked) = none_is _ (associated_new s confs conf b kind request known aid c d none)
+  shape_admits h _ (shape.emptied b reason deauth there to_all) = none_is _ (kept_new s (λ key. not (eq_by_cmp bssid_cmp b key.0)) c d none)
+  shape_admits h _ (shape.enforced b p change l q there makes keep short others needed) = none_is _ (kept_new s (stays (new s b p change l q) b p.mode) c d none)
   shape_admits h _ (shape.started conf b accept deny is first) = none_is _ none
 
   pub verdict_admits : (h : Happening) → IsSome (station_at (verdict s confs h).state c d) → Asks c d h

@@ -2,6 +2,7 @@
 use Rattle.std.proofs.Common.{◌≡◌, true, false, cond, not, ◌&&◌, List, [], ◌∷◌, ◌++◌, Option, Some, None, inl, inr, refl, sym, ap, subst, ◌∙◌, IsSome}
 use Rattle.std.specs.Option.{is_some, option_map}
 use Rattle.std.specs.Ordering.{eq_by_cmp}
+use Rattle.std.specs.FinMap as map
 use Rattle.std.proofs.lemmas.Bool.{and_parts}
 use Rattle.apd_base.specs.declared.address.Addr.{Addr}
 use Rattle.apd_base.specs.declared.address.Bssid.{Bssid}
@@ -16,22 +17,24 @@ use Rattle.apd_conf.specs.declared.conf.Conf.{Conf}
 use Rattle.apd_conf.specs.Confs.{conf_at}
 use Rattle.apd_frame.specs.Contents.{AssociationRequest}
 use Rattle.apd_frame.specs.declared.codes.Status.TheVariants.{Success}
-use Rattle.apd_record.specs.declared.change.Change.TheVariants.{Put}
+use Rattle.apd_record.specs.declared.change.Change.TheVariants.{Put, Cursor}
+use Rattle.apd_record.specs.declared.change.Change.{Change}
 use Rattle.apd_record.specs.Meaning.{put_station, meaning_of}
 use Rattle.apd_table.specs.Can.{CanPut}
 use Rattle.apd_table.specs.Sound.{Sound, StaySound}
+use Rattle.apd_table.proofs.Cursors.{sound_cursor}
 use Rattle.apd_table.proofs.Denied.{meaning_of-append}
 use Rattle.apd_table.proofs.Put.{sound_put}
 use Rattle.apd_mlme.specs.declared.association.Kind.{Kind}
 use Rattle.apd_mlme.specs.declared.decision.Recipient.TheVariants.{Radio}
 use Rattle.apd_mlme.specs.declared.decision.Out.TheVariants.{Install}
 use Rattle.apd_mlme.specs.rules.Association.{association_response, elsewhere, with_authenticated, put_backs, outs_elsewhere, installation, row_of, associated}
-use Rattle.apd_mlme.specs.rules.Identifiers.{identifier_for}
+use Rattle.apd_mlme.specs.rules.Identifiers.{cursor_changes, identifier_for, number_of}
 use Rattle.apd_mlme.specs.Outs.{sent}
 use Rattle.apd_mlme.specs.Verdict.{Verdict}
 use Rattle.apd_mlme.proofs.RowLemmas.{is_row, station_put, aid_cond, left_by, left_by-append, Follows, aid_turned, authenticated_station, turned_not}
 use Rattle.apd_mlme.proofs.ElsewhereLemmas.{is_bssid_among, among_elsewhere, put_backs_meaning, HasRows, put_backs_stay, elsewhere_driven}
-use Rattle.apd_mlme.proofs.IdentifierLemmas.{is_least_free}
+use Rattle.apd_mlme.proofs.IdentifierLemmas.{nobody_has}
 use Rattle.apd_base.proofs.Cases.{either, first_false, no_value, none_is, second_false}
 use Rattle.apd_base.proofs.StateLemmas.{station_of_aid}
 
@@ -77,8 +80,8 @@ module _ (s : State) (b : Bssid) (a : Addr) where
 
   -- an identifier that the station gets is its own, or nobody's
   pub own_or_free : Sound s → (aid : Aid) (o : Option Station) → station_at s b a ≡ o → identifier_for s b o ≡ Some aid → (c : Addr) → aid_at s b c ≡ Some aid.number → a ≡ c
-  own_or_free sound aid None row is c h = absurd ((is_least_free s b aid is).free c h)
-  own_or_free sound aid (Some Authenticated) row is c h = absurd ((is_least_free s b aid is).free c h)
+  own_or_free sound aid None row is c h = absurd (nobody_has s b aid is c h)
+  own_or_free sound aid (Some Authenticated) row is c h = absurd (nobody_has s b aid is c h)
   own_or_free sound aid (Some (Associated x)) row is c h =
       let same : x.aid ≡ aid = cc in
       sound.distinct b a c aid.number (ap aid_of row ∙ ap (λ (y : Aid). Some y.number) same) h
@@ -103,10 +106,25 @@ module _ (s : State) (confs : List Conf) (conf : Conf) (b : Bssid) (kind : Kind)
   abbrev IsItsOwn : Type 0
   IsItsOwn = identifier_for s b (station_at s b sender) ≡ Some aid
 
+  -- the row, and behind it the identifier, where it was given
+  abbrev given : List Change
+  given = cursor_changes s b sender aid
+
+  abbrev placed : State
+  placed = put_station b sender row (cleared s b sender)
+
+  given_meaning : meaning_of given placed ≡ answered.state
+  given_meaning =
+      elim (is_some (aid_at s b sender)) as (λ t. meaning_of (cond t [] (Cursor b (number_of aid) ∷ [])) placed ≡ record placed { cursors = cond t s.cursors (map.insert s.cursors b (number_of aid)) }) [
+        | true ↦ refl
+        | false ↦ refl
+      ]
+
   pub associated_meaning : meaning_of answered.changes s ≡ answered.state
   associated_meaning =
-      meaning_of-append (put_backs sender (elsewhere s b sender)) (Put b sender row ∷ []) s
-      ∙ ap (put_station b sender row) (cleared_is s b sender)
+      meaning_of-append (put_backs sender (elsewhere s b sender)) (Put b sender row ∷ given) s
+      ∙ ap (λ x. meaning_of given (put_station b sender row x)) (cleared_is s b sender)
+      ∙ given_meaning
 
   can_put : Sound s → IsSome (station_at s b sender) → IsItsOwn → CanPut (cleared s b sender) b sender row
   can_put sound known own = record {
@@ -121,11 +139,18 @@ module _ (s : State) (confs : List Conf) (conf : Conf) (b : Bssid) (kind : Kind)
     room = inl (subst IsSome (sym (cleared_here s b sender sender)) known);
   }
 
+  given_stays : IsSome (policy_at s b) → Sound placed → StaySound given placed
+  given_stays there sound =
+      elim (is_some (aid_at s b sender)) as (λ t. StaySound (cond t [] (Cursor b (number_of aid) ∷ [])) placed) [
+        | true ↦ sound
+        | false ↦ (sound, sound_cursor placed b (number_of aid) sound there)
+      ]
+
   pub associated_sound : Sound s → IsSome (station_at s b sender) → IsItsOwn → StaySound answered.changes s
   associated_sound sound known own =
-      put_backs_stay sender (elsewhere s b sender) (Put b sender row ∷ []) s (elsewhere_rows s b sender) sound
+      put_backs_stay sender (elsewhere s b sender) (Put b sender row ∷ given) s (elsewhere_rows s b sender) sound
       (λ left. (let before = subst Sound (cleared_is s b sender) left in
-      subst (StaySound (Put b sender row ∷ [])) (sym (cleared_is s b sender)) (before, sound_put (cleared s b sender) b sender row before (can_put sound known own))))
+      subst (StaySound (Put b sender row ∷ given)) (sym (cleared_is s b sender)) (before, given_stays (sound.stations_have_policy b sender known) (sound_put (cleared s b sender) b sender row before (can_put sound known own)))))
 
   -- the rows and the identifiers afterwards
   pub associated_station : (c : Bssid) (d : Addr) → station_at answered.state c d ≡ cond (is_row b sender c d) (Some row) (station_at (cleared s b sender) c d)

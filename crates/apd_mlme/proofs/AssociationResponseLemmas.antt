@@ -2,34 +2,37 @@
 use Rattle.std.proofs.Common.{◌≡◌, ◌≢◌, ℕ, Bool, true, false, cond, not, ◌&&◌, [], ◌++◌, List, Option, Some, None, inl, inr, refl, sym, ap, subst, ◌∙◌, IsSome, ◌||◌, ◌∷◌, append-nil}
 use Rattle.std.specs.Option.{is_some, option_map}
 use Rattle.std.specs.Ordering.{eq_by_cmp}
+use Rattle.std.specs.FinMap as map
+use Rattle.std.specs.FinMap.{FinMap}
 use Rattle.std.proofs.lemmas.Bool.{ltb-true, ltb-false}
 use Rattle.std.proofs.lemmas.Slice.Eq.{bytes_eq-Decides}
 use Rattle.apd_base.specs.declared.address.Addr.{Addr}
 use Rattle.apd_base.specs.declared.address.Bssid.{Bssid}
 use Rattle.apd_base.specs.declared.station.Aid.{Aid}
 use Rattle.apd_base.specs.declared.station.Station.{Station}
+use Rattle.apd_base.specs.declared.station.StationNumber.{StationNumber}
 use Rattle.apd_base.specs.declared.station.Station.TheVariants.{Authenticated, Associated}
 use Rattle.apd_base.specs.Addr.{addr_cmp, bssid_cmp}
-use Rattle.apd_base.specs.State.{State, station_at, aid_of, aid_at}
+use Rattle.apd_base.specs.State.{State, station_at, aid_of, aid_at, cursor_at}
 use Rattle.apd_base.proofs.AddrLemmas.{addr_total, addr_exact, bssid_total, bssid_exact, same_bssid}
-use Rattle.apd_base.proofs.MapLemmas.{one_or_apart, apart, tied}
+use Rattle.apd_base.proofs.MapLemmas.{one_or_apart, apart, get_insert_other, get_inserted, tied}
 use Rattle.apd_conf.specs.declared.conf.Conf.{Conf}
 use Rattle.apd_frame.specs.Contents.{AssociationRequest}
 use Rattle.apd_frame.specs.Elements.{well_formed, first_with}
 use Rattle.apd_frame.specs.declared.codes.Status.{Status}
 use Rattle.apd_frame.specs.declared.codes.Status.TheVariants.{Success, RefusedReasonUnspecified, NotSupportedAuthAlgorithm, TransactionSequenceError, DeniedNoMoreStas, DeniedListenIntervalTooLarge}
 use Rattle.apd_frame.specs.declared.element.TheConstants.{SSID, SUPPORTED_RATES}
-use Rattle.apd_table.specs.LeastFree.{IsLeastFree}
+use Rattle.apd_table.specs.LeastFree.{IsNextFree, last_given, number_or_0}
 use Rattle.apd_table.specs.Sound.{Sound}
 use Rattle.apd_mlme.specs.declared.association.Kind.{Kind}
 use Rattle.apd_mlme.specs.laws.Association.{IsMember, IsForNetwork, IsDeserved, IsAnsweredTruly, only_authenticated, IsOfEnd, IsJoined}
 use Rattle.apd_mlme.specs.rules.Association.{is_named, association_refusals, association_status, association_response, elsewhere, outs_elsewhere, installation, row_of, associated, accepted, association_of, association_verdict}
-use Rattle.apd_mlme.specs.rules.Identifiers.{identifier_for}
+use Rattle.apd_mlme.specs.rules.Identifiers.{identifier_for, number_of}
 use Rattle.apd_mlme.specs.rules.Refusals.{is_success}
 use Rattle.apd_mlme.specs.Verdict.{Verdict, only_sent}
 use Rattle.apd_mlme.proofs.AssociationLemmas.{others, cleared, cleared_station, cleared_here, cleared_elsewhere, own_or_free, own_kept, associated_station, not_here}
 use Rattle.apd_mlme.proofs.ElsewhereLemmas.{is_bssid_among, among_elsewhere, among-filter}
-use Rattle.apd_mlme.proofs.IdentifierLemmas.{is_least_free, identifier_is_there}
+use Rattle.apd_mlme.proofs.IdentifierLemmas.{is_next_free, identifier_is_there}
 use Rattle.apd_mlme.proofs.RefusalLemmas.{by_lines, status_success, not_less}
 use Rattle.apd_mlme.proofs.RowLemmas.{turned_not}
 use Rattle.apd_base.proofs.Cases.{both_true, differ, either, first_false, none_is, not_false, not_yes, second_false}
@@ -45,6 +48,7 @@ use Rattle.apd_mlme.specs.rules.Leaving.{disassociation, outs_of_end}
 use Rattle.apd_mlme.specs.laws.ManagementFrame.{disassociation_frame}
 use Rattle.apd_mlme.specs.Outs.{is_same, outs_to, sent}
 use Rattle.apd_mlme.proofs.OutsLemmas.{outs_to-append}
+use Rattle.apd_mlme.proofs.RisingLemmas.{Apart}
 
 -- ---- what is asked
 named_so : (conf : Conf) (o : Option (List ℕ)) → is_named conf o ≡ true → o ≡ Some conf.ssid
@@ -141,10 +145,29 @@ module _ (s : State) (confs : List Conf) (conf : Conf) (b : Bssid) (kind : Kind)
     ];
   }
 
-  least_told : aid_at s b a ≡ None → (o : Option Station) → station_at s b a ≡ o → identifier_for s b o ≡ Some aid → IsLeastFree s b aid.number
-  least_told none None at is = is_least_free s b aid is
-  least_told none (Some Authenticated) at is = is_least_free s b aid is
-  least_told none (Some (Associated x)) at is = none_is (aid_at s b a) none (ap (λ o. is_some (aid_of o)) at)
+  pub next_told : aid_at s b a ≡ None → (o : Option Station) → station_at s b a ≡ o → identifier_for s b o ≡ Some aid → IsNextFree s b aid.number
+  next_told none None at is = is_next_free s b aid is
+  next_told none (Some Authenticated) at is = is_next_free s b aid is
+  next_told none (Some (Associated x)) at is = none_is (aid_at s b a) none (ap (λ o. is_some (aid_of o)) at)
+
+  -- the identifier that was given last
+  abbrev cursors_by : Bool → FinMap bssid_cmp StationNumber
+  cursors_by t = cond t s.cursors (map.insert s.cursors b (number_of aid))
+
+  pub last_told : aid_at s b a ≡ None → last_given answered.state b ≡ aid.number
+  last_told none =
+      ap (λ o. number_or_0 (map.get (cursors_by (is_some o)) b)) none
+      ∙ ap number_or_0 (get_inserted bssid_total bssid_exact s.cursors b (number_of aid))
+
+  pub cursors_kept : IsSome (aid_at s b a) → answered.state.cursors ≡ s.cursors
+  cursors_kept known = ap cursors_by known
+
+  pub cursor_elsewhere : (c : Bssid) → eq_by_cmp bssid_cmp c b ≡ false → cursor_at answered.state c ≡ cursor_at s c
+  cursor_elsewhere c other =
+      elim (is_some (aid_at s b a)) as (λ t. map.get (cursors_by t) c ≡ cursor_at s c) [
+        | true ↦ refl
+        | false ↦ get_insert_other bssid_total bssid_exact s.cursors b (number_of aid) c other
+      ]
 
   pub told_accepted : association_status conf request ≡ Success → IsAnsweredTruly s conf b kind request answered
   told_accepted good = record {
@@ -155,13 +178,15 @@ module _ (s : State) (confs : List Conf) (conf : Conf) (b : Bssid) (kind : Kind)
     success = λ _. member;
     deserved = subst (IsDeserved conf request) good (status_deserved conf request);
     kept = λ _ known. ap aid_of row_here ∙ sym (own_kept s b a aid (station_at s b a) refl own known);
-    least = λ _ none. least_told none (station_at s b a) refl own;
+    next = λ _ none. next_told none (station_at s b a) refl own;
     elsewhere = λ _ c ne. row_elsewhere c (apart bssid_total bssid_exact c b ne) a ∙ cleared_row s b a sound c (apart bssid_total bssid_exact b c (λ e. ne (sym e)));
     refused = λ bad. absurd (bad refl);
     others = λ c d ne. row_of_another c d (apart addr_total addr_exact d a ne) ∙ cleared_others s b a c d ne;
     lists = refl;
     policies = refl;
-    cursors = refl;
+    given = λ _ none. last_told none;
+    not_given = λ known. cursors_kept known;
+    other_cursors = λ c ne. cursor_elsewhere c (apart bssid_total bssid_exact c b ne);
   }
 
 -- ---- any request of a station with a row
@@ -181,13 +206,15 @@ module _ (s : State) (confs : List Conf) (conf : Conf) (b : Bssid) (kind : Kind)
     success = λ good. absurd (refuses (association_status conf request) bad good);
     deserved = status_deserved conf request;
     kept = λ good. absurd (refuses (association_status conf request) bad good);
-    least = λ good. absurd (refuses (association_status conf request) bad good);
+    next = λ good. absurd (refuses (association_status conf request) bad good);
     elsewhere = λ good. absurd (refuses (association_status conf request) bad good);
     refused = λ _. (refl, refl, refl);
     others = λ c d ne. refl;
     lists = refl;
     policies = refl;
-    cursors = refl;
+    given = λ good. absurd (refuses (association_status conf request) bad good);
+    not_given = λ _. refl;
+    other_cursors = λ c ne. refl;
   }
 
   told_known : association_status conf request ≡ Success → (o : Option Aid) → identifier_for s b (station_at s b request.sender) ≡ o → IsSome o → IsAnsweredTruly s conf b kind request (accepted s confs conf b kind request o)
@@ -224,6 +251,17 @@ module _ (c : Bssid) (a : Addr) where
         | true ↦ λ e. cc
         | false ↦ λ e. no_end bssids e
       ] e
+
+  -- where none is there twice
+  pub ends_at : (bssids : List Bssid) → Apart bssids → outs_to (Radio c) (flat_map end_at bssids) ≡ cond (is_bssid_among c bssids) (Remove a ∷ (sent (disassociation c a UNSPECIFIED)).1 ∷ []) []
+  ends_at [] apart = refl
+  ends_at (x ∷ bssids) apart =
+      elim (eq_by_cmp bssid_cmp c x) as (λ t. eq_by_cmp bssid_cmp c x ≡ t → with_end x bssids t ≡ cond (t || is_bssid_among c bssids) (Remove a ∷ (sent (disassociation c a UNSPECIFIED)).1 ∷ []) []) [
+        | true ↦ λ e.
+            let same = same_bssid x c e in
+            (λ i. Remove a ∷ (sent (disassociation (sym same i) a UNSPECIFIED)).1 ∷ no_end bssids (ap (λ y. is_bssid_among y bssids) same ∙ apart.0) i)
+        | false ↦ λ e. ends_at bssids apart.1
+      ] refl
 
   ends_alone : (bssids : List Bssid) → AllByRecursion (IsOfEnd c a) (outs_to (Radio c) (flat_map end_at bssids))
   ends_alone [] = tt
@@ -271,7 +309,13 @@ module _ (s : State) (confs : List Conf) (conf : Conf) (b : Bssid) (kind : Kind)
         ∙ ap (λ ys. ys ++ outs_to (Radio b) (response ∷ [])) taken
         ∙ ap (λ ys. zs ++ ys) (here b response.1)
 
-    at_other : (c : Bssid) → eq_by_cmp bssid_cmp c b ≡ false → outs_to (Radio c) (associated s confs conf b kind request aid).outs ≡ outs_to (Radio c) ends
+    pub at_anew : aid_at s b asker ≡ None → outs_to (Radio b) (associated s confs conf b kind request aid).outs ≡ Install asker aid ∷ response.1 ∷ []
+    at_anew none = at_this (Install asker aid ∷ []) (ap (λ o. outs_to (Radio b) (cond (is_some o) [] ((Radio b, Install asker aid) ∷ []))) none ∙ here b (Install asker aid))
+
+    pub at_again : IsSome (aid_at s b asker) → outs_to (Radio b) (associated s confs conf b kind request aid).outs ≡ response.1 ∷ []
+    at_again known = at_this [] (ap (λ t. outs_to (Radio b) (cond t [] ((Radio b, Install asker aid) ∷ []))) known)
+
+    pub at_other : (c : Bssid) → eq_by_cmp bssid_cmp c b ≡ false → outs_to (Radio c) (associated s confs conf b kind request aid).outs ≡ outs_to (Radio c) ends
     at_other c other =
         let none_taken : outs_to (Radio c) taken_in ≡ [] =
         elim (is_some (aid_at s b asker)) as (λ t. outs_to (Radio c) (cond t [] ((Radio b, Install asker aid) ∷ [])) ≡ []) [ true ↦ refl | false ↦ not_there b (Install asker aid) c other ] in
@@ -286,8 +330,8 @@ module _ (s : State) (confs : List Conf) (conf : Conf) (b : Bssid) (kind : Kind)
       aid = aid;
       response = response.1;
       row = row_here s confs conf b kind request sound aid own;
-      anew = λ none. at_this (Install asker aid ∷ []) (ap (λ o. outs_to (Radio b) (cond (is_some o) [] ((Radio b, Install asker aid) ∷ []))) none ∙ here b (Install asker aid));
-      again = λ known. at_this [] (ap (λ t. outs_to (Radio b) (cond t [] ((Radio b, Install asker aid) ∷ []))) known);
+      anew = at_anew;
+      again = at_again;
       elsewhere = λ c ne. subst (AllByRecursion (IsOfEnd c asker)) (sym (at_other c (apart bssid_total bssid_exact c b ne))) (ends_alone c asker (filter (λ x. is_some (conf_at confs x)) (elsewhere s b asker)));
     }
 

@@ -255,7 +255,7 @@ module _ (s : State) (b : Bssid) (w : Which) where
 module _ (s : State) (confs : List Conf) (sound : Sound s) where
   kick_answered : (b : Bssid) (to : Addr) (reason : Reason) (deauth : Bool) (tag : ℕ) → IsSome (conf_at confs b) → IsAnsweredTo s (Kick b to reason deauth tag) (kick_verdict s b to reason deauth tag)
   kick_answered b to reason deauth tag there = (
-    record { before = (kicked s b to reason deauth).outs; last = refl; alone = radios_only confs (kicked s b to reason deauth).outs (shape_radios s confs (Kick b to reason deauth tag) _ (kicked_shape s confs b there (Kick b to reason deauth tag) to reason deauth)) },
+    record { before = (kicked s b to reason deauth).outs; last = refl; alone = radios_only confs (kicked s b to reason deauth).outs (shape_radios s confs (Kick b to reason deauth tag) _ (kicked_shape s confs b there to reason tag deauth)) },
     kick_done s b to reason tag deauth,
   )
 
@@ -264,8 +264,8 @@ module _ (s : State) (confs : List Conf) (sound : Sound s) where
       by_edit s b w tag (IsAnsweredTo s (ListEdit b w edit tag)) edit
       (λ none. inl (record { before = []; last = refl; alone = refl }, unneeded_answered s b w edit tag sound none))
       (λ many. inr (record { before = []; last = refl; alone = refl }, full_answered s b w edit tag sound many))
-      (λ room. inl (
-        record { before = (edited s b w edit).outs; last = refl; alone = radios_only confs (edited s b w edit).outs (shape_radios s confs (ListEdit b w edit tag) _ (edited_shape s confs b there (ListEdit b w edit tag) w edit room (policy_at s b) refl)) },
+      (λ made. inl (
+        record { before = (edited s b w edit).outs; last = refl; alone = radios_only confs (edited s b w edit).outs (shape_radios s confs (ListEdit b w edit tag) _ (edited_shape s confs b there w tag edit made (policy_at s b) refl)) },
         edited_answered s b w edit tag (policy_at s b) refl known,
       ))
 

@@ -66,25 +66,25 @@ IsTooMany s b w (Add a) = (contains s.lists (b, w, a) ≡ false) × (nat_le 1024
 IsTooMany s b w (Remove a) = ⊥
 IsTooMany s b w Clear = ⊥
 
-abbrev pub HasRoom : State → Bssid → Which → Edit → Type 0
-HasRoom s b w (Add a) = nat_le 1024 (list_count s b w) ≡ false
-HasRoom s b w (Remove a) = Unit {0}
-HasRoom s b w Clear = Unit {0}
+abbrev pub IsMade : State → Bssid → Which → Edit → Type 0
+IsMade s b w (Add a) = (contains s.lists (b, w, a) ≡ false) × (nat_le 1024 (list_count s b w) ≡ false)
+IsMade s b w (Remove a) = contains s.lists (b, w, a) ≡ true
+IsMade s b w Clear = Unit {0}
 
 module _ (s : State) (b : Bssid) (w : Which) (tag : ℕ) (P : Verdict → Type 0) where
   pub by_edit : (edit : Edit) → (IsUnneeded s b w edit → P (answered tag Done (nothing s))) → (IsTooMany s b w edit → P (answered tag Refused (nothing s)))
-      → (HasRoom s b w edit → P (answered tag Done (edited s b w edit))) → P (list_edit_verdict s b w edit tag)
+      → (IsMade s b w edit → P (answered tag Done (edited s b w edit))) → P (list_edit_verdict s b w edit tag)
   by_edit (Add a) none many done =
       elim (contains s.lists (b, w, a)) as (λ t. contains s.lists (b, w, a) ≡ t → P (cond t (answered tag Done (nothing s)) (cond (nat_le 1024 (list_count s b w)) (answered tag Refused (nothing s)) (answered tag Done (edited s b w (Add a)))))) [
         | true ↦ λ e. none e
         | false ↦ λ e. elim (nat_le 1024 (list_count s b w)) as (λ u. nat_le 1024 (list_count s b w) ≡ u → P (cond u (answered tag Refused (nothing s)) (answered tag Done (edited s b w (Add a))))) [
           | true ↦ λ f. many (e, f)
-          | false ↦ λ f. done f
+          | false ↦ λ f. done (e, f)
         ] refl
       ] refl
   by_edit (Remove a) none many done =
       elim (contains s.lists (b, w, a)) as (λ t. contains s.lists (b, w, a) ≡ t → P (cond t (answered tag Done (edited s b w (Remove a))) (answered tag Done (nothing s)))) [
-        | true ↦ λ e. done tt
+        | true ↦ λ e. done e
         | false ↦ λ e. none e
       ] refl
   by_edit Clear none many done = done tt
@@ -115,13 +115,13 @@ module _ (s : State) (b : Bssid) (w : Which) (p : Policy) where
   change_with Clear k = refl
 
   -- it may be made where nobody is denied then
-  made_sound : (edit : Edit) (k : FinMap station_cmp Station) → policy_at s b ≡ Some p → HasRoom s b w edit → let t = record s { stations = k } in
+  made_sound : (edit : Edit) (k : FinMap station_cmp Station) → policy_at s b ≡ Some p → IsMade s b w edit → let t = record s { stations = k } in
       Sound t → NoneDeniedAfter t b (change_of b w edit) → Sound (meaning (change_of b w edit) t)
-  made_sound (Add a) k at room left none = sound_add (record s { stations = k }) b w a left (record { policy = ap is_some at; room = inr (leb-false 1024 (list_count s b w) room); allowed = none })
+  made_sound (Add a) k at made left none = sound_add (record s { stations = k }) b w a left (record { policy = ap is_some at; room = inr (leb-false 1024 (list_count s b w) made.1); allowed = none })
   made_sound (Remove a) k at room left none = sound_take (record s { stations = k }) b w a left none
   made_sound Clear k at room left none = sound_clear (record s { stations = k }) b w left none
 
-  pub edited_sound : (edit : Edit) → policy_at s b ≡ Some p → HasRoom s b w edit → Sound s → StaySound (edited_under s b w edit (Some p)).changes s
+  pub edited_sound : (edit : Edit) → policy_at s b ≡ Some p → IsMade s b w edit → Sound s → StaySound (edited_under s b w edit (Some p)).changes s
   edited_sound edit at room =
       enforced_sound s b p (change_of b w edit) (new s b w edit).lists s.policies (change_with edit) at (made_sound edit (rest s b p (change_of b w edit) (new s b w edit).lists s.policies).stations at room)
 

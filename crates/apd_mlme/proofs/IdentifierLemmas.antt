@@ -1,6 +1,7 @@
--- The least free identifier, and why there is always one for a station that is authenticated and not associated.
-use Rattle.std.proofs.Common.{◌≡◌, ◌≢◌, eq-eqb, ℕ, zero, suc, ◌-◌, ◌<◌, ◌≤◌, true, false, cond, Option, Some, None, inl, inr, refl, sym, ap, subst, ◌∙◌, IsSome, IfNone, arith}
+-- The next identifier, and why there is always one for a station that is authenticated and not associated.
+use Rattle.std.proofs.Common.{◌≡◌, ◌≢◌, eq-eqb, ℕ, zero, suc, ◌-◌, ◌<◌, ◌≤◌, true, false, cond, not, ◌&&◌, Option, Some, None, inl, inr, refl, sym, ap, subst, ◌∙◌, IsSome, IfNone, arith, ◌⊎◌}
 use Rattle.std.specs.Option.{is_some, option_or}
+use Rattle.std.specs.Prelude.{nat_lt}
 use Rattle.std.specs.Ordering.{eq_by_cmp}
 use Rattle.std.specs.FinMap as map
 use Rattle.std.proofs.Math.Nat.{eq-or-lt_of_le}
@@ -16,14 +17,15 @@ use Rattle.apd_base.specs.State.{State, station_at, aid_of, aid_at, stations_of}
 use Rattle.apd_base.proofs.AddrLemmas.{bssid_total, bssid_exact, station_total, station_exact}
 use Rattle.apd_base.proofs.MapLemmas.{one_or_apart, apart, tied, get_remove_other}
 use Rattle.apd_base.proofs.StationLemmas.{same_aid}
-use Rattle.apd_table.specs.LeastFree.{AreTakenAbove, IsTaken, IsLeastFree}
+use Rattle.apd_table.specs.LeastFree.{AreTakenAbove, IsTaken, IsLeastFreeAbove, IsNextFree, last_given}
 use Rattle.apd_table.specs.Sound.{Sound}
 use Rattle.apd_table.specs.Addresses.{addresses_at}
 use Rattle.apd_table.proofs.AllRows.{any_address}
+use Rattle.apd_table.proofs.NextFree.{next_is_free, one_next}
 use Rattle.apd_table.proofs.Parts.{has_one}
-use Rattle.apd_mlme.specs.rules.Identifiers.{is_number, is_taken, least_free_to, least_free, identifier_for, one_less, at_least_one, at_most_all}
+use Rattle.apd_mlme.specs.rules.Identifiers.{is_number, is_taken, least_free_to, least_free_above, next_free, identifier_for, one_less, at_least_one, at_most_all}
 use Rattle.apd_base.proofs.Cases.{differ, none_is, same_some, value_of}
-use Rattle.std.proofs.lemmas.Bool.{eqb-true}
+use Rattle.std.proofs.lemmas.Bool.{eqb-true, ltb-true, ltb-false}
 use Rattle.std.proofs.lemmas.List.Folds.{Any-from_list_any}
 use Rattle.apd_base.proofs.StateLemmas.{station_of_aid}
 
@@ -43,66 +45,88 @@ module _ (s : State) (b : Bssid) where
       let row = value_of (station_at s b a) (station_of_aid (station_at s b a) (ap is_some has)) in
       differ _ e (any_address s b (λ c. is_number aid.number (aid_at s b c)) a row.0 row.1 (ap (is_number aid.number) has ∙ eq-eqb aid.number aid.number refl))
 
-  -- none is free: each is some station's; and the one that is found is the least
-  abbrev Scanned : (n : ℕ) → Option Aid → Type 0
-  Scanned n None = (i : ℕ) → 0 < i → i ≤ n → IsTaken s b i
-  Scanned n (Some aid) = IsLeastFree s b aid.number
-
-  one_more : (P : ℕ → Type 0) (n : ℕ) → ((i : ℕ) → 0 < i → i ≤ n → P i) → P (suc n) → (i : ℕ) → 0 < i → i ≤ suc n → P i
-  one_more P n below here i low high =
-      elim (eq-or-lt_of_le high) [
-        | inl same ↦ subst P (sym same) here
-        | inr less ↦ below i low (omega arith)
-      ]
-
-  next_is_free : (n : ℕ) (aid : Aid) → aid.number ≡ suc n → ((i : ℕ) → 0 < i → i ≤ n → IsTaken s b i) → is_taken s b aid ≡ false → IsLeastFree s b aid.number
-  next_is_free n aid is below untaken = record {
-    low = omega (arith, aid.low);
-    high = aid.high;
-    free = free_of aid untaken;
-    smaller = λ j low less. below j low (omega arith);
-  }
-
-  next_scanned : (n : ℕ) (aid : Aid) → aid.number ≡ suc n → ((i : ℕ) → 0 < i → i ≤ n → IsTaken s b i) → Scanned (suc n) (cond (is_taken s b aid) None (Some aid))
-  next_scanned n aid is below =
-      elim (is_taken s b aid) as (λ t. is_taken s b aid ≡ t → Scanned (suc n) (cond t None (Some aid))) [
-        | true ↦ λ e. one_more (IsTaken s b) n below (subst (IsTaken s b) is (taken_of aid e))
-        | false ↦ λ e. next_is_free n aid is below e
+  pub taken_or_free : (aid : Aid) → IsTaken s b aid.number ⊎ ((a : Addr) → aid_at s b a ≢ Some aid.number)
+  taken_or_free aid =
+      elim (is_taken s b aid) as (λ t. is_taken s b aid ≡ t → IsTaken s b aid.number ⊎ ((a : Addr) → aid_at s b a ≢ Some aid.number)) [
+        | true ↦ λ e. inl (taken_of aid e)
+        | false ↦ λ e. inr (free_of aid e)
       ] refl
 
-  scanned : (n : ℕ) (high : n ≤ MAX_STATIONS) → Scanned n (least_free_to s b n high)
+  -- none is free above a number: each is some station's; and the one that is found is the least
+  abbrev Scanned : ℕ → ℕ → Option Aid → Type 0
+  Scanned last n None = (i : ℕ) → last < i → i ≤ n → IsTaken s b i
+  Scanned last n (Some aid) = IsLeastFreeAbove s b last aid.number
+
+  -- one number more
+  module _ (last n : ℕ) (below : (i : ℕ) → last < i → i ≤ n → IsTaken s b i) where
+    one_more : (last < suc n → IsTaken s b (suc n)) → (i : ℕ) → last < i → i ≤ suc n → IsTaken s b i
+    one_more here i low high =
+        elim (eq-or-lt_of_le high) [
+          | inl same ↦ subst (IsTaken s b) (sym same) (here (omega arith))
+          | inr less ↦ below i low (omega arith)
+        ]
+
+    module _ (aid : Aid) (is : aid.number ≡ suc n) where
+      least_here : last < suc n → is_taken s b aid ≡ false → IsLeastFreeAbove s b last aid.number
+      least_here low untaken = record {
+        low = omega arith;
+        high = aid.high;
+        free = free_of aid untaken;
+        smaller = λ j more less. below j more (omega arith);
+      }
+
+      next_scanned : Scanned last (suc n) (cond (nat_lt last (suc n) && not (is_taken s b aid)) (Some aid) None)
+      next_scanned =
+          elim (nat_lt last (suc n)) as (λ t. nat_lt last (suc n) ≡ t → Scanned last (suc n) (cond (t && not (is_taken s b aid)) (Some aid) None)) [
+            | true ↦ λ low. elim (is_taken s b aid) as (λ t. is_taken s b aid ≡ t → Scanned last (suc n) (cond (not t) (Some aid) None)) [
+              | true ↦ λ e. one_more (λ _. subst (IsTaken s b) is (taken_of aid e))
+              | false ↦ λ e. least_here (ltb-true last (suc n) low) e
+            ] refl
+            | false ↦ λ e. one_more (λ low. absurd (omega (arith, ltb-false last (suc n) e)))
+          ] refl
+
+  scanned : (last n : ℕ) (high : n ≤ MAX_STATIONS) → Scanned last n (least_free_to s b last n high)
   unfolding least_free_to
-  scanned zero high = λ i low none. absurd (omega arith)
-  scanned (suc n) high =
-      let last : Aid = record { number = suc n; low = at_least_one n; high = high } in
-      elim (least_free_to s b n (one_less n high)) as (λ o. Scanned n o → Scanned (suc n) (option_or o (cond (is_taken s b last) None (Some last)))) [
-        | None ↦ λ below. next_scanned n last refl below
+  scanned last zero high = λ i low none. absurd (omega arith)
+  scanned last (suc n) high =
+      let aid : Aid = record { number = suc n; low = at_least_one n; high = high } in
+      elim (least_free_to s b last n (one_less n high)) as (λ o. Scanned last n o → Scanned last (suc n) (option_or o (cond (nat_lt last (suc n) && not (is_taken s b aid)) (Some aid) None))) [
+        | None ↦ λ below. next_scanned last n below aid refl
         | Some z ↦ λ least. least
-      ] (scanned n (one_less n high))
+      ] (scanned last n (one_less n high))
 
-  least_scanned : Scanned MAX_STATIONS (least_free s b)
-  unfolding least_free
-  least_scanned = scanned MAX_STATIONS at_most_all
+  all_scanned : (last : ℕ) → Scanned last MAX_STATIONS (least_free_above s b last)
+  unfolding least_free_above
+  all_scanned last = scanned last MAX_STATIONS at_most_all
 
-  -- two least ones are one
-  no_less : (i j : ℕ) → IsLeastFree s b i → IsLeastFree s b j → i < j → ⊥
-  no_less i j first second less = (let taken = second.smaller i first.low less in first.free taken.0 taken.1)
+  -- all are taken, or the one that is found is the next
+  abbrev IsFound : Option Aid → Type 0
+  IsFound None = AreTakenAbove s b 0
+  IsFound (Some aid) = IsNextFree s b aid.number
 
-  one_least : (i j : ℕ) → IsLeastFree s b i → IsLeastFree s b j → i ≡ j
-  one_least i j first second =
-      let up : ¬ (i < j) = no_less i j first second in
-      let down : ¬ (j < i) = no_less j i second first in
-      omega arith
+  found : IsFound (next_free s b)
+  found =
+      elim (least_free_above s b (last_given s b)) as (λ o. Scanned (last_given s b) MAX_STATIONS o → IsFound (option_or o (least_free_above s b 0))) [
+        | None ↦ λ all. elim (least_free_above s b 0) as (λ o. Scanned 0 MAX_STATIONS o → IsFound o) [
+          | None ↦ λ none. none
+          | Some z ↦ λ least. inr (all, least)
+        ] (all_scanned 0)
+        | Some z ↦ λ least. inl least
+      ] (all_scanned (last_given s b))
 
-  pub found_least : (n : ℕ) (aid : Aid) → IsLeastFree s b n → aid.number ≡ n → least_free s b ≡ Some aid
-  found_least n aid least same =
-      elim (least_free s b) as (λ o. Scanned MAX_STATIONS o → o ≡ Some aid) [
-        | None ↦ λ taken. (let one = taken n least.low least.high in absurd (least.free one.0 one.1))
-        | Some z ↦ λ is. ap Some (same_aid z aid (one_least z.number n is least ∙ sym same))
-      ] least_scanned
+  pub found_next : (n : ℕ) (aid : Aid) → IsNextFree s b n → aid.number ≡ n → next_free s b ≡ Some aid
+  found_next n aid next same =
+      elim (next_free s b) as (λ o. IsFound o → o ≡ Some aid) [
+        | None ↦ λ all. (let free = next_is_free s b n next in let one = all n free.low free.high in absurd (free.free one.0 one.1))
+        | Some z ↦ λ is. ap Some (same_aid z aid (one_next s b z.number n is next ∙ sym same))
+      ] found
 
-  pub is_least_free : (aid : Aid) → least_free s b ≡ Some aid → IsLeastFree s b aid.number
-  is_least_free aid e = subst (Scanned MAX_STATIONS) e least_scanned
+  pub is_next_free : (aid : Aid) → next_free s b ≡ Some aid → IsNextFree s b aid.number
+  is_next_free aid e = subst IsFound e found
+
+  -- one that is given is nobody's
+  pub nobody_has : (aid : Aid) → next_free s b ≡ Some aid → (a : Addr) → aid_at s b a ≢ Some aid.number
+  nobody_has aid e = (next_is_free s b aid.number (is_next_free aid e)).free
 
   -- as many rows as identifiers that are taken
   abbrev Has : FinMap station_cmp Station → ℕ → Type 0
@@ -150,12 +174,12 @@ module _ (s : State) (b : Bssid) where
       let many = as_many MAX_STATIONS (map.remove rows (b, a)) (λ i low high. (let one = all i low high in (one.0, kept_row a one.0 none i one.1))) in
       omega arith
 
-  pub one_is_free : Sound s → (a : Addr) → IsSome (station_at s b a) → aid_at s b a ≡ None → IsSome (least_free s b)
+  pub one_is_free : Sound s → (a : Addr) → IsSome (station_at s b a) → aid_at s b a ≡ None → IsSome (next_free s b)
   one_is_free sound a known none =
-      elim (least_free s b) as (λ o. Scanned MAX_STATIONS o → IsSome o) [
+      elim (next_free s b) as (λ o. IsFound o → IsSome o) [
         | None ↦ λ all. absurd (never_all sound a known none all)
         | Some aid ↦ λ _. refl
-      ] least_scanned
+      ] found
 
   -- a station of the BSSID never lacks an identifier
   pub identifier_is_there : Sound s → (a : Addr) (o : Option Station) → station_at s b a ≡ o → IsSome o → IsSome (identifier_for s b o)
@@ -163,7 +187,7 @@ module _ (s : State) (b : Bssid) where
   identifier_is_there sound a (Some Authenticated) row known = one_is_free sound a (ap is_some row) (ap aid_of row)
   identifier_is_there sound a (Some (Associated x)) row known = refl
 
-  -- what a search for the least free number finds
+  -- what a search for the next number finds
   pub one_is_left : Sound s → (a : Addr) → IsSome (station_at s b a) → aid_at s b a ≡ None → (r : Option ℕ) → IfNone r (AreTakenAbove s b 0) → IsSome r
   one_is_left sound a known none None all = absurd (never_all sound a known none all)
   one_is_left sound a known none (Some i) all = refl

@@ -9,13 +9,19 @@ mod DepartureLemmas
 mod DropLemmas
 mod ElsewhereLemmas
 mod EnforcementLemmas
+mod FrameLemmas
 mod IdentifierLemmas
+mod LetGoLemmas
+mod NeededLemmas
 pub mod OutsLemmas
+mod RadioLemmas
 mod RecordLengthLemmas
 mod RefusalLemmas
 mod ResponseLemmas
+mod RisingLemmas
 mod RowLemmas
 mod Shapes
 mod StartLemmas
 pub mod TrueOutsLemmas
+mod TurnLemmas
 pub mod VerdictLemmas

@@ -1,5 +1,5 @@
 -- How many bytes the records of a verdict have.
-use Rattle.std.proofs.Common.{◌≡◌, arith, ◌*◌, ◌≤◌, Bool, ◌&&◌, not, List, [], ◌∷◌, ◌++◌, Result, Ok, Err, IfOk, length, subst}
+use Rattle.std.proofs.Common.{◌≡◌, arith, ◌*◌, ◌≤◌, Bool, true, false, cond, ◌&&◌, not, List, [], ◌∷◌, ◌++◌, Result, Ok, Err, IfOk, length, subst}
 use Rattle.std.specs.Option.{is_some}
 use Rattle.std.specs.Ordering.{eq_by_cmp}
 use Rattle.std.specs.FinMap as map
@@ -25,13 +25,13 @@ use Rattle.apd_frame.specs.Contents.{AssociationRequest}
 use Rattle.apd_record.specs.Ranges.{IsChange, AreChanges}
 use Rattle.apd_record.specs.Record.{record_of, records_of}
 use Rattle.apd_record.specs.declared.change.Change.{Change}
-use Rattle.apd_record.specs.declared.change.Change.TheVariants.{Put, Drop, ListAdd, Policy}
+use Rattle.apd_record.specs.declared.change.Change.TheVariants.{Put, Drop, ListAdd, Policy, Cursor}
 use Rattle.apd_record.proofs.Lengths.{records_length-append, records_length-push}
 use Rattle.apd_table.specs.Addresses.{addresses_at}
 use Rattle.apd_table.specs.Sound.{Sound}
 use Rattle.apd_table.proofs.AllRows.{addresses_few, denied_few}
 use Rattle.apd_table.proofs.Denied.{drops}
-use Rattle.apd_table.proofs.SnapshotSize.{each_length, fronts, list_length, policy_length, put_length}
+use Rattle.apd_table.proofs.SnapshotSize.{cursor_length, each_length, fronts, list_length, policy_length, put_length}
 use Rattle.apd_mlme.specs.declared.decision.Decision.{Decision}
 use Rattle.apd_mlme.specs.declared.decision.TheConstants.{MAX_RECORDS}
 use Rattle.apd_mlme.specs.Happening.{Happening}
@@ -39,6 +39,7 @@ use Rattle.apd_mlme.specs.declared.association.Kind.{Kind}
 use Rattle.apd_mlme.specs.rules.Association.{elsewhere, put_backs, row_of}
 use Rattle.apd_mlme.specs.rules.Association as rule
 use Rattle.apd_mlme.specs.rules.Commands.{all_kicked}
+use Rattle.apd_mlme.specs.rules.Identifiers.{cursor_changes, number_of}
 use Rattle.apd_mlme.specs.Verdict.{Verdict}
 use Rattle.apd_mlme.specs.rules.Configuration.{first_changes, additions}
 use Rattle.apd_mlme.specs.rules.{verdict, IsFit}
@@ -89,33 +90,41 @@ module _ (s : State) where
       let parts = fronts accepts denials known.1 in
       omega (arith, length-append (record_of policy) (records_of (accepts ++ denials)), policy_length b (policy_of conf) known.0, records_length-append accepts denials, additions_length b Accept accept parts.0, additions_length b Deny deny parts.1, accept_list.few, deny_list.few)
 
-  -- at most one row at each of the eight BSSIDs
+  given_length : (b : Bssid) (a : Addr) (aid : Aid) → AreChanges (cursor_changes s b a aid) → length (records_of (cursor_changes s b a aid)) ≤ 9
+  given_length b a aid =
+      elim (is_some (aid_at s b a)) as (λ t. let given = cond t [] (Cursor b (number_of aid) ∷ []) in AreChanges given → length (records_of given) ≤ 9) [
+        | true ↦ λ known. omega arith
+        | false ↦ λ known. omega (arith, cursor_length b (number_of aid) known.0, length-append (record_of (Cursor b (number_of aid))) [])
+      ]
+
+  -- at most one row at each of the eight BSSIDs, and a cursor
   associated_length : (confs : List Conf) (conf : Conf) (b : Bssid) (kind : Kind) (request : AssociationRequest) (aid : Aid) → Sound s → IsShort (rule.associated s confs conf b kind request aid)
   associated_length confs conf b kind request aid sound known =
       let a = request.sender in
       let here = Put b a (row_of request aid) in
       let others = elsewhere s b a in
       let is_other = λ (c : Bssid). not (eq_by_cmp bssid_cmp b c) && is_some (aid_at s c a) in
-      let parts = fronts (put_backs a others) (here ∷ []) known in
+      let given = cursor_changes s b a aid in
+      let parts = fronts (put_backs a others) (here ∷ given) known in
       let filtered = length-filter is_other (map.keys s.policies) in
       let fewer = count_by-le-length is_other (map.keys s.policies) in
       let keys = length-map (map.entries s.policies) (λ row. row.0) in
-      omega (arith, records_length-push (put_backs a others) here, put_backs_length a others parts.0, put_length b a (row_of request aid) parts.1.0.0 parts.1.0.1, filtered, fewer, keys, map.len-entries s.policies, sound.few_bss)
+      omega (arith, records_length-append (put_backs a others) (here ∷ given), length-append (record_of here) (records_of given), given_length b a aid parts.1.1, put_backs_length a others parts.0, put_length b a (row_of request aid) parts.1.0.0 parts.1.0.1, filtered, fewer, keys, map.len-entries s.policies, sound.few_bss)
 
   all_length : (b : Bssid) (reason : Reason) (t : Bool) → Sound s → IsShort (all_kicked s b reason t)
   all_length b reason t sound known = omega (arith, drops_length b (addresses_at s b) known, addresses_few s b, sound.few_stations b)
 
   shape_length : (confs : List Conf) (h : Happening) → IsFit s confs h → Sound s → (v : Verdict) → Shape s confs h v → IsShort v
   shape_length confs h fit sound _ shape.silent known = none_long
-  shape_length confs h fit sound _ (shape.told reply there so one) known = none_long
+  shape_length confs h fit sound _ (shape.told reply there so one named) known = none_long
   shape_length confs h fit sound _ (shape.admitted conf b request there is e) known = one_put b request.sender Authenticated known
   shape_length confs h fit sound _ (shape.left b a there own row) known = one_put b a Authenticated known
-  shape_length confs h fit sound _ (shape.gone b a there own) known = one_drop b a known
-  shape_length confs h fit sound _ (shape.ended b a reason there row) known = one_put b a Authenticated known
-  shape_length confs h fit sound _ (shape.dropped b a reason there row) known = one_drop b a known
-  shape_length confs h fit sound _ (shape.associated conf b kind request aid there row own) known = associated_length confs conf b kind request aid sound known
-  shape_length confs h fit sound _ (shape.emptied b reason deauth there) known = all_length b reason deauth sound known
-  shape_length confs h fit sound _ (shape.enforced b p change l q there makes keep short) known = enforced_length b p change l q short sound known
+  shape_length confs h fit sound _ (shape.gone b a there own row) known = one_drop b a known
+  shape_length confs h fit sound _ (shape.ended b a reason there row others) known = one_put b a Authenticated known
+  shape_length confs h fit sound _ (shape.dropped b a reason there row others) known = one_drop b a known
+  shape_length confs h fit sound _ (shape.associated conf b kind request aid there row own asked) known = associated_length confs conf b kind request aid sound known
+  shape_length confs h fit sound _ (shape.emptied b reason deauth there to_all) known = all_length b reason deauth sound known
+  shape_length confs h fit sound _ (shape.enforced b p change l q there makes keep short others needed) known = enforced_length b p change l q short sound known
   shape_length confs h fit sound _ (shape.started conf b accept deny is first) known = let fits = subst (IsFit s confs) is fit in first_length conf b accept deny fits.2 fits.3 known
 
 pub decided_length : {E : Type 0} (s : State) (confs : List Conf) (h : Happening) (r : Result Decision E) → IsFit s confs h → Sound s → IfOk r (λ d. d.changes ≡ (verdict s confs h).changes) → IfOk r (λ d. AreChanges d.changes) → IfOk r (λ d. length (records_of d.changes) ≤ MAX_RECORDS)

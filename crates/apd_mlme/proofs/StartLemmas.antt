@@ -65,7 +65,7 @@ one_put true false g l t = refl
 one_put false f g l t = refl
 
 -- what list rows have with addresses beside them
-listed : (b : Bssid) (w : Which) (as' : List Addr) (rows : SetOf list_cmp) (c : Bssid) (v : Which) (d : Addr)
+pub listed : (b : Bssid) (w : Which) (as' : List Addr) (rows : SetOf list_cmp) (c : Bssid) (v : Which) (d : Addr)
     → contains (with_listed b w as' rows) (c, v, d) ≡ ((eq_by_cmp bssid_cmp c b && (eq_by_cmp which_cmp v w && is_among d as')) || contains rows (c, v, d))
 listed b w [] rows c v d =
     ap is_some (get-from_entries list_total (map.entries rows) (c, v, d) ∙ sym (get-entries rows (c, v, d))) ∙ none_put (eq_by_cmp bssid_cmp c b) (eq_by_cmp which_cmp v w) (contains rows (c, v, d))
@@ -136,7 +136,7 @@ module _ (b : Bssid) where
     nobody : (a : Addr) → station_at s b a ≡ None
     nobody = without_policy s b sound (no_value (policy_at s b) new)
 
-    unlisted : (w : Which) (a : Addr) → contains s.lists (b, w, a) ≡ false
+    pub unlisted : (w : Which) (a : Addr) → contains s.lists (b, w, a) ≡ false
     unlisted w a = false_from_ne_true (contains s.lists (b, w, a)) (λ h. differ _ new (sound.lists_have_policy b w a h))
 
     no_list : (w : Which) → list_count s b w ≡ 0

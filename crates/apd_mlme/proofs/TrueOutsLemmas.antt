@@ -17,6 +17,7 @@ use Rattle.apd_base.specs.Sets.{SetOf}
 use Rattle.apd_base.specs.State.{State, list_cmp, station_at, aid_of, aid_at}
 use Rattle.apd_base.proofs.AddrLemmas.{addr_total, addr_exact, other_way}
 use Rattle.apd_base.proofs.MapLemmas.{tied}
+use Rattle.apd_base.proofs.StateLemmas.{station_of_aid}
 use Rattle.apd_conf.specs.declared.conf.Conf.{Conf}
 use Rattle.apd_conf.specs.Confs.{conf_at}
 use Rattle.apd_frame.specs.Contents.{AssociationRequest}
@@ -217,19 +218,19 @@ module _ (s : State) (confs : List Conf) (h : Happening) where
 
   pub shape_right : (v : Verdict) → Shape s confs h v → AllByRecursion (IsRight s E confs v.state) v.outs
   shape_right _ shape.silent = tt
-  shape_right _ (shape.told reply there so one) = (said s E confs s reply there (λ _. so) one, tt)
+  shape_right _ (shape.told reply there so one named) = (said s E confs s reply there (λ _. so) one, tt)
   shape_right _ (shape.admitted conf b request there is e) = (
     said s E confs (put_station b request.sender Authenticated s) (auth_response b request (auth_status s conf b request)) there
         (λ _ _. ap is_some (put_row s b request.sender Authenticated)) (λ nobody. subst IsFromStation is nobody.sender),
     tt,
   )
   shape_right _ (shape.left b a there own known) = (removed s E confs b there (back s b a) a (λ _. put_back_aid s b a), tt)
-  shape_right _ (shape.gone b a there own) = removal_right s E confs b there a (out s b a) (out_row s b a)
-  shape_right _ (shape.ended b a reason there known) = put_back_right s E confs b there a reason (from_row b a known)
-  shape_right _ (shape.dropped b a reason there known) = drop_right s E confs b there a (out s b a) (out_row s b a) reason (from_row b a known)
-  shape_right _ (shape.associated conf b kind request aid there known own) = associated_right s E confs b there conf kind request (from_row b request.sender known) aid own
-  shape_right _ (shape.emptied b reason deauth there) = all_kicked_right s E confs b there reason deauth
-  shape_right _ (shape.enforced b p change l q there makes keep short) = enforced_right s E confs b there (λ nobody. nobody.rows) p change l q
+  shape_right _ (shape.gone b a there own known) = removal_right s E confs b there a (out s b a) (out_row s b a)
+  shape_right _ (shape.ended b a reason there known others) = put_back_right s E confs b there a reason (from_row b a (station_of_aid _ known))
+  shape_right _ (shape.dropped b a reason there known others) = drop_right s E confs b there a (out s b a) (out_row s b a) reason (from_row b a known)
+  shape_right _ (shape.associated conf b kind request aid there known own asked) = associated_right s E confs b there conf kind request (from_row b request.sender known) aid own
+  shape_right _ (shape.emptied b reason deauth there to_all) = all_kicked_right s E confs b there reason deauth
+  shape_right _ (shape.enforced b p change l q there makes keep short others needed) = enforced_right s E confs b there (λ nobody. nobody.rows) p change l q
   shape_right _ (shape.started conf b accept deny is first) = tt
 
   pub shape_radios : (v : Verdict) → Shape s confs h v → AllByRecursion (IsRadio confs) v.outs

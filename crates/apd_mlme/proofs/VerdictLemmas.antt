@@ -4,6 +4,7 @@ use Rattle.std.specs.FinMap as map
 use Rattle.std.specs.Option.{is_some}
 use Rattle.apd_base.specs.declared.address.Bssid.{Bssid}
 use Rattle.apd_base.specs.State.{State, policy_at, aid_at}
+use Rattle.apd_base.proofs.StateLemmas.{station_of_aid}
 use Rattle.apd_conf.specs.declared.conf.Conf.{Conf}
 use Rattle.apd_conf.specs.Confs.{conf_at}
 use Rattle.apd_record.specs.declared.change.Change.{Change}
@@ -33,15 +34,15 @@ module _ (s : State) (confs : List Conf) where
   -- ---- the changes lead to the state
   shape_meaning : (h : Happening) (v : Verdict) → Shape s confs h v → meaning_of v.changes s ≡ v.state
   shape_meaning h _ shape.silent = refl
-  shape_meaning h _ (shape.told reply there so one) = refl
+  shape_meaning h _ (shape.told reply there so one named) = refl
   shape_meaning h _ (shape.admitted conf b request there is e) = refl
-  shape_meaning h _ (shape.left b a there own known) = back_meaning s b a known
-  shape_meaning h _ (shape.gone b a there own) = out_meaning s b a
-  shape_meaning h _ (shape.ended b a reason there known) = back_meaning s b a known
-  shape_meaning h _ (shape.dropped b a reason there known) = out_meaning s b a
-  shape_meaning h _ (shape.associated conf b kind request aid there known own) = associated_meaning s confs conf b kind request aid
-  shape_meaning h _ (shape.emptied b reason deauth there) = all_meaning s b reason deauth
-  shape_meaning h _ (shape.enforced b p change l q there makes keep short) = enforced_meaning s b p change l q makes
+  shape_meaning h _ (shape.left b a there own known) = back_meaning s b a (station_of_aid _ known)
+  shape_meaning h _ (shape.gone b a there own known) = out_meaning s b a
+  shape_meaning h _ (shape.ended b a reason there known others) = back_meaning s b a (station_of_aid _ known)
+  shape_meaning h _ (shape.dropped b a reason there known others) = out_meaning s b a
+  shape_meaning h _ (shape.associated conf b kind request aid there known own asked) = associated_meaning s confs conf b kind request aid
+  shape_meaning h _ (shape.emptied b reason deauth there to_all) = all_meaning s b reason deauth
+  shape_meaning h _ (shape.enforced b p change l q there makes keep short others needed) = enforced_meaning s b p change l q makes
   shape_meaning h _ (shape.started conf b accept deny is first) = first_meaning s conf b accept deny first
 
   pub meaning_in : (h : Happening) → meaning_of (verdict s confs h).changes s ≡ (verdict s confs h).state
@@ -54,15 +55,15 @@ module _ (s : State) (confs : List Conf) where
   module _ (sound : Sound s) (h : Happening) (fit : IsFit s confs h) where
     shape_sound : (v : Verdict) → Shape s confs h v → StaySound v.changes s
     shape_sound _ shape.silent = sound
-    shape_sound _ (shape.told reply there so one) = sound
+    shape_sound _ (shape.told reply there so one named) = sound
     shape_sound _ (shape.admitted conf b request there is e) = let fits = subst (IsFit s confs) is fit in admitted_sound s conf b request fits.1 e sound
-    shape_sound _ (shape.left b a there own known) = put_back_stays s b a [] known sound
-    shape_sound _ (shape.gone b a there own) = dropped_stays s b a [] sound
-    shape_sound _ (shape.ended b a reason there known) = put_back_stays s b a [] known sound
-    shape_sound _ (shape.dropped b a reason there known) = dropped_stays s b a [] sound
-    shape_sound _ (shape.associated conf b kind request aid there known own) = associated_sound s confs conf b kind request aid sound known own
-    shape_sound _ (shape.emptied b reason deauth there) = all_sound s b reason deauth sound
-    shape_sound _ (shape.enforced b p change l q there makes keep short) = keep sound
+    shape_sound _ (shape.left b a there own known) = put_back_stays s b a [] (station_of_aid _ known) sound
+    shape_sound _ (shape.gone b a there own known) = dropped_stays s b a [] sound
+    shape_sound _ (shape.ended b a reason there known others) = put_back_stays s b a [] (station_of_aid _ known) sound
+    shape_sound _ (shape.dropped b a reason there known others) = dropped_stays s b a [] sound
+    shape_sound _ (shape.associated conf b kind request aid there known own asked) = associated_sound s confs conf b kind request aid sound known own
+    shape_sound _ (shape.emptied b reason deauth there to_all) = all_sound s b reason deauth sound
+    shape_sound _ (shape.enforced b p change l q there makes keep short others needed) = keep sound
     shape_sound _ (shape.started conf b accept deny is first) =
         let fits = subst (IsFit s confs) is fit in
         first_sound b s first sound conf accept deny (room_for_one (is_some (policy_at s b)) (map.len s.policies) first fits.1) fits.2 fits.3
@@ -74,15 +75,15 @@ module _ (s : State) (confs : List Conf) where
   module _ (c : Bssid) (configured : IsSome (conf_at confs c)) where
     shape_follows : (h : Happening) (v : Verdict) → Shape s confs h v → Follows c s v
     shape_follows h _ shape.silent d = refl
-    shape_follows h _ (shape.told reply there so one) d = refl
+    shape_follows h _ (shape.told reply there so one named) d = refl
     shape_follows h _ (shape.admitted conf b request there is e) d = sym (admitted_aid s conf b request e c d)
     shape_follows h _ (shape.left b a there own known) d = sym (back_aid s b a c d)
-    shape_follows h _ (shape.gone b a there own) d = removal_follows s b a c d
-    shape_follows h _ (shape.ended b a reason there known) d = sym (back_aid s b a c d)
-    shape_follows h _ (shape.dropped b a reason there known) d = drop_follows s b a c reason d
-    shape_follows h _ (shape.associated conf b kind request aid there known own) d = associated_follows s confs conf b kind request aid c configured own d
-    shape_follows h _ (shape.emptied b reason deauth there) d = all_follows s b reason deauth c d
-    shape_follows h _ (shape.enforced b p change l q there makes keep short) d = enforced_follows s b p change l q c d
+    shape_follows h _ (shape.gone b a there own known) d = removal_follows s b a c d
+    shape_follows h _ (shape.ended b a reason there known others) d = sym (back_aid s b a c d)
+    shape_follows h _ (shape.dropped b a reason there known others) d = drop_follows s b a c reason d
+    shape_follows h _ (shape.associated conf b kind request aid there known own asked) d = associated_follows s confs conf b kind request aid c configured own d
+    shape_follows h _ (shape.emptied b reason deauth there to_all) d = all_follows s b reason deauth c d
+    shape_follows h _ (shape.enforced b p change l q there makes keep short others needed) d = enforced_follows s b p change l q c d
     shape_follows h _ (shape.started conf b accept deny is first) d = refl
 
   pub follows_in : (h : Happening) → FollowsDrivers confs (verdict s confs h).outs s (verdict s confs h).state

@@ -9,8 +9,10 @@ pub mod Departure
 pub mod Driver
 pub mod FrameClasses
 pub mod ManagementFrame
+pub mod NothingElse
 pub mod Order
 pub mod Outs
 pub mod Probe
 pub mod Responses
 pub mod Start
+pub mod Turns

@@ -4,14 +4,14 @@ ghost use Rattle.std.specs.Option.{option_copied};
 ghost use Rattle.apd_base.specs.State.{station_at, aid_at};
 ghost use Rattle.apd_frame.specs.Contents.{association, reassociation};
 ghost use Rattle.apd_mlme.specs.rules.Association.{accepted, association_response, association_status, association_verdict, body_of, elsewhere, installation, is_elsewhere, is_named, outs_elsewhere, put_backs, row_of, without_current_ap};
-ghost use Rattle.apd_mlme.specs.rules.Identifiers.{identifier_for, least_free};
+ghost use Rattle.apd_mlme.specs.rules.Identifiers.{cursor_changes, identifier_for, next_free, number_of};
 ghost use Rattle.apd_mlme.specs.Verdict.{is_nothing};
 
 use crate::decision::{Out, Recipient, sent};
 use crate::draft::Draft;
 use crate::leaving::{deauthentication, push_outs_of_end};
 use crate::offer::rates;
-use apd_base::{Addr, Aid, Association as Membership, Bssid, Sequence, Station};
+use apd_base::{Addr, Aid, Association as Membership, Bssid, Sequence, Station, StationNumber};
 use apd_conf::{Conf, Confs};
 use apd_frame::{
     Association, AssociationResponse, Reason, Reassociation, Reply, ReplyBody, SSID,
@@ -105,25 +105,25 @@ fn is_associated(table: &Table, bssid: Bssid, addr: Addr) -> bool
     }
 }
 
-/// The least free identifier, for a station that has none.
-fn least_free(table: &Table, bssid: Bssid, sender: Addr) -> Aid
+/// The next identifier, for a station that has none.
+fn next_free(table: &Table, bssid: Bssid, sender: Addr) -> Aid
     requires known { IsSome (station_at table.now bssid sender) }
     requires without { aid_at table.now bssid sender ≡ None }
-    ensures { least_free table.now bssid ≡ Some result }
+    ensures { next_free table.now bssid ≡ Some result }
 {
     table.sound();
-    let number = table.least_free(bssid).unwrap();
+    let number = table.next_free(bssid).unwrap();
     Aid::new(number).unwrap()
 }
 
-/// The identifier of a station that associates: its own, or the least free one.
+/// The identifier of a station that associates: its own, or the next one.
 fn identifier(table: &Table, bssid: Bssid, sender: Addr) -> Aid
     requires { IsSome (station_at table.now bssid sender) }
     ensures { identifier_for table.now bssid (station_at table.now bssid sender) ≡ Some result }
 {
     match table.get(bssid, sender) {
         Some(Station::Associated(membership)) => membership.aid,
-        Some(Station::Authenticated) | None => least_free(table, bssid, sender),
+        Some(Station::Authenticated) | None => next_free(table, bssid, sender),
     }
 }
 
@@ -212,6 +212,30 @@ fn row(request: &Association<'_>, aid: Aid) -> Station
     })
 }
 
+/// An identifier, as the one that was given last.
+fn number(aid: Aid) -> StationNumber
+    ensures { result ≡ number_of aid }
+{
+    StationNumber { number: aid.number }
+}
+
+/// Adds that an identifier was given, where the station was not associated before.
+fn push_cursor(
+    table: &Table,
+    bssid: Bssid,
+    sender: Addr,
+    aid: Aid,
+    changes: &mut Changes,
+) -> Result<(), AllocError>
+    ensures { OnOk result (changes.new ≡ changes.old ++ cursor_changes table.now bssid sender aid) }
+{
+    if !is_associated(table, bssid, sender) {
+        let last = number(aid);
+        changes.push(Change::Cursor { bssid, last })?;
+    }
+    Ok(())
+}
+
 /// What a request that is accepted brings about.
 fn accept(
     alloc: Global,
@@ -244,6 +268,7 @@ fn accept(
         addr: sender,
         station: row(request, aid),
     })?;
+    push_cursor(table, bssid, sender, aid, &mut changes)?;
     let mut outs = Sequence::new(alloc);
     push_outs_elsewhere(alloc, confs, sender, others.as_slice(), &mut outs)?;
     push_installation(table, bssid, sender, aid, &mut outs)?;
@@ -253,7 +278,7 @@ fn accept(
 }
 
 /// What an association or a reassociation request at a BSSID brings about: the response, the row of a
-/// station that is accepted, and the end of its association elsewhere.
+/// station that is accepted, the identifier that it is given, and the end of its association elsewhere.
 pub fn answer(
     alloc: Global,
     table: &Table,

@@ -1,11 +1,12 @@
 //! What a reader of clause 11.3 may rely on, whatever the daemon is asked: each law is the contract of
 //! a function that does nothing.
-ghost use Rattle.std.specs.Prelude.{◌≡◌, ◌⊎◌, ℕ, List, [], ◌∷◌, None, Some, Ok, IsSome, true, false};
+ghost use Rattle.std.specs.Prelude.{◌≡◌, ◌≢◌, ◌≤◌, ◌⊎◌, ℕ, List, [], ◌∷◌, None, Some, Ok, IsSome, true, false};
 ghost use Rattle.std.specs.List.{Contains};
 ghost use Rattle.apd_base.specs.Number.{AreBytes};
 ghost use Rattle.apd_base.specs.State.{State, station_at, aid_at, policy_at, empty_state};
 ghost use Rattle.apd_base.specs.declared.address.Addr.{Addr};
 ghost use Rattle.apd_base.specs.declared.address.Bssid.{Bssid};
+ghost use Rattle.apd_base.specs.declared.limits.TheConstants.{MAX_STATIONS};
 ghost use Rattle.apd_base.specs.declared.station.Aid.{Aid};
 ghost use Rattle.apd_base.specs.declared.station.Policy.{Policy};
 ghost use Rattle.apd_conf.specs.Confs.{conf_at};
@@ -29,6 +30,7 @@ ghost use Rattle.apd_mlme.specs.laws.AssociationEnd.{HasLeft, IsToldOfEnd};
 ghost use Rattle.apd_mlme.specs.Happening.{Configure, Expire, Happening, Heard, Kick};
 ghost use Rattle.apd_mlme.specs.rules.Identifiers.{identifier_for};
 ghost use Rattle.apd_mlme.specs.laws.ManagementFrame.{deauthentication_frame, disassociation_frame};
+ghost use Rattle.apd_mlme.specs.laws.NothingElse.{AreFramesDue, AreLetGo, AreNeeded};
 ghost use Rattle.apd_mlme.specs.laws.Order.{IsLetGoFirst, IsTakenInFirst};
 ghost use Rattle.apd_mlme.specs.laws.Probe.{IsProbed, IsProbeFor, response_frame};
 ghost use Rattle.apd_mlme.specs.laws.Responses.{IsAssociationAnswered, IsAuthenticationAnswered};
@@ -36,6 +38,7 @@ ghost use Rattle.apd_mlme.specs.laws.Authentication.{IsRoomKept, IsToldTruly};
 ghost use Rattle.apd_mlme.specs.rules.{verdict, IsFit};
 ghost use Rattle.apd_mlme.specs.Run.{run, AreFit};
 ghost use Rattle.apd_mlme.specs.laws.Start.{AreDroppedTold, IsStarted};
+ghost use Rattle.apd_mlme.specs.laws.Turns.{AreGivenInTurn, IsGiven, WasTaken};
 ghost use Rattle.apd_mlme.specs.declared.association.Kind.TheVariants.{Association, Reassociation};
 ghost use Rattle.apd_mlme.specs.declared.decision.TheConstants.{MAX_RECORDS};
 ghost use Rattle.apd_mlme.specs.laws.Outs.{AreSo, AreSoToAll, AreThere};
@@ -273,6 +276,45 @@ pub fn who_is_sent_away_is_told_the_reason()
     ensures disassociation { (s : State) (confs : List Conf) (b : Bssid) (to : Addr) (reason : Reason) (tag : ℕ)
         → IsSome (conf_at confs b)
         → Contains (verdict s confs (Kick b to reason false tag)).outs (disassociation_frame b to reason.0) }
+{}
+
+/// Association identifiers go round: what a BSSID gives is the next one by the one that it gave last, and is
+/// the one given last from then on.
+pub fn identifiers_are_given_in_turn()
+    ensures { (s : State) (confs : List Conf) (h : Happening) (b : Bssid) → Sound s
+        → AreGivenInTurn s (verdict s confs h).state b }
+{}
+
+/// So in any run, between two events that give the same identifier of a BSSID every other one, from 1 to
+/// 2007, was on a row of it at some moment: none is given again while another waits.
+pub fn all_others_come_between()
+    ensures { (s : State) (confs : List Conf) (first : Happening) (between : List Happening) (second : Happening)
+        (b : Bssid) (i j : ℕ) → let once = (verdict s confs first).state in let again = run once confs between in
+        Sound s → AreFit s confs (first ∷ between) → IsGiven s once b i
+        → IsGiven again (verdict again confs second).state b i
+        → 1 ≤ j → j ≤ MAX_STATIONS → j ≢ i → WasTaken once confs between b j }
+{}
+
+/// Nothing else leaves. The driver of a radio lets a station go exactly where it has ceased to be associated
+/// there: each once, and in address order.
+pub fn only_who_has_ceased_is_let_go()
+    ensures { (s : State) (confs : List Conf) (h : Happening) (b : Bssid) → Sound s → IsSome (conf_at confs b)
+        → AreLetGo s b (verdict s confs h) }
+{}
+
+/// Whoever's association or authentication has come to an end is sent one frame that says so, in address
+/// order, but for who ended it itself, and where one frame tells all. Beside these a radio sends one frame at most,
+/// to somebody else: to the sender of a frame, or to whom a command names.
+pub fn no_other_frame_leaves()
+    ensures { (s : State) (confs : List Conf) (h : Happening) (b : Bssid) → Sound s → IsSome (conf_at confs b)
+        → AreFramesDue s h b (verdict s confs h) }
+{}
+
+/// Each change is one that the state did not have, but for those that are always made: the row of a station
+/// that associates and the identifier that it is given, the clearing of a list, and the policy of a start.
+pub fn no_change_is_idle()
+    ensures { (s : State) (confs : List Conf) (h : Happening) → IsFit s confs h → Sound s
+        → AreNeeded h (verdict s confs h).changes s }
 {}
 
 /// A value that other contracts cite by name: the records of one event's changes have at most 28,682

@@ -14,7 +14,7 @@ pub mod ListChanges
 pub mod ListCounts
 pub mod ListSets
 pub mod MembersLemmas
-mod NextFree
+pub mod NextFree
 mod OneDenied
 pub mod Parts
 mod Places

@@ -6,14 +6,14 @@ use Rattle.apd_base.specs.declared.address.Bssid.{Bssid}
 use Rattle.apd_base.specs.declared.station.Aid.{Aid}
 use Rattle.apd_base.specs.declared.station.Station.{Station}
 use Rattle.apd_base.specs.declared.station.Station.TheVariants.{Authenticated, Associated}
-use Rattle.apd_base.specs.State.{State, station_at, aid_at}
+use Rattle.apd_base.specs.State.{State, station_at, aid_at, cursor_at}
 use Rattle.apd_conf.specs.declared.conf.Conf.{Conf}
 use Rattle.apd_frame.specs.Contents.{AssociationRequest}
 use Rattle.apd_frame.specs.Elements.{well_formed, first_with}
 use Rattle.apd_frame.specs.declared.codes.Status.{Status}
 use Rattle.apd_frame.specs.declared.codes.Status.TheVariants.{Success, RefusedReasonUnspecified, NotSupportedAuthAlgorithm, TransactionSequenceError, DeniedNoMoreStas, DeniedListenIntervalTooLarge}
 use Rattle.apd_frame.specs.declared.element.TheConstants.{SSID, SUPPORTED_RATES}
-use Rattle.apd_table.specs.LeastFree.{IsLeastFree}
+use Rattle.apd_table.specs.LeastFree.{IsNextFree, last_given}
 use Rattle.apd_mlme.specs.declared.association.Kind.{Kind}
 use Rattle.apd_mlme.specs.declared.decision.Recipient.{Recipient}
 use Rattle.apd_mlme.specs.declared.decision.Out.{Out}
@@ -67,10 +67,10 @@ pub record IsAnsweredTruly (s : State) (conf : Conf) (b : Bssid) (kind : Kind) (
   pub deserved : IsDeserved conf request status
   -- success is told to a member, and with its identifier
   pub success : status ≡ Success → IsSomeAnd aid (IsMember v.state b request)
-  -- a station that was associated here keeps its identifier, and any other gets the least that was free
+  -- a station that was associated here keeps its identifier, and any other is given the next one
   pub kept : status ≡ Success → IsSome (aid_at s b request.sender)
       → aid_at v.state b request.sender ≡ aid_at s b request.sender
-  pub least : status ≡ Success → aid_at s b request.sender ≡ None → IfSome aid (λ x. IsLeastFree s b x.number)
+  pub next : status ≡ Success → aid_at s b request.sender ≡ None → IfSome aid (λ x. IsNextFree s b x.number)
   -- at every other BSSID it is authenticated at most, where it has a row
   pub elsewhere : status ≡ Success → (c : Bssid) → c ≢ b
       → station_at v.state c request.sender ≡ only_authenticated (station_at s c request.sender)
@@ -80,7 +80,11 @@ pub record IsAnsweredTruly (s : State) (conf : Conf) (b : Bssid) (kind : Kind) (
   pub others : (c : Bssid) (d : Addr) → d ≢ request.sender → station_at v.state c d ≡ station_at s c d
   pub lists : v.state.lists ≡ s.lists
   pub policies : v.state.policies ≡ s.policies
-  pub cursors : v.state.cursors ≡ s.cursors
+  -- the one that is given is the one that this BSSID gave last, and without one that stays; so it does at every other
+  pub given : status ≡ Success → aid_at s b request.sender ≡ None
+      → IfSome aid (λ x. last_given v.state b ≡ x.number)
+  pub not_given : IsSome (aid_at s b request.sender) → v.state.cursors ≡ s.cursors
+  pub other_cursors : (c : Bssid) → c ≢ b → cursor_at v.state c ≡ cursor_at s c
 
 -- a driver lets a station go, or the station is told a disassociation with reason 1 (unspecified, 9.4.1.7)
 abbrev pub IsOfEnd : Bssid → Addr → Out → Type 0

@@ -33,7 +33,7 @@ use Rattle.apd_mlme.specs.declared.decision.Recipient.{Recipient}
 use Rattle.apd_mlme.specs.declared.decision.Recipient.TheVariants.{Radio}
 use Rattle.apd_mlme.specs.declared.decision.Out.{Out}
 use Rattle.apd_mlme.specs.declared.decision.Out.TheVariants.{Install}
-use Rattle.apd_mlme.specs.rules.Identifiers.{identifier_for}
+use Rattle.apd_mlme.specs.rules.Identifiers.{identifier_for, cursors_after, cursor_changes}
 use Rattle.apd_mlme.specs.rules.Leaving.{authenticated_where, deauthentication, outs_of_end}
 use Rattle.apd_mlme.specs.rules.Offer.{rates_in}
 use Rattle.apd_mlme.specs.Outs.{sent}
@@ -115,8 +115,11 @@ associated s confs conf b kind request aid =
     let a = request.sender in
     let others = elsewhere s b a in
     record {
-      state = record s { stations = maps.insert (with_authenticated a others s.stations) (b, a) (row_of request aid) };
-      changes = put_backs a others ++ Put b a (row_of request aid) ∷ [];
+      state = record s {
+        stations = maps.insert (with_authenticated a others s.stations) (b, a) (row_of request aid);
+        cursors = cursors_after s b a aid;
+      };
+      changes = put_backs a others ++ Put b a (row_of request aid) ∷ cursor_changes s b a aid;
       outs = outs_elsewhere confs a others ++ installation s b a aid
           ++ sent (association_response conf b kind a Success (Some aid)) ∷ [];
     }

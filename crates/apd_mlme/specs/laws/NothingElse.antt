@@ -1,0 +1,131 @@
+-- Nothing else leaves, and nothing else changes: whom drivers let go, who is told of an end, which other frame leaves, and
+-- which changes are made (own).
+use Rattle.std.specs.Prelude.{◌≡◌, ◌≢◌, ◌↔◌, ◌⊎◌, ℕ, List, [], ◌∷◌, ◌++◌, None, IsSome, AllPairs}
+use Rattle.std.specs.List.{Contains}
+use Rattle.std.specs.declared.cmp.Ordering.TheVariants.{Less}
+use Rattle.apd_base.specs.declared.address.Addr.{Addr}
+use Rattle.apd_base.specs.declared.address.Bssid.{Bssid}
+use Rattle.apd_base.specs.declared.address.TheConstants.{BROADCAST}
+use Rattle.apd_base.specs.declared.station.Association.{Association}
+use Rattle.apd_base.specs.declared.station.Policy.{Policy as BssPolicy}
+use Rattle.apd_base.specs.declared.station.Station.TheVariants.{Associated}
+use Rattle.apd_base.specs.declared.station.StationNumber.{StationNumber}
+use Rattle.apd_base.specs.declared.station.Which.{Which}
+use Rattle.apd_base.specs.Addr.{addr_cmp}
+use Rattle.apd_base.specs.State.{State, station_at, aid_at}
+use Rattle.apd_frame.specs.Contents.{Contents, sender_of}
+use Rattle.apd_frame.specs.declared.codes.Reason.{Reason}
+use Rattle.apd_frame.specs.declared.replies.Reply.{Reply}
+use Rattle.apd_frame.specs.Wire.{wire}
+use Rattle.apd_record.specs.declared.change.Change.{Change}
+use Rattle.apd_record.specs.declared.change.Change.TheVariants.{Put, ListClear, Policy, Cursor}
+use Rattle.apd_record.specs.Meaning.{meaning}
+use Rattle.apd_mlme.specs.declared.decision.Recipient.TheVariants.{Radio}
+use Rattle.apd_mlme.specs.declared.decision.Out.{Out}
+use Rattle.apd_mlme.specs.declared.decision.Out.TheVariants.{Install, Remove, Frame, Text}
+use Rattle.apd_mlme.specs.declared.event.Edit.TheVariants.{Clear}
+use Rattle.apd_mlme.specs.Happening.{Happening, Heard, Kick, ListEdit, Expire, Configure}
+use Rattle.apd_mlme.specs.laws.AssociationEnd.{HasLeft}
+use Rattle.apd_mlme.specs.Outs.{outs_to}
+use Rattle.apd_mlme.specs.rules.Leaving.{disassociation, deauthentication}
+use Rattle.apd_mlme.specs.Verdict.{Verdict}
+
+-- they rise, so none is there twice
+abbrev pub Rise : List Addr → Type 0
+Rise addresses = AllPairs (λ a b. addr_cmp a b ≡ Less) addresses
+
+-- ---- whom drivers let go
+
+-- the stations that a driver lets go, in order
+abbrev pub let_go : List Out → List Addr
+let_go [] = []
+let_go (Remove a ∷ outs) = a ∷ let_go outs
+let_go (Install a aid ∷ outs) = let_go outs
+let_go (Frame bytes ∷ outs) = let_go outs
+let_go (Text tag bytes ∷ outs) = let_go outs
+
+-- a station was associated with the BSSID, and is so no more
+abbrev pub HasCeased : State → State → Bssid → Addr → Type 0
+HasCeased old new b a = IsSome (aid_at old b a) × (aid_at new b a ≡ None)
+
+-- the driver of the BSSID's radio lets go whoever has ceased to be associated, each once and in address order, and nobody
+-- else
+pub record AreLetGo (old : State) (b : Bssid) (v : Verdict) : Type 0 where
+  pub once : Rise (let_go (outs_to (Radio b) v.outs))
+  pub those : (a : Addr) → Contains (let_go (outs_to (Radio b) v.outs)) a ↔ HasCeased old v.state b a
+
+-- ---- which frames leave
+
+-- the frames that a radio sends, in order
+abbrev pub frames : List Out → List (List ℕ)
+frames [] = []
+frames (Frame bytes ∷ outs) = bytes ∷ frames outs
+frames (Install a aid ∷ outs) = frames outs
+frames (Remove a ∷ outs) = frames outs
+frames (Text tag bytes ∷ outs) = frames outs
+
+-- a station's association with the BSSID came to an end, or its authentication
+abbrev pub HasLost : State → State → Bssid → Addr → Type 0
+HasLost old new b a = HasCeased old new b a ⊎ (IsSome (station_at old b a) × (station_at new b a ≡ None))
+
+-- all are sent away, by one frame
+abbrev pub IsToAll : Happening → Type 0
+IsToAll (Kick b to reason deauth tag) = to ≡ BROADCAST
+IsToAll (Heard b frame) = ⊥
+IsToAll (ListEdit b which edit tag) = ⊥
+IsToAll (Expire b a) = ⊥
+IsToAll (Configure b accept deny) = ⊥
+
+-- whom an event names at a BSSID: the sender of a frame, or the address of a command that sends stations away
+abbrev pub Names : Happening → Bssid → Addr → Type 0
+Names (Heard c frame) b a = (c ≡ b) × (sender_of frame ≡ a)
+Names (Kick c to reason deauth tag) b a = (c ≡ b) × (to ≡ a)
+Names (ListEdit c which edit tag) b a = ⊥
+Names (Expire c d) b a = ⊥
+Names (Configure c accept deny) b a = ⊥
+
+-- a disassociation or a deauthentication of the station
+abbrev pub IsNotice : Bssid → Addr → List ℕ → Type 0
+IsNotice b a bytes =
+    (reason : Reason) × ((bytes ≡ wire (disassociation b a reason)) ⊎ (bytes ≡ wire (deauthentication b a reason)))
+
+-- one for each station, in order
+abbrev pub AreNotices : Bssid → List Addr → List (List ℕ) → Type 0
+AreNotices b [] [] = Unit {0}
+AreNotices b (a ∷ told) (bytes ∷ notices) = IsNotice b a bytes × AreNotices b told notices
+AreNotices b [] (bytes ∷ notices) = ⊥
+AreNotices b (a ∷ told) [] = ⊥
+
+-- one frame at most, to whom the event names
+abbrev pub IsAnswer : Happening → Bssid → List Addr → List (List ℕ) → Type 0
+IsAnswer h b told answer =
+    (answer ≡ []) ⊎ ((reply : Reply) × (answer ≡ wire reply ∷ []) × (reply.bssid ≡ b) × Names h b reply.to
+    × ¬ (Contains told reply.to))
+
+-- the frames of a BSSID's radio tell whoever's association or authentication came to an end, each by one of them and in
+-- address order, but for who ended it itself, and where one tells all. Beside these there is at most one, to somebody else
+-- whom the event names
+pub record AreFramesDue (old : State) (h : Happening) (b : Bssid) (v : Verdict) : Type 0 where
+  pub told : List Addr
+  pub notices : List (List ℕ)
+  pub answer : List (List ℕ)
+  pub all : frames (outs_to (Radio b) v.outs) ≡ notices ++ answer
+  pub are_notices : AreNotices b told notices
+  pub once : Rise told
+  pub those : (a : Addr) → Contains told a ↔ (HasLost old v.state b a × ¬ (HasLeft h b a) × ¬ (IsToAll h))
+  pub is_answer : IsAnswer h b told answer
+
+-- ---- which changes are made
+
+-- those that are always made: the row of a station that associates, the identifier that it is given, the clearing of a list
+-- and the policy of a start
+pub data IsAlwaysMade : Happening → Change → Type 0 where
+  row : (b : Bssid) (frame : Contents) (x : Association) → IsAlwaysMade (Heard b frame) (Put b (sender_of frame) (Associated x))
+  given : (b : Bssid) (frame : Contents) (last : StationNumber) → IsAlwaysMade (Heard b frame) (Cursor b last)
+  cleared : (b : Bssid) (w : Which) (tag : ℕ) → IsAlwaysMade (ListEdit b w Clear tag) (ListClear b w)
+  started : (b : Bssid) (accept deny : List Addr) (policy : BssPolicy) → IsAlwaysMade (Configure b accept deny) (Policy b policy)
+
+-- each of the others changes the state that it is made in
+abbrev pub AreNeeded : Happening → List Change → State → Type 0
+AreNeeded h [] s = Unit {0}
+AreNeeded h (change ∷ changes) s = (IsAlwaysMade h change ⊎ (meaning change s ≢ s)) × AreNeeded h changes (meaning change s)
