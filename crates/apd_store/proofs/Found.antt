@@ -1,7 +1,7 @@
 -- The current half of a store's bytes.
-use Rattle.std.proofs.Common.{◌≡◌, ◌<◌, ◌↔◌, ◌^◌, ◌-◌, ◌⊎◌, inr, ⊎_elim, ℕ, Bool, IsTrue, nat_lt, true, List, ◌∷◌, ◌++◌, length, take, drop, refl, sym, ◌∙◌, ap, subst, arith, length-drop, take-append-drop}
+use Rattle.std.proofs.Common.{◌≡◌, ◌<◌, ◌↔◌, ◌^◌, ◌-◌, ◌⊎◌, inl, inr, ⊎_elim, ℕ, Bool, IsTrue, nat_lt, true, List, ◌∷◌, ◌++◌, length, take, drop, refl, sym, ◌∙◌, ap, subst, arith, length-drop, take-append-drop}
 use Rattle.std.proofs.lemmas.List.{drop-drop, length-take-le, take_rest}
-use Rattle.std.specs.Prelude.{Result, Ok, Err, IfOk, OnErr}
+use Rattle.std.specs.Prelude.{Result, Ok, Err, IfOk}
 use Rattle.std.proofs.lemmas.Bool.{lt-ltb, ltb-true}
 use Rattle.std.specs.Int.{to_le_bytes, w64}
 use Rattle.apd_base.specs.State.{State, empty_state}
@@ -11,14 +11,13 @@ use Rattle.apd_table.specs.Sound.{StaySound}
 use Rattle.apd_journal.specs.Half.{HalfHolds}
 use Rattle.apd_journal.proofs.Once.{half_once}
 use Rattle.apd_journal.specs.declared.writer.TheConstants.{HALF_LENGTH}
-use Rattle.apd_store.specs.Image.{magic, HasOpenGate, IsStore, IsStoreBy, IsOpen, IsBehind, HalfShows, IsCurrent, ShowsNone, IsMarked, IsMarkedBy}
-use Rattle.apd_store.specs.Layout.{IsFound, IsFoundBy}
+use Rattle.apd_store.specs.Image.{changes_of, HasNoCursor, HasOpenGate, IsStoreBy, IsOpen, IsBehind, HalfShows, IsCurrent, ShowsBy, IsMarkedBy}
+use Rattle.apd_store.specs.Layout.{IsFoundBy}
 use Rattle.apd_store.specs.declared.half.Half.{Half}
 use Rattle.apd_store.specs.declared.half.Half.TheVariants.{A, B}
 use Rattle.apd_store.specs.declared.fault.StoreFault.{StoreFault}
-use Rattle.apd_store.specs.declared.fault.StoreFault.TheVariants.{NotAStore, Damaged, NoMemory}
 use Rattle.apd_store.specs.declared.reading.Found.{Found}
-use Rattle.apd_store.proofs.Unique.{holds_open, open_once, shown_current}
+use Rattle.apd_store.proofs.Unique.{holds_open, open_once, shown_current, half_a as a_is_front, half_b as b_is_back}
 
 abbrev pub HasCurrent : List ℕ → List ℕ → Type 0
 HasCurrent half other = (epoch : ℕ) × IsOpen half epoch × IsBehind other epoch
@@ -46,6 +45,10 @@ unsound half epoch place changes holds bad e gate state x =
 
 pub shows : (half : List ℕ) (epoch place : ℕ) (changes : List Change) (state : State) → HalfHolds half epoch changes place → state ≡ meaning_of changes empty_state → StaySound changes empty_state → HalfShows half epoch place state
 shows half epoch place changes state holds is sound = record { changes = changes; holds = holds; sound = sound; state_is = sym is }
+
+-- whether a half has a cursor's change, by any reading of it
+pub same_cursor : (half : List ℕ) (e f g h : ℕ) (xs ys : List Change) (told : Bool) → HalfHolds half e xs g → IsTrue told ↔ HasNoCursor xs → HalfHolds half f ys h → IsTrue told ↔ HasNoCursor ys
+same_cursor half e f g h xs ys told first is second = subst (λ (l : List Change). IsTrue told ↔ HasNoCursor l) (half_once half e f xs ys g h first second).1 is
 
 -- ---- an image by its bytes
 
@@ -75,7 +78,7 @@ module _ (mark image : List ℕ) (marked : IsMarkedBy mark image) where
   b_length : length back_half ≡ HALF_LENGTH
   b_length = omega (arith, length-drop HALF_LENGTH (drop 64 image), length-drop 64 image, marked.0)
 
-  store_by : IsStoreBy mark image front_half back_half
+  pub store_by : IsStoreBy mark image front_half back_half
   store_by = record { reserved = reserved; is = image_is; reserved_length = reserved_length; a_length = a_length; b_length = b_length }
 
   -- the current half shows the state
@@ -110,27 +113,30 @@ module _ (mark image : List ℕ) (marked : IsMarkedBy mark image) where
     gate_is = opens;
   }
 
-module _ (image : List ℕ) (marked : IsMarked image) where
+module _ (mark image : List ℕ) (marked : IsMarkedBy mark image) where
+  eight : length mark ≡ 8
+  eight = ap length (sym marked.1) ∙ length-take-le 8 image (omega (arith, marked.0))
+
   abbrev half_a : List ℕ
   half_a = take HALF_LENGTH (drop 64 image)
 
   abbrev half_b : List ℕ
   half_b = drop HALF_LENGTH (drop 64 image)
 
-  store : IsStore image half_a half_b
-  store = store_by magic image marked
-
   abbrev pub HoldsNone : List ℕ → Type 0
   HoldsNone half = (epoch gate : ℕ) (state : State) → HalfShows half epoch gate state → ⊥
 
-  shows_none : ((gate : ℕ) (state : State) → IsCurrent half_a half_b gate state → ⊥) → ((gate : ℕ) (state : State) → IsCurrent half_b half_a gate state → ⊥) → ShowsNone image
-  shows_none not_a not_b state shows = ⊎_elim (not_a shows.gate state) (not_b shows.gate state) (shown_current image half_a half_b state store shows)
+  abbrev pub HasNone : Type 0
+  HasNone = (state : State) → ShowsBy mark image state → ⊥
+
+  shows_none : ((gate : ℕ) (state : State) → IsCurrent half_a half_b gate state → ⊥) → ((gate : ℕ) (state : State) → IsCurrent half_b half_a gate state → ⊥) → HasNone
+  shows_none not_a not_b state shows = ⊎_elim (not_a shows.gate state) (not_b shows.gate state) (shown_current mark image half_a half_b state eight (store_by mark image marked) shows)
 
   not_current : (half other : List ℕ) → (HasCurrent half other → ⊥) → (gate : ℕ) (state : State) → IsCurrent half other gate state → ⊥
   not_current half other none gate state x = none (x.epoch, holds_open half x.epoch x.shows.changes gate x.shows.holds, x.behind)
 
   -- neither half is the current one
-  pub none_current : (HasCurrent half_a half_b → ⊥) → (HasCurrent half_b half_a → ⊥) → ShowsNone image
+  pub none_current : (HasCurrent half_a half_b → ⊥) → (HasCurrent half_b half_a → ⊥) → HasNone
   none_current no_a no_b = shows_none (not_current half_a half_b no_a) (not_current half_b half_a no_b)
 
   not_behind : (half other : List ℕ) → HasCurrent half other → (gate : ℕ) (state : State) → IsCurrent other half gate state → ⊥
@@ -139,53 +145,65 @@ module _ (image : List ℕ) (marked : IsMarked image) where
       absurd (omega (arith, current.2 x.epoch open_other, x.behind current.0 current.1))
 
   -- the current half shows no state
-  pub damaged_a : HasCurrent half_a half_b → HoldsNone half_a → ShowsNone image
+  pub damaged_a : HasCurrent half_a half_b → HoldsNone half_a → HasNone
   damaged_a current none = shows_none (λ gate state x. none x.epoch gate state x.shows) (not_behind half_a half_b current)
 
-  pub damaged_b : HasCurrent half_b half_a → HoldsNone half_b → ShowsNone image
+  pub damaged_b : HasCurrent half_b half_a → HoldsNone half_b → HasNone
   damaged_b current none = shows_none (not_behind half_b half_a current) (λ gate state x. none x.epoch gate state x.shows)
+
+  -- ---- whether the current half has a cursor's change
+  abbrev pub Tells : Result Found StoreFault → List ℕ → Type 0
+  Tells r half = (epoch gate : ℕ) (changes : List Change) → HalfHolds half epoch changes gate → IfOk r (λ f. IsTrue f.no_cursor ↔ HasNoCursor changes)
+
+  told_a : (r : Result Found StoreFault) (x y : List ℕ) (gate : ℕ) (state : State) → x ≡ half_a → y ≡ half_b → (now : IsCurrent x y gate state ⊎ IsCurrent y x gate state) → HasCurrent half_a half_b → Tells r half_a
+      → IfOk r (λ f. IsTrue f.no_cursor ↔ HasNoCursor (changes_of now))
+  told_a r x y gate state x_is y_is (inl c) current tells = tells c.epoch gate c.shows.changes (subst (λ (l : List ℕ). HalfHolds l c.epoch c.shows.changes gate) x_is c.shows.holds)
+  told_a r x y gate state x_is y_is (inr c) current tells =
+      absurd (not_behind half_a half_b current gate state (subst (λ (l : List ℕ). IsCurrent half_b l gate state) x_is (subst (λ (l : List ℕ). IsCurrent l x gate state) y_is c)))
+
+  told_b : (r : Result Found StoreFault) (x y : List ℕ) (gate : ℕ) (state : State) → x ≡ half_a → y ≡ half_b → (now : IsCurrent x y gate state ⊎ IsCurrent y x gate state) → HasCurrent half_b half_a → Tells r half_b
+      → IfOk r (λ f. IsTrue f.no_cursor ↔ HasNoCursor (changes_of now))
+  told_b r x y gate state x_is y_is (inl c) current tells =
+      absurd (not_behind half_b half_a current gate state (subst (λ (l : List ℕ). IsCurrent half_a l gate state) y_is (subst (λ (l : List ℕ). IsCurrent l y gate state) x_is c)))
+  told_b r x y gate state x_is y_is (inr c) current tells = tells c.epoch gate c.shows.changes (subst (λ (l : List ℕ). HalfHolds l c.epoch c.shows.changes gate) y_is c.shows.holds)
 
   -- ---- what was read of the halves, as the code has them
   module _ (a b : List ℕ) (a_is : a ≡ half_a) (b_is : b ≡ half_b) (r : Result Found StoreFault) where
     at_halves : (P : List ℕ → List ℕ → Type 0) → P a b → P half_a half_b
     at_halves P p = subst (λ (l : List ℕ). P l half_b) a_is (subst (λ (l : List ℕ). P a l) b_is p)
 
-    ok_found_a : (r : Result Found StoreFault) → HasCurrent half_a half_b → IfOk r (λ f. f.half ≡ A) → IfOk r (λ f. HalfShows half_a f.epoch f.gate f.table) → IfOk r (λ f. IsTrue f.other_open ↔ HasOpenGate half_b) → IfOk r (λ f. IsFound image f.half f.epoch f.gate f.other_open f.table)
-    ok_found_a (Ok f) current side shown opens = subst (λ (h : Half). IsFound image h f.epoch f.gate f.other_open f.table) (sym side) (found_by_a magic image marked f.epoch f.gate f.other_open f.table current shown opens)
+    ok_found_a : (r : Result Found StoreFault) → HasCurrent half_a half_b → IfOk r (λ f. f.half ≡ A) → IfOk r (λ f. HalfShows half_a f.epoch f.gate f.table) → IfOk r (λ f. IsTrue f.other_open ↔ HasOpenGate half_b) → IfOk r (λ f. IsFoundBy mark image f.half f.epoch f.gate f.other_open f.table)
+    ok_found_a (Ok f) current side shown opens = subst (λ (h : Half). IsFoundBy mark image h f.epoch f.gate f.other_open f.table) (sym side) (found_by_a mark image marked f.epoch f.gate f.other_open f.table current shown opens)
     ok_found_a (Err e) current side shown opens = tt
 
-    ok_found_b : (r : Result Found StoreFault) → HasCurrent half_b half_a → IfOk r (λ f. f.half ≡ B) → IfOk r (λ f. HalfShows half_b f.epoch f.gate f.table) → IfOk r (λ f. IsTrue f.other_open ↔ HasOpenGate half_a) → IfOk r (λ f. IsFound image f.half f.epoch f.gate f.other_open f.table)
-    ok_found_b (Ok f) current side shown opens = subst (λ (h : Half). IsFound image h f.epoch f.gate f.other_open f.table) (sym side) (found_by_b magic image marked f.epoch f.gate f.other_open f.table current shown opens)
+    ok_found_b : (r : Result Found StoreFault) → HasCurrent half_b half_a → IfOk r (λ f. f.half ≡ B) → IfOk r (λ f. HalfShows half_b f.epoch f.gate f.table) → IfOk r (λ f. IsTrue f.other_open ↔ HasOpenGate half_a) → IfOk r (λ f. IsFoundBy mark image f.half f.epoch f.gate f.other_open f.table)
+    ok_found_b (Ok f) current side shown opens = subst (λ (h : Half). IsFoundBy mark image h f.epoch f.gate f.other_open f.table) (sym side) (found_by_b mark image marked f.epoch f.gate f.other_open f.table current shown opens)
     ok_found_b (Err e) current side shown opens = tt
 
-    pub read_a : HasCurrent a b → IfOk r (λ f. f.half ≡ A) → IfOk r (λ f. HalfShows a f.epoch f.gate f.table) → IfOk r (λ f. IsTrue f.other_open ↔ HasOpenGate b) → IfOk r (λ f. IsFound image f.half f.epoch f.gate f.other_open f.table)
+    pub read_a : HasCurrent a b → IfOk r (λ f. f.half ≡ A) → IfOk r (λ f. HalfShows a f.epoch f.gate f.table) → IfOk r (λ f. IsTrue f.other_open ↔ HasOpenGate b) → IfOk r (λ f. IsFoundBy mark image f.half f.epoch f.gate f.other_open f.table)
     read_a current side shown opens = ok_found_a r (at_halves HasCurrent current) side (subst (λ (l : List ℕ). IfOk r (λ f. HalfShows l f.epoch f.gate f.table)) a_is shown) (subst (λ (l : List ℕ). IfOk r (λ f. IsTrue f.other_open ↔ HasOpenGate l)) b_is opens)
 
-    pub read_b : HasCurrent b a → IfOk r (λ f. f.half ≡ B) → IfOk r (λ f. HalfShows b f.epoch f.gate f.table) → IfOk r (λ f. IsTrue f.other_open ↔ HasOpenGate a) → IfOk r (λ f. IsFound image f.half f.epoch f.gate f.other_open f.table)
+    pub read_b : HasCurrent b a → IfOk r (λ f. f.half ≡ B) → IfOk r (λ f. HalfShows b f.epoch f.gate f.table) → IfOk r (λ f. IsTrue f.other_open ↔ HasOpenGate a) → IfOk r (λ f. IsFoundBy mark image f.half f.epoch f.gate f.other_open f.table)
     read_b current side shown opens = ok_found_b r (at_halves (λ (x y : List ℕ). HasCurrent y x) current) side (subst (λ (l : List ℕ). IfOk r (λ f. HalfShows l f.epoch f.gate f.table)) b_is shown) (subst (λ (l : List ℕ). IfOk r (λ f. IsTrue f.other_open ↔ HasOpenGate l)) a_is opens)
 
-    pub damaged_first : HasCurrent a b → HoldsNone a → ShowsNone image
+    pub cursor_first : HasCurrent a b → Tells r a → (state : State) (shows : ShowsBy mark image state) → IfOk r (λ f. IsTrue f.no_cursor ↔ HasNoCursor (changes_of shows.current))
+    cursor_first current tells state shows =
+        told_a r shows.a shows.b shows.gate state (sym (a_is_front mark image shows.a shows.b eight shows.store)) (sym (b_is_back mark image shows.a shows.b eight shows.store)) shows.current (at_halves HasCurrent current)
+        (subst (Tells r) a_is tells)
+
+    pub cursor_second : HasCurrent b a → Tells r b → (state : State) (shows : ShowsBy mark image state) → IfOk r (λ f. IsTrue f.no_cursor ↔ HasNoCursor (changes_of shows.current))
+    cursor_second current tells state shows =
+        told_b r shows.a shows.b shows.gate state (sym (a_is_front mark image shows.a shows.b eight shows.store)) (sym (b_is_back mark image shows.a shows.b eight shows.store)) shows.current
+        (at_halves (λ (x y : List ℕ). HasCurrent y x) current) (subst (Tells r) b_is tells)
+
+    pub damaged_first : HasCurrent a b → HoldsNone a → HasNone
     damaged_first current none = damaged_a (at_halves HasCurrent current) (subst HoldsNone a_is none)
 
-    pub damaged_second : HasCurrent b a → HoldsNone b → ShowsNone image
+    pub damaged_second : HasCurrent b a → HoldsNone b → HasNone
     damaged_second current none = damaged_b (at_halves (λ (x y : List ℕ). HasCurrent y x) current) (subst HoldsNone b_is none)
 
-    pub damaged_both : (HasCurrent a b → ⊥) → (HasCurrent b a → ⊥) → ShowsNone image
+    pub damaged_both : (HasCurrent a b → ⊥) → (HasCurrent b a → ⊥) → HasNone
     damaged_both no_a no_b = none_current (at_halves (λ (x y : List ℕ). HasCurrent x y → ⊥) no_a) (at_halves (λ (x y : List ℕ). HasCurrent y x → ⊥) no_b)
-
-    not_marked : (r : Result Found StoreFault) → OnErr r ((r ≡ Err Damaged) ⊎ (r ≡ Err NoMemory)) → r ≡ Err NotAStore → ⊥
-    not_marked (Ok f) only is = cc
-    not_marked (Err e) only is = ⊎_elim (λ d. let x : Err Damaged ≡ Err NotAStore = sym d ∙ is in cc) (λ d. let x : Err NoMemory ≡ Err NotAStore = sym d ∙ is in cc) only
-
-    more : (r : Result Found StoreFault) → OnErr r ((r ≡ Err Damaged) ⊎ (r ≡ Err NoMemory)) → OnErr r ((r ≡ Err NotAStore) ⊎ (r ≡ Err Damaged) ⊎ (r ≡ Err NoMemory))
-    more (Ok f) only = tt
-    more (Err e) only = inr only
-
-    pub is_a_store : OnErr r ((r ≡ Err Damaged) ⊎ (r ≡ Err NoMemory)) → r ≡ Err NotAStore → ⊥
-    is_a_store = not_marked r
-
-    pub among_three : OnErr r ((r ≡ Err Damaged) ⊎ (r ≡ Err NoMemory)) → OnErr r ((r ≡ Err NotAStore) ⊎ (r ≡ Err Damaged) ⊎ (r ≡ Err NoMemory))
-    among_three = more r
 
 -- the halves as slices of the bytes
 pub slice_a : (image front : List ℕ) → front ≡ take HALF_LENGTH (take (length image - 64) (drop 64 image)) → front ≡ take HALF_LENGTH (drop 64 image)

@@ -1,9 +1,10 @@
 -- What a stop may leave of a device that is being formatted.
-use Rattle.std.proofs.Common.{◌≡◌, ◌≢◌, ◌≤◌, ◌+◌, ℕ, false, List, [], ◌∷◌, ◌++◌, length, get_or, take, drop, refl, sym, ◌∙◌, ap, subst, arith, take-append-drop}
+use Rattle.std.proofs.Common.{◌≡◌, ◌≤◌, ◌+◌, ◌⊎◌, inl, inr, ⊎_elim, ℕ, false, List, [], ◌∷◌, ◌++◌, length, get_or, take, drop, refl, sym, ◌∙◌, ap, subst, arith, take-append-drop}
 use Rattle.std.proofs.lemmas.List.{take_at, drop_at, take-take, drop-take, drop-drop, append_assoc, length-take-le}
 use Rattle.std.proofs.lemmas.Bool.{false≢true}
 use Rattle.std.specs.Prelude.{Result, Ok, Err, OnOk}
 use Rattle.std.specs.Int.{to_le_bytes, w64}
+use Rattle.std.specs.List.{Contains}
 use Rattle.apd_base.specs.declared.limits.TheConstants.{DEVICE_LENGTH}
 use Rattle.apd_base.specs.State.{State, empty_state}
 use Rattle.apd_table.proofs.Empty.{sound_empty}
@@ -12,18 +13,13 @@ use Rattle.apd_disk.specs.MemLaws.{torn_overwritten}
 use Rattle.apd_journal.specs.Half.{block_of}
 use Rattle.apd_journal.specs.declared.writer.TheConstants.{HALF_LENGTH}
 use Rattle.apd_journal.proofs.Growth.{new_front, front_holds}
-use Rattle.apd_store.specs.Image.{HasOpenGate, IsBehind, HalfShows, ShowsBy, IsMarkedBy}
-use Rattle.apd_store.specs.Layout.{head_a, BeginsBy, HasZeroGate, IsLaidOut, IsFoundBy}
+use Rattle.apd_store.specs.Image.{magic, old_magic, marks, HasOpenGate, IsBehind, IsCurrent, IsMarkedBy, IsMarkedOld, IsOverMark, MayBeMade, ShowsBy, ShowsOld}
+use Rattle.apd_store.specs.Layout.{head_a, BeginsBy, HalfShowsPlainly, HasZeroGate, IsLaidOut, IsFoundBy}
 use Rattle.apd_store.specs.declared.half.Half.TheVariants.{A}
-use Rattle.apd_store.proofs.Current.{found_shows_by}
-use Rattle.apd_store.proofs.Found.{found_by_a}
+use Rattle.apd_store.proofs.Found.{found_by_a, store_by}
 use Rattle.apd_store.proofs.Unique.{holds_open}
 
 -- ---- parts of a torn image
-
--- an image torn in its first eight bytes is marked only where it was
-pub still_marked : (mark image c : List ℕ) → take 8 image ≡ mark → TornWithin 0 8 image c → take 8 c ≡ mark → c ≡ image
-still_marked mark image c was torn is = sym (take-append-drop 8 c) ∙ (λ i. is i ++ torn.after i) ∙ ap (λ (l : List ℕ). l ++ drop 8 image) (sym was) ∙ take-append-drop 8 image
 
 -- a part before the torn range stays
 part_before : (at n k m : ℕ) (image c : List ℕ) → TornWithin at n image c → k + m ≤ at → take m (drop k c) ≡ take m (drop k image)
@@ -74,40 +70,58 @@ module _ (a b image now after : List ℕ) (a_fits : length a ≤ HALF_LENGTH) (b
   pub heads_written : (epoch gate : ℕ) (state : State) → BeginsBy a epoch gate state → HasZeroGate b → IsLaidOut after epoch gate state
   heads_written epoch gate state shows closed = record {
     size = ap length second ∙ torn_second.same_length ∙ now_size;
-    shows = subst (λ (l : List ℕ). HalfShows l epoch gate state) (sym (begins (take HALF_LENGTH (drop 64 after)) a half_begins)) (shows (drop (length a) (take HALF_LENGTH (drop 64 after))));
+    shows = subst (λ (l : List ℕ). HalfShowsPlainly l epoch gate state) (sym (begins (take HALF_LENGTH (drop 64 after)) a half_begins)) (shows (drop (length a) (take HALF_LENGTH (drop 64 after))));
     closed = ap (λ (l : List ℕ). take 1 l) (drop-drop HALF_LENGTH 64 after) ∙ sym (take-take 1 (length b) (drop 1048640 after) (zero_first b closed)) ∙ ap (λ (l : List ℕ). take 1 l) b_stands ∙ closed;
   }
 
 -- a half that begins with 0 is closed
 closed_behind : (xs : List ℕ) (epoch : ℕ) → HasZeroGate xs → IsBehind xs epoch
-closed_behind [] epoch zero e opens = absurd (omega (arith, ap length opens.is))
-closed_behind (x ∷ xs) epoch zero e opens =
+closed_behind [] epoch shut e opens = absurd (omega (arith, ap length opens.is))
+closed_behind (x ∷ xs) epoch shut e opens =
     let gate : x ≡ 0 = cc in
     let open_gate : x ≡ 1 = (let is = opens.is in cc) in
     absurd (omega (arith, gate, open_gate))
 
 not_open : (xs : List ℕ) → HasZeroGate xs → ¬ HasOpenGate xs
-not_open xs zero is =
+not_open xs shut is =
     let first : List ℕ → ℕ = λ l. get_or l 0 0 in
-    let both : 0 ≡ 1 = ap first (sym zero ∙ is) in
+    let both : 0 ≡ 1 = ap first (sym shut ∙ is) in
     absurd (omega (arith, both))
 
 -- a marked image that is laid out shows the state
-pub laid_found : (mark image : List ℕ) (epoch gate : ℕ) (state : State) → IsMarkedBy mark image → IsLaidOut image epoch gate state → IsFoundBy mark image A epoch gate false state
-laid_found mark image epoch gate state marked laid =
-    let front = take HALF_LENGTH (drop 64 image) in
-    let back = drop HALF_LENGTH (drop 64 image) in
-    found_by_a mark image marked epoch gate false state (epoch, holds_open front epoch laid.shows.changes gate laid.shows.holds, closed_behind back epoch laid.closed) laid.shows
-    (λ t. absurd (false≢true t), λ is. absurd (not_open back laid.closed is))
+module _ (mark image : List ℕ) (epoch gate : ℕ) (state : State) (marked : IsMarkedBy mark image) (laid : IsLaidOut image epoch gate state) where
+  abbrev front : List ℕ
+  front = take HALF_LENGTH (drop 64 image)
+
+  abbrev back : List ℕ
+  back = drop HALF_LENGTH (drop 64 image)
+
+  pub laid_found : IsFoundBy mark image A epoch gate false state
+  laid_found =
+      found_by_a mark image marked epoch gate false state (epoch, holds_open front epoch laid.shows.0.changes gate laid.shows.0.holds, closed_behind back epoch laid.closed) laid.shows.0
+      (λ t. absurd (false≢true t), λ is. absurd (not_open back laid.closed is))
+
+  abbrev laid_current : IsCurrent front back gate state
+  laid_current = record { epoch = epoch; shows = laid.shows.0; behind = closed_behind back epoch laid.closed }
+
+  abbrev laid_shows : ShowsBy mark image state
+  laid_shows = record { a = front; b = back; store = store_by mark image marked; gate = gate; current = inl laid_current }
+
+-- to the program of version 1 too
+pub laid_shows_old : (image : List ℕ) (epoch gate : ℕ) (state : State) → IsMarkedOld image → IsLaidOut image epoch gate state → ShowsOld image state
+laid_shows_old image epoch gate state marked laid = record { by_mark = laid_shows old_magic image epoch gate state marked laid; no_cursor = laid.shows.1 }
 
 -- the head of a new store is that of the empty state
 pub begins_empty : BeginsBy head_a 1 13 empty_state
-begins_empty rest = record {
-  changes = [];
-  holds = front_holds (1 ∷ (to_le_bytes w64 1 ++ block_of [])) 1 [] 0 rest (new_front 1 [] (omega arith) tt (omega arith)) (λ e. absurd (omega (arith, e)));
-  sound = sound_empty;
-  state_is = refl;
-}
+begins_empty rest = (
+  record {
+    changes = [];
+    holds = front_holds (1 ∷ (to_le_bytes w64 1 ++ block_of [])) 1 [] 0 rest (new_front 1 [] (omega arith) tt (omega arith)) (λ e. absurd (omega (arith, e)));
+    sound = sound_empty;
+    state_is = refl;
+  },
+  tt,
+)
 
 -- what is laid out stays so while the mark is written
 laid_stays : (image c : List ℕ) (epoch gate : ℕ) (state : State) → IsLaidOut image epoch gate state → TornWithin 0 8 image c → IsLaidOut c epoch gate state
@@ -115,19 +129,18 @@ laid_stays image c epoch gate state laid torn =
     let same : drop 64 c ≡ drop 64 image = part_behind 0 8 56 image c torn in
     record {
       size = torn.same_length ∙ laid.size;
-      shows = subst (λ (l : List ℕ). HalfShows (take HALF_LENGTH l) epoch gate state) (sym same) laid.shows;
+      shows = subst (λ (l : List ℕ). HalfShowsPlainly (take HALF_LENGTH l) epoch gate state) (sym same) laid.shows;
       closed = ap (λ (l : List ℕ). take 1 (drop HALF_LENGTH l)) same ∙ laid.closed;
     }
 
 -- ---- what a stop within each write leaves
 
-pub mark_images : (mark image : List ℕ) (old during : List ℕ → Type 0) (epoch gate : ℕ) (state : State) → length mark ≡ 8 → IsLaidOut image epoch gate state → Only image old
-    → Follows (TornWithin 0 (length mark)) old during
-    → (c : List ℕ) → during c → IsMarkedBy mark c → ShowsBy mark c state
-mark_images mark image old during epoch gate state eight laid only follows c left marked =
+pub mark_images : (image : List ℕ) (old during : List ℕ → Type 0) (epoch gate : ℕ) (state : State) → IsLaidOut image epoch gate state → Only image old
+    → Follows (TornWithin 0 8) old during
+    → (c : List ℕ) → during c → IsLaidOut c epoch gate state
+mark_images image old during epoch gate state laid only follows c left =
     let from = follows c left in
-    found_shows_by mark c A epoch gate false state
-    (laid_found mark c epoch gate state marked (laid_stays image c epoch gate state laid (subst (λ (n : ℕ). TornWithin 0 n image c) eight (subst (λ (l : List ℕ). TornWithin 0 (length mark) l c) (only from.0 from.1) from.2))))
+    laid_stays image c epoch gate state laid (subst (λ (l : List ℕ). TornWithin 0 8 l c) (only from.0 from.1) from.2)
 
 pub mark_found : (mark image after : List ℕ) (epoch gate : ℕ) (state : State) → length mark ≡ 8 → IsLaidOut image epoch gate state → after ≡ overwritten image 0 mark → IsFoundBy mark after A epoch gate false state
 mark_found mark image after epoch gate state eight laid is =
@@ -137,10 +150,34 @@ mark_found mark image after epoch gate state eight laid is =
     let begins_so : take 8 after ≡ mark = ap (λ (l : List ℕ). take 8 l) (is ∙ append_assoc (take 0 image) mark (drop (0 + length mark) image)) ∙ take_at mark (drop (0 + length mark) image) 8 eight in
     laid_found mark after epoch gate state (stays.size, begins_so) stays
 
-pub unmarked_images : (mark : List ℕ) (at n : ℕ) (old during : List ℕ → Type 0) → 8 ≤ at → ((d : List ℕ) → old d → take 8 d ≢ mark) → Follows (TornWithin at n) old during → (c : List ℕ) → during c → take 8 c ≢ mark
-unmarked_images mark at n old during le unmarked follows c left marked =
+pub first_stays : (first : List ℕ) (at n : ℕ) (old during : List ℕ → Type 0) → 8 ≤ at → ((d : List ℕ) → old d → take 8 d ≡ first) → Follows (TornWithin at n) old during → (c : List ℕ) → during c → take 8 c ≡ first
+first_stays first at n old during le stays follows c left =
     let from = follows c left in
-    unmarked from.0 from.1 (sym (part_before at n 0 8 from.0 c from.2 le) ∙ marked)
+    part_before at n 0 8 from.0 c from.2 le ∙ stays from.0 from.1
+
+-- ---- the marks
+
+has_magic : Contains marks magic
+has_magic = (0, omega arith, refl)
+
+has_old_magic : Contains marks old_magic
+has_old_magic = (1, omega arith, refl)
+
+-- what each part of laying out leaves is what all of it may
+pub kept_made : (state : State) (before : List ℕ → Type 0) (c : List ℕ) → before c ⊎ IsOverMark marks before c → MayBeMade state before c
+kept_made state before c kept = (λ _. ⊎_elim (λ was. inl was) (λ over. inr (inl over)) kept, λ _. ⊎_elim (λ was. inl was) (λ over. inr (inl over)) kept)
+
+pub unmarked_made : (state : State) (before : List ℕ → Type 0) (now c : List ℕ) → ¬ Contains marks (take 8 now) → take 8 c ≡ take 8 now → MayBeMade state before c
+unmarked_made state before now c none same = (
+  λ marked. absurd (none (subst (Contains marks) (sym marked.1 ∙ same) has_magic)),
+  λ marked. absurd (none (subst (Contains marks) (sym marked.1 ∙ same) has_old_magic)),
+)
+
+pub laid_made : (state : State) (before : List ℕ → Type 0) (epoch gate : ℕ) (c : List ℕ) → IsLaidOut c epoch gate state → MayBeMade state before c
+laid_made state before epoch gate c laid = (
+  λ marked. inr (inr (laid_shows magic c epoch gate state marked laid)),
+  λ marked. inr (inr (laid_shows_old c epoch gate state marked laid)),
+)
 
 pub on_map : {T E : Type 0} (r : Result T E) (P Q R : Type 0) → OnOk r P → OnOk r Q → (P → Q → R) → OnOk r R
 on_map (Ok t) P Q R p q go = go p q

@@ -1,4 +1,5 @@
 mod Calls
+mod Copied
 mod Current
 mod Found
 mod Heads

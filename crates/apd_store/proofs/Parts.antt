@@ -3,8 +3,7 @@ use Rattle.std.proofs.Common.{◌≡◌, ◌≤◌, ◌+◌, ℕ, List, [], ◌+
 use Rattle.std.proofs.lemmas.List.{append_assoc, append-nil, take_at, drop_at, drop-drop, length-take-le}
 use Rattle.apd_disk.specs.Disk.{overwritten, TornWithin}
 use Rattle.apd_disk.proofs.Parts.{overwritten_parts, torn_parts}
-use Rattle.apd_store.specs.Image.{magic}
-use Rattle.apd_store.specs.Layout.{start_of, image_of, AreParts}
+use Rattle.apd_store.specs.Layout.{start_of, image_by, AreParts}
 use Rattle.apd_store.specs.declared.half.Half.{Half}
 use Rattle.apd_store.specs.declared.half.Half.TheVariants.{A, B}
 
@@ -60,29 +59,29 @@ module _ (left half right : List ℕ) (start place n : ℕ) (begins : length lef
       )
 
 -- the same in an image, by the side of its current half
-module _ (reserved half other : List ℕ) (parts : AreParts reserved half other) (place n : ℕ) (inside : place + n ≤ length half) where
-  before_a : length (magic ++ reserved) ≡ 64
-  before_a = omega (arith, length-append magic reserved, parts.reserved_length)
+module _ (mark reserved half other : List ℕ) (eight : length mark ≡ 8) (parts : AreParts reserved half other) (place n : ℕ) (inside : place + n ≤ length half) where
+  before_a : length (mark ++ reserved) ≡ 64
+  before_a = omega (arith, length-append mark reserved, eight, parts.reserved_length)
 
-  before_b : length ((magic ++ reserved) ++ other) ≡ 1048640
-  before_b = omega (arith, length-append (magic ++ reserved) other, before_a, parts.other_length)
+  before_b : length ((mark ++ reserved) ++ other) ≡ 1048640
+  before_b = omega (arith, length-append (mark ++ reserved) other, before_a, parts.other_length)
 
-  shape_a : (h : List ℕ) → image_of A reserved h other ≡ (magic ++ reserved) ++ (h ++ other)
-  shape_a h = sym (append_assoc magic reserved (h ++ other))
+  shape_a : (h : List ℕ) → image_by mark A reserved h other ≡ (mark ++ reserved) ++ (h ++ other)
+  shape_a h = sym (append_assoc mark reserved (h ++ other))
 
-  shape_b : (h : List ℕ) → image_of B reserved h other ≡ ((magic ++ reserved) ++ other) ++ (h ++ [])
-  shape_b h = sym (append_assoc magic reserved (other ++ h)) ∙ sym (append_assoc (magic ++ reserved) other h) ∙ ap (λ (l : List ℕ). ((magic ++ reserved) ++ other) ++ l) (sym (append-nil h))
+  shape_b : (h : List ℕ) → image_by mark B reserved h other ≡ ((mark ++ reserved) ++ other) ++ (h ++ [])
+  shape_b h = sym (append_assoc mark reserved (other ++ h)) ∙ sym (append_assoc (mark ++ reserved) other h) ∙ ap (λ (l : List ℕ). ((mark ++ reserved) ++ other) ++ l) (sym (append-nil h))
 
-  pub written_in_half : (side : Half) (bytes : List ℕ) → length bytes ≡ n → overwritten (image_of side reserved half other) (start_of side + place) bytes ≡ image_of side reserved (overwritten half place bytes) other
+  pub written_in_half : (side : Half) (bytes : List ℕ) → length bytes ≡ n → overwritten (image_by mark side reserved half other) (start_of side + place) bytes ≡ image_by mark side reserved (overwritten half place bytes) other
   written_in_half A bytes size =
-      ap (λ (l : List ℕ). overwritten l (64 + place) bytes) (shape_a half) ∙ written_inside (magic ++ reserved) half other 64 place n before_a inside bytes size ∙ sym (shape_a (overwritten half place bytes))
+      ap (λ (l : List ℕ). overwritten l (64 + place) bytes) (shape_a half) ∙ written_inside (mark ++ reserved) half other 64 place n before_a inside bytes size ∙ sym (shape_a (overwritten half place bytes))
   written_in_half B bytes size =
-      ap (λ (l : List ℕ). overwritten l (1048640 + place) bytes) (shape_b half) ∙ written_inside ((magic ++ reserved) ++ other) half [] 1048640 place n before_b inside bytes size ∙ sym (shape_b (overwritten half place bytes))
+      ap (λ (l : List ℕ). overwritten l (1048640 + place) bytes) (shape_b half) ∙ written_inside ((mark ++ reserved) ++ other) half [] 1048640 place n before_b inside bytes size ∙ sym (shape_b (overwritten half place bytes))
 
-  pub torn_in_half : (side : Half) (c : List ℕ) → TornWithin (start_of side + place) n (image_of side reserved half other) c → (h : List ℕ) × TornWithin place n half h × (c ≡ image_of side reserved h other)
+  pub torn_in_half : (side : Half) (c : List ℕ) → TornWithin (start_of side + place) n (image_by mark side reserved half other) c → (h : List ℕ) × TornWithin place n half h × (c ≡ image_by mark side reserved h other)
   torn_in_half A c torn =
-      let found = torn_inside (magic ++ reserved) half other 64 place n before_a inside c (subst (λ (l : List ℕ). TornWithin (64 + place) n l c) (shape_a half) torn) in
+      let found = torn_inside (mark ++ reserved) half other 64 place n before_a inside c (subst (λ (l : List ℕ). TornWithin (64 + place) n l c) (shape_a half) torn) in
       (found.0, found.1, found.2 ∙ sym (shape_a found.0))
   torn_in_half B c torn =
-      let found = torn_inside ((magic ++ reserved) ++ other) half [] 1048640 place n before_b inside c (subst (λ (l : List ℕ). TornWithin (1048640 + place) n l c) (shape_b half) torn) in
+      let found = torn_inside ((mark ++ reserved) ++ other) half [] 1048640 place n before_b inside c (subst (λ (l : List ℕ). TornWithin (1048640 + place) n l c) (shape_b half) torn) in
       (found.0, found.1, found.2 ∙ sym (shape_b found.0))

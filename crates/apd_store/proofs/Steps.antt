@@ -7,7 +7,7 @@ use Rattle.apd_record.specs.declared.change.Change.{Change}
 use Rattle.apd_journal.specs.declared.writer.TheConstants.{HALF_LENGTH}
 use Rattle.apd_disk.specs.Disk.{overwritten, TornWithin, Only, Follows, DiskModel}
 use Rattle.apd_journal.specs.Half.{planned_bytes}
-use Rattle.apd_store.specs.Image.{IsCurrent, Shows}
+use Rattle.apd_store.specs.Image.{magic, IsCurrent, Shows}
 use Rattle.apd_store.specs.Layout.{start_of, image_of, AreParts, AreTorn, IsFound}
 use Rattle.apd_store.specs.Phases.{calls_from}
 use Rattle.apd_store.specs.Commit.{laid, opened, AtPhase, IsIdle, IsWriting, MayShow}
@@ -77,7 +77,7 @@ module _ {D : Type 0} (disk : DiskModel D) (store : Store D) (state after : Stat
     write_images is during follows c left =
         let from = follows c left in
         let d_is : from.0 ≡ image_of store.half s.reserved s.half s.other = (at_phase WriteGroup is).1 from.0 from.1 ∙ (at_phase WriteGroup is).0 in
-        torn_in_half s.reserved s.half s.other s.parts (store.gate + 1) (length (planned_bytes group)) group_fits store.half c
+        torn_in_half magic s.reserved s.half s.other refl s.parts (store.gate + 1) (length (planned_bytes group)) group_fits store.half c
         (subst (λ (l : List ℕ). TornWithin (start_of store.half + (store.gate + 1)) (length l) (image_of store.half s.reserved s.half s.other) c) planned
         (subst (λ (n : ℕ). TornWithin n (length bytes) (image_of store.half s.reserved s.half s.other) c) place_is
         (subst (λ (l : List ℕ). TornWithin at (length bytes) l c) d_is from.2)))
@@ -85,7 +85,7 @@ module _ {D : Type 0} (disk : DiskModel D) (store : Store D) (state after : Stat
     pub write_reads : store.phase ≡ WriteGroup → (now : List ℕ) → now ≡ overwritten (disk.reads store.device) at bytes → now ≡ image_of store.half s.reserved (laid s.half store.gate store.batch.changes) s.other
     write_reads is now written =
         written ∙ (λ i. overwritten ((at_phase WriteGroup is).0 i) (place_is i) (planned i))
-        ∙ written_in_half s.reserved s.half s.other s.parts (store.gate + 1) (length (planned_bytes group)) group_fits store.half (planned_bytes group) refl
+        ∙ written_in_half magic s.reserved s.half s.other refl s.parts (store.gate + 1) (length (planned_bytes group)) group_fits store.half (planned_bytes group) refl
 
     pub during_write : store.phase ≡ WriteGroup → (during : List ℕ → Type 0) → Follows (TornWithin at (length bytes)) (disk.may_leave store.device) during → (c : List ℕ) → during c → MayShow (calls_from store.phase) state after c
     during_write is during follows c left =
@@ -103,14 +103,14 @@ module _ {D : Type 0} (disk : DiskModel D) (store : Store D) (state after : Stat
     gate_images is during follows c left =
         let from = follows c left in
         let d_is : from.0 ≡ image_of store.half s.reserved (laid s.half store.gate group) s.other = (at_phase OpenGate is).1 from.0 from.1 ∙ (at_phase OpenGate is).0 in
-        torn_in_half s.reserved (laid s.half store.gate group) s.other laid_parts store.gate 1 gate_fits store.half c
+        torn_in_half magic s.reserved (laid s.half store.gate group) s.other refl laid_parts store.gate 1 gate_fits store.half c
         (subst (λ (n : ℕ). TornWithin n 1 (image_of store.half s.reserved (laid s.half store.gate group) s.other) c) at_is
         (subst (λ (l : List ℕ). TornWithin at 1 l c) d_is from.2))
 
     pub gate_reads : store.phase ≡ OpenGate → (now : List ℕ) → now ≡ overwritten (disk.reads store.device) at (1 ∷ []) → now ≡ image_of store.half s.reserved (opened s.half store.gate store.batch.changes) s.other
     gate_reads is now written =
         written ∙ (λ i. overwritten ((at_phase OpenGate is).0 i) (at_is i) (1 ∷ []))
-        ∙ written_in_half s.reserved (laid s.half store.gate group) s.other laid_parts store.gate 1 gate_fits store.half (1 ∷ []) refl
+        ∙ written_in_half magic s.reserved (laid s.half store.gate group) s.other refl laid_parts store.gate 1 gate_fits store.half (1 ∷ []) refl
 
     pub during_gate : store.phase ≡ OpenGate → (during : List ℕ → Type 0) → Follows (TornWithin at 1) (disk.may_leave store.device) during → (c : List ℕ) → during c → MayShow (calls_from store.phase) state after c
     during_gate is during follows c left =

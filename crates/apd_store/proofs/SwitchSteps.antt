@@ -14,7 +14,7 @@ use Rattle.apd_journal.specs.declared.batch.Batch.{Batch}
 use Rattle.apd_journal.specs.declared.batch.Plan.{Plan}
 use Rattle.apd_journal.specs.declared.writer.TheConstants.{HALF_LENGTH}
 use Rattle.apd_journal.proofs.Growth.{begun as begun_holds, length-begun}
-use Rattle.apd_store.specs.Image.{HasOpenGate, IsOpen, IsBehind, IsCurrent, Shows}
+use Rattle.apd_store.specs.Image.{magic, HasOpenGate, IsOpen, IsBehind, IsCurrent, Shows}
 use Rattle.apd_store.specs.Layout.{start_of, image_of, opposite, AreParts, AreTorn, IsFound}
 use Rattle.apd_store.specs.Commit.{AtPhase, MayShow, IsCommitting, IsIdle, IsWriting}
 use Rattle.apd_store.specs.Phases.{calls_from}
@@ -68,12 +68,12 @@ module _ (reserved half current : List ℕ) (parts : AreParts reserved half curr
   pub write_images : (reads : List ℕ) (old during : List ℕ → Type 0) → reads ≡ image_of side reserved half current → Only reads old → Follows (TornWithin at n) old during → AreTorn side reserved half current place n during
   write_images reads old during is only follows c left =
       let from = follows c left in
-      torn_in_half reserved half current parts place n inside side c
+      torn_in_half magic reserved half current refl parts place n inside side c
       (subst (λ (m : ℕ). TornWithin m n (image_of side reserved half current) c) at_is (subst (λ (l : List ℕ). TornWithin at n l c) (only from.0 from.1 ∙ is) from.2))
 
   pub write_reads : (reads now bytes : List ℕ) → reads ≡ image_of side reserved half current → length bytes ≡ n → now ≡ overwritten reads at bytes → now ≡ image_of side reserved (overwritten half place bytes) current
   write_reads reads now bytes is size made =
-      made ∙ (λ i. overwritten (is i) (at_is i) bytes) ∙ written_in_half reserved half current parts place n inside side bytes size
+      made ∙ (λ i. overwritten (is i) (at_is i) bytes) ∙ written_in_half magic reserved half current refl parts place n inside side bytes size
 
 -- ---- a switch
 

@@ -25,7 +25,7 @@ pub record IsFormatted {D : Type 0} (disk : DiskModel D) (device : D)
 pub record IsHonestlyFormatted {D : Type 0} (disk : DiskModel D) (device : D) (store : Store D) : Type 0 where
   pub empty : IsIdle disk store empty_state
   pub shown : (c : List ℕ) → disk.may_leave (device_of store) c → Shows c empty_state
-  pub any_moment : LeavesOnly disk device (device_of store) (MayBeMade (disk.may_leave device))
+  pub any_moment : LeavesOnly disk device (device_of store) (MayBeMade empty_state (disk.may_leave device))
   pub calls : disk.moment (device_of store) ≤ disk.moment device + 9
 
 -- the device is handed back, with this fault
@@ -39,5 +39,5 @@ pub record IsNotFormatted {D : Type 0} (disk : DiskModel D) (device left : D)
   pub stays_honest : disk.honest device ↔ disk.honest left
 
 pub record IsHonestlyNotFormatted {D : Type 0} (disk : DiskModel D) (device left : D) : Type 0 where
-  pub any_moment : LeavesOnly disk device left (MayBeMade (disk.may_leave device))
+  pub any_moment : LeavesOnly disk device left (MayBeMade empty_state (disk.may_leave device))
   pub calls : disk.moment left ≤ disk.moment device + 9

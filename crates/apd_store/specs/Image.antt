@@ -1,17 +1,27 @@
 -- What an image of a store's device shows (own). An image is the list of all its bytes.
-use Rattle.std.specs.Prelude.{◌≡◌, ◌<◌, ◌⊎◌, ◌^◌, ℕ, List, [], ◌∷◌, ◌++◌, length, take}
+use Rattle.std.specs.Prelude.{◌≡◌, ◌<◌, ◌⊎◌, ◌^◌, ℕ, List, [], ◌∷◌, ◌++◌, length, take, drop}
+use Rattle.std.specs.List.{AllByRecursion, Contains}
+use Rattle.std.proofs.Common.{inl, inr}
 use Rattle.std.specs.Int.{to_le_bytes, w64}
 use Rattle.apd_base.specs.declared.limits.TheConstants.{DEVICE_LENGTH}
 use Rattle.apd_base.specs.State.{State, empty_state}
 use Rattle.apd_record.specs.Meaning.{meaning_of}
 use Rattle.apd_record.specs.declared.change.Change.{Change}
+use Rattle.apd_record.specs.declared.change.Change.TheVariants.{Cursor}
 use Rattle.apd_table.specs.Sound.{StaySound}
 use Rattle.apd_journal.specs.Half.{HalfHolds}
 use Rattle.apd_journal.specs.declared.writer.TheConstants.{HALF_LENGTH}
 
--- A version of the store has a mark, the eight bytes with which it begins. This one's is `RAPSTOR1`.
+-- A version of the store has a mark, the eight bytes with which it begins. This one's, version 2, is `RAPSTOR2`.
 abbrev pub magic : List ℕ
-magic = 82 ∷ 65 ∷ 80 ∷ 83 ∷ 84 ∷ 79 ∷ 82 ∷ 49 ∷ []
+magic = 82 ∷ 65 ∷ 80 ∷ 83 ∷ 84 ∷ 79 ∷ 82 ∷ 50 ∷ []
+
+-- that of version 1, `RAPSTOR1`
+abbrev pub old_magic : List ℕ
+old_magic = 82 ∷ 65 ∷ 80 ∷ 83 ∷ 84 ∷ 79 ∷ 82 ∷ 49 ∷ []
+
+abbrev pub marks : List (List ℕ)
+marks = magic ∷ old_magic ∷ []
 
 -- the image is the mark, 56 bytes of any kind, half A and half B
 pub record IsStoreBy (mark image a b : List ℕ) : Type 0 where
@@ -63,9 +73,32 @@ pub record ShowsBy (mark image : List ℕ) (state : State) : Type 0 where
 abbrev pub Shows : List ℕ → State → Type 0
 Shows image state = ShowsBy magic image state
 
+-- no change is a cursor's, of which version 1 has no record
+abbrev pub IsNoCursor : Change → Type 0
+IsNoCursor (Cursor b last) = ⊥
+IsNoCursor other = Unit {0}
+
+abbrev pub HasNoCursor : List Change → Type 0
+HasNoCursor changes = AllByRecursion IsNoCursor changes
+
+-- the changes of the current half
+abbrev pub changes_of : {a b : List ℕ} {gate : ℕ} {state : State}
+    → IsCurrent a b gate state ⊎ IsCurrent b a gate state → List Change
+changes_of (inl current) = current.shows.changes
+changes_of (inr current) = current.shows.changes
+
+-- The image is a store of version 1, and shows the state to the program that knows that version alone.
+pub record ShowsOld (image : List ℕ) (state : State) : Type 0 where
+  pub by_mark : ShowsBy old_magic image state
+  pub no_cursor : HasNoCursor (changes_of by_mark.current)
+
 -- the image shows no state
 abbrev pub ShowsNone : List ℕ → Type 0
 ShowsNone image = (state : State) → ¬ Shows image state
+
+-- it shows none to the program that knows version 1 alone
+abbrev pub ShowsNoneOld : List ℕ → Type 0
+ShowsNoneOld image = (state : State) → ¬ ShowsOld image state
 
 -- the image has the store's length and begins with the mark
 abbrev pub IsMarkedBy : List ℕ → List ℕ → Type 0
@@ -74,10 +107,20 @@ IsMarkedBy mark image = (length image ≡ DEVICE_LENGTH) × (take 8 image ≡ ma
 abbrev pub IsMarked : List ℕ → Type 0
 IsMarked image = IsMarkedBy magic image
 
--- what may be left where a store of this mark and state is laid out: no store, an image from before, or the state
-abbrev pub MayBeMadeBy : List ℕ → State → (List ℕ → Type 0) → List ℕ → Type 0
-MayBeMadeBy mark state before image = IsMarkedBy mark image → before image ⊎ ShowsBy mark image state
+abbrev pub IsMarkedOld : List ℕ → Type 0
+IsMarkedOld image = IsMarkedBy old_magic image
 
--- what formatting may leave
-abbrev pub MayBeMade : (List ℕ → Type 0) → List ℕ → Type 0
-MayBeMade before image = MayBeMadeBy magic empty_state before image
+-- but for its first eight bytes the image is one from before, which began with one of these marks
+abbrev pub IsOverMark : List (List ℕ) → (List ℕ → Type 0) → List ℕ → Type 0
+IsOverMark marks before image =
+    (earlier : List ℕ) × before earlier × Contains marks (take 8 earlier) × (drop 8 image ≡ drop 8 earlier)
+
+-- What may be left of this mark where a store is laid out: an image from before, one from before with this mark in the
+-- place of its own, or one that shows what is laid out.
+abbrev pub MayBeMadeBy : List ℕ → (List ℕ → Type 0) → (List ℕ → Type 0) → List ℕ → Type 0
+MayBeMadeBy mark shown before image = IsMarkedBy mark image → before image ⊎ IsOverMark marks before image ⊎ shown image
+
+-- what may be left where a store of this state is laid out: of either mark as above, or no store
+abbrev pub MayBeMade : State → (List ℕ → Type 0) → List ℕ → Type 0
+MayBeMade state before image =
+    MayBeMadeBy magic (λ c. Shows c state) before image × MayBeMadeBy old_magic (λ c. ShowsOld c state) before image

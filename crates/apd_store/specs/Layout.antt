@@ -4,7 +4,7 @@ use Rattle.apd_base.specs.declared.limits.TheConstants.{DEVICE_LENGTH}
 use Rattle.apd_base.specs.State.{State}
 use Rattle.apd_journal.specs.declared.writer.TheConstants.{HALF_LENGTH}
 use Rattle.apd_disk.specs.Disk.{TornWithin}
-use Rattle.apd_store.specs.Image.{magic, HasOpenGate, HalfShows, IsCurrent}
+use Rattle.apd_store.specs.Image.{magic, HasNoCursor, HasOpenGate, HalfShows, IsCurrent}
 use Rattle.apd_store.specs.declared.half.Half.{Half}
 use Rattle.apd_store.specs.declared.half.Half.TheVariants.{A, B}
 
@@ -53,18 +53,22 @@ pub record IsFoundBy (mark image : List ℕ) (side : Half) (epoch gate : ℕ) (o
 abbrev pub IsFound : List ℕ → Half → ℕ → ℕ → Bool → State → Type 0
 IsFound image side epoch gate other_open state = IsFoundBy magic image side epoch gate other_open state
 
--- a half that begins with these bytes shows the state, whatever stands behind them
+-- the half shows the state without a cursor's change, so that it does in either version
+abbrev pub HalfShowsPlainly : List ℕ → ℕ → ℕ → State → Type 0
+HalfShowsPlainly half epoch gate state = (shows : HalfShows half epoch gate state) × HasNoCursor shows.changes
+
+-- a half that begins with these bytes shows the state so, whatever stands behind them
 abbrev pub BeginsBy : List ℕ → ℕ → ℕ → State → Type 0
-BeginsBy head epoch gate state = (rest : List ℕ) → HalfShows (head ++ rest) epoch gate state
+BeginsBy head epoch gate state = (rest : List ℕ) → HalfShowsPlainly (head ++ rest) epoch gate state
 
 -- the half's gate is 0
 abbrev pub HasZeroGate : List ℕ → Type 0
 HasZeroGate half = take 1 half ≡ 0 ∷ []
 
--- but for its mark the image is a store: half A shows the state, and half B is closed
+-- but for its mark the image is a store of either version: half A shows the state, and half B is closed
 pub record IsLaidOut (image : List ℕ) (epoch gate : ℕ) (state : State) : Type 0 where
   pub size : length image ≡ DEVICE_LENGTH
-  pub shows : HalfShows (take HALF_LENGTH (drop 64 image)) epoch gate state
+  pub shows : HalfShowsPlainly (take HALF_LENGTH (drop 64 image)) epoch gate state
   pub closed : HasZeroGate (drop HALF_LENGTH (drop 64 image))
 
 -- eight zeros, which mark nothing

@@ -8,3 +8,4 @@ pub mod Outside
 pub mod Phases
 pub mod Recovery
 pub mod Switch
+pub mod Upgrading

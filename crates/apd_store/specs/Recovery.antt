@@ -6,10 +6,10 @@ use Rattle.apd_base.specs.Failures.{HasRisen}
 use Rattle.apd_base.specs.State.{State}
 use Rattle.apd_disk.specs.Disk.{Only, LeavesOnly, DiskModel}
 use Rattle.apd_store.specs.Commit.{IsIdle}
-use Rattle.apd_store.specs.Image.{IsMarked, Shows, ShowsNone}
+use Rattle.apd_store.specs.Image.{IsMarked, IsMarkedOld, Shows, ShowsNone}
 use Rattle.apd_store.specs.Outside.{device_of, phase_of, IsInside}
 use Rattle.apd_store.specs.declared.fault.StoreFault.{StoreFault}
-use Rattle.apd_store.specs.declared.fault.StoreFault.TheVariants.{NotAStore, Damaged, Device, NoMemory}
+use Rattle.apd_store.specs.declared.fault.StoreFault.TheVariants.{NotAStore, OldVersion, Damaged, Device, NoMemory}
 use Rattle.apd_store.specs.declared.phase.Phase.TheVariants.{Idle}
 use Rattle.apd_store.specs.declared.store.Store.{Store}
 
@@ -33,7 +33,7 @@ pub record IsHonestlyRecovered {D : Type 0} (disk : DiskModel D) (device : D) (s
 -- the device is handed back, with this fault
 pub record IsNotRecovered {D : Type 0} (disk : DiskModel D) (device left : D)
     (fault : StoreFault) : Type 0 where
-  pub few : (fault ≡ NotAStore) ⊎ (fault ≡ Damaged) ⊎ (fault ≡ Device) ⊎ (fault ≡ NoMemory)
+  pub few : (fault ≡ NotAStore) ⊎ (fault ≡ OldVersion) ⊎ (fault ≡ Damaged) ⊎ (fault ≡ Device) ⊎ (fault ≡ NoMemory)
   pub other_length : disk.size device ≢ DEVICE_LENGTH → (fault ≡ NotAStore) ⊎ (fault ≡ Device)
   pub device_failed : fault ≡ Device → HasRisen (disk.failed device) (disk.failed left)
   pub no_fault : fault ≢ Device → disk.failed left ≡ disk.failed device
@@ -42,7 +42,8 @@ pub record IsNotRecovered {D : Type 0} (disk : DiskModel D) (device left : D)
 
 -- and its bytes show why
 pub record IsHonestlyNotRecovered {D : Type 0} (disk : DiskModel D) (device left : D) (fault : StoreFault) : Type 0 where
-  pub not_a_store : fault ≡ NotAStore → ¬ IsMarked (disk.reads device)
+  pub not_a_store : fault ≡ NotAStore → (¬ IsMarked (disk.reads device)) × (¬ IsMarkedOld (disk.reads device))
+  pub old_version : fault ≡ OldVersion → IsMarkedOld (disk.reads device)
   pub damaged : fault ≡ Damaged → IsMarked (disk.reads device) × ShowsNone (disk.reads device)
   pub durable : fault ≢ Device → Only (disk.reads device) (disk.may_leave left)
   pub stays : fault ≢ Device → disk.reads left ≡ disk.reads device

@@ -6,11 +6,11 @@ use apd_disk::DiskFault;
 use std::alloc::AllocError;
 use thiserror::Error;
 
-/// Why a call of a store is refused. From `NotAStore` to `BadBatch` they have the numbers 1 to 8, but for
-/// 5, which stays unused.
+/// Why a call of a store is refused. From `NotAStore` to `NewVersion` they have the numbers 1 to 10, but
+/// for 5, which stays unused.
 #[derive(Clone, Copy, Debug, PartialEq, Eq, Error)]
 pub enum StoreFault {
-    /// The device has another length than a store's, or doesn't begin with its magic.
+    /// The device has another length than a store's, or begins with the magic of no version.
     #[error("not a store")]
     NotAStore = 1,
     /// It is a store that shows no state.
@@ -31,6 +31,12 @@ pub enum StoreFault {
     /// The batch's records are too long, or a change leaves an unsound table.
     #[error("batch does not fit")]
     BadBatch,
+    /// It is a store of version 1, which `upgrade` alone reads.
+    #[error("store of version 1")]
+    OldVersion,
+    /// It is a store of version 2, where one of version 1 is wanted.
+    #[error("store of version 2")]
+    NewVersion,
     /// Memory is refused.
     #[error("out of memory")]
     NoMemory,

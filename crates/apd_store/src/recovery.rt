@@ -22,7 +22,7 @@ fn blank(alloc: Global, size: usize) -> Result<Vec<u8>, AllocError>
 }
 
 /// All bytes of a store's device, after a sync.
-fn read_device<D: Disk>(alloc: Global, device: &mut D) -> Result<Vec<u8>, StoreFault>
+pub(crate) fn read_device<D: Disk>(alloc: Global, device: &mut D) -> Result<Vec<u8>, StoreFault>
     ensures size { D.model.size device.new ≡ D.model.size device.old }
     ensures honest { D.model.honest device.old ↔ D.model.honest device.new }
     ensures length { IfOk result (λ bytes. length bytes.items ≡ DEVICE_LENGTH) }
@@ -62,9 +62,10 @@ fn read_device<D: Disk>(alloc: Global, device: &mut D) -> Result<Vec<u8>, StoreF
 /// nothing; a stop within it leaves what could be left before. It takes memory for the device's bytes and for
 /// the table, and reads each byte of the device once.
 ///
-/// Errors, with the device handed back: `NotAStore` where the length or the magic differ; else `Damaged` where
-/// the bytes show no state; `Device` where the device failed in this call; `NoMemory`. Where a stop left one
-/// image before the call, as after a sync, it leaves that one after any of them.
+/// Errors, with the device handed back: `NotAStore` where the length differs, or the magic is that of no version;
+/// `OldVersion` where it is that of version 1; else `Damaged` where the bytes show no state; `Device` where the
+/// device failed in this call; `NoMemory`. Where a stop left one image before the call, as after a sync, it leaves
+/// that one after any of them.
 pub fn recover<D: Disk>(alloc: Global, device: D) -> Result<(Store<D>, Table), (D, StoreFault)>
     ensures found { IfOk result (λ found. IsRecovered D.model device found.0) }
     ensures found_honest { D.model.honest device
@@ -87,6 +88,7 @@ pub fn recover<D: Disk>(alloc: Global, device: D) -> Result<(Store<D>, Table), (
                 gate,
                 other_open,
                 table,
+                ..
             } = found;
             Ok((
                 Store::new(alloc, device, half, epoch, gate, other_open),

@@ -1,7 +1,7 @@
-use Rattle.std.proofs.Common.{◌≡◌, ℕ, List, take, sym, ◌∙◌, ap, subst, rules}
+use Rattle.std.proofs.Common.{◌⊎◌, inl, inr, List, ℕ, take, sym, subst, rules}
+use Rattle.std.specs.List.{Contains}
 use Rattle.apd_disk.proofs.Moments.{one_call, then_run, quiet_call}
-use Rattle.apd_store.specs.Image.{IsMarkedBy}
-use Rattle.apd_store.proofs.Heads.{still_marked}
+use Rattle.apd_store.specs.Image.{IsOverMark}
 use Rattle.apd_store.proofs.formatting.unmark.Goals as goal
 
 pub returns-in_err-write_at-clause-any_moment : goal.returns-in_err-write_at-clause-any_moment
@@ -11,20 +11,20 @@ returns-in_err-write_at-clause-any_moment g c = λ h.
     let one = c.sync.new.self in
     let two = c.read_at.new.self in
     let three = c.write_at.new.self in
-    let P = λ (i : List ℕ). IsMarkedBy c.args.mark.now i → d.model.may_leave old i in
+    let P = λ (i : List ℕ). d.model.may_leave old i ⊎ IsOverMark c.args.marks.now (d.model.may_leave old) i in
     let h1 = c.sync.ensures.call.stays_honest.0 h in
     let h2 = c.read_at.ensures.call.stays_honest.0 h1 in
-    let first = one_call d.model old one P (c.sync.ensures.call.time h) (λ i during marked. c.sync.ensures.call.stop h i during) in
+    let first = one_call d.model old one P (c.sync.ensures.call.time h) (λ i during. inl (c.sync.ensures.call.stop h i during)) in
     let second = quiet_call d.model old one two P (λ t i le left. g.met.D.Disk.counts_now one t i h1 le left) first (c.read_at.ensures.call.time h1) (c.read_at.ensures.call.stop h1) in
     let bytes = c.in_ok-read_at.ensures.call.bytes h1 in
     let same = c.in_ok-sync.ensures.call.stays h in
-    let standing : take 8 (d.model.reads old) ≡ c.args.mark.now = search rules in
-    let third = then_run d.model old two three P second (one_call d.model two three P (c.write_at.ensures.call.time h2) (λ i during marked.
+    let standing : Contains c.args.marks.now (take 8 (d.model.reads old)) = search rules in
+    let third = then_run d.model old two three P second (one_call d.model two three P (c.write_at.ensures.call.time h2) (λ i during.
     let from = c.write_at.ensures.call.stop h2 i during in
     let in_one = c.read_at.ensures.call.stop h1 from.0 (g.met.D.Disk.counts_now two (d.model.moment one) from.0 h2 (c.read_at.ensures.call.time h1).later from.1) in
     let in_old = c.sync.ensures.call.stop h from.0 (g.met.D.Disk.counts_now one (d.model.moment old) from.0 h1 (c.sync.ensures.call.time h).later in_one) in
     let is = c.in_ok-sync.ensures.call.durable h from.0 in_one in
-    subst (d.model.may_leave old) (sym (still_marked c.args.mark.now from.0 i (ap (λ (l : List ℕ). take 8 l) is ∙ standing) from.2 marked.1)) in_old)) in
+    inr (from.0, in_old, subst (λ (l : List ℕ). Contains c.args.marks.now (take 8 l)) (sym is) standing, from.2.after))) in
     third
 
 pub returns-in_err-sync-2-clause-any_moment : goal.returns-in_err-sync-2-clause-any_moment
@@ -34,22 +34,22 @@ returns-in_err-sync-2-clause-any_moment g c = λ h.
     let one = c.sync.new.self in
     let two = c.read_at.new.self in
     let three = c.write_at.new.self in
-    let P = λ (i : List ℕ). IsMarkedBy c.args.mark.now i → d.model.may_leave old i in
+    let P = λ (i : List ℕ). d.model.may_leave old i ⊎ IsOverMark c.args.marks.now (d.model.may_leave old) i in
     let h1 = c.sync.ensures.call.stays_honest.0 h in
     let h2 = c.read_at.ensures.call.stays_honest.0 h1 in
-    let first = one_call d.model old one P (c.sync.ensures.call.time h) (λ i during marked. c.sync.ensures.call.stop h i during) in
+    let first = one_call d.model old one P (c.sync.ensures.call.time h) (λ i during. inl (c.sync.ensures.call.stop h i during)) in
     let second = quiet_call d.model old one two P (λ t i le left. g.met.D.Disk.counts_now one t i h1 le left) first (c.read_at.ensures.call.time h1) (c.read_at.ensures.call.stop h1) in
     let bytes = c.in_ok-read_at.ensures.call.bytes h1 in
     let same = c.in_ok-sync.ensures.call.stays h in
-    let standing : take 8 (d.model.reads old) ≡ c.args.mark.now = search rules in
-    let third = then_run d.model old two three P second (one_call d.model two three P (c.write_at.ensures.call.time h2) (λ i during marked.
+    let standing : Contains c.args.marks.now (take 8 (d.model.reads old)) = search rules in
+    let third = then_run d.model old two three P second (one_call d.model two three P (c.write_at.ensures.call.time h2) (λ i during.
     let from = c.write_at.ensures.call.stop h2 i during in
     let in_one = c.read_at.ensures.call.stop h1 from.0 (g.met.D.Disk.counts_now two (d.model.moment one) from.0 h2 (c.read_at.ensures.call.time h1).later from.1) in
     let in_old = c.sync.ensures.call.stop h from.0 (g.met.D.Disk.counts_now one (d.model.moment old) from.0 h1 (c.sync.ensures.call.time h).later in_one) in
     let is = c.in_ok-sync.ensures.call.durable h from.0 in_one in
-    subst (d.model.may_leave old) (sym (still_marked c.args.mark.now from.0 i (ap (λ (l : List ℕ). take 8 l) is ∙ standing) from.2 marked.1)) in_old)) in
+    inr (from.0, in_old, subst (λ (l : List ℕ). Contains c.args.marks.now (take 8 l)) (sym is) standing, from.2.after))) in
     let h3 = c.write_at.ensures.call.stays_honest.0 h2 in
-    quiet_call d.model old three c.sync-then-eq.new.self P (λ t i le left. g.met.D.Disk.counts_now three t i h3 le left) third (c.sync-then-eq.ensures.call.time h3) (c.sync-then-eq.ensures.call.stop h3)
+    quiet_call d.model old three c.sync-then-is_mark.new.self P (λ t i le left. g.met.D.Disk.counts_now three t i h3 le left) third (c.sync-then-is_mark.ensures.call.time h3) (c.sync-then-is_mark.ensures.call.stop h3)
 
 pub returns-in_ok-sync-2-clause-any_moment : goal.returns-in_ok-sync-2-clause-any_moment
 returns-in_ok-sync-2-clause-any_moment g c = λ h.
@@ -58,19 +58,19 @@ returns-in_ok-sync-2-clause-any_moment g c = λ h.
     let one = c.sync.new.self in
     let two = c.read_at.new.self in
     let three = c.write_at.new.self in
-    let P = λ (i : List ℕ). IsMarkedBy c.args.mark.now i → d.model.may_leave old i in
+    let P = λ (i : List ℕ). d.model.may_leave old i ⊎ IsOverMark c.args.marks.now (d.model.may_leave old) i in
     let h1 = c.sync.ensures.call.stays_honest.0 h in
     let h2 = c.read_at.ensures.call.stays_honest.0 h1 in
-    let first = one_call d.model old one P (c.sync.ensures.call.time h) (λ i during marked. c.sync.ensures.call.stop h i during) in
+    let first = one_call d.model old one P (c.sync.ensures.call.time h) (λ i during. inl (c.sync.ensures.call.stop h i during)) in
     let second = quiet_call d.model old one two P (λ t i le left. g.met.D.Disk.counts_now one t i h1 le left) first (c.read_at.ensures.call.time h1) (c.read_at.ensures.call.stop h1) in
     let bytes = c.in_ok-read_at.ensures.call.bytes h1 in
     let same = c.in_ok-sync.ensures.call.stays h in
-    let standing : take 8 (d.model.reads old) ≡ c.args.mark.now = search rules in
-    let third = then_run d.model old two three P second (one_call d.model two three P (c.write_at.ensures.call.time h2) (λ i during marked.
+    let standing : Contains c.args.marks.now (take 8 (d.model.reads old)) = search rules in
+    let third = then_run d.model old two three P second (one_call d.model two three P (c.write_at.ensures.call.time h2) (λ i during.
     let from = c.write_at.ensures.call.stop h2 i during in
     let in_one = c.read_at.ensures.call.stop h1 from.0 (g.met.D.Disk.counts_now two (d.model.moment one) from.0 h2 (c.read_at.ensures.call.time h1).later from.1) in
     let in_old = c.sync.ensures.call.stop h from.0 (g.met.D.Disk.counts_now one (d.model.moment old) from.0 h1 (c.sync.ensures.call.time h).later in_one) in
     let is = c.in_ok-sync.ensures.call.durable h from.0 in_one in
-    subst (d.model.may_leave old) (sym (still_marked c.args.mark.now from.0 i (ap (λ (l : List ℕ). take 8 l) is ∙ standing) from.2 marked.1)) in_old)) in
+    inr (from.0, in_old, subst (λ (l : List ℕ). Contains c.args.marks.now (take 8 l)) (sym is) standing, from.2.after))) in
     let h3 = c.write_at.ensures.call.stays_honest.0 h2 in
-    quiet_call d.model old three c.sync-then-eq.new.self P (λ t i le left. g.met.D.Disk.counts_now three t i h3 le left) third (c.sync-then-eq.ensures.call.time h3) (c.sync-then-eq.ensures.call.stop h3)
+    quiet_call d.model old three c.sync-then-is_mark.new.self P (λ t i le left. g.met.D.Disk.counts_now three t i h3 le left) third (c.sync-then-is_mark.ensures.call.time h3) (c.sync-then-is_mark.ensures.call.stop h3)

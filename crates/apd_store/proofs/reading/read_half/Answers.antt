@@ -1,10 +1,11 @@
-use Rattle.std.proofs.Common.{List, ◌∙◌, ap, subst}
+use Rattle.std.proofs.Common.{List, ◌↔◌, IsTrue, ◌∙◌, ap, subst}
 use Rattle.std.specs.Prelude.{Err}
 use Rattle.apd_base.specs.State.{empty_state}
 use Rattle.apd_record.specs.declared.change.Change.{Change}
 use Rattle.apd_table.specs.Sound.{StaySound}
 use Rattle.apd_journal.specs.Half.{HalfHolds}
-use Rattle.apd_store.proofs.Found.{unsound}
+use Rattle.apd_store.specs.Image.{HasNoCursor}
+use Rattle.apd_store.proofs.Found.{same_cursor, unsound}
 use Rattle.apd_store.proofs.reading.read_half.Goals as goal
 
 pub returns-in_default-clause-damaged : goal.returns-in_default-clause-damaged
@@ -16,3 +17,10 @@ returns-in-Err-Invalid-clause-damaged c = λ e.
     let holds : HalfHolds c.args.bytes.now groups.epoch groups.changes groups.gate = rw c.in-Some.is at c.in_ok-groups.ensures.some in
     unsound c.args.bytes.now groups.epoch groups.gate groups.changes holds
     (subst (λ (l : List Change). ¬ StaySound l empty_state) c.as_slice.ensures (c.table_of.ensures.invalid (c.in-Err-Invalid.is ∙ ap Err c.in-Err-Invalid.field-0-is)))
+
+pub returns-in-Ok-clause-cursor : goal.returns-in-Ok-clause-cursor
+returns-in-Ok-clause-cursor c = λ epoch gate changes given.
+    let groups = c.in-Some.groups in
+    let holds : HalfHolds c.args.bytes.now groups.epoch groups.changes groups.gate = rw c.in-Some.is at c.in_ok-groups.ensures.some in
+    same_cursor c.args.bytes.now groups.epoch epoch groups.gate gate groups.changes changes c.has_no_cursor.result holds
+    (subst (λ (l : List Change). IsTrue c.has_no_cursor.result ↔ HasNoCursor l) c.as_slice-in-Ok.ensures c.has_no_cursor.ensures) given

@@ -23,6 +23,7 @@ returns-clause-none_honest g c = λ h.
     let is : c.deref.result.now ≡ g.D.Disk.model.reads c.args.device = c.deref.ensures.value ∙ c.in-Ok.ensures.bytes h in
     record {
       not_a_store = search rules;
+      old_version = search rules;
       damaged = λ e. subst (λ (l : List ℕ). IsMarked l × ShowsNone l) is (c.read_image.ensures.damaged (c.in-Err-read_image.is ∙ ap Err e));
       durable = search rules;
       stays = search rules;

@@ -1,0 +1,44 @@
+use Rattle.std.proofs.Common.{◌≡◌, List, ℕ, false, inl, inr, refl, rules, sym, ◌∙◌, ap, subst}
+use Rattle.std.specs.Prelude.{Err}
+use Rattle.apd_store.specs.Image.{Shows}
+use Rattle.apd_store.specs.Upgrading.{HasNoneGiven}
+use Rattle.apd_store.specs.declared.half.Half.TheVariants.{A}
+use Rattle.apd_store.proofs.Current.{found_shows}
+use Rattle.apd_store.proofs.upgrading.upgrade.Goals as goal
+
+pub returns-in-Err-clause-none_honest : goal.returns-in-Err-clause-none_honest
+returns-in-Err-clause-none_honest g c = λ h k. record {
+  not_a_store = search rules;
+  new_version = search rules;
+  damaged = λ e. c.read_old.ensures.damaged h (c.in-Err.is ∙ ap Err e);
+  stays = search rules;
+  made = inl refl;
+}
+
+pub returns-in-Ok-lay_out_copy-clause-made_honest : goal.returns-in-Ok-lay_out_copy-clause-made_honest
+returns-in-Ok-lay_out_copy-clause-made_honest g c = λ h k.
+    let table = c.in-Ok.table in
+    let none : HasNoneGiven table = c.in-Ok.ensures.none_given in
+    let device = c.lay_out_copy.new.device in
+    let found = c.in-Ok-lay_out_copy.ensures.found k none in
+    record {
+      made = record { state = table; shown = c.in-Ok.ensures.ok h; any_moment = search rules; calls = search rules };
+      none_given = none;
+      idle = search rules;
+      shown = λ i left.
+          let is : i ≡ g.N.Disk.model.reads device = found.1 i (subst (λ d. g.N.Disk.model.may_leave d i) c.new.ensures.device left) in
+          subst (λ (l : List ℕ). Shows l table) (sym is) (found_shows (g.N.Disk.model.reads device) A 1 c.in-Ok-lay_out_copy.gate false table found.0);
+      old_stays = search rules;
+    }
+
+pub returns-clause-none_honest : goal.returns-clause-none_honest
+returns-clause-none_honest g c = λ h k.
+    let table = c.in-Ok.table in
+    let none : HasNoneGiven table = c.in-Ok.ensures.none_given in
+    record {
+      not_a_store = λ e. inr (c.lay_out_copy.ensures.not_a_store (c.in-Err-lay_out_copy.is ∙ ap Err e), (table, c.in-Ok.ensures.ok h));
+      new_version = search rules;
+      damaged = search rules;
+      stays = search rules;
+      made = inr (record { state = table; shown = c.in-Ok.ensures.ok h; any_moment = search rules; calls = search rules });
+    }
