@@ -61,6 +61,10 @@ module _ {R : Type 0} (radio : RadioModel R) where
   pub unserved : (a : Slot R) → IsServed radio [] a a
   unserved a = served [] [] a a refl (λ is. is) (append-nil (queue_of a)) refl
 
+  -- nothing was applied, and an up slot has what is wanted
+  pub none_served : (a b : Slot R) → bssid_of b ≡ bssid_of a → IsExact radio b → wanted_of b ≡ wanted_of a → queue_of b ≡ queue_of a → IsServed radio [] a b
+  none_served a b bssid exact wanted queue = served [] [] a b bssid (λ is. exact) (append-nil (queue_of a) ∙ sym queue) wanted
+
   -- the next out was applied, or meets want of memory and stays
   pub next_served : (next : Option (Result (Out × Result (Unit {0}) SlotFault) AllocError)) (a b : Slot R)
       → AppliesNext radio next a b → IsServed radio [] a b

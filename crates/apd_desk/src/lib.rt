@@ -10,6 +10,7 @@ mod handed;
 mod idle;
 pub mod laws;
 mod locked;
+mod mending;
 mod notes;
 mod port;
 mod published;

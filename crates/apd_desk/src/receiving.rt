@@ -7,12 +7,14 @@ ghost use Rattle.apd_desk.specs.SeatProgress.{IsLater};
 use crate::clock::Clock;
 use crate::gate::Gate;
 use crate::idle::Idle;
+use crate::locked::Look;
+use crate::mending::Mending;
 use crate::seat::Seat;
 use crate::shared::Shared;
 use crate::submitting::submit_passing;
 use apd_core::Input;
 use apd_radio::Radio;
-use apd_slot::Slot;
+use apd_slot::{Slot, SlotFault};
 use std::alloc::Global;
 use std::sync::Wait;
 use std::sync::ledger::Ledger;
@@ -57,17 +59,62 @@ fn collect<L: Ledger, W: Wait, R: Radio>(
     }
 }
 
-// Applies the first of the outs that wait. One that meets want of memory stays first. Tells whether one was taken.
-fn apply_first<L: Ledger, W: Wait, R: Radio>(rt: &W, shared: &Shared<L>, slot: &mut Slot<R>) -> bool
+// Applies the first of the outs that wait; where the slot goes down at it, it is mended before the next one. One that
+// meets want of memory stays first. Tells whether one was taken.
+fn apply_first<L: Ledger, W: Wait, R: Radio>(
+    rt: &W,
+    shared: &Shared<L>,
+    slot: &mut Slot<R>,
+    mending: &mut Mending<R>,
+) -> bool
     ensures served { IsServed R.model [] slot.old slot.new }
     ensures fewer { IsTrue result → length (queue_of slot.new) < length (queue_of slot.old) }
 {
     match slot.apply_next() {
-        Some(Ok(_applied)) => {
+        Some(Ok((_out, answer))) => {
+            mend_after(slot, mending, answer);
             shared.note(rt, slot.bssid(), slot.is_up());
             true
         }
         Some(Err(_)) | None => false,
+    }
+}
+
+// Begins to mend a slot that went down at an out.
+fn mend_after<R: Radio>(slot: &mut Slot<R>, mending: &mut Mending<R>, answer: Result<(), SlotFault>)
+    ensures served { IsServed R.model [] slot.old slot.new }
+    ensures queue { queue_of slot.new ≡ queue_of slot.old }
+{
+    if answer == Err(SlotFault::WentDown) {
+        mending.begin(slot);
+    }
+}
+
+// Begins to mend a slot that is down at first.
+fn mend_first<R: Radio>(slot: &mut Slot<R>, mending: &mut Mending<R>)
+    ensures served { IsServed R.model [] slot.old slot.new }
+{
+    if !slot.is_up() {
+        mending.begin(slot);
+    }
+}
+
+// Goes on mending a slot, notes whether it is up, and rests where it isn't.
+fn mend<L: Ledger, W: Wait + SystemClock, R: Radio>(
+    rt: &W,
+    shared: &Shared<L>,
+    slot: &mut Slot<R>,
+    mending: &mut Mending<R>,
+    seen: Look,
+)
+    ensures served { IsServed R.model [] slot.old slot.new }
+{
+    if !mending.go_on(slot) {
+        return;
+    }
+    shared.note(rt, slot.bssid(), slot.is_up());
+    if !slot.is_up() {
+        shared.rest(rt, seen);
     }
 }
 
@@ -77,13 +124,14 @@ fn apply_settled<L: Ledger, W: Wait, R: Radio>(
     shared: &Shared<L>,
     seat: &mut Seat<L>,
     slot: &mut Slot<R>,
+    mending: &mut Mending<R>,
 ) -> bool
     ensures seat { IsLater seat.old seat.new }
     ensures given { IsGivenOn R.model slot.old slot.new }
 {
     collect(rt, shared, seat, slot);
     let mut some = false;
-    while apply_first(rt, shared, slot) {
+    while apply_first(rt, shared, slot, mending) {
         some = true;
     }
     some
@@ -95,6 +143,7 @@ fn serve<L: Ledger, W: Wait, R: Radio, C: Clock, G: Gate>(
     shared: &Shared<L>,
     seat: &mut Seat<L>,
     slot: &mut Slot<R>,
+    mending: &mut Mending<R>,
     stopped: bool,
     clock: &C,
     gate: &G,
@@ -103,10 +152,10 @@ fn serve<L: Ledger, W: Wait, R: Radio, C: Clock, G: Gate>(
     ensures given { IsGivenOn R.model slot.old slot.new }
 {
     if stopped {
-        return apply_settled(rt, shared, seat, slot);
+        return apply_settled(rt, shared, seat, slot, mending);
     }
     let received = receive(rt, shared, seat, slot, clock, gate);
-    let applied = apply_settled(rt, shared, seat, slot);
+    let applied = apply_settled(rt, shared, seat, slot, mending);
     received || applied
 }
 
@@ -114,6 +163,12 @@ fn serve<L: Ledger, W: Wait, R: Radio, C: Clock, G: Gate>(
 /// its slot what of settled entries is for it, and notes whether it is up. An out that meets want of memory stays
 /// first in the slot's queue and is tried again, and so are those behind it: after a stop it ends once none waits. It
 /// holds the lock for no call of the radio.
+///
+/// A fault is an out at which the slot goes down, and a slot that is down at first. At each, every spare that is left
+/// is tried once in the place of the slot's radio, in order, until one serves, before the next out is applied; a radio
+/// that is tried so, or taken out, is dropped. Where none serves the slot's own is given anew what is wanted, three
+/// times at most, once a turn with a rest behind. A try that fails, for want of memory too, is no fault. After
+/// the last the slot stays down: its frames are lost, and what it wants goes on. Spares that are left are dropped.
 pub fn radio_worker<L: Ledger, W: Wait + SystemClock, R: Radio, C: Clock, G: Gate>(
     rt: &W,
     _alloc: Global,
@@ -121,6 +176,7 @@ pub fn radio_worker<L: Ledger, W: Wait + SystemClock, R: Radio, C: Clock, G: Gat
     seat: Seat<L>,
     slot: Slot<R>,
     clock: &C,
+    spares: Vec<R>,
     gate: &G,
 ) -> (Seat<L>, Slot<R>)
     ensures seat { IsLater seat result.0 }
@@ -131,14 +187,26 @@ pub fn radio_worker<L: Ledger, W: Wait + SystemClock, R: Radio, C: Clock, G: Gat
 {
     let mut seat = seat;
     let mut slot = slot;
+    let mut mending = Mending::new(spares);
     let mut idle = Idle::new();
+    mend_first(&mut slot, &mut mending);
     shared.note(rt, slot.bssid(), slot.is_up());
     for _ in rt.forever() {
         let seen = shared.look(rt);
         if seen.stopped && slot.waiting() == 0 {
             break;
         }
-        if serve(rt, shared, &mut seat, &mut slot, seen.stopped, clock, gate) {
+        mend(rt, shared, &mut slot, &mut mending, seen);
+        if serve(
+            rt,
+            shared,
+            &mut seat,
+            &mut slot,
+            &mut mending,
+            seen.stopped,
+            clock,
+            gate,
+        ) {
             idle.end();
         } else {
             idle.rest(rt, shared, seen);

@@ -1,4 +1,4 @@
--- What becomes of a slot that resumes, or whose radio is replaced, by its answer (own).
+-- What becomes of a slot that resumes, whose radio is given anew what is wanted, or replaced, by its answer (own).
 use Rattle.std.specs.Prelude.{◌≡◌, ◌⊎◌, [], Result, Err, OnOk, OnErr, IfOk, IfErr, is_ok, if◌then◌else◌}
 use Rattle.std.specs.FinMap as map
 use Rattle.apd_base.specs.Failures.{HasRisen}
@@ -18,6 +18,20 @@ pub record IsGivenRows {R : Type 0} (radio : RadioModel R) (rows : Stations)
   pub wanted : wanted_of new ≡ (if is_ok answer then rows else wanted_of old)
   pub installed : OnOk answer (radio.stations (radio_of new) ≡ rows)
   pub queue : queue_of new ≡ (if is_ok answer then [] else queue_of old)
+  pub errors : IfErr answer (λ fault. (fault ≡ WentDown) ⊎ (fault ≡ NoMemory))
+  pub down : answer ≡ Err WentDown → HasRisen (radio.faults (radio_of old)) (radio.faults (radio_of new))
+  pub stays : OnOk answer (radio.faults (radio_of new) ≡ radio.faults (radio_of old))
+  pub short : answer ≡ Err NoMemory → radio.faults (radio_of new) ≡ radio.faults (radio_of old)
+
+-- the slot's own radio was given anew the stations that are wanted, and the slot answered so
+pub record IsGivenAnew {R : Type 0} (radio : RadioModel R)
+    (answer : Result (Unit {0}) SlotFault) (old new : Slot R) : Type 0 where
+  pub bssid : bssid_of new ≡ bssid_of old
+  pub wanted : wanted_of new ≡ wanted_of old
+  pub queue : queue_of new ≡ queue_of old
+  pub up : is_up_of new ≡ is_ok answer
+  pub exact : IsExact radio new
+  pub installed : OnOk answer (radio.stations (radio_of new) ≡ wanted_of old)
   pub errors : IfErr answer (λ fault. (fault ≡ WentDown) ⊎ (fault ≡ NoMemory))
   pub down : answer ≡ Err WentDown → HasRisen (radio.faults (radio_of old)) (radio.faults (radio_of new))
   pub stays : OnOk answer (radio.faults (radio_of new) ≡ radio.faults (radio_of old))

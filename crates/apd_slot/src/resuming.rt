@@ -1,9 +1,9 @@
 //! The stations of a table, and installing them.
-ghost use Rattle.std.specs.Prelude.{◌≡◌, OnOk, IfOk};
-ghost use Rattle.std.specs.FinMap as map;
+ghost use Rattle.std.specs.Prelude.{◌≡◌, ◌⊎◌, OnOk, IfOk, IfErr};
 ghost use Rattle.apd_base.specs.Failures.{HasRisen};
 ghost use Rattle.apd_slot.specs.Rows.{installed_rows};
 
+use crate::slot::SlotFault;
 use apd_base::{Bssid, Station};
 use apd_radio::{Identifiers, Radio, RadioFault};
 use apd_table::Table;
@@ -23,17 +23,24 @@ pub fn associated(alloc: Global, table: &Table, bssid: Bssid) -> Result<Identifi
     Ok(stations)
 }
 
-/// Installs these stations, one by one, into a radio that has none.
-pub fn install_all<R: Radio>(radio: &mut R, stations: &Identifiers) -> Result<(), RadioFault>
-    requires { R.model.stations radio.old ≡ map.empty }
+/// Takes a radio down, and installs these stations, one by one: it has these then, and no others.
+///
+/// Errors: `WentDown`, where its device failed; `NoMemory`.
+pub fn install_all<R: Radio>(radio: &mut R, stations: &Identifiers) -> Result<(), SlotFault>
     ensures ok { OnOk result (R.model.stations radio.new ≡ stations.now) }
     ensures kept { R.frames radio.new ≡ R.frames radio.old }
+    ensures errors { IfErr result (λ fault. (fault ≡ SlotFault.WentDown) ⊎ (fault ≡ SlotFault.NoMemory)) }
     ensures stays { OnOk result (R.model.faults radio.new ≡ R.model.faults radio.old) }
-    ensures memory { result ≡ Err RadioFault.NoMemory → R.model.faults radio.new ≡ R.model.faults radio.old }
-    ensures device { result ≡ Err RadioFault.Device → HasRisen (R.model.faults radio.old) (R.model.faults radio.new) }
+    ensures memory { result ≡ Err SlotFault.NoMemory → R.model.faults radio.new ≡ R.model.faults radio.old }
+    ensures device { result ≡ Err SlotFault.WentDown → HasRisen (R.model.faults radio.old) (R.model.faults radio.new) }
 {
+    radio.take_down();
     for (addr, aid) in stations.rows() {
-        radio.install(*addr, *aid)?;
+        match radio.install(*addr, *aid) {
+            Ok(()) => {}
+            Err(RadioFault::Device) => return Err(SlotFault::WentDown),
+            Err(RadioFault::NoMemory) => return Err(SlotFault::NoMemory),
+        }
     }
     Ok(())
 }

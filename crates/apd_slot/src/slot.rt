@@ -47,7 +47,7 @@ pub struct Slot<R> {
 
 impl<R: Radio> Slot<R> {
     ghost use Rattle.apd_slot.specs.Applying.{AppliesNext, IsGivenOut};
-    ghost use Rattle.apd_slot.specs.Resuming.{IsGivenRadio, IsGivenRows};
+    ghost use Rattle.apd_slot.specs.Resuming.{IsGivenAnew, IsGivenRadio, IsGivenRows};
     ghost use Rattle.apd_slot.specs.Rows.{installed_rows};
     ghost use Rattle.apd_slot.specs.Slots.{bssid_of, is_up_of, queue_of, radio_of, room_of, wanted_of, wanted_then};
     ghost use Rattle.apd_slot.specs.Slots.{HasForgotten, HasRoomFor, SameButQueue, SameButRadio, SameButRoom};
@@ -294,20 +294,30 @@ impl<R: Radio> Slot<R> {
         ensures frames { R.frames (radio_of self.new) ≡ R.frames (radio_of self.old) }
     {
         self.up = false;
-        self.radio.take_down();
         let Ok(wanted) = associated(alloc, table, self.bssid) else {
+            self.radio.take_down();
             return Err(SlotFault::NoMemory);
         };
-        match install_all(&mut self.radio, &wanted) {
-            Ok(()) => {
-                self.wanted = wanted;
-                self.forget();
-                self.up = true;
-                Ok(())
-            }
-            Err(RadioFault::Device) => Err(SlotFault::WentDown),
-            Err(RadioFault::NoMemory) => Err(SlotFault::NoMemory),
-        }
+        install_all(&mut self.radio, &wanted)?;
+        self.wanted = wanted;
+        self.forget();
+        self.up = true;
+        Ok(())
+    }
+
+    /// Gives its own radio anew the stations that are wanted, and no others; the slot is up then. The radio is taken
+    /// down first, and gets one call a station. What is wanted stays, and so do the outs that wait.
+    ///
+    /// Errors: `WentDown`, where its device failed; `NoMemory`. The slot is down then.
+    pub fn resync(&mut self) -> Result<(), SlotFault>
+        ensures given { IsGivenAnew R.model result self.old self.new }
+        ensures room { room_of self.new ≡ room_of self.old }
+        ensures frames { R.frames (radio_of self.new) ≡ R.frames (radio_of self.old) }
+        ensures wanted_then { wanted_then self.new ≡ wanted_then self.old }
+    {
+        let answer = install_all(&mut self.radio, &self.wanted);
+        self.up = answer.is_ok();
+        answer
     }
 
     /// Puts another radio in the place of this one, with the stations that are wanted and no others, and gives
@@ -324,7 +334,6 @@ impl<R: Radio> Slot<R> {
         ensures wanted_then { wanted_then self.new ≡ wanted_then self.old }
     {
         let mut radio = radio;
-        radio.take_down();
         self.up = false;
         match install_all(&mut radio, &self.wanted) {
             Ok(()) => {
@@ -335,10 +344,6 @@ impl<R: Radio> Slot<R> {
             }
             Err(fault) => {
                 radio.take_down();
-                let fault = match fault {
-                    RadioFault::Device => SlotFault::WentDown,
-                    RadioFault::NoMemory => SlotFault::NoMemory,
-                };
                 Err((radio, fault))
             }
         }

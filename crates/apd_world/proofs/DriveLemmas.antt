@@ -14,18 +14,18 @@ steps_length (y ∷ ys) (u ∷ us) a b h = ap suc (steps_length ys us h.0 b h.2)
 steps_length ys us a b h = absurd h
 
 -- ---- accounts of two lists
-account_append : (confs : List Conf) (xs ys : List Step) (ts us : List Told) (a : Account) → length ts ≡ length xs → account confs (xs ++ ys) (ts ++ us) a ≡ account confs ys us (account confs xs ts a)
+pub account_append : (confs : List Conf) (xs ys : List Step) (ts us : List Told) (a : Account) → length ts ≡ length xs → account confs (xs ++ ys) (ts ++ us) a ≡ account confs ys us (account confs xs ts a)
 account_append confs [] ys [] us a e = refl
 account_append confs (x ∷ xs) ys (t ∷ ts) us a e = account_append confs xs ys ts us (one_more confs x t a) (omega (arith, e))
 account_append confs xs ys ts us a e = absurd (omega (arith, e))
 
-given_append : (r : Recipient) (xs ys : List Step) (ts us : List Told) → length ts ≡ length xs → all_given r (xs ++ ys) (ts ++ us) ≡ all_given r xs ts ++ all_given r ys us
+pub given_append : (r : Recipient) (xs ys : List Step) (ts us : List Told) → length ts ≡ length xs → all_given r (xs ++ ys) (ts ++ us) ≡ all_given r xs ts ++ all_given r ys us
 given_append r [] ys [] us e = refl
 given_append r (x ∷ xs) ys (t ∷ ts) us e = ap (λ os. given r x t ++ os) (given_append r xs ys ts us (omega (arith, e))) ∙ sym (append_assoc (given r x t) (all_given r xs ts) (all_given r ys us))
 given_append r xs ys ts us e = absurd (omega (arith, e))
 
 -- what happened before stands first, and changes no state and no moment
-happened_from : (confs : List Conf) (xs : List Step) (ts : List Told) (es : List Happening) (s : State) (h : LastHeard)
+pub happened_from : (confs : List Conf) (xs : List Step) (ts : List Told) (es : List Happening) (s : State) (h : LastHeard)
     → (account confs xs ts (record { happened = es; state = s; heard = h })).happened ≡ es ++ (account confs xs ts (record { happened = []; state = s; heard = h })).happened
 happened_from confs [] ts es s h = sym (append-nil es)
 happened_from confs (x ∷ xs) [] es s h = sym (append-nil es)
@@ -35,7 +35,7 @@ happened_from confs (x ∷ xs) (t ∷ ts) es s h =
     let h' = heard_after confs s h x t in
     happened_from confs xs ts (es ++ e) s' h' ∙ append_assoc es e (account confs xs ts (record { happened = []; state = s'; heard = h' })).happened ∙ ap (λ os. es ++ os) (sym (happened_from confs xs ts e s' h'))
 
-heard_from : (confs : List Conf) (xs : List Step) (ts : List Told) (es : List Happening) (s : State) (h : LastHeard)
+pub heard_from : (confs : List Conf) (xs : List Step) (ts : List Told) (es : List Happening) (s : State) (h : LastHeard)
     → (account confs xs ts (record { happened = es; state = s; heard = h })).heard ≡ (account confs xs ts (record { happened = []; state = s; heard = h })).heard
 heard_from confs [] ts es s h = refl
 heard_from confs (x ∷ xs) [] es s h = refl
@@ -46,7 +46,7 @@ heard_from confs (x ∷ xs) (t ∷ ts) es s h =
     heard_from confs xs ts (es ++ e) s' h' ∙ sym (heard_from confs xs ts e s' h')
 
 -- the state is the one after what happened
-account_state : (confs : List Conf) (xs : List Step) (ts : List Told) (s : State) (a : Account) → a.state ≡ run s confs a.happened → (account confs xs ts a).state ≡ run s confs (account confs xs ts a).happened
+pub account_state : (confs : List Conf) (xs : List Step) (ts : List Told) (s : State) (a : Account) → a.state ≡ run s confs a.happened → (account confs xs ts a).state ≡ run s confs (account confs xs ts a).happened
 account_state confs [] ts s a e = e
 account_state confs (x ∷ xs) [] s a e = e
 account_state confs (x ∷ xs) (t ∷ ts) s a e =

@@ -114,6 +114,7 @@ module _ {D R : Type 0} (disk : DiskModel D) (radio : RadioModel R) where
         let gone = (gone_rounds disk radio a b before).gone_on in
         record { last = b; before = gone; answer = answer; round_is = one; ends = end; risen = λ is. risen_since (failures disk radio a) (failures disk radio b) (failures disk radio c) (one.risen (device_told answer fault (durable_of c) end is)) gone.made.count one.made.count }
     ends_err (Err (world_fault.Slot at fault)) end = absurd end
+    ends_err (Err world_fault.NoSlot) end = absurd end
     ends_err (Err world_fault.NoMemory) end =
         let last = subst (λ (x : Commit). IsRound disk radio x b c) end one in
         record { last = b; before = gone_rounds disk radio a b before; way = inr (record { round_is = last; none = λ whole. round_short disk radio last.calls last.made.run.insides last.tolds b c last.made.run.steps_are whole last.answer_is }) }
@@ -130,6 +131,7 @@ module _ {D R : Type 0} (disk : DiskModel D) (radio : RadioModel R) where
   ended_then : (fault : WorldFault) (xs : List Step) (ts : List Told) (a b c : World D R) → AreSafelyMade disk radio xs ts a b → All IsNoRefusal ts → HasEnded disk radio fault b c → HasEnded disk radio fault a c
   ended_then (world_fault.Store fault) xs ts a b c past none h = record { last = h.last; before = gone_then disk radio xs ts a b h.last past h.before; answer = h.answer; round_is = h.round_is; ends = h.ends; risen = λ is. let later = h.before.made.count in let more = h.round_is.made.count in risen_since (failures disk radio a) (failures disk radio b) (failures disk radio c) (h.risen is) past.count (omega (arith, later, more)) }
   ended_then (world_fault.Slot at fault) xs ts a b c past none h = absurd h
+  ended_then world_fault.NoSlot xs ts a b c past none h = absurd h
   ended_then world_fault.NoMemory xs ts a b c past none h = record { last = h.last; before = unrefused_then disk radio xs ts a b h.last past none h.before; way = h.way }
 
   pub if_ended_then : {A : Type 0} (r : Result A WorldFault) (xs : List Step) (ts : List Told) (a b c : World D R) → AreSafelyMade disk radio xs ts a b → All IsNoRefusal ts → IfErr r (λ fault. HasEnded disk radio fault b c)

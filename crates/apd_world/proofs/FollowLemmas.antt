@@ -39,7 +39,7 @@ module _ {D R : Type 0} (radio : RadioModel R) (old new : World D R) where
         ∙ sym (driven-append (gives (Radio b)) (held_for (Radio b) cb) m) ∙ ap (λ xs. driven xs m) (goes.outs (Radio b))
         ∙ driven-append (held_for (Radio b) ca) outs m ∙ ap (driven outs) base ∙ follows_run ca.confs es (front_of ca) b known ∙ ap (λ (s : State). aid_at s b) (sym goes.front)
 
-    follow_on : AreFollowing old → AreFollowing new
+    pub follow_on : AreFollowing old → AreFollowing new
     follow_on before b configured now at a = λ i. goes_on before b configured now at i a
 
   pub following : (step : Step) (told : Told) → IsWorldStep radio step told old new → AreFollowing old → AreFollowing new

@@ -13,4 +13,6 @@ mod Standing
 mod Speaking
 mod StepLemmas
 mod Recovering
+mod ReplaceLemmas
+mod SafelyGoing
 mod Words

@@ -26,7 +26,7 @@ module _ {R : Type 0} where
   none_moved None = (refl, refl)
   none_moved (Some slot) = record { queue = sym (append-nil (slot_queue slot)); wanted = refl }
 
-  moved_flows : (off on : List Out) (old new : Option (Slot R)) → AreMoved off on old new → off ++ queue_if new ≡ queue_if old ++ on
+  pub moved_flows : (off on : List Out) (old new : Option (Slot R)) → AreMoved off on old new → off ++ queue_if new ≡ queue_if old ++ on
   moved_flows off on None None h = (λ i. h.0 i ++ []) ∙ sym h.1
   moved_flows off on (Some old) (Some new) h = h.queue
   moved_flows off on None (Some new) h = absurd h
@@ -71,7 +71,7 @@ module _ {D R : Type 0} (radio : RadioModel R) (old new : World D R) where
   pub rest_moved : (b : Bssid) → RestStays old new → MovedAt b [] []
   rest_moved b same = subst (λ slots. AreMoved [] [] (slot_at (slots_of old) b) (slot_at slots b)) (sym same) (none_moved (slot_at (slots_of old) b))
 
-  goes_moved : (b c : Bssid) (So : Slot R → Slot R → Type 0) (off on : Bool → List Out) → off false ≡ [] → on false ≡ [] → ((was now : Slot R) → So was now → IsMoved (off true) (on true) was now)
+  pub goes_moved : (b c : Bssid) (So : Slot R → Slot R → Type 0) (off on : Bool → List Out) → off false ≡ [] → on false ≡ [] → ((was now : Slot R) → So was now → IsMoved (off true) (on true) was now)
       → SlotGoes c So old new → MovedAt b (off (eq_by_cmp bssid_cmp b c)) (on (eq_by_cmp bssid_cmp b c))
   goes_moved b c So off on no_off no_on so h = elim (one_or_apart bssid_total bssid_exact b c) [
     | inl one ↦
@@ -121,13 +121,13 @@ module _ {D R : Type 0} (radio : RadioModel R) (old new : World D R) where
   no_slot b step inside told h = moved_none (applied b step told) (given (Radio b) step inside) (slot_at (slots_of old) b) (slot_at (slots_of new) b) (moved b step inside told h)
 
   -- the radio of each slot that is up has what is wanted
-  rest_exact : RestStays old new → AreExact radio (slots_of old) → AreExact radio (slots_of new)
+  pub rest_exact : RestStays old new → AreExact radio (slots_of old) → AreExact radio (slots_of new)
   rest_exact same = subst (AreExact radio) (sym same)
 
   same_exact : (was now : Slot R) → radio_of now ≡ radio_of was → wanted_of now ≡ wanted_of was → is_up_of now ≡ is_up_of was → IsExact radio was → IsExact radio now
   same_exact was now radios wanted up before is_up = ap radio.stations radios ∙ before (sym up ∙ is_up) ∙ sym wanted
 
-  goes_exact : (c : Bssid) (So : Slot R → Slot R → Type 0) → ((was now : Slot R) → So was now → IsExact radio was → IsExact radio now) → SlotGoes c So old new
+  pub goes_exact : (c : Bssid) (So : Slot R → Slot R → Type 0) → ((was now : Slot R) → So was now → IsExact radio was → IsExact radio now) → SlotGoes c So old new
       → AreExact radio (slots_of old) → AreExact radio (slots_of new)
   goes_exact c So so h all =
       let was : IsExact radio h.slot = all_at (IsExact radio) (slots_of old) h.place h.slot (ap (slot_in (slots_of old)) (sym h.at) ∙ h.has_slot) all in

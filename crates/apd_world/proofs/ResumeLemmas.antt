@@ -123,6 +123,7 @@ module _ {D : Type 0} (disk : DiskModel D) (device : D) (store : Store D) (table
         → disk.may_leave device (disk.reads device) → IsHonestlyNotBegunAnew disk device back fault
     honestly_not_begun_from held may = record {
       not_a_store = λ is. no_refusal store_fault.NotAStore is;
+      old_version = λ is. no_refusal store_fault.OldVersion is;
       damaged = λ is. no_refusal store_fault.Damaged is;
       durable = λ other. subst (λ d. Only (disk.reads device) (disk.may_leave d)) (sym h.device_is) (images held);
       still = λ image only.
@@ -143,6 +144,7 @@ module _ {D : Type 0} (disk : DiskModel D) (device : D) (store : Store D) (table
       inr (b, f, refl, record { table = table; shown = shown; not_resumed = h })
   ends_so radio slots left world_fault.NoMemory shown h = inl refl
   ends_so radio slots left (world_fault.Store e) shown h = absurd h
+  ends_so radio slots left world_fault.NoSlot shown h = absurd h
 
 -- before any slot they are as they were
 pub still_left : {R : Type 0} (radio : RadioModel R) (table : State) (slots left : List (Slot R)) (fault : WorldFault)
@@ -151,3 +153,4 @@ pub still_left : {R : Type 0} (radio : RadioModel R) (table : State) (slots left
 still_left radio table slots left (world_fault.Slot b f) h other = absurd (other b f refl)
 still_left radio table slots left world_fault.NoMemory h other = h
 still_left radio table slots left (world_fault.Store e) h other = absurd h
+still_left radio table slots left world_fault.NoSlot h other = absurd h

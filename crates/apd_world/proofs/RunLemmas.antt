@@ -48,7 +48,7 @@ module _ {D R : Type 0} (radio : RadioModel R) where
   world_steps_then xs ys is js ts us a b c past step = absurd past
 
   -- what is told inside and outside comes to the same
-  accounts_alike : (confs : List Conf) (xs : List Step) (is ts : List Told) (a b : World D R) (z : Account) → AreWorldSteps radio xs is ts a b → account confs xs is z ≡ account confs xs ts z
+  pub accounts_alike : (confs : List Conf) (xs : List Step) (is ts : List Told) (a b : World D R) (z : Account) → AreWorldSteps radio xs is ts a b → account confs xs is z ≡ account confs xs ts z
   accounts_alike confs [] [] [] a b z h = refl
   accounts_alike confs (x ∷ xs) (i ∷ is) (t ∷ ts) a b z h =
       accounts_alike confs xs is ts h.0 b (one_more confs x i z) h.3 ∙ ap (account confs xs ts) (happens_alike radio a h.0 confs x i t z h.2)

@@ -1,9 +1,9 @@
 -- How a durable core goes on by each kind of step.
-use Rattle.std.proofs.Common.{◌≡◌, ◌+◌, ◌≤◌, Bool, List, [], ◌∷◌, length, Option, Some, None, ◌⊎◌, inl, inr, ⊎_elim, refl, sym, ap, subst, ◌∙◌, Result, Ok, Err}
+use Rattle.std.proofs.Common.{◌≡◌, ◌+◌, Bool, List, [], ◌∷◌, Option, Some, None, ◌⊎◌, inl, inr, ⊎_elim, refl, sym, ap, subst, ◌∙◌, Result, Ok, Err}
 use Rattle.std.specs.Prelude.{◌↔◌, ◌==◌, if◌then◌else◌, is_some, IfSome, IfNone, IsSome, IsNone, IsTrue}
 use Rattle.std.proofs.lemmas.Bool.{false≢true}
 use Rattle.std.proofs.lemmas.List.{take-append-le}
-use Rattle.apd_world.proofs.Words.{Accept, Accepted, Answer, Answered, AreFit, Ask, Batch, Call, CallTells, Called, Committer, Control, CoreState, DiskModel, DurableCore, Flusher, Goes, Hand, Handed, Happening, HasNoBatch, HasNoneToLoad, HasRisen, Input, IsAccepted, IsCalled, IsCore, IsGood, IsHanded, IsImaged, IsNext, IsNextBatch, IsPublished, IsRead, IsStep, IsStepMade, IsTaken, IsTakenUp, IsTurnMade, IsWhole, Keeps, LeavesOnly, Loaded, Moment, NoMemory, Nothing, Out, Phase, Publish, Published, Query, QuietReason, Radio, Reception, Recipient, State, Step, StoreFault, Take, Tells, Told, TurnTells, accepted, after_call, after_request, cannot_take, changes_of, device_of, entered, entered_as, entered_by, failed_after, flight_of, flusher_of, front_of, given, handed, happening_of, heard_after, heard_as, heard_by, phase_of, published, ready_for, reception_of, state_after, verdict, waiting_batch}
+use Rattle.apd_world.proofs.Words.{Accept, Accepted, Answer, Answered, AreFit, Ask, Batch, Call, CallTells, Called, Committer, CoreState, DiskModel, DurableCore, Flusher, Goes, Hand, Handed, Happening, HasNoBatch, HasNoneToLoad, HasRisen, Input, IsAccepted, IsCalled, IsCore, IsGood, IsHanded, IsImaged, IsNext, IsNextBatch, IsPublished, IsRead, IsStep, IsStepMade, IsTaken, IsTakenUp, IsTurnMade, IsWhole, Keeps, LeavesOnly, Loaded, Moment, NoMemory, Nothing, Out, Phase, Publish, Published, Query, QuietReason, Reception, Recipient, State, Step, StoreFault, Take, Tells, Told, TurnTells, accepted, after_call, after_request, cannot_take, changes_of, device_of, entered, entered_as, entered_by, failed_after, flight_of, flusher_of, front_of, given, handed, happening_of, heard_after, heard_as, heard_by, phase_of, published, reception_of, state_after, verdict, waiting_batch}
 use Rattle.apd_journal.specs.Half.{IsGroup}
 use Rattle.apd_store.specs.declared.fault.StoreFault.TheVariants as store_fault
 use Rattle.apd_core.specs.declared.ticket.Accepted.{Accepted as CoreAccepted}

@@ -14,9 +14,11 @@ pub use Rattle.apd_world.specs.Outside.{IsSpoken, device_of, flusher_of, spoken}
 pub use Rattle.apd_world.specs.Proper.{IsProper, IsSafe, IsStepMade, IsWhole}
 pub use Rattle.apd_world.specs.Queueing.{AreQueued, QueuesReady}
 pub use Rattle.apd_world.specs.Recovery.{HasSpoken, LosesNothing}
+pub use Rattle.apd_world.specs.Replacing.{IsReplaced, IsReplacedAt, RefusesRadio, Replaces}
 pub use Rattle.apd_world.specs.Resumed.{AreHandedBack, AreLeft, AreOfSame, AreResumed, EndsAtSlot, HasNotResumed, IsResumed}
 pub use Rattle.apd_world.specs.Round.{ComesTo, Commits, HasRoomForNext, IsRound, answer_of, round, said}
 pub use Rattle.apd_world.specs.Run.{AreSteps, IsRun, IsStep}
+pub use Rattle.apd_world.specs.SafelyGone.{HasSafelyGone, IsRunInside, KeepsSpokenSince}
 pub use Rattle.apd_world.specs.SafelyMade.{AreMadeInTurn, AreSafelyMade}
 pub use Rattle.apd_world.specs.Shown.{ShowsEither, ShowsFlight, ShowsFront, flight_of}
 pub use Rattle.apd_world.specs.Steps.{Account, account, all_entered, all_given, entered, entered_as, given, heard_after, heard_as, nothing_yet, one_more}

@@ -3,7 +3,7 @@ use Rattle.std.specs.Prelude.{◌≡◌, ◌≢◌, ◌↔◌, ℕ, List, take}
 use Rattle.apd_base.specs.declared.limits.TheConstants.{DEVICE_LENGTH}
 use Rattle.apd_world.specs.Words.{AreHeardAt, Conf, DiskModel, DurableCore, Happening, HasRisen, LeavesOnly, Moment, Only, Shows, Sound, State, Store, WorldFault, new_core, run}
 use Rattle.apd_store.specs.Commit.{IsIdle}
-use Rattle.apd_store.specs.Image.{IsMarked, ShowsNone}
+use Rattle.apd_store.specs.Image.{IsMarked, IsMarkedOld, ShowsNone}
 use Rattle.apd_store.specs.Outside.{IsInside, device_of as store_device, phase_of}
 use Rattle.apd_store.specs.declared.fault.StoreFault.TheVariants as store_fault
 use Rattle.apd_store.specs.declared.phase.Phase.TheVariants.{Idle}
@@ -49,7 +49,9 @@ pub record IsNotBegunAnew {D : Type 0} (disk : DiskModel D) (device left : D) (f
   pub stays_honest : disk.honest device ↔ disk.honest left
 
 pub record IsHonestlyNotBegunAnew {D : Type 0} (disk : DiskModel D) (device left : D) (fault : WorldFault) : Type 0 where
-  pub not_a_store : fault ≡ world_fault.Store store_fault.NotAStore → ¬ IsMarked (disk.reads device)
+  pub not_a_store : fault ≡ world_fault.Store store_fault.NotAStore
+      → (¬ IsMarked (disk.reads device)) × (¬ IsMarkedOld (disk.reads device))
+  pub old_version : fault ≡ world_fault.Store store_fault.OldVersion → IsMarkedOld (disk.reads device)
   pub damaged : fault ≡ world_fault.Store store_fault.Damaged
       → IsMarked (disk.reads device) × ShowsNone (disk.reads device)
   pub durable : fault ≢ world_fault.Store store_fault.Device → Only (disk.reads device) (disk.may_leave left)

@@ -6,7 +6,7 @@ use Rattle.apd_core.specs.declared.publish_fault.PublishFault.TheVariants as pub
 use Rattle.apd_store.specs.declared.fault.StoreFault.TheVariants as store_fault
 use Rattle.apd_world.specs.Outside.{device_of}
 use Rattle.apd_world.specs.Proper.{IsWhole}
-use Rattle.apd_world.specs.Round.{IsRound, round}
+use Rattle.apd_world.specs.Round.{IsRound}
 use Rattle.apd_world.specs.SafelyMade.{AreSafelyMade}
 use Rattle.apd_world.specs.WorldParts.{durable_of}
 use Rattle.apd_world.specs.declared.fault.WorldFault.TheVariants as world_fault
@@ -55,6 +55,7 @@ IsEnd answer w None = answer ≡ commit.Settled
 IsEnd answer w (Some (Ok _)) = (answer ≡ commit.Nothing) × (w.core.failed ≡ false) × (w.core.unsettled ≡ [])
 IsEnd answer w (Some (Err (world_fault.Store fault))) = Ends answer fault w
 IsEnd answer w (Some (Err (world_fault.Slot b fault))) = ⊥
+IsEnd answer w (Some (Err world_fault.NoSlot)) = ⊥
 IsEnd answer w (Some (Err world_fault.NoMemory)) = answer ≡ commit.NoMemory
 
 module _ {D R : Type 0} (disk : DiskModel D) (radio : RadioModel R) where
@@ -85,6 +86,7 @@ module _ {D R : Type 0} (disk : DiskModel D) (radio : RadioModel R) where
   abbrev pub HasEnded : WorldFault → World D R → World D R → Type 0
   HasEnded (world_fault.Store fault) old new = IsEndedByStore fault old new
   HasEnded (world_fault.Slot b fault) old new = ⊥
+  HasEnded world_fault.NoSlot old new = ⊥
   HasEnded world_fault.NoMemory old new = HasRunShort old new
 
 -- where the store is told as failed, the core has failed

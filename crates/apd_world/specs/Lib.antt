@@ -7,8 +7,10 @@ pub mod Outside
 pub mod Proper
 pub mod Queueing
 pub mod Recovery
+pub mod Replacing
 pub mod Resumed
 pub mod Round
+pub mod SafelyGone
 pub mod SafelyMade
 pub mod Run
 pub mod WorldParts

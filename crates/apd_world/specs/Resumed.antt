@@ -56,6 +56,7 @@ abbrev pub AreLeft : {R : Type 0} → RadioModel R → State → WorldFault → 
 AreLeft radio s (world_fault.Slot b fault) old new = HasNotResumed radio s b fault old new
 AreLeft radio s world_fault.NoMemory old new = new ≡ old
 AreLeft radio s (world_fault.Store fault) old new = ⊥
+AreLeft radio s world_fault.NoSlot old new = ⊥
 
 -- no world was begun over this store and its table: the device and the slots are handed back, with this fault
 pub record AreHandedBack {D R : Type 0} (radio : RadioModel R) (store : Store D) (s : State) (slots : List (Slot R))

@@ -37,7 +37,7 @@ pub use Rattle.apd_mlme.specs.laws.Driver.{driven}
 pub use Rattle.apd_mlme.specs.rules.{verdict}
 pub use Rattle.apd_radio.specs.Model.{RadioModel}
 pub use Rattle.apd_record.specs.declared.change.Change.{Change}
-pub use Rattle.apd_slot.specs.Resuming.{IsGivenRows}
+pub use Rattle.apd_slot.specs.Resuming.{IsGivenRadio, IsGivenRows}
 pub use Rattle.apd_slot.specs.Rows.{installed_rows}
 pub use Rattle.apd_slot.specs.Slots.{HasForgotten, IsExact, SameButRoom, bssid_of, is_up_of, radio_of, wanted_of, wanted_then}
 pub use Rattle.apd_slot.specs.Wanted.{wanted_after_all}

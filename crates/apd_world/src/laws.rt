@@ -1,6 +1,7 @@
 //! What a reader may rely on, whatever steps a durable core or a world makes: each law is the contract of a
 //! function that does nothing.
-ghost use Rattle.std.specs.Prelude.{◌≡◌, ◌≤◌, ◌++◌, List, Ok, ℕ};
+ghost use Rattle.std.specs.Prelude.{◌≡◌, ◌≤◌, ◌++◌, [], List, Ok, Result, ℕ};
+ghost use Rattle.apd_base.specs.declared.address.Bssid.{Bssid};
 ghost use Rattle.apd_base.specs.declared.moment.Moment.{Moment};
 ghost use Rattle.apd_ctrl.specs.declared.command.Query.{Query};
 ghost use Rattle.apd_disk.specs.Disk.{LeavesOnly};
@@ -18,12 +19,15 @@ ghost use Rattle.apd_world.specs.Outside.{device_of, IsSpoken};
 ghost use Rattle.apd_world.specs.Proper.{IsProper, IsSafe};
 ghost use Rattle.apd_world.specs.Run.{AreSteps, IsRun};
 ghost use Rattle.apd_world.specs.QueryAnswer.{SpeaksOf};
+ghost use Rattle.apd_world.specs.Replacing.{IsReplaced};
+ghost use Rattle.apd_world.specs.SafelyGone.{HasSafelyGone};
 ghost use Rattle.apd_world.specs.SafelyMade.{AreSafelyMade};
 ghost use Rattle.apd_world.specs.Shown.{ShowsEither, ShowsFlight};
 ghost use Rattle.apd_world.specs.Steps.{all_entered};
 ghost use Rattle.apd_world.specs.Telling.{Tells};
 ghost use Rattle.apd_world.specs.WorldRun.{RunsJoin};
 ghost use Rattle.apd_world.specs.declared.durable_core.DurableCore.{DurableCore};
+ghost use Rattle.apd_world.specs.declared.fault.WorldFault.{WorldFault};
 ghost use Rattle.apd_world.specs.declared.step.Step.{Step};
 ghost use Rattle.apd_world.specs.declared.step.Step.TheVariants.{Ask};
 ghost use Rattle.apd_world.specs.declared.step.Told.{Told};
@@ -76,6 +80,24 @@ pub fn runs_join<D: Disk, R: Radio>()
     ensures made { (xs ys : List Step) (ts us : List Told) (old mid new : World D R)
         → AreSafelyMade D.model R.model xs ts old mid → AreSafelyMade D.model R.model ys us mid new
         → AreSafelyMade D.model R.model (xs ++ ys) (ts ++ us) old new }
+{}
+
+/// Lists of steps, between which radios are replaced, in any number: what is said of a stop since the first of them, of all
+/// that had been spoken of by then, and of the outs at each radio, is so of all of them.
+pub fn lists_join_over_a_replacement<D: Disk, R: Radio>()
+    ensures steps { (steps : List Step) (tolds : List Told) (old new : World D R)
+        → AreSafelyMade D.model R.model steps tolds old new → HasSafelyGone D.model R.model steps tolds old new }
+    ensures replaced { (b : Bssid) (other : R) (answer : Result R (R × WorldFault)) (old new : World D R)
+        → IsReplaced D.model R.model R.frames b other answer old new → HasSafelyGone D.model R.model [] [] old new }
+    ensures join { (xs ys : List Step) (ts us : List Told) (old mid new : World D R)
+        → HasSafelyGone D.model R.model xs ts old mid → HasSafelyGone D.model R.model ys us mid new
+        → HasSafelyGone D.model R.model (xs ++ ys) (ts ++ us) old new }
+    ensures over { (xs ys : List Step) (ts us : List Told) (b : Bssid) (other : R) (answer : Result R (R × WorldFault))
+        (old before after new : World D R)
+        → AreSafelyMade D.model R.model xs ts old before
+        → IsReplaced D.model R.model R.frames b other answer before after
+        → AreSafelyMade D.model R.model ys us after new
+        → HasSafelyGone D.model R.model (xs ++ ys) (ts ++ us) old new }
 {}
 
 /// Inside a step, whatever it is, a stop leaves an image of the settled table, or of that after the batch in flight:

@@ -9,6 +9,7 @@ mod fault;
 mod flushing;
 mod handing_out;
 pub mod laws;
+mod replacing;
 mod restarting;
 mod slots;
 mod starting;

@@ -82,9 +82,9 @@ pub fn begin_anew<D: Disk, R: Radio>(
 /// radio has the associated stations of its BSSID in that table; no out waits. A stop within it leaves what could
 /// be left before.
 ///
-/// Errors, with the device and the slots handed back: `Store` with `NotAStore` where its length or its magic
-/// differ; else with `Damaged` where the bytes show no state; with `Device` where the device failed in this
-/// call; with `NoMemory`; then those of `begin_anew`. Where a stop left one image before the call, as after a sync, it
+/// Errors, with the device and the slots handed back: `Store` with `NotAStore` where its length differs, or its
+/// magic is that of no version; with `OldVersion` where that is version 1's; else with `Damaged` where the bytes show
+/// no state; with `Device` where the device failed in this call; with `NoMemory`; then those of `begin_anew`. Where a stop left one image before the call, as after a sync, it
 /// leaves that one after any of them.
 pub fn restart<D: Disk, R: Radio>(
     alloc: Global,
@@ -100,8 +100,9 @@ pub fn restart<D: Disk, R: Radio>(
     ensures none { IfErr result (λ e. IsNotBegunAnew D.model device e.0 e.2) }
     ensures none_honest { D.model.honest device → IfErr result (λ e. IsHonestlyNotBegunAnew D.model device e.0 e.2) }
     ensures only { IfErr result
-        (λ e. (e.2 ≡ WorldFault.Store StoreFault.NotAStore) ⊎ (e.2 ≡ WorldFault.Store StoreFault.Damaged)
-        ⊎ (e.2 ≡ WorldFault.Store StoreFault.Device) ⊎ (e.2 ≡ WorldFault.Store StoreFault.NoMemory)
+        (λ e. (e.2 ≡ WorldFault.Store StoreFault.NotAStore) ⊎ (e.2 ≡ WorldFault.Store StoreFault.OldVersion)
+        ⊎ (e.2 ≡ WorldFault.Store StoreFault.Damaged) ⊎ (e.2 ≡ WorldFault.Store StoreFault.Device)
+        ⊎ (e.2 ≡ WorldFault.Store StoreFault.NoMemory)
         ⊎ (e.2 ≡ WorldFault.NoMemory) ⊎ ((b : Address) × (fault : Fault) × (e.2 ≡ WorldFault.Slot b fault)
         × EndsAtSlot D.model R.model device b fault slots.items e.1.items)) }
     ensures still_slots { IfErr result (λ e. ((b : Address) (fault : Fault) → e.2 ≢ WorldFault.Slot b fault)

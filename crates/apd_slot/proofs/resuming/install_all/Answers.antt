@@ -7,9 +7,9 @@ loop-addr-preserved g c =
     let before = c.loop-addr.invariant in
     record {
       rows = before.rows;
-      installed = installs c.args.stations.now c.rows-addr-items.result.now before.rows c.loop-addr.addr-index _ c.loop-addr-test.true _ _ before.installed c.in_ok-install.ensures.ok;
-      frames = c.in_ok-install.ensures.kept ∙ before.frames;
-      faults = c.in_ok-install.ensures.stays ∙ before.faults;
+      installed = installs c.args.stations.now c.rows-addr-items.result.now before.rows c.loop-addr.addr-index _ c.loop-addr-test.true _ _ before.installed c.in-Ok.ensures.ok;
+      frames = c.in-Ok.ensures.kept ∙ before.frames;
+      faults = c.in-Ok.ensures.stays ∙ before.faults;
     }
 
 pub returns-clause-ok : goal.returns-clause-ok

@@ -37,9 +37,9 @@ returns-in-Ok-clause-none_honest g c = λ honest.
 pub returns-in-Ok-clause-only : goal.returns-in-Ok-clause-only
 returns-in-Ok-clause-only g c =
     IfErr-weaker c.begin_anew.result _ _
-    (λ e h. inr (inr (inr (inr (ends_so g.D.Disk.model c.args.device c.in-Ok.store c.in-Ok.table c.in-Ok.ensures.found
+    (λ e h. inr (inr (inr (inr (inr (ends_so g.D.Disk.model c.args.device c.in-Ok.store c.in-Ok.table c.in-Ok.ensures.found
     g.R.Radio.model c.args.slots.items e.1.items e.2
-    (λ honest. (c.in-Ok.ensures.found_honest honest).shown) h.slots_are))))) c.begin_anew.ensures.none
+    (λ honest. (c.in-Ok.ensures.found_honest honest).shown) h.slots_are)))))) c.begin_anew.ensures.none
 
 pub returns-in-Ok-clause-still_slots : goal.returns-in-Ok-clause-still_slots
 returns-in-Ok-clause-still_slots g c =
@@ -54,6 +54,7 @@ returns-in-Err-clause-none_honest g c = λ honest.
     let e = c.in-Err.ensures.none_honest honest in
     record {
       not_a_store = λ told. e.not_a_store (same_fault _ _ told);
+      old_version = λ told. e.old_version (same_fault _ _ told);
       damaged = λ told. e.damaged (same_fault _ _ told);
       durable = λ other. e.durable (λ is. other (ap world_fault.Store is));
       still = e.still;
