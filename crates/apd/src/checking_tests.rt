@@ -1,5 +1,5 @@
 use crate::checking::check_and_print;
-use crate::scripting_tests::{JOINS, left_by, make_store};
+use crate::scripting_tests::{JOINS, left_by, make_old_store, make_store, printed};
 use apd_conf::Confs;
 use apd_script::{read_configurations, run_on_store};
 use apd_serve::{Access, open_disk};
@@ -105,19 +105,24 @@ const NOT_A_STORE: &[u8] = b"apd: not a store\n";
 
 const DAMAGED: &[u8] = b"apd: damaged store\n";
 
-/// Bytes from a place on of a store on which a station associated, and what is told of it with them: all that nobody looks
-/// at, the gate of the first half, the gates of the groups, the state of the station, and behind them a group of no
-/// records, and one that is too long.
-const CHANGES: [(usize, &[u8], &[u8]); 9] = [
+const OLD: &[u8] = b"apd: store of version 1\n";
+
+/// Bytes from a place on of a store on which a station associated, and what is told of it with them: the version, all that
+/// nobody looks at, the gate of the first half, the gates of the groups, the state of the station, the identifier that was
+/// given last, and behind them a group of no records, and one that is too long.
+const CHANGES: [(usize, &[u8], &[u8]); 12] = [
+    (7, b"1", OLD),
     (8, &[b'x'; 56], ONE_STATION),
     (64, &[0], DAMAGED),
     (77, &[0], b""),
     (92, &[2], NO_STATION),
     (117, &[0], ONE_STATION),
     (110, &[3], DAMAGED),
-    (142, &[1], ONE_STATION),
-    (142, &[1, 1, 0, 1, 0], DAMAGED),
-    (142, &[2, 1, 0, 1, 0], ONE_STATION),
+    (142, &[8], DAMAGED),
+    (149, &[7], ONE_STATION),
+    (151, &[1], ONE_STATION),
+    (151, &[1, 1, 0, 1, 0], DAMAGED),
+    (151, &[2, 1, 0, 1, 0], ONE_STATION),
 ];
 
 #[test]
@@ -133,6 +138,17 @@ fn bytes_that_are_changed_are_told_of(rt: HostRuntime) -> Result<(), Fail> {
         assert_eq!(rt; told.as_slice(), want, "{place}");
     }
     assert_eq!(rt; checked(&rt, name)?.as_slice(), ONE_STATION);
+    fs::remove_file(&rt, name)?;
+    Ok(())
+}
+
+#[test]
+fn a_store_of_version_1_is_told_of_and_left_as_it_was(rt: HostRuntime) -> Result<(), Fail> {
+    let name = "old_store_of_a_check_test";
+    let old = make_old_store(&rt, name)?;
+    assert_eq!(rt; checked(&rt, name)?.as_slice(), OLD);
+    assert_eq!(rt; printed(&rt, name, JOINS)?.as_slice(), OLD);
+    assert!(rt; fs::read(&rt, name)?.as_slice() == old.as_slice());
     fs::remove_file(&rt, name)?;
     Ok(())
 }

@@ -1,4 +1,5 @@
 use crate::ProgramFault;
+use crate::scripting_tests::make_old_store;
 use apd_disk::FileDisk;
 use apd_script::{FormatFault, run_format};
 use apd_serve::{Access, open_disk};
@@ -8,7 +9,7 @@ use std::rt::Files;
 use std::test::Fail;
 
 /// What a store begins with.
-const MAGIC: &[u8] = b"RAPSTOR1";
+const MAGIC: &[u8] = b"RAPSTOR2";
 
 /// What the first half of a new store begins with: open, epoch 1, no snapshot, and a closed gate.
 const HEAD: &[u8] = &[1, 1, 0, 0, 0, 0, 0, 0, 0, 0, 0, 0, 0, 0];
@@ -68,6 +69,20 @@ fn a_file_becomes_an_empty_store(rt: HostRuntime) -> Result<(), Fail> {
         assert_eq!(rt; front.get(64..78), Some(HEAD));
         assert_eq!(rt; rows_of(&rt, name)?, 0);
     }
+    fs::remove_file(&rt, name)?;
+    Ok(())
+}
+
+#[test]
+fn a_store_of_version_1_becomes_an_empty_store(rt: HostRuntime) -> Result<(), Fail> {
+    let name = "old_store_of_a_test";
+    make_old_store(&rt, name)?;
+    let (fault, out) = formatted(&rt, name)?;
+    assert_eq!(rt; fault, None);
+    assert_eq!(rt; out.as_slice(), b"formatted\n".as_slice());
+    let (_length, front) = bytes_of(&rt, name)?;
+    assert_eq!(rt; front.get(..8), Some(MAGIC));
+    assert_eq!(rt; rows_of(&rt, name)?, 0);
     fs::remove_file(&rt, name)?;
     Ok(())
 }

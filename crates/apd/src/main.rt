@@ -1,5 +1,5 @@
-//! `apd`: an access point daemon. It serves over a store and datagrams, runs scripts on a store, makes stores, and looks
-//! into them.
+//! `apd`: an access point daemon. It serves over a store and datagrams, runs scripts on a store, makes stores, looks
+//! into them, and copies those of version 1.
 #![tactic(auto)]
 
 mod checking;
@@ -16,12 +16,15 @@ mod scripting_tests;
 mod streams;
 #[cfg(test)]
 mod streams_tests;
+mod upgrading;
+#[cfg(test)]
+mod upgrading_tests;
 
 ghost use Rattle.std.specs.Prelude.{◌≡◌};
 ghost use Rattle.apd.specs.declared.ProgramFault.TheVariants.{NoMemory};
 
 use apd_conf::ConfigurationFault;
-use apd_script::{CheckFault, FormatFault, ScriptFault, run_format};
+use apd_script::{CheckFault, FormatFault, ScriptFault, UpgradeFault, run_format};
 use apd_serve::{Access, OpenFault, open_disk};
 use checking::{check_and_print, check_command};
 use clap::error::ErrorKind;
@@ -40,6 +43,7 @@ use std::thread::Threads;
 use std::time::Clock;
 use streams::hold_closed_streams;
 use thiserror::Error;
+use upgrading::{upgrade_and_print, upgrade_command};
 
 /// What the program's help says beside its subcommands.
 const HELP: &str = "'apd script --help' has the lines of a script and of a configuration file.";
@@ -67,6 +71,7 @@ fn command<'a>(alloc: Global) -> Result<Command<'a>, AllocError> {
     let format = format_command(alloc)?;
     let run = run_command(alloc)?;
     let script = script_command(alloc)?;
+    let upgrade = upgrade_command(alloc)?;
     Command::new(alloc, "apd")
         .bin_name("apd")?
         .version("0.1.0")
@@ -76,7 +81,8 @@ fn command<'a>(alloc: Global) -> Result<Command<'a>, AllocError> {
         .subcommand(check)?
         .subcommand(format)?
         .subcommand(run)?
-        .subcommand(script)
+        .subcommand(script)?
+        .subcommand(upgrade)
 }
 
 /// What ends the program with status 1.
@@ -92,6 +98,8 @@ enum ProgramFault {
     Check(CheckFault),
     #[error("{0}")]
     Format(FormatFault),
+    #[error("{0}")]
+    Upgrade(UpgradeFault),
     #[error("{0}")]
     Running(RunningFault),
     #[error("out of memory")]
@@ -171,6 +179,12 @@ where
     }
     if let Some(format) = matches.subcommand_matches("format") {
         format_and_print(rt, format.get_str("STORE").unwrap_or(""))?;
+        return Ok(None);
+    }
+    if let Some(upgrade) = matches.subcommand_matches("upgrade") {
+        let old = upgrade.get_str("OLD").unwrap_or("");
+        let new = upgrade.get_str("NEW").unwrap_or("");
+        upgrade_and_print(rt, old, new, &mut io::writer(rt))?;
         return Ok(None);
     }
     if let Some(matches) = matches.subcommand_matches("run") {

@@ -1,4 +1,5 @@
 use crate::running::run_and_log;
+use crate::scripting_tests::make_old_store;
 use crate::{ProgramFault, command, no_text, told};
 use apd_disk::FileDisk;
 use apd_store::format;
@@ -205,6 +206,19 @@ fn faults_of_a_run_are_told_in_their_order(rt: HostRuntime) -> Result<(), Fail> 
     fs::remove_file(&rt, "run_test.0")?;
     fs::remove_file(&rt, "run_test_store")?;
     fs::remove_file(&rt, "run_test_conf")?;
+    Ok(())
+}
+
+#[test]
+fn a_store_of_version_1_is_refused_and_left_as_it_was(rt: HostRuntime) -> Result<(), Fail> {
+    let store = "run_test_old_store";
+    let old = make_old_store(&rt, store)?;
+    fs::write(&rt, "run_test_old_conf", CONF.as_bytes())?;
+    let told = fault_of(&rt, store, "1024", "run_test_old_conf")?;
+    assert_eq!(rt; told.as_str(), "2apd: store of version 1\n");
+    assert!(rt; fs::read(&rt, store)?.as_slice() == old.as_slice());
+    fs::remove_file(&rt, store)?;
+    fs::remove_file(&rt, "run_test_old_conf")?;
     Ok(())
 }
 

@@ -1,10 +1,12 @@
 use crate::ProgramFault;
 use crate::scripting::run_script_of_input;
 use apd_conf::{Conf, Confs};
-use apd_script::{run_format, run_on_store};
+use apd_disk::FuseDisk;
+use apd_script::{ScriptFault, run_format, run_on_store};
 use apd_serve::{Access, open_disk};
 use std::alloc::Global;
 use std::fs::{self, File};
+use std::io::{self, BufRead, BufReader, Read, Write};
 use std::rt::Files;
 use std::test::Fail;
 
@@ -30,6 +32,20 @@ pub fn make_store(rt: &(impl Files<File = File> + AllocGlobal), name: &str) -> R
     }
 }
 
+/// Makes the file of a name a store of version 1, and gives its bytes.
+pub fn make_old_store(
+    rt: &(impl Files<File = File> + AllocGlobal),
+    name: &str,
+) -> Result<Vec<u8>, Fail> {
+    make_store(rt, name)?;
+    let mut bytes = fs::read(rt, name)?;
+    if let Some(version) = bytes.get_mut(7) {
+        *version = b'1';
+    }
+    fs::write(rt, name, bytes.as_slice())?;
+    Ok(bytes)
+}
+
 /// What ends a script on the store of a file, if anything does.
 fn fault_of(
     rt: &(impl Files<File = File> + AllocGlobal),
@@ -49,7 +65,7 @@ fn fault_of(
 }
 
 /// What a script on the store of a file prints, and then its fault as the program prints it.
-fn printed(
+pub fn printed(
     rt: &(impl Files<File = File> + AllocGlobal),
     name: &str,
     script: &[u8],
@@ -90,6 +106,80 @@ fn a_store_keeps_the_station_for_the_next_run(rt: HostRuntime) -> Result<(), Fai
     ] {
         let out = printed(&rt, name, script)?;
         assert_eq!(rt; out.as_slice(), want);
+    }
+    fs::remove_file(&rt, name)?;
+    Ok(())
+}
+
+/// What neither gives nor takes a byte.
+#[derive(Drop)]
+struct Closed;
+
+impl Read for Closed {
+    fn read(&mut self, _buf: &mut [u8]) -> io::Result<usize> {
+        Err(io::Error::from(io::ErrorKind::BrokenPipe))
+    }
+}
+
+impl Write for Closed {
+    fn write(&mut self, _buf: &[u8]) -> io::Result<usize> {
+        Err(io::Error::from(io::ErrorKind::BrokenPipe))
+    }
+
+    fn flush(&mut self) -> io::Result<()> {
+        Ok(())
+    }
+}
+
+/// Why a script on the store of a file is given up, where the device fails behind so many calls.
+fn given_up<I: BufRead + Drop, W: Write>(
+    rt: &(impl Files<File = File> + AllocGlobal),
+    name: &str,
+    calls: u64,
+    reader: I,
+    writer: &mut W,
+) -> Result<ScriptFault, Fail> {
+    let alloc = rt.alloc();
+    let Ok(disk) = open_disk(rt, name, Access::Write) else {
+        return Err(Fail::new("the store can't be opened"));
+    };
+    let disk = FuseDisk::new(disk, calls);
+    match run_on_store(alloc, disk, built_in(alloc)?, reader, writer) {
+        Ok(_world) => Err(Fail::new("there is no fault")),
+        Err(fault) => Ok(fault),
+    }
+}
+
+/// Whether the store of a file still has the station.
+fn has_the_station(rt: &(impl Files<File = File> + AllocGlobal), name: &str) -> Result<bool, Fail> {
+    let out = printed(rt, name, b"cmd STA 02:00:00:00:00:aa\n")?;
+    Ok(out.as_slice() == SHOWN)
+}
+
+/// More calls than any of these scripts makes.
+const ENOUGH: u64 = 1_000;
+
+/// Another station authenticates.
+const ANOTHER: &[u8] =
+    b"rx wlan0 b00000000200000000010200000000ab0200000000011000000001000000\nflush\n";
+
+#[test]
+fn a_script_that_is_given_up_leaves_the_station(rt: HostRuntime) -> Result<(), Fail> {
+    let name = "store_given_up_of_a_script_test";
+    let _ = left_by(&rt, name, JOINS)?;
+    let fault = given_up(&rt, name, ENOUGH, ANOTHER, &mut Closed)?;
+    assert_eq!(rt; fault, ScriptFault::Writer);
+    assert!(rt; has_the_station(&rt, name)?);
+    let mut out = Vec::new(rt.alloc());
+    let reader = BufReader::new(rt.alloc(), ANOTHER.chain(Closed))?;
+    let fault = given_up(&rt, name, ENOUGH, reader, &mut out)?;
+    assert_eq!(rt; fault, ScriptFault::Reader);
+    assert!(rt; has_the_station(&rt, name)?);
+    // Two calls of the recovery, four of the start, and the first two of a commit; and the first of the recovery.
+    for calls in [8, 0] {
+        let fault = given_up(&rt, name, calls, ANOTHER, &mut out)?;
+        assert!(rt; matches!(fault, ScriptFault::World(_)), "{calls}");
+        assert!(rt; has_the_station(&rt, name)?, "{calls}");
     }
     fs::remove_file(&rt, name)?;
     Ok(())

@@ -17,7 +17,7 @@ pub record IsNewStore {D : Type 0} (disk : DiskModel D) (device made : D) : Type
 -- an honest one is a store of the empty table, which alone a stop leaves from now on
 pub record IsHonestlyNewStore {D : Type 0} (disk : DiskModel D) (device made : D) : Type 0 where
   pub empty : (image : List ℕ) → disk.may_leave made image → Shows image empty_state
-  pub any_moment : LeavesOnly disk device made (MayBeMade (disk.may_leave device))
+  pub any_moment : LeavesOnly disk device made (MayBeMade empty_state (disk.may_leave device))
   pub calls : disk.moment made ≤ disk.moment device + 9
 
 -- no store is told of: the device was refused, as the making of a store refuses it; or it is one, which could not be told of

@@ -4,3 +4,4 @@ pub mod Lines
 pub mod Formatting
 pub mod Refused
 pub mod Script
+pub mod Upgrading

@@ -145,8 +145,8 @@ fn checked<D: Disk, W: Write>(
 ///
 /// # Errors
 ///
-/// `Store`, with `NotAStore`, `Damaged`, `Device` or `NoMemory`, as `apd_store::recover` refuses, where
-/// nothing is printed; `Writer` and `NoMemory`, where the device shows a table. The device is then given up,
+/// `Store`, with `NotAStore`, `OldVersion`, `Damaged`, `Device` or `NoMemory`, as `apd_store::recover` refuses,
+/// where nothing is printed; `Writer` and `NoMemory`, where the device shows a table. The device is then given up,
 /// and no more was done with it than where it is handed back.
 pub fn run_check<D: Disk + Drop, W: Write>(
     alloc: Global,

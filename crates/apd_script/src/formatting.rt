@@ -19,8 +19,8 @@ pub enum FormatFault {
     Writer,
 }
 
-/// Makes a device a store of the empty table, whatever it held, and prints `formatted`. A stop within it
-/// leaves an image that could be left before, one that is no store, or one that shows the empty table.
+/// Makes a device a store of the empty table, whatever it held, and prints `formatted`. A stop within it leaves an
+/// image that `apd_store::format` may leave.
 ///
 /// # Errors
 ///

@@ -8,6 +8,7 @@ mod formatting;
 pub mod laws;
 mod on_store;
 mod script;
+mod upgrading;
 
 pub use apd_core::QuietReason;
 pub use checking::{CheckFault, run_check};
@@ -17,3 +18,4 @@ pub use on_store::{STOPS, new_store, run_on_store};
 pub use script::{
     ScriptFault, exactly_one_line, run_script, write_applied, write_out, write_reception,
 };
+pub use upgrading::{UpgradeFault, run_upgrade};

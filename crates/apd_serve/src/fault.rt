@@ -29,12 +29,13 @@ impl From<AllocError> for ServeFault {
     }
 }
 
-/// Why a start that the world refused was refused. A start resumes no slot, so `Slot` is never told of one.
+/// Why a start that the world refused was refused. A start resumes no slot and replaces no radio, so `Slot` and `NoSlot`
+/// are never told of one.
 pub(crate) fn of_start(fault: WorldFault) -> ServeFault
     ensures { (inner : StoreFault) → fault ≡ WorldFault.Store inner → result ≡ ServeFault.Store inner }
 {
     match fault {
         WorldFault::Store(fault) => ServeFault::Store(fault),
-        WorldFault::Slot(..) | WorldFault::NoMemory => ServeFault::NoMemory,
+        WorldFault::Slot(..) | WorldFault::NoSlot | WorldFault::NoMemory => ServeFault::NoMemory,
     }
 }

@@ -1,7 +1,7 @@
 //! The files of recordings.
 use crate::identity::Identity;
 use crate::opening::{OpenFault, opened};
-use apd_store::MAGIC;
+use apd_store::{MAGIC, OLD_MAGIC};
 use std::alloc::AllocError;
 use std::fs::File;
 use std::io::{self, ErrorKind};
@@ -18,11 +18,11 @@ pub(crate) struct RecordingFile {
     file: File,
 }
 
-// Whether a file begins as a store does. No such file becomes a recording.
+// Whether a file begins as a store of either version does. No such file becomes a recording.
 fn begins_as_a_store(file: &File) -> io::Result<bool> {
     let mut head = [0u8; MAGIC.len()];
     match file.read_exact_at(&mut head, 0) {
-        Ok(()) => Ok(head == MAGIC),
+        Ok(()) => Ok(head == MAGIC || head == OLD_MAGIC),
         Err(error) if error.kind() == ErrorKind::UnexpectedEof => Ok(false),
         Err(error) => Err(error),
     }

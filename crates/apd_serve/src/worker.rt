@@ -76,7 +76,10 @@ impl<
                 Worker::Flushing(committed(*rt, *shared, committer, *gate))
             }
             Worker::Radio(seat, slot) => {
-                let (seat, slot) = radio_worker(*rt, *alloc, *shared, seat, slot, *clock, *gate);
+                let none = Vec::new(*alloc);
+                let (seat, slot) = radio_worker(
+                    *rt, *alloc, *shared, seat, slot, *clock, none, *gate,
+                );
                 Worker::Radio(seat, slot)
             }
             Worker::Control(seat, port) => {

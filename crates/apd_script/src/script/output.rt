@@ -31,7 +31,7 @@ pub fn write_out<W: Write>(
     writer.write_all(line.as_bytes())
 }
 
-/// Prints what an interface's slot answered to an out: the out, or that it was lost or the driver failed.
+/// Prints what an interface's slot answered to an out: the out, or that it was lost, or that the slot went down.
 pub fn write_applied<W: Write>(
     alloc: Global,
     writer: &mut W,
@@ -42,7 +42,7 @@ pub fn write_applied<W: Write>(
     let line = match answer {
         Ok(()) => return write_out(alloc, writer, interface, out),
         Err(SlotFault::Lost) => format!(in alloc; "{interface} lost\n")?,
-        Err(SlotFault::WentDown) => format!(in alloc; "{interface} driver fault\n")?,
+        Err(SlotFault::WentDown) => format!(in alloc; "{interface} down\n")?,
         // No text is a radio's, and want of memory is told by no out.
         Err(SlotFault::NotMine | SlotFault::NoMemory) => return Ok(()),
     };
