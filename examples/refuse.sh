@@ -51,7 +51,7 @@ is_refused() {
 words=0
 while is_refused nothing "$((words + 1))"; do words=$((words + 1)); done
 
-for session in ${*:-stations commands radios restart files check}; do
+for session in ${*:-stations commands radios restart files check upgrade}; do
     "$program" "$session" >wanted
     count=0
     device=0

@@ -77,7 +77,16 @@ fn serve_radio<L: Ledger, W: Wait + Clock>(
 ) -> Option<Seat<L>> {
     let seat = shared.seat(rt)?;
     let slot = Slot::new(alloc, Sim::new(alloc), WLAN0);
-    let (seat, _slot) = radio_worker(rt, alloc, shared, seat, slot, &Still, &NoGate);
+    let (seat, _slot) = radio_worker(
+        rt,
+        alloc,
+        shared,
+        seat,
+        slot,
+        &Still,
+        Vec::new(alloc),
+        &NoGate,
+    );
     Some(seat)
 }
 

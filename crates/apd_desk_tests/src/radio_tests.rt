@@ -29,7 +29,7 @@ fn serve<L: Ledger, W: Wait + time::Clock, R: Radio, C: Clock, G: Gate>(
     let seat = shared.seat(rt)?;
     let radio = Staged::new(rt, alloc, shared, inner, frames);
     let slot = Slot::new(alloc, radio, WLAN0);
-    let (seat, _slot) = radio_worker(rt, alloc, shared, seat, slot, clock, gate);
+    let (seat, _slot) = radio_worker(rt, alloc, shared, seat, slot, clock, Vec::new(alloc), gate);
     Some(seat)
 }
 

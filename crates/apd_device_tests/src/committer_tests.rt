@@ -156,7 +156,7 @@ const POLICIES: u32 = 104_855;
 
 /// The bytes of a device whose half A is full, and of the greatest epoch.
 fn worn(alloc: Global) -> Result<Vec<u8>, AllocError> {
-    let mut bytes = Vec::from_slice(alloc, b"RAPSTOR1")?;
+    let mut bytes = Vec::from_slice(alloc, b"RAPSTOR2")?;
     pad(&mut bytes, 64)?;
     bytes.push(1)?;
     bytes.extend_from_slice(&u64::MAX.to_le_bytes())?;

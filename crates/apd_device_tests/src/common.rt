@@ -1,6 +1,6 @@
 //! What several tests of stores and of what stands on them use.
 use apd_base::{AclMode, Addr, Aid, Association, Bssid, Policy, Sequence, Station, StationNumber};
-use apd_disk::{Call, MemDisk};
+use apd_disk::{Call, Disk, MemDisk};
 use apd_journal::Batch;
 use apd_record::Change;
 use apd_store::{StoreFault, recover};
@@ -21,9 +21,23 @@ pub(crate) const TWO_GROUPS: [u8; 54] = [
     0, // at 117
 ];
 
-// No clause says what the disk holds: a proof would go through two million bytes.
+// A disk whose bytes are all this one. No clause says what it holds: a proof would go through two million bytes.
+pub(crate) fn filled_disk(alloc: Global, byte: u8, size: usize) -> Result<MemDisk, AllocError> {
+    MemDisk::new(alloc, vec![in alloc; byte; size]?)
+}
+
 pub(crate) fn blank_disk(alloc: Global, size: usize) -> Result<MemDisk, AllocError> {
-    MemDisk::new(alloc, vec![in alloc; 0u8; size]?)
+    filled_disk(alloc, 0, size)
+}
+
+// Writes bytes where they lie inside the disk, and syncs them.
+pub(crate) fn write_bytes(disk: &mut MemDisk, at: usize, bytes: &[u8]) -> Result<(), Fail> {
+    if at > disk.len() || bytes.len() > disk.len() - at {
+        return Err(Fail::from("outside the disk"));
+    }
+    disk.write_at(at, bytes)?;
+    disk.sync()?;
+    Ok(())
 }
 
 pub(crate) fn policy() -> Result<Change, Fail> {
@@ -50,6 +64,14 @@ pub(crate) fn associated() -> Result<Change, Fail> {
         capability: 0x0431,
         listen_interval: 10,
     })))
+}
+
+// The identifier that the BSSID gave last.
+pub(crate) fn cursor(number: u16) -> Result<Change, Fail> {
+    Ok(Change::Cursor {
+        bssid: BSSID,
+        last: StationNumber::new(number).ok_or("it is a number of stations")?,
+    })
 }
 
 pub(crate) fn batch_of(alloc: Global, number: u64, change: Change) -> Result<Batch, AllocError> {

@@ -15,11 +15,15 @@ mod flusher_tests;
 #[cfg(test)]
 mod journal_tests;
 #[cfg(test)]
+mod old_images;
+#[cfg(test)]
 mod queue_tests;
 #[cfg(test)]
 mod radio_tests;
 #[cfg(test)]
 mod slot_calls;
+#[cfg(test)]
+mod slot_fault_tests;
 #[cfg(test)]
 mod slot_memory_tests;
 #[cfg(test)]
@@ -30,3 +34,7 @@ mod slot_tests;
 mod store_tests;
 #[cfg(test)]
 mod udp_tests;
+#[cfg(test)]
+mod upgrade_tests;
+#[cfg(test)]
+mod version_tests;

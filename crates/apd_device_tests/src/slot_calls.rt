@@ -36,6 +36,10 @@ pub(crate) fn resume<R: Radio>(
     slot.resume(alloc, table)
 }
 
+pub(crate) fn resync<R: Radio>(slot: &mut Slot<R>) -> Result<(), SlotFault> {
+    slot.resync()
+}
+
 pub(crate) fn replace<R: Radio>(slot: &mut Slot<R>, radio: R) -> Result<R, (R, SlotFault)> {
     slot.replace(radio)
 }

@@ -1,7 +1,7 @@
 // What no clause says: that calls succeed where memory is ample, the bytes of a store, and printed text.
 use crate::common::{
-    BSSID, LENGTH, Made, Seen, TWO_GROUPS, associated, batch_of, blank_disk, made_after, policy,
-    put, seen,
+    BSSID, LENGTH, Made, Seen, TWO_GROUPS, associated, batch_of, blank_disk, cursor, filled_disk,
+    made_after, policy, put, seen, write_bytes,
 };
 use apd_base::Station;
 use apd_disk::{Disk, FuseDisk, MemDisk, Torn};
@@ -10,15 +10,6 @@ use apd_store::{Receipt, Store, StoreFault, format, recover};
 use apd_table::Table;
 use std::alloc::Global;
 use std::test::Fail;
-
-fn write_bytes(disk: &mut MemDisk, at: usize, bytes: &[u8]) -> Result<(), Fail> {
-    if at > disk.len() || bytes.len() > disk.len() - at {
-        return Err(Fail::from("outside the disk"));
-    }
-    disk.write_at(at, bytes)?;
-    disk.sync()?;
-    Ok(())
-}
 
 // Begins a batch of one change.
 fn begin<D: Disk>(
@@ -53,14 +44,22 @@ fn lay_down<D: Disk>(store: &mut Store<D>) -> Result<bool, StoreFault> {
     store.next_call()
 }
 
-// Commits a batch of one change.
-fn commit<D: Disk>(
+// Begins a batch of a station's association, and of the identifier that it was given.
+fn begin_association<D: Disk>(
     alloc: Global,
     store: &mut Store<D>,
     number: u64,
-    change: Change,
-) -> Result<Receipt, Fail> {
-    begin(alloc, store, number, change)?;
+) -> Result<(), Fail> {
+    let mut batch = batch_of(alloc, number, associated()?)?;
+    batch.changes.push(cursor(1)?)?;
+    match store.begin(batch, &Table::new(alloc)) {
+        Ok(()) => Ok(()),
+        Err((_, fault)) => Err(Fail::from(fault)),
+    }
+}
+
+// Makes the four calls of a batch that was begun.
+fn commit_begun<D: Disk>(store: &mut Store<D>, number: u64) -> Result<Receipt, Fail> {
     lay_down(store)?;
     store.next_call()?;
     if store.next_call()? {
@@ -71,6 +70,17 @@ fn commit<D: Disk>(
         Some(_) => Err(Fail::from("another batch")),
         None => Err(Fail::from("no receipt")),
     }
+}
+
+// Commits a batch of one change.
+fn commit<D: Disk>(
+    alloc: Global,
+    store: &mut Store<D>,
+    number: u64,
+    change: Change,
+) -> Result<Receipt, Fail> {
+    begin(alloc, store, number, change)?;
+    commit_begun(store, number)
 }
 
 fn formatted<D: Disk>(alloc: Global, disk: D) -> Result<Store<D>, Fail>
@@ -109,7 +119,8 @@ where
     if commits == 2 {
         return Ok(store.into_device());
     }
-    commit(alloc, &mut store, 3, associated()?)?;
+    begin_association(alloc, &mut store, 3)?;
+    commit_begun(&mut store, 3)?;
     Ok(store.into_device())
 }
 
@@ -208,7 +219,7 @@ type Given = Result<(Option<u16>, Vec<u8>), StoreFault>;
 // What a store is recovered with whose groups have these records.
 fn given(alloc: Global, records: &[&[u8]]) -> Result<Given, Fail> {
     let mut disk = blank_disk(alloc, LENGTH)?;
-    write_bytes(&mut disk, 0, b"RAPSTOR1")?;
+    write_bytes(&mut disk, 0, b"RAPSTOR2")?;
     write_bytes(&mut disk, 64, &half_of(alloc, records)?)?;
     match recover(alloc, disk) {
         Ok((_store, table)) => {
@@ -222,7 +233,7 @@ fn given(alloc: Global, records: &[&[u8]]) -> Result<Given, Fail> {
 // What is seen of a half A with a policy and a station, and a half B of this epoch with another policy.
 fn two_halves(alloc: Global, epoch: u8) -> Result<Seen, Fail> {
     let mut disk = blank_disk(alloc, LENGTH)?;
-    write_bytes(&mut disk, 0, b"RAPSTOR1")?;
+    write_bytes(&mut disk, 0, b"RAPSTOR2")?;
     write_bytes(&mut disk, 64, &TWO_GROUPS)?;
     write_bytes(
         &mut disk,
@@ -231,6 +242,18 @@ fn two_halves(alloc: Global, epoch: u8) -> Result<Seen, Fail> {
     )?;
     write_bytes(&mut disk, 1_048_653, &[6, 2, 0, 0, 0, 0, 1, 1, 9, 0, 0])?;
     Ok(seen(alloc, disk))
+}
+
+// The places of a newly made store that don't hold this byte, which each byte of the device was before, and what they hold.
+fn written_over(alloc: Global, byte: u8) -> Result<Vec<(usize, u8)>, Fail> {
+    let made = formatted_again(alloc, filled_disk(alloc, byte, LENGTH)?)?;
+    let mut written = Vec::new(alloc);
+    for (place, now) in made.bytes().iter().enumerate() {
+        if *now != byte {
+            written.push((place, *now))?;
+        }
+    }
+    Ok(written)
 }
 
 // What is seen of a store of a policy after this many calls of another format; none where it was not stopped.
@@ -253,8 +276,25 @@ fn the_first_bytes(rt: HostRuntime) -> Result<(), Fail> {
     let disk = device(rt.alloc(), 2)?;
     let bytes = disk.bytes();
     let groups = TWO_GROUPS;
-    assert!(rt; bytes.starts_with(b"RAPSTOR1"));
+    assert!(rt; bytes.starts_with(b"RAPSTOR2"));
     assert_eq!(rt; bytes.get(64..118), Some(groups.as_slice()));
+    Ok(())
+}
+
+// The group of an association: the station's row, and behind it the identifier that its BSSID gave last.
+const ASSOCIATION: &[u8] = &[
+    1, 29, 0, 0, 0, // at 117
+    1, 2, 0, 0, 0, 0, 1, 2, 0, 0, 0, 0, 0xaa, 2, 1, 0, 0x31, 4, 10, 0, // at 122
+    7, 2, 0, 0, 0, 0, 1, 1, 0, // at 142
+    0, // at 151
+];
+
+#[test]
+fn the_bytes_of_an_association(rt: HostRuntime) -> Result<(), Fail> {
+    let disk = device(rt.alloc(), 3)?;
+    let bytes = disk.bytes();
+    assert_eq!(rt; bytes.get(64..117), TWO_GROUPS.get(..53));
+    assert_eq!(rt; bytes.get(117..152), Some(ASSOCIATION));
     Ok(())
 }
 
@@ -300,6 +340,27 @@ fn the_calls_of_a_format(rt: HostRuntime) -> Result<(), Fail> {
     Ok(())
 }
 
+// The whole device: the magic and the heads of both halves stand on it, and no other byte is written.
+#[test]
+fn all_bytes_of_a_new_store(rt: HostRuntime) -> Result<(), Fail> {
+    let alloc = rt.alloc();
+    let mut want = Vec::new(alloc);
+    for (place, byte) in b"RAPSTOR2".iter().enumerate() {
+        want.push((place, *byte))?;
+    }
+    want.push((64, 1))?;
+    want.push((65, 1))?;
+    assert!(rt; written_over(alloc, 0)? == want);
+    for place in 66..78 {
+        want.push((place, 0))?;
+    }
+    for place in 1_048_640..1_048_653 {
+        want.push((place, 0))?;
+    }
+    assert!(rt; written_over(alloc, 7)? == want);
+    Ok(())
+}
+
 // It begins with a sync, reads each byte once, and writes nothing.
 #[test]
 fn the_calls_of_a_recovery(rt: HostRuntime) -> Result<(), Fail> {
@@ -342,8 +403,13 @@ fn devices_that_are_no_stores(rt: HostRuntime) -> Result<(), Fail> {
         let found = seen(alloc, blank_disk(alloc, length)?);
         assert_eq!(rt; found, Err(StoreFault::NotAStore), "{length}");
     }
-    let short = blank_disk(alloc, 2_097_215)?;
-    assert!(rt; matches!(format(alloc, short), Err((_, StoreFault::NotAStore))));
+    let mut short = blank_disk(alloc, 2_097_215)?;
+    write_bytes(&mut short, 0, b"RAPSTOR1")?;
+    let Err((short, StoreFault::NotAStore)) = format(alloc, short) else {
+        return Err(Fail::from("a short device is a store"));
+    };
+    // The length is looked at before the magic.
+    assert_eq!(rt; seen(alloc, short), Err(StoreFault::NotAStore));
     Ok(())
 }
 
@@ -381,7 +447,8 @@ fn changed_bytes(rt: HostRuntime) -> Result<(), Fail> {
     assert!(rt; matches!(same, Ok((Some((0, 2007)), Some(Station::Associated(_))))));
     let row = Some((0, 2007));
     for (place, byte, found) in [
-        (7, 0x32, Err(StoreFault::NotAStore)),
+        (7, 0x31, Err(StoreFault::OldVersion)),
+        (7, 0x33, Err(StoreFault::NotAStore)),
         (63, 7, same),
         (64, 0, Err(StoreFault::Damaged)),
         (77, 0, Ok((None, None))),
@@ -390,9 +457,14 @@ fn changed_bytes(rt: HostRuntime) -> Result<(), Fail> {
         (92, 2, Ok((row, None))),
         (110, 3, Err(StoreFault::Damaged)),
         (117, 0, Ok((row, Some(Station::Authenticated)))),
+        // No record begins with 8, the cursor's BSSID becomes another one, and 2049 is no identifier.
+        (142, 8, Err(StoreFault::Damaged)),
+        (148, 9, Err(StoreFault::Damaged)),
+        (149, 7, same),
+        (150, 8, Err(StoreFault::Damaged)),
         // A group of no records. What is behind the closed gate, and half B, are not looked at.
-        (142, 1, same),
-        (143, 255, same),
+        (151, 1, same),
+        (152, 255, same),
         (1_048_641, 9, same),
     ] {
         assert_eq!(rt;
@@ -401,7 +473,7 @@ fn changed_bytes(rt: HostRuntime) -> Result<(), Fail> {
             "{byte} at {place}"
         );
     }
-    let long = changed(alloc, &disk, 142, &[1, 1, 0, 1, 0])?;
+    let long = changed(alloc, &disk, 151, &[1, 1, 0, 1, 0])?;
     assert_eq!(rt; long, Err(StoreFault::Damaged));
     Ok(())
 }
@@ -494,6 +566,8 @@ fn texts(rt: HostRuntime) -> Result<(), Fail> {
         (StoreFault::Worn, "store is worn out"),
         (StoreFault::NotIdle, "a batch is in flight"),
         (StoreFault::BadBatch, "batch does not fit"),
+        (StoreFault::OldVersion, "store of version 1"),
+        (StoreFault::NewVersion, "store of version 2"),
         (StoreFault::NoMemory, "out of memory"),
     ] {
         assert_eq!(rt; format!(in rt.alloc(); "{fault}")?.as_str(), text);
@@ -502,5 +576,7 @@ fn texts(rt: HostRuntime) -> Result<(), Fail> {
     assert_eq!(rt; StoreFault::Failed as u8, 4);
     assert_eq!(rt; StoreFault::Worn as u8, 6);
     assert_eq!(rt; StoreFault::BadBatch as u8, 8);
+    assert_eq!(rt; StoreFault::OldVersion as u8, 9);
+    assert_eq!(rt; StoreFault::NewVersion as u8, 10);
     Ok(())
 }

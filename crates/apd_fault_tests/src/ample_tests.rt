@@ -1,5 +1,5 @@
 //! Calls that take memory and that no other test makes, where memory is ample.
-use crate::calls::{begun, committed, confs, new_slots, recovered_store, told};
+use crate::calls::{begun, committed, confs, new_slots, recovered, told};
 use crate::devices::{device_of, new_image, place_of};
 use crate::sessions::{AUTHENTICATES, starts, world};
 use apd_base::{Addr, Bssid};
@@ -17,7 +17,7 @@ const STATION: Addr = Addr([2, 0, 0, 0, 0, 0xaa]);
 
 /// A store is recovered, and its world begun with a slot for its interface; how many slots there were, and its table.
 fn begun_anew(alloc: Global) -> Option<(usize, Option<u64>)> {
-    let (store, table) = recovered_store(alloc, device_of(alloc, &new_image(alloc)?)?)?;
+    let (store, table) = recovered(alloc, device_of(alloc, &new_image(alloc)?)?).ok()?;
     let slots = new_slots(alloc, &confs(alloc)?)?;
     let count = slots.len();
     let world = begun(alloc, store, table, confs(alloc)?, slots)?;

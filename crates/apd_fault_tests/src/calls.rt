@@ -20,21 +20,12 @@ pub(crate) fn formatted<D: Disk + Drop>(alloc: Global, disk: D) -> Option<D> {
     Some(format(alloc, disk).ok()?.into_device())
 }
 
-/// The table that a device shows; else why there is none, beside the device.
+/// The store that a device holds, and its table; else why there is none, beside the device.
 pub(crate) fn recovered<D: Disk + Drop>(
     alloc: Global,
     device: D,
-) -> Result<Table, (D, StoreFault)> {
-    let (_store, table) = recover(alloc, device)?;
-    Ok(table)
-}
-
-/// The store that a device holds, and its table.
-pub(crate) fn recovered_store<D: Disk + Drop>(
-    alloc: Global,
-    device: D,
-) -> Option<(Store<D>, Table)> {
-    recover(alloc, device).ok()
+) -> Result<(Store<D>, Table), (D, StoreFault)> {
+    recover(alloc, device)
 }
 
 /// The built-in configuration alone.

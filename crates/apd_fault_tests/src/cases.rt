@@ -1,41 +1,43 @@
-//! Sessions in which the call behind so many others fails, in rows: what is told, and what is found.
-use crate::devices::{device_after, device_of, full_image, new_image, shown};
-use crate::sessions::{Behind, REFUSED, Run, Seen, Session, run};
-use apd_disk::{Call, FuseDisk, MemDisk, OnceDisk, Torn};
+//! Sessions in which the call behind so many others fails, in rows: what is told, which calls are made of the device,
+//! and what is then found on it.
+use crate::calls::recovered;
+use crate::devices::{device_of, full_image, new_image, place_of, shown};
+use crate::expected::{served, served_before_a_recovery};
+use crate::sessions::{Behind, REFUSED, Seen, Session, run};
+use apd_disk::{Disk, FuseDisk, MemDisk, OnceDisk, Torn};
 use std::alloc::Global;
 
 /// So many calls of the device a recovery makes, with which each session begins: a sync and a read.
 pub(crate) const RECOVERY: u64 = 2;
 
-/// So many calls behind the recovery are answered well, and the next one, if there is one, fails. Behind it this is the
-/// greatest number that was spoken of, and so many outs were given. Then this table is found where the bytes of what
-/// was not synced are as they were written, or all 1, and this one where they are any others.
+/// How the device fails, and in which way it is then found.
 #[derive(Clone, Copy, Debug, PartialEq, Eq)]
-pub(crate) struct Row {
-    pub(crate) calls: u64,
-    pub(crate) spoken: u64,
-    pub(crate) outs: u64,
-    pub(crate) written: u64,
-    pub(crate) other: u64,
+pub(crate) enum Way {
+    /// For good: the call is passed on, and no other one. A stop leaves such bytes.
+    Fuse(Torn),
+    /// Once: the call is not passed on, and the device is good again. A stop leaves such bytes.
+    Once(Torn),
+    /// Once, and the device is handed back.
+    HandedBack,
 }
 
-/// The same in short.
-pub(crate) fn row_of(calls: u64, spoken: u64, outs: u64, written: u64, other: u64) -> Row {
-    Row {
-        calls,
-        spoken,
-        outs,
-        written,
-        other,
-    }
-}
+/// A row of a table. So many calls behind the recovery are answered well, and the next one, if there is one, fails.
+/// Then this is the greatest number that was spoken of, and so many outs were given. And these are the tables that are
+/// found, one in each column.
+pub(crate) type Row = (u64, u64, usize, &'static [u64]);
 
-/// The table of a row that is to be found where a stop leaves such bytes, or where there is none.
-fn table_of(row: Row, torn: Option<Torn>) -> u64 {
-    match torn {
-        None | Some(Torn::New) | Some(Torn::Byte(1)) => row.written,
-        Some(Torn::Old) | Some(Torn::Byte(_)) => row.other,
-    }
+/// What comes of a session.
+#[derive(Clone, Copy, Debug, PartialEq, Eq)]
+pub(crate) struct Ended {
+    seen: Seen,
+    /// What is told behind it where the device failed.
+    behind: Option<Behind>,
+    /// How many calls of the device failed, those that were not passed on too.
+    failures: u64,
+    /// How many calls of the session the device has served; none where it has served any other.
+    served: Option<usize>,
+    /// The table that is found on it; none where there is another one, or none.
+    table: Option<u64>,
 }
 
 /// How many calls a session makes, and how many of its own commit stand before the one behind so many.
@@ -46,22 +48,34 @@ fn parts(session: Session, calls: u64) -> (u64, u64) {
     }
 }
 
-/// What is seen of a session, and what is told behind it where the device failed.
-pub(crate) type Told = (Seen, Option<Behind>);
+/// How many calls the device is to serve of so many, where the next one fails or there is none.
+fn to_be_served(way: Way, calls: u64, fails: bool) -> Option<usize> {
+    let passed_on = fails && matches!(way, Way::Fuse(_));
+    usize::try_from(calls.checked_add(if passed_on { 1 } else { 0 })?).ok()
+}
 
-/// What is to be told by a row. The ten calls that are tried each time are the calls that are answered well, the one
-/// that fails, and those that are refused for it.
-fn expected(session: Session, row: Row) -> Told {
-    let (all, own) = parts(session, row.calls);
-    let fails = row.calls < all;
+/// What is to come of it by a column of a row. The ten calls that are tried of each commit are the calls that are
+/// answered well, the one that fails, and those that are refused for it.
+fn expected(session: Session, way: Way, row: Row, column: usize) -> Option<Ended> {
+    let (calls, spoken, outs, tables) = row;
+    let (all, own) = parts(session, calls);
+    let fails = calls < all;
+    let faults = if fails { 1 } else { 0 };
     let seen = Seen {
-        calls: row.calls,
-        faults: if fails { 1 } else { 0 },
+        calls,
+        faults,
         failed: if fails { 9_u64.saturating_sub(own) } else { 0 },
-        spoken: row.spoken,
-        outs: row.outs,
+        spoken,
+        outs,
+        others: 0,
     };
-    (seen, if fails { Some(REFUSED) } else { None })
+    Some(Ended {
+        seen,
+        behind: if fails { Some(REFUSED) } else { None },
+        failures: faults,
+        served: Some(to_be_served(way, calls, fails)?),
+        table: Some(*tables.get(column)?),
+    })
 }
 
 /// The bytes that a session begins with.
@@ -72,109 +86,109 @@ pub(crate) fn image_of(alloc: Global, session: Session) -> Option<Vec<u8>> {
     }
 }
 
-/// What a device shows that held these bytes and has served these calls, behind a stop that leaves such bytes, or
-/// without one.
-fn shown_after(alloc: Global, image: &[u8], calls: &[Call], torn: Option<Torn>) -> Option<u64> {
-    let device = device_after(alloc, image, calls)?;
-    match torn {
-        Some(torn) => shown(alloc, device.crash(torn)),
-        None => shown(alloc, device),
-    }
-}
-
-/// The call behind so many others, or none, is passed on and fails, and no other is passed on from then on.
-fn fused(alloc: Global, session: Session, image: &[u8], calls: u64) -> Option<Run<MemDisk>> {
-    let fuse = FuseDisk::new(device_of(alloc, image)?, RECOVERY.saturating_add(calls));
-    let (seen, behind, fuse) = run(alloc, session, fuse)?;
-    Some((seen, behind, fuse.into_inner()))
-}
-
-/// It is not passed on, and fails alone: the device is good again.
-fn once(alloc: Global, session: Session, image: &[u8], calls: u64) -> Option<Run<MemDisk>> {
-    let once = OnceDisk::new(device_of(alloc, image)?, RECOVERY.saturating_add(calls));
-    let (seen, behind, once) = run(alloc, session, once)?;
-    Some((seen, behind, once.into_inner()))
-}
-
-/// How a call fails.
-#[derive(Clone, Copy, Debug, PartialEq, Eq)]
-pub(crate) enum Fault {
-    ForGood,
-    Once,
-}
-
-fn run_with(
+/// The device behind a session, stopped.
+fn stopped(
     alloc: Global,
     session: Session,
-    fault: Fault,
-    image: &[u8],
+    device: MemDisk,
+    torn: Torn,
+) -> (Option<usize>, Option<u64>) {
+    let served = served(session, device.calls());
+    (served, shown(alloc, device.crash(torn)))
+}
+
+fn fused(
+    alloc: Global,
+    session: Session,
+    device: MemDisk,
     calls: u64,
-) -> Option<Run<MemDisk>> {
-    match fault {
-        Fault::ForGood => fused(alloc, session, image, calls),
-        Fault::Once => once(alloc, session, image, calls),
-    }
+    torn: Torn,
+) -> Option<Ended> {
+    let (seen, behind, fuse) = run(alloc, session, FuseDisk::new(device, calls))?;
+    let failures = fuse.failures();
+    let (served, table) = stopped(alloc, session, fuse.into_inner(), torn);
+    Some(Ended {
+        seen,
+        behind,
+        failures,
+        served,
+        table,
+    })
 }
 
-/// What is not as by a row.
-#[derive(Clone, Copy, Debug, PartialEq, Eq)]
-pub(crate) enum Difference {
-    Memory,
-    Told(Told),
-    /// How a stop leaves the bytes, and what is found.
-    Table(Option<Torn>, Option<u64>),
+fn once(alloc: Global, session: Session, device: MemDisk, calls: u64, torn: Torn) -> Option<Ended> {
+    let (seen, behind, once) = run(alloc, session, OnceDisk::new(device, calls))?;
+    let failures = once.failures();
+    let (served, table) = stopped(alloc, session, once.into_inner(), torn);
+    Some(Ended {
+        seen,
+        behind,
+        failures,
+        served,
+        table,
+    })
 }
 
-/// The first of these ways to leave the bytes by which another table is found, and which.
-fn other_table(
+/// The very device that failed is recovered; where no call has failed yet, the one inside, since the other one would
+/// fail the recovery's own. Then the device, and the table.
+fn recovered_once(
     alloc: Global,
-    row: Row,
-    image: &[u8],
-    calls: &[Call],
-    stops: &[Option<Torn>],
-) -> Option<Difference> {
-    for torn in stops {
-        let found = shown_after(alloc, image, calls, *torn);
-        if found != Some(table_of(row, *torn)) {
-            return Some(Difference::Table(*torn, found));
-        }
+    once: OnceDisk<MemDisk>,
+    faults: u64,
+) -> Option<(MemDisk, Option<u64>)> {
+    if faults == 0 {
+        let (store, table) = recovered(alloc, once.into_inner()).ok()?;
+        return Some((store.into_device(), place_of(&table)));
     }
-    None
+    let (store, table) = recovered(alloc, once).ok()?;
+    Some((store.into_device().into_inner(), place_of(&table)))
 }
 
-/// What is not as by this row.
-fn difference_by(
-    alloc: Global,
-    session: Session,
-    fault: Fault,
-    image: &[u8],
-    row: Row,
-    stops: &[Option<Torn>],
-) -> Option<Difference> {
-    let Some((seen, behind, device)) = run_with(alloc, session, fault, image, row.calls) else {
-        return Some(Difference::Memory);
-    };
-    if (seen, behind) != expected(session, row) {
-        return Some(Difference::Told((seen, behind)));
-    }
-    other_table(alloc, row, image, device.calls(), stops)
+fn handed_back(alloc: Global, session: Session, device: MemDisk, calls: u64) -> Option<Ended> {
+    let (seen, behind, once) = run(alloc, session, OnceDisk::new(device, calls))?;
+    let failures = once.failures();
+    let (device, table) = recovered_once(alloc, once, seen.faults)?;
+    Some(Ended {
+        seen,
+        behind,
+        failures,
+        served: served_before_a_recovery(session, device.calls()),
+        table,
+    })
 }
 
-/// The first of these rows that does not hold, and why. Each session is run once, and its device is then stopped in
-/// each of these ways.
+/// What comes of a session on these bytes in which the call behind so many fails.
+fn end_of(alloc: Global, session: Session, way: Way, image: &[u8], calls: u64) -> Option<Ended> {
+    let device = device_of(alloc, image)?;
+    let calls = RECOVERY.checked_add(calls)?;
+    match way {
+        Way::Fuse(torn) => fused(alloc, session, device, calls, torn),
+        Way::Once(torn) => once(alloc, session, device, calls, torn),
+        Way::HandedBack => handed_back(alloc, session, device, calls),
+    }
+}
+
+/// Whether it is what is to come of it.
+fn holds(ended: Option<Ended>, expected: Option<Ended>) -> bool {
+    ended.is_some() && ended == expected
+}
+
+/// The first of these rows that does not hold in its column, by its calls, and what comes of it; none where memory
+/// lacks.
 pub(crate) fn otherwise(
     alloc: Global,
     session: Session,
-    fault: Fault,
+    way: Way,
     rows: &[Row],
-    stops: &[Option<Torn>],
-) -> Option<(Row, Difference)> {
+    column: usize,
+) -> Option<(u64, Option<Ended>)> {
     let Some(image) = image_of(alloc, session) else {
-        return Some((*rows.first()?, Difference::Memory));
+        return Some((0, None));
     };
     for row in rows {
-        if let Some(found) = difference_by(alloc, session, fault, &image, *row, stops) {
-            return Some((*row, found));
+        let ended = end_of(alloc, session, way, &image, row.0);
+        if !holds(ended, expected(session, way, *row, column)) {
+            return Some((row.0, ended));
         }
     }
     None

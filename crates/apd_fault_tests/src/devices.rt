@@ -2,7 +2,7 @@
 use crate::calls::{formatted, recovered};
 use crate::sessions::{STATION, WLAN0};
 use apd_base::{Aid, Association, Station};
-use apd_disk::{Call, Disk, MemDisk};
+use apd_disk::{Disk, MemDisk};
 use apd_table::Table;
 use std::alloc::Global;
 
@@ -59,7 +59,7 @@ fn add_half(bytes: &mut Vec<u8>, epoch: u64, rows: u32) -> Option<()> {
 /// this epoch, with its station too, and no room for one more group of it.
 pub(crate) fn full_image(alloc: Global, epoch: u64) -> Option<Vec<u8>> {
     let mut bytes = Vec::new(alloc);
-    bytes.extend_from_slice(b"RAPSTOR1").ok()?;
+    bytes.extend_from_slice(b"RAPSTOR2").ok()?;
     pad(&mut bytes, HALF_A)?;
     add_half(&mut bytes, 1, 0)?;
     pad(&mut bytes, HALF_B)?;
@@ -71,32 +71,6 @@ pub(crate) fn full_image(alloc: Global, epoch: u64) -> Option<Vec<u8>> {
 /// A device that holds these bytes, and has served no call.
 pub(crate) fn device_of(alloc: Global, image: &[u8]) -> Option<MemDisk> {
     MemDisk::new(alloc, image.to_vec(alloc).ok()?).ok()
-}
-
-fn write_again(device: &mut MemDisk, at: usize, bytes: &[u8]) -> Option<()> {
-    if at.checked_add(bytes.len())? > device.len() {
-        return None;
-    }
-    device.write_at(at, bytes).ok()
-}
-
-/// Makes a call again, but for a read.
-fn again(device: &mut MemDisk, call: &Call) -> Option<()> {
-    match call {
-        Call::Read(_, _) => Some(()),
-        Call::Write(at, bytes) => write_again(device, *at, bytes.as_slice()),
-        Call::Sync => device.sync().ok(),
-    }
-}
-
-/// A device that held these bytes, and has served these calls but for the reads: a stop leaves of it what it leaves of
-/// the one that served them first.
-pub(crate) fn device_after(alloc: Global, image: &[u8], calls: &[Call]) -> Option<MemDisk> {
-    let mut device = device_of(alloc, image)?;
-    for call in calls {
-        again(&mut device, call)?;
-    }
-    Some(device)
 }
 
 /// The station's association by its second request.
@@ -126,5 +100,6 @@ pub(crate) fn place_of(table: &Table) -> Option<u64> {
 
 /// Which table a device shows.
 pub(crate) fn shown<D: Disk + Drop>(alloc: Global, device: D) -> Option<u64> {
-    place_of(&recovered(alloc, device).ok()?)
+    let (_store, table) = recovered(alloc, device).ok()?;
+    place_of(&table)
 }

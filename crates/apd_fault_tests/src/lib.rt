@@ -35,6 +35,7 @@
 //! | `read_groups`, `plan` | `three_groups`, `plans`, `apd_device_tests` |
 //! | `Store::begin` | `the_calls_of_a_commit`, `apd_device_tests` |
 //! | `recover` | `two_open_halves`, `apd_device_tests` |
+//! | `upgrade` | `the_bytes_of_a_copy`, `apd_device_tests` |
 //! | `Flusher::{new, load, commit}` | `the_bytes_of_two_commits`, `apd_device_tests` |
 //! | `Committer::load` | `a_batch_waits_until_the_one_in_flight_is_published`, `apd_device_tests` |
 //! | `Replaying::new`, `Call::read` in it, `Sim::install` | `each_kind_in_a_box`, `apd_device_tests` |
@@ -46,17 +47,28 @@
 //! | `Slot::poll` | `a_slot_gives_what_its_radio_received`, the same |
 //! | `Slot::resume` | `a_slot_resumes_its_own_rows_in_order`, the same |
 //! | `Slot::replace` | `each_kind_is_replaced_by_another`, the same |
-//! | `Core`, its calls | `five_thousand_requests_against_a_plain_list`, `apd_core_tests` |
-//! | `drive`, `World::step` in it, `restart` | `the_bytes_after_an_authentication`, `apd_world_tests` |
+//! | `Slot::resync` | `a_slot_gives_its_radio_anew_what_is_wanted`, the same |
+//! | `Core::{new, accept, take}` | `five_thousand_requests_against_a_plain_list`, `apd_core_tests` |
+//! | `Core::{publish, hand, read}` | `a_station_is_told_as_it_was_settled`, `apd_core_tests` |
+//! | `drive`, `restart` | `the_bytes_after_an_authentication`, `apd_world_tests` |
+//! | `World::step`, `DurableCore::step` | the same, in `drive` |
 //! | `World::commit` | `a_commit_settles_all_that_waits`, here |
 //! | `begin_anew`, `slots_for` | `a_world_is_begun_anew`, here |
-//! | `World::{start, flush, hand_out}` | `a_start_tells_what_a_radio_was_not_given`, and its like, `apd_world_tests` |
+//! | `World::start` | `a_start_tells_what_a_radio_was_not_given`, `apd_world_tests` |
+//! | `World::flush` | `a_flush_tells_what_a_radio_was_not_given`, `apd_world_tests` |
+//! | `World::hand_out` | `a_hand_out_tells_what_a_radio_was_not_given`, `apd_world_tests` |
+//! | `World::replace` | `other_radios_have_the_stations_of_the_table`, `apd_world_tests` |
 //! | `Shared::{submit, ask}` | `each_seat_its_station`, `apd_desk_tests` |
 //! | `Shared::collect` | `what_is_collected_is_what_a_core_hands_out`, `apd_desk_tests` |
 //! | `radio_worker`, `Shared::hand` in it | `a_frame_is_heard_at_its_moment`, `apd_desk_tests` |
+//! | `control_worker` | `a_command_is_of_the_interface_that_it_names`, `apd_desk_tests` |
+//! | `tick_worker` | `two_silent_stations_go_a_second_apart`, `apd_desk_tests` |
+//! | `commit_all` | `a_batch_that_a_committer_held_is_settled`, `apd_desk_tests` |
+//! | `flush_worker` | `a_commit_that_is_refused_memory_is_tried_again`, `apd_desk_tests` |
 //! | `ControlPort`, `Senders::add` in it, `serve` | `each_sender_gets_its_own_replies`, `apd_serve_tests` |
-//! | `run`, `open_disk` in it | `a_second_run_goes_on_where_the_first_ended`, `apd_serve_tests` |
+//! | `run`, `open_disk` and `opened` in it | `a_second_run_goes_on_where_the_first_ended`, `apd_serve_tests` |
 //! | `run_check` | `a_check_prints_a_line_for_each_bssid_rising`, `apd_script_tests` |
+//! | `run_upgrade` | `a_store_of_version_1_is_copied`, `apd` |
 //! | `new_store`, `run_on_store` | `lines_end_at_a_newline_alone_and_the_last_needs_none`, `apd_script_tests` |
 //! | `run_script` | `a_stop_takes_a_fresh_radio_from_the_front_for_each_slot`, `apd_script_tests` |
 //! | `write_out` | `driver_calls_are_printed_in_these_words`, `apd_script_tests` |
@@ -74,6 +86,8 @@ mod calls;
 mod cases;
 #[cfg(test)]
 mod devices;
+#[cfg(test)]
+mod expected;
 #[cfg(test)]
 mod fuse_each_call;
 #[cfg(test)]

@@ -1,111 +1,167 @@
 //! Each device call of a session fails once, in turn: it is not passed on, and the device is good again behind it. The
-//! flusher stays failed all the same.
-use crate::cases::{Difference, Fault, Row, otherwise, row_of};
+//! flusher stays failed all the same. Then the very device is recovered; or it stops before that.
+use crate::cases::{Ended, Row, Way, otherwise};
 use crate::sessions::Session;
 use apd_disk::Torn;
 use std::alloc::Global;
 
-/// The row that does not hold, with a stop behind it of each kind, and without one.
-fn in_commits(alloc: Global, rows: &[Row]) -> Option<(Row, Difference)> {
-    let stops = [
-        None,
-        Some(Torn::Old),
-        Some(Torn::New),
-        Some(Torn::Byte(0x01)),
-        Some(Torn::Byte(0x7f)),
-    ];
-    otherwise(alloc, Session::ThreeCommits, Fault::Once, rows, &stops)
+/// The three commits. Where the fourth call of one fails its gate is written, and not synced.
+const IN_COMMITS: [Row; 13] = [
+    // calls, the number spoken, the outs given; the tables of the device handed back, and where it stops and bytes are
+    // as they were, as written, 01, 7f
+    (0, 0, 0, &[0, 0, 0, 0, 0]),
+    (1, 0, 0, &[0, 0, 0, 0, 0]),
+    (2, 0, 0, &[0, 0, 0, 0, 0]),
+    (3, 0, 0, &[1, 0, 1, 1, 0]),
+    (4, 1, 0, &[1, 1, 1, 1, 1]),
+    (5, 1, 0, &[1, 1, 1, 1, 1]),
+    (6, 1, 0, &[1, 1, 1, 1, 1]),
+    (7, 1, 0, &[2, 1, 2, 2, 1]),
+    (8, 2, 1, &[2, 2, 2, 2, 2]),
+    (9, 2, 1, &[2, 2, 2, 2, 2]),
+    (10, 2, 1, &[2, 2, 2, 2, 2]),
+    (11, 2, 1, &[3, 2, 3, 3, 2]),
+    (12, 3, 3, &[3, 3, 3, 3, 3]),
+];
+
+/// The commit on a full store.
+const IN_A_SWITCH: [Row; 11] = [
+    // calls, the number spoken, the outs given; the tables of the device handed back, and where it stops and bytes are
+    // as they were, as written, 01, 7f, ff
+    (0, 0, 0, &[2, 2, 2, 2, 2, 2]),
+    (1, 0, 0, &[2, 2, 2, 2, 2, 2]),
+    (2, 0, 0, &[2, 2, 2, 2, 2, 2]),
+    (3, 0, 0, &[2, 2, 2, 2, 2, 2]),
+    (4, 0, 0, &[2, 2, 2, 2, 2, 2]),
+    (5, 0, 0, &[2, 2, 2, 2, 2, 2]),
+    (6, 0, 0, &[2, 2, 2, 2, 2, 2]),
+    (7, 0, 0, &[2, 2, 2, 2, 2, 2]),
+    (8, 0, 0, &[2, 2, 2, 2, 2, 2]),
+    (9, 0, 0, &[3, 2, 3, 3, 2, 2]),
+    (10, 1, 2, &[3, 3, 3, 3, 3, 3]),
+];
+
+/// The row that does not hold in this column.
+fn in_commits(alloc: Global, way: Way, column: usize) -> Option<(u64, Option<Ended>)> {
+    otherwise(alloc, Session::ThreeCommits, way, &IN_COMMITS, column)
 }
 
-// Where the fourth call of a commit fails the gate is written, and not synced.
-#[test]
-fn in_the_first_commit(rt: HostRuntime) {
-    let rows = [
-        row_of(0, 0, 0, 0, 0),
-        row_of(1, 0, 0, 0, 0),
-        row_of(2, 0, 0, 0, 0),
-        row_of(3, 0, 0, 1, 0),
-    ];
-    assert_eq!(rt; in_commits(rt.alloc(), &rows), None);
+/// That of the first six rows, and that of the others.
+fn in_a_switch(alloc: Global, way: Way, column: usize) -> Option<(u64, Option<Ended>)> {
+    let (rows, _) = IN_A_SWITCH.split_at(6);
+    otherwise(alloc, Session::OneSwitch, way, rows, column)
 }
 
-#[test]
-fn in_the_second_commit(rt: HostRuntime) {
-    let rows = [
-        row_of(4, 1, 0, 1, 1),
-        row_of(5, 1, 0, 1, 1),
-        row_of(6, 1, 0, 1, 1),
-        row_of(7, 1, 0, 2, 1),
-    ];
-    assert_eq!(rt; in_commits(rt.alloc(), &rows), None);
-}
-
-#[test]
-fn in_the_third_commit(rt: HostRuntime) {
-    let rows = [
-        row_of(8, 2, 1, 2, 2),
-        row_of(9, 2, 1, 2, 2),
-        row_of(10, 2, 1, 2, 2),
-        row_of(11, 2, 1, 3, 2),
-        row_of(12, 3, 3, 3, 3),
-    ];
-    assert_eq!(rt; in_commits(rt.alloc(), &rows), None);
-}
-
-/// The same on a full store.
-fn in_a_switch(alloc: Global, rows: &[Row]) -> Option<(Row, Difference)> {
-    let stops = [
-        None,
-        Some(Torn::Old),
-        Some(Torn::New),
-        Some(Torn::Byte(0x01)),
-        Some(Torn::Byte(0x7f)),
-        Some(Torn::Byte(0xff)),
-    ];
-    otherwise(alloc, Session::OneSwitch, Fault::Once, rows, &stops)
+fn behind_a_switch(alloc: Global, way: Way, column: usize) -> Option<(u64, Option<Ended>)> {
+    let (_, rows) = IN_A_SWITCH.split_at(6);
+    otherwise(alloc, Session::OneSwitch, way, rows, column)
 }
 
 #[test]
-fn in_call_1_of_a_switch(rt: HostRuntime) {
-    assert_eq!(rt; in_a_switch(rt.alloc(), &[row_of(0, 0, 0, 2, 2)]), None);
+fn in_commits_it_is_handed_back(rt: HostRuntime) {
+    assert_eq!(rt; in_commits(rt.alloc(), Way::HandedBack, 0), None);
 }
 
 #[test]
-fn in_call_2_of_a_switch(rt: HostRuntime) {
-    assert_eq!(rt; in_a_switch(rt.alloc(), &[row_of(1, 0, 0, 2, 2)]), None);
+fn in_commits_bytes_are_as_they_were(rt: HostRuntime) {
+    assert_eq!(rt; in_commits(rt.alloc(), Way::Once(Torn::Old), 1), None);
 }
 
 #[test]
-fn in_call_3_of_a_switch(rt: HostRuntime) {
-    assert_eq!(rt; in_a_switch(rt.alloc(), &[row_of(2, 0, 0, 2, 2)]), None);
+fn in_commits_bytes_are_as_written(rt: HostRuntime) {
+    assert_eq!(rt; in_commits(rt.alloc(), Way::Once(Torn::New), 2), None);
 }
 
 #[test]
-fn in_call_4_of_a_switch(rt: HostRuntime) {
-    assert_eq!(rt; in_a_switch(rt.alloc(), &[row_of(3, 0, 0, 2, 2)]), None);
+fn in_commits_bytes_are_01(rt: HostRuntime) {
+    assert_eq!(rt;
+        in_commits(rt.alloc(), Way::Once(Torn::Byte(0x01)), 3),
+        None
+    );
 }
 
 #[test]
-fn in_call_5_of_a_switch(rt: HostRuntime) {
-    assert_eq!(rt; in_a_switch(rt.alloc(), &[row_of(4, 0, 0, 2, 2)]), None);
+fn in_commits_bytes_are_7f(rt: HostRuntime) {
+    assert_eq!(rt;
+        in_commits(rt.alloc(), Way::Once(Torn::Byte(0x7f)), 4),
+        None
+    );
 }
 
 #[test]
-fn in_calls_6_to_8_of_a_switch(rt: HostRuntime) {
-    let rows = [
-        row_of(5, 0, 0, 2, 2),
-        row_of(6, 0, 0, 2, 2),
-        row_of(7, 0, 0, 2, 2),
-    ];
-    assert_eq!(rt; in_a_switch(rt.alloc(), &rows), None);
+fn in_a_switch_it_is_handed_back(rt: HostRuntime) {
+    assert_eq!(rt; in_a_switch(rt.alloc(), Way::HandedBack, 0), None);
 }
 
 #[test]
-fn in_calls_9_and_10_of_a_switch(rt: HostRuntime) {
-    let rows = [
-        row_of(8, 0, 0, 2, 2),
-        row_of(9, 0, 0, 3, 2),
-        row_of(10, 1, 2, 3, 3),
-    ];
-    assert_eq!(rt; in_a_switch(rt.alloc(), &rows), None);
+fn in_a_switch_bytes_are_as_they_were(rt: HostRuntime) {
+    assert_eq!(rt; in_a_switch(rt.alloc(), Way::Once(Torn::Old), 1), None);
+}
+
+#[test]
+fn in_a_switch_bytes_are_as_written(rt: HostRuntime) {
+    assert_eq!(rt; in_a_switch(rt.alloc(), Way::Once(Torn::New), 2), None);
+}
+
+#[test]
+fn in_a_switch_bytes_are_01(rt: HostRuntime) {
+    assert_eq!(rt;
+        in_a_switch(rt.alloc(), Way::Once(Torn::Byte(0x01)), 3),
+        None
+    );
+}
+
+#[test]
+fn in_a_switch_bytes_are_7f(rt: HostRuntime) {
+    assert_eq!(rt;
+        in_a_switch(rt.alloc(), Way::Once(Torn::Byte(0x7f)), 4),
+        None
+    );
+}
+
+#[test]
+fn in_a_switch_bytes_are_ff(rt: HostRuntime) {
+    assert_eq!(rt;
+        in_a_switch(rt.alloc(), Way::Once(Torn::Byte(0xff)), 5),
+        None
+    );
+}
+
+#[test]
+fn behind_a_switch_it_is_handed_back(rt: HostRuntime) {
+    assert_eq!(rt; behind_a_switch(rt.alloc(), Way::HandedBack, 0), None);
+}
+
+#[test]
+fn behind_a_switch_bytes_are_as_they_were(rt: HostRuntime) {
+    assert_eq!(rt; behind_a_switch(rt.alloc(), Way::Once(Torn::Old), 1), None);
+}
+
+#[test]
+fn behind_a_switch_bytes_are_as_written(rt: HostRuntime) {
+    assert_eq!(rt; behind_a_switch(rt.alloc(), Way::Once(Torn::New), 2), None);
+}
+
+#[test]
+fn behind_a_switch_bytes_are_01(rt: HostRuntime) {
+    assert_eq!(rt;
+        behind_a_switch(rt.alloc(), Way::Once(Torn::Byte(0x01)), 3),
+        None
+    );
+}
+
+#[test]
+fn behind_a_switch_bytes_are_7f(rt: HostRuntime) {
+    assert_eq!(rt;
+        behind_a_switch(rt.alloc(), Way::Once(Torn::Byte(0x7f)), 4),
+        None
+    );
+}
+
+#[test]
+fn behind_a_switch_bytes_are_ff(rt: HostRuntime) {
+    assert_eq!(rt;
+        behind_a_switch(rt.alloc(), Way::Once(Torn::Byte(0xff)), 5),
+        None
+    );
 }

@@ -1,9 +1,10 @@
 //! Recoveries of which a call fails, and how many calls there are.
-use crate::calls::{confs, recovered, restarted};
+use crate::calls::{confs, flusher, recovered, restarted};
 use crate::cases::{RECOVERY, image_of};
-use crate::devices::{device_of, place_of, shown};
+use crate::devices::{device_of, full_image, place_of};
+use crate::expected::{Made, RECOVERS, behind};
 use crate::sessions::{Session, run, slots};
-use apd_disk::{Disk, FuseDisk, MemDisk, OnceDisk};
+use apd_disk::{FuseDisk, MemDisk, OnceDisk, Torn};
 use apd_store::StoreFault;
 use apd_world::WorldFault;
 use std::alloc::Global;
@@ -51,66 +52,137 @@ fn a_recovery_makes_two_calls(rt: HostRuntime) {
     }
 }
 
-/// Why a recovery is refused, if it is, and the table that it finds, or another one behind it of the device that comes
-/// back.
-type Recovery = (Option<StoreFault>, Option<u64>);
+/// The calls of a recovery, and those of one whose read is not passed on, with another behind it.
+const ONE: &[Made] = &RECOVERS;
 
-fn recovery<D: Disk + Drop>(alloc: Global, device: D) -> Recovery {
-    match recovered(alloc, device) {
-        Ok(table) => (None, place_of(&table)),
-        Err((device, fault)) => (Some(fault), shown(alloc, device)),
-    }
+const TWO_OF_ONE_READ: &[Made] = &[Made::Sync, Made::Sync, Made::Read(0, 2_097_216)];
+
+/// Whether a device has served these calls behind so many.
+fn has_served(device: &MemDisk, before: usize, made: &[Made]) -> bool {
+    let calls = device.calls().get(before..).unwrap_or(&[]);
+    behind(calls, made).is_some_and(|rest| rest.is_empty())
 }
 
-/// The same where the call behind so many others fails.
-fn recovery_of(alloc: Global, session: Session, calls: u64) -> Option<Recovery> {
-    let once = OnceDisk::new(device_behind(alloc, session)?, calls);
-    Some(recovery(alloc, once))
+/// Why a recovery is refused, if it is; the table that it finds, or another one behind it of the very device that comes
+/// back; and this device.
+type Recovery = (Option<StoreFault>, Option<u64>, MemDisk);
+
+fn recovery(alloc: Global, device: OnceDisk<MemDisk>) -> Option<Recovery> {
+    let (device, fault) = match recovered(alloc, device) {
+        Ok((store, table)) => {
+            return Some((None, place_of(&table), store.into_device().into_inner()));
+        }
+        Err(refused) => refused,
+    };
+    let (store, table) = recovered(alloc, device).ok()?;
+    let device = store.into_device().into_inner();
+    Some((Some(fault), place_of(&table), device))
+}
+
+/// The same where the call behind so many others fails, and whether these calls and no others are passed on.
+fn recovery_of(
+    alloc: Global,
+    session: Session,
+    calls: u64,
+    made: &[Made],
+) -> Option<(Option<StoreFault>, Option<u64>, bool)> {
+    let device = device_behind(alloc, session)?;
+    let before = device.calls().len();
+    let (fault, table, device) = recovery(alloc, OnceDisk::new(device, calls))?;
+    Some((fault, table, has_served(&device, before, made)))
 }
 
 #[test]
-fn each_call_of_a_recovery_fails_once(rt: HostRuntime) -> Result<(), Fail> {
+fn once_each_call_of_a_recovery(rt: HostRuntime) {
     let fault = Some(StoreFault::Device);
-    for (session, calls, refusal, table) in [
-        (Session::ThreeCommits, 0, fault, 3),
-        (Session::ThreeCommits, 1, fault, 3),
-        (Session::ThreeCommits, 2, None, 3),
-        (Session::OneSwitch, 0, fault, 3),
-        (Session::OneSwitch, 1, fault, 3),
-        (Session::OneSwitch, 2, None, 3),
-    ] {
-        let found = recovery_of(rt.alloc(), session, calls).ok_or("memory")?;
-        assert_eq!(rt; found, (refusal, Some(table)), "{calls} of {session:?}");
-    }
-    Ok(())
-}
-
-/// Why a restart is refused, if it is, how many slots come back, and the table of the world, or of another one of what
-/// came back.
-type Restart = (Option<WorldFault>, usize, Option<u64>);
-
-fn restart<D: Disk + Drop>(alloc: Global, device: D) -> Option<Restart> {
-    match restarted(alloc, device, confs(alloc)?, slots(alloc)?) {
-        Ok(world) => Some((None, 0, place_of(world.table()))),
-        Err((device, slots, fault)) => {
-            let count = slots.len();
-            let world = restarted(alloc, device, confs(alloc)?, slots).ok()?;
-            Some((Some(fault), count, place_of(world.table())))
+    for session in [Session::ThreeCommits, Session::OneSwitch] {
+        for (calls, refusal, made) in [
+            (0, fault, ONE),
+            (1, fault, TWO_OF_ONE_READ),
+            (2, None, ONE),
+        ] {
+            let found = recovery_of(rt.alloc(), session, calls, made);
+            let wanted = Some((refusal, Some(3), true));
+            assert_eq!(rt; found, wanted, "{calls} of {session:?}");
         }
     }
 }
 
-/// The same where the call behind so many others fails.
-fn restart_of(alloc: Global, calls: u64) -> Option<Restart> {
-    let once = OnceDisk::new(device_behind(alloc, Session::ThreeCommits)?, calls);
-    restart(alloc, once)
+/// Why a restart is refused, if it is; how many slots come back; the table of the world, or of another one of what came
+/// back; and the device.
+type Restart = (Option<WorldFault>, usize, Option<u64>, MemDisk);
+
+fn restart(alloc: Global, device: OnceDisk<MemDisk>) -> Option<Restart> {
+    let (device, slots, fault) = match restarted(alloc, device, confs(alloc)?, slots(alloc)?) {
+        Ok(world) => {
+            let table = place_of(world.table());
+            let device = flusher(world).into_device().into_inner();
+            return Some((None, 0, table, device));
+        }
+        Err(refused) => refused,
+    };
+    let count = slots.len();
+    let world = restarted(alloc, device, confs(alloc)?, slots).ok()?;
+    let table = place_of(world.table());
+    let device = flusher(world).into_device().into_inner();
+    Some((Some(fault), count, table, device))
+}
+
+/// The same where the call behind so many others fails, and whether these calls and no others are passed on.
+fn restart_of(
+    alloc: Global,
+    calls: u64,
+    made: &[Made],
+) -> Option<(Option<WorldFault>, usize, Option<u64>, bool)> {
+    let device = device_behind(alloc, Session::ThreeCommits)?;
+    let before = device.calls().len();
+    let (fault, slots, table, device) = restart(alloc, OnceDisk::new(device, calls))?;
+    Some((fault, slots, table, has_served(&device, before, made)))
 }
 
 #[test]
-fn each_call_of_a_restart_fails_once(rt: HostRuntime) {
+fn once_each_call_of_a_restart(rt: HostRuntime) {
     let fault = Some(WorldFault::Store(StoreFault::Device));
-    for (calls, refusal, slots) in [(0, fault, 1), (1, fault, 1), (2, None, 0)] {
-        let found = restart_of(rt.alloc(), calls);
-        assert_eq!(rt; found, Some((refusal, slots, Some(3))), "{calls}");
+    for (calls, refusal, slots, made) in [
+        (0, fault, 1, ONE),
+        (1, fault, 1, TWO_OF_ONE_READ),
+        (2, None, 0, ONE),
+    ] {
+        let found = restart_of(rt.alloc(), calls, made);
+        assert_eq!(rt; found, Some((refusal, slots, Some(3), true)), "{calls}");
+    }
+}
+
+/// The bytes of a store of version 1.
+fn old_image(alloc: Global) -> Option<Vec<u8>> {
+    let mut image = full_image(alloc, 2)?;
+    *image.get_mut(7)? = b'1';
+    Some(image)
+}
+
+/// Why a restart of it is refused, how many slots come back, and whether a stop leaves it as it was.
+type OldRestart = (WorldFault, usize, bool);
+
+/// The same where the call behind so many others fails for good, and a stop leaves such bytes.
+fn old_restart(alloc: Global, calls: u64, torn: Torn) -> Option<OldRestart> {
+    let image = old_image(alloc)?;
+    let fuse = FuseDisk::new(device_of(alloc, &image)?, calls);
+    let (fuse, slots, fault) = restarted(alloc, fuse, confs(alloc)?, slots(alloc)?).err()?;
+    let left = fuse.into_inner().crash(torn);
+    Some((fault, slots.len(), left.bytes() == image.as_slice()))
+}
+
+#[test]
+fn fuse_each_call_of_a_restart_of_a_store_of_version_1(rt: HostRuntime) {
+    for (calls, fault) in [
+        (0, StoreFault::Device),
+        (1, StoreFault::Device),
+        (2, StoreFault::OldVersion),
+    ] {
+        for torn in [Torn::Old, Torn::New, Torn::Byte(1), Torn::Byte(0x7f)] {
+            let found = old_restart(rt.alloc(), calls, torn);
+            let refused = (WorldFault::Store(fault), 1, true);
+            assert_eq!(rt; found, Some(refused), "{torn:?} at {calls}");
+        }
     }
 }

@@ -1,11 +1,12 @@
 //! Sessions of a world with one radio: requests, each of which is committed and handed out before the next.
 use crate::calls::{confs, flusher, load_refusal, restarted, told};
+use crate::expected::{is_given, out_at};
 use apd_base::{Addr, Bssid, Moment};
 use apd_conf::AddressList;
 use apd_core::Input;
 use apd_ctrl::Query;
 use apd_disk::Disk;
-use apd_mlme::Recipient;
+use apd_mlme::{Out, Recipient};
 use apd_radio::Sim;
 use apd_slot::Slot;
 use apd_store::StoreFault;
@@ -40,9 +41,9 @@ pub(crate) const ASSOCIATES: Step<'static> = Step::Accept(
     Moment(0),
 );
 
-/// Commits what was accepted by four calls, or ten, or as many as there are; hands it out, applies both outs at most,
-/// and asks for the first station.
-const COMMITS: [Step<'static>; 17] = [
+/// Commits what was accepted by four calls, or ten, or as many as there are; hands it out, applies all outs, of which
+/// there are two at most, and asks for the first station.
+const COMMITS: [Step<'static>; 18] = [
     Step::Take,
     Step::Call,
     Step::Call,
@@ -59,18 +60,23 @@ const COMMITS: [Step<'static>; 17] = [
     Step::Hand(Recipient::Control),
     Step::Apply(WLAN0),
     Step::Apply(WLAN0),
+    Step::Apply(WLAN0),
     Step::Ask(Query::First(WLAN0)),
 ];
 
-/// What was seen of a session: how many calls of the device were answered well, and how many were answered by `Device`
-/// and by `Failed`; the greatest number that was spoken of, and how many outs the radio was given.
+/// What was seen of a session.
 #[derive(Clone, Copy, Debug, PartialEq, Eq)]
 pub(crate) struct Seen {
+    /// How many calls of the device were answered well, by `Device`, and by `Failed`.
     pub(crate) calls: u64,
     pub(crate) faults: u64,
     pub(crate) failed: u64,
+    /// The greatest number that was spoken of.
     pub(crate) spoken: u64,
-    pub(crate) outs: u64,
+    /// How many outs the radio was given of those that it is to be given, each in its place and to the byte; and how
+    /// many others were handed out.
+    pub(crate) outs: usize,
+    pub(crate) others: usize,
 }
 
 const NOTHING: Seen = Seen {
@@ -79,15 +85,25 @@ const NOTHING: Seen = Seen {
     failed: 0,
     spoken: 0,
     outs: 0,
+    others: 0,
 };
 
+/// Adds an out that the radio was given.
+fn see_out(seen: &mut Seen, session: Session, out: &Out) {
+    match out_at(session, seen.outs) {
+        Some(given) if is_given(out, given) => seen.outs = seen.outs.saturating_add(1),
+        _ => seen.others = seen.others.saturating_add(1),
+    }
+}
+
 /// Adds what a step told.
-fn see(seen: &mut Seen, told: &Told) {
+fn see(seen: &mut Seen, session: Session, told: &Told) {
     match told {
         Told::Called(Ok(())) => seen.calls = seen.calls.saturating_add(1),
         Told::Called(Err(StoreFault::Device)) => seen.faults = seen.faults.saturating_add(1),
         Told::Called(Err(_)) => seen.failed = seen.failed.saturating_add(1),
-        Told::Applied(_, Ok(())) => seen.outs = seen.outs.saturating_add(1),
+        Told::Applied(out, Ok(())) => see_out(seen, session, out),
+        Told::Handed(outs) => seen.others = seen.others.saturating_add(outs.len()),
         Told::Answered(answer) => seen.spoken = seen.spoken.max(answer.number()),
         _ => {}
     }
@@ -105,27 +121,33 @@ pub(crate) fn starts<D: Disk>(alloc: Global, world: &mut World<D, Sim>) -> Optio
 }
 
 /// Commits what was accepted, and hands it out.
-fn commit<D: Disk>(world: &mut World<D, Sim>, seen: &mut Seen) -> Option<()> {
+fn commit<D: Disk>(world: &mut World<D, Sim>, session: Session, seen: &mut Seen) -> Option<()> {
     for told in told(world, &COMMITS)?.iter() {
-        see(seen, told);
+        see(seen, session, told);
     }
     Some(())
 }
 
 /// A request is accepted, committed and handed out.
-fn stage<D: Disk>(world: &mut World<D, Sim>, request: Step<'_>, seen: &mut Seen) -> Option<()> {
+fn stage<D: Disk>(
+    world: &mut World<D, Sim>,
+    session: Session,
+    request: Step<'_>,
+    seen: &mut Seen,
+) -> Option<()> {
     let _accepted = told(world, &[request])?;
-    commit(world, seen)
+    commit(world, session, seen)
 }
 
 /// The radio starts, its station authenticates, and associates; until a call of the device fails.
 fn three_commits<D: Disk>(alloc: Global, world: &mut World<D, Sim>) -> Option<Seen> {
+    let session = Session::ThreeCommits;
     let mut seen = NOTHING;
     let _accepted = starts(alloc, world)?;
-    commit(world, &mut seen)?;
+    commit(world, session, &mut seen)?;
     for request in [AUTHENTICATES, ASSOCIATES] {
         if seen.faults == 0 {
-            stage(world, request, &mut seen)?;
+            stage(world, session, request, &mut seen)?;
         }
     }
     Some(seen)
@@ -134,7 +156,7 @@ fn three_commits<D: Disk>(alloc: Global, world: &mut World<D, Sim>) -> Option<Se
 /// The station associates, and nothing else.
 fn one_switch<D: Disk>(world: &mut World<D, Sim>) -> Option<Seen> {
     let mut seen = NOTHING;
-    stage(world, ASSOCIATES, &mut seen)?;
+    stage(world, Session::OneSwitch, ASSOCIATES, &mut seen)?;
     Some(seen)
 }
 

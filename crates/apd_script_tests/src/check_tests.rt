@@ -91,6 +91,8 @@ const NO_STORE: Option<CheckFault> = Some(CheckFault::Store(StoreFault::NotAStor
 
 const DAMAGED: Option<CheckFault> = Some(CheckFault::Store(StoreFault::Damaged));
 
+const OLD: Option<CheckFault> = Some(CheckFault::Store(StoreFault::OldVersion));
+
 #[test]
 fn zeros_of_another_length_are_no_store(rt: HostRuntime) -> Result<(), Fail> {
     let alloc = rt.alloc();
@@ -157,6 +159,7 @@ fn a_store_with_changed_bytes_is_checked(rt: HostRuntime) -> Result<(), Fail> {
     let disk = store_after(rt.alloc(), one_radio(rt.alloc())?, JOINS)?;
     each_of_the_front(&rt, &disk)?;
     for row in [
+        changed_to(7, b"1", OLD, ""),
         // Half A is closed, and half B is.
         changed_to(64, b"\x00", DAMAGED, ""),
         changed_to(77, b"\x00", None, ""),
@@ -164,9 +167,12 @@ fn a_store_with_changed_bytes_is_checked(rt: HostRuntime) -> Result<(), Fail> {
         changed_to(110, b"\x03", DAMAGED, ""),
         // The station is authenticated alone.
         changed_to(117, b"\x00", None, ONE_STATION),
+        // The identifier that was given last: no record begins so, and another identifier.
+        changed_to(142, b"\x08", DAMAGED, ""),
+        changed_to(149, b"\x07", None, ONE_STATION),
         // A group of no records, and one of 65,537 bytes.
-        changed_to(142, b"\x01", None, ONE_STATION),
-        changed_to(142, b"\x01\x01\x00\x01\x00", DAMAGED, ""),
+        changed_to(151, b"\x01", None, ONE_STATION),
+        changed_to(151, b"\x01\x01\x00\x01\x00", DAMAGED, ""),
     ] {
         let place = row.place;
         let (fault, out) = check_changed(rt.alloc(), &disk, place, row.bytes)?;

@@ -1,5 +1,5 @@
 use crate::calls::{addresses_of, alone, built_in};
-use apd_base::{AclMode, Addr, Aid, Association, Bssid, Sequence, Station, Which};
+use apd_base::{AclMode, Addr, Aid, Association, Bssid, Sequence, Station, StationNumber, Which};
 use apd_conf::Confs;
 use apd_frame::{Authentication, Frame};
 use apd_mlme::{Decision, Event, MAX_RECORDS, Out, decide};
@@ -67,6 +67,23 @@ fn start(
     start_with(rt, alloc, table, confs, [b"", b""])
 }
 
+/// Decides a frame of the station, and makes its changes.
+fn hear(
+    rt: &impl Abort,
+    alloc: Global,
+    table: &mut Table,
+    confs: &Confs,
+    frame: Frame<'_>,
+) -> Result<Decision, Fail> {
+    assert!(rt; confs.with_bssid(RADIO).is_some());
+    assert!(rt; table.policy(RADIO).is_some());
+    let decision = decide(alloc, table, confs, Event::Heard(RADIO, frame))?;
+    for each in decision.changes.as_slice() {
+        change(table, each)?;
+    }
+    Ok(decision)
+}
+
 /// Decides an authentication request of the station, and makes its changes.
 fn authenticate(
     rt: &impl Abort,
@@ -80,18 +97,23 @@ fn authenticate(
         transaction: 1,
         status: 0,
     };
-    assert!(rt; confs.with_bssid(RADIO).is_some());
-    assert!(rt; table.policy(RADIO).is_some());
-    let decision = decide(
-        alloc,
-        table,
-        confs,
-        Event::Heard(RADIO, Frame::Auth(request)),
-    )?;
-    for each in decision.changes.as_slice() {
-        change(table, each)?;
-    }
-    Ok(decision)
+    hear(rt, alloc, table, confs, Frame::Auth(request))
+}
+
+/// Decides an association request of the station, and makes its changes.
+fn associate(
+    rt: &impl Abort,
+    alloc: Global,
+    table: &mut Table,
+    confs: &Confs,
+) -> Result<Decision, Fail> {
+    let request = apd_frame::Association {
+        sender: STATION,
+        capability: 0x431,
+        listen_interval: 10,
+        elements: b"\x00\x03net\x01\x04\x82\x84\x8b\x96",
+    };
+    hear(rt, alloc, table, confs, Frame::Assoc(request))
 }
 
 /// Whether an out is this frame.
@@ -232,6 +254,81 @@ fn the_2008th_station_finds_no_room(rt: HostRuntime) -> Result<(), Fail> {
     assert_eq!(rt; decision.outs.len(), 1);
     assert!(rt; is_frame(&decision.outs.as_slice()[0].1, &NO_MORE_STATIONS));
     assert_eq!(rt; table.count(RADIO), 2007);
+    Ok(())
+}
+
+/// The station is associated under an identifier.
+fn joined(number: u16) -> Result<Change, Fail> {
+    Ok(Change::Put {
+        bssid: RADIO,
+        addr: STATION,
+        station: Station::Associated(Association {
+            aid: Aid::new(number).ok_or("it is an identifier")?,
+            capability: 0x431,
+            listen_interval: 10,
+        }),
+    })
+}
+
+/// The radio gave this identifier last.
+fn cursor(number: u16) -> Result<Change, Fail> {
+    Ok(Change::Cursor {
+        bssid: RADIO,
+        last: StationNumber::new(number).ok_or("it is a number of stations")?,
+    })
+}
+
+/// The station is authenticated alone.
+const BACK: Change = Change::Put {
+    bssid: RADIO,
+    addr: STATION,
+    station: Station::Authenticated,
+};
+
+#[test]
+fn an_identifier_comes_with_a_cursor_and_is_kept_without(rt: HostRuntime) -> Result<(), Fail> {
+    let alloc = rt.alloc();
+    let mut table = Table::new(alloc);
+    let open = confs(alloc, AclMode::AcceptUnlessDenied)?;
+    start(&rt, alloc, &mut table, &open)?;
+    change(&mut table, &cursor(2006)?)?;
+    // Behind 2007 comes 1.
+    for number in [2007, 1, 2] {
+        change(&mut table, &BACK)?;
+        let given = associate(&rt, alloc, &mut table, &open)?;
+        let changes = [joined(number)?, cursor(number)?];
+        assert_eq!(rt; given.changes.as_slice(), changes.as_slice());
+        let kept = associate(&rt, alloc, &mut table, &open)?;
+        assert_eq!(rt; kept.changes.as_slice(), [joined(number)?].as_slice());
+    }
+    Ok(())
+}
+
+/// A table in which others have all identifiers but this one, which was given last, and the station is authenticated.
+fn all_but(rt: &impl Abort, alloc: Global, confs: &Confs, number: u16) -> Result<Table, Fail> {
+    let mut table = Table::new(alloc);
+    start(rt, alloc, &mut table, confs)?;
+    for other in 1..=2007 {
+        if let Some(aid) = Aid::new(other) {
+            if other != number {
+                change(&mut table, &member(aid))?;
+            }
+        }
+    }
+    change(&mut table, &cursor(number)?)?;
+    change(&mut table, &BACK)?;
+    Ok(table)
+}
+
+#[test]
+fn where_no_other_is_free_the_last_one_is_given_again(rt: HostRuntime) -> Result<(), Fail> {
+    let alloc = rt.alloc();
+    let open = confs(alloc, AclMode::AcceptUnlessDenied)?;
+    let mut table = all_but(&rt, alloc, &open, 7)?;
+    let given = associate(&rt, alloc, &mut table, &open)?;
+    let changes = [joined(7)?, cursor(7)?];
+    assert_eq!(rt; given.changes.as_slice(), changes.as_slice());
+    assert_eq!(rt; table.next_free(RADIO), None);
     Ok(())
 }
 

@@ -13,6 +13,10 @@ mod configuration_tests;
 #[cfg(test)]
 mod decision_tests;
 #[cfg(test)]
+mod driver_fault_tests;
+#[cfg(test)]
+mod identifier_tests;
+#[cfg(test)]
 mod script_tests;
 #[cfg(test)]
 mod scripts;

@@ -201,7 +201,7 @@ fn lost_frames_and_failed_drivers_are_printed_in_these_words(rt: HostRuntime) ->
     for (answer, want) in [
         (Ok(()), b"wlan0 remove 02:00:00:00:00:aa\n".as_slice()),
         (Err(SlotFault::Lost), b"wlan0 lost\n"),
-        (Err(SlotFault::WentDown), b"wlan0 driver fault\n"),
+        (Err(SlotFault::WentDown), b"wlan0 down\n"),
     ] {
         let mut out = Vec::new(alloc);
         assert!(rt; write_applied(alloc, &mut out, &name, &remove, answer).is_ok());

@@ -1,9 +1,9 @@
 //! Scripts and worlds on devices of memory, each call by a function of its own, so that the proof of a test
 //! needn't carry its contract.
-use apd_base::Moment;
+use apd_base::{Bssid, Moment};
 use apd_conf::Confs;
 use apd_disk::{Disk, MemDisk};
-use apd_radio::{Replaying, Sim};
+use apd_radio::{Radio, Replaying, Sim};
 use apd_script::{ScriptFault, new_store, run_on_store, run_script};
 use apd_slot::Slot;
 use apd_world::{World, restart};
@@ -120,4 +120,52 @@ pub fn slots_after(
     let world = replaying_world(alloc, confs, slots)?;
     let mut out = Vec::new(alloc);
     slots_left(run_script(alloc, world, script, &mut out, left))
+}
+
+/// A radio of any kind.
+pub type Boxed = Box<dyn Radio + Send>;
+
+/// A world of a new store and of this radio at the first configuration's BSSID, which is not started yet.
+pub fn world_with(
+    alloc: Global,
+    confs: Confs,
+    radio: Boxed,
+) -> Result<World<MemDisk, Boxed>, Fail> {
+    let mut slots = Vec::new(alloc);
+    let first = confs.list().first().ok_or("an interface")?;
+    slots.push(Slot::new(alloc, radio, first.bssid))?;
+    match restart(alloc, fresh_store(alloc)?, confs, slots, Moment(0)) {
+        Ok(world) => Ok(world),
+        Err(_) => Err(Fail::new("a world is not begun")),
+    }
+}
+
+/// Runs a script on a world, and gives the world back, and what was printed.
+pub fn ran(
+    alloc: Global,
+    world: World<MemDisk, Boxed>,
+    script: &[u8],
+) -> Result<(World<MemDisk, Boxed>, Vec<u8>), Fail> {
+    let mut out = Vec::new(alloc);
+    match run_script(alloc, world, script, &mut out, Vec::new(alloc)) {
+        Ok(world) => Ok((world, out)),
+        Err(_) => Err(Fail::new("the script has a fault")),
+    }
+}
+
+/// Puts another radio in the place of a BSSID's, and gives that one back.
+pub fn replaced(
+    world: &mut World<MemDisk, Boxed>,
+    bssid: Bssid,
+    radio: Boxed,
+) -> Result<Boxed, Fail> {
+    match world.replace(bssid, radio) {
+        Ok(own) => Ok(own),
+        Err(_) => Err(Fail::new("a radio is not replaced")),
+    }
+}
+
+/// The slots of a world.
+pub fn all_slots(world: World<MemDisk, Boxed>) -> Vec<Slot<Boxed>> {
+    world.into_parts().2
 }

@@ -29,7 +29,7 @@ fn add(bytes: &mut Vec<u8>, group: &[u8], times: u32) -> Result<(), Fail> {
 /// A device whose half A has so many groups of either kind, and its closed gate at a place of the half.
 fn worn(alloc: Global, cleared: u32, nothing: u32, gate: usize) -> Result<MemDisk, Fail> {
     let mut bytes = Vec::new(alloc);
-    bytes.extend_from_slice(b"RAPSTOR1")?;
+    bytes.extend_from_slice(b"RAPSTOR2")?;
     bytes.resize(64, 0)?;
     bytes.extend_from_slice(&FRONT)?;
     add(&mut bytes, &CLEARED, cleared)?;

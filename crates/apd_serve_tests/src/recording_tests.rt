@@ -63,6 +63,14 @@ fn no_recording_is_made_over_another_store(rt: HostRuntime) -> Result<(), Fail> 
 }
 
 #[test]
+fn no_recording_is_made_over_a_store_of_version_1(rt: HostRuntime) -> Result<(), Fail> {
+    fs::write(&rt, "old_store.0", b"RAPSTOR1 and halves")?;
+    let (told, same) = refused(&rt, "old_store", CONF)?;
+    assert_eq!(rt; (told.as_str(), same), ("cannot read old_store.0", true));
+    remove_all(&rt, &["old_store.0"])
+}
+
+#[test]
 fn no_recording_is_made_over_a_file_that_is_locked(rt: HostRuntime) -> Result<(), Fail> {
     fs::write(&rt, "held.0", b"no store, and yet held")?;
     let disk = FileDisk::open(&rt, "held.0")?;

@@ -1,13 +1,13 @@
 //! How a session begins: a device, its configurations, and the world of its store.
 use crate::ending::say_left;
-use crate::images::{blank_disk, stored_disk};
+use crate::images::{blank_disk, old_disk, stored_disk};
 use crate::saying::{again, say, say_refusal};
-use crate::world::Memory;
+use crate::world::{Memory, is_short};
 use apd_base::Moment;
 use apd_conf::{Conf, Confs};
 use apd_disk::MemDisk;
 use apd_radio::Sim;
-use apd_slot::{Slot, SlotFault};
+use apd_slot::Slot;
 use apd_store::{StoreFault, format};
 use apd_world::{WorldFault, restart, slots_for};
 use std::alloc::{AllocError, Global};
@@ -21,7 +21,7 @@ fn formatted(alloc: Global, disk: MemDisk) -> Result<MemDisk, (MemDisk, StoreFau
 }
 
 /// A blank device.
-fn blank(rt: &impl Print, alloc: Global) -> io::Result<MemDisk> {
+pub fn blank(rt: &impl Print, alloc: Global) -> io::Result<MemDisk> {
     match blank_disk(alloc) {
         Ok(disk) => Ok(disk),
         Err(_) => {
@@ -38,6 +38,17 @@ pub fn stored(rt: &impl Print, alloc: Global) -> io::Result<MemDisk> {
         Err(_) => {
             again(rt, "a device")?;
             Ok(stored_disk(alloc)?)
+        }
+    }
+}
+
+/// A device of a store of version 1.
+pub fn old_store(rt: &impl Print, alloc: Global) -> io::Result<MemDisk> {
+    match old_disk(alloc) {
+        Ok(disk) => Ok(disk),
+        Err(_) => {
+            again(rt, "a device")?;
+            Ok(old_disk(alloc)?)
         }
     }
 }
@@ -129,16 +140,6 @@ fn tried(
     Ok(restarted(alloc, disk, copy, slots))
 }
 
-/// Whether a restart is refused for want of memory, of the store or of a slot too.
-fn lacks_memory(fault: WorldFault) -> bool {
-    matches!(
-        fault,
-        WorldFault::NoMemory
-            | WorldFault::Store(StoreFault::NoMemory)
-            | WorldFault::Slot(_, SlotFault::NoMemory)
-    )
-}
-
 /// Says why a restart is refused, and what its device shows.
 fn say_refused(rt: &impl Print, alloc: Global, refused: Refused) -> io::Result<Option<Memory>> {
     let (disk, fault) = refused;
@@ -157,7 +158,7 @@ pub fn begun(
 ) -> io::Result<Option<Memory>> {
     let disk = match tried(rt, alloc, disk, confs)? {
         Ok(world) => return Ok(Some(world)),
-        Err((disk, fault)) if lacks_memory(fault) => disk,
+        Err((disk, fault)) if is_short(fault) => disk,
         Err(refused) => return say_refused(rt, alloc, refused),
     };
     again(rt, "restart")?;

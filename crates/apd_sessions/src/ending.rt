@@ -43,7 +43,7 @@ pub fn say_left(rt: &impl Print, alloc: Global, disk: MemDisk) -> io::Result<()>
 }
 
 /// Prints the last calls of a device.
-fn say_calls(rt: &impl Print, calls: &[Call], count: usize) -> io::Result<()> {
+pub fn say_calls(rt: &impl Print, calls: &[Call], count: usize) -> io::Result<()> {
     for call in calls.iter().skip(calls.len().saturating_sub(count)) {
         writeln!(io::writer(rt), "{call:?}")?;
     }

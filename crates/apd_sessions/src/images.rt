@@ -3,15 +3,26 @@ use apd_base::limits::DEVICE_LENGTH;
 use apd_disk::MemDisk;
 use std::alloc::{AllocError, Global};
 
-/// The records of a policy, a denied address and two stations at `02:00:00:00:00:01`, the first of them associated, and
-/// of a policy and a station that is authenticated at `02:00:00:00:00:02`.
+/// The records of a policy, the identifier given last, a denied address and two stations at `02:00:00:00:00:01`, the
+/// first of them associated, and of a policy and a station that is authenticated at `02:00:00:00:00:02`.
 const SNAPSHOT: &[u8] = &[
     6, 2, 0, 0, 0, 0, 1, 0, 0xd7, 7, //
     6, 2, 0, 0, 0, 0, 2, 0, 0xd7, 7, //
+    7, 2, 0, 0, 0, 0, 1, 1, 0, //
     3, 2, 0, 0, 0, 0, 1, 1, 2, 0, 0, 0, 0, 0xcc, //
     1, 2, 0, 0, 0, 0, 1, 2, 0, 0, 0, 0, 0xaa, 2, 1, 0, 0x31, 4, 10, 0, //
     1, 2, 0, 0, 0, 0, 1, 2, 0, 0, 0, 0, 0xbb, 1, 0, 0, 0, 0, 0, 0, //
     1, 2, 0, 0, 0, 0, 2, 2, 0, 0, 0, 0, 0xaa, 1, 0, 0, 0, 0, 0, 0,
+];
+
+/// The groups of a policy and of a station that authenticated and then associated, as a program of version 1 wrote them
+/// behind an empty snapshot, in hexadecimal.
+const OLD_GROUPS: &[u8] = &[
+    0x01, 0x0a, 0x00, 0x00, 0x00, 0x06, 0x02, 0x00, 0x00, 0x00, 0x00, 0x01, 0x00, 0xd7, 0x07, //
+    0x01, 0x14, 0x00, 0x00, 0x00, 0x01, 0x02, 0x00, 0x00, 0x00, 0x00, 0x01, 0x02, 0x00, 0x00, 0x00,
+    0x00, 0xaa, 0x01, 0x00, 0x00, 0x00, 0x00, 0x00, 0x00, //
+    0x01, 0x14, 0x00, 0x00, 0x00, 0x01, 0x02, 0x00, 0x00, 0x00, 0x00, 0x01, 0x02, 0x00, 0x00, 0x00,
+    0x00, 0xaa, 0x02, 0x01, 0x00, 0x31, 0x04, 0x0a, 0x00,
 ];
 
 /// The place of half A.
@@ -32,15 +43,32 @@ fn pad(bytes: &mut Vec<u8>, length: usize) -> Result<(), AllocError> {
     bytes.resize(length, 0)
 }
 
-/// A device of a store with stations at two radios.
-pub fn stored_disk(alloc: Global) -> Result<MemDisk, AllocError> {
+/// A device that begins with a mark, and whose half A, open and of epoch 1, has a snapshot of these records, and these
+/// groups behind it.
+fn disk_of(
+    alloc: Global,
+    mark: &[u8],
+    snapshot: &[u8],
+    groups: &[u8],
+) -> Result<MemDisk, AllocError> {
     let mut bytes = Vec::with_capacity(alloc, DEVICE_LENGTH as usize)?;
-    bytes.extend_from_slice(b"RAPSTOR1")?;
+    bytes.extend_from_slice(mark)?;
     pad(&mut bytes, HALF_A)?;
     bytes.extend_from_slice(&[1, 1, 0, 0, 0, 0, 0, 0, 0])?;
-    let length = u32::try_from(SNAPSHOT.len()).unwrap_or(0);
+    let length = u32::try_from(snapshot.len()).unwrap_or(0);
     bytes.extend_from_slice(&length.to_le_bytes())?;
-    bytes.extend_from_slice(SNAPSHOT)?;
+    bytes.extend_from_slice(snapshot)?;
+    bytes.extend_from_slice(groups)?;
     pad(&mut bytes, DEVICE_LENGTH as usize)?;
     MemDisk::new(alloc, bytes)
+}
+
+/// A device of a store with stations at two radios.
+pub fn stored_disk(alloc: Global) -> Result<MemDisk, AllocError> {
+    disk_of(alloc, b"RAPSTOR2", SNAPSHOT, &[])
+}
+
+/// A device of a store of version 1 with one station.
+pub fn old_disk(alloc: Global) -> Result<MemDisk, AllocError> {
+    disk_of(alloc, b"RAPSTOR1", &[], OLD_GROUPS)
 }

@@ -10,6 +10,7 @@ mod requests;
 mod saying;
 mod sessions;
 mod sum;
+mod upgrading;
 mod world;
 
 use sessions::run_session;

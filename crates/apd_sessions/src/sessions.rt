@@ -7,6 +7,7 @@ use crate::requests::{
     AUTHENTICATES_ELSEWHERE, command, starts,
 };
 use crate::saying::{say, say_table};
+use crate::upgrading::upgrade;
 use crate::world::{Calls, Memory, serve, start};
 use apd_conf::Confs;
 use apd_world::Step;
@@ -155,6 +156,7 @@ pub fn run_session<R: Print + Files<File = File> + AllocGlobal>(
         "restart" => restart(rt),
         "files" => files(rt),
         "check" => check(rt, rt.alloc()),
+        "upgrade" => upgrade(rt, rt.alloc()),
         _ => say(rt, "no such session"),
     }
 }

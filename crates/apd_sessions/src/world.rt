@@ -124,6 +124,16 @@ pub fn serve(
     Ok(())
 }
 
+/// Whether a world is refused for want of memory, of its store or of a slot too.
+pub fn is_short(fault: WorldFault) -> bool {
+    matches!(
+        fault,
+        WorldFault::NoMemory
+            | WorldFault::Store(StoreFault::NoMemory)
+            | WorldFault::Slot(_, SlotFault::NoMemory)
+    )
+}
+
 /// Why a start is refused; none where it is not.
 fn refusal(world: &mut Memory) -> Option<WorldFault> {
     world.start().err()
@@ -133,7 +143,7 @@ fn refusal(world: &mut Memory) -> Option<WorldFault> {
 /// stands, so that what can be seen may have changed by then.
 pub fn start(rt: &impl Print, world: &mut Memory, calls: &mut Calls) -> io::Result<()> {
     let mut fault = refusal(world);
-    if fault == Some(WorldFault::NoMemory) {
+    if fault.is_some_and(is_short) {
         again(rt, "start")?;
         fault = refusal(world);
     }

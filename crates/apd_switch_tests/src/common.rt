@@ -102,7 +102,7 @@ pub(crate) fn pad(bytes: &mut Vec<u8>, length: usize) -> Option<()> {
 /// A device of a store of two halves, each with zeros behind it.
 pub(crate) fn device(alloc: Global, a: &[u8], b: &[u8]) -> Option<MemDisk> {
     let mut bytes = Vec::new(alloc);
-    bytes.extend_from_slice(b"RAPSTOR1").ok()?;
+    bytes.extend_from_slice(b"RAPSTOR2").ok()?;
     pad(&mut bytes, HALF_A)?;
     bytes.extend_from_slice(a).ok()?;
     pad(&mut bytes, HALF_B)?;

@@ -31,7 +31,7 @@ fn the_calls_of_a_switch_over_an_open_half(rt: HostRuntime) {
         (0, 0),
         (64, 1),
         (0, 0),
-        (108, 25),
+        (108, 34),
         (0, 0),
         (107, 1),
         (0, 0),
@@ -63,11 +63,15 @@ fn changed_bytes_of_both_halves(rt: HostRuntime) {
         // The snapshot: its length, and its first tag.
         (HALF_A + 9, 29, "damaged"),
         (HALF_A + 13, 7, "damaged"),
-        // The group: its gate, its length, its tag, and the gate behind it.
+        // The group: its gate, its length, its tag, and the tag of the cursor and its number; and the gate behind it.
         (107, 0, "before"),
         (108, 19, "damaged"),
+        (108, 28, "damaged"),
         (112, 7, "damaged"),
-        (132, 1, "after"),
+        (132, 8, "damaged"),
+        (139, 7, "after"),
+        (140, 8, "damaged"),
+        (141, 1, "after"),
         // The half before.
         (HALF_B, 0, "after"),
         (HALF_B + 1, 3, "damaged"),

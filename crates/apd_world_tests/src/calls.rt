@@ -1,6 +1,6 @@
 //! Calls whose contracts are long, each by a function of its own without a clause, so that the proof of a test needn't
 //! carry them.
-use apd_base::Moment;
+use apd_base::{Bssid, Moment};
 use apd_conf::{Conf, Confs};
 use apd_core::Core;
 use apd_disk::{Disk, MemDisk};
@@ -108,6 +108,20 @@ pub(crate) fn makes<D: Disk, R: Radio>(world: &mut World<D, R>, steps: &[Step<'_
         Ok(_) => Some(()),
         Err(_) => None,
     }
+}
+
+/// Puts another radio in the place of that of a BSSID's slot.
+pub(crate) fn replaced<D: Disk, R: Radio>(
+    world: &mut World<D, R>,
+    bssid: Bssid,
+    radio: R,
+) -> Result<R, (R, WorldFault)> {
+    world.replace(bssid, radio)
+}
+
+/// What a world is made of.
+pub(crate) fn parts_of<D: Disk, R: Radio>(world: World<D, R>) -> (Flusher<D>, Core, Vec<Slot<R>>) {
+    world.into_parts()
 }
 
 /// Gives a slot an out, beside those that wait.

@@ -1,8 +1,7 @@
 //! What the drivers are told of a run, and of the next one.
 use crate::calls::{Memory, slots_of};
 use crate::steps::{
-    ASSOCIATES, ASSOCIATES_ELSEWHERE, AT_WLAN0, AT_WLAN1, AUTHENTICATES, AUTHENTICATES_ELSEWHERE,
-    COMMITS, STATION, TO_WLAN0, TO_WLAN1, WLAN0, WLAN1,
+    ASSOCIATES, AT_WLAN0, AUTHENTICATES, COMMITS, ROAMS, STATION, TO_WLAN0, WLAN0, WLAN1,
 };
 use crate::worlds::{recovered, started_with, stopped};
 use apd_base::Bssid;
@@ -102,30 +101,6 @@ fn a_run_is_recorded(rt: HostRuntime) -> Result<(), Fail> {
     assert_eq!(rt; second.as_slice(), nothing());
     Ok(())
 }
-
-/// It associates at the first radio, and then at the second, which is committed at once.
-const ROAMS: [Step<'static>; 20] = [
-    AUTHENTICATES,
-    ASSOCIATES,
-    AUTHENTICATES_ELSEWHERE,
-    ASSOCIATES_ELSEWHERE,
-    Step::Take,
-    Step::Call,
-    Step::Call,
-    Step::Call,
-    Step::Call,
-    Step::Publish,
-    TO_WLAN0,
-    AT_WLAN0,
-    AT_WLAN0,
-    AT_WLAN0,
-    AT_WLAN0,
-    AT_WLAN0,
-    TO_WLAN1,
-    AT_WLAN1,
-    AT_WLAN1,
-    AT_WLAN1,
-];
 
 fn left_lines() -> &'static [u8] {
     b"down

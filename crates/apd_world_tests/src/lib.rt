@@ -19,6 +19,8 @@ mod parts_tests;
 #[cfg(test)]
 mod refusal_tests;
 #[cfg(test)]
+mod replacing_tests;
+#[cfg(test)]
 mod start_tests;
 #[cfg(test)]
 mod steps;

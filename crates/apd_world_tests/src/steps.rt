@@ -139,3 +139,27 @@ pub(crate) const ASSOCIATIONS: [Step<'static>; 10] = [
     Step::Call,
     Step::Publish,
 ];
+
+/// The station associates at the first radio, and then at the second, which is committed at once.
+pub(crate) const ROAMS: [Step<'static>; 20] = [
+    AUTHENTICATES,
+    ASSOCIATES,
+    AUTHENTICATES_ELSEWHERE,
+    ASSOCIATES_ELSEWHERE,
+    Step::Take,
+    Step::Call,
+    Step::Call,
+    Step::Call,
+    Step::Call,
+    Step::Publish,
+    TO_WLAN0,
+    AT_WLAN0,
+    AT_WLAN0,
+    AT_WLAN0,
+    AT_WLAN0,
+    AT_WLAN0,
+    TO_WLAN1,
+    AT_WLAN1,
+    AT_WLAN1,
+    AT_WLAN1,
+];

@@ -1,0 +1,85 @@
+//! A store of version 1 that is copied into a new one.
+use crate::beginning::{blank, old_store};
+use crate::ending::{say_calls, say_left};
+use crate::saying::{again, say};
+use apd_disk::{Call, MemDisk};
+use apd_script::{UpgradeFault, run_upgrade};
+use apd_store::StoreFault;
+use std::alloc::Global;
+use std::io::{self, Write};
+
+/// Both devices, and why no copy is told of; none where one is.
+type Copied = (MemDisk, MemDisk, Option<UpgradeFault>);
+
+/// The call, without a clause.
+fn copied(alloc: Global, old: MemDisk, new: MemDisk, text: &mut Vec<u8>) -> Copied {
+    match run_upgrade(alloc, old, new, text) {
+        Ok((old, new)) => (old, new, None),
+        Err((old, new, fault)) => (old, new, Some(fault)),
+    }
+}
+
+/// Whether no copy is told of for want of memory: to make it, or where the text is put.
+fn lacks_memory(fault: UpgradeFault) -> bool {
+    matches!(
+        fault,
+        UpgradeFault::Writer | UpgradeFault::Store(StoreFault::NoMemory)
+    )
+}
+
+/// Says where a copy that was not made has called the new device, or told of itself.
+fn say_change(rt: &impl Print, fault: UpgradeFault, new: &MemDisk, text: &[u8]) -> io::Result<()> {
+    let is_made = fault == UpgradeFault::Writer;
+    if text.is_empty() && (is_made || new.calls().is_empty()) {
+        return Ok(());
+    }
+    say(rt, "changed: upgrade")
+}
+
+/// A copy that lacked memory is made once more, of the devices that came back.
+fn copied_again(
+    rt: &impl Print,
+    alloc: Global,
+    text: &mut Vec<u8>,
+    first: Copied,
+) -> io::Result<Copied> {
+    let (old, new, fault) = first;
+    match fault {
+        Some(fault) if lacks_memory(fault) => {
+            say_change(rt, fault, &new, text.as_slice())?;
+            again(rt, "upgrade")?;
+            Ok(copied(alloc, old, new, text))
+        }
+        fault => Ok((old, new, fault)),
+    }
+}
+
+/// Says where a device has served a write.
+fn say_write(rt: &impl Print, device: &MemDisk) -> io::Result<()> {
+    for call in device.calls() {
+        if matches!(call, Call::Write(..)) {
+            say(rt, "changed: the old store")?;
+        }
+    }
+    Ok(())
+}
+
+/// Copies a store of version 1, and says which calls that takes of it, and by which the new store is made. What it
+/// holds is then said, also where a call of a device failed.
+pub fn upgrade(rt: &impl Print, alloc: Global) -> io::Result<()> {
+    let old = old_store(rt, alloc)?;
+    let new = blank(rt, alloc)?;
+    say(rt, "no store")?;
+    let mut text = Vec::new(alloc);
+    let first = copied(alloc, old, new, &mut text);
+    let (old, new, fault) = copied_again(rt, alloc, &mut text, first)?;
+    say_write(rt, &old)?;
+    if let Some(fault) = fault {
+        writeln!(io::writer(rt), "{fault}")?;
+    } else {
+        io::writer(rt).write_all(text.as_slice())?;
+        say_calls(rt, old.calls(), 2)?;
+        say_calls(rt, new.calls(), 5)?;
+    }
+    say_left(rt, alloc, new)
+}

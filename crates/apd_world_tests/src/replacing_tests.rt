@@ -1,0 +1,127 @@
+//! Radios whose driver fails, and others in their place.
+use crate::calls::{joined, parts_of, replaced, told};
+use crate::steps::{ROAMS, STATION, WLAN0, WLAN1};
+use crate::worlds::{started, started_with};
+use apd_base::{Bssid, Station};
+use apd_disk::MemDisk;
+use apd_radio::{Failing, Radio, Sim};
+use apd_slot::{Slot, SlotFault};
+use apd_table::Table;
+use apd_world::{World, WorldFault};
+use std::alloc::Global;
+use std::test::Fail;
+
+type Boxed = Box<dyn Radio + Send>;
+
+/// A radio that passes so many calls on, and fails then.
+fn failing(alloc: Global, calls: u64) -> Failing<Sim> {
+    Failing::new(Sim::new(alloc), calls)
+}
+
+/// Slots for two BSSIDs.
+fn slots(alloc: Global, radios: (Boxed, Boxed)) -> Option<Vec<Slot<Boxed>>> {
+    let mut slots = Vec::new(alloc);
+    slots.push(Slot::new(alloc, radios.0, WLAN0)).ok()?;
+    slots.push(Slot::new(alloc, radios.1, WLAN1)).ok()?;
+    Some(slots)
+}
+
+/// A world whose station went from one radio to the other.
+fn roamed(alloc: Global, radios: (Boxed, Boxed)) -> Option<World<MemDisk, Boxed>> {
+    let mut world = started_with(alloc, &[1, 2], slots(alloc, radios)?)?;
+    told(&mut world, &ROAMS)?;
+    Some(world)
+}
+
+/// The identifier of the station at a BSSID, by a table.
+fn identifier(table: &Table, bssid: Bssid) -> Option<u16> {
+    match table.get(bssid, STATION)? {
+        Station::Associated(association) => Some(association.aid.number),
+        Station::Authenticated => None,
+    }
+}
+
+fn wants_rows(table: &Table, slots: &[Slot<Boxed>]) -> bool {
+    slots.iter().all(|slot| slot.wanted(STATION) == identifier(table, slot.bssid()))
+}
+
+fn has_rows(table: &Table, slots: &[Slot<Boxed>]) -> bool {
+    slots.iter().all(|slot| slot.is_up()
+        && slot.installed(STATION) == identifier(table, slot.bssid()))
+}
+
+/// Puts others in the place of both. Tells whether both that come back have no station.
+fn replaces_both(world: &mut World<MemDisk, Boxed>, others: (Boxed, Boxed)) -> Option<bool> {
+    let first = replaced(world, WLAN0, others.0).ok()?;
+    let second = replaced(world, WLAN1, others.1).ok()?;
+    Some(first.installed(STATION).is_none() && second.installed(STATION).is_none())
+}
+
+/// Whether the slots want the table's stations, whatever their radios pass on; and whether others that take their place
+/// have them, where those that come back have none.
+fn follows(alloc: Global, radios: (Boxed, Boxed), others: (Boxed, Boxed)) -> Option<[bool; 3]> {
+    let (flusher, core, slots) = parts_of(roamed(alloc, radios)?);
+    let wanted = wants_rows(core.table(), &slots);
+    let mut world = joined(alloc, flusher, core, slots);
+    let emptied = replaces_both(&mut world, others)?;
+    let (_flusher, core, slots) = parts_of(world);
+    Some([wanted, emptied, has_rows(core.table(), &slots)])
+}
+
+/// The first radio has five calls of that run: two for the frames of the station's answers, one for its installation, one
+/// for its removal, and one for the frame that says so. The second has three.
+#[test]
+fn other_radios_have_the_stations_of_the_table(rt: HostRuntime) -> Result<(), Fail> {
+    let alloc = rt.alloc();
+    for count in 0..6 * 4 {
+        let first: Boxed = Box::new(alloc, failing(alloc, count / 4))?;
+        let second: Boxed = Box::new(alloc, failing(alloc, count % 4))?;
+        let other: Boxed = Box::new(alloc, Sim::new(alloc))?;
+        let another: Boxed = Box::new(alloc, Sim::new(alloc))?;
+        let seen = follows(alloc, (first, second), (other, another));
+        assert_eq!(rt; seen, Some([true, true, true]), "{count}");
+    }
+    Ok(())
+}
+
+/// A radio that has the station under 7.
+fn with_station(alloc: Global) -> Option<Sim> {
+    let mut radio = Sim::new(alloc);
+    radio.install(STATION, 7).ok()?;
+    Some(radio)
+}
+
+/// What comes back where a BSSID has no slot.
+fn refused(alloc: Global) -> Option<(Option<u16>, WorldFault)> {
+    let mut world = started(alloc, &[1])?;
+    let (back, fault) = replaced(&mut world, WLAN1, with_station(alloc)?).err()?;
+    Some((back.installed(STATION), fault))
+}
+
+#[test]
+fn a_bssid_without_a_slot_gets_no_radio(rt: HostRuntime) -> Result<(), Fail> {
+    let alloc = rt.alloc();
+    assert_eq!(rt; refused(alloc), Some((Some(7), WorldFault::NoSlot)));
+    let text = format!(in alloc; "{}", WorldFault::NoSlot)?;
+    assert_eq!(rt; text.as_str(), "no such radio");
+    Ok(())
+}
+
+/// What is told where another radio fails, and whether the slots are up.
+fn kept(alloc: Global, radios: (Boxed, Boxed), other: Boxed) -> Option<(WorldFault, [bool; 2])> {
+    let mut world = roamed(alloc, radios)?;
+    let (_back, fault) = replaced(&mut world, WLAN1, other).err()?;
+    Some((fault, [world.is_up(WLAN0), world.is_up(WLAN1)]))
+}
+
+#[test]
+fn a_radio_that_fails_takes_its_slot_down_alone(rt: HostRuntime) -> Result<(), Fail> {
+    let alloc = rt.alloc();
+    let first: Boxed = Box::new(alloc, Sim::new(alloc))?;
+    let second: Boxed = Box::new(alloc, Sim::new(alloc))?;
+    let other: Boxed = Box::new(alloc, failing(alloc, 0))?;
+    let fault = WorldFault::Slot(WLAN1, SlotFault::WentDown);
+    let kept = kept(alloc, (first, second), other);
+    assert_eq!(rt; kept, Some((fault, [true, false])));
+    Ok(())
+}
