@@ -1,6 +1,8 @@
 pub mod AddrLemmas
+pub mod AddrNumbers
 pub mod AddrText
 pub mod Cases
+pub mod Halves
 pub mod MapLemmas
 pub mod NumberText
 pub mod RowsLemmas

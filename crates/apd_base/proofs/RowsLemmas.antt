@@ -15,7 +15,7 @@ bound-shifted : (r : Result ℕ ℕ) (n : ℕ) → IsSearchInRange r n → IsSea
 bound-shifted (Ok i) n h = omega arith
 bound-shifted (Err i) n h = omega arith
 
-one_more : (i : ℕ) → 1 + i ≡ suc i
+pub one_more : (i : ℕ) → 1 + i ≡ suc i
 one_more i = omega arith
 
 module _ {K X : Type 0} where

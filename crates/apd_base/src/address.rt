@@ -1,7 +1,12 @@
 //! Addresses of stations and of access points.
 ghost use Rattle.std.specs.Prelude.{◌≡◌, ℕ, [], ◌∷◌, ◌%◌, ◌<◌, ◌↔◌, ◌++◌, IsTrue, IfSome, OnOk, OnErr, Some, slice_index};
 ghost use Rattle.std.specs.Cmp.Lexicographic.{slice_cmp};
-ghost use Rattle.std.specs.Ordering.{nat_cmp};
+ghost use Rattle.std.specs.Int.{from_be_bytes, w64};
+ghost use Rattle.std.specs.List.{AllByRecursion};
+ghost use Rattle.std.specs.Ordering.{nat_cmp, on, as_partial_cmp};
+ghost use Rattle.std.specs.Cmp.{partial_order_from_own_ties};
+ghost use Rattle.std.specs.Cmp.Rules.{comparing};
+ghost use Rattle.std.proofs.Common.{rules};
 ghost use Rattle.std.specs.declared.cmp.Ordering.TheVariants.{Less};
 ghost use Rattle.apd_base.specs.Addr.{IsAddr, address_of, text_of, digit_value_of, byte_value};
 ghost use Rattle.apd_base.specs.declared.address.Addr.{Addr as Address};
@@ -11,12 +16,38 @@ ghost use Rattle.apd_base.specs.declared.station.Which.TheVariants.{Accept, Deny
 use crate::station::Which;
 use crate::text::hex_digit;
 use std::alloc::AllocError;
+use std::cmp::Ordering;
 use std::fmt;
 
 /// A MAC address: its six bytes as they are sent. Addresses are ordered by them, the first byte
 /// first (IEEE Std 802.11-2016, 9.2.4.3.2).
-#[derive(Clone, Copy, Debug, PartialEq, Eq, PartialOrd, Ord)]
+#[derive(Clone, Copy, Debug, PartialEq, Eq)]
 pub struct Addr(pub [u8; 6]);
+
+impl PartialOrd for Addr {
+    ghost partial_cmp = { as_partial_cmp (on (λ a. a.0) (slice_cmp nat_cmp)) };
+
+    ghost laws = { partial_order_from_own_ties (Prim.search (comparing, rules)) (Prim.search (comparing, rules)) };
+
+    fn partial_cmp(&self, other: &Addr) -> Option<Ordering> {
+        Some(self.cmp(other))
+    }
+}
+
+impl Ord for Addr {
+    ghost cmp = { on (λ a. a.0) (slice_cmp nat_cmp) };
+
+    ghost total = { Prim.search (comparing, rules) };
+
+    ghost matches_partial_cmp = { Prim.search (comparing, rules) };
+
+    ghost matches_eq = { Prim.search (comparing, rules) };
+
+    // The numbers that the bytes are compare as the bytes do, and faster.
+    fn cmp(&self, other: &Addr) -> Ordering {
+        self.number().cmp(&other.number())
+    }
+}
 
 /// The address of all stations (IEEE Std 802.11-2016, 9.2.4.3.3).
 pub const BROADCAST: Addr = Addr([0xff, 0xff, 0xff, 0xff, 0xff, 0xff]);
@@ -48,7 +79,23 @@ fn byte_of(high: u8, low: u8) -> Option<u8>
     Some(high * 16 + low)
 }
 
+// Tells a caller's proof that they are bytes. It does nothing.
+#[tactic(auto, using(crate::proofs::AddrNumbers::all_bytes))]
+fn known_bytes(bytes: &[u8])
+    ensures { AllByRecursion (λ b. b < 256) bytes.now }
+{}
+
 impl Addr {
+    // The number that its bytes are, the first byte highest.
+    fn number(&self) -> u64
+        ensures number { result ≡ from_be_bytes w64 (0 ∷ 0 ∷ self.now.0) }
+        ensures address { IsAddr self.now }
+    {
+        known_bytes(&self.0);
+        let [a, b, c, d, e, f] = self.0;
+        u64::from_be_bytes([0, 0, a, b, c, d, e, f])
+    }
+
     /// Reads exactly six pairs of hexadecimal digits, of either case, joined by `:`. It takes no memory.
     pub fn parse(text: &[u8]) -> Option<Addr>
         ensures { result ≡ address_of text.now }
