@@ -15,7 +15,7 @@ use Rattle.apd_record.specs.Meaning.{meaning_of}
 use Rattle.apd_record.specs.declared.change.Change.{Change}
 use Rattle.apd_record.specs.declared.change.Change.TheVariants.{Put, Drop}
 use Rattle.apd_core.specs.Heard.{LastHeard, AreMomentsOf, heard_by_change, heard_by_changes}
-use Rattle.apd_core.specs.ChangedRows.{is_of, is_put_of, puts_row, touches_row}
+use Rattle.apd_core.specs.ChangedRows.{drops_row, is_drop_of, is_of, is_put_of, puts_row, touches_row}
 use Rattle.apd_core.specs.LaidDown.{AreLaidDown, tidied}
 use Rattle.apd_core.proofs.Hearing.{after_changes}
 
@@ -96,11 +96,11 @@ module _ (changes : List Change) (i : ℕ) (change : Change) (rest : List Change
       ap (cond (list_any (is_put_of k) rest) (Some m)) here ∙ stamped_twice (is_put_of k change) (list_any (is_put_of k) rest) m now
       ∙ ap (λ cs. cond (list_any (is_put_of k) cs) (Some m) now) (sym left) ∙ so_far
 
-  pub tidied_on : (t : Bool) (now new end : Option Moment) → new ≡ tidied (is_of k change) t now
-      → tidied (list_any (is_of k) (drop i changes)) t now ≡ end → tidied (list_any (is_of k) rest) t new ≡ end
-  tidied_on t now new end here so_far =
-      ap (tidied (list_any (is_of k) rest) t) here ∙ tidied_twice (is_of k change) (list_any (is_of k) rest) t now
-      ∙ ap (λ cs. tidied (list_any (is_of k) cs) t now) (sym left) ∙ so_far
+  pub tidied_on : (p : Change → Bool) (t : Bool) (now new end : Option Moment) → new ≡ tidied (p change) t now
+      → tidied (list_any p (drop i changes)) t now ≡ end → tidied (list_any p rest) t new ≡ end
+  tidied_on p t now new end here so_far =
+      ap (tidied (list_any p rest) t) here ∙ tidied_twice (p change) (list_any p rest) t now
+      ∙ ap (λ cs. tidied (list_any p cs) t now) (sym left) ∙ so_far
 
   -- a row that a change puts is one that all put
   pub put_of_all : is_put_of k change ≡ true → puts_row changes k ≡ true
@@ -209,6 +209,46 @@ puts_are_touches k (change ∷ changes) e =
       | false ↦ λ _. puts_are_touches k changes (neither (is_of k change) (touches_row changes k) e).1
     ] refl
 
+-- a row that is neither put nor dropped isn't touched
+neither_touches : (k : Key) (change : Change) → is_put_of k change ≡ false → is_drop_of k change ≡ false → is_of k change ≡ false
+neither_touches k (Put b a station) e f = e
+neither_touches k (Drop b a) e f = f
+neither_touches k other e f = e
+
+none_touches : (k : Key) (changes : List Change) → puts_row changes k ≡ false → drops_row changes k ≡ false → touches_row changes k ≡ false
+none_touches k [] e f = e
+none_touches k (change ∷ changes) e f =
+    let put = neither (is_put_of k change) (puts_row changes k) e in
+    let dropped = neither (is_drop_of k change) (drops_row changes k) f in
+    ap (λ t. t || touches_row changes k) (neither_touches k change put.0 dropped.0) ∙ none_touches k changes put.1 dropped.1
+
+-- a row that is put, and not dropped, has a moment
+module _ (m : Moment) (k : Key) where
+  here_after : (change : Change) (heard : LastHeard) → is_drop_of k change ≡ false → IsSome (maps.get heard k) → IsSome (maps.get (heard_by_change m change heard) k)
+  here_after (Put b a station) heard e some =
+      subst IsSome (sym (maps.get-insert station_total heard (b, a) m k)) (elim (eq_by_cmp station_cmp k (b, a)) as (λ t. IsSome (cond t (Some m) (maps.get heard k))) [ true ↦ refl | false ↦ some ])
+  here_after (Drop b a) heard e some = subst IsSome (sym (maps.get-remove station_total heard (b, a) k ∙ ap (λ t. cond t None (maps.get heard k)) e)) some
+  here_after other heard e some = some
+
+  put_here : (change : Change) (heard : LastHeard) → is_put_of k change ≡ true → IsSome (maps.get (heard_by_change m change heard) k)
+  put_here (Put b a station) heard e = subst IsSome (sym (maps.get-insert station_total heard (b, a) m k ∙ ap (λ t. cond t (Some m) (maps.get heard k)) e)) refl
+  put_here other heard e = cc
+
+  stays : (changes : List Change) (heard : LastHeard) → drops_row changes k ≡ false → IsSome (maps.get heard k) → IsSome (maps.get (heard_by_changes m changes heard) k)
+  stays [] heard e some = some
+  stays (change ∷ changes) heard e some =
+      let both = neither (is_drop_of k change) (drops_row changes k) e in
+      stays changes (heard_by_change m change heard) both.1 (here_after change heard both.0 some)
+
+  comes : (changes : List Change) (heard : LastHeard) → drops_row changes k ≡ false → puts_row changes k ≡ true → IsSome (maps.get (heard_by_changes m changes heard) k)
+  comes [] heard e put = cc
+  comes (change ∷ changes) heard e put =
+      let both = neither (is_drop_of k change) (drops_row changes k) e in
+      elim (is_put_of k change) as (λ t. is_put_of k change ≡ t → (t || puts_row changes k) ≡ true → IsSome (maps.get (heard_by_changes m changes (heard_by_change m change heard)) k)) [
+        | true ↦ λ here _. stays changes (heard_by_change m change heard) both.1 (put_here change heard here)
+        | false ↦ λ _ later. comes changes (heard_by_change m change heard) both.1 later
+      ] refl put
+
 module _ (s : State) (old : LastHeard) (moments : AreMomentsOf s old) (changes : List Change) (laid : LastHeard) (are : AreLaidDown changes old laid) where
   -- a row that no change puts has its moment
   not_put : (k : Key) → puts_row changes k ≡ false → maps.get laid k ≡ maps.get old k
@@ -231,20 +271,21 @@ module _ (s : State) (old : LastHeard) (moments : AreMomentsOf s old) (changes :
             ] refl
       ] refl)
 
-  -- stamped, and tidied by the table as it is, they are those that the changes leave
+  -- stamped, and those that are dropped tidied by the table as it is, they are those that the changes leave
   pub changed : (m : Moment) (stamps new : LastHeard) → ((k : Key) → maps.get stamps k ≡ cond (puts_row changes k) (Some m) (maps.get laid k))
-      → ((k : Key) → maps.get new k ≡ tidied (touches_row changes k) (is_some (maps.get (meaning_of changes s).stations k)) (maps.get stamps k)) → new ≡ heard_by_changes m changes old
+      → ((k : Key) → maps.get new k ≡ tidied (drops_row changes k) (is_some (maps.get (meaning_of changes s).stations k)) (maps.get stamps k)) → new ≡ heard_by_changes m changes old
   changed m stamps new stamp says = maps.same_map station_total station_exact new (heard_by_changes m changes old) (λ k.
       let after = maps.get (heard_by_changes m changes old) k in
       let there : is_some after ≡ is_some (maps.get (meaning_of changes s).stations k) = after_changes m changes s old moments k.0 k.1 in
-      says k ∙ elim (is_some (maps.get (meaning_of changes s).stations k)) as (λ t. is_some (maps.get (meaning_of changes s).stations k) ≡ t → tidied (touches_row changes k) t (maps.get stamps k) ≡ after) [
+      says k ∙ elim (is_some (maps.get (meaning_of changes s).stations k)) as (λ t. is_some (maps.get (meaning_of changes s).stations k) ≡ t → tidied (drops_row changes k) t (maps.get stamps k) ≡ after) [
         | true ↦ λ row. stamp k ∙ same_moment k m (puts_row changes k) refl ∙ sym (stamped m k changes old (there ∙ row))
         | false ↦ λ no_row.
             let none : after ≡ None = no_value _ (there ∙ no_row) in
-            elim (touches_row changes k) as (λ t. touches_row changes k ≡ t → cond t None (maps.get stamps k) ≡ after) [
+            elim (drops_row changes k) as (λ t. drops_row changes k ≡ t → cond t None (maps.get stamps k) ≡ after) [
               | true ↦ λ _. sym none
-              | false ↦ λ e.
-                  let unput = puts_are_touches k changes e in
-                  stamp k ∙ ap (λ t. cond t (Some m) (maps.get laid k)) unput ∙ not_put k unput ∙ sym (untouched m k changes old e)
+              | false ↦ λ e. elim (puts_row changes k) as (λ t. puts_row changes k ≡ t → maps.get stamps k ≡ after) [
+                | true ↦ λ put. none_is after none (comes m k changes old e put)
+                | false ↦ λ unput. stamp k ∙ ap (λ t. cond t (Some m) (maps.get laid k)) unput ∙ not_put k unput ∙ sym (untouched m k changes old (none_touches k changes unput e))
+              ] refl
             ] refl
       ] refl)

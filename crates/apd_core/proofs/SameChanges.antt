@@ -10,8 +10,6 @@ use Rattle.apd_base.specs.declared.address.Bssid.{Bssid}
 use Rattle.apd_base.specs.declared.station.AclMode.{AclMode}
 use Rattle.apd_base.specs.declared.station.AclMode.TheVariants.{AcceptUnlessDenied, DenyUnlessAccepted}
 use Rattle.apd_base.specs.declared.station.Policy.{Policy as BssPolicy}
-use Rattle.apd_base.specs.declared.station.Station.{Station}
-use Rattle.apd_base.specs.declared.station.Station.TheVariants.{Authenticated, Associated}
 use Rattle.apd_base.specs.declared.station.Which.{Which}
 use Rattle.apd_base.specs.declared.station.Which.TheVariants.{Accept, Deny}
 use Rattle.apd_base.specs.contracts.address.AddrPartialEq.TheImpl as addr
@@ -24,7 +22,8 @@ use Rattle.apd_record.specs.declared.change.Change.{Change}
 use Rattle.apd_record.specs.declared.change.Change.TheVariants.{Put, Drop, ListAdd, ListDel, ListClear, Policy, Cursor}
 use Rattle.apd_record.specs.contracts.change.ChangePartialEq.TheImpl as change
 use Rattle.apd_record.specs.contracts.change.ChangeEq.TheImpl.Laws.{laws-law}
-use Rattle.apd_base.proofs.StationLemmas.{same_aid, same_station_number}
+use Rattle.apd_base.proofs.StationLemmas.{same_station_number}
+use Rattle.apd_table.proofs.SameRows.{same_station}
 
 same_addr : (a d : Addr) → (addr.eq-value).it a d ≡ true → a ≡ d
 same_addr a d e = ap (λ (bytes : List ℕ). record { 0 = bytes }) ((bytes_eq-Decides a.0 d.0).0 e)
@@ -41,15 +40,6 @@ same_mode : (w v : AclMode) → (mode.eq-value).it w v ≡ true → w ≡ v
 same_mode AcceptUnlessDenied AcceptUnlessDenied e = refl
 same_mode DenyUnlessAccepted DenyUnlessAccepted e = refl
 same_mode w v e = absurd (false≢true e)
-
-same_station : (s t : Station) → (station.eq-value).it s t ≡ true → s ≡ t
-same_station Authenticated Authenticated e = refl
-same_station (Associated x) (Associated y) e =
-    let first = and_parts (x.aid.number == y.aid.number) ((x.capability == y.capability) && (x.listen_interval == y.listen_interval)) e in
-    let behind = and_parts (x.capability == y.capability) (x.listen_interval == y.listen_interval) first.1 in
-    let aids = same_aid x.aid y.aid ((Decides-eqb x.aid.number y.aid.number).0 first.0) in
-    (λ i. Associated (record { aid = aids i; capability = (Decides-eqb x.capability y.capability).0 behind.0 i; listen_interval = (Decides-eqb x.listen_interval y.listen_interval).0 behind.1 i }))
-same_station s t e = absurd (false≢true e)
 
 same_policy : (x y : BssPolicy) → (policy.eq-value).it x y ≡ true → x ≡ y
 same_policy x y e =

@@ -13,6 +13,11 @@ abbrev pub is_put_of : Bssid × Addr → Change → Bool
 is_put_of k (Put b a station) = eq_by_cmp station_cmp k (b, a)
 is_put_of k other = false
 
+-- whether it drops it
+abbrev pub is_drop_of : Bssid × Addr → Change → Bool
+is_drop_of k (Drop b a) = eq_by_cmp station_cmp k (b, a)
+is_drop_of k other = false
+
 -- and whether it puts or drops it
 abbrev pub is_of : Bssid × Addr → Change → Bool
 is_of k (Put b a station) = eq_by_cmp station_cmp k (b, a)
@@ -21,6 +26,9 @@ is_of k other = false
 
 abbrev pub puts_row : List Change → Bssid × Addr → Bool
 puts_row changes k = list_any (is_put_of k) changes
+
+abbrev pub drops_row : List Change → Bssid × Addr → Bool
+drops_row changes k = list_any (is_drop_of k) changes
 
 abbrev pub touches_row : List Change → Bssid × Addr → Bool
 touches_row changes k = list_any (is_of k) changes

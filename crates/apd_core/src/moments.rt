@@ -12,7 +12,7 @@ ghost use Rattle.apd_base.specs.declared.address.Bssid.{Bssid};
 ghost use Rattle.apd_mlme.specs.Happening.{happening};
 ghost use Rattle.apd_record.specs.Meaning.{meaning_of};
 ghost use Rattle.apd_core.specs.Heard.{due, heard_by, heard_by_changes, heard_from, is_due, is_too_long, AreHeardAt, AreMomentsOf, LastHeard};
-ghost use Rattle.apd_core.specs.ChangedRows.{is_of, is_put_of, puts_row, touches_row};
+ghost use Rattle.apd_core.specs.ChangedRows.{drops_row, is_drop_of, is_of, is_put_of, puts_row, touches_row};
 ghost use Rattle.apd_core.specs.LaidDown.{heard_at, tidied, AreLaidDown, HaveRoomFor};
 
 use apd_base::{Addr, Bssid, Moment};
@@ -222,6 +222,28 @@ impl Moments {
         }
     }
 
+    /// The row that a change drops keeps its moment only where the table has it.
+    fn tidy_drop(&mut self, change: &Change, table: &Table)
+        ensures { (k : Bssid × Addr)
+            → map.get self.new k
+            ≡ tidied (is_drop_of k change.now) (is_some (map.get table.now.stations k)) (map.get self.old k) }
+    {
+        if let Change::Drop { bssid, addr } = *change {
+            self.tidy_row(bssid, addr, table);
+        }
+    }
+
+    /// The same for changes.
+    fn tidy_drops(&mut self, changes: &[Change], table: &Table)
+        ensures { (k : Bssid × Addr)
+            → map.get self.new k
+            ≡ tidied (drops_row changes.now k) (is_some (map.get table.now.stations k)) (map.get self.old k) }
+    {
+        for change in changes {
+            self.tidy_drop(change, table);
+        }
+    }
+
     /// Lays down a moment for each row that changes put, so that `hear_changes` wants no memory once a table, whose
     /// rows these are the moments of, has changed. Where memory is refused all is as it was.
     pub(crate) fn make_room(
@@ -259,15 +281,15 @@ impl Moments {
             → table.now ≡ meaning_of changes.now state → self.new ≡ heard_by_changes moment changes.now before }
     {
         self.stamp_all(changes, moment);
-        self.tidy_all(changes, table);
+        self.tidy_drops(changes, table);
     }
 
     /// A station was heard. Without a row it has no moment. It takes no memory, and looks at its row alone.
     fn hear(&mut self, bssid: Bssid, addr: Addr, moment: Moment)
         ensures { self.new ≡ heard_from moment bssid addr self.old }
     {
-        if self.get(bssid, addr).is_some() {
-            self.put(bssid, addr, moment).unwrap();
+        if let Some(heard) = self.rows.get_mut(&(bssid, addr)) {
+            *heard = moment;
         }
     }
 

@@ -1,5 +1,5 @@
 -- What the look-ups for a clash say of the state.
-use Rattle.std.proofs.Common.{◌≡◌, ◌↔◌, ℕ, Bool, true, false, not, ◌&&◌, List, inl, inr, refl, sym, ap, ◌∙◌, IsSome}
+use Rattle.std.proofs.Common.{◌≡◌, ◌↔◌, ℕ, ◌<◌, Some, IsTrue, Bool, true, false, not, ◌&&◌, List, inl, inr, refl, sym, ap, ◌∙◌, IsSome}
 use Rattle.std.proofs.lemmas.Bool.{and_parts}
 use Rattle.std.proofs.lemmas.List.Folds.{Any-from_list_any, list_any-from_Any}
 use Rattle.std.specs.List.{list_any}
@@ -12,7 +12,10 @@ use Rattle.apd_base.proofs.AddrLemmas.{bssid_total, bssid_exact, same_bssid}
 use Rattle.apd_base.proofs.MapLemmas.{one_or_apart, tied}
 use Rattle.apd_base.proofs.StateLemmas.{station_of_aid}
 use Rattle.apd_base.specs.State.{State, aid_at, station_at}
-use Rattle.apd_table.specs.Can.{IsFreeFor, MayHave}
+use Rattle.apd_table.specs.Can.{IsAlone, IsFreeFor}
+use Rattle.apd_table.specs.fields.Members.{IsMembers, is_set}
+use Rattle.apd_table.specs.declared.members.Members.{Members}
+use Rattle.apd_table.proofs.Places.{places_of}
 use Rattle.apd_table.specs.Rows.{is_associated_apart}
 use Rattle.apd_table.specs.Sound.{Sound}
 use Rattle.apd_base.proofs.Cases.{differ, not_yes}
@@ -23,7 +26,7 @@ one_of c test ks h e =
     let one = Any-from_list_any (eq_by_cmp bssid_cmp c) ks h in
     list_any-from_Any test ks (one.0, one.1, one.2, one.3, sym (ap test (same_bssid one.1 c one.4)) ∙ e)
 
-module _ (s : State) (sound : Sound s) (b : Bssid) (a : Addr) (i : ℕ) where
+module _ (s : State) (sound : Sound s) (b : Bssid) (a : Addr) where
   abbrev is_apart : Bssid → Bool
   is_apart c = is_associated_apart b c (station_at s c a)
 
@@ -40,13 +43,21 @@ module _ (s : State) (sound : Sound s) (b : Bssid) (a : Addr) (i : ℕ) where
             absurd (differ apart none (one_of c is_apart (map.keys s.policies) among (λ j. not (ne j) && h j)))
       ]
 
-  apart_from : (c : Bssid) → is_apart c ≡ true → MayHave s b a i → ⊥
-  apart_from c e may =
+  apart_from : (c : Bssid) → is_apart c ≡ true → IsAlone s b a → ⊥
+  apart_from c e alone =
       let parts = and_parts _ _ e in
-      differ _ (not_yes _ parts.0) (ap (λ d. eq_by_cmp bssid_cmp b d) (sym (may.alone c parts.1)) ∙ tied bssid_total bssid_exact b)
+      differ _ (not_yes _ parts.0) (ap (λ d. eq_by_cmp bssid_cmp b d) (sym (alone c parts.1)) ∙ tied bssid_total bssid_exact b)
 
-  -- a station may have the identifier exactly where no other has it and the station is associated nowhere else
-  pub may_have_iff : (t u : Bool) → (t ≡ true) ↔ IsFreeFor s b a i → u ≡ apart → ((t && not u) ≡ true) ↔ MayHave s b a i
-  may_have_iff false u free f = (λ h. cc, λ may. free.1 may.free)
-  may_have_iff true true free f = (λ h. cc, λ may. (let found = Any-from_list_any is_apart (map.keys s.policies) (sym f) in absurd (apart_from found.1 found.4 may)))
-  may_have_iff true false free f = (λ h. record { free = free.0 refl; alone = alone_of (sym f) }, λ may. refl)
+  -- a station is associated nowhere else exactly where no look finds it there
+  pub alone_iff : (u : Bool) → u ≡ apart → (not u ≡ true) ↔ IsAlone s b a
+  alone_iff true f = (λ h. cc, λ alone. (let found = Any-from_list_any is_apart (map.keys s.policies) (sym f) in absurd (apart_from found.1 found.4 alone)))
+  alone_iff false f = (λ h. alone_of (sym f), λ alone. refl)
+
+-- no other station has an identifier exactly where its place is not set, or is this station's
+pub free_iff : (s : State) → Sound s → (b : Bssid) (a : Addr) (i : ℕ) → i < 2048 → (x : Members) → IsMembers s b x
+    → (IsTrue (is_set x.words i) → aid_at s b a ≡ Some i) ↔ IsFreeFor s b a i
+free_iff s sound b a i lt x is =
+    let place = places_of s b x.words is.words i lt in (
+      λ own c h. sound.distinct b a c i (own (place.1 (c, h))) h,
+      λ free set. (let taken = place.0 set in (λ j. aid_at s b (free taken.0 taken.1 j)) ∙ taken.1),
+    )

@@ -23,5 +23,6 @@ pub mod Put
 mod Replays
 mod Rooms
 mod RowChanges
+pub mod SameRows
 pub mod SnapshotSize
 mod StationRows

@@ -17,11 +17,14 @@ use Rattle.apd_table.specs.Allowed.{allowed}
 abbrev pub IsFreeFor : State → Bssid → Addr → ℕ → Type 0
 IsFreeFor s b a i = (c : Addr) → aid_at s b c ≡ Some i → a ≡ c
 
+-- the station is associated at no other BSSID
+abbrev pub IsAlone : State → Bssid → Addr → Type 0
+IsAlone s b a = (c : Bssid) → IsSome (aid_at s c a) → b ≡ c
+
 -- the station may be associated at the BSSID with the identifier
 pub record MayHave (s : State) (b : Bssid) (a : Addr) (i : ℕ) : Type 0 where
   pub free : IsFreeFor s b a i
-  -- the station is associated at no other BSSID
-  pub alone : (c : Bssid) → IsSome (aid_at s c a) → b ≡ c
+  pub alone : IsAlone s b a
 
 -- a station's row
 pub record CanPut (s : State) (b : Bssid) (a : Addr) (v : Station) : Type 0 where

@@ -1,7 +1,7 @@
 //! A table, seen as the state of an access point.
 ghost use Rattle.std.specs.Prelude.{◌≡◌, ◌≢◌, ℕ, ◌<◌, ◌≤◌, ◌⊎◌, ◌↔◌, ◌&&◌, filter, length, map as list_map, OnOk, OnErr, IsOk, IfOk, IsSome, IfSome, IfNone, IsTrue, Some, None, Err};
 ghost use Rattle.std.specs.List.{list_any, slice_get};
-ghost use Rattle.std.specs.Option.{is_some, option_map};
+ghost use Rattle.std.specs.Option.{is_some, option_copied, option_map};
 ghost use Rattle.std.specs.declared.cmp.Ordering.TheVariants.{Less};
 ghost use Rattle.std.specs.FinMap as map;
 ghost use Rattle.apd_base.specs.Addr.{addr_cmp};
@@ -10,7 +10,7 @@ ghost use Rattle.apd_base.specs.declared.address.Addr.{Addr};
 ghost use Rattle.apd_base.specs.declared.address.Bssid.{Bssid};
 ghost use Rattle.apd_base.specs.declared.limits.TheConstants.{MAX_BSS, MAX_STATIONS, MAX_LISTED};
 ghost use Rattle.apd_base.specs.declared.station.Which.{Which};
-ghost use Rattle.apd_base.specs.State.{aid_of, aid_at, station_at, policy_at, count, list_count, IsListed, empty_state};
+ghost use Rattle.apd_base.specs.State.{aid_of, station_at, policy_at, count, list_count, IsListed, empty_state};
 ghost use Rattle.apd_acl.specs.Least.{IsLeast, IsLeastAbove};
 ghost use Rattle.apd_acl.specs.Lists.{has, list_of};
 ghost use Rattle.apd_record.specs.Meaning.{meaning, meaning_of, put_station, drop_station, add_to_list, take_from_list, clear_list, set_policy, set_cursor};
@@ -18,11 +18,12 @@ ghost use Rattle.apd_record.specs.Record.{records_of};
 ghost use Rattle.apd_record.specs.declared.change.Change.TheVariants.{Drop, ListAdd, Policy as SetPolicy};
 ghost use Rattle.apd_table.specs.Addresses.{addresses_at, denied_after, is_denied_after, is_address_denied_after};
 ghost use Rattle.apd_table.specs.Allowed.{allowed, denied_by, mode_and_max};
-ghost use Rattle.apd_table.specs.Can.{CanPut, CanSet, CanAdd, IsFreeFor, MayHave, NoneDeniedAfter};
-ghost use Rattle.apd_table.specs.LeastFree.{AreTakenAbove, IsLeastFree, IsNextFree, IsTaken};
-ghost use Rattle.apd_table.specs.NewRow.{IsNewRow};
+ghost use Rattle.apd_table.specs.Can.{CanPut, CanSet, CanAdd, IsAlone, MayHave, NoneDeniedAfter};
+ghost use Rattle.apd_table.specs.LeastFree.{AreTakenAbove, IsLeastFree, IsNextFree};
+ghost use Rattle.apd_table.specs.NewRow.{IsNewRow, IsOldRow};
 ghost use Rattle.apd_table.specs.Rows.{AreMarkedAbove, IsLeastUnmarked, is_associated_apart};
-ghost use Rattle.apd_table.specs.fields.Members.{is_set};
+ghost use Rattle.apd_table.specs.fields.BssRows.{is_listed_in, policy_of};
+ghost use Rattle.apd_table.specs.fields.Members.{IsMembers, is_set};
 ghost use Rattle.apd_table.specs.Snapshot.{canonical};
 ghost use Rattle.apd_table.specs.Sound.{Sound, StaySound};
 ghost use Rattle.apd_table.specs.Words.{AreWords};
@@ -89,6 +90,24 @@ fn is_associated(station: Option<Station>) -> bool
 {
     match station {
         Some(Station::Associated(_)) => true,
+        Some(Station::Authenticated) | None => false,
+    }
+}
+
+// Whether the identifier is marked by no row, or by this one.
+fn is_free(members: &Members, old: Option<Station>, aid: u16) -> bool
+    requires { aid ≤ MAX_STATIONS }
+    ensures { IsTrue result ↔ (IsTrue (is_set members.now.words aid) → aid_of old ≡ Some aid) }
+{
+    !members.has(aid) || has_aid(old, aid)
+}
+
+// Whether a row has the identifier.
+fn has_aid(station: Option<Station>, aid: u16) -> bool
+    ensures { IsTrue result ↔ (aid_of station ≡ Some aid) }
+{
+    match station {
+        Some(Station::Associated(association)) => association.aid.number == aid,
         Some(Station::Authenticated) | None => false,
     }
 }
@@ -370,7 +389,8 @@ impl Table {
         ensures drop { (b : Bssid) (a : Addr) → change.now ≡ Drop b a → IsOk result }
         ensures err { OnErr result (self.new ≡ self.old) }
     {
-        if !self.can_make(change) {
+        let old = self.old_row(change);
+        if !self.can_make(change, old) {
             return Err(TableFault::Invalid);
         }
         match *change {
@@ -378,8 +398,8 @@ impl Table {
                 bssid,
                 addr,
                 station,
-            } => self.put(bssid, addr, station)?,
-            Change::Drop { bssid, addr } => self.drop_station(bssid, addr),
+            } => self.put(bssid, addr, old, station)?,
+            Change::Drop { bssid, addr } => self.drop_station(bssid, addr, old),
             Change::ListAdd { bssid, which, addr } => self.add(bssid, which, addr)?,
             Change::ListDel { bssid, which, addr } => self.take(bssid, which, addr),
             Change::ListClear { bssid, which } => self.clear(bssid, which),
@@ -389,8 +409,23 @@ impl Table {
         Ok(())
     }
 
+    // The row that a change writes over or takes out.
+    fn old_row(&self, change: &Change) -> Option<Station>
+        ensures { IsOldRow change.now result self.now }
+    {
+        match *change {
+            Change::Put { bssid, addr, .. } | Change::Drop { bssid, addr } => self.get(bssid, addr),
+            Change::ListAdd { .. }
+            | Change::ListDel { .. }
+            | Change::ListClear { .. }
+            | Change::Policy { .. }
+            | Change::Cursor { .. } => None,
+        }
+    }
+
     // Whether the state after a change is sound. One after a drop is.
-    fn can_make(&self, change: &Change) -> bool
+    fn can_make(&self, change: &Change, old: Option<Station>) -> bool
+        requires { IsOldRow change.now old self.now }
         ensures sound { IsTrue result ↔ Sound (meaning change.now self.now) }
         ensures drop { (b : Bssid) (a : Addr) → change.now ≡ Drop b a → IsTrue result }
     {
@@ -400,7 +435,7 @@ impl Table {
                 bssid,
                 addr,
                 station,
-            } => self.can_put(bssid, addr, station),
+            } => self.can_put(bssid, addr, old, station),
             Change::Drop { .. } => true,
             Change::ListAdd { bssid, which, addr } => self.can_add(bssid, which, addr, change),
             Change::ListDel { bssid, .. } => self.denies_none_after(bssid, change),
@@ -410,43 +445,61 @@ impl Table {
         }
     }
 
+    // The row of a BSSID, and what is kept in it of its stations.
+    fn row(&self, bssid: Bssid) -> Option<&Bss>
+        ensures policy { option_map policy_of (option_copied result) ≡ policy_at self.now bssid }
+        ensures lists { (w : Which) (a : Addr)
+            → is_listed_in (option_copied result) w a ≡ contains self.now.lists (bssid, w, a) }
+        ensures members { IfSome result (λ bss. IsMembers self.now bssid bss.now.members) }
+    {
+        self.bss.get(bssid)
+    }
+
+    // Whether a station's row may be put over its old one, of which there may be none.
+    fn can_put(&self, bssid: Bssid, addr: Addr, old: Option<Station>, station: Station) -> bool
+        requires { old ≡ station_at self.now bssid addr }
+        ensures { IsTrue result ↔ CanPut self.now bssid addr station }
+    {
+        let Some(bss) = self.row(bssid) else {
+            return false;
+        };
+        let identified = match station {
+            Station::Authenticated => true,
+            Station::Associated(association) => {
+                self.may_have(bssid, addr, old, association.aid.number, &bss.members)
+            }
+        };
+        identified
+            && bss.lists.allowed(addr, bss.policy.mode)
+            && (old.is_some() || bss.members.count < MAX_STATIONS)
+    }
+
     // Whether the identifier is free at the BSSID, and the station's only one.
-    fn may_have(&self, bssid: Bssid, addr: Addr, aid: u16) -> bool
-        requires { aid ≤ MAX_STATIONS }
+    fn may_have(
+        &self,
+        bssid: Bssid,
+        addr: Addr,
+        old: Option<Station>,
+        aid: u16,
+        members: &Members,
+    ) -> bool
+        requires range { aid ≤ MAX_STATIONS }
+        requires old { old ≡ station_at self.now bssid addr }
+        requires members { IsMembers self.now bssid members.now }
         ensures { IsTrue result ↔ MayHave self.now bssid addr aid }
     {
         self.sound();
-        self.is_free(bssid, addr, aid) && !self.is_elsewhere(bssid, addr)
+        is_free(members, old, aid) && self.is_alone(bssid, addr, old)
     }
 
-    // Whether no other station of the BSSID has the identifier.
-    fn is_free(&self, bssid: Bssid, addr: Addr, aid: u16) -> bool
-        requires { aid ≤ MAX_STATIONS }
-        ensures { IsTrue result ↔ IsFreeFor self.now bssid addr aid }
+    // Whether the station is associated at no other BSSID: in a sound state one that is associated here is
+    // associated nowhere else.
+    fn is_alone(&self, bssid: Bssid, addr: Addr, old: Option<Station>) -> bool
+        requires { old ≡ station_at self.now bssid addr }
+        ensures { IsTrue result ↔ IsAlone self.now bssid addr }
     {
         self.sound();
-        !self.is_taken(bssid, aid) || self.has_aid(bssid, addr, aid)
-    }
-
-    // Whether a station of the BSSID has the identifier.
-    fn is_taken(&self, bssid: Bssid, aid: u16) -> bool
-        requires { aid ≤ MAX_STATIONS }
-        ensures { IsTrue result ↔ IsTaken self.now bssid aid }
-    {
-        match self.bss.get(bssid) {
-            Some(bss) => bss.members.has(aid),
-            None => false,
-        }
-    }
-
-    // Whether this one has it.
-    fn has_aid(&self, bssid: Bssid, addr: Addr, aid: u16) -> bool
-        ensures { IsTrue result ↔ (aid_at self.now bssid addr ≡ Some aid) }
-    {
-        match self.get(bssid, addr) {
-            Some(Station::Associated(association)) => association.aid.number == aid,
-            Some(Station::Authenticated) | None => false,
-        }
+        is_associated(old) || !self.is_elsewhere(bssid, addr)
     }
 
     // Whether the station is associated at another BSSID: one that has stations has a policy.
@@ -476,30 +529,6 @@ impl Table {
         ensures { IsTrue result ↔ IsSome (policy_at self.now bssid) }
     {
         self.bss.get(bssid).is_some()
-    }
-
-    // Whether the BSSID has a policy, and it allows the station.
-    fn allows(&self, bssid: Bssid, addr: Addr) -> bool
-        ensures { IsTrue result ↔ (IsSome (policy_at self.now bssid) × IsTrue (allowed self.now bssid addr)) }
-    {
-        self.has_policy(bssid) && self.allowed(bssid, addr)
-    }
-
-    // Whether the BSSID has a row for the station, or room for one more.
-    fn has_room(&self, bssid: Bssid, addr: Addr) -> bool
-        ensures { IsTrue result ↔ (IsSome (station_at self.now bssid addr) ⊎ (count self.now bssid < MAX_STATIONS)) }
-    {
-        self.get(bssid, addr).is_some() || self.count(bssid) < MAX_STATIONS
-    }
-
-    fn can_put(&self, bssid: Bssid, addr: Addr, station: Station) -> bool
-        ensures { IsTrue result ↔ CanPut self.now bssid addr station }
-    {
-        let identified = match station {
-            Station::Authenticated => true,
-            Station::Associated(association) => self.may_have(bssid, addr, association.aid.number),
-        };
-        identified && self.allows(bssid, addr) && self.has_room(bssid, addr)
     }
 
     // Whether each station with a row at the BSSID is allowed there once a change is made. Each was before,
@@ -555,22 +584,32 @@ impl Table {
             && self.denies_none_after(bssid, change)
     }
 
-    fn drop_station(&mut self, bssid: Bssid, addr: Addr)
+    fn drop_station(&mut self, bssid: Bssid, addr: Addr, old: Option<Station>)
+        requires { old ≡ station_at self.old bssid addr }
         ensures { self.new ≡ drop_station bssid addr self.old }
     {
-        let old = self.stations.get(bssid, addr);
         self.stations.remove(bssid, addr);
         self.bss.change_row(bssid, old, None);
     }
 
-    // This change and those below are made where the state after them is sound.
-    fn put(&mut self, bssid: Bssid, addr: Addr, station: Station) -> Result<(), AllocError>
-        requires { Sound (put_station bssid addr station self.old) }
+    // This change and those below are made where the state after them is sound. A row that is there is not put
+    // again.
+    fn put(
+        &mut self,
+        bssid: Bssid,
+        addr: Addr,
+        old: Option<Station>,
+        station: Station,
+    ) -> Result<(), AllocError>
+        requires sound { Sound (put_station bssid addr station self.old) }
+        requires old { old ≡ station_at self.old bssid addr }
         ensures ok { OnOk result (self.new ≡ put_station bssid addr station self.old) }
         ensures memory { OnErr result (station_at self.old bssid addr ≡ None) }
         ensures err { OnErr result (self.new ≡ self.old) }
     {
-        let old = self.stations.get(bssid, addr);
+        if old == Some(station) {
+            return Ok(());
+        }
         self.stations.put(bssid, addr, station)?;
         self.bss.change_row(bssid, old, Some(station));
         Ok(())

@@ -15,7 +15,7 @@ loop-change-preserved c k =
     let i = c.loop-change.change-index in
     let change : Change = c.change-item.result in
     let left = next_change changes i change c.loop-change-test.true c.change-item.is in
-    tidied_on changes i change (drop (i + 1) changes) left k (is_some (map.get c.args.table.now.stations k)) _ _ _ (c.tidy.ensures k) (c.loop-change.invariant k)
+    tidied_on changes i change (drop (i + 1) changes) left k (is_of k) (is_some (map.get c.args.table.now.stations k)) _ _ _ (c.tidy.ensures k) (c.loop-change.invariant k)
 
 pub returns : goal.returns
 returns c k =
