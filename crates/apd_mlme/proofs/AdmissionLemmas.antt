@@ -77,7 +77,7 @@ module _ (s : State) (confs : List Conf) (c : Bssid) (d : Addr) (none : station_
   shape_admits h _ (shape.gone b a there own known) = none_is _ (kept_new s (λ key. not (is_row_at b a key)) c d none)
   shape_admits h _ (shape.ended b a reason there known others) = none_is _ (turned_new s (is_row_at b a) c d none)
   shape_admits h _ (shape.dropped b a reason there known others) = none_is _ (kept_new s (λ key. not (is_row_at b a key)) c d none)
-  shape_admits h _ (shape.associated conf b kind request aid there known own asked) = none_is _ (associated_new s confs conf b kind request known aid c d none)
+  shape_admits h _ (shape.associated conf b kind request aid there known own asked made) = none_is _ (associated_new s confs conf b kind request known aid c d none)
   shape_admits h _ (shape.emptied b reason deauth there to_all) = none_is _ (kept_new s (λ key. not (eq_by_cmp bssid_cmp b key.0)) c d none)
   shape_admits h _ (shape.enforced b p change l q there makes keep short others needed) = none_is _ (kept_new s (stays (new s b p change l q) b p.mode) c d none)
   shape_admits h _ (shape.started conf b accept deny is first) = none_is _ none

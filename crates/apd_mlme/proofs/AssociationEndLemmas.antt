@@ -253,7 +253,7 @@ module _ (s : State) (confs : List Conf) (c : Bssid) (configured : IsSome (conf_
   shape_ended h _ (shape.gone b a there own known) ends = inl (itself h b a (dropped_ends s b a [] c d ends) own)
   shape_ended h _ (shape.ended b a reason there known others) ends = inr (put_back_first s b a c d reason ends)
   shape_ended h _ (shape.dropped b a reason there known others) ends = inr (dropped_first s b a c d reason ends)
-  shape_ended h _ (shape.associated conf b kind request aid there known own asked) ends = inr (associated_ended s confs conf b kind request c configured d aid ends)
+  shape_ended h _ (shape.associated conf b kind request aid there known own asked made) ends = inr (associated_ended s confs conf b kind request c configured d aid ends)
   shape_ended h _ (shape.emptied b reason deauth there to_all) ends = inr (all_ended s b c d reason deauth ends)
   shape_ended h _ (shape.enforced b p change l q there makes keep short others needed) ends = inr (enforced_ended s b p change l q c d ends)
   shape_ended h _ (shape.started conf b accept deny is first) ends = kept s (first_start s conf b accept deny).state c d ends refl
@@ -297,7 +297,7 @@ module _ (s : State) (confs : List Conf) (c : Bssid) (d : Addr) (aid : Aid) wher
   shape_begun h _ (shape.gone b a there own known) none now = not_now (is_row b a c d) _ (out_aid s b a c d) none now
   shape_begun h _ (shape.ended b a reason there known others) none now = not_now (is_row b a c d) _ (back_aid s b a c d) none now
   shape_begun h _ (shape.dropped b a reason there known others) none now = not_now (is_row b a c d) _ (out_aid s b a c d) none now
-  shape_begun h _ (shape.associated conf b kind request own there known is asked) none now = associated_begun conf b kind request own none now
+  shape_begun h _ (shape.associated conf b kind request own there known is asked made) none now = associated_begun conf b kind request own none now
   shape_begun h _ (shape.emptied b reason deauth there to_all) none now = not_now (eq_by_cmp bssid_cmp c b && is_among d (addresses_at s b)) _ (kept_aid s b (is_elsewhere s b) (addresses_at s b) (all_leave s b) c d) none now
   shape_begun h _ (shape.enforced b p change l q there makes keep short others needed) none now = not_now (eq_by_cmp bssid_cmp c b && is_among d (denied s b p change l q)) _ (enforced_aid s b p change l q c d) none now
   shape_begun h _ (shape.started conf b accept deny is first) none now = not_now false (aid_at s c d) refl none now

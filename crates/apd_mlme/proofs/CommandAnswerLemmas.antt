@@ -271,7 +271,7 @@ module _ (s : State) (confs : List Conf) (sound : Sound s) where
 
   under_answered : (h : Happening) (o : Option Conf) → conf_at confs (bssid_of h) ≡ o → IsFit s confs h → IsAnsweredTo s h (verdict_under s confs o h)
   under_answered (Heard b f) None at fit = refl
-  under_answered (Heard b f) (Some conf) at fit = radios_only confs (heard_verdict s confs conf b f).outs (shape_radios s confs (Heard b f) _ (heard_shape s confs b fit.0 conf f))
+  under_answered (Heard b f) (Some conf) at fit = radios_only confs (heard_verdict s confs conf b f).outs (shape_radios s confs (Heard b f) _ (heard_shape s confs b fit.0 conf at f))
   under_answered (Kick b to reason deauth tag) None at fit = none_is (conf_at confs b) at fit.0
   under_answered (Kick b to reason deauth tag) (Some conf) at fit = kick_answered b to reason deauth tag fit.0
   under_answered (ListEdit b w edit tag) None at fit = none_is (conf_at confs b) at fit.0

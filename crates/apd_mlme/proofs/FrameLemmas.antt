@@ -1,6 +1,6 @@
 -- Which frames leave: those that tell of an end, and one more at most.
 use Rattle.std.proofs.Common.{◌≡◌, ℕ, Bool, true, false, cond, ◌&&◌, List, [], ◌∷◌, ◌++◌, Option, Some, None, ◌↔◌, ◌⊎◌, ◌≢◌, inl, inr, refl, sym, ap, subst, ◌∙◌, IsSome, append-nil, arith}
-use Rattle.std.specs.Prelude.{filter, map as list_map}
+use Rattle.std.specs.Prelude.{map as list_map}
 use Rattle.std.specs.List.{Contains, flat_map}
 use Rattle.std.specs.Option.{is_some, option_map}
 use Rattle.std.specs.FinMap.{FinMap}
@@ -15,7 +15,7 @@ use Rattle.apd_base.specs.declared.address.TheConstants.{BROADCAST}
 use Rattle.apd_base.specs.declared.station.Aid.{Aid}
 use Rattle.apd_base.specs.declared.station.Station.{Station}
 use Rattle.apd_base.specs.declared.station.Station.TheVariants.{Authenticated}
-use Rattle.apd_base.specs.Addr.{addr_cmp, bssid_cmp, is_among}
+use Rattle.apd_base.specs.Addr.{addr_cmp, bssid_cmp}
 use Rattle.apd_base.specs.declared.station.Policy.{Policy as BssPolicy}
 use Rattle.apd_base.specs.Sets.{SetOf}
 use Rattle.apd_base.specs.State.{State, list_cmp, station_at, aid_of, aid_at}
@@ -27,7 +27,6 @@ use Rattle.apd_conf.specs.declared.conf.Conf.{Conf}
 use Rattle.apd_conf.specs.Confs.{conf_at}
 use Rattle.apd_frame.specs.Contents.{AssociationRequest}
 use Rattle.apd_frame.specs.Wire.{wire}
-use Rattle.apd_frame.specs.declared.codes.Reason.{Reason}
 use Rattle.apd_frame.specs.declared.codes.Status.TheVariants.{Success}
 use Rattle.apd_frame.specs.declared.codes.TheConstants.Reason.{UNSPECIFIED}
 use Rattle.apd_frame.specs.declared.replies.Reply.{Reply}
@@ -39,22 +38,19 @@ use Rattle.apd_table.specs.Sound.{Sound}
 use Rattle.apd_table.proofs.Denied.{denied_among}
 use Rattle.apd_mlme.specs.declared.association.Kind.{Kind}
 use Rattle.apd_mlme.specs.declared.command_answer.Answer.{Answer}
-use Rattle.apd_mlme.specs.declared.decision.Recipient.{Recipient}
-use Rattle.apd_mlme.specs.declared.decision.Recipient.TheVariants.{Radio}
 use Rattle.apd_mlme.specs.declared.decision.Out.{Out}
-use Rattle.apd_mlme.specs.declared.decision.Out.TheVariants.{Install, Remove, Frame}
-use Rattle.apd_mlme.specs.Happening.{Happening, Heard}
-use Rattle.apd_mlme.specs.Outs.{outs_to, sent}
+use Rattle.apd_mlme.specs.declared.decision.Out.TheVariants.{Remove, Frame}
+use Rattle.apd_mlme.specs.Happening.{Happening}
 use Rattle.apd_mlme.specs.rules.{verdict}
 use Rattle.apd_mlme.specs.rules.Association as rule
 use Rattle.apd_mlme.specs.rules.Association.{association_response, elsewhere, row_of}
 use Rattle.apd_mlme.specs.rules.Authentication.{auth_response, auth_status, is_admitted}
-use Rattle.apd_mlme.specs.rules.Commands.{answered, farewell, text}
+use Rattle.apd_mlme.specs.rules.Commands.{answered, farewell}
 use Rattle.apd_mlme.specs.rules.Identifiers.{identifier_for}
-use Rattle.apd_mlme.specs.rules.Leaving.{deauthentication, disassociation, outs_of_drop, removal}
+use Rattle.apd_mlme.specs.rules.Leaving.{deauthentication, disassociation, outs_of_drop}
 use Rattle.apd_mlme.specs.Verdict.{Verdict}
 use Rattle.apd_mlme.specs.laws.AssociationEnd.{HasLeft}
-use Rattle.apd_mlme.specs.laws.NothingElse.{AreFramesDue, AreNotices, HasCeased, HasLost, IsToAll, Names, Rise, frames}
+use Rattle.apd_mlme.specs.laws.NothingElse.{AreFramesDue, AreNotices, HasLost, IsToAll, Names, Rise, frames}
 use Rattle.apd_mlme.proofs.AssociationLemmas.{cleared, cleared_here, cleared_station, associated_station}
 use Rattle.apd_mlme.proofs.AssociationResponseLemmas.{at_again, at_anew}
 use Rattle.apd_mlme.proofs.AuthenticationLemmas.{admitted_aid}
@@ -63,7 +59,6 @@ use Rattle.apd_mlme.proofs.ElsewhereLemmas.{is_bssid_among}
 use Rattle.apd_mlme.proofs.EnforcementLemmas as enforcement
 use Rattle.apd_mlme.proofs.EnforcementLemmas.{denied, enforced_dropped, enforced_elsewhere, enforced_gone, enforced_here, new}
 use Rattle.apd_mlme.proofs.LetGoLemmas.{aid_there, ends_there, its_own, or_none}
-use Rattle.apd_mlme.proofs.OutsLemmas.{outs_to-append}
 use Rattle.apd_mlme.proofs.RadioLemmas.{all_at, answered_at, drop_at, dropped_at, each_at, end_at, farewell_bssid, farewell_to, frames-append, frames-each, frames-none, gone_at, gone_frames, here, left_at, removal_at, sent_at, told_frames, where_it_is}
 use Rattle.apd_mlme.proofs.RisingLemmas.{denied_rise, none_rise, one_rises}
 use Rattle.apd_mlme.proofs.RowLemmas.{back, back_station, is_row, out, out_row, out_station, put_back_aid, station_put, turned_not}
@@ -329,7 +324,7 @@ module _ (s : State) (confs : List Conf) (sound : Sound s) (c : Bssid) (configur
   shape_due h v (shape.dropped b a reason there known others) =
       let bytes = wire (deauthentication b a reason) in
       told_due s h c b v (dropped_at s b reason a) (λ x. drop_at x s b reason a) a (out_same s b a) bytes (told_frames s b a bytes) ((reason, inr refl), tt) (inr (known, out_row s b a)) others
-  shape_due h v (shape.associated conf b kind request aid there known own asked) = associated_due s confs conf b kind request sound aid own c configured h asked
+  shape_due h v (shape.associated conf b kind request aid there known own asked made) = associated_due s confs conf b kind request sound aid own c configured h asked
   shape_due h v (shape.emptied b reason deauth there to_all) =
       let all = addresses_at s b in
       let reply = farewell b BROADCAST reason deauth in

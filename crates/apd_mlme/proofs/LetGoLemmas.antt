@@ -1,6 +1,6 @@
 -- Whom drivers let go: whoever has ceased to be associated, once and in address order.
-use Rattle.std.proofs.Common.{◌≡◌, ℕ, Bool, true, false, cond, ◌&&◌, ◌||◌, List, [], ◌∷◌, ◌++◌, Option, Some, None, inl, inr, refl, sym, ap, subst, ◌∙◌, IsSome, append-nil, arith, ◌↔◌}
-use Rattle.std.specs.Prelude.{filter, map as list_map}
+use Rattle.std.proofs.Common.{◌≡◌, ℕ, Bool, true, false, cond, ◌&&◌, ◌||◌, List, [], ◌∷◌, ◌++◌, Some, None, inl, inr, refl, sym, ap, subst, ◌∙◌, IsSome, append-nil, arith, ◌↔◌}
+use Rattle.std.specs.Prelude.{filter}
 use Rattle.std.specs.List.{Contains, flat_map}
 use Rattle.std.specs.Option.{is_some}
 use Rattle.std.specs.Ordering.{eq_by_cmp}
@@ -16,13 +16,12 @@ use Rattle.apd_base.specs.declared.address.TheConstants.{BROADCAST}
 use Rattle.apd_base.specs.declared.station.Aid.{Aid}
 use Rattle.apd_base.specs.Addr.{addr_cmp, bssid_cmp, is_among}
 use Rattle.apd_base.specs.State.{State, station_at, aid_of, aid_at}
-use Rattle.apd_base.proofs.AddrLemmas.{addr_total, bssid_total, bssid_exact, same_addr, same_bssid}
+use Rattle.apd_base.proofs.AddrLemmas.{addr_total, bssid_total, bssid_exact, same_addr}
 use Rattle.apd_base.proofs.Cases.{both_true, no_value, none_is, none_is_some}
 use Rattle.apd_base.proofs.MapLemmas.{one_or_apart, tied}
 use Rattle.apd_conf.specs.declared.conf.Conf.{Conf}
 use Rattle.apd_conf.specs.Confs.{conf_at}
 use Rattle.apd_frame.specs.Contents.{AssociationRequest}
-use Rattle.apd_frame.specs.declared.codes.Reason.{Reason}
 use Rattle.apd_frame.specs.declared.codes.TheConstants.Reason.{UNSPECIFIED}
 use Rattle.apd_frame.specs.declared.replies.Reply.{Reply}
 use Rattle.apd_frame.specs.Wire.{wire}
@@ -31,18 +30,17 @@ use Rattle.apd_table.specs.Addresses.{addresses_at}
 use Rattle.apd_table.specs.Sound.{Sound}
 use Rattle.apd_mlme.specs.declared.association.Kind.{Kind}
 use Rattle.apd_mlme.specs.declared.command_answer.Answer.{Answer}
-use Rattle.apd_mlme.specs.declared.decision.Recipient.{Recipient}
 use Rattle.apd_mlme.specs.declared.decision.Recipient.TheVariants.{Radio}
 use Rattle.apd_mlme.specs.declared.decision.Out.{Out}
-use Rattle.apd_mlme.specs.declared.decision.Out.TheVariants.{Install, Remove, Frame, Text}
+use Rattle.apd_mlme.specs.declared.decision.Out.TheVariants.{Remove, Frame}
 use Rattle.apd_mlme.specs.Happening.{Happening}
 use Rattle.apd_mlme.specs.Outs.{outs_to, sent}
 use Rattle.apd_mlme.specs.rules.{verdict}
 use Rattle.apd_mlme.specs.rules.Association as rule
 use Rattle.apd_mlme.specs.rules.Association.{elsewhere}
-use Rattle.apd_mlme.specs.rules.Commands.{answered, farewell, text}
+use Rattle.apd_mlme.specs.rules.Commands.{answered, farewell}
 use Rattle.apd_mlme.specs.rules.Identifiers.{identifier_for}
-use Rattle.apd_mlme.specs.rules.Leaving.{deauthentication, disassociation, outs_of_drop, outs_of_end, removal}
+use Rattle.apd_mlme.specs.rules.Leaving.{deauthentication, disassociation, outs_of_drop}
 use Rattle.apd_mlme.specs.Verdict.{Verdict}
 use Rattle.apd_mlme.specs.laws.NothingElse.{AreLetGo, HasCeased, Rise, let_go}
 use Rattle.apd_mlme.proofs.AssociationLemmas.{associated_aid, cleared, cleared_aid, cleared_here}
@@ -51,7 +49,6 @@ use Rattle.apd_mlme.proofs.AuthenticationLemmas.{admitted_aid}
 use Rattle.apd_mlme.proofs.DropLemmas.{kept_aid, all_leave, is_elsewhere, taken_out}
 use Rattle.apd_mlme.proofs.ElsewhereLemmas.{is_bssid_among, among-filter, among_elsewhere}
 use Rattle.apd_mlme.proofs.EnforcementLemmas.{denied, enforced_aid, new}
-use Rattle.apd_mlme.proofs.OutsLemmas.{outs_to-append}
 use Rattle.apd_mlme.proofs.RisingLemmas.{addresses_rise, apart-filter, denied_rise, keys_apart, none_rise, one_rises}
 use Rattle.apd_mlme.proofs.RowLemmas.{back_aid, is_row, out_aid}
 use Rattle.apd_mlme.proofs.Shapes as shape
@@ -199,7 +196,7 @@ module _ (s : State) (confs : List Conf) (sound : Sound s) (c : Bssid) (configur
   shape_let_go h v (shape.gone b a there own known) = one_goes s c b a v (gone_at s b a) (removal_at c s b a) (gone_let_go s b a) (out_aid s b a c)
   shape_let_go h v (shape.ended b a reason there known others) = one_goes s c b a v (gone_at s b a ++ Frame (wire (disassociation b a reason)) ∷ []) (end_at c s b a known reason) (told_let_go s b a (wire (disassociation b a reason))) (back_aid s b a c)
   shape_let_go h v (shape.dropped b a reason there known others) = one_goes s c b a v (dropped_at s b reason a) (drop_at c s b reason a) (told_let_go s b a (wire (deauthentication b a reason))) (out_aid s b a c)
-  shape_let_go h v (shape.associated conf b kind request aid there known own asked) = associated_let_go s confs conf b kind request sound aid own c configured
+  shape_let_go h v (shape.associated conf b kind request aid there known own asked made) = associated_let_go s confs conf b kind request sound aid own c configured
   shape_let_go h v (shape.emptied b reason deauth there to_all) =
       let all = addresses_at s b in
       let reply = farewell b BROADCAST reason deauth in

@@ -1,4 +1,5 @@
 pub mod AdmissionLemmas
+mod ApartLemmas
 mod AssociationEndLemmas
 mod AssociationLemmas
 mod AssociationResponseLemmas
@@ -22,6 +23,7 @@ mod RisingLemmas
 mod RowLemmas
 mod Shapes
 mod StartLemmas
+mod TakenInLemmas
 pub mod TrueOutsLemmas
 mod TurnLemmas
 pub mod VerdictLemmas

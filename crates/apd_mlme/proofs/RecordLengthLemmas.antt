@@ -122,7 +122,7 @@ module _ (s : State) where
   shape_length confs h fit sound _ (shape.gone b a there own row) known = one_drop b a known
   shape_length confs h fit sound _ (shape.ended b a reason there row others) known = one_put b a Authenticated known
   shape_length confs h fit sound _ (shape.dropped b a reason there row others) known = one_drop b a known
-  shape_length confs h fit sound _ (shape.associated conf b kind request aid there row own asked) known = associated_length confs conf b kind request aid sound known
+  shape_length confs h fit sound _ (shape.associated conf b kind request aid there row own asked made) known = associated_length confs conf b kind request aid sound known
   shape_length confs h fit sound _ (shape.emptied b reason deauth there to_all) known = all_length b reason deauth sound known
   shape_length confs h fit sound _ (shape.enforced b p change l q there makes keep short others needed) known = enforced_length b p change l q short sound known
   shape_length confs h fit sound _ (shape.started conf b accept deny is first) known = let fits = subst (IsFit s confs) is fit in first_length conf b accept deny fits.2 fits.3 known

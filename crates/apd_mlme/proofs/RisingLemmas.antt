@@ -1,5 +1,5 @@
 -- Lists of addresses rise as rows do, and no BSSID is there twice among those that have a policy.
-use Rattle.std.proofs.Common.{◌≡◌, Bool, true, false, cond, ◌&&◌, ◌||◌, List, [], ◌∷◌, refl, sym, ap, ◌∙◌, arith, suc, T, All}
+use Rattle.std.proofs.Common.{◌≡◌, Bool, true, false, cond, ◌||◌, List, [], ◌∷◌, refl, sym, ap, ◌∙◌, arith, suc, T, All}
 use Rattle.std.specs.Prelude.{filter, map as list_map}
 use Rattle.std.specs.List.{AllByRecursion}
 use Rattle.std.specs.Ordering.{eq_by_cmp, is_eq, ordering_then}
@@ -14,13 +14,11 @@ use Rattle.std.proofs.lemmas.List.Kept.{AllPairs-cons}
 use Rattle.apd_base.specs.declared.address.Addr.{Addr}
 use Rattle.apd_base.specs.declared.address.Bssid.{Bssid}
 use Rattle.apd_base.specs.declared.station.AclMode.{AclMode}
-use Rattle.apd_base.specs.declared.station.Policy.{Policy}
 use Rattle.apd_base.specs.declared.station.Station.{Station}
 use Rattle.apd_base.specs.Addr.{addr_cmp, bssid_cmp, station_cmp, is_among}
 use Rattle.apd_base.specs.State.{State}
-use Rattle.apd_base.proofs.AddrLemmas.{addr_total, addr_exact, bssid_total, bssid_exact, same_bssid}
+use Rattle.apd_base.proofs.AddrLemmas.{same_bssid}
 use Rattle.apd_base.proofs.Cases.{first_holds, second_holds, is_less, second_false}
-use Rattle.apd_base.proofs.MapLemmas.{tied}
 use Rattle.apd_table.specs.Addresses.{addresses_at}
 use Rattle.apd_table.specs.Allowed.{denied_by, is_denied_row}
 use Rattle.apd_table.specs.Rows as rows

@@ -1,5 +1,5 @@
 -- The shapes that a verdict has, taken apart once: what is so of each of them is so of every verdict.
-use Rattle.std.proofs.Common.{◌≡◌, ◌≢◌, ◌≤◌, arith, length, ℕ, Bool, true, false, cond, [], ◌∷◌, List, Option, Some, None, ◌⊎◌, inl, inr, refl, sym, ap, subst, ◌∙◌, IsSome}
+use Rattle.std.proofs.Common.{◌≡◌, ◌≢◌, ◌≤◌, arith, length, ℕ, Bool, true, false, cond, [], ◌∷◌, List, Option, Some, None, ◌⊎◌, inl, inr, refl, sym, ap, subst, ◌∙◌, IsSome, IsSomeAnd}
 use Rattle.std.specs.Option.{is_some}
 use Rattle.std.specs.Ordering.{eq_by_cmp}
 use Rattle.std.specs.FinMap as map
@@ -24,6 +24,7 @@ use Rattle.apd_conf.specs.Conf.{policy_of}
 use Rattle.apd_conf.specs.Confs.{conf_at}
 use Rattle.apd_frame.specs.Contents.{Contents, sender_of, AssociationRequest, ProbeRequest, authentication, association_request, reassociation_request, probe_request, disassociation, deauthentication, uplink}
 use Rattle.apd_frame.specs.declared.codes.Reason.{Reason}
+use Rattle.apd_frame.specs.declared.codes.Status.TheVariants.{Success}
 use Rattle.apd_frame.specs.declared.codes.TheConstants.Reason.{INVALID_AUTHENTICATION, INACTIVITY, INVALID_CLASS2_FRAME, INVALID_CLASS3_FRAME}
 use Rattle.apd_frame.specs.declared.received.Authentication.{Authentication}
 use Rattle.apd_frame.specs.declared.replies.Reply.{Reply}
@@ -48,9 +49,10 @@ use Rattle.apd_mlme.specs.rules.Authentication.{auth_status, auth_response, auth
 use Rattle.apd_mlme.specs.rules.Commands.{answered, all_kicked, change_of, deauthenticated_of, disassociated_of, edited_under, kicked}
 use Rattle.apd_mlme.specs.rules.Configuration.{configure_verdict, later_start, first_start}
 use Rattle.apd_mlme.specs.rules.Departure.{disassociation_of, deauthentication_of, data_of}
+use Rattle.apd_mlme.specs.laws.Association.{IsDeserved}
 use Rattle.apd_mlme.specs.laws.AssociationEnd.{HasLeft, IsDeparture}
 use Rattle.apd_mlme.specs.laws.NothingElse as always
-use Rattle.apd_mlme.specs.laws.NothingElse.{IsAlwaysMade, IsToAll, Names}
+use Rattle.apd_mlme.specs.laws.NothingElse.{Associates, IsAlwaysMade, IsToAll, Names, StationRow, Writes}
 use Rattle.apd_mlme.specs.Happening.{Happening, Heard, Kick, ListEdit, Expire, Configure, bssid_of}
 use Rattle.apd_mlme.specs.rules.Identifiers.{identifier_for}
 use Rattle.apd_mlme.specs.rules.Inactivity.{inactivity_of}
@@ -63,10 +65,11 @@ use Rattle.apd_mlme.specs.rules.{verdict, verdict_under, heard_verdict}
 use Rattle.apd_mlme.specs.laws.Outs.{IsSaidSo}
 use Rattle.apd_mlme.specs.laws.Broadcast.{NoneIsBroadcast}
 use Rattle.apd_mlme.specs.Verdict.{Verdict, nothing, only_sent}
-use Rattle.apd_mlme.proofs.AssociationResponseLemmas.{refuses}
+use Rattle.apd_mlme.proofs.AssociationResponseLemmas.{refuses, status_deserved}
 use Rattle.apd_mlme.proofs.AuthenticationLemmas.{known_already}
 use Rattle.apd_mlme.proofs.CommandLemmas.{by_kick, by_edit, IsMade, new, change_with, edited_sound, edit_length}
 use Rattle.apd_mlme.proofs.EnforcementLemmas.{Makes, v}
+use Rattle.apd_mlme.proofs.RefusalLemmas.{status_success}
 use Rattle.apd_mlme.proofs.StartLemmas.{later_makes, later_sound}
 
 -- no station left by itself, and not all are sent away at once
@@ -77,9 +80,11 @@ IsOthers h = ((c : Bssid) (d : Addr) → ¬ (HasLeft h c d)) × ¬ (IsToAll h)
 abbrev pub IsAsked : Happening → Bssid → Addr → Type 0
 IsAsked h b a = (f : Contents) × (h ≡ Heard b f) × (sender_of f ≡ a) × ((d : Addr) → ¬ (IsDeparture f d))
 
--- a change is always made, or changes a state that has the same but for station rows
-abbrev pub IsNeeded : State → Happening → Change → Type 0
-IsNeeded s h change = (k : FinMap station_cmp Station) → let t = record s { stations = k } in IsAlwaysMade h change ⊎ (meaning change t ≢ t)
+-- a change is of no station's row, and is always made, or changes a state that has the same but for station rows
+abbrev pub IsNeeded : State → List Conf → Happening → Change → Type 0
+IsNeeded s confs h change =
+    ((c : Bssid) (d : Addr) → ¬ (Writes change (StationRow c d)))
+    × ((k : FinMap station_cmp Station) → let t = record s { stations = k } in IsAlwaysMade s confs h change ⊎ (meaning change t ≢ t))
 
 -- what an event brings about, but for the answer to a command, and what is known where it does
 pub data Shape (s : State) (confs : List Conf) (h : Happening) : Verdict → Type 0 where
@@ -97,11 +102,11 @@ pub data Shape (s : State) (confs : List Conf) (h : Happening) : Verdict → Typ
   dropped : (b : Bssid) (a : Addr) (reason : Reason) → IsSome (conf_at confs b) → IsSome (station_at s b a) → IsOthers h → Shape s confs h (leaving.dropped s b a (outs_of_drop s b a reason))
   -- a station with a row associates
   associated : (conf : Conf) (b : Bssid) (kind : Kind) (request : AssociationRequest) (aid : Aid) → IsSome (conf_at confs b) → IsSome (station_at s b request.sender) → identifier_for s b (station_at s b request.sender) ≡ Some aid
-      → IsAsked h b request.sender → Shape s confs h (rule.associated s confs conf b kind request aid)
+      → (asked : IsAsked h b request.sender) → Associates s confs b asked.0 → Shape s confs h (rule.associated s confs conf b kind request aid)
   -- all are sent away, or those that an edit or a start denies
   emptied : (b : Bssid) (reason : Reason) (deauth : Bool) → IsSome (conf_at confs b) → IsToAll h × Names h b BROADCAST → Shape s confs h (all_kicked s b reason deauth)
   enforced : (b : Bssid) (p : BssPolicy) (change : Change) (l : SetOf list_cmp) (q : FinMap bssid_cmp BssPolicy) → IsSome (conf_at confs b) → Makes s b p change l q → (Sound s → StaySound (v s b p change l q).changes s)
-      → (IsChange change → length (record_of change) ≤ 14) → IsOthers h → IsNeeded s h change → Shape s confs h (v s b p change l q)
+      → (IsChange change → length (record_of change) ≤ 14) → IsOthers h → IsNeeded s confs h change → Shape s confs h (v s b p change l q)
   started : (conf : Conf) (b : Bssid) (accept deny : List Addr) → h ≡ Configure b accept deny → is_some (policy_at s b) ≡ false → Shape s confs h (first_start s conf b accept deny)
 
 -- a frame that is not a broadcast is one station's
@@ -146,10 +151,11 @@ module _ (s : State) (confs : List Conf) (b : Bssid) (there : IsSome (conf_at co
     ]
 
     -- an association or a reassociation request
-    module _ (h : Happening) (kind : Kind) (request : AssociationRequest) (one : NoneIsBroadcast s h → request.sender ≢ BROADCAST) (asked : IsAsked h b request.sender) where
-      accepted_shape : IsSome (station_at s b request.sender) → (o : Option Aid) → identifier_for s b (station_at s b request.sender) ≡ o → Shape s confs h (accepted s confs conf b kind request o)
-      accepted_shape known None is = silent
-      accepted_shape known (Some aid) is = associated conf b kind request aid there known is asked
+    module _ (h : Happening) (kind : Kind) (request : AssociationRequest) (one : NoneIsBroadcast s h → request.sender ≢ BROADCAST) (asked : IsAsked h b request.sender)
+        (accepts : IsSome (station_at s b request.sender) → IsDeserved conf request Success → Associates s confs b asked.0) where
+      accepted_shape : IsSome (station_at s b request.sender) → IsDeserved conf request Success → (o : Option Aid) → identifier_for s b (station_at s b request.sender) ≡ o → Shape s confs h (accepted s confs conf b kind request o)
+      accepted_shape known good None is = silent
+      accepted_shape known good (Some aid) is = associated conf b kind request aid there known is asked (accepts known good)
 
       named : Names h b request.sender
       named = subst (λ x. Names x b request.sender) (sym asked.1) (refl, asked.2)
@@ -163,23 +169,30 @@ module _ (s : State) (confs : List Conf) (b : Bssid) (there : IsSome (conf_at co
       association_shape (Some row) at =
           let refusal = association_response conf b kind request.sender (association_status conf request) None in
           elim (is_success (association_status conf request)) as (λ t. is_success (association_status conf request) ≡ t → Shape s confs h (cond t (accepted s confs conf b kind request (identifier_for s b (Some row))) (only_sent s refusal))) [
-            | true ↦ λ e. accepted_shape (ap is_some at) (identifier_for s b (Some row)) (ap (identifier_for s b) at)
+            | true ↦ λ e.
+                let good = subst (IsDeserved conf request) (status_success (association_status conf request) e) (status_deserved conf request) in
+                accepted_shape (ap is_some at) good (identifier_for s b (Some row)) (ap (identifier_for s b) at)
             | false ↦ λ e. told refusal there (refused_so kind e) one named
           ] refl
 
-    pub heard_shape : (f : Contents) → Shape s confs (Heard b f) (heard_verdict s confs conf b f)
-    heard_shape (authentication request) = auth_shape request
-    heard_shape (association_request request) = association_shape (Heard b (association_request request)) Association request (λ nobody. nobody.sender) (association_request request, refl, refl, λ d own. own) (station_at s b request.sender) refl
-    heard_shape (reassociation_request request) = association_shape (Heard b (reassociation_request request)) Reassociation (without_current_ap request) (λ nobody. nobody.sender) (reassociation_request request, refl, refl, λ d own. own) (station_at s b request.sender) refl
-    heard_shape (probe_request request) = probe_shape request
-    heard_shape (disassociation a reason) = disassociation_shape a reason (station_at s b a) refl
-    heard_shape (deauthentication a reason) = deauthentication_shape a reason (station_at s b a) refl
-    heard_shape (uplink a) = data_shape a (station_at s b a) refl
+    pub heard_shape : conf_at confs b ≡ Some conf → (f : Contents) → Shape s confs (Heard b f) (heard_verdict s confs conf b f)
+    heard_shape is (authentication request) = auth_shape request
+    heard_shape is (association_request request) =
+        association_shape (Heard b (association_request request)) Association request (λ nobody. nobody.sender) (association_request request, refl, refl, λ d own. own)
+        (λ known good. (known, subst (λ o. IsSomeAnd o (λ x. IsDeserved x request Success)) (sym is) good)) (station_at s b request.sender) refl
+    heard_shape is (reassociation_request request) =
+        association_shape (Heard b (reassociation_request request)) Reassociation (without_current_ap request) (λ nobody. nobody.sender) (reassociation_request request, refl, refl, λ d own. own)
+        (λ known good. (known, subst (λ o. IsSomeAnd o (λ x. IsDeserved x (without_current_ap request) Success)) (sym is) good)) (station_at s b request.sender) refl
+    heard_shape is (probe_request request) = probe_shape request
+    heard_shape is (disassociation a reason) = disassociation_shape a reason (station_at s b a) refl
+    heard_shape is (deauthentication a reason) = deauthentication_shape a reason (station_at s b a) refl
+    heard_shape is (uplink a) = data_shape a (station_at s b a) refl
 
     pub configure_shape : (accept deny : List Addr) → Shape s confs (Configure b accept deny) (configure_verdict s conf b accept deny)
     configure_shape accept deny =
         elim (is_some (policy_at s b)) as (λ t. is_some (policy_at s b) ≡ t → Shape s confs (Configure b accept deny) (cond t (later_start s conf b) (first_start s conf b accept deny))) [
-          | true ↦ λ e. enforced b (policy_of conf) (Policy b (policy_of conf)) s.lists (map.insert s.policies b (policy_of conf)) there (later_makes s conf b e) (later_sound s conf b e) (λ known. omega (arith, policy_length b (policy_of conf) known)) (λ c d own. own, λ all. all) (λ k. inl (always.started b accept deny (policy_of conf)))
+          | true ↦ λ e. enforced b (policy_of conf) (Policy b (policy_of conf)) s.lists (map.insert s.policies b (policy_of conf)) there (later_makes s conf b e) (later_sound s conf b e) (λ known. omega (arith, policy_length b (policy_of conf) known)) (λ c d own. own, λ all. all)
+              (λ c d its. elim its [ inl e ↦ cc | inr e ↦ cc ], λ k. inl (always.started b accept deny (policy_of conf)))
           | false ↦ λ e. started conf b accept deny refl e
         ] refl
 
@@ -205,10 +218,10 @@ module _ (s : State) (confs : List Conf) (b : Bssid) (there : IsSome (conf_at co
 
   -- an edit that is made
   module _ (w : Which) (tag : ℕ) where
-    edit_needed : (edit : Edit) → IsMade s b w edit → IsNeeded s (ListEdit b w edit tag) (change_of b w edit)
-    edit_needed (Add a) made = λ k. inr (λ same. differ (contains s.lists (b, w, a)) made.0 (sym (ap (λ x. contains x.lists (b, w, a)) same) ∙ ap is_some (get_inserted list_total list_exact s.lists (b, w, a) tt)))
-    edit_needed (TakeOut a) made = λ k. inr (λ same. differ (contains s.lists (b, w, a)) (sym (ap (λ x. contains x.lists (b, w, a)) same) ∙ ap is_some (get_removed list_total list_exact s.lists (b, w, a))) made)
-    edit_needed Clear made = λ k. inl (always.cleared b w tag)
+    edit_needed : (edit : Edit) → IsMade s b w edit → IsNeeded s confs (ListEdit b w edit tag) (change_of b w edit)
+    edit_needed (Add a) made = (λ c d e. cc, λ k. inr (λ same. differ (contains s.lists (b, w, a)) made.0 (sym (ap (λ x. contains x.lists (b, w, a)) same) ∙ ap is_some (get_inserted list_total list_exact s.lists (b, w, a) tt))))
+    edit_needed (TakeOut a) made = (λ c d e. cc, λ k. inr (λ same. differ (contains s.lists (b, w, a)) (sym (ap (λ x. contains x.lists (b, w, a)) same) ∙ ap is_some (get_removed list_total list_exact s.lists (b, w, a))) made))
+    edit_needed Clear made = (λ c d its. (let e = its.1 in cc), λ k. inl (always.cleared b w tag))
 
     pub edited_shape : (edit : Edit) → IsMade s b w edit → (o : Option BssPolicy) → policy_at s b ≡ o → Shape s confs (ListEdit b w edit tag) (edited_under s b w edit o)
     edited_shape edit made None at = silent
@@ -220,7 +233,7 @@ module _ (s : State) (confs : List Conf) (b : Bssid) (there : IsSome (conf_at co
 module _ (s : State) (confs : List Conf) (P : Verdict → Type 0) (more : (tag : ℕ) (answer : Answer) (v : Verdict) → P v → P (answered tag answer v)) where
   under_shape : (h : Happening) (o : Option Conf) → conf_at confs (bssid_of h) ≡ o → ((v : Verdict) → Shape s confs h v → P v) → P (verdict_under s confs o h)
   under_shape h None at all = all (nothing s) silent
-  under_shape (Heard b f) (Some conf) at all = all _ (heard_shape s confs b (ap is_some at) conf f)
+  under_shape (Heard b f) (Some conf) at all = all _ (heard_shape s confs b (ap is_some at) conf at f)
   under_shape (Kick b to reason deauth tag) (Some conf) at all = more tag Done _ (all _ (kicked_shape s confs b (ap is_some at) to reason tag deauth))
   under_shape (ListEdit b w edit tag) (Some conf) at all =
       by_edit s b w tag P edit (λ _. more tag Done _ (all _ silent)) (λ _. more tag Refused _ (all _ silent))

@@ -228,7 +228,7 @@ module _ (s : State) (confs : List Conf) (h : Happening) where
   shape_right _ (shape.gone b a there own known) = removal_right s E confs b there a (out s b a) (out_row s b a)
   shape_right _ (shape.ended b a reason there known others) = put_back_right s E confs b there a reason (from_row b a (station_of_aid _ known))
   shape_right _ (shape.dropped b a reason there known others) = drop_right s E confs b there a (out s b a) (out_row s b a) reason (from_row b a known)
-  shape_right _ (shape.associated conf b kind request aid there known own asked) = associated_right s E confs b there conf kind request (from_row b request.sender known) aid own
+  shape_right _ (shape.associated conf b kind request aid there known own asked made) = associated_right s E confs b there conf kind request (from_row b request.sender known) aid own
   shape_right _ (shape.emptied b reason deauth there to_all) = all_kicked_right s E confs b there reason deauth
   shape_right _ (shape.enforced b p change l q there makes keep short others needed) = enforced_right s E confs b there (λ nobody. nobody.rows) p change l q
   shape_right _ (shape.started conf b accept deny is first) = tt

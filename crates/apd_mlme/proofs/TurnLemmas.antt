@@ -1,24 +1,21 @@
 -- Identifiers are given in turn, so every other one comes between two givings of the same.
-use Rattle.std.proofs.Common.{◌≡◌, ◌≢◌, ℕ, ◌<◌, ◌≤◌, Bool, true, false, cond, ◌&&◌, List, [], ◌∷◌, ◌++◌, Option, Some, None, ◌⊎◌, inl, inr, refl, sym, ap, subst, ◌∙◌, IsSome, arith}
+use Rattle.std.proofs.Common.{◌≡◌, ◌≢◌, ℕ, ◌<◌, ◌≤◌, Bool, true, false, cond, ◌&&◌, List, [], ◌∷◌, Option, Some, None, ◌⊎◌, inl, inr, refl, sym, ap, subst, ◌∙◌, IsSome, arith}
 use Rattle.std.specs.Option.{is_some}
 use Rattle.std.specs.Ordering.{eq_by_cmp}
 use Rattle.std.specs.FinMap as map
 use Rattle.std.proofs.lemmas.Bool.{and_parts, cases_lt}
 use Rattle.apd_base.specs.declared.address.Addr.{Addr}
 use Rattle.apd_base.specs.declared.address.Bssid.{Bssid}
-use Rattle.apd_base.specs.declared.limits.TheConstants.{MAX_STATIONS}
 use Rattle.apd_base.specs.declared.station.Aid.{Aid}
-use Rattle.apd_base.specs.declared.station.Station.{Station}
-use Rattle.apd_base.specs.declared.station.Station.TheVariants.{Authenticated, Associated}
 use Rattle.apd_base.specs.Addr.{addr_cmp, bssid_cmp, is_among}
 use Rattle.apd_base.specs.State.{State, station_at, policy_at, cursor_at, aid_of, aid_at}
-use Rattle.apd_base.proofs.AddrLemmas.{bssid_total, bssid_exact, same_addr, same_bssid}
+use Rattle.apd_base.proofs.AddrLemmas.{bssid_total, bssid_exact, same_addr}
 use Rattle.apd_base.proofs.Cases.{no_value, none_is, same_some}
 use Rattle.apd_base.proofs.MapLemmas.{get_insert_other, get_inserted, one_or_apart}
 use Rattle.apd_conf.specs.declared.conf.Conf.{Conf}
 use Rattle.apd_frame.specs.Contents.{AssociationRequest}
 use Rattle.apd_record.specs.Meaning.{none_given}
-use Rattle.apd_table.specs.LeastFree.{IsFree, IsNextFree, IsTaken, last_given, number_or_0}
+use Rattle.apd_table.specs.LeastFree.{IsNextFree, IsTaken, last_given, number_or_0}
 use Rattle.apd_table.specs.Sound.{Sound}
 use Rattle.apd_mlme.specs.declared.association.Kind.{Kind}
 use Rattle.apd_mlme.specs.Happening.{Happening}
@@ -143,7 +140,7 @@ module _ (s : State) (b : Bssid) where
     shape_turn h v (shape.gone c a there own known) = keeps v.state (is_row c a b) (out_aid s c a b) refl
     shape_turn h v (shape.ended c a reason there known others) = keeps v.state (is_row c a b) (back_aid s c a b) refl
     shape_turn h v (shape.dropped c a reason there known others) = keeps v.state (is_row c a b) (out_aid s c a b) refl
-    shape_turn h _ (shape.associated conf c kind request aid there known own asked) = associated_turn confs conf c kind request sound aid own
+    shape_turn h _ (shape.associated conf c kind request aid there known own asked made) = associated_turn confs conf c kind request sound aid own
     shape_turn h v (shape.emptied c reason deauth there to_all) =
         keeps v.state (λ a. eq_by_cmp bssid_cmp b c && is_among a (addresses_at s c)) (kept_aid s c (is_elsewhere s c) (addresses_at s c) (all_leave s c) b) refl
     shape_turn h w (shape.enforced c p change l q there makes keep short others needed) = keeps w.state (λ a. eq_by_cmp bssid_cmp b c && is_among a (denied s c p change l q)) (enforced_aid s c p change l q b) refl

@@ -40,7 +40,7 @@ module _ (s : State) (confs : List Conf) where
   shape_meaning h _ (shape.gone b a there own known) = out_meaning s b a
   shape_meaning h _ (shape.ended b a reason there known others) = back_meaning s b a (station_of_aid _ known)
   shape_meaning h _ (shape.dropped b a reason there known others) = out_meaning s b a
-  shape_meaning h _ (shape.associated conf b kind request aid there known own asked) = associated_meaning s confs conf b kind request aid
+  shape_meaning h _ (shape.associated conf b kind request aid there known own asked made) = associated_meaning s confs conf b kind request aid
   shape_meaning h _ (shape.emptied b reason deauth there to_all) = all_meaning s b reason deauth
   shape_meaning h _ (shape.enforced b p change l q there makes keep short others needed) = enforced_meaning s b p change l q makes
   shape_meaning h _ (shape.started conf b accept deny is first) = first_meaning s conf b accept deny first
@@ -61,7 +61,7 @@ module _ (s : State) (confs : List Conf) where
     shape_sound _ (shape.gone b a there own known) = dropped_stays s b a [] sound
     shape_sound _ (shape.ended b a reason there known others) = put_back_stays s b a [] (station_of_aid _ known) sound
     shape_sound _ (shape.dropped b a reason there known others) = dropped_stays s b a [] sound
-    shape_sound _ (shape.associated conf b kind request aid there known own asked) = associated_sound s confs conf b kind request aid sound known own
+    shape_sound _ (shape.associated conf b kind request aid there known own asked made) = associated_sound s confs conf b kind request aid sound known own
     shape_sound _ (shape.emptied b reason deauth there to_all) = all_sound s b reason deauth sound
     shape_sound _ (shape.enforced b p change l q there makes keep short others needed) = keep sound
     shape_sound _ (shape.started conf b accept deny is first) =
@@ -81,7 +81,7 @@ module _ (s : State) (confs : List Conf) where
     shape_follows h _ (shape.gone b a there own known) d = removal_follows s b a c d
     shape_follows h _ (shape.ended b a reason there known others) d = sym (back_aid s b a c d)
     shape_follows h _ (shape.dropped b a reason there known others) d = drop_follows s b a c reason d
-    shape_follows h _ (shape.associated conf b kind request aid there known own asked) d = associated_follows s confs conf b kind request aid c configured own d
+    shape_follows h _ (shape.associated conf b kind request aid there known own asked made) d = associated_follows s confs conf b kind request aid c configured own d
     shape_follows h _ (shape.emptied b reason deauth there to_all) d = all_follows s b reason deauth c d
     shape_follows h _ (shape.enforced b p change l q there makes keep short others needed) d = enforced_follows s b p change l q c d
     shape_follows h _ (shape.started conf b accept deny is first) d = refl

@@ -30,7 +30,7 @@ ghost use Rattle.apd_mlme.specs.laws.AssociationEnd.{HasLeft, IsToldOfEnd};
 ghost use Rattle.apd_mlme.specs.Happening.{Configure, Expire, Happening, Heard, Kick};
 ghost use Rattle.apd_mlme.specs.rules.Identifiers.{identifier_for};
 ghost use Rattle.apd_mlme.specs.laws.ManagementFrame.{deauthentication_frame, disassociation_frame};
-ghost use Rattle.apd_mlme.specs.laws.NothingElse.{AreFramesDue, AreLetGo, AreNeeded};
+ghost use Rattle.apd_mlme.specs.laws.NothingElse.{AreApart, AreFramesDue, AreLetGo, AreNeeded, AreTakenIn, IsAlwaysMade};
 ghost use Rattle.apd_mlme.specs.laws.Order.{IsLetGoFirst, IsTakenInFirst};
 ghost use Rattle.apd_mlme.specs.laws.Probe.{IsProbed, IsProbeFor, response_frame};
 ghost use Rattle.apd_mlme.specs.laws.Responses.{IsAssociationAnswered, IsAuthenticationAnswered};
@@ -302,6 +302,12 @@ pub fn only_who_has_ceased_is_let_go()
         → AreLetGo s b (verdict s confs h) }
 {}
 
+/// The driver of a radio takes a station in exactly where it has newly become associated there: once, under the
+/// identifier that it has, and one station at most in an event.
+pub fn only_who_newly_associates_is_taken_in()
+    ensures { (s : State) (confs : List Conf) (h : Happening) (b : Bssid) → AreTakenIn s b (verdict s confs h) }
+{}
+
 /// Whoever's association or authentication has come to an end is sent one frame that says so, in address
 /// order, but for who ended it itself, and where one frame tells all. Beside these a radio sends one frame at most,
 /// to somebody else: to the sender of a frame, or to whom a command names.
@@ -312,9 +318,12 @@ pub fn no_other_frame_leaves()
 
 /// Each change is one that the state did not have, but for those that are always made: the row of a station
 /// that associates and the identifier that it is given, the clearing of a list, and the policy of a start.
+/// And no row is written twice, so each of these is made once at most.
 pub fn no_change_is_idle()
-    ensures { (s : State) (confs : List Conf) (h : Happening) → IsFit s confs h → Sound s
-        → AreNeeded h (verdict s confs h).changes s }
+    ensures needed { (s : State) (confs : List Conf) (h : Happening) → IsFit s confs h → Sound s
+        → AreNeeded (IsAlwaysMade s confs h) (verdict s confs h).changes s }
+    ensures once { (s : State) (confs : List Conf) (h : Happening) → IsFit s confs h
+        → AreApart (verdict s confs h).changes }
 {}
 
 /// A value that other contracts cite by name: the records of one event's changes have at most 28,682
