@@ -3,3 +3,4 @@ pub mod Giving
 mod Holding
 mod Noting
 mod Stepping
+pub mod Tries

@@ -5,3 +5,4 @@ pub mod RadioNotes
 pub mod TicketOwner
 pub mod SeatProgress
 pub mod Steps
+pub mod Tries

@@ -5,7 +5,9 @@ ghost use Rattle.apd_desk.specs.Holding.{IsLed};
 ghost use Rattle.apd_desk.specs.Steps.{told_by, IsStepped, PublishesNext};
 
 use crate::gate::{Gate, Place};
-use crate::idle::Idle;
+use crate::idle::{Idle, Progress};
+use crate::locked::Look;
+use crate::news::News;
 use crate::published::Published;
 use crate::shared::Shared;
 use apd_core::PublishFault;
@@ -121,10 +123,28 @@ fn step<L: Ledger, W: Wait, D: Disk, G: Gate>(
     }
 }
 
+// Behind a step that went so rests, until there is an entry or a stop where there was nothing to do, and looks again.
+fn look_again<L: Ledger, W: Wait + Clock>(
+    rt: &W,
+    shared: &Shared<L>,
+    idle: &mut Idle,
+    progress: Progress,
+    seen: Look,
+) -> Look {
+    if idle.is_over(progress) {
+        match progress {
+            Progress::Nothing => shared.wait(rt, News::Entry, seen),
+            Progress::Short | Progress::Made => shared.pause(rt, News::Entry, seen),
+        }
+    }
+    shared.look(rt)
+}
+
 /// Commits the entries of a shared core, batch after batch. After a stop it ends once nothing is unsettled. What met
 /// want of memory is tried again; on any other refusal the core is told to fail, and it ends. Whatever ends it, a batch
 /// or a receipt that was refused waits in the committer. It passes the gate before and after each turn of the flusher,
-/// and holds the lock for none.
+/// and holds the lock for none; it looks at the core's counts once a group. Where there is nothing to commit it waits
+/// for an entry, or a stop.
 pub fn commit_all<L: Ledger, W: Wait + Clock, D: Disk, G: Gate>(
     rt: &W,
     shared: &Shared<L>,
@@ -135,12 +155,14 @@ pub fn commit_all<L: Ledger, W: Wait + Clock, D: Disk, G: Gate>(
     ensures keeps { Keeps D.model committer.old committer.new }
 {
     let mut idle = Idle::new();
+    let mut seen = shared.look(rt);
     for _ in rt.forever() {
-        let seen = shared.look(rt);
         match step(rt, shared, committer, gate) {
-            Went::On | Went::Settled(_) => idle.end(),
+            Went::On => {}
+            Went::Settled(_) => seen = look_again(rt, shared, &mut idle, Progress::Made, seen),
             Went::Nothing if seen.stopped => break,
-            Went::Nothing | Went::Short => idle.rest(rt, shared, seen),
+            Went::Nothing => seen = look_again(rt, shared, &mut idle, Progress::Nothing, seen),
+            Went::Short => seen = look_again(rt, shared, &mut idle, Progress::Short, seen),
             Went::Refused => {
                 shared.fail(rt);
                 break;

@@ -3,7 +3,9 @@ ghost use Rattle.apd_desk.specs.SeatProgress.{IsLater};
 
 use crate::clock::Clock;
 use crate::gate::Gate;
-use crate::idle::Idle;
+use crate::idle::{AT_ONCE, Idle, Progress};
+use crate::locked::Look;
+use crate::news::News;
 use crate::port::Port;
 use crate::seat::Seat;
 use crate::shared::Shared;
@@ -54,7 +56,7 @@ fn carry_out<L: Ledger, W: Wait, C: Clock, G: Gate>(
     }
 }
 
-// Serves the next command, if one waits. A reply that the port loses is lost. Tells whether one waited.
+// Serves the next command, if one waits. A reply that the port loses is lost.
 fn serve_command<L: Ledger, W: Wait, P: Port, C: Clock, G: Gate>(
     rt: &W,
     shared: &Shared<L>,
@@ -62,39 +64,77 @@ fn serve_command<L: Ledger, W: Wait, P: Port, C: Clock, G: Gate>(
     port: &mut P,
     clock: &C,
     gate: &G,
-) -> bool
+) -> Progress
     ensures { IsLater seat.old seat.new }
 {
-    let Ok(Some((tag, bytes))) = port.poll() else {
-        return false;
+    let (tag, bytes) = match port.poll() {
+        Ok(Some(command)) => command,
+        Ok(None) => return Progress::Nothing,
+        Err(_) => return Progress::Short,
     };
     let _sent = match carry_out(rt, shared, seat, tag, bytes.as_slice(), clock, gate) {
         Ok(Some(answer)) => port.reply(tag, answer.text()),
         Ok(None) => Ok(()),
         Err(text) => port.reply(tag, text),
     };
-    true
+    Progress::Made
 }
 
-// Sends the replies to orders that are settled. Tells whether there were any.
-fn reply_settled<L: Ledger, W: Wait, P: Port>(
+// Serves the commands that wait, up to as many as may be at once.
+fn serve_commands<L: Ledger, W: Wait, P: Port, C: Clock, G: Gate>(
     rt: &W,
     shared: &Shared<L>,
     seat: &mut Seat<L>,
     port: &mut P,
-) -> bool
+    clock: &C,
+    gate: &G,
+) -> Progress
     ensures { IsLater seat.old seat.new }
 {
-    let Ok(outs) = shared.collect(rt, seat, Recipient::Control) else {
-        return false;
-    };
-    let some = !outs.is_empty();
+    let mut progress = Progress::Nothing;
+    for _ in 0..AT_ONCE {
+        let next = serve_command(rt, shared, seat, port, clock, gate);
+        progress = progress.max(next);
+        if next != Progress::Made {
+            break;
+        }
+    }
+    progress
+}
+
+// Sends these replies.
+fn reply_all<P: Port>(port: &mut P, outs: Vec<Out>) {
     for out in outs {
         if let Out::Text(tag, text) = out {
             let _sent = port.reply(tag, text.as_slice());
         }
     }
-    some
+}
+
+// Sends the replies to orders that were settled since it did so last, after the look in which this entry was the last
+// settled one.
+fn reply_settled<L: Ledger, W: Wait, P: Port>(
+    rt: &W,
+    shared: &Shared<L>,
+    seat: &mut Seat<L>,
+    port: &mut P,
+    collected: &mut Option<u64>,
+    seen: Look,
+) -> Progress
+    ensures { IsLater seat.old seat.new }
+{
+    if *collected == Some(seen.settled) {
+        return Progress::Nothing;
+    }
+    let Ok(outs) = shared.collect(rt, seat, Recipient::Control) else {
+        return Progress::Short;
+    };
+    *collected = Some(seen.settled);
+    if outs.is_empty() {
+        return Progress::Nothing;
+    }
+    reply_all(port, outs);
+    Progress::Made
 }
 
 /// Serves a control port until a stop, and gives its seat and the port back: carries out the commands that come, and
@@ -112,18 +152,17 @@ pub fn control_worker<L: Ledger, W: Wait + SystemClock, P: Port, C: Clock, G: Ga
 {
     let mut seat = seat;
     let mut port = port;
+    let mut collected = None;
     let mut idle = Idle::new();
     for _ in rt.forever() {
         let seen = shared.look(rt);
         if seen.stopped {
             break;
         }
-        let served = serve_command(rt, shared, &mut seat, &mut port, clock, gate);
-        let replied = reply_settled(rt, shared, &mut seat, &mut port);
-        if served || replied {
-            idle.end();
-        } else {
-            idle.rest(rt, shared, seen);
+        let served = serve_commands(rt, shared, &mut seat, &mut port, clock, gate);
+        let replied = reply_settled(rt, shared, &mut seat, &mut port, &mut collected, seen);
+        if idle.is_over(served.max(replied)) {
+            shared.pause(rt, News::Settled, seen);
         }
     }
     (seat, port)

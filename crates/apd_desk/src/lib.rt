@@ -11,6 +11,7 @@ mod idle;
 pub mod laws;
 mod locked;
 mod mending;
+mod news;
 mod notes;
 mod port;
 mod published;

@@ -1,7 +1,8 @@
 //! What a radio's worker does for a slot that went down.
-ghost use Rattle.std.specs.Prelude.{◌≡◌, ◌<◌, ◌≤◌, [], false, IsTrue};
+ghost use Rattle.std.specs.Prelude.{◌≡◌, ◌<◌, ◌≤◌, ◌+◌, [], true, false, IsTrue};
 ghost use Rattle.apd_slot.specs.Slots.{is_up_of, queue_of};
 ghost use Rattle.apd_desk.specs.Giving.{IsServed};
+ghost use Rattle.apd_desk.specs.Tries.{HasOwnTries, IsEndOf};
 ghost use Rattle.apd_desk.specs.declared.mending.TheConstants.{TRIES};
 
 use apd_radio::Radio;
@@ -42,8 +43,9 @@ impl<R: Radio> Mending<R> {
     /// The slot met a fault: the spares are tried, in order, until it is up. If none serves, its own radio has its
     /// tries.
     pub(crate) fn begin(&mut self, slot: &mut Slot<R>)
-        ensures all_tried { is_up_of slot.new ≡ false → self.new.spares.items ≡ [] }
-        ensures tries { self.new.tries ≤ TRIES }
+        ensures all_tried { is_up_of slot.new ≡ false → HasOwnTries self.new }
+        ensures in_order { IsEndOf self.new.spares.items self.old.spares.items }
+        ensures most { self.new.tries ≤ TRIES }
         ensures served { IsServed R.model [] slot.old slot.new }
         ensures queue { queue_of slot.new ≡ queue_of slot.old }
     {
@@ -59,6 +61,9 @@ impl<R: Radio> Mending<R> {
     /// Gives the slot's own radio anew what is wanted, where a try is left. Tells whether one was.
     pub(crate) fn go_on(&mut self, slot: &mut Slot<R>) -> bool
         ensures fewer { IsTrue result → self.new.tries < self.old.tries }
+        ensures mended { IsTrue result → is_up_of slot.new ≡ true → self.new.tries ≡ 0 }
+        ensures failed { IsTrue result → is_up_of slot.new ≡ false → self.new.tries + 1 ≡ self.old.tries }
+        ensures none_left { result ≡ false → (self.old.tries ≡ 0) × (slot.new ≡ slot.old) }
         ensures served { IsServed R.model [] slot.old slot.new }
         ensures queue { queue_of slot.new ≡ queue_of slot.old }
     {

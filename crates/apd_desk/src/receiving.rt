@@ -1,14 +1,16 @@
 //! The worker of a radio.
-ghost use Rattle.std.specs.Prelude.{◌≡◌, ◌<◌, [], length, IsTrue};
-ghost use Rattle.apd_slot.specs.Slots.{bssid_of, queue_of, IsExact};
+ghost use Rattle.std.specs.Prelude.{◌≡◌, ◌≢◌, ◌<◌, [], true, false, length, Err};
+ghost use Rattle.apd_slot.specs.Slots.{bssid_of, is_up_of, queue_of, IsExact};
 ghost use Rattle.apd_desk.specs.Giving.{IsGivenOn, IsServed};
+ghost use Rattle.apd_desk.specs.Tries.{HasOwnTries};
 ghost use Rattle.apd_desk.specs.SeatProgress.{IsLater};
 
 use crate::clock::Clock;
 use crate::gate::Gate;
-use crate::idle::Idle;
+use crate::idle::{AT_ONCE, Idle, Progress};
 use crate::locked::Look;
 use crate::mending::Mending;
+use crate::news::News;
 use crate::seat::Seat;
 use crate::shared::Shared;
 use crate::submitting::submit_passing;
@@ -20,143 +22,186 @@ use std::sync::Wait;
 use std::sync::ledger::Ledger;
 use std::time::Clock as SystemClock;
 
-// Submits the next frame of the radio, if one waits. A frame that is no entry is dropped, as on the air. Tells
-// whether one waited.
-fn receive<L: Ledger, W: Wait, R: Radio, C: Clock, G: Gate>(
-    rt: &W,
-    shared: &Shared<L>,
-    seat: &mut Seat<L>,
-    slot: &mut Slot<R>,
-    clock: &C,
-    gate: &G,
-) -> bool
-    ensures seat { IsLater seat.old seat.new }
-    ensures served { IsServed R.model [] slot.old slot.new }
-{
-    let Ok(Some(frame)) = slot.poll() else {
-        return false;
-    };
-    let input = Input::Received(slot.bssid(), frame.as_slice());
-    submit_passing(rt, shared, seat, input, clock.now(), gate);
-    true
+// What the worker of a radio has.
+#[derive(Drop)]
+struct Parts<L: Ledger, R: Radio> {
+    seat: Seat<L>,
+    slot: Slot<R>,
+    mending: Mending<R>,
+    // The last settled entry of the look after which it collected last.
+    collected: Option<u64>,
 }
 
-// Puts into a slot's queue, if none waits there, what of settled entries it was not given yet.
-fn collect<L: Ledger, W: Wait, R: Radio>(
-    rt: &W,
-    shared: &Shared<L>,
-    seat: &mut Seat<L>,
-    slot: &mut Slot<R>,
-)
-    ensures seat { IsLater seat.old seat.new }
-    ensures given { IsGivenOn R.model slot.old slot.new }
-{
-    if slot.waiting() > 0 {
-        return;
-    }
-    if let Ok(outs) = shared.hand(rt, seat, slot.bssid()) {
-        outs.queue_in(slot);
-    }
-}
-
-// Applies the first of the outs that wait; where the slot goes down at it, it is mended before the next one. One that
-// meets want of memory stays first. Tells whether one was taken.
-fn apply_first<L: Ledger, W: Wait, R: Radio>(
-    rt: &W,
-    shared: &Shared<L>,
-    slot: &mut Slot<R>,
-    mending: &mut Mending<R>,
-) -> bool
-    ensures served { IsServed R.model [] slot.old slot.new }
-    ensures fewer { IsTrue result → length (queue_of slot.new) < length (queue_of slot.old) }
-{
-    match slot.apply_next() {
-        Some(Ok((_out, answer))) => {
-            mend_after(slot, mending, answer);
-            shared.note(rt, slot.bssid(), slot.is_up());
-            true
+impl<L: Ledger, R: Radio> Parts<L, R> {
+    // Submits the next frame of the radio, if one waits. A frame that is no entry is dropped, as on the air.
+    fn receive<W: Wait, C: Clock, G: Gate>(
+        &mut self,
+        rt: &W,
+        shared: &Shared<L>,
+        clock: &C,
+        gate: &G,
+    ) -> Progress
+        ensures seat { IsLater self.old.seat self.new.seat }
+        ensures served { IsServed R.model [] self.old.slot self.new.slot }
+    {
+        match self.slot.poll() {
+            Ok(Some(frame)) => {
+                let input = Input::Received(self.slot.bssid(), frame.as_slice());
+                submit_passing(rt, shared, &mut self.seat, input, clock.now(), gate);
+                Progress::Made
+            }
+            Ok(None) => Progress::Nothing,
+            Err(_) => Progress::Short,
         }
-        Some(Err(_)) | None => false,
     }
-}
 
-// Begins to mend a slot that went down at an out.
-fn mend_after<R: Radio>(slot: &mut Slot<R>, mending: &mut Mending<R>, answer: Result<(), SlotFault>)
-    ensures served { IsServed R.model [] slot.old slot.new }
-    ensures queue { queue_of slot.new ≡ queue_of slot.old }
-{
-    if answer == Err(SlotFault::WentDown) {
-        mending.begin(slot);
+    // Submits the frames that wait, up to as many as may be at once, unless all are to stop.
+    fn receive_all<W: Wait, C: Clock, G: Gate>(
+        &mut self,
+        rt: &W,
+        shared: &Shared<L>,
+        seen: Look,
+        clock: &C,
+        gate: &G,
+    ) -> Progress
+        ensures seat { IsLater self.old.seat self.new.seat }
+        ensures served { IsServed R.model [] self.old.slot self.new.slot }
+    {
+        let mut progress = Progress::Nothing;
+        if seen.stopped {
+            return progress;
+        }
+        for _ in 0..AT_ONCE {
+            let next = self.receive(rt, shared, clock, gate);
+            progress = progress.max(next);
+            if next != Progress::Made {
+                break;
+            }
+        }
+        progress
     }
-}
 
-// Begins to mend a slot that is down at first.
-fn mend_first<R: Radio>(slot: &mut Slot<R>, mending: &mut Mending<R>)
-    ensures served { IsServed R.model [] slot.old slot.new }
-{
-    if !slot.is_up() {
-        mending.begin(slot);
+    // Puts into the slot's queue, if none waits there and entries were settled since, what of settled entries it was not
+    // given yet.
+    fn collect<W: Wait>(&mut self, rt: &W, shared: &Shared<L>) -> Progress
+        ensures seat { IsLater self.old.seat self.new.seat }
+        ensures given { IsGivenOn R.model self.old.slot self.new.slot }
+    {
+        let settled = Some(shared.look(rt).settled);
+        if self.slot.waiting() > 0 || self.collected == settled {
+            return Progress::Nothing;
+        }
+        let Ok(outs) = shared.hand(rt, &mut self.seat, self.slot.bssid()) else {
+            return Progress::Short;
+        };
+        outs.queue_in(&mut self.slot);
+        self.collected = settled;
+        Progress::Nothing
     }
-}
 
-// Goes on mending a slot, notes whether it is up, and rests where it isn't.
-fn mend<L: Ledger, W: Wait + SystemClock, R: Radio>(
-    rt: &W,
-    shared: &Shared<L>,
-    slot: &mut Slot<R>,
-    mending: &mut Mending<R>,
-    seen: Look,
-)
-    ensures served { IsServed R.model [] slot.old slot.new }
-{
-    if !mending.go_on(slot) {
-        return;
+    // Notes whether the slot is up, where that changed.
+    fn note_change<W: Wait>(&self, rt: &W, shared: &Shared<L>, was_up: bool) {
+        if self.slot.is_up() != was_up {
+            shared.note(rt, self.slot.bssid(), self.slot.is_up());
+        }
     }
-    shared.note(rt, slot.bssid(), slot.is_up());
-    if !slot.is_up() {
-        shared.rest(rt, seen);
-    }
-}
 
-// Gives a slot what of settled entries it was not given yet, behind what waits. Tells whether it took any.
-fn apply_settled<L: Ledger, W: Wait, R: Radio>(
-    rt: &W,
-    shared: &Shared<L>,
-    seat: &mut Seat<L>,
-    slot: &mut Slot<R>,
-    mending: &mut Mending<R>,
-) -> bool
-    ensures seat { IsLater seat.old seat.new }
-    ensures given { IsGivenOn R.model slot.old slot.new }
-{
-    collect(rt, shared, seat, slot);
-    let mut some = false;
-    while apply_first(rt, shared, slot, mending) {
-        some = true;
+    // Applies the first of the outs that wait; where the slot goes down at it, it is mended before the next one. One
+    // that meets want of memory stays first.
+    fn apply_first<W: Wait>(&mut self, rt: &W, shared: &Shared<L>) -> Progress
+        ensures seat { self.new.seat ≡ self.old.seat }
+        ensures served { IsServed R.model [] self.old.slot self.new.slot }
+        ensures fewer { result ≡ Progress.Made → length (queue_of self.new.slot) < length (queue_of self.old.slot) }
+    {
+        let was_up = self.slot.is_up();
+        match self.slot.apply_next() {
+            Some(Ok((_out, answer))) => {
+                self.mend_after(answer);
+                self.note_change(rt, shared, was_up);
+                Progress::Made
+            }
+            Some(Err(_)) => Progress::Short,
+            None => Progress::Nothing,
+        }
     }
-    some
-}
 
-// Receives, unless all are to stop, and gives the slot what is settled. Tells whether there was anything to do.
-fn serve<L: Ledger, W: Wait, R: Radio, C: Clock, G: Gate>(
-    rt: &W,
-    shared: &Shared<L>,
-    seat: &mut Seat<L>,
-    slot: &mut Slot<R>,
-    mending: &mut Mending<R>,
-    stopped: bool,
-    clock: &C,
-    gate: &G,
-) -> bool
-    ensures seat { IsLater seat.old seat.new }
-    ensures given { IsGivenOn R.model slot.old slot.new }
-{
-    if stopped {
-        return apply_settled(rt, shared, seat, slot, mending);
+    // Begins to mend a slot that went down at an out.
+    fn mend_after(&mut self, answer: Result<(), SlotFault>)
+        ensures seat { self.new.seat ≡ self.old.seat }
+        ensures served { IsServed R.model [] self.old.slot self.new.slot }
+        ensures queue { queue_of self.new.slot ≡ queue_of self.old.slot }
+        ensures same { answer ≢ Err SlotFault.WentDown → self.new ≡ self.old }
+        ensures begun { answer ≡ Err SlotFault.WentDown → is_up_of self.new.slot ≡ false
+            → HasOwnTries self.new.mending }
+    {
+        if answer == Err(SlotFault::WentDown) {
+            self.mending.begin(&mut self.slot);
+        }
     }
-    let received = receive(rt, shared, seat, slot, clock, gate);
-    let applied = apply_settled(rt, shared, seat, slot, mending);
-    received || applied
+
+    // Begins to mend a slot that is down at first.
+    fn mend_first(&mut self)
+        ensures seat { self.new.seat ≡ self.old.seat }
+        ensures served { IsServed R.model [] self.old.slot self.new.slot }
+        ensures same { is_up_of self.old.slot ≡ true → self.new ≡ self.old }
+        ensures begun { is_up_of self.new.slot ≡ false → HasOwnTries self.new.mending }
+    {
+        if !self.slot.is_up() {
+            self.mending.begin(&mut self.slot);
+        }
+    }
+
+    // Goes on mending the slot, and rests where it isn't up then.
+    fn mend<W: Wait + SystemClock>(&mut self, rt: &W, shared: &Shared<L>, seen: Look) -> Progress
+        ensures seat { self.new.seat ≡ self.old.seat }
+        ensures served { IsServed R.model [] self.old.slot self.new.slot }
+    {
+        let was_up = self.slot.is_up();
+        if !self.mending.go_on(&mut self.slot) {
+            return Progress::Nothing;
+        }
+        self.note_change(rt, shared, was_up);
+        if self.slot.is_up() {
+            return Progress::Made;
+        }
+        shared.pause(rt, News::Settled, seen);
+        Progress::Short
+    }
+
+    // Gives the slot what of settled entries it was not given yet, behind what waits, up to as many outs as may be at
+    // once.
+    fn apply_settled<W: Wait>(&mut self, rt: &W, shared: &Shared<L>) -> Progress
+        ensures seat { IsLater self.old.seat self.new.seat }
+        ensures given { IsGivenOn R.model self.old.slot self.new.slot }
+    {
+        let mut progress = self.collect(rt, shared);
+        for _ in 0..AT_ONCE {
+            let next = self.apply_first(rt, shared);
+            progress = progress.max(next);
+            if next != Progress::Made {
+                break;
+            }
+        }
+        progress
+    }
+
+    // Goes on mending the slot, receives, and gives the slot what is settled by then.
+    fn turn<W: Wait + SystemClock, C: Clock, G: Gate>(
+        &mut self,
+        rt: &W,
+        shared: &Shared<L>,
+        seen: Look,
+        clock: &C,
+        gate: &G,
+    ) -> Progress
+        ensures seat { IsLater self.old.seat self.new.seat }
+        ensures given { IsGivenOn R.model self.old.slot self.new.slot }
+    {
+        let mended = self.mend(rt, shared, seen);
+        let received = self.receive_all(rt, shared, seen, clock, gate);
+        let applied = self.apply_settled(rt, shared);
+        mended.max(received).max(applied)
+    }
 }
 
 /// Serves a radio until a stop, and gives its seat and its slot back: submits the frames that it receives, gives
@@ -185,32 +230,25 @@ pub fn radio_worker<L: Ledger, W: Wait + SystemClock, R: Radio, C: Clock, G: Gat
     ensures given { IsGivenOn R.model slot result.1 }
     ensures none_waits { queue_of result.1 ≡ [] }
 {
-    let mut seat = seat;
-    let mut slot = slot;
-    let mut mending = Mending::new(spares);
+    let mut parts = Parts {
+        seat,
+        slot,
+        mending: Mending::new(spares),
+        collected: None,
+    };
     let mut idle = Idle::new();
-    mend_first(&mut slot, &mut mending);
-    shared.note(rt, slot.bssid(), slot.is_up());
+    parts.mend_first();
+    shared.note(rt, parts.slot.bssid(), parts.slot.is_up());
     for _ in rt.forever() {
         let seen = shared.look(rt);
-        if seen.stopped && slot.waiting() == 0 {
+        if seen.stopped && parts.slot.waiting() == 0 {
             break;
         }
-        mend(rt, shared, &mut slot, &mut mending, seen);
-        if serve(
-            rt,
-            shared,
-            &mut seat,
-            &mut slot,
-            &mut mending,
-            seen.stopped,
-            clock,
-            gate,
-        ) {
-            idle.end();
-        } else {
-            idle.rest(rt, shared, seen);
+        let progress = parts.turn(rt, shared, seen, clock, gate);
+        if idle.is_over(progress) {
+            shared.pause(rt, News::Settled, seen);
         }
     }
+    let Parts { seat, slot, .. } = parts;
     (seat, slot)
 }

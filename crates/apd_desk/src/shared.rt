@@ -8,6 +8,7 @@ ghost use Rattle.apd_desk.specs.Steps.{IsOf};
 
 use crate::handed::{Handed, Taken};
 use crate::locked::{Locked, Look};
+use crate::news::{Conditions, News};
 use crate::published::Published;
 use crate::seat::{AskFault, SEATS, Seat};
 use apd_base::{Bssid, Moment};
@@ -17,13 +18,13 @@ use apd_mlme::{Out, Recipient};
 use apd_store::Receipt;
 use std::alloc::AllocError;
 use std::sync::ledger::{Blank, Ledger};
-use std::sync::{Condvar, CondvarTimeouts, Mutex, Wait};
+use std::sync::{CondvarTimeouts, Mutex, Wait};
 use std::time::{Clock, Duration};
 
-/// For how long an idle worker waits at most, in milliseconds.
+/// The pause of a worker before it tries something again, in milliseconds.
 const PAUSE: u64 = 1;
 
-/// A core under a lock, and what wakes those that wait for it. Each call but `new` and `close` takes the lock,
+/// A core under a lock, and what wakes those that wait for news of it. Each call but `new` and `close` takes the lock,
 /// may wait for it, and holds it for one call of the core at most.
 ///
 /// No clause says what the core is at the moment of a call, since others may call before and after it: of each
@@ -32,7 +33,7 @@ const PAUSE: u64 = 1;
 #[derive(Drop)]
 pub struct Shared<L: Ledger> {
     locked: Mutex<Locked<L>>,
-    changed: Condvar,
+    conditions: Conditions,
 }
 
 impl<L: Ledger> Shared<L> {
@@ -45,7 +46,7 @@ impl<L: Ledger> Shared<L> {
     {
         Shared {
             locked: Mutex::new(Locked::new(core, blank)),
-            changed: Condvar::new(),
+            conditions: Conditions::new(),
         }
     }
 
@@ -57,7 +58,7 @@ impl<L: Ledger> Shared<L> {
     }
 
     /// Accepts a request at a moment: the core's `accept`. The seat counts it exactly where it is an entry, and
-    /// those that wait are woken there.
+    /// who waits for entries is woken there.
     pub fn submit<'a>(
         &self,
         rt: &impl Wait,
@@ -72,7 +73,7 @@ impl<L: Ledger> Shared<L> {
     {
         let answer = self.locked.lock(rt).submit(seat, input, moment);
         if let Ok(Accepted::Entry(_)) = &answer {
-            self.changed.notify_all();
+            self.conditions.tell(News::Entry);
         }
         answer
     }
@@ -128,12 +129,12 @@ impl<L: Ledger> Shared<L> {
         ensures counted { IfOk result (λ closed. closed.1 ≡ counted seats.items) }
         ensures back { IfErr result (λ back. back.1 ≡ seats) }
     {
-        let Shared { locked, changed } = self;
+        let Shared { locked, conditions } = self;
         match locked.into_inner().close(seats) {
             Ok(closed) => Ok(closed),
             Err((locked, seats)) => {
                 let locked = Mutex::new(locked);
-                Err((Shared { locked, changed }, seats))
+                Err((Shared { locked, conditions }, seats))
             }
         }
     }
@@ -142,7 +143,7 @@ impl<L: Ledger> Shared<L> {
     /// matter of the moment, and said where the lock is held.
     pub fn stop(&self, rt: &impl Wait) {
         self.locked.lock(rt).stop();
-        self.changed.notify_all();
+        self.conditions.tell(News::Stop);
     }
 
     /// Notes whether the radio of a BSSID is up, for `STATUS` to show; nothing where eight others are noted. It takes
@@ -172,7 +173,7 @@ impl<L: Ledger> Shared<L> {
         self.locked.lock(rt).take()
     }
 
-    // It wakes those that wait.
+    // It wakes who waits for what is settled.
     pub(crate) fn publish(
         &self,
         rt: &impl Wait,
@@ -183,7 +184,7 @@ impl<L: Ledger> Shared<L> {
     {
         let answer = self.locked.lock(rt).publish(receipt);
         if answer.is_ok() {
-            self.changed.notify_all();
+            self.conditions.tell(News::Settled);
         }
         answer
     }
@@ -198,14 +199,34 @@ impl<L: Ledger> Shared<L> {
         self.locked.lock(rt).look()
     }
 
-    // Waits for a while, unless a look now would see something else than this one, and until one does. No clause
-    // speaks of waiting.
-    pub(crate) fn rest<W: Wait + Clock>(&self, rt: &W, seen: Look) {
-        let pause = Duration::from_millis(PAUSE);
-        let _rested = self
-            .changed
-            .wait_timeout_while(rt, self.locked.lock(rt), pause, |locked| {
-                locked.look() == seen
+    // Waits until there are such news since a look, or a stop. No clause speaks of waiting.
+    pub(crate) fn wait(&self, rt: &impl Wait, news: News, seen: Look) {
+        let _locked = self
+            .conditions
+            .of(news)
+            .wait_while(rt, self.locked.lock(rt), |locked| {
+                !news.came(seen, locked.look())
             });
+    }
+
+    // The same, for this time at most.
+    pub(crate) fn wait_within<W: Wait + Clock>(
+        &self,
+        rt: &W,
+        news: News,
+        seen: Look,
+        time: Duration,
+    ) {
+        let _waited = self.conditions.of(news).wait_timeout_while(
+            rt,
+            self.locked.lock(rt),
+            time,
+            |locked| !news.came(seen, locked.look()),
+        );
+    }
+
+    // The same, for the pause before something is tried again.
+    pub(crate) fn pause<W: Wait + Clock>(&self, rt: &W, news: News, seen: Look) {
+        self.wait_within(rt, news, seen, Duration::from_millis(PAUSE));
     }
 }

@@ -3,14 +3,14 @@ ghost use Rattle.apd_desk.specs.SeatProgress.{IsLater};
 
 use crate::clock::Clock;
 use crate::gate::Gate;
-use crate::idle::Idle;
+use crate::news::News;
 use crate::seat::Seat;
 use crate::shared::Shared;
 use crate::submitting::submit_passing;
 use apd_core::Input;
 use std::sync::Wait;
 use std::sync::ledger::Ledger;
-use std::time::Clock as SystemClock;
+use std::time::{Clock as SystemClock, Duration};
 
 /// How far the moments of two ticks are apart at least, in milliseconds.
 const TICK: u64 = 1000;
@@ -27,17 +27,17 @@ pub fn tick_worker<L: Ledger, W: Wait + SystemClock, C: Clock, G: Gate>(
 {
     let mut seat = seat;
     let mut last = clock.now();
-    let mut idle = Idle::new();
     for _ in rt.forever() {
         let seen = shared.look(rt);
         if seen.stopped {
             break;
         }
         let now = clock.now();
-        if now.0.abs_diff(last.0) < TICK {
-            idle.rest(rt, shared, seen);
+        let past = now.0.abs_diff(last.0);
+        if past < TICK {
+            let left = Duration::from_millis(TICK - past);
+            shared.wait_within(rt, News::Stop, seen, left);
         } else {
-            idle.end();
             last = now;
             submit_passing(rt, shared, &mut seat, Input::Tick, now, gate);
         }

@@ -1,6 +1,7 @@
 //! A boxed radio is a radio.
 use crate::radio::{Radio, RadioFault};
 use apd_base::Addr;
+use std::os::fd::RawFd;
 
 impl Radio for Box<dyn Radio + Send> {
     ghost model = { record {
@@ -12,6 +13,10 @@ impl Radio for Box<dyn Radio + Send> {
 
     fn poll(&mut self) -> Result<Option<Vec<u8>>, RadioFault> {
         (**self).poll()
+    }
+
+    fn descriptor(&self) -> Option<RawFd> {
+        (**self).descriptor()
     }
 
     fn install(&mut self, addr: Addr, aid: u16) -> Result<(), RadioFault> {

@@ -4,14 +4,19 @@ ghost use Rattle.std.specs.IoError.{error_kind};
 ghost use Rattle.std.specs.Option.{option_map};
 
 use crate::radio::RadioFault;
+use libc::net::{SO_RCVBUF, SOL_SOCKET, setsockopt};
 use std::alloc::{AllocError, Global};
 use std::io::{self, ErrorKind};
 use std::marker::Model;
 use std::net::{Ipv4Addr, Net, SocketAddr, UdpSocket};
+use std::os::fd::{AsRawFd, RawFd};
 use thiserror::Error;
 
 /// Bytes that a datagram may have, and more: what was received is never cut.
 const MAX_DATAGRAM: usize = 65_536;
+
+/// The room that the system is asked to keep for datagrams that wait, in bytes (own).
+const ROOM: i32 = 4_194_304;
 
 /// Why a port isn't open.
 #[derive(Clone, Copy, PartialEq, Eq, Debug, Error)]
@@ -32,6 +37,13 @@ impl From<AllocError> for SocketFault {
     fn from(_error: AllocError) -> SocketFault {
         SocketFault::NoMemory
     }
+}
+
+// Asks the system for room for datagrams that wait. Where it gives less, it stays at that.
+fn ask_for_room(socket: &UdpSocket) {
+    let mut room = [0u8; 16];
+    room[..4].copy_from_slice(&ROOM.to_ne_bytes());
+    let _status = unsafe { setsockopt(socket.as_raw_fd(), SOL_SOCKET, SO_RCVBUF, &room, 4) };
 }
 
 // A call that a signal interrupted is made again.
@@ -87,7 +99,8 @@ impl Model for Datagrams {
 }
 
 impl Datagrams {
-    /// Opens the port. Port 0 is for tests: the system chooses one that is free.
+    /// Opens the port, with room for 4 MiB of datagrams that wait, or as much as the system gives. Port 0 is for
+    /// tests: the system chooses one that is free.
     ///
     /// Errors: `NoSocket` where the port can't be had, `NoMemory` where memory runs out.
     pub fn bind<R: Net>(rt: &R, alloc: Global, port: u16) -> Result<Datagrams, SocketFault>
@@ -100,12 +113,18 @@ impl Datagrams {
         if socket.set_nonblocking(true).is_err() {
             return Err(SocketFault::NoSocket);
         }
+        ask_for_room(&socket);
         Ok(Datagrams {
             socket,
             buffer,
             waiting: None,
             alloc,
         })
+    }
+
+    /// The socket's descriptor, which can be read whenever a datagram waits in the system.
+    pub fn descriptor(&self) -> RawFd {
+        self.socket.as_raw_fd()
     }
 
     // Receives a datagram into the buffer, unless one waits there.

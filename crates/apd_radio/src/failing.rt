@@ -9,6 +9,7 @@ ghost use Rattle.apd_radio.specs.Frames.{Polls};
 use crate::counting::counted;
 use crate::radio::{Radio, RadioFault};
 use apd_base::Addr;
+use std::os::fd::RawFd;
 
 /// A radio over another one. It passes some calls of `install`, `remove` and `transmit` on; each later one fails
 /// in the device, and isn't passed on. Its other answers are those of the inner radio.
@@ -84,6 +85,10 @@ impl<R: Radio> Radio for Failing<R> {
     {
         let answer = self.inner.poll();
         counted(&mut self.failures, answer)
+    }
+
+    fn descriptor(&self) -> Option<RawFd> {
+        self.inner.descriptor()
     }
 
     fn install(&mut self, addr: Addr, aid: u16) -> Result<(), RadioFault>

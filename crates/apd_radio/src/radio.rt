@@ -8,6 +8,7 @@ ghost use Rattle.apd_radio.specs.Model.{RadioModel};
 
 use apd_base::Addr;
 use std::alloc::AllocError;
+use std::os::fd::RawFd;
 use thiserror::Error;
 
 /// Why a radio did not do what it was asked for. Its map is then as it was.
@@ -56,6 +57,12 @@ pub trait Radio: Drop {
         ensures memory { result ≡ Err RadioFault.NoMemory → model.faults self.new ≡ model.faults self.old }
         ensures device { result ≡ Err RadioFault.Device → HasRisen (model.faults self.old) (model.faults self.new) }
         ensures count { model.faults self.old ≤ model.faults self.new };
+
+    /// A descriptor that can be read whenever a frame waits in the system, if there is one: who waits for a frame
+    /// waits for it. One that takes another's place may have its number. Nothing is promised of it.
+    fn descriptor(&self) -> Option<RawFd> {
+        None
+    }
 
     /// Installs a station, over what was installed at its address.
     ///

@@ -13,6 +13,7 @@ use crate::radio::{Radio, RadioFault};
 use apd_base::Addr;
 use std::alloc::Global;
 use std::io::Write;
+use std::os::fd::RawFd;
 
 /// A radio over another one, which writes a line for each call of it that succeeded. Its answers are
 /// those of the inner radio. The first write that fails, or that lacks memory, ends the recording.
@@ -70,6 +71,10 @@ impl<R: Radio, W: Write + Drop> Radio for Recording<R, W> {
             self.log.received(frame);
         }
         Ok(got)
+    }
+
+    fn descriptor(&self) -> Option<RawFd> {
+        self.inner.descriptor()
     }
 
     fn install(&mut self, addr: Addr, aid: u16) -> Result<(), RadioFault>

@@ -9,6 +9,7 @@ use crate::radio::{Radio, RadioFault};
 use apd_base::Addr;
 use std::alloc::Global;
 use std::net::{Net, SocketAddr};
+use std::os::fd::RawFd;
 
 /// A radio on a port of 127.0.0.1: each datagram is one frame. What it sends goes to the peer that
 /// was last heard; without one it sends nothing.
@@ -67,6 +68,10 @@ impl Radio for UdpSim {
         };
         self.peer = Some(peer);
         Ok(Some(frame))
+    }
+
+    fn descriptor(&self) -> Option<RawFd> {
+        Some(self.datagrams.descriptor())
     }
 
     fn install(&mut self, addr: Addr, aid: u16) -> Result<(), RadioFault> {

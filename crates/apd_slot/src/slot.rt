@@ -13,6 +13,7 @@ use apd_table::Table;
 use std::alloc::{AllocError, Global};
 use std::collections::VecDeque;
 use std::mem;
+use std::os::fd::RawFd;
 use thiserror::Error;
 
 /// Why a slot did not do what it was asked for.
@@ -129,6 +130,11 @@ impl<R: Radio> Slot<R> {
         ensures wanted_then { wanted_then self.new ≡ wanted_then self.old }
     {
         self.radio.poll()
+    }
+
+    /// The radio's descriptor: the one of before a replacement is not that of after it.
+    pub fn descriptor(&self) -> Option<RawFd> {
+        self.radio.descriptor()
     }
 
     /// Makes room for so many outs behind those that wait, if any does: where none waits, `queue` needs none.

@@ -7,8 +7,16 @@ use Rattle.apd_desk.proofs.committing.commit_all.Given as given
 use Rattle.apd_desk.proofs.committing.commit_all.Goals as goal
 use Rattle.apd_desk.proofs.committing.commit_all.Goals.{in-None, in-Some+in-Nothing, in-Some+in-Refused}
 
-pub loop-preserved-in-On-1 : goal.loop-preserved-in-On-1
-loop-preserved-in-On-1 g c =
+pub loop-preserved-in-On : goal.loop-preserved-in-On
+loop-preserved-in-On g c =
+    both_on g.D.Disk.model _ _ _ _ c.loop.invariant (c.step.ensures.stepped, c.step.ensures.keeps)
+
+pub loop-preserved-in-Settled : goal.loop-preserved-in-Settled
+loop-preserved-in-Settled g c =
+    both_on g.D.Disk.model _ _ _ _ c.loop.invariant (c.step.ensures.stepped, c.step.ensures.keeps)
+
+pub loop-preserved-in-Nothing-2 : goal.loop-preserved-in-Nothing-2
+loop-preserved-in-Nothing-2 g c =
     both_on g.D.Disk.model _ _ _ _ c.loop.invariant (c.step.ensures.stepped, c.step.ensures.keeps)
 
 pub loop-preserved : goal.loop-preserved
