@@ -10,8 +10,10 @@ use Rattle.apd_radio.specs.Model.{RadioModel}
 use Rattle.apd_slot.specs.Slots.{bssid_of}
 use Rattle.apd_slot.specs.declared.slot.Slot.{Slot}
 use Rattle.apd_store.specs.Image.{Shows}
+use Rattle.apd_world.specs.Journal.{Journal, Keeps, after}
 use Rattle.apd_world.specs.Outside.{device_of}
 use Rattle.apd_world.specs.Proper.{IsProper, IsShown}
+use Rattle.apd_world.specs.StandsFor.{StandsFor}
 use Rattle.apd_world.specs.WorldParts.{durable_of}
 use Rattle.apd_world.specs.declared.world.World.{World}
 use Rattle.apd_script.specs.Script.{AreRenewed, confs_of, IsBegunFrom, IsRestarted, Restarts, Starts, Stops}
@@ -22,12 +24,13 @@ module _ {D R : Type 0} (disk : DiskModel D) (radio : RadioModel R) where
   -- a world is begun anew from the device of another
   pub anew : (m : Moment) (device : D) (old new : World D R) (confs : List Conf) → device ≡ device_of (durable_of old)
       → (IsProper disk (durable_of old) → IsShown disk (durable_of old))
+      → (IsProper disk (durable_of old) → (j : Journal) → StandsFor old j → (image : List ℕ) → disk.may_leave (device_of (durable_of old)) image → Keeps j j image)
       → (disk.honest (device_of (durable_of old)) → disk.may_leave (device_of (durable_of old)) (disk.reads (device_of (durable_of old))))
       → ((image : List ℕ) (s t : State) → Shows image s → Shows image t → s ≡ t)
       → confs ≡ (durable_of old).core.confs
       → IsBegunFrom disk radio m device confs new
       → IsRestarted disk radio m old new
-  anew m device old new confs is shown left one configured begun =
+  anew m device old new confs is shown keeps left one configured begun =
       let core = (durable_of old).core in
       let own = device_of (durable_of old) in
       let of_own : IsBegunFrom disk radio m own confs new =
@@ -41,6 +44,9 @@ module _ {D R : Type 0} (disk : DiskModel D) (radio : RadioModel R) where
               some_of = flight.some_of;
               is = one (disk.reads own) (durable_of new).core.settled (run core.settled core.confs (take flight.count hs)) (of_own.shown p.imaged.honest) flight.shows;
             };
+        kept = λ p j stands.
+            let kept = keeps p j stands (disk.reads own) (left p.imaged.honest) in
+            (kept, one (disk.reads own) (durable_of new).core.settled (after j kept.front) (of_own.shown p.imaged.honest) kept.shows);
       }
 
   -- what is given up and begun anew is restarted

@@ -5,14 +5,14 @@ use Rattle.std.specs.Option.{unwrap_or}
 use Rattle.std.specs.Prelude.{IfErr, IsErrAnd, OnErr, OnOk, replicate}
 use Rattle.std.proofs.lemmas.List.Elements.{All-cons, All-nil}
 use Rattle.std.proofs.lemmas.Result.{IfErr-weaker}
-use Rattle.apd_world.proofs.Words.{AreSafelyMade, AreSettled, AreWorldSteps, Call, Called, ComesTo, Commit, DiskModel, Done, DurableCore, Ends, GoesQuietly, HasEnded, HasFailedCore, HasGoneUnrefused, HasNoBatch, HasNoCall, HasNoReceipt, Idle, IsAtRest, IsEnd, IsInStep, IsNoOtherRefusal, IsNoRefusal, IsRound, IsWhole, Loaded, NoMemory, Nothing, Publish, Published, RadioModel, Step, StoreFault, Take, Tells, Told, World, WorldFault, answer_of, durable_of, flusher_of, phase_of, round, said, waiting_receipt}
+use Rattle.apd_world.proofs.Words.{AreMadeInTurn, AreSafelyMade, AreSettled, Call, Called, ComesTo, Commit, DiskModel, Done, DurableCore, Ends, GoesQuietly, HasEnded, HasFailedCore, HasGoneUnrefused, HasNoBatch, HasNoCall, HasNoReceipt, Idle, IsAtRest, IsEnd, IsInStep, IsNoOtherRefusal, IsNoRefusal, IsRound, IsWhole, Loaded, NoMemory, Nothing, Publish, Published, RadioModel, Step, StoreFault, Take, Tells, Told, World, WorldFault, answer_of, durable_of, flusher_of, phase_of, round, said, waiting_receipt}
 use Rattle.apd_store.specs.declared.fault.StoreFault.TheVariants as store_fault
 use Rattle.apd_core.specs.declared.publish_fault.PublishFault.TheVariants as publish_fault
 use Rattle.apd_world.specs.declared.fault.WorldFault.TheVariants as world_fault
 use Rattle.apd_world.specs.declared.step.Commit.TheVariants as commit
-use Rattle.apd_world.proofs.RunLemmas.{AreRounds, IsUnrefused, failures, gone_rounds, gone_then, risen_since, round_more, unrefused_then}
+use Rattle.apd_world.proofs.RunLemmas.{AreRounds, IsUnrefused, failures, gone_rounds, gone_then, kept, risen_since, round_more, unrefused_then}
 use Rattle.apd_world.proofs.RoundLemmas.{no_call_left}
-use Rattle.apd_world.proofs.Speaking.{steps_speak}
+use Rattle.apd_world.proofs.Speaking.{stays_failed}
 use Rattle.apd_world.proofs.Standing.{can_take_none, none_some}
 
 -- ---- an error that `?` makes
@@ -63,14 +63,14 @@ module _ {D R : Type 0} (disk : DiskModel D) (radio : RadioModel R) where
   call_short Nothing rest d e h way = (inl tt, subst (λ w. IsShort w rest) (sym h.1) way)
   call_short t rest d e h way = absurd h
 
-  calls_short : (n : ℕ) (is ts : List Told) (a b : World D R) → AreWorldSteps radio (replicate n Call ++ Publish ∷ []) is ts a b → IsShort (durable_of a) (answer_of ts) → All IsNoOtherRefusal ts
-  calls_short zero (i ∷ []) (t ∷ []) a b h way =
-      All-cons IsNoOtherRefusal t [] (publish_short t (durable_of a) (durable_of h.0) (subst (λ z. Tells Publish z (durable_of a) (durable_of h.0)) (sym h.2.0) h.1) way) (All-nil IsNoOtherRefusal)
-  calls_short (suc n) (i ∷ is) (t ∷ ts) a b h way =
-      let one = call_short t (answer_of ts) (durable_of a) (durable_of h.0) (subst (λ z. Tells Call z (durable_of a) (durable_of h.0)) (sym h.2.0) h.1) way in
-      All-cons IsNoOtherRefusal t ts one.0 (calls_short n is ts h.0 b h.3 one.1)
-  calls_short zero (i ∷ is) (t ∷ ts) a b h way = absurd h.3
-  calls_short n is ts a b h way = absurd h
+  calls_short : (n : ℕ) (ts : List Told) (a b : World D R) → AreMadeInTurn disk radio (replicate n Call ++ Publish ∷ []) ts a b → IsShort (durable_of a) (answer_of ts) → All IsNoOtherRefusal ts
+  calls_short zero (t ∷ []) a b h way =
+      All-cons IsNoOtherRefusal t [] (publish_short t (durable_of a) (durable_of h.0) (subst (λ z. Tells Publish z (durable_of a) (durable_of h.0)) (sym h.1.joins.0) h.1.durable.tells) way) (All-nil IsNoOtherRefusal)
+  calls_short (suc n) (t ∷ ts) a b h way =
+      let one = call_short t (answer_of ts) (durable_of a) (durable_of h.0) (subst (λ z. Tells Call z (durable_of a) (durable_of h.0)) (sym h.1.joins.0) h.1.durable.tells) way in
+      All-cons IsNoOtherRefusal t ts one.0 (calls_short n ts h.0 b h.3 one.1)
+  calls_short zero (t ∷ ts) a b h way = absurd h.3
+  calls_short n ts a b h way = absurd h
 
   -- a core that can give a batch has none in flight, so no call and no receipt is left
   take_short : (t : Told) (rest : Commit) (d e : DurableCore D) → Tells Take t d e → IsWhole disk d → unwrap_or (said t) rest ≡ commit.NoMemory → IsNoOtherRefusal t × IsShort e rest
@@ -82,11 +82,11 @@ module _ {D R : Type 0} (disk : DiskModel D) (radio : RadioModel R) where
       (inl tt, subst (λ w. IsShort w rest) (sym h.1) (inl (inl between.idle, (between.receipt, λ done. let no : Idle ≡ Done = sym between.idle ∙ done in cc))))
   take_short t rest d e h whole is = absurd h
 
-  round_short : (n : ℕ) (is ts : List Told) (a b : World D R) → AreWorldSteps radio (round n) is ts a b → IsWhole disk (durable_of a) → commit.NoMemory ≡ answer_of ts → All IsNoOtherRefusal ts
-  round_short n (i ∷ is) (t ∷ ts) a b h whole is_short =
-      let one = take_short t (answer_of ts) (durable_of a) (durable_of h.0) (subst (λ z. Tells Take z (durable_of a) (durable_of h.0)) (sym h.2.0) h.1) whole (sym is_short) in
-      All-cons IsNoOtherRefusal t ts one.0 (calls_short n is ts h.0 b h.3 one.1)
-  round_short n is ts a b h whole is_short = absurd h
+  round_short : (n : ℕ) (ts : List Told) (a b : World D R) → AreMadeInTurn disk radio (round n) ts a b → IsWhole disk (durable_of a) → commit.NoMemory ≡ answer_of ts → All IsNoOtherRefusal ts
+  round_short n (t ∷ ts) a b h whole is_short =
+      let one = take_short t (answer_of ts) (durable_of a) (durable_of h.0) (subst (λ z. Tells Take z (durable_of a) (durable_of h.0)) (sym h.1.joins.0) h.1.durable.tells) whole (sym is_short) in
+      All-cons IsNoOtherRefusal t ts one.0 (calls_short n ts h.0 b h.3 one.1)
+  round_short n ts a b h whole is_short = absurd h
 
 module _ {D R : Type 0} (disk : DiskModel D) (radio : RadioModel R) where
   -- ---- what a last round ends
@@ -117,11 +117,11 @@ module _ {D R : Type 0} (disk : DiskModel D) (radio : RadioModel R) where
     ends_err (Err world_fault.NoSlot) end = absurd end
     ends_err (Err world_fault.NoMemory) end =
         let last = subst (λ (x : Commit). IsRound disk radio x b c) end one in
-        record { last = b; before = gone_rounds disk radio a b before; way = inr (record { round_is = last; none = λ whole. round_short disk radio last.calls last.made.run.insides last.tolds b c last.made.run.steps_are whole last.answer_is }) }
+        record { last = b; before = gone_rounds disk radio a b before; way = inr (record { round_is = last; none = λ whole. round_short disk radio last.calls last.tolds b c last.made.in_turn whole last.answer_is }) }
 
     -- where it is told that the store has failed, the core has
     still_fails : (durable_of b).core.failed ≡ true → (durable_of c).core.failed ≡ true
-    still_fails = (steps_speak (round one.calls) one.made.run.insides (durable_of b) (durable_of c) one.made.run.run.steps_are).failed
+    still_fails = kept disk radio (λ w. (durable_of w).core.failed ≡ true) (λ x t v w step made. stays_failed (durable_of v) (durable_of w) x step.inside step.durable.tells) (round one.calls) one.tolds b c one.made.in_turn
 
     pub ends_failed : (r : Result (Unit {0}) WorldFault) → IsEnd answer (durable_of c) (Some r) → ComesTo disk answer (durable_of b) (durable_of c) → IfErr r (λ fault. HasFailedCore fault c)
     ends_failed (Err (world_fault.Store store_fault.Failed)) end comes = failed_core disk (durable_of b) (durable_of c) answer end comes still_fails

@@ -2,7 +2,7 @@
 use Rattle.std.proofs.Common.{◌≡◌, ℕ, ◌+◌, ◌≤◌, Bool, true, false, cond, List, [], ◌∷◌, ◌++◌, length, take, drop, ◌⊎◌, inl, inr, refl, sym, ap, subst, ◌∙◌, arith, append_assoc, length-append}
 use Rattle.std.specs.Prelude.{map}
 use Rattle.std.proofs.lemmas.List.{append-nil, map-append, length-take-le, length-drop, take-append-drop}
-use Rattle.apd_world.proofs.Words.{AreFit, AreHeldFor, AreUnsettled, Change, Conf, Control, CoreState, Goes, Happening, IsCore, LastHeard, Moment, Out, Radio, Recipient, Settles, State, front_of, handed, held_for, last_of, outs_run, outs_to, published, ready_for, run, up_to, verdict, with_entry, with_sender}
+use Rattle.apd_world.proofs.Words.{AreFit, AreHeldFor, AreUnsettled, Change, Conf, Control, CoreState, Goes, GoesQuietly, Happening, IsCore, LastHeard, Moment, Out, Radio, Recipient, Settles, State, front_of, handed, held_for, last_of, outs_run, outs_to, published, ready_for, run, up_to, verdict, with_entry, with_sender}
 use Rattle.apd_base.proofs.AddrLemmas.{bssid_total, bssid_exact}
 use Rattle.apd_base.proofs.MapLemmas.{one_or_apart, tied}
 use Rattle.apd_mlme.specs.Outs.{is_same}
@@ -20,13 +20,13 @@ pub run-append : (confs : List Conf) (es fs : List Happening) (s : State) → ru
 run-append confs [] fs s = refl
 run-append confs (e ∷ es) fs s = run-append confs es fs (verdict s confs e).state
 
-outs_run-append : (r : Recipient) (confs : List Conf) (es fs : List Happening) (s : State) → outs_run r s confs (es ++ fs) ≡ outs_run r s confs es ++ outs_run r (run s confs es) confs fs
+pub outs_run-append : (r : Recipient) (confs : List Conf) (es fs : List Happening) (s : State) → outs_run r s confs (es ++ fs) ≡ outs_run r s confs es ++ outs_run r (run s confs es) confs fs
 outs_run-append r confs [] fs s = refl
 outs_run-append r confs (e ∷ es) fs s =
     ap (λ os. outs_to r (verdict s confs e).outs ++ os) (outs_run-append r confs es fs (verdict s confs e).state)
     ∙ sym (append_assoc (outs_to r (verdict s confs e).outs) (outs_run r (verdict s confs e).state confs es) _)
 
-fit-append : (confs : List Conf) (es fs : List Happening) (s : State) → AreFit s confs es → AreFit (run s confs es) confs fs → AreFit s confs (es ++ fs)
+pub fit-append : (confs : List Conf) (es fs : List Happening) (s : State) → AreFit s confs es → AreFit (run s confs es) confs fs → AreFit s confs (es ++ fs)
 fit-append confs [] fs s a b = b
 fit-append confs (e ∷ es) fs s a b = (a.0, fit-append confs es fs (verdict s confs e).state a.1 b)
 
@@ -64,7 +64,6 @@ module _ (s : CoreState) (flight : ℕ) (heard : LastHeard) (failed : Bool) wher
     front = refl;
     outs = λ r. sym (append-nil (held_for r s));
     last = no_further (last_of s);
-    number = omega arith;
     settles = beside_settles;
   }
 
@@ -135,7 +134,6 @@ module _ (s : CoreState) (m : Moment) (h : Happening) (core : IsCore s) (fit : I
     front = entry_front s m h;
     outs = λ r. entry_held s m h r core ∙ ap (λ os. held_for r s ++ os) (sym (append-nil (outs_to r (verdict (front_of s) s.confs h).outs)));
     last = let one = length-append s.unsettled ((verdict (front_of s) s.confs h).changes ∷ []) in omega (arith, one);
-    number = omega arith;
     settles = entry_settles;
   }
 
@@ -200,7 +198,6 @@ module _ (s : CoreState) (core : IsCore s) where
     front = publish_front s core;
     outs = λ r. publish_held s r core ∙ sym (append-nil (held_for r s));
     last = let fly = core.in_flight in let rest = length-drop s.flight s.unsettled in omega (arith, rest, fly);
-    number = omega arith;
     settles = publish_settles;
   }
 
@@ -264,7 +261,6 @@ module _ (q : Recipient) (s : CoreState) (core : IsCore s) where
     front = refl;
     outs = hand_outs;
     last = no_further (last_of s);
-    number = omega arith;
     settles = λ hs u. record {
       settled = [];
       left = hs;
@@ -319,6 +315,8 @@ module _ (es fs : List Happening) (g h : Recipient → List Out) (a b c : CoreSt
             (outs_run r (front_of a) a.confs (es ++ fs)) (past.outs r) (step.outs r)
             (outs_run-append r a.confs es fs (front_of a) ∙ ap (λ os. outs_run r (front_of a) a.confs es ++ os) (λ i. outs_run r (sym past.front i) (sym past.confs i) fs));
         last = step.last ∙ ap (λ n. n + length fs) past.last ∙ omega (arith, lengths);
-        number = let l = past.number in let m = step.number in omega (arith, l, m);
         settles = then_settles;
       }
+
+pub quiet_then : (a b c : CoreState) → GoesQuietly a b → GoesQuietly b c → GoesQuietly a c
+quiet_then a b c past step = record { goes = goes_then [] [] (λ r. []) (λ r. []) a b c past.goes step.goes; heard = step.heard ∙ past.heard }

@@ -1,8 +1,11 @@
-pub mod DriveLemmas
+mod Accounts
 pub mod EndLemmas
 mod FollowLemmas
 mod Moving
 mod Goings
+mod JournalBegins
+mod JournalLemmas
+mod Lasting
 mod Joining
 mod ResumeLemmas
 mod SlotLemmas
@@ -12,7 +15,5 @@ pub mod RunLemmas
 mod Standing
 mod Speaking
 mod StepLemmas
-mod Recovering
 mod ReplaceLemmas
-mod SafelyGoing
 mod Words

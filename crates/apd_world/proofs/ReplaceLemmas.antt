@@ -1,12 +1,12 @@
 -- A slot whose radio was replaced, in its world.
 use Rattle.std.proofs.Common.{◌≡◌, ℕ, List, [], Option, Some, Result, Ok, Err, refl, sym, ap, subst, ◌∙◌, get_or, set}
 use Rattle.std.proofs.lemmas.List.{append-nil}
-use Rattle.apd_world.proofs.Words.{AreExact, AreFollowing, Bssid, DiskModel, DurableCore, Goes, IsReplaced, IsReplacedAt, RadioModel, RefusesRadio, Replaces, Slot, SlotFault, SlotGoes, World, WorldFault, durable_of, slot_place, slots_of}
+use Rattle.apd_world.proofs.Words.{AreFollowing, Bssid, DiskModel, DurableCore, Goes, IsReplaced, IsReplacedAt, RadioModel, RefusesRadio, Replaces, Slot, SlotFault, SlotGoes, World, WorldFault, durable_of, slot_place, slots_of}
 use Rattle.apd_slot.specs.Slots.{queue_of as slot_queue}
 use Rattle.apd_world.specs.declared.fault.WorldFault.TheVariants as world_fault
 use Rattle.apd_world.proofs.FollowLemmas.{follow_on}
 use Rattle.apd_world.proofs.Goings.{goes_unchanged}
-use Rattle.apd_world.proofs.Moving.{IsMoved, MovedAt, goes_exact, goes_moved, rest_exact, rest_moved}
+use Rattle.apd_world.proofs.Moving.{IsMoved, MovedAt, goes_moved, rest_moved}
 use Rattle.apd_world.proofs.SlotLemmas.{slot_goes}
 
 module _ {D R : Type 0} (disk : DiskModel D) (radio : RadioModel R) (frames : R → Option (List (List ℕ))) (b : Bssid) (other : R) where
@@ -42,9 +42,6 @@ module _ {D R : Type 0} (disk : DiskModel D) (radio : RadioModel R) (frames : R 
 
       pub replaced_moved : (c : Bssid) → MovedAt radio old new c [] []
       replaced_moved c = either (MovedAt radio old new c [] []) (λ a g. goes_moved radio old new c b (At a) (λ t. []) (λ t. []) refl refl (unmoved a) g) (λ same. rest_moved radio old new c (ap slots_of same)) answer h.replaces
-
-      pub replaced_exact : AreExact radio (slots_of old) → AreExact radio (slots_of new)
-      replaced_exact = either (AreExact radio (slots_of old) → AreExact radio (slots_of new)) (λ a g. goes_exact radio old new b (At a) (λ was now q before. q.given.exact) g) (λ same. rest_exact radio old new (ap slots_of same)) answer h.replaces
 
       pub replaced_following : AreFollowing old → AreFollowing new
       replaced_following = follow_on radio old new [] (λ r. []) (λ c. [])

@@ -1,19 +1,22 @@
 -- Slots that resume, and a world begun anew with them.
-use Rattle.std.proofs.Common.{◌≡◌, ◌⊎◌, inl, inr, ℕ, ◌<◌, List, [], length, map, Option, Some, None, Err, take, refl, sym, ap, subst, ◌∙◌, arith, get_or, set, length-set}
+use Rattle.std.proofs.Common.{◌≡◌, ◌⊎◌, inl, inr, true, ℕ, ◌<◌, List, [], length, map, Option, Some, None, Err, take, refl, sym, ap, subst, ◌∙◌, arith, get_or, set, length-set}
 use Rattle.std.specs.FinMap as maps
 use Rattle.std.specs.Prelude.{◌↔◌}
 use Rattle.std.proofs.lemmas.List.{get_or-set_same, take-set}
 use Rattle.std.proofs.lemmas.Option.{slice_get-get_or}
-use Rattle.apd_world.proofs.Words.{Addr, AreExact, AreHandedBack, AreHeardAt, AreLeft, AreResumed, Bssid, Conf, CoreState, DiskModel, DurableCore, EndsAtSlot, HasNotResumed, IsExact, IsResumed, LastHeard, LeavesOnly, Moment, Radio, RadioModel, Shows, Slot, SlotFault, Sound, State, Store, StoreFault, WorldFault, aid_at, bssid_of, driven, front_of, held_for, installed_rows, new_core, queue_if, run, slot_at, slot_in, slot_place, wanted_after_all, wanted_then}
+use Rattle.apd_world.proofs.Words.{Addr, AreExact, AreHandedBack, AreHeardAt, AreLeft, AreResumed, Bssid, Conf, CoreState, DiskModel, DurableCore, EndsAtSlot, HasNotResumed, IsExact, IsResumed, LastHeard, LeavesOnly, Moment, Radio, RadioModel, Shows, Slot, SlotFault, Sound, State, Store, StoreFault, WorldFault, aid_at, bssid_of, driven, front_of, held_for, installed_rows, new_core, queue_if, radio_of, slot_at, slot_in, slot_place, wanted_after_all, wanted_then}
 use Rattle.apd_core.proofs.HeldLemmas.{queue_of-no_outs}
 use Rattle.apd_core.proofs.Queues.{all_weaker}
 use Rattle.apd_disk.specs.Disk.{Only}
 use Rattle.apd_slot.specs.Resuming.{IsGivenRows}
-use Rattle.apd_slot.proofs.RowsLemmas.{installed_are}
+use Rattle.apd_slot.specs.Slots.{is_up_of, queue_of as slot_queue, wanted_of}
+use Rattle.apd_slot.specs.Wanted.{Stations}
+use Rattle.apd_slot.proofs.RowsLemmas.{installed_are, installed_at}
 use Rattle.apd_store.specs.Outside.{device_of as store_device}
 use Rattle.apd_store.specs.Recovery.{IsHonestlyRecovered, IsRecovered}
 use Rattle.apd_store.specs.declared.fault.StoreFault.TheVariants as store_fault
 use Rattle.apd_world.specs.BegunAnew.{IsBegunAnew, IsBegunWith, IsHonestlyBegunAnew, IsHonestlyNotBegunAnew, IsNotBegunAnew}
+use Rattle.apd_world.specs.Journal.{after}
 use Rattle.apd_world.specs.declared.fault.WorldFault.TheVariants as world_fault
 use Rattle.apd_world.proofs.SlotLemmas.{all_at, place_of_own, slot_is}
 use Rattle.apd_world.proofs.SoFar.{first_is, rest_is, zip_all, AreSoFar}
@@ -43,6 +46,15 @@ module _ {R : Type 0} (radio : RadioModel R) (s : State) where
         rest = rest_is Resumes i old now before after is given.bssid h lt;
       }
 
+  -- one has
+  pub one_resumed : (slot : Slot R) → is_up_of slot ≡ true → wanted_of slot ≡ installed_rows s (bssid_of slot) → radio.stations (radio_of slot) ≡ installed_rows s (bssid_of slot) → slot_queue slot ≡ []
+      → IsResumed radio s slot
+  one_resumed slot up wanted installed queue = record {
+    resumed = record { up = up; driver = λ a. ap (λ (stations : Stations). maps.get stations a) installed ∙ installed_at s (bssid_of slot) a; queue = queue };
+    wanted = wanted;
+    installed = installed;
+  }
+
   -- slots that have resumed have what is wanted
   pub resumed_exact : (slots : List (Slot R)) → AreResumed radio s slots → AreExact radio slots
   resumed_exact slots all = all_weaker (IsResumed radio s) (IsExact radio) (λ slot r up. r.installed ∙ sym r.wanted) slots all
@@ -57,7 +69,7 @@ module _ {R : Type 0} (radio : RadioModel R) (slots : List (Slot R)) (table : St
 
   none_waits : (b : Bssid) (o : Option (Slot R)) → slot_at slots b ≡ o → queue_if o ≡ []
   none_waits b None at = refl
-  none_waits b (Some slot) at = (found b slot (slot_place slots b) refl at).0.queue
+  none_waits b (Some slot) at = (found b slot (slot_place slots b) refl at).0.resumed.queue
 
   pub no_out_waits : (b : Bssid) → queue_if (slot_at slots b) ≡ []
   no_out_waits b = none_waits b (slot_at slots b) refl
@@ -68,7 +80,7 @@ module _ {R : Type 0} (radio : RadioModel R) (slots : List (Slot R)) (table : St
   begun_following core confs heard is b slot at a =
       let f = found b slot (slot_place slots b) refl at in
       let held : held_for (Radio b) core ≡ [] = ap (held_for (Radio b)) is ∙ ap (map (λ x. x.1)) (queue_of-no_outs confs (Radio b)) in
-      (λ i. driven (held i) (maps.get (wanted_after_all (f.0.queue i) (f.0.wanted i))) a)
+      (λ i. driven (held i) (maps.get (wanted_after_all (f.0.resumed.queue i) (f.0.wanted i))) a)
       ∙ (λ i. installed_are table (bssid_of slot) i a) ∙ ap (λ c. aid_at table c a) f.1
       ∙ ap (λ (z : CoreState). aid_at (front_of z) b a) (sym is)
 
@@ -98,7 +110,7 @@ module _ {D : Type 0} (disk : DiskModel D) (device : D) (store : Store D) (table
           → ((s : State) → Shows (disk.reads device) s → table ≡ s) → IsHonestlyBegunAnew disk device new
       honestly_begun_from honest held one = record {
         shown = subst (Shows (disk.reads device)) (sym same_table) held.shown;
-        recovered = λ s old hs front. same_table ∙ one (run s old (take front.count hs)) front.shows;
+        recovered = λ old last kept. same_table ∙ one (after last kept.front) kept.shows;
         proper = begun.proper (found.stays_honest.0 honest) found.inside held.idle;
         images = subst (λ (s : Store D). Only (disk.reads device) (disk.may_leave (store_device s))) (sym begun.over)
             (images held);

@@ -1,10 +1,10 @@
 -- How a round of steps goes, and what it comes to.
-use Rattle.std.proofs.Common.{◌≡◌, ℕ, ◌+◌, ◌<◌, ◌≤◌, Bool, true, false, List, [], ◌∷◌, ◌++◌, length, Option, Some, None, ◌⊎◌, inl, inr, ⊎_elim, refl, sym, ap, subst, ◌∙◌, arith, append_assoc, Ok, Err}
+use Rattle.std.proofs.Common.{◌≡◌, ℕ, zero, suc, ◌+◌, ◌<◌, ◌≤◌, Bool, true, false, List, [], ◌∷◌, ◌++◌, length, Option, Some, None, ◌⊎◌, inl, inr, ⊎_elim, refl, sym, ap, subst, ◌∙◌, arith, append_assoc, Ok, Err}
 use Rattle.std.proofs.lemmas.Bool.{false≢true, lt-leb, ne_eqb}
 use Rattle.std.specs.Prelude.{⊤, ◌≢◌, IsTrue, is_some, not, replicate, nat_le, ◌||◌, ◌==◌}
 use Rattle.std.specs.Option.{option_or, unwrap_or}
 use Rattle.std.proofs.lemmas.List.{replicate_more}
-use Rattle.apd_world.proofs.Words.{Account, AreSafelyMade, Batch, Busy, Call, Called, Change, ComesTo, Commit, Commits, Committer, CoreState, DiskModel, Done, DurableCore, Failed, Flusher, Goes, GoesQuietly, HasNoBatch, HasNoCall, HasNoReceipt, HasRisen, HasRoomForNext, Idle, IsCalled, IsDurable, IsFlight, IsGood, IsInStep, IsNext, IsPublished, IsRound, IsRun, IsSafe, IsStepMade, IsTakenUp, IsUnderWay, IsWaiting, IsWhole, IsWorldStep, Loaded, NoMemory, Nothing, Out, Phase, Publish, Published, RadioModel, Receipt, Recipient, RestStays, State, Step, Store, StoreFault, Take, Tells, Told, World, account, after_call, answer_of, calls_left, device_of, durable_of, flight_of, flusher_of, front_of, held_batch, nothing_yet, phase_of, round, said, waiting_batch, waiting_receipt}
+use Rattle.apd_world.proofs.Words.{AreMadeInTurn, AreSafelyMade, Batch, Busy, Call, Called, Change, ComesTo, Commit, Commits, Committer, CoreState, DiskModel, Done, DurableCore, Failed, Flusher, GoesQuietly, HasNoBatch, HasNoCall, HasNoReceipt, HasRisen, HasRoomForNext, Idle, IsCalled, IsDurable, IsFlight, IsGood, IsInStep, IsNext, IsPublished, IsRound, IsSafeAtBoth, IsStepMade, IsTakenUp, IsUnderWay, IsWaiting, IsWhole, IsWorldStep, Loaded, NoMemory, Nothing, Phase, Publish, Published, RadioModel, Receipt, RestStays, State, Step, Store, StoreFault, Take, Tells, Told, World, after_call, answer_of, calls_left, device_of, durable_of, flight_of, flusher_of, held_batch, phase_of, round, said, waiting_batch, waiting_receipt}
 use Rattle.apd_store.specs.Phases.{calls_from}
 use Rattle.apd_store.specs.declared.fault.StoreFault.TheVariants as store_fault
 use Rattle.apd_store.specs.declared.phase.Phase.{Phase as StorePhase}
@@ -16,7 +16,7 @@ use Rattle.apd_flusher.specs.Loading.{IsNotLoaded}
 use Rattle.apd_flusher.specs.Outside.{flusher_of as flusher_in, table_of}
 use Rattle.apd_flusher.specs.Phases.{phase_from}
 use Rattle.apd_world.specs.declared.step.Commit.TheVariants as commit
-use Rattle.apd_world.proofs.DriveLemmas.{round_enters_none, round_gives_none}
+use Rattle.apd_world.proofs.Goings.{quiet_then}
 use Rattle.apd_world.proofs.RunLemmas.{made_then, one_made, risen_since}
 use Rattle.apd_world.proofs.Standing.{is_flight, none_flies, none_some}
 use Rattle.apd_world.proofs.Speaking.{next_core}
@@ -435,7 +435,7 @@ module _ {D R : Type 0} (disk : DiskModel D) (radio : RadioModel R) where
     pub ended : (answer : Commit) → called ≡ Some answer → IsRefusedCall disk answer calls (durable_of old) start (durable_of now)
 
   pub calling_begun : (first : Told) (taken called : Option Commit) (old start : World D R) → IsWorldStep radio Take first old start → IsStepMade disk first (durable_of old) (durable_of start)
-      → IsSafe disk (durable_of start) (durable_of start) → taken ≡ said first → called ≡ None → IsCalling taken called old start
+      → IsSafeAtBoth disk (durable_of old) (durable_of start) → taken ≡ said first → called ≡ None → IsCalling taken called old start
   calling_begun first taken called old start step made here is none =
       let tells = of_store Take first old start tt step in
       record {
@@ -455,7 +455,7 @@ module _ {D R : Type 0} (disk : DiskModel D) (radio : RadioModel R) where
 
   pub calling_on : (told : Told) (taken called more_called : Option Commit) (old mid new : World D R) → IsCalling taken called old mid → called ≡ None
       → (phase_of (flusher_of (durable_of mid)) ≡ Busy) ⊎ (phase_of (flusher_of (durable_of mid)) ≡ Failed) → (phase_of (flusher_of (durable_of mid)) ≡ Busy → 1 ≤ calls_left (flusher_of (durable_of mid)))
-      → IsWorldStep radio Call told mid new → IsStepMade disk told (durable_of mid) (durable_of new) → IsSafe disk (durable_of new) (durable_of new) → more_called ≡ said told → IsCalling taken more_called old new
+      → IsWorldStep radio Call told mid new → IsStepMade disk told (durable_of mid) (durable_of new) → IsSafeAtBoth disk (durable_of mid) (durable_of new) → more_called ≡ said told → IsCalling taken more_called old new
   calling_on told taken called more_called old mid new k none some more step made here is =
       let tells = of_store Call told mid new tt step in
       record {
@@ -482,18 +482,19 @@ module _ {D R : Type 0} (disk : DiskModel D) (radio : RadioModel R) where
     pub rests : HasNoBatch (durable_of old) → HasNoCall (durable_of old) → HasNoReceipt (durable_of old) → result ≡ commit.Nothing
     pub quiet : GoesQuietly (durable_of old).core (durable_of new).core
 
-  -- nothing happens in a round, and nothing is given
-  round_goes : (n : ℕ) (ts : List Told) (a b : DurableCore D) → IsRun (round n) ts a b → GoesQuietly a.core b.core
-  round_goes n ts a b run =
-      let none = round_enters_none a.core.confs (front_of a.core) a.core.heard n ts in
-      record {
-        goes = subst (λ (z : Account). Goes z.happened (λ r. []) a.core b.core) none
-            (subst (λ (given : Recipient → List Out). Goes (account a.core.confs (round n) ts (nothing_yet a.core)).happened given a.core b.core) (λ i r. round_gives_none r n ts i) run.goes);
-        heard = run.heard ∙ ap (λ (z : Account). z.heard) none;
-      }
+  -- nothing happens in a round, nothing is given, and no station is heard
+  calls_go : (n : ℕ) (ts : List Told) (a b : World D R) → AreMadeInTurn disk radio (replicate n Call ++ Publish ∷ []) ts a b → GoesQuietly (durable_of a).core (durable_of b).core
+  calls_go zero (t ∷ []) a b h = subst (λ (w : World D R). GoesQuietly (durable_of a).core (durable_of w).core) (sym h.3.0) (record { goes = h.1.durable.goes; heard = h.1.durable.heard })
+  calls_go (suc n) (t ∷ ts) a b h = quiet_then (durable_of a).core (durable_of h.0).core (durable_of b).core (record { goes = h.1.durable.goes; heard = h.1.durable.heard }) (calls_go n ts h.0 b h.3)
+  calls_go zero (t ∷ ts) a b h = absurd h.3
+  calls_go n ts a b h = absurd h
+
+  round_goes : (n : ℕ) (ts : List Told) (a b : World D R) → AreMadeInTurn disk radio (round n) ts a b → GoesQuietly (durable_of a).core (durable_of b).core
+  round_goes n (t ∷ ts) a b h = quiet_then (durable_of a).core (durable_of h.0).core (durable_of b).core (record { goes = h.1.durable.goes; heard = h.1.durable.heard }) (calls_go n ts h.0 b h.3)
+  round_goes n ts a b h = absurd h
 
   module _ (taken called : Option Commit) (last : Told) (old now new : World D R) (k : IsCalling taken called old now) (none : called ≡ None → HasNoCall (durable_of now))
-      (step : IsWorldStep radio Publish last now new) (made : IsStepMade disk last (durable_of now) (durable_of new)) (here : IsSafe disk (durable_of new) (durable_of new))
+      (step : IsWorldStep radio Publish last now new) (made : IsStepMade disk last (durable_of now) (durable_of new)) (here : IsSafeAtBoth disk (durable_of now) (durable_of new))
       (result : Commit) (is : result ≡ unwrap_or (option_or (option_or taken called) (said last)) commit.Nothing) where
     abbrev tolds : List Told
     tolds = k.first ∷ (k.tolds ++ last ∷ [])
@@ -538,5 +539,5 @@ module _ {D R : Type 0} (disk : DiskModel D) (radio : RadioModel R) where
           outcome = subst (λ (a : Commit). Outcome disk a before after) (sym in_turn) (comes disk k.calls before k.start mid after k.first last called made_all);
           rest = tells.1 ∙ k.rest;
           rests = λ free still done. in_turn ∙ rests disk k.calls before k.start mid after k.first last called made_all free still done;
-          quiet = round_goes k.calls steps.run.insides before after steps.run.run;
+          quiet = round_goes k.calls tolds old new steps.in_turn;
         }

@@ -1,5 +1,5 @@
 -- Runs, one after another, and what is safely made by them.
-use Rattle.std.proofs.Common.{false, Option, Some, inl, inr, ⊎_elim, Result, Ok, Err, ◌≡◌, ◌≢◌, ◌⊎◌, ℕ, zero, suc, ◌+◌, ◌<◌, ◌≤◌, ◌^◌, List, [], ◌∷◌, ◌++◌, length, take, drop, get_or, add-one, refl, sym, ap, subst, ◌∙◌, arith, append_assoc, length-append}
+use Rattle.std.proofs.Common.{false, Option, Some, inl, inr, ⊎_elim, Result, Ok, Err, ◌≡◌, ◌≢◌, ◌⊎◌, ℕ, zero, suc, ◌+◌, ◌<◌, ◌≤◌, ◌^◌, List, [], ◌∷◌, ◌++◌, length, take, get_or, add-one, refl, sym, ap, subst, ◌∙◌, arith, append_assoc, length-append}
 use Rattle.std.specs.Option.{unwrap_or}
 use Rattle.std.specs.Prelude.{⊤, OnErr, map, replicate}
 use Rattle.std.specs.List.{All, AllByRecursion, Contains}
@@ -8,7 +8,7 @@ use Rattle.std.proofs.lemmas.List.{append-nil, map-append, replicate_more}
 use Rattle.std.proofs.lemmas.List.Elements.{All-append, All-cons, All-head, All-map, All-nil, All-push, All-tail, All-weaker}
 use Rattle.std.proofs.lemmas.Grind.{flat_map-append}
 use Rattle.std.proofs.Math.Seq.{take-append_seam, take-suc}
-use Rattle.apd_world.proofs.Words.{Accept, Accepted, Account, Applied, Apply, AreAccepted, AreAllApplied, AreAnswered, AreExact, AreFollowing, AreMadeInTurn, AreSafelyMade, AreWorldSteps, Ask, Bssid, Call, Called, Commit, Conf, Configure, Control, CoreState, Device, DiskModel, DurableCore, Goes, GoesQuietly, Hand, Handed, Happening, HasGoneOn, HasGoneUnrefused, HasRisen, IsAtRest, IsFlushed, IsGiven, IsHandedOut, IsHanding, IsNoRefusal, IsProper, IsRound, IsRun, IsSafe, IsStepMade, IsWhole, IsWorldRun, IsWorldStep, Joins, Loaded, NoMemory, Nothing, OnlyHands, Out, Publish, Published, Queued, QuietReason, Radio, RadioModel, Recipient, Step, Take, Tells, Told, World, account, all_applied, all_entered, all_given, answer_of, applied, applies, device_of, durable_of, front_of, given, handed, hands, held_for, last_of, nothing_yet, one_more, outs_run, queue_of, radio_hands, ready_for, recipient_of, round, rounds, run, said, slots_of, up_to}
+use Rattle.apd_world.proofs.Words.{Accept, Accepted, Applied, Apply, AreAccepted, AreAllApplied, AreAnswered, AreExact, AreFollowing, AreMadeInTurn, AreSafelyMade, Ask, Bssid, Call, Called, Commit, Conf, Configure, Control, CoreState, Device, DiskModel, DurableCore, GoesQuietly, Hand, Handed, Happening, HasGoneOn, HasGoneUnrefused, HasRisen, IsAtRest, IsFlushed, IsGiven, IsHandedOut, IsHanding, IsNoRefusal, IsProper, IsRound, IsSafe, IsSafeAtBoth, IsStepMade, IsWhole, IsWorldStep, Joins, Loaded, NoMemory, Nothing, OnlyHands, Out, Publish, Published, Queued, QuietReason, Radio, RadioModel, Recipient, Step, Take, Tells, Told, World, answer_of, applied, applies, device_of, durable_of, handed, hands, last_of, queue_of, radio_hands, ready_for, recipient_of, round, rounds, said, slots_of, up_to}
 use Rattle.apd_core.specs.Held.{HeldOuts}
 use Rattle.apd_core.proofs.HeldLemmas.{queue_of-after_hand_other}
 use Rattle.apd_core.specs.declared.publish_fault.PublishFault.{PublishFault}
@@ -16,100 +16,11 @@ use Rattle.apd_core.specs.declared.publish_fault.PublishFault.TheVariants as pub
 use Rattle.apd_world.specs.Starting.{AreConfiguring, IsStarted, asked}
 use Rattle.apd_world.specs.declared.step.Commit.TheVariants as commit
 use Rattle.apd_world.specs.declared.step.Told.TheVariants.{Answered as Read}
-use Rattle.apd_world.proofs.DriveLemmas.{Moments, entered_then, moments_then, no_run, one_run, runs_join, safe_moments}
 use Rattle.apd_world.proofs.FollowLemmas.{following}
 use Rattle.apd_world.proofs.Goings.{is_or_not, ready_none, turned}
+use Rattle.apd_world.proofs.JournalLemmas.{lead_since}
 use Rattle.apd_world.proofs.Moving.{exact, flows, no_slot}
-use Rattle.apd_world.proofs.Recovering.{loses_nothing}
 use Rattle.apd_world.proofs.Standing.{none_some}
-
--- ---- what is told inside
-module _ {D R : Type 0} (radio : RadioModel R) (old new : World D R) where
-  -- the same happens by it, and control is given the same
-  happens_alike : (confs : List Conf) (step : Step) (inside told : Told) (a : Account) → Joins radio step inside told old new → one_more confs step inside a ≡ one_more confs step told a
-  happens_alike confs (Hand r) inside told a h = refl
-  happens_alike confs (Apply b) inside told a h = refl
-  happens_alike confs step inside told a h = ap (λ t. one_more confs step t a) (sym h.0)
-
-  given_alike : (step : Step) (inside told : Told) → Joins radio step inside told old new → given Control step inside ≡ given Control step told
-  given_alike (Hand (Radio b)) (Handed outs) (Queued count) h = refl
-  given_alike (Hand (Radio b)) NoMemory NoMemory h = refl
-  given_alike (Hand (Radio b)) Nothing Nothing h = refl
-  given_alike (Hand (Radio b)) inside told h = absurd h
-  given_alike (Apply b) inside told h = refl
-  given_alike step inside told h = ap (given Control step) (sym h.0)
-
--- ---- two runs of a world
-module _ {D R : Type 0} (radio : RadioModel R) where
-  world_steps_then : (xs ys : List Step) (is js ts us : List Told) (a b c : World D R) → AreWorldSteps radio xs is ts a b → AreWorldSteps radio ys js us b c
-      → AreWorldSteps radio (xs ++ ys) (is ++ js) (ts ++ us) a c
-  world_steps_then [] ys [] js [] us a b c past step = subst (λ w. AreWorldSteps radio ys js us w c) past step
-  world_steps_then (x ∷ xs) ys (i ∷ is) js (t ∷ ts) us a b c past step = (past.0, past.1, past.2, world_steps_then xs ys is js ts us past.0 b c past.3 step)
-  world_steps_then xs ys is js ts us a b c past step = absurd past
-
-  -- what is told inside and outside comes to the same
-  pub accounts_alike : (confs : List Conf) (xs : List Step) (is ts : List Told) (a b : World D R) (z : Account) → AreWorldSteps radio xs is ts a b → account confs xs is z ≡ account confs xs ts z
-  accounts_alike confs [] [] [] a b z h = refl
-  accounts_alike confs (x ∷ xs) (i ∷ is) (t ∷ ts) a b z h =
-      accounts_alike confs xs is ts h.0 b (one_more confs x i z) h.3 ∙ ap (account confs xs ts) (happens_alike radio a h.0 confs x i t z h.2)
-  accounts_alike confs xs is ts a b z h = absurd h
-
-  controls_alike : (xs : List Step) (is ts : List Told) (a b : World D R) → AreWorldSteps radio xs is ts a b → all_given Control xs is ≡ all_given Control xs ts
-  controls_alike [] [] [] a b h = refl
-  controls_alike (x ∷ xs) (i ∷ is) (t ∷ ts) a b h = λ k. given_alike radio a h.0 x i t h.2 k ++ controls_alike xs is ts h.0 b h.3 k
-  controls_alike xs is ts a b h = absurd h
-
-  all_flow : (r : Bssid) (xs : List Step) (is ts : List Told) (a b : World D R) → AreWorldSteps radio xs is ts a b → all_applied r xs ts ++ queue_of b r ≡ queue_of a r ++ all_given (Radio r) xs is
-  all_flow r [] [] [] a b h = ap (λ w. queue_of w r) h ∙ sym (append-nil (queue_of a r))
-  all_flow r (x ∷ xs) (i ∷ is) (t ∷ ts) a b h =
-      append_assoc (applied r x t) (all_applied r xs ts) (queue_of b r) ∙ ap (λ os. applied r x t ++ os) (all_flow r xs is ts h.0 b h.3)
-      ∙ sym (append_assoc (applied r x t) (queue_of h.0 r) (all_given (Radio r) xs is)) ∙ ap (λ os. os ++ all_given (Radio r) xs is) (flows radio a h.0 r x i t h.2)
-      ∙ append_assoc (queue_of a r) (given (Radio r) x i) (all_given (Radio r) xs is)
-  all_flow r xs is ts a b h = absurd h
-
-  -- a run inside, and what the steps do beside it, are a run
-  pub run_of : (xs : List Step) (is ts : List Told) (a b : World D R) → AreWorldSteps radio xs is ts a b → IsRun xs is (durable_of a) (durable_of b) → IsWorldRun radio xs ts a b
-  run_of xs is ts a b steps inside =
-      let core = (durable_of a).core in
-      let same : all_entered xs is core ≡ all_entered xs ts core = ap (λ (z : Account). z.happened) (accounts_alike core.confs xs is ts a b (nothing_yet core) steps) in
-      record {
-        insides = is;
-        steps_are = steps;
-        run = inside;
-        entered = same;
-        control = controls_alike xs is ts a b steps;
-        queues = λ r. all_flow r xs is ts a b steps;
-        radios = λ r.
-            sym (append_assoc (all_applied r xs ts) (queue_of b r) (held_for (Radio r) (durable_of b).core)) ∙ ap (λ os. os ++ held_for (Radio r) (durable_of b).core) (all_flow r xs is ts a b steps)
-            ∙ append_assoc (queue_of a r) (all_given (Radio r) xs is) (held_for (Radio r) (durable_of b).core) ∙ ap (λ os. queue_of a r ++ os) (inside.goes.outs (Radio r))
-            ∙ ap (λ es. queue_of a r ++ (held_for (Radio r) core ++ outs_run (Radio r) (front_of core) core.confs es)) same;
-      }
-
-  pub no_world_run : (w : World D R) → IsWorldRun radio [] [] w w
-  no_world_run w = run_of [] [] [] w w refl (no_run (durable_of w))
-
-  pub one_world_run : (x : Step) (t : Told) (a b : World D R) → IsWorldStep radio x t a b → IsWorldRun radio (x ∷ []) (t ∷ []) a b
-  one_world_run x t a b step = run_of (x ∷ []) (step.inside ∷ []) (t ∷ []) a b (b, step.durable.tells, step.joins, refl) (one_run x step.inside (durable_of a) (durable_of b) step.durable)
-
-  pub world_runs_join : (xs ys : List Step) (ts us : List Told) (a b c : World D R) → IsWorldRun radio xs ts a b → IsWorldRun radio ys us b c → IsWorldRun radio (xs ++ ys) (ts ++ us) a c
-  world_runs_join xs ys ts us a b c past step =
-      run_of (xs ++ ys) (past.insides ++ step.insides) (ts ++ us) a c
-      (world_steps_then xs ys past.insides step.insides ts us a b c past.steps_are step.steps_are)
-      (runs_join xs ys past.insides step.insides (durable_of a) (durable_of b) (durable_of c) past.run step.run)
-
-  pub tolds_length : (xs : List Step) (is ts : List Told) (a b : World D R) → AreWorldSteps radio xs is ts a b → length ts ≡ length xs
-  tolds_length [] [] [] a b h = refl
-  tolds_length (x ∷ xs) (i ∷ is) (t ∷ ts) a b h = ap suc (tolds_length xs is ts h.0 b h.3)
-  tolds_length xs is ts a b h = absurd h
-
-  -- what happened by the first, and then by the others
-  pub world_entered_then : (xs ys : List Step) (ts us : List Told) (a b c : World D R) → IsWorldRun radio xs ts a b → IsWorldRun radio ys us b c
-      → all_entered (xs ++ ys) (ts ++ us) (durable_of a).core ≡ all_entered xs ts (durable_of a).core ++ all_entered ys us (durable_of b).core
-  unfolding world_runs_join run_of
-  world_entered_then xs ys ts us a b c past step =
-      sym (world_runs_join xs ys ts us a b c past step).entered
-      ∙ entered_then xs ys past.insides step.insides (durable_of a) (durable_of b) (durable_of c) past.run step.run
-      ∙ (λ i. past.entered i ++ step.entered i)
 
 -- ---- what is told more
 more_told : {X : Type 0} (t : X) (ts : List X) (x : X) → Contains (t ∷ ts) x → (t ≡ x) ⊎ Contains ts x
@@ -133,32 +44,23 @@ module _ {D R : Type 0} (disk : DiskModel D) (radio : RadioModel R) where
 
   turn_then : (xs ys : List Step) (ts us : List Told) (a b c : World D R) → In_turn xs ts a b → In_turn ys us b c → In_turn (xs ++ ys) (ts ++ us) a c
   turn_then [] ys [] us a b c past more = subst (λ w. In_turn ys us w c) past.0 more
-  turn_then (x ∷ xs) ys (t ∷ ts) us a b c past more = (past.0, past.1, past.2, turn_then xs ys ts us past.0 b c past.3 more)
+  turn_then (x ∷ xs) ys (t ∷ ts) us a b c past more = (past.0, past.1, past.2, turn_then xs ys ts us past.0 b c past.3 more, past.4)
   turn_then xs ys ts us a b c past more = absurd past
 
   -- what each step keeps
-  kept : (P : World D R → Type 0) → ((x : Step) (t : Told) (a b : World D R) → IsWorldStep radio x t a b → IsStepMade disk t (durable_of a) (durable_of b) → P a → P b)
+  pub kept : (P : World D R → Type 0) → ((x : Step) (t : Told) (a b : World D R) → IsWorldStep radio x t a b → IsStepMade disk t (durable_of a) (durable_of b) → P a → P b)
       → (xs : List Step) (ts : List Told) (a b : World D R) → In_turn xs ts a b → P a → P b
   kept P each [] [] a b h was = subst P (sym h.0) was
   kept P each (x ∷ xs) (t ∷ ts) a b h was = kept P each xs ts h.0 b h.3 (each x t a h.0 h.1 h.2 was)
   kept P each xs ts a b h was = absurd h
 
-  run_in_turn : (xs : List Step) (ts : List Told) (a b : World D R) → In_turn xs ts a b → IsWorldRun radio xs ts a b
-  run_in_turn [] [] a b h = subst (λ w. IsWorldRun radio [] [] a w) (sym h.0) (no_world_run radio a)
-  run_in_turn (x ∷ xs) (t ∷ ts) a b h = world_runs_join radio (x ∷ []) xs (t ∷ []) ts a h.0 b (one_world_run radio x t a h.0 h.1) (run_in_turn xs ts h.0 b h.3)
-  run_in_turn xs ts a b h = absurd h
+  pub turn_length : (xs : List Step) (ts : List Told) (a b : World D R) → In_turn xs ts a b → length ts ≡ length xs
+  turn_length [] [] a b h = refl
+  turn_length (x ∷ xs) (t ∷ ts) a b h = ap suc (turn_length xs ts h.0 b h.3)
+  turn_length xs ts a b h = absurd h
 
-  moments_in_turn : (xs : List Step) (ts : List Told) (a b : World D R) → In_turn xs ts a b → Moments disk (all_entered xs ts (durable_of a).core) (durable_of a) (durable_of b)
-  moments_in_turn [] [] a b h = subst (λ w. Moments disk [] (durable_of a) (durable_of w)) (sym h.0) (safe_moments disk [] (durable_of a) (durable_of a) h.1)
-  moments_in_turn (x ∷ xs) (t ∷ ts) a b h =
-      let mid = h.0 in
-      let one = one_world_run radio x t a mid h.1 in
-      let es = all_entered (x ∷ []) (t ∷ []) (durable_of a).core in
-      let given = λ (r : Recipient). all_given r (x ∷ []) one.insides in
-      let goes = subst (λ (zs : List Happening). Goes zs given (durable_of a).core (durable_of mid).core) one.entered one.run.goes in
-      subst (λ (zs : List Happening). Moments disk zs (durable_of a) (durable_of b)) (sym (world_entered_then radio (x ∷ []) xs (t ∷ []) ts a mid b one (run_in_turn xs ts mid b h.3)))
-      (moments_then disk es (all_entered xs ts (durable_of mid).core) given (durable_of a) (durable_of mid) (durable_of b) goes (safe_moments disk es (durable_of a) (durable_of mid) h.2.safe) h.2.safe.proper (moments_in_turn xs ts mid b h.3))
-  moments_in_turn xs ts a b h = absurd h
+  pub same_confs : (xs : List Step) (ts : List Told) (a b : World D R) → In_turn xs ts a b → (durable_of b).core.confs ≡ (durable_of a).core.confs
+  same_confs xs ts a b h = kept (λ w. (durable_of w).core.confs ≡ (durable_of a).core.confs) (λ x t v w step made same. step.durable.goes.confs ∙ same) xs ts a b h refl
 
   later_count : (xs : List Step) (ts : List Told) (a b : World D R) → In_turn xs ts a b → failures a ≤ failures b
   later_count xs ts a b h = kept (λ w. failures a ≤ failures w) (λ x t v w step made before. let more = made.count in omega (arith, before, more)) xs ts a b h (omega arith)
@@ -171,43 +73,12 @@ module _ {D R : Type 0} (disk : DiskModel D) (radio : RadioModel R) where
       (more_told t ts (Called (Err Device)) some)
   risen_in_turn xs ts a b h some = absurd h
 
-  -- so many of them, and the others
-  record AreParted (n : ℕ) (xs : List Step) (ts : List Told) (a b : World D R) : Type 0 where
-    pub mid : World D R
-    pub first : IsWorldRun radio (take n xs) (take n ts) a mid
-    pub proper : IsProper disk (durable_of a) → IsProper disk (durable_of mid)
-    pub rest : In_turn (drop n xs) (drop n ts) mid b
-
-  parted : (n : ℕ) (xs : List Step) (ts : List Told) (a b : World D R) → In_turn xs ts a b → AreParted n xs ts a b
-  parted zero xs ts a b h = record { mid = a; first = no_world_run radio a; proper = λ p. p; rest = h }
-  parted (suc n) [] [] a b h = record { mid = a; first = no_world_run radio a; proper = λ p. p; rest = h }
-  parted (suc n) (x ∷ xs) (t ∷ ts) a b h =
-      let k = parted n xs ts h.0 b h.3 in
-      record {
-        mid = k.mid;
-        first = world_runs_join radio (x ∷ []) (take n xs) (t ∷ []) (take n ts) a h.0 k.mid (one_world_run radio x t a h.0 h.1) k.first;
-        proper = λ p. k.proper (h.2.safe.proper p);
-        rest = k.rest;
-      }
-  parted (suc n) xs ts a b h = absurd h
-
   all_made : (xs : List Step) (ts : List Told) (a b : World D R) → In_turn xs ts a b → AreSafelyMade disk radio xs ts a b
   all_made xs ts a b h = record {
     in_turn = h;
-    run = run_in_turn xs ts a b h;
     whole = kept (λ w. IsWhole disk (durable_of w)) (λ x t v w step made. made.safe.whole) xs ts a b h;
     proper = kept (λ w. IsProper disk (durable_of w)) (λ x t v w step made. made.safe.proper) xs ts a b h;
-    any_moment = moments_in_turn xs ts a b h;
-    nothing_is_lost = λ p n.
-        let k = parted n xs ts a b h in
-        let es = all_entered (drop n xs) (drop n ts) (durable_of k.mid).core in
-        record {
-          mid = k.mid;
-          first = k.first;
-          rest = run_in_turn (drop n xs) (drop n ts) k.mid b k.rest;
-          proper = k.proper p;
-          loses_nothing = loses_nothing disk es (durable_of k.mid) (durable_of b) (k.proper p) (moments_in_turn (drop n xs) (drop n ts) k.mid b k.rest);
-        };
+    leads = λ j stands n. lead_since disk radio n xs ts a b j h stands;
     exact = kept (λ w. AreExact radio (slots_of w)) (λ x t v w step made. exact radio v w x step.inside t step.joins) xs ts a b h;
     following = kept AreFollowing (λ x t v w step made. following radio v w x t step) xs ts a b h;
     count = later_count xs ts a b h;
@@ -253,7 +124,7 @@ rest_unrefused (Called (Err f)) rest other h = absurd h
 rest_unrefused NoMemory rest other h = absurd h
 rest_unrefused t rest other h = h
 
-module _ {D R : Type 0} (radio : RadioModel R) where
+module _ {D R : Type 0} (disk : DiskModel D) (radio : RadioModel R) where
   -- a step that is not the store's is told no refusal
   beside_none : (x : Step) (i t : Told) (a b : World D R) → IsBeside x → Tells x i (durable_of a) (durable_of b) → Joins radio x i t a b → IsNoRefusal t
   beside_none (Accept m h) (Accepted answer) t a b beside tells joins = subst IsNoRefusal (sym joins.0) tt
@@ -278,19 +149,19 @@ module _ {D R : Type 0} (radio : RadioModel R) where
   pub one_unrefused : (x : Step) (t : Told) (a b : World D R) → IsBeside x → IsWorldStep radio x t a b → All IsNoRefusal (t ∷ [])
   one_unrefused x t a b beside step = All-cons IsNoRefusal t [] (beside_none x step.inside t a b beside step.durable.tells step.joins) (All-nil IsNoRefusal)
 
-  calls_unrefused : (n : ℕ) (is ts : List Told) (a b : World D R) → AreWorldSteps radio (replicate n Call ++ Publish ∷ []) is ts a b → IsUnrefused (answer_of ts) → All IsNoRefusal ts
-  calls_unrefused zero (i ∷ []) (t ∷ []) a b h u = All-cons IsNoRefusal t [] (first_unrefused t commit.Nothing u) (All-nil IsNoRefusal)
-  calls_unrefused (suc n) (i ∷ is) (t ∷ ts) a b h u =
-      All-cons IsNoRefusal t ts (first_unrefused t (answer_of ts) u) (calls_unrefused n is ts h.0 b h.3
-      (rest_unrefused t (answer_of ts) (λ r is. subst (λ z. Tells Call z (durable_of a) (durable_of h.0)) (sym h.2.0 ∙ is) h.1) u))
-  calls_unrefused zero (i ∷ is) (t ∷ ts) a b h u = absurd h.3
-  calls_unrefused n is ts a b h u = absurd h
+  calls_unrefused : (n : ℕ) (ts : List Told) (a b : World D R) → AreMadeInTurn disk radio (replicate n Call ++ Publish ∷ []) ts a b → IsUnrefused (answer_of ts) → All IsNoRefusal ts
+  calls_unrefused zero (t ∷ []) a b h u = All-cons IsNoRefusal t [] (first_unrefused t commit.Nothing u) (All-nil IsNoRefusal)
+  calls_unrefused (suc n) (t ∷ ts) a b h u =
+      All-cons IsNoRefusal t ts (first_unrefused t (answer_of ts) u) (calls_unrefused n ts h.0 b h.3
+      (rest_unrefused t (answer_of ts) (λ r is. subst (λ z. Tells Call z (durable_of a) (durable_of h.0)) (sym h.1.joins.0 ∙ is) h.1.durable.tells) u))
+  calls_unrefused zero (t ∷ ts) a b h u = absurd h.3
+  calls_unrefused n ts a b h u = absurd h
 
-  round_unrefused : (n : ℕ) (is ts : List Told) (a b : World D R) → AreWorldSteps radio (round n) is ts a b → IsUnrefused (answer_of ts) → All IsNoRefusal ts
-  round_unrefused n (i ∷ is) (t ∷ ts) a b h u =
-      All-cons IsNoRefusal t ts (first_unrefused t (answer_of ts) u) (calls_unrefused n is ts h.0 b h.3
-      (rest_unrefused t (answer_of ts) (λ r is. subst (λ z. Tells Take z (durable_of a) (durable_of h.0)) (sym h.2.0 ∙ is) h.1) u))
-  round_unrefused n is ts a b h u = absurd h
+  round_unrefused : (n : ℕ) (ts : List Told) (a b : World D R) → AreMadeInTurn disk radio (round n) ts a b → IsUnrefused (answer_of ts) → All IsNoRefusal ts
+  round_unrefused n (t ∷ ts) a b h u =
+      All-cons IsNoRefusal t ts (first_unrefused t (answer_of ts) u) (calls_unrefused n ts h.0 b h.3
+      (rest_unrefused t (answer_of ts) (λ r is. subst (λ z. Tells Take z (durable_of a) (durable_of h.0)) (sym h.1.joins.0 ∙ is) h.1.durable.tells) u))
+  round_unrefused n ts a b h u = absurd h
 
 -- ---- what is safely made
 module _ {D R : Type 0} (disk : DiskModel D) (radio : RadioModel R) where
@@ -301,15 +172,15 @@ module _ {D R : Type 0} (disk : DiskModel D) (radio : RadioModel R) where
   none_made w here = all_made disk radio [] [] w w (refl, here)
 
   pub one_made : (x : Step) (t : Told) (a b : World D R) → IsWorldStep radio x t a b → IsStepMade disk t (durable_of a) (durable_of b)
-      → IsSafe disk (durable_of b) (durable_of b) → Safe (x ∷ []) (t ∷ []) a b
-  one_made x t a b step made here = all_made disk radio (x ∷ []) (t ∷ []) a b (b, step, made, (refl, here))
+      → IsSafeAtBoth disk (durable_of a) (durable_of b) → Safe (x ∷ []) (t ∷ []) a b
+  one_made x t a b step made here = all_made disk radio (x ∷ []) (t ∷ []) a b (b, step, made, (refl, here.1), here.0)
 
   pub made_then : (xs ys : List Step) (ts us : List Told) (a b c : World D R) → Safe xs ts a b → Safe ys us b c → Safe (xs ++ ys) (ts ++ us) a c
   made_then xs ys ts us a b c past more = all_made disk radio (xs ++ ys) (ts ++ us) a c (turn_then disk radio xs ys ts us a b c past.in_turn more.in_turn)
 
   -- the next of these steps
   pub next_made : (steps : List Step) (i : ℕ) (ts us : List Told) (d : Step) (t : Told) (a b c : World D R) → Safe (take i steps) ts a b → i < length steps
-      → IsWorldStep radio (get_or steps i d) t b c → IsStepMade disk t (durable_of b) (durable_of c) → IsSafe disk (durable_of c) (durable_of c) → us ≡ ts ++ t ∷ []
+      → IsWorldStep radio (get_or steps i d) t b c → IsStepMade disk t (durable_of b) (durable_of c) → IsSafeAtBoth disk (durable_of b) (durable_of c) → us ≡ ts ++ t ∷ []
       → Safe (take (i + 1) steps) us a c
   next_made steps i ts us d t a b c past lt step made here now =
       let x = get_or steps i d in
@@ -323,8 +194,8 @@ module _ {D R : Type 0} (disk : DiskModel D) (radio : RadioModel R) where
   pub none_gone : (w : World D R) → Safe [] [] w w → Unrefused w w
   none_gone w made = record { gone_on = record { steps = []; tolds = []; made = made }; none = All-nil IsNoRefusal }
 
-  pub one_gone : (x : Step) (t : Told) (a b : World D R) → IsBeside x → IsWorldStep radio x t a b → IsStepMade disk t (durable_of a) (durable_of b) → IsSafe disk (durable_of b) (durable_of b) → Unrefused a b
-  one_gone x t a b beside step made here = record { gone_on = record { steps = x ∷ []; tolds = t ∷ []; made = one_made x t a b step made here }; none = one_unrefused radio x t a b beside step }
+  pub one_gone : (x : Step) (t : Told) (a b : World D R) → IsBeside x → IsWorldStep radio x t a b → IsStepMade disk t (durable_of a) (durable_of b) → IsSafeAtBoth disk (durable_of a) (durable_of b) → Unrefused a b
+  one_gone x t a b beside step made here = record { gone_on = record { steps = x ∷ []; tolds = t ∷ []; made = one_made x t a b step made here }; none = one_unrefused disk radio x t a b beside step }
 
   pub gone_then : (xs : List Step) (ts : List Told) (a b c : World D R) → Safe xs ts a b → HasGoneOn disk radio b c → HasGoneOn disk radio a c
   gone_then xs ts a b c past g = record { steps = xs ++ g.steps; tolds = ts ++ g.tolds; made = made_then xs g.steps ts g.tolds a b c past g.made }
@@ -352,21 +223,17 @@ module _ {D R : Type 0} (disk : DiskModel D) (radio : RadioModel R) where
   }
 
   pub one_answered : (x : Step) (t : Told) (r : Recipient) (before after : List (Recipient × Told)) (a b : World D R) → IsHanding x → r ≡ recipient_of x → IsWorldStep radio x t a b
-      → IsStepMade disk t (durable_of a) (durable_of b) → IsSafe disk (durable_of b) (durable_of b) → (t ≡ NoMemory → ⊥) → after ≡ before ++ (r, t) ∷ [] → Answered (x ∷ []) before after a b
+      → IsStepMade disk t (durable_of a) (durable_of b) → IsSafeAtBoth disk (durable_of a) (durable_of b) → (t ≡ NoMemory → ⊥) → after ≡ before ++ (r, t) ∷ [] → Answered (x ∷ []) before after a b
   one_answered x t r before after a b hands is step made here told all = record {
     more = (r, t) ∷ [];
     all = all;
     recipients = ap (λ (z : Recipient). z ∷ []) is;
     told = All-push (λ (a : Recipient × Told). a.1 ≢ NoMemory) [] (r, t) (All-nil (λ (a : Recipient × Told). a.1 ≢ NoMemory)) told;
-    none = one_unrefused radio x t a b (handing_beside x hands) step;
+    none = one_unrefused disk radio x t a b (handing_beside x hands) step;
     made = one_made x t a b step made here;
   }
 
 -- ---- what a step that hands out or applies leaves
-gives_none : (r b : Bssid) (is : List Told) → all_given (Radio r) (Apply b ∷ []) is ≡ []
-gives_none r b [] = refl
-gives_none r b (i ∷ is) = refl
-
 nothing_left : (os qs : List Out) → os ++ qs ≡ [] → qs ≡ []
 nothing_left [] qs e = e
 nothing_left (o ∷ os) qs e = absurd (let wrong : o ∷ (os ++ qs) ≡ [] = e in cc)
@@ -390,10 +257,14 @@ module _ {D R : Type 0} (radio : RadioModel R) where
   pub only_hands : (x : Step) (t : Told) (a b : World D R) → IsHanding x → IsWorldStep radio x t a b → OnlyHands (durable_of a) (durable_of b)
   only_hands x t a b hands step = tells_only x step.inside (durable_of a) (durable_of b) hands step.durable.tells
 
-  -- no out comes to an empty queue by applying
-  pub all_stay_empty : (b : Bssid) (ts : List Told) (a c : World D R) → IsWorldRun radio (Apply b ∷ []) ts a c → (r : Bssid) → queue_of a r ≡ [] → queue_of c r ≡ []
-  all_stay_empty b ts a c run r none =
-      nothing_left (all_applied r (Apply b ∷ []) ts) (queue_of c r) (run.queues r ∙ (λ i. none i ++ gives_none r b run.insides i))
+-- no out comes to an empty queue by applying
+module _ {D R : Type 0} (disk : DiskModel D) (radio : RadioModel R) where
+  pub all_stay_empty : (b : Bssid) (ts : List Told) (a c : World D R) → AreMadeInTurn disk radio (Apply b ∷ []) ts a c → (r : Bssid) → queue_of a r ≡ [] → queue_of c r ≡ []
+  all_stay_empty b (t ∷ []) a c h r none =
+      nothing_left (applied r (Apply b) t) (queue_of c r)
+      (ap (λ (w : World D R). applied r (Apply b) t ++ queue_of w r) h.3.0 ∙ flows radio a h.0 r (Apply b) h.1.inside t h.1.joins ∙ ap (λ os. os ++ []) none)
+  all_stay_empty b (t ∷ ts) a c h r none = absurd h.3
+  all_stay_empty b [] a c h r none = absurd h
 
 -- ---- what is said of an error
 pub on_err : {A E P : Type 0} (r : Result A E) → P → OnErr r P
@@ -427,7 +298,7 @@ applies_of_slot [] counts = tt
 applies_of_slot (c ∷ confs) [] = tt
 applies_of_slot (c ∷ confs) (n ∷ counts) = more_of_slot n c.bssid (applies confs counts) (applies_of_slot confs counts)
 
-module _ {D R : Type 0} (radio : RadioModel R) where
+module _ {D R : Type 0} (disk : DiskModel D) (radio : RadioModel R) where
   gives : (q : Recipient) (i t : Told) (a b : World D R) → Tells (Hand q) i (durable_of a) (durable_of b) → Joins radio (Hand q) i t a b → (t ≡ NoMemory → ⊥) → IsGiven q b
   gives (Radio r) (Handed outs) (Queued count) a b h joins told = inr (ap (λ (w : DurableCore D). ready_for (Radio r) w.core) h.only ∙ ready_none (Radio r) (durable_of a).core)
   gives (Radio r) NoMemory NoMemory a b h joins told = absurd (told refl)
@@ -442,22 +313,22 @@ module _ {D R : Type 0} (radio : RadioModel R) where
   stays_given (Radio r) q i t a b h joins (inr none) = inr (keeps_ready (Radio r) q i (durable_of a) (durable_of b) h none)
   stays_given Control q i t a b h joins none = keeps_ready Control q i (durable_of a) (durable_of b) h none
 
-  all_stay_given : (r : Recipient) (confs : List Conf) (is ts : List Told) (a b : World D R) → AreWorldSteps radio (hands confs) is ts a b → IsGiven r a → IsGiven r b
-  all_stay_given r [] (i ∷ []) (t ∷ []) a b h g = subst (IsGiven r) (sym h.3) (stays_given r Control i t a h.0 h.1 h.2 g)
-  all_stay_given r (c ∷ confs) (i ∷ is) (t ∷ ts) a b h g = all_stay_given r confs is ts h.0 b h.3 (stays_given r (Radio c.bssid) i t a h.0 h.1 h.2 g)
-  all_stay_given r [] (i ∷ is) (t ∷ ts) a b h g = absurd h.3
-  all_stay_given r confs is ts a b h g = absurd h
+  all_stay_given : (r : Recipient) (confs : List Conf) (ts : List Told) (a b : World D R) → AreMadeInTurn disk radio (hands confs) ts a b → IsGiven r a → IsGiven r b
+  all_stay_given r [] (t ∷ []) a b h g = subst (IsGiven r) (sym h.3.0) (stays_given r Control h.1.inside t a h.0 h.1.durable.tells h.1.joins g)
+  all_stay_given r (c ∷ confs) (t ∷ ts) a b h g = all_stay_given r confs ts h.0 b h.3 (stays_given r (Radio c.bssid) h.1.inside t a h.0 h.1.durable.tells h.1.joins g)
+  all_stay_given r [] (t ∷ ts) a b h g = absurd h.3
+  all_stay_given r confs ts a b h g = absurd h
 
-  hands_give : (confs : List Conf) (is ts : List Told) (a b : World D R) → AreWorldSteps radio (hands confs) is ts a b → All (λ told. told ≢ NoMemory) ts
+  hands_give : (confs : List Conf) (ts : List Told) (a b : World D R) → AreMadeInTurn disk radio (hands confs) ts a b → All (λ told. told ≢ NoMemory) ts
       → All (λ conf. IsGiven (Radio conf.bssid) b) confs × IsGiven Control b
-  hands_give [] (i ∷ []) (t ∷ []) a b h told =
-      (All-nil (λ conf. IsGiven (Radio conf.bssid) b), subst (IsGiven Control) (sym h.3) (gives Control i t a h.0 h.1 h.2 (All-head (λ told. told ≢ NoMemory) t [] told)))
-  hands_give (c ∷ confs) (i ∷ is) (t ∷ ts) a b h told =
-      let more = hands_give confs is ts h.0 b h.3 (All-tail (λ told. told ≢ NoMemory) t ts told) in
-      let one : IsGiven (Radio c.bssid) b = all_stay_given (Radio c.bssid) confs is ts h.0 b h.3 (gives (Radio c.bssid) i t a h.0 h.1 h.2 (All-head (λ told. told ≢ NoMemory) t ts told)) in
+  hands_give [] (t ∷ []) a b h told =
+      (All-nil (λ conf. IsGiven (Radio conf.bssid) b), subst (IsGiven Control) (sym h.3.0) (gives Control h.1.inside t a h.0 h.1.durable.tells h.1.joins (All-head (λ told. told ≢ NoMemory) t [] told)))
+  hands_give (c ∷ confs) (t ∷ ts) a b h told =
+      let more = hands_give confs ts h.0 b h.3 (All-tail (λ told. told ≢ NoMemory) t ts told) in
+      let one : IsGiven (Radio c.bssid) b = all_stay_given (Radio c.bssid) confs ts h.0 b h.3 (gives (Radio c.bssid) h.1.inside t a h.0 h.1.durable.tells h.1.joins (All-head (λ told. told ≢ NoMemory) t ts told)) in
       (All-cons (λ conf. IsGiven (Radio conf.bssid) b) c confs one more.0, more.1)
-  hands_give [] (i ∷ is) (t ∷ ts) a b h told = absurd h.3
-  hands_give confs is ts a b h told = absurd h
+  hands_give [] (t ∷ ts) a b h told = absurd h.3
+  hands_give confs ts a b h told = absurd h
 
   -- applying leaves what was given
   apply_core : (c : Bssid) (i : Told) (a b : World D R) → Tells (Apply c) i (durable_of a) (durable_of b) → durable_of b ≡ durable_of a
@@ -469,12 +340,12 @@ module _ {D R : Type 0} (radio : RadioModel R) where
   apply_given (Radio r) c i t a b h joins (inr none) = inr (ap (λ (w : DurableCore D). ready_for (Radio r) w.core) (apply_core c i a b h) ∙ none)
   apply_given Control c i t a b h joins none = ap (λ (w : DurableCore D). ready_for Control w.core) (apply_core c i a b h) ∙ none
 
-  applies_given : (r : Recipient) (xs : List Step) (is ts : List Told) (a b : World D R) → AllByRecursion IsOfSlot xs → AreWorldSteps radio xs is ts a b → IsGiven r a → IsGiven r b
-  applies_given r [] [] [] a b all h g = subst (IsGiven r) (sym h) g
-  applies_given r (Apply c ∷ xs) (i ∷ is) (t ∷ ts) a b all h g = applies_given r xs is ts h.0 b all.1 h.3 (apply_given r c i t a h.0 h.1 h.2 g)
-  applies_given r [] is ts a b all h g = absurd h
-  applies_given r (Apply c ∷ xs) is ts a b all h g = absurd h
-  applies_given r (x ∷ xs) is ts a b all h g = absurd all.0
+  applies_given : (r : Recipient) (xs : List Step) (ts : List Told) (a b : World D R) → AllByRecursion IsOfSlot xs → AreMadeInTurn disk radio xs ts a b → IsGiven r a → IsGiven r b
+  applies_given r [] [] a b all h g = subst (IsGiven r) (sym h.0) g
+  applies_given r (Apply c ∷ xs) (t ∷ ts) a b all h g = applies_given r xs ts h.0 b all.1 h.3 (apply_given r c h.1.inside t a h.0 h.1.durable.tells h.1.joins g)
+  applies_given r [] ts a b all h g = absurd h
+  applies_given r (Apply c ∷ xs) ts a b all h g = absurd h
+  applies_given r (x ∷ xs) ts a b all h g = absurd all.0
 
 -- ---- handing out, from one interface to the next
 pub radio_hands_more : (confs : List Conf) (i : ℕ) (d : Conf) → i < length confs → radio_hands (take (i + 1) confs) ≡ radio_hands (take i confs) ++ Hand (Radio (get_or confs i d).bssid) ∷ []
@@ -521,7 +392,7 @@ module _ {D R : Type 0} (disk : DiskModel D) (radio : RadioModel R) where
         (append_assoc (applies confs k.counts) (replicate k.count (Apply b)) (Apply b ∷ []) ∙ ap (λ xs. applies confs k.counts ++ xs) (replicate_more k.count (Apply b)))
         (answered_then disk radio (applies confs k.counts ++ replicate k.count (Apply b)) (Apply b ∷ []) before mid after a w c k.answered step);
     empty = All-weaker (λ conf. queue_of w conf.bssid ≡ []) (λ conf. queue_of c conf.bssid ≡ [])
-        (λ conf none. all_stay_empty radio b (map (λ x. x.1) step.more) w c step.made.run conf.bssid none) confs k.empty;
+        (λ conf none. all_stay_empty disk radio b (map (λ x. x.1) step.more) w c step.made.in_turn conf.bssid none) confs k.empty;
   }
 
   pub applying_done : (confs : List Conf) (i : ℕ) (conf : Conf) (before after : List (Recipient × Told)) (a c : World D R) → i < length confs
@@ -545,13 +416,11 @@ module _ {D R : Type 0} (disk : DiskModel D) (radio : RadioModel R) where
       → IsHandedOut disk radio [] after a c
   handed_out mid after a b c first applied =
       let confs = (durable_of a).core.confs in
-      let second = subst (λ (cs : List Conf). Applied_at cs mid after b c) first.made.run.run.goes.confs applied in
+      let second = subst (λ (cs : List Conf). Applied_at cs mid after b c) (same_confs disk radio (hands confs) (map (λ x. x.1) first.more) a b first.made.in_turn) applied in
       let both = answered_then disk radio (hands confs) (applies confs second.counts) [] mid after a b c first second.answered in
-      let hand = first.made.run in
-      let apply = second.answered.made.run in
-      let given = hands_give radio confs hand.insides (map (λ x. x.1) first.more) a b hand.steps_are (All-map (λ told. told ≢ NoMemory) (λ (x : Recipient × Told). x.1) first.more first.told) in
+      let given = hands_give disk radio confs (map (λ x. x.1) first.more) a b first.made.in_turn (All-map (λ told. told ≢ NoMemory) (λ (x : Recipient × Told). x.1) first.more first.told) in
       let later : (r : Recipient) → IsGiven r b → IsGiven r c =
-      λ r. applies_given radio r (applies confs second.counts) apply.insides (map (λ x. x.1) second.answered.more) b c (applies_of_slot confs second.counts) apply.steps_are in
+      λ r. applies_given disk radio r (applies confs second.counts) (map (λ x. x.1) second.answered.more) b c (applies_of_slot confs second.counts) second.answered.made.in_turn in
       subst (λ (xs : List (Recipient × Told)). IsHandedOut disk radio [] xs a c) (sym both.all)
       (record {
         counts = second.counts;
@@ -575,7 +444,7 @@ module _ {D R : Type 0} (disk : DiskModel D) (radio : RadioModel R) where
 
   pub handed_after : (xs fs : List Step) (ts : List Told) (answers : List (Recipient × Told)) (a b c : World D R) → Made xs ts a b → Handed_out fs answers b c → Handed_out (xs ++ fs) answers a c
   handed_after xs fs ts answers a b c past h =
-      let confs : (durable_of b).core.confs ≡ (durable_of a).core.confs = past.run.run.goes.confs in
+      let confs : (durable_of b).core.confs ≡ (durable_of a).core.confs = same_confs disk radio xs ts a b past.in_turn in
       let last = λ (cs : List Conf). hands cs ++ applies cs h.counts in
       let both = made_then disk radio xs (fs ++ last (durable_of b).core.confs) ts (h.tolds ++ map (λ x. x.1) answers) a b c past h.made in
       record {
@@ -628,7 +497,7 @@ module _ {D R : Type 0} (disk : DiskModel D) (radio : RadioModel R) where
       → IsFlushed disk radio [] answers b c → IsStarted disk radio answers a c
   unfolding handed_after
   started_from first ts answers a b c configuring told made h =
-      let same = tolds_length radio first made.run.insides ts a b made.run.steps_are in
+      let same = turn_length disk radio first ts a b made.in_turn in
       let is : take (length first) (ts ++ h.handed.tolds) ≡ ts = ap (λ n. take n (ts ++ h.handed.tolds)) (sym same) ∙ take-append_seam ts h.handed.tolds in
       record {
         first = first;
@@ -660,7 +529,7 @@ module _ {D R : Type 0} (disk : DiskModel D) (radio : RadioModel R) where
   round_more answer a b c past one quiet u = record {
     calls = past.calls ++ one.calls ∷ [];
     tolds = past.tolds ++ one.tolds;
-    none = All-append IsNoRefusal past.tolds one.tolds past.none (round_unrefused radio one.calls one.made.run.insides one.tolds b c one.made.run.steps_are (subst IsUnrefused one.answer_is u));
+    none = All-append IsNoRefusal past.tolds one.tolds past.none (round_unrefused disk radio one.calls one.tolds b c one.made.in_turn (subst IsUnrefused one.answer_is u));
     made = subst (λ (xs : List Step). AreSafelyMade disk radio xs (past.tolds ++ one.tolds) a c) (sym (rounds_more past.calls one.calls))
         (made_then disk radio (rounds past.calls) (round one.calls) past.tolds one.tolds a b c past.made one.made);
     last = last_more (durable_of a).core b c past.last quiet;
@@ -685,13 +554,13 @@ module _ {D R : Type 0} (disk : DiskModel D) (radio : RadioModel R) where
 
   pub accepted_more : (confs : List Conf) (i : ℕ) (d : Conf) (x : Step) (t : Told) (a b c : World D R) → i < length confs → AreAccepted disk radio (take i confs) a b
       → asked x ≡ asked_of (get_or confs i d) → (t ≡ NoMemory → ⊥) → IsWorldStep radio x t b c → IsStepMade disk t (durable_of b) (durable_of c)
-      → IsSafe disk (durable_of c) (durable_of c) → AreAccepted disk radio (take (i + 1) confs) a c
+      → IsSafeAtBoth disk (durable_of b) (durable_of c) → AreAccepted disk radio (take (i + 1) confs) a c
   accepted_more confs i d x t a b c lt past is told step made here = record {
     steps = past.steps ++ x ∷ [];
     tolds = past.tolds ++ t ∷ [];
     configuring = configuring_more confs i d past.steps x lt past.configuring is;
     told = All-push (λ z. z ≢ NoMemory) past.tolds t past.told told;
-    none = All-append IsNoRefusal past.tolds (t ∷ []) past.none (one_unrefused radio x t b c (asked_beside x _ is) step);
+    none = All-append IsNoRefusal past.tolds (t ∷ []) past.none (one_unrefused disk radio x t b c (asked_beside x _ is) step);
     made = made_then disk radio past.steps (x ∷ []) past.tolds (t ∷ []) a b c past.made
         (one_made disk radio x t b c step made here);
   }

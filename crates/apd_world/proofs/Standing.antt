@@ -2,7 +2,7 @@
 use Rattle.std.proofs.Common.{◌≡◌, ℕ, zero, suc, ◌≤◌, ◌+◌, Err, true, false, Bool, List, take, Option, Some, None, ◌⊎◌, inl, inr, ⊎_elim, refl, sym, ap, subst, ◌∙◌, arith}
 use Rattle.std.specs.Prelude.{IsTrue, if◌then◌else◌, nat_le, ◌||◌, ◌==◌, length}
 use Rattle.std.proofs.lemmas.Bool.{le-leb, ne_eqb}
-use Rattle.apd_world.proofs.Words.{AreUnsettled, Batch, Called, Committer, CoreState, Device, DiskModel, DurableCore, Happening, IsFlight, IsImaged, IsSafe, IsSpoken, IsStepMade, IsTaken, IsWhole, LeavesOnly, Receipt, Shows, ShowsEither, ShowsFlight, State, Told, batch_of, cannot_take, device_of, flight_of, held_batch, published, run}
+use Rattle.apd_world.proofs.Words.{AreUnsettled, Batch, Called, Committer, CoreState, Device, DiskModel, DurableCore, Happening, IsFlight, IsImaged, IsSafe, IsStepMade, IsTaken, IsWhole, LeavesOnly, Receipt, Shows, ShowsEither, ShowsFlight, State, Told, batch_of, cannot_take, device_of, flight_of, held_batch, published, run}
 use Rattle.apd_record.specs.Meaning.{meaning_of}
 use Rattle.apd_core.proofs.Keeping.{decided_means}
 use Rattle.apd_core.proofs.Settling.{decided_split}
@@ -64,18 +64,18 @@ shows_flight s hs u c h = ⊎_elim
 module _ {D : Type 0} (disk : DiskModel D) where
   -- ---- a step that makes no call
   pub safe_same : (old new : DurableCore D) → device_of new ≡ device_of old → IsSafe disk old old → (IsWhole disk old → IsWhole disk new) → (IsImaged disk old.committer → IsImaged disk new.committer)
-      → (IsSpoken old → IsSpoken new) → IsSafe disk old new
-  safe_same old new device here whole imaged spoken = record {
+      → IsSafe disk old new
+  safe_same old new device here whole imaged = record {
     whole = whole;
-    proper = λ p. record { whole = whole p.whole; imaged = imaged p.imaged; spoken = spoken p.spoken };
+    proper = λ p. record { whole = whole p.whole; imaged = imaged p.imaged };
     inside = λ p. subst (λ (d : D). LeavesOnly disk (device_of old) d (ShowsEither old.core)) (sym device) (here.inside p);
   }
 
   -- the same committer beside a core with the same batch in flight
   pub safe_beside : (old new : DurableCore D) → new.committer ≡ old.committer → new.core.settled ≡ old.core.settled → flight_of new.core ≡ flight_of old.core → new.core.failed ≡ old.core.failed
-      → IsSafe disk old old → (IsSpoken old → IsSpoken new) → IsSafe disk old new
-  safe_beside old new same settled flight failed here spoken =
-      safe_same old new (ap (λ (c : Committer D). device_in (flusher_in c)) same) here (λ h. rw (same, settled, flight, failed) h) (λ h. rw same h) spoken
+      → IsSafe disk old old → IsSafe disk old new
+  safe_beside old new same settled flight failed here =
+      safe_same old new (ap (λ (c : Committer D). device_in (flusher_in c)) same) here (λ h. rw (same, settled, flight, failed) h) (λ h. rw same h)
 
   pub safe_unchanged : (old new : DurableCore D) → new ≡ old → IsSafe disk old old → IsSafe disk old new
   safe_unchanged old new same here = subst (λ (w : DurableCore D). IsSafe disk old w) (sym same) here

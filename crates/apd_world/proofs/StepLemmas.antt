@@ -14,7 +14,7 @@ use Rattle.apd_flusher.specs.Committing as committing
 use Rattle.apd_flusher.specs.Outside.{device_of as device_in}
 use Rattle.apd_flusher.specs.declared.phase.Phase.TheVariants as phase
 use Rattle.apd_world.specs.declared.fault.WorldFault.TheVariants as world_fault
-use Rattle.apd_world.proofs.Speaking.{next_core, speaks}
+use Rattle.apd_world.proofs.Speaking.{next_core}
 use Rattle.apd_world.proofs.Standing.{gives_whole, none_some}
 use Rattle.apd_world.proofs.Goings.{goes_beside, goes_entry, goes_handed, goes_published, goes_unchanged}
 
@@ -26,7 +26,6 @@ module _ {D : Type 0} (step : Step) (told : Told) (old new : DurableCore D) wher
     tells = tells;
     goes = subst (λ (s : CoreState). Goes (entered old.core.confs old.core.heard step told) (λ r. given r step told) old.core s) (sym is) goes;
     heard = ap (λ (s : CoreState). s.heard) is ∙ heard;
-    spoken = (speaks old new step told tells).spoken;
   }
 
   -- nothing has changed
@@ -137,7 +136,7 @@ module _ {D : Type 0} (old new : DurableCore D) where
       (subst (λ (os : List Out). Goes [] (λ r. given r (Hand q) (Handed os)) old.core (handed q old.core)) (sym h.outs_are) (goes_handed q old.core core)) refl
 
   pub ask_step : (q : Query) (answer : Answer) → IsRead q answer old new → IsStep (Ask q) (Answered answer) old new
-  ask_step q answer h = step_by (Ask q) (Answered answer) old new old.core (ap (λ (w : DurableCore D). w.core) h.only) h (goes_unchanged old.core) refl
+  ask_step q answer h = step_unchanged (Ask q) (Answered answer) old new h.only h (goes_unchanged old.core) refl
 
 -- ---- what is handed to a committer: nothing where a batch waits, or else what the core gives
 module _ {D : Type 0} (disk : DiskModel D) where
@@ -213,7 +212,7 @@ module _ {D : Type 0} (disk : DiskModel D) where
           fault = λ told. call_rises r (flusher_of old) (flusher_of new) t.tells (same_called r _ told);
           safe = record {
             whole = whole;
-            proper = λ p. record { whole = whole p.whole; imaged = keeps.imaged p.imaged; spoken = step.spoken p.spoken };
+            proper = λ p. record { whole = whole p.whole; imaged = keeps.imaged p.imaged };
             inside = λ p. moments s.settled (flight_of s) s.failed p.whole p.imaged;
           };
         },

@@ -10,20 +10,18 @@ pub use Rattle.apd_world.specs.Ending.{Ends, HasEnded, HasFailedCore, HasGoneOn,
 pub use Rattle.apd_world.specs.Starting.{IsAtRest, IsFlushed, rounds}
 pub use Rattle.apd_world.specs.Following.{AreExact, AreFollowing}
 pub use Rattle.apd_world.specs.HandingOut.{IsGiven, IsHandedOut, IsHanding, OnlyHands, applies, hands, radio_hands, recipient_of}
-pub use Rattle.apd_world.specs.Outside.{IsSpoken, device_of, flusher_of, spoken}
-pub use Rattle.apd_world.specs.Proper.{IsProper, IsSafe, IsStepMade, IsWhole}
+pub use Rattle.apd_world.specs.Outside.{device_of, flusher_of}
+pub use Rattle.apd_world.specs.Proper.{IsProper, IsSafe, IsSafeAtBoth, IsStepMade, IsWhole}
 pub use Rattle.apd_world.specs.Queueing.{AreQueued, QueuesReady}
-pub use Rattle.apd_world.specs.Recovery.{HasSpoken, LosesNothing}
 pub use Rattle.apd_world.specs.Replacing.{IsReplaced, IsReplacedAt, RefusesRadio, Replaces}
 pub use Rattle.apd_world.specs.Resumed.{AreHandedBack, AreLeft, AreOfSame, AreResumed, EndsAtSlot, HasNotResumed, IsResumed}
 pub use Rattle.apd_world.specs.Round.{ComesTo, Commits, HasRoomForNext, IsRound, answer_of, round, said}
-pub use Rattle.apd_world.specs.Run.{AreSteps, IsRun, IsStep}
-pub use Rattle.apd_world.specs.SafelyGone.{HasSafelyGone, IsRunInside, KeepsSpokenSince}
-pub use Rattle.apd_world.specs.SafelyMade.{AreMadeInTurn, AreSafelyMade}
-pub use Rattle.apd_world.specs.Shown.{ShowsEither, ShowsFlight, ShowsFront, flight_of}
-pub use Rattle.apd_world.specs.Steps.{Account, account, all_entered, all_given, entered, entered_as, given, heard_after, heard_as, nothing_yet, one_more}
+pub use Rattle.apd_world.specs.Run.{IsStep}
+pub use Rattle.apd_world.specs.SafelyMade.{AreMadeInTurn, AreSafelyMade, LeadsSince}
+pub use Rattle.apd_world.specs.Shown.{ShowsEither, ShowsFlight, flight_of}
+pub use Rattle.apd_world.specs.Steps.{Account, account, entered, entered_as, given, heard_after, heard_as, one_more}
 pub use Rattle.apd_world.specs.StepsMade.{AreAccepted, AreAllApplied, AreAnswered, AreSettled}
 pub use Rattle.apd_world.specs.Telling.{CallTells, HasNoBatch, HasNoCall, HasNoReceipt, IsAccepted, IsCalled, IsHanded, IsNext, IsPublished, IsRead, IsTakenUp, Tells, after_call, reception_of}
 pub use Rattle.apd_world.specs.Words.{Accept, Accepted, Addr, Answer, Answered, Applied, Apply, AreFit, Ask, Batch, Bssid, Call, Called, Change, Commit, Committer, Conf, Configure, Control, CoreState, Device, DiskModel, DurableCore, Flusher, Hand, Handed, Happening, HasForgotten, HasNoneToLoad, HasRisen, Input, IsCore, IsExact, IsFlight, IsGood, IsImaged, IsTaken, LastHeard, LeavesOnly, Loaded, Moment, NoMemory, Nothing, Out, Phase, Publish, Published, Query, Queued, QuietReason, Radio, RadioModel, Receipt, Reception, Recipient, SameButRoom, Shows, Slot, SlotFault, Sound, State, Step, Store, StoreFault, Take, Told, World, WorldFault, aid_at, bssid_cmp, bssid_of, calls_left, cannot_take, driven, failed_after, front_of, handed, happening_of, held_batch, held_for, installed_rows, last_of, outs_run, outs_to, phase_of, published, radio_of, ready_for, run, state_after, up_to, verdict, waiting_batch, waiting_receipt, wanted_after_all, wanted_then}
 pub use Rattle.apd_world.specs.WorldParts.{durable_of, queue_if, queue_of, slot_at, slot_in, slot_place, slots_of}
-pub use Rattle.apd_world.specs.WorldRun.{AreWorldSteps, HasNoSlot, IsWorldRun, IsWorldStep, Joins, RestStays, SlotGoes, all_applied, applied}
+pub use Rattle.apd_world.specs.WorldRun.{HasNoSlot, IsWorldStep, Joins, RestStays, SlotGoes, applied}

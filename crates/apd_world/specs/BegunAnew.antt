@@ -1,7 +1,7 @@
 -- A durable core begun anew from what a device holds. What is so of an honest device alone stands in records of its own.
-use Rattle.std.specs.Prelude.{◌≡◌, ◌≢◌, ◌↔◌, ℕ, List, take}
+use Rattle.std.specs.Prelude.{◌≡◌, ◌≢◌, ◌↔◌, ℕ, List}
 use Rattle.apd_base.specs.declared.limits.TheConstants.{DEVICE_LENGTH}
-use Rattle.apd_world.specs.Words.{AreHeardAt, Conf, DiskModel, DurableCore, Happening, HasRisen, LeavesOnly, Moment, Only, Shows, Sound, State, Store, WorldFault, new_core, run}
+use Rattle.apd_world.specs.Words.{AreHeardAt, Conf, DiskModel, DurableCore, HasRisen, LeavesOnly, Moment, Only, Shows, Sound, State, Store, WorldFault, new_core}
 use Rattle.apd_store.specs.Commit.{IsIdle}
 use Rattle.apd_store.specs.Image.{IsMarked, IsMarkedOld, ShowsNone}
 use Rattle.apd_store.specs.Outside.{IsInside, device_of as store_device, phase_of}
@@ -10,7 +10,7 @@ use Rattle.apd_store.specs.declared.phase.Phase.TheVariants.{Idle}
 use Rattle.apd_flusher.specs.Outside.{store_of}
 use Rattle.apd_world.specs.Outside.{device_of, flusher_of}
 use Rattle.apd_world.specs.Proper.{IsProper, IsWhole}
-use Rattle.apd_world.specs.Shown.{ShowsFront}
+use Rattle.apd_world.specs.Journal.{Journal, Keeps, after}
 use Rattle.apd_world.specs.declared.fault.WorldFault.TheVariants as world_fault
 
 -- of a store and its table: nothing is unsettled, and every station was heard at this moment
@@ -33,11 +33,11 @@ pub record IsBegunAnew {D : Type 0} (disk : DiskModel D) (device : D) (confs : L
   pub whole : IsWhole disk new
   pub count : disk.failed (device_of new) ≡ disk.failed device
 
--- its table is the state that the device's bytes show, after a stop that of a front of what happened before
+-- its table is the state that the device's bytes show: after a stop, the one that a journal kept
 pub record IsHonestlyBegunAnew {D : Type 0} (disk : DiskModel D) (device : D) (new : DurableCore D) : Type 0 where
   pub shown : Shows (disk.reads device) new.core.settled
-  pub recovered : (s : State) (old : List Conf) (hs : List Happening) (front : ShowsFront s old hs (disk.reads device))
-      → new.core.settled ≡ run s old (take front.count hs)
+  pub recovered : (old last : Journal) (kept : Keeps old last (disk.reads device))
+      → new.core.settled ≡ after last kept.front
   pub proper : IsProper disk new
   pub images : Only (disk.reads device) (disk.may_leave (device_of new))
   pub any_moment : LeavesOnly disk device (device_of new) (disk.may_leave device)

@@ -1,5 +1,5 @@
 -- How a core goes on: what happened is kept, given and settled, each in order (own).
-use Rattle.std.specs.Prelude.{◌≡◌, ◌+◌, ◌≤◌, List, [], ◌++◌, length}
+use Rattle.std.specs.Prelude.{◌≡◌, ◌+◌, List, [], ◌++◌, length}
 use Rattle.apd_world.specs.Words.{AreDecided, AreFit, CoreState, Happening, Out, Recipient, front_of, held_for, last_of, numbered_outs, outs_run, queue_of, ready_for, run, up_to}
 
 -- these happened, so that the entries that are not settled are the verdicts on them
@@ -35,7 +35,6 @@ pub record Goes (happened : List Happening) (given : Recipient → List Out) (ol
   pub outs : (r : Recipient)
       → given r ++ held_for r new ≡ held_for r old ++ outs_run r (front_of old) old.confs happened
   pub last : last_of new ≡ last_of old + length happened
-  pub number : old.number ≤ new.number
   pub settles : (hs : List Happening) → AreUnsettled hs old → Settles hs happened given old new
 
 -- nothing happens, nothing is given, and no station is heard

@@ -5,17 +5,16 @@ use Rattle.apd_flusher.specs.Committing as committer
 use Rattle.apd_flusher.specs.declared.phase.Phase.TheVariants as phase
 use Rattle.apd_store.specs.declared.fault.StoreFault.TheVariants as store_fault
 use Rattle.apd_world.specs.Shown.{AreAfterFlight, AreOfFlight, ShowsEither, flight_of}
-use Rattle.apd_world.specs.Outside.{device_of, flusher_of, IsSpoken}
+use Rattle.apd_world.specs.Outside.{device_of, flusher_of}
 
 -- the committer stands where the core takes it to be, whatever the device keeps of it
 abbrev pub IsWhole : {D : Type 0} → DiskModel D → DurableCore D → Type 0
 IsWhole disk w = committer.IsWhole disk w.committer w.core.settled (flight_of w.core) w.core.failed
 
--- and its images show it; everything spoken of is settled
+-- and its images show it
 pub record IsProper {D : Type 0} (disk : DiskModel D) (w : DurableCore D) : Type 0 where
   pub whole : IsWhole disk w
   pub imaged : committer.IsImaged disk w.committer
-  pub spoken : IsSpoken w
 
 -- Between two steps: a stop leaves images of the settled state, or of that after the batch in flight; from the batch's last call on, if
 -- that succeeded, until it is published, of that after the batch.
@@ -34,6 +33,10 @@ pub record IsSafe {D : Type 0} (disk : DiskModel D) (old new : DurableCore D) : 
   pub whole : IsWhole disk old → IsWhole disk new
   pub proper : IsProper disk old → IsProper disk new
   pub inside : IsProper disk old → LeavesOnly disk (device_of old) (device_of new) (ShowsEither old.core)
+
+-- a stop before it, and one after it, is safe
+abbrev pub IsSafeAtBoth : {D : Type 0} → DiskModel D → DurableCore D → DurableCore D → Type 0
+IsSafeAtBoth disk old new = IsSafe disk old old × IsSafe disk new new
 
 -- A step that told so is safe. It makes one call of the device at most; the device's failures never fall, and rise where the step tells
 -- that the device failed.

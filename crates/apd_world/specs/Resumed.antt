@@ -1,19 +1,18 @@
 -- Slots that resume by a table (own).
-use Rattle.std.specs.Prelude.{◌≡◌, ◌+◌, ℕ, true, List, [], drop, map, take, Some, Err, slice_get}
+use Rattle.std.specs.Prelude.{◌≡◌, ◌+◌, ℕ, List, [], drop, map, take, Some, Err, slice_get}
 use Rattle.std.specs.List.{AllByRecursion}
-use Rattle.apd_world.specs.Words.{Bssid, DiskModel, IsGivenRows, RadioModel, Shows, Slot, SlotFault, State, Store, World, WorldFault, bssid_of, installed_rows, is_up_of, radio_of, wanted_of}
-use Rattle.apd_slot.specs.Slots.{queue_of as slot_queue}
+use Rattle.apd_world.specs.Words.{Bssid, DiskModel, IsGivenRows, RadioModel, Shows, Slot, SlotFault, State, Store, World, WorldFault, bssid_of, installed_rows, radio_of, wanted_of}
 use Rattle.apd_store.specs.Outside.{device_of}
 use Rattle.apd_world.specs.Following.{AreExact, AreFollowing}
+use Rattle.apd_world.specs.Journal.{Resumed}
 use Rattle.apd_world.specs.WorldParts.{durable_of, queue_of, slots_of}
 use Rattle.apd_world.specs.declared.fault.WorldFault.TheVariants as world_fault
 
--- the slot is up, its radio has the associated stations of its BSSID, which are wanted, and no out waits
+-- the slot has resumed, and the stations that its radio has are wanted
 pub record IsResumed {R : Type 0} (radio : RadioModel R) (s : State) (slot : Slot R) : Type 0 where
-  pub up : is_up_of slot ≡ true
+  pub resumed : Resumed radio s slot
   pub wanted : wanted_of slot ≡ installed_rows s (bssid_of slot)
   pub installed : radio.stations (radio_of slot) ≡ installed_rows s (bssid_of slot)
-  pub queue : slot_queue slot ≡ []
 
 abbrev pub AreResumed : {R : Type 0} → RadioModel R → State → List (Slot R) → Type 0
 AreResumed radio s slots = AllByRecursion (IsResumed radio s) slots

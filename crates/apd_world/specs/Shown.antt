@@ -1,14 +1,8 @@
 -- What a stop leaves of a durable core: the state after a front of what happened.
-use Rattle.std.specs.Prelude.{◌≡◌, ◌≤◌, ◌⊎◌, ◌==◌, ℕ, List, length, take, Option, None, Some, if◌then◌else◌}
-use Rattle.apd_world.specs.Words.{Batch, Conf, CoreState, Happening, Shows, State, batch_of, run}
+use Rattle.std.specs.Prelude.{◌≡◌, ◌⊎◌, ◌==◌, ℕ, List, take, Option, None, Some, if◌then◌else◌}
+use Rattle.apd_world.specs.Words.{Batch, CoreState, Happening, Shows, batch_of, run}
 use Rattle.apd_flusher.specs.Committing as committer
 use Rattle.apd_world.specs.CoreRun.{AreUnsettled}
-
--- for some number, the image shows the state after so many of these
-pub record ShowsFront (s : State) (confs : List Conf) (hs : List Happening) (image : List ℕ) : Type 0 where
-  pub count : ℕ
-  pub within : count ≤ length hs
-  pub shows : Shows image (run s confs (take count hs))
 
 -- the number is none, or that of the entries in flight
 pub record ShowsFlight (s : CoreState) (hs : List Happening) (image : List ℕ) : Type 0 where

@@ -1,6 +1,6 @@
 -- What happened by steps, by what they told, and what was given.
 use Rattle.std.specs.Prelude.{List, [], ◌∷◌, ◌++◌, Result, Ok, if◌then◌else◌}
-use Rattle.apd_world.specs.Words.{Accept, Accepted, Conf, CoreState, Hand, Handed, Happening, LastHeard, Moment, Out, QuietReason, Reception, Recipient, State, Step, Told, front_of, happening_of, heard_by, is_same, run, verdict}
+use Rattle.apd_world.specs.Words.{Accept, Accepted, Conf, Hand, Handed, Happening, LastHeard, Moment, Out, QuietReason, Reception, Recipient, State, Step, Told, happening_of, heard_by, is_same, run, verdict}
 use Rattle.apd_core.specs.Heard.{heard_by_changes}
 use Rattle.apd_world.specs.declared.step.Reception.TheVariants.{Quiet, Entry}
 
@@ -45,22 +45,7 @@ abbrev pub account : List Conf → List Step → List Told → Account → Accou
 account confs (step ∷ steps) (told ∷ tolds) a = account confs steps tolds (one_more confs step told a)
 account confs steps tolds a = a
 
-abbrev pub nothing_yet : CoreState → Account
-nothing_yet s = record { happened = []; state = front_of s; heard = s.heard }
-
--- what happened by the steps that told an entry, in order
-abbrev pub all_entered : List Step → List Told → CoreState → List Happening
-all_entered steps tolds s = (account s.confs steps tolds (nothing_yet s)).happened
-
--- the moments at which stations were heard, after them
-abbrev pub all_heard : List Step → List Told → CoreState → LastHeard
-all_heard steps tolds s = (account s.confs steps tolds (nothing_yet s)).heard
-
 -- what a recipient is given by a step
 abbrev pub given : Recipient → Step → Told → List Out
 given r (Hand q) (Handed outs) = if is_same r q then outs else []
 given r step told = []
-
-abbrev pub all_given : Recipient → List Step → List Told → List Out
-all_given r (step ∷ steps) (told ∷ tolds) = given r step told ++ all_given r steps tolds
-all_given r steps tolds = []

@@ -1,5 +1,5 @@
 -- What each step does, and what it tells.
-use Rattle.std.specs.Prelude.{◌≡◌, ◌⊎◌, ◌↔◌, ◌≤◌, ◌+◌, List, length, Option, Some, None, Result, Ok, Err, max, IsTrue}
+use Rattle.std.specs.Prelude.{◌≡◌, ◌⊎◌, ◌↔◌, ◌≤◌, ◌+◌, List, length, Option, Some, None, Result, Ok, Err, IsTrue}
 use Rattle.apd_world.specs.Words.{Accept, Accepted, Answer, Answered, Apply, AreFit, Ask, Batch, Call, Called, CoreState, DurableCore, Flusher, Hand, Handed, Input, IsFlight, IsTaken, Loaded, Moment, NoMemory, Nothing, Out, Publish, PublishFault, Published, Query, Radio, Receipt, Reception, Recipient, Step, StoreFault, Take, Told, accepted, after_request, calls_left, cannot_take, failed_after, front_of, handed, happening_of, held_batch, phase_of, published, ready_for, table_of, waiting_batch, waiting_receipt}
 use Rattle.apd_store.specs.declared.fault.StoreFault.TheVariants as store_fault
 use Rattle.apd_core.specs.Core.{answered, IsDecided}
@@ -105,7 +105,7 @@ pub record IsHanded {D : Type 0} (r : Recipient) (outs : List Out) (old new : Du
 
 pub record IsRead {D : Type 0} (q : Query) (answer : Answer) (old new : DurableCore D) : Type 0 where
   pub answer_is : answer ≡ answered old.core q
-  pub only : new ≡ record old { told = max old.told answer.number }
+  pub only : new ≡ old
 
 -- some out is ready for a recipient
 abbrev pub HasReady : Recipient → CoreState → Type 0

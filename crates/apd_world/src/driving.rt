@@ -10,10 +10,10 @@ use apd_disk::Disk;
 use apd_radio::Radio;
 use std::alloc::AllocError;
 
-/// Makes the steps in order, and answers what each told. A stop at any moment since then, inside a step or
-/// between two, leaves an image of the table after a front of what was not settled when it began and then of
-/// what happened; and however many of the steps had been made by then, every entry of which an out had been given,
-/// or that had come with a read answer, is in that front. At its end, between two steps, a stop leaves the settled
+/// Makes the steps in order, and answers what each told. Whatever journal the world stands for, it stands for a later
+/// one after them, in which what is new is what they told. However many of the steps had been made, a stop at any
+/// moment since then, inside a step or between two, leaves an image of the table after some of what happened, from the
+/// front, with all of which anything had been said by then. At its end, between two steps, a stop leaves the settled
 /// table, or that after the batch in flight.
 ///
 /// Errors, before the first step: `AllocError`, and the world is as it was.

@@ -16,8 +16,6 @@ use apd_table::Table;
 pub struct DurableCore<D: Disk> {
     pub(crate) core: Core,
     pub(crate) committer: Committer<D>,
-    // The greatest number that came with an answer to a query.
-    pub(crate) told: u64,
 }
 
 impl<D: Disk> DurableCore<D> {
@@ -31,7 +29,6 @@ impl<D: Disk> DurableCore<D> {
         ensures flusher { flusher_of result ≡ flusher }
         ensures batch { waiting_batch result.committer ≡ None }
         ensures receipt { waiting_receipt result.committer ≡ None }
-        ensures told { result.told ≡ 0 }
         ensures whole { IsUnused core → phase_of flusher ≡ Phase.Idle → IsInside D.model flusher
             → table_of flusher ≡ core.settled → IsWhole D.model result }
         ensures proper { IsUnused core → D.model.honest (device_in flusher) → IsInside D.model flusher
@@ -40,7 +37,6 @@ impl<D: Disk> DurableCore<D> {
         DurableCore {
             core,
             committer: Committer::new(flusher),
-            told: 0,
         }
     }
 

@@ -1,4 +1,4 @@
-//! A core, a flusher and slots in one value, one step at a time: what a stop leaves, and what was spoken of.
+//! A core, a flusher and slots in one value, one step at a time: what a stop leaves, and what was said.
 #![tactic(auto)]
 
 mod committing;

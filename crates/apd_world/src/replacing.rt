@@ -10,25 +10,24 @@ use apd_radio::Radio;
 
 impl<D: Disk, R: Radio> World<D, R> {
     ghost use Rattle.apd_world.specs.Following.{AreExact, AreFollowing};
-    ghost use Rattle.apd_world.specs.Proper.{IsProper};
-    ghost use Rattle.apd_world.specs.Recovery.{LosesNothing};
+    ghost use Rattle.apd_world.specs.Journal.{Journal};
     ghost use Rattle.apd_world.specs.Replacing.{IsReplaced};
-    ghost use Rattle.apd_world.specs.WorldParts.{durable_of, slots_of};
+    ghost use Rattle.apd_world.specs.StandsFor.{LeadsSafely, StandsFor};
+    ghost use Rattle.apd_world.specs.WorldParts.{slots_of};
 
     /// Puts another radio in the place of that of a BSSID's slot, with the stations that are wanted there and no
-    /// others, and gives that one back, taken down; the slot is up then. The outs that wait there stay, and so does
-    /// all else of the world. It is no step, and is called between lists of steps: what a stop leaves, and what was
-    /// spoken of, is as before.
+    /// others, and gives that one back, taken down; the slot is up then. The outs that wait there stay, and so does all
+    /// else of the world. It is no step, and is called between lists of steps: the world stands for the journal that it
+    /// stood for.
     ///
-    /// Errors, beside the other radio: `NoSlot` exactly where no slot has the BSSID, and that radio is as it was; `Slot`
-    /// with the BSSID and the slot's refusal, `WentDown` or `NoMemory`: the other radio is taken down, and the slot
-    /// keeps its own and is down.
+    /// Errors, beside the other radio: `NoSlot` exactly where no slot has the BSSID, and that radio is as it was;
+    /// `Slot` with the BSSID and the slot's refusal, `WentDown` or `NoMemory`: the other radio is taken down, and the
+    /// slot keeps its own and is down.
     pub fn replace(&mut self, bssid: Bssid, radio: R) -> Result<R, (R, WorldFault)>
         ensures replaced { IsReplaced D.model R.model R.frames bssid radio result self.old self.new }
         ensures exact { AreExact R.model (slots_of self.old) → AreExact R.model (slots_of self.new) }
         ensures following { AreFollowing self.old → AreFollowing self.new }
-        ensures nothing_is_lost { IsProper D.model (durable_of self.old)
-            → LosesNothing D.model [] (durable_of self.old) (durable_of self.new) }
+        ensures leads { (j : Journal) → StandsFor self.old j → LeadsSafely D.model [] [] self.old self.new j j }
     {
         self.durable.stops();
         let Some(place) = place_of(&self.slots, bssid) else {

@@ -4,6 +4,7 @@ ghost use Rattle.apd_base.specs.declared.address.Bssid.{Bssid as Address};
 ghost use Rattle.apd_slot.specs.declared.slot.SlotFault.{SlotFault as Fault};
 ghost use Rattle.apd_world.specs.BegunAnew.{IsBegunAnew, IsBegunWith, IsHonestlyBegunAnew, IsHonestlyNotBegunAnew, IsNotBegunAnew};
 ghost use Rattle.apd_world.specs.Resumed.{AreHandedBack, AreOfSame, AreResumed, EndsAtSlot, HasNotResumed, HasResumed};
+ghost use Rattle.apd_world.specs.StandsFor.{BeginsAt};
 ghost use Rattle.apd_world.specs.WorldParts.{durable_of};
 
 use crate::core_restarting::durable_core_of;
@@ -55,6 +56,7 @@ pub fn begin_anew<D: Disk, R: Radio>(
 ) -> Result<World<D, R>, (D, Vec<Slot<R>>, WorldFault)>
     ensures begun { IfOk result (λ world. IsBegunWith D.model store table confs moment (durable_of world)) }
     ensures resumed { IfOk result (HasResumed R.model slots.items) }
+    ensures begins { IfOk result (BeginsAt confs table) }
     ensures none { IfErr result (λ e. AreHandedBack R.model store table slots.items e.0 e.1.items e.2) }
 {
     let mut slots = slots;
@@ -77,15 +79,15 @@ pub fn begin_anew<D: Disk, R: Radio>(
 }
 
 /// The world of the store that a device holds, and of these slots: its table is the state that the device's bytes
-/// show, nothing is unsettled, and every station was heard at this moment. Where the bytes show the state after
-/// a front of what happened before, as a stop leaves them, the table is that state. Each slot is up, and its
-/// radio has the associated stations of its BSSID in that table; no out waits. A stop within it leaves what could
-/// be left before.
+/// show, nothing is unsettled, and every station was heard at this moment: the world stands for the journal that begins
+/// there. Where the bytes show what a journal keeps, as a stop leaves them, the table is the state that it keeps. Each
+/// slot is up, and its radio has the associated stations of its BSSID in that table; no out waits. A stop within it
+/// leaves what could be left before.
 ///
-/// Errors, with the device and the slots handed back: `Store` with `NotAStore` where its length differs, or its
-/// magic is that of no version; with `OldVersion` where that is version 1's; else with `Damaged` where the bytes show
-/// no state; with `Device` where the device failed in this call; with `NoMemory`; then those of `begin_anew`. Where a stop left one image before the call, as after a sync, it
-/// leaves that one after any of them.
+/// Errors, with the device and the slots handed back: `Store` with `NotAStore` where its length differs, or its magic
+/// is that of no version; with `OldVersion` where that is version 1's; else with `Damaged` where the bytes show no
+/// state; with `Device` where the device failed in this call; with `NoMemory`; then those of `begin_anew`. Where a stop
+/// left one image before the call, as after a sync, it leaves that one after any of them.
 pub fn restart<D: Disk, R: Radio>(
     alloc: Global,
     device: D,
@@ -97,6 +99,7 @@ pub fn restart<D: Disk, R: Radio>(
     ensures begun_honest { D.model.honest device → IfOk result (λ world. IsHonestlyBegunAnew D.model
         device (durable_of world)) }
     ensures resumed { IfOk result (HasResumed R.model slots.items) }
+    ensures begins { IfOk result (λ world. BeginsAt confs (durable_of world).core.settled world) }
     ensures none { IfErr result (λ e. IsNotBegunAnew D.model device e.0 e.2) }
     ensures none_honest { D.model.honest device → IfErr result (λ e. IsHonestlyNotBegunAnew D.model device e.0 e.2) }
     ensures only { IfErr result

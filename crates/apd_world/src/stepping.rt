@@ -4,6 +4,7 @@ ghost use Rattle.apd_mlme.specs.Happening.{Happening};
 ghost use Rattle.apd_mlme.specs.Run.{run};
 ghost use Rattle.apd_store.specs.Image.{Shows};
 ghost use Rattle.apd_flusher.specs.Outside.{phase_of, waiting_receipt};
+ghost use Rattle.apd_core.specs.Invariant.{IsCore};
 ghost use Rattle.apd_world.specs.CoreRun.{AreUnsettled};
 ghost use Rattle.apd_world.specs.declared.step.Step.TheVariants.{Accept, Take, Call, Publish, Hand, Ask, Apply};
 ghost use Rattle.apd_world.specs.declared.step.Told.TheVariants.{Handed, NoMemory};
@@ -37,6 +38,13 @@ impl<D: Disk> DurableCore<D> {
     ghost use Rattle.apd_world.specs.Shown.{ShowsFlight};
     ghost use Rattle.apd_world.specs.Outside.{device_of, flusher_of};
     ghost use Rattle.apd_world.specs.Telling.{HasReady};
+
+    // What every core is. It does nothing.
+    pub(crate) fn sound(&self)
+        ensures { IsCore self.now.core }
+    {
+        self.core.sound();
+    }
 
     // A step that does nothing is safe. It does nothing.
     pub(crate) fn stops(&self)
@@ -157,10 +165,7 @@ impl<D: Disk> DurableCore<D> {
     {
         self.stops();
         match self.core.read(query) {
-            Ok(answer) => {
-                self.told = self.told.max(answer.number());
-                Told::Answered(answer)
-            }
+            Ok(answer) => Told::Answered(answer),
             Err(_) => Told::NoMemory,
         }
     }

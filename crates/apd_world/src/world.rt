@@ -1,6 +1,7 @@
 //! A world: a durable core, and a slot for each interface.
-ghost use Rattle.std.specs.Prelude.{◌≡◌, None};
+ghost use Rattle.std.specs.Prelude.{◌≡◌, ℕ, List, None, []};
 ghost use Rattle.std.specs.List.{AllZip};
+ghost use Rattle.apd_base.specs.declared.address.Bssid.{Bssid as Address};
 ghost use Rattle.apd_flusher.specs.Flushing.{IsInside, IsSteady};
 ghost use Rattle.apd_flusher.specs.Outside.{device_of as device_in, phase_of, table_of, waiting_batch, waiting_receipt};
 ghost use Rattle.apd_slot.specs.Slots.{HasForgotten};
@@ -29,27 +30,32 @@ pub struct World<D: Disk, R: Radio> {
 
 impl<D: Disk, R: Radio> World<D, R> {
     ghost use Rattle.apd_world.specs.Following.{AreFollowing};
-    ghost use Rattle.apd_world.specs.Outside.{flusher_of};
+    ghost use Rattle.apd_world.specs.Journal.{Journal, Keeps};
+    ghost use Rattle.apd_world.specs.Outside.{device_of, flusher_of};
     ghost use Rattle.apd_world.specs.Proper.{IsProper, IsSafe, IsShown, IsUnused, IsWhole};
     ghost use Rattle.apd_world.specs.Resumed.{AreResumed};
-    ghost use Rattle.apd_world.specs.WorldParts.{durable_of, slots_of, slot_at, is_up_if};
+    ghost use Rattle.apd_world.specs.StandsFor.{BeginsAt, StandsFor};
+    ghost use Rattle.apd_world.specs.WorldParts.{durable_of, is_up_if, queue_of, slot_at, slots_of};
 
     /// A flusher, a core and slots, which keep the outs that wait there; no batch and no receipt waits. It takes no
     /// memory. Over the flusher of a device that shows the table of a core that accepted nothing yet, what is said of a
-    /// stop is so from here on; and where the slots have resumed by that table, they follow it.
+    /// stop is so from here on; and where the slots have resumed by that table, they follow it. Where no out waits
+    /// there it stands for the journal in which nothing has happened.
     pub fn new(alloc: Global, flusher: Flusher<D>, core: Core, slots: Vec<Slot<R>>) -> World<D, R>
         ensures core { (durable_of result).core ≡ core }
         ensures flusher { flusher_of (durable_of result) ≡ flusher }
         ensures batch { waiting_batch (durable_of result).committer ≡ None }
         ensures receipt { waiting_receipt (durable_of result).committer ≡ None }
-        ensures told { (durable_of result).told ≡ 0 }
         ensures slots { slots_of result ≡ slots.items }
         ensures whole { IsUnused core → phase_of flusher ≡ Phase.Idle → IsInside D.model flusher
             → table_of flusher ≡ core.settled → IsWhole D.model (durable_of result) }
         ensures proper { IsUnused core → D.model.honest (device_in flusher) → IsInside D.model flusher
             → IsSteady D.model flusher core.settled → IsProper D.model (durable_of result) }
         ensures following { IsUnused core → AreResumed R.model core.settled slots.items → AreFollowing result }
+        ensures begins { IsUnused core → ((b : Address) → queue_of result b ≡ [])
+            → BeginsAt core.confs core.settled result }
     {
+        core.sound();
         World {
             alloc,
             durable: DurableCore::new(flusher, core),
@@ -71,13 +77,24 @@ impl<D: Disk, R: Radio> World<D, R> {
         self.durable.confs()
     }
 
-    /// Tells a caller's proof what a stop now leaves, between two steps: an image of the table after none of what is not
-    /// settled, or after the batch in flight; from the last call of a batch on, if that succeeded, until it is
-    /// published, after that batch. It does nothing.
+    /// Tells a caller's proof what a stop now leaves, between two steps: an image of the table after none of what is
+    /// not settled, or after the batch in flight; from the last call of a batch on, if that succeeded, until it is
+    /// published, after that batch. So whatever journal the world stands for keeps it. It does nothing.
     pub fn shown(&self)
-        ensures { IsProper D.model (durable_of self.now) → IsShown D.model (durable_of self.now) }
+        ensures images { IsProper D.model (durable_of self.now) → IsShown D.model (durable_of self.now) }
+        ensures kept { IsProper D.model (durable_of self.now) → (j : Journal) → StandsFor self.now j
+            → (image : List ℕ) → D.model.may_leave (device_of (durable_of self.now)) image → Keeps j j image }
     {
         self.durable.shown();
+    }
+
+    /// Tells a caller's proof that the world stands for a journal: for the one that begins at its settled table, with
+    /// what is not settled. It does nothing.
+    pub fn journal(&self)
+        ensures { (j : Journal) × StandsFor self.now j × (j.first ≡ (durable_of self.now).core.settled)
+            × (j.durable ≡ 0) }
+    {
+        self.durable.sound();
     }
 
     /// Tells a caller's proof that a stop now, where no step is made, is as safe as within one. It does nothing.

@@ -1,5 +1,5 @@
 //! The steps of a world.
-ghost use Rattle.std.specs.Prelude.{[]};
+ghost use Rattle.std.specs.Prelude.{[], ◌∷◌};
 ghost use Rattle.apd_world.specs.declared.step.Step.TheVariants.{Hand, Apply};
 ghost use Rattle.apd_mlme.specs.declared.decision.Recipient.TheVariants.{Radio as Of};
 
@@ -13,8 +13,9 @@ use apd_radio::Radio;
 
 impl<D: Disk, R: Radio> World<D, R> {
     ghost use Rattle.apd_world.specs.Following.{AreExact, AreFollowing};
-    ghost use Rattle.apd_world.specs.Proper.{IsProper, IsSafe, IsStepMade};
-    ghost use Rattle.apd_world.specs.Recovery.{LosesNothing};
+    ghost use Rattle.apd_world.specs.Journal.{Journal};
+    ghost use Rattle.apd_world.specs.Proper.{IsSafeAtBoth, IsStepMade};
+    ghost use Rattle.apd_world.specs.StandsFor.{LeadsOn, StandsFor};
     ghost use Rattle.apd_world.specs.WorldParts.{durable_of, slots_of};
     ghost use Rattle.apd_world.specs.WorldRun.{IsWorldStep};
 
@@ -65,21 +66,23 @@ impl<D: Disk, R: Radio> World<D, R> {
         }
     }
 
-    /// Makes one step, and tells its answer. What a stop leaves, and what is spoken of, is as of the durable core's
-    /// step; a step that applies an out leaves the durable core, and any other the slots.
+    /// Makes one step, and tells its answer. What a stop leaves is as of the durable core's step; a step that applies
+    /// an out leaves the durable core, and any other the slots. A stop before it, and one after it, is safe.
     ///
-    /// Whatever steps came before, a stop at any moment until this one is done leaves an image of the table after a
-    /// front of what happened, and every entry that was spoken of by then is in that front (own).
+    /// Whatever journal the world stands for, it stands for a later one after the step, in which what is new is what
+    /// the step told; and what a stop leaves until then is the table after some of what happened, from the front, with
+    /// all of which anything had been said.
     #[tactic(auto, using(crate::proofs::Moving::exact))]
     pub fn step(&mut self, step: &Step<'_>) -> Told
         ensures step { IsWorldStep R.model step.now result self.old self.new }
         ensures made { IsStepMade D.model result (durable_of self.old) (durable_of self.new) }
-        ensures stops { IsSafe D.model (durable_of self.new) (durable_of self.new) }
+        ensures stops { IsSafeAtBoth D.model (durable_of self.old) (durable_of self.new) }
         ensures exact { AreExact R.model (slots_of self.old) → AreExact R.model (slots_of self.new) }
         ensures following { AreFollowing self.old → AreFollowing self.new }
-        ensures nothing_is_lost { IsProper D.model (durable_of self.old)
-            → LosesNothing D.model [] (durable_of self.old) (durable_of self.new) }
+        ensures leads { (j : Journal) → StandsFor self.old j
+            → LeadsOn D.model (step.now ∷ []) (result ∷ []) self.old self.new j }
     {
+        self.durable.stops();
         let told = self.make(step);
         self.durable.stops();
         told

@@ -3,6 +3,7 @@ use Rattle.apd_core.proofs.Queues.{whole}
 use Rattle.apd_world.proofs.Words.{AreExact, AreOfSame, AreResumed, CoreState, HasNotResumed}
 use Rattle.apd_flusher.specs.Outside as flusher
 use Rattle.apd_store.specs.Outside.{device_of as store_device}
+use Rattle.apd_world.proofs.JournalBegins.{begins_at}
 use Rattle.apd_world.proofs.ResumeLemmas.{begun_following, no_out_waits, resumed_exact}
 use Rattle.apd_world.proofs.restarting.begin_anew.Goals as goal
 
@@ -31,6 +32,11 @@ returns-in-Ok-resume_all-clause-resumed g c =
       queues = λ b. no_out_waits g.R.Radio.model _ c.args.table resumed b;
       same = search rules;
     }
+
+pub returns-in-Ok-resume_all-clause-begins : goal.returns-in-Ok-resume_all-clause-begins
+returns-in-Ok-resume_all-clause-begins g c =
+    let begun = c.in-Ok.ensures.begun in
+    begins_at _ c.args.confs c.args.table begun.core begun.sound (returns-in-Ok-resume_all-clause-resumed g c).queues
 
 pub returns-in-Err-resume_all-clause-none : goal.returns-in-Err-resume_all-clause-none
 returns-in-Err-resume_all-clause-none g c =

@@ -1,6 +1,8 @@
-use Rattle.std.proofs.Common.{inr, ap}
+use Rattle.std.proofs.Common.{inr, sym, ap, subst}
 use Rattle.std.proofs.lemmas.Result.{IfErr-weaker, IfOk-weaker}
 use Rattle.apd_world.proofs.ResumeLemmas.{begun_from, ends_so, honestly_begun_from, honestly_not_begun_from, not_begun_from, still_left}
+use Rattle.apd_world.proofs.Words.{State}
+use Rattle.apd_world.specs.StandsFor.{BeginsAt}
 use Rattle.apd_world.specs.declared.fault.WorldFault.TheVariants as world_fault
 use Rattle.apd_world.proofs.StepLemmas.{same_fault}
 use Rattle.apd_world.proofs.restarting.restart.Goals as goal
@@ -19,6 +21,10 @@ returns-in-Ok-clause-begun_honest g c = λ honest.
     c.args.confs c.args.moment w.durable h honest held
     (λ s shown. c.an_image_shows_one_state.ensures (g.D.Disk.model.reads c.args.device) c.in-Ok.table s held.shown
     shown)) c.begin_anew.ensures.begun
+
+pub returns-in-Ok-clause-begins : goal.returns-in-Ok-clause-begins
+returns-in-Ok-clause-begins g c =
+    IfOk-weaker c.begin_anew.result _ _ (λ w h. subst (λ (s : State). BeginsAt c.args.confs s w) (sym h.settled) h) c.begin_anew.ensures.begins
 
 pub returns-in-Ok-clause-none : goal.returns-in-Ok-clause-none
 returns-in-Ok-clause-none g c =

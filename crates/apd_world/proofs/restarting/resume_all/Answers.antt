@@ -1,7 +1,7 @@
 use Rattle.std.proofs.Common.{◌<◌, sym, ap, subst, ◌∙◌, arith, length, get_or, set}
 use Rattle.std.proofs.lemmas.List.{get_or_default}
 use Rattle.apd_world.proofs.Words.{HasNotResumed, IsResumed, installed_rows}
-use Rattle.apd_world.proofs.ResumeLemmas.{one_failed, Resumes}
+use Rattle.apd_world.proofs.ResumeLemmas.{one_failed, one_resumed, Resumes}
 use Rattle.apd_world.proofs.SoFar.{all_so_far, none_so_far, one_so_far, still_same, zip_all}
 use Rattle.apd_world.proofs.restarting.resume_all.Goals as goal
 
@@ -17,12 +17,8 @@ loop-slot-preserved g c =
     let before = get_or now i c.slot-item.result in
     let lt : i < length now = omega (arith, h.many, c.loop-slot-test.true) in
     let s = c.args.table.now in
-    let resumed : IsResumed g.R.Radio.model s c.resume.new.self = record {
-      up = given.up;
-      wanted = given.wanted ∙ ap (installed_rows s) (sym given.bssid);
-      installed = given.installed ∙ ap (installed_rows s) (sym given.bssid);
-      queue = given.queue;
-    } in
+    let own = ap (installed_rows s) (sym given.bssid) in
+    let resumed = one_resumed g.R.Radio.model s c.resume.new.self given.up (given.wanted ∙ own) (given.installed ∙ own) given.queue in
     one_so_far (Resumes g.R.Radio.model s) i c.args.slots.now now before c.resume.new.self (get_or_default now i c.slot-item.result before lt) given.bssid h lt resumed
 
 pub returns-in-Err : goal.returns-in-Err

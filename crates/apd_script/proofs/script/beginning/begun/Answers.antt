@@ -7,6 +7,7 @@ returns-in-Ok-clause-ok g c = λ each. record {
   core = c.in-Ok.ensures.begun.core;
   heard = c.in-Ok.ensures.begun.heard;
   sound = c.in-Ok.ensures.begun.sound;
+  begins = c.in-Ok.ensures.begins;
   slots = c.in-Ok.ensures.resumed.same ∙ each;
   resumed = c.in-Ok.ensures.resumed.resumed;
   following = c.in-Ok.ensures.resumed.following;

@@ -16,7 +16,7 @@ returns-in-Ok g c =
     let step = accept_step old new c.args.input c.args.moment r c.sound.ensures is in
     record {
       step = step;
-      safe = safe_beside g.D.Disk.model old new refl (ap (λ (s : CoreState). s.settled) ok ∙ done.settled) (ap flight_of ok ∙ done.flight) (ap (λ (s : CoreState). s.failed) ok ∙ done.failed) c.stops.ensures step.spoken;
+      safe = safe_beside g.D.Disk.model old new refl (ap (λ (s : CoreState). s.settled) ok ∙ done.settled) (ap flight_of ok ∙ done.flight) (ap (λ (s : CoreState). s.failed) ok ∙ done.failed) c.stops.ensures;
       device = refl;
     }
 

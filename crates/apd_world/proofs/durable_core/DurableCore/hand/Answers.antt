@@ -11,7 +11,7 @@ returns-in-Ok g c =
     let new = record old { core = c.hand.new.self } in
     let ok = c.in-Ok.ensures.ok in
     let step = hand_step old new c.args.to c.from_vec.result c.sound.ensures (record { outs_are = c.from_vec.ensures ∙ c.in-Ok.ensures.outs; only = λ i. record old { core = ok i } }) in
-    let safe = safe_beside g.D.Disk.model old new refl (ap (λ (s : CoreState). s.settled) ok) (ap flight_of ok) (ap (λ (s : CoreState). s.failed) ok) c.stops.ensures step.spoken in
+    let safe = safe_beside g.D.Disk.model old new refl (ap (λ (s : CoreState). s.settled) ok) (ap flight_of ok) (ap (λ (s : CoreState). s.failed) ok) c.stops.ensures in
     record { ok = step; err = tt; lacks = tt; made = made_beside g.D.Disk.model NoMemory old new refl (lacking_not_called _) safe }
 
 pub returns-in-Err-clause-err : goal.returns-in-Err-clause-err

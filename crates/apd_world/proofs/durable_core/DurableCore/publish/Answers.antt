@@ -27,7 +27,7 @@ returns-in-Ok g c =
       device = c.receipt.ensures.device;
       safe = safe_same g.D.Disk.model old new c.receipt.ensures.device c.stops.ensures
           (λ h. settled_whole g.D.Disk.model c.in-Some.receipt old c.publish.new.self c.receipt.new.self done.flight done.ok (c.in-Some.ensures.whole s.settled (flight_of s) s.failed h).1)
-          c.receipt.ensures.keeps.imaged step.spoken;
+          c.receipt.ensures.keeps.imaged;
     }
 
 pub returns-in-Err : goal.returns-in-Err
@@ -58,7 +58,7 @@ returns-in-Err g c =
           (λ h.
           let k = c.in-Some.ensures.whole s.settled (flight_of s) s.failed h in
           refused_whole g.D.Disk.model receipt c.in-Err.receipt old c.publish.new.self mid c' own c.in-Err.ensures.err.1 k.0 k.1 (back.whole s.settled s.failed))
-          (λ i. back.keeps.imaged (c.receipt.ensures.keeps.imaged i)) step.spoken;
+          (λ i. back.keeps.imaged (c.receipt.ensures.keeps.imaged i));
     }
 
 pub returns-in_default-clause-step : goal.returns-in_default-clause-step

@@ -32,7 +32,7 @@ returns-in-Some g c =
     record {
       step = step;
       device = device;
-      safe = safe_same disk old new device c.stops.ensures (offered.whole after t.whole t.handed_in) (λ i. t.keeps.imaged (subst (λ (k : Committer _). IsImaged disk k) (sym committer) i)) step.spoken;
+      safe = safe_same disk old new device c.stops.ensures (offered.whole after t.whole t.handed_in) (λ i. t.keeps.imaged (subst (λ (k : Committer _). IsImaged disk k) (sym committer) i));
     }
 
 pub returns-in-None : goal.returns-in-None

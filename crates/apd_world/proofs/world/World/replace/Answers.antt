@@ -1,14 +1,14 @@
 use Rattle.std.proofs.Common.{◌≡◌, Some, Ok, Err, refl}
 use Rattle.std.specs.Vec.{with_item}
-use Rattle.apd_world.proofs.Words.{durable_of, slot_place, slots_of}
-use Rattle.apd_world.specs.declared.fault.WorldFault.TheVariants as world_fault
-use Rattle.apd_world.proofs.Recovering.{step_loses_nothing}
+use Rattle.apd_world.proofs.Words.{slot_place, slots_of}
+use Rattle.apd_world.proofs.JournalBegins.{replaced_leads}
+use Rattle.apd_world.proofs.JournalLemmas.{still_leads}
 use Rattle.apd_world.proofs.ReplaceLemmas.{placed, replaced_following}
 use Rattle.apd_world.proofs.SlotLemmas.{place_seen}
 use Rattle.apd_world.proofs.world.World.replace.Goals as goal
 
-pub returns-in_default-clause-nothing_is_lost : goal.returns-in_default-clause-nothing_is_lost
-returns-in_default-clause-nothing_is_lost g c = step_loses_nothing g.D.Disk.model (durable_of c.args.self.now) (durable_of c.args.self.now) c.stops.ensures
+pub returns-in_default-clause-leads : goal.returns-in_default-clause-leads
+returns-in_default-clause-leads g c = λ j stands. still_leads g.D.Disk.model c.args.self.now c.args.self.now j c.stops.ensures stands stands
 
 pub returns-in-Ok-clause-replaced : goal.returns-in-Ok-clause-replaced
 returns-in-Ok-clause-replaced g c =
@@ -26,13 +26,10 @@ returns-in-Ok-clause-replaced g c =
     }
 
 pub returns-in-Ok-clause-following : goal.returns-in-Ok-clause-following
-returns-in-Ok-clause-following g c =
-    let old = c.args.self.now in
-    let new = record old { slots = with_item old.slots c.in-Some.place c.replace.new.self } in
-    replaced_following g.D.Disk.model g.R.Radio.model g.R.Radio.frames c.args.bssid c.args.radio old new (Ok c.in-Ok.own) (returns-in-Ok-clause-replaced g c)
+returns-in-Ok-clause-following g c = replaced_following g.D.Disk.model g.R.Radio.model g.R.Radio.frames c.args.bssid c.args.radio c.args.self.now _ _ (returns-in-Ok-clause-replaced g c)
 
-pub returns-in-Ok-clause-nothing_is_lost : goal.returns-in-Ok-clause-nothing_is_lost
-returns-in-Ok-clause-nothing_is_lost g c = step_loses_nothing g.D.Disk.model (durable_of c.args.self.now) (durable_of c.args.self.now) c.stops.ensures
+pub returns-in-Ok-clause-leads : goal.returns-in-Ok-clause-leads
+returns-in-Ok-clause-leads g c = replaced_leads g.D.Disk.model g.R.Radio.model g.R.Radio.frames c.args.bssid c.args.radio _ c.args.self.now _ (returns-in-Ok-clause-replaced g c)
 
 pub returns-in-Err-clause-replaced : goal.returns-in-Err-clause-replaced
 returns-in-Err-clause-replaced g c =
@@ -53,10 +50,7 @@ returns-in-Err-clause-replaced g c =
     }
 
 pub returns-in-Err-clause-following : goal.returns-in-Err-clause-following
-returns-in-Err-clause-following g c =
-    let old = c.args.self.now in
-    let new = record old { slots = with_item old.slots c.in-Some.place c.replace.new.self } in
-    replaced_following g.D.Disk.model g.R.Radio.model g.R.Radio.frames c.args.bssid c.args.radio old new (Err (c.in-Err.back, world_fault.Slot c.args.bssid c.in-Err.fault)) (returns-in-Err-clause-replaced g c)
+returns-in-Err-clause-following g c = replaced_following g.D.Disk.model g.R.Radio.model g.R.Radio.frames c.args.bssid c.args.radio c.args.self.now _ _ (returns-in-Err-clause-replaced g c)
 
-pub returns-in-Err-clause-nothing_is_lost : goal.returns-in-Err-clause-nothing_is_lost
-returns-in-Err-clause-nothing_is_lost g c = step_loses_nothing g.D.Disk.model (durable_of c.args.self.now) (durable_of c.args.self.now) c.stops.ensures
+pub returns-in-Err-clause-leads : goal.returns-in-Err-clause-leads
+returns-in-Err-clause-leads g c = replaced_leads g.D.Disk.model g.R.Radio.model g.R.Radio.frames c.args.bssid c.args.radio _ c.args.self.now _ (returns-in-Err-clause-replaced g c)

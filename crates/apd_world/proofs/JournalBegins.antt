@@ -1,0 +1,96 @@
+-- Worlds that stand for a journal: any, one that has just begun, and one whose radio was replaced.
+use Rattle.std.proofs.Common.{◌≡◌, ℕ, List, [], ◌++◌, Option, Result, refl, sym, ap, subst, ◌∙◌, arith}
+use Rattle.std.specs.Prelude.{map}
+use Rattle.std.proofs.lemmas.List.{append-nil}
+use Rattle.apd_world.proofs.Words.{Bssid, Conf, Control, CoreState, DiskModel, IsCore, IsReplaced, Out, Radio, RadioModel, Recipient, Sound, State, World, WorldFault, durable_of, new_core, queue_of, ready_for, slot_at, slots_of, up_to}
+use Rattle.apd_core.specs.Held.{Queue, queue_of as held_queue}
+use Rattle.apd_core.specs.Invariant.{AreDecided}
+use Rattle.apd_core.proofs.HeldLemmas.{queue_of-no_outs}
+use Rattle.apd_core.proofs.Settling.{decided_fit}
+use Rattle.apd_world.specs.Journal.{Journal}
+use Rattle.apd_world.specs.StandsFor.{BeginsAt, IsJournalOf, LeadsSafely, StandsFor, waiting_for}
+use Rattle.apd_world.proofs.JournalLemmas.{still_leads}
+use Rattle.apd_world.proofs.Moving.{moved_flows}
+use Rattle.apd_world.proofs.ReplaceLemmas.{replaced_moved, same_durable}
+
+module _ {D R : Type 0} (w : World D R) where
+  abbrev core : CoreState
+  core = (durable_of w).core
+
+  -- the journal that begins at the settled table, with what is not settled
+  module _ (is : IsCore core) where
+    abbrev to_give : Recipient → List Out
+    to_give r = waiting_for r w ++ ready_for r core
+
+    abbrev pub begun : Journal
+    begun = record {
+      confs = core.confs;
+      first = core.settled;
+      before = core.number;
+      owed = to_give;
+      happened = is.unsettled.happened;
+      durable = 0;
+      heard = core.heard;
+      given = λ r. [];
+      read = [];
+    }
+
+    pub begun_stands : StandsFor w begun
+    begun_stands = record {
+      journal = record {
+        sound = is.sound;
+        fit = decided_fit core.confs is.unsettled.happened core.unsettled core.settled is.unsettled.decided;
+        durable = omega arith;
+        given = λ r. (to_give r, append-nil (to_give r));
+        read = tt;
+      };
+      confs = refl;
+      number = omega arith;
+      settled = refl;
+      unsettled = is.unsettled.decided;
+      held = is.unsettled.outs;
+      heard_so = refl;
+      waiting = λ r. refl;
+    }
+
+  -- the blank one, where a core begins with this table, and no out waits
+  module _ (confs : List Conf) (table : State) (is : core ≡ new_core table confs core.heard) (sound : Sound table) (empty : (b : Bssid) → queue_of w b ≡ []) where
+    none_held : (r : Recipient) → held_queue core.confs core.held r ≡ []
+    none_held r = ap (λ (s : CoreState). held_queue s.confs s.held r) is ∙ queue_of-no_outs confs r
+
+    none_ready : (r : Recipient) → ready_for r core ≡ []
+    none_ready r = ap (λ (q : Queue). map (λ (x : ℕ × Out). x.1) (up_to core.number q)) (none_held r)
+
+    none_waits : (r : Recipient) → waiting_for r w ≡ []
+    none_waits (Radio b) = empty b
+    none_waits Control = refl
+
+    pub begins_at : BeginsAt confs table w
+    begins_at = record {
+      journal = record { sound = sound; fit = tt; durable = omega arith; given = λ r. ([], refl); read = tt };
+      confs = ap (λ (s : CoreState). s.confs) is;
+      number = ap (λ (s : CoreState). s.number) is;
+      settled = ap (λ (s : CoreState). s.settled) is;
+      unsettled = subst (λ (s : CoreState). AreDecided s.confs s.settled [] s.unsettled) (sym is) tt;
+      held = λ r. none_held r ∙ sym (ap (λ (q : Queue). up_to core.number q ++ []) (none_held r));
+      heard_so = refl;
+      waiting = λ r. sym (λ i. none_waits r i ++ none_ready r i);
+    }
+
+-- a replaced radio leaves the journal
+module _ {D R : Type 0} (disk : DiskModel D) (radio : RadioModel R) (frames : R → Option (List (List ℕ))) (b : Bssid) (other : R) (answer : Result R (R × WorldFault)) (old new : World D R)
+    (h : IsReplaced disk radio frames b other answer old new) (j : Journal) (stands : StandsFor old j) where
+  abbrev same : durable_of new ≡ durable_of old
+  same = same_durable disk radio frames b other old new answer h
+
+  still_waits : (r : Recipient) → waiting_for r new ≡ waiting_for r old
+  still_waits (Radio c) =
+      moved_flows [] [] (slot_at (slots_of old) c) (slot_at (slots_of new) c) (replaced_moved disk radio frames b other old new answer h c)
+      ∙ append-nil (queue_of old c)
+  still_waits Control = refl
+
+  replaced_stands : StandsFor new j
+  replaced_stands = subst (λ X. X) (λ i. IsJournalOf (sym same i).core (λ r. sym (still_waits r) i) j) stands
+
+  pub replaced_leads : LeadsSafely disk [] [] old new j j
+  replaced_leads = still_leads disk old new j h.safe stands replaced_stands

@@ -1,0 +1,163 @@
+-- What an image that a journal keeps says of the stations.
+use Rattle.std.proofs.Common.{Bool, true, false, cond, ◌≡◌, ◌≢◌, ◌⊎◌, inl, inr, ⊎_elim, ℕ, zero, suc, ◌+◌, ◌-◌, ◌≤◌, ◌<◌, List, [], ◌∷◌, ◌++◌, length, take, Option, Some, None, refl, sym, ap, subst, ◌∙◌, arith}
+use Rattle.std.proofs.lemmas.Bool.{cases_eq}
+use Rattle.std.proofs.lemmas.List.{length-take-le, take-append-le, take-take}
+use Rattle.std.specs.List.{AllByRecursion, Contains}
+use Rattle.std.specs.Prelude.{IsSomeAnd, filter, map}
+use Rattle.apd_base.specs.declared.station.Aid.{Aid}
+use Rattle.apd_frame.specs.declared.replies.ReplyBody.{ReplyBody}
+use Rattle.apd_frame.specs.declared.replies.ReplyBody.TheVariants.{Assoc, Reassoc}
+use Rattle.apd_mlme.specs.declared.decision.Out.TheVariants.{Install, Frame}
+use Rattle.apd_world.proofs.Words.{Addr, Answer, AreFit, Bssid, Conf, Happening, LastHeard, Out, Radio, Recipient, Shows, Sound, State, aid_at, outs_run, outs_to, run, verdict}
+use Rattle.apd_core.proofs.Queues.{all_weaker}
+use Rattle.apd_mlme.specs.Outs.{is_same}
+use Rattle.apd_mlme.specs.laws.Outs.{AreSo, IsSaidSo, IsSo}
+use Rattle.apd_mlme.proofs.TrueOutsLemmas.{all_both, verdict_so}
+use Rattle.apd_mlme.proofs.VerdictLemmas.{run_sound, stay_end}
+use Rattle.apd_base.specs.State.{empty_state}
+use Rattle.apd_store.specs.Image.{IsCurrent}
+use Rattle.apd_world.specs.Journal.{GoesOn, IsJournal, Journal, Keeps, after}
+use Rattle.apd_world.specs.Lasting.{BodyLasts, Lasts, OutLasts, SaysOtherwise, WasSo}
+use Rattle.apd_world.proofs.Goings.{is_or_not}
+
+-- a state that an image shows is sound
+current_sound : (half other : List ℕ) (gate : ℕ) (s : State) → IsCurrent half other gate s → Sound s
+current_sound half other gate s c = subst Sound c.shows.state_is (stay_end c.shows.changes empty_state c.shows.sound)
+
+pub shown_sound : (image : List ℕ) (s : State) → Shows image s → Sound s
+shown_sound image s h = ⊎_elim (current_sound h.a h.b h.gate s) (current_sound h.b h.a h.gate s) h.current
+
+-- ---- it stays until something says otherwise
+same_or_not : (o : Option ℕ) (n : ℕ) → (o ≡ Some n) ⊎ (o ≢ Some n)
+same_or_not None n = inr (λ is. cc)
+same_or_not (Some m) n = ⊎_elim (λ same. inl (ap Some same)) (λ apart. inr (λ is. apart (let both : Some m ≡ Some n = is in cc))) (cases_eq m n)
+
+module _ (j : Journal) (b : Bssid) (a : Addr) (aid : ℕ) where
+  abbrev IsSoAt : ℕ → Type 0
+  IsSoAt n = aid_at (after j n) b a ≡ Some aid
+
+  stays : (more n : ℕ) → IsSoAt n → n + more ≤ length j.happened → IsSoAt (n + more) ⊎ SaysOtherwise j n b a aid
+  stays zero n so within = inl (subst IsSoAt (let same : n ≡ n + 0 = omega arith in same) so)
+  stays (suc more) n so within = ⊎_elim
+      (λ still. ⊎_elim
+      (λ end. inl (subst IsSoAt (let same : n + 1 + more ≡ n + suc more = omega arith in same) end))
+      (λ o. inr (record { place = o.place; later = (let l = o.later in omega (arith, l)); there = o.there; was = o.was; ended = o.ended }))
+      (stays more (n + 1) still (omega (arith, within))))
+      (λ ended. inr (record { place = n; later = omega arith; there = omega (arith, within); was = so; ended = ended }))
+      (same_or_not (aid_at (after j (n + 1)) b a) aid)
+
+module _ (es : List Happening) (m : LastHeard) (g : Recipient → List Out) (answers : List Answer) (old new : Journal) (goes : GoesOn es m g answers old new) where
+  -- the state after some of what had happened
+  after_same : (n : ℕ) → n ≤ length old.happened → after new n ≡ after old n
+  after_same n within =
+      ap (λ (z : Journal). after z n) goes.only ∙ ap (run old.first old.confs) (take-append-le n old.happened es within)
+
+  pub lasts : (image : List ℕ) (n : ℕ) (b : Bssid) (a : Addr) (aid : ℕ) → IsJournal old → Keeps old new image → n ≤ old.durable → aid_at (after old n) b a ≡ Some aid
+      → Lasts new image n b a aid
+  lasts image n b a aid journal keeps durable so =
+      let d = journal.durable in
+      let k = keeps.all_durable in
+      let w = keeps.within in
+      let more = keeps.front - n in
+      let reach : n + more ≡ keeps.front = omega (arith, durable, k) in
+      let start = ap (λ (s : State). aid_at s b a) (after_same n (omega (arith, durable, d))) ∙ so in
+      record {
+        was = start;
+        still = ⊎_elim
+            (λ so. inl (after new keeps.front, keeps.shows, subst (λ m. aid_at (after new m) b a ≡ Some aid) reach so))
+            (λ o. inr o)
+            (stays new b a aid more n start (omega (arith, reach, w)));
+      }
+
+-- ---- what an out says is so
+-- those of a list to one recipient
+outs_so : (r : Recipient) (s : State) (outs : List (Recipient × Out)) → AreSo s outs → AllByRecursion (λ out. IsSo s (r, out)) (outs_to r outs)
+outs_so r s [] all = tt
+outs_so r s (x ∷ outs) all =
+    let rest = outs_so r s outs all.1 in
+    let P = λ (t : Bool). AllByRecursion (λ out. IsSo s (r, out)) (map (λ (y : Recipient × Out). y.1) (cond t (x ∷ filter (λ y. is_same r y.0) outs) (filter (λ y. is_same r y.0) outs))) in
+    elim (is_or_not r x.0) [
+      | inl same ↦ elim (is_same r x.0) as P [ true ↦ (subst (λ (q : Recipient). IsSo s (q, x.1)) (sym same) all.0, rest) | false ↦ rest ]
+      | inr apart ↦ subst P (sym apart) rest
+    ]
+
+all_front : {A : Type 0} (P : A → Type 0) (xs ys : List A) → AllByRecursion P (xs ++ ys) → AllByRecursion P xs
+all_front P [] ys all = tt
+all_front P (x ∷ xs) ys all = (all.0, all_front P xs ys all.1)
+
+fit_front : (confs : List Conf) (n : ℕ) (hs : List Happening) (s : State) → AreFit s confs hs → AreFit s confs (take n hs)
+fit_front confs zero hs s fit = tt
+fit_front confs (suc n) [] s fit = tt
+fit_front confs (suc n) (h ∷ hs) s fit = (fit.0, fit_front confs n hs (verdict s confs h).state fit.1)
+
+module _ (confs : List Conf) (r : Recipient) where
+  abbrev SoIn : State → List Happening → Out → Type 0
+  SoIn s hs out = (n : ℕ) × (n < length hs) × IsSo (run s confs (take (n + 1) hs)) (r, out)
+
+  run_so : (hs : List Happening) (s : State) → AreFit s confs hs → Sound s → AllByRecursion (SoIn s hs) (outs_run r s confs hs)
+  run_so [] s fit sound = tt
+  run_so (h ∷ hs) s fit sound =
+      let v = verdict s confs h in
+      let after_one = run_sound confs (h ∷ []) s (fit.0, tt) sound in
+      all_both (SoIn s (h ∷ hs)) (outs_to r v.outs) (outs_run r v.state confs hs)
+      (all_weaker (λ out. IsSo v.state (r, out)) (SoIn s (h ∷ hs)) (λ out so. (0, omega arith, so)) (outs_to r v.outs) (outs_so r v.state v.outs (verdict_so s confs sound h)))
+      (all_weaker (SoIn v.state hs) (SoIn s (h ∷ hs))
+      (λ out t. (let lt = t.1 in (suc t.0, omega (arith, lt), subst (λ m. IsSo (run s confs (take m (h ∷ hs))) (r, out)) (let e : suc (t.0 + 1) ≡ suc t.0 + 1 = omega arith in e) t.2)))
+      (outs_run r v.state confs hs) (run_so hs v.state fit.1 after_one))
+
+module _ (j : Journal) (r : Recipient) (journal : IsJournal j) where
+  abbrev IsTrueOf : Out → Type 0
+  IsTrueOf out = Contains (j.owed r) out ⊎ WasSo j r out
+
+  abbrev durable : List Happening
+  durable = take j.durable j.happened
+
+  owed_in : (all rest : List Out) → ((out : Out) → Contains rest out → Contains all out) → AllByRecursion (Contains all) rest
+  owed_in all [] within = tt
+  owed_in all (out ∷ rest) within = (within out (0, omega arith, refl), owed_in all rest (λ o has. within o (suc has.0, (let lt = has.1 in omega (arith, lt)), has.2)))
+
+  so_of : (out : Out) → SoIn j.confs r j.first durable out → WasSo j r out
+  so_of out t =
+      let many = length-take-le j.durable j.happened journal.durable in
+      let lt = t.1 in
+      record {
+        place = t.0;
+        durable = omega (arith, lt, many);
+        so = subst (λ hs. IsSo (run j.first j.confs hs) (r, out)) (take-take (t.0 + 1) j.durable j.happened (omega (arith, lt, many))) t.2;
+      }
+
+  pub told_so : AllByRecursion IsTrueOf (j.given r)
+  told_so =
+      let front = journal.given r in
+      let outs = outs_run r j.first j.confs durable in
+      all_front IsTrueOf (j.given r) front.0
+      (subst (AllByRecursion IsTrueOf) front.1
+      (all_both IsTrueOf (j.owed r) outs
+      (all_weaker (Contains (j.owed r)) IsTrueOf (λ out has. inl has) (j.owed r) (owed_in (j.owed r) (j.owed r) (λ o has. has)))
+      (all_weaker (SoIn j.confs r j.first durable) IsTrueOf (λ out t. inr (so_of out t)) outs (run_so j.confs r durable j.first (fit_front j.confs j.durable j.happened j.first journal.fit) journal.sound))))
+
+-- ---- what a radio was given lasts
+some_weaker : {T : Type 0} (o : Option T) (P Q : T → Type 0) → ((x : T) → P x → Q x) → IsSomeAnd o P → IsSomeAnd o Q
+some_weaker (Some x) P Q f h = f x h
+some_weaker None P Q f h = h
+
+module _ (es : List Happening) (m : LastHeard) (g : Recipient → List Out) (answers : List Answer) (old new : Journal) (goes : GoesOn es m g answers old new) (image : List ℕ) (journal : IsJournal old)
+    (keeps : Keeps old new image) (b : Bssid) where
+  module _ (n : ℕ) (le : n ≤ old.durable) where
+    lasts_at : (a : Addr) (aid : Aid) → aid_at (after old n) b a ≡ Some aid.number → Lasts new image n b a aid.number
+    lasts_at a aid so = lasts es m g answers old new goes image n b a aid.number journal keeps le so
+
+    body_lasts : (a : Addr) (body : ReplyBody) → IsSaidSo (after old n) b a body → BodyLasts new image n b a body
+    body_lasts a (Assoc response) so = λ success. some_weaker response.aid _ _ (lasts_at a) (so success)
+    body_lasts a (Reassoc response) so = λ success. some_weaker response.aid _ _ (lasts_at a) (so success)
+    body_lasts a body so = tt
+
+    out_lasts : (out : Out) → IsSo (after old n) (Radio b, out) → OutLasts new image n b out
+    out_lasts (Install a aid) so = lasts_at a aid so
+    out_lasts (Frame bytes) so = (so.0, so.1, so.2, body_lasts so.0.to so.0.body so.3)
+    out_lasts out so = tt
+
+  pub given_lasts : AllByRecursion (λ out. Contains (old.owed (Radio b)) out ⊎ ((n : ℕ) × (n ≤ old.durable) × OutLasts new image n b out)) (old.given (Radio b))
+  given_lasts = all_weaker _ _
+      (λ out so. ⊎_elim (λ owed. inl owed) (λ was. let lt = was.durable in let le : was.place + 1 ≤ old.durable = omega (arith, lt) in inr (was.place + 1, le, out_lasts (was.place + 1) le out was.so)) so)
+      (old.given (Radio b)) (told_so old (Radio b) journal)

@@ -1,0 +1,9 @@
+use Rattle.std.proofs.Common.{refl}
+use Rattle.apd_world.proofs.JournalBegins.{begun, begun_stands}
+use Rattle.apd_world.proofs.world.World.journal.Goals as goal
+
+pub returns : goal.returns
+returns g c =
+    let w = c.args.self.now in
+    let is = c.sound.ensures in
+    (begun w is, begun_stands w is, refl, refl)

@@ -1,0 +1,80 @@
+-- The theorem, in the words of one who sees a world from outside: what happened, what was said, what a stop leaves.
+use Rattle.std.specs.Prelude.{◌≡◌, ◌+◌, ◌≤◌, ℕ, true, List, [], ◌++◌, length, take}
+use Rattle.std.specs.List.{AllByRecursion}
+use Rattle.std.specs.FinMap as maps
+use Rattle.apd_world.specs.Words.{Addr, Answer, AreFit, Conf, Happening, LastHeard, Out, RadioModel, Recipient, Shows, Slot, Sound, State, aid_at, bssid_of, is_up_of, outs_run, radio_of, run, text}
+use Rattle.apd_slot.specs.Slots.{queue_of}
+
+-- What is known from outside since some moment: the configurations; the state then, the last entry's number, and the
+-- outs that each recipient was owed; what happened since, in order, how many of these, from the front, are durable, and
+-- when each station was heard last; and what was said: the outs that each recipient was given, and answers to queries.
+pub record Journal : Type 0 where
+  pub confs : List Conf
+  pub first : State
+  pub before : ℕ
+  pub owed : Recipient → List Out
+  pub happened : List Happening
+  pub durable : ℕ
+  pub heard : LastHeard
+  pub given : Recipient → List Out
+  pub read : List Answer
+
+-- at the very start: nothing has happened, nothing is owed, and nothing was said
+abbrev pub blank : List Conf → State → LastHeard → Journal
+blank confs table heard = record {
+  confs = confs;
+  first = table;
+  before = 0;
+  owed = λ r. [];
+  happened = [];
+  durable = 0;
+  heard = heard;
+  given = λ r. [];
+  read = [];
+}
+
+-- the state after the first so many
+abbrev pub after : Journal → ℕ → State
+after j count = run j.first j.confs (take count j.happened)
+
+-- an answer gives the state after some of what is durable, and the number of the last entry of these
+pub record SpeaksOf (j : Journal) (answer : Answer) : Type 0 where
+  pub count : ℕ
+  pub durable : count ≤ j.durable
+  pub number : answer.number ≡ j.before + count
+  pub is : answer.text ≡ text (after j count) j.confs answer.query
+
+-- All that happened could happen, from a sound state on; and what was said, in order, is of what is durable alone.
+pub record IsJournal (j : Journal) : Type 0 where
+  pub sound : Sound j.first
+  pub fit : AreFit j.first j.confs j.happened
+  pub durable : j.durable ≤ length j.happened
+  pub given : (r : Recipient) → (rest : List Out)
+      × (j.owed r ++ outs_run r j.first j.confs (take j.durable j.happened) ≡ j.given r ++ rest)
+  pub read : AllByRecursion (SpeaksOf j) j.read
+
+-- A journal goes on: behind what stood there this happened, was given and was read, and no fewer are durable.
+pub record GoesOn (happened : List Happening) (heard : LastHeard) (given : Recipient → List Out) (read : List Answer)
+    (old new : Journal) : Type 0 where
+  pub only : new ≡ record old {
+    happened = old.happened ++ happened;
+    heard = heard;
+    given = λ r. old.given r ++ given r;
+    read = old.read ++ read;
+    durable = new.durable;
+  }
+  pub durable : old.durable ≤ new.durable
+
+-- THE THEOREM: a stop while one journal becomes another leaves the state after some of what happened, from the front;
+-- and all that was durable of the one, so all that had been said by then, is among it.
+pub record Keeps (old new : Journal) (image : List ℕ) : Type 0 where
+  pub front : ℕ
+  pub all_durable : old.durable ≤ front
+  pub within : front ≤ length new.happened
+  pub shows : Shows image (after new front)
+
+-- A slot resumed at a state: it is up, its radio has exactly the associated stations, and no out waits.
+pub record Resumed {R : Type 0} (radio : RadioModel R) (s : State) (slot : Slot R) : Type 0 where
+  pub up : is_up_of slot ≡ true
+  pub driver : (a : Addr) → maps.get (radio.stations (radio_of slot)) a ≡ aid_at s (bssid_of slot) a
+  pub queue : queue_of slot ≡ []

@@ -1,0 +1,85 @@
+-- How a world is tied to a journal, and how steps lead from one to another. Who reads the theorem need not know the
+-- tie: a world has it from its beginning on, each call keeps it, and what it ties to is a journal.
+use Rattle.std.specs.Prelude.{◌≡◌, ◌+◌, List, [], ◌∷◌, ◌++◌, length, drop}
+use Rattle.apd_world.specs.Words.{Answer, Answered, Conf, Control, CoreState, DiskModel, LeavesOnly, Out, Radio, Recipient, State, Step, Told, World, ready_for, run}
+use Rattle.apd_world.specs.CoreRun.{AreHeldFor, AreUnsettled}
+use Rattle.apd_world.specs.Journal.{GoesOn, IsJournal, Journal, Keeps, after, blank}
+use Rattle.apd_world.specs.Outside.{device_of}
+use Rattle.apd_world.specs.Proper.{IsProper}
+use Rattle.apd_world.specs.Steps.{Account, account, given}
+use Rattle.apd_world.specs.WorldParts.{durable_of, queue_of}
+use Rattle.apd_world.specs.WorldRun.{applied}
+
+-- ---- what steps told
+-- where a journal stands: nothing more has happened
+abbrev pub standing : Journal → Account
+standing j = record { happened = []; state = run j.first j.confs j.happened; heard = j.heard }
+
+-- what happened by it, and when each station was heard last
+abbrev pub told_of : Journal → List Step → List Told → Account
+told_of j steps tolds = account j.confs steps tolds (standing j)
+
+-- a radio is given what is applied at its slot, and control what is handed to it
+abbrev pub said_by : Recipient → Step → Told → List Out
+said_by (Radio b) step told = applied b step told
+said_by Control step told = given Control step told
+
+abbrev pub said_to : Recipient → List Step → List Told → List Out
+said_to r (step ∷ steps) (told ∷ tolds) = said_by r step told ++ said_to r steps tolds
+said_to r steps tolds = []
+
+abbrev pub answered_by : Told → List Answer
+answered_by (Answered answer) = answer ∷ []
+answered_by told = []
+
+abbrev pub all_answered : List Told → List Answer
+all_answered [] = []
+all_answered (told ∷ tolds) = answered_by told ++ all_answered tolds
+
+-- ---- worlds
+-- the outs that wait for a recipient beside the durable core
+abbrev pub waiting_for : {D R : Type 0} → Recipient → World D R → List Out
+waiting_for (Radio b) w = queue_of w b
+waiting_for Control w = []
+
+-- The k-th that happened is entry `before + k`. The durable ones are the settled entries, and the settled table is the
+-- state after them; the others are the entries that are not settled, and their outs are held. Of the outs of the
+-- durable ones, what a recipient was not given yet waits for it beside the core or is ready.
+pub record IsJournalOf (core : CoreState) (waits : Recipient → List Out) (j : Journal) : Type 0 where
+  pub journal : IsJournal j
+  pub confs : core.confs ≡ j.confs
+  pub number : core.number ≡ j.before + j.durable
+  pub settled : core.settled ≡ after j j.durable
+  pub unsettled : AreUnsettled (drop j.durable j.happened) core
+  pub held : (r : Recipient) → AreHeldFor r (drop j.durable j.happened) core
+  pub heard_so : core.heard ≡ j.heard
+  pub waiting : (r : Recipient) → (journal.given r).0 ≡ waits r ++ ready_for r core
+
+abbrev pub StandsFor : {D R : Type 0} → World D R → Journal → Type 0
+StandsFor w j = IsJournalOf (durable_of w).core (λ r. waiting_for r w) j
+
+-- of these configurations and from this table on, where nothing has happened yet
+abbrev pub BeginsAt : {D R : Type 0} → List Conf → State → World D R → Type 0
+BeginsAt confs table w = StandsFor w (blank confs table (durable_of w).core.heard)
+
+-- Steps that told so lead from a journal of the old world to one of the new: what is new in it is what they told.
+pub record LeadsTo {D R : Type 0} (steps : List Step) (tolds : List Told) (old new : World D R)
+    (j later : Journal) : Type 0 where
+  pub each : length tolds ≡ length steps
+  pub stands : StandsFor new later
+  pub goes_on : GoesOn (told_of j steps tolds).happened (told_of j steps tolds).heard (λ r. said_to r steps tolds)
+      (all_answered tolds) j later
+
+module _ {D R : Type 0} (disk : DiskModel D) where
+  -- and, from a proper world on, each image that a stop leaves meanwhile is kept
+  pub record LeadsSafely (steps : List Step) (tolds : List Told) (old new : World D R)
+      (j later : Journal) : Type 0 where
+    pub leads : LeadsTo steps tolds old new j later
+    pub proper : IsProper disk (durable_of old) → IsProper disk (durable_of new)
+    pub keeps : IsProper disk (durable_of old)
+        → LeavesOnly disk (device_of (durable_of old)) (device_of (durable_of new)) (Keeps j later)
+
+  -- to some journal
+  pub record LeadsOn (steps : List Step) (tolds : List Told) (old new : World D R) (j : Journal) : Type 0 where
+    pub later : Journal
+    pub safely : LeadsSafely steps tolds old new j later
