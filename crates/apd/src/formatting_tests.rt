@@ -39,7 +39,7 @@ fn rows_of(rt: &(impl Files<File = File> + AllocGlobal), name: &str) -> Result<u
 }
 
 /// Makes the file of a name a store, and gives why not, and what was printed.
-fn formatted(
+fn format_file(
     rt: &(impl Files<File = File> + AllocGlobal),
     name: &str,
 ) -> Result<(Option<FormatFault>, Vec<u8>), Fail> {
@@ -60,7 +60,7 @@ fn a_file_becomes_an_empty_store(rt: HostRuntime) -> Result<(), Fail> {
     let _ = fs::remove_file(&rt, name);
     // Where there is none, and over what is there.
     for _ in 0..2 {
-        let (fault, out) = formatted(&rt, name)?;
+        let (fault, out) = format_file(&rt, name)?;
         assert_eq!(rt; fault, None);
         assert_eq!(rt; out.as_slice(), b"formatted\n".as_slice());
         let (length, front) = bytes_of(&rt, name)?;
@@ -77,7 +77,7 @@ fn a_file_becomes_an_empty_store(rt: HostRuntime) -> Result<(), Fail> {
 fn a_store_of_version_1_becomes_an_empty_store(rt: HostRuntime) -> Result<(), Fail> {
     let name = "old_store_of_a_test";
     make_old_store(&rt, name)?;
-    let (fault, out) = formatted(&rt, name)?;
+    let (fault, out) = format_file(&rt, name)?;
     assert_eq!(rt; fault, None);
     assert_eq!(rt; out.as_slice(), b"formatted\n".as_slice());
     let (_length, front) = bytes_of(&rt, name)?;
@@ -92,7 +92,7 @@ fn faults_of_a_store_s_file_are_printed_in_these_words(rt: HostRuntime) -> Resul
     let alloc = rt.alloc();
     let name = "no_store_of_a_test";
     fs::write(&rt, name, b"RAPSTOR1")?;
-    let (fault, out) = formatted(&rt, name)?;
+    let (fault, out) = format_file(&rt, name)?;
     assert_eq!(rt; fault, Some(FormatFault::Store(StoreFault::NotAStore)));
     assert_eq!(rt; out.len(), 0);
     let (length, _) = bytes_of(&rt, name)?;

@@ -200,7 +200,7 @@ where
 
 /// Prints what a run came to, and gives the exit status: 0 where all went well, 1 for a fault, 2 for a wrong command
 /// line or a call for help. The version goes to standard output, and help to standard error.
-fn told(
+fn tell(
     rt: &(impl Print + Eprint),
     done: Result<Option<clap::Error>, ProgramFault>,
 ) -> io::Result<ExitCode> {
@@ -224,9 +224,9 @@ fn told(
 fn main(rt: HostRuntime) -> io::Result<ExitCode> {
     let streams = match hold_closed_streams(&rt) {
         Ok(streams) => streams,
-        Err(fault) => return told(&rt, Err(ProgramFault::Open(fault))),
+        Err(fault) => return tell(&rt, Err(ProgramFault::Open(fault))),
     };
-    let ended = told(&rt, run(&rt));
+    let ended = tell(&rt, run(&rt));
     drop(streams);
     ended
 }

@@ -1,6 +1,6 @@
 use crate::running::run_and_log;
 use crate::scripting_tests::make_old_store;
-use crate::{ProgramFault, command, no_text, told};
+use crate::{ProgramFault, command, no_text, tell};
 use apd_disk::FileDisk;
 use apd_store::format;
 use log::Log;
@@ -104,7 +104,7 @@ impl Eprint for Page {
 }
 
 /// What a run that came to this prints, and whether it ends with this status.
-fn printed_page(
+fn page_and_status(
     alloc: Global,
     done: Result<Option<clap::Error>, ProgramFault>,
     status: u8,
@@ -113,7 +113,7 @@ fn printed_page(
         alloc,
         text: Cell::new(None),
     };
-    let ended = told(&page, done)?;
+    let ended = tell(&page, done)?;
     let text = page.text.take().unwrap_or(String::new(alloc));
     Ok((text, ended == ExitCode::from(status)))
 }
@@ -121,7 +121,7 @@ fn printed_page(
 /// What is printed of these words, and whether they end with this status.
 fn page_of(alloc: Global, words: &[&str], status: u8) -> Result<(String, bool), Fail> {
     let error = command(alloc)?.try_get_matches_from(words).err();
-    printed_page(alloc, Ok(error), status)
+    page_and_status(alloc, Ok(error), status)
 }
 
 #[test]
@@ -137,7 +137,7 @@ fn wrong_words_are_told(rt: HostRuntime) -> Result<(), Fail> {
 #[test]
 fn words_that_are_no_text_are_wrong(rt: HostRuntime) -> Result<(), Fail> {
     let error = no_text(rt.alloc())?;
-    let (page, ended) = printed_page(rt.alloc(), Ok(Some(error)), 2)?;
+    let (page, ended) = page_and_status(rt.alloc(), Ok(Some(error)), 2)?;
     let text = "2error: invalid UTF-8 was detected in one or more arguments\n";
     assert!(rt; page.as_str().starts_with(text), "{page}");
     assert!(rt; ended, "{page}");
@@ -146,9 +146,9 @@ fn words_that_are_no_text_are_wrong(rt: HostRuntime) -> Result<(), Fail> {
 
 #[test]
 fn a_fault_is_told(rt: HostRuntime) -> Result<(), Fail> {
-    let (text, ended) = printed_page(rt.alloc(), Err(ProgramFault::NoMemory), 1)?;
+    let (text, ended) = page_and_status(rt.alloc(), Err(ProgramFault::NoMemory), 1)?;
     assert_eq!(rt; (text.as_str(), ended), ("2apd: out of memory\n", true));
-    let (text, ended) = printed_page(rt.alloc(), Ok(None), 0)?;
+    let (text, ended) = page_and_status(rt.alloc(), Ok(None), 0)?;
     assert_eq!(rt; (text.as_str(), ended), ("", true));
     Ok(())
 }
@@ -173,7 +173,7 @@ where
     };
     match run_and_log(rt, matches) {
         Ok(()) => Err(Fail::new("it served")),
-        Err(fault) => match printed_page(alloc, Err(ProgramFault::Running(fault)), 1)? {
+        Err(fault) => match page_and_status(alloc, Err(ProgramFault::Running(fault)), 1)? {
             (text, true) => Ok(text),
             _ => Err(Fail::new("another status")),
         },

@@ -10,7 +10,7 @@ use std::io::{self, BufRead, BufReader, Read, Write};
 use std::rt::Files;
 use std::test::Fail;
 
-fn built_in(alloc: Global) -> Result<Confs, Fail> {
+fn new_confs(alloc: Global) -> Result<Confs, Fail> {
     let mut list = Vec::new(alloc);
     list.push(Conf::built_in(alloc)?)?;
     match Confs::new(list) {
@@ -58,14 +58,14 @@ fn fault_of(
         Ok(disk) => disk,
         Err(fault) => return Ok(Some(ProgramFault::Open(fault))),
     };
-    match run_on_store(alloc, disk, built_in(alloc)?, script, out) {
+    match run_on_store(alloc, disk, new_confs(alloc)?, script, out) {
         Ok(_) => Ok(None),
         Err(fault) => Ok(Some(ProgramFault::Script(fault))),
     }
 }
 
 /// What a script on the store of a file prints, and then its fault as the program prints it.
-pub fn printed(
+pub fn script_output(
     rt: &(impl Files<File = File> + AllocGlobal),
     name: &str,
     script: &[u8],
@@ -104,7 +104,7 @@ fn a_store_keeps_the_station_for_the_next_run(rt: HostRuntime) -> Result<(), Fai
         ),
         (b"cmd STA 02:00:00:00:00:aa\n", SHOWN),
     ] {
-        let out = printed(&rt, name, script)?;
+        let out = script_output(&rt, name, script)?;
         assert_eq!(rt; out.as_slice(), want);
     }
     fs::remove_file(&rt, name)?;
@@ -132,7 +132,7 @@ impl Write for Closed {
 }
 
 /// Why a script on the store of a file is given up, where the device fails behind so many calls.
-fn given_up<I: BufRead + Drop, W: Write>(
+fn give_up<I: BufRead + Drop, W: Write>(
     rt: &(impl Files<File = File> + AllocGlobal),
     name: &str,
     calls: u64,
@@ -144,7 +144,7 @@ fn given_up<I: BufRead + Drop, W: Write>(
         return Err(Fail::new("the store can't be opened"));
     };
     let disk = FuseDisk::new(disk, calls);
-    match run_on_store(alloc, disk, built_in(alloc)?, reader, writer) {
+    match run_on_store(alloc, disk, new_confs(alloc)?, reader, writer) {
         Ok(_world) => Err(Fail::new("there is no fault")),
         Err(fault) => Ok(fault),
     }
@@ -152,7 +152,7 @@ fn given_up<I: BufRead + Drop, W: Write>(
 
 /// Whether the store of a file still has the station.
 fn has_the_station(rt: &(impl Files<File = File> + AllocGlobal), name: &str) -> Result<bool, Fail> {
-    let out = printed(rt, name, b"cmd STA 02:00:00:00:00:aa\n")?;
+    let out = script_output(rt, name, b"cmd STA 02:00:00:00:00:aa\n")?;
     Ok(out.as_slice() == SHOWN)
 }
 
@@ -166,18 +166,18 @@ const ANOTHER: &[u8] =
 #[test]
 fn a_script_that_is_given_up_leaves_the_station(rt: HostRuntime) -> Result<(), Fail> {
     let name = "store_given_up_of_a_script_test";
-    let _ = left_by(&rt, name, JOINS)?;
-    let fault = given_up(&rt, name, ENOUGH, ANOTHER, &mut Closed)?;
+    let _ = file_behind(&rt, name, JOINS)?;
+    let fault = give_up(&rt, name, ENOUGH, ANOTHER, &mut Closed)?;
     assert_eq!(rt; fault, ScriptFault::Writer);
     assert!(rt; has_the_station(&rt, name)?);
     let mut out = Vec::new(rt.alloc());
     let reader = BufReader::new(rt.alloc(), ANOTHER.chain(Closed))?;
-    let fault = given_up(&rt, name, ENOUGH, reader, &mut out)?;
+    let fault = give_up(&rt, name, ENOUGH, reader, &mut out)?;
     assert_eq!(rt; fault, ScriptFault::Reader);
     assert!(rt; has_the_station(&rt, name)?);
     // Two calls of the recovery, four of the start, and the first two of a commit; and the first of the recovery.
     for calls in [8, 0] {
-        let fault = given_up(&rt, name, calls, ANOTHER, &mut out)?;
+        let fault = give_up(&rt, name, calls, ANOTHER, &mut out)?;
         assert!(rt; matches!(fault, ScriptFault::World(_)), "{calls}");
         assert!(rt; has_the_station(&rt, name)?, "{calls}");
     }
@@ -186,23 +186,23 @@ fn a_script_that_is_given_up_leaves_the_station(rt: HostRuntime) -> Result<(), F
 }
 
 /// What is printed for a store that is missing, a folder, and short.
-fn printed_of_no_store(
+fn output_of_no_store(
     rt: &(impl Files<File = File> + AllocGlobal),
     name: &str,
 ) -> Result<Vec<u8>, Fail> {
-    let mut out = printed(rt, name, b"")?;
+    let mut out = script_output(rt, name, b"")?;
     fs::create_dir(rt, name)?;
-    let of_a_folder = printed(rt, name, b"")?;
+    let of_a_folder = script_output(rt, name, b"")?;
     out.extend_from_slice(of_a_folder.as_slice())?;
     fs::remove_dir_all(rt, name)?;
     fs::write(rt, name, b"RAPSTOR1")?;
-    let of_a_short_one = printed(rt, name, b"")?;
+    let of_a_short_one = script_output(rt, name, b"")?;
     out.extend_from_slice(of_a_short_one.as_slice())?;
     Ok(out)
 }
 
 /// What is printed for the store of a file whose byte at a place is another one.
-fn printed_of_broken(
+fn output_of_broken(
     rt: &(impl Files<File = File> + AllocGlobal),
     name: &str,
     place: usize,
@@ -213,14 +213,14 @@ fn printed_of_broken(
         *byte = b'x';
     }
     fs::write(rt, name, bytes.as_slice())?;
-    printed(rt, name, b"")
+    script_output(rt, name, b"")
 }
 
 #[test]
 fn faults_of_a_script_s_store_are_printed_in_these_words(rt: HostRuntime) -> Result<(), Fail> {
     let name = "no_store_of_a_script_test";
     let _ = fs::remove_file(&rt, name);
-    let out = printed_of_no_store(&rt, name)?;
+    let out = output_of_no_store(&rt, name)?;
     assert_eq!(rt;
         out.as_slice(),
         b"apd: cannot read no_store_of_a_script_test\napd: cannot read no_store_of_a_script_test\napd: not a store\n".as_slice()
@@ -230,7 +230,7 @@ fn faults_of_a_script_s_store_are_printed_in_these_words(rt: HostRuntime) -> Res
         (0, b"apd: not a store\n".as_slice()),
         (64, b"apd: damaged store\n"),
     ] {
-        let out = printed_of_broken(&rt, name, place)?;
+        let out = output_of_broken(&rt, name, place)?;
         assert_eq!(rt; out.as_slice(), want);
     }
     fs::remove_file(&rt, name)?;
@@ -249,13 +249,13 @@ fn noise(alloc: Global) -> Result<Vec<u8>, Fail> {
 }
 
 /// The file of a new store, once a script was run on it, and what that printed.
-pub fn left_by(
+pub fn file_behind(
     rt: &(impl Files<File = File> + AllocGlobal),
     name: &str,
     script: &[u8],
 ) -> Result<(Vec<u8>, Vec<u8>), Fail> {
     make_store(rt, name)?;
-    let out = printed(rt, name, script)?;
+    let out = script_output(rt, name, script)?;
     Ok((fs::read(rt, name)?, out))
 }
 
@@ -263,8 +263,8 @@ pub fn left_by(
 fn noise_is_a_bad_line_and_leaves_the_store_as_the_start_did(rt: HostRuntime) -> Result<(), Fail> {
     let name = "noisy_store_of_a_script_test";
     let noise = noise(rt.alloc())?;
-    let (started, none) = left_by(&rt, name, b"")?;
-    let (left, out) = left_by(&rt, name, noise.as_slice())?;
+    let (started, none) = file_behind(&rt, name, b"")?;
+    let (left, out) = file_behind(&rt, name, noise.as_slice())?;
     assert_eq!(rt; none.len(), 0);
     assert_eq!(rt; out.as_slice(), b"apd: bad line 1\n".as_slice());
     assert!(rt; left.as_slice() == started.as_slice());

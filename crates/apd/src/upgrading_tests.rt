@@ -1,6 +1,6 @@
 use crate::ProgramFault;
 use crate::checking::check_and_print;
-use crate::scripting_tests::{make_old_store, printed};
+use crate::scripting_tests::{make_old_store, script_output};
 use crate::upgrading::upgrade_and_print;
 use apd_script::UpgradeFault;
 use apd_store::StoreFault;
@@ -9,7 +9,7 @@ use std::rt::Files;
 use std::test::Fail;
 
 /// What `apd upgrade` prints, and then its fault as the program prints it.
-fn upgraded(
+fn upgrade_output(
     rt: &(impl Files<File = File> + AllocGlobal),
     old: &str,
     new: &str,
@@ -23,7 +23,7 @@ fn upgraded(
 }
 
 /// What `apd check` prints of a store.
-fn checked(rt: &(impl Files<File = File> + AllocGlobal), name: &str) -> Result<Vec<u8>, Fail> {
+fn check_output(rt: &(impl Files<File = File> + AllocGlobal), name: &str) -> Result<Vec<u8>, Fail> {
     let mut out = Vec::new(rt.alloc());
     if let Err(fault) = check_and_print(rt, name, &mut out) {
         let text = format!(in rt.alloc(); "apd: {fault}\n")?;
@@ -45,9 +45,9 @@ fn a_store_of_version_1_is_copied(rt: HostRuntime) -> Result<(), Fail> {
     mode.set_readonly(true);
     fs::set_permissions(&rt, old, mode)?;
     for _ in 0..2 {
-        assert_eq!(rt; upgraded(&rt, old, new)?.as_slice(), COPIED);
+        assert_eq!(rt; upgrade_output(&rt, old, new)?.as_slice(), COPIED);
         assert!(rt; fs::read(&rt, old)?.as_slice() == bytes.as_slice());
-        let told = checked(&rt, new)?;
+        let told = check_output(&rt, new)?;
         assert!(rt; !told.as_slice().starts_with(b"apd: "));
     }
     fs::remove_file(&rt, old)?;
@@ -84,8 +84,8 @@ fn a_copy_goes_on_with_its_station(rt: HostRuntime) -> Result<(), Fail> {
         place = place.saturating_add(1);
     }
     fs::write(&rt, old, bytes.as_slice())?;
-    assert_eq!(rt; upgraded(&rt, old, new)?.as_slice(), COPIED);
-    assert_eq!(rt; printed(&rt, new, GOES_ON)?.as_slice(), GONE_ON);
+    assert_eq!(rt; upgrade_output(&rt, old, new)?.as_slice(), COPIED);
+    assert_eq!(rt; script_output(&rt, new, GOES_ON)?.as_slice(), GONE_ON);
     fs::remove_file(&rt, old)?;
     fs::remove_file(&rt, new)?;
     Ok(())
@@ -96,7 +96,7 @@ fn a_copy_goes_on_with_its_station(rt: HostRuntime) -> Result<(), Fail> {
 fn one_file_by_two_names(rt: HostRuntime) -> Result<(), Fail> {
     let old = "one_store_of_an_upgrade_test";
     let bytes = make_old_store(&rt, old)?;
-    let told = upgraded(&rt, old, "./one_store_of_an_upgrade_test")?;
+    let told = upgrade_output(&rt, old, "./one_store_of_an_upgrade_test")?;
     let want = b"apd: cannot read ./one_store_of_an_upgrade_test\n";
     assert_eq!(rt; told.as_slice(), want.as_slice());
     assert!(rt; fs::read(&rt, old)?.as_slice() == bytes.as_slice());
@@ -110,14 +110,14 @@ fn refusals_of_an_upgrade(rt: HostRuntime) -> Result<(), Fail> {
     let new = "new_file_of_an_upgrade_test";
     let _ = fs::remove_file(&rt, new);
     // A missing OLD makes no NEW.
-    let told = upgraded(&rt, "no_store_of_an_upgrade_test", new)?;
+    let told = upgrade_output(&rt, "no_store_of_an_upgrade_test", new)?;
     let want = b"apd: cannot read no_store_of_an_upgrade_test\n";
     assert_eq!(rt; told.as_slice(), want.as_slice());
     assert!(rt; fs::metadata(&rt, new).is_err());
     // A short OLD is no store, of whatever version; the NEW that was made is of zeros.
     fs::write(&rt, old, b"RAPSTOR2")?;
     assert_eq!(rt;
-        upgraded(&rt, old, new)?.as_slice(),
+        upgrade_output(&rt, old, new)?.as_slice(),
         b"apd: not a store\n".as_slice()
     );
     let zeros = fs::read(&rt, new)?;
@@ -127,15 +127,15 @@ fn refusals_of_an_upgrade(rt: HostRuntime) -> Result<(), Fail> {
     let _ = make_old_store(&rt, old)?;
     fs::write(&rt, new, b"short")?;
     assert_eq!(rt;
-        upgraded(&rt, old, new)?.as_slice(),
+        upgrade_output(&rt, old, new)?.as_slice(),
         b"apd: not a store\n".as_slice()
     );
     assert_eq!(rt; fs::read(&rt, new)?.as_slice(), b"short".as_slice());
     // A store of this version needs no copy.
     fs::remove_file(&rt, new)?;
-    assert_eq!(rt; upgraded(&rt, old, new)?.as_slice(), COPIED);
+    assert_eq!(rt; upgrade_output(&rt, old, new)?.as_slice(), COPIED);
     assert_eq!(rt;
-        upgraded(&rt, new, old)?.as_slice(),
+        upgrade_output(&rt, new, old)?.as_slice(),
         b"apd: store of version 2\n".as_slice()
     );
     fs::remove_file(&rt, old)?;

@@ -23,7 +23,7 @@ const USAGE: &str = "usage: apd_bench [--counts] STORE
 Measures in a file STORE, which it makes and removes, and in STORE.bare.";
 
 // What the words after the program's name say: the file's name, and whether only counts are printed.
-fn asked<'a>(words: &'a [String]) -> Option<(&'a str, bool)> {
+fn read_words<'a>(words: &'a [String]) -> Option<(&'a str, bool)> {
     match words {
         [_, name] if name.as_str() != "--counts" => Some((name.as_str(), false)),
         [_, word, name] if word.as_str() == "--counts" => Some((name.as_str(), true)),
@@ -34,7 +34,7 @@ fn asked<'a>(words: &'a [String]) -> Option<(&'a str, bool)> {
 /// The exit status is 0 where all was measured, 1 for a fault, 2 for another command line.
 fn main(rt: HostRuntime) -> io::Result<ExitCode> {
     let words: Vec<String> = std::env::args(&rt)?.collect(rt.alloc())?;
-    let Some((name, counts_alone)) = asked(words.as_slice()) else {
+    let Some((name, counts_alone)) = read_words(words.as_slice()) else {
         eprintln!(rt; "{USAGE}")?;
         return Ok(ExitCode::from(2));
     };

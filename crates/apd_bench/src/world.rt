@@ -19,7 +19,7 @@ use std::time::Clock;
 const BSSID: Bssid = Bssid(Addr([2, 0, 0, 0, 0, 1]));
 
 // How many outs wait at the radio by a step that did what it is for.
-fn queued(told: &Told) -> Result<usize, BenchFault> {
+fn queue_count(told: &Told) -> Result<usize, BenchFault> {
     match told {
         Told::Accepted(Reception::Entry(_)) | Told::Applied(_, Ok(())) => Ok(0),
         Told::Queued(count) => Ok(*count),
@@ -30,7 +30,7 @@ fn queued(told: &Told) -> Result<usize, BenchFault> {
 
 // Makes a step, and tells what it queued.
 fn make<D: Disk>(world: &mut World<D, Sim>, step: &Step<'_>) -> Result<usize, BenchFault> {
-    queued(&world.step(step))
+    queue_count(&world.step(step))
 }
 
 impl<D: Disk> AccessPoint for World<D, Sim> {
@@ -81,7 +81,7 @@ fn slots(alloc: Global) -> Result<Vec<Slot<Sim>>, BenchFault> {
 }
 
 // The disk, with a new store on it.
-fn formatted<D: Disk + Drop>(alloc: Global, disk: D) -> Result<D, BenchFault> {
+fn format_disk<D: Disk + Drop>(alloc: Global, disk: D) -> Result<D, BenchFault> {
     match format(alloc, disk) {
         Ok(store) => Ok(store.into_device()),
         Err(_) => Err(BenchFault::File),
@@ -98,7 +98,7 @@ pub fn do_on<D: Disk + Drop>(
 ) -> Result<Vec<Measured>, BenchFault> {
     let confs = confs(alloc)?;
     let slots = slots(alloc)?;
-    let disk = formatted(alloc, disk)?;
+    let disk = format_disk(alloc, disk)?;
     match restart(alloc, disk, confs, slots, Moment(0)) {
         Ok(mut world) => do_rounds(rt, alloc, &mut world, tally, task),
         Err(_) => Err(BenchFault::Refused),

@@ -76,7 +76,7 @@ pub(crate) fn hand(core: &mut Core, to: Recipient) -> Option<Told> {
 }
 
 /// The batch that a core gives.
-pub(crate) fn taken(core: &mut Core) -> Option<Batch> {
+pub(crate) fn take_batch(core: &mut Core) -> Option<Batch> {
     match core.take() {
         Ok(batch) => batch,
         Err(_) => None,

@@ -1,5 +1,5 @@
 //! Puts, drops, hearings and ticks of a fixed list, against a list of rows that is looked through each time.
-use crate::common::{ask, taken};
+use crate::common::{ask, take_batch};
 use crate::crowd::{Key, crowd, frame, key_of, probe};
 use apd_core::{Core, Input};
 use apd_record::Change;
@@ -125,7 +125,7 @@ fn are_made(made: &[(bool, Key)], changes: &[Change]) -> bool {
 
 // Whether what a core gives changes the rows as they were.
 fn gives(core: &mut Core, made: &[(bool, Key)]) -> Option<bool> {
-    Some(are_made(made, taken(core)?.changes.as_slice()))
+    Some(are_made(made, take_batch(core)?.changes.as_slice()))
 }
 
 // Of as many requests: whether each tick agrees, whether the changes do, and whether these are many.

@@ -1,5 +1,5 @@
 //! When stations were heard, and which of them a tick ends.
-use crate::common::{AUTHENTICATION, Told, ask, taken};
+use crate::common::{AUTHENTICATION, Told, ask, take_batch};
 use crate::crowd::{Key, crowd, key_of, probe};
 use crate::steps::{Step, otherwise};
 use apd_core::{Core, Input};
@@ -27,7 +27,7 @@ fn all_but_one_heard(alloc: Global, stations: u16) -> Option<Core> {
 }
 
 // The station of the only change, where it is dropped.
-fn dropped_by(changes: &[Change]) -> Option<Key> {
+fn only_drop(changes: &[Change]) -> Option<Key> {
     match changes {
         [Change::Drop { bssid, addr }] => Some((*bssid, *addr)),
         _ => None,
@@ -35,8 +35,8 @@ fn dropped_by(changes: &[Change]) -> Option<Key> {
 }
 
 // The station of the only change that a core gives, where it is dropped.
-fn dropped(core: &mut Core) -> Option<Key> {
-    dropped_by(taken(core)?.changes.as_slice())
+fn take_drop(core: &mut Core) -> Option<Key> {
+    only_drop(take_batch(core)?.changes.as_slice())
 }
 
 // What is told of three ticks.
@@ -50,7 +50,7 @@ fn ticks(core: &mut Core) -> Option<(Told, Told, Told)> {
 // The same of those radios, and the station that goes.
 fn silent(alloc: Global, stations: u16) -> Option<((Told, Told, Told), Key)> {
     let mut core = all_but_one_heard(alloc, stations)?;
-    Some((ticks(&mut core)?, dropped(&mut core)?))
+    Some((ticks(&mut core)?, take_drop(&mut core)?))
 }
 
 #[test]

@@ -104,14 +104,14 @@ where
     Flusher::new(alloc, store, table.copy(alloc).ok()?).ok()
 }
 
-fn committed<D: Disk>(flusher: &mut Flusher<D>, batch: Batch) -> Option<Receipt> {
+fn receipt_of<D: Disk>(flusher: &mut Flusher<D>, batch: Batch) -> Option<Receipt> {
     flusher.commit(batch).ok()
 }
 
 // The receipt of a batch behind the core's settled table.
 fn commit(alloc: Global, core: &Core, batch: Batch) -> Option<Receipt> {
     let disk = blank_disk(alloc, LENGTH)?;
-    committed(&mut flusher(alloc, disk, core.table())?, batch)
+    receipt_of(&mut flusher(alloc, disk, core.table())?, batch)
 }
 
 fn keep(receipt: &mut Option<Receipt>, made: Receipt) -> Option<Told> {

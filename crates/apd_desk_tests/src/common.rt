@@ -2,7 +2,7 @@
 ghost use Rattle.std.specs.Prelude.{◌≡◌};
 
 use apd_base::{Addr, Bssid, Moment};
-use apd_conf::{AddressList, Conf, Confs};
+use apd_conf::{AddressList, Conf, Confs, InterfaceName};
 use apd_core::{Accepted, Core, Input};
 use apd_ctrl::Query;
 use apd_desk::{Clock, NoGate, Seat, Shared, flush_worker};
@@ -17,6 +17,9 @@ use std::time;
 
 /// The BSSID of the built-in configuration.
 pub(crate) const WLAN0: Bssid = Bssid(Addr([2, 0, 0, 0, 0, 1]));
+
+/// The BSSID of a second radio.
+pub(crate) const WLAN1: Bssid = Bssid(Addr([2, 0, 0, 0, 0, 2]));
 
 /// The number of a device's bytes.
 const LENGTH: usize = 2_097_216;
@@ -87,6 +90,34 @@ pub(crate) fn start(alloc: Global, core: &mut Core, bssid: Bssid) -> bool {
 pub(crate) fn started(alloc: Global) -> Option<Core> {
     let mut core = new_core(alloc)?;
     if start(alloc, &mut core, WLAN0) {
+        Some(core)
+    } else {
+        None
+    }
+}
+
+fn wlan1(alloc: Global) -> Option<Conf> {
+    let mut conf = Conf::built_in(alloc).ok()?;
+    conf.interface = InterfaceName::new("wlan1", alloc).ok()?;
+    conf.bssid = WLAN1;
+    Some(conf)
+}
+
+fn two_confs(alloc: Global) -> Option<Confs> {
+    let mut list = Vec::new(alloc);
+    list.push(Conf::built_in(alloc).ok()?).ok()?;
+    list.push(wlan1(alloc)?).ok()?;
+    Confs::new(list).ok()
+}
+
+fn starts_both(alloc: Global, core: &mut Core) -> bool {
+    start(alloc, core, WLAN0) && start(alloc, core, WLAN1)
+}
+
+/// A core whose two radios were started, which is not settled.
+pub(crate) fn started_both(alloc: Global) -> Option<Core> {
+    let mut core = Core::new(alloc, Table::new(alloc), two_confs(alloc)?, Moment(0)).ok()?;
+    if starts_both(alloc, &mut core) {
         Some(core)
     } else {
         None

@@ -2,14 +2,12 @@
 ghost use Rattle.std.specs.Prelude.{◌≡◌};
 
 use crate::common::{
-    Still, WLAN0, authentication, enters, memory_flusher, new_core, settles, share, start, started,
+    Still, WLAN0, WLAN1, authentication, enters, memory_flusher, new_core, settles, share, started,
+    started_both,
 };
 use crate::operator::{Operator, are};
-use apd_base::{Addr, Bssid, Moment};
-use apd_conf::{Conf, Confs, InterfaceName};
 use apd_core::{Core, Input};
 use apd_desk::{NoGate, Seat, Shared, control_worker};
-use apd_table::Table;
 use std::alloc::Global;
 use std::marker::Brand;
 use std::sync::Wait;
@@ -119,28 +117,11 @@ fn an_order_fails_on_a_full_core(rt: HostRuntime) {
     assert_eq!(rt; replied, Some(true));
 }
 
-const WLAN1: Bssid = Bssid(Addr([2, 0, 0, 0, 0, 2]));
-
-fn wlan1(alloc: Global) -> Option<Conf> {
-    let mut conf = Conf::built_in(alloc).ok()?;
-    conf.interface = InterfaceName::new("wlan1", alloc).ok()?;
-    conf.bssid = WLAN1;
-    Some(conf)
-}
-
-fn two_confs(alloc: Global) -> Option<Confs> {
-    let mut list = Vec::new(alloc);
-    list.push(Conf::built_in(alloc).ok()?).ok()?;
-    list.push(wlan1(alloc)?).ok()?;
-    Confs::new(list).ok()
-}
-
 // A core of two radios, the start of which is settled.
 fn two_radios(alloc: Global) -> Option<Core> {
-    let mut core = Core::new(alloc, Table::new(alloc), two_confs(alloc)?, Moment(0)).ok()?;
+    let mut core = started_both(alloc)?;
     let mut flusher = memory_flusher(alloc)?;
-    let both = start(alloc, &mut core, WLAN0) && start(alloc, &mut core, WLAN1);
-    if both && settles(&mut core, &mut flusher) {
+    if settles(&mut core, &mut flusher) {
         Some(core)
     } else {
         None

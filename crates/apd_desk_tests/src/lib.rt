@@ -14,6 +14,8 @@ mod control_tests;
 #[cfg(test)]
 mod fault_tests;
 #[cfg(test)]
+mod fed;
+#[cfg(test)]
 mod hold;
 #[cfg(test)]
 mod memory_tests;
@@ -23,6 +25,8 @@ mod operator;
 mod radio_tests;
 #[cfg(test)]
 mod seat_tests;
+#[cfg(test)]
+mod spare_tests;
 #[cfg(test)]
 mod staged;
 #[cfg(test)]

@@ -1,5 +1,5 @@
 //! What lies between a core and a device: whatever is refused there waits, and is not lost.
-use crate::common::{LENGTH, Seen, batch_of, blank_disk, policy, put, seen};
+use crate::common::{LENGTH, Seen, batch_of, blank_disk, look, policy, put};
 use apd_base::Station;
 use apd_disk::{Disk, FuseDisk, MemDisk};
 use apd_flusher::{Committer, Flusher, Phase};
@@ -11,7 +11,7 @@ use std::alloc::{AllocError, Global};
 use std::test::Fail;
 
 /// The device, formatted.
-fn formatted<D: Disk>(alloc: Global, disk: D) -> Option<D>
+fn format_device<D: Disk>(alloc: Global, disk: D) -> Option<D>
 where
     D: Drop,
 {
@@ -19,7 +19,7 @@ where
 }
 
 /// The store of a device, and its table.
-fn recovered<D: Disk>(alloc: Global, disk: D) -> Option<(Store<D>, Table)>
+fn recover_store<D: Disk>(alloc: Global, disk: D) -> Option<(Store<D>, Table)>
 where
     D: Drop,
 {
@@ -39,13 +39,16 @@ fn committer<D: Disk>(alloc: Global, disk: D) -> Option<Committer<D>>
 where
     D: Drop,
 {
-    let (store, table) = recovered(alloc, disk)?;
+    let (store, table) = recover_store(alloc, disk)?;
     Some(Committer::new(flusher(alloc, store, table)?))
 }
 
 /// A committer of a new store.
 fn new_committer(alloc: Global) -> Option<Committer<MemDisk>> {
-    committer(alloc, formatted(alloc, blank_disk(alloc, LENGTH).ok()?)?)
+    committer(
+        alloc,
+        format_device(alloc, blank_disk(alloc, LENGTH).ok()?)?,
+    )
 }
 
 /// What is answered to a load.
@@ -104,7 +107,7 @@ fn number_in(receipt: &Option<Receipt>) -> Option<u64> {
 }
 
 /// The numbers of the batch and of the receipt that wait at the end.
-fn left<D: Disk>(committer: Committer<D>) -> (Option<u64>, Option<u64>)
+fn rest_of<D: Disk>(committer: Committer<D>) -> (Option<u64>, Option<u64>)
 where
     D: Drop,
 {
@@ -117,7 +120,7 @@ where
 type Refused = (Loaded, bool, Loaded, (Option<u64>, Option<u64>));
 
 /// The same of a station's batch, of this number.
-fn refused<D: Disk>(alloc: Global, committer: Committer<D>, number: u64) -> Refused
+fn refusal_of<D: Disk>(alloc: Global, committer: Committer<D>, number: u64) -> Refused
 where
     D: Drop,
 {
@@ -125,7 +128,7 @@ where
     let first = hand_in_change(alloc, &mut committer, number, put(Station::Authenticated));
     let waits = committer.has_batch();
     let next = load(&mut committer);
-    (first, waits, next, left(committer))
+    (first, waits, next, rest_of(committer))
 }
 
 /// What is to be found where it is refused for this fault, and waits.
@@ -138,7 +141,7 @@ fn waits(fault: StoreFault, number: u64) -> Refused {
 #[test]
 fn a_bad_batch_waits(rt: HostRuntime) -> Result<(), Fail> {
     let committer = new_committer(rt.alloc()).ok_or("memory")?;
-    let found = refused(rt.alloc(), committer, 5);
+    let found = refusal_of(rt.alloc(), committer, 5);
     assert_eq!(rt; found, waits(StoreFault::BadBatch, 5));
     Ok(())
 }
@@ -175,7 +178,7 @@ fn worn_committer(alloc: Global) -> Option<Committer<MemDisk>> {
 #[test]
 fn a_batch_for_which_a_worn_store_has_no_room_waits(rt: HostRuntime) -> Result<(), Fail> {
     let committer = worn_committer(rt.alloc()).ok_or("memory")?;
-    let found = refused(rt.alloc(), committer, 5);
+    let found = refusal_of(rt.alloc(), committer, 5);
     assert_eq!(rt; found, waits(StoreFault::Worn, 5));
     Ok(())
 }
@@ -190,14 +193,14 @@ fn begins<D: Disk>(
 }
 
 /// A committer over a device that fails at its first call behind the seven of the format and the two of the recovery.
-fn fused_committer(alloc: Global) -> Option<Committer<FuseDisk<MemDisk>>> {
+fn committer_on_fuse(alloc: Global) -> Option<Committer<FuseDisk<MemDisk>>> {
     let fuse = FuseDisk::new(blank_disk(alloc, LENGTH).ok()?, 9);
-    committer(alloc, formatted(alloc, fuse)?)
+    committer(alloc, format_device(alloc, fuse)?)
 }
 
 /// A committer that has failed.
-fn failed_committer(alloc: Global) -> Result<Committer<FuseDisk<MemDisk>>, Fail> {
-    let mut committer = fused_committer(alloc).ok_or("memory")?;
+fn committer_behind_fault(alloc: Global) -> Result<Committer<FuseDisk<MemDisk>>, Fail> {
+    let mut committer = committer_on_fuse(alloc).ok_or("memory")?;
     if begins(alloc, &mut committer)? != (Some(Ok(())), Err(StoreFault::Device)) {
         return Err(Fail::from("no fault"));
     }
@@ -206,8 +209,8 @@ fn failed_committer(alloc: Global) -> Result<Committer<FuseDisk<MemDisk>>, Fail>
 
 #[test]
 fn a_batch_waits_where_the_device_has_failed(rt: HostRuntime) -> Result<(), Fail> {
-    let committer = failed_committer(rt.alloc())?;
-    let found = refused(rt.alloc(), committer, 2);
+    let committer = committer_behind_fault(rt.alloc())?;
+    let found = refusal_of(rt.alloc(), committer, 2);
     assert_eq!(rt; found, waits(StoreFault::Failed, 2));
     Ok(())
 }
@@ -246,7 +249,7 @@ where
 fn both_committed(alloc: Global) -> Result<(Both, Seen), Fail> {
     let mut committer = new_committer(alloc).ok_or("memory")?;
     let both = commit_both(alloc, &mut committer)?;
-    Ok((both, seen(alloc, device(committer))))
+    Ok((both, look(alloc, device(committer))))
 }
 
 #[test]
@@ -283,16 +286,16 @@ fn a_receipt_that_is_taken_back_is_given_again(rt: HostRuntime) -> Result<(), Fa
 }
 
 /// What waits at the end where the receipt of a policy was taken back.
-fn left_behind(alloc: Global) -> Result<(Option<u64>, Option<u64>), Fail> {
+fn rest_behind_policy(alloc: Global) -> Result<(Option<u64>, Option<u64>), Fail> {
     let mut committer = new_committer(alloc).ok_or("memory")?;
     let _loaded = commit_policy(alloc, &mut committer)?;
     let _number = receipt_taken_back(&mut committer);
-    Ok(left(committer))
+    Ok(rest_of(committer))
 }
 
 #[test]
 fn a_receipt_that_waits_is_left_at_the_end(rt: HostRuntime) -> Result<(), Fail> {
-    assert_eq!(rt; left_behind(rt.alloc())?, (None, Some(1)));
+    assert_eq!(rt; rest_behind_policy(rt.alloc())?, (None, Some(1)));
     Ok(())
 }
 

@@ -22,12 +22,12 @@ pub(crate) const TWO_GROUPS: [u8; 54] = [
 ];
 
 // A disk whose bytes are all this one. No clause says what it holds: a proof would go through two million bytes.
-pub(crate) fn filled_disk(alloc: Global, byte: u8, size: usize) -> Result<MemDisk, AllocError> {
+pub(crate) fn disk_of_byte(alloc: Global, byte: u8, size: usize) -> Result<MemDisk, AllocError> {
     MemDisk::new(alloc, vec![in alloc; byte; size]?)
 }
 
 pub(crate) fn blank_disk(alloc: Global, size: usize) -> Result<MemDisk, AllocError> {
-    filled_disk(alloc, 0, size)
+    disk_of_byte(alloc, 0, size)
 }
 
 // Writes bytes where they lie inside the disk, and syncs them.
@@ -93,7 +93,7 @@ pub(crate) enum Made {
 }
 
 // The calls that a disk has served behind this many.
-pub(crate) fn made_after(
+pub(crate) fn calls_after(
     alloc: Global,
     disk: &MemDisk,
     calls: usize,
@@ -112,7 +112,7 @@ pub(crate) fn made_after(
 // What the table of a device says of the station's BSSID and of the station, or why there is none.
 pub(crate) type Seen = Result<(Option<(u8, u16)>, Option<Station>), StoreFault>;
 
-pub(crate) fn seen(alloc: Global, disk: MemDisk) -> Seen {
+pub(crate) fn look(alloc: Global, disk: MemDisk) -> Seen {
     match recover(alloc, disk) {
         Ok((_store, table)) => Ok((table.policy(BSSID), table.get(BSSID, STATION))),
         Err((_disk, fault)) => Err(fault),

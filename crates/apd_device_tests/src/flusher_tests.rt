@@ -1,8 +1,8 @@
 // What no clause says of a flusher: that its calls succeed where memory is ample, and which calls of the device
 // and which bytes a commit makes.
 use crate::common::{
-    BSSID, LENGTH, Made, STATION, Seen, TWO_GROUPS, batch_of, blank_disk, made_after, policy, put,
-    seen,
+    BSSID, LENGTH, Made, STATION, Seen, TWO_GROUPS, batch_of, blank_disk, calls_after, look,
+    policy, put,
 };
 use apd_base::{Sequence, Station, Which};
 use apd_disk::{Disk, FuseDisk, MemDisk, Torn};
@@ -14,7 +14,7 @@ use apd_table::Table;
 use std::alloc::{AllocError, Global};
 use std::test::Fail;
 
-fn formatted<D: Disk>(alloc: Global, disk: D) -> Result<Flusher<D>, Fail>
+fn new_flusher<D: Disk>(alloc: Global, disk: D) -> Result<Flusher<D>, Fail>
 where
     D: Drop,
 {
@@ -79,7 +79,7 @@ fn with_policy<D: Disk>(alloc: Global, disk: D) -> Result<Flusher<D>, Fail>
 where
     D: Drop,
 {
-    let mut flusher = formatted(alloc, disk)?;
+    let mut flusher = new_flusher(alloc, disk)?;
     let receipt = flusher.commit(batch_of(alloc, 1, policy()?)?)?;
     if receipt.batch().first != 1 {
         return Err(Fail::from("another batch"));
@@ -141,7 +141,7 @@ fn bad_and_good<D: Disk>(alloc: Global, disk: D) -> Result<D, Fail>
 where
     D: Drop,
 {
-    let mut flusher = formatted(alloc, disk)?;
+    let mut flusher = new_flusher(alloc, disk)?;
     let unsound = refusal(
         &mut flusher,
         batch_of(alloc, 1, put(Station::Authenticated))?,
@@ -189,7 +189,7 @@ fn put_again<D: Disk>(alloc: Global, flusher: &mut Flusher<D>, times: u64) -> Re
 }
 
 // The device after a policy, as many commits of a row, and one more that switches to the other half.
-fn switched<D: Disk>(alloc: Global, disk: D, rows: u64) -> Result<D, Fail>
+fn switch_half<D: Disk>(alloc: Global, disk: D, rows: u64) -> Result<D, Fail>
 where
     D: Drop,
 {
@@ -217,22 +217,22 @@ fn on_memory(alloc: Global, calls: u64) -> Result<MemDisk, Fail> {
     committing(alloc, blank_disk(alloc, LENGTH)?, calls)
 }
 
-fn stopped(alloc: Global, calls: u64, torn: Torn) -> Result<Seen, Fail> {
-    Ok(seen(alloc, on_memory(alloc, calls)?.crash(torn)))
+fn stop(alloc: Global, calls: u64, torn: Torn) -> Result<Seen, Fail> {
+    Ok(look(alloc, on_memory(alloc, calls)?.crash(torn)))
 }
 
 // What is seen after a commit that was tried once more where memory was refused.
-fn tried_again(alloc: Global) -> Result<Seen, Fail> {
+fn try_again(alloc: Global) -> Result<Seen, Fail> {
     let mut flusher = with_policy(alloc, blank_disk(alloc, LENGTH)?)?;
     let batch = batch_of(alloc, 2, put(Station::Authenticated))?;
     load_again(&mut flusher, batch)?;
     turns(&mut flusher, 4)?;
     unload(&mut flusher, 2)?;
-    Ok(seen(alloc, flusher.into_device()))
+    Ok(look(alloc, flusher.into_device()))
 }
 
 fn phases_on_memory(alloc: Global) -> Result<bool, Fail> {
-    on_the_way(alloc, &mut formatted(alloc, blank_disk(alloc, LENGTH)?)?)
+    on_the_way(alloc, &mut new_flusher(alloc, blank_disk(alloc, LENGTH)?)?)
 }
 
 // Behind seven calls of the format and four of the policy's commit.
@@ -260,7 +260,7 @@ fn a_stop_at_each_turn(rt: HostRuntime) -> Result<(), Fail> {
         (3, Torn::Byte(0x7f), none),
         (4, Torn::Byte(0x7f), there),
     ] {
-        let is = stopped(rt.alloc(), calls, torn)?;
+        let is = stop(rt.alloc(), calls, torn)?;
         assert_eq!(rt; is, found, "{torn:?} after {calls}");
     }
     Ok(())
@@ -271,7 +271,7 @@ fn a_stop_at_each_turn(rt: HostRuntime) -> Result<(), Fail> {
 fn the_calls_of_a_long_batch(rt: HostRuntime) -> Result<(), Fail> {
     let alloc = rt.alloc();
     let disk = bad_and_good(alloc, blank_disk(alloc, LENGTH)?)?;
-    let made = made_after(alloc, &disk, 7)?;
+    let made = calls_after(alloc, &disk, 7)?;
     let all = [
         Made::Write(78, 65_541),
         Made::Sync,
@@ -299,7 +299,7 @@ fn a_fault_at_each_turn(rt: HostRuntime) -> Result<(), Fail> {
 // It says more where an allocation fails (`rt try --test --fail-alloc N`): one that fails in `load` is made good.
 #[test]
 fn a_batch_is_tried_again(rt: HostRuntime) -> Result<(), Fail> {
-    let found = tried_again(rt.alloc())?;
+    let found = try_again(rt.alloc())?;
     assert_eq!(rt; found, Ok((Some((0, 2007)), Some(Station::Authenticated))));
     Ok(())
 }
@@ -310,9 +310,9 @@ fn a_batch_is_tried_again(rt: HostRuntime) -> Result<(), Fail> {
 #[test]
 fn a_full_half_makes_way(rt: HostRuntime) -> Result<(), Fail> {
     let alloc = rt.alloc();
-    let disk = switched(alloc, blank_disk(alloc, LENGTH)?, 41_941)?;
+    let disk = switch_half(alloc, blank_disk(alloc, LENGTH)?, 41_941)?;
     // Behind seven calls of the format and four of each commit.
-    let made = made_after(alloc, &disk, 7 + 4 + 4 * 41_941)?;
+    let made = calls_after(alloc, &disk, 7 + 4 + 4 * 41_941)?;
     let all = [
         Made::Write(1_048_641, 43),
         Made::Sync,
@@ -330,7 +330,7 @@ fn a_full_half_makes_way(rt: HostRuntime) -> Result<(), Fail> {
         Some(head.as_slice())
     );
     assert_eq!(rt;
-        seen(alloc, disk),
+        look(alloc, disk),
         Ok((Some((0, 2007)), Some(Station::Authenticated)))
     );
     Ok(())

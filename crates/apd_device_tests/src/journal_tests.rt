@@ -53,7 +53,7 @@ fn holds(alloc: Global, half: &[u8], changes: &[Change], gate: usize) -> Result<
 }
 
 // How many changes the half holds where these bytes stand at this place, and where its closed gate is.
-fn changed(
+fn groups_with(
     alloc: Global,
     place: usize,
     bytes: &[u8],
@@ -98,7 +98,7 @@ fn each_cut(rt: HostRuntime) -> Result<(), Fail> {
 }
 
 #[test]
-fn changed_bytes(rt: HostRuntime) -> Result<(), Fail> {
+fn other_bytes_in_a_half(rt: HostRuntime) -> Result<(), Fail> {
     for (place, bytes, found) in [
         // The half is closed.
         (0, [0].as_slice(), None),
@@ -117,13 +117,13 @@ fn changed_bytes(rt: HostRuntime) -> Result<(), Fail> {
         // What is behind the closed gate is not looked at.
         (79, [255, 255, 255, 255].as_slice(), Some((3, 78))),
     ] {
-        let is = changed(rt.alloc(), place, bytes)?;
+        let is = groups_with(rt.alloc(), place, bytes)?;
         assert_eq!(rt; is, found, "{bytes:?} at {place}");
     }
     Ok(())
 }
 
-fn planned(alloc: Global, change: Option<Change>, place: usize) -> Result<Plan, AllocError> {
+fn plan_of(alloc: Global, change: Option<Change>, place: usize) -> Result<Plan, AllocError> {
     let mut changes = Sequence::new(alloc);
     if let Some(change) = change {
         changes.push(change)?;
@@ -138,11 +138,11 @@ fn planned(alloc: Global, change: Option<Change>, place: usize) -> Result<Plan, 
 
 #[test]
 fn plans(rt: HostRuntime) -> Result<(), Fail> {
-    let first = planned(rt.alloc(), policy(), 13)?;
+    let first = plan_of(rt.alloc(), policy(), 13)?;
     let bytes = [10, 0, 0, 0, 6, 2, 0, 0, 0, 0, 1, 0, 0xd7, 7, 0];
     assert_eq!(rt; first.place, 14);
     assert_eq!(rt; first.bytes.as_slice(), bytes.as_slice());
-    let none = planned(rt.alloc(), None, 78)?;
+    let none = plan_of(rt.alloc(), None, 78)?;
     assert_eq!(rt; none.place, 79);
     assert_eq!(rt; none.bytes.as_slice(), [0, 0, 0, 0, 0].as_slice());
     Ok(())

@@ -1,7 +1,7 @@
 //! The outs that wait at a slot: their order, what drops them, and what leaves them.
 use crate::slot_calls::{apply, apply_next, make_room, queue, replace, resume};
 use crate::slot_samples::{
-    ASSOCIATED, FIRST, SECOND, WLAN0, WLAN1, frame, identifier, replaced, table,
+    ASSOCIATED, FIRST, SECOND, WLAN0, WLAN1, frame, identifier, replace_radio, table,
 };
 use apd_base::{Addr, Sequence};
 use apd_mlme::Out;
@@ -83,7 +83,7 @@ fn only_a_slot_that_resumes_drops_what_waits(rt: HostRuntime) -> Result<(), Fail
     let mut outs = Vec::new(alloc);
     outs.push(Out::Install(Addr([2, 0, 0, 0, 0, 0xcc]), identifier(3)?))?;
     queue(&mut slot, outs)?;
-    let _old = replaced(&mut slot, Sim::new(alloc))?;
+    let _old = replace_radio(&mut slot, Sim::new(alloc))?;
     assert_eq!(rt; slot.waiting(), 1);
     assert_eq!(rt; resume(&mut slot, alloc, &table), Ok(()));
     assert_eq!(rt; slot.waiting(), 0);
@@ -111,7 +111,7 @@ fn install_third<R: Radio>(slot: &mut Slot<R>) -> Result<(), Fail> {
 /// How many outs wait, and the identifiers under which the three stations are installed.
 type Seen = (usize, [Option<u16>; 3]);
 
-fn seen<R: Radio>(slot: &Slot<R>) -> Seen {
+fn look<R: Radio>(slot: &Slot<R>) -> Seen {
     let installed = [
         slot.installed(FIRST),
         slot.installed(SECOND),
@@ -128,15 +128,15 @@ fn what_waits_stays_though_a_radio_is_polled_driven_and_replaced(
     let mut slot = Slot::new(alloc, Replaying::new(alloc, b"rx 00")?, WLAN0);
     queue_both(alloc, &mut slot)?;
     assert_eq!(rt; slot.poll()?.as_deref(), Some(b"\x00".as_slice()));
-    assert_eq!(rt; seen(&slot), (2, [None, None, None]));
+    assert_eq!(rt; look(&slot), (2, [None, None, None]));
     install_third(&mut slot)?;
-    assert_eq!(rt; seen(&slot), (2, [None, None, Some(3)]));
-    let _old = replaced(&mut slot, Replaying::new(alloc, b"")?)?;
-    assert_eq!(rt; seen(&slot), (2, [None, None, Some(3)]));
+    assert_eq!(rt; look(&slot), (2, [None, None, Some(3)]));
+    let _old = replace_radio(&mut slot, Replaying::new(alloc, b"")?)?;
+    assert_eq!(rt; look(&slot), (2, [None, None, Some(3)]));
     assert_eq!(rt; answer(&mut slot)?, Ok(()));
-    assert_eq!(rt; seen(&slot), (1, [Some(1), None, Some(3)]));
+    assert_eq!(rt; look(&slot), (1, [Some(1), None, Some(3)]));
     assert_eq!(rt; answer(&mut slot)?, Ok(()));
-    assert_eq!(rt; seen(&slot), (0, [Some(1), Some(2), Some(3)]));
+    assert_eq!(rt; look(&slot), (0, [Some(1), Some(2), Some(3)]));
     Ok(())
 }
 
@@ -167,7 +167,7 @@ fn a_radio_that_is_refused_leaves_what_waits(rt: HostRuntime) -> Result<(), Fail
     let refused = replace(&mut slot, Failing::new(Sim::new(alloc), 0));
     assert!(rt; matches!(refused, Err((_, SlotFault::WentDown))));
     assert!(rt; !slot.is_up());
-    assert_eq!(rt; seen(&slot), (2, [None, None, Some(3)]));
+    assert_eq!(rt; look(&slot), (2, [None, None, Some(3)]));
     Ok(())
 }
 
@@ -179,9 +179,9 @@ fn room_that_is_refused_leaves_what_waits(rt: HostRuntime) -> Result<(), Fail> {
     assert!(rt; make_room(&mut slot, usize::MAX).is_ok());
     queue_both(alloc, &mut slot)?;
     assert!(rt; make_room(&mut slot, usize::MAX).is_err());
-    assert_eq!(rt; seen(&slot), (2, [None, None, None]));
+    assert_eq!(rt; look(&slot), (2, [None, None, None]));
     assert_eq!(rt; answer(&mut slot)?, Ok(()));
-    assert_eq!(rt; seen(&slot), (1, [Some(1), None, None]));
+    assert_eq!(rt; look(&slot), (1, [Some(1), None, None]));
     Ok(())
 }
 
@@ -192,10 +192,10 @@ fn what_waits_is_dropped_and_all_else_stays(rt: HostRuntime) -> Result<(), Fail>
     install_third(&mut slot)?;
     queue_both(alloc, &mut slot)?;
     slot.forget();
-    assert_eq!(rt; seen(&slot), (0, [None, None, Some(3)]));
+    assert_eq!(rt; look(&slot), (0, [None, None, Some(3)]));
     assert!(rt; apply_next(&mut slot).is_none());
     assert!(rt; slot.is_up());
     queue_both(alloc, &mut slot)?;
-    assert_eq!(rt; seen(&slot), (2, [None, None, Some(3)]));
+    assert_eq!(rt; look(&slot), (2, [None, None, Some(3)]));
     Ok(())
 }

@@ -1,6 +1,6 @@
 //! Slots whose driver fails: the stations that are wanted go on to the same radio, or to another one.
 use crate::slot_calls::{apply, replace, resync};
-use crate::slot_samples::{FIRST, SECOND, WLAN0, identifier, replaced};
+use crate::slot_samples::{FIRST, SECOND, WLAN0, identifier, replace_radio};
 use apd_mlme::Out;
 use apd_radio::{Failing, Radio, Sim};
 use apd_slot::{Slot, SlotFault};
@@ -70,7 +70,7 @@ fn a_radio_that_fails_at_its_second_station_is_handed_back(rt: HostRuntime) -> R
     assert_eq!(rt; back.installed(FIRST), None);
     assert!(rt; !slot.is_up());
     assert!(rt; wants_both(&slot));
-    let old = replaced(&mut slot, failing(alloc, 2))?;
+    let old = replace_radio(&mut slot, failing(alloc, 2))?;
     assert_eq!(rt; old.installed(FIRST), None);
     assert!(rt; slot.is_up());
     assert!(rt; has_both(&slot));

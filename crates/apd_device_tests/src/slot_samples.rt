@@ -23,7 +23,7 @@ pub(crate) const ASSOCIATED: [u8; 36] = [
     0xc0, 1, 4, 0x82, 0x84, 0x8b, 0x96,
 ];
 
-pub(crate) fn replaced<R: Radio>(slot: &mut Slot<R>, radio: R) -> Result<R, Fail> {
+pub(crate) fn replace_radio<R: Radio>(slot: &mut Slot<R>, radio: R) -> Result<R, Fail> {
     match replace(slot, radio) {
         Ok(old) => Ok(old),
         Err(_) => Err(Fail::new("a radio is not replaced")),

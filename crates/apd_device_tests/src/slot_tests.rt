@@ -1,6 +1,6 @@
 use crate::slot_calls::{apply, resume};
 use crate::slot_samples::{
-    ASSOCIATED, FIRST, SECOND, WLAN0, WLAN1, frame, identifier, replaced, table,
+    ASSOCIATED, FIRST, SECOND, WLAN0, WLAN1, frame, identifier, replace_radio, table,
 };
 use apd_base::{Bssid, Sequence};
 use apd_mlme::Out;
@@ -63,7 +63,7 @@ fn each_kind_is_replaced_by_another(rt: HostRuntime) -> Result<(), Fail> {
     let install = Out::Install(SECOND, identifier(7)?);
     for (slot, other) in slots.iter_mut().zip(others) {
         assert_eq!(rt; apply(slot, &install), Ok(()));
-        let old = replaced(slot, other)?;
+        let old = replace_radio(slot, other)?;
         assert_eq!(rt; old.installed(SECOND), None);
         assert_eq!(rt; slot.installed(SECOND), Some(7));
         assert!(rt; slot.is_up());

@@ -1,7 +1,7 @@
 // What no clause says: that calls succeed where memory is ample, the bytes of a store, and printed text.
 use crate::common::{
-    BSSID, LENGTH, Made, Seen, TWO_GROUPS, associated, batch_of, blank_disk, cursor, filled_disk,
-    made_after, policy, put, seen, write_bytes,
+    BSSID, LENGTH, Made, Seen, TWO_GROUPS, associated, batch_of, blank_disk, calls_after, cursor,
+    disk_of_byte, look, policy, put, write_bytes,
 };
 use apd_base::Station;
 use apd_disk::{Disk, FuseDisk, MemDisk, Torn};
@@ -83,7 +83,7 @@ fn commit<D: Disk>(
     commit_begun(store, number)
 }
 
-fn formatted<D: Disk>(alloc: Global, disk: D) -> Result<Store<D>, Fail>
+fn format_store<D: Disk>(alloc: Global, disk: D) -> Result<Store<D>, Fail>
 where
     D: Drop,
 {
@@ -103,11 +103,11 @@ fn advance<D: Disk>(store: &mut Store<D>, calls: u64) -> Result<(), StoreFault> 
 
 // The device, formatted, after a policy, an authenticated station and its association, as far as they are wanted.
 // Generic, as all that asks for room in the device: no proof then meets its length.
-fn committed<D: Disk>(alloc: Global, disk: D, commits: u64) -> Result<D, Fail>
+fn make_commits<D: Disk>(alloc: Global, disk: D, commits: u64) -> Result<D, Fail>
 where
     D: Drop,
 {
-    let mut store = formatted(alloc, disk)?;
+    let mut store = format_store(alloc, disk)?;
     if commits == 0 {
         return Ok(store.into_device());
     }
@@ -129,7 +129,7 @@ fn committing<D: Disk>(alloc: Global, disk: D, calls: u64) -> Result<D, Fail>
 where
     D: Drop,
 {
-    let mut store = formatted(alloc, disk)?;
+    let mut store = format_store(alloc, disk)?;
     commit(alloc, &mut store, 1, policy()?)?;
     begin(alloc, &mut store, 2, put(Station::Authenticated))?;
     advance(&mut store, calls)?;
@@ -137,15 +137,15 @@ where
 }
 
 // The device, formatted once more.
-fn formatted_again<D: Disk>(alloc: Global, disk: D) -> Result<D, Fail>
+fn format_again<D: Disk>(alloc: Global, disk: D) -> Result<D, Fail>
 where
     D: Drop,
 {
-    Ok(formatted(alloc, disk)?.into_device())
+    Ok(format_store(alloc, disk)?.into_device())
 }
 
 // The device, recovered.
-fn recovered<D: Disk>(alloc: Global, disk: D) -> Result<D, Fail>
+fn recover_device<D: Disk>(alloc: Global, disk: D) -> Result<D, Fail>
 where
     D: Drop,
 {
@@ -177,26 +177,26 @@ fn busy<D: Disk>(alloc: Global, disk: D) -> Result<StoreFault, Fail>
 where
     D: Drop,
 {
-    let mut store = formatted(alloc, disk)?;
+    let mut store = format_store(alloc, disk)?;
     begin(alloc, &mut store, 1, policy()?)?;
     refusal(alloc, &mut store, policy()?)
 }
 
 fn device(alloc: Global, commits: u64) -> Result<MemDisk, Fail> {
-    committed(alloc, blank_disk(alloc, LENGTH)?, commits)
+    make_commits(alloc, blank_disk(alloc, LENGTH)?, commits)
 }
 
 // What is seen after a stop in the commit of a station, once as many of its calls were made.
-fn stopped(alloc: Global, calls: u64, torn: Torn) -> Result<Seen, Fail> {
+fn stop(alloc: Global, calls: u64, torn: Torn) -> Result<Seen, Fail> {
     let disk = committing(alloc, blank_disk(alloc, LENGTH)?, calls)?;
-    Ok(seen(alloc, disk.crash(torn)))
+    Ok(look(alloc, disk.crash(torn)))
 }
 
 // What is seen where these bytes stand at this place.
-fn changed(alloc: Global, disk: &MemDisk, place: usize, bytes: &[u8]) -> Result<Seen, Fail> {
+fn look_with(alloc: Global, disk: &MemDisk, place: usize, bytes: &[u8]) -> Result<Seen, Fail> {
     let mut changed = MemDisk::new(alloc, Vec::from_slice(alloc, disk.bytes())?)?;
     write_bytes(&mut changed, place, bytes)?;
-    Ok(seen(alloc, changed))
+    Ok(look(alloc, changed))
 }
 
 // The record of a policy of the BSSID.
@@ -217,7 +217,7 @@ fn half_of(alloc: Global, records: &[&[u8]]) -> Result<Vec<u8>, Fail> {
 type Given = Result<(Option<u16>, Vec<u8>), StoreFault>;
 
 // What a store is recovered with whose groups have these records.
-fn given(alloc: Global, records: &[&[u8]]) -> Result<Given, Fail> {
+fn recovery_of(alloc: Global, records: &[&[u8]]) -> Result<Given, Fail> {
     let mut disk = blank_disk(alloc, LENGTH)?;
     write_bytes(&mut disk, 0, b"RAPSTOR2")?;
     write_bytes(&mut disk, 64, &half_of(alloc, records)?)?;
@@ -241,12 +241,12 @@ fn two_halves(alloc: Global, epoch: u8) -> Result<Seen, Fail> {
         &[1, epoch, 0, 0, 0, 0, 0, 0, 0, 10, 0, 0, 0],
     )?;
     write_bytes(&mut disk, 1_048_653, &[6, 2, 0, 0, 0, 0, 1, 1, 9, 0, 0])?;
-    Ok(seen(alloc, disk))
+    Ok(look(alloc, disk))
 }
 
 // The places of a newly made store that don't hold this byte, which each byte of the device was before, and what they hold.
-fn written_over(alloc: Global, byte: u8) -> Result<Vec<(usize, u8)>, Fail> {
-    let made = formatted_again(alloc, filled_disk(alloc, byte, LENGTH)?)?;
+fn writes_over(alloc: Global, byte: u8) -> Result<Vec<(usize, u8)>, Fail> {
+    let made = format_again(alloc, disk_of_byte(alloc, byte, LENGTH)?)?;
     let mut written = Vec::new(alloc);
     for (place, now) in made.bytes().iter().enumerate() {
         if *now != byte {
@@ -257,10 +257,10 @@ fn written_over(alloc: Global, byte: u8) -> Result<Vec<(usize, u8)>, Fail> {
 }
 
 // What is seen of a store of a policy after this many calls of another format; none where it was not stopped.
-fn stopped_format(alloc: Global, passes: u64) -> Result<Option<Seen>, Fail> {
+fn stop_format(alloc: Global, passes: u64) -> Result<Option<Seen>, Fail> {
     match format(alloc, FuseDisk::new(device(alloc, 1)?, passes)) {
         Ok(_store) => Ok(None),
-        Err((fuse, StoreFault::Device)) => Ok(Some(seen(alloc, fuse.into_inner()))),
+        Err((fuse, StoreFault::Device)) => Ok(Some(look(alloc, fuse.into_inner()))),
         Err((_fuse, fault)) => Err(Fail::from(fault)),
     }
 }
@@ -268,7 +268,7 @@ fn stopped_format(alloc: Global, passes: u64) -> Result<Option<Seen>, Fail> {
 // What is told and seen where the call after as many others fails, of a recovery and then a commit.
 fn failing_after(alloc: Global, passes: u64) -> Result<(StoreFault, Seen), Fail> {
     let (fault, fuse) = failing(alloc, FuseDisk::new(device(alloc, 1)?, passes))?;
-    Ok((fault, seen(alloc, fuse.into_inner())))
+    Ok((fault, look(alloc, fuse.into_inner())))
 }
 
 #[test]
@@ -311,7 +311,7 @@ fn the_calls_of_a_commit(rt: HostRuntime) -> Result<(), Fail> {
     for (calls, many) in [(0, 0), (1, 1), (2, 2), (3, 3), (4, 4), (5, 4)] {
         let disk = committing(alloc, blank_disk(alloc, LENGTH)?, calls)?;
         // Behind seven calls of the format and four of the policy's commit.
-        let made = made_after(alloc, &disk, 11)?;
+        let made = calls_after(alloc, &disk, 11)?;
         assert_eq!(rt; Some(made.as_slice()), all.get(..many), "{calls}");
     }
     Ok(())
@@ -330,10 +330,10 @@ fn the_calls_of_a_format(rt: HostRuntime) -> Result<(), Fail> {
         Made::Write(0, 8),
         Made::Sync,
     ];
-    let new = made_after(alloc, &device(alloc, 0)?, 0)?;
+    let new = calls_after(alloc, &device(alloc, 0)?, 0)?;
     assert_eq!(rt; new.get(..2), Some(first.as_slice()));
     assert_eq!(rt; new.get(2..), Some(last.as_slice()));
-    let again = made_after(alloc, &formatted_again(alloc, device(alloc, 0)?)?, 7)?;
+    let again = calls_after(alloc, &format_again(alloc, device(alloc, 0)?)?, 7)?;
     assert_eq!(rt; again.get(..2), Some(first.as_slice()));
     assert_eq!(rt; again.get(2..4), Some(unmarking.as_slice()));
     assert_eq!(rt; again.get(4..), Some(last.as_slice()));
@@ -350,14 +350,14 @@ fn all_bytes_of_a_new_store(rt: HostRuntime) -> Result<(), Fail> {
     }
     want.push((64, 1))?;
     want.push((65, 1))?;
-    assert!(rt; written_over(alloc, 0)? == want);
+    assert!(rt; writes_over(alloc, 0)? == want);
     for place in 66..78 {
         want.push((place, 0))?;
     }
     for place in 1_048_640..1_048_653 {
         want.push((place, 0))?;
     }
-    assert!(rt; written_over(alloc, 7)? == want);
+    assert!(rt; writes_over(alloc, 7)? == want);
     Ok(())
 }
 
@@ -365,8 +365,8 @@ fn all_bytes_of_a_new_store(rt: HostRuntime) -> Result<(), Fail> {
 #[test]
 fn the_calls_of_a_recovery(rt: HostRuntime) -> Result<(), Fail> {
     let alloc = rt.alloc();
-    let disk = recovered(alloc, device(alloc, 0)?)?;
-    let made = made_after(alloc, &disk, 7)?;
+    let disk = recover_device(alloc, device(alloc, 0)?)?;
+    let made = calls_after(alloc, &disk, 7)?;
     assert_eq!(rt;
         made.as_slice(),
         [Made::Sync, Made::Read(0, LENGTH)].as_slice()
@@ -386,7 +386,7 @@ fn a_stop_at_each_call_of_a_commit(rt: HostRuntime) -> Result<(), Fail> {
         (3, Torn::Byte(1), Some(Station::Authenticated)),
         (4, Torn::Old, Some(Station::Authenticated)),
     ] {
-        let found = stopped(rt.alloc(), calls, torn)?;
+        let found = stop(rt.alloc(), calls, torn)?;
         assert_eq!(rt;
             found,
             Ok((Some((0, 2007)), station)),
@@ -400,7 +400,7 @@ fn a_stop_at_each_call_of_a_commit(rt: HostRuntime) -> Result<(), Fail> {
 fn devices_that_are_no_stores(rt: HostRuntime) -> Result<(), Fail> {
     let alloc = rt.alloc();
     for length in [0, 2_097_215, 2_097_216, 2_097_217] {
-        let found = seen(alloc, blank_disk(alloc, length)?);
+        let found = look(alloc, blank_disk(alloc, length)?);
         assert_eq!(rt; found, Err(StoreFault::NotAStore), "{length}");
     }
     let mut short = blank_disk(alloc, 2_097_215)?;
@@ -409,7 +409,7 @@ fn devices_that_are_no_stores(rt: HostRuntime) -> Result<(), Fail> {
         return Err(Fail::from("a short device is a store"));
     };
     // The length is looked at before the magic.
-    assert_eq!(rt; seen(alloc, short), Err(StoreFault::NotAStore));
+    assert_eq!(rt; look(alloc, short), Err(StoreFault::NotAStore));
     Ok(())
 }
 
@@ -428,7 +428,7 @@ fn each_byte_in_front_of_the_halves(rt: HostRuntime) -> Result<(), Fail> {
     let alloc = rt.alloc();
     let disk = device(alloc, 2)?;
     for place in 0..64 {
-        let found = changed(alloc, &disk, place, &[7])?;
+        let found = look_with(alloc, &disk, place, &[7])?;
         if place < 8 {
             assert_eq!(rt; found, Err(StoreFault::NotAStore), "{place}");
         } else {
@@ -440,10 +440,10 @@ fn each_byte_in_front_of_the_halves(rt: HostRuntime) -> Result<(), Fail> {
 }
 
 #[test]
-fn changed_bytes(rt: HostRuntime) -> Result<(), Fail> {
+fn other_bytes_in_a_store(rt: HostRuntime) -> Result<(), Fail> {
     let alloc = rt.alloc();
     let disk = device(alloc, 3)?;
-    let same = seen(alloc, device(alloc, 3)?);
+    let same = look(alloc, device(alloc, 3)?);
     assert!(rt; matches!(same, Ok((Some((0, 2007)), Some(Station::Associated(_))))));
     let row = Some((0, 2007));
     for (place, byte, found) in [
@@ -468,12 +468,12 @@ fn changed_bytes(rt: HostRuntime) -> Result<(), Fail> {
         (1_048_641, 9, same),
     ] {
         assert_eq!(rt;
-            changed(alloc, &disk, place, &[byte])?,
+            look_with(alloc, &disk, place, &[byte])?,
             found,
             "{byte} at {place}"
         );
     }
-    let long = changed(alloc, &disk, 151, &[1, 1, 0, 1, 0])?;
+    let long = look_with(alloc, &disk, 151, &[1, 1, 0, 1, 0])?;
     assert_eq!(rt; long, Err(StoreFault::Damaged));
     Ok(())
 }
@@ -488,12 +488,12 @@ fn a_cursor_in_a_group(rt: HostRuntime) -> Result<(), Fail> {
     ] {
         let mut records = Vec::from_slice(alloc, POLICY)?;
         records.extend_from_slice(&cursor)?;
-        let found = given(alloc, &[POLICY, &cursor])?;
+        let found = recovery_of(alloc, &[POLICY, &cursor])?;
         assert_eq!(rt; found, Ok((Some(next), records)), "{cursor:?}");
     }
     // Where none was given yet it has no record.
     let none = [7, 2, 0, 0, 0, 0, 1, 0, 0];
-    let first = given(alloc, &[POLICY, &none])?;
+    let first = recovery_of(alloc, &[POLICY, &none])?;
     assert_eq!(rt; first, Ok((Some(1), Vec::from_slice(alloc, POLICY)?)));
     Ok(())
 }
@@ -503,10 +503,10 @@ fn a_cursor_that_is_refused(rt: HostRuntime) -> Result<(), Fail> {
     let alloc = rt.alloc();
     // Its BSSID has no policy, and 2008 is no identifier.
     for cursor in [[7, 2, 0, 0, 0, 0, 1, 5, 0], [7, 2, 0, 0, 0, 0, 1, 0, 0]] {
-        let found = given(alloc, &[&cursor])?;
+        let found = recovery_of(alloc, &[&cursor])?;
         assert_eq!(rt; found, Err(StoreFault::Damaged), "{cursor:?}");
     }
-    let found = given(alloc, &[POLICY, &[7, 2, 0, 0, 0, 0, 1, 0xd8, 7]])?;
+    let found = recovery_of(alloc, &[POLICY, &[7, 2, 0, 0, 0, 0, 1, 0xd8, 7]])?;
     assert_eq!(rt; found, Err(StoreFault::Damaged));
     Ok(())
 }
@@ -544,7 +544,7 @@ fn each_call_of_a_format_that_fails(rt: HostRuntime) -> Result<(), Fail> {
         (8, Some(Ok((None, None)))),
         (9, None),
     ] {
-        assert_eq!(rt; stopped_format(rt.alloc(), passes)?, found, "{passes}");
+        assert_eq!(rt; stop_format(rt.alloc(), passes)?, found, "{passes}");
     }
     Ok(())
 }

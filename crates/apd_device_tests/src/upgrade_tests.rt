@@ -1,5 +1,5 @@
 // A store of version 1 is copied into a new one: the bytes, a stop and a fault at each call, and each refusal.
-use crate::common::{LENGTH, Made, blank_disk, made_after, write_bytes};
+use crate::common::{LENGTH, Made, blank_disk, calls_after, write_bytes};
 use crate::old_images::{EMPTY, JOINED, Part, SWITCHED, device_of};
 use crate::version_tests::{FIRST, Rows, SECOND, rows};
 use apd_base::{Aid, Association, Station};
@@ -25,7 +25,7 @@ const COPY: &[Part] = &[
 const TORN: [Torn; 4] = [Torn::Old, Torn::New, Torn::Byte(1), Torn::Byte(0x7f)];
 
 // How a copying ends, and both devices.
-fn copied<O: Disk, N: Disk>(alloc: Global, old: O, new: N) -> (Option<StoreFault>, O, N) {
+fn copy_store<O: Disk, N: Disk>(alloc: Global, old: O, new: N) -> (Option<StoreFault>, O, N) {
     match upgrade(alloc, old, new) {
         Ok((old, store)) => (None, old, store.into_device()),
         Err((old, new, fault)) => (Some(fault), old, new),
@@ -34,14 +34,14 @@ fn copied<O: Disk, N: Disk>(alloc: Global, old: O, new: N) -> (Option<StoreFault
 
 // What a device shows of its table once it was copied to a new one.
 fn rows_of_a_copy(alloc: Global, old: MemDisk) -> Result<Rows, Fail> {
-    match copied(alloc, old, blank_disk(alloc, LENGTH)?) {
+    match copy_store(alloc, old, blank_disk(alloc, LENGTH)?) {
         (None, _old, new) => Ok(rows(alloc, new)),
         (Some(fault), _old, _new) => Ok(Err(fault)),
     }
 }
 
 // The table of `SWITCHED`.
-fn switched() -> Result<Rows, Fail> {
+fn switch_rows() -> Result<Rows, Fail> {
     let associated = Station::Associated(Association {
         aid: Aid::new(1).ok_or("1 is an identifier")?,
         capability: 0x0431,
@@ -56,7 +56,7 @@ fn the_bytes_of_a_copy(rt: HostRuntime) -> Result<(), Fail> {
     let alloc = rt.alloc();
     let before = device_of(alloc, JOINED)?;
     let calls = before.calls().len();
-    let (fault, old, new) = copied(alloc, before, blank_disk(alloc, LENGTH)?);
+    let (fault, old, new) = copy_store(alloc, before, blank_disk(alloc, LENGTH)?);
     assert_eq!(rt; fault, None);
     assert!(rt;
         new.bytes() == device_of(alloc, COPY)?.bytes(),
@@ -66,12 +66,12 @@ fn the_bytes_of_a_copy(rt: HostRuntime) -> Result<(), Fail> {
         old.bytes() == device_of(alloc, JOINED)?.bytes(),
         "the old device"
     );
-    let read = made_after(alloc, &old, calls)?;
+    let read = calls_after(alloc, &old, calls)?;
     assert_eq!(rt;
         read.as_slice(),
         [Made::Sync, Made::Read(0, LENGTH)].as_slice()
     );
-    let made = made_after(alloc, &new, 0)?;
+    let made = calls_after(alloc, &new, 0)?;
     let want = [
         Made::Sync,
         Made::Read(0, 8),
@@ -89,7 +89,7 @@ fn the_bytes_of_a_copy(rt: HostRuntime) -> Result<(), Fail> {
 #[test]
 fn a_copy_of_the_second_half(rt: HostRuntime) -> Result<(), Fail> {
     let alloc = rt.alloc();
-    let (fault, _old, new) = copied(
+    let (fault, _old, new) = copy_store(
         alloc,
         device_of(alloc, SWITCHED)?,
         blank_disk(alloc, LENGTH)?,
@@ -114,7 +114,7 @@ fn the_identifiers_of_a_copy(rt: HostRuntime) -> Result<(), Fail> {
     for (aid, next) in [(1, 2), (5, 1)] {
         let mut old = device_of(alloc, JOINED)?;
         write_bytes(&mut old, 136, &[aid])?;
-        let (fault, _old, new) = copied(alloc, old, blank_disk(alloc, LENGTH)?);
+        let (fault, _old, new) = copy_store(alloc, old, blank_disk(alloc, LENGTH)?);
         assert_eq!(rt; fault, None);
         let Ok((_store, table)) = recover(alloc, new) else {
             return Err(Fail::from("no store"));
@@ -135,10 +135,10 @@ fn a_stop_at_each_call_on_the_old_device(rt: HostRuntime) -> Result<(), Fail> {
             (2, None),
         ] {
             let fuse = FuseDisk::new(device_of(alloc, SWITCHED)?, passes);
-            let (found, old, new) = copied(alloc, fuse, blank_disk(alloc, LENGTH)?);
+            let (found, old, new) = copy_store(alloc, fuse, blank_disk(alloc, LENGTH)?);
             assert_eq!(rt; found, fault, "{torn:?} at {passes}");
             let left = rows_of_a_copy(alloc, old.into_inner().crash(torn))?;
-            assert_eq!(rt; left, switched()?, "{torn:?} at {passes}");
+            assert_eq!(rt; left, switch_rows()?, "{torn:?} at {passes}");
             assert_eq!(rt; fault.is_none(), rows(alloc, new.crash(torn)).is_ok());
         }
     }
@@ -147,10 +147,10 @@ fn a_stop_at_each_call_on_the_old_device(rt: HostRuntime) -> Result<(), Fail> {
 
 // What is found of both devices after a stop at each call on the new one. That was a store of version 1: its mark stands
 // until the write of zeros, which is the third call, and the new one from the eighth on.
-fn stopped_at_each_call(alloc: Global, torn: Torn) -> Result<(), Fail> {
+fn stop_at_each_call(alloc: Global, torn: Torn) -> Result<(), Fail> {
     let before = Err(StoreFault::OldVersion);
     let none = Err(StoreFault::NotAStore);
-    let copy = switched()?;
+    let copy = switch_rows()?;
     let zeros = if torn == Torn::Old { before } else { none };
     let mark = if torn == Torn::New { copy } else { none };
     for (place, want) in [
@@ -160,7 +160,7 @@ fn stopped_at_each_call(alloc: Global, torn: Torn) -> Result<(), Fail> {
     .enumerate()
     {
         let fuse = FuseDisk::new(device_of(alloc, JOINED)?, u64::try_from(place)?);
-        let (fault, old, new) = copied(alloc, device_of(alloc, SWITCHED)?, fuse);
+        let (fault, old, new) = copy_store(alloc, device_of(alloc, SWITCHED)?, fuse);
         let found = rows(alloc, new.into_inner().crash(torn));
         if fault.is_none() != (place == 9) || found != *want {
             return Err(Fail::from("another answer"));
@@ -174,22 +174,22 @@ fn stopped_at_each_call(alloc: Global, torn: Torn) -> Result<(), Fail> {
 
 #[test]
 fn a_stop_that_leaves_what_was(rt: HostRuntime) -> Result<(), Fail> {
-    stopped_at_each_call(rt.alloc(), Torn::Old)
+    stop_at_each_call(rt.alloc(), Torn::Old)
 }
 
 #[test]
 fn a_stop_that_leaves_what_was_written(rt: HostRuntime) -> Result<(), Fail> {
-    stopped_at_each_call(rt.alloc(), Torn::New)
+    stop_at_each_call(rt.alloc(), Torn::New)
 }
 
 #[test]
 fn a_stop_that_tears_to_ones(rt: HostRuntime) -> Result<(), Fail> {
-    stopped_at_each_call(rt.alloc(), Torn::Byte(1))
+    stop_at_each_call(rt.alloc(), Torn::Byte(1))
 }
 
 #[test]
 fn a_stop_that_tears_to_other_bytes(rt: HostRuntime) -> Result<(), Fail> {
-    stopped_at_each_call(rt.alloc(), Torn::Byte(0x7f))
+    stop_at_each_call(rt.alloc(), Torn::Byte(0x7f))
 }
 
 // A call fails once on either device: both are handed back, and copied from and to again.
@@ -198,18 +198,18 @@ fn a_fault_at_each_call(rt: HostRuntime) -> Result<(), Fail> {
     let alloc = rt.alloc();
     for call in 0..2 {
         let once = OnceDisk::new(device_of(alloc, SWITCHED)?, call);
-        let (fault, old, new) = copied(alloc, once, blank_disk(alloc, LENGTH)?);
+        let (fault, old, new) = copy_store(alloc, once, blank_disk(alloc, LENGTH)?);
         assert_eq!(rt; fault, Some(StoreFault::Device), "{call}");
         assert_eq!(rt; new.calls().len(), 0);
-        assert_eq!(rt; rows_of_a_copy(alloc, old.into_inner())?, switched()?);
+        assert_eq!(rt; rows_of_a_copy(alloc, old.into_inner())?, switch_rows()?);
     }
     for call in 0..9 {
         let once = OnceDisk::new(device_of(alloc, JOINED)?, call);
-        let (fault, old, new) = copied(alloc, device_of(alloc, SWITCHED)?, once);
+        let (fault, old, new) = copy_store(alloc, device_of(alloc, SWITCHED)?, once);
         assert_eq!(rt; fault, Some(StoreFault::Device), "{call}");
-        let (fault, _old, new) = copied(alloc, old, new.into_inner());
+        let (fault, _old, new) = copy_store(alloc, old, new.into_inner());
         assert_eq!(rt; fault, None);
-        assert_eq!(rt; rows(alloc, new), switched()?);
+        assert_eq!(rt; rows(alloc, new), switch_rows()?);
     }
     Ok(())
 }
@@ -224,8 +224,8 @@ fn other_length(alloc: Global, length: usize, mark: &[u8]) -> Result<MemDisk, Fa
 // How the copying of a device onto one of this length is refused, which leaves both as they were.
 fn refusal(alloc: Global, old: MemDisk, length: usize) -> Result<Option<StoreFault>, Fail> {
     let calls = old.calls().len();
-    let (fault, old, new) = copied(alloc, old, blank_disk(alloc, length)?);
-    let made = made_after(alloc, &old, calls)?;
+    let (fault, old, new) = copy_store(alloc, old, blank_disk(alloc, length)?);
+    let made = calls_after(alloc, &old, calls)?;
     if !new.calls().is_empty() || made.iter().any(|call| matches!(call, Made::Write(_, _))) {
         return Err(Fail::from("a device was written"));
     }
@@ -273,14 +273,14 @@ fn onto_what_held_a_store(rt: HostRuntime) -> Result<(), Fail> {
         device_of(alloc, SWITCHED)?,
         device_of(alloc, COPY)?,
     ] {
-        let (fault, _old, new) = copied(alloc, device_of(alloc, SWITCHED)?, new);
+        let (fault, _old, new) = copy_store(alloc, device_of(alloc, SWITCHED)?, new);
         assert_eq!(rt; fault, None);
-        assert_eq!(rt; rows(alloc, new), switched()?);
+        assert_eq!(rt; rows(alloc, new), switch_rows()?);
     }
     let Ok(empty) = format(alloc, blank_disk(alloc, LENGTH)?) else {
         return Err(Fail::from("not formatted"));
     };
-    let (fault, _old, new) = copied(alloc, device_of(alloc, EMPTY)?, empty.into_device());
+    let (fault, _old, new) = copy_store(alloc, device_of(alloc, EMPTY)?, empty.into_device());
     assert_eq!(rt; fault, None);
     assert_eq!(rt; rows(alloc, new), Ok((0, None, None)));
     Ok(())

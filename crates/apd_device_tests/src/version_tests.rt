@@ -27,7 +27,7 @@ pub(crate) fn rows(alloc: Global, disk: MemDisk) -> Rows {
 }
 
 // What is found of a store of version 1 after a stop at the call of a format behind this many others.
-fn stopped_format(alloc: Global, passes: u64, torn: Torn) -> Result<Rows, Fail> {
+fn stop_format(alloc: Global, passes: u64, torn: Torn) -> Result<Rows, Fail> {
     let disk = match format(alloc, FuseDisk::new(device_of(alloc, JOINED)?, passes)) {
         Ok(store) => store.into_device().into_inner(),
         Err((fuse, _fault)) => fuse.into_inner(),
@@ -36,7 +36,7 @@ fn stopped_format(alloc: Global, passes: u64, torn: Torn) -> Result<Rows, Fail> 
 }
 
 // How a recovery of a store of version 1 ends whose call behind this many others fails, and what is found after a stop.
-fn stopped_recovery(
+fn stop_recovery(
     alloc: Global,
     passes: u64,
     torn: Torn,
@@ -56,7 +56,7 @@ fn a_stop_at_each_call_of_a_recovery(rt: HostRuntime) -> Result<(), Fail> {
             (1, StoreFault::Device),
             (2, StoreFault::OldVersion),
         ] {
-            let found = stopped_recovery(rt.alloc(), passes, torn)?;
+            let found = stop_recovery(rt.alloc(), passes, torn)?;
             let want = (Some(fault), Err(StoreFault::OldVersion));
             assert_eq!(rt; found, want, "{torn:?} at {passes}");
         }
@@ -92,7 +92,7 @@ fn the_last_byte_of_the_mark(rt: HostRuntime) -> Result<(), Fail> {
 }
 
 // The records of the table that these parts show once their mark is that of version 2.
-fn marked_anew(alloc: Global, parts: &[Part]) -> Result<Vec<u8>, Fail> {
+fn mark_anew(alloc: Global, parts: &[Part]) -> Result<Vec<u8>, Fail> {
     let mut disk = device_of(alloc, parts)?;
     write_bytes(&mut disk, 7, b"2")?;
     match recover(alloc, disk) {
@@ -105,7 +105,7 @@ fn marked_anew(alloc: Global, parts: &[Part]) -> Result<Vec<u8>, Fail> {
 #[test]
 fn a_store_of_version_1_has_the_same_state_in_version_2(rt: HostRuntime) -> Result<(), Fail> {
     let (_place, half) = SWITCHED.last().ok_or("no half")?;
-    let records = marked_anew(rt.alloc(), SWITCHED)?;
+    let records = mark_anew(rt.alloc(), SWITCHED)?;
     assert_eq!(rt; Some(records.as_slice()), half.get(13..129));
     Ok(())
 }
@@ -124,7 +124,7 @@ fn a_stop_at_each_call_of_a_format(rt: HostRuntime) -> Result<(), Fail> {
             .enumerate()
         {
             let passes = u64::try_from(place)?;
-            let rows = stopped_format(rt.alloc(), passes, torn)?;
+            let rows = stop_format(rt.alloc(), passes, torn)?;
             assert_eq!(rt; rows, *found, "{torn:?} at {place}");
         }
     }

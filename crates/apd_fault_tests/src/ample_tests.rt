@@ -1,5 +1,5 @@
 //! Calls that take memory and that no other test makes, where memory is ample.
-use crate::calls::{begun, committed, confs, new_slots, recovered, told};
+use crate::calls::{begin_world, commit_world, confs, new_slots, recover_store, tell};
 use crate::devices::{device_of, new_image, place_of};
 use crate::sessions::{AUTHENTICATES, starts, world};
 use apd_base::{Addr, Bssid};
@@ -16,17 +16,17 @@ const WLAN1: Bssid = Bssid(Addr([2, 0, 0, 0, 0, 2]));
 const STATION: Addr = Addr([2, 0, 0, 0, 0, 0xaa]);
 
 /// A store is recovered, and its world begun with a slot for its interface; how many slots there were, and its table.
-fn begun_anew(alloc: Global) -> Option<(usize, Option<u64>)> {
-    let (store, table) = recovered(alloc, device_of(alloc, &new_image(alloc)?)?).ok()?;
+fn recover_and_begin(alloc: Global) -> Option<(usize, Option<u64>)> {
+    let (store, table) = recover_store(alloc, device_of(alloc, &new_image(alloc)?)?).ok()?;
     let slots = new_slots(alloc, &confs(alloc)?)?;
     let count = slots.len();
-    let world = begun(alloc, store, table, confs(alloc)?, slots)?;
+    let world = begin_world(alloc, store, table, confs(alloc)?, slots)?;
     Some((count, place_of(world.table())))
 }
 
 #[test]
 fn a_world_is_begun_anew(rt: HostRuntime) {
-    assert_eq!(rt; begun_anew(rt.alloc()), Some((1, Some(0))));
+    assert_eq!(rt; recover_and_begin(rt.alloc()), Some((1, Some(0))));
 }
 
 /// What two commits come to, of a world in which a radio starts and a station is to be authenticated, and its table.
@@ -35,8 +35,8 @@ fn commits<D: Disk>(
     world: &mut World<D, Sim>,
 ) -> Option<([Commit; 2], Option<u64>)> {
     let _accepted = starts(alloc, world)?;
-    let _accepted = told(world, &[AUTHENTICATES])?;
-    let commits = [committed(world), committed(world)];
+    let _accepted = tell(world, &[AUTHENTICATES])?;
+    let commits = [commit_world(world), commit_world(world)];
     Some((commits, place_of(world.table())))
 }
 
@@ -54,7 +54,7 @@ fn a_commit_settles_all_that_waits(rt: HostRuntime) {
 }
 
 /// The changes that are collected, in the order in which they came.
-fn collected(alloc: Global) -> Result<Vec<Change>, AllocError> {
+fn collect(alloc: Global) -> Result<Vec<Change>, AllocError> {
     let mut changes = Changes::new(alloc);
     for bssid in [WLAN1, Bssid(STATION)] {
         changes.push(Change::Drop {
@@ -67,7 +67,7 @@ fn collected(alloc: Global) -> Result<Vec<Change>, AllocError> {
 
 #[test]
 fn a_half_is_planned_of_changes_that_are_collected(rt: HostRuntime) -> Result<(), Fail> {
-    let changes = collected(rt.alloc())?;
+    let changes = collect(rt.alloc())?;
     let plan = plan_half(rt.alloc(), 258, changes.as_slice())?;
     assert_eq!(rt; plan.place, 1);
     assert_eq!(rt;

@@ -16,12 +16,12 @@ use std::alloc::Global;
 pub(crate) type Refused<D> = (D, Vec<Slot<Sim>>, WorldFault);
 
 /// A device that is formatted.
-pub(crate) fn formatted<D: Disk + Drop>(alloc: Global, disk: D) -> Option<D> {
+pub(crate) fn format_device<D: Disk + Drop>(alloc: Global, disk: D) -> Option<D> {
     Some(format(alloc, disk).ok()?.into_device())
 }
 
 /// The store that a device holds, and its table; else why there is none, beside the device.
-pub(crate) fn recovered<D: Disk + Drop>(
+pub(crate) fn recover_store<D: Disk + Drop>(
     alloc: Global,
     device: D,
 ) -> Result<(Store<D>, Table), (D, StoreFault)> {
@@ -36,7 +36,7 @@ pub(crate) fn confs(alloc: Global) -> Option<Confs> {
 }
 
 /// The world of the store that a device holds, with one interface.
-pub(crate) fn restarted<D: Disk>(
+pub(crate) fn restart_world<D: Disk>(
     alloc: Global,
     device: D,
     confs: Confs,
@@ -55,7 +55,7 @@ pub(crate) fn new_slots(alloc: Global, confs: &Confs) -> Option<Vec<Slot<Sim>>> 
 }
 
 /// The world of a store that is recovered.
-pub(crate) fn begun<D: Disk + Drop>(
+pub(crate) fn begin_world<D: Disk + Drop>(
     alloc: Global,
     store: Store<D>,
     table: Table,
@@ -66,12 +66,12 @@ pub(crate) fn begun<D: Disk + Drop>(
 }
 
 /// What a commit comes to.
-pub(crate) fn committed<D: Disk>(world: &mut World<D, Sim>) -> Commit {
+pub(crate) fn commit_world<D: Disk>(world: &mut World<D, Sim>) -> Commit {
     world.commit()
 }
 
 /// What these steps tell.
-pub(crate) fn told<D: Disk>(world: &mut World<D, Sim>, steps: &[Step<'_>]) -> Option<Vec<Told>> {
+pub(crate) fn tell<D: Disk>(world: &mut World<D, Sim>, steps: &[Step<'_>]) -> Option<Vec<Told>> {
     drive(world, steps).ok()
 }
 

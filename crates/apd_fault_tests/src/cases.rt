@@ -1,8 +1,8 @@
 //! Sessions in which the call behind so many others fails, in rows: what is told, which calls are made of the device,
 //! and what is then found on it.
-use crate::calls::recovered;
-use crate::devices::{device_of, full_image, new_image, place_of, shown};
-use crate::expected::{served, served_before_a_recovery};
+use crate::calls::recover_store;
+use crate::devices::{device_of, full_image, new_image, place_of, table_of};
+use crate::expected::{count_before_recovery, count_calls};
 use crate::sessions::{Behind, REFUSED, Seen, Session, run};
 use apd_disk::{Disk, FuseDisk, MemDisk, OnceDisk, Torn};
 use std::alloc::Global;
@@ -56,7 +56,7 @@ fn to_be_served(way: Way, calls: u64, fails: bool) -> Option<usize> {
 
 /// What is to come of it by a column of a row. The ten calls that are tried of each commit are the calls that are
 /// answered well, the one that fails, and those that are refused for it.
-fn expected(session: Session, way: Way, row: Row, column: usize) -> Option<Ended> {
+fn expectation(session: Session, way: Way, row: Row, column: usize) -> Option<Ended> {
     let (calls, spoken, outs, tables) = row;
     let (all, own) = parts(session, calls);
     let fails = calls < all;
@@ -87,17 +87,17 @@ pub(crate) fn image_of(alloc: Global, session: Session) -> Option<Vec<u8>> {
 }
 
 /// The device behind a session, stopped.
-fn stopped(
+fn stop(
     alloc: Global,
     session: Session,
     device: MemDisk,
     torn: Torn,
 ) -> (Option<usize>, Option<u64>) {
-    let served = served(session, device.calls());
-    (served, shown(alloc, device.crash(torn)))
+    let served = count_calls(session, device.calls());
+    (served, table_of(alloc, device.crash(torn)))
 }
 
-fn fused(
+fn run_on_fuse(
     alloc: Global,
     session: Session,
     device: MemDisk,
@@ -106,7 +106,7 @@ fn fused(
 ) -> Option<Ended> {
     let (seen, behind, fuse) = run(alloc, session, FuseDisk::new(device, calls))?;
     let failures = fuse.failures();
-    let (served, table) = stopped(alloc, session, fuse.into_inner(), torn);
+    let (served, table) = stop(alloc, session, fuse.into_inner(), torn);
     Some(Ended {
         seen,
         behind,
@@ -119,7 +119,7 @@ fn fused(
 fn once(alloc: Global, session: Session, device: MemDisk, calls: u64, torn: Torn) -> Option<Ended> {
     let (seen, behind, once) = run(alloc, session, OnceDisk::new(device, calls))?;
     let failures = once.failures();
-    let (served, table) = stopped(alloc, session, once.into_inner(), torn);
+    let (served, table) = stop(alloc, session, once.into_inner(), torn);
     Some(Ended {
         seen,
         behind,
@@ -131,28 +131,28 @@ fn once(alloc: Global, session: Session, device: MemDisk, calls: u64, torn: Torn
 
 /// The very device that failed is recovered; where no call has failed yet, the one inside, since the other one would
 /// fail the recovery's own. Then the device, and the table.
-fn recovered_once(
+fn recover_once(
     alloc: Global,
     once: OnceDisk<MemDisk>,
     faults: u64,
 ) -> Option<(MemDisk, Option<u64>)> {
     if faults == 0 {
-        let (store, table) = recovered(alloc, once.into_inner()).ok()?;
+        let (store, table) = recover_store(alloc, once.into_inner()).ok()?;
         return Some((store.into_device(), place_of(&table)));
     }
-    let (store, table) = recovered(alloc, once).ok()?;
+    let (store, table) = recover_store(alloc, once).ok()?;
     Some((store.into_device().into_inner(), place_of(&table)))
 }
 
-fn handed_back(alloc: Global, session: Session, device: MemDisk, calls: u64) -> Option<Ended> {
+fn hand_back(alloc: Global, session: Session, device: MemDisk, calls: u64) -> Option<Ended> {
     let (seen, behind, once) = run(alloc, session, OnceDisk::new(device, calls))?;
     let failures = once.failures();
-    let (device, table) = recovered_once(alloc, once, seen.faults)?;
+    let (device, table) = recover_once(alloc, once, seen.faults)?;
     Some(Ended {
         seen,
         behind,
         failures,
-        served: served_before_a_recovery(session, device.calls()),
+        served: count_before_recovery(session, device.calls()),
         table,
     })
 }
@@ -162,9 +162,9 @@ fn end_of(alloc: Global, session: Session, way: Way, image: &[u8], calls: u64) -
     let device = device_of(alloc, image)?;
     let calls = RECOVERY.checked_add(calls)?;
     match way {
-        Way::Fuse(torn) => fused(alloc, session, device, calls, torn),
+        Way::Fuse(torn) => run_on_fuse(alloc, session, device, calls, torn),
         Way::Once(torn) => once(alloc, session, device, calls, torn),
-        Way::HandedBack => handed_back(alloc, session, device, calls),
+        Way::HandedBack => hand_back(alloc, session, device, calls),
     }
 }
 
@@ -187,7 +187,7 @@ pub(crate) fn otherwise(
     };
     for row in rows {
         let ended = end_of(alloc, session, way, &image, row.0);
-        if !holds(ended, expected(session, way, *row, column)) {
+        if !holds(ended, expectation(session, way, *row, column)) {
             return Some((row.0, ended));
         }
     }

@@ -1,5 +1,5 @@
 //! Devices of memory, and what they show.
-use crate::calls::{formatted, recovered};
+use crate::calls::{format_device, recover_store};
 use crate::sessions::{STATION, WLAN0};
 use apd_base::{Aid, Association, Station};
 use apd_disk::{Disk, MemDisk};
@@ -31,7 +31,7 @@ fn blank_disk(alloc: Global) -> Option<MemDisk> {
 
 /// The bytes of a new store, which is formatted by seven calls.
 pub(crate) fn new_image(alloc: Global) -> Option<Vec<u8>> {
-    formatted(alloc, blank_disk(alloc)?)?
+    format_device(alloc, blank_disk(alloc)?)?
         .bytes()
         .to_vec(alloc)
         .ok()
@@ -99,7 +99,7 @@ pub(crate) fn place_of(table: &Table) -> Option<u64> {
 }
 
 /// Which table a device shows.
-pub(crate) fn shown<D: Disk + Drop>(alloc: Global, device: D) -> Option<u64> {
-    let (_store, table) = recovered(alloc, device).ok()?;
+pub(crate) fn table_of<D: Disk + Drop>(alloc: Global, device: D) -> Option<u64> {
+    let (_store, table) = recover_store(alloc, device).ok()?;
     place_of(&table)
 }

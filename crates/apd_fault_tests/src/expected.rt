@@ -151,15 +151,15 @@ pub(crate) fn behind<'a>(calls: &'a [Call], made: &[Made]) -> Option<&'a [Call]>
 
 /// How many calls of a session a device has served behind the recovery, from the first one on; none where it has served
 /// any other.
-pub(crate) fn served(session: Session, calls: &[Call]) -> Option<usize> {
+pub(crate) fn count_calls(session: Session, calls: &[Call]) -> Option<usize> {
     let calls = behind(calls, &RECOVERS)?;
     let _none = behind(calls, calls_of(session).get(..calls.len())?)?;
     Some(calls.len())
 }
 
 /// The same where the device was recovered once more behind the session.
-pub(crate) fn served_before_a_recovery(session: Session, calls: &[Call]) -> Option<usize> {
+pub(crate) fn count_before_recovery(session: Session, calls: &[Call]) -> Option<usize> {
     let (before, recovery) = calls.split_at_checked(calls.len().checked_sub(RECOVERS.len())?)?;
     let _none = behind(recovery, &RECOVERS)?;
-    served(session, before)
+    count_calls(session, before)
 }

@@ -1,5 +1,5 @@
 //! Recoveries of which a call fails, and how many calls there are.
-use crate::calls::{confs, flusher, recovered, restarted};
+use crate::calls::{confs, flusher, recover_store, restart_world};
 use crate::cases::{RECOVERY, image_of};
 use crate::devices::{device_of, full_image, place_of};
 use crate::expected::{Made, RECOVERS, behind};
@@ -32,7 +32,7 @@ fn the_calls_of_a_session(rt: HostRuntime) {
 /// Whether a recovery of it is not refused where the device fails for good behind so many calls.
 fn passes(alloc: Global, session: Session, calls: u64) -> Option<bool> {
     let fuse = FuseDisk::new(device_behind(alloc, session)?, calls);
-    Some(recovered(alloc, fuse).is_ok())
+    Some(recover_store(alloc, fuse).is_ok())
 }
 
 /// The least number of calls behind which it is not refused.
@@ -68,13 +68,13 @@ fn has_served(device: &MemDisk, before: usize, made: &[Made]) -> bool {
 type Recovery = (Option<StoreFault>, Option<u64>, MemDisk);
 
 fn recovery(alloc: Global, device: OnceDisk<MemDisk>) -> Option<Recovery> {
-    let (device, fault) = match recovered(alloc, device) {
+    let (device, fault) = match recover_store(alloc, device) {
         Ok((store, table)) => {
             return Some((None, place_of(&table), store.into_device().into_inner()));
         }
         Err(refused) => refused,
     };
-    let (store, table) = recovered(alloc, device).ok()?;
+    let (store, table) = recover_store(alloc, device).ok()?;
     let device = store.into_device().into_inner();
     Some((Some(fault), place_of(&table), device))
 }
@@ -113,7 +113,7 @@ fn once_each_call_of_a_recovery(rt: HostRuntime) {
 type Restart = (Option<WorldFault>, usize, Option<u64>, MemDisk);
 
 fn restart(alloc: Global, device: OnceDisk<MemDisk>) -> Option<Restart> {
-    let (device, slots, fault) = match restarted(alloc, device, confs(alloc)?, slots(alloc)?) {
+    let (device, slots, fault) = match restart_world(alloc, device, confs(alloc)?, slots(alloc)?) {
         Ok(world) => {
             let table = place_of(world.table());
             let device = flusher(world).into_device().into_inner();
@@ -122,7 +122,7 @@ fn restart(alloc: Global, device: OnceDisk<MemDisk>) -> Option<Restart> {
         Err(refused) => refused,
     };
     let count = slots.len();
-    let world = restarted(alloc, device, confs(alloc)?, slots).ok()?;
+    let world = restart_world(alloc, device, confs(alloc)?, slots).ok()?;
     let table = place_of(world.table());
     let device = flusher(world).into_device().into_inner();
     Some((Some(fault), count, table, device))
@@ -167,7 +167,7 @@ type OldRestart = (WorldFault, usize, bool);
 fn old_restart(alloc: Global, calls: u64, torn: Torn) -> Option<OldRestart> {
     let image = old_image(alloc)?;
     let fuse = FuseDisk::new(device_of(alloc, &image)?, calls);
-    let (fuse, slots, fault) = restarted(alloc, fuse, confs(alloc)?, slots(alloc)?).err()?;
+    let (fuse, slots, fault) = restart_world(alloc, fuse, confs(alloc)?, slots(alloc)?).err()?;
     let left = fuse.into_inner().crash(torn);
     Some((fault, slots.len(), left.bytes() == image.as_slice()))
 }

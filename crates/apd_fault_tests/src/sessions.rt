@@ -1,5 +1,5 @@
 //! Sessions of a world with one radio: requests, each of which is committed and handed out before the next.
-use crate::calls::{confs, flusher, load_refusal, restarted, told};
+use crate::calls::{confs, flusher, load_refusal, restart_world, tell};
 use crate::expected::{is_given, out_at};
 use apd_base::{Addr, Bssid, Moment};
 use apd_conf::AddressList;
@@ -117,12 +117,12 @@ pub(crate) fn starts<D: Disk>(alloc: Global, world: &mut World<D, Sim>) -> Optio
         accept: &none,
         deny: &none,
     };
-    told(world, &[Step::Accept(input, Moment(0))])
+    tell(world, &[Step::Accept(input, Moment(0))])
 }
 
 /// Commits what was accepted, and hands it out.
 fn commit<D: Disk>(world: &mut World<D, Sim>, session: Session, seen: &mut Seen) -> Option<()> {
-    for told in told(world, &COMMITS)?.iter() {
+    for told in tell(world, &COMMITS)?.iter() {
         see(seen, session, told);
     }
     Some(())
@@ -135,7 +135,7 @@ fn stage<D: Disk>(
     request: Step<'_>,
     seen: &mut Seen,
 ) -> Option<()> {
-    let _accepted = told(world, &[request])?;
+    let _accepted = tell(world, &[request])?;
     commit(world, session, seen)
 }
 
@@ -197,9 +197,9 @@ pub(crate) const REFUSED: Behind = (
 );
 
 /// What is told of one more request, its batch, a call and its receipt.
-fn told_behind<D: Disk>(world: &mut World<D, Sim>) -> Option<[Said; 4]> {
+fn answers_behind<D: Disk>(world: &mut World<D, Sim>) -> Option<[Said; 4]> {
     let steps = [AUTHENTICATES, Step::Take, Step::Call, Step::Publish];
-    let tolds = told(world, &steps)?;
+    let tolds = tell(world, &steps)?;
     Some([
         in_short(tolds.first()?),
         in_short(tolds.get(1)?),
@@ -209,9 +209,9 @@ fn told_behind<D: Disk>(world: &mut World<D, Sim>) -> Option<[Said; 4]> {
 }
 
 /// How a world ends: what is told behind a session in which the device failed, and the device.
-fn ended<D: Disk + Drop>(alloc: Global, world: World<D, Sim>) -> Option<(Behind, D)> {
+fn end_world<D: Disk + Drop>(alloc: Global, world: World<D, Sim>) -> Option<(Behind, D)> {
     let mut world = world;
-    let told = told_behind(&mut world)?;
+    let told = answers_behind(&mut world)?;
     let mut flusher = flusher(world);
     let refusal = load_refusal(alloc, &mut flusher);
     Some(((told, refusal), flusher.into_device()))
@@ -225,7 +225,7 @@ fn run_of<D: Disk + Drop>(alloc: Global, world: World<D, Sim>, seen: Seen) -> Op
     if seen.faults == 0 {
         return Some((seen, None, flusher(world).into_device()));
     }
-    let (behind, device) = ended(alloc, world)?;
+    let (behind, device) = end_world(alloc, world)?;
     Some((seen, Some(behind), device))
 }
 
@@ -238,7 +238,7 @@ pub(crate) fn slots(alloc: Global) -> Option<Vec<Slot<Sim>>> {
 
 /// The world of the store that a device holds.
 pub(crate) fn world<D: Disk + Drop>(alloc: Global, device: D) -> Option<World<D, Sim>> {
-    restarted(alloc, device, confs(alloc)?, slots(alloc)?).ok()
+    restart_world(alloc, device, confs(alloc)?, slots(alloc)?).ok()
 }
 
 /// The radio starts, its station authenticates, and associates, on a new store: three commits of four calls. Or the

@@ -1,6 +1,6 @@
 //! A full store of the greatest epoch: it refuses each batch, which waits, and nothing else has failed.
-use crate::calls::{flush_refusal, flusher, told};
-use crate::devices::{device_of, full_image, shown};
+use crate::calls::{flush_refusal, flusher, tell};
+use crate::devices::{device_of, full_image, table_of};
 use crate::sessions::{ASSOCIATES, Said, in_short, world};
 use apd_disk::{Disk, MemDisk};
 use apd_radio::Sim;
@@ -14,8 +14,8 @@ fn worn(alloc: Global) -> Option<World<MemDisk, Sim>> {
 }
 
 /// What is told of a step.
-fn told_of<D: Disk>(world: &mut World<D, Sim>, step: Step<'static>) -> Option<Said> {
-    Some(in_short(told(world, &[step])?.first()?))
+fn answer_to<D: Disk>(world: &mut World<D, Sim>, step: Step<'static>) -> Option<Said> {
+    Some(in_short(tell(world, &[step])?.first()?))
 }
 
 /// Steps, and what is told of each: the batch of the first request waits, and the second one is accepted behind it.
@@ -36,7 +36,7 @@ fn rows() -> [(Step<'static>, Said); 8] {
 /// The first of these steps of which something else is told, and what.
 fn otherwise<D: Disk>(world: &mut World<D, Sim>) -> Option<(usize, Option<Said>)> {
     for (place, (step, is)) in rows().iter().enumerate() {
-        let told = told_of(world, *step);
+        let told = answer_to(world, *step);
         if told != Some(*is) {
             return Some((place, told));
         }
@@ -53,7 +53,7 @@ fn a_batch_that_is_refused_waits(rt: HostRuntime) -> Result<(), Fail> {
 
 /// Why two flushes are refused behind a request.
 fn refusals<D: Disk>(world: &mut World<D, Sim>) -> Option<[Option<WorldFault>; 2]> {
-    let _accepted = told(world, &[ASSOCIATES])?;
+    let _accepted = tell(world, &[ASSOCIATES])?;
     Some([flush_refusal(world), flush_refusal(world)])
 }
 
@@ -66,15 +66,15 @@ fn a_flush_tells_that_the_store_is_worn(rt: HostRuntime) -> Result<(), Fail> {
 }
 
 /// How many calls the device of such a world has served, and the table that it shows.
-fn left(alloc: Global) -> Option<(usize, Option<u64>)> {
+fn outcome(alloc: Global) -> Option<(usize, Option<u64>)> {
     let mut world = worn(alloc)?;
     let _refusals = refusals(&mut world)?;
     let device = flusher(world).into_device();
-    Some((device.calls().len(), shown(alloc, device)))
+    Some((device.calls().len(), table_of(alloc, device)))
 }
 
 // The recovery makes two calls.
 #[test]
 fn no_call_is_made_for_it(rt: HostRuntime) {
-    assert_eq!(rt; left(rt.alloc()), Some((2, Some(2))));
+    assert_eq!(rt; outcome(rt.alloc()), Some((2, Some(2))));
 }

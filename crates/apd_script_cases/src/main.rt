@@ -12,7 +12,7 @@ use std::process::ExitCode;
 use std::rt::{Env, Files};
 
 /// Runs a case if there is one, and tells whether it printed what it should.
-fn ended(
+fn run_case(
     rt: &(impl Print + Files<File = File> + AllocGlobal),
     case: Option<Case<'_>>,
 ) -> io::Result<bool> {
@@ -29,12 +29,12 @@ fn all_hold(rt: &(impl Print + Files<File = File> + AllocGlobal), text: &str) ->
     for line in text.lines() {
         if let Some(title) = line.strip_prefix("= ") {
             let before = case.replace(Case::new(rt.alloc(), title));
-            all &= ended(rt, before)?;
+            all &= run_case(rt, before)?;
         } else if let Some(case) = &mut case {
             case.read(line)?;
         }
     }
-    Ok(ended(rt, case)? && all)
+    Ok(run_case(rt, case)? && all)
 }
 
 /// Runs the cases of each file that is named. The exit status is 0 where each printed what it should.

@@ -36,7 +36,7 @@ fn run(alloc: Global, confs: Confs, script: &[u8]) -> io::Result<Vec<u8>> {
 }
 
 /// What a case prints.
-fn printed<R: Files<File = File> + AllocGlobal>(rt: &R, case: &Case<'_>) -> io::Result<Vec<u8>> {
+fn output_of<R: Files<File = File> + AllocGlobal>(rt: &R, case: &Case<'_>) -> io::Result<Vec<u8>> {
     match read_configurations(rt, case.files.as_slice()) {
         Ok(confs) => run(rt.alloc(), confs, case.script.as_bytes()),
         Err(fault) => {
@@ -51,7 +51,7 @@ pub fn print_case<R: Print + Files<File = File> + AllocGlobal>(
     rt: &R,
     case: &Case<'_>,
 ) -> io::Result<bool> {
-    let told = printed(rt, case)?;
+    let told = output_of(rt, case)?;
     let holds = told.as_slice() == case.wanted.as_bytes();
     if holds {
         writeln!(io::writer(rt), "  {}", case.title)?;

@@ -14,7 +14,7 @@ pub fn confs_of(list: Vec<Conf>) -> Result<Confs, Fail> {
 }
 
 /// The built-in configuration.
-pub fn built_in(alloc: Global) -> Result<Conf, Fail> {
+pub fn new_conf(alloc: Global) -> Result<Conf, Fail> {
     Ok(Conf::built_in(alloc)?)
 }
 
@@ -51,10 +51,10 @@ pub fn addresses_of(alloc: Global, file: &[u8]) -> Result<AddressList, Fail> {
 
 /// The built-in configuration alone: wlan0 at 02:00:00:00:00:01.
 pub fn one_radio(alloc: Global) -> Result<Confs, Fail> {
-    alone(alloc, built_in(alloc)?)
+    alone(alloc, new_conf(alloc)?)
 }
 
 /// The built-in configuration, and the same for wlan1 at 02:00:00:00:00:02.
 pub fn two_radios(alloc: Global) -> Result<Confs, Fail> {
-    both(alloc, built_in(alloc)?, second(alloc)?)
+    both(alloc, new_conf(alloc)?, second(alloc)?)
 }

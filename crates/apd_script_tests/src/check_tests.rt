@@ -1,5 +1,5 @@
 //! What a check of a store prints, and of a store with single bytes changed.
-use crate::calls::{addresses_of, both, built_in, one_radio, second};
+use crate::calls::{addresses_of, both, new_conf, one_radio, second};
 use crate::scripts::JOINS;
 use crate::worlds::{fresh_store, run_on};
 use apd_base::AclMode;
@@ -39,7 +39,7 @@ fn store_after(alloc: Global, confs: Confs, script: &str) -> Result<MemDisk, Fai
 
 /// wlan0 with one address on its accept list and two on its deny list, and wlan1, which lets in who is accepted.
 fn with_lists(alloc: Global) -> Result<Confs, Fail> {
-    let mut first = built_in(alloc)?;
+    let mut first = new_conf(alloc)?;
     first.set_lists(
         addresses_of(alloc, b"02:00:00:00:00:cc")?,
         addresses_of(alloc, b"02:00:00:00:00:dd\n02:00:00:00:00:ee")?,
@@ -140,7 +140,7 @@ struct Changed {
     want: &'static str,
 }
 
-fn changed_to(
+fn change_to(
     place: usize,
     bytes: &'static [u8],
     fault: Option<CheckFault>,
@@ -159,20 +159,20 @@ fn a_store_with_changed_bytes_is_checked(rt: HostRuntime) -> Result<(), Fail> {
     let disk = store_after(rt.alloc(), one_radio(rt.alloc())?, JOINS)?;
     each_of_the_front(&rt, &disk)?;
     for row in [
-        changed_to(7, b"1", OLD, ""),
+        change_to(7, b"1", OLD, ""),
         // Half A is closed, and half B is.
-        changed_to(64, b"\x00", DAMAGED, ""),
-        changed_to(77, b"\x00", None, ""),
-        changed_to(92, b"\x02", None, NO_STATION),
-        changed_to(110, b"\x03", DAMAGED, ""),
+        change_to(64, b"\x00", DAMAGED, ""),
+        change_to(77, b"\x00", None, ""),
+        change_to(92, b"\x02", None, NO_STATION),
+        change_to(110, b"\x03", DAMAGED, ""),
         // The station is authenticated alone.
-        changed_to(117, b"\x00", None, ONE_STATION),
+        change_to(117, b"\x00", None, ONE_STATION),
         // The identifier that was given last: no record begins so, and another identifier.
-        changed_to(142, b"\x08", DAMAGED, ""),
-        changed_to(149, b"\x07", None, ONE_STATION),
+        change_to(142, b"\x08", DAMAGED, ""),
+        change_to(149, b"\x07", None, ONE_STATION),
         // A group of no records, and one of 65,537 bytes.
-        changed_to(151, b"\x01", None, ONE_STATION),
-        changed_to(151, b"\x01\x01\x00\x01\x00", DAMAGED, ""),
+        change_to(151, b"\x01", None, ONE_STATION),
+        change_to(151, b"\x01\x01\x00\x01\x00", DAMAGED, ""),
     ] {
         let place = row.place;
         let (fault, out) = check_changed(rt.alloc(), &disk, place, row.bytes)?;

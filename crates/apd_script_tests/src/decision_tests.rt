@@ -1,4 +1,4 @@
-use crate::calls::{addresses_of, alone, built_in};
+use crate::calls::{addresses_of, alone, new_conf};
 use apd_base::{AclMode, Addr, Aid, Association, Bssid, Sequence, Station, StationNumber, Which};
 use apd_conf::Confs;
 use apd_frame::{Authentication, Frame};
@@ -28,7 +28,7 @@ fn change(table: &mut Table, change: &Change) -> Result<(), Fail> {
 
 /// The built-in configuration, in another mode.
 fn confs(alloc: Global, mode: AclMode) -> Result<Confs, Fail> {
-    let mut conf = built_in(alloc)?;
+    let mut conf = new_conf(alloc)?;
     conf.macaddr_acl = mode;
     alone(alloc, conf)
 }
@@ -148,7 +148,7 @@ fn a_start_in_mode_1_ends_a_station_that_mode_0_let_in(rt: HostRuntime) -> Resul
 }
 
 /// The station on a list of the radio.
-fn listed(which: Which) -> Change {
+fn list_station(which: Which) -> Change {
     Change::ListAdd {
         bssid: RADIO,
         which,
@@ -162,10 +162,10 @@ fn lists_say_who_is_let_in(rt: HostRuntime) -> Result<(), Fail> {
     let mut table = Table::new(alloc);
     let open = confs(alloc, AclMode::AcceptUnlessDenied)?;
     start(&rt, alloc, &mut table, &open)?;
-    change(&mut table, &listed(Which::Deny))?;
+    change(&mut table, &list_station(Which::Deny))?;
     authenticate(&rt, alloc, &mut table, &open)?;
     assert_eq!(rt; table.get(RADIO, STATION), None);
-    change(&mut table, &listed(Which::Accept))?;
+    change(&mut table, &list_station(Which::Accept))?;
     authenticate(&rt, alloc, &mut table, &open)?;
     assert_eq!(rt; table.get(RADIO, STATION), Some(Station::Authenticated));
 
@@ -176,7 +176,7 @@ fn lists_say_who_is_let_in(rt: HostRuntime) -> Result<(), Fail> {
 }
 
 /// An address in a list of the radio.
-fn added(which: Which, last: u8) -> Change {
+fn list_row(which: Which, last: u8) -> Change {
     Change::ListAdd {
         bssid: RADIO,
         which,
@@ -197,9 +197,9 @@ fn lists_come_with_the_first_start_alone(rt: HostRuntime) -> Result<(), Fail> {
     let deny = b"02:00:00:00:00:cc\n".as_slice();
     let began = start_with(&rt, alloc, &mut table, &confs, [accept, deny])?;
     assert_eq!(rt; began.changes.len(), 4);
-    assert_eq!(rt; began.changes.as_slice()[1], added(Which::Accept, 0xaa));
-    assert_eq!(rt; began.changes.as_slice()[2], added(Which::Accept, 0xbb));
-    assert_eq!(rt; began.changes.as_slice()[3], added(Which::Deny, 0xcc));
+    assert_eq!(rt; began.changes.as_slice()[1], list_row(Which::Accept, 0xaa));
+    assert_eq!(rt; began.changes.as_slice()[2], list_row(Which::Accept, 0xbb));
+    assert_eq!(rt; began.changes.as_slice()[3], list_row(Which::Deny, 0xcc));
 
     let later = start_with(&rt, alloc, &mut table, &confs, [deny, accept])?;
     assert_eq!(rt; later.changes.len(), 1);
@@ -258,7 +258,7 @@ fn the_2008th_station_finds_no_room(rt: HostRuntime) -> Result<(), Fail> {
 }
 
 /// The station is associated under an identifier.
-fn joined(number: u16) -> Result<Change, Fail> {
+fn put_station(number: u16) -> Result<Change, Fail> {
     Ok(Change::Put {
         bssid: RADIO,
         addr: STATION,
@@ -296,10 +296,10 @@ fn an_identifier_comes_with_a_cursor_and_is_kept_without(rt: HostRuntime) -> Res
     for number in [2007, 1, 2] {
         change(&mut table, &BACK)?;
         let given = associate(&rt, alloc, &mut table, &open)?;
-        let changes = [joined(number)?, cursor(number)?];
+        let changes = [put_station(number)?, cursor(number)?];
         assert_eq!(rt; given.changes.as_slice(), changes.as_slice());
         let kept = associate(&rt, alloc, &mut table, &open)?;
-        assert_eq!(rt; kept.changes.as_slice(), [joined(number)?].as_slice());
+        assert_eq!(rt; kept.changes.as_slice(), [put_station(number)?].as_slice());
     }
     Ok(())
 }
@@ -326,7 +326,7 @@ fn where_no_other_is_free_the_last_one_is_given_again(rt: HostRuntime) -> Result
     let open = confs(alloc, AclMode::AcceptUnlessDenied)?;
     let mut table = all_but(&rt, alloc, &open, 7)?;
     let given = associate(&rt, alloc, &mut table, &open)?;
-    let changes = [joined(7)?, cursor(7)?];
+    let changes = [put_station(7)?, cursor(7)?];
     assert_eq!(rt; given.changes.as_slice(), changes.as_slice());
     assert_eq!(rt; table.next_free(RADIO), None);
     Ok(())

@@ -1,7 +1,7 @@
 //! Scripts over radios whose driver fails.
 use crate::calls::one_radio;
 use crate::scripts::{JOINS, joint};
-use crate::worlds::{Boxed, all_slots, ran, replaced, world_with};
+use crate::worlds::{Boxed, all_slots, replace_radio, run_in_world, world_with};
 use apd_base::{Addr, Bssid};
 use apd_radio::{Failing, Sim};
 use std::alloc::Global;
@@ -41,7 +41,7 @@ fn a_radio_that_fails_is_replaced(rt: HostRuntime) -> Result<(), Fail> {
     let radio: Boxed = Box::new(alloc, failing(alloc, 1))?;
     let world = world_with(alloc, one_radio(alloc)?, radio)?;
     let script = joint(alloc, &[JOINS, "cmd STATUS\n"])?;
-    let (world, out) = ran(alloc, world, script.as_slice())?;
+    let (world, out) = run_in_world(alloc, world, script.as_slice())?;
     let want = joint(
         alloc,
         &[AUTHENTICATED, "entry 3\nwlan0 down\nwlan0 lost\n", DOWN],
@@ -49,9 +49,9 @@ fn a_radio_that_fails_is_replaced(rt: HostRuntime) -> Result<(), Fail> {
     assert_eq!(rt; out.as_slice(), want.as_slice());
     let mut world = world;
     let other: Boxed = Box::new(alloc, Sim::new(alloc))?;
-    let own = replaced(&mut world, WLAN0, other)?;
+    let own = replace_radio(&mut world, WLAN0, other)?;
     assert_eq!(rt; own.installed(STATION), None);
-    let (world, out) = ran(alloc, world, b"cmd STATUS\n")?;
+    let (world, out) = run_in_world(alloc, world, b"cmd STATUS\n")?;
     assert_eq!(rt; out.as_slice(), UP.as_bytes());
     for slot in all_slots(world) {
         assert!(rt; slot.is_up());
@@ -65,7 +65,7 @@ fn a_frame_that_is_lost_leaves_its_radio_up(rt: HostRuntime) -> Result<(), Fail>
     let alloc = rt.alloc();
     let radio: Boxed = Box::new(alloc, failing(alloc, 2))?;
     let world = world_with(alloc, one_radio(alloc)?, radio)?;
-    let (world, out) = ran(alloc, world, JOINS.as_bytes())?;
+    let (world, out) = run_in_world(alloc, world, JOINS.as_bytes())?;
     let want = joint(
         alloc,
         &[
@@ -87,7 +87,7 @@ fn a_removal_that_fails_takes_its_radio_down(rt: HostRuntime) -> Result<(), Fail
     let world = world_with(alloc, one_radio(alloc)?, radio)?;
     let leaves = "cmd DEAUTHENTICATE 02:00:00:00:00:aa\nflush\n";
     let script = joint(alloc, &[JOINS, leaves])?;
-    let (world, out) = ran(alloc, world, script.as_slice())?;
+    let (world, out) = run_in_world(alloc, world, script.as_slice())?;
     let left = "entry 4\nwlan0 down\nwlan0 lost\nctrl 5 OK\\n\n";
     let want = joint(alloc, &[AUTHENTICATED, ASSOCIATED, left])?;
     assert_eq!(rt; out.as_slice(), want.as_slice());

@@ -2,7 +2,7 @@
 //! left by a stop.
 use crate::calls::{one_radio, two_radios};
 use crate::scripts::JOINS;
-use crate::worlds::{fresh_store, printed, run_on};
+use crate::worlds::{fresh_store, run_on, run_with};
 use apd_conf::Confs;
 use apd_disk::MemDisk;
 use apd_radio::Sim;
@@ -167,7 +167,7 @@ wlan0 tx 10000000020000ff07d802000000000102000000000100000100000001c0010482848b9
 fn behind_2007_stations_that_came_and_went_the_next_gets_1(rt: HostRuntime) -> Result<(), Fail> {
     let alloc = rt.alloc();
     let script = all_come_and_go(alloc, 2007)?;
-    let (fault, out) = printed(alloc, one_radio(alloc)?, script.as_slice())?;
+    let (fault, out) = run_with(alloc, one_radio(alloc)?, script.as_slice())?;
     assert_eq!(rt; fault, None);
     assert!(rt; out.ends_with(LAST_TWO));
     Ok(())

@@ -1,5 +1,5 @@
 use crate::calls::one_radio;
-use crate::worlds::{fresh_store, printed, run_on};
+use crate::worlds::{fresh_store, run_on, run_with};
 use apd_base::limits::MAX_SCRIPT;
 use apd_base::{Addr, Aid};
 use apd_conf::InterfaceName;
@@ -19,7 +19,7 @@ fn lines_end_at_a_newline_alone_and_the_last_needs_none(rt: HostRuntime) -> Resu
         ),
         (b"cmd PING\r\n", b"ctrl 1 UNKNOWN COMMAND\\n\n"),
     ] {
-        let (fault, out) = printed(rt.alloc(), one_radio(rt.alloc())?, script)?;
+        let (fault, out) = run_with(rt.alloc(), one_radio(rt.alloc())?, script)?;
         assert_eq!(rt; fault, None);
         assert_eq!(rt; out.as_slice(), want);
     }
@@ -52,10 +52,10 @@ fn the_first_bad_line_ends_a_script(rt: HostRuntime) -> Result<(), Fail> {
             4,
         ),
     ] {
-        let (fault, _) = printed(rt.alloc(), one_radio(rt.alloc())?, script)?;
+        let (fault, _) = run_with(rt.alloc(), one_radio(rt.alloc())?, script)?;
         assert_eq!(rt; fault, Some(ScriptFault::BadLine(line)));
     }
-    let (_, out) = printed(rt.alloc(), one_radio(rt.alloc())?, b"rx wlan0\nx\n")?;
+    let (_, out) = run_with(rt.alloc(), one_radio(rt.alloc())?, b"rx wlan0\nx\n")?;
     assert_eq!(rt; out.as_slice(), b"quiet short\n".as_slice());
     Ok(())
 }
@@ -72,7 +72,7 @@ fn frames_of_2305_bytes_are_too_long(rt: HostRuntime) -> Result<(), Fail> {
         for _ in 24..bytes {
             script.extend_from_slice(b"00")?;
         }
-        let (fault, out) = printed(alloc, one_radio(alloc)?, script.as_slice())?;
+        let (fault, out) = run_with(alloc, one_radio(alloc)?, script.as_slice())?;
         assert_eq!(rt; fault, None);
         assert_eq!(rt; out.as_slice(), want);
     }
@@ -101,7 +101,7 @@ impl Write for Narrow {
 }
 
 /// A writer that takes nothing.
-fn closed() -> Narrow {
+fn dead_writer() -> Narrow {
     Narrow {
         left: 0,
         kind: io::ErrorKind::BrokenPipe,
@@ -174,7 +174,7 @@ fn a_script_has_at_most_16_mib(rt: HostRuntime) -> Result<(), Fail> {
         (MAX_SCRIPT as u64 + 1, ScriptFault::Reader),
     ] {
         let reader = BufReader::new(alloc, io::repeat(b'x').take(bytes))?;
-        let fault = fault_of(alloc, reader, closed())?;
+        let fault = fault_of(alloc, reader, dead_writer())?;
         assert_eq!(rt; fault, Some(want));
     }
     Ok(())
@@ -189,7 +189,7 @@ fn of_a_script_16_777_217_bytes_are_read_at_most(rt: HostRuntime) -> Result<(), 
         kind: io::ErrorKind::OutOfMemory,
     };
     let script = io::repeat(b'x').take(16_777_217).chain(asked_for_more);
-    let fault = fault_of(alloc, BufReader::new(alloc, script)?, closed())?;
+    let fault = fault_of(alloc, BufReader::new(alloc, script)?, dead_writer())?;
     assert_eq!(rt; fault, Some(ScriptFault::Reader));
     Ok(())
 }

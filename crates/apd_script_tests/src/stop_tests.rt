@@ -1,7 +1,7 @@
 //! Stops and restarts, steps of a commit, and refusals of the store.
 use crate::calls::{one_radio, two_radios};
 use crate::scripts::{JOINS, joint};
-use crate::worlds::{fresh_store, printed, run_on, slots_after};
+use crate::worlds::{fresh_store, run_on, run_with, slots_after};
 use apd_base::Addr;
 use apd_conf::InterfaceName;
 use apd_disk::FuseDisk;
@@ -147,7 +147,7 @@ fn tail(text: &[u8], count: usize) -> &[u8] {
 fn a_full_core_is_busy(rt: HostRuntime) -> Result<(), Fail> {
     let alloc = rt.alloc();
     let lines = keeps_4096(alloc)?;
-    let (fault, out) = printed(alloc, one_radio(alloc)?, lines.as_slice())?;
+    let (fault, out) = run_with(alloc, one_radio(alloc)?, lines.as_slice())?;
     assert_eq!(rt; fault, None);
     let want = b"entry 4097\nbusy\nctrl 4098 FAIL\\n\nctrl 4099 PONG\\n\n";
     assert_eq!(rt; tail(out.as_slice(), want.len()), want.as_slice());
@@ -155,7 +155,7 @@ fn a_full_core_is_busy(rt: HostRuntime) -> Result<(), Fail> {
 }
 
 /// Runs a script on a store whose device fails after so many calls.
-fn printed_on_fuse(
+fn run_on_fuse(
     alloc: Global,
     calls: u64,
     script: &[u8],
@@ -182,12 +182,12 @@ fn a_refusal_ends_a_script_at_its_next_flush(rt: HostRuntime) -> Result<(), Fail
     let want = "entry 2\nstopped\nctrl 10 FAIL\\n\nctrl 11 PONG\\n\n";
     for (last, fault) in [("", None), ("flush\ncmd PING\n", REFUSED)] {
         let script = joint(alloc, &[lines, last])?;
-        let (told, out) = printed_on_fuse(alloc, FUSE, script.as_slice())?;
+        let (told, out) = run_on_fuse(alloc, FUSE, script.as_slice())?;
         assert_eq!(rt; told, fault);
         assert_eq!(rt; out.as_slice(), want.as_bytes());
     }
     // The same where the flush meets it.
-    let (told, out) = printed_on_fuse(alloc, FUSE, JOINS.as_bytes())?;
+    let (told, out) = run_on_fuse(alloc, FUSE, JOINS.as_bytes())?;
     assert_eq!(rt; told, REFUSED);
     assert_eq!(rt; out.as_slice(), b"entry 2\n".as_slice());
     Ok(())

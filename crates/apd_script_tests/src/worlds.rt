@@ -33,7 +33,7 @@ pub fn run_on<D: Disk + Drop, I: BufRead + Drop, W: Write>(
 }
 
 /// Runs a script on a new store, and gives how it ended and what it printed.
-pub fn printed(
+pub fn run_with(
     alloc: Global,
     confs: Confs,
     script: &[u8],
@@ -141,7 +141,7 @@ pub fn world_with(
 }
 
 /// Runs a script on a world, and gives the world back, and what was printed.
-pub fn ran(
+pub fn run_in_world(
     alloc: Global,
     world: World<MemDisk, Boxed>,
     script: &[u8],
@@ -154,7 +154,7 @@ pub fn ran(
 }
 
 /// Puts another radio in the place of a BSSID's, and gives that one back.
-pub fn replaced(
+pub fn replace_radio(
     world: &mut World<MemDisk, Boxed>,
     bssid: Bssid,
     radio: Boxed,

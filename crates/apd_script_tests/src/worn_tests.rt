@@ -42,7 +42,7 @@ fn worn(alloc: Global, cleared: u32, nothing: u32, gate: usize) -> Result<MemDis
 }
 
 /// How a script ends, and what it printed.
-fn ended(
+fn end_of(
     alloc: Global,
     disk: MemDisk,
     script: &str,
@@ -64,7 +64,7 @@ fn a_worn_store_ends_a_script_at_its_start_or_first_flush(rt: HostRuntime) -> Re
         (1, 209_707, 1_048_561, "", WORN, ""),
     ] {
         let disk = worn(alloc, cleared, nothing, gate)?;
-        let (told, out) = ended(alloc, disk, script)?;
+        let (told, out) = end_of(alloc, disk, script)?;
         assert_eq!(rt; told, fault, "{gate}");
         assert_eq!(rt; out.as_slice(), want.as_bytes(), "{gate}");
     }

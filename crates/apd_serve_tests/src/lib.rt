@@ -3,6 +3,8 @@
 #![tactic(auto)]
 
 #[cfg(test)]
+mod burst_tests;
+#[cfg(test)]
 mod clock_tests;
 #[cfg(test)]
 mod ending_tests;

@@ -1,6 +1,6 @@
 //! How a session begins: a device, its configurations, and the world of its store.
 use crate::ending::say_left;
-use crate::images::{blank_disk, old_disk, stored_disk};
+use crate::images::{blank_disk, disk_with_stations, old_disk};
 use crate::saying::{again, say, say_refusal};
 use crate::world::{Memory, is_short};
 use apd_base::Moment;
@@ -16,7 +16,7 @@ use std::io::{self, Write};
 /// What hands a device back.
 type Refused = (MemDisk, WorldFault);
 
-fn formatted(alloc: Global, disk: MemDisk) -> Result<MemDisk, (MemDisk, StoreFault)> {
+fn format_disk(alloc: Global, disk: MemDisk) -> Result<MemDisk, (MemDisk, StoreFault)> {
     Ok(format(alloc, disk)?.into_device())
 }
 
@@ -32,12 +32,12 @@ pub fn blank(rt: &impl Print, alloc: Global) -> io::Result<MemDisk> {
 }
 
 /// A device with stations of two radios.
-pub fn stored(rt: &impl Print, alloc: Global) -> io::Result<MemDisk> {
-    match stored_disk(alloc) {
+pub fn store_with_stations(rt: &impl Print, alloc: Global) -> io::Result<MemDisk> {
+    match disk_with_stations(alloc) {
         Ok(disk) => Ok(disk),
         Err(_) => {
             again(rt, "a device")?;
-            Ok(stored_disk(alloc)?)
+            Ok(disk_with_stations(alloc)?)
         }
     }
 }
@@ -58,7 +58,7 @@ pub fn old_store(rt: &impl Print, alloc: Global) -> io::Result<MemDisk> {
 pub fn new_store(rt: &impl Print, alloc: Global) -> io::Result<Option<MemDisk>> {
     let disk = blank(rt, alloc)?;
     say(rt, "no store")?;
-    match formatted(alloc, disk) {
+    match format_disk(alloc, disk) {
         Ok(disk) => Ok(Some(disk)),
         Err((disk, fault)) => {
             say_refusal(rt, fault)?;
@@ -68,19 +68,19 @@ pub fn new_store(rt: &impl Print, alloc: Global) -> io::Result<Option<MemDisk>> 
     }
 }
 
-fn built_in_list(alloc: Global) -> Result<Vec<Conf>, AllocError> {
+fn new_list(alloc: Global) -> Result<Vec<Conf>, AllocError> {
     let mut list = Vec::new(alloc);
     list.push(Conf::built_in(alloc)?)?;
     Ok(list)
 }
 
 /// The built-in configuration alone.
-pub fn built_in(rt: &impl Print, alloc: Global) -> io::Result<Option<Confs>> {
-    let list = match built_in_list(alloc) {
+pub fn new_confs(rt: &impl Print, alloc: Global) -> io::Result<Option<Confs>> {
+    let list = match new_list(alloc) {
         Ok(list) => list,
         Err(_) => {
             again(rt, "the configuration")?;
-            built_in_list(alloc)?
+            new_list(alloc)?
         }
     };
     Ok(Confs::new(list).ok())
@@ -105,7 +105,7 @@ fn slots(rt: &impl Print, alloc: Global, confs: &Confs) -> io::Result<Vec<Slot<S
     }
 }
 
-fn copied(rt: &impl Print, alloc: Global, confs: &Confs) -> io::Result<Confs> {
+fn copy_confs(rt: &impl Print, alloc: Global, confs: &Confs) -> io::Result<Confs> {
     match confs.copy(alloc) {
         Ok(copy) => Ok(copy),
         Err(_) => {
@@ -116,7 +116,7 @@ fn copied(rt: &impl Print, alloc: Global, confs: &Confs) -> io::Result<Confs> {
 }
 
 /// The world of a store, without a clause.
-fn restarted(
+fn restart_world(
     alloc: Global,
     disk: MemDisk,
     confs: Confs,
@@ -129,15 +129,15 @@ fn restarted(
 }
 
 /// Once, with slots and configurations of its own.
-fn tried(
+fn try_once(
     rt: &impl Print,
     alloc: Global,
     disk: MemDisk,
     confs: &Confs,
 ) -> io::Result<Result<Memory, Refused>> {
     let slots = slots(rt, alloc, confs)?;
-    let copy = copied(rt, alloc, confs)?;
-    Ok(restarted(alloc, disk, copy, slots))
+    let copy = copy_confs(rt, alloc, confs)?;
+    Ok(restart_world(alloc, disk, copy, slots))
 }
 
 /// Says why a restart is refused, and what its device shows.
@@ -150,19 +150,19 @@ fn say_refused(rt: &impl Print, alloc: Global, refused: Refused) -> io::Result<O
 
 /// The world of the store that a device holds; none where it is refused, as where a call of it failed, and the session
 /// has ended.
-pub fn begun(
+pub fn begin(
     rt: &impl Print,
     alloc: Global,
     disk: MemDisk,
     confs: &Confs,
 ) -> io::Result<Option<Memory>> {
-    let disk = match tried(rt, alloc, disk, confs)? {
+    let disk = match try_once(rt, alloc, disk, confs)? {
         Ok(world) => return Ok(Some(world)),
         Err((disk, fault)) if is_short(fault) => disk,
         Err(refused) => return say_refused(rt, alloc, refused),
     };
     again(rt, "restart")?;
-    match tried(rt, alloc, disk, confs)? {
+    match try_once(rt, alloc, disk, confs)? {
         Ok(world) => Ok(Some(world)),
         Err(refused) => say_refused(rt, alloc, refused),
     }

@@ -11,7 +11,7 @@ use std::alloc::Global;
 use std::io::{self, Write};
 
 /// The table that a device shows, without a clause.
-fn recovered(alloc: Global, disk: MemDisk) -> Result<Table, (MemDisk, StoreFault)> {
+fn recover_table(alloc: Global, disk: MemDisk) -> Result<Table, (MemDisk, StoreFault)> {
     let (_store, table) = recover(alloc, disk)?;
     Ok(table)
 }
@@ -28,14 +28,14 @@ fn say_shown(rt: &impl Print, found: Result<Table, (MemDisk, StoreFault)>) -> io
 
 /// Says what a device shows. Where it fails in the recovery, or that lacks memory, it is recovered once more.
 pub fn say_left(rt: &impl Print, alloc: Global, disk: MemDisk) -> io::Result<()> {
-    let found = match recovered(alloc, disk) {
+    let found = match recover_table(alloc, disk) {
         Err((disk, StoreFault::NoMemory)) => {
             again(rt, "recover")?;
-            recovered(alloc, disk)
+            recover_table(alloc, disk)
         }
         Err((disk, StoreFault::Device)) => {
             say_refusal(rt, StoreFault::Device)?;
-            recovered(alloc, disk)
+            recover_table(alloc, disk)
         }
         found => found,
     };

@@ -1,5 +1,5 @@
 //! What is read of files, and what is printed of a store by a check.
-use crate::beginning::stored;
+use crate::beginning::store_with_stations;
 use crate::saying::{again, say};
 use apd_conf::{ConfigurationFault, Confs};
 use apd_disk::MemDisk;
@@ -44,7 +44,7 @@ pub fn files<R: Print + Files<File = File> + AllocGlobal>(rt: &R) -> io::Result<
 }
 
 /// What a check prints of a device; nothing where it is refused.
-fn checked(alloc: Global, disk: MemDisk, text: &mut Vec<u8>) -> Option<CheckFault> {
+fn check_disk(alloc: Global, disk: MemDisk, text: &mut Vec<u8>) -> Option<CheckFault> {
     run_check(alloc, disk, text).err()
 }
 
@@ -70,15 +70,15 @@ fn check_again(
     if !text.is_empty() {
         say(rt, "changed: check")?;
     }
-    let disk = stored(rt, alloc)?;
-    Ok(checked(alloc, disk, text))
+    let disk = store_with_stations(rt, alloc)?;
+    Ok(check_disk(alloc, disk, text))
 }
 
 /// Checks a store with stations of two radios.
 pub fn check(rt: &impl Print, alloc: Global) -> io::Result<()> {
     let mut text = Vec::new(alloc);
-    let disk = stored(rt, alloc)?;
-    let fault = match checked(alloc, disk, &mut text) {
+    let disk = store_with_stations(rt, alloc)?;
+    let fault = match check_disk(alloc, disk, &mut text) {
         None => None,
         Some(fault) => check_again(rt, alloc, fault, &mut text)?,
     };

@@ -64,7 +64,7 @@ fn disk_of(
 }
 
 /// A device of a store with stations at two radios.
-pub fn stored_disk(alloc: Global) -> Result<MemDisk, AllocError> {
+pub fn disk_with_stations(alloc: Global) -> Result<MemDisk, AllocError> {
     disk_of(alloc, b"RAPSTOR2", SNAPSHOT, &[])
 }
 

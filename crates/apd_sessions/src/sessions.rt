@@ -1,5 +1,5 @@
 //! The sessions, by name.
-use crate::beginning::{begun, built_in, new_store, stored};
+use crate::beginning::{begin, new_confs, new_store, store_with_stations};
 use crate::ending::end;
 use crate::filed::{check, files, read};
 use crate::requests::{
@@ -105,7 +105,7 @@ fn on_a_new_store(
     let Some(disk) = new_store(rt, alloc)? else {
         return Ok(());
     };
-    let Some(mut world) = begun(rt, alloc, disk, confs)? else {
+    let Some(mut world) = begin(rt, alloc, disk, confs)? else {
         return Ok(());
     };
     let calls = serve_session(rt, &mut world, confs, session)?;
@@ -114,7 +114,7 @@ fn on_a_new_store(
 
 /// A session of the built-in configuration.
 fn of_one_radio(rt: &impl Print, alloc: Global, session: Session) -> io::Result<()> {
-    match built_in(rt, alloc)? {
+    match new_confs(rt, alloc)? {
         Some(confs) => on_a_new_store(rt, alloc, &confs, session),
         None => Ok(()),
     }
@@ -133,8 +133,8 @@ fn restart<R: Print + Files<File = File> + AllocGlobal>(rt: &R) -> io::Result<()
     let Some(confs) = read(rt)? else {
         return Ok(());
     };
-    let disk = stored(rt, rt.alloc())?;
-    let Some(mut world) = begun(rt, rt.alloc(), disk, &confs)? else {
+    let disk = store_with_stations(rt, rt.alloc())?;
+    let Some(mut world) = begin(rt, rt.alloc(), disk, &confs)? else {
         return Ok(());
     };
     let mut calls = NONE;

@@ -12,7 +12,7 @@ use std::io::{self, Write};
 type Copied = (MemDisk, MemDisk, Option<UpgradeFault>);
 
 /// The call, without a clause.
-fn copied(alloc: Global, old: MemDisk, new: MemDisk, text: &mut Vec<u8>) -> Copied {
+fn copy_store(alloc: Global, old: MemDisk, new: MemDisk, text: &mut Vec<u8>) -> Copied {
     match run_upgrade(alloc, old, new, text) {
         Ok((old, new)) => (old, new, None),
         Err((old, new, fault)) => (old, new, Some(fault)),
@@ -37,7 +37,7 @@ fn say_change(rt: &impl Print, fault: UpgradeFault, new: &MemDisk, text: &[u8]) 
 }
 
 /// A copy that lacked memory is made once more, of the devices that came back.
-fn copied_again(
+fn copy_store_again(
     rt: &impl Print,
     alloc: Global,
     text: &mut Vec<u8>,
@@ -48,7 +48,7 @@ fn copied_again(
         Some(fault) if lacks_memory(fault) => {
             say_change(rt, fault, &new, text.as_slice())?;
             again(rt, "upgrade")?;
-            Ok(copied(alloc, old, new, text))
+            Ok(copy_store(alloc, old, new, text))
         }
         fault => Ok((old, new, fault)),
     }
@@ -71,8 +71,8 @@ pub fn upgrade(rt: &impl Print, alloc: Global) -> io::Result<()> {
     let new = blank(rt, alloc)?;
     say(rt, "no store")?;
     let mut text = Vec::new(alloc);
-    let first = copied(alloc, old, new, &mut text);
-    let (old, new, fault) = copied_again(rt, alloc, &mut text, first)?;
+    let first = copy_store(alloc, old, new, &mut text);
+    let (old, new, fault) = copy_store_again(rt, alloc, &mut text, first)?;
     say_write(rt, &old)?;
     if let Some(fault) = fault {
         writeln!(io::writer(rt), "{fault}")?;

@@ -67,7 +67,7 @@ fn say_lack(rt: &impl Print, step: &Step<'_>, is_as_it_was: bool) -> io::Result<
 }
 
 /// What a step tells, made once more where it lacked memory.
-fn told(rt: &impl Print, world: &mut Memory, step: &Step<'_>) -> io::Result<Told> {
+fn tell_or_retry(rt: &impl Print, world: &mut Memory, step: &Step<'_>) -> io::Result<Told> {
     let before = look(world);
     let told = tell(world, step);
     if !lacks_memory(&told) {
@@ -79,7 +79,7 @@ fn told(rt: &impl Print, world: &mut Memory, step: &Step<'_>) -> io::Result<Told
 
 /// Makes a step, and prints what it told, and what is settled.
 fn make(rt: &impl Print, world: &mut Memory, step: &Step<'_>, calls: &mut Calls) -> io::Result<()> {
-    let told = told(rt, world, step)?;
+    let told = tell_or_retry(rt, world, step)?;
     if let Told::Called(Err(fault)) = told {
         calls.failed = true;
         return say_refusal(rt, fault);

@@ -52,7 +52,7 @@ pub(crate) const HALF_B: usize = 1_048_640;
 const LENGTH: usize = 2_097_216;
 
 /// The front of an open half: its gate, its epoch and its snapshot.
-pub(crate) fn opened(alloc: Global, epoch: u64, snapshot: &[u8]) -> Option<Vec<u8>> {
+pub(crate) fn front_of(alloc: Global, epoch: u64, snapshot: &[u8]) -> Option<Vec<u8>> {
     let length = u32::try_from(snapshot.len()).ok()?;
     let mut half = Vec::new(alloc);
     half.push(1).ok()?;
@@ -88,7 +88,7 @@ pub(crate) fn full(
     group: &[u8],
     record: &[u8],
 ) -> Option<Vec<u8>> {
-    let mut half = opened(alloc, epoch, snapshot)?;
+    let mut half = front_of(alloc, epoch, snapshot)?;
     add_group(&mut half, group)?;
     fill(&mut half, record, HALF - 1)?;
     Some(half)
@@ -120,10 +120,10 @@ pub(crate) fn one_open(alloc: Global) -> Option<MemDisk> {
 /// A device whose halves are both open: A with a policy alone, and the newer B with the station, and full.
 pub(crate) fn both_open(alloc: Global) -> Option<MemDisk> {
     let newer = full(alloc, 2, POLICY, AUTHENTICATED, AUTHENTICATED)?;
-    device(alloc, &opened(alloc, 1, POLICY)?, &newer)
+    device(alloc, &front_of(alloc, 1, POLICY)?, &newer)
 }
 
-fn built_in(alloc: Global) -> Option<Vec<Conf>> {
+fn new_list(alloc: Global) -> Option<Vec<Conf>> {
     let mut list = Vec::new(alloc);
     list.push(Conf::built_in(alloc).ok()?).ok()?;
     Some(list)
@@ -138,7 +138,7 @@ fn enters(core: &mut Core, frame: &[u8]) -> bool {
     matches!(answer, Ok(Accepted::Entry(_)))
 }
 
-fn taken(core: &mut Core) -> Option<Batch> {
+fn take_batch(core: &mut Core) -> Option<Batch> {
     match core.take() {
         Ok(batch) => batch,
         Err(_) => None,
@@ -147,7 +147,7 @@ fn taken(core: &mut Core) -> Option<Batch> {
 
 fn associates(core: &mut Core) -> Option<Batch> {
     if enters(core, ASSOCIATION) {
-        taken(core)
+        take_batch(core)
     } else {
         None
     }
@@ -165,12 +165,12 @@ fn association(core: &mut Core) -> Option<Batch> {
 
 // The same of a core of this table.
 fn association_of(alloc: Global, table: &Table) -> Option<Batch> {
-    let mut core = core_of(alloc, table.copy(alloc).ok()?, built_in(alloc)?)?;
+    let mut core = core_of(alloc, table.copy(alloc).ok()?, new_list(alloc)?)?;
     association(&mut core)
 }
 
 /// A store and its table, by two calls of the device.
-pub(crate) fn recovered<D: Disk>(alloc: Global, disk: D) -> Option<(Store<D>, Table)>
+pub(crate) fn recover_store<D: Disk>(alloc: Global, disk: D) -> Option<(Store<D>, Table)>
 where
     D: Drop,
 {
@@ -194,7 +194,7 @@ pub(crate) fn flusher<D: Disk>(alloc: Global, disk: D) -> Option<(Flusher<D>, Ba
 where
     D: Drop,
 {
-    let (store, table) = recovered(alloc, disk)?;
+    let (store, table) = recover_store(alloc, disk)?;
     let batch = association_of(alloc, &table)?;
     Some((flusher_of(alloc, store, table)?, batch))
 }
@@ -234,7 +234,7 @@ fn word_of(table: &Table) -> &'static str {
 }
 
 /// What a device shows, where there is one.
-pub(crate) fn shown(alloc: Global, disk: Option<MemDisk>) -> &'static str {
+pub(crate) fn show(alloc: Global, disk: Option<MemDisk>) -> &'static str {
     let Some(disk) = disk else {
         return "no device";
     };

@@ -1,5 +1,5 @@
 //! Calls of a switch that fail, and an epoch that has no next one.
-use crate::common::{AUTHENTICATED, POLICY, both_open, device, flusher, full, load, shown, turns};
+use crate::common::{AUTHENTICATED, POLICY, both_open, device, flusher, full, load, show, turns};
 use apd_disk::{Disk, MemDisk, OnceDisk, Torn};
 use apd_flusher::Flusher;
 use apd_journal::Batch;
@@ -34,7 +34,7 @@ where
 }
 
 // The device after a stop, once the call behind so many of a switch has failed, where it told so once.
-fn failed(alloc: Global, calls: u64, torn: Torn) -> Option<MemDisk> {
+fn fail_once(alloc: Global, calls: u64, torn: Torn) -> Option<MemDisk> {
     // Behind two calls of the recovery.
     let disk = OnceDisk::new(both_open(alloc)?, calls.saturating_add(2));
     let (faults, disk) = failing(alloc, disk, calls)?;
@@ -49,7 +49,7 @@ fn failed(alloc: Global, calls: u64, torn: Torn) -> Option<MemDisk> {
 fn each_of_ten_calls_fails_once(rt: HostRuntime) {
     let alloc = rt.alloc();
     for calls in 0..9 {
-        let found = shown(alloc, failed(alloc, calls, Torn::New));
+        let found = show(alloc, fail_once(alloc, calls, Torn::New));
         assert_eq!(rt; found, "before", "behind {calls}");
     }
     for (calls, torn, is) in [
@@ -60,13 +60,13 @@ fn each_of_ten_calls_fails_once(rt: HostRuntime) {
         (9, Torn::New, "after"),
         (10, Torn::New, "no device"),
     ] {
-        let found = shown(alloc, failed(alloc, calls, torn));
+        let found = show(alloc, fail_once(alloc, calls, torn));
         assert_eq!(rt; found, is, "{torn:?} behind {calls}");
     }
 }
 
 // Why a batch is refused, and the device.
-fn refused<D: Disk>(alloc: Global, disk: D) -> Option<(StoreFault, D)>
+fn refusal_on<D: Disk>(alloc: Global, disk: D) -> Option<(StoreFault, D)>
 where
     D: Drop,
 {
@@ -77,7 +77,7 @@ where
 // Why a batch is refused where half A is full and of this epoch, and how many calls the device served.
 fn worn(alloc: Global, epoch: u64) -> Option<(StoreFault, usize)> {
     let half = full(alloc, epoch, POLICY, AUTHENTICATED, AUTHENTICATED)?;
-    let (fault, disk) = refused(alloc, device(alloc, &half, &[])?)?;
+    let (fault, disk) = refusal_on(alloc, device(alloc, &half, &[])?)?;
     Some((fault, disk.calls().len()))
 }
 

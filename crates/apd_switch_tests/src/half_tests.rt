@@ -1,15 +1,15 @@
 //! The bytes of a switch, and what is shown where one of them is another.
-use crate::common::{HALF_A, HALF_B, both_open, shown, switching};
+use crate::common::{HALF_A, HALF_B, both_open, show, switching};
 use apd_disk::{Call, MemDisk};
 use std::alloc::Global;
 
-fn switched(alloc: Global) -> Option<MemDisk> {
+fn switch(alloc: Global) -> Option<MemDisk> {
     switching(alloc, both_open(alloc)?, 10)
 }
 
 // The calls behind the two of the recovery: place and length of a write, and two zeros for a sync.
-fn made(alloc: Global) -> Option<Vec<(usize, usize)>> {
-    let disk = switched(alloc)?;
+fn calls_of_switch(alloc: Global) -> Option<Vec<(usize, usize)>> {
+    let disk = switch(alloc)?;
     let mut made = Vec::new(alloc);
     for call in disk.calls().iter().skip(2) {
         made.push(match call {
@@ -36,7 +36,7 @@ fn the_calls_of_a_switch_over_an_open_half(rt: HostRuntime) {
         (107, 1),
         (0, 0),
     ];
-    let made = made(rt.alloc());
+    let made = calls_of_switch(rt.alloc());
     assert_eq!(rt;
         made.as_ref().map(|made| made.as_slice()),
         Some(all.as_slice())
@@ -44,14 +44,14 @@ fn the_calls_of_a_switch_over_an_open_half(rt: HostRuntime) {
 }
 
 // The device with another byte.
-fn changed(alloc: Global, place: usize, byte: u8) -> Option<MemDisk> {
-    let mut bytes = Vec::from_slice(alloc, switched(alloc)?.bytes()).ok()?;
+fn change_byte(alloc: Global, place: usize, byte: u8) -> Option<MemDisk> {
+    let mut bytes = Vec::from_slice(alloc, switch(alloc)?.bytes()).ok()?;
     *bytes.get_mut(place)? = byte;
     MemDisk::new(alloc, bytes).ok()
 }
 
 #[test]
-fn changed_bytes_of_both_halves(rt: HostRuntime) {
+fn other_bytes_in_both_halves(rt: HostRuntime) {
     for (place, byte, is) in [
         (63, 7, "after"),
         (HALF_A, 0, "before"),
@@ -78,7 +78,7 @@ fn changed_bytes_of_both_halves(rt: HostRuntime) {
         (HALF_B + 1, 4, "before"),
         (HALF_B + 13, 7, "after"),
     ] {
-        let found = shown(rt.alloc(), changed(rt.alloc(), place, byte));
+        let found = show(rt.alloc(), change_byte(rt.alloc(), place, byte));
         assert_eq!(rt; found, is, "{byte} at {place}");
     }
 }

@@ -1,6 +1,7 @@
 //! Snapshots: the greatest, and one of changes in another order.
 use crate::common::{
-    HALF, HALF_B, RADIO, add_group, device, flusher_of, full, load, opened, pad, recovered, turns,
+    HALF, HALF_B, RADIO, add_group, device, flusher_of, front_of, full, load, pad, recover_store,
+    turns,
 };
 use apd_base::{Addr, Sequence};
 use apd_disk::Disk;
@@ -31,11 +32,11 @@ fn going(alloc: Global) -> Option<Batch> {
 }
 
 // The device behind a switch and a commit by which the station goes.
-fn switched<D: Disk>(alloc: Global, disk: D) -> Option<D>
+fn switch<D: Disk>(alloc: Global, disk: D) -> Option<D>
 where
     D: Drop,
 {
-    let (store, table) = recovered(alloc, disk)?;
+    let (store, table) = recover_store(alloc, disk)?;
     let mut flusher = flusher_of(alloc, store, table)?;
     load(&mut flusher, going(alloc)?)?;
     turns(&mut flusher, 8)?;
@@ -43,8 +44,8 @@ where
 }
 
 // Half B that begins with this snapshot, and has the group by which the station goes.
-fn begun(alloc: Global, snapshot: &[u8]) -> Option<Vec<u8>> {
-    let mut half = opened(alloc, 2, snapshot)?;
+fn half_of(alloc: Global, snapshot: &[u8]) -> Option<Vec<u8>> {
+    let mut half = front_of(alloc, 2, snapshot)?;
     add_group(&mut half, GOING)?;
     pad(&mut half, HALF)?;
     Some(half)
@@ -53,10 +54,10 @@ fn begun(alloc: Global, snapshot: &[u8]) -> Option<Vec<u8>> {
 // Whether a switch from a half with one snapshot begins one with the other, and how many stations are left.
 fn begins(alloc: Global, snapshot: &[u8], canonical: &[u8]) -> Option<(bool, usize)> {
     let old = full(alloc, 1, snapshot, &[], NOTHING)?;
-    let disk = switched(alloc, device(alloc, &old, &[])?)?;
-    let new = begun(alloc, canonical)?;
+    let disk = switch(alloc, device(alloc, &old, &[])?)?;
+    let new = half_of(alloc, canonical)?;
     let begins = disk.bytes().get(HALF_B..)? == new.as_slice();
-    let (_store, table) = recovered(alloc, disk)?;
+    let (_store, table) = recover_store(alloc, disk)?;
     Some((begins, table.rows()))
 }
 

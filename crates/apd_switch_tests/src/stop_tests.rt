@@ -1,10 +1,10 @@
 //! A switch that is stopped.
-use crate::common::{both_open, one_open, shown, switching};
+use crate::common::{both_open, one_open, show, switching};
 use apd_disk::{MemDisk, Torn};
 use std::alloc::Global;
 
 // The device after a stop in the last of so many calls of the station's association.
-fn stopped(alloc: Global, disk: Option<MemDisk>, calls: u64, torn: Torn) -> Option<MemDisk> {
+fn stop(alloc: Global, disk: Option<MemDisk>, calls: u64, torn: Torn) -> Option<MemDisk> {
     Some(switching(alloc, disk?, calls)?.crash(torn))
 }
 
@@ -14,7 +14,7 @@ fn a_switch_of_four_calls(rt: HostRuntime) {
     let alloc = rt.alloc();
     for calls in 1..=4 {
         for torn in [Torn::Old, Torn::New, Torn::Byte(1), Torn::Byte(0x7f)] {
-            let found = shown(alloc, stopped(alloc, one_open(alloc), calls, torn));
+            let found = show(alloc, stop(alloc, one_open(alloc), calls, torn));
             assert_eq!(rt; found, "before", "{torn:?} in call {calls}");
         }
     }
@@ -32,7 +32,7 @@ fn the_group_behind_a_switch(rt: HostRuntime) {
         (7, Torn::New, "after"),
         (8, Torn::Byte(0x7f), "after"),
     ] {
-        let found = shown(alloc, stopped(alloc, one_open(alloc), calls, torn));
+        let found = show(alloc, stop(alloc, one_open(alloc), calls, torn));
         assert_eq!(rt; found, is, "{torn:?} in call {calls}");
     }
 }
@@ -54,15 +54,15 @@ fn a_switch_of_six_calls(rt: HostRuntime) {
         (8, Torn::Byte(1)),
         (9, Torn::Byte(0x7f)),
     ] {
-        let found = shown(alloc, stopped(alloc, both_open(alloc), calls, torn));
+        let found = show(alloc, stop(alloc, both_open(alloc), calls, torn));
         assert_eq!(rt; found, "before", "{torn:?} in call {calls}");
     }
 }
 
 // What is shown after a stop in a switch over what another one left, which was stopped in its third call.
-fn shown_over(alloc: Global, calls: u64, torn: Torn) -> &'static str {
-    let left = stopped(alloc, both_open(alloc), 3, Torn::Byte(0xff));
-    shown(alloc, stopped(alloc, left, calls, torn))
+fn show_over(alloc: Global, calls: u64, torn: Torn) -> &'static str {
+    let left = stop(alloc, both_open(alloc), 3, Torn::Byte(0xff));
+    show(alloc, stop(alloc, left, calls, torn))
 }
 
 // Stopped in its third call a switch leaves any bytes behind the closed gate: the next one has four calls. It is
@@ -72,7 +72,7 @@ fn a_switch_over_what_another_left(rt: HostRuntime) {
     let alloc = rt.alloc();
     for calls in 1..=6 {
         for torn in [Torn::Old, Torn::Byte(1), Torn::Byte(0xff)] {
-            let found = shown_over(alloc, calls, torn);
+            let found = show_over(alloc, calls, torn);
             assert_eq!(rt; found, "before", "{torn:?} in call {calls}");
         }
     }
@@ -81,7 +81,7 @@ fn a_switch_over_what_another_left(rt: HostRuntime) {
         (7, Torn::Byte(1), "after"),
         (8, Torn::Byte(0), "after"),
     ] {
-        let found = shown_over(alloc, calls, torn);
+        let found = show_over(alloc, calls, torn);
         assert_eq!(rt; found, is, "{torn:?} in call {calls}");
     }
 }

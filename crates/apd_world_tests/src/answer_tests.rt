@@ -1,9 +1,10 @@
 //! What a start, a flush and a hand-out answer over a radio whose device fails: they end well, and tell it.
 use crate::calls::{
-    Answers, confs_of, flushed, handed_out, makes, restarted, slots_of, started_answers,
+    Answers, confs_of, flush_answers, hand_out_answers, makes, restart_world, slots_of,
+    start_answers,
 };
 use crate::steps::{ASSOCIATES, ASSOCIATION, AUTHENTICATES, STATION, WLAN0};
-use crate::worlds::{conf, failing, started, started_with, stopped};
+use crate::worlds::{conf, failing, start_with, start_world, stop_after};
 use apd_base::AclMode;
 use apd_conf::Confs;
 use apd_disk::MemDisk;
@@ -49,7 +50,7 @@ fn all_said(alloc: Global, answers: &[(Recipient, Told)]) -> Option<Vec<Answer>>
 }
 
 /// The same of a call that is not refused.
-fn said_if_ok(alloc: Global, answers: Result<Answers, WorldFault>) -> Option<Vec<Answer>> {
+fn answers_if_ok(alloc: Global, answers: Result<Answers, WorldFault>) -> Option<Vec<Answer>> {
     match answers {
         Ok(answers) => all_said(alloc, &answers),
         Err(_) => None,
@@ -81,12 +82,12 @@ fn answers_of_three(alloc: Global, applied: [Said; 3]) -> Option<Vec<Answer>> {
 /// What a flush answers behind these steps.
 fn flush_after(alloc: Global, world: &mut Failed, steps: &[Step<'static>]) -> Option<Vec<Answer>> {
     makes(world, steps)?;
-    said_if_ok(alloc, flushed(world))
+    answers_if_ok(alloc, flush_answers(world))
 }
 
 /// What a flush answers once a station has authenticated and associated, over a radio that passes so many calls.
 fn flush(alloc: Global, calls: u64) -> Option<Vec<Answer>> {
-    let mut world = started_with(alloc, &[1], failing(alloc, calls)?)?;
+    let mut world = start_with(alloc, &[1], failing(alloc, calls)?)?;
     flush_after(alloc, &mut world, &[AUTHENTICATES, ASSOCIATES])
 }
 
@@ -97,12 +98,12 @@ fn hand_out_after(
     steps: &[Step<'static>],
 ) -> Option<Vec<Answer>> {
     makes(world, steps)?;
-    said_if_ok(alloc, handed_out(world))
+    answers_if_ok(alloc, hand_out_answers(world))
 }
 
 /// What a hand-out answers once that is committed.
 fn hand_out(alloc: Global, calls: u64) -> Option<Vec<Answer>> {
-    let mut world = started_with(alloc, &[1], failing(alloc, calls)?)?;
+    let mut world = start_with(alloc, &[1], failing(alloc, calls)?)?;
     hand_out_after(alloc, &mut world, &ASSOCIATION)
 }
 
@@ -156,7 +157,7 @@ fn all_tell(alloc: Global, world: &mut Failed) -> Option<[bool; 4]> {
 }
 
 fn flushes(alloc: Global) -> Option<[bool; 4]> {
-    let mut world = started_with(alloc, &[1], failing(alloc, 1)?)?;
+    let mut world = start_with(alloc, &[1], failing(alloc, 1)?)?;
     all_tell(alloc, &mut world)
 }
 
@@ -168,11 +169,11 @@ fn a_slot_that_is_down_is_told_by_each_flush(rt: HostRuntime) -> Result<(), Fail
 
 /// The device of a world in which the station is associated.
 fn device(alloc: Global) -> Option<MemDisk> {
-    stopped(started(alloc, &[1])?, &ASSOCIATION)
+    stop_after(start_world(alloc, &[1])?, &ASSOCIATION)
 }
 
 /// The interface, at which no station is allowed.
-fn closed(alloc: Global) -> Option<Confs> {
+fn strict_confs(alloc: Global) -> Option<Confs> {
     let mut conf = conf(alloc, 1)?;
     conf.macaddr_acl = AclMode::DenyUnlessAccepted;
     let mut list = Vec::new(alloc);
@@ -181,41 +182,47 @@ fn closed(alloc: Global) -> Option<Confs> {
 }
 
 /// A world begun anew there, with a radio that passes the installation of the station alone.
-fn begun(alloc: Global) -> Option<Failed> {
-    restarted(alloc, device(alloc)?, closed(alloc)?, failing(alloc, 1)?).ok()
+fn begin(alloc: Global) -> Option<Failed> {
+    restart_world(
+        alloc,
+        device(alloc)?,
+        strict_confs(alloc)?,
+        failing(alloc, 1)?,
+    )
+    .ok()
 }
 
 /// Whether a slot is up, and the identifier under which the station is wanted, and installed.
 type Seen = (bool, Option<u16>, Option<u16>);
 
-fn seen<R: Radio>(slots: &[Slot<R>]) -> Option<Seen> {
+fn look<R: Radio>(slots: &[Slot<R>]) -> Option<Seen> {
     let slot = slots.first()?;
     Some((slot.is_up(), slot.wanted(STATION), slot.installed(STATION)))
 }
 
 /// What a world's start answers.
 fn start(alloc: Global, world: &mut Failed) -> Option<Vec<Answer>> {
-    said_if_ok(alloc, started_answers(world))
+    answers_if_ok(alloc, start_answers(world))
 }
 
 /// How many rows a world has, and what is seen of its slot.
-fn found(world: Failed) -> (usize, Option<Seen>) {
+fn contents(world: Failed) -> (usize, Option<Seen>) {
     let rows = world.table().rows();
-    (rows, seen(&slots_of(world)))
+    (rows, look(&slots_of(world)))
 }
 
 /// What the start of that world answers, and what is found then.
-fn started_anew(alloc: Global) -> Option<(Vec<Answer>, (usize, Option<Seen>))> {
-    let mut world = begun(alloc)?;
+fn start_anew(alloc: Global) -> Option<(Vec<Answer>, (usize, Option<Seen>))> {
+    let mut world = begin(alloc)?;
     let answers = start(alloc, &mut world)?;
-    Some((answers, found(world)))
+    Some((answers, contents(world)))
 }
 
 // The station is dropped: its removal fails, and the frame that tells it so is lost.
 #[test]
 fn a_start_tells_what_a_radio_was_not_given(rt: HostRuntime) -> Result<(), Fail> {
     let alloc = rt.alloc();
-    let (answers, found) = started_anew(alloc).ok_or("it was refused")?;
+    let (answers, found) = start_anew(alloc).ok_or("it was refused")?;
     let all = answers_of(alloc, &[DOWN, LOST]).ok_or("memory")?;
     assert_eq!(rt; answers.as_slice(), all.as_slice());
     assert_eq!(rt; found, (0, Some((false, None, Some(1)))));

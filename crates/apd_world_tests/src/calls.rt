@@ -48,7 +48,7 @@ pub(crate) fn core(alloc: Global, confs: Confs) -> Option<Core> {
 }
 
 /// A world of these, of which no interface was started.
-pub(crate) fn joined<D: Disk, R: Radio>(
+pub(crate) fn join_parts<D: Disk, R: Radio>(
     alloc: Global,
     flusher: Flusher<D>,
     core: Core,
@@ -58,7 +58,7 @@ pub(crate) fn joined<D: Disk, R: Radio>(
 }
 
 /// The world of the store that a device holds.
-pub(crate) fn restarted<R: Radio>(
+pub(crate) fn restart_world<R: Radio>(
     alloc: Global,
     device: MemDisk,
     confs: Confs,
@@ -76,26 +76,28 @@ pub(crate) fn refusal<D: Disk, R: Radio>(world: &mut World<D, R>) -> Option<Worl
 pub(crate) type Answers = Vec<(Recipient, Told)>;
 
 /// What a start answers.
-pub(crate) fn started_answers<D: Disk, R: Radio>(
+pub(crate) fn start_answers<D: Disk, R: Radio>(
     world: &mut World<D, R>,
 ) -> Result<Answers, WorldFault> {
     world.start()
 }
 
 /// What a flush answers.
-pub(crate) fn flushed<D: Disk, R: Radio>(world: &mut World<D, R>) -> Result<Answers, WorldFault> {
+pub(crate) fn flush_answers<D: Disk, R: Radio>(
+    world: &mut World<D, R>,
+) -> Result<Answers, WorldFault> {
     world.flush()
 }
 
 /// What a hand-out answers.
-pub(crate) fn handed_out<D: Disk, R: Radio>(
+pub(crate) fn hand_out_answers<D: Disk, R: Radio>(
     world: &mut World<D, R>,
 ) -> Result<Answers, WorldFault> {
     world.hand_out()
 }
 
 /// What these steps tell.
-pub(crate) fn told<D: Disk, R: Radio>(
+pub(crate) fn tell<D: Disk, R: Radio>(
     world: &mut World<D, R>,
     steps: &[Step<'_>],
 ) -> Option<Vec<Told>> {
@@ -111,7 +113,7 @@ pub(crate) fn makes<D: Disk, R: Radio>(world: &mut World<D, R>, steps: &[Step<'_
 }
 
 /// Puts another radio in the place of that of a BSSID's slot.
-pub(crate) fn replaced<D: Disk, R: Radio>(
+pub(crate) fn replace_radio<D: Disk, R: Radio>(
     world: &mut World<D, R>,
     bssid: Bssid,
     radio: R,

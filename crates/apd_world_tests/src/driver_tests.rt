@@ -3,7 +3,7 @@ use crate::calls::{Memory, slots_of};
 use crate::steps::{
     ASSOCIATES, AT_WLAN0, AUTHENTICATES, COMMITS, ROAMS, STATION, TO_WLAN0, WLAN0, WLAN1,
 };
-use crate::worlds::{recovered, started_with, stopped};
+use crate::worlds::{recover_world, start_with, stop_after};
 use apd_base::Bssid;
 use apd_disk::MemDisk;
 use apd_radio::{Recording, Sim};
@@ -15,7 +15,7 @@ use std::test::Fail;
 type Recorded<'a> = Slot<Recording<Sim, &'a mut Vec<u8>>>;
 
 /// A slot whose radio writes down what it is told.
-fn recorded(alloc: Global, bssid: Bssid, written: &mut Vec<u8>) -> Recorded<'_> {
+fn recorder(alloc: Global, bssid: Bssid, written: &mut Vec<u8>) -> Recorded<'_> {
     let radio = Recording::new(alloc, Sim::new(alloc), written);
     Slot::new(alloc, radio, bssid)
 }
@@ -27,8 +27,8 @@ fn both<'a>(
     second: &'a mut Vec<u8>,
 ) -> Option<Vec<Recorded<'a>>> {
     let mut slots = Vec::new(alloc);
-    slots.push(recorded(alloc, WLAN0, first)).ok()?;
-    slots.push(recorded(alloc, WLAN1, second)).ok()?;
+    slots.push(recorder(alloc, WLAN0, first)).ok()?;
+    slots.push(recorder(alloc, WLAN1, second)).ok()?;
     Some(slots)
 }
 
@@ -40,11 +40,11 @@ fn device_after(
     second: &mut Vec<u8>,
 ) -> Option<MemDisk> {
     let slots = both(alloc, first, second)?;
-    stopped(started_with(alloc, &[1, 2], slots)?, steps)
+    stop_after(start_with(alloc, &[1, 2], slots)?, steps)
 }
 
 /// What both radios are told of these steps, until their world ends.
-fn told_of(alloc: Global, steps: &[Step<'static>]) -> Option<[Vec<u8>; 2]> {
+fn recordings_of(alloc: Global, steps: &[Step<'static>]) -> Option<[Vec<u8>; 2]> {
     let (mut first, mut second) = (Vec::new(alloc), Vec::new(alloc));
     let _device = device_after(alloc, steps, &mut first, &mut second)?;
     Some([first, second])
@@ -56,7 +56,7 @@ fn nothing() -> &'static [u8] {
 
 #[test]
 fn nothing_is_sent_of_what_was_not_handed_out(rt: HostRuntime) -> Result<(), Fail> {
-    let [first, second] = told_of(rt.alloc(), &COMMITS).ok_or("memory")?;
+    let [first, second] = recordings_of(rt.alloc(), &COMMITS).ok_or("memory")?;
     assert_eq!(rt; first.as_slice(), nothing());
     assert_eq!(rt; second.as_slice(), nothing());
     Ok(())
@@ -96,13 +96,13 @@ down
 
 #[test]
 fn a_run_is_recorded(rt: HostRuntime) -> Result<(), Fail> {
-    let [first, second] = told_of(rt.alloc(), &JOINS).ok_or("memory")?;
+    let [first, second] = recordings_of(rt.alloc(), &JOINS).ok_or("memory")?;
     assert_eq!(rt; first.as_slice(), first_lines());
     assert_eq!(rt; second.as_slice(), nothing());
     Ok(())
 }
 
-fn left_lines() -> &'static [u8] {
+fn lines_of_leaving() -> &'static [u8] {
     b"down
 tx b00000000200000000aa0200000000010200000000010000000002000000
 install 02:00:00:00:00:aa 1
@@ -113,7 +113,7 @@ down
 "
 }
 
-fn joined_lines() -> &'static [u8] {
+fn lines_of_joining() -> &'static [u8] {
     b"down
 tx b00000000200000000aa0200000000020200000000020000000002000000
 install 02:00:00:00:00:aa 1
@@ -124,14 +124,14 @@ down
 
 #[test]
 fn a_station_goes_to_another_radio(rt: HostRuntime) -> Result<(), Fail> {
-    let [first, second] = told_of(rt.alloc(), &ROAMS).ok_or("memory")?;
-    assert_eq!(rt; first.as_slice(), left_lines());
-    assert_eq!(rt; second.as_slice(), joined_lines());
+    let [first, second] = recordings_of(rt.alloc(), &ROAMS).ok_or("memory")?;
+    assert_eq!(rt; first.as_slice(), lines_of_leaving());
+    assert_eq!(rt; second.as_slice(), lines_of_joining());
     Ok(())
 }
 
 /// The device after the station went to the other radio.
-fn roamed(alloc: Global) -> Option<MemDisk> {
+fn roam(alloc: Global) -> Option<MemDisk> {
     let (mut first, mut second) = (Vec::new(alloc), Vec::new(alloc));
     device_after(alloc, &ROAMS, &mut first, &mut second)
 }
@@ -139,32 +139,32 @@ fn roamed(alloc: Global) -> Option<MemDisk> {
 /// Whether a slot is up, and the identifier that its radio has for the station.
 type Seen = (bool, Option<u16>);
 
-fn seen_at(slot: &Slot<Sim>) -> Seen {
+fn look_at(slot: &Slot<Sim>) -> Seen {
     (slot.is_up(), slot.installed(STATION))
 }
 
 /// What is seen of both slots.
-fn seen(slots: &[Slot<Sim>]) -> Option<[Seen; 2]> {
+fn look(slots: &[Slot<Sim>]) -> Option<[Seen; 2]> {
     let (first, second) = (slots.first()?, slots.get(1)?);
-    Some([seen_at(first), seen_at(second)])
+    Some([look_at(first), look_at(second)])
 }
 
 /// How many rows a world has, and what is seen of its slots.
-fn found(world: Memory) -> (usize, Option<[Seen; 2]>) {
+fn contents(world: Memory) -> (usize, Option<[Seen; 2]>) {
     let rows = world.table().rows();
     let slots = slots_of(world);
-    (rows, seen(&slots))
+    (rows, look(&slots))
 }
 
 /// The world begun anew of that device.
-fn resumed(alloc: Global) -> Option<Memory> {
-    recovered(alloc, roamed(alloc)?, &[1, 2])
+fn resume(alloc: Global) -> Option<Memory> {
+    recover_world(alloc, roam(alloc)?, &[1, 2])
 }
 
 #[test]
 fn the_drivers_have_the_stations_of_the_table_again(rt: HostRuntime) -> Result<(), Fail> {
-    let world = resumed(rt.alloc()).ok_or("memory")?;
+    let world = resume(rt.alloc()).ok_or("memory")?;
     let slots = Some([(true, None), (true, Some(1))]);
-    assert_eq!(rt; found(world), (2, slots));
+    assert_eq!(rt; contents(world), (2, slots));
     Ok(())
 }

@@ -1,7 +1,7 @@
 //! Radios whose device fails in a run.
-use crate::calls::{slots_of, told};
+use crate::calls::{slots_of, tell};
 use crate::steps::{ASSOCIATES, AT_WLAN0, AUTHENTICATES, STATION, TO_WLAN0};
-use crate::worlds::{failing, started_with};
+use crate::worlds::{failing, start_with};
 use apd_radio::Radio;
 use apd_slot::{Slot, SlotFault};
 use apd_world::{Step, Told};
@@ -44,16 +44,16 @@ fn answers(tolds: &[Told]) -> [Option<SlotFault>; 3] {
 /// Whether a slot is up, and the identifier under which the station is wanted, and installed.
 type Seen = (bool, Option<u16>, Option<u16>);
 
-fn seen<R: Radio>(slots: &[Slot<R>]) -> Option<Seen> {
+fn look<R: Radio>(slots: &[Slot<R>]) -> Option<Seen> {
     let slot = slots.first()?;
     Some((slot.is_up(), slot.wanted(STATION), slot.installed(STATION)))
 }
 
 /// What a radio's slot answers, and is seen of it then.
 fn run(alloc: Global, calls: u64) -> Option<([Option<SlotFault>; 3], Option<Seen>)> {
-    let mut world = started_with(alloc, &[1], failing(alloc, calls)?)?;
-    let answers = answers(told(&mut world, &ASSOCIATED)?.as_slice());
-    Some((answers, seen(&slots_of(world))))
+    let mut world = start_with(alloc, &[1], failing(alloc, calls)?)?;
+    let answers = answers(tell(&mut world, &ASSOCIATED)?.as_slice());
+    Some((answers, look(&slots_of(world))))
 }
 
 #[test]

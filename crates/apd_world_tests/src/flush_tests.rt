@@ -1,5 +1,5 @@
 //! Flushes over a device that fails: they end by the store's fault, and never by want of memory.
-use crate::calls::{blank_disk, flushed, handed_out, makes, refusal};
+use crate::calls::{blank_disk, flush_answers, hand_out_answers, makes, refusal};
 use crate::steps::AUTHENTICATES;
 use crate::worlds::{failing, new_world, sims};
 use apd_disk::{Disk, FuseDisk, OnceDisk};
@@ -11,8 +11,8 @@ use std::alloc::Global;
 use std::test::Fail;
 
 /// Why a flush is refused; none where it is not.
-fn refused<D: Disk, R: Radio>(world: &mut World<D, R>) -> Option<WorldFault> {
-    flushed(world).err()
+fn flush_refusal<D: Disk, R: Radio>(world: &mut World<D, R>) -> Option<WorldFault> {
+    flush_answers(world).err()
 }
 
 /// Why three flushes are refused, and a hand-out behind them.
@@ -21,8 +21,12 @@ type Refusals = ([Option<WorldFault>; 3], Option<WorldFault>);
 /// The same of a started world, once a station has authenticated.
 fn refusals<D: Disk, R: Radio>(world: &mut World<D, R>) -> Option<Refusals> {
     makes(world, &[AUTHENTICATES])?;
-    let flushes = [refused(world), refused(world), refused(world)];
-    Some((flushes, handed_out(world).err()))
+    let flushes = [
+        flush_refusal(world),
+        flush_refusal(world),
+        flush_refusal(world),
+    ];
+    Some((flushes, hand_out_answers(world).err()))
 }
 
 /// The same of a world on a store that the device is given, whose start is not refused.

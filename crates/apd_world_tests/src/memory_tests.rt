@@ -1,8 +1,8 @@
 //! Restarts where memory is refused: each is tried once more, and has to come to the same. Where memory is ample
 //! nothing is refused; by hand each allocation is refused in turn.
-use crate::calls::{Memory, Refused, device, restarted, slots_of, told};
+use crate::calls::{Memory, Refused, device, restart_world, slots_of, tell};
 use crate::steps::{ASSOCIATIONS, OTHER, STATION, WLAN0, WLAN1};
-use crate::worlds::{confs, sims, started};
+use crate::worlds::{confs, sims, start_world};
 use apd_base::Addr;
 use apd_conf::Confs;
 use apd_disk::{MemDisk, Torn};
@@ -14,32 +14,32 @@ use std::alloc::Global;
 use std::test::Fail;
 
 /// The device on which a station is associated at each radio; none where a step was refused memory.
-fn settled(alloc: Global) -> Option<MemDisk> {
-    let mut world = started(alloc, &[1, 2])?;
-    match told(&mut world, &ASSOCIATIONS) {
+fn settle(alloc: Global) -> Option<MemDisk> {
+    let mut world = start_world(alloc, &[1, 2])?;
+    match tell(&mut world, &ASSOCIATIONS) {
         Some(_) if world.table().rows() == 2 => Some(device(world)),
         _ => None,
     }
 }
 
-fn settled_device(alloc: Global) -> Option<MemDisk> {
-    match settled(alloc) {
+fn settle_or_retry(alloc: Global) -> Option<MemDisk> {
+    match settle(alloc) {
         Some(device) => Some(device),
-        None => settled(alloc),
+        None => settle(alloc),
     }
 }
 
 /// Whether a slot is up, and the identifier under which its station is wanted, and installed.
 type Seen = (bool, Option<u16>, Option<u16>);
 
-fn seen_at(slot: &Slot<Sim>, station: Addr) -> Seen {
+fn look_at(slot: &Slot<Sim>, station: Addr) -> Seen {
     (slot.is_up(), slot.wanted(station), slot.installed(station))
 }
 
 /// What is seen of both slots.
-fn seen(slots: &[Slot<Sim>]) -> Option<[Seen; 2]> {
+fn look(slots: &[Slot<Sim>]) -> Option<[Seen; 2]> {
     let (first, second) = (slots.first()?, slots.get(1)?);
-    Some([seen_at(first, STATION), seen_at(second, OTHER)])
+    Some([look_at(first, STATION), look_at(second, OTHER)])
 }
 
 /// A slot as it is new, one that has resumed, and one that has not.
@@ -51,7 +51,7 @@ const DOWN: Seen = (false, None, None);
 
 /// What a restart that is refused so leaves of the slots. Want of memory alone refuses one here; the device, too,
 /// fails for it.
-fn left_by(fault: WorldFault) -> Option<[Seen; 2]> {
+fn slots_behind(fault: WorldFault) -> Option<[Seen; 2]> {
     match fault {
         WorldFault::NoMemory
         | WorldFault::Store(StoreFault::NoMemory)
@@ -78,41 +78,41 @@ fn new_slots(alloc: Global) -> Option<Vec<Slot<Sim>>> {
 
 /// Another world of what a refusal handed back, behind a stop that leaves such an image; none where the slots are
 /// not as they should be.
-fn begun_again(alloc: Global, refused: Refused<Sim>, torn: Torn) -> Option<Memory> {
+fn begin_again(alloc: Global, refused: Refused<Sim>, torn: Torn) -> Option<Memory> {
     let (device, slots, fault) = refused;
-    if seen(&slots) != left_by(fault) {
+    if look(&slots) != slots_behind(fault) {
         return None;
     }
-    restarted(alloc, device.crash(torn), both(alloc)?, slots).ok()
+    restart_world(alloc, device.crash(torn), both(alloc)?, slots).ok()
 }
 
 /// The world of the device, where memory is refused that of the second try.
-fn begun(alloc: Global, device: MemDisk, torn: Torn) -> Option<Memory> {
+fn begin(alloc: Global, device: MemDisk, torn: Torn) -> Option<Memory> {
     let confs = both(alloc)?;
     let slots = new_slots(alloc)?;
-    match restarted(alloc, device, confs, slots) {
+    match restart_world(alloc, device, confs, slots) {
         Ok(world) => Some(world),
-        Err(refused) => begun_again(alloc, refused, torn),
+        Err(refused) => begin_again(alloc, refused, torn),
     }
 }
 
 /// How many rows both BSSIDs have, and what is seen of the slots.
-fn found(world: Memory) -> (usize, Option<[Seen; 2]>) {
+fn contents(world: Memory) -> (usize, Option<[Seen; 2]>) {
     let rows = world.table().rows();
     let slots = slots_of(world);
-    (rows, seen(&slots))
+    (rows, look(&slots))
 }
 
 /// The world of a device on which a station was associated at each radio.
-fn resumed(alloc: Global, torn: Torn) -> Option<Memory> {
-    begun(alloc, settled_device(alloc)?, torn)
+fn resume(alloc: Global, torn: Torn) -> Option<Memory> {
+    begin(alloc, settle_or_retry(alloc)?, torn)
 }
 
 #[test]
 fn a_restart_that_is_refused_memory_leaves_what_was(rt: HostRuntime) -> Result<(), Fail> {
     for torn in [Torn::Old, Torn::New, Torn::Byte(0x55)] {
-        let world = resumed(rt.alloc(), torn).ok_or("a refusal left something else")?;
-        assert_eq!(rt; found(world), (2, Some([RESUMED, RESUMED])));
+        let world = resume(rt.alloc(), torn).ok_or("a refusal left something else")?;
+        assert_eq!(rt; contents(world), (2, Some([RESUMED, RESUMED])));
     }
     Ok(())
 }

@@ -1,7 +1,7 @@
 //! Slots at which outs wait: what a world that is made of them does with these, and what it gives back.
-use crate::calls::{Memory, blank_disk, makes, queues, slots_of, started_answers, told};
+use crate::calls::{Memory, blank_disk, makes, queues, slots_of, start_answers, tell};
 use crate::steps::{AT_WLAN0, AUTHENTICATES, OTHER, STATION, TO_WLAN0, WLAN0};
-use crate::worlds::{configured, new_world};
+use crate::worlds::{configure_radio, new_world};
 use apd_base::Aid;
 use apd_mlme::Out;
 use apd_radio::Sim;
@@ -70,7 +70,7 @@ const STEPS: [Step<'static>; 12] = [
 ];
 
 /// What is told of each step behind so many.
-fn said_behind(alloc: Global, tolds: &[Told], steps: usize) -> Option<Vec<Said>> {
+fn answers_behind(alloc: Global, tolds: &[Told], steps: usize) -> Option<Vec<Said>> {
     let mut all = Vec::new(alloc);
     for told in tolds.iter().skip(steps) {
         all.push(in_short(told)).ok()?;
@@ -80,7 +80,7 @@ fn said_behind(alloc: Global, tolds: &[Told], steps: usize) -> Option<Vec<Said>>
 
 /// Has the interface configured.
 fn configures(alloc: Global, world: &mut Memory) -> Option<()> {
-    match configured(alloc, world, 1) {
+    match configure_radio(alloc, world, 1) {
         Some(_) => Some(()),
         None => None,
     }
@@ -89,7 +89,7 @@ fn configures(alloc: Global, world: &mut Memory) -> Option<()> {
 /// What is told of the hand-out, and of what is applied.
 fn run_on(alloc: Global, world: &mut Memory) -> Option<Vec<Said>> {
     configures(alloc, world)?;
-    said_behind(alloc, &told(world, &STEPS)?, 7)
+    answers_behind(alloc, &tell(world, &STEPS)?, 7)
 }
 
 /// The same of that world.
@@ -115,7 +115,7 @@ fn what_waits_at_a_slot_is_applied_before_what_is_handed(rt: HostRuntime) -> Res
 /// What a start tells of the radio's slot.
 fn start(alloc: Global) -> Option<Vec<Said>> {
     let mut all = Vec::new(alloc);
-    for (_to, told) in started_answers(&mut world(alloc)?).ok()? {
+    for (_to, told) in start_answers(&mut world(alloc)?).ok()? {
         all.push(in_short(&told)).ok()?;
     }
     Some(all)
@@ -138,7 +138,7 @@ fn a_start_applies_what_waits_at_a_slot(rt: HostRuntime) -> Result<(), Fail> {
 /// How many outs wait at a slot, and the identifiers under which both stations are installed.
 type Seen = (usize, [Option<u16>; 2]);
 
-fn seen(slots: &[Slot<Sim>]) -> Option<Seen> {
+fn look(slots: &[Slot<Sim>]) -> Option<Seen> {
     let slot = slots.first()?;
     let installed = [slot.installed(OTHER), slot.installed(STATION)];
     Some((slot.waiting(), installed))
@@ -151,10 +151,10 @@ fn goes_on(alloc: Global, world: &mut Memory, steps: usize) -> Option<()> {
 }
 
 /// What is seen of the slot that a world gives back behind so many of the steps.
-fn given_back(alloc: Global, steps: usize) -> Option<Seen> {
+fn give_back(alloc: Global, steps: usize) -> Option<Seen> {
     let mut world = world(alloc)?;
     match goes_on(alloc, &mut world, steps) {
-        Some(()) => seen(&slots_of(world)),
+        Some(()) => look(&slots_of(world)),
         None => None,
     }
 }
@@ -168,7 +168,7 @@ fn no_out_waits_at_a_slot_that_is_given_back(rt: HostRuntime) -> Result<(), Fail
         (10, [Some(9), Some(8)]),
         (12, [Some(9), Some(8)]),
     ] {
-        let found = given_back(rt.alloc(), steps);
+        let found = give_back(rt.alloc(), steps);
         assert_eq!(rt; found, Some((0, installed)), "{steps}");
     }
     Ok(())

@@ -1,7 +1,7 @@
 //! Restarts that a radio refuses: which slot is told, and what is left of it, of those before it and of those behind.
-use crate::calls::{Refused, applies, queues, restarted, slots_of};
+use crate::calls::{Refused, applies, queues, restart_world, slots_of};
 use crate::steps::{ASSOCIATIONS, OTHER, STATION, WLAN0, WLAN1};
-use crate::worlds::{confs, radio, recovered, started, stopped};
+use crate::worlds::{confs, radio, recover_world, start_world, stop_after};
 use apd_base::{Addr, Aid};
 use apd_disk::MemDisk;
 use apd_mlme::Out;
@@ -28,7 +28,7 @@ fn uses(alloc: Global, slot: &mut Used) -> Option<()> {
 }
 
 /// A slot that was used so, whose radio passes so many calls more.
-fn used(alloc: Global, last: u8, calls: u64) -> Option<Used> {
+fn use_slot(alloc: Global, last: u8, calls: u64) -> Option<Used> {
     let radio_of = Failing::new(Sim::new(alloc), calls.checked_add(1)?);
     let mut slot = Slot::new(alloc, radio_of, radio(last));
     uses(alloc, &mut slot)?;
@@ -39,9 +39,9 @@ fn used(alloc: Global, last: u8, calls: u64) -> Option<Used> {
 fn three(alloc: Global, calls: [u64; 3]) -> Option<Vec<Used>> {
     let [first, second, third] = calls;
     let mut slots = Vec::new(alloc);
-    slots.push(used(alloc, 1, first)?).ok()?;
-    slots.push(used(alloc, 2, second)?).ok()?;
-    slots.push(used(alloc, 3, third)?).ok()?;
+    slots.push(use_slot(alloc, 1, first)?).ok()?;
+    slots.push(use_slot(alloc, 2, second)?).ok()?;
+    slots.push(use_slot(alloc, 3, third)?).ok()?;
     Some(slots)
 }
 
@@ -49,7 +49,7 @@ fn three(alloc: Global, calls: [u64; 3]) -> Option<Vec<Used>> {
 /// are wanted, and installed.
 type Seen = (bool, usize, [Option<u16>; 2], [Option<u16>; 2]);
 
-fn seen_at(slot: &Used, station: Addr) -> Seen {
+fn look_at(slot: &Used, station: Addr) -> Seen {
     (
         slot.is_up(),
         slot.waiting(),
@@ -68,30 +68,30 @@ const EMPTY: Seen = (true, 0, [None, None], [None, None]);
 const DOWN: Seen = (false, 1, [Some(7), None], [None, None]);
 
 /// What is seen of the three slots.
-fn seen(slots: &[Used]) -> Option<[Seen; 3]> {
+fn look(slots: &[Used]) -> Option<[Seen; 3]> {
     Some([
-        seen_at(slots.first()?, STATION),
-        seen_at(slots.get(1)?, OTHER),
-        seen_at(slots.get(2)?, OTHER),
+        look_at(slots.first()?, STATION),
+        look_at(slots.get(1)?, OTHER),
+        look_at(slots.get(2)?, OTHER),
     ])
 }
 
 /// A device on which a station is associated at the first radio, another at the second, and none at the third.
 fn device(alloc: Global) -> Option<MemDisk> {
-    stopped(started(alloc, &[1, 2, 3])?, &ASSOCIATIONS)
+    stop_after(start_world(alloc, &[1, 2, 3])?, &ASSOCIATIONS)
 }
 
 /// What a restart is refused with there.
-fn refused(alloc: Global, calls: [u64; 3]) -> Option<Refused<Failing<Sim>>> {
+fn restart_refusal(alloc: Global, calls: [u64; 3]) -> Option<Refused<Failing<Sim>>> {
     let confs = confs(alloc, &[1, 2, 3])?;
-    restarted(alloc, device(alloc)?, confs, three(alloc, calls)?).err()
+    restart_world(alloc, device(alloc)?, confs, three(alloc, calls)?).err()
 }
 
 /// Why it is refused, what is seen of the slots, and how many rows another restart finds.
 fn refusal_of(alloc: Global, calls: [u64; 3]) -> Option<(WorldFault, [Seen; 3], usize)> {
-    let (device, slots, fault) = refused(alloc, calls)?;
-    let world = recovered(alloc, device, &[1, 2, 3])?;
-    Some((fault, seen(&slots)?, world.table().rows()))
+    let (device, slots, fault) = restart_refusal(alloc, calls)?;
+    let world = recover_world(alloc, device, &[1, 2, 3])?;
+    Some((fault, look(&slots)?, world.table().rows()))
 }
 
 #[test]
@@ -110,16 +110,16 @@ fn a_radio_that_fails_is_told_and_leaves_those_behind(rt: HostRuntime) -> Result
 }
 
 /// What is seen of the slots behind a restart that is not refused.
-fn begun(alloc: Global, calls: [u64; 3]) -> Option<[Seen; 3]> {
+fn begin(alloc: Global, calls: [u64; 3]) -> Option<[Seen; 3]> {
     let confs = confs(alloc, &[1, 2, 3])?;
-    let world = restarted(alloc, device(alloc)?, confs, three(alloc, calls)?).ok()?;
-    seen(&slots_of(world))
+    let world = restart_world(alloc, device(alloc)?, confs, three(alloc, calls)?).ok()?;
+    look(&slots_of(world))
 }
 
 // It is asked for nothing but to be taken down.
 #[test]
 fn a_radio_without_stations_refuses_nothing(rt: HostRuntime) -> Result<(), Fail> {
-    let found = begun(rt.alloc(), [1, 1, 0]).ok_or("it was refused")?;
+    let found = begin(rt.alloc(), [1, 1, 0]).ok_or("it was refused")?;
     assert_eq!(rt; found, [RESUMED, RESUMED, EMPTY]);
     Ok(())
 }

@@ -1,7 +1,7 @@
 //! Radios whose driver fails, and others in their place.
-use crate::calls::{joined, parts_of, replaced, told};
+use crate::calls::{join_parts, parts_of, replace_radio, tell};
 use crate::steps::{ROAMS, STATION, WLAN0, WLAN1};
-use crate::worlds::{started, started_with};
+use crate::worlds::{start_with, start_world};
 use apd_base::{Bssid, Station};
 use apd_disk::MemDisk;
 use apd_radio::{Failing, Radio, Sim};
@@ -27,9 +27,9 @@ fn slots(alloc: Global, radios: (Boxed, Boxed)) -> Option<Vec<Slot<Boxed>>> {
 }
 
 /// A world whose station went from one radio to the other.
-fn roamed(alloc: Global, radios: (Boxed, Boxed)) -> Option<World<MemDisk, Boxed>> {
-    let mut world = started_with(alloc, &[1, 2], slots(alloc, radios)?)?;
-    told(&mut world, &ROAMS)?;
+fn roam(alloc: Global, radios: (Boxed, Boxed)) -> Option<World<MemDisk, Boxed>> {
+    let mut world = start_with(alloc, &[1, 2], slots(alloc, radios)?)?;
+    tell(&mut world, &ROAMS)?;
     Some(world)
 }
 
@@ -52,17 +52,17 @@ fn has_rows(table: &Table, slots: &[Slot<Boxed>]) -> bool {
 
 /// Puts others in the place of both. Tells whether both that come back have no station.
 fn replaces_both(world: &mut World<MemDisk, Boxed>, others: (Boxed, Boxed)) -> Option<bool> {
-    let first = replaced(world, WLAN0, others.0).ok()?;
-    let second = replaced(world, WLAN1, others.1).ok()?;
+    let first = replace_radio(world, WLAN0, others.0).ok()?;
+    let second = replace_radio(world, WLAN1, others.1).ok()?;
     Some(first.installed(STATION).is_none() && second.installed(STATION).is_none())
 }
 
 /// Whether the slots want the table's stations, whatever their radios pass on; and whether others that take their place
 /// have them, where those that come back have none.
 fn follows(alloc: Global, radios: (Boxed, Boxed), others: (Boxed, Boxed)) -> Option<[bool; 3]> {
-    let (flusher, core, slots) = parts_of(roamed(alloc, radios)?);
+    let (flusher, core, slots) = parts_of(roam(alloc, radios)?);
     let wanted = wants_rows(core.table(), &slots);
-    let mut world = joined(alloc, flusher, core, slots);
+    let mut world = join_parts(alloc, flusher, core, slots);
     let emptied = replaces_both(&mut world, others)?;
     let (_flusher, core, slots) = parts_of(world);
     Some([wanted, emptied, has_rows(core.table(), &slots)])
@@ -92,25 +92,25 @@ fn with_station(alloc: Global) -> Option<Sim> {
 }
 
 /// What comes back where a BSSID has no slot.
-fn refused(alloc: Global) -> Option<(Option<u16>, WorldFault)> {
-    let mut world = started(alloc, &[1])?;
-    let (back, fault) = replaced(&mut world, WLAN1, with_station(alloc)?).err()?;
+fn slot_refusal(alloc: Global) -> Option<(Option<u16>, WorldFault)> {
+    let mut world = start_world(alloc, &[1])?;
+    let (back, fault) = replace_radio(&mut world, WLAN1, with_station(alloc)?).err()?;
     Some((back.installed(STATION), fault))
 }
 
 #[test]
 fn a_bssid_without_a_slot_gets_no_radio(rt: HostRuntime) -> Result<(), Fail> {
     let alloc = rt.alloc();
-    assert_eq!(rt; refused(alloc), Some((Some(7), WorldFault::NoSlot)));
+    assert_eq!(rt; slot_refusal(alloc), Some((Some(7), WorldFault::NoSlot)));
     let text = format!(in alloc; "{}", WorldFault::NoSlot)?;
     assert_eq!(rt; text.as_str(), "no such radio");
     Ok(())
 }
 
 /// What is told where another radio fails, and whether the slots are up.
-fn kept(alloc: Global, radios: (Boxed, Boxed), other: Boxed) -> Option<(WorldFault, [bool; 2])> {
-    let mut world = roamed(alloc, radios)?;
-    let (_back, fault) = replaced(&mut world, WLAN1, other).err()?;
+fn outcome(alloc: Global, radios: (Boxed, Boxed), other: Boxed) -> Option<(WorldFault, [bool; 2])> {
+    let mut world = roam(alloc, radios)?;
+    let (_back, fault) = replace_radio(&mut world, WLAN1, other).err()?;
     Some((fault, [world.is_up(WLAN0), world.is_up(WLAN1)]))
 }
 
@@ -121,7 +121,7 @@ fn a_radio_that_fails_takes_its_slot_down_alone(rt: HostRuntime) -> Result<(), F
     let second: Boxed = Box::new(alloc, Sim::new(alloc))?;
     let other: Boxed = Box::new(alloc, failing(alloc, 0))?;
     let fault = WorldFault::Slot(WLAN1, SlotFault::WentDown);
-    let kept = kept(alloc, (first, second), other);
+    let kept = outcome(alloc, (first, second), other);
     assert_eq!(rt; kept, Some((fault, [true, false])));
     Ok(())
 }

@@ -1,7 +1,9 @@
 //! Starts that find a full store, or a device that fails.
 use crate::calls::{Memory, blank_disk, refusal};
 use crate::steps::WLAN0;
-use crate::worlds::{configured, new_world, radio, recovered, sims, started, stopped};
+use crate::worlds::{
+    configure_radio, new_world, radio, recover_world, sims, start_world, stop_after,
+};
 use apd_core::QuietReason;
 use apd_disk::{FuseDisk, MemDisk};
 use apd_radio::Sim;
@@ -12,7 +14,7 @@ use std::test::Fail;
 
 /// A store of which eight interfaces were started.
 fn full_store(alloc: Global) -> Option<MemDisk> {
-    stopped(started(alloc, &[1, 2, 3, 4, 5, 6, 7, 8])?, &[])
+    stop_after(start_world(alloc, &[1, 2, 3, 4, 5, 6, 7, 8])?, &[])
 }
 
 /// What is told of the first step.
@@ -38,32 +40,32 @@ fn ninth(alloc: Global, world: &mut Memory) -> Option<((bool, bool), Reception)>
         return None;
     }
     let policies = have_policies(world);
-    let tolds = configured(alloc, world, 9)?;
+    let tolds = configure_radio(alloc, world, 9)?;
     Some((policies, reception(tolds.as_slice())?))
 }
 
 /// The same of the full store.
-fn found(alloc: Global) -> Option<((bool, bool), Reception)> {
-    let mut world = recovered(alloc, full_store(alloc)?, &[9, 1])?;
+fn ninth_of_full(alloc: Global) -> Option<((bool, bool), Reception)> {
+    let mut world = recover_world(alloc, full_store(alloc)?, &[9, 1])?;
     ninth(alloc, &mut world)
 }
 
 #[test]
 fn a_start_passes_over_a_ninth_bssid(rt: HostRuntime) -> Result<(), Fail> {
     let too_many = Reception::Quiet(QuietReason::TooManyBss);
-    assert_eq!(rt; found(rt.alloc()), Some(((false, true), too_many)));
+    assert_eq!(rt; ninth_of_full(rt.alloc()), Some(((false, true), too_many)));
     Ok(())
 }
 
 /// A world of one radio on a device that passes this many calls and fails then.
-fn fused(alloc: Global, passes: u64) -> Option<World<FuseDisk<MemDisk>, Sim>> {
+fn world_on_fuse(alloc: Global, passes: u64) -> Option<World<FuseDisk<MemDisk>, Sim>> {
     let disk = FuseDisk::new(blank_disk(alloc)?, passes);
     new_world(alloc, disk, &[1], sims(alloc, &[1])?)
 }
 
 /// Why two starts are refused.
 fn refusals(alloc: Global, passes: u64) -> Option<[Option<WorldFault>; 2]> {
-    let mut world = fused(alloc, passes)?;
+    let mut world = world_on_fuse(alloc, passes)?;
     Some([refusal(&mut world), refusal(&mut world)])
 }
 

@@ -1,7 +1,7 @@
 //! A run that stops, and what the next one finds.
-use crate::calls::{Memory, told};
+use crate::calls::{Memory, tell};
 use crate::steps::{ASSOCIATES, AUTHENTICATES, COMMITS, DENIES, STATION, TO_WLAN0, WLAN0};
-use crate::worlds::{recovered, started, stopped};
+use crate::worlds::{recover_world, start_world, stop_after};
 use apd_base::{Station, Which};
 use apd_ctrl::Query;
 use apd_disk::{MemDisk, Torn};
@@ -12,7 +12,7 @@ use std::test::Fail;
 
 /// The device of one radio after these steps.
 fn device_after(alloc: Global, steps: &[Step<'static>]) -> Option<MemDisk> {
-    stopped(started(alloc, &[1])?, steps)
+    stop_after(start_world(alloc, &[1])?, steps)
 }
 
 /// Half A from its first byte on, after the start of one interface and an authentication.
@@ -79,14 +79,14 @@ fn is_there(world: &Memory) -> bool {
 }
 
 /// The world begun anew after such a stop.
-fn begun_after(alloc: Global, made: usize, torn: Option<Torn>) -> Option<Memory> {
+fn begin_after(alloc: Global, made: usize, torn: Option<Torn>) -> Option<Memory> {
     let device = device_after(alloc, COMMITS.get(..made)?)?;
-    recovered(alloc, image(device, torn), &[1])
+    recover_world(alloc, image(device, torn), &[1])
 }
 
 /// Whether the station is found in it.
 fn is_found(alloc: Global, made: usize, torn: Option<Torn>) -> Option<bool> {
-    let world = begun_after(alloc, made, torn)?;
+    let world = begin_after(alloc, made, torn)?;
     Some(is_there(&world))
 }
 
@@ -129,23 +129,23 @@ const DENIED: [Step<'static>; 17] = [
 ];
 
 /// Whether the station is associated, and whether the deny list has it.
-fn seen(world: &Memory) -> Option<(bool, bool)> {
+fn look(world: &Memory) -> Option<(bool, bool)> {
     let table = world.table();
     let is_associated = matches!(table.get(WLAN0, STATION), Some(Station::Associated(_)));
     Some((is_associated, table.lists(WLAN0)?.has(Which::Deny, STATION)))
 }
 
 /// What is seen after a stop behind so many of these steps.
-fn seen_after(alloc: Global, made: usize) -> Option<(bool, bool)> {
+fn look_behind(alloc: Global, made: usize) -> Option<(bool, bool)> {
     let device = device_after(alloc, DENIED.get(..made)?)?;
-    let world = recovered(alloc, device, &[1])?;
-    seen(&world)
+    let world = recover_world(alloc, device, &[1])?;
+    look(&world)
 }
 
 #[test]
 fn a_denial_outlives_a_stop(rt: HostRuntime) -> Result<(), Fail> {
-    assert_eq!(rt; seen_after(rt.alloc(), 8), Some((true, false)));
-    assert_eq!(rt; seen_after(rt.alloc(), 17), Some((false, true)));
+    assert_eq!(rt; look_behind(rt.alloc(), 8), Some((true, false)));
+    assert_eq!(rt; look_behind(rt.alloc(), 17), Some((false, true)));
     Ok(())
 }
 
@@ -166,8 +166,8 @@ const ASKED_TWICE: [Step<'static>; 9] = [
 
 /// What a started world tells of these steps.
 fn answers(alloc: Global, steps: &[Step<'static>]) -> Option<Vec<Told>> {
-    let mut world = started(alloc, &[1])?;
-    told(&mut world, steps)
+    let mut world = start_world(alloc, &[1])?;
+    tell(&mut world, steps)
 }
 
 /// The text of an answer to a query.
@@ -178,7 +178,7 @@ fn text(told: Option<&Told>) -> &[u8] {
     }
 }
 
-fn shown() -> &'static [u8] {
+fn station_text() -> &'static [u8] {
     b"02:00:00:00:00:aa\nflags=[AUTH]\naid=0\ncapability=0x0\nlisten_interval=0\n"
 }
 
@@ -186,6 +186,6 @@ fn shown() -> &'static [u8] {
 fn a_query_sees_the_older_table_until_a_batch_is_published(rt: HostRuntime) -> Result<(), Fail> {
     let tolds = answers(rt.alloc(), &ASKED_TWICE).ok_or("memory")?;
     assert_eq!(rt; text(tolds.get(6)), b"FAIL\n".as_slice());
-    assert_eq!(rt; text(tolds.get(8)), shown());
+    assert_eq!(rt; text(tolds.get(8)), station_text());
     Ok(())
 }

@@ -1,6 +1,7 @@
 //! The worlds of which tests speak, on devices of memory.
 use crate::calls::{
-    Memory, blank_disk, confs_of, core, device, flusher, joined, refusal, restarted, store, told,
+    Memory, blank_disk, confs_of, core, device, flusher, join_parts, refusal, restart_world, store,
+    tell,
 };
 use crate::steps::WLAN0;
 use apd_base::{Addr, Bssid, Moment};
@@ -70,11 +71,11 @@ pub(crate) fn new_world<D: Disk + Drop, R: Radio>(
 ) -> Option<World<D, R>> {
     let flusher = flusher(alloc, store(alloc, disk)?)?;
     let core = core(alloc, confs(alloc, lasts)?)?;
-    Some(joined(alloc, flusher, core, slots))
+    Some(join_parts(alloc, flusher, core, slots))
 }
 
 /// A started world on a new store, with these slots.
-pub(crate) fn started_with<R: Radio>(
+pub(crate) fn start_with<R: Radio>(
     alloc: Global,
     lasts: &[u8],
     slots: Vec<Slot<R>>,
@@ -83,15 +84,15 @@ pub(crate) fn started_with<R: Radio>(
 }
 
 /// The same with radios that do nothing.
-pub(crate) fn started(alloc: Global, lasts: &[u8]) -> Option<Memory> {
-    started_with(alloc, lasts, sims(alloc, lasts)?)
+pub(crate) fn start_world(alloc: Global, lasts: &[u8]) -> Option<Memory> {
+    start_with(alloc, lasts, sims(alloc, lasts)?)
 }
 
 /// The world of the store that a device holds, of which no interface was started.
-pub(crate) fn recovered(alloc: Global, device: MemDisk, lasts: &[u8]) -> Option<Memory> {
+pub(crate) fn recover_world(alloc: Global, device: MemDisk, lasts: &[u8]) -> Option<Memory> {
     let confs = confs(alloc, lasts)?;
     let slots = sims(alloc, lasts)?;
-    restarted(alloc, device, confs, slots).ok()
+    restart_world(alloc, device, confs, slots).ok()
 }
 
 /// The world, started.
@@ -104,7 +105,7 @@ fn running<R: Radio>(world: World<MemDisk, R>) -> Option<World<MemDisk, R>> {
 }
 
 /// What is told of the configuration of the interface at the BSSID that ends by this byte.
-pub(crate) fn configured<D: Disk, R: Radio>(
+pub(crate) fn configure_radio<D: Disk, R: Radio>(
     alloc: Global,
     world: &mut World<D, R>,
     last: u8,
@@ -115,16 +116,16 @@ pub(crate) fn configured<D: Disk, R: Radio>(
         accept: &none,
         deny: &none,
     };
-    told(world, &[Step::Accept(input, Moment(0))])
+    tell(world, &[Step::Accept(input, Moment(0))])
 }
 
 /// The device after these steps of a world.
-pub(crate) fn stopped<R: Radio>(
+pub(crate) fn stop_after<R: Radio>(
     world: World<MemDisk, R>,
     steps: &[Step<'static>],
 ) -> Option<MemDisk> {
     let mut world = world;
-    match told(&mut world, steps) {
+    match tell(&mut world, steps) {
         Some(_) => Some(device(world)),
         None => None,
     }

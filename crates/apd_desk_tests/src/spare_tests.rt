@@ -1,0 +1,417 @@
+// A radio whose driver fails while stations are served, with spare radios and without, and another radio beside it.
+ghost use Rattle.std.specs.Prelude.{◌≡◌};
+
+use crate::common::{Still, WLAN0, WLAN1, memory_flusher, share, started_both, station};
+use crate::fed::{Asks, Fed, Frame, Stage, When};
+use crate::operator::Operator;
+use apd_base::{Addr, Bssid};
+use apd_ctrl::Query;
+use apd_desk::{NoGate, Seat, Shared, control_worker, flush_worker, radio_worker};
+use apd_disk::MemDisk;
+use apd_flusher::Flusher;
+use apd_radio::{Failing, Sim};
+use apd_slot::Slot;
+use std::alloc::Global;
+use std::marker::Brand;
+use std::sync::Wait;
+use std::sync::ledger::{Blank, Ledger};
+use std::thread::{Threads, join, sleep};
+use std::time::{Clock, Duration};
+
+/// How often a row is looked for at most, a millisecond apart: a test that waits for one ends.
+const LOOKS: u64 = 20_000;
+
+/// As many calls as no test makes.
+const MANY: u64 = 1_000;
+
+type Driver<'a> = Fed<'a, Failing<Sim>>;
+
+/// What the radio receives that fails, where it has a spare.
+const BEFORE: &[Frame] = &[
+    Frame(Asks::Authentication, 0xaa, When::AtOnce),
+    Frame(Asks::Association, 0xaa, When::AtOnce),
+];
+
+/// What the spare that serves receives.
+const BEHIND: &[Frame] = &[
+    Frame(Asks::Authentication, 0xbb, When::AtOnce),
+    Frame(Asks::Association, 0xbb, When::AtOnce),
+    Frame(Asks::Authentication, 0xc1, When::Told),
+    Frame(Asks::Authentication, 0xc2, When::Told),
+];
+
+/// What a radio without a spare receives.
+const ALONE: &[Frame] = &[
+    Frame(Asks::Authentication, 0xaa, When::AtOnce),
+    Frame(Asks::Association, 0xaa, When::AtOnce),
+    Frame(Asks::Leave, 0xaa, When::Tried),
+    Frame(Asks::Authentication, 0xbb, When::Tried),
+    Frame(Asks::Association, 0xbb, When::Tried),
+    Frame(Asks::Authentication, 0xc1, When::Told),
+    Frame(Asks::Authentication, 0xc2, When::Told),
+];
+
+/// What the other radio receives meanwhile.
+const BESIDE: &[Frame] = &[
+    Frame(Asks::Authentication, 0xdd, When::AtOnce),
+    Frame(Asks::Association, 0xdd, When::AtOnce),
+    Frame(Asks::Authentication, 0xe1, When::Told),
+    Frame(Asks::Authentication, 0xe2, When::Told),
+];
+
+/// What is asked once all that has come.
+const ASKED: &[&[u8]] = &[b"IFNAME=wlan0 STATUS", b"IFNAME=wlan1 STATUS", b"PING"];
+
+/// A spare radio: how many calls it passes on before it fails, and what it receives.
+#[derive(Clone, Copy)]
+struct Spare(u64, &'static [Frame]);
+
+/// What the first radio receives, its spares, and how the replies begin.
+#[derive(Clone, Copy)]
+struct Scene {
+    frames: &'static [Frame],
+    spares: &'static [Spare],
+    replies: &'static [&'static [u8]],
+}
+
+/// How far both radios have come.
+#[derive(Drop)]
+struct Stages {
+    first: Stage,
+    other: Stage,
+}
+
+/// What is seen of a slot at the end: whether it is up, and under which identifiers it wants and has two stations.
+#[derive(Clone, Copy, Debug, PartialEq, Eq)]
+struct Seen {
+    up: bool,
+    wanted: [Option<u16>; 2],
+    installed: [Option<u16>; 2],
+}
+
+/// What a test finds: whether all stations came and the replies are those, what is seen of both slots, how often the
+/// first one's radios were taken down, how many frames were sent by the first one's and by the other's, and how many of
+/// those answer a request for association.
+#[derive(Clone, Copy, Debug, PartialEq, Eq)]
+struct Found {
+    served: bool,
+    first: Option<Seen>,
+    other: Option<Seen>,
+    downs: usize,
+    sent: [usize; 2],
+    associations: [usize; 2],
+}
+
+// Whether a station's row is there, and its flags begin so.
+fn shows<L: Ledger, W: Wait>(
+    rt: &W,
+    shared: &Shared<L>,
+    seat: &mut Seat<L>,
+    row: (Bssid, u8),
+    flags: &[u8],
+) -> bool {
+    let (bssid, last) = row;
+    match shared.ask(rt, seat, Query::Sta(bssid, station(last))) {
+        Ok(answer) => answer
+            .text()
+            .get(18..)
+            .is_some_and(|rest| rest.starts_with(flags)),
+        Err(_) => false,
+    }
+}
+
+// Waits until a station's flags begin so.
+fn comes<L: Ledger, W: Wait + Clock>(
+    rt: &W,
+    shared: &Shared<L>,
+    seat: &mut Seat<L>,
+    row: (Bssid, u8),
+    flags: &[u8],
+) -> bool {
+    for _look in 0..LOOKS {
+        if shows(rt, shared, seat, row, flags) {
+            return true;
+        }
+        sleep(rt, Duration::from_millis(1));
+    }
+    false
+}
+
+// Waits for both stations that associate last, lets two further ones come at each radio, and waits for those. A radio
+// receives the second in a later turn than the first: at that turn's look those stations were settled, so its slot is
+// given them in that turn at the latest, and whenever a stop comes.
+fn all_come<L: Ledger, W: Wait + Clock>(
+    rt: &W,
+    shared: &Shared<L>,
+    seat: &mut Seat<L>,
+    stages: &Stages,
+) -> bool {
+    let associated = comes(rt, shared, seat, (WLAN0, 0xbb), b"flags=[AUTH][ASSOC]")
+        && comes(rt, shared, seat, (WLAN1, 0xdd), b"flags=[AUTH][ASSOC]");
+    stages.first.tell();
+    stages.other.tell();
+    associated
+        && comes(rt, shared, seat, (WLAN0, 0xc2), b"flags=[AUTH]")
+        && comes(rt, shared, seat, (WLAN1, 0xe2), b"flags=[AUTH]")
+}
+
+// Whether these are the beginnings of the replies.
+fn begin(replies: &[Vec<u8>], texts: &[&[u8]]) -> bool {
+    replies.len() == texts.len()
+        && replies
+            .iter()
+            .zip(texts)
+            .all(|(reply, text)| reply.as_slice().starts_with(text))
+}
+
+// Asks, and tells all to stop. Whether the replies begin so.
+fn replies<'a, L: Ledger, W: Wait + Clock>(
+    rt: &'a W,
+    alloc: Global,
+    shared: &'a Shared<L>,
+    seat: Seat<L>,
+    texts: &[&[u8]],
+) -> bool {
+    let port = Operator::new(rt, alloc, shared, None, ASKED);
+    let (_seat, port) = control_worker(rt, shared, seat, port, &Still, &NoGate);
+    begin(port.into_replies().as_slice(), texts)
+}
+
+// Waits until all have come, asks then, and tells all to stop. Whether all came, and the replies begin so.
+fn ask<L: Ledger, W: Wait + Clock>(
+    rt: &W,
+    alloc: Global,
+    shared: &Shared<L>,
+    stages: &Stages,
+    scene: Scene,
+) -> bool {
+    let Some(mut seat) = shared.seat(rt) else {
+        return false;
+    };
+    let come = all_come(rt, shared, &mut seat, stages);
+    replies(rt, alloc, shared, seat, scene.replies) && come
+}
+
+// Commits, and asks.
+fn commit_and_ask<L: Ledger + Send + Sync, R: Threads + Wait + Clock + Sync>(
+    rt: &R,
+    alloc: Global,
+    shared: &Shared<L>,
+    flusher: Flusher<MemDisk>,
+    stages: &Stages,
+    scene: Scene,
+) -> bool {
+    let (_flusher, served) = join(
+        rt,
+        move || flush_worker(rt, shared, flusher, &NoGate),
+        move || ask(rt, alloc, shared, stages, scene),
+    );
+    served
+}
+
+fn see(slot: &Slot<Driver<'_>>, stations: [Addr; 2]) -> Seen {
+    let [one, two] = stations;
+    Seen {
+        up: slot.is_up(),
+        wanted: [slot.wanted(one), slot.wanted(two)],
+        installed: [slot.installed(one), slot.installed(two)],
+    }
+}
+
+// Serves a radio, and tells what is seen of these stations then.
+fn serve<'a, L: Ledger, W: Wait + Clock>(
+    rt: &W,
+    alloc: Global,
+    shared: &Shared<L>,
+    slot: Slot<Driver<'a>>,
+    spares: Vec<Driver<'a>>,
+    stations: [Addr; 2],
+) -> Option<Seen> {
+    let seat = shared.seat(rt)?;
+    let (_seat, slot) = radio_worker(rt, alloc, shared, seat, slot, &Still, spares, &NoGate);
+    Some(see(&slot, stations))
+}
+
+// A radio at the BSSID that ends by this byte, which passes so many calls on, and fails then.
+fn driver<'a>(
+    alloc: Global,
+    calls: u64,
+    bssid: u8,
+    stage: &'a Stage,
+    frames: &'static [Frame],
+) -> Driver<'a> {
+    Fed::new(
+        alloc,
+        Failing::new(Sim::new(alloc), calls),
+        bssid,
+        stage,
+        frames,
+    )
+}
+
+// The spares of the first radio.
+fn spares<'a>(alloc: Global, stage: &'a Stage, scene: Scene) -> Option<Vec<Driver<'a>>> {
+    let mut spares = Vec::new(alloc);
+    for Spare(calls, frames) in scene.spares {
+        spares.push(driver(alloc, *calls, 1, stage, frames)).ok()?;
+    }
+    Some(spares)
+}
+
+// It sends its first answer, and fails when the station is installed.
+fn serve_first<L: Ledger, W: Wait + Clock>(
+    rt: &W,
+    alloc: Global,
+    shared: &Shared<L>,
+    stage: &Stage,
+    scene: Scene,
+) -> Option<Seen> {
+    let spares = spares(alloc, stage, scene)?;
+    let slot = Slot::new(alloc, driver(alloc, 1, 1, stage, scene.frames), WLAN0);
+    let stations = [station(0xaa), station(0xbb)];
+    serve(rt, alloc, shared, slot, spares, stations)
+}
+
+fn serve_other<L: Ledger, W: Wait + Clock>(
+    rt: &W,
+    alloc: Global,
+    shared: &Shared<L>,
+    stage: &Stage,
+) -> Option<Seen> {
+    let slot = Slot::new(alloc, driver(alloc, MANY, 2, stage, BESIDE), WLAN1);
+    let stations = [station(0xdd), station(0xe2)];
+    serve(rt, alloc, shared, slot, Vec::new(alloc), stations)
+}
+
+fn serve_both<L: Ledger + Send + Sync, R: Threads + Wait + Clock + Sync>(
+    rt: &R,
+    alloc: Global,
+    shared: &Shared<L>,
+    stages: &Stages,
+    scene: Scene,
+) -> (Option<Seen>, Option<Seen>) {
+    join(
+        rt,
+        move || serve_first(rt, alloc, shared, &stages.first, scene),
+        move || serve_other(rt, alloc, shared, &stages.other),
+    )
+}
+
+fn run<L: Ledger + Send + Sync, R: Threads + Wait + Clock + Sync>(
+    rt: &R,
+    alloc: Global,
+    shared: &Shared<L>,
+    flusher: Flusher<MemDisk>,
+    scene: Scene,
+) -> Found {
+    let stages = Stages {
+        first: Stage::new(),
+        other: Stage::new(),
+    };
+    let lent = &stages;
+    let (served, (first, other)) = join(
+        rt,
+        move || commit_and_ask(rt, alloc, shared, flusher, lent, scene),
+        move || serve_both(rt, alloc, shared, lent, scene),
+    );
+    Found {
+        served,
+        first,
+        other,
+        downs: stages.first.downs(),
+        sent: [stages.first.sent().min(4), stages.other.sent().min(2)],
+        associations: [stages.first.associations(), stages.other.associations()],
+    }
+}
+
+fn find<L: Ledger + Send + Sync, R: Threads + Wait + Clock + Sync>(
+    rt: &R,
+    alloc: Global,
+    blank: Blank,
+    scene: Scene,
+) -> Option<Found>
+    requires name { blank.name ≡ L.name }
+    requires parts { blank.parts ≡ L.parts }
+    requires all { blank.parts ≡ 65536 }
+{
+    let shared: Shared<L> = share(started_both(alloc), blank)?;
+    let flusher = memory_flusher(alloc)?;
+    Some(run(rt, alloc, &shared, flusher, scene))
+}
+
+// What is seen of the other slot, which lost nothing.
+const OTHER: Seen = Seen {
+    up: true,
+    wanted: [Some(1), None],
+    installed: [Some(1), None],
+};
+
+// What is found where a spare serves: the station is installed there, and the answer behind that is the spare's, which
+// then serves another station.
+const MENDED: Found = Found {
+    served: true,
+    first: Some(Seen {
+        up: true,
+        wanted: [Some(1), Some(2)],
+        installed: [Some(1), Some(2)],
+    }),
+    other: Some(OTHER),
+    downs: 3,
+    sent: [4, 2],
+    associations: [2, 1],
+};
+
+fn with_spares(spares: &'static [Spare]) -> Scene {
+    Scene {
+        frames: BEFORE,
+        spares,
+        replies: &[b"state=ENABLED\n", b"state=ENABLED\n", b"PONG\n"],
+    }
+}
+
+// Taken down are the radio that fails, as its slot is made and as it comes back, and the spare.
+#[test]
+fn a_spare_has_what_is_wanted(rt: HostRuntime) {
+    let scene = with_spares(&[Spare(MANY, BEHIND)]);
+    let found = find::<Brand, _>(&rt, rt.alloc(), Blank::new(65_536), scene);
+    assert_eq!(rt; found, Some(MENDED));
+}
+
+// The first spare fails at its first call, so the second serves. Taken down is the first too, as it is tried and as it
+// comes back.
+#[test]
+fn spares_are_tried_in_order(rt: HostRuntime) {
+    let scene = with_spares(&[Spare(0, &[]), Spare(MANY, BEHIND)]);
+    let found = find::<Brand, _>(&rt, rt.alloc(), Blank::new(65_536), scene);
+    let wanted = Found {
+        downs: 3 + 2,
+        ..MENDED
+    };
+    assert_eq!(rt; found, Some(wanted));
+}
+
+// It is tried three times. Then its frames are entries still, of one station that leaves and one that comes, but the
+// answers are lost, all behind the first one; what it wants goes on.
+#[test]
+fn a_slot_without_a_spare_stays_down_after_three_tries(rt: HostRuntime) {
+    let scene = Scene {
+        frames: ALONE,
+        spares: &[],
+        replies: &[b"state=DISABLED\n", b"state=ENABLED\n", b"PONG\n"],
+    };
+    let first = Seen {
+        up: false,
+        wanted: [None, Some(2)],
+        installed: [None, None],
+    };
+    let found = find::<Brand, _>(&rt, rt.alloc(), Blank::new(65_536), scene);
+    let wanted = Found {
+        served: true,
+        first: Some(first),
+        other: Some(OTHER),
+        downs: 1 + 3,
+        sent: [1, 2],
+        associations: [0, 1],
+    };
+    assert_eq!(rt; found, Some(wanted));
+}

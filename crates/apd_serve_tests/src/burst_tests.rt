@@ -1,0 +1,120 @@
+//! A storm: more frames at once than a socket of the usual room holds.
+use crate::serving_tests::{NEVER, disk, world};
+use crate::talk::{AUTHENTICATED, AUTHENTICATION, RADIO, free_ports};
+use apd_desk::NoGate;
+use apd_radio::{Datagrams, UdpSim};
+use apd_serve::{ControlPort, ServeFault, SystemClock, serve};
+use libc::net::{SO_RCVBUF, SOL_SOCKET, getsockopt};
+use log::Log;
+use std::alloc::Global;
+use std::io::{self, ErrorKind, Read};
+use std::net::{Ipv4Addr, Net, SocketAddr, SocketAddrV4};
+use std::sync::Wait;
+use std::test::Fail;
+use std::thread::{Threads, yield_now};
+use std::time;
+
+/// The room for datagrams that wait where the system gives what is asked for.
+const GRANTED: i32 = 8_388_608;
+
+/// How many frames come at once.
+const BURST: usize = 2_000;
+
+/// How often an answer is looked for in a row, each time with a yield.
+const LOOKS: u64 = 1_000_000;
+
+/// Someone who sends so many frames at once, and then takes the answers, where the input is read, which then ends.
+#[derive(Drop)]
+struct Storm {
+    datagrams: Datagrams,
+    radio: SocketAddr,
+    frame: Vec<u8>,
+    answer: Vec<u8>,
+    frames: usize,
+    answers: usize,
+}
+
+impl Storm {
+    // Whether the next answer came.
+    fn is_answered(&mut self) -> bool {
+        for _look in 0..LOOKS {
+            if let Ok(Some((_, bytes))) = self.datagrams.receive() {
+                return bytes == self.answer;
+            }
+            yield_now();
+        }
+        false
+    }
+}
+
+impl Read for Storm {
+    fn read(&mut self, _buf: &mut [u8]) -> io::Result<usize> {
+        for _frame in 0..self.frames {
+            if self.datagrams.send(self.radio, &self.frame).is_err() {
+                return Err(ErrorKind::InvalidInput.into());
+            }
+        }
+        for _frame in 0..self.frames {
+            if !self.is_answered() {
+                return Ok(0);
+            }
+            self.answers = self.answers.saturating_add(1);
+        }
+        Ok(0)
+    }
+}
+
+/// Whether the system gives the room that is asked for.
+fn is_granted(datagrams: &Datagrams) -> bool {
+    let mut value = [0u8; 16];
+    let mut len = 4;
+    let _status = unsafe {
+        getsockopt(
+            datagrams.descriptor(),
+            SOL_SOCKET,
+            SO_RCVBUF,
+            &mut value,
+            &mut len,
+        )
+    };
+    let [a, b, c, d, ..] = value;
+    i32::from_ne_bytes([a, b, c, d]) >= GRANTED
+}
+
+/// A storm on the radio behind this port; of no frame where the system gives less room.
+fn storm_on(rt: &impl Net, alloc: Global, port: u16) -> Result<Storm, Fail> {
+    let datagrams = Datagrams::bind(rt, alloc, 0)?;
+    let frames = if is_granted(&datagrams) { BURST } else { 0 };
+    let radio = SocketAddrV4::new(Ipv4Addr::LOCALHOST, port.wrapping_add(RADIO));
+    Ok(Storm {
+        datagrams,
+        radio: SocketAddr::V4(radio),
+        frame: hex::decode(alloc, AUTHENTICATION)?,
+        answer: hex::decode(alloc, AUTHENTICATED)?,
+        frames,
+        answers: 0,
+    })
+}
+
+/// What `serve` answers in a storm, and how many of its frames were sent and not answered.
+fn served<R: Net + Wait + Threads + time::Clock + Log + Sync>(
+    rt: &R,
+    alloc: Global,
+) -> Result<(Result<u64, ServeFault>, usize, usize), Fail> {
+    let port = free_ports(rt, 1)?;
+    let mut storm = storm_on(rt, alloc, port)?;
+    let control = ControlPort::open(rt, alloc, port)?;
+    let radio = UdpSim::new(rt, alloc, port.wrapping_add(RADIO))?;
+    let world = world(alloc, disk(alloc, NEVER)?, radio)?;
+    let clock = SystemClock::new(rt);
+    let answer = serve(rt, alloc, world, control, clock, &NoGate, &mut storm);
+    Ok((answer, storm.frames, storm.answers))
+}
+
+#[test]
+fn a_burst_of_2000_frames_is_answered(rt: HostRuntime) -> Result<(), Fail> {
+    let (entries, frames, answers) = served(&rt, rt.alloc())?;
+    assert_eq!(rt; answers, frames);
+    assert_eq!(rt; entries.map(|entries| entries as usize), Ok(frames));
+    Ok(())
+}
