@@ -1,0 +1,395 @@
+/* Drives what serves stations over datagrams of 127.0.0.1, and measures it. Built and used by serving.sh.
+
+       serving storm PORT RADIOS STATIONS ROUNDS STORE FOLDER NAME WINDOW..
+       serving single PORT RADIOS
+
+   Radio i has the port PORT + 1 + i, the BSSID 02:00:00:00:00:01 + i and the network "net"; station s, counted over all
+   radios, is at radio s modulo RADIOS. storm lets each station associate; then, at each window, it has them ask for
+   reassociation in turn, so many requests being out at a time. It asks the same of a bare loop, a process for each
+   radio that receives and sends, and in FOLDER makes bare pairs of a write and a sync, as long as a commit's. Commits
+   are counted in the file STORE; where that is "-" there are none. A line has the best of so many ROUNDS of each. */
+#define _GNU_SOURCE
+#include <arpa/inet.h>
+#include <errno.h>
+#include <fcntl.h>
+#include <poll.h>
+#include <signal.h>
+#include <stdint.h>
+#include <stdio.h>
+#include <stdlib.h>
+#include <string.h>
+#include <sys/mman.h>
+#include <sys/prctl.h>
+#include <time.h>
+#include <unistd.h>
+
+enum {
+    RADIOS = 8, STATIONS = 8 * 2007, WINDOW = 4096,
+    REQUESTS = 1 << 20, /* of a round, at most */
+    RING = 1 << 16,     /* requests behind the oldest one that waits, at most */
+    TRIES = 50,         /* of a request */
+    ALARM = 120,        /* seconds until all ends, whatever happens */
+    STORE_BYTES = 2097216, HALF = 64, HALF_BYTES = 1048576, ROW_BYTES = 20
+};
+/* Nanoseconds: of a round, of the joining of all stations, and without an answer until a frame is sent again. */
+static const int64_t SECOND = 1000000000, ROUND = 1000000000, JOINING = 60000000000, PATIENCE = 200000000;
+
+#define FAIL(...) (fprintf(stderr, "serving: " __VA_ARGS__), fputc('\n', stderr), exit(1))
+
+static void end_late(int signal)
+{
+    static const char text[] = "serving: no end in two minutes\n";
+    _exit(write(2, text, sizeof text - 1) < 0 ? signal : 1);
+}
+
+static int64_t now(void)
+{
+    struct timespec time;
+    clock_gettime(CLOCK_MONOTONIC, &time);
+    return time.tv_sec * SECOND + time.tv_nsec;
+}
+
+/* Frames. */
+
+enum kind { AUTHENTICATION, ASSOCIATION, REASSOCIATION };
+
+/* Spells a station's request; its length. */
+static int spell(uint8_t *frame, enum kind kind, int station, int radio)
+{
+    static const uint8_t types[] = {0xb0, 0x00, 0x20}, elements[] = {0, 3, 'n', 'e', 't', 1, 4, 0x82, 0x84, 0x8b, 0x96};
+    const uint8_t bssid[] = {2, 0, 0, 0, 0, 1 + radio}, sender[] = {2, 0, 1, 0, station >> 8, station};
+    uint8_t *at = frame + 24;
+    memset(frame, 0, 24);
+    frame[0] = types[kind];
+    memcpy(frame + 4, bssid, 6);
+    memcpy(frame + 10, sender, 6);
+    memcpy(frame + 16, bssid, 6);
+    if (kind == AUTHENTICATION)
+        return (uint8_t *)mempcpy(at, "\0\0\1\0\0\0", 6) - frame;
+    at = mempcpy(at, "\x31\4\12\0", 4);
+    if (kind == REASSOCIATION)
+        at = mempcpy(at, bssid, 6);
+    return (uint8_t *)mempcpy(at, elements, sizeof elements) - frame;
+}
+
+/* The station that a frame answers, with status 0; -1 of a frame that is no answer. */
+static int answered(const uint8_t *frame, ssize_t length)
+{
+    if (length < 30 || (frame[0] != 0xb0 && frame[0] != 0x10 && frame[0] != 0x30))
+        return -1;
+    int station = frame[8] << 8 | frame[9], status = frame[0] == 0xb0 ? 28 : 26;
+    if (frame[status] || frame[status + 1])
+        FAIL("station %d is refused with status %d", station, frame[status] | frame[status + 1] << 8);
+    return station;
+}
+
+/* Sockets. */
+
+static int bound(struct sockaddr_in *own)
+{
+    int descriptor = socket(AF_INET, SOCK_DGRAM, 0), size = 4 << 20;
+    socklen_t length = sizeof *own;
+    *own = (struct sockaddr_in){.sin_family = AF_INET, .sin_addr.s_addr = htonl(INADDR_LOOPBACK)};
+    if (descriptor < 0 || setsockopt(descriptor, SOL_SOCKET, SO_RCVBUF, &size, sizeof size) < 0 ||
+        bind(descriptor, (struct sockaddr *)own, length) < 0 ||
+        getsockname(descriptor, (struct sockaddr *)own, &length) < 0)
+        FAIL("no socket: %s", strerror(errno));
+    return descriptor;
+}
+
+static int connected(int port)
+{
+    struct sockaddr_in peer;
+    int descriptor = bound(&peer);
+    peer.sin_port = htons(port);
+    if (connect(descriptor, (struct sockaddr *)&peer, sizeof peer) < 0)
+        FAIL("no socket: %s", strerror(errno));
+    return descriptor;
+}
+
+/* Begins a process that receives and sends, and no more; its port. It answers each frame as a reassociation request. */
+static int begin_loop(void)
+{
+    struct sockaddr_in own, peer;
+    socklen_t length = sizeof peer;
+    uint8_t frame[2400];
+    int descriptor = bound(&own);
+    pid_t process = fork();
+    if (process < 0)
+        FAIL("no process: %s", strerror(errno));
+    if (process == 0) {
+        prctl(PR_SET_PDEATHSIG, SIGKILL);
+        alarm(ALARM);
+        while (recvfrom(descriptor, frame, sizeof frame, 0, (struct sockaddr *)&peer, &length) >= 0) {
+            memcpy(frame + 4, frame + 10, 6);
+            memset(frame + 24, 0, 12);
+            frame[0] = 0x30;
+            sendto(descriptor, frame, 36, 0, (struct sockaddr *)&peer, length);
+        }
+        _exit(0);
+    }
+    close(descriptor);
+    return ntohs(own.sin_port);
+}
+
+/* Requests and their answers. Request k is of station k modulo all stations. The answers that a station gets are taken
+   for those of its requests in order: one that comes twice is the next request's, where one is out. */
+
+struct storm {
+    const int *sockets;
+    int radios, stations, window;
+    enum kind kind;
+    int64_t time, pause; /* how long requests are made, and how long none is made before each */
+    long most;           /* requests */
+    void (*look)(void);  /* called now and then */
+    long next, oldest, count, again;
+    int64_t begun, last;
+};
+struct numbers { long count, again; double rate, median, late; }; /* late: of a hundred one is later; milliseconds */
+
+static uint32_t latency[REQUESTS]; /* in 10 nanoseconds */
+static struct { int64_t first, last; int tries, is_answered; } ring[RING];
+static long rounds[STATIONS];
+
+static void send_request(const struct storm *storm, long k)
+{
+    uint8_t frame[64];
+    int station = k % storm->stations, radio = station % storm->radios;
+    if (++ring[k % RING].tries > TRIES)
+        FAIL("no answer to station %d, which asked %d times", station, TRIES);
+    ring[k % RING].last = now();
+    send(storm->sockets[radio], frame, spell(frame, storm->kind, station, radio), 0);
+}
+
+static void send_next(struct storm *storm)
+{
+    long place = storm->next % RING;
+    if (storm->next - storm->oldest >= RING || storm->next >= storm->most || now() - storm->begun > storm->time)
+        return;
+    if (storm->pause)
+        nanosleep(&(struct timespec){.tv_nsec = storm->pause}, NULL);
+    ring[place].tries = ring[place].is_answered = 0;
+    ring[place].first = now();
+    send_request(storm, storm->next++);
+}
+
+static void take_answers(struct storm *storm, int radio)
+{
+    uint8_t frame[2400];
+    ssize_t length;
+    while ((length = recv(storm->sockets[radio], frame, sizeof frame, MSG_DONTWAIT)) >= 0) {
+        int station = answered(frame, length);
+        if (station < 0 || station >= storm->stations)
+            continue;
+        long k = rounds[station] * storm->stations + station;
+        if (k >= storm->next)
+            continue;
+        rounds[station]++;
+        ring[k % RING].is_answered = 1;
+        storm->last = now();
+        latency[storm->count++] = (storm->last - ring[k % RING].first) / 10;
+        if (storm->count % 4096 == 0 && storm->look)
+            storm->look();
+        send_next(storm);
+    }
+    if (errno == ECONNREFUSED)
+        FAIL("nobody serves radio %d", radio);
+}
+
+static void send_again(struct storm *storm)
+{
+    while (storm->oldest < storm->next && ring[storm->oldest % RING].is_answered)
+        storm->oldest++;
+    for (long k = storm->oldest; k < storm->next; k++)
+        if (!ring[k % RING].is_answered && now() - ring[k % RING].last > PATIENCE) {
+            send_request(storm, k);
+            storm->again++;
+        }
+}
+
+static int rising(const void *a, const void *b)
+{
+    uint32_t x = *(const uint32_t *)a, y = *(const uint32_t *)b;
+    return (x > y) - (x < y);
+}
+
+/* Makes requests until there are enough, or it is time; each is answered in the end. */
+static struct numbers drive(struct storm storm)
+{
+    struct pollfd wait[RADIOS];
+    int64_t looked = now();
+    memset(rounds, 0, sizeof rounds);
+    for (int i = 0; i < storm.radios; i++)
+        wait[i] = (struct pollfd){.fd = storm.sockets[i], .events = POLLIN};
+    storm.begun = looked;
+    do {
+        for (long out = storm.next - storm.count; out < storm.window; out++)
+            send_next(&storm);
+        poll(wait, storm.radios, 10);
+        for (int i = 0; i < storm.radios; i++)
+            if (wait[i].revents)
+                take_answers(&storm, i);
+        if (now() - looked > PATIENCE / 20) {
+            send_again(&storm);
+            looked = now();
+        }
+    } while (storm.count < storm.next);
+    qsort(latency, storm.count, sizeof *latency, rising);
+    return (struct numbers){storm.count, storm.again, storm.count * 1e9 / (storm.last - storm.begun),
+                            latency[storm.count / 2] / 1e5, latency[storm.count * 99 / 100] / 1e5};
+}
+
+/* The store (docs/STORE.md): how many groups were committed, and how many bytes of records they have. */
+
+static const volatile uint8_t *store;
+static struct { uint64_t epoch; long at, groups, bytes; int is_lost; } found;
+
+static uint64_t number(long at, int bytes)
+{
+    uint64_t value = 0;
+    while (bytes-- > 0)
+        value = value << 8 | store[at + bytes];
+    return value;
+}
+
+/* Goes on to the last group, in the other half where there was a switch. Two since the last look lose the count. */
+static void look_at_store(void)
+{
+    for (int i = 0; store && i < 2; i++) {
+        while (found.at && store[found.at] == 1) {
+            found.groups++;
+            found.bytes += number(found.at + 1, 4);
+            found.at += 5 + number(found.at + 1, 4);
+        }
+        for (long half = HALF; half <= HALF + HALF_BYTES; half += HALF_BYTES)
+            if (store[half] == 1 && number(half + 1, 8) > found.epoch) {
+                found.is_lost |= found.epoch && number(half + 1, 8) != found.epoch + 1;
+                found.epoch = number(half + 1, 8);
+                found.at = half + 13 + number(half + 9, 4);
+            }
+    }
+}
+
+static void open_store(const char *name)
+{
+    int descriptor = open(name, O_RDONLY);
+    void *place = mmap(NULL, STORE_BYTES, PROT_READ, MAP_SHARED, descriptor, 0);
+    if (descriptor < 0 || place == MAP_FAILED)
+        FAIL("cannot read %s", name);
+    store = place;
+    look_at_store();
+}
+
+/* Pairs of a write and a sync a second, as those of a commit with so many bytes of records, in a file like a store. */
+static double pair_rate(const char *folder, long bytes)
+{
+    static char zeros[STORE_BYTES];
+    char name[4096];
+    long count = 0, at = 0;
+    snprintf(name, sizeof name, "%s/pairs", folder);
+    int descriptor = open(name, O_RDWR | O_CREAT | O_TRUNC, 0600);
+    if (descriptor < 0 || pwrite(descriptor, zeros, STORE_BYTES, 0) != STORE_BYTES || fsync(descriptor) < 0)
+        FAIL("cannot write %s: %s", name, strerror(errno));
+    int64_t begun = now();
+    for (; now() - begun < ROUND / 2; count++, at = at + 2 * (bytes + 6) < STORE_BYTES ? at + bytes + 5 : 0)
+        if (pwrite(descriptor, zeros, bytes + 5, at + 1) < 0 || fdatasync(descriptor) < 0 ||
+            pwrite(descriptor, "\1", 1, at) < 0 || fdatasync(descriptor) < 0)
+            FAIL("cannot write %s: %s", name, strerror(errno));
+    close(descriptor);
+    unlink(name);
+    return count * 1e9 / (now() - begun);
+}
+
+/* What is printed, with the load of the last minute at the end. */
+
+static void print_load(void)
+{
+    double minute = 0;
+    getloadavg(&minute, 1);
+    printf(" %5.1f\n", minute);
+    fflush(stdout);
+}
+
+static void print_storm(struct storm storm, const int *loops, int turns, const char *folder, const char *name)
+{
+    struct storm bare = storm;
+    struct numbers best = {0}, one;
+    double loop = 0, rows = 0, pairs = 0, rate;
+    bare.sockets = loops;
+    bare.time = ROUND / 2;
+    storm.look = look_at_store;
+    while (turns-- > 0) {
+        look_at_store();
+        long groups = found.groups, bytes = found.bytes;
+        one = drive(storm);
+        look_at_store();
+        groups = found.groups - groups;
+        bytes = found.bytes - bytes;
+        if (one.rate > best.rate) {
+            best = one;
+            rows = groups ? (double)bytes / ROW_BYTES / groups : 0;
+        }
+        if (groups && (rate = pair_rate(folder, bytes / groups)) > pairs)
+            pairs = rate;
+        if ((rate = drive(bare).rate) > loop)
+            loop = rate;
+    }
+    printf("%-7s %8d %6d %9.0f %8.2f %8.2f %6ld %9.0f %6.2f", name, storm.stations, storm.window, best.rate,
+           best.median, best.late, best.again, loop, best.rate / loop);
+    if (rows > 0 && !found.is_lost)
+        printf(" %6.1f %8.0f %8.0f %6.2f", rows, best.rate / rows, pairs, best.rate / rows / pairs);
+    else
+        printf(" %6s %8s %8s %6s", "-", "-", "-", "-");
+    print_load();
+}
+
+/* Of 500 requests, 10 milliseconds apart, how long the answer took: the median and p99, and those of the bare loop. */
+static void print_single(struct storm storm, const int *loops)
+{
+    storm.window = 1;
+    storm.pause = SECOND / 100;
+    storm.most = 500;
+    struct numbers one = drive(storm);
+    storm.sockets = loops;
+    struct numbers bare = drive(storm);
+    printf("%8.3f %8.3f %8.3f %8.3f", one.median, one.late, bare.median, bare.late);
+    print_load();
+}
+
+int main(int count, char **words)
+{
+    int sockets[RADIOS], loops[RADIOS], is_single = count == 4 && !strcmp(words[1], "single");
+    struct storm storm = {.sockets = sockets, .time = JOINING};
+    signal(SIGALRM, end_late);
+    alarm(ALARM);
+    if (!is_single && !(count > 9 && !strcmp(words[1], "storm")))
+        FAIL("storm PORT RADIOS STATIONS ROUNDS STORE FOLDER NAME WINDOW.., or single PORT RADIOS");
+    int port = atoi(words[2]);
+    storm.radios = atoi(words[3]);
+    storm.stations = storm.most = is_single ? storm.radios : atoi(words[4]);
+    if (port < 1024 || port > 65000 || storm.radios < 1 || storm.radios > RADIOS || storm.stations < storm.radios ||
+        storm.stations > STATIONS)
+        FAIL("PORT is from 1024 to 65000, RADIOS from 1 to 8, STATIONS from RADIOS to 16056");
+    for (int i = 0; i < storm.radios; i++) {
+        sockets[i] = connected(port + 1 + i);
+        loops[i] = connected(begin_loop());
+    }
+    for (storm.window = 64; storm.kind < REASSOCIATION; storm.kind++)
+        if (drive(storm).count < storm.stations)
+            FAIL("not all stations were answered within a minute");
+    if (is_single) {
+        print_single(storm, loops);
+        return 0;
+    }
+    if (strcmp(words[6], "-"))
+        open_store(words[6]);
+    storm.time = ROUND;
+    storm.most = REQUESTS;
+    for (int i = 9; i < count; i++) {
+        storm.window = atoi(words[i]);
+        if (storm.window < 1 || storm.window > WINDOW)
+            FAIL("WINDOW is from 1 to %d", WINDOW);
+        print_storm(storm, loops, atoi(words[5]), words[7], words[8]);
+    }
+    return 0;
+}
