@@ -1,6 +1,6 @@
 -- What a write into the row of a BSSID makes of the list rows and the policy rows.
 use Rattle.std.proofs.Common.{◌≡◌, ℕ, suc, ◌+◌, Bool, true, false, cond, not, ◌&&◌, ◌||◌, List, [], ◌∷◌, Option, Some, None, Result, Ok, Err, OnOk, OnErr, IsSome, IfSome, inl, inr, refl, sym, ap, subst, ◌∙◌, T, arith, slice_index_or, slice_set}
-use Rattle.apd_table.proofs.Words.{Accept, Addr, Bss, BssState, Bssid, Deny, Equal, FinMap, Greater, IsAntisymmetric, IsTotalOrder, Less, Members, Ordering, Policy, SetOf, Station, StationNumber, Which, addr_cmp, after_row, at_row, bssid_cmp, bssid_exact, bssid_total, contains, cursor_of, cursors_with, eq_by_cmp, find-place, find-put, from_sorted, get-empty, get-insert, has, is_eq, is_listed_in, is_row_of, is_some, is_sorted, list_cmp, list_exact, list_rows, list_total, members_of, members_with, no_lists, no_members, none_given, none_is, offset, one_or_apart, option_map, parts_of, place, policy_of, policy_rows, put-place, put_after, put_at, same_map, same_station_number, slice_get, sorted_put_at, state_of_rows, tied, value_at, which_cmp, with_added, with_bss, with_cleared, with_cursor, with_policy, with_removed, with_row}
+use Rattle.apd_table.proofs.Words.{Accept, Addr, Bss, BssState, Bssid, Deny, Equal, FinMap, Greater, IsAntisymmetric, IsTotalOrder, Less, Members, Ordering, Policy, SetOf, Station, StationNumber, Which, addr_cmp, after_row, at_row, bssid_cmp, bssid_exact, bssid_total, contains, cursor_of, cursors_with, eq_by_cmp, find-place, find-put, from_sorted, get-empty, get-insert, has, is_eq, is_listed_in, is_row_of, is_some, is_sorted, list_cmp, list_exact, list_rows, list_total, members_of, members_under, no_lists, no_members, none_given, none_is, offset, one_or_apart, option_map, parts_of, place, policy_of, policy_rows, put-place, put_after, put_at, same_map, same_station_number, slice_get, sorted_put_at, state_of_rows, tied, value_at, which_cmp, with_added, with_bss, with_cleared, with_cursor, with_policy, with_removed, with_row}
 use Rattle.std.specs.FinMap as map
 use Rattle.std.specs.FinMap.{find}
 use Rattle.std.proofs.lemmas.Option.{get_or_from_slice_get}
@@ -191,7 +191,7 @@ module _ (xs : List Row) (sorted : T (is_sorted bssid_cmp xs)) (b : Bssid) where
         lists = lists_new xs sorted b none y (λ v d. ap (λ lists. has lists v d) empty ∙ none_has v d) i;
         policies = parts_set xs sorted b policy_of y i;
         cursors = (parts_set xs sorted b cursor_of y ∙ ap (map.insert cursors b) (same_station_number y.cursor none_given zero) ∙ ap (λ o. cursors_with o cursors b) without) i;
-        members = (parts_set xs sorted b members_of y ∙ ap (map.insert members b) alone ∙ ap (λ o. members_with o members b) without) i;
+        members = (parts_set xs sorted b members_of y ∙ ap (map.insert members b) alone ∙ ap (λ o. members_under o members b) without) i;
       }
 
   module _ (x : Bss) (found : find bssid_cmp b xs ≡ Some x) where
@@ -203,7 +203,7 @@ module _ (xs : List Row) (sorted : T (is_sorted bssid_cmp xs)) (b : Bssid) where
           lists = lists_kept xs sorted b x found y refl i;
           policies = parts_set xs sorted b policy_of y i;
           cursors = (parts_kept xs sorted b cursor_of x found y refl ∙ ap (λ o. cursors_with o cursors b) old) i;
-          members = (parts_kept xs sorted b members_of x found y refl ∙ ap (λ o. members_with o members b) old) i;
+          members = (parts_kept xs sorted b members_of x found y refl ∙ ap (λ o. members_under o members b) old) i;
         }
 
     -- the identifier that was given last

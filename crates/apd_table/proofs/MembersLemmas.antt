@@ -1,7 +1,7 @@
 -- What is kept of the stations of each BSSID stays true of them.
 use Rattle.std.proofs.Common.{◌≡◌, ◌≢◌, ℕ, ◌<◌, ◌≤◌, Bool, true, false, cond, List, length, replicate, Option, Some, None, IfSome, inl, inr, refl, sym, ap, subst, ◌∙◌, arith, ◌+◌, ◌-◌}
 use Rattle.std.specs.FinMap as map
-use Rattle.apd_table.proofs.Words.{Addr, AreMembers, Bssid, FinMap, IsAntisymmetric, IsMembers, IsTaken, IsTotalOrder, Members, Ordering, Policy, Sound, State, Station, addr_cmp, addr_exact, addr_total, after_row, aid_at, aid_of, apart, bssid_cmp, bssid_exact, bssid_total, count, count_after, differ, drop_station, eq_by_cmp, false_from_ne_true, get-retain_keys, get_insert_other, get_inserted, get_remove_other, get_removed, is_set, is_some, is_some_of, len-empty, len-remove, members_after, members_with, no_members, no_value, none_is, none_is_some, one_or_apart, option_map, policy_at, put_after, put_station, retain_keys-remove, same_bssid, same_some, station_at, station_cmp, station_exact, station_total, stations_of, tied, with_aid, without_aid}
+use Rattle.apd_table.proofs.Words.{Addr, AreMembers, Bssid, FinMap, IsAntisymmetric, IsMembers, IsTaken, IsTotalOrder, Members, Ordering, Policy, Sound, State, Station, addr_cmp, addr_exact, addr_total, after_row, aid_at, aid_of, apart, bssid_cmp, bssid_exact, bssid_total, count, count_after, differ, drop_station, eq_by_cmp, false_from_ne_true, get-retain_keys, get_insert_other, get_inserted, get_remove_other, get_removed, is_set, is_some, is_some_of, len-empty, len-remove, members_after, members_under, no_members, no_value, none_is, none_is_some, one_or_apart, option_map, policy_at, put_after, put_station, retain_keys-remove, same_bssid, same_some, station_at, station_cmp, station_exact, station_total, stations_of, tied, with_aid, without_aid}
 use Rattle.apd_table.proofs.Places.{ArePlaces, HasPlace, places_of, words_of, many_with, many_without, with_is, without_is, none_set}
 use Rattle.apd_table.proofs.Parts.{part_len, part_passes}
 use Rattle.apd_table.proofs.Put.{aid_range, put_here, count_put_in, count_put_out, is_some_there}
@@ -189,7 +189,7 @@ without_policy s b sound absent a =
     no_value (station_at s b a) (false_from_ne_true (is_some (station_at s b a)) (λ known. none_is (policy_at s b) absent (sound.stations_have_policy b a known)))
 
 -- what is kept once a BSSID has a policy
-pub members_joined : (s : State) (sound : Sound s) (b : Bssid) (m : FinMap bssid_cmp Members) (o : Option Policy) → policy_at s b ≡ o → AreMembers s m → AreMembers s (members_with o m b)
+pub members_joined : (s : State) (sound : Sound s) (b : Bssid) (m : FinMap bssid_cmp Members) (o : Option Policy) → policy_at s b ≡ o → AreMembers s m → AreMembers s (members_under o m b)
 members_joined s sound b m (Some policy) e are = are
 members_joined s sound b m None e are = λ c x got.
     elim (one_or_apart bssid_total bssid_exact c b) [

@@ -60,16 +60,16 @@ abbrev pub no_bss : BssState
 no_bss = record { lists = map.empty; policies = map.empty; cursors = map.empty; members = map.empty }
 
 -- a BSSID that had no policy comes without stations
-abbrev pub members_with : Option Policy → FinMap bssid_cmp Members → Bssid → FinMap bssid_cmp Members
-members_with None members b = map.insert members b no_members
-members_with (Some policy) members b = members
+abbrev pub members_under : Option Policy → FinMap bssid_cmp Members → Bssid → FinMap bssid_cmp Members
+members_under None members b = map.insert members b no_members
+members_under (Some policy) members b = members
 
 abbrev pub with_bss : BssState → Bssid → Policy → BssState
 with_bss s b policy =
     record s {
       policies = map.insert s.policies b policy;
       cursors = cursors_with (map.get s.policies b) s.cursors b;
-      members = members_with (map.get s.policies b) s.members b;
+      members = members_under (map.get s.policies b) s.members b;
     }
 
 -- whether the lists of a row have an address
