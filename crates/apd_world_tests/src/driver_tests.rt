@@ -39,7 +39,7 @@ fn device_after(
     first: &mut Vec<u8>,
     second: &mut Vec<u8>,
 ) -> Option<MemDisk> {
-    let slots = both(alloc, first, second)?;
+    let slots = two_slots(alloc, first, second)?;
     stop_after(start_with(alloc, &[1, 2], slots)?, steps)
 }
 
