@@ -156,7 +156,7 @@ where
 }
 
 // What is told where a call of a recovery or of the commit behind it fails, and the device.
-fn failing<D: Disk>(alloc: Global, disk: D) -> Result<(StoreFault, D), Fail>
+fn fault_of<D: Disk>(alloc: Global, disk: D) -> Result<(StoreFault, D), Fail>
 where
     D: Drop,
 {
