@@ -21,7 +21,7 @@ fn recorder(alloc: Global, bssid: Bssid, written: &mut Vec<u8>) -> Recorded<'_> 
 }
 
 /// Slots for two BSSIDs. What their radios are told is written.
-fn both<'a>(
+fn two_slots<'a>(
     alloc: Global,
     first: &'a mut Vec<u8>,
     second: &'a mut Vec<u8>,
