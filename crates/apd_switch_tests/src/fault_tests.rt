@@ -23,7 +23,11 @@ fn faults<D: Disk>(flusher: &mut Flusher<D>) -> Option<(StoreFault, StoreFault)>
 }
 
 // Why the turns behind so many fail, and the device.
-fn faults_after<D: Disk>(alloc: Global, disk: D, calls: u64) -> Option<((StoreFault, StoreFault), D)>
+fn faults_after<D: Disk>(
+    alloc: Global,
+    disk: D,
+    calls: u64,
+) -> Option<((StoreFault, StoreFault), D)>
 where
     D: Drop,
 {
