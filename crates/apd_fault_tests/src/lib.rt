@@ -38,7 +38,7 @@
 //! | `upgrade` | `the_bytes_of_a_copy`, `apd_device_tests` |
 //! | `Flusher::{new, load, commit}` | `the_bytes_of_two_commits`, `apd_device_tests` |
 //! | `Committer::load` | `a_batch_waits_until_the_one_in_flight_is_published`, `apd_device_tests` |
-//! | `Replaying::new`, `Call::read` in it, `Sim::install` | `each_kind_in_a_box`, `apd_device_tests` |
+//! | `Replaying::new`, `Call::read` in it, `install` of each radio | `each_kind_in_a_box`, `apd_device_tests` |
 //! | `Identifiers::insert` | `identifiers_are_kept_by_address`, here |
 //! | `Recording`, its calls | `a_recording_has_a_line_for_each_call`, `apd_device_tests` |
 //! | `UdpSim::new`, `poll`, and of `Datagrams` in it | `datagrams_of_every_length`, `apd_device_tests` |
