@@ -172,6 +172,13 @@ impl<L: Ledger> Locked<L> {
         Ok(outs)
     }
 
+    /// Whether settled entries have outs that a recipient was not given yet.
+    pub(crate) fn is_ready(&self, to: Recipient) -> bool
+        ensures { IsTrue result ↔ (1 ≤ length (ready_for to self.now.core)) }
+    {
+        self.core.ready(to) > 0
+    }
+
     /// The core's `take`.
     pub(crate) fn take(&mut self) -> Result<Option<Taken>, AllocError>
         ensures none { IfOk result (λ taken. IsNone taken ↔ IsTrue (cannot_take self.old.core)) }

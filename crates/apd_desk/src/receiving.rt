@@ -14,10 +14,13 @@ use crate::news::News;
 use crate::seat::Seat;
 use crate::shared::Shared;
 use crate::submitting::submit_passing;
+use crate::waking::Waiter;
 use apd_core::Input;
+use apd_mlme::Recipient;
 use apd_radio::Radio;
 use apd_slot::{Slot, SlotFault};
 use std::alloc::Global;
+use std::net::Net;
 use std::sync::Wait;
 use std::sync::ledger::Ledger;
 use std::time::Clock as SystemClock;
@@ -214,9 +217,9 @@ impl<L: Ledger, R: Radio> Parts<L, R> {
 /// that is tried so, or taken out, is dropped. Where none serves the slot's own is given anew what is wanted, three
 /// times at most, once a turn with a rest behind. A try that fails, for want of memory too, is no fault. After
 /// the last the slot stays down: its frames are lost, and what it wants goes on. Spares that are left are dropped.
-pub fn radio_worker<L: Ledger, W: Wait + SystemClock, R: Radio, C: Clock, G: Gate>(
+pub fn radio_worker<L: Ledger, W: Wait + SystemClock + Net, R: Radio, C: Clock, G: Gate>(
     rt: &W,
-    _alloc: Global,
+    alloc: Global,
     shared: &Shared<L>,
     seat: Seat<L>,
     slot: Slot<R>,
@@ -236,6 +239,8 @@ pub fn radio_worker<L: Ledger, W: Wait + SystemClock, R: Radio, C: Clock, G: Gat
         mending: Mending::new(spares),
         collected: None,
     };
+    let to = Recipient::Radio(parts.slot.bssid());
+    let mut waiter = Waiter::new(rt, alloc, shared, to);
     let mut idle = Idle::new();
     parts.mend_first();
     shared.note(rt, parts.slot.bssid(), parts.slot.is_up());
@@ -246,7 +251,7 @@ pub fn radio_worker<L: Ledger, W: Wait + SystemClock, R: Radio, C: Clock, G: Gat
         }
         let progress = parts.turn(rt, shared, seen, clock, gate);
         if idle.is_over(progress) {
-            shared.pause(rt, News::Settled, seen);
+            waiter.wait(rt, shared, progress, parts.slot.descriptor(), seen);
         }
     }
     let Parts { seat, slot, .. } = parts;

@@ -9,6 +9,7 @@ use apd_disk::{Disk, MemDisk};
 use apd_flusher::Flusher;
 use std::alloc::Global;
 use std::marker::Brand;
+use std::net::Net;
 use std::sync::Wait;
 use std::sync::ledger::{Blank, Ledger};
 use std::thread::{Threads, join};
@@ -22,7 +23,7 @@ const ORDERS: &[&[u8]] = &[
 const REPLIES: &[&[u8]] = &[b"OK\n", b"OK\n"];
 
 // Serves two orders that are given once the sync is held. Whether both are replied to.
-fn serve<L: Ledger, W: Wait + Clock>(
+fn serve<L: Ledger, W: Wait + Clock + Net>(
     rt: &W,
     alloc: Global,
     shared: &Shared<L>,
@@ -30,20 +31,20 @@ fn serve<L: Ledger, W: Wait + Clock>(
     turnstile: &Turnstile,
 ) -> bool {
     let port = Operator::new(rt, alloc, shared, Some(turnstile), ORDERS);
-    let (_seat, port) = control_worker(rt, shared, seat, port, &Still, turnstile);
+    let (_seat, port) = control_worker(rt, alloc, shared, seat, port, &Still, turnstile);
     are(port.into_replies().as_slice(), REPLIES)
 }
 
 // Commits and serves at once. Whether both orders are replied to.
-fn commit_and_serve<L: Ledger + Send + Sync, R: Threads + Wait + Clock + Sync, D: Disk + Send>(
-    rt: &R,
-    alloc: Global,
-    shared: &Shared<L>,
-    flusher: Flusher<D>,
-    turnstile: &Turnstile,
-) -> bool
+fn commit_and_serve<
+    L: Ledger + Send + Sync,
+    R: Threads + Wait + Clock + Net + Sync,
+    D: Disk + Send,
+>(rt: &R, alloc: Global, shared: &Shared<L>, flusher: Flusher<D>, turnstile: &Turnstile) -> bool
 where
     D: Drop,
+    R::Stream: Send + Sync,
+    R::Listener: Send + Sync,
 {
     let Some(seat) = shared.seat(rt) else {
         return false;
@@ -61,11 +62,14 @@ fn holding(alloc: Global, turnstile: &Turnstile) -> Option<Flusher<HoldDisk<'_, 
 }
 
 // Whether the sync was held until two orders were accepted, and both were replied to.
-fn accepted_while_held<L: Ledger + Send + Sync, R: Threads + Wait + Clock + Sync>(
+fn accepted_while_held<L: Ledger + Send + Sync, R: Threads + Wait + Clock + Net + Sync>(
     rt: &R,
     alloc: Global,
     blank: Blank,
 ) -> bool
+where
+    R::Stream: Send + Sync,
+    R::Listener: Send + Sync,
     requires name { blank.name ≡ L.name }
     requires parts { blank.parts ≡ L.parts }
     requires all { blank.parts ≡ 65536 }
@@ -76,11 +80,15 @@ fn accepted_while_held<L: Ledger + Send + Sync, R: Threads + Wait + Clock + Sync
     }
 }
 
-fn holds<L: Ledger + Send + Sync, R: Threads + Wait + Clock + Sync>(
+fn holds<L: Ledger + Send + Sync, R: Threads + Wait + Clock + Net + Sync>(
     rt: &R,
     alloc: Global,
     shared: &Shared<L>,
-) -> bool {
+) -> bool
+where
+    R::Stream: Send + Sync,
+    R::Listener: Send + Sync,
+{
     let turnstile = Turnstile::new();
     let Some(flusher) = holding(alloc, &turnstile) else {
         return false;

@@ -10,6 +10,7 @@ use apd_core::{Core, Input};
 use apd_desk::{NoGate, Seat, Shared, control_worker};
 use std::alloc::Global;
 use std::marker::Brand;
+use std::net::Net;
 use std::sync::Wait;
 use std::sync::ledger::{Blank, Ledger};
 use std::time::Clock;
@@ -17,7 +18,7 @@ use std::time::Clock;
 const ORDER: &[u8] = b"DEAUTHENTICATE 02:00:00:00:00:aa";
 
 // Gives the commands one after another. Whether these are the replies.
-fn serve<'a, L: Ledger, W: Wait + Clock>(
+fn serve<'a, L: Ledger, W: Wait + Clock + Net>(
     rt: &'a W,
     alloc: Global,
     shared: &'a Shared<L>,
@@ -26,12 +27,12 @@ fn serve<'a, L: Ledger, W: Wait + Clock>(
     texts: &[&[u8]],
 ) -> bool {
     let port = Operator::new(rt, alloc, shared, None, commands);
-    let (_seat, port) = control_worker(rt, shared, seat, port, &Still, &NoGate);
+    let (_seat, port) = control_worker(rt, alloc, shared, seat, port, &Still, &NoGate);
     are(port.into_replies().as_slice(), texts)
 }
 
 // Whether these are the replies to these commands on a core.
-fn replies<L: Ledger, W: Wait + Clock>(
+fn replies<L: Ledger, W: Wait + Clock + Net>(
     rt: &W,
     alloc: Global,
     core: Option<Core>,
@@ -151,7 +152,7 @@ num_sta[0]=0
 const STATES: &[&[u8]] = &[DOWN, UP, DOWN];
 
 // Whether each of two radios shows its own state, the first of which is down.
-fn shows_both<L: Ledger, W: Wait + Clock>(rt: &W, alloc: Global, blank: Blank) -> Option<bool>
+fn shows_both<L: Ledger, W: Wait + Clock + Net>(rt: &W, alloc: Global, blank: Blank) -> Option<bool>
     requires name { blank.name ≡ L.name }
     requires parts { blank.parts ≡ L.parts }
     requires all { blank.parts ≡ 65536 }

@@ -13,6 +13,7 @@ use apd_radio::Sim;
 use apd_slot::Slot;
 use std::alloc::Global;
 use std::marker::Brand;
+use std::net::Net;
 use std::sync::Wait;
 use std::sync::ledger::{Blank, Ledger};
 use std::thread::{Threads, join};
@@ -70,7 +71,7 @@ fn seat_stopped<L: Ledger, W: Wait>(rt: &W, shared: &Shared<L>) -> Option<Seat<L
     }
 }
 
-fn serve_radio<L: Ledger, W: Wait + Clock>(
+fn serve_radio<L: Ledger, W: Wait + Clock + Net>(
     rt: &W,
     alloc: Global,
     shared: &Shared<L>,
@@ -90,9 +91,13 @@ fn serve_radio<L: Ledger, W: Wait + Clock>(
     Some(seat)
 }
 
-fn serve_commands<L: Ledger, W: Wait + Clock>(rt: &W, shared: &Shared<L>) -> Option<Seat<L>> {
+fn serve_commands<L: Ledger, W: Wait + Clock + Net>(
+    rt: &W,
+    alloc: Global,
+    shared: &Shared<L>,
+) -> Option<Seat<L>> {
     let seat = shared.seat(rt)?;
-    let (seat, _port) = control_worker(rt, shared, seat, Silent, &Still, &NoGate);
+    let (seat, _port) = control_worker(rt, alloc, shared, seat, Silent, &Still, &NoGate);
     Some(seat)
 }
 
@@ -108,24 +113,32 @@ fn joined<X: Drop>(one: Option<Vec<X>>, other: Option<X>) -> Option<Vec<X>> {
     Some(all)
 }
 
-fn serve_both<L: Ledger + Send + Sync, R: Threads + Wait + Clock + Sync>(
+fn serve_both<L: Ledger + Send + Sync, R: Threads + Wait + Clock + Net + Sync>(
     rt: &R,
     alloc: Global,
     shared: &Shared<L>,
-) -> Option<Vec<Seat<L>>> {
+) -> Option<Vec<Seat<L>>>
+where
+    R::Stream: Send + Sync,
+    R::Listener: Send + Sync,
+{
     let (one, other) = join(
         rt,
-        move || serve_commands(rt, shared),
+        move || serve_commands(rt, alloc, shared),
         move || serve_ticks(rt, shared),
     );
     joined(joined(Some(Vec::new(alloc)), one), other)
 }
 
-fn serve_all<L: Ledger + Send + Sync, R: Threads + Wait + Clock + Sync>(
+fn serve_all<L: Ledger + Send + Sync, R: Threads + Wait + Clock + Net + Sync>(
     rt: &R,
     alloc: Global,
     shared: &Shared<L>,
-) -> Option<Vec<Seat<L>>> {
+) -> Option<Vec<Seat<L>>>
+where
+    R::Stream: Send + Sync,
+    R::Listener: Send + Sync,
+{
     let (one, others) = join(
         rt,
         move || serve_radio(rt, alloc, shared),
@@ -135,14 +148,15 @@ fn serve_all<L: Ledger + Send + Sync, R: Threads + Wait + Clock + Sync>(
 }
 
 // The seats of all workers, and of one that was refused, once the device has failed.
-fn work_to_the_fault<L: Ledger + Send + Sync, R: Threads + Wait + Clock + Sync, D: Disk + Send>(
-    rt: &R,
-    alloc: Global,
-    shared: &Shared<L>,
-    flusher: Flusher<D>,
-) -> Option<Vec<Seat<L>>>
+fn work_to_the_fault<
+    L: Ledger + Send + Sync,
+    R: Threads + Wait + Clock + Net + Sync,
+    D: Disk + Send,
+>(rt: &R, alloc: Global, shared: &Shared<L>, flusher: Flusher<D>) -> Option<Vec<Seat<L>>>
 where
     D: Drop,
+    R::Stream: Send + Sync,
+    R::Listener: Send + Sync,
 {
     let (one, others) = join(
         rt,
@@ -153,12 +167,15 @@ where
 }
 
 // How many seats come back, and how many entries there were, where the device fails after as many calls.
-fn fails<L: Ledger + Send + Sync, R: Threads + Wait + Clock + Sync>(
+fn fails<L: Ledger + Send + Sync, R: Threads + Wait + Clock + Net + Sync>(
     rt: &R,
     alloc: Global,
     calls: u64,
     blank: Blank,
 ) -> Option<(usize, u64)>
+where
+    R::Stream: Send + Sync,
+    R::Listener: Send + Sync,
     requires name { blank.name ≡ L.name }
     requires parts { blank.parts ≡ L.parts }
     requires all { blank.parts ≡ 65536 }

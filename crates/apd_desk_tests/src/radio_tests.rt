@@ -12,12 +12,13 @@ use apd_radio::{Failing, Radio, Recording, Sim};
 use apd_slot::Slot;
 use std::alloc::Global;
 use std::marker::Brand;
+use std::net::Net;
 use std::sync::Wait;
 use std::sync::ledger::{Blank, Ledger};
 use std::time;
 
 // Serves a radio that receives these frames, until the look behind them. Gives the seat.
-fn serve<L: Ledger, W: Wait + time::Clock, R: Radio, C: Clock, G: Gate>(
+fn serve<L: Ledger, W: Wait + time::Clock + Net, R: Radio, C: Clock, G: Gate>(
     rt: &W,
     alloc: Global,
     shared: &Shared<L>,
@@ -35,7 +36,7 @@ fn serve<L: Ledger, W: Wait + time::Clock, R: Radio, C: Clock, G: Gate>(
 
 // What a radio is told that meets want of memory so many times, at the first of the outs that wait. All are told to stop
 // before the first of them.
-fn told<L: Ledger, W: Wait + time::Clock>(
+fn told<L: Ledger, W: Wait + time::Clock + Net>(
     rt: &W,
     alloc: Global,
     blank: Blank,
@@ -51,7 +52,7 @@ fn told<L: Ledger, W: Wait + time::Clock>(
     Some(written)
 }
 
-fn write_told<L: Ledger, W: Wait + time::Clock>(
+fn write_told<L: Ledger, W: Wait + time::Clock + Net>(
     rt: &W,
     alloc: Global,
     shared: &Shared<L>,
@@ -97,7 +98,11 @@ fn lets_go<L: Ledger, W: Wait>(
 }
 
 // Whether a station that was heard at 200 s is let go at 400 s, and at 500 s.
-fn gone<L: Ledger, W: Wait + time::Clock>(rt: &W, alloc: Global, blank: Blank) -> Option<[bool; 2]>
+fn gone<L: Ledger, W: Wait + time::Clock + Net>(
+    rt: &W,
+    alloc: Global,
+    blank: Blank,
+) -> Option<[bool; 2]>
     requires name { blank.name ≡ L.name }
     requires parts { blank.parts ≡ L.parts }
     requires all { blank.parts ≡ 65536 }
@@ -106,7 +111,7 @@ fn gone<L: Ledger, W: Wait + time::Clock>(rt: &W, alloc: Global, blank: Blank) -
     gone_at(rt, alloc, &shared)
 }
 
-fn gone_at<L: Ledger, W: Wait + time::Clock>(
+fn gone_at<L: Ledger, W: Wait + time::Clock + Net>(
     rt: &W,
     alloc: Global,
     shared: &Shared<L>,
@@ -127,7 +132,7 @@ fn a_frame_is_heard_at_its_moment(rt: HostRuntime) {
 }
 
 // Whether a radio is noted as up, by the worker that served it.
-fn noted<L: Ledger, W: Wait + time::Clock>(
+fn noted<L: Ledger, W: Wait + time::Clock + Net>(
     rt: &W,
     alloc: Global,
     shared: &Shared<L>,
@@ -139,7 +144,7 @@ fn noted<L: Ledger, W: Wait + time::Clock>(
 }
 
 // The same, where a station is to be installed or none, by a radio that passes so many calls.
-fn is_up<L: Ledger, W: Wait + time::Clock>(
+fn is_up<L: Ledger, W: Wait + time::Clock + Net>(
     rt: &W,
     alloc: Global,
     blank: Blank,
@@ -173,7 +178,11 @@ fn whether_a_radio_is_up_is_noted(rt: HostRuntime) {
 }
 
 // What passes the gate of two frames and their commit.
-fn logged<L: Ledger, W: Wait + time::Clock>(rt: &W, alloc: Global, blank: Blank) -> Option<u64>
+fn logged<L: Ledger, W: Wait + time::Clock + Net>(
+    rt: &W,
+    alloc: Global,
+    blank: Blank,
+) -> Option<u64>
     requires name { blank.name ≡ L.name }
     requires parts { blank.parts ≡ L.parts }
     requires all { blank.parts ≡ 65536 }
@@ -182,7 +191,7 @@ fn logged<L: Ledger, W: Wait + time::Clock>(rt: &W, alloc: Global, blank: Blank)
     log_both(rt, alloc, &shared)
 }
 
-fn log_both<L: Ledger, W: Wait + time::Clock>(
+fn log_both<L: Ledger, W: Wait + time::Clock + Net>(
     rt: &W,
     alloc: Global,
     shared: &Shared<L>,

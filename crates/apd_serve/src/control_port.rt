@@ -7,6 +7,7 @@ use apd_desk::{Port, PortFault};
 use apd_radio::{Datagrams, RadioFault, SocketFault};
 use std::alloc::Global;
 use std::net::{IpAddr, Ipv4Addr, Net, SocketAddr};
+use std::os::fd::RawFd;
 
 // A fault of the port's socket.
 fn of_socket(fault: RadioFault) -> PortFault
@@ -122,6 +123,10 @@ impl Port for ControlPort {
             return Err(PortFault::Device);
         };
         Ok(self.received.take().map(|(_, bytes)| (tag, bytes)))
+    }
+
+    fn descriptor(&self) -> Option<RawFd> {
+        Some(self.datagrams.descriptor())
     }
 
     /// The reply goes to the sender of the command of this tag, which is then forgotten. To a tag of no command that

@@ -196,7 +196,7 @@ struct Opened<'a> {
 
 // Serves a world that is started, and watches its store's file meanwhile.
 fn serve_watched<
-    W: Files<File = File> + Wait + Threads + time::Clock + AllocGlobal + Log + Sync,
+    W: Files<File = File> + Net + Wait + Threads + time::Clock + AllocGlobal + Log + Sync,
     R: Radio + Send,
     B: Read + Drop,
 >(
@@ -209,6 +209,8 @@ fn serve_watched<
 ) -> Result<u64, ServeFault>
 where
     W::Dir: Send + Sync,
+    W::Stream: Send + Sync,
+    W::Listener: Send + Sync,
 {
     let ending = Ending::new();
     thread::scope(
@@ -231,12 +233,14 @@ where
 // Serves with these radios, one for each configuration, in their order, and tells what is served. Each station of the
 // table was heard at the moment 0.
 fn run_with<
-    W: Files<File = File> + Wait + Threads + time::Clock + AllocGlobal + Log + Sync,
+    W: Files<File = File> + Net + Wait + Threads + time::Clock + AllocGlobal + Log + Sync,
     R: Radio + Send,
     B: Read + Drop,
 >(rt: &W, confs: Confs, opened: Opened<'_>, radios: Vec<R>, reader: B) -> Result<u64, RunFault>
 where
     W::Dir: Send + Sync,
+    W::Stream: Send + Sync,
+    W::Listener: Send + Sync,
 {
     let Opened {
         store,
@@ -272,6 +276,8 @@ pub fn run<
 >(rt: &W, confs: Confs, site: &Site<'_>, reader: B) -> Result<u64, RunFault>
 where
     W::Dir: Send + Sync,
+    W::Stream: Send + Sync,
+    W::Listener: Send + Sync,
 {
     let count = confs.list().len();
     let (store, table) = open_store(rt, site.store)?;

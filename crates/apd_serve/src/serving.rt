@@ -17,6 +17,7 @@ use log::Log;
 use std::alloc::{AllocError, Global};
 use std::io::Read;
 use std::marker::Brand;
+use std::net::Net;
 use std::sync::Wait;
 use std::sync::ledger::{Blank, Ledger};
 use std::thread::Threads;
@@ -115,7 +116,7 @@ fn closed<
 // As `serve`, with the world started, over one ledger.
 fn served<
     L: Ledger + Send + Sync,
-    W: Wait + Threads + time::Clock + Log + Sync,
+    W: Wait + Threads + time::Clock + Log + Net + Sync,
     D: Disk + Drop + Send,
     R: Radio + Send,
     P: Port + Drop + Send,
@@ -132,6 +133,9 @@ fn served<
     gate: &G,
     reader: &mut B,
 ) -> Result<u64, ServeFault>
+where
+    W::Stream: Send + Sync,
+    W::Listener: Send + Sync,
     requires name { blank.name ≡ L.name }
     requires parts { blank.parts ≡ L.parts }
     requires all { blank.parts ≡ SEATS }
@@ -165,7 +169,7 @@ pub(crate) fn start<D: Disk + Drop, R: Radio>(world: &mut World<D, R>) -> Result
 
 /// As `serve`, with the world started.
 pub(crate) fn serve_started<
-    W: Wait + Threads + time::Clock + Log + Sync,
+    W: Wait + Threads + time::Clock + Log + Net + Sync,
     D: Disk + Drop + Send,
     R: Radio + Send,
     P: Port + Drop + Send,
@@ -180,7 +184,11 @@ pub(crate) fn serve_started<
     clock: C,
     gate: &G,
     reader: B,
-) -> Result<u64, ServeFault> {
+) -> Result<u64, ServeFault>
+where
+    W::Stream: Send + Sync,
+    W::Listener: Send + Sync,
+{
     let mut reader = reader;
     let blank = Blank::new(u64::from(SEATS));
     served::<Brand, W, D, R, P, C, G, B>(rt, alloc, blank, world, port, &clock, gate, &mut reader)
@@ -200,7 +208,7 @@ pub(crate) fn serve_started<
 /// of the device that comes later is none: it is logged at the level error when it comes, what it leaves undone is
 /// never told, and what comes after is refused, until a restart.
 pub fn serve<
-    W: Wait + Threads + time::Clock + Log + Sync,
+    W: Wait + Threads + time::Clock + Log + Net + Sync,
     D: Disk + Drop + Send,
     R: Radio + Send,
     P: Port + Drop + Send,
@@ -215,7 +223,11 @@ pub fn serve<
     clock: C,
     gate: &G,
     reader: B,
-) -> Result<u64, ServeFault> {
+) -> Result<u64, ServeFault>
+where
+    W::Stream: Send + Sync,
+    W::Listener: Send + Sync,
+{
     let mut world = world;
     start(&mut world)?;
     serve_started(rt, alloc, world, port, clock, gate, reader)

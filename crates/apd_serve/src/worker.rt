@@ -17,6 +17,7 @@ use apd_radio::Radio;
 use apd_slot::Slot;
 use log::Log;
 use std::alloc::Global;
+use std::net::Net;
 use std::sync::Wait;
 use std::sync::ledger::Ledger;
 use std::time;
@@ -56,7 +57,7 @@ impl<
     D: Disk + Drop,
     R: Radio,
     P: Port + Drop,
-    W: Wait + time::Clock + Log,
+    W: Wait + time::Clock + Log + Net,
     C: Clock,
     G: Gate,
 > Job<Desk<'a, L, W, C, G>> for Worker<L, D, R, P> {
@@ -83,7 +84,7 @@ impl<
                 Worker::Radio(seat, slot)
             }
             Worker::Control(seat, port) => {
-                let (seat, port) = control_worker(*rt, *shared, seat, port, *clock, *gate);
+                let (seat, port) = control_worker(*rt, *alloc, *shared, seat, port, *clock, *gate);
                 Worker::Control(seat, port)
             }
             Worker::Ticks(seat) => Worker::Ticks(tick_worker(*rt, *shared, seat, *clock, *gate)),

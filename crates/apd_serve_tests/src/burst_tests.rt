@@ -100,7 +100,11 @@ fn storm_on(rt: &impl Net, alloc: Global, port: u16) -> Result<Storm, Fail> {
 fn served<R: Net + Wait + Threads + time::Clock + Log + Sync>(
     rt: &R,
     alloc: Global,
-) -> Result<(Result<u64, ServeFault>, usize, usize), Fail> {
+) -> Result<(Result<u64, ServeFault>, usize, usize), Fail>
+where
+    R::Stream: Send + Sync,
+    R::Listener: Send + Sync,
+{
     let port = free_ports(rt, 1)?;
     let mut storm = storm_on(rt, alloc, port)?;
     let control = ControlPort::open(rt, alloc, port)?;

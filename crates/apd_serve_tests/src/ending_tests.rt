@@ -90,7 +90,11 @@ fn ended<R: Net + Wait + Threads + time::Clock + AllocGlobal + Log + Sync>(
     stage: &Stage,
     frame: &'static str,
     after: Line,
-) -> Result<(Result<u64, ServeFault>, usize), Fail> {
+) -> Result<(Result<u64, ServeFault>, usize), Fail>
+where
+    R::Stream: Send + Sync,
+    R::Listener: Send + Sync,
+{
     let alloc = rt.alloc();
     let lines = [Line::Sends(0, RADIO, Datagram::Hex(frame)), Line::Asked(2)];
     let mut talk = Talk::new(rt, alloc, port, &lines, stage)?;

@@ -21,6 +21,8 @@ fn refused<R: Files<File = File> + Net + Wait + Threads + Clock + AllocGlobal + 
 ) -> Result<(String, bool), Fail>
 where
     R::Dir: Send + Sync,
+    R::Stream: Send + Sync,
+    R::Listener: Send + Sync,
 {
     let store = format!(in rt.alloc(); "{prefix}.served")?;
     let recording = format!(in rt.alloc(); "{prefix}.0")?;

@@ -87,6 +87,8 @@ pub(crate) fn ran_with<
 ) -> Result<(String, usize, u16), Fail>
 where
     R::Dir: Send + Sync,
+    R::Stream: Send + Sync,
+    R::Listener: Send + Sync,
 {
     let stage = Stage::new(false);
     let port = free_ports(rt, 8)?;
@@ -111,6 +113,8 @@ fn ran<R: Files<File = File> + Net + Wait + Threads + Clock + AllocGlobal + Log 
 ) -> Result<(String, usize), Fail>
 where
     R::Dir: Send + Sync,
+    R::Stream: Send + Sync,
+    R::Listener: Send + Sync,
 {
     let (answer, said, _) = ran_with(rt, store, confs(rt, radios)?, recordings, lines)?;
     Ok((answer, said))
@@ -222,6 +226,8 @@ pub(crate) fn refusal<
 ) -> Result<String, Fail>
 where
     R::Dir: Send + Sync,
+    R::Stream: Send + Sync,
+    R::Listener: Send + Sync,
 {
     let site = Site {
         store,

@@ -104,7 +104,11 @@ fn served<
     stage: &Stage,
     clock: C,
     gate: &G,
-) -> Result<(Result<u64, ServeFault>, usize), Fail> {
+) -> Result<(Result<u64, ServeFault>, usize), Fail>
+where
+    R::Stream: Send + Sync,
+    R::Listener: Send + Sync,
+{
     let port = free_ports(rt, 1)?;
     let mut talk = Talk::new(rt, alloc, port, scene.lines, stage)?;
     let control = ControlPort::open(rt, alloc, port)?;
@@ -122,7 +126,11 @@ fn talked<R: Net + Wait + Threads + time::Clock + Log + Sync>(
     alloc: Global,
     lines: &[Line],
     calls: u64,
-) -> Result<(Result<u64, ServeFault>, usize), Fail> {
+) -> Result<(Result<u64, ServeFault>, usize), Fail>
+where
+    R::Stream: Send + Sync,
+    R::Listener: Send + Sync,
+{
     let scene = Scene {
         lines,
         after: &[],
@@ -240,7 +248,11 @@ pub(crate) fn staged<R: Net + Wait + Threads + time::Clock + Log + Sync>(
     alloc: Global,
     scene: Scene<'_>,
     held: bool,
-) -> Result<(Result<u64, ServeFault>, usize), Fail> {
+) -> Result<(Result<u64, ServeFault>, usize), Fail>
+where
+    R::Stream: Send + Sync,
+    R::Listener: Send + Sync,
+{
     let stage = Stage::new(held);
     let clock = StageClock { rt, stage: &stage };
     served(rt, alloc, scene, &stage, clock, &NoGate)

@@ -120,6 +120,8 @@ fn served<
 ) -> Result<u64, RunFault>
 where
     R::Dir: Send + Sync,
+    R::Stream: Send + Sync,
+    R::Listener: Send + Sync,
 {
     let site = Site {
         store,
