@@ -34,8 +34,8 @@ impl Idle {
         Idle { looks: 0 }
     }
 
-    /// A turn went so. After one without progress it lets others run. Tells whether it is time to wait, since there were
-    /// as many in a row.
+    /// A turn went so. After one without progress it lets others run. Tells whether it is time to wait, since there
+    /// were as many in a row.
     pub(crate) fn is_over(&mut self, progress: Progress) -> bool
         ensures made { progress ≡ Progress.Made → (result ≡ false) × (self.new.looks ≡ 0) }
         ensures over { progress ≢ Progress.Made → self.old.looks ≤ LOOKS → (IsTrue result ↔ (self.old.looks ≡ LOOKS)) }

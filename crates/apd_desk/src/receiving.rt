@@ -84,8 +84,8 @@ impl<L: Ledger, R: Radio> Parts<L, R> {
         progress
     }
 
-    // Puts into the slot's queue, if none waits there and entries were settled since, what of settled entries it was not
-    // given yet.
+    // Puts into the slot's queue, if none waits there and entries were settled since, what of settled entries it was
+    // not given yet.
     fn collect<W: Wait>(&mut self, rt: &W, shared: &Shared<L>) -> Progress
         ensures seat { IsLater self.old.seat self.new.seat }
         ensures given { IsGivenOn R.model self.old.slot self.new.slot }

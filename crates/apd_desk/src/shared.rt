@@ -1,7 +1,7 @@
 //! A core that threads share.
 ghost use Rattle.std.specs.Prelude.{◌≡◌, ◌+◌, ◌≤◌, ℕ, IfOk, IfErr, IfSome, OnErr};
 ghost use Rattle.apd_journal.specs.Half.{IsGroup};
-ghost use Rattle.apd_desk.specs.Counted.{counted, entries_in};
+ghost use Rattle.apd_desk.specs.Counted.{entries_in, entries_of_seats};
 ghost use Rattle.apd_desk.specs.TicketOwner.{IsOwn};
 ghost use Rattle.apd_desk.specs.SeatProgress.{IsBehind, IsLater};
 ghost use Rattle.apd_desk.specs.Steps.{IsOf};
@@ -130,7 +130,7 @@ impl<L: Ledger> Shared<L> {
     /// nobody and takes no memory. It is refused exactly where a seat is missing, and hands all back.
     pub fn close(self, seats: Vec<Seat<L>>) -> Result<(Core, u64), (Shared<L>, Vec<Seat<L>>)>
         requires { L.parts ≡ SEATS }
-        ensures counted { IfOk result (λ closed. closed.1 ≡ counted seats.items) }
+        ensures counted { IfOk result (λ closed. closed.1 ≡ entries_of_seats seats.items) }
         ensures back { IfErr result (λ back. back.1 ≡ seats) }
     {
         let Shared {
@@ -167,8 +167,8 @@ impl<L: Ledger> Shared<L> {
 
     /// Whether the radio of a BSSID is up, as it was noted last; it is not where nothing was. It takes no memory. What
     /// was noted is said where the lock is held.
-    pub fn noted(&self, rt: &impl Wait, bssid: Bssid) -> bool {
-        self.locked.lock(rt).noted(bssid)
+    pub fn is_noted_up(&self, rt: &impl Wait, bssid: Bssid) -> bool {
+        self.locked.lock(rt).is_noted_up(bssid)
     }
 
     // The BSSID of the interface that a command names, or else of the first one, and whether its radio is up. Which one
@@ -176,7 +176,7 @@ impl<L: Ledger> Shared<L> {
     pub(crate) fn interface(&self, rt: &impl Wait, name: Option<&[u8]>) -> Option<(Bssid, bool)> {
         let locked = self.locked.lock(rt);
         let bssid = locked.interface(name)?;
-        Some((bssid, locked.noted(bssid)))
+        Some((bssid, locked.is_noted_up(bssid)))
     }
 
     // A batch for which a group has room. Of which entries it is, is said where the lock is held.
@@ -197,7 +197,7 @@ impl<L: Ledger> Shared<L> {
     {
         let mut locked = self.locked.lock(rt);
         let answer = locked.publish(receipt);
-        let ready = self.bells.ready(&locked);
+        let ready = self.bells.ready_places(&locked);
         drop(locked);
         if answer.is_ok() {
             self.conditions.tell(News::Settled);
@@ -227,7 +227,7 @@ impl<L: Ledger> Shared<L> {
             .conditions
             .of(news)
             .wait_while(rt, self.locked.lock(rt), |locked| {
-                !news.came(seen, locked.look())
+                !news.has_come(seen, locked.look())
             });
     }
 
@@ -243,7 +243,7 @@ impl<L: Ledger> Shared<L> {
             rt,
             self.locked.lock(rt),
             time,
-            |locked| !news.came(seen, locked.look()),
+            |locked| !news.has_come(seen, locked.look()),
         );
     }
 

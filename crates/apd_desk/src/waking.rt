@@ -56,7 +56,7 @@ impl Bells {
     }
 
     /// At which places are those for whom outs are ready.
-    pub(crate) fn ready<L: Ledger>(&self, locked: &Locked<L>) -> [bool; RECIPIENTS] {
+    pub(crate) fn ready_places<L: Ledger>(&self, locked: &Locked<L>) -> [bool; RECIPIENTS] {
         let mut ready = [false; RECIPIENTS];
         for (place, ready) in self.places.iter().zip(&mut ready) {
             *ready = place.get().is_some_and(|bell| locked.is_ready(bell.to));

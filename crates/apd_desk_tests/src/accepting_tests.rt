@@ -1,7 +1,7 @@
 // Requests are accepted while a sync is under way.
 ghost use Rattle.std.specs.Prelude.{◌≡◌};
 
-use crate::common::{Still, blank_disk, flusher, share, started};
+use crate::common::{Still, blank_disk, flusher, share, started_core};
 use crate::hold::{HoldDisk, Turnstile};
 use crate::operator::{Operator, are};
 use apd_desk::{Seat, Shared, control_worker, flush_worker};
@@ -57,12 +57,12 @@ where
     replied
 }
 
-fn holding(alloc: Global, turnstile: &Turnstile) -> Option<Flusher<HoldDisk<'_, MemDisk>>> {
+fn holding_flusher(alloc: Global, turnstile: &Turnstile) -> Option<Flusher<HoldDisk<'_, MemDisk>>> {
     flusher(alloc, HoldDisk::new(blank_disk(alloc)?, turnstile))
 }
 
 // Whether the sync was held until two orders were accepted, and both were replied to.
-fn accepted_while_held<L: Ledger + Send + Sync, R: Threads + Wait + Clock + Net + Sync>(
+fn accepts_while_held<L: Ledger + Send + Sync, R: Threads + Wait + Clock + Net + Sync>(
     rt: &R,
     alloc: Global,
     blank: Blank,
@@ -74,7 +74,7 @@ where
     requires parts { blank.parts ≡ L.parts }
     requires all { blank.parts ≡ 65536 }
 {
-    match share::<L>(started(alloc), blank) {
+    match share::<L>(started_core(alloc), blank) {
         Some(shared) => holds(rt, alloc, &shared),
         None => false,
     }
@@ -90,7 +90,7 @@ where
     R::Listener: Send + Sync,
 {
     let turnstile = Turnstile::new();
-    let Some(flusher) = holding(alloc, &turnstile) else {
+    let Some(flusher) = holding_flusher(alloc, &turnstile) else {
         return false;
     };
     turnstile.arm();
@@ -99,6 +99,6 @@ where
 
 #[test]
 fn sync_while_accepting(rt: HostRuntime) {
-    let held = accepted_while_held::<Brand, _>(&rt, rt.alloc(), Blank::new(65_536));
+    let held = accepts_while_held::<Brand, _>(&rt, rt.alloc(), Blank::new(65_536));
     assert!(rt; held);
 }

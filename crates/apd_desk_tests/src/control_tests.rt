@@ -2,8 +2,8 @@
 ghost use Rattle.std.specs.Prelude.{◌≡◌};
 
 use crate::common::{
-    Still, WLAN0, WLAN1, authentication, enters, memory_flusher, new_core, settles, share, started,
-    started_both,
+    Still, WLAN0, WLAN1, authentication, core_of_two_radios, enters, memory_flusher, new_core,
+    settles, share, started_core,
 };
 use crate::operator::{Operator, are};
 use apd_core::{Core, Input};
@@ -49,15 +49,15 @@ fn replies<L: Ledger, W: Wait + Clock + Net>(
     Some(serve(rt, alloc, &shared, seat, commands, texts))
 }
 
-fn failed(alloc: Global) -> Option<Core> {
-    let mut core = started(alloc)?;
+fn failed_core(alloc: Global) -> Option<Core> {
+    let mut core = started_core(alloc)?;
     core.fail();
     Some(core)
 }
 
 // A core that keeps as many entries as may be.
-fn busy(alloc: Global) -> Option<Core> {
-    let mut core = started(alloc)?;
+fn full_core(alloc: Global) -> Option<Core> {
+    let mut core = started_core(alloc)?;
     let frame = authentication(0xaa);
     for _entry in 0..4096 {
         enters(&mut core, Input::Received(WLAN0, &frame));
@@ -105,7 +105,7 @@ const FAILS: &[&[u8]] = &[b"FAIL\n", b"PONG\n"];
 #[test]
 fn an_order_fails_on_a_core_that_has_failed(rt: HostRuntime) {
     let alloc = rt.alloc();
-    let (core, blank) = (failed(alloc), Blank::new(65_536));
+    let (core, blank) = (failed_core(alloc), Blank::new(65_536));
     let replied = replies::<Brand, _>(&rt, alloc, core, blank, ORDERS, FAILS);
     assert_eq!(rt; replied, Some(true));
 }
@@ -113,14 +113,14 @@ fn an_order_fails_on_a_core_that_has_failed(rt: HostRuntime) {
 #[test]
 fn an_order_fails_on_a_full_core(rt: HostRuntime) {
     let alloc = rt.alloc();
-    let (core, blank) = (busy(alloc), Blank::new(65_536));
+    let (core, blank) = (full_core(alloc), Blank::new(65_536));
     let replied = replies::<Brand, _>(&rt, alloc, core, blank, ORDERS, FAILS);
     assert_eq!(rt; replied, Some(true));
 }
 
 // A core of two radios, the start of which is settled.
 fn two_radios(alloc: Global) -> Option<Core> {
-    let mut core = started_both(alloc)?;
+    let mut core = core_of_two_radios(alloc)?;
     let mut flusher = memory_flusher(alloc)?;
     if settles(&mut core, &mut flusher) {
         Some(core)

@@ -1,7 +1,7 @@
 // A device that fails: the worker that commits ends by itself, requests are stopped, and every seat comes back.
 ghost use Rattle.std.specs.Prelude.{◌≡◌};
 
-use crate::common::{Still, WLAN0, authentication, blank_disk, flusher, share, started};
+use crate::common::{Still, WLAN0, authentication, blank_disk, flusher, share, started_core};
 use apd_base::Moment;
 use apd_core::{Accepted, Input};
 use apd_desk::{
@@ -53,7 +53,7 @@ where
     D: Drop,
 {
     let flusher = flush_worker(rt, shared, flusher, &NoGate);
-    let seat = seat_stopped(rt, shared);
+    let seat = stopped_seat(rt, shared);
     shared.stop(rt);
     if flusher.phase() == Phase::Failed {
         seat
@@ -62,7 +62,7 @@ where
     }
 }
 
-fn seat_stopped<L: Ledger, W: Wait>(rt: &W, shared: &Shared<L>) -> Option<Seat<L>> {
+fn stopped_seat<L: Ledger, W: Wait>(rt: &W, shared: &Shared<L>) -> Option<Seat<L>> {
     let mut seat = shared.seat(rt)?;
     if is_stopped(rt, shared, &mut seat) {
         Some(seat)
@@ -107,7 +107,7 @@ fn serve_ticks<L: Ledger, W: Wait + Clock>(rt: &W, shared: &Shared<L>) -> Option
 }
 
 // Both in one list.
-fn joined<X: Drop>(one: Option<Vec<X>>, other: Option<X>) -> Option<Vec<X>> {
+fn list_of_both<X: Drop>(one: Option<Vec<X>>, other: Option<X>) -> Option<Vec<X>> {
     let mut all = one?;
     all.push(other?).ok()?;
     Some(all)
@@ -127,7 +127,7 @@ where
         move || serve_commands(rt, alloc, shared),
         move || serve_ticks(rt, shared),
     );
-    joined(joined(Some(Vec::new(alloc)), one), other)
+    list_of_both(list_of_both(Some(Vec::new(alloc)), one), other)
 }
 
 fn serve_all<L: Ledger + Send + Sync, R: Threads + Wait + Clock + Net + Sync>(
@@ -144,7 +144,7 @@ where
         move || serve_radio(rt, alloc, shared),
         move || serve_both(rt, alloc, shared),
     );
-    joined(others, one)
+    list_of_both(others, one)
 }
 
 // The seats of all workers, and of one that was refused, once the device has failed.
@@ -163,7 +163,7 @@ where
         move || commit_to_the_fault(rt, shared, flusher),
         move || serve_all(rt, alloc, shared),
     );
-    joined(others, one)
+    list_of_both(others, one)
 }
 
 // How many seats come back, and how many entries there were, where the device fails after as many calls.
@@ -180,12 +180,12 @@ where
     requires parts { blank.parts ≡ L.parts }
     requires all { blank.parts ≡ 65536 }
 {
-    let shared: Shared<L> = share(started(alloc), blank)?;
-    let seats = work_to_the_fault(rt, alloc, &shared, failing(alloc, calls)?)?;
-    closed(shared, seats)
+    let shared: Shared<L> = share(started_core(alloc), blank)?;
+    let seats = work_to_the_fault(rt, alloc, &shared, failing_flusher(alloc, calls)?)?;
+    close_and_count(shared, seats)
 }
 
-fn closed<L: Ledger>(shared: Shared<L>, seats: Vec<Seat<L>>) -> Option<(usize, u64)>
+fn close_and_count<L: Ledger>(shared: Shared<L>, seats: Vec<Seat<L>>) -> Option<(usize, u64)>
     requires { L.parts ≡ 65536 }
 {
     let back = seats.len();
@@ -193,7 +193,7 @@ fn closed<L: Ledger>(shared: Shared<L>, seats: Vec<Seat<L>>) -> Option<(usize, u
     Some((back, number))
 }
 
-fn failing(alloc: Global, calls: u64) -> Option<Flusher<FuseDisk<MemDisk>>> {
+fn failing_flusher(alloc: Global, calls: u64) -> Option<Flusher<FuseDisk<MemDisk>>> {
     flusher(
         alloc,
         FuseDisk::new(blank_disk(alloc)?, FORMAT.saturating_add(calls)),

@@ -1,7 +1,7 @@
 // A radio whose driver fails while stations are served, with spare radios and without, and another radio beside it.
 ghost use Rattle.std.specs.Prelude.{◌≡◌};
 
-use crate::common::{Still, WLAN0, WLAN1, memory_flusher, share, started_both, station};
+use crate::common::{Still, WLAN0, WLAN1, core_of_two_radios, memory_flusher, share, station};
 use crate::fed::{Asks, Fed, Frame, Stage, When};
 use crate::operator::Operator;
 use apd_base::{Addr, Bssid};
@@ -332,7 +332,10 @@ where
         first,
         other,
         downs: stages.first.downs(),
-        sent: [stages.first.sent().min(4), stages.other.sent().min(2)],
+        sent: [
+            stages.first.transmissions().min(4),
+            stages.other.transmissions().min(2),
+        ],
         associations: [stages.first.associations(), stages.other.associations()],
     }
 }
@@ -350,7 +353,7 @@ where
     requires parts { blank.parts ≡ L.parts }
     requires all { blank.parts ≡ 65536 }
 {
-    let shared: Shared<L> = share(started_both(alloc), blank)?;
+    let shared: Shared<L> = share(core_of_two_radios(alloc), blank)?;
     let flusher = memory_flusher(alloc)?;
     Some(run(rt, alloc, &shared, flusher, scene))
 }

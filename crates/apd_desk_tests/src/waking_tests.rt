@@ -3,7 +3,9 @@
 ghost use Rattle.std.specs.Prelude.{◌≡◌};
 
 use crate::asking::{Asker, Commands, Question, free_port};
-use crate::common::{Still, WLAN0, asked, authentication, memory_flusher, share, started};
+use crate::common::{
+    Still, WLAN0, asked_core, authentication, memory_flusher, share, started_core,
+};
 use crate::staged::Short;
 use apd_core::Core;
 use apd_desk::{
@@ -197,7 +199,7 @@ fn crew_with<R: Radio>(
 }
 
 // The same, of a new shared core.
-fn served<L: Ledger + Send + Sync, W: Threads + Wait + Clock + Net + Sync, R: Radio + Send>(
+fn are_answered<L: Ledger + Send + Sync, W: Threads + Wait + Clock + Net + Sync, R: Radio + Send>(
     rt: &W,
     alloc: Global,
     blank: Blank,
@@ -218,7 +220,10 @@ where
 }
 
 // How frames, and more of them than a turn takes, a command and an order are answered.
-fn of_each_kind<R: Threads + Wait + Clock + Net + Sync>(rt: &R, alloc: Global) -> Option<bool>
+fn answers_of_each_kind<R: Threads + Wait + Clock + Net + Sync>(
+    rt: &R,
+    alloc: Global,
+) -> Option<bool>
 where
     R::Stream: Send + Sync,
     R::Listener: Send + Sync,
@@ -234,18 +239,18 @@ where
         Question::new(radio_port, &frame, &AUTHENTICATED, 150),
         Question::new(port, b"PING", b"PONG\n", 150),
     ];
-    let core = started(alloc);
-    served::<Brand, _, _>(rt, alloc, Blank::new(65_536), core, crew, &questions)
+    let core = started_core(alloc);
+    are_answered::<Brand, _, _>(rt, alloc, Blank::new(65_536), core, crew, &questions)
 }
 
 #[test]
 fn workers_that_wait_are_woken(rt: HostRuntime) {
-    assert_eq!(rt; of_each_kind(&rt, rt.alloc()), Some(true));
+    assert_eq!(rt; answers_of_each_kind(&rt, rt.alloc()), Some(true));
 }
 
 // How frames at another radio are answered, which takes the place of one that fails as a station is installed. At the
 // second one its worker waits there.
-fn at_a_spare<R: Threads + Wait + Clock + Net + Sync>(rt: &R, alloc: Global) -> Option<bool>
+fn answers_at_a_spare<R: Threads + Wait + Clock + Net + Sync>(rt: &R, alloc: Global) -> Option<bool>
 where
     R::Stream: Send + Sync,
     R::Listener: Send + Sync,
@@ -259,8 +264,8 @@ where
     let crew = crew_with(rt, alloc, radio, spares, port);
     let frame = authentication(0xbb);
     let question = Question::new(last, &frame, &OTHER_AUTHENTICATED, 1);
-    let core = asked(alloc);
-    served::<Brand, _, _>(
+    let core = asked_core(alloc);
+    are_answered::<Brand, _, _>(
         rt,
         alloc,
         Blank::new(65_536),
@@ -272,11 +277,14 @@ where
 
 #[test]
 fn a_radio_that_took_anothers_place_is_waited_for(rt: HostRuntime) {
-    assert_eq!(rt; at_a_spare(&rt, rt.alloc()), Some(true));
+    assert_eq!(rt; answers_at_a_spare(&rt, rt.alloc()), Some(true));
 }
 
 // How a frame is answered by a radio that lacks memory for the answer, so often that its worker waits in between.
-fn where_memory_lacks<R: Threads + Wait + Clock + Net + Sync>(rt: &R, alloc: Global) -> Option<bool>
+fn answers_where_memory_lacks<R: Threads + Wait + Clock + Net + Sync>(
+    rt: &R,
+    alloc: Global,
+) -> Option<bool>
 where
     R::Stream: Send + Sync,
     R::Listener: Send + Sync,
@@ -286,11 +294,11 @@ where
     let crew = crew_with(rt, alloc, Short { inner, times: 60 }, Vec::new(alloc), port);
     let frame = authentication(0xaa);
     let questions = [Question::new(radio_port, &frame, &AUTHENTICATED, 1)];
-    let core = started(alloc);
-    served::<Brand, _, _>(rt, alloc, Blank::new(65_536), core, crew, &questions)
+    let core = started_core(alloc);
+    are_answered::<Brand, _, _>(rt, alloc, Blank::new(65_536), core, crew, &questions)
 }
 
 #[test]
 fn what_lacks_memory_is_not_waited_for_at_the_socket(rt: HostRuntime) {
-    assert_eq!(rt; where_memory_lacks(&rt, rt.alloc()), Some(true));
+    assert_eq!(rt; answers_where_memory_lacks(&rt, rt.alloc()), Some(true));
 }
