@@ -141,7 +141,8 @@ fn reply_settled<L: Ledger, W: Wait, P: Port>(
 
 /// Serves a control port until a stop, and gives its seat and the port back: carries out the commands that come, and
 /// replies to each. An order that is no entry, and a query that is not answered, get `FAIL`. It holds the lock for
-/// no call of the port.
+/// no call of the port. Where there is nothing to do it waits for a command, by the port's descriptor, for a reply, or
+/// for a stop.
 pub fn control_worker<L: Ledger, W: Wait + SystemClock + Net, P: Port, C: Clock, G: Gate>(
     rt: &W,
     alloc: Global,

@@ -210,7 +210,8 @@ impl<L: Ledger, R: Radio> Parts<L, R> {
 /// Serves a radio until a stop, and gives its seat and its slot back: submits the frames that it receives, gives
 /// its slot what of settled entries is for it, and notes whether it is up. An out that meets want of memory stays
 /// first in the slot's queue and is tried again, and so are those behind it: after a stop it ends once none waits. It
-/// holds the lock for no call of the radio.
+/// holds the lock for no call of the radio. Where there is nothing to do it waits for a frame, by the descriptor of the
+/// radio that the slot has then, for outs that are ready, or for a stop.
 ///
 /// A fault is an out at which the slot goes down, and a slot that is down at first. At each, every spare that is left
 /// is tried once in the place of the slot's radio, in order, until one serves, before the next out is applied; a radio

@@ -18,9 +18,10 @@ use std::time::Clock;
 /// How many recipients there are at most: a radio of each BSSID, and the control port.
 const RECIPIENTS: usize = MAX_BSS + 1;
 
-/// What is told of by the system: that the worker is woken, and that its socket can be read.
+/// What the system tells of: that the bell rang.
 const WOKEN: Token = Token(0);
 
+/// And that the socket can be read.
 const READABLE: Token = Token(1);
 
 // What wakes the worker of a recipient.
