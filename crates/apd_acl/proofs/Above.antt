@@ -5,7 +5,7 @@ use Rattle.std.specs.Cmp.{IsTotalOrder, tied_itself}
 use Rattle.std.specs.declared.cmp.Ordering.{Ordering}
 use Rattle.std.specs.declared.cmp.Ordering.TheVariants.{Less, Equal, Greater}
 use Rattle.std.specs.FinMap.{find, is_sorted, IsAntisymmetric}
-use Rattle.apd_base.specs.Rows.{place, shifted, by_order}
+use Rattle.apd_base.specs.Rows.{place, offset, by_order}
 use Rattle.apd_base.proofs.MapLemmas.{one_or_apart, tied}
 use Rattle.apd_base.proofs.RowsLemmas.{below_found, is_sorted_head, is_sorted_tail, tied_not_below}
 
@@ -35,9 +35,9 @@ abbrev pub above_at : {K X : Type 0} → List (K × X) → Result ℕ ℕ → Op
 above_at es (Ok i) = slice_get es (i + 1)
 above_at es (Err i) = slice_get es i
 
-above_at-shifted : {K X : Type 0} (e : K × X) (es : List (K × X)) (r : Result ℕ ℕ) → above_at (e ∷ es) (shifted 1 r) ≡ above_at es r
-above_at-shifted e es (Ok i) = ap (slice_get (e ∷ es)) (one_on (1 + i)) ∙ ap (slice_get es) (one_more i ∙ sym (one_on i))
-above_at-shifted e es (Err i) = ap (slice_get (e ∷ es)) (one_more i)
+above_at-offset : {K X : Type 0} (e : K × X) (es : List (K × X)) (r : Result ℕ ℕ) → above_at (e ∷ es) (offset 1 r) ≡ above_at es r
+above_at-offset e es (Ok i) = ap (slice_get (e ∷ es)) (one_on (1 + i)) ∙ ap (slice_get es) (one_more i ∙ sym (one_on i))
+above_at-offset e es (Err i) = ap (slice_get (e ∷ es)) (one_more i)
 
 module _ {K X : Type 0} {R : K → K → Ordering} (o : IsTotalOrder R) (exact : IsAntisymmetric R) where
   pub found_head : (e : K × X) (es : List (K × X)) → find R e.0 (e ∷ es) ≡ Some e.1
@@ -83,10 +83,10 @@ module _ {K X : Type 0} {R : K → K → Ordering} (o : IsTotalOrder R) (exact :
   pub above_is : (k : K) (es : List (K × X)) → T (is_sorted R es) → MatchOption (above_at es (place R k es)) (NoneAbove k es) (IsAbove k es)
   above_is k [] h = λ q v f l. none_some v f
   above_is k (e ∷ es) h =
-      elim (R k e.0) as (λ r. R k e.0 ≡ r → MatchOption (above_at (e ∷ es) (by_order r (Err 0) (Ok 0) (shifted 1 (place R k es)))) (NoneAbove k (e ∷ es)) (IsAbove k (e ∷ es))) [
+      elim (R k e.0) as (λ r. R k e.0 ≡ r → MatchOption (above_at (e ∷ es) (by_order r (Err 0) (Ok 0) (offset 1 (place R k es)))) (NoneAbove k (e ∷ es)) (IsAbove k (e ∷ es))) [
         | Less ↦ λ p. record { entry = found_head e es; above = p; least = λ q v f l. head_least e es h q v f }
         | Equal ↦ λ p. kept k e es h (λ l. equal_less _ p l) (slice_get es 0)
             (first_above k es (is_sorted_tail o e es h) (λ q v f. ap (λ x. R x q) (exact k e.0 p) ∙ below_found o exact e.0 q v es (is_sorted_head o e es h) f))
-        | Greater ↦ λ p. subst (λ x. MatchOption x (NoneAbove k (e ∷ es)) (IsAbove k (e ∷ es))) (sym (above_at-shifted e es (place R k es)))
+        | Greater ↦ λ p. subst (λ x. MatchOption x (NoneAbove k (e ∷ es)) (IsAbove k (e ∷ es))) (sym (above_at-offset e es (place R k es)))
             (kept k e es h (λ l. greater_less _ p l) (above_at es (place R k es)) (above_is k es (is_sorted_tail o e es h)))
       ] refl

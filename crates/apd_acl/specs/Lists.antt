@@ -32,11 +32,11 @@ with_list lists Accept list = record lists { accept = list }
 with_list lists Deny list = record lists { deny = list }
 
 -- with an address more in one of them, with one less, and with none
-abbrev pub added : Lists → Which → Addr → Lists
-added lists w a = with_list lists w (map.insert (list_of lists w) a tt)
+abbrev pub with_address : Lists → Which → Addr → Lists
+with_address lists w a = with_list lists w (map.insert (list_of lists w) a tt)
 
-abbrev pub removed : Lists → Which → Addr → Lists
-removed lists w a = with_list lists w (map.remove (list_of lists w) a)
+abbrev pub without_address : Lists → Which → Addr → Lists
+without_address lists w a = with_list lists w (map.remove (list_of lists w) a)
 
-abbrev pub cleared : Lists → Which → Lists
-cleared lists w = with_list lists w map.empty
+abbrev pub without_addresses : Lists → Which → Lists
+without_addresses lists w = with_list lists w map.empty

@@ -5,7 +5,7 @@ ghost use Rattle.std.specs.FinMap as map;
 ghost use Rattle.apd_base.specs.Addr.{addr_cmp};
 ghost use Rattle.apd_base.specs.declared.address.Addr.{Addr};
 ghost use Rattle.apd_acl.specs.Least.{IsLeast, IsLeastAbove};
-ghost use Rattle.apd_acl.specs.Lists.{list_of, has, allowed, added, removed, cleared, no_lists};
+ghost use Rattle.apd_acl.specs.Lists.{list_of, has, allowed, with_address, without_address, without_addresses, no_lists};
 
 use crate::address_set::AddressSet;
 use crate::policy::is_allowed;
@@ -98,7 +98,7 @@ impl Lists {
     /// Puts an address into a list, or leaves both as they were. It lacks memory only for an address
     /// that the list has not.
     pub fn add(&mut self, which: Which, addr: Addr) -> Result<(), AllocError>
-        ensures ok { OnOk result (self.new ≡ added self.old which addr) }
+        ensures ok { OnOk result (self.new ≡ with_address self.old which addr) }
         ensures err { OnErr result (self.new ≡ self.old) }
         ensures over { IsTrue (has self.old which addr) → IsOk result }
     {
@@ -110,7 +110,7 @@ impl Lists {
 
     /// Takes an address out of a list, if it is there. It takes no memory.
     pub fn remove(&mut self, which: Which, addr: Addr)
-        ensures { self.new ≡ removed self.old which addr }
+        ensures { self.new ≡ without_address self.old which addr }
     {
         match which {
             Which::Accept => self.accept.remove(addr),
@@ -120,7 +120,7 @@ impl Lists {
 
     /// Takes each address out of a list. It takes no memory.
     pub fn clear(&mut self, which: Which)
-        ensures { self.new ≡ cleared self.old which }
+        ensures { self.new ≡ without_addresses self.old which }
     {
         match which {
             Which::Accept => self.accept.clear(),

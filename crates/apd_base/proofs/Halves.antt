@@ -10,7 +10,7 @@ use Rattle.std.specs.FinMap.Entries.{below_all}
 use Rattle.std.specs.List.{AllWithin}
 use Rattle.std.specs.List.Sorted.{IsSortedBy, IsSearchInRange, IsBinarySearchResult, IsPartitionPoint}
 use Rattle.std.proofs.lemmas.List.Sorted.{searchable_from_sorted}
-use Rattle.apd_base.specs.Rows.{place, shifted, by_order}
+use Rattle.apd_base.specs.Rows.{place, offset, by_order}
 use Rattle.apd_base.proofs.Cases.{first_holds, second_holds, is_less}
 use Rattle.apd_base.proofs.RowsLemmas.{one_more}
 
@@ -34,23 +34,23 @@ module _ {K X : Type 0} {R : K → K → Ordering} (o : IsTotalOrder R) where
   -- where the key stands
   place_of_equal : (k : K) (es : List (K × X)) (i : ℕ) (d : K × X) → T (is_sorted R es) → i < length es → R (get_or es i d).0 k ≡ Equal → place R k es ≡ Ok i
   place_of_equal k [] i d h l p = absurd (omega arith)
-  place_of_equal k (e ∷ es) zero d h l p = ap (λ r. by_order r (Err 0) (Ok 0) (shifted 1 (place R k es))) (turned o e.0 k Equal p)
+  place_of_equal k (e ∷ es) zero d h l p = ap (λ r. by_order r (Err 0) (Ok 0) (offset 1 (place R k es))) (turned o e.0 k Equal p)
   place_of_equal k (e ∷ es) (suc i) d h l p =
       let behind = o.congr _ k e.0 p in
       let above = sym behind ∙ turned o e.0 _ Less (below_each e.0 es i d (first_holds _ _ h) (omega arith)) in
-      ap (λ r. by_order r (Err 0) (Ok 0) (shifted 1 (place R k es))) above
-      ∙ ap (shifted 1) (place_of_equal k es i d (second_holds _ _ h) (omega arith) p)
+      ap (λ r. by_order r (Err 0) (Ok 0) (offset 1 (place R k es))) above
+      ∙ ap (offset 1) (place_of_equal k es i d (second_holds _ _ h) (omega arith) p)
       ∙ ap Ok (one_more i)
 
   -- where it would go
   place_of_gap : (k : K) (es : List (K × X)) (i : ℕ) → i ≤ length es → IsPartitionPoint (λ y. R y.0 k ≡ Less) (λ y. R y.0 k ≡ Greater) es i → place R k es ≡ Err i
   place_of_gap k [] i l p = ap Err (omega arith)
-  place_of_gap k (e ∷ es) zero l p = ap (λ r. by_order r (Err 0) (Ok 0) (shifted 1 (place R k es))) (turned o e.0 k Greater (p.1 0 e (omega arith) (omega arith)))
+  place_of_gap k (e ∷ es) zero l p = ap (λ r. by_order r (Err 0) (Ok 0) (offset 1 (place R k es))) (turned o e.0 k Greater (p.1 0 e (omega arith) (omega arith)))
   place_of_gap k (e ∷ es) (suc i) l p =
       let below : AllWithin (λ y. R y.0 k ≡ Less) es 0 i = λ j d low high. p.0 (suc j) d (omega arith) (omega arith) in
       let above : AllWithin (λ y. R y.0 k ≡ Greater) es i (length es) = λ j d low high. p.1 (suc j) d (omega arith) (omega arith) in
-      ap (λ r. by_order r (Err 0) (Ok 0) (shifted 1 (place R k es))) (turned o e.0 k Less (p.0 0 e (omega arith) (omega arith)))
-      ∙ ap (shifted 1) (place_of_gap k es i (omega arith) (below, above))
+      ap (λ r. by_order r (Err 0) (Ok 0) (offset 1 (place R k es))) (turned o e.0 k Less (p.0 0 e (omega arith) (omega arith)))
+      ∙ ap (offset 1) (place_of_gap k es i (omega arith) (below, above))
       ∙ ap Err (one_more i)
 
   -- what a search by the order of each key and the one sought finds

@@ -8,28 +8,28 @@ use Rattle.std.specs.declared.cmp.Ordering.TheVariants.{Less, Equal, Greater}
 use Rattle.std.specs.FinMap.{find, put, is_sorted, IsAntisymmetric}
 use Rattle.std.specs.FinMap.Entries.{where_key, below_all}
 use Rattle.std.specs.List.Sorted.{IsSearchInRange}
-use Rattle.apd_base.specs.Rows.{place, shifted, by_order, value_at, put_at, remove_at}
+use Rattle.apd_base.specs.Rows.{place, offset, by_order, value_at, put_at, remove_at}
 use Rattle.apd_base.proofs.Cases.{differ, first_holds, second_holds, both_hold, is_less, none_is_some}
 
-bound-shifted : (r : Result ℕ ℕ) (n : ℕ) → IsSearchInRange r n → IsSearchInRange (shifted 1 r) (suc n)
-bound-shifted (Ok i) n h = omega arith
-bound-shifted (Err i) n h = omega arith
+bound-offset : (r : Result ℕ ℕ) (n : ℕ) → IsSearchInRange r n → IsSearchInRange (offset 1 r) (suc n)
+bound-offset (Ok i) n h = omega arith
+bound-offset (Err i) n h = omega arith
 
 pub one_more : (i : ℕ) → 1 + i ≡ suc i
 one_more i = omega arith
 
 module _ {K X : Type 0} where
-  value_at-shifted : (e : K × X) (es : List (K × X)) (r : Result ℕ ℕ) → value_at (e ∷ es) (shifted 1 r) ≡ value_at es r
-  value_at-shifted e es (Ok i) = rw (one_more i) refl
-  value_at-shifted e es (Err i) = refl
+  value_at-offset : (e : K × X) (es : List (K × X)) (r : Result ℕ ℕ) → value_at (e ∷ es) (offset 1 r) ≡ value_at es r
+  value_at-offset e es (Ok i) = rw (one_more i) refl
+  value_at-offset e es (Err i) = refl
 
-  put_at-shifted : (e : K × X) (es : List (K × X)) (k : K) (v : X) (r : Result ℕ ℕ) → put_at (e ∷ es) k v (shifted 1 r) ≡ e ∷ put_at es k v r
-  put_at-shifted e es k v (Ok i) = rw (one_more i) refl
-  put_at-shifted e es k v (Err i) = rw (one_more i) refl
+  put_at-offset : (e : K × X) (es : List (K × X)) (k : K) (v : X) (r : Result ℕ ℕ) → put_at (e ∷ es) k v (offset 1 r) ≡ e ∷ put_at es k v r
+  put_at-offset e es k v (Ok i) = rw (one_more i) refl
+  put_at-offset e es k v (Err i) = rw (one_more i) refl
 
-  remove_at-shifted : (e : K × X) (es : List (K × X)) (r : Result ℕ ℕ) → remove_at (e ∷ es) (shifted 1 r) ≡ e ∷ remove_at es r
-  remove_at-shifted e es (Ok i) = rw (one_more i) refl
-  remove_at-shifted e es (Err i) = refl
+  remove_at-offset : (e : K × X) (es : List (K × X)) (r : Result ℕ ℕ) → remove_at (e ∷ es) (offset 1 r) ≡ e ∷ remove_at es r
+  remove_at-offset e es (Ok i) = rw (one_more i) refl
+  remove_at-offset e es (Err i) = refl
 
 module _ {K X : Type 0} {R : K → K → Ordering} (o : IsTotalOrder R) where
   -- a key below an entry is below those after it
@@ -49,19 +49,19 @@ module _ {K X : Type 0} {R : K → K → Ordering} (o : IsTotalOrder R) where
   pub find-place : (k : K) (es : List (K × X)) → T (is_sorted R es) → find R k es ≡ value_at es (place R k es)
   find-place k [] h = refl
   find-place k (e ∷ es) h =
-      elim (R k e.0) as (λ r. R k e.0 ≡ r → cond (is_eq r) (Some e.1) (find R k es) ≡ value_at (e ∷ es) (by_order r (Err 0) (Ok 0) (shifted 1 (place R k es)))) [
+      elim (R k e.0) as (λ r. R k e.0 ≡ r → cond (is_eq r) (Some e.1) (find R k es) ≡ value_at (e ∷ es) (by_order r (Err 0) (Ok 0) (offset 1 (place R k es)))) [
         | Less ↦ λ p. find_below k es (below_less k e.0 es p (first_holds _ _ h))
         | Equal ↦ λ p. refl
-        | Greater ↦ λ p. find-place k es (second_holds _ _ h) ∙ sym (value_at-shifted e es (place R k es))
+        | Greater ↦ λ p. find-place k es (second_holds _ _ h) ∙ sym (value_at-offset e es (place R k es))
       ] refl
 
   pub put-place : IsAntisymmetric R → (k : K) (v : X) (es : List (K × X)) → put R k v es ≡ put_at es k v (place R k es)
   put-place exact k v [] = refl
   put-place exact k v (e ∷ es) =
-      elim (R k e.0) as (λ r. R k e.0 ≡ r → by_order r ((k, v) ∷ e ∷ es) ((e.0, v) ∷ es) (e ∷ put R k v es) ≡ put_at (e ∷ es) k v (by_order r (Err 0) (Ok 0) (shifted 1 (place R k es)))) [
+      elim (R k e.0) as (λ r. R k e.0 ≡ r → by_order r ((k, v) ∷ e ∷ es) ((e.0, v) ∷ es) (e ∷ put R k v es) ≡ put_at (e ∷ es) k v (by_order r (Err 0) (Ok 0) (offset 1 (place R k es)))) [
         | Less ↦ λ p. refl
         | Equal ↦ λ p. ap (λ x. (x, v) ∷ es) (sym (exact k e.0 p))
-        | Greater ↦ λ p. ap (λ fs. e ∷ fs) (put-place exact k v es) ∙ sym (put_at-shifted e es k v (place R k es))
+        | Greater ↦ λ p. ap (λ fs. e ∷ fs) (put-place exact k v es) ∙ sym (put_at-offset e es k v (place R k es))
       ] refl
 
   -- nothing ties with a key below all
@@ -75,19 +75,19 @@ module _ {K X : Type 0} {R : K → K → Ordering} (o : IsTotalOrder R) where
   without-place k [] h = refl
   without-place k (e ∷ es) h =
       let left = where_key R (λ x. not (eq_by_cmp R k x)) es in
-      elim (R k e.0) as (λ r. R k e.0 ≡ r → cond (not (is_eq r)) (e ∷ left) left ≡ remove_at (e ∷ es) (by_order r (Err 0) (Ok 0) (shifted 1 (place R k es)))) [
+      elim (R k e.0) as (λ r. R k e.0 ≡ r → cond (not (is_eq r)) (e ∷ left) left ≡ remove_at (e ∷ es) (by_order r (Err 0) (Ok 0) (offset 1 (place R k es)))) [
         | Less ↦ λ p. ap (λ fs. e ∷ fs) (without_below k es (below_less k e.0 es p (first_holds _ _ h)))
         | Equal ↦ λ p. without_below k es (below_tied k e.0 es p (first_holds _ _ h))
-        | Greater ↦ λ p. ap (λ fs. e ∷ fs) (without-place k es (second_holds _ _ h)) ∙ sym (remove_at-shifted e es (place R k es))
+        | Greater ↦ λ p. ap (λ fs. e ∷ fs) (without-place k es (second_holds _ _ h)) ∙ sym (remove_at-offset e es (place R k es))
       ] refl
 
   pub place_bound : (k : K) (es : List (K × X)) → IsSearchInRange (place R k es) (length es)
   place_bound k [] = lit≤ tt
   place_bound k (e ∷ es) =
-      elim (R k e.0) as (λ r. IsSearchInRange (by_order r (Err 0) (Ok 0) (shifted 1 (place R k es))) (suc (length es))) [
+      elim (R k e.0) as (λ r. IsSearchInRange (by_order r (Err 0) (Ok 0) (offset 1 (place R k es))) (suc (length es))) [
         | Less ↦ omega arith
         | Equal ↦ omega arith
-        | Greater ↦ bound-shifted (place R k es) (length es) (place_bound k es)
+        | Greater ↦ bound-offset (place R k es) (length es) (place_bound k es)
       ]
 
   -- a key that is found behind an entry does not tie with it

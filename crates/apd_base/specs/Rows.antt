@@ -7,9 +7,9 @@ use Rattle.std.specs.declared.cmp.Ordering.{Ordering}
 use Rattle.std.specs.declared.cmp.Ordering.TheVariants.{Less, Equal, Greater}
 
 -- a place that is counted from n entries further in front
-abbrev pub shifted : ℕ → Result ℕ ℕ → Result ℕ ℕ
-shifted n (Ok i) = Ok (n + i)
-shifted n (Err i) = Err (n + i)
+abbrev pub offset : ℕ → Result ℕ ℕ → Result ℕ ℕ
+offset n (Ok i) = Ok (n + i)
+offset n (Err i) = Err (n + i)
 
 abbrev pub by_order : {A : Type 0} → Ordering → A → A → A → A
 by_order Less a b c = a
@@ -19,7 +19,7 @@ by_order Greater a b c = c
 -- the place of the key, or the one where it would go
 abbrev pub place : {K X : Type 0} → (K → K → Ordering) → K → List (K × X) → Result ℕ ℕ
 place R k [] = Err 0
-place R k (e ∷ es) = by_order (R k e.0) (Err 0) (Ok 0) (shifted 1 (place R k es))
+place R k (e ∷ es) = by_order (R k e.0) (Err 0) (Ok 0) (offset 1 (place R k es))
 
 -- the value at a place, if the key is there
 abbrev pub value_at : {K X : Type 0} → List (K × X) → Result ℕ ℕ → Option X

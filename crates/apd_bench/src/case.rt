@@ -122,7 +122,7 @@ impl Case {
     }
 
     /// How many stations are associated before a round of so many requests.
-    pub fn associated(&self, requests: u16) -> u16 {
+    pub fn stations_before(&self, requests: u16) -> u16 {
         if self.asks_for_new() {
             self.stations.saturating_sub(requests)
         } else {

@@ -32,7 +32,7 @@ pub struct Measured {
 
 // How often a second the bare loop turns over a file, with as many bytes a turn as the commits of a round wrote; none
 // without a file.
-fn bare_beside(
+fn bare_rate_beside(
     rt: &impl Clock,
     alloc: Global,
     file: Option<&File>,
@@ -54,12 +54,12 @@ pub fn do_rounds<A: AccessPoint>(
     task: &Task<'_>,
 ) -> Result<Vec<Measured>, BenchFault> {
     let case = task.case;
-    prepare(point, case.associated(task.requests))?;
+    prepare(point, case.stations_before(task.requests))?;
     let mut rounds = Vec::new(alloc);
     for _ in 0..task.rounds {
         let round = go_round(rt, point, tally, case, task.requests)?;
         undo(point, case, task.requests)?;
-        let bare = bare_beside(rt, alloc, task.bare, &round)?;
+        let bare = bare_rate_beside(rt, alloc, task.bare, &round)?;
         rounds.push(Measured { round, bare })?;
     }
     Ok(rounds)

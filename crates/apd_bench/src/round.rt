@@ -71,7 +71,7 @@ fn ask<A: AccessPoint>(
     number: u16,
 ) -> Result<(), BenchFault> {
     if case.asks_for_new() {
-        let station = case.associated(requests).saturating_add(number);
+        let station = case.stations_before(requests).saturating_add(number);
         return point.accept(&of_station(AUTHENTICATION, station));
     }
     let station = number.checked_rem(case.stations).unwrap_or(0);
@@ -129,7 +129,7 @@ pub fn undo<A: AccessPoint>(point: &mut A, case: &Case, requests: u16) -> Result
     if !case.asks_for_new() || requests == 0 {
         return Ok(());
     }
-    let first = case.associated(requests);
+    let first = case.stations_before(requests);
     for station in first..first.saturating_add(requests) {
         point.accept(&of_station(DEAUTHENTICATION, station))?;
     }

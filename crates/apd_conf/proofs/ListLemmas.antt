@@ -8,7 +8,7 @@ use Rattle.std.proofs.lemmas.List.{length-map}
 use Rattle.std.specs.Ordering.{is_lt}
 use Rattle.std.specs.declared.cmp.Ordering.TheVariants.{Less, Equal, Greater}
 use Rattle.std.specs.FinMap.Entries.{below_all}
-use Rattle.apd_base.specs.Rows.{place, shifted, by_order, put_at, remove_at}
+use Rattle.apd_base.specs.Rows.{place, offset, by_order, put_at, remove_at}
 use Rattle.apd_base.proofs.AddrLemmas.{addr_total, addr_exact}
 use Rattle.apd_base.proofs.RowsLemmas.{is_sorted_head, is_sorted_tail, put-place}
 use Rattle.apd_base.proofs.RowsMaps.{sorted_put_at, insert-from_sorted, sorted_remove_at, remove-from_sorted}
@@ -19,14 +19,14 @@ use Rattle.apd_base.specs.declared.limits.TheConstants.{MAX_LISTED}
 use Rattle.apd_base.specs.declared.address.Addr.{Addr}
 use Rattle.apd_conf.specs.declared.list_file.Edit.{Edit}
 use Rattle.apd_conf.specs.declared.list_fault.ListFault.TheVariants.{BadAddress, TooMany}
-use Rattle.apd_conf.specs.ListFile.{edit_of, edited, listed, fault_of, fault_by, fault_at, IsListOf, IsList, IsFaultOf}
+use Rattle.apd_conf.specs.ListFile.{edit_of, after_edit, addresses_in, fault_of, fault_by, fault_at, IsListOf, IsList, IsFaultOf}
 use Rattle.apd_conf.proofs.LineLemmas.{IsNext, behind_none}
 use Rattle.apd_base.proofs.Cases.{first_holds, second_holds, is_less}
 
 len-from_sorted : (rows : List (Addr × Unit {0})) → T (is_sorted addr_cmp rows) → finmap.len (from_sorted {R = addr_cmp} rows) ≡ length rows
 len-from_sorted rows sorted = len-entries (from_sorted {R = addr_cmp} rows) ∙ ap length (entries-from_sorted addr_cmp rows sorted)
 
-ok_later : (r : Result ℕ ℕ) → IsOk (shifted 1 r) → IsOk r
+ok_later : (r : Result ℕ ℕ) → IsOk (offset 1 r) → IsOk r
 ok_later (Ok i) h = refl
 ok_later (Err i) h = cc
 
@@ -34,7 +34,7 @@ ok_later (Err i) h = cc
 put_there : (a : Addr) (rows : List (Addr × Unit {0})) → IsOk (place addr_cmp a rows) → put addr_cmp a tt rows ≡ rows
 put_there a [] h = cc
 put_there a (row ∷ rows) h =
-    elim (addr_cmp a row.0) as (λ r. IsOk (by_order r (Err 0) (Ok 0) (shifted 1 (place addr_cmp a rows))) → by_order r ((a, tt) ∷ row ∷ rows) ((row.0, tt) ∷ rows) (row ∷ put addr_cmp a tt rows) ≡ row ∷ rows) [
+    elim (addr_cmp a row.0) as (λ r. IsOk (by_order r (Err 0) (Ok 0) (offset 1 (place addr_cmp a rows))) → by_order r ((a, tt) ∷ row ∷ rows) ((row.0, tt) ∷ rows) (row ∷ put addr_cmp a tt rows) ≡ row ∷ rows) [
       | Less ↦ λ g. cc
       | Equal ↦ λ g. refl
       | Greater ↦ λ g. ap (λ fs. row ∷ fs) (put_there a rows (ok_later _ g))
@@ -70,54 +70,54 @@ module _ (a : Addr) (rows : List (Addr × Unit {0})) (sorted : T (is_sorted addr
   fewer_rows r is = ap (λ r. from_sorted (remove_at rows r)) is ∙ sym (remove-from_sorted addr_total addr_exact a rows sorted)
 
 module _ (all : List (List ℕ)) (n : ℕ) (line : List ℕ) (rest : List (List ℕ)) (next : IsNext all n line rest) where
-  fault_here : fault_at all n ≡ fault_of n (edit_of line) (listed (take (n + 1) all))
-  fault_here = ap (λ o. fault_by n o (listed (take (n + 1) all))) next.there
+  fault_here : fault_at all n ≡ fault_of n (edit_of line) (addresses_in (take (n + 1) all))
+  fault_here = ap (λ o. fault_by n o (addresses_in (take (n + 1) all))) next.there
 
   -- a line that does nothing of a list file's
   pub bad_line : edit_of line ≡ None → ((m : ℕ) → m < n → fault_at all m ≡ None) → IsFaultOf all (BadAddress (n + 1))
-  bad_line bad before = record { place = n; there = fault_here ∙ ap (λ e. fault_of n e (listed (take (n + 1) all))) bad; none_before = before }
+  bad_line bad before = record { place = n; there = fault_here ∙ ap (λ e. fault_of n e (addresses_in (take (n + 1) all))) bad; none_before = before }
 
   module _ (edit : Edit) (is : edit_of line ≡ Some edit) where
     -- the addresses with that line
-    listed_then : listed (take (n + 1) all) ≡ edited (listed (take n all)) (Some edit)
+    listed_then : addresses_in (take (n + 1) all) ≡ after_edit (addresses_in (take n all)) (Some edit)
     listed_then =
-        ap listed next.more ∙ fold-append (λ set l. edited set (edit_of l)) finmap.empty (take n all) (line ∷ [])
-        ∙ ap (edited (listed (take n all))) is
+        ap addresses_in next.more ∙ fold-append (λ set l. after_edit set (edit_of l)) finmap.empty (take n all) (line ∷ [])
+        ∙ ap (after_edit (addresses_in (take n all))) is
 
-    fault_then : fault_at all n ≡ cond (nat_lt MAX_LISTED (finmap.len (edited (listed (take n all)) (Some edit)))) (Some TooMany) None
-    fault_then = fault_here ∙ ap (λ e. fault_of n e (listed (take (n + 1) all))) is ∙ ap (λ s. cond (nat_lt MAX_LISTED (finmap.len s)) (Some TooMany) None) listed_then
+    fault_then : fault_at all n ≡ cond (nat_lt MAX_LISTED (finmap.len (after_edit (addresses_in (take n all)) (Some edit)))) (Some TooMany) None
+    fault_then = fault_here ∙ ap (λ e. fault_of n e (addresses_in (take (n + 1) all))) is ∙ ap (λ s. cond (nat_lt MAX_LISTED (finmap.len s)) (Some TooMany) None) listed_then
 
-    module _ (old : List (Addr × Unit {0})) (was : from_sorted {R = addr_cmp} old ≡ listed (take n all)) where
+    module _ (old : List (Addr × Unit {0})) (was : from_sorted {R = addr_cmp} old ≡ addresses_in (take n all)) where
       -- a line that makes too many
-      pub too_many : MAX_LISTED < finmap.len (edited (from_sorted {R = addr_cmp} old) (Some edit)) → ((m : ℕ) → m < n → fault_at all m ≡ None) → IsFaultOf all TooMany
+      pub too_many : MAX_LISTED < finmap.len (after_edit (from_sorted {R = addr_cmp} old) (Some edit)) → ((m : ℕ) → m < n → fault_at all m ≡ None) → IsFaultOf all TooMany
       too_many many before = record {
         place = n;
-        there = fault_then ∙ ap (λ b. cond b (Some TooMany) None) (lt-ltb MAX_LISTED _ (subst (λ s. MAX_LISTED < finmap.len (edited s (Some edit))) was many));
+        there = fault_then ∙ ap (λ b. cond b (Some TooMany) None) (lt-ltb MAX_LISTED _ (subst (λ s. MAX_LISTED < finmap.len (after_edit s (Some edit))) was many));
         none_before = before;
       }
 
-      module _ (new : List (Addr × Unit {0})) (sorted : T (is_sorted addr_cmp new)) (made : from_sorted {R = addr_cmp} new ≡ edited (from_sorted old) (Some edit)) where
+      module _ (new : List (Addr × Unit {0})) (sorted : T (is_sorted addr_cmp new)) (made : from_sorted {R = addr_cmp} new ≡ after_edit (from_sorted old) (Some edit)) where
         -- and one that does not
-        pub listed_more : from_sorted {R = addr_cmp} new ≡ listed (take (n + 1) all)
-        listed_more = made ∙ ap (λ s. edited s (Some edit)) was ∙ sym listed_then
+        pub listed_more : from_sorted {R = addr_cmp} new ≡ addresses_in (take (n + 1) all)
+        listed_more = made ∙ ap (λ s. after_edit s (Some edit)) was ∙ sym listed_then
 
-        as_many : finmap.len (edited (listed (take n all)) (Some edit)) ≡ length new
-        as_many = sym (ap finmap.len (made ∙ ap (λ s. edited s (Some edit)) was)) ∙ len-from_sorted new sorted
+        as_many : finmap.len (after_edit (addresses_in (take n all)) (Some edit)) ≡ length new
+        as_many = sym (ap finmap.len (made ∙ ap (λ s. after_edit s (Some edit)) was)) ∙ len-from_sorted new sorted
 
         pub fault_none : length new ≤ MAX_LISTED → ((m : ℕ) → m < n → fault_at all m ≡ None) → (m : ℕ) → m < n + 1 → fault_at all m ≡ None
         fault_none few before =
             below_more _ _ before (fault_then ∙ ap (λ m. cond (nat_lt MAX_LISTED m) (Some TooMany) None) as_many ∙ ap (λ b. cond b (Some TooMany) None) (le-ltb MAX_LISTED (length new) few))
 
 no_fault : (all : List (List ℕ)) (n : ℕ) → length all ≤ n → fault_at all n ≡ None
-no_fault all n le = ap (λ o. fault_by n o (listed (take (n + 1) all))) (behind_none all n le)
+no_fault all n le = ap (λ o. fault_by n o (addresses_in (take (n + 1) all))) (behind_none all n le)
 
 -- what was read when there is no line left
 pub whole_list : (all : List (List ℕ)) (n : ℕ) (rows : List (Addr × Unit {0})) (list : List Addr) → n ≡ length all → T (is_sorted addr_cmp rows)
-    → from_sorted {R = addr_cmp} rows ≡ listed (take n all) → ((m : ℕ) → m < n → fault_at all m ≡ None) → list ≡ map (λ row. row.0) rows → IsListOf all list
+    → from_sorted {R = addr_cmp} rows ≡ addresses_in (take n all) → ((m : ℕ) → m < n → fault_at all m ≡ None) → list ≡ map (λ row. row.0) rows → IsListOf all list
 whole_list all n rows list end sorted is none gives = record {
   faultless = λ m. elim (cases_lt m n) [ inl lt ↦ none m lt | inr le ↦ no_fault all m (omega arith) ];
   addresses = gives ∙ ap (map (λ row. row.0)) (sym (entries-from_sorted addr_cmp rows sorted))
-      ∙ ap finmap.keys (is ∙ ap listed (take_all n all (omega arith)));
+      ∙ ap finmap.keys (is ∙ ap addresses_in (take_all n all (omega arith)));
 }
 
 pub no_rows : from_sorted {X = Unit {0}} {R = addr_cmp} [] ≡ finmap.empty

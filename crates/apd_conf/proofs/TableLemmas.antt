@@ -3,10 +3,10 @@ use Rattle.std.proofs.Common.{◌≡◌, ℕ, false, cond, List, Some, refl}
 use Rattle.std.specs.Prelude.{codes, ◌||◌}
 use Rattle.apd_conf.specs.declared.rule.Rule.TheVariants.{Interface, Bssid, Ssid, Band, Number, File, Ignored}
 use Rattle.apd_conf.specs.Table as table
-use Rattle.apd_conf.specs.Table.{rule_of, rule_in, is_one_of, begins_with_one_of, settings, ignored, ignored_prefixes}
+use Rattle.apd_conf.specs.Table.{rule_of, rule_in, is_one_of, begins_with_one_of, settings, ignored_names, ignored_prefixes}
 
 -- a name that is none of those without effect
-pub rule_of-settings : (name : List ℕ) → is_one_of name ignored ≡ false → begins_with_one_of name ignored_prefixes ≡ false → rule_of name ≡ rule_in name settings
+pub rule_of-settings : (name : List ℕ) → is_one_of name ignored_names ≡ false → begins_with_one_of name ignored_prefixes ≡ false → rule_of name ≡ rule_in name settings
 unfolding rule_of
 rule_of-settings name one front = λ i. cond (one i || front i) (Some Ignored) (rule_in name settings)
 

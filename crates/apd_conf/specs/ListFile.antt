@@ -32,15 +32,15 @@ edit_of line =
     else (if slice_index line 0 == hyphen then option_map Remove (address_at (drop 1 line)) else option_map Add
     (address_at line))
 
-abbrev pub edited : SetOf addr_cmp → Option Edit → SetOf addr_cmp
-edited set None = set
-edited set (Some Skip) = set
-edited set (Some (Add a)) = finmap.insert set a tt
-edited set (Some (Remove a)) = finmap.remove set a
+abbrev pub after_edit : SetOf addr_cmp → Option Edit → SetOf addr_cmp
+after_edit set None = set
+after_edit set (Some Skip) = set
+after_edit set (Some (Add a)) = finmap.insert set a tt
+after_edit set (Some (Remove a)) = finmap.remove set a
 
 -- the addresses after these lines, of none before them
-abbrev pub listed : List (List ℕ) → SetOf addr_cmp
-listed lines = fold (λ set line. edited set (edit_of line)) finmap.empty lines
+abbrev pub addresses_in : List (List ℕ) → SetOf addr_cmp
+addresses_in lines = fold (λ set line. after_edit set (edit_of line)) finmap.empty lines
 
 -- the fault of a line whose place is n, with the list after it: it is no line of a list file, or makes more
 -- addresses than a list may have
@@ -53,12 +53,12 @@ fault_by n None after = None
 fault_by n (Some line) after = fault_of n (edit_of line) after
 
 abbrev pub fault_at : List (List ℕ) → ℕ → Option ListFault
-fault_at lines n = fault_by n (slice_get lines n) (listed (take (n + 1) lines))
+fault_at lines n = fault_by n (slice_get lines n) (addresses_in (take (n + 1) lines))
 
 -- what is read where no line is faulty: the addresses in their order
 pub record IsListOf (lines : List (List ℕ)) (list : List Addr) : Type 0 where
   pub faultless : IsFaultless (fault_at lines)
-  pub addresses : list ≡ finmap.keys (listed lines)
+  pub addresses : list ≡ finmap.keys (addresses_in lines)
 
 -- the fault of other lines. That memory runs out is no fault of theirs
 abbrev pub IsFaultOf : List (List ℕ) → ListFault → Type 0

@@ -57,8 +57,8 @@ settings =
     []
 
 -- names that are taken with any value, and have no effect
-abbrev pub ignored : List (List ℕ)
-ignored =
+abbrev pub ignored_names : List (List ℕ)
+ignored_names =
     codes "driver" ∷
     codes "bridge" ∷
     codes "ctrl_interface" ∷
@@ -107,4 +107,4 @@ rule_in name rows = option_map (λ row. row.1) (find (λ row. bytes_eq name row.
 -- the rule of a name, if it is known
 unfoldable pub rule_of : List ℕ → Option Rule
 rule_of name =
-    if is_one_of name ignored || begins_with_one_of name ignored_prefixes then Some Ignored else rule_in name settings
+    if is_one_of name ignored_names || begins_with_one_of name ignored_prefixes then Some Ignored else rule_in name settings

@@ -48,7 +48,7 @@ pub struct Conf {
     pub deny: AddressList,
 }
 
-fn copied(file: &Option<FileName>, alloc: Global) -> Result<Option<FileName>, AllocError>
+fn copy_of(file: &Option<FileName>, alloc: Global) -> Result<Option<FileName>, AllocError>
     ensures { IfOk result (λ copy. copy ≡ file.now) }
 {
     let Some(file) = file else {
@@ -101,8 +101,8 @@ impl Conf {
             ignore_broadcast_ssid: self.ignore_broadcast_ssid,
             max_listen_interval: self.max_listen_interval,
             macaddr_acl: self.macaddr_acl,
-            accept_mac_file: copied(&self.accept_mac_file, alloc)?,
-            deny_mac_file: copied(&self.deny_mac_file, alloc)?,
+            accept_mac_file: copy_of(&self.accept_mac_file, alloc)?,
+            deny_mac_file: copy_of(&self.deny_mac_file, alloc)?,
             accept: self.accept.copy(alloc)?,
             deny: self.deny.copy(alloc)?,
         })

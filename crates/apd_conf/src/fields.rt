@@ -30,7 +30,7 @@ use apd_base::{AclMode, Addr, Bssid, StationNumber};
 use std::alloc::{AllocError, Global};
 
 // The value of a name, which its rule takes.
-fn taken<'a>(name: &[u8], file: &'a [u8]) -> Option<&'a [u8]>
+fn valid_value<'a>(name: &[u8], file: &'a [u8]) -> Option<&'a [u8]>
     requires { IsFaultless (fault_at (lines file.now)) }
     ensures value { option_copied result ≡ value_of name.now (lines file.now) }
     ensures taken { (rule : AnyRule) → rule_of name.now ≡ Some rule
@@ -63,7 +63,7 @@ fn number(name: &[u8], range: Range, file: &[u8]) -> u32
     ensures low { range.least ≤ result }
     ensures high { result ≤ range.greatest }
 {
-    match taken(name, file) {
+    match valid_value(name, file) {
         Some(value) => number_from(range, value),
         None => range.default,
     }
@@ -160,7 +160,7 @@ pub(crate) fn hw_mode(file: &[u8]) -> HwMode
     requires { IsFaultless (fault_at (lines file.now)) }
     ensures { band_name result ≡ unwrap_or (value_of (codes "hw_mode") (lines file.now)) (codes "b") }
 {
-    match taken(b"hw_mode", file) {
+    match valid_value(b"hw_mode", file) {
         Some(name) => band(name),
         None => HwMode::B,
     }
@@ -183,7 +183,7 @@ fn file_name(name: &[u8], file: &[u8], alloc: Global) -> Result<Option<FileName>
     requires rule { rule_of name.now ≡ Some rules.File }
     ensures { IfOk result (λ found. found ≡ value_of name.now (lines file.now)) }
 {
-    match taken(name, file) {
+    match valid_value(name, file) {
         Some(value) => Ok(Some(FileName::from_bytes(value, alloc)?)),
         None => Ok(None),
     }

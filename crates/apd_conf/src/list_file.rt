@@ -7,7 +7,7 @@ ghost use Rattle.apd_base.specs.declared.limits.TheConstants.{MAX_LISTED};
 ghost use Rattle.apd_conf.specs.declared.list_fault.ListFault.{ListFault as Fault};
 ghost use Rattle.apd_conf.specs.declared.list_fault.ListFault.TheVariants.{TooMany, NoMemory};
 ghost use Rattle.apd_conf.specs.Lines.{lines};
-ghost use Rattle.apd_conf.specs.ListFile.{is_end, address_at, edit_of, edited, IsListOf, IsList, IsFaultOf};
+ghost use Rattle.apd_conf.specs.ListFile.{is_end, address_at, edit_of, after_edit, IsListOf, IsList, IsFaultOf};
 
 use crate::lines::{is_skipped, lines_of};
 use crate::list_so_far::ListSoFar;
@@ -100,9 +100,9 @@ fn apply(list: &mut ListSoFar, edit: Edit) -> Result<(), ListFault>
     requires few { length list.old ≤ MAX_LISTED }
     ensures sorted { T (is_sorted addr_cmp list.new) }
     ensures few { length list.new ≤ MAX_LISTED }
-    ensures ok { OnOk result (from_sorted {R = addr_cmp} list.new ≡ edited (from_sorted list.old) (Some edit)) }
+    ensures ok { OnOk result (from_sorted {R = addr_cmp} list.new ≡ after_edit (from_sorted list.old) (Some edit)) }
     ensures err { IfErr result (λ fault. fault ≡ TooMany) }
-    ensures many { OnErr result (MAX_LISTED < finmap.len (edited (from_sorted {R = addr_cmp} list.old) (Some edit))) }
+    ensures many { OnErr result (MAX_LISTED < finmap.len (after_edit (from_sorted {R = addr_cmp} list.old) (Some edit))) }
 {
     match edit {
         Edit::Skip => Ok(()),

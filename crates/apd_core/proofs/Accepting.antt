@@ -1,24 +1,16 @@
 -- A request by the answer to what happened.
 use Rattle.std.proofs.Common.{◌≡◌, ◌+◌, true, false, cond, Option, None, Some, Ok, refl, sym, ap, ◌∙◌}
-use Rattle.apd_base.specs.declared.moment.Moment.{Moment}
-use Rattle.apd_mlme.specs.Happening.{Happening}
-use Rattle.apd_mlme.specs.rules.{verdict}
-use Rattle.apd_mlme.specs.Verdict.{is_nothing}
-use Rattle.apd_core.specs.Core.{CoreState, front_of, last_of, is_stopped, is_busy, ticket, answer_to_fit, answer_to, accepted, entered_state, state_after, after_request, with_sender}
-use Rattle.apd_core.specs.Requests.{happening_of, unfit}
-use Rattle.apd_core.specs.declared.input.Input.{Input}
-use Rattle.apd_core.specs.declared.input.QuietReason.{QuietReason}
+use Rattle.apd_core.proofs.Words.{Accepted, Busy, CoreState, Happening, Input, Moment, Quiet, QuietReason, Stopped, after_request, answer_at, answer_to, answer_to_fit, entered_state, front_of, happening_of, is_busy, is_nothing, is_stopped, last_of, state_after, ticket, unfitness, verdict, with_sender}
 use Rattle.apd_core.specs.declared.input.QuietReason.TheVariants as quiet
-use Rattle.apd_core.specs.declared.ticket.Accepted.{Accepted}
-use Rattle.apd_core.specs.declared.ticket.Accepted.TheVariants.{Stopped, Busy, Quiet, Entry}
+use Rattle.apd_core.specs.declared.ticket.Accepted.TheVariants.{Entry}
 
 module _ (s : CoreState) (m : Moment) (i : Input) (h : Happening) where
   -- what happened becomes an entry
-  pub entry_answer : unfit (front_of s) s.confs h ≡ None → is_nothing (verdict (front_of s) s.confs h) ≡ false → answer_to s m i (Ok h) ≡ Entry (ticket (last_of s + 1) i m)
+  pub entry_answer : unfitness (front_of s) s.confs h ≡ None → is_nothing (verdict (front_of s) s.confs h) ≡ false → answer_to s m i (Ok h) ≡ Entry (ticket (last_of s + 1) i m)
   entry_answer fit something = ap (answer_to_fit s m i h) fit ∙ ap (λ t. cond t (Quiet quiet.Nothing) (Entry (ticket (last_of s + 1) i m))) something
 
   -- the answer to a request is that to what happened, but where the core is stopped or busy
-  pub happened_answer : is_stopped s ≡ false → is_busy s ≡ false → happening_of s.confs s.heard m i ≡ Ok h → accepted s m i ≡ answer_to s m i (Ok h)
+  pub happened_answer : is_stopped s ≡ false → is_busy s ≡ false → happening_of s.confs s.heard m i ≡ Ok h → answer_at s m i ≡ answer_to s m i (Ok h)
   happened_answer going free asked =
       ap (λ t. cond t Stopped (cond (is_busy s) Busy (answer_to s m i (happening_of s.confs s.heard m i)))) going
       ∙ ap (λ t. cond t Busy (answer_to s m i (happening_of s.confs s.heard m i))) free
@@ -35,5 +27,5 @@ module _ (s : CoreState) (m : Moment) (i : Input) (h : Happening) where
   pub decided_state : (answer : Accepted) (new : CoreState) → is_stopped s ≡ false → is_busy s ≡ false → happening_of s.confs s.heard m i ≡ Ok h
       → answer ≡ answer_to s m i (Ok h) → new ≡ with_sender m h (entered_state answer s m h) → new ≡ after_request s m i
   decided_state answer new going free asked told is =
-      is ∙ ap (λ t. with_sender m h (entered_state t s m h)) told ∙ sym (leaves_fit (unfit (front_of s) s.confs h))
+      is ∙ ap (λ t. with_sender m h (entered_state t s m h)) told ∙ sym (leaves_fit (unfitness (front_of s) s.confs h))
       ∙ sym (λ j. state_after s m (asked j) (happened_answer going free asked j))

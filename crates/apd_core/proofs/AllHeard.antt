@@ -1,30 +1,12 @@
 -- All rows of a table heard at one moment.
 use Rattle.std.proofs.Common.{◌≡◌, ℕ, zero, suc, ◌+◌, ◌<◌, arith, Bool, true, false, cond, ◌&&◌, ◌||◌, List, [], ◌∷◌, length, drop, get_or, map as list_map, Option, Some, None, is_some, IsSome, refl, sym, ap, ◌∙◌, add-one}
-use Rattle.std.proofs.Math.Seq.{drop-cons}
-use Rattle.std.proofs.lemmas.Bool.{and_parts}
-use Rattle.std.proofs.lemmas.List.{length-map}
+use Rattle.apd_core.proofs.Words.{Addr, AreHeardAt, Bssid, FinMap, LastHeard, Moment, Sound, State, Station, addr_cmp, and_parts, any_mapped, any_passes, bssid_cmp, bssid_exact, bssid_total, drop-cons, eq_by_cmp, heard_at, is_among, length-map, list_any, one_key, option_map, passes_any, policy_at, same_addr, same_bssid, slice_get, station_at, station_cmp, station_exact, station_total, tied}
 use Rattle.std.proofs.lemmas.Option.{slice_get_within, get_or_from_slice_get}
-use Rattle.std.specs.List.{list_any, slice_get}
-use Rattle.std.specs.Option.{option_map}
-use Rattle.std.specs.Ordering.{eq_by_cmp}
 use Rattle.std.specs.FinMap as maps
-use Rattle.std.specs.FinMap.{FinMap}
-use Rattle.apd_base.specs.Addr.{addr_cmp, bssid_cmp, station_cmp, is_among}
-use Rattle.apd_base.specs.State.{State, policy_at, station_at}
-use Rattle.apd_base.specs.declared.address.Addr.{Addr}
-use Rattle.apd_base.specs.declared.address.Bssid.{Bssid}
-use Rattle.apd_base.specs.declared.moment.Moment.{Moment}
 use Rattle.apd_base.specs.declared.station.Policy.{Policy}
-use Rattle.apd_base.specs.declared.station.Station.{Station}
-use Rattle.apd_base.proofs.AddrLemmas.{bssid_total, bssid_exact, same_addr, same_bssid, station_total, station_exact}
-use Rattle.apd_base.proofs.MapLemmas.{any_passes, passes_any, tied}
 use Rattle.apd_table.specs.Addresses.{addresses_at}
 use Rattle.apd_table.specs.Rows as rows
-use Rattle.apd_table.specs.Sound.{Sound}
 use Rattle.apd_table.proofs.AllRows.{among_addresses}
-use Rattle.apd_table.proofs.Denied.{any_mapped, one_key}
-use Rattle.apd_core.specs.Heard.{LastHeard, AreHeardAt}
-use Rattle.apd_core.specs.LaidDown.{heard_at}
 
 -- an item more of a list that is left
 pub next_at : {X : Type 0} (xs : List X) (i : ℕ) (x : X) → slice_get xs i ≡ Some x → drop i xs ≡ x ∷ drop (i + 1) xs

@@ -1,22 +1,8 @@
 -- What each call does to the state after all entries, and to the outs that are held.
 use Rattle.std.proofs.Common.{◌≡◌, ℕ, ◌+◌, false, List, [], ◌∷◌, ◌++◌, Result, Ok, Err, refl, sym, ap, ◌∙◌}
 use Rattle.std.specs.Prelude.{map}
-use Rattle.std.proofs.lemmas.List.{map-append, append-nil}
-use Rattle.apd_base.specs.declared.moment.Moment.{Moment}
-use Rattle.apd_mlme.specs.Happening.{Happening}
-use Rattle.apd_mlme.specs.declared.decision.Recipient.{Recipient}
-use Rattle.apd_mlme.specs.declared.decision.Out.{Out}
-use Rattle.apd_mlme.specs.Outs.{outs_to, is_same}
-use Rattle.apd_mlme.specs.rules.{verdict}
-use Rattle.apd_mlme.specs.Run.{run, outs_run}
-use Rattle.apd_mlme.proofs.TrueOutsLemmas.{verdict_there}
-use Rattle.apd_mlme.proofs.VerdictLemmas.{meaning_in}
-use Rattle.apd_core.specs.Core.{CoreState, front_of, last_of, held_for, ready_for, with_entry, published, handed, entered_by, state_after}
-use Rattle.apd_core.specs.Held.{queue_of, up_to, beyond}
-use Rattle.apd_core.specs.Invariant.{IsCore}
-use Rattle.apd_core.specs.declared.input.QuietReason.{QuietReason}
-use Rattle.apd_core.specs.declared.ticket.Accepted.{Accepted}
-use Rattle.apd_core.specs.declared.ticket.Accepted.TheVariants.{Stopped, Busy, Quiet, Entry}
+use Rattle.apd_core.proofs.Words.{Accepted, Busy, CoreState, Happening, IsCore, Moment, Out, Quiet, QuietReason, Recipient, Stopped, after_handing_out, after_publish, answer_happenings, append-nil, beyond, front_of, held_for, is_same, last_of, map-append, meaning_in, outs_run, outs_to, queue_of, ready_for, run, state_after, up_to, verdict, verdict_there, with_entry}
+use Rattle.apd_core.specs.declared.ticket.Accepted.TheVariants.{Entry}
 use Rattle.apd_core.proofs.Keeping.{meaning-push}
 use Rattle.apd_core.proofs.HeldLemmas.{queue_of-with_outs, queue_of-after_hand, queue_of-after_hand_other, queue_in_order}
 use Rattle.apd_core.proofs.Queues.{given_first}
@@ -36,13 +22,13 @@ entry_held s m h r core =
     ∙ map-append (λ (x : ℕ × Out). x.1) (queue_of s.confs s.held r) (map (λ (out : Out). (last_of s + 1, out)) (outs_to r outs))
     ∙ ap (λ os. held_for r s ++ os) (outs_only (last_of s + 1) (outs_to r outs))
 
-pub publish_front : (s : CoreState) → IsCore s → front_of (published s) ≡ front_of s
+pub publish_front : (s : CoreState) → IsCore s → front_of (after_publish s) ≡ front_of s
 publish_front s core = published_front s core
 
-pub publish_held : (s : CoreState) (r : Recipient) → IsCore s → held_for r (published s) ≡ held_for r s
+pub publish_held : (s : CoreState) (r : Recipient) → IsCore s → held_for r (after_publish s) ≡ held_for r s
 publish_held s r core = ap (λ q. map (λ (x : ℕ × Out). x.1) q) (published_queue s core r)
 
-pub hand_held : (s : CoreState) (r : Recipient) → IsCore s → ready_for r s ++ held_for r (handed r s) ≡ held_for r s
+pub hand_held : (s : CoreState) (r : Recipient) → IsCore s → ready_for r s ++ held_for r (after_handing_out r s) ≡ held_for r s
 hand_held s r core =
     let q = queue_of s.confs s.held r in
     let first = λ (x : ℕ × Out). x.1 in
@@ -50,12 +36,12 @@ hand_held s r core =
     ∙ sym (map-append first (up_to s.number q) (beyond s.number q))
     ∙ ap (map first) (given_first s.number q (queue_in_order s.confs s.held r core.held))
 
-pub hand_others : (s : CoreState) (r q : Recipient) → is_same r q ≡ false → held_for q (handed r s) ≡ held_for q s
+pub hand_others : (s : CoreState) (r q : Recipient) → is_same r q ≡ false → held_for q (after_handing_out r s) ≡ held_for q s
 hand_others s r q apart = ap (λ p. map (λ (x : ℕ × Out). x.1) p) (queue_of-after_hand_other s.confs s.number r q s.held apart)
 
 -- a request: what happened, and the answer to it
 module _ (s : CoreState) (m : Moment) where
-  pub request_front : (said : Result Happening QuietReason) (answer : Accepted) → front_of (state_after s m said answer) ≡ run (front_of s) s.confs (entered_by answer said)
+  pub request_front : (said : Result Happening QuietReason) (answer : Accepted) → front_of (state_after s m said answer) ≡ run (front_of s) s.confs (answer_happenings answer said)
   request_front (Err reason) (Entry ticket) = refl
   request_front (Err reason) (Quiet other) = refl
   request_front (Err reason) Busy = refl
@@ -66,7 +52,7 @@ module _ (s : CoreState) (m : Moment) where
   request_front (Ok h) Stopped = refl
 
   pub request_held : IsCore s → (r : Recipient) (said : Result Happening QuietReason) (answer : Accepted)
-      → held_for r (state_after s m said answer) ≡ held_for r s ++ outs_run r (front_of s) s.confs (entered_by answer said)
+      → held_for r (state_after s m said answer) ≡ held_for r s ++ outs_run r (front_of s) s.confs (answer_happenings answer said)
   request_held core r (Err reason) (Entry ticket) = sym (append-nil (held_for r s))
   request_held core r (Err reason) (Quiet other) = sym (append-nil (held_for r s))
   request_held core r (Err reason) Busy = sym (append-nil (held_for r s))

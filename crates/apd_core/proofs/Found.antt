@@ -1,17 +1,8 @@
 -- The first entry that passes a test.
 use Rattle.std.proofs.Common.{◌≡◌, Bool, true, false, cond, List, [], ◌∷◌, Some, None, ◌⊎◌, inl, inr, refl, sym, ap, subst, ◌∙◌, T}
 use Rattle.std.specs.List.{find}
-use Rattle.std.specs.Ordering.{eq_by_cmp, ordering_reverse}
-use Rattle.std.specs.Cmp.{tied_itself}
-use Rattle.std.specs.declared.cmp.Ordering.TheVariants.{Less}
+use Rattle.apd_core.proofs.Words.{Addr, Bssid, Less, Moment, below_found, eq_by_cmp, is_sorted_head, is_sorted_tail, one_or_apart, ordering_reverse, station_cmp, station_exact, station_total, tied, tied_itself, tied_not_below}
 use Rattle.std.specs.FinMap as maps
-use Rattle.apd_base.specs.Addr.{station_cmp}
-use Rattle.apd_base.specs.declared.address.Addr.{Addr}
-use Rattle.apd_base.specs.declared.address.Bssid.{Bssid}
-use Rattle.apd_base.specs.declared.moment.Moment.{Moment}
-use Rattle.apd_base.proofs.AddrLemmas.{station_total, station_exact}
-use Rattle.apd_base.proofs.MapLemmas.{one_or_apart, tied}
-use Rattle.apd_base.proofs.RowsLemmas.{below_found, is_sorted_head, is_sorted_tail, tied_not_below}
 
 abbrev pub Row : Type 0
 Row = (Bssid × Addr) × Moment

@@ -1,25 +1,7 @@
 -- The moments at which stations were heard, and the rows of the table.
 use Rattle.std.proofs.Common.{◌≡◌, ℕ, ◌+◌, ◌<◌, Bool, true, false, cond, List, [], ◌∷◌, length, drop, get_or, Option, Some, None, is_some, inl, inr, refl, sym, ap, subst, ◌∙◌, add-one}
-use Rattle.std.proofs.Math.Seq.{drop-cons}
-use Rattle.std.specs.Ordering.{eq_by_cmp}
-use Rattle.std.specs.Option.{option_map}
+use Rattle.apd_core.proofs.Words.{Addr, AreHeardAt, AreMomentsOf, Bssid, Change, Conf, Configure, Drop, Expire, Happening, Heard, Kick, LastHeard, ListEdit, Moment, Put, State, drop-cons, empty_state, eq_by_cmp, get_insert_other, get_inserted, heard_by, heard_by_change, heard_by_changes, heard_from, meaning, meaning_in, meaning_of, one_or_apart, option_map, sender_of, station_at, station_cmp, station_exact, station_total, verdict}
 use Rattle.std.specs.FinMap as maps
-use Rattle.apd_base.specs.Addr.{station_cmp}
-use Rattle.apd_base.specs.State.{State, empty_state, station_at}
-use Rattle.apd_base.specs.declared.address.Addr.{Addr}
-use Rattle.apd_base.specs.declared.address.Bssid.{Bssid}
-use Rattle.apd_base.specs.declared.moment.Moment.{Moment}
-use Rattle.apd_base.proofs.AddrLemmas.{station_total, station_exact}
-use Rattle.apd_base.proofs.MapLemmas.{one_or_apart, get_inserted, get_insert_other}
-use Rattle.apd_conf.specs.declared.conf.Conf.{Conf}
-use Rattle.apd_frame.specs.Contents.{sender_of}
-use Rattle.apd_mlme.specs.Happening.{Happening, Heard, Kick, ListEdit, Expire, Configure}
-use Rattle.apd_mlme.specs.rules.{verdict}
-use Rattle.apd_mlme.proofs.VerdictLemmas.{meaning_in}
-use Rattle.apd_record.specs.declared.change.Change.{Change}
-use Rattle.apd_record.specs.declared.change.Change.TheVariants.{Put, Drop}
-use Rattle.apd_record.specs.Meaning.{meaning, meaning_of}
-use Rattle.apd_core.specs.Heard.{LastHeard, AreHeardAt, AreMomentsOf, heard_by, heard_by_change, heard_by_changes, heard_from}
 
 -- a change that is left, and those behind it
 pub next_change : (changes : List Change) (i : ℕ) (change : Change) → i < length changes → change ≡ get_or changes i change → drop i changes ≡ change ∷ drop (i + 1) changes

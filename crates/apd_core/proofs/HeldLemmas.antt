@@ -1,32 +1,20 @@
 -- What is held: each recipient's queue, the entries that are kept, and the greatest number given, after each change.
 use Rattle.std.proofs.Common.{◌≡◌, ℕ, ◌+◌, ◌-◌, ◌<◌, ◌≤◌, zero, suc, Bool, true, false, cond, List, [], ◌∷◌, ◌++◌, length, map, Option, Some, None, IsSome, Result, Ok, Err, OnOk, OnErr, inl, inr, refl, sym, ap, subst, ◌∙◌, arith, get_or, set}
 use Rattle.std.specs.Prelude.{nat_le, nat_lt, ◌==◌, filter}
-use Rattle.std.specs.List.{AllByRecursion}
-use Rattle.std.specs.Ordering.{nat_cmp, eq_by_cmp}
-use Rattle.std.specs.Cmp.{nat_cmp_total}
+use Rattle.apd_core.proofs.Words.{AllByRecursion, AreHeld, AreThere, Conf, FinMap, HeldOuts, IsInOrder, IsThere, MayFollow, Out, Queue, Recipient, after_given, after_hand, after_settled, append-nil, append_assoc, before, beyond, cases_eq, cases_lt, eq-eqb, eq_by_cmp, get-empty, greatest_number, is_same, le-leb, le-ltb, leb-true, left_after_settled, less_one, lt-leb, lt-ltb, nat_cmp, nat_cmp-IsAntisymmetric, nat_cmp_total, ne_eqb, no_outs, no_queues, outs_in, outs_of, outs_to, queue_at, queue_of, queue_place, queues_after_hand, queues_with_out, queues_with_outs, up_to, with_outs, without}
 use Rattle.std.specs.FinMap as maps
-use Rattle.std.specs.FinMap.{FinMap, nat_cmp-IsAntisymmetric, get-empty}
-use Rattle.std.proofs.lemmas.Bool.{leb-true, le-leb, lt-leb, lt-ltb, le-ltb, eq-eqb, ne_eqb, cases_lt, cases_eq}
-use Rattle.std.proofs.lemmas.List.{append-nil, append_assoc}
 use Rattle.apd_base.proofs.MapLemmas as at
-use Rattle.apd_conf.specs.declared.conf.Conf.{Conf}
-use Rattle.apd_mlme.specs.declared.decision.Recipient.{Recipient}
-use Rattle.apd_mlme.specs.declared.decision.Out.{Out}
-use Rattle.apd_mlme.specs.Outs.{is_same, outs_to}
-use Rattle.apd_mlme.specs.laws.Outs.{IsThere, AreThere}
-use Rattle.apd_core.specs.Held.{Queue, HeldOuts, queue_place, queue_at, queue_of, no_queues, no_outs, queued_at, queued, with_outs, up_to, beyond, less_one, after_given, greatest, given_at, after_hand, settled_left, after_settled, outs_in, outs_of, IsInOrder, AreHeld}
-use Rattle.apd_core.specs.TakingBack.{before, without, MayFollow}
 use Rattle.apd_core.proofs.Places.{there, same_recipient, apart, some_is}
-use Rattle.apd_core.proofs.Queues.{all_get, all_set, all_weaker, added_same, added_elsewhere, length-queued_at, given_same, given_elsewhere, length-given_at, in_order_filter, in_order_push, outs_in-cons, counts, counts_not, outs_of-cons, outs_of-given, outs_of-queued_at, before-queued_at, before_each, given_step, same_step, outs_of-before, in_order_before, below, all_push}
+use Rattle.apd_core.proofs.Queues.{all_get, all_set, all_weaker, added_same, added_elsewhere, length-queues_with_out, given_same, given_elsewhere, length-queues_after_hand, in_order_filter, in_order_push, outs_in-cons, counts, counts_not, outs_of-cons, outs_of-queues_after_hand, outs_of-queues_with_out, before-queues_with_out, before_each, given_step, same_step, outs_of-before, in_order_before, below, all_push}
 use Rattle.apd_core.proofs.TreeMaps.{remove_back}
 
 -- the number of queues stays
-pub length-queued : (confs : List Conf) (k : ℕ) (outs : List (Recipient × Out)) (qs : List Queue) → length (queued confs k outs qs) ≡ length qs
-length-queued confs k [] qs = refl
-length-queued confs k (x ∷ xs) qs = length-queued confs k xs _ ∙ length-queued_at qs (queue_place confs x.0) (k, x.1)
+pub length-queues_with_outs : (confs : List Conf) (k : ℕ) (outs : List (Recipient × Out)) (qs : List Queue) → length (queues_with_outs confs k outs qs) ≡ length qs
+length-queues_with_outs confs k [] qs = refl
+length-queues_with_outs confs k (x ∷ xs) qs = length-queues_with_outs confs k xs _ ∙ length-queues_with_out qs (queue_place confs x.0) (k, x.1)
 
 pub length-after_hand : (confs : List Conf) (n : ℕ) (r : Recipient) (h : HeldOuts) → length (after_hand confs n r h).queues ≡ length h.queues
-length-after_hand confs n r h = length-given_at h.queues (queue_place confs r) n
+length-after_hand confs n r h = length-queues_after_hand h.queues (queue_place confs r) n
 
 pub length-no_queues : (confs : List Conf) → length (no_queues confs) ≡ length confs + 1
 length-no_queues [] = refl
@@ -34,10 +22,10 @@ length-no_queues (c ∷ cs) = omega (arith, length-no_queues cs)
 
 -- a recipient's queue after an entry more is kept
 added : (confs : List Conf) (k : ℕ) (x : Recipient × Out) (qs : List Queue) (r : Recipient) → IsThere confs x → length qs ≡ length confs + 1
-    → queue_at (queued_at qs (queue_place confs x.0) (k, x.1)) (queue_place confs r) ≡ cond (is_same r x.0) (queue_at qs (queue_place confs r) ++ (k, x.1) ∷ []) (queue_at qs (queue_place confs r))
+    → queue_at (queues_with_out qs (queue_place confs x.0) (k, x.1)) (queue_place confs r) ≡ cond (is_same r x.0) (queue_at qs (queue_place confs r) ++ (k, x.1) ∷ []) (queue_at qs (queue_place confs r))
 added confs k x qs r h n =
     let at = there confs x h in
-    elim (is_same r x.0) as (λ t. is_same r x.0 ≡ t → queue_at (queued_at qs (queue_place confs x.0) (k, x.1)) (queue_place confs r) ≡ cond t (queue_at qs (queue_place confs r) ++ (k, x.1) ∷ []) (queue_at qs (queue_place confs r))) [
+    elim (is_same r x.0) as (λ t. is_same r x.0 ≡ t → queue_at (queues_with_out qs (queue_place confs x.0) (k, x.1)) (queue_place confs r) ≡ cond t (queue_at qs (queue_place confs r) ++ (k, x.1) ∷ []) (queue_at qs (queue_place confs r))) [
       | true ↦ λ t. added_same qs (queue_place confs x.0) (queue_place confs r) at.0 (k, x.1) at.1 (same_recipient confs r x.0 t ∙ at.1) (let l : at.0 < length confs + 1 = at.2 in omega arith)
       | false ↦ λ t. added_elsewhere qs (queue_place confs x.0) (queue_place confs r) at.0 (k, x.1) at.1 (λ e. apart confs r x.0 at.0 t e at.1)
     ] refl
@@ -48,10 +36,10 @@ joined true q k x f = append_assoc q ((k, x.1) ∷ []) _
 joined false q k x f = refl
 
 queued_of : (confs : List Conf) (k : ℕ) (outs : List (Recipient × Out)) (qs : List Queue) (r : Recipient) → AreThere confs outs → length qs ≡ length confs + 1
-    → queue_at (queued confs k outs qs) (queue_place confs r) ≡ queue_at qs (queue_place confs r) ++ map (λ o. (k, o)) (outs_to r outs)
+    → queue_at (queues_with_outs confs k outs qs) (queue_place confs r) ≡ queue_at qs (queue_place confs r) ++ map (λ o. (k, o)) (outs_to r outs)
 queued_of confs k [] qs r all n = sym (append-nil _)
 queued_of confs k (x ∷ xs) qs r all n =
-    queued_of confs k xs (queued_at qs (queue_place confs x.0) (k, x.1)) r all.1 (length-queued_at qs (queue_place confs x.0) (k, x.1) ∙ n)
+    queued_of confs k xs (queues_with_out qs (queue_place confs x.0) (k, x.1)) r all.1 (length-queues_with_out qs (queue_place confs x.0) (k, x.1) ∙ n)
     ∙ ap (λ (q : Queue). q ++ map (λ (o : Out). (k, o)) (outs_to r xs)) (added confs k x qs r all.0 n)
     ∙ joined (is_same r x.0) (queue_at qs (queue_place confs r)) k x (filter (λ y. is_same r y.0) xs)
 
@@ -191,7 +179,7 @@ last_kept confs n outs h later k is =
           omega arith
     ]
 
-settled_other : (left : FinMap nat_cmp ℕ) (n k : ℕ) (v : Option ℕ) → (k ≡ n → ⊥) → maps.get (settled_left left n v) k ≡ maps.get left k
+settled_other : (left : FinMap nat_cmp ℕ) (n k : ℕ) (v : Option ℕ) → (k ≡ n → ⊥) → maps.get (left_after_settled left n v) k ≡ maps.get left k
 settled_other left n k None ne = refl
 settled_other left n k (Some c) ne =
     elim (c == 0) as (λ t. maps.get (cond t (maps.remove left n) left) k ≡ maps.get left k) [
@@ -204,7 +192,7 @@ abbrev pub unless_zero : Option ℕ → Option ℕ
 unless_zero None = None
 unless_zero (Some c) = cond (c == 0) None (Some c)
 
-settled_same : (left : FinMap nat_cmp ℕ) (n : ℕ) (v : Option ℕ) → maps.get left n ≡ v → maps.get (settled_left left n v) n ≡ unless_zero v
+settled_same : (left : FinMap nat_cmp ℕ) (n : ℕ) (v : Option ℕ) → maps.get left n ≡ v → maps.get (left_after_settled left n v) n ≡ unless_zero v
 settled_same left n None e = e
 settled_same left n (Some c) e =
     elim (c == 0) as (λ t. maps.get (cond t (maps.remove left n) left) n ≡ cond t None (Some c)) [
@@ -219,18 +207,18 @@ pub get-after_settled : (n : ℕ) (h : HeldOuts) → maps.get (after_settled n h
 get-after_settled n h = settled_same h.left n (maps.get h.left n) refl
 
 -- the greatest number given
-pub greatest_grows : (n : ℕ) (xs : Queue) → n ≤ greatest n xs
+pub greatest_grows : (n : ℕ) (xs : Queue) → n ≤ greatest_number n xs
 greatest_grows n [] = omega arith
 greatest_grows n (x ∷ xs) =
     elim (cases_lt x.0 n) [
-      | inl h ↦ subst (λ (b : Bool). n ≤ greatest (cond b x.0 n) xs) (sym (lt-leb n x.0 h)) (greatest_grows n xs)
-      | inr h ↦ subst (λ (b : Bool). n ≤ greatest (cond b x.0 n) xs) (sym (le-leb n x.0 h)) (omega (arith, greatest_grows x.0 xs, h))
+      | inl h ↦ subst (λ (b : Bool). n ≤ greatest_number (cond b x.0 n) xs) (sym (lt-leb n x.0 h)) (greatest_grows n xs)
+      | inr h ↦ subst (λ (b : Bool). n ≤ greatest_number (cond b x.0 n) xs) (sym (le-leb n x.0 h)) (omega (arith, greatest_grows x.0 xs, h))
     ]
 
-greatest_within : (m n : ℕ) (xs : Queue) → n ≤ m → AllByRecursion (λ x. x.0 ≤ m) xs → greatest n xs ≤ m
+greatest_within : (m n : ℕ) (xs : Queue) → n ≤ m → AllByRecursion (λ x. x.0 ≤ m) xs → greatest_number n xs ≤ m
 greatest_within m n [] h all = h
 greatest_within m n (x ∷ xs) h all =
-    elim (nat_le n x.0) as (λ b. greatest (cond b x.0 n) xs ≤ m) [ true ↦ greatest_within m x.0 xs all.0 all.1 | false ↦ greatest_within m n xs h all.1 ]
+    elim (nat_le n x.0) as (λ b. greatest_number (cond b x.0 n) xs ≤ m) [ true ↦ greatest_within m x.0 xs all.0 all.1 | false ↦ greatest_within m n xs h all.1 ]
 
 all_up_to : (n : ℕ) (q : Queue) → AllByRecursion (λ x. x.0 ≤ n) (up_to n q)
 all_up_to n [] = tt
@@ -244,9 +232,9 @@ pub given_within : (confs : List Conf) (n : ℕ) (r : Recipient) (h : HeldOuts) 
 given_within confs n r h l = greatest_within n h.given (up_to n (queue_of confs h r)) l (all_up_to n (queue_of confs h r))
 
 -- an entry that was just kept, taken back
-before-queued : (confs : List Conf) (n : ℕ) (outs : List (Recipient × Out)) (qs : List Queue) → map (before n) (queued confs n outs qs) ≡ map (before n) qs
-before-queued confs n [] qs = refl
-before-queued confs n (x ∷ xs) qs = before-queued confs n xs _ ∙ before-queued_at n qs (queue_place confs x.0) (n, x.1) (omega arith)
+before-queues_with_outs : (confs : List Conf) (n : ℕ) (outs : List (Recipient × Out)) (qs : List Queue) → map (before n) (queues_with_outs confs n outs qs) ≡ map (before n) qs
+before-queues_with_outs confs n [] qs = refl
+before-queues_with_outs confs n (x ∷ xs) qs = before-queues_with_outs confs n xs _ ∙ before-queues_with_out n qs (queue_place confs x.0) (n, x.1) (omega arith)
 
 none_of : {A : Type 0} (o : Option A) → (IsSome o → ⊥) → None ≡ o
 none_of None h = refl
@@ -255,8 +243,8 @@ none_of (Some a) h = absurd (h refl)
 pub held_below : (h : HeldOuts) (n : ℕ) → AreHeld h → ((k : ℕ) → IsSome (maps.get h.left k) → k < n) → AllByRecursion (λ q. AllByRecursion (λ x. x.0 < n) q) h.queues
 held_below h n held later = below n h.queues (λ k p. later k (held.known k p))
 
-pub queues_back : (confs : List Conf) (n : ℕ) (outs : List (Recipient × Out)) (h : HeldOuts) → AreHeld h → ((k : ℕ) → IsSome (maps.get h.left k) → k < n) → map (before n) (queued confs n outs h.queues) ≡ h.queues
-queues_back confs n outs h held later = before-queued confs n outs h.queues ∙ before_each n h.queues (held_below h n held later)
+pub queues_back : (confs : List Conf) (n : ℕ) (outs : List (Recipient × Out)) (h : HeldOuts) → AreHeld h → ((k : ℕ) → IsSome (maps.get h.left k) → k < n) → map (before n) (queues_with_outs confs n outs h.queues) ≡ h.queues
+queues_back confs n outs h held later = before-queues_with_outs confs n outs h.queues ∙ before_each n h.queues (held_below h n held later)
 
 pub left_back : (n count : ℕ) (h : HeldOuts) → ((k : ℕ) → IsSome (maps.get h.left k) → k < n) → maps.remove (maps.insert h.left n count) n ≡ h.left
 left_back n count h later = remove_back nat_cmp_total nat_cmp-IsAntisymmetric h.left n count (none_of (maps.get h.left n) (λ is. let l : n < n = later n is in omega arith))
@@ -273,7 +261,7 @@ none_of_outs : (k : ℕ) (confs : List Conf) → outs_of k (no_queues confs) ≡
 none_of_outs k [] = refl
 none_of_outs k (c ∷ cs) = outs_of-cons k [] (no_queues cs) ∙ (omega (arith, none_of_outs k cs))
 
-given_in_order : (n : ℕ) (qs : List Queue) (p : Option ℕ) → AllByRecursion IsInOrder qs → AllByRecursion IsInOrder (given_at qs p n)
+given_in_order : (n : ℕ) (qs : List Queue) (p : Option ℕ) → AllByRecursion IsInOrder qs → AllByRecursion IsInOrder (queues_after_hand qs p n)
 given_in_order n qs None all = all
 given_in_order n qs (Some i) all = all_set IsInOrder qs i (beyond n (get_or qs i [])) all (in_order_filter (λ x. nat_lt n x.0) (get_or qs i []) (all_get IsInOrder qs i [] all tt))
 
@@ -285,19 +273,19 @@ nothing_more : (t : Bool) (a : ℕ) → a ≡ a + cond t 0 0
 nothing_more true a = omega arith
 nothing_more false a = omega arith
 
-outs_of-queued : (confs : List Conf) (n k : ℕ) (outs : List (Recipient × Out)) (qs : List Queue) → AreThere confs outs → length qs ≡ length confs + 1
-    → outs_of k (queued confs n outs qs) ≡ outs_of k qs + cond (n == k) (length outs) 0
-outs_of-queued confs n k [] qs all size = nothing_more (n == k) _
-outs_of-queued confs n k (x ∷ xs) qs all size =
+outs_of-queues_with_outs : (confs : List Conf) (n k : ℕ) (outs : List (Recipient × Out)) (qs : List Queue) → AreThere confs outs → length qs ≡ length confs + 1
+    → outs_of k (queues_with_outs confs n outs qs) ≡ outs_of k qs + cond (n == k) (length outs) 0
+outs_of-queues_with_outs confs n k [] qs all size = nothing_more (n == k) _
+outs_of-queues_with_outs confs n k (x ∷ xs) qs all size =
     let at = there confs x all.0 in
-    sums (n == k) _ _ _ (length xs) (outs_of-queued confs n k xs (queued_at qs (queue_place confs x.0) (n, x.1)) all.1 (length-queued_at qs (queue_place confs x.0) (n, x.1) ∙ size))
-    (outs_of-queued_at k qs (queue_place confs x.0) at.0 (n, x.1) at.1 (let l : at.0 < length confs + 1 = at.2 in omega arith))
+    sums (n == k) _ _ _ (length xs) (outs_of-queues_with_outs confs n k xs (queues_with_out qs (queue_place confs x.0) (n, x.1)) all.1 (length-queues_with_out qs (queue_place confs x.0) (n, x.1) ∙ size))
+    (outs_of-queues_with_out k qs (queue_place confs x.0) at.0 (n, x.1) at.1 (let l : at.0 < length confs + 1 = at.2 in omega arith))
 
 pub may_follow : (n : ℕ) (qs : List Queue) → AllByRecursion IsInOrder qs → AllByRecursion (λ q. AllByRecursion (λ x. x.0 < n) q) qs → AllByRecursion (MayFollow n) qs
 may_follow n [] order low = tt
 may_follow n (q ∷ qs) order low = ((order.0, all_weaker (λ (x : ℕ × Out). x.0 < n) (λ x. x.0 ≤ n) (λ x h. omega arith) q low.0), may_follow n qs order.1 low.1)
 
-pub follow_more : (n : ℕ) (qs : List Queue) (p : Option ℕ) (o : Out) → AllByRecursion (MayFollow n) qs → AllByRecursion (MayFollow n) (queued_at qs p (n, o))
+pub follow_more : (n : ℕ) (qs : List Queue) (p : Option ℕ) (o : Out) → AllByRecursion (MayFollow n) qs → AllByRecursion (MayFollow n) (queues_with_out qs p (n, o))
 follow_more n qs None o all = all
 follow_more n qs (Some i) o all =
     let at = all_get (MayFollow n) qs i [] all (tt, tt) in
@@ -306,7 +294,7 @@ follow_more n qs (Some i) o all =
 pub follow_order : (n : ℕ) (qs : List Queue) → AllByRecursion (MayFollow n) qs → AllByRecursion IsInOrder qs
 follow_order n qs all = all_weaker (MayFollow n) IsInOrder (λ q f. f.0) qs all
 
-queued_in_order : (confs : List Conf) (n : ℕ) (outs : List (Recipient × Out)) (qs : List Queue) → AllByRecursion (MayFollow n) qs → AllByRecursion IsInOrder (queued confs n outs qs)
+queued_in_order : (confs : List Conf) (n : ℕ) (outs : List (Recipient × Out)) (qs : List Queue) → AllByRecursion (MayFollow n) qs → AllByRecursion IsInOrder (queues_with_outs confs n outs qs)
 queued_in_order confs n [] qs all = follow_order n qs all
 queued_in_order confs n (x ∷ xs) qs all = queued_in_order confs n xs _ (follow_more n qs (queue_place confs x.0) x.1 all)
 
@@ -329,7 +317,7 @@ held_none confs = record {
 pub held_after_hand : (confs : List Conf) (n : ℕ) (r : Recipient) (h : HeldOuts) → AreHeld h → AreHeld (after_hand confs n r h)
 held_after_hand confs n r h held =
     let p = queue_place confs r in
-    let parts = λ (k : ℕ). outs_of-given k n h.queues p in
+    let parts = λ (k : ℕ). outs_of-queues_after_hand k n h.queues p in
     record {
       in_order = given_in_order n h.queues p held.in_order;
       counted = λ k count e.
@@ -346,7 +334,7 @@ held_after_hand confs n r h held =
 pub held_with_outs : (confs : List Conf) (n : ℕ) (outs : List (Recipient × Out)) (h : HeldOuts) → AreHeld h → AreThere confs outs → length h.queues ≡ length confs + 1 → ((k : ℕ) → IsSome (maps.get h.left k) → k < n)
     → AreHeld (with_outs confs n outs h)
 held_with_outs confs n outs h held all size later =
-    let more = λ (k : ℕ). outs_of-queued confs n k outs h.queues all size in
+    let more = λ (k : ℕ). outs_of-queues_with_outs confs n k outs h.queues all size in
     record {
       in_order = queued_in_order confs n outs h.queues (may_follow n h.queues held.in_order (held_below h n held later));
       counted = λ k count e. elim (cases_eq n k) [
@@ -420,15 +408,15 @@ same_held a b l m g j e f i = λ t. record { queues = e t; left = f t; given = i
 
 -- what a queue's outs given leave, whether there was memory or not
 pub given_held : {A E : Type 0} (confs : List Conf) (n : ℕ) (to : Recipient) (h : HeldOuts) (r : Result A E) (i : ℕ) (q new : Queue) (left : FinMap nat_cmp ℕ) (given : ℕ)
-    → Some i ≡ queue_place confs to → q ≡ get_or h.queues i [] → OnOk r (new ≡ beyond n q) → OnOk r (left ≡ after_given h.left (up_to n q)) → OnOk r (given ≡ greatest h.given (up_to n q))
+    → Some i ≡ queue_place confs to → q ≡ get_or h.queues i [] → OnOk r (new ≡ beyond n q) → OnOk r (left ≡ after_given h.left (up_to n q)) → OnOk r (given ≡ greatest_number h.given (up_to n q))
     → OnOk r (◌≡◌ {A = HeldOuts} (record { queues = set h.queues i new; left = left; given = given }) (after_hand confs n to h))
 given_held confs n to h (Err x) i q new left given e at a b c = tt
 given_held confs n to h (Ok x) i q new left given e at a b c =
     let same : q ≡ queue_of confs h to = at ∙ ap (queue_at h.queues) e in
-    same_held _ _ _ _ _ _ (given_step h.queues (queue_place confs to) i n q new e at a) (b ∙ ap (λ (z : Queue). after_given h.left (up_to n z)) same) (c ∙ ap (λ (z : Queue). greatest h.given (up_to n z)) same)
+    same_held _ _ _ _ _ _ (given_step h.queues (queue_place confs to) i n q new e at a) (b ∙ ap (λ (z : Queue). after_given h.left (up_to n z)) same) (c ∙ ap (λ (z : Queue). greatest_number h.given (up_to n z)) same)
 
 pub after_give : {A E : Type 0} (confs : List Conf) (n : ℕ) (to : Recipient) (h : HeldOuts) (r : Result A E) (i : ℕ) (q new : Queue) (left : FinMap nat_cmp ℕ) (given : ℕ)
-    → Some i ≡ queue_place confs to → q ≡ get_or h.queues i [] → OnOk r (new ≡ beyond n q) → OnOk r (left ≡ after_given h.left (up_to n q)) → OnOk r (given ≡ greatest h.given (up_to n q))
+    → Some i ≡ queue_place confs to → q ≡ get_or h.queues i [] → OnOk r (new ≡ beyond n q) → OnOk r (left ≡ after_given h.left (up_to n q)) → OnOk r (given ≡ greatest_number h.given (up_to n q))
     → OnErr r ((new ≡ q) × (left ≡ h.left) × (given ≡ h.given)) → AreHeld h
     → AreHeld (record { queues = set h.queues i new; left = left; given = given })
 after_give confs n to h (Err x) i q new left given e at a b c f held = held_same _ _ _ _ _ _ (same_step h.queues i q new at f.0) f.1 f.2 held

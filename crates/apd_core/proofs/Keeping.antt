@@ -1,38 +1,13 @@
 -- What every core is, each call keeps.
 use Rattle.std.proofs.Common.{◌≡◌, ◌≢◌, ℕ, suc, ◌+◌, ◌<◌, ◌≤◌, ◌^◌, false, cond, List, [], ◌∷◌, ◌++◌, length, Option, Some, None, IsSome, is_some, inl, inr, refl, sym, ap, subst, ◌∙◌, arith, append_assoc, length-append}
 use Rattle.std.specs.Prelude.{map, nat_le}
-use Rattle.std.specs.Ordering.{nat_cmp}
+use Rattle.apd_core.proofs.Words.{AreConfs, AreDecided, AreMomentsOf, AreThere, Change, Conf, CoreState, Happening, IsCore, IsFit, LastHeard, Moment, Out, Queue, Recipient, Sound, State, Unsettled, append-nil, cases_eq, changes_of, filter-append, front_of, is_busy, kept_count, last_of, leb-false, lt-leb, meaning_in, meaning_of, meaning_of-append, nat_cmp, nat_cmp-IsAntisymmetric, nat_cmp_total, new_core, numbered_outs, outs_to, queue_of, run, up_to, verdict, with_entry, with_sender}
 use Rattle.std.specs.FinMap as maps
-use Rattle.std.specs.FinMap.{nat_cmp-IsAntisymmetric}
-use Rattle.std.specs.Cmp.{nat_cmp_total}
-use Rattle.std.proofs.lemmas.List.{append-nil}
-use Rattle.std.proofs.lemmas.List.Elements.{filter-append}
-use Rattle.std.proofs.lemmas.Bool.{leb-false, lt-leb, cases_eq}
 use Rattle.apd_base.specs.declared.limits.TheConstants.{MAX_KEPT}
-use Rattle.apd_base.specs.declared.moment.Moment.{Moment}
-use Rattle.apd_base.specs.State.{State}
 use Rattle.apd_base.proofs.MapLemmas as at
-use Rattle.apd_conf.specs.Confs.{AreConfs}
-use Rattle.apd_conf.specs.declared.conf.Conf.{Conf}
-use Rattle.apd_mlme.specs.Happening.{Happening}
-use Rattle.apd_mlme.specs.declared.decision.Recipient.{Recipient}
-use Rattle.apd_mlme.specs.declared.decision.Out.{Out}
-use Rattle.apd_mlme.specs.Outs.{outs_to}
-use Rattle.apd_mlme.specs.rules.{verdict, IsFit}
-use Rattle.apd_mlme.specs.Run.{run}
-use Rattle.apd_mlme.specs.laws.Outs.{AreThere}
-use Rattle.apd_mlme.proofs.VerdictLemmas.{meaning_in}
-use Rattle.apd_record.specs.Meaning.{meaning_of}
-use Rattle.apd_record.specs.declared.change.Change.{Change}
-use Rattle.apd_table.specs.Sound.{Sound}
-use Rattle.apd_table.proofs.Denied.{meaning_of-append}
-use Rattle.apd_core.specs.Core.{CoreState, changes_of, front_of, last_of, kept, is_busy, new_core, with_entry, with_sender}
-use Rattle.apd_core.specs.Heard.{AreMomentsOf, LastHeard}
-use Rattle.apd_core.specs.Held.{Queue, queue_of, up_to}
-use Rattle.apd_core.specs.Invariant.{IsCore, Unsettled, AreDecided, numbered_outs}
 use Rattle.apd_core.proofs.Hearing.{after_changes, after_sender}
 use Rattle.apd_core.proofs.Places.{some_is}
-use Rattle.apd_core.proofs.HeldLemmas.{held_none, length-no_queues, queue_of-no_outs, length-queued, queue_of-with_outs, last_kept, held_with_outs}
+use Rattle.apd_core.proofs.HeldLemmas.{held_none, length-no_queues, queue_of-no_outs, length-queues_with_outs, queue_of-with_outs, last_kept, held_with_outs}
 
 -- ---- entries one after another
 pub changes_of-append : (xs ys : List (List Change)) → changes_of (xs ++ ys) ≡ changes_of xs ++ changes_of ys
@@ -153,11 +128,11 @@ module _ (s : CoreState) (m : Moment) (h : Happening) (core : IsCore s) (there :
   own_kept : IsSome (maps.get more.held.left number)
   own_kept = some_same _ _ (sym (at.get_inserted nat_cmp_total nat_cmp-IsAntisymmetric s.held.left number _)) refl
 
-  few_kept : kept more ≤ MAX_KEPT
+  few_kept : kept_count more ≤ MAX_KEPT
   few_kept =
       let absent : maps.contains_key s.held.left number ≡ false = not_some _ (λ is. let l = later number is in absurd (omega arith)) in
-      let size : kept more ≡ kept s + 1 = maps.len-insert nat_cmp_total s.held.left number _ ∙ ap (λ b. cond b (kept s) (kept s + 1)) absent in
-      let room : kept s < MAX_KEPT = leb-false MAX_KEPT (kept s) free in
+      let size : kept_count more ≡ kept_count s + 1 = maps.len-insert nat_cmp_total s.held.left number _ ∙ ap (λ b. cond b (kept_count s) (kept_count s + 1)) absent in
+      let room : kept_count s < MAX_KEPT = leb-false MAX_KEPT (kept_count s) free in
       omega arith
 
   pub entry_core : IsFit (front_of s) s.confs h → last_of s + 1 < 2 ^ 64 → IsCore more
@@ -172,7 +147,7 @@ module _ (s : CoreState) (m : Moment) (h : Happening) (core : IsCore s) (there :
         in_flight = omega (arith, one_more);
         numbers = omega (arith, last_more);
         moments = subst (λ (t : State). AreMomentsOf t more.heard) (sym (meaning-push s.unsettled v.changes s.settled)) (after_changes m v.changes (front_of s) s.heard core.moments);
-        queues = length-queued s.confs number v.outs s.held.queues ∙ core.queues;
+        queues = length-queues_with_outs s.confs number v.outs s.held.queues ∙ core.queues;
         held = held;
         kept_unsettled = λ k above below.
             elim (cases_eq k number) [

@@ -1,31 +1,9 @@
 -- A core's fields keep what they should.
 use Rattle.std.proofs.Common.{◌≡◌, ℕ, ◌+◌, ◌<◌, ◌≤◌, ◌^◌, false, List, [], ◌∷◌, ◌++◌, length, take, IsSome, Result, Ok, Err, OnOk, OnErr, refl, sym, ap, subst, ◌∙◌, arith}
 use Rattle.std.specs.Prelude.{min, ◌-◌}
-use Rattle.std.specs.List.{AllByRecursion}
+use Rattle.apd_core.proofs.Words.{AllByRecursion, AreChanges, AreConfs, AreMomentsOf, Conf, CoreState, Entry, Happening, HeldOuts, Inside, IsCore, IsFit, IsKept, IsMeasured, Moment, Out, Recipient, Sound, State, after_hand, after_handing_out, changes_of, core_of, entries_of, front_of, heard_by_changes, is_busy, last_of, map-append, meaning_of, new_core, no_outs, records_of, take-append-le, verdict, verdict_there, with_entry, with_outs, with_sender, without}
 use Rattle.std.specs.FinMap as maps
-use Rattle.std.proofs.lemmas.List.{map-append, take-append-le}
-use Rattle.apd_base.specs.declared.moment.Moment.{Moment}
-use Rattle.apd_base.specs.State.{State}
-use Rattle.apd_mlme.specs.Happening.{Happening}
-use Rattle.apd_mlme.specs.declared.decision.Out.{Out}
-use Rattle.apd_mlme.specs.declared.decision.Recipient.{Recipient}
-use Rattle.apd_mlme.specs.rules.{verdict, IsFit}
-use Rattle.apd_mlme.proofs.TrueOutsLemmas.{verdict_there}
-use Rattle.apd_record.specs.Meaning.{meaning_of}
-use Rattle.apd_record.specs.Ranges.{AreChanges}
-use Rattle.apd_record.specs.Record.{records_of}
 use Rattle.apd_mlme.specs.declared.decision.TheConstants.{MAX_RECORDS}
-use Rattle.apd_conf.specs.Confs.{AreConfs}
-use Rattle.apd_conf.specs.declared.conf.Conf.{Conf}
-use Rattle.apd_table.specs.Sound.{Sound}
-use Rattle.apd_core.specs.Core.{CoreState, changes_of, front_of, last_of, is_busy, new_core, with_entry, with_sender, handed}
-use Rattle.apd_core.specs.Fields.{core_of, entries_of, IsKept, IsMeasured}
-use Rattle.apd_core.specs.Heard.{AreMomentsOf, heard_by_changes}
-use Rattle.apd_core.specs.Held.{HeldOuts, no_outs, with_outs, after_hand}
-use Rattle.apd_core.specs.Invariant.{IsCore}
-use Rattle.apd_core.specs.TakingBack.{without}
-use Rattle.apd_core.specs.declared.entry.Entry.{Entry}
-use Rattle.apd_core.specs.declared.request_core.Core.TheInside.{Inside}
 use Rattle.apd_core.proofs.HeldLemmas.{last_kept, without-with_outs}
 use Rattle.apd_core.proofs.Keeping.{entry_core, new_is_core, sender_core, meaning-push, one_more}
 use Rattle.apd_core.proofs.Settling.{handed_core}
@@ -122,7 +100,7 @@ pub handed_kept : {A E : Type 0} (c d : Inside) (to : Recipient) (r : Result A E
 handed_kept c d to (Ok v) kept ok err same =
     let e : d ≡ record c { held = after_hand c.confs c.number to c.held } = same ∙ ap (λ (hs : HeldOuts). record c { held = hs }) ok in
     subst IsKept (sym e)
-    (kept_from _ (handed to (core_of c)) refl (handed_core (core_of c) to kept.core) kept.front_is kept.last_is kept.batch_is kept.measured)
+    (kept_from _ (after_handing_out to (core_of c)) refl (handed_core (core_of c) to kept.core) kept.front_is kept.last_is kept.batch_is kept.measured)
 handed_kept c d to (Err x) kept ok err same = subst IsKept (sym (same ∙ ap (λ (hs : HeldOuts). record c { held = hs }) err)) kept
 
 -- ---- an entry is refused memory: its outs, that were kept already, are taken back

@@ -1,22 +1,7 @@
 -- Moments that are laid down before the rows of a table change become those that the changes leave, or those that were.
 use Rattle.std.proofs.Common.{◌≡◌, ℕ, zero, suc, Bool, true, false, cond, ◌||◌, List, [], ◌∷◌, drop, Option, Some, None, is_some, IsSome, Result, Ok, Err, IsOk, OnOk, ◌⊎◌, inl, inr, refl, sym, ap, subst, ◌∙◌}
 use Rattle.std.specs.FinMap as maps
-use Rattle.std.specs.List.{list_any}
-use Rattle.std.specs.Ordering.{eq_by_cmp}
-use Rattle.apd_base.specs.Addr.{station_cmp}
-use Rattle.apd_base.specs.State.{State}
-use Rattle.apd_base.specs.declared.address.Addr.{Addr}
-use Rattle.apd_base.specs.declared.address.Bssid.{Bssid}
-use Rattle.apd_base.specs.declared.moment.Moment.{Moment}
-use Rattle.apd_base.proofs.AddrLemmas.{station_total, station_exact}
-use Rattle.apd_base.proofs.Cases.{differ, no_value, none_is, second_true}
-use Rattle.apd_base.proofs.MapLemmas.{get_insert_other, one_or_apart, tied}
-use Rattle.apd_record.specs.Meaning.{meaning_of}
-use Rattle.apd_record.specs.declared.change.Change.{Change}
-use Rattle.apd_record.specs.declared.change.Change.TheVariants.{Put, Drop}
-use Rattle.apd_core.specs.Heard.{LastHeard, AreMomentsOf, heard_by_change, heard_by_changes}
-use Rattle.apd_core.specs.ChangedRows.{drops_row, is_drop_of, is_of, is_put_of, puts_row, touches_row}
-use Rattle.apd_core.specs.LaidDown.{AreLaidDown, tidied}
+use Rattle.apd_core.proofs.Words.{Addr, AreLaidDown, AreMomentsOf, Bssid, Change, Drop, LastHeard, Moment, Put, State, differ, eq_by_cmp, get_insert_other, heard_by_change, heard_by_changes, is_of, is_put_of, list_any, meaning_of, moment_left, no_value, none_is, one_or_apart, puts_row, second_true, station_cmp, station_exact, station_total, tied, touches_row}
 use Rattle.apd_core.proofs.Hearing.{after_changes}
 
 abbrev Key : Type 0
@@ -75,13 +60,13 @@ stamped_twice true true m o = refl
 stamped_twice true false m o = refl
 stamped_twice false q m o = refl
 
-tidied_twice : (p q t : Bool) (o : Option Moment) → tidied q t (tidied p t o) ≡ tidied (p || q) t o
+tidied_twice : (p q t : Bool) (o : Option Moment) → moment_left q t (moment_left p t o) ≡ moment_left (p || q) t o
 tidied_twice p q true o = refl
 tidied_twice true true false o = refl
 tidied_twice true false false o = refl
 tidied_twice false q false o = refl
 
-pub nothing_tidied : (t : Bool) (o : Option Moment) → tidied false t o ≡ o
+pub nothing_tidied : (t : Bool) (o : Option Moment) → moment_left false t o ≡ o
 nothing_tidied true o = refl
 nothing_tidied false o = refl
 
@@ -96,11 +81,11 @@ module _ (changes : List Change) (i : ℕ) (change : Change) (rest : List Change
       ap (cond (list_any (is_put_of k) rest) (Some m)) here ∙ stamped_twice (is_put_of k change) (list_any (is_put_of k) rest) m now
       ∙ ap (λ cs. cond (list_any (is_put_of k) cs) (Some m) now) (sym left) ∙ so_far
 
-  pub tidied_on : (p : Change → Bool) (t : Bool) (now new end : Option Moment) → new ≡ tidied (p change) t now
-      → tidied (list_any p (drop i changes)) t now ≡ end → tidied (list_any p rest) t new ≡ end
+  pub tidied_on : (p : Change → Bool) (t : Bool) (now new end : Option Moment) → new ≡ moment_left (p change) t now
+      → moment_left (list_any p (drop i changes)) t now ≡ end → moment_left (list_any p rest) t new ≡ end
   tidied_on p t now new end here so_far =
-      ap (tidied (list_any p rest) t) here ∙ tidied_twice (p change) (list_any p rest) t now
-      ∙ ap (λ cs. tidied (list_any p cs) t now) (sym left) ∙ so_far
+      ap (moment_left (list_any p rest) t) here ∙ tidied_twice (p change) (list_any p rest) t now
+      ∙ ap (λ cs. moment_left (list_any p cs) t now) (sym left) ∙ so_far
 
   -- a row that a change puts is one that all put
   pub put_of_all : is_put_of k change ≡ true → puts_row changes k ≡ true
@@ -134,19 +119,19 @@ module _ (k key : Key) where
   module _ (s : State) (old : LastHeard) where
     -- a row that is not in the table loses its moment
     pub tidied_removed : (new : LastHeard) → new ≡ maps.remove old key → is_some (maps.get s.stations key) ≡ false
-        → maps.get new k ≡ tidied (eq_by_cmp station_cmp k key) (is_some (maps.get s.stations k)) (maps.get old k)
+        → maps.get new k ≡ moment_left (eq_by_cmp station_cmp k key) (is_some (maps.get s.stations k)) (maps.get old k)
     tidied_removed new e none =
         ap (λ heard. maps.get heard k) e ∙ maps.get-remove station_total old key k
-        ∙ elim (eq_by_cmp station_cmp k key) as (λ t. eq_by_cmp station_cmp k key ≡ t → cond t None (maps.get old k) ≡ tidied t (is_some (maps.get s.stations k)) (maps.get old k)) [
-          | true ↦ λ same. sym (ap (λ t. tidied true t (maps.get old k)) (ap (λ q. is_some (maps.get s.stations q)) (same_key same) ∙ none))
+        ∙ elim (eq_by_cmp station_cmp k key) as (λ t. eq_by_cmp station_cmp k key ≡ t → cond t None (maps.get old k) ≡ moment_left t (is_some (maps.get s.stations k)) (maps.get old k)) [
+          | true ↦ λ same. sym (ap (λ t. moment_left true t (maps.get old k)) (ap (λ q. is_some (maps.get s.stations q)) (same_key same) ∙ none))
           | false ↦ λ _. sym (nothing_tidied (is_some (maps.get s.stations k)) (maps.get old k))
         ] refl
 
     -- and one that is keeps it
-    pub tidied_kept : is_some (maps.get s.stations key) ≡ true → maps.get old k ≡ tidied (eq_by_cmp station_cmp k key) (is_some (maps.get s.stations k)) (maps.get old k)
+    pub tidied_kept : is_some (maps.get s.stations key) ≡ true → maps.get old k ≡ moment_left (eq_by_cmp station_cmp k key) (is_some (maps.get s.stations k)) (maps.get old k)
     tidied_kept some =
-        elim (eq_by_cmp station_cmp k key) as (λ t. eq_by_cmp station_cmp k key ≡ t → maps.get old k ≡ tidied t (is_some (maps.get s.stations k)) (maps.get old k)) [
-          | true ↦ λ same. sym (ap (λ t. tidied true t (maps.get old k)) (ap (λ q. is_some (maps.get s.stations q)) (same_key same) ∙ some))
+        elim (eq_by_cmp station_cmp k key) as (λ t. eq_by_cmp station_cmp k key ≡ t → maps.get old k ≡ moment_left t (is_some (maps.get s.stations k)) (maps.get old k)) [
+          | true ↦ λ same. sym (ap (λ t. moment_left true t (maps.get old k)) (ap (λ q. is_some (maps.get s.stations q)) (same_key same) ∙ some))
           | false ↦ λ _. sym (nothing_tidied (is_some (maps.get s.stations k)) (maps.get old k))
         ] refl
 
@@ -209,46 +194,6 @@ puts_are_touches k (change ∷ changes) e =
       | false ↦ λ _. puts_are_touches k changes (neither (is_of k change) (touches_row changes k) e).1
     ] refl
 
--- a row that is neither put nor dropped isn't touched
-neither_touches : (k : Key) (change : Change) → is_put_of k change ≡ false → is_drop_of k change ≡ false → is_of k change ≡ false
-neither_touches k (Put b a station) e f = e
-neither_touches k (Drop b a) e f = f
-neither_touches k other e f = e
-
-none_touches : (k : Key) (changes : List Change) → puts_row changes k ≡ false → drops_row changes k ≡ false → touches_row changes k ≡ false
-none_touches k [] e f = e
-none_touches k (change ∷ changes) e f =
-    let put = neither (is_put_of k change) (puts_row changes k) e in
-    let dropped = neither (is_drop_of k change) (drops_row changes k) f in
-    ap (λ t. t || touches_row changes k) (neither_touches k change put.0 dropped.0) ∙ none_touches k changes put.1 dropped.1
-
--- a row that is put, and not dropped, has a moment
-module _ (m : Moment) (k : Key) where
-  here_after : (change : Change) (heard : LastHeard) → is_drop_of k change ≡ false → IsSome (maps.get heard k) → IsSome (maps.get (heard_by_change m change heard) k)
-  here_after (Put b a station) heard e some =
-      subst IsSome (sym (maps.get-insert station_total heard (b, a) m k)) (elim (eq_by_cmp station_cmp k (b, a)) as (λ t. IsSome (cond t (Some m) (maps.get heard k))) [ true ↦ refl | false ↦ some ])
-  here_after (Drop b a) heard e some = subst IsSome (sym (maps.get-remove station_total heard (b, a) k ∙ ap (λ t. cond t None (maps.get heard k)) e)) some
-  here_after other heard e some = some
-
-  put_here : (change : Change) (heard : LastHeard) → is_put_of k change ≡ true → IsSome (maps.get (heard_by_change m change heard) k)
-  put_here (Put b a station) heard e = subst IsSome (sym (maps.get-insert station_total heard (b, a) m k ∙ ap (λ t. cond t (Some m) (maps.get heard k)) e)) refl
-  put_here other heard e = cc
-
-  stays : (changes : List Change) (heard : LastHeard) → drops_row changes k ≡ false → IsSome (maps.get heard k) → IsSome (maps.get (heard_by_changes m changes heard) k)
-  stays [] heard e some = some
-  stays (change ∷ changes) heard e some =
-      let both = neither (is_drop_of k change) (drops_row changes k) e in
-      stays changes (heard_by_change m change heard) both.1 (here_after change heard both.0 some)
-
-  comes : (changes : List Change) (heard : LastHeard) → drops_row changes k ≡ false → puts_row changes k ≡ true → IsSome (maps.get (heard_by_changes m changes heard) k)
-  comes [] heard e put = cc
-  comes (change ∷ changes) heard e put =
-      let both = neither (is_drop_of k change) (drops_row changes k) e in
-      elim (is_put_of k change) as (λ t. is_put_of k change ≡ t → (t || puts_row changes k) ≡ true → IsSome (maps.get (heard_by_changes m changes (heard_by_change m change heard)) k)) [
-        | true ↦ λ here _. stays changes (heard_by_change m change heard) both.1 (put_here change heard here)
-        | false ↦ λ _ later. comes changes (heard_by_change m change heard) both.1 later
-      ] refl put
-
 module _ (s : State) (old : LastHeard) (moments : AreMomentsOf s old) (changes : List Change) (laid : LastHeard) (are : AreLaidDown changes old laid) where
   -- a row that no change puts has its moment
   not_put : (k : Key) → puts_row changes k ≡ false → maps.get laid k ≡ maps.get old k
@@ -259,9 +204,9 @@ module _ (s : State) (old : LastHeard) (moments : AreMomentsOf s old) (changes :
   same_moment k m false e = not_put k e
 
   -- tidied by the table as it was they are those that were
-  pub taken_back : (new : LastHeard) → ((k : Key) → maps.get new k ≡ tidied (touches_row changes k) (is_some (maps.get s.stations k)) (maps.get laid k)) → new ≡ old
+  pub taken_back : (new : LastHeard) → ((k : Key) → maps.get new k ≡ moment_left (touches_row changes k) (is_some (maps.get s.stations k)) (maps.get laid k)) → new ≡ old
   taken_back new says = maps.same_map station_total station_exact new old (λ k. says k ∙
-      elim (is_some (maps.get s.stations k)) as (λ t. is_some (maps.get s.stations k) ≡ t → tidied (touches_row changes k) t (maps.get laid k) ≡ maps.get old k) [
+      elim (is_some (maps.get s.stations k)) as (λ t. is_some (maps.get s.stations k) ≡ t → moment_left (touches_row changes k) t (maps.get laid k) ≡ maps.get old k) [
         | true ↦ λ row. elim (are k) [ inl same ↦ same | inr put ↦ none_is _ put.1 (moments k.0 k.1 ∙ row) ]
         | false ↦ λ no_row.
             let none : maps.get old k ≡ None = no_value _ (moments k.0 k.1 ∙ no_row) in
@@ -271,21 +216,20 @@ module _ (s : State) (old : LastHeard) (moments : AreMomentsOf s old) (changes :
             ] refl
       ] refl)
 
-  -- stamped, and those that are dropped tidied by the table as it is, they are those that the changes leave
+  -- stamped, and then tidied by the table as it is, they are those that the changes leave
   pub changed : (m : Moment) (stamps new : LastHeard) → ((k : Key) → maps.get stamps k ≡ cond (puts_row changes k) (Some m) (maps.get laid k))
-      → ((k : Key) → maps.get new k ≡ tidied (drops_row changes k) (is_some (maps.get (meaning_of changes s).stations k)) (maps.get stamps k)) → new ≡ heard_by_changes m changes old
+      → ((k : Key) → maps.get new k ≡ moment_left (touches_row changes k) (is_some (maps.get (meaning_of changes s).stations k)) (maps.get stamps k)) → new ≡ heard_by_changes m changes old
   changed m stamps new stamp says = maps.same_map station_total station_exact new (heard_by_changes m changes old) (λ k.
       let after = maps.get (heard_by_changes m changes old) k in
       let there : is_some after ≡ is_some (maps.get (meaning_of changes s).stations k) = after_changes m changes s old moments k.0 k.1 in
-      says k ∙ elim (is_some (maps.get (meaning_of changes s).stations k)) as (λ t. is_some (maps.get (meaning_of changes s).stations k) ≡ t → tidied (drops_row changes k) t (maps.get stamps k) ≡ after) [
+      says k ∙ elim (is_some (maps.get (meaning_of changes s).stations k)) as (λ t. is_some (maps.get (meaning_of changes s).stations k) ≡ t → moment_left (touches_row changes k) t (maps.get stamps k) ≡ after) [
         | true ↦ λ row. stamp k ∙ same_moment k m (puts_row changes k) refl ∙ sym (stamped m k changes old (there ∙ row))
         | false ↦ λ no_row.
             let none : after ≡ None = no_value _ (there ∙ no_row) in
-            elim (drops_row changes k) as (λ t. drops_row changes k ≡ t → cond t None (maps.get stamps k) ≡ after) [
+            elim (touches_row changes k) as (λ t. touches_row changes k ≡ t → cond t None (maps.get stamps k) ≡ after) [
               | true ↦ λ _. sym none
-              | false ↦ λ e. elim (puts_row changes k) as (λ t. puts_row changes k ≡ t → maps.get stamps k ≡ after) [
-                | true ↦ λ put. none_is after none (comes m k changes old e put)
-                | false ↦ λ unput. stamp k ∙ ap (λ t. cond t (Some m) (maps.get laid k)) unput ∙ not_put k unput ∙ sym (untouched m k changes old (none_touches k changes unput e))
-              ] refl
+              | false ↦ λ e.
+                  let unput = puts_are_touches k changes e in
+                  stamp k ∙ ap (λ t. cond t (Some m) (maps.get laid k)) unput ∙ not_put k unput ∙ sym (untouched m k changes old e)
             ] refl
       ] refl)

@@ -18,3 +18,4 @@ pub mod Silence
 pub mod Taking
 pub mod Ticking
 pub mod TreeMaps
+mod Words

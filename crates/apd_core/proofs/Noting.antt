@@ -1,30 +1,8 @@
 -- What a request makes of the moment of one row.
 use Rattle.std.proofs.Common.{◌≡◌, Bool, true, false, cond, List, [], ◌∷◌, Option, Some, None, is_some, IsSome, Result, Ok, Err, ◌⊎◌, inl, inr, refl, sym, ap, subst, ◌∙◌, arith}
-use Rattle.std.specs.List.{Contains}
-use Rattle.std.proofs.lemmas.List.Elements.{Contains-append_left, Contains-append_right, Contains-append_cases, Contains-push, Contains-push_cases}
-use Rattle.std.specs.Ordering.{eq_by_cmp}
+use Rattle.apd_core.proofs.Words.{Accepted, Addr, AreMomentsOf, AreNoted, Bssid, Busy, Change, Configure, Contains, Contains-append_cases, Contains-append_left, Contains-append_right, Contains-push, Contains-push_cases, CoreState, Drop, Expire, Happening, HasPut, Heard, Input, IsFrom, IsHeardBy, IsNoted, Kick, LastHeard, ListEdit, Moment, Put, Quiet, QuietReason, Station, Stopped, after_request, answer_at, eq_by_cmp, front_of, get_insert_other, get_inserted, happening_of, heard_by, heard_by_change, heard_by_changes, heard_from, one_or_apart, sender_of, state_after, station_at, station_cmp, station_exact, station_total, verdict, with_entry, with_sender}
 use Rattle.std.specs.FinMap as maps
-use Rattle.apd_base.specs.Addr.{station_cmp}
-use Rattle.apd_base.specs.State.{station_at}
-use Rattle.apd_base.specs.declared.address.Addr.{Addr}
-use Rattle.apd_base.specs.declared.address.Bssid.{Bssid}
-use Rattle.apd_base.specs.declared.moment.Moment.{Moment}
-use Rattle.apd_base.specs.declared.station.Station.{Station}
-use Rattle.apd_base.proofs.AddrLemmas.{station_total, station_exact}
-use Rattle.apd_base.proofs.MapLemmas.{one_or_apart, get_inserted, get_insert_other}
-use Rattle.apd_frame.specs.Contents.{sender_of}
-use Rattle.apd_record.specs.declared.change.Change.{Change}
-use Rattle.apd_record.specs.declared.change.Change.TheVariants.{Put, Drop}
-use Rattle.apd_mlme.specs.Happening.{Happening, Heard, Kick, ListEdit, Expire, Configure}
-use Rattle.apd_mlme.specs.rules.{verdict}
-use Rattle.apd_core.specs.Core.{CoreState, accepted, after_request, front_of, state_after, with_entry, with_sender}
-use Rattle.apd_core.specs.Heard.{LastHeard, AreMomentsOf, heard_by, heard_by_change, heard_by_changes, heard_from}
-use Rattle.apd_core.specs.RowMoments.{AreNoted, HasPut, IsFrom, IsHeardBy, IsNoted}
-use Rattle.apd_core.specs.Requests.{happening_of}
-use Rattle.apd_core.specs.declared.input.Input.{Input}
-use Rattle.apd_core.specs.declared.input.QuietReason.{QuietReason}
-use Rattle.apd_core.specs.declared.ticket.Accepted.{Accepted}
-use Rattle.apd_core.specs.declared.ticket.Accepted.TheVariants.{Stopped, Busy, Quiet, Entry}
+use Rattle.apd_core.specs.declared.ticket.Accepted.TheVariants.{Entry}
 use Rattle.apd_core.proofs.CoreLemmas.{entry_front}
 use Rattle.apd_core.proofs.Hearing.{after_entry, after_sender}
 
@@ -171,4 +149,4 @@ module _ (s : CoreState) (m : Moment) (moments : AreMomentsOf (front_of s) s.hea
       same ∙ not_put m b a changes s.heard (λ is_put. other (inr is_put)) (sym (ap is_some same) ∙ some))
 
 pub moments_noted : (s : CoreState) (m : Moment) (i : Input) → AreMomentsOf (front_of s) s.heard → AreNoted s m i (after_request s m i)
-moments_noted s m i moments b a = noted_after s m moments b a (happening_of s.confs s.heard m i) (accepted s m i)
+moments_noted s m i moments b a = noted_after s m moments b a (happening_of s.confs s.heard m i) (answer_at s m i)

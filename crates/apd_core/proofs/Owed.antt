@@ -1,21 +1,7 @@
 -- Which entries are kept.
 use Rattle.std.proofs.Common.{◌≡◌, ℕ, zero, suc, ◌+◌, ◌<◌, ◌↔◌, ◌⊎◌, false, cond, List, [], ◌∷◌, length, Option, Some, None, IsTrue, inl, inr, refl, sym, ap, subst, ◌∙◌, arith, get_or}
 use Rattle.std.specs.Prelude.{slice_get}
-use Rattle.std.specs.List.{Contains}
-use Rattle.std.specs.Ordering.{eq_by_cmp}
-use Rattle.std.proofs.lemmas.Bool.{cases_lt, cases_eq}
-use Rattle.apd_base.specs.Addr.{bssid_cmp}
-use Rattle.apd_base.specs.declared.address.Bssid.{Bssid}
-use Rattle.apd_base.proofs.AddrLemmas.{bssid_total, bssid_exact}
-use Rattle.apd_base.proofs.MapLemmas.{one_or_apart, tied}
-use Rattle.apd_conf.specs.Confs.{AreDistinct, bssids}
-use Rattle.apd_conf.specs.declared.conf.Conf.{Conf}
-use Rattle.apd_mlme.specs.declared.decision.Out.{Out}
-use Rattle.apd_mlme.specs.declared.decision.Recipient.{Recipient}
-use Rattle.apd_mlme.specs.declared.decision.Recipient.TheVariants.{Radio, Control}
-use Rattle.apd_core.specs.Core.{CoreState, is_kept, IsOwed, IsUnsettled}
-use Rattle.apd_core.specs.Held.{Queue, outs_in, outs_of, queue_at, queue_of, queue_place, radio_place}
-use Rattle.apd_core.specs.Invariant.{IsCore}
+use Rattle.apd_core.proofs.Words.{AreDistinct, Bssid, Conf, Contains, Control, CoreState, IsCore, IsOwed, IsUnsettled, Out, Queue, Radio, Recipient, bssid_cmp, bssid_exact, bssid_total, bssids, cases_eq, cases_lt, eq_by_cmp, is_kept, one_or_apart, outs_in, outs_of, queue_at, queue_of, queue_place, radio_place, tied}
 use Rattle.apd_core.proofs.Places.{next}
 use Rattle.apd_core.proofs.Queues.{counts, counts_not, outs_in-cons, outs_of-cons}
 

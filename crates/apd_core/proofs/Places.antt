@@ -1,22 +1,8 @@
 -- The place of a recipient's queue.
 use Rattle.std.proofs.Common.{◌≡◌, ℕ, ◌+◌, ◌<◌, ◌≤◌, suc, true, false, cond, not, List, [], ◌∷◌, length, Option, Some, None, IsSome, IfSome, inl, inr, refl, sym, ap, subst, ◌∙◌, arith}
 use Rattle.std.specs.Prelude.{nat_lt}
-use Rattle.std.specs.List.{position, position_or_len}
-use Rattle.std.specs.Option.{option_map}
-use Rattle.std.specs.Ordering.{eq_by_cmp}
-use Rattle.std.proofs.lemmas.Bool.{lt-ltb, le-ltb, cases_lt}
-use Rattle.apd_base.specs.Addr.{bssid_cmp}
-use Rattle.apd_base.specs.declared.address.Bssid.{Bssid}
-use Rattle.apd_base.proofs.AddrLemmas.{bssid_total, bssid_exact, same_bssid}
-use Rattle.apd_base.proofs.MapLemmas.{tied}
-use Rattle.apd_conf.specs.declared.conf.Conf.{Conf}
-use Rattle.apd_conf.specs.Confs.{conf_at}
-use Rattle.apd_mlme.specs.declared.decision.Recipient.{Recipient}
-use Rattle.apd_mlme.specs.declared.decision.Recipient.TheVariants.{Radio, Control}
-use Rattle.apd_mlme.specs.declared.decision.Out.{Out}
-use Rattle.apd_mlme.specs.Outs.{is_same}
-use Rattle.apd_mlme.specs.laws.Outs.{IsThere}
-use Rattle.apd_core.specs.Held.{radio_place, queue_place}
+use Rattle.apd_core.proofs.Words.{Bssid, Conf, Control, IsThere, Out, Radio, Recipient, bssid_cmp, bssid_exact, bssid_total, cases_lt, conf_at, eq_by_cmp, is_same, le-ltb, lt-ltb, option_map, position_or_len, queue_place, radio_place, same_bssid, tied}
+use Rattle.std.specs.List.{position}
 
 abbrev pub next : Option ℕ → Option ℕ
 next o = option_map (λ i. i + 1) o

@@ -1,13 +1,7 @@
 -- Which batch is in flight, and what a core's fields keep once it is settled.
 use Rattle.std.proofs.Common.{◌≡◌, ℕ, zero, suc, ◌+◌, ◌≤◌, Bool, true, List, [], ◌∷◌, take, drop, Decides, sym, ap, subst, ◌∙◌, arith}
-use Rattle.std.specs.List.{AllByRecursion}
-use Rattle.std.proofs.lemmas.List.{length-drop, drop-map}
+use Rattle.apd_core.proofs.Words.{AllByRecursion, CoreState, Entry, Inside, IsFlight, IsKept, IsMeasured, after_all_settled, after_publish, changes_of, core_of, drop-map, entries_of, last_of, length-drop, meaning_of}
 use Rattle.apd_journal.specs.declared.batch.Batch.{Batch}
-use Rattle.apd_record.specs.Meaning.{meaning_of}
-use Rattle.apd_core.specs.Core.{CoreState, changes_of, last_of, published, all_settled, IsFlight}
-use Rattle.apd_core.specs.Fields.{core_of, entries_of, IsKept, IsMeasured}
-use Rattle.apd_core.specs.declared.entry.Entry.{Entry}
-use Rattle.apd_core.specs.declared.request_core.Core.TheInside.{Inside}
 use Rattle.apd_core.proofs.Kept.{kept_from}
 use Rattle.apd_core.proofs.Settling.{published_core, published_front}
 
@@ -27,9 +21,9 @@ measured_drop (suc n) (x ∷ es) all = measured_drop n es all.1
 
 module _ (c d : Inside) (kept : IsKept c)
     (confs : d.confs ≡ c.confs) (settled : d.settled.table ≡ meaning_of c.batch c.settled.table) (number : d.number ≡ c.number + c.flight)
-    (items : d.unsettled.items ≡ drop c.flight c.unsettled.items) (flight : d.flight ≡ 0) (held : d.held ≡ all_settled c.number c.flight c.held)
+    (items : d.unsettled.items ≡ drop c.flight c.unsettled.items) (flight : d.flight ≡ 0) (held : d.held ≡ after_all_settled c.number c.flight c.held)
     (heard : d.heard ≡ c.heard) (failed : d.failed ≡ c.failed) where
-  pub published_view : core_of d ≡ published (core_of c)
+  pub published_view : core_of d ≡ after_publish (core_of c)
   published_view = λ i. record {
     confs = confs i;
     settled = (settled ∙ ap (λ cs. meaning_of cs c.settled.table) kept.batch_is) i;
@@ -46,8 +40,8 @@ module _ (c d : Inside) (kept : IsKept c)
       let s = core_of c in
       let fly = kept.core.in_flight in
       let fewer = length-drop c.flight (entries_of c.unsettled.items) in
-      let same_last : last_of s ≡ last_of (published s) = omega (arith, fly, fewer) in
-      kept_from d (published s) published_view (published_core s kept.core)
+      let same_last : last_of s ≡ last_of (after_publish s) = omega (arith, fly, fewer) in
+      kept_from d (after_publish s) published_view (published_core s kept.core)
       (front ∙ kept.front_is ∙ sym (published_front s kept.core))
       (last ∙ kept.last_is ∙ same_last)
       (batch ∙ ap (λ n. changes_of (take n (entries_of d.unsettled.items))) (sym flight))

@@ -1,18 +1,9 @@
 -- Queues: what they have after an out is added, given or taken back.
 use Rattle.std.proofs.Common.{◌≡◌, ℕ, ◌+◌, ◌<◌, ◌≤◌, zero, suc, Bool, true, false, cond, not, List, [], ◌∷◌, ◌++◌, length, map, Option, Some, None, Result, Ok, Err, OnOk, OnErr, inl, inr, refl, sym, ap, subst, ◌∙◌, arith, get_or, set, length-set, length-append, length-drop, reverse, take, drop, ◌-◌}
 use Rattle.std.specs.Prelude.{nat_lt, nat_le, ◌==◌, filter, slice_get, is_err}
-use Rattle.std.specs.Option.{option_map}
-use Rattle.std.specs.List.{AllByRecursion, take_while}
-use Rattle.std.proofs.lemmas.Bool.{lt-ltb, le-ltb, le-leb, lt-leb, ltb-true, eq-eqb, ne_eqb, cases_lt, cases_eq}
-use Rattle.std.proofs.lemmas.List.{append-nil, get_or-set_same, get_or-set_other, set_past, get_or_past, map-set, set-get_or, reverse-append, length-reverse, take_at, length-map, length-take-le, drop_more, get_or_at, get_or_default}
+use Rattle.apd_core.proofs.Words.{AllByRecursion, Conf, IsInOrder, Out, Queue, append-nil, before, beyond, cases_eq, cases_lt, drop_more, eq-eqb, filter-append, get_or-set_other, get_or-set_same, get_or_at, get_or_default, get_or_past, le-leb, le-ltb, length-map, length-reverse, length-take-le, lt-leb, lt-ltb, ltb-true, map-set, ne_eqb, no_queues, option_map, outs_in, outs_of, queue_at, queues_after_hand, queues_with_out, reverse-append, set-get_or, set_past, sum_by-cons, sum_by-set, sum_by_push, take_at, take_while, take_while-cons, up_to}
 use Rattle.std.proofs.lemmas.List.Edits.{map_over_more}
-use Rattle.std.proofs.lemmas.List.Elements.{filter-append}
-use Rattle.std.proofs.lemmas.List.Sums.{sum_by-cons, sum_by-set, sum_by_push, take_while-cons}
 use Rattle.std.proofs.lemmas.List.Filters.{sum_by-filter_both}
-use Rattle.apd_conf.specs.declared.conf.Conf.{Conf}
-use Rattle.apd_mlme.specs.declared.decision.Out.{Out}
-use Rattle.apd_core.specs.Held.{Queue, no_queues, queue_at, queued_at, given_at, up_to, beyond, outs_in, outs_of, IsInOrder}
-use Rattle.apd_core.specs.TakingBack.{before}
 
 -- every element, by recursion
 module _ {A : Type 0} (P : A → Type 0) where
@@ -40,22 +31,22 @@ all_weaker P Q w [] all = tt
 all_weaker P Q w (x ∷ xs) all = (w x all.0, all_weaker P Q w xs all.1)
 
 -- an out added
-pub added_same : (qs : List Queue) (p q : Option ℕ) (i : ℕ) (x : ℕ × Out) → p ≡ Some i → q ≡ Some i → i < length qs → queue_at (queued_at qs p x) q ≡ queue_at qs q ++ x ∷ []
+pub added_same : (qs : List Queue) (p q : Option ℕ) (i : ℕ) (x : ℕ × Out) → p ≡ Some i → q ≡ Some i → i < length qs → queue_at (queues_with_out qs p x) q ≡ queue_at qs q ++ x ∷ []
 added_same qs p q i x e f h =
-    subst (λ (v : Option ℕ). queue_at (queued_at qs v x) q ≡ queue_at qs q ++ x ∷ []) (sym e)
-    (subst (λ (v : Option ℕ). queue_at (queued_at qs (Some i) x) v ≡ queue_at qs v ++ x ∷ []) (sym f) (get_or-set_same qs i _ [] h))
+    subst (λ (v : Option ℕ). queue_at (queues_with_out qs v x) q ≡ queue_at qs q ++ x ∷ []) (sym e)
+    (subst (λ (v : Option ℕ). queue_at (queues_with_out qs (Some i) x) v ≡ queue_at qs v ++ x ∷ []) (sym f) (get_or-set_same qs i _ [] h))
 
 set_elsewhere : (qs : List Queue) (i : ℕ) (q : Option ℕ) (y : Queue) → (q ≡ Some i → ⊥) → queue_at (set qs i y) q ≡ queue_at qs q
 set_elsewhere qs i None y ne = refl
 set_elsewhere qs i (Some j) y ne = get_or-set_other qs i j y [] (λ e. ne (ap Some e))
 
-pub added_elsewhere : (qs : List Queue) (p q : Option ℕ) (i : ℕ) (x : ℕ × Out) → p ≡ Some i → (q ≡ Some i → ⊥) → queue_at (queued_at qs p x) q ≡ queue_at qs q
+pub added_elsewhere : (qs : List Queue) (p q : Option ℕ) (i : ℕ) (x : ℕ × Out) → p ≡ Some i → (q ≡ Some i → ⊥) → queue_at (queues_with_out qs p x) q ≡ queue_at qs q
 added_elsewhere qs p q i x e ne =
-    subst (λ (v : Option ℕ). queue_at (queued_at qs v x) q ≡ queue_at qs q) (sym e) (set_elsewhere qs i q _ ne)
+    subst (λ (v : Option ℕ). queue_at (queues_with_out qs v x) q ≡ queue_at qs q) (sym e) (set_elsewhere qs i q _ ne)
 
-pub length-queued_at : (qs : List Queue) (p : Option ℕ) (x : ℕ × Out) → length (queued_at qs p x) ≡ length qs
-length-queued_at qs None x = refl
-length-queued_at qs (Some i) x = length-set qs i _
+pub length-queues_with_out : (qs : List Queue) (p : Option ℕ) (x : ℕ × Out) → length (queues_with_out qs p x) ≡ length qs
+length-queues_with_out qs None x = refl
+length-queues_with_out qs (Some i) x = length-set qs i _
 
 -- outs given
 set_same : (f : Queue → Queue) (qs : List Queue) (i : ℕ) → f [] ≡ [] → get_or (set qs i (f (get_or qs i []))) i [] ≡ f (get_or qs i [])
@@ -63,17 +54,17 @@ set_same f [] i e = sym e
 set_same f (q ∷ qs) zero e = refl
 set_same f (q ∷ qs) (suc i) e = set_same f qs i e
 
-pub given_same : (qs : List Queue) (p : Option ℕ) (n : ℕ) → queue_at (given_at qs p n) p ≡ beyond n (queue_at qs p)
+pub given_same : (qs : List Queue) (p : Option ℕ) (n : ℕ) → queue_at (queues_after_hand qs p n) p ≡ beyond n (queue_at qs p)
 given_same qs None n = refl
 given_same qs (Some i) n = set_same (beyond n) qs i refl
 
-pub given_elsewhere : (qs : List Queue) (p q : Option ℕ) (n : ℕ) → ((i : ℕ) → p ≡ Some i → q ≡ Some i → ⊥) → queue_at (given_at qs p n) q ≡ queue_at qs q
+pub given_elsewhere : (qs : List Queue) (p q : Option ℕ) (n : ℕ) → ((i : ℕ) → p ≡ Some i → q ≡ Some i → ⊥) → queue_at (queues_after_hand qs p n) q ≡ queue_at qs q
 given_elsewhere qs None q n ne = refl
 given_elsewhere qs (Some i) q n ne = set_elsewhere qs i q _ (ne i refl)
 
-pub length-given_at : (qs : List Queue) (p : Option ℕ) (n : ℕ) → length (given_at qs p n) ≡ length qs
-length-given_at qs None n = refl
-length-given_at qs (Some i) n = length-set qs i _
+pub length-queues_after_hand : (qs : List Queue) (p : Option ℕ) (n : ℕ) → length (queues_after_hand qs p n) ≡ length qs
+length-queues_after_hand qs None n = refl
+length-queues_after_hand qs (Some i) n = length-set qs i _
 
 -- order
 none_up_to : (m n : ℕ) (q : Queue) → n < m → AllByRecursion (λ x. m ≤ x.0) q → up_to n q ≡ []
@@ -145,9 +136,9 @@ outs_in-cons k x q = sum_by-cons (λ (y : ℕ × Out). cond (y.0 == k) 1 0) x q
 pub outs_in-parts : (k n : ℕ) (q : Queue) → outs_in k (up_to n q) + outs_in k (beyond n q) ≡ outs_in k q
 outs_in-parts k n q = sum_by-filter_both (λ (x : ℕ × Out). nat_le x.0 n) (λ x. nat_lt n x.0) (other n) (λ x. cond (x.0 == k) 1 0) q
 
-pub outs_of-given : (k n : ℕ) (qs : List Queue) (p : Option ℕ) → outs_of k (given_at qs p n) + outs_in k (up_to n (queue_at qs p)) ≡ outs_of k qs
-outs_of-given k n qs None = omega arith
-outs_of-given k n qs (Some i) =
+pub outs_of-queues_after_hand : (k n : ℕ) (qs : List Queue) (p : Option ℕ) → outs_of k (queues_after_hand qs p n) + outs_in k (up_to n (queue_at qs p)) ≡ outs_of k qs
+outs_of-queues_after_hand k n qs None = omega arith
+outs_of-queues_after_hand k n qs (Some i) =
     elim (cases_lt i (length qs)) [
       | inl h ↦ omega (arith, sum_by-set (outs_in k) qs i (beyond n (get_or qs i [])) [] h, outs_in-parts k n (get_or qs i []))
       | inr h ↦
@@ -156,9 +147,9 @@ outs_of-given k n qs (Some i) =
           (ap (λ (z : List Queue). outs_of k z + 0) (set_past qs i [] h) ∙ omega arith)
     ]
 
-pub outs_of-queued_at : (k : ℕ) (qs : List Queue) (p : Option ℕ) (i : ℕ) (x : ℕ × Out) → p ≡ Some i → i < length qs → outs_of k (queued_at qs p x) ≡ cond (x.0 == k) 1 0 + outs_of k qs
-outs_of-queued_at k qs p i x e h =
-    subst (λ (v : Option ℕ). outs_of k (queued_at qs v x) ≡ cond (x.0 == k) 1 0 + outs_of k qs) (sym e)
+pub outs_of-queues_with_out : (k : ℕ) (qs : List Queue) (p : Option ℕ) (i : ℕ) (x : ℕ × Out) → p ≡ Some i → i < length qs → outs_of k (queues_with_out qs p x) ≡ cond (x.0 == k) 1 0 + outs_of k qs
+outs_of-queues_with_out k qs p i x e h =
+    subst (λ (v : Option ℕ). outs_of k (queues_with_out qs v x) ≡ cond (x.0 == k) 1 0 + outs_of k qs) (sym e)
     (omega (arith, sum_by-set (outs_in k) qs i (get_or qs i [] ++ x ∷ []) [] h, sum_by_push (λ (y : ℕ × Out). cond (y.0 == k) 1 0) (get_or qs i []) x))
 
 -- an entry taken back
@@ -177,9 +168,9 @@ get_map n [] i = refl
 get_map n (q ∷ qs) zero = refl
 get_map n (q ∷ qs) (suc i) = get_map n qs i
 
-pub before-queued_at : (n : ℕ) (qs : List Queue) (p : Option ℕ) (x : ℕ × Out) → n ≤ x.0 → map (before n) (queued_at qs p x) ≡ map (before n) qs
-before-queued_at n qs None x h = refl
-before-queued_at n qs (Some i) x h =
+pub before-queues_with_out : (n : ℕ) (qs : List Queue) (p : Option ℕ) (x : ℕ × Out) → n ≤ x.0 → map (before n) (queues_with_out qs p x) ≡ map (before n) qs
+before-queues_with_out n qs None x h = refl
+before-queues_with_out n qs (Some i) x h =
     map-set (before n) qs i _
     ∙ ap (set (map (before n) qs) i) (before-push n (get_or qs i []) x h ∙ sym (get_map n qs i))
     ∙ set-get_or (map (before n) qs) i []
@@ -349,13 +340,13 @@ behind n qs now i d h e order =
     subst IsInOrder (sym is) (all_get IsInOrder qs i [] order tt)
 
 -- an out pushed to the queue at a place
-pub added_at : (qs : List Queue) (p : Option ℕ) (i : ℕ) (d new : Queue) (x : ℕ × Out) → Some i ≡ p → i < length qs → new ≡ get_or qs i d ++ x ∷ [] → set qs i new ≡ queued_at qs p x
+pub added_at : (qs : List Queue) (p : Option ℕ) (i : ℕ) (d new : Queue) (x : ℕ × Out) → Some i ≡ p → i < length qs → new ≡ get_or qs i d ++ x ∷ [] → set qs i new ≡ queues_with_out qs p x
 added_at qs p i d new x e h is =
-    ap (set qs i) (is ∙ ap (λ (q : Queue). q ++ x ∷ []) (get_or_default qs i d [] h)) ∙ ap (λ (v : Option ℕ). queued_at qs v x) e
+    ap (set qs i) (is ∙ ap (λ (q : Queue). q ++ x ∷ []) (get_or_default qs i d [] h)) ∙ ap (λ (v : Option ℕ). queues_with_out qs v x) e
 
 -- the queue at a place, from which outs were given
-pub given_step : (qs : List Queue) (p : Option ℕ) (i n : ℕ) (q new : Queue) → Some i ≡ p → q ≡ get_or qs i [] → new ≡ beyond n q → set qs i new ≡ given_at qs p n
-given_step qs p i n q new e at is = ap (set qs i) (is ∙ ap (beyond n) at) ∙ ap (λ (v : Option ℕ). given_at qs v n) e
+pub given_step : (qs : List Queue) (p : Option ℕ) (i n : ℕ) (q new : Queue) → Some i ≡ p → q ≡ get_or qs i [] → new ≡ beyond n q → set qs i new ≡ queues_after_hand qs p n
+given_step qs p i n q new e at is = ap (set qs i) (is ∙ ap (beyond n) at) ∙ ap (λ (v : Option ℕ). queues_after_hand qs v n) e
 
 pub same_step : (qs : List Queue) (i : ℕ) (q new : Queue) → q ≡ get_or qs i [] → new ≡ q → set qs i new ≡ qs
 same_step qs i q new at is = ap (set qs i) (is ∙ at) ∙ set-get_or qs i []

@@ -2,11 +2,8 @@
 use Rattle.std.proofs.Common.{◌≡◌, ℕ, Bool, true, List, Decides, ◌&&◌, refl, sym, ap, ◌∙◌}
 use Rattle.std.specs.Cmp.Lexicographic.{pointwise}
 use Rattle.std.specs.Prelude.{◌==◌}
-use Rattle.std.proofs.lemmas.Bool.{false≢true, and_parts}
-use Rattle.std.proofs.lemmas.Bool.Decides.{Decides-eqb}
+use Rattle.apd_core.proofs.Words.{Addr, Bssid, Change, Cursor, Decides-eqb, Drop, ListAdd, ListClear, ListDel, Put, and_parts, false≢true}
 use Rattle.std.proofs.lemmas.Slice.Eq.{bytes_eq-Decides, slice_eq-Decides}
-use Rattle.apd_base.specs.declared.address.Addr.{Addr}
-use Rattle.apd_base.specs.declared.address.Bssid.{Bssid}
 use Rattle.apd_base.specs.declared.station.AclMode.{AclMode}
 use Rattle.apd_base.specs.declared.station.AclMode.TheVariants.{AcceptUnlessDenied, DenyUnlessAccepted}
 use Rattle.apd_base.specs.declared.station.Policy.{Policy as BssPolicy}
@@ -18,8 +15,7 @@ use Rattle.apd_base.specs.contracts.station.AclModePartialEq.TheImpl as mode
 use Rattle.apd_base.specs.contracts.station.PolicyPartialEq.TheImpl as policy
 use Rattle.apd_base.specs.contracts.station.StationPartialEq.TheImpl as station
 use Rattle.apd_base.specs.contracts.station.WhichPartialEq.TheImpl as which
-use Rattle.apd_record.specs.declared.change.Change.{Change}
-use Rattle.apd_record.specs.declared.change.Change.TheVariants.{Put, Drop, ListAdd, ListDel, ListClear, Policy, Cursor}
+use Rattle.apd_record.specs.declared.change.Change.TheVariants.{Policy}
 use Rattle.apd_record.specs.contracts.change.ChangePartialEq.TheImpl as change
 use Rattle.apd_record.specs.contracts.change.ChangeEq.TheImpl.Laws.{laws-law}
 use Rattle.apd_base.proofs.StationLemmas.{same_station_number}

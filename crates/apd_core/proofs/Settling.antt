@@ -1,30 +1,8 @@
 -- What every core is, a settled batch and outs that are handed out keep.
 use Rattle.std.proofs.Common.{◌≡◌, ◌≢◌, ℕ, zero, suc, ◌+◌, ◌-◌, ◌<◌, ◌≤◌, true, false, cond, List, [], ◌∷◌, ◌++◌, length, take, drop, Option, Some, None, IsSome, is_some, ◌⊎◌, inl, inr, refl, sym, ap, subst, ◌∙◌, arith, append_assoc}
 use Rattle.std.specs.Prelude.{map, nat_le, nat_lt, ◌==◌}
-use Rattle.std.specs.Ordering.{nat_cmp}
+use Rattle.apd_core.proofs.Words.{AreDecided, AreFit, AreHeld, AreMomentsOf, Change, Conf, CoreState, FinMap, Happening, HeldOuts, IsCore, Out, Queue, Recipient, Sound, State, Unsettled, after_all_settled, after_given, after_handing_out, after_publish, after_settled, append-nil, beyond, cases_eq, cases_lt, changes_of, eq-eqb, filter-append, front_of, is_same, last_of, le-leb, le-ltb, leb-false, left_after_settled, length-drop, length-take-le, less_one, lt-leb, lt-ltb, meaning_of, meaning_of-append, nat_cmp, nat_cmp_total, ne_eqb, numbered_outs, outs_in, outs_of, outs_to, queue_at, queue_of, queue_place, run, run_sound, take-append-drop, up_to, verdict}
 use Rattle.std.specs.FinMap as maps
-use Rattle.std.specs.FinMap.{FinMap}
-use Rattle.std.specs.Cmp.{nat_cmp_total}
-use Rattle.std.proofs.lemmas.List.{append-nil, length-take-le, length-drop, take-append-drop}
-use Rattle.std.proofs.lemmas.List.Elements.{filter-append}
-use Rattle.std.proofs.lemmas.Bool.{leb-false, le-leb, lt-leb, lt-ltb, le-ltb, eq-eqb, ne_eqb, cases_eq, cases_lt}
-use Rattle.apd_base.specs.State.{State}
-use Rattle.apd_conf.specs.declared.conf.Conf.{Conf}
-use Rattle.apd_mlme.specs.Happening.{Happening}
-use Rattle.apd_mlme.specs.declared.decision.Recipient.{Recipient}
-use Rattle.apd_mlme.specs.declared.decision.Out.{Out}
-use Rattle.apd_mlme.specs.Outs.{outs_to, is_same}
-use Rattle.apd_mlme.specs.rules.{verdict}
-use Rattle.apd_mlme.specs.Run.{run, AreFit}
-use Rattle.apd_mlme.proofs.VerdictLemmas.{run_sound}
-use Rattle.apd_record.specs.Meaning.{meaning_of}
-use Rattle.apd_record.specs.declared.change.Change.{Change}
-use Rattle.apd_table.specs.Sound.{Sound}
-use Rattle.apd_table.proofs.Denied.{meaning_of-append}
-use Rattle.apd_core.specs.Core.{CoreState, changes_of, front_of, last_of, published, handed, all_settled}
-use Rattle.apd_core.specs.Heard.{AreMomentsOf}
-use Rattle.apd_core.specs.Held.{Queue, HeldOuts, AreHeld, queue_at, queue_of, queue_place, up_to, beyond, after_settled, settled_left, after_given, less_one, outs_in, outs_of}
-use Rattle.apd_core.specs.Invariant.{IsCore, Unsettled, AreDecided, numbered_outs}
 use Rattle.apd_core.proofs.Keeping.{changes_of-append, decided_means, decided_length, front_runs, up_to-append, none_up_to}
 use Rattle.apd_core.proofs.Places.{some_is, same_recipient}
 use Rattle.apd_core.proofs.HeldLemmas.{length-after_hand, queue_of-after_hand, queue_of-after_hand_other, get-after_hand, get-after_hand_beyond, get-after_settled, get-after_settled_other, unless_zero, unless_zero_back, one_less, less_by, less_by-none, held_after_settled, held_after_hand, given_within}
@@ -103,7 +81,7 @@ not_zero (Some d) c e =
       | inr ne ↦ (let some : unless_zero (Some d) ≡ Some d = ap (λ b. cond b None (Some d)) (ne_eqb d 0 ne) in let same : d ≡ c = cc in omega (arith, same, ne))
     ]
 
-settled_left_len : (left : FinMap nat_cmp ℕ) (k : ℕ) (o : Option ℕ) → maps.len (settled_left left k o) ≤ maps.len left
+settled_left_len : (left : FinMap nat_cmp ℕ) (k : ℕ) (o : Option ℕ) → maps.len (left_after_settled left k o) ≤ maps.len left
 settled_left_len left k None = omega arith
 settled_left_len left k (Some c) =
     elim (c == 0) as (λ t. maps.len (cond t (maps.remove left k) left) ≤ maps.len left) [
@@ -112,51 +90,51 @@ settled_left_len left k (Some c) =
     ]
 
 module _ (number : ℕ) (held : HeldOuts) where
-  pub settled_queues : (count : ℕ) → (all_settled number count held).queues ≡ held.queues
+  pub settled_queues : (count : ℕ) → (after_all_settled number count held).queues ≡ held.queues
   settled_queues zero = refl
   settled_queues (suc count) = settled_queues count
 
-  pub settled_given : (count : ℕ) → (all_settled number count held).given ≡ held.given
+  pub settled_given : (count : ℕ) → (after_all_settled number count held).given ≡ held.given
   settled_given zero = refl
   settled_given (suc count) = settled_given count
 
-  pub settled_held : (count : ℕ) → AreHeld held → AreHeld (all_settled number count held)
+  pub settled_held : (count : ℕ) → AreHeld held → AreHeld (after_all_settled number count held)
   settled_held zero h = h
-  settled_held (suc count) h = held_after_settled (number + suc count) (all_settled number count held) (settled_held count h)
+  settled_held (suc count) h = held_after_settled (number + suc count) (after_all_settled number count held) (settled_held count h)
 
-  pub settled_others : (count k : ℕ) → (k ≤ number) ⊎ (number + count < k) → maps.get (all_settled number count held).left k ≡ maps.get held.left k
+  pub settled_others : (count k : ℕ) → (k ≤ number) ⊎ (number + count < k) → maps.get (after_all_settled number count held).left k ≡ maps.get held.left k
   settled_others zero k out = refl
   settled_others (suc count) k out =
       let ne : k ≢ number + suc count = λ e. elim out [ inl l ↦ absurd (omega arith) | inr l ↦ absurd (omega arith) ] in
       let rest : (k ≤ number) ⊎ (number + count < k) = elim out [ inl l ↦ inl l | inr l ↦ inr (omega arith) ] in
-      get-after_settled_other (number + suc count) (all_settled number count held) k ne ∙ settled_others count k rest
+      get-after_settled_other (number + suc count) (after_all_settled number count held) k ne ∙ settled_others count k rest
 
   -- an entry that stays is one that was there; of the settled ones it has outs
-  pub settled_back : (count k c : ℕ) → maps.get (all_settled number count held).left k ≡ Some c → maps.get held.left k ≡ Some c
+  pub settled_back : (count k c : ℕ) → maps.get (after_all_settled number count held).left k ≡ Some c → maps.get held.left k ≡ Some c
   settled_back zero k c e = e
   settled_back (suc count) k c e =
       elim (cases_eq k (number + suc count)) [
         | inl is ↦
-            let h = all_settled number count held in
+            let h = after_all_settled number count held in
             let f : unless_zero (maps.get h.left (number + suc count)) ≡ Some c = sym (get-after_settled (number + suc count) h) ∙ subst (λ (z : ℕ). maps.get (after_settled (number + suc count) h).left z ≡ Some c) is e in
             settled_back count k c (ap (maps.get h.left) is ∙ unless_zero_back (maps.get h.left (number + suc count)) c f)
-        | inr ne ↦ settled_back count k c (sym (get-after_settled_other (number + suc count) (all_settled number count held) k ne) ∙ e)
+        | inr ne ↦ settled_back count k c (sym (get-after_settled_other (number + suc count) (after_all_settled number count held) k ne) ∙ e)
       ]
 
-  pub settled_some : (count k c : ℕ) → number < k → k ≤ number + count → maps.get (all_settled number count held).left k ≡ Some c → 0 < c
+  pub settled_some : (count k c : ℕ) → number < k → k ≤ number + count → maps.get (after_all_settled number count held).left k ≡ Some c → 0 < c
   settled_some zero k c above below e = absurd (omega arith)
   settled_some (suc count) k c above below e =
       elim (cases_eq k (number + suc count)) [
         | inl is ↦
-            let h = all_settled number count held in
+            let h = after_all_settled number count held in
             not_zero (maps.get h.left (number + suc count)) c (sym (get-after_settled (number + suc count) h) ∙ subst (λ (z : ℕ). maps.get (after_settled (number + suc count) h).left z ≡ Some c) is e)
-        | inr ne ↦ settled_some count k c above (omega (arith, ne)) (sym (get-after_settled_other (number + suc count) (all_settled number count held) k ne) ∙ e)
+        | inr ne ↦ settled_some count k c above (omega (arith, ne)) (sym (get-after_settled_other (number + suc count) (after_all_settled number count held) k ne) ∙ e)
       ]
 
-  pub settled_len : (count : ℕ) → maps.len (all_settled number count held).left ≤ maps.len held.left
+  pub settled_len : (count : ℕ) → maps.len (after_all_settled number count held).left ≤ maps.len held.left
   settled_len zero = omega arith
   settled_len (suc count) =
-      let h = all_settled number count held in
+      let h = after_all_settled number count held in
       let rest = settled_len count in
       let one = settled_left_len h.left (number + suc count) (maps.get h.left (number + suc count)) in
       omega arith
@@ -170,7 +148,7 @@ front_sound s core =
 -- ---- the batch in flight is settled
 module _ (s : CoreState) (core : IsCore s) where
   abbrev next : CoreState
-  next = published s
+  next = after_publish s
 
   abbrev n : ℕ
   n = s.number
@@ -325,7 +303,7 @@ numbered_beyond confs r (h ∷ hs) n k s l =
 
 module _ (s : CoreState) (to : Recipient) (core : IsCore s) where
   abbrev after : CoreState
-  after = handed to s
+  after = after_handing_out to s
 
   -- a queue that loses what is settled keeps what is not
   pub handed_queue : (r : Recipient) → (queue_of s.confs after.held r ≡ queue_of s.confs s.held r) ⊎ (queue_of s.confs after.held r ≡ beyond s.number (queue_of s.confs s.held r))

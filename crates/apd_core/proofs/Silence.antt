@@ -1,19 +1,8 @@
 -- What is due is the first silent row.
 use Rattle.std.proofs.Common.{◌≡◌, ◌≤◌, ℕ, ◌*◌, true, List, Option, Some, None, ◌↔◌, refl, sym, ap, subst, ◌∙◌}
-use Rattle.std.proofs.lemmas.Bool.{leb-true, le-leb}
+use Rattle.apd_core.proofs.Words.{Addr, Bssid, Conf, Equal, Greater, LastHeard, Less, Moment, conf_at, due_row, is_due, is_too_long, le-leb, leb-true, option_map, ordering_reverse, silence, station_cmp, station_exact, station_total}
 use Rattle.std.specs.List.{find}
-use Rattle.std.specs.Option.{option_map}
-use Rattle.std.specs.Ordering.{ordering_reverse}
-use Rattle.std.specs.declared.cmp.Ordering.TheVariants.{Less, Equal, Greater}
 use Rattle.std.specs.FinMap as maps
-use Rattle.apd_base.specs.Addr.{station_cmp}
-use Rattle.apd_base.specs.declared.address.Addr.{Addr}
-use Rattle.apd_base.specs.declared.address.Bssid.{Bssid}
-use Rattle.apd_base.specs.declared.moment.Moment.{Moment}
-use Rattle.apd_base.proofs.AddrLemmas.{station_total, station_exact}
-use Rattle.apd_conf.specs.declared.conf.Conf.{Conf}
-use Rattle.apd_conf.specs.Confs.{conf_at}
-use Rattle.apd_core.specs.Heard.{LastHeard, due, is_due, is_too_long, silence}
 use Rattle.apd_core.specs.Silent.{IsFirstSilent, IsSilent}
 use Rattle.apd_core.proofs.Found.{Row, found_entry, none_passes, none_before}
 
@@ -68,8 +57,8 @@ module _ (confs : List Conf) (now : Moment) (heard : LastHeard) where
   due_none None f = (λ _. none_silent f, λ _. refl)
   due_none (Some e) f = (λ is. cc, λ none. absurd (none e.0 (first_silent e f).silent))
 
-  pub due_is_first : (row : Bssid × Addr) → (due confs now heard ≡ Some row) ↔ IsFirstSilent confs now heard row
+  pub due_is_first : (row : Bssid × Addr) → (due_row confs now heard ≡ Some row) ↔ IsFirstSilent confs now heard row
   due_is_first row = due_first found refl row
 
-  pub due_is_none : (due confs now heard ≡ None) ↔ ((row : Bssid × Addr) → ¬ (IsSilent confs now heard row))
+  pub due_is_none : (due_row confs now heard ≡ None) ↔ ((row : Bssid × Addr) → ¬ (IsSilent confs now heard row))
   due_is_none = due_none found refl

@@ -1,23 +1,6 @@
 -- The longest front of the entries whose records fit one group, and what its changes leave.
 use Rattle.std.proofs.Common.{◌≡◌, ℕ, zero, suc, ◌+◌, ◌<◌, ◌≤◌, List, [], ◌∷◌, ◌++◌, length, take, drop, inl, inr, refl, sym, ap, subst, ◌∙◌, arith, append_assoc}
-use Rattle.std.specs.List.{AllByRecursion}
-use Rattle.std.proofs.lemmas.Bool.{cases_lt}
-use Rattle.std.proofs.lemmas.List.{append-nil}
-use Rattle.apd_base.specs.State.{State}
-use Rattle.apd_base.specs.declared.limits.TheConstants.{MAX_GROUP}
-use Rattle.apd_conf.specs.declared.conf.Conf.{Conf}
-use Rattle.apd_mlme.specs.Happening.{Happening}
-use Rattle.apd_mlme.specs.rules.{verdict}
-use Rattle.apd_mlme.proofs.VerdictLemmas.{sound_in, stay_end, meaning_in}
-use Rattle.apd_record.specs.Meaning.{meaning, meaning_of}
-use Rattle.apd_record.specs.Record.{records_of}
-use Rattle.apd_record.specs.declared.change.Change.{Change}
-use Rattle.apd_record.proofs.Lengths.{records_length-append}
-use Rattle.apd_table.specs.Sound.{Sound, StaySound}
-use Rattle.apd_core.specs.Core.{CoreState, changes_of, IsLongestFront}
-use Rattle.apd_core.specs.Fields.{entries_of, IsMeasured}
-use Rattle.apd_core.specs.Invariant.{IsCore, AreDecided}
-use Rattle.apd_core.specs.declared.entry.Entry.{Entry}
+use Rattle.apd_core.proofs.Words.{AllByRecursion, AreDecided, Change, Conf, CoreState, Entry, Happening, IsCore, IsLongestFront, IsMeasured, MAX_GROUP, Sound, State, StaySound, append-nil, cases_lt, changes_of, entries_of, meaning, meaning_in, meaning_of, records_length-append, records_of, sound_in, stay_end, verdict}
 use Rattle.apd_core.proofs.Settling.{decided_split}
 
 -- the entry behind so many

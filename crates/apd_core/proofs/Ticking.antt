@@ -1,29 +1,13 @@
 -- The row that a tick takes.
 use Rattle.std.proofs.Common.{◌≡◌, ℕ, ◌+◌, Bool, true, false, cond, List, Option, Some, None, is_some, is_none, Ok, IsSome, refl, sym, ap, ◌∙◌}
 use Rattle.std.specs.List.{find}
-use Rattle.std.specs.Option.{option_map}
+use Rattle.apd_core.proofs.Words.{Accepted, Addr, AreMomentsOf, Bssid, Busy, Conf, CoreState, Expire, Moment, Quiet, QuietReason, Sound, State, Station, Stopped, answer_at, answer_to, answer_to_fit, conf_at, due_row, expiry, front_of, is_busy, is_due, is_nothing, is_stopped, is_too_long, last_of, option_map, policy_at, silence, station_at, ticket, unfitness, verdict_under}
 use Rattle.std.specs.FinMap as maps
-use Rattle.apd_base.specs.State.{State, policy_at, station_at}
-use Rattle.apd_base.specs.declared.address.Addr.{Addr}
-use Rattle.apd_base.specs.declared.address.Bssid.{Bssid}
-use Rattle.apd_base.specs.declared.moment.Moment.{Moment}
-use Rattle.apd_base.specs.declared.station.Station.{Station}
 use Rattle.apd_base.specs.declared.station.Station.TheVariants.{Authenticated, Associated}
-use Rattle.apd_conf.specs.declared.conf.Conf.{Conf}
-use Rattle.apd_conf.specs.Confs.{conf_at}
-use Rattle.apd_mlme.specs.Happening.{Expire}
 use Rattle.apd_mlme.specs.rules.Inactivity.{inactivity_of}
-use Rattle.apd_mlme.specs.rules.{verdict_under}
-use Rattle.apd_mlme.specs.Verdict.{is_nothing}
-use Rattle.apd_table.specs.Sound.{Sound}
-use Rattle.apd_core.specs.Core.{CoreState, accepted, answer_to, answer_to_fit, front_of, is_busy, is_stopped, last_of, ticket}
-use Rattle.apd_core.specs.Heard.{AreMomentsOf, due, is_due, is_too_long, silence}
-use Rattle.apd_core.specs.Requests.{expiry, unfit}
 use Rattle.apd_core.specs.declared.input.Input.TheVariants.{Tick}
-use Rattle.apd_core.specs.declared.input.QuietReason.{QuietReason}
 use Rattle.apd_core.specs.declared.input.QuietReason.TheVariants.{Nothing, NoInterface, NoPolicy}
-use Rattle.apd_core.specs.declared.ticket.Accepted.{Accepted}
-use Rattle.apd_core.specs.declared.ticket.Accepted.TheVariants.{Stopped, Busy, Quiet, Entry}
+use Rattle.apd_core.specs.declared.ticket.Accepted.TheVariants.{Entry}
 use Rattle.apd_core.specs.declared.ticket.Ticket.{Ticket}
 use Rattle.apd_core.proofs.Found.{Row, found_entry}
 
@@ -68,7 +52,7 @@ module _ (s : CoreState) (m : Moment) (sound : Sound (front_of s)) (moments : Ar
   is_configured : (row : Row) → IsFound row → is_none (conf_at s.confs row.0.0) ≡ false
   is_configured row is = configured (conf_at s.confs row.0.0) (silence m row.1) (found_entry (is_due s.confs m) (maps.entries s.heard) (maps.entries_sorted s.heard) row is).0
 
-  fit : (row : Row) → IsFound row → unfit (front_of s) s.confs (Expire row.0.0 row.0.1) ≡ None
+  fit : (row : Row) → IsFound row → unfitness (front_of s) s.confs (Expire row.0.0 row.0.1) ≡ None
   fit row is =
       let policy : IsSome (policy_at (front_of s) row.0.0) = sound.stations_have_policy row.0.0 row.0.1 (known row is) in
       (λ i. cond (is_configured row is i) (Some NoInterface) (cond (there (policy_at (front_of s) row.0.0) policy i) (Some NoPolicy) None))
@@ -84,5 +68,5 @@ module _ (s : CoreState) (m : Moment) (sound : Sound (front_of s)) (moments : Ar
   due_quiet None is reason h = (cc, refl)
   due_quiet (Some row) is reason h = entry_is_not_quiet (ticket (last_of s + 1) Tick m) reason (sym (due_entered row is) ∙ h)
 
-pub tick_is_quiet : (s : CoreState) (m : Moment) → Sound (front_of s) → AreMomentsOf (front_of s) s.heard → (reason : QuietReason) → accepted s m Tick ≡ Quiet reason → (reason ≡ Nothing) × (due s.confs m s.heard ≡ None)
+pub tick_is_quiet : (s : CoreState) (m : Moment) → Sound (front_of s) → AreMomentsOf (front_of s) s.heard → (reason : QuietReason) → answer_at s m Tick ≡ Quiet reason → (reason ≡ Nothing) × (due_row s.confs m s.heard ≡ None)
 tick_is_quiet s m sound moments reason = or_stopped (is_stopped s) _ reason (or_busy (is_busy s) _ reason (due_quiet s m sound moments _ refl reason))

@@ -1,16 +1,12 @@
 -- A map kept as a tree, and as a value.
 use Rattle.std.proofs.Common.{◌≡◌, ℕ, ◌+◌, suc, List, [], ◌∷◌, length, cond, Option, Some, None, IsSome, refl, sym, ap, ◌∙◌, arith}
 use Rattle.std.specs.Prelude.{is_some}
-use Rattle.std.specs.List.{AllByRecursion}
+use Rattle.apd_core.proofs.Words.{AllByRecursion, Equal, FinMap, Greater, IsAntisymmetric, IsTotalOrder, Less, eq_by_cmp, eq_by_cmp_equiv, find-lookup, from_entries, get, get-from_entries, get-insert, get-remove, get_tied, is_eq, len, len-empty, len-insert, remove, same_map}
 use Rattle.std.specs.List.Sorted.{IsStrictlySortedBy}
 use Rattle.std.specs.declared.cmp.Ordering.{Ordering}
-use Rattle.std.specs.declared.cmp.Ordering.TheVariants.{Less, Equal, Greater}
-use Rattle.std.specs.Ordering.{eq_by_cmp, is_eq}
-use Rattle.std.specs.Cmp.{IsTotalOrder, eq_by_cmp_equiv}
-use Rattle.std.specs.FinMap.{FinMap, IsAntisymmetric, get, find, insert, remove, len, from_entries, get-from_entries, get-insert, get-remove, len-empty, len-insert, same_map, get_tied}
+use Rattle.std.specs.FinMap.{find, insert}
 use Rattle.std.specs.Map.{lookup, keys_of}
 use Rattle.std.specs.BTreeMap.{is_at}
-use Rattle.apd_base.proofs.Trees.{find-lookup}
 
 -- what is not there is not there
 pub not_there : {A : Type 0} (x : Option A) → x ≡ None → IsSome x → ⊥

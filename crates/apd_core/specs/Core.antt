@@ -1,6 +1,6 @@
 -- What a core holds, and what each of its calls answers and leaves (own).
 use Rattle.std.specs.Prelude.{◌≡◌, ℕ, zero, suc, ◌+◌, ◌-◌, ◌^◌, ◌≤◌, ◌<◌, Bool, false, ◌||◌, ◌==◌, nat_le, List, [], ◌∷◌, ◌++◌, length, take, drop, map, Option, None, Some, Result, Ok, Err, if◌then◌else◌}
-use Rattle.std.specs.List.{Contains, flat_map}
+use Rattle.std.specs.List.{Contains}
 use Rattle.std.specs.FinMap as maps
 use Rattle.apd_base.specs.declared.limits.TheConstants.{MAX_GROUP, MAX_KEPT}
 use Rattle.apd_base.specs.declared.moment.Moment.{Moment}
@@ -8,6 +8,7 @@ use Rattle.apd_base.specs.State.{State}
 use Rattle.apd_conf.specs.declared.conf.Conf.{Conf}
 use Rattle.apd_ctrl.specs.Texts.{text}
 use Rattle.apd_ctrl.specs.declared.command.Query.{Query}
+use Rattle.apd_journal.specs.Half.{changes_of}
 use Rattle.apd_journal.specs.declared.batch.Batch.{Batch}
 use Rattle.apd_mlme.specs.Happening.{Happening}
 use Rattle.apd_mlme.specs.declared.decision.Recipient.{Recipient}
@@ -19,7 +20,7 @@ use Rattle.apd_record.specs.Record.{records_of}
 use Rattle.apd_record.specs.declared.change.Change.{Change}
 use Rattle.apd_core.specs.Heard.{LastHeard, heard_by, heard_by_changes}
 use Rattle.apd_core.specs.Held.{HeldOuts, no_outs, queue_of, up_to, with_outs, after_hand, after_settled}
-use Rattle.apd_core.specs.Requests.{happening_of, unfit}
+use Rattle.apd_core.specs.Requests.{happening_of, unfitness}
 use Rattle.apd_core.specs.declared.query_answer.Answer.{Answer}
 use Rattle.apd_core.specs.declared.input.Input.{Input}
 use Rattle.apd_core.specs.declared.input.QuietReason.{QuietReason}
@@ -41,10 +42,6 @@ pub record CoreState : Type 0 where
   pub heard : LastHeard
   pub failed : Bool
 
--- the changes of entries, in order
-abbrev pub changes_of : List (List Change) → List Change
-changes_of entries = flat_map (λ changes. changes) entries
-
 -- the state after all entries
 abbrev pub front_of : CoreState → State
 front_of s = meaning_of (changes_of s.unsettled) s.settled
@@ -62,8 +59,8 @@ abbrev pub ready_for : Recipient → CoreState → List Out
 ready_for r s = map (λ x. x.1) (up_to s.number (queue_of s.confs s.held r))
 
 -- how many entries are kept: those that are not settled, and those of which an out is held
-abbrev pub kept : CoreState → ℕ
-kept s = maps.len s.held.left
+abbrev pub kept_count : CoreState → ℕ
+kept_count s = maps.len s.held.left
 
 -- whether one of them has this number
 abbrev pub is_kept : ℕ → CoreState → Bool
@@ -98,7 +95,7 @@ abbrev pub is_stopped : CoreState → Bool
 is_stopped s = s.failed || (last_of s == 2 ^ 64 - 1)
 
 abbrev pub is_busy : CoreState → Bool
-is_busy s = nat_le MAX_KEPT (kept s)
+is_busy s = nat_le MAX_KEPT (kept_count s)
 
 abbrev pub ticket : ℕ → Input → Moment → Ticket
 ticket number i m = record { number = number; input = i; moment = m }
@@ -110,11 +107,11 @@ answer_to_fit s m i h None =
 
 abbrev pub answer_to : CoreState → Moment → Input → Result Happening QuietReason → Accepted
 answer_to s m i (Err reason) = Quiet reason
-answer_to s m i (Ok h) = answer_to_fit s m i h (unfit (front_of s) s.confs h)
+answer_to s m i (Ok h) = answer_to_fit s m i h (unfitness (front_of s) s.confs h)
 
 -- the answer to a request at a moment: the first that holds
-abbrev pub accepted : CoreState → Moment → Input → Accepted
-accepted s m i =
+abbrev pub answer_at : CoreState → Moment → Input → Accepted
+answer_at s m i =
     if is_stopped s then Stopped else if is_busy s then Busy else answer_to s m i (happening_of s.confs s.heard m i)
 
 -- the core is neither stopped nor busy, and there is a verdict on what happens by a request, by which something changes
@@ -124,7 +121,7 @@ pub record IsDecided (s : CoreState) (m : Moment) (i : Input) : Type 0 where
   pub free : is_busy s ≡ false
   pub happens : Happening
   pub asked : happening_of s.confs s.heard m i ≡ Ok happens
-  pub fit : unfit (front_of s) s.confs happens ≡ None
+  pub fit : unfitness (front_of s) s.confs happens ≡ None
   pub some : is_nothing (verdict (front_of s) s.confs happens) ≡ false
 
 -- an entry more: the verdict on the state after all entries; the rows that it puts were heard at its moment
@@ -156,15 +153,15 @@ state_after s m (Ok h) Stopped = s
 state_after s m (Err reason) answer = s
 
 abbrev pub after_request : CoreState → Moment → Input → CoreState
-after_request s m i = state_after s m (happening_of s.confs s.heard m i) (accepted s m i)
+after_request s m i = state_after s m (happening_of s.confs s.heard m i) (answer_at s m i)
 
 -- what an answer enters
-abbrev pub entered_by : Accepted → Result Happening QuietReason → List Happening
-entered_by (Entry t) (Ok h) = h ∷ []
-entered_by (Entry t) (Err reason) = []
-entered_by (Quiet reason) asked = []
-entered_by Busy asked = []
-entered_by Stopped asked = []
+abbrev pub answer_happenings : Accepted → Result Happening QuietReason → List Happening
+answer_happenings (Entry t) (Ok h) = h ∷ []
+answer_happenings (Entry t) (Err reason) = []
+answer_happenings (Quiet reason) asked = []
+answer_happenings Busy asked = []
+answer_happenings Stopped asked = []
 
 -- ---- taking
 abbrev pub cannot_take : CoreState → Bool
@@ -194,24 +191,24 @@ abbrev pub IsFlight : Batch → CoreState → Type 0
 IsFlight batch s = (1 ≤ s.flight) × (batch ≡ batch_of s)
 
 -- entries are settled, as many as this, from a number on
-abbrev pub all_settled : ℕ → ℕ → HeldOuts → HeldOuts
-all_settled number zero held = held
-all_settled number (suc count) held = after_settled (number + suc count) (all_settled number count held)
+abbrev pub after_all_settled : ℕ → ℕ → HeldOuts → HeldOuts
+after_all_settled number zero held = held
+after_all_settled number (suc count) held = after_settled (number + suc count) (after_all_settled number count held)
 
 -- the batch in flight is settled
-abbrev pub published : CoreState → CoreState
-published s =
+abbrev pub after_publish : CoreState → CoreState
+after_publish s =
     record s {
       settled = meaning_of (changes_of (take s.flight s.unsettled)) s.settled;
       number = s.number + s.flight;
       unsettled = drop s.flight s.unsettled;
       flight = 0;
-      held = all_settled s.number s.flight s.held;
+      held = after_all_settled s.number s.flight s.held;
     }
 
 -- ---- handing out, and reading
-abbrev pub handed : Recipient → CoreState → CoreState
-handed r s = record s { held = after_hand s.confs s.number r s.held }
+abbrev pub after_handing_out : Recipient → CoreState → CoreState
+after_handing_out r s = record s { held = after_hand s.confs s.number r s.held }
 
-abbrev pub answered : CoreState → Query → Answer
-answered s q = record { query = q; text = text s.settled s.confs q; number = s.number }
+abbrev pub answer_to_query : CoreState → Query → Answer
+answer_to_query s q = record { query = q; text = text s.settled s.confs q; number = s.number }

@@ -1,9 +1,8 @@
 -- When the stations of the table were heard last, and which of them is silent for too long (own; IEEE Std 802.11-2016,
 -- 11.3.5.8 and 11.3.4.4, leaves it to the access point when it ends an association or an authentication).
-use Rattle.std.specs.Prelude.{◌≡◌, ℕ, ◌-◌, ◌*◌, Bool, false, nat_le, List, [], ◌∷◌, Option, None, Some, is_some, if◌then◌else◌, refl}
+use Rattle.std.specs.Prelude.{◌≡◌, ℕ, ◌-◌, ◌*◌, Bool, false, nat_le, List, [], ◌∷◌, Option, None, Some, is_some, if◌then◌else◌}
 use Rattle.std.specs.List.{find}
 use Rattle.std.specs.Option.{option_map}
-use Rattle.std.specs.Coded.{Coded, code_by, coded_ℕ}
 use Rattle.std.specs.FinMap as maps
 use Rattle.std.specs.FinMap.{FinMap}
 use Rattle.apd_base.specs.Addr.{station_cmp}
@@ -21,9 +20,6 @@ use Rattle.apd_record.specs.declared.change.Change.TheVariants.{Put, Drop}
 -- a moment for each row, by (BSSID, address)
 abbrev pub LastHeard : Type 0
 LastHeard = FinMap station_cmp Moment
-
-abbrev pub coded_moment : Coded Moment
-coded_moment = code_by ℕ coded_ℕ (λ m. m.0) (λ n. record { 0 = n }) (λ _. refl)
 
 -- a row that is put counts as heard, and one that is dropped has no moment; no other change touches one
 abbrev pub heard_by_change : Moment → Change → LastHeard → LastHeard
@@ -62,8 +58,8 @@ abbrev pub is_due : List Conf → Moment → (Bssid × Addr) × Moment → Bool
 is_due confs now row = is_too_long (conf_at confs row.0.0) (silence now row.1)
 
 -- the first row by (BSSID, address) of a configured BSSID that is silent for too long
-abbrev pub due : List Conf → Moment → LastHeard → Option (Bssid × Addr)
-due confs now heard = option_map (λ row. row.0) (find (is_due confs now) (maps.entries heard))
+abbrev pub due_row : List Conf → Moment → LastHeard → Option (Bssid × Addr)
+due_row confs now heard = option_map (λ row. row.0) (find (is_due confs now) (maps.entries heard))
 
 -- exactly the rows of a state have a moment
 abbrev pub AreMomentsOf : State → LastHeard → Type 0

@@ -51,19 +51,23 @@ abbrev pub no_outs : List Conf → HeldOuts
 no_outs confs = record { queues = no_queues confs; left = maps.empty; given = 0 }
 
 -- an out more, at the end of a queue
-abbrev pub queued_at : List Queue → Option ℕ → ℕ × Out → List Queue
-queued_at queues None out = queues
-queued_at queues (Some i) out = slice_set queues i (slice_index_or queues i [] ++ out ∷ [])
+abbrev pub queues_with_out : List Queue → Option ℕ → ℕ × Out → List Queue
+queues_with_out queues None out = queues
+queues_with_out queues (Some i) out = slice_set queues i (slice_index_or queues i [] ++ out ∷ [])
 
 -- the outs of an entry more, each in its recipient's queue
-abbrev pub queued : List Conf → ℕ → List (Recipient × Out) → List Queue → List Queue
-queued confs number [] queues = queues
-queued confs number (x ∷ xs) queues = queued confs number xs (queued_at queues (queue_place confs x.0) (number, x.1))
+abbrev pub queues_with_outs : List Conf → ℕ → List (Recipient × Out) → List Queue → List Queue
+queues_with_outs confs number [] queues = queues
+queues_with_outs confs number (x ∷ xs) queues =
+    queues_with_outs confs number xs (queues_with_out queues (queue_place confs x.0) (number, x.1))
 
 -- an entry more is kept
 abbrev pub with_outs : List Conf → ℕ → List (Recipient × Out) → HeldOuts → HeldOuts
 with_outs confs number outs held =
-    record held { queues = queued confs number outs held.queues; left = maps.insert held.left number (length outs) }
+    record held {
+      queues = queues_with_outs confs number outs held.queues;
+      left = maps.insert held.left number (length outs);
+    }
 
 -- of a queue the outs of the entries up to a number, and those of later ones
 abbrev pub up_to : ℕ → Queue → Queue
@@ -81,31 +85,31 @@ abbrev pub after_given : FinMap nat_cmp ℕ → Queue → FinMap nat_cmp ℕ
 after_given left [] = left
 after_given left (x ∷ xs) = after_given (less_one left x.0 (maps.get left x.0)) xs
 
-abbrev pub greatest : ℕ → Queue → ℕ
-greatest n [] = n
-greatest n (x ∷ xs) = greatest (if nat_le n x.0 then x.0 else n) xs
+abbrev pub greatest_number : ℕ → Queue → ℕ
+greatest_number n [] = n
+greatest_number n (x ∷ xs) = greatest_number (if nat_le n x.0 then x.0 else n) xs
 
-abbrev pub given_at : List Queue → Option ℕ → ℕ → List Queue
-given_at queues None number = queues
-given_at queues (Some i) number = slice_set queues i (beyond number (slice_index_or queues i []))
+abbrev pub queues_after_hand : List Queue → Option ℕ → ℕ → List Queue
+queues_after_hand queues None number = queues
+queues_after_hand queues (Some i) number = slice_set queues i (beyond number (slice_index_or queues i []))
 
 -- a recipient is given the outs of the entries up to a number
 abbrev pub after_hand : List Conf → ℕ → Recipient → HeldOuts → HeldOuts
 after_hand confs number r held =
     let outs = up_to number (queue_of confs held r) in
     record {
-      queues = given_at held.queues (queue_place confs r) number;
+      queues = queues_after_hand held.queues (queue_place confs r) number;
       left = after_given held.left outs;
-      given = greatest held.given outs;
+      given = greatest_number held.given outs;
     }
 
 -- an entry is settled: one without outs goes
-abbrev pub settled_left : FinMap nat_cmp ℕ → ℕ → Option ℕ → FinMap nat_cmp ℕ
-settled_left left k None = left
-settled_left left k (Some count) = if count == 0 then maps.remove left k else left
+abbrev pub left_after_settled : FinMap nat_cmp ℕ → ℕ → Option ℕ → FinMap nat_cmp ℕ
+left_after_settled left k None = left
+left_after_settled left k (Some count) = if count == 0 then maps.remove left k else left
 
 abbrev pub after_settled : ℕ → HeldOuts → HeldOuts
-after_settled k held = record held { left = settled_left held.left k (maps.get held.left k) }
+after_settled k held = record held { left = left_after_settled held.left k (maps.get held.left k) }
 
 -- the numbers of a queue don't fall
 abbrev pub IsInOrder : Queue → Type 0

@@ -11,7 +11,7 @@ use Rattle.apd_mlme.specs.Outs.{outs_to}
 use Rattle.apd_mlme.specs.rules.{verdict, IsFit}
 use Rattle.apd_record.specs.declared.change.Change.{Change}
 use Rattle.apd_table.specs.Sound.{Sound}
-use Rattle.apd_core.specs.Core.{CoreState, front_of, last_of, kept}
+use Rattle.apd_core.specs.Core.{CoreState, front_of, last_of, kept_count}
 use Rattle.apd_core.specs.Heard.{AreMomentsOf}
 use Rattle.apd_core.specs.Held.{Queue, AreHeld, queue_of, up_to, outs_of}
 
@@ -54,6 +54,6 @@ pub record IsCore (s : CoreState) : Type 0 where
   pub kept_unsettled : (k : ℕ) → s.number < k → k ≤ last_of s → IsSome (maps.get s.held.left k)
   pub kept_settled : (k : ℕ) → IsSome (maps.get s.held.left k) → k ≤ s.number → 0 < outs_of k s.held.queues
   pub kept_given : (k : ℕ) → IsSome (maps.get s.held.left k) → k ≤ last_of s
-  pub few : kept s ≤ MAX_KEPT
+  pub few : kept_count s ≤ MAX_KEPT
   -- an out was given only of a settled entry
   pub given : s.held.given ≤ s.number

@@ -1,13 +1,8 @@
-pub mod ChangedRows
 pub mod Core
-pub mod CoreCodes
-pub mod Fields
 pub mod Heard
 pub mod Held
-pub mod HeldCodes
 pub mod Invariant
-pub mod LaidDown
 pub mod Requests
 pub mod RowMoments
 pub mod Silent
-pub mod TakingBack
+pub mod fields

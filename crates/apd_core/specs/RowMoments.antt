@@ -12,7 +12,7 @@ use Rattle.apd_mlme.specs.Happening.{Happening, Heard, Kick, ListEdit, Expire, C
 use Rattle.apd_mlme.specs.rules.{verdict}
 use Rattle.apd_record.specs.declared.change.Change.{Change}
 use Rattle.apd_record.specs.declared.change.Change.TheVariants.{Put}
-use Rattle.apd_core.specs.Core.{CoreState, accepted, front_of}
+use Rattle.apd_core.specs.Core.{CoreState, answer_at, front_of}
 use Rattle.apd_core.specs.Requests.{happening_of}
 use Rattle.apd_core.specs.declared.input.Input.{Input}
 use Rattle.apd_core.specs.declared.input.QuietReason.{QuietReason}
@@ -51,5 +51,5 @@ pub record IsNoted (m : Moment) (IsHeard : Type 0) (row : Option Station) (old n
 abbrev pub AreNoted : CoreState → Moment → Input → CoreState → Type 0
 AreNoted old m i new =
     (b : Bssid) (a : Addr)
-    → IsNoted m (IsHeardBy old (happening_of old.confs old.heard m i) (accepted old m i) b a)
+    → IsNoted m (IsHeardBy old (happening_of old.confs old.heard m i) (answer_at old m i) b a)
     (station_at (front_of new) b a) (maps.get old.heard (b, a)) (maps.get new.heard (b, a))

@@ -6,8 +6,8 @@ ghost use Rattle.std.specs.Ordering.{eq_by_cmp};
 ghost use Rattle.apd_base.specs.Addr.{bssid_cmp};
 ghost use Rattle.apd_base.specs.declared.limits.TheConstants.{MAX_BSS};
 ghost use Rattle.apd_mlme.specs.laws.Outs.{AreThere};
-ghost use Rattle.apd_core.specs.Held.{queue_place, queue_of, no_queues, no_outs, queued, with_outs, up_to, beyond, after_given, greatest, after_hand, after_settled, IsInOrder, AreHeld};
-ghost use Rattle.apd_core.specs.TakingBack.{before, without, MayFollow};
+ghost use Rattle.apd_core.specs.Held.{queue_place, queue_of, no_queues, no_outs, queues_with_outs, with_outs, up_to, beyond, after_given, greatest_number, after_hand, after_settled, IsInOrder, AreHeld};
+ghost use Rattle.apd_core.specs.fields.TakingBack.{before, without, MayFollow};
 
 use crate::queue::Queue;
 use crate::remaining::Remaining;
@@ -27,7 +27,7 @@ pub(crate) struct Held {
 
 impl Model for Held {
     ghost use Rattle.apd_core.specs.Held.{HeldOuts, AreHeld};
-    ghost use Rattle.apd_core.specs.HeldCodes.{coded_held};
+    ghost use Rattle.apd_core.specs.fields.HeldCodes.{coded_held};
 
     ghost Value = { HeldOuts };
 
@@ -74,7 +74,7 @@ fn add(
     outs: Vec<(Recipient, Out)>,
 ) -> Result<(), AllocError>
     requires { length queues.old ≡ length confs.now + 1 }
-    ensures ok { OnOk result (queues.new ≡ queued confs.now number outs.items queues.old) }
+    ensures ok { OnOk result (queues.new ≡ queues_with_outs confs.now number outs.items queues.old) }
     ensures err { OnErr result (map (before number) queues.new ≡ map (before number) queues.old) }
     ensures order { AllByRecursion (MayFollow number) queues.old → AllByRecursion (MayFollow number) queues.new }
 {
@@ -97,7 +97,7 @@ fn cut(queues: &mut [Queue], number: u64)
 }
 
 // The greater of the greatest number given and another.
-fn raised(given: u64, number: u64) -> u64
+fn greater_number(given: u64, number: u64) -> u64
     ensures { result ≡ (if nat_le given number then number else given) }
 {
     if given <= number { number } else { given }
@@ -115,14 +115,14 @@ fn give(
     ensures outs { IfOk result (λ outs. outs.items ≡ map (λ x. x.1) (up_to number queue.old)) }
     ensures queue { OnOk result (queue.new ≡ beyond number queue.old) }
     ensures remaining { OnOk result (remaining.new ≡ after_given remaining.old (up_to number queue.old)) }
-    ensures given { OnOk result (given.new ≡ greatest given.old (up_to number queue.old)) }
+    ensures given { OnOk result (given.new ≡ greatest_number given.old (up_to number queue.old)) }
     ensures err { OnErr result ((queue.new ≡ queue.old) × (remaining.new ≡ remaining.old) × (given.new ≡ given.old)) }
     ensures lacks { OnErr result (1 ≤ length (up_to number queue.old)) }
 {
     let mut outs = Vec::with_capacity(alloc, queue.count_up_to(number))?;
     while let Some((of, out)) = queue.pop_up_to(number) {
         remaining.lower(of);
-        *given = raised(*given, of);
+        *given = greater_number(*given, of);
         outs.push_reserved(out);
     }
     Ok(outs)
@@ -194,7 +194,7 @@ impl Held {
     }
 
     /// How many outs of the entries up to a number are held for a recipient. It takes no memory.
-    pub(crate) fn ready(&self, confs: &Confs, number: u64, to: Recipient) -> usize
+    pub(crate) fn ready_count(&self, confs: &Confs, number: u64, to: Recipient) -> usize
         requires { length self.now.queues ≡ length confs.now + 1 }
         ensures { result ≡ length (up_to number (queue_of confs.now self.now to)) }
     {

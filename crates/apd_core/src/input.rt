@@ -3,7 +3,7 @@ ghost use Rattle.std.specs.Prelude.{◌≡◌, IfOk, IfSome, IfNone};
 ghost use Rattle.std.specs.Option.{option_map};
 ghost use Rattle.apd_mlme.specs.Happening.{happening};
 ghost use Rattle.apd_mlme.specs.rules.{IsFit};
-ghost use Rattle.apd_core.specs.Requests.{happened, expiry, ordered, said_by, HasLists, unfit};
+ghost use Rattle.apd_core.specs.Requests.{event_happening, expiry, order_happening, happening_said, HasLists, unfitness};
 
 use apd_base::limits::MAX_BSS;
 use apd_base::{Addr, Bssid};
@@ -47,7 +47,7 @@ pub enum QuietReason {
 
 /// The event of a station that is silent for too long, if there is one.
 pub fn expiry(due: Option<(Bssid, Addr)>) -> Result<Event<'static>, QuietReason>
-    ensures { happened result ≡ expiry due }
+    ensures { event_happening result ≡ expiry due }
 {
     match due {
         Some((bssid, addr)) => Ok(Event::Expire { bssid, addr }),
@@ -57,7 +57,7 @@ pub fn expiry(due: Option<(Bssid, Addr)>) -> Result<Event<'static>, QuietReason>
 
 /// A control command's event; any other is none.
 fn order(event: Event<'_>) -> Result<Event<'_>, QuietReason>
-    ensures happening { happened result ≡ ordered (happening event.entry) }
+    ensures happening { event_happening result ≡ order_happening (happening event.entry) }
     ensures lists { IfOk result (λ event. HasLists (happening event)) }
 {
     match event {
@@ -70,7 +70,7 @@ fn order(event: Event<'_>) -> Result<Event<'_>, QuietReason>
 
 /// The event of a request other than a tick, or why its frame is ignored; none of a tick.
 pub fn event_said(input: Input<'_>) -> Option<Result<Event<'_>, QuietReason>>
-    ensures happening { option_map happened result ≡ said_by input.entry }
+    ensures happening { option_map event_happening result ≡ happening_said input.entry }
     ensures lists { IfSome result (λ said. IfOk said (λ event. HasLists (happening event))) }
 {
     match input {
@@ -93,8 +93,8 @@ pub fn event_said(input: Input<'_>) -> Option<Result<Event<'_>, QuietReason>>
 }
 
 /// Why there is no verdict on an event.
-pub fn unfit(table: &Table, confs: &Confs, event: Event<'_>) -> Option<QuietReason>
-    ensures reason { result ≡ unfit table.now confs.now (happening event.entry) }
+pub fn unfitness(table: &Table, confs: &Confs, event: Event<'_>) -> Option<QuietReason>
+    ensures reason { result ≡ unfitness table.now confs.now (happening event.entry) }
     ensures fit { HasLists (happening event.entry) → IfNone result (IsFit table.now confs.now (happening event.entry)) }
 {
     let bssid = event.bssid();

@@ -10,8 +10,8 @@ ghost use Rattle.apd_mlme.specs.declared.decision.Recipient.{Recipient};
 ghost use Rattle.apd_mlme.specs.Outs.{is_same};
 ghost use Rattle.apd_mlme.specs.Run.{outs_run, run};
 ghost use Rattle.apd_table.specs.Sound.{Sound};
-ghost use Rattle.apd_core.specs.Core.{CoreState, accepted, after_request, entered_by, front_of, handed, held_for, is_kept, published, ready_for, IsOwed, IsTaken, IsUnsettled};
-ghost use Rattle.apd_core.specs.Heard.{LastHeard, due};
+ghost use Rattle.apd_core.specs.Core.{CoreState, answer_at, after_request, answer_happenings, front_of, after_handing_out, held_for, is_kept, after_publish, ready_for, IsOwed, IsTaken, IsUnsettled};
+ghost use Rattle.apd_core.specs.Heard.{LastHeard, due_row};
 ghost use Rattle.apd_core.specs.Invariant.{IsCore};
 ghost use Rattle.apd_core.specs.RowMoments.{AreNoted};
 ghost use Rattle.apd_core.specs.Requests.{happening_of};
@@ -43,17 +43,17 @@ pub fn an_entry_is_kept_until_it_is_settled_and_given()
 pub fn an_entry_is_held()
     ensures front { (s : CoreState) (m : Moment) (i : Input)
         → front_of (after_request s m i)
-        ≡ run (front_of s) s.confs (entered_by (accepted s m i) (happening_of s.confs s.heard m i)) }
+        ≡ run (front_of s) s.confs (answer_happenings (answer_at s m i) (happening_of s.confs s.heard m i)) }
     ensures held { (s : CoreState) (m : Moment) (i : Input) (r : Recipient) → IsCore s
         → held_for r (after_request s m i)
         ≡ held_for r s
-        ++ outs_run r (front_of s) s.confs (entered_by (accepted s m i) (happening_of s.confs s.heard m i)) }
+        ++ outs_run r (front_of s) s.confs (answer_happenings (answer_at s m i) (happening_of s.confs s.heard m i)) }
 {}
 
 /// Settling a batch changes neither the table after all entries nor what is held.
 pub fn settling_gives_nothing()
-    ensures front { (s : CoreState) → IsCore s → front_of (published s) ≡ front_of s }
-    ensures held { (s : CoreState) (r : Recipient) → IsCore s → held_for r (published s) ≡ held_for r s }
+    ensures front { (s : CoreState) → IsCore s → front_of (after_publish s) ≡ front_of s }
+    ensures held { (s : CoreState) (r : Recipient) → IsCore s → held_for r (after_publish s) ≡ held_for r s }
 {}
 
 /// Taking a batch changes neither the table after all entries nor what is held.
@@ -71,17 +71,19 @@ pub fn what_was_given_is_settled()
 /// What a recipient is given and what is held for it then is what was held for it; what is held for another
 /// stays.
 pub fn what_is_given_was_held()
-    ensures own { (s : CoreState) (r : Recipient) → IsCore s → ready_for r s ++ held_for r (handed r s) ≡ held_for r s }
-    ensures others { (s : CoreState) (r q : Recipient) → is_same r q ≡ false → held_for q (handed r s) ≡ held_for q s }
+    ensures own { (s : CoreState) (r : Recipient) → IsCore s
+        → ready_for r s ++ held_for r (after_handing_out r s) ≡ held_for r s }
+    ensures others { (s : CoreState) (r q : Recipient) → is_same r q ≡ false
+        → held_for q (after_handing_out r s) ≡ held_for q s }
 {}
 
 /// What is due is the first row, by (BSSID, address), of a configured BSSID that was silent for as long as the
 /// configuration says, or longer; and nothing is due exactly where no row is.
 pub fn what_is_due_is_the_first_silent_row()
     ensures first { (confs : List Conf) (now : Moment) (heard : LastHeard) (row : Bssid × Addr)
-        → (due confs now heard ≡ Some row) ↔ IsFirstSilent confs now heard row }
+        → (due_row confs now heard ≡ Some row) ↔ IsFirstSilent confs now heard row }
     ensures none { (confs : List Conf) (now : Moment) (heard : LastHeard)
-        → (due confs now heard ≡ None) ↔ ((row : Bssid × Addr) → ¬ (IsSilent confs now heard row)) }
+        → (due_row confs now heard ≡ None) ↔ ((row : Bssid × Addr) → ¬ (IsSilent confs now heard row)) }
 {}
 
 /// After a request at a moment that moment is the one of each row that it heard: the row of the sender of a
@@ -94,6 +96,6 @@ pub fn a_row_has_the_moment_at_which_it_was_heard()
 /// A tick is quiet for one reason alone, that no station is due: one that is due stands at a BSSID that is
 /// configured and has a policy row, and goes by an entry.
 pub fn a_tick_is_quiet_where_nothing_is_due()
-    ensures { (s : CoreState) (m : Moment) → IsCore s → (reason : QuietReason) → accepted s m Tick ≡ Quiet reason
-        → (reason ≡ Nothing) × (due s.confs m s.heard ≡ None) }
+    ensures { (s : CoreState) (m : Moment) → IsCore s → (reason : QuietReason) → answer_at s m Tick ≡ Quiet reason
+        → (reason ≡ Nothing) × (due_row s.confs m s.heard ≡ None) }
 {}

@@ -13,7 +13,7 @@ mod remaining;
 mod request_core;
 mod ticket;
 
-pub use input::{Input, QuietReason, event_said, expiry, unfit};
+pub use input::{Input, QuietReason, event_said, expiry, unfitness};
 pub use publish_fault::PublishFault;
 pub use query_answer::Answer;
 pub use request_core::Core;

@@ -11,9 +11,9 @@ ghost use Rattle.apd_base.specs.declared.address.Addr.{Addr};
 ghost use Rattle.apd_base.specs.declared.address.Bssid.{Bssid};
 ghost use Rattle.apd_mlme.specs.Happening.{happening};
 ghost use Rattle.apd_record.specs.Meaning.{meaning_of};
-ghost use Rattle.apd_core.specs.Heard.{due, heard_by, heard_by_changes, heard_from, is_due, is_too_long, AreHeardAt, AreMomentsOf, LastHeard};
-ghost use Rattle.apd_core.specs.ChangedRows.{drops_row, is_drop_of, is_of, is_put_of, puts_row, touches_row};
-ghost use Rattle.apd_core.specs.LaidDown.{heard_at, tidied, AreLaidDown, HaveRoomFor};
+ghost use Rattle.apd_core.specs.Heard.{due_row, heard_by, heard_by_changes, heard_from, is_due, is_too_long, AreHeardAt, AreMomentsOf, LastHeard};
+ghost use Rattle.apd_core.specs.fields.ChangedRows.{is_of, is_put_of, puts_row, touches_row};
+ghost use Rattle.apd_core.specs.fields.LaidDown.{heard_at, moment_left, AreLaidDown, HaveRoomFor};
 
 use apd_base::{Addr, Bssid, Moment};
 use apd_conf::{Conf, Confs};
@@ -34,7 +34,7 @@ impl Model for Moments {
     ghost use Rattle.std.specs.Prelude.{T};
     ghost use Rattle.std.specs.FinMap as map;
     ghost use Rattle.apd_base.specs.Addr.{station_cmp};
-    ghost use Rattle.apd_core.specs.CoreCodes.{coded_last_heard};
+    ghost use Rattle.apd_core.specs.fields.CoreCodes.{coded_last_heard};
     ghost use Rattle.apd_core.specs.Heard.{LastHeard};
 
     ghost Value = { LastHeard };
@@ -70,7 +70,7 @@ fn key_of(row: Option<(&(Bssid, Addr), &Moment)>) -> Option<(Bssid, Addr)>
 }
 
 /// The first such row.
-fn first_due(
+fn first_due_row(
     rows: &BTreeMap<(Bssid, Addr), Moment>,
     confs: &Confs,
     now: Moment,
@@ -190,7 +190,7 @@ impl Moments {
     fn tidy_row(&mut self, bssid: Bssid, addr: Addr, table: &Table)
         ensures { (k : Bssid × Addr)
             → map.get self.new k
-            ≡ tidied (eq_by_cmp station_cmp k (bssid, addr))
+            ≡ moment_left (eq_by_cmp station_cmp k (bssid, addr))
             (is_some (map.get table.now.stations k)) (map.get self.old k) }
     {
         if table.get(bssid, addr).is_none() {
@@ -202,7 +202,7 @@ impl Moments {
     fn tidy(&mut self, change: &Change, table: &Table)
         ensures { (k : Bssid × Addr)
             → map.get self.new k
-            ≡ tidied (is_of k change.now) (is_some (map.get table.now.stations k)) (map.get self.old k) }
+            ≡ moment_left (is_of k change.now) (is_some (map.get table.now.stations k)) (map.get self.old k) }
     {
         match *change {
             Change::Put { bssid, addr, .. } => self.tidy_row(bssid, addr, table),
@@ -215,32 +215,10 @@ impl Moments {
     fn tidy_all(&mut self, changes: &[Change], table: &Table)
         ensures { (k : Bssid × Addr)
             → map.get self.new k
-            ≡ tidied (touches_row changes.now k) (is_some (map.get table.now.stations k)) (map.get self.old k) }
+            ≡ moment_left (touches_row changes.now k) (is_some (map.get table.now.stations k)) (map.get self.old k) }
     {
         for change in changes {
             self.tidy(change, table);
-        }
-    }
-
-    /// The row that a change drops keeps its moment only where the table has it.
-    fn tidy_drop(&mut self, change: &Change, table: &Table)
-        ensures { (k : Bssid × Addr)
-            → map.get self.new k
-            ≡ tidied (is_drop_of k change.now) (is_some (map.get table.now.stations k)) (map.get self.old k) }
-    {
-        if let Change::Drop { bssid, addr } = *change {
-            self.tidy_row(bssid, addr, table);
-        }
-    }
-
-    /// The same for changes.
-    fn tidy_drops(&mut self, changes: &[Change], table: &Table)
-        ensures { (k : Bssid × Addr)
-            → map.get self.new k
-            ≡ tidied (drops_row changes.now k) (is_some (map.get table.now.stations k)) (map.get self.old k) }
-    {
-        for change in changes {
-            self.tidy_drop(change, table);
         }
     }
 
@@ -281,7 +259,7 @@ impl Moments {
             → table.now ≡ meaning_of changes.now state → self.new ≡ heard_by_changes moment changes.now before }
     {
         self.stamp_all(changes, moment);
-        self.tidy_drops(changes, table);
+        self.tidy_all(changes, table);
     }
 
     /// A station was heard. Without a row it has no moment. It takes no memory, and looks at its row alone.
@@ -308,9 +286,9 @@ impl Moments {
 
     /// The first row of a configured BSSID, by (BSSID, address), that is silent for as long as its
     /// configuration says. It takes no memory.
-    pub(crate) fn due(&self, confs: &Confs, now: Moment) -> Option<(Bssid, Addr)>
-        ensures { result ≡ due confs.now now self.now }
+    pub(crate) fn due_row(&self, confs: &Confs, now: Moment) -> Option<(Bssid, Addr)>
+        ensures { result ≡ due_row confs.now now self.now }
     {
-        first_due(&self.rows, confs, now)
+        first_due_row(&self.rows, confs, now)
     }
 }

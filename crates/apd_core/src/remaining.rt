@@ -3,7 +3,7 @@ ghost use Rattle.std.specs.Prelude.{◌≡◌, OnOk, OnErr, IsSome, IsOk, ℕ};
 ghost use Rattle.std.specs.Coded.{coded_ℕ};
 ghost use Rattle.std.specs.FinMap as map;
 ghost use Rattle.std.specs.Ordering.{nat_cmp};
-ghost use Rattle.apd_core.specs.Held.{less_one, settled_left};
+ghost use Rattle.apd_core.specs.Held.{less_one, left_after_settled};
 
 use std::alloc::{AllocError, Global};
 use std::collections::BTreeMap;
@@ -80,7 +80,7 @@ impl Remaining {
 
     /// Takes an entry out, if its count is 0. It takes no memory.
     pub(crate) fn settle(&mut self, number: u64)
-        ensures { self.new ≡ settled_left self.old number (map.get self.old number) }
+        ensures { self.new ≡ left_after_settled self.old number (map.get self.old number) }
     {
         if let Some(count) = self.get(number) {
             if count == 0 {

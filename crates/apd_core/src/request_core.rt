@@ -14,15 +14,15 @@ ghost use Rattle.std.specs.Option.{option_map};
 ghost use Rattle.apd_base.specs.State.{State};
 ghost use Rattle.apd_mlme.specs.declared.decision.TheConstants.{MAX_RECORDS};
 ghost use Rattle.apd_mlme.specs.Run.{AreFit};
-ghost use Rattle.apd_core.specs.Requests.{happened, happening_of, HasLists};
-ghost use Rattle.apd_core.specs.Core.{all_settled, changes_of, IsLongestFront};
-ghost use Rattle.apd_core.specs.Fields.{entries_of, IsMeasured};
-ghost use Rattle.apd_journal.specs.Half.{IsGroup};
+ghost use Rattle.apd_core.specs.Requests.{event_happening, happening_of, HasLists};
+ghost use Rattle.apd_core.specs.Core.{after_all_settled, IsLongestFront};
+ghost use Rattle.apd_core.specs.fields.Core.{entries_of, IsMeasured};
+ghost use Rattle.apd_journal.specs.Half.{IsGroup, changes_of};
 ghost use Rattle.apd_store.specs.Outside.{held_batch};
 
 use crate::entry::Entry;
 use crate::held::Held;
-use crate::input::{Input, QuietReason, event_said, expiry, unfit};
+use crate::input::{Input, QuietReason, event_said, expiry, unfitness};
 use crate::moments::Moments;
 use crate::publish_fault::PublishFault;
 use crate::query_answer::Answer;
@@ -67,9 +67,9 @@ impl Model for Core {
     ghost use Rattle.apd_base.specs.Codes.{coded_state};
     ghost use Rattle.apd_conf.specs.Codes.{coded_confs};
     ghost use Rattle.apd_core.specs.Core.{CoreState};
-    ghost use Rattle.apd_core.specs.CoreCodes.{coded_last_heard};
-    ghost use Rattle.apd_core.specs.Fields.{core_of, IsKept};
-    ghost use Rattle.apd_core.specs.HeldCodes.{coded_held};
+    ghost use Rattle.apd_core.specs.fields.CoreCodes.{coded_last_heard};
+    ghost use Rattle.apd_core.specs.fields.Core.{core_of, IsKept};
+    ghost use Rattle.apd_core.specs.fields.HeldCodes.{coded_held};
 
     ghost Value = { CoreState };
 
@@ -81,9 +81,9 @@ impl Model for Core {
 }
 
 impl Core {
-    ghost use Rattle.apd_core.specs.Core.{accepted, after_request, new_core, answer_to, entered_by, entered_state, front_of, is_busy, is_stopped, last_of, with_entry, IsDecided};
+    ghost use Rattle.apd_core.specs.Core.{answer_at, after_request, new_core, answer_to, answer_happenings, entered_state, front_of, is_busy, is_stopped, last_of, with_entry, IsDecided};
     ghost use Rattle.apd_core.specs.Invariant.{IsCore};
-    ghost use Rattle.apd_core.specs.Requests.{unfit};
+    ghost use Rattle.apd_core.specs.Requests.{unfitness};
     ghost use Rattle.apd_core.specs.Heard.{AreHeardAt};
 
     /// A core of a table and of configurations, with no entry: every station with a row was heard at this
@@ -151,12 +151,12 @@ impl Core {
 
     /// The event of a request at a moment, or why it is no entry.
     fn event_of<'a>(&self, input: Input<'a>, moment: Moment) -> Result<Event<'a>, QuietReason>
-        ensures happening { happened result ≡ happening_of self.now.confs self.now.heard moment input.entry }
+        ensures happening { event_happening result ≡ happening_of self.now.confs self.now.heard moment input.entry }
         ensures lists { IfOk result (λ event. HasLists (happening event)) }
     {
         match event_said(input) {
             Some(said) => said,
-            None => expiry(self.heard.due(&self.confs, moment)),
+            None => expiry(self.heard.due_row(&self.confs, moment)),
         }
     }
 
@@ -174,11 +174,11 @@ impl Core {
         input: Input<'a>,
         moment: Moment,
     ) -> Result<Accepted<'a>, AllocError>
-        ensures answer { IfOk result (λ answer. answer ≡ accepted self.old moment input.entry) }
+        ensures answer { IfOk result (λ answer. answer ≡ answer_at self.old moment input.entry) }
         ensures ok { OnOk result (self.new ≡ after_request self.old moment input.entry) }
         ensures fit { IfOk result
             (λ answer. AreFit (front_of self.old) self.old.confs
-            (entered_by answer (happening_of self.old.confs self.old.heard moment input.entry))) }
+            (answer_happenings answer (happening_of self.old.confs self.old.heard moment input.entry))) }
         ensures err { OnErr result (self.new ≡ self.old) }
         ensures lacks { OnErr result (IsDecided self.old moment input.entry) }
     {
@@ -211,13 +211,14 @@ impl Core {
             (λ answer. answer ≡ answer_to self.old moment input.entry (Ok (happening event.entry))) }
         ensures ok { IfOk result (λ answer. self.new ≡ entered_state answer self.old moment (happening event.entry)) }
         ensures fit { IfOk result
-            (λ answer. AreFit (front_of self.old) self.old.confs (entered_by answer (Ok (happening event.entry)))) }
+            (λ answer. AreFit (front_of self.old) self.old.confs
+            (answer_happenings answer (Ok (happening event.entry)))) }
         ensures err { OnErr result (self.new ≡ self.old) }
-        ensures lacks { OnErr result (unfit (front_of self.old) self.old.confs (happening event.entry) ≡ None) }
+        ensures lacks { OnErr result (unfitness (front_of self.old) self.old.confs (happening event.entry) ≡ None) }
         ensures something { OnErr result
             (is_nothing (verdict (front_of self.old) self.old.confs (happening event.entry)) ≡ false) }
     {
-        match unfit(self.front(), &self.confs, event) {
+        match unfitness(self.front(), &self.confs, event) {
             Some(reason) => return Ok(Accepted::Quiet(reason)),
             None => {}
         }
@@ -281,7 +282,7 @@ fn settle_front(unsettled: &mut VecDeque<Entry>, held: &mut Held, number: u64, c
     requires numbers { number + count < 2 ^ 64 }
     requires there { count ≤ length unsettled.old.items }
     ensures unsettled { unsettled.new.items ≡ drop count unsettled.old.items }
-    ensures held { held.new ≡ all_settled number count held.old }
+    ensures held { held.new ≡ after_all_settled number count held.old }
 {
     for place in 0..count {
         unsettled.pop_front();
@@ -313,7 +314,7 @@ fn longest_front(
 }
 
 impl Core {
-    ghost use Rattle.apd_core.specs.Core.{answered, cannot_take, handed, published, ready_for, IsFlight, IsTaken};
+    ghost use Rattle.apd_core.specs.Core.{answer_to_query, cannot_take, after_handing_out, after_publish, ready_for, IsFlight, IsTaken};
 
     /// Gives away the longest front of the entries that are not settled whose records fit one group; none
     /// exactly where a batch is in flight, every entry is settled, or the core has failed. Then it takes no
@@ -358,7 +359,7 @@ impl Core {
     /// `NoMemory`, for the batch in flight alone.
     pub fn publish(&mut self, receipt: Receipt) -> Result<(), (Receipt, PublishFault)>
         ensures flight { OnOk result (IsFlight (held_batch receipt) self.old) }
-        ensures ok { OnOk result (self.new ≡ published self.old) }
+        ensures ok { OnOk result (self.new ≡ after_publish self.old) }
         ensures foreign { IfErr result (λ e. (e.1 ≡ PublishFault.Foreign) ↔ ¬ IsFlight (held_batch receipt) self.old) }
         ensures err { IfErr result (λ e. (e.0 ≡ receipt) × (self.new ≡ self.old)) }
         ensures lacks { IfErr result (λ e. e.1 ≡ PublishFault.NoMemory → IsFlight (held_batch receipt) self.old) }
@@ -391,10 +392,10 @@ impl Core {
     }
 
     /// How many outs `hand` gives a recipient now. It takes no memory.
-    pub fn ready(&self, to: Recipient) -> usize
+    pub fn ready_count(&self, to: Recipient) -> usize
         ensures { result ≡ length (ready_for to self.now) }
     {
-        self.held.ready(&self.confs, self.number, to)
+        self.held.ready_count(&self.confs, self.number, to)
     }
 
     /// Gives a recipient the outs of settled entries that it was not given yet, in the order of the entries.
@@ -402,7 +403,7 @@ impl Core {
     /// no memory.
     pub fn hand(&mut self, to: Recipient) -> Result<Vec<Out>, AllocError>
         ensures outs { IfOk result (λ outs. outs.items ≡ ready_for to self.old) }
-        ensures ok { OnOk result (self.new ≡ handed to self.old) }
+        ensures ok { OnOk result (self.new ≡ after_handing_out to self.old) }
         ensures err { OnErr result (self.new ≡ self.old) }
         ensures lacks { OnErr result (1 ≤ length (ready_for to self.old)) }
     {
@@ -419,7 +420,7 @@ impl Core {
 
     /// Answers a query from the table after all settled entries.
     pub fn read(&self, query: Query) -> Result<Answer, AllocError>
-        ensures { IfOk result (λ answer. answer ≡ answered self.now query) }
+        ensures { IfOk result (λ answer. answer ≡ answer_to_query self.now query) }
     {
         let text = reply(self.alloc, self.settled.table(), &self.confs, query)?;
         Ok(Answer::new(query, Sequence::from_vec(text), self.number))

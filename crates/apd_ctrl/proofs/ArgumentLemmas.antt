@@ -19,7 +19,7 @@ use Rattle.apd_mlme.specs.declared.event.Edit.TheVariants.{Add, Remove, Clear}
 use Rattle.apd_ctrl.specs.declared.command.Command.{Command}
 use Rattle.apd_ctrl.specs.declared.command.Command.TheVariants as c
 use Rattle.apd_ctrl.specs.Grammar.{after_blank, list_word, IsReasonNumber, IsReason, IsDismissal, IsEdit, Says}
-use Rattle.apd_ctrl.specs.Reading.{word, behind, as_reason, reason_number, reason_given, reason_of, both, dismissal_of, list_with, list_command}
+use Rattle.apd_ctrl.specs.Reading.{word, behind, as_reason, reason_number, reason_given, reason_of, pair_of, dismissal_of, list_with, list_command}
 use Rattle.apd_ctrl.proofs.WordLemmas.{text_is}
 
 -- what is mapped was there
@@ -69,18 +69,18 @@ dismissal-reads to reason text h =
     let whole : length text ≡ length address + length rest = ap length is ∙ length-append address rest in
     let front : take 17 text ≡ address = ap (λ n. take n text) (sym long) ∙ ap (take (length address)) is ∙ take-append_seam address rest in
     let end : drop 17 text ≡ rest = ap (λ n. drop n text) (sym long) ∙ ap (drop (length address)) is ∙ drop-append_seam address rest in
-    ap (λ b. cond b None (both (address_of (take 17 text)) (reason_of (drop 17 text)))) (le-ltb (length text) 17 (omega arith))
-    ∙ (λ i. both ((ap address_of front ∙ h.1) i) ((ap reason_of end ∙ reason-reads reason rest h.2.2) i))
+    ap (λ b. cond b None (pair_of (address_of (take 17 text)) (reason_of (drop 17 text)))) (le-ltb (length text) 17 (omega arith))
+    ∙ (λ i. pair_of ((ap address_of front ∙ h.1) i) ((ap reason_of end ∙ reason-reads reason rest h.2.2) i))
 
 -- both were there
-parts_of : {A B : Type 0} (a : Option A) (b : Option B) (x : A) (y : B) → both a b ≡ Some (x, y) → (a ≡ Some x) × (b ≡ Some y)
+parts_of : {A B : Type 0} (a : Option A) (b : Option B) (x : A) (y : B) → pair_of a b ≡ Some (x, y) → (a ≡ Some x) × (b ≡ Some y)
 parts_of None b x y e = cc
 parts_of (Some a) None x y e = cc
 parts_of (Some a) (Some b) x y e = (let pair = same_Some (a, b) (x, y) e in (ap (λ p. Some p.0) pair, ap (λ p. Some p.1) pair))
 
 pub dismissal-says : (to : Addr) (reason : Reason) (text : List ℕ) → dismissal_of text ≡ Some (to, reason) → IsDismissal to reason text
 dismissal-says to reason text e =
-    elim (nat_lt (length text) 17) as (λ b. nat_lt (length text) 17 ≡ b → cond b None (both (address_of (take 17 text)) (reason_of (drop 17 text))) ≡ Some (to, reason) → IsDismissal to reason text) [
+    elim (nat_lt (length text) 17) as (λ b. nat_lt (length text) 17 ≡ b → cond b None (pair_of (address_of (take 17 text)) (reason_of (drop 17 text))) ≡ Some (to, reason) → IsDismissal to reason text) [
       | true ↦ λ t e. cc
       | false ↦ λ t e.
           let parts = parts_of (address_of (take 17 text)) (reason_of (drop 17 text)) to reason e in

@@ -20,7 +20,7 @@ use Rattle.apd_ctrl.specs.declared.word.Word.{Word}
 use Rattle.apd_ctrl.specs.declared.word.Word.TheVariants as w
 use Rattle.apd_ctrl.specs.Words.{spelling, words, word_of, word_among}
 use Rattle.apd_ctrl.specs.Grammar.{after_blank, IsListed, IsRefused, Says}
-use Rattle.apd_ctrl.specs.Reading.{word, behind, dismissal_of, command_with, told, command_after, command_of}
+use Rattle.apd_ctrl.specs.Reading.{word, behind, dismissal_of, command_with, value_or_fail, command_after, command_of}
 use Rattle.apd_ctrl.proofs.WordLemmas.{text_is, word_joined, behind_joined, free_from}
 use Rattle.apd_ctrl.proofs.ArgumentLemmas.{mapped, dismissal-reads, dismissal-says, edit-reads, show-reads, list-says}
 
@@ -60,24 +60,24 @@ module _ (k : Word) (rest : Option (List ℕ)) (text : List ℕ) (is : text ≡ 
   rest_known : behind text ≡ rest
   rest_known = ap behind is ∙ behind_joined (spelling k) rest (free_from (spelling k) (spelled_free k))
 
-  read_with : command_of text ≡ told (command_with k rest)
+  read_with : command_of text ≡ value_or_fail (command_with k rest)
   read_with = (λ i. command_after (first_known i) (rest_known i))
 
 -- what is said is read
 pub says-reads : (text : List ℕ) (command : Command) → Says text command → command_of text ≡ Ok command
 says-reads text c.Ping h = read_with w.Ping None text h
 says-reads text c.Status h = read_with w.Status None text h
-says-reads text (c.Sta a) h = read_with w.Sta (Some h.0) text h.1 ∙ ap (λ o. told (option_map c.Sta o)) h.2
+says-reads text (c.Sta a) h = read_with w.Sta (Some h.0) text h.1 ∙ ap (λ o. value_or_fail (option_map c.Sta o)) h.2
 says-reads text c.StaFirst h = read_with w.StaFirst None text h
-says-reads text (c.StaNext a) h = read_with w.StaNext (Some h.0) text h.1 ∙ ap (λ o. told (option_map c.StaNext o)) h.2
+says-reads text (c.StaNext a) h = read_with w.StaNext (Some h.0) text h.1 ∙ ap (λ o. value_or_fail (option_map c.StaNext o)) h.2
 says-reads text (c.Deauthenticate to reason) h =
-    read_with w.Deauthenticate (Some h.0) text h.1 ∙ ap (λ o. told (option_map (λ d. c.Deauthenticate d.0 d.1) o)) (dismissal-reads to reason h.0 h.2)
+    read_with w.Deauthenticate (Some h.0) text h.1 ∙ ap (λ o. value_or_fail (option_map (λ d. c.Deauthenticate d.0 d.1) o)) (dismissal-reads to reason h.0 h.2)
 says-reads text (c.Disassociate to reason) h =
-    read_with w.Disassociate (Some h.0) text h.1 ∙ ap (λ o. told (option_map (λ d. c.Disassociate d.0 d.1) o)) (dismissal-reads to reason h.0 h.2)
-says-reads text (c.ListEdit Accept edit) h = read_with (w.List Accept) (Some h.0) text h.1 ∙ ap told (edit-reads Accept edit h.0 h.2)
-says-reads text (c.ListEdit Deny edit) h = read_with (w.List Deny) (Some h.0) text h.1 ∙ ap told (edit-reads Deny edit h.0 h.2)
-says-reads text (c.Show Accept) h = read_with (w.List Accept) (Some h.0) text h.1 ∙ ap told (show-reads Accept h.0 h.2)
-says-reads text (c.Show Deny) h = read_with (w.List Deny) (Some h.0) text h.1 ∙ ap told (show-reads Deny h.0 h.2)
+    read_with w.Disassociate (Some h.0) text h.1 ∙ ap (λ o. value_or_fail (option_map (λ d. c.Disassociate d.0 d.1) o)) (dismissal-reads to reason h.0 h.2)
+says-reads text (c.ListEdit Accept edit) h = read_with (w.List Accept) (Some h.0) text h.1 ∙ ap value_or_fail (edit-reads Accept edit h.0 h.2)
+says-reads text (c.ListEdit Deny edit) h = read_with (w.List Deny) (Some h.0) text h.1 ∙ ap value_or_fail (edit-reads Deny edit h.0 h.2)
+says-reads text (c.Show Accept) h = read_with (w.List Accept) (Some h.0) text h.1 ∙ ap value_or_fail (show-reads Accept h.0 h.2)
+says-reads text (c.Show Deny) h = read_with (w.List Deny) (Some h.0) text h.1 ∙ ap value_or_fail (show-reads Deny h.0 h.2)
 
 -- what follows a word says it
 with-says : (k : Word) (rest : Option (List ℕ)) (command : Command) → command_with k rest ≡ Some command → Says (spelling k ++ after_blank rest) command
@@ -104,13 +104,13 @@ with-says (w.List Accept) (Some text) command e = list-says Accept text command 
 with-says (w.List Deny) (Some text) command e = list-says Deny text command e
 
 -- what is told
-told-ok : (o : Option Command) (command : Command) → told o ≡ Ok command → o ≡ Some command
-told-ok None command e = cc
-told-ok (Some x) command e = cc
+value_or_fail-ok : (o : Option Command) (command : Command) → value_or_fail o ≡ Ok command → o ≡ Some command
+value_or_fail-ok None command e = cc
+value_or_fail-ok (Some x) command e = cc
 
-told-fail : (o : Option Command) (why : Refusal) → told o ≡ Err why → why ≡ Fail
-told-fail None why e = cc
-told-fail (Some x) why e = cc
+value_or_fail-fail : (o : Option Command) (why : Refusal) → value_or_fail o ≡ Err why → why ≡ Fail
+value_or_fail-fail None why e = cc
+value_or_fail-fail (Some x) why e = cc
 
 -- what a text is, by its first word
 known_text : (text : List ℕ) (k : Word) → word_of (word text) ≡ Some k → text ≡ spelling k ++ after_blank (behind text)
@@ -121,7 +121,7 @@ pub reads-says : (text : List ℕ) (command : Command) → command_of text ≡ O
 reads-says text command e =
     elim (word_of (word text)) as (λ o. word_of (word text) ≡ o → command_after o (behind text) ≡ Ok command → Says text command) [
       | None ↦ λ is e. cc
-      | Some k ↦ λ is e. subst (λ t. Says t command) (sym (known_text text k is)) (with-says k (behind text) command (told-ok (command_with k (behind text)) command e))
+      | Some k ↦ λ is e. subst (λ t. Says t command) (sym (known_text text k is)) (with-says k (behind text) command (value_or_fail-ok (command_with k (behind text)) command e))
     ] refl e
 
 -- and what is refused is refused for that
@@ -134,8 +134,8 @@ not_ok text why e command h = let ok : command_of text ≡ Ok command = says-rea
 pub refused-so : (text : List ℕ) (why : Refusal) → command_of text ≡ Err why → IsRefused text why
 refused-so text Unknown e = λ h.
     let known = listed_known text h in
-    let after : told (command_with known.0 (behind text)) ≡ Err Unknown = sym (ap (λ o. command_after o (behind text)) known.1) ∙ e in
-    let fail : Unknown ≡ Fail = told-fail (command_with known.0 (behind text)) Unknown after in
+    let after : value_or_fail (command_with known.0 (behind text)) ≡ Err Unknown = sym (ap (λ o. command_after o (behind text)) known.1) ∙ e in
+    let fail : Unknown ≡ Fail = value_or_fail-fail (command_with known.0 (behind text)) Unknown after in
     cc
 refused-so text Fail e =
     elim (word_of (word text)) as (λ o. word_of (word text) ≡ o → command_after o (behind text) ≡ Err Fail → IsRefused text Fail) [

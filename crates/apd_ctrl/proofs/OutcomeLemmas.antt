@@ -10,8 +10,8 @@ use Rattle.apd_base.specs.declared.limits.TheConstants.{MAX_COMMAND}
 use Rattle.apd_ctrl.specs.declared.command.Command.{Command}
 use Rattle.apd_ctrl.specs.declared.parser.Refusal.{Refusal}
 use Rattle.apd_ctrl.specs.declared.parser.Refusal.TheVariants.{Fail}
-use Rattle.apd_ctrl.specs.Grammar.{after_blank, IsLine, IsPrefixed, IsSplit, IsRead, IsLineOutcome, IsOutcome}
-use Rattle.apd_ctrl.specs.Reading.{line_of, word, behind, named, split_prefix, command_of, at_interface, read_line, line_outcome, outcome}
+use Rattle.apd_ctrl.specs.Grammar.{after_blank, IsLine, IsPrefixed, IsSplit, IsReadAs, IsLineOutcome, IsOutcome}
+use Rattle.apd_ctrl.specs.Reading.{line_of, word, behind, name_and_rest, split_prefix, command_of, at_interface, read_line, line_outcome, outcome}
 use Rattle.apd_ctrl.proofs.WordLemmas.{text_is, word_free, word_joined, behind_joined}
 use Rattle.apd_ctrl.proofs.ArgumentLemmas.{split_front}
 use Rattle.apd_ctrl.proofs.CommandLemmas.{says-reads, reads-says, refused-so, refusal-reads}
@@ -20,7 +20,7 @@ use Rattle.apd_ctrl.proofs.CommandLemmas.{says-reads, reads-says, refused-so, re
 prefixed-splits : (line name text : List ℕ) → IsPrefixed line name text → split_prefix line ≡ (Some name, text)
 prefixed-splits line name text h =
     ap split_prefix h.1
-    ∙ (λ i. named (codes "IFNAME=" ++ name ++ 32 ∷ text) (word_joined name (Some text) h.0 i) (behind_joined name (Some text) h.0 i))
+    ∙ (λ i. name_and_rest (codes "IFNAME=" ++ name ++ 32 ∷ text) (word_joined name (Some text) h.0 i) (behind_joined name (Some text) h.0 i))
 
 -- what the front and a blank behind it make a prefix
 blank_makes : (line rest : List ℕ) → starts_with nat_eq line (codes "IFNAME=") ≡ true → behind (drop 7 line) ≡ Some rest → IsPrefixed line (word (drop 7 line)) rest
@@ -36,12 +36,12 @@ unsplit line name text h e =
 splits : (line : List ℕ) → IsSplit line (split_prefix line).0 (split_prefix line).1
 splits line =
     elim (starts_with nat_eq line (codes "IFNAME=")) as (λ b. starts_with nat_eq line (codes "IFNAME=") ≡ b
-    → IsSplit line (cond b (named line (word (drop 7 line)) (behind (drop 7 line))) (None, line)).0 (cond b (named line (word (drop 7 line)) (behind (drop 7 line))) (None, line)).1) [
-      | true ↦ λ front. elim (behind (drop 7 line)) as (λ o. behind (drop 7 line) ≡ o → IsSplit line (named line (word (drop 7 line)) o).0 (named line (word (drop 7 line)) o).1) [
-        | None ↦ λ none. (refl, λ name rest h. unsplit line name rest h (λ i. cond (front i) (named line (word (drop 7 line)) (none i)) (None, line)))
+    → IsSplit line (cond b (name_and_rest line (word (drop 7 line)) (behind (drop 7 line))) (None, line)).0 (cond b (name_and_rest line (word (drop 7 line)) (behind (drop 7 line))) (None, line)).1) [
+      | true ↦ λ front. elim (behind (drop 7 line)) as (λ o. behind (drop 7 line) ≡ o → IsSplit line (name_and_rest line (word (drop 7 line)) o).0 (name_and_rest line (word (drop 7 line)) o).1) [
+        | None ↦ λ none. (refl, λ name rest h. unsplit line name rest h (λ i. cond (front i) (name_and_rest line (word (drop 7 line)) (none i)) (None, line)))
         | Some rest ↦ λ is. blank_makes line rest front is
       ] refl
-      | false ↦ λ other. (refl, λ name rest h. unsplit line name rest h (λ i. cond (other i) (named line (word (drop 7 line)) (behind (drop 7 line))) (None, line)))
+      | false ↦ λ other. (refl, λ name rest h. unsplit line name rest h (λ i. cond (other i) (name_and_rest line (word (drop 7 line)) (behind (drop 7 line))) (None, line)))
     ] refl
 
 -- and in no other way
@@ -54,7 +54,7 @@ split-reads line None text h = go (split_prefix line) (splits line) refl
     go (None, rest) s e = e ∙ ap (λ t. (None, t)) (s.0 ∙ sym h.0)
 
 -- what a line is read as
-read-reads : (line : List ℕ) (x : Result (Option (List ℕ) × Command) Refusal) → IsRead line x → x ≡ read_line line
+read-reads : (line : List ℕ) (x : Result (Option (List ℕ) × Command) Refusal) → IsReadAs line x → x ≡ read_line line
 read-reads line (Ok read) h =
     let split = split-reads line read.0 h.0 h.1 in
     sym ((λ i. at_interface (split i).0 (command_of (split i).1)) ∙ ap (at_interface read.0) (says-reads h.0 read.1 h.2))
@@ -62,10 +62,10 @@ read-reads line (Err why) h =
     let split = split-reads line h.0 h.1 h.2 in
     sym ((λ i. at_interface (split i).0 (command_of (split i).1)) ∙ ap (at_interface h.0) (refusal-reads h.1 why h.3))
 
-reads-read : (line : List ℕ) → IsRead line (read_line line)
+reads-read : (line : List ℕ) → IsReadAs line (read_line line)
 reads-read line = go (command_of (split_prefix line).1) refl
   where
-    go : (r : Result Command Refusal) → command_of (split_prefix line).1 ≡ r → IsRead line (at_interface (split_prefix line).0 r)
+    go : (r : Result Command Refusal) → command_of (split_prefix line).1 ≡ r → IsReadAs line (at_interface (split_prefix line).0 r)
     go (Ok command) e = ((split_prefix line).1, splits line, reads-says (split_prefix line).1 command e)
     go (Err why) e = ((split_prefix line).0, (split_prefix line).1, splits line, refused-so (split_prefix line).1 why e)
 

@@ -17,5 +17,5 @@ escaped_byte b =
     else (if nat_le blank b && nat_le b 126 then b ∷ []
     else codes "\\x" ++ hex_byte b))))))
 
-abbrev pub escaped : List ℕ → List ℕ
-escaped bytes = flat_map escaped_byte bytes
+abbrev pub escaped_text : List ℕ → List ℕ
+escaped_text bytes = flat_map escaped_byte bytes

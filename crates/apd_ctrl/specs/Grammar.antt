@@ -91,24 +91,24 @@ IsRefused text Unknown = ¬ (IsListed text)
 IsRefused text Fail = IsListed text × ((command : Command) → ¬ (Says text command))
 
 -- what a line of at most 4,096 bytes is
-abbrev pub IsRead : List ℕ → Result (Option (List ℕ) × Command) Refusal → Type 0
-IsRead line (Ok read) = (text : List ℕ) × IsSplit line read.0 text × Says text read.1
-IsRead line (Err why) = (name : Option (List ℕ)) × (text : List ℕ) × IsSplit line name text × IsRefused text why
+abbrev pub IsReadAs : List ℕ → Result (Option (List ℕ) × Command) Refusal → Type 0
+IsReadAs line (Ok read) = (text : List ℕ) × IsSplit line read.0 text × Says text read.1
+IsReadAs line (Err why) = (name : Option (List ℕ)) × (text : List ℕ) × IsSplit line name text × IsRefused text why
 
 -- what a line is: one that is too long fails whatever it says
 abbrev pub IsLineOutcome : List ℕ → Result (Option (List ℕ) × Command) Refusal → Type 0
 IsLineOutcome line outcome =
-    ((length line ≤ MAX_COMMAND) × IsRead line outcome) ⊎ ((MAX_COMMAND < length line) × (outcome ≡ Err Fail))
+    ((length line ≤ MAX_COMMAND) × IsReadAs line outcome) ⊎ ((MAX_COMMAND < length line) × (outcome ≡ Err Fail))
 
 -- what bytes are as a command: what their line is
 abbrev pub IsOutcome : List ℕ → Result (Option (List ℕ) × Command) Refusal → Type 0
 IsOutcome bytes outcome = (line : List ℕ) × IsLine bytes line × IsLineOutcome line outcome
 
 -- an answer of the parser, with its name written out: a definition can't make a slice
-abbrev pub parsed : Parsed → Result (Option (List ℕ) × Command) Refusal
-parsed p.Unknown = Err Unknown
-parsed p.Fail = Err Fail
-parsed (p.Command interface command) = Ok (option_copied interface, command)
+abbrev pub outcome_of : Parsed → Result (Option (List ℕ) × Command) Refusal
+outcome_of p.Unknown = Err Unknown
+outcome_of p.Fail = Err Fail
+outcome_of (p.Command interface command) = Ok (option_copied interface, command)
 
 -- the reply to what is no command
 abbrev pub refusal_text : Result (Option (List ℕ) × Command) Refusal → Option (List ℕ)

@@ -20,13 +20,13 @@ placing (place.Ask query) = Asks query
 placing (place.Do event) = Does (happening event)
 
 -- a command at a BSSID, whose radio is up or not, with a tag
-abbrev pub placed : Command → Bssid → Bool → ℕ → Placing
-placed command.Ping b up tag = Asks query.Ping
-placed command.Status b up tag = Asks (query.Status b up)
-placed (command.Sta a) b up tag = Asks (query.Sta b a)
-placed command.StaFirst b up tag = Asks (query.First b)
-placed (command.StaNext a) b up tag = Asks (query.Next b a)
-placed (command.Deauthenticate to reason) b up tag = Does (Kick b to reason true tag)
-placed (command.Disassociate to reason) b up tag = Does (Kick b to reason false tag)
-placed (command.ListEdit which edit) b up tag = Does (ListEdit b which edit tag)
-placed (command.Show which) b up tag = Asks (query.Show b which)
+abbrev pub command_placing : Command → Bssid → Bool → ℕ → Placing
+command_placing command.Ping b up tag = Asks query.Ping
+command_placing command.Status b up tag = Asks (query.Status b up)
+command_placing (command.Sta a) b up tag = Asks (query.Sta b a)
+command_placing command.StaFirst b up tag = Asks (query.First b)
+command_placing (command.StaNext a) b up tag = Asks (query.Next b a)
+command_placing (command.Deauthenticate to reason) b up tag = Does (Kick b to reason true tag)
+command_placing (command.Disassociate to reason) b up tag = Does (Kick b to reason false tag)
+command_placing (command.ListEdit which edit) b up tag = Does (ListEdit b which edit tag)
+command_placing (command.Show which) b up tag = Asks (query.Show b which)

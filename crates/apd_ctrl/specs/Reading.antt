@@ -34,14 +34,14 @@ behind [] = None
 behind (b ∷ bs) = if is_blank b then Some bs else behind bs
 
 -- the name of an interface in front, where there is one, and the rest
-abbrev pub named : List ℕ → List ℕ → Option (List ℕ) → Option (List ℕ) × List ℕ
-named line name None = (None, line)
-named line name (Some rest) = (Some name, rest)
+abbrev pub name_and_rest : List ℕ → List ℕ → Option (List ℕ) → Option (List ℕ) × List ℕ
+name_and_rest line name None = (None, line)
+name_and_rest line name (Some rest) = (Some name, rest)
 
 abbrev pub split_prefix : List ℕ → Option (List ℕ) × List ℕ
 split_prefix line =
-    if starts_with nat_eq line (codes "IFNAME=") then named line (word (drop 7 line)) (behind (drop 7 line)) else
-    (None, line)
+    if starts_with nat_eq line (codes "IFNAME=")
+    then name_and_rest line (word (drop 7 line)) (behind (drop 7 line)) else (None, line)
 
 -- the number of a reason: 1 to 5 decimal digits that write a number from 0 to 65535
 abbrev pub reason_number : List ℕ → Option ℕ
@@ -59,14 +59,14 @@ abbrev pub reason_of : List ℕ → Option Reason
 reason_of text = if length text == 0 then Some (as_reason 2) else reason_given text
 
 -- both, if both are there
-abbrev pub both : {A B : Type 0} → Option A → Option B → Option (A × B)
-both (Some a) (Some b) = Some (a, b)
-both (Some a) None = None
-both None b = None
+abbrev pub pair_of : {A B : Type 0} → Option A → Option B → Option (A × B)
+pair_of (Some a) (Some b) = Some (a, b)
+pair_of (Some a) None = None
+pair_of None b = None
 
 abbrev pub dismissal_of : List ℕ → Option (Addr × Reason)
 dismissal_of text =
-    if nat_lt (length text) TEXT_LENGTH then None else both (address_of (take TEXT_LENGTH text))
+    if nat_lt (length text) TEXT_LENGTH then None else pair_of (address_of (take TEXT_LENGTH text))
     (reason_of (drop TEXT_LENGTH text))
 
 abbrev pub list_with : Which → List ℕ → Option (List ℕ) → Option Command
@@ -101,13 +101,13 @@ command_with w.Disassociate (Some text) = option_map (λ d. c.Disassociate d.0 d
 command_with (w.List which) (Some text) = list_command which text
 
 -- an unknown word; else what it says, if it says anything
-abbrev pub told : {A : Type 0} → Option A → Result A Refusal
-told None = Err Fail
-told (Some command) = Ok command
+abbrev pub value_or_fail : {A : Type 0} → Option A → Result A Refusal
+value_or_fail None = Err Fail
+value_or_fail (Some command) = Ok command
 
 abbrev pub command_after : Option Word → Option (List ℕ) → Result Command Refusal
 command_after None rest = Err Unknown
-command_after (Some first) rest = told (command_with first rest)
+command_after (Some first) rest = value_or_fail (command_with first rest)
 
 abbrev pub command_of : List ℕ → Result Command Refusal
 command_of text = command_after (word_of (word text)) (behind text)

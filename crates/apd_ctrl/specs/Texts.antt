@@ -14,7 +14,7 @@ use Rattle.apd_base.specs.declared.station.Which.{Which}
 use Rattle.apd_conf.specs.Confs.{conf_at}
 use Rattle.apd_conf.specs.declared.conf.Conf.{Conf}
 use Rattle.apd_table.specs.Addresses.{addresses_at}
-use Rattle.apd_ctrl.specs.Escapes.{escaped}
+use Rattle.apd_ctrl.specs.Escapes.{escaped_text}
 use Rattle.apd_ctrl.specs.declared.command.Query.{Query}
 use Rattle.apd_ctrl.specs.declared.command.Query.TheVariants as query
 
@@ -87,21 +87,22 @@ count_lines n = codes "\nnum_sta[0]=" ++ (decimal n ++ codes "\n")
 
 abbrev pub status_text : State → Conf → Bssid → Bool → List ℕ
 status_text s conf b up =
-    radio_lines conf up ++ (text_of b.0 ++ (codes "\nssid[0]=" ++ (escaped conf.ssid ++ count_lines (count s b))))
+    radio_lines conf up ++ (text_of b.0 ++ (codes "\nssid[0]=" ++ (escaped_text conf.ssid ++ count_lines (count s b))))
 
 -- a reply where the BSSID is configured, and else a failure
-abbrev pub configured : (Conf → List ℕ) → Option Conf → List ℕ
-configured reply None = fail
-configured reply (Some conf) = reply conf
+abbrev pub reply_where_configured : (Conf → List ℕ) → Option Conf → List ℕ
+reply_where_configured reply None = fail
+reply_where_configured reply (Some conf) = reply conf
 
 -- the reply to a query in a state, under these configurations
 abbrev pub text : State → List Conf → Query → List ℕ
 text s confs query.Ping = codes "PONG\n"
-text s confs (query.Status b up) = configured (λ conf. status_text s conf b up) (conf_at confs b)
-text s confs (query.Sta b a) = configured (λ _. station_reply a (station_at s b a)) (conf_at confs b)
-text s confs (query.First b) = configured (λ _. found_reply s b (slice_get (addresses_at s b) 0)) (conf_at confs b)
-text s confs (query.Next b a) = configured (λ _. next_reply s b a (station_at s b a)) (conf_at confs b)
-text s confs (query.Show b w) = configured (λ _. list_text s b w) (conf_at confs b)
+text s confs (query.Status b up) = reply_where_configured (λ conf. status_text s conf b up) (conf_at confs b)
+text s confs (query.Sta b a) = reply_where_configured (λ _. station_reply a (station_at s b a)) (conf_at confs b)
+text s confs (query.First b) =
+    reply_where_configured (λ _. found_reply s b (slice_get (addresses_at s b) 0)) (conf_at confs b)
+text s confs (query.Next b a) = reply_where_configured (λ _. next_reply s b a (station_at s b a)) (conf_at confs b)
+text s confs (query.Show b w) = reply_where_configured (λ _. list_text s b w) (conf_at confs b)
 
 -- the BSSID that a query is about
 abbrev pub bssid_of : Query → Option Bssid

@@ -1,7 +1,7 @@
 //! Commands, and what becomes of each at a BSSID.
 ghost use Rattle.std.specs.Prelude.{◌≡◌};
 ghost use Rattle.apd_mlme.specs.Happening.{Kick};
-ghost use Rattle.apd_ctrl.specs.Placing.{Does, placed, placing};
+ghost use Rattle.apd_ctrl.specs.Placing.{Does, command_placing, placing};
 
 use apd_base::{Addr, Bssid, Which};
 use apd_frame::Reason;
@@ -89,7 +89,7 @@ impl Command {
     /// The query or the event of a command at a BSSID. A status tells whether the radio is up; an
     /// event carries the tag, by which its reply is known. It takes no memory.
     pub fn at(self, bssid: Bssid, up: bool, tag: u64) -> Placed
-        ensures { placing result ≡ placed self bssid up tag }
+        ensures { placing result ≡ command_placing self bssid up tag }
     {
         match self {
             Command::Ping => Placed::Ask(Query::Ping),

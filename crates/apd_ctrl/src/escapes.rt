@@ -1,6 +1,6 @@
 //! Bytes as they are printed.
 ghost use Rattle.std.specs.Prelude.{◌≡◌, ◌++◌, IfOk, OnOk};
-ghost use Rattle.apd_ctrl.specs.Escapes.{escaped, escaped_byte};
+ghost use Rattle.apd_ctrl.specs.Escapes.{escaped_text, escaped_byte};
 
 use apd_base::text::hex_digit;
 use std::alloc::{AllocError, Global};
@@ -22,7 +22,7 @@ fn push_escaped_byte(out: &mut Vec<u8>, byte: u8) -> Result<(), AllocError>
 
 /// Writes bytes as they are printed at the end. An error may leave a front of them there.
 pub(crate) fn push_escaped(out: &mut Vec<u8>, bytes: &[u8]) -> Result<(), AllocError>
-    ensures { OnOk result (out.new.items ≡ out.old.items ++ escaped bytes.now) }
+    ensures { OnOk result (out.new.items ≡ out.old.items ++ escaped_text bytes.now) }
 {
     for byte in bytes {
         push_escaped_byte(out, *byte)?;
@@ -34,7 +34,7 @@ pub(crate) fn push_escaped(out: &mut Vec<u8>, bytes: &[u8]) -> Result<(), AllocE
 /// 0x0a, 0x0d, 0x09 and 0x1b as `\n`, `\r`, `\t` and `\e`; any other byte from 0x20 to 0x7e as it
 /// stands, and each remaining one as `\x` and two lower case hexadecimal digits.
 pub fn escape(alloc: Global, bytes: &[u8]) -> Result<Vec<u8>, AllocError>
-    ensures { IfOk result (λ text. text.items ≡ escaped bytes.now) }
+    ensures { IfOk result (λ text. text.items ≡ escaped_text bytes.now) }
 {
     let mut text = Vec::new(alloc);
     push_escaped(&mut text, bytes)?;

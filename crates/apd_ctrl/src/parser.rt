@@ -3,7 +3,7 @@ ghost use Rattle.std.specs.Prelude.{◌≡◌, ◌↔◌, ℕ, List, Option, Res
 ghost use Rattle.std.specs.Option.{option_copied};
 ghost use Rattle.apd_ctrl.specs.declared.command.Command.{Command as Order};
 ghost use Rattle.apd_ctrl.specs.declared.parser.Refusal.{Refusal as Refused};
-ghost use Rattle.apd_ctrl.specs.Grammar.{parsed, refusal_text, IsOutcome};
+ghost use Rattle.apd_ctrl.specs.Grammar.{outcome_of, refusal_text, IsOutcome};
 ghost use Rattle.apd_ctrl.specs.Reading.{behind, command_of, command_with, dismissal_of, line_of, list_command, outcome, reason_of, split_prefix, word};
 
 use crate::command::Command;
@@ -155,7 +155,7 @@ fn command_of(text: &[u8]) -> Result<Command, Refusal>
 /// the prefix `IFNAME=<name> ` counted; then the first word behind the prefix; then what follows it.
 /// Whether the interface is known is not looked at. It takes no memory.
 pub fn parse_command(bytes: &[u8]) -> Parsed<'_>
-    ensures { parsed result ≡ outcome bytes.now }
+    ensures { outcome_of result ≡ outcome bytes.now }
 {
     let line = line_of(bytes);
     if line.len() > MAX_COMMAND {
@@ -172,7 +172,7 @@ pub fn parse_command(bytes: &[u8]) -> Parsed<'_>
 impl Parsed<'_> {
     /// The reply to bytes that are no command; `None` for a command. It takes no memory.
     pub fn refusal(&self) -> Option<&'static [u8]>
-        ensures { option_copied result ≡ refusal_text (parsed self.now) }
+        ensures { option_copied result ≡ refusal_text (outcome_of self.now) }
     {
         match self {
             Parsed::Unknown => Some(UNKNOWN_COMMAND),

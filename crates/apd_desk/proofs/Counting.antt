@@ -4,8 +4,8 @@ use Rattle.apd_base.specs.declared.moment.Moment.{Moment}
 use Rattle.apd_mlme.specs.Happening.{Happening}
 use Rattle.apd_mlme.specs.rules.{verdict}
 use Rattle.apd_mlme.specs.Verdict.{is_nothing}
-use Rattle.apd_core.specs.Core.{CoreState, accepted, after_request, answer_to, answer_to_fit, front_of, is_busy, is_stopped, last_of, state_after, ticket}
-use Rattle.apd_core.specs.Requests.{happening_of, unfit}
+use Rattle.apd_core.specs.Core.{CoreState, answer_at, after_request, answer_to, answer_to_fit, front_of, is_busy, is_stopped, last_of, state_after, ticket}
+use Rattle.apd_core.specs.Requests.{happening_of, unfitness}
 use Rattle.apd_core.specs.declared.input.Input.{Input}
 use Rattle.apd_core.specs.declared.input.QuietReason.{QuietReason}
 use Rattle.apd_core.specs.declared.input.QuietReason.TheVariants as quiet
@@ -48,7 +48,7 @@ module _ (s : CoreState) (m : Moment) (i : Input) where
       ]
 
   answer_fits : (asked : Result Happening QuietReason) → Fits asked (answer_to s m i asked)
-  answer_fits (Ok h) = fit_fits h (unfit (front_of s) s.confs h)
+  answer_fits (Ok h) = fit_fits h (unfitness (front_of s) s.confs h)
   answer_fits (Err reason) = quiet_fits (Err reason) reason
 
   busy_or : (asked : Result Happening QuietReason) (b : Bool) → Fits asked (cond b Busy (answer_to s m i asked))
@@ -59,12 +59,12 @@ module _ (s : CoreState) (m : Moment) (i : Input) where
   stopped_or asked true = stopped_fits asked
   stopped_or asked false = busy_or asked (is_busy s)
 
-  pub request_fits : (last_of (after_request s m i) ≡ last_of s + entries_in (accepted s m i)) × IsOwn i m (accepted s m i)
+  pub request_fits : (last_of (after_request s m i) ≡ last_of s + entries_in (answer_at s m i)) × IsOwn i m (answer_at s m i)
   request_fits = stopped_or (happening_of s.confs s.heard m i) (is_stopped s)
 
   -- the same of an answer and a state that are known to be these
-  pub last_after : (answer : Accepted) (new : CoreState) → answer ≡ accepted s m i → new ≡ after_request s m i → last_of new ≡ last_of s + entries_in answer
+  pub last_after : (answer : Accepted) (new : CoreState) → answer ≡ answer_at s m i → new ≡ after_request s m i → last_of new ≡ last_of s + entries_in answer
   last_after answer new a b = ap last_of b ∙ request_fits.0 ∙ ap (λ t. last_of s + entries_in t) (sym a)
 
-  pub own_after : (answer : Accepted) → answer ≡ accepted s m i → IsOwn i m answer
+  pub own_after : (answer : Accepted) → answer ≡ answer_at s m i → IsOwn i m answer
   own_after answer a = subst (IsOwn i m) (sym a) request_fits.1

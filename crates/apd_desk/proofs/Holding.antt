@@ -3,12 +3,12 @@ use Rattle.std.proofs.Common.{◌≡◌, ◌⊎◌, ⊎_elim, List, [], ◌∷�
 use Rattle.std.proofs.lemmas.List.{append-nil}
 use Rattle.apd_disk.specs.Disk.{DiskModel}
 use Rattle.apd_journal.specs.declared.batch.Batch.{Batch}
-use Rattle.apd_store.specs.Outside.{held_batch, batch_of as store_batch, phase_of as store_phase}
+use Rattle.apd_store.specs.Outside.{held_batch, store_batch, phase_of as store_phase}
 use Rattle.apd_store.specs.declared.fault.StoreFault.{StoreFault}
 use Rattle.apd_store.specs.declared.store.Receipt.{Receipt}
 use Rattle.apd_store.specs.declared.store.Store.{Store}
 use Rattle.apd_flusher.specs.Handing.{IsLoadGiven, IsTurnMade, Keeps, TurnTells}
-use Rattle.apd_flusher.specs.Outside.{batch_of, flusher_of, phase_of, waiting_batch, waiting_receipt}
+use Rattle.apd_flusher.specs.Outside.{flusher_batch, flusher_of, phase_of, waiting_batch, waiting_receipt}
 use Rattle.apd_flusher.specs.Phases.{phase_from}
 use Rattle.apd_flusher.specs.Turning.{IsTurn}
 use Rattle.apd_flusher.specs.declared.committer.Committer.{Committer}
@@ -42,11 +42,11 @@ next_batch batch given waits alone next =
 
 module _ {D : Type 0} where
   held_as : (c : Committer D) (r : Option Receipt) (p : Phase) (x : Batch) (w : Option Batch) → waiting_receipt c ≡ r
-      → phase_of (flusher_of c) ≡ p → batch_of (flusher_of c) ≡ x → waiting_batch c ≡ w → held_batches c ≡ in_receipt r ++ (in_flusher p x ++ in_waiting w)
+      → phase_of (flusher_of c) ≡ p → flusher_batch (flusher_of c) ≡ x → waiting_batch c ≡ w → held_batches c ≡ in_receipt r ++ (in_flusher p x ++ in_waiting w)
   held_as c r p x w receipt phase under_way waits =
       let f = flusher_of c in
-      ap (λ (z : Option Receipt). in_receipt z ++ (in_flusher (phase_of f) (batch_of f) ++ in_waiting (waiting_batch c))) receipt
-      ∙ ap (λ (z : Phase). in_receipt r ++ (in_flusher z (batch_of f) ++ in_waiting (waiting_batch c))) phase
+      ap (λ (z : Option Receipt). in_receipt z ++ (in_flusher (phase_of f) (flusher_batch f) ++ in_waiting (waiting_batch c))) receipt
+      ∙ ap (λ (z : Phase). in_receipt r ++ (in_flusher z (flusher_batch f) ++ in_waiting (waiting_batch c))) phase
       ∙ ap (λ (z : Batch). in_receipt r ++ (in_flusher p z ++ in_waiting (waiting_batch c))) under_way
       ∙ ap (λ (z : Option Batch). in_receipt r ++ (in_flusher p x ++ in_waiting z)) waits
 
@@ -57,39 +57,39 @@ module _ {D : Type 0} where
   loaded (Ok _) given a b alone is =
       let r = in_receipt (waiting_receipt a) in
       let f = flusher_of a in
-      behind r (in_flusher (phase_of f) (batch_of f)) (in_waiting (waiting_batch a)) (in_waiting given)
-      ∙ ap (λ (z : List Batch). r ++ (in_flusher (phase_of f) (batch_of f) ++ z)) (next_batch is.batch given (waiting_batch a) alone is.next)
-      ∙ ap (λ (z : Phase). r ++ (in_flusher z (batch_of f) ++ (is.batch ∷ []))) is.tells.was_idle
+      behind r (in_flusher (phase_of f) (flusher_batch f)) (in_waiting (waiting_batch a)) (in_waiting given)
+      ∙ ap (λ (z : List Batch). r ++ (in_flusher (phase_of f) (flusher_batch f) ++ z)) (next_batch is.batch given (waiting_batch a) alone is.next)
+      ∙ ap (λ (z : Phase). r ++ (in_flusher z (flusher_batch f) ++ (is.batch ∷ []))) is.tells.was_idle
       ∙ sym (held_as b (waiting_receipt a) Busy is.batch None is.receipt is.tells.busy is.tells.batch_is is.waits)
   loaded (Err fault) given a b alone is =
       let r = in_receipt (waiting_receipt a) in
       let f = flusher_of a in
-      behind r (in_flusher (phase_of f) (batch_of f)) (in_waiting (waiting_batch a)) (in_waiting given)
-      ∙ ap (λ (z : List Batch). r ++ (in_flusher (phase_of f) (batch_of f) ++ z)) (next_batch is.batch given (waiting_batch a) alone is.next)
-      ∙ sym (held_as b (waiting_receipt a) (phase_of f) (batch_of f) (Some is.batch) is.receipt
+      behind r (in_flusher (phase_of f) (flusher_batch f)) (in_waiting (waiting_batch a)) (in_waiting given)
+      ∙ ap (λ (z : List Batch). r ++ (in_flusher (phase_of f) (flusher_batch f) ++ z)) (next_batch is.batch given (waiting_batch a) alone is.next)
+      ∙ sym (held_as b (waiting_receipt a) (phase_of f) (flusher_batch f) (Some is.batch) is.receipt
       (ap (λ (z : Store D). phase_from (store_phase z)) is.tells.stays) (ap (λ (z : Store D). store_batch z) is.tells.stays) is.waits)
 
   -- ---- a turn
   under_way : (disk : DiskModel D) (answer : Result (Unit {0}) StoreFault) (f g : Flusher D)
       → TurnTells disk answer f g → phase_of f ≡ Busy
-      → in_flusher (phase_of g) (batch_of g) ≡ batch_of g ∷ []
+      → in_flusher (phase_of g) (flusher_batch g) ≡ flusher_batch g ∷ []
   under_way disk (Ok _) f g tells busy =
-      ⊎_elim (λ is. ap (λ (z : Phase). in_flusher z (batch_of g)) is) (λ is. ap (λ (z : Phase). in_flusher z (batch_of g)) is) (tells.busy busy)
-  under_way disk (Err fault) f g tells busy = ap (λ (z : Phase). in_flusher z (batch_of g)) tells.phase
+      ⊎_elim (λ is. ap (λ (z : Phase). in_flusher z (flusher_batch g)) is) (λ is. ap (λ (z : Phase). in_flusher z (flusher_batch g)) is) (tells.busy busy)
+  under_way disk (Err fault) f g tells busy = ap (λ (z : Phase). in_flusher z (flusher_batch g)) tells.phase
 
   turned_list : (disk : DiskModel D) (answer : Result (Unit {0}) StoreFault) (f g : Flusher D) → IsTurn disk f g
       → TurnTells disk answer f g
-      → in_flusher (phase_of g) (batch_of g) ≡ in_flusher (phase_of f) (batch_of f)
+      → in_flusher (phase_of g) (flusher_batch g) ≡ in_flusher (phase_of f) (flusher_batch f)
   turned_list disk answer f g turn tells = by (phase_of f) refl
     where
       rests : (p : Phase) → phase_of f ≡ p → (p ≡ Busy → ⊥)
-          → in_flusher (phase_of g) (batch_of g) ≡ in_flusher (phase_of f) (batch_of f)
-      rests p is other = ap (λ (z : Flusher D). in_flusher (phase_of z) (batch_of z)) (turn.rest (λ busy. other (sym is ∙ busy)))
+          → in_flusher (phase_of g) (flusher_batch g) ≡ in_flusher (phase_of f) (flusher_batch f)
+      rests p is other = ap (λ (z : Flusher D). in_flusher (phase_of z) (flusher_batch z)) (turn.rest (λ busy. other (sym is ∙ busy)))
 
-      by : (p : Phase) → phase_of f ≡ p → in_flusher (phase_of g) (batch_of g) ≡ in_flusher (phase_of f) (batch_of f)
+      by : (p : Phase) → phase_of f ≡ p → in_flusher (phase_of g) (flusher_batch g) ≡ in_flusher (phase_of f) (flusher_batch f)
       by Idle is = rests Idle is (λ same. cc)
       by Busy is =
-          under_way disk answer f g tells is ∙ ap (λ (z : Batch). z ∷ []) turn.batch_is ∙ sym (ap (λ (z : Phase). in_flusher z (batch_of f)) is)
+          under_way disk answer f g tells is ∙ ap (λ (z : Batch). z ∷ []) turn.batch_is ∙ sym (ap (λ (z : Phase). in_flusher z (flusher_batch f)) is)
       by Done is = rests Done is (λ same. cc)
       by Failed is = rests Failed is (λ same. cc)
 
@@ -99,7 +99,7 @@ module _ {D : Type 0} where
       let f = flusher_of a in
       let g = flusher_of b in
       append-nil (held_batches a)
-      ∙ sym (held_as b (waiting_receipt a) (phase_of g) (batch_of g) (waiting_batch a) is.receipt refl refl is.batch
+      ∙ sym (held_as b (waiting_receipt a) (phase_of g) (flusher_batch g) (waiting_batch a) is.receipt refl refl is.batch
       ∙ ap (λ (z : List Batch). in_receipt (waiting_receipt a) ++ (z ++ in_waiting (waiting_batch a))) (turned_list disk answer f g is.turn is.tells))
 
   -- ---- a receipt
@@ -111,21 +111,21 @@ module _ {D : Type 0} where
       let own = λ (z : List Batch). held_batch receipt ∷ z in
       append-nil (held_batches a)
       ∙ ⊎_elim
-      (λ waits. held_as a (Some receipt) (phase_of f) (batch_of f) (waiting_batch a) waits.0 refl refl refl
-      ∙ sym (ap own (held_as b None (phase_of f) (batch_of f) (waiting_batch a) is.waits (ap phase_of waits.1) (ap batch_of waits.1) is.batch)))
-      (λ given. held_as a None Done (batch_of f) (waiting_batch a) given.0 given.1.done refl refl
+      (λ waits. held_as a (Some receipt) (phase_of f) (flusher_batch f) (waiting_batch a) waits.0 refl refl refl
+      ∙ sym (ap own (held_as b None (phase_of f) (flusher_batch f) (waiting_batch a) is.waits (ap phase_of waits.1) (ap flusher_batch waits.1) is.batch)))
+      (λ given. held_as a None Done (flusher_batch f) (waiting_batch a) given.0 given.1.done refl refl
       ∙ ap (λ (z : Batch). z ∷ in_waiting (waiting_batch a)) (sym given.1.batch_is)
-      ∙ sym (ap own (held_as b None Idle (batch_of (flusher_of b)) (waiting_batch a) is.waits given.1.idle refl is.batch)))
+      ∙ sym (ap own (held_as b None Idle (flusher_batch (flusher_of b)) (waiting_batch a) is.waits given.1.idle refl is.batch)))
       is.next
   handed (Err fault) receipt a b is =
       let f = flusher_of a in
       append-nil (held_batches a)
       ∙ ⊎_elim
-      (λ waits. held_as a (Some receipt) (phase_of f) (batch_of f) (waiting_batch a) waits.0 refl refl refl
-      ∙ sym (held_as b (Some receipt) (phase_of f) (batch_of f) (waiting_batch a) is.waits (ap phase_of waits.1) (ap batch_of waits.1) is.batch))
-      (λ given. held_as a None Done (batch_of f) (waiting_batch a) given.0 given.1.done refl refl
+      (λ waits. held_as a (Some receipt) (phase_of f) (flusher_batch f) (waiting_batch a) waits.0 refl refl refl
+      ∙ sym (held_as b (Some receipt) (phase_of f) (flusher_batch f) (waiting_batch a) is.waits (ap phase_of waits.1) (ap flusher_batch waits.1) is.batch))
+      (λ given. held_as a None Done (flusher_batch f) (waiting_batch a) given.0 given.1.done refl refl
       ∙ ap (λ (z : Batch). z ∷ in_waiting (waiting_batch a)) (sym given.1.batch_is)
-      ∙ sym (held_as b (Some receipt) Idle (batch_of (flusher_of b)) (waiting_batch a) is.waits given.1.idle refl is.batch))
+      ∙ sym (held_as b (Some receipt) Idle (flusher_batch (flusher_of b)) (waiting_batch a) is.waits given.1.idle refl is.batch))
       is.next
 
   step_keeps : (disk : DiskModel D) (step : Step) (a b : Committer D) → IsStep disk step a b

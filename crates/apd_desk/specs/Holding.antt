@@ -4,7 +4,7 @@ use Rattle.apd_disk.specs.Disk.{DiskModel}
 use Rattle.apd_journal.specs.declared.batch.Batch.{Batch}
 use Rattle.apd_store.specs.Outside.{held_batch}
 use Rattle.apd_store.specs.declared.store.Receipt.{Receipt}
-use Rattle.apd_flusher.specs.Outside.{batch_of, flusher_of, phase_of, waiting_batch, waiting_receipt}
+use Rattle.apd_flusher.specs.Outside.{flusher_batch, flusher_of, phase_of, waiting_batch, waiting_receipt}
 use Rattle.apd_flusher.specs.declared.committer.Committer.{Committer}
 use Rattle.apd_flusher.specs.declared.phase.Phase.{Phase}
 use Rattle.apd_flusher.specs.declared.phase.Phase.TheVariants.{Idle, Busy, Done, Failed}
@@ -27,7 +27,7 @@ in_waiting (Some batch) = batch ∷ []
 -- the oldest first: that of the receipt that waits, the flusher's, and the one that waits for the flusher
 abbrev pub held_batches : {D : Type 0} → Committer D → List Batch
 held_batches c = in_receipt (waiting_receipt c)
-    ++ (in_flusher (phase_of (flusher_of c)) (batch_of (flusher_of c)) ++ in_waiting (waiting_batch c))
+    ++ (in_flusher (phase_of (flusher_of c)) (flusher_batch (flusher_of c)) ++ in_waiting (waiting_batch c))
 
 -- what a step took from the core
 abbrev pub taken_batch : Step → List Batch

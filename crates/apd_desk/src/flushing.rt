@@ -2,7 +2,7 @@
 ghost use Rattle.std.specs.Prelude.{◌↔◌};
 ghost use Rattle.apd_base.specs.State.{State};
 ghost use Rattle.apd_flusher.specs.Flushing.{IsInside, IsSteady, Stands};
-ghost use Rattle.apd_flusher.specs.Outside.{device_of, next_of, table_of};
+ghost use Rattle.apd_flusher.specs.Outside.{flusher_device, next_of, table_of};
 
 use crate::committing::commit_all;
 use crate::gate::Gate;
@@ -22,8 +22,8 @@ pub fn flush_worker<L: Ledger, W: Wait + Clock, D: Disk, G: Gate>(
     gate: &G,
 ) -> Flusher<D>
     ensures inside { IsInside D.model flusher → IsInside D.model result }
-    ensures honest { D.model.honest (device_of flusher) ↔ D.model.honest (device_of result) }
-    ensures stands { D.model.honest (device_of flusher) → (s : State) → IsSteady D.model flusher s
+    ensures honest { D.model.honest (flusher_device flusher) ↔ D.model.honest (flusher_device result) }
+    ensures stands { D.model.honest (flusher_device flusher) → (s : State) → IsSteady D.model flusher s
         → Stands D.model result (table_of result) (next_of result) }
 {
     let mut committer = Committer::new(flusher);

@@ -4,7 +4,7 @@ ghost use Rattle.std.specs.FinMap as maps;
 ghost use Rattle.apd_base.specs.declared.limits.TheConstants.{MAX_KEPT};
 ghost use Rattle.apd_mlme.specs.Run.{run};
 ghost use Rattle.apd_table.specs.Sound.{Sound};
-ghost use Rattle.apd_core.specs.Core.{front_of, kept, last_of};
+ghost use Rattle.apd_core.specs.Core.{front_of, kept_count, last_of};
 ghost use Rattle.apd_core.specs.Invariant.{Unsettled};
 
 use apd_core::Core;
@@ -21,7 +21,7 @@ pub fn a_core_that_nobody_calls(core: &Core)
     ensures in_flight { core.now.flight ≤ length core.now.unsettled }
     ensures settled { Sound core.now.settled }
     ensures front { Sound (front_of core.now) }
-    ensures few { kept core.now ≤ MAX_KEPT }
+    ensures few { kept_count core.now ≤ MAX_KEPT }
 {
     core.sound();
 }

@@ -4,7 +4,7 @@ ghost use Rattle.std.specs.List.{position};
 ghost use Rattle.std.specs.Option.{option_copied, option_map};
 ghost use Rattle.apd_base.specs.declared.address.Bssid.{Bssid as Address};
 ghost use Rattle.apd_conf.specs.Confs.{conf_meant};
-ghost use Rattle.apd_core.specs.Core.{accepted as accepted_by, after_request, answered, cannot_take, handed, last_of, published, ready_for, IsFlight, IsTaken};
+ghost use Rattle.apd_core.specs.Core.{answer_at, after_request, answer_to_query, cannot_take, after_handing_out, last_of, after_publish, ready_for, IsFlight, IsTaken};
 ghost use Rattle.apd_journal.specs.Half.{IsGroup};
 ghost use Rattle.apd_store.specs.Outside.{held_batch};
 ghost use Rattle.apd_desk.specs.Counted.{entries_in, entries_of_seats};
@@ -102,7 +102,7 @@ impl<L: Ledger> Locked<L> {
         input: Input<'a>,
         moment: Moment,
     ) -> Result<Accepted<'a>, AllocError>
-        ensures answer { IfOk result (λ answer. answer ≡ accepted_by self.old.core moment input.entry) }
+        ensures answer { IfOk result (λ answer. answer ≡ answer_at self.old.core moment input.entry) }
         ensures core { OnOk result (self.new.core ≡ after_request self.old.core moment input.entry) }
         ensures own { IfOk result (IsOwn input.entry moment) }
         ensures count { IfOk result (λ answer. seat.new.count ≡ seat.old.count + entries_in answer) }
@@ -135,7 +135,7 @@ impl<L: Ledger> Locked<L> {
     /// Errors: `Behind` exactly there, with the number of the last settled entry; `NoMemory`. The seat is then as
     /// it was.
     pub(crate) fn ask(&self, seat: &mut Seat<L>, query: Query) -> Result<Answer, AskFault>
-        ensures answer { IfOk result (λ answer. answer ≡ answered self.now.core query) }
+        ensures answer { IfOk result (λ answer. answer ≡ answer_to_query self.now.core query) }
         ensures behind { (number : ℕ)
             → (result ≡ Err (AskFault.Behind number))
             ↔ ((number ≡ self.now.core.number) × IsBehind self.now.core.number seat.old.seen) }
@@ -158,7 +158,7 @@ impl<L: Ledger> Locked<L> {
     /// Hands out what of settled entries a recipient was not given yet. The seat then saw what is settled.
     pub(crate) fn hand(&mut self, seat: &mut Seat<L>, to: Recipient) -> Result<Vec<Out>, AllocError>
         ensures outs { IfOk result (λ outs. outs.items ≡ ready_for to self.old.core) }
-        ensures core { OnOk result (self.new.core ≡ handed to self.old.core) }
+        ensures core { OnOk result (self.new.core ≡ after_handing_out to self.old.core) }
         ensures seen { OnOk result (seat.new.seen ≡ seen_number_after self.old.core.number seat.old.seen) }
         ensures count { seat.new.count ≡ seat.old.count }
         ensures accepted { self.new.accepted ≡ self.old.accepted }
@@ -176,7 +176,7 @@ impl<L: Ledger> Locked<L> {
     pub(crate) fn is_ready(&self, to: Recipient) -> bool
         ensures { IsTrue result ↔ (1 ≤ length (ready_for to self.now.core)) }
     {
-        self.core.ready(to) > 0
+        self.core.ready_count(to) > 0
     }
 
     /// The core's `take`.
@@ -200,7 +200,7 @@ impl<L: Ledger> Locked<L> {
     pub(crate) fn publish(&mut self, receipt: Receipt) -> Result<Published, (Receipt, PublishFault)>
         ensures own { IfOk result (λ published. IsOf published receipt) }
         ensures flight { OnOk result (IsFlight (held_batch receipt) self.old.core) }
-        ensures core { OnOk result (self.new.core ≡ published self.old.core) }
+        ensures core { OnOk result (self.new.core ≡ after_publish self.old.core) }
         ensures foreign { IfErr result
             (λ e. (e.1 ≡ PublishFault.Foreign) ↔ ¬ IsFlight (held_batch receipt) self.old.core) }
         ensures err { IfErr result (λ e. (e.0 ≡ receipt) × (self.new.core ≡ self.old.core)) }

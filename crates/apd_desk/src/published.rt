@@ -1,6 +1,6 @@
 //! That a batch was settled.
 ghost use Rattle.std.specs.Prelude.{◌≡◌, ◌↔◌, IfOk, IfErr, OnOk};
-ghost use Rattle.apd_core.specs.Core.{published, IsFlight};
+ghost use Rattle.apd_core.specs.Core.{after_publish, IsFlight};
 ghost use Rattle.apd_store.specs.Outside.{held_batch};
 ghost use Rattle.apd_desk.specs.Steps.{IsOf};
 
@@ -21,7 +21,7 @@ impl Published {
     ) -> Result<Published, (Receipt, PublishFault)>
         ensures own { IfOk result (λ published. IsOf published receipt) }
         ensures flight { OnOk result (IsFlight (held_batch receipt) core.old) }
-        ensures core { OnOk result (core.new ≡ published core.old) }
+        ensures core { OnOk result (core.new ≡ after_publish core.old) }
         ensures foreign { IfErr result (λ e. (e.1 ≡ PublishFault.Foreign) ↔ ¬ IsFlight (held_batch receipt) core.old) }
         ensures err { IfErr result (λ e. (e.0 ≡ receipt) × (core.new ≡ core.old)) }
         ensures lacks { IfErr result (λ e. e.1 ≡ PublishFault.NoMemory → IsFlight (held_batch receipt) core.old) }

@@ -91,7 +91,7 @@ impl<L: Ledger, R: Radio> Parts<L, R> {
         ensures given { IsGivenOn R.model self.old.slot self.new.slot }
     {
         let settled = Some(shared.look(rt).settled);
-        if self.slot.waiting() > 0 || self.collected == settled {
+        if self.slot.waiting_count() > 0 || self.collected == settled {
             return Progress::Nothing;
         }
         let Ok(outs) = shared.hand(rt, &mut self.seat, self.slot.bssid()) else {
@@ -247,7 +247,7 @@ pub fn radio_worker<L: Ledger, W: Wait + SystemClock + Net, R: Radio, C: Clock, 
     shared.note(rt, parts.slot.bssid(), parts.slot.is_up());
     for _ in rt.forever() {
         let seen = shared.look(rt);
-        if seen.stopped && parts.slot.waiting() == 0 {
+        if seen.stopped && parts.slot.waiting_count() == 0 {
             break;
         }
         let progress = parts.turn(rt, shared, seen, clock, gate);

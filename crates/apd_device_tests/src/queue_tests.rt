@@ -45,7 +45,7 @@ fn outs_are_applied_in_the_order_in_which_they_were_queued(rt: HostRuntime) -> R
         for told in [Ok(()), Err(SlotFault::NotMine), Ok(())] {
             assert_eq!(rt; answer(&mut slot)?, told);
         }
-        assert_eq!(rt; slot.waiting(), 0);
+        assert_eq!(rt; slot.waiting_count(), 0);
     }
     let lines =
         "down\ninstall 02:00:00:00:00:aa 1\ntx 100000000200000000aa02000000000102000000000100000100000001c0010482848b96\nremove 02:00:00:00:00:aa\ndown\n";
@@ -68,7 +68,7 @@ fn an_out_that_meets_a_fault_of_the_device_is_gone(rt: HostRuntime) -> Result<()
         (Err(SlotFault::Lost), 0),
     ] {
         assert_eq!(rt; answer(&mut slot)?, told);
-        assert_eq!(rt; slot.waiting(), left);
+        assert_eq!(rt; slot.waiting_count(), left);
     }
     assert!(rt; !slot.is_up());
     assert_eq!(rt; slot.wanted(SECOND), Some(2));
@@ -84,9 +84,9 @@ fn only_a_slot_that_resumes_drops_what_waits(rt: HostRuntime) -> Result<(), Fail
     outs.push(Out::Install(Addr([2, 0, 0, 0, 0, 0xcc]), identifier(3)?))?;
     queue(&mut slot, outs)?;
     let _old = replace_radio(&mut slot, Sim::new(alloc))?;
-    assert_eq!(rt; slot.waiting(), 1);
+    assert_eq!(rt; slot.waiting_count(), 1);
     assert_eq!(rt; resume(&mut slot, alloc, &table), Ok(()));
-    assert_eq!(rt; slot.waiting(), 0);
+    assert_eq!(rt; slot.waiting_count(), 0);
     assert_eq!(rt; slot.installed(SECOND), Some(2));
     Ok(())
 }
@@ -117,7 +117,7 @@ fn look<R: Radio>(slot: &Slot<R>) -> Seen {
         slot.installed(SECOND),
         slot.installed(THIRD),
     ];
-    (slot.waiting(), installed)
+    (slot.waiting_count(), installed)
 }
 
 #[test]
@@ -147,7 +147,7 @@ fn a_slot_that_does_not_resume_keeps_what_waits(rt: HostRuntime) -> Result<(), F
     let mut slot = Slot::new(alloc, Failing::new(Sim::new(alloc), 1), WLAN1);
     queue_both(alloc, &mut slot)?;
     assert_eq!(rt; resume(&mut slot, alloc, &table), Err(SlotFault::WentDown));
-    assert_eq!(rt; slot.waiting(), 2);
+    assert_eq!(rt; slot.waiting_count(), 2);
     assert_eq!(rt; slot.wanted(FIRST), None);
     // It is down: what it applies is wanted alone.
     assert_eq!(rt; answer(&mut slot)?, Ok(()));

@@ -103,7 +103,7 @@ fn installations(alloc: Global, from: u8, to: u8) -> Option<Vec<Out>> {
 
 /// Puts outs behind so many that wait. Where memory is refused these wait still.
 fn queues<R: Radio>(slot: &mut Slot<R>, outs: Vec<Out>, waiting: usize) -> Option<()> {
-    if make_room(slot, outs.len()).is_err() && slot.waiting() != waiting {
+    if make_room(slot, outs.len()).is_err() && slot.waiting_count() != waiting {
         return None;
     }
     queue(slot, outs).ok()
@@ -112,9 +112,9 @@ fn queues<R: Radio>(slot: &mut Slot<R>, outs: Vec<Out>, waiting: usize) -> Optio
 /// Applies the next out, which installs the station behind the first so many. Where memory is refused nothing has
 /// changed, and it is still the first.
 fn applies_next<R: Radio>(slot: &mut Slot<R>, count: u8) -> Option<()> {
-    let waiting = slot.waiting();
+    let waiting = slot.waiting_count();
     let (_out, answer) = match apply_next(slot)? {
-        Err(_) if is_up_with(slot, count) && slot.waiting() == waiting => apply_next(slot)?.ok()?,
+        Err(_) if is_up_with(slot, count) && slot.waiting_count() == waiting => apply_next(slot)?.ok()?,
         applied => applied.ok()?,
     };
     answer.ok()
@@ -136,7 +136,7 @@ fn an_out_that_waits_stays_first_where_memory_is_refused(rt: HostRuntime) -> Res
     let mut slot = Slot::new(alloc, Sim::new(alloc), WLAN0);
     assert!(rt; applies_all(alloc, &mut slot).is_some());
     assert!(rt; is_up_with(&slot, STATIONS));
-    assert_eq!(rt; slot.waiting(), 0);
+    assert_eq!(rt; slot.waiting_count(), 0);
     Ok(())
 }
 

@@ -2,7 +2,7 @@
 use Rattle.std.proofs.Common.{◌≡◌, ◌≤◌, ◌+◌, ◌⊎◌, inl, inr, ⊎_elim, ℕ, IsTrue, List, [], ◌∷◌, ◌++◌, length, refl, sym, ◌∙◌, ap, subst, arith}
 use Rattle.std.proofs.lemmas.List.{take_all, take-append-le, length_push}
 use Rattle.std.proofs.lemmas.Bool.{and_parts, and_from, le-leb, cases_lt}
-use Rattle.apd_disk.specs.Disk.{overwritten, TornWithin, Elapses}
+use Rattle.apd_disk.specs.Disk.{with_bytes, TornWithin, Elapses}
 use Rattle.apd_disk.specs.Mem.{reads_after, all_fit, Leaves, LeftAfter, LeftBetween, TornFrom}
 use Rattle.apd_disk.specs.MemLaws.{reads_left, only_last}
 use Rattle.apd_disk.specs.declared.call.Call.{Call}
@@ -11,19 +11,19 @@ use Rattle.apd_disk.specs.declared.call.Call.TheVariants.{Read, Write, Sync}
 reads_after-push_read : (image : List ℕ) (calls : List Call) (at n : ℕ) → reads_after image (calls ++ Read at n ∷ []) ≡ reads_after image calls
 reads_after-push_read image [] at n = refl
 reads_after-push_read image (Read place m ∷ calls) at n = reads_after-push_read image calls at n
-reads_after-push_read image (Write place w ∷ calls) at n = reads_after-push_read (overwritten image place w) calls at n
+reads_after-push_read image (Write place w ∷ calls) at n = reads_after-push_read (with_bytes image place w) calls at n
 reads_after-push_read image (Sync ∷ calls) at n = reads_after-push_read image calls at n
 
 reads_after-push_sync : (image : List ℕ) (calls : List Call) → reads_after image (calls ++ Sync ∷ []) ≡ reads_after image calls
 reads_after-push_sync image [] = refl
 reads_after-push_sync image (Read place m ∷ calls) = reads_after-push_sync image calls
-reads_after-push_sync image (Write place w ∷ calls) = reads_after-push_sync (overwritten image place w) calls
+reads_after-push_sync image (Write place w ∷ calls) = reads_after-push_sync (with_bytes image place w) calls
 reads_after-push_sync image (Sync ∷ calls) = reads_after-push_sync image calls
 
-reads_after-push_write : (image : List ℕ) (calls : List Call) (at : ℕ) (v : List ℕ) → reads_after image (calls ++ Write at v ∷ []) ≡ overwritten (reads_after image calls) at v
+reads_after-push_write : (image : List ℕ) (calls : List Call) (at : ℕ) (v : List ℕ) → reads_after image (calls ++ Write at v ∷ []) ≡ with_bytes (reads_after image calls) at v
 reads_after-push_write image [] at v = refl
 reads_after-push_write image (Read place m ∷ calls) at v = reads_after-push_write image calls at v
-reads_after-push_write image (Write place w ∷ calls) at v = reads_after-push_write (overwritten image place w) calls at v
+reads_after-push_write image (Write place w ∷ calls) at v = reads_after-push_write (with_bytes image place w) calls at v
 reads_after-push_write image (Sync ∷ calls) at v = reads_after-push_write image calls at v
 
 all_fit-push_read : (n : ℕ) (calls : List Call) (at m : ℕ) → IsTrue (all_fit n calls) → IsTrue (all_fit n (calls ++ Read at m ∷ []))
@@ -54,21 +54,21 @@ all_fit-push_write n (Sync ∷ calls) at v inside fit = all_fit-push_write n cal
 Leaves-push_read : (images : List ℕ → Type 0) (reads : List ℕ) (calls : List Call) (at n : ℕ) (c : List ℕ) → Leaves images reads (calls ++ Read at n ∷ []) c → Leaves images reads calls c
 Leaves-push_read images reads [] at n c left = left
 Leaves-push_read images reads (Read place m ∷ calls) at n c left = Leaves-push_read images reads calls at n c left
-Leaves-push_read images reads (Write place w ∷ calls) at n c left = Leaves-push_read (TornFrom images place (length w)) (overwritten reads place w) calls at n c left
+Leaves-push_read images reads (Write place w ∷ calls) at n c left = Leaves-push_read (TornFrom images place (length w)) (with_bytes reads place w) calls at n c left
 Leaves-push_read images reads (Sync ∷ calls) at n c left = Leaves-push_read (λ d. d ≡ reads) reads calls at n c left
 
 -- after a sync a stop leaves what a read gives
 Leaves-push_sync : (images : List ℕ → Type 0) (reads : List ℕ) (calls : List Call) (c : List ℕ) → Leaves images reads (calls ++ Sync ∷ []) c → c ≡ reads_after reads calls
 Leaves-push_sync images reads [] c left = left
 Leaves-push_sync images reads (Read place m ∷ calls) c left = Leaves-push_sync images reads calls c left
-Leaves-push_sync images reads (Write place w ∷ calls) c left = Leaves-push_sync (TornFrom images place (length w)) (overwritten reads place w) calls c left
+Leaves-push_sync images reads (Write place w ∷ calls) c left = Leaves-push_sync (TornFrom images place (length w)) (with_bytes reads place w) calls c left
 Leaves-push_sync images reads (Sync ∷ calls) c left = Leaves-push_sync (λ d. d ≡ reads) reads calls c left
 
 -- after a write it leaves one of before, torn
 Leaves-push_write : (images : List ℕ → Type 0) (reads : List ℕ) (calls : List Call) (at : ℕ) (v : List ℕ) (c : List ℕ) → Leaves images reads (calls ++ Write at v ∷ []) c → (d : List ℕ) × Leaves images reads calls d × TornWithin at (length v) d c
 Leaves-push_write images reads [] at v c left = left
 Leaves-push_write images reads (Read place m ∷ calls) at v c left = Leaves-push_write images reads calls at v c left
-Leaves-push_write images reads (Write place w ∷ calls) at v c left = Leaves-push_write (TornFrom images place (length w)) (overwritten reads place w) calls at v c left
+Leaves-push_write images reads (Write place w ∷ calls) at v c left = Leaves-push_write (TornFrom images place (length w)) (with_bytes reads place w) calls at v c left
 Leaves-push_write images reads (Sync ∷ calls) at v c left = Leaves-push_write (λ d. d ≡ reads) reads calls at v c left
 
 -- an image of before, or one of after the last call
@@ -136,9 +136,9 @@ module _ (initial : List ℕ) (calls after : List Call) (bytes : List ℕ) (stan
       (within_push initial calls after Sync is c left)
 
   -- a write
-  pub write_stands : (at : ℕ) (new : List ℕ) → after ≡ calls ++ Write at new ∷ [] → overwritten bytes at new ≡ reads_after initial after
+  pub write_stands : (at : ℕ) (new : List ℕ) → after ≡ calls ++ Write at new ∷ [] → with_bytes bytes at new ≡ reads_after initial after
   write_stands at new is =
-      ap (λ (l : List ℕ). overwritten l at new) stands ∙ sym (reads_after-push_write initial calls at new) ∙ ap (λ (l : List Call). reads_after initial l) (sym is)
+      ap (λ (l : List ℕ). with_bytes l at new) stands ∙ sym (reads_after-push_write initial calls at new) ∙ ap (λ (l : List Call). reads_after initial l) (sym is)
 
   pub write_fits : (at : ℕ) (new : List ℕ) → at + length new ≤ length initial → after ≡ calls ++ Write at new ∷ [] → IsTrue (all_fit (length initial) after)
   write_fits at new inside is =

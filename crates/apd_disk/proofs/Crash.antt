@@ -3,9 +3,9 @@ use Rattle.std.proofs.Common.{◌≡◌, ◌≤◌, ◌<◌, ◌+◌, ◌-◌, �
 use Rattle.std.proofs.lemmas.List.{append_assoc, take-append-drop, length-take-le, get_or-take, get_or-drop, get_or-append-add, get_or_append_left, get_or-replicate, length-replicate}
 use Rattle.std.proofs.Math.Bool.{or-true, or-false}
 use Rattle.std.proofs.lemmas.Bool.{false≢true, and_from, and_left, and_right, le-leb, le-ltb, lt-leb, lt-ltb, cases_lt}
-use Rattle.apd_disk.specs.Disk.{overwritten, TornWithin}
+use Rattle.apd_disk.specs.Disk.{with_bytes, TornWithin}
 use Rattle.apd_disk.specs.Mem.{reads_after, all_fit, Leaves, LeftAfter, TornFrom, synced_after, is_unsynced, torn_byte, torn_write, torn_writes, covers, has_no_sync, EndsWithTheLastSync, IsCrashImage}
-use Rattle.apd_disk.specs.MemLaws.{first_fits, length-overwritten, torn_overwritten, leaves_length}
+use Rattle.apd_disk.specs.MemLaws.{first_fits, length-with_bytes, torn_overwritten, leaves_length}
 use Rattle.apd_disk.specs.declared.call.Call.{Call}
 use Rattle.apd_disk.specs.declared.call.Call.TheVariants.{Read, Write, Sync}
 use Rattle.apd_disk.specs.declared.torn.Torn.{Torn}
@@ -15,14 +15,14 @@ use Rattle.apd_disk.specs.declared.torn.Torn.TheVariants.{Old, New, Byte}
 abbrev pub torn_after : Torn → List ℕ → List ℕ → List Call → List ℕ
 torn_after torn image reads [] = image
 torn_after torn image reads (Read at n ∷ calls) = torn_after torn image reads calls
-torn_after torn image reads (Write at bytes ∷ calls) = torn_after torn (torn_write torn image at bytes) (overwritten reads at bytes) calls
+torn_after torn image reads (Write at bytes ∷ calls) = torn_after torn (torn_write torn image at bytes) (with_bytes reads at bytes) calls
 torn_after torn image reads (Sync ∷ calls) = torn_after torn reads reads calls
 
 pub torn_write_within : (torn : Torn) (image : List ℕ) (at : ℕ) (bytes : List ℕ) → at + length bytes ≤ length image → TornWithin at (length bytes) image (torn_write torn image at bytes)
 torn_write_within Old image at bytes inside = record { before = refl; after = refl; same_length = refl }
 torn_write_within New image at bytes inside = torn_overwritten image at bytes inside
 torn_write_within (Byte b) image at bytes inside =
-    subst (λ (n : ℕ). TornWithin at n image (overwritten image at (replicate (length bytes) b))) (length-replicate (length bytes) b)
+    subst (λ (n : ℕ). TornWithin at n image (with_bytes image at (replicate (length bytes) b))) (length-replicate (length bytes) b)
     (torn_overwritten image at (replicate (length bytes) b) (omega (arith, inside, length-replicate (length bytes) b)))
 
 -- it is one that a stop may leave
@@ -32,10 +32,10 @@ torn_leaves torn n images image reads (Read at m ∷ calls) size same here fit =
 torn_leaves torn n images image reads (Write at bytes ∷ calls) size same here fit =
     let fits = first_fits n at bytes calls fit in
     let torn_one = torn_write_within torn image at bytes (omega (arith, fits.0, size)) in
-    torn_leaves torn n (TornFrom images at (length bytes)) (torn_write torn image at bytes) (overwritten reads at bytes) calls (torn_one.same_length ∙ size) (length-overwritten reads at bytes (omega (arith, fits.0, same)) ∙ same) (image, here, torn_one) fits.1
+    torn_leaves torn n (TornFrom images at (length bytes)) (torn_write torn image at bytes) (with_bytes reads at bytes) calls (torn_one.same_length ∙ size) (length-with_bytes reads at bytes (omega (arith, fits.0, same)) ∙ same) (image, here, torn_one) fits.1
 torn_leaves torn n images image reads (Sync ∷ calls) size same here fit = torn_leaves torn n (λ d. d ≡ reads) reads reads calls same same refl fit
 
--- a byte of an overwritten image
+-- a byte of an image with bytes written over it
 module _ (image : List ℕ) (at : ℕ) (bytes : List ℕ) (inside : at + length bytes ≤ length image) where
   abbrev rest : List ℕ
   rest = drop (at + length bytes) image
@@ -43,33 +43,33 @@ module _ (image : List ℕ) (at : ℕ) (bytes : List ℕ) (inside : at + length 
   front : length (take at image) ≡ at
   front = length-take-le at image (omega (arith, inside))
 
-  shape : overwritten image at bytes ≡ take at image ++ (bytes ++ rest)
+  shape : with_bytes image at bytes ≡ take at image ++ (bytes ++ rest)
   shape = append_assoc (take at image) bytes rest
 
-  at_before : (i : ℕ) → i < at → get_or (overwritten image at bytes) i 0 ≡ get_or image i 0
+  at_before : (i : ℕ) → i < at → get_or (with_bytes image at bytes) i 0 ≡ get_or image i 0
   at_before i lt = ap (λ (l : List ℕ). get_or l i 0) shape ∙ get_or_append_left (take at image) (bytes ++ rest) 0 i (omega (arith, lt, front)) ∙ get_or-take at image i 0 lt
 
-  at_inside : (k : ℕ) → k < length bytes → get_or (overwritten image at bytes) (at + k) 0 ≡ get_or bytes k 0
+  at_inside : (k : ℕ) → k < length bytes → get_or (with_bytes image at bytes) (at + k) 0 ≡ get_or bytes k 0
   at_inside k lt =
-      ap (λ (n : ℕ). get_or (overwritten image at bytes) (n + k) 0) (sym front)
+      ap (λ (n : ℕ). get_or (with_bytes image at bytes) (n + k) 0) (sym front)
       ∙ ap (λ (l : List ℕ). get_or l (length (take at image) + k) 0) shape
       ∙ get_or-append-add (take at image) (bytes ++ rest) k 0
       ∙ get_or_append_left bytes rest 0 k lt
 
-  at_after : (m : ℕ) → get_or (overwritten image at bytes) (at + (length bytes + m)) 0 ≡ get_or image (at + length bytes + m) 0
+  at_after : (m : ℕ) → get_or (with_bytes image at bytes) (at + (length bytes + m)) 0 ≡ get_or image (at + length bytes + m) 0
   at_after m =
-      ap (λ (n : ℕ). get_or (overwritten image at bytes) (n + (length bytes + m)) 0) (sym front)
+      ap (λ (n : ℕ). get_or (with_bytes image at bytes) (n + (length bytes + m)) 0) (sym front)
       ∙ ap (λ (l : List ℕ). get_or l (length (take at image) + (length bytes + m)) 0) shape
       ∙ get_or-append-add (take at image) (bytes ++ rest) (length bytes + m) 0
       ∙ get_or-append-add bytes rest m 0
       ∙ get_or-drop (at + length bytes) image m 0
 
-  at_outside : (i : ℕ) → (i < at) ⊎ (at + length bytes ≤ i) → get_or (overwritten image at bytes) i 0 ≡ get_or image i 0
+  at_outside : (i : ℕ) → (i < at) ⊎ (at + length bytes ≤ i) → get_or (with_bytes image at bytes) i 0 ≡ get_or image i 0
   at_outside i (inl lt) = at_before i lt
   at_outside i (inr le) =
       let m : ℕ = i - (at + length bytes) in
       let whole : at + (length bytes + m) ≡ i = omega (arith, le) in
-      ap (λ (n : ℕ). get_or (overwritten image at bytes) n 0) (sym whole) ∙ at_after m ∙ ap (λ (n : ℕ). get_or image n 0) (omega (arith, le))
+      ap (λ (n : ℕ). get_or (with_bytes image at bytes) n 0) (sym whole) ∙ at_after m ∙ ap (λ (n : ℕ). get_or image n 0) (omega (arith, le))
 
 covers_outside : (at n i : ℕ) → (i < at) ⊎ (at + n ≤ i) → covers at n i ≡ false
 covers_outside at n i (inl lt) = and_left (nat_le at i) (nat_lt i (at + n)) (lt-leb at i lt)
@@ -96,7 +96,7 @@ write_outside (Byte b) image at bytes i inside out =
     at_outside image at (replicate (length bytes) b) (omega (arith, inside, same)) i (⊎_elim (λ (lt : i < at). inl lt) (λ (le : at + length bytes ≤ i). inr (omega (arith, le, same))) out)
 
 write_inside : (torn : Torn) (image reads : List ℕ) (at : ℕ) (bytes : List ℕ) (k : ℕ) → at + length bytes ≤ length image → at + length bytes ≤ length reads → k < length bytes
-    → get_or (torn_write torn image at bytes) (at + k) 0 ≡ torn_byte torn true (get_or image (at + k) 0) (get_or (overwritten reads at bytes) (at + k) 0)
+    → get_or (torn_write torn image at bytes) (at + k) 0 ≡ torn_byte torn true (get_or image (at + k) 0) (get_or (with_bytes reads at bytes) (at + k) 0)
 write_inside Old image reads at bytes k inside fits lt = refl
 write_inside New image reads at bytes k inside fits lt = at_inside image at bytes inside k lt ∙ sym (at_inside reads at bytes fits k lt)
 write_inside (Byte b) image reads at bytes k inside fits lt =
@@ -112,17 +112,17 @@ written_again (Byte b) was image old before new is = refl
 
 write_byte : (torn : Torn) (was : Bool) (old : ℕ) (image reads : List ℕ) (at : ℕ) (bytes : List ℕ) (i : ℕ) → at + length bytes ≤ length image → at + length bytes ≤ length reads
     → get_or image i 0 ≡ torn_byte torn was old (get_or reads i 0)
-    → get_or (torn_write torn image at bytes) i 0 ≡ torn_byte torn (was || covers at (length bytes) i) old (get_or (overwritten reads at bytes) i 0)
+    → get_or (torn_write torn image at bytes) i 0 ≡ torn_byte torn (was || covers at (length bytes) i) old (get_or (with_bytes reads at bytes) i 0)
 write_byte torn was old image reads at bytes i inside fits is = ⊎_elim
     (λ (out : (i < at) ⊎ (at + length bytes ≤ i)).
     write_outside torn image at bytes i inside out ∙ is
     ∙ ap (λ (n : ℕ). torn_byte torn was old n) (sym (at_outside reads at bytes fits i out))
-    ∙ ap (λ (b : Bool). torn_byte torn b old (get_or (overwritten reads at bytes) i 0)) (sym (or-false was) ∙ ap (λ (b : Bool). was || b) (sym (covers_outside at (length bytes) i out))))
+    ∙ ap (λ (b : Bool). torn_byte torn b old (get_or (with_bytes reads at bytes) i 0)) (sym (or-false was) ∙ ap (λ (b : Bool). was || b) (sym (covers_outside at (length bytes) i out))))
     (λ (within : (k : ℕ) × (k < length bytes) × (i ≡ at + k)).
-    subst (λ (n : ℕ). get_or (torn_write torn image at bytes) n 0 ≡ torn_byte torn (was || covers at (length bytes) n) old (get_or (overwritten reads at bytes) n 0)) (sym within.2)
+    subst (λ (n : ℕ). get_or (torn_write torn image at bytes) n 0 ≡ torn_byte torn (was || covers at (length bytes) n) old (get_or (with_bytes reads at bytes) n 0)) (sym within.2)
     (write_inside torn image reads at bytes within.0 inside fits within.1
-    ∙ written_again torn was (get_or image (at + within.0) 0) old (get_or reads (at + within.0) 0) (get_or (overwritten reads at bytes) (at + within.0) 0) (subst (λ (n : ℕ). get_or image n 0 ≡ torn_byte torn was old (get_or reads n 0)) within.2 is)
-    ∙ ap (λ (b : Bool). torn_byte torn b old (get_or (overwritten reads at bytes) (at + within.0) 0)) (sym (or-true was) ∙ ap (λ (b : Bool). was || b) (sym (covers_inside at (length bytes) within.0 within.1)))))
+    ∙ written_again torn was (get_or image (at + within.0) 0) old (get_or reads (at + within.0) 0) (get_or (with_bytes reads at bytes) (at + within.0) 0) (subst (λ (n : ℕ). get_or image n 0 ≡ torn_byte torn was old (get_or reads n 0)) within.2 is)
+    ∙ ap (λ (b : Bool). torn_byte torn b old (get_or (with_bytes reads at bytes) (at + within.0) 0)) (sym (or-true was) ∙ ap (λ (b : Bool). was || b) (sym (covers_inside at (length bytes) within.0 within.1)))))
     (where_is at (length bytes) i)
 
 each_byte : (torn : Torn) (i n : ℕ) (was : Bool) (synced image reads : List ℕ) (calls : List Call) → length image ≡ n → length reads ≡ n → IsTrue (all_fit n calls)
@@ -134,8 +134,8 @@ each_byte torn i n was synced image reads (Write at bytes ∷ calls) size same f
     let fits = first_fits n at bytes calls fit in
     let inside : at + length bytes ≤ length image = omega (arith, fits.0, size) in
     let within : at + length bytes ≤ length reads = omega (arith, fits.0, same) in
-    each_byte torn i n (was || covers at (length bytes) i) synced (torn_write torn image at bytes) (overwritten reads at bytes) calls
-    ((torn_write_within torn image at bytes inside).same_length ∙ size) (length-overwritten reads at bytes within ∙ same) fits.1
+    each_byte torn i n (was || covers at (length bytes) i) synced (torn_write torn image at bytes) (with_bytes reads at bytes) calls
+    ((torn_write_within torn image at bytes inside).same_length ∙ size) (length-with_bytes reads at bytes within ∙ same) fits.1
     (write_byte torn was (get_or synced i 0) image reads at bytes i inside within is)
 each_byte torn i n was synced image reads (Sync ∷ calls) size same fit is = each_byte torn i n false reads reads reads calls same same fit refl
 
@@ -156,7 +156,7 @@ module _ (torn : Torn) (initial : List ℕ) (calls : List Call) (fit : IsTrue (a
 torn_apart : (torn : Torn) (image reads : List ℕ) (calls : List Call) → IsTrue (has_no_sync calls) → torn_after torn image reads calls ≡ torn_writes torn image calls
 torn_apart torn image reads [] none = refl
 torn_apart torn image reads (Read at n ∷ calls) none = torn_apart torn image reads calls none
-torn_apart torn image reads (Write at bytes ∷ calls) none = torn_apart torn (torn_write torn image at bytes) (overwritten reads at bytes) calls none
+torn_apart torn image reads (Write at bytes ∷ calls) none = torn_apart torn (torn_write torn image at bytes) (with_bytes reads at bytes) calls none
 torn_apart torn image reads (Sync ∷ calls) none = absurd (false≢true none)
 
 -- up to a sync each write is made in full
@@ -164,7 +164,7 @@ whole_before : (torn : Torn) (image reads : List ℕ) (before calls : List Call)
     torn_after torn image reads ((before ++ Sync ∷ []) ++ calls) ≡ torn_after torn (torn_writes New reads (before ++ Sync ∷ [])) (torn_writes New reads (before ++ Sync ∷ [])) calls
 whole_before torn image reads [] calls = refl
 whole_before torn image reads (Read at n ∷ before) calls = whole_before torn image reads before calls
-whole_before torn image reads (Write at bytes ∷ before) calls = whole_before torn (torn_write torn image at bytes) (overwritten reads at bytes) before calls
+whole_before torn image reads (Write at bytes ∷ before) calls = whole_before torn (torn_write torn image at bytes) (with_bytes reads at bytes) before calls
 whole_before torn image reads (Sync ∷ before) calls = whole_before torn reads reads before calls
 
 -- the writes of the two parts of the calls

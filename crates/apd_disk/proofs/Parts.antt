@@ -1,7 +1,7 @@
 -- A write into the middle of an image of three parts, for those who lay out an image, as a store.
 use Rattle.std.proofs.Common.{◌≡◌, ◌+◌, ℕ, List, ◌++◌, length, take, drop, sym, ◌∙◌, ap, arith, length-append, length-drop, take-append-drop}
 use Rattle.std.proofs.lemmas.List.{append_assoc, take_at, drop_at, drop-drop, length-take-le}
-use Rattle.apd_disk.specs.Disk.{overwritten, TornWithin}
+use Rattle.apd_disk.specs.Disk.{with_bytes, TornWithin}
 
 module _ (front middle back : List ℕ) (at n : ℕ) (place : length front ≡ at) (size : length middle ≡ n) where
   whole-take : take at (front ++ (middle ++ back)) ≡ front
@@ -14,7 +14,7 @@ module _ (front middle back : List ℕ) (at n : ℕ) (place : length front ≡ a
   whole_length = omega (arith, length-append front (middle ++ back), length-append middle back, place, size)
 
   -- the written bytes stand in the middle
-  pub overwritten_parts : (new : List ℕ) → length new ≡ n → overwritten (front ++ (middle ++ back)) at new ≡ front ++ (new ++ back)
+  pub overwritten_parts : (new : List ℕ) → length new ≡ n → with_bytes (front ++ (middle ++ back)) at new ≡ front ++ (new ++ back)
   overwritten_parts new same =
       ap (λ (l : List ℕ). take at (front ++ (middle ++ back)) ++ new ++ l) (ap (λ (k : ℕ). drop (at + k) (front ++ (middle ++ back))) same ∙ whole-drop)
       ∙ ap (λ (l : List ℕ). l ++ new ++ back) whole-take

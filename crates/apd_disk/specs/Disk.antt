@@ -36,8 +36,8 @@ abbrev pub counting : {D : Type 0} → DiskModel D → (D → ℕ) → DiskModel
 counting disk failed = record disk { failed = failed }
 
 -- the image with these bytes at this place
-abbrev pub overwritten : List ℕ → ℕ → List ℕ → List ℕ
-overwritten image at bytes = take at image ++ bytes ++ drop (at + length bytes) image
+abbrev pub with_bytes : List ℕ → ℕ → List ℕ → List ℕ
+with_bytes image at bytes = take at image ++ bytes ++ drop (at + length bytes) image
 
 -- any bytes in a range of n, the same outside it
 pub record TornWithin (at n : ℕ) (old new : List ℕ) : Type 0 where
@@ -95,7 +95,7 @@ module _ {D T E : Type 0} (disk : DiskModel D) (old new : D) (result : Result T 
   pub record IsWritten (at : ℕ) (bytes : List ℕ) : Type 0 where
     pub length_stays : disk.size new ≡ disk.size old
     pub stays_honest : disk.honest old ↔ disk.honest new
-    pub written : disk.honest old → OnOk result (disk.reads new ≡ overwritten (disk.reads old) at bytes)
+    pub written : disk.honest old → OnOk result (disk.reads new ≡ with_bytes (disk.reads old) at bytes)
     pub stop : disk.honest old → Follows (TornWithin at (length bytes)) (disk.may_leave old) (disk.left_since new (disk.moment old))
     pub time : disk.honest old → Elapses (disk.moment old) (disk.moment new) (disk.left_since old) (disk.left_since new)
 

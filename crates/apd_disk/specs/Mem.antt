@@ -1,6 +1,6 @@
 -- What a list of calls leaves of a first image.
 use Rattle.std.specs.Prelude.{◌≡◌, ◌≤◌, ◌<◌, ◌+◌, ℕ, Bool, true, false, nat_le, nat_lt, ◌&&◌, ◌||◌, ◌⊎◌, IsTrue, List, [], ◌∷◌, ◌++◌, length, take, drop, get_or, replicate}
-use Rattle.apd_disk.specs.Disk.{overwritten, TornWithin}
+use Rattle.apd_disk.specs.Disk.{with_bytes, TornWithin}
 use Rattle.apd_disk.specs.declared.call.Call.{Call}
 use Rattle.apd_disk.specs.declared.call.Call.TheVariants.{Read, Write, Sync}
 use Rattle.apd_disk.specs.declared.torn.Torn.{Torn}
@@ -10,7 +10,7 @@ use Rattle.apd_disk.specs.declared.torn.Torn.TheVariants.{Old, New, Byte}
 abbrev pub reads_after : List ℕ → List Call → List ℕ
 reads_after image [] = image
 reads_after image (Read at n ∷ calls) = reads_after image calls
-reads_after image (Write at bytes ∷ calls) = reads_after (overwritten image at bytes) calls
+reads_after image (Write at bytes ∷ calls) = reads_after (with_bytes image at bytes) calls
 reads_after image (Sync ∷ calls) = reads_after image calls
 
 -- each write lies inside n bytes
@@ -29,7 +29,7 @@ abbrev pub Leaves : (List ℕ → Type 0) → List ℕ → List Call → List �
 Leaves images reads [] c = images c
 Leaves images reads (Read at n ∷ calls) c = Leaves images reads calls c
 Leaves images reads (Write at bytes ∷ calls) c =
-    Leaves (TornFrom images at (length bytes)) (overwritten reads at bytes) calls c
+    Leaves (TornFrom images at (length bytes)) (with_bytes reads at bytes) calls c
 Leaves images reads (Sync ∷ calls) c = Leaves (λ d. d ≡ reads) reads calls c
 
 abbrev pub LeftAfter : List ℕ → List Call → List ℕ → Type 0
@@ -43,7 +43,7 @@ LeftBetween initial calls t c = (k : ℕ) × (t ≤ k) × (k ≤ length calls) �
 abbrev pub synced_after : List ℕ → List ℕ → List Call → List ℕ
 synced_after synced reads [] = synced
 synced_after synced reads (Read at n ∷ calls) = synced_after synced reads calls
-synced_after synced reads (Write at bytes ∷ calls) = synced_after synced (overwritten reads at bytes) calls
+synced_after synced reads (Write at bytes ∷ calls) = synced_after synced (with_bytes reads at bytes) calls
 synced_after synced reads (Sync ∷ calls) = synced_after reads reads calls
 
 -- whether byte i lies in the range of n bytes at this place
@@ -88,8 +88,8 @@ pub record EndsWithTheLastSync (n : ℕ) (calls : List Call) : Type 0 where
 -- one write after such a stop
 abbrev pub torn_write : Torn → List ℕ → ℕ → List ℕ → List ℕ
 torn_write Old image at bytes = image
-torn_write New image at bytes = overwritten image at bytes
-torn_write (Byte b) image at bytes = overwritten image at (replicate (length bytes) b)
+torn_write New image at bytes = with_bytes image at bytes
+torn_write (Byte b) image at bytes = with_bytes image at (replicate (length bytes) b)
 
 -- each write of the calls
 abbrev pub torn_writes : Torn → List ℕ → List Call → List ℕ

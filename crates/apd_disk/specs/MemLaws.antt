@@ -2,14 +2,14 @@
 use Rattle.std.proofs.Common.{◌≡◌, ◌≤◌, ◌+◌, zero, suc, ℕ, nat_le, IsTrue, List, [], ◌∷◌, ◌++◌, length, take, drop, refl, sym, ◌∙◌, ap, subst, arith, length-append, length-take, length-drop}
 use Rattle.std.proofs.lemmas.List.{take_at, drop_at, take_all, append_assoc, length-take-le}
 use Rattle.std.proofs.lemmas.Bool.{and_parts, and_from, leb-true}
-use Rattle.apd_disk.specs.Disk.{overwritten, TornWithin}
+use Rattle.apd_disk.specs.Disk.{with_bytes, TornWithin}
 use Rattle.apd_disk.specs.Mem.{reads_after, all_fit, TornFrom, Leaves, LeftAfter, LeftBetween}
 use Rattle.apd_disk.specs.declared.call.Call.{Call}
 use Rattle.apd_disk.specs.declared.call.Call.TheVariants.{Read, Write, Sync}
 
-pub length-overwritten : (image : List ℕ) (at : ℕ) (bytes : List ℕ) → at + length bytes ≤ length image
-    → length (overwritten image at bytes) ≡ length image
-length-overwritten image at bytes fits =
+pub length-with_bytes : (image : List ℕ) (at : ℕ) (bytes : List ℕ) → at + length bytes ≤ length image
+    → length (with_bytes image at bytes) ≡ length image
+length-with_bytes image at bytes fits =
     omega (
       arith,
       length-append (take at image ++ bytes) (drop (at + length bytes) image),
@@ -19,7 +19,7 @@ length-overwritten image at bytes fits =
     )
 
 pub torn_overwritten : (image : List ℕ) (at : ℕ) (bytes : List ℕ) → at + length bytes ≤ length image
-    → TornWithin at (length bytes) image (overwritten image at bytes)
+    → TornWithin at (length bytes) image (with_bytes image at bytes)
 torn_overwritten image at bytes fits =
     let front : length (take at image) ≡ at = length-take-le at image (omega arith) in
     let both : length (take at image ++ bytes) ≡ at + length bytes =
@@ -28,7 +28,7 @@ torn_overwritten image at bytes fits =
       before = ap (λ (l : List ℕ). take at l) (append_assoc (take at image) bytes (drop (at + length bytes) image))
           ∙ take_at (take at image) (bytes ++ drop (at + length bytes) image) at front;
       after = drop_at (take at image ++ bytes) (drop (at + length bytes) image) (at + length bytes) both;
-      same_length = length-overwritten image at bytes fits;
+      same_length = length-with_bytes image at bytes fits;
     }
 
 pub first_fits : (n at : ℕ) (bytes : List ℕ) (calls : List Call) → IsTrue (all_fit n (Write at bytes ∷ calls))
@@ -44,8 +44,8 @@ reads_leave images reads n (Read at m ∷ calls) size here fit = reads_leave ima
 reads_leave images reads n (Write at bytes ∷ calls) size here fit =
     let fits = first_fits n at bytes calls fit in
     let inside : at + length bytes ≤ length reads = omega (arith, fits.0, size) in
-    reads_leave (TornFrom images at (length bytes)) (overwritten reads at bytes) n calls
-    (length-overwritten reads at bytes inside ∙ size) (reads, here, torn_overwritten reads at bytes inside) fits.1
+    reads_leave (TornFrom images at (length bytes)) (with_bytes reads at bytes) n calls
+    (length-with_bytes reads at bytes inside ∙ size) (reads, here, torn_overwritten reads at bytes inside) fits.1
 reads_leave images reads n (Sync ∷ calls) size here fit = reads_leave (λ d. d ≡ reads) reads n calls size refl fit
 
 pub reads_left : (initial : List ℕ) (calls : List Call) (bytes : List ℕ) → bytes ≡ reads_after initial calls
@@ -82,9 +82,9 @@ leaves_length n images reads (Read at m ∷ calls) c each size fit left =
 leaves_length n images reads (Write at bytes ∷ calls) c each size fit left =
     let fits = first_fits n at bytes calls fit in
     let inside : at + length bytes ≤ length reads = omega (arith, fits.0, size) in
-    leaves_length n (TornFrom images at (length bytes)) (overwritten reads at bytes) calls c
+    leaves_length n (TornFrom images at (length bytes)) (with_bytes reads at bytes) calls c
     (λ d torn. torn.2.same_length ∙ each torn.0 torn.1)
-    (length-overwritten reads at bytes inside ∙ size) fits.1 left
+    (length-with_bytes reads at bytes inside ∙ size) fits.1 left
 leaves_length n images reads (Sync ∷ calls) c each size fit left =
     leaves_length n (λ d. d ≡ reads) reads calls c (λ d is. ap length is ∙ size) size fit left
 

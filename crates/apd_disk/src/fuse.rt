@@ -1,7 +1,7 @@
 //! A disk that fails for good after some calls.
 ghost use Rattle.std.specs.Prelude.{◌≡◌, ◌≤◌, ◌+◌, length, take, drop, Some, ◌⊎◌};
 ghost use Rattle.apd_base.specs.Failures.{HasRisen};
-ghost use Rattle.apd_disk.specs.Disk.{counting, inside, overwritten, IsRead, IsSynced, IsWritten, Only, Counts};
+ghost use Rattle.apd_disk.specs.Disk.{counting, inside, with_bytes, IsRead, IsSynced, IsWritten, Only, Counts};
 ghost use Rattle.apd_disk.specs.Faults.{sum_of, FuseCall};
 
 use crate::fault::fail;
@@ -99,7 +99,7 @@ impl<D: Disk> Disk for FuseDisk<D> {
         ensures call { IsWritten D.model self.old.inner self.new.inner result at bytes.now }
         ensures passed { FuseCall D.model self.old.inner self.new.inner self.old.passes self.new.passes result }
         ensures passed_on { D.model.honest self.old.inner → self.old.passes ≡ Some 0
-            → (D.model.reads self.new.inner ≡ overwritten (D.model.reads self.old.inner) at bytes.now)
+            → (D.model.reads self.new.inner ≡ with_bytes (D.model.reads self.old.inner) at bytes.now)
             ⊎ HasRisen (D.model.failed self.old.inner) (D.model.failed self.new.inner) }
     {
         match self.passes {

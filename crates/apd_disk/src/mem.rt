@@ -1,6 +1,6 @@
 //! A disk in memory, which keeps what it held at first and each call that it has served.
 ghost use Rattle.std.specs.Prelude.{◌≡◌, ◌≤◌, ◌+◌, ◌↔◌, ◌++◌, ◌∷◌, [], ℕ, List, length, take, drop, replicate, IsTrue, OnErr, OnOk, IfOk};
-ghost use Rattle.apd_disk.specs.Disk.{overwritten, TornWithin, Only, Within, Follows, Elapses, Counts};
+ghost use Rattle.apd_disk.specs.Disk.{with_bytes, TornWithin, Only, Within, Follows, Elapses, Counts};
 ghost use Rattle.apd_disk.specs.Mem.{reads_after, all_fit, LeftAfter, LeftBetween, IsCrashImage, EndsWithTheLastSync, torn_write, torn_writes};
 ghost use Rattle.apd_disk.specs.MemLaws.{reads_left, now_left, only_last, earlier_left, left_length};
 ghost use Rattle.apd_disk.specs.declared.call.Call.TheVariants.{Read, Write, Sync};
@@ -25,7 +25,7 @@ pub struct MemDisk {
 
 fn overwrite(bytes: &mut Vec<u8>, at: usize, new: &[u8])
     requires { at + length new.now ≤ length bytes.old.items }
-    ensures { bytes.new.items ≡ overwritten bytes.old.items at new.now }
+    ensures { bytes.new.items ≡ with_bytes bytes.old.items at new.now }
 {
     let end = at + new.len();
     bytes[at..end].copy_from_slice(new);
@@ -237,7 +237,7 @@ impl Disk for MemDisk {
         ensures recorded { OnOk result (self.new.calls.items ≡ self.old.calls.items ++ Write at bytes.now ∷ []) }
         ensures unrecorded { OnErr result (self.new.calls.items ≡ self.old.calls.items) }
         ensures initial { self.new.initial.items ≡ self.old.initial.items }
-        ensures written { OnOk result (self.new.bytes.items ≡ overwritten self.old.bytes.items at bytes.now) }
+        ensures written { OnOk result (self.new.bytes.items ≡ with_bytes self.old.bytes.items at bytes.now) }
         ensures unwritten { OnErr result (self.new.bytes.items ≡ self.old.bytes.items) }
         ensures stop { Follows (TornWithin at (length bytes.now))
             (LeftAfter self.old.initial.items self.old.calls.items)

@@ -23,8 +23,8 @@
 //! | `Lists::{add, copy}` | `addresses_are_added_where_memory_is_ample`, `apd_tests` |
 //! | `Table::apply` | `stations_and_policies_are_changed`, `lists_are_changed`, `apd_tests` |
 //! | `Table::apply_all` | `drops_come_behind_no_change_and_behind_one`, `an_association_moves`, `apd_tests` |
-//! | `Table::{addresses, denied_after}` | `addresses_are_told`, `apd_tests` |
-//! | `Table::denied_by` | `stations_and_policies_are_changed`, `apd_tests` |
+//! | `Table::{addresses, denials_after}` | `addresses_are_told`, `apd_tests` |
+//! | `Table::denials_by` | `stations_and_policies_are_changed`, `apd_tests` |
 //! | `Table::copy` | `a_copy_has_the_cursors`, `apd_tests` |
 //! | `Table::snapshot` | `a_snapshot_has_the_cursors_behind_the_policies`, `apd_tests` |
 //! | `Staged::{new, stage}` | `changes_are_staged_and_committed`, `apd_tests` |

@@ -11,7 +11,7 @@ use Rattle.apd_store.specs.declared.fault.StoreFault.{StoreFault}
 use Rattle.apd_store.specs.declared.fault.StoreFault.TheVariants as store_fault
 use Rattle.apd_store.specs.declared.store.Receipt.{Receipt}
 use Rattle.apd_flusher.specs.Flushing.{IsGood, IsInside, Stands}
-use Rattle.apd_flusher.specs.Outside.{batch_of, device_of, flusher_of, next_of, phase_of, table_of, waiting_batch, waiting_receipt}
+use Rattle.apd_flusher.specs.Outside.{flusher_batch, flusher_device, flusher_of, next_of, phase_of, table_of, waiting_batch, waiting_receipt}
 use Rattle.apd_flusher.specs.declared.committer.Committer.{Committer}
 use Rattle.apd_flusher.specs.declared.phase.Phase.TheVariants.{Idle, Busy, Done, Failed}
 
@@ -40,7 +40,7 @@ module _ {D : Type 0} (c : Committer D) (s : State) where
   pub record IsUnderWay (batch : Batch) (failed : Bool) : Type 0 where
     pub none : waiting_batch c ≡ None
     pub receipt : waiting_receipt c ≡ None
-    pub loaded : batch_of (flusher_of c) ≡ batch
+    pub loaded : flusher_batch (flusher_of c) ≡ batch
     pub phase : (phase_of (flusher_of c) ≡ Busy) ⊎ (phase_of (flusher_of c) ≡ Done)
         ⊎ ((phase_of (flusher_of c) ≡ Failed) × (failed ≡ true))
     pub table : table_of (flusher_of c) ≡ s
@@ -68,7 +68,7 @@ pub record IsWhole {D : Type 0} (disk : DiskModel D) (c : Committer D)
 
 -- the device is honest, and its images show the flusher's table, on the way to the next where a batch is under way
 pub record IsImaged {D : Type 0} (disk : DiskModel D) (c : Committer D) : Type 0 where
-  pub honest : disk.honest (device_of (flusher_of c))
+  pub honest : disk.honest (flusher_device (flusher_of c))
   pub stands : Stands disk (flusher_of c) (table_of (flusher_of c)) (next_of (flusher_of c))
 
 -- the image shows the settled state, or that after the batch in flight
@@ -76,7 +76,7 @@ abbrev pub ShowsEither : State → Option Batch → List ℕ → Type 0
 ShowsEither s flight image = Shows image s ⊎ Shows image (state_after_flight s flight)
 
 -- with the device the core fails
-abbrev pub failed_after : Result (Unit {0}) StoreFault → Bool → Bool
-failed_after (Ok _) failed = failed
-failed_after (Err store_fault.Device) failed = true
-failed_after (Err fault) failed = failed
+abbrev pub has_failed_after : Result (Unit {0}) StoreFault → Bool → Bool
+has_failed_after (Ok _) failed = failed
+has_failed_after (Err store_fault.Device) failed = true
+has_failed_after (Err fault) failed = failed

@@ -11,7 +11,7 @@ use Rattle.apd_store.specs.Commit.{IsIdle, IsCommitting, HasFailed, HasRoom as S
 use Rattle.apd_store.specs.Outside.{IsInside as StoreIsInside}
 use Rattle.apd_store.specs.declared.fault.StoreFault.{StoreFault}
 use Rattle.apd_store.specs.declared.fault.StoreFault.TheVariants as store_fault
-use Rattle.apd_flusher.specs.Outside.{device_of, phase_of, table_of, epoch_of}
+use Rattle.apd_flusher.specs.Outside.{flusher_device, phase_of, table_of, epoch_of}
 use Rattle.apd_flusher.specs.declared.flusher.Flusher.{Flusher}
 use Rattle.apd_flusher.specs.declared.phase.Phase.{Phase}
 use Rattle.apd_flusher.specs.declared.phase.Phase.TheVariants.{Idle, Busy, Done, Failed}
@@ -74,7 +74,8 @@ IsRefused disk store_fault.Worn changes old new = (¬ HasRoom old changes) × (2
 -- the device failed before
 IsRefused disk store_fault.Failed changes old new = IsInside disk old → phase_of old ≡ Failed
 -- or in this commit
-IsRefused disk store_fault.Device changes old new = HasRisen (disk.failed (device_of old)) (disk.failed (device_of new))
+IsRefused disk store_fault.Device changes old new =
+    HasRisen (disk.failed (flusher_device old)) (disk.failed (flusher_device new))
 IsRefused disk store_fault.NoMemory changes old new = Unit {0}
 -- nothing else is told
 IsRefused disk fault changes old new = ⊥

@@ -9,7 +9,7 @@ use Rattle.apd_store.specs.declared.store.Receipt.{Receipt}
 use Rattle.apd_flusher.specs.Committing.{IsImaged}
 use Rattle.apd_flusher.specs.Flushing.{IsInside}
 use Rattle.apd_flusher.specs.Loading.{IsLoaded, IsNotLoaded}
-use Rattle.apd_flusher.specs.Outside.{batch_of, device_of, flusher_of, next_of, phase_of, table_of, waiting_batch, waiting_receipt}
+use Rattle.apd_flusher.specs.Outside.{flusher_batch, flusher_device, flusher_of, next_of, phase_of, table_of, waiting_batch, waiting_receipt}
 use Rattle.apd_flusher.specs.Turning.{IsTurn, IsTurned, IsNotTurned}
 use Rattle.apd_flusher.specs.declared.committer.Committer.{Committer}
 use Rattle.apd_flusher.specs.declared.flusher.Flusher.{Flusher}
@@ -18,7 +18,7 @@ use Rattle.apd_flusher.specs.declared.phase.Phase.TheVariants.{Idle, Done, Faile
 -- what every call keeps, whatever the core
 pub record Keeps {D : Type 0} (disk : DiskModel D) (old new : Committer D) : Type 0 where
   pub inside : IsInside disk (flusher_of old) → IsInside disk (flusher_of new)
-  pub honest : disk.honest (device_of (flusher_of old)) ↔ disk.honest (device_of (flusher_of new))
+  pub honest : disk.honest (flusher_device (flusher_of old)) ↔ disk.honest (flusher_device (flusher_of new))
   pub imaged : IsImaged disk old → IsImaged disk new
 
 -- ---- a batch
@@ -33,9 +33,9 @@ LoadTells (Ok _) batch old new = IsLoaded batch old new
 LoadTells (Err fault) batch old new = IsNotLoaded fault batch old new
 
 -- a batch that is refused waits
-abbrev pub waiting : Result (Unit {0}) StoreFault → Batch → Option Batch
-waiting (Ok _) batch = None
-waiting (Err fault) batch = Some batch
+abbrev pub refused_batch : Result (Unit {0}) StoreFault → Batch → Option Batch
+refused_batch (Ok _) batch = None
+refused_batch (Err fault) batch = Some batch
 
 -- the next batch was loaded, or was refused and waits
 pub record IsLoadGiven {D : Type 0} (result : Result (Unit {0}) StoreFault) (given : Option Batch)
@@ -43,7 +43,7 @@ pub record IsLoadGiven {D : Type 0} (result : Result (Unit {0}) StoreFault) (giv
   pub batch : Batch
   pub next : IsNextBatch batch given old
   pub tells : LoadTells result batch (flusher_of old) (flusher_of new)
-  pub waits : waiting_batch new ≡ waiting result batch
+  pub waits : waiting_batch new ≡ refused_batch result batch
   pub receipt : waiting_receipt new ≡ waiting_receipt old
 
 -- there is none
@@ -69,7 +69,7 @@ pub record IsTurnMade {D : Type 0} (disk : DiskModel D) (result : Result (Unit {
 -- the flusher gave this receipt
 pub record IsUnloaded {D : Type 0} (receipt : Receipt) (old new : Flusher D) : Type 0 where
   pub done : phase_of old ≡ Done
-  pub batch_is : held_batch receipt ≡ batch_of old
+  pub batch_is : held_batch receipt ≡ flusher_batch old
   pub idle : phase_of new ≡ Idle
   pub table : table_of new ≡ next_of old
 

@@ -5,7 +5,7 @@ use Rattle.apd_journal.specs.declared.batch.Batch.{Batch}
 use Rattle.apd_store.specs.declared.fault.StoreFault.{StoreFault}
 use Rattle.apd_store.specs.declared.fault.StoreFault.TheVariants as store_fault
 use Rattle.apd_flusher.specs.Flushing.{HasRoom, IsGood}
-use Rattle.apd_flusher.specs.Outside.{batch_of, calls_left, epoch_of, next_of, phase_of, store_of, table_of}
+use Rattle.apd_flusher.specs.Outside.{flusher_batch, calls_left, epoch_of, next_of, phase_of, store_of, table_of}
 use Rattle.apd_flusher.specs.declared.flusher.Flusher.{Flusher}
 use Rattle.apd_flusher.specs.declared.phase.Phase.TheVariants.{Busy, Done, Failed, Idle}
 
@@ -15,7 +15,7 @@ pub record IsLoaded {D : Type 0} (batch : Batch) (old new : Flusher D) : Type 0 
   pub busy : phase_of new ≡ Busy
   pub some_calls : (4 ≤ calls_left new) × (calls_left new ≤ 10)
   pub four_calls : HasRoom old batch.changes → calls_left new ≡ 4
-  pub batch_is : batch_of new ≡ batch
+  pub batch_is : flusher_batch new ≡ batch
   pub good : IsGood batch.changes (table_of old)
   pub lasts : ¬ HasRoom old batch.changes → epoch_of old + 1 < 2 ^ 64
   pub table : table_of new ≡ table_of old

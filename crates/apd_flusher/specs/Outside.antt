@@ -2,7 +2,7 @@
 use Rattle.std.specs.Prelude.{ℕ, Option}
 use Rattle.apd_base.specs.State.{State}
 use Rattle.apd_journal.specs.declared.batch.Batch.{Batch}
-use Rattle.apd_store.specs.Outside.{device_of as store_device, phase_of as store_phase, calls_left as store_calls, batch_of as store_batch, epoch_of as store_epoch}
+use Rattle.apd_store.specs.Outside.{store_device, phase_of as store_phase, calls_left as store_calls, store_batch, epoch_of as store_epoch}
 use Rattle.apd_store.specs.declared.store.Receipt.{Receipt}
 use Rattle.apd_store.specs.declared.store.Store.{Store}
 use Rattle.apd_flusher.specs.Phases.{phase_from}
@@ -13,8 +13,8 @@ use Rattle.apd_flusher.specs.declared.phase.Phase.{Phase}
 abbrev pub store_of : {D : Type 0} → Flusher D → Store D
 store_of flusher = flusher.store
 
-abbrev pub device_of : {D : Type 0} → Flusher D → D
-device_of flusher = store_device flusher.store
+abbrev pub flusher_device : {D : Type 0} → Flusher D → D
+flusher_device flusher = store_device flusher.store
 
 abbrev pub phase_of : {D : Type 0} → Flusher D → Phase
 phase_of flusher = phase_from (store_phase flusher.store)
@@ -28,8 +28,8 @@ abbrev pub epoch_of : {D : Type 0} → Flusher D → ℕ
 epoch_of flusher = store_epoch flusher.store
 
 -- the batch that is under way
-abbrev pub batch_of : {D : Type 0} → Flusher D → Batch
-batch_of flusher = store_batch flusher.store
+abbrev pub flusher_batch : {D : Type 0} → Flusher D → Batch
+flusher_batch flusher = store_batch flusher.store
 
 -- the table of everything whose receipt was given
 abbrev pub table_of : {D : Type 0} → Flusher D → State

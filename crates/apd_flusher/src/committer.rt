@@ -23,10 +23,10 @@ pub struct Committer<D: Disk> {
 }
 
 impl<D: Disk> Committer<D> {
-    ghost use Rattle.apd_flusher.specs.Committing.{IsImaged, IsWhole, ShowsEither, failed_after, state_after_flight};
+    ghost use Rattle.apd_flusher.specs.Committing.{IsImaged, IsWhole, ShowsEither, has_failed_after, state_after_flight};
     ghost use Rattle.apd_flusher.specs.Flushing.{IsGood, IsInside, IsSteady};
     ghost use Rattle.apd_flusher.specs.Handing.{HasNoneToLoad, HasNoReceipt, IsLoadGiven, IsReceiptGiven, IsTurnMade, Keeps};
-    ghost use Rattle.apd_flusher.specs.Outside.{calls_left, device_of, flusher_of, phase_of, table_of, waiting_batch, waiting_receipt};
+    ghost use Rattle.apd_flusher.specs.Outside.{calls_left, flusher_device, flusher_of, phase_of, table_of, waiting_batch, waiting_receipt};
     ghost use Rattle.apd_flusher.specs.Turning.{IsHonestTurn};
 
     /// A committer of a flusher, with nothing that waits.
@@ -36,7 +36,7 @@ impl<D: Disk> Committer<D> {
         ensures receipt { waiting_receipt result ≡ None }
         ensures whole { phase_of flusher ≡ Phase.Idle → IsInside D.model flusher
             → (failed : Bool) → IsWhole D.model result (table_of flusher) None failed }
-        ensures imaged { D.model.honest (device_of flusher) → (s : State) → IsSteady D.model flusher s
+        ensures imaged { D.model.honest (flusher_device flusher) → (s : State) → IsSteady D.model flusher s
             → IsImaged D.model result }
     {
         Committer {
@@ -75,7 +75,7 @@ impl<D: Disk> Committer<D> {
         requires { (waiting_batch self.old ≡ None) ⊎ (given ≡ None) }
         ensures loaded { IfSome result (λ answer. IsLoadGiven answer given self.old self.new) }
         ensures none { IsNone result → HasNoneToLoad given self.old × (self.new ≡ self.old) }
-        ensures device { device_of (flusher_of self.new) ≡ device_of (flusher_of self.old) }
+        ensures device { flusher_device (flusher_of self.new) ≡ flusher_device (flusher_of self.old) }
         ensures keeps { Keeps D.model self.old self.new }
         ensures whole { (s : State) (flight : Option Batch) (failed : Bool) → given ≡ None
             → IsWhole D.model self.old s flight failed → IsWhole D.model self.new s flight failed }
@@ -98,14 +98,14 @@ impl<D: Disk> Committer<D> {
     /// Errors: those of the flusher's `turn`.
     pub fn turn(&mut self) -> Result<(), StoreFault>
         ensures made { IsTurnMade D.model result self.old self.new }
-        ensures honest { D.model.honest (device_of (flusher_of self.old)) → (state after : State)
+        ensures honest { D.model.honest (flusher_device (flusher_of self.old)) → (state after : State)
             → IsHonestTurn D.model result (flusher_of self.old) (flusher_of self.new) state after }
         ensures keeps { Keeps D.model self.old self.new }
         ensures whole { (s : State) (flight : Option Batch) (failed : Bool) → IsWhole D.model self.old s flight failed
-            → IsWhole D.model self.new s flight (failed_after result failed) }
+            → IsWhole D.model self.new s flight (has_failed_after result failed) }
         ensures any_moment { (s : State) (flight : Option Batch) (failed : Bool)
             → IsWhole D.model self.old s flight failed → IsImaged D.model self.old
-            → LeavesOnly D.model (device_of (flusher_of self.old)) (device_of (flusher_of self.new))
+            → LeavesOnly D.model (flusher_device (flusher_of self.old)) (flusher_device (flusher_of self.new))
             (ShowsEither s flight) }
     {
         self.flusher.turn()
@@ -116,7 +116,7 @@ impl<D: Disk> Committer<D> {
     pub fn receipt(&mut self) -> Option<Receipt>
         ensures given { IfSome result (λ receipt. IsReceiptGiven receipt self.old self.new) }
         ensures none { IsNone result → HasNoReceipt self.old × (self.new ≡ self.old) }
-        ensures device { device_of (flusher_of self.new) ≡ device_of (flusher_of self.old) }
+        ensures device { flusher_device (flusher_of self.new) ≡ flusher_device (flusher_of self.old) }
         ensures keeps { Keeps D.model self.old self.new }
         ensures whole { (s : State) (flight : Option Batch) (failed : Bool) → IsWhole D.model self.old s flight failed
             → IfSome result (λ receipt. (flight ≡ Some (held_batch receipt))
@@ -145,20 +145,21 @@ impl<D: Disk> Committer<D> {
     /// Tells a caller's proof what a stop now shows: the settled state, or that after the batch in flight; from the
     /// last call of a batch on, if that succeeded, until its receipt is handed out, that after the batch. It does
     /// nothing.
-    pub fn shown(&self)
+    pub fn show_images(&self)
         ensures now { (s : State) (flight : Option Batch) (failed : Bool) → IsWhole D.model self.now s flight failed
             → IsImaged D.model self.now → (image : List ℕ)
-            → D.model.may_leave (device_of (flusher_of self.now)) image → ShowsEither s flight image }
+            → D.model.may_leave (flusher_device (flusher_of self.now)) image → ShowsEither s flight image }
         ensures any_moment { (s : State) (flight : Option Batch) (failed : Bool)
             → IsWhole D.model self.now s flight failed → IsImaged D.model self.now
-            → LeavesOnly D.model (device_of (flusher_of self.now)) (device_of (flusher_of self.now))
+            → LeavesOnly D.model (flusher_device (flusher_of self.now)) (flusher_device (flusher_of self.now))
             (ShowsEither s flight) }
         ensures durable { (s : State) (flight : Option Batch) (failed : Bool)
             → IsWhole D.model self.now s flight failed → IsImaged D.model self.now
             → (phase_of (flusher_of self.now) ≡ Phase.Done) ⊎ IsSome (waiting_receipt self.now) → (image : List ℕ)
-            → D.model.may_leave (device_of (flusher_of self.now)) image → Shows image (state_after_flight s flight) }
+            → D.model.may_leave (flusher_device (flusher_of self.now)) image
+            → Shows image (state_after_flight s flight) }
     {
-        self.flusher.shown();
+        self.flusher.show_images();
     }
 
     /// The flusher, the batch that waits and the receipt that waits.

@@ -6,7 +6,7 @@ ghost use Rattle.apd_base.specs.State.{State};
 ghost use Rattle.apd_record.specs.Meaning.{meaning_of};
 ghost use Rattle.apd_store.specs.Commit.{IsIdle};
 ghost use Rattle.apd_store.specs.Image.{Shows};
-ghost use Rattle.apd_store.specs.Outside.{device_of as store_device, held_batch};
+ghost use Rattle.apd_store.specs.Outside.{store_device, held_batch};
 
 use crate::phase::Phase;
 use apd_base::limits::MAX_GROUP;
@@ -30,7 +30,7 @@ impl<D: Disk> Flusher<D> {
     ghost use Rattle.apd_flusher.specs.Flushing.{IsSteady, IsFlushing, IsStuck, Stands, StopShows, IsGood, HasRoom, IsInside, IsRefused, MayCommit};
     ghost use Rattle.apd_flusher.specs.Loading.{IsLoaded, IsNotLoaded};
     ghost use Rattle.apd_flusher.specs.Turning.{IsTurn, IsTurned, IsHonestTurn, IsNotTurned};
-    ghost use Rattle.apd_flusher.specs.Outside.{store_of, device_of, phase_of, calls_left, batch_of, table_of, next_of};
+    ghost use Rattle.apd_flusher.specs.Outside.{store_of, flusher_device, phase_of, calls_left, flusher_batch, table_of, next_of};
 
     /// A flusher of a store and the table of everything that it has committed, as `format` and `recover` of
     /// the store give them. It copies the table once.
@@ -78,7 +78,7 @@ impl<D: Disk> Flusher<D> {
 
     /// The device, as the calls left it, in every phase.
     pub fn into_device(self) -> D
-        ensures { result ≡ device_of self }
+        ensures { result ≡ flusher_device self }
     {
         let Flusher { store, .. } = self;
         store.into_device()
@@ -98,7 +98,7 @@ impl<D: Disk> Flusher<D> {
         ensures refused { IfErr result (λ e. IsNotLoaded e.1 batch self.old self.new) }
         ensures back { IfErr result (λ e. e.0 ≡ batch) }
         ensures rest { phase_of self.old ≢ Phase.Idle → self.new ≡ self.old }
-        ensures device { device_of self.new ≡ device_of self.old }
+        ensures device { flusher_device self.new ≡ flusher_device self.old }
         ensures inside { IsInside D.model self.old → IsInside D.model self.new }
     {
         match self.phase() {
@@ -141,12 +141,12 @@ impl<D: Disk> Flusher<D> {
         ensures turn { IsTurn D.model self.old self.new }
         ensures turned { OnOk result (IsTurned D.model self.old self.new) }
         ensures fault { IfErr result (IsNotTurned D.model self.old self.new) }
-        ensures honest { D.model.honest (device_of self.old) → (state after : State)
+        ensures honest { D.model.honest (flusher_device self.old) → (state after : State)
             → IsHonestTurn D.model result self.old self.new state after }
         ensures quiet { (phase_of self.old ≡ Phase.Idle) ⊎ (phase_of self.old ≡ Phase.Done) → IsOk result }
         ensures failed { phase_of self.old ≡ Phase.Failed → result ≡ Err StoreFault.Failed }
     {
-        self.shown();
+        self.show_images();
         match self.store.next_call() {
             Ok(_) => Ok(()),
             Err(fault) => Err(fault),
@@ -157,13 +157,13 @@ impl<D: Disk> Flusher<D> {
     /// one after the batch. In another phase there is none, and nothing is done. It takes no memory.
     pub fn unload(&mut self) -> Option<Receipt>
         ensures exactly { IsSome result ↔ (phase_of self.old ≡ Phase.Done) }
-        ensures receipt { IfSome result (λ receipt. held_batch receipt ≡ batch_of self.old) }
+        ensures receipt { IfSome result (λ receipt. held_batch receipt ≡ flusher_batch self.old) }
         ensures settled { (state after : State) → IsFlushing D.model self.old state after
             → OnSome result (IsSteady D.model self.new after) }
         ensures idle { OnSome result (phase_of self.new ≡ Phase.Idle) }
         ensures table { OnSome result (table_of self.new ≡ next_of self.old) }
         ensures none { phase_of self.old ≢ Phase.Done → self.new ≡ self.old }
-        ensures device { device_of self.new ≡ device_of self.old }
+        ensures device { flusher_device self.new ≡ flusher_device self.old }
         ensures inside { IsInside D.model self.old → IsInside D.model self.new }
     {
         let receipt = self.store.finish()?;
@@ -177,25 +177,27 @@ impl<D: Disk> Flusher<D> {
     /// Errors: those of `load`, each for its reason, where the batch is let go; those of `turn`.
     pub fn commit(&mut self, batch: Batch) -> Result<Receipt, StoreFault>
         // Where the device does not fail, nothing but want of memory keeps such a batch from its receipt.
-        ensures always { MayCommit D.model self.old batch.changes → D.model.failed (device_of self.old) + 1 < 2 ^ 64
-            → D.model.failed (device_of self.new) ≡ D.model.failed (device_of self.old) → result ≢ Err StoreFault.NoMemory
+        ensures always { MayCommit D.model self.old batch.changes
+            → D.model.failed (flusher_device self.old) + 1 < 2 ^ 64
+            → D.model.failed (flusher_device self.new) ≡ D.model.failed (flusher_device self.old)
+            → result ≢ Err StoreFault.NoMemory
             → IsOk result }
         ensures refused { IfErr result (λ fault. IsRefused D.model fault batch.changes self.old self.new) }
         ensures receipt { IfOk result (λ receipt. held_batch receipt ≡ batch) }
-        ensures settled { (state : State) → D.model.honest (device_of self.old) → IsSteady D.model self.old state
+        ensures settled { (state : State) → D.model.honest (flusher_device self.old) → IsSteady D.model self.old state
             → OnOk result (IsSteady D.model self.new (meaning_of batch.changes state)) }
         // After a fault of the device in it a stop leaves the table before the batch or the one after, for good.
-        ensures stuck { (state : State) → D.model.honest (device_of self.old) → IsSteady D.model self.old state
+        ensures stuck { (state : State) → D.model.honest (flusher_device self.old) → IsSteady D.model self.old state
             → IsErrOf result StoreFault.Device
             → IsStuck D.model self.new state (meaning_of batch.changes state) }
-        ensures honest { D.model.honest (device_of self.old) ↔ D.model.honest (device_of self.new) }
+        ensures honest { D.model.honest (flusher_device self.old) ↔ D.model.honest (flusher_device self.new) }
         ensures inside { IsInside D.model self.old → IsInside D.model self.new }
 
         // Each turn is one call of the device at most: four where the group fits, and ten at most.
-        ensures ten { D.model.honest (device_of self.old)
-            → D.model.moment (device_of self.new) ≤ D.model.moment (device_of self.old) + 10 }
-        ensures four { D.model.honest (device_of self.old) → HasRoom self.old batch.changes
-            → D.model.moment (device_of self.new) ≤ D.model.moment (device_of self.old) + 4 }
+        ensures ten { D.model.honest (flusher_device self.old)
+            → D.model.moment (flusher_device self.new) ≤ D.model.moment (flusher_device self.old) + 10 }
+        ensures four { D.model.honest (flusher_device self.old) → HasRoom self.old batch.changes
+            → D.model.moment (flusher_device self.new) ≤ D.model.moment (flusher_device self.old) + 4 }
     {
         if let Err((_, fault)) = self.load(batch) {
             return Err(fault);
@@ -207,20 +209,21 @@ impl<D: Disk> Flusher<D> {
     // Makes the calls that are left of a batch, one after another.
     fn make_calls(&mut self) -> Result<(), StoreFault>
         requires { phase_of self.old ≡ Phase.Busy }
-        ensures on { (state after : State) → D.model.honest (device_of self.old)
+        ensures on { (state after : State) → D.model.honest (flusher_device self.old)
             → IsFlushing D.model self.old state after
             → OnOk result (IsFlushing D.model self.new state after) }
-        ensures stuck { (state after : State) → D.model.honest (device_of self.old)
+        ensures stuck { (state after : State) → D.model.honest (flusher_device self.old)
             → IsFlushing D.model self.old state after
             → OnErr result (IsStuck D.model self.new state after) }
         ensures done { OnOk result (phase_of self.new ≡ Phase.Done) }
-        ensures batch { batch_of self.new ≡ batch_of self.old }
-        ensures honest { D.model.honest (device_of self.old) ↔ D.model.honest (device_of self.new) }
+        ensures batch { flusher_batch self.new ≡ flusher_batch self.old }
+        ensures honest { D.model.honest (flusher_device self.old) ↔ D.model.honest (flusher_device self.new) }
         ensures inside { IsInside D.model self.old → IsInside D.model self.new }
-        ensures calls { D.model.honest (device_of self.old)
-            → D.model.moment (device_of self.new) ≤ D.model.moment (device_of self.old) + calls_left self.old }
+        ensures calls { D.model.honest (flusher_device self.old)
+            → D.model.moment (flusher_device self.new)
+            ≤ D.model.moment (flusher_device self.old) + calls_left self.old }
         ensures device { IsErrOf result StoreFault.Device
-            → HasRisen (D.model.failed (device_of self.old)) (D.model.failed (device_of self.new)) }
+            → HasRisen (D.model.failed (flusher_device self.old)) (D.model.failed (flusher_device self.new)) }
         ensures works { IsInside D.model self.old → result ≢ Err StoreFault.Failed }
         ensures only { OnErr result ((result ≡ Err StoreFault.Device) ⊎ (result ≡ Err StoreFault.Failed)) }
     {
@@ -233,12 +236,13 @@ impl<D: Disk> Flusher<D> {
     /// Tells a caller's proof what a stop now shows, by the phase: the table where it is idle, and while it is
     /// busy with two calls left or more; that table or the next one where one call is left; the next one alone
     /// where it is done; one of the two where it has failed. It does nothing.
-    pub fn shown(&self)
+    pub fn show_images(&self)
         ensures shown { (state after : State) → Stands D.model self.now state after → (c : List ℕ)
-            → D.model.may_leave (device_of self.now) c → StopShows (phase_of self.now) (calls_left self.now) state after c }
+            → D.model.may_leave (flusher_device self.now) c
+            → StopShows (phase_of self.now) (calls_left self.now) state after c }
         ensures before { (state after : State) → IsFlushing D.model self.now state after
-            → 2 ≤ calls_left self.now → (c : List ℕ) → D.model.may_leave (device_of self.now) c → Shows c state }
+            → 2 ≤ calls_left self.now → (c : List ℕ) → D.model.may_leave (flusher_device self.now) c → Shows c state }
     {
-        self.store.shown();
+        self.store.show_images();
     }
 }

@@ -74,9 +74,9 @@ contents (frame.Deauth sender reason) = deauthentication sender reason
 contents (frame.Uplink sender) = uplink sender
 
 -- the same of a frame that may be ignored
-abbrev pub received : Result Frame Ignored → Result Contents Ignored
-received (Ok frame) = Ok (contents frame)
-received (Err reason) = Err reason
+abbrev pub outcome_contents : Result Frame Ignored → Result Contents Ignored
+outcome_contents (Ok frame) = Ok (contents frame)
+outcome_contents (Err reason) = Err reason
 
 abbrev pub sender_of : Contents → Addr
 sender_of (authentication a) = a.sender

@@ -3,7 +3,7 @@ ghost use Rattle.std.specs.Prelude.{◌≡◌, ◌≢◌, ◌+◌, ◌≤◌, �
 ghost use Rattle.std.specs.List.{find};
 ghost use Rattle.apd_base.specs.declared.address.Bssid.{Bssid as Own};
 ghost use Rattle.apd_frame.specs.declared.ignored.Ignored.{Ignored as WhyIgnored};
-ghost use Rattle.apd_frame.specs.Contents.{Contents, contents, received, sender_of};
+ghost use Rattle.apd_frame.specs.Contents.{Contents, contents, outcome_contents, sender_of};
 ghost use Rattle.apd_frame.specs.Kinds.{fixed_octets, kind_of};
 ghost use Rattle.apd_base.specs.declared.address.TheConstants.{BROADCAST};
 ghost use Rattle.apd_frame.specs.Octets.{is_group_address};
@@ -112,7 +112,7 @@ fn frame_of(bytes: &[u8], kind: Kind) -> Frame<'_>
 /// What bytes are to the radio of a BSSID: the first reason of [`Ignored`] that holds, or the frame.
 /// Nothing is copied: its elements are a slice of the bytes. It takes no memory.
 pub fn decode(bytes: &[u8], own: Bssid) -> Result<Frame<'_>, Ignored>
-    ensures { received result ≡ outcome bytes.now own }
+    ensures { outcome_contents result ≡ outcome bytes.now own }
 {
     let kind = kind_or_reason(bytes, own)?;
     Ok(frame_of(bytes, kind))

@@ -4,7 +4,7 @@ use Rattle.std.proofs.lemmas.List.{append_assoc, append-nil, take_at, length-tak
 use Rattle.std.proofs.Math.Seq.{drop-cons}
 use Rattle.std.proofs.lemmas.Grind.{flat_map-append}
 use Rattle.std.specs.Int.{to_le_bytes, w32, w64}
-use Rattle.apd_disk.specs.Disk.{overwritten}
+use Rattle.apd_disk.specs.Disk.{with_bytes}
 use Rattle.apd_disk.proofs.Parts.{overwritten_parts}
 use Rattle.apd_record.specs.Ranges.{AreChanges}
 use Rattle.apd_record.specs.Record.{records_of}
@@ -47,7 +47,7 @@ length-begun epoch snapshot = omega (arith, length-append (records_of snapshot) 
 
 -- that front stands in the half once its bytes are written and its gate is opened
 pub begun : (half : List ℕ) (epoch : ℕ) (snapshot : List Change) → epoch < 2 ^ 64 → AreChanges snapshot → length (records_of snapshot) < 2 ^ 32 → length (records_of snapshot) + 14 ≤ length half
-    → HalfHolds (overwritten (overwritten half 1 (begun_bytes epoch snapshot)) 0 (1 ∷ [])) epoch snapshot (13 + length (records_of snapshot))
+    → HalfHolds (with_bytes (with_bytes half 1 (begun_bytes epoch snapshot)) 0 (1 ∷ [])) epoch snapshot (13 + length (records_of snapshot))
 begun [] epoch snapshot epoch_fits are fits room = absurd (omega (arith, room))
 begun (gate ∷ rest) epoch snapshot epoch_fits are fits room =
     let bytes = begun_bytes epoch snapshot in
@@ -56,11 +56,11 @@ begun (gate ∷ rest) epoch snapshot epoch_fits are fits room =
     let middle = take n rest in
     let back = drop n rest in
     let inside : length middle ≡ n = length-take-le n rest (omega (arith, room, size)) in
-    let written : overwritten (gate ∷ rest) 1 bytes ≡ gate ∷ (bytes ++ back) =
-    ap (λ (l : List ℕ). overwritten (gate ∷ l) 1 bytes) (sym (take-append-drop n rest)) ∙ overwritten_parts (gate ∷ []) middle back 1 n refl inside bytes refl in
+    let written : with_bytes (gate ∷ rest) 1 bytes ≡ gate ∷ (bytes ++ back) =
+    ap (λ (l : List ℕ). with_bytes (gate ∷ l) 1 bytes) (sym (take-append-drop n rest)) ∙ overwritten_parts (gate ∷ []) middle back 1 n refl inside bytes refl in
     let front = 1 ∷ (to_le_bytes w64 epoch ++ block_of snapshot) in
-    let is : overwritten (overwritten (gate ∷ rest) 1 bytes) 0 (1 ∷ []) ≡ front ++ (0 ∷ back) =
-    ap (λ (l : List ℕ). overwritten l 0 (1 ∷ [])) written ∙ overwritten_parts [] (gate ∷ []) (bytes ++ back) 0 1 refl refl (1 ∷ []) refl
+    let is : with_bytes (with_bytes (gate ∷ rest) 1 bytes) 0 (1 ∷ []) ≡ front ++ (0 ∷ back) =
+    ap (λ (l : List ℕ). with_bytes l 0 (1 ∷ [])) written ∙ overwritten_parts [] (gate ∷ []) (bytes ++ back) 0 1 refl refl (1 ∷ []) refl
     ∙ ap (λ (l : List ℕ). 1 ∷ l) (append_assoc (to_le_bytes w64 epoch) (planned_bytes snapshot) back ∙ ap (λ (l : List ℕ). to_le_bytes w64 epoch ++ l) (append_assoc (block_of snapshot) (0 ∷ []) back)
     ∙ sym (append_assoc (to_le_bytes w64 epoch) (block_of snapshot) (0 ∷ back))) in
     record {
@@ -132,7 +132,7 @@ module _ (half : List ℕ) (epoch : ℕ) (changes : List Change) (place : ℕ) (
 
   -- what was planned is written behind the closed gate, and the gate is then opened
   pub opened : (group : List Change) → IsGroup group → place + length (records_of group) + 6 ≤ length half
-      → HalfHolds (overwritten (overwritten half (place + 1) (planned_bytes group)) place (1 ∷ [])) epoch (changes ++ group) (place + 5 + length (records_of group))
+      → HalfHolds (with_bytes (with_bytes half (place + 1) (planned_bytes group)) place (1 ∷ [])) epoch (changes ++ group) (place + 5 + length (records_of group))
   opened group is room =
       let n = length (planned_bytes group) in
       let long : length half ≡ place + 1 + length h.behind = omega (arith, ap length h.is, length-append h.front (h.gate ∷ h.behind), h.place_is) in
@@ -140,10 +140,10 @@ module _ (half : List ℕ) (epoch : ℕ) (changes : List Change) (place : ℕ) (
       let back = drop n h.behind in
       let inside : length middle ≡ n = length-take-le n h.behind (omega (arith, long, room, length-planned group)) in
       let parts : half ≡ head ++ (middle ++ back) = h.is ∙ sym (joined h.behind) ∙ ap (λ (l : List ℕ). head ++ l) (sym (take-append-drop n h.behind)) in
-      let laid : overwritten half (place + 1) (planned_bytes group) ≡ h.front ++ ((h.gate ∷ []) ++ (planned_bytes group ++ back)) =
-      ap (λ (l : List ℕ). overwritten l (place + 1) (planned_bytes group)) parts ∙ overwritten_parts head middle back (place + 1) n head_length inside (planned_bytes group) refl ∙ joined (planned_bytes group ++ back) in
-      let open_is : overwritten (overwritten half (place + 1) (planned_bytes group)) place (1 ∷ []) ≡ h.front ++ (1 ∷ (planned_bytes group ++ back)) =
-      ap (λ (l : List ℕ). overwritten l place (1 ∷ [])) laid ∙ overwritten_parts h.front (h.gate ∷ []) (planned_bytes group ++ back) place 1 h.place_is refl (1 ∷ []) refl in
+      let laid : with_bytes half (place + 1) (planned_bytes group) ≡ h.front ++ ((h.gate ∷ []) ++ (planned_bytes group ++ back)) =
+      ap (λ (l : List ℕ). with_bytes l (place + 1) (planned_bytes group)) parts ∙ overwritten_parts head middle back (place + 1) n head_length inside (planned_bytes group) refl ∙ joined (planned_bytes group ++ back) in
+      let open_is : with_bytes (with_bytes half (place + 1) (planned_bytes group)) place (1 ∷ []) ≡ h.front ++ (1 ∷ (planned_bytes group ++ back)) =
+      ap (λ (l : List ℕ). with_bytes l place (1 ∷ [])) laid ∙ overwritten_parts h.front (h.gate ∷ []) (planned_bytes group ++ back) place 1 h.place_is refl (1 ∷ []) refl in
       record {
         front = h.front ++ group_of group;
         gate = 0;

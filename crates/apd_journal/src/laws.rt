@@ -1,6 +1,6 @@
 //! What a store may rely on: each law is the contract of a function that does nothing.
 ghost use Rattle.std.specs.Prelude.{◌≡◌, ◌≢◌, ◌<◌, ◌≤◌, ◌+◌, ◌^◌, ℕ, List, [], ◌∷◌, ◌++◌, length, take, slice_index};
-ghost use Rattle.apd_disk.specs.Disk.{overwritten};
+ghost use Rattle.apd_disk.specs.Disk.{with_bytes};
 ghost use Rattle.apd_journal.specs.Half.{HalfHolds, IsGroup, begun_bytes, planned_bytes};
 ghost use Rattle.apd_record.specs.Ranges.{AreChanges};
 ghost use Rattle.apd_record.specs.Record.{records_of};
@@ -22,7 +22,7 @@ pub fn an_opened_group_is_read()
     ensures opened { (half : List ℕ) (epoch : ℕ) (changes group : List Change) (place : ℕ)
         → HalfHolds half epoch changes place
         → IsGroup group → place + length (records_of group) + 6 ≤ length half
-        → HalfHolds (overwritten (overwritten half (place + 1) (planned_bytes group)) place (1 ∷ [])) epoch
+        → HalfHolds (with_bytes (with_bytes half (place + 1) (planned_bytes group)) place (1 ∷ [])) epoch
         (changes ++ group) (place + 5 + length (records_of group)) }
 {}
 
@@ -32,6 +32,6 @@ pub fn an_opened_group_is_read()
 pub fn an_opened_half_is_read()
     ensures { (half : List ℕ) (epoch : ℕ) (snapshot : List Change) → epoch < 2 ^ 64 → AreChanges snapshot
         → length (records_of snapshot) < 2 ^ 32 → length (records_of snapshot) + 14 ≤ length half
-        → HalfHolds (overwritten (overwritten half 1 (begun_bytes epoch snapshot)) 0 (1 ∷ [])) epoch snapshot
+        → HalfHolds (with_bytes (with_bytes half 1 (begun_bytes epoch snapshot)) 0 (1 ∷ [])) epoch snapshot
         (13 + length (records_of snapshot)) }
 {}

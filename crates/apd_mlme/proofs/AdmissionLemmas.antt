@@ -1,35 +1,10 @@
 -- Who comes into the table.
 use Rattle.std.proofs.Common.{◌≡◌, suc, Bool, true, false, cond, not, ◌&&◌, List, [], ◌∷◌, Option, Some, None, refl, sym, ap, subst, ◌∙◌, IsSome, arith}
-use Rattle.std.specs.Option.{is_some, option_map}
-use Rattle.std.specs.Ordering.{eq_by_cmp}
+use Rattle.apd_mlme.proofs.Words.{Addr, Aid, All-head, All-tail, AreFromStations, AssociationRequest, Authenticated, BROADCAST, Bssid, Conf, Happening, Heard, IsFromStation, Kind, NoBroadcastRow, State, Station, Verdict, addr_cmp, and_parts, authentication, bssid_cmp, bssids_elsewhere, either, eq_by_cmp, false_from_ne_true, get-retain_keys, is_row_at, is_some, no_value, none_is, option_map, row_of, rows_authenticated_where, run, same_addr, same_bssid, station_at, station_exact, stays, verdict}
 use Rattle.std.specs.FinMap as map
-use Rattle.std.specs.FinMap.{get-retain_keys}
-use Rattle.std.proofs.lemmas.Bool.{and_parts, false_from_ne_true}
-use Rattle.std.proofs.lemmas.List.Elements.{All-head, All-tail}
-use Rattle.apd_base.specs.declared.address.Addr.{Addr}
-use Rattle.apd_base.specs.declared.address.Bssid.{Bssid}
-use Rattle.apd_base.specs.declared.station.Aid.{Aid}
-use Rattle.apd_base.specs.declared.station.Station.{Station}
-use Rattle.apd_base.specs.declared.station.Station.TheVariants.{Authenticated}
-use Rattle.apd_base.specs.Addr.{addr_cmp, bssid_cmp}
-use Rattle.apd_base.specs.State.{State, station_at}
-use Rattle.apd_base.proofs.AddrLemmas.{station_exact, same_addr, same_bssid}
-use Rattle.apd_conf.specs.declared.conf.Conf.{Conf}
-use Rattle.apd_frame.specs.Contents.{AssociationRequest, authentication}
-use Rattle.apd_mlme.specs.declared.association.Kind.{Kind}
-use Rattle.apd_base.specs.declared.address.TheConstants.{BROADCAST}
 use Rattle.apd_mlme.specs.laws.Admission.{Asks, HasAsked}
-use Rattle.apd_mlme.specs.laws.Broadcast.{AreFromStations, IsFromStation, NoBroadcastRow}
-use Rattle.apd_mlme.specs.rules.Association.{elsewhere, row_of}
 use Rattle.apd_mlme.specs.rules.Association as rule
-use Rattle.apd_mlme.specs.rules.Configuration.{stays}
-use Rattle.apd_mlme.specs.rules.Leaving.{authenticated_where, is_row_at}
-use Rattle.apd_mlme.specs.Happening.{Happening, Heard}
-use Rattle.apd_mlme.specs.rules.{verdict}
-use Rattle.apd_mlme.specs.Run.{run}
-use Rattle.apd_mlme.specs.Verdict.{Verdict}
 use Rattle.apd_mlme.proofs.AssociationLemmas.{cleared, associated_station}
-use Rattle.apd_base.proofs.Cases.{either, no_value, none_is}
 use Rattle.apd_mlme.proofs.EnforcementLemmas.{new}
 use Rattle.apd_mlme.proofs.RowLemmas.{is_row, station_put, authenticated_station, row_known}
 use Rattle.apd_mlme.proofs.ElsewhereLemmas as elsewhere_laws
@@ -45,7 +20,7 @@ not_put true x o known none = none_is o none (known refl)
 not_put false x o known none = none
 
 -- a row that says authenticated was there, and so was one that is kept
-turned_new : (s : State) (test : Bssid × Addr → Bool) → NoneIsNew s (record s { stations = authenticated_where test s.stations })
+turned_new : (s : State) (test : Bssid × Addr → Bool) → NoneIsNew s (record s { stations = rows_authenticated_where test s.stations })
 turned_new s test c d none = authenticated_station test s.stations (c, d) ∙ ap (option_map (λ x. cond (test (c, d)) Authenticated x)) none
 
 kept_new : (s : State) (stay : Bssid × Addr → Bool) (c : Bssid) (d : Addr) → station_at s c d ≡ None → map.get (map.retain_keys s.stations stay) (c, d) ≡ None
@@ -56,10 +31,10 @@ module _ (s : State) (confs : List Conf) (conf : Conf) (b : Bssid) (kind : Kind)
   abbrev a : Addr
   a = request.sender
 
-  associated_new : IsSome (station_at s b a) → (aid : Aid) → NoneIsNew s (rule.associated s confs conf b kind request aid).state
+  associated_new : IsSome (station_at s b a) → (aid : Aid) → NoneIsNew s (rule.acceptance s confs conf b kind request aid).state
   associated_new known aid c d none =
       associated_station s confs conf b kind request aid c d
-      ∙ not_put (is_row b a c d) (Some (row_of request aid)) (station_at (cleared s b a) c d) (λ here. none_is (station_at s c d) none (row_known s b a known c d here)) (turned_new s (λ key. elsewhere_laws.is_bssid_among key.0 (elsewhere s b a) && eq_by_cmp addr_cmp key.1 a) c d none)
+      ∙ not_put (is_row b a c d) (Some (row_of request aid)) (station_at (cleared s b a) c d) (λ here. none_is (station_at s c d) none (row_known s b a known c d here)) (turned_new s (λ key. elsewhere_laws.is_bssid_among key.0 (bssids_elsewhere s b a) && eq_by_cmp addr_cmp key.1 a) c d none)
 
 -- ---- any event
 module _ (s : State) (confs : List Conf) (c : Bssid) (d : Addr) (none : station_at s c d ≡ None) where

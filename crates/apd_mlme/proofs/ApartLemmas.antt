@@ -1,40 +1,10 @@
 -- No two changes of an event are of one row.
 use Rattle.std.proofs.Common.{◌≡◌, ◌≢◌, true, false, cond, ◌||◌, List, [], ◌∷◌, ◌++◌, inl, inr, refl, sym, ap, subst, ◌∙◌, arith, suc, AllPairs, map as list_map}
-use Rattle.std.specs.List.{AllByRecursion}
-use Rattle.std.specs.Option.{is_some}
-use Rattle.std.specs.Ordering.{eq_by_cmp, is_eq}
+use Rattle.apd_mlme.proofs.Words.{Accept, Addr, Aid, All-from_recursion, All-map, All-nil, AllByRecursion, AllPairs-cons, AreApart, AssociationRequest, Authenticated, Bssid, Change, Conf, Cursor, Deny, Drop, Happening, IsFit, IsList, Kind, Less, ListAdd, Put, Rise, Row, State, StationRow, Verdict, Which, Writes, additions, addr_cmp, addr_exact, addr_total, addresses_at, aid_at, bssid_cmp, bssid_exact, bssid_total, bssids_elsewhere, cursor_changes, differ, drops, eq_by_cmp, first_changes, is_eq, is_some, policy_of, put_backs, recursion_from_All, row_of, tied, verdict}
 use Rattle.std.specs.FinMap as map
-use Rattle.std.specs.declared.cmp.Ordering.TheVariants.{Less}
-use Rattle.std.proofs.lemmas.List.Elements.{All-from_recursion, All-map, All-nil, recursion_from_All}
-use Rattle.std.proofs.lemmas.List.Kept.{AllPairs-cons}
-use Rattle.apd_base.specs.declared.address.Addr.{Addr}
-use Rattle.apd_base.specs.declared.address.Bssid.{Bssid}
-use Rattle.apd_base.specs.declared.station.Aid.{Aid}
-use Rattle.apd_base.specs.declared.station.Station.TheVariants.{Authenticated}
-use Rattle.apd_base.specs.declared.station.Which.{Which}
-use Rattle.apd_base.specs.declared.station.Which.TheVariants.{Accept, Deny}
-use Rattle.apd_base.specs.Addr.{addr_cmp, bssid_cmp}
-use Rattle.apd_base.specs.State.{State, aid_at}
-use Rattle.apd_base.proofs.AddrLemmas.{addr_total, addr_exact, bssid_total, bssid_exact}
-use Rattle.apd_base.proofs.Cases.{differ}
-use Rattle.apd_base.proofs.MapLemmas.{tied}
-use Rattle.apd_conf.specs.declared.conf.Conf.{Conf}
-use Rattle.apd_conf.specs.Conf.{policy_of}
-use Rattle.apd_conf.specs.ListFile.{IsList}
-use Rattle.apd_frame.specs.Contents.{AssociationRequest}
-use Rattle.apd_record.specs.declared.change.Change.{Change}
-use Rattle.apd_record.specs.declared.change.Change.TheVariants.{Put, Drop, ListAdd, Policy, Cursor}
-use Rattle.apd_table.specs.Addresses.{addresses_at}
-use Rattle.apd_table.proofs.Denied.{drops}
-use Rattle.apd_mlme.specs.declared.association.Kind.{Kind}
-use Rattle.apd_mlme.specs.Happening.{Happening}
-use Rattle.apd_mlme.specs.rules.{verdict, IsFit}
+use Rattle.apd_record.specs.declared.change.Change.TheVariants.{Policy}
 use Rattle.apd_mlme.specs.rules.Association as rule
-use Rattle.apd_mlme.specs.rules.Association.{elsewhere, put_backs, row_of}
-use Rattle.apd_mlme.specs.rules.Configuration.{additions, first_changes}
-use Rattle.apd_mlme.specs.rules.Identifiers.{cursor_changes, number_of}
-use Rattle.apd_mlme.specs.Verdict.{Verdict}
-use Rattle.apd_mlme.specs.laws.NothingElse.{AreApart, Rise, Row, StationRow, Writes}
+use Rattle.apd_mlme.specs.rules.Identifiers.{number_of}
 use Rattle.apd_mlme.proofs.AssociationLemmas.{not_here}
 use Rattle.apd_mlme.proofs.ElsewhereLemmas.{is_bssid_among}
 use Rattle.apd_mlme.proofs.EnforcementLemmas.{denied, new}
@@ -124,9 +94,9 @@ module _ (s : State) (confs : List Conf) (conf : Conf) (b : Bssid) (kind : Kind)
   others_own [] others = tt
   others_own (c ∷ bssids) others = (other_own c others.0, others_own bssids others.1)
 
-  associated_apart : AreApart (rule.associated s confs conf b kind request aid).changes
+  associated_apart : AreApart (rule.acceptance s confs conf b kind request aid).changes
   associated_apart =
-      let others = elsewhere s b a in
+      let others = bssids_elsewhere s b a in
       both_apart (put_backs a others) at_its_own
       (each_apart (λ c. Put c a Authenticated) (λ x y. x ≢ y) (λ x y other row first second. other cc) others
       (bssids_differ others (apart-filter (rule.is_elsewhere s b a) (map.keys s.policies) (keys_apart s.policies))))

@@ -1,62 +1,16 @@
 -- A station whose association ends is told so, unless it ended it itself; and its driver lets it go before.
 use Rattle.std.proofs.Common.{◌≡◌, Bool, true, false, cond, ◌&&◌, ◌||◌, List, [], ◌∷◌, ◌++◌, Option, Some, None, ◌⊎◌, inl, inr, refl, sym, ap, subst, ◌∙◌, IsSome, ℕ}
 use Rattle.std.specs.Prelude.{filter}
-use Rattle.std.specs.List.{flat_map, list_any, Contains}
-use Rattle.std.specs.Option.{is_some}
-use Rattle.std.specs.Ordering.{eq_by_cmp}
+use Rattle.apd_mlme.proofs.Words.{Addr, Aid, Answer, Association, AssociationRequest, Authenticated, BROADCAST, Bssid, Change, Conf, Configure, Contains, Contains-append_left, Contains-append_right, Contains-push, FinMap, Happening, HasLeft, Install, IsMeant, IsToldOfEnd, Kind, Out, Policy, Radio, Reason, Reassociation, Recipient, Remove, SetOf, State, Success, UNSPECIFIED, Verdict, addr_cmp, addresses_at, aid_at, and_parts, append_assoc, association_response, bssid_cmp, bssids_elsewhere, conf_at, eq_by_cmp, farewell, first_start, installation, is_among, is_some, kick_of_all, later_start, list_any, list_cmp, none_is, octets_of, outs_elsewhere, outs_of_drop, outs_of_end, policy_at, policy_of, put_back, put_station, rates_element, rates_in, removal, reply_out, row_drop, same_addr, same_aid, same_bssid, same_some, station_at, text, verdict, verdict_under, with_answer}
+use Rattle.std.specs.List.{flat_map}
 use Rattle.std.specs.FinMap as map
-use Rattle.std.specs.FinMap.{FinMap}
-use Rattle.std.proofs.lemmas.Bool.{and_parts}
-use Rattle.std.proofs.lemmas.List.{append_assoc}
-use Rattle.std.proofs.lemmas.List.Elements.{Contains-append_left, Contains-append_right, Contains-push}
-use Rattle.apd_base.specs.declared.address.Addr.{Addr}
-use Rattle.apd_base.specs.declared.address.Bssid.{Bssid}
-use Rattle.apd_base.specs.declared.station.Aid.{Aid}
-use Rattle.apd_base.specs.declared.station.Policy.{Policy}
-use Rattle.apd_base.specs.declared.station.Station.TheVariants.{Authenticated}
-use Rattle.apd_base.specs.Addr.{addr_cmp, bssid_cmp, is_among}
-use Rattle.apd_base.specs.Sets.{SetOf}
-use Rattle.apd_base.specs.State.{State, list_cmp, station_at, policy_at, aid_at}
-use Rattle.apd_conf.specs.declared.conf.Conf.{Conf}
-use Rattle.apd_conf.specs.Conf.{policy_of}
-use Rattle.apd_conf.specs.Confs.{conf_at}
-use Rattle.apd_frame.specs.Contents.{AssociationRequest}
-use Rattle.apd_frame.specs.declared.codes.Reason.{Reason}
-use Rattle.apd_frame.specs.declared.codes.Status.TheVariants.{Success}
-use Rattle.apd_frame.specs.declared.codes.TheConstants.Reason.{UNSPECIFIED}
-use Rattle.apd_table.specs.Addresses.{addresses_at}
-use Rattle.apd_mlme.specs.declared.command_answer.Answer.{Answer}
-use Rattle.apd_mlme.specs.declared.association.Kind.{Kind}
-use Rattle.apd_mlme.specs.declared.association.Kind.TheVariants.{Association, Reassociation}
-use Rattle.apd_mlme.specs.declared.decision.Recipient.{Recipient}
-use Rattle.apd_mlme.specs.declared.decision.Recipient.TheVariants.{Radio}
-use Rattle.apd_mlme.specs.declared.decision.Out.{Out}
-use Rattle.apd_mlme.specs.declared.decision.Out.TheVariants.{Install, Remove}
-use Rattle.apd_base.specs.declared.address.TheConstants.{BROADCAST}
-use Rattle.apd_mlme.specs.rules.Association.{association_response, elsewhere, outs_elsewhere, installation}
 use Rattle.apd_mlme.specs.rules.Association as rule
-use Rattle.apd_mlme.specs.rules.Configuration.{later_start, first_start}
-use Rattle.apd_mlme.specs.rules.Commands.{text, answered, farewell, all_kicked}
-use Rattle.apd_mlme.specs.laws.AssociationEnd.{HasLeft, IsMeant, IsToldOfEnd}
-use Rattle.apd_mlme.specs.Happening.{Happening, Configure}
 use Rattle.apd_mlme.specs.laws.Order.{Precedes, IsLetGoFirst, IsTakenInFirst}
-use Rattle.apd_mlme.specs.rules.Offer.{rates_in}
-use Rattle.apd_frame.specs.Elements.{octets_of}
-use Rattle.apd_frame.specs.Wire.{rates_element}
-use Rattle.apd_record.specs.Meaning.{put_station}
-use Rattle.apd_record.specs.declared.change.Change.{Change}
 use Rattle.apd_record.specs.declared.change.Change.TheVariants.{Policy as SetPolicy}
 use Rattle.apd_mlme.specs.rules.Leaving as told
-use Rattle.apd_mlme.specs.rules.Leaving.{removal, outs_of_end, outs_of_drop, put_back, dropped}
-use Rattle.apd_mlme.specs.Outs.{sent}
-use Rattle.apd_mlme.specs.rules.{verdict, verdict_under}
 use Rattle.apd_mlme.specs.laws.Start.{AreDroppedTold}
-use Rattle.apd_mlme.specs.Verdict.{Verdict}
 use Rattle.apd_mlme.proofs.AssociationLemmas.{cleared, cleared_aid, associated_aid}
 use Rattle.apd_mlme.proofs.AuthenticationLemmas.{admitted_aid}
-use Rattle.apd_base.proofs.AddrLemmas.{same_bssid, same_addr}
-use Rattle.apd_base.proofs.Cases.{none_is, same_some}
-use Rattle.apd_base.proofs.StationLemmas.{same_aid}
 use Rattle.apd_mlme.proofs.EnforcementLemmas.{denied, v, enforced_aid, enforced_gone}
 use Rattle.apd_mlme.proofs.RowLemmas.{is_row, back_aid, out_aid}
 use Rattle.apd_mlme.proofs.DropLemmas.{taken_out, kept_aid, all_leave, is_elsewhere}
@@ -113,9 +67,9 @@ moved outs b a c d same h = subst (λ x. IsLetGoFirst outs x d) (sym same.0) (su
 
 module _ (s : State) (b : Bssid) (a : Addr) where
   -- a frame behind the driver's call
-  farewell_first : (to : Addr) (reason : Reason) (t : Bool) (outs : List (Recipient × Out)) → IsMeant to a → Contains outs (Radio b, Remove a) → IsLetGoFirst (outs ++ sent (farewell b to reason t) ∷ []) b a
-  farewell_first to reason true outs meant go = (to, meant, reason.0, inr (precedes outs (sent (farewell b to reason true) ∷ []) _ _ go (Contains-push [] (sent (farewell b to reason true)))))
-  farewell_first to reason false outs meant go = (to, meant, reason.0, inl (precedes outs (sent (farewell b to reason false) ∷ []) _ _ go (Contains-push [] (sent (farewell b to reason false)))))
+  farewell_first : (to : Addr) (reason : Reason) (t : Bool) (outs : List (Recipient × Out)) → IsMeant to a → Contains outs (Radio b, Remove a) → IsLetGoFirst (outs ++ reply_out (farewell b to reason t) ∷ []) b a
+  farewell_first to reason true outs meant go = (to, meant, reason.0, inr (precedes outs (reply_out (farewell b to reason true) ∷ []) _ _ go (Contains-push [] (reply_out (farewell b to reason true)))))
+  farewell_first to reason false outs meant go = (to, meant, reason.0, inl (precedes outs (reply_out (farewell b to reason false) ∷ []) _ _ go (Contains-push [] (reply_out (farewell b to reason false)))))
 
   end_first : (reason : Reason) → IsLetGoFirst (outs_of_end b a reason) b a
   end_first reason = farewell_first a reason false ((Radio b, Remove a) ∷ []) (inl refl) (Contains-push [] (Radio b, Remove a))
@@ -131,8 +85,8 @@ module _ (s : State) (b : Bssid) (a : Addr) where
   put_back_ends : (outs : List (Recipient × Out)) (c : Bssid) (d : Addr) → Ends s (put_back s b a outs).state c d → (c ≡ b) × (d ≡ a)
   put_back_ends outs c d ends = row_meant s b a c d (aid_at (put_back s b a outs).state c d) (back_aid s b a c d) ends.after ends.before
 
-  dropped_ends : (outs : List (Recipient × Out)) (c : Bssid) (d : Addr) → Ends s (dropped s b a outs).state c d → (c ≡ b) × (d ≡ a)
-  dropped_ends outs c d ends = row_meant s b a c d (aid_at (dropped s b a outs).state c d) (out_aid s b a c d) ends.after ends.before
+  dropped_ends : (outs : List (Recipient × Out)) (c : Bssid) (d : Addr) → Ends s (row_drop s b a outs).state c d → (c ≡ b) × (d ≡ a)
+  dropped_ends outs c d ends = row_meant s b a c d (aid_at (row_drop s b a outs).state c d) (out_aid s b a c d) ends.after ends.before
 
   -- the station that is dropped was associated
   was_known : (c : Bssid) (d : Addr) → (c ≡ b) × (d ≡ a) → IsSome (aid_at s c d) → IsSome (aid_at s b a)
@@ -142,7 +96,7 @@ module _ (s : State) (b : Bssid) (a : Addr) where
     put_back_first : (reason : Reason) → Ends s (put_back s b a (outs_of_end b a reason)).state c d → IsLetGoFirst (outs_of_end b a reason) c d
     put_back_first reason ends = moved (outs_of_end b a reason) b a c d (put_back_ends [] c d ends) (end_first reason)
 
-    dropped_first : (reason : Reason) → Ends s (dropped s b a (outs_of_drop s b a reason)).state c d → IsLetGoFirst (outs_of_drop s b a reason) c d
+    dropped_first : (reason : Reason) → Ends s (row_drop s b a (outs_of_drop s b a reason)).state c d → IsLetGoFirst (outs_of_drop s b a reason) c d
     dropped_first reason ends =
         let same = dropped_ends [] c d ends in
         moved (outs_of_drop s b a reason) b a c d same (drop_first reason (was_known c d same ends.before))
@@ -153,36 +107,36 @@ module _ (s : State) (confs : List Conf) (conf : Conf) (b : Bssid) (kind : Kind)
   a = request.sender
 
   abbrev gone_outs : List (Recipient × Out)
-  gone_outs = outs_elsewhere confs a (elsewhere s b a)
+  gone_outs = outs_elsewhere confs a (bssids_elsewhere s b a)
 
   module _ (c : Bssid) (configured : IsSome (conf_at confs c)) (d : Addr) where
     not_none : {A B : Type 0} (t : Bool) (x : A) (o : Option A) → cond t (Some x) o ≡ None → (t ≡ false → o ≡ None → B) → B
     not_none true x o e more = cc
     not_none false x o e more = more refl e
 
-    associated_ended : (aid : Aid) → Ends s (rule.associated s confs conf b kind request aid).state c d → IsLetGoFirst (rule.associated s confs conf b kind request aid).outs c d
+    associated_ended : (aid : Aid) → Ends s (rule.acceptance s confs conf b kind request aid).state c d → IsLetGoFirst (rule.acceptance s confs conf b kind request aid).outs c d
     associated_ended aid ends =
         not_none (is_row b a c d) aid.number _ (sym (associated_aid s confs conf b kind request aid c d) ∙ ends.after) (λ _ gone.
-        let out = taken_out (elsewhere_laws.is_bssid_among c (elsewhere s b a) && eq_by_cmp addr_cmp d a) (aid_at s c d) (sym (cleared_aid s b a c d) ∙ gone) ends.before in
-        let parts = and_parts (elsewhere_laws.is_bssid_among c (elsewhere s b a)) (eq_by_cmp addr_cmp d a) out in
-        let among : elsewhere_laws.is_bssid_among c (filter (λ x. is_some (conf_at confs x)) (elsewhere s b a)) ≡ true =
-        elsewhere_laws.among-filter (λ x. is_some (conf_at confs x)) c (elsewhere s b a) ∙ (λ i. configured i && parts.0 i) in
+        let out = taken_out (elsewhere_laws.is_bssid_among c (bssids_elsewhere s b a) && eq_by_cmp addr_cmp d a) (aid_at s c d) (sym (cleared_aid s b a c d) ∙ gone) ends.before in
+        let parts = and_parts (elsewhere_laws.is_bssid_among c (bssids_elsewhere s b a)) (eq_by_cmp addr_cmp d a) out in
+        let among : elsewhere_laws.is_bssid_among c (filter (λ x. is_some (conf_at confs x)) (bssids_elsewhere s b a)) ≡ true =
+        elsewhere_laws.among-filter (λ x. is_some (conf_at confs x)) c (bssids_elsewhere s b a) ∙ (λ i. configured i && parts.0 i) in
         let first : IsLetGoFirst gone_outs c a =
         somewhere (eq_by_cmp bssid_cmp) (λ x y e. sym (same_bssid y x e)) (λ x. outs_of_end x a UNSPECIFIED) (λ outs. IsLetGoFirst outs c a) (λ xs ys. first_part xs ys c a) (λ xs ys. second_part xs ys c a)
-        c (filter (λ x. is_some (conf_at confs x)) (elsewhere s b a)) (end_first s c a UNSPECIFIED) among in
-        moved (rule.associated s confs conf b kind request aid).outs c a c d (refl, same_addr a d parts.1)
-        (first_part (gone_outs ++ installation s b a aid) (sent (association_response conf b kind a Success (Some aid)) ∷ []) c a (first_part gone_outs (installation s b a aid) c a first)))
+        c (filter (λ x. is_some (conf_at confs x)) (bssids_elsewhere s b a)) (end_first s c a UNSPECIFIED) among in
+        moved (rule.acceptance s confs conf b kind request aid).outs c a c d (refl, same_addr a d parts.1)
+        (first_part (gone_outs ++ installation s b a aid) (reply_out (association_response conf b kind a Success (Some aid)) ∷ []) c a (first_part gone_outs (installation s b a aid) c a first)))
 
   -- a station that was not associated here is taken in before it is told so
-  taken_first : (k : Kind) (aid : Aid) (outs : List (Recipient × Out)) → Contains outs (Radio b, Install a aid) → IsTakenInFirst (outs ++ sent (association_response conf b k a Success (Some aid)) ∷ []) b a aid
+  taken_first : (k : Kind) (aid : Aid) (outs : List (Recipient × Out)) → Contains outs (Radio b, Install a aid) → IsTakenInFirst (outs ++ reply_out (association_response conf b k a Success (Some aid)) ∷ []) b a aid
   taken_first Association aid outs go =
-      let answer = sent (association_response conf b Association a Success (Some aid)) in
+      let answer = reply_out (association_response conf b Association a Success (Some aid)) in
       (1, inl refl, octets_of (rates_element (rates_in conf.hw_mode) ∷ []), precedes outs (answer ∷ []) _ answer go (Contains-push [] answer))
   taken_first Reassociation aid outs go =
-      let answer = sent (association_response conf b Reassociation a Success (Some aid)) in
+      let answer = reply_out (association_response conf b Reassociation a Success (Some aid)) in
       (3, inr refl, octets_of (rates_element (rates_in conf.hw_mode) ∷ []), precedes outs (answer ∷ []) _ answer go (Contains-push [] answer))
 
-  associated_first : (aid : Aid) → aid_at s b a ≡ None → IsTakenInFirst (rule.associated s confs conf b kind request aid).outs b a aid
+  associated_first : (aid : Aid) → aid_at s b a ≡ None → IsTakenInFirst (rule.acceptance s confs conf b kind request aid).outs b a aid
   associated_first aid none =
       let go : Recipient × Out = (Radio b, Install a aid) in
       taken_first kind aid (gone_outs ++ installation s b a aid)
@@ -202,7 +156,7 @@ module _ (s : State) (b : Bssid) (d : Addr) (as' : List Addr) (among : is_among 
   drop_outs x = outs_of_drop s b x UNSPECIFIED
 
   abbrev frame : Recipient × Out
-  frame = sent (told.deauthentication b d UNSPECIFIED)
+  frame = reply_out (told.deauthentication b d UNSPECIFIED)
 
   pub contains_drop : Contains (flat_map drop_outs as') frame
   contains_drop =
@@ -226,16 +180,16 @@ module _ (s : State) (b : Bssid) (p : Policy) (change : Change) (l : SetOf list_
       let was = of_them s b (denied s b p change l q) c d (aid_at (v s b p change l q).state c d) (enforced_aid s b p change l q c d) ends.after ends.before in
       moved (v s b p change l q).outs b d c d (was.0, refl) (drops_first s b d (denied s b p change l q) was.1 was.2)
 
-  pub enforced_told : (d : Addr) → IsSome (station_at s b d) → station_at (v s b p change l q).state b d ≡ None → Contains (v s b p change l q).outs (sent (told.deauthentication b d UNSPECIFIED))
+  pub enforced_told : (d : Addr) → IsSome (station_at s b d) → station_at (v s b p change l q).state b d ≡ None → Contains (v s b p change l q).outs (reply_out (told.deauthentication b d UNSPECIFIED))
   enforced_told d known gone = contains_drop s b d (denied s b p change l q) (enforced_gone s b p change l q d known gone)
 
 -- ---- control commands
 module _ (s : State) (b : Bssid) (c : Bssid) (d : Addr) where
-  all_ended : (reason : Reason) (t : Bool) → Ends s (all_kicked s b reason t).state c d → IsLetGoFirst (all_kicked s b reason t).outs c d
+  all_ended : (reason : Reason) (t : Bool) → Ends s (kick_of_all s b reason t).state c d → IsLetGoFirst (kick_of_all s b reason t).outs c d
   all_ended reason t ends =
       let all = addresses_at s b in
-      let was = of_them s b all c d (aid_at (all_kicked s b reason t).state c d) (kept_aid s b (is_elsewhere s b) all (all_leave s b) c d) ends.after ends.before in
-      moved (all_kicked s b reason t).outs b d c d (was.0, refl) (farewell_first s b d BROADCAST reason t (flat_map (removal s b) all) (inr refl) (all_go s b d all was.1 was.2))
+      let was = of_them s b all c d (aid_at (kick_of_all s b reason t).state c d) (kept_aid s b (is_elsewhere s b) all (all_leave s b) c d) ends.after ends.before in
+      moved (kick_of_all s b reason t).outs b d c d (was.0, refl) (farewell_first s b d BROADCAST reason t (flat_map (removal s b) all) (inr refl) (all_go s b d all was.1 was.2))
 
 -- ---- any event
 module _ (s : State) (confs : List Conf) (c : Bssid) (configured : IsSome (conf_at confs c)) (d : Addr) where
@@ -258,7 +212,7 @@ module _ (s : State) (confs : List Conf) (c : Bssid) (configured : IsSome (conf_
   shape_ended h _ (shape.enforced b p change l q there makes keep short others needed) ends = inr (enforced_ended s b p change l q c d ends)
   shape_ended h _ (shape.started conf b accept deny is first) ends = kept s (first_start s conf b accept deny).state c d ends refl
 
-  answered_ended : (h : Happening) (tag : ℕ) (answer : Answer) (v : Verdict) → IsEnded h v → IsEnded h (answered tag answer v)
+  answered_ended : (h : Happening) (tag : ℕ) (answer : Answer) (v : Verdict) → IsEnded h v → IsEnded h (with_answer tag answer v)
   answered_ended h tag answer v is ends = elim (is (record { before = ends.before; after = ends.after })) [ inl own ↦ inl own | inr first ↦ inr (first_part v.outs (text tag answer ∷ []) c d first) ]
 
   pub verdict_ended : (h : Happening) → IsSome (aid_at s c d) → aid_at (verdict s confs h).state c d ≡ None → HasLeft h c d ⊎ IsLetGoFirst (verdict s confs h).outs c d
@@ -274,10 +228,10 @@ module _ (s : State) (confs : List Conf) (c : Bssid) (d : Addr) (aid : Aid) wher
   not_now false o is none now = none_is o (is ∙ none) (ap is_some now)
 
   -- it is the sender's own row, since every other is as it was or put back
-  associated_begun : (conf : Conf) (b : Bssid) (kind : Kind) (request : AssociationRequest) (own : Aid) → IsBegun (rule.associated s confs conf b kind request own)
+  associated_begun : (conf : Conf) (b : Bssid) (kind : Kind) (request : AssociationRequest) (own : Aid) → IsBegun (rule.acceptance s confs conf b kind request own)
   associated_begun conf b kind request own none now =
       let a = request.sender in
-      let outs = (rule.associated s confs conf b kind request own).outs in
+      let outs = (rule.acceptance s confs conf b kind request own).outs in
       elim (is_row b a c d) as (λ t. is_row b a c d ≡ t → cond t (Some own.number) (aid_at (cleared s b a) c d) ≡ Some aid.number → IsTakenInFirst outs c d aid) [
         | true ↦ λ e same.
             let parts = and_parts (eq_by_cmp bssid_cmp c b) (eq_by_cmp addr_cmp d a) e in
@@ -286,7 +240,7 @@ module _ (s : State) (confs : List Conf) (c : Bssid) (d : Addr) (aid : Aid) wher
             subst (λ x. IsTakenInFirst outs x d aid) (sym here) (subst (λ x. IsTakenInFirst outs b x aid) (sym it)
             (subst (IsTakenInFirst outs b a) (same_aid own aid (same_some own.number aid.number same))
             (associated_first s confs conf b kind request own ((λ i. aid_at s (sym here i) (sym it i)) ∙ none))))
-        | false ↦ λ e other. not_now (elsewhere_laws.is_bssid_among c (elsewhere s b a) && eq_by_cmp addr_cmp d a) _ (cleared_aid s b a c d) none other
+        | false ↦ λ e other. not_now (elsewhere_laws.is_bssid_among c (bssids_elsewhere s b a) && eq_by_cmp addr_cmp d a) _ (cleared_aid s b a c d) none other
       ] refl (sym (associated_aid s confs conf b kind request own c d) ∙ now)
 
   shape_begun : (h : Happening) (v : Verdict) → Shape s confs h v → IsBegun v
@@ -302,7 +256,7 @@ module _ (s : State) (confs : List Conf) (c : Bssid) (d : Addr) (aid : Aid) wher
   shape_begun h _ (shape.enforced b p change l q there makes keep short others needed) none now = not_now (eq_by_cmp bssid_cmp c b && is_among d (denied s b p change l q)) _ (enforced_aid s b p change l q c d) none now
   shape_begun h _ (shape.started conf b accept deny is first) none now = not_now false (aid_at s c d) refl none now
 
-  answered_begun : (tag : ℕ) (answer : Answer) (v : Verdict) → IsBegun v → IsBegun (answered tag answer v)
+  answered_begun : (tag : ℕ) (answer : Answer) (v : Verdict) → IsBegun v → IsBegun (with_answer tag answer v)
   answered_begun tag answer v is none now =
       let first = is none now in
       (first.0, first.1, first.2, before_more v.outs (text tag answer ∷ []) _ _ first.3)

@@ -1,51 +1,21 @@
 -- What an association or a reassociation request leaves.
 use Rattle.std.proofs.Common.{◌≡◌, true, false, cond, not, ◌&&◌, List, [], ◌∷◌, ◌++◌, Option, Some, None, inl, inr, refl, sym, ap, subst, ◌∙◌, IsSome}
-use Rattle.std.specs.Option.{is_some, option_map}
-use Rattle.std.specs.Ordering.{eq_by_cmp}
+use Rattle.apd_mlme.proofs.Words.{Addr, Aid, Associated, AssociationRequest, Authenticated, Bssid, CanPut, Change, Conf, Cursor, Install, Kind, Put, Radio, Sound, State, Station, StaySound, Success, Verdict, acceptance, addr_cmp, addr_exact, addr_total, aid_at, aid_of, and_parts, apart, association_response, bssid_cmp, bssid_exact, bssid_total, bssids_elsewhere, conf_at, cursor_changes, either, eq_by_cmp, first_false, identifier_for, installation, is_some, meaning_of, meaning_of-append, no_value, none_is, one_or_apart, option_map, outs_elsewhere, policy_at, put_backs, put_station, reply_out, row_of, second_false, sound_put, station_at, station_of_aid, tied, with_put_backs}
 use Rattle.std.specs.FinMap as map
-use Rattle.std.proofs.lemmas.Bool.{and_parts}
-use Rattle.apd_base.specs.declared.address.Addr.{Addr}
-use Rattle.apd_base.specs.declared.address.Bssid.{Bssid}
-use Rattle.apd_base.specs.declared.station.Aid.{Aid}
-use Rattle.apd_base.specs.declared.station.Station.{Station}
-use Rattle.apd_base.specs.declared.station.Station.TheVariants.{Authenticated, Associated}
-use Rattle.apd_base.specs.Addr.{addr_cmp, bssid_cmp}
-use Rattle.apd_base.specs.State.{State, station_at, policy_at, aid_of, aid_at}
-use Rattle.apd_base.proofs.AddrLemmas.{addr_total, addr_exact, bssid_total, bssid_exact}
-use Rattle.apd_base.proofs.MapLemmas.{one_or_apart, apart, tied}
-use Rattle.apd_conf.specs.declared.conf.Conf.{Conf}
-use Rattle.apd_conf.specs.Confs.{conf_at}
-use Rattle.apd_frame.specs.Contents.{AssociationRequest}
-use Rattle.apd_frame.specs.declared.codes.Status.TheVariants.{Success}
-use Rattle.apd_record.specs.declared.change.Change.TheVariants.{Put, Cursor}
-use Rattle.apd_record.specs.declared.change.Change.{Change}
-use Rattle.apd_record.specs.Meaning.{put_station, meaning_of}
-use Rattle.apd_table.specs.Can.{CanPut}
-use Rattle.apd_table.specs.Sound.{Sound, StaySound}
 use Rattle.apd_table.proofs.Cursors.{sound_cursor}
-use Rattle.apd_table.proofs.Denied.{meaning_of-append}
-use Rattle.apd_table.proofs.Put.{sound_put}
-use Rattle.apd_mlme.specs.declared.association.Kind.{Kind}
-use Rattle.apd_mlme.specs.declared.decision.Recipient.TheVariants.{Radio}
-use Rattle.apd_mlme.specs.declared.decision.Out.TheVariants.{Install}
-use Rattle.apd_mlme.specs.rules.Association.{association_response, elsewhere, with_authenticated, put_backs, outs_elsewhere, installation, row_of, associated}
-use Rattle.apd_mlme.specs.rules.Identifiers.{cursor_changes, identifier_for, number_of}
-use Rattle.apd_mlme.specs.Outs.{sent}
-use Rattle.apd_mlme.specs.Verdict.{Verdict}
+use Rattle.apd_mlme.specs.rules.Identifiers.{number_of}
 use Rattle.apd_mlme.proofs.RowLemmas.{is_row, station_put, aid_cond, left_by, left_by-append, Follows, aid_turned, authenticated_station, turned_not}
 use Rattle.apd_mlme.proofs.ElsewhereLemmas.{is_bssid_among, among_elsewhere, put_backs_meaning, HasRows, put_backs_stay, elsewhere_driven}
 use Rattle.apd_mlme.proofs.IdentifierLemmas.{nobody_has}
-use Rattle.apd_base.proofs.Cases.{either, first_false, no_value, none_is, second_false}
-use Rattle.apd_base.proofs.StateLemmas.{station_of_aid}
 
 -- ---- at the other BSSIDs
 module _ (s : State) (b : Bssid) (a : Addr) where
   abbrev pub others : List Bssid
-  others = elsewhere s b a
+  others = bssids_elsewhere s b a
 
   -- the state once the station was put back there
   abbrev pub cleared : State
-  cleared = record s { stations = with_authenticated a others s.stations }
+  cleared = record s { stations = with_put_backs a others s.stations }
 
   pub cleared_station : (c : Bssid) (d : Addr) → station_at cleared c d ≡ option_map (λ x. cond (is_bssid_among c others && eq_by_cmp addr_cmp d a) Authenticated x) (station_at s c d)
   cleared_station c d = authenticated_station (λ key. is_bssid_among key.0 others && eq_by_cmp addr_cmp key.1 a) s.stations (c, d)
@@ -101,7 +71,7 @@ module _ (s : State) (confs : List Conf) (conf : Conf) (b : Bssid) (kind : Kind)
   row = row_of request aid
 
   abbrev answered : Verdict
-  answered = associated s confs conf b kind request aid
+  answered = acceptance s confs conf b kind request aid
 
   abbrev IsItsOwn : Type 0
   IsItsOwn = identifier_for s b (station_at s b sender) ≡ Some aid
@@ -122,7 +92,7 @@ module _ (s : State) (confs : List Conf) (conf : Conf) (b : Bssid) (kind : Kind)
 
   pub associated_meaning : meaning_of answered.changes s ≡ answered.state
   associated_meaning =
-      meaning_of-append (put_backs sender (elsewhere s b sender)) (Put b sender row ∷ given) s
+      meaning_of-append (put_backs sender (bssids_elsewhere s b sender)) (Put b sender row ∷ given) s
       ∙ ap (λ x. meaning_of given (put_station b sender row x)) (cleared_is s b sender)
       ∙ given_meaning
 
@@ -148,7 +118,7 @@ module _ (s : State) (confs : List Conf) (conf : Conf) (b : Bssid) (kind : Kind)
 
   pub associated_sound : Sound s → IsSome (station_at s b sender) → IsItsOwn → StaySound answered.changes s
   associated_sound sound known own =
-      put_backs_stay sender (elsewhere s b sender) (Put b sender row ∷ given) s (elsewhere_rows s b sender) sound
+      put_backs_stay sender (bssids_elsewhere s b sender) (Put b sender row ∷ given) s (elsewhere_rows s b sender) sound
       (λ left. (let before = subst Sound (cleared_is s b sender) left in
       subst (StaySound (Put b sender row ∷ given)) (sym (cleared_is s b sender)) (before, given_stays (sound.stations_have_policy b sender known) (sound_put (cleared s b sender) b sender row before (can_put sound known own)))))
 
@@ -161,8 +131,8 @@ module _ (s : State) (confs : List Conf) (conf : Conf) (b : Bssid) (kind : Kind)
 
   -- the driver, once the other BSSIDs let the station go
   module _ (c : Bssid) (configured : IsSome (conf_at confs c)) where
-    let_go : (d : Addr) → left_by c d (outs_elsewhere confs sender (elsewhere s b sender)) (aid_at s c d) ≡ aid_at (cleared s b sender) c d
-    let_go d = elsewhere_driven c sender d confs configured (elsewhere s b sender) (aid_at s c d) ∙ sym (cleared_aid s b sender c d)
+    let_go : (d : Addr) → left_by c d (outs_elsewhere confs sender (bssids_elsewhere s b sender)) (aid_at s c d) ≡ aid_at (cleared s b sender) c d
+    let_go d = elsewhere_driven c sender d confs configured (bssids_elsewhere s b sender) (aid_at s c d) ∙ sym (cleared_aid s b sender c d)
 
     -- where it was associated here, the driver has it already
     has_it : IsItsOwn → IsSome (aid_at s b sender) → (d : Addr) → aid_at (cleared s b sender) c d ≡ cond (is_row b sender c d) (Some aid.number) (aid_at (cleared s b sender) c d)
@@ -189,9 +159,9 @@ module _ (s : State) (confs : List Conf) (conf : Conf) (b : Bssid) (kind : Kind)
 
     pub associated_follows : IsItsOwn → Follows c s answered
     associated_follows own d =
-        let gone = outs_elsewhere confs sender (elsewhere s b sender) in
+        let gone = outs_elsewhere confs sender (bssids_elsewhere s b sender) in
         let taken_in = installation s b sender aid in
-        left_by-append c d (gone ++ taken_in) (sent (association_response conf b kind sender Success (Some aid)) ∷ []) (aid_at s c d)
+        left_by-append c d (gone ++ taken_in) (reply_out (association_response conf b kind sender Success (Some aid)) ∷ []) (aid_at s c d)
         ∙ left_by-append c d gone taken_in (aid_at s c d)
         ∙ ap (left_by c d taken_in) (let_go d)
         ∙ installed own d

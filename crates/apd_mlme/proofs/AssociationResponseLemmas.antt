@@ -1,52 +1,16 @@
 -- What an association or a reassociation response tells its station, and what leaves at each radio.
 use Rattle.std.proofs.Common.{◌≡◌, ◌≢◌, ℕ, Bool, true, false, cond, not, ◌&&◌, [], ◌++◌, List, Option, Some, None, inl, inr, refl, sym, ap, subst, ◌∙◌, IsSome, ◌||◌, ◌∷◌, append-nil}
-use Rattle.std.specs.Option.{is_some, option_map}
-use Rattle.std.specs.Ordering.{eq_by_cmp}
+use Rattle.apd_mlme.proofs.Words.{Addr, Aid, AllByRecursion, Associated, AssociationRequest, Authenticated, Bssid, Conf, DeniedListenIntervalTooLarge, DeniedNoMoreStas, FinMap, Install, IsAnsweredTruly, IsDeserved, IsForNetwork, IsJoined, IsMember, IsNextFree, IsOfEnd, Kind, NotSupportedAuthAlgorithm, Out, Radio, Recipient, RefusedReasonUnspecified, Remove, SSID, Sound, State, Station, StationNumber, Status, Success, TransactionSequenceError, UNSPECIFIED, Verdict, acceptance, acceptance_of, addr_cmp, addr_exact, addr_total, aid_at, aid_of, apart, association_of, association_refusals, association_response, association_status, association_verdict, both_true, bssid_cmp, bssid_exact, bssid_total, bssids_elsewhere, bytes_eq-Decides, conf_at, cursor_at, differ, disassociation, disassociation_frame, either, eq_by_cmp, first_false, first_with, get_insert_other, get_inserted, identifier_for, installation, is_named, is_same, is_some, is_success, last_given, ltb-false, ltb-true, none_is, not_false, not_yes, number_or_0, one_or_apart, only_reply, option_map, outs_elsewhere, outs_of_end, outs_to, remaining_row, reply_out, row_of, same_bssid, second_false, station_at, tied, well_formed}
 use Rattle.std.specs.FinMap as map
-use Rattle.std.specs.FinMap.{FinMap}
-use Rattle.std.proofs.lemmas.Bool.{ltb-true, ltb-false}
-use Rattle.std.proofs.lemmas.Slice.Eq.{bytes_eq-Decides}
-use Rattle.apd_base.specs.declared.address.Addr.{Addr}
-use Rattle.apd_base.specs.declared.address.Bssid.{Bssid}
-use Rattle.apd_base.specs.declared.station.Aid.{Aid}
-use Rattle.apd_base.specs.declared.station.Station.{Station}
-use Rattle.apd_base.specs.declared.station.StationNumber.{StationNumber}
-use Rattle.apd_base.specs.declared.station.Station.TheVariants.{Authenticated, Associated}
-use Rattle.apd_base.specs.Addr.{addr_cmp, bssid_cmp}
-use Rattle.apd_base.specs.State.{State, station_at, aid_of, aid_at, cursor_at}
-use Rattle.apd_base.proofs.AddrLemmas.{addr_total, addr_exact, bssid_total, bssid_exact, same_bssid}
-use Rattle.apd_base.proofs.MapLemmas.{one_or_apart, apart, get_insert_other, get_inserted, tied}
-use Rattle.apd_conf.specs.declared.conf.Conf.{Conf}
-use Rattle.apd_frame.specs.Contents.{AssociationRequest}
-use Rattle.apd_frame.specs.Elements.{well_formed, first_with}
-use Rattle.apd_frame.specs.declared.codes.Status.{Status}
-use Rattle.apd_frame.specs.declared.codes.Status.TheVariants.{Success, RefusedReasonUnspecified, NotSupportedAuthAlgorithm, TransactionSequenceError, DeniedNoMoreStas, DeniedListenIntervalTooLarge}
-use Rattle.apd_frame.specs.declared.element.TheConstants.{SSID, SUPPORTED_RATES}
-use Rattle.apd_table.specs.LeastFree.{IsNextFree, last_given, number_or_0}
-use Rattle.apd_table.specs.Sound.{Sound}
-use Rattle.apd_mlme.specs.declared.association.Kind.{Kind}
-use Rattle.apd_mlme.specs.laws.Association.{IsMember, IsForNetwork, IsDeserved, IsAnsweredTruly, only_authenticated, IsOfEnd, IsJoined}
-use Rattle.apd_mlme.specs.rules.Association.{is_named, association_refusals, association_status, association_response, elsewhere, outs_elsewhere, installation, row_of, associated, accepted, association_of, association_verdict}
-use Rattle.apd_mlme.specs.rules.Identifiers.{identifier_for, number_of}
-use Rattle.apd_mlme.specs.rules.Refusals.{is_success}
-use Rattle.apd_mlme.specs.Verdict.{Verdict, only_sent}
+use Rattle.apd_frame.specs.declared.element.TheConstants.{SUPPORTED_RATES}
+use Rattle.apd_mlme.specs.rules.Identifiers.{number_of}
 use Rattle.apd_mlme.proofs.AssociationLemmas.{others, cleared, cleared_station, cleared_here, cleared_elsewhere, own_or_free, own_kept, associated_station, not_here}
 use Rattle.apd_mlme.proofs.ElsewhereLemmas.{is_bssid_among, among_elsewhere, among-filter}
 use Rattle.apd_mlme.proofs.IdentifierLemmas.{is_next_free, identifier_is_there}
 use Rattle.apd_mlme.proofs.RefusalLemmas.{by_lines, status_success, not_less}
 use Rattle.apd_mlme.proofs.RowLemmas.{turned_not}
-use Rattle.apd_base.proofs.Cases.{both_true, differ, either, first_false, none_is, not_false, not_yes, second_false}
 use Rattle.std.specs.Prelude.{map as list_map, filter}
-use Rattle.std.specs.List.{AllByRecursion, flat_map}
-use Rattle.apd_conf.specs.Confs.{conf_at}
-use Rattle.apd_frame.specs.declared.codes.TheConstants.Reason.{UNSPECIFIED}
-use Rattle.apd_mlme.specs.declared.decision.Recipient.{Recipient}
-use Rattle.apd_mlme.specs.declared.decision.Recipient.TheVariants.{Radio}
-use Rattle.apd_mlme.specs.declared.decision.Out.{Out}
-use Rattle.apd_mlme.specs.declared.decision.Out.TheVariants.{Install, Remove}
-use Rattle.apd_mlme.specs.rules.Leaving.{disassociation, outs_of_end}
-use Rattle.apd_mlme.specs.laws.ManagementFrame.{disassociation_frame}
-use Rattle.apd_mlme.specs.Outs.{is_same, outs_to, sent}
+use Rattle.std.specs.List.{flat_map}
 use Rattle.apd_mlme.proofs.OutsLemmas.{outs_to-append}
 use Rattle.apd_mlme.proofs.RisingLemmas.{Apart}
 
@@ -94,7 +58,7 @@ module _ (conf : Conf) (request : AssociationRequest) where
 -- ---- a station's rows at the other BSSIDs
 module _ (s : State) (b : Bssid) (a : Addr) where
   cleared_as : Sound s → (c : Bssid) → eq_by_cmp bssid_cmp b c ≡ false → (o : Option Station) → station_at s c a ≡ o →
-      option_map (λ x. cond (is_bssid_among c (others s b a) && eq_by_cmp addr_cmp a a) Authenticated x) o ≡ only_authenticated o
+      option_map (λ x. cond (is_bssid_among c (others s b a) && eq_by_cmp addr_cmp a a) Authenticated x) o ≡ remaining_row o
   cleared_as sound c other None at = refl
   cleared_as sound c other (Some Authenticated) at = ap Some (either (is_bssid_among c (others s b a) && eq_by_cmp addr_cmp a a) Authenticated)
   cleared_as sound c other (Some (Associated x)) at =
@@ -103,7 +67,7 @@ module _ (s : State) (b : Bssid) (a : Addr) where
       let among : is_bssid_among c (others s b a) ≡ true = among_elsewhere s b a c ∙ (λ i. (not (other i) && known i) && policy i) in
       ap (λ t. Some (cond t Authenticated (Associated x))) (both_true (is_bssid_among c (others s b a)) (eq_by_cmp addr_cmp a a) among (tied addr_total addr_exact a))
 
-  pub cleared_row : Sound s → (c : Bssid) → eq_by_cmp bssid_cmp b c ≡ false → station_at (cleared s b a) c a ≡ only_authenticated (station_at s c a)
+  pub cleared_row : Sound s → (c : Bssid) → eq_by_cmp bssid_cmp b c ≡ false → station_at (cleared s b a) c a ≡ remaining_row (station_at s c a)
   cleared_row sound c other = cleared_station s b a c a ∙ cleared_as sound c other (station_at s c a) refl
 
   pub cleared_others : (c : Bssid) (d : Addr) → d ≢ a → station_at (cleared s b a) c d ≡ station_at s c d
@@ -115,7 +79,7 @@ module _ (s : State) (confs : List Conf) (conf : Conf) (b : Bssid) (kind : Kind)
   a = request.sender
 
   abbrev answered : Verdict
-  answered = associated s confs conf b kind request aid
+  answered = acceptance s confs conf b kind request aid
 
   pub row_here : station_at answered.state b a ≡ Some (row_of request aid)
   row_here =
@@ -173,7 +137,7 @@ module _ (s : State) (confs : List Conf) (conf : Conf) (b : Bssid) (kind : Kind)
   told_accepted good = record {
     status = Success;
     aid = Some aid;
-    before = outs_elsewhere confs a (elsewhere s b a) ++ installation s b a aid;
+    before = outs_elsewhere confs a (bssids_elsewhere s b a) ++ installation s b a aid;
     answer = refl;
     success = λ _. member;
     deserved = subst (IsDeserved conf request) good (status_deserved conf request);
@@ -197,7 +161,7 @@ refuses status e h = success_is_not (is_success status) e (ap is_success h)
     success_is_not t f h = cc
 
 module _ (s : State) (confs : List Conf) (conf : Conf) (b : Bssid) (kind : Kind) (request : AssociationRequest) (sound : Sound s) where
-  told_refused : is_success (association_status conf request) ≡ false → IsAnsweredTruly s conf b kind request (only_sent s (association_response conf b kind request.sender (association_status conf request) None))
+  told_refused : is_success (association_status conf request) ≡ false → IsAnsweredTruly s conf b kind request (only_reply s (association_response conf b kind request.sender (association_status conf request) None))
   told_refused bad = record {
     status = association_status conf request;
     aid = None;
@@ -217,14 +181,14 @@ module _ (s : State) (confs : List Conf) (conf : Conf) (b : Bssid) (kind : Kind)
     other_cursors = λ c ne. refl;
   }
 
-  told_known : association_status conf request ≡ Success → (o : Option Aid) → identifier_for s b (station_at s b request.sender) ≡ o → IsSome o → IsAnsweredTruly s conf b kind request (accepted s confs conf b kind request o)
+  told_known : association_status conf request ≡ Success → (o : Option Aid) → identifier_for s b (station_at s b request.sender) ≡ o → IsSome o → IsAnsweredTruly s conf b kind request (acceptance_of s confs conf b kind request o)
   told_known good None is known = cc
   told_known good (Some aid) is known = told_accepted s confs conf b kind request sound aid is good
 
   told_row : (o : Option Station) → station_at s b request.sender ≡ o → IsSome o → IsAnsweredTruly s conf b kind request (association_of s confs conf b kind request o)
   told_row None at known = cc
   told_row (Some row) at known =
-      elim (is_success (association_status conf request)) as (λ t. is_success (association_status conf request) ≡ t → IsAnsweredTruly s conf b kind request (cond t (accepted s confs conf b kind request (identifier_for s b (Some row))) (only_sent s (association_response conf b kind request.sender (association_status conf request) None)))) [
+      elim (is_success (association_status conf request)) as (λ t. is_success (association_status conf request) ≡ t → IsAnsweredTruly s conf b kind request (cond t (acceptance_of s confs conf b kind request (identifier_for s b (Some row))) (only_reply s (association_response conf b kind request.sender (association_status conf request) None)))) [
         | true ↦ λ e. told_known (status_success (association_status conf request) e) (identifier_for s b (Some row)) (ap (identifier_for s b) at) (identifier_is_there s b sound request.sender (Some row) at refl)
         | false ↦ λ e. told_refused e
       ] refl
@@ -241,7 +205,7 @@ module _ (c : Bssid) (a : Addr) where
   abbrev with_end : Bssid → List Bssid → Bool → List Out
   with_end x bssids t =
       let rest = filter (λ z. is_same (Radio c) z.0) (flat_map end_at bssids) in
-      let told = cond t (sent (disassociation x a UNSPECIFIED) ∷ rest) rest in
+      let told = cond t (reply_out (disassociation x a UNSPECIFIED) ∷ rest) rest in
       list_map (λ (z : Recipient × Out). z.1) (cond t ((Radio x, Remove a) ∷ told) told)
 
   no_end : (bssids : List Bssid) → is_bssid_among c bssids ≡ false → outs_to (Radio c) (flat_map end_at bssids) ≡ []
@@ -253,13 +217,13 @@ module _ (c : Bssid) (a : Addr) where
       ] e
 
   -- where none is there twice
-  pub ends_at : (bssids : List Bssid) → Apart bssids → outs_to (Radio c) (flat_map end_at bssids) ≡ cond (is_bssid_among c bssids) (Remove a ∷ (sent (disassociation c a UNSPECIFIED)).1 ∷ []) []
+  pub ends_at : (bssids : List Bssid) → Apart bssids → outs_to (Radio c) (flat_map end_at bssids) ≡ cond (is_bssid_among c bssids) (Remove a ∷ (reply_out (disassociation c a UNSPECIFIED)).1 ∷ []) []
   ends_at [] apart = refl
   ends_at (x ∷ bssids) apart =
-      elim (eq_by_cmp bssid_cmp c x) as (λ t. eq_by_cmp bssid_cmp c x ≡ t → with_end x bssids t ≡ cond (t || is_bssid_among c bssids) (Remove a ∷ (sent (disassociation c a UNSPECIFIED)).1 ∷ []) []) [
+      elim (eq_by_cmp bssid_cmp c x) as (λ t. eq_by_cmp bssid_cmp c x ≡ t → with_end x bssids t ≡ cond (t || is_bssid_among c bssids) (Remove a ∷ (reply_out (disassociation c a UNSPECIFIED)).1 ∷ []) []) [
         | true ↦ λ e.
             let same = same_bssid x c e in
-            (λ i. Remove a ∷ (sent (disassociation (sym same i) a UNSPECIFIED)).1 ∷ no_end bssids (ap (λ y. is_bssid_among y bssids) same ∙ apart.0) i)
+            (λ i. Remove a ∷ (reply_out (disassociation (sym same i) a UNSPECIFIED)).1 ∷ no_end bssids (ap (λ y. is_bssid_among y bssids) same ∙ apart.0) i)
         | false ↦ λ e. ends_at bssids apart.1
       ] refl
 
@@ -285,37 +249,37 @@ module _ (s : State) (confs : List Conf) (conf : Conf) (b : Bssid) (kind : Kind)
 
   module _ (aid : Aid) (own : identifier_for s b (station_at s b asker) ≡ Some aid) where
     abbrev ends : List (Recipient × Out)
-    ends = outs_elsewhere confs asker (elsewhere s b asker)
+    ends = outs_elsewhere confs asker (bssids_elsewhere s b asker)
 
     abbrev taken_in : List (Recipient × Out)
     taken_in = installation s b asker aid
 
     abbrev response : Recipient × Out
-    response = sent (association_response conf b kind asker Success (Some aid))
+    response = reply_out (association_response conf b kind asker Success (Some aid))
 
-    at_radio : (r : Recipient) → outs_to r (associated s confs conf b kind request aid).outs ≡ (outs_to r ends ++ outs_to r taken_in) ++ outs_to r (response ∷ [])
+    at_radio : (r : Recipient) → outs_to r (acceptance s confs conf b kind request aid).outs ≡ (outs_to r ends ++ outs_to r taken_in) ++ outs_to r (response ∷ [])
     at_radio r = outs_to-append r (ends ++ taken_in) (response ∷ []) ∙ ap (λ zs. zs ++ outs_to r (response ∷ [])) (outs_to-append r ends taken_in)
 
     -- the station's own BSSID is none of the others
     no_end_here : outs_to (Radio b) ends ≡ []
     no_end_here =
-        no_end b asker (filter (λ x. is_some (conf_at confs x)) (elsewhere s b asker))
-        (among-filter (λ x. is_some (conf_at confs x)) b (elsewhere s b asker) ∙ second_false (is_some (conf_at confs b)) (is_bssid_among b (elsewhere s b asker)) (not_here s b asker))
+        no_end b asker (filter (λ x. is_some (conf_at confs x)) (bssids_elsewhere s b asker))
+        (among-filter (λ x. is_some (conf_at confs x)) b (bssids_elsewhere s b asker) ∙ second_false (is_some (conf_at confs b)) (is_bssid_among b (bssids_elsewhere s b asker)) (not_here s b asker))
 
-    at_this : (zs : List Out) → outs_to (Radio b) taken_in ≡ zs → outs_to (Radio b) (associated s confs conf b kind request aid).outs ≡ zs ++ response.1 ∷ []
+    at_this : (zs : List Out) → outs_to (Radio b) taken_in ≡ zs → outs_to (Radio b) (acceptance s confs conf b kind request aid).outs ≡ zs ++ response.1 ∷ []
     at_this zs taken =
         at_radio (Radio b)
         ∙ ap (λ ys. (ys ++ outs_to (Radio b) taken_in) ++ outs_to (Radio b) (response ∷ [])) no_end_here
         ∙ ap (λ ys. ys ++ outs_to (Radio b) (response ∷ [])) taken
         ∙ ap (λ ys. zs ++ ys) (here b response.1)
 
-    pub at_anew : aid_at s b asker ≡ None → outs_to (Radio b) (associated s confs conf b kind request aid).outs ≡ Install asker aid ∷ response.1 ∷ []
+    pub at_anew : aid_at s b asker ≡ None → outs_to (Radio b) (acceptance s confs conf b kind request aid).outs ≡ Install asker aid ∷ response.1 ∷ []
     at_anew none = at_this (Install asker aid ∷ []) (ap (λ o. outs_to (Radio b) (cond (is_some o) [] ((Radio b, Install asker aid) ∷ []))) none ∙ here b (Install asker aid))
 
-    pub at_again : IsSome (aid_at s b asker) → outs_to (Radio b) (associated s confs conf b kind request aid).outs ≡ response.1 ∷ []
+    pub at_again : IsSome (aid_at s b asker) → outs_to (Radio b) (acceptance s confs conf b kind request aid).outs ≡ response.1 ∷ []
     at_again known = at_this [] (ap (λ t. outs_to (Radio b) (cond t [] ((Radio b, Install asker aid) ∷ []))) known)
 
-    pub at_other : (c : Bssid) → eq_by_cmp bssid_cmp c b ≡ false → outs_to (Radio c) (associated s confs conf b kind request aid).outs ≡ outs_to (Radio c) ends
+    pub at_other : (c : Bssid) → eq_by_cmp bssid_cmp c b ≡ false → outs_to (Radio c) (acceptance s confs conf b kind request aid).outs ≡ outs_to (Radio c) ends
     at_other c other =
         let none_taken : outs_to (Radio c) taken_in ≡ [] =
         elim (is_some (aid_at s b asker)) as (λ t. outs_to (Radio c) (cond t [] ((Radio b, Install asker aid) ∷ [])) ≡ []) [ true ↦ refl | false ↦ not_there b (Install asker aid) c other ] in
@@ -325,7 +289,7 @@ module _ (s : State) (confs : List Conf) (conf : Conf) (b : Bssid) (kind : Kind)
         ∙ append-nil (outs_to (Radio c) ends ++ [])
         ∙ append-nil (outs_to (Radio c) ends)
 
-    joined : IsJoined s b asker request.capability request.listen_interval (associated s confs conf b kind request aid)
+    joined : IsJoined s b asker request.capability request.listen_interval (acceptance s confs conf b kind request aid)
     joined = record {
       aid = aid;
       response = response.1;
@@ -344,14 +308,14 @@ module _ (s : State) (confs : List Conf) (conf : Conf) (b : Bssid) (kind : Kind)
   one_status TransactionSequenceError so good = absurd so
   one_status DeniedNoMoreStas so good = absurd so
 
-  joined_as : (o : Option Aid) → identifier_for s b (station_at s b asker) ≡ o → IsSome o → IsJoined s b asker request.capability request.listen_interval (accepted s confs conf b kind request o)
+  joined_as : (o : Option Aid) → identifier_for s b (station_at s b asker) ≡ o → IsSome o → IsJoined s b asker request.capability request.listen_interval (acceptance_of s confs conf b kind request o)
   joined_as None is known = cc
   joined_as (Some aid) is known = joined aid is
 
   joined_row : association_status conf request ≡ Success → (o : Option Station) → station_at s b asker ≡ o → IsSome o → IsJoined s b asker request.capability request.listen_interval (association_of s confs conf b kind request o)
   joined_row good None at known = cc
   joined_row good (Some row) at known =
-      subst (λ t. IsJoined s b asker request.capability request.listen_interval (cond t (accepted s confs conf b kind request (identifier_for s b (Some row))) (only_sent s (association_response conf b kind asker (association_status conf request) None))))
+      subst (λ t. IsJoined s b asker request.capability request.listen_interval (cond t (acceptance_of s confs conf b kind request (identifier_for s b (Some row))) (only_reply s (association_response conf b kind asker (association_status conf request) None))))
       (sym (ap is_success good))
       (joined_as (identifier_for s b (Some row)) (ap (identifier_for s b) at) (identifier_is_there s b sound asker (Some row) at refl))
 

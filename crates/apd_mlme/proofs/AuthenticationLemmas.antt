@@ -1,33 +1,10 @@
 -- What an authentication request leaves.
 use Rattle.std.proofs.Common.{◌≡◌, ◌≢◌, ◌⊎◌, ℕ, ◌<◌, ◌≤◌, Bool, true, false, cond, not, ◌&&◌, eqb, [], ◌∷◌, Option, Some, None, inl, inr, refl, sym, ap, subst, ◌∙◌, IsSome, arith}
-use Rattle.std.specs.Option.{is_some}
+use Rattle.apd_mlme.proofs.Words.{Addr, Authenticated, Authentication, Bssid, CanPut, Conf, DeniedListenIntervalTooLarge, DeniedNoMoreStas, IsAllowed, IsFirst, IsOpenSystem, IsRoomKept, IsToldTruly, NotSupportedAuthAlgorithm, Policy, Put, RefusedReasonUnspecified, Sound, State, Status, StaySound, Success, TransactionSequenceError, Verdict, aid_at, aid_of, allowed, and_parts, apart, auth_response, auth_status, auth_verdict, both_true, count, differ, eq-eqb, eqb-false, eqb-true, get_insert_other, get_inserted, is_admitted, is_full, is_known, is_some, is_success, leb-false, leb-true, no_value, none_is, not_false, not_yes, one_or_apart, policy_at, put_station, refusals, reply_out, sound_put, station_at, station_exact, station_limit, station_total}
 use Rattle.std.specs.FinMap as map
-use Rattle.std.proofs.lemmas.Bool.{and_parts, eqb-true, eqb-false, eq-eqb, leb-true, leb-false}
-use Rattle.apd_base.specs.declared.address.Addr.{Addr}
-use Rattle.apd_base.specs.declared.address.Bssid.{Bssid}
-use Rattle.apd_base.specs.declared.station.Policy.{Policy}
-use Rattle.apd_base.specs.declared.station.Station.TheVariants.{Authenticated}
-use Rattle.apd_base.specs.State.{State, station_at, policy_at, aid_of, aid_at, count}
-use Rattle.apd_base.proofs.AddrLemmas.{station_total, station_exact}
-use Rattle.apd_base.proofs.MapLemmas.{one_or_apart, apart, get_inserted, get_insert_other}
-use Rattle.apd_frame.specs.declared.received.Authentication.{Authentication}
-use Rattle.apd_frame.specs.declared.codes.Status.{Status}
-use Rattle.apd_frame.specs.declared.codes.Status.TheVariants.{Success, RefusedReasonUnspecified, NotSupportedAuthAlgorithm, TransactionSequenceError, DeniedNoMoreStas, DeniedListenIntervalTooLarge}
-use Rattle.apd_conf.specs.declared.conf.Conf.{Conf}
 use Rattle.apd_conf.specs.Auth.{allows_open}
-use Rattle.apd_table.specs.Allowed.{allowed}
-use Rattle.apd_table.specs.Can.{CanPut}
-use Rattle.apd_record.specs.declared.change.Change.TheVariants.{Put}
-use Rattle.apd_record.specs.Meaning.{put_station}
-use Rattle.apd_table.specs.Sound.{Sound, StaySound}
-use Rattle.apd_table.proofs.Put.{sound_put}
-use Rattle.apd_mlme.specs.rules.Authentication.{is_known, station_limit, is_full, refusals, auth_status, is_admitted, auth_verdict, auth_response}
-use Rattle.apd_mlme.specs.Outs.{sent}
-use Rattle.apd_mlme.specs.rules.Refusals.{is_success}
-use Rattle.apd_mlme.specs.laws.Authentication.{IsRoomKept, IsOpenSystem, IsFirst, IsAllowed, IsDeserved, IsToldTruly}
+use Rattle.apd_mlme.specs.laws.Authentication.{IsDeserved}
 use Rattle.apd_mlme.proofs.RefusalLemmas.{by_lines, not_and, not_less, status_success}
-use Rattle.apd_base.proofs.Cases.{both_true, differ, no_value, none_is, not_false, not_yes}
-use Rattle.apd_mlme.specs.Verdict.{Verdict}
 
 room : (o : Option Policy) (n : ℕ) → n < station_limit o → n < 2007
 room None n few = absurd (omega arith)
@@ -102,7 +79,7 @@ module _ (s : State) (conf : Conf) (b : Bssid) (request : Authentication) where
   known_already e good = not_false (is_known s b request) (not_and (is_success (auth_status s conf b request)) (not (is_known s b request)) (ap is_success good) e)
 
   abbrev decided : Bool → Verdict
-  decided t = record { state = cond t new s; changes = cond t (Put b request.sender Authenticated ∷ []) []; outs = sent (auth_response b request (auth_status s conf b request)) ∷ [] }
+  decided t = record { state = cond t new s; changes = cond t (Put b request.sender Authenticated ∷ []) []; outs = reply_out (auth_response b request (auth_status s conf b request)) ∷ [] }
 
   pub auth_told : IsToldTruly s conf b request (auth_verdict s conf b request)
   auth_told = elim admitted as (λ t. admitted ≡ t → IsToldTruly s conf b request (decided t)) [

@@ -1,51 +1,11 @@
 -- What the answer to a control command says is so.
 use Rattle.std.proofs.Common.{◌≡◌, ◌≢◌, ℕ, Bool, true, false, cond, not, ◌&&◌, ◌||◌, List, [], ◌∷◌, ◌++◌, Option, Some, None, ◌⊎◌, inl, inr, refl, sym, ap, subst, ◌∙◌, IsSome, arith, append_assoc}
 use Rattle.std.specs.Prelude.{map as list_map, filter, ◌↔◌}
-use Rattle.std.specs.List.{flat_map, Contains}
-use Rattle.std.specs.Option.{is_some}
-use Rattle.std.specs.Ordering.{eq_by_cmp}
-use Rattle.std.proofs.lemmas.Bool.{and_parts, leb-true}
-use Rattle.std.proofs.lemmas.List.Elements.{Contains-append_left, Contains-append_right, Contains-push}
-use Rattle.apd_base.specs.declared.address.Addr.{Addr}
-use Rattle.apd_base.specs.declared.address.Bssid.{Bssid}
-use Rattle.apd_base.specs.declared.station.Policy.{Policy}
-use Rattle.apd_base.specs.declared.station.Station.{Station}
-use Rattle.apd_base.specs.declared.station.Station.TheVariants.{Authenticated, Associated}
-use Rattle.apd_base.specs.declared.station.Which.{Which}
-use Rattle.apd_base.specs.Addr.{addr_cmp, bssid_cmp}
-use Rattle.apd_base.specs.Sets.{contains}
-use Rattle.apd_base.specs.State.{State, station_at, policy_at, aid_of, aid_at, which_cmp, list_count, IsListed}
-use Rattle.apd_base.proofs.AddrLemmas.{addr_total, addr_exact, bssid_total, bssid_exact, other_way, same_addr}
-use Rattle.apd_base.proofs.MapLemmas.{one_or_apart, apart, tied}
-use Rattle.apd_base.proofs.StateLemmas.{which_total, which_exact}
-use Rattle.apd_conf.specs.declared.conf.Conf.{Conf}
-use Rattle.apd_conf.specs.Confs.{conf_at}
-use Rattle.apd_frame.specs.declared.codes.Reason.{Reason}
-use Rattle.apd_frame.specs.declared.codes.TheConstants.Reason.{UNSPECIFIED}
-use Rattle.apd_table.specs.Addresses.{addresses_at}
-use Rattle.apd_table.specs.Allowed.{allowed, allowed_under}
-use Rattle.apd_table.specs.Sound.{Sound}
-use Rattle.apd_table.proofs.ListSets.{insert_here, remove_here, clear_here, insert_elsewhere, remove_elsewhere, clear_elsewhere}
-use Rattle.apd_mlme.specs.declared.command_answer.Answer.TheVariants.{Done, Refused}
-use Rattle.apd_mlme.specs.declared.decision.Recipient.{Recipient}
-use Rattle.apd_mlme.specs.declared.decision.Recipient.TheVariants.{Radio}
-use Rattle.apd_mlme.specs.declared.decision.Out.{Out}
+use Rattle.apd_mlme.proofs.Words.{Add, Addr, Associated, Authenticated, BROADCAST, Bssid, Clear, Conf, Configure, Contains, Contains-append_left, Contains-append_right, Contains-push, Done, Edit, Expire, Happening, Heard, IsAnsweredTo, IsEdited, IsFit, IsFull, IsKicked, IsListed, IsMeant, IsOnAfter, Kick, ListEdit, Out, Policy, Radio, Reason, Recipient, Refused, Sound, State, Station, UNSPECIFIED, Which, addr_cmp, addr_exact, addr_total, addresses_at, aid_at, aid_of, allowed, and_parts, apart, bssid_cmp, bssid_exact, bssid_of, bssid_total, change_of, clear_elsewhere, clear_here, conf_at, configure_verdict, contains, deauthentication, differ, either, eq_by_cmp, farewell, heard_verdict, insert_elsewhere, insert_here, is_allowed_under, is_some, kick_by_deauthentication_of, kick_by_disassociation_of, kick_of_all, kick_verdict, leb-true, list_count, list_edit_verdict, none_is, not_yes, nothing, one_or_apart, only_reply, other_way, policy_at, remaining_row, removal, remove_elsewhere, remove_here, reply_out, same_addr, second_true, station_at, text, tied, unanswered_edit, unanswered_edit_under, unanswered_kick, verdict, verdict_under, which_cmp, which_exact, which_total, with_answer}
+use Rattle.std.specs.List.{flat_map}
 use Rattle.apd_mlme.specs.declared.decision.Out.TheVariants as out
-use Rattle.apd_mlme.specs.declared.event.Edit.{Edit}
-use Rattle.apd_mlme.specs.declared.event.Edit.TheVariants.{Add, Remove, Clear}
-use Rattle.apd_base.specs.declared.address.TheConstants.{BROADCAST}
-use Rattle.apd_mlme.specs.laws.Association.{only_authenticated}
-use Rattle.apd_mlme.specs.laws.Command.{IsKicked, IsOnAfter, IsEdited, IsFull, IsAnsweredTo}
-use Rattle.apd_mlme.specs.rules.Commands.{text, answered, farewell, deauthenticated_of, disassociated_of, all_kicked, kicked, kick_verdict, change_of, edited_under, edited, list_edit_verdict}
-use Rattle.apd_mlme.specs.rules.Configuration.{configure_verdict}
-use Rattle.apd_mlme.specs.laws.AssociationEnd.{IsMeant}
-use Rattle.apd_mlme.specs.Happening.{Happening, Heard, Kick, ListEdit, Expire, Configure, bssid_of}
+use Rattle.apd_mlme.specs.declared.event.Edit.TheVariants.{Remove}
 use Rattle.apd_mlme.specs.rules.Inactivity.{inactivity_verdict}
-use Rattle.apd_mlme.specs.rules.Leaving.{deauthentication, removal}
-use Rattle.apd_mlme.specs.Outs.{sent}
-use Rattle.apd_mlme.specs.rules.{verdict, verdict_under, heard_verdict, IsFit}
-use Rattle.apd_mlme.specs.Verdict.{nothing, only_sent}
-use Rattle.apd_base.proofs.Cases.{differ, either, none_is, not_yes, second_true}
 use Rattle.apd_mlme.proofs.CommandLemmas.{by_kick, by_edit, IsUnneeded, IsTooMany, new}
 use Rattle.apd_mlme.proofs.RowLemmas as leave
 use Rattle.apd_mlme.proofs.DropLemmas.{all_gone, all_leave, is_elsewhere, kept_row}
@@ -83,11 +43,11 @@ meant_is to a e (inl same) = same
 meant_is to a e (inr all) = one_station to e all
 
 module _ (s : State) (b : Bssid) (to : Addr) (reason : Reason) (tag : ℕ) where
-  all_answered : (t : Bool) → to ≡ BROADCAST → IsKicked s b to reason t tag (answered tag Done (all_kicked s b reason t))
+  all_answered : (t : Bool) → to ≡ BROADCAST → IsKicked s b to reason t tag (with_answer tag Done (kick_of_all s b reason t))
   all_answered t all = record {
     removed = associated s b (addresses_at s b);
-    told = told_by b (associated s b (addresses_at s b)) (flat_map (removal s b) (addresses_at s b)) (sent (farewell b BROADCAST reason t)) (text tag Done) (removals s b (addresses_at s b))
-        ∙ ap (λ a. list_map (lets_go b) (associated s b (addresses_at s b)) ++ sent (farewell b a reason t) ∷ text tag Done ∷ []) (sym all);
+    told = told_by b (associated s b (addresses_at s b)) (flat_map (removal s b) (addresses_at s b)) (reply_out (farewell b BROADCAST reason t)) (text tag Done) (removals s b (addresses_at s b))
+        ∙ ap (λ a. list_map (lets_go b) (associated s b (addresses_at s b)) ++ reply_out (farewell b a reason t) ∷ text tag Done ∷ []) (sym all);
     deauthenticated = λ _ a _. all_gone s b a;
     disassociated = λ a _. ap aid_of (all_gone s b a);
     everyone = λ _ a. all_gone s b a;
@@ -105,8 +65,8 @@ module _ (s : State) (b : Bssid) (to : Addr) (reason : Reason) (tag : ℕ) where
     of_meant P h a meant = subst P (meant_is to a one meant) h
 
     -- nothing but the frame leaves for a station that is not associated
-    only_told : (t : Bool) → aid_at s b to ≡ None → (t ≡ true → station_at s b to ≡ None) → (t ≡ false → station_at s b to ≡ only_authenticated (station_at s b to))
-        → IsKicked s b to reason t tag (answered tag Done (only_sent s (farewell b to reason t)))
+    only_told : (t : Bool) → aid_at s b to ≡ None → (t ≡ true → station_at s b to ≡ None) → (t ≡ false → station_at s b to ≡ remaining_row (station_at s b to))
+        → IsKicked s b to reason t tag (with_answer tag Done (only_reply s (farewell b to reason t)))
     only_told t none gone stays = record {
       removed = [];
       told = refl;
@@ -120,11 +80,11 @@ module _ (s : State) (b : Bssid) (to : Addr) (reason : Reason) (tag : ℕ) where
       cursors = refl;
     }
 
-    deauthenticated_answered : (o : Option Station) → station_at s b to ≡ o → IsKicked s b to reason true tag (answered tag Done (deauthenticated_of s b to reason o))
+    deauthenticated_answered : (o : Option Station) → station_at s b to ≡ o → IsKicked s b to reason true tag (with_answer tag Done (kick_by_deauthentication_of s b to reason o))
     deauthenticated_answered None at = only_told true (ap aid_of at) (λ _. at) (λ h. differ true h refl)
     deauthenticated_answered (Some row) at = record {
       removed = associated s b (to ∷ []);
-      told = told_by b (associated s b (to ∷ [])) (removal s b to) (sent (farewell b to reason true)) (text tag Done) (removal_is s b to);
+      told = told_by b (associated s b (to ∷ [])) (removal s b to) (reply_out (farewell b to reason true)) (text tag Done) (removal_is s b to);
       deauthenticated = λ _. of_meant (λ a. station_at (leave.out s b to) b a ≡ None) (leave.out_row s b to);
       disassociated = of_meant (λ a. aid_at (leave.out s b to) b a ≡ None) (ap aid_of (leave.out_row s b to));
       everyone = λ all. one_station to one all;
@@ -135,9 +95,9 @@ module _ (s : State) (b : Bssid) (to : Addr) (reason : Reason) (tag : ℕ) where
       cursors = refl;
     }
 
-    disassociated_answered : (o : Option Station) → station_at s b to ≡ o → IsKicked s b to reason false tag (answered tag Done (disassociated_of s b to reason o))
-    disassociated_answered None at = only_told false (ap aid_of at) (λ h. differ false refl h) (λ _. at ∙ ap only_authenticated (sym at))
-    disassociated_answered (Some Authenticated) at = only_told false (ap aid_of at) (λ h. differ false refl h) (λ _. at ∙ ap only_authenticated (sym at))
+    disassociated_answered : (o : Option Station) → station_at s b to ≡ o → IsKicked s b to reason false tag (with_answer tag Done (kick_by_disassociation_of s b to reason o))
+    disassociated_answered None at = only_told false (ap aid_of at) (λ h. differ false refl h) (λ _. at ∙ ap remaining_row (sym at))
+    disassociated_answered (Some Authenticated) at = only_told false (ap aid_of at) (λ h. differ false refl h) (λ _. at ∙ ap remaining_row (sym at))
     disassociated_answered (Some (Associated x)) at = record {
       removed = to ∷ [];
       told = refl;
@@ -153,7 +113,7 @@ module _ (s : State) (b : Bssid) (to : Addr) (reason : Reason) (tag : ℕ) where
 
   kick_done : (deauth : Bool) → IsKicked s b to reason deauth tag (kick_verdict s b to reason deauth tag)
   kick_done deauth =
-      by_kick s b to reason (λ t v. IsKicked s b to reason t tag (answered tag Done v)) all_answered
+      by_kick s b to reason (λ t v. IsKicked s b to reason t tag (with_answer tag Done v)) all_answered
       (λ e. deauthenticated_answered e (station_at s b to) refl) (λ e. disassociated_answered e (station_at s b to) refl) deauth
 
 -- ---- an edit of a list
@@ -206,15 +166,15 @@ module _ (s : State) (b : Bssid) (w : Which) where
   ]
 
   -- the edit was made
-  edited_answered : (edit : Edit) (tag : ℕ) (o : Option Policy) → policy_at s b ≡ o → IsSome o → IsEdited s b w edit (answered tag Done (edited_under s b w edit o))
+  edited_answered : (edit : Edit) (tag : ℕ) (o : Option Policy) → policy_at s b ≡ o → IsSome o → IsEdited s b w edit (with_answer tag Done (unanswered_edit_under s b w edit o))
   edited_answered edit tag None at known = cc
   edited_answered edit tag (Some p) at known =
       let now = new s b w edit in
       let change = change_of b w edit in
       record {
         list = on_after edit;
-        stations = λ d. enforced_here s b p change now.lists s.policies d ∙ ap (λ q. cond (allowed_under now b d q) (station_at s b d) None) (sym at);
-        told = λ d had gone. Contains-append_left (edited_under s b w edit (Some p)).outs (text tag Done ∷ []) (sent (deauthentication b d UNSPECIFIED)) (enforced_told s b p change now.lists s.policies d had gone);
+        stations = λ d. enforced_here s b p change now.lists s.policies d ∙ ap (λ q. cond (is_allowed_under now b d q) (station_at s b d) None) (sym at);
+        told = λ d had gone. Contains-append_left (unanswered_edit_under s b w edit (Some p)).outs (text tag Done ∷ []) (reply_out (deauthentication b d UNSPECIFIED)) (enforced_told s b p change now.lists s.policies d had gone);
         other_lists = other_list edit;
         other_stations = enforced_elsewhere s b p change now.lists s.policies;
         policies = refl;
@@ -231,7 +191,7 @@ module _ (s : State) (b : Bssid) (w : Which) where
   row_stays d None sound at = sym (either (allowed s b d) None)
   row_stays d (Some x) sound at = sym (ap (λ t. cond t (Some x) None) (sound.none_denied b d (ap is_some at)))
 
-  unneeded_answered : (edit : Edit) (tag : ℕ) → Sound s → IsUnneeded s b w edit → IsEdited s b w edit (answered tag Done (nothing s))
+  unneeded_answered : (edit : Edit) (tag : ℕ) → Sound s → IsUnneeded s b w edit → IsEdited s b w edit (with_answer tag Done (nothing s))
   unneeded_answered edit tag sound there = record {
     list = listed_already edit there;
     stations = λ d. row_stays d (station_at s b d) sound refl;
@@ -243,7 +203,7 @@ module _ (s : State) (b : Bssid) (w : Which) where
   }
 
   -- the list was full
-  full_answered : (edit : Edit) (tag : ℕ) → Sound s → IsTooMany s b w edit → IsFull s b w edit tag (answered tag Refused (nothing s))
+  full_answered : (edit : Edit) (tag : ℕ) → Sound s → IsTooMany s b w edit → IsFull s b w edit tag (with_answer tag Refused (nothing s))
   full_answered (Add a) tag sound many =
       let most = sound.few_listed b w in
       let least = leb-true 1024 (list_count s b w) many.1 in
@@ -255,7 +215,7 @@ module _ (s : State) (b : Bssid) (w : Which) where
 module _ (s : State) (confs : List Conf) (sound : Sound s) where
   kick_answered : (b : Bssid) (to : Addr) (reason : Reason) (deauth : Bool) (tag : ℕ) → IsSome (conf_at confs b) → IsAnsweredTo s (Kick b to reason deauth tag) (kick_verdict s b to reason deauth tag)
   kick_answered b to reason deauth tag there = (
-    record { before = (kicked s b to reason deauth).outs; last = refl; alone = radios_only confs (kicked s b to reason deauth).outs (shape_radios s confs (Kick b to reason deauth tag) _ (kicked_shape s confs b there to reason tag deauth)) },
+    record { before = (unanswered_kick s b to reason deauth).outs; last = refl; alone = radios_only confs (unanswered_kick s b to reason deauth).outs (shape_radios s confs (Kick b to reason deauth tag) _ (kicked_shape s confs b there to reason tag deauth)) },
     kick_done s b to reason tag deauth,
   )
 
@@ -265,7 +225,7 @@ module _ (s : State) (confs : List Conf) (sound : Sound s) where
       (λ none. inl (record { before = []; last = refl; alone = refl }, unneeded_answered s b w edit tag sound none))
       (λ many. inr (record { before = []; last = refl; alone = refl }, full_answered s b w edit tag sound many))
       (λ made. inl (
-        record { before = (edited s b w edit).outs; last = refl; alone = radios_only confs (edited s b w edit).outs (shape_radios s confs (ListEdit b w edit tag) _ (edited_shape s confs b there w tag edit made (policy_at s b) refl)) },
+        record { before = (unanswered_edit s b w edit).outs; last = refl; alone = radios_only confs (unanswered_edit s b w edit).outs (shape_radios s confs (ListEdit b w edit tag) _ (edited_shape s confs b there w tag edit made (policy_at s b) refl)) },
         edited_answered s b w edit tag (policy_at s b) refl known,
       ))
 
@@ -285,10 +245,10 @@ pub verdict_answered : (s : State) (confs : List Conf) (h : Happening) → IsFit
 verdict_answered s confs h fit sound = under_answered s confs sound h (conf_at confs (bssid_of h)) refl fit
 
 -- the frame of a command leaves, with its reason
-pub kick_tells : (s : State) (confs : List Conf) (b : Bssid) (to : Addr) (reason : Reason) (deauth : Bool) (tag : ℕ) (o : Option Conf) → IsSome o → Contains (verdict_under s confs o (Kick b to reason deauth tag)).outs (sent (farewell b to reason deauth))
+pub kick_tells : (s : State) (confs : List Conf) (b : Bssid) (to : Addr) (reason : Reason) (deauth : Bool) (tag : ℕ) (o : Option Conf) → IsSome o → Contains (verdict_under s confs o (Kick b to reason deauth tag)).outs (reply_out (farewell b to reason deauth))
 kick_tells s confs b to reason deauth tag None there = cc
 kick_tells s confs b to reason deauth tag (Some conf) there =
-    let frame = sent (farewell b to reason deauth) in
+    let frame = reply_out (farewell b to reason deauth) in
     let kicked_so = kick_done s b to reason tag deauth in
     subst (λ outs. Contains outs frame) (sym kicked_so.told)
     (Contains-append_right (list_map (lets_go b) kicked_so.removed) (frame ∷ text tag Done ∷ []) frame (Contains-append_left (frame ∷ []) (text tag Done ∷ []) frame (Contains-push [] frame)))

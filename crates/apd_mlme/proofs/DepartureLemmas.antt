@@ -1,19 +1,6 @@
 -- What is left of a station that leaves, or was silent for too long.
 use Rattle.std.proofs.Common.{◌≡◌, cond, [], ◌∷◌, ◌++◌, Option, Some, None, refl, sym, ap, ◌∙◌, IsSome}
-use Rattle.std.specs.Option.{is_some}
-use Rattle.apd_base.specs.declared.address.Addr.{Addr}
-use Rattle.apd_base.specs.declared.address.Bssid.{Bssid}
-use Rattle.apd_base.specs.declared.station.Station.{Station}
-use Rattle.apd_base.specs.declared.station.Station.TheVariants.{Authenticated, Associated}
-use Rattle.apd_base.specs.State.{State, station_at, aid_of, aid_at}
-use Rattle.apd_base.proofs.Cases.{none_is}
-use Rattle.apd_mlme.specs.declared.decision.Recipient.TheVariants.{Radio}
-use Rattle.apd_mlme.specs.declared.decision.Out.TheVariants.{Remove}
-use Rattle.apd_mlme.specs.laws.Association.{only_authenticated}
-use Rattle.apd_mlme.specs.laws.Departure.{IsAlone, IsDisassociated, IsDeauthenticated, IsSilenced}
-use Rattle.apd_mlme.specs.rules.Departure.{disassociation_of, deauthentication_of}
-use Rattle.apd_mlme.specs.rules.Inactivity.{inactivity_of}
-use Rattle.apd_mlme.specs.laws.ManagementFrame.{deauthentication_frame}
+use Rattle.apd_mlme.proofs.Words.{Addr, Associated, Authenticated, Bssid, IsAlone, IsDeauthenticated, IsDisassociated, IsSilenced, Radio, Remove, State, Station, aid_at, aid_of, deauthentication_frame, deauthentication_of, disassociation_of, inactivity_of, is_some, none_is, remaining_row, station_at}
 use Rattle.apd_mlme.proofs.RowLemmas.{other_row, back, back_other, back_row, out, out_row, out_station}
 
 module _ (s : State) (b : Bssid) (a : Addr) where
@@ -36,7 +23,7 @@ module _ (s : State) (b : Bssid) (a : Addr) where
   pub disassociated : (o : Option Station) → station_at s b a ≡ o → IsSome (station_at s b a) → IsDisassociated s b a (disassociation_of s b a o)
   disassociated None at known = unknown at known
   disassociated (Some Authenticated) at known = record {
-    row = at ∙ ap only_authenticated (sym at);
+    row = at ∙ ap remaining_row (sym at);
     associated = unassociated (ap aid_of at);
     authenticated = λ _. refl;
     alone = kept_alone;
@@ -71,7 +58,7 @@ module _ (s : State) (b : Bssid) (a : Addr) where
     alone = dropped_alone;
   }
   silenced (Some (Associated x)) at = record {
-    associated = λ _. (back_row s b a ∙ ap only_authenticated at, refl);
+    associated = λ _. (back_row s b a ∙ ap remaining_row at, refl);
     authenticated = λ is. unassociated (ap aid_of is) (ap (λ o. is_some (aid_of o)) at);
     unknown = λ none. unknown none (ap is_some at);
     alone = put_back_alone;

@@ -1,34 +1,9 @@
 -- What it leaves that several stations of a BSSID are dropped, one after the other.
 use Rattle.std.proofs.Common.{◌≡◌, Bool, true, false, cond, not, ◌&&◌, ◌||◌, List, [], ◌∷◌, Option, Some, None, inl, inr, refl, sym, ap, subst, ◌∙◌, IsSome}
 use Rattle.std.specs.List.{flat_map}
-use Rattle.std.specs.Option.{is_some}
-use Rattle.std.specs.Ordering.{eq_by_cmp}
-use Rattle.std.proofs.lemmas.Bool.{and_parts}
+use Rattle.apd_mlme.proofs.Words.{AclMode, Addr, Bssid, FinMap, Out, Radio, Reason, Recipient, Remove, State, Station, addr_cmp, addresses_at, aid_at, aid_of, among_addresses, among_denied, and_parts, bssid_cmp, bssid_exact, bssid_total, deauthentication, denials_by, denied_among, differ, drops, drops_station, either, eq_by_cmp, get-retain_keys, is_allowed_in, is_among, is_some, meaning_of, none_is, one_or_apart, other_way, outs_of_drop, removal, reply_out, same_map, station_at, station_cmp, station_exact, station_total, stays, tied}
 use Rattle.std.specs.FinMap as map
-use Rattle.std.specs.FinMap.{FinMap, get-retain_keys, same_map}
-use Rattle.apd_base.specs.declared.address.Addr.{Addr}
-use Rattle.apd_base.specs.declared.address.Bssid.{Bssid}
-use Rattle.apd_base.specs.declared.station.AclMode.{AclMode}
-use Rattle.apd_base.specs.declared.station.Station.{Station}
-use Rattle.apd_base.specs.Addr.{addr_cmp, bssid_cmp, station_cmp, is_among}
-use Rattle.apd_base.specs.State.{State, station_at, aid_of, aid_at}
-use Rattle.apd_base.proofs.AddrLemmas.{bssid_total, bssid_exact, station_total, station_exact, other_way}
-use Rattle.apd_base.proofs.MapLemmas.{one_or_apart, tied}
-use Rattle.apd_frame.specs.declared.codes.Reason.{Reason}
-use Rattle.apd_record.specs.Meaning.{meaning_of}
-use Rattle.apd_table.specs.Addresses.{addresses_at}
-use Rattle.apd_table.specs.Allowed.{allowed_in, denied_by}
-use Rattle.apd_table.proofs.AllRows.{among_addresses}
-use Rattle.apd_table.proofs.Denied.{drops, among_denied, denied_among, drops_station}
-use Rattle.apd_mlme.specs.declared.decision.Recipient.{Recipient}
-use Rattle.apd_mlme.specs.declared.decision.Recipient.TheVariants.{Radio}
-use Rattle.apd_mlme.specs.declared.decision.Out.{Out}
-use Rattle.apd_mlme.specs.declared.decision.Out.TheVariants.{Remove}
-use Rattle.apd_mlme.specs.rules.Configuration.{stays}
-use Rattle.apd_mlme.specs.rules.Leaving.{deauthentication, outs_of_drop, removal}
-use Rattle.apd_mlme.specs.Outs.{sent}
 use Rattle.apd_mlme.proofs.RowLemmas.{aid_cond, is_row, left_by, left_by-append, left_by_removal}
-use Rattle.apd_base.proofs.Cases.{differ, either, none_is}
 
 none_more : (t u : Bool) → t ≡ (t || (u && false))
 none_more true u = refl
@@ -54,7 +29,7 @@ module _ (s : State) (b : Bssid) where
   removal_lets_go a c d true = elim (is_some (aid_at s b a)) as (λ u. left_by c d (cond u ((Radio b, Remove a) ∷ []) []) None ≡ None) [ true ↦ either (is_row b a c d) None | false ↦ refl ]
 
   pub drop_lets_go : (reason : Reason) → LetsGo (λ a. outs_of_drop s b a reason)
-  drop_lets_go reason a c d t = left_by-append c d (removal s b a) (sent (deauthentication b a reason) ∷ []) (cond t None (aid_at s c d)) ∙ removal_lets_go a c d t
+  drop_lets_go reason a c d t = left_by-append c d (removal s b a) (reply_out (deauthentication b a reason) ∷ []) (cond t None (aid_at s c d)) ∙ removal_lets_go a c d t
 
   -- those of several stations take all of them out
   all_let_go : (outs_of : Addr → List (Recipient × Out)) → LetsGo outs_of → (as' : List Addr) (c : Bssid) (d : Addr) (t : Bool) →
@@ -111,10 +86,10 @@ module _ (s : State) (b : Bssid) where
   -- ---- those that a mode denies
   module _ (mode : AclMode) where
     abbrev denied : List Addr
-    denied = denied_by s b mode
+    denied = denials_by s b mode
 
     -- at the BSSID: what is among the denied is gone, and so is what doesn't stay
-    denied_here : (d : Addr) (o : Option Station) → station_at s b d ≡ o → (t : Bool) → allowed_in s b d mode ≡ t → cond (is_among d denied) None o ≡ cond t o None
+    denied_here : (d : Addr) (o : Option Station) → station_at s b d ≡ o → (t : Bool) → is_allowed_in s b d mode ≡ t → cond (is_among d denied) None o ≡ cond t o None
     denied_here d o e true allowed =
         elim (is_among d denied) as (λ m. is_among d denied ≡ m → cond m None o ≡ o) [
           | true ↦ λ among. differ _ (denied_among s b mode d among).1 allowed
@@ -125,8 +100,8 @@ module _ (s : State) (b : Bssid) where
 
     pub denied_leave : Leave (stays s b mode) denied
     denied_leave =
-        leave_there (stays s b mode) denied (λ c d e. ap (λ t. not t || allowed_in s b d mode) e)
-        (λ d. denied_here d (station_at s b d) refl (allowed_in s b d mode) refl ∙ ap (λ t. cond (not t || allowed_in s b d mode) (station_at s b d) None) (sym (tied bssid_total bssid_exact b)))
+        leave_there (stays s b mode) denied (λ c d e. ap (λ t. not t || is_allowed_in s b d mode) e)
+        (λ d. denied_here d (station_at s b d) refl (is_allowed_in s b d mode) refl ∙ ap (λ t. cond (not t || is_allowed_in s b d mode) (station_at s b d) None) (sym (tied bssid_total bssid_exact b)))
 
   -- ---- all of them
   all_here : (d : Addr) (o : Option Station) → station_at s b d ≡ o → cond (is_among d (addresses_at s b)) None o ≡ None

@@ -1,33 +1,10 @@
 -- What becomes of a station that is associated at other BSSIDs, as it associates here.
 use Rattle.std.proofs.Common.{◌≡◌, ℕ, Bool, true, false, cond, not, ◌&&◌, ◌||◌, List, [], ◌∷◌, ◌++◌, Option, Some, None, refl, sym, ap, subst, ◌∙◌, IsSome}
 use Rattle.std.specs.Prelude.{filter}
-use Rattle.std.specs.List.{flat_map, list_any}
-use Rattle.std.specs.Option.{is_some}
-use Rattle.std.specs.Ordering.{eq_by_cmp}
+use Rattle.apd_mlme.proofs.Words.{Addr, Authenticated, Bssid, Change, Conf, Out, Recipient, Sound, State, Station, StaySound, UNSPECIFIED, addr_cmp, aid_at, and_parts, any-filter_same, bssid_cmp, bssid_exact, bssid_total, bssids_elsewhere, conf_at, contains_key-keys, eq_by_cmp, is_some, list_any, meaning_of, outs_elsewhere, outs_of_end, policy_at, put_backs, put_station, same_addr, same_bssid, second_true, station_at, tied, with_put_backs}
+use Rattle.std.specs.List.{flat_map}
 use Rattle.std.specs.FinMap as map
-use Rattle.std.specs.FinMap.{contains_key-keys}
-use Rattle.std.proofs.lemmas.Bool.{and_parts}
-use Rattle.std.proofs.lemmas.Map.Views.{any-filter_same}
-use Rattle.apd_base.specs.declared.address.Addr.{Addr}
-use Rattle.apd_base.specs.declared.address.Bssid.{Bssid}
-use Rattle.apd_base.specs.declared.station.Station.{Station}
-use Rattle.apd_base.specs.declared.station.Station.TheVariants.{Authenticated}
-use Rattle.apd_base.specs.Addr.{addr_cmp, bssid_cmp}
-use Rattle.apd_base.specs.State.{State, station_at, policy_at, aid_at}
-use Rattle.apd_base.proofs.AddrLemmas.{bssid_total, bssid_exact, same_addr, same_bssid}
-use Rattle.apd_base.proofs.MapLemmas.{tied}
-use Rattle.apd_conf.specs.declared.conf.Conf.{Conf}
-use Rattle.apd_conf.specs.Confs.{conf_at}
-use Rattle.apd_frame.specs.declared.codes.TheConstants.Reason.{UNSPECIFIED}
-use Rattle.apd_record.specs.declared.change.Change.{Change}
-use Rattle.apd_record.specs.Meaning.{put_station, meaning_of}
-use Rattle.apd_table.specs.Sound.{Sound, StaySound}
-use Rattle.apd_mlme.specs.declared.decision.Recipient.{Recipient}
-use Rattle.apd_mlme.specs.declared.decision.Out.{Out}
-use Rattle.apd_mlme.specs.rules.Association.{elsewhere, with_authenticated, put_backs, outs_elsewhere}
-use Rattle.apd_mlme.specs.rules.Leaving.{outs_of_end}
 use Rattle.apd_mlme.proofs.RowLemmas.{is_row, station_put, left_by, authenticated_is, sound_put_back}
-use Rattle.apd_base.proofs.Cases.{second_true}
 
 -- whether a BSSID is among some
 abbrev pub is_bssid_among : Bssid → List Bssid → Bool
@@ -37,7 +14,7 @@ is_bssid_among c bssids = list_any (eq_by_cmp bssid_cmp c) bssids
 pub among-filter : (p : Bssid → Bool) (c : Bssid) (bssids : List Bssid) → is_bssid_among c (filter p bssids) ≡ (p c && is_bssid_among c bssids)
 among-filter p c bssids = any-filter_same (eq_by_cmp bssid_cmp c) p (p c) (λ x e. ap p (sym (same_bssid x c e))) bssids
 
-pub among_elsewhere : (s : State) (b : Bssid) (a : Addr) (c : Bssid) → is_bssid_among c (elsewhere s b a) ≡ ((not (eq_by_cmp bssid_cmp b c) && is_some (aid_at s c a)) && is_some (policy_at s c))
+pub among_elsewhere : (s : State) (b : Bssid) (a : Addr) (c : Bssid) → is_bssid_among c (bssids_elsewhere s b a) ≡ ((not (eq_by_cmp bssid_cmp b c) && is_some (aid_at s c a)) && is_some (policy_at s c))
 among_elsewhere s b a c =
     among-filter (λ x. not (eq_by_cmp bssid_cmp b x) && is_some (aid_at s x a)) c (map.keys s.policies)
     ∙ ap (λ t. (not (eq_by_cmp bssid_cmp b c) && is_some (aid_at s c a)) && t) (sym (contains_key-keys s.policies c))
@@ -67,7 +44,7 @@ abbrev pub HasRows : State → Addr → List Bssid → Type 0
 HasRows s a bssids = (c : Bssid) → is_bssid_among c bssids ≡ true → IsSome (station_at s c a)
 
 -- with one at each of them it says authenticated there, and nothing else changes
-pub put_backs_meaning : (a : Addr) (bssids : List Bssid) (s : State) → HasRows s a bssids → meaning_of (put_backs a bssids) s ≡ record s { stations = with_authenticated a bssids s.stations }
+pub put_backs_meaning : (a : Addr) (bssids : List Bssid) (s : State) → HasRows s a bssids → meaning_of (put_backs a bssids) s ≡ record s { stations = with_put_backs a bssids s.stations }
 put_backs_meaning a bssids s rows =
     put_backs_rest a bssids s
     ∙ ap (λ k. record s { stations = k }) (authenticated_is (λ key. is_bssid_among key.0 bssids && eq_by_cmp addr_cmp key.1 a) s.stations (meaning_of (put_backs a bssids) s).stations (λ q. put_backs_station a bssids s q.0 q.1)

@@ -1,27 +1,7 @@
 -- What a change of the lists or of the policy of a BSSID leaves, and the drops before it of whom a mode denies then.
 use Rattle.std.proofs.Common.{◌≡◌, ◌≢◌, Bool, true, false, cond, not, ◌&&◌, ◌||◌, List, [], ◌∷◌, Option, Some, None, refl, sym, ap, subst, ◌∙◌, IsSome}
-use Rattle.std.specs.Ordering.{eq_by_cmp}
+use Rattle.apd_mlme.proofs.Words.{Addr, Bssid, Change, FinMap, NoneDeniedAfter, Policy, SetOf, Sound, State, Station, StaySound, UNSPECIFIED, Verdict, aid_at, allowed, apart, bssid_cmp, bssid_exact, bssid_total, denials_by, drops, drops_rest, drops_sound, drops_stay, enforcement, eq_by_cmp, is_allowed_in, is_allowed_under, is_among, list_cmp, meaning, meaning_of, meaning_of-append, other_way, outs_of_drop, station_at, station_cmp, stays, tied}
 use Rattle.std.specs.FinMap as map
-use Rattle.std.specs.FinMap.{FinMap}
-use Rattle.apd_base.specs.declared.address.Addr.{Addr}
-use Rattle.apd_base.specs.declared.address.Bssid.{Bssid}
-use Rattle.apd_base.specs.declared.station.Policy.{Policy}
-use Rattle.apd_base.specs.declared.station.Station.{Station}
-use Rattle.apd_base.specs.Addr.{bssid_cmp, station_cmp, is_among}
-use Rattle.apd_base.specs.Sets.{SetOf}
-use Rattle.apd_base.specs.State.{State, list_cmp, station_at, aid_at}
-use Rattle.apd_base.proofs.AddrLemmas.{bssid_total, bssid_exact, other_way}
-use Rattle.apd_base.proofs.MapLemmas.{apart, tied}
-use Rattle.apd_frame.specs.declared.codes.TheConstants.Reason.{UNSPECIFIED}
-use Rattle.apd_record.specs.Meaning.{meaning, meaning_of}
-use Rattle.apd_record.specs.declared.change.Change.{Change}
-use Rattle.apd_table.specs.Allowed.{allowed, allowed_in, allowed_under, denied_by}
-use Rattle.apd_table.specs.Can.{NoneDeniedAfter}
-use Rattle.apd_table.specs.Sound.{Sound, StaySound}
-use Rattle.apd_table.proofs.Denied.{drops, meaning_of-append, drops_rest, drops_sound, drops_stay}
-use Rattle.apd_mlme.specs.rules.Configuration.{enforced, stays}
-use Rattle.apd_mlme.specs.rules.Leaving.{outs_of_drop}
-use Rattle.apd_mlme.specs.Verdict.{Verdict}
 use Rattle.apd_mlme.proofs.DropLemmas.{drop_lets_go, kept_row, kept_stations, kept_aid, kept_driver, dropped_gone, gone_among, denied_leave, Leave}
 use Rattle.apd_mlme.proofs.RowLemmas.{Follows}
 
@@ -35,7 +15,7 @@ module _ (s : State) (b : Bssid) (p : Policy) (change : Change) (l : SetOf list_
   new = record s { lists = l; policies = q }
 
   abbrev pub denied : List Addr
-  denied = denied_by new b p.mode
+  denied = denials_by new b p.mode
 
   abbrev stay : Bssid × Addr → Bool
   stay = stays new b p.mode
@@ -44,15 +24,15 @@ module _ (s : State) (b : Bssid) (p : Policy) (change : Change) (l : SetOf list_
   leave = denied_leave new b p.mode
 
   abbrev pub v : Verdict
-  v = enforced s b p.mode change new
+  v = enforcement s b p.mode change new
 
   -- the rows and the identifiers after it
-  pub enforced_here : (d : Addr) → station_at v.state b d ≡ cond (allowed_in new b d p.mode) (station_at s b d) None
-  enforced_here d = kept_row s b stay denied leave b d ∙ ap (λ t. cond (not t || allowed_in new b d p.mode) (station_at s b d) None) (tied bssid_total bssid_exact b)
+  pub enforced_here : (d : Addr) → station_at v.state b d ≡ cond (is_allowed_in new b d p.mode) (station_at s b d) None
+  enforced_here d = kept_row s b stay denied leave b d ∙ ap (λ t. cond (not t || is_allowed_in new b d p.mode) (station_at s b d) None) (tied bssid_total bssid_exact b)
 
   pub enforced_elsewhere : (c : Bssid) → c ≢ b → (d : Addr) → station_at v.state c d ≡ station_at s c d
   enforced_elsewhere c ne d =
-      kept_row s b stay denied leave c d ∙ ap (λ t. cond (not t || allowed_in new b d p.mode) (station_at s c d) None) (other_way b c (apart bssid_total bssid_exact c b ne))
+      kept_row s b stay denied leave c d ∙ ap (λ t. cond (not t || is_allowed_in new b d p.mode) (station_at s c d) None) (other_way b c (apart bssid_total bssid_exact c b ne))
 
   pub enforced_aid : (c : Bssid) (d : Addr) → aid_at v.state c d ≡ cond (eq_by_cmp bssid_cmp c b && is_among d denied) None (aid_at s c d)
   enforced_aid = kept_aid s b stay denied leave
@@ -84,7 +64,7 @@ module _ (s : State) (b : Bssid) (p : Policy) (change : Change) (l : SetOf list_
   -- nobody is denied then
   none_left : Makes → map.get q b ≡ Some p → NoneDeniedAfter rest b change
   none_left makes here d h =
-      ap (λ t. allowed t b d) (makes (map.retain_keys s.stations stay)) ∙ ap (allowed_under new b d) here ∙ cond_true _ (station_at s b d) (subst IsSome (enforced_here d) h)
+      ap (λ t. allowed t b d) (makes (map.retain_keys s.stations stay)) ∙ ap (is_allowed_under new b d) here ∙ cond_true _ (station_at s b d) (subst IsSome (enforced_here d) h)
 
   pub enforced_sound : Makes → map.get q b ≡ Some p → (Sound rest → NoneDeniedAfter rest b change → Sound (meaning change rest)) → Sound s → StaySound v.changes s
   enforced_sound makes here may sound =

@@ -1,56 +1,10 @@
 -- Which frames leave: those that tell of an end, and one more at most.
 use Rattle.std.proofs.Common.{◌≡◌, ℕ, Bool, true, false, cond, ◌&&◌, List, [], ◌∷◌, ◌++◌, Option, Some, None, ◌↔◌, ◌⊎◌, ◌≢◌, inl, inr, refl, sym, ap, subst, ◌∙◌, IsSome, append-nil, arith}
 use Rattle.std.specs.Prelude.{map as list_map}
-use Rattle.std.specs.List.{Contains, flat_map}
-use Rattle.std.specs.Option.{is_some, option_map}
-use Rattle.std.specs.FinMap.{FinMap}
-use Rattle.std.specs.Ordering.{eq_by_cmp}
-use Rattle.std.specs.Cmp.{eq_by_cmp_equiv}
-use Rattle.std.proofs.lemmas.Bool.{and_parts}
-use Rattle.std.proofs.lemmas.List.Elements.{Contains-push}
-use Rattle.std.proofs.lemmas.Map.Views.{Contains-from_any, list_any-from_Contains}
-use Rattle.apd_base.specs.declared.address.Addr.{Addr}
-use Rattle.apd_base.specs.declared.address.Bssid.{Bssid}
-use Rattle.apd_base.specs.declared.address.TheConstants.{BROADCAST}
-use Rattle.apd_base.specs.declared.station.Aid.{Aid}
-use Rattle.apd_base.specs.declared.station.Station.{Station}
-use Rattle.apd_base.specs.declared.station.Station.TheVariants.{Authenticated}
-use Rattle.apd_base.specs.Addr.{addr_cmp, bssid_cmp}
+use Rattle.apd_mlme.proofs.Words.{Addr, Aid, Answer, AreFramesDue, AreNotices, AssociationRequest, Authenticated, Authentication, BROADCAST, Bssid, Change, Conf, Contains, Contains-from_any, Contains-push, FinMap, Frame, Happening, HasLeft, HasLost, IsToAll, Kind, Names, Out, Remove, Reply, Rise, SetOf, Sound, State, Station, Success, UNSPECIFIED, Verdict, addr_cmp, addr_exact, addr_total, addresses_at, aid_at, aid_of, and_parts, association_response, auth_response, auth_status, bssid_cmp, bssid_exact, bssid_total, bssids_elsewhere, conf_at, deauthentication, denied_among, differ, disassociation, eq_by_cmp, eq_by_cmp_equiv, farewell, frames, identifier_for, is_admitted, is_some, list_any-from_Contains, list_cmp, no_value, none_is, none_is_some, one_or_apart, option_map, outs_of_drop, put_station, row_of, same_addr, same_bssid, station_at, station_of_aid, tied, verdict, wire, with_answer}
+use Rattle.std.specs.List.{flat_map}
 use Rattle.apd_base.specs.declared.station.Policy.{Policy as BssPolicy}
-use Rattle.apd_base.specs.Sets.{SetOf}
-use Rattle.apd_base.specs.State.{State, list_cmp, station_at, aid_of, aid_at}
-use Rattle.apd_base.proofs.AddrLemmas.{addr_total, addr_exact, bssid_total, bssid_exact, same_addr, same_bssid}
-use Rattle.apd_base.proofs.Cases.{differ, no_value, none_is, none_is_some}
-use Rattle.apd_base.proofs.MapLemmas.{one_or_apart, tied}
-use Rattle.apd_base.proofs.StateLemmas.{station_of_aid}
-use Rattle.apd_conf.specs.declared.conf.Conf.{Conf}
-use Rattle.apd_conf.specs.Confs.{conf_at}
-use Rattle.apd_frame.specs.Contents.{AssociationRequest}
-use Rattle.apd_frame.specs.Wire.{wire}
-use Rattle.apd_frame.specs.declared.codes.Status.TheVariants.{Success}
-use Rattle.apd_frame.specs.declared.codes.TheConstants.Reason.{UNSPECIFIED}
-use Rattle.apd_frame.specs.declared.replies.Reply.{Reply}
-use Rattle.apd_frame.specs.declared.received.Authentication.{Authentication}
-use Rattle.apd_record.specs.declared.change.Change.{Change}
-use Rattle.apd_record.specs.Meaning.{put_station}
-use Rattle.apd_table.specs.Addresses.{addresses_at}
-use Rattle.apd_table.specs.Sound.{Sound}
-use Rattle.apd_table.proofs.Denied.{denied_among}
-use Rattle.apd_mlme.specs.declared.association.Kind.{Kind}
-use Rattle.apd_mlme.specs.declared.command_answer.Answer.{Answer}
-use Rattle.apd_mlme.specs.declared.decision.Out.{Out}
-use Rattle.apd_mlme.specs.declared.decision.Out.TheVariants.{Remove, Frame}
-use Rattle.apd_mlme.specs.Happening.{Happening}
-use Rattle.apd_mlme.specs.rules.{verdict}
 use Rattle.apd_mlme.specs.rules.Association as rule
-use Rattle.apd_mlme.specs.rules.Association.{association_response, elsewhere, row_of}
-use Rattle.apd_mlme.specs.rules.Authentication.{auth_response, auth_status, is_admitted}
-use Rattle.apd_mlme.specs.rules.Commands.{answered, farewell}
-use Rattle.apd_mlme.specs.rules.Identifiers.{identifier_for}
-use Rattle.apd_mlme.specs.rules.Leaving.{deauthentication, disassociation, outs_of_drop}
-use Rattle.apd_mlme.specs.Verdict.{Verdict}
-use Rattle.apd_mlme.specs.laws.AssociationEnd.{HasLeft}
-use Rattle.apd_mlme.specs.laws.NothingElse.{AreFramesDue, AreNotices, HasLost, IsToAll, Names, Rise, frames}
 use Rattle.apd_mlme.proofs.AssociationLemmas.{cleared, cleared_here, cleared_station, associated_station}
 use Rattle.apd_mlme.proofs.AssociationResponseLemmas.{at_again, at_anew}
 use Rattle.apd_mlme.proofs.AuthenticationLemmas.{admitted_aid}
@@ -199,13 +153,13 @@ module _ (s : State) (confs : List Conf) (conf : Conf) (b : Bssid) (kind : Kind)
   a = request.sender
 
   abbrev v : Verdict
-  v = rule.associated s confs conf b kind request aid
+  v = rule.acceptance s confs conf b kind request aid
 
   nobody_left : IsOthers h
   nobody_left = (λ x d own. asked.3 d (subst (λ y. HasLeft y x d) asked.1 own).1, λ all. subst IsToAll asked.1 all)
 
   abbrev among : Bool
-  among = is_bssid_among c (elsewhere s b a)
+  among = is_bssid_among c (bssids_elsewhere s b a)
 
   -- at another radio
   module _ (other : eq_by_cmp bssid_cmp c b ≡ false) where
@@ -337,7 +291,7 @@ module _ (s : State) (confs : List Conf) (sound : Sound s) (c : Bssid) (configur
   shape_due h w (shape.enforced b p change l q there makes keep short others needed) = enforced_due s h b p change l q others c
   shape_due h v (shape.started conf b accept deny is first) = none_due s h c v refl (λ d lost. absurd (same_lost s v.state c d refl lost))
 
-  answered_due : (h : Happening) (tag : ℕ) (answer : Answer) (v : Verdict) → AreFramesDue s h c v → AreFramesDue s h c (answered tag answer v)
+  answered_due : (h : Happening) (tag : ℕ) (answer : Answer) (v : Verdict) → AreFramesDue s h c v → AreFramesDue s h c (with_answer tag answer v)
   answered_due h tag answer v due = record {
     told = due.told;
     notices = due.notices;

@@ -1,33 +1,15 @@
 -- The next identifier, and why there is always one for a station that is authenticated and not associated.
 use Rattle.std.proofs.Common.{◌≡◌, ◌≢◌, eq-eqb, ℕ, zero, suc, ◌-◌, ◌<◌, ◌≤◌, true, false, cond, not, ◌&&◌, Option, Some, None, inl, inr, refl, sym, ap, subst, ◌∙◌, IsSome, IfNone, arith, ◌⊎◌}
-use Rattle.std.specs.Option.{is_some, option_or}
+use Rattle.apd_mlme.proofs.Words.{Addr, Aid, AreTakenAbove, Associated, Authenticated, Bssid, FinMap, IsLeastFreeAbove, IsNextFree, IsTaken, Sound, State, Station, addresses_at, aid_at, aid_of, any_address, apart, at_least_one, at_most_all, bssid_cmp, bssid_exact, bssid_total, differ, eq_by_cmp, eqb-true, get-retain_keys, get_remove_other, identifier_for, is_number, is_some, is_taken, last_given, len-remove, ltb-false, ltb-true, next_free, none_is, one_less, one_or_apart, option_or, same_aid, same_some, station_at, station_cmp, station_exact, station_of_aid, station_total, stations_of, tied}
 use Rattle.std.specs.Prelude.{nat_lt}
-use Rattle.std.specs.Ordering.{eq_by_cmp}
 use Rattle.std.specs.FinMap as map
 use Rattle.std.proofs.Math.Nat.{eq-or-lt_of_le}
-use Rattle.std.specs.FinMap.{FinMap, len-remove, get-retain_keys}
-use Rattle.apd_base.specs.declared.address.Addr.{Addr}
-use Rattle.apd_base.specs.declared.address.Bssid.{Bssid}
 use Rattle.apd_base.specs.declared.limits.TheConstants.{MAX_STATIONS}
-use Rattle.apd_base.specs.declared.station.Aid.{Aid}
-use Rattle.apd_base.specs.declared.station.Station.{Station}
-use Rattle.apd_base.specs.declared.station.Station.TheVariants.{Authenticated, Associated}
-use Rattle.apd_base.specs.Addr.{bssid_cmp, station_cmp}
-use Rattle.apd_base.specs.State.{State, station_at, aid_of, aid_at, stations_of}
-use Rattle.apd_base.proofs.AddrLemmas.{bssid_total, bssid_exact, station_total, station_exact}
-use Rattle.apd_base.proofs.MapLemmas.{one_or_apart, apart, tied, get_remove_other}
-use Rattle.apd_base.proofs.StationLemmas.{same_aid}
-use Rattle.apd_table.specs.LeastFree.{AreTakenAbove, IsTaken, IsLeastFreeAbove, IsNextFree, last_given}
-use Rattle.apd_table.specs.Sound.{Sound}
-use Rattle.apd_table.specs.Addresses.{addresses_at}
-use Rattle.apd_table.proofs.AllRows.{any_address}
 use Rattle.apd_table.proofs.NextFree.{next_is_free, one_next}
 use Rattle.apd_table.proofs.Parts.{has_one}
-use Rattle.apd_mlme.specs.rules.Identifiers.{is_number, is_taken, least_free_to, least_free_above, next_free, identifier_for, one_less, at_least_one, at_most_all}
-use Rattle.apd_base.proofs.Cases.{differ, none_is, same_some, value_of}
-use Rattle.std.proofs.lemmas.Bool.{eqb-true, ltb-true, ltb-false}
+use Rattle.apd_mlme.specs.rules.Identifiers.{least_free_to, least_free_above}
+use Rattle.apd_base.proofs.Cases.{value_of}
 use Rattle.std.proofs.lemmas.List.Folds.{Any-from_list_any}
-use Rattle.apd_base.proofs.StateLemmas.{station_of_aid}
 
 number_is : (n : ℕ) (o : Option ℕ) → is_number n o ≡ true → o ≡ Some n
 number_is n None e = cc

@@ -27,3 +27,4 @@ mod TakenInLemmas
 pub mod TrueOutsLemmas
 mod TurnLemmas
 pub mod VerdictLemmas
+mod Words

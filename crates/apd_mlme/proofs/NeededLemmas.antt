@@ -1,44 +1,10 @@
 -- Each change that an event makes is one that the state did not have, but for those that are always made.
 use Rattle.std.proofs.Common.{◌≡◌, ◌≢◌, true, false, cond, ◌&&◌, ◌||◌, List, [], ◌∷◌, ◌++◌, Some, None, ◌⊎◌, inl, inr, refl, sym, ap, subst, ◌∙◌, IsSome}
-use Rattle.std.specs.Option.{is_some}
-use Rattle.std.specs.Ordering.{eq_by_cmp}
+use Rattle.apd_mlme.proofs.Words.{Accept, Addr, Aid, AreNeeded, Associates, AssociationRequest, Authenticated, Bssid, Change, Conf, Configure, Cursor, Deny, Drop, Happening, Heard, IsAlwaysMade, IsFit, IsList, Kind, ListAdd, Put, Sound, State, Station, Verdict, Which, additions, addr_cmp, addr_exact, addr_total, addresses_at, aid_at, aid_of, and_parts, any_mapped, any_passes, bssid_cmp, bssids_elsewhere, contains, contains-insert, cursor_changes, denied_among, differ, drop_station, drops, drops_rest, eq_by_cmp, false_from_ne_true, first_changes, first_false, get_inserted, is_among, is_some, list_exact, list_total, meaning, meaning_of, no_value, none_is, not_yes, policy_at, policy_of, put_backs, put_station, row_of, same_addr, same_bssid, same_row, second_false, second_true, sender_of, set_policy, station_at, station_exact, station_total, tied, verdict, which_cmp}
 use Rattle.std.specs.FinMap as map
-use Rattle.std.proofs.lemmas.Bool.{and_parts, false_from_ne_true}
-use Rattle.apd_base.specs.declared.address.Addr.{Addr}
-use Rattle.apd_base.specs.declared.address.Bssid.{Bssid}
-use Rattle.apd_base.specs.declared.station.Aid.{Aid}
-use Rattle.apd_base.specs.declared.station.Station.{Station}
-use Rattle.apd_base.specs.declared.station.Station.TheVariants.{Authenticated}
-use Rattle.apd_base.specs.declared.station.Which.{Which}
-use Rattle.apd_base.specs.declared.station.Which.TheVariants.{Accept, Deny}
-use Rattle.apd_base.specs.Addr.{addr_cmp, bssid_cmp, is_among}
-use Rattle.apd_base.specs.Sets.{contains}
-use Rattle.apd_base.specs.State.{State, station_at, policy_at, aid_of, aid_at, which_cmp}
-use Rattle.apd_base.proofs.AddrLemmas.{addr_total, addr_exact}
-use Rattle.apd_base.proofs.Cases.{differ, no_value, none_is, not_yes, second_true}
-use Rattle.apd_base.proofs.MapLemmas.{get_inserted, tied}
-use Rattle.apd_base.proofs.StateLemmas.{list_total, list_exact}
-use Rattle.apd_conf.specs.declared.conf.Conf.{Conf}
-use Rattle.apd_conf.specs.Conf.{policy_of}
-use Rattle.apd_conf.specs.ListFile.{IsList}
-use Rattle.apd_frame.specs.Contents.{AssociationRequest, sender_of}
-use Rattle.apd_record.specs.Meaning.{meaning, meaning_of, put_station, drop_station, set_policy}
-use Rattle.apd_record.specs.declared.change.Change.{Change}
-use Rattle.apd_record.specs.declared.change.Change.TheVariants.{Put, Drop, ListAdd, Cursor}
-use Rattle.apd_table.specs.Addresses.{addresses_at}
-use Rattle.apd_table.specs.Sound.{Sound}
-use Rattle.apd_table.proofs.ListSets.{contains-insert, same_row}
-use Rattle.apd_table.proofs.Denied.{denied_among, drops, drops_rest}
-use Rattle.apd_mlme.specs.declared.association.Kind.{Kind}
-use Rattle.apd_mlme.specs.Happening.{Happening, Heard, Configure}
-use Rattle.apd_mlme.specs.rules.{verdict, IsFit}
 use Rattle.apd_mlme.specs.rules.Association as rule
-use Rattle.apd_mlme.specs.rules.Association.{elsewhere, put_backs, row_of}
-use Rattle.apd_mlme.specs.rules.Configuration.{additions, first_changes}
-use Rattle.apd_mlme.specs.rules.Identifiers.{cursor_changes, number_of}
-use Rattle.apd_mlme.specs.Verdict.{Verdict}
+use Rattle.apd_mlme.specs.rules.Identifiers.{number_of}
 use Rattle.apd_mlme.specs.laws.NothingElse as always
-use Rattle.apd_mlme.specs.laws.NothingElse.{AreNeeded, Associates, IsAlwaysMade}
 use Rattle.apd_mlme.proofs.ElsewhereLemmas.{is_bssid_among, among_elsewhere, first_among}
 use Rattle.apd_mlme.proofs.EnforcementLemmas.{denied, new}
 use Rattle.apd_mlme.proofs.RisingLemmas.{Apart, Differ, addresses_rise, apart-filter, denied_rise, keys_apart, rise_differ}
@@ -46,11 +12,7 @@ use Rattle.apd_mlme.proofs.RowLemmas.{is_row, put_row, station_dropped, station_
 use Rattle.apd_mlme.proofs.StartLemmas.{additions_meaning, listed, unlisted}
 use Rattle.apd_mlme.proofs.Shapes as shape
 use Rattle.apd_mlme.proofs.Shapes.{IsAsked, Shape, by_shape}
-use Rattle.apd_base.proofs.AddrLemmas.{same_addr, same_bssid, station_total, station_exact}
-use Rattle.apd_base.proofs.MapLemmas.{any_passes}
-use Rattle.apd_table.proofs.Denied.{any_mapped}
 use Rattle.apd_table.specs.Rows as rows
-use Rattle.apd_base.proofs.Cases.{first_false, second_false}
 
 -- an address of a BSSID's rows has one
 address_has_row : (s : State) (b : Bssid) (d : Addr) → is_among d (addresses_at s b) ≡ true → IsSome (station_at s b d)
@@ -141,9 +103,9 @@ module _ (h : Happening) (s : State) (confs : List Conf) (conf : Conf) (b : Bssi
             (inl (subst (λ x. IsAlwaysMade s confs x (Cursor b (number_of aid))) (sym asked.1) (always.given b asked.0 (number_of aid) accepted new)), tt)
       ] refl
 
-  associated_needed : AreNeeded Made (rule.associated s confs conf b kind request aid).changes s
+  associated_needed : AreNeeded Made (rule.acceptance s confs conf b kind request aid).changes s
   associated_needed =
-      let others = elsewhere s b a in
+      let others = bssids_elsewhere s b a in
       needed-append Made (put_backs a others) (Put b a (row_of request aid) ∷ cursor_changes s b a aid) s
       (put_backs_needed Made a others (apart-filter (rule.is_elsewhere s b a) (map.keys s.policies) (keys_apart s.policies)) s (λ c among. (and_parts _ _ (and_parts _ _ (sym (among_elsewhere s b a c) ∙ among)).0).1))
       (inl row_made, given_made _)

@@ -1,48 +1,14 @@
 -- How many bytes the records of a verdict have.
 use Rattle.std.proofs.Common.{◌≡◌, arith, ◌*◌, ◌≤◌, Bool, true, false, cond, ◌&&◌, not, List, [], ◌∷◌, ◌++◌, Result, Ok, Err, IfOk, length, subst}
-use Rattle.std.specs.Option.{is_some}
-use Rattle.std.specs.Ordering.{eq_by_cmp}
+use Rattle.apd_mlme.proofs.Words.{Accept, Addr, Aid, AreChanges, AssociationRequest, Authenticated, Bssid, Change, Conf, Cursor, Decision, Deny, Drop, FinMap, Happening, IsChange, IsFit, IsList, Kind, ListAdd, Put, Reason, SetOf, Sound, State, Station, Verdict, Which, additions, addresses_at, addresses_few, aid_at, bssid_cmp, bssids_elsewhere, cursor_changes, cursor_length, denied_few, drops, each_length, eq_by_cmp, first_changes, fronts, is_some, kick_of_all, length-append, length-map, list_cmp, list_length, policy_length, policy_of, put_backs, put_length, record_of, records_of, row_of, verdict}
 use Rattle.std.specs.FinMap as map
-use Rattle.std.specs.FinMap.{FinMap}
-use Rattle.std.proofs.lemmas.List.{length-append, length-map}
 use Rattle.std.proofs.lemmas.List.Sums.{length-filter, count_by-le-length}
-use Rattle.apd_base.specs.declared.address.Addr.{Addr}
-use Rattle.apd_base.specs.declared.address.Bssid.{Bssid}
-use Rattle.apd_base.specs.declared.station.Aid.{Aid}
 use Rattle.apd_base.specs.declared.station.Policy.{Policy as BssPolicy}
-use Rattle.apd_base.specs.declared.station.Which.{Which}
-use Rattle.apd_base.specs.declared.station.Which.TheVariants.{Accept, Deny}
-use Rattle.apd_base.specs.declared.station.Station.{Station}
-use Rattle.apd_base.specs.declared.station.Station.TheVariants.{Authenticated}
-use Rattle.apd_base.specs.Addr.{bssid_cmp}
-use Rattle.apd_base.specs.Sets.{SetOf}
-use Rattle.apd_base.specs.State.{State, list_cmp, aid_at}
-use Rattle.apd_conf.specs.declared.conf.Conf.{Conf}
-use Rattle.apd_conf.specs.Conf.{policy_of}
-use Rattle.apd_conf.specs.ListFile.{IsList}
-use Rattle.apd_frame.specs.declared.codes.Reason.{Reason}
-use Rattle.apd_frame.specs.Contents.{AssociationRequest}
-use Rattle.apd_record.specs.Ranges.{IsChange, AreChanges}
-use Rattle.apd_record.specs.Record.{record_of, records_of}
-use Rattle.apd_record.specs.declared.change.Change.{Change}
-use Rattle.apd_record.specs.declared.change.Change.TheVariants.{Put, Drop, ListAdd, Policy, Cursor}
+use Rattle.apd_record.specs.declared.change.Change.TheVariants.{Policy}
 use Rattle.apd_record.proofs.Lengths.{records_length-append, records_length-push}
-use Rattle.apd_table.specs.Addresses.{addresses_at}
-use Rattle.apd_table.specs.Sound.{Sound}
-use Rattle.apd_table.proofs.AllRows.{addresses_few, denied_few}
-use Rattle.apd_table.proofs.Denied.{drops}
-use Rattle.apd_table.proofs.SnapshotSize.{cursor_length, each_length, fronts, list_length, policy_length, put_length}
-use Rattle.apd_mlme.specs.declared.decision.Decision.{Decision}
 use Rattle.apd_mlme.specs.declared.decision.TheConstants.{MAX_RECORDS}
-use Rattle.apd_mlme.specs.Happening.{Happening}
-use Rattle.apd_mlme.specs.declared.association.Kind.{Kind}
-use Rattle.apd_mlme.specs.rules.Association.{elsewhere, put_backs, row_of}
 use Rattle.apd_mlme.specs.rules.Association as rule
-use Rattle.apd_mlme.specs.rules.Commands.{all_kicked}
-use Rattle.apd_mlme.specs.rules.Identifiers.{cursor_changes, number_of}
-use Rattle.apd_mlme.specs.Verdict.{Verdict}
-use Rattle.apd_mlme.specs.rules.Configuration.{first_changes, additions}
-use Rattle.apd_mlme.specs.rules.{verdict, IsFit}
+use Rattle.apd_mlme.specs.rules.Identifiers.{number_of}
 use Rattle.apd_mlme.proofs.EnforcementLemmas.{new, denied, v}
 use Rattle.apd_mlme.proofs.Shapes as shape
 use Rattle.apd_mlme.proofs.Shapes.{Shape, by_shape}
@@ -98,11 +64,11 @@ module _ (s : State) where
       ]
 
   -- at most one row at each of the eight BSSIDs, and a cursor
-  associated_length : (confs : List Conf) (conf : Conf) (b : Bssid) (kind : Kind) (request : AssociationRequest) (aid : Aid) → Sound s → IsShort (rule.associated s confs conf b kind request aid)
+  associated_length : (confs : List Conf) (conf : Conf) (b : Bssid) (kind : Kind) (request : AssociationRequest) (aid : Aid) → Sound s → IsShort (rule.acceptance s confs conf b kind request aid)
   associated_length confs conf b kind request aid sound known =
       let a = request.sender in
       let here = Put b a (row_of request aid) in
-      let others = elsewhere s b a in
+      let others = bssids_elsewhere s b a in
       let is_other = λ (c : Bssid). not (eq_by_cmp bssid_cmp b c) && is_some (aid_at s c a) in
       let given = cursor_changes s b a aid in
       let parts = fronts (put_backs a others) (here ∷ given) known in
@@ -111,7 +77,7 @@ module _ (s : State) where
       let keys = length-map (map.entries s.policies) (λ row. row.0) in
       omega (arith, records_length-append (put_backs a others) (here ∷ given), length-append (record_of here) (records_of given), given_length b a aid parts.1.1, put_backs_length a others parts.0, put_length b a (row_of request aid) parts.1.0.0 parts.1.0.1, filtered, fewer, keys, map.len-entries s.policies, sound.few_bss)
 
-  all_length : (b : Bssid) (reason : Reason) (t : Bool) → Sound s → IsShort (all_kicked s b reason t)
+  all_length : (b : Bssid) (reason : Reason) (t : Bool) → Sound s → IsShort (kick_of_all s b reason t)
   all_length b reason t sound known = omega (arith, drops_length b (addresses_at s b) known, addresses_few s b, sound.few_stations b)
 
   shape_length : (confs : List Conf) (h : Happening) → IsFit s confs h → Sound s → (v : Verdict) → Shape s confs h v → IsShort v

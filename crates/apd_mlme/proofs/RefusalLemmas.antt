@@ -1,8 +1,6 @@
 -- Success, and the reasons to refuse.
 use Rattle.std.proofs.Common.{◌≡◌, ℕ, ◌<◌, ◌≤◌, Bool, true, false, cond, ◌&&◌, List, [], ◌∷◌, refl, arith}
-use Rattle.apd_frame.specs.declared.codes.Status.{Status}
-use Rattle.apd_frame.specs.declared.codes.Status.TheVariants.{Success, RefusedReasonUnspecified, NotSupportedAuthAlgorithm, TransactionSequenceError, DeniedNoMoreStas, DeniedListenIntervalTooLarge}
-use Rattle.apd_mlme.specs.rules.Refusals.{first_status, is_success}
+use Rattle.apd_mlme.proofs.Words.{DeniedListenIntervalTooLarge, DeniedNoMoreStas, NotSupportedAuthAlgorithm, RefusedReasonUnspecified, Status, Success, TransactionSequenceError, first_status, is_success}
 
 -- what is so of the status of each line where it is the first that holds, and of success where none does
 abbrev pub ByLines : (Status → Type 0) → List (Bool × Status) → Type 0

@@ -1,44 +1,18 @@
 -- Which probe requests a network answers, and the octets of responses.
 use Rattle.std.proofs.Common.{◌≡◌, ℕ, Bool, true, false, cond, ◌&&◌, ◌||◌, ◌==◌, List, [], ◌∷◌, length, Option, Some, None, inl, inr, refl, ap, IsSomeAnd, ◌+◌, ◌++◌, ◌∙◌, IsSome}
-use Rattle.std.proofs.lemmas.Bool.{and_parts, eqb-true, false_from_ne_true}
-use Rattle.std.proofs.lemmas.Slice.Eq.{bytes_eq-Decides}
+use Rattle.apd_mlme.proofs.Words.{Addr, Aid, AsksFor, Association, AssociationRequest, Authentication, Bssid, Conf, DeniedListenIntervalTooLarge, DeniedNoMoreStas, IsAssociationAnswered, IsAuthenticationAnswered, IsMember, IsProbeFor, IsProbed, Kind, NotSupportedAuthAlgorithm, Out, ProbeRequest, Reassociation, Recipient, RefusedReasonUnspecified, SSID, Sound, State, Status, Success, TransactionSequenceError, aid_at, aid_field, aid_of, and_parts, association_verdict, auth_verdict, authentication_response, both_true, bytes_eq-Decides, channel_octets, code_of, eqb-true, false_from_ne_true, first_with, is_answered, is_asked, is_open, management_frame, octets_of, probe_response, probe_verdict, rates_element, rates_in, rates_octets, reply_out, response_frame, second_true, station_at, status_code, well_formed}
 use Rattle.std.specs.Str.{bytes_eq}
 use Rattle.apd_base.specs.Number.{AreBytes}
-use Rattle.apd_base.specs.declared.address.Bssid.{Bssid}
-use Rattle.apd_base.specs.State.{State, station_at, aid_of, aid_at}
-use Rattle.apd_conf.specs.declared.conf.Conf.{Conf}
 use Rattle.apd_conf.specs.declared.ignore_broadcast_ssid.IgnoreBroadcastSsid.{IgnoreBroadcastSsid}
 use Rattle.apd_conf.specs.declared.ignore_broadcast_ssid.IgnoreBroadcastSsid.TheVariants.{No, Empty, Cleared}
-use Rattle.apd_frame.specs.Contents.{ProbeRequest, AssociationRequest}
-use Rattle.apd_frame.specs.Elements.{well_formed, first_with, octets_of}
-use Rattle.apd_frame.specs.declared.element.TheConstants.{SSID}
 use Rattle.apd_frame.proofs.ElementLemmas.{all_bytes, is_well_formed, well_formed_is}
-use Rattle.apd_mlme.specs.Outs.{sent}
-use Rattle.apd_mlme.specs.rules.ProbeRequest.{is_open, is_asked, is_answered, probe_response, probe_verdict}
-use Rattle.apd_mlme.specs.laws.Probe.{AsksFor, IsProbeFor, IsProbed, response_frame}
-use Rattle.apd_base.proofs.Cases.{both_true, second_true}
 use Rattle.std.specs.Int.{to_le_bytes, w16, w64}
-use Rattle.apd_base.specs.declared.address.Addr.{Addr}
-use Rattle.apd_base.specs.declared.station.Aid.{Aid}
 use Rattle.apd_conf.specs.declared.hw_mode.HwMode.{HwMode}
 use Rattle.apd_conf.specs.declared.hw_mode.HwMode.TheVariants.{A, B, G}
-use Rattle.apd_frame.specs.Wire.{aid_field, rates_element, status_code}
-use Rattle.apd_frame.specs.declared.codes.Status.{Status}
-use Rattle.apd_frame.specs.declared.codes.Status.TheVariants.{Success, RefusedReasonUnspecified, NotSupportedAuthAlgorithm, TransactionSequenceError, DeniedNoMoreStas, DeniedListenIntervalTooLarge}
-use Rattle.apd_frame.specs.declared.received.Authentication.{Authentication}
 use Rattle.apd_frame.specs.declared.replies.ReplyBody.TheVariants.{Probe}
-use Rattle.apd_table.specs.Sound.{Sound}
-use Rattle.apd_mlme.specs.declared.association.Kind.{Kind}
-use Rattle.apd_mlme.specs.declared.association.Kind.TheVariants.{Association, Reassociation}
-use Rattle.apd_mlme.specs.declared.decision.Recipient.{Recipient}
-use Rattle.apd_mlme.specs.declared.decision.Out.{Out}
-use Rattle.apd_mlme.specs.laws.Association.{IsMember}
 use Rattle.apd_mlme.specs.rules.Association as rule
-use Rattle.apd_mlme.specs.rules.Association.{association_verdict}
-use Rattle.apd_mlme.specs.rules.Authentication.{auth_verdict}
-use Rattle.apd_mlme.specs.laws.ManagementFrame.{code_of, management_frame, rates_octets, channel_octets}
-use Rattle.apd_mlme.specs.rules.Offer.{rates_in, channel_in}
-use Rattle.apd_mlme.specs.laws.Responses.{authentication_response, association_response, IsAuthenticationAnswered, IsAssociationAnswered}
+use Rattle.apd_mlme.specs.rules.Offer.{channel_in}
+use Rattle.apd_mlme.specs.laws.Responses.{association_response}
 use Rattle.apd_mlme.proofs.AssociationResponseLemmas.{association_told}
 use Rattle.apd_mlme.proofs.AuthenticationLemmas.{auth_told}
 
@@ -86,7 +60,7 @@ module _ (conf : Conf) where
 
 pub probed : (s : State) (conf : Conf) (b : Bssid) (request : ProbeRequest) → AreBytes request.elements → IsProbed s conf b request (probe_verdict s conf b request)
 probed s conf b request bytes =
-    let response = sent (probe_response conf b request.sender) ∷ [] in
+    let response = reply_out (probe_response conf b request.sender) ∷ [] in
     record {
       answered = λ is. ap (λ t. cond t response []) (answers conf request.elements bytes is);
       silent = λ none. ap (λ t. cond t response []) (false_from_ne_true (is_answered conf request.elements) (λ e. none (for_it conf request.elements bytes e)));
@@ -125,11 +99,11 @@ module _ (conf : Conf) (b : Bssid) (a : Addr) (status : Status) (aid : Option Ai
   abbrev with_rates : Kind → List ℕ → Recipient × Out
   with_rates kind rates = management_frame (subtype_of kind) b a ((1 ∷ 0 ∷ []) ++ to_le_bytes w16 (status_code status) ++ to_le_bytes w16 (aid_field aid) ++ rates)
 
-  same_rated : (kind : Kind) → sent (rule.association_response conf b kind a status aid) ≡ with_rates kind (rates_octets conf.hw_mode)
+  same_rated : (kind : Kind) → reply_out (rule.association_response conf b kind a status aid) ≡ with_rates kind (rates_octets conf.hw_mode)
   same_rated Association = ap (with_rates Association) (same_rates conf.hw_mode)
   same_rated Reassociation = ap (with_rates Reassociation) (same_rates conf.hw_mode)
 
-  pub same_response : (kind : Kind) → sent (rule.association_response conf b kind a status aid) ≡ association_response (subtype_of kind) conf b a (code_of status) (aid_field aid)
+  pub same_response : (kind : Kind) → reply_out (rule.association_response conf b kind a status aid) ≡ association_response (subtype_of kind) conf b a (code_of status) (aid_field aid)
   same_response kind = same_rated kind ∙ ap (λ code. association_response (subtype_of kind) conf b a code (aid_field aid)) (same_code status)
 
 identified : (s : State) (b : Bssid) (request : AssociationRequest) (o : Option Aid) → IsSomeAnd o (IsMember s b request) → (n : ℕ) × (aid_field o ≡ 32768 + 16384 + n) × (aid_at s b request.sender ≡ Some n)
@@ -158,7 +132,7 @@ offered conf b a mode =
     ++ ((0 ∷ length conf.ssid ∷ conf.ssid) ++ (rates_octets mode ++ channel_octets mode conf.channel)))
 
 same_offer : (conf : Conf) (b : Bssid) (a : Addr) (mode : HwMode) →
-    sent (record { to = a; bssid = b; body = Probe conf.beacon_int conf.ssid (rates_in mode) (channel_in mode conf.channel) }) ≡ offered conf b a mode
+    reply_out (record { to = a; bssid = b; body = Probe conf.beacon_int conf.ssid (rates_in mode) (channel_in mode conf.channel) }) ≡ offered conf b a mode
 same_offer conf b a A = refl
 same_offer conf b a B = refl
 same_offer conf b a G = refl

@@ -1,28 +1,12 @@
 -- Lists of addresses rise as rows do, and no BSSID is there twice among those that have a policy.
 use Rattle.std.proofs.Common.{◌≡◌, Bool, true, false, cond, ◌||◌, List, [], ◌∷◌, refl, sym, ap, ◌∙◌, arith, suc, T, All}
 use Rattle.std.specs.Prelude.{filter, map as list_map}
-use Rattle.std.specs.List.{AllByRecursion}
-use Rattle.std.specs.Ordering.{eq_by_cmp, is_eq, ordering_then}
+use Rattle.apd_mlme.proofs.Words.{AclMode, Addr, All-cons, All-nil, AllByRecursion, AllPairs-cons, Bssid, Equal, FinMap, Greater, Less, Rise, State, Station, addr_cmp, addresses_at, and_parts, bssid_cmp, denials_by, entries_sorted, eq_by_cmp, first_holds, is_among, is_denied_row, is_eq, is_less, is_sorted, ordering_then, recursion_from_All, same_bssid, second_false, second_holds, station_cmp}
 use Rattle.std.specs.declared.cmp.Ordering.{Ordering}
-use Rattle.std.specs.declared.cmp.Ordering.TheVariants.{Less, Equal, Greater}
 use Rattle.std.specs.FinMap as map
-use Rattle.std.specs.FinMap.{FinMap, entries, entries_sorted, is_sorted}
+use Rattle.std.specs.FinMap.{entries}
 use Rattle.std.specs.FinMap.Entries.{below_all}
-use Rattle.std.proofs.lemmas.Bool.{and_parts}
-use Rattle.std.proofs.lemmas.List.Elements.{All-nil, All-cons, recursion_from_All}
-use Rattle.std.proofs.lemmas.List.Kept.{AllPairs-cons}
-use Rattle.apd_base.specs.declared.address.Addr.{Addr}
-use Rattle.apd_base.specs.declared.address.Bssid.{Bssid}
-use Rattle.apd_base.specs.declared.station.AclMode.{AclMode}
-use Rattle.apd_base.specs.declared.station.Station.{Station}
-use Rattle.apd_base.specs.Addr.{addr_cmp, bssid_cmp, station_cmp, is_among}
-use Rattle.apd_base.specs.State.{State}
-use Rattle.apd_base.proofs.AddrLemmas.{same_bssid}
-use Rattle.apd_base.proofs.Cases.{first_holds, second_holds, is_less, second_false}
-use Rattle.apd_table.specs.Addresses.{addresses_at}
-use Rattle.apd_table.specs.Allowed.{denied_by, is_denied_row}
 use Rattle.apd_table.specs.Rows as rows
-use Rattle.apd_mlme.specs.laws.NothingElse.{Rise}
 use Rattle.apd_mlme.proofs.ElsewhereLemmas.{is_bssid_among, among-filter}
 
 -- ---- the addresses of a BSSID's rows
@@ -64,7 +48,7 @@ module _ (b : Bssid) (test : Row → Bool) (here : (row : Row) → test row ≡ 
 pub addresses_rise : (s : State) (b : Bssid) → Rise (addresses_at s b)
 addresses_rise s b = addresses_rise_in b (rows.is_row_of b) (λ row e. e) (entries s.stations) (entries_sorted s.stations)
 
-pub denied_rise : (s : State) (b : Bssid) (mode : AclMode) → Rise (denied_by s b mode)
+pub denied_rise : (s : State) (b : Bssid) (mode : AclMode) → Rise (denials_by s b mode)
 denied_rise s b mode = addresses_rise_in b (is_denied_row s b mode) (λ row e. (and_parts _ _ e).0) (entries s.stations) (entries_sorted s.stations)
 
 -- none, and one

@@ -1,36 +1,10 @@
 -- What an event leaves that changes one row at most, and what single outs do to a driver.
 use Rattle.std.proofs.Common.{◌≡◌, Bool, true, false, cond, ◌&&◌, List, [], ◌∷◌, ◌++◌, Option, Some, None, refl, sym, ap, ◌∙◌, ℕ, not, map as list_map, inl, inr, subst, IsSome}
-use Rattle.std.specs.Option.{is_some, option_map}
+use Rattle.apd_mlme.proofs.Words.{Addr, Authenticated, Bssid, Control, DriverMap, FinMap, Frame, Install, Out, Radio, Reason, Recipient, Remove, Sound, State, Station, StaySound, Text, Verdict, addr_cmp, addr_exact, addr_total, aid_at, aid_of, and_parts, bssid_cmp, bssid_exact, bssid_total, deauthentication, differ, driver_after, driver_after_all, drop_station, eq_by_cmp, eq_by_cmp_equiv, false_from_ne_true, get-entries, get-from_entries, get-insert, get-remove, get-retain_keys, is_row_at, is_same, is_some, no_value, none_is, one_key, one_or_apart, option_map, outs_of_drop, outs_to, put_back, put_station, remaining_row, removal, reply_out, row_drop, rows_authenticated_where, same_addr, same_bssid, same_map, sound_put, station_at, station_cmp, station_exact, station_total, tied}
 use Rattle.std.specs.Prelude.{filter}
-use Rattle.std.specs.Ordering.{eq_by_cmp}
-use Rattle.std.specs.Cmp.{eq_by_cmp_equiv}
-use Rattle.std.proofs.lemmas.Bool.{and_parts, false_from_ne_true}
-use Rattle.std.specs.FinMap.{get-insert, get-remove, FinMap, find, get-entries, get-from_entries, get-retain_keys, same_map}
-use Rattle.apd_base.specs.declared.address.Addr.{Addr}
-use Rattle.apd_base.specs.declared.address.Bssid.{Bssid}
-use Rattle.apd_base.specs.declared.station.Station.{Station}
-use Rattle.apd_base.specs.Addr.{addr_cmp, bssid_cmp, station_cmp}
-use Rattle.apd_base.specs.State.{State, station_at, aid_of, aid_at}
-use Rattle.apd_base.proofs.AddrLemmas.{addr_total, addr_exact, bssid_total, bssid_exact, station_total, same_addr, same_bssid, station_exact}
-use Rattle.apd_base.proofs.MapLemmas.{tied, one_or_apart}
-use Rattle.apd_record.specs.Meaning.{put_station, drop_station}
-use Rattle.apd_table.proofs.Denied.{one_key}
-use Rattle.apd_mlme.specs.declared.decision.Recipient.{Recipient}
-use Rattle.apd_mlme.specs.declared.decision.Recipient.TheVariants.{Radio, Control}
-use Rattle.apd_mlme.specs.declared.decision.Out.{Out}
-use Rattle.apd_mlme.specs.declared.decision.Out.TheVariants.{Install, Remove, Frame, Text}
-use Rattle.apd_mlme.specs.laws.Driver.{driven, driven_by, DriverMap}
-use Rattle.apd_mlme.specs.rules.Leaving.{removal, authenticated_where, deauthentication, is_row_at, outs_of_drop, put_back, dropped}
-use Rattle.apd_mlme.specs.Outs.{is_same, outs_to, sent}
-use Rattle.apd_base.proofs.Cases.{no_value, differ, none_is}
+use Rattle.std.specs.FinMap.{find}
 use Rattle.std.specs.FinMap as map
-use Rattle.apd_base.specs.declared.station.Station.TheVariants.{Authenticated}
-use Rattle.apd_frame.specs.declared.codes.Reason.{Reason}
-use Rattle.apd_table.specs.Sound.{Sound, StaySound}
 use Rattle.apd_table.proofs.Parts.{sound_drop}
-use Rattle.apd_table.proofs.Put.{sound_put}
-use Rattle.apd_mlme.specs.laws.Association.{only_authenticated}
-use Rattle.apd_mlme.specs.Verdict.{Verdict}
 
 -- whether two rows are one
 abbrev pub is_row : Bssid → Addr → Bssid → Addr → Bool
@@ -86,20 +60,20 @@ module _ (c : Bssid) (d : Addr) where
   abbrev taken : List (Recipient × Out) → List Out
   taken outs = list_map (λ (x : Recipient × Out). x.1) outs
 
-  pub driven_left : (outs : List (Recipient × Out)) (m : DriverMap) → driven (outs_to (Radio c) outs) m d ≡ left_by outs (m d)
+  pub driven_left : (outs : List (Recipient × Out)) (m : DriverMap) → driver_after_all (outs_to (Radio c) outs) m d ≡ left_by outs (m d)
   driven_left [] m = refl
   driven_left ((Radio b, Install a aid) ∷ outs) m =
-      elim (eq_by_cmp bssid_cmp c b) as (λ t. driven (taken (cond t ((Radio b, Install a aid) ∷ those outs) (those outs))) m d ≡ left_by outs (cond (t && eq_by_cmp addr_cmp d a) (Some aid.number) (m d))) [
-        | true ↦ driven_left outs (driven_by (Install a aid) m) ∙ ap (λ u. left_by outs (cond u (Some aid.number) (m d))) (addr_back a d)
+      elim (eq_by_cmp bssid_cmp c b) as (λ t. driver_after_all (taken (cond t ((Radio b, Install a aid) ∷ those outs) (those outs))) m d ≡ left_by outs (cond (t && eq_by_cmp addr_cmp d a) (Some aid.number) (m d))) [
+        | true ↦ driven_left outs (driver_after (Install a aid) m) ∙ ap (λ u. left_by outs (cond u (Some aid.number) (m d))) (addr_back a d)
         | false ↦ driven_left outs m
       ]
   driven_left ((Radio b, Remove a) ∷ outs) m =
-      elim (eq_by_cmp bssid_cmp c b) as (λ t. driven (taken (cond t ((Radio b, Remove a) ∷ those outs) (those outs))) m d ≡ left_by outs (cond (t && eq_by_cmp addr_cmp d a) None (m d))) [
-        | true ↦ driven_left outs (driven_by (Remove a) m) ∙ ap (λ u. left_by outs (cond u None (m d))) (addr_back a d)
+      elim (eq_by_cmp bssid_cmp c b) as (λ t. driver_after_all (taken (cond t ((Radio b, Remove a) ∷ those outs) (those outs))) m d ≡ left_by outs (cond (t && eq_by_cmp addr_cmp d a) None (m d))) [
+        | true ↦ driven_left outs (driver_after (Remove a) m) ∙ ap (λ u. left_by outs (cond u None (m d))) (addr_back a d)
         | false ↦ driven_left outs m
       ]
-  driven_left ((Radio b, Frame bytes) ∷ outs) m = elim (eq_by_cmp bssid_cmp c b) as (λ t. driven (taken (cond t ((Radio b, Frame bytes) ∷ those outs) (those outs))) m d ≡ left_by outs (m d)) [ true ↦ driven_left outs m | false ↦ driven_left outs m ]
-  driven_left ((Radio b, Text tag bytes) ∷ outs) m = elim (eq_by_cmp bssid_cmp c b) as (λ t. driven (taken (cond t ((Radio b, Text tag bytes) ∷ those outs) (those outs))) m d ≡ left_by outs (m d)) [ true ↦ driven_left outs m | false ↦ driven_left outs m ]
+  driven_left ((Radio b, Frame bytes) ∷ outs) m = elim (eq_by_cmp bssid_cmp c b) as (λ t. driver_after_all (taken (cond t ((Radio b, Frame bytes) ∷ those outs) (those outs))) m d ≡ left_by outs (m d)) [ true ↦ driven_left outs m | false ↦ driven_left outs m ]
+  driven_left ((Radio b, Text tag bytes) ∷ outs) m = elim (eq_by_cmp bssid_cmp c b) as (λ t. driver_after_all (taken (cond t ((Radio b, Text tag bytes) ∷ those outs) (those outs))) m d ≡ left_by outs (m d)) [ true ↦ driven_left outs m | false ↦ driven_left outs m ]
   driven_left ((Control, out) ∷ outs) m = driven_left outs m
 
   -- a station goes where it was associated, and where it was not its driver has nothing to lose
@@ -133,7 +107,7 @@ turned_not true o e = cc
 turned_not false None e = refl
 turned_not false (Some x) e = refl
 
-pub only_turned : (o : Option Station) → option_map (λ (x : Station). Authenticated) o ≡ only_authenticated o
+pub only_turned : (o : Option Station) → option_map (λ (x : Station). Authenticated) o ≡ remaining_row o
 only_turned None = refl
 only_turned (Some x) = refl
 
@@ -150,12 +124,12 @@ module _ (test : Bssid × Addr → Bool) where
         | false ↦ λ _. find-turned q rows
       ] same
 
-  pub authenticated_station : (rows : FinMap station_cmp Station) (q : Bssid × Addr) → map.get (authenticated_where test rows) q ≡ option_map (λ x. cond (test q) Authenticated x) (map.get rows q)
+  pub authenticated_station : (rows : FinMap station_cmp Station) (q : Bssid × Addr) → map.get (rows_authenticated_where test rows) q ≡ option_map (λ x. cond (test q) Authenticated x) (map.get rows q)
   authenticated_station rows q =
       get-from_entries station_total (list_map turned (map.entries rows)) q ∙ find-turned q (map.entries rows) ∙ ap (option_map (λ x. cond (test q) Authenticated x)) (sym (get-entries rows q))
 
   -- the rows put there, where those that pass have one
-  pub authenticated_is : (rows put : FinMap station_cmp Station) → ((q : Bssid × Addr) → map.get put q ≡ cond (test q) (Some Authenticated) (map.get rows q)) → ((q : Bssid × Addr) → test q ≡ true → IsSome (map.get rows q)) → put ≡ authenticated_where test rows
+  pub authenticated_is : (rows put : FinMap station_cmp Station) → ((q : Bssid × Addr) → map.get put q ≡ cond (test q) (Some Authenticated) (map.get rows q)) → ((q : Bssid × Addr) → test q ≡ true → IsSome (map.get rows q)) → put ≡ rows_authenticated_where test rows
   authenticated_is rows put is known = same_map station_total station_exact _ _ (λ q. is q ∙ sym (authenticated_station rows q ∙ turned_known (test q) (map.get rows q) (known q)))
 
 -- the driver of a radio has the associated stations of the state after, where it had those of the state before
@@ -178,7 +152,7 @@ other_case false o = refl
 module _ (s : State) (b : Bssid) (a : Addr) where
   -- the states once it is put back, and once it is dropped
   abbrev pub back : State
-  back = record s { stations = authenticated_where (is_row_at b a) s.stations }
+  back = record s { stations = rows_authenticated_where (is_row_at b a) s.stations }
 
   abbrev pub out : State
   out = record s { stations = map.retain_keys s.stations (λ key. not (is_row_at b a key)) }
@@ -194,7 +168,7 @@ module _ (s : State) (b : Bssid) (a : Addr) where
   pub back_aid : (c : Bssid) (d : Addr) → aid_at back c d ≡ cond (is_row b a c d) None (aid_at s c d)
   back_aid c d = ap aid_of (back_station c d) ∙ aid_turned (is_row b a c d) (station_at s c d)
 
-  pub back_row : station_at back b a ≡ only_authenticated (station_at s b a)
+  pub back_row : station_at back b a ≡ remaining_row (station_at s b a)
   back_row = back_station b a ∙ ap (λ t. option_map (λ x. cond t Authenticated x) (station_at s b a)) (this_row b a) ∙ only_turned (station_at s b a)
 
   pub back_other : (c : Bssid) (d : Addr) → ¬ ((c ≡ b) × (d ≡ a)) → station_at back c d ≡ station_at s c d
@@ -224,12 +198,12 @@ module _ (s : State) (b : Bssid) (a : Addr) where
   pub put_back_stays : (outs : List (Recipient × Out)) → IsSome (station_at s b a) → Sound s → StaySound (put_back s b a outs).changes s
   put_back_stays outs known sound = (sound, sound_put_back s b a known sound)
 
-  pub dropped_stays : (outs : List (Recipient × Out)) → Sound s → StaySound (dropped s b a outs).changes s
+  pub dropped_stays : (outs : List (Recipient × Out)) → Sound s → StaySound (row_drop s b a outs).changes s
   dropped_stays outs sound = (sound, sound_drop s b a sound)
 
   -- the driver lets it go, and frames leave it as it is
-  pub removal_follows : (c : Bssid) → Follows c s (dropped s b a (removal s b a))
+  pub removal_follows : (c : Bssid) → Follows c s (row_drop s b a (removal s b a))
   removal_follows c d = left_by_removal c d s b a ∙ sym (out_aid c d)
 
-  pub drop_follows : (c : Bssid) (reason : Reason) → Follows c s (dropped s b a (outs_of_drop s b a reason))
-  drop_follows c reason d = left_by-append c d (removal s b a) (sent (deauthentication b a reason) ∷ []) (aid_at s c d) ∙ removal_follows c d
+  pub drop_follows : (c : Bssid) (reason : Reason) → Follows c s (row_drop s b a (outs_of_drop s b a reason))
+  drop_follows c reason d = left_by-append c d (removal s b a) (reply_out (deauthentication b a reason) ∷ []) (aid_at s c d) ∙ removal_follows c d

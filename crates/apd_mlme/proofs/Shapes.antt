@@ -1,70 +1,14 @@
 -- The shapes that a verdict has, taken apart once: what is so of each of them is so of every verdict.
 use Rattle.std.proofs.Common.{◌≡◌, ◌≢◌, ◌≤◌, arith, length, ℕ, Bool, true, false, cond, [], ◌∷◌, List, Option, Some, None, ◌⊎◌, inl, inr, refl, sym, ap, subst, ◌∙◌, IsSome, IsSomeAnd}
-use Rattle.std.specs.Option.{is_some}
-use Rattle.std.specs.Ordering.{eq_by_cmp}
+use Rattle.apd_mlme.proofs.Words.{Add, Addr, Aid, Answer, Associated, Associates, Association, AssociationRequest, Authenticated, Authentication, BROADCAST, Bssid, Change, Clear, Conf, Configure, Contents, Done, Edit, Expire, FinMap, Happening, HasLeft, Heard, INACTIVITY, INVALID_AUTHENTICATION, INVALID_CLASS2_FRAME, INVALID_CLASS3_FRAME, IsAlwaysMade, IsChange, IsDeparture, IsDeserved, IsSaidSo, IsToAll, Kick, Kind, ListEdit, Names, NoneIsBroadcast, ProbeRequest, Put, Radio, Reason, Reassociation, Refused, Remove, Reply, SetOf, Sound, State, Station, StationRow, StaySound, Success, Verdict, Which, Writes, acceptance_of, addr_cmp, addr_exact, addr_total, aid_at, aid_of, association_of, association_request, association_response, association_status, auth_response, auth_status, auth_verdict, authentication, bssid_cmp, bssid_of, change_of, conf_at, configure_verdict, contains, data_of, deauthentication_of, differ, disassociation_of, eq_by_cmp, first_start, get_inserted, get_removed, heard_verdict, identifier_for, inactivity_of, is_admitted, is_answered, is_some, is_success, kick_by_deauthentication_of, kick_by_disassociation_of, kick_of_all, later_start, list_cmp, list_exact, list_total, meaning, nothing, only_reply, outs_of_drop, outs_of_end, policy_at, policy_length, policy_of, probe_request, probe_response, probe_verdict, put_back, put_station, reassociation_request, record_of, removal, reply_out, sender_of, station_at, station_cmp, tied, unanswered_edit_under, unanswered_kick, uplink, verdict, verdict_under, with_answer, without_current_ap}
 use Rattle.std.specs.FinMap as map
-use Rattle.std.specs.FinMap.{FinMap}
-use Rattle.apd_base.specs.declared.address.Addr.{Addr}
-use Rattle.apd_base.specs.declared.address.Bssid.{Bssid}
-use Rattle.apd_base.specs.declared.address.TheConstants.{BROADCAST}
-use Rattle.apd_base.specs.declared.station.Aid.{Aid}
 use Rattle.apd_base.specs.declared.station.Policy.{Policy as BssPolicy}
-use Rattle.apd_base.specs.declared.station.Station.{Station}
-use Rattle.apd_base.specs.declared.station.Station.TheVariants.{Authenticated, Associated}
-use Rattle.apd_base.specs.declared.station.Which.{Which}
-use Rattle.apd_base.specs.Addr.{addr_cmp, bssid_cmp, station_cmp}
-use Rattle.apd_base.specs.Sets.{SetOf, contains}
-use Rattle.apd_base.specs.State.{State, list_cmp, station_at, policy_at, aid_of, aid_at}
-use Rattle.apd_base.proofs.AddrLemmas.{addr_total, addr_exact}
-use Rattle.apd_base.proofs.StateLemmas.{list_total, list_exact}
-use Rattle.apd_base.proofs.Cases.{differ}
-use Rattle.apd_base.proofs.MapLemmas.{get_inserted, get_removed, tied}
-use Rattle.apd_conf.specs.declared.conf.Conf.{Conf}
-use Rattle.apd_conf.specs.Conf.{policy_of}
-use Rattle.apd_conf.specs.Confs.{conf_at}
-use Rattle.apd_frame.specs.Contents.{Contents, sender_of, AssociationRequest, ProbeRequest, authentication, association_request, reassociation_request, probe_request, disassociation, deauthentication, uplink}
-use Rattle.apd_frame.specs.declared.codes.Reason.{Reason}
-use Rattle.apd_frame.specs.declared.codes.Status.TheVariants.{Success}
-use Rattle.apd_frame.specs.declared.codes.TheConstants.Reason.{INVALID_AUTHENTICATION, INACTIVITY, INVALID_CLASS2_FRAME, INVALID_CLASS3_FRAME}
-use Rattle.apd_frame.specs.declared.received.Authentication.{Authentication}
-use Rattle.apd_frame.specs.declared.replies.Reply.{Reply}
-use Rattle.apd_record.specs.declared.change.Change.{Change}
-use Rattle.apd_record.specs.declared.change.Change.TheVariants.{Put, Policy}
-use Rattle.apd_record.specs.Meaning.{meaning, put_station}
-use Rattle.apd_record.specs.Ranges.{IsChange}
-use Rattle.apd_record.specs.Record.{record_of}
-use Rattle.apd_table.specs.Sound.{Sound, StaySound}
-use Rattle.apd_table.proofs.SnapshotSize.{policy_length}
-use Rattle.apd_mlme.specs.declared.command_answer.Answer.{Answer}
-use Rattle.apd_mlme.specs.declared.command_answer.Answer.TheVariants.{Done, Refused}
-use Rattle.apd_mlme.specs.declared.association.Kind.{Kind}
-use Rattle.apd_mlme.specs.declared.association.Kind.TheVariants.{Association, Reassociation}
-use Rattle.apd_mlme.specs.declared.decision.Recipient.TheVariants.{Radio}
-use Rattle.apd_mlme.specs.declared.decision.Out.TheVariants.{Remove}
-use Rattle.apd_mlme.specs.declared.event.Edit.{Edit}
-use Rattle.apd_mlme.specs.declared.event.Edit.TheVariants.{Add, Remove as TakeOut, Clear}
+use Rattle.apd_frame.specs.Contents.{disassociation, deauthentication}
+use Rattle.apd_record.specs.declared.change.Change.TheVariants.{Policy}
+use Rattle.apd_mlme.specs.declared.event.Edit.TheVariants.{Remove as TakeOut}
 use Rattle.apd_mlme.specs.rules.Association as rule
-use Rattle.apd_mlme.specs.rules.Association.{association_status, association_response, association_of, accepted, without_current_ap}
-use Rattle.apd_mlme.specs.rules.Authentication.{auth_status, auth_response, auth_verdict, is_admitted}
-use Rattle.apd_mlme.specs.rules.Commands.{answered, all_kicked, change_of, deauthenticated_of, disassociated_of, edited_under, kicked}
-use Rattle.apd_mlme.specs.rules.Configuration.{configure_verdict, later_start, first_start}
-use Rattle.apd_mlme.specs.rules.Departure.{disassociation_of, deauthentication_of, data_of}
-use Rattle.apd_mlme.specs.laws.Association.{IsDeserved}
-use Rattle.apd_mlme.specs.laws.AssociationEnd.{HasLeft, IsDeparture}
 use Rattle.apd_mlme.specs.laws.NothingElse as always
-use Rattle.apd_mlme.specs.laws.NothingElse.{Associates, IsAlwaysMade, IsToAll, Names, StationRow, Writes}
-use Rattle.apd_mlme.specs.Happening.{Happening, Heard, Kick, ListEdit, Expire, Configure, bssid_of}
-use Rattle.apd_mlme.specs.rules.Identifiers.{identifier_for}
-use Rattle.apd_mlme.specs.rules.Inactivity.{inactivity_of}
 use Rattle.apd_mlme.specs.rules.Leaving as leaving
-use Rattle.apd_mlme.specs.rules.Leaving.{removal, outs_of_end, outs_of_drop, put_back}
-use Rattle.apd_mlme.specs.Outs.{sent}
-use Rattle.apd_mlme.specs.rules.ProbeRequest.{is_answered, probe_response, probe_verdict}
-use Rattle.apd_mlme.specs.rules.Refusals.{is_success}
-use Rattle.apd_mlme.specs.rules.{verdict, verdict_under, heard_verdict}
-use Rattle.apd_mlme.specs.laws.Outs.{IsSaidSo}
-use Rattle.apd_mlme.specs.laws.Broadcast.{NoneIsBroadcast}
-use Rattle.apd_mlme.specs.Verdict.{Verdict, nothing, only_sent}
 use Rattle.apd_mlme.proofs.AssociationResponseLemmas.{refuses, status_deserved}
 use Rattle.apd_mlme.proofs.AuthenticationLemmas.{known_already}
 use Rattle.apd_mlme.proofs.CommandLemmas.{by_kick, by_edit, IsMade, new, change_with, edited_sound, edit_length}
@@ -90,21 +34,21 @@ IsNeeded s confs h change =
 pub data Shape (s : State) (confs : List Conf) (h : Happening) : Verdict → Type 0 where
   silent : Shape s confs h (nothing s)
   -- one frame, which is so
-  told : (reply : Reply) → IsSome (conf_at confs reply.bssid) → IsSaidSo s reply.bssid reply.to reply.body → (NoneIsBroadcast s h → reply.to ≢ BROADCAST) → Names h reply.bssid reply.to → Shape s confs h (only_sent s reply)
+  told : (reply : Reply) → IsSome (conf_at confs reply.bssid) → IsSaidSo s reply.bssid reply.to reply.body → (NoneIsBroadcast s h → reply.to ≢ BROADCAST) → Names h reply.bssid reply.to → Shape s confs h (only_reply s reply)
   -- a new station
   admitted : (conf : Conf) (b : Bssid) (request : Authentication) → IsSome (conf_at confs b) → h ≡ Heard b (authentication request) → is_admitted s conf b request ≡ true
-      → Shape s confs h (record { state = put_station b request.sender Authenticated s; changes = Put b request.sender Authenticated ∷ []; outs = sent (auth_response b request (auth_status s conf b request)) ∷ [] })
+      → Shape s confs h (record { state = put_station b request.sender Authenticated s; changes = Put b request.sender Authenticated ∷ []; outs = reply_out (auth_response b request (auth_status s conf b request)) ∷ [] })
   -- a station disassociates, or deauthenticates
   left : (b : Bssid) (a : Addr) → IsSome (conf_at confs b) → HasLeft h b a → IsSome (aid_at s b a) → Shape s confs h (put_back s b a ((Radio b, Remove a) ∷ []))
-  gone : (b : Bssid) (a : Addr) → IsSome (conf_at confs b) → HasLeft h b a → IsSome (station_at s b a) → Shape s confs h (leaving.dropped s b a (removal s b a))
+  gone : (b : Bssid) (a : Addr) → IsSome (conf_at confs b) → HasLeft h b a → IsSome (station_at s b a) → Shape s confs h (leaving.row_drop s b a (removal s b a))
   -- or the access point ends its association, or drops it
   ended : (b : Bssid) (a : Addr) (reason : Reason) → IsSome (conf_at confs b) → IsSome (aid_at s b a) → IsOthers h → Shape s confs h (put_back s b a (outs_of_end b a reason))
-  dropped : (b : Bssid) (a : Addr) (reason : Reason) → IsSome (conf_at confs b) → IsSome (station_at s b a) → IsOthers h → Shape s confs h (leaving.dropped s b a (outs_of_drop s b a reason))
+  dropped : (b : Bssid) (a : Addr) (reason : Reason) → IsSome (conf_at confs b) → IsSome (station_at s b a) → IsOthers h → Shape s confs h (leaving.row_drop s b a (outs_of_drop s b a reason))
   -- a station with a row associates
   associated : (conf : Conf) (b : Bssid) (kind : Kind) (request : AssociationRequest) (aid : Aid) → IsSome (conf_at confs b) → IsSome (station_at s b request.sender) → identifier_for s b (station_at s b request.sender) ≡ Some aid
-      → (asked : IsAsked h b request.sender) → Associates s confs b asked.0 → Shape s confs h (rule.associated s confs conf b kind request aid)
+      → (asked : IsAsked h b request.sender) → Associates s confs b asked.0 → Shape s confs h (rule.acceptance s confs conf b kind request aid)
   -- all are sent away, or those that an edit or a start denies
-  emptied : (b : Bssid) (reason : Reason) (deauth : Bool) → IsSome (conf_at confs b) → IsToAll h × Names h b BROADCAST → Shape s confs h (all_kicked s b reason deauth)
+  emptied : (b : Bssid) (reason : Reason) (deauth : Bool) → IsSome (conf_at confs b) → IsToAll h × Names h b BROADCAST → Shape s confs h (kick_of_all s b reason deauth)
   enforced : (b : Bssid) (p : BssPolicy) (change : Change) (l : SetOf list_cmp) (q : FinMap bssid_cmp BssPolicy) → IsSome (conf_at confs b) → Makes s b p change l q → (Sound s → StaySound (v s b p change l q).changes s)
       → (IsChange change → length (record_of change) ≤ 14) → IsOthers h → IsNeeded s confs h change → Shape s confs h (v s b p change l q)
   started : (conf : Conf) (b : Bssid) (accept deny : List Addr) → h ≡ Configure b accept deny → is_some (policy_at s b) ≡ false → Shape s confs h (first_start s conf b accept deny)
@@ -137,7 +81,7 @@ module _ (s : State) (confs : List Conf) (b : Bssid) (there : IsSome (conf_at co
     auth_shape : (request : Authentication) → Shape s confs (Heard b (authentication request)) (auth_verdict s conf b request)
     auth_shape request =
         let status = auth_status s conf b request in
-        let answer = sent (auth_response b request status) ∷ [] in
+        let answer = reply_out (auth_response b request status) ∷ [] in
         elim (is_admitted s conf b request) as (λ t. is_admitted s conf b request ≡ t
         → Shape s confs (Heard b (authentication request)) (record { state = cond t (put_station b request.sender Authenticated s) s; changes = cond t (Put b request.sender Authenticated ∷ []) []; outs = answer })) [
           | true ↦ λ e. admitted conf b request there refl e
@@ -145,7 +89,7 @@ module _ (s : State) (confs : List Conf) (b : Bssid) (there : IsSome (conf_at co
         ] refl
 
     probe_shape : (request : ProbeRequest) → Shape s confs (Heard b (probe_request request)) (probe_verdict s conf b request)
-    probe_shape request = elim (is_answered conf request.elements) as (λ t. Shape s confs (Heard b (probe_request request)) (record { state = s; changes = []; outs = cond t (sent (probe_response conf b request.sender) ∷ []) [] })) [
+    probe_shape request = elim (is_answered conf request.elements) as (λ t. Shape s confs (Heard b (probe_request request)) (record { state = s; changes = []; outs = cond t (reply_out (probe_response conf b request.sender) ∷ []) [] })) [
       | true ↦ told (probe_response conf b request.sender) there tt (λ nobody. nobody.sender) (refl, refl)
       | false ↦ silent
     ]
@@ -153,7 +97,7 @@ module _ (s : State) (confs : List Conf) (b : Bssid) (there : IsSome (conf_at co
     -- an association or a reassociation request
     module _ (h : Happening) (kind : Kind) (request : AssociationRequest) (one : NoneIsBroadcast s h → request.sender ≢ BROADCAST) (asked : IsAsked h b request.sender)
         (accepts : IsSome (station_at s b request.sender) → IsDeserved conf request Success → Associates s confs b asked.0) where
-      accepted_shape : IsSome (station_at s b request.sender) → IsDeserved conf request Success → (o : Option Aid) → identifier_for s b (station_at s b request.sender) ≡ o → Shape s confs h (accepted s confs conf b kind request o)
+      accepted_shape : IsSome (station_at s b request.sender) → IsDeserved conf request Success → (o : Option Aid) → identifier_for s b (station_at s b request.sender) ≡ o → Shape s confs h (acceptance_of s confs conf b kind request o)
       accepted_shape known good None is = silent
       accepted_shape known good (Some aid) is = associated conf b kind request aid there known is asked (accepts known good)
 
@@ -168,7 +112,7 @@ module _ (s : State) (confs : List Conf) (b : Bssid) (there : IsSome (conf_at co
       association_shape None at = told (leaving.deauthentication b request.sender INVALID_CLASS2_FRAME) there at one named
       association_shape (Some row) at =
           let refusal = association_response conf b kind request.sender (association_status conf request) None in
-          elim (is_success (association_status conf request)) as (λ t. is_success (association_status conf request) ≡ t → Shape s confs h (cond t (accepted s confs conf b kind request (identifier_for s b (Some row))) (only_sent s refusal))) [
+          elim (is_success (association_status conf request)) as (λ t. is_success (association_status conf request) ≡ t → Shape s confs h (cond t (acceptance_of s confs conf b kind request (identifier_for s b (Some row))) (only_reply s refusal))) [
             | true ↦ λ e.
                 let good = subst (IsDeserved conf request) (status_success (association_status conf request) e) (status_deserved conf request) in
                 accepted_shape (ap is_some at) good (identifier_for s b (Some row)) (ap (identifier_for s b) at)
@@ -202,16 +146,16 @@ module _ (s : State) (confs : List Conf) (b : Bssid) (there : IsSome (conf_at co
     abbrev kick : Bool → Happening
     kick t = Kick b to reason t tag
 
-    deauthenticated_shape : to ≢ BROADCAST → (o : Option Station) → station_at s b to ≡ o → Shape s confs (kick true) (deauthenticated_of s b to reason o)
+    deauthenticated_shape : to ≢ BROADCAST → (o : Option Station) → station_at s b to ≡ o → Shape s confs (kick true) (kick_by_deauthentication_of s b to reason o)
     deauthenticated_shape one None at = told (leaving.deauthentication b to reason) there at (λ _. one) (refl, refl)
     deauthenticated_shape one (Some row) at = dropped b to reason there (ap is_some at) (λ c d own. own, one)
 
-    disassociated_shape : to ≢ BROADCAST → (o : Option Station) → station_at s b to ≡ o → Shape s confs (kick false) (disassociated_of s b to reason o)
+    disassociated_shape : to ≢ BROADCAST → (o : Option Station) → station_at s b to ≡ o → Shape s confs (kick false) (kick_by_disassociation_of s b to reason o)
     disassociated_shape one None at = told (leaving.disassociation b to reason) there (ap aid_of at) (λ _. one) (refl, refl)
     disassociated_shape one (Some Authenticated) at = told (leaving.disassociation b to reason) there (ap aid_of at) (λ _. one) (refl, refl)
     disassociated_shape one (Some (Associated x)) at = ended b to reason there (ap (λ o. is_some (aid_of o)) at) (λ c d own. own, one)
 
-    pub kicked_shape : (t : Bool) → Shape s confs (kick t) (kicked s b to reason t)
+    pub kicked_shape : (t : Bool) → Shape s confs (kick t) (unanswered_kick s b to reason t)
     kicked_shape =
         by_kick s b to reason (λ t v. Shape s confs (kick t) v) (λ t all. emptied b reason t there (all, (refl, all)))
         (λ e. deauthenticated_shape (λ all. one_station to e all) (station_at s b to) refl) (λ e. disassociated_shape (λ all. one_station to e all) (station_at s b to) refl)
@@ -223,14 +167,14 @@ module _ (s : State) (confs : List Conf) (b : Bssid) (there : IsSome (conf_at co
     edit_needed (TakeOut a) made = (λ c d e. cc, λ k. inr (λ same. differ (contains s.lists (b, w, a)) (sym (ap (λ x. contains x.lists (b, w, a)) same) ∙ ap is_some (get_removed list_total list_exact s.lists (b, w, a))) made))
     edit_needed Clear made = (λ c d its. (let e = its.1 in cc), λ k. inl (always.cleared b w tag))
 
-    pub edited_shape : (edit : Edit) → IsMade s b w edit → (o : Option BssPolicy) → policy_at s b ≡ o → Shape s confs (ListEdit b w edit tag) (edited_under s b w edit o)
+    pub edited_shape : (edit : Edit) → IsMade s b w edit → (o : Option BssPolicy) → policy_at s b ≡ o → Shape s confs (ListEdit b w edit tag) (unanswered_edit_under s b w edit o)
     edited_shape edit made None at = silent
     edited_shape edit made (Some p) at =
         enforced b p (change_of b w edit) (new s b w edit).lists s.policies there (change_with s b w p edit) (edited_sound s b w p edit at made) (edit_length b w edit)
         (λ c d own. own, λ all. all) (edit_needed edit made)
 
 -- ---- any event
-module _ (s : State) (confs : List Conf) (P : Verdict → Type 0) (more : (tag : ℕ) (answer : Answer) (v : Verdict) → P v → P (answered tag answer v)) where
+module _ (s : State) (confs : List Conf) (P : Verdict → Type 0) (more : (tag : ℕ) (answer : Answer) (v : Verdict) → P v → P (with_answer tag answer v)) where
   under_shape : (h : Happening) (o : Option Conf) → conf_at confs (bssid_of h) ≡ o → ((v : Verdict) → Shape s confs h v → P v) → P (verdict_under s confs o h)
   under_shape h None at all = all (nothing s) silent
   under_shape (Heard b f) (Some conf) at all = all _ (heard_shape s confs b (ap is_some at) conf at f)

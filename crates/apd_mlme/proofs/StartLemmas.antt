@@ -1,42 +1,13 @@
 -- What the first start of a BSSID leaves, and a later one.
 use Rattle.std.proofs.Common.{◌≡◌, ◌≢◌, ℕ, ◌+◌, ◌≤◌, ◌<◌, Bool, true, false, cond, ◌&&◌, ◌||◌, List, [], ◌∷◌, ◌++◌, None, inr, length, refl, sym, ap, subst, ◌∙◌, IsSome, arith, append-nil, Some, inl, Option}
-use Rattle.std.specs.Cmp.{eq_by_cmp_equiv}
-use Rattle.std.specs.List.{Contains}
+use Rattle.apd_mlme.proofs.Words.{Accept, Addr, Bssid, Change, Conf, Contains, Contains-from_any, Deny, FinMap, IsList, IsListed, SetOf, Sound, State, StationNumber, StaySound, Which, add_to_list, additions, addr_cmp, addr_total, allowed, apart, bssid_cmp, bssid_exact, bssid_total, configure_verdict, contains, contains-insert, count_in, cursors_with, differ, either, eq_by_cmp, eq_by_cmp_equiv, false_from_ne_true, first_start, get-empty, get-entries, get-from_entries, get_insert_other, get_inserted, is_allowed_under, is_among, is_row_of, is_some, later_start, len-empty, list_any-from_Contains, list_cmp, list_count, list_exact, list_total, meaning_of, meaning_of-append, mine_is, no_value, none_given, none_is, policy_at, policy_of, retain_keys-insert_out, same_addr, same_row, same_set, set_policy, sound_add, station_at, tied, which_cmp, with_additions}
 use Rattle.std.specs.Prelude.{◌↔◌}
-use Rattle.std.specs.Option.{is_some}
-use Rattle.std.specs.Ordering.{eq_by_cmp}
 use Rattle.std.specs.FinMap as map
-use Rattle.std.specs.FinMap.{FinMap, get-empty, get-entries, get-from_entries, len-empty}
-use Rattle.std.proofs.lemmas.Bool.{false_from_ne_true}
-use Rattle.std.proofs.lemmas.Map.Views.{Contains-from_any, list_any-from_Contains}
-use Rattle.apd_base.specs.declared.address.Addr.{Addr}
-use Rattle.apd_base.specs.declared.address.Bssid.{Bssid}
 use Rattle.apd_base.specs.declared.station.Policy.{Policy as BssPolicy}
-use Rattle.apd_base.specs.declared.station.StationNumber.{StationNumber}
-use Rattle.apd_base.specs.declared.station.Which.{Which}
-use Rattle.apd_base.specs.declared.station.Which.TheVariants.{Accept, Deny}
-use Rattle.apd_base.specs.Sets.{SetOf, contains}
-use Rattle.apd_base.specs.State.{State, station_at, policy_at, list_cmp, which_cmp, is_row_of, list_count, IsListed}
-use Rattle.apd_base.specs.Addr.{bssid_cmp, addr_cmp, is_among}
-use Rattle.apd_base.proofs.AddrLemmas.{addr_total, bssid_total, bssid_exact, same_addr}
-use Rattle.apd_base.proofs.MapLemmas.{apart, tied, get_inserted, get_insert_other, retain_keys-insert_out}
-use Rattle.apd_base.proofs.StateLemmas.{list_total, list_exact}
-use Rattle.apd_conf.specs.declared.conf.Conf.{Conf}
-use Rattle.apd_conf.specs.Conf.{policy_of}
-use Rattle.apd_conf.specs.ListFile.{IsList}
-use Rattle.apd_record.specs.declared.change.Change.{Change}
-use Rattle.apd_record.specs.Meaning.{add_to_list, cursors_with, none_given, set_policy, meaning_of}
-use Rattle.apd_table.specs.Allowed.{allowed, allowed_under}
-use Rattle.apd_table.specs.Sound.{Sound, StaySound}
-use Rattle.apd_table.proofs.Denied.{meaning_of-append}
-use Rattle.apd_table.proofs.ListChanges.{sound_add, count_in, mine_is}
 use Rattle.apd_table.proofs.ListCounts.{list_count-is}
 use Rattle.apd_table.proofs.MembersLemmas.{without_policy}
-use Rattle.apd_table.proofs.ListSets.{contains-insert, same_row, same_set}
 use Rattle.apd_table.proofs.PolicySet.{sound_set, policy_here, policy_elsewhere}
 use Rattle.apd_mlme.specs.laws.Start.{IsStarted}
-use Rattle.apd_mlme.specs.rules.Configuration.{with_listed, additions, first_start, later_start, configure_verdict}
-use Rattle.apd_base.proofs.Cases.{differ, either, no_value, none_is}
 use Rattle.apd_record.specs.declared.change.Change.TheVariants.{Policy}
 use Rattle.apd_mlme.proofs.EnforcementLemmas.{Makes, rest, enforced_here, enforced_elsewhere, enforced_sound}
 
@@ -66,11 +37,11 @@ one_put false f g l t = refl
 
 -- what list rows have with addresses beside them
 pub listed : (b : Bssid) (w : Which) (as' : List Addr) (rows : SetOf list_cmp) (c : Bssid) (v : Which) (d : Addr)
-    → contains (with_listed b w as' rows) (c, v, d) ≡ ((eq_by_cmp bssid_cmp c b && (eq_by_cmp which_cmp v w && is_among d as')) || contains rows (c, v, d))
+    → contains (with_additions b w as' rows) (c, v, d) ≡ ((eq_by_cmp bssid_cmp c b && (eq_by_cmp which_cmp v w && is_among d as')) || contains rows (c, v, d))
 listed b w [] rows c v d =
     ap is_some (get-from_entries list_total (map.entries rows) (c, v, d) ∙ sym (get-entries rows (c, v, d))) ∙ none_put (eq_by_cmp bssid_cmp c b) (eq_by_cmp which_cmp v w) (contains rows (c, v, d))
 listed b w (a ∷ as') rows c v d =
-    contains-insert list_total list_exact (with_listed b w as' rows) (b, w, a) (c, v, d) ∙ (λ i. same_row c b v w d a i || listed b w as' rows c v d i)
+    contains-insert list_total list_exact (with_additions b w as' rows) (b, w, a) (c, v, d) ∙ (λ i. same_row c b v w d a i || listed b w as' rows c v d i)
     ∙ one_put (eq_by_cmp bssid_cmp c b) (eq_by_cmp which_cmp v w) (eq_by_cmp addr_cmp d a) (is_among d as') (contains rows (c, v, d))
 
 swapped : (x k t : Bool) → (x || (k || t)) ≡ (k || (x || t))
@@ -79,15 +50,15 @@ swapped true false t = refl
 swapped false k t = refl
 
 -- so it does not matter which address is put there first
-sooner : (b : Bssid) (w : Which) (a : Addr) (as' : List Addr) (rows : SetOf list_cmp) → with_listed b w as' (map.insert rows (b, w, a) tt) ≡ with_listed b w (a ∷ as') rows
+sooner : (b : Bssid) (w : Which) (a : Addr) (as' : List Addr) (rows : SetOf list_cmp) → with_additions b w as' (map.insert rows (b, w, a) tt) ≡ with_additions b w (a ∷ as') rows
 sooner b w a as' rows = same_set list_total list_exact _ _ (λ q.
     let among = eq_by_cmp bssid_cmp q.0 b && (eq_by_cmp which_cmp q.1 w && is_among q.2 as') in
     listed b w as' (map.insert rows (b, w, a) tt) q.0 q.1 q.2 ∙ ap (λ t. among || t) (contains-insert list_total list_exact rows (b, w, a) q) ∙ swapped among (eq_by_cmp list_cmp q (b, w, a)) (contains rows q)
-    ∙ sym (contains-insert list_total list_exact (with_listed b w as' rows) (b, w, a) q ∙ ap (λ t. eq_by_cmp list_cmp q (b, w, a) || t) (listed b w as' rows q.0 q.1 q.2)))
+    ∙ sym (contains-insert list_total list_exact (with_additions b w as' rows) (b, w, a) q ∙ ap (λ t. eq_by_cmp list_cmp q (b, w, a) || t) (listed b w as' rows q.0 q.1 q.2)))
 
 -- additions put in list rows, and leave all else
-pub additions_meaning : (b : Bssid) (w : Which) (as' : List Addr) (s : State) → meaning_of (additions b w as') s ≡ record s { lists = with_listed b w as' s.lists }
-additions_meaning b w [] s = ap (λ l. record s { lists = l }) (same_set list_total list_exact s.lists (with_listed b w [] s.lists) (λ q. sym (ap is_some (get-from_entries list_total (map.entries s.lists) q ∙ sym (get-entries s.lists q)))))
+pub additions_meaning : (b : Bssid) (w : Which) (as' : List Addr) (s : State) → meaning_of (additions b w as') s ≡ record s { lists = with_additions b w as' s.lists }
+additions_meaning b w [] s = ap (λ l. record s { lists = l }) (same_set list_total list_exact s.lists (with_additions b w [] s.lists) (λ q. sym (ap is_some (get-from_entries list_total (map.entries s.lists) q ∙ sym (get-entries s.lists q)))))
 additions_meaning b w (a ∷ as') s = additions_meaning b w as' (add_to_list b w a s) ∙ ap (λ l. record s { lists = l }) (sooner b w a as' s.lists)
 
 pub first_meaning : (s : State) (conf : Conf) (b : Bssid) (accept deny : List Addr) → is_some (policy_at s b) ≡ false → meaning_of (first_start s conf b accept deny).changes s ≡ (first_start s conf b accept deny).state
@@ -95,7 +66,7 @@ first_meaning s conf b accept deny new =
     let started = set_policy b (policy_of conf) s in
     meaning_of-append (additions b Accept accept) (additions b Deny deny) started
     ∙ ap (meaning_of (additions b Deny deny)) (additions_meaning b Accept accept started)
-    ∙ additions_meaning b Deny deny (record started { lists = with_listed b Accept accept s.lists })
+    ∙ additions_meaning b Deny deny (record started { lists = with_additions b Accept accept s.lists })
     ∙ ap (λ c. record (first_start s conf b accept deny).state { cursors = c }) (cursors_first (policy_at s b) new s.cursors b)
 
 or_none : (t u : Bool) → u ≡ false → (t || u) ≡ t
@@ -173,7 +144,7 @@ module _ (b : Bssid) where
       )
 
       abbrev lists : SetOf list_cmp
-      lists = with_listed b Deny deny (with_listed b Accept accept s.lists)
+      lists = with_additions b Deny deny (with_additions b Accept accept s.lists)
 
       abbrev addresses : Which → List Addr
       addresses Accept = accept
@@ -182,7 +153,7 @@ module _ (b : Bssid) where
       -- no list row of the BSSID is an old one
       list_is : (w : Which) (a : Addr) → contains lists (b, w, a) ≡ is_among a (addresses w)
       list_is w a =
-          let rows = with_listed b Accept accept s.lists in
+          let rows = with_additions b Accept accept s.lists in
           listed b Deny deny rows b w a ∙ ap (λ t. (t && (eq_by_cmp which_cmp w Deny && is_among a deny)) || contains rows (b, w, a)) (tied bssid_total bssid_exact b)
           ∙ ap (λ t. (eq_by_cmp which_cmp w Deny && is_among a deny) || t) (listed b Accept accept s.lists b w a
           ∙ ap (λ t. (t && (eq_by_cmp which_cmp w Accept && is_among a accept)) || contains s.lists (b, w, a)) (tied bssid_total bssid_exact b)
@@ -202,7 +173,7 @@ module _ (b : Bssid) where
       other_rows : (c : Bssid) → c ≢ b → (w : Which) (a : Addr) → contains lists (c, w, a) ≡ contains s.lists (c, w, a)
       other_rows c ne w a =
           let other = apart bssid_total bssid_exact c b ne in
-          let rows = with_listed b Accept accept s.lists in
+          let rows = with_additions b Accept accept s.lists in
           listed b Deny deny rows c w a ∙ ap (λ t. (t && (eq_by_cmp which_cmp w Deny && is_among a deny)) || contains rows (c, w, a)) other
           ∙ listed b Accept accept s.lists c w a ∙ ap (λ t. (t && (eq_by_cmp which_cmp w Accept && is_among a accept)) || contains s.lists (c, w, a)) other
 
@@ -242,7 +213,7 @@ module _ (s : State) (conf : Conf) (b : Bssid) (known : IsSome (policy_at s b)) 
         accepted = λ new a. none_is (policy_at s b) new known;
         denied = λ new a. none_is (policy_at s b) new known;
         stored = λ h. refl;
-        stations = λ d. enforced_here s b (policy_of conf) (Policy b (policy_of conf)) s.lists policies d ∙ ap (λ o. cond (allowed_under (later_start s conf b).state b d o) (station_at s b d) None) (sym here);
+        stations = λ d. enforced_here s b (policy_of conf) (Policy b (policy_of conf)) s.lists policies d ∙ ap (λ o. cond (is_allowed_under (later_start s conf b).state b d o) (station_at s b d) None) (sym here);
         other_policies = λ c ne. policy_elsewhere s b (policy_of conf) c (apart bssid_total bssid_exact c b ne);
         other_cursors = λ c ne. refl;
         other_lists = λ c ne w a. refl;

@@ -1,40 +1,8 @@
 -- Whom drivers take in: whoever has newly become associated, once.
 use Rattle.std.proofs.Common.{◌≡◌, ℕ, ◌≤◌, zero, suc, Bool, true, false, cond, ◌&&◌, List, [], ◌∷◌, ◌++◌, ◌↔◌, length, Some, None, refl, sym, ap, subst, ◌∙◌, append-nil, append_assoc, arith, filter, map as list_map}
-use Rattle.std.specs.List.{AllByRecursion, Contains, flat_map}
-use Rattle.std.specs.Option.{is_some}
-use Rattle.std.specs.Ordering.{eq_by_cmp}
-use Rattle.std.proofs.lemmas.Bool.{and_parts}
-use Rattle.std.proofs.lemmas.List.Elements.{Contains-push}
-use Rattle.apd_base.specs.declared.address.Addr.{Addr}
-use Rattle.apd_base.specs.declared.address.Bssid.{Bssid}
-use Rattle.apd_base.specs.declared.station.Aid.{Aid}
-use Rattle.apd_base.specs.Addr.{addr_cmp, bssid_cmp, is_among}
-use Rattle.apd_base.specs.State.{State, aid_at}
-use Rattle.apd_base.proofs.AddrLemmas.{addr_total, addr_exact, bssid_total, bssid_exact, same_addr, same_bssid}
-use Rattle.apd_base.proofs.Cases.{differ, no_value, none_is, same_some}
-use Rattle.apd_base.proofs.MapLemmas.{tied}
-use Rattle.apd_conf.specs.declared.conf.Conf.{Conf}
-use Rattle.apd_conf.specs.Confs.{conf_at}
-use Rattle.apd_frame.specs.Contents.{AssociationRequest}
-use Rattle.apd_frame.specs.declared.codes.Status.TheVariants.{Success}
-use Rattle.apd_frame.specs.declared.codes.Reason.{Reason}
-use Rattle.apd_frame.specs.declared.codes.TheConstants.Reason.{UNSPECIFIED}
-use Rattle.apd_table.specs.Addresses.{addresses_at}
-use Rattle.apd_mlme.specs.declared.association.Kind.{Kind}
-use Rattle.apd_mlme.specs.declared.command_answer.Answer.{Answer}
-use Rattle.apd_mlme.specs.declared.decision.Recipient.{Recipient}
-use Rattle.apd_mlme.specs.declared.decision.Recipient.TheVariants.{Radio}
-use Rattle.apd_mlme.specs.declared.decision.Out.{Out}
-use Rattle.apd_mlme.specs.declared.decision.Out.TheVariants.{Install, Remove, Frame, Text}
-use Rattle.apd_mlme.specs.Happening.{Happening}
-use Rattle.apd_mlme.specs.Outs.{is_same, sent}
-use Rattle.apd_mlme.specs.rules.{verdict}
+use Rattle.apd_mlme.proofs.Words.{Addr, Aid, AllByRecursion, Answer, AreTakenIn, AssociationRequest, Bssid, Conf, Contains, Contains-push, Frame, Happening, HasBegun, Install, Kind, Out, Radio, Reason, Recipient, Remove, State, Success, Text, UNSPECIFIED, Verdict, addr_cmp, addr_exact, addr_total, addresses_at, aid_at, and_parts, association_response, bssid_cmp, bssid_exact, bssid_total, bssids_elsewhere, conf_at, deauthentication, differ, eq_by_cmp, installation, is_among, is_same, is_some, no_value, none_is, outs_elsewhere, outs_of_drop, outs_of_end, removal, reply_out, same_addr, same_bssid, same_some, stations_taken_in, tied, verdict, with_answer}
+use Rattle.std.specs.List.{flat_map}
 use Rattle.apd_mlme.specs.rules.Association as rule
-use Rattle.apd_mlme.specs.rules.Association.{association_response, elsewhere, installation, outs_elsewhere}
-use Rattle.apd_mlme.specs.rules.Commands.{answered}
-use Rattle.apd_mlme.specs.rules.Leaving.{deauthentication, outs_of_drop, outs_of_end, removal}
-use Rattle.apd_mlme.specs.Verdict.{Verdict}
-use Rattle.apd_mlme.specs.laws.NothingElse.{AreTakenIn, HasBegun, taken_in}
 use Rattle.apd_mlme.proofs.AssociationLemmas.{associated_aid, cleared, cleared_aid}
 use Rattle.apd_mlme.proofs.AuthenticationLemmas.{admitted_aid}
 use Rattle.apd_mlme.proofs.DropLemmas.{kept_aid, all_leave, is_elsewhere}
@@ -62,7 +30,7 @@ removal_none : (s : State) (b : Bssid) (a : Addr) → TakeNoneIn (removal s b a)
 removal_none s b a = elim (is_some (aid_at s b a)) as (λ t. TakeNoneIn (cond t ((Radio b, Remove a) ∷ []) [])) [ true ↦ (tt, tt) | false ↦ tt ]
 
 drop_none : (s : State) (b : Bssid) (reason : Reason) (a : Addr) → TakeNoneIn (outs_of_drop s b a reason)
-drop_none s b reason a = all_both TakesNoneIn (removal s b a) (sent (deauthentication b a reason) ∷ []) (removal_none s b a) (tt, tt)
+drop_none s b reason a = all_both TakesNoneIn (removal s b a) (reply_out (deauthentication b a reason) ∷ []) (removal_none s b a) (tt, tt)
 
 module _ (c : Bssid) where
   -- what a radio gets of an out and of those behind it
@@ -70,25 +38,25 @@ module _ (c : Bssid) where
   with_out x outs t = let rest = filter (λ z. is_same (Radio c) z.0) outs in list_map (λ (z : Recipient × Out). z.1) (cond t (x ∷ rest) rest)
 
   -- they are passed over
-  passed : (xs ys : List (Recipient × Out)) → TakeNoneIn xs → taken_in (here c (xs ++ ys)) ≡ taken_in (here c ys)
+  passed : (xs ys : List (Recipient × Out)) → TakeNoneIn xs → stations_taken_in (here c (xs ++ ys)) ≡ stations_taken_in (here c ys)
   passed [] ys none = refl
   passed ((r, Install a aid) ∷ xs) ys none = absurd none.0
-  passed ((r, Remove a) ∷ xs) ys none = elim (is_same (Radio c) r) as (λ t. taken_in (with_out (r, Remove a) (xs ++ ys) t) ≡ taken_in (here c ys)) [ true ↦ passed xs ys none.1 | false ↦ passed xs ys none.1 ]
-  passed ((r, Frame bytes) ∷ xs) ys none = elim (is_same (Radio c) r) as (λ t. taken_in (with_out (r, Frame bytes) (xs ++ ys) t) ≡ taken_in (here c ys)) [ true ↦ passed xs ys none.1 | false ↦ passed xs ys none.1 ]
-  passed ((r, Text tag bytes) ∷ xs) ys none = elim (is_same (Radio c) r) as (λ t. taken_in (with_out (r, Text tag bytes) (xs ++ ys) t) ≡ taken_in (here c ys)) [ true ↦ passed xs ys none.1 | false ↦ passed xs ys none.1 ]
+  passed ((r, Remove a) ∷ xs) ys none = elim (is_same (Radio c) r) as (λ t. stations_taken_in (with_out (r, Remove a) (xs ++ ys) t) ≡ stations_taken_in (here c ys)) [ true ↦ passed xs ys none.1 | false ↦ passed xs ys none.1 ]
+  passed ((r, Frame bytes) ∷ xs) ys none = elim (is_same (Radio c) r) as (λ t. stations_taken_in (with_out (r, Frame bytes) (xs ++ ys) t) ≡ stations_taken_in (here c ys)) [ true ↦ passed xs ys none.1 | false ↦ passed xs ys none.1 ]
+  passed ((r, Text tag bytes) ∷ xs) ys none = elim (is_same (Radio c) r) as (λ t. stations_taken_in (with_out (r, Text tag bytes) (xs ++ ys) t) ≡ stations_taken_in (here c ys)) [ true ↦ passed xs ys none.1 | false ↦ passed xs ys none.1 ]
 
-  none_in : (xs : List (Recipient × Out)) → TakeNoneIn xs → taken_in (here c xs) ≡ []
-  none_in xs none = ap (λ outs. taken_in (here c outs)) (sym (append-nil xs)) ∙ passed xs [] none
+  none_in : (xs : List (Recipient × Out)) → TakeNoneIn xs → stations_taken_in (here c xs) ≡ []
+  none_in xs none = ap (λ outs. stations_taken_in (here c outs)) (sym (append-nil xs)) ∙ passed xs [] none
 
 -- ---- nobody, and one
 module _ (s : State) (c : Bssid) (v : Verdict) where
-  nobody : taken_in (here c v.outs) ≡ [] → ((d : Addr) (i : ℕ) → HasBegun s v.state c d i → ⊥) → AreTakenIn s c v
+  nobody : stations_taken_in (here c v.outs) ≡ [] → ((d : Addr) (i : ℕ) → HasBegun s v.state c d i → ⊥) → AreTakenIn s c v
   nobody is none = record {
     once = subst (λ xs. length xs ≤ 1) (sym is) (omega arith);
     those = λ d i. (λ h. (let none_there = subst (λ xs. Contains xs (d, i)) is h in absurd (omega (arith, none_there.1))), λ begun. absurd (none d i begun));
   }
 
-  one_taken : (a : Addr) (n : ℕ) → taken_in (here c v.outs) ≡ (a, n) ∷ [] → HasBegun s v.state c a n → ((d : Addr) (i : ℕ) → HasBegun s v.state c d i → (a ≡ d) × (n ≡ i)) → AreTakenIn s c v
+  one_taken : (a : Addr) (n : ℕ) → stations_taken_in (here c v.outs) ≡ (a, n) ∷ [] → HasBegun s v.state c a n → ((d : Addr) (i : ℕ) → HasBegun s v.state c d i → (a ≡ d) × (n ≡ i)) → AreTakenIn s c v
   one_taken a n is begun alone = record {
     once = subst (λ xs. length xs ≤ 1) (sym is) (omega arith);
     those = λ d i. (
@@ -120,34 +88,34 @@ module _ (s : State) (confs : List Conf) (conf : Conf) (b : Bssid) (kind : Kind)
   a = request.sender
 
   abbrev v : Verdict
-  v = rule.associated s confs conf b kind request aid
+  v = rule.acceptance s confs conf b kind request aid
 
   abbrev ends : List (Recipient × Out)
-  ends = outs_elsewhere confs a (elsewhere s b a)
+  ends = outs_elsewhere confs a (bssids_elsewhere s b a)
 
   abbrev response : Recipient × Out
-  response = sent (association_response conf b kind a Success (Some aid))
+  response = reply_out (association_response conf b kind a Success (Some aid))
 
-  taken_here : taken_in (here c v.outs) ≡ taken_in (here c (installation s b a aid ++ response ∷ []))
+  taken_here : stations_taken_in (here c v.outs) ≡ stations_taken_in (here c (installation s b a aid ++ response ∷ []))
   taken_here =
-      ap (λ outs. taken_in (here c outs)) (append_assoc ends (installation s b a aid) (response ∷ []))
-      ∙ passed c ends (installation s b a aid ++ response ∷ []) (each_none (λ x. outs_of_end x a UNSPECIFIED) (λ x. (tt, (tt, tt))) (filter (λ x. is_some (conf_at confs x)) (elsewhere s b a)))
+      ap (λ outs. stations_taken_in (here c outs)) (append_assoc ends (installation s b a aid) (response ∷ []))
+      ∙ passed c ends (installation s b a aid ++ response ∷ []) (each_none (λ x. outs_of_end x a UNSPECIFIED) (λ x. (tt, (tt, tt))) (filter (λ x. is_some (conf_at confs x)) (bssids_elsewhere s b a)))
 
   -- whoever has newly an identifier is the sender here
   begun_here : (d : Addr) (i : ℕ) → HasBegun s v.state c d i → ((c ≡ b) × (d ≡ a)) × (aid.number ≡ i)
   begun_here d i begun =
       elim (is_row b a c d) as (λ t. is_row b a c d ≡ t → aid_at v.state c d ≡ cond t (Some aid.number) (aid_at (cleared s b a) c d) → ((c ≡ b) × (d ≡ a)) × (aid.number ≡ i)) [
         | true ↦ λ e is. (let parts = and_parts (eq_by_cmp bssid_cmp c b) (eq_by_cmp addr_cmp d a) e in ((same_bssid b c parts.0, same_addr a d parts.1), same_some aid.number i (sym is ∙ begun.1)))
-        | false ↦ λ e is. absurd (not_begun s c (record v { state = cleared s b a }) (λ x. (is_bssid_among c (elsewhere s b a) && eq_by_cmp addr_cmp x a, cleared_aid s b a c x)) d i (begun.0, sym is ∙ begun.1))
+        | false ↦ λ e is. absurd (not_begun s c (record v { state = cleared s b a }) (λ x. (is_bssid_among c (bssids_elsewhere s b a) && eq_by_cmp addr_cmp x a, cleared_aid s b a c x)) d i (begun.0, sym is ∙ begun.1))
       ] refl (associated_aid s confs conf b kind request aid c d)
 
   associated_taken : AreTakenIn s c v
   associated_taken =
-      elim (is_some (aid_at s b a)) as (λ t. is_some (aid_at s b a) ≡ t → taken_in (here c v.outs) ≡ taken_in (here c (cond t [] ((Radio b, Install a aid) ∷ []) ++ response ∷ [])) → AreTakenIn s c v) [
+      elim (is_some (aid_at s b a)) as (λ t. is_some (aid_at s b a) ≡ t → stations_taken_in (here c v.outs) ≡ stations_taken_in (here c (cond t [] ((Radio b, Install a aid) ∷ []) ++ response ∷ [])) → AreTakenIn s c v) [
         | true ↦ λ known is. nobody s c v (is ∙ none_in c (response ∷ []) (tt, tt))
             (λ d i begun. (let its = begun_here d i begun in none_is (aid_at s b a) (sym (λ j. aid_at s ((its.0).0 j) ((its.0).1 j)) ∙ begun.0) known))
         | false ↦ λ none is.
-            elim (eq_by_cmp bssid_cmp c b) as (λ t. eq_by_cmp bssid_cmp c b ≡ t → taken_in (here c v.outs) ≡ taken_in (with_out c (Radio b, Install a aid) (response ∷ []) t) → AreTakenIn s c v) [
+            elim (eq_by_cmp bssid_cmp c b) as (λ t. eq_by_cmp bssid_cmp c b ≡ t → stations_taken_in (here c v.outs) ≡ stations_taken_in (with_out c (Radio b, Install a aid) (response ∷ []) t) → AreTakenIn s c v) [
               | true ↦ λ same at. one_taken s c v a aid.number (at ∙ ap (λ xs. (a, aid.number) ∷ xs) (none_in c (response ∷ []) (tt, tt))) (
                 ap (λ x. aid_at s x a) (same_bssid b c same) ∙ no_value (aid_at s b a) none,
                 associated_aid s confs conf b kind request aid c a ∙ (λ j. cond (same j && tied addr_total addr_exact a j) (Some aid.number) (aid_at (cleared s b a) c a)),
@@ -178,10 +146,10 @@ module _ (s : State) (confs : List Conf) (c : Bssid) where
       quiet s c w (each_none (λ a. outs_of_drop s b a UNSPECIFIED) (drop_none s b UNSPECIFIED) gone) (λ d. (eq_by_cmp bssid_cmp c b && is_among d gone, enforced_aid s b p change l q c d))
   shape_taken h v (shape.started conf b accept deny is first) = quiet s c v tt (λ d. (false, refl))
 
-  answered_taken : (tag : ℕ) (answer : Answer) (v : Verdict) → AreTakenIn s c v → AreTakenIn s c (answered tag answer v)
+  answered_taken : (tag : ℕ) (answer : Answer) (v : Verdict) → AreTakenIn s c v → AreTakenIn s c (with_answer tag answer v)
   answered_taken tag answer v are = record {
-    once = subst (λ outs. length (taken_in outs) ≤ 1) (sym (answered_at c tag answer v.outs)) are.once;
-    those = λ a i. subst (λ outs. Contains (taken_in outs) (a, i) ↔ HasBegun s v.state c a i) (sym (answered_at c tag answer v.outs)) (are.those a i);
+    once = subst (λ outs. length (stations_taken_in outs) ≤ 1) (sym (answered_at c tag answer v.outs)) are.once;
+    those = λ a i. subst (λ outs. Contains (stations_taken_in outs) (a, i) ↔ HasBegun s v.state c a i) (sym (answered_at c tag answer v.outs)) (are.those a i);
   }
 
   pub verdict_takes_in : (h : Happening) → AreTakenIn s c (verdict s confs h)

@@ -1,57 +1,10 @@
 -- What leaves is so in the state after, and goes to a radio that is there.
 use Rattle.std.proofs.Common.{◌≡◌, ◌≢◌, inl, inr, Bool, true, false, cond, not, ◌&&◌, ◌||◌, List, [], ◌∷◌, ◌++◌, Some, None, refl, sym, ap, subst, ◌∙◌, IsSome}
 use Rattle.std.specs.Prelude.{filter}
-use Rattle.std.specs.List.{AllByRecursion, flat_map}
-use Rattle.std.specs.Option.{is_some}
-use Rattle.std.specs.Ordering.{eq_by_cmp}
-use Rattle.std.specs.FinMap.{FinMap}
-use Rattle.std.proofs.lemmas.Bool.{and_parts}
-use Rattle.apd_base.specs.declared.address.Addr.{Addr}
-use Rattle.apd_base.specs.declared.address.Bssid.{Bssid}
-use Rattle.apd_base.specs.declared.station.AclMode.{AclMode}
-use Rattle.apd_base.specs.declared.station.Aid.{Aid}
-use Rattle.apd_base.specs.declared.station.Policy.{Policy}
-use Rattle.apd_base.specs.declared.station.Station.TheVariants.{Authenticated}
-use Rattle.apd_base.specs.Addr.{addr_cmp, bssid_cmp, is_among}
-use Rattle.apd_base.specs.Sets.{SetOf}
-use Rattle.apd_base.specs.State.{State, list_cmp, station_at, aid_of, aid_at}
-use Rattle.apd_base.proofs.AddrLemmas.{addr_total, addr_exact, other_way}
-use Rattle.apd_base.proofs.MapLemmas.{tied}
-use Rattle.apd_base.proofs.StateLemmas.{station_of_aid}
-use Rattle.apd_conf.specs.declared.conf.Conf.{Conf}
-use Rattle.apd_conf.specs.Confs.{conf_at}
-use Rattle.apd_frame.specs.Contents.{AssociationRequest}
-use Rattle.apd_frame.specs.declared.codes.Reason.{Reason}
-use Rattle.apd_frame.specs.declared.codes.Status.TheVariants.{Success}
-use Rattle.apd_frame.specs.declared.codes.TheConstants.Reason.{UNSPECIFIED}
-use Rattle.apd_frame.specs.declared.replies.Reply.{Reply}
-use Rattle.apd_record.specs.Meaning.{put_station}
-use Rattle.apd_record.specs.declared.change.Change.{Change}
-use Rattle.apd_table.specs.Addresses.{addresses_at}
-use Rattle.apd_table.specs.Allowed.{denied_by}
-use Rattle.apd_table.specs.Sound.{Sound}
-use Rattle.apd_table.proofs.Denied.{denied_among}
-use Rattle.apd_mlme.specs.declared.association.Kind.{Kind}
-use Rattle.apd_mlme.specs.declared.association.Kind.TheVariants.{Association, Reassociation}
-use Rattle.apd_mlme.specs.declared.decision.Recipient.{Recipient}
-use Rattle.apd_mlme.specs.declared.decision.Recipient.TheVariants.{Radio, Control}
-use Rattle.apd_mlme.specs.declared.decision.Out.{Out}
-use Rattle.apd_mlme.specs.declared.decision.Out.TheVariants.{Install, Remove}
-use Rattle.apd_base.specs.declared.address.TheConstants.{BROADCAST}
-use Rattle.apd_mlme.specs.rules.Association.{association_response, elsewhere, outs_elsewhere, installation}
+use Rattle.apd_mlme.proofs.Words.{AclMode, Addr, Aid, AllByRecursion, AreSo, AreSoToAll, AreThere, Association, AssociationRequest, Authenticated, BROADCAST, Bssid, Change, Conf, Control, FinMap, Happening, Install, IsFromStation, IsMeant, IsSaidSo, IsSo, IsSoToAll, IsThere, Kind, NoBroadcastRow, NoneIsBroadcast, Out, Policy, Radio, Reason, Reassociation, Recipient, Remove, Reply, SetOf, Sound, State, Success, UNSPECIFIED, Verdict, addr_cmp, addr_exact, addr_total, addresses_at, aid_at, aid_of, and_parts, association_response, auth_response, auth_status, bssid_cmp, bssids_elsewhere, conf_at, denials_by, denied_among, eq_by_cmp, farewell, identifier_for, installation, is_among, is_some, kick_of_all, list_cmp, none_is, other_way, outs_elsewhere, outs_of_drop, outs_of_end, outs_to, put_station, removal, reply_out, second_true, station_at, station_of_aid, text, tied, verdict}
+use Rattle.std.specs.List.{flat_map}
 use Rattle.apd_mlme.specs.rules.Association as rule
-use Rattle.apd_mlme.specs.rules.Authentication.{auth_response, auth_status}
-use Rattle.apd_mlme.specs.rules.Commands.{text, farewell, all_kicked}
-use Rattle.apd_mlme.specs.laws.AssociationEnd.{IsMeant}
-use Rattle.apd_mlme.specs.Happening.{Happening}
-use Rattle.apd_mlme.specs.rules.Identifiers.{identifier_for}
 use Rattle.apd_mlme.specs.rules.Leaving as leaving
-use Rattle.apd_mlme.specs.rules.Leaving.{removal, outs_of_end, outs_of_drop}
-use Rattle.apd_mlme.specs.Outs.{outs_to, sent}
-use Rattle.apd_mlme.specs.rules.{verdict}
-use Rattle.apd_mlme.specs.laws.Outs.{IsSaidSo, IsSo, AreSo, IsSoToAll, AreSoToAll, IsThere, AreThere}
-use Rattle.apd_mlme.specs.laws.Broadcast.{NoneIsBroadcast, NoBroadcastRow, IsFromStation}
-use Rattle.apd_mlme.specs.Verdict.{Verdict}
 use Rattle.apd_mlme.proofs.AssociationResponseLemmas.{row_here, row_elsewhere}
 use Rattle.apd_mlme.proofs.AssociationLemmas.{cleared_elsewhere}
 use Rattle.apd_mlme.proofs.Shapes as shape
@@ -60,7 +13,6 @@ use Rattle.apd_mlme.proofs.DropLemmas.{all_gone}
 use Rattle.apd_mlme.proofs.RowLemmas.{put_row, back, out, out_row, put_back_aid}
 use Rattle.apd_mlme.proofs.ElsewhereLemmas as elsewhere_laws
 use Rattle.apd_mlme.proofs.EnforcementLemmas.{new, denied, v, enforced_dropped}
-use Rattle.apd_base.proofs.Cases.{none_is, second_true}
 
 -- of each in two lists
 pub all_both : {X : Type 0} (P : X → Type 0) (xs ys : List X) → AllByRecursion P xs → AllByRecursion P ys → AllByRecursion P (xs ++ ys)
@@ -104,7 +56,7 @@ module _ (s : State) (E : Type 0) (confs : List Conf) where
   IsOne a = E → a ≢ BROADCAST
 
   -- a frame whose body says what is so
-  said : (new : State) (reply : Reply) → IsSome (conf_at confs reply.bssid) → (Sound s → IsSaidSo new reply.bssid reply.to reply.body) → IsOne reply.to → IsRight new (sent reply)
+  said : (new : State) (reply : Reply) → IsSome (conf_at confs reply.bssid) → (Sound s → IsSaidSo new reply.bssid reply.to reply.body) → IsOne reply.to → IsRight new (reply_out reply)
   said new reply there h one = (
     λ sound. (reply, refl, refl, h sound),
     λ sound e. (reply, refl, refl, λ a meant. subst (λ x. IsSaidSo new reply.bssid x reply.body) (meant_one reply.to a (one e) meant) (h sound)),
@@ -112,7 +64,7 @@ module _ (s : State) (E : Type 0) (confs : List Conf) where
   )
 
   -- and one whose body says what is so of everyone
-  said_to_all : (new : State) (reply : Reply) → IsSome (conf_at confs reply.bssid) → ((a : Addr) → IsSaidSo new reply.bssid a reply.body) → IsRight new (sent reply)
+  said_to_all : (new : State) (reply : Reply) → IsSome (conf_at confs reply.bssid) → ((a : Addr) → IsSaidSo new reply.bssid a reply.body) → IsRight new (reply_out reply)
   said_to_all t reply there h = (λ _. (reply, refl, refl, h reply.to), λ _ _. (reply, refl, refl, λ a _. h a), there)
 
   all_right : (new : State) (xs ys : List (Recipient × Out)) → AreRight new xs → AreRight new ys → AreRight new (xs ++ ys)
@@ -132,7 +84,7 @@ module _ (s : State) (E : Type 0) (confs : List Conf) where
       removal_right new gone = elim (is_some (aid_at s b a)) as (λ t. AreRight new (cond t ((Radio b, Remove a) ∷ []) [])) [ true ↦ (removed new a (λ _. ap aid_of gone), tt) | false ↦ tt ]
 
       drop_right : (new : State) → station_at new b a ≡ None → (reason : Reason) → IsOne a → AreRight new (outs_of_drop s b a reason)
-      drop_right new gone reason one = all_right new (removal s b a) (sent (leaving.deauthentication b a reason) ∷ []) (removal_right new gone) (said new (leaving.deauthentication b a reason) there (λ _. gone) one, tt)
+      drop_right new gone reason one = all_right new (removal s b a) (reply_out (leaving.deauthentication b a reason) ∷ []) (removal_right new gone) (said new (leaving.deauthentication b a reason) there (λ _. gone) one, tt)
 
       put_back_right : (reason : Reason) → IsOne a → AreRight (back s b a) (outs_of_end b a reason)
       put_back_right reason one =
@@ -159,11 +111,11 @@ module _ (s : State) (E : Type 0) (confs : List Conf) where
       a = request.sender
 
       abbrev answered : Verdict
-      answered = rule.associated s confs conf b kind request aid
+      answered = rule.acceptance s confs conf b kind request aid
 
-      ended : (c : Bssid) → elsewhere_laws.is_bssid_among c (filter (λ x. is_some (conf_at confs x)) (elsewhere s b a)) ≡ true → (Sound s → aid_at answered.state c a ≡ None) × IsSome (conf_at confs c)
+      ended : (c : Bssid) → elsewhere_laws.is_bssid_among c (filter (λ x. is_some (conf_at confs x)) (bssids_elsewhere s b a)) ≡ true → (Sound s → aid_at answered.state c a ≡ None) × IsSome (conf_at confs c)
       ended c among =
-          let parts = and_parts _ _ (sym (elsewhere_laws.among-filter (λ x. is_some (conf_at confs x)) c (elsewhere s b a)) ∙ among) in
+          let parts = and_parts _ _ (sym (elsewhere_laws.among-filter (λ x. is_some (conf_at confs x)) c (bssids_elsewhere s b a)) ∙ among) in
           let other = not_here (eq_by_cmp bssid_cmp b c) (is_some (aid_at s c a)) (and_parts _ _ (sym (elsewhere_laws.among_elsewhere s b a c) ∙ parts.1)).0 in
           (λ sound. ap aid_of (row_elsewhere s confs conf b kind request sound aid own c (other_way c b other) a) ∙ cleared_elsewhere s b a sound c other, parts.0)
 
@@ -180,32 +132,32 @@ module _ (s : State) (E : Type 0) (confs : List Conf) where
       installation_right : AreRight answered.state (installation s b a aid)
       installation_right = elim (is_some (aid_at s b a)) as (λ t. AreRight answered.state (cond t [] ((Radio b, Install a aid) ∷ []))) [ true ↦ tt | false ↦ ((aid_here, λ _ _. tt, there), tt) ]
 
-      response_right : (k : Kind) → IsRight answered.state (sent (association_response conf b k a Success (Some aid)))
+      response_right : (k : Kind) → IsRight answered.state (reply_out (association_response conf b k a Success (Some aid)))
       response_right Association = said answered.state (association_response conf b Association a Success (Some aid)) there (λ sound _. aid_here sound) one
       response_right Reassociation = said answered.state (association_response conf b Reassociation a Success (Some aid)) there (λ sound _. aid_here sound) one
 
       associated_right : AreRight answered.state answered.outs
       associated_right =
-          all_right answered.state (outs_elsewhere confs a (elsewhere s b a) ++ installation s b a aid) (sent (association_response conf b kind a Success (Some aid)) ∷ [])
-          (all_right answered.state (outs_elsewhere confs a (elsewhere s b a)) (installation s b a aid) (ends_right (filter (λ x. is_some (conf_at confs x)) (elsewhere s b a)) ended) installation_right)
+          all_right answered.state (outs_elsewhere confs a (bssids_elsewhere s b a) ++ installation s b a aid) (reply_out (association_response conf b kind a Success (Some aid)) ∷ [])
+          (all_right answered.state (outs_elsewhere confs a (bssids_elsewhere s b a)) (installation s b a aid) (ends_right (filter (λ x. is_some (conf_at confs x)) (bssids_elsewhere s b a)) ended) installation_right)
           (response_right kind, tt)
 
     -- ---- a start, and control commands
-    denied_is_one : (t : State) → (E → NoBroadcastRow t) → (mode : AclMode) (d : Addr) → is_among d (denied_by t b mode) ≡ true → IsOne d
+    denied_is_one : (t : State) → (E → NoBroadcastRow t) → (mode : AclMode) (d : Addr) → is_among d (denials_by t b mode) ≡ true → IsOne d
     denied_is_one t rows mode d among = let row = (denied_among t b mode d among).0 in row_is_one t rows b d (ap is_some row.1)
 
     enforced_right : (E → NoBroadcastRow s) → (p : Policy) (change : Change) (l : SetOf list_cmp) (q : FinMap bssid_cmp Policy) → AreRight (v s b p change l q).state (v s b p change l q).outs
     enforced_right rows p change l q = drops_right (v s b p change l q).state (denied s b p change l q)
         (λ d among. (enforced_dropped s b p change l q d among, denied_is_one (new s b p change l q) rows p.mode d among))
 
-    farewell_right : (new : State) (reason : Reason) (t : Bool) → ((a : Addr) → station_at new b a ≡ None) → IsRight new (sent (farewell b BROADCAST reason t))
+    farewell_right : (new : State) (reason : Reason) (t : Bool) → ((a : Addr) → station_at new b a ≡ None) → IsRight new (reply_out (farewell b BROADCAST reason t))
     farewell_right new reason true gone = said_to_all new (leaving.deauthentication b BROADCAST reason) there gone
     farewell_right new reason false gone = said_to_all new (leaving.disassociation b BROADCAST reason) there (λ a. ap aid_of (gone a))
 
-    all_kicked_right : (reason : Reason) (t : Bool) → let v = all_kicked s b reason t in AreRight v.state v.outs
+    all_kicked_right : (reason : Reason) (t : Bool) → let v = kick_of_all s b reason t in AreRight v.state v.outs
     all_kicked_right reason t =
-        let v = all_kicked s b reason t in
-        all_right v.state (flat_map (removal s b) (addresses_at s b)) (sent (farewell b BROADCAST reason t) ∷ [])
+        let v = kick_of_all s b reason t in
+        all_right v.state (flat_map (removal s b) (addresses_at s b)) (reply_out (farewell b BROADCAST reason t) ∷ [])
         (removals_right v.state (addresses_at s b) (all_gone s b)) (farewell_right v.state reason t (all_gone s b), tt)
 
 -- ---- any event

@@ -1,30 +1,8 @@
 -- Identifiers are given in turn, so every other one comes between two givings of the same.
 use Rattle.std.proofs.Common.{◌≡◌, ◌≢◌, ℕ, ◌<◌, ◌≤◌, Bool, true, false, cond, ◌&&◌, List, [], ◌∷◌, Option, Some, None, ◌⊎◌, inl, inr, refl, sym, ap, subst, ◌∙◌, IsSome, arith}
-use Rattle.std.specs.Option.{is_some}
-use Rattle.std.specs.Ordering.{eq_by_cmp}
+use Rattle.apd_mlme.proofs.Words.{Addr, Aid, AreFit, AssociationRequest, Bssid, Conf, Happening, IsNextFree, IsTaken, Kind, Sound, State, Verdict, addr_cmp, addresses_at, aid_at, aid_of, and_parts, bssid_cmp, bssid_exact, bssid_total, bssids_elsewhere, cases_lt, cursor_at, eq_by_cmp, get_insert_other, get_inserted, identifier_for, is_among, is_some, last_given, no_value, none_given, none_is, number_or_0, one_or_apart, policy_at, run, same_addr, same_some, station_at, verdict}
 use Rattle.std.specs.FinMap as map
-use Rattle.std.proofs.lemmas.Bool.{and_parts, cases_lt}
-use Rattle.apd_base.specs.declared.address.Addr.{Addr}
-use Rattle.apd_base.specs.declared.address.Bssid.{Bssid}
-use Rattle.apd_base.specs.declared.station.Aid.{Aid}
-use Rattle.apd_base.specs.Addr.{addr_cmp, bssid_cmp, is_among}
-use Rattle.apd_base.specs.State.{State, station_at, policy_at, cursor_at, aid_of, aid_at}
-use Rattle.apd_base.proofs.AddrLemmas.{bssid_total, bssid_exact, same_addr}
-use Rattle.apd_base.proofs.Cases.{no_value, none_is, same_some}
-use Rattle.apd_base.proofs.MapLemmas.{get_insert_other, get_inserted, one_or_apart}
-use Rattle.apd_conf.specs.declared.conf.Conf.{Conf}
-use Rattle.apd_frame.specs.Contents.{AssociationRequest}
-use Rattle.apd_record.specs.Meaning.{none_given}
-use Rattle.apd_table.specs.LeastFree.{IsNextFree, IsTaken, last_given, number_or_0}
-use Rattle.apd_table.specs.Sound.{Sound}
-use Rattle.apd_mlme.specs.declared.association.Kind.{Kind}
-use Rattle.apd_mlme.specs.Happening.{Happening}
 use Rattle.apd_mlme.specs.rules.Association as rule
-use Rattle.apd_mlme.specs.rules.Association.{elsewhere}
-use Rattle.apd_mlme.specs.rules.Identifiers.{identifier_for}
-use Rattle.apd_mlme.specs.rules.{verdict}
-use Rattle.apd_mlme.specs.Run.{run, AreFit}
-use Rattle.apd_mlme.specs.Verdict.{Verdict}
 use Rattle.apd_mlme.specs.laws.Turns.{AreGivenInTurn, IsGiven, WasTaken}
 use Rattle.apd_mlme.proofs.AssociationLemmas.{cleared, cleared_aid, associated_aid}
 use Rattle.apd_mlme.proofs.AssociationResponseLemmas.{cursor_elsewhere, cursors_kept, last_told, next_told, row_here}
@@ -37,7 +15,6 @@ use Rattle.apd_mlme.proofs.RowLemmas.{is_row, back_aid, out_aid}
 use Rattle.apd_mlme.proofs.Shapes as shape
 use Rattle.apd_mlme.proofs.Shapes.{Shape, by_shape}
 use Rattle.apd_mlme.proofs.VerdictLemmas.{after_sound}
-use Rattle.apd_table.specs.Addresses.{addresses_at}
 
 -- ---- what one event gives
 module _ (s : State) (b : Bssid) where
@@ -71,14 +48,14 @@ module _ (s : State) (b : Bssid) where
     a = request.sender
 
     abbrev new : State
-    new = (rule.associated s confs conf b kind request aid).state
+    new = (rule.acceptance s confs conf b kind request aid).state
 
     -- nobody else is given one
     its_own : (i : ℕ) (d : Addr) → aid_at s b d ≡ None → aid_at new b d ≡ Some i → (d ≡ a) × (i ≡ aid.number)
     its_own i d none now =
         elim (is_row b a b d) as (λ t. is_row b a b d ≡ t → cond t (Some aid.number) (aid_at (cleared s b a) b d) ≡ Some i → (d ≡ a) × (i ≡ aid.number)) [
           | true ↦ λ e same. (same_addr a d (and_parts (eq_by_cmp bssid_cmp b b) (eq_by_cmp addr_cmp d a) e).1, sym (same_some aid.number i same))
-          | false ↦ λ e other. had (elsewhere_laws.is_bssid_among b (elsewhere s b a) && eq_by_cmp addr_cmp d a) d i _ (cleared_aid s b a b d) none other
+          | false ↦ λ e other. had (elsewhere_laws.is_bssid_among b (bssids_elsewhere s b a) && eq_by_cmp addr_cmp d a) d i _ (cleared_aid s b a b d) none other
         ] refl (sym (associated_aid s confs conf b kind request aid b d) ∙ now)
 
     again : IsSome (aid_at s b a) → IsTurn new
@@ -105,18 +82,18 @@ module _ (s : State) (b : Bssid) where
 
   -- at another BSSID
   associated_there : (confs : List Conf) (conf : Conf) (c : Bssid) (kind : Kind) (request : AssociationRequest) → Sound s → (aid : Aid) → identifier_for s c (station_at s c request.sender) ≡ Some aid → eq_by_cmp bssid_cmp b c ≡ false
-      → IsTurn (rule.associated s confs conf c kind request aid).state
+      → IsTurn (rule.acceptance s confs conf c kind request aid).state
   associated_there confs conf c kind request sound aid own other =
       let a = request.sender in
-      keeps (rule.associated s confs conf c kind request aid).state (λ d. elsewhere_laws.is_bssid_among b (elsewhere s c a) && eq_by_cmp addr_cmp d a)
+      keeps (rule.acceptance s confs conf c kind request aid).state (λ d. elsewhere_laws.is_bssid_among b (bssids_elsewhere s c a) && eq_by_cmp addr_cmp d a)
       (λ d. associated_aid s confs conf c kind request aid b d ∙ ap (λ t. cond (t && eq_by_cmp addr_cmp d a) (Some aid.number) (aid_at (cleared s c a) b d)) other ∙ cleared_aid s c a b d)
       (ap number_or_0 (cursor_elsewhere s confs conf c kind request sound aid own b other))
 
   associated_turn : (confs : List Conf) (conf : Conf) (c : Bssid) (kind : Kind) (request : AssociationRequest) → Sound s → (aid : Aid) → identifier_for s c (station_at s c request.sender) ≡ Some aid
-      → IsTurn (rule.associated s confs conf c kind request aid).state
+      → IsTurn (rule.acceptance s confs conf c kind request aid).state
   associated_turn confs conf c kind request sound aid own =
       elim (one_or_apart bssid_total bssid_exact b c) [
-        | inl same ↦ subst (λ x. identifier_for s x (station_at s x request.sender) ≡ Some aid → IsTurn (rule.associated s confs conf x kind request aid).state) same (λ here. associated_here confs conf kind request sound aid here) own
+        | inl same ↦ subst (λ x. identifier_for s x (station_at s x request.sender) ≡ Some aid → IsTurn (rule.acceptance s confs conf x kind request aid).state) same (λ here. associated_here confs conf kind request sound aid here) own
         | inr other ↦ associated_there confs conf c kind request sound aid own other
       ]
 

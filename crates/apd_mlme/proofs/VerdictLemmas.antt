@@ -1,21 +1,7 @@
 -- The laws of every verdict, and of runs.
 use Rattle.std.proofs.Common.{◌≡◌, ℕ, Bool, true, false, List, [], ◌∷◌, Result, Ok, Err, IfOk, ◌⊎◌, ◌<◌, inl, inr, refl, sym, ap, subst, ◌∙◌, IsSome}
 use Rattle.std.specs.FinMap as map
-use Rattle.std.specs.Option.{is_some}
-use Rattle.apd_base.specs.declared.address.Bssid.{Bssid}
-use Rattle.apd_base.specs.State.{State, policy_at, aid_at}
-use Rattle.apd_base.proofs.StateLemmas.{station_of_aid}
-use Rattle.apd_conf.specs.declared.conf.Conf.{Conf}
-use Rattle.apd_conf.specs.Confs.{conf_at}
-use Rattle.apd_record.specs.declared.change.Change.{Change}
-use Rattle.apd_record.specs.Meaning.{meaning, meaning_of}
-use Rattle.apd_table.specs.Sound.{Sound, StaySound}
-use Rattle.apd_mlme.specs.declared.decision.Decision.{Decision}
-use Rattle.apd_mlme.specs.laws.Driver.{FollowsDrivers}
-use Rattle.apd_mlme.specs.rules.{verdict, IsFit}
-use Rattle.apd_mlme.specs.Run.{run, AreFit}
-use Rattle.apd_mlme.specs.Verdict.{Verdict}
-use Rattle.apd_mlme.specs.Happening.{Happening}
+use Rattle.apd_mlme.proofs.Words.{AreFit, Bssid, Change, Conf, Decision, FollowsDrivers, Happening, IsFit, Sound, State, StaySound, Verdict, aid_at, conf_at, is_some, meaning, meaning_of, policy_at, run, station_of_aid, verdict}
 use Rattle.apd_mlme.proofs.AssociationLemmas.{associated_meaning, associated_sound, associated_follows}
 use Rattle.apd_mlme.proofs.AuthenticationLemmas.{admitted_sound, admitted_aid}
 use Rattle.apd_mlme.proofs.CommandLemmas.{all_meaning, all_sound, all_follows, answered_follows}

@@ -10,8 +10,8 @@ use Rattle.apd_mlme.specs.declared.decision.Out.{Out}
 use Rattle.apd_mlme.specs.declared.decision.Out.TheVariants.{Frame}
 
 -- a frame that the radio of its BSSID sends
-abbrev pub sent : Reply → Recipient × Out
-sent reply = (Radio reply.bssid, Frame (wire reply))
+abbrev pub reply_out : Reply → Recipient × Out
+reply_out reply = (Radio reply.bssid, Frame (wire reply))
 
 -- whether two recipients are one
 abbrev pub is_same : Recipient → Recipient → Bool

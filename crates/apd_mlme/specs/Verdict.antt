@@ -5,7 +5,7 @@ use Rattle.apd_frame.specs.declared.replies.Reply.{Reply}
 use Rattle.apd_record.specs.declared.change.Change.{Change}
 use Rattle.apd_mlme.specs.declared.decision.Recipient.{Recipient}
 use Rattle.apd_mlme.specs.declared.decision.Out.{Out}
-use Rattle.apd_mlme.specs.Outs.{sent}
+use Rattle.apd_mlme.specs.Outs.{reply_out}
 
 pub record Verdict : Type 0 where
   pub state : State
@@ -17,8 +17,8 @@ abbrev pub nothing : State → Verdict
 nothing s = record { state = s; changes = []; outs = [] }
 
 -- nothing changes, and one frame leaves
-abbrev pub only_sent : State → Reply → Verdict
-only_sent s reply = record { state = s; changes = []; outs = sent reply ∷ [] }
+abbrev pub only_reply : State → Reply → Verdict
+only_reply s reply = record { state = s; changes = []; outs = reply_out reply ∷ [] }
 
 -- whether nothing changes and nothing leaves
 abbrev pub is_nothing : Verdict → Bool

@@ -3,11 +3,11 @@ ghost use Rattle.std.specs.Prelude.{◌≡◌, ◌++◌, None, Some, false, is_s
 ghost use Rattle.std.specs.Option.{option_copied};
 ghost use Rattle.apd_base.specs.State.{station_at, aid_at};
 ghost use Rattle.apd_frame.specs.Contents.{association, reassociation};
-ghost use Rattle.apd_mlme.specs.rules.Association.{accepted, association_response, association_status, association_verdict, body_of, elsewhere, installation, is_elsewhere, is_named, outs_elsewhere, put_backs, row_of, without_current_ap};
+ghost use Rattle.apd_mlme.specs.rules.Association.{acceptance_of, association_response, association_status, association_verdict, body_of, bssids_elsewhere, installation, is_elsewhere, is_named, outs_elsewhere, put_backs, row_of, without_current_ap};
 ghost use Rattle.apd_mlme.specs.rules.Identifiers.{cursor_changes, identifier_for, next_free, number_of};
 ghost use Rattle.apd_mlme.specs.Verdict.{is_nothing};
 
-use crate::decision::{Out, Recipient, sent};
+use crate::decision::{Out, Recipient, reply_out};
 use crate::draft::Draft;
 use crate::leaving::{deauthentication, push_outs_of_end};
 use crate::offer::rates;
@@ -134,13 +134,13 @@ fn is_elsewhere(table: &Table, bssid: Bssid, sender: Addr, other: Bssid) -> bool
 }
 
 /// The other BSSIDs that have a station associated, rising.
-fn elsewhere(
+fn bssids_elsewhere(
     alloc: Global,
     table: &Table,
     bssid: Bssid,
     sender: Addr,
 ) -> Result<Sequence<Bssid>, AllocError>
-    ensures { IfOk result (λ others. others ≡ elsewhere table.now bssid sender) }
+    ensures { IfOk result (λ others. others ≡ bssids_elsewhere table.now bssid sender) }
 {
     let mut others = Sequence::new(alloc);
     for place in 0..table.bss_count() {
@@ -249,18 +249,18 @@ fn accept(
     requires { IsSome (station_at table.now bssid request.now.sender) }
     ensures changes { IfOk result
         (λ d. d.changes
-        ≡ (accepted table.now confs.now conf.now bssid kind (association request.now)
+        ≡ (acceptance_of table.now confs.now conf.now bssid kind (association request.now)
         (identifier_for table.now bssid (station_at table.now bssid request.now.sender))).changes) }
     ensures outs { IfOk result
         (λ d. d.outs
-        ≡ (accepted table.now confs.now conf.now bssid kind (association request.now)
+        ≡ (acceptance_of table.now confs.now conf.now bssid kind (association request.now)
         (identifier_for table.now bssid (station_at table.now bssid request.now.sender))).outs) }
-    ensures some { is_nothing (accepted table.now confs.now conf.now bssid kind (association request.now)
+    ensures some { is_nothing (acceptance_of table.now confs.now conf.now bssid kind (association request.now)
         (identifier_for table.now bssid (station_at table.now bssid request.now.sender))) ≡ false }
 {
     let sender = request.sender;
     let aid = identifier(table, bssid, sender);
-    let others = elsewhere(alloc, table, bssid, sender)?;
+    let others = bssids_elsewhere(alloc, table, bssid, sender)?;
     let mut changes = Changes::new(alloc);
     push_put_backs(sender, others.as_slice(), &mut changes)?;
     changes.push(Change::Put {
@@ -273,7 +273,7 @@ fn accept(
     push_outs_elsewhere(alloc, confs, sender, others.as_slice(), &mut outs)?;
     push_installation(table, bssid, sender, aid, &mut outs)?;
     let reply = response(conf, bssid, kind, sender, Status::Success, Some(aid));
-    outs.push(sent(alloc, &reply)?)?;
+    outs.push(reply_out(alloc, &reply)?)?;
     Ok(Draft { changes, outs })
 }
 
@@ -299,11 +299,11 @@ pub fn answer(
     let sender = request.sender;
     if table.get(bssid, sender).is_none() {
         let reason = Reason::INVALID_CLASS2_FRAME;
-        return Draft::only_sent(alloc, &deauthentication(bssid, sender, reason));
+        return Draft::only_reply(alloc, &deauthentication(bssid, sender, reason));
     }
     let status = status_of(conf, request);
     if status == Status::Success {
         return accept(alloc, table, confs, conf, bssid, kind, request);
     }
-    Draft::only_sent(alloc, &response(conf, bssid, kind, sender, status, None))
+    Draft::only_reply(alloc, &response(conf, bssid, kind, sender, status, None))
 }

@@ -3,7 +3,7 @@ ghost use Rattle.std.specs.Prelude.{◌≡◌, ◌==◌, IsSome, IfOk};
 ghost use Rattle.apd_base.specs.State.{policy_at};
 ghost use Rattle.apd_mlme.specs.rules.Authentication.{auth_status, auth_verdict, auth_response, is_full};
 
-use crate::decision::sent;
+use crate::decision::reply_out;
 use crate::draft::Draft;
 use apd_base::{Bssid, Sequence, Station};
 use apd_conf::Conf;
@@ -78,6 +78,6 @@ pub fn answer(
         })?;
     }
     let mut outs = Sequence::new(alloc);
-    outs.push(sent(alloc, &response(bssid, request, status))?)?;
+    outs.push(reply_out(alloc, &response(bssid, request, status))?)?;
     Ok(Draft { changes, outs })
 }

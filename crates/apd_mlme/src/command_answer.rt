@@ -29,7 +29,7 @@ impl Answer {
 }
 
 /// The same decision, and last of all the answer to the command of this tag leaves.
-pub(crate) fn answered(
+pub(crate) fn with_answer(
     alloc: Global,
     tag: u64,
     answer: Answer,

@@ -5,7 +5,7 @@ ghost use Rattle.apd_record.specs.declared.change.Change.TheVariants.{Policy};
 ghost use Rattle.apd_mlme.specs.rules.Configuration.{configure_verdict, later_start, first_changes, additions};
 
 use crate::draft::Draft;
-use crate::leaving::denied_dropped;
+use crate::leaving::drop_denied;
 use apd_base::{Addr, Bssid, Sequence, Which};
 use apd_conf::Conf;
 use apd_record::{Change, Changes};
@@ -28,8 +28,8 @@ fn later_start(alloc: Global, table: &Table, conf: &Conf, bssid: Bssid) -> Resul
     ensures changes { IfOk result (λ d. d.changes ≡ (later_start table.now conf.now bssid).changes) }
     ensures outs { IfOk result (λ d. d.outs ≡ (later_start table.now conf.now bssid).outs) }
 {
-    let denied = table.denied_by(alloc, bssid, conf.macaddr_acl)?;
-    let mut decision = denied_dropped(alloc, table, bssid, denied.as_slice())?;
+    let denied = table.denials_by(alloc, bssid, conf.macaddr_acl)?;
+    let mut decision = drop_denied(alloc, table, bssid, denied.as_slice())?;
     decision.changes.push(policy_row(conf, bssid))?;
     Ok(decision)
 }

@@ -1,6 +1,6 @@
 //! What the station management entity decides.
 ghost use Rattle.std.specs.Prelude.{◌≡◌, ◌==◌, ◌&&◌, length, IfOk};
-ghost use Rattle.apd_mlme.specs.Outs.{sent};
+ghost use Rattle.apd_mlme.specs.Outs.{reply_out};
 
 use apd_base::{Addr, Aid, Bssid, Sequence};
 use apd_frame::{Reply, encode};
@@ -53,8 +53,8 @@ impl Decision {
 }
 
 /// The frame of a reply, for the radio of its BSSID to send.
-pub(crate) fn sent(alloc: Global, reply: &Reply) -> Result<(Recipient, Out), AllocError>
-    ensures { IfOk result (λ out. out ≡ sent reply.now) }
+pub(crate) fn reply_out(alloc: Global, reply: &Reply) -> Result<(Recipient, Out), AllocError>
+    ensures { IfOk result (λ out. out ≡ reply_out reply.now) }
 {
     let frame = Sequence::from_vec(encode(alloc, reply)?);
     Ok((Recipient::Radio(reply.bssid), Out::Frame(frame)))

@@ -6,14 +6,14 @@ ghost use Rattle.apd_mlme.specs.Verdict.{is_nothing};
 
 use crate::decision::{Out, Recipient};
 use crate::draft::Draft;
-use crate::leaving::{deauthentication, disassociation, dropped, push_removal, put_back};
+use crate::leaving::{deauthentication, disassociation, push_removal, put_back, row_drop};
 use apd_base::{Addr, Bssid, Sequence, Station};
 use apd_frame::Reason;
 use apd_table::Table;
 use std::alloc::{AllocError, Global};
 
 /// What a disassociation from a station brings about. Where that is nothing it takes no memory.
-pub fn disassociated(
+pub fn disassociation_draft(
     alloc: Global,
     table: &Table,
     bssid: Bssid,
@@ -31,7 +31,7 @@ pub fn disassociated(
         }
         Some(Station::Authenticated) => Ok(Draft::nothing(alloc)),
         None => {
-            Draft::only_sent(
+            Draft::only_reply(
                 alloc,
                 &deauthentication(bssid, sender, Reason::INVALID_CLASS2_FRAME),
             )
@@ -40,7 +40,7 @@ pub fn disassociated(
 }
 
 /// What a deauthentication from a station brings about. Where that is nothing it takes no memory.
-pub fn deauthenticated(
+pub fn deauthentication_draft(
     alloc: Global,
     table: &Table,
     bssid: Bssid,
@@ -55,11 +55,16 @@ pub fn deauthenticated(
     }
     let mut outs = Sequence::new(alloc);
     push_removal(table, bssid, sender, &mut outs)?;
-    dropped(alloc, bssid, sender, outs)
+    row_drop(alloc, bssid, sender, outs)
 }
 
 /// What data from a station bring about. Where that is nothing it takes no memory.
-pub fn data(alloc: Global, table: &Table, bssid: Bssid, sender: Addr) -> Result<Draft, AllocError>
+pub fn data_draft(
+    alloc: Global,
+    table: &Table,
+    bssid: Bssid,
+    sender: Addr,
+) -> Result<Draft, AllocError>
     ensures changes { IfOk result (λ d. d.changes ≡ (data_verdict table.now bssid sender).changes) }
     ensures outs { IfOk result (λ d. d.outs ≡ (data_verdict table.now bssid sender).outs) }
     ensures lacks { OnErr result (is_nothing (data_verdict table.now bssid sender) ≡ false) }
@@ -67,13 +72,13 @@ pub fn data(alloc: Global, table: &Table, bssid: Bssid, sender: Addr) -> Result<
     match table.get(bssid, sender) {
         Some(Station::Associated(_)) => Ok(Draft::nothing(alloc)),
         Some(Station::Authenticated) => {
-            Draft::only_sent(
+            Draft::only_reply(
                 alloc,
                 &disassociation(bssid, sender, Reason::INVALID_CLASS3_FRAME),
             )
         }
         None => {
-            Draft::only_sent(
+            Draft::only_reply(
                 alloc,
                 &deauthentication(bssid, sender, Reason::INVALID_CLASS3_FRAME),
             )

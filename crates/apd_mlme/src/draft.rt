@@ -1,9 +1,9 @@
 //! A decision while it is made.
 ghost use Rattle.std.specs.Prelude.{◌≡◌, [], ◌∷◌, IfOk};
 ghost use Rattle.apd_record.specs.Ranges.{AreChanges};
-ghost use Rattle.apd_mlme.specs.Outs.{sent};
+ghost use Rattle.apd_mlme.specs.Outs.{reply_out};
 
-use crate::decision::{Decision, Out, Recipient, sent};
+use crate::decision::{Decision, Out, Recipient, reply_out};
 use apd_base::Sequence;
 use apd_frame::Reply;
 use apd_record::Changes;
@@ -29,17 +29,17 @@ impl Draft {
     }
 
     /// Nothing changes, and one frame leaves.
-    pub fn only_sent(alloc: Global, reply: &Reply) -> Result<Draft, AllocError>
+    pub fn only_reply(alloc: Global, reply: &Reply) -> Result<Draft, AllocError>
         ensures changes { IfOk result (λ d. d.changes ≡ []) }
-        ensures outs { IfOk result (λ d. d.outs ≡ sent reply.now ∷ []) }
+        ensures outs { IfOk result (λ d. d.outs ≡ reply_out reply.now ∷ []) }
     {
         let mut draft = Draft::nothing(alloc);
-        draft.outs.push(sent(alloc, reply)?)?;
+        draft.outs.push(reply_out(alloc, reply)?)?;
         Ok(draft)
     }
 
     /// The decision. It takes no memory.
-    pub fn decided(self) -> Decision
+    pub fn into_decision(self) -> Decision
         ensures changes { result.changes ≡ self.changes }
         ensures outs { result.outs ≡ self.outs }
         ensures known { AreChanges self.changes }

@@ -3,14 +3,14 @@ ghost use Rattle.std.specs.Prelude.{◌≡◌, IfOk};
 ghost use Rattle.std.specs.Ordering.{eq_by_cmp};
 ghost use Rattle.apd_base.specs.Addr.{addr_cmp};
 ghost use Rattle.apd_base.specs.declared.address.TheConstants.{BROADCAST};
-ghost use Rattle.apd_mlme.specs.rules.Commands.{all_kicked, deauthenticated, disassociated, farewell, kick_verdict, kicked};
+ghost use Rattle.apd_mlme.specs.rules.Commands.{farewell, kick_by_deauthentication, kick_by_disassociation, kick_of_all, kick_verdict, unanswered_kick};
 
-use crate::command_answer::{Answer, answered};
-use crate::decision::sent;
+use crate::command_answer::{Answer, with_answer};
+use crate::decision::reply_out;
 use crate::draft::Draft;
 use crate::leaving::{
-    deauthentication, disassociation, dropped, push_outs_of_drop, push_outs_of_end, push_removal,
-    put_back,
+    deauthentication, disassociation, push_outs_of_drop, push_outs_of_end, push_removal, put_back,
+    row_drop,
 };
 use apd_base::{Addr, BROADCAST, Bssid, Sequence, Station};
 use apd_frame::{Reason, Reply};
@@ -36,36 +36,36 @@ fn farewell(bssid: Bssid, to: Addr, reason: Reason, deauth: bool) -> Reply
 }
 
 /// A station is deauthenticated: it has no row from then on.
-fn deauthenticated(
+fn kick_by_deauthentication(
     alloc: Global,
     table: &Table,
     bssid: Bssid,
     to: Addr,
     reason: Reason,
 ) -> Result<Draft, AllocError>
-    ensures changes { IfOk result (λ d. d.changes ≡ (deauthenticated table.now bssid to reason).changes) }
-    ensures outs { IfOk result (λ d. d.outs ≡ (deauthenticated table.now bssid to reason).outs) }
+    ensures changes { IfOk result (λ d. d.changes ≡ (kick_by_deauthentication table.now bssid to reason).changes) }
+    ensures outs { IfOk result (λ d. d.outs ≡ (kick_by_deauthentication table.now bssid to reason).outs) }
 {
     match table.get(bssid, to) {
         Some(_) => {
             let mut outs = Sequence::new(alloc);
             push_outs_of_drop(alloc, table, bssid, to, reason, &mut outs)?;
-            dropped(alloc, bssid, to, outs)
+            row_drop(alloc, bssid, to, outs)
         }
-        None => Draft::only_sent(alloc, &deauthentication(bssid, to, reason)),
+        None => Draft::only_reply(alloc, &deauthentication(bssid, to, reason)),
     }
 }
 
 /// A station is disassociated: where it was associated it is authenticated from then on.
-fn disassociated(
+fn kick_by_disassociation(
     alloc: Global,
     table: &Table,
     bssid: Bssid,
     to: Addr,
     reason: Reason,
 ) -> Result<Draft, AllocError>
-    ensures changes { IfOk result (λ d. d.changes ≡ (disassociated table.now bssid to reason).changes) }
-    ensures outs { IfOk result (λ d. d.outs ≡ (disassociated table.now bssid to reason).outs) }
+    ensures changes { IfOk result (λ d. d.changes ≡ (kick_by_disassociation table.now bssid to reason).changes) }
+    ensures outs { IfOk result (λ d. d.outs ≡ (kick_by_disassociation table.now bssid to reason).outs) }
 {
     match table.get(bssid, to) {
         Some(Station::Associated(_)) => {
@@ -74,21 +74,21 @@ fn disassociated(
             put_back(alloc, bssid, to, outs)
         }
         Some(Station::Authenticated) | None => {
-            Draft::only_sent(alloc, &disassociation(bssid, to, reason))
+            Draft::only_reply(alloc, &disassociation(bssid, to, reason))
         }
     }
 }
 
 /// All stations of the BSSID are sent away with one frame: none has a row from then on.
-fn all_kicked(
+fn kick_of_all(
     alloc: Global,
     table: &Table,
     bssid: Bssid,
     reason: Reason,
     deauth: bool,
 ) -> Result<Draft, AllocError>
-    ensures changes { IfOk result (λ d. d.changes ≡ (all_kicked table.now bssid reason deauth).changes) }
-    ensures outs { IfOk result (λ d. d.outs ≡ (all_kicked table.now bssid reason deauth).outs) }
+    ensures changes { IfOk result (λ d. d.changes ≡ (kick_of_all table.now bssid reason deauth).changes) }
+    ensures outs { IfOk result (λ d. d.outs ≡ (kick_of_all table.now bssid reason deauth).outs) }
 {
     let all = table.addresses(alloc, bssid)?;
     let mut changes = Changes::new(alloc);
@@ -97,11 +97,11 @@ fn all_kicked(
         changes.push(Change::Drop { bssid, addr: *addr })?;
         push_removal(table, bssid, *addr, &mut outs)?;
     }
-    outs.push(sent(alloc, &farewell(bssid, BROADCAST, reason, deauth))?)?;
+    outs.push(reply_out(alloc, &farewell(bssid, BROADCAST, reason, deauth))?)?;
     Ok(Draft { changes, outs })
 }
 
-fn kicked(
+fn unanswered_kick(
     alloc: Global,
     table: &Table,
     bssid: Bssid,
@@ -109,15 +109,15 @@ fn kicked(
     reason: Reason,
     deauth: bool,
 ) -> Result<Draft, AllocError>
-    ensures changes { IfOk result (λ d. d.changes ≡ (kicked table.now bssid to reason deauth).changes) }
-    ensures outs { IfOk result (λ d. d.outs ≡ (kicked table.now bssid to reason deauth).outs) }
+    ensures changes { IfOk result (λ d. d.changes ≡ (unanswered_kick table.now bssid to reason deauth).changes) }
+    ensures outs { IfOk result (λ d. d.outs ≡ (unanswered_kick table.now bssid to reason deauth).outs) }
 {
     if is_broadcast(to) {
-        all_kicked(alloc, table, bssid, reason, deauth)
+        kick_of_all(alloc, table, bssid, reason, deauth)
     } else if deauth {
-        deauthenticated(alloc, table, bssid, to, reason)
+        kick_by_deauthentication(alloc, table, bssid, to, reason)
     } else {
-        disassociated(alloc, table, bssid, to, reason)
+        kick_by_disassociation(alloc, table, bssid, to, reason)
     }
 }
 
@@ -135,6 +135,6 @@ pub fn kick(
     ensures changes { IfOk result (λ d. d.changes ≡ (kick_verdict table.now bssid to reason deauth tag).changes) }
     ensures outs { IfOk result (λ d. d.outs ≡ (kick_verdict table.now bssid to reason deauth tag).outs) }
 {
-    let decision = kicked(alloc, table, bssid, to, reason, deauth)?;
-    answered(alloc, tag, Answer::Done, decision)
+    let decision = unanswered_kick(alloc, table, bssid, to, reason, deauth)?;
+    with_answer(alloc, tag, Answer::Done, decision)
 }

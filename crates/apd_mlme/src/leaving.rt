@@ -6,7 +6,7 @@ ghost use Rattle.apd_frame.specs.declared.codes.TheConstants.Reason.{UNSPECIFIED
 ghost use Rattle.apd_record.specs.declared.change.Change.TheVariants.{Drop, Put};
 ghost use Rattle.apd_mlme.specs.rules.Leaving.{deauthentication, disassociation, outs_of_drop, outs_of_end, removal};
 
-use crate::decision::{Out, Recipient, sent};
+use crate::decision::{Out, Recipient, reply_out};
 use crate::draft::Draft;
 use apd_base::{Addr, Bssid, Sequence, Station};
 use apd_frame::{Reason, Reply, ReplyBody};
@@ -62,7 +62,7 @@ pub(crate) fn push_outs_of_end(
     ensures { OnOk result (outs.new ≡ outs.old ++ outs_of_end bssid addr reason) }
 {
     outs.push((Recipient::Radio(bssid), Out::Remove(addr)))?;
-    outs.push(sent(alloc, &disassociation(bssid, addr, reason))?)
+    outs.push(reply_out(alloc, &disassociation(bssid, addr, reason))?)
 }
 
 /// Adds what leaves for a station whose row is dropped.
@@ -77,7 +77,7 @@ pub(crate) fn push_outs_of_drop(
     ensures { OnOk result (outs.new ≡ outs.old ++ outs_of_drop table.now bssid addr reason) }
 {
     push_removal(table, bssid, addr, outs)?;
-    outs.push(sent(alloc, &deauthentication(bssid, addr, reason))?)
+    outs.push(reply_out(alloc, &deauthentication(bssid, addr, reason))?)
 }
 
 /// A station is authenticated and not associated from now on; these outs leave.
@@ -100,7 +100,7 @@ pub(crate) fn put_back(
 }
 
 /// A station has no row from now on; these outs leave.
-pub(crate) fn dropped(
+pub(crate) fn row_drop(
     alloc: Global,
     bssid: Bssid,
     addr: Addr,
@@ -115,7 +115,7 @@ pub(crate) fn dropped(
 }
 
 /// Stations that the policy denies have no row from now on, one after the other, and are told so.
-pub(crate) fn denied_dropped(
+pub(crate) fn drop_denied(
     alloc: Global,
     table: &Table,
     bssid: Bssid,

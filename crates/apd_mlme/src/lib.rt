@@ -88,7 +88,7 @@ fn decide_fit(
 {
     let conf = confs.with_bssid(event.bssid()).unwrap();
     let draft = match event {
-        Event::Heard(bssid, frame) => heard(alloc, table, confs, conf, bssid, frame)?,
+        Event::Heard(bssid, frame) => decide_frame(alloc, table, confs, conf, bssid, frame)?,
         Event::Kick {
             bssid,
             to,
@@ -102,17 +102,17 @@ fn decide_fit(
             edit,
             tag,
         } => list_edit::list_edit(alloc, table, bssid, which, edit, tag)?,
-        Event::Expire { bssid, addr } => inactivity::expired(alloc, table, bssid, addr)?,
+        Event::Expire { bssid, addr } => inactivity::expire(alloc, table, bssid, addr)?,
         Event::Configure {
             bssid,
             accept,
             deny,
         } => configuration::configure(alloc, table, conf, bssid, accept, deny)?,
     };
-    Ok(draft.decided())
+    Ok(draft.into_decision())
 }
 
-fn heard(
+fn decide_frame(
     alloc: Global,
     table: &Table,
     confs: &Confs,
@@ -139,8 +139,12 @@ fn heard(
             association::answer(alloc, table, confs, conf, bssid, kind, &request)
         }
         Frame::Probe(request) => probe_request::answer(alloc, conf, bssid, &request),
-        Frame::Disassoc { sender, .. } => departure::disassociated(alloc, table, bssid, sender),
-        Frame::Deauth { sender, .. } => departure::deauthenticated(alloc, table, bssid, sender),
-        Frame::Uplink { sender } => departure::data(alloc, table, bssid, sender),
+        Frame::Disassoc { sender, .. } => departure::disassociation_draft(
+            alloc, table, bssid, sender,
+        ),
+        Frame::Deauth { sender, .. } => departure::deauthentication_draft(
+            alloc, table, bssid, sender,
+        ),
+        Frame::Uplink { sender } => departure::data_draft(alloc, table, bssid, sender),
     }
 }

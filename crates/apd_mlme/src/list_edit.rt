@@ -3,12 +3,12 @@ ghost use Rattle.std.specs.Prelude.{◌≡◌, nat_le, IfOk, IsSome};
 ghost use Rattle.apd_base.specs.Sets.{contains};
 ghost use Rattle.apd_base.specs.State.{list_count, policy_at};
 ghost use Rattle.apd_base.specs.declared.limits.TheConstants.{MAX_LISTED};
-ghost use Rattle.apd_mlme.specs.rules.Commands.{change_of, edited, list_edit_verdict};
+ghost use Rattle.apd_mlme.specs.rules.Commands.{change_of, list_edit_verdict, unanswered_edit};
 
-use crate::command_answer::{Answer, answered};
+use crate::command_answer::{Answer, with_answer};
 use crate::draft::Draft;
 use crate::event::Edit;
-use crate::leaving::denied_dropped;
+use crate::leaving::drop_denied;
 use apd_base::limits::MAX_LISTED;
 use apd_base::{Addr, Bssid, Which};
 use apd_record::Change;
@@ -27,7 +27,7 @@ fn change_of(bssid: Bssid, which: Which, edit: Edit) -> Change
 }
 
 /// The edit is made: before it, each station ends that the policy denies by the lists after it.
-fn edited(
+fn unanswered_edit(
     alloc: Global,
     table: &Table,
     bssid: Bssid,
@@ -35,12 +35,12 @@ fn edited(
     edit: Edit,
 ) -> Result<Draft, AllocError>
     requires { IsSome (policy_at table.now bssid) }
-    ensures changes { IfOk result (λ d. d.changes ≡ (edited table.now bssid which edit).changes) }
-    ensures outs { IfOk result (λ d. d.outs ≡ (edited table.now bssid which edit).outs) }
+    ensures changes { IfOk result (λ d. d.changes ≡ (unanswered_edit table.now bssid which edit).changes) }
+    ensures outs { IfOk result (λ d. d.outs ≡ (unanswered_edit table.now bssid which edit).outs) }
 {
     let change = change_of(bssid, which, edit);
-    let denied = table.denied_after(alloc, bssid, &change)?;
-    let mut decision = denied_dropped(alloc, table, bssid, denied.as_slice())?;
+    let denied = table.denials_after(alloc, bssid, &change)?;
+    let mut decision = drop_denied(alloc, table, bssid, denied.as_slice())?;
     decision.changes.push(change)?;
     Ok(decision)
 }
@@ -85,17 +85,26 @@ pub fn list_edit(
             } else if is_full(table, bssid, which) {
                 (Answer::Refused, Draft::nothing(alloc))
             } else {
-                (Answer::Done, edited(alloc, table, bssid, which, edit)?)
+                (
+                    Answer::Done,
+                    unanswered_edit(alloc, table, bssid, which, edit)?,
+                )
             }
         }
         Edit::Remove(addr) => {
             if is_listed(table, bssid, which, addr) {
-                (Answer::Done, edited(alloc, table, bssid, which, edit)?)
+                (
+                    Answer::Done,
+                    unanswered_edit(alloc, table, bssid, which, edit)?,
+                )
             } else {
                 (Answer::Done, Draft::nothing(alloc))
             }
         }
-        Edit::Clear => (Answer::Done, edited(alloc, table, bssid, which, edit)?),
+        Edit::Clear => (
+            Answer::Done,
+            unanswered_edit(alloc, table, bssid, which, edit)?,
+        ),
     };
-    answered(alloc, tag, answer, decision)
+    with_answer(alloc, tag, answer, decision)
 }

@@ -67,5 +67,5 @@ pub fn answer(
         return Ok(Draft::nothing(alloc));
     }
     let reply = response(alloc, conf, bssid, request.sender)?;
-    Draft::only_sent(alloc, &reply)
+    Draft::only_reply(alloc, &reply)
 }

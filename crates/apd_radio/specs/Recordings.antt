@@ -19,16 +19,16 @@ AreLinesOf [] (line ∷ lines) = ⊥
 AreLinesOf (call ∷ calls) [] = ⊥
 AreLinesOf (call ∷ calls) (line ∷ lines) = IsLineOf call line × AreLinesOf calls lines
 
--- the frames that were received, in order
-abbrev pub received : Call → List (List ℕ)
-received (Received frame) = frame ∷ []
-received (Installed addr aid) = []
-received (Removed addr) = []
-received (Sent frame) = []
-received Down = []
+-- the frame that a call received
+abbrev pub frames_in : Call → List (List ℕ)
+frames_in (Received frame) = frame ∷ []
+frames_in (Installed addr aid) = []
+frames_in (Removed addr) = []
+frames_in (Sent frame) = []
+frames_in Down = []
 
 abbrev pub frames_of : List Call → List (List ℕ)
-frames_of calls = flat_map received calls
+frames_of calls = flat_map frames_in calls
 
 -- the text is a recording in which these frames were received
 abbrev pub Replays : List ℕ → List (List ℕ) → Type 0

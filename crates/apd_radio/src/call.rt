@@ -25,7 +25,7 @@ pub enum Call {
     Down,
 }
 
-fn decoded(alloc: Global, digits: &[u8]) -> Result<Option<Sequence<u8>>, AllocError>
+fn decode_hex(alloc: Global, digits: &[u8]) -> Result<Option<Sequence<u8>>, AllocError>
     ensures some { IfOk result (λ found. IfSome found (λ frame. decode_of digits.now ≡ Ok frame)) }
     ensures none { IfOk result (λ found. IfNone found ((frame : List ℕ) → decode_of digits.now ≡ Ok frame → ⊥)) }
 {
@@ -47,7 +47,7 @@ fn frame_of(alloc: Global, text: &[u8]) -> Result<Option<Sequence<u8>>, AllocErr
     if *first != b' ' {
         return Ok(None);
     }
-    decoded(alloc, digits)
+    decode_hex(alloc, digits)
 }
 
 fn station_of(text: &[u8]) -> Option<(Addr, u16)>

@@ -47,7 +47,7 @@ fn ask_for_room(socket: &UdpSocket) {
 }
 
 // A call that a signal interrupted is made again.
-fn uninterrupted<T: Drop, F: FnMut() -> io::Result<T>>(mut call: F) -> io::Result<T>
+fn retry<T: Drop, F: FnMut() -> io::Result<T>>(mut call: F) -> io::Result<T>
     requires { F.IsAlwaysCallable call }
 {
     for _ in 0..u64::MAX {
@@ -60,7 +60,9 @@ fn uninterrupted<T: Drop, F: FnMut() -> io::Result<T>>(mut call: F) -> io::Resul
 }
 
 // What a receiving call found: a datagram, by its length and its sender; none, where it would have to wait.
-fn found(answer: io::Result<(usize, SocketAddr)>) -> Result<Option<(usize, SocketAddr)>, RadioFault>
+fn datagram_in(
+    answer: io::Result<(usize, SocketAddr)>,
+) -> Result<Option<(usize, SocketAddr)>, RadioFault>
     ensures some { IfOk answer (λ datagram. result ≡ Ok (Some datagram)) }
     ensures none { IfErr answer (λ error. error_kind error ≡ ErrorKind.WouldBlock → result ≡ Ok None) }
     ensures fault { IfErr answer (λ error. error_kind error ≢ ErrorKind.WouldBlock → result ≡ Err RadioFault.Device) }
@@ -136,8 +138,8 @@ impl Datagrams {
         if self.waiting.is_some() {
             return Ok(());
         }
-        let answer = uninterrupted(|| self.socket.recv_from(self.buffer.as_mut_slice()));
-        if let Some((len, sender)) = found(answer)? {
+        let answer = retry(|| self.socket.recv_from(self.buffer.as_mut_slice()));
+        if let Some((len, sender)) = datagram_in(answer)? {
             // The system tells no more than there is room for.
             self.waiting = Some((sender, len.min(self.buffer.len())));
         }
@@ -174,7 +176,7 @@ impl Datagrams {
     pub fn send(&self, peer: SocketAddr, bytes: &[u8]) -> Result<(), RadioFault>
         ensures { OnErr result (result ≡ Err RadioFault.Device) }
     {
-        if uninterrupted(|| self.socket.send_to(bytes, peer)).is_err() {
+        if retry(|| self.socket.send_to(bytes, peer)).is_err() {
             return Err(RadioFault::Device);
         }
         Ok(())

@@ -6,7 +6,7 @@ ghost use Rattle.apd_base.specs.Failures.{HasRisen};
 ghost use Rattle.apd_radio.specs.Faults.{Counts, FailingCall};
 ghost use Rattle.apd_radio.specs.Frames.{Polls};
 
-use crate::counting::counted;
+use crate::counting::count_fault;
 use crate::radio::{Radio, RadioFault};
 use apd_base::Addr;
 use std::os::fd::RawFd;
@@ -45,7 +45,7 @@ impl<R: Radio> Failing<R> {
             ((self.old.passes ≡ 0) × (self.new.passes ≡ 0) × (result ≡ Err RadioFault.Device)) }
     {
         let Some(passes) = self.passes.checked_sub(1) else {
-            return counted(&mut self.failures, Err(RadioFault::Device));
+            return count_fault(&mut self.failures, Err(RadioFault::Device));
         };
         self.passes = passes;
         Ok(())
@@ -84,7 +84,7 @@ impl<R: Radio> Radio for Failing<R> {
         ensures passed { Counts (R.model.faults self.old.inner) (R.model.faults self.new.inner) result }
     {
         let answer = self.inner.poll();
-        counted(&mut self.failures, answer)
+        count_fault(&mut self.failures, answer)
     }
 
     fn descriptor(&self) -> Option<RawFd> {
@@ -103,7 +103,7 @@ impl<R: Radio> Radio for Failing<R> {
     {
         self.pass()?;
         let answer = self.inner.install(addr, aid);
-        counted(&mut self.failures, answer)
+        count_fault(&mut self.failures, answer)
     }
 
     fn remove(&mut self, addr: Addr) -> Result<(), RadioFault>
@@ -118,7 +118,7 @@ impl<R: Radio> Radio for Failing<R> {
     {
         self.pass()?;
         let answer = self.inner.remove(addr);
-        counted(&mut self.failures, answer)
+        count_fault(&mut self.failures, answer)
     }
 
     fn transmit(&mut self, frame: &[u8]) -> Result<(), RadioFault>
@@ -132,7 +132,7 @@ impl<R: Radio> Radio for Failing<R> {
     {
         self.pass()?;
         let answer = self.inner.transmit(frame);
-        counted(&mut self.failures, answer)
+        count_fault(&mut self.failures, answer)
     }
 
     fn take_down(&mut self)

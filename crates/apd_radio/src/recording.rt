@@ -40,7 +40,7 @@ impl<R: Radio, W: Write + Drop> Drop for Recording<R, W> {
     fn drop(self) {
         let Recording { mut inner, mut log } = self;
         inner.take_down();
-        log.down();
+        log.take_down();
     }
 }
 
@@ -68,7 +68,7 @@ impl<R: Radio, W: Write + Drop> Radio for Recording<R, W> {
     {
         let got = self.inner.poll()?;
         if let Some(frame) = &got {
-            self.log.received(frame);
+            self.log.receive(frame);
         }
         Ok(got)
     }
@@ -91,7 +91,7 @@ impl<R: Radio, W: Write + Drop> Radio for Recording<R, W> {
         ensures failed { OnErr result (self.new.log ≡ self.old.log) }
     {
         self.inner.install(addr, aid)?;
-        self.log.installed(addr, aid);
+        self.log.install(addr, aid);
         Ok(())
     }
 
@@ -109,7 +109,7 @@ impl<R: Radio, W: Write + Drop> Radio for Recording<R, W> {
         ensures failed { OnErr result (self.new.log ≡ self.old.log) }
     {
         self.inner.remove(addr)?;
-        self.log.removed(addr);
+        self.log.remove(addr);
         Ok(())
     }
 
@@ -126,7 +126,7 @@ impl<R: Radio, W: Write + Drop> Radio for Recording<R, W> {
         ensures failed { OnErr result (self.new.log ≡ self.old.log) }
     {
         self.inner.transmit(frame)?;
-        self.log.sent(frame);
+        self.log.transmit(frame);
         Ok(())
     }
 
@@ -138,7 +138,7 @@ impl<R: Radio, W: Write + Drop> Radio for Recording<R, W> {
             (W.contents self.new.log.writer) }
     {
         self.inner.take_down();
-        self.log.down();
+        self.log.take_down();
     }
 
     fn installed(&self, addr: Addr) -> Option<u16> {

@@ -2,7 +2,7 @@
 ghost use Rattle.std.specs.Prelude.{◌≡◌, ◌≢◌, ℕ, ◌<◌, ◌∷◌, ◌++◌, [], OnOk, IfOk, IfErr, IfSome, IfNone, MatchOption, length, slice_index};
 ghost use Rattle.std.specs.FinMap as map;
 ghost use Rattle.apd_base.specs.Text.{lines, newline};
-ghost use Rattle.apd_radio.specs.Recordings.{Replays, IsFault, received};
+ghost use Rattle.apd_radio.specs.Recordings.{Replays, IsFault, frames_in};
 
 use crate::call::Call;
 use crate::identifiers::Identifiers;
@@ -63,7 +63,7 @@ fn split_line(text: &[u8]) -> Option<(&[u8], &[u8])>
 
 // Adds the frame of the call, if one was received.
 fn keep_received(frames: &mut VecDeque<Sequence<u8>>, call: Call) -> Result<(), AllocError>
-    ensures { OnOk result (frames.new.items ≡ frames.old.items ++ received call) }
+    ensures { OnOk result (frames.new.items ≡ frames.old.items ++ frames_in call) }
 {
     if let Call::Received(frame) = call {
         frames.push_back(frame)?;

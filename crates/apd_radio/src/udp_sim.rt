@@ -2,7 +2,7 @@
 ghost use Rattle.std.specs.Prelude.{◌≡◌, IfOk};
 ghost use Rattle.std.specs.FinMap as map;
 
-use crate::counting::counted;
+use crate::counting::count_fault;
 use crate::datagrams::{Datagrams, SocketFault};
 use crate::identifiers::Identifiers;
 use crate::radio::{Radio, RadioFault};
@@ -63,7 +63,7 @@ impl Radio for UdpSim {
 
     fn poll(&mut self) -> Result<Option<Vec<u8>>, RadioFault> {
         let answer = self.datagrams.receive();
-        let Some((peer, frame)) = counted(&mut self.failures, answer)? else {
+        let Some((peer, frame)) = count_fault(&mut self.failures, answer)? else {
             return Ok(None);
         };
         self.peer = Some(peer);
@@ -88,7 +88,7 @@ impl Radio for UdpSim {
             return Ok(());
         };
         let answer = self.datagrams.send(peer, frame);
-        counted(&mut self.failures, answer)
+        count_fault(&mut self.failures, answer)
     }
 
     fn take_down(&mut self) {

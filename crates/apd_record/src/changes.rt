@@ -40,7 +40,7 @@ impl Changes {
         ensures ok { OnOk result (self.new ≡ self.old ++ change ∷ []) }
         ensures err { OnErr result (self.new ≡ self.old) }
     {
-        change.known();
+        change.range_law();
         self.items.push(change)?;
         Ok(())
     }

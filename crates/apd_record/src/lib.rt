@@ -4,8 +4,8 @@
 mod change;
 mod changes;
 mod fields;
-mod known;
 pub mod laws;
+mod ranges;
 mod reader;
 mod writer;
 

@@ -46,7 +46,7 @@ pub fn total_length(changes: &[Change]) -> usize
 {
     let mut total: usize = 0;
     for change in changes {
-        change.known();
+        change.range_law();
         total = total.saturating_add(change.record_length());
     }
     total

@@ -21,30 +21,30 @@ use Rattle.apd_world.specs.declared.world.World.{World}
 use Rattle.apd_world.proofs.RunLemmas.{gone_by_flushing, gone_by_handing, gone_then, none_made}
 use Rattle.apd_script.specs.Lines.{Said, Empty, Received, Tick, Command, Take, Call, Publish, Hand, Flush, Stop, Says, HaveNoStop}
 use Rattle.apd_script.specs.Script.{AreRun, confs_of, IsCarriedOut, IsMade, IsMeant, IsPlaced, IsProperAt, IsRequested, IsRun, IsScriptRun, IsTried, SaysAndIsRun, Starts}
-use Rattle.apd_script.specs.declared.script.standing.Standing.{Standing}
+use Rattle.apd_script.specs.declared.script.runner.Runner.{Runner}
 
 module _ {D R : Type 0} (disk : DiskModel D) (radio : RadioModel R) where
-  abbrev Goes : Standing D R → Standing D R → Type 0
+  abbrev Goes : Runner D R → Runner D R → Type 0
   Goes old new = HasGoneOn disk radio old.world new.world
 
-  to_same : (old mid new : Standing D R) → new ≡ mid → Goes old mid → Goes old new
-  to_same old mid new same goes = subst (λ (s : Standing D R). Goes old s) (sym same) goes
+  to_same : (old mid new : Runner D R) → new ≡ mid → Goes old mid → Goes old new
+  to_same old mid new same goes = subst (λ (s : Runner D R). Goes old s) (sym same) goes
 
   -- ---- the steps of a line
-  by_made : (step : Step) (old new : Standing D R) → IsMade disk radio step old new → Goes old new
+  by_made : (step : Step) (old new : Runner D R) → IsMade disk radio step old new → Goes old new
   by_made step old new h = record { steps = step ∷ []; tolds = h.told ∷ []; made = h.makes.safely }
 
-  by_tried : (step : Step) (old new : Standing D R) → IsTried disk radio step old new → Goes old new
-  by_tried step old new h = subst (λ (s : Standing D R). Goes old s) (sym h.kept) (record { steps = step ∷ []; tolds = h.told ∷ []; made = h.makes.safely })
+  by_tried : (step : Step) (old new : Runner D R) → IsTried disk radio step old new → Goes old new
+  by_tried step old new h = subst (λ (s : Runner D R). Goes old s) (sym h.kept) (record { steps = step ∷ []; tolds = h.told ∷ []; made = h.makes.safely })
 
-  by_requested : (said : Option (Result Happening QuietReason)) (old new : Standing D R) → IsRequested disk radio said old new → Goes old new
+  by_requested : (said : Option (Result Happening QuietReason)) (old new : Runner D R) → IsRequested disk radio said old new → Goes old new
   by_requested said old new h = by_made h.request old new h.made
 
-  by_placed : (what : Placing) (old new : Standing D R) → IsPlaced disk radio what old new → Goes old new
+  by_placed : (what : Placing) (old new : Runner D R) → IsPlaced disk radio what old new → Goes old new
   by_placed (Asks query) old new h = by_made _ old new h
   by_placed (Does event) old new h = by_requested _ old new h
 
-  pub by_start : (old new : Standing D R) → Starts disk radio old new → Goes old new
+  pub by_start : (old new : Runner D R) → Starts disk radio old new → Goes old new
   by_start old new h =
       let confs = (durable_of old.world).core.confs in
       let handed = h.started.flushed.handed in
@@ -55,7 +55,7 @@ module _ {D R : Type 0} (disk : DiskModel D) (radio : RadioModel R) where
       }
 
   -- where no step is made, nothing is changed
-  module _ (old new : Standing D R) (still : Goes old old) where
+  module _ (old new : Runner D R) (still : Goes old old) where
     by_meant : (tag : ℕ) (order : Order) (conf : Option Conf) → IsMeant disk radio tag order conf old new → Goes old new
     by_meant tag order None h = to_same old old new h still
     by_meant tag order (Some conf) h = by_placed _ old new h
@@ -77,39 +77,39 @@ module _ {D R : Type 0} (disk : DiskModel D) (radio : RadioModel R) where
     by_line n Stop none h = absurd (none refl)
 
   -- ---- lines
-  of_line : (n : ℕ) (text : List ℕ) (old new : Standing D R) → (Says text Stop → ⊥) → SaysAndIsRun disk radio n text old new → Goes old new
+  of_line : (n : ℕ) (text : List ℕ) (old new : Runner D R) → (Says text Stop → ⊥) → SaysAndIsRun disk radio n text old new → Goes old new
   of_line n text old new none one = one.safely (λ stop. none (subst (λ what. Says text what) stop one.says))
 
   -- behind some steps
-  behind : (n : ℕ) (texts : List (List ℕ)) (base old new : Standing D R) → Goes base old → HaveNoStop texts → AreRun disk radio n texts old new → Goes base new
+  behind : (n : ℕ) (texts : List (List ℕ)) (base old new : Runner D R) → Goes base old → HaveNoStop texts → AreRun disk radio n texts old new → Goes base new
   behind n [] base old new goes none same = to_same base old new same goes
   behind n (text ∷ texts) base old new goes none (mid, one, rest) =
       behind (n + 1) texts base mid new
       (gone_then disk radio goes.steps goes.tolds base.world old.world mid.world goes.made (of_line n text old mid none.0 one)) none.1 rest
 
   -- of no line none is made
-  pub by_lines : (n : ℕ) (texts : List (List ℕ)) (old new : Standing D R) → (texts ≡ [] → IsSafe disk (durable_of old.world) (durable_of old.world))
+  pub by_lines : (n : ℕ) (texts : List (List ℕ)) (old new : Runner D R) → (texts ≡ [] → IsSafe disk (durable_of old.world) (durable_of old.world))
       → HaveNoStop texts → AreRun disk radio n texts old new → Goes old new
   by_lines n [] old new here none same = to_same old old new same (record { steps = []; tolds = []; made = none_made disk radio old.world (here refl) })
   by_lines n (text ∷ texts) old new here none (mid, one, rest) = behind (n + 1) texts old mid new (of_line n text old mid none.0 one) none.1 rest
 
-  pub by_part : (n : ℕ) (texts : List (List ℕ)) (old started new : Standing D R) → Starts disk radio old started → HaveNoStop texts
+  pub by_part : (n : ℕ) (texts : List (List ℕ)) (old started new : Runner D R) → Starts disk radio old started → HaveNoStop texts
       → AreRun disk radio n texts started new → Goes old new
   by_part n texts old started new starts none run = behind n texts old started new (by_start old started starts) none run
 
   -- ---- what stays proper
-  abbrev At : Standing D R → Type 0
+  abbrev At : Runner D R → Type 0
   At s = IsProperAt disk radio s
 
-  line_proper : (n : ℕ) (what : Said) (old new : Standing D R) → IsRun disk radio n what old new → (what ≢ Stop → Goes old new) → At old → At new
+  line_proper : (n : ℕ) (what : Said) (old new : Runner D R) → IsRun disk radio n what old new → (what ≢ Stop → Goes old new) → At old → At new
   line_proper n Stop old new h goes p = h.starts.started.flushed.handed.made.proper (h.restarts.restarted.begun.proper p.imaged.honest)
   line_proper n what old new h goes p = (goes (λ stop. cc)).made.proper p
 
-  lines_proper : (n : ℕ) (texts : List (List ℕ)) (old new : Standing D R) → AreRun disk radio n texts old new → At old → At new
+  lines_proper : (n : ℕ) (texts : List (List ℕ)) (old new : Runner D R) → AreRun disk radio n texts old new → At old → At new
   lines_proper n [] old new same p = subst At (sym same) p
   lines_proper n (text ∷ texts) old new (mid, one, rest) p = lines_proper (n + 1) texts mid new rest (line_proper n one.what old mid one.run one.safely p)
 
-  pub stays_proper : (texts : List (List ℕ)) (w : World D R) (radios : List R) (last : Standing D R) → IsScriptRun disk radio texts w radios last
+  pub stays_proper : (texts : List (List ℕ)) (w : World D R) (radios : List R) (last : Runner D R) → IsScriptRun disk radio texts w radios last
       → IsProper disk (durable_of w) → At last
   stays_proper texts w radios last h p =
       let begun : At h.first = subst (λ (v : World D R). IsProper disk (durable_of v)) (sym h.begun.world) p in

@@ -8,11 +8,11 @@ use Rattle.apd_base.specs.declared.address.Bssid.{Bssid}
 use Rattle.apd_base.specs.declared.station.Policy.{Policy}
 use Rattle.apd_base.specs.declared.station.Which.TheVariants.{Accept, Deny}
 use Rattle.apd_disk.specs.Disk.{Only, DiskModel}
-use Rattle.apd_store.specs.Outside.{device_of}
+use Rattle.apd_store.specs.Outside.{store_device}
 use Rattle.apd_store.specs.Recovery.{IsHonestlyRecovered}
 use Rattle.apd_store.specs.declared.store.Store.{Store}
 use Rattle.apd_table.specs.Allowed.{mode_and_max}
-use Rattle.apd_script.specs.Checking.{IsHonestlyRead, IsHonestlyRefused, line_of, line_by, line_with}
+use Rattle.apd_script.specs.Checking.{IsHonestlyChecked, IsHonestlyRefused, line_of, line_by, line_with}
 use Rattle.apd_script.specs.declared.checking.CheckFault.{CheckFault}
 use Rattle.apd_script.specs.declared.checking.CheckFault.TheVariants as fault
 
@@ -31,20 +31,20 @@ all_bss s = map.len-entries s.policies ∙ sym (length-map (map.entries s.polici
 
 module _ {D : Type 0} (disk : DiskModel D) (device : D) where
   -- a device was read where its store was recovered
-  pub was_read : (left : D) (store : Store D) (table : State) → left ≡ device_of store
-      → IsHonestlyRecovered disk device store table → IsHonestlyRead disk device left table
+  pub was_read : (left : D) (store : Store D) (table : State) → left ≡ store_device store
+      → IsHonestlyRecovered disk device store table → IsHonestlyChecked disk device left table
   was_read left store table same h =
-      let inside : IsHonestlyRead disk device (device_of store) table = record {
+      let inside : IsHonestlyChecked disk device (store_device store) table = record {
         shown = h.shown;
         stays = h.stays;
-        durable = subst (λ (image : List ℕ). Only image (disk.may_leave (device_of store))) h.stays h.idle.durable;
+        durable = subst (λ (image : List ℕ). Only image (disk.may_leave (store_device store))) h.stays h.idle.durable;
         any_moment = h.any_moment;
         calls = h.calls;
       } in
-      subst (λ (d : D). IsHonestlyRead disk device d table) (sym same) inside
+      subst (λ (d : D). IsHonestlyChecked disk device d table) (sym same) inside
 
   -- and so it was where its table could not be printed
   pub not_printed : (left : D) (table : State) (why : CheckFault) → (why ≡ fault.Writer) ⊎ (why ≡ fault.NoMemory)
-      → IsHonestlyRead disk device left table → IsHonestlyRefused disk device left why
+      → IsHonestlyChecked disk device left table → IsHonestlyRefused disk device left why
   not_printed left table why (inl is) h = subst (IsHonestlyRefused disk device left) (sym is) (table, h)
   not_printed left table why (inr is) h = subst (IsHonestlyRefused disk device left) (sym is) (table, h)

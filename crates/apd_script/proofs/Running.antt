@@ -12,11 +12,11 @@ use Rattle.apd_disk.specs.Disk.{DiskModel}
 use Rattle.apd_ctrl.specs.Reading.{line_of}
 use Rattle.apd_radio.specs.Model.{RadioModel}
 use Rattle.apd_world.specs.declared.world.World.{World}
-use Rattle.apd_script.specs.Lines.{IsRead}
+use Rattle.apd_script.specs.Lines.{IsLineRead}
 use Rattle.apd_script.specs.Script.{AreRun, Ends, IsBegun, IsFault, IsLineFault, IsNoBadLine, IsScriptRun, SaysAndIsRun, Starts}
 use Rattle.apd_script.specs.declared.script.fault.ScriptFault.{ScriptFault}
 use Rattle.apd_script.specs.declared.script.fault.ScriptFault.TheVariants as fault
-use Rattle.apd_script.specs.declared.script.standing.Standing.{Standing}
+use Rattle.apd_script.specs.declared.script.runner.Runner.{Runner}
 use Rattle.apd_script.proofs.ScriptLines.{line_read, whole_length}
 
 -- ---- the lines that are read
@@ -41,7 +41,7 @@ none_beyond : (script rest : List ℕ) (n : ℕ) → length (take (MAX_SCRIPT + 
 none_beyond script rest n long fits none = drop_all (MAX_SCRIPT + 1) script (omega (arith, long, length-take (MAX_SCRIPT + 1) script, ap length none))
 
 -- a line more is read
-read_further : (known left next : Option (List ℕ)) (texts : List (List ℕ)) (n k : ℕ) (bytes : List ℕ) → AreRead known left texts n → IsRead left next bytes → length bytes ≡ k → 0 < k
+read_further : (known left next : Option (List ℕ)) (texts : List (List ℕ)) (n k : ℕ) (bytes : List ℕ) → AreRead known left texts n → IsLineRead left next bytes → length bytes ≡ k → 0 < k
     → n + k ≤ MAX_SCRIPT → AreRead known next (texts ++ line_of bytes ∷ []) (n + k)
 read_further None left next texts n k bytes read piece long some fits = tt
 read_further (Some script) None next texts n k bytes read piece long some fits = absurd read
@@ -73,7 +73,7 @@ rest_unread (Some script) None texts n read = absurd read
 rest_unread (Some script) (Some rest) texts n read = (lines (rest ++ beyond script), read.0)
 
 -- a line is read that is bad
-bad_read : (known left next : Option (List ℕ)) (texts : List (List ℕ)) (n k : ℕ) (bytes : List ℕ) → AreRead known left texts n → IsRead left next bytes → length bytes ≡ k → 0 < k
+bad_read : (known left next : Option (List ℕ)) (texts : List (List ℕ)) (n k : ℕ) (bytes : List ℕ) → AreRead known left texts n → IsLineRead left next bytes → length bytes ≡ k → 0 < k
     → n + k ≤ MAX_SCRIPT → (behind : List (List ℕ)) × IfSome known (λ script. lines script ≡ texts ++ line_of bytes ∷ behind)
 bad_read known left next texts n k bytes read piece long some fits =
     let (behind, text) = rest_unread known next (texts ++ line_of bytes ∷ []) (n + k) (read_further known left next texts n k bytes read piece long some fits) in
@@ -88,7 +88,7 @@ no_further n = omega arith
 
 module _ {D R : Type 0} (disk : DiskModel D) (radio : RadioModel R) where
   -- one line more is run
-  runs_further : (n : ℕ) (texts : List (List ℕ)) (text : List ℕ) (a b c : Standing D R) → AreRun disk radio n texts a b
+  runs_further : (n : ℕ) (texts : List (List ℕ)) (text : List ℕ) (a b c : Runner D R) → AreRun disk radio n texts a b
       → SaysAndIsRun disk radio (n + length texts) text b c → AreRun disk radio n (texts ++ text ∷ []) a c
   runs_further n [] text a b c same one =
       let here : SaysAndIsRun disk radio n text a c =
@@ -99,7 +99,7 @@ module _ {D R : Type 0} (disk : DiskModel D) (radio : RadioModel R) where
       (mid, one, runs_further (n + 1) texts text mid b c past last_one)
 
   -- so many lines of so many bytes were run, and the next has this number
-  pub record IsSoFar (known left : Option (List ℕ)) (number n : ℕ) (radios : List R) (old : World D R) (new : Standing D R) : Type 0 where
+  pub record IsSoFar (known left : Option (List ℕ)) (number n : ℕ) (radios : List R) (old : World D R) (new : Runner D R) : Type 0 where
     pub texts : List (List ℕ)
     pub read : AreRead known left texts n
     pub counted : number ≡ length texts + 1
@@ -107,7 +107,7 @@ module _ {D R : Type 0} (disk : DiskModel D) (radio : RadioModel R) where
     pub fits : n ≤ MAX_SCRIPT
     pub run : IsScriptRun disk radio texts old radios new
 
-  pub begins_so_far : (known left : Option (List ℕ)) (radios : List R) (old : World D R) (first new : Standing D R) → left ≡ option_map (take (MAX_SCRIPT + 1)) known
+  pub begins_so_far : (known left : Option (List ℕ)) (radios : List R) (old : World D R) (first new : Runner D R) → left ≡ option_map (take (MAX_SCRIPT + 1)) known
       → IsBegun old radios first → Starts disk radio first new → IsSoFar known left 1 0 radios old new
   begins_so_far known left radios old first new e begun starts = record {
     texts = [];
@@ -118,8 +118,8 @@ module _ {D R : Type 0} (disk : DiskModel D) (radio : RadioModel R) where
     run = record { first = first; begun = begun; started = new; starts = starts; run = refl };
   }
 
-  pub further_so_far : (known left next : Option (List ℕ)) (number n k sum : ℕ) (radios : List R) (old : World D R) (new newer : Standing D R) (bytes : List ℕ)
-      → IsSoFar known left number n radios old new → IsRead left next bytes → length bytes ≡ k → 0 < k → (sum ≡ n + k) × (sum ≤ MAX_SCRIPT)
+  pub further_so_far : (known left next : Option (List ℕ)) (number n k sum : ℕ) (radios : List R) (old : World D R) (new newer : Runner D R) (bytes : List ℕ)
+      → IsSoFar known left number n radios old new → IsLineRead left next bytes → length bytes ≡ k → 0 < k → (sum ≡ n + k) × (sum ≤ MAX_SCRIPT)
       → SaysAndIsRun disk radio number (line_of bytes) new newer → IsSoFar known next (number + 1) sum radios old newer
   further_so_far known left next number n k sum radios old new newer bytes past piece long some within one =
       let run = past.run in
@@ -141,8 +141,8 @@ module _ {D R : Type 0} (disk : DiskModel D) (radio : RadioModel R) where
         };
       }
 
-  pub ends_so_far : (known left next : Option (List ℕ)) (number n : ℕ) (radios : List R) (old : World D R) (new : Standing D R) (bytes : List ℕ)
-      → IsSoFar known left number n radios old new → IsRead left next bytes → length bytes ≡ 0 → Ends disk radio known radios old new.world
+  pub ends_so_far : (known left next : Option (List ℕ)) (number n : ℕ) (radios : List R) (old : World D R) (new : Runner D R) (bytes : List ℕ)
+      → IsSoFar known left number n radios old new → IsLineRead left next bytes → length bytes ≡ 0 → Ends disk radio known radios old new.world
   ends_so_far known left next number n radios old new bytes past piece none = record {
     texts = past.texts;
     whole = all_read known left past.texts n past.read past.fits (IsAtEnd-of_take_through 10 left [] bytes piece.taken none);
@@ -151,8 +151,8 @@ module _ {D R : Type 0} (disk : DiskModel D) (radio : RadioModel R) where
     world = refl;
   }
 
-  pub fails_so_far : (why : ScriptFault) (known left next : Option (List ℕ)) (number n k sum : ℕ) (radios : List R) (old : World D R) (new : Standing D R) (bytes : List ℕ)
-      → IsSoFar known left number n radios old new → IsRead left next bytes → length bytes ≡ k → 0 < k → (sum ≡ n + k) × (sum ≤ MAX_SCRIPT)
+  pub fails_so_far : (why : ScriptFault) (known left next : Option (List ℕ)) (number n k sum : ℕ) (radios : List R) (old : World D R) (new : Runner D R) (bytes : List ℕ)
+      → IsSoFar known left number n radios old new → IsLineRead left next bytes → length bytes ≡ k → 0 < k → (sum ≡ n + k) × (sum ≤ MAX_SCRIPT)
       → IsLineFault number (line_of bytes) new why → IsFault disk radio known radios old why
   fails_so_far (fault.BadLine j) known left next number n k sum radios old new bytes past piece long some within (same, bad) =
       let fits : n + k ≤ MAX_SCRIPT = omega (arith, within.0, within.1) in

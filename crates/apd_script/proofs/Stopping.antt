@@ -18,7 +18,7 @@ use Rattle.apd_world.specs.WorldParts.{durable_of}
 use Rattle.apd_world.specs.declared.world.World.{World}
 use Rattle.apd_script.specs.Script.{AreRenewed, confs_of, IsBegunFrom, IsRestarted, Restarts, Starts, Stops}
 use Rattle.apd_script.specs.declared.script.fault.ScriptFault.{ScriptFault}
-use Rattle.apd_script.specs.declared.script.standing.Standing.{Standing}
+use Rattle.apd_script.specs.declared.script.runner.Runner.{Runner}
 
 module _ {D R : Type 0} (disk : DiskModel D) (radio : RadioModel R) where
   -- a world is begun anew from the device of another
@@ -50,31 +50,31 @@ module _ {D R : Type 0} (disk : DiskModel D) (radio : RadioModel R) where
       }
 
   -- what is given up and begun anew is restarted
-  pub restarts_ok : (r : Result (Standing D R) ScriptFault) (old : Standing D R) (mid : Standing D R) (confs : List Conf) (slots : List (Slot R)) → AreRenewed confs slots old mid
+  pub restarts_ok : (r : Result (Runner D R) ScriptFault) (old : Runner D R) (mid : Runner D R) (confs : List Conf) (slots : List (Slot R)) → AreRenewed confs slots old mid
       → IfOk r (λ new. confs ≡ confs_of mid → map bssid_of slots ≡ map (λ conf. conf.bssid) confs → IsRestarted disk radio mid.moment mid.world new.world)
       → IfOk r (λ new. new ≡ record mid { world = new.world; refusal = None })
       → IfOk r (λ new. Restarts disk radio old new)
   restarts_ok (Ok new) old mid confs slots renewed restarted only =
       let same = renewed.only in
       let configured = renewed.own in
-      let world : mid.world ≡ old.world = ap (λ (s : Standing D R). s.world) same in
-      let same_moment : mid.moment ≡ old.moment = ap (λ (s : Standing D R). s.moment) same in
-      let spares : new.spares ≡ mid.spares = ap (λ (s : Standing D R). s.spares) only in
+      let world : mid.world ≡ old.world = ap (λ (s : Runner D R). s.world) same in
+      let same_moment : mid.moment ≡ old.moment = ap (λ (s : Runner D R). s.moment) same in
+      let spares : new.spares ≡ mid.spares = ap (λ (s : Runner D R). s.spares) only in
       let whole = restarted (configured ∙ ap (λ (w : World D R). (durable_of w).core.confs) (sym world)) renewed.each in
       let at_world : IsRestarted disk radio mid.moment old.world new.world = subst (λ (w : World D R). IsRestarted disk radio mid.moment w new.world) world whole in
       record {
         restarted = subst (λ m. IsRestarted disk radio m old.world new.world) same_moment at_world;
         spares = ap (λ s. s.items) spares ∙ renewed.spares ∙ ap (λ cs. drop (length cs) old.spares.items) configured;
-        only = only ∙ ap (λ (s : Standing D R). record s { world = new.world; refusal = None }) same ∙ ap (λ s. record old { world = new.world; spares = s; refusal = None }) (sym spares);
+        only = only ∙ ap (λ (s : Runner D R). record s { world = new.world; refusal = None }) same ∙ ap (λ s. record old { world = new.world; spares = s; refusal = None }) (sym spares);
       }
   restarts_ok (Err why) old mid confs slots renewed restarted only = tt
 
   -- and then started
-  pub stops_ok : (r : Result (Standing D R) ScriptFault) (old first mid : Standing D R) → Restarts disk radio old first → mid ≡ first
+  pub stops_ok : (r : Result (Runner D R) ScriptFault) (old first mid : Runner D R) → Restarts disk radio old first → mid ≡ first
       → IfOk r (λ new. Starts disk radio mid new) → IfOk r (λ new. Stops disk radio old new)
   stops_ok (Ok new) old first mid restarts same starts = record {
     mid = mid;
-    restarts = subst (λ (s : Standing D R). Restarts disk radio old s) (sym same) restarts;
+    restarts = subst (λ (s : Runner D R). Restarts disk radio old s) (sym same) restarts;
     starts = starts;
   }
   stops_ok (Err why) old first mid restarts same starts = tt

@@ -45,13 +45,13 @@ table_text s = flat_map (line_of s) (map.keys s.policies)
 
 -- ---- what is found of the device, and left of it
 -- it holds a store; the count of its failures stays
-pub record IsRead {D : Type 0} (disk : DiskModel D) (device left : D) : Type 0 where
+pub record IsChecked {D : Type 0} (disk : DiskModel D) (device left : D) : Type 0 where
   pub length : disk.size device ≡ DEVICE_LENGTH
   pub count : disk.failed left ≡ disk.failed device
   pub stays_honest : disk.honest device ↔ disk.honest left
 
 -- an honest one shows this table, reads as it did, and leaves no image that could not be left before
-pub record IsHonestlyRead {D : Type 0} (disk : DiskModel D) (device left : D) (table : State) : Type 0 where
+pub record IsHonestlyChecked {D : Type 0} (disk : DiskModel D) (device left : D) (table : State) : Type 0 where
   pub shown : Shows (disk.reads device) table
   pub stays : disk.reads left ≡ disk.reads device
   pub durable : Only (disk.reads device) (disk.may_leave left)
@@ -61,22 +61,22 @@ pub record IsHonestlyRead {D : Type 0} (disk : DiskModel D) (device left : D) (t
 -- its table was printed behind what a writer held
 pub record IsPrinted {D : Type 0} (disk : DiskModel D) (held holds : Option (List ℕ)) (device left : D) : Type 0 where
   pub table : State
-  pub read : IsHonestlyRead disk device left table
+  pub read : IsHonestlyChecked disk device left table
   pub printed : Appends held holds (table_text table)
 
 -- it was refused as a recovery refuses it; or it is a store, whose table could not be printed
 abbrev pub IsRefused : {D : Type 0} → DiskModel D → D → D → CheckFault → Type 0
 IsRefused disk device left (fault.Store why) = IsNotRecovered disk device left why
-IsRefused disk device left fault.Writer = IsRead disk device left
-IsRefused disk device left fault.NoMemory = IsRead disk device left
+IsRefused disk device left fault.Writer = IsChecked disk device left
+IsRefused disk device left fault.NoMemory = IsChecked disk device left
 
 abbrev pub IsHonestlyRefused : {D : Type 0} → DiskModel D → D → D → CheckFault → Type 0
 IsHonestlyRefused disk device left (fault.Store why) =
     IsHonestlyNotRecovered disk device left why
 IsHonestlyRefused disk device left fault.Writer =
-    (table : State) × IsHonestlyRead disk device left table
+    (table : State) × IsHonestlyChecked disk device left table
 IsHonestlyRefused disk device left fault.NoMemory =
-    (table : State) × IsHonestlyRead disk device left table
+    (table : State) × IsHonestlyChecked disk device left table
 
 -- a device was given up so
 pub record IsGivenUp {D : Type 0} (disk : DiskModel D) (device : D) (fault : CheckFault)

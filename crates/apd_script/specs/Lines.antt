@@ -12,7 +12,7 @@ use Rattle.apd_script.specs.declared.script.line.Line.{Line}
 use Rattle.apd_script.specs.declared.script.line.Line.TheVariants as line
 
 -- the bytes up to a newline, and with it, are read of what is left, or all of it
-pub record IsRead (left next : Option (List ℕ)) (bytes : List ℕ) : Type 0 where
+pub record IsLineRead (left next : Option (List ℕ)) (bytes : List ℕ) : Type 0 where
   pub taken : IfSome left (λ text. bytes ≡ take_through newline text)
   pub dropped : DropsThrough left next newline
 
@@ -56,17 +56,17 @@ Says text Hand = text ≡ codes "hand"
 Says text Flush = text ≡ codes "flush"
 Says text Stop = text ≡ codes "stop"
 
-abbrev pub said : Line → Said
-said line.Empty = Empty
-said (line.Received interface frame) = Received interface.now frame
-said (line.Tick m) = Tick m
-said (line.Command command) = Command command.now
-said line.Take = Take
-said line.Call = Call
-said line.Publish = Publish
-said line.Hand = Hand
-said line.Flush = Flush
-said line.Stop = Stop
+abbrev pub saying_of : Line → Said
+saying_of line.Empty = Empty
+saying_of (line.Received interface frame) = Received interface.now frame
+saying_of (line.Tick m) = Tick m
+saying_of (line.Command command) = Command command.now
+saying_of line.Take = Take
+saying_of line.Call = Call
+saying_of line.Publish = Publish
+saying_of line.Hand = Hand
+saying_of line.Flush = Flush
+saying_of line.Stop = Stop
 
 -- none of these lines is a stop
 abbrev pub HaveNoStop : List (List ℕ) → Type 0

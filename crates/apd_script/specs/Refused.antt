@@ -5,7 +5,7 @@ use Rattle.apd_world.specs.declared.step.Told.{Told}
 use Rattle.apd_world.specs.declared.step.Told.TheVariants.{Called, Loaded}
 
 -- why the store refused the step, if it did
-abbrev pub refused : Told → Option StoreFault
-refused (Loaded (Err why)) = Some why
-refused (Called (Err why)) = Some why
-refused told = None
+abbrev pub refusal_of : Told → Option StoreFault
+refusal_of (Loaded (Err why)) = Some why
+refusal_of (Called (Err why)) = Some why
+refusal_of told = None

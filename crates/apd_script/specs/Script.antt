@@ -9,9 +9,9 @@ use Rattle.apd_conf.specs.Confs.{conf_meant, conf_named}
 use Rattle.apd_conf.specs.declared.conf.Conf.{Conf}
 use Rattle.apd_core.specs.Core.{CoreState, new_core}
 use Rattle.apd_core.specs.Heard.{AreHeardAt}
-use Rattle.apd_core.specs.Requests.{ordered, said_by, unless_ignored}
+use Rattle.apd_core.specs.Requests.{order_happening, happening_said, frame_happening}
 use Rattle.apd_core.specs.declared.input.QuietReason.{QuietReason}
-use Rattle.apd_ctrl.specs.Placing.{Placing, Asks, Does, placed}
+use Rattle.apd_ctrl.specs.Placing.{Placing, Asks, Does, command_placing}
 use Rattle.apd_ctrl.specs.Reading.{outcome as command_outcome}
 use Rattle.apd_ctrl.specs.declared.command.Command.{Command as Order}
 use Rattle.apd_ctrl.specs.declared.parser.Refusal.{Refusal}
@@ -43,28 +43,29 @@ use Rattle.apd_world.specs.declared.step.Told.{Told}
 use Rattle.apd_world.specs.declared.step.Told.TheVariants.{NoMemory}
 use Rattle.apd_world.specs.declared.world.World.{World}
 use Rattle.apd_script.specs.Lines.{Said, Empty, Received, Tick, Command, Take, Call, Publish, Hand, Flush, Stop, Says, IsBad, IsNotPossible}
-use Rattle.apd_script.specs.Refused.{refused}
+use Rattle.apd_script.specs.Refused.{refusal_of}
 use Rattle.apd_script.specs.declared.script.fault.ScriptFault.{ScriptFault}
 use Rattle.apd_script.specs.declared.script.fault.ScriptFault.TheVariants as fault
-use Rattle.apd_script.specs.declared.script.standing.Standing.{Standing}
+use Rattle.apd_script.specs.declared.script.runner.Runner.{Runner}
 
--- ---- what a script stands at
-abbrev pub confs_of : {D R : Type 0} → Standing D R → List Conf
+-- ---- a script that runs
+-- its configurations
+abbrev pub confs_of : {D R : Type 0} → Runner D R → List Conf
 confs_of s = (durable_of s.world).core.confs
 
 -- its radio is up: a command that asks for its status tells so
-abbrev pub is_up_at : {D R : Type 0} → Standing D R → Conf → Bool
+abbrev pub is_up_at : {D R : Type 0} → Runner D R → Conf → Bool
 is_up_at s conf = is_up_if (slot_at (slots_of s.world) conf.bssid)
 
 -- at first: at moment 0, with all radios, and without a refusal
-pub record IsBegun {D R : Type 0} (w : World D R) (radios : List R) (s : Standing D R) : Type 0 where
+pub record IsBegun {D R : Type 0} (w : World D R) (radios : List R) (s : Runner D R) : Type 0 where
   pub world : s.world ≡ w
   pub moment : s.moment ≡ record { 0 = 0 }
   pub spares : s.spares.items ≡ radios
   pub refusal : s.refusal ≡ None
 
 -- of these configurations, its own, each has one of these slots, and as many radios were taken from the front
-pub record AreRenewed {D R : Type 0} (confs : List Conf) (slots : List (Slot R)) (old new : Standing D R) : Type 0 where
+pub record AreRenewed {D R : Type 0} (confs : List Conf) (slots : List (Slot R)) (old new : Runner D R) : Type 0 where
   pub own : confs ≡ confs_of old
   pub each : map bssid_of slots ≡ map (λ conf. conf.bssid) confs
   pub spares : new.spares.items ≡ drop (length confs) old.spares.items
@@ -78,79 +79,79 @@ pub record IsAfterFlight (s : CoreState) (hs : List Happening) (after : State) :
 
 -- ---- the steps that its lines ask for
 -- what a step asks to be accepted, and at which moment
-abbrev pub asked_at : Step → Option (Option (Result Happening QuietReason) × Moment)
-asked_at (step.Accept i m) = Some (said_by i, m)
-asked_at other = None
+abbrev pub acceptance_of : Step → Option (Option (Result Happening QuietReason) × Moment)
+acceptance_of (step.Accept i m) = Some (happening_said i, m)
+acceptance_of other = None
 
 module _ {D R : Type 0} (disk : DiskModel D) (radio : RadioModel R) where
   -- the world is proper
-  abbrev pub IsProperAt : Standing D R → Type 0
+  abbrev pub IsProperAt : Runner D R → Type 0
   IsProperAt s = IsProper disk (durable_of s.world)
 
   -- nothing changes but the world
-  abbrev pub OnlyWorld : Standing D R → Standing D R → Type 0
+  abbrev pub OnlyWorld : Runner D R → Runner D R → Type 0
   OnlyWorld old new = new ≡ record old { world = new.world }
 
   -- this step was made, and told so
-  pub record Makes (made : Step) (told : Told) (old new : Standing D R) : Type 0 where
+  pub record Makes (made : Step) (told : Told) (old new : Runner D R) : Type 0 where
     pub safely : AreSafelyMade disk radio (made ∷ []) (told ∷ []) old.world new.world
     pub only : OnlyWorld old new
 
   -- one was made, and did not lack memory
-  pub record IsMade (made : Step) (old new : Standing D R) : Type 0 where
+  pub record IsMade (made : Step) (old new : Runner D R) : Type 0 where
     pub told : Told
     pub makes : Makes made told old new
     pub memory : told ≢ NoMemory
 
   -- one was made, which asks for this to be accepted at the moment
-  pub record IsRequested (said : Option (Result Happening QuietReason)) (old new : Standing D R) : Type 0 where
+  pub record IsRequested (said : Option (Result Happening QuietReason)) (old new : Runner D R) : Type 0 where
     pub request : Step
-    pub asks : asked_at request ≡ Some (said, old.moment)
+    pub asks : acceptance_of request ≡ Some (said, old.moment)
     pub made : IsMade request old new
 
   -- one was made, whatever it told, and the first refusal is kept
-  pub record IsTried (made : Step) (old new : Standing D R) : Type 0 where
+  pub record IsTried (made : Step) (old new : Runner D R) : Type 0 where
     pub told : Told
-    pub mid : Standing D R
+    pub mid : Runner D R
     pub makes : Makes made told old mid
-    pub kept : new ≡ record mid { refusal = option_or old.refusal (refused told) }
+    pub kept : new ≡ record mid { refusal = option_or old.refusal (refusal_of told) }
 
   -- the frame of a line is received at its interface
-  pub record IsReceived (interface frame : List ℕ) (old new : Standing D R) : Type 0 where
+  pub record IsReceived (interface frame : List ℕ) (old new : Runner D R) : Type 0 where
     pub conf : Conf
     pub configured : conf_named (confs_of old) interface ≡ Some conf
-    pub requested : IsRequested (Some (unless_ignored conf.bssid (outcome frame conf.bssid))) old new
+    pub requested : IsRequested (Some (frame_happening conf.bssid (outcome frame conf.bssid))) old new
 
   -- what becomes of a command at a BSSID
-  abbrev pub IsPlaced : Placing → Standing D R → Standing D R → Type 0
+  abbrev pub IsPlaced : Placing → Runner D R → Runner D R → Type 0
   IsPlaced (Asks query) old new = IsMade (step.Ask query) old new
-  IsPlaced (Does h) old new = IsRequested (Some (ordered h)) old new
+  IsPlaced (Does h) old new = IsRequested (Some (order_happening h)) old new
 
   -- at the interface that it means
-  abbrev pub IsMeant : ℕ → Order → Option Conf → Standing D R → Standing D R → Type 0
+  abbrev pub IsMeant : ℕ → Order → Option Conf → Runner D R → Runner D R → Type 0
   IsMeant tag order None old new = new ≡ old
-  IsMeant tag order (Some conf) old new = IsPlaced (placed order conf.bssid (is_up_at old conf) tag) old new
+  IsMeant tag order (Some conf) old new = IsPlaced (command_placing order conf.bssid (is_up_at old conf) tag) old new
 
   -- a text is carried out as a command, by what it is; one that is refused makes no step
-  abbrev pub IsCarriedOut : ℕ → Result (Option (List ℕ) × Order) Refusal → Standing D R → Standing D R → Type 0
+  abbrev pub IsCarriedOut : ℕ → Result (Option (List ℕ) × Order) Refusal → Runner D R → Runner D R → Type 0
   IsCarriedOut tag (Ok read) old new = IsMeant tag read.1 (conf_meant (confs_of old) read.0) old new
   IsCarriedOut tag (Err refusal) old new = new ≡ old
 
   -- what is settled is handed out
-  pub record HandsOut (old new : Standing D R) : Type 0 where
+  pub record HandsOut (old new : Runner D R) : Type 0 where
     pub answers : List (Recipient × Told)
     pub handed : IsHandedOut disk radio [] answers old.world new.world
     pub only : OnlyWorld old new
 
   -- all is committed, and handed out: where no refusal was met
-  pub record Flushes (old new : Standing D R) : Type 0 where
+  pub record Flushes (old new : Runner D R) : Type 0 where
     pub none : old.refusal ≡ None
     pub answers : List (Recipient × Told)
     pub flushed : IsFlushed disk radio [] answers old.world new.world
     pub only : OnlyWorld old new
 
   -- the interfaces are started
-  pub record Starts (old new : Standing D R) : Type 0 where
+  pub record Starts (old new : Runner D R) : Type 0 where
     pub answers : List (Recipient × Told)
     pub started : IsStarted disk radio answers old.world new.world
     pub only : OnlyWorld old new
@@ -182,20 +183,20 @@ module _ {D R : Type 0} (disk : DiskModel D) (radio : RadioModel R) where
         → (kept : Keeps j j (disk.reads (device_of (durable_of old)))) × ((durable_of new).core.settled ≡ after j kept.front)
 
   -- the world is begun anew, with a radio from the front for each interface, and no refusal is known
-  pub record Restarts (old new : Standing D R) : Type 0 where
+  pub record Restarts (old new : Runner D R) : Type 0 where
     pub restarted : IsRestarted old.moment old.world new.world
     pub spares : new.spares.items ≡ drop (length (confs_of old)) old.spares.items
     pub only : new ≡ record old { world = new.world; spares = new.spares; refusal = None }
 
   -- and its interfaces are started
-  pub record Stops (old new : Standing D R) : Type 0 where
-    pub mid : Standing D R
+  pub record Stops (old new : Runner D R) : Type 0 where
+    pub mid : Runner D R
     pub restarts : Restarts old mid
     pub starts : Starts mid new
 
   -- ---- lines
   -- the line of a number is run
-  abbrev pub IsRun : ℕ → Said → Standing D R → Standing D R → Type 0
+  abbrev pub IsRun : ℕ → Said → Runner D R → Runner D R → Type 0
   IsRun n Empty old new = new ≡ old
   IsRun n (Received interface frame) old new = IsReceived interface frame old new
   IsRun n (Tick m) old new = IsRequested None (record old { moment = m }) new
@@ -208,22 +209,22 @@ module _ {D R : Type 0} (disk : DiskModel D) (radio : RadioModel R) where
   IsRun n Stop old new = Stops old new
 
   -- a text says something, which is run; but for a stop, by steps alone
-  pub record SaysAndIsRun (n : ℕ) (text : List ℕ) (old new : Standing D R) : Type 0 where
+  pub record SaysAndIsRun (n : ℕ) (text : List ℕ) (old new : Runner D R) : Type 0 where
     pub what : Said
     pub says : Says text what
     pub run : IsRun n what old new
     pub safely : what ≢ Stop → HasGoneOn disk radio old.world new.world
 
   -- texts are run one after the other, the first of which has this number
-  abbrev pub AreRun : ℕ → List (List ℕ) → Standing D R → Standing D R → Type 0
+  abbrev pub AreRun : ℕ → List (List ℕ) → Runner D R → Runner D R → Type 0
   AreRun n [] old new = new ≡ old
-  AreRun n (text ∷ texts) old new = (mid : Standing D R) × SaysAndIsRun n text old mid × AreRun (n + 1) texts mid new
+  AreRun n (text ∷ texts) old new = (mid : Runner D R) × SaysAndIsRun n text old mid × AreRun (n + 1) texts mid new
 
   -- the interfaces are started, and then the lines of a script are run
-  pub record IsScriptRun (texts : List (List ℕ)) (w : World D R) (radios : List R) (last : Standing D R) : Type 0 where
-    pub first : Standing D R
+  pub record IsScriptRun (texts : List (List ℕ)) (w : World D R) (radios : List R) (last : Runner D R) : Type 0 where
+    pub first : Runner D R
     pub begun : IsBegun w radios first
-    pub started : Standing D R
+    pub started : Runner D R
     pub starts : Starts first started
     pub run : AreRun 1 texts started last
 
@@ -231,7 +232,7 @@ module _ {D R : Type 0} (disk : DiskModel D) (radio : RadioModel R) where
   pub record Ends (known : Option (List ℕ)) (radios : List R) (old new : World D R) : Type 0 where
     pub texts : List (List ℕ)
     pub whole : IfSome known (λ script. (length script ≤ MAX_SCRIPT) × (lines script ≡ texts))
-    pub last : Standing D R
+    pub last : Runner D R
     pub run : IsScriptRun texts old radios last
     pub world : new ≡ last.world
 
@@ -242,7 +243,7 @@ module _ {D R : Type 0} (disk : DiskModel D) (radio : RadioModel R) where
     pub behind : List (List ℕ)
     pub text : IfSome known (λ script. lines script ≡ front ++ bad ∷ behind)
     pub number : n ≡ length front + 1
-    pub last : Standing D R
+    pub last : Runner D R
     pub run : IsScriptRun front old radios last
     pub is_bad : IsBad (confs_of last) (length last.spares.items) bad
 
@@ -280,11 +281,11 @@ IsNoBadLine (fault.BadLine n) = ⊥
 IsNoBadLine why = Unit {0}
 
 -- why a line was not run: it is bad
-abbrev pub IsLineFault : {D R : Type 0} → ℕ → List ℕ → Standing D R → ScriptFault → Type 0
+abbrev pub IsLineFault : {D R : Type 0} → ℕ → List ℕ → Runner D R → ScriptFault → Type 0
 IsLineFault n text s (fault.BadLine k) = (k ≡ n) × IsBad (confs_of s) (length s.spares.items) text
 IsLineFault n text s why = Unit {0}
 
 -- the same of what it says
-abbrev pub IsSaidFault : {D R : Type 0} → ℕ → Said → Standing D R → ScriptFault → Type 0
+abbrev pub IsSaidFault : {D R : Type 0} → ℕ → Said → Runner D R → ScriptFault → Type 0
 IsSaidFault n what s (fault.BadLine k) = (k ≡ n) × IsNotPossible (confs_of s) (length s.spares.items) what
 IsSaidFault n what s why = Unit {0}

@@ -5,7 +5,7 @@ ghost use Rattle.std.specs.String.{string_bytes};
 ghost use Rattle.std.specs.FinMap.{len};
 ghost use Rattle.apd_acl.specs.Lists.{list_of};
 ghost use Rattle.apd_base.specs.declared.station.Which.TheVariants.{Accept, Deny};
-ghost use Rattle.apd_script.specs.Checking.{IsGivenUp, IsHonestlyRefused, IsPrinted, IsRead, IsRefused, counts_text, line_of, line_with, table_text};
+ghost use Rattle.apd_script.specs.Checking.{IsGivenUp, IsHonestlyRefused, IsPrinted, IsChecked, IsRefused, counts_text, line_of, line_with, table_text};
 ghost use Rattle.apd_script.specs.declared.checking.CheckFault.TheVariants.{NoMemory, Writer};
 
 use apd_acl::Lists;
@@ -114,12 +114,12 @@ fn print_table<W: Write>(alloc: Global, table: &Table, writer: &mut W) -> Result
 }
 
 /// Prints the table that a device shows, and hands the device back, also where it is refused.
-fn checked<D: Disk, W: Write>(
+fn check_device<D: Disk, W: Write>(
     alloc: Global,
     device: D,
     writer: &mut W,
 ) -> Result<D, (D, CheckFault)>
-    ensures read { IfOk result (λ left. IsRead D.model device left) }
+    ensures read { IfOk result (λ left. IsChecked D.model device left) }
     ensures printed { D.model.honest device
         → IfOk result (λ left. IsPrinted D.model
         (W.contents writer.old) (W.contents writer.new) device left) }
@@ -153,14 +153,14 @@ pub fn run_check<D: Disk + Drop, W: Write>(
     device: D,
     writer: &mut W,
 ) -> Result<D, CheckFault>
-    ensures read { IfOk result (λ left. IsRead D.model device left) }
+    ensures read { IfOk result (λ left. IsChecked D.model device left) }
     ensures printed { D.model.honest device
         → IfOk result (λ left. IsPrinted D.model
         (W.contents writer.old) (W.contents writer.new) device left) }
     ensures refused { IfErr result
         (IsGivenUp D.model device) }
 {
-    match checked(alloc, device, writer) {
+    match check_device(alloc, device, writer) {
         Ok(device) => Ok(device),
         Err((_device, fault)) => Err(fault),
     }

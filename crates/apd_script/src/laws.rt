@@ -3,7 +3,7 @@
 ghost use Rattle.std.specs.Prelude.{◌≡◌, List, ℕ, []};
 ghost use Rattle.apd_script.specs.Lines.{HaveNoStop};
 ghost use Rattle.apd_script.specs.Script.{AreRun, IsProperAt, IsScriptRun, Starts};
-ghost use Rattle.apd_script.specs.declared.script.standing.Standing.{Standing};
+ghost use Rattle.apd_script.specs.declared.script.runner.Runner.{Runner};
 ghost use Rattle.apd_world.specs.Journal.{Journal};
 ghost use Rattle.apd_world.specs.Proper.{IsProper, IsSafe};
 ghost use Rattle.apd_world.specs.SafelyMade.{AreMadeInTurn, LeadsSince};
@@ -22,11 +22,11 @@ use apd_radio::Radio;
 /// script from one start to the next `stop`, or to its end. No line makes no step: that a stop is then as safe is what
 /// `World::stops` tells of every world.
 pub fn lines_without_a_stop_are_one_run<D: Disk, R: Radio>()
-    ensures lines { (n : ℕ) (texts : List (List ℕ)) (old new : Standing D R)
+    ensures lines { (n : ℕ) (texts : List (List ℕ)) (old new : Runner D R)
         → (texts ≡ [] → IsSafe D.model (durable_of old.world) (durable_of old.world))
         → HaveNoStop texts → AreRun D.model R.model n texts old new
         → HasGoneOn D.model R.model old.world new.world }
-    ensures part { (n : ℕ) (texts : List (List ℕ)) (old started new : Standing D R)
+    ensures part { (n : ℕ) (texts : List (List ℕ)) (old started new : Runner D R)
         → Starts D.model R.model old started → HaveNoStop texts → AreRun D.model R.model n texts started new
         → HasGoneOn D.model R.model old.world new.world }
 {}
@@ -36,7 +36,7 @@ pub fn lines_without_a_stop_are_one_run<D: Disk, R: Radio>()
 /// moment since then leaves the table after some of what happened, from the front, with all of which anything had been
 /// said by then. At a `stop` itself, what it begins anew from is said where it is run.
 pub fn a_stop_within_a_script_loses_nothing_told<D: Disk, R: Radio>()
-    ensures { (n : ℕ) (texts : List (List ℕ)) (old started new : Standing D R)
+    ensures { (n : ℕ) (texts : List (List ℕ)) (old started new : Runner D R)
         → Starts D.model R.model old started → HaveNoStop texts → AreRun D.model R.model n texts started new
         → (steps : List Step) × (tolds : List Told) × AreMadeInTurn D.model R.model steps tolds old.world new.world
         × ((j : Journal) → StandsFor old.world j → (count : ℕ)
@@ -46,7 +46,7 @@ pub fn a_stop_within_a_script_loses_nothing_told<D: Disk, R: Radio>()
 /// Whatever lines a script has, a `stop` among them: where its world was proper, as of an honest device, the one
 /// after them is. So what is proved of the steps from a proper world holds at each line.
 pub fn a_script_leaves_a_proper_world_proper<D: Disk, R: Radio>()
-    ensures { (texts : List (List ℕ)) (w : AnyWorld D R) (radios : List R) (last : Standing D R)
+    ensures { (texts : List (List ℕ)) (w : AnyWorld D R) (radios : List R) (last : Runner D R)
         → IsScriptRun D.model R.model texts w radios last → IsProper D.model (durable_of w)
         → IsProperAt D.model R.model last }
 {}

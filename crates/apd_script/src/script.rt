@@ -17,7 +17,7 @@
 ghost use Rattle.std.specs.Prelude.{◌≡◌, ◌≤◌, ◌<◌, ◌+◌, length, IfErr, IfNone, IfOk, IfSome, OnOk};
 ghost use Rattle.apd_base.specs.declared.limits.TheConstants.{MAX_SCRIPT as MOST};
 ghost use Rattle.apd_ctrl.specs.Reading.{line_of};
-ghost use Rattle.apd_script.specs.Lines.{IsRead};
+ghost use Rattle.apd_script.specs.Lines.{IsLineRead};
 ghost use Rattle.apd_script.specs.Script.{Ends, IsFault, IsNoBadLine};
 
 mod beginning;
@@ -25,19 +25,19 @@ mod calling;
 mod fault;
 mod line;
 mod output;
-mod standing;
+mod runner;
 mod stopping;
 
 use apd_base::limits::MAX_SCRIPT;
 use apd_disk::Disk;
 use apd_radio::Radio;
 use apd_world::World;
-pub(crate) use beginning::begun;
+pub(crate) use beginning::begin_world;
 pub use fault::ScriptFault;
 use fault::reader_fault;
 pub use line::exactly_one_line;
 pub use output::{write_applied, write_out, write_reception};
-use standing::Standing;
+use runner::Runner;
 use std::alloc::Global;
 use std::io::{BufRead, Read, Write};
 
@@ -47,7 +47,7 @@ use std::io::{BufRead, Read, Write};
 ///
 /// The reader failed, or memory ran out.
 fn read_line<I: BufRead>(reader: &mut I, text: &mut Vec<u8>) -> Result<usize, ScriptFault>
-    ensures read { OnOk result (IsRead (I.remaining reader.old) (I.remaining reader.new) text.new.items) }
+    ensures read { OnOk result (IsLineRead (I.remaining reader.old) (I.remaining reader.new) text.new.items) }
     ensures length { IfOk result (λ read. length text.new.items ≡ read) }
     ensures err { IfErr result IsNoBadLine }
 {
@@ -79,7 +79,7 @@ fn next_line<I: BufRead>(
     text: &mut Vec<u8>,
     count: &mut usize,
 ) -> Result<usize, ScriptFault>
-    ensures read { OnOk result (IsRead (I.remaining reader.old) (I.remaining reader.new) text.new.items) }
+    ensures read { OnOk result (IsLineRead (I.remaining reader.old) (I.remaining reader.new) text.new.items) }
     ensures length { IfOk result (λ read. length text.new.items ≡ read) }
     ensures count { IfOk result (λ read. (count.new ≡ count.old + read) × (count.new ≤ MOST)) }
     ensures err { IfErr result IsNoBadLine }
@@ -106,19 +106,19 @@ pub fn run_script<D: Disk + Drop, R: Radio, I: BufRead + Drop, W: Write>(
     ensures ends { IfOk result (λ new. Ends D.model R.model (I.remaining reader) spares.items world new) }
     ensures fault { IfErr result (IsFault D.model R.model (I.remaining reader) spares.items world) }
 {
-    let mut standing = Standing::begin(alloc, world, spares).gone_on(writer)?;
+    let mut runner = Runner::begin(alloc, world, spares).start_or_give_up(writer)?;
     let mut reader = reader.take(MAX_SCRIPT as u64 + 1);
     let mut text = Vec::new(alloc);
     let mut length = 0usize;
     for number in 1..u64::MAX {
         let read = match next_line(&mut reader, &mut text, &mut length) {
             Ok(read) => read,
-            Err(fault) => return standing.given_up(fault),
+            Err(fault) => return runner.give_up(fault),
         };
         if read == 0 {
             break;
         }
-        standing = standing.ran(writer, number, line_of(text.as_slice()))?;
+        runner = runner.run_line(writer, number, line_of(text.as_slice()))?;
     }
-    Ok(standing.into_world())
+    Ok(runner.into_world())
 }

@@ -60,12 +60,12 @@ fn is_emptied<W: Clock, R: Radio>(rt: &W, slot: &mut Slot<R>) -> bool
     ensures served { IsServed R.model [] slot.old slot.new }
     ensures none_waits { IsTrue result → queue_of slot.new ≡ [] }
 {
-    for _ in 0..slot.waiting() {
+    for _ in 0..slot.waiting_count() {
         if !takes_next(rt, slot) {
             return false;
         }
     }
-    slot.waiting() == 0
+    slot.waiting_count() == 0
 }
 
 // Puts into a slot's queue, where none waits, what of settled entries it was not given yet, and tries again where

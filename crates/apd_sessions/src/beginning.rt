@@ -1,7 +1,7 @@
 //! How a session begins: a device, its configurations, and the world of its store.
 use crate::ending::say_left;
 use crate::images::{blank_disk, disk_with_stations, old_disk};
-use crate::saying::{again, say, say_refusal};
+use crate::saying::{say, say_again, say_refusal};
 use crate::world::{Memory, is_short};
 use apd_base::Moment;
 use apd_conf::{Conf, Confs};
@@ -21,11 +21,11 @@ fn format_disk(alloc: Global, disk: MemDisk) -> Result<MemDisk, (MemDisk, StoreF
 }
 
 /// A blank device.
-pub fn blank(rt: &impl Print, alloc: Global) -> io::Result<MemDisk> {
+pub fn blank_device(rt: &impl Print, alloc: Global) -> io::Result<MemDisk> {
     match blank_disk(alloc) {
         Ok(disk) => Ok(disk),
         Err(_) => {
-            again(rt, "a device")?;
+            say_again(rt, "a device")?;
             Ok(blank_disk(alloc)?)
         }
     }
@@ -36,7 +36,7 @@ pub fn store_with_stations(rt: &impl Print, alloc: Global) -> io::Result<MemDisk
     match disk_with_stations(alloc) {
         Ok(disk) => Ok(disk),
         Err(_) => {
-            again(rt, "a device")?;
+            say_again(rt, "a device")?;
             Ok(disk_with_stations(alloc)?)
         }
     }
@@ -47,7 +47,7 @@ pub fn old_store(rt: &impl Print, alloc: Global) -> io::Result<MemDisk> {
     match old_disk(alloc) {
         Ok(disk) => Ok(disk),
         Err(_) => {
-            again(rt, "a device")?;
+            say_again(rt, "a device")?;
             Ok(old_disk(alloc)?)
         }
     }
@@ -56,7 +56,7 @@ pub fn old_store(rt: &impl Print, alloc: Global) -> io::Result<MemDisk> {
 /// A device of a new store; none where a call of it failed, and the session has ended. A format takes no memory but
 /// that in which the device keeps its calls.
 pub fn new_store(rt: &impl Print, alloc: Global) -> io::Result<Option<MemDisk>> {
-    let disk = blank(rt, alloc)?;
+    let disk = blank_device(rt, alloc)?;
     say(rt, "no store")?;
     match format_disk(alloc, disk) {
         Ok(disk) => Ok(Some(disk)),
@@ -79,7 +79,7 @@ pub fn new_confs(rt: &impl Print, alloc: Global) -> io::Result<Option<Confs>> {
     let list = match new_list(alloc) {
         Ok(list) => list,
         Err(_) => {
-            again(rt, "the configuration")?;
+            say_again(rt, "the configuration")?;
             new_list(alloc)?
         }
     };
@@ -99,7 +99,7 @@ fn slots(rt: &impl Print, alloc: Global, confs: &Confs) -> io::Result<Vec<Slot<S
     match new_slots(alloc, confs) {
         Ok(slots) => Ok(slots),
         Err(_) => {
-            again(rt, "slots")?;
+            say_again(rt, "slots")?;
             Ok(new_slots(alloc, confs)?)
         }
     }
@@ -109,7 +109,7 @@ fn copy_confs(rt: &impl Print, alloc: Global, confs: &Confs) -> io::Result<Confs
     match confs.copy(alloc) {
         Ok(copy) => Ok(copy),
         Err(_) => {
-            again(rt, "a copy of the configurations")?;
+            say_again(rt, "a copy of the configurations")?;
             Ok(confs.copy(alloc)?)
         }
     }
@@ -161,7 +161,7 @@ pub fn begin(
         Err((disk, fault)) if is_short(fault) => disk,
         Err(refused) => return say_refused(rt, alloc, refused),
     };
-    again(rt, "restart")?;
+    say_again(rt, "restart")?;
     match try_once(rt, alloc, disk, confs)? {
         Ok(world) => Ok(Some(world)),
         Err(refused) => say_refused(rt, alloc, refused),

@@ -1,6 +1,6 @@
 //! How a session ends: what its device holds, and what its slots have.
 use crate::requests::STATION;
-use crate::saying::{again, say, say_refusal, say_table};
+use crate::saying::{say, say_again, say_refusal, say_table};
 use crate::world::{Calls, Memory};
 use apd_disk::{Call, MemDisk};
 use apd_radio::Sim;
@@ -30,7 +30,7 @@ fn say_shown(rt: &impl Print, found: Result<Table, (MemDisk, StoreFault)>) -> io
 pub fn say_left(rt: &impl Print, alloc: Global, disk: MemDisk) -> io::Result<()> {
     let found = match recover_table(alloc, disk) {
         Err((disk, StoreFault::NoMemory)) => {
-            again(rt, "recover")?;
+            say_again(rt, "recover")?;
             recover_table(alloc, disk)
         }
         Err((disk, StoreFault::Device)) => {
@@ -54,7 +54,7 @@ pub fn say_calls(rt: &impl Print, calls: &[Call], count: usize) -> io::Result<()
 fn say_slots(rt: &impl Print, slots: &[Slot<Sim>]) -> io::Result<()> {
     for slot in slots {
         let (bssid, up) = (slot.bssid(), slot.is_up());
-        let (installed, waiting) = (slot.installed(STATION), slot.waiting());
+        let (installed, waiting) = (slot.installed(STATION), slot.waiting_count());
         writeln!(
             io::writer(rt),
             "slot: {bssid:?} up {up} installed {installed:?} waiting {waiting}"

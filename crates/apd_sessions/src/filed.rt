@@ -1,6 +1,6 @@
 //! What is read of files, and what is printed of a store by a check.
 use crate::beginning::store_with_stations;
-use crate::saying::{again, say};
+use crate::saying::{say, say_again};
 use apd_conf::{ConfigurationFault, Confs};
 use apd_disk::MemDisk;
 use apd_script::{CheckFault, read_configurations, run_check};
@@ -22,7 +22,7 @@ pub fn read<R: Print + Files<File = File> + AllocGlobal>(rt: &R) -> io::Result<O
     match confs_of(rt) {
         Ok(confs) => Ok(Some(confs)),
         Err(ConfigurationFault::NoMemory) => {
-            again(rt, "read")?;
+            say_again(rt, "read")?;
             Ok(confs_of(rt).ok())
         }
         Err(fault) => {
@@ -66,7 +66,7 @@ fn check_again(
     if !lacks_memory(fault) {
         return Ok(Some(fault));
     }
-    again(rt, "check")?;
+    say_again(rt, "check")?;
     if !text.is_empty() {
         say(rt, "changed: check")?;
     }

@@ -93,8 +93,8 @@ pub const COMMITS: [Step<'static>; 15] = [
     Step::Apply(WLAN1),
 ];
 
-/// A radio starts, with the lists of its configuration.
-pub fn starts(conf: &Conf) -> Step<'_> {
+/// The step by which a radio starts, with the lists of its configuration.
+pub fn start_of(conf: &Conf) -> Step<'_> {
     Step::Accept(
         Input::Configure {
             bssid: conf.bssid,

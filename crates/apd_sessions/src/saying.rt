@@ -10,7 +10,7 @@ pub fn say(rt: &impl Print, line: &str) -> io::Result<()> {
 }
 
 /// Says that a call lacked memory, and is made once more.
-pub fn again(rt: &impl Print, call: &str) -> io::Result<()> {
+pub fn say_again(rt: &impl Print, call: &str) -> io::Result<()> {
     writeln!(io::writer(rt), "again: {call}")
 }
 

@@ -4,7 +4,7 @@ use crate::ending::end;
 use crate::filed::{check, files, read};
 use crate::requests::{
     ANOTHER_AUTHENTICATES, ASSOCIATES, ASSOCIATES_ELSEWHERE, AUTHENTICATES,
-    AUTHENTICATES_ELSEWHERE, command, starts,
+    AUTHENTICATES_ELSEWHERE, command, start_of,
 };
 use crate::saying::{say, say_table};
 use crate::upgrading::upgrade;
@@ -89,7 +89,7 @@ fn serve_session(
     let mut calls = NONE;
     say_table(rt, world.table())?;
     for conf in confs.list() {
-        serve(rt, world, &[starts(conf)], &mut calls)?;
+        serve(rt, world, &[start_of(conf)], &mut calls)?;
     }
     serve_all(rt, world, session, &mut calls)?;
     Ok(calls)

@@ -1,7 +1,7 @@
 //! A store of version 1 that is copied into a new one.
-use crate::beginning::{blank, old_store};
+use crate::beginning::{blank_device, old_store};
 use crate::ending::{say_calls, say_left};
-use crate::saying::{again, say};
+use crate::saying::{say, say_again};
 use apd_disk::{Call, MemDisk};
 use apd_script::{UpgradeFault, run_upgrade};
 use apd_store::StoreFault;
@@ -47,7 +47,7 @@ fn copy_store_again(
     match fault {
         Some(fault) if lacks_memory(fault) => {
             say_change(rt, fault, &new, text.as_slice())?;
-            again(rt, "upgrade")?;
+            say_again(rt, "upgrade")?;
             Ok(copy_store(alloc, old, new, text))
         }
         fault => Ok((old, new, fault)),
@@ -68,7 +68,7 @@ fn say_write(rt: &impl Print, device: &MemDisk) -> io::Result<()> {
 /// holds is then said, also where a call of a device failed.
 pub fn upgrade(rt: &impl Print, alloc: Global) -> io::Result<()> {
     let old = old_store(rt, alloc)?;
-    let new = blank(rt, alloc)?;
+    let new = blank_device(rt, alloc)?;
     say(rt, "no store")?;
     let mut text = Vec::new(alloc);
     let first = copy_store(alloc, old, new, &mut text);

@@ -1,6 +1,6 @@
 //! The steps of a session: each is made once more where it lacked memory, and what it told is printed.
 use crate::requests::{COMMITS, WLAN0, WLAN1};
-use crate::saying::{again, say_refusal, say_table};
+use crate::saying::{say_again, say_refusal, say_table};
 use crate::sum::sum_of;
 use apd_core::PublishFault;
 use apd_disk::MemDisk;
@@ -60,7 +60,7 @@ fn tell(world: &mut Memory, step: &Step<'_>) -> Told {
 /// Says that a step lacked memory, and else that what can be seen has changed.
 fn say_lack(rt: &impl Print, step: &Step<'_>, is_as_it_was: bool) -> io::Result<()> {
     if is_as_it_was {
-        again(rt, name_of(step))
+        say_again(rt, name_of(step))
     } else {
         writeln!(io::writer(rt), "changed: {}", name_of(step))
     }
@@ -144,7 +144,7 @@ fn refusal(world: &mut Memory) -> Option<WorldFault> {
 pub fn start(rt: &impl Print, world: &mut Memory, calls: &mut Calls) -> io::Result<()> {
     let mut fault = refusal(world);
     if fault.is_some_and(is_short) {
-        again(rt, "start")?;
+        say_again(rt, "start")?;
         fault = refusal(world);
     }
     match fault {

@@ -3,7 +3,7 @@ ghost use Rattle.std.specs.Prelude.{◌≡◌, List};
 ghost use Rattle.std.specs.FinMap as map;
 ghost use Rattle.apd_base.specs.State.{State, aid_at};
 ghost use Rattle.apd_base.specs.declared.address.Bssid.{Bssid};
-ghost use Rattle.apd_mlme.specs.laws.Driver.{driven, driven_by};
+ghost use Rattle.apd_mlme.specs.laws.Driver.{driver_after, driver_after_all};
 ghost use Rattle.apd_mlme.specs.declared.decision.Out.{Out};
 ghost use Rattle.apd_slot.specs.Rows.{installed_rows};
 ghost use Rattle.apd_slot.specs.Wanted.{Stations, wanted_after, wanted_after_all};
@@ -13,8 +13,8 @@ ghost use Rattle.apd_slot.specs.Wanted.{Stations, wanted_after, wanted_after_all
 /// associated stations.
 pub fn wanted_law()
     ensures outs { (out : Out) (wanted : Stations)
-        → map.get (wanted_after out wanted) ≡ driven_by out (map.get wanted) }
+        → map.get (wanted_after out wanted) ≡ driver_after out (map.get wanted) }
     ensures all { (outs : List Out) (wanted : Stations)
-        → map.get (wanted_after_all outs wanted) ≡ driven outs (map.get wanted) }
+        → map.get (wanted_after_all outs wanted) ≡ driver_after_all outs (map.get wanted) }
     ensures rows { (s : State) (b : Bssid) → map.get (installed_rows s b) ≡ aid_at s b }
 {}

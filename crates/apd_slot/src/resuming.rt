@@ -10,7 +10,11 @@ use apd_table::Table;
 use std::alloc::{AllocError, Global};
 
 /// The associated stations of a BSSID.
-pub fn associated(alloc: Global, table: &Table, bssid: Bssid) -> Result<Identifiers, AllocError>
+pub fn associated_stations(
+    alloc: Global,
+    table: &Table,
+    bssid: Bssid,
+) -> Result<Identifiers, AllocError>
     ensures { IfOk result (λ stations. stations ≡ installed_rows table.now bssid) }
 {
     let mut stations = Identifiers::new(alloc);

@@ -5,7 +5,7 @@ ghost use Rattle.std.specs.Option.{option_map};
 ghost use Rattle.apd_base.specs.Failures.{HasRisen};
 ghost use Rattle.apd_radio.specs.Frames.{Polls};
 
-use crate::resuming::{associated, install_all};
+use crate::resuming::{associated_stations, install_all};
 use apd_base::{Addr, Aid, Bssid, Sequence};
 use apd_mlme::Out;
 use apd_radio::{Identifiers, Radio, RadioFault};
@@ -104,7 +104,7 @@ impl<R: Radio> Slot<R> {
     }
 
     /// How many outs wait to be applied.
-    pub fn waiting(&self) -> usize
+    pub fn waiting_count(&self) -> usize
         ensures { result ≡ length (queue_of self.now) }
     {
         self.queue.len()
@@ -300,7 +300,7 @@ impl<R: Radio> Slot<R> {
         ensures frames { R.frames (radio_of self.new) ≡ R.frames (radio_of self.old) }
     {
         self.up = false;
-        let Ok(wanted) = associated(alloc, table, self.bssid) else {
+        let Ok(wanted) = associated_stations(alloc, table, self.bssid) else {
             self.radio.take_down();
             return Err(SlotFault::NoMemory);
         };

@@ -1,19 +1,10 @@
 -- One call of a batch: made, or refused where it lies outside the device.
 use Rattle.std.proofs.Common.{◌≡◌, ◌≢◌, ◌≤◌, ◌<◌, ◌⊎◌, inl, inr, ⊎_elim, ℕ, Bool, IsTrue, List, sym, ◌∙◌, subst, arith}
 use Rattle.std.specs.Prelude.{◌↔◌, Result, Ok, Err, OnOk, OnErr, IfOk, IsOk, is_ok, MatchResult}
-use Rattle.std.proofs.lemmas.Bool.{false≢true}
-use Rattle.apd_base.specs.State.{State}
-use Rattle.apd_disk.specs.Disk.{Elapses, LeavesOnly, DiskModel}
-use Rattle.apd_disk.proofs.Moments.{started, one_call}
-use Rattle.apd_store.specs.Commit.{HasFailed, MayShow}
-use Rattle.apd_store.specs.Image.{Shows}
-use Rattle.apd_store.specs.declared.fault.StoreFault.{StoreFault}
+use Rattle.apd_store.proofs.Words.{DiskModel, Done, Elapses, Failed, HasFailed, LeavesOnly, MayShow, Phase, Shows, State, Store, StoreFault, false≢true, one_call, started}
 use Rattle.apd_store.specs.declared.fault.StoreFault.TheVariants.{Device, Failed as Refused}
-use Rattle.apd_store.specs.declared.phase.Phase.{Phase}
-use Rattle.apd_store.specs.declared.phase.Phase.TheVariants.{Done, Failed}
-use Rattle.apd_store.specs.declared.store.Store.{Store}
 
--- what `moved` ensures
+-- what `move_on` ensures
 abbrev pub Moved : Result (Unit {0}) StoreFault → Phase → Phase → Result Bool StoreFault → Type 0
 Moved made next phase result = MatchResult made (λ _. (phase ≡ next) × IfOk result (λ more. IsTrue more ↔ (next ≢ Done)) × IsOk result) (λ fault. (phase ≡ Failed) × (result ≡ Err fault))
 
@@ -21,17 +12,17 @@ on_ok : (result : Result Bool StoreFault) (Q : Type 0) → Q → OnOk result Q
 on_ok (Ok b) Q q = q
 on_ok (Err e) Q q = tt
 
-pub moved_made : (made : Result (Unit {0}) StoreFault) (next phase : Phase) (result : Result Bool StoreFault) (A : Type 0) (P : Phase → Type 0) → Moved made next phase result → OnOk made A → ((made ≢ Err Refused) → A → P next) → OnOk result (P phase)
-moved_made (Ok u) next phase result A P moved a go = on_ok result (P phase) (subst P (sym moved.0) (go (λ e. cc) a))
-moved_made (Err e) next phase result A P moved a go = subst (λ (r : Result Bool StoreFault). OnOk r (P phase)) (sym moved.1) tt
+pub move_on_made : (made : Result (Unit {0}) StoreFault) (next phase : Phase) (result : Result Bool StoreFault) (A : Type 0) (P : Phase → Type 0) → Moved made next phase result → OnOk made A → ((made ≢ Err Refused) → A → P next) → OnOk result (P phase)
+move_on_made (Ok u) next phase result A P moved a go = on_ok result (P phase) (subst P (sym moved.0) (go (λ e. cc) a))
+move_on_made (Err e) next phase result A P moved a go = subst (λ (r : Result Bool StoreFault). OnOk r (P phase)) (sym moved.1) tt
 
 on_is_ok : (result : Result Bool StoreFault) (Q : Type 0) → IsOk result → OnErr result Q
 on_is_ok (Ok b) Q ok = tt
 on_is_ok (Err e) Q ok = absurd (false≢true ok)
 
-pub moved_stuck : (made : Result (Unit {0}) StoreFault) (next phase : Phase) (result : Result Bool StoreFault) (Q : Type 0) → Moved made next phase result → (phase ≡ Failed → Q) → OnErr result Q
-moved_stuck (Ok u) next phase result Q moved go = on_is_ok result Q moved.2
-moved_stuck (Err e) next phase result Q moved go = subst (λ (r : Result Bool StoreFault). OnErr r Q) (sym moved.1) (go moved.0)
+pub move_on_stuck : (made : Result (Unit {0}) StoreFault) (next phase : Phase) (result : Result Bool StoreFault) (Q : Type 0) → Moved made next phase result → (phase ≡ Failed → Q) → OnErr result Q
+move_on_stuck (Ok u) next phase result Q moved go = on_is_ok result Q moved.2
+move_on_stuck (Err e) next phase result Q moved go = subst (λ (r : Result Bool StoreFault). OnErr r Q) (sym moved.1) (go moved.0)
 
 -- what a sync says where it succeeds, its fault told as the store's
 pub synced : {E F : Type 0} (r : Result (Unit {0}) E) (m : Result (Unit {0}) F) (A B : Type 0) → is_ok m ≡ is_ok r → OnOk r A → OnOk r B → OnOk m (A × B)

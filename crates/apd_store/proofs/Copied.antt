@@ -1,9 +1,7 @@
 -- A store of version 1 shows no cursor but 0, and a store of such a state is laid out without one.
 use Rattle.std.proofs.Common.{◌≡◌, ◌≤◌, ◌+◌, ◌-◌, ◌||◌, ◌⊎◌, inl, inr, ℕ, Bool, true, false, cond, not, ◌==◌, List, [], ◌∷◌, ◌++◌, length, filter, map as list_map, Option, Some, None, refl, sym, ◌∙◌, ap, subst, arith}
-use Rattle.std.proofs.lemmas.Bool.{false≢true}
-use Rattle.std.proofs.lemmas.List.{append_assoc}
+use Rattle.apd_store.proofs.Words.{AreChanges, BeginsBy, Change, Cursor, Drop, HalfHolds, HasNoCursor, HasNoneGiven, IsCurrent, IsNoCursor, ListAdd, ListClear, ListDel, Policy, Put, ShowsOld, State, StaySound, append_assoc, begun_bytes, block_of, canonical, current_changes, cursor_change, cursors_with, empty_state, false≢true, is_given, length-begun, list_change, list_changes, meaning, meaning_of, new_front, none_given, planned_bytes, policy_at, policy_change, policy_changes, records_of, station_change, station_changes, to_le_bytes, w64}
 use Rattle.std.specs.Prelude.{Result, Ok, Err, IfOk}
-use Rattle.std.specs.Int.{to_le_bytes, w64}
 use Rattle.std.specs.List.{list_any}
 use Rattle.std.specs.Ordering.{eq_by_cmp}
 use Rattle.std.specs.FinMap as map
@@ -12,22 +10,9 @@ use Rattle.apd_base.specs.declared.address.Bssid.{Bssid}
 use Rattle.apd_base.specs.declared.station.Policy.{Policy as BssPolicy}
 use Rattle.apd_base.specs.declared.station.StationNumber.{StationNumber}
 use Rattle.apd_base.specs.Addr.{bssid_cmp}
-use Rattle.apd_base.specs.State.{State, empty_state, policy_at}
 use Rattle.apd_base.proofs.AddrLemmas.{bssid_total, bssid_exact}
 use Rattle.apd_base.proofs.MapLemmas.{any_passes}
-use Rattle.apd_record.specs.Meaning.{meaning, meaning_of, cursors_with, none_given}
-use Rattle.apd_record.specs.Ranges.{AreChanges}
-use Rattle.apd_record.specs.Record.{records_of}
-use Rattle.apd_record.specs.declared.change.Change.{Change}
-use Rattle.apd_record.specs.declared.change.Change.TheVariants.{Put, Drop, ListAdd, ListDel, ListClear, Policy, Cursor}
-use Rattle.apd_table.specs.Snapshot.{canonical, is_given, policy_change, cursor_change, list_change, station_change, policy_changes, list_changes, station_changes}
-use Rattle.apd_table.specs.Sound.{StaySound}
 use Rattle.apd_table.specs.declared.snapshot.TheConstants.{MAX_SNAPSHOT}
-use Rattle.apd_journal.specs.Half.{begun_bytes, block_of, planned_bytes, HalfHolds}
-use Rattle.apd_journal.proofs.Growth.{length-begun, new_front}
-use Rattle.apd_store.specs.Image.{changes_of, HasNoCursor, IsCurrent, IsNoCursor, ShowsOld}
-use Rattle.apd_store.specs.Layout.{BeginsBy}
-use Rattle.apd_store.specs.Upgrading.{HasNoneGiven}
 
 -- ---- changes of which none is a cursor's leave each cursor at 0
 
@@ -58,7 +43,7 @@ stay_none (change ∷ changes) s plain none = stay_none changes (meaning change 
 empty_none : HasNoneGiven empty_state
 empty_none b last is = sym (ap number_of (sym (get-empty bssid_cmp b) ∙ is))
 
-current_none : (a b : List ℕ) (gate : ℕ) (state : State) (current : IsCurrent a b gate state ⊎ IsCurrent b a gate state) → HasNoCursor (changes_of current) → HasNoneGiven state
+current_none : (a b : List ℕ) (gate : ℕ) (state : State) (current : IsCurrent a b gate state ⊎ IsCurrent b a gate state) → HasNoCursor (current_changes current) → HasNoneGiven state
 current_none a b gate state (inl x) plain = subst HasNoneGiven x.shows.state_is (stay_none x.shows.changes empty_state plain empty_none)
 current_none a b gate state (inr x) plain = subst HasNoneGiven x.shows.state_is (stay_none x.shows.changes empty_state plain empty_none)
 

@@ -1,22 +1,8 @@
 -- What the current half of an image shows, and what stays of it while a group is written behind its closed gate.
 use Rattle.std.proofs.Common.{◌≡◌, ◌≢◌, ◌≤◌, ◌<◌, ◌+◌, ◌⊎◌, inl, inr, ℕ, Bool, suc, List, [], ◌∷◌, ◌++◌, length, get_or, take, drop, refl, sym, ◌∙◌, ap, subst, arith, length-append, take-append-drop}
-use Rattle.std.proofs.lemmas.List.{append_assoc, take_at, take-take}
-use Rattle.std.proofs.Math.Seq.{drop-cons}
-use Rattle.apd_base.specs.State.{State, empty_state}
-use Rattle.apd_record.specs.Meaning.{meaning, meaning_of}
-use Rattle.apd_record.specs.Record.{records_of}
-use Rattle.apd_record.specs.declared.change.Change.{Change}
-use Rattle.apd_table.specs.Sound.{StaySound}
+use Rattle.apd_store.proofs.Words.{A, AreParts, B, Change, Half, HalfHolds, IsCurrent, IsFound, IsFoundBy, IsGroup, Shows, ShowsBy, State, StaySound, TornWithin, append_assoc, behind_unread, drop-cons, empty_state, front_holds, image_by, image_of, length-planned, length-with_bytes, magic, meaning, meaning_of, planned_bytes, records_of, take-take, take_at, torn_overwritten, with_group, with_open_group}
 use Rattle.apd_table.proofs.Denied.{meaning_of-append}
-use Rattle.apd_disk.specs.Disk.{TornWithin}
-use Rattle.apd_disk.specs.MemLaws.{torn_overwritten, length-overwritten}
-use Rattle.apd_journal.specs.Half.{IsGroup, HalfHolds, planned_bytes}
-use Rattle.apd_journal.proofs.Growth.{length-planned, front_holds, behind_unread, opened as opened_holds}
-use Rattle.apd_store.specs.Image.{magic, IsCurrent, Shows, ShowsBy}
-use Rattle.apd_store.specs.Layout.{image_by, image_of, AreParts, IsFound, IsFoundBy}
-use Rattle.apd_store.specs.Commit.{laid, opened}
-use Rattle.apd_store.specs.declared.half.Half.{Half}
-use Rattle.apd_store.specs.declared.half.Half.TheVariants.{A, B}
+use Rattle.apd_journal.proofs.Growth.{opened as opened_holds}
 
 -- ---- whole images
 
@@ -97,20 +83,20 @@ module _ (half other : List ℕ) (gate : ℕ) (state : State) (current : IsCurre
     pub laid_fits : (gate + 1) + length (planned_bytes group) ≤ length half
     laid_fits = omega (arith, length-planned group, room)
 
-    laid_torn : TornWithin (gate + 1) (length (planned_bytes group)) half (laid half gate group)
+    laid_torn : TornWithin (gate + 1) (length (planned_bytes group)) half (with_group half gate group)
     laid_torn = torn_overwritten half (gate + 1) (planned_bytes group) (omega (arith, length-planned group, room))
 
-    pub laid_length : length (laid half gate group) ≡ length half
+    pub laid_length : length (with_group half gate group) ≡ length half
     laid_length = laid_torn.same_length
 
-    pub laid_current : IsCurrent (laid half gate group) other gate state
-    laid_current = current_behind (laid half gate group) laid_torn.before
+    pub laid_current : IsCurrent (with_group half gate group) other gate state
+    laid_current = current_behind (with_group half gate group) laid_torn.before
 
-    pub opened_length : length (opened half gate group) ≡ length half
-    opened_length = length-overwritten (laid half gate group) gate (1 ∷ []) (omega (arith, laid_length, gate_before_end)) ∙ laid_length
+    pub opened_length : length (with_open_group half gate group) ≡ length half
+    opened_length = length-with_bytes (with_group half gate group) gate (1 ∷ []) (omega (arith, laid_length, gate_before_end)) ∙ laid_length
 
     -- and its gate is opened
-    pub opened_current : IsCurrent (opened half gate group) other (gate + 5 + length (records_of group)) after
+    pub opened_current : IsCurrent (with_open_group half gate group) other (gate + 5 + length (records_of group)) after
     opened_current = record {
       epoch = current.epoch;
       shows = record {
@@ -127,15 +113,15 @@ module _ (half other : List ℕ) (gate : ℕ) (state : State) (current : IsCurre
     opened_epoch = refl
 
     -- a half whose gate byte alone is torn is the one with the gate open, or shows what it showed
-    pub torn_gate : (h : List ℕ) → TornWithin gate 1 (laid half gate group) h → (get_or h gate 0 ≡ 1) ⊎ (get_or h gate 0 ≢ 1) → (h ≡ opened half gate group) ⊎ IsCurrent h other gate state
+    pub torn_gate : (h : List ℕ) → TornWithin gate 1 (with_group half gate group) h → (get_or h gate 0 ≡ 1) ⊎ (get_or h gate 0 ≢ 1) → (h ≡ with_open_group half gate group) ⊎ IsCurrent h other gate state
     torn_gate h torn (inl is_open) =
         let inside : gate < length h = omega (arith, torn.same_length, laid_length, gate_before_end) in
         inl (sym (take-append-drop gate h)
         ∙ (λ i. torn.before i ++ drop-cons h gate 0 inside i)
-        ∙ (λ i. take gate (laid half gate group) ++ (is_open i ∷ drop (suc gate) h))
-        ∙ ap (λ (l : List ℕ). take gate (laid half gate group) ++ (1 ∷ l)) ((λ i. drop ((let e : suc gate ≡ gate + 1 = omega arith in e) i) h) ∙ torn.after)
-        ∙ sym (append_assoc (take gate (laid half gate group)) (1 ∷ []) (drop (gate + 1) (laid half gate group))))
+        ∙ (λ i. take gate (with_group half gate group) ++ (is_open i ∷ drop (suc gate) h))
+        ∙ ap (λ (l : List ℕ). take gate (with_group half gate group) ++ (1 ∷ l)) ((λ i. drop ((let e : suc gate ≡ gate + 1 = omega arith in e) i) h) ∙ torn.after)
+        ∙ sym (append_assoc (take gate (with_group half gate group)) (1 ∷ []) (drop (gate + 1) (with_group half gate group))))
     torn_gate h torn (inr closed) =
         inr (stays h (behind_unread half current.epoch current.shows.changes gate holds h
-        (torn.before ∙ torn_front half (laid half gate group) (gate + 1) (length (planned_bytes group)) gate laid_torn (omega arith))
+        (torn.before ∙ torn_front half (with_group half gate group) (gate + 1) (length (planned_bytes group)) gate laid_torn (omega arith))
         (omega (arith, torn.same_length, laid_length, gate_before_end)) closed))

@@ -1,21 +1,7 @@
 -- The current half of a store's bytes.
 use Rattle.std.proofs.Common.{◌≡◌, ◌<◌, ◌↔◌, ◌^◌, ◌-◌, ◌⊎◌, inl, inr, ⊎_elim, ℕ, Bool, IsTrue, nat_lt, true, List, ◌∷◌, ◌++◌, length, take, drop, refl, sym, ◌∙◌, ap, subst, arith, length-drop, take-append-drop}
-use Rattle.std.proofs.lemmas.List.{drop-drop, length-take-le, take_rest}
+use Rattle.apd_store.proofs.Words.{A, B, Change, HALF_LENGTH, Half, HalfHolds, HalfShows, HasNoCursor, HasOpenGate, IsBehind, IsCurrent, IsFoundBy, IsMarkedBy, IsOpen, IsStoreBy, ShowsBy, State, StaySound, StoreFault, current_changes, drop-drop, empty_state, half_once, length-take-le, lt-ltb, ltb-true, meaning_of, take_rest, to_le_bytes, w64}
 use Rattle.std.specs.Prelude.{Result, Ok, Err, IfOk}
-use Rattle.std.proofs.lemmas.Bool.{lt-ltb, ltb-true}
-use Rattle.std.specs.Int.{to_le_bytes, w64}
-use Rattle.apd_base.specs.State.{State, empty_state}
-use Rattle.apd_record.specs.Meaning.{meaning_of}
-use Rattle.apd_record.specs.declared.change.Change.{Change}
-use Rattle.apd_table.specs.Sound.{StaySound}
-use Rattle.apd_journal.specs.Half.{HalfHolds}
-use Rattle.apd_journal.proofs.Once.{half_once}
-use Rattle.apd_journal.specs.declared.writer.TheConstants.{HALF_LENGTH}
-use Rattle.apd_store.specs.Image.{changes_of, HasNoCursor, HasOpenGate, IsStoreBy, IsOpen, IsBehind, HalfShows, IsCurrent, ShowsBy, IsMarkedBy}
-use Rattle.apd_store.specs.Layout.{IsFoundBy}
-use Rattle.apd_store.specs.declared.half.Half.{Half}
-use Rattle.apd_store.specs.declared.half.Half.TheVariants.{A, B}
-use Rattle.apd_store.specs.declared.fault.StoreFault.{StoreFault}
 use Rattle.apd_store.specs.declared.reading.Found.{Found}
 use Rattle.apd_store.proofs.Unique.{holds_open, open_once, shown_current, half_a as a_is_front, half_b as b_is_back}
 
@@ -156,13 +142,13 @@ module _ (mark image : List ℕ) (marked : IsMarkedBy mark image) where
   Tells r half = (epoch gate : ℕ) (changes : List Change) → HalfHolds half epoch changes gate → IfOk r (λ f. IsTrue f.no_cursor ↔ HasNoCursor changes)
 
   told_a : (r : Result Found StoreFault) (x y : List ℕ) (gate : ℕ) (state : State) → x ≡ half_a → y ≡ half_b → (now : IsCurrent x y gate state ⊎ IsCurrent y x gate state) → HasCurrent half_a half_b → Tells r half_a
-      → IfOk r (λ f. IsTrue f.no_cursor ↔ HasNoCursor (changes_of now))
+      → IfOk r (λ f. IsTrue f.no_cursor ↔ HasNoCursor (current_changes now))
   told_a r x y gate state x_is y_is (inl c) current tells = tells c.epoch gate c.shows.changes (subst (λ (l : List ℕ). HalfHolds l c.epoch c.shows.changes gate) x_is c.shows.holds)
   told_a r x y gate state x_is y_is (inr c) current tells =
       absurd (not_behind half_a half_b current gate state (subst (λ (l : List ℕ). IsCurrent half_b l gate state) x_is (subst (λ (l : List ℕ). IsCurrent l x gate state) y_is c)))
 
   told_b : (r : Result Found StoreFault) (x y : List ℕ) (gate : ℕ) (state : State) → x ≡ half_a → y ≡ half_b → (now : IsCurrent x y gate state ⊎ IsCurrent y x gate state) → HasCurrent half_b half_a → Tells r half_b
-      → IfOk r (λ f. IsTrue f.no_cursor ↔ HasNoCursor (changes_of now))
+      → IfOk r (λ f. IsTrue f.no_cursor ↔ HasNoCursor (current_changes now))
   told_b r x y gate state x_is y_is (inl c) current tells =
       absurd (not_behind half_b half_a current gate state (subst (λ (l : List ℕ). IsCurrent half_a l gate state) y_is (subst (λ (l : List ℕ). IsCurrent l y gate state) x_is c)))
   told_b r x y gate state x_is y_is (inr c) current tells = tells c.epoch gate c.shows.changes (subst (λ (l : List ℕ). HalfHolds l c.epoch c.shows.changes gate) y_is c.shows.holds)
@@ -186,12 +172,12 @@ module _ (mark image : List ℕ) (marked : IsMarkedBy mark image) where
     pub read_b : HasCurrent b a → IfOk r (λ f. f.half ≡ B) → IfOk r (λ f. HalfShows b f.epoch f.gate f.table) → IfOk r (λ f. IsTrue f.other_open ↔ HasOpenGate a) → IfOk r (λ f. IsFoundBy mark image f.half f.epoch f.gate f.other_open f.table)
     read_b current side shown opens = ok_found_b r (at_halves (λ (x y : List ℕ). HasCurrent y x) current) side (subst (λ (l : List ℕ). IfOk r (λ f. HalfShows l f.epoch f.gate f.table)) b_is shown) (subst (λ (l : List ℕ). IfOk r (λ f. IsTrue f.other_open ↔ HasOpenGate l)) a_is opens)
 
-    pub cursor_first : HasCurrent a b → Tells r a → (state : State) (shows : ShowsBy mark image state) → IfOk r (λ f. IsTrue f.no_cursor ↔ HasNoCursor (changes_of shows.current))
+    pub cursor_first : HasCurrent a b → Tells r a → (state : State) (shows : ShowsBy mark image state) → IfOk r (λ f. IsTrue f.no_cursor ↔ HasNoCursor (current_changes shows.current))
     cursor_first current tells state shows =
         told_a r shows.a shows.b shows.gate state (sym (a_is_front mark image shows.a shows.b eight shows.store)) (sym (b_is_back mark image shows.a shows.b eight shows.store)) shows.current (at_halves HasCurrent current)
         (subst (Tells r) a_is tells)
 
-    pub cursor_second : HasCurrent b a → Tells r b → (state : State) (shows : ShowsBy mark image state) → IfOk r (λ f. IsTrue f.no_cursor ↔ HasNoCursor (changes_of shows.current))
+    pub cursor_second : HasCurrent b a → Tells r b → (state : State) (shows : ShowsBy mark image state) → IfOk r (λ f. IsTrue f.no_cursor ↔ HasNoCursor (current_changes shows.current))
     cursor_second current tells state shows =
         told_b r shows.a shows.b shows.gate state (sym (a_is_front mark image shows.a shows.b eight shows.store)) (sym (b_is_back mark image shows.a shows.b eight shows.store)) shows.current
         (at_halves (λ (x y : List ℕ). HasCurrent y x) current) (subst (Tells r) b_is tells)

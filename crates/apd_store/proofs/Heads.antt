@@ -1,21 +1,7 @@
 -- What a stop may leave of a device that is being formatted.
 use Rattle.std.proofs.Common.{◌≡◌, ◌≤◌, ◌+◌, ◌⊎◌, inl, inr, ⊎_elim, ℕ, false, List, [], ◌∷◌, ◌++◌, length, get_or, take, drop, refl, sym, ◌∙◌, ap, subst, arith, take-append-drop}
-use Rattle.std.proofs.lemmas.List.{take_at, drop_at, take-take, drop-take, drop-drop, append_assoc, length-take-le}
-use Rattle.std.proofs.lemmas.Bool.{false≢true}
+use Rattle.apd_store.proofs.Words.{A, BeginsBy, Contains, DEVICE_LENGTH, Follows, HALF_LENGTH, HalfShowsPlainly, HasOpenGate, HasZeroGate, IsBehind, IsCurrent, IsFoundBy, IsLaidOut, IsMarkedBy, IsMarkedOld, IsOverMark, MayBeMade, Only, ShowsBy, ShowsOld, State, TornWithin, append_assoc, block_of, drop-drop, drop-take, drop_at, empty_state, false≢true, front_holds, head_a, length-take-le, magic, marks, new_front, old_magic, sound_empty, take-take, take_at, to_le_bytes, torn_overwritten, w64, with_bytes}
 use Rattle.std.specs.Prelude.{Result, Ok, Err, OnOk}
-use Rattle.std.specs.Int.{to_le_bytes, w64}
-use Rattle.std.specs.List.{Contains}
-use Rattle.apd_base.specs.declared.limits.TheConstants.{DEVICE_LENGTH}
-use Rattle.apd_base.specs.State.{State, empty_state}
-use Rattle.apd_table.proofs.Empty.{sound_empty}
-use Rattle.apd_disk.specs.Disk.{overwritten, TornWithin, Only, Follows}
-use Rattle.apd_disk.specs.MemLaws.{torn_overwritten}
-use Rattle.apd_journal.specs.Half.{block_of}
-use Rattle.apd_journal.specs.declared.writer.TheConstants.{HALF_LENGTH}
-use Rattle.apd_journal.proofs.Growth.{new_front, front_holds}
-use Rattle.apd_store.specs.Image.{magic, old_magic, marks, HasOpenGate, IsBehind, IsCurrent, IsMarkedBy, IsMarkedOld, IsOverMark, MayBeMade, ShowsBy, ShowsOld}
-use Rattle.apd_store.specs.Layout.{head_a, BeginsBy, HalfShowsPlainly, HasZeroGate, IsLaidOut, IsFoundBy}
-use Rattle.apd_store.specs.declared.half.Half.TheVariants.{A}
 use Rattle.apd_store.proofs.Found.{found_by_a, store_by}
 use Rattle.apd_store.proofs.Unique.{holds_open}
 
@@ -30,7 +16,7 @@ part_before at n k m image c torn le =
 part_behind : (at n k : ℕ) (image c : List ℕ) → TornWithin at n image c → drop (at + n + k) c ≡ drop (at + n + k) image
 part_behind at n k image c torn = sym (drop-drop k (at + n) c) ∙ ap (λ (l : List ℕ). drop k l) torn.after ∙ drop-drop k (at + n) image
 
-part_written : (image : List ℕ) (at : ℕ) (bytes : List ℕ) → at ≤ length image → take (length bytes) (drop at (overwritten image at bytes)) ≡ bytes
+part_written : (image : List ℕ) (at : ℕ) (bytes : List ℕ) → at ≤ length image → take (length bytes) (drop at (with_bytes image at bytes)) ≡ bytes
 part_written image at bytes le =
     ap (λ (l : List ℕ). take (length bytes) l) (ap (λ (l : List ℕ). drop at l) (append_assoc (take at image) bytes (drop (at + length bytes) image)) ∙ drop_at (take at image) (bytes ++ drop (at + length bytes) image) at (length-take-le at image le))
     ∙ take_at bytes (drop (at + length bytes) image) (length bytes) refl
@@ -46,19 +32,19 @@ zero_first (x ∷ b) e = omega arith
 begins : (xs head : List ℕ) → take (length head) xs ≡ head → xs ≡ head ++ drop (length head) xs
 begins xs head e = sym (take-append-drop (length head) xs) ∙ ap (λ (l : List ℕ). l ++ drop (length head) xs) e
 
-module _ (a b image now after : List ℕ) (a_fits : length a ≤ HALF_LENGTH) (b_fits : length b ≤ HALF_LENGTH) (size : length image ≡ DEVICE_LENGTH) (first : now ≡ overwritten image 64 a) (second : after ≡ overwritten now 1048640 b) where
-  torn_first : TornWithin 64 (length a) image (overwritten image 64 a)
+module _ (a b image now after : List ℕ) (a_fits : length a ≤ HALF_LENGTH) (b_fits : length b ≤ HALF_LENGTH) (size : length image ≡ DEVICE_LENGTH) (first : now ≡ with_bytes image 64 a) (second : after ≡ with_bytes now 1048640 b) where
+  torn_first : TornWithin 64 (length a) image (with_bytes image 64 a)
   torn_first = torn_overwritten image 64 a (omega (arith, size))
 
   now_size : length now ≡ DEVICE_LENGTH
   now_size = ap length first ∙ torn_first.same_length ∙ size
 
-  torn_second : TornWithin 1048640 (length b) now (overwritten now 1048640 b)
+  torn_second : TornWithin 1048640 (length b) now (with_bytes now 1048640 b)
   torn_second = torn_overwritten now 1048640 b (omega (arith, now_size))
 
   a_stands : take (length a) (drop 64 after) ≡ a
   a_stands =
-      ap (λ (l : List ℕ). take (length a) (drop 64 l)) second ∙ part_before 1048640 (length b) 64 (length a) now (overwritten now 1048640 b) torn_second (omega (arith, a_fits))
+      ap (λ (l : List ℕ). take (length a) (drop 64 l)) second ∙ part_before 1048640 (length b) 64 (length a) now (with_bytes now 1048640 b) torn_second (omega (arith, a_fits))
       ∙ ap (λ (l : List ℕ). take (length a) (drop 64 l)) first ∙ part_written image 64 a (omega (arith, size))
 
   b_stands : take (length b) (drop 1048640 after) ≡ b
@@ -142,10 +128,10 @@ mark_images image old during epoch gate state laid only follows c left =
     let from = follows c left in
     laid_stays image c epoch gate state laid (subst (λ (l : List ℕ). TornWithin 0 8 l c) (only from.0 from.1) from.2)
 
-pub mark_found : (mark image after : List ℕ) (epoch gate : ℕ) (state : State) → length mark ≡ 8 → IsLaidOut image epoch gate state → after ≡ overwritten image 0 mark → IsFoundBy mark after A epoch gate false state
+pub mark_found : (mark image after : List ℕ) (epoch gate : ℕ) (state : State) → length mark ≡ 8 → IsLaidOut image epoch gate state → after ≡ with_bytes image 0 mark → IsFoundBy mark after A epoch gate false state
 mark_found mark image after epoch gate state eight laid is =
-    let torn_mark : TornWithin 0 (length mark) image (overwritten image 0 mark) = torn_overwritten image 0 mark (omega (arith, laid.size, eight)) in
-    let torn : TornWithin 0 8 image after = subst (λ (l : List ℕ). TornWithin 0 8 image l) (sym is) (subst (λ (n : ℕ). TornWithin 0 n image (overwritten image 0 mark)) eight torn_mark) in
+    let torn_mark : TornWithin 0 (length mark) image (with_bytes image 0 mark) = torn_overwritten image 0 mark (omega (arith, laid.size, eight)) in
+    let torn : TornWithin 0 8 image after = subst (λ (l : List ℕ). TornWithin 0 8 image l) (sym is) (subst (λ (n : ℕ). TornWithin 0 n image (with_bytes image 0 mark)) eight torn_mark) in
     let stays = laid_stays image after epoch gate state laid torn in
     let begins_so : take 8 after ≡ mark = ap (λ (l : List ℕ). take 8 l) (is ∙ append_assoc (take 0 image) mark (drop (0 + length mark) image)) ∙ take_at mark (drop (0 + length mark) image) 8 eight in
     laid_found mark after epoch gate state (stays.size, begins_so) stays

@@ -8,3 +8,4 @@ mod Replayed
 mod Steps
 mod SwitchSteps
 mod Unique
+mod Words

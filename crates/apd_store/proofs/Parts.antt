@@ -1,11 +1,7 @@
 -- Writes and stops inside the current half of an image.
 use Rattle.std.proofs.Common.{◌≡◌, ◌≤◌, ◌+◌, ℕ, List, [], ◌++◌, length, take, drop, sym, ◌∙◌, ap, subst, arith, length-append, length-drop, take-append-drop}
-use Rattle.std.proofs.lemmas.List.{append_assoc, append-nil, take_at, drop_at, drop-drop, length-take-le}
-use Rattle.apd_disk.specs.Disk.{overwritten, TornWithin}
+use Rattle.apd_store.proofs.Words.{A, AreParts, B, Half, TornWithin, append-nil, append_assoc, drop-drop, drop_at, image_by, length-take-le, start_of, take_at, with_bytes}
 use Rattle.apd_disk.proofs.Parts.{overwritten_parts, torn_parts}
-use Rattle.apd_store.specs.Layout.{start_of, image_by, AreParts}
-use Rattle.apd_store.specs.declared.half.Half.{Half}
-use Rattle.apd_store.specs.declared.half.Half.TheVariants.{A, B}
 
 module _ (left half right : List ℕ) (start place n : ℕ) (begins : length left ≡ start) (inside : place + n ≤ length half) where
   abbrev front : List ℕ
@@ -36,9 +32,9 @@ module _ (left half right : List ℕ) (start place n : ℕ) (begins : length lef
   reaches : length (left ++ front) ≡ start + place
   reaches = omega (arith, length-append left front, begins, front_length)
 
-  pub written_inside : (bytes : List ℕ) → length bytes ≡ n → overwritten (left ++ (half ++ right)) (start + place) bytes ≡ left ++ (overwritten half place bytes ++ right)
+  pub written_inside : (bytes : List ℕ) → length bytes ≡ n → with_bytes (left ++ (half ++ right)) (start + place) bytes ≡ left ++ (with_bytes half place bytes ++ right)
   written_inside bytes size =
-      ap (λ (l : List ℕ). overwritten l (start + place) bytes) whole
+      ap (λ (l : List ℕ). with_bytes l (start + place) bytes) whole
       ∙ overwritten_parts (left ++ front) middle (back ++ right) (start + place) n reaches middle_length bytes size
       ∙ sym (joined bytes)
       ∙ ap (λ (l : List ℕ). left ++ (l ++ right)) (sym (append_assoc front bytes back) ∙ ap (λ (k : ℕ). (front ++ bytes) ++ drop (place + k) half) (sym size))
@@ -72,11 +68,11 @@ module _ (mark reserved half other : List ℕ) (eight : length mark ≡ 8) (part
   shape_b : (h : List ℕ) → image_by mark B reserved h other ≡ ((mark ++ reserved) ++ other) ++ (h ++ [])
   shape_b h = sym (append_assoc mark reserved (other ++ h)) ∙ sym (append_assoc (mark ++ reserved) other h) ∙ ap (λ (l : List ℕ). ((mark ++ reserved) ++ other) ++ l) (sym (append-nil h))
 
-  pub written_in_half : (side : Half) (bytes : List ℕ) → length bytes ≡ n → overwritten (image_by mark side reserved half other) (start_of side + place) bytes ≡ image_by mark side reserved (overwritten half place bytes) other
+  pub written_in_half : (side : Half) (bytes : List ℕ) → length bytes ≡ n → with_bytes (image_by mark side reserved half other) (start_of side + place) bytes ≡ image_by mark side reserved (with_bytes half place bytes) other
   written_in_half A bytes size =
-      ap (λ (l : List ℕ). overwritten l (64 + place) bytes) (shape_a half) ∙ written_inside (mark ++ reserved) half other 64 place n before_a inside bytes size ∙ sym (shape_a (overwritten half place bytes))
+      ap (λ (l : List ℕ). with_bytes l (64 + place) bytes) (shape_a half) ∙ written_inside (mark ++ reserved) half other 64 place n before_a inside bytes size ∙ sym (shape_a (with_bytes half place bytes))
   written_in_half B bytes size =
-      ap (λ (l : List ℕ). overwritten l (1048640 + place) bytes) (shape_b half) ∙ written_inside ((mark ++ reserved) ++ other) half [] 1048640 place n before_b inside bytes size ∙ sym (shape_b (overwritten half place bytes))
+      ap (λ (l : List ℕ). with_bytes l (1048640 + place) bytes) (shape_b half) ∙ written_inside ((mark ++ reserved) ++ other) half [] 1048640 place n before_b inside bytes size ∙ sym (shape_b (with_bytes half place bytes))
 
   pub torn_in_half : (side : Half) (c : List ℕ) → TornWithin (start_of side + place) n (image_by mark side reserved half other) c → (h : List ℕ) × TornWithin place n half h × (c ≡ image_by mark side reserved h other)
   torn_in_half A c torn =

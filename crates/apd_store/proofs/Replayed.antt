@@ -1,12 +1,6 @@
 -- Changes that are made one after another from the empty state.
 use Rattle.std.proofs.Common.{◌≡◌, ◌<◌, ◌≤◌, ◌+◌, ℕ, suc, List, [], ◌∷◌, length, get_or, drop, refl, sym, ◌∙◌, subst, arith, length-drop}
-use Rattle.std.proofs.lemmas.List.{nil_from_length}
-use Rattle.std.proofs.Math.Seq.{drop-cons}
-use Rattle.apd_base.specs.State.{State, empty_state}
-use Rattle.apd_record.specs.Meaning.{meaning, meaning_of}
-use Rattle.apd_record.specs.declared.change.Change.{Change}
-use Rattle.apd_table.specs.Sound.{Sound, StaySound}
-use Rattle.apd_table.proofs.Empty.{sound_empty}
+use Rattle.apd_store.proofs.Words.{Change, Sound, State, StaySound, drop-cons, empty_state, meaning, meaning_of, nil_from_length, sound_empty}
 use Rattle.apd_table.proofs.InTurn.{stay_first}
 
 -- some changes were made, and these are left: what all lead to, these lead to from here

@@ -1,21 +1,6 @@
 -- What a stop within each call of a batch shows.
 use Rattle.std.proofs.Common.{◌≡◌, ◌≤◌, ◌+◌, ◌-◌, inl, inr, ⊎_elim, ℕ, Bool, List, [], ◌∷◌, length, get_or, refl, sym, ◌∙◌, ap, subst, arith}
-use Rattle.std.proofs.lemmas.Bool.{cases_eq}
-use Rattle.apd_base.specs.State.{State}
-use Rattle.apd_record.specs.Record.{records_of}
-use Rattle.apd_record.specs.declared.change.Change.{Change}
-use Rattle.apd_journal.specs.declared.writer.TheConstants.{HALF_LENGTH}
-use Rattle.apd_disk.specs.Disk.{overwritten, TornWithin, Only, Follows, DiskModel}
-use Rattle.apd_journal.specs.Half.{planned_bytes}
-use Rattle.apd_store.specs.Image.{magic, IsCurrent, Shows}
-use Rattle.apd_store.specs.Layout.{start_of, image_of, AreParts, AreTorn, IsFound}
-use Rattle.apd_store.specs.Phases.{calls_from}
-use Rattle.apd_store.specs.Commit.{laid, opened, AtPhase, IsIdle, IsWriting, MayShow}
-use Rattle.apd_store.specs.declared.half.Half.{Half}
-use Rattle.apd_journal.proofs.Growth.{length-planned}
-use Rattle.apd_store.specs.declared.phase.Phase.{Phase}
-use Rattle.apd_store.specs.declared.phase.Phase.TheVariants.{Idle, CloseOther, SyncClosed, WriteHalf, SyncHalf, OpenHalf, SyncOpened, WriteGroup, SyncGroup, OpenGate, SyncGate, Done, Failed}
-use Rattle.apd_store.specs.declared.store.Store.{Store}
+use Rattle.apd_store.proofs.Words.{AreParts, AreTorn, AtPhase, Change, CloseOther, DiskModel, Done, Failed, Follows, HALF_LENGTH, Half, Idle, IsCurrent, IsFound, IsIdle, IsWriting, MayShow, Only, OpenGate, OpenHalf, Phase, Shows, State, Store, SyncClosed, SyncGate, SyncGroup, SyncHalf, SyncOpened, TornWithin, WriteGroup, WriteHalf, calls_from, cases_eq, image_of, length-planned, magic, planned_bytes, records_of, start_of, with_bytes, with_group, with_open_group}
 use Rattle.apd_store.proofs.Parts.{written_in_half, torn_in_half}
 use Rattle.apd_store.proofs.Current.{image_shows, found_shows, same_parts, current_behind, laid_fits, laid_length, laid_current, opened_length, opened_current, opened_epoch, torn_gate, gate_before_end}
 
@@ -43,13 +28,13 @@ module _ {D : Type 0} (disk : DiskModel D) (store : Store D) (state after : Stat
   torn_group_shows : (h : List ℕ) → TornWithin (store.gate + 1) (length (planned_bytes group)) s.half h → Shows (image_of store.half s.reserved h s.other) state
   torn_group_shows h torn = shows_half h store.gate state torn.same_length (current_behind s.half s.other store.gate state s.current h torn.before)
 
-  laid_shows : Shows (image_of store.half s.reserved (laid s.half store.gate group) s.other) state
-  laid_shows = shows_half (laid s.half store.gate group) store.gate state (laid_length s.half s.other store.gate state s.current group after s.group s.sound s.after_is room) (laid_current s.half s.other store.gate state s.current group after s.group s.sound s.after_is room)
+  laid_shows : Shows (image_of store.half s.reserved (with_group s.half store.gate group) s.other) state
+  laid_shows = shows_half (with_group s.half store.gate group) store.gate state (laid_length s.half s.other store.gate state s.current group after s.group s.sound s.after_is room) (laid_current s.half s.other store.gate state s.current group after s.group s.sound s.after_is room)
 
-  opened_shows : Shows (image_of store.half s.reserved (opened s.half store.gate group) s.other) after
-  opened_shows = shows_half (opened s.half store.gate group) (store.gate + 5 + length (records_of group)) after (opened_length s.half s.other store.gate state s.current group after s.group s.sound s.after_is room) (opened_current s.half s.other store.gate state s.current group after s.group s.sound s.after_is room)
+  opened_shows : Shows (image_of store.half s.reserved (with_open_group s.half store.gate group) s.other) after
+  opened_shows = shows_half (with_open_group s.half store.gate group) (store.gate + 5 + length (records_of group)) after (opened_length s.half s.other store.gate state s.current group after s.group s.sound s.after_is room) (opened_current s.half s.other store.gate state s.current group after s.group s.sound s.after_is room)
 
-  torn_gate_shows : (calls : ℕ) → calls ≤ 2 → (h : List ℕ) → TornWithin store.gate 1 (laid s.half store.gate group) h → MayShow calls state after (image_of store.half s.reserved h s.other)
+  torn_gate_shows : (calls : ℕ) → calls ≤ 2 → (h : List ℕ) → TornWithin store.gate 1 (with_group s.half store.gate group) h → MayShow calls state after (image_of store.half s.reserved h s.other)
   torn_gate_shows calls late h torn = ⊎_elim
       (λ is. inr (late, subst (λ (l : List ℕ). Shows (image_of store.half s.reserved l s.other) after) (sym is) opened_shows))
       (λ current. inl (shows_half h store.gate state (torn.same_length ∙ laid_length s.half s.other store.gate state s.current group after s.group s.sound s.after_is room) current))
@@ -82,9 +67,9 @@ module _ {D : Type 0} (disk : DiskModel D) (store : Store D) (state after : Stat
         (subst (λ (n : ℕ). TornWithin n (length bytes) (image_of store.half s.reserved s.half s.other) c) place_is
         (subst (λ (l : List ℕ). TornWithin at (length bytes) l c) d_is from.2)))
 
-    pub write_reads : store.phase ≡ WriteGroup → (now : List ℕ) → now ≡ overwritten (disk.reads store.device) at bytes → now ≡ image_of store.half s.reserved (laid s.half store.gate store.batch.changes) s.other
+    pub write_reads : store.phase ≡ WriteGroup → (now : List ℕ) → now ≡ with_bytes (disk.reads store.device) at bytes → now ≡ image_of store.half s.reserved (with_group s.half store.gate store.batch.changes) s.other
     write_reads is now written =
-        written ∙ (λ i. overwritten ((at_phase WriteGroup is).0 i) (place_is i) (planned i))
+        written ∙ (λ i. with_bytes ((at_phase WriteGroup is).0 i) (place_is i) (planned i))
         ∙ written_in_half magic s.reserved s.half s.other refl s.parts (store.gate + 1) (length (planned_bytes group)) group_fits store.half (planned_bytes group) refl
 
     pub during_write : store.phase ≡ WriteGroup → (during : List ℕ → Type 0) → Follows (TornWithin at (length bytes)) (disk.may_leave store.device) during → (c : List ℕ) → during c → MayShow (calls_from store.phase) state after c
@@ -93,24 +78,24 @@ module _ {D : Type 0} (disk : DiskModel D) (store : Store D) (state after : Stat
         inl (subst (λ (l : List ℕ). Shows l state) (sym found.2) (torn_group_shows found.0 found.1))
 
   module _ (at : ℕ) (at_is : at ≡ start_of store.half + store.gate) where
-    laid_parts : AreParts s.reserved (laid s.half store.gate group) s.other
-    laid_parts = same_parts s.reserved s.half (laid s.half store.gate group) s.other s.parts (laid_length s.half s.other store.gate state s.current group after s.group s.sound s.after_is room)
+    laid_parts : AreParts s.reserved (with_group s.half store.gate group) s.other
+    laid_parts = same_parts s.reserved s.half (with_group s.half store.gate group) s.other s.parts (laid_length s.half s.other store.gate state s.current group after s.group s.sound s.after_is room)
 
-    gate_fits : store.gate + 1 ≤ length (laid s.half store.gate group)
+    gate_fits : store.gate + 1 ≤ length (with_group s.half store.gate group)
     gate_fits = omega (arith, gate_before_end s.half s.other store.gate state s.current, laid_length s.half s.other store.gate state s.current group after s.group s.sound s.after_is room)
 
-    pub gate_images : store.phase ≡ OpenGate → (during : List ℕ → Type 0) → Follows (TornWithin at 1) (disk.may_leave store.device) during → AreTorn store.half s.reserved (laid s.half store.gate store.batch.changes) s.other store.gate 1 during
+    pub gate_images : store.phase ≡ OpenGate → (during : List ℕ → Type 0) → Follows (TornWithin at 1) (disk.may_leave store.device) during → AreTorn store.half s.reserved (with_group s.half store.gate store.batch.changes) s.other store.gate 1 during
     gate_images is during follows c left =
         let from = follows c left in
-        let d_is : from.0 ≡ image_of store.half s.reserved (laid s.half store.gate group) s.other = (at_phase OpenGate is).1 from.0 from.1 ∙ (at_phase OpenGate is).0 in
-        torn_in_half magic s.reserved (laid s.half store.gate group) s.other refl laid_parts store.gate 1 gate_fits store.half c
-        (subst (λ (n : ℕ). TornWithin n 1 (image_of store.half s.reserved (laid s.half store.gate group) s.other) c) at_is
+        let d_is : from.0 ≡ image_of store.half s.reserved (with_group s.half store.gate group) s.other = (at_phase OpenGate is).1 from.0 from.1 ∙ (at_phase OpenGate is).0 in
+        torn_in_half magic s.reserved (with_group s.half store.gate group) s.other refl laid_parts store.gate 1 gate_fits store.half c
+        (subst (λ (n : ℕ). TornWithin n 1 (image_of store.half s.reserved (with_group s.half store.gate group) s.other) c) at_is
         (subst (λ (l : List ℕ). TornWithin at 1 l c) d_is from.2))
 
-    pub gate_reads : store.phase ≡ OpenGate → (now : List ℕ) → now ≡ overwritten (disk.reads store.device) at (1 ∷ []) → now ≡ image_of store.half s.reserved (opened s.half store.gate store.batch.changes) s.other
+    pub gate_reads : store.phase ≡ OpenGate → (now : List ℕ) → now ≡ with_bytes (disk.reads store.device) at (1 ∷ []) → now ≡ image_of store.half s.reserved (with_open_group s.half store.gate store.batch.changes) s.other
     gate_reads is now written =
-        written ∙ (λ i. overwritten ((at_phase OpenGate is).0 i) (at_is i) (1 ∷ []))
-        ∙ written_in_half magic s.reserved (laid s.half store.gate group) s.other refl laid_parts store.gate 1 gate_fits store.half (1 ∷ []) refl
+        written ∙ (λ i. with_bytes ((at_phase OpenGate is).0 i) (at_is i) (1 ∷ []))
+        ∙ written_in_half magic s.reserved (with_group s.half store.gate group) s.other refl laid_parts store.gate 1 gate_fits store.half (1 ∷ []) refl
 
     pub during_gate : store.phase ≡ OpenGate → (during : List ℕ → Type 0) → Follows (TornWithin at 1) (disk.may_leave store.device) during → (c : List ℕ) → during c → MayShow (calls_from store.phase) state after c
     during_gate is during follows c left =
@@ -179,8 +164,8 @@ module _ {D : Type 0} (disk : DiskModel D) (store : Store D) (state after : Stat
   }
 
   -- the half with the group opened, its gate at this place
-  opened_at : (gate : ℕ) → store.gate + 5 + length (records_of group) ≡ gate → (current : IsCurrent (opened s.half store.gate group) s.other gate after) × (current.epoch ≡ store.epoch)
-  opened_at gate is = subst (λ (n : ℕ). (current : IsCurrent (opened s.half store.gate group) s.other n after) × (current.epoch ≡ store.epoch)) is
+  opened_at : (gate : ℕ) → store.gate + 5 + length (records_of group) ≡ gate → (current : IsCurrent (with_open_group s.half store.gate group) s.other gate after) × (current.epoch ≡ store.epoch)
+  opened_at gate is = subst (λ (n : ℕ). (current : IsCurrent (with_open_group s.half store.gate group) s.other n after) × (current.epoch ≡ store.epoch)) is
       (opened_current s.half s.other store.gate state s.current group after s.group s.sound s.after_is room, opened_epoch s.half s.other store.gate state s.current group after s.group s.sound s.after_is room ∙ s.epoch_is)
 
   -- the receipt is taken
@@ -192,9 +177,9 @@ module _ {D : Type 0} (disk : DiskModel D) (store : Store D) (state after : Stat
       let longer : store.gate + 5 + length (records_of group) ≡ now.gate = omega (arith, gate reaches, s.place, ap length s.bytes, length-planned group, s.room) in
       let found : IsFound (disk.reads store.device) store.half store.epoch now.gate store.other_open after = record {
         reserved = s.reserved;
-        half = opened s.half store.gate group;
+        half = with_open_group s.half store.gate group;
         other = s.other;
-        parts = same_parts s.reserved s.half (opened s.half store.gate group) s.other s.parts (opened_length s.half s.other store.gate state s.current group after s.group s.sound s.after_is room);
+        parts = same_parts s.reserved s.half (with_open_group s.half store.gate group) s.other s.parts (opened_length s.half s.other store.gate state s.current group after s.group s.sound s.after_is room);
         is = here.0;
         current = (opened_at now.gate longer).0;
         epoch_is = (opened_at now.gate longer).1;

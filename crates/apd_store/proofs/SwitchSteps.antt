@@ -1,29 +1,9 @@
 -- What a stop within each call of a switch shows, and how a switch goes on.
 use Rattle.std.proofs.Common.{◌≡◌, ◌≢◌, ◌≤◌, ◌<◌, ◌+◌, ◌-◌, ◌^◌, ◌⊎◌, inl, inr, ⊎_elim, ℕ, Bool, true, false, IsTrue, ◌↔◌, List, [], ◌∷◌, ◌++◌, length, get_or, take, refl, sym, ◌∙◌, ap, subst, arith, take-append-drop}
-use Rattle.std.proofs.lemmas.Bool.{cases_eq, false≢true}
-use Rattle.apd_base.specs.State.{State}
-use Rattle.apd_record.specs.Record.{records_of}
-use Rattle.apd_record.specs.Meaning.{meaning_of}
-use Rattle.apd_record.specs.declared.change.Change.{Change}
-use Rattle.apd_table.specs.Snapshot.{canonical}
-use Rattle.apd_table.specs.Sound.{StaySound}
-use Rattle.apd_disk.specs.Disk.{overwritten, TornWithin, Only, Follows, DiskModel}
-use Rattle.apd_disk.specs.MemLaws.{length-overwritten, torn_overwritten}
-use Rattle.apd_journal.specs.Half.{HalfHolds, IsGroup, begun_bytes, planned_bytes}
+use Rattle.apd_store.proofs.Words.{A, AreParts, AreTorn, AtPhase, AtSwitch, B, Change, CloseOther, DiskModel, Done, Failed, Follows, HALF_LENGTH, Half, HalfHolds, HasOpenGate, Idle, IsBehind, IsCommitting, IsCurrent, IsFound, IsGroup, IsIdle, IsOpen, IsSnapshot, IsSwitching, IsWriting, MayShow, Only, OpenGate, OpenHalf, Phase, Shows, State, StaySound, Store, SyncClosed, SyncGate, SyncGroup, SyncHalf, SyncOpened, TornWithin, WriteGroup, WriteHalf, begun_bytes, calls_from, canonical, cases_eq, false≢true, image_of, length-begun, length-with_bytes, magic, meaning_of, opposite, planned_bytes, records_of, start_of, torn_overwritten, with_bytes, with_closed_gate, with_open_snapshot, with_snapshot}
 use Rattle.apd_journal.specs.declared.batch.Batch.{Batch}
 use Rattle.apd_journal.specs.declared.batch.Plan.{Plan}
-use Rattle.apd_journal.specs.declared.writer.TheConstants.{HALF_LENGTH}
-use Rattle.apd_journal.proofs.Growth.{begun as begun_holds, length-begun}
-use Rattle.apd_store.specs.Image.{magic, HasOpenGate, IsOpen, IsBehind, IsCurrent, Shows}
-use Rattle.apd_store.specs.Layout.{start_of, image_of, opposite, AreParts, AreTorn, IsFound}
-use Rattle.apd_store.specs.Commit.{AtPhase, MayShow, IsCommitting, IsIdle, IsWriting}
-use Rattle.apd_store.specs.Phases.{calls_from}
-use Rattle.apd_store.specs.Switch.{closed, written, begun, AtSwitch, IsSnapshot, IsSwitching}
-use Rattle.apd_store.specs.declared.half.Half.{Half}
-use Rattle.apd_store.specs.declared.half.Half.TheVariants.{A, B}
-use Rattle.apd_store.specs.declared.phase.Phase.{Phase}
-use Rattle.apd_store.specs.declared.phase.Phase.TheVariants.{Idle, CloseOther, SyncClosed, WriteHalf, SyncHalf, OpenHalf, SyncOpened, WriteGroup, SyncGroup, OpenGate, SyncGate, Done, Failed}
-use Rattle.apd_store.specs.declared.store.Store.{Store}
+use Rattle.apd_journal.proofs.Growth.{begun as begun_holds}
 use Rattle.apd_store.proofs.Current.{image_shows}
 use Rattle.apd_store.proofs.Parts.{written_in_half, torn_in_half}
 use Rattle.apd_store.proofs.Steps.{now_shows}
@@ -52,7 +32,7 @@ torn_shut half h n shut torn is = shut (sym torn.before ∙ is)
 zero_one : (n m : ℕ) → n ≡ 0 → m ≡ 1 → n ≢ m
 zero_one n m zero one e = absurd (omega (arith, zero, one, e))
 
-closed_shut : (half : List ℕ) → ¬ HasOpenGate (closed half)
+closed_shut : (half : List ℕ) → ¬ HasOpenGate (with_closed_gate half)
 closed_shut half e = zero_one 0 1 refl refl (ap (λ (l : List ℕ). get_or l 0 0) e)
 
 -- ---- images by the side of the other half
@@ -71,9 +51,9 @@ module _ (reserved half current : List ℕ) (parts : AreParts reserved half curr
       torn_in_half magic reserved half current refl parts place n inside side c
       (subst (λ (m : ℕ). TornWithin m n (image_of side reserved half current) c) at_is (subst (λ (l : List ℕ). TornWithin at n l c) (only from.0 from.1 ∙ is) from.2))
 
-  pub write_reads : (reads now bytes : List ℕ) → reads ≡ image_of side reserved half current → length bytes ≡ n → now ≡ overwritten reads at bytes → now ≡ image_of side reserved (overwritten half place bytes) current
+  pub write_reads : (reads now bytes : List ℕ) → reads ≡ image_of side reserved half current → length bytes ≡ n → now ≡ with_bytes reads at bytes → now ≡ image_of side reserved (with_bytes half place bytes) current
   write_reads reads now bytes is size made =
-      made ∙ (λ i. overwritten (is i) (at_is i) bytes) ∙ written_in_half magic reserved half current refl parts place n inside side bytes size
+      made ∙ (λ i. with_bytes (is i) (at_is i) bytes) ∙ written_in_half magic reserved half current refl parts place n inside side bytes size
 
 -- ---- a switch
 
@@ -93,14 +73,14 @@ module _ {D : Type 0} (disk : DiskModel D) (store : Store D) (state after : Stat
   pub gate_fits : (h : List ℕ) → length h ≡ length s.other → 0 + 1 ≤ length h
   gate_fits h same = omega (arith, same, s.parts.other_length)
 
-  closed_length : length (closed s.other) ≡ length s.other
-  closed_length = length-overwritten s.other 0 (0 ∷ []) (gate_fits s.other refl)
+  closed_length : length (with_closed_gate s.other) ≡ length s.other
+  closed_length = length-with_bytes s.other 0 (0 ∷ []) (gate_fits s.other refl)
 
-  pub written_length : length (written s.other bytes) ≡ length s.other
-  written_length = length-overwritten s.other 1 bytes half_fits
+  pub written_length : length (with_snapshot s.other bytes) ≡ length s.other
+  written_length = length-with_bytes s.other 1 bytes half_fits
 
-  begun_length : length (begun s.other bytes) ≡ length s.other
-  begun_length = length-overwritten (written s.other bytes) 0 (1 ∷ []) (gate_fits (written s.other bytes) written_length) ∙ written_length
+  begun_length : length (with_open_snapshot s.other bytes) ≡ length s.other
+  begun_length = length-with_bytes (with_snapshot s.other bytes) 0 (1 ∷ []) (gate_fits (with_snapshot s.other bytes) written_length) ∙ written_length
 
   pub other_parts : (h : List ℕ) → length h ≡ length s.other → AreParts s.reserved h s.half
   other_parts h same = swapped s.reserved s.half s.other h s.parts same
@@ -127,19 +107,19 @@ module _ {D : Type 0} (disk : DiskModel D) (store : Store D) (state after : Stat
   writing_shows : (¬ HasOpenGate s.other) → (h : List ℕ) → TornWithin 1 (length bytes) s.other h → Shows (image_of back s.reserved h s.half) state
   writing_shows was h torn = shut_shows h torn.same_length (torn_shut s.other h (length bytes) was torn)
 
-  written_shut : (¬ HasOpenGate s.other) → ¬ HasOpenGate (written s.other bytes)
-  written_shut was = torn_shut s.other (written s.other bytes) (length bytes) was (torn_overwritten s.other 1 bytes half_fits)
+  written_shut : (¬ HasOpenGate s.other) → ¬ HasOpenGate (with_snapshot s.other bytes)
+  written_shut was = torn_shut s.other (with_snapshot s.other bytes) (length bytes) was (torn_overwritten s.other 1 bytes half_fits)
 
   -- the half that began anew counts once its gate is open
   half_open : IsOpen s.half store.epoch
   half_open = subst (IsOpen s.half) s.epoch_is (holds_open s.half s.current.epoch s.current.shows.changes store.gate s.current.shows.holds)
 
-  pub begun_current : IsCurrent (begun s.other bytes) s.half (13 + length (records_of (canonical state))) state
+  pub begun_current : IsCurrent (with_open_snapshot s.other bytes) s.half (13 + length (records_of (canonical state))) state
   begun_current = record {
     epoch = store.epoch + 1;
     shows = record {
       changes = canonical state;
-      holds = subst (λ (l : List ℕ). HalfHolds (begun s.other l) (store.epoch + 1) (canonical state) (13 + length (records_of (canonical state)))) (sym s.begins_with)
+      holds = subst (λ (l : List ℕ). HalfHolds (with_open_snapshot s.other l) (store.epoch + 1) (canonical state) (13 + length (records_of (canonical state)))) (sym s.begins_with)
           (begun_holds s.other (store.epoch + 1) (canonical state) s.epoch_fits s.snapshot.are (omega (arith, s.snapshot.size)) (omega (arith, s.snapshot.size, s.parts.other_length)));
       sound = s.snapshot.sound;
       state_is = s.snapshot.leads;
@@ -151,17 +131,17 @@ module _ {D : Type 0} (disk : DiskModel D) (store : Store D) (state after : Stat
   unfolding begun_current
   begun_epoch = refl
 
-  begun_at : (gate : ℕ) → gate ≡ 13 + length (records_of (canonical state)) → (current : IsCurrent (begun s.other bytes) s.half gate state) × (current.epoch ≡ store.epoch + 1)
-  begun_at gate is = subst (λ (n : ℕ). (current : IsCurrent (begun s.other bytes) s.half n state) × (current.epoch ≡ store.epoch + 1)) (sym is) (begun_current, begun_epoch)
+  begun_at : (gate : ℕ) → gate ≡ 13 + length (records_of (canonical state)) → (current : IsCurrent (with_open_snapshot s.other bytes) s.half gate state) × (current.epoch ≡ store.epoch + 1)
+  begun_at gate is = subst (λ (n : ℕ). (current : IsCurrent (with_open_snapshot s.other bytes) s.half n state) × (current.epoch ≡ store.epoch + 1)) (sym is) (begun_current, begun_epoch)
 
-  begun_shows : Shows (image_of back s.reserved (begun s.other bytes) s.half) state
-  begun_shows = image_shows back s.reserved (begun s.other bytes) s.half (13 + length (records_of (canonical state))) state (other_parts (begun s.other bytes) begun_length) begun_current
+  begun_shows : Shows (image_of back s.reserved (with_open_snapshot s.other bytes) s.half) state
+  begun_shows = image_shows back s.reserved (with_open_snapshot s.other bytes) s.half (13 + length (records_of (canonical state))) state (other_parts (with_open_snapshot s.other bytes) begun_length) begun_current
 
   -- torn in its gate alone, the half with its bytes written is closed, or has begun
-  torn_begun : (h : List ℕ) → TornWithin 0 1 (written s.other bytes) h → HasOpenGate h → h ≡ begun s.other bytes
+  torn_begun : (h : List ℕ) → TornWithin 0 1 (with_snapshot s.other bytes) h → HasOpenGate h → h ≡ with_open_snapshot s.other bytes
   torn_begun h torn is = sym (take-append-drop 1 h) ∙ (λ i. is i ++ torn.after i)
 
-  opening_shows : (h : List ℕ) → TornWithin 0 1 (written s.other bytes) h → Shows (image_of back s.reserved h s.half) state
+  opening_shows : (h : List ℕ) → TornWithin 0 1 (with_snapshot s.other bytes) h → Shows (image_of back s.reserved h s.half) state
   opening_shows h torn = ⊎_elim
       (λ is. subst (λ (l : List ℕ). Shows (image_of back s.reserved l s.half) state) (sym (torn_begun h torn is)) begun_shows)
       (λ shut. shut_shows h (torn.same_length ∙ written_length) shut)
@@ -177,7 +157,7 @@ module _ {D : Type 0} (disk : DiskModel D) (store : Store D) (state after : Stat
   shows_at SyncClosed (was, is, torn) c left = let found = torn c left in subst (λ (l : List ℕ). Shows l state) (sym found.2) (closing_shows was found.0 found.1)
   shows_at WriteHalf (was, is, only) c left = subst (λ (l : List ℕ). Shows l state) (sym (only c left ∙ is)) as_it_was
   shows_at SyncHalf (was, is, torn) c left = let found = torn c left in subst (λ (l : List ℕ). Shows l state) (sym found.2) (writing_shows was found.0 found.1)
-  shows_at OpenHalf (was, is, only) c left = subst (λ (l : List ℕ). Shows l state) (sym (only c left ∙ is)) (shut_shows (written s.other bytes) written_length (written_shut was))
+  shows_at OpenHalf (was, is, only) c left = subst (λ (l : List ℕ). Shows l state) (sym (only c left ∙ is)) (shut_shows (with_snapshot s.other bytes) written_length (written_shut was))
   shows_at SyncOpened (was, is, torn) c left = let found = torn c left in subst (λ (l : List ℕ). Shows l state) (sym found.2) (opening_shows found.0 found.1)
   shows_at Idle at c left = absurd at
   shows_at WriteGroup at c left = absurd at
@@ -201,21 +181,21 @@ module _ {D : Type 0} (disk : DiskModel D) (store : Store D) (state after : Stat
         let at = at_call CloseOther is in
         write_images s.reserved s.other s.half (other_parts s.other refl) back 0 1 (start_of side + 0) (gate_fits s.other refl) (ap (λ (h : Half). start_of h + 0) side_is) (disk.reads store.device) (disk.may_leave store.device) during at.1 at.2 follows
 
-    pub closing_reads : store.phase ≡ CloseOther → (now : List ℕ) → now ≡ overwritten (disk.reads store.device) (start_of side + 0) (0 ∷ []) → now ≡ image_of back s.reserved (closed s.other) s.half
+    pub closing_reads : store.phase ≡ CloseOther → (now : List ℕ) → now ≡ with_bytes (disk.reads store.device) (start_of side + 0) (0 ∷ []) → now ≡ image_of back s.reserved (with_closed_gate s.other) s.half
     closing_reads is now made =
         write_reads s.reserved s.other s.half (other_parts s.other refl) back 0 1 (start_of side + 0) (gate_fits s.other refl) (ap (λ (h : Half). start_of h + 0) side_is) (disk.reads store.device) now (0 ∷ []) (at_call CloseOther is).1 refl made
 
-    opening_parts : AreParts s.reserved (written s.other bytes) s.half
-    opening_parts = other_parts (written s.other bytes) written_length
+    opening_parts : AreParts s.reserved (with_snapshot s.other bytes) s.half
+    opening_parts = other_parts (with_snapshot s.other bytes) written_length
 
-    pub opening_images : store.phase ≡ OpenHalf → (during : List ℕ → Type 0) → Follows (TornWithin (start_of side + 0) 1) (disk.may_leave store.device) during → AreTorn back s.reserved (written s.other bytes) s.half 0 1 during
+    pub opening_images : store.phase ≡ OpenHalf → (during : List ℕ → Type 0) → Follows (TornWithin (start_of side + 0) 1) (disk.may_leave store.device) during → AreTorn back s.reserved (with_snapshot s.other bytes) s.half 0 1 during
     opening_images is during follows =
         let at = at_call OpenHalf is in
-        write_images s.reserved (written s.other bytes) s.half opening_parts back 0 1 (start_of side + 0) (gate_fits (written s.other bytes) written_length) (ap (λ (h : Half). start_of h + 0) side_is) (disk.reads store.device) (disk.may_leave store.device) during at.1 at.2 follows
+        write_images s.reserved (with_snapshot s.other bytes) s.half opening_parts back 0 1 (start_of side + 0) (gate_fits (with_snapshot s.other bytes) written_length) (ap (λ (h : Half). start_of h + 0) side_is) (disk.reads store.device) (disk.may_leave store.device) during at.1 at.2 follows
 
-    pub opening_reads : store.phase ≡ OpenHalf → (now : List ℕ) → now ≡ overwritten (disk.reads store.device) (start_of side + 0) (1 ∷ []) → now ≡ image_of back s.reserved (begun s.other bytes) s.half
+    pub opening_reads : store.phase ≡ OpenHalf → (now : List ℕ) → now ≡ with_bytes (disk.reads store.device) (start_of side + 0) (1 ∷ []) → now ≡ image_of back s.reserved (with_open_snapshot s.other bytes) s.half
     opening_reads is now made =
-        write_reads s.reserved (written s.other bytes) s.half opening_parts back 0 1 (start_of side + 0) (gate_fits (written s.other bytes) written_length) (ap (λ (h : Half). start_of h + 0) side_is) (disk.reads store.device) now (1 ∷ []) (at_call OpenHalf is).1 refl made
+        write_reads s.reserved (with_snapshot s.other bytes) s.half opening_parts back 0 1 (start_of side + 0) (gate_fits (with_snapshot s.other bytes) written_length) (ap (λ (h : Half). start_of h + 0) side_is) (disk.reads store.device) now (1 ∷ []) (at_call OpenHalf is).1 refl made
 
     place_is : start_of side + store.fresh.place ≡ start_of back + 1
     place_is = λ i. start_of (side_is i) + s.begins_at i
@@ -227,10 +207,10 @@ module _ {D : Type 0} (disk : DiskModel D) (store : Store D) (state after : Stat
           write_images s.reserved s.other s.half (other_parts s.other refl) back 1 (length bytes) (start_of side + store.fresh.place) half_fits place_is (disk.reads store.device) (disk.may_leave store.device) during at.1 at.2
           (subst (λ (l : List ℕ). Follows (TornWithin (start_of side + store.fresh.place) (length l)) (disk.may_leave store.device) during) given_is follows)
 
-      pub writing_reads : store.phase ≡ WriteHalf → (now : List ℕ) → now ≡ overwritten (disk.reads store.device) (start_of side + store.fresh.place) given → now ≡ image_of back s.reserved (written s.other bytes) s.half
+      pub writing_reads : store.phase ≡ WriteHalf → (now : List ℕ) → now ≡ with_bytes (disk.reads store.device) (start_of side + store.fresh.place) given → now ≡ image_of back s.reserved (with_snapshot s.other bytes) s.half
       writing_reads is now made =
           write_reads s.reserved s.other s.half (other_parts s.other refl) back 1 (length bytes) (start_of side + store.fresh.place) half_fits place_is (disk.reads store.device) now bytes (at_call WriteHalf is).1 refl
-          (made ∙ ap (λ (l : List ℕ). overwritten (disk.reads store.device) (start_of side + store.fresh.place) l) given_is)
+          (made ∙ ap (λ (l : List ℕ). with_bytes (disk.reads store.device) (start_of side + store.fresh.place) l) given_is)
 
   -- what a stop within a write shows
   pub during_closing : store.phase ≡ CloseOther → (during : List ℕ → Type 0) → AreTorn back s.reserved s.other s.half 0 1 during → (c : List ℕ) → during c → Shows c state
@@ -239,7 +219,7 @@ module _ {D : Type 0} (disk : DiskModel D) (store : Store D) (state after : Stat
   pub during_writing : store.phase ≡ WriteHalf → (during : List ℕ → Type 0) → AreTorn back s.reserved s.other s.half 1 (length bytes) during → (c : List ℕ) → during c → Shows c state
   during_writing is during torn c left = let found = torn c left in subst (λ (l : List ℕ). Shows l state) (sym found.2) (writing_shows (at_call WriteHalf is).0 found.0 found.1)
 
-  pub during_opening : (during : List ℕ → Type 0) → AreTorn back s.reserved (written s.other bytes) s.half 0 1 during → (c : List ℕ) → during c → Shows c state
+  pub during_opening : (during : List ℕ → Type 0) → AreTorn back s.reserved (with_snapshot s.other bytes) s.half 0 1 during → (c : List ℕ) → during c → Shows c state
   during_opening during torn c left = let found = torn c left in subst (λ (l : List ℕ). Shows l state) (sym found.2) (opening_shows found.0 found.1)
 
   -- ---- how it goes on
@@ -266,13 +246,13 @@ module _ {D : Type 0} (disk : DiskModel D) (store : Store D) (state after : Stat
   }
 
   -- the closed gate is durable
-  pub switch_closed : (device : D) → disk.reads device ≡ image_of back s.reserved (closed s.other) s.half → Only (disk.reads device) (disk.may_leave device) → IsSwitching disk (record store { device = device; phase = WriteHalf }) state after
+  pub switch_closed : (device : D) → disk.reads device ≡ image_of back s.reserved (with_closed_gate s.other) s.half → Only (disk.reads device) (disk.may_leave device) → IsSwitching disk (record store { device = device; phase = WriteHalf }) state after
   switch_closed device is only = record {
     reserved = s.reserved;
     half = s.half;
-    other = closed s.other;
+    other = with_closed_gate s.other;
     parts = record { reserved_length = s.parts.reserved_length; half_length = s.parts.half_length; other_length = closed_length ∙ s.parts.other_length };
-    current = record { epoch = s.current.epoch; shows = s.current.shows; behind = shut_behind (closed s.other) s.current.epoch (closed_shut s.other) };
+    current = record { epoch = s.current.epoch; shows = s.current.shows; behind = shut_behind (with_closed_gate s.other) s.current.epoch (closed_shut s.other) };
     epoch_is = s.epoch_is;
     epoch_fits = s.epoch_fits;
     snapshot = s.snapshot;
@@ -289,15 +269,15 @@ module _ {D : Type 0} (disk : DiskModel D) (store : Store D) (state after : Stat
   -- the new half is durable, and the store goes on in it
   pub switch_ends : (now : Store D) → now.half ≡ opposite store.half → (store.epoch + 1 < 2 ^ 64 → now.epoch ≡ store.epoch + 1) → (store.fresh.place + length store.fresh.bytes ≤ HALF_LENGTH → now.gate ≡ store.fresh.place + length store.fresh.bytes - 1)
       → now.other_open ≡ true → now.phase ≡ WriteGroup → now.batch ≡ store.batch → now.plan ≡ store.plan
-      → disk.reads now.device ≡ image_of back s.reserved (begun s.other bytes) s.half → Only (disk.reads now.device) (disk.may_leave now.device) → IsWriting disk now state after
+      → disk.reads now.device ≡ image_of back s.reserved (with_open_snapshot s.other bytes) s.half → Only (disk.reads now.device) (disk.may_leave now.device) → IsWriting disk now state after
   switch_ends now half epoch gate other phase batch plan is only =
       let reaches : store.fresh.place + length store.fresh.bytes ≤ HALF_LENGTH = omega (arith, s.begins_at, half_fits, s.parts.other_length) in
       let gate_now : now.gate ≡ 13 + length (records_of (canonical state)) = omega (arith, gate reaches, s.begins_at, bytes_length) in
       record {
         reserved = s.reserved;
-        half = begun s.other bytes;
+        half = with_open_snapshot s.other bytes;
         other = s.half;
-        parts = other_parts (begun s.other bytes) begun_length;
+        parts = other_parts (with_open_snapshot s.other bytes) begun_length;
         current = (begun_at now.gate gate_now).0;
         epoch_is = (begun_at now.gate gate_now).1 ∙ sym (epoch s.epoch_fits);
         gate_is = (λ _. open_gate s.half store.epoch half_open, λ _. other);
@@ -307,8 +287,8 @@ module _ {D : Type 0} (disk : DiskModel D) (store : Store D) (state after : Stat
         room = subst (λ (b : Batch). now.gate + length (records_of b.changes) + 6 ≤ HALF_LENGTH) (sym batch) (omega (arith, gate_now, s.snapshot.size, s.group.1));
         place = ap (λ (p : Plan). p.place) plan ∙ s.place ∙ (omega (arith, bytes_length, gate_now));
         bytes = ap (λ (p : Plan). p.bytes) plan ∙ s.bytes ∙ ap (λ (b : Batch). planned_bytes b.changes) (sym batch);
-        at = subst (λ (p : Phase). AtPhase p now.half s.reserved (begun s.other bytes) s.half now.gate now.batch.changes (disk.reads now.device) (disk.may_leave now.device)) (sym phase)
-            (is ∙ (λ i. image_of (sym half i) s.reserved (begun s.other bytes) s.half), only);
+        at = subst (λ (p : Phase). AtPhase p now.half s.reserved (with_open_snapshot s.other bytes) s.half now.gate now.batch.changes (disk.reads now.device) (disk.may_leave now.device)) (sym phase)
+            (is ∙ (λ i. image_of (sym half i) s.reserved (with_open_snapshot s.other bytes) s.half), only);
       }
 
 -- ---- how a batch begins

@@ -1,15 +1,8 @@
 -- An image shows one state at most.
 use Rattle.std.proofs.Common.{◌≡◌, ◌⊎◌, ⊎_elim, ℕ, List, ◌∷◌, ◌++◌, length, get_or, take, drop, refl, sym, ◌∙◌, ap, subst, arith, length-append}
-use Rattle.std.proofs.lemmas.List.{append_assoc, take_at, drop_at}
+use Rattle.apd_store.proofs.Words.{Change, HALF_LENGTH, HalfHolds, HalfShows, IsCurrent, IsOpen, IsStoreBy, Shows, ShowsBy, ShowsOld, State, append_assoc, block_of, drop_at, empty_state, from_le_bytes, groups_of, half_once, magic, meaning_of, old_magic, take_at, w64}
 use Rattle.std.proofs.lemmas.Nat.{from_le_bytes-to_le_bytes_8}
-use Rattle.std.specs.Int.{from_le_bytes, w64}
-use Rattle.apd_base.specs.State.{State, empty_state}
-use Rattle.apd_record.specs.Meaning.{meaning_of}
-use Rattle.apd_record.specs.declared.change.Change.{Change}
-use Rattle.apd_journal.specs.Half.{HalfHolds, block_of, groups_of}
-use Rattle.apd_journal.specs.declared.writer.TheConstants.{HALF_LENGTH}
-use Rattle.apd_journal.proofs.Once.{front_split, half_once}
-use Rattle.apd_store.specs.Image.{magic, old_magic, IsStoreBy, IsOpen, HalfShows, IsCurrent, Shows, ShowsBy, ShowsOld}
+use Rattle.apd_journal.proofs.Once.{front_split}
 
 -- a half that holds changes is open
 pub holds_open : (half : List ℕ) (epoch : ℕ) (changes : List Change) (place : ℕ) → HalfHolds half epoch changes place → IsOpen half epoch

@@ -9,7 +9,7 @@ use Rattle.apd_disk.specs.Disk.{DiskModel}
 use Rattle.apd_journal.specs.Half.{IsGroup}
 use Rattle.apd_journal.specs.declared.batch.Batch.{Batch}
 use Rattle.apd_store.specs.Commit.{HasRoom, IsCommitting, IsIdle}
-use Rattle.apd_store.specs.Outside.{batch_of, calls_left, epoch_of, is_other_open, phase_of}
+use Rattle.apd_store.specs.Outside.{store_batch, calls_left, epoch_of, is_other_open, phase_of}
 use Rattle.apd_store.specs.Switch.{FitsAnew}
 use Rattle.apd_store.specs.declared.fault.StoreFault.{StoreFault}
 use Rattle.apd_store.specs.declared.fault.StoreFault.TheVariants as store_fault
@@ -20,7 +20,7 @@ use Rattle.apd_store.specs.declared.store.Store.{Store}
 pub record IsBegun {D : Type 0} (disk : DiskModel D) (batch : Batch) (table : State)
     (old new : Store D) : Type 0 where
   pub was_idle : phase_of old ≡ Idle
-  pub batch_is : batch_of new ≡ batch
+  pub batch_is : store_batch new ≡ batch
   pub committing : IsIdle disk old table → IsGroup batch.changes → StaySound batch.changes table
       → IsCommitting disk new table (meaning_of batch.changes table)
   pub some_calls : (4 ≤ calls_left new) × (calls_left new ≤ 10)

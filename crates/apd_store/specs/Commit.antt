@@ -5,7 +5,7 @@ use Rattle.apd_record.specs.Meaning.{meaning_of}
 use Rattle.apd_record.specs.Record.{records_of}
 use Rattle.apd_record.specs.declared.change.Change.{Change}
 use Rattle.apd_table.specs.Sound.{StaySound}
-use Rattle.apd_disk.specs.Disk.{Only, overwritten, DiskModel}
+use Rattle.apd_disk.specs.Disk.{Only, with_bytes, DiskModel}
 use Rattle.apd_journal.specs.Half.{IsGroup, planned_bytes}
 use Rattle.apd_journal.specs.declared.writer.TheConstants.{HALF_LENGTH}
 use Rattle.apd_store.specs.Image.{HasOpenGate, IsCurrent, Shows}
@@ -17,26 +17,26 @@ use Rattle.apd_store.specs.declared.phase.Phase.TheVariants.{Idle, CloseOther, S
 use Rattle.apd_store.specs.declared.store.Store.{Store}
 
 -- the half with the group behind its closed gate, and then with that gate open
-abbrev pub laid : List ℕ → ℕ → List Change → List ℕ
-laid half gate group = overwritten half (gate + 1) (planned_bytes group)
+abbrev pub with_group : List ℕ → ℕ → List Change → List ℕ
+with_group half gate group = with_bytes half (gate + 1) (planned_bytes group)
 
-abbrev pub opened : List ℕ → ℕ → List Change → List ℕ
-opened half gate group = overwritten (laid half gate group) gate (1 ∷ [])
+abbrev pub with_open_group : List ℕ → ℕ → List Change → List ℕ
+with_open_group half gate group = with_bytes (with_group half gate group) gate (1 ∷ [])
 
 -- what a read gives and what a stop may leave when this call of the batch is next
 abbrev pub AtPhase : Phase → Half → List ℕ → List ℕ → List ℕ → ℕ → List Change → List ℕ → (List ℕ → Type 0) → Type 0
 AtPhase WriteGroup side reserved half other gate group reads images =
     (reads ≡ image_of side reserved half other) × Only reads images
 AtPhase SyncGroup side reserved half other gate group reads images =
-    (reads ≡ image_of side reserved (laid half gate group) other)
+    (reads ≡ image_of side reserved (with_group half gate group) other)
     × AreTorn side reserved half other (gate + 1) (length (planned_bytes group)) images
 AtPhase OpenGate side reserved half other gate group reads images =
-    (reads ≡ image_of side reserved (laid half gate group) other) × Only reads images
+    (reads ≡ image_of side reserved (with_group half gate group) other) × Only reads images
 AtPhase SyncGate side reserved half other gate group reads images =
-    (reads ≡ image_of side reserved (opened half gate group) other)
-    × AreTorn side reserved (laid half gate group) other gate 1 images
+    (reads ≡ image_of side reserved (with_open_group half gate group) other)
+    × AreTorn side reserved (with_group half gate group) other gate 1 images
 AtPhase Done side reserved half other gate group reads images =
-    (reads ≡ image_of side reserved (opened half gate group) other) × Only reads images
+    (reads ≡ image_of side reserved (with_open_group half gate group) other) × Only reads images
 AtPhase Idle side reserved half other gate group reads images = ⊥
 AtPhase CloseOther side reserved half other gate group reads images = ⊥
 AtPhase SyncClosed side reserved half other gate group reads images = ⊥

@@ -6,7 +6,7 @@ use Rattle.apd_base.specs.State.{empty_state}
 use Rattle.apd_disk.specs.Disk.{LeavesOnly, DiskModel}
 use Rattle.apd_store.specs.Commit.{IsIdle}
 use Rattle.apd_store.specs.Image.{MayBeMade, Shows}
-use Rattle.apd_store.specs.Outside.{device_of, phase_of, IsInside}
+use Rattle.apd_store.specs.Outside.{store_device, phase_of, IsInside}
 use Rattle.apd_store.specs.declared.fault.StoreFault.{StoreFault}
 use Rattle.apd_store.specs.declared.fault.StoreFault.TheVariants.{NotAStore, Device}
 use Rattle.apd_store.specs.declared.phase.Phase.TheVariants.{Idle}
@@ -18,15 +18,15 @@ pub record IsFormatted {D : Type 0} (disk : DiskModel D) (device : D)
   pub length : disk.size device ≡ DEVICE_LENGTH
   pub inside : IsInside disk store
   pub ready : phase_of store ≡ Idle
-  pub count : disk.failed (device_of store) ≡ disk.failed device
-  pub stays_honest : disk.honest device ↔ disk.honest (device_of store)
+  pub count : disk.failed (store_device store) ≡ disk.failed device
+  pub stays_honest : disk.honest device ↔ disk.honest (store_device store)
 
 -- of the empty table, which alone a stop leaves from now on
 pub record IsHonestlyFormatted {D : Type 0} (disk : DiskModel D) (device : D) (store : Store D) : Type 0 where
   pub empty : IsIdle disk store empty_state
-  pub shown : (c : List ℕ) → disk.may_leave (device_of store) c → Shows c empty_state
-  pub any_moment : LeavesOnly disk device (device_of store) (MayBeMade empty_state (disk.may_leave device))
-  pub calls : disk.moment (device_of store) ≤ disk.moment device + 9
+  pub shown : (c : List ℕ) → disk.may_leave (store_device store) c → Shows c empty_state
+  pub any_moment : LeavesOnly disk device (store_device store) (MayBeMade empty_state (disk.may_leave device))
+  pub calls : disk.moment (store_device store) ≤ disk.moment device + 9
 
 -- the device is handed back, with this fault
 pub record IsNotFormatted {D : Type 0} (disk : DiskModel D) (device left : D)

@@ -82,15 +82,15 @@ abbrev pub HasNoCursor : List Change → Type 0
 HasNoCursor changes = AllByRecursion IsNoCursor changes
 
 -- the changes of the current half
-abbrev pub changes_of : {a b : List ℕ} {gate : ℕ} {state : State}
+abbrev pub current_changes : {a b : List ℕ} {gate : ℕ} {state : State}
     → IsCurrent a b gate state ⊎ IsCurrent b a gate state → List Change
-changes_of (inl current) = current.shows.changes
-changes_of (inr current) = current.shows.changes
+current_changes (inl current) = current.shows.changes
+current_changes (inr current) = current.shows.changes
 
 -- The image is a store of version 1, and shows the state to the program that knows that version alone.
 pub record ShowsOld (image : List ℕ) (state : State) : Type 0 where
   pub by_mark : ShowsBy old_magic image state
-  pub no_cursor : HasNoCursor (changes_of by_mark.current)
+  pub no_cursor : HasNoCursor (current_changes by_mark.current)
 
 -- the image shows no state
 abbrev pub ShowsNone : List ℕ → Type 0

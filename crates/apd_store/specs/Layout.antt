@@ -72,8 +72,8 @@ pub record IsLaidOut (image : List ℕ) (epoch gate : ℕ) (state : State) : Typ
   pub closed : HasZeroGate (drop HALF_LENGTH (drop 64 image))
 
 -- eight zeros, which mark nothing
-abbrev pub blank : List ℕ
-blank = 0 ∷ 0 ∷ 0 ∷ 0 ∷ 0 ∷ 0 ∷ 0 ∷ 0 ∷ []
+abbrev pub blank_mark : List ℕ
+blank_mark = 0 ∷ 0 ∷ 0 ∷ 0 ∷ 0 ∷ 0 ∷ 0 ∷ 0 ∷ []
 
 -- half A of a new store: open, epoch 1, an empty snapshot and a closed gate
 abbrev pub head_a : List ℕ

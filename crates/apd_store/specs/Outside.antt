@@ -9,8 +9,8 @@ use Rattle.apd_store.specs.declared.phase.Phase.{Phase}
 use Rattle.apd_store.specs.declared.store.Receipt.{Receipt}
 use Rattle.apd_store.specs.declared.store.Store.{Store}
 
-abbrev pub device_of : {D : Type 0} → Store D → D
-device_of store = store.device
+abbrev pub store_device : {D : Type 0} → Store D → D
+store_device store = store.device
 
 -- what the store does next
 abbrev pub phase_of : {D : Type 0} → Store D → Phase
@@ -28,8 +28,8 @@ abbrev pub is_other_open : {D : Type 0} → Store D → Bool
 is_other_open store = store.other_open
 
 -- the batch that is under way
-abbrev pub batch_of : {D : Type 0} → Store D → Batch
-batch_of store = store.batch
+abbrev pub store_batch : {D : Type 0} → Store D → Batch
+store_batch store = store.batch
 
 -- the batch that a receipt is for
 abbrev pub held_batch : Receipt → Batch

@@ -7,7 +7,7 @@ use Rattle.apd_base.specs.State.{State}
 use Rattle.apd_disk.specs.Disk.{Only, LeavesOnly, DiskModel}
 use Rattle.apd_store.specs.Commit.{IsIdle}
 use Rattle.apd_store.specs.Image.{IsMarked, IsMarkedOld, Shows, ShowsNone}
-use Rattle.apd_store.specs.Outside.{device_of, phase_of, IsInside}
+use Rattle.apd_store.specs.Outside.{store_device, phase_of, IsInside}
 use Rattle.apd_store.specs.declared.fault.StoreFault.{StoreFault}
 use Rattle.apd_store.specs.declared.fault.StoreFault.TheVariants.{NotAStore, OldVersion, Damaged, Device, NoMemory}
 use Rattle.apd_store.specs.declared.phase.Phase.TheVariants.{Idle}
@@ -19,16 +19,16 @@ pub record IsRecovered {D : Type 0} (disk : DiskModel D) (device : D)
   pub length : disk.size device ≡ DEVICE_LENGTH
   pub inside : IsInside disk store
   pub ready : phase_of store ≡ Idle
-  pub count : disk.failed (device_of store) ≡ disk.failed device
-  pub stays_honest : disk.honest device ↔ disk.honest (device_of store)
+  pub count : disk.failed (store_device store) ≡ disk.failed device
+  pub stays_honest : disk.honest device ↔ disk.honest (store_device store)
 
 -- and its bytes show this state, which they did before
 pub record IsHonestlyRecovered {D : Type 0} (disk : DiskModel D) (device : D) (store : Store D) (state : State) : Type 0 where
   pub shown : Shows (disk.reads device) state
   pub idle : IsIdle disk store state
-  pub stays : disk.reads (device_of store) ≡ disk.reads device
-  pub any_moment : LeavesOnly disk device (device_of store) (disk.may_leave device)
-  pub calls : disk.moment (device_of store) ≤ disk.moment device + 2
+  pub stays : disk.reads (store_device store) ≡ disk.reads device
+  pub any_moment : LeavesOnly disk device (store_device store) (disk.may_leave device)
+  pub calls : disk.moment (store_device store) ≤ disk.moment device + 2
 
 -- the device is handed back, with this fault
 pub record IsNotRecovered {D : Type 0} (disk : DiskModel D) (device left : D)

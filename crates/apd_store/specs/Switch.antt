@@ -9,7 +9,7 @@ use Rattle.apd_record.specs.declared.change.Change.{Change}
 use Rattle.apd_table.specs.Snapshot.{canonical}
 use Rattle.apd_table.specs.Sound.{StaySound}
 use Rattle.apd_table.specs.declared.snapshot.TheConstants.{MAX_SNAPSHOT}
-use Rattle.apd_disk.specs.Disk.{Only, overwritten, DiskModel}
+use Rattle.apd_disk.specs.Disk.{Only, with_bytes, DiskModel}
 use Rattle.apd_journal.specs.Half.{IsGroup, begun_bytes, planned_bytes}
 use Rattle.apd_journal.specs.declared.writer.TheConstants.{HALF_LENGTH}
 use Rattle.apd_store.specs.Image.{HasOpenGate, IsCurrent}
@@ -20,14 +20,14 @@ use Rattle.apd_store.specs.declared.phase.Phase.TheVariants.{Idle, CloseOther, S
 use Rattle.apd_store.specs.declared.store.Store.{Store}
 
 -- a half with its gate closed; with the bytes behind its gate; and then with that gate open
-abbrev pub closed : List ℕ → List ℕ
-closed half = overwritten half 0 (0 ∷ [])
+abbrev pub with_closed_gate : List ℕ → List ℕ
+with_closed_gate half = with_bytes half 0 (0 ∷ [])
 
-abbrev pub written : List ℕ → List ℕ → List ℕ
-written half bytes = overwritten half 1 bytes
+abbrev pub with_snapshot : List ℕ → List ℕ → List ℕ
+with_snapshot half bytes = with_bytes half 1 bytes
 
-abbrev pub begun : List ℕ → List ℕ → List ℕ
-begun half bytes = overwritten (written half bytes) 0 (1 ∷ [])
+abbrev pub with_open_snapshot : List ℕ → List ℕ → List ℕ
+with_open_snapshot half bytes = with_bytes (with_snapshot half bytes) 0 (1 ∷ [])
 
 -- What a read gives and what a stop may leave when this call of a switch to the half on this side is next. The half was
 -- this one before the last write to it, and these bytes go behind its gate; the other one, which is current, stays.
@@ -35,18 +35,18 @@ abbrev pub AtSwitch : Phase → Half → List ℕ → List ℕ → List ℕ → 
 AtSwitch CloseOther side reserved half current bytes reads images =
     HasOpenGate half × (reads ≡ image_of side reserved half current) × Only reads images
 AtSwitch SyncClosed side reserved half current bytes reads images =
-    HasOpenGate half × (reads ≡ image_of side reserved (closed half) current)
+    HasOpenGate half × (reads ≡ image_of side reserved (with_closed_gate half) current)
     × AreTorn side reserved half current 0 1 images
 AtSwitch WriteHalf side reserved half current bytes reads images =
     (¬ HasOpenGate half) × (reads ≡ image_of side reserved half current) × Only reads images
 AtSwitch SyncHalf side reserved half current bytes reads images =
-    (¬ HasOpenGate half) × (reads ≡ image_of side reserved (written half bytes) current)
+    (¬ HasOpenGate half) × (reads ≡ image_of side reserved (with_snapshot half bytes) current)
     × AreTorn side reserved half current 1 (length bytes) images
 AtSwitch OpenHalf side reserved half current bytes reads images =
-    (¬ HasOpenGate half) × (reads ≡ image_of side reserved (written half bytes) current) × Only reads images
+    (¬ HasOpenGate half) × (reads ≡ image_of side reserved (with_snapshot half bytes) current) × Only reads images
 AtSwitch SyncOpened side reserved half current bytes reads images =
-    (¬ HasOpenGate half) × (reads ≡ image_of side reserved (begun half bytes) current)
-    × AreTorn side reserved (written half bytes) current 0 1 images
+    (¬ HasOpenGate half) × (reads ≡ image_of side reserved (with_open_snapshot half bytes) current)
+    × AreTorn side reserved (with_snapshot half bytes) current 0 1 images
 AtSwitch Idle side reserved half current bytes reads images = ⊥
 AtSwitch WriteGroup side reserved half current bytes reads images = ⊥
 AtSwitch SyncGroup side reserved half current bytes reads images = ⊥

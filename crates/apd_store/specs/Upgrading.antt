@@ -9,7 +9,7 @@ use Rattle.apd_base.specs.State.{State, cursor_at}
 use Rattle.apd_disk.specs.Disk.{Only, LeavesOnly, DiskModel}
 use Rattle.apd_store.specs.Commit.{IsIdle}
 use Rattle.apd_store.specs.Image.{IsMarked, IsMarkedOld, MayBeMade, Shows, ShowsNoneOld, ShowsOld}
-use Rattle.apd_store.specs.Outside.{device_of, phase_of, IsInside}
+use Rattle.apd_store.specs.Outside.{store_device, phase_of, IsInside}
 use Rattle.apd_store.specs.declared.fault.StoreFault.{StoreFault}
 use Rattle.apd_store.specs.declared.fault.StoreFault.TheVariants.{NotAStore, Damaged, Device, NewVersion, NoMemory}
 use Rattle.apd_store.specs.declared.phase.Phase.TheVariants.{Idle}
@@ -41,17 +41,17 @@ pub record IsUpgraded {O N : Type 0} (from : DiskModel O) (to : DiskModel N) (ol
   pub inside : IsInside to store
   pub ready : phase_of store ≡ Idle
   pub old_count : from.failed left ≡ from.failed old
-  pub count : to.failed (device_of store) ≡ to.failed new
+  pub count : to.failed (store_device store) ≡ to.failed new
   pub old_stays_honest : from.honest old ↔ from.honest left
-  pub stays_honest : to.honest new ↔ to.honest (device_of store)
+  pub stays_honest : to.honest new ↔ to.honest (store_device store)
 
 -- of the state that the old device shows by its version, which alone a stop leaves from now on
 pub record IsHonestlyUpgraded {O N : Type 0} (from : DiskModel O) (to : DiskModel N) (old left : O) (new : N)
     (store : Store N) : Type 0 where
-  pub made : IsBeingMade from to old new (device_of store)
+  pub made : IsBeingMade from to old new (store_device store)
   pub none_given : HasNoneGiven made.state
   pub idle : IsIdle to store made.state
-  pub shown : (c : List ℕ) → to.may_leave (device_of store) c → Shows c made.state
+  pub shown : (c : List ℕ) → to.may_leave (store_device store) c → Shows c made.state
   pub old_stays : from.reads left ≡ from.reads old
 
 -- both devices are handed back, with this fault

@@ -29,7 +29,7 @@ impl<D: Disk> Store<D> {
     ghost use Rattle.apd_store.specs.Beginning.{IsBegun, IsNotBegun};
     ghost use Rattle.apd_store.specs.Commit.{HasRoom};
     ghost use Rattle.apd_store.specs.Switch.{IsSnapshot};
-    ghost use Rattle.apd_store.specs.Outside.{device_of, phase_of, epoch_of, IsInside};
+    ghost use Rattle.apd_store.specs.Outside.{store_device, phase_of, epoch_of, IsInside};
 
     /// Lays down all bytes of the batch's group and, where it does not fit behind the closed gate, of the other
     /// half, which then begins anew with a snapshot of the table before it. The table is that of everything
@@ -46,7 +46,7 @@ impl<D: Disk> Store<D> {
         ensures begun { OnOk result (IsBegun D.model batch table.now self.old self.new) }
         ensures refused { IfErr result (λ e. (e.0 ≡ batch) × (self.new ≡ self.old)) }
         ensures why { IfErr result (λ e. IsNotBegun batch table.now self.old e.1) }
-        ensures device { device_of self.new ≡ device_of self.old }
+        ensures device { store_device self.new ≡ store_device self.old }
         ensures inside { IsInside D.model self.old → IsInside D.model self.new }
     {
         match self.phase {
@@ -66,7 +66,7 @@ impl<D: Disk> Store<D> {
         requires idle { phase_of self.old ≡ Phase.Idle }
         ensures inside { IsInside D.model self.old → IsInside D.model self.new }
         ensures begun { (state : State) → OnOk result (IsBegun D.model batch state self.old self.new) }
-        ensures device { device_of self.new ≡ device_of self.old }
+        ensures device { store_device self.new ≡ store_device self.old }
         ensures refused { IfErr result (λ e. (e.0 ≡ batch) × (self.new ≡ self.old)) }
         ensures only { IfErr result (λ e. e.1 ≡ StoreFault.NoMemory) }
     {
@@ -98,7 +98,7 @@ impl<D: Disk> Store<D> {
         ensures begun { OnOk result (IsBegun D.model batch table.now self.old self.new) }
         ensures refused { IfErr result (λ e. (e.0 ≡ batch) × (self.new ≡ self.old)) }
         ensures why { IfErr result (λ e. IsNotBegun batch table.now self.old e.1) }
-        ensures device { device_of self.new ≡ device_of self.old }
+        ensures device { store_device self.new ≡ store_device self.old }
     {
         let Ok(fresh) = self.new_half(table) else {
             return Err((batch, StoreFault::NoMemory));

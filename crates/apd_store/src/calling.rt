@@ -3,7 +3,7 @@ ghost use Rattle.std.specs.Prelude.{◌≡◌, ◌≢◌, ◌↔◌, ◌≤◌, 
 ghost use Rattle.apd_base.specs.declared.limits.TheConstants.{DEVICE_LENGTH};
 ghost use Rattle.apd_base.specs.Failures.{HasRisen};
 ghost use Rattle.apd_base.specs.State.{State};
-ghost use Rattle.apd_disk.specs.Disk.{overwritten, TornWithin, Follows, Elapses, LeavesOnly};
+ghost use Rattle.apd_disk.specs.Disk.{with_bytes, TornWithin, Follows, Elapses, LeavesOnly};
 ghost use Rattle.apd_journal.specs.declared.writer.TheConstants.{HALF_LENGTH};
 ghost use Rattle.apd_store.specs.Layout.{start_of};
 
@@ -23,7 +23,8 @@ pub(crate) fn write_in_half<D: Disk>(
     ensures size { D.model.size device.new ≡ D.model.size device.old }
     ensures honest { D.model.honest device.old ↔ D.model.honest device.new }
     ensures written { D.model.honest device.old
-        → OnOk result (D.model.reads device.new ≡ overwritten (D.model.reads device.old) (start_of half + place) bytes.now) }
+        → OnOk result
+        (D.model.reads device.new ≡ with_bytes (D.model.reads device.old) (start_of half + place) bytes.now) }
     ensures stop { D.model.honest device.old → result ≢ Err StoreFault.Failed
         → Follows (TornWithin (start_of half + place) (length bytes.now)) (D.model.may_leave device.old)
         (D.model.left_since device.new (D.model.moment device.old)) }
@@ -49,7 +50,7 @@ pub(crate) fn write_in_half<D: Disk>(
 }
 
 // The phase after a call that was made.
-pub(crate) fn moved(
+pub(crate) fn move_on(
     phase: &mut Phase,
     made: Result<(), StoreFault>,
     next: Phase,
@@ -73,7 +74,7 @@ pub(crate) fn moved(
 impl<D: Disk> Store<D> {
     ghost use Rattle.apd_store.specs.Calling.{IsCallMade};
     ghost use Rattle.apd_store.specs.Commit.{IsCommitting, IsWriting, HasFailed, MayShow};
-    ghost use Rattle.apd_store.specs.Outside.{device_of, phase_of, calls_left};
+    ghost use Rattle.apd_store.specs.Outside.{store_device, phase_of, calls_left};
 
     /// Makes the next call of the batch, and answers whether calls are left. With no batch begun or no call
     /// left there is none, and nothing is done.
@@ -85,17 +86,18 @@ impl<D: Disk> Store<D> {
 
         // A stop within the call shows the state before the batch, and where two calls are left or fewer it or the one
         // after.
-        ensures any_moment { (state after : State) → D.model.honest (device_of self.old)
+        ensures any_moment { (state after : State) → D.model.honest (store_device self.old)
             → IsCommitting D.model self.old state after
-            → LeavesOnly D.model (device_of self.old) (device_of self.new) (MayShow (calls_left self.old) state after) }
-        ensures on { (state after : State) → D.model.honest (device_of self.old)
+            → LeavesOnly D.model (store_device self.old) (store_device self.new)
+            (MayShow (calls_left self.old) state after) }
+        ensures on { (state after : State) → D.model.honest (store_device self.old)
             → IsCommitting D.model self.old state after → OnOk result (IsCommitting D.model self.new state after) }
 
         // The same of a call that failed, once it has; where more than two calls were left the state after shows
         // nowhere.
-        ensures stuck { (state after : State) → D.model.honest (device_of self.old)
+        ensures stuck { (state after : State) → D.model.honest (store_device self.old)
             → IsCommitting D.model self.old state after → OnErr result (HasFailed D.model self.new state after) }
-        ensures stuck_early { (state after : State) → D.model.honest (device_of self.old)
+        ensures stuck_early { (state after : State) → D.model.honest (store_device self.old)
             → IsCommitting D.model self.old state after
             → 2 < calls_left self.old → OnErr result (HasFailed D.model self.new state state) }
 
@@ -121,14 +123,15 @@ impl<D: Disk> Store<D> {
     fn next_of_group(&mut self) -> Result<bool, StoreFault>
         requires { (1 ≤ calls_left self.old) × (calls_left self.old ≤ 4) }
         ensures made { IsCallMade D.model self.old self.new result }
-        ensures any_moment { (state after : State) → D.model.honest (device_of self.old)
+        ensures any_moment { (state after : State) → D.model.honest (store_device self.old)
             → IsWriting D.model self.old state after
-            → LeavesOnly D.model (device_of self.old) (device_of self.new) (MayShow (calls_left self.old) state after) }
-        ensures on { (state after : State) → D.model.honest (device_of self.old)
+            → LeavesOnly D.model (store_device self.old) (store_device self.new)
+            (MayShow (calls_left self.old) state after) }
+        ensures on { (state after : State) → D.model.honest (store_device self.old)
             → IsWriting D.model self.old state after → OnOk result (IsWriting D.model self.new state after) }
-        ensures stuck { (state after : State) → D.model.honest (device_of self.old)
+        ensures stuck { (state after : State) → D.model.honest (store_device self.old)
             → IsWriting D.model self.old state after → OnErr result (HasFailed D.model self.new state after) }
-        ensures stuck_early { (state after : State) → D.model.honest (device_of self.old)
+        ensures stuck_early { (state after : State) → D.model.honest (store_device self.old)
             → IsWriting D.model self.old state after
             → 2 < calls_left self.old → OnErr result (HasFailed D.model self.new state state) }
     {
@@ -136,19 +139,19 @@ impl<D: Disk> Store<D> {
             Phase::WriteGroup => {
                 let bytes = self.plan.bytes.as_slice();
                 let made = write_in_half(&mut self.device, self.half, self.plan.place, bytes);
-                moved(&mut self.phase, made, Phase::SyncGroup)
+                move_on(&mut self.phase, made, Phase::SyncGroup)
             }
             Phase::SyncGroup => {
                 let made = self.device.sync().map_err(StoreFault::from);
-                moved(&mut self.phase, made, Phase::OpenGate)
+                move_on(&mut self.phase, made, Phase::OpenGate)
             }
             Phase::OpenGate => {
                 let made = write_in_half(&mut self.device, self.half, self.gate, &[1]);
-                moved(&mut self.phase, made, Phase::SyncGate)
+                move_on(&mut self.phase, made, Phase::SyncGate)
             }
             Phase::SyncGate => {
                 let made = self.device.sync().map_err(StoreFault::from);
-                moved(&mut self.phase, made, Phase::Done)
+                move_on(&mut self.phase, made, Phase::Done)
             }
             _ => unreachable!(),
         }

@@ -7,7 +7,7 @@ ghost use Rattle.apd_disk.specs.Disk.{Only, Counts, LeavesOnly};
 ghost use Rattle.apd_journal.specs.declared.writer.TheConstants.{HALF_LENGTH};
 ghost use Rattle.apd_store.specs.Formatting.{IsFormatted, IsHonestlyFormatted, IsHonestlyNotFormatted, IsNotFormatted};
 ghost use Rattle.apd_store.specs.Image.{IsOverMark, MayBeMade};
-ghost use Rattle.apd_store.specs.Layout.{blank, BeginsBy, HasZeroGate, IsLaidOut, IsFound};
+ghost use Rattle.apd_store.specs.Layout.{blank_mark, BeginsBy, HasZeroGate, IsLaidOut, IsFound};
 ghost use Rattle.apd_store.specs.declared.half.Half.TheVariants.{A};
 
 use crate::fault::StoreFault;
@@ -38,7 +38,7 @@ fn is_mark(bytes: &[u8; 8], marks: &[[u8; 8]]) -> bool
 /// Writes zeros over a mark, where one of these stands.
 fn unmark<D: Disk>(device: &mut D, marks: &[[u8; 8]]) -> Result<(), DiskFault>
     requires size { D.model.size device.old ≡ DEVICE_LENGTH }
-    requires marks { ¬ Contains marks.now blank }
+    requires marks { ¬ Contains marks.now blank_mark }
     ensures size { D.model.size device.new ≡ D.model.size device.old }
     ensures count { Counts (D.model.failed device.old) (D.model.failed device.new) result }
     ensures honest { D.model.honest device.old ↔ D.model.honest device.new }

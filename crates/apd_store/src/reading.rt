@@ -6,7 +6,7 @@ ghost use Rattle.apd_record.specs.Meaning.{meaning_of};
 ghost use Rattle.apd_table.specs.Sound.{StaySound};
 ghost use Rattle.apd_journal.specs.Half.{HalfHolds};
 ghost use Rattle.apd_record.specs.declared.change.Change.{Change as AnyChange};
-ghost use Rattle.apd_store.specs.Image.{changes_of, HasNoCursor, HasOpenGate, IsOpen, IsBehind, HalfShows, IsMarked, IsMarkedBy, IsMarkedOld, ShowsBy, ShowsNone, ShowsNoneOld, ShowsOld};
+ghost use Rattle.apd_store.specs.Image.{current_changes, HasNoCursor, HasOpenGate, IsOpen, IsBehind, HalfShows, IsMarked, IsMarkedBy, IsMarkedOld, ShowsBy, ShowsNone, ShowsNoneOld, ShowsOld};
 ghost use Rattle.apd_store.specs.Layout.{IsFound, IsFoundBy};
 
 use crate::fault::StoreFault;
@@ -121,7 +121,7 @@ fn read_halves(alloc: Global, bytes: &[u8]) -> Result<Found, StoreFault>
     ensures damaged { result ≡ Err StoreFault.Damaged → (mark : List ℕ) (state : State)
         → IsMarkedBy mark bytes.now → ¬ ShowsBy mark bytes.now state }
     ensures cursor { (mark : List ℕ) (state : State) → IsMarkedBy mark bytes.now → (shows : ShowsBy mark bytes.now state)
-        → IfOk result (λ found. IsTrue found.no_cursor ↔ HasNoCursor (changes_of shows.current)) }
+        → IfOk result (λ found. IsTrue found.no_cursor ↔ HasNoCursor (current_changes shows.current)) }
     ensures only { OnErr result ((result ≡ Err StoreFault.Damaged) ⊎ (result ≡ Err StoreFault.NoMemory)) }
 {
     let (a, b) = bytes[START_A..].split_at(HALF_LENGTH);

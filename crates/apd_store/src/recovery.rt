@@ -15,7 +15,7 @@ use apd_table::Table;
 use std::alloc::{AllocError, Global};
 
 // No clause says what the bytes are: a proof would go through all of them.
-fn blank(alloc: Global, size: usize) -> Result<Vec<u8>, AllocError>
+fn zero_bytes(alloc: Global, size: usize) -> Result<Vec<u8>, AllocError>
     ensures { IfOk result (λ bytes. length bytes.items ≡ size) }
 {
     vec![in alloc; 0u8; size]
@@ -49,7 +49,7 @@ pub(crate) fn read_device<D: Disk>(alloc: Global, device: &mut D) -> Result<Vec<
     if length != DEVICE_LENGTH as usize {
         return Err(StoreFault::NotAStore);
     }
-    let Ok(mut bytes) = blank(alloc, length) else {
+    let Ok(mut bytes) = zero_bytes(alloc, length) else {
         return Err(StoreFault::NoMemory);
     };
     let Ok(()) = device.read_at(0, &mut bytes) else {

@@ -81,7 +81,7 @@ pub(crate) fn last_place(plan: &Plan) -> usize
 
 impl<D: Disk> Store<D> {
     ghost use Rattle.apd_store.specs.Commit.{IsIdle, IsCommitting, HasFailed, MayShow};
-    ghost use Rattle.apd_store.specs.Outside.{device_of, phase_of, calls_left, batch_of, held_batch, IsInside};
+    ghost use Rattle.apd_store.specs.Outside.{store_device, phase_of, calls_left, store_batch, held_batch, IsInside};
 
     // A store with no batch, which goes on at this gate of this half.
     pub(crate) fn new(
@@ -133,7 +133,7 @@ impl<D: Disk> Store<D> {
 
     /// The device, as the calls left it.
     pub fn into_device(self) -> D
-        ensures { result ≡ device_of self }
+        ensures { result ≡ store_device self }
     {
         let Store { device, .. } = self;
         device
@@ -143,12 +143,12 @@ impl<D: Disk> Store<D> {
     pub fn finish(&mut self) -> Option<Receipt>
         ensures inside { IsInside D.model self.old → IsInside D.model self.new }
         ensures exactly { IsSome result ↔ (phase_of self.old ≡ Phase.Done) }
-        ensures receipt { IfSome result (λ receipt. held_batch receipt ≡ batch_of self.old) }
+        ensures receipt { IfSome result (λ receipt. held_batch receipt ≡ store_batch self.old) }
         ensures settled { (state after : State) → IsCommitting D.model self.old state after
             → OnSome result (IsIdle D.model self.new after) }
         ensures idle { OnSome result (phase_of self.new ≡ Phase.Idle) }
         ensures none { phase_of self.old ≢ Phase.Done → self.new ≡ self.old }
-        ensures device { device_of self.new ≡ device_of self.old }
+        ensures device { store_device self.new ≡ store_device self.old }
     {
         if self.phase != Phase::Done {
             return None;
@@ -163,17 +163,18 @@ impl<D: Disk> Store<D> {
     /// Tells a caller's proof what a stop now shows: of an idle store its state; of a batch under way the
     /// state before it, and where one call is left that state or the one after; once its last call succeeded
     /// the state after alone; where a call failed one of the two. It does nothing.
-    pub fn shown(&self)
+    pub fn show_images(&self)
         ensures idle { (state : State) → IsIdle D.model self.now state → (c : List ℕ)
-            → D.model.may_leave (device_of self.now) c → Shows c state }
+            → D.model.may_leave (store_device self.now) c → Shows c state }
         ensures under_way { (state after : State) → IsCommitting D.model self.now state after
-            → (c : List ℕ) → D.model.may_leave (device_of self.now) c → MayShow (calls_left self.now) state after c }
+            → (c : List ℕ) → D.model.may_leave (store_device self.now) c → MayShow (calls_left self.now) state after c }
         ensures before { (state after : State) → IsCommitting D.model self.now state after
-            → 2 ≤ calls_left self.now → (c : List ℕ) → D.model.may_leave (device_of self.now) c → Shows c state }
+            → 2 ≤ calls_left self.now → (c : List ℕ) → D.model.may_leave (store_device self.now) c → Shows c state }
         ensures done { (state after : State) → IsCommitting D.model self.now state after
-            → phase_of self.now ≡ Phase.Done → (c : List ℕ) → D.model.may_leave (device_of self.now) c → Shows c after }
+            → phase_of self.now ≡ Phase.Done → (c : List ℕ)
+            → D.model.may_leave (store_device self.now) c → Shows c after }
         ensures stuck { (state after : State) → HasFailed D.model self.now state after → (c : List ℕ)
-            → D.model.may_leave (device_of self.now) c → Shows c state ⊎ Shows c after }
+            → D.model.may_leave (store_device self.now) c → Shows c state ⊎ Shows c after }
     {
         let _ = &self.device;
     }

@@ -7,7 +7,7 @@ ghost use Rattle.apd_journal.specs.declared.writer.TheConstants.{HALF_LENGTH};
 ghost use Rattle.apd_store.specs.Image.{Shows};
 ghost use Rattle.apd_store.specs.Layout.{opposite};
 
-use crate::calling::{moved, write_in_half};
+use crate::calling::{move_on, write_in_half};
 use crate::fault::StoreFault;
 use crate::phase::Phase;
 use crate::store::{Store, last_place, no_plan};
@@ -17,43 +17,43 @@ impl<D: Disk> Store<D> {
     ghost use Rattle.apd_store.specs.Calling.{IsCallMade};
     ghost use Rattle.apd_store.specs.Commit.{IsWriting, HasFailed};
     ghost use Rattle.apd_store.specs.Switch.{IsSwitching};
-    ghost use Rattle.apd_store.specs.Outside.{device_of, phase_of, calls_left, batch_of, IsInside};
+    ghost use Rattle.apd_store.specs.Outside.{store_device, phase_of, calls_left, store_batch, IsInside};
 
     /// The next call of a switch.
     pub(crate) fn next_of_switch(&mut self) -> Result<bool, StoreFault>
         requires { 4 < calls_left self.old }
         ensures made { IsCallMade D.model self.old self.new result }
-        ensures any_moment { (state after : State) → D.model.honest (device_of self.old)
+        ensures any_moment { (state after : State) → D.model.honest (store_device self.old)
             → IsSwitching D.model self.old state after
-            → LeavesOnly D.model (device_of self.old) (device_of self.new) (λ c. Shows c state) }
-        ensures on { (state after : State) → D.model.honest (device_of self.old)
+            → LeavesOnly D.model (store_device self.old) (store_device self.new) (λ c. Shows c state) }
+        ensures on { (state after : State) → D.model.honest (store_device self.old)
             → IsSwitching D.model self.old state after
             → OnOk result (IsSwitching D.model self.new state after ⊎ IsWriting D.model self.new state after) }
-        ensures stuck { (state after : State) → D.model.honest (device_of self.old)
+        ensures stuck { (state after : State) → D.model.honest (store_device self.old)
             → IsSwitching D.model self.old state after → OnErr result (HasFailed D.model self.new state state) }
     {
         let side = self.half.other();
         match self.phase {
             Phase::CloseOther => {
                 let made = write_in_half(&mut self.device, side, 0, &[0]);
-                moved(&mut self.phase, made, Phase::SyncClosed)
+                move_on(&mut self.phase, made, Phase::SyncClosed)
             }
             Phase::SyncClosed => {
                 let made = self.device.sync().map_err(StoreFault::from);
-                moved(&mut self.phase, made, Phase::WriteHalf)
+                move_on(&mut self.phase, made, Phase::WriteHalf)
             }
             Phase::WriteHalf => {
                 let bytes = self.fresh.bytes.as_slice();
                 let made = write_in_half(&mut self.device, side, self.fresh.place, bytes);
-                moved(&mut self.phase, made, Phase::SyncHalf)
+                move_on(&mut self.phase, made, Phase::SyncHalf)
             }
             Phase::SyncHalf => {
                 let made = self.device.sync().map_err(StoreFault::from);
-                moved(&mut self.phase, made, Phase::OpenHalf)
+                move_on(&mut self.phase, made, Phase::OpenHalf)
             }
             Phase::OpenHalf => {
                 let made = write_in_half(&mut self.device, side, 0, &[1]);
-                moved(&mut self.phase, made, Phase::SyncOpened)
+                move_on(&mut self.phase, made, Phase::SyncOpened)
             }
             Phase::SyncOpened => {
                 let Ok(()) = self.device.sync() else {
@@ -70,7 +70,7 @@ impl<D: Disk> Store<D> {
     // Goes on in the other half, which began anew, with the batch's group.
     fn turn_over(&mut self)
         ensures inside { IsInside D.model self.old → IsInside D.model self.new }
-        ensures device { device_of self.new ≡ device_of self.old }
+        ensures device { store_device self.new ≡ store_device self.old }
         ensures half { self.new.half ≡ opposite self.old.half }
         ensures epoch { self.old.epoch + 1 < 2 ^ 64 → self.new.epoch ≡ self.old.epoch + 1 }
         ensures gate { self.old.fresh.place + length self.old.fresh.bytes ≤ HALF_LENGTH

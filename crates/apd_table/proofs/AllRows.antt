@@ -1,37 +1,13 @@
 -- The rows of a BSSID, and what is left of them once lists are changed.
 use Rattle.std.proofs.Common.{◌≡◌, ◌≤◌, Bool, true, false, cond, not, ◌&&◌, ◌||◌, List, length, map as list_map, filter, Some, refl, sym, ap, subst, ◌∙◌}
-use Rattle.std.proofs.lemmas.List.{length-map}
-use Rattle.std.specs.Ordering.{eq_by_cmp}
-use Rattle.std.specs.List.{list_any}
+use Rattle.apd_table.proofs.Words.{Accept, AclMode, Addr, Bssid, Change, Cursor, Deny, Drop, ListAdd, ListClear, ListDel, Lists, Policy, Put, State, Station, Which, addr_cmp, addr_exact, addr_total, addresses_at, allowed, both_true, bssid_cmp, bssid_exact, bssid_total, contains, count, denials_by, entries-retain_keys, eq_by_cmp, has, has_after, is_allowed, is_allowed_in, is_allowed_under, is_among, is_denied_after, is_denied_row, is_row_of, length-map, list_any, list_exact, list_total, meaning, passes_any, policy_after, policy_at, station_at, station_exact, station_total, tied, with_lists_after}
 use Rattle.std.specs.FinMap as map
-use Rattle.apd_base.specs.declared.address.Addr.{Addr}
-use Rattle.apd_base.specs.declared.address.Bssid.{Bssid}
-use Rattle.apd_base.specs.declared.station.AclMode.{AclMode}
-use Rattle.apd_base.specs.declared.station.Policy.{Policy}
-use Rattle.apd_base.specs.declared.station.Station.{Station}
-use Rattle.apd_base.specs.declared.station.Which.{Which}
-use Rattle.apd_base.specs.declared.station.Which.TheVariants.{Accept, Deny}
-use Rattle.apd_base.specs.Addr.{addr_cmp, bssid_cmp, is_among}
-use Rattle.apd_base.specs.Sets.{contains}
-use Rattle.apd_base.specs.State.{State, is_row_of, station_at, policy_at, count}
-use Rattle.apd_base.proofs.AddrLemmas.{addr_total, addr_exact, bssid_total, bssid_exact, station_total, station_exact}
-use Rattle.apd_base.proofs.MapLemmas.{tied, passes_any}
-use Rattle.apd_base.proofs.RowsMaps.{entries-retain_keys}
-use Rattle.apd_base.proofs.StateLemmas.{list_total, list_exact}
-use Rattle.apd_acl.specs.Lists.{has}
-use Rattle.apd_acl.specs.Policy.{is_allowed}
-use Rattle.apd_acl.specs.declared.lists.Lists.{Lists}
-use Rattle.apd_record.specs.Meaning.{meaning}
-use Rattle.apd_record.specs.declared.change.Change.{Change}
-use Rattle.apd_record.specs.declared.change.Change.TheVariants.{Put, Drop, ListAdd, ListDel, ListClear, Policy as SetPolicy, Cursor}
-use Rattle.apd_table.specs.Addresses.{addresses_at, with_lists_after, has_after, policy_after, is_denied_after}
-use Rattle.apd_table.specs.Allowed.{allowed, allowed_in, allowed_under, denied_by, is_denied_row}
+use Rattle.apd_record.specs.declared.change.Change.TheVariants.{Policy as SetPolicy}
 use Rattle.apd_table.specs.Rows as rows
 use Rattle.apd_table.proofs.Denied.{any_mapped}
 use Rattle.apd_table.proofs.ListCounts.{length-filter_le}
 use Rattle.apd_table.proofs.StationRows.{filter_filtered}
 use Rattle.apd_table.proofs.ListSets.{contains-insert, contains-remove, contains-retain_keys, same_row}
-use Rattle.apd_base.proofs.Cases.{both_true}
 
 -- what is so of a station with a row is so of one of the addresses
 pub any_address : (s : State) (b : Bssid) (test : Addr → Bool) (a : Addr) (x : Station) → station_at s b a ≡ Some x → test a ≡ true → list_any test (addresses_at s b) ≡ true
@@ -54,9 +30,9 @@ module _ (s : State) (b : Bssid) where
   pub addresses_few : length (addresses_at s b) ≡ count s b
   addresses_few = length-map all (λ row. row.0.1) ∙ sym counted
 
-  pub denied_few : (mode : AclMode) → length (denied_by s b mode) ≤ count s b
+  pub denied_few : (mode : AclMode) → length (denials_by s b mode) ≤ count s b
   denied_few mode =
-      let denies = λ (row : (Bssid × Addr) × Station). not (allowed_in s b row.0.1 mode) in
+      let denies = λ (row : (Bssid × Addr) × Station). not (is_allowed_in s b row.0.1 mode) in
       let shorter = subst (λ (xs : List ((Bssid × Addr) × Station)). length xs ≤ length all) (filter_filtered (rows.is_row_of b) denies (map.entries s.stations)) (length-filter_le denies all) in
       rw (length-map (filter (is_denied_row s b mode) (map.entries s.stations)) (λ row. row.0.1)) (rw counted shorter)
 
@@ -90,9 +66,9 @@ module _ (s : State) (b : Bssid) (lists : Lists) (same : (w : Which) (a : Addr) 
 
   pub allowed_after : (p : Policy) → Some p ≡ policy_at s b → (change : Change) (a : Addr) → is_allowed (policy_after p b change).mode (has_after lists b change Accept a) (has_after lists b change Deny a) ≡ allowed (meaning change s) b a
   allowed_after p at change a =
-      (λ i. is_allowed (policy_after p b change).mode (has_after-is change Accept a i) (has_after-is change Deny a i)) ∙ ap (allowed_under (meaning change s) b a) (policy_is p at change)
+      (λ i. is_allowed (policy_after p b change).mode (has_after-is change Accept a i) (has_after-is change Deny a i)) ∙ ap (is_allowed_under (meaning change s) b a) (policy_is p at change)
 
   -- so the rows that are denied are those that the state after denies
-  pub denied_after-is : (mode : AclMode) (change : Change) → list_map (λ (row : (Bssid × Addr) × Station). row.0.1) (filter (is_denied_after lists mode b change) (map.entries s.stations)) ≡ denied_by (with_lists_after change s) b mode
-  denied_after-is mode change = λ i. list_map (λ (row : (Bssid × Addr) × Station). row.0.1)
+  pub denials_after-is : (mode : AclMode) (change : Change) → list_map (λ (row : (Bssid × Addr) × Station). row.0.1) (filter (is_denied_after lists mode b change) (map.entries s.stations)) ≡ denials_by (with_lists_after change s) b mode
+  denials_after-is mode change = λ i. list_map (λ (row : (Bssid × Addr) × Station). row.0.1)
       (filter (λ row. rows.is_row_of b row && not (is_allowed mode (has_after-is change Accept row.0.1 i) (has_after-is change Deny row.0.1 i))) (map.entries s.stations))

@@ -1,15 +1,8 @@
 -- Changes with one more behind them.
 use Rattle.std.proofs.Common.{◌≡◌, ◌+◌, ◌-◌, ◌≤◌, List, [], ◌∷◌, ◌++◌, length, take, get_or, length-append, IsSome, inl, inr, refl, sym, ap, subst, ◌∙◌, arith}
-use Rattle.std.proofs.lemmas.List.{take-append-drop, drop_all}
+use Rattle.apd_table.proofs.Words.{AreDrops, AreFewInPlace, Bssid, Change, Cursor, Drop, IsInPlace, ListAdd, ListClear, ListDel, NoNewRow, Put, Sound, State, StationNumber, StaySound, drop_all, meaning, meaning_of, policy_at, set_cursor, take-append-drop}
 use Rattle.std.proofs.Math.Seq.{take-append_seam}
-use Rattle.apd_base.specs.declared.address.Bssid.{Bssid}
-use Rattle.apd_base.specs.declared.station.StationNumber.{StationNumber}
-use Rattle.apd_base.specs.State.{State, policy_at}
-use Rattle.apd_record.specs.declared.change.Change.{Change}
-use Rattle.apd_record.specs.declared.change.Change.TheVariants.{Put, Drop, ListAdd, ListDel, ListClear, Policy, Cursor}
-use Rattle.apd_record.specs.Meaning.{meaning, meaning_of, set_cursor}
-use Rattle.apd_table.specs.InPlace.{AreDrops, AreFewInPlace, IsInPlace, NoNewRow}
-use Rattle.apd_table.specs.Sound.{Sound, StaySound}
+use Rattle.apd_record.specs.declared.change.Change.TheVariants.{Policy}
 use Rattle.apd_table.proofs.Cursors.{sound_cursor}
 use Rattle.apd_table.proofs.InTurn.{next}
 use Rattle.apd_table.proofs.PolicySet.{kept as policy_kept}

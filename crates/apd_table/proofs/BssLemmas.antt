@@ -1,28 +1,9 @@
 -- The rows of BSSIDs in order, as policy rows and list rows.
 use Rattle.std.proofs.Common.{◌≡◌, ℕ, Bool, true, false, cond, ◌&&◌, ◌||◌, List, [], ◌∷◌, length, map as list_map, Some, refl, sym, ap, subst, ◌∙◌, T}
-use Rattle.std.specs.List.{list_any, slice_get}
-use Rattle.std.proofs.lemmas.List.{length-map}
+use Rattle.apd_table.proofs.Words.{Accept, Addr, Bss, Bssid, Deny, Lists, Policy, SetOf, Which, add_rows, addr_cmp, below_all, bssid_cmp, bssid_total, contains, contains_key-keys, cursor_of, empty_of_len, entries-from_sorted, eq_by_cmp, find_tied_head, from_sorted, get-empty, get-from_sorted, has, is_listed_in, is_lt, is_some, is_sorted, is_sorted_tail, len-entries, length-map, list_any, list_cmp, list_exact, list_of, list_rows, list_total, members_of, no_bss, option_map, parts_of, policy_of, policy_rows, slice_get, state_of_rows, which_cmp}
 use Rattle.std.proofs.lemmas.Option.{slice_get-map}
-use Rattle.std.specs.Option.{option_map, is_some}
-use Rattle.std.specs.Ordering.{eq_by_cmp, is_lt}
 use Rattle.std.specs.FinMap as map
-use Rattle.std.specs.FinMap.{find, is_sorted, from_sorted, entries-from_sorted, len-entries, empty_of_len, get-from_sorted, get-empty, contains_key-keys}
-use Rattle.std.specs.FinMap.Entries.{below_all}
-use Rattle.apd_base.specs.Sets.{SetOf, contains}
-use Rattle.apd_base.specs.Addr.{addr_cmp, bssid_cmp}
-use Rattle.apd_base.specs.State.{list_cmp, which_cmp}
-use Rattle.apd_base.specs.declared.address.Addr.{Addr}
-use Rattle.apd_base.specs.declared.address.Bssid.{Bssid}
-use Rattle.apd_base.specs.declared.station.Policy.{Policy}
-use Rattle.apd_base.specs.declared.station.Which.{Which}
-use Rattle.apd_base.specs.declared.station.Which.TheVariants.{Accept, Deny}
-use Rattle.apd_base.proofs.AddrLemmas.{bssid_total}
-use Rattle.apd_base.proofs.RowsLemmas.{find_tied_head, is_sorted_tail}
-use Rattle.apd_base.proofs.StateLemmas.{list_total, list_exact}
-use Rattle.apd_acl.specs.Lists.{list_of, has}
-use Rattle.apd_acl.specs.declared.lists.Lists.{Lists}
-use Rattle.apd_table.specs.fields.BssRows.{add_rows, cursor_of, list_rows, members_of, parts_of, policy_of, policy_rows, state_of_rows, no_bss, is_listed_in}
-use Rattle.apd_table.specs.declared.bss_rows.Bss.{Bss}
+use Rattle.std.specs.FinMap.{find}
 use Rattle.apd_table.proofs.ListSets.{contains-insert, same_row}
 
 -- one part of each row

@@ -1,42 +1,12 @@
 -- What a write into the row of a BSSID makes of the list rows and the policy rows.
 use Rattle.std.proofs.Common.{◌≡◌, ℕ, suc, ◌+◌, Bool, true, false, cond, not, ◌&&◌, ◌||◌, List, [], ◌∷◌, Option, Some, None, Result, Ok, Err, OnOk, OnErr, IsSome, IfSome, inl, inr, refl, sym, ap, subst, ◌∙◌, T, arith, slice_index_or, slice_set}
-use Rattle.std.specs.List.{slice_get}
-use Rattle.std.specs.Option.{option_map, is_some}
-use Rattle.std.specs.Ordering.{eq_by_cmp, is_eq}
-use Rattle.std.specs.Cmp.{IsTotalOrder}
-use Rattle.std.specs.declared.cmp.Ordering.{Ordering}
-use Rattle.std.specs.declared.cmp.Ordering.TheVariants.{Less, Equal, Greater}
+use Rattle.apd_table.proofs.Words.{Accept, Addr, Bss, BssState, Bssid, Deny, Equal, FinMap, Greater, IsAntisymmetric, IsTotalOrder, Less, Members, Ordering, Policy, SetOf, Station, StationNumber, Which, addr_cmp, after_row, at_row, bssid_cmp, bssid_exact, bssid_total, contains, cursor_of, cursors_with, eq_by_cmp, find-place, find-put, from_sorted, get-empty, get-insert, has, is_eq, is_listed_in, is_row_of, is_some, is_sorted, list_cmp, list_exact, list_rows, list_total, members_of, members_under, no_lists, no_members, none_given, none_is, offset, one_or_apart, option_map, parts_of, place, policy_of, policy_rows, put-place, put_after, put_at, same_map, same_station_number, slice_get, sorted_put_at, state_of_rows, tied, value_at, which_cmp, with_added, with_bss, with_cleared, with_cursor, with_policy, with_removed, with_row}
 use Rattle.std.specs.FinMap as map
-use Rattle.std.specs.FinMap.{FinMap, find, is_sorted, from_sorted, IsAntisymmetric, get-empty, get-insert, same_map}
-use Rattle.std.specs.FinMap.Entries.{find-put}
+use Rattle.std.specs.FinMap.{find}
 use Rattle.std.proofs.lemmas.Option.{get_or_from_slice_get}
-use Rattle.apd_base.specs.Rows.{place, shifted, by_order, put_at, value_at}
-use Rattle.apd_base.specs.Sets.{SetOf, contains}
-use Rattle.apd_base.specs.Addr.{addr_cmp, bssid_cmp}
-use Rattle.apd_base.specs.State.{list_cmp, which_cmp, is_row_of}
-use Rattle.apd_base.specs.declared.address.Addr.{Addr}
-use Rattle.apd_base.specs.declared.address.Bssid.{Bssid}
-use Rattle.apd_base.specs.declared.station.Policy.{Policy}
-use Rattle.apd_base.specs.declared.station.Station.{Station}
-use Rattle.apd_base.specs.declared.station.StationNumber.{StationNumber}
-use Rattle.apd_base.specs.declared.station.Which.{Which}
-use Rattle.apd_base.specs.declared.station.Which.TheVariants.{Accept, Deny}
-use Rattle.apd_base.proofs.AddrLemmas.{bssid_total, bssid_exact}
-use Rattle.apd_base.proofs.MapLemmas.{one_or_apart, tied}
-use Rattle.apd_base.proofs.RowsLemmas.{put-place, find-place}
-use Rattle.apd_base.proofs.RowsMaps.{sorted_put_at}
-use Rattle.apd_base.proofs.StateLemmas.{list_total, list_exact}
-use Rattle.apd_base.proofs.StationLemmas.{same_station_number}
-use Rattle.apd_acl.specs.Lists.{has, no_lists}
-use Rattle.apd_record.specs.Meaning.{cursors_with, none_given}
-use Rattle.apd_table.specs.fields.BssRows.{cursor_of, list_rows, state_of_rows, joined, members_of, parts_of, policy_of, policy_rows, is_listed_in, with_bss, with_policy, with_cursor, with_added, with_removed, with_cleared, with_row, at_row}
-use Rattle.apd_table.specs.fields.BssState.{BssState}
-use Rattle.apd_table.specs.fields.Members.{after_row, no_members, put_after}
-use Rattle.apd_table.specs.declared.bss_rows.Bss.{Bss}
-use Rattle.apd_table.specs.declared.members.Members.{Members}
+use Rattle.apd_base.specs.Rows.{by_order}
 use Rattle.apd_table.proofs.BssLemmas.{get-parts_of, contains-list_rows}
 use Rattle.apd_table.proofs.ListSets.{same_set, insert_here, insert_elsewhere, remove_here, remove_elsewhere, clear_here, clear_elsewhere, has_added, has_removed, has_cleared}
-use Rattle.apd_base.proofs.Cases.{none_is}
 
 one_more : (i : ℕ) → 1 + i ≡ suc i
 one_more i = omega arith
@@ -52,7 +22,7 @@ module _ {K X : Type 0} {R : K → K → Ordering} (o : IsTotalOrder R) (exact :
   abbrev pub EntryAt : K → List (K × X) → ℕ → Type 0
   EntryAt k es i = (x : X) × (slice_get es i ≡ Some (k, x)) × (find R k es ≡ Some x)
 
-  deeper : (k : K) (e : K × X) (es : List (K × X)) → R k e.0 ≡ Greater → (p : Result ℕ ℕ) → ((j : ℕ) → p ≡ Ok j → EntryAt k es j) → (i : ℕ) → shifted 1 p ≡ Ok i → EntryAt k (e ∷ es) i
+  deeper : (k : K) (e : K × X) (es : List (K × X)) → R k e.0 ≡ Greater → (p : Result ℕ ℕ) → ((j : ℕ) → p ≡ Ok j → EntryAt k es j) → (i : ℕ) → offset 1 p ≡ Ok i → EntryAt k (e ∷ es) i
   deeper k e es g (Err j) rest i is = err_ok (1 + j) i is
   deeper k e es g (Ok j) rest i is =
       let found = rest j refl in
@@ -61,7 +31,7 @@ module _ {K X : Type 0} {R : K → K → Ordering} (o : IsTotalOrder R) (exact :
   pub entry_at : (k : K) (es : List (K × X)) (i : ℕ) → place R k es ≡ Ok i → EntryAt k es i
   entry_at k [] i is = err_ok 0 i is
   entry_at k (e ∷ es) i is =
-      elim (R k e.0) as (λ r. R k e.0 ≡ r → by_order r (Err 0) (Ok 0) (shifted 1 (place R k es)) ≡ Ok i → EntryAt k (e ∷ es) i) [
+      elim (R k e.0) as (λ r. R k e.0 ≡ r → by_order r (Err 0) (Ok 0) (offset 1 (place R k es)) ≡ Ok i → EntryAt k (e ∷ es) i) [
         | Less ↦ λ p q. err_ok 0 i q
         | Equal ↦ λ p q. (
           e.1,
@@ -221,7 +191,7 @@ module _ (xs : List Row) (sorted : T (is_sorted bssid_cmp xs)) (b : Bssid) where
         lists = lists_new xs sorted b none y (λ v d. ap (λ lists. has lists v d) empty ∙ none_has v d) i;
         policies = parts_set xs sorted b policy_of y i;
         cursors = (parts_set xs sorted b cursor_of y ∙ ap (map.insert cursors b) (same_station_number y.cursor none_given zero) ∙ ap (λ o. cursors_with o cursors b) without) i;
-        members = (parts_set xs sorted b members_of y ∙ ap (map.insert members b) alone ∙ ap (λ o. joined o members b) without) i;
+        members = (parts_set xs sorted b members_of y ∙ ap (map.insert members b) alone ∙ ap (λ o. members_under o members b) without) i;
       }
 
   module _ (x : Bss) (found : find bssid_cmp b xs ≡ Some x) where
@@ -233,7 +203,7 @@ module _ (xs : List Row) (sorted : T (is_sorted bssid_cmp xs)) (b : Bssid) where
           lists = lists_kept xs sorted b x found y refl i;
           policies = parts_set xs sorted b policy_of y i;
           cursors = (parts_kept xs sorted b cursor_of x found y refl ∙ ap (λ o. cursors_with o cursors b) old) i;
-          members = (parts_kept xs sorted b members_of x found y refl ∙ ap (λ o. joined o members b) old) i;
+          members = (parts_kept xs sorted b members_of x found y refl ∙ ap (λ o. members_under o members b) old) i;
         }
 
     -- the identifier that was given last

@@ -1,24 +1,9 @@
 -- What the look-ups for a clash say of the state.
 use Rattle.std.proofs.Common.{◌≡◌, ◌↔◌, ℕ, ◌<◌, Some, IsTrue, Bool, true, false, not, ◌&&◌, List, inl, inr, refl, sym, ap, ◌∙◌, IsSome}
-use Rattle.std.proofs.lemmas.Bool.{and_parts}
-use Rattle.std.proofs.lemmas.List.Folds.{Any-from_list_any, list_any-from_Any}
-use Rattle.std.specs.List.{list_any}
-use Rattle.std.specs.Ordering.{eq_by_cmp}
+use Rattle.apd_table.proofs.Words.{Addr, Any-from_list_any, Bssid, IsAlone, IsFreeFor, IsMembers, Members, Sound, State, aid_at, and_parts, bssid_cmp, bssid_exact, bssid_total, differ, eq_by_cmp, is_associated_apart, is_set, list_any, not_yes, one_or_apart, same_bssid, station_at, station_of_aid, tied}
+use Rattle.std.proofs.lemmas.List.Folds.{list_any-from_Any}
 use Rattle.std.specs.FinMap as map
-use Rattle.apd_base.specs.declared.address.Addr.{Addr}
-use Rattle.apd_base.specs.declared.address.Bssid.{Bssid}
-use Rattle.apd_base.specs.Addr.{bssid_cmp}
-use Rattle.apd_base.proofs.AddrLemmas.{bssid_total, bssid_exact, same_bssid}
-use Rattle.apd_base.proofs.MapLemmas.{one_or_apart, tied}
-use Rattle.apd_base.proofs.StateLemmas.{station_of_aid}
-use Rattle.apd_base.specs.State.{State, aid_at, station_at}
-use Rattle.apd_table.specs.Can.{IsAlone, IsFreeFor}
-use Rattle.apd_table.specs.fields.Members.{IsMembers, is_set}
-use Rattle.apd_table.specs.declared.members.Members.{Members}
 use Rattle.apd_table.proofs.Places.{places_of}
-use Rattle.apd_table.specs.Rows.{is_associated_apart}
-use Rattle.apd_table.specs.Sound.{Sound}
-use Rattle.apd_base.proofs.Cases.{differ, not_yes}
 
 -- an item that a test tells from all others is among some that one ties with
 one_of : (c : Bssid) (test : Bssid → Bool) (ks : List Bssid) → list_any (eq_by_cmp bssid_cmp c) ks ≡ true → test c ≡ true → list_any test ks ≡ true

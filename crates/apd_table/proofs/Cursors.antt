@@ -1,17 +1,7 @@
 -- When a state stays sound as the number given last at a BSSID is set; a policy that is set comes with one.
 use Rattle.std.proofs.Common.{◌≡◌, Bool, true, false, ◌||◌, Option, Some, None, refl, sym, ap, ◌∙◌, IsSome}
-use Rattle.std.specs.Option.{is_some}
-use Rattle.std.specs.Ordering.{eq_by_cmp}
+use Rattle.apd_table.proofs.Words.{Bssid, Policy, Sound, State, StationNumber, bssid_cmp, bssid_exact, bssid_total, cursor_at, cursors_with, eq_by_cmp, get_inserted, is_some, none_given, policy_at, same_bssid, set_cursor, set_policy}
 use Rattle.std.specs.FinMap as map
-use Rattle.apd_base.specs.Addr.{bssid_cmp}
-use Rattle.apd_base.specs.State.{State, policy_at, cursor_at}
-use Rattle.apd_base.specs.declared.address.Bssid.{Bssid}
-use Rattle.apd_base.specs.declared.station.Policy.{Policy}
-use Rattle.apd_base.specs.declared.station.StationNumber.{StationNumber}
-use Rattle.apd_base.proofs.AddrLemmas.{bssid_total, bssid_exact, same_bssid}
-use Rattle.apd_base.proofs.MapLemmas.{get_inserted}
-use Rattle.apd_record.specs.Meaning.{cursors_with, none_given, set_cursor, set_policy}
-use Rattle.apd_table.specs.Sound.{Sound}
 use Rattle.apd_table.proofs.ListSets.{is_some-insert}
 
 absorbed : (t u : Bool) → (t ≡ true → u ≡ true) → (t || u) ≡ u

@@ -1,27 +1,8 @@
 -- The rows that a mode denies, and what is left once they are dropped.
 use Rattle.std.proofs.Common.{◌≡◌, Bool, true, false, cond, not, ◌&&◌, ◌||◌, List, [], ◌∷◌, ◌++◌, map as list_map, filter, Option, Some, None, refl, sym, ap, ◌∙◌}
-use Rattle.std.proofs.lemmas.Bool.{and_parts}
-use Rattle.std.specs.List.{list_any}
-use Rattle.std.specs.declared.cmp.Ordering.{Ordering}
-use Rattle.std.specs.declared.cmp.Ordering.TheVariants.{Less, Equal, Greater}
-use Rattle.std.specs.Ordering.{eq_by_cmp, is_eq, ordering_then}
+use Rattle.apd_table.proofs.Words.{AclMode, Addr, Bssid, Change, Drop, Equal, Greater, Less, Ordering, Sound, State, Station, StaySound, addr_cmp, addr_exact, addr_total, and_parts, any_passes, both_true, bssid_cmp, bssid_exact, bssid_total, denials_by, drop_station, eq_by_cmp, get-remove, is_allowed_in, is_among, is_denied_row, is_eq, list_any, meaning, meaning_of, not_no, not_yes, ordering_then, passes_any, same_addr, same_bssid, station_at, station_exact, station_total, tied}
 use Rattle.std.specs.FinMap as map
-use Rattle.std.specs.FinMap.{get-remove}
-use Rattle.apd_base.specs.declared.address.Addr.{Addr}
-use Rattle.apd_base.specs.declared.address.Bssid.{Bssid}
-use Rattle.apd_base.specs.declared.station.AclMode.{AclMode}
-use Rattle.apd_base.specs.declared.station.Station.{Station}
-use Rattle.apd_base.specs.Addr.{addr_cmp, bssid_cmp, is_among}
-use Rattle.apd_base.proofs.AddrLemmas.{addr_total, addr_exact, bssid_total, bssid_exact, station_total, station_exact, same_bssid, same_addr}
-use Rattle.apd_base.proofs.MapLemmas.{tied, passes_any, any_passes}
-use Rattle.apd_base.specs.State.{State, station_at}
-use Rattle.apd_table.specs.Allowed.{allowed_in, is_denied_row, denied_by}
-use Rattle.apd_record.specs.Meaning.{drop_station, meaning, meaning_of}
-use Rattle.apd_table.specs.Sound.{Sound, StaySound}
-use Rattle.apd_record.specs.declared.change.Change.{Change}
-use Rattle.apd_record.specs.declared.change.Change.TheVariants.{Drop}
 use Rattle.apd_table.proofs.Parts.{sound_drop}
-use Rattle.apd_base.proofs.Cases.{both_true, not_yes, not_no}
 
 -- dropping the rows of some addresses of a BSSID, one after the other
 abbrev pub drops : Bssid → List Addr → List Change
@@ -39,25 +20,25 @@ module _ (s : State) (b : Bssid) (mode : AclMode) where
   abbrev among_row : Addr → (Bssid × Addr) × Station → Bool
   among_row a row = is_denied_row s b mode row && eq_by_cmp addr_cmp a row.0.1
 
-  among_rows : (a : Addr) → is_among a (denied_by s b mode) ≡ list_any (among_row a) (map.entries s.stations)
+  among_rows : (a : Addr) → is_among a (denials_by s b mode) ≡ list_any (among_row a) (map.entries s.stations)
   among_rows a = any_mapped (eq_by_cmp addr_cmp a) (λ row. row.0.1) (is_denied_row s b mode) (map.entries s.stations)
 
   -- a station with a row that the mode would deny is among those
-  pub among_denied : (a : Addr) (x : Station) → station_at s b a ≡ Some x → allowed_in s b a mode ≡ false → is_among a (denied_by s b mode) ≡ true
+  pub among_denied : (a : Addr) (x : Station) → station_at s b a ≡ Some x → is_allowed_in s b a mode ≡ false → is_among a (denials_by s b mode) ≡ true
   among_denied a x row denied =
       among_rows a
       ∙ passes_any station_total station_exact (among_row a) s.stations (b, a) x row
       (both_true _ _ (both_true _ _ (tied bssid_total bssid_exact b) (not_no _ denied)) (tied addr_total addr_exact a))
 
   -- and no other address is
-  pub denied_among : (a : Addr) → is_among a (denied_by s b mode) ≡ true → ((x : Station) × (station_at s b a ≡ Some x)) × (allowed_in s b a mode ≡ false)
+  pub denied_among : (a : Addr) → is_among a (denials_by s b mode) ≡ true → ((x : Station) × (station_at s b a ≡ Some x)) × (is_allowed_in s b a mode ≡ false)
   denied_among a h =
       let found = any_passes station_total station_exact (among_row a) s.stations (sym (among_rows a) ∙ h) in
       let test = and_parts (is_denied_row s b mode (found.0, found.1)) (eq_by_cmp addr_cmp a (found.0).1) found.3 in
-      let denied = and_parts (eq_by_cmp bssid_cmp b (found.0).0) (not (allowed_in s b (found.0).1 mode)) test.0 in
+      let denied = and_parts (eq_by_cmp bssid_cmp b (found.0).0) (not (is_allowed_in s b (found.0).1 mode)) test.0 in
       let bssid : b ≡ (found.0).0 = same_bssid (found.0).0 b denied.0 in
       let addr : a ≡ (found.0).1 = same_addr (found.0).1 a test.1 in
-      ((found.1, (λ i. station_at s (bssid i) (addr i)) ∙ found.2), ap (λ c. allowed_in s b c mode) addr ∙ not_yes _ denied.1)
+      ((found.1, (λ i. station_at s (bssid i) (addr i)) ∙ found.2), ap (λ c. is_allowed_in s b c mode) addr ∙ not_yes _ denied.1)
 
 -- changes in two parts
 pub meaning_of-append : (xs ys : List Change) (s : State) → meaning_of (xs ++ ys) s ≡ meaning_of ys (meaning_of xs s)

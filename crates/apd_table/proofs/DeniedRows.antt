@@ -1,21 +1,9 @@
 -- What a scan for denied rows says of a state.
 use Rattle.std.proofs.Common.{◌≡◌, ◌↔◌, Bool, true, false, cond, not, ◌&&◌, ◌||◌, List, [], ◌∷◌, map as list_map, filter, None, IsSome, refl, sym, ap, ◌∙◌}
-use Rattle.std.proofs.lemmas.Bool.{and_parts, false_from_ne_true, true_from_ne_false}
-use Rattle.std.specs.List.{list_any}
-use Rattle.std.specs.Ordering.{eq_by_cmp}
+use Rattle.apd_table.proofs.Words.{AclMode, Addr, Bssid, Sound, State, Station, and_parts, any_passes, bssid_cmp, bssid_exact, bssid_total, denials_by, differ, eq_by_cmp, false_from_ne_true, is_denied_row, is_some_of, list_any, none_is, not_yes, passes_any, policy_at, same_bssid, station_at, station_exact, station_total, tied, true_from_ne_false}
 use Rattle.std.specs.FinMap as map
-use Rattle.apd_base.specs.Addr.{bssid_cmp}
-use Rattle.apd_base.specs.State.{State, station_at, policy_at}
-use Rattle.apd_base.specs.declared.address.Addr.{Addr}
-use Rattle.apd_base.specs.declared.address.Bssid.{Bssid}
-use Rattle.apd_base.specs.declared.station.AclMode.{AclMode}
-use Rattle.apd_base.specs.declared.station.Station.{Station}
-use Rattle.apd_base.proofs.AddrLemmas.{bssid_total, bssid_exact, station_total, station_exact, same_bssid}
-use Rattle.apd_base.proofs.MapLemmas.{tied, passes_any, any_passes}
-use Rattle.apd_table.specs.Allowed.{denied_by, is_denied_row}
 use Rattle.apd_table.specs.Rows.{is_row_of}
-use Rattle.apd_table.specs.Sound.{Sound}
-use Rattle.apd_base.proofs.Cases.{differ, not_yes, value_of, is_some_of, none_is}
+use Rattle.apd_base.proofs.Cases.{value_of}
 
 module _ (s : State) (b : Bssid) (g : Addr → Bool) where
   abbrev fails : (Bssid × Addr) × Station → Bool
@@ -52,7 +40,7 @@ none_passes p (x ∷ xs) e =
 pub no_row : {A : Type 0} (s : State) (b : Bssid) → Sound s → None ≡ policy_at s b → (a : Addr) → IsSome (station_at s b a) → A
 no_row s b sound none a h = none_is (policy_at s b) (sym none) (sound.stations_have_policy b a h)
 
-pub none_denied_by : (s : State) (b : Bssid) (mode : AclMode) → Sound s → None ≡ policy_at s b → denied_by s b mode ≡ []
+pub none_denied_by : (s : State) (b : Bssid) (mode : AclMode) → Sound s → None ≡ policy_at s b → denials_by s b mode ≡ []
 none_denied_by s b mode sound none =
     let p = is_denied_row s b mode in
     ap (list_map (λ (row : (Bssid × Addr) × Station). row.0.1)) (none_passes p (map.entries s.stations)

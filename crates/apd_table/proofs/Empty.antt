@@ -1,24 +1,8 @@
 -- The state without rows is sound.
 use Rattle.std.proofs.Common.{◌≡◌, ℕ, ◌≤◌, Bool, false, None, sym, ap, ◌∙◌, arith}
-use Rattle.std.specs.Option.{is_some}
-use Rattle.std.specs.Ordering.{eq_by_cmp}
-use Rattle.std.specs.Cmp.{IsTotalOrder}
-use Rattle.std.specs.declared.cmp.Ordering.{Ordering}
+use Rattle.apd_table.proofs.Words.{Addr, Bssid, IsAntisymmetric, IsTotalOrder, Ordering, Policy, Sound, Station, StationNumber, Which, aid_at, aid_of, bssid_cmp, differ, empty_state, eq_by_cmp, get-empty, is_row_of, is_some, len-empty, list_cmp, list_exact, list_total, none_is, none_is_some, station_at, station_cmp, station_exact, station_total}
 use Rattle.std.specs.FinMap as map
-use Rattle.std.specs.FinMap.{IsAntisymmetric, get-empty, len-empty}
 use Rattle.apd_base.specs.Sets as set
-use Rattle.apd_base.specs.declared.address.Addr.{Addr}
-use Rattle.apd_base.specs.declared.address.Bssid.{Bssid}
-use Rattle.apd_base.specs.declared.station.Station.{Station}
-use Rattle.apd_base.specs.declared.station.StationNumber.{StationNumber}
-use Rattle.apd_base.specs.declared.station.Which.{Which}
-use Rattle.apd_base.specs.declared.station.Policy.{Policy}
-use Rattle.apd_base.specs.Addr.{station_cmp, bssid_cmp}
-use Rattle.apd_base.proofs.AddrLemmas.{station_total, station_exact}
-use Rattle.apd_base.proofs.StateLemmas.{list_total, list_exact}
-use Rattle.apd_base.specs.State.{empty_state, station_at, aid_of, aid_at, list_cmp, is_row_of}
-use Rattle.apd_table.specs.Sound.{Sound}
-use Rattle.apd_base.proofs.Cases.{differ, none_is, none_is_some}
 use Rattle.apd_table.proofs.Parts.{part_kept, part_len}
 
 -- a part of nothing has nothing

@@ -1,24 +1,12 @@
 -- The first row of a BSSID among rows in order is that of its least address, and the first row above a station,
 -- where it is one of the BSSID, that of its least address above.
 use Rattle.std.proofs.Common.{◌≡◌, ◌≢◌, true, false, cond, List, [], ◌∷◌, Option, Some, None, MatchOption, IsSome, IfSome, IfNone, refl, sym, ap, subst, ◌∙◌, T, filter}
-use Rattle.std.specs.List.{slice_get}
-use Rattle.std.specs.Option.{option_map}
-use Rattle.std.specs.declared.cmp.Ordering.{Ordering}
-use Rattle.std.specs.declared.cmp.Ordering.TheVariants.{Less, Equal, Greater}
-use Rattle.std.specs.Ordering.{eq_by_cmp, is_eq, ordering_then, ordering_reverse}
-use Rattle.std.specs.Cmp.{tied_itself}
+use Rattle.apd_table.proofs.Words.{Addr, Bssid, Equal, Greater, IsAbove, IsLeast, Less, NoneAbove, Ordering, Station, addr_cmp, address_and_station, bssid_cmp, bssid_total, eq_by_cmp, found_head, from_sorted, get-from_sorted, head_least, if_row_of, is_eq, is_some_of, is_sorted, is_sorted_tail, option_map, ordering_reverse, ordering_then, same_bssid, slice_get, station_cmp, station_exact, station_total, tied_itself}
 use Rattle.std.specs.FinMap as map
-use Rattle.std.specs.FinMap.{find, is_sorted, from_sorted, get-from_sorted}
-use Rattle.apd_base.specs.declared.address.Addr.{Addr}
-use Rattle.apd_base.specs.declared.address.Bssid.{Bssid}
-use Rattle.apd_base.specs.declared.station.Station.{Station}
-use Rattle.apd_base.specs.Addr.{addr_cmp, bssid_cmp, station_cmp}
-use Rattle.apd_base.proofs.AddrLemmas.{bssid_total, station_total, station_exact, same_bssid}
-use Rattle.apd_base.proofs.RowsLemmas.{is_sorted_tail}
-use Rattle.apd_acl.specs.Least.{IsLeast, IsLeastAbove}
-use Rattle.apd_acl.proofs.Above.{found_head, head_least, IsAbove, NoneAbove}
-use Rattle.apd_table.specs.Rows.{is_row_of, if_row_of, address_and_station}
-use Rattle.apd_base.proofs.Cases.{value_of, is_some_of}
+use Rattle.std.specs.FinMap.{find}
+use Rattle.apd_acl.specs.Least.{IsLeastAbove}
+use Rattle.apd_table.specs.Rows.{is_row_of}
+use Rattle.apd_base.proofs.Cases.{value_of}
 
 abbrev pub Row : Type 0
 Row = (Bssid × Addr) × Station

@@ -1,14 +1,7 @@
 -- What marks on a BSSID's identifiers, as the places of words are, say of the state.
 use Rattle.std.proofs.Common.{◌≡◌, ℕ, ◌<◌, ◌↔◌, Bool, Option, Some, None, ◌⊎◌, inl, inr, IsTrue, IfSome, IfNone, sym, ap, subst, ◌∙◌, arith}
-use Rattle.std.specs.Option.{is_some}
-use Rattle.apd_base.specs.declared.address.Addr.{Addr}
-use Rattle.apd_base.specs.declared.address.Bssid.{Bssid}
-use Rattle.apd_base.proofs.Cases.{differ, no_value}
-use Rattle.apd_base.specs.State.{State, cursor_at, policy_at, station_at}
+use Rattle.apd_table.proofs.Words.{Addr, AreMarkedAbove, AreTakenAbove, Bssid, IsLeastFreeAbove, IsLeastUnmarked, IsNextFree, IsTaken, Sound, State, cursor_at, differ, is_some, last_given, no_value, number_or_0, policy_at, station_at}
 use Rattle.apd_table.proofs.MembersLemmas.{none_taken, small, without_policy}
-use Rattle.apd_table.specs.LeastFree.{AreTakenAbove, IsLeastFreeAbove, IsNextFree, IsTaken, last_given, number_or_0}
-use Rattle.apd_table.specs.Rows.{AreMarkedAbove, IsLeastUnmarked}
-use Rattle.apd_table.specs.Sound.{Sound}
 
 -- exactly those are marked that a station has
 module _ (s : State) (b : Bssid) (marked : ℕ → Bool) (are : (j : ℕ) → j < 2048 → IsTrue (marked j) ↔ IsTaken s b j) where

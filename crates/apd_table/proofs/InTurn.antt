@@ -2,16 +2,7 @@
 use Rattle.std.proofs.Common.{◌≡◌, ℕ, ◌+◌, ◌<◌, List, [], ◌∷◌, Some, inl, inr, length, drop, get_or, sym, ap, ◌∙◌, add-one}
 use Rattle.std.proofs.Math.Seq.{drop-cons}
 use Rattle.std.specs.FinMap as map
-use Rattle.std.specs.FinMap.{same_map}
-use Rattle.apd_base.specs.declared.address.Addr.{Addr}
-use Rattle.apd_base.specs.declared.address.Bssid.{Bssid}
-use Rattle.apd_base.specs.declared.station.Station.{Station}
-use Rattle.apd_base.proofs.AddrLemmas.{station_total, station_exact}
-use Rattle.apd_base.proofs.MapLemmas.{one_or_apart, get_inserted, get_insert_other}
-use Rattle.apd_base.specs.State.{State, station_at}
-use Rattle.apd_record.specs.declared.change.Change.{Change}
-use Rattle.apd_record.specs.Meaning.{put_station}
-use Rattle.apd_table.specs.Sound.{Sound, StaySound}
+use Rattle.apd_table.proofs.Words.{Addr, Bssid, Change, Sound, State, Station, StaySound, get_insert_other, get_inserted, one_or_apart, put_station, same_map, station_at, station_exact, station_total}
 
 pub stay_first : (changes : List Change) (s : State) → StaySound changes s → Sound s
 stay_first [] s h = h

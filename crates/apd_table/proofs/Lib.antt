@@ -26,3 +26,4 @@ mod RowChanges
 pub mod SameRows
 pub mod SnapshotSize
 mod StationRows
+mod Words

@@ -1,23 +1,7 @@
 -- When a state stays sound as its lists change.
 use Rattle.std.proofs.Common.{◌≡◌, ◌+◌, ◌≤◌, ◌<◌, true, false, cond, not, ◌&&◌, ◌||◌, ◌⊎◌, IsSome, IsTrue, inl, inr, refl, sym, ap, subst, ◌∙◌}
-use Rattle.std.specs.Ordering.{eq_by_cmp}
+use Rattle.apd_table.proofs.Words.{Accept, Addr, Bssid, CanAdd, Deny, IsListed, ListClear, ListDel, NoneDeniedAfter, SetOf, Sound, State, Which, add_to_list, allowed, bssid_cmp, bssid_exact, bssid_total, clear_list, contains, eq_by_cmp, is_allowed_by, is_row_of, len-insert, list_cmp, list_count, list_exact, list_total, one_or_apart, policy_at, retain_keys-insert_in, retain_keys-insert_out, station_at, take_from_list, tied, which_exact, which_total}
 use Rattle.std.specs.FinMap as map
-use Rattle.std.specs.FinMap.{len-insert}
-use Rattle.apd_base.specs.Sets.{SetOf, contains}
-use Rattle.apd_base.specs.Addr.{bssid_cmp}
-use Rattle.apd_base.specs.State.{State, station_at, policy_at, list_cmp, is_row_of, list_count, IsListed}
-use Rattle.apd_base.specs.declared.address.Addr.{Addr}
-use Rattle.apd_base.specs.declared.address.Bssid.{Bssid}
-use Rattle.apd_base.specs.declared.station.Which.{Which}
-use Rattle.apd_base.specs.declared.station.Which.TheVariants.{Accept, Deny}
-use Rattle.apd_base.proofs.AddrLemmas.{bssid_total, bssid_exact}
-use Rattle.apd_base.proofs.MapLemmas.{one_or_apart, tied, retain_keys-insert_in, retain_keys-insert_out}
-use Rattle.apd_base.proofs.StateLemmas.{which_total, which_exact, list_total, list_exact}
-use Rattle.apd_record.specs.Meaning.{add_to_list, take_from_list, clear_list}
-use Rattle.apd_record.specs.declared.change.Change.TheVariants.{ListDel, ListClear}
-use Rattle.apd_table.specs.Allowed.{allowed, allowed_by}
-use Rattle.apd_table.specs.Can.{NoneDeniedAfter, CanAdd}
-use Rattle.apd_table.specs.Sound.{Sound}
 use Rattle.apd_table.proofs.ListCounts.{row_is_of}
 use Rattle.apd_table.proofs.ListSets.{contains-insert, contains-retain_keys, insert_elsewhere, remove_elsewhere, clear_elsewhere}
 use Rattle.apd_table.proofs.Rooms.{room_after, room_before}
@@ -37,7 +21,7 @@ module _ (s : State) (l : SetOf list_cmp) (b : Bssid) (sound : Sound s) where
   pub none_denied : Elsewhere → NoneDeniedHere → (c : Bssid) (d : Addr) → IsSome (station_at s c d) → IsTrue (allowed changed c d)
   none_denied elsewhere none c d h = elim (one_or_apart bssid_total bssid_exact c b) [
     | inl e ↦ subst (λ x. IsTrue (allowed changed x d)) (sym e) (none d (subst (λ x. IsSome (station_at s x d)) e h))
-    | inr apart ↦ (λ i. allowed_by (policy_at s c) (elsewhere c apart Accept d i) (elsewhere c apart Deny d i)) ∙ sound.none_denied c d h
+    | inr apart ↦ (λ i. is_allowed_by (policy_at s c) (elsewhere c apart Accept d i) (elsewhere c apart Deny d i)) ∙ sound.none_denied c d h
   ]
 
   -- those that are left of a list

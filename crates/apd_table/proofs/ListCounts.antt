@@ -1,24 +1,10 @@
 -- How many addresses the list of a BSSID has, counted in the list rows of a state.
 use Rattle.std.proofs.Common.{◌≡◌, suc, ◌≤◌, Bool, true, false, cond, ◌&&◌, List, [], ◌∷◌, map as list_map, filter, Some, None, length, inl, inr, refl, sym, ap, subst, ◌∙◌, T}
-use Rattle.std.specs.Option.{is_some}
-use Rattle.std.specs.Ordering.{eq_by_cmp, is_lt, ordering_then}
-use Rattle.std.specs.Cmp.{tied_itself}
+use Rattle.apd_table.proofs.Words.{Addr, Bssid, SetOf, Which, addr_cmp, and_parts, apart, below_all, bssid_cmp, bssid_exact, bssid_total, contains, differ, entries-from_sorted, entries_sorted, eq_by_cmp, from_sorted, get-entries, get-from_sorted, is_lt, is_row_of, is_some, is_sorted, len-entries, list_cmp, list_exact, list_total, one_or_apart, ordering_then, tied, tied_itself, which_cmp, which_exact, which_total}
 use Rattle.std.specs.FinMap as map
-use Rattle.std.specs.FinMap.{find, is_sorted, from_sorted, entries, entries_sorted, get-entries, get-from_sorted, entries-from_sorted, len-entries}
-use Rattle.std.specs.FinMap.Entries.{below_all}
-use Rattle.apd_base.specs.Sets.{SetOf, contains}
-use Rattle.apd_base.specs.Addr.{addr_cmp, bssid_cmp}
-use Rattle.apd_base.specs.State.{list_cmp, which_cmp, is_row_of}
-use Rattle.apd_base.specs.declared.address.Addr.{Addr}
-use Rattle.apd_base.specs.declared.address.Bssid.{Bssid}
-use Rattle.apd_base.specs.declared.station.Which.{Which}
-use Rattle.apd_base.proofs.AddrLemmas.{bssid_total, bssid_exact}
-use Rattle.apd_base.proofs.MapLemmas.{one_or_apart, apart, tied}
-use Rattle.apd_base.proofs.StateLemmas.{which_total, which_exact, list_total, list_exact}
-use Rattle.std.proofs.lemmas.Bool.{and_parts}
+use Rattle.std.specs.FinMap.{find, entries}
 use Rattle.std.proofs.lemmas.List.Sums.{length-filter, count_by-le-length}
 use Rattle.apd_table.proofs.ListSets.{same_set, same_row, contains-retain_keys}
-use Rattle.apd_base.proofs.Cases.{differ}
 
 -- of no other list
 abbrev pub IsOf : Bssid → Which → Bssid × Which × Addr → Type 0

@@ -1,23 +1,7 @@
 -- List rows as a set: what an address more, an address less and an empty list make of it.
 use Rattle.std.proofs.Common.{◌≡◌, Bool, true, false, cond, not, ◌&&◌, ◌||◌, Option, Some, None, refl, sym, ap, ◌∙◌}
-use Rattle.std.specs.Option.{is_some}
-use Rattle.std.specs.declared.cmp.Ordering.{Ordering}
-use Rattle.std.specs.Ordering.{eq_by_cmp}
-use Rattle.std.specs.Cmp.{IsTotalOrder, eq_by_cmp_equiv}
+use Rattle.apd_table.proofs.Words.{Accept, Addr, Bssid, Deny, FinMap, IsAntisymmetric, IsTotalOrder, Lists, Ordering, SetOf, Which, addr_cmp, addr_exact, addr_total, bssid_cmp, bssid_exact, bssid_total, contains, eq_by_cmp, eq_by_cmp_equiv, get-empty, get-insert, get-remove, get-retain_keys, has, is_row_of, is_some, list_cmp, list_exact, list_total, same_map, tied, which_cmp, with_address, without_address, without_addresses}
 use Rattle.std.specs.FinMap as map
-use Rattle.std.specs.FinMap.{FinMap, IsAntisymmetric, get-empty, get-insert, get-remove, get-retain_keys, same_map}
-use Rattle.apd_base.specs.Sets.{SetOf, contains}
-use Rattle.apd_base.specs.Addr.{addr_cmp, bssid_cmp}
-use Rattle.apd_base.specs.State.{list_cmp, which_cmp, is_row_of}
-use Rattle.apd_base.specs.declared.address.Addr.{Addr}
-use Rattle.apd_base.specs.declared.address.Bssid.{Bssid}
-use Rattle.apd_base.specs.declared.station.Which.{Which}
-use Rattle.apd_base.specs.declared.station.Which.TheVariants.{Accept, Deny}
-use Rattle.apd_base.proofs.AddrLemmas.{addr_total, addr_exact, bssid_total, bssid_exact}
-use Rattle.apd_base.proofs.MapLemmas.{tied}
-use Rattle.apd_base.proofs.StateLemmas.{list_total, list_exact}
-use Rattle.apd_acl.specs.Lists.{has, added, removed, cleared}
-use Rattle.apd_acl.specs.declared.lists.Lists.{Lists}
 use Rattle.apd_table.proofs.Denied.{one_key}
 
 some_or : {X : Type 0} (t : Bool) (x : X) (o : Option X) → is_some (cond t (Some x) o) ≡ (t || is_some o)
@@ -104,19 +88,19 @@ module _ (s : SetOf list_cmp) (b : Bssid) (w : Which) where
 
 -- the same of a BSSID's own lists
 module _ (lists : Lists) (a d : Addr) where
-  pub has_added : (w v : Which) → has (added lists w a) v d ≡ ((eq_by_cmp which_cmp v w && eq_by_cmp addr_cmp d a) || has lists v d)
+  pub has_added : (w v : Which) → has (with_address lists w a) v d ≡ ((eq_by_cmp which_cmp v w && eq_by_cmp addr_cmp d a) || has lists v d)
   has_added Accept Accept = contains-insert addr_total addr_exact _ a d
   has_added Accept Deny = refl
   has_added Deny Accept = refl
   has_added Deny Deny = contains-insert addr_total addr_exact _ a d
 
-  pub has_removed : (w v : Which) → has (removed lists w a) v d ≡ (not (eq_by_cmp which_cmp v w && eq_by_cmp addr_cmp d a) && has lists v d)
+  pub has_removed : (w v : Which) → has (without_address lists w a) v d ≡ (not (eq_by_cmp which_cmp v w && eq_by_cmp addr_cmp d a) && has lists v d)
   has_removed Accept Accept = contains-remove addr_total addr_exact _ a d
   has_removed Accept Deny = refl
   has_removed Deny Accept = refl
   has_removed Deny Deny = contains-remove addr_total addr_exact _ a d
 
-pub has_cleared : (lists : Lists) (w v : Which) (d : Addr) → has (cleared lists w) v d ≡ (not (eq_by_cmp which_cmp w v) && has lists v d)
+pub has_cleared : (lists : Lists) (w v : Which) (d : Addr) → has (without_addresses lists w) v d ≡ (not (eq_by_cmp which_cmp w v) && has lists v d)
 has_cleared lists Accept Accept d = ap is_some (get-empty addr_cmp d)
 has_cleared lists Accept Deny d = refl
 has_cleared lists Deny Accept d = refl

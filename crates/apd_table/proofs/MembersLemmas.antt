@@ -1,30 +1,10 @@
 -- What is kept of the stations of each BSSID stays true of them.
 use Rattle.std.proofs.Common.{◌≡◌, ◌≢◌, ℕ, ◌<◌, ◌≤◌, Bool, true, false, cond, List, length, replicate, Option, Some, None, IfSome, inl, inr, refl, sym, ap, subst, ◌∙◌, arith, ◌+◌, ◌-◌}
 use Rattle.std.specs.FinMap as map
-use Rattle.std.specs.FinMap.{FinMap, IsAntisymmetric, get-retain_keys, len-empty, len-remove}
-use Rattle.std.specs.Cmp.{IsTotalOrder}
-use Rattle.std.specs.Option.{is_some, option_map}
-use Rattle.std.proofs.lemmas.Bool.{false_from_ne_true}
-use Rattle.std.specs.Ordering.{eq_by_cmp}
-use Rattle.std.specs.declared.cmp.Ordering.{Ordering}
-use Rattle.apd_base.proofs.AddrLemmas.{addr_total, addr_exact, bssid_total, bssid_exact, same_bssid, station_total, station_exact}
-use Rattle.apd_base.proofs.Cases.{differ, is_some_of, no_value, none_is, none_is_some, same_some}
-use Rattle.apd_base.proofs.MapLemmas.{one_or_apart, apart, tied, get_inserted, get_insert_other, get_removed, get_remove_other, retain_keys-remove}
-use Rattle.apd_base.specs.Addr.{addr_cmp, bssid_cmp, station_cmp}
-use Rattle.apd_base.specs.declared.address.Addr.{Addr}
-use Rattle.apd_base.specs.declared.address.Bssid.{Bssid}
-use Rattle.apd_base.specs.declared.station.Policy.{Policy}
-use Rattle.apd_base.specs.declared.station.Station.{Station}
-use Rattle.apd_base.specs.State.{State, aid_of, aid_at, station_at, policy_at, count, stations_of}
-use Rattle.apd_record.specs.Meaning.{put_station, drop_station}
+use Rattle.apd_table.proofs.Words.{Addr, AreMembers, Bssid, FinMap, IsAntisymmetric, IsMembers, IsTaken, IsTotalOrder, Members, Ordering, Policy, Sound, State, Station, addr_cmp, addr_exact, addr_total, after_row, aid_at, aid_of, apart, bssid_cmp, bssid_exact, bssid_total, count, count_after, differ, drop_station, eq_by_cmp, false_from_ne_true, get-retain_keys, get_insert_other, get_inserted, get_remove_other, get_removed, is_set, is_some, is_some_of, len-empty, len-remove, members_after, members_under, no_members, no_value, none_is, none_is_some, one_or_apart, option_map, policy_at, put_after, put_station, retain_keys-remove, same_bssid, same_some, station_at, station_cmp, station_exact, station_total, stations_of, tied, with_aid, without_aid}
 use Rattle.apd_table.proofs.Places.{ArePlaces, HasPlace, places_of, words_of, many_with, many_without, with_is, without_is, none_set}
 use Rattle.apd_table.proofs.Parts.{part_len, part_passes}
 use Rattle.apd_table.proofs.Put.{aid_range, put_here, count_put_in, count_put_out, is_some_there}
-use Rattle.apd_table.specs.fields.BssRows.{joined}
-use Rattle.apd_table.specs.LeastFree.{IsTaken}
-use Rattle.apd_table.specs.fields.Members.{AreMembers, IsMembers, after_row, counted, members_after, no_members, put_after, with_aid, without_aid, is_set}
-use Rattle.apd_table.specs.Sound.{Sound}
-use Rattle.apd_table.specs.declared.members.Members.{Members}
 
 unlike : {K : Type 0} {R : K → K → Ordering} (o : IsTotalOrder R) (exact : IsAntisymmetric R) (q k : K) → eq_by_cmp R q k ≡ false → q ≢ k
 unlike {R = R} o exact q k f e = differ _ f (ap (λ x. eq_by_cmp R x k) e ∙ tied o exact k)
@@ -33,14 +13,14 @@ unlike {R = R} o exact q k f e = differ _ f (ap (λ x. eq_by_cmp R x k) e ∙ ti
 pub record IsRowChange (s new : State) (b : Bssid) (a : Addr) (row : Option Station) : Type 0 where
   pub here : station_at new b a ≡ row
   pub elsewhere : (c : Bssid) (d : Addr) → ◌≢◌ {A = Bssid × Addr} (c, d) (b, a) → station_at new c d ≡ station_at s c d
-  pub count_here : count new b ≡ counted (is_some (station_at s b a)) (is_some row) (count s b)
+  pub count_here : count new b ≡ count_after (is_some (station_at s b a)) (is_some row) (count s b)
   pub count_elsewhere : (c : Bssid) → eq_by_cmp bssid_cmp c b ≡ false → count new c ≡ count s c
 
-put_counted : (t : Bool) (n : ℕ) → cond t n (n + 1) ≡ counted t true n
+put_counted : (t : Bool) (n : ℕ) → cond t n (n + 1) ≡ count_after t true n
 put_counted true n = refl
 put_counted false n = refl
 
-drop_counted : (t : Bool) (n : ℕ) → cond t (n - 1) n ≡ counted t false n
+drop_counted : (t : Bool) (n : ℕ) → cond t (n - 1) n ≡ count_after t false n
 drop_counted true n = refl
 drop_counted false n = refl
 
@@ -129,7 +109,7 @@ module _ (s new : State) (sound : Sound s) (b : Bssid) (a : Addr) (row : Option 
 
   pub members_here : (x : Members) → IsMembers s b x → IsMembers new b (members_after old row x)
   members_here x is = record {
-    count = ap (counted (is_some old) (is_some row)) is.count ∙ sym change.count_here;
+    count = ap (count_after (is_some old) (is_some row)) is.count ∙ sym change.count_here;
     many = many_with (without_aid (aid_of old) x.words) (many_without x.words is.many (aid_of old)) (aid_of row);
     words = words_of new b _ (places_after x.words is.many (places_of s b x.words is.words));
   }
@@ -209,7 +189,7 @@ without_policy s b sound absent a =
     no_value (station_at s b a) (false_from_ne_true (is_some (station_at s b a)) (λ known. none_is (policy_at s b) absent (sound.stations_have_policy b a known)))
 
 -- what is kept once a BSSID has a policy
-pub members_joined : (s : State) (sound : Sound s) (b : Bssid) (m : FinMap bssid_cmp Members) (o : Option Policy) → policy_at s b ≡ o → AreMembers s m → AreMembers s (joined o m b)
+pub members_joined : (s : State) (sound : Sound s) (b : Bssid) (m : FinMap bssid_cmp Members) (o : Option Policy) → policy_at s b ≡ o → AreMembers s m → AreMembers s (members_under o m b)
 members_joined s sound b m (Some policy) e are = are
 members_joined s sound b m None e are = λ c x got.
     elim (one_or_apart bssid_total bssid_exact c b) [

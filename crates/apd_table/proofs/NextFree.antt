@@ -1,21 +1,12 @@
 -- An identifier is next exactly where one is free, and it is the only one that is.
 use Rattle.std.proofs.Common.{◌≡◌, eq-eqb, ℕ, zero, suc, ◌<◌, ◌≤◌, ◌↔◌, Bool, true, false, Option, Some, None, ◌⊎◌, inl, inr, refl, ap, ◌∙◌, IsTrue, arith}
-use Rattle.std.proofs.lemmas.Bool.{cases_lt, eqb-true}
-use Rattle.std.proofs.lemmas.List.Folds.{Any-from_list_any}
+use Rattle.apd_table.proofs.Words.{Any-from_list_any, AreMarkedAbove, AreTakenAbove, Bssid, IsFree, IsLeastFreeAbove, IsLeastUnmarked, IsNextFree, IsTaken, State, addresses_at, aid_at, cases_lt, eqb-true, is_some, last_given, list_any, station_at, station_of_aid}
 use Rattle.std.proofs.Math.Nat.{eq-or-lt_of_le}
-use Rattle.std.specs.List.{list_any}
-use Rattle.std.specs.Option.{is_some}
 use Rattle.std.specs.Prelude.{◌==◌}
 use Rattle.apd_base.proofs.Cases.{value_of}
-use Rattle.apd_base.proofs.StateLemmas.{station_of_aid}
-use Rattle.apd_base.specs.declared.address.Bssid.{Bssid}
 use Rattle.apd_base.specs.declared.limits.TheConstants.{MAX_STATIONS}
-use Rattle.apd_base.specs.State.{State, aid_at, station_at}
 use Rattle.apd_table.proofs.AllRows.{any_address}
 use Rattle.apd_table.proofs.Identifiers.{least_above, taken_above}
-use Rattle.apd_table.specs.Addresses.{addresses_at}
-use Rattle.apd_table.specs.LeastFree.{AreTakenAbove, IsFree, IsLeastFreeAbove, IsNextFree, IsTaken, last_given}
-use Rattle.apd_table.specs.Rows.{AreMarkedAbove, IsLeastUnmarked}
 
 -- ---- the first number above one that is not marked
 

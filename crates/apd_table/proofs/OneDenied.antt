@@ -1,36 +1,10 @@
 -- Who is denied once one address is added to a list or taken out of one: in a sound state that address alone.
 use Rattle.std.proofs.Common.{◌≡◌, ◌↔◌, Bool, true, false, cond, not, ◌&&◌, ◌||◌, List, [], ◌∷◌, map as list_map, filter, Option, Some, None, inl, inr, refl, sym, ap, ◌∙◌, T}
-use Rattle.std.proofs.lemmas.Bool.{and_parts, false_from_ne_true}
-use Rattle.std.specs.List.{list_any}
-use Rattle.std.specs.Option.{is_some}
-use Rattle.std.specs.Ordering.{eq_by_cmp}
+use Rattle.apd_table.proofs.Words.{Accept, Addr, Bssid, Change, Cursor, Deny, Drop, ListAdd, ListClear, ListDel, Lists, NoneDeniedAfter, Policy, Put, Sound, State, Station, Which, addr_cmp, addr_exact, addr_total, allowed, and_parts, any_passes, bssid_cmp, bssid_exact, bssid_total, contains, differ, eq_by_cmp, false_from_ne_true, found_head, has, has_after, is_address_denied_after, is_allowed, is_allowed_under, is_denied_after, is_list_row, is_some, is_some_of, is_sorted, is_sorted_tail, list_any, listed_address, meaning, not_yes, one_or_apart, policy_after, policy_at, same_bssid, second_false, station_at, station_cmp, station_exact, station_total, tied, tied_not_below}
 use Rattle.std.specs.FinMap as map
-use Rattle.std.specs.FinMap.{find, is_sorted}
-use Rattle.apd_base.specs.Addr.{addr_cmp, bssid_cmp, station_cmp}
-use Rattle.apd_base.specs.Sets.{contains}
-use Rattle.apd_base.specs.State.{State, policy_at, station_at}
-use Rattle.apd_base.specs.declared.address.Addr.{Addr}
-use Rattle.apd_base.specs.declared.address.Bssid.{Bssid}
-use Rattle.apd_base.specs.declared.station.Policy.{Policy}
-use Rattle.apd_base.specs.declared.station.Station.{Station}
-use Rattle.apd_base.specs.declared.station.Which.{Which}
-use Rattle.apd_base.specs.declared.station.Which.TheVariants.{Accept, Deny}
-use Rattle.apd_base.proofs.AddrLemmas.{addr_total, addr_exact, bssid_total, bssid_exact, station_total, station_exact, same_bssid}
-use Rattle.apd_base.proofs.Cases.{differ, not_yes, is_some_of, second_false}
-use Rattle.apd_base.proofs.MapLemmas.{one_or_apart, tied, any_passes}
-use Rattle.apd_base.proofs.RowsLemmas.{is_sorted_tail, tied_not_below}
-use Rattle.apd_acl.specs.Lists.{has}
-use Rattle.apd_acl.specs.Policy.{is_allowed}
-use Rattle.apd_acl.specs.declared.lists.Lists.{Lists}
-use Rattle.apd_acl.proofs.Above.{found_head}
-use Rattle.apd_record.specs.Meaning.{meaning}
-use Rattle.apd_record.specs.declared.change.Change.{Change}
-use Rattle.apd_record.specs.declared.change.Change.TheVariants.{Put, Drop, ListAdd, ListDel, ListClear, Policy as SetPolicy, Cursor}
-use Rattle.apd_table.specs.Addresses.{has_after, is_list_row, listed_address, policy_after, is_address_denied_after, is_denied_after}
-use Rattle.apd_table.specs.Allowed.{allowed, allowed_under}
-use Rattle.apd_table.specs.Can.{NoneDeniedAfter}
+use Rattle.std.specs.FinMap.{find}
+use Rattle.apd_record.specs.declared.change.Change.TheVariants.{Policy as SetPolicy}
 use Rattle.apd_table.specs.Rows.{is_row_of}
-use Rattle.apd_table.specs.Sound.{Sound}
 use Rattle.apd_table.proofs.AllRows.{allowed_after}
 use Rattle.apd_table.proofs.DeniedRows.{all_pass_iff, none_passes}
 use Rattle.apd_table.proofs.StationRows.{Row}
@@ -132,7 +106,7 @@ module _ (s : State) (b : Bssid) (sound : Sound s) (policy : Policy) (at_b : Som
         | inr apart ↦
             let row : station_at s b q.1 ≡ Some v = ap (λ c. station_at s c q.1) bssid ∙ map.get-entries s.stations q ∙ f in
             let now : is_allowed policy.mode (has lists Accept q.1) (has lists Deny q.1) ≡ true =
-            (λ i. is_allowed policy.mode (same Accept q.1 i) (same Deny q.1 i)) ∙ ap (allowed_under s b q.1) at_b ∙ sound.none_denied b q.1 (is_some_of _ v row) in
+            (λ i. is_allowed policy.mode (same Accept q.1 i) (same Deny q.1 i)) ∙ ap (is_allowed_under s b q.1) at_b ∙ sound.none_denied b q.1 (is_some_of _ v row) in
             let after : is_allowed policy.mode (has_after lists b change Accept q.1) (has_after lists b change Deny q.1) ≡ false = not_yes _ parts.1 in
             differ _ after ((λ i. is_allowed policy.mode (kept_lists lists b change d is Accept q.1 apart i) (kept_lists lists b change d is Deny q.1 apart i)) ∙ now)
       ]

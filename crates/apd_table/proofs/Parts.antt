@@ -1,24 +1,9 @@
 -- A part of a sound state is sound, where each of its rows has what it needs.
 use Rattle.std.proofs.Common.{◌≡◌, ℕ, ◌-◌, ◌≤◌, Bool, true, false, cond, List, [], ◌∷◌, length, Option, Some, None, IsSome, IsTrue, inl, inr, refl, sym, ap, subst, ◌∙◌, T, arith}
-use Rattle.std.specs.Option.{is_some}
-use Rattle.std.specs.Ordering.{eq_by_cmp}
-use Rattle.std.specs.Cmp.{IsTotalOrder}
-use Rattle.std.specs.declared.cmp.Ordering.{Ordering}
+use Rattle.apd_table.proofs.Words.{Addr, Bssid, FinMap, IsAntisymmetric, IsListed, IsTotalOrder, Ordering, Sound, State, Which, aid_at, aid_of, allowed, bssid_cmp, bssid_exact, bssid_total, cursor_at, drop_station, entries_sorted, eq_by_cmp, get-empty, get-entries, get-remove, get-retain_keys, get_insert_other, get_inserted, get_remove_other, is_row_of, is_some, is_some_of, is_sorted, is_sorted_tail, len-entries, len-remove, list_exact, list_total, none_is, none_is_some, one_or_apart, policy_at, station_at, station_exact, station_of_aid, station_total, tied, tied_not_below}
 use Rattle.std.specs.FinMap as map
-use Rattle.std.specs.FinMap.{FinMap, IsAntisymmetric, find, is_sorted, entries, entries_sorted, get-entries, get-empty, get-remove, get-retain_keys, len-entries, len-remove}
-use Rattle.apd_base.specs.declared.address.Addr.{Addr}
-use Rattle.apd_base.specs.declared.address.Bssid.{Bssid}
-use Rattle.apd_base.specs.declared.station.Which.{Which}
-use Rattle.apd_base.specs.Addr.{bssid_cmp}
-use Rattle.apd_base.specs.State.{State, station_at, policy_at, cursor_at, aid_of, aid_at, IsListed, is_row_of}
-use Rattle.apd_base.proofs.AddrLemmas.{bssid_total, bssid_exact, station_total, station_exact}
-use Rattle.apd_base.proofs.Cases.{value_of, is_some_of, none_is, none_is_some}
-use Rattle.apd_base.proofs.MapLemmas.{one_or_apart, tied, get_inserted, get_insert_other, get_remove_other}
-use Rattle.apd_base.proofs.RowsLemmas.{is_sorted_tail, tied_not_below}
-use Rattle.apd_base.proofs.StateLemmas.{list_total, list_exact, station_of_aid}
-use Rattle.apd_record.specs.Meaning.{drop_station}
-use Rattle.apd_table.specs.Allowed.{allowed}
-use Rattle.apd_table.specs.Sound.{Sound}
+use Rattle.std.specs.FinMap.{find, entries}
+use Rattle.apd_base.proofs.Cases.{value_of}
 
 module _ {K X : Type 0} {R : K → K → Ordering} (o : IsTotalOrder R) (exact : IsAntisymmetric R) where
   -- the entries of one are entries of the other

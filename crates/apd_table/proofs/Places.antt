@@ -1,16 +1,7 @@
 -- The places of identifiers in words: what setting or clearing one makes of all.
 use Rattle.std.proofs.Common.{◌≡◌, ◌≢◌, ℕ, ◌+◌, ◌-◌, ◌*◌, ◌/◌, ◌%◌, ◌^◌, ◌<◌, ◌≤◌, ◌↔◌, true, false, List, length, replicate, eqb, Option, Some, None, ◌⊎◌, inl, inr, IsTrue, IfSome, IfNone, refl, sym, ap, subst, ◌∙◌, arith, w64}
-use Rattle.std.proofs.lemmas.Bool.{cases_eq, cases_lt}
-use Rattle.std.proofs.lemmas.List.{get_or-replicate, get_or-set_same, get_or-set_other, length-set}
-use Rattle.std.proofs.lemmas.Nat.Bits.{bit_at-lt, bit_at-zero, bit_at_ones, bit_at_ones_above, bit_at_or, bit_at_set_same, bit_at_set_other, bit_at_clear_same, bit_at_clear_other, ones_shr}
-use Rattle.std.specs.Int.{bit_at, bit_not}
+use Rattle.apd_table.proofs.Words.{AreMarkedAbove, Bssid, IsFirstClear, IsLeastUnmarked, IsTaken, State, bit_at, bit_at-lt, bit_at-zero, bit_at_clear_other, bit_at_clear_same, bit_at_ones, bit_at_ones_above, bit_at_or, bit_at_set_other, bit_at_set_same, bit_not, cases_eq, cases_lt, differ, get_or-replicate, get_or-set_other, get_or-set_same, is_set, length-set, ones_shr, with_aid, with_place, without_aid, without_place}
 use Rattle.std.specs.Prelude.{bit_and, bit_or, slice_index, slice_set}
-use Rattle.apd_base.proofs.Cases.{differ}
-use Rattle.apd_base.specs.declared.address.Bssid.{Bssid}
-use Rattle.apd_base.specs.State.{State}
-use Rattle.apd_table.specs.LeastFree.{IsTaken}
-use Rattle.apd_table.specs.fields.Members.{IsFirstClear, is_set, with_place, without_place, with_aid, without_aid}
-use Rattle.apd_table.specs.Rows.{AreMarkedAbove, IsLeastUnmarked}
 use Rattle.apd_table.specs.Words.{has_bit, AreWords}
 
 -- ---- bits of words are places

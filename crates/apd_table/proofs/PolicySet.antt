@@ -1,20 +1,7 @@
 -- When a state stays sound as a BSSID's policy is set.
 use Rattle.std.proofs.Common.{◌≡◌, ◌+◌, false, cond, Some, inl, inr, sym, ap, subst, ◌∙◌, IsSome, IsTrue}
-use Rattle.std.specs.Option.{is_some}
-use Rattle.std.specs.Ordering.{eq_by_cmp}
+use Rattle.apd_table.proofs.Words.{Addr, Bssid, CanSet, Policy, Sound, State, allowed, bssid_cmp, bssid_exact, bssid_total, eq_by_cmp, get_insert_other, get_inserted, is_allowed_under, is_some, len-insert, one_or_apart, policy_at, set_policy, station_at}
 use Rattle.std.specs.FinMap as map
-use Rattle.std.specs.FinMap.{len-insert}
-use Rattle.apd_base.specs.declared.address.Addr.{Addr}
-use Rattle.apd_base.specs.declared.address.Bssid.{Bssid}
-use Rattle.apd_base.specs.declared.station.Policy.{Policy}
-use Rattle.apd_base.specs.Addr.{bssid_cmp}
-use Rattle.apd_base.proofs.AddrLemmas.{bssid_total, bssid_exact}
-use Rattle.apd_base.proofs.MapLemmas.{one_or_apart, get_inserted, get_insert_other}
-use Rattle.apd_base.specs.State.{State, station_at, policy_at}
-use Rattle.apd_table.specs.Allowed.{allowed, allowed_under}
-use Rattle.apd_table.specs.Can.{CanSet}
-use Rattle.apd_record.specs.Meaning.{set_policy}
-use Rattle.apd_table.specs.Sound.{Sound}
 use Rattle.apd_table.proofs.Cursors.{cursors_set}
 use Rattle.apd_table.proofs.Rooms.{room_after, room_before}
 
@@ -36,7 +23,7 @@ module _ (s : State) (b : Bssid) (p : Policy) where
       ]
 
   allowed_elsewhere : (c : Bssid) (a : Addr) → eq_by_cmp bssid_cmp c b ≡ false → allowed new c a ≡ allowed s c a
-  allowed_elsewhere c a ne = ap (allowed_under s c a) (policy_elsewhere c ne)
+  allowed_elsewhere c a ne = ap (is_allowed_under s c a) (policy_elsewhere c ne)
 
   len_set : map.len new.policies ≡ cond (is_some (policy_at s b)) (map.len s.policies) (map.len s.policies + 1)
   len_set = len-insert bssid_total s.policies b p

@@ -1,21 +1,7 @@
 -- When a state stays sound as a station's row is put.
 use Rattle.std.proofs.Common.{◌≡◌, ℕ, ◌+◌, ◌≤◌, false, cond, Option, Some, None, ◌⊎◌, inl, inr, refl, sym, ap, subst, ◌∙◌, IsSome, IfSome, IsTrue}
-use Rattle.std.specs.Option.{is_some}
-use Rattle.std.specs.Ordering.{eq_by_cmp}
+use Rattle.apd_table.proofs.Words.{Addr, Associated, Authenticated, Bssid, CanPut, MayHave, Sound, State, Station, aid_at, aid_of, allowed, bssid_cmp, bssid_exact, bssid_total, count, eq_by_cmp, get-retain_keys, get_insert_other, get_inserted, is_some, len-insert, one_or_apart, policy_at, put_station, retain_keys-insert_in, retain_keys-insert_out, station_at, station_exact, station_total, stations_of, tied}
 use Rattle.std.specs.FinMap as map
-use Rattle.std.specs.FinMap.{len-insert, get-retain_keys}
-use Rattle.apd_base.specs.declared.address.Addr.{Addr}
-use Rattle.apd_base.specs.declared.address.Bssid.{Bssid}
-use Rattle.apd_base.specs.declared.station.Station.{Station}
-use Rattle.apd_base.specs.Addr.{bssid_cmp}
-use Rattle.apd_base.proofs.AddrLemmas.{station_total, station_exact, bssid_total, bssid_exact}
-use Rattle.apd_base.proofs.MapLemmas.{one_or_apart, tied, get_inserted, get_insert_other, retain_keys-insert_in, retain_keys-insert_out}
-use Rattle.apd_base.specs.declared.station.Station.TheVariants.{Authenticated, Associated}
-use Rattle.apd_base.specs.State.{State, station_at, policy_at, aid_of, aid_at, count, stations_of}
-use Rattle.apd_table.specs.Allowed.{allowed}
-use Rattle.apd_table.specs.Can.{MayHave, CanPut}
-use Rattle.apd_record.specs.Meaning.{put_station}
-use Rattle.apd_table.specs.Sound.{Sound}
 use Rattle.apd_table.proofs.Rooms.{room_after, room_before}
 use Rattle.apd_base.proofs.Cases.{value_of}
 

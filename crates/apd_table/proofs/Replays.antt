@@ -1,32 +1,9 @@
 -- The changes of a snapshot lead from the empty state to the state, by sound ones.
 use Rattle.std.proofs.Common.{◌≡◌, Bool, true, false, cond, List, [], ◌∷◌, ◌++◌, filter, map as list_map, Option, Some, None, IsSome, inl, inr, refl, sym, ap, subst, ◌∙◌, T}
-use Rattle.std.proofs.lemmas.Bool.{eqb-true}
-use Rattle.std.proofs.lemmas.List.{append-nil}
-use Rattle.std.specs.List.{AllByRecursion}
-use Rattle.std.specs.Option.{is_some, option_map}
-use Rattle.std.specs.Ordering.{eq_by_cmp}
-use Rattle.std.specs.Cmp.{IsTotalOrder}
-use Rattle.std.specs.declared.cmp.Ordering.{Ordering}
+use Rattle.apd_table.proofs.Words.{Addr, AllByRecursion, Bssid, Change, FinMap, IsAntisymmetric, IsTotalOrder, Ordering, Policy, Sound, State, Station, StationNumber, Which, append-nil, bssid_cmp, bssid_exact, bssid_total, canonical, cursor_change, cursor_changes, cursors_with, empty_state, entries_sorted, eq_by_cmp, eqb-true, find_tied_head, get-empty, get-entries, get-insert, get_insert_other, get_inserted, is_given, is_some, is_sorted, is_sorted_tail, list_change, list_cmp, list_exact, list_total, meaning, no_value, none_given, none_is, not_false, one_or_apart, option_map, policy_at, policy_change, policy_changes, same_map, same_station_number, station_change, station_changes, station_cmp, station_exact, station_total, tied, tied_not_below}
 use Rattle.std.specs.FinMap as map
-use Rattle.std.specs.FinMap.{FinMap, IsAntisymmetric, find, is_sorted, entries, entries_sorted, get-entries, get-insert, get-empty, same_map}
-use Rattle.apd_base.specs.declared.address.Addr.{Addr}
-use Rattle.apd_base.specs.declared.address.Bssid.{Bssid}
-use Rattle.apd_base.specs.declared.station.Policy.{Policy}
-use Rattle.apd_base.specs.declared.station.Station.{Station}
-use Rattle.apd_base.specs.declared.station.StationNumber.{StationNumber}
-use Rattle.apd_base.specs.declared.station.Which.{Which}
-use Rattle.apd_base.specs.Addr.{bssid_cmp, station_cmp}
-use Rattle.apd_base.specs.State.{State, empty_state, list_cmp, policy_at}
-use Rattle.apd_base.proofs.AddrLemmas.{bssid_total, bssid_exact, station_total, station_exact}
-use Rattle.apd_base.proofs.Cases.{no_value, none_is, not_false, value_of}
-use Rattle.apd_base.proofs.MapLemmas.{get_inserted, get_insert_other, one_or_apart, tied}
-use Rattle.apd_base.proofs.RowsLemmas.{is_sorted_tail, tied_not_below, find_tied_head}
-use Rattle.apd_base.proofs.StateLemmas.{list_total, list_exact}
-use Rattle.apd_base.proofs.StationLemmas.{same_station_number}
-use Rattle.apd_record.specs.Meaning.{meaning, cursors_with, none_given}
-use Rattle.apd_record.specs.declared.change.Change.{Change}
-use Rattle.apd_table.specs.Snapshot.{is_given, policy_change, cursor_change, list_change, station_change, policy_changes, cursor_changes, station_changes, canonical}
-use Rattle.apd_table.specs.Sound.{Sound}
+use Rattle.std.specs.FinMap.{find, entries}
+use Rattle.apd_base.proofs.Cases.{value_of}
 use Rattle.apd_table.specs.fields.Standing.{Lead}
 use Rattle.apd_table.proofs.Cursors.{sound_cursor}
 use Rattle.apd_table.proofs.Parts.{IsPart, part_more, part_some, empty_part, sound_part}

@@ -1,31 +1,10 @@
 -- The changes of the rows of BSSIDs in order are those of their policies and their list rows.
 use Rattle.std.proofs.Common.{◌≡◌, Bool, true, false, cond, List, [], ◌∷◌, ◌++◌, filter, map as list_map, append_assoc, refl, sym, ap, subst, ◌∙◌, T}
-use Rattle.std.proofs.lemmas.List.{map-append, nil_from_length}
+use Rattle.apd_table.proofs.Words.{Accept, Addr, Bss, Bssid, Cursor, Deny, Less, ListAdd, Ordering, SetOf, StationNumber, Which, add_rows, addr_cmp, below_all, both_hold, bssid_cmp, bssid_total, cursor_change, cursor_changes, cursor_of, cursors_of_rows, entries-from_sorted, entries-insert, entries_sorted, first_holds, from_sorted, is_given, is_less, is_lt, is_sorted, is_sorted_tail, len-empty, len-entries, list_change, list_cmp, list_of, list_rows, list_total, lists_of_rows, map-append, nil_from_length, ordering_then, parts_of, policies_of_rows, policy_change, policy_of, policy_rows, second_holds, tied_itself, which_cmp}
 use Rattle.std.specs.List.{flat_map}
-use Rattle.std.specs.Ordering.{is_lt, ordering_then}
-use Rattle.std.specs.Cmp.{tied_itself}
-use Rattle.std.specs.declared.cmp.Ordering.{Ordering}
-use Rattle.std.specs.declared.cmp.Ordering.TheVariants.{Less}
 use Rattle.std.specs.FinMap as map
-use Rattle.std.specs.FinMap.{put, is_sorted, from_sorted, entries, entries_sorted, entries-insert, entries-from_sorted, len-entries, len-empty}
-use Rattle.std.specs.FinMap.Entries.{below_all, by_order}
-use Rattle.apd_base.specs.Sets.{SetOf}
-use Rattle.apd_base.specs.Addr.{addr_cmp, bssid_cmp}
-use Rattle.apd_base.specs.State.{list_cmp, which_cmp}
-use Rattle.apd_base.specs.declared.address.Addr.{Addr}
-use Rattle.apd_base.specs.declared.address.Bssid.{Bssid}
-use Rattle.apd_base.specs.declared.station.StationNumber.{StationNumber}
-use Rattle.apd_base.specs.declared.station.Which.{Which}
-use Rattle.apd_base.specs.declared.station.Which.TheVariants.{Accept, Deny}
-use Rattle.apd_base.proofs.AddrLemmas.{bssid_total}
-use Rattle.apd_base.proofs.Cases.{first_holds, second_holds, both_hold, is_less}
-use Rattle.apd_base.proofs.RowsLemmas.{is_sorted_tail}
-use Rattle.apd_base.proofs.StateLemmas.{list_total}
-use Rattle.apd_acl.specs.Lists.{list_of}
-use Rattle.apd_record.specs.declared.change.Change.TheVariants.{ListAdd, Cursor}
-use Rattle.apd_table.specs.fields.BssRows.{add_rows, cursor_of, list_rows, parts_of, policy_of, policy_rows}
-use Rattle.apd_table.specs.Snapshot.{is_given, cursor_change, cursor_changes, policy_change, list_change, policies_of_rows, cursors_of_rows, lists_of_rows}
-use Rattle.apd_table.specs.declared.bss_rows.Bss.{Bss}
+use Rattle.std.specs.FinMap.{put, entries}
+use Rattle.std.specs.FinMap.Entries.{by_order}
 use Rattle.apd_table.proofs.BssLemmas.{sorted-parts_of}
 use Rattle.apd_table.proofs.ListCounts.{Item, Row, rows_of, below-rows_of}
 

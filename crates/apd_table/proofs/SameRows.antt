@@ -1,21 +1,11 @@
 -- What `==` says of stations' rows, and that a row which is there is not put again.
 use Rattle.std.proofs.Common.{◌≡◌, ◌&&◌, true, Option, Some, None, inl, inr, refl, sym, ap, ◌∙◌}
-use Rattle.std.specs.Option.{option_eq}
+use Rattle.apd_table.proofs.Words.{Addr, Associated, Authenticated, Bssid, State, Station, and_parts, false≢true, get_insert_other, get_inserted, one_or_apart, option_eq, put_station, same_map, station_at, station_exact, station_total}
 use Rattle.std.specs.Prelude.{◌==◌}
 use Rattle.std.specs.FinMap as map
-use Rattle.std.specs.FinMap.{same_map}
-use Rattle.std.proofs.lemmas.Bool.{false≢true, and_parts}
 use Rattle.std.proofs.lemmas.Bool.Decides.{Decides-eqb}
-use Rattle.apd_base.specs.State.{State, station_at}
-use Rattle.apd_base.specs.declared.address.Addr.{Addr}
-use Rattle.apd_base.specs.declared.address.Bssid.{Bssid}
-use Rattle.apd_base.specs.declared.station.Station.{Station}
-use Rattle.apd_base.specs.declared.station.Station.TheVariants.{Authenticated, Associated}
 use Rattle.apd_base.specs.contracts.station.StationPartialEq.TheImpl as station
-use Rattle.apd_base.proofs.AddrLemmas.{station_total, station_exact}
-use Rattle.apd_base.proofs.MapLemmas.{one_or_apart, get_inserted, get_insert_other}
 use Rattle.apd_base.proofs.StationLemmas.{same_aid}
-use Rattle.apd_record.specs.Meaning.{put_station}
 
 pub same_station : (s t : Station) → (station.eq-value).it s t ≡ true → s ≡ t
 same_station Authenticated Authenticated e = refl

@@ -1,36 +1,13 @@
 -- How many bytes the records of a snapshot have at most.
 use Rattle.std.proofs.Common.{◌≡◌, ℕ, ◌*◌, ◌≤◌, Bool, true, false, cond, not, ◌&&◌, ◌||◌, Some, List, [], ◌∷◌, ◌++◌, length, map as list_map, filter, IsSome, refl, sym, ap, subst, ◌∙◌, arith, length-append}
 use Rattle.std.proofs.Math.Nat.{mul-suc}
-use Rattle.std.proofs.lemmas.List.{length-map}
+use Rattle.apd_table.proofs.Words.{Accept, Addr, AllByRecursion, AreChanges, Bssid, Change, Cursor, Deny, IsAddr, IsBssid, IsChange, ListAdd, Policy, Put, Sound, State, Station, StationNumber, Which, bssid_cmp, bssid_exact, bssid_total, canonical, contains_key-keys, cursor_change, cursor_changes, entries-retain_keys, eq_by_cmp, eq_by_cmp_equiv, is_row_of, is_some_of, len-entries, length-map, list_any, list_change, list_changes, list_exact, list_total, policy_at, policy_change, policy_changes, record_of, records_of, station_bytes, station_change, station_changes, station_exact, station_total, to_le_bytes, w16, which_cmp, which_number}
 use Rattle.std.proofs.lemmas.List.Filters.{length-filter_both}
-use Rattle.std.specs.List.{AllByRecursion, list_any}
-use Rattle.std.specs.Int.{to_le_bytes, w16}
-use Rattle.std.specs.Ordering.{eq_by_cmp}
-use Rattle.std.specs.Cmp.{eq_by_cmp_equiv}
 use Rattle.std.specs.FinMap as map
-use Rattle.std.specs.FinMap.{entries, len-entries, contains_key-keys}
-use Rattle.apd_base.specs.declared.address.Addr.{Addr}
-use Rattle.apd_base.specs.declared.address.Bssid.{Bssid}
-use Rattle.apd_base.specs.declared.station.Policy.{Policy}
-use Rattle.apd_base.specs.declared.station.Station.{Station}
-use Rattle.apd_base.specs.declared.station.StationNumber.{StationNumber}
-use Rattle.apd_base.specs.declared.station.Which.{Which}
-use Rattle.apd_base.specs.declared.station.Which.TheVariants.{Accept, Deny}
-use Rattle.apd_base.specs.Addr.{bssid_cmp}
+use Rattle.std.specs.FinMap.{entries}
 use Rattle.apd_base.specs.Mode.{mode_number}
-use Rattle.apd_base.specs.State.{State, which_number, which_cmp, policy_at, is_row_of}
-use Rattle.apd_base.proofs.AddrLemmas.{bssid_total, bssid_exact, station_total, station_exact}
-use Rattle.apd_base.proofs.Cases.{is_some_of}
-use Rattle.apd_base.proofs.RowsMaps.{entries-retain_keys}
-use Rattle.apd_base.proofs.StateLemmas.{list_total, list_exact}
-use Rattle.apd_record.specs.Ranges.{IsBssid, IsChange, AreChanges}
-use Rattle.apd_record.specs.Record.{record_of, records_of, station_bytes}
-use Rattle.apd_record.specs.declared.change.Change.{Change}
-use Rattle.apd_record.specs.declared.change.Change.TheVariants.{Put, ListAdd, Policy as SetPolicy, Cursor}
+use Rattle.apd_record.specs.declared.change.Change.TheVariants.{Policy as SetPolicy}
 use Rattle.apd_record.proofs.Lengths.{station_length, records_length-append}
-use Rattle.apd_base.specs.Addr.{IsAddr}
-use Rattle.apd_table.specs.Snapshot.{policy_change, cursor_change, list_change, station_change, canonical, policy_changes, cursor_changes, list_changes, station_changes}
-use Rattle.apd_table.specs.Sound.{Sound}
 use Rattle.apd_table.proofs.ListCounts.{length-filter_le}
 use Rattle.apd_table.proofs.Parts.{len_within}
 use Rattle.apd_table.proofs.Replays.{entries_are, given}

@@ -1,28 +1,12 @@
 -- What an ordered map's calls leave of station rows, and what they hand out of them.
 use Rattle.std.proofs.Common.{◌≡◌, ◌≢◌, ℕ, zero, suc, ◌<◌, Bool, true, false, cond, not, ◌&&◌, ◌||◌, List, [], ◌∷◌, length, filter, Option, Some, None, Bor, MatchOption, IsSome, IfSome, refl, sym, ap, subst, ◌∙◌, T, arith}
 use Rattle.std.specs.Prelude.{⊤}
-use Rattle.std.specs.BTreeMap.{BTreeMap, is_at, insert_entry, IsFromIterResult}
+use Rattle.apd_table.proofs.Words.{Addr, AllByRecursion, BTreeMap, Bssid, Equal, Greater, IsAbove, IsAddr, IsFromIterResult, Less, NoneAbove, Ordering, Station, addr_cmp, bssid_cmp, bssid_total, deref_pair, eq_by_cmp, eq_by_cmp_equiv, find-lookup, insert_entry, is_at, is_eq, is_gt, is_le, is_lt, is_some_of, is_sorted, list_any, match_ordering, nat_cmp, nat_cmp_is, none_is, option_map, ordering_then, rising, slice_get, station_cmp, station_exact, station_total, tied_itself}
 use Rattle.std.specs.Map.{lookup, keys_of, remove_entry}
-use Rattle.std.specs.Map.Iter.{deref_pair}
-use Rattle.std.specs.List.{AllByRecursion, list_any, slice_get}
-use Rattle.std.specs.Option.{option_map}
-use Rattle.std.specs.Ordering.{eq_by_cmp, is_eq, is_gt, is_le, is_lt, match_ordering, nat_cmp, ordering_then}
-use Rattle.std.specs.Cmp.{eq_by_cmp_equiv, nat_cmp_is, tied_itself}
 use Rattle.std.specs.Cmp.Lexicographic.{slice_cmp}
-use Rattle.std.specs.declared.cmp.Ordering.{Ordering}
-use Rattle.std.specs.declared.cmp.Ordering.TheVariants.{Less, Equal, Greater}
-use Rattle.std.specs.FinMap.{is_sorted}
 use Rattle.std.proofs.lemmas.Map.Keys.{IsDistinct-from_sorted, le_from_is_le}
 use Rattle.std.proofs.lemmas.Map.Lookups.{btree_map_from_get}
 use Rattle.std.proofs.lemmas.Map.Made.{update_all_none}
-use Rattle.apd_base.specs.Addr.{IsAddr, addr_cmp, bssid_cmp, station_cmp}
-use Rattle.apd_base.specs.declared.address.Addr.{Addr}
-use Rattle.apd_base.specs.declared.address.Bssid.{Bssid}
-use Rattle.apd_base.specs.declared.station.Station.{Station}
-use Rattle.apd_base.proofs.AddrLemmas.{bssid_total, station_total, station_exact}
-use Rattle.apd_base.proofs.Cases.{is_some_of, none_is}
-use Rattle.apd_base.proofs.Trees.{find-lookup, rising}
-use Rattle.apd_acl.proofs.Above.{IsAbove, NoneAbove}
 use Rattle.apd_table.specs.Rows.{is_row_of}
 
 abbrev pub Row : Type 0

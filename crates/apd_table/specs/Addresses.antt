@@ -17,7 +17,7 @@ use Rattle.apd_acl.specs.declared.lists.Lists.{Lists}
 use Rattle.apd_record.specs.Meaning.{meaning}
 use Rattle.apd_record.specs.declared.change.Change.{Change}
 use Rattle.apd_record.specs.declared.change.Change.TheVariants.{ListAdd, ListDel, ListClear, Policy as SetPolicy}
-use Rattle.apd_table.specs.Allowed.{denied_by}
+use Rattle.apd_table.specs.Allowed.{denials_by}
 use Rattle.apd_table.specs.Rows.{is_row_of}
 
 -- the addresses of all its rows, rising
@@ -29,13 +29,13 @@ abbrev pub with_lists_after : Change → State → State
 with_lists_after change s = record s { lists = (meaning change s).lists }
 
 -- those that a policy denies, rising; without a policy there is none
-abbrev pub denied_under : State → Bssid → Option Policy → List Addr
-denied_under s b None = []
-denied_under s b (Some policy) = denied_by s b policy.mode
+abbrev pub denials_under : State → Bssid → Option Policy → List Addr
+denials_under s b None = []
+denials_under s b (Some policy) = denials_by s b policy.mode
 
 -- those that the policy of the BSSID denies by the lists that a change leaves
-abbrev pub denied_after : State → Bssid → Change → List Addr
-denied_after s b change = denied_under (with_lists_after change s) b (policy_at s b)
+abbrev pub denials_after : State → Bssid → Change → List Addr
+denials_after s b change = denials_under (with_lists_after change s) b (policy_at s b)
 
 -- the address that a change adds to a list or takes out of one
 abbrev pub listed_address : Change → Option Addr

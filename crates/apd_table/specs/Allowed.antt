@@ -15,29 +15,29 @@ use Rattle.apd_base.specs.State.{State, policy_at}
 use Rattle.apd_acl.specs.Policy.{is_allowed}
 
 -- in this mode, by the lists of the BSSID
-abbrev pub allowed_in : State → Bssid → Addr → AclMode → Bool
-allowed_in s b a mode = is_allowed mode (set.contains s.lists (b, Accept, a)) (set.contains s.lists (b, Deny, a))
+abbrev pub is_allowed_in : State → Bssid → Addr → AclMode → Bool
+is_allowed_in s b a mode = is_allowed mode (set.contains s.lists (b, Accept, a)) (set.contains s.lists (b, Deny, a))
 
 -- under a policy, one that is on the accept list or not, and on the deny list or not; where there is no policy there is no
 -- mode, and the accept list alone counts
-abbrev pub allowed_by : Option Policy → Bool → Bool → Bool
-allowed_by None accepted denied = accepted
-allowed_by (Some policy) accepted denied = is_allowed policy.mode accepted denied
+abbrev pub is_allowed_by : Option Policy → Bool → Bool → Bool
+is_allowed_by None accepted denied = accepted
+is_allowed_by (Some policy) accepted denied = is_allowed policy.mode accepted denied
 
-abbrev pub allowed_under : State → Bssid → Addr → Option Policy → Bool
-allowed_under s b a policy = allowed_by policy (set.contains s.lists (b, Accept, a)) (set.contains s.lists (b, Deny, a))
+abbrev pub is_allowed_under : State → Bssid → Addr → Option Policy → Bool
+is_allowed_under s b a policy = is_allowed_by policy (set.contains s.lists (b, Accept, a)) (set.contains s.lists (b, Deny, a))
 
 -- under the policy of the BSSID
 abbrev pub allowed : State → Bssid → Addr → Bool
-allowed s b a = allowed_under s b a (policy_at s b)
+allowed s b a = is_allowed_under s b a (policy_at s b)
 
 -- whether a row is one of the BSSID that this mode would deny
 abbrev pub is_denied_row : State → Bssid → AclMode → (Bssid × Addr) × Station → Bool
-is_denied_row s b mode row = eq_by_cmp bssid_cmp b row.0.0 && not (allowed_in s b row.0.1 mode)
+is_denied_row s b mode row = eq_by_cmp bssid_cmp b row.0.0 && not (is_allowed_in s b row.0.1 mode)
 
 -- the addresses of those rows, rising
-abbrev pub denied_by : State → Bssid → AclMode → List Addr
-denied_by s b mode = list_map (λ row. row.0.1) (filter (is_denied_row s b mode) (map.entries s.stations))
+abbrev pub denials_by : State → Bssid → AclMode → List Addr
+denials_by s b mode = list_map (λ row. row.0.1) (filter (is_denied_row s b mode) (map.entries s.stations))
 
 -- the number of a policy's mode and its greatest number of stations
 abbrev pub mode_and_max : Policy → ℕ × ℕ

@@ -100,7 +100,7 @@ pub fn policy_after(bssid: Bssid, policy: Policy, change: &Change) -> Policy
 }
 
 // Whether one of some rows is denied once a change is made.
-fn any_denied_of(
+fn denies_any_of(
     rows: Range<'_, (Bssid, Addr), Station>,
     bssid: Bssid,
     lists: &Lists,
@@ -115,7 +115,7 @@ fn any_denied_of(
 }
 
 /// Whether a row of the BSSID is denied once a change is made.
-pub fn any_denied_after(
+pub fn denies_any_after(
     stations: &Stations,
     bssid: Bssid,
     lists: &Lists,
@@ -124,11 +124,11 @@ pub fn any_denied_after(
 ) -> bool
     ensures { result ≡ list_any (is_denied_after lists.now mode bssid change.now) (map.entries stations.now) }
 {
-    any_denied_of(stations.of(bssid), bssid, lists, mode, change)
+    denies_any_of(stations.of(bssid), bssid, lists, mode, change)
 }
 
 // The addresses of those rows that are denied once a change is made.
-fn denied_after_of(
+fn denials_after_of(
     alloc: Global,
     rows: Range<'_, (Bssid, Addr), Station>,
     bssid: Bssid,
@@ -147,7 +147,7 @@ fn denied_after_of(
 }
 
 /// The addresses of the rows of the BSSID that are denied once a change is made.
-pub fn denied_after(
+pub fn denials_after(
     alloc: Global,
     stations: &Stations,
     bssid: Bssid,
@@ -160,7 +160,7 @@ pub fn denied_after(
         ≡ list_map (λ row. row.0.1) (filter (is_denied_after lists.now mode bssid change.now)
         (map.entries stations.now))) }
 {
-    denied_after_of(alloc, stations.of(bssid), bssid, lists, mode, change)
+    denials_after_of(alloc, stations.of(bssid), bssid, lists, mode, change)
 }
 
 /// The address that a change adds to a list or takes out of one.

@@ -4,7 +4,7 @@ ghost use Rattle.std.specs.Int.{bit_at};
 ghost use Rattle.std.specs.Option.{is_some};
 ghost use Rattle.apd_base.specs.State.{aid_of};
 ghost use Rattle.apd_base.specs.declared.limits.TheConstants.{MAX_STATIONS};
-ghost use Rattle.apd_table.specs.fields.Members.{AreSet, IsFirstClear, counted, is_set, members_after, no_members, with_aid, with_place, without_aid, without_place};
+ghost use Rattle.apd_table.specs.fields.Members.{AreSet, IsFirstClear, count_after, is_set, members_after, no_members, with_aid, with_place, without_aid, without_place};
 ghost use Rattle.apd_table.specs.Rows.{AreMarkedAbove, IsLeastUnmarked};
 
 use apd_base::Station;
@@ -65,9 +65,9 @@ fn clear_of(words: &mut [u64; WORDS], station: Option<Station>)
 }
 
 // The number of rows, where a station had one or not, and has one or not.
-fn counted(had: bool, has: bool, count: usize) -> usize
+fn count_after(had: bool, has: bool, count: usize) -> usize
     requires { count ≤ MAX_STATIONS }
-    ensures { result ≡ counted had has count }
+    ensures { result ≡ count_after had has count }
 {
     match (had, has) {
         (false, true) => count + 1,
@@ -151,7 +151,7 @@ impl Members {
     {
         clear_of(&mut self.words, old);
         set_of(&mut self.words, new);
-        self.count = counted(old.is_some(), new.is_some(), self.count);
+        self.count = count_after(old.is_some(), new.is_some(), self.count);
     }
 
     /// The least identifier above a number that no station has: the least of all above 0.

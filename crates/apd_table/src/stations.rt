@@ -47,10 +47,10 @@ impl Model for Stations {
 }
 
 // Tells a proof that an address has six bytes. It changes nothing.
-fn known(bssid: Bssid, addr: Addr)
+fn key_law(bssid: Bssid, addr: Addr)
     ensures { IsAddr addr }
 {
-    Change::Drop { bssid, addr }.known();
+    Change::Drop { bssid, addr }.range_law();
 }
 
 fn copy_of(
@@ -65,7 +65,7 @@ fn copy_of(
 }
 
 // The address and the station of a row.
-fn told(row: Option<(&(Bssid, Addr), &Station)>) -> Option<(Addr, Station)>
+fn address_and_station(row: Option<(&(Bssid, Addr), &Station)>) -> Option<(Addr, Station)>
     ensures { result ≡ option_map address_and_station (option_map deref_pair row.entry) }
 {
     let (key, station) = row?;
@@ -73,7 +73,7 @@ fn told(row: Option<(&(Bssid, Addr), &Station)>) -> Option<(Addr, Station)>
 }
 
 // The same, if the row is one of the BSSID.
-fn told_of(row: Option<(&(Bssid, Addr), &Station)>, bssid: Bssid) -> Option<(Addr, Station)>
+fn if_row_of(row: Option<(&(Bssid, Addr), &Station)>, bssid: Bssid) -> Option<(Addr, Station)>
     ensures { result ≡ if_row_of bssid (option_map deref_pair row.entry) }
 {
     let (key, station) = row?;
@@ -117,7 +117,7 @@ impl Stations {
         ensures err { OnErr result (self.new ≡ self.old) }
         ensures over { IsSome (map.get self.old (bssid, addr)) → IsOk result }
     {
-        known(bssid, addr);
+        key_law(bssid, addr);
         self.rows.insert((bssid, addr), station)?;
         Ok(())
     }
@@ -159,7 +159,7 @@ impl Stations {
         ensures row { IfSome result (λ x. map.get self.now (bssid, x.0) ≡ Some x.1) }
         ensures none { IfNone result ((a : Addr) → map.get self.now (bssid, a) ≡ None) }
     {
-        told(self.of(bssid).next())
+        address_and_station(self.of(bssid).next())
     }
 
     /// The row of the least address of a BSSID above another.
@@ -169,6 +169,6 @@ impl Stations {
         ensures none { IfNone result ((a : Addr) → IsSome (map.get self.now (bssid, a)) → addr_cmp addr a ≢ Less) }
     {
         let above = (Bound::Excluded((bssid, addr)), Bound::Unbounded);
-        told_of(self.rows.range(above).next(), bssid)
+        if_row_of(self.rows.range(above).next(), bssid)
     }
 }

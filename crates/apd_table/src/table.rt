@@ -16,8 +16,8 @@ ghost use Rattle.apd_acl.specs.Lists.{has, list_of};
 ghost use Rattle.apd_record.specs.Meaning.{meaning, meaning_of, put_station, drop_station, add_to_list, take_from_list, clear_list, set_policy, set_cursor};
 ghost use Rattle.apd_record.specs.Record.{records_of};
 ghost use Rattle.apd_record.specs.declared.change.Change.TheVariants.{Drop, ListAdd, Policy as SetPolicy};
-ghost use Rattle.apd_table.specs.Addresses.{addresses_at, denied_after, is_denied_after, is_address_denied_after};
-ghost use Rattle.apd_table.specs.Allowed.{allowed, denied_by, mode_and_max};
+ghost use Rattle.apd_table.specs.Addresses.{addresses_at, denials_after, is_denied_after, is_address_denied_after};
+ghost use Rattle.apd_table.specs.Allowed.{allowed, denials_by, mode_and_max};
 ghost use Rattle.apd_table.specs.Can.{CanPut, CanSet, CanAdd, IsAlone, MayHave, NoneDeniedAfter};
 ghost use Rattle.apd_table.specs.LeastFree.{AreTakenAbove, IsLeastFree, IsNextFree};
 ghost use Rattle.apd_table.specs.NewRow.{IsNewRow, IsOldRow};
@@ -143,7 +143,7 @@ impl Table {
     }
 
     /// The row of a station at a BSSID. It takes no memory, as none of the
-    /// readers does but `denied_by`, `denied_after`, `addresses` and `copy`.
+    /// readers does but `denials_by`, `denials_after`, `addresses` and `copy`.
     pub fn get(&self, bssid: Bssid, addr: Addr) -> Option<Station>
         ensures { result ≡ station_at self.now bssid addr }
     {
@@ -269,20 +269,20 @@ impl Table {
     }
 
     /// The addresses, rising, of the stations with a row at a BSSID that a mode would deny.
-    pub fn denied_by(
+    pub fn denials_by(
         &self,
         alloc: Global,
         bssid: Bssid,
         mode: AclMode,
     ) -> Result<Vec<Addr>, AllocError>
-        ensures { IfOk result (λ v. v.items ≡ denied_by self.now bssid mode) }
+        ensures { IfOk result (λ v. v.items ≡ denials_by self.now bssid mode) }
     {
         match self.bss.get(bssid) {
             Some(bss) => {
                 let max = bss.policy.max;
                 let policy = Policy { mode, max };
                 let change = Change::Policy { bssid, policy };
-                denials::denied_after(alloc, &self.stations, bssid, &bss.lists, mode, &change)
+                denials::denials_after(alloc, &self.stations, bssid, &bss.lists, mode, &change)
             }
             None => Ok(Vec::new(alloc)),
         }
@@ -297,23 +297,23 @@ impl Table {
 
     /// The addresses, rising, of the stations with a row at a BSSID that its policy would deny by the
     /// lists that a change leaves.
-    pub fn denied_after(
+    pub fn denials_after(
         &self,
         alloc: Global,
         bssid: Bssid,
         change: &Change,
     ) -> Result<Vec<Addr>, AllocError>
-        ensures { IfOk result (λ v. v.items ≡ denied_after self.now bssid change.now) }
+        ensures { IfOk result (λ v. v.items ≡ denials_after self.now bssid change.now) }
     {
         match self.bss.get(bssid) {
-            Some(bss) => self.denied_at(alloc, bssid, bss, change),
+            Some(bss) => self.denials_at(alloc, bssid, bss, change),
             None => Ok(Vec::new(alloc)),
         }
     }
 
     // The same, by the row of the BSSID. No station is denied as it is, so where one address is added
     // to a list or taken out of one it is the only one to look at.
-    fn denied_at(
+    fn denials_at(
         &self,
         alloc: Global,
         bssid: Bssid,
@@ -335,7 +335,7 @@ impl Table {
             }
             None => {
                 let (stations, lists) = (&self.stations, &bss.lists);
-                denials::denied_after(alloc, stations, bssid, lists, bss.policy.mode, change)
+                denials::denials_after(alloc, stations, bssid, lists, bss.policy.mode, change)
             }
         }
     }
@@ -545,7 +545,7 @@ impl Table {
             None => {
                 let (stations, lists) = (&self.stations, &bss.lists);
                 let policy = denials::policy_after(bssid, bss.policy, change);
-                !denials::any_denied_after(stations, bssid, lists, policy.mode, change)
+                !denials::denies_any_after(stations, bssid, lists, policy.mode, change)
             }
         }
     }

@@ -56,7 +56,7 @@ fn stations_and_policies_are_changed(rt: HostRuntime) -> Result<(), Fail> {
     assert_eq!(rt; table.get(BSSID, FIRST), Some(Station::Authenticated));
     assert_eq!(rt; table.policy(BSSID), Some((0, 2007)));
     assert_eq!(rt; apply(&mut table, &closed), Err(TableFault::Invalid));
-    let denied = table.denied_by(rt.alloc(), BSSID, AclMode::DenyUnlessAccepted)?;
+    let denied = table.denials_by(rt.alloc(), BSSID, AclMode::DenyUnlessAccepted)?;
     assert_eq!(rt; denied.as_slice(), [FIRST].as_slice());
     let copy = table.copy(rt.alloc())?;
     let drop = Change::Drop {
@@ -141,7 +141,7 @@ fn addresses_are_told(rt: HostRuntime) -> Result<(), Fail> {
         which: Which::Deny,
         addr: SECOND,
     };
-    let denied = table.denied_after(rt.alloc(), BSSID, &deny)?;
+    let denied = table.denials_after(rt.alloc(), BSSID, &deny)?;
     assert_eq!(rt; denied.as_slice(), [SECOND].as_slice());
     Ok(())
 }

@@ -1,8 +1,8 @@
 -- What two lists of steps told, one after the other.
 use Rattle.std.proofs.Common.{◌≡◌, List, [], ◌∷◌, ◌++◌, length, refl, sym, ap, ◌∙◌, arith, append_assoc}
 use Rattle.std.proofs.lemmas.List.{append-nil}
-use Rattle.apd_world.proofs.Words.{Account, Conf, Happening, LastHeard, Recipient, State, Step, Told, account, entered, heard_after, one_more, run}
-use Rattle.apd_world.specs.StandsFor.{all_answered, answered_by, said_by, said_to}
+use Rattle.apd_world.proofs.Words.{Account, Conf, Happening, LastHeard, Recipient, State, Step, Told, account, step_happenings, heard_after, one_more, run}
+use Rattle.apd_world.specs.StandsFor.{all_answers, answers_in, outs_in_step, outs_in_steps}
 use Rattle.apd_world.proofs.Goings.{run-append}
 
 pub account_append : (confs : List Conf) (xs ys : List Step) (ts us : List Told) (a : Account) → length ts ≡ length xs → account confs (xs ++ ys) (ts ++ us) a ≡ account confs ys us (account confs xs ts a)
@@ -10,14 +10,14 @@ account_append confs [] ys [] us a e = refl
 account_append confs (x ∷ xs) ys (t ∷ ts) us a e = account_append confs xs ys ts us (one_more confs x t a) (omega (arith, e))
 account_append confs xs ys ts us a e = absurd (omega (arith, e))
 
-pub said_append : (r : Recipient) (xs ys : List Step) (ts us : List Told) → length ts ≡ length xs → said_to r xs ts ++ said_to r ys us ≡ said_to r (xs ++ ys) (ts ++ us)
+pub said_append : (r : Recipient) (xs ys : List Step) (ts us : List Told) → length ts ≡ length xs → outs_in_steps r xs ts ++ outs_in_steps r ys us ≡ outs_in_steps r (xs ++ ys) (ts ++ us)
 said_append r [] ys [] us e = refl
-said_append r (x ∷ xs) ys (t ∷ ts) us e = append_assoc (said_by r x t) (said_to r xs ts) (said_to r ys us) ∙ ap (λ os. said_by r x t ++ os) (said_append r xs ys ts us (omega (arith, e)))
+said_append r (x ∷ xs) ys (t ∷ ts) us e = append_assoc (outs_in_step r x t) (outs_in_steps r xs ts) (outs_in_steps r ys us) ∙ ap (λ os. outs_in_step r x t ++ os) (said_append r xs ys ts us (omega (arith, e)))
 said_append r xs ys ts us e = absurd (omega (arith, e))
 
-pub answered_append : (ts us : List Told) → all_answered ts ++ all_answered us ≡ all_answered (ts ++ us)
+pub answered_append : (ts us : List Told) → all_answers ts ++ all_answers us ≡ all_answers (ts ++ us)
 answered_append [] us = refl
-answered_append (t ∷ ts) us = append_assoc (answered_by t) (all_answered ts) (all_answered us) ∙ ap (λ zs. answered_by t ++ zs) (answered_append ts us)
+answered_append (t ∷ ts) us = append_assoc (answers_in t) (all_answers ts) (all_answers us) ∙ ap (λ zs. answers_in t ++ zs) (answered_append ts us)
 
 -- what happened before stands first, and changes no state and no moment
 abbrev pub behind : List Happening → Account → Account
@@ -28,7 +28,7 @@ pub account_behind : (confs : List Conf) (xs : List Step) (ts : List Told) (es :
 account_behind confs [] ts es s h = λ i. record { happened = sym (append-nil es) i; state = s; heard = h }
 account_behind confs (x ∷ xs) [] es s h = λ i. record { happened = sym (append-nil es) i; state = s; heard = h }
 account_behind confs (x ∷ xs) (t ∷ ts) es s h =
-    let e = entered confs h x t in
+    let e = step_happenings confs h x t in
     let s' = run s confs e in
     let h' = heard_after confs s h x t in
     let more = account confs xs ts (record { happened = []; state = s'; heard = h' }) in
@@ -39,5 +39,5 @@ pub account_state : (confs : List Conf) (xs : List Step) (ts : List Told) (s : S
 account_state confs [] ts s a e = e
 account_state confs (x ∷ xs) [] s a e = e
 account_state confs (x ∷ xs) (t ∷ ts) s a e =
-    let es = entered confs a.heard x t in
+    let es = step_happenings confs a.heard x t in
     account_state confs xs ts s (one_more confs x t a) (ap (λ (z : State). run z confs es) e ∙ sym (run-append confs a.happened es s))

@@ -5,7 +5,7 @@ use Rattle.std.specs.Option.{unwrap_or}
 use Rattle.std.specs.Prelude.{IfErr, IsErrAnd, OnErr, OnOk, replicate}
 use Rattle.std.proofs.lemmas.List.Elements.{All-cons, All-nil}
 use Rattle.std.proofs.lemmas.Result.{IfErr-weaker}
-use Rattle.apd_world.proofs.Words.{AreMadeInTurn, AreSafelyMade, AreSettled, Call, Called, ComesTo, Commit, DiskModel, Done, DurableCore, Ends, GoesQuietly, HasEnded, HasFailedCore, HasGoneUnrefused, HasNoBatch, HasNoCall, HasNoReceipt, Idle, IsAtRest, IsEnd, IsInStep, IsNoOtherRefusal, IsNoRefusal, IsRound, IsWhole, Loaded, NoMemory, Nothing, Publish, Published, RadioModel, Step, StoreFault, Take, Tells, Told, World, WorldFault, answer_of, durable_of, flusher_of, phase_of, round, said, waiting_receipt}
+use Rattle.apd_world.proofs.Words.{AreMadeInTurn, AreSafelyMade, AreSettled, Call, Called, ComesTo, Commit, DiskModel, Done, DurableCore, Ends, GoesQuietly, HasEnded, HasFailedCore, HasGoneUnrefused, HasNoBatch, HasNoCall, HasNoReceipt, Idle, IsAtRest, IsEnd, IsInStep, IsNoOtherRefusal, IsNoRefusal, IsRound, IsWhole, Loaded, NoMemory, Nothing, Publish, Published, RadioModel, Step, StoreFault, Take, Tells, Told, World, WorldFault, answer_of, durable_of, flusher_of, phase_of, round, commit_of, waiting_receipt}
 use Rattle.apd_store.specs.declared.fault.StoreFault.TheVariants as store_fault
 use Rattle.apd_core.specs.declared.publish_fault.PublishFault.TheVariants as publish_fault
 use Rattle.apd_world.specs.declared.fault.WorldFault.TheVariants as world_fault
@@ -13,7 +13,7 @@ use Rattle.apd_world.specs.declared.step.Commit.TheVariants as commit
 use Rattle.apd_world.proofs.RunLemmas.{AreRounds, IsUnrefused, failures, gone_rounds, gone_then, kept, risen_since, round_more, unrefused_then}
 use Rattle.apd_world.proofs.RoundLemmas.{no_call_left}
 use Rattle.apd_world.proofs.Speaking.{stays_failed}
-use Rattle.apd_world.proofs.Standing.{can_take_none, none_some}
+use Rattle.apd_world.proofs.DurableSteps.{can_take_none, none_some}
 
 -- ---- an error that `?` makes
 pub if_residual : {A E : Type 0} (P : E → Type 0) (r : Result A E) (e : E) → IsErrAnd r (λ x. x ≡ e) → P e → IfErr r P
@@ -47,7 +47,7 @@ module _ {D R : Type 0} (disk : DiskModel D) (radio : RadioModel R) where
   abbrev IsShort : DurableCore D → Commit → Type 0
   IsShort w answer = (HasNoCall w × HasNoReceipt w) ⊎ (answer ≡ commit.NoMemory)
 
-  publish_short : (t : Told) (d e : DurableCore D) → Tells Publish t d e → IsShort d (unwrap_or (said t) commit.Nothing) → IsNoOtherRefusal t
+  publish_short : (t : Told) (d e : DurableCore D) → Tells Publish t d e → IsShort d (unwrap_or (commit_of t) commit.Nothing) → IsNoOtherRefusal t
   publish_short (Published (Ok x)) d e h way = inl tt
   publish_short (Published (Err publish_fault.NoMemory)) d e h way = inr refl
   publish_short (Published (Err publish_fault.Foreign)) d e h way = ⊎_elim
@@ -56,7 +56,7 @@ module _ {D R : Type 0} (disk : DiskModel D) (radio : RadioModel R) where
   publish_short Nothing d e h way = inl tt
   publish_short t d e h way = absurd h
 
-  call_short : (t : Told) (rest : Commit) (d e : DurableCore D) → Tells Call t d e → IsShort d (unwrap_or (said t) rest) → IsNoOtherRefusal t × IsShort e rest
+  call_short : (t : Told) (rest : Commit) (d e : DurableCore D) → Tells Call t d e → IsShort d (unwrap_or (commit_of t) rest) → IsNoOtherRefusal t × IsShort e rest
   call_short (Called (Ok x)) rest d e h way = (inl tt, ⊎_elim (λ none. no_call_left (phase_of (flusher_of d)) none.0 h.some_call) (λ is. inr is) way)
   call_short (Called (Err fault)) rest d e h way =
       ⊎_elim (λ none. no_call_left (phase_of (flusher_of d)) none.0 h.some_call) (λ is. absurd (let no : commit.Refused fault ≡ commit.NoMemory = is in cc)) way
@@ -73,7 +73,7 @@ module _ {D R : Type 0} (disk : DiskModel D) (radio : RadioModel R) where
   calls_short n ts a b h way = absurd h
 
   -- a core that can give a batch has none in flight, so no call and no receipt is left
-  take_short : (t : Told) (rest : Commit) (d e : DurableCore D) → Tells Take t d e → IsWhole disk d → unwrap_or (said t) rest ≡ commit.NoMemory → IsNoOtherRefusal t × IsShort e rest
+  take_short : (t : Told) (rest : Commit) (d e : DurableCore D) → Tells Take t d e → IsWhole disk d → unwrap_or (commit_of t) rest ≡ commit.NoMemory → IsNoOtherRefusal t × IsShort e rest
   take_short (Loaded (Ok x)) rest d e h whole is = (inl tt, inr is)
   take_short (Loaded (Err fault)) rest d e h whole is = absurd (let no : commit.Refused fault ≡ commit.NoMemory = is in cc)
   take_short Nothing rest d e h whole is = (inl tt, inr is)

@@ -2,7 +2,7 @@
 use Rattle.std.proofs.Common.{◌≡◌, ℕ, ◌+◌, ◌≤◌, Bool, true, false, cond, List, [], ◌∷◌, ◌++◌, length, take, drop, ◌⊎◌, inl, inr, refl, sym, ap, subst, ◌∙◌, arith, append_assoc, length-append}
 use Rattle.std.specs.Prelude.{map}
 use Rattle.std.proofs.lemmas.List.{append-nil, map-append, length-take-le, length-drop, take-append-drop}
-use Rattle.apd_world.proofs.Words.{AreFit, AreHeldFor, AreUnsettled, Change, Conf, Control, CoreState, Goes, GoesQuietly, Happening, IsCore, LastHeard, Moment, Out, Radio, Recipient, Settles, State, front_of, handed, held_for, last_of, outs_run, outs_to, published, ready_for, run, up_to, verdict, with_entry, with_sender}
+use Rattle.apd_world.proofs.Words.{AreFit, AreHeldFor, AreUnsettled, Change, Conf, Control, CoreState, Goes, GoesQuietly, Happening, IsCore, LastHeard, Moment, Out, Radio, Recipient, Settles, State, front_of, after_handing_out, held_for, last_of, outs_run, outs_to, after_publish, ready_for, run, up_to, verdict, with_entry, with_sender}
 use Rattle.apd_base.proofs.AddrLemmas.{bssid_total, bssid_exact}
 use Rattle.apd_base.proofs.MapLemmas.{one_or_apart, tied}
 use Rattle.apd_mlme.specs.Outs.{is_same}
@@ -140,7 +140,7 @@ module _ (s : CoreState) (m : Moment) (h : Happening) (core : IsCore s) (fit : I
 -- ---- the batch in flight is settled
 module _ (s : CoreState) (core : IsCore s) where
   abbrev next : CoreState
-  next = published s
+  next = after_publish s
 
   module _ (hs : List Happening) (u : AreUnsettled hs s) where
     abbrev front : List Happening
@@ -218,12 +218,12 @@ turned r q apart = elim (is_or_not q r) [
   | inr ne ↦ ne
 ]
 
-pub ready_none : (q : Recipient) (s : CoreState) → ready_for q (handed q s) ≡ []
+pub ready_none : (q : Recipient) (s : CoreState) → ready_for q (after_handing_out q s) ≡ []
 ready_none q s = ap (map (λ (x : ℕ × Out). x.1)) (ap (up_to s.number) (queue_of-after_hand s.confs s.number q s.held) ∙ up_to_beyond s.number (queue_of s.confs s.held q))
 
 module _ (q : Recipient) (s : CoreState) (core : IsCore s) where
   abbrev after : CoreState
-  after = handed q s
+  after = after_handing_out q s
 
   abbrev gives : Recipient → List Out
   gives r = cond (is_same r q) (ready_for q s) []

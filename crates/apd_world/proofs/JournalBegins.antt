@@ -8,7 +8,7 @@ use Rattle.apd_core.specs.Invariant.{AreDecided}
 use Rattle.apd_core.proofs.HeldLemmas.{queue_of-no_outs}
 use Rattle.apd_core.proofs.Settling.{decided_fit}
 use Rattle.apd_world.specs.Journal.{Journal}
-use Rattle.apd_world.specs.StandsFor.{BeginsAt, IsJournalOf, LeadsSafely, StandsFor, waiting_for}
+use Rattle.apd_world.specs.StandsFor.{BeginsAt, IsJournalOf, LeadsSafely, StandsFor, waiting_outs}
 use Rattle.apd_world.proofs.JournalLemmas.{still_leads}
 use Rattle.apd_world.proofs.Moving.{moved_flows}
 use Rattle.apd_world.proofs.ReplaceLemmas.{replaced_moved, same_durable}
@@ -20,7 +20,7 @@ module _ {D R : Type 0} (w : World D R) where
   -- the journal that begins at the settled table, with what is not settled
   module _ (is : IsCore core) where
     abbrev to_give : Recipient → List Out
-    to_give r = waiting_for r w ++ ready_for r core
+    to_give r = waiting_outs r w ++ ready_for r core
 
     abbrev pub begun : Journal
     begun = record {
@@ -61,7 +61,7 @@ module _ {D R : Type 0} (w : World D R) where
     none_ready : (r : Recipient) → ready_for r core ≡ []
     none_ready r = ap (λ (q : Queue). map (λ (x : ℕ × Out). x.1) (up_to core.number q)) (none_held r)
 
-    none_waits : (r : Recipient) → waiting_for r w ≡ []
+    none_waits : (r : Recipient) → waiting_outs r w ≡ []
     none_waits (Radio b) = empty b
     none_waits Control = refl
 
@@ -83,7 +83,7 @@ module _ {D R : Type 0} (disk : DiskModel D) (radio : RadioModel R) (frames : R 
   abbrev same : durable_of new ≡ durable_of old
   same = same_durable disk radio frames b other old new answer h
 
-  still_waits : (r : Recipient) → waiting_for r new ≡ waiting_for r old
+  still_waits : (r : Recipient) → waiting_outs r new ≡ waiting_outs r old
   still_waits (Radio c) =
       moved_flows [] [] (slot_at (slots_of old) c) (slot_at (slots_of new) c) (replaced_moved disk radio frames b other old new answer h c)
       ∙ append-nil (queue_of old c)

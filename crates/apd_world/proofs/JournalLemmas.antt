@@ -3,20 +3,20 @@ use Rattle.std.proofs.Common.{◌≡◌, ℕ, zero, suc, ◌+◌, ◌≤◌, Lis
 use Rattle.std.specs.List.{AllByRecursion}
 use Rattle.std.proofs.lemmas.List.{append-nil, length-take-le, take-append-drop, take-append-le}
 use Rattle.std.proofs.Math.Seq.{take-append_seam, drop-append_seam}
-use Rattle.apd_world.proofs.Words.{Account, Answer, Applied, Apply, AreFit, AreHeldFor, AreMadeInTurn, AreUnsettled, Ask, Conf, Control, CoreState, DiskModel, DurableCore, Goes, Hand, Handed, Happening, IsProper, IsSafe, IsStepMade, IsWorldStep, Joins, LastHeard, LeadsSince, LeavesOnly, NoMemory, Nothing, Out, Query, Queued, Radio, RadioModel, Recipient, Settles, Shows, ShowsEither, ShowsFlight, State, Step, Tells, Told, World, account, applied, device_of, durable_of, front_of, given, one_more, outs_run, queue_of, ready_for, run}
-use Rattle.apd_core.specs.Core.{answered}
+use Rattle.apd_world.proofs.Words.{Account, Answer, Applied, Apply, AreFit, AreHeldFor, AreMadeInTurn, AreUnsettled, Ask, Conf, Control, CoreState, DiskModel, DurableCore, Goes, Hand, Handed, Happening, IsProper, IsSafe, IsStepMade, IsWorldStep, Joins, LastHeard, LeadsSince, LeavesOnly, NoMemory, Nothing, Out, Query, Queued, Radio, RadioModel, Recipient, Settles, Shows, ShowsEither, ShowsFlight, State, Step, Tells, Told, World, account, applied_outs, device_of, durable_of, front_of, handed_outs, one_more, outs_run, queue_of, ready_for, run}
+use Rattle.apd_core.specs.Core.{answer_to_query}
 use Rattle.apd_core.proofs.Keeping.{decided_means}
 use Rattle.apd_core.proofs.Queues.{all_weaker}
 use Rattle.apd_ctrl.specs.Texts.{text}
 use Rattle.apd_disk.proofs.Moments.{then_run, weaker}
 use Rattle.apd_mlme.proofs.TrueOutsLemmas.{all_both}
 use Rattle.apd_world.specs.Journal.{GoesOn, IsJournal, Journal, Keeps, SpeaksOf, after}
-use Rattle.apd_world.specs.StandsFor.{LeadsOn, LeadsSafely, LeadsTo, StandsFor, all_answered, answered_by, said_to, standing, told_of, waiting_for}
+use Rattle.apd_world.specs.StandsFor.{LeadsOn, LeadsSafely, LeadsTo, StandsFor, all_answers, answers_in, outs_in_steps, account_of, account_after, waiting_outs}
 use Rattle.apd_world.specs.declared.step.Told.TheVariants.{Answered as Read}
 use Rattle.apd_world.proofs.Accounts.{account_append, account_behind, account_state, answered_append, behind, said_append}
 use Rattle.apd_world.proofs.Goings.{fit-append, outs_run-append, run-append}
 use Rattle.apd_world.proofs.Moving.{flows}
-use Rattle.apd_world.proofs.Standing.{shows_flight}
+use Rattle.apd_world.proofs.DurableSteps.{shows_flight}
 
 -- ---- what is told inside
 module _ {D R : Type 0} (radio : RadioModel R) (old new : World D R) where
@@ -27,7 +27,7 @@ module _ {D R : Type 0} (radio : RadioModel R) (old new : World D R) where
   happens_alike confs step inside told a h = ap (λ t. one_more confs step t a) (sym h.0)
 
   -- and the same is answered
-  pub said_alike : (step : Step) (inside told : Told) → Joins radio step inside told old new → (given Control step inside ≡ given Control step told) × (answered_by inside ≡ answered_by told)
+  pub said_alike : (step : Step) (inside told : Told) → Joins radio step inside told old new → (handed_outs Control step inside ≡ handed_outs Control step told) × (answers_in inside ≡ answers_in told)
   said_alike (Hand (Radio b)) (Handed outs) (Queued count) h = (refl, refl)
   said_alike (Hand (Radio b)) NoMemory NoMemory h = (refl, refl)
   said_alike (Hand (Radio b)) Nothing Nothing h = (refl, refl)
@@ -37,7 +37,7 @@ module _ {D R : Type 0} (radio : RadioModel R) (old new : World D R) where
   said_alike (Apply b) Nothing Nothing h = (refl, refl)
   said_alike (Apply b) Nothing told h = absurd h.goes.first
   said_alike (Apply b) inside told h = absurd h
-  said_alike step inside told h = (ap (given Control step) (sym h.0), ap answered_by (sym h.0))
+  said_alike step inside told h = (ap (handed_outs Control step) (sym h.0), ap answers_in (sym h.0))
 
 -- ---- lists in parts
 module _ {A : Type 0} (d : ℕ) (hs es front rest : List A) (le : d ≤ length hs) (split : drop d hs ++ es ≡ front ++ rest) where
@@ -88,9 +88,9 @@ kept_since es m g us j k l image goes keeps =
 -- ---- what is read
 -- an answer from the settled table
 abbrev IsOf : CoreState → Answer → Type 0
-IsOf core answer = (q : Query) × (answer ≡ answered core q)
+IsOf core answer = (q : Query) × (answer ≡ answer_to_query core q)
 
-reads : {D : Type 0} (x : Step) (t : Told) (old new : DurableCore D) → Tells x t old new → AllByRecursion (IsOf old.core) (answered_by t)
+reads : {D : Type 0} (x : Step) (t : Told) (old new : DurableCore D) → Tells x t old new → AllByRecursion (IsOf old.core) (answers_in t)
 reads (Ask q) (Read answer) old new tells = ((q, tells.answer_is), tt)
 reads x (Read answer) old new tells = absurd tells
 reads x t old new tells = tt
@@ -128,7 +128,7 @@ module _ {D R : Type 0} (j : Journal) (old : World D R) (stands : StandsFor old 
       record { front = count; all_durable = omega arith; within = omega (arith, within, long); shows = subst (Shows image) is shown.shows }
 
   module _ (es : List Happening) (m : LastHeard) (g : Recipient → List Out) (new : World D R) (goes : Goes es g core (durable_of new).core) (heard : (durable_of new).core.heard ≡ m) (said : Recipient → List Out)
-      (flows : (r : Recipient) → said r ++ waiting_for r new ≡ waiting_for r old ++ g r) (answers : List Answer) (of : AllByRecursion (IsOf core) answers) where
+      (flows : (r : Recipient) → said r ++ waiting_outs r new ≡ waiting_outs r old ++ g r) (answers : List Answer) (of : AllByRecursion (IsOf core) answers) where
     abbrev after_core : CoreState
     after_core = (durable_of new).core
 
@@ -151,15 +151,15 @@ module _ {D R : Type 0} (j : Journal) (old : World D R) (stands : StandsFor old 
         ∙ (λ i. outs_run r j.first j.confs (take j.durable j.happened) ++ outs_run r (sym stands.settled i) (sym stands.confs i) settles.settled)
 
     given_so : (r : Recipient) → j.owed r ++ outs_run r j.first j.confs (take later.durable later.happened)
-        ≡ (j.given r ++ said r) ++ (waiting_for r new ++ ready_for r after_core)
+        ≡ (j.given r ++ said r) ++ (waiting_outs r new ++ ready_for r after_core)
     given_so r =
         let front = stands.journal.given r in
         let outs = outs_run r j.first j.confs (take j.durable j.happened) in
         let more = outs_run r core.settled core.confs settles.settled in
-        let wait = waiting_for r old in
+        let wait = waiting_outs r old in
         let ready = ready_for r core in
         let ready' = ready_for r after_core in
-        let wait' = waiting_for r new in
+        let wait' = waiting_outs r new in
         ap (λ os. j.owed r ++ os) (now_outs r) ∙ sym (append_assoc (j.owed r) outs more)
         ∙ ap (λ os. os ++ more) (front.1 ∙ ap (λ os. j.given r ++ os) (stands.waiting r)) ∙ append_assoc (j.given r) (wait ++ ready) more
         ∙ ap (λ os. j.given r ++ os) (append_assoc wait ready more ∙ ap (λ os. wait ++ os) (sym (settles.released r (stands.held r)))
@@ -192,7 +192,7 @@ module _ {D R : Type 0} (j : Journal) (old : World D R) (stands : StandsFor old 
       sound = stands.journal.sound;
       fit = fit-append j.confs j.happened es j.first stands.journal.fit (subst (λ cs. AreFit (run j.first j.confs j.happened) cs es) stands.confs (subst (λ (s : State). AreFit s core.confs es) front_is goes.fit));
       durable = taken_within j.durable j.happened es settles.settled settles.left stands.journal.durable settles.split;
-      given = λ r. (waiting_for r new ++ ready_for r after_core, given_so r);
+      given = λ r. (waiting_outs r new ++ ready_for r after_core, given_so r);
       read = all_both (SpeaksOf later) j.read answers (all_weaker (SpeaksOf j) (SpeaksOf later) still_read j.read stands.journal.read) (all_weaker (IsOf core) (SpeaksOf later) now_read answers of);
     }
 
@@ -227,20 +227,20 @@ then_leads xs ys ts us a mid b j k l past more = record {
   each = length-append ts us ∙ (λ i. past.each i + more.each i) ∙ sym (length-append xs ys);
   stands = more.stands;
   goes_on =
-      let one = told_of j xs ts in
-      let others = told_of k ys us in
-      let all = told_of j (xs ++ ys) (ts ++ us) in
-      let both = then_goes one.happened others.happened one.heard others.heard (λ r. said_to r xs ts) (λ r. said_to r ys us) (all_answered ts) (all_answered us) j k l past.goes_on more.goes_on in
+      let one = account_after j xs ts in
+      let others = account_after k ys us in
+      let all = account_after j (xs ++ ys) (ts ++ us) in
+      let both = then_goes one.happened others.happened one.heard others.heard (λ r. outs_in_steps r xs ts) (λ r. outs_in_steps r ys us) (all_answers ts) (all_answers us) j k l past.goes_on more.goes_on in
       let state : run j.first j.confs (j.happened ++ one.happened) ≡ one.state =
-      run-append j.confs j.happened one.happened j.first ∙ sym (account_state j.confs xs ts (run j.first j.confs j.happened) (standing j) refl) in
-      let from : standing k ≡ record { happened = []; state = one.state; heard = one.heard } =
-      ap standing past.goes_on.only ∙ (λ i. record { happened = []; state = state i; heard = one.heard }) in
+      run-append j.confs j.happened one.happened j.first ∙ sym (account_state j.confs xs ts (run j.first j.confs j.happened) (account_of j) refl) in
+      let from : account_of k ≡ record { happened = []; state = one.state; heard = one.heard } =
+      ap account_of past.goes_on.only ∙ (λ i. record { happened = []; state = state i; heard = one.heard }) in
       let parts : all ≡ behind one.happened others =
-      account_append j.confs xs ys ts us (standing j) past.each ∙ account_behind j.confs ys us one.happened one.state one.heard
+      account_append j.confs xs ys ts us (account_of j) past.each ∙ account_behind j.confs ys us one.happened one.state one.heard
       ∙ ap (behind one.happened) (λ i. account (sym past.goes_on.only i).confs ys us (sym from i)) in
-      subst (λ (z : Account). GoesOn z.happened z.heard (λ r. said_to r (xs ++ ys) (ts ++ us)) (all_answered (ts ++ us)) j l) (sym parts)
-      (subst (λ (vs : List Answer). GoesOn (one.happened ++ others.happened) others.heard (λ r. said_to r (xs ++ ys) (ts ++ us)) vs j l) (answered_append ts us)
-      (subst (λ (os : Recipient → List Out). GoesOn (one.happened ++ others.happened) others.heard os (all_answered ts ++ all_answered us) j l) (λ i r. said_append r xs ys ts us past.each i) both));
+      subst (λ (z : Account). GoesOn z.happened z.heard (λ r. outs_in_steps r (xs ++ ys) (ts ++ us)) (all_answers (ts ++ us)) j l) (sym parts)
+      (subst (λ (vs : List Answer). GoesOn (one.happened ++ others.happened) others.heard (λ r. outs_in_steps r (xs ++ ys) (ts ++ us)) vs j l) (answered_append ts us)
+      (subst (λ (os : Recipient → List Out). GoesOn (one.happened ++ others.happened) others.heard os (all_answers ts ++ all_answers us) j l) (λ i r. said_append r xs ys ts us past.each i) both));
 }
 
 module _ {D R : Type 0} (disk : DiskModel D) where
@@ -282,19 +282,19 @@ module _ {D R : Type 0} (disk : DiskModel D) (radio : RadioModel R) where
     before = (durable_of a).core
 
     -- what happens by what is told inside happens by what is told, from where the journal stands
-    one_happens : one_more before.confs x step.inside (record { happened = []; state = front_of before; heard = before.heard }) ≡ one_more j.confs x t (standing j)
+    one_happens : one_more before.confs x step.inside (record { happened = []; state = front_of before; heard = before.heard }) ≡ one_more j.confs x t (account_of j)
     one_happens =
         happens_alike radio a b before.confs x step.inside t (record { happened = []; state = front_of before; heard = before.heard }) step.joins
         ∙ (λ i. one_more (stands.confs i) x t (record { happened = []; state = front_is j a stands i; heard = stands.heard_so i }))
 
     abbrev es : List Happening
-    es = (told_of j (x ∷ []) (t ∷ [])).happened
+    es = (account_after j (x ∷ []) (t ∷ [])).happened
 
     abbrev heard : LastHeard
-    heard = (told_of j (x ∷ []) (t ∷ [])).heard
+    heard = (account_after j (x ∷ []) (t ∷ [])).heard
 
     abbrev gives : Recipient → List Out
-    gives r = given r x step.inside
+    gives r = handed_outs r x step.inside
 
     one_goes : Goes es gives before (durable_of b).core
     one_goes = subst (λ (zs : List Happening). Goes zs gives before (durable_of b).core) (ap (λ (z : Account). z.happened) one_happens) step.durable.goes
@@ -302,15 +302,15 @@ module _ {D R : Type 0} (disk : DiskModel D) (radio : RadioModel R) where
     one_heard : (durable_of b).core.heard ≡ heard
     one_heard = step.durable.heard ∙ ap (λ (z : Account). z.heard) one_happens
 
-    one_flows : (r : Recipient) → said_to r (x ∷ []) (t ∷ []) ++ waiting_for r b ≡ waiting_for r a ++ gives r
-    one_flows (Radio c) = ap (λ os. os ++ queue_of b c) (append-nil (applied c x t)) ∙ flows radio a b c x step.inside t step.joins
-    one_flows Control = append-nil (given Control x t ++ []) ∙ append-nil (given Control x t) ∙ sym (said_alike radio a b x step.inside t step.joins).0
+    one_flows : (r : Recipient) → outs_in_steps r (x ∷ []) (t ∷ []) ++ waiting_outs r b ≡ waiting_outs r a ++ gives r
+    one_flows (Radio c) = ap (λ os. os ++ queue_of b c) (append-nil (applied_outs c x t)) ∙ flows radio a b c x step.inside t step.joins
+    one_flows Control = append-nil (handed_outs Control x t ++ []) ∙ append-nil (handed_outs Control x t) ∙ sym (said_alike radio a b x step.inside t step.joins).0
 
-    one_read : AllByRecursion (IsOf before) (all_answered (t ∷ []))
-    one_read = all_both (IsOf before) (answered_by t) [] (subst (AllByRecursion (IsOf before)) (said_alike radio a b x step.inside t step.joins).1 (reads x step.inside (durable_of a) (durable_of b) step.durable.tells)) tt
+    one_read : AllByRecursion (IsOf before) (all_answers (t ∷ []))
+    one_read = all_both (IsOf before) (answers_in t) [] (subst (AllByRecursion (IsOf before)) (said_alike radio a b x step.inside t step.joins).1 (reads x step.inside (durable_of a) (durable_of b) step.durable.tells)) tt
 
     abbrev next : Journal
-    next = later j a stands es heard gives b one_goes one_heard (λ r. said_to r (x ∷ []) (t ∷ [])) one_flows (all_answered (t ∷ [])) one_read
+    next = later j a stands es heard gives b one_goes one_heard (λ r. outs_in_steps r (x ∷ []) (t ∷ [])) one_flows (all_answers (t ∷ [])) one_read
 
     pub one_leads : LeadsOn disk (x ∷ []) (t ∷ []) a b j
     one_leads = record {
@@ -318,7 +318,7 @@ module _ {D R : Type 0} (disk : DiskModel D) (radio : RadioModel R) where
       safely = record {
         leads = record {
           each = refl;
-          stands = stands_later j a stands es heard gives b one_goes one_heard (λ r. said_to r (x ∷ []) (t ∷ [])) one_flows (all_answered (t ∷ [])) one_read;
+          stands = stands_later j a stands es heard gives b one_goes one_heard (λ r. outs_in_steps r (x ∷ []) (t ∷ [])) one_flows (all_answers (t ∷ [])) one_read;
           goes_on = record { only = refl; durable = omega arith };
         };
         proper = made.safe.proper;

@@ -12,7 +12,7 @@ mod SlotLemmas
 mod RoundLemmas
 mod SoFar
 pub mod RunLemmas
-mod Standing
+mod DurableSteps
 mod Speaking
 mod StepLemmas
 mod ReplaceLemmas

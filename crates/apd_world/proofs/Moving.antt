@@ -3,7 +3,7 @@ use Rattle.std.proofs.Common.{◌≡◌, ◌<◌, ◌≤◌, Bool, true, false, 
 use Rattle.std.specs.Cmp.{eq_by_cmp_equiv}
 use Rattle.std.specs.Ordering.{eq_by_cmp}
 use Rattle.std.proofs.lemmas.List.{append-nil}
-use Rattle.apd_world.proofs.Words.{Applied, Apply, AreExact, AreQueued, Bssid, Control, Hand, Handed, HasNoSlot, IsApplied, IsExact, Joins, NoMemory, Nothing, Out, Queued, Radio, RadioModel, RestStays, SameButRoom, Slot, SlotFault, SlotGoes, Step, Told, World, applied, bssid_cmp, given, queue_if, queue_of, radio_of, slot_at, slot_in, slots_of, wanted_after_all, wanted_then}
+use Rattle.apd_world.proofs.Words.{Applied, Apply, AreExact, AreQueued, Bssid, Control, Hand, Handed, HasNoSlot, IsApplied, IsExact, Joins, NoMemory, Nothing, Out, Queued, Radio, RadioModel, RestStays, SameButRoom, Slot, SlotFault, SlotGoes, Step, Told, World, applied_outs, bssid_cmp, handed_outs, queue_if, queue_of, radio_of, slot_at, slot_in, slots_of, wanted_after_all, wanted_then}
 use Rattle.apd_base.proofs.AddrLemmas.{bssid_total, bssid_exact}
 use Rattle.apd_base.proofs.MapLemmas.{one_or_apart, tied}
 use Rattle.apd_core.proofs.Queues.{all_set}
@@ -86,7 +86,7 @@ module _ {D R : Type 0} (radio : RadioModel R) (old new : World D R) where
         subst (λ t. MovedAt b (off t) (on t)) (sym apart) (subst (AreMoved (off false) (on false) slot) (sym (other_slot c So old new h b (turned b c apart))) still)
   ]
 
-  pub moved : (b : Bssid) (step : Step) (inside told : Told) → Joins radio step inside told old new → MovedAt b (applied b step told) (given (Radio b) step inside)
+  pub moved : (b : Bssid) (step : Step) (inside told : Told) → Joins radio step inside told old new → MovedAt b (applied_outs b step told) (handed_outs (Radio b) step inside)
   moved b (Hand (Radio c)) (Handed outs) (Queued count) h = goes_moved b c (AreQueued outs) (λ t. []) (λ t. cond t outs []) refl refl (queued outs) h.1
   moved b (Hand (Radio c)) NoMemory NoMemory h = goes_moved b c SameButRoom (λ t. []) (λ t. []) refl refl same_but_room h
   moved b (Hand (Radio c)) Nothing Nothing h = rest_moved b h.1
@@ -100,9 +100,9 @@ module _ {D R : Type 0} (radio : RadioModel R) (old new : World D R) where
   moved b (Apply c) inside told h = absurd h
   moved b step inside told h = rest_moved b h.1
 
-  pub flows : (b : Bssid) (step : Step) (inside told : Told) → Joins radio step inside told old new → applied b step told ++ queue_of new b ≡ queue_of old b ++ given (Radio b) step inside
+  pub flows : (b : Bssid) (step : Step) (inside told : Told) → Joins radio step inside told old new → applied_outs b step told ++ queue_of new b ≡ queue_of old b ++ handed_outs (Radio b) step inside
   flows b step inside told h =
-      moved_flows (applied b step told) (given (Radio b) step inside) (slot_at (slots_of old) b) (slot_at (slots_of new) b) (moved b step inside told h)
+      moved_flows (applied_outs b step told) (handed_outs (Radio b) step inside) (slot_at (slots_of old) b) (slot_at (slots_of new) b) (moved b step inside told h)
 
   -- one out less waits
   pub fewer : (b : Bssid) (inside told : Told) → Joins radio (Apply b) inside told old new → (told ≡ NoMemory → ⊥) → 1 ≤ length (queue_of old b) → length (queue_of new b) < length (queue_of old b)
@@ -118,7 +118,7 @@ module _ {D R : Type 0} (radio : RadioModel R) (old new : World D R) where
 
   -- without a slot it stays so
   pub no_slot : (b : Bssid) (step : Step) (inside told : Told) → Joins radio step inside told old new → HasNoSlot b old → HasNoSlot b new
-  no_slot b step inside told h = moved_none (applied b step told) (given (Radio b) step inside) (slot_at (slots_of old) b) (slot_at (slots_of new) b) (moved b step inside told h)
+  no_slot b step inside told h = moved_none (applied_outs b step told) (handed_outs (Radio b) step inside) (slot_at (slots_of old) b) (slot_at (slots_of new) b) (moved b step inside told h)
 
   -- the radio of each slot that is up has what is wanted
   pub rest_exact : RestStays old new → AreExact radio (slots_of old) → AreExact radio (slots_of new)

@@ -4,7 +4,7 @@ use Rattle.std.specs.FinMap as maps
 use Rattle.std.specs.Prelude.{◌↔◌}
 use Rattle.std.proofs.lemmas.List.{get_or-set_same, take-set}
 use Rattle.std.proofs.lemmas.Option.{slice_get-get_or}
-use Rattle.apd_world.proofs.Words.{Addr, AreExact, AreHandedBack, AreHeardAt, AreLeft, AreResumed, Bssid, Conf, CoreState, DiskModel, DurableCore, EndsAtSlot, HasNotResumed, IsExact, IsResumed, LastHeard, LeavesOnly, Moment, Radio, RadioModel, Shows, Slot, SlotFault, Sound, State, Store, StoreFault, WorldFault, aid_at, bssid_of, driven, front_of, held_for, installed_rows, new_core, queue_if, radio_of, slot_at, slot_in, slot_place, wanted_after_all, wanted_then}
+use Rattle.apd_world.proofs.Words.{Addr, AreExact, AreHandedBack, AreHeardAt, AreLeft, AreResumed, Bssid, Conf, CoreState, DiskModel, DurableCore, EndsAtSlot, HasNotResumed, IsExact, IsResumed, LastHeard, LeavesOnly, Moment, Radio, RadioModel, Shows, Slot, SlotFault, Sound, State, Store, StoreFault, WorldFault, aid_at, bssid_of, driver_after_all, front_of, held_for, installed_rows, new_core, queue_if, radio_of, slot_at, slot_in, slot_place, wanted_after_all, wanted_then}
 use Rattle.apd_core.proofs.HeldLemmas.{queue_of-no_outs}
 use Rattle.apd_core.proofs.Queues.{all_weaker}
 use Rattle.apd_disk.specs.Disk.{Only}
@@ -12,7 +12,7 @@ use Rattle.apd_slot.specs.Resuming.{IsGivenRows}
 use Rattle.apd_slot.specs.Slots.{is_up_of, queue_of as slot_queue, wanted_of}
 use Rattle.apd_slot.specs.Wanted.{Stations}
 use Rattle.apd_slot.proofs.RowsLemmas.{installed_are, installed_at}
-use Rattle.apd_store.specs.Outside.{device_of as store_device}
+use Rattle.apd_store.specs.Outside.{store_device}
 use Rattle.apd_store.specs.Recovery.{IsHonestlyRecovered, IsRecovered}
 use Rattle.apd_store.specs.declared.fault.StoreFault.TheVariants as store_fault
 use Rattle.apd_world.specs.BegunAnew.{IsBegunAnew, IsBegunWith, IsHonestlyBegunAnew, IsHonestlyNotBegunAnew, IsNotBegunAnew}
@@ -76,11 +76,11 @@ module _ {R : Type 0} (radio : RadioModel R) (slots : List (Slot R)) (table : St
 
   -- nothing waits, and nothing is held
   pub begun_following : (core : CoreState) (confs : List Conf) (heard : LastHeard) → core ≡ new_core table confs heard
-      → (b : Bssid) (slot : Slot R) → slot_at slots b ≡ Some slot → (a : Addr) → driven (held_for (Radio b) core) (maps.get (wanted_then slot)) a ≡ aid_at (front_of core) b a
+      → (b : Bssid) (slot : Slot R) → slot_at slots b ≡ Some slot → (a : Addr) → driver_after_all (held_for (Radio b) core) (maps.get (wanted_then slot)) a ≡ aid_at (front_of core) b a
   begun_following core confs heard is b slot at a =
       let f = found b slot (slot_place slots b) refl at in
       let held : held_for (Radio b) core ≡ [] = ap (held_for (Radio b)) is ∙ ap (map (λ x. x.1)) (queue_of-no_outs confs (Radio b)) in
-      (λ i. driven (held i) (maps.get (wanted_after_all (f.0.resumed.queue i) (f.0.wanted i))) a)
+      (λ i. driver_after_all (held i) (maps.get (wanted_after_all (f.0.resumed.queue i) (f.0.wanted i))) a)
       ∙ (λ i. installed_are table (bssid_of slot) i a) ∙ ap (λ c. aid_at table c a) f.1
       ∙ ap (λ (z : CoreState). aid_at (front_of z) b a) (sym is)
 

@@ -4,7 +4,7 @@ use Rattle.std.proofs.lemmas.Bool.{false≢true, lt-leb, ne_eqb}
 use Rattle.std.specs.Prelude.{⊤, ◌≢◌, IsTrue, is_some, not, replicate, nat_le, ◌||◌, ◌==◌}
 use Rattle.std.specs.Option.{option_or, unwrap_or}
 use Rattle.std.proofs.lemmas.List.{replicate_more}
-use Rattle.apd_world.proofs.Words.{AreMadeInTurn, AreSafelyMade, Batch, Busy, Call, Called, Change, ComesTo, Commit, Commits, Committer, CoreState, DiskModel, Done, DurableCore, Failed, Flusher, GoesQuietly, HasNoBatch, HasNoCall, HasNoReceipt, HasRisen, HasRoomForNext, Idle, IsCalled, IsDurable, IsFlight, IsGood, IsInStep, IsNext, IsPublished, IsRound, IsSafeAtBoth, IsStepMade, IsTakenUp, IsUnderWay, IsWaiting, IsWhole, IsWorldStep, Loaded, NoMemory, Nothing, Phase, Publish, Published, RadioModel, Receipt, RestStays, State, Step, Store, StoreFault, Take, Tells, Told, World, after_call, answer_of, calls_left, device_of, durable_of, flight_of, flusher_of, held_batch, phase_of, round, said, waiting_batch, waiting_receipt}
+use Rattle.apd_world.proofs.Words.{AreMadeInTurn, AreSafelyMade, Batch, Busy, Call, Called, Change, ComesTo, Commit, Commits, Committer, CoreState, DiskModel, Done, DurableCore, Failed, Flusher, GoesQuietly, HasNoBatch, HasNoCall, HasNoReceipt, HasRisen, HasRoomForNext, Idle, IsCalled, IsDurable, IsFlight, IsGood, IsInStep, IsNext, IsPublished, IsRound, IsSafeAtBoth, IsStepMade, IsTakenUp, IsUnderWay, IsWaiting, IsWhole, IsWorldStep, Loaded, NoMemory, Nothing, Phase, Publish, Published, RadioModel, Receipt, RestStays, State, Step, Store, StoreFault, Take, Tells, Told, World, after_call, answer_of, calls_left, device_of, durable_of, flight_of, flusher_of, held_batch, phase_of, round, commit_of, waiting_batch, waiting_receipt}
 use Rattle.apd_store.specs.Phases.{calls_from}
 use Rattle.apd_store.specs.declared.fault.StoreFault.TheVariants as store_fault
 use Rattle.apd_store.specs.declared.phase.Phase.{Phase as StorePhase}
@@ -18,7 +18,7 @@ use Rattle.apd_flusher.specs.Phases.{phase_from}
 use Rattle.apd_world.specs.declared.step.Commit.TheVariants as commit
 use Rattle.apd_world.proofs.Goings.{quiet_then}
 use Rattle.apd_world.proofs.RunLemmas.{made_then, one_made, risen_since}
-use Rattle.apd_world.proofs.Standing.{is_flight, none_flies, none_some}
+use Rattle.apd_world.proofs.DurableSteps.{is_flight, none_flies, none_some}
 use Rattle.apd_world.proofs.Speaking.{next_core}
 
 -- ---- what is said
@@ -30,7 +30,7 @@ first_said None None c n = refl
 
 -- a step more
 pub said_more : (tolds : List Told) (told : Told) (called : Option Commit) → called ≡ None → ((rest : List Told) → answer_of (tolds ++ rest) ≡ unwrap_or called (answer_of rest))
-    → (rest : List Told) → answer_of ((tolds ++ told ∷ []) ++ rest) ≡ unwrap_or (said told) (answer_of rest)
+    → (rest : List Told) → answer_of ((tolds ++ told ∷ []) ++ rest) ≡ unwrap_or (commit_of told) (answer_of rest)
 said_more tolds told called none says rest = ap answer_of (append_assoc tolds (told ∷ []) rest) ∙ says (told ∷ rest) ∙ ap (λ o. unwrap_or o (answer_of (told ∷ rest))) none
 
 -- ---- phases, and how many calls are left
@@ -255,7 +255,7 @@ module _ {D : Type 0} (disk : DiskModel D) where
         let is = receipt_of_flight new.committer new.core.settled new.core.failed (flight_of new.core) h.receipt h.kept q.in_step in
         h.tells.0.0 refl (subst (λ (s : CoreState). IsFlight (held_batch h.receipt) s) h.tells.1 (is_flight new.core (held_batch h.receipt) is))
 
-    published_comes : (last : Told) → IsBegun old start → AreMade calls start now → HasNoCall now → Tells Publish last now new → (Whole old → Whole new) → Outcome (unwrap_or (said last) commit.Nothing) old new
+    published_comes : (last : Told) → IsBegun old start → AreMade calls start now → HasNoCall now → Tells Publish last now new → (Whole old → Whole new) → Outcome (unwrap_or (commit_of last) commit.Nothing) old new
     published_comes (Published (Ok x)) begun made none h whole = settled_published x begun made h
     published_comes (Published (Err publish_fault.Foreign)) begun made none h whole = λ p. not_foreign h (whole p)
     published_comes (Published (Err publish_fault.NoMemory)) begun made none h whole = tt
@@ -274,14 +274,14 @@ module _ {D : Type 0} (disk : DiskModel D) where
 
     calls_come : (last : Told) (called : Option Commit) → IsBegun old start → (called ≡ None → AreMade calls start now) → ((answer : Commit) → called ≡ Some answer → IsRefusedCall answer calls old start now)
         → (called ≡ None → HasNoCall now) → Tells Publish last now new → disk.failed (device_of now) ≤ disk.failed (device_of new) → (Whole old → Whole now) → (Whole old → Whole new)
-        → Outcome (unwrap_or called (unwrap_or (said last) commit.Nothing)) old new
+        → Outcome (unwrap_or called (unwrap_or (commit_of last) commit.Nothing)) old new
     calls_come last None begun made ended none publishes count whole_now whole_new = published_comes last begun (made refl) (none refl) publishes whole_new
     calls_come last (Some answer) begun made ended none publishes count whole_now whole_new =
         let r = ended answer refl in
         subst (λ (a : Commit). Outcome a old new) (sym r.is) (λ p. call_comes r.fault begun r.refused count whole_now p)
 
     -- what it comes to
-    pub comes : (first last : Told) (called : Option Commit) → IsMade first last called calls old start now new → Outcome (unwrap_or (said first) (unwrap_or called (unwrap_or (said last) commit.Nothing))) old new
+    pub comes : (first last : Told) (called : Option Commit) → IsMade first last called calls old start now new → Outcome (unwrap_or (commit_of first) (unwrap_or called (unwrap_or (commit_of last) commit.Nothing))) old new
     comes (Loaded (Ok x)) last called m = calls_come last called (begun_loaded x old start m.takes) m.made m.ended m.none m.publishes m.count_last m.whole_now m.whole_new
     comes (Loaded (Err fault)) last called m = λ p. refused_comes fault old start new m.takes (m.whole_start p)
     comes Nothing last called m = calls_come last called (begun_none old start m.takes) m.made m.ended m.none m.publishes m.count_last m.whole_now m.whole_new
@@ -295,13 +295,13 @@ module _ {D : Type 0} (disk : DiskModel D) where
     no_receipt : {A : Type 0} (receipt : _) → HasNoReceipt now → IsNextReceipt receipt now.committer new.committer → A
     no_receipt receipt none next = ⊎_elim (λ waits. none_some (waiting_receipt now.committer) receipt none.0 waits.0) (λ given. absurd (none.1 given.1.done)) next
 
-    rests_published : (last : Told) → HasNoReceipt now → Tells Publish last now new → unwrap_or (said last) commit.Nothing ≡ commit.Nothing
+    rests_published : (last : Told) → HasNoReceipt now → Tells Publish last now new → unwrap_or (commit_of last) commit.Nothing ≡ commit.Nothing
     rests_published (Published r) none h = no_receipt h.receipt none h.next
     rests_published Nothing none h = refl
     rests_published told none h = absurd h
 
     rests_called : (last : Told) (called : Option Commit) → start ≡ old → HasNoCall old → HasNoReceipt old → (called ≡ None → AreMade calls start now)
-        → ((answer : Commit) → called ≡ Some answer → IsRefusedCall answer calls old start now) → Tells Publish last now new → unwrap_or called (unwrap_or (said last) commit.Nothing) ≡ commit.Nothing
+        → ((answer : Commit) → called ≡ Some answer → IsRefusedCall answer calls old start now) → Tells Publish last now new → unwrap_or called (unwrap_or (commit_of last) commit.Nothing) ≡ commit.Nothing
     rests_called last None same none free made ended publishes =
         let here = subst (λ (w : DurableCore D). HasNoCall w) (sym same) none in
         ⊎_elim (λ at_once. rests_published last (subst (λ (w : DurableCore D). HasNoReceipt w) (sym (at_once ∙ same)) free) publishes)
@@ -310,7 +310,7 @@ module _ {D : Type 0} (disk : DiskModel D) where
         no_call_left (phase_in start) (subst (λ (w : DurableCore D). HasNoCall w) (sym same) none) (ended answer refl).refused.some
 
     pub rests : (first last : Told) (called : Option Commit) → IsMade first last called calls old start now new → HasNoBatch old → HasNoCall old → HasNoReceipt old
-        → unwrap_or (said first) (unwrap_or called (unwrap_or (said last) commit.Nothing)) ≡ commit.Nothing
+        → unwrap_or (commit_of first) (unwrap_or called (unwrap_or (commit_of last) commit.Nothing)) ≡ commit.Nothing
     rests (Loaded (Ok x)) last called m none still free = no_next m.takes.load.batch start.core none m.takes.next
     rests (Loaded (Err fault)) last called m none still free = no_next m.takes.load.batch start.core none m.takes.next
     rests Nothing last called m none still free = rests_called last called m.takes.1 still free m.made m.ended m.publishes
@@ -318,7 +318,7 @@ module _ {D : Type 0} (disk : DiskModel D) where
     rests told last called m none still free = absurd m.takes
 
     -- ---- where the device is told as failed, its count rose
-    last_risen : (last : Told) → Tells Publish last now new → unwrap_or (said last) commit.Nothing ≢ commit.Refused store_fault.Device
+    last_risen : (last : Told) → Tells Publish last now new → unwrap_or (commit_of last) commit.Nothing ≢ commit.Refused store_fault.Device
     last_risen (Published (Ok x)) h is = cc
     last_risen (Published (Err publish_fault.Foreign)) h is = cc
     last_risen (Published (Err publish_fault.NoMemory)) h is = cc
@@ -326,7 +326,7 @@ module _ {D : Type 0} (disk : DiskModel D) where
     last_risen told h is = absurd h
 
     calls_risen : (last : Told) (called : Option Commit) → ((answer : Commit) → called ≡ Some answer → IsRefusedCall answer calls old start now) → Tells Publish last now new → disk.failed (device_of now) ≤ disk.failed (device_of new)
-        → unwrap_or called (unwrap_or (said last) commit.Nothing) ≡ commit.Refused store_fault.Device → HasRisen (disk.failed (device_of old)) (disk.failed (device_of new))
+        → unwrap_or called (unwrap_or (commit_of last) commit.Nothing) ≡ commit.Refused store_fault.Device → HasRisen (disk.failed (device_of old)) (disk.failed (device_of new))
     calls_risen last None ended publishes count is = absurd (last_risen last publishes is)
     calls_risen last (Some answer) ended publishes count is = λ below.
         let r = ended answer refl in
@@ -336,7 +336,7 @@ module _ {D : Type 0} (disk : DiskModel D) where
         omega (arith, more, count)
 
     pub risen : (first last : Told) (called : Option Commit) → IsMade first last called calls old start now new
-        → unwrap_or (said first) (unwrap_or called (unwrap_or (said last) commit.Nothing)) ≡ commit.Refused store_fault.Device → HasRisen (disk.failed (device_of old)) (disk.failed (device_of new))
+        → unwrap_or (commit_of first) (unwrap_or called (unwrap_or (commit_of last) commit.Nothing)) ≡ commit.Refused store_fault.Device → HasRisen (disk.failed (device_of old)) (disk.failed (device_of new))
     risen (Loaded (Ok x)) last called m is = calls_risen last called m.ended m.publishes m.count_last is
     risen (Loaded (Err fault)) last called m is = absurd (never_device fault m.takes.load.batch (flusher_of old) (flusher_of start) m.takes.load.tells (let both : commit.Refused fault ≡ commit.Refused store_fault.Device = is in cc))
     risen Nothing last called m is = calls_risen last called m.ended m.publishes m.count_last is
@@ -386,7 +386,7 @@ module _ {D : Type 0} (disk : DiskModel D) where
   commits answer old new c ok same below memory room some = absurd c
 
   -- the call that is next
-  next_made : (told : Told) (calls : ℕ) (start mid new : DurableCore D) → Tells Call told mid new → AreMade calls start mid → (phase_in mid ≡ Busy) ⊎ (phase_in mid ≡ Failed) → said told ≡ None
+  next_made : (told : Told) (calls : ℕ) (start mid new : DurableCore D) → Tells Call told mid new → AreMade calls start mid → (phase_in mid ≡ Busy) ⊎ (phase_in mid ≡ Failed) → commit_of told ≡ None
       → AreMade (calls + 1) start new
   next_made (Called (Ok x)) calls start mid new h made some none = call_made calls start mid new made some x h (⊎_elim (λ zero. absurd (let one = h.tells.0 in omega (arith, one, zero))) (λ busy. busy) (quiet_or_busy (flusher_of mid).store.phase))
   next_made (Called (Err fault)) calls start mid new h made some none = absurd (let no : Some (commit.Refused fault) ≡ None = none in cc)
@@ -395,13 +395,13 @@ module _ {D : Type 0} (disk : DiskModel D) where
 
   next_refused : (told : Told) (answer : Commit) (calls : ℕ) (old start mid new : DurableCore D) → Tells Call told mid new → AreMade calls start mid → (phase_in mid ≡ Busy) ⊎ (phase_in mid ≡ Failed)
       → (phase_in mid ≡ Busy → 1 ≤ calls_left (flusher_of mid)) → disk.failed (device_of old) ≤ disk.failed (device_of mid) → disk.failed (device_of mid) ≤ disk.failed (device_of new)
-      → (told ≡ Called (Err store_fault.Device) → HasRisen (disk.failed (device_of mid)) (disk.failed (device_of new))) → said told ≡ Some answer → IsRefusedCall answer (calls + 1) old start new
+      → (told ≡ Called (Err store_fault.Device) → HasRisen (disk.failed (device_of mid)) (disk.failed (device_of new))) → commit_of told ≡ Some answer → IsRefusedCall answer (calls + 1) old start new
   next_refused (Called (Err fault)) answer calls old start mid new h made some more count later rises is = record {
     fault = fault;
     is = let both : Some (commit.Refused fault) ≡ Some answer = is in cc;
     refused = call_refused calls start mid new made some fault old h count later (λ device. rises (ap (λ (e : StoreFault). Called (Err e)) device)) more;
   }
-  next_refused (Called (Ok x)) answer calls old start mid new h made some more count later rises is = none_some (said (Called (Ok x))) answer refl is
+  next_refused (Called (Ok x)) answer calls old start mid new h made some more count later rises is = none_some (commit_of (Called (Ok x))) answer refl is
   next_refused Nothing answer calls old start mid new h made some more count later rises is = no_call_left (phase_in mid) h.0 some
   next_refused told answer calls old start mid new h made some more count later rises is = absurd h
 
@@ -426,7 +426,7 @@ module _ {D R : Type 0} (disk : DiskModel D) (radio : RadioModel R) where
     pub tolds : List Told
     pub start : DurableCore D
     pub takes : Tells Take first (durable_of old) start
-    pub taken_is : taken ≡ said first
+    pub taken_is : taken ≡ commit_of first
     pub whole_start : IsWhole disk (durable_of old) → IsWhole disk start
     pub steps : AreSafelyMade disk radio (Take ∷ replicate calls Call) (first ∷ tolds) old now
     pub rest : RestStays old now
@@ -435,7 +435,7 @@ module _ {D R : Type 0} (disk : DiskModel D) (radio : RadioModel R) where
     pub ended : (answer : Commit) → called ≡ Some answer → IsRefusedCall disk answer calls (durable_of old) start (durable_of now)
 
   pub calling_begun : (first : Told) (taken called : Option Commit) (old start : World D R) → IsWorldStep radio Take first old start → IsStepMade disk first (durable_of old) (durable_of start)
-      → IsSafeAtBoth disk (durable_of old) (durable_of start) → taken ≡ said first → called ≡ None → IsCalling taken called old start
+      → IsSafeAtBoth disk (durable_of old) (durable_of start) → taken ≡ commit_of first → called ≡ None → IsCalling taken called old start
   calling_begun first taken called old start step made here is none =
       let tells = of_store Take first old start tt step in
       record {
@@ -455,7 +455,7 @@ module _ {D R : Type 0} (disk : DiskModel D) (radio : RadioModel R) where
 
   pub calling_on : (told : Told) (taken called more_called : Option Commit) (old mid new : World D R) → IsCalling taken called old mid → called ≡ None
       → (phase_of (flusher_of (durable_of mid)) ≡ Busy) ⊎ (phase_of (flusher_of (durable_of mid)) ≡ Failed) → (phase_of (flusher_of (durable_of mid)) ≡ Busy → 1 ≤ calls_left (flusher_of (durable_of mid)))
-      → IsWorldStep radio Call told mid new → IsStepMade disk told (durable_of mid) (durable_of new) → IsSafeAtBoth disk (durable_of mid) (durable_of new) → more_called ≡ said told → IsCalling taken more_called old new
+      → IsWorldStep radio Call told mid new → IsStepMade disk told (durable_of mid) (durable_of new) → IsSafeAtBoth disk (durable_of mid) (durable_of new) → more_called ≡ commit_of told → IsCalling taken more_called old new
   calling_on told taken called more_called old mid new k none some more step made here is =
       let tells = of_store Call told mid new tt step in
       record {
@@ -495,7 +495,7 @@ module _ {D R : Type 0} (disk : DiskModel D) (radio : RadioModel R) where
 
   module _ (taken called : Option Commit) (last : Told) (old now new : World D R) (k : IsCalling taken called old now) (none : called ≡ None → HasNoCall (durable_of now))
       (step : IsWorldStep radio Publish last now new) (made : IsStepMade disk last (durable_of now) (durable_of new)) (here : IsSafeAtBoth disk (durable_of now) (durable_of new))
-      (result : Commit) (is : result ≡ unwrap_or (option_or (option_or taken called) (said last)) commit.Nothing) where
+      (result : Commit) (is : result ≡ unwrap_or (option_or (option_or taken called) (commit_of last)) commit.Nothing) where
     abbrev tolds : List Told
     tolds = k.first ∷ (k.tolds ++ last ∷ [])
 
@@ -518,8 +518,8 @@ module _ {D R : Type 0} (disk : DiskModel D) (radio : RadioModel R) where
       whole_new = steps.whole;
     }
 
-    in_turn : result ≡ unwrap_or (said k.first) (unwrap_or called (unwrap_or (said last) commit.Nothing))
-    in_turn = is ∙ first_said taken called (said last) commit.Nothing ∙ ap (λ o. unwrap_or o (unwrap_or called (unwrap_or (said last) commit.Nothing))) k.taken_is
+    in_turn : result ≡ unwrap_or (commit_of k.first) (unwrap_or called (unwrap_or (commit_of last) commit.Nothing))
+    in_turn = is ∙ first_said taken called (commit_of last) commit.Nothing ∙ ap (λ o. unwrap_or o (unwrap_or called (unwrap_or (commit_of last) commit.Nothing))) k.taken_is
 
     pub committed : IsCommitted result old new
     committed =
@@ -533,7 +533,7 @@ module _ {D R : Type 0} (disk : DiskModel D) (radio : RadioModel R) where
             four = four_calls disk k.calls before k.start mid after k.first last called made_all;
             tolds = tolds;
             made = steps;
-            answer_is = in_turn ∙ ap (λ a. unwrap_or (said k.first) a) (sym (k.says (last ∷ [])));
+            answer_is = in_turn ∙ ap (λ a. unwrap_or (commit_of k.first) a) (sym (k.says (last ∷ [])));
             risen = λ told. risen disk k.calls before k.start mid after k.first last called made_all (sym in_turn ∙ told);
           };
           outcome = subst (λ (a : Commit). Outcome disk a before after) (sym in_turn) (comes disk k.calls before k.start mid after k.first last called made_all);

@@ -8,19 +8,19 @@ use Rattle.std.proofs.lemmas.List.{append-nil, map-append, replicate_more}
 use Rattle.std.proofs.lemmas.List.Elements.{All-append, All-cons, All-head, All-map, All-nil, All-push, All-tail, All-weaker}
 use Rattle.std.proofs.lemmas.Grind.{flat_map-append}
 use Rattle.std.proofs.Math.Seq.{take-append_seam, take-suc}
-use Rattle.apd_world.proofs.Words.{Accept, Accepted, Applied, Apply, AreAccepted, AreAllApplied, AreAnswered, AreExact, AreFollowing, AreMadeInTurn, AreSafelyMade, Ask, Bssid, Call, Called, Commit, Conf, Configure, Control, CoreState, Device, DiskModel, DurableCore, GoesQuietly, Hand, Handed, Happening, HasGoneOn, HasGoneUnrefused, HasRisen, IsAtRest, IsFlushed, IsGiven, IsHandedOut, IsHanding, IsNoRefusal, IsProper, IsRound, IsSafe, IsSafeAtBoth, IsStepMade, IsWhole, IsWorldStep, Joins, Loaded, NoMemory, Nothing, OnlyHands, Out, Publish, Published, Queued, QuietReason, Radio, RadioModel, Recipient, Step, Take, Tells, Told, World, answer_of, applied, applies, device_of, durable_of, handed, hands, last_of, queue_of, radio_hands, ready_for, recipient_of, round, rounds, said, slots_of, up_to}
+use Rattle.apd_world.proofs.Words.{Accept, Accepted, Applied, Apply, AreAccepted, AreAllApplied, AreAnswered, AreExact, AreFollowing, AreMadeInTurn, AreSafelyMade, Ask, Bssid, Call, Called, Commit, Conf, Configure, Control, CoreState, Device, DiskModel, DurableCore, GoesQuietly, Hand, Handed, Happening, HasGoneOn, HasGoneUnrefused, HasRisen, IsAtRest, IsFlushed, IsGiven, IsHandedOut, IsHanding, IsNoRefusal, IsProper, IsRound, IsSafe, IsSafeAtBoth, IsStepMade, IsWhole, IsWorldStep, Joins, Loaded, NoMemory, Nothing, OnlyHands, Out, Publish, Published, Queued, QuietReason, Radio, RadioModel, Recipient, Step, Take, Tells, Told, World, answer_of, applied_outs, applies, device_of, durable_of, after_handing_out, hands, last_of, queue_of, radio_hands, ready_for, recipient_of, round, rounds, commit_of, slots_of, up_to}
 use Rattle.apd_core.specs.Held.{HeldOuts}
 use Rattle.apd_core.proofs.HeldLemmas.{queue_of-after_hand_other}
 use Rattle.apd_core.specs.declared.publish_fault.PublishFault.{PublishFault}
 use Rattle.apd_core.specs.declared.publish_fault.PublishFault.TheVariants as publish_fault
-use Rattle.apd_world.specs.Starting.{AreConfiguring, IsStarted, asked}
+use Rattle.apd_world.specs.Starting.{AreConfiguring, IsStarted, request_of}
 use Rattle.apd_world.specs.declared.step.Commit.TheVariants as commit
 use Rattle.apd_world.specs.declared.step.Told.TheVariants.{Answered as Read}
 use Rattle.apd_world.proofs.FollowLemmas.{following}
 use Rattle.apd_world.proofs.Goings.{is_or_not, ready_none, turned}
 use Rattle.apd_world.proofs.JournalLemmas.{lead_since}
 use Rattle.apd_world.proofs.Moving.{exact, flows, no_slot}
-use Rattle.apd_world.proofs.Standing.{none_some}
+use Rattle.apd_world.proofs.DurableSteps.{none_some}
 
 -- ---- what is told more
 more_told : {X : Type 0} (t : X) (ts : List X) (x : X) → Contains (t ∷ ts) x → (t ≡ x) ⊎ Contains ts x
@@ -98,10 +98,10 @@ handing_beside (Hand r) h = tt
 handing_beside (Apply b) h = tt
 handing_beside x h = absurd h
 
-pub asked_beside : (x : Step) (o : Option (Result Happening QuietReason)) → asked x ≡ Some o → IsBeside x
-asked_beside Take o is = none_some (asked Take) o refl is
-asked_beside Call o is = none_some (asked Call) o refl is
-asked_beside Publish o is = none_some (asked Publish) o refl is
+pub asked_beside : (x : Step) (o : Option (Result Happening QuietReason)) → request_of x ≡ Some o → IsBeside x
+asked_beside Take o is = none_some (request_of Take) o refl is
+asked_beside Call o is = none_some (request_of Call) o refl is
+asked_beside Publish o is = none_some (request_of Publish) o refl is
 asked_beside x o is = tt
 
 -- a round in which none is told comes to one of these
@@ -110,14 +110,14 @@ IsUnrefused commit.Settled = ⊤
 IsUnrefused commit.Nothing = ⊤
 IsUnrefused answer = ⊥
 
-first_unrefused : (t : Told) (rest : Commit) → IsUnrefused (unwrap_or (said t) rest) → IsNoRefusal t
+first_unrefused : (t : Told) (rest : Commit) → IsUnrefused (unwrap_or (commit_of t) rest) → IsNoRefusal t
 first_unrefused (Loaded (Err f)) rest h = h
 first_unrefused (Called (Err f)) rest h = h
 first_unrefused (Published (Err publish_fault.Foreign)) rest h = h
 first_unrefused (Published (Err publish_fault.NoMemory)) rest h = h
 first_unrefused t rest h = tt
 
-rest_unrefused : (t : Told) (rest : Commit) → ((r : Result (Unit {0}) PublishFault) → t ≡ Published r → ⊥) → IsUnrefused (unwrap_or (said t) rest) → IsUnrefused rest
+rest_unrefused : (t : Told) (rest : Commit) → ((r : Result (Unit {0}) PublishFault) → t ≡ Published r → ⊥) → IsUnrefused (unwrap_or (commit_of t) rest) → IsUnrefused rest
 rest_unrefused (Published r) rest other h = absurd (other r refl)
 rest_unrefused (Loaded (Err f)) rest other h = absurd h
 rest_unrefused (Called (Err f)) rest other h = absurd h
@@ -261,8 +261,8 @@ module _ {D R : Type 0} (radio : RadioModel R) where
 module _ {D R : Type 0} (disk : DiskModel D) (radio : RadioModel R) where
   pub all_stay_empty : (b : Bssid) (ts : List Told) (a c : World D R) → AreMadeInTurn disk radio (Apply b ∷ []) ts a c → (r : Bssid) → queue_of a r ≡ [] → queue_of c r ≡ []
   all_stay_empty b (t ∷ []) a c h r none =
-      nothing_left (applied r (Apply b) t) (queue_of c r)
-      (ap (λ (w : World D R). applied r (Apply b) t ++ queue_of w r) h.3.0 ∙ flows radio a h.0 r (Apply b) h.1.inside t h.1.joins ∙ ap (λ os. os ++ []) none)
+      nothing_left (applied_outs r (Apply b) t) (queue_of c r)
+      (ap (λ (w : World D R). applied_outs r (Apply b) t ++ queue_of w r) h.3.0 ∙ flows radio a h.0 r (Apply b) h.1.inside t h.1.joins ∙ ap (λ os. os ++ []) none)
   all_stay_empty b (t ∷ ts) a c h r none = absurd h.3
   all_stay_empty b [] a c h r none = absurd h
 
@@ -272,9 +272,9 @@ on_err (Ok x) p = tt
 on_err (Err e) p = p
 
 -- ---- what is settled is given
-ready_kept : (r q : Recipient) (s : CoreState) → ready_for r s ≡ [] → ready_for r (handed q s) ≡ []
+ready_kept : (r q : Recipient) (s : CoreState) → ready_for r s ≡ [] → ready_for r (after_handing_out q s) ≡ []
 ready_kept r q s none = elim (is_or_not r q) [
-  | inl same ↦ subst (λ (z : Recipient). ready_for z (handed q s) ≡ []) (sym same) (ready_none q s)
+  | inl same ↦ subst (λ (z : Recipient). ready_for z (after_handing_out q s) ≡ []) (sym same) (ready_none q s)
   | inr apart ↦ ap (λ p. map (λ (x : ℕ × Out). x.1) (up_to s.number p)) (queue_of-after_hand_other s.confs s.number q r s.held (turned r q apart)) ∙ none
 ]
 
@@ -542,10 +542,10 @@ module _ {D R : Type 0} (disk : DiskModel D) (radio : RadioModel R) where
 abbrev pub asked_of : Conf → Option (Option (Result Happening QuietReason))
 asked_of conf = Some (Some (Ok (Configure conf.bssid conf.accept conf.deny)))
 
-configuring_more : (confs : List Conf) (i : ℕ) (d : Conf) (steps : List Step) (x : Step) → i < length confs → AreConfiguring (take i confs) steps → asked x ≡ asked_of (get_or confs i d)
+configuring_more : (confs : List Conf) (i : ℕ) (d : Conf) (steps : List Step) (x : Step) → i < length confs → AreConfiguring (take i confs) steps → request_of x ≡ asked_of (get_or confs i d)
     → AreConfiguring (take (i + 1) confs) (steps ++ x ∷ [])
 configuring_more confs i d steps x lt past is =
-    map-append asked steps (x ∷ []) ∙ (λ j. past j ++ is j ∷ []) ∙ sym (map-append asked_of (take i confs) (get_or confs i d ∷ []))
+    map-append request_of steps (x ∷ []) ∙ (λ j. past j ++ is j ∷ []) ∙ sym (map-append asked_of (take i confs) (get_or confs i d ∷ []))
     ∙ sym (ap (λ n. map asked_of (take n confs)) (add-one i) ∙ ap (map asked_of) (take-suc confs i d lt))
 
 module _ {D R : Type 0} (disk : DiskModel D) (radio : RadioModel R) where
@@ -553,7 +553,7 @@ module _ {D R : Type 0} (disk : DiskModel D) (radio : RadioModel R) where
   none_accepted w made = record { steps = []; tolds = []; configuring = refl; told = All-nil (λ told. told ≢ NoMemory); none = All-nil IsNoRefusal; made = made }
 
   pub accepted_more : (confs : List Conf) (i : ℕ) (d : Conf) (x : Step) (t : Told) (a b c : World D R) → i < length confs → AreAccepted disk radio (take i confs) a b
-      → asked x ≡ asked_of (get_or confs i d) → (t ≡ NoMemory → ⊥) → IsWorldStep radio x t b c → IsStepMade disk t (durable_of b) (durable_of c)
+      → request_of x ≡ asked_of (get_or confs i d) → (t ≡ NoMemory → ⊥) → IsWorldStep radio x t b c → IsStepMade disk t (durable_of b) (durable_of c)
       → IsSafeAtBoth disk (durable_of b) (durable_of c) → AreAccepted disk radio (take (i + 1) confs) a c
   accepted_more confs i d x t a b c lt past is told step made here = record {
     steps = past.steps ++ x ∷ [];

@@ -1,7 +1,7 @@
 -- A core that has failed stays so; and no frame is from the broadcast address, so no row ever has it.
 use Rattle.std.proofs.Common.{Bool, true, ⊎_elim, ◌≡◌, ℕ, List, [], Option, Some, None, Result, Ok, Err, refl, sym, ap, subst, ◌∙◌}
 use Rattle.std.proofs.lemmas.List.Elements.{All-nil, All-cons}
-use Rattle.apd_world.proofs.Words.{Accept, Accepted, Addr, Answered, Apply, Ask, Batch, Bssid, Call, Called, Conf, Configure, CoreState, DurableCore, Hand, Handed, Happening, Input, IsNext, IsWorldStep, LastHeard, Loaded, Moment, NoMemory, Nothing, Publish, Published, QuietReason, Radio, RadioModel, Reception, Sound, Step, StoreFault, Take, Tells, Told, World, after_request, due, durable_of, entered, entered_as, failed_after, front_of, handed, happening_of, state_after, verdict}
+use Rattle.apd_world.proofs.Words.{Accept, Accepted, Addr, Answered, Apply, Ask, Batch, Bssid, Call, Called, Conf, Configure, CoreState, DurableCore, Hand, Handed, Happening, Input, IsNext, IsWorldStep, LastHeard, Loaded, Moment, NoMemory, Nothing, Publish, Published, QuietReason, Radio, RadioModel, Reception, Sound, Step, StoreFault, Take, Tells, Told, World, after_request, due_row, durable_of, step_happenings, reception_happenings, has_failed_after, front_of, after_handing_out, happening_of, state_after, verdict}
 use Rattle.apd_frame.specs.Contents.{Contents}
 use Rattle.apd_frame.specs.Outcome.{outcome}
 use Rattle.apd_frame.specs.declared.ignored.Ignored.{Ignored}
@@ -12,7 +12,7 @@ use Rattle.apd_mlme.specs.laws.Outs.{AreSoToAll}
 use Rattle.apd_mlme.proofs.AdmissionLemmas.{run_broadcast}
 use Rattle.apd_mlme.proofs.TrueOutsLemmas.{verdict_so_to_all}
 use Rattle.apd_mlme.proofs.VerdictLemmas.{run_sound}
-use Rattle.apd_core.specs.Requests.{expiry, ordered, unless_ignored}
+use Rattle.apd_core.specs.Requests.{expiry, order_happening, frame_happening}
 use Rattle.apd_core.specs.declared.input.Input.TheVariants as input
 use Rattle.apd_core.specs.declared.ticket.Accepted.{Accepted as CoreAccepted}
 use Rattle.apd_core.specs.declared.ticket.Accepted.TheVariants as core_accepted
@@ -30,7 +30,7 @@ request_fails_none s m (Ok h) (core_accepted.Quiet reason) = refl
 request_fails_none s m (Ok h) a = refl
 request_fails_none s m (Err reason) a = refl
 
-still_failed : (result : Result (Unit {0}) StoreFault) (failed : Bool) → failed ≡ true → failed_after result failed ≡ true
+still_failed : (result : Result (Unit {0}) StoreFault) (failed : Bool) → failed ≡ true → has_failed_after result failed ≡ true
 still_failed (Ok x) failed was = was
 still_failed (Err store_fault.Device) failed was = refl
 still_failed (Err fault) failed was = was
@@ -52,7 +52,7 @@ module _ {D : Type 0} (old new : DurableCore D) where
   stays_failed Publish (Published (Ok x)) h = λ was. ap (λ (s : CoreState). s.failed) h.tells.1 ∙ was
   stays_failed Publish (Published (Err fault)) h = λ was. ap (λ (s : CoreState). s.failed) h.tells.1 ∙ was
   stays_failed Publish Nothing h = same_failed h.1
-  stays_failed (Hand r) (Handed outs) h = core_failed (handed r old.core) h.only refl
+  stays_failed (Hand r) (Handed outs) h = core_failed (after_handing_out r old.core) h.only refl
   stays_failed (Hand r) NoMemory h = same_failed h.1
   stays_failed (Hand (Radio b)) Nothing h = same_failed h
   stays_failed (Ask q) (Answered answer) h = same_failed h.only
@@ -62,11 +62,11 @@ module _ {D : Type 0} (old new : DurableCore D) where
   stays_failed step told h = absurd h
 
 -- ---- whom a request's frame is from
-received : (b : Bssid) (bytes : List ℕ) (o : Result Contents Ignored) → outcome bytes b ≡ o → (h : Happening) → unless_ignored b o ≡ Ok h → IsFromStation h
+received : (b : Bssid) (bytes : List ℕ) (o : Result Contents Ignored) → outcome bytes b ≡ o → (h : Happening) → frame_happening b o ≡ Ok h → IsFromStation h
 received b bytes (Ok frame) e h is = let same : Heard b frame ≡ h = cc in subst IsFromStation same (sender_not_broadcast bytes b frame e)
 received b bytes (Err reason) e h is = cc
 
-ordered_from : (event h : Happening) → ordered event ≡ Ok h → IsFromStation h
+ordered_from : (event h : Happening) → order_happening event ≡ Ok h → IsFromStation h
 ordered_from (Kick b to reason deauth tag) h is = let same : Kick b to reason deauth tag ≡ h = cc in subst IsFromStation same tt
 ordered_from (ListEdit b which edit tag) h is = let same : ListEdit b which edit tag ≡ h = cc in subst IsFromStation same tt
 ordered_from (Heard b frame) h is = cc
@@ -80,17 +80,17 @@ expired (Some row) h is = let same : Expire row.0 row.1 ≡ h = cc in subst IsFr
 pub from_station : (confs : List Conf) (heard : LastHeard) (m : Moment) (i : Input) (h : Happening) → happening_of confs heard m i ≡ Ok h → IsFromStation h
 from_station confs heard m (input.Received b bytes) h is = received b bytes.now (outcome bytes.now b) refl h is
 from_station confs heard m (input.Order event) h is = ordered_from (happening event) h is
-from_station confs heard m input.Tick h is = expired (due confs m heard) h is
+from_station confs heard m input.Tick h is = expired (due_row confs m heard) h is
 from_station confs heard m (input.Configure b accept deny) h is = let same : Configure b accept.now deny.now ≡ h = cc in subst IsFromStation same tt
 
-by_answer : (answer : Reception) (asked : Result Happening QuietReason) → ((h : Happening) → asked ≡ Ok h → IsFromStation h) → AreFromStations (entered_as answer asked)
+by_answer : (answer : Reception) (asked : Result Happening QuietReason) → ((h : Happening) → asked ≡ Ok h → IsFromStation h) → AreFromStations (reception_happenings answer asked)
 by_answer (reception.Entry number) (Ok h) each = All-cons IsFromStation h [] (each h refl) (All-nil IsFromStation)
 by_answer (reception.Entry number) (Err reason) each = All-nil IsFromStation
 by_answer (reception.Quiet reason) asked each = All-nil IsFromStation
 by_answer reception.Busy asked each = All-nil IsFromStation
 by_answer reception.Stopped asked each = All-nil IsFromStation
 
-by_step : (confs : List Conf) (heard : LastHeard) (step : Step) (told : Told) → AreFromStations (entered confs heard step told)
+by_step : (confs : List Conf) (heard : LastHeard) (step : Step) (told : Told) → AreFromStations (step_happenings confs heard step told)
 by_step confs heard (Accept i m) (Accepted answer) = by_answer answer (happening_of confs heard m i) (from_station confs heard m i)
 by_step confs heard step told = All-nil IsFromStation
 
@@ -99,7 +99,7 @@ module _ {D R : Type 0} (radio : RadioModel R) (step : Step) (told : Told) (old 
   before = (durable_of old).core
 
   abbrev happened : List Happening
-  happened = entered before.confs before.heard step made.inside
+  happened = step_happenings before.confs before.heard step made.inside
 
   pub no_broadcast_row : NoBroadcastRow (front_of before) → NoBroadcastRow (front_of (durable_of new).core)
   no_broadcast_row none = subst NoBroadcastRow (sym made.durable.goes.front) (run_broadcast before.confs happened (front_of before) (by_step before.confs before.heard step made.inside) none)

@@ -3,7 +3,7 @@ use Rattle.std.proofs.Common.{◌≡◌, ◌+◌, Bool, List, [], ◌∷◌, Opt
 use Rattle.std.specs.Prelude.{◌↔◌, ◌==◌, if◌then◌else◌, is_some, IfSome, IfNone, IsSome, IsNone, IsTrue}
 use Rattle.std.proofs.lemmas.Bool.{false≢true}
 use Rattle.std.proofs.lemmas.List.{take-append-le}
-use Rattle.apd_world.proofs.Words.{Accept, Accepted, Answer, Answered, AreFit, Ask, Batch, Call, CallTells, Called, Committer, CoreState, DiskModel, DurableCore, Flusher, Goes, Hand, Handed, Happening, HasNoBatch, HasNoneToLoad, HasRisen, Input, IsAccepted, IsCalled, IsCore, IsGood, IsHanded, IsImaged, IsNext, IsNextBatch, IsPublished, IsRead, IsStep, IsStepMade, IsTaken, IsTakenUp, IsTurnMade, IsWhole, Keeps, LeavesOnly, Loaded, Moment, NoMemory, Nothing, Out, Phase, Publish, Published, Query, QuietReason, Reception, Recipient, State, Step, StoreFault, Take, Tells, Told, TurnTells, accepted, after_call, after_request, cannot_take, changes_of, device_of, entered, entered_as, entered_by, failed_after, flight_of, flusher_of, front_of, given, handed, happening_of, heard_after, heard_as, heard_by, phase_of, published, reception_of, state_after, verdict, waiting_batch}
+use Rattle.apd_world.proofs.Words.{Accept, Accepted, Answer, Answered, AreFit, Ask, Batch, Call, CallTells, Called, Committer, CoreState, DiskModel, DurableCore, Flusher, Goes, Hand, Handed, Happening, HasNoBatch, HasNoneToLoad, HasRisen, Input, IsAccepted, IsCalled, IsCore, IsGood, IsHanded, IsImaged, IsNext, IsNextBatch, IsPublished, IsAsked, IsStep, IsStepMade, IsTaken, IsTakenUp, IsTurnMade, IsWhole, Keeps, LeavesOnly, Loaded, Moment, NoMemory, Nothing, Out, Phase, Publish, Published, Query, QuietReason, Reception, Recipient, State, Step, StoreFault, Take, Tells, Told, TurnTells, answer_at, after_call, after_request, cannot_take, changes_of, device_of, step_happenings, reception_happenings, answer_happenings, has_failed_after, flight_of, flusher_of, front_of, handed_outs, after_handing_out, happening_of, heard_after, heard_as, heard_by, phase_of, after_publish, reception_of, state_after, verdict, waiting_batch}
 use Rattle.apd_journal.specs.Half.{IsGroup}
 use Rattle.apd_store.specs.declared.fault.StoreFault.TheVariants as store_fault
 use Rattle.apd_core.specs.declared.ticket.Accepted.{Accepted as CoreAccepted}
@@ -11,43 +11,43 @@ use Rattle.apd_core.specs.declared.ticket.Accepted.TheVariants as core_accepted
 use Rattle.apd_table.specs.Sound.{StaySound}
 use Rattle.apd_flusher.specs.Committing.{IsWhole as IsCommitter}
 use Rattle.apd_flusher.specs.Committing as committing
-use Rattle.apd_flusher.specs.Outside.{device_of as device_in}
+use Rattle.apd_flusher.specs.Outside.{flusher_device}
 use Rattle.apd_flusher.specs.declared.phase.Phase.TheVariants as phase
 use Rattle.apd_world.specs.declared.fault.WorldFault.TheVariants as world_fault
 use Rattle.apd_world.proofs.Speaking.{next_core}
-use Rattle.apd_world.proofs.Standing.{gives_whole, none_some}
+use Rattle.apd_world.proofs.DurableSteps.{gives_whole, none_some}
 use Rattle.apd_world.proofs.Goings.{goes_beside, goes_entry, goes_handed, goes_published, goes_unchanged}
 
 -- ---- any step that leaves this core
 module _ {D : Type 0} (step : Step) (told : Told) (old new : DurableCore D) where
-  pub step_by : (core : CoreState) → new.core ≡ core → Tells step told old new → Goes (entered old.core.confs old.core.heard step told) (λ r. given r step told) old.core core
+  pub step_by : (core : CoreState) → new.core ≡ core → Tells step told old new → Goes (step_happenings old.core.confs old.core.heard step told) (λ r. handed_outs r step told) old.core core
       → core.heard ≡ heard_after old.core.confs (front_of old.core) old.core.heard step told → IsStep step told old new
   step_by core is tells goes heard = record {
     tells = tells;
-    goes = subst (λ (s : CoreState). Goes (entered old.core.confs old.core.heard step told) (λ r. given r step told) old.core s) (sym is) goes;
+    goes = subst (λ (s : CoreState). Goes (step_happenings old.core.confs old.core.heard step told) (λ r. handed_outs r step told) old.core s) (sym is) goes;
     heard = ap (λ (s : CoreState). s.heard) is ∙ heard;
   }
 
   -- nothing has changed
   pub step_unchanged : new ≡ old → Tells step told old new
-      → Goes (entered old.core.confs old.core.heard step told) (λ r. given r step told) old.core old.core
+      → Goes (step_happenings old.core.confs old.core.heard step told) (λ r. handed_outs r step told) old.core old.core
       → old.core.heard ≡ heard_after old.core.confs (front_of old.core) old.core.heard step told → IsStep step told old new
   step_unchanged is tells goes heard = step_by old.core (ap (λ (w : DurableCore D). w.core) is) tells goes heard
 
 -- ---- a request
 pub record IsRequested (s : CoreState) (m : Moment) (asked : Result Happening QuietReason) (answer : Reception) (next : CoreState) : Type 0 where
-  pub goes : Goes (entered_as answer asked) (λ _. []) s next
+  pub goes : Goes (reception_happenings answer asked) (λ _. []) s next
   pub heard : next.heard ≡ heard_as s.confs (front_of s) m answer asked s.heard
   pub failed : next.failed ≡ s.failed
   pub settled : next.settled ≡ s.settled
   pub flight : flight_of next ≡ flight_of s
 
-unchanged_request : (s : CoreState) (m : Moment) (asked : Result Happening QuietReason) (answer : Reception) → entered_as answer asked ≡ [] → s.heard ≡ heard_as s.confs (front_of s) m answer asked s.heard
+unchanged_request : (s : CoreState) (m : Moment) (asked : Result Happening QuietReason) (answer : Reception) → reception_happenings answer asked ≡ [] → s.heard ≡ heard_as s.confs (front_of s) m answer asked s.heard
     → IsRequested s m asked answer s
 unchanged_request s m asked answer none heard =
     record { goes = subst (λ (es : List Happening). Goes es (λ _. []) s s) (sym none) (goes_unchanged s); heard = heard; failed = refl; settled = refl; flight = refl }
 
-pub requested : (s : CoreState) (m : Moment) (asked : Result Happening QuietReason) (a : CoreAccepted) → IsCore s → AreFit (front_of s) s.confs (entered_as (reception_of a) asked)
+pub requested : (s : CoreState) (m : Moment) (asked : Result Happening QuietReason) (a : CoreAccepted) → IsCore s → AreFit (front_of s) s.confs (reception_happenings (reception_of a) asked)
     → IsRequested s m asked (reception_of a) (state_after s m asked a)
 requested s m (Ok h) (core_accepted.Entry t) core fit = record {
   goes = goes_entry s m h core fit.0;
@@ -63,20 +63,20 @@ requested s m (Ok h) a core fit = unchanged_request s m (Ok h) (reception_of a) 
 requested s m (Err reason) (core_accepted.Entry t) core fit = unchanged_request s m _ _ refl refl
 requested s m (Err reason) a core fit = unchanged_request s m (Err reason) (reception_of a) refl refl
 
-same_entered : (a : CoreAccepted) (asked : Result Happening QuietReason) → entered_by a asked ≡ entered_as (reception_of a) asked
+same_entered : (a : CoreAccepted) (asked : Result Happening QuietReason) → answer_happenings a asked ≡ reception_happenings (reception_of a) asked
 same_entered (core_accepted.Entry t) (Ok h) = refl
 same_entered (core_accepted.Entry t) (Err reason) = refl
 same_entered (core_accepted.Quiet why) asked = refl
 same_entered core_accepted.Busy asked = refl
 same_entered core_accepted.Stopped asked = refl
 
-pub accepted_is : {D : Type 0} (i : Input) (m : Moment) (answer : Reception) (a : CoreAccepted) (old : DurableCore D) (core : CoreState) → answer ≡ reception_of a → a ≡ accepted old.core m i
-    → AreFit (front_of old.core) old.core.confs (entered_by a (happening_of old.core.confs old.core.heard m i)) → core ≡ after_request old.core m i → IsAccepted i m answer old (record old { core = core })
+pub accepted_is : {D : Type 0} (i : Input) (m : Moment) (answer : Reception) (a : CoreAccepted) (old : DurableCore D) (core : CoreState) → answer ≡ reception_of a → a ≡ answer_at old.core m i
+    → AreFit (front_of old.core) old.core.confs (answer_happenings a (happening_of old.core.confs old.core.heard m i)) → core ≡ after_request old.core m i → IsAccepted i m answer old (record old { core = core })
 accepted_is i m answer a old core is told fit after =
     let asked = happening_of old.core.confs old.core.heard m i in
     record {
       answer_is = is ∙ ap reception_of told;
-      fit = subst (λ (es : List Happening). AreFit (front_of old.core) old.core.confs es) (same_entered a asked ∙ ap (λ (z : Reception). entered_as z asked) (sym is)) fit;
+      fit = subst (λ (es : List Happening). AreFit (front_of old.core) old.core.confs es) (same_entered a asked ∙ ap (λ (z : Reception). reception_happenings z asked) (sym is)) fit;
       only = λ j. record old { core = after j };
     }
 
@@ -108,7 +108,7 @@ module _ {D : Type 0} (old new : DurableCore D) where
   accept_request i m answer core h =
       let asked = happening_of old.core.confs old.core.heard m i in
       subst (λ (z : Reception). IsRequested old.core m asked z (after_request old.core m i)) (sym h.answer_is)
-      (requested old.core m asked (accepted old.core m i) core (subst (λ (z : Reception). AreFit (front_of old.core) old.core.confs (entered_as z asked)) h.answer_is h.fit))
+      (requested old.core m asked (answer_at old.core m i) core (subst (λ (z : Reception). AreFit (front_of old.core) old.core.confs (reception_happenings z asked)) h.answer_is h.fit))
 
   pub accept_step : (i : Input) (m : Moment) (answer : Reception) → IsCore old.core → IsAccepted i m answer old new → IsStep (Accept i m) (Accepted answer) old new
   accept_step i m answer core h =
@@ -122,20 +122,20 @@ module _ {D : Type 0} (old new : DurableCore D) where
 
   call_step : (result : Result (Unit {0}) StoreFault) → IsCalled result old new → IsStep Call (Called result) old new
   call_step result h =
-      step_by Call (Called result) old new (after_call result old.core) (ap (λ (w : DurableCore D). w.core) h.only) h (goes_beside old.core old.core.flight old.core.heard (failed_after result old.core.failed)) refl
+      step_by Call (Called result) old new (after_call result old.core) (ap (λ (w : DurableCore D). w.core) h.only) h (goes_beside old.core old.core.flight old.core.heard (has_failed_after result old.core.failed)) refl
 
   pub publish_step : (x : Unit {0}) → IsCore old.core → IsPublished (Ok x) old new → IsStep Publish (Published (Ok x)) old new
-  publish_step x core h = step_by Publish (Published (Ok x)) old new (published old.core) h.tells.1 h (goes_published old.core core) refl
+  publish_step x core h = step_by Publish (Published (Ok x)) old new (after_publish old.core) h.tells.1 h (goes_published old.core core) refl
 
   pub unpublished_step : (fault : _) → IsPublished (Err fault) old new → IsStep Publish (Published (Err fault)) old new
   unpublished_step fault h = step_by Publish (Published (Err fault)) old new old.core h.tells.1 h (goes_unchanged old.core) refl
 
   pub hand_step : (q : Recipient) (outs : List Out) → IsCore old.core → IsHanded q outs old new → IsStep (Hand q) (Handed outs) old new
   hand_step q outs core h =
-      step_by (Hand q) (Handed outs) old new (handed q old.core) (ap (λ (w : DurableCore D). w.core) h.only) h
-      (subst (λ (os : List Out). Goes [] (λ r. given r (Hand q) (Handed os)) old.core (handed q old.core)) (sym h.outs_are) (goes_handed q old.core core)) refl
+      step_by (Hand q) (Handed outs) old new (after_handing_out q old.core) (ap (λ (w : DurableCore D). w.core) h.only) h
+      (subst (λ (os : List Out). Goes [] (λ r. handed_outs r (Hand q) (Handed os)) old.core (after_handing_out q old.core)) (sym h.outs_are) (goes_handed q old.core core)) refl
 
-  pub ask_step : (q : Query) (answer : Answer) → IsRead q answer old new → IsStep (Ask q) (Answered answer) old new
+  pub ask_step : (q : Query) (answer : Answer) → IsAsked q answer old new → IsStep (Ask q) (Answered answer) old new
   ask_step q answer h = step_unchanged (Ask q) (Answered answer) old new h.only h (goes_unchanged old.core) refl
 
 -- ---- what is handed to a committer: nothing where a batch waits, or else what the core gives
@@ -182,13 +182,13 @@ module _ {D : Type 0} (disk : DiskModel D) where
       (t.step busy, called_done (phase_of f) busy t.done, t.busy busy)
   call_tells (Err fault) f g t some fails = (t.phase, (λ was. err_same fault _ (fails was)), t.few)
 
-  call_rises : (r : Result (Unit {0}) StoreFault) (f g : Flusher D) → TurnTells disk r f g → r ≡ Err store_fault.Device → HasRisen (disk.failed (device_in f)) (disk.failed (device_in g))
+  call_rises : (r : Result (Unit {0}) StoreFault) (f g : Flusher D) → TurnTells disk r f g → r ≡ Err store_fault.Device → HasRisen (disk.failed (flusher_device f)) (disk.failed (flusher_device g))
   call_rises (Ok x) f g t is = absurd (ok_not_err x _ is)
   call_rises (Err fault) f g t is = t.device_failed (err_same fault _ is)
 
   pub called : (r : Result (Unit {0}) StoreFault) (old new : DurableCore D) (p : Phase) → p ≡ phase_of (flusher_of old) → (p ≡ phase.Busy) ⊎ (p ≡ phase.Failed)
       → new ≡ record old { core = after_call r old.core; committer = new.committer } → IsTurnMade disk r old.committer new.committer → Keeps disk old.committer new.committer
-      → ((s : State) (flight : Option Batch) (failed : Bool) → IsCommitter disk old.committer s flight failed → IsCommitter disk new.committer s flight (failed_after r failed))
+      → ((s : State) (flight : Option Batch) (failed : Bool) → IsCommitter disk old.committer s flight failed → IsCommitter disk new.committer s flight (has_failed_after r failed))
       → ((s : State) (flight : Option Batch) (failed : Bool) → IsCommitter disk old.committer s flight failed → IsImaged disk old.committer → LeavesOnly disk (device_of old) (device_of new) (committing.ShowsEither s flight))
       → IsStep Call (Called r) old new × IsStepMade disk (Called r) old new
   called r old new p is way only t keeps turns moments =

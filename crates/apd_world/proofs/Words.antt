@@ -1,6 +1,7 @@
 -- The words that proofs cite, passed on from one place. Declares nothing.
-pub use Rattle.apd_core.specs.Core.{accepted, after_request, batch_of, changes_of, entered_by, new_core, with_entry, with_sender}
-pub use Rattle.apd_core.specs.Heard.{AreHeardAt, due, heard_by}
+pub use Rattle.apd_journal.specs.Half.{changes_of}
+pub use Rattle.apd_core.specs.Core.{answer_at, after_request, batch_of, answer_happenings, new_core, with_entry, with_sender}
+pub use Rattle.apd_core.specs.Heard.{AreHeardAt, due_row, heard_by}
 pub use Rattle.apd_flusher.specs.Committing.{IsDurable, IsInStep, IsUnderWay, IsWaiting}
 pub use Rattle.apd_flusher.specs.Handing.{IsLoadGiven, IsNextBatch, IsTurnMade, IsUnloaded, Keeps, TurnTells}
 pub use Rattle.apd_flusher.specs.declared.phase.Phase.TheVariants.{Busy, Done, Failed, Idle}
@@ -15,13 +16,13 @@ pub use Rattle.apd_world.specs.Proper.{IsProper, IsSafe, IsSafeAtBoth, IsStepMad
 pub use Rattle.apd_world.specs.Queueing.{AreQueued, QueuesReady}
 pub use Rattle.apd_world.specs.Replacing.{IsReplaced, IsReplacedAt, RefusesRadio, Replaces}
 pub use Rattle.apd_world.specs.Resumed.{AreHandedBack, AreLeft, AreOfSame, AreResumed, EndsAtSlot, HasNotResumed, IsResumed}
-pub use Rattle.apd_world.specs.Round.{ComesTo, Commits, HasRoomForNext, IsRound, answer_of, round, said}
+pub use Rattle.apd_world.specs.Round.{ComesTo, Commits, HasRoomForNext, IsRound, answer_of, round, commit_of}
 pub use Rattle.apd_world.specs.Run.{IsStep}
 pub use Rattle.apd_world.specs.SafelyMade.{AreMadeInTurn, AreSafelyMade, LeadsSince}
 pub use Rattle.apd_world.specs.Shown.{ShowsEither, ShowsFlight, flight_of}
-pub use Rattle.apd_world.specs.Steps.{Account, account, entered, entered_as, given, heard_after, heard_as, one_more}
+pub use Rattle.apd_world.specs.Steps.{Account, account, step_happenings, reception_happenings, handed_outs, heard_after, heard_as, one_more}
 pub use Rattle.apd_world.specs.StepsMade.{AreAccepted, AreAllApplied, AreAnswered, AreSettled}
-pub use Rattle.apd_world.specs.Telling.{CallTells, HasNoBatch, HasNoCall, HasNoReceipt, IsAccepted, IsCalled, IsHanded, IsNext, IsPublished, IsRead, IsTakenUp, Tells, after_call, reception_of}
-pub use Rattle.apd_world.specs.Words.{Accept, Accepted, Addr, Answer, Answered, Applied, Apply, AreFit, Ask, Batch, Bssid, Call, Called, Change, Commit, Committer, Conf, Configure, Control, CoreState, Device, DiskModel, DurableCore, Flusher, Hand, Handed, Happening, HasForgotten, HasNoneToLoad, HasRisen, Input, IsCore, IsExact, IsFlight, IsGood, IsImaged, IsTaken, LastHeard, LeavesOnly, Loaded, Moment, NoMemory, Nothing, Out, Phase, Publish, Published, Query, Queued, QuietReason, Radio, RadioModel, Receipt, Reception, Recipient, SameButRoom, Shows, Slot, SlotFault, Sound, State, Step, Store, StoreFault, Take, Told, World, WorldFault, aid_at, bssid_cmp, bssid_of, calls_left, cannot_take, driven, failed_after, front_of, handed, happening_of, held_batch, held_for, installed_rows, last_of, outs_run, outs_to, phase_of, published, radio_of, ready_for, run, state_after, up_to, verdict, waiting_batch, waiting_receipt, wanted_after_all, wanted_then}
+pub use Rattle.apd_world.specs.Telling.{CallTells, HasNoBatch, HasNoCall, HasNoReceipt, IsAccepted, IsCalled, IsHanded, IsNext, IsPublished, IsAsked, IsTakenUp, Tells, after_call, reception_of}
+pub use Rattle.apd_world.specs.Words.{Accept, Accepted, Addr, Answer, Answered, Applied, Apply, AreFit, Ask, Batch, Bssid, Call, Called, Change, Commit, Committer, Conf, Configure, Control, CoreState, Device, DiskModel, DurableCore, Flusher, Hand, Handed, Happening, HasForgotten, HasNoneToLoad, HasRisen, Input, IsCore, IsExact, IsFlight, IsGood, IsImaged, IsTaken, LastHeard, LeavesOnly, Loaded, Moment, NoMemory, Nothing, Out, Phase, Publish, Published, Query, Queued, QuietReason, Radio, RadioModel, Receipt, Reception, Recipient, SameButRoom, Shows, Slot, SlotFault, Sound, State, Step, Store, StoreFault, Take, Told, World, WorldFault, aid_at, bssid_cmp, bssid_of, calls_left, cannot_take, driver_after_all, has_failed_after, front_of, after_handing_out, happening_of, held_batch, held_for, installed_rows, last_of, outs_run, outs_to, phase_of, after_publish, radio_of, ready_for, run, state_after, up_to, verdict, waiting_batch, waiting_receipt, wanted_after_all, wanted_then}
 pub use Rattle.apd_world.specs.WorldParts.{durable_of, queue_if, queue_of, slot_at, slot_in, slot_place, slots_of}
-pub use Rattle.apd_world.specs.WorldRun.{HasNoSlot, IsWorldStep, Joins, RestStays, SlotGoes, applied}
+pub use Rattle.apd_world.specs.WorldRun.{HasNoSlot, IsWorldStep, Joins, RestStays, SlotGoes, applied_outs}

@@ -4,7 +4,7 @@ use Rattle.apd_base.specs.declared.limits.TheConstants.{DEVICE_LENGTH}
 use Rattle.apd_world.specs.Words.{AreHeardAt, Conf, DiskModel, DurableCore, HasRisen, LeavesOnly, Moment, Only, Shows, Sound, State, Store, WorldFault, new_core}
 use Rattle.apd_store.specs.Commit.{IsIdle}
 use Rattle.apd_store.specs.Image.{IsMarked, IsMarkedOld, ShowsNone}
-use Rattle.apd_store.specs.Outside.{IsInside, device_of as store_device, phase_of}
+use Rattle.apd_store.specs.Outside.{IsInside, store_device, phase_of}
 use Rattle.apd_store.specs.declared.fault.StoreFault.TheVariants as store_fault
 use Rattle.apd_store.specs.declared.phase.Phase.TheVariants.{Idle}
 use Rattle.apd_flusher.specs.Outside.{store_of}

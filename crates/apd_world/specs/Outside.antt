@@ -6,4 +6,4 @@ abbrev pub flusher_of : {D : Type 0} → DurableCore D → Flusher D
 flusher_of w = committer.flusher_of w.committer
 
 abbrev pub device_of : {D : Type 0} → DurableCore D → D
-device_of w = committer.device_of (flusher_of w)
+device_of w = committer.flusher_device (flusher_of w)

@@ -2,7 +2,7 @@
 use Rattle.std.specs.Prelude.{◌≡◌, ◌+◌, ℕ, List, [], drop, map, take, Some, Err, slice_get}
 use Rattle.std.specs.List.{AllByRecursion}
 use Rattle.apd_world.specs.Words.{Bssid, DiskModel, IsGivenRows, RadioModel, Shows, Slot, SlotFault, State, Store, World, WorldFault, bssid_of, installed_rows, radio_of, wanted_of}
-use Rattle.apd_store.specs.Outside.{device_of}
+use Rattle.apd_store.specs.Outside.{store_device}
 use Rattle.apd_world.specs.Following.{AreExact, AreFollowing}
 use Rattle.apd_world.specs.Journal.{Resumed}
 use Rattle.apd_world.specs.WorldParts.{durable_of, queue_of, slots_of}
@@ -60,6 +60,6 @@ AreLeft radio s world_fault.NoSlot old new = ⊥
 -- no world was begun over this store and its table: the device and the slots are handed back, with this fault
 pub record AreHandedBack {D R : Type 0} (radio : RadioModel R) (store : Store D) (s : State) (slots : List (Slot R))
     (device : D) (left : List (Slot R)) (fault : WorldFault) : Type 0 where
-  pub device_is : device ≡ device_of store
+  pub device_is : device ≡ store_device store
   pub slots_are : AreLeft radio s fault slots left
   pub same : AreOfSame slots left

@@ -19,19 +19,19 @@ abbrev pub round : ℕ → List Step
 round calls = Take ∷ replicate calls Call ++ Publish ∷ []
 
 -- what a step says of its round: that it was refused, or that a batch is settled
-abbrev pub said : Told → Option Commit
-said (told.Loaded (Err fault)) = Some (Refused fault)
-said (told.Called (Err fault)) = Some (Refused fault)
-said (told.Published (Ok _)) = Some Settled
-said (told.Published (Err publish_fault.Foreign)) = Some Foreign
-said (told.Published (Err publish_fault.NoMemory)) = Some NoMemory
-said told.NoMemory = Some NoMemory
-said told = None
+abbrev pub commit_of : Told → Option Commit
+commit_of (told.Loaded (Err fault)) = Some (Refused fault)
+commit_of (told.Called (Err fault)) = Some (Refused fault)
+commit_of (told.Published (Ok _)) = Some Settled
+commit_of (told.Published (Err publish_fault.Foreign)) = Some Foreign
+commit_of (told.Published (Err publish_fault.NoMemory)) = Some NoMemory
+commit_of told.NoMemory = Some NoMemory
+commit_of told = None
 
 -- a round answers what is said first, or else that there was nothing
 abbrev pub answer_of : List Told → Commit
 answer_of [] = Nothing
-answer_of (told ∷ tolds) = unwrap_or (said told) (answer_of tolds)
+answer_of (told ∷ tolds) = unwrap_or (commit_of told) (answer_of tolds)
 
 -- the batch that is taken next fits
 abbrev pub HasRoomForNext : {D : Type 0} → DurableCore D → Type 0

@@ -6,41 +6,41 @@ use Rattle.apd_world.specs.CoreRun.{AreHeldFor, AreUnsettled}
 use Rattle.apd_world.specs.Journal.{GoesOn, IsJournal, Journal, Keeps, after, blank}
 use Rattle.apd_world.specs.Outside.{device_of}
 use Rattle.apd_world.specs.Proper.{IsProper}
-use Rattle.apd_world.specs.Steps.{Account, account, given}
+use Rattle.apd_world.specs.Steps.{Account, account, handed_outs}
 use Rattle.apd_world.specs.WorldParts.{durable_of, queue_of}
-use Rattle.apd_world.specs.WorldRun.{applied}
+use Rattle.apd_world.specs.WorldRun.{applied_outs}
 
 -- ---- what steps told
 -- where a journal stands: nothing more has happened
-abbrev pub standing : Journal → Account
-standing j = record { happened = []; state = run j.first j.confs j.happened; heard = j.heard }
+abbrev pub account_of : Journal → Account
+account_of j = record { happened = []; state = run j.first j.confs j.happened; heard = j.heard }
 
 -- what happened by it, and when each station was heard last
-abbrev pub told_of : Journal → List Step → List Told → Account
-told_of j steps tolds = account j.confs steps tolds (standing j)
+abbrev pub account_after : Journal → List Step → List Told → Account
+account_after j steps tolds = account j.confs steps tolds (account_of j)
 
 -- a radio is given what is applied at its slot, and control what is handed to it
-abbrev pub said_by : Recipient → Step → Told → List Out
-said_by (Radio b) step told = applied b step told
-said_by Control step told = given Control step told
+abbrev pub outs_in_step : Recipient → Step → Told → List Out
+outs_in_step (Radio b) step told = applied_outs b step told
+outs_in_step Control step told = handed_outs Control step told
 
-abbrev pub said_to : Recipient → List Step → List Told → List Out
-said_to r (step ∷ steps) (told ∷ tolds) = said_by r step told ++ said_to r steps tolds
-said_to r steps tolds = []
+abbrev pub outs_in_steps : Recipient → List Step → List Told → List Out
+outs_in_steps r (step ∷ steps) (told ∷ tolds) = outs_in_step r step told ++ outs_in_steps r steps tolds
+outs_in_steps r steps tolds = []
 
-abbrev pub answered_by : Told → List Answer
-answered_by (Answered answer) = answer ∷ []
-answered_by told = []
+abbrev pub answers_in : Told → List Answer
+answers_in (Answered answer) = answer ∷ []
+answers_in told = []
 
-abbrev pub all_answered : List Told → List Answer
-all_answered [] = []
-all_answered (told ∷ tolds) = answered_by told ++ all_answered tolds
+abbrev pub all_answers : List Told → List Answer
+all_answers [] = []
+all_answers (told ∷ tolds) = answers_in told ++ all_answers tolds
 
 -- ---- worlds
 -- the outs that wait for a recipient beside the durable core
-abbrev pub waiting_for : {D R : Type 0} → Recipient → World D R → List Out
-waiting_for (Radio b) w = queue_of w b
-waiting_for Control w = []
+abbrev pub waiting_outs : {D R : Type 0} → Recipient → World D R → List Out
+waiting_outs (Radio b) w = queue_of w b
+waiting_outs Control w = []
 
 -- The k-th that happened is entry `before + k`. The durable ones are the settled entries, and the settled table is the
 -- state after them; the others are the entries that are not settled, and their outs are held. Of the outs of the
@@ -56,7 +56,7 @@ pub record IsJournalOf (core : CoreState) (waits : Recipient → List Out) (j : 
   pub waiting : (r : Recipient) → (journal.given r).0 ≡ waits r ++ ready_for r core
 
 abbrev pub StandsFor : {D R : Type 0} → World D R → Journal → Type 0
-StandsFor w j = IsJournalOf (durable_of w).core (λ r. waiting_for r w) j
+StandsFor w j = IsJournalOf (durable_of w).core (λ r. waiting_outs r w) j
 
 -- of these configurations and from this table on, where nothing has happened yet
 abbrev pub BeginsAt : {D R : Type 0} → List Conf → State → World D R → Type 0
@@ -67,8 +67,8 @@ pub record LeadsTo {D R : Type 0} (steps : List Step) (tolds : List Told) (old n
     (j later : Journal) : Type 0 where
   pub each : length tolds ≡ length steps
   pub stands : StandsFor new later
-  pub goes_on : GoesOn (told_of j steps tolds).happened (told_of j steps tolds).heard (λ r. said_to r steps tolds)
-      (all_answered tolds) j later
+  pub goes_on : GoesOn (account_after j steps tolds).happened (account_after j steps tolds).heard
+      (λ r. outs_in_steps r steps tolds) (all_answers tolds) j later
 
 module _ {D R : Type 0} (disk : DiskModel D) where
   -- and, from a proper world on, each image that a stop leaves meanwhile is kept

@@ -7,7 +7,7 @@ use Rattle.apd_world.specs.Round.{round}
 use Rattle.apd_world.specs.WorldParts.{durable_of}
 use Rattle.apd_world.specs.Telling.{HasNoBatch, HasNoCall, HasNoReceipt}
 use Rattle.apd_world.specs.HandingOut.{IsHandedOut}
-use Rattle.apd_core.specs.Requests.{said_by}
+use Rattle.apd_core.specs.Requests.{happening_said}
 
 -- rounds, one after another, each of so many calls
 abbrev pub rounds : List ℕ → List Step
@@ -20,14 +20,14 @@ pub record IsAtRest {D : Type 0} (w : DurableCore D) : Type 0 where
   pub receipt : HasNoReceipt w
 
 -- what a step asks to be accepted
-abbrev pub asked : Step → Option (Option (Result Happening QuietReason))
-asked (Accept i m) = Some (said_by i)
-asked step = None
+abbrev pub request_of : Step → Option (Option (Result Happening QuietReason))
+request_of (Accept i m) = Some (happening_said i)
+request_of step = None
 
 -- each interface is to start with its lists, in order; at any moment, since no row is put
 abbrev pub AreConfiguring : List Conf → List Step → Type 0
 AreConfiguring confs steps =
-    map asked steps ≡ map (λ conf. Some (Some (Ok (Configure conf.bssid conf.accept conf.deny)))) confs
+    map request_of steps ≡ map (λ conf. Some (Some (Ok (Configure conf.bssid conf.accept conf.deny)))) confs
 
 module _ {D R : Type 0} (disk : DiskModel D) (radio : RadioModel R) where
   -- After these first steps batches are committed until every entry is settled, and what is settled is handed out. The

@@ -5,14 +5,14 @@ use Rattle.apd_core.specs.Heard.{heard_by_changes}
 use Rattle.apd_world.specs.declared.step.Reception.TheVariants.{Quiet, Entry}
 
 -- what a request enters by its answer
-abbrev pub entered_as : Reception → Result Happening QuietReason → List Happening
-entered_as (Entry number) (Ok h) = h ∷ []
-entered_as answer asked = []
+abbrev pub reception_happenings : Reception → Result Happening QuietReason → List Happening
+reception_happenings (Entry number) (Ok h) = h ∷ []
+reception_happenings answer asked = []
 
 -- what a step enters; what happens by a tick is read off the moments at which stations were heard
-abbrev pub entered : List Conf → LastHeard → Step → Told → List Happening
-entered confs heard (Accept i m) (Accepted answer) = entered_as answer (happening_of confs heard m i)
-entered confs heard step told = []
+abbrev pub step_happenings : List Conf → LastHeard → Step → Told → List Happening
+step_happenings confs heard (Accept i m) (Accepted answer) = reception_happenings answer (happening_of confs heard m i)
+step_happenings confs heard step told = []
 
 -- the moments after a request by its answer, in the state before it
 abbrev pub heard_as : List Conf → State → Moment → Reception → Result Happening QuietReason → LastHeard → LastHeard
@@ -33,7 +33,7 @@ pub record Account : Type 0 where
 
 abbrev pub one_more : List Conf → Step → Told → Account → Account
 one_more confs step told a =
-    let es = entered confs a.heard step told in
+    let es = step_happenings confs a.heard step told in
     record {
       happened = a.happened ++ es;
       state = run a.state confs es;
@@ -46,6 +46,6 @@ account confs (step ∷ steps) (told ∷ tolds) a = account confs steps tolds (o
 account confs steps tolds a = a
 
 -- what a recipient is given by a step
-abbrev pub given : Recipient → Step → Told → List Out
-given r (Hand q) (Handed outs) = if is_same r q then outs else []
-given r step told = []
+abbrev pub handed_outs : Recipient → Step → Told → List Out
+handed_outs r (Hand q) (Handed outs) = if is_same r q then outs else []
+handed_outs r step told = []

@@ -1,15 +1,15 @@
 -- What each step does, and what it tells.
 use Rattle.std.specs.Prelude.{◌≡◌, ◌⊎◌, ◌↔◌, ◌≤◌, ◌+◌, List, length, Option, Some, None, Result, Ok, Err, IsTrue}
-use Rattle.apd_world.specs.Words.{Accept, Accepted, Answer, Answered, Apply, AreFit, Ask, Batch, Call, Called, CoreState, DurableCore, Flusher, Hand, Handed, Input, IsFlight, IsTaken, Loaded, Moment, NoMemory, Nothing, Out, Publish, PublishFault, Published, Query, Radio, Receipt, Reception, Recipient, Step, StoreFault, Take, Told, accepted, after_request, calls_left, cannot_take, failed_after, front_of, handed, happening_of, held_batch, phase_of, published, ready_for, table_of, waiting_batch, waiting_receipt}
+use Rattle.apd_world.specs.Words.{Accept, Accepted, Answer, Answered, Apply, AreFit, Ask, Batch, Call, Called, CoreState, DurableCore, Flusher, Hand, Handed, Input, IsFlight, IsTaken, Loaded, Moment, NoMemory, Nothing, Out, Publish, PublishFault, Published, Query, Radio, Receipt, Reception, Recipient, Step, StoreFault, Take, Told, answer_at, after_request, calls_left, cannot_take, has_failed_after, front_of, after_handing_out, happening_of, held_batch, phase_of, after_publish, ready_for, table_of, waiting_batch, waiting_receipt}
 use Rattle.apd_store.specs.declared.fault.StoreFault.TheVariants as store_fault
-use Rattle.apd_core.specs.Core.{answered, IsDecided}
+use Rattle.apd_core.specs.Core.{answer_to_query, IsDecided}
 use Rattle.apd_core.specs.declared.publish_fault.PublishFault.TheVariants as publish_fault
 use Rattle.apd_core.specs.declared.ticket.Accepted.{Accepted as CoreAccepted}
 use Rattle.apd_core.specs.declared.ticket.Accepted.TheVariants as core_accepted
 use Rattle.apd_flusher.specs.Handing as committer
-use Rattle.apd_flusher.specs.Outside.{batch_of, next_of}
+use Rattle.apd_flusher.specs.Outside.{flusher_batch, next_of}
 use Rattle.apd_flusher.specs.declared.phase.Phase.TheVariants as phase
-use Rattle.apd_world.specs.Steps.{entered_as}
+use Rattle.apd_world.specs.Steps.{reception_happenings}
 use Rattle.apd_world.specs.Outside.{device_of, flusher_of}
 use Rattle.apd_world.specs.declared.step.Reception.TheVariants as reception
 
@@ -23,9 +23,9 @@ reception_of (core_accepted.Entry ticket) = reception.Entry ticket.number
 -- ---- accepting
 pub record IsAccepted {D : Type 0} (i : Input) (m : Moment) (answer : Reception)
     (old new : DurableCore D) : Type 0 where
-  pub answer_is : answer ≡ reception_of (accepted old.core m i)
+  pub answer_is : answer ≡ reception_of (answer_at old.core m i)
   pub fit : AreFit (front_of old.core) old.core.confs
-      (entered_as answer (happening_of old.core.confs old.core.heard m i))
+      (reception_happenings answer (happening_of old.core.confs old.core.heard m i))
   pub only : new ≡ record old { core = after_request old.core m i }
 
 -- ---- taking
@@ -53,7 +53,7 @@ HasNoBatch w = (waiting_batch w.committer ≡ None) × IsTrue (cannot_take w.cor
 -- ---- calling
 -- the core fails with the device
 abbrev pub after_call : Result (Unit {0}) StoreFault → CoreState → CoreState
-after_call result s = record s { failed = failed_after result s.failed }
+after_call result s = record s { failed = has_failed_after result s.failed }
 
 abbrev pub CallTells : {D : Type 0} → Result (Unit {0}) StoreFault → Flusher D → Flusher D → Type 0
 CallTells (Ok _) old new = (calls_left new + 1 ≡ calls_left old) × ((phase_of new ≡ phase.Done) ↔ (calls_left old ≡ 1))
@@ -65,7 +65,7 @@ CallTells (Err fault) old new =
 pub record IsCalled {D : Type 0} (result : Result (Unit {0}) StoreFault) (old new : DurableCore D) : Type 0 where
   pub some_call : (phase_of (flusher_of old) ≡ phase.Busy) ⊎ (phase_of (flusher_of old) ≡ phase.Failed)
   pub tells : CallTells result (flusher_of old) (flusher_of new)
-  pub batch_is : batch_of (flusher_of new) ≡ batch_of (flusher_of old)
+  pub batch_is : flusher_batch (flusher_of new) ≡ flusher_batch (flusher_of old)
   pub table : table_of (flusher_of new) ≡ table_of (flusher_of old)
   pub next : next_of (flusher_of new) ≡ next_of (flusher_of old)
   pub batch : waiting_batch new.committer ≡ waiting_batch old.committer
@@ -77,7 +77,7 @@ HasNoCall w = (phase_of (flusher_of w) ≡ phase.Idle) ⊎ (phase_of (flusher_of
 
 -- ---- publishing
 abbrev pub PublishTells : Result (Unit {0}) PublishFault → Receipt → CoreState → CoreState → Type 0
-PublishTells (Ok _) receipt old new = IsFlight (held_batch receipt) old × (new ≡ published old)
+PublishTells (Ok _) receipt old new = IsFlight (held_batch receipt) old × (new ≡ after_publish old)
 PublishTells (Err fault) receipt old new = ((fault ≡ publish_fault.Foreign) ↔ ¬ IsFlight (held_batch receipt) old)
     × (new ≡ old)
 
@@ -101,10 +101,10 @@ HasNoReceipt w = committer.HasNoReceipt w.committer
 -- ---- handing out, and reading
 pub record IsHanded {D : Type 0} (r : Recipient) (outs : List Out) (old new : DurableCore D) : Type 0 where
   pub outs_are : outs ≡ ready_for r old.core
-  pub only : new ≡ record old { core = handed r old.core }
+  pub only : new ≡ record old { core = after_handing_out r old.core }
 
-pub record IsRead {D : Type 0} (q : Query) (answer : Answer) (old new : DurableCore D) : Type 0 where
-  pub answer_is : answer ≡ answered old.core q
+pub record IsAsked {D : Type 0} (q : Query) (answer : Answer) (old new : DurableCore D) : Type 0 where
+  pub answer_is : answer ≡ answer_to_query old.core q
   pub only : new ≡ old
 
 -- some out is ready for a recipient
@@ -123,7 +123,7 @@ Tells Publish Nothing old new = HasNoReceipt old × (new ≡ old)
 Tells (Hand r) (Handed outs) old new = IsHanded r outs old new
 -- a world asks nothing for a radio that has no slot; a durable core by itself never tells so
 Tells (Hand (Radio b)) Nothing old new = new ≡ old
-Tells (Ask q) (Answered answer) old new = IsRead q answer old new
+Tells (Ask q) (Answered answer) old new = IsAsked q answer old new
 Tells (Apply b) Nothing old new = new ≡ old
 Tells (Accept i m) NoMemory old new = IsDecided old.core m i × (new ≡ old)
 Tells Take NoMemory old new = CanTake old × (new ≡ old)

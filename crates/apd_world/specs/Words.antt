@@ -7,7 +7,7 @@ pub use Rattle.apd_base.specs.declared.address.Bssid.{Bssid}
 pub use Rattle.apd_base.specs.declared.moment.Moment.{Moment}
 pub use Rattle.apd_conf.specs.Confs.{conf_at}
 pub use Rattle.apd_conf.specs.declared.conf.Conf.{Conf}
-pub use Rattle.apd_core.specs.Core.{CoreState, IsFlight, IsTaken, accepted, after_request, batch_of, cannot_take, front_of, handed, held_for, last_of, new_core, published, ready_for, state_after}
+pub use Rattle.apd_core.specs.Core.{CoreState, IsFlight, IsTaken, answer_at, after_request, batch_of, cannot_take, front_of, after_handing_out, held_for, last_of, new_core, after_publish, ready_for, state_after}
 pub use Rattle.apd_core.specs.Heard.{AreHeardAt, LastHeard, heard_by}
 pub use Rattle.apd_core.specs.Held.{queue_of, up_to}
 pub use Rattle.apd_core.specs.Invariant.{AreDecided, IsCore, numbered_outs}
@@ -19,7 +19,7 @@ pub use Rattle.apd_core.specs.declared.query_answer.Answer.{Answer}
 pub use Rattle.apd_ctrl.specs.Texts.{text}
 pub use Rattle.apd_ctrl.specs.declared.command.Query.{Query}
 pub use Rattle.apd_disk.specs.Disk.{DiskModel, LeavesOnly, Only}
-pub use Rattle.apd_flusher.specs.Committing.{IsImaged, failed_after}
+pub use Rattle.apd_flusher.specs.Committing.{IsImaged, has_failed_after}
 pub use Rattle.apd_flusher.specs.Flushing.{IsGood}
 pub use Rattle.apd_flusher.specs.Handing.{HasNoneToLoad}
 pub use Rattle.apd_flusher.specs.Outside.{calls_left, phase_of, table_of, waiting_batch, waiting_receipt}
@@ -33,7 +33,7 @@ pub use Rattle.apd_mlme.specs.Run.{AreFit, outs_run, run}
 pub use Rattle.apd_mlme.specs.declared.decision.Out.{Out}
 pub use Rattle.apd_mlme.specs.declared.decision.Recipient.{Recipient}
 pub use Rattle.apd_mlme.specs.declared.decision.Recipient.TheVariants.{Control, Radio}
-pub use Rattle.apd_mlme.specs.laws.Driver.{driven}
+pub use Rattle.apd_mlme.specs.laws.Driver.{driver_after_all}
 pub use Rattle.apd_mlme.specs.rules.{verdict}
 pub use Rattle.apd_radio.specs.Model.{RadioModel}
 pub use Rattle.apd_record.specs.declared.change.Change.{Change}

@@ -45,6 +45,6 @@ pub record IsWorldStep {D R : Type 0} (radio : RadioModel R) (step : Step) (told
   pub joins : Joins radio step inside told old new
 
 -- the out that a step applied at a BSSID's slot
-abbrev pub applied : Bssid → Step → Told → List Out
-applied b (Apply c) (Applied out answer) = if eq_by_cmp bssid_cmp b c then out ∷ [] else []
-applied b step told = []
+abbrev pub applied_outs : Bssid → Step → Told → List Out
+applied_outs b (Apply c) (Applied out answer) = if eq_by_cmp bssid_cmp b c then out ∷ [] else []
+applied_outs b step told = []

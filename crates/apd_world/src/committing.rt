@@ -2,7 +2,7 @@
 ghost use Rattle.std.specs.Prelude.{◌≡◌, ◌≤◌, ◌<◌, ◌⊎◌, IsTrue, false};
 ghost use Rattle.apd_flusher.specs.Outside.{calls_left, phase_of};
 ghost use Rattle.apd_world.specs.CoreRun.{GoesQuietly};
-ghost use Rattle.apd_world.specs.Round.{said};
+ghost use Rattle.apd_world.specs.Round.{commit_of};
 
 use crate::durable_core::DurableCore;
 use crate::step::{Commit, Step, Told};
@@ -13,8 +13,8 @@ use apd_flusher::Phase;
 use apd_radio::Radio;
 
 // What a step says of its round.
-fn said(told: Told) -> Option<Commit>
-    ensures { result ≡ said told }
+fn commit_of(told: Told) -> Option<Commit>
+    ensures { result ≡ commit_of told }
 {
     match told {
         Told::Loaded(Err(fault)) => Some(Commit::Refused(fault)),
@@ -76,12 +76,12 @@ impl<D: Disk, R: Radio> World<D, R> {
             → HasNoReceipt (durable_of self.old) → result ≡ Commit.Nothing }
         ensures quiet { GoesQuietly (durable_of self.old).core (durable_of self.new).core }
     {
-        let taken = said(self.step(&Step::Take));
+        let taken = commit_of(self.step(&Step::Take));
         let mut called = None;
         while called.is_none() && self.durable.has_call() {
-            called = said(self.step(&Step::Call));
+            called = commit_of(self.step(&Step::Call));
         }
-        let published = said(self.step(&Step::Publish));
+        let published = commit_of(self.step(&Step::Publish));
         taken.or(called).or(published).unwrap_or(Commit::Nothing)
     }
 }

@@ -1,6 +1,6 @@
 //! A durable core begun anew, from a store and its table.
 ghost use Rattle.std.specs.Prelude.{◌≡◌, IfOk, IfErr};
-ghost use Rattle.apd_store.specs.Outside.{device_of as store_device};
+ghost use Rattle.apd_store.specs.Outside.{store_device};
 ghost use Rattle.apd_world.specs.BegunAnew.{IsBegunWith};
 
 use crate::durable_core::DurableCore;

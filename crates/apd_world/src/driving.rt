@@ -30,6 +30,6 @@ pub fn drive<D: Disk, R: Radio>(
     for step in steps {
         tolds.push_reserved(world.step(step));
     }
-    world.shown();
+    world.show_images();
     Ok(tolds)
 }

@@ -2,7 +2,7 @@
 ghost use Rattle.std.specs.Prelude.{◌≡◌, ◌==◌, ◌&&◌, not, None, length};
 ghost use Rattle.apd_core.specs.Core.{ready_for};
 ghost use Rattle.apd_flusher.specs.Flushing.{IsInside, IsSteady};
-ghost use Rattle.apd_flusher.specs.Outside.{device_of as device_in, phase_of, table_of, waiting_batch, waiting_receipt};
+ghost use Rattle.apd_flusher.specs.Outside.{flusher_device, phase_of, table_of, waiting_batch, waiting_receipt};
 
 use apd_conf::Confs;
 use apd_core::Core;
@@ -31,7 +31,7 @@ impl<D: Disk> DurableCore<D> {
         ensures receipt { waiting_receipt result.committer ≡ None }
         ensures whole { IsUnused core → phase_of flusher ≡ Phase.Idle → IsInside D.model flusher
             → table_of flusher ≡ core.settled → IsWhole D.model result }
-        ensures proper { IsUnused core → D.model.honest (device_in flusher) → IsInside D.model flusher
+        ensures proper { IsUnused core → D.model.honest (flusher_device flusher) → IsInside D.model flusher
             → IsSteady D.model flusher core.settled → IsProper D.model result }
     {
         DurableCore {
@@ -55,10 +55,10 @@ impl<D: Disk> DurableCore<D> {
     }
 
     /// How many outs a hand to this recipient gives now. It takes no memory.
-    pub(crate) fn ready(&self, to: Recipient) -> usize
+    pub(crate) fn ready_count(&self, to: Recipient) -> usize
         ensures { result ≡ length (ready_for to self.now.core) }
     {
-        self.core.ready(to)
+        self.core.ready_count(to)
     }
 
     /// Whether every entry is settled, and the core has not failed.

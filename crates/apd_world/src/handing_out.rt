@@ -73,7 +73,7 @@ impl<D: Disk, R: Radio> World<D, R> {
         ensures none { result ≡ false → queue_of self.now bssid ≡ [] }
     {
         match place_of(&self.slots, bssid) {
-            Some(place) => self.slots[place].waiting() > 0,
+            Some(place) => self.slots[place].waiting_count() > 0,
             None => false,
         }
     }

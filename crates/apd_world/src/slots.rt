@@ -71,7 +71,7 @@ pub(crate) fn hand_to<D: Disk, R: Radio>(
 {
     durable.stops();
     let to = Recipient::Radio(bssid);
-    if slot.make_room(durable.ready(to)).is_err() {
+    if slot.make_room(durable.ready_count(to)).is_err() {
         return Told::NoMemory;
     }
     match durable.hand(to) {

@@ -50,13 +50,13 @@ impl<D: Disk> DurableCore<D> {
     pub(crate) fn stops(&self)
         ensures { IsSafe D.model self.now self.now }
     {
-        self.committer.shown();
+        self.committer.show_images();
     }
 
     /// Tells a caller's proof what a stop now leaves of a proper durable core: an image of the table after none of
     /// what is not settled, or after the batch in flight; from the last call of a batch on, if that
     /// succeeded, until it is published, after that batch. It does nothing.
-    pub fn shown(&self)
+    pub fn show_images(&self)
         ensures now { IsProper D.model self.now → (hs : List Happening)
             → AreUnsettled hs self.now.core → (image : List ℕ) → D.model.may_leave (device_of self.now) image
             → ShowsFlight self.now.core hs image }
@@ -66,7 +66,7 @@ impl<D: Disk> DurableCore<D> {
             → (image : List ℕ) → D.model.may_leave (device_of self.now) image
             → Shows image (run self.now.core.settled self.now.core.confs (take self.now.core.flight hs)) }
     {
-        self.committer.shown();
+        self.committer.show_images();
     }
 
     fn accept(&mut self, input: Input<'_>, moment: Moment) -> Told

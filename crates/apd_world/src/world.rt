@@ -3,7 +3,7 @@ ghost use Rattle.std.specs.Prelude.{◌≡◌, ℕ, List, None, []};
 ghost use Rattle.std.specs.List.{AllZip};
 ghost use Rattle.apd_base.specs.declared.address.Bssid.{Bssid as Address};
 ghost use Rattle.apd_flusher.specs.Flushing.{IsInside, IsSteady};
-ghost use Rattle.apd_flusher.specs.Outside.{device_of as device_in, phase_of, table_of, waiting_batch, waiting_receipt};
+ghost use Rattle.apd_flusher.specs.Outside.{flusher_device, phase_of, table_of, waiting_batch, waiting_receipt};
 ghost use Rattle.apd_slot.specs.Slots.{HasForgotten};
 
 use crate::durable_core::DurableCore;
@@ -49,7 +49,7 @@ impl<D: Disk, R: Radio> World<D, R> {
         ensures slots { slots_of result ≡ slots.items }
         ensures whole { IsUnused core → phase_of flusher ≡ Phase.Idle → IsInside D.model flusher
             → table_of flusher ≡ core.settled → IsWhole D.model (durable_of result) }
-        ensures proper { IsUnused core → D.model.honest (device_in flusher) → IsInside D.model flusher
+        ensures proper { IsUnused core → D.model.honest (flusher_device flusher) → IsInside D.model flusher
             → IsSteady D.model flusher core.settled → IsProper D.model (durable_of result) }
         ensures following { IsUnused core → AreResumed R.model core.settled slots.items → AreFollowing result }
         ensures begins { IsUnused core → ((b : Address) → queue_of result b ≡ [])
@@ -80,12 +80,12 @@ impl<D: Disk, R: Radio> World<D, R> {
     /// Tells a caller's proof what a stop now leaves, between two steps: an image of the table after none of what is
     /// not settled, or after the batch in flight; from the last call of a batch on, if that succeeded, until it is
     /// published, after that batch. So whatever journal the world stands for keeps it. It does nothing.
-    pub fn shown(&self)
+    pub fn show_images(&self)
         ensures images { IsProper D.model (durable_of self.now) → IsShown D.model (durable_of self.now) }
         ensures kept { IsProper D.model (durable_of self.now) → (j : Journal) → StandsFor self.now j
             → (image : List ℕ) → D.model.may_leave (device_of (durable_of self.now)) image → Keeps j j image }
     {
-        self.durable.shown();
+        self.durable.show_images();
     }
 
     /// Tells a caller's proof that the world stands for a journal: for the one that begins at its settled table, with

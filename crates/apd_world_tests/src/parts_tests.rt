@@ -141,7 +141,7 @@ type Seen = (usize, [Option<u16>; 2]);
 fn look(slots: &[Slot<Sim>]) -> Option<Seen> {
     let slot = slots.first()?;
     let installed = [slot.installed(OTHER), slot.installed(STATION)];
-    Some((slot.waiting(), installed))
+    Some((slot.waiting_count(), installed))
 }
 
 /// Makes so many of the steps.

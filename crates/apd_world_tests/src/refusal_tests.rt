@@ -52,7 +52,7 @@ type Seen = (bool, usize, [Option<u16>; 2], [Option<u16>; 2]);
 fn look_at(slot: &Used, station: Addr) -> Seen {
     (
         slot.is_up(),
-        slot.waiting(),
+        slot.waiting_count(),
         [slot.wanted(EARLIER), slot.installed(EARLIER)],
         [slot.wanted(station), slot.installed(station)],
     )

@@ -18,7 +18,7 @@ use Rattle.apd_mlme.specs.declared.association.Kind.{Kind}
 use Rattle.apd_mlme.specs.declared.decision.Recipient.{Recipient}
 use Rattle.apd_mlme.specs.declared.decision.Out.{Out}
 use Rattle.apd_mlme.specs.rules.Association.{association_response, row_of}
-use Rattle.apd_mlme.specs.Outs.{sent, outs_to}
+use Rattle.apd_mlme.specs.Outs.{reply_out, outs_to}
 use Rattle.apd_mlme.specs.Verdict.{Verdict}
 use Rattle.std.specs.List.{AllByRecursion}
 use Rattle.apd_mlme.specs.declared.decision.Recipient.TheVariants.{Radio}
@@ -52,9 +52,9 @@ IsDeserved conf request TransactionSequenceError = ⊥
 IsDeserved conf request DeniedNoMoreStas = ⊥
 
 -- a row that is left to a station which associates with another BSSID
-abbrev pub only_authenticated : Option Station → Option Station
-only_authenticated None = None
-only_authenticated (Some row) = Some Authenticated
+abbrev pub remaining_row : Option Station → Option Station
+remaining_row None = None
+remaining_row (Some row) = Some Authenticated
 
 -- the last out is the response to the sender, and it says how the sender stands
 pub record IsAnsweredTruly (s : State) (conf : Conf) (b : Bssid) (kind : Kind) (request : AssociationRequest)
@@ -62,7 +62,7 @@ pub record IsAnsweredTruly (s : State) (conf : Conf) (b : Bssid) (kind : Kind) (
   pub status : Status
   pub aid : Option Aid
   pub before : List (Recipient × Out)
-  pub answer : v.outs ≡ before ++ sent (association_response conf b kind request.sender status aid) ∷ []
+  pub answer : v.outs ≡ before ++ reply_out (association_response conf b kind request.sender status aid) ∷ []
   -- what it says of the request is so: each status has its reason, and success is told where none of them holds
   pub deserved : IsDeserved conf request status
   -- success is told to a member, and with its identifier
@@ -73,7 +73,7 @@ pub record IsAnsweredTruly (s : State) (conf : Conf) (b : Bssid) (kind : Kind) (
   pub next : status ≡ Success → aid_at s b request.sender ≡ None → IfSome aid (λ x. IsNextFree s b x.number)
   -- at every other BSSID it is authenticated at most, where it has a row
   pub elsewhere : status ≡ Success → (c : Bssid) → c ≢ b
-      → station_at v.state c request.sender ≡ only_authenticated (station_at s c request.sender)
+      → station_at v.state c request.sender ≡ remaining_row (station_at s c request.sender)
   -- anything else is told alone, without an identifier, and leaves every row as it was
   pub refused : status ≢ Success → (v.state ≡ s) × (aid ≡ None) × (before ≡ [])
   -- every other station stays as it is

@@ -10,7 +10,7 @@ use Rattle.apd_mlme.specs.declared.decision.Out.{Out}
 use Rattle.apd_base.specs.declared.address.TheConstants.{BROADCAST}
 use Rattle.apd_mlme.specs.Happening.{Happening, Heard, Kick, ListEdit, Expire, Configure}
 use Rattle.apd_mlme.specs.rules.Leaving as told
-use Rattle.apd_mlme.specs.Outs.{sent}
+use Rattle.apd_mlme.specs.Outs.{reply_out}
 
 -- a frame with which a station leaves
 abbrev pub IsDeparture : Contents → Addr → Type 0
@@ -39,5 +39,5 @@ IsMeant to a = (to ≡ a) ⊎ (to ≡ BROADCAST)
 abbrev pub IsToldOfEnd : List (Recipient × Out) → Bssid → Addr → Type 0
 IsToldOfEnd outs b a =
     (to : Addr) × IsMeant to a × (reason : Reason)
-    × (Contains outs (sent (told.disassociation b to reason))
-    ⊎ Contains outs (sent (told.deauthentication b to reason)))
+    × (Contains outs (reply_out (told.disassociation b to reason))
+    ⊎ Contains outs (reply_out (told.deauthentication b to reason)))

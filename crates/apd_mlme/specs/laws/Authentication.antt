@@ -10,7 +10,7 @@ use Rattle.apd_frame.specs.declared.codes.Status.{Status}
 use Rattle.apd_frame.specs.declared.codes.Status.TheVariants.{Success, RefusedReasonUnspecified, NotSupportedAuthAlgorithm, TransactionSequenceError, DeniedNoMoreStas, DeniedListenIntervalTooLarge}
 use Rattle.apd_table.specs.Allowed.{allowed}
 use Rattle.apd_mlme.specs.rules.Authentication.{auth_response, station_limit}
-use Rattle.apd_mlme.specs.Outs.{sent}
+use Rattle.apd_mlme.specs.Outs.{reply_out}
 use Rattle.apd_mlme.specs.Verdict.{Verdict}
 use Rattle.apd_base.specs.declared.station.Policy.{Policy}
 
@@ -43,7 +43,7 @@ IsDeserved s conf b request DeniedListenIntervalTooLarge = ⊥
 -- one frame leaves, the response to the sender, and it says how the sender stands
 pub record IsToldTruly (s : State) (conf : Conf) (b : Bssid) (request : Authentication) (v : Verdict) : Type 0 where
   pub status : Status
-  pub answer : v.outs ≡ sent (auth_response b request status) ∷ []
+  pub answer : v.outs ≡ reply_out (auth_response b request status) ∷ []
   -- what it says of the request is so: each status has its reason, and success is told where none of them holds
   pub deserved : IsDeserved s conf b request status
   -- success is told to a station that is in the table then

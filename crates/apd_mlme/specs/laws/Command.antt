@@ -19,12 +19,12 @@ use Rattle.apd_mlme.specs.declared.decision.Out.TheVariants as out
 use Rattle.apd_mlme.specs.declared.event.Edit.{Edit}
 use Rattle.apd_mlme.specs.declared.event.Edit.TheVariants.{Add, Remove, Clear}
 use Rattle.apd_base.specs.declared.address.TheConstants.{BROADCAST}
-use Rattle.apd_mlme.specs.laws.Association.{only_authenticated}
+use Rattle.apd_mlme.specs.laws.Association.{remaining_row}
 use Rattle.apd_mlme.specs.rules.Commands.{text, farewell}
 use Rattle.apd_mlme.specs.laws.AssociationEnd.{IsMeant}
 use Rattle.apd_mlme.specs.Happening.{Happening, Heard, Kick, ListEdit, Expire, Configure}
 use Rattle.apd_mlme.specs.rules.Leaving.{deauthentication}
-use Rattle.apd_mlme.specs.Outs.{outs_to, sent}
+use Rattle.apd_mlme.specs.Outs.{outs_to, reply_out}
 use Rattle.apd_mlme.specs.Verdict.{Verdict}
 
 -- the answer is the last out, and the only one that is not a radio's
@@ -38,7 +38,7 @@ pub record IsKicked (s : State) (b : Bssid) (to : Addr) (reason : Reason) (deaut
     (v : Verdict) : Type 0 where
   -- the driver lets stations go, then one frame leaves, and then the answer
   pub removed : List Addr
-  pub told : v.outs ≡ map (λ a. (Radio b, out.Remove a)) removed ++ sent (farewell b to reason deauth)
+  pub told : v.outs ≡ map (λ a. (Radio b, out.Remove a)) removed ++ reply_out (farewell b to reason deauth)
       ∷ text tag Done ∷ []
   -- whom the frame is meant for has no row after a deauthentication, and is not associated after a disassociation
   pub deauthenticated : deauth ≡ true → (a : Addr) → IsMeant to a → station_at v.state b a ≡ None
@@ -46,7 +46,7 @@ pub record IsKicked (s : State) (b : Bssid) (to : Addr) (reason : Reason) (deaut
   -- and after a broadcast frame of either kind nobody has a row
   pub everyone : to ≡ BROADCAST → (a : Addr) → station_at v.state b a ≡ None
   -- after a disassociation of one station it has a row where it had one
-  pub kept : deauth ≡ false → to ≢ BROADCAST → station_at v.state b to ≡ only_authenticated (station_at s b to)
+  pub kept : deauth ≡ false → to ≢ BROADCAST → station_at v.state b to ≡ remaining_row (station_at s b to)
   -- every other row is as it was
   pub others : (c : Bssid) (a : Addr) → ¬ ((c ≡ b) × IsMeant to a) → station_at v.state c a ≡ station_at s c a
   pub lists : v.state.lists ≡ s.lists
@@ -66,7 +66,7 @@ pub record IsEdited (s : State) (b : Bssid) (w : Which) (edit : Edit) (v : Verdi
   pub stations : (d : Addr) → station_at v.state b d ≡ (if allowed v.state b d then station_at s b d else None)
   -- who had one is told so
   pub told : (d : Addr) → IsSome (station_at s b d) → station_at v.state b d ≡ None
-      → Contains v.outs (sent (deauthentication b d UNSPECIFIED))
+      → Contains v.outs (reply_out (deauthentication b d UNSPECIFIED))
   -- nothing else changes
   pub other_lists : (c : Bssid) (x : Which) → ¬ ((c ≡ b) × (x ≡ w)) → (d : Addr)
       → contains v.state.lists (c, x, d) ≡ contains s.lists (c, x, d)

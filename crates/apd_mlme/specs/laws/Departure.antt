@@ -7,7 +7,7 @@ use Rattle.apd_base.specs.declared.station.Station.TheVariants.{Authenticated}
 use Rattle.apd_base.specs.State.{State, station_at, aid_at}
 use Rattle.apd_mlme.specs.declared.decision.Recipient.TheVariants.{Radio}
 use Rattle.apd_mlme.specs.declared.decision.Out.TheVariants.{Remove}
-use Rattle.apd_mlme.specs.laws.Association.{only_authenticated}
+use Rattle.apd_mlme.specs.laws.Association.{remaining_row}
 use Rattle.apd_mlme.specs.laws.ManagementFrame.{disassociation_frame, deauthentication_frame}
 use Rattle.apd_mlme.specs.Verdict.{Verdict}
 
@@ -20,7 +20,7 @@ pub record IsAlone (s : State) (b : Bssid) (a : Addr) (new : State) : Type 0 whe
 
 -- a station disassociates: it is authenticated at most, and its driver lets it go. It is not told
 pub record IsDisassociated (s : State) (b : Bssid) (a : Addr) (v : Verdict) : Type 0 where
-  pub row : station_at v.state b a ≡ only_authenticated (station_at s b a)
+  pub row : station_at v.state b a ≡ remaining_row (station_at s b a)
   pub associated : IsSome (aid_at s b a) → v.outs ≡ (Radio b, Remove a) ∷ []
   pub authenticated : station_at s b a ≡ Some Authenticated → v.outs ≡ []
   pub alone : IsAlone s b a v.state

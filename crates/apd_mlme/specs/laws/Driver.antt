@@ -18,20 +18,20 @@ abbrev pub DriverMap : Type 0
 DriverMap = Addr → Option ℕ
 
 -- a driver's map after an out: a frame or a text leaves it as it is
-abbrev pub driven_by : Out → DriverMap → DriverMap
-driven_by (Install a aid) driver = λ d. if eq_by_cmp addr_cmp a d then Some aid.number else driver d
-driven_by (Remove a) driver = λ d. if eq_by_cmp addr_cmp a d then None else driver d
-driven_by (Frame bytes) driver = driver
-driven_by (Text tag bytes) driver = driver
+abbrev pub driver_after : Out → DriverMap → DriverMap
+driver_after (Install a aid) driver = λ d. if eq_by_cmp addr_cmp a d then Some aid.number else driver d
+driver_after (Remove a) driver = λ d. if eq_by_cmp addr_cmp a d then None else driver d
+driver_after (Frame bytes) driver = driver
+driver_after (Text tag bytes) driver = driver
 
 -- after outs, one after the other
-abbrev pub driven : List Out → DriverMap → DriverMap
-driven [] driver = driver
-driven (out ∷ outs) driver = driven outs (driven_by out driver)
+abbrev pub driver_after_all : List Out → DriverMap → DriverMap
+driver_after_all [] driver = driver
+driver_after_all (out ∷ outs) driver = driver_after_all outs (driver_after out driver)
 
 -- where the driver of a configured BSSID had its associated stations under their identifiers, it has them after the
 -- outs to its radio
 abbrev pub FollowsDrivers : List Conf → List (Recipient × Out) → State → State → Type 0
 FollowsDrivers confs outs old new =
     (b : Bssid) → IsSome (conf_at confs b) → (a : Addr)
-    → driven (outs_to (Radio b) outs) (aid_at old b) a ≡ aid_at new b a
+    → driver_after_all (outs_to (Radio b) outs) (aid_at old b) a ≡ aid_at new b a

@@ -42,12 +42,12 @@ Rise addresses = AllPairs (λ a b. addr_cmp a b ≡ Less) addresses
 -- ---- whom drivers let go
 
 -- the stations that a driver lets go, in order
-abbrev pub let_go : List Out → List Addr
-let_go [] = []
-let_go (Remove a ∷ outs) = a ∷ let_go outs
-let_go (Install a aid ∷ outs) = let_go outs
-let_go (Frame bytes ∷ outs) = let_go outs
-let_go (Text tag bytes ∷ outs) = let_go outs
+abbrev pub stations_let_go : List Out → List Addr
+stations_let_go [] = []
+stations_let_go (Remove a ∷ outs) = a ∷ stations_let_go outs
+stations_let_go (Install a aid ∷ outs) = stations_let_go outs
+stations_let_go (Frame bytes ∷ outs) = stations_let_go outs
+stations_let_go (Text tag bytes ∷ outs) = stations_let_go outs
 
 -- a station was associated with the BSSID, and is so no more
 abbrev pub HasCeased : State → State → Bssid → Addr → Type 0
@@ -56,18 +56,18 @@ HasCeased old new b a = IsSome (aid_at old b a) × (aid_at new b a ≡ None)
 -- the driver of the BSSID's radio lets go whoever has ceased to be associated, each once and in address order, and nobody
 -- else
 pub record AreLetGo (old : State) (b : Bssid) (v : Verdict) : Type 0 where
-  pub once : Rise (let_go (outs_to (Radio b) v.outs))
-  pub those : (a : Addr) → Contains (let_go (outs_to (Radio b) v.outs)) a ↔ HasCeased old v.state b a
+  pub once : Rise (stations_let_go (outs_to (Radio b) v.outs))
+  pub those : (a : Addr) → Contains (stations_let_go (outs_to (Radio b) v.outs)) a ↔ HasCeased old v.state b a
 
 -- ---- whom drivers take in
 
 -- the stations that a driver takes in, with their identifiers, in order
-abbrev pub taken_in : List Out → List (Addr × ℕ)
-taken_in [] = []
-taken_in (Install a aid ∷ outs) = (a, aid.number) ∷ taken_in outs
-taken_in (Remove a ∷ outs) = taken_in outs
-taken_in (Frame bytes ∷ outs) = taken_in outs
-taken_in (Text tag bytes ∷ outs) = taken_in outs
+abbrev pub stations_taken_in : List Out → List (Addr × ℕ)
+stations_taken_in [] = []
+stations_taken_in (Install a aid ∷ outs) = (a, aid.number) ∷ stations_taken_in outs
+stations_taken_in (Remove a ∷ outs) = stations_taken_in outs
+stations_taken_in (Frame bytes ∷ outs) = stations_taken_in outs
+stations_taken_in (Text tag bytes ∷ outs) = stations_taken_in outs
 
 -- a station was not associated with the BSSID, and is so now, under this identifier
 abbrev pub HasBegun : State → State → Bssid → Addr → ℕ → Type 0
@@ -76,8 +76,9 @@ HasBegun old new b a i = (aid_at old b a ≡ None) × (aid_at new b a ≡ Some i
 -- the driver of the BSSID's radio takes in whoever was not associated and is so now, under its identifier, and nobody
 -- else: one station at most
 pub record AreTakenIn (old : State) (b : Bssid) (v : Verdict) : Type 0 where
-  pub once : length (taken_in (outs_to (Radio b) v.outs)) ≤ 1
-  pub those : (a : Addr) (i : ℕ) → Contains (taken_in (outs_to (Radio b) v.outs)) (a, i) ↔ HasBegun old v.state b a i
+  pub once : length (stations_taken_in (outs_to (Radio b) v.outs)) ≤ 1
+  pub those : (a : Addr) (i : ℕ)
+      → Contains (stations_taken_in (outs_to (Radio b) v.outs)) (a, i) ↔ HasBegun old v.state b a i
 
 -- ---- which frames leave
 

@@ -12,7 +12,7 @@ use Rattle.apd_frame.specs.declared.element.TheConstants.{SSID}
 use Rattle.apd_mlme.specs.declared.decision.Recipient.{Recipient}
 use Rattle.apd_mlme.specs.declared.decision.Out.{Out}
 use Rattle.apd_mlme.specs.laws.ManagementFrame.{management_frame, rates_octets, channel_octets}
-use Rattle.apd_mlme.specs.Outs.{sent}
+use Rattle.apd_mlme.specs.Outs.{reply_out}
 use Rattle.apd_mlme.specs.rules.ProbeRequest.{probe_response}
 use Rattle.apd_mlme.specs.Verdict.{Verdict}
 
@@ -27,7 +27,7 @@ IsProbeFor conf elements = WellFormed elements × IsSomeAnd (first_with SSID ele
 
 -- such a request gets one response, whoever sent it, and any other gets none; nothing changes
 pub record IsProbed (s : State) (conf : Conf) (b : Bssid) (request : ProbeRequest) (v : Verdict) : Type 0 where
-  pub answered : IsProbeFor conf request.elements → v.outs ≡ sent (probe_response conf b request.sender) ∷ []
+  pub answered : IsProbeFor conf request.elements → v.outs ≡ reply_out (probe_response conf b request.sender) ∷ []
   pub silent : ¬ (IsProbeFor conf request.elements) → v.outs ≡ []
   pub stays : v.state ≡ s
 

@@ -34,11 +34,11 @@ use Rattle.apd_mlme.specs.declared.decision.Recipient.TheVariants.{Radio}
 use Rattle.apd_mlme.specs.declared.decision.Out.{Out}
 use Rattle.apd_mlme.specs.declared.decision.Out.TheVariants.{Install}
 use Rattle.apd_mlme.specs.rules.Identifiers.{identifier_for, cursors_after, cursor_changes}
-use Rattle.apd_mlme.specs.rules.Leaving.{authenticated_where, deauthentication, outs_of_end}
+use Rattle.apd_mlme.specs.rules.Leaving.{rows_authenticated_where, deauthentication, outs_of_end}
 use Rattle.apd_mlme.specs.rules.Offer.{rates_in}
-use Rattle.apd_mlme.specs.Outs.{sent}
+use Rattle.apd_mlme.specs.Outs.{reply_out}
 use Rattle.apd_mlme.specs.rules.Refusals.{first_status, is_success}
-use Rattle.apd_mlme.specs.Verdict.{Verdict, nothing, only_sent}
+use Rattle.apd_mlme.specs.Verdict.{Verdict, nothing, only_reply}
 
 -- the access point that a station names in a reassociation request is not looked at (own)
 abbrev pub without_current_ap : ReassociationRequest → AssociationRequest
@@ -84,13 +84,13 @@ abbrev pub is_elsewhere : State → Bssid → Addr → Bssid → Bool
 is_elsewhere s b a c = not (eq_by_cmp bssid_cmp b c) && is_some (aid_at s c a)
 
 -- those of the access point's BSSIDs, rising (own)
-abbrev pub elsewhere : State → Bssid → Addr → List Bssid
-elsewhere s b a = filter (is_elsewhere s b a) (maps.keys s.policies)
+abbrev pub bssids_elsewhere : State → Bssid → Addr → List Bssid
+bssids_elsewhere s b a = filter (is_elsewhere s b a) (maps.keys s.policies)
 
 -- the station's rows at these BSSIDs say authenticated, and every other row is kept
-abbrev pub with_authenticated : Addr → List Bssid → FinMap station_cmp Station → FinMap station_cmp Station
-with_authenticated a bssids rows =
-    authenticated_where (λ key. list_any (eq_by_cmp bssid_cmp key.0) bssids && eq_by_cmp addr_cmp key.1 a) rows
+abbrev pub with_put_backs : Addr → List Bssid → FinMap station_cmp Station → FinMap station_cmp Station
+with_put_backs a bssids rows =
+    rows_authenticated_where (λ key. list_any (eq_by_cmp bssid_cmp key.0) bssids && eq_by_cmp addr_cmp key.1 a) rows
 
 abbrev pub put_backs : Addr → List Bssid → List Change
 put_backs a bssids = map (λ c. Put c a Authenticated) bssids
@@ -110,33 +110,33 @@ row_of request aid =
 
 -- a request that is accepted: the station is associated here, with this identifier and with what it asked (11.3.5.3 and
 -- 11.3.5.5), and nowhere else (4.5.3.3)
-abbrev pub associated : State → List Conf → Conf → Bssid → Kind → AssociationRequest → Aid → Verdict
-associated s confs conf b kind request aid =
+abbrev pub acceptance : State → List Conf → Conf → Bssid → Kind → AssociationRequest → Aid → Verdict
+acceptance s confs conf b kind request aid =
     let a = request.sender in
-    let others = elsewhere s b a in
+    let others = bssids_elsewhere s b a in
     record {
       state = record s {
-        stations = maps.insert (with_authenticated a others s.stations) (b, a) (row_of request aid);
+        stations = maps.insert (with_put_backs a others s.stations) (b, a) (row_of request aid);
         cursors = cursors_after s b a aid;
       };
       changes = put_backs a others ++ Put b a (row_of request aid) ∷ cursor_changes s b a aid;
       outs = outs_elsewhere confs a others ++ installation s b a aid
-          ++ sent (association_response conf b kind a Success (Some aid)) ∷ [];
+          ++ reply_out (association_response conf b kind a Success (Some aid)) ∷ [];
     }
 
 -- in a sound state there is an identifier
-abbrev pub accepted : State → List Conf → Conf → Bssid → Kind → AssociationRequest → Option Aid → Verdict
-accepted s confs conf b kind request None = nothing s
-accepted s confs conf b kind request (Some aid) = associated s confs conf b kind request aid
+abbrev pub acceptance_of : State → List Conf → Conf → Bssid → Kind → AssociationRequest → Option Aid → Verdict
+acceptance_of s confs conf b kind request None = nothing s
+acceptance_of s confs conf b kind request (Some aid) = acceptance s confs conf b kind request aid
 
 -- By the station's row at the BSSID: it is a class 2 frame, so a station without one is told that it is not
 -- authenticated (11.3.3). A refused station stays as it is (own).
 abbrev pub association_of : State → List Conf → Conf → Bssid → Kind → AssociationRequest → Option Station → Verdict
-association_of s confs conf b kind request None = only_sent s (deauthentication b request.sender INVALID_CLASS2_FRAME)
+association_of s confs conf b kind request None = only_reply s (deauthentication b request.sender INVALID_CLASS2_FRAME)
 association_of s confs conf b kind request (Some row) =
     let status = association_status conf request in
-    if is_success status then accepted s confs conf b kind request (identifier_for s b (Some row))
-    else only_sent s (association_response conf b kind request.sender status None)
+    if is_success status then acceptance_of s confs conf b kind request (identifier_for s b (Some row))
+    else only_reply s (association_response conf b kind request.sender status None)
 
 abbrev pub association_verdict : State → List Conf → Conf → Bssid → Kind → AssociationRequest → Verdict
 association_verdict s confs conf b kind request =

@@ -15,7 +15,7 @@ use Rattle.apd_conf.specs.declared.conf.Conf.{Conf}
 use Rattle.apd_conf.specs.Auth.{allows_open}
 use Rattle.apd_record.specs.declared.change.Change.TheVariants.{Put}
 use Rattle.apd_table.specs.Allowed.{allowed}
-use Rattle.apd_mlme.specs.Outs.{sent}
+use Rattle.apd_mlme.specs.Outs.{reply_out}
 use Rattle.apd_mlme.specs.rules.Refusals.{first_status, is_success}
 use Rattle.apd_mlme.specs.Verdict.{Verdict}
 
@@ -65,5 +65,5 @@ auth_verdict s conf b request = record {
       then record s { stations = map.insert s.stations (b, request.sender) Authenticated }
       else s;
   changes = if is_admitted s conf b request then Put b request.sender Authenticated ∷ [] else [];
-  outs = sent (auth_response b request (auth_status s conf b request)) ∷ [];
+  outs = reply_out (auth_response b request (auth_status s conf b request)) ∷ [];
 }

@@ -17,19 +17,19 @@ use Rattle.apd_frame.specs.declared.codes.TheConstants.Reason.{UNSPECIFIED}
 use Rattle.apd_record.specs.Meaning.{none_given}
 use Rattle.apd_record.specs.declared.change.Change.{Change}
 use Rattle.apd_record.specs.declared.change.Change.TheVariants.{Drop, ListAdd, Policy}
-use Rattle.apd_table.specs.Allowed.{allowed_in, denied_by}
+use Rattle.apd_table.specs.Allowed.{is_allowed_in, denials_by}
 use Rattle.apd_mlme.specs.rules.Leaving.{outs_of_drop}
 use Rattle.apd_mlme.specs.Verdict.{Verdict}
 
 -- a row stays where it is another BSSID's, or its station is allowed in the new mode
 abbrev pub stays : State → Bssid → AclMode → Bssid × Addr → Bool
-stays s b mode key = not (eq_by_cmp bssid_cmp b key.0) || allowed_in s b key.1 mode
+stays s b mode key = not (eq_by_cmp bssid_cmp b key.0) || is_allowed_in s b key.1 mode
 
 -- a change of the BSSID's lists or of its policy that leads to a new state, but for the rows that a mode denies there: they
 -- are gone. They are dropped first, in address order, so that each change leaves a sound state
-abbrev pub enforced : State → Bssid → AclMode → Change → State → Verdict
-enforced s b mode change new =
-    let denied = denied_by new b mode in
+abbrev pub enforcement : State → Bssid → AclMode → Change → State → Verdict
+enforcement s b mode change new =
+    let denied = denials_by new b mode in
     record {
       state = record new { stations = maps.retain_keys s.stations (stays new b mode) };
       changes = map (λ a. Drop b a) denied ++ change ∷ [];
@@ -39,11 +39,11 @@ enforced s b mode change new =
 -- a BSSID that was started before has the configured policy and its stored lists
 abbrev pub later_start : State → Conf → Bssid → Verdict
 later_start s conf b =
-    enforced s b conf.macaddr_acl (Policy b (policy_of conf)) (record s { policies = maps.insert s.policies b (policy_of conf) })
+    enforcement s b conf.macaddr_acl (Policy b (policy_of conf)) (record s { policies = maps.insert s.policies b (policy_of conf) })
 
 -- list rows with a row for each of these addresses beside them
-abbrev pub with_listed : Bssid → Which → List Addr → SetOf list_cmp → SetOf list_cmp
-with_listed b w addresses rows = maps.from_entries (map (λ a. ((b, w, a), tt)) addresses ++ maps.entries rows)
+abbrev pub with_additions : Bssid → Which → List Addr → SetOf list_cmp → SetOf list_cmp
+with_additions b w addresses rows = maps.from_entries (map (λ a. ((b, w, a), tt)) addresses ++ maps.entries rows)
 
 abbrev pub additions : Bssid → Which → List Addr → List Change
 additions b w addresses = map (λ a. ListAdd b w a) addresses
@@ -57,7 +57,7 @@ first_changes conf b accept deny = Policy b (policy_of conf) ∷ additions b Acc
 abbrev pub first_start : State → Conf → Bssid → List Addr → List Addr → Verdict
 first_start s conf b accept deny = record {
   state = record s {
-    lists = with_listed b Deny deny (with_listed b Accept accept s.lists);
+    lists = with_additions b Deny deny (with_additions b Accept accept s.lists);
     policies = maps.insert s.policies b (policy_of conf);
     cursors = maps.insert s.cursors b none_given;
   };

@@ -6,14 +6,14 @@ use Rattle.apd_base.specs.declared.station.Station.{Station}
 use Rattle.apd_base.specs.declared.station.Station.TheVariants.{Authenticated, Associated}
 use Rattle.apd_base.specs.State.{State, station_at}
 use Rattle.apd_frame.specs.declared.codes.TheConstants.Reason.{INVALID_AUTHENTICATION, INACTIVITY}
-use Rattle.apd_mlme.specs.rules.Leaving.{outs_of_end, outs_of_drop, put_back, dropped}
+use Rattle.apd_mlme.specs.rules.Leaving.{outs_of_end, outs_of_drop, put_back, row_drop}
 use Rattle.apd_mlme.specs.Verdict.{Verdict, nothing}
 
 -- an associated station is authenticated from then on, one that is only authenticated has no row from then on, and both
 -- are told
 abbrev pub inactivity_of : State → Bssid → Addr → Option Station → Verdict
 inactivity_of s b a (Some (Associated x)) = put_back s b a (outs_of_end b a INACTIVITY)
-inactivity_of s b a (Some Authenticated) = dropped s b a (outs_of_drop s b a INVALID_AUTHENTICATION)
+inactivity_of s b a (Some Authenticated) = row_drop s b a (outs_of_drop s b a INVALID_AUTHENTICATION)
 inactivity_of s b a None = nothing s
 
 abbrev pub inactivity_verdict : State → Bssid → Addr → Verdict

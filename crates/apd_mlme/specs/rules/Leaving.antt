@@ -18,7 +18,7 @@ use Rattle.apd_mlme.specs.declared.decision.Recipient.{Recipient}
 use Rattle.apd_mlme.specs.declared.decision.Recipient.TheVariants.{Radio}
 use Rattle.apd_mlme.specs.declared.decision.Out.{Out}
 use Rattle.apd_mlme.specs.declared.decision.Out.TheVariants.{Remove}
-use Rattle.apd_mlme.specs.Outs.{sent}
+use Rattle.apd_mlme.specs.Outs.{reply_out}
 use Rattle.apd_mlme.specs.Verdict.{Verdict}
 
 -- a station is told that its association is at an end
@@ -35,15 +35,15 @@ removal s b a = if is_some (aid_at s b a) then (Radio b, Remove a) ∷ [] else [
 
 -- what leaves for a station that was associated and is so no more
 abbrev pub outs_of_end : Bssid → Addr → Reason → List (Recipient × Out)
-outs_of_end b a reason = (Radio b, Remove a) ∷ sent (disassociation b a reason) ∷ []
+outs_of_end b a reason = (Radio b, Remove a) ∷ reply_out (disassociation b a reason) ∷ []
 
 -- what leaves for a station whose row is dropped
 abbrev pub outs_of_drop : State → Bssid → Addr → Reason → List (Recipient × Out)
-outs_of_drop s b a reason = removal s b a ++ sent (deauthentication b a reason) ∷ []
+outs_of_drop s b a reason = removal s b a ++ reply_out (deauthentication b a reason) ∷ []
 
 -- the rows, of which those that pass a test say authenticated
-abbrev pub authenticated_where : (Bssid × Addr → Bool) → FinMap station_cmp Station → FinMap station_cmp Station
-authenticated_where test rows =
+abbrev pub rows_authenticated_where : (Bssid × Addr → Bool) → FinMap station_cmp Station → FinMap station_cmp Station
+rows_authenticated_where test rows =
     maps.from_entries (map (λ row. (row.0, if test row.0 then Authenticated else row.1)) (maps.entries rows))
 
 -- whether it is the station's row
@@ -53,14 +53,14 @@ is_row_at b a key = eq_by_cmp bssid_cmp key.0 b && eq_by_cmp addr_cmp key.1 a
 -- the station's row says authenticated, and every other row is kept
 abbrev pub put_back : State → Bssid → Addr → List (Recipient × Out) → Verdict
 put_back s b a outs = record {
-  state = record s { stations = authenticated_where (is_row_at b a) s.stations };
+  state = record s { stations = rows_authenticated_where (is_row_at b a) s.stations };
   changes = Put b a Authenticated ∷ [];
   outs = outs;
 }
 
 -- the station has no row, and every other row is kept
-abbrev pub dropped : State → Bssid → Addr → List (Recipient × Out) → Verdict
-dropped s b a outs = record {
+abbrev pub row_drop : State → Bssid → Addr → List (Recipient × Out) → Verdict
+row_drop s b a outs = record {
   state = record s { stations = maps.retain_keys s.stations (λ key. not (is_row_at b a key)) };
   changes = Drop b a ∷ [];
   outs = outs;

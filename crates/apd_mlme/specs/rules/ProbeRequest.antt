@@ -15,7 +15,7 @@ use Rattle.apd_frame.specs.declared.replies.ReplyBody.TheVariants.{Probe}
 use Rattle.apd_mlme.specs.declared.decision.Recipient.{Recipient}
 use Rattle.apd_mlme.specs.declared.decision.Out.{Out}
 use Rattle.apd_mlme.specs.rules.Offer.{rates_in, channel_in}
-use Rattle.apd_mlme.specs.Outs.{sent}
+use Rattle.apd_mlme.specs.Outs.{reply_out}
 use Rattle.apd_mlme.specs.Verdict.{Verdict}
 
 -- whether the network tells its name to who asks for any
@@ -44,7 +44,7 @@ probe_response conf b a = record {
 
 abbrev pub probe_outs : Conf → Bssid → ProbeRequest → List (Recipient × Out)
 probe_outs conf b request =
-    if is_answered conf request.elements then sent (probe_response conf b request.sender) ∷ [] else []
+    if is_answered conf request.elements then reply_out (probe_response conf b request.sender) ∷ [] else []
 
 -- it changes nothing, and asks no policy (own)
 abbrev pub probe_verdict : State → Conf → Bssid → ProbeRequest → Verdict

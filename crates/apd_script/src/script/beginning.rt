@@ -12,12 +12,12 @@ use apd_slot::Slot;
 use apd_world::{World, restart};
 use std::alloc::Global;
 
-/// The world of the store that a device holds, at a moment, with these slots, one for each interface.
+/// Begins a world of the store that a device holds, at a moment, with these slots, one for each interface.
 ///
 /// # Errors
 ///
 /// `World`, where the store is refused or a slot does not resume.
-pub fn begun<D: Disk + Drop, R: Radio>(
+pub fn begin_world<D: Disk + Drop, R: Radio>(
     alloc: Global,
     device: D,
     confs: Confs,

@@ -2,7 +2,7 @@
 //! caller's proof carries no long contract.
 ghost use Rattle.std.specs.Prelude.{◌≡◌, None, OnOk};
 
-use super::standing::Standing;
+use super::runner::Runner;
 use apd_disk::Disk;
 use apd_mlme::Recipient;
 use apd_radio::Radio;
@@ -11,7 +11,7 @@ use apd_world::{Step, Told, WorldFault};
 /// What was handed out and applied, each with its recipient.
 pub type Answers = Vec<(Recipient, Told)>;
 
-impl<D: Disk + Drop, R: Radio> Standing<D, R> {
+impl<D: Disk + Drop, R: Radio> Runner<D, R> {
     ghost use Rattle.apd_script.specs.Script.{Flushes, HandsOut, Makes, Starts};
 
     /// Makes a step.

@@ -1,7 +1,7 @@
 //! The lines of a script.
 ghost use Rattle.std.specs.Prelude.{◌≡◌, ℕ, List, IfOk, IfSome, IfNone};
 ghost use Rattle.apd_base.specs.declared.moment.Moment.{Moment as AnyMoment};
-ghost use Rattle.apd_script.specs.Lines.{IsMoment, IsReception, IsWord, Said, Says, said, without_blanks};
+ghost use Rattle.apd_script.specs.Lines.{IsMoment, IsReception, IsWord, Said, Says, saying_of, without_blanks};
 
 use apd_base::text::{behind, decimal_number, first_blank};
 use apd_base::{Moment, Sequence};
@@ -37,7 +37,7 @@ pub enum Line<'a> {
 
 /// The lines of one word, and the empty one.
 fn parse_word(text: &[u8]) -> Option<Line<'static>>
-    ensures some { IfSome result (λ line. Says text.now (said line)) }
+    ensures some { IfSome result (λ line. Says text.now (saying_of line)) }
     ensures none { IfNone result ((what : Said) → IsWord what → Says text.now what → ⊥) }
 {
     if text.is_empty() {
@@ -105,7 +105,7 @@ fn parse_reception(alloc: Global, text: &[u8]) -> Result<Option<(&[u8], Sequence
 ///
 /// Memory runs out.
 pub fn parse_line(alloc: Global, text: &[u8]) -> Result<Option<Line<'_>>, AllocError>
-    ensures some { IfOk result (λ found. IfSome found (λ line. Says text.now (said line))) }
+    ensures some { IfOk result (λ found. IfSome found (λ line. Says text.now (saying_of line))) }
     ensures none { IfOk result (λ found. IfNone found ((what : Said) → Says text.now what → ⊥)) }
 {
     if let Some(line) = parse_word(text) {

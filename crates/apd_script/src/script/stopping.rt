@@ -5,10 +5,10 @@ ghost use Rattle.apd_script.specs.Lines.{Stop};
 ghost use Rattle.apd_world.specs.Outside.{device_of};
 ghost use Rattle.apd_world.specs.WorldParts.{durable_of};
 
-use super::beginning::begun;
+use super::beginning::begin_world;
 use super::fault::{ScriptFault, writer_fault};
 use super::output::write_recovered;
-use super::standing::Standing;
+use super::runner::Runner;
 use apd_conf::Confs;
 use apd_disk::Disk;
 use apd_radio::Radio;
@@ -48,12 +48,12 @@ fn device_of<D: Disk, R: Radio>(world: World<D, R>) -> D
     flusher.into_device()
 }
 
-impl<D: Disk + Drop, R: Radio> Standing<D, R> {
+impl<D: Disk + Drop, R: Radio> Runner<D, R> {
     ghost use Rattle.apd_script.specs.Script.{AreRenewed, IsNoBadLine, IsRestarted, IsSaidFault, Restarts, Stops, confs_of};
 
     /// Gives up the world, and begins one of these configurations from what its device reads, with these
     /// slots, at the moment.
-    fn restarted(self, confs: Confs, slots: Vec<Slot<R>>) -> Result<Standing<D, R>, ScriptFault>
+    fn restart(self, confs: Confs, slots: Vec<Slot<R>>) -> Result<Runner<D, R>, ScriptFault>
         ensures ok { IfOk result
             (λ new. confs ≡ confs_of self → map bssid_of slots.items ≡ map (λ conf. conf.bssid) confs
             → IsRestarted D.model R.model self.moment self.world new.world) }
@@ -61,16 +61,16 @@ impl<D: Disk + Drop, R: Radio> Standing<D, R> {
         ensures err { IfErr result IsNoBadLine }
     {
         an_image_shows_one_state();
-        self.world.shown();
-        let Standing {
+        self.world.show_images();
+        let Runner {
             alloc,
             world,
             moment,
             spares,
             ..
         } = self;
-        let world = begun(alloc, device_of(world), confs, slots, moment)?;
-        Ok(Standing {
+        let world = begin_world(alloc, device_of(world), confs, slots, moment)?;
+        Ok(Runner {
             alloc,
             world,
             moment,
@@ -80,7 +80,7 @@ impl<D: Disk + Drop, R: Radio> Standing<D, R> {
     }
 
     /// The configurations, and a slot for each with a radio from the front.
-    fn renewed(&mut self, number: u64) -> Result<(Confs, Vec<Slot<R>>), ScriptFault>
+    fn fresh_parts(&mut self, number: u64) -> Result<(Confs, Vec<Slot<R>>), ScriptFault>
         ensures ok { IfOk result (λ parts. AreRenewed parts.0 parts.1.items self.old self.new) }
         ensures err { IfErr result (IsSaidFault number Stop self.old) }
     {
@@ -92,43 +92,43 @@ impl<D: Disk + Drop, R: Radio> Standing<D, R> {
     }
 
     /// Gives up the world, and begins it anew with a radio from the front for each interface.
-    fn begun_anew(self, number: u64) -> Result<Standing<D, R>, ScriptFault>
+    fn begin_anew(self, number: u64) -> Result<Runner<D, R>, ScriptFault>
         ensures ok { IfOk result (λ new. Restarts D.model R.model self new) }
         ensures err { IfErr result (IsSaidFault number Stop self) }
     {
-        let mut standing = self;
-        match standing.renewed(number) {
-            Ok((confs, slots)) => standing.restarted(confs, slots),
-            Err(fault) => standing.given_up(fault),
+        let mut runner = self;
+        match runner.fresh_parts(number) {
+            Ok((confs, slots)) => runner.restart(confs, slots),
+            Err(fault) => runner.give_up(fault),
         }
     }
 
     /// Prints how many station rows the device held.
-    fn rows_printed<W: Write>(&self, writer: &mut W) -> Result<(), ScriptFault>
+    fn print_rows<W: Write>(&self, writer: &mut W) -> Result<(), ScriptFault>
         ensures { IfErr result IsNoBadLine }
     {
         write_recovered(self.alloc, writer, self.world.table().rows()).map_err(writer_fault)
     }
 
-    /// The same, with the script handed back.
-    fn recovered<W: Write>(self, writer: &mut W) -> Result<Standing<D, R>, ScriptFault>
+    /// The same, with the script handed back. A fault gives it up.
+    fn print_rows_or_give_up<W: Write>(self, writer: &mut W) -> Result<Runner<D, R>, ScriptFault>
         ensures ok { IfOk result (λ new. new ≡ self) }
         ensures err { IfErr result IsNoBadLine }
     {
-        let printed = self.rows_printed(writer);
-        self.kept(printed)
+        let printed = self.print_rows(writer);
+        self.keep_if(printed)
     }
 
     /// Stops and restarts, prints how many station rows the device held, and starts the interfaces.
-    pub fn stopped<W: Write>(
+    pub fn stop<W: Write>(
         self,
         writer: &mut W,
         number: u64,
-    ) -> Result<Standing<D, R>, ScriptFault>
+    ) -> Result<Runner<D, R>, ScriptFault>
         ensures ok { IfOk result (λ new. Stops D.model R.model self new) }
         ensures err { IfErr result (IsSaidFault number Stop self) }
     {
-        let standing = self.begun_anew(number)?.recovered(writer)?;
-        standing.gone_on(writer)
+        let runner = self.begin_anew(number)?.print_rows_or_give_up(writer)?;
+        runner.start_or_give_up(writer)
     }
 }

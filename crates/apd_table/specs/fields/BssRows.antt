@@ -13,7 +13,7 @@ use Rattle.apd_base.specs.Sets.{SetOf}
 use Rattle.apd_base.specs.declared.station.Station.{Station}
 use Rattle.apd_base.specs.Addr.{bssid_cmp}
 use Rattle.apd_base.specs.State.{list_cmp}
-use Rattle.apd_acl.specs.Lists.{list_of, has, added, removed, cleared}
+use Rattle.apd_acl.specs.Lists.{list_of, has, with_address, without_address, without_addresses}
 use Rattle.apd_table.specs.fields.BssState.{BssState}
 use Rattle.apd_table.specs.fields.Members.{members_after, no_members}
 use Rattle.apd_table.specs.declared.bss_rows.Bss.{Bss}
@@ -60,16 +60,16 @@ abbrev pub no_bss : BssState
 no_bss = record { lists = map.empty; policies = map.empty; cursors = map.empty; members = map.empty }
 
 -- a BSSID that had no policy comes without stations
-abbrev pub joined : Option Policy → FinMap bssid_cmp Members → Bssid → FinMap bssid_cmp Members
-joined None members b = map.insert members b no_members
-joined (Some policy) members b = members
+abbrev pub members_under : Option Policy → FinMap bssid_cmp Members → Bssid → FinMap bssid_cmp Members
+members_under None members b = map.insert members b no_members
+members_under (Some policy) members b = members
 
 abbrev pub with_bss : BssState → Bssid → Policy → BssState
 with_bss s b policy =
     record s {
       policies = map.insert s.policies b policy;
       cursors = cursors_with (map.get s.policies b) s.cursors b;
-      members = joined (map.get s.policies b) s.members b;
+      members = members_under (map.get s.policies b) s.members b;
     }
 
 -- whether the lists of a row have an address
@@ -85,13 +85,13 @@ abbrev pub with_cursor : StationNumber → Bss → Bss
 with_cursor last x = record x { cursor = last }
 
 abbrev pub with_added : Which → Addr → Bss → Bss
-with_added w a x = record x { lists = added x.lists w a }
+with_added w a x = record x { lists = with_address x.lists w a }
 
 abbrev pub with_removed : Which → Addr → Bss → Bss
-with_removed w a x = record x { lists = removed x.lists w a }
+with_removed w a x = record x { lists = without_address x.lists w a }
 
 abbrev pub with_cleared : Which → Bss → Bss
-with_cleared w x = record x { lists = cleared x.lists w }
+with_cleared w x = record x { lists = without_addresses x.lists w }
 
 abbrev pub with_row : Option Station → Option Station → Bss → Bss
 with_row old new x = record x { members = members_after old new x.members }

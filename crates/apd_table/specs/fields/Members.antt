@@ -53,17 +53,17 @@ without_aid None words = words
 without_aid (Some i) words = without_place i words
 
 -- the number of rows, where a station had one or not, and has one or not
-abbrev pub counted : Bool → Bool → ℕ → ℕ
-counted false false n = n
-counted false true n = n + 1
-counted true false n = n - 1
-counted true true n = n
+abbrev pub count_after : Bool → Bool → ℕ → ℕ
+count_after false false n = n
+count_after false true n = n + 1
+count_after true false n = n - 1
+count_after true true n = n
 
 -- where a station's row was the one and is the other
 abbrev pub members_after : Option Station → Option Station → Members → Members
 members_after old new x =
     record {
-      count = counted (is_some old) (is_some new) x.count;
+      count = count_after (is_some old) (is_some new) x.count;
       words = with_aid (aid_of new) (without_aid (aid_of old) x.words);
     }
 

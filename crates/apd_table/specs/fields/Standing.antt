@@ -20,13 +20,13 @@ Stand Behind changes table other = Lead changes other table
 Stand Ahead changes table other = Lead changes table other
 Stand Unknown changes table other = Unit {0}
 
-abbrev pub staged_by : Standing → State → State → State
-staged_by Behind table other = table
-staged_by Ahead table other = other
-staged_by Unknown table other = table
+abbrev pub staged_state : Standing → State → State → State
+staged_state Behind table other = table
+staged_state Ahead table other = other
+staged_state Unknown table other = table
 
 abbrev pub tables_of : Inside → StagedTables
-tables_of s = record { table = s.table; staged = staged_by s.standing s.table s.other }
+tables_of s = record { table = s.table; staged = staged_state s.standing s.table s.other }
 
 abbrev pub IsStaged : Inside → Type 0
 IsStaged s = Stand s.standing s.list.items s.table s.other

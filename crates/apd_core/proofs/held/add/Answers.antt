@@ -1,11 +1,7 @@
 use Rattle.std.proofs.Common.{List, ◌<◌, length, map, sym, ap, subst, ◌∙◌, arith}
-use Rattle.std.specs.List.{AllByRecursion}
-use Rattle.apd_mlme.specs.declared.decision.Out.{Out}
-use Rattle.apd_mlme.specs.declared.decision.Recipient.{Recipient}
-use Rattle.apd_core.specs.Held.{Queue, queue_place, queued}
-use Rattle.apd_core.specs.TakingBack.{before, MayFollow}
+use Rattle.apd_core.proofs.Words.{AllByRecursion, MayFollow, Out, Queue, Recipient, before, queue_place, queues_with_outs}
 use Rattle.apd_core.proofs.Places.{queue_place_below}
-use Rattle.apd_core.proofs.Queues.{added_at, length-queued_at, before-queued_at}
+use Rattle.apd_core.proofs.Queues.{added_at, length-queues_with_out, before-queues_with_out}
 use Rattle.apd_core.proofs.HeldLemmas.{follow_more}
 use Rattle.apd_core.proofs.held.add.Goals as goal
 
@@ -21,8 +17,8 @@ loop-to-preserved-in-Continue-1 c =
     record {
       next = tt;
       finite = tt;
-      size = ap length e ∙ length-queued_at qs p (n, out) ∙ c.loop-to.invariant.size;
-      added = ap (queued confs n c.next.new.self.rest.items) e ∙ sym (ap (λ (l : List (Recipient × Out)). queued confs n l qs) c.in-Some.ensures.steps.0) ∙ c.loop-to.invariant.added;
-      before = ap (map (before n)) e ∙ before-queued_at n qs p (n, out) (omega arith) ∙ c.loop-to.invariant.before;
+      size = ap length e ∙ length-queues_with_out qs p (n, out) ∙ c.loop-to.invariant.size;
+      added = ap (queues_with_outs confs n c.next.new.self.rest.items) e ∙ sym (ap (λ (l : List (Recipient × Out)). queues_with_outs confs n l qs) c.in-Some.ensures.steps.0) ∙ c.loop-to.invariant.added;
+      before = ap (map (before n)) e ∙ before-queues_with_out n qs p (n, out) (omega arith) ∙ c.loop-to.invariant.before;
       order = λ f. subst (λ (l : List Queue). AllByRecursion (MayFollow n) l) (sym e) (follow_more n qs p out (c.loop-to.invariant.order f));
     }

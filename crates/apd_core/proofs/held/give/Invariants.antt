@@ -1,5 +1,5 @@
 use Rattle.std.proofs.Common.{◌≡◌, ◌+◌, ◌++◌, ◌≤◌, map, length, vec_len, vec_capacity}
-use Rattle.apd_core.specs.Held.{up_to, beyond, after_given, greatest, IsInOrder}
+use Rattle.apd_core.specs.Held.{up_to, beyond, after_given, greatest_number, IsInOrder}
 use Rattle.apd_core.proofs.held.give.Given as goal
 
 -- what is still to be given, from what was given
@@ -10,7 +10,7 @@ invariant-loop-of l = record {
   outs : l.outs.items ++ map (λ x. x.1) (up_to l.number l.queue) ≡ map (λ x. x.1) (up_to l.number l.fn.queue);
   rest : beyond l.number l.queue ≡ beyond l.number l.fn.queue;
   left : after_given l.remaining (up_to l.number l.queue) ≡ after_given l.fn.remaining (up_to l.number l.fn.queue);
-  given : greatest l.given (up_to l.number l.queue) ≡ greatest l.fn.given (up_to l.number l.fn.queue);
+  given : greatest_number l.given (up_to l.number l.queue) ≡ greatest_number l.fn.given (up_to l.number l.fn.queue);
 }
 
 abbrev pub decreases-loop-of : goal.decreases-loop-of

@@ -1,9 +1,6 @@
 use Rattle.std.proofs.Common.{List, sym, ap, ◌∙◌, arith}
 use Rattle.std.specs.List.{position}
-use Rattle.std.specs.Ordering.{eq_by_cmp}
-use Rattle.apd_base.specs.Addr.{bssid_cmp}
-use Rattle.apd_conf.specs.declared.conf.Conf.{Conf}
-use Rattle.apd_core.specs.Held.{queue_place}
+use Rattle.apd_core.proofs.Words.{Conf, bssid_cmp, eq_by_cmp, queue_place}
 use Rattle.apd_core.proofs.Places.{place_is, place_small}
 use Rattle.apd_core.proofs.held.place_of.Goals as goal
 

@@ -1,10 +1,5 @@
 use Rattle.std.proofs.Common.{◌≡◌, ◌+◌, ◌++◌, [], length, take, drop, sym, ap, subst, ◌∙◌, arith}
-use Rattle.apd_mlme.proofs.TrueOutsLemmas.{all_both}
-use Rattle.apd_record.specs.Ranges.{AreChanges, IsChange}
-use Rattle.apd_record.specs.Record.{records_of}
-use Rattle.apd_record.proofs.Lengths.{records_length-append}
-use Rattle.apd_core.specs.Core.{IsLongestFront, changes_of}
-use Rattle.apd_core.specs.Fields.{entries_of}
+use Rattle.apd_core.proofs.Words.{AreChanges, IsChange, IsLongestFront, all_both, changes_of, entries_of, records_length-append, records_of}
 use Rattle.apd_core.proofs.Taking.{next_entry, longest_stop, longest_end, all_taken, none_left}
 use Rattle.apd_core.proofs.request_core.longest_front.Goals as goal
 

@@ -1,9 +1,5 @@
 use Rattle.std.proofs.Common.{◌+◌, ◌<◌, ◌≡◌, ◌≤◌, ◌^◌, ◌++◌, length, take, drop}
-use Rattle.apd_base.specs.declared.limits.TheConstants.{MAX_GROUP}
-use Rattle.apd_record.specs.Ranges.{AreChanges}
-use Rattle.apd_record.specs.Record.{records_of}
-use Rattle.apd_core.specs.Core.{changes_of}
-use Rattle.apd_core.specs.Fields.{entries_of}
+use Rattle.apd_core.proofs.Words.{AreChanges, MAX_GROUP, changes_of, entries_of, records_of}
 use Rattle.apd_core.proofs.request_core.longest_front.Given as goal
 
 -- what is left, the changes of those before it, and the room that they leave

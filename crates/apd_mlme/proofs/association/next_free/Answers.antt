@@ -1,9 +1,5 @@
 use Rattle.std.proofs.Common.{◌≡◌, ℕ, Option, Some, IfSome, subst}
-use Rattle.apd_base.specs.declared.address.Bssid.{Bssid}
-use Rattle.apd_base.specs.declared.station.Aid.{Aid}
-use Rattle.apd_base.specs.State.{State}
-use Rattle.apd_table.specs.LeastFree.{IsNextFree}
-use Rattle.apd_mlme.specs.rules.Identifiers.{next_free}
+use Rattle.apd_mlme.proofs.Words.{Aid, Bssid, IsNextFree, State, next_free}
 use Rattle.apd_mlme.proofs.IdentifierLemmas.{one_is_left, found_next}
 use Rattle.apd_mlme.proofs.association.next_free.Goals as goal
 

@@ -1,7 +1,5 @@
-use Rattle.std.specs.FinMap.{get-empty}
-use Rattle.apd_base.specs.Addr.{station_cmp}
+use Rattle.apd_mlme.proofs.Words.{BROADCAST, get-empty, station_cmp}
 use Rattle.apd_frame.proofs.Senders.{sender_not_broadcast}
-use Rattle.apd_base.specs.declared.address.TheConstants.{BROADCAST}
 use Rattle.apd_mlme.proofs.AdmissionLemmas.{verdict_broadcast, run_broadcast}
 use Rattle.apd_mlme.proofs.laws.no_station_gets_the_broadcast_address.Goals as goal
 

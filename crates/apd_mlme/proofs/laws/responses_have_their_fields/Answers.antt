@@ -1,5 +1,4 @@
-use Rattle.apd_mlme.specs.declared.association.Kind.TheVariants.{Association, Reassociation}
-use Rattle.apd_mlme.specs.rules.Association.{without_current_ap}
+use Rattle.apd_mlme.proofs.Words.{Association, Reassociation, without_current_ap}
 use Rattle.apd_mlme.proofs.ResponseLemmas.{authentication_answered, association_answered}
 use Rattle.apd_mlme.proofs.laws.responses_have_their_fields.Goals as goal
 

@@ -1,5 +1,4 @@
-use Rattle.apd_mlme.specs.declared.association.Kind.TheVariants.{Association, Reassociation}
-use Rattle.apd_mlme.specs.rules.Association.{without_current_ap}
+use Rattle.apd_mlme.proofs.Words.{Association, Reassociation, without_current_ap}
 use Rattle.apd_mlme.proofs.AssociationResponseLemmas.{association_joined}
 use Rattle.apd_mlme.proofs.laws.who_associates_is_told_at_each_radio.Goals as goal
 

@@ -16,5 +16,5 @@ loop-change-preserved c =
     ap length (records_so_far xs i x c.loop-change-test.true) ∙ length-append (records_of (take i xs)) _ ∙ ap (λ k. so_far + k) (ap (λ y. length (record_of y)) (sym c.change-item.is) ∙ item) in
     record {
       total = omega arith;
-      known = known_so_far xs i x c.loop-change-test.true c.change-item.is c.loop-change.invariant.known c.known.ensures;
+      known = known_so_far xs i x c.loop-change-test.true c.change-item.is c.loop-change.invariant.known c.range_law.ensures;
     }

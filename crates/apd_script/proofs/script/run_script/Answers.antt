@@ -10,32 +10,32 @@ use Rattle.apd_script.proofs.script.run_script.Goals.{else-loop-number-test, the
 pub loop-number-init : goal.loop-number-init
 loop-number-init g c =
     begins_so_far g.D.Disk.model g.R.Radio.model (g.I.Read.remaining c.args.reader) (take_remaining g.I.Read.remaining c.take-reader.result)
-    c.args.spares.items c.args.world c.begin.result c.in_ok-standing.standing
+    c.args.spares.items c.args.world c.begin.result c.in_ok-runner.runner
     (λ i. option_map (take (c.take-reader.ensures.limit i)) (g.I.Read.remaining (c.take-reader.ensures.inner i)))
-    c.begin.ensures c.in_ok-standing.ensures.ok
+    c.begin.ensures c.in_ok-runner.ensures.ok
 
 pub loop-number-preserved : goal.loop-number-preserved
 loop-number-preserved g c =
     let some : 0 < c.in-Ok.read = omega (arith, c.if-read-eq0.false) in
     further_so_far g.D.Disk.model g.R.Radio.model (g.I.Read.remaining c.args.reader) (take_remaining g.I.Read.remaining c.loop-number.reader) (take_remaining g.I.Read.remaining c.next_line.new.reader)
-    c.loop-number.number c.loop-number.length c.in-Ok.read c.next_line.new.count c.args.spares.items c.args.world c.loop-number.standing c.in_ok-standing-2.standing c.next_line.new.text.items
-    c.loop-number.invariant c.in-Ok.ensures.read c.in-Ok.ensures.length some c.in-Ok.ensures.count (rw (c.line_of.ensures, c.as_slice.ensures.value) at c.in_ok-standing-2.ensures.ok)
+    c.loop-number.number c.loop-number.length c.in-Ok.read c.next_line.new.count c.args.spares.items c.args.world c.loop-number.runner c.in_ok-runner-2.runner c.next_line.new.text.items
+    c.loop-number.invariant c.in-Ok.ensures.read c.in-Ok.ensures.length some c.in-Ok.ensures.count (rw (c.line_of.ensures, c.as_slice.ensures.value) at c.in_ok-runner-2.ensures.ok)
 
-pub returns-in_err-standing-2-clause-fault : goal.returns-in_err-standing-2-clause-fault
-returns-in_err-standing-2-clause-fault g c =
+pub returns-in_err-runner-2-clause-fault : goal.returns-in_err-runner-2-clause-fault
+returns-in_err-runner-2-clause-fault g c =
     let some : 0 < c.in-Ok.read = omega (arith, c.if-read-eq0.false) in
-    let fails = fails_so_far g.D.Disk.model g.R.Radio.model c.in_err-standing-2.field-0.0 (g.I.Read.remaining c.args.reader) (take_remaining g.I.Read.remaining c.loop-number.reader) (take_remaining g.I.Read.remaining c.next_line.new.reader)
-    c.loop-number.number c.loop-number.length c.in-Ok.read c.next_line.new.count c.args.spares.items c.args.world c.loop-number.standing c.next_line.new.text.items
-    c.loop-number.invariant c.in-Ok.ensures.read c.in-Ok.ensures.length some c.in-Ok.ensures.count (rw (c.line_of.ensures, c.as_slice.ensures.value) at c.in_err-standing-2.ensures.err) in
-    let told = err_from_is_err_and c.from_residual-in_err-standing-2.result c.from_residual-in_err-standing-2.ensures.1 in
+    let fails = fails_so_far g.D.Disk.model g.R.Radio.model c.in_err-runner-2.field-0.0 (g.I.Read.remaining c.args.reader) (take_remaining g.I.Read.remaining c.loop-number.reader) (take_remaining g.I.Read.remaining c.next_line.new.reader)
+    c.loop-number.number c.loop-number.length c.in-Ok.read c.next_line.new.count c.args.spares.items c.args.world c.loop-number.runner c.next_line.new.text.items
+    c.loop-number.invariant c.in-Ok.ensures.read c.in-Ok.ensures.length some c.in-Ok.ensures.count (rw (c.line_of.ensures, c.as_slice.ensures.value) at c.in_err-runner-2.ensures.err) in
+    let told = err_from_is_err_and c.from_residual-in_err-runner-2.result c.from_residual-in_err-runner-2.ensures.1 in
     subst (λ r. IfErr r (IsFault g.D.Disk.model g.R.Radio.model (g.I.Read.remaining c.args.reader) c.args.spares.items c.args.world)) (sym (told.1 ∙ ap Err told.2)) fails
 
 pub returns-in-Err-clause-ends : goal.returns-in-Err-clause-ends
-returns-in-Err-clause-ends g c = rw c.given_up.ensures tt
+returns-in-Err-clause-ends g c = rw c.give_up.ensures tt
 
 pub returns-in-Err-clause-fault : goal.returns-in-Err-clause-fault
 returns-in-Err-clause-fault g c =
-    rw c.given_up.ensures (fails_elsewhere g.D.Disk.model g.R.Radio.model c.in-Err.fault (g.I.Read.remaining c.args.reader) c.args.spares.items c.args.world c.in-Err.ensures.err)
+    rw c.give_up.ensures (fails_elsewhere g.D.Disk.model g.R.Radio.model c.in-Err.fault (g.I.Read.remaining c.args.reader) c.args.spares.items c.args.world c.in-Err.ensures.err)
 
 pub returns-clause-ends : goal.returns-clause-ends
 returns-clause-ends g c =
@@ -44,6 +44,6 @@ returns-clause-ends g c =
       | else-loop-number-test w ↦ absurd (omega (arith, so_far.counted, so_far.short, so_far.fits, w.loop-number-test.false))
       | then-loop-number-test+in-Ok+then-read-eq0 w ↦
           ends_so_far g.D.Disk.model g.R.Radio.model (g.I.Read.remaining c.args.reader) (take_remaining g.I.Read.remaining c.loop-number.reader) (take_remaining g.I.Read.remaining w.next_line.new.reader)
-          c.loop-number.number c.loop-number.length c.args.spares.items c.args.world c.loop-number.standing w.next_line.new.text.items
+          c.loop-number.number c.loop-number.length c.args.spares.items c.args.world c.loop-number.runner w.next_line.new.text.items
           so_far w.in-Ok.ensures.read (w.in-Ok.ensures.length ∙ w.if-read-eq0.true)
     ])

@@ -6,4 +6,4 @@ use Rattle.apd_script.proofs.script.run_script.Given as goal
 abbrev pub invariant-loop-number : goal.invariant-loop-number
 invariant-loop-number g l =
     IsSoFar g.D.Disk.model g.R.Radio.model
-    (g.I.Read.remaining l.fn.reader) (take_remaining g.I.Read.remaining l.reader) l.number l.length l.fn.spares.items l.fn.world l.standing
+    (g.I.Read.remaining l.fn.reader) (take_remaining g.I.Read.remaining l.reader) l.number l.length l.fn.spares.items l.fn.world l.runner

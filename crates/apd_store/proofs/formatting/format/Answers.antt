@@ -1,7 +1,5 @@
 use Rattle.std.proofs.Common.{◌≡◌, List, ℕ, false, rules, sym, subst}
-use Rattle.apd_base.specs.State.{empty_state}
-use Rattle.apd_store.specs.Image.{Shows}
-use Rattle.apd_store.specs.declared.half.Half.TheVariants.{A}
+use Rattle.apd_store.proofs.Words.{A, Shows, empty_state}
 use Rattle.apd_store.proofs.Current.{found_shows}
 use Rattle.apd_store.proofs.formatting.format.Goals as goal
 

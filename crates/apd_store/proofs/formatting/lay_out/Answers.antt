@@ -1,5 +1,4 @@
-use Rattle.apd_disk.proofs.Moments.{then_run, weaker}
-use Rattle.apd_store.specs.Image.{MayBeMade}
+use Rattle.apd_store.proofs.Words.{MayBeMade, then_run, weaker}
 use Rattle.apd_store.proofs.Heads.{kept_made, unmarked_made, laid_made}
 use Rattle.apd_store.proofs.formatting.lay_out.Goals as goal
 

@@ -1,7 +1,5 @@
 use Rattle.std.proofs.Common.{◌⊎◌, inl, inr, List, ℕ, take, sym, subst, rules}
-use Rattle.std.specs.List.{Contains}
-use Rattle.apd_disk.proofs.Moments.{one_call, then_run, quiet_call}
-use Rattle.apd_store.specs.Image.{IsOverMark}
+use Rattle.apd_store.proofs.Words.{Contains, IsOverMark, one_call, quiet_call, then_run}
 use Rattle.apd_store.proofs.formatting.unmark.Goals as goal
 
 pub returns-in_err-write_at-clause-any_moment : goal.returns-in_err-write_at-clause-any_moment

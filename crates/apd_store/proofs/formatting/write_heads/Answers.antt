@@ -1,7 +1,5 @@
 use Rattle.std.proofs.Common.{◌≡◌, ℕ, List, length, take, sym, ◌∙◌, ap, subst, arith}
-use Rattle.apd_disk.proofs.Moments.{one_call, then_run, quiet_call}
-use Rattle.apd_base.specs.declared.limits.TheConstants.{DEVICE_LENGTH}
-use Rattle.apd_store.specs.Layout.{IsLaidOut}
+use Rattle.apd_store.proofs.Words.{DEVICE_LENGTH, IsLaidOut, one_call, quiet_call, then_run}
 use Rattle.apd_store.proofs.Heads.{first_stays, on_map, heads_written}
 use Rattle.apd_store.proofs.formatting.write_heads.Goals as goal
 

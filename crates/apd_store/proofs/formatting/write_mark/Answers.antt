@@ -1,7 +1,5 @@
 use Rattle.std.proofs.Common.{ℕ, List, refl, sym, ◌∙◌}
-use Rattle.apd_disk.proofs.Moments.{one_call, quiet_call}
-use Rattle.apd_store.specs.Image.{magic}
-use Rattle.apd_store.specs.Layout.{IsLaidOut}
+use Rattle.apd_store.proofs.Words.{IsLaidOut, magic, one_call, quiet_call}
 use Rattle.apd_store.proofs.Heads.{mark_images, mark_found, on_map}
 use Rattle.apd_store.proofs.formatting.write_mark.Goals as goal
 

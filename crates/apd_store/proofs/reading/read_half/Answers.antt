@@ -1,10 +1,6 @@
 use Rattle.std.proofs.Common.{List, ◌↔◌, IsTrue, ◌∙◌, ap, subst}
 use Rattle.std.specs.Prelude.{Err}
-use Rattle.apd_base.specs.State.{empty_state}
-use Rattle.apd_record.specs.declared.change.Change.{Change}
-use Rattle.apd_table.specs.Sound.{StaySound}
-use Rattle.apd_journal.specs.Half.{HalfHolds}
-use Rattle.apd_store.specs.Image.{HasNoCursor}
+use Rattle.apd_store.proofs.Words.{Change, HalfHolds, HasNoCursor, StaySound, empty_state}
 use Rattle.apd_store.proofs.Found.{same_cursor, unsound}
 use Rattle.apd_store.proofs.reading.read_half.Goals as goal
 

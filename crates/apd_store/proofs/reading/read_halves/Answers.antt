@@ -1,7 +1,6 @@
 use Rattle.std.proofs.Common.{sym, ◌∙◌}
 use Rattle.std.specs.Prelude.{Err}
-use Rattle.apd_store.specs.declared.fault.StoreFault.TheVariants.{Damaged}
-use Rattle.std.proofs.lemmas.Bool.{false≢true}
+use Rattle.apd_store.proofs.Words.{Damaged, false≢true}
 use Rattle.apd_store.proofs.Found.{read_a, read_b, cursor_first, cursor_second, damaged_first, damaged_second, damaged_both, slice_a, slice_b}
 use Rattle.apd_store.proofs.reading.read_halves.Goals as goal
 

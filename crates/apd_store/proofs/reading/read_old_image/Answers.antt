@@ -1,9 +1,7 @@
 use Rattle.std.proofs.Common.{◌≡◌, rules, sym, ◌∙◌}
 use Rattle.std.specs.Prelude.{Err}
-use Rattle.std.proofs.lemmas.Bool.{false≢true}
+use Rattle.apd_store.proofs.Words.{Damaged, IsMarkedOld, false≢true, old_magic}
 use Rattle.apd_base.proofs.Cases.{not_false, not_yes}
-use Rattle.apd_store.specs.Image.{old_magic, IsMarkedOld}
-use Rattle.apd_store.specs.declared.fault.StoreFault.TheVariants.{Damaged}
 use Rattle.apd_store.proofs.Current.{found_shows_by}
 use Rattle.apd_store.proofs.reading.read_old_image.Goals as goal
 

@@ -1,7 +1,6 @@
 use Rattle.std.proofs.Common.{◌≡◌, List, ℕ, ◌∙◌, ap, subst, rules}
 use Rattle.std.specs.Prelude.{Err}
-use Rattle.apd_store.specs.Image.{Shows, ShowsNone, IsMarked}
-use Rattle.apd_store.specs.Layout.{IsFound}
+use Rattle.apd_store.proofs.Words.{IsFound, IsMarked, Shows, ShowsNone}
 use Rattle.apd_store.proofs.Current.{found_shows}
 use Rattle.apd_store.proofs.recovery.recover.Goals as goal
 

@@ -1,6 +1,5 @@
 use Rattle.std.proofs.Common.{◌≡◌, ◌∷◌, rules}
-use Rattle.apd_record.specs.Ranges.{AreChanges}
-use Rattle.apd_journal.specs.Half.{begun_bytes}
+use Rattle.apd_store.proofs.Words.{AreChanges, begun_bytes}
 use Rattle.apd_store.proofs.Copied.{head_begins}
 use Rattle.apd_store.proofs.upgrading.head_of.Goals as goal
 

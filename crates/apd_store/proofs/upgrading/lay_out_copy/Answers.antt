@@ -1,7 +1,5 @@
 use Rattle.std.proofs.Common.{◌≡◌, List, ℕ, false, ◌-◌, length, refl, rules, sym, subst}
-use Rattle.apd_disk.specs.Disk.{Only}
-use Rattle.apd_store.specs.Layout.{BeginsBy, IsFound}
-use Rattle.apd_store.specs.declared.half.Half.TheVariants.{A}
+use Rattle.apd_store.proofs.Words.{A, BeginsBy, IsFound, Only}
 use Rattle.apd_store.proofs.upgrading.lay_out_copy.Goals as goal
 
 pub returns-in_err-lay_out-clause-any_moment : goal.returns-in_err-lay_out-clause-any_moment

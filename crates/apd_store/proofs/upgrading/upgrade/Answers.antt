@@ -1,8 +1,6 @@
 use Rattle.std.proofs.Common.{◌≡◌, List, ℕ, false, inl, inr, refl, rules, sym, ◌∙◌, ap, subst}
 use Rattle.std.specs.Prelude.{Err}
-use Rattle.apd_store.specs.Image.{Shows}
-use Rattle.apd_store.specs.Upgrading.{HasNoneGiven}
-use Rattle.apd_store.specs.declared.half.Half.TheVariants.{A}
+use Rattle.apd_store.proofs.Words.{A, HasNoneGiven, Shows}
 use Rattle.apd_store.proofs.Current.{found_shows}
 use Rattle.apd_store.proofs.upgrading.upgrade.Goals as goal
 

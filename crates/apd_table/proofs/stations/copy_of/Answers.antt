@@ -2,8 +2,7 @@ use Rattle.std.proofs.Common.{◌≡◌, List, [], ◌∷◌, IfOk, map as list_
 use Rattle.std.proofs.lemmas.Iterator.Adapters.{fact_from_collect}
 use Rattle.std.proofs.lemmas.Iterator.{YieldsList-from_map}
 use Rattle.std.proofs.lemmas.Iterator.Consumers.{YieldsList-at, YieldsList-from_rest}
-use Rattle.std.specs.BTreeMap.{IsFromIterResult}
-use Rattle.apd_base.specs.Addr.{station_cmp}
+use Rattle.apd_table.proofs.Words.{IsFromIterResult, station_cmp}
 use Rattle.apd_table.proofs.StationRows.{Row}
 use Rattle.apd_table.proofs.stations.copy_of.Goals as goal
 

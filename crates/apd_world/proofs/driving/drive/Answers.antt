@@ -31,4 +31,4 @@ returns-clause-made g c =
     subst (λ (xs : List Step). AreSafelyMade g.D.Disk.model g.R.Radio.model xs c.loop-step.tolds.items c.args.world.now c.loop-step.world) (take_all c.loop-step.step-index c.args.steps.now c.loop-step-test.false) c.loop-step.invariant.driven
 
 pub returns-clause-between : goal.returns-clause-between
-returns-clause-between g c = λ proper. c.shown.ensures.images (c.loop-step.invariant.driven.proper proper)
+returns-clause-between g c = λ proper. c.show_images.ensures.images (c.loop-step.invariant.driven.proper proper)

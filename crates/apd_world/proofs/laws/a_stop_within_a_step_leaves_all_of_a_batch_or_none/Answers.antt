@@ -1,6 +1,6 @@
 use Rattle.apd_disk.proofs.Moments.{weaker}
 use Rattle.apd_world.proofs.Words.{ShowsEither, ShowsFlight, device_of}
-use Rattle.apd_world.proofs.Standing.{shows_flight}
+use Rattle.apd_world.proofs.DurableSteps.{shows_flight}
 use Rattle.apd_world.proofs.laws.a_stop_within_a_step_leaves_all_of_a_batch_or_none.Goals as goal
 
 pub returns-clause-image : goal.returns-clause-image

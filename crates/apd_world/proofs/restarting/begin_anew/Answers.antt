@@ -2,7 +2,7 @@ use Rattle.std.proofs.Common.{◌≡◌, length, sym, ap, subst, ◌∙◌, arit
 use Rattle.apd_core.proofs.Queues.{whole}
 use Rattle.apd_world.proofs.Words.{AreExact, AreOfSame, AreResumed, CoreState, HasNotResumed}
 use Rattle.apd_flusher.specs.Outside as flusher
-use Rattle.apd_store.specs.Outside.{device_of as store_device}
+use Rattle.apd_store.specs.Outside.{store_device}
 use Rattle.apd_world.proofs.JournalBegins.{begins_at}
 use Rattle.apd_world.proofs.ResumeLemmas.{begun_following, no_out_waits, resumed_exact}
 use Rattle.apd_world.proofs.restarting.begin_anew.Goals as goal
@@ -57,7 +57,7 @@ returns-in-Err-resume_all-clause-none g c =
     let failed = subst (λ s. HasNotResumed g.R.Radio.model s bssid fault c.args.slots.items xs)
     (c.table.ensures ∙ same) first in
     record {
-      device_is = c.into_device.ensures ∙ ap flusher.device_of c.into_parts-flusher.ensures.flusher
+      device_is = c.into_device.ensures ∙ ap flusher.flusher_device c.into_parts-flusher.ensures.flusher
           ∙ ap store_device c.in-Ok.ensures.begun.over;
       slots_are = subst (HasNotResumed g.R.Radio.model c.args.table bssid fault c.args.slots.items) (sym are) failed;
       same = subst (AreOfSame c.args.slots.items) (sym are)

@@ -1,6 +1,6 @@
 use Rattle.std.proofs.Common.{refl}
 use Rattle.apd_world.proofs.Words.{NoMemory}
-use Rattle.apd_world.proofs.Standing.{made_unchanged}
+use Rattle.apd_world.proofs.DurableSteps.{made_unchanged}
 use Rattle.apd_world.proofs.StepLemmas.{lacking_not_called}
 use Rattle.apd_world.proofs.slots.hand_to.Goals as goal
 

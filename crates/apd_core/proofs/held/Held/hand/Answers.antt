@@ -1,6 +1,5 @@
 use Rattle.std.proofs.Common.{◌≡◌, ◌<◌, ◌≤◌, [], length, map, set, IfOk, OnOk, OnErr, sym, ap, subst, ◌∙◌, arith}
-use Rattle.std.proofs.lemmas.List.{get_or_default}
-use Rattle.apd_core.specs.Held.{Queue, HeldOuts, queue_at, queue_of, up_to, after_hand, IsInOrder}
+use Rattle.apd_core.proofs.Words.{HeldOuts, IsInOrder, Queue, after_hand, get_or_default, queue_at, queue_of, up_to}
 use Rattle.apd_core.proofs.Places.{queue_place_below}
 use Rattle.apd_core.proofs.Queues.{all_get}
 use Rattle.apd_core.proofs.HeldLemmas.{given_held, after_give}

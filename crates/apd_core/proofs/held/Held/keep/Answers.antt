@@ -1,10 +1,6 @@
 use Rattle.std.proofs.Common.{◌≡◌, ℕ, ◌+◌, ◌<◌, List, IsSome, length, map, refl, sym, ap, subst, ◌∙◌, arith}
 use Rattle.std.specs.FinMap as maps
-use Rattle.std.specs.List.{AllByRecursion}
-use Rattle.apd_mlme.specs.declared.decision.Out.{Out}
-use Rattle.apd_mlme.specs.declared.decision.Recipient.{Recipient}
-use Rattle.apd_core.specs.Held.{Queue, HeldOuts, queued, IsInOrder}
-use Rattle.apd_core.specs.TakingBack.{before, MayFollow}
+use Rattle.apd_core.proofs.Words.{AllByRecursion, HeldOuts, IsInOrder, MayFollow, Out, Queue, Recipient, before, queues_with_outs}
 use Rattle.apd_core.proofs.Queues.{whole, on_ok, on_err, before_each}
 use Rattle.apd_core.proofs.HeldLemmas.{held_same, same_held, held_below, held_with_outs, left_back, may_follow, follow_order}
 use Rattle.apd_core.proofs.held.Held.keep.Goals as goal
@@ -27,7 +23,7 @@ invariant_of-self-else-is_err c =
     let size : length now ≡ inside.queues.len = omega (arith, c.add-added.auto.queues, ap length c.deref_mut.ensures.value, inside.queues.ok.0) in
     let added = on_ok c.add-added.result c.is_err.result _ c.is_err.ensures.value c.if-is_err.false c.add-added.ensures.ok in
     held_same _ _ _ _ inside.given inside.given
-    (whole inside.queues.len now qs size ∙ added ∙ ap (λ (l : List (Recipient × Out)). queued confs n l c.deref_mut.result.now) c.into_vec.ensures ∙ ap (queued confs n c.args.outs) c.deref_mut.ensures.value)
+    (whole inside.queues.len now qs size ∙ added ∙ ap (λ (l : List (Recipient × Out)). queues_with_outs confs n l c.deref_mut.result.now) c.into_vec.ensures ∙ ap (queues_with_outs confs n c.args.outs) c.deref_mut.ensures.value)
     (c.in_ok-insert.ensures.ok ∙ ap (maps.insert inside.remaining n) c.len.ensures) refl
     (held_with_outs confs n c.args.outs h c.self.invariant c.requires.there many later)
 

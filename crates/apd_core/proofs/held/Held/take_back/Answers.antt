@@ -1,8 +1,6 @@
 use Rattle.std.proofs.Common.{◌≡◌, IsSome, length, map, refl, ap, subst, ◌∙◌, arith}
 use Rattle.std.specs.FinMap as maps
-use Rattle.std.proofs.lemmas.List.{length-map}
-use Rattle.apd_core.specs.Held.{HeldOuts}
-use Rattle.apd_core.specs.TakingBack.{before}
+use Rattle.apd_core.proofs.Words.{HeldOuts, before, length-map}
 use Rattle.apd_core.proofs.Queues.{whole}
 use Rattle.apd_core.proofs.HeldLemmas.{held_same, held_without}
 use Rattle.apd_core.proofs.held.Held.take_back.Goals as goal

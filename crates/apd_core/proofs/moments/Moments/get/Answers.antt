@@ -1,9 +1,6 @@
 use Rattle.std.proofs.Common.{ap, ◌∙◌}
 use Rattle.std.specs.FinMap as map
-use Rattle.apd_base.specs.Addr.{station_cmp}
-use Rattle.apd_base.specs.declared.address.Addr.{Addr}
-use Rattle.apd_base.specs.declared.address.Bssid.{Bssid}
-use Rattle.apd_base.proofs.Trees.{get_lookup}
+use Rattle.apd_core.proofs.Words.{Addr, Bssid, get_lookup, station_cmp}
 use Rattle.apd_core.proofs.moments.Moments.get.Goals as goal
 
 pub returns : goal.returns

@@ -1,12 +1,6 @@
 use Rattle.std.proofs.Common.{◌≡◌, true, false, cond, is_some, sym, ap, ◌∙◌}
 use Rattle.std.specs.FinMap as map
-use Rattle.std.specs.Option.{option_copied_mut}
-use Rattle.apd_base.specs.Addr.{station_cmp}
-use Rattle.apd_base.specs.declared.address.Addr.{Addr}
-use Rattle.apd_base.specs.declared.address.Bssid.{Bssid}
-use Rattle.apd_base.proofs.AddrLemmas.{station_total, station_exact}
-use Rattle.apd_base.proofs.Trees.{in_order, get_lookup, inserted}
-use Rattle.apd_core.specs.Heard.{heard_from}
+use Rattle.apd_core.proofs.Words.{Addr, Bssid, get_lookup, heard_from, in_order, inserted, option_copied_mut, station_cmp, station_exact, station_total}
 use Rattle.apd_core.specs.contracts.moments.Moments.{the_invariant, the_view}
 use Rattle.apd_core.proofs.moments.Moments.hear.Goals.{in-Some, in_default}
 use Rattle.apd_core.proofs.moments.Moments.hear.Goals as goal

@@ -1,8 +1,6 @@
 use Rattle.std.proofs.Common.{◌≡◌, true, false, not, ◌||◌, ◌⊎◌, None, is_some, sym, ap, subst, ◌∙◌}
 use Rattle.std.specs.FinMap as map
-use Rattle.apd_base.specs.declared.address.Addr.{Addr}
-use Rattle.apd_base.specs.declared.address.Bssid.{Bssid}
-use Rattle.apd_core.specs.ChangedRows.{is_put_of}
+use Rattle.apd_core.proofs.Words.{Addr, Bssid, is_put_of}
 use Rattle.apd_core.proofs.Laying.{laid_put, put_there, was_there}
 use Rattle.apd_core.proofs.moments.Moments.lay.Goals as goal
 

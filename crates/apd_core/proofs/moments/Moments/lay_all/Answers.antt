@@ -1,8 +1,5 @@
 use Rattle.std.proofs.Common.{◌+◌, List, drop, inl, inr, refl, ap}
-use Rattle.std.specs.List.{list_any}
-use Rattle.std.proofs.lemmas.List.{drop_all}
-use Rattle.apd_record.specs.declared.change.Change.{Change}
-use Rattle.apd_core.specs.ChangedRows.{is_put_of}
+use Rattle.apd_core.proofs.Words.{Change, drop_all, is_put_of, list_any}
 use Rattle.apd_core.proofs.Hearing.{next_change}
 use Rattle.apd_core.proofs.Laying.{laid_on, there_on}
 use Rattle.apd_core.proofs.moments.Moments.lay_all.Goals as goal

@@ -1,10 +1,6 @@
 use Rattle.std.proofs.Common.{◌≡◌, true, drop, IsSome, ◌⊎◌}
 use Rattle.std.specs.FinMap as map
-use Rattle.std.specs.List.{list_any}
-use Rattle.apd_base.specs.declared.address.Addr.{Addr}
-use Rattle.apd_base.specs.declared.address.Bssid.{Bssid}
-use Rattle.apd_core.specs.ChangedRows.{is_put_of, puts_row}
-use Rattle.apd_core.specs.LaidDown.{AreLaidDown}
+use Rattle.apd_core.proofs.Words.{Addr, AreLaidDown, Bssid, is_put_of, list_any, puts_row}
 use Rattle.apd_core.proofs.moments.Moments.lay_all.Given as goal
 
 -- a row that is put has a moment, or is put by one of the changes that are left

@@ -1,11 +1,6 @@
 use Rattle.std.proofs.Common.{IsSome, sym, ap, subst, ◌∙◌}
 use Rattle.std.specs.FinMap as map
-use Rattle.apd_base.specs.Addr.{station_cmp}
-use Rattle.apd_base.specs.declared.address.Addr.{Addr}
-use Rattle.apd_base.specs.declared.address.Bssid.{Bssid}
-use Rattle.apd_base.proofs.AddrLemmas.{station_total, station_exact}
-use Rattle.apd_base.proofs.Cases.{none_is}
-use Rattle.apd_base.proofs.Trees.{in_order, get_lookup, inserted}
+use Rattle.apd_core.proofs.Words.{Addr, Bssid, get_lookup, in_order, inserted, none_is, station_cmp, station_exact, station_total}
 use Rattle.apd_core.proofs.moments.Moments.put.Goals as goal
 
 pub invariant_of-self-2 : goal.invariant_of-self-2

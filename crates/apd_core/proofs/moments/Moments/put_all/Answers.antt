@@ -1,6 +1,5 @@
 use Rattle.std.proofs.Common.{◌+◌, drop, sym, ap, ◌∙◌}
-use Rattle.std.proofs.lemmas.List.{drop_all}
-use Rattle.apd_core.specs.LaidDown.{heard_at}
+use Rattle.apd_core.proofs.Words.{drop_all, heard_at}
 use Rattle.apd_core.proofs.AllHeard.{next_row}
 use Rattle.apd_core.proofs.moments.Moments.put_all.Goals as goal
 

@@ -1,10 +1,6 @@
 use Rattle.std.proofs.Common.{ap, ◌∙◌}
 use Rattle.std.specs.FinMap as map
-use Rattle.apd_base.specs.Addr.{station_cmp}
-use Rattle.apd_base.specs.declared.address.Addr.{Addr}
-use Rattle.apd_base.specs.declared.address.Bssid.{Bssid}
-use Rattle.apd_base.proofs.AddrLemmas.{station_total, station_exact}
-use Rattle.apd_base.proofs.Trees.{in_order, removed}
+use Rattle.apd_core.proofs.Words.{Addr, Bssid, in_order, removed, station_cmp, station_exact, station_total}
 use Rattle.apd_core.proofs.moments.Moments.remove.Goals as goal
 
 pub invariant_of-self : goal.invariant_of-self

@@ -1,11 +1,6 @@
 use Rattle.std.proofs.Common.{IsOk, Some, cond, sym, ap, ◌∙◌}
 use Rattle.std.specs.FinMap as map
-use Rattle.apd_base.specs.declared.address.Addr.{Addr}
-use Rattle.apd_base.specs.declared.address.Bssid.{Bssid}
-use Rattle.apd_base.proofs.AddrLemmas.{station_total, station_exact}
-use Rattle.apd_base.proofs.MapLemmas.{tied}
-use Rattle.apd_core.specs.Heard.{LastHeard}
-use Rattle.apd_core.specs.ChangedRows.{is_put_of}
+use Rattle.apd_core.proofs.Words.{Addr, Bssid, LastHeard, is_put_of, station_exact, station_total, tied}
 use Rattle.apd_core.proofs.Laying.{on_ok}
 use Rattle.apd_core.proofs.moments.Moments.stamp.Goals as goal
 

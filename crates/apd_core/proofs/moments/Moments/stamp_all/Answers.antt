@@ -1,9 +1,6 @@
 use Rattle.std.proofs.Common.{◌+◌, cond, List, drop, Some, sym, ap, ◌∙◌}
 use Rattle.std.specs.FinMap as map
-use Rattle.std.specs.List.{list_any}
-use Rattle.std.proofs.lemmas.List.{drop_all}
-use Rattle.apd_record.specs.declared.change.Change.{Change}
-use Rattle.apd_core.specs.ChangedRows.{is_put_of}
+use Rattle.apd_core.proofs.Words.{Change, drop_all, is_put_of, list_any}
 use Rattle.apd_core.proofs.Hearing.{next_change}
 use Rattle.apd_core.proofs.Laying.{put_of_all, stamped_on, stamped_some}
 use Rattle.apd_core.proofs.moments.Moments.stamp_all.Goals as goal

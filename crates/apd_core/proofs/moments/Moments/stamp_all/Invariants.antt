@@ -1,9 +1,6 @@
 use Rattle.std.proofs.Common.{◌≡◌, true, cond, drop, IsSome, Some}
 use Rattle.std.specs.FinMap as map
-use Rattle.std.specs.List.{list_any}
-use Rattle.apd_base.specs.declared.address.Addr.{Addr}
-use Rattle.apd_base.specs.declared.address.Bssid.{Bssid}
-use Rattle.apd_core.specs.ChangedRows.{is_put_of, puts_row}
+use Rattle.apd_core.proofs.Words.{Addr, Bssid, is_put_of, list_any, puts_row}
 use Rattle.apd_core.proofs.moments.Moments.stamp_all.Given as goal
 
 -- what is left leads where all of it leads

@@ -1,10 +1,6 @@
 use Rattle.std.proofs.Common.{◌+◌, List, drop, is_some, sym, ap, ◌∙◌}
 use Rattle.std.specs.FinMap as map
-use Rattle.std.specs.List.{list_any}
-use Rattle.std.proofs.lemmas.List.{drop_all}
-use Rattle.apd_record.specs.declared.change.Change.{Change}
-use Rattle.apd_core.specs.ChangedRows.{is_of}
-use Rattle.apd_core.specs.LaidDown.{tidied}
+use Rattle.apd_core.proofs.Words.{Change, drop_all, is_of, list_any, moment_left}
 use Rattle.apd_core.proofs.Hearing.{next_change}
 use Rattle.apd_core.proofs.Laying.{nothing_tidied, tidied_on}
 use Rattle.apd_core.proofs.moments.Moments.tidy_all.Goals as goal
@@ -19,6 +15,6 @@ loop-change-preserved c k =
 
 pub returns : goal.returns
 returns c k =
-    sym (ap (λ (cs : List Change). tidied (list_any (is_of k) cs) (is_some (map.get c.args.table.now.stations k)) (map.get c.loop-change.self k)) (drop_all c.loop-change.change-index c.args.changes.now c.loop-change-test.false)
+    sym (ap (λ (cs : List Change). moment_left (list_any (is_of k) cs) (is_some (map.get c.args.table.now.stations k)) (map.get c.loop-change.self k)) (drop_all c.loop-change.change-index c.args.changes.now c.loop-change-test.false)
     ∙ nothing_tidied (is_some (map.get c.args.table.now.stations k)) (map.get c.loop-change.self k))
     ∙ c.loop-change.invariant k

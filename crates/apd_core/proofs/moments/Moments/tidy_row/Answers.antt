@@ -1,6 +1,5 @@
 use Rattle.std.proofs.Common.{not, is_some, sym, ap, ◌∙◌}
-use Rattle.apd_base.specs.declared.address.Addr.{Addr}
-use Rattle.apd_base.specs.declared.address.Bssid.{Bssid}
+use Rattle.apd_core.proofs.Words.{Addr, Bssid}
 use Rattle.apd_core.proofs.Laying.{tidied_kept, tidied_removed}
 use Rattle.apd_core.proofs.moments.Moments.tidy_row.Goals as goal
 

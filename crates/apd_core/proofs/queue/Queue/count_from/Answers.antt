@@ -1,9 +1,8 @@
 use Rattle.std.proofs.Common.{◌≡◌, ◌∷◌, List, [], ap, subst, ◌∙◌, length, rules, tests}
 use Rattle.std.specs.Prelude.{nat_le, reverse}
-use Rattle.std.specs.List.{take_while}
+use Rattle.apd_core.proofs.Words.{length-reverse, reverse-append, take_while}
 use Rattle.std.specs.Iterator.Adapters.{rev_source, rev_steps}
 use Rattle.std.specs.VecDeque.Iter.{deque_iter_rest, deque_iter_steps_back}
-use Rattle.std.proofs.lemmas.List.{length-reverse, reverse-append}
 use Rattle.std.proofs.lemmas.Iterator.{YieldsList}
 use Rattle.std.proofs.lemmas.Iterator.Consumers.{count_from_yields_List, YieldsList-from_shown}
 use Rattle.std.proofs.lemmas.Iterator.Search.{YieldsList-from_take_while}

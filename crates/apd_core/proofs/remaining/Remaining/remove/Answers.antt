@@ -1,7 +1,6 @@
 use Rattle.std.proofs.Common.{ap, ◌∙◌}
-use Rattle.std.specs.Cmp.{nat_cmp_total}
+use Rattle.apd_core.proofs.Words.{nat_cmp-IsAntisymmetric, nat_cmp_total}
 use Rattle.std.specs.FinMap as map
-use Rattle.std.specs.FinMap.{nat_cmp-IsAntisymmetric}
 use Rattle.apd_core.proofs.TreeMaps.{removed}
 use Rattle.apd_core.proofs.remaining.Remaining.remove.Goals as goal
 

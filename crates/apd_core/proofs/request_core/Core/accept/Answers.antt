@@ -1,8 +1,5 @@
 use Rattle.std.proofs.Common.{refl, sym, ap, ◌∙◌}
-use Rattle.apd_mlme.specs.Happening.{happening}
-use Rattle.apd_core.specs.Core.{with_sender}
-use Rattle.apd_core.specs.Fields.{core_of}
-use Rattle.apd_core.specs.Requests.{happened}
+use Rattle.apd_core.proofs.Words.{core_of, event_happening, happening, with_sender}
 use Rattle.apd_core.proofs.Accepting.{decided_state}
 use Rattle.apd_core.proofs.Kept.{sender_kept}
 use Rattle.apd_core.proofs.request_core.Core.accept.Goals as goal
@@ -17,5 +14,5 @@ returns-clause-ok c =
     let s = c.args.self.now in
     let h = happening c.in-Ok.event in
     decided_state s c.args.moment c.args.input h c.in_ok-answer.answer _ (sym c.is_stopped.ensures.value ∙ c.if-is_stopped.false) (sym c.is_busy.ensures ∙ c.if-is_busy.false)
-    (sym c.event_of.ensures.happening ∙ ap happened c.in-Ok.is) c.in_ok-answer.ensures.answer
+    (sym c.event_of.ensures.happening ∙ ap event_happening c.in-Ok.is) c.in_ok-answer.ensures.answer
     ((λ i. record (core_of c.self.inside) { heard = c.hear_sender.ensures i }) ∙ ap (with_sender c.args.moment h) (c.self.view_is ∙ c.in_ok-answer.ensures.ok))

@@ -1,19 +1,6 @@
 use Rattle.std.proofs.Common.{◌≡◌, ◌+◌, ◌-◌, ◌^◌, ◌<◌, ◌++◌, ◌∷◌, [], List, Err, false, length, refl, sym, ap, subst, ◌∙◌}
 use Rattle.std.specs.Prelude.{min}
-use Rattle.apd_base.specs.State.{State}
-use Rattle.apd_mlme.specs.Happening.{happening}
-use Rattle.apd_mlme.specs.rules.{verdict, IsFit}
-use Rattle.apd_mlme.specs.laws.Outs.{AreThere}
-use Rattle.apd_mlme.proofs.TrueOutsLemmas.{verdict_there}
-use Rattle.apd_record.specs.Meaning.{meaning_of}
-use Rattle.apd_record.specs.Ranges.{AreChanges}
-use Rattle.apd_record.specs.Record.{records_of}
-use Rattle.apd_record.specs.declared.change.Change.{Change}
-use Rattle.apd_table.specs.Sound.{StaySound}
-use Rattle.apd_core.specs.Core.{CoreState, front_of, last_of, is_busy}
-use Rattle.apd_core.specs.Heard.{heard_by_changes, AreMomentsOf}
-use Rattle.apd_core.specs.Held.{with_outs}
-use Rattle.apd_core.specs.declared.entry.Entry.{Entry}
+use Rattle.apd_core.proofs.Words.{AreChanges, AreMomentsOf, AreThere, Change, CoreState, Entry, IsFit, State, StaySound, front_of, happening, heard_by_changes, is_busy, last_of, meaning_of, records_of, verdict, verdict_there, with_outs}
 use Rattle.apd_core.proofs.Kept.{entered_kept, front_moments, last_there, measured_entry, refused_kept, refused_view}
 use Rattle.apd_core.proofs.request_core.Core.enter.Goals as goal
 

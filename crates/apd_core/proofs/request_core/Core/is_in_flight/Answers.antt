@@ -1,6 +1,5 @@
 use Rattle.std.proofs.Common.{◌≡◌, ◌≤◌, ◌+◌, true, sym, ◌∙◌, arith}
-use Rattle.std.proofs.lemmas.Bool.{false≢true, ltb-true}
-use Rattle.std.proofs.lemmas.Bool.Decides.{Decides-eqb}
+use Rattle.apd_core.proofs.Words.{Decides-eqb, false≢true, ltb-true}
 use Rattle.apd_core.proofs.Publishing.{in_flight}
 use Rattle.apd_core.proofs.SameChanges.{changes_decide}
 use Rattle.apd_core.proofs.request_core.Core.is_in_flight.Goals.{then-self-gt0, else-self-gt0, then-batch-self, else-batch-self}

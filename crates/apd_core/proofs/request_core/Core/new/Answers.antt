@@ -1,6 +1,5 @@
 use Rattle.std.proofs.Common.{refl, ap, subst, ◌∙◌}
-use Rattle.apd_conf.specs.Confs.{AreConfs}
-use Rattle.apd_core.specs.Held.{no_outs}
+use Rattle.apd_core.proofs.Words.{AreConfs, no_outs}
 use Rattle.apd_core.proofs.Hearing.{heard_at}
 use Rattle.apd_core.proofs.Kept.{new_kept}
 use Rattle.apd_core.proofs.request_core.Core.new.Goals as goal

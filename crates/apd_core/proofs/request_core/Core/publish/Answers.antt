@@ -1,9 +1,6 @@
 use Rattle.std.proofs.Common.{◌+◌, Err, sym, subst, ap, refl, ◌∙◌}
-use Rattle.apd_record.specs.Meaning.{meaning_of}
-use Rattle.apd_table.specs.Sound.{StaySound}
+use Rattle.apd_core.proofs.Words.{StaySound, after_publish, core_of, meaning_of}
 use Rattle.apd_table.specs.Staged.{StagedTables}
-use Rattle.apd_core.specs.Core.{published}
-use Rattle.apd_core.specs.Fields.{core_of}
 use Rattle.apd_core.proofs.Publishing.{published_view, published_kept}
 use Rattle.apd_core.proofs.Taking.{front_stays}
 use Rattle.apd_core.proofs.request_core.Core.publish.Goals as goal
@@ -26,4 +23,4 @@ returns-clause-ok c =
     let a = c.self.inside in
     let d = record a { settled = c.commit.new.self; number = a.number + a.flight; unsettled = c.settle_front.new.unsettled; flight = 0; batch = c.new.result; held = c.settle_front.new.held } in
     let settled = ap (λ (s : StagedTables). s.table) c.commit.ensures ∙ c.in-Ok.ensures.ok ∙ ap (λ cs. meaning_of cs a.settled.table) c.as_slice.ensures in
-    published_view a d c.self.invariant refl settled refl c.settle_front.ensures.unsettled refl c.settle_front.ensures.held refl refl ∙ ap published c.self.view_is
+    published_view a d c.self.invariant refl settled refl c.settle_front.ensures.unsettled refl c.settle_front.ensures.held refl refl ∙ ap after_publish c.self.view_is

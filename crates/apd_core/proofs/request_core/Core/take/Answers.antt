@@ -1,8 +1,5 @@
 use Rattle.std.proofs.Common.{List, take, sym, ap, subst, ◌∙◌}
-use Rattle.apd_record.specs.declared.change.Change.{Change}
-use Rattle.apd_table.specs.Sound.{StaySound}
-use Rattle.apd_core.specs.Core.{CoreState, changes_of}
-use Rattle.apd_core.specs.Invariant.{IsCore}
+use Rattle.apd_core.proofs.Words.{Change, CoreState, IsCore, StaySound, changes_of}
 use Rattle.apd_core.proofs.Taking.{front_stays}
 use Rattle.apd_core.proofs.request_core.Core.take.Goals as goal
 

@@ -1,5 +1,5 @@
 use Rattle.std.proofs.Common.{Some}
-use Rattle.apd_flusher.proofs.Standing.{loaded_keeps, refused_keeps}
+use Rattle.apd_flusher.proofs.CommitterCalls.{loaded_keeps, refused_keeps}
 use Rattle.apd_flusher.proofs.committer.Committer.load.Goals as goal
 
 pub returns-in-Ok-clause-keeps : goal.returns-in-Ok-clause-keeps

@@ -1,4 +1,4 @@
-use Rattle.apd_flusher.proofs.Standing.{unload_keeps}
+use Rattle.apd_flusher.proofs.CommitterCalls.{unload_keeps}
 use Rattle.apd_flusher.proofs.committer.Committer.receipt.Goals as goal
 
 pub returns-in-None-clause-keeps : goal.returns-in-None-clause-keeps

@@ -6,7 +6,7 @@ returns-in-Err-clause-honest g c = λ h state after.
     let old = c.args.self.now in
     record {
       any_moment = λ stands. turn_run g.D.Disk.model old state after c.next_call.new.self stands
-          (λ i left. c.shown.ensures.shown state after stands i (g.met.D.Disk.only_now old.store.device i h left)) c.next_call.ensures.rest (c.next_call.ensures.any_moment state after h);
+          (λ i left. c.show_images.ensures.shown state after stands i (g.met.D.Disk.only_now old.store.device i h left)) c.next_call.ensures.rest (c.next_call.ensures.any_moment state after h);
       on = λ s. tt;
       stuck = λ s. c.in-Err.ensures.stuck state after h s.committing;
       stuck_early = λ s early. c.in-Err.ensures.stuck_early state after h s.committing early;
@@ -17,7 +17,7 @@ returns-in-Ok-clause-honest g c = λ h state after.
     let old = c.args.self.now in
     record {
       any_moment = λ stands. turn_run g.D.Disk.model old state after c.next_call.new.self stands
-          (λ i left. c.shown.ensures.shown state after stands i (g.met.D.Disk.only_now old.store.device i h left)) c.next_call.ensures.rest (c.next_call.ensures.any_moment state after h);
+          (λ i left. c.show_images.ensures.shown state after stands i (g.met.D.Disk.only_now old.store.device i h left)) c.next_call.ensures.rest (c.next_call.ensures.any_moment state after h);
       on = λ s. record { committing = c.in-Ok.ensures.on state after h s.committing; table = s.table; next = s.next };
       stuck = λ s. tt;
       stuck_early = λ s early. tt;

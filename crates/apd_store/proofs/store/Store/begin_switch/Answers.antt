@@ -1,11 +1,5 @@
 use Rattle.std.proofs.Common.{◌≡◌, ◌≤◌, ◌<◌, ◌+◌, ◌-◌, ◌^◌, ℕ, Bool, false, true, length, min, inl, refl, sym, ap, subst, ◌∙◌, arith, rules}
-use Rattle.apd_record.specs.Record.{records_of}
-use Rattle.apd_table.specs.Snapshot.{canonical}
-use Rattle.apd_journal.specs.Half.{begun_bytes}
-use Rattle.apd_journal.proofs.Growth.{length-begun}
-use Rattle.apd_store.specs.Phases.{calls_from}
-use Rattle.apd_store.specs.declared.phase.Phase.{Phase}
-use Rattle.apd_store.specs.declared.phase.Phase.TheVariants.{CloseOther, WriteHalf}
+use Rattle.apd_store.proofs.Words.{CloseOther, Phase, WriteHalf, begun_bytes, calls_from, canonical, length-begun, records_of}
 use Rattle.apd_store.proofs.SwitchSteps.{switch_begins}
 use Rattle.apd_store.proofs.store.Store.begin_switch.Goals as goal
 

@@ -1,7 +1,5 @@
 use Rattle.std.proofs.Common.{◌≡◌, ◌≤◌, subst, sym, refl, rules, arith}
-use Rattle.apd_store.specs.Phases.{calls_from}
-use Rattle.apd_store.specs.declared.phase.Phase.{Phase}
-use Rattle.apd_store.specs.declared.phase.Phase.TheVariants.{Idle, Done}
+use Rattle.apd_store.proofs.Words.{Done, Idle, Phase, calls_from}
 use Rattle.apd_store.proofs.Steps.{settles}
 use Rattle.apd_store.proofs.SwitchSteps.{writes}
 use Rattle.apd_store.proofs.store.Store.finish.Goals as goal

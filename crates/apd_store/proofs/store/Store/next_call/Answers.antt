@@ -1,8 +1,5 @@
 use Rattle.std.proofs.Common.{inl, inr}
-use Rattle.apd_disk.proofs.Moments.{started, weaker}
-use Rattle.apd_store.specs.Commit.{MayShow}
-use Rattle.apd_store.specs.Image.{Shows}
-use Rattle.apd_store.specs.Phases.{calls_from}
+use Rattle.apd_store.proofs.Words.{MayShow, Shows, calls_from, started, weaker}
 use Rattle.apd_store.proofs.Calls.{on_ok_as}
 use Rattle.apd_store.proofs.SwitchSteps.{committing_shows, of_group, of_switch, switches, writes}
 use Rattle.apd_store.proofs.store.Store.next_call.Goals as goal

@@ -1,13 +1,7 @@
 use Rattle.std.proofs.Common.{◌≡◌, ◌+◌, refl, sym, ◌∙◌}
-use Rattle.apd_disk.specs.Disk.{Only}
-use Rattle.apd_disk.proofs.Moments.{one_call}
-use Rattle.apd_store.specs.Commit.{IsWriting, MayShow}
-use Rattle.apd_store.specs.Layout.{start_of}
-use Rattle.apd_store.specs.Phases.{calls_from}
-use Rattle.apd_store.specs.declared.phase.Phase.{Phase}
-use Rattle.apd_store.specs.declared.phase.Phase.TheVariants.{SyncGroup, OpenGate, SyncGate, Done}
+use Rattle.apd_store.proofs.Words.{Done, IsWriting, MayShow, Only, OpenGate, Phase, SyncGate, SyncGroup, calls_from, one_call, start_of}
 use Rattle.apd_store.proofs.Steps.{at_phase, write_images, write_reads, gate_images, gate_reads, during_write, during_gate, now_shows, moves}
-use Rattle.apd_store.proofs.Calls.{moved_made, moved_stuck, synced, write_run, leaves_stuck, leaves_stuck_early}
+use Rattle.apd_store.proofs.Calls.{move_on_made, move_on_stuck, synced, write_run, leaves_stuck, leaves_stuck_early}
 use Rattle.apd_store.proofs.store.Store.next_of_group.Goals as goal
 
 pub returns-in-WriteGroup-clause-any_moment : goal.returns-in-WriteGroup-clause-any_moment
@@ -26,7 +20,7 @@ returns-in-WriteGroup-clause-on g c = λ state after h s.
     let at = start_of store.half + store.plan.place in
     let P = λ (phase : Phase). IsWriting g.D.Disk.model (record store { device = device; phase = phase }) state after in
     let during = g.D.Disk.model.left_since device (g.D.Disk.model.moment store.device) in
-    moved_made c.write_in_half-made.result SyncGroup c.moved.new.phase c.moved.result _ P c.moved.ensures (c.write_in_half-made.ensures.written h)
+    move_on_made c.write_in_half-made.result SyncGroup c.move_on.new.phase c.move_on.result _ P c.move_on.ensures (c.write_in_half-made.ensures.written h)
     (λ made written. moves g.D.Disk.model store state after s device SyncGroup (
       write_reads g.D.Disk.model store state after s at c.as_slice-bytes.result.now refl c.as_slice-bytes.ensures c.in-WriteGroup.is (g.D.Disk.model.reads device) written,
       λ i left. write_images g.D.Disk.model store state after s at c.as_slice-bytes.result.now refl c.as_slice-bytes.ensures c.in-WriteGroup.is during (c.write_in_half-made.ensures.stop h made) i
@@ -36,16 +30,16 @@ returns-in-WriteGroup-clause-on g c = λ state after h s.
 pub returns-in-WriteGroup-clause-stuck : goal.returns-in-WriteGroup-clause-stuck
 returns-in-WriteGroup-clause-stuck g c = λ state after h s.
     let store = c.args.self.now in
-    let now = record store { device = c.write_in_half-made.new.device; phase = c.moved.new.phase } in
-    moved_stuck c.write_in_half-made.result SyncGroup c.moved.new.phase c.moved.result _ c.moved.ensures
+    let now = record store { device = c.write_in_half-made.new.device; phase = c.move_on.new.phase } in
+    move_on_stuck c.write_in_half-made.result SyncGroup c.move_on.new.phase c.move_on.result _ c.move_on.ensures
     (leaves_stuck g.D.Disk.model store.device now (calls_from store.phase) state after
     (λ t i le left. g.met.D.Disk.counts_now c.write_in_half-made.new.device t i (c.write_in_half-made.ensures.honest.0 h) le left) (returns-in-WriteGroup-clause-any_moment g c state after h s))
 
 pub returns-in-WriteGroup-clause-stuck_early : goal.returns-in-WriteGroup-clause-stuck_early
 returns-in-WriteGroup-clause-stuck_early g c = λ state after h s early.
     let store = c.args.self.now in
-    let now = record store { device = c.write_in_half-made.new.device; phase = c.moved.new.phase } in
-    moved_stuck c.write_in_half-made.result SyncGroup c.moved.new.phase c.moved.result _ c.moved.ensures
+    let now = record store { device = c.write_in_half-made.new.device; phase = c.move_on.new.phase } in
+    move_on_stuck c.write_in_half-made.result SyncGroup c.move_on.new.phase c.move_on.result _ c.move_on.ensures
     (leaves_stuck_early g.D.Disk.model store.device now (calls_from store.phase) state after
     (λ t i le left. g.met.D.Disk.counts_now c.write_in_half-made.new.device t i (c.write_in_half-made.ensures.honest.0 h) le left) (returns-in-WriteGroup-clause-any_moment g c state after h s) early)
 
@@ -58,16 +52,16 @@ returns-in-SyncGroup-clause-any_moment g c = λ state after h s.
 pub returns-in-SyncGroup-clause-stuck : goal.returns-in-SyncGroup-clause-stuck
 returns-in-SyncGroup-clause-stuck g c = λ state after h s.
     let store = c.args.self.now in
-    let now = record store { device = c.sync.new.self; phase = c.moved-in-SyncGroup.new.phase } in
-    moved_stuck c.map_err-made.result OpenGate c.moved-in-SyncGroup.new.phase c.moved-in-SyncGroup.result _ c.moved-in-SyncGroup.ensures
+    let now = record store { device = c.sync.new.self; phase = c.move_on-in-SyncGroup.new.phase } in
+    move_on_stuck c.map_err-made.result OpenGate c.move_on-in-SyncGroup.new.phase c.move_on-in-SyncGroup.result _ c.move_on-in-SyncGroup.ensures
     (leaves_stuck g.D.Disk.model store.device now (calls_from store.phase) state after
     (λ t i le left. g.met.D.Disk.counts_now c.sync.new.self t i (c.sync.ensures.call.stays_honest.0 h) le left) (returns-in-SyncGroup-clause-any_moment g c state after h s))
 
 pub returns-in-SyncGroup-clause-stuck_early : goal.returns-in-SyncGroup-clause-stuck_early
 returns-in-SyncGroup-clause-stuck_early g c = λ state after h s early.
     let store = c.args.self.now in
-    let now = record store { device = c.sync.new.self; phase = c.moved-in-SyncGroup.new.phase } in
-    moved_stuck c.map_err-made.result OpenGate c.moved-in-SyncGroup.new.phase c.moved-in-SyncGroup.result _ c.moved-in-SyncGroup.ensures
+    let now = record store { device = c.sync.new.self; phase = c.move_on-in-SyncGroup.new.phase } in
+    move_on_stuck c.map_err-made.result OpenGate c.move_on-in-SyncGroup.new.phase c.move_on-in-SyncGroup.result _ c.move_on-in-SyncGroup.ensures
     (leaves_stuck_early g.D.Disk.model store.device now (calls_from store.phase) state after
     (λ t i le left. g.met.D.Disk.counts_now c.sync.new.self t i (c.sync.ensures.call.stays_honest.0 h) le left) (returns-in-SyncGroup-clause-any_moment g c state after h s) early)
 
@@ -87,7 +81,7 @@ returns-in-OpenGate-clause-on g c = λ state after h s.
     let at = start_of store.half + store.gate in
     let P = λ (phase : Phase). IsWriting g.D.Disk.model (record store { device = device; phase = phase }) state after in
     let during = g.D.Disk.model.left_since device (g.D.Disk.model.moment store.device) in
-    moved_made c.write_in_half-made-in-OpenGate.result SyncGate c.moved-in-OpenGate.new.phase c.moved-in-OpenGate.result _ P c.moved-in-OpenGate.ensures (c.write_in_half-made-in-OpenGate.ensures.written h)
+    move_on_made c.write_in_half-made-in-OpenGate.result SyncGate c.move_on-in-OpenGate.new.phase c.move_on-in-OpenGate.result _ P c.move_on-in-OpenGate.ensures (c.write_in_half-made-in-OpenGate.ensures.written h)
     (λ made written. moves g.D.Disk.model store state after s device SyncGate (
       gate_reads g.D.Disk.model store state after s at refl c.in-OpenGate.is (g.D.Disk.model.reads device) written,
       λ i left. gate_images g.D.Disk.model store state after s at refl c.in-OpenGate.is during (c.write_in_half-made-in-OpenGate.ensures.stop h made) i
@@ -97,8 +91,8 @@ returns-in-OpenGate-clause-on g c = λ state after h s.
 pub returns-in-OpenGate-clause-stuck : goal.returns-in-OpenGate-clause-stuck
 returns-in-OpenGate-clause-stuck g c = λ state after h s.
     let store = c.args.self.now in
-    let now = record store { device = c.write_in_half-made-in-OpenGate.new.device; phase = c.moved-in-OpenGate.new.phase } in
-    moved_stuck c.write_in_half-made-in-OpenGate.result SyncGate c.moved-in-OpenGate.new.phase c.moved-in-OpenGate.result _ c.moved-in-OpenGate.ensures
+    let now = record store { device = c.write_in_half-made-in-OpenGate.new.device; phase = c.move_on-in-OpenGate.new.phase } in
+    move_on_stuck c.write_in_half-made-in-OpenGate.result SyncGate c.move_on-in-OpenGate.new.phase c.move_on-in-OpenGate.result _ c.move_on-in-OpenGate.ensures
     (leaves_stuck g.D.Disk.model store.device now (calls_from store.phase) state after
     (λ t i le left. g.met.D.Disk.counts_now c.write_in_half-made-in-OpenGate.new.device t i (c.write_in_half-made-in-OpenGate.ensures.honest.0 h) le left) (returns-in-OpenGate-clause-any_moment g c state after h s))
 
@@ -111,8 +105,8 @@ returns-in-SyncGate-clause-any_moment g c = λ state after h s.
 pub returns-in-SyncGate-clause-stuck : goal.returns-in-SyncGate-clause-stuck
 returns-in-SyncGate-clause-stuck g c = λ state after h s.
     let store = c.args.self.now in
-    let now = record store { device = c.sync-in-SyncGate.new.self; phase = c.moved-in-SyncGate.new.phase } in
-    moved_stuck c.map_err-made-in-SyncGate.result Done c.moved-in-SyncGate.new.phase c.moved-in-SyncGate.result _ c.moved-in-SyncGate.ensures
+    let now = record store { device = c.sync-in-SyncGate.new.self; phase = c.move_on-in-SyncGate.new.phase } in
+    move_on_stuck c.map_err-made-in-SyncGate.result Done c.move_on-in-SyncGate.new.phase c.move_on-in-SyncGate.result _ c.move_on-in-SyncGate.ensures
     (leaves_stuck g.D.Disk.model store.device now (calls_from store.phase) state after
     (λ t i le left. g.met.D.Disk.counts_now c.sync-in-SyncGate.new.self t i (c.sync-in-SyncGate.ensures.call.stays_honest.0 h) le left) (returns-in-SyncGate-clause-any_moment g c state after h s))
 
@@ -121,7 +115,7 @@ returns-in-SyncGroup-clause-on g c = λ state after h s.
     let store = c.args.self.now in
     let device = c.sync.new.self in
     let P = λ (phase : Phase). IsWriting g.D.Disk.model (record store { device = device; phase = phase }) state after in
-    moved_made c.map_err-made.result OpenGate c.moved-in-SyncGroup.new.phase c.moved-in-SyncGroup.result (g.D.Disk.model.reads device ≡ g.D.Disk.model.reads store.device × Only (g.D.Disk.model.reads store.device) (g.D.Disk.model.may_leave device)) P c.moved-in-SyncGroup.ensures
+    move_on_made c.map_err-made.result OpenGate c.move_on-in-SyncGroup.new.phase c.move_on-in-SyncGroup.result (g.D.Disk.model.reads device ≡ g.D.Disk.model.reads store.device × Only (g.D.Disk.model.reads store.device) (g.D.Disk.model.may_leave device)) P c.move_on-in-SyncGroup.ensures
     (synced c.sync.result c.map_err-made.result _ _ c.map_err-made.ensures.variant (c.sync.ensures.call.stays h) (c.sync.ensures.call.durable h))
     (λ made both. moves g.D.Disk.model store state after s device OpenGate
     (both.0 ∙ (at_phase g.D.Disk.model store state after s SyncGroup c.in-SyncGroup.is).0, λ i left. both.1 i left ∙ sym both.0))
@@ -131,7 +125,7 @@ returns-in-SyncGate-clause-on g c = λ state after h s.
     let store = c.args.self.now in
     let device = c.sync-in-SyncGate.new.self in
     let P = λ (phase : Phase). IsWriting g.D.Disk.model (record store { device = device; phase = phase }) state after in
-    moved_made c.map_err-made-in-SyncGate.result Done c.moved-in-SyncGate.new.phase c.moved-in-SyncGate.result (g.D.Disk.model.reads device ≡ g.D.Disk.model.reads store.device × Only (g.D.Disk.model.reads store.device) (g.D.Disk.model.may_leave device)) P c.moved-in-SyncGate.ensures
+    move_on_made c.map_err-made-in-SyncGate.result Done c.move_on-in-SyncGate.new.phase c.move_on-in-SyncGate.result (g.D.Disk.model.reads device ≡ g.D.Disk.model.reads store.device × Only (g.D.Disk.model.reads store.device) (g.D.Disk.model.may_leave device)) P c.move_on-in-SyncGate.ensures
     (synced c.sync-in-SyncGate.result c.map_err-made-in-SyncGate.result _ _ c.map_err-made-in-SyncGate.ensures.variant (c.sync-in-SyncGate.ensures.call.stays h) (c.sync-in-SyncGate.ensures.call.durable h))
     (λ made both. moves g.D.Disk.model store state after s device Done
     (both.0 ∙ (at_phase g.D.Disk.model store state after s SyncGate c.in-SyncGate.is).0, λ i left. both.1 i left ∙ sym both.0))

@@ -1,12 +1,6 @@
 use Rattle.std.proofs.Common.{◌≡◌, ◌⊎◌, inl, inr, refl, sym, ap, subst, ◌∙◌}
-use Rattle.apd_disk.specs.Disk.{Only, LeavesOnly}
-use Rattle.apd_disk.proofs.Moments.{one_call}
-use Rattle.apd_store.specs.Commit.{IsWriting}
-use Rattle.apd_store.specs.Image.{Shows}
-use Rattle.apd_store.specs.Switch.{IsSwitching}
-use Rattle.apd_store.specs.declared.phase.Phase.{Phase}
-use Rattle.apd_store.specs.declared.phase.Phase.TheVariants.{CloseOther, SyncClosed, WriteHalf, SyncHalf, OpenHalf, SyncOpened, Failed}
-use Rattle.apd_store.proofs.Calls.{moved_made, moved_stuck, synced, write_run, leaves_stuck_shown}
+use Rattle.apd_store.proofs.Words.{CloseOther, Failed, IsSwitching, IsWriting, LeavesOnly, Only, OpenHalf, Phase, Shows, SyncClosed, SyncHalf, SyncOpened, WriteHalf, one_call}
+use Rattle.apd_store.proofs.Calls.{move_on_made, move_on_stuck, synced, write_run, leaves_stuck_shown}
 use Rattle.apd_store.proofs.SwitchSteps.{at_call, closing_images, closing_reads, during_closing, during_opening, during_writing, opening_images, opening_reads, switch_closed, switch_ends, switch_moves, switch_shows, writing_images, writing_reads}
 use Rattle.apd_store.proofs.store.Store.next_of_switch.Goals as goal
 
@@ -25,7 +19,7 @@ returns-in-CloseOther-clause-on g c = λ state after h s.
     let device = c.write_in_half-made.new.device in
     let during = g.D.Disk.model.left_since device (g.D.Disk.model.moment store.device) in
     let P = λ (phase : Phase). IsSwitching g.D.Disk.model (record store { device = device; phase = phase }) state after ⊎ IsWriting g.D.Disk.model (record store { device = device; phase = phase }) state after in
-    moved_made c.write_in_half-made.result SyncClosed c.moved.new.phase c.moved.result _ P c.moved.ensures (c.write_in_half-made.ensures.written h)
+    move_on_made c.write_in_half-made.result SyncClosed c.move_on.new.phase c.move_on.result _ P c.move_on.ensures (c.write_in_half-made.ensures.written h)
     (λ made written. inl (switch_moves g.D.Disk.model store state after s device SyncClosed (
       (at_call g.D.Disk.model store state after s CloseOther c.in-CloseOther.is).0,
       closing_reads g.D.Disk.model store state after s c.other-side.result c.other-side.ensures c.in-CloseOther.is (g.D.Disk.model.reads device) written,
@@ -36,8 +30,8 @@ returns-in-CloseOther-clause-on g c = λ state after h s.
 pub returns-in-CloseOther-clause-stuck : goal.returns-in-CloseOther-clause-stuck
 returns-in-CloseOther-clause-stuck g c = λ state after h s.
     let store = c.args.self.now in
-    let now = record store { device = c.write_in_half-made.new.device; phase = c.moved.new.phase } in
-    moved_stuck c.write_in_half-made.result SyncClosed c.moved.new.phase c.moved.result _ c.moved.ensures
+    let now = record store { device = c.write_in_half-made.new.device; phase = c.move_on.new.phase } in
+    move_on_stuck c.write_in_half-made.result SyncClosed c.move_on.new.phase c.move_on.result _ c.move_on.ensures
     (leaves_stuck_shown g.D.Disk.model store.device now state
     (λ t i le left. g.met.D.Disk.counts_now c.write_in_half-made.new.device t i (c.write_in_half-made.ensures.honest.0 h) le left) (returns-in-CloseOther-clause-any_moment g c state after h s))
 
@@ -56,7 +50,7 @@ returns-in-WriteHalf-clause-on g c = λ state after h s.
     let device = c.write_in_half-made-in-WriteHalf.new.device in
     let during = g.D.Disk.model.left_since device (g.D.Disk.model.moment store.device) in
     let P = λ (phase : Phase). IsSwitching g.D.Disk.model (record store { device = device; phase = phase }) state after ⊎ IsWriting g.D.Disk.model (record store { device = device; phase = phase }) state after in
-    moved_made c.write_in_half-made-in-WriteHalf.result SyncHalf c.moved-in-WriteHalf.new.phase c.moved-in-WriteHalf.result _ P c.moved-in-WriteHalf.ensures (c.write_in_half-made-in-WriteHalf.ensures.written h)
+    move_on_made c.write_in_half-made-in-WriteHalf.result SyncHalf c.move_on-in-WriteHalf.new.phase c.move_on-in-WriteHalf.result _ P c.move_on-in-WriteHalf.ensures (c.write_in_half-made-in-WriteHalf.ensures.written h)
     (λ made written. inl (switch_moves g.D.Disk.model store state after s device SyncHalf (
       (at_call g.D.Disk.model store state after s WriteHalf c.in-WriteHalf.is).0,
       writing_reads g.D.Disk.model store state after s c.other-side.result c.other-side.ensures c.as_slice-bytes.result.now c.as_slice-bytes.ensures c.in-WriteHalf.is (g.D.Disk.model.reads device) written,
@@ -67,8 +61,8 @@ returns-in-WriteHalf-clause-on g c = λ state after h s.
 pub returns-in-WriteHalf-clause-stuck : goal.returns-in-WriteHalf-clause-stuck
 returns-in-WriteHalf-clause-stuck g c = λ state after h s.
     let store = c.args.self.now in
-    let now = record store { device = c.write_in_half-made-in-WriteHalf.new.device; phase = c.moved-in-WriteHalf.new.phase } in
-    moved_stuck c.write_in_half-made-in-WriteHalf.result SyncHalf c.moved-in-WriteHalf.new.phase c.moved-in-WriteHalf.result _ c.moved-in-WriteHalf.ensures
+    let now = record store { device = c.write_in_half-made-in-WriteHalf.new.device; phase = c.move_on-in-WriteHalf.new.phase } in
+    move_on_stuck c.write_in_half-made-in-WriteHalf.result SyncHalf c.move_on-in-WriteHalf.new.phase c.move_on-in-WriteHalf.result _ c.move_on-in-WriteHalf.ensures
     (leaves_stuck_shown g.D.Disk.model store.device now state
     (λ t i le left. g.met.D.Disk.counts_now c.write_in_half-made-in-WriteHalf.new.device t i (c.write_in_half-made-in-WriteHalf.ensures.honest.0 h) le left) (returns-in-WriteHalf-clause-any_moment g c state after h s))
 
@@ -87,7 +81,7 @@ returns-in-OpenHalf-clause-on g c = λ state after h s.
     let device = c.write_in_half-made-in-OpenHalf.new.device in
     let during = g.D.Disk.model.left_since device (g.D.Disk.model.moment store.device) in
     let P = λ (phase : Phase). IsSwitching g.D.Disk.model (record store { device = device; phase = phase }) state after ⊎ IsWriting g.D.Disk.model (record store { device = device; phase = phase }) state after in
-    moved_made c.write_in_half-made-in-OpenHalf.result SyncOpened c.moved-in-OpenHalf.new.phase c.moved-in-OpenHalf.result _ P c.moved-in-OpenHalf.ensures (c.write_in_half-made-in-OpenHalf.ensures.written h)
+    move_on_made c.write_in_half-made-in-OpenHalf.result SyncOpened c.move_on-in-OpenHalf.new.phase c.move_on-in-OpenHalf.result _ P c.move_on-in-OpenHalf.ensures (c.write_in_half-made-in-OpenHalf.ensures.written h)
     (λ made written. inl (switch_moves g.D.Disk.model store state after s device SyncOpened (
       (at_call g.D.Disk.model store state after s OpenHalf c.in-OpenHalf.is).0,
       opening_reads g.D.Disk.model store state after s c.other-side.result c.other-side.ensures c.in-OpenHalf.is (g.D.Disk.model.reads device) written,
@@ -98,8 +92,8 @@ returns-in-OpenHalf-clause-on g c = λ state after h s.
 pub returns-in-OpenHalf-clause-stuck : goal.returns-in-OpenHalf-clause-stuck
 returns-in-OpenHalf-clause-stuck g c = λ state after h s.
     let store = c.args.self.now in
-    let now = record store { device = c.write_in_half-made-in-OpenHalf.new.device; phase = c.moved-in-OpenHalf.new.phase } in
-    moved_stuck c.write_in_half-made-in-OpenHalf.result SyncOpened c.moved-in-OpenHalf.new.phase c.moved-in-OpenHalf.result _ c.moved-in-OpenHalf.ensures
+    let now = record store { device = c.write_in_half-made-in-OpenHalf.new.device; phase = c.move_on-in-OpenHalf.new.phase } in
+    move_on_stuck c.write_in_half-made-in-OpenHalf.result SyncOpened c.move_on-in-OpenHalf.new.phase c.move_on-in-OpenHalf.result _ c.move_on-in-OpenHalf.ensures
     (leaves_stuck_shown g.D.Disk.model store.device now state
     (λ t i le left. g.met.D.Disk.counts_now c.write_in_half-made-in-OpenHalf.new.device t i (c.write_in_half-made-in-OpenHalf.ensures.honest.0 h) le left) (returns-in-OpenHalf-clause-any_moment g c state after h s))
 
@@ -114,15 +108,15 @@ returns-in-SyncClosed-clause-on g c = λ state after h s.
     let store = c.args.self.now in
     let device = c.sync.new.self in
     let P = λ (phase : Phase). IsSwitching g.D.Disk.model (record store { device = device; phase = phase }) state after ⊎ IsWriting g.D.Disk.model (record store { device = device; phase = phase }) state after in
-    moved_made c.map_err-made.result WriteHalf c.moved-in-SyncClosed.new.phase c.moved-in-SyncClosed.result (g.D.Disk.model.reads device ≡ g.D.Disk.model.reads store.device × Only (g.D.Disk.model.reads store.device) (g.D.Disk.model.may_leave device)) P c.moved-in-SyncClosed.ensures
+    move_on_made c.map_err-made.result WriteHalf c.move_on-in-SyncClosed.new.phase c.move_on-in-SyncClosed.result (g.D.Disk.model.reads device ≡ g.D.Disk.model.reads store.device × Only (g.D.Disk.model.reads store.device) (g.D.Disk.model.may_leave device)) P c.move_on-in-SyncClosed.ensures
     (synced c.sync.result c.map_err-made.result _ _ c.map_err-made.ensures.variant (c.sync.ensures.call.stays h) (c.sync.ensures.call.durable h))
     (λ made both. let at = at_call g.D.Disk.model store state after s SyncClosed c.in-SyncClosed.is in inl (switch_closed g.D.Disk.model store state after s device (both.0 ∙ at.1) (λ i left. both.1 i left ∙ sym both.0)))
 
 pub returns-in-SyncClosed-clause-stuck : goal.returns-in-SyncClosed-clause-stuck
 returns-in-SyncClosed-clause-stuck g c = λ state after h s.
     let store = c.args.self.now in
-    let now = record store { device = c.sync.new.self; phase = c.moved-in-SyncClosed.new.phase } in
-    moved_stuck c.map_err-made.result WriteHalf c.moved-in-SyncClosed.new.phase c.moved-in-SyncClosed.result _ c.moved-in-SyncClosed.ensures
+    let now = record store { device = c.sync.new.self; phase = c.move_on-in-SyncClosed.new.phase } in
+    move_on_stuck c.map_err-made.result WriteHalf c.move_on-in-SyncClosed.new.phase c.move_on-in-SyncClosed.result _ c.move_on-in-SyncClosed.ensures
     (leaves_stuck_shown g.D.Disk.model store.device now state
     (λ t i le left. g.met.D.Disk.counts_now c.sync.new.self t i (c.sync.ensures.call.stays_honest.0 h) le left) (returns-in-SyncClosed-clause-any_moment g c state after h s))
 
@@ -137,15 +131,15 @@ returns-in-SyncHalf-clause-on g c = λ state after h s.
     let store = c.args.self.now in
     let device = c.sync-in-SyncHalf.new.self in
     let P = λ (phase : Phase). IsSwitching g.D.Disk.model (record store { device = device; phase = phase }) state after ⊎ IsWriting g.D.Disk.model (record store { device = device; phase = phase }) state after in
-    moved_made c.map_err-made-in-SyncHalf.result OpenHalf c.moved-in-SyncHalf.new.phase c.moved-in-SyncHalf.result (g.D.Disk.model.reads device ≡ g.D.Disk.model.reads store.device × Only (g.D.Disk.model.reads store.device) (g.D.Disk.model.may_leave device)) P c.moved-in-SyncHalf.ensures
+    move_on_made c.map_err-made-in-SyncHalf.result OpenHalf c.move_on-in-SyncHalf.new.phase c.move_on-in-SyncHalf.result (g.D.Disk.model.reads device ≡ g.D.Disk.model.reads store.device × Only (g.D.Disk.model.reads store.device) (g.D.Disk.model.may_leave device)) P c.move_on-in-SyncHalf.ensures
     (synced c.sync-in-SyncHalf.result c.map_err-made-in-SyncHalf.result _ _ c.map_err-made-in-SyncHalf.ensures.variant (c.sync-in-SyncHalf.ensures.call.stays h) (c.sync-in-SyncHalf.ensures.call.durable h))
     (λ made both. let at = at_call g.D.Disk.model store state after s SyncHalf c.in-SyncHalf.is in inl (switch_moves g.D.Disk.model store state after s device OpenHalf (at.0, both.0 ∙ at.1, λ i left. both.1 i left ∙ sym both.0)))
 
 pub returns-in-SyncHalf-clause-stuck : goal.returns-in-SyncHalf-clause-stuck
 returns-in-SyncHalf-clause-stuck g c = λ state after h s.
     let store = c.args.self.now in
-    let now = record store { device = c.sync-in-SyncHalf.new.self; phase = c.moved-in-SyncHalf.new.phase } in
-    moved_stuck c.map_err-made-in-SyncHalf.result OpenHalf c.moved-in-SyncHalf.new.phase c.moved-in-SyncHalf.result _ c.moved-in-SyncHalf.ensures
+    let now = record store { device = c.sync-in-SyncHalf.new.self; phase = c.move_on-in-SyncHalf.new.phase } in
+    move_on_stuck c.map_err-made-in-SyncHalf.result OpenHalf c.move_on-in-SyncHalf.new.phase c.move_on-in-SyncHalf.result _ c.move_on-in-SyncHalf.ensures
     (leaves_stuck_shown g.D.Disk.model store.device now state
     (λ t i le left. g.met.D.Disk.counts_now c.sync-in-SyncHalf.new.self t i (c.sync-in-SyncHalf.ensures.call.stays_honest.0 h) le left) (returns-in-SyncHalf-clause-any_moment g c state after h s))
 

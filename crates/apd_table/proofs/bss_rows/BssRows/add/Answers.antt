@@ -1,13 +1,7 @@
 use Rattle.std.proofs.Common.{IsSome, IsTrue, sym, subst}
 use Rattle.std.specs.FinMap as map
-use Rattle.apd_base.specs.Addr.{bssid_cmp}
-use Rattle.apd_base.specs.Sets.{contains}
-use Rattle.apd_table.specs.fields.BssRows.{with_added}
-use Rattle.apd_base.specs.declared.address.Bssid.{Bssid}
-use Rattle.apd_table.specs.fields.BssState.{BssState}
-use Rattle.apd_table.specs.declared.bss_rows.Bss.{Bss}
+use Rattle.apd_table.proofs.Words.{Bss, BssState, Bssid, bssid_cmp, contains, placed, with_added}
 use Rattle.apd_table.proofs.BssWrites.{sorted_either, added_on_ok, has_row, has_place, row}
-use Rattle.apd_base.proofs.RowsMaps.{placed}
 use Rattle.apd_table.proofs.bss_rows.BssRows.add.Goals as goal
 
 pub invariant_of-self : goal.invariant_of-self

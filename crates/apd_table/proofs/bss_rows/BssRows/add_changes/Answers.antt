@@ -1,6 +1,5 @@
 use Rattle.std.proofs.Common.{◌++◌, append_assoc, ap, ◌∙◌}
-use Rattle.apd_table.specs.fields.BssState.{BssState}
-use Rattle.apd_table.specs.Snapshot.{cursor_changes, policy_changes, list_changes, policies_of_rows, cursors_of_rows, lists_of_rows}
+use Rattle.apd_table.proofs.Words.{BssState, cursor_changes, cursors_of_rows, list_changes, lists_of_rows, policies_of_rows, policy_changes}
 use Rattle.apd_table.proofs.RowChanges.{policies_are, cursors_are, lists_are}
 use Rattle.apd_table.proofs.bss_rows.BssRows.add_changes.Goals as goal
 

@@ -1,10 +1,6 @@
 use Rattle.std.proofs.Common.{sym, ap, ◌∙◌}
-use Rattle.std.specs.List.{slice_get}
-use Rattle.std.specs.Option.{option_map}
+use Rattle.apd_table.proofs.Words.{Bss, BssState, Bssid, option_map, slice_get}
 use Rattle.std.specs.FinMap as map
-use Rattle.apd_base.specs.declared.address.Bssid.{Bssid}
-use Rattle.apd_table.specs.fields.BssState.{BssState}
-use Rattle.apd_table.specs.declared.bss_rows.Bss.{Bss}
 use Rattle.apd_table.proofs.BssLemmas.{keys-policy_rows}
 use Rattle.apd_table.proofs.bss_rows.BssRows.at.Goals as goal
 

@@ -1,10 +1,6 @@
 use Rattle.std.proofs.Common.{◌≤◌, IfSome, sym, ap, subst, ◌∙◌}
 use Rattle.std.specs.FinMap as map
-use Rattle.apd_base.specs.Addr.{bssid_cmp}
-use Rattle.apd_base.proofs.AddrLemmas.{bssid_total, bssid_exact}
-use Rattle.apd_base.proofs.RowsMaps.{placed}
-use Rattle.apd_table.specs.fields.BssRows.{with_row}
-use Rattle.apd_table.specs.fields.BssState.{BssState}
+use Rattle.apd_table.proofs.Words.{BssState, bssid_cmp, bssid_exact, bssid_total, placed, with_row}
 use Rattle.apd_table.proofs.BssWrites.{sorted_after, state_after, row_members, state_row, same_members, members_with, absent_at}
 use Rattle.apd_table.proofs.bss_rows.BssRows.change_row.Goals as goal
 

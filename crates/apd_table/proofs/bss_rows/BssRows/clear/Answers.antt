@@ -1,9 +1,6 @@
 use Rattle.std.proofs.Common.{sym, ap, ◌∙◌}
-use Rattle.apd_base.specs.Addr.{bssid_cmp}
-use Rattle.apd_base.proofs.AddrLemmas.{bssid_total, bssid_exact}
-use Rattle.apd_table.specs.fields.BssRows.{with_cleared}
+use Rattle.apd_table.proofs.Words.{bssid_cmp, bssid_exact, bssid_total, placed, with_cleared}
 use Rattle.apd_table.proofs.BssWrites.{sorted_after, state_after, state_cleared, same_cleared, lists_clear, absent_at}
-use Rattle.apd_base.proofs.RowsMaps.{placed}
 use Rattle.apd_table.proofs.bss_rows.BssRows.clear.Goals as goal
 
 pub invariant_of-self : goal.invariant_of-self

@@ -1,12 +1,7 @@
 use Rattle.std.proofs.Common.{sym, ap, ◌∙◌}
-use Rattle.std.specs.Option.{option_map}
+use Rattle.apd_table.proofs.Words.{BssState, bssid_cmp, contains, cursor_of, is_listed_in, members_of, option_map, policy_of, valued}
 use Rattle.std.specs.FinMap as map
-use Rattle.apd_base.specs.Addr.{bssid_cmp}
-use Rattle.apd_base.specs.Sets.{contains}
-use Rattle.apd_table.specs.fields.BssRows.{policy_of, cursor_of, members_of, is_listed_in}
-use Rattle.apd_table.specs.fields.BssState.{BssState}
 use Rattle.apd_table.proofs.BssLemmas.{get-parts_of, contains-list_rows}
-use Rattle.apd_base.proofs.RowsMaps.{valued}
 use Rattle.apd_table.proofs.bss_rows.BssRows.get.Goals as goal
 
 pub returns-clause-policy : goal.returns-clause-policy

@@ -1,7 +1,6 @@
 use Rattle.std.proofs.Common.{sym, ap, ◌∙◌}
 use Rattle.std.specs.FinMap as map
-use Rattle.apd_table.specs.fields.BssRows.{policy_of}
-use Rattle.apd_table.specs.fields.BssState.{BssState}
+use Rattle.apd_table.proofs.Words.{BssState, policy_of}
 use Rattle.apd_table.proofs.BssLemmas.{len-parts_of}
 use Rattle.apd_table.proofs.bss_rows.BssRows.len.Goals as goal
 

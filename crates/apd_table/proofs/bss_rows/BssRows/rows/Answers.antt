@@ -1,8 +1,6 @@
 use Rattle.std.proofs.Common.{map as list_map, ap, ◌∙◌}
 use Rattle.std.specs.FinMap as map
-use Rattle.apd_base.specs.declared.address.Bssid.{Bssid}
-use Rattle.apd_table.specs.fields.BssState.{BssState}
-use Rattle.apd_table.specs.declared.bss_rows.Bss.{Bss}
+use Rattle.apd_table.proofs.Words.{Bss, BssState, Bssid}
 use Rattle.apd_table.proofs.BssLemmas.{keys_are}
 use Rattle.apd_table.proofs.bss_rows.BssRows.rows.Goals as goal
 

@@ -1,12 +1,7 @@
 use Rattle.std.proofs.Common.{IsSome, refl, sym, ap, subst, ◌∙◌}
 use Rattle.std.specs.FinMap as map
-use Rattle.apd_base.specs.Addr.{bssid_cmp}
-use Rattle.apd_base.specs.Rows.{put_at}
-use Rattle.apd_base.proofs.AddrLemmas.{bssid_total, bssid_exact}
-use Rattle.apd_table.specs.fields.BssRows.{with_policy, state_of_rows}
-use Rattle.apd_table.specs.fields.BssState.{BssState}
+use Rattle.apd_table.proofs.Words.{BssState, bssid_cmp, bssid_exact, bssid_total, placed, put_at, state_of_rows, with_policy}
 use Rattle.apd_table.proofs.BssWrites.{sorted_after, state_after, state_set, state_new, policies_with, sorted_new, absent_at, has_place}
-use Rattle.apd_base.proofs.RowsMaps.{placed}
 use Rattle.apd_table.proofs.bss_rows.BssRows.set.Goals as goal
 
 pub invariant_of-self : goal.invariant_of-self

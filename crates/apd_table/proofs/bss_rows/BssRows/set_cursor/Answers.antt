@@ -1,10 +1,7 @@
 use Rattle.std.proofs.Common.{IsSome, sym, subst}
 use Rattle.std.specs.FinMap as map
-use Rattle.apd_base.specs.Addr.{bssid_cmp}
-use Rattle.apd_table.specs.fields.BssRows.{with_cursor}
-use Rattle.apd_table.specs.fields.BssState.{BssState}
+use Rattle.apd_table.proofs.Words.{BssState, bssid_cmp, placed, with_cursor}
 use Rattle.apd_table.proofs.BssWrites.{sorted_after, state_after, state_cursor, cursors_at, has_place}
-use Rattle.apd_base.proofs.RowsMaps.{placed}
 use Rattle.apd_table.proofs.bss_rows.BssRows.set_cursor.Goals as goal
 
 pub invariant_of-self : goal.invariant_of-self

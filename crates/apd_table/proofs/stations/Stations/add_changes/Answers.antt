@@ -1,7 +1,6 @@
 use Rattle.std.proofs.Common.{◌≡◌, ◌++◌, OnOk, map as list_map, sym, ap, subst, ◌∙◌}
 use Rattle.std.specs.FinMap as map
-use Rattle.apd_base.specs.Addr.{station_cmp}
-use Rattle.apd_table.specs.Snapshot.{station_change}
+use Rattle.apd_table.proofs.Words.{station_change, station_cmp}
 use Rattle.apd_table.proofs.stations.Stations.add_changes.Goals as goal
 
 pub returns : goal.returns

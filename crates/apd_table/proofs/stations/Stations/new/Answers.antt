@@ -1,7 +1,6 @@
 use Rattle.std.proofs.Common.{length, sym, ap, subst, ◌∙◌}
 use Rattle.std.specs.FinMap as map
-use Rattle.apd_base.specs.Addr.{station_cmp}
-use Rattle.apd_table.specs.Rows.{AreRows}
+use Rattle.apd_table.proofs.Words.{AreRows, station_cmp}
 use Rattle.apd_table.proofs.stations.Stations.new.Goals as goal
 
 pub invariant_of-result : goal.invariant_of-result

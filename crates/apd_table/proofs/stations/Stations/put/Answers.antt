@@ -1,12 +1,6 @@
 use Rattle.std.proofs.Common.{List, IsSome, sym, ap, subst, ◌∙◌}
 use Rattle.std.specs.FinMap as map
-use Rattle.std.specs.List.{AllByRecursion}
-use Rattle.apd_base.specs.Addr.{IsAddr, station_cmp}
-use Rattle.apd_base.specs.declared.address.Addr.{Addr}
-use Rattle.apd_base.specs.declared.address.Bssid.{Bssid}
-use Rattle.apd_base.proofs.AddrLemmas.{station_total, station_exact}
-use Rattle.apd_base.proofs.Cases.{none_is}
-use Rattle.apd_base.proofs.Trees.{in_order, get_lookup, inserted}
+use Rattle.apd_table.proofs.Words.{Addr, AllByRecursion, Bssid, IsAddr, get_lookup, in_order, inserted, none_is, station_cmp, station_exact, station_total}
 use Rattle.apd_table.proofs.StationRows.{Row, valid_inserted}
 use Rattle.apd_table.proofs.stations.Stations.put.Goals as goal
 
@@ -14,7 +8,7 @@ pub invariant_of-self-2 : goal.invariant_of-self-2
 invariant_of-self-2 c =
     let key : Bssid × Addr = (c.args.bssid, c.args.addr) in (
       in_order station_cmp c.insert.new.self.entries c.in_ok-insert.ensures.ordered,
-      subst (λ (rows : List Row). AllByRecursion (λ (row : Row). IsAddr row.0.1) rows) (sym c.in_ok-insert.ensures.entries) (valid_inserted key c.args.station c.known.ensures c.self.inside.rows.entries c.self.invariant.1),
+      subst (λ (rows : List Row). AllByRecursion (λ (row : Row). IsAddr row.0.1) rows) (sym c.in_ok-insert.ensures.entries) (valid_inserted key c.args.station c.key_law.ensures c.self.inside.rows.entries c.self.invariant.1),
     )
 
 pub returns-clause-ok : goal.returns-clause-ok

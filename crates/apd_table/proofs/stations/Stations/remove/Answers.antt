@@ -1,12 +1,6 @@
 use Rattle.std.proofs.Common.{List, sym, ap, subst, ◌∙◌}
-use Rattle.std.specs.BTreeMap.{is_at}
+use Rattle.apd_table.proofs.Words.{Addr, AllByRecursion, Bssid, IsAddr, in_order, is_at, removed, station_cmp, station_exact, station_total}
 use Rattle.std.specs.FinMap as map
-use Rattle.std.specs.List.{AllByRecursion}
-use Rattle.apd_base.specs.Addr.{IsAddr, station_cmp}
-use Rattle.apd_base.specs.declared.address.Addr.{Addr}
-use Rattle.apd_base.specs.declared.address.Bssid.{Bssid}
-use Rattle.apd_base.proofs.AddrLemmas.{station_total, station_exact}
-use Rattle.apd_base.proofs.Trees.{in_order, removed}
 use Rattle.apd_table.proofs.StationRows.{Row, valid_removed}
 use Rattle.apd_table.proofs.stations.Stations.remove.Goals as goal
 

@@ -1,8 +1,5 @@
 use Rattle.std.proofs.Common.{refl, sym, subst}
-use Rattle.apd_base.specs.State.{State}
-use Rattle.apd_record.specs.Meaning.{add_to_list}
-use Rattle.apd_table.specs.Sound.{Sound}
-use Rattle.apd_table.specs.fields.Table.{state_of}
+use Rattle.apd_table.proofs.Words.{Sound, State, add_to_list, state_of}
 use Rattle.apd_table.proofs.ListChanges.{can_add}
 use Rattle.apd_table.proofs.MembersLemmas.{same_members}
 use Rattle.apd_table.proofs.table.Table.add.Goals as goal

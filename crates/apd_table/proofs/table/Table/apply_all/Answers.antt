@@ -1,10 +1,5 @@
 use Rattle.std.proofs.Common.{◌-◌, length, take, Err, IsSome, refl, sym, ap, subst, ◌∙◌}
-use Rattle.std.proofs.lemmas.Result.{err_from_is_err_and}
-use Rattle.apd_base.specs.State.{policy_at}
-use Rattle.apd_record.specs.declared.change.Change.TheVariants.{Cursor}
-use Rattle.apd_record.specs.Meaning.{meaning_of, set_cursor}
-use Rattle.apd_table.specs.InPlace.{IsCursorThere, IsInPlace, NoNewRow}
-use Rattle.apd_table.specs.Sound.{Sound, StaySound}
+use Rattle.apd_table.proofs.Words.{Cursor, IsCursorThere, IsInPlace, NoNewRow, Sound, StaySound, err_from_is_err_and, meaning_of, policy_at, set_cursor}
 use Rattle.apd_table.proofs.Behind.{split, means_behind, stay_behind, stay_before, no_row_before, in_place_before, sound_behind}
 use Rattle.apd_table.proofs.table.Table.apply_all.Goals as goal
 

@@ -1,6 +1,5 @@
 use Rattle.std.proofs.Common.{Err, ◌+◌, drop, sym, ap, subst, ◌∙◌}
-use Rattle.std.proofs.lemmas.Result.{err_from_is_err_and}
-use Rattle.apd_table.specs.Sound.{StaySound}
+use Rattle.apd_table.proofs.Words.{StaySound, err_from_is_err_and}
 use Rattle.apd_table.proofs.InTurn.{next, stay_first}
 use Rattle.apd_table.proofs.table.Table.apply_in_turn.Goals as goal
 

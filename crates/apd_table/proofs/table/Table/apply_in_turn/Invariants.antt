@@ -1,7 +1,5 @@
 use Rattle.std.proofs.Common.{◌≡◌, drop}
-use Rattle.apd_record.specs.Meaning.{meaning_of}
-use Rattle.apd_table.specs.InPlace.{AreDrops, NoNewRow}
-use Rattle.apd_table.specs.Sound.{Sound, StaySound}
+use Rattle.apd_table.proofs.Words.{AreDrops, NoNewRow, Sound, StaySound, meaning_of}
 use Rattle.apd_table.proofs.table.Table.apply_in_turn.Given as goal
 
 -- what is left leads where all of it leads, and is sound, makes no new row and is drops alone where all of it is

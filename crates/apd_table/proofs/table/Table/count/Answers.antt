@@ -1,6 +1,5 @@
 use Rattle.std.proofs.Common.{sym, ap, ◌∙◌}
-use Rattle.apd_base.specs.State.{State, count}
-use Rattle.apd_table.specs.fields.Table.{state_of}
+use Rattle.apd_table.proofs.Words.{State, count, state_of}
 use Rattle.apd_table.proofs.MembersLemmas.{count_none, without_policy}
 use Rattle.apd_table.proofs.table.Table.count.Goals as goal
 

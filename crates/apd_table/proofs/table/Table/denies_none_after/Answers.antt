@@ -1,9 +1,6 @@
 use Rattle.std.proofs.Common.{sym, ap, ◌∙◌}
 use Rattle.std.specs.FinMap as map
-use Rattle.std.specs.List.{list_any}
-use Rattle.apd_base.specs.declared.station.Policy.{Policy}
-use Rattle.apd_table.specs.Addresses.{is_denied_after}
-use Rattle.apd_table.specs.fields.Table.{state_of}
+use Rattle.apd_table.proofs.Words.{Policy, is_denied_after, list_any, state_of}
 use Rattle.apd_table.proofs.OneDenied.{any_denied, kept_policy, none_denied_iff}
 use Rattle.apd_table.proofs.table.Table.denies_none_after.Goals as goal
 
@@ -23,5 +20,5 @@ returns-in-None c =
     let s = state_of c.self.inside in
     let bss = c.in-Some.bss.now in
     let change = c.args.change.now in
-    rw (← c.self.view_is) (none_denied_iff s c.args.bssid bss.policy c.in-Some.ensures.policy bss.lists c.in-Some.ensures.lists change c.any_denied_after.result
-    (c.any_denied_after.ensures ∙ ap (λ (p : Policy). list_any (is_denied_after bss.lists p.mode c.args.bssid change) (map.entries s.stations)) c.policy_after-policy.ensures))
+    rw (← c.self.view_is) (none_denied_iff s c.args.bssid bss.policy c.in-Some.ensures.policy bss.lists c.in-Some.ensures.lists change c.denies_any_after.result
+    (c.denies_any_after.ensures ∙ ap (λ (p : Policy). list_any (is_denied_after bss.lists p.mode c.args.bssid change) (map.entries s.stations)) c.policy_after-policy.ensures))

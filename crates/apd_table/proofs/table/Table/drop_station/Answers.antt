@@ -1,9 +1,7 @@
 use Rattle.std.proofs.Common.{◌≡◌, None, refl, sym, ap, ◌∙◌}
-use Rattle.apd_base.specs.State.{State, station_at}
-use Rattle.apd_record.specs.Meaning.{drop_station}
+use Rattle.apd_table.proofs.Words.{State, drop_station, state_of, station_at}
 use Rattle.apd_table.proofs.MembersLemmas.{drop_is_change, few_members, members_changed, same_members}
 use Rattle.apd_table.proofs.Parts.{sound_drop}
-use Rattle.apd_table.specs.fields.Table.{state_of}
 use Rattle.apd_table.proofs.table.Table.drop_station.Goals as goal
 
 pub change_row-requires : goal.change_row-requires

@@ -1,11 +1,8 @@
 use Rattle.std.proofs.Common.{◌≡◌, ℕ, ◌<◌, Bool, true, false, ◌⊎◌, inl, inr, refl, sym, ap, ◌∙◌, IsTrue, arith}
 use Rattle.std.specs.Prelude.{nat_lt}
-use Rattle.std.specs.Option.{is_some}
+use Rattle.apd_table.proofs.Words.{addr_cmp, is_some, list_of, state_of}
 use Rattle.std.specs.FinMap as map
 use Rattle.std.proofs.lemmas.Grind.{common_steps}
-use Rattle.apd_acl.specs.Lists.{list_of}
-use Rattle.apd_base.specs.Addr.{addr_cmp}
-use Rattle.apd_table.specs.fields.Table.{state_of}
 use Rattle.apd_table.proofs.ListCounts.{list_count-is}
 use Rattle.apd_table.proofs.table.Table.has_list_room.Goals as goal
 

@@ -1,6 +1,5 @@
 use Rattle.std.proofs.Common.{sym, ap, ◌∙◌}
-use Rattle.std.specs.Option.{is_some}
-use Rattle.apd_base.specs.State.{aid_of}
+use Rattle.apd_table.proofs.Words.{aid_of, is_some}
 use Rattle.apd_table.proofs.Clashes.{alone_iff}
 use Rattle.apd_table.proofs.table.Table.is_alone.Goals as goal
 

@@ -1,10 +1,6 @@
 use Rattle.std.proofs.Common.{◌≡◌, Bool, List, [], ◌∷◌, ◌||◌, map as list_map, refl, ap, ◌∙◌}
 use Rattle.std.specs.FinMap as map
-use Rattle.std.specs.List.{list_any}
-use Rattle.apd_base.specs.State.{State, station_at}
-use Rattle.apd_base.specs.declared.address.Bssid.{Bssid}
-use Rattle.apd_table.specs.Rows.{is_associated_apart}
-use Rattle.apd_table.specs.declared.bss_rows.Bss.{Bss}
+use Rattle.apd_table.proofs.Words.{Bss, Bssid, State, is_associated_apart, list_any, station_at}
 use Rattle.apd_table.proofs.table.Table.is_elsewhere.Goals as goal
 
 any_key : (test : Bssid → Bool) (rows : List (Bssid × Bss)) → list_any (λ row. test row.0) rows ≡ list_any test (list_map (λ (row : Bssid × Bss). row.0) rows)

@@ -1,6 +1,5 @@
 use Rattle.std.proofs.Common.{sym}
-use Rattle.apd_acl.specs.Lists.{list_of}
-use Rattle.apd_table.specs.fields.Table.{state_of}
+use Rattle.apd_table.proofs.Words.{list_of, state_of}
 use Rattle.apd_table.proofs.ListCounts.{list_count-is}
 use Rattle.apd_table.proofs.table.Table.lists.Goals as goal
 

@@ -1,9 +1,6 @@
 use Rattle.std.proofs.Common.{sym, ap, subst, ◌∙◌}
 use Rattle.std.specs.FinMap as map
-use Rattle.apd_base.proofs.Cases.{none_is_some}
-use Rattle.apd_base.specs.Addr.{bssid_cmp}
-use Rattle.apd_table.specs.fields.BssState.{BssState}
-use Rattle.apd_table.specs.Sound.{Sound}
+use Rattle.apd_table.proofs.Words.{BssState, Sound, bssid_cmp, none_is_some}
 use Rattle.apd_table.proofs.Empty.{sound_empty}
 use Rattle.apd_table.proofs.table.Table.new.Goals as goal
 

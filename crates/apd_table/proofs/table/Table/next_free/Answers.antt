@@ -1,6 +1,5 @@
 use Rattle.std.proofs.Common.{◌≡◌, ap, sym}
-use Rattle.apd_table.specs.fields.Table.{state_of}
-use Rattle.apd_table.specs.LeastFree.{last_given, number_or_0}
+use Rattle.apd_table.proofs.Words.{last_given, number_or_0, state_of}
 use Rattle.apd_table.proofs.Identifiers.{all_taken, first_is_next, next_is}
 use Rattle.apd_table.proofs.Places.{ArePlaces, places_of}
 use Rattle.apd_table.proofs.table.Table.next_free.Goals as goal

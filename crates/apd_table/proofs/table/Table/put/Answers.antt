@@ -1,8 +1,5 @@
 use Rattle.std.proofs.Common.{◌≡◌, Some, refl, sym, ap, subst, ◌∙◌}
-use Rattle.apd_base.specs.State.{State, station_at}
-use Rattle.apd_record.specs.Meaning.{put_station}
-use Rattle.apd_table.specs.Sound.{Sound}
-use Rattle.apd_table.specs.fields.Table.{state_of}
+use Rattle.apd_table.proofs.Words.{Sound, State, put_station, state_of, station_at}
 use Rattle.apd_table.proofs.MembersLemmas.{few_members, members_changed, put_is_change, same_members}
 use Rattle.apd_table.proofs.SameRows.{put_there, same_row}
 use Rattle.apd_table.proofs.table.Table.put.Goals as goal

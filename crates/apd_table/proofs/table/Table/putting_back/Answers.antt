@@ -1,8 +1,5 @@
 use Rattle.std.proofs.Common.{◌≡◌, None, sym, subst, ◌∙◌}
-use Rattle.apd_base.proofs.AddrLemmas.{station_total, station_exact}
-use Rattle.apd_base.proofs.MapLemmas.{get_inserted}
-use Rattle.apd_base.specs.State.{station_at}
-use Rattle.apd_record.specs.Meaning.{meaning, put_station}
+use Rattle.apd_table.proofs.Words.{get_inserted, meaning, put_station, station_at, station_exact, station_total}
 use Rattle.apd_table.proofs.InTurn.{put_back}
 use Rattle.apd_table.proofs.table.Table.putting_back.Goals as goal
 

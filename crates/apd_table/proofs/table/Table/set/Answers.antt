@@ -1,8 +1,5 @@
 use Rattle.std.proofs.Common.{refl, sym, subst}
-use Rattle.apd_base.specs.State.{State}
-use Rattle.apd_record.specs.Meaning.{set_policy}
-use Rattle.apd_table.specs.Sound.{Sound}
-use Rattle.apd_table.specs.fields.Table.{state_of}
+use Rattle.apd_table.proofs.Words.{Sound, State, set_policy, state_of}
 use Rattle.apd_table.proofs.MembersLemmas.{members_joined, same_members}
 use Rattle.apd_table.proofs.table.Table.set.Goals as goal
 

@@ -1,8 +1,5 @@
 use Rattle.std.proofs.Common.{refl, sym, subst}
-use Rattle.apd_base.specs.State.{State}
-use Rattle.apd_record.specs.Meaning.{set_cursor}
-use Rattle.apd_table.specs.Sound.{Sound}
-use Rattle.apd_table.specs.fields.Table.{state_of}
+use Rattle.apd_table.proofs.Words.{Sound, State, set_cursor, state_of}
 use Rattle.apd_table.proofs.Cursors.{can_cursor}
 use Rattle.apd_table.proofs.MembersLemmas.{same_members}
 use Rattle.apd_table.proofs.table.Table.set_cursor.Goals as goal

@@ -1,12 +1,6 @@
 use Rattle.std.proofs.Common.{◌≤◌, ◌++◌, List, length, append_assoc, map as list_map, sym, subst, ap, ◌∙◌}
 use Rattle.std.specs.FinMap as map
-use Rattle.apd_base.specs.State.{empty_state}
-use Rattle.apd_record.specs.Meaning.{meaning_of}
-use Rattle.apd_record.specs.Ranges.{AreChanges}
-use Rattle.apd_record.specs.Record.{records_of}
-use Rattle.apd_record.specs.declared.change.Change.{Change}
-use Rattle.apd_table.specs.Snapshot.{canonical, policy_changes, cursor_changes, list_changes, station_change}
-use Rattle.apd_table.specs.Sound.{StaySound}
+use Rattle.apd_table.proofs.Words.{AreChanges, Change, StaySound, canonical, cursor_changes, empty_state, list_changes, meaning_of, policy_changes, records_of, station_change}
 use Rattle.apd_table.proofs.Replays.{canonical_leads}
 use Rattle.apd_table.proofs.SnapshotSize.{canonical_size}
 use Rattle.apd_table.proofs.table.Table.snapshot.Goals as goal

@@ -1,7 +1,7 @@
 use Rattle.std.proofs.Common.{◌≡◌, refl, ap, ◌∙◌}
 use Rattle.apd_world.proofs.Words.{Accept, CoreState, DurableCore, NoMemory, flight_of}
 use Rattle.apd_world.proofs.Goings.{goes_unchanged}
-use Rattle.apd_world.proofs.Standing.{safe_beside}
+use Rattle.apd_world.proofs.DurableSteps.{safe_beside}
 use Rattle.apd_world.proofs.StepLemmas.{accept_request, accept_step, accepted_is, step_unchanged}
 use Rattle.apd_world.proofs.durable_core.DurableCore.accept.Goals as goal
 

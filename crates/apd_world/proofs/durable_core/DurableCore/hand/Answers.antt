@@ -1,7 +1,7 @@
 use Rattle.std.proofs.Common.{◌≡◌, refl, ap, ◌∙◌}
 use Rattle.apd_world.proofs.Words.{CoreState, DurableCore, Hand, NoMemory, flight_of}
 use Rattle.apd_world.proofs.Goings.{goes_unchanged}
-use Rattle.apd_world.proofs.Standing.{made_beside, made_unchanged, safe_beside}
+use Rattle.apd_world.proofs.DurableSteps.{made_beside, made_unchanged, safe_beside}
 use Rattle.apd_world.proofs.StepLemmas.{hand_step, lacking_not_called, step_unchanged}
 use Rattle.apd_world.proofs.durable_core.DurableCore.hand.Goals as goal
 

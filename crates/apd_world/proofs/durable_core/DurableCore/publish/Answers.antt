@@ -1,8 +1,8 @@
 use Rattle.std.proofs.Common.{◌≡◌, ◌⊎◌, Some, None, refl, sym, ap, subst, ◌∙◌}
 use Rattle.apd_world.proofs.Words.{Flusher, IsUnloaded, Nothing, Publish, flight_of, waiting_receipt}
-use Rattle.apd_flusher.specs.Outside.{device_of as device_in, flusher_of as flusher_in}
+use Rattle.apd_flusher.specs.Outside.{flusher_device, flusher_of as flusher_in}
 use Rattle.apd_world.proofs.Goings.{goes_unchanged}
-use Rattle.apd_world.proofs.Standing.{refused_whole, safe_same, settled_whole}
+use Rattle.apd_world.proofs.DurableSteps.{refused_whole, safe_same, settled_whole}
 use Rattle.apd_world.proofs.StepLemmas.{publish_step, step_unchanged, unpublished_step}
 use Rattle.apd_world.proofs.durable_core.DurableCore.publish.Goals as goal
 
@@ -41,7 +41,7 @@ returns-in-Err g c =
     let given = c.in-Some.ensures.given in
     let back = c.take_back.ensures in
     let own : c.in-Err.receipt ≡ receipt = c.in-Err.ensures.err.0 in
-    let device = ap device_in back.flusher ∙ c.receipt.ensures.device in
+    let device = ap flusher_device back.flusher ∙ c.receipt.ensures.device in
     let step = unpublished_step old new c.in-Err.fault (record {
       receipt = receipt;
       next = subst (λ (f : Flusher _). ((waiting_receipt old.committer ≡ Some receipt) × (f ≡ flusher_in old.committer)) ⊎ ((waiting_receipt old.committer ≡ None) × IsUnloaded receipt (flusher_in old.committer) f)) (sym back.flusher) given.next;

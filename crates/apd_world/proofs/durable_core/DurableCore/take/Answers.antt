@@ -1,8 +1,8 @@
 use Rattle.std.proofs.Common.{◌≡◌, Option, refl, sym, ap, subst, ◌∙◌}
 use Rattle.apd_world.proofs.Words.{Batch, Committer, DurableCore, HasNoneToLoad, IsImaged, IsLoadGiven, Nothing, Take, device_of}
-use Rattle.apd_flusher.specs.Outside.{device_of as device_in, flusher_of as flusher_in}
+use Rattle.apd_flusher.specs.Outside.{flusher_device, flusher_of as flusher_in}
 use Rattle.apd_world.proofs.Goings.{goes_unchanged}
-use Rattle.apd_world.proofs.Standing.{safe_same, safe_unchanged}
+use Rattle.apd_world.proofs.DurableSteps.{safe_same, safe_unchanged}
 use Rattle.apd_world.proofs.StepLemmas.{IsOffered, core_offered, step_unchanged, take_step, waits_offered}
 use Rattle.apd_world.proofs.durable_core.DurableCore.take.Goals.{then-has_batch, else-has_batch+in-Ok}
 use Rattle.apd_world.proofs.durable_core.DurableCore.take.Goals as goal
@@ -28,7 +28,7 @@ returns-in-Some g c =
     let load : IsLoadGiven result given old.committer after = subst (λ (k : Committer _). IsLoadGiven result given k after) committer c.in-Some.ensures.loaded in
     let step = take_step old new result (record { given = given; load = load; next = offered.next load.batch load.next; only = λ i. record (offered.only i) { core = mid.core; committer = after } }) in
     let t = c.load.ensures in
-    let device = t.device ∙ ap (λ (k : Committer _). device_in (flusher_in k)) committer in
+    let device = t.device ∙ ap (λ (k : Committer _). flusher_device (flusher_in k)) committer in
     record {
       step = step;
       device = device;

@@ -3,7 +3,7 @@ use Rattle.std.specs.Vec.{with_item}
 use Rattle.apd_world.proofs.Words.{AppliesFirst, Nothing, Told, slot_in, slot_place, slots_of}
 use Rattle.apd_world.proofs.Joining.{apply_joins, nothing_joins}
 use Rattle.apd_world.proofs.SlotLemmas.{place_seen}
-use Rattle.apd_world.proofs.Standing.{made_unchanged}
+use Rattle.apd_world.proofs.DurableSteps.{made_unchanged}
 use Rattle.apd_world.proofs.StepLemmas.{nothing_not_called}
 use Rattle.apd_world.proofs.world.World.apply.Goals as goal
 

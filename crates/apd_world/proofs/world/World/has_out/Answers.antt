@@ -12,5 +12,5 @@ returns-in-Some-clause-none g c = λ none.
     let slot = c.index.result.now in
     let at : slot_place slots c.args.bssid ≡ Some c.in-Some.place = place_seen slots c.deref.result.now c.args.bssid (Some c.in-Some.place) c.deref.ensures.value c.in-Some.ensures in
     let is : queue_of c.args.self.now c.args.bssid ≡ slot_queue slot = ap queue_if (slot_is slots c.args.bssid c.in-Some.place slot at ∙ ap Some (sym c.index.ensures)) in
-    let few : c.waiting.result ≤ 0 = ltb-false 0 c.waiting.result none in
-    is ∙ nil_from_length (slot_queue slot) (omega (arith, c.waiting.ensures, few))
+    let few : c.waiting_count.result ≤ 0 = ltb-false 0 c.waiting_count.result none in
+    is ∙ nil_from_length (slot_queue slot) (omega (arith, c.waiting_count.ensures, few))

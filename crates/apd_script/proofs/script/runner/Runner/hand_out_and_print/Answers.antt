@@ -1,0 +1,6 @@
+use Rattle.apd_script.specs.Script.{HandsOut}
+use Rattle.apd_script.proofs.Doing.{on_ok}
+use Rattle.apd_script.proofs.script.runner.Runner.hand_out_and_print.Goals as goal
+
+pub returns-clause-ok : goal.returns-clause-ok
+returns-clause-ok g c = on_ok (HandsOut g.D.Disk.model g.R.Radio.model c.args.self.now c.hand_out.new.self) c.print_answers.result c.in_ok-answers.ensures

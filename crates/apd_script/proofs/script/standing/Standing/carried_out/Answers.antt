@@ -1,6 +1,0 @@
-use Rattle.apd_script.specs.Script.{IsMade}
-use Rattle.apd_script.proofs.Doing.{on_ok}
-use Rattle.apd_script.proofs.script.standing.Standing.carried_out.Goals as goal
-
-pub returns-clause-ok : goal.returns-clause-ok
-returns-clause-ok g c = on_ok (IsMade g.D.Disk.model g.R.Radio.model c.args.step.now c.args.self.now c.made.new.self) c.command_answered.result c.in_ok-told.ensures.ok

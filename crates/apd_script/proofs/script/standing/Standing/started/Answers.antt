@@ -1,6 +1,0 @@
-use Rattle.apd_script.specs.Script.{Starts}
-use Rattle.apd_script.proofs.Doing.{on_ok}
-use Rattle.apd_script.proofs.script.standing.Standing.started.Goals as goal
-
-pub returns-clause-ok : goal.returns-clause-ok
-returns-clause-ok g c = on_ok (Starts g.D.Disk.model g.R.Radio.model c.args.self.now c.start.new.self) c.printed.result c.in_ok-answers.ensures

@@ -1,9 +1,0 @@
-use Rattle.std.proofs.Common.{None, refl}
-use Rattle.apd_core.specs.declared.input.Input.TheVariants as input
-use Rattle.apd_world.specs.declared.step.Step.TheVariants.{Accept}
-use Rattle.apd_script.proofs.Doing.{requested_ok}
-use Rattle.apd_script.proofs.script.standing.Standing.ticked.Goals as goal
-
-pub returns-clause-ok : goal.returns-clause-ok
-returns-clause-ok g c =
-    requested_ok g.D.Disk.model g.R.Radio.model c.requested.result None (Accept input.Tick c.args.moment) (record c.args.self.now { moment = c.args.moment }) c.requested.new.self refl c.requested.ensures.ok
