@@ -1,8 +1,9 @@
 #!/bin/sh
 # Runs each session of apd_sessions with each of its allocations refused, one a run, until a run meets no refusal. The
 # call that met it must say so, leave what can be seen as it was, and be made once more; and then the session must go
-# on as with ample memory, to the byte. Where a device in memory met it, that is a device fault, at which the session
-# ends: its device must then show the table before or after the commit that was under way.
+# on as with ample memory, to the byte; but a start that is made again configures once more, and may write that too.
+# Where a device in memory met it, that is a device fault, at which the session ends: its device must then show the
+# table before or after the commit that was under way.
 # Use: examples/refuse.sh [SESSION..], from anywhere; it needs a C compiler. It ends with status 1 at the first run
 # that shows anything else, and prints for each session how many allocations there are, and who met them.
 set -eu
@@ -19,11 +20,11 @@ cd "$folder"
 # Whether what was found is what was wanted. A line "again: .." is taken out; without one the library made up for what
 # it was refused, as where it collects and had asked for room beforehand. Behind a device fault must stand the last
 # table before it, or the next one that was wanted.
-judge() {
+compare() {
     awk '
         function bad(why) { print why; failed = 1; exit 1 }
         function is_state(line) { return line ~ /^table: / || line == "no store" }
-        FILENAME == "wanted" { wanted[++all] = $0; next }
+        NR == FNR { wanted[++all] = $0; next }
         /^changed: / { bad($0) }
         /^again: / { again++; next }
         $0 == "device fault" { device++; next }
@@ -38,7 +39,44 @@ judge() {
             for (i = 1; i <= line; i++) if (is_state(wanted[i])) before = wanted[i]
             for (i = all; i > line; i--) if (is_state(wanted[i])) after = wanted[i]
             if (left != before && left != after) bad("left " left)
-        }' wanted found
+        }' "$1" found
+}
+
+# The calls of a commit of these records, behind the closed gate at this place.
+print_commit() {
+    length=$(($(printf %s "$2" | tr -dc , | wc -c) + 1))
+    printf 'Write(%d, Sequence { items: [%d, 0, 0, 0, %s, 0] })\nSync\n' $(($1 + 1)) "$length" "$2"
+    printf 'Write(%d, Sequence { items: [1] })\nSync\n' "$1"
+}
+
+# What is wanted, with the calls that are read behind the recovery.
+print_with() {
+    awk '
+        NR == FNR { calls = calls $0 "\n"; next }
+        /^slot: / { passed = 0 }
+        !passed { print }
+        /^Read/ { printf "%s", calls; passed = 1 }' - wanted
+}
+
+# What is wanted of a restart whose start was made again. A start sets both policies, and drops the station that the
+# second denies. The first may have come to its first policy; to all of it, uncommitted; or to all of it, committed.
+print_starts() {
+    first="6, 2, 0, 0, 0, 0, 1, 0, 215, 7"
+    second="6, 2, 0, 0, 0, 0, 2, 1, 215, 7"
+    start="$first, 2, 2, 0, 0, 0, 0, 2, 2, 0, 0, 0, 0, 170, $second"
+    print_commit 180 "$first, $start" | print_with >started.1
+    print_commit 180 "$start, $first, $second" | print_with >started.2
+    { print_commit 180 "$start"; print_commit 218 "$first, $second"; } | print_with >started.3
+}
+
+# Whether a run is what is wanted; else it says what isn't.
+judge() {
+    compare wanted >why && return 0
+    if grep -q -x "again: start" found; then
+        for each in started.*; do ! compare "$each" >/dev/null || return 0; done
+    fi
+    cat why
+    return 1
 }
 
 # Runs a session with the allocation of this number refused; whether there is one.
@@ -53,6 +91,7 @@ while is_refused nothing "$((words + 1))"; do words=$((words + 1)); done
 
 for session in ${*:-stations commands radios restart files check upgrade}; do
     "$program" "$session" >wanted
+    [ "$session" != restart ] || print_starts
     count=0
     device=0
     again=0

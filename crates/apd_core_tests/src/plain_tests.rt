@@ -41,7 +41,7 @@ impl Plain {
     }
 
     // The least row that was silent for 300 seconds.
-    fn due(&self, now: u64) -> Option<Key> {
+    fn due_row(&self, now: u64) -> Option<Key> {
         let mut least: Option<Key> = None;
         for row in self.rows.iter() {
             if now.saturating_sub(row.1) >= 300_000 && least.is_none_or(|least| row.0 < least) {
@@ -58,7 +58,7 @@ impl Plain {
             REMOVE => self.remove(key)?,
             HEAR => return Some(self.hear(key, moment)),
             _ => {
-                let Some(due) = self.due(moment) else {
+                let Some(due) = self.due_row(moment) else {
                     return Some(false);
                 };
                 self.remove(due)?;

@@ -158,7 +158,7 @@ const POLICY: &[u8] = &[6, 2, 0, 0, 0, 0, 1, 0, 0xd7, 7];
 const POLICIES: u32 = 104_855;
 
 /// The bytes of a device whose half A is full, and of the greatest epoch.
-fn worn(alloc: Global) -> Result<Vec<u8>, AllocError> {
+fn worn_bytes(alloc: Global) -> Result<Vec<u8>, AllocError> {
     let mut bytes = Vec::from_slice(alloc, b"RAPSTOR2")?;
     pad(&mut bytes, 64)?;
     bytes.push(1)?;
@@ -172,7 +172,7 @@ fn worn(alloc: Global) -> Result<Vec<u8>, AllocError> {
 }
 
 fn worn_committer(alloc: Global) -> Option<Committer<MemDisk>> {
-    committer(alloc, MemDisk::new(alloc, worn(alloc).ok()?).ok()?)
+    committer(alloc, MemDisk::new(alloc, worn_bytes(alloc).ok()?).ok()?)
 }
 
 #[test]

@@ -58,7 +58,7 @@ pub(crate) fn put(station: Station) -> Change {
     }
 }
 
-pub(crate) fn associated() -> Result<Change, Fail> {
+pub(crate) fn associated_row() -> Result<Change, Fail> {
     Ok(put(Station::Associated(Association {
         aid: Aid::new(1).ok_or("1 is an identifier")?,
         capability: 0x0431,

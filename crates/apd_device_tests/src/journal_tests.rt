@@ -36,7 +36,7 @@ fn put(station: Station) -> Change {
     }
 }
 
-fn associated() -> Option<Change> {
+fn associated_row() -> Option<Change> {
     Some(put(Station::Associated(Association {
         aid: Aid::new(1)?,
         capability: 0x0431,
@@ -71,7 +71,7 @@ fn groups_with(
 #[test]
 fn three_groups(rt: HostRuntime) -> Result<(), Fail> {
     let first = policy().ok_or("2007 is a limit")?;
-    let last = associated().ok_or("1 is an identifier")?;
+    let last = associated_row().ok_or("1 is an identifier")?;
     let changes = [first, put(Station::Authenticated), last];
     assert!(rt; holds(rt.alloc(), &HALF, &changes, 78)?);
     Ok(())

@@ -10,7 +10,7 @@ use std::test::Fail;
 const WENT_DOWN: Result<(), SlotFault> = Err(SlotFault::WentDown);
 
 /// A radio that passes so many calls on to one in memory.
-fn failing(alloc: Global, calls: u64) -> Failing<Sim> {
+fn failing_radio(alloc: Global, calls: u64) -> Failing<Sim> {
     Failing::new(Sim::new(alloc), calls)
 }
 
@@ -45,12 +45,12 @@ fn a_slot_gives_its_radio_anew_what_is_wanted(rt: HostRuntime) -> Result<(), Fai
 #[test]
 fn a_resync_fails_at_its_second_station(rt: HostRuntime) -> Result<(), Fail> {
     let alloc = rt.alloc();
-    let mut slot = Slot::new(alloc, failing(alloc, 2 + 1), WLAN0);
+    let mut slot = Slot::new(alloc, failing_radio(alloc, 2 + 1), WLAN0);
     assert_eq!(rt; install_both(&mut slot)?, [Ok(()), Ok(())]);
     assert_eq!(rt; resync(&mut slot), WENT_DOWN);
     assert!(rt; !slot.is_up());
     assert!(rt; wants_both(&slot));
-    let mut slot = Slot::new(alloc, failing(alloc, 2 + 2), WLAN0);
+    let mut slot = Slot::new(alloc, failing_radio(alloc, 2 + 2), WLAN0);
     assert_eq!(rt; install_both(&mut slot)?, [Ok(()), Ok(())]);
     assert_eq!(rt; resync(&mut slot), Ok(()));
     assert!(rt; slot.is_up());
@@ -61,16 +61,16 @@ fn a_resync_fails_at_its_second_station(rt: HostRuntime) -> Result<(), Fail> {
 #[test]
 fn a_radio_that_fails_at_its_second_station_is_handed_back(rt: HostRuntime) -> Result<(), Fail> {
     let alloc = rt.alloc();
-    let mut slot = Slot::new(alloc, failing(alloc, 1), WLAN0);
+    let mut slot = Slot::new(alloc, failing_radio(alloc, 1), WLAN0);
     assert_eq!(rt; install_both(&mut slot)?, [Ok(()), WENT_DOWN]);
-    let Err((back, fault)) = replace(&mut slot, failing(alloc, 1)) else {
+    let Err((back, fault)) = replace(&mut slot, failing_radio(alloc, 1)) else {
         return Err(Fail::new("a radio that fails is taken"));
     };
     assert_eq!(rt; fault, SlotFault::WentDown);
     assert_eq!(rt; back.installed(FIRST), None);
     assert!(rt; !slot.is_up());
     assert!(rt; wants_both(&slot));
-    let old = replace_radio(&mut slot, failing(alloc, 2))?;
+    let old = replace_radio(&mut slot, failing_radio(alloc, 2))?;
     assert_eq!(rt; old.installed(FIRST), None);
     assert!(rt; slot.is_up());
     assert!(rt; has_both(&slot));

@@ -114,7 +114,9 @@ fn queues<R: Radio>(slot: &mut Slot<R>, outs: Vec<Out>, waiting: usize) -> Optio
 fn applies_next<R: Radio>(slot: &mut Slot<R>, count: u8) -> Option<()> {
     let waiting = slot.waiting_count();
     let (_out, answer) = match apply_next(slot)? {
-        Err(_) if is_up_with(slot, count) && slot.waiting_count() == waiting => apply_next(slot)?.ok()?,
+        Err(_) if is_up_with(slot, count) && slot.waiting_count() == waiting => apply_next(
+            slot,
+        )?.ok()?,
         applied => applied.ok()?,
     };
     answer.ok()

@@ -1,7 +1,7 @@
 // What no clause says: that calls succeed where memory is ample, the bytes of a store, and printed text.
 use crate::common::{
-    BSSID, LENGTH, Made, Seen, TWO_GROUPS, associated, batch_of, blank_disk, calls_after, cursor,
-    disk_of_byte, look, policy, put, write_bytes,
+    BSSID, LENGTH, Made, Seen, TWO_GROUPS, associated_row, batch_of, blank_disk, calls_after,
+    cursor, disk_of_byte, look, policy, put, write_bytes,
 };
 use apd_base::Station;
 use apd_disk::{Disk, FuseDisk, MemDisk, Torn};
@@ -50,7 +50,7 @@ fn begin_association<D: Disk>(
     store: &mut Store<D>,
     number: u64,
 ) -> Result<(), Fail> {
-    let mut batch = batch_of(alloc, number, associated()?)?;
+    let mut batch = batch_of(alloc, number, associated_row()?)?;
     batch.changes.push(cursor(1)?)?;
     match store.begin(batch, &Table::new(alloc)) {
         Ok(()) => Ok(()),
@@ -156,7 +156,7 @@ where
 }
 
 // What is told where a call of a recovery or of the commit behind it fails, and the device.
-fn failing<D: Disk>(alloc: Global, disk: D) -> Result<(StoreFault, D), Fail>
+fn fault_of<D: Disk>(alloc: Global, disk: D) -> Result<(StoreFault, D), Fail>
 where
     D: Drop,
 {
@@ -266,8 +266,8 @@ fn stop_format(alloc: Global, passes: u64) -> Result<Option<Seen>, Fail> {
 }
 
 // What is told and seen where the call after as many others fails, of a recovery and then a commit.
-fn failing_after(alloc: Global, passes: u64) -> Result<(StoreFault, Seen), Fail> {
-    let (fault, fuse) = failing(alloc, FuseDisk::new(device(alloc, 1)?, passes))?;
+fn fault_after(alloc: Global, passes: u64) -> Result<(StoreFault, Seen), Fail> {
+    let (fault, fuse) = fault_of(alloc, FuseDisk::new(device(alloc, 1)?, passes))?;
     Ok((fault, look(alloc, fuse.into_inner())))
 }
 
@@ -524,7 +524,7 @@ fn each_call_that_fails(rt: HostRuntime) -> Result<(), Fail> {
         (5, StoreFault::Failed, after),
     ] {
         assert_eq!(rt;
-            failing_after(rt.alloc(), passes)?,
+            fault_after(rt.alloc(), passes)?,
             (fault, found),
             "{passes}"
         );

@@ -9,7 +9,7 @@ use apd_world::{Reception, Step, World, WorldFault};
 use std::alloc::Global;
 use std::test::Fail;
 
-fn worn(alloc: Global) -> Option<World<MemDisk, Sim>> {
+fn worn_world(alloc: Global) -> Option<World<MemDisk, Sim>> {
     world(alloc, device_of(alloc, &full_image(alloc, u64::MAX)?)?)
 }
 
@@ -46,7 +46,7 @@ fn otherwise<D: Disk>(world: &mut World<D, Sim>) -> Option<(usize, Option<Said>)
 
 #[test]
 fn a_batch_that_is_refused_waits(rt: HostRuntime) -> Result<(), Fail> {
-    let mut world = worn(rt.alloc()).ok_or("memory")?;
+    let mut world = worn_world(rt.alloc()).ok_or("memory")?;
     assert_eq!(rt; otherwise(&mut world), None);
     Ok(())
 }
@@ -59,7 +59,7 @@ fn refusals<D: Disk>(world: &mut World<D, Sim>) -> Option<[Option<WorldFault>; 2
 
 #[test]
 fn a_flush_tells_that_the_store_is_worn(rt: HostRuntime) -> Result<(), Fail> {
-    let mut world = worn(rt.alloc()).ok_or("memory")?;
+    let mut world = worn_world(rt.alloc()).ok_or("memory")?;
     let worn = Some(WorldFault::Store(StoreFault::Worn));
     assert_eq!(rt; refusals(&mut world), Some([worn, worn]));
     Ok(())
@@ -67,7 +67,7 @@ fn a_flush_tells_that_the_store_is_worn(rt: HostRuntime) -> Result<(), Fail> {
 
 /// How many calls the device of such a world has served, and the table that it shows.
 fn outcome(alloc: Global) -> Option<(usize, Option<u64>)> {
-    let mut world = worn(alloc)?;
+    let mut world = worn_world(alloc)?;
     let _refusals = refusals(&mut world)?;
     let device = flusher(world).into_device();
     Some((device.calls().len(), table_of(alloc, device)))

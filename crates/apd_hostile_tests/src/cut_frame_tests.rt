@@ -61,7 +61,7 @@ fn table(alloc: Global) -> Result<Table, Fail> {
 }
 
 // What is decided of a frame that the radio heard, if it isn't ignored.
-fn decided(
+fn decision_on(
     rt: &impl Abort,
     alloc: Global,
     table: &Table,
@@ -89,7 +89,7 @@ fn status(out: &Out) -> Option<u8> {
 }
 
 // The first status code that is told.
-fn told(decision: &Decision) -> Option<u8> {
+fn first_status(decision: &Decision) -> Option<u8> {
     decision
         .outs
         .as_slice()
@@ -105,8 +105,8 @@ fn a_cut_request_is_ignored_or_refused(rt: HostRuntime) -> Result<(), Fail> {
     assert_eq!(rt; REQUEST.len(), 39);
     for length in 0..=REQUEST.len() {
         let bytes = REQUEST.get(..length).unwrap_or(&[]);
-        let (ignored, status) = match decided(&rt, alloc, &table, &confs, bytes)? {
-            Ok(decision) => (None, told(&decision)),
+        let (ignored, status) = match decision_on(&rt, alloc, &table, &confs, bytes)? {
+            Ok(decision) => (None, first_status(&decision)),
             Err(ignored) => (Some(ignored), None),
         };
         let wanted = match length {

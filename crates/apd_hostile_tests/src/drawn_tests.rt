@@ -37,7 +37,7 @@ fn good(generator: &mut Generator) -> &'static [u8] {
 }
 
 // The next list: any bytes, 0 to 3,000 of them, or something good in which one to four bytes are changed.
-fn drawn(alloc: Global, generator: &mut Generator) -> Result<Vec<u8>, AllocError> {
+fn draw(alloc: Global, generator: &mut Generator) -> Result<Vec<u8>, AllocError> {
     if generator.below(2) == 0 {
         let length = generator.below(3_001);
         return generator.bytes(alloc, length);
@@ -152,7 +152,7 @@ fn readers_return_and_what_they_take_stands_in_the_bytes(rt: HostRuntime) -> Res
     let mut generator = Generator::new(1);
     let mut taken = Taken::default();
     for number in 0..10_000 {
-        let bytes = drawn(alloc, &mut generator)?;
+        let bytes = draw(alloc, &mut generator)?;
         assert!(rt; try_frame(&bytes, &mut taken), "frame {number}");
         assert!(rt; try_records(alloc, &bytes, &mut taken)?, "records {number}");
         try_command(&bytes, &mut taken);

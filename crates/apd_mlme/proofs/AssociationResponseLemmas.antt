@@ -296,7 +296,7 @@ module _ (s : State) (confs : List Conf) (conf : Conf) (b : Bssid) (kind : Kind)
       row = row_here s confs conf b kind request sound aid own;
       anew = at_anew;
       again = at_again;
-      elsewhere = λ c ne. subst (AllByRecursion (IsOfEnd c asker)) (sym (at_other c (apart bssid_total bssid_exact c b ne))) (ends_alone c asker (filter (λ x. is_some (conf_at confs x)) (elsewhere s b asker)));
+      elsewhere = λ c ne. subst (AllByRecursion (IsOfEnd c asker)) (sym (at_other c (apart bssid_total bssid_exact c b ne))) (ends_alone c asker (filter (λ x. is_some (conf_at confs x)) (bssids_elsewhere s b asker)));
     }
 
   -- ---- any request that deserves success

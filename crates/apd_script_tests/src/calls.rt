@@ -27,14 +27,14 @@ pub fn second(alloc: Global) -> Result<Conf, Fail> {
 }
 
 /// A configuration alone.
-pub fn alone(alloc: Global, conf: Conf) -> Result<Confs, Fail> {
+pub fn confs_with(alloc: Global, conf: Conf) -> Result<Confs, Fail> {
     let mut list = Vec::new(alloc);
     list.push(conf)?;
     confs_of(list)
 }
 
 /// Two configurations.
-pub fn both(alloc: Global, first: Conf, second: Conf) -> Result<Confs, Fail> {
+pub fn confs_of_two(alloc: Global, first: Conf, second: Conf) -> Result<Confs, Fail> {
     let mut list = Vec::new(alloc);
     list.push(first)?;
     list.push(second)?;
@@ -51,10 +51,10 @@ pub fn addresses_of(alloc: Global, file: &[u8]) -> Result<AddressList, Fail> {
 
 /// The built-in configuration alone: wlan0 at 02:00:00:00:00:01.
 pub fn one_radio(alloc: Global) -> Result<Confs, Fail> {
-    alone(alloc, new_conf(alloc)?)
+    confs_with(alloc, new_conf(alloc)?)
 }
 
 /// The built-in configuration, and the same for wlan1 at 02:00:00:00:00:02.
 pub fn two_radios(alloc: Global) -> Result<Confs, Fail> {
-    both(alloc, new_conf(alloc)?, second(alloc)?)
+    confs_of_two(alloc, new_conf(alloc)?, second(alloc)?)
 }

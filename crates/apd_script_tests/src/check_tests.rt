@@ -1,5 +1,5 @@
 //! What a check of a store prints, and of a store with single bytes changed.
-use crate::calls::{addresses_of, both, new_conf, one_radio, second};
+use crate::calls::{addresses_of, confs_of_two, new_conf, one_radio, second};
 use crate::scripts::JOINS;
 use crate::worlds::{fresh_store, run_on};
 use apd_base::AclMode;
@@ -53,7 +53,7 @@ fn with_lists(alloc: Global) -> Result<Confs, Fail> {
         )?,
         addresses_of(alloc, b"")?,
     );
-    both(alloc, second, first)
+    confs_of_two(alloc, second, first)
 }
 
 /// The station 02:00:00:00:00:ab is authenticated at wlan1.

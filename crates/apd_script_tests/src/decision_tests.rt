@@ -1,4 +1,4 @@
-use crate::calls::{addresses_of, alone, new_conf};
+use crate::calls::{addresses_of, confs_with, new_conf};
 use apd_base::{AclMode, Addr, Aid, Association, Bssid, Sequence, Station, StationNumber, Which};
 use apd_conf::Confs;
 use apd_frame::{Authentication, Frame};
@@ -30,7 +30,7 @@ fn change(table: &mut Table, change: &Change) -> Result<(), Fail> {
 fn confs(alloc: Global, mode: AclMode) -> Result<Confs, Fail> {
     let mut conf = new_conf(alloc)?;
     conf.macaddr_acl = mode;
-    alone(alloc, conf)
+    confs_with(alloc, conf)
 }
 
 /// Decides the start of the radio with these list files, and makes its changes.

@@ -1,6 +1,6 @@
 //! Scripts over radios whose driver fails.
 use crate::calls::one_radio;
-use crate::scripts::{JOINS, joint};
+use crate::scripts::{JOINS, join};
 use crate::worlds::{Boxed, all_slots, replace_radio, run_in_world, world_with};
 use apd_base::{Addr, Bssid};
 use apd_radio::{Failing, Sim};
@@ -31,18 +31,18 @@ const UP: &str =
 ";
 
 /// A radio that passes so many calls on, and fails then.
-fn failing(alloc: Global, calls: u64) -> Failing<Sim> {
+fn failing_radio(alloc: Global, calls: u64) -> Failing<Sim> {
     Failing::new(Sim::new(alloc), calls)
 }
 
 #[test]
 fn a_radio_that_fails_is_replaced(rt: HostRuntime) -> Result<(), Fail> {
     let alloc = rt.alloc();
-    let radio: Boxed = Box::new(alloc, failing(alloc, 1))?;
+    let radio: Boxed = Box::new(alloc, failing_radio(alloc, 1))?;
     let world = world_with(alloc, one_radio(alloc)?, radio)?;
-    let script = joint(alloc, &[JOINS, "cmd STATUS\n"])?;
+    let script = join(alloc, &[JOINS, "cmd STATUS\n"])?;
     let (world, out) = run_in_world(alloc, world, script.as_slice())?;
-    let want = joint(
+    let want = join(
         alloc,
         &[AUTHENTICATED, "entry 3\nwlan0 down\nwlan0 lost\n", DOWN],
     )?;
@@ -63,10 +63,10 @@ fn a_radio_that_fails_is_replaced(rt: HostRuntime) -> Result<(), Fail> {
 #[test]
 fn a_frame_that_is_lost_leaves_its_radio_up(rt: HostRuntime) -> Result<(), Fail> {
     let alloc = rt.alloc();
-    let radio: Boxed = Box::new(alloc, failing(alloc, 2))?;
+    let radio: Boxed = Box::new(alloc, failing_radio(alloc, 2))?;
     let world = world_with(alloc, one_radio(alloc)?, radio)?;
     let (world, out) = run_in_world(alloc, world, JOINS.as_bytes())?;
-    let want = joint(
+    let want = join(
         alloc,
         &[
             AUTHENTICATED,
@@ -83,13 +83,13 @@ fn a_frame_that_is_lost_leaves_its_radio_up(rt: HostRuntime) -> Result<(), Fail>
 #[test]
 fn a_removal_that_fails_takes_its_radio_down(rt: HostRuntime) -> Result<(), Fail> {
     let alloc = rt.alloc();
-    let radio: Boxed = Box::new(alloc, failing(alloc, 3))?;
+    let radio: Boxed = Box::new(alloc, failing_radio(alloc, 3))?;
     let world = world_with(alloc, one_radio(alloc)?, radio)?;
     let leaves = "cmd DEAUTHENTICATE 02:00:00:00:00:aa\nflush\n";
-    let script = joint(alloc, &[JOINS, leaves])?;
+    let script = join(alloc, &[JOINS, leaves])?;
     let (world, out) = run_in_world(alloc, world, script.as_slice())?;
     let left = "entry 4\nwlan0 down\nwlan0 lost\nctrl 5 OK\\n\n";
-    let want = joint(alloc, &[AUTHENTICATED, ASSOCIATED, left])?;
+    let want = join(alloc, &[AUTHENTICATED, ASSOCIATED, left])?;
     assert_eq!(rt; out.as_slice(), want.as_slice());
     for slot in all_slots(world) {
         assert!(rt; !slot.is_up());

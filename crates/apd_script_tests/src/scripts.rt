@@ -10,7 +10,7 @@ flush
 ";
 
 /// Texts, one after the other.
-pub fn joint(alloc: Global, texts: &[&str]) -> Result<Vec<u8>, Fail> {
+pub fn join(alloc: Global, texts: &[&str]) -> Result<Vec<u8>, Fail> {
     let mut out = Vec::new(alloc);
     for text in texts {
         out.extend_from_slice(text.as_bytes())?;

@@ -1,6 +1,6 @@
 //! Stops and restarts, steps of a commit, and refusals of the store.
 use crate::calls::{one_radio, two_radios};
-use crate::scripts::{JOINS, joint};
+use crate::scripts::{JOINS, join};
 use crate::worlds::{fresh_store, run_on, run_with, slots_after};
 use apd_base::Addr;
 use apd_conf::InterfaceName;
@@ -181,7 +181,7 @@ fn a_refusal_ends_a_script_at_its_next_flush(rt: HostRuntime) -> Result<(), Fail
         "rx wlan0 b00000000200000000010200000000aa0200000000011000000001000000\ntake\ncall\ncall\ncall\ncall\npublish\ntake\nrx wlan0\ncmd DENY_ACL CLEAR\ncmd PING\nhand\n";
     let want = "entry 2\nstopped\nctrl 10 FAIL\\n\nctrl 11 PONG\\n\n";
     for (last, fault) in [("", None), ("flush\ncmd PING\n", REFUSED)] {
-        let script = joint(alloc, &[lines, last])?;
+        let script = join(alloc, &[lines, last])?;
         let (told, out) = run_on_fuse(alloc, FUSE, script.as_slice())?;
         assert_eq!(rt; told, fault);
         assert_eq!(rt; out.as_slice(), want.as_bytes());

@@ -27,7 +27,7 @@ fn add(bytes: &mut Vec<u8>, group: &[u8], times: u32) -> Result<(), Fail> {
 }
 
 /// A device whose half A has so many groups of either kind, and its closed gate at a place of the half.
-fn worn(alloc: Global, cleared: u32, nothing: u32, gate: usize) -> Result<MemDisk, Fail> {
+fn worn_device(alloc: Global, cleared: u32, nothing: u32, gate: usize) -> Result<MemDisk, Fail> {
     let mut bytes = Vec::new(alloc);
     bytes.extend_from_slice(b"RAPSTOR2")?;
     bytes.resize(64, 0)?;
@@ -63,7 +63,7 @@ fn a_worn_store_ends_a_script_at_its_start_or_first_flush(rt: HostRuntime) -> Re
         (4, 209_699, 1_048_560, JOINS, WORN, "entry 2\n"),
         (1, 209_707, 1_048_561, "", WORN, ""),
     ] {
-        let disk = worn(alloc, cleared, nothing, gate)?;
+        let disk = worn_device(alloc, cleared, nothing, gate)?;
         let (told, out) = end_of(alloc, disk, script)?;
         assert_eq!(rt; told, fault, "{gate}");
         assert_eq!(rt; out.as_slice(), want.as_bytes(), "{gate}");

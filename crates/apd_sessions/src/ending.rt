@@ -42,6 +42,17 @@ pub fn say_left(rt: &impl Print, alloc: Global, disk: MemDisk) -> io::Result<()>
     say_shown(rt, found)
 }
 
+/// How many calls of a device there are from its last recovery on, which is a sync and the last read.
+fn count_since_recovery(calls: &[Call]) -> usize {
+    let mut place = 0;
+    for (at, call) in calls.iter().enumerate() {
+        if matches!(call, Call::Read(..)) {
+            place = at.saturating_sub(1);
+        }
+    }
+    calls.len().saturating_sub(place)
+}
+
 /// Prints the last calls of a device.
 pub fn say_calls(rt: &impl Print, calls: &[Call], count: usize) -> io::Result<()> {
     for call in calls.iter().skip(calls.len().saturating_sub(count)) {
@@ -69,11 +80,12 @@ fn parts(world: Memory) -> (MemDisk, Vec<Slot<Sim>>) {
     (flusher.into_device(), slots)
 }
 
-/// Ends a session: says which calls its steps made of the device, what the slots have, and what the device shows.
+/// Ends a session: says which calls its recovery and its steps made of the device, what the slots have, and what the
+/// device shows.
 pub fn end(rt: &impl Print, alloc: Global, world: Memory, calls: Calls) -> io::Result<()> {
     let (disk, slots) = parts(world);
     if !calls.failed {
-        say_calls(rt, disk.calls(), calls.made)?;
+        say_calls(rt, disk.calls(), count_since_recovery(disk.calls()))?;
         say_slots(rt, &slots)?;
     }
     say_left(rt, alloc, disk)

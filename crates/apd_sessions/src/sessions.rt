@@ -16,10 +16,7 @@ use std::fs::File;
 use std::io::{self, Write};
 use std::rt::Files;
 
-const NONE: Calls = Calls {
-    made: 0,
-    failed: false,
-};
+const NONE: Calls = Calls { failed: false };
 
 /// The requests of a session.
 #[derive(Clone, Copy, PartialEq, Eq)]

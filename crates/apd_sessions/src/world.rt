@@ -13,10 +13,9 @@ use std::io::{self, Write};
 /// A world on a device of memory, with radios that do nothing.
 pub type Memory = World<MemDisk, Sim>;
 
-/// How many calls of the device were answered well, and whether one failed.
+/// Whether a call of the device failed.
 #[derive(Clone, Copy, PartialEq, Eq)]
 pub struct Calls {
-    pub made: usize,
     pub failed: bool,
 }
 
@@ -85,10 +84,8 @@ fn make(rt: &impl Print, world: &mut Memory, step: &Step<'_>, calls: &mut Calls)
         return say_refusal(rt, fault);
     }
     writeln!(io::writer(rt), "{told:?}")?;
-    match told {
-        Told::Called(_) => calls.made = calls.made.saturating_add(1),
-        Told::Published(_) => say_table(rt, world.table())?,
-        _ => {}
+    if let Told::Published(_) = told {
+        say_table(rt, world.table())?;
     }
     Ok(())
 }

@@ -23,7 +23,11 @@ fn faults<D: Disk>(flusher: &mut Flusher<D>) -> Option<(StoreFault, StoreFault)>
 }
 
 // Why the turns behind so many fail, and the device.
-fn failing<D: Disk>(alloc: Global, disk: D, calls: u64) -> Option<((StoreFault, StoreFault), D)>
+fn faults_after<D: Disk>(
+    alloc: Global,
+    disk: D,
+    calls: u64,
+) -> Option<((StoreFault, StoreFault), D)>
 where
     D: Drop,
 {
@@ -37,7 +41,7 @@ where
 fn fail_once(alloc: Global, calls: u64, torn: Torn) -> Option<MemDisk> {
     // Behind two calls of the recovery.
     let disk = OnceDisk::new(both_open(alloc)?, calls.saturating_add(2));
-    let (faults, disk) = failing(alloc, disk, calls)?;
+    let (faults, disk) = faults_after(alloc, disk, calls)?;
     if faults == (StoreFault::Device, StoreFault::Failed) {
         Some(disk.into_inner().crash(torn))
     } else {
@@ -75,7 +79,7 @@ where
 }
 
 // Why a batch is refused where half A is full and of this epoch, and how many calls the device served.
-fn worn(alloc: Global, epoch: u64) -> Option<(StoreFault, usize)> {
+fn refusal_when_worn(alloc: Global, epoch: u64) -> Option<(StoreFault, usize)> {
     let half = full(alloc, epoch, POLICY, AUTHENTICATED, AUTHENTICATED)?;
     let (fault, disk) = refusal_on(alloc, device(alloc, &half, &[])?)?;
     Some((fault, disk.calls().len()))
@@ -85,6 +89,9 @@ fn worn(alloc: Global, epoch: u64) -> Option<(StoreFault, usize)> {
 #[test]
 fn the_last_epoch_has_no_next_one(rt: HostRuntime) {
     let alloc = rt.alloc();
-    assert_eq!(rt; worn(alloc, u64::MAX), Some((StoreFault::Worn, 2)));
-    assert_eq!(rt; worn(alloc, u64::MAX - 1), None);
+    assert_eq!(rt;
+        refusal_when_worn(alloc, u64::MAX),
+        Some((StoreFault::Worn, 2))
+    );
+    assert_eq!(rt; refusal_when_worn(alloc, u64::MAX - 1), None);
 }

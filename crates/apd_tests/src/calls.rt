@@ -5,7 +5,7 @@ use std::alloc::Global;
 use std::test::Fail;
 
 /// The built-in configuration.
-pub fn built_in(alloc: Global) -> Result<Conf, Fail> {
+pub fn built_in_conf(alloc: Global) -> Result<Conf, Fail> {
     Ok(Conf::built_in(alloc)?)
 }
 

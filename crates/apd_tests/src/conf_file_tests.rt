@@ -1,4 +1,4 @@
-use crate::calls::built_in;
+use crate::calls::built_in_conf;
 use apd_base::AclMode;
 use apd_conf::{AuthAlgs, Conf, ConfFault, HwMode, IgnoreBroadcastSsid, Required, read_conf};
 use std::alloc::Global;
@@ -28,7 +28,7 @@ wpa=0
 ";
 
 /// A configuration with all its fields.
-fn shown(alloc: Global, conf: &Conf) -> Result<String, Fail> {
+fn text_of(alloc: Global, conf: &Conf) -> Result<String, Fail> {
     Ok(format!(in alloc; "{conf:?}")?)
 }
 
@@ -47,8 +47,8 @@ fn fault_of(alloc: Global, file: &[u8]) -> Option<ConfFault> {
 
 #[test]
 fn the_example_is_the_built_in_configuration(rt: HostRuntime) -> Result<(), Fail> {
-    let read = shown(rt.alloc(), &conf_of(rt.alloc(), EXAMPLE)?)?;
-    let built_in = shown(rt.alloc(), &built_in(rt.alloc())?)?;
+    let read = text_of(rt.alloc(), &conf_of(rt.alloc(), EXAMPLE)?)?;
+    let built_in = text_of(rt.alloc(), &built_in_conf(rt.alloc())?)?;
     assert_eq!(rt; read.as_str(), built_in.as_str());
     Ok(())
 }

@@ -1,4 +1,4 @@
-use crate::calls::{addresses_of, built_in};
+use crate::calls::{addresses_of, built_in_conf};
 use apd_base::{AclMode, Addr, Bssid};
 use apd_conf::{Conf, ConfFault, Confs, ConfsFault, FileName, InterfaceName, ListFault, Required};
 use std::alloc::Global;
@@ -7,7 +7,7 @@ use std::test::Fail;
 
 #[test]
 fn the_built_in_policy_allows_all(rt: HostRuntime) -> Result<(), Fail> {
-    let conf = built_in(rt.alloc())?;
+    let conf = built_in_conf(rt.alloc())?;
     assert!(rt; conf.auth_algs.allows_open());
     assert_eq!(rt; conf.policy().max.number, 2007);
     assert_eq!(rt; conf.policy().mode, AclMode::AcceptUnlessDenied);
@@ -16,7 +16,7 @@ fn the_built_in_policy_allows_all(rt: HostRuntime) -> Result<(), Fail> {
 
 #[test]
 fn a_copy_has_the_names_of_both_list_files(rt: HostRuntime) -> Result<(), Fail> {
-    let mut conf = built_in(rt.alloc())?;
+    let mut conf = built_in_conf(rt.alloc())?;
     assert!(rt; FileName::is_name("a/accept"));
     assert!(rt; !FileName::is_name(""));
     conf.accept_mac_file = Some(FileName::new("a/accept", rt.alloc())?);
@@ -35,7 +35,7 @@ fn a_copy_has_the_names_of_both_list_files(rt: HostRuntime) -> Result<(), Fail> 
 fn a_copy_has_both_lists(rt: HostRuntime) -> Result<(), Fail> {
     let accept = addresses_of(rt.alloc(), b"02:00:00:00:00:aa")?;
     let deny = addresses_of(rt.alloc(), b"02:00:00:00:00:bb")?;
-    let mut conf = built_in(rt.alloc())?;
+    let mut conf = built_in_conf(rt.alloc())?;
     conf.set_lists(accept, deny);
     let copy = conf.copy(rt.alloc())?;
     assert_eq!(rt;
@@ -54,7 +54,7 @@ fn radios(rt: &impl Abort, alloc: Global, of: &[(&str, u8)]) -> Result<Vec<Conf>
     let mut list = Vec::new(alloc);
     for (name, last) in of {
         assert!(rt; InterfaceName::is_name(name.as_bytes()));
-        let mut conf = built_in(alloc)?;
+        let mut conf = built_in_conf(alloc)?;
         conf.interface = InterfaceName::new(name, alloc)?;
         conf.bssid = Bssid(Addr([2, 0, 0, 0, 0, *last]));
         list.push(conf)?;

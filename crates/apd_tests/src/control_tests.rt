@@ -1,4 +1,4 @@
-use crate::calls::built_in;
+use crate::calls::built_in_conf;
 use apd_base::{AclMode, Addr, Aid, Association, Bssid, Policy, Station, StationNumber, Which};
 use apd_conf::{Conf, Confs, Ssid};
 use apd_ctrl::{
@@ -21,12 +21,12 @@ const A: Addr = Addr([2, 0, 0, 0, 0, 0xaa]);
 const B: Addr = Addr([2, 0, 0, 0, 0, 0xab]);
 
 /// What a text is as a command.
-fn parsed(text: &[u8]) -> Parsed<'_> {
+fn parse(text: &[u8]) -> Parsed<'_> {
     parse_command(text)
 }
 
 /// The reply to a query.
-fn told(alloc: Global, table: &Table, confs: &Confs, query: Query) -> Result<Vec<u8>, Fail> {
+fn reply_to(alloc: Global, table: &Table, confs: &Confs, query: Query) -> Result<Vec<u8>, Fail> {
     Ok(reply(alloc, table, confs, query)?)
 }
 
@@ -43,7 +43,7 @@ fn queries_are_read(rt: HostRuntime) -> Result<(), Fail> {
         (b"DENY_ACL SHOW", Command::Show(Which::Deny)),
     ] {
         let interface = None;
-        assert_eq!(rt; parsed(text), Parsed::Command { interface, command });
+        assert_eq!(rt; parse(text), Parsed::Command { interface, command });
     }
     Ok(())
 }
@@ -62,7 +62,7 @@ fn dismissals_are_read(rt: HostRuntime) -> Result<(), Fail> {
             reason: Reason(reason),
         };
         let interface = None;
-        assert_eq!(rt; parsed(text), Parsed::Command { interface, command });
+        assert_eq!(rt; parse(text), Parsed::Command { interface, command });
     }
     let command = Command::Deauthenticate {
         to,
@@ -93,7 +93,7 @@ fn list_edits_are_read(rt: HostRuntime) -> Result<(), Fail> {
     ] {
         let command = Command::ListEdit { which, edit };
         let interface = None;
-        assert_eq!(rt; parsed(text), Parsed::Command { interface, command });
+        assert_eq!(rt; parse(text), Parsed::Command { interface, command });
     }
     Ok(())
 }
@@ -107,7 +107,7 @@ fn an_interface_is_named(rt: HostRuntime) -> Result<(), Fail> {
         (b"IFNAME=a=b PING", b"a=b"),
     ] {
         let interface = Some(name);
-        assert_eq!(rt; parsed(text), Parsed::Command { interface, command });
+        assert_eq!(rt; parse(text), Parsed::Command { interface, command });
     }
     Ok(())
 }
@@ -129,9 +129,9 @@ fn words_are_unknown(rt: HostRuntime) -> Result<(), Fail> {
         b"IFNAME=a IFNAME=b PING",
         b"ifname=a PING",
     ] {
-        assert_eq!(rt; parsed(text), Parsed::Unknown);
+        assert_eq!(rt; parse(text), Parsed::Unknown);
     }
-    assert_eq!(rt; parsed(b"FOO").refusal(), Some(UNKNOWN_COMMAND));
+    assert_eq!(rt; parse(b"FOO").refusal(), Some(UNKNOWN_COMMAND));
     assert_eq!(rt; UNKNOWN_COMMAND, b"UNKNOWN COMMAND\n".as_slice());
     Ok(())
 }
@@ -150,10 +150,10 @@ fn arguments_fail(rt: HostRuntime) -> Result<(), Fail> {
         b"ACCEPT_ACL ADD_MAC",
         b"IFNAME=x STA",
     ] {
-        assert_eq!(rt; parsed(text), Parsed::Fail);
+        assert_eq!(rt; parse(text), Parsed::Fail);
     }
-    assert_eq!(rt; parsed(b"STA").refusal(), Some(FAIL));
-    assert_eq!(rt; parsed(b"PING").refusal(), None);
+    assert_eq!(rt; parse(b"STA").refusal(), Some(FAIL));
+    assert_eq!(rt; parse(b"PING").refusal(), None);
     assert_eq!(rt; FAIL, b"FAIL\n".as_slice());
     Ok(())
 }
@@ -170,7 +170,7 @@ fn reasons_fail(rt: HostRuntime) -> Result<(), Fail> {
         b"DEAUTHENTICATE  02:00:00:00:00:aa",
         b"DEAUTHENTICATE reason=1",
     ] {
-        assert_eq!(rt; parsed(text), Parsed::Fail);
+        assert_eq!(rt; parse(text), Parsed::Fail);
     }
     Ok(())
 }
@@ -190,13 +190,13 @@ fn long(alloc: Global, bytes: usize) -> Result<Vec<u8>, Fail> {
 fn the_newline_is_not_counted(rt: HostRuntime) -> Result<(), Fail> {
     let mut text = long(rt.alloc(), 4084)?;
     assert_eq!(rt; text.len(), 4096);
-    assert!(rt; matches!(parsed(&text), Parsed::Command { .. }));
+    assert!(rt; matches!(parse(&text), Parsed::Command { .. }));
     text.push(b'\n')?;
-    assert!(rt; matches!(parsed(&text), Parsed::Command { .. }));
+    assert!(rt; matches!(parse(&text), Parsed::Command { .. }));
     text.push(b'\n')?;
-    assert_eq!(rt; parsed(&text), Parsed::Fail);
+    assert_eq!(rt; parse(&text), Parsed::Fail);
     let text = long(rt.alloc(), 4085)?;
-    assert_eq!(rt; parsed(&text), Parsed::Fail);
+    assert_eq!(rt; parse(&text), Parsed::Fail);
     Ok(())
 }
 
@@ -206,7 +206,7 @@ fn refuses(rt: &impl Abort, alloc: Global, bytes: usize, want: &[u8]) -> Result<
     for _ in 0..bytes {
         text.push(b'x')?;
     }
-    assert_eq!(rt; parsed(&text).refusal(), Some(want));
+    assert_eq!(rt; parse(&text).refusal(), Some(want));
     Ok(())
 }
 
@@ -243,7 +243,7 @@ fn commands_are_placed(rt: HostRuntime) -> Result<(), Fail> {
 }
 
 // A configuration alone.
-fn alone(alloc: Global, conf: Conf) -> Result<Confs, Fail> {
+fn confs_with(alloc: Global, conf: Conf) -> Result<Confs, Fail> {
     let mut list = Vec::new(alloc);
     list.push(conf)?;
     Ok(Confs::new(list)?)
@@ -260,9 +260,9 @@ fn change(table: &mut Table, change: &Change) -> Result<(), Fail> {
 // The built-in configuration alone, with another name of the network.
 fn confs(rt: &impl Abort, alloc: Global, ssid: &[u8]) -> Result<Confs, Fail> {
     assert!(rt; Ssid::is_name(ssid));
-    let mut conf = built_in(alloc)?;
+    let mut conf = built_in_conf(alloc)?;
     conf.ssid = Ssid::new(ssid, alloc)?;
-    alone(alloc, conf)
+    confs_with(alloc, conf)
 }
 
 // One station, associated with identifier 1, capability 0x431 and listen interval 10, and one more that is
@@ -322,7 +322,7 @@ fn stations_are_told(rt: HostRuntime) -> Result<(), Fail> {
         (Query::First(OTHER), b"FAIL\n"),
         (Query::Ping, b"PONG\n"),
     ] {
-        let text = told(rt.alloc(), &table, &confs, query)?;
+        let text = reply_to(rt.alloc(), &table, &confs, query)?;
         assert_eq!(rt; text.as_slice(), want);
     }
     Ok(())
@@ -339,7 +339,7 @@ fn an_empty_table_tells_nothing(rt: HostRuntime) -> Result<(), Fail> {
         (Query::Show(BSSID, Which::Deny), b""),
         (Query::Show(OTHER, Which::Deny), b"FAIL\n"),
     ] {
-        let text = told(rt.alloc(), &table, &confs, query)?;
+        let text = reply_to(rt.alloc(), &table, &confs, query)?;
         assert_eq!(rt; text.as_slice(), want);
     }
     Ok(())
@@ -349,7 +349,7 @@ fn an_empty_table_tells_nothing(rt: HostRuntime) -> Result<(), Fail> {
 fn lists_are_told_in_order(rt: HostRuntime) -> Result<(), Fail> {
     let confs = confs(&rt, rt.alloc(), b"net")?;
     let table = table(rt.alloc())?;
-    let accepted = told(
+    let accepted = reply_to(
         rt.alloc(),
         &table,
         &confs,
@@ -359,7 +359,7 @@ fn lists_are_told_in_order(rt: HostRuntime) -> Result<(), Fail> {
         accepted.as_slice(),
         b"02:00:00:00:00:aa VLAN_ID=0\n02:00:00:00:00:ab VLAN_ID=0\n".as_slice()
     );
-    let denied = told(rt.alloc(), &table, &confs, Query::Show(BSSID, Which::Deny))?;
+    let denied = reply_to(rt.alloc(), &table, &confs, Query::Show(BSSID, Which::Deny))?;
     assert_eq!(rt; denied.as_slice(), b"".as_slice());
     Ok(())
 }
@@ -369,13 +369,13 @@ fn the_status_is_told(rt: HostRuntime) -> Result<(), Fail> {
     let alloc = rt.alloc();
     let table = table(alloc)?;
     let net = confs(&rt, alloc, b"net")?;
-    let up = told(alloc, &table, &net, Query::Status(BSSID, true))?;
+    let up = reply_to(alloc, &table, &net, Query::Status(BSSID, true))?;
     assert_eq!(rt;
         up.as_slice(),
         b"state=ENABLED\nchannel=6\nbeacon_int=100\nbss[0]=wlan0\nbssid[0]=02:00:00:00:00:01\nssid[0]=net\nnum_sta[0]=2\n".as_slice()
     );
     let odd = confs(&rt, alloc, b"\"\\\n\r\t\x1b ~\x7f\x00\xff")?;
-    let down = told(alloc, &table, &odd, Query::Status(BSSID, false))?;
+    let down = reply_to(alloc, &table, &odd, Query::Status(BSSID, false))?;
     assert_eq!(rt;
         down.as_slice(),
         b"state=DISABLED\nchannel=6\nbeacon_int=100\nbss[0]=wlan0\nbssid[0]=02:00:00:00:00:01\nssid[0]=\\\"\\\\\\n\\r\\t\\e ~\\x7f\\x00\\xff\nnum_sta[0]=2\n".as_slice()

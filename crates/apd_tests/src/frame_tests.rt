@@ -27,11 +27,11 @@ const AUTHENTICATION: [u8; 30] = [
 ];
 
 /// What bytes are to the radio.
-fn decoded(bytes: &[u8]) -> Result<Frame<'_>, Ignored> {
+fn decode_heard(bytes: &[u8]) -> Result<Frame<'_>, Ignored> {
     decode(bytes, OWN)
 }
 
-fn framed(
+fn frame_of(
     alloc: Global,
     control: [u8; 2],
     fixed: &[u8],
@@ -52,8 +52,8 @@ fn decodes(
     fixed: &[u8],
     frame: Frame<'_>,
 ) -> Result<(), Fail> {
-    let bytes = framed(alloc, control, fixed, &ELEMENTS)?;
-    assert_eq!(rt; decoded(bytes.as_slice()), Ok(frame));
+    let bytes = frame_of(alloc, control, fixed, &ELEMENTS)?;
+    assert_eq!(rt; decode_heard(bytes.as_slice()), Ok(frame));
     assert_eq!(rt; frame.sender(), STATION);
     Ok(())
 }
@@ -140,7 +140,7 @@ fn tells_the_first_reason(rt: HostRuntime) {
         if let Some(byte) = frame.get_mut(place) {
             *byte = value;
         }
-        assert_eq!(rt; decoded(&frame), Err(reason), "{value} at {place}");
+        assert_eq!(rt; decode_heard(&frame), Err(reason), "{value} at {place}");
     }
 }
 
@@ -151,8 +151,8 @@ fn looks_at_no_other_bit(rt: HostRuntime) {
         if let Some(byte) = frame.get_mut(place) {
             *byte = value;
         }
-        let frame = decoded(&frame);
-        assert_eq!(rt; frame, decoded(&AUTHENTICATION), "{value} at {place}");
+        let frame = decode_heard(&frame);
+        assert_eq!(rt; frame, decode_heard(&AUTHENTICATION), "{value} at {place}");
     }
     let mut data = AUTHENTICATION;
     for (place, value) in [(0, 0xf8), (1, 0xf9), (16, 0xff), (21, 0x02)] {
@@ -160,11 +160,11 @@ fn looks_at_no_other_bit(rt: HostRuntime) {
             *byte = value;
         }
     }
-    assert_eq!(rt; decoded(&data), Ok(Frame::Uplink { sender: STATION }));
+    assert_eq!(rt; decode_heard(&data), Ok(Frame::Uplink { sender: STATION }));
 }
 
 fn reason_of(bytes: &[u8]) -> Option<Ignored> {
-    decoded(bytes).err()
+    decode_heard(bytes).err()
 }
 
 #[test]
@@ -178,7 +178,7 @@ fn tells_the_length(rt: HostRuntime) -> Result<(), Fail> {
         ([0xc0, 0], 2),
         ([0x08, 1], 0),
     ] {
-        let bytes = framed(rt.alloc(), control, &[0; 15], &[])?;
+        let bytes = frame_of(rt.alloc(), control, &[0; 15], &[])?;
         for length in 0..=bytes.len() {
             let Some(front) = bytes.get(..length) else {
                 continue;
@@ -210,13 +210,13 @@ fn a_probe_request_may_be_for_all(rt: HostRuntime) {
         sender: STATION,
         elements: &[],
     });
-    assert_eq!(rt; decoded(&PROBE), Ok(frame));
+    assert_eq!(rt; decode_heard(&PROBE), Ok(frame));
     let mut other = PROBE;
     other[9] = 0xfe;
-    assert_eq!(rt; decoded(&other), Err(Ignored::Receiver));
+    assert_eq!(rt; decode_heard(&other), Err(Ignored::Receiver));
     let mut association = PROBE;
     association[0] = 0;
-    assert_eq!(rt; decoded(&association), Err(Ignored::Receiver));
+    assert_eq!(rt; decode_heard(&association), Err(Ignored::Receiver));
 }
 
 #[test]
@@ -255,7 +255,7 @@ fn reads_whole_elements(rt: HostRuntime) {
 }
 
 // The bytes of a reply to the station.
-fn encoded(alloc: Global, body: ReplyBody) -> Result<Vec<u8>, AllocError> {
+fn encode_body(alloc: Global, body: ReplyBody) -> Result<Vec<u8>, AllocError> {
     let reply = Reply {
         to: STATION,
         bssid: OWN,
@@ -273,7 +273,7 @@ fn encodes(
     want: &[u8],
 ) -> Result<(), Fail> {
     const ADDRESSES: [u8; 18] = [2, 0, 0, 0, 0, 0xaa, 2, 0, 0, 0, 0, 1, 2, 0, 0, 0, 0, 1];
-    let frame = encoded(alloc, body)?;
+    let frame = encode_body(alloc, body)?;
     assert_eq!(rt; frame.get(..4), Some([kind, 0, 0, 0].as_slice()));
     assert_eq!(rt; frame.get(4..22), Some(ADDRESSES.as_slice()));
     assert_eq!(rt; frame.get(22..24), Some([0, 0].as_slice()));
@@ -355,7 +355,7 @@ fn encodes_a_probe_response(rt: HostRuntime) -> Result<(), Fail> {
             rates,
             channel,
         };
-        let frame = encoded(rt.alloc(), body)?;
+        let frame = encode_body(rt.alloc(), body)?;
         assert_eq!(rt; frame.get(..1), Some([0x50].as_slice()));
         assert_eq!(rt;
             frame.get(24..36),

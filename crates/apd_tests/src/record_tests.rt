@@ -40,7 +40,7 @@ fn put(station: Station) -> Change {
     }
 }
 
-fn associated(number: u16) -> Option<Change> {
+fn associated_row(number: u16) -> Option<Change> {
     Some(put(Station::Associated(Association {
         aid: Aid::new(number)?,
         capability: 0x0421,
@@ -113,7 +113,7 @@ fn is_none(alloc: Global, bytes: &[u8]) -> Result<bool, AllocError> {
 fn the_table_of_records(rt: HostRuntime) -> Result<(), Fail> {
     let alloc = rt.alloc();
     assert!(rt; is_record(alloc, put(Station::Authenticated), &AUTHENTICATED)?);
-    let change = associated(2007).ok_or("2007 is an identifier")?;
+    let change = associated_row(2007).ok_or("2007 is an identifier")?;
     assert!(rt; is_record(alloc, change, &ASSOCIATED)?);
     assert!(rt; is_record(alloc, drop_row(), &DROP)?);
     assert!(rt; is_record(alloc, list_add(), &LIST_ADD)?);

@@ -23,7 +23,7 @@ fn policy_of(bssid: Bssid, mode: AclMode) -> Result<Change, Fail> {
     Ok(Change::Policy { bssid, policy })
 }
 
-fn associated(addr: Addr, number: u16) -> Result<Change, Fail> {
+fn associated_row(addr: Addr, number: u16) -> Result<Change, Fail> {
     let station = Station::Associated(Association {
         aid: Aid::new(number).ok_or("identifier")?,
         capability: 1,
@@ -36,7 +36,7 @@ fn associated(addr: Addr, number: u16) -> Result<Change, Fail> {
     })
 }
 
-fn authenticated(addr: Addr) -> Change {
+fn authenticated_row(addr: Addr) -> Change {
     Change::Put {
         bssid: BSSID,
         addr,
@@ -49,7 +49,7 @@ fn stations_and_policies_are_changed(rt: HostRuntime) -> Result<(), Fail> {
     let open = policy_of(BSSID, AclMode::AcceptUnlessDenied)?;
     let closed = policy_of(BSSID, AclMode::DenyUnlessAccepted)?;
     let mut table = Table::new(rt.alloc());
-    let put = authenticated(FIRST);
+    let put = authenticated_row(FIRST);
     assert_eq!(rt; apply(&mut table, &put), Err(TableFault::Invalid));
     assert_eq!(rt; apply(&mut table, &open), Ok(()));
     assert_eq!(rt; apply(&mut table, &put), Ok(()));
@@ -83,7 +83,7 @@ fn lists_are_changed(rt: HostRuntime) -> Result<(), Fail> {
     );
     let open = policy_of(BSSID, AclMode::AcceptUnlessDenied)?;
     assert_eq!(rt; apply(&mut table, &open), Ok(()));
-    assert_eq!(rt; apply(&mut table, &authenticated(addr)), Ok(()));
+    assert_eq!(rt; apply(&mut table, &authenticated_row(addr)), Ok(()));
     assert_eq!(rt;
         apply(&mut table, &add(Which::Deny)),
         Err(TableFault::Invalid)
@@ -112,9 +112,9 @@ fn rows_are_told(rt: HostRuntime) -> Result<(), Fail> {
     let mut table = Table::new(rt.alloc());
     let open = policy_of(BSSID, AclMode::AcceptUnlessDenied)?;
     assert_eq!(rt; apply(&mut table, &open), Ok(()));
-    assert_eq!(rt; apply(&mut table, &associated(SECOND, 1)?), Ok(()));
+    assert_eq!(rt; apply(&mut table, &associated_row(SECOND, 1)?), Ok(()));
     assert_eq!(rt; table.least_free(BSSID), Some(2));
-    assert_eq!(rt; apply(&mut table, &authenticated(FIRST)), Ok(()));
+    assert_eq!(rt; apply(&mut table, &authenticated_row(FIRST)), Ok(()));
     assert_eq!(rt; table.first(BSSID), Some((FIRST, Station::Authenticated)));
     let (next, _) = table.next(BSSID, FIRST).ok_or("next")?;
     assert_eq!(rt; next, SECOND);
@@ -132,8 +132,8 @@ fn addresses_are_told(rt: HostRuntime) -> Result<(), Fail> {
     let mut table = Table::new(rt.alloc());
     let open = policy_of(BSSID, AclMode::AcceptUnlessDenied)?;
     assert_eq!(rt; apply(&mut table, &open), Ok(()));
-    assert_eq!(rt; apply(&mut table, &associated(SECOND, 1)?), Ok(()));
-    assert_eq!(rt; apply(&mut table, &authenticated(FIRST)), Ok(()));
+    assert_eq!(rt; apply(&mut table, &associated_row(SECOND, 1)?), Ok(()));
+    assert_eq!(rt; apply(&mut table, &authenticated_row(FIRST)), Ok(()));
     let all = table.addresses(rt.alloc(), BSSID)?;
     assert_eq!(rt; all.as_slice(), [FIRST, SECOND].as_slice());
     let deny = Change::ListAdd {
@@ -247,7 +247,7 @@ fn apply_all(alloc: Global, table: &mut Table, changes: &[Change]) -> Result<(),
 }
 
 // How many addresses are on the lists of the BSSID.
-fn listed(table: &Table) -> Option<(usize, usize)> {
+fn list_lengths(table: &Table) -> Option<(usize, usize)> {
     let lists = table.lists(BSSID)?;
     Some((lists.len(Which::Accept), lists.len(Which::Deny)))
 }
@@ -260,11 +260,11 @@ fn a_first_start_has_1024_addresses_on_each_list_and_no_more(rt: HostRuntime) ->
         let more = first_start(alloc, accept, deny)?;
         let answer = apply_all(alloc, &mut table, more.as_slice());
         assert_eq!(rt; answer, Err(TableFault::Invalid));
-        assert_eq!(rt; listed(&table), None);
+        assert_eq!(rt; list_lengths(&table), None);
     }
     let most = first_start(alloc, 1024, 1024)?;
     assert_eq!(rt; apply_all(alloc, &mut table, most.as_slice()), Ok(()));
-    assert_eq!(rt; listed(&table), Some((1024, 1024)));
+    assert_eq!(rt; list_lengths(&table), Some((1024, 1024)));
     for which in [Which::Accept, Which::Deny] {
         let answer = apply(&mut table, &add(which, 1024));
         assert_eq!(rt; answer, Err(TableFault::Invalid));
@@ -278,7 +278,7 @@ fn a_first_start_has_1024_addresses_on_each_list_and_no_more(rt: HostRuntime) ->
     };
     assert_eq!(rt; apply(&mut table, &take), Ok(()));
     assert_eq!(rt; apply(&mut table, &add(Which::Deny, 1024)), Ok(()));
-    assert_eq!(rt; listed(&table), Some((1024, 1024)));
+    assert_eq!(rt; list_lengths(&table), Some((1024, 1024)));
     Ok(())
 }
 
@@ -286,8 +286,8 @@ fn a_first_start_has_1024_addresses_on_each_list_and_no_more(rt: HostRuntime) ->
 fn three_rows(alloc: Global) -> Result<Table, Fail> {
     let mut table = Table::new(alloc);
     fill(&mut table, BSSID, 1)?;
-    apply(&mut table, &associated(FIRST, 1)?)?;
-    apply(&mut table, &authenticated(SECOND))?;
+    apply(&mut table, &associated_row(FIRST, 1)?)?;
+    apply(&mut table, &authenticated_row(SECOND))?;
     Ok(table)
 }
 
@@ -323,7 +323,7 @@ fn an_association_moves(rt: HostRuntime) -> Result<(), Fail> {
         addr: FIRST,
         station: old.ok_or("a row")?,
     };
-    let changes = [authenticated(FIRST), moved];
+    let changes = [authenticated_row(FIRST), moved];
     // The other BSSID has no policy.
     let answer = apply_all(alloc, &mut table, &changes);
     assert_eq!(rt; answer, Err(TableFault::Invalid));
@@ -347,7 +347,7 @@ fn next_free(table: &Table, bssid: Bssid) -> Option<u16> {
 }
 
 // Two BSSIDs, of which the second gave no identifier yet, with a list and the rows of stations.
-fn pointed(alloc: Global) -> Result<Table, Fail> {
+fn table_with_cursor(alloc: Global) -> Result<Table, Fail> {
     let mut table = three_rows(alloc)?;
     apply(&mut table, &add(Which::Accept, 9))?;
     apply(&mut table, &open(bssid_of(0))?)?;
@@ -358,7 +358,7 @@ fn pointed(alloc: Global) -> Result<Table, Fail> {
 #[test]
 fn a_copy_has_the_cursors(rt: HostRuntime) -> Result<(), Fail> {
     let alloc = rt.alloc();
-    let copy = pointed(alloc)?.copy(alloc)?;
+    let copy = table_with_cursor(alloc)?.copy(alloc)?;
     assert_eq!(rt; next_free(&copy, BSSID), Some(2007));
     Ok(())
 }
@@ -374,7 +374,7 @@ fn first_four(changes: &[Change]) -> Option<[Change; 4]> {
 #[test]
 fn a_snapshot_has_the_cursors_behind_the_policies(rt: HostRuntime) -> Result<(), Fail> {
     let alloc = rt.alloc();
-    let changes = pointed(alloc)?.snapshot(alloc)?;
+    let changes = table_with_cursor(alloc)?.snapshot(alloc)?;
     let front = first_four(changes.as_slice()).ok_or("four changes")?;
     let other = open(bssid_of(0))?;
     let last = point(BSSID, 2006)?;
@@ -396,7 +396,7 @@ fn read_back(alloc: Global, changes: &[Change]) -> Result<Table, Fail> {
 #[test]
 fn cursors_are_read_back(rt: HostRuntime) -> Result<(), Fail> {
     let alloc = rt.alloc();
-    let changes = pointed(alloc)?.snapshot(alloc)?;
+    let changes = table_with_cursor(alloc)?.snapshot(alloc)?;
     let table = read_back(alloc, changes.as_slice())?;
     assert_eq!(rt; next_free(&table, BSSID), Some(2007));
     assert_eq!(rt; next_free(&table, bssid_of(0)), Some(1));
@@ -408,7 +408,7 @@ fn cursors_are_read_back(rt: HostRuntime) -> Result<(), Fail> {
 #[test]
 fn a_cursor_comes_behind_other_changes(rt: HostRuntime) -> Result<(), Fail> {
     let alloc = rt.alloc();
-    let mut table = pointed(alloc)?;
+    let mut table = table_with_cursor(alloc)?;
     let given = point(bssid_of(0), 1)?;
     let moved = Change::Put {
         bssid: bssid_of(0),
@@ -419,7 +419,7 @@ fn a_cursor_comes_behind_other_changes(rt: HostRuntime) -> Result<(), Fail> {
     let answer = apply_all(alloc, &mut table, &[moved, given]);
     assert_eq!(rt; answer, Err(TableFault::Invalid));
     assert_eq!(rt; next_free(&table, bssid_of(0)), Some(1));
-    let changes = [authenticated(FIRST), moved, given];
+    let changes = [authenticated_row(FIRST), moved, given];
     assert_eq!(rt; apply_all(alloc, &mut table, &changes), Ok(()));
     assert_eq!(rt; next_free(&table, bssid_of(0)), Some(2));
     // A third BSSID has no policy, and then gets it by the same changes.
@@ -434,7 +434,7 @@ fn a_cursor_comes_behind_other_changes(rt: HostRuntime) -> Result<(), Fail> {
 }
 
 // A table with another beside it.
-fn staged(alloc: Global, table: Table) -> Result<Staged, Fail> {
+fn stage_table(alloc: Global, table: Table) -> Result<Staged, Fail> {
     match Staged::new(alloc, table) {
         Ok(staged) => Ok(staged),
         Err(_) => Err(Fail::new("no memory for a second table")),
@@ -454,12 +454,12 @@ fn rows(staged: &Staged) -> usize {
 #[test]
 fn changes_are_staged_and_committed(rt: HostRuntime) -> Result<(), Fail> {
     let alloc = rt.alloc();
-    let mut tables = staged(alloc, Table::new(alloc))?;
+    let mut tables = stage_table(alloc, Table::new(alloc))?;
     let start = first_start(alloc, 2, 1)?;
     assert_eq!(rt; stage(alloc, &mut tables, start.as_slice()), Ok(()));
-    assert_eq!(rt; listed(tables.table()), None);
+    assert_eq!(rt; list_lengths(tables.table()), None);
     tables.commit();
-    assert_eq!(rt; listed(tables.table()), Some((2, 1)));
+    assert_eq!(rt; list_lengths(tables.table()), Some((2, 1)));
     for number in 1..5 {
         let put = [row(BSSID, number)];
         assert_eq!(rt; stage(alloc, &mut tables, &put), Ok(()));
@@ -470,7 +470,7 @@ fn changes_are_staged_and_committed(rt: HostRuntime) -> Result<(), Fail> {
     // Nothing is staged.
     tables.commit();
     assert_eq!(rt; rows(&tables), 4);
-    assert_eq!(rt; listed(&tables.into_table()), Some((2, 1)));
+    assert_eq!(rt; list_lengths(&tables.into_table()), Some((2, 1)));
     Ok(())
 }
 
@@ -479,7 +479,7 @@ fn changes_are_staged_behind_a_refusal_and_in_the_place_of_others(
     rt: HostRuntime,
 ) -> Result<(), Fail> {
     let alloc = rt.alloc();
-    let mut tables = staged(alloc, three_rows(alloc)?)?;
+    let mut tables = stage_table(alloc, three_rows(alloc)?)?;
     let good = [row(BSSID, 1), row(BSSID, 2)];
     // Number 3 is put before the refusal.
     let bad = [row(BSSID, 3), row(bssid_of(0), 4)];

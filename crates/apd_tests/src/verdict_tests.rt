@@ -1,5 +1,5 @@
 //! The largest events, each once: a contract can't say that memory and time are left for them.
-use crate::calls::{addresses_of, built_in};
+use crate::calls::{addresses_of, built_in_conf};
 use apd_base::{AclMode, Addr, Aid, Association, Bssid, Policy, Station, StationNumber, Which};
 use apd_conf::Confs;
 use apd_mlme::{Decision, Event, Out, decide};
@@ -19,7 +19,7 @@ fn address(range: u8, number: u16) -> Addr {
 
 // The built-in configuration, in another mode.
 fn confs(alloc: Global, mode: AclMode) -> Result<Confs, Fail> {
-    let mut conf = built_in(alloc)?;
+    let mut conf = built_in_conf(alloc)?;
     conf.macaddr_acl = mode;
     let mut list = Vec::new(alloc);
     list.push(conf)?;
@@ -70,7 +70,7 @@ fn make(table: &mut Table, changes: &[Change]) -> Result<(), Fail> {
 }
 
 // How many addresses both lists of the radio have.
-fn listed(table: &Table) -> Option<[usize; 2]> {
+fn list_lengths(table: &Table) -> Option<[usize; 2]> {
     let lists = table.lists(RADIO)?;
     Some([lists.len(Which::Accept), lists.len(Which::Deny)])
 }
@@ -94,7 +94,7 @@ fn a_first_start_with_two_full_lists(rt: HostRuntime) -> Result<(), Fail> {
     assert_eq!(rt; (changes.len(), decision.outs.len()), (2_049, 0));
     assert_eq!(rt; write(alloc, changes)?.len(), 28_682);
     make(&mut table, changes)?;
-    assert_eq!(rt; listed(&table), Some([1024, 1024]));
+    assert_eq!(rt; list_lengths(&table), Some([1024, 1024]));
     Ok(())
 }
 
@@ -152,7 +152,7 @@ fn is_deauthentication(out: &Out, station: Addr) -> bool {
 }
 
 // How many of the outs deauthenticate the stations in their order, each once.
-fn deauthenticated(decision: &Decision) -> u16 {
+fn count_deauthentications(decision: &Decision) -> u16 {
     let mut next = 0;
     for (_, out) in decision.outs.as_slice() {
         if next < 2007 && is_deauthentication(out, address(1, next)) {
@@ -171,7 +171,7 @@ fn a_start_that_drops_2007_stations(rt: HostRuntime) -> Result<(), Fail> {
     let decision = start(&rt, alloc, &table, &confs, [b"", b""])?;
     let changes = decision.changes.as_slice();
     assert_eq!(rt; (changes.len(), decision.outs.len()), (2_008, 2_008));
-    assert_eq!(rt; deauthenticated(&decision), 2007);
+    assert_eq!(rt; count_deauthentications(&decision), 2007);
     make(&mut table, changes)?;
     assert_eq!(rt; table.count(RADIO), 0);
     assert_eq!(rt; table.policy(RADIO), Some((1, 2007)));

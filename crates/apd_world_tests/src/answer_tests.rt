@@ -4,7 +4,7 @@ use crate::calls::{
     start_answers,
 };
 use crate::steps::{ASSOCIATES, ASSOCIATION, AUTHENTICATES, STATION, WLAN0};
-use crate::worlds::{conf, failing, start_with, start_world, stop_after};
+use crate::worlds::{conf, failing_radio, start_with, start_world, stop_after};
 use apd_base::AclMode;
 use apd_conf::Confs;
 use apd_disk::MemDisk;
@@ -87,7 +87,7 @@ fn flush_after(alloc: Global, world: &mut Failed, steps: &[Step<'static>]) -> Op
 
 /// What a flush answers once a station has authenticated and associated, over a radio that passes so many calls.
 fn flush(alloc: Global, calls: u64) -> Option<Vec<Answer>> {
-    let mut world = start_with(alloc, &[1], failing(alloc, calls)?)?;
+    let mut world = start_with(alloc, &[1], failing_radio(alloc, calls)?)?;
     flush_after(alloc, &mut world, &[AUTHENTICATES, ASSOCIATES])
 }
 
@@ -103,7 +103,7 @@ fn hand_out_after(
 
 /// What a hand-out answers once that is committed.
 fn hand_out(alloc: Global, calls: u64) -> Option<Vec<Answer>> {
-    let mut world = start_with(alloc, &[1], failing(alloc, calls)?)?;
+    let mut world = start_with(alloc, &[1], failing_radio(alloc, calls)?)?;
     hand_out_after(alloc, &mut world, &ASSOCIATION)
 }
 
@@ -157,7 +157,7 @@ fn all_tell(alloc: Global, world: &mut Failed) -> Option<[bool; 4]> {
 }
 
 fn flushes(alloc: Global) -> Option<[bool; 4]> {
-    let mut world = start_with(alloc, &[1], failing(alloc, 1)?)?;
+    let mut world = start_with(alloc, &[1], failing_radio(alloc, 1)?)?;
     all_tell(alloc, &mut world)
 }
 
@@ -187,7 +187,7 @@ fn begin(alloc: Global) -> Option<Failed> {
         alloc,
         device(alloc)?,
         strict_confs(alloc)?,
-        failing(alloc, 1)?,
+        failing_radio(alloc, 1)?,
     )
     .ok()
 }

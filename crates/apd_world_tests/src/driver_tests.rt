@@ -21,7 +21,7 @@ fn recorder(alloc: Global, bssid: Bssid, written: &mut Vec<u8>) -> Recorded<'_> 
 }
 
 /// Slots for two BSSIDs. What their radios are told is written.
-fn both<'a>(
+fn two_slots<'a>(
     alloc: Global,
     first: &'a mut Vec<u8>,
     second: &'a mut Vec<u8>,
@@ -39,7 +39,7 @@ fn device_after(
     first: &mut Vec<u8>,
     second: &mut Vec<u8>,
 ) -> Option<MemDisk> {
-    let slots = both(alloc, first, second)?;
+    let slots = two_slots(alloc, first, second)?;
     stop_after(start_with(alloc, &[1, 2], slots)?, steps)
 }
 

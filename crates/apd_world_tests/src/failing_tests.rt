@@ -1,7 +1,7 @@
 //! Radios whose device fails in a run.
 use crate::calls::{slots_of, tell};
 use crate::steps::{ASSOCIATES, AT_WLAN0, AUTHENTICATES, STATION, TO_WLAN0};
-use crate::worlds::{failing, start_with};
+use crate::worlds::{failing_radio, start_with};
 use apd_radio::Radio;
 use apd_slot::{Slot, SlotFault};
 use apd_world::{Step, Told};
@@ -51,7 +51,7 @@ fn look<R: Radio>(slots: &[Slot<R>]) -> Option<Seen> {
 
 /// What a radio's slot answers, and is seen of it then.
 fn run(alloc: Global, calls: u64) -> Option<([Option<SlotFault>; 3], Option<Seen>)> {
-    let mut world = start_with(alloc, &[1], failing(alloc, calls)?)?;
+    let mut world = start_with(alloc, &[1], failing_radio(alloc, calls)?)?;
     let answers = answers(tell(&mut world, &ASSOCIATED)?.as_slice());
     Some((answers, look(&slots_of(world))))
 }

@@ -1,7 +1,7 @@
 //! Flushes over a device that fails: they end by the store's fault, and never by want of memory.
 use crate::calls::{blank_disk, flush_answers, hand_out_answers, makes, refusal};
 use crate::steps::AUTHENTICATES;
-use crate::worlds::{failing, new_world, sims};
+use crate::worlds::{failing_radio, new_world, sims};
 use apd_disk::{Disk, FuseDisk, OnceDisk};
 use apd_radio::Radio;
 use apd_slot::Slot;
@@ -57,7 +57,7 @@ fn over_once(alloc: Global, passes: u64) -> Option<Refusals> {
 /// The same, with a radio that fails at once.
 fn over_both(alloc: Global, passes: u64) -> Option<Refusals> {
     let disk = OnceDisk::new(blank_disk(alloc)?, passes);
-    refusals_over(alloc, disk, failing(alloc, 0)?)
+    refusals_over(alloc, disk, failing_radio(alloc, 0)?)
 }
 
 // The store is formatted by seven calls, and a batch is committed by four: that of the start, and the station's.

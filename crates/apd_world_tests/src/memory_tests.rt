@@ -62,7 +62,7 @@ fn slots_behind(fault: WorldFault) -> Option<[Seen; 2]> {
     }
 }
 
-fn both(alloc: Global) -> Option<Confs> {
+fn two_confs(alloc: Global) -> Option<Confs> {
     match confs(alloc, &[1, 2]) {
         Some(confs) => Some(confs),
         None => confs(alloc, &[1, 2]),
@@ -83,12 +83,12 @@ fn begin_again(alloc: Global, refused: Refused<Sim>, torn: Torn) -> Option<Memor
     if look(&slots) != slots_behind(fault) {
         return None;
     }
-    restart_world(alloc, device.crash(torn), both(alloc)?, slots).ok()
+    restart_world(alloc, device.crash(torn), two_confs(alloc)?, slots).ok()
 }
 
 /// The world of the device, where memory is refused that of the second try.
 fn begin(alloc: Global, device: MemDisk, torn: Torn) -> Option<Memory> {
-    let confs = both(alloc)?;
+    let confs = two_confs(alloc)?;
     let slots = new_slots(alloc)?;
     match restart_world(alloc, device, confs, slots) {
         Ok(world) => Some(world),

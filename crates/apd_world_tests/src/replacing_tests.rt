@@ -14,7 +14,7 @@ use std::test::Fail;
 type Boxed = Box<dyn Radio + Send>;
 
 /// A radio that passes so many calls on, and fails then.
-fn failing(alloc: Global, calls: u64) -> Failing<Sim> {
+fn failing_radio(alloc: Global, calls: u64) -> Failing<Sim> {
     Failing::new(Sim::new(alloc), calls)
 }
 
@@ -74,8 +74,8 @@ fn follows(alloc: Global, radios: (Boxed, Boxed), others: (Boxed, Boxed)) -> Opt
 fn other_radios_have_the_stations_of_the_table(rt: HostRuntime) -> Result<(), Fail> {
     let alloc = rt.alloc();
     for count in 0..6 * 4 {
-        let first: Boxed = Box::new(alloc, failing(alloc, count / 4))?;
-        let second: Boxed = Box::new(alloc, failing(alloc, count % 4))?;
+        let first: Boxed = Box::new(alloc, failing_radio(alloc, count / 4))?;
+        let second: Boxed = Box::new(alloc, failing_radio(alloc, count % 4))?;
         let other: Boxed = Box::new(alloc, Sim::new(alloc))?;
         let another: Boxed = Box::new(alloc, Sim::new(alloc))?;
         let seen = follows(alloc, (first, second), (other, another));
@@ -119,7 +119,7 @@ fn a_radio_that_fails_takes_its_slot_down_alone(rt: HostRuntime) -> Result<(), F
     let alloc = rt.alloc();
     let first: Boxed = Box::new(alloc, Sim::new(alloc))?;
     let second: Boxed = Box::new(alloc, Sim::new(alloc))?;
-    let other: Boxed = Box::new(alloc, failing(alloc, 0))?;
+    let other: Boxed = Box::new(alloc, failing_radio(alloc, 0))?;
     let fault = WorldFault::Slot(WLAN1, SlotFault::WentDown);
     let kept = outcome(alloc, (first, second), other);
     assert_eq!(rt; kept, Some((fault, [true, false])));

@@ -55,7 +55,7 @@ pub(crate) fn sims(alloc: Global, lasts: &[u8]) -> Option<Vec<Slot<Sim>>> {
 }
 
 /// A slot for the first of them, whose radio passes so many calls and fails then.
-pub(crate) fn failing(alloc: Global, calls: u64) -> Option<Vec<Slot<Failing<Sim>>>> {
+pub(crate) fn failing_radio(alloc: Global, calls: u64) -> Option<Vec<Slot<Failing<Sim>>>> {
     let radio = Failing::new(Sim::new(alloc), calls);
     let mut slots = Vec::new(alloc);
     slots.push(Slot::new(alloc, radio, WLAN0)).ok()?;

@@ -218,7 +218,12 @@ impl<D: Disk + Drop, R: Radio> Runner<D, R> {
     }
 
     /// Prints the refusal of a command.
-    fn print_reply<W: Write>(&self, writer: &mut W, tag: u64, text: &[u8]) -> Result<(), ScriptFault>
+    fn print_reply<W: Write>(
+        &self,
+        writer: &mut W,
+        tag: u64,
+        text: &[u8],
+    ) -> Result<(), ScriptFault>
         ensures { IfErr result IsNoBadLine }
     {
         write_reply(self.alloc, writer, tag, text).map_err(writer_fault)
@@ -277,7 +282,9 @@ impl<D: Disk + Drop, R: Radio> Runner<D, R> {
         ensures err { IfErr result IsNoBadLine }
     {
         match parse_command(text) {
-            Parsed::Command { interface, command } => self.carry_out_at(writer, tag, interface, command),
+            Parsed::Command { interface, command } => self.carry_out_at(
+                writer, tag, interface, command,
+            ),
             Parsed::Unknown => self.print_reply(writer, tag, UNKNOWN_COMMAND),
             Parsed::Fail => self.print_reply(writer, tag, FAIL),
         }

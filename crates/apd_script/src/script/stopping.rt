@@ -120,11 +120,7 @@ impl<D: Disk + Drop, R: Radio> Runner<D, R> {
     }
 
     /// Stops and restarts, prints how many station rows the device held, and starts the interfaces.
-    pub fn stop<W: Write>(
-        self,
-        writer: &mut W,
-        number: u64,
-    ) -> Result<Runner<D, R>, ScriptFault>
+    pub fn stop<W: Write>(self, writer: &mut W, number: u64) -> Result<Runner<D, R>, ScriptFault>
         ensures ok { IfOk result (λ new. Stops D.model R.model self new) }
         ensures err { IfErr result (IsSaidFault number Stop self) }
     {
