@@ -77,10 +77,10 @@ down
 "
 }
 
-// Sixty times in a row are more than a worker looks again before it waits.
+// 260 times in a row are more than a worker looks again before it waits.
 #[test]
 fn no_out_is_lost_at_want_of_memory_or_at_a_stop(rt: HostRuntime) {
-    for times in [0, 1, 60] {
+    for times in [0, 1, 260] {
         let told = radio_log::<Brand, _>(&rt, rt.alloc(), Blank::new(65_536), times);
         assert_eq!(rt; told.as_deref(), Some(all_lines()), "{times}");
     }

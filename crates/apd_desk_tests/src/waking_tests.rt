@@ -291,7 +291,13 @@ where
 {
     let (radio_port, port) = (free_port(rt)?, free_port(rt)?);
     let inner = UdpSim::new(rt, alloc, radio_port).ok()?;
-    let crew = crew_with(rt, alloc, Short { inner, times: 60 }, Vec::new(alloc), port);
+    let crew = crew_with(
+        rt,
+        alloc,
+        Short { inner, times: 260 },
+        Vec::new(alloc),
+        port,
+    );
     let frame = authentication(0xaa);
     let questions = [Question::new(radio_port, &frame, &AUTHENTICATED, 1)];
     let core = started_core(alloc);
