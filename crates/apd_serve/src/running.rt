@@ -1,6 +1,6 @@
 //! An access point over a file, datagrams and recordings.
 ghost use Rattle.std.specs.Prelude.{◌≡◌};
-ghost use Rattle.std.specs.Thread.{IsSend};
+ghost use Rattle.std.specs.Thread.{IsSend, IsSync};
 ghost use Rattle.apd_serve.specs.declared.running.RunFault.TheVariants.{NoMemory, Open};
 
 use crate::clock::SystemClock;
@@ -217,7 +217,9 @@ where
         thread::scope_env(),
         rt,
         |scope|
-            requires { IsSend R.row }
+            requires radio { IsSend R.row }
+            requires stream { IsSend W.Stream.row × IsSync W.Stream.row }
+            requires listener { IsSend W.Listener.row × IsSync W.Listener.row }
         {
             let Ok(watcher) = scope.spawn(|| watch(rt, watched, &ending)) else {
                 return Err(ServeFault::Thread);
