@@ -1,4 +1,4 @@
-//! The committing worker.
+//! The worker that commits.
 ghost use Rattle.std.specs.Prelude.{◌↔◌};
 ghost use Rattle.apd_base.specs.State.{State};
 ghost use Rattle.apd_flusher.specs.Flushing.{IsInside, IsSteady, Stands};

@@ -30,7 +30,7 @@ impl From<AllocError> for OpenFault {
 }
 
 /// What was had of the file of this name, or why it wasn't.
-pub fn file_or_fault<T: Drop>(
+pub fn opened<T: Drop>(
     rt: &impl AllocGlobal,
     name: &str,
     file: io::Result<T>,
@@ -75,5 +75,5 @@ pub fn open_disk(
         Access::Write => FileDisk::open(rt, name),
         Access::Make => open_or_create(rt, name),
     };
-    file_or_fault(rt, name, disk)
+    opened(rt, name, disk)
 }

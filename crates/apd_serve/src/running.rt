@@ -1,6 +1,6 @@
 //! An access point over a file, datagrams and recordings.
 ghost use Rattle.std.specs.Prelude.{◌≡◌};
-ghost use Rattle.std.specs.Thread.{IsSend, IsSync};
+ghost use Rattle.std.specs.Thread.{IsSend};
 ghost use Rattle.apd_serve.specs.declared.running.RunFault.TheVariants.{NoMemory, Open};
 
 use crate::clock::SystemClock;
@@ -8,8 +8,8 @@ use crate::control_port::ControlPort;
 use crate::fault::ServeFault;
 use crate::identity::Identity;
 use crate::notices::{tell_entries, tell_start};
-use crate::opening::{Access, OpenFault, file_or_fault, open_disk};
-use crate::recordings::{RecordingFile, empty_files, open_recordings};
+use crate::opening::{Access, OpenFault, open_disk, opened};
+use crate::recordings::{RecordingFile, emptied, open_recordings};
 use crate::serving::{serve_started, start};
 use crate::store_watch::{Ending, StoreWatch, watch};
 use apd_base::Moment;
@@ -100,7 +100,7 @@ fn open_watch<'a>(
     rt: &(impl Files<File = File> + AllocGlobal),
     name: &'a str,
 ) -> Result<StoreWatch<'a>, OpenFault> {
-    file_or_fault(rt, name, StoreWatch::open(rt, name))
+    opened(rt, name, StoreWatch::open(rt, name))
 }
 
 // The files that no recording may be made over: the store, those of the configurations, and the list files that
@@ -131,7 +131,7 @@ fn keep(
     kept: &mut Vec<Identity>,
     name: &str,
 ) -> Result<(), AllocError> {
-    if let Some(found) = Identity::of_name(files, name) {
+    if let Some(found) = Identity::named(files, name) {
         kept.push(found)?;
     }
     Ok(())
@@ -172,7 +172,7 @@ fn open_radios(
 }
 
 // Has each radio recorded, the one at a place into the file at that place.
-fn record_radios(
+fn recorded(
     alloc: Global,
     radios: Vec<UdpSim>,
     files: Vec<File>,
@@ -196,7 +196,7 @@ struct Opened<'a> {
 
 // Serves a world that is started, and watches its store's file meanwhile.
 fn serve_watched<
-    W: Files<File = File> + Net + Wait + Threads + time::Clock + AllocGlobal + Log + Sync,
+    W: Files<File = File> + Wait + Threads + time::Clock + AllocGlobal + Log + Sync,
     R: Radio + Send,
     B: Read + Drop,
 >(
@@ -209,17 +209,13 @@ fn serve_watched<
 ) -> Result<u64, ServeFault>
 where
     W::Dir: Send + Sync,
-    W::Stream: Send + Sync,
-    W::Listener: Send + Sync,
 {
     let ending = Ending::new();
     thread::scope(
         thread::scope_env(),
         rt,
         |scope|
-            requires radio { IsSend R.row }
-            requires stream { IsSend W.Stream.row × IsSync W.Stream.row }
-            requires listener { IsSend W.Listener.row × IsSync W.Listener.row }
+            requires { IsSend R.row }
         {
             let Ok(watcher) = scope.spawn(|| watch(rt, watched, &ending)) else {
                 return Err(ServeFault::Thread);
@@ -235,14 +231,12 @@ where
 // Serves with these radios, one for each configuration, in their order, and tells what is served. Each station of the
 // table was heard at the moment 0.
 fn run_with<
-    W: Files<File = File> + Net + Wait + Threads + time::Clock + AllocGlobal + Log + Sync,
+    W: Files<File = File> + Wait + Threads + time::Clock + AllocGlobal + Log + Sync,
     R: Radio + Send,
     B: Read + Drop,
 >(rt: &W, confs: Confs, opened: Opened<'_>, radios: Vec<R>, reader: B) -> Result<u64, RunFault>
 where
     W::Dir: Send + Sync,
-    W::Stream: Send + Sync,
-    W::Listener: Send + Sync,
 {
     let Opened {
         store,
@@ -278,8 +272,6 @@ pub fn run<
 >(rt: &W, confs: Confs, site: &Site<'_>, reader: B) -> Result<u64, RunFault>
 where
     W::Dir: Send + Sync,
-    W::Stream: Send + Sync,
-    W::Listener: Send + Sync,
 {
     let count = confs.list().len();
     let (store, table) = open_store(rt, site.store)?;
@@ -297,8 +289,8 @@ where
     let entries = match recordings {
         None => run_with(rt, confs, opened_site, radios, reader)?,
         Some(recordings) => {
-            let files = empty_files(rt, recordings)?;
-            let radios = record_radios(rt.alloc(), radios, files)?;
+            let files = emptied(rt, recordings)?;
+            let radios = recorded(rt.alloc(), radios, files)?;
             run_with(rt, confs, opened_site, radios, reader)?
         }
     };

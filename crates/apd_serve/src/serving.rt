@@ -1,11 +1,11 @@
 //! An access point that serves, in threads.
 ghost use Rattle.std.specs.Prelude.{◌≡◌, ◌+◌, [], IfOk, OnOk};
-ghost use Rattle.apd_desk.specs.Counted.{entries_of_seats};
+ghost use Rattle.apd_desk.specs.Counted.{counted};
 ghost use Rattle.apd_serve.specs.Entries.{entries_of_all, entries_of_seat};
 
 use crate::crew::work_until_end;
 use crate::fault::{ServeFault, of_start};
-use crate::worker::{Environment, Worker};
+use crate::worker::{Desk, Worker};
 use apd_core::Core;
 use apd_desk::{Clock, Gate, Port, SEATS, Seat, Shared};
 use apd_disk::Disk;
@@ -17,7 +17,6 @@ use log::Log;
 use std::alloc::{AllocError, Global};
 use std::io::Read;
 use std::marker::Brand;
-use std::net::Net;
 use std::sync::Wait;
 use std::sync::ledger::{Blank, Ledger};
 use std::thread::Threads;
@@ -34,7 +33,7 @@ fn crew<L: Ledger, W: Wait, D: Disk + Drop, R: Radio, P: Port + Drop>(
     port: P,
 ) -> Result<Option<Vec<Worker<L, D, R, P>>>, AllocError> {
     let mut workers = Vec::new(alloc);
-    workers.push(Worker::Committing(committer))?;
+    workers.push(Worker::Flushing(committer))?;
     for slot in slots {
         let Some(seat) = shared.seat(rt) else {
             return Ok(None);
@@ -52,7 +51,7 @@ fn crew<L: Ledger, W: Wait, D: Disk + Drop, R: Radio, P: Port + Drop>(
 
 // Keeps a seat, if there is one.
 fn keep<L: Ledger>(seats: &mut Vec<Seat<L>>, seat: Option<Seat<L>>) -> Result<(), AllocError>
-    ensures { OnOk result (entries_of_seats seats.new.items ≡ entries_of_seats seats.old.items + entries_of_seat seat) }
+    ensures { OnOk result (counted seats.new.items ≡ counted seats.old.items + entries_of_seat seat) }
 {
     if let Some(seat) = seat {
         seats.push(seat)?;
@@ -75,8 +74,7 @@ fn dismiss<
     gate: &G,
     seats: &mut Vec<Seat<L>>,
 ) -> Result<(), AllocError>
-    ensures { OnOk result
-        (entries_of_seats seats.new.items ≡ entries_of_seats seats.old.items + entries_of_all workers.items) }
+    ensures { OnOk result (counted seats.new.items ≡ counted seats.old.items + entries_of_all workers.items) }
 {
     for worker in workers {
         keep(seats, worker.leave(rt, shared, gate))?;
@@ -88,7 +86,14 @@ fn dismiss<
 // once more what was settled.
 //
 // Errors: `Thread` where a seat is missing; `NoMemory`, which can't come where the seats have room for all.
-fn close<L: Ledger, W: Wait + time::Clock + Log, D: Disk + Drop, R: Radio, P: Port + Drop, G: Gate>(
+fn closed<
+    L: Ledger,
+    W: Wait + time::Clock + Log,
+    D: Disk + Drop,
+    R: Radio,
+    P: Port + Drop,
+    G: Gate,
+>(
     rt: &W,
     shared: Shared<L>,
     workers: Vec<Worker<L, D, R, P>>,
@@ -108,9 +113,9 @@ fn close<L: Ledger, W: Wait + time::Clock + Log, D: Disk + Drop, R: Radio, P: Po
 }
 
 // As `serve`, with the world started, over one ledger.
-fn serve_over_ledger<
+fn served<
     L: Ledger + Send + Sync,
-    W: Wait + Threads + time::Clock + Log + Net + Sync,
+    W: Wait + Threads + time::Clock + Log + Sync,
     D: Disk + Drop + Send,
     R: Radio + Send,
     P: Port + Drop + Send,
@@ -127,9 +132,6 @@ fn serve_over_ledger<
     gate: &G,
     reader: &mut B,
 ) -> Result<u64, ServeFault>
-where
-    W::Stream: Send + Sync,
-    W::Listener: Send + Sync,
     requires name { blank.name ≡ L.name }
     requires parts { blank.parts ≡ L.parts }
     requires all { blank.parts ≡ SEATS }
@@ -140,16 +142,16 @@ where
         return Err(ServeFault::Thread);
     };
     let seats = Vec::with_capacity(alloc, workers.len())?;
-    let environment = Environment {
+    let desk = Desk {
         rt,
         alloc,
         shared: &shared,
         clock,
         gate,
     };
-    let workers = work_until_end(rt, alloc, &environment, workers, reader)?;
-    drop(environment);
-    close(rt, shared, workers, gate, seats)
+    let workers = work_until_end(rt, alloc, &desk, workers, reader)?;
+    drop(desk);
+    closed(rt, shared, workers, gate, seats)
 }
 
 /// Starts a world: configures each interface, which is committed and handed out. Then nothing waits in it that would be
@@ -163,7 +165,7 @@ pub(crate) fn start<D: Disk + Drop, R: Radio>(world: &mut World<D, R>) -> Result
 
 /// As `serve`, with the world started.
 pub(crate) fn serve_started<
-    W: Wait + Threads + time::Clock + Log + Net + Sync,
+    W: Wait + Threads + time::Clock + Log + Sync,
     D: Disk + Drop + Send,
     R: Radio + Send,
     P: Port + Drop + Send,
@@ -178,23 +180,10 @@ pub(crate) fn serve_started<
     clock: C,
     gate: &G,
     reader: B,
-) -> Result<u64, ServeFault>
-where
-    W::Stream: Send + Sync,
-    W::Listener: Send + Sync,
-{
+) -> Result<u64, ServeFault> {
     let mut reader = reader;
     let blank = Blank::new(u64::from(SEATS));
-    serve_over_ledger::<Brand, W, D, R, P, C, G, B>(
-        rt,
-        alloc,
-        blank,
-        world,
-        port,
-        &clock,
-        gate,
-        &mut reader,
-    )
+    served::<Brand, W, D, R, P, C, G, B>(rt, alloc, blank, world, port, &clock, gate, &mut reader)
 }
 
 /// Serves an access point until the input ends or fails: configures each interface, which is committed and handed
@@ -211,7 +200,7 @@ where
 /// of the device that comes later is none: it is logged at the level error when it comes, what it leaves undone is
 /// never told, and what comes after is refused, until a restart.
 pub fn serve<
-    W: Wait + Threads + time::Clock + Log + Net + Sync,
+    W: Wait + Threads + time::Clock + Log + Sync,
     D: Disk + Drop + Send,
     R: Radio + Send,
     P: Port + Drop + Send,
@@ -226,11 +215,7 @@ pub fn serve<
     clock: C,
     gate: &G,
     reader: B,
-) -> Result<u64, ServeFault>
-where
-    W::Stream: Send + Sync,
-    W::Listener: Send + Sync,
-{
+) -> Result<u64, ServeFault> {
     let mut world = world;
     start(&mut world)?;
     serve_started(rt, alloc, world, port, clock, gate, reader)
