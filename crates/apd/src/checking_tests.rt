@@ -9,7 +9,10 @@ use std::rt::Files;
 use std::test::Fail;
 
 /// What `apd check` prints, and then its fault as the program prints it.
-fn check_output(rt: &(impl Files<File = File> + AllocGlobal), name: &str) -> Result<Vec<u8>, Fail> {
+pub fn check_output(
+    rt: &(impl Files<File = File> + AllocGlobal),
+    name: &str,
+) -> Result<Vec<u8>, Fail> {
     let mut out = Vec::new(rt.alloc());
     if let Err(fault) = check_and_print(rt, name, &mut out) {
         let text = format!(in rt.alloc(); "apd: {fault}\n")?;

@@ -1,5 +1,5 @@
 use crate::ProgramFault;
-use crate::checking::check_and_print;
+use crate::checking_tests::check_output;
 use crate::scripting_tests::{make_old_store, script_output};
 use crate::upgrading::upgrade_and_print;
 use apd_script::UpgradeFault;
@@ -16,16 +16,6 @@ fn upgrade_output(
 ) -> Result<Vec<u8>, Fail> {
     let mut out = Vec::new(rt.alloc());
     if let Err(fault) = upgrade_and_print(rt, old, new, &mut out) {
-        let text = format!(in rt.alloc(); "apd: {fault}\n")?;
-        out.extend_from_slice(text.as_bytes())?;
-    }
-    Ok(out)
-}
-
-/// What `apd check` prints of a store.
-fn check_output(rt: &(impl Files<File = File> + AllocGlobal), name: &str) -> Result<Vec<u8>, Fail> {
-    let mut out = Vec::new(rt.alloc());
-    if let Err(fault) = check_and_print(rt, name, &mut out) {
         let text = format!(in rt.alloc(); "apd: {fault}\n")?;
         out.extend_from_slice(text.as_bytes())?;
     }

@@ -28,8 +28,11 @@ pub struct Case {
     pub window: u16,
 }
 
-/// All cases, in the order of the table: of which kind, how many stations, and how many requests a commit.
-pub const CASES: [(Kind, u16, u16); 20] = [
+/// A row of a table of cases: of which kind, how many stations, and how many requests a commit.
+pub type Row = (Kind, u16, u16);
+
+/// All cases, in the order of the table.
+pub const CASES: [Row; 20] = [
     (KnownInMemory, 100, 1),
     (NewInMemory, 100, 1),
     (KnownInMemory, 2007, 1),
@@ -54,7 +57,7 @@ pub const CASES: [(Kind, u16, u16); 20] = [
 
 /// The cases whose counts are printed, at few stations. The cases of more stations have the same counts, and a switch
 /// comes only after many requests.
-pub const COUNTED: [(Kind, u16, u16); 10] = [
+pub const COUNTED: [Row; 10] = [
     (KnownInMemory, 20, 1),
     (NewInMemory, 20, 1),
     (KnownOnFile, 20, 1),
@@ -76,6 +79,15 @@ const ON_FILE: u16 = 256;
 const AT_LEAST: u16 = 8;
 
 impl Case {
+    /// The case of a row.
+    pub fn of((kind, stations, window): Row) -> Case {
+        Case {
+            kind,
+            stations,
+            window,
+        }
+    }
+
     /// What the case is called.
     pub fn name(&self) -> &'static str {
         match self.kind {

@@ -46,12 +46,8 @@ pub fn print_counts(
     rt: &(impl Print + Files<File = File> + Clock + AllocGlobal),
     name: &str,
 ) -> Result<(), BenchFault> {
-    for (kind, stations, window) in COUNTED {
-        let case = Case {
-            kind,
-            stations,
-            window,
-        };
+    for row in COUNTED {
+        let case = Case::of(row);
         let task = Task {
             case: &case,
             rounds: 1,
@@ -114,12 +110,8 @@ fn print_table(
         return Err(BenchFault::File);
     }
     print(rt, HEAD)?;
-    for (kind, stations, window) in CASES {
-        let case = Case {
-            kind,
-            stations,
-            window,
-        };
+    for row in CASES {
+        let case = Case::of(row);
         let task = Task {
             case: &case,
             rounds: ROUNDS,

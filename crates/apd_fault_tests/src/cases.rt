@@ -86,15 +86,22 @@ pub(crate) fn image_of(alloc: Global, session: Session) -> Option<Vec<u8>> {
     }
 }
 
-/// The device behind a session, stopped.
+/// What comes of a session whose device stops behind it.
 fn stop(
     alloc: Global,
     session: Session,
+    (seen, behind): (Seen, Option<Behind>),
+    failures: u64,
     device: MemDisk,
     torn: Torn,
-) -> (Option<usize>, Option<u64>) {
-    let served = count_calls(session, device.calls());
-    (served, table_of(alloc, device.crash(torn)))
+) -> Ended {
+    Ended {
+        seen,
+        behind,
+        failures,
+        served: count_calls(session, device.calls()),
+        table: table_of(alloc, device.crash(torn)),
+    }
 }
 
 fn run_on_fuse(
@@ -105,28 +112,14 @@ fn run_on_fuse(
     torn: Torn,
 ) -> Option<Ended> {
     let (seen, behind, fuse) = run(alloc, session, FuseDisk::new(device, calls))?;
-    let failures = fuse.failures();
-    let (served, table) = stop(alloc, session, fuse.into_inner(), torn);
-    Some(Ended {
-        seen,
-        behind,
-        failures,
-        served,
-        table,
-    })
+    let (told, failures) = ((seen, behind), fuse.failures());
+    Some(stop(alloc, session, told, failures, fuse.into_inner(), torn))
 }
 
 fn once(alloc: Global, session: Session, device: MemDisk, calls: u64, torn: Torn) -> Option<Ended> {
     let (seen, behind, once) = run(alloc, session, OnceDisk::new(device, calls))?;
-    let failures = once.failures();
-    let (served, table) = stop(alloc, session, once.into_inner(), torn);
-    Some(Ended {
-        seen,
-        behind,
-        failures,
-        served,
-        table,
-    })
+    let (told, failures) = ((seen, behind), once.failures());
+    Some(stop(alloc, session, told, failures, once.into_inner(), torn))
 }
 
 /// The very device that failed is recovered; where no call has failed yet, the one inside, since the other one would

@@ -26,6 +26,14 @@ fn change(table: &mut Table, change: &Change) -> Result<(), Fail> {
     }
 }
 
+/// What was decided, once its changes are made.
+fn made(decision: Decision, table: &mut Table) -> Result<Decision, Fail> {
+    for each in decision.changes.as_slice() {
+        change(table, each)?;
+    }
+    Ok(decision)
+}
+
 /// The built-in configuration, in another mode.
 fn confs(alloc: Global, mode: AclMode) -> Result<Confs, Fail> {
     let mut conf = new_conf(alloc)?;
@@ -50,11 +58,7 @@ fn start_with(
         accept: accept.as_slice(),
         deny: deny.as_slice(),
     };
-    let decision = decide(alloc, table, confs, event)?;
-    for each in decision.changes.as_slice() {
-        change(table, each)?;
-    }
-    Ok(decision)
+    made(decide(alloc, table, confs, event)?, table)
 }
 
 /// The same without list files.
@@ -67,6 +71,14 @@ fn start(
     start_with(rt, alloc, table, confs, [b"", b""])
 }
 
+/// A table behind the start of the radio in mode 0, and its configuration.
+fn started(rt: &impl Abort, alloc: Global) -> Result<(Table, Confs), Fail> {
+    let mut table = Table::new(alloc);
+    let open = confs(alloc, AclMode::AcceptUnlessDenied)?;
+    start(rt, alloc, &mut table, &open)?;
+    Ok((table, open))
+}
+
 /// Decides a frame of the station, and makes its changes.
 fn hear(
     rt: &impl Abort,
@@ -77,11 +89,10 @@ fn hear(
 ) -> Result<Decision, Fail> {
     assert!(rt; confs.with_bssid(RADIO).is_some());
     assert!(rt; table.policy(RADIO).is_some());
-    let decision = decide(alloc, table, confs, Event::Heard(RADIO, frame))?;
-    for each in decision.changes.as_slice() {
-        change(table, each)?;
-    }
-    Ok(decision)
+    made(
+        decide(alloc, table, confs, Event::Heard(RADIO, frame))?,
+        table,
+    )
 }
 
 /// Decides an authentication request of the station, and makes its changes.
@@ -127,9 +138,7 @@ fn is_frame(out: &Out, want: &[u8]) -> bool {
 #[test]
 fn a_start_in_mode_1_ends_a_station_that_mode_0_let_in(rt: HostRuntime) -> Result<(), Fail> {
     let alloc = rt.alloc();
-    let mut table = Table::new(alloc);
-    let open = confs(alloc, AclMode::AcceptUnlessDenied)?;
-    start(&rt, alloc, &mut table, &open)?;
+    let (mut table, open) = started(&rt, alloc)?;
     authenticate(&rt, alloc, &mut table, &open)?;
     assert_eq!(rt; table.get(RADIO, STATION), Some(Station::Authenticated));
 
@@ -159,9 +168,7 @@ fn list_station(which: Which) -> Change {
 #[test]
 fn lists_say_who_is_let_in(rt: HostRuntime) -> Result<(), Fail> {
     let alloc = rt.alloc();
-    let mut table = Table::new(alloc);
-    let open = confs(alloc, AclMode::AcceptUnlessDenied)?;
-    start(&rt, alloc, &mut table, &open)?;
+    let (mut table, open) = started(&rt, alloc)?;
     change(&mut table, &list_station(Which::Deny))?;
     authenticate(&rt, alloc, &mut table, &open)?;
     assert_eq!(rt; table.get(RADIO, STATION), None);
@@ -236,9 +243,7 @@ fn the_most_records_of_an_event(rt: HostRuntime) {
 #[test]
 fn the_2008th_station_finds_no_room(rt: HostRuntime) -> Result<(), Fail> {
     let alloc = rt.alloc();
-    let mut table = Table::new(alloc);
-    let open = confs(alloc, AclMode::AcceptUnlessDenied)?;
-    start(&rt, alloc, &mut table, &open)?;
+    let (mut table, open) = started(&rt, alloc)?;
     for number in 1..=2007 {
         if number == 2007 {
             assert_eq!(rt; table.least_free(RADIO), Some(2007));
@@ -288,9 +293,7 @@ const BACK: Change = Change::Put {
 #[test]
 fn an_identifier_comes_with_a_cursor_and_is_kept_without(rt: HostRuntime) -> Result<(), Fail> {
     let alloc = rt.alloc();
-    let mut table = Table::new(alloc);
-    let open = confs(alloc, AclMode::AcceptUnlessDenied)?;
-    start(&rt, alloc, &mut table, &open)?;
+    let (mut table, open) = started(&rt, alloc)?;
     change(&mut table, &cursor(2006)?)?;
     // Behind 2007 comes 1.
     for number in [2007, 1, 2] {
@@ -353,11 +356,7 @@ fn expire(
         bssid: RADIO,
         addr: STATION,
     };
-    let decision = decide(alloc, table, confs, event)?;
-    for each in decision.changes.as_slice() {
-        change(table, each)?;
-    }
-    Ok(decision)
+    made(decide(alloc, table, confs, event)?, table)
 }
 
 /// A disassociation of the station with reason 4, and a deauthentication with reason 2.
@@ -372,22 +371,8 @@ const NO_LONGER_AUTHENTICATED: [u8; 26] = [
 #[test]
 fn silence_ends_an_association_and_then_an_authentication(rt: HostRuntime) -> Result<(), Fail> {
     let alloc = rt.alloc();
-    let mut table = Table::new(alloc);
-    let open = confs(alloc, AclMode::AcceptUnlessDenied)?;
-    start(&rt, alloc, &mut table, &open)?;
-    if let Some(aid) = Aid::new(1) {
-        let association = Association {
-            aid,
-            capability: 0x431,
-            listen_interval: 10,
-        };
-        let put = Change::Put {
-            bssid: RADIO,
-            addr: STATION,
-            station: Station::Associated(association),
-        };
-        change(&mut table, &put)?;
-    }
+    let (mut table, open) = started(&rt, alloc)?;
+    change(&mut table, &put_station(1)?)?;
     let first = expire(&rt, alloc, &mut table, &open)?;
     assert_eq!(rt; first.outs.len(), 2);
     assert!(rt; is_removal(&first.outs.as_slice()[0].1, STATION));

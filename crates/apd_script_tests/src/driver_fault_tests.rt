@@ -3,7 +3,9 @@ use crate::calls::one_radio;
 use crate::scripts::{JOINS, join};
 use crate::worlds::{Boxed, all_slots, replace_radio, run_in_world, world_with};
 use apd_base::{Addr, Bssid};
+use apd_disk::MemDisk;
 use apd_radio::{Failing, Sim};
+use apd_world::World;
 use std::alloc::Global;
 use std::test::Fail;
 
@@ -30,16 +32,16 @@ const UP: &str =
     "ctrl 1 state=ENABLED\\nchannel=6\\nbeacon_int=100\\nbss[0]=wlan0\\nbssid[0]=02:00:00:00:00:01\\nssid[0]=net\\nnum_sta[0]=1\\n
 ";
 
-/// A radio that passes so many calls on, and fails then.
-fn failing_radio(alloc: Global, calls: u64) -> Failing<Sim> {
-    Failing::new(Sim::new(alloc), calls)
+/// A world of one interface, whose radio passes so many calls on, and fails then.
+fn failing_world(alloc: Global, calls: u64) -> Result<World<MemDisk, Boxed>, Fail> {
+    let radio: Boxed = Box::new(alloc, Failing::new(Sim::new(alloc), calls))?;
+    world_with(alloc, one_radio(alloc)?, radio)
 }
 
 #[test]
 fn a_radio_that_fails_is_replaced(rt: HostRuntime) -> Result<(), Fail> {
     let alloc = rt.alloc();
-    let radio: Boxed = Box::new(alloc, failing_radio(alloc, 1))?;
-    let world = world_with(alloc, one_radio(alloc)?, radio)?;
+    let world = failing_world(alloc, 1)?;
     let script = join(alloc, &[JOINS, "cmd STATUS\n"])?;
     let (world, out) = run_in_world(alloc, world, script.as_slice())?;
     let want = join(
@@ -63,8 +65,7 @@ fn a_radio_that_fails_is_replaced(rt: HostRuntime) -> Result<(), Fail> {
 #[test]
 fn a_frame_that_is_lost_leaves_its_radio_up(rt: HostRuntime) -> Result<(), Fail> {
     let alloc = rt.alloc();
-    let radio: Boxed = Box::new(alloc, failing_radio(alloc, 2))?;
-    let world = world_with(alloc, one_radio(alloc)?, radio)?;
+    let world = failing_world(alloc, 2)?;
     let (world, out) = run_in_world(alloc, world, JOINS.as_bytes())?;
     let want = join(
         alloc,
@@ -83,8 +84,7 @@ fn a_frame_that_is_lost_leaves_its_radio_up(rt: HostRuntime) -> Result<(), Fail>
 #[test]
 fn a_removal_that_fails_takes_its_radio_down(rt: HostRuntime) -> Result<(), Fail> {
     let alloc = rt.alloc();
-    let radio: Boxed = Box::new(alloc, failing_radio(alloc, 3))?;
-    let world = world_with(alloc, one_radio(alloc)?, radio)?;
+    let world = failing_world(alloc, 3)?;
     let leaves = "cmd DEAUTHENTICATE 02:00:00:00:00:aa\nflush\n";
     let script = join(alloc, &[JOINS, leaves])?;
     let (world, out) = run_in_world(alloc, world, script.as_slice())?;

@@ -20,37 +20,32 @@ fn format_disk(alloc: Global, disk: MemDisk) -> Result<MemDisk, (MemDisk, StoreF
     Ok(format(alloc, disk)?.into_device())
 }
 
-/// A blank device.
-pub fn blank_device(rt: &impl Print, alloc: Global) -> io::Result<MemDisk> {
-    match blank_disk(alloc) {
-        Ok(disk) => Ok(disk),
+/// What is made, and where it lacks memory once more.
+fn made<T, F: Fn() -> Result<T, AllocError>>(rt: &impl Print, what: &str, make: F) -> io::Result<T>
+    requires { F.IsAlwaysCallable make }
+{
+    match make() {
+        Ok(value) => Ok(value),
         Err(_) => {
-            say_again(rt, "a device")?;
-            Ok(blank_disk(alloc)?)
+            say_again(rt, what)?;
+            Ok(make()?)
         }
     }
+}
+
+/// A blank device.
+pub fn blank_device(rt: &impl Print, alloc: Global) -> io::Result<MemDisk> {
+    made(rt, "a device", || blank_disk(alloc))
 }
 
 /// A device with stations of two radios.
 pub fn store_with_stations(rt: &impl Print, alloc: Global) -> io::Result<MemDisk> {
-    match disk_with_stations(alloc) {
-        Ok(disk) => Ok(disk),
-        Err(_) => {
-            say_again(rt, "a device")?;
-            Ok(disk_with_stations(alloc)?)
-        }
-    }
+    made(rt, "a device", || disk_with_stations(alloc))
 }
 
 /// A device of a store of version 1.
 pub fn old_store(rt: &impl Print, alloc: Global) -> io::Result<MemDisk> {
-    match old_disk(alloc) {
-        Ok(disk) => Ok(disk),
-        Err(_) => {
-            say_again(rt, "a device")?;
-            Ok(old_disk(alloc)?)
-        }
-    }
+    made(rt, "a device", || old_disk(alloc))
 }
 
 /// A device of a new store; none where a call of it failed, and the session has ended. A format takes no memory but
@@ -76,13 +71,7 @@ fn new_list(alloc: Global) -> Result<Vec<Conf>, AllocError> {
 
 /// The built-in configuration alone.
 pub fn new_confs(rt: &impl Print, alloc: Global) -> io::Result<Option<Confs>> {
-    let list = match new_list(alloc) {
-        Ok(list) => list,
-        Err(_) => {
-            say_again(rt, "the configuration")?;
-            new_list(alloc)?
-        }
-    };
+    let list = made(rt, "the configuration", || new_list(alloc))?;
     Ok(Confs::new(list).ok())
 }
 
@@ -96,23 +85,11 @@ fn new_slots(alloc: Global, confs: &Confs) -> Result<Vec<Slot<Sim>>, AllocError>
 }
 
 fn slots(rt: &impl Print, alloc: Global, confs: &Confs) -> io::Result<Vec<Slot<Sim>>> {
-    match new_slots(alloc, confs) {
-        Ok(slots) => Ok(slots),
-        Err(_) => {
-            say_again(rt, "slots")?;
-            Ok(new_slots(alloc, confs)?)
-        }
-    }
+    made(rt, "slots", || new_slots(alloc, confs))
 }
 
 fn copy_confs(rt: &impl Print, alloc: Global, confs: &Confs) -> io::Result<Confs> {
-    match confs.copy(alloc) {
-        Ok(copy) => Ok(copy),
-        Err(_) => {
-            say_again(rt, "a copy of the configurations")?;
-            Ok(confs.copy(alloc)?)
-        }
-    }
+    made(rt, "a copy of the configurations", || confs.copy(alloc))
 }
 
 /// The world of a store, without a clause.

@@ -76,8 +76,11 @@ fn tell_or_retry(rt: &impl Print, world: &mut Memory, step: &Step<'_>) -> io::Re
     Ok(tell(world, step))
 }
 
-/// Makes a step, and prints what it told, and what is settled.
+/// Makes a step, and prints what it told, and what is settled; none once a call of the device failed.
 fn make(rt: &impl Print, world: &mut Memory, step: &Step<'_>, calls: &mut Calls) -> io::Result<()> {
+    if calls.failed {
+        return Ok(());
+    }
     let told = tell_or_retry(rt, world, step)?;
     if let Told::Called(Err(fault)) = told {
         calls.failed = true;
@@ -98,9 +101,7 @@ fn make_all(
     calls: &mut Calls,
 ) -> io::Result<()> {
     for step in steps {
-        if !calls.failed {
-            make(rt, world, step, calls)?;
-        }
+        make(rt, world, step, calls)?;
     }
     Ok(())
 }
@@ -113,9 +114,7 @@ pub fn serve(
     calls: &mut Calls,
 ) -> io::Result<()> {
     for request in requests {
-        if !calls.failed {
-            make(rt, world, request, calls)?;
-        }
+        make(rt, world, request, calls)?;
         make_all(rt, world, &COMMITS, calls)?;
     }
     Ok(())
