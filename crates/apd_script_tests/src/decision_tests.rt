@@ -26,8 +26,8 @@ fn change(table: &mut Table, change: &Change) -> Result<(), Fail> {
     }
 }
 
-/// What was decided, once its changes are made.
-fn made(decision: Decision, table: &mut Table) -> Result<Decision, Fail> {
+/// Makes the changes of what was decided, and gives that back.
+fn make_changes(decision: Decision, table: &mut Table) -> Result<Decision, Fail> {
     for each in decision.changes.as_slice() {
         change(table, each)?;
     }
@@ -58,7 +58,7 @@ fn start_with(
         accept: accept.as_slice(),
         deny: deny.as_slice(),
     };
-    made(decide(alloc, table, confs, event)?, table)
+    make_changes(decide(alloc, table, confs, event)?, table)
 }
 
 /// The same without list files.
@@ -71,8 +71,8 @@ fn start(
     start_with(rt, alloc, table, confs, [b"", b""])
 }
 
-/// A table behind the start of the radio in mode 0, and its configuration.
-fn started(rt: &impl Abort, alloc: Global) -> Result<(Table, Confs), Fail> {
+/// Starts the radio in mode 0: its table, and its configuration.
+fn start_open(rt: &impl Abort, alloc: Global) -> Result<(Table, Confs), Fail> {
     let mut table = Table::new(alloc);
     let open = confs(alloc, AclMode::AcceptUnlessDenied)?;
     start(rt, alloc, &mut table, &open)?;
@@ -89,7 +89,7 @@ fn hear(
 ) -> Result<Decision, Fail> {
     assert!(rt; confs.with_bssid(RADIO).is_some());
     assert!(rt; table.policy(RADIO).is_some());
-    made(
+    make_changes(
         decide(alloc, table, confs, Event::Heard(RADIO, frame))?,
         table,
     )
@@ -138,7 +138,7 @@ fn is_frame(out: &Out, want: &[u8]) -> bool {
 #[test]
 fn a_start_in_mode_1_ends_a_station_that_mode_0_let_in(rt: HostRuntime) -> Result<(), Fail> {
     let alloc = rt.alloc();
-    let (mut table, open) = started(&rt, alloc)?;
+    let (mut table, open) = start_open(&rt, alloc)?;
     authenticate(&rt, alloc, &mut table, &open)?;
     assert_eq!(rt; table.get(RADIO, STATION), Some(Station::Authenticated));
 
@@ -168,7 +168,7 @@ fn list_station(which: Which) -> Change {
 #[test]
 fn lists_say_who_is_let_in(rt: HostRuntime) -> Result<(), Fail> {
     let alloc = rt.alloc();
-    let (mut table, open) = started(&rt, alloc)?;
+    let (mut table, open) = start_open(&rt, alloc)?;
     change(&mut table, &list_station(Which::Deny))?;
     authenticate(&rt, alloc, &mut table, &open)?;
     assert_eq!(rt; table.get(RADIO, STATION), None);
@@ -243,7 +243,7 @@ fn the_most_records_of_an_event(rt: HostRuntime) {
 #[test]
 fn the_2008th_station_finds_no_room(rt: HostRuntime) -> Result<(), Fail> {
     let alloc = rt.alloc();
-    let (mut table, open) = started(&rt, alloc)?;
+    let (mut table, open) = start_open(&rt, alloc)?;
     for number in 1..=2007 {
         if number == 2007 {
             assert_eq!(rt; table.least_free(RADIO), Some(2007));
@@ -293,7 +293,7 @@ const BACK: Change = Change::Put {
 #[test]
 fn an_identifier_comes_with_a_cursor_and_is_kept_without(rt: HostRuntime) -> Result<(), Fail> {
     let alloc = rt.alloc();
-    let (mut table, open) = started(&rt, alloc)?;
+    let (mut table, open) = start_open(&rt, alloc)?;
     change(&mut table, &cursor(2006)?)?;
     // Behind 2007 comes 1.
     for number in [2007, 1, 2] {
@@ -356,7 +356,7 @@ fn expire(
         bssid: RADIO,
         addr: STATION,
     };
-    made(decide(alloc, table, confs, event)?, table)
+    make_changes(decide(alloc, table, confs, event)?, table)
 }
 
 /// A disassociation of the station with reason 4, and a deauthentication with reason 2.
@@ -371,7 +371,7 @@ const NO_LONGER_AUTHENTICATED: [u8; 26] = [
 #[test]
 fn silence_ends_an_association_and_then_an_authentication(rt: HostRuntime) -> Result<(), Fail> {
     let alloc = rt.alloc();
-    let (mut table, open) = started(&rt, alloc)?;
+    let (mut table, open) = start_open(&rt, alloc)?;
     change(&mut table, &put_station(1)?)?;
     let first = expire(&rt, alloc, &mut table, &open)?;
     assert_eq!(rt; first.outs.len(), 2);

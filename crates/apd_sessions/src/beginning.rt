@@ -20,8 +20,12 @@ fn format_disk(alloc: Global, disk: MemDisk) -> Result<MemDisk, (MemDisk, StoreF
     Ok(format(alloc, disk)?.into_device())
 }
 
-/// What is made, and where it lacks memory once more.
-fn made<T, F: Fn() -> Result<T, AllocError>>(rt: &impl Print, what: &str, make: F) -> io::Result<T>
+/// Makes something, where it lacks memory once more.
+fn make_or_retry<T, F: Fn() -> Result<T, AllocError>>(
+    rt: &impl Print,
+    what: &str,
+    make: F,
+) -> io::Result<T>
     requires { F.IsAlwaysCallable make }
 {
     match make() {
@@ -35,17 +39,17 @@ fn made<T, F: Fn() -> Result<T, AllocError>>(rt: &impl Print, what: &str, make: 
 
 /// A blank device.
 pub fn blank_device(rt: &impl Print, alloc: Global) -> io::Result<MemDisk> {
-    made(rt, "a device", || blank_disk(alloc))
+    make_or_retry(rt, "a device", || blank_disk(alloc))
 }
 
 /// A device with stations of two radios.
 pub fn store_with_stations(rt: &impl Print, alloc: Global) -> io::Result<MemDisk> {
-    made(rt, "a device", || disk_with_stations(alloc))
+    make_or_retry(rt, "a device", || disk_with_stations(alloc))
 }
 
 /// A device of a store of version 1.
 pub fn old_store(rt: &impl Print, alloc: Global) -> io::Result<MemDisk> {
-    made(rt, "a device", || old_disk(alloc))
+    make_or_retry(rt, "a device", || old_disk(alloc))
 }
 
 /// A device of a new store; none where a call of it failed, and the session has ended. A format takes no memory but
@@ -71,7 +75,7 @@ fn new_list(alloc: Global) -> Result<Vec<Conf>, AllocError> {
 
 /// The built-in configuration alone.
 pub fn new_confs(rt: &impl Print, alloc: Global) -> io::Result<Option<Confs>> {
-    let list = made(rt, "the configuration", || new_list(alloc))?;
+    let list = make_or_retry(rt, "the configuration", || new_list(alloc))?;
     Ok(Confs::new(list).ok())
 }
 
@@ -85,11 +89,11 @@ fn new_slots(alloc: Global, confs: &Confs) -> Result<Vec<Slot<Sim>>, AllocError>
 }
 
 fn slots(rt: &impl Print, alloc: Global, confs: &Confs) -> io::Result<Vec<Slot<Sim>>> {
-    made(rt, "slots", || new_slots(alloc, confs))
+    make_or_retry(rt, "slots", || new_slots(alloc, confs))
 }
 
 fn copy_confs(rt: &impl Print, alloc: Global, confs: &Confs) -> io::Result<Confs> {
-    made(rt, "a copy of the configurations", || confs.copy(alloc))
+    make_or_retry(rt, "a copy of the configurations", || confs.copy(alloc))
 }
 
 /// The world of a store, without a clause.
