@@ -160,6 +160,8 @@ fn run<
 >(rt: &R) -> Result<Option<clap::Error>, ProgramFault>
 where
     R::Dir: Send + Sync,
+    R::Stream: Send + Sync,
+    R::Listener: Send + Sync,
 {
     let alloc = rt.alloc();
     let Some(words) = words(rt)? else {

@@ -101,6 +101,8 @@ pub fn run_and_log<
 >(rt: &R, matches: &ArgMatches<'_>) -> Result<(), RunningFault>
 where
     R::Dir: Send + Sync,
+    R::Stream: Send + Sync,
+    R::Listener: Send + Sync,
 {
     let names = matches.get_strs("CONF").unwrap_or(&[]);
     let confs = read_configurations(rt, names).map_err(RunningFault::Configuration)?;

@@ -159,6 +159,8 @@ fn fault_of<
 >(rt: &R, store: &str, port: &str, conf: &str) -> Result<String, Fail>
 where
     R::Dir: Send + Sync,
+    R::Stream: Send + Sync,
+    R::Listener: Send + Sync,
 {
     let words = [
         "apd", "run", "--store", store, "--port", port, "--record", "run_test", conf,

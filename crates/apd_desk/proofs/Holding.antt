@@ -1,4 +1,4 @@
--- Each step of the worker that commits keeps what it took and did not publish.
+-- Each step of the committing worker keeps what it took and did not publish.
 use Rattle.std.proofs.Common.{◌≡◌, ◌⊎◌, ⊎_elim, List, [], ◌∷◌, ◌++◌, Option, Some, None, Result, Ok, Err, refl, sym, ap, subst, ◌∙◌, append_assoc}
 use Rattle.std.proofs.lemmas.List.{append-nil}
 use Rattle.apd_disk.specs.Disk.{DiskModel}
@@ -17,7 +17,7 @@ use Rattle.apd_flusher.specs.declared.phase.Phase.{Phase}
 use Rattle.apd_flusher.specs.declared.phase.Phase.TheVariants.{Idle, Busy, Done, Failed}
 use Rattle.apd_core.specs.declared.publish_fault.PublishFault.{PublishFault}
 use Rattle.apd_desk.proofs.Stepping.{keeps_on}
-use Rattle.apd_desk.specs.Holding.{IsLed, held_by, in_flusher, in_receipt, in_waiting, published, published_in, taken, taken_in}
+use Rattle.apd_desk.specs.Holding.{IsLed, held_batches, in_flusher, in_receipt, in_waiting, published_batch, published_batches, taken_batch, taken_batches}
 use Rattle.apd_desk.specs.Steps.{AreSteps, IsReceiptHanded, IsStep, IsStepped, Load, Publish, Step, Turn}
 use Rattle.apd_desk.specs.declared.published.Published.{Published}
 
@@ -42,7 +42,7 @@ next_batch batch given waits alone next =
 
 module _ {D : Type 0} where
   held_as : (c : Committer D) (r : Option Receipt) (p : Phase) (x : Batch) (w : Option Batch) → waiting_receipt c ≡ r
-      → phase_of (flusher_of c) ≡ p → flusher_batch (flusher_of c) ≡ x → waiting_batch c ≡ w → held_by c ≡ in_receipt r ++ (in_flusher p x ++ in_waiting w)
+      → phase_of (flusher_of c) ≡ p → flusher_batch (flusher_of c) ≡ x → waiting_batch c ≡ w → held_batches c ≡ in_receipt r ++ (in_flusher p x ++ in_waiting w)
   held_as c r p x w receipt phase under_way waits =
       let f = flusher_of c in
       ap (λ (z : Option Receipt). in_receipt z ++ (in_flusher (phase_of f) (flusher_batch f) ++ in_waiting (waiting_batch c))) receipt
@@ -53,7 +53,7 @@ module _ {D : Type 0} where
   -- ---- a load
   loaded : (answer : Result (Unit {0}) StoreFault) (given : Option Batch) (a b : Committer D)
       → (waiting_batch a ≡ None) ⊎ (given ≡ None)
-      → IsLoadGiven answer given a b → held_by a ++ in_waiting given ≡ held_by b
+      → IsLoadGiven answer given a b → held_batches a ++ in_waiting given ≡ held_batches b
   loaded (Ok _) given a b alone is =
       let r = in_receipt (waiting_receipt a) in
       let f = flusher_of a in
@@ -94,22 +94,22 @@ module _ {D : Type 0} where
       by Failed is = rests Failed is (λ same. cc)
 
   turned : (disk : DiskModel D) (answer : Result (Unit {0}) StoreFault) (a b : Committer D)
-      → IsTurnMade disk answer a b → held_by a ++ [] ≡ held_by b
+      → IsTurnMade disk answer a b → held_batches a ++ [] ≡ held_batches b
   turned disk answer a b is =
       let f = flusher_of a in
       let g = flusher_of b in
-      append-nil (held_by a)
+      append-nil (held_batches a)
       ∙ sym (held_as b (waiting_receipt a) (phase_of g) (flusher_batch g) (waiting_batch a) is.receipt refl refl is.batch
       ∙ ap (λ (z : List Batch). in_receipt (waiting_receipt a) ++ (z ++ in_waiting (waiting_batch a))) (turned_list disk answer f g is.turn is.tells))
 
   -- ---- a receipt
   handed : (answer : Result (Unit {0}) PublishFault) (receipt : Receipt) (a b : Committer D)
       → IsReceiptHanded answer receipt a b
-      → held_by a ++ [] ≡ published_in (Publish receipt answer) ++ held_by b
+      → held_batches a ++ [] ≡ published_batch (Publish receipt answer) ++ held_batches b
   handed (Ok _) receipt a b is =
       let f = flusher_of a in
       let own = λ (z : List Batch). held_batch receipt ∷ z in
-      append-nil (held_by a)
+      append-nil (held_batches a)
       ∙ ⊎_elim
       (λ waits. held_as a (Some receipt) (phase_of f) (flusher_batch f) (waiting_batch a) waits.0 refl refl refl
       ∙ sym (ap own (held_as b None (phase_of f) (flusher_batch f) (waiting_batch a) is.waits (ap phase_of waits.1) (ap flusher_batch waits.1) is.batch)))
@@ -119,7 +119,7 @@ module _ {D : Type 0} where
       is.next
   handed (Err fault) receipt a b is =
       let f = flusher_of a in
-      append-nil (held_by a)
+      append-nil (held_batches a)
       ∙ ⊎_elim
       (λ waits. held_as a (Some receipt) (phase_of f) (flusher_batch f) (waiting_batch a) waits.0 refl refl refl
       ∙ sym (held_as b (Some receipt) (phase_of f) (flusher_batch f) (waiting_batch a) is.waits (ap phase_of waits.1) (ap flusher_batch waits.1) is.batch))
@@ -129,21 +129,21 @@ module _ {D : Type 0} where
       is.next
 
   step_keeps : (disk : DiskModel D) (step : Step) (a b : Committer D) → IsStep disk step a b
-      → held_by a ++ taken_in step ≡ published_in step ++ held_by b
+      → held_batches a ++ taken_batch step ≡ published_batch step ++ held_batches b
   step_keeps disk (Load given answer) a b is = loaded answer given a b is.0 is.1
   step_keeps disk (Turn answer) a b is = turned disk answer a b is
   step_keeps disk (Publish receipt answer) a b is = handed answer receipt a b is
 
   steps_keep : (disk : DiskModel D) (steps : List Step) (a c : Committer D) → AreSteps disk steps a c
-      → held_by a ++ taken steps ≡ published steps ++ held_by c
-  steps_keep disk [] a c is = append-nil (held_by a) ∙ ap held_by (sym is)
+      → held_batches a ++ taken_batches steps ≡ published_batches steps ++ held_batches c
+  steps_keep disk [] a c is = append-nil (held_batches a) ∙ ap held_batches (sym is)
   steps_keep disk (step ∷ before) a c is =
       let b = is.0 in
-      sym (append_assoc (held_by a) (taken before) (taken_in step))
-      ∙ ap (λ (z : List Batch). z ++ taken_in step) (steps_keep disk before a b is.1)
-      ∙ append_assoc (published before) (held_by b) (taken_in step)
-      ∙ ap (λ (z : List Batch). published before ++ z) (step_keeps disk step b c is.2)
-      ∙ sym (append_assoc (published before) (published_in step) (held_by c))
+      sym (append_assoc (held_batches a) (taken_batches before) (taken_batch step))
+      ∙ ap (λ (z : List Batch). z ++ taken_batch step) (steps_keep disk before a b is.1)
+      ∙ append_assoc (published_batches before) (held_batches b) (taken_batch step)
+      ∙ ap (λ (z : List Batch). published_batches before ++ z) (step_keeps disk step b c is.2)
+      ∙ sym (append_assoc (published_batches before) (published_batch step) (held_batches c))
 
   led : (disk : DiskModel D) (steps : List Step) (a b : Committer D) → AreSteps disk steps a b → IsLed disk a b
   led disk steps a b are = record { steps = steps; are = are; held = steps_keep disk steps a b are }

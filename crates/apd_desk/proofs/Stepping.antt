@@ -1,4 +1,4 @@
--- The steps of the worker that commits.
+-- The steps of the committing worker.
 use Rattle.std.proofs.Common.{◌≡◌, ◌⊎◌, inl, inr, Option, None, Some, Result, Ok, Err, refl, subst}
 use Rattle.std.specs.Prelude.{IfSome, IsNone}
 use Rattle.apd_disk.specs.Disk.{DiskModel}

@@ -12,5 +12,5 @@ entries_in (Quiet reason) = 0
 entries_in (Entry ticket) = 1
 
 -- the entries of some seats: the sum of their counts
-abbrev pub counted : {L : Type 0} → List (Seat L) → ℕ
-counted seats = sum_by (λ seat. seat.count) seats
+abbrev pub entries_of_seats : {L : Type 0} → List (Seat L) → ℕ
+entries_of_seats seats = sum_by (λ seat. seat.count) seats

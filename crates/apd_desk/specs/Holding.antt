@@ -25,31 +25,31 @@ in_waiting None = []
 in_waiting (Some batch) = batch ∷ []
 
 -- the oldest first: that of the receipt that waits, the flusher's, and the one that waits for the flusher
-abbrev pub held_by : {D : Type 0} → Committer D → List Batch
-held_by c = in_receipt (waiting_receipt c)
+abbrev pub held_batches : {D : Type 0} → Committer D → List Batch
+held_batches c = in_receipt (waiting_receipt c)
     ++ (in_flusher (phase_of (flusher_of c)) (flusher_batch (flusher_of c)) ++ in_waiting (waiting_batch c))
 
 -- what a step took from the core
-abbrev pub taken_in : Step → List Batch
-taken_in (Load given answer) = in_waiting given
-taken_in (Turn answer) = []
-taken_in (Publish receipt answer) = []
+abbrev pub taken_batch : Step → List Batch
+taken_batch (Load given answer) = in_waiting given
+taken_batch (Turn answer) = []
+taken_batch (Publish receipt answer) = []
 
 -- what it published
-abbrev pub published_in : Step → List Batch
-published_in (Load given answer) = []
-published_in (Turn answer) = []
-published_in (Publish receipt (Ok _)) = held_batch receipt ∷ []
-published_in (Publish receipt (Err fault)) = []
+abbrev pub published_batch : Step → List Batch
+published_batch (Load given answer) = []
+published_batch (Turn answer) = []
+published_batch (Publish receipt (Ok _)) = held_batch receipt ∷ []
+published_batch (Publish receipt (Err fault)) = []
 
 -- of steps, the last of which stands first
-abbrev pub taken : List Step → List Batch
-taken [] = []
-taken (step ∷ before) = taken before ++ taken_in step
+abbrev pub taken_batches : List Step → List Batch
+taken_batches [] = []
+taken_batches (step ∷ before) = taken_batches before ++ taken_batch step
 
-abbrev pub published : List Step → List Batch
-published [] = []
-published (step ∷ before) = published before ++ published_in step
+abbrev pub published_batches : List Step → List Batch
+published_batches [] = []
+published_batches (step ∷ before) = published_batches before ++ published_batch step
 
 -- steps lead from one to the other, and nothing else happened
 pub record IsLed {D : Type 0} (disk : DiskModel D) (old new : Committer D) : Type 0 where
@@ -57,4 +57,4 @@ pub record IsLed {D : Type 0} (disk : DiskModel D) (old new : Committer D) : Typ
   pub are : AreSteps disk steps old new
   -- no batch is lost, and no receipt: what was held and what was taken since is, in order, what was published and
   -- what is held
-  pub held : held_by old ++ taken steps ≡ published steps ++ held_by new
+  pub held : held_batches old ++ taken_batches steps ≡ published_batches steps ++ held_batches new

@@ -1,4 +1,4 @@
--- What the worker that commits does to its committer, step by step (own).
+-- What the committing worker does to its committer, step by step (own).
 use Rattle.std.specs.Prelude.{◌≡◌, ◌⊎◌, List, [], ◌∷◌, Option, Some, None, Result, Ok, Err}
 use Rattle.apd_disk.specs.Disk.{DiskModel}
 use Rattle.apd_journal.specs.declared.batch.Batch.{Batch}
@@ -23,15 +23,15 @@ pub data Step : Type 0 where
   Publish : Receipt → Result (Unit {0}) PublishFault → Step
 
 -- a receipt that the core refused waits
-abbrev pub waiting_after : Result (Unit {0}) PublishFault → Receipt → Option Receipt
-waiting_after (Ok _) receipt = None
-waiting_after (Err fault) receipt = Some receipt
+abbrev pub refused_receipt : Result (Unit {0}) PublishFault → Receipt → Option Receipt
+refused_receipt (Ok _) receipt = None
+refused_receipt (Err fault) receipt = Some receipt
 
 -- the next receipt was handed to the core, and answered so
 pub record IsReceiptHanded {D : Type 0} (answer : Result (Unit {0}) PublishFault) (receipt : Receipt)
     (old new : Committer D) : Type 0 where
   pub next : IsNextReceipt receipt old new
-  pub waits : waiting_receipt new ≡ waiting_after answer receipt
+  pub waits : waiting_receipt new ≡ refused_receipt answer receipt
   pub batch : waiting_batch new ≡ waiting_batch old
 
 abbrev pub IsStep : {D : Type 0} → DiskModel D → Step → Committer D → Committer D → Type 0
@@ -52,12 +52,12 @@ abbrev pub IsOf : Published → Receipt → Type 0
 IsOf published receipt = published.last ≡ (held_batch receipt).last
 
 -- how a step went tells of at most one settled batch
-abbrev pub told_by : Went → Option Published
-told_by On = None
-told_by (Settled published) = Some published
-told_by Nothing = None
-told_by Short = None
-told_by Refused = None
+abbrev pub settlement_of : Went → Option Published
+settlement_of On = None
+settlement_of (Settled published) = Some published
+settlement_of Nothing = None
+settlement_of Short = None
+settlement_of Refused = None
 
 -- a receipt is published exactly where the core told that it settled the receipt's batch
 abbrev pub IsToldOf : Option Published → Step → Type 0

@@ -2,7 +2,7 @@
 ghost use Rattle.std.specs.Prelude.{None};
 ghost use Rattle.apd_flusher.specs.Handing.{Keeps};
 ghost use Rattle.apd_desk.specs.Holding.{IsLed};
-ghost use Rattle.apd_desk.specs.Steps.{told_by, IsStepped, PublishesNext};
+ghost use Rattle.apd_desk.specs.Steps.{settlement_of, IsStepped, PublishesNext};
 
 use crate::gate::{Gate, Place};
 use crate::idle::{Idle, Progress};
@@ -77,7 +77,7 @@ fn hand_on<L: Ledger, W: Wait, D: Disk>(
     shared: &Shared<L>,
     committer: &mut Committer<D>,
 ) -> Went
-    ensures stepped { IsStepped D.model (told_by result) committer.old committer.new }
+    ensures stepped { IsStepped D.model (settlement_of result) committer.old committer.new }
     ensures keeps { Keeps D.model committer.old committer.new }
 {
     match publish(rt, shared, committer) {
@@ -95,7 +95,7 @@ fn hand_on<L: Ledger, W: Wait, D: Disk>(
 
 // Passes the gate before and after a turn of the flusher.
 fn turn<D: Disk, G: Gate>(committer: &mut Committer<D>, gate: &G) -> Went
-    ensures stepped { IsStepped D.model (told_by result) committer.old committer.new }
+    ensures stepped { IsStepped D.model (settlement_of result) committer.old committer.new }
     ensures keeps { Keeps D.model committer.old committer.new }
 {
     gate.pass(Place::BeforeCall);
@@ -113,7 +113,7 @@ fn step<L: Ledger, W: Wait, D: Disk, G: Gate>(
     committer: &mut Committer<D>,
     gate: &G,
 ) -> Went
-    ensures stepped { IsStepped D.model (told_by result) committer.old committer.new }
+    ensures stepped { IsStepped D.model (settlement_of result) committer.old committer.new }
     ensures keeps { Keeps D.model committer.old committer.new }
 {
     match committer.phase() {

@@ -5,14 +5,16 @@ use crate::clock::Clock;
 use crate::gate::Gate;
 use crate::idle::{AT_ONCE, Idle, Progress};
 use crate::locked::Look;
-use crate::news::News;
 use crate::port::Port;
 use crate::seat::Seat;
 use crate::shared::Shared;
 use crate::submitting::submit_passing;
+use crate::waking::Waiter;
 use apd_core::{Answer, Input};
 use apd_ctrl::{FAIL, Parsed, Placed, UNKNOWN_COMMAND, parse_command};
 use apd_mlme::{Out, Recipient};
+use std::alloc::Global;
+use std::net::Net;
 use std::sync::Wait;
 use std::sync::ledger::Ledger;
 use std::time::Clock as SystemClock;
@@ -139,9 +141,11 @@ fn reply_settled<L: Ledger, W: Wait, P: Port>(
 
 /// Serves a control port until a stop, and gives its seat and the port back: carries out the commands that come, and
 /// replies to each. An order that is no entry, and a query that is not answered, get `FAIL`. It holds the lock for
-/// no call of the port.
-pub fn control_worker<L: Ledger, W: Wait + SystemClock, P: Port, C: Clock, G: Gate>(
+/// no call of the port. Where there is nothing to do it waits for a command, by the port's descriptor, for a reply, or
+/// for a stop.
+pub fn control_worker<L: Ledger, W: Wait + SystemClock + Net, P: Port, C: Clock, G: Gate>(
     rt: &W,
+    alloc: Global,
     shared: &Shared<L>,
     seat: Seat<L>,
     port: P,
@@ -153,6 +157,7 @@ pub fn control_worker<L: Ledger, W: Wait + SystemClock, P: Port, C: Clock, G: Ga
     let mut seat = seat;
     let mut port = port;
     let mut collected = None;
+    let mut waiter = Waiter::new(rt, alloc, shared, Recipient::Control);
     let mut idle = Idle::new();
     for _ in rt.forever() {
         let seen = shared.look(rt);
@@ -161,8 +166,9 @@ pub fn control_worker<L: Ledger, W: Wait + SystemClock, P: Port, C: Clock, G: Ga
         }
         let served = serve_commands(rt, shared, &mut seat, &mut port, clock, gate);
         let replied = reply_settled(rt, shared, &mut seat, &mut port, &mut collected, seen);
-        if idle.is_over(served.max(replied)) {
-            shared.pause(rt, News::Settled, seen);
+        let progress = served.max(replied);
+        if idle.is_over(progress) {
+            waiter.wait(rt, shared, progress, port.descriptor(), seen);
         }
     }
     (seat, port)

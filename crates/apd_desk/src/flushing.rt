@@ -1,4 +1,4 @@
-//! The worker that commits.
+//! The committing worker.
 ghost use Rattle.std.specs.Prelude.{◌↔◌};
 ghost use Rattle.apd_base.specs.State.{State};
 ghost use Rattle.apd_flusher.specs.Flushing.{IsInside, IsSteady, Stands};

@@ -3,7 +3,7 @@
 /// What a worker has come to.
 #[derive(Clone, Copy, Debug, PartialEq, Eq)]
 pub enum Place {
-    /// The flushing worker is going to take a turn of its flusher: one call of the device at most.
+    /// The committing worker is going to take a turn of its flusher: one call of the device at most.
     BeforeCall,
     /// It took the turn.
     AfterCall,

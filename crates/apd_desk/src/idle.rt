@@ -5,7 +5,7 @@ ghost use Rattle.apd_desk.specs.declared.idle.TheConstants.{LOOKS};
 use std::thread::yield_now;
 
 /// How often in a row an idle worker looks again before it waits.
-const LOOKS: u32 = 50;
+const LOOKS: u32 = 200;
 
 /// How many frames, outs or commands a worker takes in a turn at most, before it looks at anything else.
 pub(crate) const AT_ONCE: u32 = 64;
@@ -34,8 +34,8 @@ impl Idle {
         Idle { looks: 0 }
     }
 
-    /// A turn went so. After one without progress it lets others run. Tells whether it is time to wait, since there were
-    /// as many in a row.
+    /// A turn went so. After one without progress it lets others run. Tells whether it is time to wait, since there
+    /// were as many in a row.
     pub(crate) fn is_over(&mut self, progress: Progress) -> bool
         ensures made { progress ≡ Progress.Made → (result ≡ false) × (self.new.looks ≡ 0) }
         ensures over { progress ≢ Progress.Made → self.old.looks ≤ LOOKS → (IsTrue result ↔ (self.old.looks ≡ LOOKS)) }

@@ -20,6 +20,7 @@ mod seat;
 mod shared;
 mod submitting;
 mod ticking;
+mod waking;
 
 pub use clock::Clock;
 pub use committing::commit_all;

@@ -7,11 +7,11 @@ ghost use Rattle.apd_conf.specs.Confs.{conf_meant};
 ghost use Rattle.apd_core.specs.Core.{answer_at, after_request, answer_to_query, cannot_take, after_handing_out, last_of, after_publish, ready_for, IsFlight, IsTaken};
 ghost use Rattle.apd_journal.specs.Half.{IsGroup};
 ghost use Rattle.apd_store.specs.Outside.{held_batch};
-ghost use Rattle.apd_desk.specs.Counted.{counted, entries_in};
+ghost use Rattle.apd_desk.specs.Counted.{entries_in, entries_of_seats};
 ghost use Rattle.apd_desk.specs.RadioNotes.{is_for, is_noted_up};
 ghost use Rattle.apd_desk.specs.Steps.{IsOf};
 ghost use Rattle.apd_desk.specs.TicketOwner.{IsOwn};
-ghost use Rattle.apd_desk.specs.SeatProgress.{seen_after, IsBehind};
+ghost use Rattle.apd_desk.specs.SeatProgress.{seen_number_after, IsBehind};
 
 use crate::handed::Taken;
 use crate::notes::Notes;
@@ -159,7 +159,7 @@ impl<L: Ledger> Locked<L> {
     pub(crate) fn hand(&mut self, seat: &mut Seat<L>, to: Recipient) -> Result<Vec<Out>, AllocError>
         ensures outs { IfOk result (λ outs. outs.items ≡ ready_for to self.old.core) }
         ensures core { OnOk result (self.new.core ≡ after_handing_out to self.old.core) }
-        ensures seen { OnOk result (seat.new.seen ≡ seen_after self.old.core.number seat.old.seen) }
+        ensures seen { OnOk result (seat.new.seen ≡ seen_number_after self.old.core.number seat.old.seen) }
         ensures count { seat.new.count ≡ seat.old.count }
         ensures accepted { self.new.accepted ≡ self.old.accepted }
         ensures given { self.new.given ≡ self.old.given }
@@ -170,6 +170,13 @@ impl<L: Ledger> Locked<L> {
         let outs = core.hand(to)?;
         seat.seen = seat.seen.max(settled);
         Ok(outs)
+    }
+
+    /// Whether settled entries have outs that a recipient was not given yet.
+    pub(crate) fn is_ready(&self, to: Recipient) -> bool
+        ensures { IsTrue result ↔ (1 ≤ length (ready_for to self.now.core)) }
+    {
+        self.core.ready_count(to) > 0
     }
 
     /// The core's `take`.
@@ -255,7 +262,7 @@ impl<L: Ledger> Locked<L> {
     }
 
     /// Whether a radio is up, as it was noted.
-    pub(crate) fn noted(&self, bssid: Bssid) -> bool
+    pub(crate) fn is_noted_up(&self, bssid: Bssid) -> bool
         ensures { result ≡ is_noted_up self.now.notes.noted bssid }
     {
         self.notes.is_up(bssid)
@@ -272,7 +279,7 @@ impl<L: Ledger> Locked<L> {
     /// refused exactly where a seat is missing, and hands all back.
     pub(crate) fn close(self, seats: Vec<Seat<L>>) -> Result<(Core, u64), (Locked<L>, Vec<Seat<L>>)>
         requires { L.parts ≡ SEATS }
-        ensures counted { IfOk result (λ closed. closed.1 ≡ counted seats.items) }
+        ensures counted { IfOk result (λ closed. closed.1 ≡ entries_of_seats seats.items) }
         ensures accepted { IfOk result (λ closed. closed.1 ≡ self.accepted) }
         ensures core { IfOk result (λ closed. closed.0 ≡ self.core) }
         ensures all { IsOk result ↔ (vec_len seats ≡ self.given) }
@@ -289,16 +296,16 @@ impl<L: Ledger> Locked<L> {
             ..
         } = self;
         let mut book = book;
-        let mut all = merged(spare, seats);
+        let mut all = merge_shares(spare, seats);
         book.audit(&mut all);
         Ok((core, accepted))
     }
 }
 
 // All parts of these in one share.
-fn merged<L: Ledger>(spare: Share<L>, seats: Vec<Seat<L>>) -> Share<L>
+fn merge_shares<L: Ledger>(spare: Share<L>, seats: Vec<Seat<L>>) -> Share<L>
     ensures parts { result.parts ≡ spare.parts + vec_len seats }
-    ensures amount { result.amount ≡ spare.amount + counted seats.items }
+    ensures amount { result.amount ≡ spare.amount + entries_of_seats seats.items }
 {
     let mut all = spare;
     for seat in seats {

@@ -18,7 +18,7 @@ pub(crate) enum News {
 
 impl News {
     /// Whether there are any between two looks.
-    pub(crate) fn came(self, seen: Look, now: Look) -> bool
+    pub(crate) fn has_come(self, seen: Look, now: Look) -> bool
         ensures stop { seen.stopped ≢ now.stopped → IsTrue result }
         ensures entry { self ≡ Entry → seen.accepted ≢ now.accepted → IsTrue result }
         ensures settled { self ≡ Settled → seen.settled ≢ now.settled → IsTrue result }

@@ -2,6 +2,7 @@
 ghost use Rattle.std.specs.Prelude.{◌≡◌};
 
 use std::alloc::AllocError;
+use std::os::fd::RawFd;
 use thiserror::Error;
 
 /// Why a port did not do what it was asked for.
@@ -31,6 +32,12 @@ pub trait Port {
     ///
     /// Errors: `Device`, `NoMemory`. A command that meets want of memory may be given by a later call.
     fn poll(&mut self) -> Result<Option<(u64, Vec<u8>)>, PortFault>;
+
+    /// A descriptor that can be read whenever a command waits in the system, if there is one: who waits for a command
+    /// waits for it. Nothing is promised of it.
+    fn descriptor(&self) -> Option<RawFd> {
+        None
+    }
 
     /// Sends the reply to the command of this tag.
     ///

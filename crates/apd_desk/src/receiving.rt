@@ -14,10 +14,13 @@ use crate::news::News;
 use crate::seat::Seat;
 use crate::shared::Shared;
 use crate::submitting::submit_passing;
+use crate::waking::Waiter;
 use apd_core::Input;
+use apd_mlme::Recipient;
 use apd_radio::Radio;
 use apd_slot::{Slot, SlotFault};
 use std::alloc::Global;
+use std::net::Net;
 use std::sync::Wait;
 use std::sync::ledger::Ledger;
 use std::time::Clock as SystemClock;
@@ -81,8 +84,8 @@ impl<L: Ledger, R: Radio> Parts<L, R> {
         progress
     }
 
-    // Puts into the slot's queue, if none waits there and entries were settled since, what of settled entries it was not
-    // given yet.
+    // Puts into the slot's queue, if none waits there and entries were settled since, what of settled entries it was
+    // not given yet.
     fn collect<W: Wait>(&mut self, rt: &W, shared: &Shared<L>) -> Progress
         ensures seat { IsLater self.old.seat self.new.seat }
         ensures given { IsGivenOn R.model self.old.slot self.new.slot }
@@ -207,16 +210,17 @@ impl<L: Ledger, R: Radio> Parts<L, R> {
 /// Serves a radio until a stop, and gives its seat and its slot back: submits the frames that it receives, gives
 /// its slot what of settled entries is for it, and notes whether it is up. An out that meets want of memory stays
 /// first in the slot's queue and is tried again, and so are those behind it: after a stop it ends once none waits. It
-/// holds the lock for no call of the radio.
+/// holds the lock for no call of the radio. Where there is nothing to do it waits for a frame, by the descriptor of the
+/// radio that the slot has then, for outs that are ready, or for a stop.
 ///
 /// A fault is an out at which the slot goes down, and a slot that is down at first. At each, every spare that is left
 /// is tried once in the place of the slot's radio, in order, until one serves, before the next out is applied; a radio
 /// that is tried so, or taken out, is dropped. Where none serves the slot's own is given anew what is wanted, three
 /// times at most, once a turn with a rest behind. A try that fails, for want of memory too, is no fault. After
 /// the last the slot stays down: its frames are lost, and what it wants goes on. Spares that are left are dropped.
-pub fn radio_worker<L: Ledger, W: Wait + SystemClock, R: Radio, C: Clock, G: Gate>(
+pub fn radio_worker<L: Ledger, W: Wait + SystemClock + Net, R: Radio, C: Clock, G: Gate>(
     rt: &W,
-    _alloc: Global,
+    alloc: Global,
     shared: &Shared<L>,
     seat: Seat<L>,
     slot: Slot<R>,
@@ -236,6 +240,8 @@ pub fn radio_worker<L: Ledger, W: Wait + SystemClock, R: Radio, C: Clock, G: Gat
         mending: Mending::new(spares),
         collected: None,
     };
+    let to = Recipient::Radio(parts.slot.bssid());
+    let mut waiter = Waiter::new(rt, alloc, shared, to);
     let mut idle = Idle::new();
     parts.mend_first();
     shared.note(rt, parts.slot.bssid(), parts.slot.is_up());
@@ -246,7 +252,7 @@ pub fn radio_worker<L: Ledger, W: Wait + SystemClock, R: Radio, C: Clock, G: Gat
         }
         let progress = parts.turn(rt, shared, seen, clock, gate);
         if idle.is_over(progress) {
-            shared.pause(rt, News::Settled, seen);
+            waiter.wait(rt, shared, progress, parts.slot.descriptor(), seen);
         }
     }
     let Parts { seat, slot, .. } = parts;

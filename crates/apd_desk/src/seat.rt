@@ -27,7 +27,7 @@ impl<L: Ledger> Seat<L> {
     }
 
     /// The greatest number of a settled entry that it saw.
-    pub fn seen(&self) -> u64
+    pub fn seen_number(&self) -> u64
         ensures { result ≡ self.now.seen }
     {
         self.seen

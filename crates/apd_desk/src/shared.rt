@@ -1,7 +1,7 @@
 //! A core that threads share.
 ghost use Rattle.std.specs.Prelude.{◌≡◌, ◌+◌, ◌≤◌, ℕ, IfOk, IfErr, IfSome, OnErr};
 ghost use Rattle.apd_journal.specs.Half.{IsGroup};
-ghost use Rattle.apd_desk.specs.Counted.{counted, entries_in};
+ghost use Rattle.apd_desk.specs.Counted.{entries_in, entries_of_seats};
 ghost use Rattle.apd_desk.specs.TicketOwner.{IsOwn};
 ghost use Rattle.apd_desk.specs.SeatProgress.{IsBehind, IsLater};
 ghost use Rattle.apd_desk.specs.Steps.{IsOf};
@@ -11,11 +11,13 @@ use crate::locked::{Locked, Look};
 use crate::news::{Conditions, News};
 use crate::published::Published;
 use crate::seat::{AskFault, SEATS, Seat};
+use crate::waking::Bells;
 use apd_base::{Bssid, Moment};
 use apd_core::{Accepted, Answer, Core, Input, PublishFault};
 use apd_ctrl::Query;
 use apd_mlme::{Out, Recipient};
 use apd_store::Receipt;
+use mio::Waker;
 use std::alloc::AllocError;
 use std::sync::ledger::{Blank, Ledger};
 use std::sync::{CondvarTimeouts, Mutex, Wait};
@@ -25,7 +27,7 @@ use std::time::{Clock, Duration};
 const PAUSE: u64 = 1;
 
 /// A core under a lock, and what wakes those that wait for news of it. Each call but `new` and `close` takes the lock,
-/// may wait for it, and holds it for one call of the core at most.
+/// may wait for it, and holds it for one call of the core at most, beside a look at what it has.
 ///
 /// No clause says what the core is at the moment of a call, since others may call before and after it: of each
 /// call that is said, by the same definitions as of the core's own, where it has the lock. No clause speaks of
@@ -34,6 +36,7 @@ const PAUSE: u64 = 1;
 pub struct Shared<L: Ledger> {
     locked: Mutex<Locked<L>>,
     conditions: Conditions,
+    bells: Bells,
 }
 
 impl<L: Ledger> Shared<L> {
@@ -47,6 +50,7 @@ impl<L: Ledger> Shared<L> {
         Shared {
             locked: Mutex::new(Locked::new(core, blank)),
             conditions: Conditions::new(),
+            bells: Bells::new(),
         }
     }
 
@@ -126,15 +130,23 @@ impl<L: Ledger> Shared<L> {
     /// nobody and takes no memory. It is refused exactly where a seat is missing, and hands all back.
     pub fn close(self, seats: Vec<Seat<L>>) -> Result<(Core, u64), (Shared<L>, Vec<Seat<L>>)>
         requires { L.parts ≡ SEATS }
-        ensures counted { IfOk result (λ closed. closed.1 ≡ counted seats.items) }
+        ensures counted { IfOk result (λ closed. closed.1 ≡ entries_of_seats seats.items) }
         ensures back { IfErr result (λ back. back.1 ≡ seats) }
     {
-        let Shared { locked, conditions } = self;
+        let Shared {
+            locked,
+            conditions,
+            bells,
+        } = self;
         match locked.into_inner().close(seats) {
             Ok(closed) => Ok(closed),
             Err((locked, seats)) => {
-                let locked = Mutex::new(locked);
-                Err((Shared { locked, conditions }, seats))
+                let shared = Shared {
+                    locked: Mutex::new(locked),
+                    conditions,
+                    bells,
+                };
+                Err((shared, seats))
             }
         }
     }
@@ -144,6 +156,7 @@ impl<L: Ledger> Shared<L> {
     pub fn stop(&self, rt: &impl Wait) {
         self.locked.lock(rt).stop();
         self.conditions.tell(News::Stop);
+        self.bells.ring_all();
     }
 
     /// Notes whether the radio of a BSSID is up, for `STATUS` to show; nothing where eight others are noted. It takes
@@ -154,8 +167,8 @@ impl<L: Ledger> Shared<L> {
 
     /// Whether the radio of a BSSID is up, as it was noted last; it is not where nothing was. It takes no memory. What
     /// was noted is said where the lock is held.
-    pub fn noted(&self, rt: &impl Wait, bssid: Bssid) -> bool {
-        self.locked.lock(rt).noted(bssid)
+    pub fn is_noted_up(&self, rt: &impl Wait, bssid: Bssid) -> bool {
+        self.locked.lock(rt).is_noted_up(bssid)
     }
 
     // The BSSID of the interface that a command names, or else of the first one, and whether its radio is up. Which one
@@ -163,7 +176,7 @@ impl<L: Ledger> Shared<L> {
     pub(crate) fn interface(&self, rt: &impl Wait, name: Option<&[u8]>) -> Option<(Bssid, bool)> {
         let locked = self.locked.lock(rt);
         let bssid = locked.interface(name)?;
-        Some((bssid, locked.noted(bssid)))
+        Some((bssid, locked.is_noted_up(bssid)))
     }
 
     // A batch for which a group has room. Of which entries it is, is said where the lock is held.
@@ -173,7 +186,7 @@ impl<L: Ledger> Shared<L> {
         self.locked.lock(rt).take()
     }
 
-    // It wakes who waits for what is settled.
+    // It wakes who waits for what is settled, and at their sockets those for whom outs are ready.
     pub(crate) fn publish(
         &self,
         rt: &impl Wait,
@@ -182,11 +195,20 @@ impl<L: Ledger> Shared<L> {
         ensures own { IfOk result (λ published. IsOf published receipt) }
         ensures back { IfErr result (λ back. back.0 ≡ receipt) }
     {
-        let answer = self.locked.lock(rt).publish(receipt);
+        let mut locked = self.locked.lock(rt);
+        let answer = locked.publish(receipt);
+        let ready = self.bells.ready_places(&locked);
+        drop(locked);
         if answer.is_ok() {
             self.conditions.tell(News::Settled);
+            self.bells.ring(ready);
         }
         answer
+    }
+
+    // Keeps what wakes the worker of a recipient at its socket. Tells whether there was a place.
+    pub(crate) fn keep_bell(&self, to: Recipient, waker: Waker) -> bool {
+        self.bells.keep(to, waker)
     }
 
     // The core's `fail`, which is said where the lock is held.
@@ -205,7 +227,7 @@ impl<L: Ledger> Shared<L> {
             .conditions
             .of(news)
             .wait_while(rt, self.locked.lock(rt), |locked| {
-                !news.came(seen, locked.look())
+                !news.has_come(seen, locked.look())
             });
     }
 
@@ -221,7 +243,7 @@ impl<L: Ledger> Shared<L> {
             rt,
             self.locked.lock(rt),
             time,
-            |locked| !news.came(seen, locked.look()),
+            |locked| !news.has_come(seen, locked.look()),
         );
     }
 

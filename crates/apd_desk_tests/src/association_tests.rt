@@ -3,7 +3,7 @@ ghost use Rattle.std.specs.Prelude.{◌≡◌};
 
 use crate::common::{
     ASSOCIATION, FIRST, WLAN0, authentication, commit_all, enters_both, memory_flusher, settles,
-    share, started, submits,
+    share, started_core, submits,
 };
 use apd_core::Core;
 use apd_ctrl::Query;
@@ -79,7 +79,7 @@ where
     told
 }
 
-fn told_of_what_was_collected<L: Ledger + Send + Sync, R: Threads + Wait + Clock + Sync>(
+fn tells_what_was_collected<L: Ledger + Send + Sync, R: Threads + Wait + Clock + Sync>(
     rt: &R,
     alloc: Global,
     blank: Blank,
@@ -88,14 +88,14 @@ fn told_of_what_was_collected<L: Ledger + Send + Sync, R: Threads + Wait + Clock
     requires parts { blank.parts ≡ L.parts }
     requires all { blank.parts ≡ 65536 }
 {
-    let shared: Shared<L> = share(started(alloc), blank)?;
+    let shared: Shared<L> = share(started_core(alloc), blank)?;
     let seat = shared.seat(rt)?;
     Some(commit_and_associate(rt, &shared, memory_flusher(alloc)?, seat))
 }
 
 #[test]
 fn a_seat_is_told_of_what_it_collected(rt: HostRuntime) {
-    let told = told_of_what_was_collected::<Brand, _>(&rt, rt.alloc(), Blank::new(65_536));
+    let told = tells_what_was_collected::<Brand, _>(&rt, rt.alloc(), Blank::new(65_536));
     assert_eq!(rt; told, Some(true));
 }
 
@@ -112,19 +112,19 @@ fn hand_after_both<D: Disk>(core: &mut Core, flusher: &mut Flusher<D>) -> Option
 }
 
 // What a core hands out after the two frames.
-fn handed(alloc: Global) -> Option<Vec<Out>> {
-    let mut core = started(alloc)?;
+fn outs_of_core(alloc: Global) -> Option<Vec<Out>> {
+    let mut core = started_core(alloc)?;
     let mut flusher = memory_flusher(alloc)?;
     hand_after_both(&mut core, &mut flusher)
 }
 
 // What a seat collects after the two frames.
-fn collected<L: Ledger, W: Wait + Clock>(rt: &W, alloc: Global, blank: Blank) -> Option<Vec<Out>>
+fn outs_of_seat<L: Ledger, W: Wait + Clock>(rt: &W, alloc: Global, blank: Blank) -> Option<Vec<Out>>
     requires name { blank.name ≡ L.name }
     requires parts { blank.parts ≡ L.parts }
     requires all { blank.parts ≡ 65536 }
 {
-    let shared: Shared<L> = share(started(alloc), blank)?;
+    let shared: Shared<L> = share(started_core(alloc), blank)?;
     let mut seat = shared.seat(rt)?;
     if submits_both(rt, &shared, &mut seat) && commit_all(rt, alloc, &shared) {
         collect(rt, &shared, &mut seat)
@@ -165,6 +165,6 @@ fn are_same(one: &[Out], other: &[Out]) -> bool {
 #[test]
 fn what_is_collected_is_what_a_core_hands_out(rt: HostRuntime) {
     let alloc = rt.alloc();
-    let collected = collected::<Brand, _>(&rt, alloc, Blank::new(65_536));
-    assert_eq!(rt; same(collected, handed(alloc)), Some(3));
+    let collected = outs_of_seat::<Brand, _>(&rt, alloc, Blank::new(65_536));
+    assert_eq!(rt; same(collected, outs_of_core(alloc)), Some(3));
 }

@@ -1,7 +1,7 @@
 // What a committer holds when the commits begin, and what waits in it when they end.
 ghost use Rattle.std.specs.Prelude.{◌≡◌};
 
-use crate::common::{asked, is_told, memory_flusher, share, started};
+use crate::common::{asked_core, is_told, memory_flusher, share, started_core};
 use apd_core::Core;
 use apd_desk::{NoGate, Shared, commit_all};
 use apd_disk::MemDisk;
@@ -13,7 +13,7 @@ use std::sync::ledger::{Blank, Ledger};
 use std::time::Clock;
 
 // A committer over a new store that has the batch of a core under way.
-fn begun(alloc: Global, core: &mut Core) -> Option<Committer<MemDisk>> {
+fn busy_committer(alloc: Global, core: &mut Core) -> Option<Committer<MemDisk>> {
     let batch = core.take().ok()?;
     let mut committer = Committer::new(memory_flusher(alloc)?);
     match committer.load(batch) {
@@ -23,13 +23,17 @@ fn begun(alloc: Global, core: &mut Core) -> Option<Committer<MemDisk>> {
 }
 
 // Whether a station is there, of whose association a committer held the batch.
-fn settled<L: Ledger, W: Wait + Clock>(rt: &W, alloc: Global, blank: Blank) -> Option<bool>
+fn settles_held_batch<L: Ledger, W: Wait + Clock>(
+    rt: &W,
+    alloc: Global,
+    blank: Blank,
+) -> Option<bool>
     requires name { blank.name ≡ L.name }
     requires parts { blank.parts ≡ L.parts }
     requires all { blank.parts ≡ 65536 }
 {
-    let mut core = asked(alloc)?;
-    let committer = begun(alloc, &mut core)?;
+    let mut core = asked_core(alloc)?;
+    let committer = busy_committer(alloc, &mut core)?;
     let shared: Shared<L> = share(Some(core), blank)?;
     shared.stop(rt);
     settle(rt, &shared, committer)
@@ -47,7 +51,7 @@ fn settle<L: Ledger, W: Wait + Clock>(
 
 #[test]
 fn a_batch_that_a_committer_held_is_settled(rt: HostRuntime) {
-    let settled = settled::<Brand, _>(&rt, rt.alloc(), Blank::new(65_536));
+    let settled = settles_held_batch::<Brand, _>(&rt, rt.alloc(), Blank::new(65_536));
     assert_eq!(rt; settled, Some(true));
 }
 
@@ -57,9 +61,9 @@ fn waits<L: Ledger, W: Wait + Clock>(rt: &W, alloc: Global, blank: Blank) -> Opt
     requires parts { blank.parts ≡ L.parts }
     requires all { blank.parts ≡ 65536 }
 {
-    let mut other = started(alloc)?;
-    let committer = begun(alloc, &mut other)?;
-    let shared: Shared<L> = share(started(alloc), blank)?;
+    let mut other = started_core(alloc)?;
+    let committer = busy_committer(alloc, &mut other)?;
+    let shared: Shared<L> = share(started_core(alloc), blank)?;
     Some(receipt_waits(rt, &shared, committer))
 }
 

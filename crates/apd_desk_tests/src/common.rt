@@ -87,7 +87,7 @@ pub(crate) fn start(alloc: Global, core: &mut Core, bssid: Bssid) -> bool {
 }
 
 /// A core whose radio was started by entry 1, which is not settled.
-pub(crate) fn started(alloc: Global) -> Option<Core> {
+pub(crate) fn started_core(alloc: Global) -> Option<Core> {
     let mut core = new_core(alloc)?;
     if start(alloc, &mut core, WLAN0) {
         Some(core)
@@ -115,7 +115,7 @@ fn starts_both(alloc: Global, core: &mut Core) -> bool {
 }
 
 /// A core whose two radios were started, which is not settled.
-pub(crate) fn started_both(alloc: Global) -> Option<Core> {
+pub(crate) fn core_of_two_radios(alloc: Global) -> Option<Core> {
     let mut core = Core::new(alloc, Table::new(alloc), two_confs(alloc)?, Moment(0)).ok()?;
     if starts_both(alloc, &mut core) {
         Some(core)
@@ -131,8 +131,8 @@ pub(crate) fn enters_both(core: &mut Core) -> bool {
 }
 
 /// A core at which a station associates, which is not settled.
-pub(crate) fn asked(alloc: Global) -> Option<Core> {
-    let mut core = started(alloc)?;
+pub(crate) fn asked_core(alloc: Global) -> Option<Core> {
+    let mut core = started_core(alloc)?;
     if enters_both(&mut core) {
         Some(core)
     } else {
@@ -155,8 +155,8 @@ pub(crate) fn settles<D: Disk>(core: &mut Core, flusher: &mut Flusher<D>) -> boo
 }
 
 /// A core at which a station associated, which is settled and not handed out.
-pub(crate) fn associated(alloc: Global) -> Option<Core> {
-    let mut core = asked(alloc)?;
+pub(crate) fn associated_core(alloc: Global) -> Option<Core> {
+    let mut core = asked_core(alloc)?;
     let mut flusher = memory_flusher(alloc)?;
     if settles(&mut core, &mut flusher) {
         Some(core)

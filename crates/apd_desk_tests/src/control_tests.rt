@@ -2,14 +2,15 @@
 ghost use Rattle.std.specs.Prelude.{◌≡◌};
 
 use crate::common::{
-    Still, WLAN0, WLAN1, authentication, enters, memory_flusher, new_core, settles, share, started,
-    started_both,
+    Still, WLAN0, WLAN1, authentication, core_of_two_radios, enters, memory_flusher, new_core,
+    settles, share, started_core,
 };
 use crate::operator::{Operator, are};
 use apd_core::{Core, Input};
 use apd_desk::{NoGate, Seat, Shared, control_worker};
 use std::alloc::Global;
 use std::marker::Brand;
+use std::net::Net;
 use std::sync::Wait;
 use std::sync::ledger::{Blank, Ledger};
 use std::time::Clock;
@@ -17,7 +18,7 @@ use std::time::Clock;
 const ORDER: &[u8] = b"DEAUTHENTICATE 02:00:00:00:00:aa";
 
 // Gives the commands one after another. Whether these are the replies.
-fn serve<'a, L: Ledger, W: Wait + Clock>(
+fn serve<'a, L: Ledger, W: Wait + Clock + Net>(
     rt: &'a W,
     alloc: Global,
     shared: &'a Shared<L>,
@@ -26,12 +27,12 @@ fn serve<'a, L: Ledger, W: Wait + Clock>(
     texts: &[&[u8]],
 ) -> bool {
     let port = Operator::new(rt, alloc, shared, None, commands);
-    let (_seat, port) = control_worker(rt, shared, seat, port, &Still, &NoGate);
+    let (_seat, port) = control_worker(rt, alloc, shared, seat, port, &Still, &NoGate);
     are(port.into_replies().as_slice(), texts)
 }
 
 // Whether these are the replies to these commands on a core.
-fn replies<L: Ledger, W: Wait + Clock>(
+fn replies<L: Ledger, W: Wait + Clock + Net>(
     rt: &W,
     alloc: Global,
     core: Option<Core>,
@@ -48,15 +49,15 @@ fn replies<L: Ledger, W: Wait + Clock>(
     Some(serve(rt, alloc, &shared, seat, commands, texts))
 }
 
-fn failed(alloc: Global) -> Option<Core> {
-    let mut core = started(alloc)?;
+fn failed_core(alloc: Global) -> Option<Core> {
+    let mut core = started_core(alloc)?;
     core.fail();
     Some(core)
 }
 
 // A core that keeps as many entries as may be.
-fn busy(alloc: Global) -> Option<Core> {
-    let mut core = started(alloc)?;
+fn full_core(alloc: Global) -> Option<Core> {
+    let mut core = started_core(alloc)?;
     let frame = authentication(0xaa);
     for _entry in 0..4096 {
         enters(&mut core, Input::Received(WLAN0, &frame));
@@ -104,7 +105,7 @@ const FAILS: &[&[u8]] = &[b"FAIL\n", b"PONG\n"];
 #[test]
 fn an_order_fails_on_a_core_that_has_failed(rt: HostRuntime) {
     let alloc = rt.alloc();
-    let (core, blank) = (failed(alloc), Blank::new(65_536));
+    let (core, blank) = (failed_core(alloc), Blank::new(65_536));
     let replied = replies::<Brand, _>(&rt, alloc, core, blank, ORDERS, FAILS);
     assert_eq!(rt; replied, Some(true));
 }
@@ -112,14 +113,14 @@ fn an_order_fails_on_a_core_that_has_failed(rt: HostRuntime) {
 #[test]
 fn an_order_fails_on_a_full_core(rt: HostRuntime) {
     let alloc = rt.alloc();
-    let (core, blank) = (busy(alloc), Blank::new(65_536));
+    let (core, blank) = (full_core(alloc), Blank::new(65_536));
     let replied = replies::<Brand, _>(&rt, alloc, core, blank, ORDERS, FAILS);
     assert_eq!(rt; replied, Some(true));
 }
 
 // A core of two radios, the start of which is settled.
 fn two_radios(alloc: Global) -> Option<Core> {
-    let mut core = started_both(alloc)?;
+    let mut core = core_of_two_radios(alloc)?;
     let mut flusher = memory_flusher(alloc)?;
     if settles(&mut core, &mut flusher) {
         Some(core)
@@ -151,7 +152,7 @@ num_sta[0]=0
 const STATES: &[&[u8]] = &[DOWN, UP, DOWN];
 
 // Whether each of two radios shows its own state, the first of which is down.
-fn shows_both<L: Ledger, W: Wait + Clock>(rt: &W, alloc: Global, blank: Blank) -> Option<bool>
+fn shows_both<L: Ledger, W: Wait + Clock + Net>(rt: &W, alloc: Global, blank: Blank) -> Option<bool>
     requires name { blank.name ≡ L.name }
     requires parts { blank.parts ≡ L.parts }
     requires all { blank.parts ≡ 65536 }

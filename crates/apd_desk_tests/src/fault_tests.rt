@@ -1,7 +1,7 @@
 // A device that fails: the worker that commits ends by itself, requests are stopped, and every seat comes back.
 ghost use Rattle.std.specs.Prelude.{◌≡◌};
 
-use crate::common::{Still, WLAN0, authentication, blank_disk, flusher, share, started};
+use crate::common::{Still, WLAN0, authentication, blank_disk, flusher, share, started_core};
 use apd_base::Moment;
 use apd_core::{Accepted, Input};
 use apd_desk::{
@@ -13,6 +13,7 @@ use apd_radio::Sim;
 use apd_slot::Slot;
 use std::alloc::Global;
 use std::marker::Brand;
+use std::net::Net;
 use std::sync::Wait;
 use std::sync::ledger::{Blank, Ledger};
 use std::thread::{Threads, join};
@@ -52,7 +53,7 @@ where
     D: Drop,
 {
     let flusher = flush_worker(rt, shared, flusher, &NoGate);
-    let seat = seat_stopped(rt, shared);
+    let seat = stopped_seat(rt, shared);
     shared.stop(rt);
     if flusher.phase() == Phase::Failed {
         seat
@@ -61,7 +62,7 @@ where
     }
 }
 
-fn seat_stopped<L: Ledger, W: Wait>(rt: &W, shared: &Shared<L>) -> Option<Seat<L>> {
+fn stopped_seat<L: Ledger, W: Wait>(rt: &W, shared: &Shared<L>) -> Option<Seat<L>> {
     let mut seat = shared.seat(rt)?;
     if is_stopped(rt, shared, &mut seat) {
         Some(seat)
@@ -70,7 +71,7 @@ fn seat_stopped<L: Ledger, W: Wait>(rt: &W, shared: &Shared<L>) -> Option<Seat<L
     }
 }
 
-fn serve_radio<L: Ledger, W: Wait + Clock>(
+fn serve_radio<L: Ledger, W: Wait + Clock + Net>(
     rt: &W,
     alloc: Global,
     shared: &Shared<L>,
@@ -90,9 +91,13 @@ fn serve_radio<L: Ledger, W: Wait + Clock>(
     Some(seat)
 }
 
-fn serve_commands<L: Ledger, W: Wait + Clock>(rt: &W, shared: &Shared<L>) -> Option<Seat<L>> {
+fn serve_commands<L: Ledger, W: Wait + Clock + Net>(
+    rt: &W,
+    alloc: Global,
+    shared: &Shared<L>,
+) -> Option<Seat<L>> {
     let seat = shared.seat(rt)?;
-    let (seat, _port) = control_worker(rt, shared, seat, Silent, &Still, &NoGate);
+    let (seat, _port) = control_worker(rt, alloc, shared, seat, Silent, &Still, &NoGate);
     Some(seat)
 }
 
@@ -102,73 +107,85 @@ fn serve_ticks<L: Ledger, W: Wait + Clock>(rt: &W, shared: &Shared<L>) -> Option
 }
 
 // Both in one list.
-fn joined<X: Drop>(one: Option<Vec<X>>, other: Option<X>) -> Option<Vec<X>> {
+fn list_of_both<X: Drop>(one: Option<Vec<X>>, other: Option<X>) -> Option<Vec<X>> {
     let mut all = one?;
     all.push(other?).ok()?;
     Some(all)
 }
 
-fn serve_both<L: Ledger + Send + Sync, R: Threads + Wait + Clock + Sync>(
+fn serve_both<L: Ledger + Send + Sync, R: Threads + Wait + Clock + Net + Sync>(
     rt: &R,
     alloc: Global,
     shared: &Shared<L>,
-) -> Option<Vec<Seat<L>>> {
+) -> Option<Vec<Seat<L>>>
+where
+    R::Stream: Send + Sync,
+    R::Listener: Send + Sync,
+{
     let (one, other) = join(
         rt,
-        move || serve_commands(rt, shared),
+        move || serve_commands(rt, alloc, shared),
         move || serve_ticks(rt, shared),
     );
-    joined(joined(Some(Vec::new(alloc)), one), other)
+    list_of_both(list_of_both(Some(Vec::new(alloc)), one), other)
 }
 
-fn serve_all<L: Ledger + Send + Sync, R: Threads + Wait + Clock + Sync>(
+fn serve_all<L: Ledger + Send + Sync, R: Threads + Wait + Clock + Net + Sync>(
     rt: &R,
     alloc: Global,
     shared: &Shared<L>,
-) -> Option<Vec<Seat<L>>> {
+) -> Option<Vec<Seat<L>>>
+where
+    R::Stream: Send + Sync,
+    R::Listener: Send + Sync,
+{
     let (one, others) = join(
         rt,
         move || serve_radio(rt, alloc, shared),
         move || serve_both(rt, alloc, shared),
     );
-    joined(others, one)
+    list_of_both(others, one)
 }
 
 // The seats of all workers, and of one that was refused, once the device has failed.
-fn work_to_the_fault<L: Ledger + Send + Sync, R: Threads + Wait + Clock + Sync, D: Disk + Send>(
-    rt: &R,
-    alloc: Global,
-    shared: &Shared<L>,
-    flusher: Flusher<D>,
-) -> Option<Vec<Seat<L>>>
+fn work_to_the_fault<
+    L: Ledger + Send + Sync,
+    R: Threads + Wait + Clock + Net + Sync,
+    D: Disk + Send,
+>(rt: &R, alloc: Global, shared: &Shared<L>, flusher: Flusher<D>) -> Option<Vec<Seat<L>>>
 where
     D: Drop,
+    R::Stream: Send + Sync,
+    R::Listener: Send + Sync,
 {
     let (one, others) = join(
         rt,
         move || commit_to_the_fault(rt, shared, flusher),
         move || serve_all(rt, alloc, shared),
     );
-    joined(others, one)
+    list_of_both(others, one)
 }
 
 // How many seats come back, and how many entries there were, where the device fails after as many calls.
-fn fails<L: Ledger + Send + Sync, R: Threads + Wait + Clock + Sync>(
+fn fails<L: Ledger + Send + Sync, R: Threads + Wait + Clock + Net + Sync>(
     rt: &R,
     alloc: Global,
     calls: u64,
     blank: Blank,
 ) -> Option<(usize, u64)>
+where
+    R::Stream: Send + Sync,
+    R::Listener: Send + Sync,
     requires name { blank.name ≡ L.name }
     requires parts { blank.parts ≡ L.parts }
     requires all { blank.parts ≡ 65536 }
 {
-    let shared: Shared<L> = share(started(alloc), blank)?;
-    let seats = work_to_the_fault(rt, alloc, &shared, failing(alloc, calls)?)?;
-    closed(shared, seats)
+    let shared: Shared<L> = share(started_core(alloc), blank)?;
+    let seats = work_to_the_fault(rt, alloc, &shared, failing_flusher(alloc, calls)?)?;
+    close_and_count(shared, seats)
 }
 
-fn closed<L: Ledger>(shared: Shared<L>, seats: Vec<Seat<L>>) -> Option<(usize, u64)>
+fn close_and_count<L: Ledger>(shared: Shared<L>, seats: Vec<Seat<L>>) -> Option<(usize, u64)>
     requires { L.parts ≡ 65536 }
 {
     let back = seats.len();
@@ -176,7 +193,7 @@ fn closed<L: Ledger>(shared: Shared<L>, seats: Vec<Seat<L>>) -> Option<(usize, u
     Some((back, number))
 }
 
-fn failing(alloc: Global, calls: u64) -> Option<Flusher<FuseDisk<MemDisk>>> {
+fn failing_flusher(alloc: Global, calls: u64) -> Option<Flusher<FuseDisk<MemDisk>>> {
     flusher(
         alloc,
         FuseDisk::new(blank_disk(alloc)?, FORMAT.saturating_add(calls)),

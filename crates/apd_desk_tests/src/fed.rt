@@ -36,7 +36,7 @@ impl Stage {
         self.downs.load(Ordering::SeqCst)
     }
 
-    pub(crate) fn sent(&self) -> usize {
+    pub(crate) fn transmissions(&self) -> usize {
         self.sent.load(Ordering::SeqCst)
     }
 

@@ -4,6 +4,8 @@
 #[cfg(test)]
 mod accepting_tests;
 #[cfg(test)]
+mod asking;
+#[cfg(test)]
 mod association_tests;
 #[cfg(test)]
 mod committer_tests;
@@ -31,3 +33,5 @@ mod spare_tests;
 mod staged;
 #[cfg(test)]
 mod tick_tests;
+#[cfg(test)]
+mod waking_tests;

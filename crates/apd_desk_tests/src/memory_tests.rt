@@ -1,7 +1,7 @@
 // A commit that is refused memory. Where memory is ample nothing is refused; by hand each allocation is refused in turn.
 ghost use Rattle.std.specs.Prelude.{◌≡◌};
 
-use crate::common::{asked, is_told, memory_flusher, share};
+use crate::common::{asked_core, is_told, memory_flusher, share};
 use apd_core::Core;
 use apd_desk::{NoGate, Shared, flush_worker};
 use apd_disk::MemDisk;
@@ -13,10 +13,10 @@ use std::sync::ledger::{Blank, Ledger};
 use std::time::Clock;
 
 // A core at which a station associates, which is not settled.
-fn unsettled(alloc: Global) -> Option<Core> {
-    match asked(alloc) {
+fn unsettled_core(alloc: Global) -> Option<Core> {
+    match asked_core(alloc) {
         Some(core) => Some(core),
-        None => asked(alloc),
+        None => asked_core(alloc),
     }
 }
 
@@ -35,17 +35,17 @@ fn commits<L: Ledger, W: Wait + Clock>(rt: &W, alloc: Global, shared: &Shared<L>
     Some(is_told(rt, shared, &mut seat) || is_told(rt, shared, &mut seat))
 }
 
-fn committed<L: Ledger, W: Wait + Clock>(rt: &W, alloc: Global, blank: Blank) -> Option<bool>
+fn commits_shared<L: Ledger, W: Wait + Clock>(rt: &W, alloc: Global, blank: Blank) -> Option<bool>
     requires name { blank.name ≡ L.name }
     requires parts { blank.parts ≡ L.parts }
     requires all { blank.parts ≡ 65536 }
 {
-    let shared: Shared<L> = share(unsettled(alloc), blank)?;
+    let shared: Shared<L> = share(unsettled_core(alloc), blank)?;
     commits(rt, alloc, &shared)
 }
 
 #[test]
 fn a_commit_that_is_refused_memory_is_tried_again(rt: HostRuntime) {
-    let committed = committed::<Brand, _>(&rt, rt.alloc(), Blank::new(65_536));
+    let committed = commits_shared::<Brand, _>(&rt, rt.alloc(), Blank::new(65_536));
     assert_eq!(rt; committed, Some(true));
 }

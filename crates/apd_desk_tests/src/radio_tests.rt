@@ -2,7 +2,7 @@
 ghost use Rattle.std.specs.Prelude.{◌≡◌};
 
 use crate::common::{
-    ASSOCIATION, Still, WLAN0, associated, authentication, memory_flusher, share, started,
+    ASSOCIATION, Still, WLAN0, associated_core, authentication, memory_flusher, share, started_core,
 };
 use crate::staged::{At, Log, Short, Staged};
 use apd_base::Moment;
@@ -12,12 +12,13 @@ use apd_radio::{Failing, Radio, Recording, Sim};
 use apd_slot::Slot;
 use std::alloc::Global;
 use std::marker::Brand;
+use std::net::Net;
 use std::sync::Wait;
 use std::sync::ledger::{Blank, Ledger};
 use std::time;
 
 // Serves a radio that receives these frames, until the look behind them. Gives the seat.
-fn serve<L: Ledger, W: Wait + time::Clock, R: Radio, C: Clock, G: Gate>(
+fn serve<L: Ledger, W: Wait + time::Clock + Net, R: Radio, C: Clock, G: Gate>(
     rt: &W,
     alloc: Global,
     shared: &Shared<L>,
@@ -35,7 +36,7 @@ fn serve<L: Ledger, W: Wait + time::Clock, R: Radio, C: Clock, G: Gate>(
 
 // What a radio is told that meets want of memory so many times, at the first of the outs that wait. All are told to stop
 // before the first of them.
-fn told<L: Ledger, W: Wait + time::Clock>(
+fn radio_log<L: Ledger, W: Wait + time::Clock + Net>(
     rt: &W,
     alloc: Global,
     blank: Blank,
@@ -45,13 +46,13 @@ fn told<L: Ledger, W: Wait + time::Clock>(
     requires parts { blank.parts ≡ L.parts }
     requires all { blank.parts ≡ 65536 }
 {
-    let shared: Shared<L> = share(associated(alloc), blank)?;
+    let shared: Shared<L> = share(associated_core(alloc), blank)?;
     let mut written = Vec::new(alloc);
-    write_told(rt, alloc, &shared, times, &mut written)?;
+    write_log(rt, alloc, &shared, times, &mut written)?;
     Some(written)
 }
 
-fn write_told<L: Ledger, W: Wait + time::Clock>(
+fn write_log<L: Ledger, W: Wait + time::Clock + Net>(
     rt: &W,
     alloc: Global,
     shared: &Shared<L>,
@@ -76,11 +77,11 @@ down
 "
 }
 
-// Sixty times in a row are more than a worker looks again before it waits.
+// 260 times in a row are more than a worker looks again before it waits.
 #[test]
 fn no_out_is_lost_at_want_of_memory_or_at_a_stop(rt: HostRuntime) {
-    for times in [0, 1, 60] {
-        let told = told::<Brand, _>(&rt, rt.alloc(), Blank::new(65_536), times);
+    for times in [0, 1, 260] {
+        let told = radio_log::<Brand, _>(&rt, rt.alloc(), Blank::new(65_536), times);
         assert_eq!(rt; told.as_deref(), Some(all_lines()), "{times}");
     }
 }
@@ -97,16 +98,20 @@ fn lets_go<L: Ledger, W: Wait>(
 }
 
 // Whether a station that was heard at 200 s is let go at 400 s, and at 500 s.
-fn gone<L: Ledger, W: Wait + time::Clock>(rt: &W, alloc: Global, blank: Blank) -> Option<[bool; 2]>
+fn departures<L: Ledger, W: Wait + time::Clock + Net>(
+    rt: &W,
+    alloc: Global,
+    blank: Blank,
+) -> Option<[bool; 2]>
     requires name { blank.name ≡ L.name }
     requires parts { blank.parts ≡ L.parts }
     requires all { blank.parts ≡ 65536 }
 {
-    let shared: Shared<L> = share(started(alloc), blank)?;
-    gone_at(rt, alloc, &shared)
+    let shared: Shared<L> = share(started_core(alloc), blank)?;
+    departures_at(rt, alloc, &shared)
 }
 
-fn gone_at<L: Ledger, W: Wait + time::Clock>(
+fn departures_at<L: Ledger, W: Wait + time::Clock + Net>(
     rt: &W,
     alloc: Global,
     shared: &Shared<L>,
@@ -122,12 +127,12 @@ fn gone_at<L: Ledger, W: Wait + time::Clock>(
 
 #[test]
 fn a_frame_is_heard_at_its_moment(rt: HostRuntime) {
-    let gone = gone::<Brand, _>(&rt, rt.alloc(), Blank::new(65_536));
+    let gone = departures::<Brand, _>(&rt, rt.alloc(), Blank::new(65_536));
     assert_eq!(rt; gone, Some([false, true]));
 }
 
 // Whether a radio is noted as up, by the worker that served it.
-fn noted<L: Ledger, W: Wait + time::Clock>(
+fn is_noted_up<L: Ledger, W: Wait + time::Clock + Net>(
     rt: &W,
     alloc: Global,
     shared: &Shared<L>,
@@ -135,11 +140,11 @@ fn noted<L: Ledger, W: Wait + time::Clock>(
 ) -> Option<bool> {
     let radio = Failing::new(Sim::new(alloc), calls);
     serve(rt, alloc, shared, radio, &[], &Still, &NoGate)?;
-    Some(shared.noted(rt, WLAN0))
+    Some(shared.is_noted_up(rt, WLAN0))
 }
 
 // The same, where a station is to be installed or none, by a radio that passes so many calls.
-fn is_up<L: Ledger, W: Wait + time::Clock>(
+fn is_up<L: Ledger, W: Wait + time::Clock + Net>(
     rt: &W,
     alloc: Global,
     blank: Blank,
@@ -151,12 +156,12 @@ fn is_up<L: Ledger, W: Wait + time::Clock>(
     requires all { blank.parts ≡ 65536 }
 {
     let core = if installs {
-        associated(alloc)
+        associated_core(alloc)
     } else {
-        started(alloc)
+        started_core(alloc)
     };
     let shared: Shared<L> = share(core, blank)?;
-    noted(rt, alloc, &shared, calls)
+    is_noted_up(rt, alloc, &shared, calls)
 }
 
 #[test]
@@ -173,16 +178,20 @@ fn whether_a_radio_is_up_is_noted(rt: HostRuntime) {
 }
 
 // What passes the gate of two frames and their commit.
-fn logged<L: Ledger, W: Wait + time::Clock>(rt: &W, alloc: Global, blank: Blank) -> Option<u64>
+fn gate_log<L: Ledger, W: Wait + time::Clock + Net>(
+    rt: &W,
+    alloc: Global,
+    blank: Blank,
+) -> Option<u64>
     requires name { blank.name ≡ L.name }
     requires parts { blank.parts ≡ L.parts }
     requires all { blank.parts ≡ 65536 }
 {
-    let shared: Shared<L> = share(started(alloc), blank)?;
+    let shared: Shared<L> = share(started_core(alloc), blank)?;
     log_both(rt, alloc, &shared)
 }
 
-fn log_both<L: Ledger, W: Wait + time::Clock>(
+fn log_both<L: Ledger, W: Wait + time::Clock + Net>(
     rt: &W,
     alloc: Global,
     shared: &Shared<L>,
@@ -206,6 +215,6 @@ fn log_both<L: Ledger, W: Wait + time::Clock>(
 // The entries 2 and 3, and the four turns of a commit.
 #[test]
 fn a_gate_is_passed_at_each_entry_and_each_turn(rt: HostRuntime) {
-    let logged = logged::<Brand, _>(&rt, rt.alloc(), Blank::new(65_536));
+    let logged = gate_log::<Brand, _>(&rt, rt.alloc(), Blank::new(65_536));
     assert_eq!(rt; logged, Some(0x23_baba_baba));
 }

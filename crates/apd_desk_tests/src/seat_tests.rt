@@ -2,7 +2,7 @@
 ghost use Rattle.std.specs.Prelude.{◌≡◌};
 
 use crate::common::{
-    WLAN0, authentication, commit_all, new_core, share, started, station, submits,
+    WLAN0, authentication, commit_all, new_core, share, started_core, station, submits,
 };
 use apd_core::Core;
 use apd_ctrl::Query;
@@ -64,14 +64,14 @@ fn eight_stations<L: Ledger + Send + Sync, R: Threads + Wait + Clock + Sync>(
     requires parts { blank.parts ≡ L.parts }
     requires all { blank.parts ≡ 65536 }
 {
-    let shared: Shared<L> = share(started(alloc), blank)?;
+    let shared: Shared<L> = share(started_core(alloc), blank)?;
     let seats = eight_seats(rt, alloc, &shared)?;
     commit_all(rt, alloc, &shared);
-    closed(shared, seats)
+    close_and_show(shared, seats)
 }
 
 // What the core shows of the stations, and how many entries it accepted.
-fn closed<L: Ledger>(shared: Shared<L>, seats: Vec<Seat<L>>) -> Option<(bool, u64)>
+fn close_and_show<L: Ledger>(shared: Shared<L>, seats: Vec<Seat<L>>) -> Option<(bool, u64)>
     requires { L.parts ≡ 65536 }
 {
     let (core, number) = shared.close(seats).ok()?;
@@ -101,7 +101,7 @@ fn each_seat_its_station(rt: HostRuntime) {
 }
 
 // How many seats are given.
-fn seats_given<L: Ledger, W: Wait>(rt: &W, alloc: Global, blank: Blank) -> u64
+fn given_seats<L: Ledger, W: Wait>(rt: &W, alloc: Global, blank: Blank) -> u64
     requires name { blank.name ≡ L.name }
     requires parts { blank.parts ≡ L.parts }
     requires all { blank.parts ≡ 65536 }
@@ -124,7 +124,7 @@ fn count_seats<L: Ledger, W: Wait>(rt: &W, shared: &Shared<L>) -> u64 {
 
 #[test]
 fn there_are_65536_seats(rt: HostRuntime) {
-    let given = seats_given::<Brand, _>(&rt, rt.alloc(), Blank::new(65_536));
+    let given = given_seats::<Brand, _>(&rt, rt.alloc(), Blank::new(65_536));
     assert_eq!(rt; given, 65_536);
 }
 
@@ -162,7 +162,7 @@ fn close_twice<L: Ledger, W: Wait>(rt: &W, alloc: Global, blank: Blank) -> Optio
     requires parts { blank.parts ≡ L.parts }
     requires all { blank.parts ≡ 65536 }
 {
-    let shared: Shared<L> = share(started(alloc), blank)?;
+    let shared: Shared<L> = share(started_core(alloc), blank)?;
     let seats = one_seat(rt, alloc, &shared)?;
     let late = seat_of(rt, &shared, 1)?;
     close_late(shared, seats, late)

@@ -1,7 +1,7 @@
 // A radio whose driver fails while stations are served, with spare radios and without, and another radio beside it.
 ghost use Rattle.std.specs.Prelude.{◌≡◌};
 
-use crate::common::{Still, WLAN0, WLAN1, memory_flusher, share, started_both, station};
+use crate::common::{Still, WLAN0, WLAN1, core_of_two_radios, memory_flusher, share, station};
 use crate::fed::{Asks, Fed, Frame, Stage, When};
 use crate::operator::Operator;
 use apd_base::{Addr, Bssid};
@@ -13,6 +13,7 @@ use apd_radio::{Failing, Sim};
 use apd_slot::Slot;
 use std::alloc::Global;
 use std::marker::Brand;
+use std::net::Net;
 use std::sync::Wait;
 use std::sync::ledger::{Blank, Ledger};
 use std::thread::{Threads, join, sleep};
@@ -165,7 +166,7 @@ fn begin(replies: &[Vec<u8>], texts: &[&[u8]]) -> bool {
 }
 
 // Asks, and tells all to stop. Whether the replies begin so.
-fn replies<'a, L: Ledger, W: Wait + Clock>(
+fn replies<'a, L: Ledger, W: Wait + Clock + Net>(
     rt: &'a W,
     alloc: Global,
     shared: &'a Shared<L>,
@@ -173,12 +174,12 @@ fn replies<'a, L: Ledger, W: Wait + Clock>(
     texts: &[&[u8]],
 ) -> bool {
     let port = Operator::new(rt, alloc, shared, None, ASKED);
-    let (_seat, port) = control_worker(rt, shared, seat, port, &Still, &NoGate);
+    let (_seat, port) = control_worker(rt, alloc, shared, seat, port, &Still, &NoGate);
     begin(port.into_replies().as_slice(), texts)
 }
 
 // Waits until all have come, asks then, and tells all to stop. Whether all came, and the replies begin so.
-fn ask<L: Ledger, W: Wait + Clock>(
+fn ask<L: Ledger, W: Wait + Clock + Net>(
     rt: &W,
     alloc: Global,
     shared: &Shared<L>,
@@ -193,14 +194,18 @@ fn ask<L: Ledger, W: Wait + Clock>(
 }
 
 // Commits, and asks.
-fn commit_and_ask<L: Ledger + Send + Sync, R: Threads + Wait + Clock + Sync>(
+fn commit_and_ask<L: Ledger + Send + Sync, R: Threads + Wait + Clock + Net + Sync>(
     rt: &R,
     alloc: Global,
     shared: &Shared<L>,
     flusher: Flusher<MemDisk>,
     stages: &Stages,
     scene: Scene,
-) -> bool {
+) -> bool
+where
+    R::Stream: Send + Sync,
+    R::Listener: Send + Sync,
+{
     let (_flusher, served) = join(
         rt,
         move || flush_worker(rt, shared, flusher, &NoGate),
@@ -219,7 +224,7 @@ fn see(slot: &Slot<Driver<'_>>, stations: [Addr; 2]) -> Seen {
 }
 
 // Serves a radio, and tells what is seen of these stations then.
-fn serve<'a, L: Ledger, W: Wait + Clock>(
+fn serve<'a, L: Ledger, W: Wait + Clock + Net>(
     rt: &W,
     alloc: Global,
     shared: &Shared<L>,
@@ -259,7 +264,7 @@ fn spares<'a>(alloc: Global, stage: &'a Stage, scene: Scene) -> Option<Vec<Drive
 }
 
 // It sends its first answer, and fails when the station is installed.
-fn serve_first<L: Ledger, W: Wait + Clock>(
+fn serve_first<L: Ledger, W: Wait + Clock + Net>(
     rt: &W,
     alloc: Global,
     shared: &Shared<L>,
@@ -272,7 +277,7 @@ fn serve_first<L: Ledger, W: Wait + Clock>(
     serve(rt, alloc, shared, slot, spares, stations)
 }
 
-fn serve_other<L: Ledger, W: Wait + Clock>(
+fn serve_other<L: Ledger, W: Wait + Clock + Net>(
     rt: &W,
     alloc: Global,
     shared: &Shared<L>,
@@ -283,13 +288,17 @@ fn serve_other<L: Ledger, W: Wait + Clock>(
     serve(rt, alloc, shared, slot, Vec::new(alloc), stations)
 }
 
-fn serve_both<L: Ledger + Send + Sync, R: Threads + Wait + Clock + Sync>(
+fn serve_both<L: Ledger + Send + Sync, R: Threads + Wait + Clock + Net + Sync>(
     rt: &R,
     alloc: Global,
     shared: &Shared<L>,
     stages: &Stages,
     scene: Scene,
-) -> (Option<Seen>, Option<Seen>) {
+) -> (Option<Seen>, Option<Seen>)
+where
+    R::Stream: Send + Sync,
+    R::Listener: Send + Sync,
+{
     join(
         rt,
         move || serve_first(rt, alloc, shared, &stages.first, scene),
@@ -297,13 +306,17 @@ fn serve_both<L: Ledger + Send + Sync, R: Threads + Wait + Clock + Sync>(
     )
 }
 
-fn run<L: Ledger + Send + Sync, R: Threads + Wait + Clock + Sync>(
+fn run<L: Ledger + Send + Sync, R: Threads + Wait + Clock + Net + Sync>(
     rt: &R,
     alloc: Global,
     shared: &Shared<L>,
     flusher: Flusher<MemDisk>,
     scene: Scene,
-) -> Found {
+) -> Found
+where
+    R::Stream: Send + Sync,
+    R::Listener: Send + Sync,
+{
     let stages = Stages {
         first: Stage::new(),
         other: Stage::new(),
@@ -319,22 +332,28 @@ fn run<L: Ledger + Send + Sync, R: Threads + Wait + Clock + Sync>(
         first,
         other,
         downs: stages.first.downs(),
-        sent: [stages.first.sent().min(4), stages.other.sent().min(2)],
+        sent: [
+            stages.first.transmissions().min(4),
+            stages.other.transmissions().min(2),
+        ],
         associations: [stages.first.associations(), stages.other.associations()],
     }
 }
 
-fn find<L: Ledger + Send + Sync, R: Threads + Wait + Clock + Sync>(
+fn find<L: Ledger + Send + Sync, R: Threads + Wait + Clock + Net + Sync>(
     rt: &R,
     alloc: Global,
     blank: Blank,
     scene: Scene,
 ) -> Option<Found>
+where
+    R::Stream: Send + Sync,
+    R::Listener: Send + Sync,
     requires name { blank.name ≡ L.name }
     requires parts { blank.parts ≡ L.parts }
     requires all { blank.parts ≡ 65536 }
 {
-    let shared: Shared<L> = share(started_both(alloc), blank)?;
+    let shared: Shared<L> = share(core_of_two_radios(alloc), blank)?;
     let flusher = memory_flusher(alloc)?;
     Some(run(rt, alloc, &shared, flusher, scene))
 }

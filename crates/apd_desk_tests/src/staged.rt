@@ -7,6 +7,7 @@ use apd_base::{Addr, Moment};
 use apd_desk::{Clock, Gate, Place, Shared};
 use apd_radio::{Radio, RadioFault};
 use std::alloc::Global;
+use std::os::fd::RawFd;
 use std::sync::Wait;
 use std::sync::atomic::{AtomicU64, AtomicUsize, Ordering};
 use std::sync::ledger::Ledger;
@@ -168,6 +169,10 @@ impl<R: Radio> Radio for Short<R> {
 
     fn poll(&mut self) -> Result<Option<Vec<u8>>, RadioFault> {
         self.inner.poll()
+    }
+
+    fn descriptor(&self) -> Option<RawFd> {
+        self.inner.descriptor()
     }
 
     fn install(&mut self, addr: Addr, aid: u16) -> Result<(), RadioFault> {

@@ -1,7 +1,7 @@
 // When the worker of ticks lets stations go.
 ghost use Rattle.std.specs.Prelude.{◌≡◌};
 
-use crate::common::{WLAN0, authentication, share, started};
+use crate::common::{WLAN0, authentication, share, started_core};
 use crate::staged::StagedClock;
 use apd_base::Moment;
 use apd_core::{Accepted, Core, Input};
@@ -20,8 +20,8 @@ fn hears(core: &mut Core, last: u8) -> bool {
 }
 
 // A core that two stations told something at 100 s, and nothing since.
-fn silent(alloc: Global) -> Option<Core> {
-    let mut core = started(alloc)?;
+fn silent_core(alloc: Global) -> Option<Core> {
+    let mut core = started_core(alloc)?;
     if hears(&mut core, 0xaa) && hears(&mut core, 0xbb) {
         Some(core)
     } else {
@@ -40,7 +40,7 @@ fn ticks<L: Ledger, W: Wait + time::Clock>(
     requires parts { blank.parts ≡ L.parts }
     requires all { blank.parts ≡ 65536 }
 {
-    let shared: Shared<L> = share(silent(alloc), blank)?;
+    let shared: Shared<L> = share(silent_core(alloc), blank)?;
     count(rt, &shared, moments)
 }
 

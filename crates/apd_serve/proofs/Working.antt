@@ -1,5 +1,5 @@
 -- What a worker has done, by what was done to what it owns.
-use Rattle.std.proofs.Common.{◌≡◌, refl}
+use Rattle.std.proofs.Common.{refl}
 use Rattle.apd_disk.specs.Disk.{DiskModel}
 use Rattle.apd_flusher.specs.Handing.{Keeps}
 use Rattle.apd_flusher.specs.declared.committer.Committer.{Committer}
@@ -10,11 +10,11 @@ use Rattle.apd_desk.specs.Holding.{IsLed}
 use Rattle.apd_desk.specs.SeatProgress.{IsLater}
 use Rattle.apd_desk.specs.declared.seat.Seat.{Seat}
 use Rattle.apd_serve.specs.Worked.{HasWorked}
-use Rattle.apd_serve.specs.declared.worker.Worker.TheVariants.{Flushing, Radio, Control, Ticks}
+use Rattle.apd_serve.specs.declared.worker.Worker.TheVariants.{Committing, Radio, Control, Ticks}
 
 module _ {L D R P : Type 0} (disk : DiskModel D) (radio : RadioModel R) where
   pub has_committed : (old new : Committer D) → IsLed disk old new → Keeps disk old new
-      → HasWorked {L = L} {D = D} {R = R} {P = P} disk radio (Flushing old) (Flushing new)
+      → HasWorked {L = L} {D = D} {R = R} {P = P} disk radio (Committing old) (Committing new)
   has_committed old new led keeps = record { new = new; still = refl; led = led; keeps = keeps }
 
   pub has_served : (seat later : Seat L) (old new : Slot R) → IsLater seat later → IsGivenOn radio old new

@@ -9,8 +9,8 @@ use Rattle.std.specs.declared.net.socket_addr.SocketAddr.{SocketAddr}
 use Rattle.apd_serve.specs.declared.control_port.ControlPort.{ControlPort}
 
 -- the datagram that was received and not given yet, by its sender and its bytes
-abbrev pub waiting : ControlPort → Option (SocketAddr × List ℕ)
-waiting port = option_or (option_map (λ datagram. (datagram.0, datagram.1.items)) port.received) port.datagrams
+abbrev pub waiting_datagram : ControlPort → Option (SocketAddr × List ℕ)
+waiting_datagram port = option_or (option_map (λ datagram. (datagram.0, datagram.1.items)) port.received) port.datagrams
 
 -- the four octets of an IPv4 address; one of IPv6 has none
 abbrev pub four_octets : IpAddr → List ℕ

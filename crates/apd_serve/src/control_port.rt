@@ -7,6 +7,7 @@ use apd_desk::{Port, PortFault};
 use apd_radio::{Datagrams, RadioFault, SocketFault};
 use std::alloc::Global;
 use std::net::{IpAddr, Ipv4Addr, Net, SocketAddr};
+use std::os::fd::RawFd;
 
 // A fault of the port's socket.
 fn of_socket(fault: RadioFault) -> PortFault
@@ -35,7 +36,7 @@ pub struct ControlPort {
 }
 
 impl ControlPort {
-    ghost use Rattle.apd_serve.specs.Commands.{IsLocal, waiting};
+    ghost use Rattle.apd_serve.specs.Commands.{IsLocal, waiting_datagram};
 
     /// Opens the port. Port 0 is for tests: the system chooses one that is free, and nothing is dropped, since no
     /// datagram comes from port 0.
@@ -57,12 +58,13 @@ impl ControlPort {
         ensures senders { self.new.senders ≡ self.old.senders }
         ensures own { self.new.own ≡ self.old.own }
         ensures given { OnOk result (IsNone self.new.datagrams) }
-        ensures foreign { IfSome (waiting self.old)
-            (λ waited. waited.0 ≢ self.old.own → OnOk result (waiting self.new ≡ Some waited)) }
-        ensures same { IfSome (waiting self.old)
-            (λ waited. IsSome self.new.received → OnOk result (waiting self.new ≡ Some waited)) }
-        ensures kept { IsSome (waiting self.old)
-            → OnErr result ((result ≡ Err PortFault.NoMemory) × (waiting self.new ≡ waiting self.old)) }
+        ensures foreign { IfSome (waiting_datagram self.old)
+            (λ waited. waited.0 ≢ self.old.own → OnOk result (waiting_datagram self.new ≡ Some waited)) }
+        ensures same { IfSome (waiting_datagram self.old)
+            (λ waited. IsSome self.new.received → OnOk result (waiting_datagram self.new ≡ Some waited)) }
+        ensures kept { IsSome (waiting_datagram self.old)
+            → OnErr result
+            ((result ≡ Err PortFault.NoMemory) × (waiting_datagram self.new ≡ waiting_datagram self.old)) }
     {
         if self.received.is_some() {
             return Ok(());
@@ -94,7 +96,7 @@ fn next_command(
 impl Port for ControlPort {
     ghost use Rattle.std.specs.Prelude.{◌⊎◌, ◌-◌, ◌^◌, MatchOption, IsSomeAnd};
     ghost use Rattle.std.specs.declared.net.socket_addr.SocketAddr.{SocketAddr};
-    ghost use Rattle.apd_serve.specs.Commands.{waiting};
+    ghost use Rattle.apd_serve.specs.Commands.{waiting_datagram};
     ghost use Rattle.apd_serve.specs.Tags.{Adds, AreSame, Forgets};
 
     /// A command that was received and meets want of memory stays: a later call gives it.
@@ -103,14 +105,15 @@ impl Port for ControlPort {
             (λ got. MatchOption got (AreSame self.old.senders self.new.senders)
             (λ command. (sender : SocketAddr) × (sender ≢ self.old.own)
             × Adds self.old.senders command.0 sender self.new.senders)) }
-        ensures own { IfSome (waiting self.old)
+        ensures own { IfSome (waiting_datagram self.old)
             (λ waited. waited.0 ≢ self.old.own → IfOk result
             (λ got. IsSomeAnd got
             (λ command. Adds self.old.senders command.0 waited.0 self.new.senders
             × (command.1.items ≡ waited.1)))) }
-        ensures given { OnOk result (IsNone (waiting self.new)) }
-        ensures stays { IsSome (waiting self.old) → OnErr result (waiting self.new ≡ waiting self.old) }
-        ensures short { IsSome (waiting self.old)
+        ensures given { OnOk result (IsNone (waiting_datagram self.new)) }
+        ensures stays { IsSome (waiting_datagram self.old)
+            → OnErr result (waiting_datagram self.new ≡ waiting_datagram self.old) }
+        ensures short { IsSome (waiting_datagram self.old)
             → OnErr result ((result ≡ Err PortFault.NoMemory) ⊎ (self.old.senders.given ≡ 2 ^ 64 - 1)) }
         ensures err { OnErr result (AreSame self.old.senders self.new.senders) }
     {
@@ -124,11 +127,15 @@ impl Port for ControlPort {
         Ok(self.received.take().map(|(_, bytes)| (tag, bytes)))
     }
 
+    fn descriptor(&self) -> Option<RawFd> {
+        Some(self.datagrams.descriptor())
+    }
+
     /// The reply goes to the sender of the command of this tag, which is then forgotten. To a tag of no command that
     /// waits nothing is sent.
     fn reply(&mut self, tag: u64, text: &[u8]) -> Result<(), PortFault>
         ensures forgotten { Forgets self.old.senders tag self.new.senders }
-        ensures waits { waiting self.new ≡ waiting self.old }
+        ensures waits { waiting_datagram self.new ≡ waiting_datagram self.old }
     {
         let Some(sender) = self.senders.take(tag) else {
             return Ok(());

@@ -29,8 +29,8 @@ impl From<AllocError> for ServeFault {
     }
 }
 
-/// Why a start that the world refused was refused. A start resumes no slot and replaces no radio, so `Slot` and `NoSlot`
-/// are never told of one.
+/// Why a start that the world refused was refused. A start resumes no slot and replaces no radio, so `Slot` and
+/// `NoSlot` are never told of one.
 pub(crate) fn of_start(fault: WorldFault) -> ServeFault
     ensures { (inner : StoreFault) → fault ≡ WorldFault.Store inner → result ≡ ServeFault.Store inner }
 {

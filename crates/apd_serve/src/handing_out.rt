@@ -22,7 +22,7 @@ const PAUSE: u64 = 1;
 
 // What of settled entries a recipient was not given yet. It tries again where memory lacks; where it lacks in the end,
 // there is none.
-fn collected<L: Ledger, W: Wait + Clock>(
+fn collect<L: Ledger, W: Wait + Clock>(
     rt: &W,
     shared: &Shared<L>,
     seat: &mut Seat<L>,
@@ -112,7 +112,8 @@ fn is_given_all<L: Ledger, W: Wait + Clock, R: Radio>(
 }
 
 /// Gives a slot what waits there, and then what of settled entries it was not given yet, in order, and nothing behind
-/// an out that was not taken. Where memory lacks it tries again; what it lacks for in the end waits on, which is logged.
+/// an out that was not taken. Where memory lacks it tries again; what it lacks for in the end waits on, which is
+/// logged.
 pub(crate) fn hand_out<L: Ledger, W: Wait + Clock + Log, R: Radio>(
     rt: &W,
     shared: &Shared<L>,
@@ -138,7 +139,7 @@ pub(crate) fn reply_settled<L: Ledger, W: Wait + Clock + Log, P: Port>(
     ensures count { seat.new.count ≡ seat.old.count }
     ensures later { IsLater seat.old seat.new }
 {
-    let Some(outs) = collected(rt, shared, seat, Recipient::Control) else {
+    let Some(outs) = collect(rt, shared, seat, Recipient::Control) else {
         tell_not_handed_out(rt);
         return;
     };

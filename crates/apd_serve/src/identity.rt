@@ -21,7 +21,7 @@ impl Identity {
     }
 
     /// The file of a name, if there is one that can be asked for.
-    pub(crate) fn named(files: &impl Files<File = File>, name: &str) -> Option<Identity> {
+    pub(crate) fn of_name(files: &impl Files<File = File>, name: &str) -> Option<Identity> {
         let found = metadata(files, name).ok()?;
         Some(Identity::of(&found))
     }

@@ -21,7 +21,7 @@ mod worker;
 pub use clock::SystemClock;
 pub use control_port::ControlPort;
 pub use fault::ServeFault;
-pub use opening::{Access, OpenFault, open_disk, opened};
+pub use opening::{Access, OpenFault, file_or_fault, open_disk};
 pub use running::{RunFault, Site, run};
 pub use senders::Senders;
 pub use serving::serve;

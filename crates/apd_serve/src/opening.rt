@@ -30,7 +30,7 @@ impl From<AllocError> for OpenFault {
 }
 
 /// What was had of the file of this name, or why it wasn't.
-pub fn opened<T: Drop>(
+pub fn file_or_fault<T: Drop>(
     rt: &impl AllocGlobal,
     name: &str,
     file: io::Result<T>,
@@ -75,5 +75,5 @@ pub fn open_disk(
         Access::Write => FileDisk::open(rt, name),
         Access::Make => open_or_create(rt, name),
     };
-    opened(rt, name, disk)
+    file_or_fault(rt, name, disk)
 }

@@ -1,6 +1,6 @@
 //! The files of recordings.
 use crate::identity::Identity;
-use crate::opening::{OpenFault, opened};
+use crate::opening::{OpenFault, file_or_fault};
 use apd_store::{MAGIC, OLD_MAGIC};
 use std::alloc::AllocError;
 use std::fs::File;
@@ -70,7 +70,7 @@ pub(crate) fn open_recordings(
     let mut recordings = Vec::with_capacity(rt.alloc(), count)?;
     for place in 0..count {
         let name = format!(in rt.alloc(); "{prefix}.{place}")?;
-        let file = opened(rt, name.as_str(), open(rt, name.as_str(), taken))?;
+        let file = file_or_fault(rt, name.as_str(), open(rt, name.as_str(), taken))?;
         recordings
             .push(RecordingFile { name, file })
             .map_err(AllocError::from)?;
@@ -81,14 +81,14 @@ pub(crate) fn open_recordings(
 /// Empties the files, and gives them, in their order.
 ///
 /// Errors: `CannotRead` where one can't be emptied.
-pub(crate) fn emptied(
+pub(crate) fn empty_files(
     rt: &impl AllocGlobal,
     recordings: Vec<RecordingFile>,
 ) -> Result<Vec<File>, OpenFault> {
     let mut files = Vec::with_capacity(rt.alloc(), recordings.len())?;
     for recording in recordings {
         let RecordingFile { name, file } = recording;
-        opened(rt, name.as_str(), file.set_len(0))?;
+        file_or_fault(rt, name.as_str(), file.set_len(0))?;
         files.push(file).map_err(AllocError::from)?;
     }
     Ok(files)

@@ -8,8 +8,8 @@ use crate::control_port::ControlPort;
 use crate::fault::ServeFault;
 use crate::identity::Identity;
 use crate::notices::{tell_entries, tell_start};
-use crate::opening::{Access, OpenFault, open_disk, opened};
-use crate::recordings::{RecordingFile, emptied, open_recordings};
+use crate::opening::{Access, OpenFault, file_or_fault, open_disk};
+use crate::recordings::{RecordingFile, empty_files, open_recordings};
 use crate::serving::{serve_started, start};
 use crate::store_watch::{Ending, StoreWatch, watch};
 use apd_base::Moment;
@@ -100,7 +100,7 @@ fn open_watch<'a>(
     rt: &(impl Files<File = File> + AllocGlobal),
     name: &'a str,
 ) -> Result<StoreWatch<'a>, OpenFault> {
-    opened(rt, name, StoreWatch::open(rt, name))
+    file_or_fault(rt, name, StoreWatch::open(rt, name))
 }
 
 // The files that no recording may be made over: the store, those of the configurations, and the list files that
@@ -131,7 +131,7 @@ fn keep(
     kept: &mut Vec<Identity>,
     name: &str,
 ) -> Result<(), AllocError> {
-    if let Some(found) = Identity::named(files, name) {
+    if let Some(found) = Identity::of_name(files, name) {
         kept.push(found)?;
     }
     Ok(())
@@ -172,7 +172,7 @@ fn open_radios(
 }
 
 // Has each radio recorded, the one at a place into the file at that place.
-fn recorded(
+fn record_radios(
     alloc: Global,
     radios: Vec<UdpSim>,
     files: Vec<File>,
@@ -196,7 +196,7 @@ struct Opened<'a> {
 
 // Serves a world that is started, and watches its store's file meanwhile.
 fn serve_watched<
-    W: Files<File = File> + Wait + Threads + time::Clock + AllocGlobal + Log + Sync,
+    W: Files<File = File> + Net + Wait + Threads + time::Clock + AllocGlobal + Log + Sync,
     R: Radio + Send,
     B: Read + Drop,
 >(
@@ -209,6 +209,8 @@ fn serve_watched<
 ) -> Result<u64, ServeFault>
 where
     W::Dir: Send + Sync,
+    W::Stream: Send + Sync,
+    W::Listener: Send + Sync,
 {
     let ending = Ending::new();
     thread::scope(
@@ -231,12 +233,14 @@ where
 // Serves with these radios, one for each configuration, in their order, and tells what is served. Each station of the
 // table was heard at the moment 0.
 fn run_with<
-    W: Files<File = File> + Wait + Threads + time::Clock + AllocGlobal + Log + Sync,
+    W: Files<File = File> + Net + Wait + Threads + time::Clock + AllocGlobal + Log + Sync,
     R: Radio + Send,
     B: Read + Drop,
 >(rt: &W, confs: Confs, opened: Opened<'_>, radios: Vec<R>, reader: B) -> Result<u64, RunFault>
 where
     W::Dir: Send + Sync,
+    W::Stream: Send + Sync,
+    W::Listener: Send + Sync,
 {
     let Opened {
         store,
@@ -272,6 +276,8 @@ pub fn run<
 >(rt: &W, confs: Confs, site: &Site<'_>, reader: B) -> Result<u64, RunFault>
 where
     W::Dir: Send + Sync,
+    W::Stream: Send + Sync,
+    W::Listener: Send + Sync,
 {
     let count = confs.list().len();
     let (store, table) = open_store(rt, site.store)?;
@@ -289,8 +295,8 @@ where
     let entries = match recordings {
         None => run_with(rt, confs, opened_site, radios, reader)?,
         Some(recordings) => {
-            let files = emptied(rt, recordings)?;
-            let radios = recorded(rt.alloc(), radios, files)?;
+            let files = empty_files(rt, recordings)?;
+            let radios = record_radios(rt.alloc(), radios, files)?;
             run_with(rt, confs, opened_site, radios, reader)?
         }
     };

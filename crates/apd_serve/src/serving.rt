@@ -1,11 +1,11 @@
 //! An access point that serves, in threads.
 ghost use Rattle.std.specs.Prelude.{◌≡◌, ◌+◌, [], IfOk, OnOk};
-ghost use Rattle.apd_desk.specs.Counted.{counted};
+ghost use Rattle.apd_desk.specs.Counted.{entries_of_seats};
 ghost use Rattle.apd_serve.specs.Entries.{entries_of_all, entries_of_seat};
 
 use crate::crew::work_until_end;
 use crate::fault::{ServeFault, of_start};
-use crate::worker::{Desk, Worker};
+use crate::worker::{Environment, Worker};
 use apd_core::Core;
 use apd_desk::{Clock, Gate, Port, SEATS, Seat, Shared};
 use apd_disk::Disk;
@@ -17,6 +17,7 @@ use log::Log;
 use std::alloc::{AllocError, Global};
 use std::io::Read;
 use std::marker::Brand;
+use std::net::Net;
 use std::sync::Wait;
 use std::sync::ledger::{Blank, Ledger};
 use std::thread::Threads;
@@ -33,7 +34,7 @@ fn crew<L: Ledger, W: Wait, D: Disk + Drop, R: Radio, P: Port + Drop>(
     port: P,
 ) -> Result<Option<Vec<Worker<L, D, R, P>>>, AllocError> {
     let mut workers = Vec::new(alloc);
-    workers.push(Worker::Flushing(committer))?;
+    workers.push(Worker::Committing(committer))?;
     for slot in slots {
         let Some(seat) = shared.seat(rt) else {
             return Ok(None);
@@ -51,7 +52,7 @@ fn crew<L: Ledger, W: Wait, D: Disk + Drop, R: Radio, P: Port + Drop>(
 
 // Keeps a seat, if there is one.
 fn keep<L: Ledger>(seats: &mut Vec<Seat<L>>, seat: Option<Seat<L>>) -> Result<(), AllocError>
-    ensures { OnOk result (counted seats.new.items ≡ counted seats.old.items + entries_of_seat seat) }
+    ensures { OnOk result (entries_of_seats seats.new.items ≡ entries_of_seats seats.old.items + entries_of_seat seat) }
 {
     if let Some(seat) = seat {
         seats.push(seat)?;
@@ -74,7 +75,8 @@ fn dismiss<
     gate: &G,
     seats: &mut Vec<Seat<L>>,
 ) -> Result<(), AllocError>
-    ensures { OnOk result (counted seats.new.items ≡ counted seats.old.items + entries_of_all workers.items) }
+    ensures { OnOk result
+        (entries_of_seats seats.new.items ≡ entries_of_seats seats.old.items + entries_of_all workers.items) }
 {
     for worker in workers {
         keep(seats, worker.leave(rt, shared, gate))?;
@@ -86,14 +88,7 @@ fn dismiss<
 // once more what was settled.
 //
 // Errors: `Thread` where a seat is missing; `NoMemory`, which can't come where the seats have room for all.
-fn closed<
-    L: Ledger,
-    W: Wait + time::Clock + Log,
-    D: Disk + Drop,
-    R: Radio,
-    P: Port + Drop,
-    G: Gate,
->(
+fn close<L: Ledger, W: Wait + time::Clock + Log, D: Disk + Drop, R: Radio, P: Port + Drop, G: Gate>(
     rt: &W,
     shared: Shared<L>,
     workers: Vec<Worker<L, D, R, P>>,
@@ -113,9 +108,9 @@ fn closed<
 }
 
 // As `serve`, with the world started, over one ledger.
-fn served<
+fn serve_over_ledger<
     L: Ledger + Send + Sync,
-    W: Wait + Threads + time::Clock + Log + Sync,
+    W: Wait + Threads + time::Clock + Log + Net + Sync,
     D: Disk + Drop + Send,
     R: Radio + Send,
     P: Port + Drop + Send,
@@ -132,6 +127,9 @@ fn served<
     gate: &G,
     reader: &mut B,
 ) -> Result<u64, ServeFault>
+where
+    W::Stream: Send + Sync,
+    W::Listener: Send + Sync,
     requires name { blank.name ≡ L.name }
     requires parts { blank.parts ≡ L.parts }
     requires all { blank.parts ≡ SEATS }
@@ -142,16 +140,16 @@ fn served<
         return Err(ServeFault::Thread);
     };
     let seats = Vec::with_capacity(alloc, workers.len())?;
-    let desk = Desk {
+    let environment = Environment {
         rt,
         alloc,
         shared: &shared,
         clock,
         gate,
     };
-    let workers = work_until_end(rt, alloc, &desk, workers, reader)?;
-    drop(desk);
-    closed(rt, shared, workers, gate, seats)
+    let workers = work_until_end(rt, alloc, &environment, workers, reader)?;
+    drop(environment);
+    close(rt, shared, workers, gate, seats)
 }
 
 /// Starts a world: configures each interface, which is committed and handed out. Then nothing waits in it that would be
@@ -165,7 +163,7 @@ pub(crate) fn start<D: Disk + Drop, R: Radio>(world: &mut World<D, R>) -> Result
 
 /// As `serve`, with the world started.
 pub(crate) fn serve_started<
-    W: Wait + Threads + time::Clock + Log + Sync,
+    W: Wait + Threads + time::Clock + Log + Net + Sync,
     D: Disk + Drop + Send,
     R: Radio + Send,
     P: Port + Drop + Send,
@@ -180,10 +178,23 @@ pub(crate) fn serve_started<
     clock: C,
     gate: &G,
     reader: B,
-) -> Result<u64, ServeFault> {
+) -> Result<u64, ServeFault>
+where
+    W::Stream: Send + Sync,
+    W::Listener: Send + Sync,
+{
     let mut reader = reader;
     let blank = Blank::new(u64::from(SEATS));
-    served::<Brand, W, D, R, P, C, G, B>(rt, alloc, blank, world, port, &clock, gate, &mut reader)
+    serve_over_ledger::<Brand, W, D, R, P, C, G, B>(
+        rt,
+        alloc,
+        blank,
+        world,
+        port,
+        &clock,
+        gate,
+        &mut reader,
+    )
 }
 
 /// Serves an access point until the input ends or fails: configures each interface, which is committed and handed
@@ -200,7 +211,7 @@ pub(crate) fn serve_started<
 /// of the device that comes later is none: it is logged at the level error when it comes, what it leaves undone is
 /// never told, and what comes after is refused, until a restart.
 pub fn serve<
-    W: Wait + Threads + time::Clock + Log + Sync,
+    W: Wait + Threads + time::Clock + Log + Net + Sync,
     D: Disk + Drop + Send,
     R: Radio + Send,
     P: Port + Drop + Send,
@@ -215,7 +226,11 @@ pub fn serve<
     clock: C,
     gate: &G,
     reader: B,
-) -> Result<u64, ServeFault> {
+) -> Result<u64, ServeFault>
+where
+    W::Stream: Send + Sync,
+    W::Listener: Send + Sync,
+{
     let mut world = world;
     start(&mut world)?;
     serve_started(rt, alloc, world, port, clock, gate, reader)

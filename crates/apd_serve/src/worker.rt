@@ -17,13 +17,14 @@ use apd_radio::Radio;
 use apd_slot::Slot;
 use log::Log;
 use std::alloc::Global;
+use std::net::Net;
 use std::sync::Wait;
 use std::sync::ledger::Ledger;
 use std::time;
 
 /// What the workers share.
 #[derive(Drop)]
-pub(crate) struct Desk<'a, L: Ledger, W, C, G> {
+pub(crate) struct Environment<'a, L: Ledger, W, C, G> {
     pub(crate) rt: &'a W,
     pub(crate) alloc: Global,
     pub(crate) shared: &'a Shared<L>,
@@ -31,7 +32,7 @@ pub(crate) struct Desk<'a, L: Ledger, W, C, G> {
     pub(crate) gate: &'a G,
 }
 
-impl<L: Ledger, W: Wait, C, G> Stops for Desk<'_, L, W, C, G> {
+impl<L: Ledger, W: Wait, C, G> Stops for Environment<'_, L, W, C, G> {
     fn stop(&self) {
         self.shared.stop(self.rt);
     }
@@ -41,7 +42,7 @@ impl<L: Ledger, W: Wait, C, G> Stops for Desk<'_, L, W, C, G> {
 #[derive(Drop)]
 pub(crate) enum Worker<L: Ledger, D: Disk + Drop, R: Radio, P: Port + Drop> {
     /// Commits.
-    Flushing(Committer<D>),
+    Committing(Committer<D>),
     /// Serves a radio.
     Radio(Seat<L>, Slot<R>),
     /// Serves the control port.
@@ -56,24 +57,24 @@ impl<
     D: Disk + Drop,
     R: Radio,
     P: Port + Drop,
-    W: Wait + time::Clock + Log,
+    W: Wait + time::Clock + Log + Net,
     C: Clock,
     G: Gate,
-> Job<Desk<'a, L, W, C, G>> for Worker<L, D, R, P> {
-    fn work(self, desk: &Desk<'a, L, W, C, G>) -> Worker<L, D, R, P>
+> Job<Environment<'a, L, W, C, G>> for Worker<L, D, R, P> {
+    fn work(self, environment: &Environment<'a, L, W, C, G>) -> Worker<L, D, R, P>
         ensures entries { entries_of self ≤ entries_of result }
         ensures worked { HasWorked D.model R.model self result }
     {
-        let Desk {
+        let Environment {
             rt,
             alloc,
             shared,
             clock,
             gate,
-        } = desk;
+        } = environment;
         match self {
-            Worker::Flushing(committer) => {
-                Worker::Flushing(committed(*rt, *shared, committer, *gate))
+            Worker::Committing(committer) => {
+                Worker::Committing(commit(*rt, *shared, committer, *gate))
             }
             Worker::Radio(seat, slot) => {
                 let none = Vec::new(*alloc);
@@ -83,7 +84,7 @@ impl<
                 Worker::Radio(seat, slot)
             }
             Worker::Control(seat, port) => {
-                let (seat, port) = control_worker(*rt, *shared, seat, port, *clock, *gate);
+                let (seat, port) = control_worker(*rt, *alloc, *shared, seat, port, *clock, *gate);
                 Worker::Control(seat, port)
             }
             Worker::Ticks(seat) => Worker::Ticks(tick_worker(*rt, *shared, seat, *clock, *gate)),
@@ -93,7 +94,7 @@ impl<
 
 // Commits until a stop, or until the store refuses, and gives back what is left: a batch or a receipt that was refused
 // waits there. That the device failed is told when it comes.
-fn committed<L: Ledger, W: Wait + time::Clock + Log, D: Disk, G: Gate>(
+fn commit<L: Ledger, W: Wait + time::Clock + Log, D: Disk, G: Gate>(
     rt: &W,
     shared: &Shared<L>,
     committer: Committer<D>,
@@ -113,7 +114,7 @@ fn committed<L: Ledger, W: Wait + time::Clock + Log, D: Disk, G: Gate>(
 
 impl<L: Ledger, D: Disk + Drop, R: Radio, P: Port + Drop> Worker<L, D, R, P> {
     // Does once more what it is for: commits what was accepted since it looked last, or hands out what was settled.
-    fn finished<W: Wait + time::Clock + Log, G: Gate>(
+    fn finish<W: Wait + time::Clock + Log, G: Gate>(
         self,
         rt: &W,
         shared: &Shared<L>,
@@ -123,8 +124,8 @@ impl<L: Ledger, D: Disk + Drop, R: Radio, P: Port + Drop> Worker<L, D, R, P> {
         ensures worked { HasWorked D.model R.model self result }
     {
         match self {
-            Worker::Flushing(committer) => {
-                Worker::Flushing(committed(rt, shared, committer, gate))
+            Worker::Committing(committer) => {
+                Worker::Committing(commit(rt, shared, committer, gate))
             }
             Worker::Radio(seat, slot) => {
                 let (mut seat, mut slot) = (seat, slot);
@@ -145,7 +146,7 @@ impl<L: Ledger, D: Disk + Drop, R: Radio, P: Port + Drop> Worker<L, D, R, P> {
         ensures { entries_of_seat result ≡ entries_of self }
     {
         match self {
-            Worker::Flushing(_committer) => None,
+            Worker::Committing(_committer) => None,
             Worker::Radio(seat, _slot) => Some(seat),
             Worker::Control(seat, _port) => Some(seat),
             Worker::Ticks(seat) => Some(seat),
@@ -161,6 +162,6 @@ impl<L: Ledger, D: Disk + Drop, R: Radio, P: Port + Drop> Worker<L, D, R, P> {
     ) -> Option<Seat<L>>
         ensures { entries_of_seat result ≡ entries_of self }
     {
-        self.finished(rt, shared, gate).into_seat()
+        self.finish(rt, shared, gate).into_seat()
     }
 }

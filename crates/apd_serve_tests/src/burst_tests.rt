@@ -97,10 +97,14 @@ fn storm_on(rt: &impl Net, alloc: Global, port: u16) -> Result<Storm, Fail> {
 }
 
 /// What `serve` answers in a storm, and how many of its frames were sent and not answered.
-fn served<R: Net + Wait + Threads + time::Clock + Log + Sync>(
+fn serve_storm<R: Net + Wait + Threads + time::Clock + Log + Sync>(
     rt: &R,
     alloc: Global,
-) -> Result<(Result<u64, ServeFault>, usize, usize), Fail> {
+) -> Result<(Result<u64, ServeFault>, usize, usize), Fail>
+where
+    R::Stream: Send + Sync,
+    R::Listener: Send + Sync,
+{
     let port = free_ports(rt, 1)?;
     let mut storm = storm_on(rt, alloc, port)?;
     let control = ControlPort::open(rt, alloc, port)?;
@@ -113,7 +117,7 @@ fn served<R: Net + Wait + Threads + time::Clock + Log + Sync>(
 
 #[test]
 fn a_burst_of_2000_frames_is_answered(rt: HostRuntime) -> Result<(), Fail> {
-    let (entries, frames, answers) = served(&rt, rt.alloc())?;
+    let (entries, frames, answers) = serve_storm(&rt, rt.alloc())?;
     assert_eq!(rt; answers, frames);
     assert_eq!(rt; entries.map(|entries| entries as usize), Ok(frames));
     Ok(())

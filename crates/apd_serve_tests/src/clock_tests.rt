@@ -30,7 +30,7 @@ impl time::Clock for Hand {
 }
 
 /// What is told at a moment by a clock that began at another.
-fn told(began: u64, then: u64) -> Moment {
+fn moment_of(began: u64, then: u64) -> Moment {
     let hand = Hand {
         moment: AtomicU64::new(began),
     };
@@ -49,7 +49,7 @@ fn the_milliseconds_since_it_was_made(rt: HostRuntime) -> Result<(), Fail> {
         (5_000, NEVER, 0),
         (NEVER, 5_000, 0),
     ] {
-        assert_eq!(rt; told(began, then), Moment(moment));
+        assert_eq!(rt; moment_of(began, then), Moment(moment));
     }
     Ok(())
 }

@@ -1,6 +1,6 @@
 //! What is left when the input ends: it is committed, and handed out once more.
 use crate::hearing::Hearing;
-use crate::serving_tests::{NEVER, Scene, disk, staged, world};
+use crate::serving_tests::{NEVER, Scene, disk, serve_on_stage, world};
 use crate::short_radio::Short;
 use crate::stage::{Stage, StageClock};
 use crate::talk::{
@@ -47,7 +47,7 @@ fn what_is_accepted_at_the_end_is_committed_and_answered(rt: HostRuntime) -> Res
         ],
         calls: NEVER,
     };
-    assert_eq!(rt; staged(&rt, rt.alloc(), scene, true)?, (Ok(2), 5));
+    assert_eq!(rt; serve_on_stage(&rt, rt.alloc(), scene, true)?, (Ok(2), 5));
     Ok(())
 }
 
@@ -83,14 +83,18 @@ fn authenticate<R: Radio>(
 
 /// What `serve` answers where the worker of the radio submits this frame when the one that commits has ended, and how
 /// many lines were said, of which the last is said afterwards.
-fn ended<R: Net + Wait + Threads + time::Clock + AllocGlobal + Log + Sync>(
+fn serve_to_the_end<R: Net + Wait + Threads + time::Clock + AllocGlobal + Log + Sync>(
     rt: &R,
     port: u16,
     world: World<OnceDisk<MemDisk>, Short<'_, UdpSim>>,
     stage: &Stage,
     frame: &'static str,
     after: Line,
-) -> Result<(Result<u64, ServeFault>, usize), Fail> {
+) -> Result<(Result<u64, ServeFault>, usize), Fail>
+where
+    R::Stream: Send + Sync,
+    R::Listener: Send + Sync,
+{
     let alloc = rt.alloc();
     let lines = [Line::Sends(0, RADIO, Datagram::Hex(frame)), Line::Asked(2)];
     let mut talk = Talk::new(rt, alloc, port, &lines, stage)?;
@@ -98,7 +102,7 @@ fn ended<R: Net + Wait + Threads + time::Clock + AllocGlobal + Log + Sync>(
     let clock = StageClock { rt, stage };
     let answer = serve(rt, alloc, world, control, clock, &NoGate, &mut talk);
     talk.say(&[after]);
-    Ok((answer, talk.said()))
+    Ok((answer, talk.said_count()))
 }
 
 #[test]
@@ -107,7 +111,7 @@ fn an_answer_that_lacked_memory_is_given_at_the_end(rt: HostRuntime) -> Result<(
     let port = free_ports(&rt, 1)?;
     let world = short_world(&rt, port, 1, 0, &stage)?;
     let after = Line::Gets(0, RADIO, Datagram::Hex(AUTHENTICATED));
-    let told = ended(&rt, port, world, &stage, AUTHENTICATION, after)?;
+    let told = serve_to_the_end(&rt, port, world, &stage, AUTHENTICATION, after)?;
     assert_eq!(rt; told, (Ok(1), 3));
     Ok(())
 }
@@ -119,7 +123,7 @@ fn a_station_that_lacked_memory_is_installed_at_the_end(rt: HostRuntime) -> Resu
     let mut world = short_world(&rt, port, 0, 3, &stage)?;
     authenticate(rt.alloc(), &mut world)?;
     let after = Line::Gets(0, RADIO, Datagram::Hex(ASSOCIATED));
-    let told = ended(&rt, port, world, &stage, ASSOCIATION, after)?;
+    let told = serve_to_the_end(&rt, port, world, &stage, ASSOCIATION, after)?;
     assert_eq!(rt; told, (Ok(1), 3));
     assert_eq!(rt; stage.holes(), 0);
     Ok(())
@@ -132,7 +136,7 @@ fn nothing_is_sent_behind_a_station_that_lacks_memory(rt: HostRuntime) -> Result
     let mut world = short_world(&rt, port, 0, LONG, &stage)?;
     authenticate(rt.alloc(), &mut world)?;
     let hearing = Hearing::new(rt, rt.alloc());
-    let (answer, said) = ended(
+    let (answer, said) = serve_to_the_end(
         &hearing,
         port,
         world,

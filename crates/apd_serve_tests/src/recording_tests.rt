@@ -1,4 +1,4 @@
-use crate::running_tests::{CONF, new_store, ran_with, refusal};
+use crate::running_tests::{CONF, new_store, refusal, run_with};
 use crate::talk::free_ports;
 use apd_conf::{Conf, Confs, FileName};
 use apd_disk::FileDisk;
@@ -14,13 +14,13 @@ use std::time::Clock;
 
 /// What `run` over a new store says of a recording of this prefix, and whether the file of its first recording is as it
 /// was. The configuration is of the file of this name.
-fn refused<R: Files<File = File> + Net + Wait + Threads + Clock + AllocGlobal + Log + Sync>(
-    rt: &R,
-    prefix: &str,
-    configuration: &str,
-) -> Result<(String, bool), Fail>
+fn refusal_of_recording<
+    R: Files<File = File> + Net + Wait + Threads + Clock + AllocGlobal + Log + Sync,
+>(rt: &R, prefix: &str, configuration: &str) -> Result<(String, bool), Fail>
 where
     R::Dir: Send + Sync,
+    R::Stream: Send + Sync,
+    R::Listener: Send + Sync,
 {
     let store = format!(in rt.alloc(); "{prefix}.served")?;
     let recording = format!(in rt.alloc(); "{prefix}.0")?;
@@ -57,7 +57,7 @@ fn no_recording_is_made_over_the_store(rt: HostRuntime) -> Result<(), Fail> {
 #[test]
 fn no_recording_is_made_over_another_store(rt: HostRuntime) -> Result<(), Fail> {
     new_store(&rt, "idle_store.0")?;
-    let (told, same) = refused(&rt, "idle_store", CONF)?;
+    let (told, same) = refusal_of_recording(&rt, "idle_store", CONF)?;
     assert_eq!(rt; (told.as_str(), same), ("cannot read idle_store.0", true));
     remove_all(&rt, &["idle_store.0"])
 }
@@ -65,7 +65,7 @@ fn no_recording_is_made_over_another_store(rt: HostRuntime) -> Result<(), Fail> 
 #[test]
 fn no_recording_is_made_over_a_store_of_version_1(rt: HostRuntime) -> Result<(), Fail> {
     fs::write(&rt, "old_store.0", b"RAPSTOR1 and halves")?;
-    let (told, same) = refused(&rt, "old_store", CONF)?;
+    let (told, same) = refusal_of_recording(&rt, "old_store", CONF)?;
     assert_eq!(rt; (told.as_str(), same), ("cannot read old_store.0", true));
     remove_all(&rt, &["old_store.0"])
 }
@@ -74,7 +74,7 @@ fn no_recording_is_made_over_a_store_of_version_1(rt: HostRuntime) -> Result<(),
 fn no_recording_is_made_over_a_file_that_is_locked(rt: HostRuntime) -> Result<(), Fail> {
     fs::write(&rt, "held.0", b"no store, and yet held")?;
     let disk = FileDisk::open(&rt, "held.0")?;
-    let (told, same) = refused(&rt, "held", CONF)?;
+    let (told, same) = refusal_of_recording(&rt, "held", CONF)?;
     assert_eq!(rt; (told.as_str(), same), ("cannot read held.0", true));
     drop(disk);
     remove_all(&rt, &["held.0"])
@@ -84,7 +84,7 @@ fn no_recording_is_made_over_a_file_that_is_locked(rt: HostRuntime) -> Result<()
 fn no_recording_is_made_over_a_configuration(rt: HostRuntime) -> Result<(), Fail> {
     fs::write(&rt, "conf_of_a_recording_test", b"ssid=net\n")?;
     fs::hard_link(&rt, "conf_of_a_recording_test", "linked.0")?;
-    let (told, same) = refused(&rt, "linked", "conf_of_a_recording_test")?;
+    let (told, same) = refusal_of_recording(&rt, "linked", "conf_of_a_recording_test")?;
     assert_eq!(rt; (told.as_str(), same), ("cannot read linked.0", true));
     remove_all(&rt, &["linked.0", "conf_of_a_recording_test"])
 }
@@ -102,7 +102,7 @@ fn no_recording_is_made_over_a_list_file(rt: HostRuntime) -> Result<(), Fail> {
     let Ok(confs) = Confs::new(list) else {
         return Err(Fail::new("no configurations"));
     };
-    let (told, _, _) = ran_with(&rt, "listed_store", confs, Some("listed"), &[])?;
+    let (told, _, _) = run_with(&rt, "listed_store", confs, Some("listed"), &[])?;
     assert_eq!(rt; told.as_str(), "cannot read listed.0");
     let left = fs::read(&rt, "listed.0")?;
     assert_eq!(rt; left.as_slice(), b"02:00:00:00:00:ac\n".as_slice());
@@ -115,7 +115,7 @@ fn no_recording_is_made_over_a_list_file(rt: HostRuntime) -> Result<(), Fail> {
 #[test]
 fn a_recording_is_a_regular_file(rt: HostRuntime) -> Result<(), Fail> {
     symlink(&rt, "/dev/null", "null.0")?;
-    let (told, same) = refused(&rt, "null", CONF)?;
+    let (told, same) = refusal_of_recording(&rt, "null", CONF)?;
     assert_eq!(rt; (told.as_str(), same), ("cannot read null.0", true));
     remove_all(&rt, &["null.0"])
 }

@@ -76,7 +76,7 @@ pub(crate) fn new_store(
 }
 
 /// What `run` of these configurations answers of a talk, as text, how many of its lines were said, and at which port.
-pub(crate) fn ran_with<
+pub(crate) fn run_with<
     R: Files<File = File> + Net + Wait + Threads + Clock + AllocGlobal + Log + Sync,
 >(
     rt: &R,
@@ -87,6 +87,8 @@ pub(crate) fn ran_with<
 ) -> Result<(String, usize, u16), Fail>
 where
     R::Dir: Send + Sync,
+    R::Stream: Send + Sync,
+    R::Listener: Send + Sync,
 {
     let stage = Stage::new(false);
     let port = free_ports(rt, 8)?;
@@ -98,11 +100,11 @@ where
         configurations: &[],
     };
     let answer = run(rt, confs, &site, &mut talk);
-    Ok((told(rt, answer)?, talk.said(), port))
+    Ok((text_of_answer(rt, answer)?, talk.said_count(), port))
 }
 
 /// The same with so many radios, without the port.
-fn ran<R: Files<File = File> + Net + Wait + Threads + Clock + AllocGlobal + Log + Sync>(
+fn run_radios<R: Files<File = File> + Net + Wait + Threads + Clock + AllocGlobal + Log + Sync>(
     rt: &R,
     store: &str,
     radios: u16,
@@ -111,13 +113,18 @@ fn ran<R: Files<File = File> + Net + Wait + Threads + Clock + AllocGlobal + Log 
 ) -> Result<(String, usize), Fail>
 where
     R::Dir: Send + Sync,
+    R::Stream: Send + Sync,
+    R::Listener: Send + Sync,
 {
-    let (answer, said, _) = ran_with(rt, store, confs(rt, radios)?, recordings, lines)?;
+    let (answer, said, _) = run_with(rt, store, confs(rt, radios)?, recordings, lines)?;
     Ok((answer, said))
 }
 
 /// The number of entries, or the fault, as text.
-pub(crate) fn told(rt: &impl AllocGlobal, answer: Result<u64, RunFault>) -> Result<String, Fail> {
+pub(crate) fn text_of_answer(
+    rt: &impl AllocGlobal,
+    answer: Result<u64, RunFault>,
+) -> Result<String, Fail> {
     match answer {
         Ok(entries) => Ok(format!(in rt.alloc(); "{entries}")?),
         Err(fault) => Ok(format!(in rt.alloc(); "{fault}")?),
@@ -134,13 +141,13 @@ fn a_second_run_goes_on_where_the_first_ended(rt: HostRuntime) -> Result<(), Fai
         Line::Sends(0, RADIO, Datagram::Hex(ASSOCIATION)),
         Line::Gets(0, RADIO, Datagram::Hex(ASSOCIATED)),
     ];
-    let (answer, said) = ran(&rt, name, 1, None, &first)?;
+    let (answer, said) = run_radios(&rt, name, 1, None, &first)?;
     assert_eq!(rt; (answer.as_str(), said), ("2", 4));
     let second = [
         Line::Sends(0, CONTROL, Datagram::Text("STA 02:00:00:00:00:aa")),
         Line::Gets(0, CONTROL, Datagram::Text(STATION)),
     ];
-    let (answer, said) = ran(&rt, name, 1, Some("second_run"), &second)?;
+    let (answer, said) = run_radios(&rt, name, 1, Some("second_run"), &second)?;
     assert_eq!(rt; (answer.as_str(), said), ("0", 2));
     let recording = fs::read(&rt, "second_run.0")?;
     assert_eq!(rt; recording.as_slice(), RECORDING.as_bytes());
@@ -161,7 +168,7 @@ fn each_radio_has_its_port_and_its_recording(rt: HostRuntime) -> Result<(), Fail
         Line::Sends(0, RADIO, Datagram::Hex(SECOND_AUTHENTICATION)),
         Line::GetsNothing(0),
     ];
-    let (answer, said) = ran(&rt, name, 2, Some("two_radios"), &lines)?;
+    let (answer, said) = run_radios(&rt, name, 2, Some("two_radios"), &lines)?;
     assert_eq!(rt; (answer.as_str(), said), ("1", 4));
     let first = fs::read(&rt, "two_radios.0")?;
     assert_eq!(rt; first.as_slice(), FIRST_RECORDING.as_bytes());
@@ -181,7 +188,7 @@ fn a_command_is_of_the_interface_that_it_names(rt: HostRuntime) -> Result<(), Fa
         Line::Sends(0, CONTROL, Datagram::Text("IFNAME=wlan1 STATUS")),
         Line::Gets(0, CONTROL, Datagram::Text(SECOND_STATUS)),
     ];
-    let (answer, said) = ran(&rt, name, 2, None, &lines)?;
+    let (answer, said) = run_radios(&rt, name, 2, None, &lines)?;
     assert_eq!(rt; (answer.as_str(), said), ("0", 2));
     fs::remove_file(&rt, name)?;
     Ok(())
@@ -203,7 +210,7 @@ fn bss_of(rt: &(impl Files<File = File> + AllocGlobal), name: &str) -> Result<us
 fn the_start_is_committed_and_not_counted(rt: HostRuntime) -> Result<(), Fail> {
     let name = "started_store";
     new_store(&rt, name)?;
-    let (answer, _) = ran(&rt, name, 1, None, &[])?;
+    let (answer, _) = run_radios(&rt, name, 1, None, &[])?;
     assert_eq!(rt; answer.as_str(), "0");
     assert_eq!(rt; bss_of(&rt, name)?, 1);
     fs::remove_file(&rt, name)?;
@@ -222,6 +229,8 @@ pub(crate) fn refusal<
 ) -> Result<String, Fail>
 where
     R::Dir: Send + Sync,
+    R::Stream: Send + Sync,
+    R::Listener: Send + Sync,
 {
     let site = Site {
         store,
@@ -230,7 +239,7 @@ where
         configurations: &[configuration],
     };
     let answer = run(rt, confs(rt, 1)?, &site, io::empty());
-    told(rt, answer)
+    text_of_answer(rt, answer)
 }
 
 #[test]

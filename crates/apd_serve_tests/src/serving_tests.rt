@@ -93,7 +93,7 @@ pub(crate) struct Scene<'a> {
 }
 
 /// What `serve` answers in a scene, and how many of its lines were said.
-fn served<
+fn serve_scene<
     R: Net + Wait + Threads + time::Clock + Log + Sync,
     C: Clock + Drop + Sync,
     G: Gate + Sync,
@@ -104,7 +104,11 @@ fn served<
     stage: &Stage,
     clock: C,
     gate: &G,
-) -> Result<(Result<u64, ServeFault>, usize), Fail> {
+) -> Result<(Result<u64, ServeFault>, usize), Fail>
+where
+    R::Stream: Send + Sync,
+    R::Listener: Send + Sync,
+{
     let port = free_ports(rt, 1)?;
     let mut talk = Talk::new(rt, alloc, port, scene.lines, stage)?;
     let control = ControlPort::open(rt, alloc, port)?;
@@ -113,23 +117,27 @@ fn served<
     let world = world(alloc, disk, radio)?;
     let answer = serve(rt, alloc, world, control, clock, gate, &mut talk);
     talk.say(scene.after);
-    Ok((answer, talk.said()))
+    Ok((answer, talk.said_count()))
 }
 
 /// The same, where only lines are said, the device fails the call after so many, and nothing is held.
-fn talked<R: Net + Wait + Threads + time::Clock + Log + Sync>(
+fn serve_talk<R: Net + Wait + Threads + time::Clock + Log + Sync>(
     rt: &R,
     alloc: Global,
     lines: &[Line],
     calls: u64,
-) -> Result<(Result<u64, ServeFault>, usize), Fail> {
+) -> Result<(Result<u64, ServeFault>, usize), Fail>
+where
+    R::Stream: Send + Sync,
+    R::Listener: Send + Sync,
+{
     let scene = Scene {
         lines,
         after: &[],
         calls,
     };
     let stage = Stage::new(false);
-    served(rt, alloc, scene, &stage, SystemClock::new(rt), &NoGate)
+    serve_scene(rt, alloc, scene, &stage, SystemClock::new(rt), &NoGate)
 }
 
 #[test]
@@ -140,7 +148,7 @@ fn serve_loopback(rt: HostRuntime) -> Result<(), Fail> {
         Line::Sends(0, RADIO, Datagram::Hex(AUTHENTICATION)),
         Line::Gets(0, RADIO, Datagram::Hex(AUTHENTICATED)),
     ];
-    assert_eq!(rt; talked(&rt, rt.alloc(), &lines, NEVER)?, (Ok(1), 4));
+    assert_eq!(rt; serve_talk(&rt, rt.alloc(), &lines, NEVER)?, (Ok(1), 4));
     Ok(())
 }
 
@@ -154,7 +162,7 @@ fn a_station_associates_and_is_counted(rt: HostRuntime) -> Result<(), Fail> {
         Line::Sends(1, CONTROL, Datagram::Text("STATUS")),
         Line::Gets(1, CONTROL, Datagram::Text(STATUS)),
     ];
-    assert_eq!(rt; talked(&rt, rt.alloc(), &lines, NEVER)?, (Ok(2), 6));
+    assert_eq!(rt; serve_talk(&rt, rt.alloc(), &lines, NEVER)?, (Ok(2), 6));
     Ok(())
 }
 
@@ -180,7 +188,7 @@ fn each_sender_gets_its_own_replies(rt: HostRuntime) -> Result<(), Fail> {
         Line::Sends(0, CONTROL, Datagram::Text("STA-FIRST")),
         Line::Gets(0, CONTROL, Datagram::Text("")),
     ];
-    assert_eq!(rt; talked(&rt, rt.alloc(), &lines, NEVER)?, (Ok(2), 10));
+    assert_eq!(rt; serve_talk(&rt, rt.alloc(), &lines, NEVER)?, (Ok(2), 10));
     Ok(())
 }
 
@@ -196,7 +204,7 @@ fn datagrams_of_any_length(rt: HostRuntime) -> Result<(), Fail> {
         Line::Gets(0, RADIO, Datagram::Hex(AUTHENTICATED)),
         Line::GetsNothing(0),
     ];
-    assert_eq!(rt; talked(&rt, rt.alloc(), &lines, NEVER)?, (Ok(1), 8));
+    assert_eq!(rt; serve_talk(&rt, rt.alloc(), &lines, NEVER)?, (Ok(1), 8));
     Ok(())
 }
 
@@ -229,21 +237,25 @@ fn an_answer_waits_for_its_commit_and_the_start_for_nothing(rt: HostRuntime) -> 
         after: &[],
         calls: NEVER,
     };
-    let told = served(&rt, rt.alloc(), scene, &stage, SystemClock::new(&rt), &gate)?;
+    let told = serve_scene(&rt, rt.alloc(), scene, &stage, SystemClock::new(&rt), &gate)?;
     assert_eq!(rt; told, (Ok(2), 11));
     Ok(())
 }
 
 /// What is told in a scene by the stage's clock.
-pub(crate) fn staged<R: Net + Wait + Threads + time::Clock + Log + Sync>(
+pub(crate) fn serve_on_stage<R: Net + Wait + Threads + time::Clock + Log + Sync>(
     rt: &R,
     alloc: Global,
     scene: Scene<'_>,
     held: bool,
-) -> Result<(Result<u64, ServeFault>, usize), Fail> {
+) -> Result<(Result<u64, ServeFault>, usize), Fail>
+where
+    R::Stream: Send + Sync,
+    R::Listener: Send + Sync,
+{
     let stage = Stage::new(held);
     let clock = StageClock { rt, stage: &stage };
-    served(rt, alloc, scene, &stage, clock, &NoGate)
+    serve_scene(rt, alloc, scene, &stage, clock, &NoGate)
 }
 
 #[test]
@@ -262,7 +274,7 @@ fn a_silent_station_goes(rt: HostRuntime) -> Result<(), Fail> {
         after: &[],
         calls: NEVER,
     };
-    assert_eq!(rt; staged(&rt, rt.alloc(), scene, false)?, (Ok(3), 7));
+    assert_eq!(rt; serve_on_stage(&rt, rt.alloc(), scene, false)?, (Ok(3), 7));
     Ok(())
 }
 
@@ -287,7 +299,7 @@ fn a_station_that_was_heard_stays(rt: HostRuntime) -> Result<(), Fail> {
         after: &[],
         calls: NEVER,
     };
-    assert_eq!(rt; staged(&rt, rt.alloc(), scene, false)?, (Ok(3), 12));
+    assert_eq!(rt; serve_on_stage(&rt, rt.alloc(), scene, false)?, (Ok(3), 12));
     Ok(())
 }
 
@@ -298,7 +310,10 @@ fn a_device_fault_is_told_once(rt: HostRuntime) -> Result<(), Fail> {
         Line::GetsNothing(0),
     ];
     let hearing = Hearing::new(rt, rt.alloc());
-    assert_eq!(rt; talked(&hearing, rt.alloc(), &lines, STARTED)?, (Ok(1), 2));
+    assert_eq!(rt;
+        serve_talk(&hearing, rt.alloc(), &lines, STARTED)?,
+        (Ok(1), 2)
+    );
     let told = hearing.heard()?;
     assert_eq!(rt; told.as_str(), FAILED);
     Ok(())
@@ -320,7 +335,7 @@ fn after_a_device_fault_nothing_is_told_but_what_was_settled(rt: HostRuntime) ->
         Line::Sends(1, CONTROL, Datagram::Text("STA-FIRST")),
         Line::Gets(1, CONTROL, Datagram::Text("")),
     ];
-    assert_eq!(rt; talked(&rt, rt.alloc(), &lines, STARTED)?, (Ok(1), 8));
+    assert_eq!(rt; serve_talk(&rt, rt.alloc(), &lines, STARTED)?, (Ok(1), 8));
     Ok(())
 }
 

@@ -4,6 +4,7 @@ ghost use Rattle.apd_radio.specs.Model.{inside};
 use crate::stage::Stage;
 use apd_base::Addr;
 use apd_radio::{Radio, RadioFault};
+use std::os::fd::RawFd;
 
 /// A radio over another one, which lacks memory so often when it is to send a frame, and so often when a station is to
 /// be installed. The stage counts each frame that it is to send behind a station that it didn't install.
@@ -47,6 +48,10 @@ impl<R: Radio> Radio for Short<'_, R> {
 
     fn poll(&mut self) -> Result<Option<Vec<u8>>, RadioFault> {
         self.inner.poll()
+    }
+
+    fn descriptor(&self) -> Option<RawFd> {
+        self.inner.descriptor()
     }
 
     fn install(&mut self, addr: Addr, aid: u16) -> Result<(), RadioFault> {

@@ -148,12 +148,12 @@ impl<'a> Talk<'a> {
     }
 
     /// How many lines were said as they are written; the talk ends at the first that isn't.
-    pub(crate) fn said(&self) -> usize {
+    pub(crate) fn said_count(&self) -> usize {
         self.said
     }
 
     // What a sender gets in this time, in milliseconds, from a port of the access point.
-    fn received(&self, sender: usize, time: u64) -> io::Result<Option<(u16, Vec<u8>)>> {
+    fn receive(&self, sender: usize, time: u64) -> io::Result<Option<(u16, Vec<u8>)>> {
         let mut room = vec![in self.alloc; 0u8; 65_536]?;
         let Some(socket) = self.senders.get(sender) else {
             return Err(ErrorKind::InvalidInput.into());
@@ -177,11 +177,11 @@ impl<'a> Talk<'a> {
                 socket.send_to(&datagram.bytes(self.alloc)?, (Ipv4Addr::LOCALHOST, port))?;
                 Ok(true)
             }
-            Line::Gets(sender, port, datagram) => match self.received(*sender, PATIENCE)? {
+            Line::Gets(sender, port, datagram) => match self.receive(*sender, PATIENCE)? {
                 Some((from, bytes)) => Ok(from == *port && bytes == datagram.bytes(self.alloc)?),
                 None => Ok(false),
             },
-            Line::GetsNothing(sender) => Ok(self.received(*sender, SILENCE)?.is_none()),
+            Line::GetsNothing(sender) => Ok(self.receive(*sender, SILENCE)?.is_none()),
             Line::LetsGo => {
                 self.stage.let_go();
                 Ok(true)
@@ -197,7 +197,7 @@ impl<'a> Talk<'a> {
     // Whether the clock was asked so often, now or soon.
     fn was_asked(&self, count: u64) -> bool {
         for _look in 0..LOOKS {
-            if self.stage.asked() >= count {
+            if self.stage.ask_count() >= count {
                 return true;
             }
             yield_now();

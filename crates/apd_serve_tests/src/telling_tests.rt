@@ -1,5 +1,5 @@
 use crate::hearing::Hearing;
-use crate::running_tests::{confs, new_store, ran_with};
+use crate::running_tests::{confs, new_store, run_with};
 use crate::talk::{CONTROL, Datagram, Line, free_ports};
 use apd_base::{Addr, Bssid};
 use apd_conf::{Conf, Confs, InterfaceName};
@@ -31,7 +31,7 @@ fn the_start_and_the_entries_are_told(rt: HostRuntime) -> Result<(), Fail> {
         ),
         Line::Gets(0, CONTROL, Datagram::Text("OK\n")),
     ];
-    let (answer, said, port) = ran_with(&hearing, name, confs(&rt, 2)?, None, &lines)?;
+    let (answer, said, port) = run_with(&hearing, name, confs(&rt, 2)?, None, &lines)?;
     assert_eq!(rt; (answer.as_str(), said), ("1", 2));
     let wanted = format!(in rt.alloc();
         "[INFO  apd] serves commands on port {port}, wlan0 on port {}, wlan1 on port {}; stations recovered: 0\n[INFO  apd] entries 1\n",
@@ -55,7 +55,7 @@ fn conf(alloc: Global, interface: &str, number: u8) -> Result<Conf, Fail> {
 }
 
 /// The configurations of these interfaces, whose BSSIDs end in their places from this number on.
-fn numbered(alloc: Global, interfaces: &[&str], first: u8) -> Result<Confs, Fail> {
+fn numbered_confs(alloc: Global, interfaces: &[&str], first: u8) -> Result<Confs, Fail> {
     let mut list = Vec::new(alloc);
     let mut number = first;
     for interface in interfaces {
@@ -73,11 +73,11 @@ fn a_ninth_bssid_of_a_store_is_told(rt: HostRuntime) -> Result<(), Fail> {
     let alloc = rt.alloc();
     let name = "full_store";
     new_store(&rt, name)?;
-    let eight = numbered(alloc, &["a", "b", "c", "d", "e", "f", "g", "h"], 1)?;
-    let (answer, _, _) = ran_with(&rt, name, eight, None, &[])?;
+    let eight = numbered_confs(alloc, &["a", "b", "c", "d", "e", "f", "g", "h"], 1)?;
+    let (answer, _, _) = run_with(&rt, name, eight, None, &[])?;
     assert_eq!(rt; answer.as_str(), "0");
     let hearing = Hearing::new(rt, rt.alloc());
-    let (answer, _, port) = ran_with(&hearing, name, numbered(alloc, &["i"], 9)?, None, &[])?;
+    let (answer, _, port) = run_with(&hearing, name, numbered_confs(alloc, &["i"], 9)?, None, &[])?;
     assert_eq!(rt; answer.as_str(), "0");
     let wanted = format!(in alloc;
         "[WARN  apd] i is not served: the store has as many other BSSIDs as it can have\n[INFO  apd] serves commands on port {port}; stations recovered: 0\n[INFO  apd] entries 0\n"
@@ -107,7 +107,7 @@ impl<R: Files<File = File> + Clock> Read for Renaming<R> {
 }
 
 /// What `run` of a store at this port answers.
-fn served<
+fn serve_store<
     R: Files<File = File> + Net + Wait + Threads + Clock + AllocGlobal + Log + Sync,
     B: Read + Drop,
 >(
@@ -120,6 +120,8 @@ fn served<
 ) -> Result<u64, RunFault>
 where
     R::Dir: Send + Sync,
+    R::Stream: Send + Sync,
+    R::Listener: Send + Sync,
 {
     let site = Site {
         store,
@@ -144,7 +146,7 @@ fn a_store_that_is_removed_is_told(rt: HostRuntime) -> Result<(), Fail> {
     let port = free_ports(&rt, 1)?;
     let confs = confs(&rt, 1)?;
     let reader = Renaming::new(rt, name, None);
-    let answer = served(&hearing, name, None, confs, port, reader);
+    let answer = serve_store(&hearing, name, None, confs, port, reader);
     assert!(rt; answer.is_ok());
     let line =
         "[ERROR apd] removed_store was removed: what the store holds, and what is told from now on, is lost when this ends\n";
@@ -160,7 +162,7 @@ fn a_store_that_gets_another_name_is_told(rt: HostRuntime) -> Result<(), Fail> {
     let port = free_ports(&rt, 1)?;
     let confs = confs(&rt, 1)?;
     let reader = Renaming::new(rt, name, Some("store_elsewhere"));
-    let answer = served(&hearing, name, None, confs, port, reader);
+    let answer = serve_store(&hearing, name, None, confs, port, reader);
     assert!(rt; answer.is_ok());
     let line =
         "[ERROR apd] moved_store is not the store that is served any more: a start from moved_store knows nothing of what is told from now on\n";

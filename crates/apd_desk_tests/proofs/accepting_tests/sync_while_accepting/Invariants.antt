@@ -1,4 +1,4 @@
 use Rattle.apd_desk_tests.proofs.accepting_tests.sync_while_accepting.Given as goal
 
-abbrev pub ghosts-accepted_while_held : goal.ghosts-accepted_while_held
-ghosts-accepted_while_held g a = record { name = a.blank.name; parts = a.blank.parts }
+abbrev pub ghosts-accepts_while_held : goal.ghosts-accepts_while_held
+ghosts-accepts_while_held g a = record { name = a.blank.name; parts = a.blank.parts }

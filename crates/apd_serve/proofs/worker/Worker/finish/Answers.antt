@@ -1,14 +1,14 @@
 use Rattle.std.proofs.Common.{le_of_eq, refl, subst, sym}
 use Rattle.apd_serve.specs.Worked.{HasWorked}
 use Rattle.apd_serve.specs.declared.worker.Worker.{Worker}
-use Rattle.apd_serve.specs.declared.worker.Worker.TheVariants.{Flushing, Radio, Control, Ticks}
+use Rattle.apd_serve.specs.declared.worker.Worker.TheVariants.{Committing, Radio, Control, Ticks}
 use Rattle.apd_serve.proofs.Working.{has_committed, has_replied, has_served, has_ticked}
-use Rattle.apd_serve.proofs.worker.Worker.finished.Goals as goal
+use Rattle.apd_serve.proofs.worker.Worker.finish.Goals as goal
 
-pub returns-in-Flushing-clause-worked : goal.returns-in-Flushing-clause-worked
-returns-in-Flushing-clause-worked g c =
-    subst (λ (old : Worker g.row.L.Denot g.row.D.Denot g.row.R.Denot g.row.P.Denot). HasWorked g.D.Disk.model g.R.Radio.model old (Flushing c.committed.result)) (sym c.in-Flushing.is)
-    (has_committed g.D.Disk.model g.R.Radio.model c.in-Flushing.committer c.committed.result c.committed.ensures.led c.committed.ensures.keeps)
+pub returns-in-Committing-clause-worked : goal.returns-in-Committing-clause-worked
+returns-in-Committing-clause-worked g c =
+    subst (λ (old : Worker g.row.L.Denot g.row.D.Denot g.row.R.Denot g.row.P.Denot). HasWorked g.D.Disk.model g.R.Radio.model old (Committing c.commit.result)) (sym c.in-Committing.is)
+    (has_committed g.D.Disk.model g.R.Radio.model c.in-Committing.committer c.commit.result c.commit.ensures.led c.commit.ensures.keeps)
 
 pub returns-in-Radio-clause-worked : goal.returns-in-Radio-clause-worked
 returns-in-Radio-clause-worked g c =

@@ -1,6 +1,6 @@
 use Rattle.std.proofs.Common.{◌≡◌}
 use Rattle.apd_desk.specs.SeatProgress.{IsLater}
-use Rattle.apd_serve.proofs.handing_out.collected.Given as goal
+use Rattle.apd_serve.proofs.handing_out.collect.Given as goal
 
 abbrev pub invariant-loop : goal.invariant-loop
 invariant-loop g l = (l.seat.count ≡ l.fn.seat.count) × IsLater l.fn.seat l.seat
