@@ -5,12 +5,13 @@
 # Where a device in memory met it, that is a device fault, at which the session ends: its device must then show the
 # table before or after the commit that was under way.
 # Use: examples/refuse.sh [SESSION..], from anywhere; it needs a C compiler. It ends with status 1 at the first run
-# that shows anything else, and prints for each session how many allocations there are, and who met them.
+# that shows anything else, and prints for each session how many allocations there are, and who met them; with status 1
+# too where these aren't as many as it has below. SESSIONS is the program, else it is proved and built first.
 set -eu
 here=$(dirname "$(readlink -f "$0")")
 crate=$here/../crates/apd_sessions
 program=${SESSIONS:-$crate/out/apd_sessions}
-[ -x "$program" ] || (cd "$crate" && rt run >/dev/null)
+[ -n "${SESSIONS:-}" ] || (cd "$crate" && rt run >/dev/null)
 folder=$(mktemp -d)
 trap 'rm -rf "$folder"' EXIT
 ${CC:-cc} -O2 -shared -fPIC -o "$folder/refuse.so" "$here/refuse.c" -ldl
@@ -85,12 +86,27 @@ is_refused() {
     [ -s said ]
 }
 
+# How many allocations a session has: those met by a call that is made again, by a device, and made up for.
+print_counts() {
+    case $1 in
+        stations) echo 62 13 0 ;;
+        commands) echo 135 20 2 ;;
+        radios) echo 141 20 0 ;;
+        restart) echo 107 4 10 ;;
+        files) echo 22 0 0 ;;
+        check) echo 25 1 0 ;;
+        upgrade) echo 20 7 0 ;;
+    esac
+}
+
 # How many allocations come before a session: those of the command line's words.
 words=0
 while is_refused nothing "$((words + 1))"; do words=$((words + 1)); done
 
 for session in ${*:-stations commands radios restart files check upgrade}; do
     "$program" "$session" >wanted
+    awk -v head="= $session" '/^= / { is_its = $0 == head } is_its' "$crate/stdout" | cmp -s - wanted ||
+        { echo "$session: with ample memory otherwise than $crate/stdout"; exit 1; }
     [ "$session" != restart ] || print_starts
     count=0
     device=0
@@ -107,4 +123,6 @@ for session in ${*:-stations commands radios restart files check upgrade}; do
     cmp -s wanted found || { echo "$session: another run"; exit 1; }
     echo "$session: $count allocations: $again by calls that were made again, $device by a device," \
         "$((count - again - device)) made up for"
+    [ "$again $device $((count - again - device))" = "$(print_counts "$session")" ] ||
+        { echo "$session: otherwise than the counts in $0: $(print_counts "$session")"; exit 1; }
 done
