@@ -88,7 +88,9 @@ fn flush_after(alloc: Global, world: &mut Failed, steps: &[Step<'static>]) -> Op
 /// What a flush answers once a station has authenticated and associated, over a radio that passes so many calls.
 fn flush(alloc: Global, calls: u64) -> Option<Vec<Answer>> {
     let mut world = start_with(alloc, &[1], failing_radio(alloc, calls)?)?;
-    flush_after(alloc, &mut world, &[AUTHENTICATES, ASSOCIATES])
+    let answers = flush_after(alloc, &mut world, &[AUTHENTICATES, ASSOCIATES]);
+    drop(world);
+    answers
 }
 
 /// What a hand-out answers behind these steps.
@@ -104,7 +106,9 @@ fn hand_out_after(
 /// What a hand-out answers once that is committed.
 fn hand_out(alloc: Global, calls: u64) -> Option<Vec<Answer>> {
     let mut world = start_with(alloc, &[1], failing_radio(alloc, calls)?)?;
-    hand_out_after(alloc, &mut world, &ASSOCIATION)
+    let answers = hand_out_after(alloc, &mut world, &ASSOCIATION);
+    drop(world);
+    answers
 }
 
 /// How many calls a radio passes, and what is then told of both answers' frames, and of the installation between them.
@@ -158,7 +162,9 @@ fn all_tell(alloc: Global, world: &mut Failed) -> Option<[bool; 4]> {
 
 fn flushes(alloc: Global) -> Option<[bool; 4]> {
     let mut world = start_with(alloc, &[1], failing_radio(alloc, 1)?)?;
-    all_tell(alloc, &mut world)
+    let told = all_tell(alloc, &mut world);
+    drop(world);
+    told
 }
 
 #[test]
@@ -214,8 +220,9 @@ fn contents(world: Failed) -> (usize, Option<Seen>) {
 /// What the start of that world answers, and what is found then.
 fn start_anew(alloc: Global) -> Option<(Vec<Answer>, (usize, Option<Seen>))> {
     let mut world = begin(alloc)?;
-    let answers = start(alloc, &mut world)?;
-    Some((answers, contents(world)))
+    let answers = start(alloc, &mut world);
+    let found = contents(world);
+    Some((answers?, found))
 }
 
 // The station is dropped: its removal fails, and the frame that tells it so is lost.

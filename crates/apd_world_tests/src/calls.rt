@@ -140,12 +140,16 @@ pub(crate) fn queues<R: Radio>(slot: &mut Slot<R>, outs: Vec<Out>) -> Option<()>
 
 /// The device of a world that stops.
 pub(crate) fn device<R: Radio>(world: World<MemDisk, R>) -> MemDisk {
-    let (flusher, _core, _slots) = world.into_parts();
+    let (flusher, core, slots) = world.into_parts();
+    drop(core);
+    drop(slots);
     flusher.into_device()
 }
 
 /// Its slots.
 pub(crate) fn slots_of<R: Radio>(world: World<MemDisk, R>) -> Vec<Slot<R>> {
-    let (_flusher, _core, slots) = world.into_parts();
+    let (flusher, core, slots) = world.into_parts();
+    drop(flusher);
+    drop(core);
     slots
 }

@@ -52,8 +52,9 @@ fn look<R: Radio>(slots: &[Slot<R>]) -> Option<Seen> {
 /// What a radio's slot answers, and is seen of it then.
 fn run(alloc: Global, calls: u64) -> Option<([Option<SlotFault>; 3], Option<Seen>)> {
     let mut world = start_with(alloc, &[1], failing_radio(alloc, calls)?)?;
-    let answers = answers(tell(&mut world, &ASSOCIATED)?.as_slice());
-    Some((answers, look(&slots_of(world))))
+    let tolds = tell(&mut world, &ASSOCIATED);
+    let slots = slots_of(world);
+    Some((answers(tolds?.as_slice()), look(&slots)))
 }
 
 #[test]

@@ -36,10 +36,12 @@ fn refusals_over<D: Disk + Drop, R: Radio>(
     slots: Vec<Slot<R>>,
 ) -> Option<Refusals> {
     let mut world = new_world(alloc, disk, &[1], slots)?;
-    match refusal(&mut world) {
+    let found = match refusal(&mut world) {
         Some(_) => None,
         None => refusals(&mut world),
-    }
+    };
+    drop(world);
+    found
 }
 
 /// Over a device that passes this many calls, and fails for good then.

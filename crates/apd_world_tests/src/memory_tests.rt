@@ -16,10 +16,9 @@ use std::test::Fail;
 /// The device on which a station is associated at each radio; none where a step was refused memory.
 fn settle(alloc: Global) -> Option<MemDisk> {
     let mut world = start_world(alloc, &[1, 2])?;
-    match tell(&mut world, &ASSOCIATIONS) {
-        Some(_) if world.table().rows() == 2 => Some(device(world)),
-        _ => None,
-    }
+    let tolds = tell(&mut world, &ASSOCIATIONS);
+    let has_both = tolds.is_some() && world.table().rows() == 2;
+    has_both.then_some(device(world))
 }
 
 fn settle_or_retry(alloc: Global) -> Option<MemDisk> {

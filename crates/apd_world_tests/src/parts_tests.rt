@@ -95,7 +95,9 @@ fn run_on(alloc: Global, world: &mut Memory) -> Option<Vec<Said>> {
 /// The same of that world.
 fn run(alloc: Global) -> Option<Vec<Said>> {
     let mut world = world(alloc)?;
-    run_on(alloc, &mut world)
+    let told = run_on(alloc, &mut world);
+    drop(world);
+    told
 }
 
 #[test]
@@ -114,8 +116,9 @@ fn what_waits_at_a_slot_is_applied_before_what_is_handed(rt: HostRuntime) -> Res
 
 /// What a start tells of the radio's slot.
 fn start(alloc: Global) -> Option<Vec<Said>> {
+    let answers = start_answers(&mut world(alloc)?).ok()?;
     let mut all = Vec::new(alloc);
-    for (_to, told) in start_answers(&mut world(alloc)?).ok()? {
+    for (_to, told) in answers {
         all.push(in_short(&told)).ok()?;
     }
     Some(all)
@@ -153,10 +156,9 @@ fn goes_on(alloc: Global, world: &mut Memory, steps: usize) -> Option<()> {
 /// What is seen of the slot that a world gives back behind so many of the steps.
 fn give_back(alloc: Global, steps: usize) -> Option<Seen> {
     let mut world = world(alloc)?;
-    match goes_on(alloc, &mut world, steps) {
-        Some(()) => look(&slots_of(world)),
-        None => None,
-    }
+    let gone_on = goes_on(alloc, &mut world, steps);
+    let slots = slots_of(world);
+    gone_on.and(look(&slots))
 }
 
 #[test]

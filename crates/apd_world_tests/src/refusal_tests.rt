@@ -90,8 +90,10 @@ fn restart_refusal(alloc: Global, calls: [u64; 3]) -> Option<Refused<Failing<Sim
 /// Why it is refused, what is seen of the slots, and how many rows another restart finds.
 fn refusal_of(alloc: Global, calls: [u64; 3]) -> Option<(WorldFault, [Seen; 3], usize)> {
     let (device, slots, fault) = restart_refusal(alloc, calls)?;
-    let world = recover_world(alloc, device, &[1, 2, 3])?;
-    Some((fault, look(&slots)?, world.table().rows()))
+    let seen = look(&slots);
+    drop(slots);
+    let rows = recover_world(alloc, device, &[1, 2, 3])?.table().rows();
+    Some((fault, seen?, rows))
 }
 
 #[test]

@@ -29,8 +29,7 @@ fn slots(alloc: Global, radios: (Boxed, Boxed)) -> Option<Vec<Slot<Boxed>>> {
 /// A world whose station went from one radio to the other.
 fn roam(alloc: Global, radios: (Boxed, Boxed)) -> Option<World<MemDisk, Boxed>> {
     let mut world = start_with(alloc, &[1, 2], slots(alloc, radios)?)?;
-    tell(&mut world, &ROAMS)?;
-    Some(world)
+    tell(&mut world, &ROAMS).and(Some(world))
 }
 
 /// The identifier of the station at a BSSID, by a table.
@@ -63,9 +62,12 @@ fn follows(alloc: Global, radios: (Boxed, Boxed), others: (Boxed, Boxed)) -> Opt
     let (flusher, core, slots) = parts_of(roam(alloc, radios)?);
     let wanted = wants_rows(core.table(), &slots);
     let mut world = join_parts(alloc, flusher, core, slots);
-    let emptied = replaces_both(&mut world, others)?;
-    let (_flusher, core, slots) = parts_of(world);
-    Some([wanted, emptied, has_rows(core.table(), &slots)])
+    let emptied = replaces_both(&mut world, others);
+    let (flusher, core, slots) = parts_of(world);
+    drop(flusher);
+    let has_rows = has_rows(core.table(), &slots);
+    drop(core);
+    Some([wanted, emptied?, has_rows])
 }
 
 /// The first radio has five calls of that run: two for the frames of the station's answers, one for its installation, one
@@ -93,8 +95,11 @@ fn with_station(alloc: Global) -> Option<Sim> {
 
 /// What comes back where a BSSID has no slot.
 fn slot_refusal(alloc: Global) -> Option<(Option<u16>, WorldFault)> {
+    let other = with_station(alloc)?;
     let mut world = start_world(alloc, &[1])?;
-    let (back, fault) = replace_radio(&mut world, WLAN1, with_station(alloc)?).err()?;
+    let replaced = replace_radio(&mut world, WLAN1, other);
+    drop(world);
+    let (back, fault) = replaced.err()?;
     Some((back.installed(STATION), fault))
 }
 
@@ -110,8 +115,11 @@ fn a_bssid_without_a_slot_gets_no_radio(rt: HostRuntime) -> Result<(), Fail> {
 /// What is told where another radio fails, and whether the slots are up.
 fn outcome(alloc: Global, radios: (Boxed, Boxed), other: Boxed) -> Option<(WorldFault, [bool; 2])> {
     let mut world = roam(alloc, radios)?;
-    let (_back, fault) = replace_radio(&mut world, WLAN1, other).err()?;
-    Some((fault, [world.is_up(WLAN0), world.is_up(WLAN1)]))
+    let replaced = replace_radio(&mut world, WLAN1, other);
+    let up = [world.is_up(WLAN0), world.is_up(WLAN1)];
+    drop(world);
+    let (_back, fault) = replaced.err()?;
+    Some((fault, up))
 }
 
 #[test]

@@ -47,7 +47,9 @@ fn ninth(alloc: Global, world: &mut Memory) -> Option<((bool, bool), Reception)>
 /// The same of the full store.
 fn ninth_of_full(alloc: Global) -> Option<((bool, bool), Reception)> {
     let mut world = recover_world(alloc, full_store(alloc)?, &[9, 1])?;
-    ninth(alloc, &mut world)
+    let told = ninth(alloc, &mut world);
+    drop(world);
+    told
 }
 
 #[test]
@@ -66,7 +68,9 @@ fn world_on_fuse(alloc: Global, passes: u64) -> Option<World<FuseDisk<MemDisk>, 
 /// Why two starts are refused.
 fn refusals(alloc: Global, passes: u64) -> Option<[Option<WorldFault>; 2]> {
     let mut world = world_on_fuse(alloc, passes)?;
-    Some([refusal(&mut world), refusal(&mut world)])
+    let found = [refusal(&mut world), refusal(&mut world)];
+    drop(world);
+    Some(found)
 }
 
 // The store is formatted by seven calls, and each start commits a batch by four.

@@ -87,7 +87,9 @@ fn begin_after(alloc: Global, made: usize, torn: Option<Torn>) -> Option<Memory>
 /// Whether the station is found in it.
 fn is_found(alloc: Global, made: usize, torn: Option<Torn>) -> Option<bool> {
     let world = begin_after(alloc, made, torn)?;
-    Some(is_there(&world))
+    let found = is_there(&world);
+    drop(world);
+    Some(found)
 }
 
 /// The first of these stops after which something else is found.
@@ -139,7 +141,9 @@ fn look(world: &Memory) -> Option<(bool, bool)> {
 fn look_behind(alloc: Global, made: usize) -> Option<(bool, bool)> {
     let device = device_after(alloc, DENIED.get(..made)?)?;
     let world = recover_world(alloc, device, &[1])?;
-    look(&world)
+    let seen = look(&world);
+    drop(world);
+    seen
 }
 
 #[test]
@@ -167,7 +171,9 @@ const ASKED_TWICE: [Step<'static>; 9] = [
 /// What a started world tells of these steps.
 fn answers(alloc: Global, steps: &[Step<'static>]) -> Option<Vec<Told>> {
     let mut world = start_world(alloc, &[1])?;
-    tell(&mut world, steps)
+    let tolds = tell(&mut world, steps);
+    drop(world);
+    tolds
 }
 
 /// The text of an answer to a query.

@@ -98,10 +98,7 @@ pub(crate) fn recover_world(alloc: Global, device: MemDisk, lasts: &[u8]) -> Opt
 /// The world, started.
 fn running<R: Radio>(world: World<MemDisk, R>) -> Option<World<MemDisk, R>> {
     let mut world = world;
-    match refusal(&mut world) {
-        None => Some(world),
-        Some(_) => None,
-    }
+    refusal(&mut world).is_none().then_some(world)
 }
 
 /// What is told of the configuration of the interface at the BSSID that ends by this byte.
@@ -125,8 +122,6 @@ pub(crate) fn stop_after<R: Radio>(
     steps: &[Step<'static>],
 ) -> Option<MemDisk> {
     let mut world = world;
-    match tell(&mut world, steps) {
-        Some(_) => Some(device(world)),
-        None => None,
-    }
+    let tolds = tell(&mut world, steps);
+    tolds.is_some().then_some(device(world))
 }
