@@ -1,4 +1,3 @@
-use crate::calls::one_radio;
 use crate::worlds::new_world;
 use apd_base::{Addr, Bssid, Moment};
 use apd_core::{Input, QuietReason};
@@ -66,6 +65,5 @@ fn asks<D: Disk, R: Radio>(rt: &impl Abort, world: &mut World<D, R>) -> Result<(
 
 #[test]
 fn a_command_needs_a_radio_that_was_started(rt: HostRuntime) -> Result<(), Fail> {
-    let mut world = new_world(rt.alloc(), one_radio(rt.alloc())?)?;
-    asks(&rt, &mut world)
+    asks(&rt, &mut new_world(rt.alloc())?)
 }

@@ -26,12 +26,18 @@ fn change(table: &mut Table, change: &Change) -> Result<(), Fail> {
     }
 }
 
+/// Makes changes in turn; none where one is refused.
+fn make_all(table: &mut Table, changes: &[Change]) -> Option<()> {
+    for each in changes {
+        table.apply(each).ok()?;
+    }
+    Some(())
+}
+
 /// Makes the changes of what was decided, and gives that back.
 fn make_changes(decision: Decision, table: &mut Table) -> Result<Decision, Fail> {
-    for each in decision.changes.as_slice() {
-        change(table, each)?;
-    }
-    Ok(decision)
+    let made = make_all(table, decision.changes.as_slice());
+    Ok(made.and(Some(decision)).ok_or("a change is refused")?)
 }
 
 /// The built-in configuration, in another mode.
@@ -71,12 +77,21 @@ fn start(
     start_with(rt, alloc, table, confs, [b"", b""])
 }
 
-/// Starts the radio in mode 0: its table, and its configuration.
-fn start_open(rt: &impl Abort, alloc: Global) -> Result<(Table, Confs), Fail> {
-    let mut table = Table::new(alloc);
+/// The same of a configuration in mode 1.
+fn start_closed(rt: &impl Abort, alloc: Global, table: &mut Table) -> Result<Decision, Fail> {
+    let closed = confs(alloc, AclMode::DenyUnlessAccepted)?;
+    let decision = start(rt, alloc, table, &closed);
+    drop(closed);
+    decision
+}
+
+/// A table, and the configuration of its radio.
+type Open = (Table, Confs);
+
+/// A table of no radio, and a configuration in mode 0.
+fn new_open(alloc: Global) -> Result<Open, Fail> {
     let open = confs(alloc, AclMode::AcceptUnlessDenied)?;
-    start(rt, alloc, &mut table, &open)?;
-    Ok((table, open))
+    Ok((Table::new(alloc), open))
 }
 
 /// Decides a frame of the station, and makes its changes.
@@ -135,15 +150,14 @@ fn is_frame(out: &Out, want: &[u8]) -> bool {
     }
 }
 
-#[test]
-fn a_start_in_mode_1_ends_a_station_that_mode_0_let_in(rt: HostRuntime) -> Result<(), Fail> {
-    let alloc = rt.alloc();
-    let (mut table, open) = start_open(&rt, alloc)?;
-    authenticate(&rt, alloc, &mut table, &open)?;
+/// Mode 0 lets the station in, and a start in mode 1 ends it.
+fn ends_in_mode_1(rt: &impl Abort, alloc: Global, radio: &mut Open) -> Result<(), Fail> {
+    let (table, open) = radio;
+    start(rt, alloc, table, open)?;
+    authenticate(rt, alloc, table, open)?;
     assert_eq!(rt; table.get(RADIO, STATION), Some(Station::Authenticated));
 
-    let closed = confs(alloc, AclMode::DenyUnlessAccepted)?;
-    let decision = start(&rt, alloc, &mut table, &closed)?;
+    let decision = start_closed(rt, alloc, table)?;
     assert_eq!(rt; decision.changes.len(), 2);
     let drop = Change::Drop {
         bssid: RADIO,
@@ -156,6 +170,12 @@ fn a_start_in_mode_1_ends_a_station_that_mode_0_let_in(rt: HostRuntime) -> Resul
     Ok(())
 }
 
+#[test]
+fn a_start_in_mode_1_ends_a_station_that_mode_0_let_in(rt: HostRuntime) -> Result<(), Fail> {
+    let alloc = rt.alloc();
+    ends_in_mode_1(&rt, alloc, &mut new_open(alloc)?)
+}
+
 /// The station on a list of the radio.
 fn list_station(which: Which) -> Change {
     Change::ListAdd {
@@ -165,21 +185,26 @@ fn list_station(which: Which) -> Change {
     }
 }
 
+/// A deny list keeps the station out, and an accept list lets it in, in both modes.
+fn follows_lists(rt: &impl Abort, alloc: Global, radio: &mut Open) -> Result<(), Fail> {
+    let (table, open) = radio;
+    start(rt, alloc, table, open)?;
+    change(table, &list_station(Which::Deny))?;
+    authenticate(rt, alloc, table, open)?;
+    assert_eq!(rt; table.get(RADIO, STATION), None);
+    change(table, &list_station(Which::Accept))?;
+    authenticate(rt, alloc, table, open)?;
+    assert_eq!(rt; table.get(RADIO, STATION), Some(Station::Authenticated));
+
+    start_closed(rt, alloc, table)?;
+    assert_eq!(rt; table.get(RADIO, STATION), Some(Station::Authenticated));
+    Ok(())
+}
+
 #[test]
 fn lists_say_who_is_let_in(rt: HostRuntime) -> Result<(), Fail> {
     let alloc = rt.alloc();
-    let (mut table, open) = start_open(&rt, alloc)?;
-    change(&mut table, &list_station(Which::Deny))?;
-    authenticate(&rt, alloc, &mut table, &open)?;
-    assert_eq!(rt; table.get(RADIO, STATION), None);
-    change(&mut table, &list_station(Which::Accept))?;
-    authenticate(&rt, alloc, &mut table, &open)?;
-    assert_eq!(rt; table.get(RADIO, STATION), Some(Station::Authenticated));
-
-    let closed = confs(alloc, AclMode::DenyUnlessAccepted)?;
-    start(&rt, alloc, &mut table, &closed)?;
-    assert_eq!(rt; table.get(RADIO, STATION), Some(Station::Authenticated));
-    Ok(())
+    follows_lists(&rt, alloc, &mut new_open(alloc)?)
 }
 
 /// An address in a list of the radio.
@@ -195,23 +220,29 @@ fn first(changes: &Sequence<Change>) -> Option<Change> {
     changes.as_slice().first().copied()
 }
 
-#[test]
-fn lists_come_with_the_first_start_alone(rt: HostRuntime) -> Result<(), Fail> {
-    let alloc = rt.alloc();
-    let mut table = Table::new(alloc);
-    let confs = confs(alloc, AclMode::AcceptUnlessDenied)?;
+/// Two starts in mode 0, the second with the list files the other way round.
+fn starts_twice(rt: &impl Abort, alloc: Global, radio: &mut Open) -> Result<(), Fail> {
+    let (table, open) = radio;
     let accept = b"02:00:00:00:00:bb\n02:00:00:00:00:aa\n".as_slice();
     let deny = b"02:00:00:00:00:cc\n".as_slice();
-    let began = start_with(&rt, alloc, &mut table, &confs, [accept, deny])?;
+    let began = start_with(rt, alloc, table, open, [accept, deny])?;
     assert_eq!(rt; began.changes.len(), 4);
     assert_eq!(rt; began.changes.as_slice()[1], list_row(Which::Accept, 0xaa));
     assert_eq!(rt; began.changes.as_slice()[2], list_row(Which::Accept, 0xbb));
     assert_eq!(rt; began.changes.as_slice()[3], list_row(Which::Deny, 0xcc));
 
-    let later = start_with(&rt, alloc, &mut table, &confs, [deny, accept])?;
+    let policy = first(&began.changes);
+    drop(began);
+    let later = start_with(rt, alloc, table, open, [deny, accept])?;
     assert_eq!(rt; later.changes.len(), 1);
-    assert_eq!(rt; first(&later.changes), first(&began.changes));
+    assert_eq!(rt; first(&later.changes), policy);
     Ok(())
+}
+
+#[test]
+fn lists_come_with_the_first_start_alone(rt: HostRuntime) -> Result<(), Fail> {
+    let alloc = rt.alloc();
+    starts_twice(&rt, alloc, &mut new_open(alloc)?)
 }
 
 /// An authentication response to the station: Open System, transaction number 2, status 17.
@@ -240,26 +271,32 @@ fn the_most_records_of_an_event(rt: HostRuntime) {
     assert_eq!(rt; MAX_RECORDS, 28_682);
 }
 
-#[test]
-fn the_2008th_station_finds_no_room(rt: HostRuntime) -> Result<(), Fail> {
-    let alloc = rt.alloc();
-    let (mut table, open) = start_open(&rt, alloc)?;
+/// 2,007 others come, and then the station.
+fn has_no_room(rt: &impl Abort, alloc: Global, radio: &mut Open) -> Result<(), Fail> {
+    let (table, open) = radio;
+    start(rt, alloc, table, open)?;
     for number in 1..=2007 {
         if number == 2007 {
             assert_eq!(rt; table.least_free(RADIO), Some(2007));
         }
         if let Some(aid) = Aid::new(number) {
-            change(&mut table, &member(aid))?;
+            change(table, &member(aid))?;
         }
     }
     assert_eq!(rt; table.count(RADIO), 2007);
     assert_eq!(rt; table.least_free(RADIO), None);
-    let decision = authenticate(&rt, alloc, &mut table, &open)?;
+    let decision = authenticate(rt, alloc, table, open)?;
     assert_eq!(rt; decision.changes.len(), 0);
     assert_eq!(rt; decision.outs.len(), 1);
     assert!(rt; is_frame(&decision.outs.as_slice()[0].1, &NO_MORE_STATIONS));
     assert_eq!(rt; table.count(RADIO), 2007);
     Ok(())
+}
+
+#[test]
+fn the_2008th_station_finds_no_room(rt: HostRuntime) -> Result<(), Fail> {
+    let alloc = rt.alloc();
+    has_no_room(&rt, alloc, &mut new_open(alloc)?)
 }
 
 /// The station is associated under an identifier.
@@ -290,49 +327,64 @@ const BACK: Change = Change::Put {
     station: Station::Authenticated,
 };
 
-#[test]
-fn an_identifier_comes_with_a_cursor_and_is_kept_without(rt: HostRuntime) -> Result<(), Fail> {
-    let alloc = rt.alloc();
-    let (mut table, open) = start_open(&rt, alloc)?;
-    change(&mut table, &cursor(2006)?)?;
+/// The station associates, by these changes.
+fn associates(
+    rt: &impl Abort,
+    alloc: Global,
+    radio: &mut Open,
+    changes: &[Change],
+) -> Result<(), Fail> {
+    let (table, open) = radio;
+    let decision = associate(rt, alloc, table, open)?;
+    assert_eq!(rt; decision.changes.as_slice(), changes);
+    Ok(())
+}
+
+/// The station gets the identifiers behind 2006 in turn, and each is kept once.
+fn gets_and_keeps(rt: &impl Abort, alloc: Global, radio: &mut Open) -> Result<(), Fail> {
+    start(rt, alloc, &mut radio.0, &radio.1)?;
+    change(&mut radio.0, &cursor(2006)?)?;
     // Behind 2007 comes 1.
     for number in [2007, 1, 2] {
-        change(&mut table, &BACK)?;
-        let given = associate(&rt, alloc, &mut table, &open)?;
-        let changes = [put_station(number)?, cursor(number)?];
-        assert_eq!(rt; given.changes.as_slice(), changes.as_slice());
-        let kept = associate(&rt, alloc, &mut table, &open)?;
-        assert_eq!(rt; kept.changes.as_slice(), [put_station(number)?].as_slice());
+        change(&mut radio.0, &BACK)?;
+        associates(rt, alloc, radio, &[put_station(number)?, cursor(number)?])?;
+        associates(rt, alloc, radio, &[put_station(number)?])?;
     }
     Ok(())
 }
 
-/// A table in which others have all identifiers but this one, which was given last, and the station is authenticated.
-fn all_but(rt: &impl Abort, alloc: Global, confs: &Confs, number: u16) -> Result<Table, Fail> {
-    let mut table = Table::new(alloc);
-    start(rt, alloc, &mut table, confs)?;
+#[test]
+fn an_identifier_comes_with_a_cursor_and_is_kept_without(rt: HostRuntime) -> Result<(), Fail> {
+    let alloc = rt.alloc();
+    gets_and_keeps(&rt, alloc, &mut new_open(alloc)?)
+}
+
+/// Others get all identifiers but this one, which was given last, and the station is authenticated.
+fn give_all_but(table: &mut Table, number: u16) -> Result<(), Fail> {
     for other in 1..=2007 {
         if let Some(aid) = Aid::new(other) {
             if other != number {
-                change(&mut table, &member(aid))?;
+                change(table, &member(aid))?;
             }
         }
     }
-    change(&mut table, &cursor(number)?)?;
-    change(&mut table, &BACK)?;
-    Ok(table)
+    change(table, &cursor(number)?)?;
+    change(table, &BACK)
+}
+
+/// The station gets the last identifier again.
+fn gets_the_last(rt: &impl Abort, alloc: Global, radio: &mut Open) -> Result<(), Fail> {
+    start(rt, alloc, &mut radio.0, &radio.1)?;
+    give_all_but(&mut radio.0, 7)?;
+    associates(rt, alloc, radio, &[put_station(7)?, cursor(7)?])?;
+    assert_eq!(rt; radio.0.next_free(RADIO), None);
+    Ok(())
 }
 
 #[test]
 fn where_no_other_is_free_the_last_one_is_given_again(rt: HostRuntime) -> Result<(), Fail> {
     let alloc = rt.alloc();
-    let open = confs(alloc, AclMode::AcceptUnlessDenied)?;
-    let mut table = all_but(&rt, alloc, &open, 7)?;
-    let given = associate(&rt, alloc, &mut table, &open)?;
-    let changes = [put_station(7)?, cursor(7)?];
-    assert_eq!(rt; given.changes.as_slice(), changes.as_slice());
-    assert_eq!(rt; table.next_free(RADIO), None);
-    Ok(())
+    gets_the_last(&rt, alloc, &mut new_open(alloc)?)
 }
 
 /// Whether an out lets this station go.
@@ -368,21 +420,29 @@ const NO_LONGER_AUTHENTICATED: [u8; 26] = [
     0xc0, 0, 0, 0, 2, 0, 0, 0, 0, 0xaa, 2, 0, 0, 0, 0, 1, 2, 0, 0, 0, 0, 1, 0, 0, 2, 0,
 ];
 
-#[test]
-fn silence_ends_an_association_and_then_an_authentication(rt: HostRuntime) -> Result<(), Fail> {
-    let alloc = rt.alloc();
-    let (mut table, open) = start_open(&rt, alloc)?;
-    change(&mut table, &put_station(1)?)?;
-    let first = expire(&rt, alloc, &mut table, &open)?;
+/// The station is silent three times.
+fn is_silent(rt: &impl Abort, alloc: Global, radio: &mut Open) -> Result<(), Fail> {
+    let (table, open) = radio;
+    start(rt, alloc, table, open)?;
+    change(table, &put_station(1)?)?;
+    let first = expire(rt, alloc, table, open)?;
     assert_eq!(rt; first.outs.len(), 2);
     assert!(rt; is_removal(&first.outs.as_slice()[0].1, STATION));
     assert!(rt; is_frame(&first.outs.as_slice()[1].1, &INACTIVE));
     assert_eq!(rt; table.get(RADIO, STATION), Some(Station::Authenticated));
-    let second = expire(&rt, alloc, &mut table, &open)?;
+    drop(first);
+    let second = expire(rt, alloc, table, open)?;
     assert_eq!(rt; second.outs.len(), 1);
     assert!(rt; is_frame(&second.outs.as_slice()[0].1, &NO_LONGER_AUTHENTICATED));
     assert_eq!(rt; table.get(RADIO, STATION), None);
-    let third = expire(&rt, alloc, &mut table, &open)?;
+    drop(second);
+    let third = expire(rt, alloc, table, open)?;
     assert!(rt; third.is_nothing());
     Ok(())
+}
+
+#[test]
+fn silence_ends_an_association_and_then_an_authentication(rt: HostRuntime) -> Result<(), Fail> {
+    let alloc = rt.alloc();
+    is_silent(&rt, alloc, &mut new_open(alloc)?)
 }

@@ -1,7 +1,6 @@
 //! Scripts over radios whose driver fails.
-use crate::calls::one_radio;
 use crate::scripts::{JOINS, join};
-use crate::worlds::{Boxed, all_slots, replace_radio, run_in_world, world_with};
+use crate::worlds::{Boxed, replace_radio, run_in_world, slots_of, world_with};
 use apd_base::{Addr, Bssid};
 use apd_disk::MemDisk;
 use apd_radio::{Failing, Sim};
@@ -35,27 +34,25 @@ const UP: &str =
 /// A world of one interface, whose radio passes so many calls on, and fails then.
 fn failing_world(alloc: Global, calls: u64) -> Result<World<MemDisk, Boxed>, Fail> {
     let radio: Boxed = Box::new(alloc, Failing::new(Sim::new(alloc), calls))?;
-    world_with(alloc, one_radio(alloc)?, radio)
+    world_with(alloc, radio)
 }
 
 #[test]
 fn a_radio_that_fails_is_replaced(rt: HostRuntime) -> Result<(), Fail> {
     let alloc = rt.alloc();
-    let world = failing_world(alloc, 1)?;
     let script = join(alloc, &[JOINS, "cmd STATUS\n"])?;
-    let (world, out) = run_in_world(alloc, world, script.as_slice())?;
     let want = join(
         alloc,
         &[AUTHENTICATED, "entry 3\nwlan0 down\nwlan0 lost\n", DOWN],
     )?;
-    assert_eq!(rt; out.as_slice(), want.as_slice());
-    let mut world = world;
     let other: Boxed = Box::new(alloc, Sim::new(alloc))?;
-    let own = replace_radio(&mut world, WLAN0, other)?;
+    let (world, out) = run_in_world(alloc, failing_world(alloc, 1)?, script.as_slice())?;
+    assert_eq!(rt; out.as_slice(), want.as_slice());
+    let (own, world) = replace_radio(world, WLAN0, other)?;
     assert_eq!(rt; own.installed(STATION), None);
     let (world, out) = run_in_world(alloc, world, b"cmd STATUS\n")?;
     assert_eq!(rt; out.as_slice(), UP.as_bytes());
-    for slot in all_slots(world) {
+    for slot in slots_of(world) {
         assert!(rt; slot.is_up());
         assert_eq!(rt; slot.installed(STATION), Some(1));
     }
@@ -65,8 +62,6 @@ fn a_radio_that_fails_is_replaced(rt: HostRuntime) -> Result<(), Fail> {
 #[test]
 fn a_frame_that_is_lost_leaves_its_radio_up(rt: HostRuntime) -> Result<(), Fail> {
     let alloc = rt.alloc();
-    let world = failing_world(alloc, 2)?;
-    let (world, out) = run_in_world(alloc, world, JOINS.as_bytes())?;
     let want = join(
         alloc,
         &[
@@ -74,8 +69,9 @@ fn a_frame_that_is_lost_leaves_its_radio_up(rt: HostRuntime) -> Result<(), Fail>
             "entry 3\nwlan0 install 02:00:00:00:00:aa 1\nwlan0 lost\n",
         ],
     )?;
+    let (world, out) = run_in_world(alloc, failing_world(alloc, 2)?, JOINS.as_bytes())?;
     assert_eq!(rt; out.as_slice(), want.as_slice());
-    for slot in all_slots(world) {
+    for slot in slots_of(world) {
         assert!(rt; slot.is_up());
     }
     Ok(())
@@ -84,14 +80,13 @@ fn a_frame_that_is_lost_leaves_its_radio_up(rt: HostRuntime) -> Result<(), Fail>
 #[test]
 fn a_removal_that_fails_takes_its_radio_down(rt: HostRuntime) -> Result<(), Fail> {
     let alloc = rt.alloc();
-    let world = failing_world(alloc, 3)?;
     let leaves = "cmd DEAUTHENTICATE 02:00:00:00:00:aa\nflush\n";
     let script = join(alloc, &[JOINS, leaves])?;
-    let (world, out) = run_in_world(alloc, world, script.as_slice())?;
     let left = "entry 4\nwlan0 down\nwlan0 lost\nctrl 5 OK\\n\n";
     let want = join(alloc, &[AUTHENTICATED, ASSOCIATED, left])?;
+    let (world, out) = run_in_world(alloc, failing_world(alloc, 3)?, script.as_slice())?;
     assert_eq!(rt; out.as_slice(), want.as_slice());
-    for slot in all_slots(world) {
+    for slot in slots_of(world) {
         assert!(rt; !slot.is_up());
         assert_eq!(rt; slot.wanted(STATION), None);
     }

@@ -33,8 +33,10 @@ fn records_of(alloc: Global, world: &World<MemDisk, Sim>) -> Result<Vec<u8>, Fai
 /// The records of the table of the world that a script on two radios ends with.
 fn records_after(alloc: Global, script: &[u8]) -> Result<Vec<u8>, Fail> {
     let mut out = Vec::new(alloc);
-    let world = world_after(alloc, two_radios(alloc)?, script, &mut out)?;
-    records_of(alloc, &world)
+    records_of(
+        alloc,
+        &world_after(alloc, two_radios(alloc)?, script, &mut out)?,
+    )
 }
 
 /// A station joins wlan0, and then wlan1.

@@ -1,5 +1,5 @@
 //! Stops and restarts, steps of a commit, and refusals of the store.
-use crate::calls::{one_radio, two_radios};
+use crate::calls::one_radio;
 use crate::scripts::{JOINS, join};
 use crate::worlds::{fresh_store, run_on, run_with, slots_after};
 use apd_base::Addr;
@@ -21,7 +21,7 @@ fn frames_of(
     spares: &[&str],
 ) -> Result<Vec<u8>, Fail> {
     let mut frames = Vec::new(alloc);
-    let mut slots = slots_after(alloc, two_radios(alloc)?, script, radios, spares)?;
+    let mut slots = slots_after(alloc, script, radios, spares)?;
     for slot in slots.iter_mut() {
         let Ok(Some(frame)) = slot.poll() else {
             return Err(Fail::new("a radio has no frame"));

@@ -1,5 +1,6 @@
 //! Scripts and worlds on devices of memory, each call by a function of its own, so that the proof of a test
 //! needn't carry its contract.
+use crate::calls::{one_radio, two_radios};
 use apd_base::{Bssid, Moment};
 use apd_conf::Confs;
 use apd_disk::{Disk, MemDisk};
@@ -28,7 +29,9 @@ pub fn run_on<D: Disk + Drop, I: BufRead + Drop, W: Write>(
     writer: &mut W,
 ) -> Result<D, ScriptFault> {
     let world = run_on_store(alloc, disk, confs, script, writer)?;
-    let (flusher, _, _) = world.into_parts();
+    let (flusher, core, slots) = world.into_parts();
+    drop(core);
+    drop(slots);
     Ok(flusher.into_device())
 }
 
@@ -43,16 +46,32 @@ pub fn run_with(
     Ok((fault, out))
 }
 
-/// A world of a new store, which is not started yet.
-pub fn new_world(alloc: Global, confs: Confs) -> Result<World<MemDisk, Sim>, Fail> {
+/// A world of a store, which is not started yet.
+fn begin_world<R: Radio>(
+    alloc: Global,
+    disk: MemDisk,
+    confs: Confs,
+    slots: Vec<Slot<R>>,
+) -> Result<World<MemDisk, R>, Fail> {
+    let world = restart(alloc, disk, confs, slots, Moment(0)).ok();
+    Ok(world.ok_or("a world is not begun")?)
+}
+
+/// A slot for each configuration, with a radio that does nothing.
+fn new_slots(alloc: Global, confs: &Confs) -> Result<Vec<Slot<Sim>>, Fail> {
     let mut slots = Vec::new(alloc);
     for conf in confs.list() {
         slots.push(Slot::new(alloc, Sim::new(alloc), conf.bssid))?;
     }
-    match restart(alloc, fresh_store(alloc)?, confs, slots, Moment(0)) {
-        Ok(world) => Ok(world),
-        Err(_) => Err(Fail::new("a world is not begun")),
-    }
+    Ok(slots)
+}
+
+/// A world of a new store and of one radio, which is not started yet.
+pub fn new_world(alloc: Global) -> Result<World<MemDisk, Sim>, Fail> {
+    let disk = fresh_store(alloc)?;
+    let confs = one_radio(alloc)?;
+    let slots = new_slots(alloc, &confs)?;
+    begin_world(alloc, disk, confs, slots)
 }
 
 /// A radio that receives the frames of a recording.
@@ -76,16 +95,12 @@ fn slots_with(
     Ok(slots)
 }
 
-/// A world of a new store and these slots, which is not started yet.
-fn replaying_world(
-    alloc: Global,
-    confs: Confs,
-    slots: Vec<Slot<Replaying>>,
-) -> Result<World<MemDisk, Replaying>, Fail> {
-    match restart(alloc, fresh_store(alloc)?, confs, slots, Moment(0)) {
-        Ok(world) => Ok(world),
-        Err(_) => Err(Fail::new("a world is not begun")),
-    }
+/// A world of a new store and of two radios, which receive the frames of these recordings. It is not started yet.
+fn replaying_world(alloc: Global, recordings: &[&str]) -> Result<World<MemDisk, Replaying>, Fail> {
+    let disk = fresh_store(alloc)?;
+    let confs = two_radios(alloc)?;
+    let slots = slots_with(alloc, &confs, recordings)?;
+    begin_world(alloc, disk, confs, slots)
 }
 
 /// Radios that receive the frames of these recordings.
@@ -97,27 +112,33 @@ fn all_replaying(alloc: Global, recordings: &[&str]) -> Result<Vec<Replaying>, F
     Ok(radios)
 }
 
+/// The slots of a world.
+pub fn slots_of<R: Radio>(world: World<MemDisk, R>) -> Vec<Slot<R>> {
+    let (flusher, core, slots) = world.into_parts();
+    drop(flusher);
+    drop(core);
+    slots
+}
+
 /// The slots of the world that a script left.
 fn slots_left(
     ended: Result<World<MemDisk, Replaying>, ScriptFault>,
 ) -> Result<Vec<Slot<Replaying>>, Fail> {
     match ended {
-        Ok(world) => Ok(world.into_parts().2),
+        Ok(world) => Ok(slots_of(world)),
         Err(_) => Err(Fail::new("the script has a fault")),
     }
 }
 
-/// The slots of a world once a script was run on it, whose stops take these radios.
+/// The slots of a world of two radios once a script was run on it, whose stops take these other ones.
 pub fn slots_after(
     alloc: Global,
-    confs: Confs,
     script: &[u8],
     radios: &[&str],
     spares: &[&str],
 ) -> Result<Vec<Slot<Replaying>>, Fail> {
     let left = all_replaying(alloc, spares)?;
-    let slots = slots_with(alloc, &confs, radios)?;
-    let world = replaying_world(alloc, confs, slots)?;
+    let world = replaying_world(alloc, radios)?;
     let mut out = Vec::new(alloc);
     slots_left(run_script(alloc, world, script, &mut out, left))
 }
@@ -125,19 +146,20 @@ pub fn slots_after(
 /// A radio of any kind.
 pub type Boxed = Box<dyn Radio + Send>;
 
-/// A world of a new store and of this radio at the first configuration's BSSID, which is not started yet.
-pub fn world_with(
-    alloc: Global,
-    confs: Confs,
-    radio: Boxed,
-) -> Result<World<MemDisk, Boxed>, Fail> {
-    let mut slots = Vec::new(alloc);
+/// A slot with this radio at the first configuration's BSSID.
+fn slot_with(alloc: Global, confs: &Confs, radio: Boxed) -> Result<Vec<Slot<Boxed>>, Fail> {
     let first = confs.list().first().ok_or("an interface")?;
+    let mut slots = Vec::new(alloc);
     slots.push(Slot::new(alloc, radio, first.bssid))?;
-    match restart(alloc, fresh_store(alloc)?, confs, slots, Moment(0)) {
-        Ok(world) => Ok(world),
-        Err(_) => Err(Fail::new("a world is not begun")),
-    }
+    Ok(slots)
+}
+
+/// A world of a new store and of this radio, which is not started yet.
+pub fn world_with(alloc: Global, radio: Boxed) -> Result<World<MemDisk, Boxed>, Fail> {
+    let disk = fresh_store(alloc)?;
+    let confs = one_radio(alloc)?;
+    let slots = slot_with(alloc, &confs, radio)?;
+    begin_world(alloc, disk, confs, slots)
 }
 
 /// Runs a script on a world, and gives the world back, and what was printed.
@@ -153,19 +175,13 @@ pub fn run_in_world(
     }
 }
 
-/// Puts another radio in the place of a BSSID's, and gives that one back.
+/// Puts another radio in the place of a BSSID's, and gives that one back beside the world.
 pub fn replace_radio(
-    world: &mut World<MemDisk, Boxed>,
+    world: World<MemDisk, Boxed>,
     bssid: Bssid,
     radio: Boxed,
-) -> Result<Boxed, Fail> {
-    match world.replace(bssid, radio) {
-        Ok(own) => Ok(own),
-        Err(_) => Err(Fail::new("a radio is not replaced")),
-    }
-}
-
-/// The slots of a world.
-pub fn all_slots(world: World<MemDisk, Boxed>) -> Vec<Slot<Boxed>> {
-    world.into_parts().2
+) -> Result<(Boxed, World<MemDisk, Boxed>), Fail> {
+    let mut world = world;
+    let own = world.replace(bssid, radio).ok();
+    Ok(own.zip(Some(world)).ok_or("a radio is not replaced")?)
 }
