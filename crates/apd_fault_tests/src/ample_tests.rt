@@ -3,10 +3,12 @@ use crate::calls::{begin_world, commit_world, confs, new_slots, recover_store, t
 use crate::devices::{device_of, new_image, place_of};
 use crate::sessions::{AUTHENTICATES, starts, world};
 use apd_base::{Addr, Bssid};
-use apd_disk::{Disk, MemDisk};
+use apd_conf::Confs;
+use apd_disk::Disk;
 use apd_journal::plan_half;
 use apd_radio::{Identifiers, Sim};
 use apd_record::{Change, Changes};
+use apd_slot::Slot;
 use apd_world::{Commit, World};
 use std::alloc::{AllocError, Global};
 use std::test::Fail;
@@ -15,13 +17,20 @@ const WLAN1: Bssid = Bssid(Addr([2, 0, 0, 0, 0, 2]));
 
 const STATION: Addr = Addr([2, 0, 0, 0, 0, 0xaa]);
 
+/// The configurations, and a slot for each.
+fn confs_and_slots(alloc: Global) -> Option<(Confs, Vec<Slot<Sim>>)> {
+    let confs = confs(alloc)?;
+    let slots = new_slots(alloc, &confs);
+    Some(confs).zip(slots)
+}
+
 /// A store is recovered, and its world begun with a slot for its interface; how many slots there were, and its table.
 fn recover_and_begin(alloc: Global) -> Option<(usize, Option<u64>)> {
-    let (store, table) = recover_store(alloc, device_of(alloc, &new_image(alloc)?)?).ok()?;
-    let slots = new_slots(alloc, &confs(alloc)?)?;
+    let recovered = recover_store(alloc, device_of(alloc, &new_image(alloc)?)?).ok();
+    let ((store, table), (confs, slots)) = recovered.zip(confs_and_slots(alloc))?;
     let count = slots.len();
-    let world = begin_world(alloc, store, table, confs(alloc)?, slots)?;
-    Some((count, place_of(world.table())))
+    let world = begin_world(alloc, store, table, confs, slots);
+    Some((count, place_of(world?.table())))
 }
 
 #[test]
@@ -41,8 +50,8 @@ fn commits<D: Disk>(
 }
 
 fn commits_of_two(alloc: Global) -> Option<([Commit; 2], Option<u64>)> {
-    let mut world: World<MemDisk, Sim> = world(alloc, device_of(alloc, &new_image(alloc)?)?)?;
-    commits(alloc, &mut world)
+    let device = device_of(alloc, &new_image(alloc)?)?;
+    commits(alloc, &mut world(alloc, device)?)
 }
 
 #[test]

@@ -82,7 +82,9 @@ pub(crate) fn flush_refusal<D: Disk>(world: &mut World<D, Sim>) -> Option<WorldF
 
 /// The flusher of a world that stops.
 pub(crate) fn flusher<D: Disk>(world: World<D, Sim>) -> Flusher<D> {
-    let (flusher, _core, _slots) = world.into_parts();
+    let (flusher, core, slots) = world.into_parts();
+    drop(core);
+    drop(slots);
     flusher
 }
 

@@ -1,7 +1,6 @@
 //! Sessions in which the call behind so many others fails, in rows: what is told, which calls are made of the device,
 //! and what is then found on it.
-use crate::calls::recover_store;
-use crate::devices::{device_of, full_image, new_image, place_of, table_of};
+use crate::devices::{device_of, full_image, new_image, recover_device, table_of};
 use crate::expected::{count_before_recovery, count_calls};
 use crate::sessions::{Behind, REFUSED, Seen, Session, run};
 use apd_disk::{Disk, FuseDisk, MemDisk, OnceDisk, Torn};
@@ -130,11 +129,10 @@ fn recover_once(
     faults: u64,
 ) -> Option<(MemDisk, Option<u64>)> {
     if faults == 0 {
-        let (store, table) = recover_store(alloc, once.into_inner()).ok()?;
-        return Some((store.into_device(), place_of(&table)));
+        return recover_device(alloc, once.into_inner()).ok();
     }
-    let (store, table) = recover_store(alloc, once).ok()?;
-    Some((store.into_device().into_inner(), place_of(&table)))
+    let (once, table) = recover_device(alloc, once).ok()?;
+    Some((once.into_inner(), table))
 }
 
 fn hand_back(alloc: Global, session: Session, device: MemDisk, calls: u64) -> Option<Ended> {

@@ -3,6 +3,7 @@ use crate::calls::{format_device, recover_store};
 use crate::sessions::{STATION, WLAN0};
 use apd_base::{Aid, Association, Station};
 use apd_disk::{Disk, MemDisk};
+use apd_store::StoreFault;
 use apd_table::Table;
 use std::alloc::Global;
 
@@ -98,8 +99,19 @@ pub(crate) fn place_of(table: &Table) -> Option<u64> {
     }
 }
 
+/// A device that is recovered, and which table it shows; else why there is none, beside the device.
+pub(crate) fn recover_device<D: Disk + Drop>(
+    alloc: Global,
+    device: D,
+) -> Result<(D, Option<u64>), (D, StoreFault)> {
+    let (store, table) = recover_store(alloc, device)?;
+    let place = place_of(&table);
+    drop(table);
+    Ok((store.into_device(), place))
+}
+
 /// Which table a device shows.
 pub(crate) fn table_of<D: Disk + Drop>(alloc: Global, device: D) -> Option<u64> {
-    let (_store, table) = recover_store(alloc, device).ok()?;
-    place_of(&table)
+    let (_device, table) = recover_device(alloc, device).ok()?;
+    table
 }

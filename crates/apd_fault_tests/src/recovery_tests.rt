@@ -1,12 +1,14 @@
 //! Recoveries of which a call fails, and how many calls there are.
-use crate::calls::{confs, flusher, recover_store, restart_world};
+use crate::calls::{confs, flusher, restart_world};
 use crate::cases::{RECOVERY, image_of};
-use crate::devices::{device_of, full_image, place_of};
+use crate::devices::{device_of, full_image, place_of, recover_device};
 use crate::expected::{Made, RECOVERS, behind};
 use crate::sessions::{Session, run, slots};
 use apd_disk::{FuseDisk, MemDisk, OnceDisk, Torn};
+use apd_radio::Sim;
+use apd_slot::Slot;
 use apd_store::StoreFault;
-use apd_world::WorldFault;
+use apd_world::{World, WorldFault};
 use std::alloc::Global;
 use std::test::Fail;
 
@@ -32,7 +34,7 @@ fn the_calls_of_a_session(rt: HostRuntime) {
 /// Whether a recovery of it is not refused where the device fails for good behind so many calls.
 fn passes(alloc: Global, session: Session, calls: u64) -> Option<bool> {
     let fuse = FuseDisk::new(device_behind(alloc, session)?, calls);
-    Some(recover_store(alloc, fuse).is_ok())
+    Some(recover_device(alloc, fuse).is_ok())
 }
 
 /// The least number of calls behind which it is not refused.
@@ -68,15 +70,12 @@ fn has_served(device: &MemDisk, before: usize, made: &[Made]) -> bool {
 type Recovery = (Option<StoreFault>, Option<u64>, MemDisk);
 
 fn recovery(alloc: Global, device: OnceDisk<MemDisk>) -> Option<Recovery> {
-    let (device, fault) = match recover_store(alloc, device) {
-        Ok((store, table)) => {
-            return Some((None, place_of(&table), store.into_device().into_inner()));
-        }
+    let (device, fault) = match recover_device(alloc, device) {
+        Ok((device, table)) => return Some((None, table, device.into_inner())),
         Err(refused) => refused,
     };
-    let (store, table) = recover_store(alloc, device).ok()?;
-    let device = store.into_device().into_inner();
-    Some((Some(fault), place_of(&table), device))
+    let (device, table) = recover_device(alloc, device).ok()?;
+    Some((Some(fault), table, device.into_inner()))
 }
 
 /// The same where the call behind so many others fails, and whether these calls and no others are passed on.
@@ -112,19 +111,34 @@ fn once_each_call_of_a_recovery(rt: HostRuntime) {
 /// back; and the device.
 type Restart = (Option<WorldFault>, usize, Option<u64>, MemDisk);
 
+/// The table of a world that stops, and its device.
+fn table_and_device(world: World<OnceDisk<MemDisk>, Sim>) -> (Option<u64>, MemDisk) {
+    let table = place_of(world.table());
+    (table, flusher(world).into_device().into_inner())
+}
+
+/// The table and the device of a world with slots that came back.
+fn restart_again(
+    alloc: Global,
+    device: OnceDisk<MemDisk>,
+    slots: Vec<Slot<Sim>>,
+) -> Option<(Option<u64>, MemDisk)> {
+    let (confs, slots) = confs(alloc).zip(Some(slots))?;
+    let world = restart_world(alloc, device, confs, slots).ok()?;
+    Some(table_and_device(world))
+}
+
 fn restart(alloc: Global, device: OnceDisk<MemDisk>) -> Option<Restart> {
-    let (device, slots, fault) = match restart_world(alloc, device, confs(alloc)?, slots(alloc)?) {
+    let (confs, slots) = confs(alloc).zip(slots(alloc))?;
+    let (device, slots, fault) = match restart_world(alloc, device, confs, slots) {
         Ok(world) => {
-            let table = place_of(world.table());
-            let device = flusher(world).into_device().into_inner();
+            let (table, device) = table_and_device(world);
             return Some((None, 0, table, device));
         }
         Err(refused) => refused,
     };
     let count = slots.len();
-    let world = restart_world(alloc, device, confs(alloc)?, slots).ok()?;
-    let table = place_of(world.table());
-    let device = flusher(world).into_device().into_inner();
+    let (table, device) = restart_again(alloc, device, slots)?;
     Some((Some(fault), count, table, device))
 }
 
@@ -167,9 +181,12 @@ type OldRestart = (WorldFault, usize, bool);
 fn old_restart(alloc: Global, calls: u64, torn: Torn) -> Option<OldRestart> {
     let image = old_image(alloc)?;
     let fuse = FuseDisk::new(device_of(alloc, &image)?, calls);
-    let (fuse, slots, fault) = restart_world(alloc, fuse, confs(alloc)?, slots(alloc)?).err()?;
+    let (confs, slots) = confs(alloc).zip(slots(alloc))?;
+    let (fuse, slots, fault) = restart_world(alloc, fuse, confs, slots).err()?;
+    let count = slots.len();
+    drop(slots);
     let left = fuse.into_inner().crash(torn);
-    Some((fault, slots.len(), left.bytes() == image.as_slice()))
+    Some((fault, count, left.bytes() == image.as_slice()))
 }
 
 #[test]

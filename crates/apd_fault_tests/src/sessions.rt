@@ -211,10 +211,11 @@ fn answers_behind<D: Disk>(world: &mut World<D, Sim>) -> Option<[Said; 4]> {
 /// How a world ends: what is told behind a session in which the device failed, and the device.
 fn end_world<D: Disk + Drop>(alloc: Global, world: World<D, Sim>) -> Option<(Behind, D)> {
     let mut world = world;
-    let told = answers_behind(&mut world)?;
+    let told = answers_behind(&mut world);
     let mut flusher = flusher(world);
     let refusal = load_refusal(alloc, &mut flusher);
-    Some(((told, refusal), flusher.into_device()))
+    let device = flusher.into_device();
+    Some(((told?, refusal), device))
 }
 
 /// What was seen of a session, what was told behind it where the device failed in it, and the device.
@@ -232,13 +233,16 @@ fn run_of<D: Disk + Drop>(alloc: Global, world: World<D, Sim>, seen: Seen) -> Op
 /// A slot for the radio, which does nothing.
 pub(crate) fn slots(alloc: Global) -> Option<Vec<Slot<Sim>>> {
     let mut slots = Vec::new(alloc);
-    slots.push(Slot::new(alloc, Sim::new(alloc), WLAN0)).ok()?;
-    Some(slots)
+    slots
+        .push(Slot::new(alloc, Sim::new(alloc), WLAN0))
+        .is_ok()
+        .then_some(slots)
 }
 
 /// The world of the store that a device holds.
 pub(crate) fn world<D: Disk + Drop>(alloc: Global, device: D) -> Option<World<D, Sim>> {
-    restart_world(alloc, device, confs(alloc)?, slots(alloc)?).ok()
+    let (confs, slots) = confs(alloc).zip(slots(alloc))?;
+    restart_world(alloc, device, confs, slots).ok()
 }
 
 /// The radio starts, its station authenticates, and associates, on a new store: three commits of four calls. Or the
@@ -259,6 +263,6 @@ fn requests<D: Disk>(alloc: Global, world: &mut World<D, Sim>, session: Session)
 /// The session on the store that a device holds.
 pub(crate) fn run<D: Disk + Drop>(alloc: Global, session: Session, device: D) -> Option<Run<D>> {
     let mut world = world(alloc, device)?;
-    let seen = requests(alloc, &mut world, session)?;
+    let (seen, world) = requests(alloc, &mut world, session).zip(Some(world))?;
     run_of(alloc, world, seen)
 }
