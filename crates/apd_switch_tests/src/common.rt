@@ -130,7 +130,8 @@ fn new_list(alloc: Global) -> Option<Vec<Conf>> {
 }
 
 fn core_of(alloc: Global, table: Table, list: Vec<Conf>) -> Option<Core> {
-    Core::new(alloc, table, Confs::new(list).ok()?, Moment(0)).ok()
+    let (table, confs) = Some(table).zip(Confs::new(list).ok())?;
+    Core::new(alloc, table, confs, Moment(0)).ok()
 }
 
 fn enters(core: &mut Core, frame: &[u8]) -> bool {
@@ -165,8 +166,8 @@ fn association(core: &mut Core) -> Option<Batch> {
 
 // The same of a core of this table.
 fn association_of(alloc: Global, table: &Table) -> Option<Batch> {
-    let mut core = core_of(alloc, table.copy(alloc).ok()?, new_list(alloc)?)?;
-    association(&mut core)
+    let (table, list) = table.copy(alloc).ok().zip(new_list(alloc))?;
+    association(&mut core_of(alloc, table, list)?)
 }
 
 /// A store and its table, by two calls of the device.
@@ -195,21 +196,31 @@ where
     D: Drop,
 {
     let (store, table) = recover_store(alloc, disk)?;
-    let batch = association_of(alloc, &table)?;
-    Some((flusher_of(alloc, store, table)?, batch))
+    let batch = association_of(alloc, &table);
+    flusher_of(alloc, store, table).zip(batch)
 }
 
-/// Makes as many turns.
-pub(crate) fn turns<D: Disk>(flusher: &mut Flusher<D>, turns: u64) -> Option<()> {
+// Makes as many turns.
+fn turns<D: Disk>(flusher: &mut Flusher<D>, turns: u64) -> Option<()> {
     for _turn in 0..turns {
         flusher.turn().ok()?;
     }
     Some(())
 }
 
-/// Loads a batch.
-pub(crate) fn load<D: Disk>(flusher: &mut Flusher<D>, batch: Batch) -> Option<()> {
+// Loads a batch.
+fn load<D: Disk>(flusher: &mut Flusher<D>, batch: Batch) -> Option<()> {
     flusher.load(batch).ok()
+}
+
+/// Loads a batch, and makes as many turns.
+pub(crate) fn load_and_turn<D: Disk>(
+    flusher: &mut Flusher<D>,
+    batch: Batch,
+    calls: u64,
+) -> Option<()> {
+    load(flusher, batch)?;
+    turns(flusher, calls)
 }
 
 /// The device after as many calls of the station's association.
@@ -218,9 +229,8 @@ where
     D: Drop,
 {
     let (mut flusher, batch) = flusher(alloc, disk)?;
-    load(&mut flusher, batch)?;
-    turns(&mut flusher, calls)?;
-    Some(flusher.into_device())
+    let turned = load_and_turn(&mut flusher, batch, calls);
+    turned.and(Some(flusher.into_device()))
 }
 
 // Whether the table has the station, as before its association or after it, and no other.
@@ -239,7 +249,12 @@ pub(crate) fn show(alloc: Global, disk: Option<MemDisk>) -> &'static str {
         return "no device";
     };
     match recover(alloc, disk) {
-        Ok((_store, table)) => word_of(&table),
+        Ok((store, table)) => {
+            drop(store);
+            let word = word_of(&table);
+            drop(table);
+            word
+        }
         Err((_disk, StoreFault::Damaged)) => "damaged",
         Err(_) => "no store",
     }

@@ -1,5 +1,5 @@
 //! Calls of a switch that fail, and an epoch that has no next one.
-use crate::common::{AUTHENTICATED, POLICY, both_open, device, flusher, full, load, show, turns};
+use crate::common::{AUTHENTICATED, POLICY, both_open, device, flusher, full, load_and_turn, show};
 use apd_disk::{Disk, MemDisk, OnceDisk, Torn};
 use apd_flusher::Flusher;
 use apd_journal::Batch;
@@ -32,9 +32,9 @@ where
     D: Drop,
 {
     let (mut flusher, batch) = flusher(alloc, disk)?;
-    load(&mut flusher, batch)?;
-    turns(&mut flusher, calls)?;
-    Some((faults(&mut flusher)?, flusher.into_device()))
+    let turned = load_and_turn(&mut flusher, batch, calls);
+    let faults = faults(&mut flusher);
+    turned.and(faults).zip(Some(flusher.into_device()))
 }
 
 // The device after a stop, once the call behind so many of a switch has failed, where it told so once.
@@ -75,7 +75,8 @@ where
     D: Drop,
 {
     let (mut flusher, batch) = flusher(alloc, disk)?;
-    Some((refusal(&mut flusher, batch)?, flusher.into_device()))
+    let fault = refusal(&mut flusher, batch);
+    fault.zip(Some(flusher.into_device()))
 }
 
 // Why a batch is refused where half A is full and of this epoch, and how many calls the device served.

@@ -1,7 +1,7 @@
 //! Snapshots: the greatest, and one of changes in another order.
 use crate::common::{
-    HALF, HALF_B, RADIO, add_group, device, flusher_of, front_of, full, load, pad, recover_store,
-    turns,
+    HALF, HALF_B, RADIO, add_group, device, flusher_of, front_of, full, load_and_turn, pad,
+    recover_store,
 };
 use apd_base::{Addr, Sequence};
 use apd_disk::Disk;
@@ -36,11 +36,11 @@ fn switch<D: Disk>(alloc: Global, disk: D) -> Option<D>
 where
     D: Drop,
 {
+    let batch = going(alloc)?;
     let (store, table) = recover_store(alloc, disk)?;
     let mut flusher = flusher_of(alloc, store, table)?;
-    load(&mut flusher, going(alloc)?)?;
-    turns(&mut flusher, 8)?;
-    Some(flusher.into_device())
+    let turned = load_and_turn(&mut flusher, batch, 8);
+    turned.and(Some(flusher.into_device()))
 }
 
 // Half B that begins with this snapshot, and has the group by which the station goes.
@@ -57,8 +57,11 @@ fn begins(alloc: Global, snapshot: &[u8], canonical: &[u8]) -> Option<(bool, usi
     let disk = switch(alloc, device(alloc, &old, &[])?)?;
     let new = half_of(alloc, canonical)?;
     let begins = disk.bytes().get(HALF_B..)? == new.as_slice();
-    let (_store, table) = recover_store(alloc, disk)?;
-    Some((begins, table.rows()))
+    let (store, table) = recover_store(alloc, disk)?;
+    drop(store);
+    let rows = table.rows();
+    drop(table);
+    Some((begins, rows))
 }
 
 fn add_address(records: &mut Vec<u8>, radio: u8, which: u8, number: u16) -> Option<()> {
