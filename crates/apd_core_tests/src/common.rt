@@ -34,7 +34,8 @@ pub(crate) type Told = (&'static str, u64);
 
 /// A core of a table and of configurations, whose rows were heard at moment 0.
 pub(crate) fn core_of(alloc: Global, table: Table, list: Vec<Conf>) -> Option<Core> {
-    Core::new(alloc, table, Confs::new(list).ok()?, Moment(0)).ok()
+    let (table, confs) = Some(table).zip(Confs::new(list).ok())?;
+    Core::new(alloc, table, confs, Moment(0)).ok()
 }
 
 /// A core of the built-in configuration, whose radio was not started.

@@ -70,17 +70,22 @@ fn add_radio(table: &mut Table, radio: u8, stations: u16) -> Option<()> {
     Some(())
 }
 
+fn add_radios(table: &mut Table, stations: u16) -> Option<()> {
+    for radio in 1..=8u8 {
+        add_radio(table, radio, stations)?;
+    }
+    Some(())
+}
+
 fn table_of(alloc: Global, stations: u16) -> Option<Table> {
     let mut table = Table::new(alloc);
-    for radio in 1..=8u8 {
-        add_radio(&mut table, radio, stations)?;
-    }
-    Some(table)
+    add_radios(&mut table, stations).and(Some(table))
 }
 
 /// A core of eight radios with as many authenticated stations each, all heard at 0.
 pub(crate) fn crowd(alloc: Global, stations: u16) -> Option<Core> {
-    core_of(alloc, table_of(alloc, stations)?, eight(alloc)?)
+    let (table, list) = table_of(alloc, stations).zip(eight(alloc))?;
+    core_of(alloc, table, list)
 }
 
 /// A frame of a station to its radio: its first byte, and what stands behind the head.

@@ -130,14 +130,15 @@ fn gives(core: &mut Core, made: &[(bool, Key)]) -> Option<bool> {
 
 // Of as many requests: whether each tick agrees, whether the changes do, and whether these are many.
 fn compare(alloc: Global, requests: u64) -> Option<(bool, bool, bool)> {
-    let mut core = crowd(alloc, 0)?;
     let mut plain = Plain {
         rows: Vec::new(alloc),
         made: Vec::new(alloc),
     };
-    let ticks = agree(alloc, &mut core, &mut plain, requests)?;
-    let changes = gives(&mut core, plain.made.as_slice())?;
-    Some((ticks, changes, plain.made.len() > 1_000))
+    let mut core = crowd(alloc, 0)?;
+    let ticks = agree(alloc, &mut core, &mut plain, requests);
+    let changes = gives(&mut core, plain.made.as_slice());
+    drop(core);
+    Some((ticks?, changes?, plain.made.len() > 1_000))
 }
 
 #[test]

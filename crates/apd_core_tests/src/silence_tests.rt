@@ -16,14 +16,12 @@ fn hear(alloc: Global, core: &mut Core, radio: u8, stations: u16) -> Option<()> 
     Some(())
 }
 
-// Eight radios with as many stations each, of which all but the last of the last radio were heard at 1.
-fn all_but_one_heard(alloc: Global, stations: u16) -> Option<Core> {
-    let mut core = crowd(alloc, stations)?;
+// Hears as many stations of each of eight radios, but for the last of the last radio.
+fn hear_all_but_one(alloc: Global, core: &mut Core, stations: u16) -> Option<()> {
     for radio in 1..8u8 {
-        hear(alloc, &mut core, radio, stations)?;
+        hear(alloc, core, radio, stations)?;
     }
-    hear(alloc, &mut core, 8, stations.saturating_sub(1))?;
-    Some(core)
+    hear(alloc, core, 8, stations.saturating_sub(1))
 }
 
 // The station of the only change, where it is dropped.
@@ -47,10 +45,19 @@ fn ticks(core: &mut Core) -> Option<(Told, Told, Told)> {
     Some((first, second, third))
 }
 
-// The same of those radios, and the station that goes.
+// The same once all but one were heard, and the station that goes.
+fn ticks_and_drop(
+    alloc: Global,
+    core: &mut Core,
+    stations: u16,
+) -> Option<((Told, Told, Told), Key)> {
+    hear_all_but_one(alloc, core, stations)?;
+    Some((ticks(core)?, take_drop(core)?))
+}
+
+// The same of eight radios with as many stations each.
 fn silent(alloc: Global, stations: u16) -> Option<((Told, Told, Told), Key)> {
-    let mut core = all_but_one_heard(alloc, stations)?;
-    Some((ticks(&mut core)?, take_drop(&mut core)?))
+    ticks_and_drop(alloc, &mut crowd(alloc, stations)?, stations)
 }
 
 #[test]

@@ -100,8 +100,8 @@ fn flusher<D: Disk>(alloc: Global, disk: D, table: &Table) -> Option<Flusher<D>>
 where
     D: Drop,
 {
-    let store = format(alloc, disk).ok()?;
-    Flusher::new(alloc, store, table.copy(alloc).ok()?).ok()
+    let (store, table) = format(alloc, disk).ok().zip(table.copy(alloc).ok())?;
+    Flusher::new(alloc, store, table).ok()
 }
 
 fn receipt_of<D: Disk>(flusher: &mut Flusher<D>, batch: Batch) -> Option<Receipt> {
@@ -175,16 +175,23 @@ fn repeat(alloc: Global, desk: &mut Desk, times: u64, step: Step) -> Option<Told
     told
 }
 
-/// The first row of which something else is told, or nothing, and what.
-pub(crate) fn otherwise(alloc: Global, rows: &[Row]) -> Option<(usize, Option<Told>)> {
-    let Some(mut desk) = new_desk(alloc).or_else(|| new_desk(alloc)) else {
-        return Some((0, None));
-    };
+// The first row of which something else is told, or nothing, and what.
+fn first_otherwise(alloc: Global, desk: &mut Desk, rows: &[Row]) -> Option<(usize, Option<Told>)> {
     for (place, (times, step, told)) in rows.iter().enumerate() {
-        let is = repeat(alloc, &mut desk, *times, *step);
+        let is = repeat(alloc, desk, *times, *step);
         if is != Some(*told) {
             return Some((place, is));
         }
     }
     None
+}
+
+/// The same of a core whose radio was not started.
+pub(crate) fn otherwise(alloc: Global, rows: &[Row]) -> Option<(usize, Option<Told>)> {
+    let Some(mut desk) = new_desk(alloc).or_else(|| new_desk(alloc)) else {
+        return Some((0, None));
+    };
+    let found = first_otherwise(alloc, &mut desk, rows);
+    drop(desk);
+    found
 }
