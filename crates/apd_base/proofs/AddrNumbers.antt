@@ -8,6 +8,7 @@ use Rattle.std.specs.Ordering.{MatchOrdering, nat_cmp, ordering_then}
 use Rattle.std.specs.Prelude.{slice_index}
 use Rattle.apd_base.specs.Addr.{IsAddr}
 use Rattle.apd_base.specs.declared.address.Addr.{Addr}
+use Rattle.apd_base.proofs.AddrText.{six_of}
 use Rattle.std.specs.declared.cmp.Ordering.TheVariants.{Less, Equal, Greater}
 
 -- the answer p on two numbers
@@ -43,15 +44,13 @@ ranks_behind p x y (s ∷ ss) (t ∷ ts) e u v l =
     subst (λ r. Ranks r (number_behind (x * 256 + s) ss) (number_behind (y * 256 + t) ts)) (then_next p (nat_cmp s t) (slice_cmp nat_cmp ss ts))
     (ranks_behind (ordering_then p (nat_cmp s t)) (x * 256 + s) (y * 256 + t) ss ts (omega arith) u.1 v.1 (by_byte p (nat_cmp s t) x y s t u.0 v.0 l (ranks s t)))
 
+six_number : (a b c d f g : ℕ) → number_behind 0 (a ∷ b ∷ c ∷ d ∷ f ∷ g ∷ []) ≡ from_be_bytes w64 (0 ∷ 0 ∷ a ∷ b ∷ c ∷ d ∷ f ∷ g ∷ [])
+six_number a b c d f g = omega arith
+
 number_of_bytes : (bytes : List ℕ) → length bytes ≡ 6 → number_behind 0 bytes ≡ from_be_bytes w64 (0 ∷ 0 ∷ bytes)
-number_of_bytes [] e = absurd (omega arith)
-number_of_bytes (a ∷ []) e = absurd (omega arith)
-number_of_bytes (a ∷ b ∷ []) e = absurd (omega arith)
-number_of_bytes (a ∷ b ∷ c ∷ []) e = absurd (omega arith)
-number_of_bytes (a ∷ b ∷ c ∷ d ∷ []) e = absurd (omega arith)
-number_of_bytes (a ∷ b ∷ c ∷ d ∷ f ∷ []) e = absurd (omega arith)
-number_of_bytes (a ∷ b ∷ c ∷ d ∷ f ∷ g ∷ []) e = omega arith
-number_of_bytes (a ∷ b ∷ c ∷ d ∷ f ∷ g ∷ h ∷ bytes) e = absurd (omega arith)
+number_of_bytes bytes e =
+    subst (λ (l : List ℕ). number_behind 0 l ≡ from_be_bytes w64 (0 ∷ 0 ∷ l)) (sym (six_of bytes e))
+    (six_number (slice_index bytes 0) (slice_index bytes 1) (slice_index bytes 2) (slice_index bytes 3) (slice_index bytes 4) (slice_index bytes 5))
 
 pub all_bytes : (bytes : List ℕ) → ((i : ℕ) → slice_index bytes i < 256) → AllByRecursion (λ b. b < 256) bytes
 all_bytes [] h = tt

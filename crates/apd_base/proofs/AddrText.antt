@@ -50,7 +50,8 @@ below_five P a b c d e (suc (suc (suc zero))) lt = d
 below_five P a b c d e (suc (suc (suc (suc zero)))) lt = e
 below_five P a b c d e (suc (suc (suc (suc (suc n))))) lt = absurd (omega arith)
 
-six_of : (bytes : List ℕ) → length bytes ≡ 6 → bytes ≡ slice_index bytes 0 ∷ slice_index bytes 1 ∷ slice_index bytes 2 ∷ slice_index bytes 3 ∷ slice_index bytes 4 ∷ slice_index bytes 5 ∷ []
+-- six bytes, one by one
+pub six_of : (bytes : List ℕ) → length bytes ≡ 6 → bytes ≡ slice_index bytes 0 ∷ slice_index bytes 1 ∷ slice_index bytes 2 ∷ slice_index bytes 3 ∷ slice_index bytes 4 ∷ slice_index bytes 5 ∷ []
 six_of [] n = absurd (omega arith)
 six_of (a ∷ []) n = absurd (omega arith)
 six_of (a ∷ b ∷ []) n = absurd (omega arith)

@@ -1,5 +1,5 @@
 //! A disk that fails one call.
-ghost use Rattle.std.specs.Prelude.{◌≡◌, ◌≤◌, ◌+◌, length, Some};
+ghost use Rattle.std.specs.Prelude.{◌≡◌, ◌≤◌, ◌+◌, ℕ, length, None, Some, IsOk, IsErr};
 ghost use Rattle.apd_disk.specs.Disk.{counting, inside, Counts, IsRead, IsSynced, IsWritten};
 ghost use Rattle.apd_disk.specs.Faults.{sum_of, OnceCall};
 
@@ -41,6 +41,27 @@ impl<D: Disk> OnceDisk<D> {
         } = self;
         inner
     }
+
+    // Counts a call, which is passed on but for the chosen one.
+    fn pass(&mut self) -> Result<(), DiskFault>
+        ensures inner { self.new.inner ≡ self.old.inner }
+        ensures count { Counts self.old.failures self.new.failures result }
+        ensures passed { (n : ℕ) → self.old.before ≡ Some (n + 1) → (self.new.before ≡ Some n) × IsOk result }
+        ensures chosen { self.old.before ≡ Some 0 → (self.new.before ≡ None) × IsErr result }
+        ensures later { self.old.before ≡ None → (self.new.before ≡ None) × IsOk result }
+    {
+        match self.before {
+            None => Ok(()),
+            Some(0) => {
+                self.before = None;
+                fail(&mut self.failures)
+            }
+            Some(calls) => {
+                self.before = Some(calls - 1);
+                Ok(())
+            }
+        }
+    }
 }
 
 // A method with an `ensures` of its own has its clauses in place of the trait's. So each one here repeats
@@ -73,17 +94,8 @@ impl<D: Disk> Disk for OnceDisk<D> {
         ensures call { IsRead D.model self.old.inner self.new.inner result at buf.old buf.new }
         ensures passed { OnceCall D.model self.old.inner self.new.inner self.old.before self.new.before result }
     {
-        match self.before {
-            None => self.inner.read_at(at, buf),
-            Some(0) => {
-                self.before = None;
-                fail(&mut self.failures)
-            }
-            Some(calls) => {
-                self.before = Some(calls - 1);
-                self.inner.read_at(at, buf)
-            }
-        }
+        self.pass()?;
+        self.inner.read_at(at, buf)
     }
 
     fn write_at(&mut self, at: usize, bytes: &[u8]) -> Result<(), DiskFault>
@@ -93,17 +105,8 @@ impl<D: Disk> Disk for OnceDisk<D> {
         ensures call { IsWritten D.model self.old.inner self.new.inner result at bytes.now }
         ensures passed { OnceCall D.model self.old.inner self.new.inner self.old.before self.new.before result }
     {
-        match self.before {
-            None => self.inner.write_at(at, bytes),
-            Some(0) => {
-                self.before = None;
-                fail(&mut self.failures)
-            }
-            Some(calls) => {
-                self.before = Some(calls - 1);
-                self.inner.write_at(at, bytes)
-            }
-        }
+        self.pass()?;
+        self.inner.write_at(at, bytes)
     }
 
     fn sync(&mut self) -> Result<(), DiskFault>
@@ -112,16 +115,7 @@ impl<D: Disk> Disk for OnceDisk<D> {
         ensures call { IsSynced D.model self.old.inner self.new.inner result }
         ensures passed { OnceCall D.model self.old.inner self.new.inner self.old.before self.new.before result }
     {
-        match self.before {
-            None => self.inner.sync(),
-            Some(0) => {
-                self.before = None;
-                fail(&mut self.failures)
-            }
-            Some(calls) => {
-                self.before = Some(calls - 1);
-                self.inner.sync()
-            }
-        }
+        self.pass()?;
+        self.inner.sync()
     }
 }

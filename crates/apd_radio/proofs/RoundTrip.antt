@@ -1,5 +1,5 @@
 -- What is written for calls, and that it is read again.
-use Rattle.std.proofs.Common.{◌≡◌, ℕ, zero, suc, ◌+◌, ◌/◌, ◌%◌, ◌<◌, ◌^◌, true, false, cond, List, [], ◌∷◌, ◌++◌, length, inr, refl, ap, ◌∙◌, arith, lit<, nat_lt}
+use Rattle.std.proofs.Common.{◌≡◌, ℕ, zero, suc, ◌+◌, ◌/◌, ◌%◌, ◌<◌, ◌^◌, true, false, cond, List, [], ◌∷◌, ◌++◌, length, inr, refl, sym, subst, ap, ◌∙◌, arith, lit<, nat_lt}
 use Rattle.std.specs.Prelude.{codes, slice_index}
 use Rattle.std.specs.List.{AllByRecursion, onto_first}
 use Rattle.std.specs.Fmt.{decimal}
@@ -13,7 +13,7 @@ use Rattle.hex.proofs.HexLemmas.{decode_of-encode_lower}
 use Rattle.apd_base.specs.Addr.{text_of, hex_digit}
 use Rattle.apd_base.specs.Text.{lines, with_newline}
 use Rattle.apd_base.proofs.NumberText.{number-decimal}
-use Rattle.apd_base.proofs.AddrText.{address_of-text_of}
+use Rattle.apd_base.proofs.AddrText.{address_of-text_of, six_of}
 use Rattle.apd_radio.specs.declared.call.Call.{Call}
 use Rattle.apd_radio.specs.declared.call.Call.TheVariants.{Received, Installed, Removed, Sent, Down}
 use Rattle.apd_radio.specs.Calls.{IsLineOf, IsCall, line_of}
@@ -59,14 +59,8 @@ above_hex (b ∷ bytes) h =
 above_digit : (d : ℕ) → 10 < hex_digit d
 above_digit d = elim (nat_lt d 10) as (λ t. 10 < cond t (48 + d) (87 + d)) [ true ↦ omega arith | false ↦ omega arith ]
 
-above_text : (bytes : List ℕ) → length bytes ≡ 6 → Above (text_of (record { 0 = bytes }))
-above_text [] n = absurd (omega arith)
-above_text (a ∷ []) n = absurd (omega arith)
-above_text (a ∷ b ∷ []) n = absurd (omega arith)
-above_text (a ∷ b ∷ c ∷ []) n = absurd (omega arith)
-above_text (a ∷ b ∷ c ∷ d ∷ []) n = absurd (omega arith)
-above_text (a ∷ b ∷ c ∷ d ∷ e ∷ []) n = absurd (omega arith)
-above_text (a ∷ b ∷ c ∷ d ∷ e ∷ f ∷ []) n = (
+above_six : (a b c d e f : ℕ) → Above (text_of (record { 0 = a ∷ b ∷ c ∷ d ∷ e ∷ f ∷ [] }))
+above_six a b c d e f = (
   above_digit (a / 16),
   (
     above_digit (a % 16),
@@ -112,7 +106,11 @@ above_text (a ∷ b ∷ c ∷ d ∷ e ∷ f ∷ []) n = (
     ),
   ),
 )
-above_text (a ∷ b ∷ c ∷ d ∷ e ∷ f ∷ g ∷ more) n = absurd (omega arith)
+
+above_text : (bytes : List ℕ) → length bytes ≡ 6 → Above (text_of (record { 0 = bytes }))
+above_text bytes n =
+    subst (λ (l : List ℕ). Above (text_of (record { 0 = l }))) (sym (six_of bytes n))
+    (above_six (slice_index bytes 0) (slice_index bytes 1) (slice_index bytes 2) (slice_index bytes 3) (slice_index bytes 4) (slice_index bytes 5))
 
 above_decimal : (digits : List ℕ) → AllDigits 10 digits → Above digits
 above_decimal [] h = tt

@@ -1,19 +1,14 @@
 -- An image shows one state at most.
-use Rattle.std.proofs.Common.{◌≡◌, ◌⊎◌, ⊎_elim, ℕ, List, ◌∷◌, ◌++◌, length, get_or, take, drop, refl, sym, ◌∙◌, ap, subst, arith, length-append}
-use Rattle.apd_store.proofs.Words.{Change, HALF_LENGTH, HalfHolds, HalfShows, IsCurrent, IsOpen, IsStoreBy, Shows, ShowsBy, ShowsOld, State, append_assoc, block_of, drop_at, empty_state, from_le_bytes, groups_of, half_once, magic, meaning_of, old_magic, take_at, w64}
+use Rattle.std.proofs.Common.{◌≡◌, ◌⊎◌, ⊎_elim, ℕ, List, ◌++◌, length, get_or, take, drop, refl, sym, ◌∙◌, ap, subst, arith, length-append}
+use Rattle.apd_store.proofs.Words.{Change, HALF_LENGTH, HalfHolds, HalfShows, IsCurrent, IsOpen, IsStoreBy, Shows, ShowsBy, ShowsOld, State, append_assoc, drop_at, empty_state, from_le_bytes, half_once, magic, meaning_of, old_magic, take_at, w64}
 use Rattle.std.proofs.lemmas.Nat.{from_le_bytes-to_le_bytes_8}
-use Rattle.apd_journal.proofs.Once.{front_split}
+use Rattle.apd_journal.proofs.Halves.{half_parts}
 
 -- a half that holds changes is open
 pub holds_open : (half : List ℕ) (epoch : ℕ) (changes : List Change) (place : ℕ) → HalfHolds half epoch changes place → IsOpen half epoch
 holds_open half epoch changes place h =
-    let f = h.is_front in
-    let tail = h.gate ∷ h.behind in
-    record {
-      behind = block_of f.snapshot ++ (groups_of f.groups ++ tail);
-      is = h.is ∙ ap (λ (l : List ℕ). l ++ tail) f.is ∙ front_split epoch f.snapshot f.groups tail;
-      epoch_fits = f.epoch_fits;
-    }
+    let p = half_parts half epoch changes place h in
+    record { behind = p.body; is = p.is; epoch_fits = h.is_front.epoch_fits }
 
 -- and has one epoch
 pub open_once : (half : List ℕ) (e f : ℕ) → IsOpen half e → IsOpen half f → e ≡ f

@@ -2,7 +2,7 @@
 pub use Rattle.apd_base.specs.State.{State, empty_state, policy_at}
 pub use Rattle.apd_base.specs.declared.limits.TheConstants.{DEVICE_LENGTH}
 pub use Rattle.apd_disk.proofs.Moments.{one_call, quiet_call, started, then_run, weaker}
-pub use Rattle.apd_disk.specs.Disk.{DiskModel, Elapses, Follows, LeavesOnly, Only, TornWithin, with_bytes}
+pub use Rattle.apd_disk.specs.Disk.{DiskModel, Elapses, Follows, IsRead, IsSynced, IsWritten, LeavesOnly, Only, TornWithin, with_bytes}
 pub use Rattle.apd_disk.specs.MemLaws.{length-with_bytes, torn_overwritten}
 pub use Rattle.apd_journal.proofs.Growth.{behind_unread, front_holds, length-begun, length-planned, new_front}
 pub use Rattle.apd_journal.proofs.Once.{half_once}
@@ -15,7 +15,7 @@ pub use Rattle.apd_record.specs.declared.change.Change.{Change}
 pub use Rattle.apd_record.specs.declared.change.Change.TheVariants.{Cursor, Drop, ListAdd, ListClear, ListDel, Policy, Put}
 pub use Rattle.apd_store.specs.Commit.{AtPhase, HasFailed, IsCommitting, IsIdle, IsWriting, MayShow, with_group, with_open_group}
 pub use Rattle.apd_store.specs.Image.{HalfShows, HasNoCursor, HasOpenGate, IsBehind, IsCurrent, IsMarked, IsMarkedBy, IsMarkedOld, IsNoCursor, IsOpen, IsOverMark, IsStoreBy, MayBeMade, Shows, ShowsBy, ShowsNone, ShowsOld, current_changes, magic, marks, old_magic}
-pub use Rattle.apd_store.specs.Layout.{AreParts, AreTorn, BeginsBy, HalfShowsPlainly, HasZeroGate, IsFound, IsFoundBy, IsLaidOut, head_a, image_by, image_of, opposite, start_of}
+pub use Rattle.apd_store.specs.Layout.{AreParts, AreTorn, BeginsBy, HalfShowsPlainly, HasZeroGate, IsFound, IsFoundBy, IsLaidOut, blank_mark, head_a, image_by, image_of, opposite, start_of}
 pub use Rattle.apd_store.specs.Phases.{calls_from}
 pub use Rattle.apd_store.specs.Switch.{AtSwitch, IsSnapshot, IsSwitching, with_closed_gate, with_open_snapshot, with_snapshot}
 pub use Rattle.apd_store.specs.Upgrading.{HasNoneGiven}

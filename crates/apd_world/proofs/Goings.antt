@@ -40,22 +40,27 @@ numbered_are r confs (h ∷ hs) k s =
     map-append (λ (x : ℕ × Out). x.1) (map (λ (out : Out). (k + 1, out)) (outs_to r (verdict s confs h).outs)) (numbered_outs r confs (k + 1) (verdict s confs h).state hs)
     ∙ (λ i. outs_only (k + 1) (outs_to r (verdict s confs h).outs) i ++ numbered_are r confs hs (k + 1) (verdict s confs h).state i)
 
+-- ---- nothing is settled
+nothing_settles : (hs : List Happening) (given : Recipient → List Out) (old new : CoreState) → new.settled ≡ old.settled → new.number ≡ old.number → AreUnsettled hs new
+    → ((r : Recipient) → AreHeldFor r hs old → AreHeldFor r hs new) → ((r : Recipient) → given r ++ ready_for r new ≡ ready_for r old ++ []) → Settles hs [] given old new
+nothing_settles hs given old new state number decided held released = record {
+  settled = [];
+  left = hs;
+  split = append-nil hs;
+  state = state;
+  number = number ∙ no_further old.number;
+  decided = decided;
+  held = held;
+  released = λ r h. released r;
+}
+
 -- ---- nothing happens but that a batch is taken, a station heard, or the core fails
 module _ (s : CoreState) (flight : ℕ) (heard : LastHeard) (failed : Bool) where
   abbrev beside : CoreState
   beside = record s { flight = flight; heard = heard; failed = failed }
 
   beside_settles : (hs : List Happening) → AreUnsettled hs s → Settles hs [] (λ _. []) s beside
-  beside_settles hs u = record {
-    settled = [];
-    left = hs;
-    split = append-nil hs;
-    state = refl;
-    number = no_further s.number;
-    decided = u;
-    held = λ r h. h;
-    released = λ r h. sym (append-nil (ready_for r s));
-  }
+  beside_settles hs u = nothing_settles hs (λ _. []) s beside refl refl u (λ r h. h) (λ r. sym (append-nil (ready_for r s)))
 
   pub goes_beside : Goes [] (λ _. []) s beside
   goes_beside = record {
@@ -261,16 +266,7 @@ module _ (q : Recipient) (s : CoreState) (core : IsCore s) where
     front = refl;
     outs = hand_outs;
     last = no_further (last_of s);
-    settles = λ hs u. record {
-      settled = [];
-      left = hs;
-      split = append-nil hs;
-      state = refl;
-      number = no_further s.number;
-      decided = u;
-      held = handed_outs s q core hs;
-      released = λ r held. hand_released r;
-    };
+    settles = λ hs u. nothing_settles hs gives s after refl refl u (handed_outs s q core hs) hand_released;
   }
 
 -- ---- one after the other
