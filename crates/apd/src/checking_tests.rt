@@ -1,4 +1,5 @@
 use crate::checking::check_and_print;
+use crate::expect::expect;
 use crate::scripting_tests::{JOINS, file_behind, make_old_store, make_store, script_output};
 use apd_conf::Confs;
 use apd_script::{read_configurations, run_on_store};
@@ -29,15 +30,15 @@ const NO_STATION: &[u8] = b"bss 02:00:00:00:00:01 mode 0 max 2007 stations 0 acc
 fn a_store_is_told_of_and_left_as_it_was(rt: HostRuntime) -> Result<(), Fail> {
     let name = "store_of_a_check_test";
     make_store(&rt, name)?;
-    assert_eq!(rt; check_output(&rt, name)?.as_slice(), b"".as_slice());
+    expect(&rt, check_output(&rt, name)?.as_slice(), b"".as_slice());
     let (made, _) = file_behind(&rt, name, JOINS)?;
-    assert_eq!(rt; check_output(&rt, name)?.as_slice(), ONE_STATION);
+    expect(&rt, check_output(&rt, name)?.as_slice(), ONE_STATION);
     assert!(rt; fs::read(&rt, name)?.as_slice() == made.as_slice());
     // One that nobody may write.
     let mut mode = fs::metadata(&rt, name)?.permissions();
     mode.set_readonly(true);
     fs::set_permissions(&rt, name, mode)?;
-    assert_eq!(rt; check_output(&rt, name)?.as_slice(), ONE_STATION);
+    expect(&rt, check_output(&rt, name)?.as_slice(), ONE_STATION);
     fs::remove_file(&rt, name)?;
     Ok(())
 }
@@ -83,7 +84,7 @@ fn each_interface_has_a_line_in_order(rt: HostRuntime) -> Result<(), Fail> {
     if run_on_store(alloc, disk, two_interfaces(&rt)?, LISTS, &mut out).is_err() {
         return Err(Fail::new("the script ends early"));
     }
-    assert_eq!(rt; check_output(&rt, name)?.as_slice(), TWO_LINES);
+    expect(&rt, check_output(&rt, name)?.as_slice(), TWO_LINES);
     fs::remove_file(&rt, name)?;
     Ok(())
 }
@@ -140,7 +141,7 @@ fn bytes_that_are_changed_are_told_of(rt: HostRuntime) -> Result<(), Fail> {
         let told = check_output_with(&rt, name, place, others)?;
         assert_eq!(rt; told.as_slice(), want, "{place}");
     }
-    assert_eq!(rt; check_output(&rt, name)?.as_slice(), ONE_STATION);
+    expect(&rt, check_output(&rt, name)?.as_slice(), ONE_STATION);
     fs::remove_file(&rt, name)?;
     Ok(())
 }
@@ -149,8 +150,8 @@ fn bytes_that_are_changed_are_told_of(rt: HostRuntime) -> Result<(), Fail> {
 fn a_store_of_version_1_is_told_of_and_left_as_it_was(rt: HostRuntime) -> Result<(), Fail> {
     let name = "old_store_of_a_check_test";
     let old = make_old_store(&rt, name)?;
-    assert_eq!(rt; check_output(&rt, name)?.as_slice(), OLD);
-    assert_eq!(rt; script_output(&rt, name, JOINS)?.as_slice(), OLD);
+    expect(&rt, check_output(&rt, name)?.as_slice(), OLD);
+    expect(&rt, script_output(&rt, name, JOINS)?.as_slice(), OLD);
     assert!(rt; fs::read(&rt, name)?.as_slice() == old.as_slice());
     fs::remove_file(&rt, name)?;
     Ok(())
@@ -161,15 +162,15 @@ fn what_is_no_store_is_told_of(rt: HostRuntime) -> Result<(), Fail> {
     let name = "no_store_of_a_check_test";
     let missing: &[u8] = b"apd: cannot read no_store_of_a_check_test\n";
     let _ = fs::remove_file(&rt, name);
-    assert_eq!(rt; check_output(&rt, name)?.as_slice(), missing);
+    expect(&rt, check_output(&rt, name)?.as_slice(), missing);
     assert!(rt; fs::metadata(&rt, name).is_err());
     fs::create_dir(&rt, name)?;
-    assert_eq!(rt; check_output(&rt, name)?.as_slice(), missing);
+    expect(&rt, check_output(&rt, name)?.as_slice(), missing);
     fs::remove_dir_all(&rt, name)?;
     let mut zeros = Vec::new(rt.alloc());
     zeros.resize(2_097_215, 0)?;
     fs::write(&rt, name, zeros.as_slice())?;
-    assert_eq!(rt; check_output(&rt, name)?.as_slice(), NOT_A_STORE);
+    expect(&rt, check_output(&rt, name)?.as_slice(), NOT_A_STORE);
     fs::remove_file(&rt, name)?;
     Ok(())
 }
@@ -182,13 +183,13 @@ fn two_checks_go_together_and_neither_with_a_start(rt: HostRuntime) -> Result<()
     {
         let looking = open_disk(&rt, name, Access::Read);
         assert!(rt; looking.is_ok());
-        assert_eq!(rt; check_output(&rt, name)?.as_slice(), b"".as_slice());
+        expect(&rt, check_output(&rt, name)?.as_slice(), b"".as_slice());
         assert!(rt; open_disk(&rt, name, Access::Write).is_err());
         drop(looking);
     }
     let serving = open_disk(&rt, name, Access::Write);
     assert!(rt; serving.is_ok());
-    assert_eq!(rt; check_output(&rt, name)?.as_slice(), refused);
+    expect(&rt, check_output(&rt, name)?.as_slice(), refused);
     drop(serving);
     fs::remove_file(&rt, name)?;
     Ok(())

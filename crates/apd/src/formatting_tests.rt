@@ -1,4 +1,5 @@
 use crate::ProgramFault;
+use crate::expect::expect;
 use crate::scripting_tests::make_old_store;
 use apd_disk::FileDisk;
 use apd_script::{FormatFault, run_format};
@@ -61,13 +62,13 @@ fn a_file_becomes_an_empty_store(rt: HostRuntime) -> Result<(), Fail> {
     // Where there is none, and over what is there.
     for _ in 0..2 {
         let (fault, out) = format_file(&rt, name)?;
-        assert_eq!(rt; fault, None);
-        assert_eq!(rt; out.as_slice(), b"formatted\n".as_slice());
+        expect(&rt, fault, None);
+        expect(&rt, out.as_slice(), b"formatted\n".as_slice());
         let (length, front) = bytes_of(&rt, name)?;
-        assert_eq!(rt; length, 2_097_216);
-        assert_eq!(rt; front.get(..8), Some(MAGIC));
-        assert_eq!(rt; front.get(64..78), Some(HEAD));
-        assert_eq!(rt; rows_of(&rt, name)?, 0);
+        expect(&rt, length, 2_097_216);
+        expect(&rt, front.get(..8), Some(MAGIC));
+        expect(&rt, front.get(64..78), Some(HEAD));
+        expect(&rt, rows_of(&rt, name)?, 0);
     }
     fs::remove_file(&rt, name)?;
     Ok(())
@@ -78,11 +79,11 @@ fn a_store_of_version_1_becomes_an_empty_store(rt: HostRuntime) -> Result<(), Fa
     let name = "old_store_of_a_test";
     make_old_store(&rt, name)?;
     let (fault, out) = format_file(&rt, name)?;
-    assert_eq!(rt; fault, None);
-    assert_eq!(rt; out.as_slice(), b"formatted\n".as_slice());
+    expect(&rt, fault, None);
+    expect(&rt, out.as_slice(), b"formatted\n".as_slice());
     let (_length, front) = bytes_of(&rt, name)?;
-    assert_eq!(rt; front.get(..8), Some(MAGIC));
-    assert_eq!(rt; rows_of(&rt, name)?, 0);
+    expect(&rt, front.get(..8), Some(MAGIC));
+    expect(&rt, rows_of(&rt, name)?, 0);
     fs::remove_file(&rt, name)?;
     Ok(())
 }
@@ -93,10 +94,10 @@ fn faults_of_a_store_s_file_are_printed_in_these_words(rt: HostRuntime) -> Resul
     let name = "no_store_of_a_test";
     fs::write(&rt, name, b"RAPSTOR1")?;
     let (fault, out) = format_file(&rt, name)?;
-    assert_eq!(rt; fault, Some(FormatFault::Store(StoreFault::NotAStore)));
-    assert_eq!(rt; out.len(), 0);
+    expect(&rt, fault, Some(FormatFault::Store(StoreFault::NotAStore)));
+    expect(&rt, out.len(), 0);
     let (length, _) = bytes_of(&rt, name)?;
-    assert_eq!(rt; length, 8);
+    expect(&rt, length, 8);
     fs::remove_file(&rt, name)?;
     for (fault, text) in [
         (FormatFault::Store(StoreFault::NotAStore), "not a store"),
@@ -104,13 +105,13 @@ fn faults_of_a_store_s_file_are_printed_in_these_words(rt: HostRuntime) -> Resul
         (FormatFault::Writer, "writer fault"),
     ] {
         let told = ProgramFault::Format(fault);
-        assert_eq!(rt; format!(in alloc; "{told}")?.as_str(), text);
+        expect(&rt, format!(in alloc; "{told}")?.as_str(), text);
     }
     match open_disk(&rt, "no_folder_of_a_test/store", Access::Make) {
         Err(fault) => {
             let told = ProgramFault::Open(fault);
             let text = format!(in alloc; "{told}")?;
-            assert_eq!(rt; text.as_str(), "cannot read no_folder_of_a_test/store");
+            expect(&rt, text.as_str(), "cannot read no_folder_of_a_test/store");
         }
         Ok(_) => assert!(rt; false, "it was made"),
     }

@@ -6,6 +6,8 @@ mod checking;
 #[cfg(test)]
 mod checking_tests;
 #[cfg(test)]
+mod expect;
+#[cfg(test)]
 mod formatting_tests;
 mod running;
 #[cfg(test)]
@@ -28,7 +30,7 @@ use apd_script::{CheckFault, FormatFault, ScriptFault, UpgradeFault, run_format}
 use apd_serve::{Access, OpenFault, open_disk};
 use checking::{check_and_print, check_command};
 use clap::error::ErrorKind;
-use clap::{Arg, Command};
+use clap::{Arg, ArgMatches, Command};
 use log::Log;
 use running::{RunningFault, run_and_log, run_command};
 use scripting::{run_script_of_input, script_command};
@@ -44,6 +46,31 @@ use std::time::Clock;
 use streams::hold_closed_streams;
 use thiserror::Error;
 use upgrading::{upgrade_and_print, upgrade_command};
+
+/// What the program runs on, but for the words of its command line.
+trait Host: Input
+    + Print
+    + Files<File = File, Dir: Send + Sync>
+    + Net<Stream: Send + Sync, Listener: Send + Sync>
+    + Wait
+    + Threads
+    + Clock
+    + AllocGlobal
+    + Log
+    + Sync {}
+
+impl<
+    T: Input
+        + Print
+        + Files<File = File, Dir: Send + Sync>
+        + Net<Stream: Send + Sync, Listener: Send + Sync>
+        + Wait
+        + Threads
+        + Clock
+        + AllocGlobal
+        + Log
+        + Sync,
+> Host for T {}
 
 /// What the program's help says beside its subcommands.
 const HELP: &str = "'apd script --help' has the lines of a script and of a configuration file.";
@@ -143,61 +170,53 @@ fn no_text(alloc: Global) -> Result<clap::Error, AllocError> {
     )
 }
 
-/// Does what the command line says, or gives the text that `clap` has for one that is wrong, or that asks
-/// for help or for the version.
-fn run<
-    R: Env
-        + Input
-        + Print
-        + Files<File = File>
-        + Net
-        + Wait
-        + Threads
-        + Clock
-        + AllocGlobal
-        + Log
-        + Sync,
->(rt: &R) -> Result<Option<clap::Error>, ProgramFault>
-where
-    R::Dir: Send + Sync,
-    R::Stream: Send + Sync,
-    R::Listener: Send + Sync,
-{
-    let alloc = rt.alloc();
-    let Some(words) = words(rt)? else {
-        return Ok(Some(no_text(alloc)?));
-    };
-    let matches = match command(alloc)?.try_get_matches_from(words.as_slice()) {
-        Ok(matches) => matches,
-        Err(error) => return Ok(Some(error)),
-    };
+/// Does what a subcommand that serves nobody says.
+fn work_on_files(
+    rt: &(impl Input + Print + Files<File = File> + AllocGlobal),
+    matches: &ArgMatches<'_>,
+) -> Result<(), ProgramFault> {
     if let Some(check) = matches.subcommand_matches("check") {
-        check_and_print(
-            rt,
-            check.get_str("STORE").unwrap_or(""),
-            &mut io::writer(rt),
-        )?;
-        return Ok(None);
-    }
-    if let Some(format) = matches.subcommand_matches("format") {
+        let store = check.get_str("STORE").unwrap_or("");
+        check_and_print(rt, store, &mut io::writer(rt))?;
+    } else if let Some(format) = matches.subcommand_matches("format") {
         format_and_print(rt, format.get_str("STORE").unwrap_or(""))?;
-        return Ok(None);
-    }
-    if let Some(upgrade) = matches.subcommand_matches("upgrade") {
+    } else if let Some(upgrade) = matches.subcommand_matches("upgrade") {
         let old = upgrade.get_str("OLD").unwrap_or("");
         let new = upgrade.get_str("NEW").unwrap_or("");
         upgrade_and_print(rt, old, new, &mut io::writer(rt))?;
-        return Ok(None);
-    }
-    if let Some(matches) = matches.subcommand_matches("run") {
-        run_and_log(rt, matches).map_err(ProgramFault::Running)?;
-        return Ok(None);
-    }
-    if let Some(script) = matches.subcommand_matches("script") {
+    } else if let Some(script) = matches.subcommand_matches("script") {
         let names = script.get_strs("CONF").unwrap_or(&[]);
         run_script_of_input(rt, script.get_str("store"), names)?;
     }
-    Ok(None)
+    Ok(())
+}
+
+/// Does what a subcommand says.
+fn carry_out<R: Host>(rt: &R, matches: &ArgMatches<'_>) -> Result<(), ProgramFault> {
+    match matches.subcommand_matches("run") {
+        Some(run) => run_and_log(rt, run).map_err(ProgramFault::Running),
+        None => work_on_files(rt, matches),
+    }
+}
+
+/// Does what the words of a command line say, or gives the text that `clap` has for one that is wrong, or that asks
+/// for help or for the version.
+fn run_words<R: Host>(rt: &R, words: &[String]) -> Result<Option<clap::Error>, ProgramFault> {
+    match command(rt.alloc())?.try_get_matches_from(words) {
+        Ok(matches) => {
+            carry_out(rt, &matches)?;
+            Ok(None)
+        }
+        Err(error) => Ok(Some(error)),
+    }
+}
+
+/// As `run_words`, of the program's own command line.
+fn run<R: Env + Host>(rt: &R) -> Result<Option<clap::Error>, ProgramFault> {
+    match words(rt)? {
+        Some(words) => run_words(rt, words.as_slice()),
+        None => Ok(Some(no_text(rt.alloc())?)),
+    }
 }
 
 /// Prints what a run came to, and gives the exit status: 0 where all went well, 1 for a fault, 2 for a wrong command

@@ -2,18 +2,12 @@
 ghost use Rattle.std.specs.Prelude.{◌≡◌};
 ghost use Rattle.apd.specs.declared.running.RunningFault.TheVariants.{NoMemory};
 
+use crate::Host;
 use apd_conf::ConfigurationFault;
 use apd_script::read_configurations;
 use apd_serve::{RunFault, Site, run};
 use clap::{Arg, ArgAction, ArgMatches, Command, value_parser};
-use log::Log;
 use std::alloc::{AllocError, Global};
-use std::fs::File;
-use std::net::Net;
-use std::rt::Files;
-use std::sync::Wait;
-use std::thread::Threads;
-use std::time::Clock;
 use thiserror::Error;
 
 /// What the help for `run` says beside its arguments.
@@ -96,14 +90,7 @@ fn site_of<'a>(
 }
 
 /// Does what the subcommand's words say.
-pub fn run_and_log<
-    R: Input + Files<File = File> + Net + Wait + Threads + Clock + AllocGlobal + Log + Sync,
->(rt: &R, matches: &ArgMatches<'_>) -> Result<(), RunningFault>
-where
-    R::Dir: Send + Sync,
-    R::Stream: Send + Sync,
-    R::Listener: Send + Sync,
-{
+pub fn run_and_log<R: Host>(rt: &R, matches: &ArgMatches<'_>) -> Result<(), RunningFault> {
     let names = matches.get_strs("CONF").unwrap_or(&[]);
     let confs = read_configurations(rt, names).map_err(RunningFault::Configuration)?;
     let store = matches.get_str("store").unwrap_or("");

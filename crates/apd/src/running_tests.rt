@@ -1,21 +1,18 @@
+use crate::expect::expect;
 use crate::running::run_and_log;
 use crate::scripting_tests::make_old_store;
-use crate::{ProgramFault, command, no_text, tell};
+use crate::{Host, ProgramFault, command, no_text, tell};
 use apd_disk::FileDisk;
 use apd_store::format;
-use log::Log;
 use std::alloc::{AllocError, Global};
 use std::cell::Cell;
 use std::fmt::Display;
 use std::fs::{self, File};
 use std::io;
-use std::net::{Ipv4Addr, Net, UdpSocket};
+use std::net::{Ipv4Addr, UdpSocket};
 use std::process::ExitCode;
 use std::rt::Files;
-use std::sync::Wait;
 use std::test::Fail;
-use std::thread::Threads;
-use std::time::Clock;
 
 const CONF: &str = "interface=wlan0\nbssid=02:00:00:00:00:01\nssid=net\n";
 
@@ -147,21 +144,14 @@ fn words_that_are_no_text_are_wrong(rt: HostRuntime) -> Result<(), Fail> {
 #[test]
 fn a_fault_is_told(rt: HostRuntime) -> Result<(), Fail> {
     let (text, ended) = page_and_status(rt.alloc(), Err(ProgramFault::NoMemory), 1)?;
-    assert_eq!(rt; (text.as_str(), ended), ("2apd: out of memory\n", true));
+    expect(&rt, (text.as_str(), ended), ("2apd: out of memory\n", true));
     let (text, ended) = page_and_status(rt.alloc(), Ok(None), 0)?;
-    assert_eq!(rt; (text.as_str(), ended), ("", true));
+    expect(&rt, (text.as_str(), ended), ("", true));
     Ok(())
 }
 
 /// What `apd run` over a store, with this configuration, at this port, prints where it doesn't serve and ends with 1.
-fn fault_of<
-    R: Input + Files<File = File> + Net + Wait + Threads + Clock + AllocGlobal + Log + Sync,
->(rt: &R, store: &str, port: &str, conf: &str) -> Result<String, Fail>
-where
-    R::Dir: Send + Sync,
-    R::Stream: Send + Sync,
-    R::Listener: Send + Sync,
-{
+fn fault_of<R: Host>(rt: &R, store: &str, port: &str, conf: &str) -> Result<String, Fail> {
     let words = [
         "apd", "run", "--store", store, "--port", port, "--record", "run_test", conf,
     ];
@@ -197,13 +187,13 @@ fn faults_of_a_run_are_told_in_their_order(rt: HostRuntime) -> Result<(), Fail> 
     let port = format!(in rt.alloc(); "{}", taken.local_addr()?.port())?;
     let port = port.as_str();
     let told = fault_of(&rt, "run_test_store", port, "run_test_conf")?;
-    assert_eq!(rt; told.as_str(), "2apd: cannot read run_test_conf\n");
+    expect(&rt, told.as_str(), "2apd: cannot read run_test_conf\n");
     fs::write(&rt, "run_test_conf", CONF.as_bytes())?;
     let told = fault_of(&rt, "run_test_store", port, "run_test_conf")?;
-    assert_eq!(rt; told.as_str(), "2apd: cannot read run_test_store\n");
+    expect(&rt, told.as_str(), "2apd: cannot read run_test_store\n");
     make_store(&rt, "run_test_store")?;
     let told = fault_of(&rt, "run_test_store", port, "run_test_conf")?;
-    assert_eq!(rt; told.as_str(), "2apd: no socket\n");
+    expect(&rt, told.as_str(), "2apd: no socket\n");
     // By then the recording stood.
     fs::remove_file(&rt, "run_test.0")?;
     fs::remove_file(&rt, "run_test_store")?;
@@ -217,7 +207,7 @@ fn a_store_of_version_1_is_refused_and_left_as_it_was(rt: HostRuntime) -> Result
     let old = make_old_store(&rt, store)?;
     fs::write(&rt, "run_test_old_conf", CONF.as_bytes())?;
     let told = fault_of(&rt, store, "1024", "run_test_old_conf")?;
-    assert_eq!(rt; told.as_str(), "2apd: store of version 1\n");
+    expect(&rt, told.as_str(), "2apd: store of version 1\n");
     assert!(rt; fs::read(&rt, store)?.as_slice() == old.as_slice());
     fs::remove_file(&rt, store)?;
     fs::remove_file(&rt, "run_test_old_conf")?;
@@ -230,7 +220,7 @@ fn a_missing_configuration_leaves_the_store_as_it_was(rt: HostRuntime) -> Result
     make_store(&rt, store)?;
     let before = fs::read(&rt, store)?;
     let told = fault_of(&rt, store, "1024", "run_test_no_conf")?;
-    assert_eq!(rt; told.as_str(), "2apd: cannot read run_test_no_conf\n");
+    expect(&rt, told.as_str(), "2apd: cannot read run_test_no_conf\n");
     let after = fs::read(&rt, store)?;
     assert!(rt; before == after);
     fs::remove_file(&rt, store)?;

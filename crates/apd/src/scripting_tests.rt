@@ -1,4 +1,5 @@
 use crate::ProgramFault;
+use crate::expect::expect;
 use crate::scripting::run_script_of_input;
 use apd_conf::{Conf, Confs};
 use apd_disk::FuseDisk;
@@ -105,7 +106,7 @@ fn a_store_keeps_the_station_for_the_next_run(rt: HostRuntime) -> Result<(), Fai
         (b"cmd STA 02:00:00:00:00:aa\n", SHOWN),
     ] {
         let out = script_output(&rt, name, script)?;
-        assert_eq!(rt; out.as_slice(), want);
+        expect(&rt, out.as_slice(), want);
     }
     fs::remove_file(&rt, name)?;
     Ok(())
@@ -168,12 +169,12 @@ fn a_script_that_is_given_up_leaves_the_station(rt: HostRuntime) -> Result<(), F
     let name = "store_given_up_of_a_script_test";
     let _ = file_behind(&rt, name, JOINS)?;
     let fault = give_up(&rt, name, ENOUGH, ANOTHER, &mut Closed)?;
-    assert_eq!(rt; fault, ScriptFault::Writer);
+    expect(&rt, fault, ScriptFault::Writer);
     assert!(rt; has_the_station(&rt, name)?);
     let mut out = Vec::new(rt.alloc());
     let reader = BufReader::new(rt.alloc(), ANOTHER.chain(Closed))?;
     let fault = give_up(&rt, name, ENOUGH, reader, &mut out)?;
-    assert_eq!(rt; fault, ScriptFault::Reader);
+    expect(&rt, fault, ScriptFault::Reader);
     assert!(rt; has_the_station(&rt, name)?);
     // Two calls of the recovery, four of the start, and the first two of a commit; and the first of the recovery.
     for calls in [8, 0] {
@@ -221,9 +222,10 @@ fn faults_of_a_script_s_store_are_printed_in_these_words(rt: HostRuntime) -> Res
     let name = "no_store_of_a_script_test";
     let _ = fs::remove_file(&rt, name);
     let out = output_of_no_store(&rt, name)?;
-    assert_eq!(rt;
+    expect(
+        &rt,
         out.as_slice(),
-        b"apd: cannot read no_store_of_a_script_test\napd: cannot read no_store_of_a_script_test\napd: not a store\n".as_slice()
+        b"apd: cannot read no_store_of_a_script_test\napd: cannot read no_store_of_a_script_test\napd: not a store\n".as_slice(),
     );
     // The magic, and the gate of the first half.
     for (place, want) in [
@@ -231,7 +233,7 @@ fn faults_of_a_script_s_store_are_printed_in_these_words(rt: HostRuntime) -> Res
         (64, b"apd: damaged store\n"),
     ] {
         let out = output_of_broken(&rt, name, place)?;
-        assert_eq!(rt; out.as_slice(), want);
+        expect(&rt, out.as_slice(), want);
     }
     fs::remove_file(&rt, name)?;
     Ok(())
@@ -265,8 +267,8 @@ fn noise_is_a_bad_line_and_leaves_the_store_as_the_start_did(rt: HostRuntime) ->
     let noise = noise(rt.alloc())?;
     let (started, none) = file_behind(&rt, name, b"")?;
     let (left, out) = file_behind(&rt, name, noise.as_slice())?;
-    assert_eq!(rt; none.len(), 0);
-    assert_eq!(rt; out.as_slice(), b"apd: bad line 1\n".as_slice());
+    expect(&rt, none.len(), 0);
+    expect(&rt, out.as_slice(), b"apd: bad line 1\n".as_slice());
     assert!(rt; left.as_slice() == started.as_slice());
     fs::remove_file(&rt, name)?;
     Ok(())
@@ -313,12 +315,13 @@ fn a_faulty_configuration_leaves_the_store_untouched(rt: HostRuntime) -> Result<
     // It is told in front of a store that can't be read.
     fs::remove_file(&rt, name)?;
     let text = fault_with(&rt, name, &[conf])?;
-    assert_eq!(rt; text.as_str(), "line 2: no '='");
+    expect(&rt, text.as_str(), "line 2: no '='");
     fs::remove_file(&rt, conf)?;
     let text = fault_with(&rt, name, &[conf])?;
-    assert_eq!(rt;
+    expect(
+        &rt,
         text.as_str(),
-        "cannot read faulty_configuration_of_a_script_test"
+        "cannot read faulty_configuration_of_a_script_test",
     );
     Ok(())
 }

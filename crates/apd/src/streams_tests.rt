@@ -1,3 +1,4 @@
+use crate::expect::expect;
 use crate::streams::hold_closed_streams;
 use std::os::fd::AsRawFd;
 use std::test::Fail;
@@ -14,6 +15,6 @@ fn streams_that_are_open_are_left_alone(rt: HostRuntime) -> Result<(), Fail> {
     let Ok(none) = hold_closed_streams(&rt) else {
         return Err(Fail::new("/dev/null can't be opened"));
     };
-    assert_eq!(rt; none.len(), 0);
+    expect(&rt, none.len(), 0);
     Ok(())
 }

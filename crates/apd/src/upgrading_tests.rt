@@ -1,5 +1,6 @@
 use crate::ProgramFault;
 use crate::checking_tests::check_output;
+use crate::expect::expect;
 use crate::scripting_tests::{make_old_store, script_output};
 use crate::upgrading::upgrade_and_print;
 use apd_script::UpgradeFault;
@@ -35,7 +36,7 @@ fn a_store_of_version_1_is_copied(rt: HostRuntime) -> Result<(), Fail> {
     mode.set_readonly(true);
     fs::set_permissions(&rt, old, mode)?;
     for _ in 0..2 {
-        assert_eq!(rt; upgrade_output(&rt, old, new)?.as_slice(), COPIED);
+        expect(&rt, upgrade_output(&rt, old, new)?.as_slice(), COPIED);
         assert!(rt; fs::read(&rt, old)?.as_slice() == bytes.as_slice());
         let told = check_output(&rt, new)?;
         assert!(rt; !told.as_slice().starts_with(b"apd: "));
@@ -74,8 +75,8 @@ fn a_copy_goes_on_with_its_station(rt: HostRuntime) -> Result<(), Fail> {
         place = place.saturating_add(1);
     }
     fs::write(&rt, old, bytes.as_slice())?;
-    assert_eq!(rt; upgrade_output(&rt, old, new)?.as_slice(), COPIED);
-    assert_eq!(rt; script_output(&rt, new, GOES_ON)?.as_slice(), GONE_ON);
+    expect(&rt, upgrade_output(&rt, old, new)?.as_slice(), COPIED);
+    expect(&rt, script_output(&rt, new, GOES_ON)?.as_slice(), GONE_ON);
     fs::remove_file(&rt, old)?;
     fs::remove_file(&rt, new)?;
     Ok(())
@@ -88,7 +89,7 @@ fn one_file_by_two_names(rt: HostRuntime) -> Result<(), Fail> {
     let bytes = make_old_store(&rt, old)?;
     let told = upgrade_output(&rt, old, "./one_store_of_an_upgrade_test")?;
     let want = b"apd: cannot read ./one_store_of_an_upgrade_test\n";
-    assert_eq!(rt; told.as_slice(), want.as_slice());
+    expect(&rt, told.as_slice(), want.as_slice());
     assert!(rt; fs::read(&rt, old)?.as_slice() == bytes.as_slice());
     fs::remove_file(&rt, old)?;
     Ok(())
@@ -102,31 +103,34 @@ fn refusals_of_an_upgrade(rt: HostRuntime) -> Result<(), Fail> {
     // A missing OLD makes no NEW.
     let told = upgrade_output(&rt, "no_store_of_an_upgrade_test", new)?;
     let want = b"apd: cannot read no_store_of_an_upgrade_test\n";
-    assert_eq!(rt; told.as_slice(), want.as_slice());
+    expect(&rt, told.as_slice(), want.as_slice());
     assert!(rt; fs::metadata(&rt, new).is_err());
     // A short OLD is no store, of whatever version; the NEW that was made is of zeros.
     fs::write(&rt, old, b"RAPSTOR2")?;
-    assert_eq!(rt;
+    expect(
+        &rt,
         upgrade_output(&rt, old, new)?.as_slice(),
-        b"apd: not a store\n".as_slice()
+        b"apd: not a store\n".as_slice(),
     );
     let zeros = fs::read(&rt, new)?;
-    assert_eq!(rt; zeros.len(), 2_097_216);
+    expect(&rt, zeros.len(), 2_097_216);
     assert!(rt; zeros.iter().all(|byte| *byte == 0));
     // A NEW of another length is left as it was.
     let _ = make_old_store(&rt, old)?;
     fs::write(&rt, new, b"short")?;
-    assert_eq!(rt;
+    expect(
+        &rt,
         upgrade_output(&rt, old, new)?.as_slice(),
-        b"apd: not a store\n".as_slice()
+        b"apd: not a store\n".as_slice(),
     );
-    assert_eq!(rt; fs::read(&rt, new)?.as_slice(), b"short".as_slice());
+    expect(&rt, fs::read(&rt, new)?.as_slice(), b"short".as_slice());
     // A store of this version needs no copy.
     fs::remove_file(&rt, new)?;
-    assert_eq!(rt; upgrade_output(&rt, old, new)?.as_slice(), COPIED);
-    assert_eq!(rt;
+    expect(&rt, upgrade_output(&rt, old, new)?.as_slice(), COPIED);
+    expect(
+        &rt,
         upgrade_output(&rt, new, old)?.as_slice(),
-        b"apd: store of version 2\n".as_slice()
+        b"apd: store of version 2\n".as_slice(),
     );
     fs::remove_file(&rt, old)?;
     fs::remove_file(&rt, new)?;
@@ -147,7 +151,7 @@ fn faults_of_an_upgrade_are_printed_in_these_words(rt: HostRuntime) -> Result<()
         (UpgradeFault::Writer, "writer fault"),
     ] {
         let told = ProgramFault::Upgrade(fault);
-        assert_eq!(rt; format!(in alloc; "{told}")?.as_str(), text);
+        expect(&rt, format!(in alloc; "{told}")?.as_str(), text);
     }
     Ok(())
 }

@@ -69,3 +69,30 @@ pub(crate) fn work_until_end<
         Err(ServeFault::Thread)
     }
 }
+
+/// Does one thing while a thread of its own does another, and gives what it came to once both have ended; none where no
+/// thread can be made, and then neither is done.
+pub(crate) fn run_beside<W: Wait + Threads, T, A: FnOnce() + Send + Drop, B: FnOnce() -> T + Drop>(
+    rt: &W,
+    other: A,
+    own: B,
+) -> Option<T>
+    requires other { A.IsAlwaysCallable other }
+    requires own { B.IsAlwaysCallable own }
+{
+    thread::scope(
+        thread::scope_env(),
+        rt,
+        |scope|
+            requires other { A.IsAlwaysCallable other }
+            requires own { B.IsAlwaysCallable own }
+        {
+            let Ok(thread) = scope.spawn(other) else {
+                return None;
+            };
+            let answer = own();
+            thread.join(rt);
+            Some(answer)
+        },
+    )
+}

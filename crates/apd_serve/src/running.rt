@@ -1,10 +1,10 @@
 //! An access point over a file, datagrams and recordings.
 ghost use Rattle.std.specs.Prelude.{◌≡◌};
-ghost use Rattle.std.specs.Thread.{IsSend};
 ghost use Rattle.apd_serve.specs.declared.running.RunFault.TheVariants.{NoMemory, Open};
 
 use crate::clock::SystemClock;
 use crate::control_port::ControlPort;
+use crate::crew::run_beside;
 use crate::fault::ServeFault;
 use crate::identity::Identity;
 use crate::notices::{tell_entries, tell_start};
@@ -27,8 +27,8 @@ use std::io::Read;
 use std::net::Net;
 use std::rt::Files;
 use std::sync::Wait;
-use std::thread::{self, Threads};
-use std::time;
+use std::thread::Threads;
+use std::time::Clock;
 use thiserror::Error;
 
 /// Where an access point runs.
@@ -184,59 +184,171 @@ fn record_radios(
     Ok(recorded)
 }
 
-// What was opened of a site, but for its radios.
+// A store that was opened, and what watches its file.
 #[derive(Drop)]
 struct Opened<'a> {
     store: Store<FileDisk>,
     table: Table,
     watched: StoreWatch<'a>,
-    commands: ControlPort,
-    port: u16,
 }
 
-// Serves a world that is started, and watches its store's file meanwhile.
-fn serve_watched<
-    W: Files<File = File> + Net + Wait + Threads + time::Clock + AllocGlobal + Log + Sync,
+// The ports of a site: that of its commands, and its radios.
+#[derive(Drop)]
+struct Ports {
+    commands: ControlPort,
+    radios: Vec<UdpSim>,
+}
+
+fn open_watched<'a>(
+    rt: &(impl Files<File = File> + AllocGlobal),
+    name: &'a str,
+) -> Result<Opened<'a>, RunFault> {
+    let (store, table) = open_store(rt, name)?;
+    let watched = open_watch(rt, name)?;
+    Ok(Opened {
+        store,
+        table,
+        watched,
+    })
+}
+
+// Opens the files of a site: its store, and those of its recordings, where there are to be any.
+fn open_files<'a>(
+    rt: &(impl Files<File = File> + AllocGlobal),
+    confs: &Confs,
+    site: &Site<'a>,
+) -> Result<(Opened<'a>, Option<Vec<RecordingFile>>), RunFault> {
+    let opened = open_watched(rt, site.store)?;
+    let recordings = open_all_recordings(rt, confs, site)?;
+    Ok((opened, recordings))
+}
+
+fn open_ports(rt: &(impl Net + AllocGlobal), port: u16, count: usize) -> Result<Ports, RunFault> {
+    let commands = ControlPort::open(rt, rt.alloc(), port).map_err(RunFault::Socket)?;
+    let radios = open_radios(rt, port, count)?;
+    Ok(Ports { commands, radios })
+}
+
+// Opens a site. Nothing that is there is changed.
+fn open_site<'a>(
+    rt: &(impl Files<File = File> + Net + AllocGlobal),
+    confs: &Confs,
+    site: &Site<'a>,
+) -> Result<(Opened<'a>, Option<Vec<RecordingFile>>, Ports), RunFault> {
+    let (opened, recordings) = open_files(rt, confs, site)?;
+    let ports = open_ports(rt, site.port, confs.list().len())?;
+    Ok((opened, recordings, ports))
+}
+
+// Empties the files of recordings, and has each radio recorded into its own.
+fn begin_recordings(
+    rt: &(impl Files<File = File> + AllocGlobal),
+    radios: Vec<UdpSim>,
+    recordings: Vec<RecordingFile>,
+) -> Result<Vec<Recording<UdpSim, File>>, RunFault> {
+    let files = empty_files(rt, recordings)?;
+    Ok(record_radios(rt.alloc(), radios, files)?)
+}
+
+// The world of a store and its table, with these radios, one for each configuration, in their order. Each station of
+// the table was heard at the moment 0.
+fn begin_world<R: Radio>(
+    alloc: Global,
+    store: Store<FileDisk>,
+    table: Table,
+    confs: Confs,
+    radios: Vec<R>,
+) -> Result<World<FileDisk, R>, RunFault> {
+    let slots = slots_for(alloc, &confs, radios)?;
+    match begin_anew(alloc, store, table, confs, slots, Moment(0)) {
+        Ok(world) => Ok(world),
+        Err((_disk, _slots, fault)) => Err(RunFault::World(fault)),
+    }
+}
+
+// As `begin_world`, started; and how many stations the table had.
+fn start_world<R: Radio>(
+    alloc: Global,
+    store: Store<FileDisk>,
+    table: Table,
+    confs: Confs,
+    radios: Vec<R>,
+) -> Result<(World<FileDisk, R>, usize), RunFault> {
+    let world = begin_world(alloc, store, table, confs, radios)?;
+    let recovered = world.table().rows();
+    match start(world) {
+        Ok(world) => Ok((world, recovered)),
+        Err(fault) => Err(RunFault::Serve(fault)),
+    }
+}
+
+// What is served, and by what.
+#[derive(Drop)]
+struct Service<'a, W: Clock, R: Radio, B: Read + Drop> {
+    world: World<FileDisk, R>,
+    commands: ControlPort,
+    clock: SystemClock<&'a W>,
+    reader: B,
+}
+
+// Serves a world that is started.
+fn serve_world<
+    W: Files<File = File> + Net + Wait + Threads + Clock + AllocGlobal + Log + Sync,
     R: Radio + Send,
     B: Read + Drop,
->(
-    rt: &W,
-    world: World<FileDisk, R>,
-    watched: &StoreWatch<'_>,
-    commands: ControlPort,
-    clock: SystemClock<&W>,
-    reader: B,
-) -> Result<u64, ServeFault>
+>(rt: &W, service: Service<'_, W, R, B>) -> Result<u64, ServeFault>
+where
+    W::Dir: Send + Sync,
+    W::Stream: Send + Sync,
+    W::Listener: Send + Sync,
+{
+    let Service {
+        world,
+        commands,
+        clock,
+        reader,
+    } = service;
+    serve_started(rt, rt.alloc(), world, commands, clock, &NoGate, reader)
+}
+
+// As `serve_world`, and watches the store's file meanwhile.
+fn serve_watched<
+    W: Files<File = File> + Net + Wait + Threads + Clock + AllocGlobal + Log + Sync,
+    R: Radio + Send,
+    B: Read + Drop,
+>(rt: &W, watched: &StoreWatch<'_>, service: Service<'_, W, R, B>) -> Result<u64, ServeFault>
 where
     W::Dir: Send + Sync,
     W::Stream: Send + Sync,
     W::Listener: Send + Sync,
 {
     let ending = Ending::new();
-    thread::scope(
-        thread::scope_env(),
+    let answer = run_beside(
         rt,
-        |scope|
-            requires { IsSend R.row }
-        {
-            let Ok(watcher) = scope.spawn(|| watch(rt, watched, &ending)) else {
-                return Err(ServeFault::Thread);
-            };
-            let answer = serve_started(rt, rt.alloc(), world, commands, clock, &NoGate, reader);
+        || watch(rt, watched, &ending),
+        || {
+            let answer = serve_world(rt, service);
             ending.end(rt);
-            watcher.join(rt);
             answer
         },
-    )
+    );
+    answer.unwrap_or(Err(ServeFault::Thread))
 }
 
-// Serves with these radios, one for each configuration, in their order, and tells what is served. Each station of the
-// table was heard at the moment 0.
+// Starts a world with these radios, tells what is served, and serves it.
 fn run_with<
-    W: Files<File = File> + Net + Wait + Threads + time::Clock + AllocGlobal + Log + Sync,
+    W: Files<File = File> + Net + Wait + Threads + Clock + AllocGlobal + Log + Sync,
     R: Radio + Send,
     B: Read + Drop,
->(rt: &W, confs: Confs, opened: Opened<'_>, radios: Vec<R>, reader: B) -> Result<u64, RunFault>
+>(
+    rt: &W,
+    confs: Confs,
+    opened: Opened<'_>,
+    port: u16,
+    commands: ControlPort,
+    radios: Vec<R>,
+    reader: B,
+) -> Result<u64, RunFault>
 where
     W::Dir: Send + Sync,
     W::Stream: Send + Sync,
@@ -246,19 +358,17 @@ where
         store,
         table,
         watched,
-        commands,
-        port,
     } = opened;
-    let slots = slots_for(rt.alloc(), &confs, radios)?;
     let clock = SystemClock::new(rt);
-    let mut world = match begin_anew(rt.alloc(), store, table, confs, slots, Moment(0)) {
-        Ok(world) => world,
-        Err((_disk, _slots, fault)) => return Err(RunFault::World(fault)),
-    };
-    let recovered = world.table().rows();
-    start(&mut world).map_err(RunFault::Serve)?;
+    let (world, recovered) = start_world(rt.alloc(), store, table, confs, radios)?;
     tell_start(rt, port, world.confs(), world.table(), recovered);
-    serve_watched(rt, world, &watched, commands, clock, reader).map_err(RunFault::Serve)
+    let service = Service {
+        world,
+        commands,
+        clock,
+        reader,
+    };
+    serve_watched(rt, &watched, service).map_err(RunFault::Serve)
 }
 
 /// Serves an access point of these configurations, over the store, the ports and the recordings of a site, until the
@@ -271,7 +381,7 @@ where
 /// `Serve` nothing is sent, and the store is as it was; with it the start may have been committed and handed out.
 /// Before the ports are had no file is emptied. `NoMemory` comes at any place.
 pub fn run<
-    W: Files<File = File> + Net + Wait + Threads + time::Clock + AllocGlobal + Log + Sync,
+    W: Files<File = File> + Net + Wait + Threads + Clock + AllocGlobal + Log + Sync,
     B: Read + Drop,
 >(rt: &W, confs: Confs, site: &Site<'_>, reader: B) -> Result<u64, RunFault>
 where
@@ -279,25 +389,13 @@ where
     W::Stream: Send + Sync,
     W::Listener: Send + Sync,
 {
-    let count = confs.list().len();
-    let (store, table) = open_store(rt, site.store)?;
-    let watched = open_watch(rt, site.store)?;
-    let recordings = open_all_recordings(rt, &confs, site)?;
-    let commands = ControlPort::open(rt, rt.alloc(), site.port).map_err(RunFault::Socket)?;
-    let radios = open_radios(rt, site.port, count)?;
-    let opened_site = Opened {
-        store,
-        table,
-        watched,
-        commands,
-        port: site.port,
-    };
+    let (opened, recordings, ports) = open_site(rt, &confs, site)?;
+    let Ports { commands, radios } = ports;
     let entries = match recordings {
-        None => run_with(rt, confs, opened_site, radios, reader)?,
+        None => run_with(rt, confs, opened, site.port, commands, radios, reader)?,
         Some(recordings) => {
-            let files = empty_files(rt, recordings)?;
-            let radios = record_radios(rt.alloc(), radios, files)?;
-            run_with(rt, confs, opened_site, radios, reader)?
+            let radios = begin_recordings(rt, radios, recordings)?;
+            run_with(rt, confs, opened, site.port, commands, radios, reader)?
         }
     };
     tell_entries(rt, entries);

@@ -23,8 +23,51 @@ use std::sync::ledger::{Blank, Ledger};
 use std::thread::Threads;
 use std::time;
 
-// The workers: one that commits, one for each radio, one for the control port and one for ticks; none where there
-// are more than seats. Whether each slot is up is noted.
+// A seat for one more worker.
+fn take_seat<L: Ledger, W: Wait>(rt: &W, shared: &Shared<L>) -> Result<Seat<L>, ServeFault> {
+    shared.seat(rt).ok_or(ServeFault::Thread)
+}
+
+fn add<L: Ledger, D: Disk + Drop, R: Radio, P: Port + Drop>(
+    workers: &mut Vec<Worker<L, D, R, P>>,
+    worker: Worker<L, D, R, P>,
+) -> Result<(), AllocError> {
+    workers.push(worker)?;
+    Ok(())
+}
+
+// Adds a worker for each radio. Whether its slot is up is noted.
+fn add_radios<L: Ledger, W: Wait, D: Disk + Drop, R: Radio, P: Port + Drop>(
+    rt: &W,
+    shared: &Shared<L>,
+    slots: Vec<Slot<R>>,
+    workers: &mut Vec<Worker<L, D, R, P>>,
+) -> Result<(), ServeFault> {
+    for slot in slots {
+        let seat = take_seat(rt, shared)?;
+        shared.note(rt, slot.bssid(), slot.is_up());
+        add(workers, Worker::Radio(seat, slot))?;
+    }
+    Ok(())
+}
+
+// Adds the worker of the control port, and that of ticks.
+fn add_others<L: Ledger, W: Wait, D: Disk + Drop, R: Radio, P: Port + Drop>(
+    rt: &W,
+    shared: &Shared<L>,
+    port: P,
+    workers: &mut Vec<Worker<L, D, R, P>>,
+) -> Result<(), ServeFault> {
+    let control = take_seat(rt, shared)?;
+    add(workers, Worker::Control(control, port))?;
+    let ticks = take_seat(rt, shared)?;
+    add(workers, Worker::Ticks(ticks))?;
+    Ok(())
+}
+
+// The workers: one that commits, one for each radio, one for the control port and one for ticks.
+//
+// Errors: `Thread` where there are more than seats; `NoMemory`.
 fn crew<L: Ledger, W: Wait, D: Disk + Drop, R: Radio, P: Port + Drop>(
     rt: &W,
     alloc: Global,
@@ -32,22 +75,12 @@ fn crew<L: Ledger, W: Wait, D: Disk + Drop, R: Radio, P: Port + Drop>(
     committer: Committer<D>,
     slots: Vec<Slot<R>>,
     port: P,
-) -> Result<Option<Vec<Worker<L, D, R, P>>>, AllocError> {
+) -> Result<Vec<Worker<L, D, R, P>>, ServeFault> {
     let mut workers = Vec::new(alloc);
-    workers.push(Worker::Committing(committer))?;
-    for slot in slots {
-        let Some(seat) = shared.seat(rt) else {
-            return Ok(None);
-        };
-        shared.note(rt, slot.bssid(), slot.is_up());
-        workers.push(Worker::Radio(seat, slot))?;
-    }
-    let (Some(control), Some(ticks)) = (shared.seat(rt), shared.seat(rt)) else {
-        return Ok(None);
-    };
-    workers.push(Worker::Control(control, port))?;
-    workers.push(Worker::Ticks(ticks))?;
-    Ok(Some(workers))
+    add(&mut workers, Worker::Committing(committer))?;
+    add_radios(rt, shared, slots, &mut workers)?;
+    add_others(rt, shared, port, &mut workers)?;
+    Ok(workers)
 }
 
 // Keeps a seat, if there is one.
@@ -107,6 +140,32 @@ fn close<L: Ledger, W: Wait + time::Clock + Log, D: Disk + Drop, R: Radio, P: Po
     }
 }
 
+// What the workers come to once the input has ended, and room for their seats.
+fn work<
+    L: Ledger + Send + Sync,
+    W: Wait + Threads + time::Clock + Log + Net + Sync,
+    D: Disk + Drop + Send,
+    R: Radio + Send,
+    P: Port + Drop + Send,
+    C: Clock + Sync,
+    G: Gate + Sync,
+    B: Read,
+>(
+    environment: &Environment<'_, L, W, C, G>,
+    workers: Vec<Worker<L, D, R, P>>,
+    reader: &mut B,
+) -> Result<(Vec<Worker<L, D, R, P>>, Vec<Seat<L>>), ServeFault>
+where
+    W::Stream: Send + Sync,
+    W::Listener: Send + Sync,
+    ensures none { IfOk result (λ made. made.1.items ≡ []) }
+{
+    let Environment { rt, alloc, .. } = environment;
+    let seats = Vec::with_capacity(*alloc, workers.len())?;
+    let workers = work_until_end(*rt, *alloc, environment, workers, reader)?;
+    Ok((workers, seats))
+}
+
 // As `serve`, with the world started, over one ledger.
 fn serve_over_ledger<
     L: Ledger + Send + Sync,
@@ -136,10 +195,7 @@ where
 {
     let (flusher, core, slots) = world.into_parts();
     let shared = Shared::<L>::new(core, blank);
-    let Some(workers) = crew(rt, alloc, &shared, Committer::new(flusher), slots, port)? else {
-        return Err(ServeFault::Thread);
-    };
-    let seats = Vec::with_capacity(alloc, workers.len())?;
+    let workers = crew(rt, alloc, &shared, Committer::new(flusher), slots, port)?;
     let environment = Environment {
         rt,
         alloc,
@@ -147,16 +203,19 @@ where
         clock,
         gate,
     };
-    let workers = work_until_end(rt, alloc, &environment, workers, reader)?;
+    let (workers, seats) = work(&environment, workers, reader)?;
     drop(environment);
     close(rt, shared, workers, gate, seats)
 }
 
-/// Starts a world: configures each interface, which is committed and handed out. Then nothing waits in it that would be
-/// lost where it is taken apart.
-pub(crate) fn start<D: Disk + Drop, R: Radio>(world: &mut World<D, R>) -> Result<(), ServeFault> {
+/// A world, started: each interface is configured, which is committed and handed out. Then nothing waits in it that would
+/// be lost where it is taken apart.
+pub(crate) fn start<D: Disk + Drop, R: Radio>(
+    world: World<D, R>,
+) -> Result<World<D, R>, ServeFault> {
+    let mut world = world;
     match world.start() {
-        Ok(_told) => Ok(()),
+        Ok(_told) => Ok(world),
         Err(fault) => Err(of_start(fault)),
     }
 }
@@ -231,7 +290,5 @@ where
     W::Stream: Send + Sync,
     W::Listener: Send + Sync,
 {
-    let mut world = world;
-    start(&mut world)?;
-    serve_started(rt, alloc, world, port, clock, gate, reader)
+    serve_started(rt, alloc, start(world)?, port, clock, gate, reader)
 }
