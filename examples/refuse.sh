@@ -1,9 +1,10 @@
 #!/bin/sh
 # Runs each session of apd_sessions with each of its allocations refused, one a run, until a run meets no refusal. The
 # call that met it must say so, leave what can be seen as it was, and be made once more; and then the session must go
-# on as with ample memory, to the byte; but a start that is made again configures once more, and may write that too.
-# Where a device in memory met it, that is a device fault, at which the session ends: its device must then show the
-# table before or after the commit that was under way.
+# on as with ample memory, to the byte. But a recovery that is made again calls its device anew, and so do a restart and
+# an upgrade; a start that is made again configures anew: what is wanted of each is below, and each must be met. Where a
+# device in memory met it, that is a device fault, at which the session ends: its device must then have served the calls
+# up to there and a recovery's alone, and show the table before or after the commit that was under way.
 # Use: examples/refuse.sh [SESSION..], from anywhere; it needs a C compiler. It ends with status 1 at the first run
 # that shows anything else, and prints for each session how many allocations there are, and who met them; with status 1
 # too where these aren't as many as it has below. SESSIONS is the program, else it is proved and built first.
@@ -18,29 +19,68 @@ ${CC:-cc} -O2 -shared -fPIC -o "$folder/refuse.so" "$here/refuse.c" -ldl
 cp "$crate"/data/* "$folder"
 cd "$folder"
 
-# Whether what was found is what was wanted. A line "again: .." is taken out; without one the library made up for what
+# Whether what was found is what is wanted. A line "again: .." is taken out; without one the library made up for what
 # it was refused, as where it collects and had asked for room beforehand. Behind a device fault must stand the last
-# table before it, or the next one that was wanted.
+# table before it, or the next one that was wanted; and the first calls that were wanted of the device, and the
+# recovery's.
 compare() {
     awk '
         function bad(why) { print why; failed = 1; exit 1 }
         function is_state(line) { return line ~ /^table: / || line == "no store" }
-        NR == FNR { wanted[++all] = $0; next }
+        NR == FNR { wanted[++all] = $0; if ($0 == "left:") end = all; next }
         /^changed: / { bad($0) }
         /^again: / { again++; next }
         $0 == "device fault" { device++; next }
         device && $0 == "left:" { behind = 1; next }
-        behind { left = $0; next }
+        behind == 1 { left = $0; behind = 2; next }
+        behind { calls[++count] = $0; next }
         { if ($0 != wanted[++line]) bad("line " line ": " $0) }
         END {
             if (failed) exit 1
             if (device + again > 1) bad("told " device + again " times")
             if (!device && line != all) bad("ended at line " line)
-            if (!device) exit 0
+            if (!device || !end) exit 0
             for (i = 1; i <= line; i++) if (is_state(wanted[i])) before = wanted[i]
             for (i = all; i > line; i--) if (is_state(wanted[i])) after = wanted[i]
             if (left != before && left != after) bad("left " left)
+            if (calls[count - 1] != "Sync" || calls[count] != "Read(0, 2097216)") bad("not recovered")
+            for (i = 1; i < count - 1; i++) if (calls[i] != wanted[end + 1 + i]) bad("call " i ": " calls[i])
         }' "$1" found
+}
+
+# What is wanted where the first recovery of a device, or the last, was made again. The other was given up behind its
+# sync, or behind its read.
+print_recovered() {
+    awk -v which="$1" -v behind="$2" '
+        NR == FNR { if (/^Read\(0, 2097216\)$/ && (which == "last" || !at)) at = FNR; next }
+        FNR == at { if (behind == "read") print; print "Sync" }
+        { print }' wanted wanted
+}
+
+# A slot that came back: the number of its radio, and whether it is up. It has no station, and no out waits there.
+print_slot() {
+    printf 'slot: Bssid(Addr([2, 0, 0, 0, 0, %d])) up %s installed None waiting 0\n' "$1" "$2"
+}
+
+# What is read, with the slots that came back before the first table.
+print_with_slots() {
+    awk '
+        NR == FNR { slots = slots $0 "\n"; next }
+        /^table: / && !told++ { printf "%s", slots }
+        { print }' slots -
+}
+
+# What is wanted where a restart of these radios was made again. The slots come back as they were.
+print_restarts() {
+    for radio in "$@"; do print_slot "$radio" true; done >slots
+    print_recovered first sync | print_with_slots >restart.1
+    print_recovered first read | print_with_slots >restart.2
+}
+
+# The same where the first slot lacked memory for its station. The second one needs none.
+print_restart_down() {
+    { print_slot 1 false; print_slot 2 true; } >slots
+    print_recovered first read | print_with_slots >restart.3
 }
 
 # The calls of a commit of these records, behind the closed gate at this place.
@@ -50,34 +90,77 @@ print_commit() {
     printf 'Write(%d, Sequence { items: [1] })\nSync\n' "$1"
 }
 
-# What is wanted, with the calls that are read behind the recovery.
-print_with() {
-    awk '
-        NR == FNR { calls = calls $0 "\n"; next }
-        /^slot: / { passed = 0 }
-        !passed { print }
-        /^Read/ { printf "%s", calls; passed = 1 }' - wanted
+# What is wanted with the calls that are read between the recoveries.
+print_between() {
+    awk '{ print } /^Read\(0, 2097216\)$/ { exit }' wanted
+    cat
+    printf 'Sync\nRead(0, 2097216)\n'
 }
 
 # What is wanted of a restart whose start was made again. A start sets both policies, and drops the station that the
-# second denies. The first may have come to its first policy; to all of it, uncommitted; or to all of it, committed.
+# second denies. The first may have come to nothing; to its first policy; to all of it, uncommitted; or to all of it, in
+# a batch of its own. The second hands out the station's frame in each case, and tells so: behind that no memory is
+# taken.
 print_starts() {
     first="6, 2, 0, 0, 0, 0, 1, 0, 215, 7"
     second="6, 2, 0, 0, 0, 0, 2, 1, 215, 7"
     start="$first, 2, 2, 0, 0, 0, 0, 2, 2, 0, 0, 0, 0, 170, $second"
-    print_commit 180 "$first, $start" | print_with >started.1
-    print_commit 180 "$start, $first, $second" | print_with >started.2
-    { print_commit 180 "$start"; print_commit 218 "$first, $second"; } | print_with >started.3
+    cp wanted start.1
+    print_commit 180 "$first, $start" | print_between >start.2
+    print_commit 180 "$start, $first, $second" | print_between >start.3
+    { print_commit 180 "$start"; print_commit 218 "$first, $second"; } | print_between >start.4
 }
 
-# Whether a run is what is wanted; else it says what isn't.
+# What is wanted where an upgrade was made again: behind the sync of the old device, and behind its read; or behind all
+# calls, where `copied` could not be told. Then the new device is a store already, whose mark is taken away.
+print_upgrades() {
+    print_recovered first sync >upgrade.1
+    print_recovered first read >upgrade.2
+    awk '
+        { print }
+        /^table: / { told = 1; next }
+        told { calls[++count] = $0 }
+        told && count == 7 {
+            for (i = 1; i <= 7; i++) {
+                print calls[i]
+                if (i == 2) print "Write(0, Sequence { items: [0, 0, 0, 0, 0, 0, 0, 0] })\nSync"
+            }
+            told = 0
+        }' upgrade.2 >upgrade.3
+}
+
+# All that is wanted of a session where a call was made again by which its device may have been called.
+print_each() {
+    rm -f ./*.[0-9]
+    case $1 in
+        stations | commands) print_restarts 1 ;;
+        radios) print_restarts 1 2 ;;
+        restart) print_restarts 1 2; print_restart_down; print_starts ;;
+        upgrade) print_upgrades ;;
+        *) return 0 ;;
+    esac
+    print_recovered last sync >recover.1
+    print_recovered last read >recover.2
+}
+
+# Whether a run is what is wanted, or one of what is wanted where that call was made again; else it says what isn't.
 judge() {
-    compare wanted >why && return 0
-    if grep -q -x "again: start" found; then
-        for each in started.*; do ! compare "$each" >/dev/null || return 0; done
-    fi
-    cat why
+    : >whys
+    call=$(sed -n 's/^again: //p' found)
+    [ -e "$call.1" ] || { compare wanted; return; }
+    for each in "$call".?; do
+        ! compare "$each" >why || { echo "$each" >>met; return 0; }
+        echo "$each: $(cat why)" >>whys
+    done
+    cat whys
     return 1
+}
+
+# Whether each of what is wanted was found; else it says which was not.
+are_met() {
+    for each in *.[0-9]; do
+        [ ! -e "$each" ] || grep -q -x -F "$each" met || { echo "no run is as $each"; return 1; }
+    done
 }
 
 # Runs a session with the allocation of this number refused; whether there is one.
@@ -107,7 +190,8 @@ for session in ${*:-stations commands radios restart files check upgrade}; do
     "$program" "$session" >wanted
     awk -v head="= $session" '/^= / { is_its = $0 == head } is_its' "$crate/stdout" | cmp -s - wanted ||
         { echo "$session: with ample memory otherwise than $crate/stdout"; exit 1; }
-    [ "$session" != restart ] || print_starts
+    print_each "$session"
+    : >met
     count=0
     device=0
     again=0
@@ -121,6 +205,7 @@ for session in ${*:-stations commands radios restart files check upgrade}; do
         ! grep -q "^again: " found || again=$((again + 1))
     done
     cmp -s wanted found || { echo "$session: another run"; exit 1; }
+    are_met || exit 1
     echo "$session: $count allocations: $again by calls that were made again, $device by a device," \
         "$((count - again - device)) made up for"
     [ "$again $device $((count - again - device))" = "$(print_counts "$session")" ] ||

@@ -30,7 +30,7 @@ fn recover_and_begin(alloc: Global) -> Option<(usize, Option<u64>)> {
     let ((store, table), (confs, slots)) = recovered.zip(confs_and_slots(alloc))?;
     let count = slots.len();
     let world = begin_world(alloc, store, table, confs, slots);
-    Some((count, place_of(world?.table())))
+    Some((count, place_of(alloc, world?.table())))
 }
 
 #[test]
@@ -46,7 +46,7 @@ fn commits<D: Disk>(
     let _accepted = starts(alloc, world)?;
     let _accepted = tell(world, &[AUTHENTICATES])?;
     let commits = [commit_world(world), commit_world(world)];
-    Some((commits, place_of(world.table())))
+    Some((commits, place_of(alloc, world.table())))
 }
 
 fn commits_of_two(alloc: Global) -> Option<([Commit; 2], Option<u64>)> {

@@ -64,6 +64,7 @@ fn expectation(session: Session, way: Way, row: Row, column: usize) -> Option<En
         calls,
         faults,
         failed: if fails { 9_u64.saturating_sub(own) } else { 0 },
+        refused: 0,
         spoken,
         outs,
         others: 0,

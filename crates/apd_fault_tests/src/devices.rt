@@ -1,8 +1,7 @@
 //! Devices of memory, and what they show.
 use crate::calls::{format_device, recover_store};
-use crate::sessions::{STATION, WLAN0};
-use apd_base::{Aid, Association, Station};
 use apd_disk::{Disk, MemDisk};
+use apd_record::write;
 use apd_store::StoreFault;
 use apd_table::Table;
 use std::alloc::Global;
@@ -74,29 +73,38 @@ pub(crate) fn device_of(alloc: Global, image: &[u8]) -> Option<MemDisk> {
     MemDisk::new(alloc, image.to_vec(alloc).ok()?).ok()
 }
 
-/// The station's association by its second request.
-fn association() -> Option<Association> {
-    Some(Association {
-        aid: Aid::new(1)?,
-        capability: 0x0431,
-        listen_interval: 10,
-    })
+/// The tables of a session, as the records that make them: the empty one, that of the radio's policy, and those with
+/// its station too, authenticated, and associated, with the identifier that was given last.
+const TABLES: [&[u8]; 4] = [
+    &[],
+    POLICY,
+    &[
+        6, 2, 0, 0, 0, 0, 1, 0, 0xd7, 7, //
+        1, 2, 0, 0, 0, 0, 1, 2, 0, 0, 0, 0, 0xaa, 1, 0, 0, 0, 0, 0, 0,
+    ],
+    &[
+        6, 2, 0, 0, 0, 0, 1, 0, 0xd7, 7, //
+        7, 2, 0, 0, 0, 0, 1, 1, 0, //
+        1, 2, 0, 0, 0, 0, 1, 2, 0, 0, 0, 0, 0xaa, 2, 1, 0, 0x31, 4, 10, 0,
+    ],
+];
+
+/// The records that make a table, which hold all of it.
+fn records_of(alloc: Global, table: &Table) -> Option<Vec<u8>> {
+    let changes = table.snapshot(alloc).ok()?;
+    write(alloc, changes.as_slice()).ok()
+}
+
+/// The place of the table that these records make among those of a session.
+fn place_among(records: &[u8]) -> Option<u64> {
+    let place = TABLES.iter().position(|table| *table == records)?;
+    u64::try_from(place).ok()
 }
 
 /// Which table of a session this is: the empty one (0), that of the radio's policy (1), or that with its station too,
-/// authenticated (2) or associated (3).
-pub(crate) fn place_of(table: &Table) -> Option<u64> {
-    let policy = table.policy(WLAN0);
-    let station = table.get(WLAN0, STATION);
-    match (table.bss_count(), table.rows(), policy, station) {
-        (0, 0, None, None) => Some(0),
-        (1, 0, Some((0, 2007)), None) => Some(1),
-        (1, 1, Some((0, 2007)), Some(Station::Authenticated)) => Some(2),
-        (1, 1, Some((0, 2007)), Some(Station::Associated(row))) if Some(row) == association() => {
-            Some(3)
-        }
-        _ => None,
-    }
+/// authenticated (2) or associated (3); none where it holds anything else.
+pub(crate) fn place_of(alloc: Global, table: &Table) -> Option<u64> {
+    place_among(records_of(alloc, table)?.as_slice())
 }
 
 /// A device that is recovered, and which table it shows; else why there is none, beside the device.
@@ -105,7 +113,7 @@ pub(crate) fn recover_device<D: Disk + Drop>(
     device: D,
 ) -> Result<(D, Option<u64>), (D, StoreFault)> {
     let (store, table) = recover_store(alloc, device)?;
-    let place = place_of(&table);
+    let place = place_of(alloc, &table);
     drop(table);
     Ok((store.into_device(), place))
 }

@@ -112,8 +112,8 @@ fn once_each_call_of_a_recovery(rt: HostRuntime) {
 type Restart = (Option<WorldFault>, usize, Option<u64>, MemDisk);
 
 /// The table of a world that stops, and its device.
-fn table_and_device(world: World<OnceDisk<MemDisk>, Sim>) -> (Option<u64>, MemDisk) {
-    let table = place_of(world.table());
+fn table_and_device(alloc: Global, world: World<OnceDisk<MemDisk>, Sim>) -> (Option<u64>, MemDisk) {
+    let table = place_of(alloc, world.table());
     (table, flusher(world).into_device().into_inner())
 }
 
@@ -125,14 +125,14 @@ fn restart_again(
 ) -> Option<(Option<u64>, MemDisk)> {
     let (confs, slots) = confs(alloc).zip(Some(slots))?;
     let world = restart_world(alloc, device, confs, slots).ok()?;
-    Some(table_and_device(world))
+    Some(table_and_device(alloc, world))
 }
 
 fn restart(alloc: Global, device: OnceDisk<MemDisk>) -> Option<Restart> {
     let (confs, slots) = confs(alloc).zip(slots(alloc))?;
     let (device, slots, fault) = match restart_world(alloc, device, confs, slots) {
         Ok(world) => {
-            let (table, device) = table_and_device(world);
+            let (table, device) = table_and_device(alloc, world);
             return Some((None, 0, table, device));
         }
         Err(refused) => refused,

@@ -71,6 +71,8 @@ pub(crate) struct Seen {
     pub(crate) calls: u64,
     pub(crate) faults: u64,
     pub(crate) failed: u64,
+    /// How many steps were refused in any other way.
+    pub(crate) refused: u64,
     /// The greatest number that was spoken of.
     pub(crate) spoken: u64,
     /// How many outs the radio was given of those that it is to be given, each in its place and to the byte; and how
@@ -83,6 +85,7 @@ const NOTHING: Seen = Seen {
     calls: 0,
     faults: 0,
     failed: 0,
+    refused: 0,
     spoken: 0,
     outs: 0,
     others: 0,
@@ -101,11 +104,20 @@ fn see(seen: &mut Seen, session: Session, told: &Told) {
     match told {
         Told::Called(Ok(())) => seen.calls = seen.calls.saturating_add(1),
         Told::Called(Err(StoreFault::Device)) => seen.faults = seen.faults.saturating_add(1),
-        Told::Called(Err(_)) => seen.failed = seen.failed.saturating_add(1),
+        Told::Called(Err(StoreFault::Failed)) => seen.failed = seen.failed.saturating_add(1),
         Told::Applied(out, Ok(())) => see_out(seen, session, out),
         Told::Handed(outs) => seen.others = seen.others.saturating_add(outs.len()),
         Told::Answered(answer) => seen.spoken = seen.spoken.max(answer.number()),
-        _ => {}
+        Told::Called(Err(_))
+        | Told::Loaded(Err(_))
+        | Told::Published(Err(_))
+        | Told::Applied(_, Err(_))
+        | Told::NoMemory => seen.refused = seen.refused.saturating_add(1),
+        Told::Accepted(_)
+        | Told::Loaded(Ok(()))
+        | Told::Published(Ok(()))
+        | Told::Queued(_)
+        | Told::Nothing => {}
     }
 }
 

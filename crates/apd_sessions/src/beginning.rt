@@ -1,5 +1,5 @@
 //! How a session begins: a device, its configurations, and the world of its store.
-use crate::ending::say_left;
+use crate::ending::{say_left, say_slots};
 use crate::images::{blank_disk, disk_with_stations, old_disk};
 use crate::saying::{say, say_again, say_refusal};
 use crate::world::{Memory, is_short};
@@ -13,8 +13,8 @@ use apd_world::{WorldFault, restart, slots_for};
 use std::alloc::{AllocError, Global};
 use std::io::{self, Write};
 
-/// What hands a device back.
-type Refused = (MemDisk, WorldFault);
+/// What a restart that is refused hands back, and why it is.
+type Refused = (MemDisk, Vec<Slot<Sim>>, WorldFault);
 
 fn format_disk(alloc: Global, disk: MemDisk) -> Result<MemDisk, (MemDisk, StoreFault)> {
     Ok(format(alloc, disk)?.into_device())
@@ -103,30 +103,43 @@ fn restart_world(
     confs: Confs,
     slots: Vec<Slot<Sim>>,
 ) -> Result<Memory, Refused> {
-    match restart(alloc, disk, confs, slots, Moment(0)) {
-        Ok(world) => Ok(world),
-        Err((disk, _slots, fault)) => Err((disk, fault)),
-    }
+    restart(alloc, disk, confs, slots, Moment(0))
 }
 
-/// Once, with slots and configurations of its own.
+/// Once, with these slots, and with configurations of its own, which no refusal hands back.
 fn try_once(
     rt: &impl Print,
     alloc: Global,
     disk: MemDisk,
     confs: &Confs,
+    slots: Vec<Slot<Sim>>,
 ) -> io::Result<Result<Memory, Refused>> {
-    let slots = slots(rt, alloc, confs)?;
     let copy = copy_confs(rt, alloc, confs)?;
     Ok(restart_world(alloc, disk, copy, slots))
 }
 
+/// A restart that lacked memory is made once more, with the device and the slots that came back. What these slots have
+/// is said.
+fn try_again(
+    rt: &impl Print,
+    alloc: Global,
+    confs: &Confs,
+    refused: Refused,
+) -> io::Result<Result<Memory, Refused>> {
+    let (disk, slots, fault) = refused;
+    if !is_short(fault) {
+        return Ok(Err((disk, slots, fault)));
+    }
+    say_again(rt, "restart")?;
+    say_slots(rt, &slots)?;
+    try_once(rt, alloc, disk, confs, slots)
+}
+
 /// Says why a restart is refused, and what its device shows.
-fn say_refused(rt: &impl Print, alloc: Global, refused: Refused) -> io::Result<Option<Memory>> {
-    let (disk, fault) = refused;
+fn say_refused(rt: &impl Print, alloc: Global, refused: Refused) -> io::Result<()> {
+    let (disk, _slots, fault) = refused;
     writeln!(io::writer(rt), "{fault}")?;
-    say_left(rt, alloc, disk)?;
-    Ok(None)
+    say_left(rt, alloc, disk)
 }
 
 /// The world of the store that a device holds; none where it is refused, as where a call of it failed, and the session
@@ -137,14 +150,16 @@ pub fn begin(
     disk: MemDisk,
     confs: &Confs,
 ) -> io::Result<Option<Memory>> {
-    let disk = match try_once(rt, alloc, disk, confs)? {
-        Ok(world) => return Ok(Some(world)),
-        Err((disk, fault)) if is_short(fault) => disk,
-        Err(refused) => return say_refused(rt, alloc, refused),
+    let slots = slots(rt, alloc, confs)?;
+    let begun = match try_once(rt, alloc, disk, confs, slots)? {
+        Err(refused) => try_again(rt, alloc, confs, refused)?,
+        begun => begun,
     };
-    say_again(rt, "restart")?;
-    match try_once(rt, alloc, disk, confs)? {
+    match begun {
         Ok(world) => Ok(Some(world)),
-        Err(refused) => say_refused(rt, alloc, refused),
+        Err(refused) => {
+            say_refused(rt, alloc, refused)?;
+            Ok(None)
+        }
     }
 }

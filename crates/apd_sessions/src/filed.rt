@@ -1,5 +1,6 @@
 //! What is read of files, and what is printed of a store by a check.
 use crate::beginning::store_with_stations;
+use crate::ending::say_calls;
 use crate::saying::{say, say_again};
 use apd_conf::{ConfigurationFault, Confs};
 use apd_disk::MemDisk;
@@ -43,9 +44,9 @@ pub fn files<R: Print + Files<File = File> + AllocGlobal>(rt: &R) -> io::Result<
     Ok(())
 }
 
-/// What a check prints of a device; nothing where it is refused.
-fn check_disk(alloc: Global, disk: MemDisk, text: &mut Vec<u8>) -> Option<CheckFault> {
-    run_check(alloc, disk, text).err()
+/// The call, without a clause: what a check prints of a device, which comes back but where it is refused.
+fn check_disk(alloc: Global, disk: MemDisk, text: &mut Vec<u8>) -> Result<MemDisk, CheckFault> {
+    run_check(alloc, disk, text)
 }
 
 /// Whether a check is refused for want of memory: to read the device, for the text, or where that is put.
@@ -62,9 +63,9 @@ fn check_again(
     alloc: Global,
     fault: CheckFault,
     text: &mut Vec<u8>,
-) -> io::Result<Option<CheckFault>> {
+) -> io::Result<Result<MemDisk, CheckFault>> {
     if !lacks_memory(fault) {
-        return Ok(Some(fault));
+        return Ok(Err(fault));
     }
     say_again(rt, "check")?;
     if !text.is_empty() {
@@ -74,16 +75,19 @@ fn check_again(
     Ok(check_disk(alloc, disk, text))
 }
 
-/// Checks a store with stations of two radios.
+/// Checks a store with stations of two radios, and says which calls that takes of its device.
 pub fn check(rt: &impl Print, alloc: Global) -> io::Result<()> {
     let mut text = Vec::new(alloc);
     let disk = store_with_stations(rt, alloc)?;
-    let fault = match check_disk(alloc, disk, &mut text) {
-        None => None,
-        Some(fault) => check_again(rt, alloc, fault, &mut text)?,
+    let checked = match check_disk(alloc, disk, &mut text) {
+        Err(fault) => check_again(rt, alloc, fault, &mut text)?,
+        checked => checked,
     };
-    match fault {
-        None => io::writer(rt).write_all(text.as_slice()),
-        Some(fault) => writeln!(io::writer(rt), "{fault}"),
+    match checked {
+        Ok(disk) => {
+            io::writer(rt).write_all(text.as_slice())?;
+            say_calls(rt, disk.calls())
+        }
+        Err(fault) => writeln!(io::writer(rt), "{fault}"),
     }
 }

@@ -64,8 +64,8 @@ fn say_write(rt: &impl Print, device: &MemDisk) -> io::Result<()> {
     Ok(())
 }
 
-/// Copies a store of version 1, and says which calls that takes of it, and by which the new store is made. What it
-/// holds is then said, also where a call of a device failed.
+/// Copies a store of version 1, and says which calls that takes of it. What the new device shows is then said, and the
+/// calls that it has served, also where a call of a device failed.
 pub fn upgrade(rt: &impl Print, alloc: Global) -> io::Result<()> {
     let old = old_store(rt, alloc)?;
     let new = blank_device(rt, alloc)?;
@@ -78,8 +78,7 @@ pub fn upgrade(rt: &impl Print, alloc: Global) -> io::Result<()> {
         writeln!(io::writer(rt), "{fault}")?;
     } else {
         io::writer(rt).write_all(text.as_slice())?;
-        say_calls(rt, old.calls(), 2)?;
-        say_calls(rt, new.calls(), 5)?;
+        say_calls(rt, old.calls())?;
     }
     say_left(rt, alloc, new)
 }

@@ -4,6 +4,7 @@ use crate::saying::{say_again, say_refusal, say_table};
 use crate::sum::sum_of;
 use apd_core::PublishFault;
 use apd_disk::MemDisk;
+use apd_mlme::Recipient;
 use apd_radio::Sim;
 use apd_slot::SlotFault;
 use apd_store::StoreFault;
@@ -18,6 +19,9 @@ pub type Memory = World<MemDisk, Sim>;
 pub struct Calls {
     pub failed: bool,
 }
+
+/// What a start answers: what its last steps told, each with its recipient; or why it is refused.
+type Started = Result<Vec<(Recipient, Told)>, WorldFault>;
 
 /// What can be seen of a world without memory: its table, and which slots are up.
 type Look = (usize, usize, u64, bool, bool);
@@ -130,22 +134,33 @@ pub fn is_short(fault: WorldFault) -> bool {
     )
 }
 
-/// Why a start is refused; none where it is not.
-fn refusal(world: &mut Memory) -> Option<WorldFault> {
-    world.start().err()
+/// The world's own call, without a clause.
+fn start_world(world: &mut Memory) -> Started {
+    world.start()
 }
 
-/// Starts each interface by one call, made once more where it lacked memory. What was settled before it was refused
-/// stands, so that what can be seen may have changed by then.
-pub fn start(rt: &impl Print, world: &mut Memory, calls: &mut Calls) -> io::Result<()> {
-    let mut fault = refusal(world);
-    if fault.is_some_and(is_short) {
-        say_again(rt, "start")?;
-        fault = refusal(world);
+/// What a start answers, made once more where it lacked memory. What was settled before it was refused stands, so that
+/// what can be seen may have changed by then.
+fn start_or_retry(rt: &impl Print, world: &mut Memory) -> io::Result<Started> {
+    match start_world(world) {
+        Err(fault) if is_short(fault) => {
+            say_again(rt, "start")?;
+            Ok(start_world(world))
+        }
+        started => Ok(started),
     }
-    match fault {
-        None => say_table(rt, world.table()),
-        Some(fault) => {
+}
+
+/// Starts each interface by one call, and prints what that told, each with its recipient.
+pub fn start(rt: &impl Print, world: &mut Memory, calls: &mut Calls) -> io::Result<()> {
+    match start_or_retry(rt, world)? {
+        Ok(answers) => {
+            for (to, told) in &answers {
+                writeln!(io::writer(rt), "{to:?}: {told:?}")?;
+            }
+            say_table(rt, world.table())
+        }
+        Err(fault) => {
             calls.failed = true;
             writeln!(io::writer(rt), "{fault}")
         }
