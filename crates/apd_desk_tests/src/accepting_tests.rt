@@ -1,18 +1,19 @@
 // Requests are accepted while a sync is under way.
 ghost use Rattle.std.specs.Prelude.{◌≡◌};
 
-use crate::common::{Still, blank_disk, flusher, share, started_core};
+use crate::common::{Host, Still, blank_disk, commit, flusher, share, started_core};
+use crate::expect::expect;
 use crate::hold::{HoldDisk, Turnstile};
 use crate::operator::{Operator, are};
-use apd_desk::{Seat, Shared, control_worker, flush_worker};
-use apd_disk::{Disk, MemDisk};
+use apd_desk::{Seat, Shared, control_worker};
+use apd_disk::MemDisk;
 use apd_flusher::Flusher;
 use std::alloc::Global;
 use std::marker::Brand;
 use std::net::Net;
 use std::sync::Wait;
 use std::sync::ledger::{Blank, Ledger};
-use std::thread::{Threads, join};
+use std::thread::join;
 use std::time::Clock;
 
 const ORDERS: &[&[u8]] = &[
@@ -36,69 +37,68 @@ fn serve<L: Ledger, W: Wait + Clock + Net>(
 }
 
 // Commits and serves at once. Whether both orders are replied to.
-fn commit_and_serve<
-    L: Ledger + Send + Sync,
-    R: Threads + Wait + Clock + Net + Sync,
-    D: Disk + Send,
->(rt: &R, alloc: Global, shared: &Shared<L>, flusher: Flusher<D>, turnstile: &Turnstile) -> bool
-where
-    D: Drop,
-    R::Stream: Send + Sync,
-    R::Listener: Send + Sync,
-{
-    let Some(seat) = shared.seat(rt) else {
-        return false;
-    };
-    let (_flusher, replied) = join(
+fn commit_and_serve<L: Ledger + Send + Sync, W: Host>(
+    rt: &W,
+    alloc: Global,
+    shared: &Shared<L>,
+    seat: Seat<L>,
+    flusher: Flusher<HoldDisk<'_, MemDisk>>,
+    turnstile: &Turnstile,
+) -> bool {
+    join(
         rt,
-        move || flush_worker(rt, shared, flusher, turnstile),
+        move || commit(rt, shared, flusher, turnstile),
         move || serve(rt, alloc, shared, seat, turnstile),
-    );
-    replied
+    )
+    .1
 }
 
 fn holding_flusher(alloc: Global, turnstile: &Turnstile) -> Option<Flusher<HoldDisk<'_, MemDisk>>> {
     flusher(alloc, HoldDisk::new(blank_disk(alloc)?, turnstile))
 }
 
-// Whether the sync was held until two orders were accepted, and both were replied to.
-fn accepts_while_held<L: Ledger + Send + Sync, R: Threads + Wait + Clock + Net + Sync>(
-    rt: &R,
+// The same, of a new seat and a new flusher.
+fn replies_meanwhile<L: Ledger + Send + Sync, W: Host>(
+    rt: &W,
+    alloc: Global,
+    shared: &Shared<L>,
+    turnstile: &Turnstile,
+) -> Option<bool> {
+    let seat = shared.seat(rt)?;
+    let flusher = holding_flusher(alloc, turnstile)?;
+    turnstile.arm();
+    Some(commit_and_serve(rt, alloc, shared, seat, flusher, turnstile))
+}
+
+// Whether the sync was held until two orders were accepted, and whether both were replied to.
+fn holds<L: Ledger + Send + Sync, W: Host>(
+    rt: &W,
+    alloc: Global,
+    shared: &Shared<L>,
+) -> (bool, Option<bool>) {
+    let turnstile = Turnstile::new();
+    let replied = replies_meanwhile(rt, alloc, shared, &turnstile);
+    (turnstile.is_through(), replied)
+}
+
+// The same, of a new shared core.
+fn accepts_while_held<L: Ledger + Send + Sync, W: Host>(
+    rt: &W,
     alloc: Global,
     blank: Blank,
-) -> bool
-where
-    R::Stream: Send + Sync,
-    R::Listener: Send + Sync,
+) -> Option<(bool, Option<bool>)>
     requires name { blank.name ≡ L.name }
     requires parts { blank.parts ≡ L.parts }
     requires all { blank.parts ≡ 65536 }
 {
-    match share::<L>(started_core(alloc), blank) {
-        Some(shared) => holds(rt, alloc, &shared),
-        None => false,
-    }
-}
-
-fn holds<L: Ledger + Send + Sync, R: Threads + Wait + Clock + Net + Sync>(
-    rt: &R,
-    alloc: Global,
-    shared: &Shared<L>,
-) -> bool
-where
-    R::Stream: Send + Sync,
-    R::Listener: Send + Sync,
-{
-    let turnstile = Turnstile::new();
-    let Some(flusher) = holding_flusher(alloc, &turnstile) else {
-        return false;
-    };
-    turnstile.arm();
-    commit_and_serve(rt, alloc, shared, flusher, &turnstile) && turnstile.is_through()
+    let shared: Shared<L> = share(started_core(alloc), blank)?;
+    let held = holds(rt, alloc, &shared);
+    drop(shared);
+    Some(held)
 }
 
 #[test]
 fn sync_while_accepting(rt: HostRuntime) {
     let held = accepts_while_held::<Brand, _>(&rt, rt.alloc(), Blank::new(65_536));
-    assert!(rt; held);
+    expect(&rt, held, Some((true, Some(true))));
 }

@@ -18,6 +18,11 @@ pub(crate) fn free_port(rt: &impl Net) -> Option<u16> {
     Some(socket.local_addr().ok()?.port())
 }
 
+/// Lets workers wait.
+pub(crate) fn rest(clock: &impl Clock) {
+    sleep(clock, Duration::from_millis(REST));
+}
+
 /// What is sent to a port, so many times at once, and how each is answered.
 #[derive(Clone, Copy)]
 pub(crate) struct Question<'a> {
@@ -52,11 +57,6 @@ impl Asker {
         Some(Asker { socket })
     }
 
-    /// Lets workers wait.
-    pub(crate) fn rest(&self, clock: &impl Clock) {
-        sleep(clock, Duration::from_millis(REST));
-    }
-
     fn is_next(&self, answer: &[u8]) -> bool {
         let mut room = [0u8; 64];
         match self.socket.recv_from(&mut room) {
@@ -67,7 +67,7 @@ impl Asker {
 
     /// Whether a question is answered, which is asked while workers wait.
     pub(crate) fn is_answered(&self, clock: &impl Clock, question: &Question<'_>) -> bool {
-        self.rest(clock);
+        rest(clock);
         let to = (Ipv4Addr::LOCALHOST, question.port);
         (0..question.times).all(|_time| self.socket.send_to(question.asked, to).is_ok())
             && (0..question.times).all(|_time| self.is_next(question.answer))

@@ -2,20 +2,20 @@
 ghost use Rattle.std.specs.Prelude.{◌≡◌};
 
 use crate::common::{
-    ASSOCIATION, FIRST, WLAN0, authentication, commit_all, enters_both, memory_flusher, settles,
-    share, started_core, submits,
+    ASSOCIATION, Host, WLAN0, authentication, commit, commit_all, enters_both, is_told,
+    memory_flusher, settles_in_memory, share, started_core, submits,
 };
+use crate::expect::expect;
 use apd_core::Core;
-use apd_ctrl::Query;
-use apd_desk::{NoGate, Seat, Shared, flush_worker};
-use apd_disk::Disk;
+use apd_desk::{NoGate, Seat, Shared};
+use apd_disk::MemDisk;
 use apd_flusher::Flusher;
 use apd_mlme::{Out, Recipient};
 use std::alloc::Global;
 use std::marker::Brand;
 use std::sync::Wait;
 use std::sync::ledger::{Blank, Ledger};
-use std::thread::{Threads, join, yield_now};
+use std::thread::{join, yield_now};
 use std::time::Clock;
 
 /// How often a seat collects at most, each time with a yield: a test that waits for an answer ends.
@@ -29,23 +29,19 @@ fn installs(outs: &[Out]) -> bool {
     outs.iter().any(|out| matches!(out, Out::Install(_, _)))
 }
 
+fn collects_one<L: Ledger, W: Wait>(rt: &W, shared: &Shared<L>, seat: &mut Seat<L>) -> bool {
+    collect(rt, shared, seat).is_some_and(|outs| installs(outs.as_slice()))
+}
+
 // Collects until a station is installed.
 fn collects_install<L: Ledger, W: Wait>(rt: &W, shared: &Shared<L>, seat: &mut Seat<L>) -> bool {
     for _look in 0..LOOKS {
-        if collect(rt, shared, seat).is_some_and(|outs| installs(outs.as_slice())) {
+        if collects_one(rt, shared, seat) {
             return true;
         }
         yield_now();
     }
     false
-}
-
-// Whether the seat is told of the associated station.
-fn is_told<L: Ledger, W: Wait>(rt: &W, shared: &Shared<L>, seat: &mut Seat<L>) -> bool {
-    match shared.ask(rt, seat, Query::First(WLAN0)) {
-        Ok(answer) => answer.text() == FIRST,
-        Err(_) => false,
-    }
 }
 
 fn submits_both<L: Ledger, W: Wait>(rt: &W, shared: &Shared<L>, seat: &mut Seat<L>) -> bool {
@@ -62,25 +58,33 @@ fn associates<L: Ledger, W: Wait>(rt: &W, shared: &Shared<L>, seat: Seat<L>) -> 
     told
 }
 
-fn commit_and_associate<L: Ledger + Send + Sync, R: Threads + Wait + Clock + Sync, D: Disk + Send>(
-    rt: &R,
+fn commit_and_associate<L: Ledger + Send + Sync, W: Host>(
+    rt: &W,
     shared: &Shared<L>,
-    flusher: Flusher<D>,
+    flusher: Flusher<MemDisk>,
     seat: Seat<L>,
-) -> bool
-where
-    D: Drop,
-{
-    let (_flusher, told) = join(
+) -> bool {
+    join(
         rt,
-        move || flush_worker(rt, shared, flusher, &NoGate),
+        move || commit(rt, shared, flusher, &NoGate),
         move || associates(rt, shared, seat),
-    );
-    told
+    )
+    .1
 }
 
-fn tells_what_was_collected<L: Ledger + Send + Sync, R: Threads + Wait + Clock + Sync>(
-    rt: &R,
+// The same, of a new seat and a new flusher.
+fn tells_new_seat<L: Ledger + Send + Sync, W: Host>(
+    rt: &W,
+    alloc: Global,
+    shared: &Shared<L>,
+) -> Option<bool> {
+    let seat = shared.seat(rt)?;
+    let flusher = memory_flusher(alloc)?;
+    Some(commit_and_associate(rt, shared, flusher, seat))
+}
+
+fn tells_what_was_collected<L: Ledger + Send + Sync, W: Host>(
+    rt: &W,
     alloc: Global,
     blank: Blank,
 ) -> Option<bool>
@@ -89,22 +93,23 @@ fn tells_what_was_collected<L: Ledger + Send + Sync, R: Threads + Wait + Clock +
     requires all { blank.parts ≡ 65536 }
 {
     let shared: Shared<L> = share(started_core(alloc), blank)?;
-    let seat = shared.seat(rt)?;
-    Some(commit_and_associate(rt, &shared, memory_flusher(alloc)?, seat))
+    let told = tells_new_seat(rt, alloc, &shared);
+    drop(shared);
+    told
 }
 
 #[test]
 fn a_seat_is_told_of_what_it_collected(rt: HostRuntime) {
     let told = tells_what_was_collected::<Brand, _>(&rt, rt.alloc(), Blank::new(65_536));
-    assert_eq!(rt; told, Some(true));
+    expect(&rt, told, Some(true));
 }
 
 fn hand(core: &mut Core) -> Option<Vec<Out>> {
     core.hand(Recipient::Radio(WLAN0)).ok()
 }
 
-fn hand_after_both<D: Disk>(core: &mut Core, flusher: &mut Flusher<D>) -> Option<Vec<Out>> {
-    if enters_both(core) && settles(core, flusher) {
+fn hand_after_both(alloc: Global, core: &mut Core) -> Option<Vec<Out>> {
+    if enters_both(core) && settles_in_memory(alloc, core) {
         hand(core)
     } else {
         None
@@ -114,23 +119,46 @@ fn hand_after_both<D: Disk>(core: &mut Core, flusher: &mut Flusher<D>) -> Option
 // What a core hands out after the two frames.
 fn outs_of_core(alloc: Global) -> Option<Vec<Out>> {
     let mut core = started_core(alloc)?;
-    let mut flusher = memory_flusher(alloc)?;
-    hand_after_both(&mut core, &mut flusher)
+    let outs = hand_after_both(alloc, &mut core);
+    drop(core);
+    outs
 }
 
-// What a seat collects after the two frames.
+fn collect_both<L: Ledger, W: Wait + Clock>(
+    rt: &W,
+    alloc: Global,
+    shared: &Shared<L>,
+    seat: &mut Seat<L>,
+) -> Option<Vec<Out>> {
+    if submits_both(rt, shared, seat) && commit_all(rt, alloc, shared) {
+        collect(rt, shared, seat)
+    } else {
+        None
+    }
+}
+
+// What a new seat collects after the two frames.
+fn outs_of_new_seat<L: Ledger, W: Wait + Clock>(
+    rt: &W,
+    alloc: Global,
+    shared: &Shared<L>,
+) -> Option<Vec<Out>> {
+    let mut seat = shared.seat(rt)?;
+    let outs = collect_both(rt, alloc, shared, &mut seat);
+    drop(seat);
+    outs
+}
+
+// The same, of a new shared core.
 fn outs_of_seat<L: Ledger, W: Wait + Clock>(rt: &W, alloc: Global, blank: Blank) -> Option<Vec<Out>>
     requires name { blank.name ≡ L.name }
     requires parts { blank.parts ≡ L.parts }
     requires all { blank.parts ≡ 65536 }
 {
     let shared: Shared<L> = share(started_core(alloc), blank)?;
-    let mut seat = shared.seat(rt)?;
-    if submits_both(rt, &shared, &mut seat) && commit_all(rt, alloc, &shared) {
-        collect(rt, &shared, &mut seat)
-    } else {
-        None
-    }
+    let outs = outs_of_new_seat(rt, alloc, &shared);
+    drop(shared);
+    outs
 }
 
 fn is_same(one: &Out, other: &Out) -> bool {
@@ -146,12 +174,11 @@ fn is_same(one: &Out, other: &Out) -> bool {
 
 // How many outs these are, if they are the same.
 fn same(one: Option<Vec<Out>>, other: Option<Vec<Out>>) -> Option<usize> {
-    let (one, other) = (one?, other?);
-    if are_same(one.as_slice(), other.as_slice()) {
-        Some(one.len())
-    } else {
-        None
-    }
+    count_same(one.as_deref()?, other.as_deref()?)
+}
+
+fn count_same(one: &[Out], other: &[Out]) -> Option<usize> {
+    are_same(one, other).then_some(one.len())
 }
 
 fn are_same(one: &[Out], other: &[Out]) -> bool {
@@ -166,5 +193,5 @@ fn are_same(one: &[Out], other: &[Out]) -> bool {
 fn what_is_collected_is_what_a_core_hands_out(rt: HostRuntime) {
     let alloc = rt.alloc();
     let collected = outs_of_seat::<Brand, _>(&rt, alloc, Blank::new(65_536));
-    assert_eq!(rt; same(collected, outs_of_core(alloc)), Some(3));
+    expect(&rt, same(collected, outs_of_core(alloc)), Some(3));
 }

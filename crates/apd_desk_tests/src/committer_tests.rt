@@ -2,9 +2,10 @@
 ghost use Rattle.std.specs.Prelude.{◌≡◌};
 
 use crate::common::{asked_core, is_told, memory_flusher, share, started_core};
+use crate::expect::expect;
 use apd_core::Core;
 use apd_desk::{NoGate, Shared, commit_all};
-use apd_disk::MemDisk;
+use apd_disk::{Disk, MemDisk};
 use apd_flusher::Committer;
 use std::alloc::Global;
 use std::marker::Brand;
@@ -14,12 +15,40 @@ use std::time::Clock;
 
 // A committer over a new store that has the batch of a core under way.
 fn busy_committer(alloc: Global, core: &mut Core) -> Option<Committer<MemDisk>> {
+    let flusher = memory_flusher(alloc)?;
     let batch = core.take().ok()?;
-    let mut committer = Committer::new(memory_flusher(alloc)?);
-    match committer.load(batch) {
-        Some(Ok(())) => Some(committer),
-        Some(Err(_)) | None => None,
-    }
+    let mut committer = Committer::new(flusher);
+    let loads = matches!(committer.load(batch), Some(Ok(())));
+    loads.then_some(committer)
+}
+
+// Commits until a stop, without the clauses of that.
+fn work<L: Ledger, W: Wait + Clock, D: Disk>(
+    rt: &W,
+    shared: &Shared<L>,
+    committer: &mut Committer<D>,
+) {
+    commit_all(rt, shared, committer, &NoGate);
+}
+
+// Whether a station is there, as a new seat is told.
+fn tells<L: Ledger, W: Wait>(rt: &W, shared: &Shared<L>) -> Option<bool> {
+    let mut seat = shared.seat(rt)?;
+    let told = is_told(rt, shared, &mut seat);
+    drop(seat);
+    Some(told)
+}
+
+// Whether a station is there once the committer has ended.
+fn tells_once_settled<L: Ledger, W: Wait + Clock>(
+    rt: &W,
+    shared: &Shared<L>,
+    mut committer: Committer<MemDisk>,
+) -> Option<bool> {
+    shared.stop(rt);
+    work(rt, shared, &mut committer);
+    drop(committer);
+    tells(rt, shared)
 }
 
 // Whether a station is there, of whose association a committer held the batch.
@@ -34,25 +63,31 @@ fn settles_held_batch<L: Ledger, W: Wait + Clock>(
 {
     let mut core = asked_core(alloc)?;
     let committer = busy_committer(alloc, &mut core)?;
-    let shared: Shared<L> = share(Some(core), blank)?;
-    shared.stop(rt);
-    settle(rt, &shared, committer)
-}
-
-fn settle<L: Ledger, W: Wait + Clock>(
-    rt: &W,
-    shared: &Shared<L>,
-    mut committer: Committer<MemDisk>,
-) -> Option<bool> {
-    commit_all(rt, shared, &mut committer, &NoGate);
-    let mut seat = shared.seat(rt)?;
-    Some(is_told(rt, shared, &mut seat))
+    let shared: Shared<L> = Shared::new(core, blank);
+    let told = tells_once_settled(rt, &shared, committer);
+    drop(shared);
+    told
 }
 
 #[test]
 fn a_batch_that_a_committer_held_is_settled(rt: HostRuntime) {
     let settled = settles_held_batch::<Brand, _>(&rt, rt.alloc(), Blank::new(65_536));
-    assert_eq!(rt; settled, Some(true));
+    expect(&rt, settled, Some(true));
+}
+
+// A committer that has the batch of another core under way.
+fn committer_of_another(alloc: Global) -> Option<Committer<MemDisk>> {
+    let mut other = started_core(alloc)?;
+    let committer = busy_committer(alloc, &mut other);
+    drop(other);
+    committer
+}
+
+fn receipt_waits<D: Disk + Drop>(committer: Committer<D>) -> bool {
+    let (flusher, batch, receipt) = committer.into_parts();
+    drop(flusher);
+    drop(batch);
+    receipt.is_some()
 }
 
 // Whether the receipt of another core's batch waits in the committer when the commits have ended.
@@ -61,24 +96,15 @@ fn waits<L: Ledger, W: Wait + Clock>(rt: &W, alloc: Global, blank: Blank) -> Opt
     requires parts { blank.parts ≡ L.parts }
     requires all { blank.parts ≡ 65536 }
 {
-    let mut other = started_core(alloc)?;
-    let committer = busy_committer(alloc, &mut other)?;
     let shared: Shared<L> = share(started_core(alloc), blank)?;
-    Some(receipt_waits(rt, &shared, committer))
-}
-
-fn receipt_waits<L: Ledger, W: Wait + Clock>(
-    rt: &W,
-    shared: &Shared<L>,
-    mut committer: Committer<MemDisk>,
-) -> bool {
-    commit_all(rt, shared, &mut committer, &NoGate);
-    let (_flusher, _batch, receipt) = committer.into_parts();
-    receipt.is_some()
+    let mut committer = committer_of_another(alloc)?;
+    work(rt, &shared, &mut committer);
+    drop(shared);
+    Some(receipt_waits(committer))
 }
 
 #[test]
 fn a_receipt_that_is_refused_waits_in_the_committer(rt: HostRuntime) {
     let waits = waits::<Brand, _>(&rt, rt.alloc(), Blank::new(65_536));
-    assert_eq!(rt; waits, Some(true));
+    expect(&rt, waits, Some(true));
 }

@@ -5,15 +5,29 @@ use apd_base::{Addr, Bssid, Moment};
 use apd_conf::{AddressList, Conf, Confs, InterfaceName};
 use apd_core::{Accepted, Core, Input};
 use apd_ctrl::Query;
-use apd_desk::{Clock, NoGate, Seat, Shared, flush_worker};
+use apd_desk::{Clock, Gate, NoGate, Seat, Shared, flush_worker, radio_worker};
 use apd_disk::{Disk, MemDisk};
 use apd_flusher::Flusher;
+use apd_radio::Radio;
+use apd_slot::Slot;
 use apd_store::format;
 use apd_table::Table;
 use std::alloc::Global;
+use std::net::Net;
 use std::sync::Wait;
 use std::sync::ledger::{Blank, Ledger};
+use std::thread::Threads;
 use std::time;
+
+/// A runtime that threads share, by which they wait, tell the time and have sockets.
+pub(crate) trait Host: Threads
+    + Wait
+    + time::Clock
+    + Net<Stream: Send + Sync, Listener: Send + Sync>
+    + Sync {}
+
+impl<T: Threads + Wait + time::Clock + Net<Stream: Send + Sync, Listener: Send + Sync> + Sync> Host
+    for T {}
 
 /// The BSSID of the built-in configuration.
 pub(crate) const WLAN0: Bssid = Bssid(Addr([2, 0, 0, 0, 0, 1]));
@@ -62,9 +76,13 @@ fn built_in(alloc: Global) -> Option<Confs> {
     Confs::new(list).ok()
 }
 
+fn core_of(alloc: Global, confs: Confs) -> Option<Core> {
+    Core::new(alloc, Table::new(alloc), confs, Moment(0)).ok()
+}
+
 /// A core of the built-in configuration, whose radio was not started.
 pub(crate) fn new_core(alloc: Global) -> Option<Core> {
-    Core::new(alloc, Table::new(alloc), built_in(alloc)?, Moment(0)).ok()
+    core_of(alloc, built_in(alloc)?)
 }
 
 /// Whether a request becomes an entry of the core.
@@ -89,11 +107,7 @@ pub(crate) fn start(alloc: Global, core: &mut Core, bssid: Bssid) -> bool {
 /// A core whose radio was started by entry 1, which is not settled.
 pub(crate) fn started_core(alloc: Global) -> Option<Core> {
     let mut core = new_core(alloc)?;
-    if start(alloc, &mut core, WLAN0) {
-        Some(core)
-    } else {
-        None
-    }
+    start(alloc, &mut core, WLAN0).then_some(core)
 }
 
 fn wlan1(alloc: Global) -> Option<Conf> {
@@ -116,12 +130,8 @@ fn starts_both(alloc: Global, core: &mut Core) -> bool {
 
 /// A core whose two radios were started, which is not settled.
 pub(crate) fn core_of_two_radios(alloc: Global) -> Option<Core> {
-    let mut core = Core::new(alloc, Table::new(alloc), two_confs(alloc)?, Moment(0)).ok()?;
-    if starts_both(alloc, &mut core) {
-        Some(core)
-    } else {
-        None
-    }
+    let mut core = core_of(alloc, two_confs(alloc)?)?;
+    starts_both(alloc, &mut core).then_some(core)
 }
 
 /// Whether a station asks for authentication and association.
@@ -133,36 +143,50 @@ pub(crate) fn enters_both(core: &mut Core) -> bool {
 /// A core at which a station associates, which is not settled.
 pub(crate) fn asked_core(alloc: Global) -> Option<Core> {
     let mut core = started_core(alloc)?;
-    if enters_both(&mut core) {
-        Some(core)
-    } else {
-        None
+    enters_both(&mut core).then_some(core)
+}
+
+// Whether a batch of what is not settled is under way.
+fn loads<D: Disk>(core: &mut Core, flusher: &mut Flusher<D>) -> bool {
+    match core.take() {
+        Ok(Some(batch)) => flusher.load(batch).is_ok(),
+        Ok(None) | Err(_) => false,
     }
 }
 
-/// Commits what is not settled, as one batch without a switch.
-pub(crate) fn settles<D: Disk>(core: &mut Core, flusher: &mut Flusher<D>) -> bool {
-    let Ok(Some(batch)) = core.take() else {
-        return false;
-    };
-    if flusher.load(batch).is_err() || (0..4).any(|_turn| flusher.turn().is_err()) {
-        return false;
-    }
+// The turns of a batch without a switch.
+fn turns<D: Disk>(flusher: &mut Flusher<D>) -> bool {
+    (0..4).all(|_turn| flusher.turn().is_ok())
+}
+
+fn publishes<D: Disk>(core: &mut Core, flusher: &mut Flusher<D>) -> bool {
     match flusher.unload() {
         Some(receipt) => core.publish(receipt).is_ok(),
         None => false,
     }
 }
 
+// Commits what is not settled, as one batch without a switch.
+fn settles<D: Disk>(core: &mut Core, flusher: &mut Flusher<D>) -> bool {
+    loads(core, flusher) && turns(flusher) && publishes(core, flusher)
+}
+
+/// The same, by a flusher over a new store.
+pub(crate) fn settles_in_memory(alloc: Global, core: &mut Core) -> bool {
+    match memory_flusher(alloc) {
+        Some(mut flusher) => settles(core, &mut flusher),
+        None => false,
+    }
+}
+
+/// Settles a core, by a flusher over a new store.
+pub(crate) fn settle(alloc: Global, mut core: Core) -> Option<Core> {
+    settles_in_memory(alloc, &mut core).then_some(core)
+}
+
 /// A core at which a station associated, which is settled and not handed out.
 pub(crate) fn associated_core(alloc: Global) -> Option<Core> {
-    let mut core = asked_core(alloc)?;
-    let mut flusher = memory_flusher(alloc)?;
-    if settles(&mut core, &mut flusher) {
-        Some(core)
-    } else {
-        None
-    }
+    settle(alloc, asked_core(alloc)?)
 }
 
 // No clause says what the disk holds: a proof would go through two million bytes.
@@ -171,10 +195,7 @@ pub(crate) fn blank_disk(alloc: Global) -> Option<MemDisk> {
 }
 
 /// A flusher over a new store.
-pub(crate) fn flusher<D: Disk>(alloc: Global, disk: D) -> Option<Flusher<D>>
-where
-    D: Drop,
-{
+pub(crate) fn flusher<D: Disk + Drop>(alloc: Global, disk: D) -> Option<Flusher<D>> {
     let store = format(alloc, disk).ok()?;
     Flusher::new(alloc, store, Table::new(alloc)).ok()
 }
@@ -212,6 +233,30 @@ pub(crate) fn is_told<L: Ledger, W: Wait>(rt: &W, shared: &Shared<L>, seat: &mut
     }
 }
 
+/// Commits until a stop, and says nothing of the flusher then: the worker's clauses are long, and no test needs them.
+pub(crate) fn commit<L: Ledger, W: Wait + time::Clock, D: Disk + Drop, G: Gate>(
+    rt: &W,
+    shared: &Shared<L>,
+    flusher: Flusher<D>,
+    gate: &G,
+) {
+    drop(flush_worker(rt, shared, flusher, gate));
+}
+
+/// Serves a radio until a stop, and says nothing of its slot then but what it is.
+pub(crate) fn serve_radio<L: Ledger, W: Wait + time::Clock + Net, R: Radio, C: Clock, G: Gate>(
+    rt: &W,
+    alloc: Global,
+    shared: &Shared<L>,
+    seat: Seat<L>,
+    slot: Slot<R>,
+    clock: &C,
+    spares: Vec<R>,
+    gate: &G,
+) -> (Seat<L>, Slot<R>) {
+    radio_worker(rt, alloc, shared, seat, slot, clock, spares, gate)
+}
+
 /// Tells all to stop, and commits what is not settled. Whether there was a flusher.
 pub(crate) fn commit_all<L: Ledger, W: Wait + time::Clock>(
     rt: &W,
@@ -221,7 +266,7 @@ pub(crate) fn commit_all<L: Ledger, W: Wait + time::Clock>(
     shared.stop(rt);
     match memory_flusher(alloc) {
         Some(flusher) => {
-            let _flusher = flush_worker(rt, shared, flusher, &NoGate);
+            commit(rt, shared, flusher, &NoGate);
             true
         }
         None => false,

@@ -2,12 +2,12 @@
 ghost use Rattle.std.specs.Prelude.{◌≡◌};
 
 use crate::common::{
-    Still, WLAN0, WLAN1, authentication, core_of_two_radios, enters, memory_flusher, new_core,
-    settles, share, started_core,
+    WLAN0, WLAN1, authentication, core_of_two_radios, enters, new_core, settle, share, started_core,
 };
-use crate::operator::{Operator, are};
+use crate::expect::expect;
+use crate::operator::{are, replies_to};
 use apd_core::{Core, Input};
-use apd_desk::{NoGate, Seat, Shared, control_worker};
+use apd_desk::Shared;
 use std::alloc::Global;
 use std::marker::Brand;
 use std::net::Net;
@@ -17,18 +17,17 @@ use std::time::Clock;
 
 const ORDER: &[u8] = b"DEAUTHENTICATE 02:00:00:00:00:aa";
 
-// Gives the commands one after another. Whether these are the replies.
+// Gives the commands one after another, at a new seat. Whether these are the replies.
 fn serve<'a, L: Ledger, W: Wait + Clock + Net>(
     rt: &'a W,
     alloc: Global,
     shared: &'a Shared<L>,
-    seat: Seat<L>,
     commands: &'a [&'a [u8]],
     texts: &[&[u8]],
-) -> bool {
-    let port = Operator::new(rt, alloc, shared, None, commands);
-    let (_seat, port) = control_worker(rt, alloc, shared, seat, port, &Still, &NoGate);
-    are(port.into_replies().as_slice(), texts)
+) -> Option<bool> {
+    let seat = shared.seat(rt)?;
+    let replies = replies_to(rt, alloc, shared, seat, commands);
+    Some(are(replies.as_slice(), texts))
 }
 
 // Whether these are the replies to these commands on a core.
@@ -45,8 +44,9 @@ fn replies<L: Ledger, W: Wait + Clock + Net>(
     requires all { blank.parts ≡ 65536 }
 {
     let shared: Shared<L> = share(core, blank)?;
-    let seat = shared.seat(rt)?;
-    Some(serve(rt, alloc, &shared, seat, commands, texts))
+    let replied = serve(rt, alloc, &shared, commands, texts);
+    drop(shared);
+    replied
 }
 
 fn failed_core(alloc: Global) -> Option<Core> {
@@ -95,7 +95,7 @@ fn each_refusal_is_replied_to(rt: HostRuntime) {
     let alloc = rt.alloc();
     let (core, blank) = (new_core(alloc), Blank::new(65_536));
     let replied = replies::<Brand, _>(&rt, alloc, core, blank, COMMANDS, REPLIES);
-    assert_eq!(rt; replied, Some(true));
+    expect(&rt, replied, Some(true));
 }
 
 const ORDERS: &[&[u8]] = &[ORDER, b"PING"];
@@ -107,7 +107,7 @@ fn an_order_fails_on_a_core_that_has_failed(rt: HostRuntime) {
     let alloc = rt.alloc();
     let (core, blank) = (failed_core(alloc), Blank::new(65_536));
     let replied = replies::<Brand, _>(&rt, alloc, core, blank, ORDERS, FAILS);
-    assert_eq!(rt; replied, Some(true));
+    expect(&rt, replied, Some(true));
 }
 
 #[test]
@@ -115,18 +115,12 @@ fn an_order_fails_on_a_full_core(rt: HostRuntime) {
     let alloc = rt.alloc();
     let (core, blank) = (full_core(alloc), Blank::new(65_536));
     let replied = replies::<Brand, _>(&rt, alloc, core, blank, ORDERS, FAILS);
-    assert_eq!(rt; replied, Some(true));
+    expect(&rt, replied, Some(true));
 }
 
 // A core of two radios, the start of which is settled.
 fn two_radios(alloc: Global) -> Option<Core> {
-    let mut core = core_of_two_radios(alloc)?;
-    let mut flusher = memory_flusher(alloc)?;
-    if settles(&mut core, &mut flusher) {
-        Some(core)
-    } else {
-        None
-    }
+    settle(alloc, core_of_two_radios(alloc)?)
 }
 
 const ASKED: &[&[u8]] = &[b"STATUS", b"IFNAME=wlan1 STATUS", b"IFNAME=wlan0 STATUS"];
@@ -158,14 +152,15 @@ fn shows_both<L: Ledger, W: Wait + Clock + Net>(rt: &W, alloc: Global, blank: Bl
     requires all { blank.parts ≡ 65536 }
 {
     let shared: Shared<L> = share(two_radios(alloc), blank)?;
-    let seat = shared.seat(rt)?;
     shared.note(rt, WLAN0, false);
     shared.note(rt, WLAN1, true);
-    Some(serve(rt, alloc, &shared, seat, ASKED, STATES))
+    let shown = serve(rt, alloc, &shared, ASKED, STATES);
+    drop(shared);
+    shown
 }
 
 #[test]
 fn a_command_is_of_the_interface_that_it_names(rt: HostRuntime) {
     let shown = shows_both::<Brand, _>(&rt, rt.alloc(), Blank::new(65_536));
-    assert_eq!(rt; shown, Some(true));
+    expect(&rt, shown, Some(true));
 }

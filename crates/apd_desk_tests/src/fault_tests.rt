@@ -1,12 +1,13 @@
 // A device that fails: the worker that commits ends by itself, requests are stopped, and every seat comes back.
 ghost use Rattle.std.specs.Prelude.{◌≡◌};
 
-use crate::common::{Still, WLAN0, authentication, blank_disk, flusher, share, started_core};
+use crate::common::{
+    Host, Still, WLAN0, authentication, blank_disk, flusher, serve_radio, share, started_core,
+};
+use crate::expect::expect;
 use apd_base::Moment;
 use apd_core::{Accepted, Input};
-use apd_desk::{
-    NoGate, Port, PortFault, Seat, Shared, control_worker, flush_worker, radio_worker, tick_worker,
-};
+use apd_desk::{NoGate, Port, PortFault, Seat, Shared, control_worker, flush_worker, tick_worker};
 use apd_disk::{Disk, FuseDisk, MemDisk};
 use apd_flusher::{Flusher, Phase};
 use apd_radio::Sim;
@@ -16,7 +17,7 @@ use std::marker::Brand;
 use std::net::Net;
 use std::sync::Wait;
 use std::sync::ledger::{Blank, Ledger};
-use std::thread::{Threads, join};
+use std::thread::join;
 use std::time::Clock;
 
 /// How many calls of the device a new store takes.
@@ -42,52 +43,46 @@ fn is_stopped<L: Ledger, W: Wait>(rt: &W, shared: &Shared<L>, seat: &mut Seat<L>
     matches!(answer, Ok(Accepted::Stopped))
 }
 
-// Commits until the device fails, asks for one entry more, and tells all to stop. Gives the seat where that entry was
-// refused.
-fn commit_to_the_fault<L: Ledger, W: Wait + Clock, D: Disk>(
+// Commits until the device fails. Whether it has failed then.
+fn commit_until_failed<L: Ledger, W: Wait + Clock, D: Disk + Drop>(
     rt: &W,
     shared: &Shared<L>,
     flusher: Flusher<D>,
-) -> Option<Seat<L>>
-where
-    D: Drop,
-{
+) -> bool {
     let flusher = flush_worker(rt, shared, flusher, &NoGate);
+    let has_failed = flusher.phase() == Phase::Failed;
+    drop(flusher);
+    has_failed
+}
+
+// Commits until the device fails, asks for one entry more, and tells all to stop. Gives the seat where that entry was
+// refused.
+fn commit_to_the_fault<L: Ledger, W: Wait + Clock, D: Disk + Drop>(
+    rt: &W,
+    shared: &Shared<L>,
+    flusher: Flusher<D>,
+) -> Option<Seat<L>> {
+    let has_failed = commit_until_failed(rt, shared, flusher);
     let seat = stopped_seat(rt, shared);
     shared.stop(rt);
-    if flusher.phase() == Phase::Failed {
-        seat
-    } else {
-        None
-    }
+    if has_failed { seat } else { None }
 }
 
 fn stopped_seat<L: Ledger, W: Wait>(rt: &W, shared: &Shared<L>) -> Option<Seat<L>> {
     let mut seat = shared.seat(rt)?;
-    if is_stopped(rt, shared, &mut seat) {
-        Some(seat)
-    } else {
-        None
-    }
+    is_stopped(rt, shared, &mut seat).then_some(seat)
 }
 
-fn serve_radio<L: Ledger, W: Wait + Clock + Net>(
+fn serve_sim<L: Ledger, W: Wait + Clock + Net>(
     rt: &W,
     alloc: Global,
     shared: &Shared<L>,
 ) -> Option<Seat<L>> {
     let seat = shared.seat(rt)?;
     let slot = Slot::new(alloc, Sim::new(alloc), WLAN0);
-    let (seat, _slot) = radio_worker(
-        rt,
-        alloc,
-        shared,
-        seat,
-        slot,
-        &Still,
-        Vec::new(alloc),
-        &NoGate,
-    );
+    let none = Vec::new(alloc);
+    let (seat, slot) = serve_radio(rt, alloc, shared, seat, slot, &Still, none, &NoGate);
+    drop(slot);
     Some(seat)
 }
 
@@ -113,15 +108,11 @@ fn list_of_both<X: Drop>(one: Option<Vec<X>>, other: Option<X>) -> Option<Vec<X>
     Some(all)
 }
 
-fn serve_both<L: Ledger + Send + Sync, R: Threads + Wait + Clock + Net + Sync>(
-    rt: &R,
+fn serve_both<L: Ledger + Send + Sync, W: Host>(
+    rt: &W,
     alloc: Global,
     shared: &Shared<L>,
-) -> Option<Vec<Seat<L>>>
-where
-    R::Stream: Send + Sync,
-    R::Listener: Send + Sync,
-{
+) -> Option<Vec<Seat<L>>> {
     let (one, other) = join(
         rt,
         move || serve_commands(rt, alloc, shared),
@@ -130,34 +121,26 @@ where
     list_of_both(list_of_both(Some(Vec::new(alloc)), one), other)
 }
 
-fn serve_all<L: Ledger + Send + Sync, R: Threads + Wait + Clock + Net + Sync>(
-    rt: &R,
+fn serve_all<L: Ledger + Send + Sync, W: Host>(
+    rt: &W,
     alloc: Global,
     shared: &Shared<L>,
-) -> Option<Vec<Seat<L>>>
-where
-    R::Stream: Send + Sync,
-    R::Listener: Send + Sync,
-{
+) -> Option<Vec<Seat<L>>> {
     let (one, others) = join(
         rt,
-        move || serve_radio(rt, alloc, shared),
+        move || serve_sim(rt, alloc, shared),
         move || serve_both(rt, alloc, shared),
     );
     list_of_both(others, one)
 }
 
 // The seats of all workers, and of one that was refused, once the device has failed.
-fn work_to_the_fault<
-    L: Ledger + Send + Sync,
-    R: Threads + Wait + Clock + Net + Sync,
-    D: Disk + Send,
->(rt: &R, alloc: Global, shared: &Shared<L>, flusher: Flusher<D>) -> Option<Vec<Seat<L>>>
-where
-    D: Drop,
-    R::Stream: Send + Sync,
-    R::Listener: Send + Sync,
-{
+fn work_to_the_fault<L: Ledger + Send + Sync, W: Host>(
+    rt: &W,
+    alloc: Global,
+    shared: &Shared<L>,
+    flusher: Flusher<FuseDisk<MemDisk>>,
+) -> Option<Vec<Seat<L>>> {
     let (one, others) = join(
         rt,
         move || commit_to_the_fault(rt, shared, flusher),
@@ -166,22 +149,29 @@ where
     list_of_both(others, one)
 }
 
+// The same of a device that fails after as many calls.
+fn fail<L: Ledger + Send + Sync, W: Host>(
+    rt: &W,
+    alloc: Global,
+    shared: &Shared<L>,
+    calls: u64,
+) -> Option<Vec<Seat<L>>> {
+    work_to_the_fault(rt, alloc, shared, failing_flusher(alloc, calls)?)
+}
+
 // How many seats come back, and how many entries there were, where the device fails after as many calls.
-fn fails<L: Ledger + Send + Sync, R: Threads + Wait + Clock + Net + Sync>(
-    rt: &R,
+fn fails<L: Ledger + Send + Sync, W: Host>(
+    rt: &W,
     alloc: Global,
     calls: u64,
     blank: Blank,
 ) -> Option<(usize, u64)>
-where
-    R::Stream: Send + Sync,
-    R::Listener: Send + Sync,
     requires name { blank.name ≡ L.name }
     requires parts { blank.parts ≡ L.parts }
     requires all { blank.parts ≡ 65536 }
 {
     let shared: Shared<L> = share(started_core(alloc), blank)?;
-    let seats = work_to_the_fault(rt, alloc, &shared, failing_flusher(alloc, calls)?)?;
+    let seats = fail(rt, alloc, &shared, calls)?;
     close_and_count(shared, seats)
 }
 
@@ -189,7 +179,8 @@ fn close_and_count<L: Ledger>(shared: Shared<L>, seats: Vec<Seat<L>>) -> Option<
     requires { L.parts ≡ 65536 }
 {
     let back = seats.len();
-    let (_core, number) = shared.close(seats).ok()?;
+    let (core, number) = shared.close(seats).ok()?;
+    drop(core);
     Some((back, number))
 }
 
@@ -204,6 +195,6 @@ fn failing_flusher(alloc: Global, calls: u64) -> Option<Flusher<FuseDisk<MemDisk
 fn a_device_that_fails(rt: HostRuntime) {
     for calls in 0..4 {
         let closed = fails::<Brand, _>(&rt, rt.alloc(), calls, Blank::new(65_536));
-        assert_eq!(rt; closed, Some((4, 0)), "after {calls}");
+        expect(&rt, (calls, closed), (calls, Some((4, 0))));
     }
 }

@@ -46,7 +46,7 @@ impl Stage {
 }
 
 /// What a frame asks for.
-#[derive(Clone, Copy, Debug)]
+#[derive(Clone, Copy)]
 pub(crate) enum Asks {
     Authentication,
     Association,
@@ -55,7 +55,7 @@ pub(crate) enum Asks {
 }
 
 /// When a frame is received.
-#[derive(Clone, Copy, Debug)]
+#[derive(Clone, Copy)]
 pub(crate) enum When {
     AtOnce,
     /// Once the radio was taken down four times: when its slot was made, and at three tries.
@@ -65,7 +65,7 @@ pub(crate) enum When {
 }
 
 /// What a frame asks for, the last byte of its station's address, and when it is received.
-#[derive(Clone, Copy, Debug)]
+#[derive(Clone, Copy)]
 pub(crate) struct Frame(pub(crate) Asks, pub(crate) u8, pub(crate) When);
 
 /// The frame by which the station that ends by 0xaa leaves, with reason 3 (9.4.1.7).

@@ -14,6 +14,8 @@ mod common;
 #[cfg(test)]
 mod control_tests;
 #[cfg(test)]
+mod expect;
+#[cfg(test)]
 mod fault_tests;
 #[cfg(test)]
 mod fed;

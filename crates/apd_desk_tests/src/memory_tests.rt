@@ -1,9 +1,10 @@
 // A commit that is refused memory. Where memory is ample nothing is refused; by hand each allocation is refused in turn.
 ghost use Rattle.std.specs.Prelude.{◌≡◌};
 
-use crate::common::{asked_core, is_told, memory_flusher, share};
+use crate::common::{asked_core, commit, is_told, memory_flusher, share};
+use crate::expect::expect;
 use apd_core::Core;
-use apd_desk::{NoGate, Shared, flush_worker};
+use apd_desk::{NoGate, Seat, Shared};
 use apd_disk::MemDisk;
 use apd_flusher::Flusher;
 use std::alloc::Global;
@@ -27,12 +28,23 @@ fn new_flusher(alloc: Global) -> Option<Flusher<MemDisk>> {
     }
 }
 
+fn is_told_at_last<L: Ledger, W: Wait>(rt: &W, shared: &Shared<L>, seat: &mut Seat<L>) -> bool {
+    is_told(rt, shared, seat) || is_told(rt, shared, seat)
+}
+
+// Whether the station is there, as a new seat is told.
+fn tells<L: Ledger, W: Wait>(rt: &W, shared: &Shared<L>) -> Option<bool> {
+    let mut seat = shared.seat(rt)?;
+    let told = is_told_at_last(rt, shared, &mut seat);
+    drop(seat);
+    Some(told)
+}
+
 // Whether the station is there after the commit.
 fn commits<L: Ledger, W: Wait + Clock>(rt: &W, alloc: Global, shared: &Shared<L>) -> Option<bool> {
-    let mut seat = shared.seat(rt)?;
     shared.stop(rt);
-    let _flusher = flush_worker(rt, shared, new_flusher(alloc)?, &NoGate);
-    Some(is_told(rt, shared, &mut seat) || is_told(rt, shared, &mut seat))
+    commit(rt, shared, new_flusher(alloc)?, &NoGate);
+    tells(rt, shared)
 }
 
 fn commits_shared<L: Ledger, W: Wait + Clock>(rt: &W, alloc: Global, blank: Blank) -> Option<bool>
@@ -41,11 +53,13 @@ fn commits_shared<L: Ledger, W: Wait + Clock>(rt: &W, alloc: Global, blank: Blan
     requires all { blank.parts ≡ 65536 }
 {
     let shared: Shared<L> = share(unsettled_core(alloc), blank)?;
-    commits(rt, alloc, &shared)
+    let committed = commits(rt, alloc, &shared);
+    drop(shared);
+    committed
 }
 
 #[test]
 fn a_commit_that_is_refused_memory_is_tried_again(rt: HostRuntime) {
     let committed = commits_shared::<Brand, _>(&rt, rt.alloc(), Blank::new(65_536));
-    assert_eq!(rt; committed, Some(true));
+    expect(&rt, committed, Some(true));
 }

@@ -1,9 +1,12 @@
 //! A control port by which a test asks.
+use crate::common::Still;
 use crate::hold::Turnstile;
-use apd_desk::{Port, PortFault, Shared};
+use apd_desk::{NoGate, Port, PortFault, Seat, Shared, control_worker};
 use std::alloc::{AllocError, Global};
+use std::net::Net;
 use std::sync::Wait;
 use std::sync::ledger::Ledger;
+use std::time::Clock;
 
 /// How often an operator is polled at most: a test that waits for a reply ends.
 const POLLS: u64 = 20_000;
@@ -87,6 +90,19 @@ impl<L: Ledger, W: Wait> Port for Operator<'_, L, W> {
         };
         self.replies.push(text).map_err(|_| PortFault::Device)
     }
+}
+
+/// Gives the commands one after another to the worker of the control port, and tells all to stop. The replies.
+pub(crate) fn replies_to<'a, L: Ledger, W: Wait + Clock + Net>(
+    rt: &'a W,
+    alloc: Global,
+    shared: &'a Shared<L>,
+    seat: Seat<L>,
+    commands: &'a [&'a [u8]],
+) -> Vec<Vec<u8>> {
+    let port = Operator::new(rt, alloc, shared, None, commands);
+    let (_seat, port) = control_worker(rt, alloc, shared, seat, port, &Still, &NoGate);
+    port.into_replies()
 }
 
 /// Whether these are the replies.

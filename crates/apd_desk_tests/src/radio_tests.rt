@@ -2,12 +2,14 @@
 ghost use Rattle.std.specs.Prelude.{◌≡◌};
 
 use crate::common::{
-    ASSOCIATION, Still, WLAN0, associated_core, authentication, memory_flusher, share, started_core,
+    ASSOCIATION, Still, WLAN0, associated_core, authentication, commit, memory_flusher,
+    serve_radio, share, started_core,
 };
+use crate::expect::expect;
 use crate::staged::{At, Log, Short, Staged};
 use apd_base::Moment;
-use apd_core::{Accepted, Input};
-use apd_desk::{Clock, Gate, NoGate, Seat, Shared, flush_worker, radio_worker};
+use apd_core::{Accepted, Core, Input};
+use apd_desk::{Clock, Gate, NoGate, Seat, Shared};
 use apd_radio::{Failing, Radio, Recording, Sim};
 use apd_slot::Slot;
 use std::alloc::Global;
@@ -30,7 +32,8 @@ fn serve<L: Ledger, W: Wait + time::Clock + Net, R: Radio, C: Clock, G: Gate>(
     let seat = shared.seat(rt)?;
     let radio = Staged::new(rt, alloc, shared, inner, frames);
     let slot = Slot::new(alloc, radio, WLAN0);
-    let (seat, _slot) = radio_worker(rt, alloc, shared, seat, slot, clock, Vec::new(alloc), gate);
+    let (seat, slot) = serve_radio(rt, alloc, shared, seat, slot, clock, Vec::new(alloc), gate);
+    drop(slot);
     Some(seat)
 }
 
@@ -48,24 +51,21 @@ fn radio_log<L: Ledger, W: Wait + time::Clock + Net>(
 {
     let shared: Shared<L> = share(associated_core(alloc), blank)?;
     let mut written = Vec::new(alloc);
-    write_log(rt, alloc, &shared, times, &mut written)?;
-    Some(written)
+    let served = writes_log(rt, alloc, &shared, times, &mut written);
+    drop(shared);
+    served.then_some(written)
 }
 
-fn write_log<L: Ledger, W: Wait + time::Clock + Net>(
+fn writes_log<L: Ledger, W: Wait + time::Clock + Net>(
     rt: &W,
     alloc: Global,
     shared: &Shared<L>,
     times: u64,
     written: &mut Vec<u8>,
-) -> Option<()> {
-    let recording = Recording::new(alloc, Sim::new(alloc), written);
-    let radio = Short {
-        inner: recording,
-        times,
-    };
-    serve(rt, alloc, shared, radio, &[], &Still, &NoGate)?;
-    Some(())
+) -> bool {
+    let inner = Recording::new(alloc, Sim::new(alloc), written);
+    let radio = Short { inner, times };
+    serve(rt, alloc, shared, radio, &[], &Still, &NoGate).is_some()
 }
 
 fn all_lines() -> &'static [u8] {
@@ -82,7 +82,7 @@ down
 fn no_out_is_lost_at_want_of_memory_or_at_a_stop(rt: HostRuntime) {
     for times in [0, 1, 260] {
         let told = radio_log::<Brand, _>(&rt, rt.alloc(), Blank::new(65_536), times);
-        assert_eq!(rt; told.as_deref(), Some(all_lines()), "{times}");
+        expect(&rt, (times, told.as_deref()), (times, Some(all_lines())));
     }
 }
 
@@ -108,7 +108,9 @@ fn departures<L: Ledger, W: Wait + time::Clock + Net>(
     requires all { blank.parts ≡ 65536 }
 {
     let shared: Shared<L> = share(started_core(alloc), blank)?;
-    departures_at(rt, alloc, &shared)
+    let gone = departures_at(rt, alloc, &shared);
+    drop(shared);
+    gone
 }
 
 fn departures_at<L: Ledger, W: Wait + time::Clock + Net>(
@@ -128,10 +130,10 @@ fn departures_at<L: Ledger, W: Wait + time::Clock + Net>(
 #[test]
 fn a_frame_is_heard_at_its_moment(rt: HostRuntime) {
     let gone = departures::<Brand, _>(&rt, rt.alloc(), Blank::new(65_536));
-    assert_eq!(rt; gone, Some([false, true]));
+    expect(&rt, gone, Some([false, true]));
 }
 
-// Whether a radio is noted as up, by the worker that served it.
+// Whether a radio that passes so many calls is noted as up, by the worker that served it.
 fn is_noted_up<L: Ledger, W: Wait + time::Clock + Net>(
     rt: &W,
     alloc: Global,
@@ -143,7 +145,16 @@ fn is_noted_up<L: Ledger, W: Wait + time::Clock + Net>(
     Some(shared.is_noted_up(rt, WLAN0))
 }
 
-// The same, where a station is to be installed or none, by a radio that passes so many calls.
+// A core at which a station is to be installed, or none.
+fn core_to_serve(alloc: Global, installs: bool) -> Option<Core> {
+    if installs {
+        associated_core(alloc)
+    } else {
+        started_core(alloc)
+    }
+}
+
+// The same of a core at which a station is to be installed, or none.
 fn is_up<L: Ledger, W: Wait + time::Clock + Net>(
     rt: &W,
     alloc: Global,
@@ -155,13 +166,10 @@ fn is_up<L: Ledger, W: Wait + time::Clock + Net>(
     requires parts { blank.parts ≡ L.parts }
     requires all { blank.parts ≡ 65536 }
 {
-    let core = if installs {
-        associated_core(alloc)
-    } else {
-        started_core(alloc)
-    };
-    let shared: Shared<L> = share(core, blank)?;
-    is_noted_up(rt, alloc, &shared, calls)
+    let shared: Shared<L> = share(core_to_serve(alloc, installs), blank)?;
+    let up = is_noted_up(rt, alloc, &shared, calls);
+    drop(shared);
+    up
 }
 
 #[test]
@@ -173,7 +181,7 @@ fn whether_a_radio_is_up_is_noted(rt: HostRuntime) {
         (true, 2, true),
     ] {
         let is_up = is_up::<Brand, _>(&rt, rt.alloc(), Blank::new(65_536), installs, calls);
-        assert_eq!(rt; is_up, Some(up), "{calls}");
+        expect(&rt, (calls, is_up), (calls, Some(up)));
     }
 }
 
@@ -188,7 +196,22 @@ fn gate_log<L: Ledger, W: Wait + time::Clock + Net>(
     requires all { blank.parts ≡ 65536 }
 {
     let shared: Shared<L> = share(started_core(alloc), blank)?;
-    log_both(rt, alloc, &shared)
+    let logged = log_both(rt, alloc, &shared);
+    drop(shared);
+    logged
+}
+
+// Whether both frames are received and committed.
+fn commits_both<L: Ledger, W: Wait + time::Clock + Net>(
+    rt: &W,
+    alloc: Global,
+    shared: &Shared<L>,
+    log: &Log,
+) -> Option<()> {
+    let frames: [&[u8]; 2] = [&authentication(0xaa), &ASSOCIATION];
+    serve(rt, alloc, shared, Sim::new(alloc), &frames, &Still, log)?;
+    commit(rt, shared, memory_flusher(alloc)?, log);
+    Some(())
 }
 
 fn log_both<L: Ledger, W: Wait + time::Clock + Net>(
@@ -197,18 +220,7 @@ fn log_both<L: Ledger, W: Wait + time::Clock + Net>(
     shared: &Shared<L>,
 ) -> Option<u64> {
     let log = Log::new();
-    let frame = authentication(0xaa);
-    let radio = Sim::new(alloc);
-    serve(
-        rt,
-        alloc,
-        shared,
-        radio,
-        &[&frame, &ASSOCIATION],
-        &Still,
-        &log,
-    )?;
-    let _flusher = flush_worker(rt, shared, memory_flusher(alloc)?, &log);
+    commits_both(rt, alloc, shared, &log)?;
     Some(log.digits())
 }
 
@@ -216,5 +228,5 @@ fn log_both<L: Ledger, W: Wait + time::Clock + Net>(
 #[test]
 fn a_gate_is_passed_at_each_entry_and_each_turn(rt: HostRuntime) {
     let logged = gate_log::<Brand, _>(&rt, rt.alloc(), Blank::new(65_536));
-    assert_eq!(rt; logged, Some(0x23_baba_baba));
+    expect(&rt, logged, Some(0x23_baba_baba));
 }

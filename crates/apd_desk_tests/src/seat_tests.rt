@@ -2,8 +2,9 @@
 ghost use Rattle.std.specs.Prelude.{◌≡◌};
 
 use crate::common::{
-    WLAN0, authentication, commit_all, new_core, share, started_core, station, submits,
+    Host, WLAN0, authentication, commit_all, new_core, share, started_core, station, submits,
 };
+use crate::expect::expect;
 use apd_core::Core;
 use apd_ctrl::Query;
 use apd_desk::{Seat, Shared};
@@ -11,8 +12,7 @@ use std::alloc::Global;
 use std::marker::Brand;
 use std::sync::Wait;
 use std::sync::ledger::{Blank, Ledger};
-use std::thread::{Threads, map_indices};
-use std::time::Clock;
+use std::thread::map_indices;
 
 /// What is told of an authenticated station behind its address.
 const AUTHENTICATED: &[u8] = b"\nflags=[AUTH]\naid=0\ncapability=0x0\nlisten_interval=0\n";
@@ -26,11 +26,7 @@ fn last(number: usize) -> Option<u8> {
 fn seat_of<L: Ledger, W: Wait>(rt: &W, shared: &Shared<L>, number: usize) -> Option<Seat<L>> {
     let last = last(number)?;
     let mut seat = shared.seat(rt)?;
-    if submits(rt, shared, &mut seat, &authentication(last)) {
-        Some(seat)
-    } else {
-        None
-    }
+    submits(rt, shared, &mut seat, &authentication(last)).then_some(seat)
 }
 
 // All of them, or none where one is missing.
@@ -42,8 +38,8 @@ fn all<X: Drop>(alloc: Global, found: Vec<Option<X>>) -> Option<Vec<X>> {
     Some(all)
 }
 
-fn eight_seats<L: Ledger + Send + Sync, R: Threads + Wait + Sync>(
-    rt: &R,
+fn eight_seats<L: Ledger + Send + Sync, W: Host>(
+    rt: &W,
     alloc: Global,
     shared: &Shared<L>,
 ) -> Option<Vec<Seat<L>>> {
@@ -55,8 +51,8 @@ fn eight_seats<L: Ledger + Send + Sync, R: Threads + Wait + Sync>(
 
 // Whether the core shows the first eight stations and not the ninth, and how many entries it accepted, once each of
 // eight threads had its seat.
-fn eight_stations<L: Ledger + Send + Sync, R: Threads + Wait + Clock + Sync>(
-    rt: &R,
+fn eight_stations<L: Ledger + Send + Sync, W: Host>(
+    rt: &W,
     alloc: Global,
     blank: Blank,
 ) -> Option<(bool, u64)>
@@ -75,7 +71,9 @@ fn close_and_show<L: Ledger>(shared: Shared<L>, seats: Vec<Seat<L>>) -> Option<(
     requires { L.parts ≡ 65536 }
 {
     let (core, number) = shared.close(seats).ok()?;
-    Some((shows_eight(&core), number))
+    let shown = shows_eight(&core);
+    drop(core);
+    Some((shown, number))
 }
 
 fn is_told(core: &Core, last: u8) -> bool {
@@ -97,19 +95,19 @@ fn shows_eight(core: &Core) -> bool {
 #[test]
 fn each_seat_its_station(rt: HostRuntime) {
     let shown = eight_stations::<Brand, _>(&rt, rt.alloc(), Blank::new(65_536));
-    assert_eq!(rt; shown, Some((true, 8)));
+    expect(&rt, shown, Some((true, 8)));
 }
 
 // How many seats are given.
-fn given_seats<L: Ledger, W: Wait>(rt: &W, alloc: Global, blank: Blank) -> u64
+fn given_seats<L: Ledger, W: Wait>(rt: &W, alloc: Global, blank: Blank) -> Option<u64>
     requires name { blank.name ≡ L.name }
     requires parts { blank.parts ≡ L.parts }
     requires all { blank.parts ≡ 65536 }
 {
-    match share::<L>(new_core(alloc), blank) {
-        Some(shared) => count_seats(rt, &shared),
-        None => 0,
-    }
+    let shared: Shared<L> = share(new_core(alloc), blank)?;
+    let given = count_seats(rt, &shared);
+    drop(shared);
+    Some(given)
 }
 
 fn count_seats<L: Ledger, W: Wait>(rt: &W, shared: &Shared<L>) -> u64 {
@@ -125,13 +123,19 @@ fn count_seats<L: Ledger, W: Wait>(rt: &W, shared: &Shared<L>) -> u64 {
 #[test]
 fn there_are_65536_seats(rt: HostRuntime) {
     let given = given_seats::<Brand, _>(&rt, rt.alloc(), Blank::new(65_536));
-    assert_eq!(rt; given, 65_536);
+    expect(&rt, given, Some(65_536));
 }
 
-fn one_seat<L: Ledger, W: Wait>(rt: &W, alloc: Global, shared: &Shared<L>) -> Option<Vec<Seat<L>>> {
+// The seat of the station 0 in a list, and that of the station 1.
+fn two_seats<L: Ledger, W: Wait>(
+    rt: &W,
+    alloc: Global,
+    shared: &Shared<L>,
+) -> Option<(Vec<Seat<L>>, Seat<L>)> {
     let mut seats = Vec::new(alloc);
     seats.push(seat_of(rt, shared, 0)?).ok()?;
-    Some(seats)
+    let late = seat_of(rt, shared, 1)?;
+    Some((seats, late))
 }
 
 // Closes with one more seat. How many entries there were.
@@ -140,7 +144,8 @@ fn close_with<L: Ledger>(shared: Shared<L>, seats: Vec<Seat<L>>, seat: Seat<L>) 
 {
     let mut seats = seats;
     seats.push(seat).ok()?;
-    let (_core, number) = shared.close(seats).ok()?;
+    let (core, number) = shared.close(seats).ok()?;
+    drop(core);
     Some(number)
 }
 
@@ -163,13 +168,12 @@ fn close_twice<L: Ledger, W: Wait>(rt: &W, alloc: Global, blank: Blank) -> Optio
     requires all { blank.parts ≡ 65536 }
 {
     let shared: Shared<L> = share(started_core(alloc), blank)?;
-    let seats = one_seat(rt, alloc, &shared)?;
-    let late = seat_of(rt, &shared, 1)?;
+    let (seats, late) = two_seats(rt, alloc, &shared)?;
     close_late(shared, seats, late)
 }
 
 #[test]
 fn a_missing_seat_hands_all_back(rt: HostRuntime) {
     let closed = close_twice::<Brand, _>(&rt, rt.alloc(), Blank::new(65_536));
-    assert_eq!(rt; closed, Some((1, 2)));
+    expect(&rt, closed, Some((1, 2)));
 }

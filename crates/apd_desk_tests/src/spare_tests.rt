@@ -1,12 +1,16 @@
 // A radio whose driver fails while stations are served, with spare radios and without, and another radio beside it.
 ghost use Rattle.std.specs.Prelude.{◌≡◌};
 
-use crate::common::{Still, WLAN0, WLAN1, core_of_two_radios, memory_flusher, share, station};
+use crate::common::{
+    Host, Still, WLAN0, WLAN1, commit, core_of_two_radios, memory_flusher, serve_radio, share,
+    station,
+};
+use crate::expect::expect;
 use crate::fed::{Asks, Fed, Frame, Stage, When};
-use crate::operator::Operator;
+use crate::operator::replies_to;
 use apd_base::{Addr, Bssid};
 use apd_ctrl::Query;
-use apd_desk::{NoGate, Seat, Shared, control_worker, flush_worker, radio_worker};
+use apd_desk::{NoGate, Seat, Shared};
 use apd_disk::MemDisk;
 use apd_flusher::Flusher;
 use apd_radio::{Failing, Sim};
@@ -16,7 +20,7 @@ use std::marker::Brand;
 use std::net::Net;
 use std::sync::Wait;
 use std::sync::ledger::{Blank, Ledger};
-use std::thread::{Threads, join, sleep};
+use std::thread::{join, sleep};
 use std::time::{Clock, Duration};
 
 /// How often a row is looked for at most, a millisecond apart: a test that waits for one ends.
@@ -138,6 +142,26 @@ fn comes<L: Ledger, W: Wait + Clock>(
     false
 }
 
+// Waits for both stations that associate last.
+fn both_associate<L: Ledger, W: Wait + Clock>(
+    rt: &W,
+    shared: &Shared<L>,
+    seat: &mut Seat<L>,
+) -> bool {
+    comes(rt, shared, seat, (WLAN0, 0xbb), b"flags=[AUTH][ASSOC]")
+        && comes(rt, shared, seat, (WLAN1, 0xdd), b"flags=[AUTH][ASSOC]")
+}
+
+// Waits for the last further station at each radio.
+fn both_authenticate<L: Ledger, W: Wait + Clock>(
+    rt: &W,
+    shared: &Shared<L>,
+    seat: &mut Seat<L>,
+) -> bool {
+    comes(rt, shared, seat, (WLAN0, 0xc2), b"flags=[AUTH]")
+        && comes(rt, shared, seat, (WLAN1, 0xe2), b"flags=[AUTH]")
+}
+
 // Waits for both stations that associate last, lets two further ones come at each radio, and waits for those. A radio
 // receives the second in a later turn than the first: at that turn's look those stations were settled, so its slot is
 // given them in that turn at the latest, and whenever a stop comes.
@@ -147,13 +171,10 @@ fn all_come<L: Ledger, W: Wait + Clock>(
     seat: &mut Seat<L>,
     stages: &Stages,
 ) -> bool {
-    let associated = comes(rt, shared, seat, (WLAN0, 0xbb), b"flags=[AUTH][ASSOC]")
-        && comes(rt, shared, seat, (WLAN1, 0xdd), b"flags=[AUTH][ASSOC]");
+    let associated = both_associate(rt, shared, seat);
     stages.first.tell();
     stages.other.tell();
-    associated
-        && comes(rt, shared, seat, (WLAN0, 0xc2), b"flags=[AUTH]")
-        && comes(rt, shared, seat, (WLAN1, 0xe2), b"flags=[AUTH]")
+    associated && both_authenticate(rt, shared, seat)
 }
 
 // Whether these are the beginnings of the replies.
@@ -173,9 +194,8 @@ fn replies<'a, L: Ledger, W: Wait + Clock + Net>(
     seat: Seat<L>,
     texts: &[&[u8]],
 ) -> bool {
-    let port = Operator::new(rt, alloc, shared, None, ASKED);
-    let (_seat, port) = control_worker(rt, alloc, shared, seat, port, &Still, &NoGate);
-    begin(port.into_replies().as_slice(), texts)
+    let replies = replies_to(rt, alloc, shared, seat, ASKED);
+    begin(replies.as_slice(), texts)
 }
 
 // Waits until all have come, asks then, and tells all to stop. Whether all came, and the replies begin so.
@@ -185,33 +205,27 @@ fn ask<L: Ledger, W: Wait + Clock + Net>(
     shared: &Shared<L>,
     stages: &Stages,
     scene: Scene,
-) -> bool {
-    let Some(mut seat) = shared.seat(rt) else {
-        return false;
-    };
+) -> Option<bool> {
+    let mut seat = shared.seat(rt)?;
     let come = all_come(rt, shared, &mut seat, stages);
-    replies(rt, alloc, shared, seat, scene.replies) && come
+    Some(replies(rt, alloc, shared, seat, scene.replies) && come)
 }
 
 // Commits, and asks.
-fn commit_and_ask<L: Ledger + Send + Sync, R: Threads + Wait + Clock + Net + Sync>(
-    rt: &R,
+fn commit_and_ask<L: Ledger + Send + Sync, W: Host>(
+    rt: &W,
     alloc: Global,
     shared: &Shared<L>,
     flusher: Flusher<MemDisk>,
     stages: &Stages,
     scene: Scene,
-) -> bool
-where
-    R::Stream: Send + Sync,
-    R::Listener: Send + Sync,
-{
-    let (_flusher, served) = join(
+) -> bool {
+    join(
         rt,
-        move || flush_worker(rt, shared, flusher, &NoGate),
+        move || commit(rt, shared, flusher, &NoGate),
         move || ask(rt, alloc, shared, stages, scene),
-    );
-    served
+    )
+    .1 == Some(true)
 }
 
 fn see(slot: &Slot<Driver<'_>>, stations: [Addr; 2]) -> Seen {
@@ -233,8 +247,11 @@ fn serve<'a, L: Ledger, W: Wait + Clock + Net>(
     stations: [Addr; 2],
 ) -> Option<Seen> {
     let seat = shared.seat(rt)?;
-    let (_seat, slot) = radio_worker(rt, alloc, shared, seat, slot, &Still, spares, &NoGate);
-    Some(see(&slot, stations))
+    let (seat, slot) = serve_radio(rt, alloc, shared, seat, slot, &Still, spares, &NoGate);
+    drop(seat);
+    let seen = see(&slot, stations);
+    drop(slot);
+    Some(seen)
 }
 
 // A radio at the BSSID that ends by this byte, which passes so many calls on, and fails then.
@@ -288,17 +305,14 @@ fn serve_other<L: Ledger, W: Wait + Clock + Net>(
     serve(rt, alloc, shared, slot, Vec::new(alloc), stations)
 }
 
-fn serve_both<L: Ledger + Send + Sync, R: Threads + Wait + Clock + Net + Sync>(
-    rt: &R,
+// What is seen of both radios.
+fn serve_both<L: Ledger + Send + Sync, W: Host>(
+    rt: &W,
     alloc: Global,
     shared: &Shared<L>,
     stages: &Stages,
     scene: Scene,
-) -> (Option<Seen>, Option<Seen>)
-where
-    R::Stream: Send + Sync,
-    R::Listener: Send + Sync,
-{
+) -> (Option<Seen>, Option<Seen>) {
     join(
         rt,
         move || serve_first(rt, alloc, shared, &stages.first, scene),
@@ -306,56 +320,70 @@ where
     )
 }
 
-fn run<L: Ledger + Send + Sync, R: Threads + Wait + Clock + Net + Sync>(
-    rt: &R,
+// Whether both are served, and what is seen of them.
+type Served = (bool, (Option<Seen>, Option<Seen>));
+
+fn serve_and_ask<L: Ledger + Send + Sync, W: Host>(
+    rt: &W,
     alloc: Global,
     shared: &Shared<L>,
     flusher: Flusher<MemDisk>,
+    stages: &Stages,
     scene: Scene,
-) -> Found
-where
-    R::Stream: Send + Sync,
-    R::Listener: Send + Sync,
-{
-    let stages = Stages {
-        first: Stage::new(),
-        other: Stage::new(),
-    };
-    let lent = &stages;
-    let (served, (first, other)) = join(
+) -> Served {
+    join(
         rt,
-        move || commit_and_ask(rt, alloc, shared, flusher, lent, scene),
-        move || serve_both(rt, alloc, shared, lent, scene),
-    );
+        move || commit_and_ask(rt, alloc, shared, flusher, stages, scene),
+        move || serve_both(rt, alloc, shared, stages, scene),
+    )
+}
+
+// What is found of how far both radios have come, beside that.
+fn gather(stages: &Stages, served: Served) -> Found {
+    let (served, (first, other)) = served;
+    let Stages {
+        first: own,
+        other: beside,
+    } = stages;
     Found {
         served,
         first,
         other,
-        downs: stages.first.downs(),
-        sent: [
-            stages.first.transmissions().min(4),
-            stages.other.transmissions().min(2),
-        ],
-        associations: [stages.first.associations(), stages.other.associations()],
+        downs: own.downs(),
+        sent: [own.transmissions().min(4), beside.transmissions().min(2)],
+        associations: [own.associations(), beside.associations()],
     }
 }
 
-fn find<L: Ledger + Send + Sync, R: Threads + Wait + Clock + Net + Sync>(
-    rt: &R,
+fn run<L: Ledger + Send + Sync, W: Host>(
+    rt: &W,
+    alloc: Global,
+    shared: &Shared<L>,
+    scene: Scene,
+) -> Option<Found> {
+    let flusher = memory_flusher(alloc)?;
+    let stages = Stages {
+        first: Stage::new(),
+        other: Stage::new(),
+    };
+    let served = serve_and_ask(rt, alloc, shared, flusher, &stages, scene);
+    Some(gather(&stages, served))
+}
+
+fn find<L: Ledger + Send + Sync, W: Host>(
+    rt: &W,
     alloc: Global,
     blank: Blank,
     scene: Scene,
 ) -> Option<Found>
-where
-    R::Stream: Send + Sync,
-    R::Listener: Send + Sync,
     requires name { blank.name ≡ L.name }
     requires parts { blank.parts ≡ L.parts }
     requires all { blank.parts ≡ 65536 }
 {
     let shared: Shared<L> = share(core_of_two_radios(alloc), blank)?;
-    let flusher = memory_flusher(alloc)?;
-    Some(run(rt, alloc, &shared, flusher, scene))
+    let found = run(rt, alloc, &shared, scene);
+    drop(shared);
+    found
 }
 
 // What is seen of the other slot, which lost nothing.
@@ -393,7 +421,7 @@ fn with_spares(spares: &'static [Spare]) -> Scene {
 fn a_spare_has_what_is_wanted(rt: HostRuntime) {
     let scene = with_spares(&[Spare(MANY, BEHIND)]);
     let found = find::<Brand, _>(&rt, rt.alloc(), Blank::new(65_536), scene);
-    assert_eq!(rt; found, Some(MENDED));
+    expect(&rt, found, Some(MENDED));
 }
 
 // The first spare fails at its first call, so the second serves. Taken down is the first too, as it is tried and as it
@@ -406,7 +434,7 @@ fn spares_are_tried_in_order(rt: HostRuntime) {
         downs: 3 + 2,
         ..MENDED
     };
-    assert_eq!(rt; found, Some(wanted));
+    expect(&rt, found, Some(wanted));
 }
 
 // It is tried three times. Then its frames are entries still, of one station that leaves and one that comes, but the
@@ -432,5 +460,5 @@ fn a_slot_without_a_spare_stays_down_after_three_tries(rt: HostRuntime) {
         sent: [1, 2],
         associations: [0, 1],
     };
-    assert_eq!(rt; found, Some(wanted));
+    expect(&rt, found, Some(wanted));
 }

@@ -2,6 +2,7 @@
 ghost use Rattle.std.specs.Prelude.{◌≡◌};
 
 use crate::common::{WLAN0, authentication, share, started_core};
+use crate::expect::expect;
 use crate::staged::StagedClock;
 use apd_base::Moment;
 use apd_core::{Accepted, Core, Input};
@@ -22,11 +23,7 @@ fn hears(core: &mut Core, last: u8) -> bool {
 // A core that two stations told something at 100 s, and nothing since.
 fn silent_core(alloc: Global) -> Option<Core> {
     let mut core = started_core(alloc)?;
-    if hears(&mut core, 0xaa) && hears(&mut core, 0xbb) {
-        Some(core)
-    } else {
-        None
-    }
+    (hears(&mut core, 0xaa) && hears(&mut core, 0xbb)).then_some(core)
 }
 
 // How many ticks become entries at these moments, the first of which is that of the worker's begin.
@@ -41,7 +38,9 @@ fn ticks<L: Ledger, W: Wait + time::Clock>(
     requires all { blank.parts ≡ 65536 }
 {
     let shared: Shared<L> = share(silent_core(alloc), blank)?;
-    count(rt, &shared, moments)
+    let ticks = count(rt, &shared, moments);
+    drop(shared);
+    ticks
 }
 
 fn count<L: Ledger, W: Wait + time::Clock>(
@@ -49,8 +48,9 @@ fn count<L: Ledger, W: Wait + time::Clock>(
     shared: &Shared<L>,
     moments: &[u64],
 ) -> Option<u64> {
+    let seat = shared.seat(rt)?;
     let clock = StagedClock::new(rt, shared, moments);
-    let seat = tick_worker(rt, shared, shared.seat(rt)?, &clock, &NoGate);
+    let seat = tick_worker(rt, shared, seat, &clock, &NoGate);
     Some(seat.count())
 }
 
@@ -62,6 +62,6 @@ fn two_silent_stations_go_a_second_apart(rt: HostRuntime) {
         (&[399_000, 400_000, 400_500, 400_999, 401_000], 2),
     ] {
         let ticks = ticks::<Brand, _>(&rt, rt.alloc(), Blank::new(65_536), moments);
-        assert_eq!(rt; ticks, Some(gone));
+        expect(&rt, ticks, Some(gone));
     }
 }

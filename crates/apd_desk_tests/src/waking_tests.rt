@@ -2,15 +2,15 @@
 // comes in time; where a stop wakes nobody, the test has no end.
 ghost use Rattle.std.specs.Prelude.{◌≡◌};
 
-use crate::asking::{Asker, Commands, Question, free_port};
+use crate::asking::{Asker, Commands, Question, free_port, rest};
 use crate::common::{
-    Still, WLAN0, asked_core, authentication, memory_flusher, share, started_core,
+    Host, Still, WLAN0, asked_core, authentication, commit, memory_flusher, serve_radio,
+    started_core,
 };
+use crate::expect::expect;
 use crate::staged::Short;
 use apd_core::Core;
-use apd_desk::{
-    Gate, NoGate, Place, Shared, control_worker, flush_worker, radio_worker, tick_worker,
-};
+use apd_desk::{Gate, NoGate, Place, Shared, control_worker, tick_worker};
 use apd_disk::MemDisk;
 use apd_flusher::Flusher;
 use apd_radio::{Datagrams, Failing, Radio, UdpSim};
@@ -56,7 +56,7 @@ struct Crew<R: Radio> {
     port: Commands,
 }
 
-fn serve_radio<L: Ledger, W: Wait + Clock + Net, R: Radio>(
+fn serve_slot<L: Ledger, W: Wait + Clock + Net, R: Radio>(
     rt: &W,
     alloc: Global,
     shared: &Shared<L>,
@@ -65,7 +65,7 @@ fn serve_radio<L: Ledger, W: Wait + Clock + Net, R: Radio>(
 ) {
     if let Some(seat) = shared.seat(rt) {
         let slot = Slot::new(alloc, radio, WLAN0);
-        let _parts = radio_worker(rt, alloc, shared, seat, slot, &Still, spares, &NoGate);
+        drop(serve_radio(rt, alloc, shared, seat, slot, &Still, spares, &NoGate));
     }
 }
 
@@ -76,161 +76,134 @@ fn serve_port<L: Ledger, W: Wait + Clock + Net>(
     port: Commands,
 ) {
     if let Some(seat) = shared.seat(rt) {
-        let _parts = control_worker(rt, alloc, shared, seat, port, &Still, &NoGate);
+        drop(control_worker(rt, alloc, shared, seat, port, &Still, &NoGate));
     }
 }
 
 fn serve_ticks<L: Ledger, W: Wait + Clock>(rt: &W, shared: &Shared<L>) {
     if let Some(seat) = shared.seat(rt) {
-        let _seat = tick_worker(rt, shared, seat, &Still, &NoGate);
+        drop(tick_worker(rt, shared, seat, &Still, &NoGate));
+    }
+}
+
+// Whether each question is answered, which a new asker asks.
+fn are_all_answered(rt: &(impl Clock + Net), questions: &[Question<'_>]) -> bool {
+    match Asker::new(rt) {
+        Some(asker) => questions
+            .iter()
+            .all(|question| asker.is_answered(rt, question)),
+        None => false,
     }
 }
 
 // Asks each question while all workers wait, and tells them to stop while they wait. Whether each was answered.
-fn ask<L: Ledger, W: Wait + Clock>(
+fn ask<L: Ledger, W: Wait + Clock + Net>(
     rt: &W,
     shared: &Shared<L>,
-    asker: &Asker,
     questions: &[Question<'_>],
 ) -> bool {
-    let answered = questions
-        .iter()
-        .all(|question| asker.is_answered(rt, question));
-    asker.rest(rt);
+    let answered = are_all_answered(rt, questions);
+    rest(rt);
     shared.stop(rt);
     answered
 }
 
-fn tick_and_ask<L: Ledger + Send + Sync, W: Threads + Wait + Clock + Sync>(
-    rt: &W,
-    shared: &Shared<L>,
-    asker: &Asker,
-    questions: &[Question<'_>],
-) -> bool {
-    let (_ticked, answered) = join(
-        rt,
-        move || serve_ticks(rt, shared),
-        move || ask(rt, shared, asker, questions),
-    );
-    answered
-}
-
-fn serve_port_and_ask<L: Ledger + Send + Sync, W: Threads + Wait + Clock + Net + Sync>(
-    rt: &W,
-    alloc: Global,
-    shared: &Shared<L>,
-    port: Commands,
-    asker: &Asker,
-    questions: &[Question<'_>],
-) -> bool
-where
-    W::Stream: Send + Sync,
-    W::Listener: Send + Sync,
+// Works in a thread of its own while the others are asked. Whether they answer.
+fn beside<W: Threads, F: FnOnce() + Send, G: FnOnce() -> bool>(rt: &W, work: F, ask: G) -> bool
+    requires { F.pre work × G.pre ask }
 {
-    let (_served, answered) = join(
-        rt,
-        move || serve_port(rt, alloc, shared, port),
-        move || tick_and_ask(rt, shared, asker, questions),
-    );
-    answered
-}
-
-fn commit_and_ask<L: Ledger + Send + Sync, W: Threads + Wait + Clock + Net + Sync>(
-    rt: &W,
-    alloc: Global,
-    shared: &Shared<L>,
-    flusher: Flusher<MemDisk>,
-    port: Commands,
-    asker: &Asker,
-    questions: &[Question<'_>],
-) -> bool
-where
-    W::Stream: Send + Sync,
-    W::Listener: Send + Sync,
-{
-    let (_flusher, answered) = join(
-        rt,
-        move || flush_worker(rt, shared, flusher, &Slow(rt)),
-        move || serve_port_and_ask(rt, alloc, shared, port, asker, questions),
-    );
-    answered
+    join(rt, work, ask).1
 }
 
 // Whether each question is answered by workers in threads of their own, which then end.
-fn is_answered<L: Ledger + Send + Sync, W: Threads + Wait + Clock + Net + Sync, R: Radio + Send>(
+fn is_answered<L: Ledger + Send + Sync, W: Host, R: Radio + Send>(
     rt: &W,
     alloc: Global,
     shared: &Shared<L>,
     crew: Crew<R>,
-    asker: &Asker,
     questions: &[Question<'_>],
-) -> bool
-where
-    W::Stream: Send + Sync,
-    W::Listener: Send + Sync,
-{
+) -> bool {
     let Crew {
         flusher,
         radio,
         spares,
         port,
     } = crew;
-    let (_served, answered) = join(
+    let tick_and_ask = move || {
+        let ticks = move || serve_ticks(rt, shared);
+        beside(rt, ticks, move || ask(rt, shared, questions))
+    };
+    let serve_and_ask = move || beside(
         rt,
-        move || serve_radio(rt, alloc, shared, radio, spares),
-        move || commit_and_ask(rt, alloc, shared, flusher, port, asker, questions),
+        move || serve_port(rt, alloc, shared, port),
+        tick_and_ask,
     );
+    let commit_and_ask = move || beside(
+        rt,
+        move || commit(rt, shared, flusher, &Slow(rt)),
+        serve_and_ask,
+    );
+    beside(
+        rt,
+        move || serve_slot(rt, alloc, shared, radio, spares),
+        commit_and_ask,
+    )
+}
+
+// A crew of these, where none is missing.
+fn crew_of<R: Radio>(
+    flusher: Option<Flusher<MemDisk>>,
+    radio: Option<R>,
+    spares: Option<Vec<R>>,
+    port: Option<Commands>,
+) -> Option<Crew<R>> {
+    match flusher.zip(radio).zip(spares.zip(port)) {
+        Some(((flusher, radio), (spares, port))) => Some(Crew {
+            flusher,
+            radio,
+            spares,
+            port,
+        }),
+        None => None,
+    }
+}
+
+fn commands_at(rt: &impl Net, alloc: Global, port: u16) -> Option<Commands> {
+    Some(Commands::new(Datagrams::bind(rt, alloc, port).ok()?))
+}
+
+// The same, of a new shared core.
+fn are_answered<L: Ledger + Send + Sync, W: Host, R: Radio + Send>(
+    rt: &W,
+    alloc: Global,
+    blank: Blank,
+    core: Core,
+    crew: Crew<R>,
+    questions: &[Question<'_>],
+) -> bool
+    requires name { blank.name ≡ L.name }
+    requires parts { blank.parts ≡ L.parts }
+    requires all { blank.parts ≡ 65536 }
+{
+    let shared: Shared<L> = Shared::new(core, blank);
+    let answered = is_answered(rt, alloc, &shared, crew, questions);
+    drop(shared);
     answered
 }
 
 fn crew_with<R: Radio>(
     rt: &impl Net,
     alloc: Global,
-    radio: R,
-    spares: Vec<R>,
+    radio: Option<R>,
     port: u16,
 ) -> Option<Crew<R>> {
-    Some(Crew {
-        flusher: memory_flusher(alloc)?,
-        radio,
-        spares,
-        port: Commands::new(Datagrams::bind(rt, alloc, port).ok()?),
-    })
-}
-
-// The same, of a new shared core.
-fn are_answered<L: Ledger + Send + Sync, W: Threads + Wait + Clock + Net + Sync, R: Radio + Send>(
-    rt: &W,
-    alloc: Global,
-    blank: Blank,
-    core: Option<Core>,
-    crew: Option<Crew<R>>,
-    questions: &[Question<'_>],
-) -> Option<bool>
-where
-    W::Stream: Send + Sync,
-    W::Listener: Send + Sync,
-    requires name { blank.name ≡ L.name }
-    requires parts { blank.parts ≡ L.parts }
-    requires all { blank.parts ≡ 65536 }
-{
-    let shared: Shared<L> = share(core, blank)?;
-    let asker = Asker::new(rt)?;
-    Some(is_answered(rt, alloc, &shared, crew?, &asker, questions))
+    let port = commands_at(rt, alloc, port);
+    crew_of(memory_flusher(alloc), radio, Some(Vec::new(alloc)), port)
 }
 
 // How frames, and more of them than a turn takes, a command and an order are answered.
-fn answers_of_each_kind<R: Threads + Wait + Clock + Net + Sync>(
-    rt: &R,
-    alloc: Global,
-) -> Option<bool>
-where
-    R::Stream: Send + Sync,
-    R::Listener: Send + Sync,
-{
+fn answers_of_each_kind<W: Host>(rt: &W, alloc: Global) -> Option<bool> {
     let (radio_port, port) = (free_port(rt)?, free_port(rt)?);
-    let radio = UdpSim::new(rt, alloc, radio_port).ok()?;
-    let crew = crew_with(rt, alloc, radio, Vec::new(alloc), port);
     let frame = authentication(0xaa);
     let questions = [
         Question::new(radio_port, &frame, &AUTHENTICATED, 1),
@@ -239,72 +212,75 @@ where
         Question::new(radio_port, &frame, &AUTHENTICATED, 150),
         Question::new(port, b"PING", b"PONG\n", 150),
     ];
-    let core = started_core(alloc);
-    are_answered::<Brand, _, _>(rt, alloc, Blank::new(65_536), core, crew, &questions)
+    let core = started_core(alloc)?;
+    let crew = crew_with(rt, alloc, UdpSim::new(rt, alloc, radio_port).ok(), port)?;
+    let blank = Blank::new(65_536);
+    Some(are_answered::<Brand, _, _>(rt, alloc, blank, core, crew, &questions))
 }
 
 #[test]
 fn workers_that_wait_are_woken(rt: HostRuntime) {
-    assert_eq!(rt; answers_of_each_kind(&rt, rt.alloc()), Some(true));
+    expect(&rt, answers_of_each_kind(&rt, rt.alloc()), Some(true));
+}
+
+// A radio at this port, which passes so many calls on, and fails then.
+fn failing_radio(rt: &impl Net, alloc: Global, port: u16, calls: u64) -> Option<Failing<UdpSim>> {
+    Some(Failing::new(UdpSim::new(rt, alloc, port).ok()?, calls))
+}
+
+// One that passes a hundred on.
+fn one_spare(rt: &impl Net, alloc: Global, port: u16) -> Option<Vec<Failing<UdpSim>>> {
+    let mut spares = Vec::new(alloc);
+    spares.push(failing_radio(rt, alloc, port, 100)?).ok()?;
+    Some(spares)
+}
+
+// A radio that fails as a station is installed, and another one that takes its place.
+fn crew_with_spare(rt: &impl Net, alloc: Global, ports: [u16; 3]) -> Option<Crew<Failing<UdpSim>>> {
+    let [first, last, port] = ports;
+    crew_of(
+        memory_flusher(alloc),
+        failing_radio(rt, alloc, first, 0),
+        one_spare(rt, alloc, last),
+        commands_at(rt, alloc, port),
+    )
 }
 
 // How frames at another radio are answered, which takes the place of one that fails as a station is installed. At the
 // second one its worker waits there.
-fn answers_at_a_spare<R: Threads + Wait + Clock + Net + Sync>(rt: &R, alloc: Global) -> Option<bool>
-where
-    R::Stream: Send + Sync,
-    R::Listener: Send + Sync,
-{
+fn answers_at_a_spare<W: Host>(rt: &W, alloc: Global) -> Option<bool> {
     let (first, last, port) = (free_port(rt)?, free_port(rt)?, free_port(rt)?);
-    let radio = Failing::new(UdpSim::new(rt, alloc, first).ok()?, 0);
-    let mut spares = Vec::new(alloc);
-    spares
-        .push(Failing::new(UdpSim::new(rt, alloc, last).ok()?, 100))
-        .ok()?;
-    let crew = crew_with(rt, alloc, radio, spares, port);
     let frame = authentication(0xbb);
-    let question = Question::new(last, &frame, &OTHER_AUTHENTICATED, 1);
-    let core = asked_core(alloc);
-    are_answered::<Brand, _, _>(
-        rt,
-        alloc,
-        Blank::new(65_536),
-        core,
-        crew,
-        &[question, question],
-    )
+    let questions = [Question::new(last, &frame, &OTHER_AUTHENTICATED, 1); 2];
+    let core = asked_core(alloc)?;
+    let crew = crew_with_spare(rt, alloc, [first, last, port])?;
+    let blank = Blank::new(65_536);
+    Some(are_answered::<Brand, _, _>(rt, alloc, blank, core, crew, &questions))
 }
 
 #[test]
 fn a_radio_that_took_anothers_place_is_waited_for(rt: HostRuntime) {
-    assert_eq!(rt; answers_at_a_spare(&rt, rt.alloc()), Some(true));
+    expect(&rt, answers_at_a_spare(&rt, rt.alloc()), Some(true));
 }
 
-// How a frame is answered by a radio that lacks memory for the answer, so often that its worker waits in between.
-fn answers_where_memory_lacks<R: Threads + Wait + Clock + Net + Sync>(
-    rt: &R,
-    alloc: Global,
-) -> Option<bool>
-where
-    R::Stream: Send + Sync,
-    R::Listener: Send + Sync,
-{
+// A radio at this port that lacks memory, so often that its worker waits in between.
+fn short_radio(rt: &impl Net, alloc: Global, port: u16) -> Option<Short<UdpSim>> {
+    let inner = UdpSim::new(rt, alloc, port).ok()?;
+    Some(Short { inner, times: 260 })
+}
+
+// How a frame is answered by a radio that lacks memory for the answer.
+fn answers_where_memory_lacks<W: Host>(rt: &W, alloc: Global) -> Option<bool> {
     let (radio_port, port) = (free_port(rt)?, free_port(rt)?);
-    let inner = UdpSim::new(rt, alloc, radio_port).ok()?;
-    let crew = crew_with(
-        rt,
-        alloc,
-        Short { inner, times: 260 },
-        Vec::new(alloc),
-        port,
-    );
     let frame = authentication(0xaa);
     let questions = [Question::new(radio_port, &frame, &AUTHENTICATED, 1)];
-    let core = started_core(alloc);
-    are_answered::<Brand, _, _>(rt, alloc, Blank::new(65_536), core, crew, &questions)
+    let core = started_core(alloc)?;
+    let crew = crew_with(rt, alloc, short_radio(rt, alloc, radio_port), port)?;
+    let blank = Blank::new(65_536);
+    Some(are_answered::<Brand, _, _>(rt, alloc, blank, core, crew, &questions))
 }
 
 #[test]
 fn what_lacks_memory_is_not_waited_for_at_the_socket(rt: HostRuntime) {
-    assert_eq!(rt; answers_where_memory_lacks(&rt, rt.alloc()), Some(true));
+    expect(&rt, answers_where_memory_lacks(&rt, rt.alloc()), Some(true));
 }

@@ -1,5 +1,6 @@
 //! What lies between a core and a device: whatever is refused there waits, and is not lost.
 use crate::common::{LENGTH, Seen, batch_of, blank_disk, look, policy, put};
+use crate::expect::expect;
 use apd_base::Station;
 use apd_disk::{Disk, FuseDisk, MemDisk};
 use apd_flusher::{Committer, Flusher, Phase};
@@ -142,7 +143,7 @@ fn waits(fault: StoreFault, number: u64) -> Refused {
 fn a_bad_batch_waits(rt: HostRuntime) -> Result<(), Fail> {
     let committer = new_committer(rt.alloc()).ok_or("memory")?;
     let found = refusal_of(rt.alloc(), committer, 5);
-    assert_eq!(rt; found, waits(StoreFault::BadBatch, 5));
+    expect(&rt, found, waits(StoreFault::BadBatch, 5));
     Ok(())
 }
 
@@ -179,7 +180,7 @@ fn worn_committer(alloc: Global) -> Option<Committer<MemDisk>> {
 fn a_batch_for_which_a_worn_store_has_no_room_waits(rt: HostRuntime) -> Result<(), Fail> {
     let committer = worn_committer(rt.alloc()).ok_or("memory")?;
     let found = refusal_of(rt.alloc(), committer, 5);
-    assert_eq!(rt; found, waits(StoreFault::Worn, 5));
+    expect(&rt, found, waits(StoreFault::Worn, 5));
     Ok(())
 }
 
@@ -211,7 +212,7 @@ fn committer_behind_fault(alloc: Global) -> Result<Committer<FuseDisk<MemDisk>>,
 fn a_batch_waits_where_the_device_has_failed(rt: HostRuntime) -> Result<(), Fail> {
     let committer = committer_behind_fault(rt.alloc())?;
     let found = refusal_of(rt.alloc(), committer, 2);
-    assert_eq!(rt; found, waits(StoreFault::Failed, 2));
+    expect(&rt, found, waits(StoreFault::Failed, 2));
     Ok(())
 }
 
@@ -248,16 +249,21 @@ where
 /// The same, and what the device shows.
 fn both_committed(alloc: Global) -> Result<(Both, Seen), Fail> {
     let mut committer = new_committer(alloc).ok_or("memory")?;
-    let both = commit_both(alloc, &mut committer)?;
-    Ok((both, look(alloc, device(committer))))
+    let both = commit_both(alloc, &mut committer);
+    let seen = look(alloc, device(committer));
+    Ok((both?, seen))
 }
 
 #[test]
 fn a_batch_waits_until_the_one_in_flight_is_published(rt: HostRuntime) -> Result<(), Fail> {
     let (both, seen) = both_committed(rt.alloc())?;
     let busy = Some(Err(StoreFault::NotIdle));
-    assert_eq!(rt; both, ([busy, busy, Some(Ok(()))], [Some(1), Some(2)]));
-    assert_eq!(rt; seen, Ok((Some((0, 2007)), Some(Station::Authenticated))));
+    expect(&rt, both, ([busy, busy, Some(Ok(()))], [Some(1), Some(2)]));
+    expect(
+        &rt,
+        seen,
+        Ok((Some((0, 2007)), Some(Station::Authenticated))),
+    );
     Ok(())
 }
 
@@ -280,22 +286,25 @@ fn receipts<D: Disk>(
 #[test]
 fn a_receipt_that_is_taken_back_is_given_again(rt: HostRuntime) -> Result<(), Fail> {
     let mut committer = new_committer(rt.alloc()).ok_or("memory")?;
-    let found = receipts(rt.alloc(), &mut committer)?;
-    assert_eq!(rt; found, [Some(1), Some(1), Some(1), Some(2), None]);
+    let found = receipts(rt.alloc(), &mut committer);
+    drop(committer);
+    expect(&rt, found?, [Some(1), Some(1), Some(1), Some(2), None]);
     Ok(())
 }
 
 /// What waits at the end where the receipt of a policy was taken back.
 fn rest_behind_policy(alloc: Global) -> Result<(Option<u64>, Option<u64>), Fail> {
     let mut committer = new_committer(alloc).ok_or("memory")?;
-    let _loaded = commit_policy(alloc, &mut committer)?;
+    let loaded = commit_policy(alloc, &mut committer);
     let _number = receipt_taken_back(&mut committer);
-    Ok(rest_of(committer))
+    let rest = rest_of(committer);
+    let _loaded = loaded?;
+    Ok(rest)
 }
 
 #[test]
 fn a_receipt_that_waits_is_left_at_the_end(rt: HostRuntime) -> Result<(), Fail> {
-    assert_eq!(rt; rest_behind_policy(rt.alloc())?, (None, Some(1)));
+    expect(&rt, rest_behind_policy(rt.alloc())?, (None, Some(1)));
     Ok(())
 }
 
@@ -313,6 +322,7 @@ fn nothing<D: Disk>(
 fn there_is_nothing_to_load_and_no_receipt_at_first(rt: HostRuntime) -> Result<(), Fail> {
     let mut committer = new_committer(rt.alloc()).ok_or("memory")?;
     let found = nothing(&mut committer);
-    assert_eq!(rt; found, (None, Ok(()), None, Phase::Idle));
+    drop(committer);
+    expect(&rt, found, (None, Ok(()), None, Phase::Idle));
     Ok(())
 }

@@ -31,7 +31,7 @@ pub(crate) fn blank_disk(alloc: Global, size: usize) -> Result<MemDisk, AllocErr
 }
 
 // Writes bytes where they lie inside the disk, and syncs them.
-pub(crate) fn write_bytes(disk: &mut MemDisk, at: usize, bytes: &[u8]) -> Result<(), Fail> {
+pub(crate) fn write_bytes<D: Disk>(disk: &mut D, at: usize, bytes: &[u8]) -> Result<(), Fail> {
     if at > disk.len() || bytes.len() > disk.len() - at {
         return Err(Fail::from("outside the disk"));
     }

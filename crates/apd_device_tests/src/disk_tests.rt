@@ -1,20 +1,57 @@
 // What no clause says: that calls succeed where memory is ample, what a real file does, and printed text.
 ghost use Rattle.std.specs.Prelude.{◌≡◌, ◌≤◌};
 
+use crate::common::write_bytes;
+use crate::expect::{expect, expect_text};
 use apd_base::limits::DEVICE_LENGTH;
 use apd_disk::{Call, Disk, DiskFault, FileDisk, FuseDisk, MemDisk, OnceDisk, Torn};
+use std::alloc::Global;
 use std::fs::{self, File};
 use std::io::{self, ErrorKind};
 use std::os::unix::fs::PermissionsExt;
+use std::process::Abort;
 use std::rt::Files;
 use std::test::Fail;
 
 #[test]
 fn a_fault_prints_its_text(rt: HostRuntime) -> Result<(), Fail> {
-    assert_eq!(rt;
-        format!(in rt.alloc(); "{DiskFault}")?.as_str(),
-        "device fault"
-    );
+    expect_text(&rt, rt.alloc(), &DiskFault, "device fault")
+}
+
+// Two bytes that are synced, and behind them two writes that overlap.
+fn write_thrice<D: Disk>(disk: &mut D) -> Result<(), DiskFault>
+    requires { 5 ≤ D.model.size disk.old }
+{
+    disk.write_at(1, &[21, 22])?;
+    disk.sync()?;
+    disk.write_at(2, &[32, 33])?;
+    disk.write_at(3, &[43, 44])
+}
+
+// A disk with them.
+fn written_disk(alloc: Global) -> Result<MemDisk, Fail> {
+    let bytes = vec![in alloc; 10u8, 11, 12, 13, 14, 15, 16, 17]?;
+    let mut disk = MemDisk::new(alloc, bytes)?;
+    let answer = write_thrice(&mut disk);
+    answer?;
+    Ok(disk)
+}
+
+// Where the last call wrote.
+fn last_write(disk: &MemDisk) -> Option<usize> {
+    match disk.calls().last() {
+        Some(Call::Write(at, _bytes)) => Some(*at),
+        _ => None,
+    }
+}
+
+// What such a disk is after a crash.
+fn expect_crash(rt: &impl Abort, alloc: Global, torn: Torn, want: &[u8]) -> Result<(), Fail> {
+    let disk = written_disk(alloc)?;
+    expect(rt, last_write(&disk), Some(3));
+    let stopped = disk.crash(torn);
+    let found = (torn, stopped.bytes(), stopped.calls().len());
+    expect(rt, found, (torn, want, 0));
     Ok(())
 }
 
@@ -25,29 +62,28 @@ fn a_crash_of_each_kind(rt: HostRuntime) -> Result<(), Fail> {
         (Torn::New, [10, 21, 32, 43, 44, 15, 16, 17]),
         (Torn::Byte(0x7f), [10, 21, 0x7f, 0x7f, 0x7f, 15, 16, 17]),
     ] {
-        let bytes = vec![in rt.alloc(); 10u8, 11, 12, 13, 14, 15, 16, 17]?;
-        let mut disk = MemDisk::new(rt.alloc(), bytes)?;
-        disk.write_at(1, &[21, 22])?;
-        disk.sync()?;
-        disk.write_at(2, &[32, 33])?;
-        disk.write_at(3, &[43, 44])?;
-        assert!(rt; matches!(disk.calls().last(), Some(Call::Write(3, _))));
-        let stopped = disk.crash(torn);
-        assert_eq!(rt; stopped.bytes(), want.as_slice(), "{torn:?}");
-        assert_eq!(rt; stopped.calls().len(), 0);
+        expect_crash(&rt, rt.alloc(), torn, &want)?;
     }
     Ok(())
+}
+
+// The disk after one more write of a byte, and a crash.
+fn write_and_crash(disk: MemDisk, at: usize, byte: u8, torn: Torn) -> Result<MemDisk, Fail> {
+    let mut disk = disk;
+    if at < disk.len() {
+        disk.write_at(at, &[byte])?;
+    }
+    Ok(disk.crash(torn))
 }
 
 #[test]
 fn a_crash_after_a_first_write_and_after_a_crash(rt: HostRuntime) -> Result<(), Fail> {
     let bytes = vec![in rt.alloc(); 10u8, 11]?;
-    let mut disk = MemDisk::new(rt.alloc(), bytes)?;
-    disk.write_at(0, &[20])?;
-    let mut disk = disk.crash(Torn::Old);
-    assert_eq!(rt; disk.bytes(), [10, 11].as_slice());
-    disk.write_at(1, &[21])?;
-    assert_eq!(rt; disk.crash(Torn::New).bytes(), [10, 21].as_slice());
+    let disk = MemDisk::new(rt.alloc(), bytes)?;
+    let disk = write_and_crash(disk, 0, 20, Torn::Old)?;
+    expect(&rt, disk.bytes(), [10, 11].as_slice());
+    let disk = write_and_crash(disk, 1, 21, Torn::New)?;
+    expect(&rt, disk.bytes(), [10, 21].as_slice());
     Ok(())
 }
 
@@ -66,36 +102,63 @@ fn commit<D: Disk>(disk: &mut D) -> [bool; 5]
     ]
 }
 
+// Whether each of ten calls succeeds.
+type Ten = [[bool; 5]; 2];
+
+// Makes ten calls. There are none where a disk is too short.
+fn commit_twice<D: Disk>(disk: &mut D) -> Option<Ten> {
+    if disk.len() < 2 {
+        return None;
+    }
+    let first = commit(disk);
+    Some([first, commit(disk)])
+}
+
+// The first so many of ten calls succeed.
+fn first_ones(n: u64) -> Ten {
+    [
+        [0 < n, 1 < n, 2 < n, 3 < n, 4 < n],
+        [5 < n, 6 < n, 7 < n, 8 < n, 9 < n],
+    ]
+}
+
+// All of ten calls succeed but the one of this number.
+fn all_but(n: u64) -> Ten {
+    [
+        [0 != n, 1 != n, 2 != n, 3 != n, 4 != n],
+        [5 != n, 6 != n, 7 != n, 8 != n, 9 != n],
+    ]
+}
+
+// A disk of two zeros.
+fn two_zeros(alloc: Global) -> Result<MemDisk, Fail> {
+    Ok(MemDisk::new(alloc, vec![in alloc; 0u8, 0]?)?)
+}
+
 // With memory to spare each call is served. It says more where an allocation fails (`rt try --test --fail-alloc N`):
 // the call that could not be recorded is counted, and left bytes and record as they were.
 #[test]
 fn a_call_that_is_refused_memory_does_nothing(rt: HostRuntime) -> Result<(), Fail> {
-    let bytes = vec![in rt.alloc(); 0u8, 0]?;
-    let mut disk = MemDisk::new(rt.alloc(), bytes)?;
-    let first = commit(&mut disk);
-    let second = commit(&mut disk);
+    let mut disk = two_zeros(rt.alloc())?;
+    let [first, second] = commit_twice(&mut disk).ok_or("too short")?;
     let served = first.iter().chain(&second).filter(|s| **s).count();
     let refused = first.iter().chain(&second).filter(|s| !**s).count();
-    assert_eq!(rt; disk.calls().len(), served);
-    assert_eq!(rt; disk.failures() as usize, refused);
+    let found = (disk.calls().len(), disk.failures() as usize);
+    expect(&rt, found, (served, refused));
     let low = if first[3] || second[3] { 8 } else { 0 };
     let high = if first[1] || second[1] { 7 } else { 0 };
-    assert_eq!(rt; disk.bytes(), [low, high].as_slice());
+    expect(&rt, disk.bytes(), [low, high].as_slice());
     Ok(())
 }
 
 #[test]
 fn a_fuse_at_each_of_ten_calls(rt: HostRuntime) -> Result<(), Fail> {
     for passes in 0..10u64 {
-        let bytes = vec![in rt.alloc(); 0u8, 0]?;
-        let mut disk = FuseDisk::new(MemDisk::new(rt.alloc(), bytes)?, passes);
-        let first = commit(&mut disk);
-        let second = commit(&mut disk);
-        for (i, succeeded) in (0..).zip(first.iter().chain(&second)) {
-            assert_eq!(rt; *succeeded, i < passes, "call {i} of a fuse of {passes}");
-        }
-        assert_eq!(rt; disk.failures(), 10 - passes);
-        assert_eq!(rt; disk.into_inner().calls().len() as u64, passes + 1);
+        let mut disk = FuseDisk::new(two_zeros(rt.alloc())?, passes);
+        let found = (commit_twice(&mut disk), disk.failures());
+        let served = disk.into_inner().calls().len() as u64;
+        expect(&rt, found, (Some(first_ones(passes)), 10 - passes));
+        expect(&rt, served, passes + 1);
     }
     Ok(())
 }
@@ -103,17 +166,12 @@ fn a_fuse_at_each_of_ten_calls(rt: HostRuntime) -> Result<(), Fail> {
 #[test]
 fn a_chosen_call_fails_once(rt: HostRuntime) -> Result<(), Fail> {
     for before in 0..10u64 {
-        let bytes = vec![in rt.alloc(); 0u8, 0]?;
-        let mut disk = OnceDisk::new(MemDisk::new(rt.alloc(), bytes)?, before);
-        let first = commit(&mut disk);
-        let second = commit(&mut disk);
-        for (i, succeeded) in (0..).zip(first.iter().chain(&second)) {
-            assert_eq!(rt; *succeeded, i != before, "call {i} where {before} fails");
-        }
-        assert_eq!(rt; disk.failures(), 1);
+        let mut disk = OnceDisk::new(two_zeros(rt.alloc())?, before);
+        let found = (commit_twice(&mut disk), disk.failures());
+        expect(&rt, found, (Some(all_but(before)), 1));
         let inner = disk.into_inner();
-        assert_eq!(rt; inner.calls().len(), 9);
-        assert_eq!(rt; inner.bytes(), [8, 7].as_slice());
+        let left = (inner.calls().len(), inner.bytes());
+        expect(&rt, left, (9, [8, 7].as_slice()));
     }
     Ok(())
 }
@@ -124,9 +182,83 @@ fn empty_folder(files: &(impl Files + AllocGlobal), folder: &str) -> io::Result<
     fs::create_dir(files, folder)
 }
 
-// Why there is no disk.
-fn refusal(opened: io::Result<FileDisk>) -> Option<ErrorKind> {
-    opened.err().map(|e| e.kind())
+// Why a file can't be made.
+fn create_refusal(
+    files: &(impl Files<File = File> + AllocGlobal),
+    path: &str,
+) -> Option<ErrorKind> {
+    FileDisk::create(files, path).err().map(|e| e.kind())
+}
+
+// Why a file can't be opened.
+fn refusal(files: &impl Files<File = File>, path: &str) -> Option<ErrorKind> {
+    FileDisk::open(files, path).err().map(|e| e.kind())
+}
+
+// Why a file can't be opened to read.
+fn read_refusal(files: &impl Files<File = File>, path: &str) -> Option<ErrorKind> {
+    FileDisk::open_to_read(files, path).err().map(|e| e.kind())
+}
+
+// How many files a folder has.
+fn count_files(
+    files: &(impl Files<File = File> + AllocGlobal + Clone),
+    folder: &str,
+) -> io::Result<usize> {
+    Ok(fs::read_dir(files, folder)?.count())
+}
+
+// Expects these bytes in a file.
+fn expect_file(
+    rt: &(impl Abort + Files<File = File> + AllocGlobal),
+    path: &str,
+    want: &[u8],
+) -> io::Result<()> {
+    let bytes = fs::read(rt, path)?;
+    expect(rt, bytes.as_slice(), want);
+    Ok(())
+}
+
+// Expects these bytes at a place of a disk that has so many in all.
+fn expect_bytes<D: Disk>(
+    rt: &(impl Abort + AllocGlobal),
+    disk: &mut D,
+    (length, at): (usize, usize),
+    want: &[u8],
+) -> Result<(), Fail> {
+    let mut bytes = vec![in rt.alloc(); 0u8; want.len()]?;
+    if disk.len() != length || at > length || want.len() > length - at {
+        return Err(Fail::from("another length"));
+    }
+    disk.read_at(at, &mut bytes)?;
+    expect(rt, bytes.as_slice(), want);
+    Ok(())
+}
+
+// Makes a store in a folder, writes its last bytes, and tries to open it once more.
+fn make_store(
+    rt: &(impl Abort + Files<File = File> + AllocGlobal + Clone),
+    folder: &str,
+    store: &str,
+) -> Result<(), Fail> {
+    let mut disk = FileDisk::create(rt, store)?;
+    expect(rt, count_files(rt, folder)?, 1);
+    write_bytes(&mut disk, 2_097_213, b"end")?;
+    expect(rt, refusal(rt, store), Some(ErrorKind::WouldBlock));
+    expect(rt, disk.failures(), 0);
+    Ok(())
+}
+
+// Opens it, and reads them.
+fn read_store(
+    rt: &(impl Abort + Files<File = File> + AllocGlobal),
+    store: &str,
+) -> Result<(), Fail> {
+    let mut disk = FileDisk::open(rt, store)?;
+    expect(rt, disk.len() as u64, DEVICE_LENGTH);
+    expect_bytes(rt, &mut disk, (2_097_216, 2_097_211), b"\0\0end")?;
+    expect(rt, disk.failures(), 0);
+    Ok(())
 }
 
 #[test]
@@ -134,22 +266,8 @@ fn a_file_is_made_closed_opened_and_read(rt: HostRuntime) -> Result<(), Fail> {
     let folder = "disk_made";
     let store = "disk_made/store";
     empty_folder(&rt, folder)?;
-    let mut disk = FileDisk::create(&rt, store)?;
-    assert_eq!(rt; fs::read_dir(&rt, folder)?.count(), 1);
-    disk.write_at(2_097_213, b"end")?;
-    disk.sync()?;
-    assert_eq!(rt;
-        refusal(FileDisk::open(&rt, store)),
-        Some(ErrorKind::WouldBlock)
-    );
-    assert_eq!(rt; disk.failures(), 0);
-    drop(disk);
-    let mut disk = FileDisk::open(&rt, store)?;
-    assert_eq!(rt; disk.len() as u64, DEVICE_LENGTH);
-    let mut bytes = [1; 5];
-    disk.read_at(2_097_211, &mut bytes)?;
-    assert_eq!(rt; bytes, *b"\0\0end");
-    assert_eq!(rt; disk.failures(), 0);
+    make_store(&rt, folder, store)?;
+    read_store(&rt, store)?;
     fs::remove_dir_all(&rt, folder)?;
     Ok(())
 }
@@ -160,14 +278,17 @@ fn a_file_that_is_there_is_not_made_anew(rt: HostRuntime) -> Result<(), Fail> {
     let store = "disk_there/store";
     empty_folder(&rt, folder)?;
     fs::write(&rt, store, b"a store".as_slice())?;
-    assert_eq!(rt;
-        refusal(FileDisk::create(&rt, store)),
-        Some(ErrorKind::AlreadyExists)
-    );
-    assert_eq!(rt; fs::read(&rt, store)?.as_slice(), b"a store".as_slice());
-    assert_eq!(rt; fs::read_dir(&rt, folder)?.count(), 1);
+    let refused = create_refusal(&rt, store);
+    expect(&rt, refused, Some(ErrorKind::AlreadyExists));
+    expect_file(&rt, store, b"a store")?;
+    expect(&rt, count_files(&rt, folder)?, 1);
     fs::remove_dir_all(&rt, folder)?;
     Ok(())
+}
+
+// The length of a new store.
+fn created_length(files: &(impl Files<File = File> + AllocGlobal), store: &str) -> io::Result<u64> {
+    Ok(FileDisk::create(files, store)?.len() as u64)
 }
 
 // As where `create` was killed.
@@ -177,25 +298,29 @@ fn a_file_left_under_a_temporary_name_is_left_alone(rt: HostRuntime) -> Result<(
     let left = "disk_left/store.new0";
     empty_folder(&rt, folder)?;
     fs::write(&rt, left, b"zeros".as_slice())?;
-    let disk = FileDisk::create(&rt, "disk_left/store")?;
-    assert_eq!(rt; disk.len() as u64, DEVICE_LENGTH);
-    assert_eq!(rt; fs::read(&rt, left)?.as_slice(), b"zeros".as_slice());
-    assert_eq!(rt; fs::read_dir(&rt, folder)?.count(), 2);
+    let length = created_length(&rt, "disk_left/store")?;
+    expect(&rt, length, DEVICE_LENGTH);
+    expect_file(&rt, left, b"zeros")?;
+    expect(&rt, count_files(&rt, folder)?, 2);
     fs::remove_dir_all(&rt, folder)?;
     Ok(())
+}
+
+// Why a file that is opened can't be opened once more.
+fn second_refusal(files: &impl Files<File = File>, file: &str) -> io::Result<Option<ErrorKind>> {
+    let disk = FileDisk::open(files, file)?;
+    let refused = refusal(files, file);
+    drop(disk);
+    Ok(refused)
 }
 
 #[test]
 fn a_file_is_opened_by_one_alone(rt: HostRuntime) -> Result<(), Fail> {
     let file = "disk_locked";
     fs::write(&rt, file, b"12345".as_slice())?;
-    let disk = FileDisk::open(&rt, file)?;
-    assert_eq!(rt;
-        refusal(FileDisk::open(&rt, file)),
-        Some(ErrorKind::WouldBlock)
-    );
-    drop(disk);
-    assert_eq!(rt; refusal(FileDisk::open(&rt, file)), None);
+    let second = second_refusal(&rt, file)?;
+    expect(&rt, second, Some(ErrorKind::WouldBlock));
+    expect(&rt, refusal(&rt, file), None);
     fs::remove_file(&rt, file)?;
     Ok(())
 }
@@ -205,11 +330,21 @@ fn a_write_stands_at_its_place_for_another_reader(rt: HostRuntime) -> Result<(),
     let file = "disk_written";
     fs::write(&rt, file, b"0123456789".as_slice())?;
     let mut disk = FileDisk::open(&rt, file)?;
-    assert_eq!(rt; disk.len(), 10);
-    disk.write_at(3, b"ab")?;
-    disk.sync()?;
-    assert_eq!(rt; fs::read(&rt, file)?.as_slice(), b"012ab56789".as_slice());
+    expect(&rt, disk.len(), 10);
+    write_bytes(&mut disk, 3, b"ab")?;
+    expect_file(&rt, file, b"012ab56789")?;
     fs::remove_file(&rt, file)?;
+    Ok(())
+}
+
+// Opens a file, cuts it behind three bytes, and reads past them.
+fn read_cut(rt: &(impl Abort + Files<File = File> + AllocGlobal), file: &str) -> Result<(), Fail> {
+    let mut disk = FileDisk::open(rt, file)?;
+    assert_eq!(rt; disk.len(), 5);
+    File::options().write(true).open(rt, file)?.set_len(3)?;
+    let mut bytes = [0; 4];
+    let answer = disk.read_at(1, &mut bytes);
+    expect(rt, (answer, disk.failures()), (Err(DiskFault), 1));
     Ok(())
 }
 
@@ -218,23 +353,12 @@ fn a_file_that_is_cut_empty_missing_or_a_folder(rt: HostRuntime) -> Result<(), F
     let folder = "disk_short";
     let store = "disk_short/store";
     empty_folder(&rt, folder)?;
-    assert_eq!(rt;
-        refusal(FileDisk::open(&rt, store)),
-        Some(ErrorKind::NotFound)
-    );
-    assert_eq!(rt;
-        refusal(FileDisk::open(&rt, folder)),
-        Some(ErrorKind::IsADirectory)
-    );
+    expect(&rt, refusal(&rt, store), Some(ErrorKind::NotFound));
+    expect(&rt, refusal(&rt, folder), Some(ErrorKind::IsADirectory));
     fs::write(&rt, store, b"".as_slice())?;
-    assert_eq!(rt; FileDisk::open(&rt, store)?.len(), 0);
+    expect(&rt, FileDisk::open(&rt, store)?.len(), 0);
     fs::write(&rt, store, b"12345".as_slice())?;
-    let mut disk = FileDisk::open(&rt, store)?;
-    assert_eq!(rt; disk.len(), 5);
-    File::options().write(true).open(&rt, store)?.set_len(3)?;
-    let mut bytes = [0; 4];
-    assert_eq!(rt; disk.read_at(1, &mut bytes), Err(DiskFault));
-    assert_eq!(rt; disk.failures(), 1);
+    read_cut(&rt, store)?;
     fs::remove_dir_all(&rt, folder)?;
     Ok(())
 }
@@ -244,18 +368,36 @@ fn mode_of(files: &impl Files<File = File>, path: &str) -> io::Result<u32> {
     Ok(fs::metadata(files, path)?.permissions().mode() & 0o777)
 }
 
+// Opens a file, and syncs it.
+fn sync_file(files: &impl Files<File = File>, path: &str) -> Result<(), Fail> {
+    let mut disk = FileDisk::open(files, path)?;
+    let answer = disk.sync();
+    drop(disk);
+    answer?;
+    Ok(())
+}
+
 #[test]
 fn a_new_file_is_its_owners_alone_and_another_keeps_its_mode(rt: HostRuntime) -> Result<(), Fail> {
     let folder = "disk_modes";
     let store = "disk_modes/store";
     empty_folder(&rt, folder)?;
     drop(FileDisk::create(&rt, store)?);
-    assert_eq!(rt; mode_of(&rt, store)?, 0o600);
+    expect(&rt, mode_of(&rt, store)?, 0o600);
     fs::set_permissions(&rt, store, PermissionsExt::from_mode(0o640))?;
-    let mut disk = FileDisk::open(&rt, store)?;
-    disk.sync()?;
-    assert_eq!(rt; mode_of(&rt, store)?, 0o640);
+    sync_file(&rt, store)?;
+    expect(&rt, mode_of(&rt, store)?, 0o640);
     fs::remove_dir_all(&rt, folder)?;
+    Ok(())
+}
+
+// Writes a byte, syncs it, and reads it among its neighbours, three times.
+fn read_behind_syncs<D: Disk>(rt: &(impl Abort + AllocGlobal), disk: &mut D) -> Result<(), Fail> {
+    for (new, want) in [(b"a", b"2a45"), (b"b", b"2b45"), (b"c", b"2c45")] {
+        write_bytes(disk, 3, new)?;
+        expect_bytes(rt, disk, (10, 2), want)?;
+    }
+    expect(rt, disk.failures(), 0);
     Ok(())
 }
 
@@ -265,16 +407,24 @@ fn a_read_gives_the_same_after_each_sync(rt: HostRuntime) -> Result<(), Fail> {
     let file = "disk_pages";
     fs::write(&rt, file, b"0123456789".as_slice())?;
     let mut disk = FileDisk::open(&rt, file)?;
-    let mut bytes = [0; 4];
-    for (new, want) in [(b"a", *b"2a45"), (b"b", *b"2b45"), (b"c", *b"2c45")] {
-        assert_eq!(rt; disk.len(), 10);
-        disk.write_at(3, new)?;
-        disk.sync()?;
-        disk.read_at(2, &mut bytes)?;
-        assert_eq!(rt; bytes, want);
-    }
-    assert_eq!(rt; disk.failures(), 0);
+    read_behind_syncs(&rt, &mut disk)?;
     fs::remove_file(&rt, file)?;
+    Ok(())
+}
+
+// Two that are opened to read a file give its bytes; one that is asked to write refuses.
+fn read_and_refuse_to_write<D: Disk>(
+    rt: &(impl Abort + AllocGlobal),
+    disk: &mut D,
+    other: &mut D,
+) -> Result<(), Fail> {
+    expect(rt, disk.sync(), Ok(()));
+    expect_bytes(rt, disk, (10, 7), b"789")?;
+    expect_bytes(rt, other, (10, 0), b"012")?;
+    expect(rt, disk.failures(), 0);
+    assert_eq!(rt; disk.len(), 10);
+    let answer = disk.write_at(7, b"ab");
+    expect(rt, (answer, disk.failures()), (Err(DiskFault), 1));
     Ok(())
 }
 
@@ -285,18 +435,8 @@ fn a_file_is_read_by_two_and_written_by_neither(rt: HostRuntime) -> Result<(), F
     fs::set_permissions(&rt, file, PermissionsExt::from_mode(0o400))?;
     let mut disk = FileDisk::open_to_read(&rt, file)?;
     let mut other = FileDisk::open_to_read(&rt, file)?;
-    let mut bytes = [0; 3];
-    assert_eq!(rt; disk.len(), 10);
-    assert_eq!(rt; other.len(), 10);
-    assert_eq!(rt; disk.sync(), Ok(()));
-    assert_eq!(rt; disk.read_at(7, &mut bytes), Ok(()));
-    assert_eq!(rt; bytes, *b"789");
-    assert_eq!(rt; other.read_at(0, &mut bytes), Ok(()));
-    assert_eq!(rt; bytes, *b"012");
-    assert_eq!(rt; disk.failures(), 0);
-    assert_eq!(rt; disk.write_at(7, b"ab"), Err(DiskFault));
-    assert_eq!(rt; disk.failures(), 1);
-    assert_eq!(rt; fs::read(&rt, file)?.as_slice(), b"0123456789".as_slice());
+    read_and_refuse_to_write(&rt, &mut disk, &mut other)?;
+    expect_file(&rt, file, b"0123456789")?;
     fs::remove_file(&rt, file)?;
     Ok(())
 }
@@ -307,12 +447,12 @@ fn who_reads_keeps_a_writer_out_and_the_other_way_round(rt: HostRuntime) -> Resu
     let held = Some(ErrorKind::WouldBlock);
     fs::write(&rt, file, b"12345".as_slice())?;
     let reader = FileDisk::open_to_read(&rt, file)?;
-    assert_eq!(rt; refusal(FileDisk::open(&rt, file)), held);
+    expect(&rt, refusal(&rt, file), held);
     drop(reader);
     let writer = FileDisk::open(&rt, file)?;
-    assert_eq!(rt; refusal(FileDisk::open_to_read(&rt, file)), held);
+    expect(&rt, read_refusal(&rt, file), held);
     drop(writer);
-    assert_eq!(rt; refusal(FileDisk::open_to_read(&rt, file)), None);
+    expect(&rt, read_refusal(&rt, file), None);
     fs::remove_file(&rt, file)?;
     Ok(())
 }
@@ -320,8 +460,8 @@ fn who_reads_keeps_a_writer_out_and_the_other_way_round(rt: HostRuntime) -> Resu
 #[test]
 fn a_file_that_cannot_be_synced_is_read_all_the_same(rt: HostRuntime) -> Result<(), Fail> {
     let mut disk = FileDisk::open_to_read(&rt, "/proc/version")?;
-    assert_eq!(rt; disk.sync(), Ok(()));
-    assert_eq!(rt; disk.failures(), 0);
+    let answer = disk.sync();
+    expect(&rt, (answer, disk.failures()), (Ok(()), 0));
     Ok(())
 }
 
@@ -330,18 +470,14 @@ fn only_a_regular_file_is_opened_to_read(rt: HostRuntime) -> Result<(), Fail> {
     let folder = "disk_regular";
     let missing = "disk_regular/store";
     empty_folder(&rt, folder)?;
-    assert_eq!(rt;
-        refusal(FileDisk::open_to_read(&rt, missing)),
-        Some(ErrorKind::NotFound)
-    );
-    for other in [folder, "/dev/null"] {
-        assert_eq!(rt;
-            refusal(FileDisk::open_to_read(&rt, other)),
-            Some(ErrorKind::InvalidInput),
-            "{other}"
-        );
+    for (path, fault) in [
+        (missing, ErrorKind::NotFound),
+        (folder, ErrorKind::InvalidInput),
+        ("/dev/null", ErrorKind::InvalidInput),
+    ] {
+        expect(&rt, (path, read_refusal(&rt, path)), (path, Some(fault)));
     }
-    assert_eq!(rt; fs::read_dir(&rt, folder)?.count(), 0);
+    expect(&rt, count_files(&rt, folder)?, 0);
     fs::remove_dir_all(&rt, folder)?;
     Ok(())
 }

@@ -1,41 +1,51 @@
 //! A radio that fails after some calls.
-use apd_base::Addr;
+use crate::expect::expect;
+use crate::radio_calls::{Answer, Asked, goes_through, receives};
 use apd_radio::{Failing, Radio, RadioFault, Recording, Replaying, Sim};
+use std::alloc::Global;
+use std::process::Abort;
 use std::test::Fail;
 
-const STATION: Addr = Addr([2, 0, 0, 0, 0, 0xaa]);
-
-const DEVICE: Result<(), RadioFault> = Err(RadioFault::Device);
+const DEVICE: Answer = Err(RadioFault::Device);
 
 #[test]
-fn each_call_behind_the_last_one_fails(rt: HostRuntime) -> Result<(), Fail> {
+fn each_call_behind_the_last_one_fails(rt: HostRuntime) {
     let alloc = rt.alloc();
     let mut radio = Failing::new(Sim::new(alloc), 3);
-    assert!(rt; radio.install(STATION, 7).is_ok());
-    assert!(rt; radio.transmit(b"\x01").is_ok());
-    assert!(rt; radio.install(STATION, 8).is_ok());
-    assert_eq!(rt; radio.failures(), 0);
-    assert_eq!(rt; radio.install(STATION, 9), DEVICE);
-    assert_eq!(rt; radio.failures(), 1);
-    assert_eq!(rt; radio.installed(STATION), Some(8));
-    assert_eq!(rt; radio.remove(STATION), DEVICE);
-    assert_eq!(rt; radio.failures(), 2);
-    assert_eq!(rt; radio.installed(STATION), Some(8));
-    assert_eq!(rt; radio.transmit(b"\x01"), DEVICE);
-    assert_eq!(rt; radio.failures(), 3);
-    radio.take_down();
-    assert_eq!(rt; radio.installed(STATION), None);
-    assert_eq!(rt; radio.failures(), 3);
-    Ok(())
+    let rows = [
+        (Asked::Install(7), Ok(()), Some(7), 0),
+        (Asked::Transmit(b"\x01"), Ok(()), Some(7), 0),
+        (Asked::Install(8), Ok(()), Some(8), 0),
+        (Asked::Install(9), DEVICE, Some(8), 1),
+        (Asked::Remove, DEVICE, Some(8), 2),
+        (Asked::Transmit(b"\x01"), DEVICE, Some(8), 3),
+        (Asked::TakeDown, Ok(()), None, 3),
+    ];
+    goes_through(&rt, &mut radio, &rows);
 }
 
 #[test]
-fn a_removal_is_a_call(rt: HostRuntime) -> Result<(), Fail> {
+fn a_removal_is_a_call(rt: HostRuntime) {
     let alloc = rt.alloc();
     let mut radio = Failing::new(Sim::new(alloc), 1);
-    assert!(rt; radio.remove(STATION).is_ok());
-    assert_eq!(rt; radio.remove(STATION), DEVICE);
-    assert_eq!(rt; radio.failures(), 1);
+    let rows = [
+        (Asked::Remove, Ok(()), None, 0),
+        (Asked::Remove, DEVICE, None, 1),
+    ];
+    goes_through(&rt, &mut radio, &rows);
+}
+
+/// Polls before, between and behind two transmissions, of which the second fails.
+fn receives_all_the_same<R: Radio>(rt: &impl Abort, radio: &mut R) -> Answer {
+    receives(rt, radio, Some(b"\x01"))?;
+    let rows = [
+        (Asked::Transmit(b""), Ok(()), None, 0),
+        (Asked::Transmit(b""), DEVICE, None, 1),
+    ];
+    goes_through(rt, radio, &rows);
+    receives(rt, radio, Some(b"\x02"))?;
+    receives(rt, radio, None)?;
+    expect(rt, radio.failures(), 1);
     Ok(())
 }
 
@@ -43,46 +53,46 @@ fn a_removal_is_a_call(rt: HostRuntime) -> Result<(), Fail> {
 fn it_receives_whether_or_not_it_fails(rt: HostRuntime) -> Result<(), Fail> {
     let alloc = rt.alloc();
     let mut radio = Failing::new(Replaying::new(alloc, b"rx 01\nrx 02\n")?, 1);
-    assert_eq!(rt; radio.poll()?.as_deref(), Some(b"\x01".as_slice()));
-    assert!(rt; radio.transmit(b"").is_ok());
-    assert_eq!(rt; radio.transmit(b""), DEVICE);
-    assert_eq!(rt; radio.poll()?.as_deref(), Some(b"\x02".as_slice()));
-    assert_eq!(rt; radio.poll()?.as_deref(), None);
-    assert_eq!(rt; radio.failures(), 1);
+    let answer = receives_all_the_same(&rt, &mut radio);
+    drop(radio);
+    answer?;
     Ok(())
 }
 
 #[test]
-fn its_count_begins_at_that_of_the_radio_inside(rt: HostRuntime) -> Result<(), Fail> {
+fn its_count_begins_at_that_of_the_radio_inside(rt: HostRuntime) {
     let alloc = rt.alloc();
     let mut inner = Failing::new(Sim::new(alloc), 0);
-    assert_eq!(rt; inner.install(STATION, 1), DEVICE);
+    goes_through(&rt, &mut inner, &[(Asked::Install(1), DEVICE, None, 1)]);
     let mut radio = Failing::new(inner, 1);
-    assert_eq!(rt; radio.failures(), 1);
-    assert_eq!(rt; radio.install(STATION, 1), DEVICE);
-    assert_eq!(rt; radio.failures(), 2);
-    assert_eq!(rt; radio.install(STATION, 1), DEVICE);
-    assert_eq!(rt; radio.failures(), 3);
-    Ok(())
+    expect(&rt, radio.failures(), 1);
+    let rows = [
+        (Asked::Install(1), DEVICE, None, 2),
+        (Asked::Install(1), DEVICE, None, 3),
+    ];
+    goes_through(&rt, &mut radio, &rows);
+}
+
+/// Two calls that are recorded, and two that fail.
+fn record_calls(rt: &impl Abort, alloc: Global, written: &mut Vec<u8>) {
+    let inner = Recording::new(alloc, Sim::new(alloc), written);
+    let mut radio = Failing::new(inner, 2);
+    let rows = [
+        (Asked::Transmit(b"\x01"), Ok(()), None, 0),
+        (Asked::Install(7), Ok(()), Some(7), 0),
+        (Asked::Transmit(b"\x02"), DEVICE, Some(7), 1),
+        (Asked::Remove, DEVICE, Some(7), 2),
+        (Asked::TakeDown, Ok(()), None, 2),
+    ];
+    goes_through(rt, &mut radio, &rows);
 }
 
 #[test]
-fn what_it_passes_on_comes_to_the_radio_inside(rt: HostRuntime) -> Result<(), Fail> {
+fn what_it_passes_on_comes_to_the_radio_inside(rt: HostRuntime) {
     let alloc = rt.alloc();
     let mut written: Vec<u8> = Vec::new(alloc);
-    {
-        let inner = Recording::new(alloc, Sim::new(alloc), &mut written);
-        let mut radio = Failing::new(inner, 2);
-        assert!(rt; radio.transmit(b"\x01").is_ok());
-        assert!(rt; radio.install(STATION, 7).is_ok());
-        assert_eq!(rt; radio.transmit(b"\x02"), DEVICE);
-        assert_eq!(rt; radio.remove(STATION), DEVICE);
-        radio.take_down();
-    }
+    record_calls(&rt, alloc, &mut written);
     // Three times: by the call, where it is dropped, and where the recording inside is.
-    assert_eq!(rt;
-        written.as_slice(),
-        b"tx 01\ninstall 02:00:00:00:00:aa 7\ndown\ndown\ndown\n".as_slice()
-    );
-    Ok(())
+    let lines = b"tx 01\ninstall 02:00:00:00:00:aa 7\ndown\ndown\ndown\n";
+    expect(&rt, written.as_slice(), lines.as_slice());
 }

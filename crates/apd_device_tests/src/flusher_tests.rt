@@ -4,6 +4,7 @@ use crate::common::{
     BSSID, LENGTH, Made, STATION, Seen, TWO_GROUPS, batch_of, blank_disk, calls_after, look,
     policy, put,
 };
+use crate::expect::expect;
 use apd_base::{Sequence, Station, Which};
 use apd_disk::{Disk, FuseDisk, MemDisk, Torn};
 use apd_flusher::{Flusher, Phase};
@@ -74,17 +75,31 @@ fn commit<D: Disk>(
     unload(flusher, number)
 }
 
+// Commits a policy in one call.
+fn commit_policy<D: Disk>(alloc: Global, flusher: &mut Flusher<D>) -> Result<(), Fail> {
+    let receipt = flusher.commit(batch_of(alloc, 1, policy()?)?)?;
+    if receipt.batch().first != 1 {
+        return Err(Fail::from("another batch"));
+    }
+    Ok(())
+}
+
 // A flusher that has committed a policy.
 fn with_policy<D: Disk>(alloc: Global, disk: D) -> Result<Flusher<D>, Fail>
 where
     D: Drop,
 {
     let mut flusher = new_flusher(alloc, disk)?;
-    let receipt = flusher.commit(batch_of(alloc, 1, policy()?)?)?;
-    if receipt.batch().first != 1 {
-        return Err(Fail::from("another batch"));
-    }
+    let committed = commit_policy(alloc, &mut flusher);
+    committed?;
     Ok(flusher)
+}
+
+// Makes as many turns of a station's commit.
+fn begin_station<D: Disk>(alloc: Global, flusher: &mut Flusher<D>, calls: u64) -> Result<(), Fail> {
+    load(flusher, batch_of(alloc, 2, put(Station::Authenticated))?)?;
+    turns(flusher, calls)?;
+    Ok(())
 }
 
 // The device after a policy and as many turns of a station's commit.
@@ -93,12 +108,10 @@ where
     D: Drop,
 {
     let mut flusher = with_policy(alloc, disk)?;
-    load(
-        &mut flusher,
-        batch_of(alloc, 2, put(Station::Authenticated))?,
-    )?;
-    turns(&mut flusher, calls)?;
-    Ok(flusher.into_device())
+    let begun = begin_station(alloc, &mut flusher, calls);
+    let device = flusher.into_device();
+    begun?;
+    Ok(device)
 }
 
 // Adds a change as many times.
@@ -135,25 +148,34 @@ fn long_batch(alloc: Global, too_long: bool) -> Result<Batch, Fail> {
     })
 }
 
-// Refused for a station without a policy and for a byte too much; the device is then as it was, and takes a good
-// batch of the greatest length in four turns.
+// Refused for a station without a policy and for a byte too much.
+fn refuse_two<D: Disk>(alloc: Global, flusher: &mut Flusher<D>) -> Result<(), Fail> {
+    let unsound = refusal(flusher, batch_of(alloc, 1, put(Station::Authenticated))?)?;
+    let long = refusal(flusher, long_batch(alloc, true)?)?;
+    if unsound != StoreFault::BadBatch || long != StoreFault::BadBatch {
+        return Err(Fail::from("no bad batch"));
+    }
+    Ok(())
+}
+
+// The two, and then a good batch of the greatest length, in four turns.
+fn refuse_and_commit<D: Disk>(alloc: Global, flusher: &mut Flusher<D>) -> Result<(), Fail> {
+    refuse_two(alloc, flusher)?;
+    load(flusher, long_batch(alloc, false)?)?;
+    turns(flusher, 4)?;
+    unload(flusher, 1)
+}
+
+// The device after two batches that are refused, by which it is as it was, and a good one.
 fn bad_and_good<D: Disk>(alloc: Global, disk: D) -> Result<D, Fail>
 where
     D: Drop,
 {
     let mut flusher = new_flusher(alloc, disk)?;
-    let unsound = refusal(
-        &mut flusher,
-        batch_of(alloc, 1, put(Station::Authenticated))?,
-    )?;
-    let long = refusal(&mut flusher, long_batch(alloc, true)?)?;
-    if unsound != StoreFault::BadBatch || long != StoreFault::BadBatch {
-        return Err(Fail::from("no bad batch"));
-    }
-    load(&mut flusher, long_batch(alloc, false)?)?;
-    turns(&mut flusher, 4)?;
-    unload(&mut flusher, 1)?;
-    Ok(flusher.into_device())
+    let committed = refuse_and_commit(alloc, &mut flusher);
+    let device = flusher.into_device();
+    committed?;
+    Ok(device)
 }
 
 // The phases on the way of a batch, and whether each call in them was answered as it should be.
@@ -188,20 +210,24 @@ fn put_again<D: Disk>(alloc: Global, flusher: &mut Flusher<D>, times: u64) -> Re
     Ok(())
 }
 
+// As many commits of a row, and one more that switches to the other half.
+fn put_and_switch<D: Disk>(alloc: Global, flusher: &mut Flusher<D>, rows: u64) -> Result<(), Fail> {
+    put_again(alloc, flusher, rows)?;
+    load(flusher, batch_of(alloc, 9, put(Station::Authenticated))?)?;
+    turns(flusher, 8)?;
+    unload(flusher, 9)
+}
+
 // The device after a policy, as many commits of a row, and one more that switches to the other half.
 fn switch_half<D: Disk>(alloc: Global, disk: D, rows: u64) -> Result<D, Fail>
 where
     D: Drop,
 {
     let mut flusher = with_policy(alloc, disk)?;
-    put_again(alloc, &mut flusher, rows)?;
-    load(
-        &mut flusher,
-        batch_of(alloc, 9, put(Station::Authenticated))?,
-    )?;
-    turns(&mut flusher, 8)?;
-    unload(&mut flusher, 9)?;
-    Ok(flusher.into_device())
+    let switched = put_and_switch(alloc, &mut flusher, rows);
+    let device = flusher.into_device();
+    switched?;
+    Ok(device)
 }
 
 // Loads a batch, once more where memory was refused: nothing had changed then.
@@ -211,6 +237,13 @@ fn load_again<D: Disk>(flusher: &mut Flusher<D>, batch: Batch) -> Result<(), Fai
         Err((back, StoreFault::NoMemory)) if flusher.phase() == Phase::Idle => load(flusher, back),
         Err((_, fault)) => Err(Fail::from(fault)),
     }
+}
+
+// Commits a station, its batch loaded once more where memory was refused.
+fn commit_again<D: Disk>(alloc: Global, flusher: &mut Flusher<D>) -> Result<(), Fail> {
+    load_again(flusher, batch_of(alloc, 2, put(Station::Authenticated))?)?;
+    turns(flusher, 4)?;
+    unload(flusher, 2)
 }
 
 fn on_memory(alloc: Global, calls: u64) -> Result<MemDisk, Fail> {
@@ -224,28 +257,33 @@ fn stop(alloc: Global, calls: u64, torn: Torn) -> Result<Seen, Fail> {
 // What is seen after a commit that was tried once more where memory was refused.
 fn try_again(alloc: Global) -> Result<Seen, Fail> {
     let mut flusher = with_policy(alloc, blank_disk(alloc, LENGTH)?)?;
-    let batch = batch_of(alloc, 2, put(Station::Authenticated))?;
-    load_again(&mut flusher, batch)?;
-    turns(&mut flusher, 4)?;
-    unload(&mut flusher, 2)?;
-    Ok(look(alloc, flusher.into_device()))
+    let committed = commit_again(alloc, &mut flusher);
+    let seen = look(alloc, flusher.into_device());
+    committed?;
+    Ok(seen)
 }
 
 fn phases_on_memory(alloc: Global) -> Result<bool, Fail> {
-    on_the_way(alloc, &mut new_flusher(alloc, blank_disk(alloc, LENGTH)?)?)
+    let mut flusher = new_flusher(alloc, blank_disk(alloc, LENGTH)?)?;
+    let answer = on_the_way(alloc, &mut flusher);
+    drop(flusher);
+    answer
 }
 
 // Behind seven calls of the format and four of the policy's commit.
 fn stuck_over_fuse(alloc: Global, calls: u64) -> Result<bool, Fail> {
     let fuse = FuseDisk::new(blank_disk(alloc, LENGTH)?, calls.saturating_add(11));
-    stuck(alloc, &mut with_policy(alloc, fuse)?, calls)
+    let mut flusher = with_policy(alloc, fuse)?;
+    let answer = stuck(alloc, &mut flusher, calls);
+    drop(flusher);
+    answer
 }
 
 #[test]
 fn the_bytes_of_two_commits(rt: HostRuntime) -> Result<(), Fail> {
     let disk = on_memory(rt.alloc(), 4)?;
     let groups = TWO_GROUPS;
-    assert_eq!(rt; disk.bytes().get(64..118), Some(groups.as_slice()));
+    expect(&rt, disk.bytes().get(64..118), Some(groups.as_slice()));
     Ok(())
 }
 
@@ -261,7 +299,7 @@ fn a_stop_at_each_turn(rt: HostRuntime) -> Result<(), Fail> {
         (4, Torn::Byte(0x7f), there),
     ] {
         let is = stop(rt.alloc(), calls, torn)?;
-        assert_eq!(rt; is, found, "{torn:?} after {calls}");
+        expect(&rt, (torn, calls, is), (torn, calls, found));
     }
     Ok(())
 }
@@ -278,20 +316,21 @@ fn the_calls_of_a_long_batch(rt: HostRuntime) -> Result<(), Fail> {
         Made::Write(77, 1),
         Made::Sync,
     ];
-    assert_eq!(rt; made.as_slice(), all.as_slice());
+    expect(&rt, made.as_slice(), all.as_slice());
     Ok(())
 }
 
 #[test]
 fn the_phases_of_a_batch(rt: HostRuntime) -> Result<(), Fail> {
-    assert!(rt; phases_on_memory(rt.alloc())?);
+    expect(&rt, phases_on_memory(rt.alloc())?, true);
     Ok(())
 }
 
 #[test]
 fn a_fault_at_each_turn(rt: HostRuntime) -> Result<(), Fail> {
     for calls in 0..4 {
-        assert!(rt; stuck_over_fuse(rt.alloc(), calls)?, "{calls}");
+        let is_stuck = stuck_over_fuse(rt.alloc(), calls)?;
+        expect(&rt, (calls, is_stuck), (calls, true));
     }
     Ok(())
 }
@@ -300,7 +339,11 @@ fn a_fault_at_each_turn(rt: HostRuntime) -> Result<(), Fail> {
 #[test]
 fn a_batch_is_tried_again(rt: HostRuntime) -> Result<(), Fail> {
     let found = try_again(rt.alloc())?;
-    assert_eq!(rt; found, Ok((Some((0, 2007)), Some(Station::Authenticated))));
+    expect(
+        &rt,
+        found,
+        Ok((Some((0, 2007)), Some(Station::Authenticated))),
+    );
     Ok(())
 }
 
@@ -323,15 +366,11 @@ fn a_full_half_makes_way(rt: HostRuntime) -> Result<(), Fail> {
         Made::Write(1_048_683, 1),
         Made::Sync,
     ];
-    assert_eq!(rt; made.as_slice(), all.as_slice());
+    expect(&rt, made.as_slice(), all.as_slice());
     let head = [1, 2, 0, 0, 0, 0, 0, 0, 0, 30, 0, 0, 0];
-    assert_eq!(rt;
-        disk.bytes().get(1_048_640..1_048_653),
-        Some(head.as_slice())
-    );
-    assert_eq!(rt;
-        look(alloc, disk),
-        Ok((Some((0, 2007)), Some(Station::Authenticated)))
-    );
+    let found = disk.bytes().get(1_048_640..1_048_653);
+    expect(&rt, found, Some(head.as_slice()));
+    let there = Ok((Some((0, 2007)), Some(Station::Authenticated)));
+    expect(&rt, look(alloc, disk), there);
     Ok(())
 }

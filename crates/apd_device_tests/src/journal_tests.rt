@@ -1,4 +1,5 @@
 //! A half in bytes, what its cuts and changed bytes hold, and the bytes of groups.
+use crate::expect::expect;
 use apd_base::{AclMode, Addr, Aid, Association, Bssid, Policy, Sequence, Station, StationNumber};
 use apd_journal::{Batch, Plan, fits, plan, read_groups};
 use apd_record::Change;
@@ -44,6 +45,11 @@ fn associated_row() -> Option<Change> {
     })))
 }
 
+// Whether bytes are a half.
+fn is_half(alloc: Global, half: &[u8]) -> Result<bool, AllocError> {
+    Ok(read_groups(alloc, half)?.is_some())
+}
+
 // Whether a half holds these changes under epoch 1, its closed gate at this place.
 fn holds(alloc: Global, half: &[u8], changes: &[Change], gate: usize) -> Result<bool, AllocError> {
     let Some(groups) = read_groups(alloc, half)? else {
@@ -73,26 +79,26 @@ fn three_groups(rt: HostRuntime) -> Result<(), Fail> {
     let first = policy().ok_or("2007 is a limit")?;
     let last = associated_row().ok_or("1 is an identifier")?;
     let changes = [first, put(Station::Authenticated), last];
-    assert!(rt; holds(rt.alloc(), &HALF, &changes, 78)?);
+    expect(&rt, holds(rt.alloc(), &HALF, &changes, 78)?, true);
     Ok(())
 }
 
 #[test]
 fn two_groups_and_the_end(rt: HostRuntime) -> Result<(), Fail> {
     let mut half = Vec::from_slice(rt.alloc(), &HALF[..53])?;
-    assert!(rt; read_groups(rt.alloc(), &half)?.is_none());
+    expect(&rt, is_half(rt.alloc(), &half)?, false);
     half.push(0)?;
     let first = policy().ok_or("2007 is a limit")?;
     let changes = [first, put(Station::Authenticated)];
-    assert!(rt; holds(rt.alloc(), &half, &changes, 53)?);
+    expect(&rt, holds(rt.alloc(), &half, &changes, 53)?, true);
     Ok(())
 }
 
 #[test]
 fn each_cut(rt: HostRuntime) -> Result<(), Fail> {
     for end in 0..91 {
-        let found = read_groups(rt.alloc(), &HALF[..end])?;
-        assert_eq!(rt; found.is_some(), end > 78, "{end}");
+        let found = is_half(rt.alloc(), &HALF[..end])?;
+        expect(&rt, (end, found), (end, end > 78));
     }
     Ok(())
 }
@@ -118,7 +124,7 @@ fn other_bytes_in_a_half(rt: HostRuntime) -> Result<(), Fail> {
         (79, [255, 255, 255, 255].as_slice(), Some((3, 78))),
     ] {
         let is = groups_with(rt.alloc(), place, bytes)?;
-        assert_eq!(rt; is, found, "{bytes:?} at {place}");
+        expect(&rt, (place, bytes, is), (place, bytes, found));
     }
     Ok(())
 }
@@ -140,11 +146,18 @@ fn plan_of(alloc: Global, change: Option<Change>, place: usize) -> Result<Plan, 
 fn plans(rt: HostRuntime) -> Result<(), Fail> {
     let first = plan_of(rt.alloc(), policy(), 13)?;
     let bytes = [10, 0, 0, 0, 6, 2, 0, 0, 0, 0, 1, 0, 0xd7, 7, 0];
-    assert_eq!(rt; first.place, 14);
-    assert_eq!(rt; first.bytes.as_slice(), bytes.as_slice());
+    expect(
+        &rt,
+        (first.place, first.bytes.as_slice()),
+        (14, bytes.as_slice()),
+    );
     let none = plan_of(rt.alloc(), None, 78)?;
-    assert_eq!(rt; none.place, 79);
-    assert_eq!(rt; none.bytes.as_slice(), [0, 0, 0, 0, 0].as_slice());
+    let bytes = [0, 0, 0, 0, 0];
+    expect(
+        &rt,
+        (none.place, none.bytes.as_slice()),
+        (79, bytes.as_slice()),
+    );
     Ok(())
 }
 
@@ -152,9 +165,9 @@ fn plans(rt: HostRuntime) -> Result<(), Fail> {
 fn groups_of_one_row_that_fit(rt: HostRuntime) {
     // A policy's group leaves the closed gate at 28; the group of a row has 25 bytes.
     for groups in 0..41_941 {
-        assert!(rt; fits(28 + 25 * groups, 20), "{groups}");
+        expect(&rt, (groups, fits(28 + 25 * groups, 20)), (groups, true));
     }
-    assert!(rt; !fits(28 + 25 * 41_941, 20));
-    assert!(rt; fits(28 + 25 * 41_941, 10));
-    assert!(rt; !fits(usize::MAX, usize::MAX));
+    expect(&rt, fits(28 + 25 * 41_941, 20), false);
+    expect(&rt, fits(28 + 25 * 41_941, 10), true);
+    expect(&rt, fits(usize::MAX, usize::MAX), false);
 }

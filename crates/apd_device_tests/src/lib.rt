@@ -9,6 +9,8 @@ mod common;
 #[cfg(test)]
 mod disk_tests;
 #[cfg(test)]
+mod expect;
+#[cfg(test)]
 mod failing_tests;
 #[cfg(test)]
 mod flusher_tests;
@@ -18,6 +20,8 @@ mod journal_tests;
 mod old_images;
 #[cfg(test)]
 mod queue_tests;
+#[cfg(test)]
+mod radio_calls;
 #[cfg(test)]
 mod radio_tests;
 #[cfg(test)]

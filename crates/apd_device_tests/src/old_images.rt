@@ -10,7 +10,16 @@ pub(crate) type Part = (usize, &'static [u8]);
 
 // A device on which these parts stand.
 pub(crate) fn device_of(alloc: Global, parts: &[Part]) -> Result<MemDisk, Fail> {
-    let mut disk = blank_disk(alloc, LENGTH)?;
+    device_of_length(alloc, LENGTH, parts)
+}
+
+// The same of another length.
+pub(crate) fn device_of_length(
+    alloc: Global,
+    length: usize,
+    parts: &[Part],
+) -> Result<MemDisk, Fail> {
+    let mut disk = blank_disk(alloc, length)?;
     for (place, bytes) in parts {
         write_bytes(&mut disk, *place, bytes)?;
     }

@@ -1,34 +1,73 @@
-use apd_base::Addr;
+use crate::expect::{expect, expect_text};
+use crate::radio_calls::{Asked, goes_through, receives, succeeds};
 use apd_base::limits::MAX_FRAME;
 use apd_radio::{
     Failing, Radio, RadioFault, Recording, ReplayFault, Replaying, Sim, SocketFault, UdpSim,
 };
+use std::alloc::Global;
 use std::io::{self, Write};
+use std::process::Abort;
 use std::test::Fail;
 
-const STATION: Addr = Addr([2, 0, 0, 0, 0, 0xaa]);
+/// Makes each kind of call of a radio in a box.
+fn serves(rt: &impl Abort, radio: Box<dyn Radio + Send>) {
+    let mut radio = radio;
+    let rows = [
+        (Asked::Install(7), Ok(()), Some(7), 0),
+        (Asked::Install(65535), Ok(()), Some(65535), 0),
+        (Asked::Remove, Ok(()), None, 0),
+        (Asked::Transmit(b"abc"), Ok(()), None, 0),
+        (Asked::Poll, Ok(()), None, 0),
+        (Asked::TakeDown, Ok(()), None, 0),
+    ];
+    goes_through(rt, &mut radio, &rows);
+}
 
 #[test]
 fn each_kind_in_a_box(rt: HostRuntime) -> Result<(), Fail> {
     let alloc = rt.alloc();
-    let mut radios: Vec<Box<dyn Radio + Send>> = Vec::new(alloc);
-    radios.push(Box::new(alloc, Sim::new(alloc))?)?;
-    let writer: Vec<u8> = Vec::new(alloc);
-    radios.push(Box::new(alloc, Recording::new(alloc, Sim::new(alloc), writer))?)?;
-    radios.push(Box::new(alloc, Replaying::new(alloc, b"rx 00")?)?)?;
-    radios.push(Box::new(alloc, Failing::new(Sim::new(alloc), 4))?)?;
-    radios.push(Box::new(alloc, UdpSim::new(&rt, alloc, 0)?)?)?;
-    for radio in &mut radios {
-        assert!(rt; radio.install(STATION, 7).is_ok());
-        assert_eq!(rt; radio.installed(STATION), Some(7));
-        assert!(rt; radio.install(STATION, 65535).is_ok());
-        assert_eq!(rt; radio.installed(STATION), Some(65535));
-        assert!(rt; radio.remove(STATION).is_ok());
-        assert_eq!(rt; radio.installed(STATION), None);
-        assert!(rt; radio.transmit(b"abc").is_ok());
-        assert!(rt; radio.poll().is_ok());
-        radio.take_down();
-        assert_eq!(rt; radio.failures(), 0);
+    serves(&rt, Box::new(alloc, Sim::new(alloc))?);
+    let recording = Recording::new(alloc, Sim::new(alloc), Vec::<u8>::new(alloc));
+    serves(&rt, Box::new(alloc, recording)?);
+    serves(&rt, Box::new(alloc, Replaying::new(alloc, b"rx 00")?)?);
+    serves(&rt, Box::new(alloc, Failing::new(Sim::new(alloc), 4))?);
+    serves(&rt, Box::new(alloc, UdpSim::new(&rt, alloc, 0)?)?);
+    Ok(())
+}
+
+/// Makes each kind of call of a recording, one of them with the longest frame.
+fn record_calls(rt: &impl Abort, alloc: Global, written: &mut Vec<u8>) -> Result<(), Fail> {
+    let longest = vec![in alloc; 0xb0u8; MAX_FRAME]?;
+    let inner = Replaying::new(alloc, b"rx B000aa\nrx\n")?;
+    let mut radio = Recording::new(alloc, inner, written);
+    let calls = [
+        Asked::TakeDown,
+        Asked::Poll,
+        Asked::Poll,
+        Asked::Poll,
+        Asked::Transmit(b"\xb0\x00"),
+        Asked::Install(2007),
+        Asked::Transmit(b""),
+        Asked::Transmit(&longest),
+        Asked::Remove,
+    ];
+    succeeds(rt, &mut radio, &calls);
+    Ok(())
+}
+
+fn expect_lines(rt: &impl Abort, alloc: Global, written: &[u8]) -> Result<(), Fail> {
+    let digits = "b0".repeat(alloc, 2_304)?;
+    let lines = format!(in alloc;
+        "down\nrx b000aa\nrx \ntx b000\ninstall 02:00:00:00:00:aa 2007\ntx \ntx {digits}\nremove 02:00:00:00:00:aa\ndown\n"
+    )?;
+    expect(rt, written, lines.as_bytes());
+    Ok(())
+}
+
+fn receive_again(rt: &impl Abort, alloc: Global, written: &[u8]) -> Result<(), Fail> {
+    let mut radio = Replaying::new(alloc, written)?;
+    for frame in [Some(b"\xb0\x00\xaa".as_slice()), Some(b"".as_slice()), None] {
+        receives(rt, &mut radio, frame)?;
     }
     Ok(())
 }
@@ -36,31 +75,10 @@ fn each_kind_in_a_box(rt: HostRuntime) -> Result<(), Fail> {
 #[test]
 fn a_recording_has_a_line_for_each_call(rt: HostRuntime) -> Result<(), Fail> {
     let alloc = rt.alloc();
-    let longest = vec![in alloc; 0xb0u8; MAX_FRAME]?;
     let mut written: Vec<u8> = Vec::new(alloc);
-    {
-        let inner = Replaying::new(alloc, b"rx B000aa\nrx\n")?;
-        let mut radio = Recording::new(alloc, inner, &mut written);
-        radio.take_down();
-        for _ in 0..3 {
-            assert!(rt; radio.poll().is_ok());
-        }
-        assert!(rt; radio.transmit(b"\xb0\x00").is_ok());
-        assert!(rt; radio.install(STATION, 2007).is_ok());
-        assert!(rt; radio.transmit(b"").is_ok());
-        assert!(rt; radio.transmit(&longest).is_ok());
-        assert!(rt; radio.remove(STATION).is_ok());
-    }
-    let digits = "b0".repeat(alloc, 2_304)?;
-    let lines = format!(in alloc;
-        "down\nrx b000aa\nrx \ntx b000\ninstall 02:00:00:00:00:aa 2007\ntx \ntx {digits}\nremove 02:00:00:00:00:aa\ndown\n"
-    )?;
-    assert_eq!(rt; written.as_slice(), lines.as_bytes());
-    let mut again = Replaying::new(alloc, &written)?;
-    assert_eq!(rt; again.poll()?.as_deref(), Some(b"\xb0\x00\xaa".as_slice()));
-    assert_eq!(rt; again.poll()?.as_deref(), Some(b"".as_slice()));
-    assert_eq!(rt; again.poll()?.as_deref(), None);
-    Ok(())
+    record_calls(&rt, alloc, &mut written)?;
+    expect_lines(&rt, alloc, &written)?;
+    receive_again(&rt, alloc, &written)
 }
 
 /// A writer that takes whole lines, one a call, and refuses anything else.
@@ -83,41 +101,52 @@ impl Write for WholeLines {
     }
 }
 
+fn record_in_whole_lines(
+    rt: &impl Abort,
+    alloc: Global,
+    writer: &mut WholeLines,
+) -> Result<(), Fail> {
+    let inner = Replaying::new(alloc, b"rx b0\n")?;
+    let mut radio = Recording::new(alloc, inner, writer);
+    let calls = [
+        Asked::Poll,
+        Asked::Transmit(b"\xb0\x00"),
+        Asked::Install(65535),
+        Asked::Remove,
+        Asked::TakeDown,
+    ];
+    succeeds(rt, &mut radio, &calls);
+    Ok(())
+}
+
 #[test]
 fn a_line_is_one_write(rt: HostRuntime) -> Result<(), Fail> {
     let alloc = rt.alloc();
     let mut writer = WholeLines {
         taken: Vec::new(alloc),
     };
-    {
-        let inner = Replaying::new(alloc, b"rx b0\n")?;
-        let mut radio = Recording::new(alloc, inner, &mut writer);
-        assert!(rt; radio.poll().is_ok());
-        assert!(rt; radio.transmit(b"\xb0\x00").is_ok());
-        assert!(rt; radio.install(STATION, 65535).is_ok());
-        assert!(rt; radio.remove(STATION).is_ok());
-        radio.take_down();
-    }
-    assert_eq!(rt;
-        writer.taken.as_slice(),
-        b"rx b0\ntx b000\ninstall 02:00:00:00:00:aa 65535\nremove 02:00:00:00:00:aa\ndown\ndown\n".as_slice()
-    );
+    record_in_whole_lines(&rt, alloc, &mut writer)?;
+    let lines =
+        b"rx b0\ntx b000\ninstall 02:00:00:00:00:aa 65535\nremove 02:00:00:00:00:aa\ndown\ndown\n";
+    expect(&rt, writer.taken.as_slice(), lines.as_slice());
     Ok(())
 }
 
+/// One transmission through two recordings.
+fn record_twice(rt: &impl Abort, alloc: Global, inside: &mut Vec<u8>, outside: &mut Vec<u8>) {
+    let inner = Recording::new(alloc, Sim::new(alloc), inside);
+    let mut radio = Recording::new(alloc, inner, outside);
+    succeeds(rt, &mut radio, &[Asked::Transmit(b"\x01")]);
+}
+
 #[test]
-fn a_recording_passes_calls_on(rt: HostRuntime) -> Result<(), Fail> {
+fn a_recording_passes_calls_on(rt: HostRuntime) {
     let alloc = rt.alloc();
     let mut inside: Vec<u8> = Vec::new(alloc);
     let mut outside: Vec<u8> = Vec::new(alloc);
-    {
-        let inner = Recording::new(alloc, Sim::new(alloc), &mut inside);
-        let mut radio = Recording::new(alloc, inner, &mut outside);
-        assert!(rt; radio.transmit(b"\x01").is_ok());
-    }
-    assert_eq!(rt; outside.as_slice(), b"tx 01\ndown\n".as_slice());
-    assert_eq!(rt; inside.as_slice(), b"tx 01\ndown\ndown\n".as_slice());
-    Ok(())
+    record_twice(&rt, alloc, &mut inside, &mut outside);
+    expect(&rt, outside.as_slice(), b"tx 01\ndown\n".as_slice());
+    expect(&rt, inside.as_slice(), b"tx 01\ndown\ndown\n".as_slice());
 }
 
 /// A writer that has room for some bytes, then refuses one call, and takes every later one.
@@ -144,26 +173,37 @@ impl Write for Refusing {
     }
 }
 
+fn record_to_refusing(rt: &impl Abort, alloc: Global, writer: &mut Refusing) {
+    let mut radio = Recording::new(alloc, Sim::new(alloc), writer);
+    let rows = [
+        (Asked::Transmit(b"\x01"), Ok(()), None, 0),
+        (Asked::Install(1), Ok(()), Some(1), 0),
+        (Asked::TakeDown, Ok(()), None, 0),
+    ];
+    goes_through(rt, &mut radio, &rows);
+}
+
 #[test]
-fn a_write_that_fails_ends_the_recording(rt: HostRuntime) -> Result<(), Fail> {
+fn a_write_that_fails_ends_the_recording(rt: HostRuntime) {
     let alloc = rt.alloc();
     let mut writer = Refusing {
         taken: Vec::new(alloc),
         room: 20,
     };
-    {
-        let mut radio = Recording::new(alloc, Sim::new(alloc), &mut writer);
-        assert!(rt; radio.transmit(b"\x01").is_ok());
-        assert!(rt; radio.install(STATION, 1).is_ok());
-        assert_eq!(rt; radio.installed(STATION), Some(1));
-        radio.take_down();
-        assert_eq!(rt; radio.installed(STATION), None);
-    }
-    assert_eq!(rt;
-        writer.taken.as_slice(),
-        b"tx 01\ninstall 02:00:".as_slice()
-    );
-    Ok(())
+    record_to_refusing(&rt, alloc, &mut writer);
+    let lines = b"tx 01\ninstall 02:00:";
+    expect(&rt, writer.taken.as_slice(), lines.as_slice());
+}
+
+/// Why a recording is refused.
+fn refusal(alloc: Global, recording: &[u8]) -> Option<ReplayFault> {
+    Replaying::new(alloc, recording).err()
+}
+
+/// The same where this is its second line of three.
+fn refusal_of_line(alloc: Global, line: &str) -> Result<Option<ReplayFault>, Fail> {
+    let text = format!(in alloc; "rx 00\n{line}\nrx 0\n")?;
+    Ok(refusal(alloc, text.as_bytes()))
 }
 
 #[test]
@@ -171,7 +211,7 @@ fn the_first_bad_line_is_told(rt: HostRuntime) -> Result<(), Fail> {
     let alloc = rt.alloc();
     let good =
         "rx\nrx \nrx 0aF0\ntx\ntx \ntx ff\ninstall 02:00:00:00:00:AA 0\ninstall 02:00:00:00:00:aa 65535\ninstall 02:00:00:00:00:aa 00001\nremove 02:00:00:00:00:aa\ndown";
-    assert!(rt; Replaying::new(alloc, good.as_bytes()).is_ok());
+    expect(&rt, refusal(alloc, good.as_bytes()), None);
     for bad in [
         "rx 0",
         "rx 0g",
@@ -192,45 +232,22 @@ fn the_first_bad_line_is_told(rt: HostRuntime) -> Result<(), Fail> {
         "down\r",
         "",
     ] {
-        let text = format!(in alloc; "rx 00\n{bad}\nrx 0\n")?;
-        assert_eq!(rt;
-            Replaying::new(alloc, text.as_bytes()).err(),
-            Some(ReplayFault::BadLine(2))
-        );
+        let second = (bad, Some(ReplayFault::BadLine(2)));
+        expect(&rt, (bad, refusal_of_line(alloc, bad)?), second);
     }
-    assert_eq!(rt;
-        Replaying::new(alloc, b"rx 00\nrx 0").err(),
-        Some(ReplayFault::BadLine(2))
-    );
+    let second = Some(ReplayFault::BadLine(2));
+    expect(&rt, refusal(alloc, b"rx 00\nrx 0"), second);
     Ok(())
 }
 
 #[test]
 fn faults_have_texts(rt: HostRuntime) -> Result<(), Fail> {
     let alloc = rt.alloc();
-    assert_eq!(rt;
-        format!(in alloc; "{}", RadioFault::Device)?.as_str(),
-        "device fault"
-    );
-    assert_eq!(rt;
-        format!(in alloc; "{}", RadioFault::NoMemory)?.as_str(),
-        "out of memory"
-    );
-    assert_eq!(rt;
-        format!(in alloc; "{}", ReplayFault::BadLine(2))?.as_str(),
-        "bad line 2"
-    );
-    assert_eq!(rt;
-        format!(in alloc; "{}", ReplayFault::NoMemory)?.as_str(),
-        "out of memory"
-    );
-    assert_eq!(rt;
-        format!(in alloc; "{}", SocketFault::NoSocket)?.as_str(),
-        "no socket"
-    );
-    assert_eq!(rt;
-        format!(in alloc; "{}", SocketFault::NoMemory)?.as_str(),
-        "out of memory"
-    );
+    expect_text(&rt, alloc, &RadioFault::Device, "device fault")?;
+    expect_text(&rt, alloc, &RadioFault::NoMemory, "out of memory")?;
+    expect_text(&rt, alloc, &ReplayFault::BadLine(2), "bad line 2")?;
+    expect_text(&rt, alloc, &ReplayFault::NoMemory, "out of memory")?;
+    expect_text(&rt, alloc, &SocketFault::NoSocket, "no socket")?;
+    expect_text(&rt, alloc, &SocketFault::NoMemory, "out of memory")?;
     Ok(())
 }

@@ -1,11 +1,13 @@
 //! Calls of slots and tables whose contracts are long, each by a function of its own, so that the proof of a test
 //! needn't carry them.
+use crate::expect::expect;
 use apd_mlme::Out;
-use apd_radio::Radio;
+use apd_radio::{Radio, RadioFault};
 use apd_record::Change;
 use apd_slot::{Slot, SlotFault};
 use apd_table::{Table, TableFault};
 use std::alloc::{AllocError, Global};
+use std::process::Abort;
 
 pub(crate) fn apply<R: Radio>(slot: &mut Slot<R>, out: &Out) -> Result<(), SlotFault> {
     slot.apply(out)
@@ -13,6 +15,17 @@ pub(crate) fn apply<R: Radio>(slot: &mut Slot<R>, out: &Out) -> Result<(), SlotF
 
 pub(crate) fn make_room<R: Radio>(slot: &mut Slot<R>, count: usize) -> Result<(), AllocError> {
     slot.make_room(count)
+}
+
+/// Polls, and expects this frame, or none.
+pub(crate) fn gives<R: Radio>(
+    rt: &impl Abort,
+    slot: &mut Slot<R>,
+    frame: Option<&[u8]>,
+) -> Result<(), RadioFault> {
+    let received = slot.poll()?;
+    expect(rt, received.as_deref(), frame);
+    Ok(())
 }
 
 /// Makes room for outs, and puts them behind those that wait.

@@ -1,10 +1,12 @@
 //! Slots whose driver fails: the stations that are wanted go on to the same radio, or to another one.
+use crate::expect::expect;
 use crate::slot_calls::{apply, replace, resync};
 use crate::slot_samples::{FIRST, SECOND, WLAN0, identifier, replace_radio};
 use apd_mlme::Out;
 use apd_radio::{Failing, Radio, Sim};
 use apd_slot::{Slot, SlotFault};
 use std::alloc::Global;
+use std::process::Abort;
 use std::test::Fail;
 
 const WENT_DOWN: Result<(), SlotFault> = Err(SlotFault::WentDown);
@@ -14,47 +16,92 @@ fn failing_radio(alloc: Global, calls: u64) -> Failing<Sim> {
     Failing::new(Sim::new(alloc), calls)
 }
 
-/// What a slot answers where its two stations are installed.
-fn install_both<R: Radio>(slot: &mut Slot<R>) -> Result<[Result<(), SlotFault>; 2], Fail> {
+/// Installs two stations, and expects this answer at the second one.
+fn install_both<R: Radio>(
+    rt: &impl Abort,
+    slot: &mut Slot<R>,
+    answer: Result<(), SlotFault>,
+) -> Result<(), Fail> {
     let first = apply(slot, &Out::Install(FIRST, identifier(1)?));
     let second = apply(slot, &Out::Install(SECOND, identifier(2)?));
-    Ok([first, second])
+    expect(rt, [first, second], [Ok(()), answer]);
+    Ok(())
 }
 
-fn wants_both<R: Radio>(slot: &Slot<R>) -> bool {
-    slot.wanted(FIRST) == Some(1) && slot.wanted(SECOND) == Some(2)
+/// Expects that a slot is up with its two stations.
+fn expect_both<R: Radio>(rt: &impl Abort, slot: &Slot<R>) {
+    let wanted = [slot.wanted(FIRST), slot.wanted(SECOND)];
+    let installed = [slot.installed(FIRST), slot.installed(SECOND)];
+    let both = [Some(1), Some(2)];
+    expect(rt, (slot.is_up(), wanted, installed), (true, both, both));
 }
 
-fn has_both<R: Radio>(slot: &Slot<R>) -> bool {
-    slot.installed(FIRST) == Some(1) && slot.installed(SECOND) == Some(2)
+/// Expects that a slot is down, and wants its two stations.
+fn expect_down<R: Radio>(rt: &impl Abort, slot: &Slot<R>) {
+    let wanted = [slot.wanted(FIRST), slot.wanted(SECOND)];
+    expect(rt, (slot.is_up(), wanted), (false, [Some(1), Some(2)]));
 }
 
 #[test]
 fn a_slot_gives_its_radio_anew_what_is_wanted(rt: HostRuntime) -> Result<(), Fail> {
     let alloc = rt.alloc();
-    let mut slot = Slot::new(alloc, Sim::new(alloc), WLAN0);
     let install = Out::Install(FIRST, identifier(1)?);
-    assert_eq!(rt; apply(&mut slot, &install), Ok(()));
-    assert_eq!(rt; resync(&mut slot), Ok(()));
-    assert!(rt; slot.is_up());
-    assert_eq!(rt; slot.installed(FIRST), Some(1));
+    let mut slot = Slot::new(alloc, Sim::new(alloc), WLAN0);
+    expect(&rt, apply(&mut slot, &install), Ok(()));
+    expect(&rt, resync(&mut slot), Ok(()));
+    expect(&rt, (slot.is_up(), slot.installed(FIRST)), (true, Some(1)));
     Ok(())
+}
+
+/// Has a slot's two stations installed, and then each given anew to its radio, which passes so many calls on.
+fn resync_behind(
+    rt: &impl Abort,
+    alloc: Global,
+    calls: u64,
+    answer: Result<(), SlotFault>,
+) -> Result<Slot<Failing<Sim>>, Fail> {
+    let mut slot = Slot::new(alloc, failing_radio(alloc, calls), WLAN0);
+    install_both(rt, &mut slot, Ok(()))?;
+    expect(rt, resync(&mut slot), answer);
+    Ok(slot)
 }
 
 /// Its two stations take a radio two calls, and so does a resync.
 #[test]
 fn a_resync_fails_at_its_second_station(rt: HostRuntime) -> Result<(), Fail> {
-    let alloc = rt.alloc();
-    let mut slot = Slot::new(alloc, failing_radio(alloc, 2 + 1), WLAN0);
-    assert_eq!(rt; install_both(&mut slot)?, [Ok(()), Ok(())]);
-    assert_eq!(rt; resync(&mut slot), WENT_DOWN);
-    assert!(rt; !slot.is_up());
-    assert!(rt; wants_both(&slot));
-    let mut slot = Slot::new(alloc, failing_radio(alloc, 2 + 2), WLAN0);
-    assert_eq!(rt; install_both(&mut slot)?, [Ok(()), Ok(())]);
-    assert_eq!(rt; resync(&mut slot), Ok(()));
-    assert!(rt; slot.is_up());
-    assert!(rt; has_both(&slot));
+    let slot = resync_behind(&rt, rt.alloc(), 2 + 1, WENT_DOWN)?;
+    expect_down(&rt, &slot);
+    drop(slot);
+    let slot = resync_behind(&rt, rt.alloc(), 2 + 2, Ok(()))?;
+    expect_both(&rt, &slot);
+    Ok(())
+}
+
+/// Offers a slot a radio that fails at its second station.
+fn refuse_radio(
+    rt: &impl Abort,
+    slot: &mut Slot<Failing<Sim>>,
+    radio: Failing<Sim>,
+) -> Result<(), Fail> {
+    let Err((back, fault)) = replace(slot, radio) else {
+        return Err(Fail::new("a radio that fails is taken"));
+    };
+    let found = (fault, back.installed(FIRST));
+    drop(back);
+    expect(rt, found, (SlotFault::WentDown, None));
+    expect_down(rt, slot);
+    Ok(())
+}
+
+/// Gives a slot a radio that doesn't fail.
+fn take_radio(
+    rt: &impl Abort,
+    slot: &mut Slot<Failing<Sim>>,
+    radio: Failing<Sim>,
+) -> Result<(), Fail> {
+    let old = replace_radio(slot, radio)?;
+    expect(rt, old.installed(FIRST), None);
+    expect_both(rt, slot);
     Ok(())
 }
 
@@ -62,17 +109,7 @@ fn a_resync_fails_at_its_second_station(rt: HostRuntime) -> Result<(), Fail> {
 fn a_radio_that_fails_at_its_second_station_is_handed_back(rt: HostRuntime) -> Result<(), Fail> {
     let alloc = rt.alloc();
     let mut slot = Slot::new(alloc, failing_radio(alloc, 1), WLAN0);
-    assert_eq!(rt; install_both(&mut slot)?, [Ok(()), WENT_DOWN]);
-    let Err((back, fault)) = replace(&mut slot, failing_radio(alloc, 1)) else {
-        return Err(Fail::new("a radio that fails is taken"));
-    };
-    assert_eq!(rt; fault, SlotFault::WentDown);
-    assert_eq!(rt; back.installed(FIRST), None);
-    assert!(rt; !slot.is_up());
-    assert!(rt; wants_both(&slot));
-    let old = replace_radio(&mut slot, failing_radio(alloc, 2))?;
-    assert_eq!(rt; old.installed(FIRST), None);
-    assert!(rt; slot.is_up());
-    assert!(rt; has_both(&slot));
-    Ok(())
+    install_both(&rt, &mut slot, WENT_DOWN)?;
+    refuse_radio(&rt, &mut slot, failing_radio(alloc, 1))?;
+    take_radio(&rt, &mut slot, failing_radio(alloc, 2))
 }

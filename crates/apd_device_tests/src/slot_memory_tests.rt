@@ -1,5 +1,6 @@
 //! Slots that are refused memory: each call is made once more, and has to come to the same. Where memory is ample
 //! nothing is refused; by hand each allocation is refused in turn.
+use crate::expect::expect;
 use crate::slot_calls::{apply, apply_next, change, make_room, queue, replace, resume};
 use apd_base::{AclMode, Addr, Aid, Association, Bssid, Policy, Station, StationNumber};
 use apd_mlme::Out;
@@ -83,8 +84,8 @@ fn installs_all<R: Radio>(slot: &mut Slot<R>) -> Option<()> {
 fn an_out_that_is_refused_memory_changes_nothing(rt: HostRuntime) -> Result<(), Fail> {
     let alloc = rt.alloc();
     let mut slot = Slot::new(alloc, Sim::new(alloc), WLAN0);
-    assert!(rt; installs_all(&mut slot).is_some());
-    assert!(rt; is_up_with(&slot, STATIONS));
+    expect(&rt, installs_all(&mut slot), Some(()));
+    expect(&rt, is_up_with(&slot, STATIONS), true);
     Ok(())
 }
 
@@ -136,9 +137,9 @@ fn applies_all<R: Radio>(alloc: Global, slot: &mut Slot<R>) -> Option<()> {
 fn an_out_that_waits_stays_first_where_memory_is_refused(rt: HostRuntime) -> Result<(), Fail> {
     let alloc = rt.alloc();
     let mut slot = Slot::new(alloc, Sim::new(alloc), WLAN0);
-    assert!(rt; applies_all(alloc, &mut slot).is_some());
-    assert!(rt; is_up_with(&slot, STATIONS));
-    assert_eq!(rt; slot.waiting_count(), 0);
+    expect(&rt, applies_all(alloc, &mut slot), Some(()));
+    expect(&rt, is_up_with(&slot, STATIONS), true);
+    expect(&rt, slot.waiting_count(), 0);
     Ok(())
 }
 
@@ -207,8 +208,8 @@ fn a_slot_that_is_refused_memory_does_not_resume(rt: HostRuntime) -> Result<(), 
     let alloc = rt.alloc();
     let table = table(alloc).ok_or("a table")?;
     let mut slot = earlier_slot(alloc).ok_or("a slot")?;
-    assert!(rt; resumes(alloc, &mut slot, &table).is_some());
-    assert!(rt; is_up_with(&slot, STATIONS));
+    expect(&rt, resumes(alloc, &mut slot, &table), Some(()));
+    expect(&rt, is_up_with(&slot, STATIONS), true);
     Ok(())
 }
 
@@ -244,7 +245,7 @@ fn a_radio_that_is_refused_memory_does_not_replace_another(rt: HostRuntime) -> R
     installs_all(&mut slot).ok_or("stations")?;
     let other = earlier_radio(alloc).ok_or("a radio")?;
     let old = replaces(&mut slot, other).ok_or("a refusal left something else")?;
-    assert!(rt; is_empty(&old));
-    assert!(rt; is_up_with(&slot, STATIONS));
+    expect(&rt, is_empty(&old), true);
+    expect(&rt, is_up_with(&slot, STATIONS), true);
     Ok(())
 }

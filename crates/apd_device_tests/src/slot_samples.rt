@@ -5,7 +5,7 @@ use apd_mlme::Out;
 use apd_radio::Radio;
 use apd_record::Change;
 use apd_slot::Slot;
-use apd_table::Table;
+use apd_table::{Table, TableFault};
 use std::alloc::Global;
 use std::test::Fail;
 
@@ -39,6 +39,17 @@ pub(crate) fn identifier(number: u16) -> Result<Aid, Fail> {
     Ok(Aid::new(number).ok_or("identifier")?)
 }
 
+fn put(table: &mut Table, bssid: Bssid, addr: Addr, station: Station) -> Result<(), TableFault> {
+    change(
+        table,
+        &Change::Put {
+            bssid,
+            addr,
+            station,
+        },
+    )
+}
+
 /// A table in which the first station is authenticated at wlan0, and both are associated at wlan1.
 pub(crate) fn table(alloc: Global) -> Result<Table, Fail> {
     let mut table = Table::new(alloc);
@@ -48,31 +59,14 @@ pub(crate) fn table(alloc: Global) -> Result<Table, Fail> {
     for bssid in [WLAN0, WLAN1] {
         change(&mut table, &Change::Policy { bssid, policy })?;
     }
-    let station = Station::Authenticated;
-    let (bssid, addr) = (WLAN0, FIRST);
-    change(
-        &mut table,
-        &Change::Put {
-            bssid,
-            addr,
-            station,
-        },
-    )?;
+    put(&mut table, WLAN0, FIRST, Station::Authenticated)?;
     for (addr, number) in [(SECOND, 2), (FIRST, 1)] {
         let station = Station::Associated(Association {
             aid: identifier(number)?,
             capability: 1,
             listen_interval: 5,
         });
-        let bssid = WLAN1;
-        change(
-            &mut table,
-            &Change::Put {
-                bssid,
-                addr,
-                station,
-            },
-        )?;
+        put(&mut table, WLAN1, addr, station)?;
     }
     Ok(table)
 }

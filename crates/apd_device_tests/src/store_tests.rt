@@ -3,12 +3,14 @@ use crate::common::{
     BSSID, LENGTH, Made, Seen, TWO_GROUPS, associated_row, batch_of, blank_disk, calls_after,
     cursor, disk_of_byte, look, policy, put, write_bytes,
 };
-use apd_base::Station;
+use crate::expect::{expect, expect_text};
+use apd_base::{Aid, Association, Station};
 use apd_disk::{Disk, FuseDisk, MemDisk, Torn};
 use apd_record::{Change, write};
-use apd_store::{Receipt, Store, StoreFault, format, recover};
+use apd_store::{Store, StoreFault, format, recover};
 use apd_table::Table;
 use std::alloc::Global;
+use std::process::Abort;
 use std::test::Fail;
 
 // Begins a batch of one change.
@@ -59,14 +61,14 @@ fn begin_association<D: Disk>(
 }
 
 // Makes the four calls of a batch that was begun.
-fn commit_begun<D: Disk>(store: &mut Store<D>, number: u64) -> Result<Receipt, Fail> {
+fn commit_begun<D: Disk>(store: &mut Store<D>, number: u64) -> Result<(), Fail> {
     lay_down(store)?;
     store.next_call()?;
     if store.next_call()? {
         return Err(Fail::from("a fifth call"));
     }
     match store.finish() {
-        Some(receipt) if receipt.batch().first == number => Ok(receipt),
+        Some(receipt) if receipt.batch().first == number => Ok(()),
         Some(_) => Err(Fail::from("another batch")),
         None => Err(Fail::from("no receipt")),
     }
@@ -78,7 +80,7 @@ fn commit<D: Disk>(
     store: &mut Store<D>,
     number: u64,
     change: Change,
-) -> Result<Receipt, Fail> {
+) -> Result<(), Fail> {
     begin(alloc, store, number, change)?;
     commit_begun(store, number)
 }
@@ -101,39 +103,52 @@ fn advance<D: Disk>(store: &mut Store<D>, calls: u64) -> Result<(), StoreFault> 
     Ok(())
 }
 
-// The device, formatted, after a policy, an authenticated station and its association, as far as they are wanted.
+// A policy, an authenticated station and its association, as far as they are wanted.
+fn make_commits<D: Disk>(alloc: Global, store: &mut Store<D>, commits: u64) -> Result<(), Fail> {
+    if commits > 0 {
+        commit(alloc, store, 1, policy()?)?;
+    }
+    if commits > 1 {
+        commit(alloc, store, 2, put(Station::Authenticated))?;
+    }
+    if commits > 2 {
+        begin_association(alloc, store, 3)?;
+        commit_begun(store, 3)?;
+    }
+    Ok(())
+}
+
+// The device, formatted, after so many of them.
 // Generic, as all that asks for room in the device: no proof then meets its length.
-fn make_commits<D: Disk>(alloc: Global, disk: D, commits: u64) -> Result<D, Fail>
+fn with_commits<D: Disk>(alloc: Global, disk: D, commits: u64) -> Result<D, Fail>
 where
     D: Drop,
 {
     let mut store = format_store(alloc, disk)?;
-    if commits == 0 {
-        return Ok(store.into_device());
-    }
-    commit(alloc, &mut store, 1, policy()?)?;
-    if commits == 1 {
-        return Ok(store.into_device());
-    }
-    commit(alloc, &mut store, 2, put(Station::Authenticated))?;
-    if commits == 2 {
-        return Ok(store.into_device());
-    }
-    begin_association(alloc, &mut store, 3)?;
-    commit_begun(&mut store, 3)?;
-    Ok(store.into_device())
+    let made = make_commits(alloc, &mut store, commits);
+    let device = store.into_device();
+    made?;
+    Ok(device)
 }
 
-// The device after a policy and as many calls of a station's commit.
+// A policy, and as many calls of a station's commit.
+fn begin_station<D: Disk>(alloc: Global, store: &mut Store<D>, calls: u64) -> Result<(), Fail> {
+    commit(alloc, store, 1, policy()?)?;
+    begin(alloc, store, 2, put(Station::Authenticated))?;
+    advance(store, calls)?;
+    Ok(())
+}
+
+// The device, formatted, after these.
 fn committing<D: Disk>(alloc: Global, disk: D, calls: u64) -> Result<D, Fail>
 where
     D: Drop,
 {
     let mut store = format_store(alloc, disk)?;
-    commit(alloc, &mut store, 1, policy()?)?;
-    begin(alloc, &mut store, 2, put(Station::Authenticated))?;
-    advance(&mut store, calls)?;
-    Ok(store.into_device())
+    let begun = begin_station(alloc, &mut store, calls);
+    let device = store.into_device();
+    begun?;
+    Ok(device)
 }
 
 // The device, formatted once more.
@@ -155,35 +170,39 @@ where
     }
 }
 
+// What is told where a call of a commit has failed.
+fn fault_of_commit<D: Disk>(alloc: Global, store: &mut Store<D>) -> Result<StoreFault, Fail> {
+    begin(alloc, store, 2, put(Station::Authenticated))?;
+    if advance(store, 4) != Err(StoreFault::Device) || !store.failed() {
+        return Err(Fail::from("no fault"));
+    }
+    refusal(alloc, store, policy()?)
+}
+
 // What is told where a call of a recovery or of the commit behind it fails, and the device.
 fn fault_of<D: Disk>(alloc: Global, disk: D) -> Result<(StoreFault, D), Fail>
 where
     D: Drop,
 {
-    let (mut store, _table) = match recover(alloc, disk) {
-        Ok(found) => found,
-        Err((disk, fault)) => return Ok((fault, disk)),
-    };
-    begin(alloc, &mut store, 2, put(Station::Authenticated))?;
-    if advance(&mut store, 4) != Err(StoreFault::Device) || !store.failed() {
-        return Err(Fail::from("no fault"));
+    match recover(alloc, disk) {
+        Ok((store, _table)) => {
+            let mut store = store;
+            let fault = fault_of_commit(alloc, &mut store);
+            let device = store.into_device();
+            Ok((fault?, device))
+        }
+        Err((disk, fault)) => Ok((fault, disk)),
     }
-    let fault = refusal(alloc, &mut store, policy()?)?;
-    Ok((fault, store.into_device()))
 }
 
 // Why a second batch is refused while one is under way.
-fn busy<D: Disk>(alloc: Global, disk: D) -> Result<StoreFault, Fail>
-where
-    D: Drop,
-{
-    let mut store = format_store(alloc, disk)?;
-    begin(alloc, &mut store, 1, policy()?)?;
-    refusal(alloc, &mut store, policy()?)
+fn busy<D: Disk>(alloc: Global, store: &mut Store<D>) -> Result<StoreFault, Fail> {
+    begin(alloc, store, 1, policy()?)?;
+    refusal(alloc, store, policy()?)
 }
 
 fn device(alloc: Global, commits: u64) -> Result<MemDisk, Fail> {
-    make_commits(alloc, blank_disk(alloc, LENGTH)?, commits)
+    with_commits(alloc, blank_disk(alloc, LENGTH)?, commits)
 }
 
 // What is seen after a stop in the commit of a station, once as many of its calls were made.
@@ -227,6 +246,14 @@ fn recovery_of(alloc: Global, records: &[&[u8]]) -> Result<Given, Fail> {
             Ok(Ok((table.next_free(BSSID), snapshot)))
         }
         Err((_disk, fault)) => Ok(Err(fault)),
+    }
+}
+
+// Why no store is recovered whose groups have these records.
+fn refusal_of(alloc: Global, records: &[&[u8]]) -> Result<Option<StoreFault>, Fail> {
+    match recovery_of(alloc, records)? {
+        Ok(_given) => Ok(None),
+        Err(fault) => Ok(Some(fault)),
     }
 }
 
@@ -276,8 +303,8 @@ fn the_first_bytes(rt: HostRuntime) -> Result<(), Fail> {
     let disk = device(rt.alloc(), 2)?;
     let bytes = disk.bytes();
     let groups = TWO_GROUPS;
-    assert!(rt; bytes.starts_with(b"RAPSTOR2"));
-    assert_eq!(rt; bytes.get(64..118), Some(groups.as_slice()));
+    expect(&rt, bytes.get(..8), Some(b"RAPSTOR2".as_slice()));
+    expect(&rt, bytes.get(64..118), Some(groups.as_slice()));
     Ok(())
 }
 
@@ -293,8 +320,8 @@ const ASSOCIATION: &[u8] = &[
 fn the_bytes_of_an_association(rt: HostRuntime) -> Result<(), Fail> {
     let disk = device(rt.alloc(), 3)?;
     let bytes = disk.bytes();
-    assert_eq!(rt; bytes.get(64..117), TWO_GROUPS.get(..53));
-    assert_eq!(rt; bytes.get(117..152), Some(ASSOCIATION));
+    expect(&rt, bytes.get(64..117), TWO_GROUPS.get(..53));
+    expect(&rt, bytes.get(117..152), Some(ASSOCIATION));
     Ok(())
 }
 
@@ -312,7 +339,8 @@ fn the_calls_of_a_commit(rt: HostRuntime) -> Result<(), Fail> {
         let disk = committing(alloc, blank_disk(alloc, LENGTH)?, calls)?;
         // Behind seven calls of the format and four of the policy's commit.
         let made = calls_after(alloc, &disk, 11)?;
-        assert_eq!(rt; Some(made.as_slice()), all.get(..many), "{calls}");
+        let found = (calls, Some(made.as_slice()));
+        expect(&rt, found, (calls, all.get(..many)));
     }
     Ok(())
 }
@@ -331,12 +359,12 @@ fn the_calls_of_a_format(rt: HostRuntime) -> Result<(), Fail> {
         Made::Sync,
     ];
     let new = calls_after(alloc, &device(alloc, 0)?, 0)?;
-    assert_eq!(rt; new.get(..2), Some(first.as_slice()));
-    assert_eq!(rt; new.get(2..), Some(last.as_slice()));
+    expect(&rt, new.get(..2), Some(first.as_slice()));
+    expect(&rt, new.get(2..), Some(last.as_slice()));
     let again = calls_after(alloc, &format_again(alloc, device(alloc, 0)?)?, 7)?;
-    assert_eq!(rt; again.get(..2), Some(first.as_slice()));
-    assert_eq!(rt; again.get(2..4), Some(unmarking.as_slice()));
-    assert_eq!(rt; again.get(4..), Some(last.as_slice()));
+    expect(&rt, again.get(..2), Some(first.as_slice()));
+    expect(&rt, again.get(2..4), Some(unmarking.as_slice()));
+    expect(&rt, again.get(4..), Some(last.as_slice()));
     Ok(())
 }
 
@@ -350,14 +378,14 @@ fn all_bytes_of_a_new_store(rt: HostRuntime) -> Result<(), Fail> {
     }
     want.push((64, 1))?;
     want.push((65, 1))?;
-    assert!(rt; writes_over(alloc, 0)? == want);
+    expect(&rt, writes_over(alloc, 0)? == want, true);
     for place in 66..78 {
         want.push((place, 0))?;
     }
     for place in 1_048_640..1_048_653 {
         want.push((place, 0))?;
     }
-    assert!(rt; writes_over(alloc, 7)? == want);
+    expect(&rt, writes_over(alloc, 7)? == want, true);
     Ok(())
 }
 
@@ -367,10 +395,8 @@ fn the_calls_of_a_recovery(rt: HostRuntime) -> Result<(), Fail> {
     let alloc = rt.alloc();
     let disk = recover_device(alloc, device(alloc, 0)?)?;
     let made = calls_after(alloc, &disk, 7)?;
-    assert_eq!(rt;
-        made.as_slice(),
-        [Made::Sync, Made::Read(0, LENGTH)].as_slice()
-    );
+    let all = [Made::Sync, Made::Read(0, LENGTH)];
+    expect(&rt, made.as_slice(), all.as_slice());
     Ok(())
 }
 
@@ -387,13 +413,20 @@ fn a_stop_at_each_call_of_a_commit(rt: HostRuntime) -> Result<(), Fail> {
         (4, Torn::Old, Some(Station::Authenticated)),
     ] {
         let found = stop(rt.alloc(), calls, torn)?;
-        assert_eq!(rt;
-            found,
-            Ok((Some((0, 2007)), station)),
-            "{torn:?} after {calls}"
-        );
+        let wanted = Ok((Some((0, 2007)), station));
+        expect(&rt, (calls, torn, found), (calls, torn, wanted));
     }
     Ok(())
+}
+
+// How a short device is refused, by a format and then by a recovery.
+fn refusals_of_short(alloc: Global) -> Result<(Option<StoreFault>, Seen), Fail> {
+    let mut short = blank_disk(alloc, 2_097_215)?;
+    write_bytes(&mut short, 0, b"RAPSTOR1")?;
+    match format(alloc, short) {
+        Ok(store) => Ok((None, look(alloc, store.into_device()))),
+        Err((short, fault)) => Ok((Some(fault), look(alloc, short))),
+    }
 }
 
 #[test]
@@ -401,15 +434,11 @@ fn devices_that_are_no_stores(rt: HostRuntime) -> Result<(), Fail> {
     let alloc = rt.alloc();
     for length in [0, 2_097_215, 2_097_216, 2_097_217] {
         let found = look(alloc, blank_disk(alloc, length)?);
-        assert_eq!(rt; found, Err(StoreFault::NotAStore), "{length}");
+        expect(&rt, (length, found), (length, Err(StoreFault::NotAStore)));
     }
-    let mut short = blank_disk(alloc, 2_097_215)?;
-    write_bytes(&mut short, 0, b"RAPSTOR1")?;
-    let Err((short, StoreFault::NotAStore)) = format(alloc, short) else {
-        return Err(Fail::from("a short device is a store"));
-    };
     // The length is looked at before the magic.
-    assert_eq!(rt; look(alloc, short), Err(StoreFault::NotAStore));
+    let none = StoreFault::NotAStore;
+    expect(&rt, refusals_of_short(alloc)?, (Some(none), Err(none)));
     Ok(())
 }
 
@@ -417,24 +446,86 @@ fn devices_that_are_no_stores(rt: HostRuntime) -> Result<(), Fail> {
 fn two_open_halves(rt: HostRuntime) -> Result<(), Fail> {
     let alloc = rt.alloc();
     let older = Ok((Some((0, 2007)), Some(Station::Authenticated)));
-    assert_eq!(rt; two_halves(alloc, 0)?, older);
-    assert_eq!(rt; two_halves(alloc, 1)?, Err(StoreFault::Damaged));
-    assert_eq!(rt; two_halves(alloc, 2)?, Ok((Some((1, 9)), None)));
+    expect(&rt, two_halves(alloc, 0)?, older);
+    expect(&rt, two_halves(alloc, 1)?, Err(StoreFault::Damaged));
+    expect(&rt, two_halves(alloc, 2)?, Ok((Some((1, 9)), None)));
     Ok(())
 }
 
 #[test]
 fn each_byte_in_front_of_the_halves(rt: HostRuntime) -> Result<(), Fail> {
     let alloc = rt.alloc();
+    let none = Err(StoreFault::NotAStore);
+    let same = Ok((Some((0, 2007)), Some(Station::Authenticated)));
     let disk = device(alloc, 2)?;
     for place in 0..64 {
         let found = look_with(alloc, &disk, place, &[7])?;
-        if place < 8 {
-            assert_eq!(rt; found, Err(StoreFault::NotAStore), "{place}");
-        } else {
-            let same = Ok((Some((0, 2007)), Some(Station::Authenticated)));
-            assert_eq!(rt; found, same, "{place}");
-        }
+        let wanted = if place < 8 { none } else { same };
+        expect(&rt, (place, found), (place, wanted));
+    }
+    Ok(())
+}
+
+// What is seen of a store with an association.
+fn associated() -> Result<Seen, Fail> {
+    let row = Association {
+        aid: Aid::new(1).ok_or("1 is an identifier")?,
+        capability: 0x0431,
+        listen_interval: 10,
+    };
+    Ok(Ok((Some((0, 2007)), Some(Station::Associated(row)))))
+}
+
+// Bytes at a place, and what is seen of a store with an association where they stand there.
+const OTHERS: [(usize, &[u8], Seen); 12] = [
+    (7, b"1", Err(StoreFault::OldVersion)),
+    (7, b"3", Err(StoreFault::NotAStore)),
+    (64, &[0], Err(StoreFault::Damaged)),
+    (77, &[0], Ok((None, None))),
+    // The policy's BSSID becomes another one: the station has none.
+    (87, &[9], Err(StoreFault::Damaged)),
+    (92, &[2], Ok((Some((0, 2007)), None))),
+    (110, &[3], Err(StoreFault::Damaged)),
+    (
+        117,
+        &[0],
+        Ok((Some((0, 2007)), Some(Station::Authenticated))),
+    ),
+    // No record begins with 8, the cursor's BSSID becomes another one, and 2049 is no identifier.
+    (142, &[8], Err(StoreFault::Damaged)),
+    (148, &[9], Err(StoreFault::Damaged)),
+    (150, &[8], Err(StoreFault::Damaged)),
+    // A group that is too long.
+    (151, &[1, 1, 0, 1, 0], Err(StoreFault::Damaged)),
+];
+
+// A byte at a place where it makes no difference: a group of no records, and what is not looked at, behind the closed
+// gate and in half B.
+const NO_OTHERS: &[(usize, u8)] = &[(63, 7), (149, 7), (151, 1), (152, 255), (1_048_641, 9)];
+
+fn expect_with(
+    rt: &impl Abort,
+    alloc: Global,
+    disk: &MemDisk,
+    (place, bytes): (usize, &[u8]),
+    wanted: Seen,
+) -> Result<(), Fail> {
+    let found = look_with(alloc, disk, place, bytes)?;
+    expect(rt, (place, bytes, found), (place, bytes, wanted));
+    Ok(())
+}
+
+fn expect_others(rt: &impl Abort, alloc: Global, disk: &MemDisk) -> Result<(), Fail> {
+    for (place, bytes, found) in OTHERS {
+        expect_with(rt, alloc, disk, (place, bytes), found)?;
+    }
+    Ok(())
+}
+
+fn expect_no_others(rt: &impl Abort, alloc: Global, disk: &MemDisk) -> Result<(), Fail> {
+    let same = associated()?;
+    for (place, byte) in NO_OTHERS {
+        expect_with(rt, alloc, disk, (*place, &[*byte]), same)?;
     }
     Ok(())
 }
@@ -443,38 +534,23 @@ fn each_byte_in_front_of_the_halves(rt: HostRuntime) -> Result<(), Fail> {
 fn other_bytes_in_a_store(rt: HostRuntime) -> Result<(), Fail> {
     let alloc = rt.alloc();
     let disk = device(alloc, 3)?;
-    let same = look(alloc, device(alloc, 3)?);
-    assert!(rt; matches!(same, Ok((Some((0, 2007)), Some(Station::Associated(_))))));
-    let row = Some((0, 2007));
-    for (place, byte, found) in [
-        (7, 0x31, Err(StoreFault::OldVersion)),
-        (7, 0x33, Err(StoreFault::NotAStore)),
-        (63, 7, same),
-        (64, 0, Err(StoreFault::Damaged)),
-        (77, 0, Ok((None, None))),
-        // The policy's BSSID becomes another one: the station has none.
-        (87, 9, Err(StoreFault::Damaged)),
-        (92, 2, Ok((row, None))),
-        (110, 3, Err(StoreFault::Damaged)),
-        (117, 0, Ok((row, Some(Station::Authenticated)))),
-        // No record begins with 8, the cursor's BSSID becomes another one, and 2049 is no identifier.
-        (142, 8, Err(StoreFault::Damaged)),
-        (148, 9, Err(StoreFault::Damaged)),
-        (149, 7, same),
-        (150, 8, Err(StoreFault::Damaged)),
-        // A group of no records. What is behind the closed gate, and half B, are not looked at.
-        (151, 1, same),
-        (152, 255, same),
-        (1_048_641, 9, same),
-    ] {
-        assert_eq!(rt;
-            look_with(alloc, &disk, place, &[byte])?,
-            found,
-            "{byte} at {place}"
-        );
-    }
-    let long = look_with(alloc, &disk, 151, &[1, 1, 0, 1, 0])?;
-    assert_eq!(rt; long, Err(StoreFault::Damaged));
+    expect_others(&rt, alloc, &disk)?;
+    expect_no_others(&rt, alloc, &disk)?;
+    expect(&rt, look(alloc, disk), associated()?);
+    Ok(())
+}
+
+// Expects these records in the snapshot of a table, and the identifier that it gives next.
+fn expect_recovery(
+    rt: &impl Abort,
+    alloc: Global,
+    groups: &[&[u8]],
+    next: u16,
+    records: &[&[u8]],
+) -> Result<(), Fail> {
+    let wanted = records.concat(alloc)?;
+    let found = recovery_of(alloc, groups)?;
+    expect(rt, found, Ok((Some(next), wanted)));
     Ok(())
 }
 
@@ -486,16 +562,12 @@ fn a_cursor_in_a_group(rt: HostRuntime) -> Result<(), Fail> {
         ([7, 2, 0, 0, 0, 0, 1, 5, 0], 6),
         ([7, 2, 0, 0, 0, 0, 1, 0xd7, 7], 1),
     ] {
-        let mut records = Vec::from_slice(alloc, POLICY)?;
-        records.extend_from_slice(&cursor)?;
-        let found = recovery_of(alloc, &[POLICY, &cursor])?;
-        assert_eq!(rt; found, Ok((Some(next), records)), "{cursor:?}");
+        let records = [POLICY, cursor.as_slice()];
+        expect_recovery(&rt, alloc, &records, next, &records)?;
     }
     // Where none was given yet it has no record.
     let none = [7, 2, 0, 0, 0, 0, 1, 0, 0];
-    let first = recovery_of(alloc, &[POLICY, &none])?;
-    assert_eq!(rt; first, Ok((Some(1), Vec::from_slice(alloc, POLICY)?)));
-    Ok(())
+    expect_recovery(&rt, alloc, &[POLICY, &none], 1, &[POLICY])
 }
 
 #[test]
@@ -503,11 +575,15 @@ fn a_cursor_that_is_refused(rt: HostRuntime) -> Result<(), Fail> {
     let alloc = rt.alloc();
     // Its BSSID has no policy, and 2008 is no identifier.
     for cursor in [[7, 2, 0, 0, 0, 0, 1, 5, 0], [7, 2, 0, 0, 0, 0, 1, 0, 0]] {
-        let found = recovery_of(alloc, &[&cursor])?;
-        assert_eq!(rt; found, Err(StoreFault::Damaged), "{cursor:?}");
+        expect(
+            &rt,
+            refusal_of(alloc, &[&cursor])?,
+            Some(StoreFault::Damaged),
+        );
     }
-    let found = recovery_of(alloc, &[POLICY, &[7, 2, 0, 0, 0, 0, 1, 0xd8, 7]])?;
-    assert_eq!(rt; found, Err(StoreFault::Damaged));
+    let cursor = [7, 2, 0, 0, 0, 0, 1, 0xd8, 7];
+    let fault = refusal_of(alloc, &[POLICY, &cursor])?;
+    expect(&rt, fault, Some(StoreFault::Damaged));
     Ok(())
 }
 
@@ -523,11 +599,8 @@ fn each_call_that_fails(rt: HostRuntime) -> Result<(), Fail> {
         (4, StoreFault::Failed, after),
         (5, StoreFault::Failed, after),
     ] {
-        assert_eq!(rt;
-            fault_after(rt.alloc(), passes)?,
-            (fault, found),
-            "{passes}"
-        );
+        let is = fault_after(rt.alloc(), passes)?;
+        expect(&rt, (passes, is), (passes, (fault, found)));
     }
     Ok(())
 }
@@ -544,15 +617,18 @@ fn each_call_of_a_format_that_fails(rt: HostRuntime) -> Result<(), Fail> {
         (8, Some(Ok((None, None)))),
         (9, None),
     ] {
-        assert_eq!(rt; stop_format(rt.alloc(), passes)?, found, "{passes}");
+        let is = stop_format(rt.alloc(), passes)?;
+        expect(&rt, (passes, is), (passes, found));
     }
     Ok(())
 }
 
 #[test]
 fn a_store_that_is_busy(rt: HostRuntime) -> Result<(), Fail> {
-    let fault = busy(rt.alloc(), blank_disk(rt.alloc(), LENGTH)?)?;
-    assert_eq!(rt; fault, StoreFault::NotIdle);
+    let mut store = format_store(rt.alloc(), blank_disk(rt.alloc(), LENGTH)?)?;
+    let fault = busy(rt.alloc(), &mut store);
+    drop(store);
+    expect(&rt, fault?, StoreFault::NotIdle);
     Ok(())
 }
 
@@ -570,13 +646,17 @@ fn texts(rt: HostRuntime) -> Result<(), Fail> {
         (StoreFault::NewVersion, "store of version 2"),
         (StoreFault::NoMemory, "out of memory"),
     ] {
-        assert_eq!(rt; format!(in rt.alloc(); "{fault}")?.as_str(), text);
+        expect_text(&rt, rt.alloc(), &fault, text)?;
     }
-    assert_eq!(rt; StoreFault::NotAStore as u8, 1);
-    assert_eq!(rt; StoreFault::Failed as u8, 4);
-    assert_eq!(rt; StoreFault::Worn as u8, 6);
-    assert_eq!(rt; StoreFault::BadBatch as u8, 8);
-    assert_eq!(rt; StoreFault::OldVersion as u8, 9);
-    assert_eq!(rt; StoreFault::NewVersion as u8, 10);
+    for (fault, number) in [
+        (StoreFault::NotAStore, 1u8),
+        (StoreFault::Failed, 4),
+        (StoreFault::Worn, 6),
+        (StoreFault::BadBatch, 8),
+        (StoreFault::OldVersion, 9),
+        (StoreFault::NewVersion, 10),
+    ] {
+        expect(&rt, fault as u8, number);
+    }
     Ok(())
 }

@@ -1,5 +1,6 @@
 // Stores of version 1: they are told apart, and what a format leaves of them.
 use crate::common::write_bytes;
+use crate::expect::expect;
 use crate::old_images::{EMPTY, JOINED, Part, SWITCHED, device_of};
 use apd_base::{Addr, Bssid, Station};
 use apd_disk::{FuseDisk, MemDisk, Torn};
@@ -58,7 +59,7 @@ fn a_stop_at_each_call_of_a_recovery(rt: HostRuntime) -> Result<(), Fail> {
         ] {
             let found = stop_recovery(rt.alloc(), passes, torn)?;
             let want = (Some(fault), Err(StoreFault::OldVersion));
-            assert_eq!(rt; found, want, "{torn:?} at {passes}");
+            expect(&rt, (torn, passes, found), (torn, passes, want));
         }
     }
     Ok(())
@@ -68,9 +69,16 @@ fn a_stop_at_each_call_of_a_recovery(rt: HostRuntime) -> Result<(), Fail> {
 fn each_store_of_version_1_is_told_apart(rt: HostRuntime) -> Result<(), Fail> {
     for parts in [EMPTY, JOINED, SWITCHED] {
         let found = rows(rt.alloc(), device_of(rt.alloc(), parts)?);
-        assert_eq!(rt; found, Err(StoreFault::OldVersion));
+        expect(&rt, found, Err(StoreFault::OldVersion));
     }
     Ok(())
+}
+
+// A device on which these parts stand, its mark that of version 2.
+fn remarked(alloc: Global, parts: &[Part]) -> Result<MemDisk, Fail> {
+    let mut disk = device_of(alloc, parts)?;
+    write_bytes(&mut disk, 7, b"2")?;
+    Ok(disk)
 }
 
 // By the last byte of its mark alone a store is of one version or of the other.
@@ -82,20 +90,16 @@ fn the_last_byte_of_the_mark(rt: HostRuntime) -> Result<(), Fail> {
         (JOINED, 1, true, None),
         (SWITCHED, 2, true, Some(Station::Authenticated)),
     ] {
-        let mut disk = device_of(alloc, parts)?;
-        write_bytes(&mut disk, 7, b"2")?;
-        let (rows, aa, bb) = rows(alloc, disk)?;
+        let (rows, aa, bb) = rows(alloc, remarked(alloc, parts)?)?;
         let joined = matches!(aa, Some(Station::Associated(_)));
-        assert_eq!(rt; (rows, joined, bb), (count, is_joined, second));
+        expect(&rt, (rows, joined, bb), (count, is_joined, second));
     }
     Ok(())
 }
 
 // The records of the table that these parts show once their mark is that of version 2.
 fn mark_anew(alloc: Global, parts: &[Part]) -> Result<Vec<u8>, Fail> {
-    let mut disk = device_of(alloc, parts)?;
-    write_bytes(&mut disk, 7, b"2")?;
-    match recover(alloc, disk) {
+    match recover(alloc, remarked(alloc, parts)?) {
         Ok((_store, table)) => Ok(write(alloc, &table.snapshot(alloc)?)?),
         Err((_disk, fault)) => Err(Fail::from(fault)),
     }
@@ -106,7 +110,7 @@ fn mark_anew(alloc: Global, parts: &[Part]) -> Result<Vec<u8>, Fail> {
 fn a_store_of_version_1_has_the_same_state_in_version_2(rt: HostRuntime) -> Result<(), Fail> {
     let (_place, half) = SWITCHED.last().ok_or("no half")?;
     let records = mark_anew(rt.alloc(), SWITCHED)?;
-    assert_eq!(rt; Some(records.as_slice()), half.get(13..129));
+    expect(&rt, Some(records.as_slice()), half.get(13..129));
     Ok(())
 }
 
@@ -125,7 +129,7 @@ fn a_stop_at_each_call_of_a_format(rt: HostRuntime) -> Result<(), Fail> {
         {
             let passes = u64::try_from(place)?;
             let rows = stop_format(rt.alloc(), passes, torn)?;
-            assert_eq!(rt; rows, *found, "{torn:?} at {place}");
+            expect(&rt, (torn, place, rows), (torn, place, *found));
         }
     }
     Ok(())

@@ -7,7 +7,7 @@ use apd_ctrl::{Parsed, parse_command};
 use apd_frame::{Association, Authentication, Frame, Probe, Reassociation, decode};
 use apd_record::{read_all, write};
 use std::alloc::{AllocError, Global};
-use std::test::Fail;
+use std::process::Abort;
 
 const RADIO: Bssid = Bssid(Addr([2, 0, 0, 0, 0, 1]));
 
@@ -146,28 +146,36 @@ fn try_records(alloc: Global, bytes: &[u8], taken: &mut Taken) -> Result<bool, A
     Ok(write(alloc, &changes)?.as_slice() == bytes)
 }
 
+// Hands the bytes of this number to each reader.
+fn try_all(rt: &impl Abort, alloc: Global, number: u32, bytes: &[u8], taken: &mut Taken) {
+    assert!(rt; try_frame(bytes, taken), "frame {number}");
+    let are_written = try_records(alloc, bytes, taken).expect(rt, "memory");
+    assert!(rt; are_written, "records {number}");
+    try_command(bytes, taken);
+    try_files(alloc, bytes, taken);
+}
+
+// A generator of mere rubbish would show little.
+fn check_counts(rt: &impl Abort, taken: &Taken) {
+    for (what, count, least) in [
+        ("frames", taken.frames, 100),
+        ("commands", taken.commands, 100),
+        ("configurations", taken.confs, 100),
+        ("list files", taken.addresses, 100),
+        ("lists of records", taken.records, 500),
+        ("lists of several records", taken.several, 100),
+    ] {
+        assert!(rt; count >= least, "{count} {what}");
+    }
+}
+
 #[test]
-fn readers_return_and_what_they_take_stands_in_the_bytes(rt: HostRuntime) -> Result<(), Fail> {
-    let alloc = rt.alloc();
+fn readers_return_and_what_they_take_stands_in_the_bytes(rt: HostRuntime) {
     let mut generator = Generator::new(1);
     let mut taken = Taken::default();
     for number in 0..10_000 {
-        let bytes = draw(alloc, &mut generator)?;
-        assert!(rt; try_frame(&bytes, &mut taken), "frame {number}");
-        assert!(rt; try_records(alloc, &bytes, &mut taken)?, "records {number}");
-        try_command(&bytes, &mut taken);
-        try_files(alloc, &bytes, &mut taken);
+        let bytes = draw(rt.alloc(), &mut generator).expect(&rt, "memory");
+        try_all(&rt, rt.alloc(), number, &bytes, &mut taken);
     }
-    // A generator of mere rubbish would show little.
-    assert!(rt; taken.frames >= 100, "{} frames", taken.frames);
-    assert!(rt; taken.commands >= 100, "{} commands", taken.commands);
-    assert!(rt; taken.confs >= 100, "{} configurations", taken.confs);
-    assert!(rt; taken.addresses >= 100, "{} list files", taken.addresses);
-    assert!(rt; taken.records >= 500, "{} lists of records", taken.records);
-    assert!(rt;
-        taken.several >= 100,
-        "{} of several records",
-        taken.several
-    );
-    Ok(())
+    check_counts(&rt, &taken);
 }

@@ -1,3 +1,4 @@
+use crate::expect::expect;
 use crate::worlds::new_world;
 use apd_base::{Addr, Bssid, Moment};
 use apd_core::{Input, QuietReason};
@@ -56,14 +57,17 @@ fn asks<D: Disk, R: Radio>(rt: &impl Abort, world: &mut World<D, R>) -> Result<(
         (kick(RADIO), QuietReason::NoPolicy),
         (silence, QuietReason::Nothing),
     ] {
-        assert_eq!(rt; answer_to(world, event)?, Reception::Quiet(reason));
+        expect(rt, answer_to(world, event)?, Reception::Quiet(reason));
     }
     start(world)?;
-    assert_eq!(rt; answer_to(world, kick(RADIO))?, Reception::Entry(2));
+    expect(rt, answer_to(world, kick(RADIO))?, Reception::Entry(2));
     Ok(())
 }
 
 #[test]
 fn a_command_needs_a_radio_that_was_started(rt: HostRuntime) -> Result<(), Fail> {
-    asks(&rt, &mut new_world(rt.alloc())?)
+    let mut world = new_world(rt.alloc())?;
+    let asked = asks(&rt, &mut world);
+    drop(world);
+    asked
 }

@@ -1,5 +1,6 @@
+use crate::expect::expect;
 use apd_base::Addr;
-use apd_conf::{ConfFault, ConfigurationFault, ConfsFault, ListFault};
+use apd_conf::{Conf, ConfFault, ConfigurationFault, Confs, ConfsFault, ListFault};
 use apd_script::read_configurations;
 use std::alloc::Global;
 use std::fs;
@@ -96,22 +97,42 @@ fn readings() -> &'static [(&'static [&'static str], &'static str)] {
     &READINGS
 }
 
+/// The addresses that the good files name, as let in and as kept out.
+const ACCEPTED: [Addr; 1] = [Addr([2, 0, 0, 0, 0, 0xaa])];
+
+const DENIED: [Addr; 2] = [Addr([2, 0, 0, 0, 0, 0xbb]), Addr([2, 0, 0, 0, 0, 0xcc])];
+
+/// Whether a configuration has these lists.
+fn has_lists(conf: &Conf, accepted: &[Addr], denied: &[Addr]) -> bool {
+    conf.accept.as_slice() == accepted && conf.deny.as_slice() == denied
+}
+
+/// Whether the first of two configurations has both lists, and the second has the accept list alone.
+fn have_lists(confs: &Confs) -> Option<[bool; 2]> {
+    match confs.list() {
+        [first, second] => Some([
+            has_lists(first, &ACCEPTED, &DENIED),
+            has_lists(second, &ACCEPTED, &[]),
+        ]),
+        _ => None,
+    }
+}
+
+/// What is found of the lists of the good files.
+fn read_good<R: Files + AllocGlobal>(rt: &R) -> Result<Option<[bool; 2]>, Fail> {
+    match read_configurations(rt, &[OTHER, GOOD]) {
+        Ok(confs) => Ok(have_lists(&confs)),
+        Err(_) => Err(Fail::new("good files are refused")),
+    }
+}
+
 #[test]
 fn files_are_read_in_turn_and_the_first_fault_is_told(rt: HostRuntime) -> Result<(), Fail> {
     make_files(&rt)?;
     for (names, want) in readings() {
-        assert_eq!(rt; fault_text(&rt, names)?.as_str(), *want);
+        expect(&rt, fault_text(&rt, names)?.as_str(), *want);
     }
-    let Ok(confs) = read_configurations(&rt, &[OTHER, GOOD]) else {
-        return Err(Fail::new("good files are refused"));
-    };
-    assert_eq!(rt; confs.list().len(), 2);
-    let accepted = [Addr([2, 0, 0, 0, 0, 0xaa])];
-    let denied = [Addr([2, 0, 0, 0, 0, 0xbb]), Addr([2, 0, 0, 0, 0, 0xcc])];
-    assert_eq!(rt; confs.list()[0].accept.as_slice(), accepted.as_slice());
-    assert_eq!(rt; confs.list()[0].deny.as_slice(), denied.as_slice());
-    assert_eq!(rt; confs.list()[1].accept.as_slice().len(), 1);
-    assert_eq!(rt; confs.list()[1].deny.as_slice().len(), 0);
+    expect(&rt, read_good(&rt)?, Some([true, true]));
     fs::remove_dir_all(&rt, FOLDER)?;
     Ok(())
 }
@@ -134,7 +155,7 @@ fn faults_of_configurations_are_printed_in_these_words(rt: HostRuntime) -> Resul
         ),
         (ConfigurationFault::NoMemory, "out of memory"),
     ] {
-        assert_eq!(rt; text_of(alloc, fault)?.as_str(), want);
+        expect(&rt, text_of(alloc, fault)?.as_str(), want);
     }
     Ok(())
 }

@@ -1,4 +1,5 @@
 use crate::calls::{addresses_of, confs_with, new_conf};
+use crate::expect::expect;
 use apd_base::{AclMode, Addr, Aid, Association, Bssid, Sequence, Station, StationNumber, Which};
 use apd_conf::Confs;
 use apd_frame::{Authentication, Frame};
@@ -142,38 +143,59 @@ fn associate(
     hear(rt, alloc, table, confs, Frame::Assoc(request))
 }
 
-/// Whether an out is this frame.
-fn is_frame(out: &Out, want: &[u8]) -> bool {
-    match out {
-        Out::Frame(frame) => frame.as_slice() == want,
-        Out::Install(..) | Out::Remove(_) | Out::Text(..) => false,
+/// The frame of a decision that says no more than one.
+fn only_frame(decision: &Decision) -> Option<&[u8]> {
+    match decision.outs.as_slice() {
+        [(_to, Out::Frame(frame))] => Some(frame.as_slice()),
+        _ => None,
     }
 }
 
-/// Mode 0 lets the station in, and a start in mode 1 ends it.
-fn ends_in_mode_1(rt: &impl Abort, alloc: Global, radio: &mut Open) -> Result<(), Fail> {
-    let (table, open) = radio;
-    start(rt, alloc, table, open)?;
-    authenticate(rt, alloc, table, open)?;
-    assert_eq!(rt; table.get(RADIO, STATION), Some(Station::Authenticated));
+/// What is expected of the station's row.
+fn expect_station(rt: &impl Abort, table: &Table, station: Option<Station>) {
+    expect(rt, table.get(RADIO, STATION), station);
+}
 
-    let decision = start_closed(rt, alloc, table)?;
-    assert_eq!(rt; decision.changes.len(), 2);
+/// The station is let in where it asks for authentication, or else is not there.
+fn ask(
+    rt: &impl Abort,
+    alloc: Global,
+    radio: &mut Open,
+    station: Option<Station>,
+) -> Result<(), Fail> {
+    let (table, open) = radio;
+    authenticate(rt, alloc, table, open)?;
+    expect_station(rt, table, station);
+    Ok(())
+}
+
+/// What a start in mode 1 decides, where it ends the station.
+fn expect_ending(rt: &impl Abort, decision: &Decision) {
     let drop = Change::Drop {
         bssid: RADIO,
         addr: STATION,
     };
-    assert_eq!(rt; decision.changes.as_slice()[0], drop);
-    assert_eq!(rt; decision.outs.len(), 1);
-    assert!(rt; is_frame(&decision.outs.as_slice()[0].1, &DEAUTHENTICATION));
-    assert_eq!(rt; table.get(RADIO, STATION), None);
+    let changes = &decision.changes;
+    expect(rt, (changes.len(), first(changes)), (2, Some(drop)));
+    expect(rt, only_frame(decision), Some(&DEAUTHENTICATION));
+}
+
+/// Mode 0 lets the station in, and a start in mode 1 ends it.
+fn ends_in_mode_1(rt: &impl Abort, alloc: Global, radio: &mut Open) -> Result<(), Fail> {
+    start(rt, alloc, &mut radio.0, &radio.1)?;
+    ask(rt, alloc, radio, Some(Station::Authenticated))?;
+    let decision = start_closed(rt, alloc, &mut radio.0)?;
+    expect_ending(rt, &decision);
+    expect_station(rt, &radio.0, None);
     Ok(())
 }
 
 #[test]
 fn a_start_in_mode_1_ends_a_station_that_mode_0_let_in(rt: HostRuntime) -> Result<(), Fail> {
-    let alloc = rt.alloc();
-    ends_in_mode_1(&rt, alloc, &mut new_open(alloc)?)
+    let mut radio = new_open(rt.alloc())?;
+    let found = ends_in_mode_1(&rt, rt.alloc(), &mut radio);
+    drop(radio);
+    found
 }
 
 /// The station on a list of the radio.
@@ -187,24 +209,22 @@ fn list_station(which: Which) -> Change {
 
 /// A deny list keeps the station out, and an accept list lets it in, in both modes.
 fn follows_lists(rt: &impl Abort, alloc: Global, radio: &mut Open) -> Result<(), Fail> {
-    let (table, open) = radio;
-    start(rt, alloc, table, open)?;
-    change(table, &list_station(Which::Deny))?;
-    authenticate(rt, alloc, table, open)?;
-    assert_eq!(rt; table.get(RADIO, STATION), None);
-    change(table, &list_station(Which::Accept))?;
-    authenticate(rt, alloc, table, open)?;
-    assert_eq!(rt; table.get(RADIO, STATION), Some(Station::Authenticated));
-
-    start_closed(rt, alloc, table)?;
-    assert_eq!(rt; table.get(RADIO, STATION), Some(Station::Authenticated));
+    start(rt, alloc, &mut radio.0, &radio.1)?;
+    change(&mut radio.0, &list_station(Which::Deny))?;
+    ask(rt, alloc, radio, None)?;
+    change(&mut radio.0, &list_station(Which::Accept))?;
+    ask(rt, alloc, radio, Some(Station::Authenticated))?;
+    start_closed(rt, alloc, &mut radio.0)?;
+    expect_station(rt, &radio.0, Some(Station::Authenticated));
     Ok(())
 }
 
 #[test]
 fn lists_say_who_is_let_in(rt: HostRuntime) -> Result<(), Fail> {
-    let alloc = rt.alloc();
-    follows_lists(&rt, alloc, &mut new_open(alloc)?)
+    let mut radio = new_open(rt.alloc())?;
+    let found = follows_lists(&rt, rt.alloc(), &mut radio);
+    drop(radio);
+    found
 }
 
 /// An address in a list of the radio.
@@ -220,29 +240,43 @@ fn first(changes: &Sequence<Change>) -> Option<Change> {
     changes.as_slice().first().copied()
 }
 
+/// The addresses that a first start takes over, behind its policy.
+const TAKEN_OVER: [(Which, u8); 3] = [
+    (Which::Accept, 0xaa),
+    (Which::Accept, 0xbb),
+    (Which::Deny, 0xcc),
+];
+
+fn rows() -> [Change; 3] {
+    let [first, second, third] = TAKEN_OVER;
+    [
+        list_row(first.0, first.1),
+        list_row(second.0, second.1),
+        list_row(third.0, third.1),
+    ]
+}
+
 /// Two starts in mode 0, the second with the list files the other way round.
 fn starts_twice(rt: &impl Abort, alloc: Global, radio: &mut Open) -> Result<(), Fail> {
     let (table, open) = radio;
     let accept = b"02:00:00:00:00:bb\n02:00:00:00:00:aa\n".as_slice();
     let deny = b"02:00:00:00:00:cc\n".as_slice();
     let began = start_with(rt, alloc, table, open, [accept, deny])?;
-    assert_eq!(rt; began.changes.len(), 4);
-    assert_eq!(rt; began.changes.as_slice()[1], list_row(Which::Accept, 0xaa));
-    assert_eq!(rt; began.changes.as_slice()[2], list_row(Which::Accept, 0xbb));
-    assert_eq!(rt; began.changes.as_slice()[3], list_row(Which::Deny, 0xcc));
-
+    expect(rt, began.changes.as_slice().get(1..), Some(&rows()));
     let policy = first(&began.changes);
     drop(began);
     let later = start_with(rt, alloc, table, open, [deny, accept])?;
-    assert_eq!(rt; later.changes.len(), 1);
-    assert_eq!(rt; first(&later.changes), policy);
+    let changes = &later.changes;
+    expect(rt, (changes.len(), first(changes)), (1, policy));
     Ok(())
 }
 
 #[test]
 fn lists_come_with_the_first_start_alone(rt: HostRuntime) -> Result<(), Fail> {
-    let alloc = rt.alloc();
-    starts_twice(&rt, alloc, &mut new_open(alloc)?)
+    let mut radio = new_open(rt.alloc())?;
+    let found = starts_twice(&rt, rt.alloc(), &mut radio);
+    drop(radio);
+    found
 }
 
 /// An authentication response to the station: Open System, transaction number 2, status 17.
@@ -268,35 +302,44 @@ fn member(aid: Aid) -> Change {
 /// A first start with two full lists: a policy of 10 bytes, and 2,048 addresses of 14.
 #[test]
 fn the_most_records_of_an_event(rt: HostRuntime) {
-    assert_eq!(rt; MAX_RECORDS, 28_682);
+    expect(&rt, MAX_RECORDS, 28_682);
+}
+
+/// Others get these identifiers.
+fn others_come(table: &mut Table, last: u16) -> Result<(), Fail> {
+    for number in 1..=last {
+        if let Some(aid) = Aid::new(number) {
+            change(table, &member(aid))?;
+        }
+    }
+    Ok(())
 }
 
 /// 2,007 others come, and then the station.
 fn has_no_room(rt: &impl Abort, alloc: Global, radio: &mut Open) -> Result<(), Fail> {
     let (table, open) = radio;
     start(rt, alloc, table, open)?;
-    for number in 1..=2007 {
-        if number == 2007 {
-            assert_eq!(rt; table.least_free(RADIO), Some(2007));
-        }
-        if let Some(aid) = Aid::new(number) {
-            change(table, &member(aid))?;
-        }
-    }
-    assert_eq!(rt; table.count(RADIO), 2007);
-    assert_eq!(rt; table.least_free(RADIO), None);
+    others_come(table, 2006)?;
+    expect(rt, table.least_free(RADIO), Some(2007));
+    change(table, &member(Aid::new(2007).ok_or("it is an identifier")?))?;
+    expect(
+        rt,
+        (table.count(RADIO), table.least_free(RADIO)),
+        (2007, None),
+    );
     let decision = authenticate(rt, alloc, table, open)?;
-    assert_eq!(rt; decision.changes.len(), 0);
-    assert_eq!(rt; decision.outs.len(), 1);
-    assert!(rt; is_frame(&decision.outs.as_slice()[0].1, &NO_MORE_STATIONS));
-    assert_eq!(rt; table.count(RADIO), 2007);
+    expect(rt, decision.changes.len(), 0);
+    expect(rt, only_frame(&decision), Some(&NO_MORE_STATIONS));
+    expect(rt, table.count(RADIO), 2007);
     Ok(())
 }
 
 #[test]
 fn the_2008th_station_finds_no_room(rt: HostRuntime) -> Result<(), Fail> {
-    let alloc = rt.alloc();
-    has_no_room(&rt, alloc, &mut new_open(alloc)?)
+    let mut radio = new_open(rt.alloc())?;
+    let found = has_no_room(&rt, rt.alloc(), &mut radio);
+    drop(radio);
+    found
 }
 
 /// The station is associated under an identifier.
@@ -336,7 +379,7 @@ fn associates(
 ) -> Result<(), Fail> {
     let (table, open) = radio;
     let decision = associate(rt, alloc, table, open)?;
-    assert_eq!(rt; decision.changes.as_slice(), changes);
+    expect(rt, decision.changes.as_slice(), changes);
     Ok(())
 }
 
@@ -355,8 +398,10 @@ fn gets_and_keeps(rt: &impl Abort, alloc: Global, radio: &mut Open) -> Result<()
 
 #[test]
 fn an_identifier_comes_with_a_cursor_and_is_kept_without(rt: HostRuntime) -> Result<(), Fail> {
-    let alloc = rt.alloc();
-    gets_and_keeps(&rt, alloc, &mut new_open(alloc)?)
+    let mut radio = new_open(rt.alloc())?;
+    let found = gets_and_keeps(&rt, rt.alloc(), &mut radio);
+    drop(radio);
+    found
 }
 
 /// Others get all identifiers but this one, which was given last, and the station is authenticated.
@@ -377,21 +422,23 @@ fn gets_the_last(rt: &impl Abort, alloc: Global, radio: &mut Open) -> Result<(),
     start(rt, alloc, &mut radio.0, &radio.1)?;
     give_all_but(&mut radio.0, 7)?;
     associates(rt, alloc, radio, &[put_station(7)?, cursor(7)?])?;
-    assert_eq!(rt; radio.0.next_free(RADIO), None);
+    expect(rt, radio.0.next_free(RADIO), None);
     Ok(())
 }
 
 #[test]
 fn where_no_other_is_free_the_last_one_is_given_again(rt: HostRuntime) -> Result<(), Fail> {
-    let alloc = rt.alloc();
-    gets_the_last(&rt, alloc, &mut new_open(alloc)?)
+    let mut radio = new_open(rt.alloc())?;
+    let found = gets_the_last(&rt, rt.alloc(), &mut radio);
+    drop(radio);
+    found
 }
 
-/// Whether an out lets this station go.
-fn is_removal(out: &Out, station: Addr) -> bool {
-    match out {
-        Out::Remove(addr) => *addr == station,
-        Out::Install(..) | Out::Frame(_) | Out::Text(..) => false,
+/// The frame of a decision that lets the station go before it, and says no more.
+fn frame_behind_removal(decision: &Decision) -> Option<&[u8]> {
+    match decision.outs.as_slice() {
+        [(_to, Out::Remove(STATION)), (_other, Out::Frame(frame))] => Some(frame.as_slice()),
+        _ => None,
     }
 }
 
@@ -420,29 +467,39 @@ const NO_LONGER_AUTHENTICATED: [u8; 26] = [
     0xc0, 0, 0, 0, 2, 0, 0, 0, 0, 0xaa, 2, 0, 0, 0, 0, 1, 2, 0, 0, 0, 0, 1, 0, 0, 2, 0,
 ];
 
+/// The station, which is associated, is silent.
+fn ends_association(rt: &impl Abort, alloc: Global, radio: &mut Open) -> Result<(), Fail> {
+    let (table, open) = radio;
+    let decision = expire(rt, alloc, table, open)?;
+    expect(rt, frame_behind_removal(&decision), Some(&INACTIVE));
+    expect_station(rt, table, Some(Station::Authenticated));
+    Ok(())
+}
+
+/// It is silent once more.
+fn ends_authentication(rt: &impl Abort, alloc: Global, radio: &mut Open) -> Result<(), Fail> {
+    let (table, open) = radio;
+    let decision = expire(rt, alloc, table, open)?;
+    expect(rt, only_frame(&decision), Some(&NO_LONGER_AUTHENTICATED));
+    expect_station(rt, table, None);
+    Ok(())
+}
+
 /// The station is silent three times.
 fn is_silent(rt: &impl Abort, alloc: Global, radio: &mut Open) -> Result<(), Fail> {
-    let (table, open) = radio;
-    start(rt, alloc, table, open)?;
-    change(table, &put_station(1)?)?;
-    let first = expire(rt, alloc, table, open)?;
-    assert_eq!(rt; first.outs.len(), 2);
-    assert!(rt; is_removal(&first.outs.as_slice()[0].1, STATION));
-    assert!(rt; is_frame(&first.outs.as_slice()[1].1, &INACTIVE));
-    assert_eq!(rt; table.get(RADIO, STATION), Some(Station::Authenticated));
-    drop(first);
-    let second = expire(rt, alloc, table, open)?;
-    assert_eq!(rt; second.outs.len(), 1);
-    assert!(rt; is_frame(&second.outs.as_slice()[0].1, &NO_LONGER_AUTHENTICATED));
-    assert_eq!(rt; table.get(RADIO, STATION), None);
-    drop(second);
-    let third = expire(rt, alloc, table, open)?;
-    assert!(rt; third.is_nothing());
+    start(rt, alloc, &mut radio.0, &radio.1)?;
+    change(&mut radio.0, &put_station(1)?)?;
+    ends_association(rt, alloc, radio)?;
+    ends_authentication(rt, alloc, radio)?;
+    let third = expire(rt, alloc, &mut radio.0, &radio.1)?;
+    expect(rt, third.is_nothing(), true);
     Ok(())
 }
 
 #[test]
 fn silence_ends_an_association_and_then_an_authentication(rt: HostRuntime) -> Result<(), Fail> {
-    let alloc = rt.alloc();
-    is_silent(&rt, alloc, &mut new_open(alloc)?)
+    let mut radio = new_open(rt.alloc())?;
+    let found = is_silent(&rt, rt.alloc(), &mut radio);
+    drop(radio);
+    found
 }

@@ -1,8 +1,9 @@
 //! Identifiers that go round, through the whole program: what is given and sent, what stands on the device, and what is
 //! left by a stop.
 use crate::calls::{one_radio, two_radios};
-use crate::scripts::JOINS;
-use crate::worlds::{fresh_store, run_on, run_with};
+use crate::expect::expect;
+use crate::scripts::{JOINS, join};
+use crate::worlds::{device_after, fresh_store, run_with};
 use apd_conf::Confs;
 use apd_disk::MemDisk;
 use apd_radio::Sim;
@@ -33,10 +34,10 @@ fn records_of(alloc: Global, world: &World<MemDisk, Sim>) -> Result<Vec<u8>, Fai
 /// The records of the table of the world that a script on two radios ends with.
 fn records_after(alloc: Global, script: &[u8]) -> Result<Vec<u8>, Fail> {
     let mut out = Vec::new(alloc);
-    records_of(
-        alloc,
-        &world_after(alloc, two_radios(alloc)?, script, &mut out)?,
-    )
+    let world = world_after(alloc, two_radios(alloc)?, script, &mut out)?;
+    let records = records_of(alloc, &world);
+    drop(world);
+    records
 }
 
 /// A station joins wlan0, and then wlan1.
@@ -71,7 +72,7 @@ const ROAMED: &[u8] = &[
 fn each_of_two_radios_gave_1_last_before_a_stop_and_behind_it(rt: HostRuntime) -> Result<(), Fail> {
     for script in [ROAMS, ROAMS_AND_STOPS] {
         let records = records_after(rt.alloc(), script)?;
-        assert_eq!(rt; records.as_slice(), ROAMED);
+        expect(&rt, records.as_slice(), ROAMED);
     }
     Ok(())
 }
@@ -95,25 +96,23 @@ const ONCE_MORE: &[u8] = &[
 const ASSOCIATES: &str =
     "rx wlan0 000000000200000000010200000000aa020000000001200031040a0000036e6574010482848b96\nflush\n";
 
-/// The device behind a script on one radio.
-fn device_after(alloc: Global, script: &str) -> Result<MemDisk, Fail> {
-    let mut out = Vec::new(alloc);
-    let disk = fresh_store(alloc)?;
-    match run_on(alloc, disk, one_radio(alloc)?, script.as_bytes(), &mut out) {
-        Ok(disk) => Ok(disk),
-        Err(_) => Err(Fail::new("a script has a fault")),
-    }
+/// Its bytes from the place 117 on to another one.
+fn bytes_after(alloc: Global, script: &[u8], to: usize) -> Result<Vec<u8>, Fail> {
+    let disk = device_after(alloc, script)?;
+    let bytes = Vec::from_slice(alloc, disk.bytes().get(117..to).unwrap_or(&[]));
+    drop(disk);
+    Ok(bytes?)
 }
 
 #[test]
 fn an_identifier_is_written_where_it_is_given_alone(rt: HostRuntime) -> Result<(), Fail> {
     let alloc = rt.alloc();
-    let disk = device_after(alloc, JOINS)?;
-    assert_eq!(rt; disk.bytes().get(117..152), Some(ASSOCIATION));
-    let script = format!(in alloc; "{JOINS}{ASSOCIATES}")?;
-    let disk = device_after(alloc, script.as_str())?;
-    assert_eq!(rt; disk.bytes().get(117..151), ASSOCIATION.get(..34));
-    assert_eq!(rt; disk.bytes().get(151..177), Some(ONCE_MORE));
+    let once = bytes_after(alloc, JOINS.as_bytes(), 152)?;
+    expect(&rt, once.as_slice(), ASSOCIATION);
+    let script = join(alloc, &[JOINS, ASSOCIATES])?;
+    let twice = bytes_after(alloc, script.as_slice(), 177)?;
+    expect(&rt, twice.get(..34), ASSOCIATION.get(..34));
+    expect(&rt, twice.get(34..), Some(ONCE_MORE));
     Ok(())
 }
 
@@ -170,7 +169,6 @@ fn behind_2007_stations_that_came_and_went_the_next_gets_1(rt: HostRuntime) -> R
     let alloc = rt.alloc();
     let script = all_come_and_go(alloc, 2007)?;
     let (fault, out) = run_with(alloc, one_radio(alloc)?, script.as_slice())?;
-    assert_eq!(rt; fault, None);
-    assert!(rt; out.ends_with(LAST_TWO));
+    expect(&rt, (fault, out.ends_with(LAST_TWO)), (None, true));
     Ok(())
 }

@@ -15,6 +15,8 @@ mod decision_tests;
 #[cfg(test)]
 mod driver_fault_tests;
 #[cfg(test)]
+mod expect;
+#[cfg(test)]
 mod identifier_tests;
 #[cfg(test)]
 mod script_tests;

@@ -1,6 +1,7 @@
 //! Scripts and worlds on devices of memory, each call by a function of its own, so that the proof of a test
 //! needn't carry its contract.
 use crate::calls::{one_radio, two_radios};
+use crate::expect::expect;
 use apd_base::{Bssid, Moment};
 use apd_conf::Confs;
 use apd_disk::{Disk, MemDisk};
@@ -10,6 +11,7 @@ use apd_slot::Slot;
 use apd_world::{World, restart};
 use std::alloc::Global;
 use std::io::{BufRead, Write};
+use std::process::Abort;
 use std::test::Fail;
 
 /// A store of the empty table.
@@ -44,6 +46,20 @@ pub fn run_with(
     let mut out = Vec::new(alloc);
     let fault = run_on(alloc, fresh_store(alloc)?, confs, script, &mut out).err();
     Ok((fault, out))
+}
+
+/// Expects how a script ends on one radio and a new store, and what it prints.
+pub fn expect_run(
+    rt: &impl Abort,
+    alloc: Global,
+    script: &[u8],
+    fault: Option<ScriptFault>,
+    text: &[u8],
+) -> Result<(), Fail> {
+    let (found, out) = run_with(alloc, one_radio(alloc)?, script)?;
+    expect(rt, found, fault);
+    expect(rt, out.as_slice(), text);
+    Ok(())
 }
 
 /// A world of a store, which is not started yet.
@@ -184,4 +200,18 @@ pub fn replace_radio(
     let mut world = world;
     let own = world.replace(bssid, radio).ok();
     Ok(own.zip(Some(world)).ok_or("a radio is not replaced")?)
+}
+
+/// The device behind a script on one radio.
+pub fn device_after(alloc: Global, script: &[u8]) -> Result<MemDisk, Fail> {
+    let mut out = Vec::new(alloc);
+    let disk = run_on(
+        alloc,
+        fresh_store(alloc)?,
+        one_radio(alloc)?,
+        script,
+        &mut out,
+    )
+    .ok();
+    Ok(disk.ok_or("a script has a fault")?)
 }

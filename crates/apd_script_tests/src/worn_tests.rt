@@ -1,5 +1,6 @@
 //! Scripts on a store whose current half has the greatest epoch and little room: the other half can't begin anew.
 use crate::calls::one_radio;
+use crate::expect::expect;
 use crate::scripts::JOINS;
 use crate::worlds::run_on;
 use apd_disk::MemDisk;
@@ -65,8 +66,11 @@ fn a_worn_store_ends_a_script_at_its_start_or_first_flush(rt: HostRuntime) -> Re
     ] {
         let disk = worn_device(alloc, cleared, nothing, gate)?;
         let (told, out) = end_of(alloc, disk, script)?;
-        assert_eq!(rt; told, fault, "{gate}");
-        assert_eq!(rt; out.as_slice(), want.as_bytes(), "{gate}");
+        expect(
+            &rt,
+            (gate, told, out.as_slice()),
+            (gate, fault, want.as_bytes()),
+        );
     }
     Ok(())
 }

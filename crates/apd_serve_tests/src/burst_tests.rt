@@ -1,4 +1,5 @@
 //! A storm: more frames at once than a socket of the usual room holds.
+use crate::expect::expect;
 use crate::serving_tests::{NEVER, disk, world};
 use crate::talk::{AUTHENTICATED, AUTHENTICATION, RADIO, free_ports};
 use apd_desk::NoGate;
@@ -118,7 +119,7 @@ where
 #[test]
 fn a_burst_of_2000_frames_is_answered(rt: HostRuntime) -> Result<(), Fail> {
     let (entries, frames, answers) = serve_storm(&rt, rt.alloc())?;
-    assert_eq!(rt; answers, frames);
-    assert_eq!(rt; entries.map(|entries| entries as usize), Ok(frames));
+    expect(&rt, answers, frames);
+    expect(&rt, entries.map(|entries| entries as usize), Ok(frames));
     Ok(())
 }

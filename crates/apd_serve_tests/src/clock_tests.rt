@@ -1,3 +1,4 @@
+use crate::expect::expect;
 use apd_base::Moment;
 use apd_desk::Clock;
 use apd_serve::SystemClock;
@@ -49,7 +50,7 @@ fn the_milliseconds_since_it_was_made(rt: HostRuntime) -> Result<(), Fail> {
         (5_000, NEVER, 0),
         (NEVER, 5_000, 0),
     ] {
-        assert_eq!(rt; moment_of(began, then), Moment(moment));
+        expect(&rt, moment_of(began, then), Moment(moment));
     }
     Ok(())
 }

@@ -1,4 +1,5 @@
 //! What is left when the input ends: it is committed, and handed out once more.
+use crate::expect::expect;
 use crate::hearing::Hearing;
 use crate::serving_tests::{NEVER, Scene, disk, serve_on_stage, world};
 use crate::short_radio::Short;
@@ -47,7 +48,11 @@ fn what_is_accepted_at_the_end_is_committed_and_answered(rt: HostRuntime) -> Res
         ],
         calls: NEVER,
     };
-    assert_eq!(rt; serve_on_stage(&rt, rt.alloc(), scene, true)?, (Ok(2), 5));
+    expect(
+        &rt,
+        serve_on_stage(&rt, rt.alloc(), scene, true)?,
+        (Ok(2), 5),
+    );
     Ok(())
 }
 
@@ -112,7 +117,7 @@ fn an_answer_that_lacked_memory_is_given_at_the_end(rt: HostRuntime) -> Result<(
     let world = short_world(&rt, port, 1, 0, &stage)?;
     let after = Line::Gets(0, RADIO, Datagram::Hex(AUTHENTICATED));
     let told = serve_to_the_end(&rt, port, world, &stage, AUTHENTICATION, after)?;
-    assert_eq!(rt; told, (Ok(1), 3));
+    expect(&rt, told, (Ok(1), 3));
     Ok(())
 }
 
@@ -124,8 +129,8 @@ fn a_station_that_lacked_memory_is_installed_at_the_end(rt: HostRuntime) -> Resu
     authenticate(rt.alloc(), &mut world)?;
     let after = Line::Gets(0, RADIO, Datagram::Hex(ASSOCIATED));
     let told = serve_to_the_end(&rt, port, world, &stage, ASSOCIATION, after)?;
-    assert_eq!(rt; told, (Ok(1), 3));
-    assert_eq!(rt; stage.holes(), 0);
+    expect(&rt, told, (Ok(1), 3));
+    expect(&rt, stage.holes(), 0);
     Ok(())
 }
 
@@ -144,9 +149,9 @@ fn nothing_is_sent_behind_a_station_that_lacks_memory(rt: HostRuntime) -> Result
         ASSOCIATION,
         Line::GetsNothing(0),
     )?;
-    assert_eq!(rt; (answer, stage.holes()), (Ok(1), 0));
+    expect(&rt, (answer, stage.holes()), (Ok(1), 0));
     // A worker that is still there to give it tries until it is installed.
     let wanted = if said == 3 { NOT_HANDED_OUT } else { "" };
-    assert_eq!(rt; hearing.heard()?.as_str(), wanted);
+    expect(&rt, hearing.heard()?.as_str(), wanted);
     Ok(())
 }

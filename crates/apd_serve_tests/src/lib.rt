@@ -9,6 +9,8 @@ mod clock_tests;
 #[cfg(test)]
 mod ending_tests;
 #[cfg(test)]
+mod expect;
+#[cfg(test)]
 mod hearing;
 #[cfg(test)]
 mod recording_tests;

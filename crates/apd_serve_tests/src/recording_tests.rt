@@ -1,3 +1,4 @@
+use crate::expect::expect;
 use crate::running_tests::{CONF, new_store, refusal, run_with};
 use crate::talk::free_ports;
 use apd_conf::{Conf, Confs, FileName};
@@ -48,7 +49,7 @@ fn no_recording_is_made_over_the_store(rt: HostRuntime) -> Result<(), Fail> {
     let before = fs::read(&rt, name)?;
     let port = free_ports(&rt, 1)?;
     let told = refusal(&rt, name, Some("own_store"), port, CONF)?;
-    assert_eq!(rt; told.as_str(), "cannot read own_store.0");
+    expect(&rt, told.as_str(), "cannot read own_store.0");
     let after = fs::read(&rt, name)?;
     assert!(rt; before == after);
     remove_all(&rt, &[name])
@@ -58,7 +59,11 @@ fn no_recording_is_made_over_the_store(rt: HostRuntime) -> Result<(), Fail> {
 fn no_recording_is_made_over_another_store(rt: HostRuntime) -> Result<(), Fail> {
     new_store(&rt, "idle_store.0")?;
     let (told, same) = refusal_of_recording(&rt, "idle_store", CONF)?;
-    assert_eq!(rt; (told.as_str(), same), ("cannot read idle_store.0", true));
+    expect(
+        &rt,
+        (told.as_str(), same),
+        ("cannot read idle_store.0", true),
+    );
     remove_all(&rt, &["idle_store.0"])
 }
 
@@ -66,7 +71,11 @@ fn no_recording_is_made_over_another_store(rt: HostRuntime) -> Result<(), Fail> 
 fn no_recording_is_made_over_a_store_of_version_1(rt: HostRuntime) -> Result<(), Fail> {
     fs::write(&rt, "old_store.0", b"RAPSTOR1 and halves")?;
     let (told, same) = refusal_of_recording(&rt, "old_store", CONF)?;
-    assert_eq!(rt; (told.as_str(), same), ("cannot read old_store.0", true));
+    expect(
+        &rt,
+        (told.as_str(), same),
+        ("cannot read old_store.0", true),
+    );
     remove_all(&rt, &["old_store.0"])
 }
 
@@ -75,7 +84,7 @@ fn no_recording_is_made_over_a_file_that_is_locked(rt: HostRuntime) -> Result<()
     fs::write(&rt, "held.0", b"no store, and yet held")?;
     let disk = FileDisk::open(&rt, "held.0")?;
     let (told, same) = refusal_of_recording(&rt, "held", CONF)?;
-    assert_eq!(rt; (told.as_str(), same), ("cannot read held.0", true));
+    expect(&rt, (told.as_str(), same), ("cannot read held.0", true));
     drop(disk);
     remove_all(&rt, &["held.0"])
 }
@@ -85,7 +94,7 @@ fn no_recording_is_made_over_a_configuration(rt: HostRuntime) -> Result<(), Fail
     fs::write(&rt, "conf_of_a_recording_test", b"ssid=net\n")?;
     fs::hard_link(&rt, "conf_of_a_recording_test", "linked.0")?;
     let (told, same) = refusal_of_recording(&rt, "linked", "conf_of_a_recording_test")?;
-    assert_eq!(rt; (told.as_str(), same), ("cannot read linked.0", true));
+    expect(&rt, (told.as_str(), same), ("cannot read linked.0", true));
     remove_all(&rt, &["linked.0", "conf_of_a_recording_test"])
 }
 
@@ -103,9 +112,9 @@ fn no_recording_is_made_over_a_list_file(rt: HostRuntime) -> Result<(), Fail> {
         return Err(Fail::new("no configurations"));
     };
     let (told, _, _) = run_with(&rt, "listed_store", confs, Some("listed"), &[])?;
-    assert_eq!(rt; told.as_str(), "cannot read listed.0");
+    expect(&rt, told.as_str(), "cannot read listed.0");
     let left = fs::read(&rt, "listed.0")?;
-    assert_eq!(rt; left.as_slice(), b"02:00:00:00:00:ac\n".as_slice());
+    expect(&rt, left.as_slice(), b"02:00:00:00:00:ac\n".as_slice());
     remove_all(
         &rt,
         &["listed.0", "list_of_a_recording_test", "listed_store"],
@@ -116,7 +125,7 @@ fn no_recording_is_made_over_a_list_file(rt: HostRuntime) -> Result<(), Fail> {
 fn a_recording_is_a_regular_file(rt: HostRuntime) -> Result<(), Fail> {
     symlink(&rt, "/dev/null", "null.0")?;
     let (told, same) = refusal_of_recording(&rt, "null", CONF)?;
-    assert_eq!(rt; (told.as_str(), same), ("cannot read null.0", true));
+    expect(&rt, (told.as_str(), same), ("cannot read null.0", true));
     remove_all(&rt, &["null.0"])
 }
 
@@ -133,9 +142,9 @@ fn without_its_ports_it_empties_nothing(rt: HostRuntime) -> Result<(), Fail> {
         port,
         CONF,
     )?;
-    assert_eq!(rt; told.as_str(), "no socket");
+    expect(&rt, told.as_str(), "no socket");
     let left = fs::read(&rt, "old_recording.0")?;
-    assert_eq!(rt; left.as_slice(), b"down\n".as_slice());
+    expect(&rt, left.as_slice(), b"down\n".as_slice());
     remove_all(&rt, &["old_recording.0", "store_without_ports"])
 }
 
@@ -150,8 +159,8 @@ fn a_recording_is_its_owner_s(rt: HostRuntime) -> Result<(), Fail> {
         port,
         CONF,
     )?;
-    assert_eq!(rt; told.as_str(), "0");
+    expect(&rt, told.as_str(), "0");
     let mode = fs::metadata(&rt, "own_recording.0")?.permissions().mode();
-    assert_eq!(rt; mode % 0o1000, 0o600);
+    expect(&rt, mode % 0o1000, 0o600);
     remove_all(&rt, &["own_recording.0", "store_with_a_recording"])
 }

@@ -1,3 +1,4 @@
+use crate::expect::expect;
 use crate::stage::Stage;
 use crate::talk::{
     ASSOCIATED, ASSOCIATION, AUTHENTICATED, AUTHENTICATION, CONTROL, Datagram, Line, RADIO,
@@ -11,7 +12,7 @@ use apd_store::{format, recover};
 use log::Log;
 use std::alloc::Global;
 use std::fs::{self, File};
-use std::io;
+use std::io::{self, Read};
 use std::net::{Ipv4Addr, Net, UdpSocket};
 use std::rt::Files;
 use std::sync::Wait;
@@ -75,6 +76,33 @@ pub(crate) fn new_store(
     }
 }
 
+/// What `run` of a store at this port answers, where the configurations are of files of these names.
+pub(crate) fn run_at<
+    R: Files<File = File> + Net + Wait + Threads + Clock + AllocGlobal + Log + Sync,
+    B: Read + Drop,
+>(
+    rt: &R,
+    store: &str,
+    recordings: Option<&str>,
+    confs: Confs,
+    port: u16,
+    configurations: &[&str],
+    reader: B,
+) -> Result<u64, RunFault>
+where
+    R::Dir: Send + Sync,
+    R::Stream: Send + Sync,
+    R::Listener: Send + Sync,
+{
+    let site = Site {
+        store,
+        port,
+        recordings,
+        configurations,
+    };
+    run(rt, confs, &site, reader)
+}
+
 /// What `run` of these configurations answers of a talk, as text, how many of its lines were said, and at which port.
 pub(crate) fn run_with<
     R: Files<File = File> + Net + Wait + Threads + Clock + AllocGlobal + Log + Sync,
@@ -93,13 +121,7 @@ where
     let stage = Stage::new(false);
     let port = free_ports(rt, 8)?;
     let mut talk = Talk::new(rt, rt.alloc(), port, lines, &stage)?;
-    let site = Site {
-        store,
-        port,
-        recordings,
-        configurations: &[],
-    };
-    let answer = run(rt, confs, &site, &mut talk);
+    let answer = run_at(rt, store, recordings, confs, port, &[], &mut talk);
     Ok((text_of_answer(rt, answer)?, talk.said_count(), port))
 }
 
@@ -142,15 +164,15 @@ fn a_second_run_goes_on_where_the_first_ended(rt: HostRuntime) -> Result<(), Fai
         Line::Gets(0, RADIO, Datagram::Hex(ASSOCIATED)),
     ];
     let (answer, said) = run_radios(&rt, name, 1, None, &first)?;
-    assert_eq!(rt; (answer.as_str(), said), ("2", 4));
+    expect(&rt, (answer.as_str(), said), ("2", 4));
     let second = [
         Line::Sends(0, CONTROL, Datagram::Text("STA 02:00:00:00:00:aa")),
         Line::Gets(0, CONTROL, Datagram::Text(STATION)),
     ];
     let (answer, said) = run_radios(&rt, name, 1, Some("second_run"), &second)?;
-    assert_eq!(rt; (answer.as_str(), said), ("0", 2));
+    expect(&rt, (answer.as_str(), said), ("0", 2));
     let recording = fs::read(&rt, "second_run.0")?;
-    assert_eq!(rt; recording.as_slice(), RECORDING.as_bytes());
+    expect(&rt, recording.as_slice(), RECORDING.as_bytes());
     fs::remove_file(&rt, "second_run.0")?;
     fs::remove_file(&rt, name)?;
     Ok(())
@@ -169,11 +191,11 @@ fn each_radio_has_its_port_and_its_recording(rt: HostRuntime) -> Result<(), Fail
         Line::GetsNothing(0),
     ];
     let (answer, said) = run_radios(&rt, name, 2, Some("two_radios"), &lines)?;
-    assert_eq!(rt; (answer.as_str(), said), ("1", 4));
+    expect(&rt, (answer.as_str(), said), ("1", 4));
     let first = fs::read(&rt, "two_radios.0")?;
-    assert_eq!(rt; first.as_slice(), FIRST_RECORDING.as_bytes());
+    expect(&rt, first.as_slice(), FIRST_RECORDING.as_bytes());
     let second = fs::read(&rt, "two_radios.1")?;
-    assert_eq!(rt; second.as_slice(), SECOND_RECORDING.as_bytes());
+    expect(&rt, second.as_slice(), SECOND_RECORDING.as_bytes());
     fs::remove_file(&rt, "two_radios.0")?;
     fs::remove_file(&rt, "two_radios.1")?;
     fs::remove_file(&rt, name)?;
@@ -189,7 +211,7 @@ fn a_command_is_of_the_interface_that_it_names(rt: HostRuntime) -> Result<(), Fa
         Line::Gets(0, CONTROL, Datagram::Text(SECOND_STATUS)),
     ];
     let (answer, said) = run_radios(&rt, name, 2, None, &lines)?;
-    assert_eq!(rt; (answer.as_str(), said), ("0", 2));
+    expect(&rt, (answer.as_str(), said), ("0", 2));
     fs::remove_file(&rt, name)?;
     Ok(())
 }
@@ -211,8 +233,8 @@ fn the_start_is_committed_and_not_counted(rt: HostRuntime) -> Result<(), Fail> {
     let name = "started_store";
     new_store(&rt, name)?;
     let (answer, _) = run_radios(&rt, name, 1, None, &[])?;
-    assert_eq!(rt; answer.as_str(), "0");
-    assert_eq!(rt; bss_of(&rt, name)?, 1);
+    expect(&rt, answer.as_str(), "0");
+    expect(&rt, bss_of(&rt, name)?, 1);
     fs::remove_file(&rt, name)?;
     Ok(())
 }
@@ -232,13 +254,16 @@ where
     R::Stream: Send + Sync,
     R::Listener: Send + Sync,
 {
-    let site = Site {
+    let confs = confs(rt, 1)?;
+    let answer = run_at(
+        rt,
         store,
-        port,
         recordings,
-        configurations: &[configuration],
-    };
-    let answer = run(rt, confs(rt, 1)?, &site, io::empty());
+        confs,
+        port,
+        &[configuration],
+        io::empty(),
+    );
     text_of_answer(rt, answer)
 }
 
@@ -251,10 +276,10 @@ fn a_refusal_leaves_the_store_as_it_was(rt: HostRuntime) -> Result<(), Fail> {
     for taken in [port, port.wrapping_add(RADIO)] {
         let _socket = UdpSocket::bind(&rt, (Ipv4Addr::LOCALHOST, taken))?;
         let told = refusal(&rt, name, None, port, CONF)?;
-        assert_eq!(rt; told.as_str(), "no socket");
+        expect(&rt, told.as_str(), "no socket");
     }
     let told = refusal(&rt, name, Some("no_folder_of_a_test/r"), port, CONF)?;
-    assert_eq!(rt; told.as_str(), "cannot read no_folder_of_a_test/r.0");
+    expect(&rt, told.as_str(), "cannot read no_folder_of_a_test/r.0");
     let after = fs::read(&rt, name)?;
     assert!(rt; before == after);
     fs::remove_file(&rt, name)?;
@@ -272,10 +297,10 @@ fn a_file_that_is_no_store_is_left_as_it_was(rt: HostRuntime) -> Result<(), Fail
         free_ports(&rt, 1)?,
         CONF,
     )?;
-    assert_eq!(rt; told.as_str(), "not a store");
-    assert_eq!(rt; fs::read(&rt, name)?.as_slice(), b"RAPSTOR1".as_slice());
+    expect(&rt, told.as_str(), "not a store");
+    expect(&rt, fs::read(&rt, name)?.as_slice(), b"RAPSTOR1".as_slice());
     fs::remove_file(&rt, name)?;
     let told = refusal(&rt, name, None, free_ports(&rt, 1)?, CONF)?;
-    assert_eq!(rt; told.as_str(), "cannot read short_store");
+    expect(&rt, told.as_str(), "cannot read short_store");
     Ok(())
 }

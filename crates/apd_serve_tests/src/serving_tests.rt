@@ -1,3 +1,4 @@
+use crate::expect::expect;
 use crate::hearing::Hearing;
 use crate::stage::{HeldGate, Stage, StageClock};
 use crate::talk::{
@@ -148,7 +149,7 @@ fn serve_loopback(rt: HostRuntime) -> Result<(), Fail> {
         Line::Sends(0, RADIO, Datagram::Hex(AUTHENTICATION)),
         Line::Gets(0, RADIO, Datagram::Hex(AUTHENTICATED)),
     ];
-    assert_eq!(rt; serve_talk(&rt, rt.alloc(), &lines, NEVER)?, (Ok(1), 4));
+    expect(&rt, serve_talk(&rt, rt.alloc(), &lines, NEVER)?, (Ok(1), 4));
     Ok(())
 }
 
@@ -162,7 +163,7 @@ fn a_station_associates_and_is_counted(rt: HostRuntime) -> Result<(), Fail> {
         Line::Sends(1, CONTROL, Datagram::Text("STATUS")),
         Line::Gets(1, CONTROL, Datagram::Text(STATUS)),
     ];
-    assert_eq!(rt; serve_talk(&rt, rt.alloc(), &lines, NEVER)?, (Ok(2), 6));
+    expect(&rt, serve_talk(&rt, rt.alloc(), &lines, NEVER)?, (Ok(2), 6));
     Ok(())
 }
 
@@ -188,7 +189,11 @@ fn each_sender_gets_its_own_replies(rt: HostRuntime) -> Result<(), Fail> {
         Line::Sends(0, CONTROL, Datagram::Text("STA-FIRST")),
         Line::Gets(0, CONTROL, Datagram::Text("")),
     ];
-    assert_eq!(rt; serve_talk(&rt, rt.alloc(), &lines, NEVER)?, (Ok(2), 10));
+    expect(
+        &rt,
+        serve_talk(&rt, rt.alloc(), &lines, NEVER)?,
+        (Ok(2), 10),
+    );
     Ok(())
 }
 
@@ -204,7 +209,7 @@ fn datagrams_of_any_length(rt: HostRuntime) -> Result<(), Fail> {
         Line::Gets(0, RADIO, Datagram::Hex(AUTHENTICATED)),
         Line::GetsNothing(0),
     ];
-    assert_eq!(rt; serve_talk(&rt, rt.alloc(), &lines, NEVER)?, (Ok(1), 8));
+    expect(&rt, serve_talk(&rt, rt.alloc(), &lines, NEVER)?, (Ok(1), 8));
     Ok(())
 }
 
@@ -238,7 +243,7 @@ fn an_answer_waits_for_its_commit_and_the_start_for_nothing(rt: HostRuntime) -> 
         calls: NEVER,
     };
     let told = serve_scene(&rt, rt.alloc(), scene, &stage, SystemClock::new(&rt), &gate)?;
-    assert_eq!(rt; told, (Ok(2), 11));
+    expect(&rt, told, (Ok(2), 11));
     Ok(())
 }
 
@@ -274,7 +279,11 @@ fn a_silent_station_goes(rt: HostRuntime) -> Result<(), Fail> {
         after: &[],
         calls: NEVER,
     };
-    assert_eq!(rt; serve_on_stage(&rt, rt.alloc(), scene, false)?, (Ok(3), 7));
+    expect(
+        &rt,
+        serve_on_stage(&rt, rt.alloc(), scene, false)?,
+        (Ok(3), 7),
+    );
     Ok(())
 }
 
@@ -299,7 +308,11 @@ fn a_station_that_was_heard_stays(rt: HostRuntime) -> Result<(), Fail> {
         after: &[],
         calls: NEVER,
     };
-    assert_eq!(rt; serve_on_stage(&rt, rt.alloc(), scene, false)?, (Ok(3), 12));
+    expect(
+        &rt,
+        serve_on_stage(&rt, rt.alloc(), scene, false)?,
+        (Ok(3), 12),
+    );
     Ok(())
 }
 
@@ -310,12 +323,13 @@ fn a_device_fault_is_told_once(rt: HostRuntime) -> Result<(), Fail> {
         Line::GetsNothing(0),
     ];
     let hearing = Hearing::new(rt, rt.alloc());
-    assert_eq!(rt;
+    expect(
+        &rt,
         serve_talk(&hearing, rt.alloc(), &lines, STARTED)?,
-        (Ok(1), 2)
+        (Ok(1), 2),
     );
     let told = hearing.heard()?;
-    assert_eq!(rt; told.as_str(), FAILED);
+    expect(&rt, told.as_str(), FAILED);
     Ok(())
 }
 
@@ -335,7 +349,11 @@ fn after_a_device_fault_nothing_is_told_but_what_was_settled(rt: HostRuntime) ->
         Line::Sends(1, CONTROL, Datagram::Text("STA-FIRST")),
         Line::Gets(1, CONTROL, Datagram::Text("")),
     ];
-    assert_eq!(rt; serve_talk(&rt, rt.alloc(), &lines, STARTED)?, (Ok(1), 8));
+    expect(
+        &rt,
+        serve_talk(&rt, rt.alloc(), &lines, STARTED)?,
+        (Ok(1), 8),
+    );
     Ok(())
 }
 
@@ -347,7 +365,7 @@ fn faults_have_these_texts(rt: HostRuntime) -> Result<(), Fail> {
         (ServeFault::Store(StoreFault::Worn), "store is worn out"),
         (ServeFault::NoMemory, "out of memory"),
     ] {
-        assert_eq!(rt; format!(in alloc; "{fault}")?.as_str(), text);
+        expect(&rt, format!(in alloc; "{fault}")?.as_str(), text);
     }
     Ok(())
 }

@@ -1,18 +1,15 @@
+use crate::expect::expect;
 use crate::hearing::Hearing;
-use crate::running_tests::{confs, new_store, run_with};
+use crate::running_tests::{confs, new_store, run_at, run_with};
 use crate::talk::{CONTROL, Datagram, Line, free_ports};
 use apd_base::{Addr, Bssid};
 use apd_conf::{Conf, Confs, InterfaceName};
-use apd_serve::{RunFault, Site, run};
-use log::Log;
 use std::alloc::Global;
 use std::fs::{self, File};
 use std::io::{self, Read};
-use std::net::Net;
 use std::rt::Files;
-use std::sync::Wait;
 use std::test::Fail;
-use std::thread::{Threads, sleep};
+use std::thread::sleep;
 use std::time::{Clock, Duration};
 
 /// How long the store's name is watched in a test, in milliseconds.
@@ -32,13 +29,13 @@ fn the_start_and_the_entries_are_told(rt: HostRuntime) -> Result<(), Fail> {
         Line::Gets(0, CONTROL, Datagram::Text("OK\n")),
     ];
     let (answer, said, port) = run_with(&hearing, name, confs(&rt, 2)?, None, &lines)?;
-    assert_eq!(rt; (answer.as_str(), said), ("1", 2));
+    expect(&rt, (answer.as_str(), said), ("1", 2));
     let wanted = format!(in rt.alloc();
         "[INFO  apd] serves commands on port {port}, wlan0 on port {}, wlan1 on port {}; stations recovered: 0\n[INFO  apd] entries 1\n",
         port.wrapping_add(1),
         port.wrapping_add(2)
     )?;
-    assert_eq!(rt; hearing.heard()?, wanted);
+    expect(&rt, hearing.heard()?, wanted);
     fs::remove_file(&rt, name)?;
     Ok(())
 }
@@ -75,14 +72,14 @@ fn a_ninth_bssid_of_a_store_is_told(rt: HostRuntime) -> Result<(), Fail> {
     new_store(&rt, name)?;
     let eight = numbered_confs(alloc, &["a", "b", "c", "d", "e", "f", "g", "h"], 1)?;
     let (answer, _, _) = run_with(&rt, name, eight, None, &[])?;
-    assert_eq!(rt; answer.as_str(), "0");
+    expect(&rt, answer.as_str(), "0");
     let hearing = Hearing::new(rt, rt.alloc());
     let (answer, _, port) = run_with(&hearing, name, numbered_confs(alloc, &["i"], 9)?, None, &[])?;
-    assert_eq!(rt; answer.as_str(), "0");
+    expect(&rt, answer.as_str(), "0");
     let wanted = format!(in alloc;
         "[WARN  apd] i is not served: the store has as many other BSSIDs as it can have\n[INFO  apd] serves commands on port {port}; stations recovered: 0\n[INFO  apd] entries 0\n"
     )?;
-    assert_eq!(rt; hearing.heard()?, wanted);
+    expect(&rt, hearing.heard()?, wanted);
     fs::remove_file(&rt, name)?;
     Ok(())
 }
@@ -106,32 +103,6 @@ impl<R: Files<File = File> + Clock> Read for Renaming<R> {
     }
 }
 
-/// What `run` of a store at this port answers.
-fn serve_store<
-    R: Files<File = File> + Net + Wait + Threads + Clock + AllocGlobal + Log + Sync,
-    B: Read + Drop,
->(
-    rt: &R,
-    store: &str,
-    recordings: Option<&str>,
-    confs: Confs,
-    port: u16,
-    reader: B,
-) -> Result<u64, RunFault>
-where
-    R::Dir: Send + Sync,
-    R::Stream: Send + Sync,
-    R::Listener: Send + Sync,
-{
-    let site = Site {
-        store,
-        port,
-        recordings,
-        configurations: &[],
-    };
-    run(rt, confs, &site, reader)
-}
-
 impl<R> Renaming<R> {
     fn new(rt: R, name: &'static str, gone: Option<&'static str>) -> Renaming<R> {
         Renaming { rt, name, gone }
@@ -146,11 +117,11 @@ fn a_store_that_is_removed_is_told(rt: HostRuntime) -> Result<(), Fail> {
     let port = free_ports(&rt, 1)?;
     let confs = confs(&rt, 1)?;
     let reader = Renaming::new(rt, name, None);
-    let answer = serve_store(&hearing, name, None, confs, port, reader);
+    let answer = run_at(&hearing, name, None, confs, port, &[], reader);
     assert!(rt; answer.is_ok());
     let line =
         "[ERROR apd] removed_store was removed: what the store holds, and what is told from now on, is lost when this ends\n";
-    assert_eq!(rt; hearing.heard()?.as_str().matches(line).count(), 1);
+    expect(&rt, hearing.heard()?.as_str().matches(line).count(), 1);
     Ok(())
 }
 
@@ -162,11 +133,11 @@ fn a_store_that_gets_another_name_is_told(rt: HostRuntime) -> Result<(), Fail> {
     let port = free_ports(&rt, 1)?;
     let confs = confs(&rt, 1)?;
     let reader = Renaming::new(rt, name, Some("store_elsewhere"));
-    let answer = serve_store(&hearing, name, None, confs, port, reader);
+    let answer = run_at(&hearing, name, None, confs, port, &[], reader);
     assert!(rt; answer.is_ok());
     let line =
         "[ERROR apd] moved_store is not the store that is served any more: a start from moved_store knows nothing of what is told from now on\n";
-    assert_eq!(rt; hearing.heard()?.as_str().matches(line).count(), 1);
+    expect(&rt, hearing.heard()?.as_str().matches(line).count(), 1);
     fs::remove_file(&rt, "store_elsewhere")?;
     Ok(())
 }

@@ -1,18 +1,117 @@
 //! Calls whose contracts are long, each by a function of its own, so that the proof of a test needn't carry
-//! them.
-use apd_conf::{AddressList, Conf, read_list};
+//! them. What a test builds on has to be made: where it isn't, the test ends there.
+use crate::expect::expect;
+use apd_base::{AclMode, Addr, Aid, Association, Bssid, Policy, Station, StationNumber};
+use apd_conf::{AddressList, Conf, Confs, InterfaceName, read_list};
+use apd_record::Change;
+use apd_table::{Table, TableFault};
 use std::alloc::Global;
-use std::test::Fail;
+use std::process::Abort;
 
 /// The built-in configuration.
-pub fn built_in_conf(alloc: Global) -> Result<Conf, Fail> {
-    Ok(Conf::built_in(alloc)?)
+pub fn built_in_conf(rt: &impl Abort, alloc: Global) -> Conf {
+    Conf::built_in(alloc).expect(rt, "the built-in configuration")
+}
+
+/// A configuration alone.
+pub fn confs_of(rt: &impl Abort, alloc: Global, conf: Conf) -> Confs {
+    let list = vec![in alloc; conf].expect(rt, "memory");
+    Confs::new(list).expect(rt, "a list of one configuration")
+}
+
+// The built-in radio with this interface, and this last byte of its BSSID.
+fn radio(rt: &impl Abort, alloc: Global, name: &str, last: u8) -> Conf {
+    assert!(rt; InterfaceName::is_name(name.as_bytes()));
+    let mut conf = built_in_conf(rt, alloc);
+    conf.interface = InterfaceName::new(name, alloc).expect(rt, "memory");
+    conf.bssid = Bssid(Addr([2, 0, 0, 0, 0, last]));
+    conf
+}
+
+/// Radios with these interfaces, and with these last bytes of their BSSIDs.
+pub fn radios(rt: &impl Abort, alloc: Global, of: &[(&str, u8)]) -> Vec<Conf> {
+    let mut list = Vec::new(alloc);
+    for (name, last) in of {
+        let pushed = list.push(radio(rt, alloc, name, *last));
+        pushed.ok().expect(rt, "memory");
+    }
+    list
+}
+
+/// A copy of a list of radios that is taken.
+pub fn copied_radios(rt: &impl Abort, alloc: Global, of: &[(&str, u8)]) -> Confs {
+    let confs = Confs::new(radios(rt, alloc, of));
+    let confs = confs.expect(rt, "a list of configurations");
+    confs.copy(alloc).expect(rt, "a copy")
+}
+
+/// An address of its own for each number, in a range of its own.
+pub fn address(range: u8, number: u16) -> Addr {
+    let [high, low] = number.to_be_bytes();
+    Addr([2, 0, 0, range, high, low])
+}
+
+/// So many lines, each with an address of its own.
+pub fn lines_of_addresses(rt: &impl Abort, alloc: Global, range: u8, count: u16) -> Vec<u8> {
+    let mut file = Vec::new(alloc);
+    for number in 0..count {
+        let written = address(range, number).write_text(&mut file);
+        written.expect(rt, "memory");
+        file.push(b'\n').expect(rt, "memory");
+    }
+    file
 }
 
 /// The addresses of a list file that is taken.
-pub fn addresses_of(alloc: Global, file: &[u8]) -> Result<AddressList, Fail> {
-    match read_list(alloc, file) {
-        Ok(list) => Ok(list),
-        Err(_) => Err(Fail::new("a list file is refused")),
+pub fn addresses_of(rt: &impl Abort, alloc: Global, file: &[u8]) -> AddressList {
+    read_list(alloc, file).expect(rt, "a list file")
+}
+
+/// The policy of a BSSID in a mode, for 2,007 stations.
+pub fn policy_of(bssid: Bssid, mode: AclMode) -> Change {
+    let max = StationNumber { number: 2007 };
+    let policy = Policy { mode, max };
+    Change::Policy { bssid, policy }
+}
+
+/// The identifier that a BSSID gave last.
+pub fn cursor_of(rt: &impl Abort, bssid: Bssid, number: u16) -> Change {
+    let last = StationNumber::new(number).expect(rt, "a number of stations");
+    Change::Cursor { bssid, last }
+}
+
+/// A station that is associated under a number, with this capability and listen interval.
+pub fn associated(rt: &impl Abort, number: u16, capability: u16, listen_interval: u16) -> Station {
+    let aid = Aid::new(number).expect(rt, "an identifier");
+    Station::Associated(Association {
+        aid,
+        capability,
+        listen_interval,
+    })
+}
+
+/// What a change is answered.
+pub fn apply(table: &mut Table, change: &Change) -> Result<(), TableFault> {
+    table.apply(change)
+}
+
+/// Makes changes one after another, each of which has to be taken.
+pub fn takes(rt: &impl Abort, table: &mut Table, changes: &[Change]) {
+    for change in changes {
+        expect(rt, apply(table, change), Ok(()));
     }
+}
+
+/// Asks for changes, each of which has to be refused.
+pub fn refuses(rt: &impl Abort, table: &mut Table, changes: &[Change]) {
+    for change in changes {
+        expect(rt, apply(table, change), Err(TableFault::Invalid));
+    }
+}
+
+/// The table that changes lead to.
+pub fn table_of(rt: &impl Abort, alloc: Global, changes: &[Change]) -> Table {
+    let mut table = Table::new(alloc);
+    takes(rt, &mut table, changes);
+    table
 }

@@ -1,9 +1,9 @@
 use crate::calls::built_in_conf;
+use crate::expect::expect;
 use apd_base::AclMode;
 use apd_conf::{AuthAlgs, Conf, ConfFault, HwMode, IgnoreBroadcastSsid, Required, read_conf};
 use std::alloc::Global;
 use std::process::Abort;
-use std::test::Fail;
 
 const EXAMPLE: &[u8] = b"# open network
 interface=wlan0
@@ -28,16 +28,13 @@ wpa=0
 ";
 
 /// A configuration with all its fields.
-fn text_of(alloc: Global, conf: &Conf) -> Result<String, Fail> {
-    Ok(format!(in alloc; "{conf:?}")?)
+fn text_of(rt: &impl Abort, alloc: Global, conf: Conf) -> String {
+    format!(in alloc; "{conf:?}").expect(rt, "memory")
 }
 
 /// The configuration of a file that is taken.
-fn conf_of(alloc: Global, file: &[u8]) -> Result<Conf, Fail> {
-    match read_conf(alloc, file) {
-        Ok(conf) => Ok(conf),
-        Err(_) => Err(Fail::new("a configuration file is refused")),
-    }
+fn conf_of(rt: &impl Abort, alloc: Global, file: &[u8]) -> Conf {
+    read_conf(alloc, file).expect(rt, "a configuration file")
 }
 
 /// Why a file is refused.
@@ -46,76 +43,90 @@ fn fault_of(alloc: Global, file: &[u8]) -> Option<ConfFault> {
 }
 
 #[test]
-fn the_example_is_the_built_in_configuration(rt: HostRuntime) -> Result<(), Fail> {
-    let read = text_of(rt.alloc(), &conf_of(rt.alloc(), EXAMPLE)?)?;
-    let built_in = text_of(rt.alloc(), &built_in_conf(rt.alloc())?)?;
-    assert_eq!(rt; read.as_str(), built_in.as_str());
-    Ok(())
+fn the_example_is_the_built_in_configuration(rt: HostRuntime) {
+    let alloc = rt.alloc();
+    let read = text_of(&rt, alloc, conf_of(&rt, alloc, EXAMPLE));
+    let built_in = text_of(&rt, alloc, built_in_conf(&rt, alloc));
+    expect(&rt, read.as_str(), built_in.as_str());
+}
+
+// What a configuration has where its file gives no more than the interface, the BSSID and the SSID.
+fn has_defaults(rt: &impl Abort, conf: &Conf) {
+    expect(rt, conf.hw_mode, HwMode::B);
+    expect(rt, (conf.channel, conf.beacon_int), (0, 100));
+    expect(rt, conf.max_num_sta.number, 2007);
+    expect(rt, conf.auth_algs, AuthAlgs::OpenAndShared);
+    expect(rt, conf.ap_max_inactivity, 300);
+    expect(rt, conf.ignore_broadcast_ssid, IgnoreBroadcastSsid::No);
+    expect(rt, conf.max_listen_interval, 65535);
+    expect(rt, conf.macaddr_acl, AclMode::AcceptUnlessDenied);
+    expect(rt, conf.accept_mac_file.is_none(), true);
+    expect(rt, conf.deny_mac_file.is_none(), true);
 }
 
 #[test]
-fn names_that_no_line_gives_have_their_defaults(rt: HostRuntime) -> Result<(), Fail> {
+fn names_that_no_line_gives_have_their_defaults(rt: HostRuntime) {
     let file = b"interface=wlan0\nbssid=02:00:00:00:00:01\nssid=net";
-    let conf = conf_of(rt.alloc(), file)?;
-    assert_eq!(rt; conf.hw_mode, HwMode::B);
-    assert_eq!(rt; conf.channel, 0);
-    assert_eq!(rt; conf.beacon_int, 100);
-    assert_eq!(rt; conf.max_num_sta.number, 2007);
-    assert_eq!(rt; conf.auth_algs, AuthAlgs::OpenAndShared);
-    assert_eq!(rt; conf.ap_max_inactivity, 300);
-    assert_eq!(rt; conf.ignore_broadcast_ssid, IgnoreBroadcastSsid::No);
-    assert_eq!(rt; conf.max_listen_interval, 65535);
-    assert_eq!(rt; conf.macaddr_acl, AclMode::AcceptUnlessDenied);
-    assert!(rt; conf.accept_mac_file.is_none());
-    assert!(rt; conf.deny_mac_file.is_none());
-    Ok(())
+    let conf = conf_of(&rt, rt.alloc(), file);
+    has_defaults(&rt, &conf);
+}
+
+// What a configuration has whose file gives some names twice, and values with blanks.
+fn has_last_values(rt: &impl Abort, conf: &Conf) {
+    expect(rt, conf.interface.as_str(), "wlan0");
+    expect(rt, (conf.bssid.0.0[5], conf.channel), (0xaa, 7));
+    expect(rt, conf.ssid.as_bytes(), b"net \r".as_slice());
+    let accept = conf.accept_mac_file.as_ref();
+    let accept = accept.expect(rt, "an accept file");
+    expect(rt, accept.as_str(), "/etc/accept");
 }
 
 #[test]
-fn a_value_is_that_of_the_last_line_and_keeps_its_blanks(rt: HostRuntime) -> Result<(), Fail> {
+fn a_value_is_that_of_the_last_line_and_keeps_its_blanks(rt: HostRuntime) {
     let file =
         b"ssid=a\ninterface=wlan0\r\nbssid=02:00:00:00:00:aA\nchannel=0000000007\nssid=a=b \naccept_mac_file=/etc/accept\nssid=net \r";
-    let conf = conf_of(rt.alloc(), file)?;
-    assert_eq!(rt; conf.interface.as_str(), "wlan0");
-    assert_eq!(rt; conf.bssid.0.0[5], 0xaa);
-    assert_eq!(rt; conf.channel, 7);
-    assert_eq!(rt; conf.ssid.as_bytes(), b"net \r".as_slice());
-    let accept = conf.accept_mac_file.as_ref().ok_or("no accept file")?;
-    assert_eq!(rt; accept.as_str(), "/etc/accept");
-    Ok(())
+    let conf = conf_of(&rt, rt.alloc(), file);
+    has_last_values(&rt, &conf);
+}
+
+// Files that are refused, and why.
+const FAULTY: [(&str, ConfFault); 20] = [
+    ("", ConfFault::Missing(Required::Interface)),
+    ("\n# a remark\n\n", ConfFault::Missing(Required::Interface)),
+    ("interface=wlan0", ConfFault::Missing(Required::Bssid)),
+    (
+        "interface=wlan0\nbssid=02:00:00:00:00:01",
+        ConfFault::Missing(Required::Ssid),
+    ),
+    ("interface=wlan0\nfoo", ConfFault::NoEquals(2)),
+    ("\r", ConfFault::NoEquals(1)),
+    ("\r\n #", ConfFault::NoEquals(2)),
+    ("foo=1", ConfFault::Unknown(1)),
+    ("=1", ConfFault::Unknown(1)),
+    ("ssid =net", ConfFault::Unknown(1)),
+    ("wmm_ac=1", ConfFault::Unknown(1)),
+    ("wpa=2", ConfFault::Security(1)),
+    ("wpa=1", ConfFault::Security(1)),
+    ("wpa=00", ConfFault::Security(1)),
+    ("\n\nieee8021x=", ConfFault::Security(3)),
+    ("macaddr_acl=2", ConfFault::BadValue(1)),
+    ("channel=197", ConfFault::BadValue(1)),
+    ("ssid=\nssid=net", ConfFault::BadValue(1)),
+    ("interface=wlan0\r", ConfFault::BadValue(1)),
+    ("channel=x\nwpa=1\nfoo", ConfFault::BadValue(1)),
+];
+
+// Each file is refused for what is told.
+fn are_faulty(rt: &impl Abort, alloc: Global, rows: &[(&str, ConfFault)]) {
+    for (file, fault) in rows {
+        let found = fault_of(alloc, file.as_bytes());
+        expect(rt, (*file, found), (*file, Some(*fault)));
+    }
 }
 
 #[test]
-fn the_first_faulty_line_is_told(rt: HostRuntime) -> Result<(), Fail> {
-    for (file, want) in [
-        ("", ConfFault::Missing(Required::Interface)),
-        ("\n# a remark\n\n", ConfFault::Missing(Required::Interface)),
-        ("interface=wlan0", ConfFault::Missing(Required::Bssid)),
-        (
-            "interface=wlan0\nbssid=02:00:00:00:00:01",
-            ConfFault::Missing(Required::Ssid),
-        ),
-        ("interface=wlan0\nfoo", ConfFault::NoEquals(2)),
-        ("\r", ConfFault::NoEquals(1)),
-        ("\r\n #", ConfFault::NoEquals(2)),
-        ("foo=1", ConfFault::Unknown(1)),
-        ("=1", ConfFault::Unknown(1)),
-        ("ssid =net", ConfFault::Unknown(1)),
-        ("wmm_ac=1", ConfFault::Unknown(1)),
-        ("wpa=2", ConfFault::Security(1)),
-        ("wpa=1", ConfFault::Security(1)),
-        ("wpa=00", ConfFault::Security(1)),
-        ("\n\nieee8021x=", ConfFault::Security(3)),
-        ("macaddr_acl=2", ConfFault::BadValue(1)),
-        ("channel=197", ConfFault::BadValue(1)),
-        ("ssid=\nssid=net", ConfFault::BadValue(1)),
-        ("interface=wlan0\r", ConfFault::BadValue(1)),
-        ("channel=x\nwpa=1\nfoo", ConfFault::BadValue(1)),
-    ] {
-        let fault = fault_of(rt.alloc(), file.as_bytes());
-        assert_eq!(rt; fault, Some(want), "{file}");
-    }
-    Ok(())
+fn the_first_faulty_line_is_told(rt: HostRuntime) {
+    are_faulty(&rt, rt.alloc(), &FAULTY);
 }
 
 // A line that is taken leaves the interface missing.
@@ -191,16 +202,17 @@ fn the_name_of_a_list_file_is_a_text_and_not_empty(rt: HostRuntime) {
     }
     for line in [b"accept_mac_file=\xff".as_slice(), b"deny_mac_file=x\xc3"] {
         let fault = fault_of(rt.alloc(), line);
-        assert_eq!(rt; fault, Some(ConfFault::BadValue(1)));
+        expect(&rt, fault, Some(ConfFault::BadValue(1)));
     }
 }
 
 fn check_line(rt: &impl Abort, alloc: Global, line: &str, is_taken: bool) {
     let fault = fault_of(alloc, line.as_bytes());
-    if is_taken {
-        assert!(rt; matches!(&fault, Some(ConfFault::Missing(_))), "{line}");
-    } else {
-        assert_eq!(rt; fault, Some(ConfFault::BadValue(1)), "{line}");
+    let is_missing = matches!(&fault, Some(ConfFault::Missing(_)));
+    expect(rt, (line, is_missing), (line, is_taken));
+    if !is_taken {
+        let bad_value = Some(ConfFault::BadValue(1));
+        expect(rt, (line, fault), (line, bad_value));
     }
 }
 

@@ -1,6 +1,7 @@
-use crate::calls::built_in_conf;
-use apd_base::{AclMode, Addr, Aid, Association, Bssid, Policy, Station, StationNumber, Which};
-use apd_conf::{Conf, Confs, Ssid};
+use crate::calls::{associated, built_in_conf, confs_of, policy_of, table_of};
+use crate::expect::expect;
+use apd_base::{AclMode, Addr, Bssid, Station, Which};
+use apd_conf::{Confs, Ssid};
 use apd_ctrl::{
     Command, FAIL, Parsed, Placed, Query, UNKNOWN_COMMAND, escape, parse_command, reply,
 };
@@ -10,7 +11,6 @@ use apd_record::Change;
 use apd_table::Table;
 use std::alloc::Global;
 use std::process::Abort;
-use std::test::Fail;
 
 const BSSID: Bssid = Bssid(Addr([2, 0, 0, 0, 0, 1]));
 
@@ -25,13 +25,14 @@ fn parse(text: &[u8]) -> Parsed<'_> {
     parse_command(text)
 }
 
-/// The reply to a query.
-fn reply_to(alloc: Global, table: &Table, confs: &Confs, query: Query) -> Result<Vec<u8>, Fail> {
-    Ok(reply(alloc, table, confs, query)?)
+/// A text is this command, with no interface named.
+fn is_command(rt: &impl Abort, text: &[u8], command: Command) {
+    let interface = None;
+    expect(rt, parse(text), Parsed::Command { interface, command });
 }
 
 #[test]
-fn queries_are_read(rt: HostRuntime) -> Result<(), Fail> {
+fn queries_are_read(rt: HostRuntime) {
     for (text, command) in [
         (b"PING".as_slice(), Command::Ping),
         (b"PING\n", Command::Ping),
@@ -42,14 +43,12 @@ fn queries_are_read(rt: HostRuntime) -> Result<(), Fail> {
         (b"ACCEPT_ACL SHOW", Command::Show(Which::Accept)),
         (b"DENY_ACL SHOW", Command::Show(Which::Deny)),
     ] {
-        let interface = None;
-        assert_eq!(rt; parse(text), Parsed::Command { interface, command });
+        is_command(&rt, text, command);
     }
-    Ok(())
 }
 
 #[test]
-fn dismissals_are_read(rt: HostRuntime) -> Result<(), Fail> {
+fn dismissals_are_read(rt: HostRuntime) {
     let to = A;
     for (text, reason) in [
         (b"DISASSOCIATE 02:00:00:00:00:aa".as_slice(), 2),
@@ -57,27 +56,16 @@ fn dismissals_are_read(rt: HostRuntime) -> Result<(), Fail> {
         (b"DISASSOCIATE 02:00:00:00:00:aa reason=00001", 1),
         (b"DISASSOCIATE 02:00:00:00:00:aa reason=65535", 65535),
     ] {
-        let command = Command::Disassociate {
-            to,
-            reason: Reason(reason),
-        };
-        let interface = None;
-        assert_eq!(rt; parse(text), Parsed::Command { interface, command });
+        let reason = Reason(reason);
+        is_command(&rt, text, Command::Disassociate { to, reason });
     }
-    let command = Command::Deauthenticate {
-        to,
-        reason: Reason(2),
-    };
-    let interface = None;
-    assert_eq!(rt;
-        parse_command(b"DEAUTHENTICATE 02:00:00:00:00:aa"),
-        Parsed::Command { interface, command }
-    );
-    Ok(())
+    let text = b"DEAUTHENTICATE 02:00:00:00:00:aa";
+    let reason = Reason(2);
+    is_command(&rt, text, Command::Deauthenticate { to, reason });
 }
 
 #[test]
-fn list_edits_are_read(rt: HostRuntime) -> Result<(), Fail> {
+fn list_edits_are_read(rt: HostRuntime) {
     for (text, which, edit) in [
         (
             b"ACCEPT_ACL ADD_MAC 02:00:00:00:00:aA".as_slice(),
@@ -91,15 +79,12 @@ fn list_edits_are_read(rt: HostRuntime) -> Result<(), Fail> {
         ),
         (b"DENY_ACL CLEAR", Which::Deny, Edit::Clear),
     ] {
-        let command = Command::ListEdit { which, edit };
-        let interface = None;
-        assert_eq!(rt; parse(text), Parsed::Command { interface, command });
+        is_command(&rt, text, Command::ListEdit { which, edit });
     }
-    Ok(())
 }
 
 #[test]
-fn an_interface_is_named(rt: HostRuntime) -> Result<(), Fail> {
+fn an_interface_is_named(rt: HostRuntime) {
     let command = Command::Ping;
     for (text, name) in [
         (b"IFNAME=wlan0 PING\n".as_slice(), b"wlan0".as_slice()),
@@ -107,13 +92,12 @@ fn an_interface_is_named(rt: HostRuntime) -> Result<(), Fail> {
         (b"IFNAME=a=b PING", b"a=b"),
     ] {
         let interface = Some(name);
-        assert_eq!(rt; parse(text), Parsed::Command { interface, command });
+        expect(&rt, parse(text), Parsed::Command { interface, command });
     }
-    Ok(())
 }
 
 #[test]
-fn words_are_unknown(rt: HostRuntime) -> Result<(), Fail> {
+fn words_are_unknown(rt: HostRuntime) {
     for text in [
         b"".as_slice(),
         b"\n",
@@ -129,16 +113,27 @@ fn words_are_unknown(rt: HostRuntime) -> Result<(), Fail> {
         b"IFNAME=a IFNAME=b PING",
         b"ifname=a PING",
     ] {
-        assert_eq!(rt; parse(text), Parsed::Unknown);
+        expect(&rt, (text, parse(text)), (text, Parsed::Unknown));
     }
-    assert_eq!(rt; parse(b"FOO").refusal(), Some(UNKNOWN_COMMAND));
-    assert_eq!(rt; UNKNOWN_COMMAND, b"UNKNOWN COMMAND\n".as_slice());
-    Ok(())
+    expect(&rt, parse(b"FOO").refusal(), Some(UNKNOWN_COMMAND));
+    expect(&rt, UNKNOWN_COMMAND, b"UNKNOWN COMMAND\n".as_slice());
+}
+
+// A text is a command with wrong arguments.
+fn fails(rt: &impl Abort, text: &[u8]) {
+    expect(rt, (text, parse(text)), (text, Parsed::Fail));
+}
+
+// Each of the texts is one.
+fn all_fail(rt: &impl Abort, texts: &[&[u8]]) {
+    for text in texts {
+        fails(rt, text);
+    }
 }
 
 #[test]
-fn arguments_fail(rt: HostRuntime) -> Result<(), Fail> {
-    for text in [
+fn arguments_fail(rt: HostRuntime) {
+    let texts = [
         b"STA".as_slice(),
         b"STA-FIRST x",
         b"PING ",
@@ -149,18 +144,16 @@ fn arguments_fail(rt: HostRuntime) -> Result<(), Fail> {
         b"DENY_ACL show",
         b"ACCEPT_ACL ADD_MAC",
         b"IFNAME=x STA",
-    ] {
-        assert_eq!(rt; parse(text), Parsed::Fail);
-    }
-    assert_eq!(rt; parse(b"STA").refusal(), Some(FAIL));
-    assert_eq!(rt; parse(b"PING").refusal(), None);
-    assert_eq!(rt; FAIL, b"FAIL\n".as_slice());
-    Ok(())
+    ];
+    all_fail(&rt, &texts);
+    expect(&rt, parse(b"STA").refusal(), Some(FAIL));
+    expect(&rt, parse(b"PING").refusal(), None);
+    expect(&rt, FAIL, b"FAIL\n".as_slice());
 }
 
 #[test]
-fn reasons_fail(rt: HostRuntime) -> Result<(), Fail> {
-    for text in [
+fn reasons_fail(rt: HostRuntime) {
+    let texts = [
         b"DEAUTHENTICATE 02:00:00:00:00:aa reason=65536".as_slice(),
         b"DEAUTHENTICATE 02:00:00:00:00:aa reason=000001",
         b"DEAUTHENTICATE 02:00:00:00:00:aa reason=",
@@ -169,63 +162,65 @@ fn reasons_fail(rt: HostRuntime) -> Result<(), Fail> {
         b"DEAUTHENTICATE 02:00:00:00:00:aa reason=1 ",
         b"DEAUTHENTICATE  02:00:00:00:00:aa",
         b"DEAUTHENTICATE reason=1",
-    ] {
-        assert_eq!(rt; parse(text), Parsed::Fail);
+    ];
+    all_fail(&rt, &texts);
+}
+
+// So many bytes behind a front.
+fn extended(rt: &impl Abort, alloc: Global, front: &[u8], count: usize) -> Vec<u8> {
+    let mut text = Vec::from_slice(alloc, front).expect(rt, "memory");
+    for _ in 0..count {
+        text.push(b'x').expect(rt, "memory");
     }
-    Ok(())
+    text
 }
 
 // A prefix whose name has this many bytes, and then `PING`.
-fn long(alloc: Global, bytes: usize) -> Result<Vec<u8>, Fail> {
-    let mut text = Vec::new(alloc);
-    text.extend_from_slice(b"IFNAME=")?;
-    for _ in 0..bytes {
-        text.push(b'x')?;
-    }
-    text.extend_from_slice(b" PING")?;
-    Ok(text)
+fn long(rt: &impl Abort, alloc: Global, bytes: usize) -> Vec<u8> {
+    let mut text = extended(rt, alloc, b"IFNAME=", bytes);
+    text.extend_from_slice(b" PING").expect(rt, "memory");
+    text
+}
+
+// Whether a text is a command.
+fn is_read(text: &[u8]) -> bool {
+    matches!(parse(text), Parsed::Command { .. })
 }
 
 #[test]
-fn the_newline_is_not_counted(rt: HostRuntime) -> Result<(), Fail> {
-    let mut text = long(rt.alloc(), 4084)?;
-    assert_eq!(rt; text.len(), 4096);
-    assert!(rt; matches!(parse(&text), Parsed::Command { .. }));
-    text.push(b'\n')?;
-    assert!(rt; matches!(parse(&text), Parsed::Command { .. }));
-    text.push(b'\n')?;
-    assert_eq!(rt; parse(&text), Parsed::Fail);
-    let text = long(rt.alloc(), 4085)?;
-    assert_eq!(rt; parse(&text), Parsed::Fail);
-    Ok(())
+fn the_newline_is_not_counted(rt: HostRuntime) {
+    let mut text = long(&rt, rt.alloc(), 4084);
+    expect(&rt, (text.len(), is_read(&text)), (4096, true));
+    text.push(b'\n').expect(&rt, "memory");
+    expect(&rt, is_read(&text), true);
+    text.push(b'\n').expect(&rt, "memory");
+    fails(&rt, &text);
+    let text = long(&rt, rt.alloc(), 4085);
+    fails(&rt, &text);
 }
 
 // A word of this many bytes that is not known is refused by this text.
-fn refuses(rt: &impl Abort, alloc: Global, bytes: usize, want: &[u8]) -> Result<(), Fail> {
-    let mut text = Vec::new(alloc);
-    for _ in 0..bytes {
-        text.push(b'x')?;
-    }
-    assert_eq!(rt; parse(&text).refusal(), Some(want));
-    Ok(())
+fn refuses(rt: &impl Abort, alloc: Global, bytes: usize, wanted: &[u8]) {
+    let text = extended(rt, alloc, b"", bytes);
+    expect(rt, parse(&text).refusal(), Some(wanted));
 }
 
 #[test]
-fn the_length_is_looked_at_before_the_word(rt: HostRuntime) -> Result<(), Fail> {
-    refuses(&rt, rt.alloc(), 4096, UNKNOWN_COMMAND)?;
-    refuses(&rt, rt.alloc(), 4097, FAIL)
+fn the_length_is_looked_at_before_the_word(rt: HostRuntime) {
+    refuses(&rt, rt.alloc(), 4096, UNKNOWN_COMMAND);
+    refuses(&rt, rt.alloc(), 4097, FAIL);
 }
 
 #[test]
-fn commands_are_placed(rt: HostRuntime) -> Result<(), Fail> {
+fn commands_are_placed(rt: HostRuntime) {
     let bssid = BSSID;
     let to = A;
     let reason = Reason(7);
+    let tag = 9;
     for (command, deauth) in [
         (Command::Deauthenticate { to, reason }, true),
         (Command::Disassociate { to, reason }, false),
     ] {
-        let tag = 9;
         let kick = Event::Kick {
             bssid,
             to,
@@ -233,73 +228,46 @@ fn commands_are_placed(rt: HostRuntime) -> Result<(), Fail> {
             deauth,
             tag,
         };
-        assert_eq!(rt; command.at(BSSID, true, 9), Placed::Do(kick));
+        expect(&rt, command.at(BSSID, true, tag), Placed::Do(kick));
     }
     let status = Placed::Ask(Query::Status(BSSID, false));
-    assert_eq!(rt; Command::Status.at(BSSID, false, 9), status);
-    assert_eq!(rt; Query::Next(BSSID, A).bssid(), Some(BSSID));
-    assert_eq!(rt; Query::Ping.bssid(), None);
-    Ok(())
-}
-
-// A configuration alone.
-fn confs_with(alloc: Global, conf: Conf) -> Result<Confs, Fail> {
-    let mut list = Vec::new(alloc);
-    list.push(conf)?;
-    Ok(Confs::new(list)?)
-}
-
-// Makes a change that is taken.
-fn change(table: &mut Table, change: &Change) -> Result<(), Fail> {
-    match table.apply(change) {
-        Ok(()) => Ok(()),
-        Err(_) => Err(Fail::new("a change is refused")),
-    }
+    expect(&rt, Command::Status.at(BSSID, false, tag), status);
+    expect(&rt, Query::Next(BSSID, A).bssid(), Some(BSSID));
+    expect(&rt, Query::Ping.bssid(), None);
 }
 
 // The built-in configuration alone, with another name of the network.
-fn confs(rt: &impl Abort, alloc: Global, ssid: &[u8]) -> Result<Confs, Fail> {
+fn confs(rt: &impl Abort, alloc: Global, ssid: &[u8]) -> Confs {
     assert!(rt; Ssid::is_name(ssid));
-    let mut conf = built_in_conf(alloc)?;
-    conf.ssid = Ssid::new(ssid, alloc)?;
-    confs_with(alloc, conf)
+    let mut conf = built_in_conf(rt, alloc);
+    conf.ssid = Ssid::new(ssid, alloc).expect(rt, "memory");
+    confs_of(rt, alloc, conf)
+}
+
+fn put(addr: Addr, station: Station) -> Change {
+    Change::Put {
+        bssid: BSSID,
+        addr,
+        station,
+    }
+}
+
+fn accept(addr: Addr) -> Change {
+    Change::ListAdd {
+        bssid: BSSID,
+        which: Which::Accept,
+        addr,
+    }
 }
 
 // One station, associated with identifier 1, capability 0x431 and listen interval 10, and one more that is
 // authenticated; both on the accept list.
-fn table(alloc: Global) -> Result<Table, Fail> {
-    let bssid = BSSID;
-    let mut table = Table::new(alloc);
-    let policy = Policy {
-        mode: AclMode::AcceptUnlessDenied,
-        max: StationNumber::new(2007).ok_or("limit")?,
-    };
-    change(&mut table, &Change::Policy { bssid, policy })?;
-    let station = Station::Associated(Association {
-        aid: Aid::new(1).ok_or("identifier")?,
-        capability: 0x431,
-        listen_interval: 10,
-    });
-    let addr = A;
-    let put = Change::Put {
-        bssid,
-        addr,
-        station,
-    };
-    change(&mut table, &put)?;
-    let station = Station::Authenticated;
-    let addr = B;
-    let put = Change::Put {
-        bssid,
-        addr,
-        station,
-    };
-    change(&mut table, &put)?;
-    let which = Which::Accept;
-    for addr in [B, A] {
-        change(&mut table, &Change::ListAdd { bssid, which, addr })?;
-    }
-    Ok(table)
+fn table(rt: &impl Abort, alloc: Global) -> Table {
+    let open = policy_of(BSSID, AclMode::AcceptUnlessDenied);
+    let first = put(A, associated(rt, 1, 0x431, 10));
+    let second = put(B, Station::Authenticated);
+    let changes = [open, first, second, accept(B), accept(A)];
+    table_of(rt, alloc, &changes)
 }
 
 const ASSOCIATED: &[u8] =
@@ -308,11 +276,36 @@ const ASSOCIATED: &[u8] =
 const AUTHENTICATED: &[u8] =
     b"02:00:00:00:00:ab\nflags=[AUTH]\naid=0\ncapability=0x0\nlisten_interval=0\n";
 
+// The replies to queries at a table, where the network's name is `net`.
+fn tells(rt: &impl Abort, alloc: Global, table: &Table, rows: &[(Query, &[u8])]) {
+    let confs = confs(rt, alloc, b"net");
+    for (query, wanted) in rows {
+        replies(rt, alloc, table, &confs, *query, wanted);
+    }
+}
+
+// The reply to a query.
+fn replies(
+    rt: &impl Abort,
+    alloc: Global,
+    table: &Table,
+    confs: &Confs,
+    query: Query,
+    wanted: &[u8],
+) {
+    let text = reply(alloc, table, confs, query).expect(rt, "memory");
+    expect(rt, text.as_slice(), wanted);
+}
+
+// The replies at the table of two stations.
+fn tells_stations(rt: &impl Abort, alloc: Global, rows: &[(Query, &[u8])]) {
+    let table = table(rt, alloc);
+    tells(rt, alloc, &table, rows);
+}
+
 #[test]
-fn stations_are_told(rt: HostRuntime) -> Result<(), Fail> {
-    let confs = confs(&rt, rt.alloc(), b"net")?;
-    let table = table(rt.alloc())?;
-    for (query, want) in [
+fn stations_are_told(rt: HostRuntime) {
+    let rows = [
         (Query::First(BSSID), ASSOCIATED),
         (Query::Sta(BSSID, B), AUTHENTICATED),
         (Query::Sta(BSSID, BSSID.0), b"FAIL\n"),
@@ -321,66 +314,59 @@ fn stations_are_told(rt: HostRuntime) -> Result<(), Fail> {
         (Query::Next(BSSID, BSSID.0), b"FAIL\n"),
         (Query::First(OTHER), b"FAIL\n"),
         (Query::Ping, b"PONG\n"),
-    ] {
-        let text = reply_to(rt.alloc(), &table, &confs, query)?;
-        assert_eq!(rt; text.as_slice(), want);
-    }
-    Ok(())
+    ];
+    tells_stations(&rt, rt.alloc(), &rows);
 }
 
 #[test]
-fn an_empty_table_tells_nothing(rt: HostRuntime) -> Result<(), Fail> {
-    let confs = confs(&rt, rt.alloc(), b"net")?;
+fn an_empty_table_tells_nothing(rt: HostRuntime) {
     let table = Table::new(rt.alloc());
-    for (query, want) in [
+    let rows = [
         (Query::First(BSSID), b"".as_slice()),
         (Query::Next(BSSID, A), b"FAIL\n"),
         (Query::Sta(BSSID, A), b"FAIL\n"),
         (Query::Show(BSSID, Which::Deny), b""),
         (Query::Show(OTHER, Which::Deny), b"FAIL\n"),
+    ];
+    tells(&rt, rt.alloc(), &table, &rows);
+}
+
+#[test]
+fn lists_are_told_in_order(rt: HostRuntime) {
+    let rows = [
+        (
+            Query::Show(BSSID, Which::Accept),
+            b"02:00:00:00:00:aa VLAN_ID=0\n02:00:00:00:00:ab VLAN_ID=0\n".as_slice(),
+        ),
+        (Query::Show(BSSID, Which::Deny), b""),
+    ];
+    tells_stations(&rt, rt.alloc(), &rows);
+}
+
+// The status of the built-in network with another name, while the radio is up or down.
+fn tells_status(rt: &impl Abort, alloc: Global, ssid: &[u8], is_up: bool, wanted: &[u8]) {
+    let table = table(rt, alloc);
+    let confs = confs(rt, alloc, ssid);
+    let query = Query::Status(BSSID, is_up);
+    replies(rt, alloc, &table, &confs, query, wanted);
+}
+
+#[test]
+fn the_status_is_told(rt: HostRuntime) {
+    for (ssid, is_up, wanted) in [
+        (
+            b"net".as_slice(),
+            true,
+            b"state=ENABLED\nchannel=6\nbeacon_int=100\nbss[0]=wlan0\nbssid[0]=02:00:00:00:00:01\nssid[0]=net\nnum_sta[0]=2\n".as_slice(),
+        ),
+        (
+            b"\"\\\n\r\t\x1b ~\x7f\x00\xff",
+            false,
+            b"state=DISABLED\nchannel=6\nbeacon_int=100\nbss[0]=wlan0\nbssid[0]=02:00:00:00:00:01\nssid[0]=\\\"\\\\\\n\\r\\t\\e ~\\x7f\\x00\\xff\nnum_sta[0]=2\n",
+        ),
     ] {
-        let text = reply_to(rt.alloc(), &table, &confs, query)?;
-        assert_eq!(rt; text.as_slice(), want);
+        tells_status(&rt, rt.alloc(), ssid, is_up, wanted);
     }
-    Ok(())
-}
-
-#[test]
-fn lists_are_told_in_order(rt: HostRuntime) -> Result<(), Fail> {
-    let confs = confs(&rt, rt.alloc(), b"net")?;
-    let table = table(rt.alloc())?;
-    let accepted = reply_to(
-        rt.alloc(),
-        &table,
-        &confs,
-        Query::Show(BSSID, Which::Accept),
-    )?;
-    assert_eq!(rt;
-        accepted.as_slice(),
-        b"02:00:00:00:00:aa VLAN_ID=0\n02:00:00:00:00:ab VLAN_ID=0\n".as_slice()
-    );
-    let denied = reply_to(rt.alloc(), &table, &confs, Query::Show(BSSID, Which::Deny))?;
-    assert_eq!(rt; denied.as_slice(), b"".as_slice());
-    Ok(())
-}
-
-#[test]
-fn the_status_is_told(rt: HostRuntime) -> Result<(), Fail> {
-    let alloc = rt.alloc();
-    let table = table(alloc)?;
-    let net = confs(&rt, alloc, b"net")?;
-    let up = reply_to(alloc, &table, &net, Query::Status(BSSID, true))?;
-    assert_eq!(rt;
-        up.as_slice(),
-        b"state=ENABLED\nchannel=6\nbeacon_int=100\nbss[0]=wlan0\nbssid[0]=02:00:00:00:00:01\nssid[0]=net\nnum_sta[0]=2\n".as_slice()
-    );
-    let odd = confs(&rt, alloc, b"\"\\\n\r\t\x1b ~\x7f\x00\xff")?;
-    let down = reply_to(alloc, &table, &odd, Query::Status(BSSID, false))?;
-    assert_eq!(rt;
-        down.as_slice(),
-        b"state=DISABLED\nchannel=6\nbeacon_int=100\nbss[0]=wlan0\nbssid[0]=02:00:00:00:00:01\nssid[0]=\\\"\\\\\\n\\r\\t\\e ~\\x7f\\x00\\xff\nnum_sta[0]=2\n".as_slice()
-    );
-    let printed = escape(alloc, b"ssid[0]=\\xff\n")?;
-    assert_eq!(rt; printed.as_slice(), b"ssid[0]=\\\\xff\\n".as_slice());
-    Ok(())
+    let printed = escape(rt.alloc(), b"ssid[0]=\\xff\n").expect(&rt, "memory");
+    expect(&rt, printed.as_slice(), b"ssid[0]=\\\\xff\\n".as_slice());
 }

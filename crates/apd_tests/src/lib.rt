@@ -15,6 +15,8 @@ mod control_tests;
 #[cfg(test)]
 mod cursor_tests;
 #[cfg(test)]
+mod expect;
+#[cfg(test)]
 mod frame_tests;
 #[cfg(test)]
 mod indexed_tests;

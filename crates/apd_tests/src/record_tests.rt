@@ -1,8 +1,9 @@
 //! The table of records in bytes, and what is no list of records.
+use crate::expect::expect;
 use apd_base::{AclMode, Addr, Aid, Association, Bssid, Policy, Station, StationNumber, Which};
 use apd_record::{Change, read_all, write};
-use std::alloc::{AllocError, Global};
-use std::test::Fail;
+use std::alloc::Global;
+use std::process::Abort;
 
 const BSSID: Bssid = Bssid(Addr([2, 0, 0, 0, 0, 1]));
 
@@ -95,59 +96,68 @@ fn drop_row() -> Change {
     }
 }
 
-// Whether the change has this record, of this length, and is read from it.
-fn is_record(alloc: Global, change: Change, record: &[u8]) -> Result<bool, AllocError> {
-    let bytes = write(alloc, &[change])?;
-    let Some(changes) = read_all(alloc, record)? else {
-        return Ok(false);
-    };
-    let is_read = changes.as_slice() == [change].as_slice();
-    Ok(bytes.as_slice() == record && change.record_length() == record.len() && is_read)
+// A change has this record, of this length, and is read from it.
+fn is_record(rt: &impl Abort, alloc: Global, change: Change, record: &[u8]) {
+    let bytes = write(alloc, &[change]).expect(rt, "memory");
+    expect(rt, bytes.as_slice(), record);
+    expect(rt, change.record_length(), record.len());
+    let read = read_all(alloc, record).expect(rt, "memory");
+    let changes = read.expect(rt, "records");
+    expect(rt, changes.as_slice(), [change].as_slice());
 }
 
-fn is_none(alloc: Global, bytes: &[u8]) -> Result<bool, AllocError> {
-    Ok(read_all(alloc, bytes)?.is_none())
-}
-
-#[test]
-fn the_table_of_records(rt: HostRuntime) -> Result<(), Fail> {
-    let alloc = rt.alloc();
-    assert!(rt; is_record(alloc, put(Station::Authenticated), &AUTHENTICATED)?);
-    let change = associated_row(2007).ok_or("2007 is an identifier")?;
-    assert!(rt; is_record(alloc, change, &ASSOCIATED)?);
-    assert!(rt; is_record(alloc, drop_row(), &DROP)?);
-    assert!(rt; is_record(alloc, list_add(), &LIST_ADD)?);
-    assert!(rt; is_record(alloc, list_del(), &LIST_DEL)?);
-    assert!(rt; is_record(alloc, list_clear(), &LIST_CLEAR)?);
-    let change = policy(2007).ok_or("2007 is a limit")?;
-    assert!(rt; is_record(alloc, change, &POLICY)?);
-    let change = cursor(2007).ok_or("2007 is a number")?;
-    assert!(rt; is_record(alloc, change, &CURSOR)?);
-    assert!(rt; is_none(alloc, &CURSOR[..8])?);
-    Ok(())
+// Whether bytes are a list of records.
+fn is_list(rt: &impl Abort, alloc: Global, bytes: &[u8]) -> bool {
+    let read = read_all(alloc, bytes).expect(rt, "memory");
+    read.is_some()
 }
 
 #[test]
-fn nothing_is_no_change(rt: HostRuntime) -> Result<(), Fail> {
-    let alloc = rt.alloc();
-    let changes = read_all(alloc, &[])?.ok_or("no list of records")?;
-    assert_eq!(rt; changes.len(), 0);
-    assert_eq!(rt; write(alloc, &[])?.len(), 0);
-    Ok(())
-}
-
-#[test]
-fn each_unknown_tag(rt: HostRuntime) -> Result<(), Fail> {
-    let mut bytes = AUTHENTICATED;
-    for tag in [0].into_iter().chain(8..=255) {
-        bytes[0] = tag;
-        assert!(rt; is_none(rt.alloc(), &bytes)?, "{tag}");
+fn the_table_of_records(rt: HostRuntime) {
+    for (change, record) in [
+        (Some(put(Station::Authenticated)), AUTHENTICATED.as_slice()),
+        (associated_row(2007), &ASSOCIATED),
+        (Some(drop_row()), &DROP),
+        (Some(list_add()), &LIST_ADD),
+        (Some(list_del()), &LIST_DEL),
+        (Some(list_clear()), &LIST_CLEAR),
+        (policy(2007), &POLICY),
+        (cursor(2007), &CURSOR),
+    ] {
+        let change = change.expect(&rt, "an identifier, a limit and a number");
+        is_record(&rt, rt.alloc(), change, record);
     }
-    Ok(())
+    expect(&rt, is_list(&rt, rt.alloc(), &CURSOR[..8]), false);
 }
 
 #[test]
-fn values_out_of_range(rt: HostRuntime) -> Result<(), Fail> {
+fn nothing_is_no_change(rt: HostRuntime) {
+    let read = read_all(rt.alloc(), &[]).expect(&rt, "memory");
+    let changes = read.expect(&rt, "a list of records");
+    expect(&rt, changes.len(), 0);
+    let bytes = write(rt.alloc(), &[]).expect(&rt, "memory");
+    expect(&rt, bytes.len(), 0);
+}
+
+// The bytes are no list of records with this value at this place.
+fn is_no_value(rt: &impl Abort, alloc: Global, record: &[u8], place: usize, value: u8) {
+    let mut bytes = Vec::from_slice(alloc, record).expect(rt, "memory");
+    if let Some(byte) = bytes.get_mut(place) {
+        *byte = value;
+    }
+    let found = is_list(rt, alloc, &bytes);
+    expect(rt, (value, place, found), (value, place, false));
+}
+
+#[test]
+fn each_unknown_tag(rt: HostRuntime) {
+    for tag in [0].into_iter().chain(8..=255) {
+        is_no_value(&rt, rt.alloc(), &AUTHENTICATED, 0, tag);
+    }
+}
+
+#[test]
+fn values_out_of_range(rt: HostRuntime) {
     for (record, place, value) in [
         (AUTHENTICATED.as_slice(), 13, 0),
         (AUTHENTICATED.as_slice(), 13, 3),
@@ -169,49 +179,50 @@ fn values_out_of_range(rt: HostRuntime) -> Result<(), Fail> {
         (CURSOR.as_slice(), 7, 0xd8),
         (CURSOR.as_slice(), 8, 8),
     ] {
-        let mut bytes = Vec::from_slice(rt.alloc(), record)?;
-        if let Some(byte) = bytes.get_mut(place) {
-            *byte = value;
-        }
-        assert!(rt; is_none(rt.alloc(), &bytes)?, "{value} at {place}");
+        is_no_value(&rt, rt.alloc(), record, place, value);
     }
-    Ok(())
 }
 
 #[test]
-fn identifier_zero(rt: HostRuntime) -> Result<(), Fail> {
+fn identifier_zero(rt: HostRuntime) {
     let mut bytes = ASSOCIATED;
     bytes[14] = 0;
     bytes[15] = 0;
-    assert!(rt; is_none(rt.alloc(), &bytes)?);
-    Ok(())
+    expect(&rt, is_list(&rt, rt.alloc(), &bytes), false);
 }
 
-#[test]
-fn each_cut(rt: HostRuntime) -> Result<(), Fail> {
-    let alloc = rt.alloc();
-    let limit = policy(0).ok_or("0 is a limit")?;
-    let none_given = cursor(0).ok_or("0 is a number")?;
+// One record of each kind.
+fn each_kind(rt: &impl Abort) -> [Change; 7] {
+    let limit = policy(0).expect(rt, "0 is a limit");
+    let none_given = cursor(0).expect(rt, "0 is a number");
     let row = put(Station::Authenticated);
     let (added, taken, cleared) = (list_add(), list_del(), list_clear());
-    let changes = [row, drop_row(), added, taken, cleared, limit, none_given];
-    let bytes = write(alloc, &changes)?;
-    // Where a record ends, the front is a list of records.
+    [row, drop_row(), added, taken, cleared, limit, none_given]
+}
+
+// Where a record ends, the front is a list of records.
+fn check_cut(rt: &impl Abort, alloc: Global, bytes: &[u8], end: usize) {
     let ends = [0, 20, 33, 47, 61, 69, 79, 88];
-    assert_eq!(rt; bytes.len(), 88);
-    for end in 0..89 {
-        let is_list = !is_none(alloc, &bytes[..end])?;
-        assert_eq!(rt; is_list, ends.contains(&end), "{end}");
-    }
-    Ok(())
+    let front = bytes.get(..end).expect(rt, "a front");
+    let is_list = is_list(rt, alloc, front);
+    expect(rt, (end, is_list), (end, ends.contains(&end)));
 }
 
 #[test]
-fn one_bad_record_behind_a_good_one(rt: HostRuntime) -> Result<(), Fail> {
-    let mut bytes = Vec::from_slice(rt.alloc(), &DROP)?;
-    bytes.extend_from_slice(&LIST_CLEAR)?;
-    assert!(rt; !is_none(rt.alloc(), &bytes)?);
-    bytes.push(0)?;
-    assert!(rt; is_none(rt.alloc(), &bytes)?);
-    Ok(())
+fn each_cut(rt: HostRuntime) {
+    let changes = each_kind(&rt);
+    let bytes = write(rt.alloc(), &changes).expect(&rt, "memory");
+    expect(&rt, bytes.len(), 88);
+    for end in 0..89 {
+        check_cut(&rt, rt.alloc(), &bytes, end);
+    }
+}
+
+#[test]
+fn one_bad_record_behind_a_good_one(rt: HostRuntime) {
+    let mut bytes = Vec::from_slice(rt.alloc(), &DROP).expect(&rt, "memory");
+    bytes.extend_from_slice(&LIST_CLEAR).expect(&rt, "memory");
+    expect(&rt, is_list(&rt, rt.alloc(), &bytes), true);
+    bytes.push(0).expect(&rt, "memory");
+    expect(&rt, is_list(&rt, rt.alloc(), &bytes), false);
 }

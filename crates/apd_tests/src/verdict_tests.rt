@@ -1,42 +1,24 @@
 //! The largest events, each once: a contract can't say that memory and time are left for them.
-use crate::calls::{addresses_of, built_in_conf};
-use apd_base::{AclMode, Addr, Aid, Association, Bssid, Policy, Station, StationNumber, Which};
+use crate::calls::{
+    address, addresses_of, associated, built_in_conf, confs_of, lines_of_addresses, policy_of,
+    table_of, takes,
+};
+use crate::expect::expect;
+use apd_base::{AclMode, Addr, Bssid, Station, Which};
 use apd_conf::Confs;
 use apd_mlme::{Decision, Event, Out, decide};
 use apd_record::{Change, write};
 use apd_table::Table;
-use std::alloc::{AllocError, Global};
+use std::alloc::Global;
 use std::process::Abort;
-use std::test::Fail;
 
 const RADIO: Bssid = Bssid(Addr([2, 0, 0, 0, 0, 1]));
 
-// An address of its own for each number, in a range of its own.
-fn address(range: u8, number: u16) -> Addr {
-    let [high, low] = number.to_be_bytes();
-    Addr([2, 0, 0, range, high, low])
-}
-
 // The built-in configuration, in another mode.
-fn confs(alloc: Global, mode: AclMode) -> Result<Confs, Fail> {
-    let mut conf = built_in_conf(alloc)?;
+fn confs(rt: &impl Abort, alloc: Global, mode: AclMode) -> Confs {
+    let mut conf = built_in_conf(rt, alloc);
     conf.macaddr_acl = mode;
-    let mut list = Vec::new(alloc);
-    list.push(conf)?;
-    match Confs::new(list) {
-        Ok(confs) => Ok(confs),
-        Err(_) => Err(Fail::new("a configuration is refused")),
-    }
-}
-
-// A list file with 1024 addresses.
-fn full_list_file(alloc: Global, range: u8) -> Result<Vec<u8>, AllocError> {
-    let mut file = Vec::new(alloc);
-    for number in 0..1024 {
-        address(range, number).write_text(&mut file)?;
-        file.push(b'\n')?;
-    }
-    Ok(file)
+    confs_of(rt, alloc, conf)
 }
 
 // What the start of the radio with these list files brings about.
@@ -46,9 +28,9 @@ fn start(
     table: &Table,
     confs: &Confs,
     [accept_file, deny_file]: [&[u8]; 2],
-) -> Result<Decision, Fail> {
-    let accept = addresses_of(alloc, accept_file)?;
-    let deny = addresses_of(alloc, deny_file)?;
+) -> Decision {
+    let accept = addresses_of(rt, alloc, accept_file);
+    let deny = addresses_of(rt, alloc, deny_file);
     assert!(rt; confs.with_bssid(RADIO).is_some());
     assert!(rt; table.bss_count() < 8);
     let event = Event::Configure {
@@ -56,17 +38,7 @@ fn start(
         accept: accept.as_slice(),
         deny: deny.as_slice(),
     };
-    Ok(decide(alloc, table, confs, event)?)
-}
-
-// Makes changes that are taken.
-fn make(table: &mut Table, changes: &[Change]) -> Result<(), Fail> {
-    for change in changes {
-        if table.apply(change).is_err() {
-            return Err(Fail::new("a change is refused"));
-        }
-    }
-    Ok(())
+    decide(alloc, table, confs, event).expect(rt, "memory")
 }
 
 // How many addresses both lists of the radio have.
@@ -75,64 +47,58 @@ fn list_lengths(table: &Table) -> Option<[usize; 2]> {
     Some([lists.len(Which::Accept), lists.len(Which::Deny)])
 }
 
-// One policy of 10 bytes and 2,048 addresses of 14.
-#[test]
-fn a_first_start_with_two_full_lists(rt: HostRuntime) -> Result<(), Fail> {
-    let alloc = rt.alloc();
-    let mut table = Table::new(alloc);
-    let confs = confs(alloc, AclMode::AcceptUnlessDenied)?;
-    let accept = full_list_file(alloc, 1)?;
-    let deny = full_list_file(alloc, 2)?;
-    let decision = start(
-        &rt,
+// What a first start with two full lists brings about.
+fn full_start(rt: &impl Abort, alloc: Global, table: &Table) -> Decision {
+    let confs = confs(rt, alloc, AclMode::AcceptUnlessDenied);
+    let accept = lines_of_addresses(rt, alloc, 1, 1024);
+    let deny = lines_of_addresses(rt, alloc, 2, 1024);
+    start(
+        rt,
         alloc,
-        &table,
+        table,
         &confs,
         [accept.as_slice(), deny.as_slice()],
-    )?;
-    let changes = decision.changes.as_slice();
-    assert_eq!(rt; (changes.len(), decision.outs.len()), (2_049, 0));
-    assert_eq!(rt; write(alloc, changes)?.len(), 28_682);
-    make(&mut table, changes)?;
-    assert_eq!(rt; list_lengths(&table), Some([1024, 1024]));
-    Ok(())
+    )
 }
 
-// The policy of the radio in a mode, for 2,007 stations.
-fn policy(mode: AclMode) -> Result<Change, Fail> {
-    let max = StationNumber::new(2007).ok_or("limit")?;
-    let policy = Policy { mode, max };
-    Ok(Change::Policy {
-        bssid: RADIO,
-        policy,
-    })
+// How many bytes the records of changes have.
+fn record_bytes(rt: &impl Abort, alloc: Global, changes: &[Change]) -> usize {
+    write(alloc, changes).expect(rt, "memory").len()
+}
+
+// One policy of 10 bytes and 2,048 addresses of 14.
+fn has_full_lists(rt: &impl Abort, alloc: Global, decision: &Decision) {
+    let changes = decision.changes.as_slice();
+    expect(rt, (changes.len(), decision.outs.len()), (2_049, 0));
+    expect(rt, record_bytes(rt, alloc, changes), 28_682);
+}
+
+#[test]
+fn a_first_start_with_two_full_lists(rt: HostRuntime) {
+    let mut table = Table::new(rt.alloc());
+    let decision = full_start(&rt, rt.alloc(), &table);
+    has_full_lists(&rt, rt.alloc(), &decision);
+    takes(&rt, &mut table, decision.changes.as_slice());
+    expect(&rt, list_lengths(&table), Some([1024, 1024]));
 }
 
 // A table in which the radio is full: of its 2,007 stations the last one is associated.
-fn full_table(alloc: Global) -> Result<Table, Fail> {
-    let mut table = Table::new(alloc);
-    make(&mut table, &[policy(AclMode::AcceptUnlessDenied)?])?;
-    let member = Station::Associated(Association {
-        aid: Aid::new(1).ok_or("identifier")?,
-        capability: 1,
-        listen_interval: 10,
-    });
+fn full_table(rt: &impl Abort, alloc: Global) -> Table {
+    let mut table = table_of(rt, alloc, &[policy_of(RADIO, AclMode::AcceptUnlessDenied)]);
     for number in 0..2007 {
         let station = if number < 2006 {
             Station::Authenticated
         } else {
-            member
+            associated(rt, 1, 1, 10)
         };
-        make(
-            &mut table,
-            &[Change::Put {
-                bssid: RADIO,
-                addr: address(1, number),
-                station,
-            }],
-        )?;
+        let put = Change::Put {
+            bssid: RADIO,
+            addr: address(1, number),
+            station,
+        };
+        takes(rt, &mut table, &[put]);
     }
-    Ok(table)
+    table
 }
 
 // A deauthentication by the radio, with reason 1.
@@ -162,18 +128,26 @@ fn count_deauthentications(decision: &Decision) -> u16 {
     next
 }
 
-#[test]
-fn a_start_that_drops_2007_stations(rt: HostRuntime) -> Result<(), Fail> {
-    let alloc = rt.alloc();
-    let mut table = full_table(alloc)?;
-    assert_eq!(rt; table.count(RADIO), 2007);
-    let confs = confs(alloc, AclMode::DenyUnlessAccepted)?;
-    let decision = start(&rt, alloc, &table, &confs, [b"", b""])?;
+// What the start of the radio with two empty lists brings about, where it denies whom it doesn't accept.
+fn closed_start(rt: &impl Abort, alloc: Global, table: &Table) -> Decision {
+    let confs = confs(rt, alloc, AclMode::DenyUnlessAccepted);
+    start(rt, alloc, table, &confs, [b"", b""])
+}
+
+// A change and an out for each station, and one of each for the radio.
+fn drops_all(rt: &impl Abort, table: &mut Table, decision: &Decision) {
     let changes = decision.changes.as_slice();
-    assert_eq!(rt; (changes.len(), decision.outs.len()), (2_008, 2_008));
-    assert_eq!(rt; count_deauthentications(&decision), 2007);
-    make(&mut table, changes)?;
-    assert_eq!(rt; table.count(RADIO), 0);
-    assert_eq!(rt; table.policy(RADIO), Some((1, 2007)));
-    Ok(())
+    expect(rt, (changes.len(), decision.outs.len()), (2_008, 2_008));
+    expect(rt, count_deauthentications(decision), 2007);
+    takes(rt, table, changes);
+}
+
+#[test]
+fn a_start_that_drops_2007_stations(rt: HostRuntime) {
+    let mut table = full_table(&rt, rt.alloc());
+    expect(&rt, table.count(RADIO), 2007);
+    let decision = closed_start(&rt, rt.alloc(), &table);
+    drops_all(&rt, &mut table, &decision);
+    expect(&rt, table.count(RADIO), 0);
+    expect(&rt, table.policy(RADIO), Some((1, 2007)));
 }

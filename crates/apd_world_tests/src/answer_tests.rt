@@ -3,53 +3,24 @@ use crate::calls::{
     Answers, confs_of, flush_answers, hand_out_answers, makes, restart_world, slots_of,
     start_answers,
 };
-use crate::steps::{ASSOCIATES, ASSOCIATION, AUTHENTICATES, STATION, WLAN0};
+use crate::expect::expect;
+use crate::said::{Answer, Said, all_said};
+use crate::seen::{Seen, look};
+use crate::steps::{ASSOCIATES, ASSOCIATION, AUTHENTICATES, WLAN0};
 use crate::worlds::{conf, failing_radio, start_with, start_world, stop_after};
 use apd_base::AclMode;
 use apd_conf::Confs;
 use apd_disk::MemDisk;
 use apd_mlme::Recipient;
-use apd_radio::{Failing, Radio, Sim};
-use apd_slot::{Slot, SlotFault};
-use apd_world::{Step, Told, World, WorldFault};
+use apd_radio::{Failing, Sim};
+use apd_slot::SlotFault;
+use apd_world::{Step, World, WorldFault};
 use std::alloc::Global;
-use std::test::Fail;
 
 /// A world with a radio whose device fails.
 type Failed = World<MemDisk, Failing<Sim>>;
 
-/// What is told of a step, in short: of an out that was applied only whether it was.
-#[derive(Clone, Copy, Debug, PartialEq, Eq)]
-enum Said {
-    Queued(usize),
-    Handed(usize),
-    Done,
-    Refused(SlotFault),
-    Other,
-}
-
-/// An answer, with its recipient.
-type Answer = (Recipient, Said);
-
-fn in_short(told: &Told) -> Said {
-    match told {
-        Told::Queued(count) => Said::Queued(*count),
-        Told::Handed(outs) => Said::Handed(outs.len()),
-        Told::Applied(_, Ok(())) => Said::Done,
-        Told::Applied(_, Err(fault)) => Said::Refused(*fault),
-        _ => Said::Other,
-    }
-}
-
-fn all_said(alloc: Global, answers: &[(Recipient, Told)]) -> Option<Vec<Answer>> {
-    let mut all = Vec::new(alloc);
-    for (to, told) in answers {
-        all.push((*to, in_short(told))).ok()?;
-    }
-    Some(all)
-}
-
-/// The same of a call that is not refused.
+/// What is told by a call that is not refused.
 fn answers_if_ok(alloc: Global, answers: Result<Answers, WorldFault>) -> Option<Vec<Answer>> {
     match answers {
         Ok(answers) => all_said(alloc, &answers),
@@ -64,19 +35,36 @@ const DOWN: Said = Said::Refused(SlotFault::WentDown);
 
 const LOST: Said = Said::Refused(SlotFault::Lost);
 
-/// The answers to a hand-out to the radio, and none to control, where this is told of each out that is applied.
-fn answers_of(alloc: Global, applied: &[Said]) -> Option<Vec<Answer>> {
-    let mut answers = Vec::new(alloc);
-    answers.push((RADIO, Said::Queued(applied.len()))).ok()?;
-    answers.push((Recipient::Control, Said::Handed(0))).ok()?;
-    for said in applied {
-        answers.push((RADIO, *said)).ok()?;
-    }
-    Some(answers)
+/// The answer that so many outs wait for the radio, and the one that none does for control.
+fn queued(count: usize) -> [Answer; 2] {
+    [
+        (RADIO, Said::Queued(count)),
+        (Recipient::Control, Said::Handed(0)),
+    ]
 }
 
-fn answers_of_three(alloc: Global, applied: [Said; 3]) -> Option<Vec<Answer>> {
-    answers_of(alloc, &applied)
+/// The answers to a hand-out to the radio, and none to control, where this is told of each out that is applied.
+fn answers_of_three(applied: [Said; 3]) -> [Answer; 5] {
+    let [queued, none] = queued(3);
+    let [first, second, third] = applied;
+    [
+        queued,
+        none,
+        (RADIO, first),
+        (RADIO, second),
+        (RADIO, third),
+    ]
+}
+
+fn answers_of_two(applied: [Said; 2]) -> [Answer; 4] {
+    let [queued, none] = queued(2);
+    let [first, second] = applied;
+    [queued, none, (RADIO, first), (RADIO, second)]
+}
+
+fn answers_of_one(said: Said) -> [Answer; 3] {
+    let [queued, none] = queued(1);
+    [queued, none, (RADIO, said)]
 }
 
 /// What a flush answers behind these steps.
@@ -117,60 +105,56 @@ type Row = (u64, [Said; 3]);
 fn rows() -> [Row; 4] {
     [
         (0, [LOST, DOWN, LOST]),
-        (1, [Said::Done, DOWN, LOST]),
-        (2, [Said::Done, Said::Done, LOST]),
-        (3, [Said::Done, Said::Done, Said::Done]),
+        (1, [Said::Sent, DOWN, LOST]),
+        (2, [Said::Sent, Said::Installed(1), LOST]),
+        (3, [Said::Sent, Said::Installed(1), Said::Sent]),
     ]
 }
 
 #[test]
-fn a_flush_tells_what_a_radio_was_not_given(rt: HostRuntime) -> Result<(), Fail> {
+fn a_flush_tells_what_a_radio_was_not_given(rt: HostRuntime) {
     for (calls, applied) in rows() {
-        let found = flush(rt.alloc(), calls).ok_or("it was refused")?;
-        let answers = answers_of_three(rt.alloc(), applied).ok_or("memory")?;
-        assert_eq!(rt; found.as_slice(), answers.as_slice(), "{calls}");
+        let found = flush(rt.alloc(), calls);
+        let answers = answers_of_three(applied);
+        expect(&rt, (calls, found.as_deref()), (calls, Some(&answers)));
     }
-    Ok(())
 }
 
 #[test]
-fn a_hand_out_tells_what_a_radio_was_not_given(rt: HostRuntime) -> Result<(), Fail> {
+fn a_hand_out_tells_what_a_radio_was_not_given(rt: HostRuntime) {
     for (calls, applied) in rows() {
-        let found = hand_out(rt.alloc(), calls).ok_or("it was refused")?;
-        let answers = answers_of_three(rt.alloc(), applied).ok_or("memory")?;
-        assert_eq!(rt; found.as_slice(), answers.as_slice(), "{calls}");
+        let found = hand_out(rt.alloc(), calls);
+        let answers = answers_of_three(applied);
+        expect(&rt, (calls, found.as_deref()), (calls, Some(&answers)));
     }
-    Ok(())
 }
 
-/// Whether a flush behind a step tells this of the outs.
-fn tells(alloc: Global, world: &mut Failed, step: Step<'static>, applied: &[Said]) -> Option<bool> {
-    let found = flush_after(alloc, world, &[step])?;
-    Some(found.as_slice() == answers_of(alloc, applied)?.as_slice())
+/// Whether a flush behind a step tells this.
+fn tells(alloc: Global, world: &mut Failed, step: Step<'static>, answers: &[Answer]) -> bool {
+    flush_after(alloc, world, &[step]).as_deref() == Some(answers)
 }
 
 /// Whether each tells what it should, where the station authenticates, associates and does so once more, at a radio
 /// that passes one call.
-fn all_tell(alloc: Global, world: &mut Failed) -> Option<[bool; 4]> {
-    Some([
-        tells(alloc, world, AUTHENTICATES, &[Said::Done])?,
-        tells(alloc, world, ASSOCIATES, &[DOWN, LOST])?,
-        tells(alloc, world, ASSOCIATES, &[LOST])?,
-        tells(alloc, world, Step::Take, &[])?,
-    ])
+fn all_tell(alloc: Global, world: &mut Failed) -> [bool; 4] {
+    [
+        tells(alloc, world, AUTHENTICATES, &answers_of_one(Said::Sent)),
+        tells(alloc, world, ASSOCIATES, &answers_of_two([DOWN, LOST])),
+        tells(alloc, world, ASSOCIATES, &answers_of_one(LOST)),
+        tells(alloc, world, Step::Take, &queued(0)),
+    ]
 }
 
 fn flushes(alloc: Global) -> Option<[bool; 4]> {
     let mut world = start_with(alloc, &[1], failing_radio(alloc, 1)?)?;
     let told = all_tell(alloc, &mut world);
     drop(world);
-    told
+    Some(told)
 }
 
 #[test]
-fn a_slot_that_is_down_is_told_by_each_flush(rt: HostRuntime) -> Result<(), Fail> {
-    assert_eq!(rt; flushes(rt.alloc()), Some([true, true, true, true]));
-    Ok(())
+fn a_slot_that_is_down_is_told_by_each_flush(rt: HostRuntime) {
+    expect(&rt, flushes(rt.alloc()), Some([true, true, true, true]));
 }
 
 /// The device of a world in which the station is associated.
@@ -198,14 +182,6 @@ fn begin(alloc: Global) -> Option<Failed> {
     .ok()
 }
 
-/// Whether a slot is up, and the identifier under which the station is wanted, and installed.
-type Seen = (bool, Option<u16>, Option<u16>);
-
-fn look<R: Radio>(slots: &[Slot<R>]) -> Option<Seen> {
-    let slot = slots.first()?;
-    Some((slot.is_up(), slot.wanted(STATION), slot.installed(STATION)))
-}
-
 /// What a world's start answers.
 fn start(alloc: Global, world: &mut Failed) -> Option<Vec<Answer>> {
     answers_if_ok(alloc, start_answers(world))
@@ -218,20 +194,16 @@ fn contents(world: Failed) -> (usize, Option<Seen>) {
 }
 
 /// What the start of that world answers, and what is found then.
-fn start_anew(alloc: Global) -> Option<(Vec<Answer>, (usize, Option<Seen>))> {
+fn start_anew(alloc: Global) -> Option<(Option<Vec<Answer>>, (usize, Option<Seen>))> {
     let mut world = begin(alloc)?;
     let answers = start(alloc, &mut world);
-    let found = contents(world);
-    Some((answers?, found))
+    Some((answers, contents(world)))
 }
 
 // The station is dropped: its removal fails, and the frame that tells it so is lost.
 #[test]
-fn a_start_tells_what_a_radio_was_not_given(rt: HostRuntime) -> Result<(), Fail> {
-    let alloc = rt.alloc();
-    let (answers, found) = start_anew(alloc).ok_or("it was refused")?;
-    let all = answers_of(alloc, &[DOWN, LOST]).ok_or("memory")?;
-    assert_eq!(rt; answers.as_slice(), all.as_slice());
-    assert_eq!(rt; found, (0, Some((false, None, Some(1)))));
-    Ok(())
+fn a_start_tells_what_a_radio_was_not_given(rt: HostRuntime) {
+    let (answers, found) = start_anew(rt.alloc()).unwrap_or((None, (0, None)));
+    expect(&rt, answers.as_deref(), Some(&answers_of_two([DOWN, LOST])));
+    expect(&rt, found, (0, Some((false, None, Some(1)))));
 }

@@ -1,5 +1,7 @@
 //! What the drivers are told of a run, and of the next one.
 use crate::calls::{Memory, slots_of};
+use crate::expect::expect;
+use crate::seen::{Seen, look_at_two};
 use crate::steps::{
     ASSOCIATES, AT_WLAN0, AUTHENTICATES, COMMITS, ROAMS, STATION, TO_WLAN0, WLAN0, WLAN1,
 };
@@ -10,7 +12,7 @@ use apd_radio::{Recording, Sim};
 use apd_slot::Slot;
 use apd_world::Step;
 use std::alloc::Global;
-use std::test::Fail;
+use std::process::Abort;
 
 type Recorded<'a> = Slot<Recording<Sim, &'a mut Vec<u8>>>;
 
@@ -43,11 +45,14 @@ fn device_after(
     stop_after(start_with(alloc, &[1, 2], slots)?, steps)
 }
 
-/// What both radios are told of these steps, until their world ends.
-fn recordings_of(alloc: Global, steps: &[Step<'static>]) -> Option<[Vec<u8>; 2]> {
+/// Expects that both radios are told this of these steps, until their world ends.
+fn expect_lines(rt: &impl Abort, alloc: Global, steps: &[Step<'static>], lines: [&[u8]; 2]) {
     let (mut first, mut second) = (Vec::new(alloc), Vec::new(alloc));
-    let _device = device_after(alloc, steps, &mut first, &mut second)?;
-    Some([first, second])
+    let has_ended = device_after(alloc, steps, &mut first, &mut second).is_some();
+    expect(rt, has_ended, true);
+    let [one, two] = lines;
+    expect(rt, first.as_slice(), one);
+    expect(rt, second.as_slice(), two);
 }
 
 fn nothing() -> &'static [u8] {
@@ -55,11 +60,8 @@ fn nothing() -> &'static [u8] {
 }
 
 #[test]
-fn nothing_is_sent_of_what_was_not_handed_out(rt: HostRuntime) -> Result<(), Fail> {
-    let [first, second] = recordings_of(rt.alloc(), &COMMITS).ok_or("memory")?;
-    assert_eq!(rt; first.as_slice(), nothing());
-    assert_eq!(rt; second.as_slice(), nothing());
-    Ok(())
+fn nothing_is_sent_of_what_was_not_handed_out(rt: HostRuntime) {
+    expect_lines(&rt, rt.alloc(), &COMMITS, [nothing(), nothing()]);
 }
 
 /// A station authenticates, and then associates.
@@ -95,11 +97,8 @@ down
 }
 
 #[test]
-fn a_run_is_recorded(rt: HostRuntime) -> Result<(), Fail> {
-    let [first, second] = recordings_of(rt.alloc(), &JOINS).ok_or("memory")?;
-    assert_eq!(rt; first.as_slice(), first_lines());
-    assert_eq!(rt; second.as_slice(), nothing());
-    Ok(())
+fn a_run_is_recorded(rt: HostRuntime) {
+    expect_lines(&rt, rt.alloc(), &JOINS, [first_lines(), nothing()]);
 }
 
 fn lines_of_leaving() -> &'static [u8] {
@@ -123,11 +122,13 @@ down
 }
 
 #[test]
-fn a_station_goes_to_another_radio(rt: HostRuntime) -> Result<(), Fail> {
-    let [first, second] = recordings_of(rt.alloc(), &ROAMS).ok_or("memory")?;
-    assert_eq!(rt; first.as_slice(), lines_of_leaving());
-    assert_eq!(rt; second.as_slice(), lines_of_joining());
-    Ok(())
+fn a_station_goes_to_another_radio(rt: HostRuntime) {
+    expect_lines(
+        &rt,
+        rt.alloc(),
+        &ROAMS,
+        [lines_of_leaving(), lines_of_joining()],
+    );
 }
 
 /// The device after the station went to the other radio.
@@ -136,35 +137,20 @@ fn roam(alloc: Global) -> Option<MemDisk> {
     device_after(alloc, &ROAMS, &mut first, &mut second)
 }
 
-/// Whether a slot is up, and the identifier that its radio has for the station.
-type Seen = (bool, Option<u16>);
-
-fn look_at(slot: &Slot<Sim>) -> Seen {
-    (slot.is_up(), slot.installed(STATION))
-}
-
-/// What is seen of both slots.
-fn look(slots: &[Slot<Sim>]) -> Option<[Seen; 2]> {
-    let (first, second) = (slots.first()?, slots.get(1)?);
-    Some([look_at(first), look_at(second)])
-}
-
 /// How many rows a world has, and what is seen of its slots.
 fn contents(world: Memory) -> (usize, Option<[Seen; 2]>) {
     let rows = world.table().rows();
     let slots = slots_of(world);
-    (rows, look(&slots))
+    (rows, look_at_two(&slots, [STATION, STATION]))
 }
 
-/// The world begun anew of that device.
-fn resume(alloc: Global) -> Option<Memory> {
-    recover_world(alloc, roam(alloc)?, &[1, 2])
+/// What is found in the world begun anew of that device.
+fn resume(alloc: Global) -> Option<(usize, Option<[Seen; 2]>)> {
+    Some(contents(recover_world(alloc, roam(alloc)?, &[1, 2])?))
 }
 
 #[test]
-fn the_drivers_have_the_stations_of_the_table_again(rt: HostRuntime) -> Result<(), Fail> {
-    let world = resume(rt.alloc()).ok_or("memory")?;
-    let slots = Some([(true, None), (true, Some(1))]);
-    assert_eq!(rt; contents(world), (2, slots));
-    Ok(())
+fn the_drivers_have_the_stations_of_the_table_again(rt: HostRuntime) {
+    let slots = [(true, None, None), (true, Some(1), Some(1))];
+    expect(&rt, resume(rt.alloc()), Some((2, Some(slots))));
 }

@@ -1,12 +1,12 @@
 //! Radios whose device fails in a run.
 use crate::calls::{slots_of, tell};
-use crate::steps::{ASSOCIATES, AT_WLAN0, AUTHENTICATES, STATION, TO_WLAN0};
+use crate::expect::expect;
+use crate::seen::{Seen, look};
+use crate::steps::{ASSOCIATES, AT_WLAN0, AUTHENTICATES, TO_WLAN0};
 use crate::worlds::{failing_radio, start_with};
-use apd_radio::Radio;
-use apd_slot::{Slot, SlotFault};
+use apd_slot::SlotFault;
 use apd_world::{Step, Told};
 use std::alloc::Global;
-use std::test::Fail;
 
 /// A station associates, which is committed and handed out.
 const ASSOCIATED: [Step<'static>; 12] = [
@@ -41,24 +41,16 @@ fn answers(tolds: &[Told]) -> [Option<SlotFault>; 3] {
     ]
 }
 
-/// Whether a slot is up, and the identifier under which the station is wanted, and installed.
-type Seen = (bool, Option<u16>, Option<u16>);
-
-fn look<R: Radio>(slots: &[Slot<R>]) -> Option<Seen> {
-    let slot = slots.first()?;
-    Some((slot.is_up(), slot.wanted(STATION), slot.installed(STATION)))
-}
-
 /// What a radio's slot answers, and is seen of it then.
 fn run(alloc: Global, calls: u64) -> Option<([Option<SlotFault>; 3], Option<Seen>)> {
     let mut world = start_with(alloc, &[1], failing_radio(alloc, calls)?)?;
     let tolds = tell(&mut world, &ASSOCIATED);
     let slots = slots_of(world);
-    Some((answers(tolds?.as_slice()), look(&slots)))
+    Some((answers(tolds.as_deref()?), look(&slots)))
 }
 
 #[test]
-fn a_device_that_fails_in_a_run(rt: HostRuntime) -> Result<(), Fail> {
+fn a_device_that_fails_in_a_run(rt: HostRuntime) {
     let (lost, down) = (Some(SlotFault::Lost), Some(SlotFault::WentDown));
     for (calls, answers, seen) in [
         (0, [lost, down, lost], (false, Some(1), None)),
@@ -66,11 +58,7 @@ fn a_device_that_fails_in_a_run(rt: HostRuntime) -> Result<(), Fail> {
         (2, [None, None, lost], (true, Some(1), Some(1))),
         (3, [None, None, None], (true, Some(1), Some(1))),
     ] {
-        assert_eq!(rt;
-            run(rt.alloc(), calls),
-            Some((answers, Some(seen))),
-            "{calls}"
-        );
+        let found = run(rt.alloc(), calls);
+        expect(&rt, (calls, found), (calls, Some((answers, Some(seen)))));
     }
-    Ok(())
 }

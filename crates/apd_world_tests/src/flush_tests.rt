@@ -1,5 +1,6 @@
 //! Flushes over a device that fails: they end by the store's fault, and never by want of memory.
 use crate::calls::{blank_disk, flush_answers, hand_out_answers, makes, refusal};
+use crate::expect::expect;
 use crate::steps::AUTHENTICATES;
 use crate::worlds::{failing_radio, new_world, sims};
 use apd_disk::{Disk, FuseDisk, OnceDisk};
@@ -8,7 +9,6 @@ use apd_slot::Slot;
 use apd_store::StoreFault;
 use apd_world::{World, WorldFault};
 use std::alloc::Global;
-use std::test::Fail;
 
 /// Why a flush is refused; none where it is not.
 fn flush_refusal<D: Disk, R: Radio>(world: &mut World<D, R>) -> Option<WorldFault> {
@@ -64,7 +64,7 @@ fn over_both(alloc: Global, passes: u64) -> Option<Refusals> {
 
 // The store is formatted by seven calls, and a batch is committed by four: that of the start, and the station's.
 #[test]
-fn a_flush_tells_which_fault_of_the_store_ends_it(rt: HostRuntime) -> Result<(), Fail> {
+fn a_flush_tells_which_fault_of_the_store_ends_it(rt: HostRuntime) {
     let alloc = rt.alloc();
     let device = Some(WorldFault::Store(StoreFault::Device));
     let failed = Some(WorldFault::Store(StoreFault::Failed));
@@ -75,10 +75,11 @@ fn a_flush_tells_which_fault_of_the_store_ends_it(rt: HostRuntime) -> Result<(),
         (14, [device, failed, failed]),
         (15, [None, None, None]),
     ] {
-        let found = Some((flushes, None));
-        assert_eq!(rt; over_fuse(alloc, passes), found, "{passes}");
-        assert_eq!(rt; over_once(alloc, passes), found, "{passes}");
-        assert_eq!(rt; over_both(alloc, passes), found, "{passes}");
+        let found = [
+            over_fuse(alloc, passes),
+            over_once(alloc, passes),
+            over_both(alloc, passes),
+        ];
+        expect(&rt, (passes, found), (passes, [Some((flushes, None)); 3]));
     }
-    Ok(())
 }

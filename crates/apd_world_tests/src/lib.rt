@@ -9,6 +9,8 @@ mod calls;
 #[cfg(test)]
 mod driver_tests;
 #[cfg(test)]
+mod expect;
+#[cfg(test)]
 mod failing_tests;
 #[cfg(test)]
 mod flush_tests;
@@ -20,6 +22,10 @@ mod parts_tests;
 mod refusal_tests;
 #[cfg(test)]
 mod replacing_tests;
+#[cfg(test)]
+mod said;
+#[cfg(test)]
+mod seen;
 #[cfg(test)]
 mod start_tests;
 #[cfg(test)]

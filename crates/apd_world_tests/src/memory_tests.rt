@@ -1,9 +1,10 @@
 //! Restarts where memory is refused: each is tried once more, and has to come to the same. Where memory is ample
 //! nothing is refused; by hand each allocation is refused in turn.
 use crate::calls::{Memory, Refused, device, restart_world, slots_of, tell};
+use crate::expect::expect;
+use crate::seen::{Seen, look_at_two};
 use crate::steps::{ASSOCIATIONS, OTHER, STATION, WLAN0, WLAN1};
 use crate::worlds::{confs, sims, start_world};
-use apd_base::Addr;
 use apd_conf::Confs;
 use apd_disk::{MemDisk, Torn};
 use apd_radio::Sim;
@@ -11,7 +12,6 @@ use apd_slot::{Slot, SlotFault};
 use apd_store::StoreFault;
 use apd_world::WorldFault;
 use std::alloc::Global;
-use std::test::Fail;
 
 /// The device on which a station is associated at each radio; none where a step was refused memory.
 fn settle(alloc: Global) -> Option<MemDisk> {
@@ -28,17 +28,9 @@ fn settle_or_retry(alloc: Global) -> Option<MemDisk> {
     }
 }
 
-/// Whether a slot is up, and the identifier under which its station is wanted, and installed.
-type Seen = (bool, Option<u16>, Option<u16>);
-
-fn look_at(slot: &Slot<Sim>, station: Addr) -> Seen {
-    (slot.is_up(), slot.wanted(station), slot.installed(station))
-}
-
 /// What is seen of both slots.
 fn look(slots: &[Slot<Sim>]) -> Option<[Seen; 2]> {
-    let (first, second) = (slots.first()?, slots.get(1)?);
-    Some([look_at(first, STATION), look_at(second, OTHER)])
+    look_at_two(slots, [STATION, OTHER])
 }
 
 /// A slot as it is new, one that has resumed, and one that has not.
@@ -102,16 +94,15 @@ fn contents(world: Memory) -> (usize, Option<[Seen; 2]>) {
     (rows, look(&slots))
 }
 
-/// The world of a device on which a station was associated at each radio.
-fn resume(alloc: Global, torn: Torn) -> Option<Memory> {
-    begin(alloc, settle_or_retry(alloc)?, torn)
+/// What is found in the world of a device on which a station was associated at each radio.
+fn resume(alloc: Global, torn: Torn) -> Option<(usize, Option<[Seen; 2]>)> {
+    Some(contents(begin(alloc, settle_or_retry(alloc)?, torn)?))
 }
 
 #[test]
-fn a_restart_that_is_refused_memory_leaves_what_was(rt: HostRuntime) -> Result<(), Fail> {
+fn a_restart_that_is_refused_memory_leaves_what_was(rt: HostRuntime) {
     for torn in [Torn::Old, Torn::New, Torn::Byte(0x55)] {
-        let world = resume(rt.alloc(), torn).ok_or("a refusal left something else")?;
-        assert_eq!(rt; contents(world), (2, Some([RESUMED, RESUMED])));
+        let found = resume(rt.alloc(), torn);
+        expect(&rt, found, Some((2, Some([RESUMED, RESUMED]))));
     }
-    Ok(())
 }

@@ -1,5 +1,6 @@
 //! Restarts that a radio refuses: which slot is told, and what is left of it, of those before it and of those behind.
 use crate::calls::{Refused, applies, queues, restart_world, slots_of};
+use crate::expect::expect;
 use crate::steps::{ASSOCIATIONS, OTHER, STATION, WLAN0, WLAN1};
 use crate::worlds::{confs, radio, recover_world, start_world, stop_after};
 use apd_base::{Addr, Aid};
@@ -7,9 +8,8 @@ use apd_disk::MemDisk;
 use apd_mlme::Out;
 use apd_radio::{Failing, Sim};
 use apd_slot::{Slot, SlotFault};
-use apd_world::WorldFault;
+use apd_world::{World, WorldFault};
 use std::alloc::Global;
-use std::test::Fail;
 
 type Used = Slot<Failing<Sim>>;
 
@@ -35,13 +35,17 @@ fn use_slot(alloc: Global, last: u8, calls: u64) -> Option<Used> {
     Some(slot)
 }
 
+fn add(alloc: Global, slots: &mut Vec<Used>, last: u8, calls: u64) -> Option<()> {
+    slots.push(use_slot(alloc, last, calls)?).ok()
+}
+
 /// Three of them.
 fn three(alloc: Global, calls: [u64; 3]) -> Option<Vec<Used>> {
     let [first, second, third] = calls;
     let mut slots = Vec::new(alloc);
-    slots.push(use_slot(alloc, 1, first)?).ok()?;
-    slots.push(use_slot(alloc, 2, second)?).ok()?;
-    slots.push(use_slot(alloc, 3, third)?).ok()?;
+    add(alloc, &mut slots, 1, first)?;
+    add(alloc, &mut slots, 2, second)?;
+    add(alloc, &mut slots, 3, third)?;
     Some(slots)
 }
 
@@ -81,47 +85,60 @@ fn device(alloc: Global) -> Option<MemDisk> {
     stop_after(start_world(alloc, &[1, 2, 3])?, &ASSOCIATIONS)
 }
 
-/// What a restart is refused with there.
-fn restart_refusal(alloc: Global, calls: [u64; 3]) -> Option<Refused<Failing<Sim>>> {
+/// What a restart comes to there.
+fn restart_there(
+    alloc: Global,
+    calls: [u64; 3],
+) -> Option<Result<World<MemDisk, Failing<Sim>>, Refused<Failing<Sim>>>> {
     let confs = confs(alloc, &[1, 2, 3])?;
-    restart_world(alloc, device(alloc)?, confs, three(alloc, calls)?).err()
+    let slots = three(alloc, calls)?;
+    Some(restart_world(alloc, device(alloc)?, confs, slots))
+}
+
+/// How many rows another restart finds.
+fn rows_of(alloc: Global, device: MemDisk) -> Option<usize> {
+    let world = recover_world(alloc, device, &[1, 2, 3])?;
+    let rows = world.table().rows();
+    drop(world);
+    Some(rows)
 }
 
 /// Why it is refused, what is seen of the slots, and how many rows another restart finds.
-fn refusal_of(alloc: Global, calls: [u64; 3]) -> Option<(WorldFault, [Seen; 3], usize)> {
-    let (device, slots, fault) = restart_refusal(alloc, calls)?;
+type Refusal = (WorldFault, Option<[Seen; 3]>, Option<usize>);
+
+fn refusal_of(alloc: Global, calls: [u64; 3]) -> Option<Refusal> {
+    let (device, slots, fault) = restart_there(alloc, calls)?.err()?;
     let seen = look(&slots);
     drop(slots);
-    let rows = recover_world(alloc, device, &[1, 2, 3])?.table().rows();
-    Some((fault, seen?, rows))
+    Some((fault, seen, rows_of(alloc, device)))
 }
 
 #[test]
-fn a_radio_that_fails_is_told_and_leaves_those_behind(rt: HostRuntime) -> Result<(), Fail> {
-    let down = SlotFault::WentDown;
+fn a_radio_that_fails_is_told_and_leaves_those_behind(rt: HostRuntime) {
     for (calls, bssid, slots) in [
         ([0, 9, 9], WLAN0, [DOWN, AS_BEFORE, AS_BEFORE]),
         ([9, 0, 9], WLAN1, [RESUMED, DOWN, AS_BEFORE]),
         ([1, 0, 0], WLAN1, [RESUMED, DOWN, AS_BEFORE]),
     ] {
-        let found = refusal_of(rt.alloc(), calls).ok_or("it was not refused")?;
-        let fault = WorldFault::Slot(bssid, down);
-        assert_eq!(rt; found, (fault, slots, 2), "{calls:?}");
+        let fault = WorldFault::Slot(bssid, SlotFault::WentDown);
+        let refusal = Some((fault, Some(slots), Some(2)));
+        expect(
+            &rt,
+            (calls, refusal_of(rt.alloc(), calls)),
+            (calls, refusal),
+        );
     }
-    Ok(())
 }
 
 /// What is seen of the slots behind a restart that is not refused.
 fn begin(alloc: Global, calls: [u64; 3]) -> Option<[Seen; 3]> {
-    let confs = confs(alloc, &[1, 2, 3])?;
-    let world = restart_world(alloc, device(alloc)?, confs, three(alloc, calls)?).ok()?;
+    let world = restart_there(alloc, calls)?.ok()?;
     look(&slots_of(world))
 }
 
 // It is asked for nothing but to be taken down.
 #[test]
-fn a_radio_without_stations_refuses_nothing(rt: HostRuntime) -> Result<(), Fail> {
-    let found = begin(rt.alloc(), [1, 1, 0]).ok_or("it was refused")?;
-    assert_eq!(rt; found, [RESUMED, RESUMED, EMPTY]);
-    Ok(())
+fn a_radio_without_stations_refuses_nothing(rt: HostRuntime) {
+    let found = begin(rt.alloc(), [1, 1, 0]);
+    expect(&rt, found, Some([RESUMED, RESUMED, EMPTY]));
 }

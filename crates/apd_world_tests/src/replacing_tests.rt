@@ -1,5 +1,6 @@
 //! Radios whose driver fails, and others in their place.
 use crate::calls::{join_parts, parts_of, replace_radio, tell};
+use crate::expect::expect;
 use crate::steps::{ROAMS, STATION, WLAN0, WLAN1};
 use crate::worlds::{start_with, start_world};
 use apd_base::{Bssid, Station};
@@ -8,8 +9,7 @@ use apd_radio::{Failing, Radio, Sim};
 use apd_slot::{Slot, SlotFault};
 use apd_table::Table;
 use apd_world::{World, WorldFault};
-use std::alloc::Global;
-use std::test::Fail;
+use std::alloc::{AllocError, Global};
 
 type Boxed = Box<dyn Radio + Send>;
 
@@ -40,20 +40,35 @@ fn identifier(table: &Table, bssid: Bssid) -> Option<u16> {
     }
 }
 
+fn wants_row(table: &Table, slot: &Slot<Boxed>) -> bool {
+    slot.wanted(STATION) == identifier(table, slot.bssid())
+}
+
 fn wants_rows(table: &Table, slots: &[Slot<Boxed>]) -> bool {
-    slots.iter().all(|slot| slot.wanted(STATION) == identifier(table, slot.bssid()))
+    slots.iter().all(|slot| wants_row(table, slot))
+}
+
+fn has_row(table: &Table, slot: &Slot<Boxed>) -> bool {
+    slot.is_up() && slot.installed(STATION) == identifier(table, slot.bssid())
 }
 
 fn has_rows(table: &Table, slots: &[Slot<Boxed>]) -> bool {
-    slots.iter().all(|slot| slot.is_up()
-        && slot.installed(STATION) == identifier(table, slot.bssid()))
+    slots.iter().all(|slot| has_row(table, slot))
 }
 
-/// Puts others in the place of both. Tells whether both that come back have no station.
-fn replaces_both(world: &mut World<MemDisk, Boxed>, others: (Boxed, Boxed)) -> Option<bool> {
-    let first = replace_radio(world, WLAN0, others.0).ok()?;
-    let second = replace_radio(world, WLAN1, others.1).ok()?;
-    Some(first.installed(STATION).is_none() && second.installed(STATION).is_none())
+/// Puts another in the place of a BSSID's. Tells whether the one that comes back has no station.
+fn replaces(world: &mut World<MemDisk, Boxed>, bssid: Bssid, other: Boxed) -> bool {
+    match replace_radio(world, bssid, other) {
+        Ok(back) => back.installed(STATION).is_none(),
+        Err(_) => false,
+    }
+}
+
+/// The same of both.
+fn replaces_both(world: &mut World<MemDisk, Boxed>, others: (Boxed, Boxed)) -> bool {
+    let (first, second) = others;
+    let replaced = replaces(world, WLAN0, first);
+    replaces(world, WLAN1, second) && replaced
 }
 
 /// Whether the slots want the table's stations, whatever their radios pass on; and whether others that take their place
@@ -66,24 +81,28 @@ fn follows(alloc: Global, radios: (Boxed, Boxed), others: (Boxed, Boxed)) -> Opt
     let (flusher, core, slots) = parts_of(world);
     drop(flusher);
     let has_rows = has_rows(core.table(), &slots);
+    drop(slots);
     drop(core);
-    Some([wanted, emptied?, has_rows])
+    Some([wanted, emptied, has_rows])
+}
+
+/// The same of a run in which the first radio passes so many calls on, and the second so many.
+fn follows_behind(alloc: Global, first: u64, second: u64) -> Option<[bool; 3]> {
+    let first: Boxed = Box::new(alloc, failing_radio(alloc, first)).ok()?;
+    let second: Boxed = Box::new(alloc, failing_radio(alloc, second)).ok()?;
+    let other: Boxed = Box::new(alloc, Sim::new(alloc)).ok()?;
+    let another: Boxed = Box::new(alloc, Sim::new(alloc)).ok()?;
+    follows(alloc, (first, second), (other, another))
 }
 
 /// The first radio has five calls of that run: two for the frames of the station's answers, one for its installation, one
 /// for its removal, and one for the frame that says so. The second has three.
 #[test]
-fn other_radios_have_the_stations_of_the_table(rt: HostRuntime) -> Result<(), Fail> {
-    let alloc = rt.alloc();
+fn other_radios_have_the_stations_of_the_table(rt: HostRuntime) {
     for count in 0..6 * 4 {
-        let first: Boxed = Box::new(alloc, failing_radio(alloc, count / 4))?;
-        let second: Boxed = Box::new(alloc, failing_radio(alloc, count % 4))?;
-        let other: Boxed = Box::new(alloc, Sim::new(alloc))?;
-        let another: Boxed = Box::new(alloc, Sim::new(alloc))?;
-        let seen = follows(alloc, (first, second), (other, another));
-        assert_eq!(rt; seen, Some([true, true, true]), "{count}");
+        let seen = follows_behind(rt.alloc(), count / 4, count % 4);
+        expect(&rt, (count, seen), (count, Some([true, true, true])));
     }
-    Ok(())
 }
 
 /// A radio that has the station under 7.
@@ -104,11 +123,14 @@ fn slot_refusal(alloc: Global) -> Option<(Option<u16>, WorldFault)> {
 }
 
 #[test]
-fn a_bssid_without_a_slot_gets_no_radio(rt: HostRuntime) -> Result<(), Fail> {
-    let alloc = rt.alloc();
-    assert_eq!(rt; slot_refusal(alloc), Some((Some(7), WorldFault::NoSlot)));
-    let text = format!(in alloc; "{}", WorldFault::NoSlot)?;
-    assert_eq!(rt; text.as_str(), "no such radio");
+fn a_bssid_without_a_slot_gets_no_radio(rt: HostRuntime) -> Result<(), AllocError> {
+    expect(
+        &rt,
+        slot_refusal(rt.alloc()),
+        Some((Some(7), WorldFault::NoSlot)),
+    );
+    let text = format!(in rt.alloc(); "{}", WorldFault::NoSlot)?;
+    expect(&rt, text.as_str(), "no such radio");
     Ok(())
 }
 
@@ -122,14 +144,20 @@ fn outcome(alloc: Global, radios: (Boxed, Boxed), other: Boxed) -> Option<(World
     Some((fault, up))
 }
 
+/// The same where it fails at once, and the two before it do not.
+fn outcome_at_once(alloc: Global) -> Option<(WorldFault, [bool; 2])> {
+    let first: Boxed = Box::new(alloc, Sim::new(alloc)).ok()?;
+    let second: Boxed = Box::new(alloc, Sim::new(alloc)).ok()?;
+    let other: Boxed = Box::new(alloc, failing_radio(alloc, 0)).ok()?;
+    outcome(alloc, (first, second), other)
+}
+
 #[test]
-fn a_radio_that_fails_takes_its_slot_down_alone(rt: HostRuntime) -> Result<(), Fail> {
-    let alloc = rt.alloc();
-    let first: Boxed = Box::new(alloc, Sim::new(alloc))?;
-    let second: Boxed = Box::new(alloc, Sim::new(alloc))?;
-    let other: Boxed = Box::new(alloc, failing_radio(alloc, 0))?;
+fn a_radio_that_fails_takes_its_slot_down_alone(rt: HostRuntime) {
     let fault = WorldFault::Slot(WLAN1, SlotFault::WentDown);
-    let kept = outcome(alloc, (first, second), other);
-    assert_eq!(rt; kept, Some((fault, [true, false])));
-    Ok(())
+    expect(
+        &rt,
+        outcome_at_once(rt.alloc()),
+        Some((fault, [true, false])),
+    );
 }

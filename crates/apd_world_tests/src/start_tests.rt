@@ -1,5 +1,6 @@
 //! Starts that find a full store, or a device that fails.
 use crate::calls::{Memory, blank_disk, refusal};
+use crate::expect::expect;
 use crate::steps::WLAN0;
 use crate::worlds::{
     configure_radio, new_world, radio, recover_world, sims, start_world, stop_after,
@@ -10,7 +11,6 @@ use apd_radio::Sim;
 use apd_store::StoreFault;
 use apd_world::{Reception, Told, World, WorldFault};
 use std::alloc::Global;
-use std::test::Fail;
 
 /// A store of which eight interfaces were started.
 fn full_store(alloc: Global) -> Option<MemDisk> {
@@ -34,14 +34,18 @@ fn have_policies(world: &Memory) -> (bool, bool) {
     )
 }
 
+/// What the ninth BSSID is told of its configuration.
+fn ninth_reception(alloc: Global, world: &mut Memory) -> Option<Reception> {
+    reception(configure_radio(alloc, world, 9).as_deref()?)
+}
+
 /// Of a world that comes upon the ninth BSSID first: after its start, which have policies, and what the ninth is told.
 fn ninth(alloc: Global, world: &mut Memory) -> Option<((bool, bool), Reception)> {
     if refusal(world).is_some() {
         return None;
     }
     let policies = have_policies(world);
-    let tolds = configure_radio(alloc, world, 9)?;
-    Some((policies, reception(tolds.as_slice())?))
+    Some((policies, ninth_reception(alloc, world)?))
 }
 
 /// The same of the full store.
@@ -53,10 +57,13 @@ fn ninth_of_full(alloc: Global) -> Option<((bool, bool), Reception)> {
 }
 
 #[test]
-fn a_start_passes_over_a_ninth_bssid(rt: HostRuntime) -> Result<(), Fail> {
+fn a_start_passes_over_a_ninth_bssid(rt: HostRuntime) {
     let too_many = Reception::Quiet(QuietReason::TooManyBss);
-    assert_eq!(rt; ninth_of_full(rt.alloc()), Some(((false, true), too_many)));
-    Ok(())
+    expect(
+        &rt,
+        ninth_of_full(rt.alloc()),
+        Some(((false, true), too_many)),
+    );
 }
 
 /// A world of one radio on a device that passes this many calls and fails then.
@@ -75,7 +82,7 @@ fn refusals(alloc: Global, passes: u64) -> Option<[Option<WorldFault>; 2]> {
 
 // The store is formatted by seven calls, and each start commits a batch by four.
 #[test]
-fn a_start_tells_which_fault_of_the_store_ends_it(rt: HostRuntime) -> Result<(), Fail> {
+fn a_start_tells_which_fault_of_the_store_ends_it(rt: HostRuntime) {
     let device = Some(WorldFault::Store(StoreFault::Device));
     let failed = Some(WorldFault::Store(StoreFault::Failed));
     for (passes, found) in [
@@ -85,7 +92,10 @@ fn a_start_tells_which_fault_of_the_store_ends_it(rt: HostRuntime) -> Result<(),
         (14, [None, device]),
         (15, [None, None]),
     ] {
-        assert_eq!(rt; refusals(rt.alloc(), passes), Some(found), "{passes}");
+        expect(
+            &rt,
+            (passes, refusals(rt.alloc(), passes)),
+            (passes, Some(found)),
+        );
     }
-    Ok(())
 }

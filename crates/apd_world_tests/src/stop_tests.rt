@@ -1,5 +1,6 @@
 //! A run that stops, and what the next one finds.
 use crate::calls::{Memory, tell};
+use crate::expect::expect;
 use crate::steps::{ASSOCIATES, AUTHENTICATES, COMMITS, DENIES, STATION, TO_WLAN0, WLAN0};
 use crate::worlds::{recover_world, start_world, stop_after};
 use apd_base::{Station, Which};
@@ -8,7 +9,6 @@ use apd_disk::{MemDisk, Torn};
 use apd_mlme::Recipient;
 use apd_world::{Step, Told};
 use std::alloc::Global;
-use std::test::Fail;
 
 /// The device of one radio after these steps.
 fn device_after(alloc: Global, steps: &[Step<'static>]) -> Option<MemDisk> {
@@ -32,13 +32,18 @@ fn in_use(alloc: Global, device: &MemDisk) -> Option<Vec<u8>> {
     Vec::from_slice(alloc, device.bytes().get(64..118)?).ok()
 }
 
+/// The same after an authentication.
+fn bytes_after_commit(alloc: Global) -> Option<Vec<u8>> {
+    let device = device_after(alloc, &COMMITS)?;
+    let bytes = in_use(alloc, &device);
+    drop(device);
+    bytes
+}
+
 #[test]
-fn the_bytes_after_an_authentication(rt: HostRuntime) -> Result<(), Fail> {
-    let alloc = rt.alloc();
-    let device = device_after(alloc, &COMMITS).ok_or("memory")?;
-    let bytes = in_use(alloc, &device).ok_or("memory")?;
-    assert_eq!(rt; bytes.as_slice(), two_groups());
-    Ok(())
+fn the_bytes_after_an_authentication(rt: HostRuntime) {
+    let bytes = bytes_after_commit(rt.alloc());
+    expect(&rt, bytes.as_deref(), Some(two_groups()));
 }
 
 /// How many steps of an authentication and its commit are made, what the stop leaves of what was not synced (else the
@@ -104,9 +109,8 @@ fn otherwise(alloc: Global) -> Option<Stop> {
 }
 
 #[test]
-fn a_stop_in_a_commit(rt: HostRuntime) -> Result<(), Fail> {
-    assert_eq!(rt; otherwise(rt.alloc()), None);
-    Ok(())
+fn a_stop_in_a_commit(rt: HostRuntime) {
+    expect(&rt, otherwise(rt.alloc()), None);
 }
 
 /// The station associates, which is committed; it is put on the deny list, which is committed and handed out.
@@ -147,10 +151,9 @@ fn look_behind(alloc: Global, made: usize) -> Option<(bool, bool)> {
 }
 
 #[test]
-fn a_denial_outlives_a_stop(rt: HostRuntime) -> Result<(), Fail> {
-    assert_eq!(rt; look_behind(rt.alloc(), 8), Some((true, false)));
-    assert_eq!(rt; look_behind(rt.alloc(), 17), Some((false, true)));
-    Ok(())
+fn a_denial_outlives_a_stop(rt: HostRuntime) {
+    expect(&rt, look_behind(rt.alloc(), 8), Some((true, false)));
+    expect(&rt, look_behind(rt.alloc(), 17), Some((false, true)));
 }
 
 const ASKS: Step<'static> = Step::Ask(Query::Sta(WLAN0, STATION));
@@ -189,9 +192,9 @@ fn station_text() -> &'static [u8] {
 }
 
 #[test]
-fn a_query_sees_the_older_table_until_a_batch_is_published(rt: HostRuntime) -> Result<(), Fail> {
-    let tolds = answers(rt.alloc(), &ASKED_TWICE).ok_or("memory")?;
-    assert_eq!(rt; text(tolds.get(6)), b"FAIL\n".as_slice());
-    assert_eq!(rt; text(tolds.get(8)), station_text());
-    Ok(())
+fn a_query_sees_the_older_table_until_a_batch_is_published(rt: HostRuntime) {
+    let tolds = answers(rt.alloc(), &ASKED_TWICE);
+    let tolds = tolds.as_deref().unwrap_or(&[]);
+    expect(&rt, text(tolds.get(6)), b"FAIL\n");
+    expect(&rt, text(tolds.get(8)), station_text());
 }

@@ -6,8 +6,9 @@ use crate::calls::{
 use crate::steps::WLAN0;
 use apd_base::{Addr, Bssid, Moment};
 use apd_conf::{AddressList, Conf, Confs, InterfaceName};
-use apd_core::Input;
+use apd_core::{Core, Input};
 use apd_disk::{Disk, MemDisk};
+use apd_flusher::Flusher;
 use apd_radio::{Failing, Radio, Sim};
 use apd_slot::Slot;
 use apd_world::{Step, Told, World};
@@ -62,6 +63,14 @@ pub(crate) fn failing_radio(alloc: Global, calls: u64) -> Option<Vec<Slot<Failin
     Some(slots)
 }
 
+fn new_flusher<D: Disk + Drop>(alloc: Global, disk: D) -> Option<Flusher<D>> {
+    flusher(alloc, store(alloc, disk)?)
+}
+
+fn new_core(alloc: Global, lasts: &[u8]) -> Option<Core> {
+    core(alloc, confs(alloc, lasts)?)
+}
+
 /// A world on a store that the device is given, of which no interface was started.
 pub(crate) fn new_world<D: Disk + Drop, R: Radio>(
     alloc: Global,
@@ -69,9 +78,10 @@ pub(crate) fn new_world<D: Disk + Drop, R: Radio>(
     lasts: &[u8],
     slots: Vec<Slot<R>>,
 ) -> Option<World<D, R>> {
-    let flusher = flusher(alloc, store(alloc, disk)?)?;
-    let core = core(alloc, confs(alloc, lasts)?)?;
-    Some(join_parts(alloc, flusher, core, slots))
+    match new_flusher(alloc, disk).zip(new_core(alloc, lasts)) {
+        Some((flusher, core)) => Some(join_parts(alloc, flusher, core, slots)),
+        None => None,
+    }
 }
 
 /// A started world on a new store, with these slots.

@@ -1,0 +1,8 @@
+//! An expectation, in a function of its own: a test that calls it compares and prints nothing itself.
+use std::fmt::Debug;
+use std::process::Abort;
+
+/// Ends the test where what was found isn't what was wanted, and prints both.
+pub fn expect<T: PartialEq + Debug + Drop>(rt: &impl Abort, found: T, wanted: T) {
+    assert_eq!(rt; found, wanted);
+}
