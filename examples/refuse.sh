@@ -22,12 +22,16 @@ cd "$folder"
 # Whether what was found is what is wanted. A line "again: .." is taken out; without one the library made up for what
 # it was refused, as where it collects and had asked for room beforehand. Behind a device fault must stand the last
 # table before it, or the next one that was wanted; and the first calls that were wanted of the device, and the
-# recovery's.
+# recovery's. Where steps tell of calls, those are as many as they told of, behind the recovery that the session begins
+# with, and none is behind it where they told of none.
 compare() {
     awk '
         function bad(why) { print why; failed = 1; exit 1 }
         function is_state(line) { return line ~ /^table: / || line == "no store" }
-        NR == FNR { wanted[++all] = $0; if ($0 == "left:") end = all; next }
+        NR == FNR { wanted[++all] = $0 }
+        NR == FNR && $0 == "left:" { end = all }
+        NR == FNR && end && !read && $0 == "Read(0, 2097216)" { read = all - end - 1 }
+        NR == FNR { next }
         /^changed: / { bad($0) }
         /^again: / { again++; next }
         $0 == "device fault" { device++; next }
@@ -43,6 +47,8 @@ compare() {
             for (i = 1; i <= line; i++) if (is_state(wanted[i])) before = wanted[i]
             for (i = all; i > line; i--) if (is_state(wanted[i])) after = wanted[i]
             if (left != before && left != after) bad("left " left)
+            for (i = 1; i <= all; i++) if (wanted[i] == "Called(Ok(()))") { steps++; if (i <= line) told++ }
+            if (steps && (told ? count - 2 != read + told : count - 2 > read)) bad("served " count - 2 " calls")
             if (calls[count - 1] != "Sync" || calls[count] != "Read(0, 2097216)") bad("not recovered")
             for (i = 1; i < count - 1; i++) if (calls[i] != wanted[end + 1 + i]) bad("call " i ": " calls[i])
         }' "$1" found
@@ -143,12 +149,15 @@ print_each() {
     print_recovered last read >recover.2
 }
 
-# Whether a run is what is wanted, or one of what is wanted where that call was made again; else it says what isn't.
+# Whether a run is what is wanted, or one of what is wanted where that call was made again; else it says what isn't. A
+# later allocation of a call is met no earlier in it.
 judge() {
     : >whys
     call=$(sed -n 's/^again: //p' found)
     [ -e "$call.1" ] || { compare wanted; return; }
+    least=$(grep "^$call[.]" met | tail -n 1)
     for each in "$call".?; do
+        [ "${each##*.}" -ge "${least##*.}" ] 2>/dev/null || [ -z "$least" ] || continue
         ! compare "$each" >why || { echo "$each" >>met; return 0; }
         echo "$each: $(cat why)" >>whys
     done
@@ -156,11 +165,18 @@ judge() {
     return 1
 }
 
-# Whether each of what is wanted was found; else it says which was not.
-are_met() {
-    for each in *.[0-9]; do
-        [ ! -e "$each" ] || grep -q -x -F "$each" met || { echo "no run is as $each"; return 1; }
-    done
+# How many runs are as each of what is wanted where a call was made again.
+print_met() {
+    case $1 in
+        stations) echo "recover.1 1, recover.2 6, restart.1 1, restart.2 1" ;;
+        commands) echo "recover.1 1, recover.2 11, restart.1 1, restart.2 1" ;;
+        radios) echo "recover.1 1, recover.2 13, restart.1 1, restart.2 1" ;;
+        restart)
+            echo "recover.1 1, recover.2 7, restart.1 1, restart.2 31, restart.3 2," \
+                "start.1 12, start.2 10, start.3 2, start.4 6"
+            ;;
+        upgrade) echo "recover.1 1, recover.2 3, upgrade.1 1, upgrade.2 10, upgrade.3 1" ;;
+    esac
 }
 
 # Runs a session with the allocation of this number refused; whether there is one.
@@ -184,7 +200,10 @@ print_counts() {
 
 # How many allocations come before a session: those of the command line's words.
 words=0
-while is_refused nothing "$((words + 1))"; do words=$((words + 1)); done
+while is_refused nothing "$((words + 1))"; do
+    [ "$(head -n 1 said)" = refused ] || { cat said; exit 1; }
+    words=$((words + 1))
+done
 
 for session in ${*:-stations commands radios restart files check upgrade}; do
     "$program" "$session" >wanted
@@ -205,7 +224,9 @@ for session in ${*:-stations commands radios restart files check upgrade}; do
         ! grep -q "^again: " found || again=$((again + 1))
     done
     cmp -s wanted found || { echo "$session: another run"; exit 1; }
-    are_met || exit 1
+    met=$(sort met | uniq -c | awk '{ printf "%s%s %d", separator, $2, $1; separator = ", " }')
+    [ "$met" = "$(print_met "$session")" ] ||
+        { echo "$session: made again as: $met, not as: $(print_met "$session")"; exit 1; }
     echo "$session: $count allocations: $again by calls that were made again, $device by a device," \
         "$((count - again - device)) made up for"
     [ "$again $device $((count - again - device))" = "$(print_counts "$session")" ] ||
