@@ -434,10 +434,21 @@ fn where_no_other_is_free_the_last_one_is_given_again(rt: HostRuntime) -> Result
     found
 }
 
+/// The frame of an out, if it is one.
+fn frame_of(out: &Out) -> Option<&[u8]> {
+    match out {
+        Out::Frame(frame) => Some(frame.as_slice()),
+        _ => None,
+    }
+}
+
 /// The frame of a decision that lets the station go before it, and says no more.
 fn frame_behind_removal(decision: &Decision) -> Option<&[u8]> {
-    match decision.outs.as_slice() {
-        [(_to, Out::Remove(STATION)), (_other, Out::Frame(frame))] => Some(frame.as_slice()),
+    let outs = decision.outs.as_slice();
+    let (_to, first) = outs.get(0)?;
+    let (_other, second) = outs.get(1)?;
+    match first {
+        Out::Remove(addr) if *addr == STATION && outs.len() == 2 => frame_of(second),
         _ => None,
     }
 }
