@@ -1,5 +1,5 @@
-use crate::expect::expect;
-use crate::running::run_and_log;
+use crate::expect::{expect, expect_file, hold, read, remove, write};
+use crate::running::{RunningFault, run_and_log};
 use crate::scripting_tests::make_old_store;
 use crate::{Host, ProgramFault, command, no_text, tell};
 use apd_disk::FileDisk;
@@ -7,12 +7,11 @@ use apd_store::format;
 use std::alloc::{AllocError, Global};
 use std::cell::Cell;
 use std::fmt::Display;
-use std::fs::{self, File};
+use std::fs::File;
 use std::io;
 use std::net::{Ipv4Addr, UdpSocket};
-use std::process::ExitCode;
+use std::process::{Abort, ExitCode};
 use std::rt::Files;
-use std::test::Fail;
 
 const CONF: &str = "interface=wlan0\nbssid=02:00:00:00:00:01\nssid=net\n";
 
@@ -100,129 +99,151 @@ impl Eprint for Page {
     }
 }
 
-/// What a run that came to this prints, and whether it ends with this status.
-fn page_and_status(
-    alloc: Global,
+/// What a run that came to this prints, where it ends with this status.
+fn page_of(
+    rt: &(impl Abort + AllocGlobal),
     done: Result<Option<clap::Error>, ProgramFault>,
     status: u8,
-) -> Result<(String, bool), Fail> {
+) -> String {
     let page = Page {
-        alloc,
+        alloc: rt.alloc(),
         text: Cell::new(None),
     };
-    let ended = tell(&page, done)?;
-    let text = page.text.take().unwrap_or(String::new(alloc));
-    Ok((text, ended == ExitCode::from(status)))
+    let ended = tell(&page, done).expect(rt, "a page");
+    hold(rt, ended == ExitCode::from(status));
+    page.text.take().unwrap_or(String::new(rt.alloc()))
 }
 
-/// What is printed of these words, and whether they end with this status.
-fn page_of(alloc: Global, words: &[&str], status: u8) -> Result<(String, bool), Fail> {
-    let error = command(alloc)?.try_get_matches_from(words).err();
-    page_and_status(alloc, Ok(error), status)
+/// Expects that it prints this.
+fn expect_page(
+    rt: &(impl Abort + AllocGlobal),
+    done: Result<Option<clap::Error>, ProgramFault>,
+    status: u8,
+    wanted: &str,
+) {
+    let page = page_of(rt, done, status);
+    expect(rt, page.as_str(), wanted);
+}
+
+/// Ends the test where a text doesn't begin so, and prints it.
+fn expect_start(rt: &impl Abort, text: &str, start: &str) {
+    assert!(rt; text.starts_with(start), "{text}");
+}
+
+/// Expects that what is wrong with a command line is printed with this status, and begins so.
+fn expect_error(
+    rt: &(impl Abort + AllocGlobal),
+    error: Option<clap::Error>,
+    status: u8,
+    start: &str,
+) {
+    let page = page_of(rt, Ok(error), status);
+    expect_start(rt, page.as_str(), start);
+}
+
+/// What is wrong with these words.
+fn error_of(rt: &(impl Abort + AllocGlobal), words: &[&str]) -> Option<clap::Error> {
+    let command = command(rt.alloc()).expect(rt, "memory");
+    command.try_get_matches_from(words).err()
 }
 
 #[test]
-fn wrong_words_are_told(rt: HostRuntime) -> Result<(), Fail> {
-    for (words, status, text) in WORDS {
-        let (page, ended) = page_of(rt.alloc(), words, status)?;
-        assert!(rt; page.as_str().starts_with(text), "{page}");
-        assert!(rt; ended, "{page}");
+fn wrong_words_are_told(rt: HostRuntime) {
+    for (words, status, start) in WORDS {
+        expect_error(&rt, error_of(&rt, words), status, start);
     }
-    Ok(())
 }
 
 #[test]
-fn words_that_are_no_text_are_wrong(rt: HostRuntime) -> Result<(), Fail> {
-    let error = no_text(rt.alloc())?;
-    let (page, ended) = page_and_status(rt.alloc(), Ok(Some(error)), 2)?;
-    let text = "2error: invalid UTF-8 was detected in one or more arguments\n";
-    assert!(rt; page.as_str().starts_with(text), "{page}");
-    assert!(rt; ended, "{page}");
-    Ok(())
+fn words_that_are_no_text_are_wrong(rt: HostRuntime) {
+    let error = no_text(rt.alloc()).expect(&rt, "memory");
+    let start = "2error: invalid UTF-8 was detected in one or more arguments\n";
+    expect_error(&rt, Some(error), 2, start);
 }
 
 #[test]
-fn a_fault_is_told(rt: HostRuntime) -> Result<(), Fail> {
-    let (text, ended) = page_and_status(rt.alloc(), Err(ProgramFault::NoMemory), 1)?;
-    expect(&rt, (text.as_str(), ended), ("2apd: out of memory\n", true));
-    let (text, ended) = page_and_status(rt.alloc(), Ok(None), 0)?;
-    expect(&rt, (text.as_str(), ended), ("", true));
-    Ok(())
+fn a_fault_is_told(rt: HostRuntime) {
+    expect_page(&rt, Err(ProgramFault::NoMemory), 1, "2apd: out of memory\n");
+    expect_page(&rt, Ok(None), 0, "");
 }
 
-/// What `apd run` over a store, with this configuration, at this port, prints where it doesn't serve and ends with 1.
-fn fault_of<R: Host>(rt: &R, store: &str, port: &str, conf: &str) -> Result<String, Fail> {
+/// Why a run with the arguments of these words doesn't serve.
+fn fault_of<R: Abort + Host>(rt: &R, words: &[&str]) -> RunningFault {
+    let command = command(rt.alloc()).expect(rt, "memory");
+    let matches = command.try_get_matches_from(words).ok();
+    let matches = matches.expect(rt, "words that are right");
+    let run = matches.subcommand_matches("run");
+    let served = run_and_log(rt, run.expect(rt, "the words of a run"));
+    drop(matches);
+    served.expect_err(rt, "a fault")
+}
+
+/// Expects that `apd run` over a store, with this configuration, at this port, prints this where it doesn't serve, and
+/// ends with 1.
+fn expect_fault<R: Abort + Host>(rt: &R, (store, port, conf): (&str, &str, &str), wanted: &str) {
     let words = [
         "apd", "run", "--store", store, "--port", port, "--record", "run_test", conf,
     ];
-    let alloc = rt.alloc();
-    let matches = match command(alloc)?.try_get_matches_from(&words) {
-        Ok(matches) => matches,
-        Err(_) => return Err(Fail::new("the words are wrong")),
-    };
-    let Some(matches) = matches.subcommand_matches("run") else {
-        return Err(Fail::new("another subcommand"));
-    };
-    match run_and_log(rt, matches) {
-        Ok(()) => Err(Fail::new("it served")),
-        Err(fault) => match page_and_status(alloc, Err(ProgramFault::Running(fault)), 1)? {
-            (text, true) => Ok(text),
-            _ => Err(Fail::new("another status")),
-        },
-    }
+    let fault = fault_of(rt, &words);
+    expect_page(rt, Err(ProgramFault::Running(fault)), 1, wanted);
 }
 
 /// Makes the file of a name a new store.
-fn make_store(rt: &(impl Files<File = File> + AllocGlobal), name: &str) -> Result<(), Fail> {
-    let disk = FileDisk::create(rt, name)?;
-    match format(rt.alloc(), disk) {
-        Ok(_) => Ok(()),
-        Err(_) => Err(Fail::new("no store")),
-    }
+fn make_store(rt: &(impl Abort + Files<File = File> + AllocGlobal), name: &str) {
+    let disk = FileDisk::create(rt, name).expect(rt, "a file that can be made");
+    let is_made = format(rt.alloc(), disk).is_ok();
+    hold(rt, is_made);
 }
 
-#[test]
-fn faults_of_a_run_are_told_in_their_order(rt: HostRuntime) -> Result<(), Fail> {
-    let taken = UdpSocket::bind(&rt, (Ipv4Addr::LOCALHOST, 0))?;
-    let port = format!(in rt.alloc(); "{}", taken.local_addr()?.port())?;
-    let port = port.as_str();
-    let told = fault_of(&rt, "run_test_store", port, "run_test_conf")?;
-    expect(&rt, told.as_str(), "2apd: cannot read run_test_conf\n");
-    fs::write(&rt, "run_test_conf", CONF.as_bytes())?;
-    let told = fault_of(&rt, "run_test_store", port, "run_test_conf")?;
-    expect(&rt, told.as_str(), "2apd: cannot read run_test_store\n");
-    make_store(&rt, "run_test_store")?;
-    let told = fault_of(&rt, "run_test_store", port, "run_test_conf")?;
-    expect(&rt, told.as_str(), "2apd: no socket\n");
+/// Expects the faults of a run at a port that is taken, in their order.
+fn expect_faults<R: Abort + Host>(rt: &R, port: &str) {
+    let store = "run_test_store";
+    let conf = "run_test_conf";
+    let words = (store, port, conf);
+    expect_fault(rt, words, "2apd: cannot read run_test_conf\n");
+    write(rt, conf, CONF.as_bytes());
+    expect_fault(rt, words, "2apd: cannot read run_test_store\n");
+    make_store(rt, store);
+    expect_fault(rt, words, "2apd: no socket\n");
     // By then the recording stood.
-    fs::remove_file(&rt, "run_test.0")?;
-    fs::remove_file(&rt, "run_test_store")?;
-    fs::remove_file(&rt, "run_test_conf")?;
-    Ok(())
+    remove(rt, "run_test.0");
+    remove(rt, store);
+    remove(rt, conf);
 }
 
 #[test]
-fn a_store_of_version_1_is_refused_and_left_as_it_was(rt: HostRuntime) -> Result<(), Fail> {
+fn faults_of_a_run_are_told_in_their_order(rt: HostRuntime) {
+    let taken = UdpSocket::bind(&rt, (Ipv4Addr::LOCALHOST, 0)).expect(&rt, "a port");
+    let place = taken.local_addr().expect(&rt, "a port");
+    let port = format!(in rt.alloc(); "{}", place.port()).expect(&rt, "memory");
+    expect_faults(&rt, port.as_str());
+    drop(port);
+    drop(taken);
+}
+
+#[test]
+fn a_store_of_version_1_is_refused_and_left_as_it_was(rt: HostRuntime) {
     let store = "run_test_old_store";
-    let old = make_old_store(&rt, store)?;
-    fs::write(&rt, "run_test_old_conf", CONF.as_bytes())?;
-    let told = fault_of(&rt, store, "1024", "run_test_old_conf")?;
-    expect(&rt, told.as_str(), "2apd: store of version 1\n");
-    assert!(rt; fs::read(&rt, store)?.as_slice() == old.as_slice());
-    fs::remove_file(&rt, store)?;
-    fs::remove_file(&rt, "run_test_old_conf")?;
-    Ok(())
+    let conf = "run_test_old_conf";
+    let old = make_old_store(&rt, store);
+    write(&rt, conf, CONF.as_bytes());
+    expect_fault(&rt, (store, "1024", conf), "2apd: store of version 1\n");
+    expect_file(&rt, store, old.as_slice());
+    remove(&rt, store);
+    remove(&rt, conf);
 }
 
 #[test]
-fn a_missing_configuration_leaves_the_store_as_it_was(rt: HostRuntime) -> Result<(), Fail> {
+fn a_missing_configuration_leaves_the_store_as_it_was(rt: HostRuntime) {
     let store = "run_test_untouched_store";
-    make_store(&rt, store)?;
-    let before = fs::read(&rt, store)?;
-    let told = fault_of(&rt, store, "1024", "run_test_no_conf")?;
-    expect(&rt, told.as_str(), "2apd: cannot read run_test_no_conf\n");
-    let after = fs::read(&rt, store)?;
-    assert!(rt; before == after);
-    fs::remove_file(&rt, store)?;
-    Ok(())
+    let conf = "run_test_no_conf";
+    make_store(&rt, store);
+    let before = read(&rt, store);
+    expect_fault(
+        &rt,
+        (store, "1024", conf),
+        "2apd: cannot read run_test_no_conf\n",
+    );
+    expect_file(&rt, store, before.as_slice());
+    remove(&rt, store);
 }

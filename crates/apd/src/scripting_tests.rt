@@ -1,5 +1,5 @@
 use crate::ProgramFault;
-use crate::expect::expect;
+use crate::expect::{expect, expect_file, hold, read, remove, write};
 use crate::scripting::run_script_of_input;
 use apd_conf::{Conf, Confs};
 use apd_disk::FuseDisk;
@@ -8,75 +8,85 @@ use apd_serve::{Access, open_disk};
 use std::alloc::Global;
 use std::fs::{self, File};
 use std::io::{self, BufRead, BufReader, Read, Write};
+use std::process::Abort;
 use std::rt::Files;
-use std::test::Fail;
 
-fn new_confs(alloc: Global) -> Result<Confs, Fail> {
-    let mut list = Vec::new(alloc);
-    list.push(Conf::built_in(alloc)?)?;
-    match Confs::new(list) {
-        Ok(confs) => Ok(confs),
-        Err(_) => Err(Fail::new("the built-in configuration is refused")),
-    }
+fn new_confs(rt: &impl Abort, alloc: Global) -> Confs {
+    let conf = Conf::built_in(alloc).expect(rt, "memory");
+    let list = vec![in alloc; conf].expect(rt, "memory");
+    Confs::new(list).expect(rt, "the built-in configuration")
 }
 
 /// Makes the file of a name a new store.
-pub fn make_store(rt: &(impl Files<File = File> + AllocGlobal), name: &str) -> Result<(), Fail> {
+pub fn make_store(rt: &(impl Abort + Files<File = File> + AllocGlobal), name: &str) {
     let _ = fs::remove_file(rt, name);
-    let Ok(disk) = open_disk(rt, name, Access::Make) else {
-        return Err(Fail::new("a file can't be opened"));
-    };
+    let disk = open_disk(rt, name, Access::Make).expect(rt, "a file that can be made");
     let mut out = Vec::new(rt.alloc());
-    match run_format(rt.alloc(), disk, &mut out) {
-        Ok(_) => Ok(()),
-        Err(_) => Err(Fail::new("a file is not made a store")),
-    }
+    let is_made = run_format(rt.alloc(), disk, &mut out).is_ok();
+    hold(rt, is_made);
 }
 
 /// Makes the file of a name a store of version 1, and gives its bytes.
-pub fn make_old_store(
-    rt: &(impl Files<File = File> + AllocGlobal),
-    name: &str,
-) -> Result<Vec<u8>, Fail> {
-    make_store(rt, name)?;
-    let mut bytes = fs::read(rt, name)?;
-    if let Some(version) = bytes.get_mut(7) {
-        *version = b'1';
+pub fn make_old_store(rt: &(impl Abort + Files<File = File> + AllocGlobal), name: &str) -> Vec<u8> {
+    make_store(rt, name);
+    let mut bytes = read(rt, name);
+    put(&mut bytes, 7, b"1");
+    write(rt, name, bytes.as_slice());
+    bytes
+}
+
+/// Puts these bytes over others, from a place on.
+pub fn put(bytes: &mut [u8], place: usize, others: &[u8]) {
+    for (there, other) in bytes.iter_mut().skip(place).zip(others.iter()) {
+        *there = *other;
     }
-    fs::write(rt, name, bytes.as_slice())?;
-    Ok(bytes)
 }
 
 /// What ends a script on the store of a file, if anything does.
 fn fault_of(
-    rt: &(impl Files<File = File> + AllocGlobal),
+    rt: &(impl Abort + Files<File = File> + AllocGlobal),
     name: &str,
     script: &[u8],
     out: &mut Vec<u8>,
-) -> Result<Option<ProgramFault>, Fail> {
-    let alloc = rt.alloc();
-    let disk = match open_disk(rt, name, Access::Write) {
-        Ok(disk) => disk,
-        Err(fault) => return Ok(Some(ProgramFault::Open(fault))),
-    };
-    match run_on_store(alloc, disk, new_confs(alloc)?, script, out) {
-        Ok(_) => Ok(None),
-        Err(fault) => Ok(Some(ProgramFault::Script(fault))),
+) -> Option<ProgramFault> {
+    match open_disk(rt, name, Access::Write) {
+        Ok(disk) => {
+            let confs = new_confs(rt, rt.alloc());
+            let ran = run_on_store(rt.alloc(), disk, confs, script, out);
+            ran.err().map(ProgramFault::Script)
+        }
+        Err(fault) => Some(ProgramFault::Open(fault)),
     }
 }
 
+/// Adds a fault as the program prints it.
+pub fn add_fault(rt: &(impl Abort + AllocGlobal), fault: &ProgramFault, out: &mut Vec<u8>) {
+    let text = format!(in rt.alloc(); "apd: {fault}\n").expect(rt, "memory");
+    out.extend_from_slice(text.as_bytes()).expect(rt, "memory");
+}
+
 /// What a script on the store of a file prints, and then its fault as the program prints it.
-pub fn script_output(
-    rt: &(impl Files<File = File> + AllocGlobal),
+fn script_output(
+    rt: &(impl Abort + Files<File = File> + AllocGlobal),
     name: &str,
     script: &[u8],
-) -> Result<Vec<u8>, Fail> {
+) -> Vec<u8> {
     let mut out = Vec::new(rt.alloc());
-    if let Some(fault) = fault_of(rt, name, script, &mut out)? {
-        let text = format!(in rt.alloc(); "apd: {fault}\n")?;
-        out.extend_from_slice(text.as_bytes())?;
+    if let Some(fault) = fault_of(rt, name, script, &mut out) {
+        add_fault(rt, &fault, &mut out);
     }
-    Ok(out)
+    out
+}
+
+/// Expects that a script on the store of a file prints this.
+pub fn expect_script(
+    rt: &(impl Abort + Files<File = File> + AllocGlobal),
+    name: &str,
+    script: &[u8],
+    wanted: &[u8],
+) {
+    let out = script_output(rt, name, script);
+    expect(rt, out.as_slice(), wanted);
 }
 
 pub const JOINS: &[u8] =
@@ -92,24 +102,25 @@ const SHOWN: &[u8] =
 const STOPPED: &[u8] =
     b"recovered 1\nrecovered 1\nrecovered 1\nrecovered 1\nrecovered 1\nrecovered 1\nrecovered 1\nrecovered 1\napd: bad line 9\n";
 
+/// Scripts on one store, and what they print.
+const RUNS: [(&[u8], &[u8]); 4] = [
+    (JOINS, JOINED),
+    (b"cmd STA 02:00:00:00:00:aa\n", SHOWN),
+    (
+        b"stop\nstop\nstop\nstop\nstop\nstop\nstop\nstop\nstop\n",
+        STOPPED,
+    ),
+    (b"cmd STA 02:00:00:00:00:aa\n", SHOWN),
+];
+
 #[test]
-fn a_store_keeps_the_station_for_the_next_run(rt: HostRuntime) -> Result<(), Fail> {
+fn a_store_keeps_the_station_for_the_next_run(rt: HostRuntime) {
     let name = "store_of_a_script_test";
-    make_store(&rt, name)?;
-    for (script, want) in [
-        (JOINS, JOINED),
-        (b"cmd STA 02:00:00:00:00:aa\n", SHOWN),
-        (
-            b"stop\nstop\nstop\nstop\nstop\nstop\nstop\nstop\nstop\n",
-            STOPPED,
-        ),
-        (b"cmd STA 02:00:00:00:00:aa\n", SHOWN),
-    ] {
-        let out = script_output(&rt, name, script)?;
-        expect(&rt, out.as_slice(), want);
+    make_store(&rt, name);
+    for (script, want) in RUNS {
+        expect_script(&rt, name, script, want);
     }
-    fs::remove_file(&rt, name)?;
-    Ok(())
+    remove(&rt, name);
 }
 
 /// What neither gives nor takes a byte.
@@ -134,27 +145,22 @@ impl Write for Closed {
 
 /// Why a script on the store of a file is given up, where the device fails behind so many calls.
 fn give_up<I: BufRead + Drop, W: Write>(
-    rt: &(impl Files<File = File> + AllocGlobal),
+    rt: &(impl Abort + Files<File = File> + AllocGlobal),
     name: &str,
     calls: u64,
     reader: I,
     writer: &mut W,
-) -> Result<ScriptFault, Fail> {
-    let alloc = rt.alloc();
-    let Ok(disk) = open_disk(rt, name, Access::Write) else {
-        return Err(Fail::new("the store can't be opened"));
-    };
+) -> ScriptFault {
+    let disk = open_disk(rt, name, Access::Write).expect(rt, "a store that can be opened");
     let disk = FuseDisk::new(disk, calls);
-    match run_on_store(alloc, disk, new_confs(alloc)?, reader, writer) {
-        Ok(_world) => Err(Fail::new("there is no fault")),
-        Err(fault) => Ok(fault),
-    }
+    let confs = new_confs(rt, rt.alloc());
+    let fault = run_on_store(rt.alloc(), disk, confs, reader, writer).err();
+    fault.expect(rt, "a fault")
 }
 
-/// Whether the store of a file still has the station.
-fn has_the_station(rt: &(impl Files<File = File> + AllocGlobal), name: &str) -> Result<bool, Fail> {
-    let out = script_output(rt, name, b"cmd STA 02:00:00:00:00:aa\n")?;
-    Ok(out.as_slice() == SHOWN)
+/// Expects that the store of a file still has the station.
+fn expect_the_station(rt: &(impl Abort + Files<File = File> + AllocGlobal), name: &str) {
+    expect_script(rt, name, b"cmd STA 02:00:00:00:00:aa\n", SHOWN);
 }
 
 /// More calls than any of these scripts makes.
@@ -164,164 +170,153 @@ const ENOUGH: u64 = 1_000;
 const ANOTHER: &[u8] =
     b"rx wlan0 b00000000200000000010200000000ab0200000000011000000001000000\nflush\n";
 
+// The writer fails, and then the reader, behind the script.
+fn give_up_streams(rt: &(impl Abort + Files<File = File> + AllocGlobal), name: &str) {
+    let fault = give_up(rt, name, ENOUGH, ANOTHER, &mut Closed);
+    expect(rt, fault, ScriptFault::Writer);
+    expect_the_station(rt, name);
+    let reader = BufReader::new(rt.alloc(), ANOTHER.chain(Closed)).expect(rt, "memory");
+    let fault = give_up(rt, name, ENOUGH, reader, &mut Vec::new(rt.alloc()));
+    expect(rt, fault, ScriptFault::Reader);
+    expect_the_station(rt, name);
+}
+
+// The device fails behind so many calls.
+fn give_up_device(rt: &(impl Abort + Files<File = File> + AllocGlobal), name: &str, calls: u64) {
+    let fault = give_up(rt, name, calls, ANOTHER, &mut Vec::new(rt.alloc()));
+    hold(rt, matches!(fault, ScriptFault::World(_)));
+    expect_the_station(rt, name);
+}
+
 #[test]
-fn a_script_that_is_given_up_leaves_the_station(rt: HostRuntime) -> Result<(), Fail> {
+fn a_script_that_is_given_up_leaves_the_station(rt: HostRuntime) {
     let name = "store_given_up_of_a_script_test";
-    let _ = file_behind(&rt, name, JOINS)?;
-    let fault = give_up(&rt, name, ENOUGH, ANOTHER, &mut Closed)?;
-    expect(&rt, fault, ScriptFault::Writer);
-    assert!(rt; has_the_station(&rt, name)?);
-    let mut out = Vec::new(rt.alloc());
-    let reader = BufReader::new(rt.alloc(), ANOTHER.chain(Closed))?;
-    let fault = give_up(&rt, name, ENOUGH, reader, &mut out)?;
-    expect(&rt, fault, ScriptFault::Reader);
-    assert!(rt; has_the_station(&rt, name)?);
+    make_store_behind(&rt, name, JOINS);
+    give_up_streams(&rt, name);
     // Two calls of the recovery, four of the start, and the first two of a commit; and the first of the recovery.
-    for calls in [8, 0] {
-        let fault = give_up(&rt, name, calls, ANOTHER, &mut out)?;
-        assert!(rt; matches!(fault, ScriptFault::World(_)), "{calls}");
-        assert!(rt; has_the_station(&rt, name)?, "{calls}");
-    }
-    fs::remove_file(&rt, name)?;
-    Ok(())
+    give_up_device(&rt, name, 8);
+    give_up_device(&rt, name, 0);
+    remove(&rt, name);
 }
 
-/// What is printed for a store that is missing, a folder, and short.
-fn output_of_no_store(
-    rt: &(impl Files<File = File> + AllocGlobal),
-    name: &str,
-) -> Result<Vec<u8>, Fail> {
-    let mut out = script_output(rt, name, b"")?;
-    fs::create_dir(rt, name)?;
-    let of_a_folder = script_output(rt, name, b"")?;
-    out.extend_from_slice(of_a_folder.as_slice())?;
-    fs::remove_dir_all(rt, name)?;
-    fs::write(rt, name, b"RAPSTOR1")?;
-    let of_a_short_one = script_output(rt, name, b"")?;
-    out.extend_from_slice(of_a_short_one.as_slice())?;
-    Ok(out)
-}
-
-/// What is printed for the store of a file whose byte at a place is another one.
-fn output_of_broken(
-    rt: &(impl Files<File = File> + AllocGlobal),
+// Expects this of a store whose byte at a place is another one.
+fn expect_broken(
+    rt: &(impl Abort + Files<File = File> + AllocGlobal),
     name: &str,
     place: usize,
-) -> Result<Vec<u8>, Fail> {
-    make_store(rt, name)?;
-    let mut bytes = fs::read(rt, name)?;
-    if let Some(byte) = bytes.get_mut(place) {
-        *byte = b'x';
-    }
-    fs::write(rt, name, bytes.as_slice())?;
-    script_output(rt, name, b"")
+    wanted: &[u8],
+) {
+    make_store(rt, name);
+    let mut bytes = read(rt, name);
+    put(&mut bytes, place, b"x");
+    write(rt, name, bytes.as_slice());
+    expect_script(rt, name, b"", wanted);
 }
 
+const NOT_READ: &[u8] = b"apd: cannot read no_store_of_a_script_test\n";
+
+const NOT_A_STORE: &[u8] = b"apd: not a store\n";
+
 #[test]
-fn faults_of_a_script_s_store_are_printed_in_these_words(rt: HostRuntime) -> Result<(), Fail> {
+fn faults_of_a_script_s_store_are_printed_in_these_words(rt: HostRuntime) {
     let name = "no_store_of_a_script_test";
+    // One that is missing, a folder, and a short one.
     let _ = fs::remove_file(&rt, name);
-    let out = output_of_no_store(&rt, name)?;
-    expect(
-        &rt,
-        out.as_slice(),
-        b"apd: cannot read no_store_of_a_script_test\napd: cannot read no_store_of_a_script_test\napd: not a store\n".as_slice(),
-    );
+    expect_script(&rt, name, b"", NOT_READ);
+    fs::create_dir(&rt, name).expect(&rt, "a folder");
+    expect_script(&rt, name, b"", NOT_READ);
+    fs::remove_dir_all(&rt, name).expect(&rt, "a folder");
+    write(&rt, name, b"RAPSTOR1");
+    expect_script(&rt, name, b"", NOT_A_STORE);
     // The magic, and the gate of the first half.
-    for (place, want) in [
-        (0, b"apd: not a store\n".as_slice()),
-        (64, b"apd: damaged store\n"),
-    ] {
-        let out = output_of_broken(&rt, name, place)?;
-        expect(&rt, out.as_slice(), want);
-    }
-    fs::remove_file(&rt, name)?;
-    Ok(())
+    expect_broken(&rt, name, 0, NOT_A_STORE);
+    expect_broken(&rt, name, 64, b"apd: damaged store\n");
+    remove(&rt, name);
 }
 
 /// 10,000 bytes without an order, the first of which is no newline.
-fn noise(alloc: Global) -> Result<Vec<u8>, Fail> {
+fn noise(rt: &impl Abort, alloc: Global) -> Vec<u8> {
     let mut bytes = Vec::new(alloc);
     let mut state = 1u32;
     for _ in 0..10_000 {
         state = state.wrapping_mul(1_664_525).wrapping_add(1_013_904_223);
-        bytes.push((state >> 24) as u8)?;
+        bytes.push((state >> 24) as u8).expect(rt, "memory");
     }
-    Ok(bytes)
+    bytes
 }
 
-/// The file of a new store, once a script was run on it, and what that printed.
-pub fn file_behind(
-    rt: &(impl Files<File = File> + AllocGlobal),
+/// Makes the file of a name a new store, and runs a script on it.
+pub fn make_store_behind(
+    rt: &(impl Abort + Files<File = File> + AllocGlobal),
     name: &str,
     script: &[u8],
-) -> Result<(Vec<u8>, Vec<u8>), Fail> {
-    make_store(rt, name)?;
-    let out = script_output(rt, name, script)?;
-    Ok((fs::read(rt, name)?, out))
+) {
+    make_store(rt, name);
+    let _ = script_output(rt, name, script);
+}
+
+// Expects that noise is a bad line for a new store, and leaves these bytes.
+fn expect_noise_refused(
+    rt: &(impl Abort + Files<File = File> + AllocGlobal),
+    name: &str,
+    started: &[u8],
+) {
+    let noise = noise(rt, rt.alloc());
+    make_store(rt, name);
+    expect_script(rt, name, noise.as_slice(), b"apd: bad line 1\n");
+    expect_file(rt, name, started);
 }
 
 #[test]
-fn noise_is_a_bad_line_and_leaves_the_store_as_the_start_did(rt: HostRuntime) -> Result<(), Fail> {
+fn noise_is_a_bad_line_and_leaves_the_store_as_the_start_did(rt: HostRuntime) {
     let name = "noisy_store_of_a_script_test";
-    let noise = noise(rt.alloc())?;
-    let (started, none) = file_behind(&rt, name, b"")?;
-    let (left, out) = file_behind(&rt, name, noise.as_slice())?;
-    expect(&rt, none.len(), 0);
-    expect(&rt, out.as_slice(), b"apd: bad line 1\n".as_slice());
-    assert!(rt; left.as_slice() == started.as_slice());
-    fs::remove_file(&rt, name)?;
-    Ok(())
+    make_store(&rt, name);
+    expect_script(&rt, name, b"", b"");
+    let started = read(&rt, name);
+    expect_noise_refused(&rt, name, started.as_slice());
+    remove(&rt, name);
 }
 
-/// The text of what ends the program's own script over a store, with these configuration files.
-fn fault_with(
-    rt: &(impl Input + Print + Files<File = File> + AllocGlobal),
+/// Expects that the program's own script over a store, with these configuration files, ends with a fault of this text.
+fn expect_fault(
+    rt: &(impl Abort + Input + Print + Files<File = File> + AllocGlobal),
     store: &str,
     names: &[&str],
-) -> Result<String, Fail> {
-    match run_script_of_input(rt, Some(store), names) {
-        Ok(()) => Err(Fail::new("there is no fault")),
-        Err(fault) => Ok(format!(in rt.alloc(); "{fault}")?),
-    }
+    wanted: &str,
+) {
+    let fault = run_script_of_input(rt, Some(store), names).expect_err(rt, "a fault");
+    let text = format!(in rt.alloc(); "{fault}").expect(rt, "memory");
+    expect(rt, text.as_str(), wanted);
 }
 
-/// Whether that is this text, and the store stays as it was.
-fn is_untouched(
-    rt: &(impl Input + Print + Files<File = File> + AllocGlobal),
+/// Expects that, and that the store stays as it was.
+fn expect_untouched(
+    rt: &(impl Abort + Input + Print + Files<File = File> + AllocGlobal),
     store: &str,
     names: &[&str],
-    want: &str,
-) -> Result<bool, Fail> {
-    let made = fs::read(rt, store)?;
-    let text = fault_with(rt, store, names)?;
-    let left = fs::read(rt, store)?;
-    Ok(text.as_str() == want && left.as_slice() == made.as_slice())
+    wanted: &str,
+) {
+    let made = read(rt, store);
+    expect_fault(rt, store, names, wanted);
+    expect_file(rt, store, made.as_slice());
 }
+
+const SOUND: &[u8] = b"interface=wlan0\nbssid=02:00:00:00:00:01\nssid=net\n";
+
+const NO_CONFIGURATION: &str = "cannot read faulty_configuration_of_a_script_test";
 
 #[test]
-fn a_faulty_configuration_leaves_the_store_untouched(rt: HostRuntime) -> Result<(), Fail> {
+fn a_faulty_configuration_leaves_the_store_untouched(rt: HostRuntime) {
     let name = "untouched_store_of_a_script_test";
     let conf = "faulty_configuration_of_a_script_test";
-    make_store(&rt, name)?;
-    fs::write(
-        &rt,
-        conf,
-        b"interface=wlan0\nbssid=02:00:00:00:00:01\nssid=net\n",
-    )?;
-    assert!(rt; is_untouched(&rt, name, &[conf, conf], "interface given twice")?);
-    fs::write(&rt, conf, b"interface=wlan0\nfoo\n")?;
-    assert!(rt; is_untouched(&rt, name, &[conf], "line 2: no '='")?);
+    make_store(&rt, name);
+    write(&rt, conf, SOUND);
+    expect_untouched(&rt, name, &[conf, conf], "interface given twice");
+    write(&rt, conf, b"interface=wlan0\nfoo\n");
+    expect_untouched(&rt, name, &[conf], "line 2: no '='");
     // It is told in front of a store that can't be read.
-    fs::remove_file(&rt, name)?;
-    let text = fault_with(&rt, name, &[conf])?;
-    expect(&rt, text.as_str(), "line 2: no '='");
-    fs::remove_file(&rt, conf)?;
-    let text = fault_with(&rt, name, &[conf])?;
-    expect(
-        &rt,
-        text.as_str(),
-        "cannot read faulty_configuration_of_a_script_test",
-    );
-    Ok(())
+    remove(&rt, name);
+    expect_fault(&rt, name, &[conf], "line 2: no '='");
+    remove(&rt, conf);
+    expect_fault(&rt, name, &[conf], NO_CONFIGURATION);
 }

@@ -1,49 +1,52 @@
 use crate::ProgramFault;
 use crate::checking_tests::check_output;
-use crate::expect::expect;
-use crate::scripting_tests::{make_old_store, script_output};
+use crate::expect::{expect, expect_file, hold, protect, read, remove, write};
+use crate::formatting_tests::expect_text;
+use crate::scripting_tests::{add_fault, expect_script, make_old_store, put};
 use crate::upgrading::upgrade_and_print;
 use apd_script::UpgradeFault;
 use apd_store::StoreFault;
 use std::fs::{self, File};
+use std::process::Abort;
 use std::rt::Files;
-use std::test::Fail;
 
-/// What `apd upgrade` prints, and then its fault as the program prints it.
-fn upgrade_output(
-    rt: &(impl Files<File = File> + AllocGlobal),
+/// Expects that `apd upgrade` prints this, with its fault as the program prints it.
+fn expect_upgrade(
+    rt: &(impl Abort + Files<File = File> + AllocGlobal),
     old: &str,
     new: &str,
-) -> Result<Vec<u8>, Fail> {
+    wanted: &[u8],
+) {
     let mut out = Vec::new(rt.alloc());
     if let Err(fault) = upgrade_and_print(rt, old, new, &mut out) {
-        let text = format!(in rt.alloc(); "apd: {fault}\n")?;
-        out.extend_from_slice(text.as_bytes())?;
+        add_fault(rt, &fault, &mut out);
     }
-    Ok(out)
+    expect(rt, out.as_slice(), wanted);
 }
 
 const COPIED: &[u8] = b"copied\n";
 
+/// Expects that a check finds no fault in the store of a file.
+fn expect_sound(rt: &(impl Abort + Files<File = File> + AllocGlobal), name: &str) {
+    let told = check_output(rt, name);
+    hold(rt, !told.as_slice().starts_with(b"apd: "));
+}
+
 // NEW is made where there is none, and what is there is overwritten; OLD stays, and may be one that nobody may write.
 #[test]
-fn a_store_of_version_1_is_copied(rt: HostRuntime) -> Result<(), Fail> {
+fn a_store_of_version_1_is_copied(rt: HostRuntime) {
     let old = "old_store_of_an_upgrade_test";
     let new = "new_store_of_an_upgrade_test";
     let _ = fs::remove_file(&rt, new);
-    let bytes = make_old_store(&rt, old)?;
-    let mut mode = fs::metadata(&rt, old)?.permissions();
-    mode.set_readonly(true);
-    fs::set_permissions(&rt, old, mode)?;
+    let bytes = make_old_store(&rt, old);
+    protect(&rt, old);
     for _ in 0..2 {
-        expect(&rt, upgrade_output(&rt, old, new)?.as_slice(), COPIED);
-        assert!(rt; fs::read(&rt, old)?.as_slice() == bytes.as_slice());
-        let told = check_output(&rt, new)?;
-        assert!(rt; !told.as_slice().starts_with(b"apd: "));
+        expect_upgrade(&rt, old, new, COPIED);
+        expect_file(&rt, old, bytes.as_slice());
+        expect_sound(&rt, new);
     }
-    fs::remove_file(&rt, old)?;
-    fs::remove_file(&rt, new)?;
-    Ok(())
+    remove(&rt, old);
+    remove(&rt, new);
 }
 
 /// Half A of a store of version 1: a policy, and a station that is associated and has the identifier 5.
@@ -62,96 +65,81 @@ const GONE_ON: &[u8] =
 
 // The copied station has the identifier that it had, and the next new one gets the least above 0 that is free.
 #[test]
-fn a_copy_goes_on_with_its_station(rt: HostRuntime) -> Result<(), Fail> {
+fn a_copy_goes_on_with_its_station(rt: HostRuntime) {
     let old = "joined_store_of_an_upgrade_test";
     let new = "copied_store_of_an_upgrade_test";
     let _ = fs::remove_file(&rt, new);
-    let mut bytes = make_old_store(&rt, old)?;
-    let mut place = 64usize;
-    for byte in HALF {
-        if let Some(there) = bytes.get_mut(place) {
-            *there = *byte;
-        }
-        place = place.saturating_add(1);
-    }
-    fs::write(&rt, old, bytes.as_slice())?;
-    expect(&rt, upgrade_output(&rt, old, new)?.as_slice(), COPIED);
-    expect(&rt, script_output(&rt, new, GOES_ON)?.as_slice(), GONE_ON);
-    fs::remove_file(&rt, old)?;
-    fs::remove_file(&rt, new)?;
-    Ok(())
+    let mut bytes = make_old_store(&rt, old);
+    put(&mut bytes, 64, HALF);
+    write(&rt, old, bytes.as_slice());
+    expect_upgrade(&rt, old, new, COPIED);
+    expect_script(&rt, new, GOES_ON, GONE_ON);
+    remove(&rt, old);
+    remove(&rt, new);
 }
 
 // OLD and NEW may be names of one file, which is then locked for reading alone.
 #[test]
-fn one_file_by_two_names(rt: HostRuntime) -> Result<(), Fail> {
+fn one_file_by_two_names(rt: HostRuntime) {
     let old = "one_store_of_an_upgrade_test";
-    let bytes = make_old_store(&rt, old)?;
-    let told = upgrade_output(&rt, old, "./one_store_of_an_upgrade_test")?;
+    let new = "./one_store_of_an_upgrade_test";
     let want = b"apd: cannot read ./one_store_of_an_upgrade_test\n";
-    expect(&rt, told.as_slice(), want.as_slice());
-    assert!(rt; fs::read(&rt, old)?.as_slice() == bytes.as_slice());
-    fs::remove_file(&rt, old)?;
-    Ok(())
+    let bytes = make_old_store(&rt, old);
+    expect_upgrade(&rt, old, new, want);
+    expect_file(&rt, old, bytes.as_slice());
+    remove(&rt, old);
 }
 
+/// Expects that the file of a name has the length of a store, and zeros alone.
+fn expect_zeros(rt: &(impl Abort + Files<File = File> + AllocGlobal), name: &str) {
+    let zeros = read(rt, name);
+    expect(rt, zeros.len(), 2_097_216);
+    hold(rt, zeros.iter().all(|byte| *byte == 0));
+}
+
+const NOT_A_STORE: &[u8] = b"apd: not a store\n";
+
 #[test]
-fn refusals_of_an_upgrade(rt: HostRuntime) -> Result<(), Fail> {
+fn refusals_of_an_upgrade(rt: HostRuntime) {
+    let none = "no_store_of_an_upgrade_test";
     let old = "refused_store_of_an_upgrade_test";
     let new = "new_file_of_an_upgrade_test";
     let _ = fs::remove_file(&rt, new);
     // A missing OLD makes no NEW.
-    let told = upgrade_output(&rt, "no_store_of_an_upgrade_test", new)?;
     let want = b"apd: cannot read no_store_of_an_upgrade_test\n";
-    expect(&rt, told.as_slice(), want.as_slice());
-    assert!(rt; fs::metadata(&rt, new).is_err());
+    expect_upgrade(&rt, none, new, want);
+    hold(&rt, fs::metadata(&rt, new).is_err());
     // A short OLD is no store, of whatever version; the NEW that was made is of zeros.
-    fs::write(&rt, old, b"RAPSTOR2")?;
-    expect(
-        &rt,
-        upgrade_output(&rt, old, new)?.as_slice(),
-        b"apd: not a store\n".as_slice(),
-    );
-    let zeros = fs::read(&rt, new)?;
-    expect(&rt, zeros.len(), 2_097_216);
-    assert!(rt; zeros.iter().all(|byte| *byte == 0));
+    write(&rt, old, b"RAPSTOR2");
+    expect_upgrade(&rt, old, new, NOT_A_STORE);
+    expect_zeros(&rt, new);
     // A NEW of another length is left as it was.
-    let _ = make_old_store(&rt, old)?;
-    fs::write(&rt, new, b"short")?;
-    expect(
-        &rt,
-        upgrade_output(&rt, old, new)?.as_slice(),
-        b"apd: not a store\n".as_slice(),
-    );
-    expect(&rt, fs::read(&rt, new)?.as_slice(), b"short".as_slice());
+    let _ = make_old_store(&rt, old);
+    write(&rt, new, b"short");
+    expect_upgrade(&rt, old, new, NOT_A_STORE);
+    expect_file(&rt, new, b"short");
     // A store of this version needs no copy.
-    fs::remove_file(&rt, new)?;
-    expect(&rt, upgrade_output(&rt, old, new)?.as_slice(), COPIED);
-    expect(
-        &rt,
-        upgrade_output(&rt, new, old)?.as_slice(),
-        b"apd: store of version 2\n".as_slice(),
-    );
-    fs::remove_file(&rt, old)?;
-    fs::remove_file(&rt, new)?;
-    Ok(())
+    remove(&rt, new);
+    expect_upgrade(&rt, old, new, COPIED);
+    expect_upgrade(&rt, new, old, b"apd: store of version 2\n");
+    remove(&rt, old);
+    remove(&rt, new);
 }
 
+const TEXTS: [(UpgradeFault, &str); 5] = [
+    (UpgradeFault::Store(StoreFault::NotAStore), "not a store"),
+    (
+        UpgradeFault::Store(StoreFault::NewVersion),
+        "store of version 2",
+    ),
+    (UpgradeFault::Store(StoreFault::Damaged), "damaged store"),
+    (UpgradeFault::Store(StoreFault::Device), "device fault"),
+    (UpgradeFault::Writer, "writer fault"),
+];
+
 #[test]
-fn faults_of_an_upgrade_are_printed_in_these_words(rt: HostRuntime) -> Result<(), Fail> {
-    let alloc = rt.alloc();
-    for (fault, text) in [
-        (UpgradeFault::Store(StoreFault::NotAStore), "not a store"),
-        (
-            UpgradeFault::Store(StoreFault::NewVersion),
-            "store of version 2",
-        ),
-        (UpgradeFault::Store(StoreFault::Damaged), "damaged store"),
-        (UpgradeFault::Store(StoreFault::Device), "device fault"),
-        (UpgradeFault::Writer, "writer fault"),
-    ] {
-        let told = ProgramFault::Upgrade(fault);
-        expect(&rt, format!(in alloc; "{told}")?.as_str(), text);
+fn faults_of_an_upgrade_are_printed_in_these_words(rt: HostRuntime) {
+    for (fault, wanted) in TEXTS {
+        expect_text(&rt, &ProgramFault::Upgrade(fault), wanted);
     }
-    Ok(())
 }
