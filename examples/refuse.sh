@@ -4,7 +4,8 @@
 # on as with ample memory, to the byte. But a recovery that is made again calls its device anew, and so do a restart and
 # an upgrade; a start that is made again configures anew: what is wanted of each is below, and each must be met. Where a
 # device in memory met it, that is a device fault, at which the session ends: its device must then have served the calls
-# up to there and a recovery's alone, and show the table before or after the commit that was under way.
+# up to there and a recovery's alone, and show the table before or after the commit that was under way; and slots that a
+# restart hands back are as they were. A check that fails keeps its device, of which nothing is seen.
 # Use: examples/refuse.sh [SESSION..], from anywhere; it needs a C compiler. It ends with status 1 at the first run
 # that shows anything else, and prints for each session how many allocations there are, and who met them; with status 1
 # too where these aren't as many as it has below. SESSIONS is the program, else it is proved and built first.
@@ -20,22 +21,27 @@ cp "$crate"/data/* "$folder"
 cd "$folder"
 
 # Whether what was found is what is wanted. A line "again: .." is taken out; without one the library made up for what
-# it was refused, as where it collects and had asked for room beforehand. Behind a device fault must stand the last
-# table before it, or the next one that was wanted; and the first calls that were wanted of the device, and the
-# recovery's. Where steps tell of calls, those are as many as they told of, behind the recovery that the session begins
-# with, and none is behind it where they told of none.
+# it was refused, as where it collects and had asked for room beforehand. Behind a device fault must stand the slots or
+# the calls of an old device that are handed back there; the last table before it, or the next one that was wanted; and
+# the first calls that were wanted of the device, and the recovery's. Where steps tell of calls, those are as many as
+# they told of, behind the recovery that the session begins with, and none is behind it where they told of none.
 compare() {
     awk '
         function bad(why) { print why; failed = 1; exit 1 }
         function is_state(line) { return line ~ /^table: / || line == "no store" }
-        NR == FNR { wanted[++all] = $0 }
-        NR == FNR && $0 == "left:" { end = all }
-        NR == FNR && end && !read && $0 == "Read(0, 2097216)" { read = all - end - 1 }
-        NR == FNR { next }
+        file == 1 {
+            wanted[++all] = $0
+            if ($0 == "old:") old = all
+            if ($0 == "left:") end = all
+            if (end && !read && $0 == "Read(0, 2097216)") read = all - end - 1
+            next
+        }
+        file == 2 { slots[++slot_lines] = $0; next }
         /^changed: / { bad($0) }
         /^again: / { again++; next }
         $0 == "device fault" { device++; next }
         device && $0 == "left:" { behind = 1; next }
+        device && !behind { handed[++handed_lines] = $0; next }
         behind == 1 { left = $0; behind = 2; next }
         behind { calls[++count] = $0; next }
         { if ($0 != wanted[++line]) bad("line " line ": " $0) }
@@ -43,15 +49,26 @@ compare() {
             if (failed) exit 1
             if (device + again > 1) bad("told " device + again " times")
             if (!device && line != all) bad("ended at line " line)
-            if (!device || !end) exit 0
+            if (!device) exit 0
+            if (!behind && (wanted[1] != "= check" || line > 1 || handed_lines)) bad("no device is left")
+            if (!behind) exit 0
             for (i = 1; i <= line; i++) if (is_state(wanted[i])) before = wanted[i]
             for (i = all; i > line; i--) if (is_state(wanted[i])) after = wanted[i]
             if (left != before && left != after) bad("left " left)
+            served = count - 2
             for (i = 1; i <= all; i++) if (wanted[i] == "Called(Ok(()))") { steps++; if (i <= line) told++ }
-            if (steps && (told ? count - 2 != read + told : count - 2 > read)) bad("served " count - 2 " calls")
+            if (steps && (told ? served != read + told : served > read)) bad("served " served " calls")
             if (calls[count - 1] != "Sync" || calls[count] != "Read(0, 2097216)") bad("not recovered")
-            for (i = 1; i < count - 1; i++) if (calls[i] != wanted[end + 1 + i]) bad("call " i ": " calls[i])
-        }' "$1" found
+            for (i = 1; i <= served; i++) if (calls[i] != wanted[end + 1 + i]) bad("call " i ": " calls[i])
+            if (old > line) {
+                if (served > 0 ? handed_lines != end - old : handed_lines < 1) bad("old device: " handed_lines)
+                for (i = 1; i <= handed_lines; i++) if (handed[i] != wanted[old - 1 + i]) bad("old: " handed[i])
+            } else {
+                if (handed_lines != (before !~ /^table: / && served >= read - 2 ? slot_lines : 0))
+                    bad("handed back: " handed_lines " lines")
+                for (i = 1; i <= handed_lines; i++) if (handed[i] != slots[i]) bad("handed back: " handed[i])
+            }
+        }' file=1 "$1" file=2 handed file=3 found
 }
 
 # What is wanted where the first recovery of a device, or the last, was made again. The other was given up behind its
@@ -63,58 +80,100 @@ print_recovered() {
         { print }' wanted wanted
 }
 
-# A slot that came back: the number of its radio, and whether it is up. It has no station, and no out waits there.
+# A slot that came back: the number of its radio, whether it is up, and the identifiers that it wants, and its radio
+# has, of two stations. No out waits there.
 print_slot() {
-    printf 'slot: Bssid(Addr([2, 0, 0, 0, 0, %d])) up %s installed None waiting 0\n' "$1" "$2"
+    printf 'slot: Bssid(Addr([2, 0, 0, 0, 0, %d])) up %s waiting 0\n' "$1" "$2"
+    printf 'Addr([2, 0, 0, 0, 0, %d]) wanted %s installed %s\n' 170 "$3" "$3" 187 "$4" "$4"
 }
 
-# What is read, with the slots that came back before the first table.
+# What is read, with these slots, which came back, before the first table.
 print_with_slots() {
     awk '
         NR == FNR { slots = slots $0 "\n"; next }
         /^table: / && !told++ { printf "%s", slots }
-        { print }' slots -
+        { print }' "$1" -
 }
 
 # What is wanted where a restart of these radios was made again. The slots come back as they were.
 print_restarts() {
-    for radio in "$@"; do print_slot "$radio" true; done >slots
-    print_recovered first sync | print_with_slots >restart.1
-    print_recovered first read | print_with_slots >restart.2
+    for radio in "$@"; do print_slot "$radio" true None None; done >handed
+    print_recovered first sync | print_with_slots handed >restart.1
+    print_recovered first read | print_with_slots handed >restart.2
 }
 
-# The same where the first slot lacked memory for its station. The second one needs none.
-print_restart_down() {
-    { print_slot 1 false; print_slot 2 true; } >slots
-    print_recovered first read | print_with_slots >restart.3
+# The same where the first slot lacked memory for its station, and where the second one did.
+print_restarts_down() {
+    { print_slot 1 false None None; print_slot 2 true None None; } >slots
+    print_recovered first read | print_with_slots slots >restart.3
+    { print_slot 1 true "Some(1)" None; print_slot 2 false None None; } >slots
+    print_recovered first read | print_with_slots slots >restart.4
+}
+
+# How many bytes these records have.
+length_of() {
+    echo $(($(printf %s "$1" | tr -dc , | wc -c) + 1))
 }
 
 # The calls of a commit of these records, behind the closed gate at this place.
 print_commit() {
-    length=$(($(printf %s "$2" | tr -dc , | wc -c) + 1))
-    printf 'Write(%d, Sequence { items: [%d, 0, 0, 0, %s, 0] })\nSync\n' $(($1 + 1)) "$length" "$2"
+    printf 'Write(%d, Sequence { items: [%d, 0, 0, 0, %s, 0] })\nSync\n' $(($1 + 1)) "$(length_of "$2")" "$2"
     printf 'Write(%d, Sequence { items: [1] })\nSync\n' "$1"
 }
 
-# What is wanted with the calls that are read between the recoveries.
-print_between() {
-    awk '{ print } /^Read\(0, 2097216\)$/ { exit }' wanted
-    cat
-    printf 'Sync\nRead(0, 2097216)\n'
+# What is wanted with the table that a start left that was refused, behind the first one; it is this one of those that
+# are wanted. What is read are the calls between the recoveries.
+print_started() {
+    awk -v which="$1" '
+        NR == FNR { if (/^table: /) { tables[++count] = $0 } next }
+        FNR == 1 { file++ }
+        file == 1 { calls = calls $0 "\n"; next }
+        is_behind { next }
+        { print }
+        /^table: / && !told++ { print tables[which] }
+        /^Read\(0, 2097216\)$/ { printf "%sSync\nRead(0, 2097216)\n", calls; is_behind = 1 }' wanted - wanted
 }
 
-# What is wanted of a restart whose start was made again. A start sets both policies, and drops the station that the
-# second denies. The first may have come to nothing; to its first policy; to all of it, uncommitted; or to all of it, in
-# a batch of its own. The second hands out the station's frame in each case, and tells so: behind that no memory is
-# taken.
+# What is wanted where a start was made again. The first may have come to nothing; to the first radio's start; to both,
+# uncommitted; or to both, in a batch of its own, which was taken, or published too. The second, made behind it, hands
+# out the same frames in each case, and tells so: behind that no memory is taken. Use: print_starts PLACE FIRST BEHIND
+# BOTH BEHIND, the place of the closed gate and the records of each.
 print_starts() {
-    first="6, 2, 0, 0, 0, 0, 1, 0, 215, 7"
-    second="6, 2, 0, 0, 0, 0, 2, 1, 215, 7"
-    start="$first, 2, 2, 0, 0, 0, 0, 2, 2, 0, 0, 0, 0, 170, $second"
-    cp wanted start.1
-    print_commit 180 "$first, $start" | print_between >start.2
-    print_commit 180 "$start, $first, $second" | print_between >start.3
-    { print_commit 180 "$start"; print_commit 218 "$first, $second"; } | print_between >start.4
+    print_commit "$1" "$4" | print_started 1 >start.1
+    print_commit "$1" "$2, $3" | print_started 1 >start.2
+    print_commit "$1" "$4, $5" | print_started 1 >start.3
+    { print_commit "$1" "$4"; print_commit $(($1 + 5 + $(length_of "$4"))) "$5"; } >commits
+    print_started 1 <commits >start.4
+    print_started 2 <commits >start.5
+}
+
+# The records of a policy: the number of its radio, its mode; of an address that is listed there, denied or not; and of
+# a station that leaves there.
+policy() {
+    echo "6, 2, 0, 0, 0, 0, $1, $2, 215, 7"
+}
+
+listed() {
+    echo "3, 2, 0, 0, 0, 0, $1, $2, 2, 0, 0, 0, 0, $3"
+}
+
+left() {
+    echo "2, 2, 0, 0, 0, 0, $1, 2, 0, 0, 0, 0, $2"
+}
+
+# On a new store both radios get their policies and lists. A second time they get their policies.
+print_new_starts() {
+    first="$(policy 1 0), $(listed 1 1 204)"
+    second="$(policy 2 1), $(listed 2 0 170), $(listed 2 0 187)"
+    print_starts 77 "$first" "$(policy 1 0), $second" "$first, $second" "$(policy 1 0), $(policy 2 1)"
+}
+
+# On a store with stations both get their policies, and the second one's stations, which it then denies, leave. The
+# first may also have come to the first of the three outs, with no memory to tell of the second one.
+print_late_starts() {
+    both="$(policy 1 0), $(left 2 170), $(left 2 187), $(policy 2 1)"
+    print_starts 209 "$(policy 1 0)" "$both" "$both" "$(policy 1 0), $(policy 2 1)"
+    awk '/: Applied\(/ && !told++ { next } { sub(/Queued\(3\)/, "Queued(0)"); print }' start.5 >start.6
 }
 
 # What is wanted where an upgrade was made again: behind the sync of the old device, and behind its read; or behind all
@@ -138,10 +197,13 @@ print_upgrades() {
 # All that is wanted of a session where a call was made again by which its device may have been called.
 print_each() {
     rm -f ./*.[0-9]
+    : >handed
     case $1 in
         stations | commands) print_restarts 1 ;;
         radios) print_restarts 1 2 ;;
-        restart) print_restarts 1 2; print_restart_down; print_starts ;;
+        start) print_restarts 1 2; print_new_starts ;;
+        restart) print_restarts 1 2; print_restarts_down; print_late_starts ;;
+        check) ;;
         upgrade) print_upgrades ;;
         *) return 0 ;;
     esac
@@ -169,12 +231,17 @@ judge() {
 print_met() {
     case $1 in
         stations) echo "recover.1 1, recover.2 6, restart.1 1, restart.2 1" ;;
-        commands) echo "recover.1 1, recover.2 11, restart.1 1, restart.2 1" ;;
+        commands) echo "recover.1 1, recover.2 14, restart.1 1, restart.2 1" ;;
         radios) echo "recover.1 1, recover.2 13, restart.1 1, restart.2 1" ;;
-        restart)
-            echo "recover.1 1, recover.2 7, restart.1 1, restart.2 31, restart.3 2," \
-                "start.1 12, start.2 10, start.3 2, start.4 6"
+        start)
+            echo "recover.1 1, recover.2 6, restart.1 1, restart.2 1, start.1 14, start.2 6, start.3 3, start.4 10," \
+                "start.5 1"
             ;;
+        restart)
+            echo "recover.1 1, recover.2 7, restart.1 1, restart.2 32, restart.3 2, restart.4 2," \
+                "start.1 12, start.2 11, start.3 2, start.4 4, start.5 2, start.6 1"
+            ;;
+        check) echo "recover.1 1, recover.2 6" ;;
         upgrade) echo "recover.1 1, recover.2 3, upgrade.1 1, upgrade.2 10, upgrade.3 1" ;;
     esac
 }
@@ -189,11 +256,12 @@ is_refused() {
 print_counts() {
     case $1 in
         stations) echo 62 13 0 ;;
-        commands) echo 135 20 2 ;;
+        commands) echo 158 24 2 ;;
         radios) echo 141 20 0 ;;
-        restart) echo 107 4 10 ;;
+        start) echo 78 8 0 ;;
+        restart) echo 112 4 10 ;;
         files) echo 22 0 0 ;;
-        check) echo 25 1 0 ;;
+        check) echo 33 1 0 ;;
         upgrade) echo 20 7 0 ;;
     esac
 }
@@ -205,7 +273,7 @@ while is_refused nothing "$((words + 1))"; do
     words=$((words + 1))
 done
 
-for session in ${*:-stations commands radios restart files check upgrade}; do
+for session in ${*:-stations commands radios start restart files check upgrade}; do
     "$program" "$session" >wanted
     awk -v head="= $session" '/^= / { is_its = $0 == head } is_its' "$crate/stdout" | cmp -s - wanted ||
         { echo "$session: with ample memory otherwise than $crate/stdout"; exit 1; }

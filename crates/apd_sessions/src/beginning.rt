@@ -135,10 +135,11 @@ fn try_again(
     try_once(rt, alloc, disk, confs, slots)
 }
 
-/// Says why a restart is refused, and what its device shows.
+/// Says why a restart is refused, what the slots have that came back, and what its device shows.
 fn say_refused(rt: &impl Print, alloc: Global, refused: Refused) -> io::Result<()> {
-    let (disk, _slots, fault) = refused;
+    let (disk, slots, fault) = refused;
     writeln!(io::writer(rt), "{fault}")?;
+    say_slots(rt, &slots)?;
     say_left(rt, alloc, disk)
 }
 

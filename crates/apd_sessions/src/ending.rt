@@ -1,7 +1,8 @@
 //! How a session ends: what its device holds, and what its slots have.
-use crate::requests::STATION;
+use crate::requests::{ANOTHER, STATION};
 use crate::saying::{say, say_again, say_refusal, say_table};
 use crate::world::{Calls, Memory};
+use apd_base::Addr;
 use apd_disk::{Call, MemDisk};
 use apd_radio::Sim;
 use apd_slot::Slot;
@@ -54,15 +55,22 @@ pub fn say_left(rt: &impl Print, alloc: Global, disk: MemDisk) -> io::Result<()>
     say_calls(rt, disk.calls())
 }
 
-/// Says of each slot whether it is up, what its radio has of the first station, and how many outs wait.
+/// Says whether a slot wants a station, and whether its radio has it: the identifiers.
+fn say_station(rt: &impl Print, slot: &Slot<Sim>, addr: Addr) -> io::Result<()> {
+    let (wanted, installed) = (slot.wanted(addr), slot.installed(addr));
+    writeln!(
+        io::writer(rt),
+        "{addr:?} wanted {wanted:?} installed {installed:?}"
+    )
+}
+
+/// Says of each slot whether it is up, how many outs wait, and what it has of two stations.
 pub fn say_slots(rt: &impl Print, slots: &[Slot<Sim>]) -> io::Result<()> {
     for slot in slots {
-        let (bssid, up) = (slot.bssid(), slot.is_up());
-        let (installed, waiting) = (slot.installed(STATION), slot.waiting_count());
-        writeln!(
-            io::writer(rt),
-            "slot: {bssid:?} up {up} installed {installed:?} waiting {waiting}"
-        )?;
+        let (bssid, up, waiting) = (slot.bssid(), slot.is_up(), slot.waiting_count());
+        writeln!(io::writer(rt), "slot: {bssid:?} up {up} waiting {waiting}")?;
+        say_station(rt, slot, STATION)?;
+        say_station(rt, slot, ANOTHER)?;
     }
     Ok(())
 }

@@ -1,6 +1,6 @@
 //! What is read of files, and what is printed of a store by a check.
 use crate::beginning::store_with_stations;
-use crate::ending::say_calls;
+use crate::ending::say_left;
 use crate::saying::{say, say_again};
 use apd_conf::{ConfigurationFault, Confs};
 use apd_disk::MemDisk;
@@ -75,7 +75,7 @@ fn check_again(
     Ok(check_disk(alloc, disk, text))
 }
 
-/// Checks a store with stations of two radios, and says which calls that takes of its device.
+/// Checks a store with stations of two radios, and says what its device shows then, and which calls it has served.
 pub fn check(rt: &impl Print, alloc: Global) -> io::Result<()> {
     let mut text = Vec::new(alloc);
     let disk = store_with_stations(rt, alloc)?;
@@ -86,7 +86,7 @@ pub fn check(rt: &impl Print, alloc: Global) -> io::Result<()> {
     match checked {
         Ok(disk) => {
             io::writer(rt).write_all(text.as_slice())?;
-            say_calls(rt, disk.calls())
+            say_left(rt, alloc, disk)
         }
         Err(fault) => writeln!(io::writer(rt), "{fault}"),
     }

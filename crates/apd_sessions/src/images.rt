@@ -3,16 +3,18 @@ use apd_base::limits::DEVICE_LENGTH;
 use apd_disk::MemDisk;
 use std::alloc::{AllocError, Global};
 
-/// The records of a policy, the identifier given last, a denied address and two stations at `02:00:00:00:00:01`, the
-/// first of them associated, and of a policy and a station that is authenticated at `02:00:00:00:00:02`.
+/// The records of two policies and of the identifiers given last; of an address that `02:00:00:00:00:01` denies; and of
+/// two stations at each BSSID. At the first one the first of them is associated, at the second one the other.
 const SNAPSHOT: &[u8] = &[
     6, 2, 0, 0, 0, 0, 1, 0, 0xd7, 7, //
     6, 2, 0, 0, 0, 0, 2, 0, 0xd7, 7, //
     7, 2, 0, 0, 0, 0, 1, 1, 0, //
+    7, 2, 0, 0, 0, 0, 2, 1, 0, //
     3, 2, 0, 0, 0, 0, 1, 1, 2, 0, 0, 0, 0, 0xcc, //
     1, 2, 0, 0, 0, 0, 1, 2, 0, 0, 0, 0, 0xaa, 2, 1, 0, 0x31, 4, 10, 0, //
     1, 2, 0, 0, 0, 0, 1, 2, 0, 0, 0, 0, 0xbb, 1, 0, 0, 0, 0, 0, 0, //
-    1, 2, 0, 0, 0, 0, 2, 2, 0, 0, 0, 0, 0xaa, 1, 0, 0, 0, 0, 0, 0,
+    1, 2, 0, 0, 0, 0, 2, 2, 0, 0, 0, 0, 0xaa, 1, 0, 0, 0, 0, 0, 0, //
+    1, 2, 0, 0, 0, 0, 2, 2, 0, 0, 0, 0, 0xbb, 2, 1, 0, 0x31, 4, 10, 0,
 ];
 
 /// The groups of a policy and of a station that authenticated and then associated, as a program of version 1 wrote them

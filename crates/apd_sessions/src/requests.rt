@@ -11,8 +11,10 @@ pub const WLAN0: Bssid = Bssid(Addr([2, 0, 0, 0, 0, 1]));
 
 pub const WLAN1: Bssid = Bssid(Addr([2, 0, 0, 0, 0, 2]));
 
-/// The first station.
+/// The first station, and another.
 pub const STATION: Addr = Addr([2, 0, 0, 0, 0, 0xaa]);
+
+pub const ANOTHER: Addr = Addr([2, 0, 0, 0, 0, 0xbb]);
 
 /// The first station asks the first radio for Open System authentication.
 pub const AUTHENTICATES: Step<'static> = Step::Accept(
@@ -44,6 +46,30 @@ pub const ANOTHER_AUTHENTICATES: Step<'static> = Step::Accept(
         WLAN0,
         &[
             0xb0, 0, 0, 0, 2, 0, 0, 0, 0, 1, 2, 0, 0, 0, 0, 0xbb, 2, 0, 0, 0, 0, 1, 0x10, 0, 0, 0,
+            1, 0, 0, 0,
+        ],
+    ),
+    Moment(0),
+);
+
+/// It asks for association too.
+pub const ANOTHER_ASSOCIATES: Step<'static> = Step::Accept(
+    Input::Received(
+        WLAN0,
+        &[
+            0, 0, 0, 0, 2, 0, 0, 0, 0, 1, 2, 0, 0, 0, 0, 0xbb, 2, 0, 0, 0, 0, 1, 0x20, 0, 0x31, 4,
+            0x0a, 0, 0, 3, 0x6e, 0x65, 0x74, 1, 4, 0x82, 0x84, 0x8b, 0x96,
+        ],
+    ),
+    Moment(0),
+);
+
+/// A third station asks the first radio for authentication.
+pub const THIRD_AUTHENTICATES: Step<'static> = Step::Accept(
+    Input::Received(
+        WLAN0,
+        &[
+            0xb0, 0, 0, 0, 2, 0, 0, 0, 0, 1, 2, 0, 0, 0, 0, 0xcc, 2, 0, 0, 0, 0, 1, 0x10, 0, 0, 0,
             1, 0, 0, 0,
         ],
     ),

@@ -3,13 +3,14 @@ use crate::beginning::{begin, new_confs, new_store, store_with_stations};
 use crate::ending::end;
 use crate::filed::{check, files, read};
 use crate::requests::{
-    ANOTHER_AUTHENTICATES, ASSOCIATES, ASSOCIATES_ELSEWHERE, AUTHENTICATES,
-    AUTHENTICATES_ELSEWHERE, command, start_of,
+    ANOTHER_ASSOCIATES, ANOTHER_AUTHENTICATES, ASSOCIATES, ASSOCIATES_ELSEWHERE, AUTHENTICATES,
+    AUTHENTICATES_ELSEWHERE, THIRD_AUTHENTICATES, command, start_of,
 };
 use crate::saying::{say, say_table};
 use crate::upgrading::upgrade;
 use crate::world::{Calls, Memory, serve, start};
 use apd_conf::Confs;
+use apd_disk::MemDisk;
 use apd_world::Step;
 use std::alloc::Global;
 use std::fs::File;
@@ -29,8 +30,14 @@ enum Session {
 /// A station authenticates and associates.
 const STATIONS: [Step<'static>; 2] = [AUTHENTICATES, ASSOCIATES];
 
-/// So does one station; another authenticates.
-const BEFORE_COMMANDS: [Step<'static>; 3] = [AUTHENTICATES, ASSOCIATES, ANOTHER_AUTHENTICATES];
+/// So do two stations; a third one authenticates.
+const BEFORE_COMMANDS: [Step<'static>; 5] = [
+    AUTHENTICATES,
+    ASSOCIATES,
+    ANOTHER_AUTHENTICATES,
+    ANOTHER_ASSOCIATES,
+    THIRD_AUTHENTICATES,
+];
 
 /// A station comes to the first radio, and then to the second.
 const RADIOS: [Step<'static>; 4] = [
@@ -40,7 +47,7 @@ const RADIOS: [Step<'static>; 4] = [
     ASSOCIATES_ELSEWHERE,
 ];
 
-/// The first station is denied, all are sent away, and the lists are shown.
+/// The first station is denied, the lists are shown, and the two that are left are sent away.
 const COMMANDS: &[&[u8]] = &[
     b"STA-FIRST",
     b"DENY_ACL ADD_MAC 02:00:00:00:00:aa",
@@ -125,19 +132,35 @@ fn of_two_radios<R: Print + Files<File = File> + AllocGlobal>(rt: &R) -> io::Res
     }
 }
 
-/// A store with stations at both radios is begun anew, and started by one call.
-fn restart<R: Print + Files<File = File> + AllocGlobal>(rt: &R) -> io::Result<()> {
-    let Some(confs) = read(rt)? else {
-        return Ok(());
-    };
-    let disk = store_with_stations(rt, rt.alloc())?;
-    let Some(mut world) = begin(rt, rt.alloc(), disk, &confs)? else {
+/// The world of the store that a device holds is started by one call.
+fn start_on(rt: &impl Print, alloc: Global, disk: MemDisk, confs: &Confs) -> io::Result<()> {
+    let Some(mut world) = begin(rt, alloc, disk, confs)? else {
         return Ok(());
     };
     let mut calls = NONE;
     say_table(rt, world.table())?;
     start(rt, &mut world, &mut calls)?;
-    end(rt, rt.alloc(), world, calls)
+    end(rt, alloc, world, calls)
+}
+
+/// Two radios with lists start on a new store.
+fn start_new<R: Print + Files<File = File> + AllocGlobal>(rt: &R) -> io::Result<()> {
+    let Some(confs) = read(rt)? else {
+        return Ok(());
+    };
+    match new_store(rt, rt.alloc())? {
+        Some(disk) => start_on(rt, rt.alloc(), disk, &confs),
+        None => Ok(()),
+    }
+}
+
+/// They start on a store with stations of both.
+fn restart<R: Print + Files<File = File> + AllocGlobal>(rt: &R) -> io::Result<()> {
+    let Some(confs) = read(rt)? else {
+        return Ok(());
+    };
+    let disk = store_with_stations(rt, rt.alloc())?;
+    start_on(rt, rt.alloc(), disk, &confs)
 }
 
 /// Runs the session of this name.
@@ -150,6 +173,7 @@ pub fn run_session<R: Print + Files<File = File> + AllocGlobal>(
         "stations" => of_one_radio(rt, rt.alloc(), Session::Stations),
         "commands" => of_one_radio(rt, rt.alloc(), Session::Commands),
         "radios" => of_two_radios(rt),
+        "start" => start_new(rt),
         "restart" => restart(rt),
         "files" => files(rt),
         "check" => check(rt, rt.alloc()),

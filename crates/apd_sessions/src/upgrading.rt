@@ -64,8 +64,8 @@ fn say_write(rt: &impl Print, device: &MemDisk) -> io::Result<()> {
     Ok(())
 }
 
-/// Copies a store of version 1, and says which calls that takes of it. What the new device shows is then said, and the
-/// calls that it has served, also where a call of a device failed.
+/// Copies a store of version 1, and says which calls that takes of it, what the new device shows, and which calls that
+/// has served, also where a call of a device failed.
 pub fn upgrade(rt: &impl Print, alloc: Global) -> io::Result<()> {
     let old = old_store(rt, alloc)?;
     let new = blank_device(rt, alloc)?;
@@ -74,11 +74,11 @@ pub fn upgrade(rt: &impl Print, alloc: Global) -> io::Result<()> {
     let first = copy_store(alloc, old, new, &mut text);
     let (old, new, fault) = copy_store_again(rt, alloc, &mut text, first)?;
     say_write(rt, &old)?;
-    if let Some(fault) = fault {
-        writeln!(io::writer(rt), "{fault}")?;
-    } else {
-        io::writer(rt).write_all(text.as_slice())?;
-        say_calls(rt, old.calls())?;
+    match fault {
+        Some(fault) => writeln!(io::writer(rt), "{fault}")?,
+        None => io::writer(rt).write_all(text.as_slice())?,
     }
+    say(rt, "old:")?;
+    say_calls(rt, old.calls())?;
     say_left(rt, alloc, new)
 }

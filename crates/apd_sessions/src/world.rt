@@ -23,7 +23,7 @@ pub struct Calls {
 /// What a start answers: what its last steps told, each with its recipient; or why it is refused.
 type Started = Result<Vec<(Recipient, Told)>, WorldFault>;
 
-/// What can be seen of a world without memory: its table, and which slots are up.
+/// What can be seen of a world that goes on: its table, and which slots are up. What its slots have is said at the end.
 type Look = (usize, usize, u64, bool, bool);
 
 fn look(world: &Memory) -> Look {
@@ -139,12 +139,13 @@ fn start_world(world: &mut Memory) -> Started {
     world.start()
 }
 
-/// What a start answers, made once more where it lacked memory. What was settled before it was refused stands, so that
-/// what can be seen may have changed by then.
+/// What a start answers, made once more where it lacked memory. What was settled before it was refused stands, and is
+/// said.
 fn start_or_retry(rt: &impl Print, world: &mut Memory) -> io::Result<Started> {
     match start_world(world) {
         Err(fault) if is_short(fault) => {
             say_again(rt, "start")?;
+            say_table(rt, world.table())?;
             Ok(start_world(world))
         }
         started => Ok(started),
