@@ -3,16 +3,16 @@
 # call that met it must say so, leave what can be seen as it was, and be made once more; and then the session must go
 # on as with ample memory, to the byte. But a recovery that is made again calls its device anew, and so do a restart and
 # an upgrade; a start that is made again configures anew: what is wanted of each is below, and each must be met. Where a
-# device in memory met it, that is a device fault, at which the session ends: its device must then have served the calls
-# up to there and a recovery's alone, and show the table before or after the commit that was under way; and slots that a
-# restart hands back are as they were. A check that fails keeps its device, of which nothing is seen.
+# device in memory met it, that is a device fault, at which the session ends: its device must then have served as many
+# of the calls as are below and a recovery's alone, and show the table before or after the commit that was under way;
+# and slots that a restart hands back are as they were. A check that fails keeps its device, of which nothing is seen.
 # Use: examples/refuse.sh [SESSION..], from anywhere; it needs a C compiler. It ends with status 1 at the first run
 # that shows anything else, and prints for each session how many allocations there are, and who met them; with status 1
 # too where these aren't as many as it has below. SESSIONS is the program, else it is proved and built first.
 set -eu
 here=$(dirname "$(readlink -f "$0")")
 crate=$here/../crates/apd_sessions
-program=${SESSIONS:-$crate/out/apd_sessions}
+program=$(readlink -f "${SESSIONS:-$crate/out/apd_sessions}")
 [ -n "${SESSIONS:-}" ] || (cd "$crate" && rt run >/dev/null)
 folder=$(mktemp -d)
 trap 'rm -rf "$folder"' EXIT
@@ -24,7 +24,8 @@ cd "$folder"
 # it was refused, as where it collects and had asked for room beforehand. Behind a device fault must stand the slots or
 # the calls of an old device that are handed back there; the last table before it, or the next one that was wanted; and
 # the first calls that were wanted of the device, and the recovery's. Where steps tell of calls, those are as many as
-# they told of, behind the recovery that the session begins with, and none is behind it where they told of none.
+# they told of, behind the recovery that the session begins with, and none is behind it where they told of none. How
+# many they are is noted, with those of an old device. Only while a store is made does the device show none.
 compare() {
     awk '
         function bad(why) { print why; failed = 1; exit 1 }
@@ -54,20 +55,23 @@ compare() {
             if (!behind) exit 0
             for (i = 1; i <= line; i++) if (is_state(wanted[i])) before = wanted[i]
             for (i = all; i > line; i--) if (is_state(wanted[i])) after = wanted[i]
-            if (left != before && left != after) bad("left " left)
             served = count - 2
+            is_told = before ~ /^table: /
+            if (!is_told && served >= read - 2) before = after
+            if (left != before && left != after) bad("left " left)
             for (i = 1; i <= all; i++) if (wanted[i] == "Called(Ok(()))") { steps++; if (i <= line) told++ }
             if (steps && (told ? served != read + told : served > read)) bad("served " served " calls")
             if (calls[count - 1] != "Sync" || calls[count] != "Read(0, 2097216)") bad("not recovered")
             for (i = 1; i <= served; i++) if (calls[i] != wanted[end + 1 + i]) bad("call " i ": " calls[i])
             if (old > line) {
-                if (served > 0 ? handed_lines != end - old : handed_lines < 1) bad("old device: " handed_lines)
                 for (i = 1; i <= handed_lines; i++) if (handed[i] != wanted[old - 1 + i]) bad("old: " handed[i])
+                served = served "/" handed_lines - 1
             } else {
-                if (handed_lines != (before !~ /^table: / && served >= read - 2 ? slot_lines : 0))
+                if (handed_lines != (!is_told && served >= read - 2 ? slot_lines : 0))
                     bad("handed back: " handed_lines " lines")
                 for (i = 1; i <= handed_lines; i++) if (handed[i] != slots[i]) bad("handed back: " handed[i])
             }
+            print served >>"served"
         }' file=1 "$1" file=2 handed file=3 found
 }
 
@@ -121,14 +125,15 @@ print_commit() {
     printf 'Write(%d, Sequence { items: [1] })\nSync\n' "$1"
 }
 
-# What is wanted with the table that a start left that was refused, behind the first one; it is this one of those that
-# are wanted. What is read are the calls between the recoveries.
+# What is wanted with the table that a start left that was refused, behind the first one: this one of those that are
+# wanted; and with so many entries. What is read are the calls between the recoveries.
 print_started() {
-    awk -v which="$1" '
+    awk -v which="$1" -v entries="$2" '
         NR == FNR { if (/^table: /) { tables[++count] = $0 } next }
         FNR == 1 { file++ }
         file == 1 { calls = calls $0 "\n"; next }
         is_behind { next }
+        /^settled: / { sub(/[0-9]+/, entries) }
         { print }
         /^table: / && !told++ { print tables[which] }
         /^Read\(0, 2097216\)$/ { printf "%sSync\nRead(0, 2097216)\n", calls; is_behind = 1 }' wanted - wanted
@@ -139,12 +144,12 @@ print_started() {
 # out the same frames in each case, and tells so: behind that no memory is taken. Use: print_starts PLACE FIRST BEHIND
 # BOTH BEHIND, the place of the closed gate and the records of each.
 print_starts() {
-    print_commit "$1" "$4" | print_started 1 >start.1
-    print_commit "$1" "$2, $3" | print_started 1 >start.2
-    print_commit "$1" "$4, $5" | print_started 1 >start.3
+    print_commit "$1" "$4" | print_started 1 2 >start.1
+    print_commit "$1" "$2, $3" | print_started 1 3 >start.2
+    print_commit "$1" "$4, $5" | print_started 1 4 >start.3
     { print_commit "$1" "$4"; print_commit $(($1 + 5 + $(length_of "$4"))) "$5"; } >commits
-    print_started 1 <commits >start.4
-    print_started 2 <commits >start.5
+    print_started 1 4 <commits >start.4
+    print_started 2 4 <commits >start.5
 }
 
 # The records of a policy: the number of its radio, its mode; of an address that is listed there, denied or not; and of
@@ -246,10 +251,22 @@ print_met() {
     esac
 }
 
-# Runs a session with the allocation of this number refused; whether there is one.
+# Runs a session with the allocation of this number refused; whether there is one. What stands next to that is told by
+# the call that met it.
 is_refused() {
-    REFUSE=$2 LD_PRELOAD=$folder/refuse.so "$program" "$1" >found 2>said && status=0 || status=$?
-    [ -s said ]
+    REFUSE=$2 LD_PRELOAD=$folder/refuse.so "$program" "$1" >both 2>&1 && status=0 || status=$?
+    grep -v -x refused both >found || :
+    next=$(sed -n '/^refused$/ { n; p; q; }' both)
+    [ "$(grep -c -x refused both)" -gt 0 ]
+}
+
+# Whether a run ended well, and says that it lacked memory, or that a device failed, right where that was, or nowhere.
+is_told_at_once() {
+    [ "$status $(grep -c -x refused both)" = "0 1" ] || return 1
+    case $next in
+        "again: "* | "device fault") ;;
+        *) ! grep -q "^again: \|^device fault$" found ;;
+    esac
 }
 
 # How many allocations a session has: those met by a call that is made again, by a device, and made up for.
@@ -266,12 +283,21 @@ print_counts() {
     esac
 }
 
+# How many calls the device had served at each device fault; of an upgrade, the new one and the old one.
+print_served() {
+    case $1 in
+        stations) echo 0 2 3 4 5 8 9 11 13 15 16 17 19 ;;
+        commands) echo 0 2 3 4 5 8 9 11 13 15 16 17 19 21 23 25 27 29 31 32 33 35 37 39 ;;
+        radios) echo 0 2 3 4 5 8 9 11 13 15 16 17 19 21 23 25 27 29 31 32 ;;
+        start) echo 0 2 3 4 5 8 9 11 ;;
+        restart) echo 0 2 4 4 ;;
+        upgrade) echo 0/0 0/2 2/2 3/2 4/2 5/2 8 ;;
+    esac
+}
+
 # How many allocations come before a session: those of the command line's words.
 words=0
-while is_refused nothing "$((words + 1))"; do
-    [ "$(head -n 1 said)" = refused ] || { cat said; exit 1; }
-    words=$((words + 1))
-done
+while is_refused nothing "$((words + 1))"; do words=$((words + 1)); done
 
 for session in ${*:-stations commands radios start restart files check upgrade}; do
     "$program" "$session" >wanted
@@ -279,11 +305,12 @@ for session in ${*:-stations commands radios start restart files check upgrade};
         { echo "$session: with ample memory otherwise than $crate/stdout"; exit 1; }
     print_each "$session"
     : >met
+    : >served
     count=0
     device=0
     again=0
     while is_refused "$session" "$((words + count + 1))"; do
-        if [ "$status $(cat said)" != "0 refused" ] || ! judge; then
+        if ! is_told_at_once || ! judge; then
             echo "$session, allocation $((count + 1)): status $status, otherwise than with ample memory"
             exit 1
         fi
@@ -291,10 +318,13 @@ for session in ${*:-stations commands radios start restart files check upgrade};
         ! grep -q -x "device fault" found || device=$((device + 1))
         ! grep -q "^again: " found || again=$((again + 1))
     done
-    cmp -s wanted found || { echo "$session: another run"; exit 1; }
+    [ "$status" = 0 ] && cmp -s wanted found || { echo "$session: another run, status $status"; exit 1; }
     met=$(sort met | uniq -c | awk '{ printf "%s%s %d", separator, $2, $1; separator = ", " }')
     [ "$met" = "$(print_met "$session")" ] ||
         { echo "$session: made again as: $met, not as: $(print_met "$session")"; exit 1; }
+    served=$(paste -s -d " " served)
+    [ "$served" = "$(print_served "$session")" ] ||
+        { echo "$session: device faults behind calls: $served, not: $(print_served "$session")"; exit 1; }
     echo "$session: $count allocations: $again by calls that were made again, $device by a device," \
         "$((count - again - device)) made up for"
     [ "$again $device $((count - again - device))" = "$(print_counts "$session")" ] ||

@@ -53,7 +53,7 @@ pub fn old_store(rt: &impl Print, alloc: Global) -> io::Result<MemDisk> {
 }
 
 /// A device of a new store; none where a call of it failed, and the session has ended. A format takes no memory but
-/// that in which the device keeps its calls.
+/// that in which the device keeps its calls. What the device shows before it is said.
 pub fn new_store(rt: &impl Print, alloc: Global) -> io::Result<Option<MemDisk>> {
     let disk = blank_device(rt, alloc)?;
     say(rt, "no store")?;

@@ -75,16 +75,24 @@ pub fn say_slots(rt: &impl Print, slots: &[Slot<Sim>]) -> io::Result<()> {
     Ok(())
 }
 
-/// The device and the slots of a world, without a clause.
-fn parts(world: Memory) -> (MemDisk, Vec<Slot<Sim>>) {
-    let (flusher, _core, slots) = world.into_parts();
-    (flusher.into_device(), slots)
+/// The device, the number of the last settled entry, whether all are settled, and the slots of a world, without a
+/// clause.
+fn parts(world: Memory) -> (MemDisk, u64, bool, Vec<Slot<Sim>>) {
+    let (flusher, core, slots) = world.into_parts();
+    (
+        flusher.into_device(),
+        core.number(),
+        core.is_settled(),
+        slots,
+    )
 }
 
-/// Ends a session: says what the slots have, what the device shows, and which calls it has served.
+/// Ends a session: says how many entries are settled and what the slots have, but where a call of the device failed;
+/// what the device shows, and which calls it has served.
 pub fn end(rt: &impl Print, alloc: Global, world: Memory, calls: Calls) -> io::Result<()> {
-    let (disk, slots) = parts(world);
+    let (disk, number, all, slots) = parts(world);
     if !calls.failed {
+        writeln!(io::writer(rt), "settled: {number}, all {all}")?;
         say_slots(rt, &slots)?;
     }
     say_left(rt, alloc, disk)

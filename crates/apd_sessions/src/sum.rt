@@ -1,4 +1,4 @@
-//! A sum of all that a table holds, which is another one where anything is.
+//! A sum of all that a table holds, which is another one where anything is; but of a cursor by the next free identifier.
 use apd_acl::Lists;
 use apd_base::{Addr, Bssid, Station, Which};
 use apd_table::Table;
