@@ -4,14 +4,14 @@ use crate::serving_tests::{NEVER, disk, world};
 use crate::talk::{AUTHENTICATED, AUTHENTICATION, RADIO, free_ports};
 use apd_desk::NoGate;
 use apd_radio::{Datagrams, UdpSim};
-use apd_serve::{ControlPort, ServeFault, SystemClock, serve};
+use apd_serve::{ControlPort, SystemClock, serve};
 use libc::net::{SO_RCVBUF, SOL_SOCKET, getsockopt};
 use log::Log;
 use std::alloc::Global;
 use std::io::{self, ErrorKind, Read};
 use std::net::{Ipv4Addr, Net, SocketAddr, SocketAddrV4};
+use std::process::Abort;
 use std::sync::Wait;
-use std::test::Fail;
 use std::thread::{Threads, yield_now};
 use std::time;
 
@@ -83,43 +83,44 @@ fn is_granted(datagrams: &Datagrams) -> bool {
 }
 
 /// A storm on the radio behind this port; of no frame where the system gives less room.
-fn storm_on(rt: &impl Net, alloc: Global, port: u16) -> Result<Storm, Fail> {
-    let datagrams = Datagrams::bind(rt, alloc, 0)?;
+fn storm_on(rt: &(impl Net + Abort), alloc: Global, port: u16) -> Storm {
+    let datagrams = Datagrams::bind(rt, alloc, 0).expect(rt, "a socket");
     let frames = if is_granted(&datagrams) { BURST } else { 0 };
     let radio = SocketAddrV4::new(Ipv4Addr::LOCALHOST, port.wrapping_add(RADIO));
-    Ok(Storm {
+    let frame = hex::decode(alloc, AUTHENTICATION).expect(rt, "a frame");
+    let answer = hex::decode(alloc, AUTHENTICATED).expect(rt, "a frame");
+    Storm {
         datagrams,
         radio: SocketAddr::V4(radio),
-        frame: hex::decode(alloc, AUTHENTICATION)?,
-        answer: hex::decode(alloc, AUTHENTICATED)?,
+        frame,
+        answer,
         frames,
         answers: 0,
-    })
+    }
 }
 
-/// What `serve` answers in a storm, and how many of its frames were sent and not answered.
-fn serve_storm<R: Net + Wait + Threads + time::Clock + Log + Sync>(
-    rt: &R,
-    alloc: Global,
-) -> Result<(Result<u64, ServeFault>, usize, usize), Fail>
+/// Ends the test where `serve` answers anything else in a storm than an entry for each of its frames, or not each of
+/// them is answered.
+fn serves_storm<R: Net + Wait + Threads + time::Clock + Log + Sync + Abort>(rt: &R, alloc: Global)
 where
     R::Stream: Send + Sync,
     R::Listener: Send + Sync,
 {
-    let port = free_ports(rt, 1)?;
-    let mut storm = storm_on(rt, alloc, port)?;
-    let control = ControlPort::open(rt, alloc, port)?;
-    let radio = UdpSim::new(rt, alloc, port.wrapping_add(RADIO))?;
-    let world = world(alloc, disk(alloc, NEVER)?, radio)?;
+    let port = free_ports(rt, 1);
+    let mut storm = storm_on(rt, alloc, port);
+    let control = ControlPort::open(rt, alloc, port).expect(rt, "a port of commands");
+    let radio = UdpSim::new(rt, alloc, port.wrapping_add(RADIO)).expect(rt, "a radio");
+    let world = world(rt, alloc, disk(rt, alloc, NEVER), radio);
     let clock = SystemClock::new(rt);
     let answer = serve(rt, alloc, world, control, clock, &NoGate, &mut storm);
-    Ok((answer, storm.frames, storm.answers))
+    let frames = storm.frames;
+    let answers = storm.answers;
+    drop(storm);
+    expect(rt, answers, frames);
+    expect(rt, answer, Ok(frames as u64));
 }
 
 #[test]
-fn a_burst_of_2000_frames_is_answered(rt: HostRuntime) -> Result<(), Fail> {
-    let (entries, frames, answers) = serve_storm(&rt, rt.alloc())?;
-    expect(&rt, answers, frames);
-    expect(&rt, entries.map(|entries| entries as usize), Ok(frames));
-    Ok(())
+fn a_burst_of_2000_frames_is_answered(rt: HostRuntime) {
+    serves_storm(&rt, rt.alloc());
 }

@@ -5,7 +5,6 @@ use apd_serve::SystemClock;
 use std::io::{self, ErrorKind};
 use std::sync::atomic::AtomicU64;
 use std::sync::atomic::Ordering::SeqCst;
-use std::test::Fail;
 use std::time::{self, Duration};
 
 /// At this moment the clock can't be read.
@@ -41,7 +40,7 @@ fn moment_of(began: u64, then: u64) -> Moment {
 }
 
 #[test]
-fn the_milliseconds_since_it_was_made(rt: HostRuntime) -> Result<(), Fail> {
+fn the_milliseconds_since_it_was_made(rt: HostRuntime) {
     for (began, then, moment) in [
         (5_000, 5_000, 0),
         (5_000, 5_001, 1),
@@ -52,5 +51,4 @@ fn the_milliseconds_since_it_was_made(rt: HostRuntime) -> Result<(), Fail> {
     ] {
         expect(&rt, moment_of(began, then), Moment(moment));
     }
-    Ok(())
 }

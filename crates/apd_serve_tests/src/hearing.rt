@@ -1,4 +1,5 @@
 //! A runtime whose log is kept in memory.
+use crate::expect::expect;
 use log::kv::Source;
 use log::sink::Locked;
 use log::span::Spans;
@@ -8,9 +9,9 @@ use std::fmt::Display;
 use std::fs::{self, OpenOptions};
 use std::io;
 use std::net::{Net, SocketAddr, UdpSocket};
+use std::process::Abort;
 use std::rt::Files;
 use std::sync::Wait;
-use std::test::Fail;
 use std::thread::Threads;
 use std::time::{Clock, Duration};
 
@@ -29,14 +30,28 @@ impl<R: Wait + Copy + Drop> Hearing<R> {
             lines: Locked::new(rt, Vec::new(alloc)),
         }
     }
+}
 
-    /// What was logged.
-    pub(crate) fn heard(self) -> Result<String, Fail> {
-        let Hearing { rt: _, lines } = self;
-        match String::from_utf8(lines.into_inner()) {
-            Ok(text) => Ok(text),
-            Err(_) => Err(Fail::new("no text was logged")),
-        }
+impl<R: Wait + Copy + Drop + Abort> Hearing<R> {
+    // What was logged.
+    fn heard(self) -> String {
+        let Hearing { rt, lines } = self;
+        let text = String::from_utf8(lines.into_inner()).ok();
+        text.expect(&rt, "the log is text")
+    }
+
+    /// Ends the test where anything else was logged.
+    pub(crate) fn expect_heard(self, wanted: &str) {
+        let rt = self.rt;
+        let text = self.heard();
+        expect(&rt, text.as_str(), wanted);
+    }
+
+    /// Ends the test where a line was not logged, or more than once.
+    pub(crate) fn expect_heard_once(self, line: &str) {
+        let rt = self.rt;
+        let text = self.heard();
+        expect(&rt, text.as_str().matches(line).count(), 1);
     }
 }
 
@@ -57,6 +72,20 @@ impl<R: Wait> Log for Hearing<R> {
 }
 
 impl<R: Wait> Wait for Hearing<R> {}
+
+impl<R: Wait + Abort> Abort for Hearing<R> {
+    fn abort(&self) -> ! {
+        self.rt.abort()
+    }
+
+    fn exit(&self, code: i32) -> ! {
+        self.rt.exit(code)
+    }
+
+    fn panic<D: Display + Drop>(&self, message: D) -> ! {
+        self.rt.panic(message)
+    }
+}
 
 impl<R: Wait + Threads> Threads for Hearing<R> {}
 

@@ -11,6 +11,8 @@ mod ending_tests;
 #[cfg(test)]
 mod expect;
 #[cfg(test)]
+mod files;
+#[cfg(test)]
 mod hearing;
 #[cfg(test)]
 mod recording_tests;

@@ -1,4 +1,5 @@
 use crate::expect::expect;
+use crate::files::{expect_file, expect_kept, new_store, remove_all, write};
 use crate::stage::Stage;
 use crate::talk::{
     ASSOCIATED, ASSOCIATION, AUTHENTICATED, AUTHENTICATION, CONTROL, Datagram, Line, RADIO,
@@ -8,15 +9,14 @@ use apd_base::{Addr, Bssid};
 use apd_conf::{Conf, Confs, InterfaceName};
 use apd_disk::FileDisk;
 use apd_serve::{RunFault, Site, run};
-use apd_store::{format, recover};
+use apd_store::recover;
 use log::Log;
-use std::alloc::Global;
 use std::fs::{self, File};
 use std::io::{self, Read};
 use std::net::{Ipv4Addr, Net, UdpSocket};
+use std::process::Abort;
 use std::rt::Files;
 use std::sync::Wait;
-use std::test::Fail;
 use std::thread::Threads;
 use std::time::Clock;
 
@@ -43,37 +43,21 @@ const SECOND_RECORDING: &str =
     "down\ndown\nrx b00000000200000000020200000000aa0200000000021000000001000000\ntx b00000000200000000aa0200000000020200000000020000000002000000\ndown\n";
 
 /// A second configuration.
-fn second(alloc: Global) -> Result<Conf, Fail> {
-    let mut conf = Conf::built_in(alloc)?;
-    conf.interface = InterfaceName::new("wlan1", alloc)?;
+fn second(rt: &(impl AllocGlobal + Abort)) -> Conf {
+    let mut conf = Conf::built_in(rt.alloc()).expect(rt, "memory");
+    conf.interface = InterfaceName::new("wlan1", rt.alloc()).expect(rt, "memory");
     conf.bssid = Bssid(Addr([2, 0, 0, 0, 0, 2]));
-    Ok(conf)
+    conf
 }
 
 /// The built-in configuration, and the second one where there are to be more radios than one.
-pub(crate) fn confs(rt: &impl AllocGlobal, radios: u16) -> Result<Confs, Fail> {
-    let mut list = Vec::new(rt.alloc());
-    list.push(Conf::built_in(rt.alloc())?)?;
+pub(crate) fn confs(rt: &(impl AllocGlobal + Abort), radios: u16) -> Confs {
+    let built_in = Conf::built_in(rt.alloc()).expect(rt, "memory");
+    let mut list = vec![in rt.alloc(); built_in].expect(rt, "memory");
     if radios > 1 {
-        list.push(second(rt.alloc())?)?;
+        list.push(second(rt)).expect(rt, "memory");
     }
-    match Confs::new(list) {
-        Ok(confs) => Ok(confs),
-        Err(_) => Err(Fail::new("no configurations")),
-    }
-}
-
-/// Makes the file of a name a new store.
-pub(crate) fn new_store(
-    rt: &(impl Files<File = File> + AllocGlobal),
-    name: &str,
-) -> Result<(), Fail> {
-    let _ = fs::remove_file(rt, name);
-    let disk = FileDisk::create(rt, name)?;
-    match format(rt.alloc(), disk) {
-        Ok(_) => Ok(()),
-        Err(_) => Err(Fail::new("no store")),
-    }
+    Confs::new(list).expect(rt, "configurations")
 }
 
 /// What `run` of a store at this port answers, where the configurations are of files of these names.
@@ -103,204 +87,186 @@ where
     run(rt, confs, &site, reader)
 }
 
-/// What `run` of these configurations answers of a talk, as text, how many of its lines were said, and at which port.
-pub(crate) fn run_with<
-    R: Files<File = File> + Net + Wait + Threads + Clock + AllocGlobal + Log + Sync,
->(
-    rt: &R,
-    store: &str,
-    confs: Confs,
-    recordings: Option<&str>,
-    lines: &[Line],
-) -> Result<(String, usize, u16), Fail>
+/// Ends the test where `run` answers anything else: the number of entries, or the fault, as text.
+fn expect_answer(rt: &(impl AllocGlobal + Abort), answer: Result<u64, RunFault>, wanted: &str) {
+    let text = match answer {
+        Ok(entries) => format!(in rt.alloc(); "{entries}"),
+        Err(fault) => format!(in rt.alloc(); "{fault}"),
+    };
+    let text = text.expect(rt, "memory");
+    expect(rt, text.as_str(), wanted);
+}
+
+/// Ends the test where `run` of these configurations answers anything else of a talk, or not all of its lines are said.
+/// Tells at which port it ran.
+pub(crate) fn runs_with<
+    R: Files<File = File> + Net + Wait + Threads + Clock + AllocGlobal + Log + Sync + Abort,
+>(rt: &R, store: &str, confs: Confs, recordings: Option<&str>, lines: &[Line], wanted: &str) -> u16
 where
     R::Dir: Send + Sync,
     R::Stream: Send + Sync,
     R::Listener: Send + Sync,
 {
     let stage = Stage::new(false);
-    let port = free_ports(rt, 8)?;
-    let mut talk = Talk::new(rt, rt.alloc(), port, lines, &stage)?;
+    let written = lines.len();
+    let port = free_ports(rt, 8);
+    let mut talk = Talk::new(rt, rt.alloc(), port, lines, &stage);
     let answer = run_at(rt, store, recordings, confs, port, &[], &mut talk);
-    Ok((text_of_answer(rt, answer)?, talk.said_count(), port))
+    let said = talk.said_count();
+    drop(talk);
+    expect_answer(rt, answer, wanted);
+    expect(rt, said, written);
+    port
 }
 
-/// The same with so many radios, without the port.
-fn run_radios<R: Files<File = File> + Net + Wait + Threads + Clock + AllocGlobal + Log + Sync>(
+/// The same with so many radios.
+fn runs<R: Files<File = File> + Net + Wait + Threads + Clock + AllocGlobal + Log + Sync + Abort>(
     rt: &R,
     store: &str,
     radios: u16,
     recordings: Option<&str>,
     lines: &[Line],
-) -> Result<(String, usize), Fail>
+    wanted: &str,
+)
 where
     R::Dir: Send + Sync,
     R::Stream: Send + Sync,
     R::Listener: Send + Sync,
 {
-    let (answer, said, _) = run_with(rt, store, confs(rt, radios)?, recordings, lines)?;
-    Ok((answer, said))
-}
-
-/// The number of entries, or the fault, as text.
-pub(crate) fn text_of_answer(
-    rt: &impl AllocGlobal,
-    answer: Result<u64, RunFault>,
-) -> Result<String, Fail> {
-    match answer {
-        Ok(entries) => Ok(format!(in rt.alloc(); "{entries}")?),
-        Err(fault) => Ok(format!(in rt.alloc(); "{fault}")?),
-    }
+    let _port = runs_with(rt, store, confs(rt, radios), recordings, lines, wanted);
 }
 
 #[test]
-fn a_second_run_goes_on_where_the_first_ended(rt: HostRuntime) -> Result<(), Fail> {
-    let name = "second_run_store";
-    new_store(&rt, name)?;
-    let first = [
+fn a_second_run_goes_on_where_the_first_ended(rt: HostRuntime) {
+    const FIRST: &[Line] = &[
         Line::Sends(0, RADIO, Datagram::Hex(AUTHENTICATION)),
         Line::Gets(0, RADIO, Datagram::Hex(AUTHENTICATED)),
         Line::Sends(0, RADIO, Datagram::Hex(ASSOCIATION)),
         Line::Gets(0, RADIO, Datagram::Hex(ASSOCIATED)),
     ];
-    let (answer, said) = run_radios(&rt, name, 1, None, &first)?;
-    expect(&rt, (answer.as_str(), said), ("2", 4));
-    let second = [
+    const SECOND: &[Line] = &[
         Line::Sends(0, CONTROL, Datagram::Text("STA 02:00:00:00:00:aa")),
         Line::Gets(0, CONTROL, Datagram::Text(STATION)),
     ];
-    let (answer, said) = run_radios(&rt, name, 1, Some("second_run"), &second)?;
-    expect(&rt, (answer.as_str(), said), ("0", 2));
-    let recording = fs::read(&rt, "second_run.0")?;
-    expect(&rt, recording.as_slice(), RECORDING.as_bytes());
-    fs::remove_file(&rt, "second_run.0")?;
-    fs::remove_file(&rt, name)?;
-    Ok(())
+    let name = "second_run_store";
+    new_store(&rt, name);
+    runs(&rt, name, 1, None, FIRST, "2");
+    runs(&rt, name, 1, Some("second_run"), SECOND, "0");
+    expect_file(&rt, "second_run.0", RECORDING.as_bytes());
+    remove_all(&rt, &["second_run.0", name]);
 }
 
 #[test]
-fn each_radio_has_its_port_and_its_recording(rt: HostRuntime) -> Result<(), Fail> {
-    let name = "two_radios_store";
-    new_store(&rt, name)?;
-    // What is there is emptied first.
-    fs::write(&rt, "two_radios.0", &[b'x'; 4_096])?;
-    let lines = [
+fn each_radio_has_its_port_and_its_recording(rt: HostRuntime) {
+    const LINES: &[Line] = &[
         Line::Sends(1, SECOND_RADIO, Datagram::Hex(SECOND_AUTHENTICATION)),
         Line::Gets(1, SECOND_RADIO, Datagram::Hex(SECOND_AUTHENTICATED)),
         Line::Sends(0, RADIO, Datagram::Hex(SECOND_AUTHENTICATION)),
         Line::GetsNothing(0),
     ];
-    let (answer, said) = run_radios(&rt, name, 2, Some("two_radios"), &lines)?;
-    expect(&rt, (answer.as_str(), said), ("1", 4));
-    let first = fs::read(&rt, "two_radios.0")?;
-    expect(&rt, first.as_slice(), FIRST_RECORDING.as_bytes());
-    let second = fs::read(&rt, "two_radios.1")?;
-    expect(&rt, second.as_slice(), SECOND_RECORDING.as_bytes());
-    fs::remove_file(&rt, "two_radios.0")?;
-    fs::remove_file(&rt, "two_radios.1")?;
-    fs::remove_file(&rt, name)?;
-    Ok(())
+    let name = "two_radios_store";
+    new_store(&rt, name);
+    // What is there is emptied first.
+    write(&rt, "two_radios.0", &[b'x'; 4_096]);
+    runs(&rt, name, 2, Some("two_radios"), LINES, "1");
+    expect_file(&rt, "two_radios.0", FIRST_RECORDING.as_bytes());
+    expect_file(&rt, "two_radios.1", SECOND_RECORDING.as_bytes());
+    remove_all(&rt, &["two_radios.0", "two_radios.1", name]);
 }
 
 #[test]
-fn a_command_is_of_the_interface_that_it_names(rt: HostRuntime) -> Result<(), Fail> {
-    let name = "named_interface_store";
-    new_store(&rt, name)?;
-    let lines = [
+fn a_command_is_of_the_interface_that_it_names(rt: HostRuntime) {
+    const LINES: &[Line] = &[
         Line::Sends(0, CONTROL, Datagram::Text("IFNAME=wlan1 STATUS")),
         Line::Gets(0, CONTROL, Datagram::Text(SECOND_STATUS)),
     ];
-    let (answer, said) = run_radios(&rt, name, 2, None, &lines)?;
-    expect(&rt, (answer.as_str(), said), ("0", 2));
-    fs::remove_file(&rt, name)?;
-    Ok(())
+    let name = "named_interface_store";
+    new_store(&rt, name);
+    runs(&rt, name, 2, None, LINES, "0");
+    remove_all(&rt, &[name]);
 }
 
 /// How many BSSIDs have a policy in the store of a file.
-fn bss_of(rt: &(impl Files<File = File> + AllocGlobal), name: &str) -> Result<usize, Fail> {
-    let disk = FileDisk::open(rt, name)?;
-    match recover(rt.alloc(), disk) {
-        Ok(found) => {
-            let (_store, table) = found;
-            Ok(table.bss_count())
-        }
-        Err(_) => Err(Fail::new("not recovered")),
-    }
+fn bss_of(rt: &(impl Files<File = File> + AllocGlobal + Abort), name: &str) -> usize {
+    let disk = FileDisk::open(rt, name).expect(rt, "a file");
+    let found = recover(rt.alloc(), disk).ok();
+    let (store, table) = found.expect(rt, "a store");
+    drop(store);
+    let count = table.bss_count();
+    drop(table);
+    count
 }
 
 #[test]
-fn the_start_is_committed_and_not_counted(rt: HostRuntime) -> Result<(), Fail> {
+fn the_start_is_committed_and_not_counted(rt: HostRuntime) {
     let name = "started_store";
-    new_store(&rt, name)?;
-    let (answer, _) = run_radios(&rt, name, 1, None, &[])?;
-    expect(&rt, answer.as_str(), "0");
-    expect(&rt, bss_of(&rt, name)?, 1);
-    fs::remove_file(&rt, name)?;
-    Ok(())
+    new_store(&rt, name);
+    runs(&rt, name, 1, None, &[], "0");
+    expect(&rt, bss_of(&rt, name), 1);
+    remove_all(&rt, &[name]);
 }
 
-/// Why `run` of a store at this port refuses, where the configuration is of a file of this name.
-pub(crate) fn refusal<
-    R: Files<File = File> + Net + Wait + Threads + Clock + AllocGlobal + Log + Sync,
->(
-    rt: &R,
-    store: &str,
-    recordings: Option<&str>,
-    port: u16,
-    configuration: &str,
-) -> Result<String, Fail>
+/// Ends the test where `run` of a store at this port answers anything else. The configuration is of the file of this
+/// name.
+pub(crate) fn refuses<
+    R: Files<File = File> + Net + Wait + Threads + Clock + AllocGlobal + Log + Sync + Abort,
+>(rt: &R, store: &str, recordings: Option<&str>, port: u16, configuration: &str, wanted: &str)
 where
     R::Dir: Send + Sync,
     R::Stream: Send + Sync,
     R::Listener: Send + Sync,
 {
-    let confs = confs(rt, 1)?;
+    let files = [configuration];
     let answer = run_at(
         rt,
         store,
         recordings,
-        confs,
+        confs(rt, 1),
         port,
-        &[configuration],
+        &files,
         io::empty(),
     );
-    text_of_answer(rt, answer)
+    expect_answer(rt, answer, wanted);
 }
 
 #[test]
-fn a_refusal_leaves_the_store_as_it_was(rt: HostRuntime) -> Result<(), Fail> {
+fn a_refusal_leaves_the_store_as_it_was(rt: HostRuntime) {
     let name = "refused_store";
-    new_store(&rt, name)?;
-    let before = fs::read(&rt, name)?;
-    let port = free_ports(&rt, 1)?;
+    new_store(&rt, name);
+    let before = fs::read(&rt, name).expect(&rt, "a store");
+    let port = free_ports(&rt, 1);
     for taken in [port, port.wrapping_add(RADIO)] {
-        let _socket = UdpSocket::bind(&rt, (Ipv4Addr::LOCALHOST, taken))?;
-        let told = refusal(&rt, name, None, port, CONF)?;
-        expect(&rt, told.as_str(), "no socket");
+        let socket = UdpSocket::bind(&rt, (Ipv4Addr::LOCALHOST, taken)).expect(&rt, "a socket");
+        refuses(&rt, name, None, port, CONF, "no socket");
+        drop(socket);
     }
-    let told = refusal(&rt, name, Some("no_folder_of_a_test/r"), port, CONF)?;
-    expect(&rt, told.as_str(), "cannot read no_folder_of_a_test/r.0");
-    let after = fs::read(&rt, name)?;
-    assert!(rt; before == after);
-    fs::remove_file(&rt, name)?;
-    Ok(())
-}
-
-#[test]
-fn a_file_that_is_no_store_is_left_as_it_was(rt: HostRuntime) -> Result<(), Fail> {
-    let name = "short_store";
-    fs::write(&rt, name, b"RAPSTOR1")?;
-    let told = refusal(
+    let folder = Some("no_folder_of_a_test/r");
+    refuses(
         &rt,
         name,
-        Some("no_folder_of_a_test/r"),
-        free_ports(&rt, 1)?,
+        folder,
+        port,
         CONF,
-    )?;
-    expect(&rt, told.as_str(), "not a store");
-    expect(&rt, fs::read(&rt, name)?.as_slice(), b"RAPSTOR1".as_slice());
-    fs::remove_file(&rt, name)?;
-    let told = refusal(&rt, name, None, free_ports(&rt, 1)?, CONF)?;
-    expect(&rt, told.as_str(), "cannot read short_store");
-    Ok(())
+        "cannot read no_folder_of_a_test/r.0",
+    );
+    expect_kept(&rt, name, before.as_slice());
+    remove_all(&rt, &[name]);
+}
+
+#[test]
+fn a_file_that_is_no_store_is_left_as_it_was(rt: HostRuntime) {
+    let name = "short_store";
+    write(&rt, name, b"RAPSTOR1");
+    let folder = Some("no_folder_of_a_test/r");
+    refuses(&rt, name, folder, free_ports(&rt, 1), CONF, "not a store");
+    expect_file(&rt, name, b"RAPSTOR1");
+    remove_all(&rt, &[name]);
+    refuses(
+        &rt,
+        name,
+        None,
+        free_ports(&rt, 1),
+        CONF,
+        "cannot read short_store",
+    );
 }

@@ -17,8 +17,8 @@ use apd_world::{World, restart};
 use log::Log;
 use std::alloc::Global;
 use std::net::Net;
+use std::process::Abort;
 use std::sync::Wait;
-use std::test::Fail;
 use std::thread::Threads;
 use std::time;
 
@@ -47,42 +47,38 @@ pub(crate) const NEVER: u64 = u64::MAX;
 const STARTED: u64 = 6;
 
 /// The built-in configuration, with a station that is denied.
-fn conf(alloc: Global) -> Result<Conf, Fail> {
-    let Ok(denied) = read_list(alloc, DENIED.as_bytes()) else {
-        return Err(Fail::new("no list"));
-    };
-    let mut conf = Conf::built_in(alloc)?;
+fn conf(rt: &impl Abort, alloc: Global) -> Conf {
+    let denied = read_list(alloc, DENIED.as_bytes()).expect(rt, "a list");
+    let mut conf = Conf::built_in(alloc).expect(rt, "memory");
     conf.set_lists(AddressList::new(alloc), denied);
-    Ok(conf)
+    conf
 }
 
 /// A new store in memory, whose device fails the call after so many.
-pub(crate) fn disk(alloc: Global, calls: u64) -> Result<OnceDisk<MemDisk>, Fail> {
-    let disk = MemDisk::new(alloc, vec![in alloc; 0u8; LENGTH]?)?;
-    match format(alloc, disk) {
-        Ok(store) => Ok(OnceDisk::new(store.into_device(), calls)),
-        Err(_) => Err(Fail::new("no store")),
-    }
+pub(crate) fn disk(rt: &impl Abort, alloc: Global, calls: u64) -> OnceDisk<MemDisk> {
+    let bytes = vec![in alloc; 0u8; LENGTH].expect(rt, "memory");
+    let disk = MemDisk::new(alloc, bytes).expect(rt, "memory");
+    let store = format(alloc, disk).ok().expect(rt, "a store");
+    OnceDisk::new(store.into_device(), calls)
 }
 
 /// The world of the one configuration over this disk, with this radio.
 pub(crate) fn world<R: Radio>(
+    rt: &impl Abort,
     alloc: Global,
     disk: OnceDisk<MemDisk>,
     radio: R,
-) -> Result<World<OnceDisk<MemDisk>, R>, Fail> {
-    let conf = conf(alloc)?;
+) -> World<OnceDisk<MemDisk>, R> {
+    let conf = conf(rt, alloc);
     let mut slots = Vec::new(alloc);
-    slots.push(Slot::new(alloc, radio, conf.bssid))?;
+    slots
+        .push(Slot::new(alloc, radio, conf.bssid))
+        .expect(rt, "memory");
     let mut list = Vec::new(alloc);
-    list.push(conf)?;
-    let Ok(confs) = Confs::new(list) else {
-        return Err(Fail::new("no configurations"));
-    };
-    match restart(alloc, disk, confs, slots, Moment(0)) {
-        Ok(world) => Ok(world),
-        Err(_) => Err(Fail::new("not recovered")),
-    }
+    list.push(conf).expect(rt, "memory");
+    let confs = Confs::new(list).expect(rt, "a configuration");
+    let world = restart(alloc, disk, confs, slots, Moment(0)).ok();
+    world.expect(rt, "what the disk holds is recovered")
 }
 
 /// What is said while it serves and when it has ended. Its device fails the call after so many.
@@ -93,41 +89,37 @@ pub(crate) struct Scene<'a> {
     pub(crate) calls: u64,
 }
 
-/// What `serve` answers in a scene, and how many of its lines were said.
-fn serve_scene<
-    R: Net + Wait + Threads + time::Clock + Log + Sync,
+/// Ends the test where `serve` answers anything else in a scene than so many entries, or not all of its lines are said.
+fn serves_scene<
+    R: Net + Wait + Threads + time::Clock + Log + Sync + Abort,
     C: Clock + Drop + Sync,
     G: Gate + Sync,
->(
-    rt: &R,
-    alloc: Global,
-    scene: Scene<'_>,
-    stage: &Stage,
-    clock: C,
-    gate: &G,
-) -> Result<(Result<u64, ServeFault>, usize), Fail>
+>(rt: &R, alloc: Global, scene: Scene<'_>, stage: &Stage, clock: C, gate: &G, entries: u64)
 where
     R::Stream: Send + Sync,
     R::Listener: Send + Sync,
 {
-    let port = free_ports(rt, 1)?;
-    let mut talk = Talk::new(rt, alloc, port, scene.lines, stage)?;
-    let control = ControlPort::open(rt, alloc, port)?;
-    let disk = disk(alloc, scene.calls)?;
-    let radio = UdpSim::new(rt, alloc, port.wrapping_add(RADIO))?;
-    let world = world(alloc, disk, radio)?;
+    let port = free_ports(rt, 1);
+    let mut talk = Talk::new(rt, alloc, port, scene.lines, stage);
+    let control = ControlPort::open(rt, alloc, port).expect(rt, "a port of commands");
+    let radio = UdpSim::new(rt, alloc, port.wrapping_add(RADIO)).expect(rt, "a radio");
+    let world = world(rt, alloc, disk(rt, alloc, scene.calls), radio);
     let answer = serve(rt, alloc, world, control, clock, gate, &mut talk);
     talk.say(scene.after);
-    Ok((answer, talk.said_count()))
+    let said = talk.said_count();
+    drop(talk);
+    let written = scene.lines.len().saturating_add(scene.after.len());
+    expect(rt, (answer, said), (Ok(entries), written));
 }
 
 /// The same, where only lines are said, the device fails the call after so many, and nothing is held.
-fn serve_talk<R: Net + Wait + Threads + time::Clock + Log + Sync>(
+fn serves_talk<R: Net + Wait + Threads + time::Clock + Log + Sync + Abort>(
     rt: &R,
     alloc: Global,
     lines: &[Line],
     calls: u64,
-) -> Result<(Result<u64, ServeFault>, usize), Fail>
+    entries: u64,
+)
 where
     R::Stream: Send + Sync,
     R::Listener: Send + Sync,
@@ -138,24 +130,24 @@ where
         calls,
     };
     let stage = Stage::new(false);
-    serve_scene(rt, alloc, scene, &stage, SystemClock::new(rt), &NoGate)
+    let clock = SystemClock::new(rt);
+    serves_scene(rt, alloc, scene, &stage, clock, &NoGate, entries);
 }
 
 #[test]
-fn serve_loopback(rt: HostRuntime) -> Result<(), Fail> {
-    let lines = [
+fn serve_loopback(rt: HostRuntime) {
+    const LINES: &[Line] = &[
         Line::Sends(0, CONTROL, Datagram::Text("PING")),
         Line::Gets(0, CONTROL, Datagram::Text("PONG\n")),
         Line::Sends(0, RADIO, Datagram::Hex(AUTHENTICATION)),
         Line::Gets(0, RADIO, Datagram::Hex(AUTHENTICATED)),
     ];
-    expect(&rt, serve_talk(&rt, rt.alloc(), &lines, NEVER)?, (Ok(1), 4));
-    Ok(())
+    serves_talk(&rt, rt.alloc(), LINES, NEVER, 1);
 }
 
 #[test]
-fn a_station_associates_and_is_counted(rt: HostRuntime) -> Result<(), Fail> {
-    let lines = [
+fn a_station_associates_and_is_counted(rt: HostRuntime) {
+    const LINES: &[Line] = &[
         Line::Sends(0, RADIO, Datagram::Hex(AUTHENTICATION)),
         Line::Gets(0, RADIO, Datagram::Hex(AUTHENTICATED)),
         Line::Sends(0, RADIO, Datagram::Hex(ASSOCIATION)),
@@ -163,13 +155,12 @@ fn a_station_associates_and_is_counted(rt: HostRuntime) -> Result<(), Fail> {
         Line::Sends(1, CONTROL, Datagram::Text("STATUS")),
         Line::Gets(1, CONTROL, Datagram::Text(STATUS)),
     ];
-    expect(&rt, serve_talk(&rt, rt.alloc(), &lines, NEVER)?, (Ok(2), 6));
-    Ok(())
+    serves_talk(&rt, rt.alloc(), LINES, NEVER, 2);
 }
 
 #[test]
-fn each_sender_gets_its_own_replies(rt: HostRuntime) -> Result<(), Fail> {
-    let lines = [
+fn each_sender_gets_its_own_replies(rt: HostRuntime) {
+    const LINES: &[Line] = &[
         Line::Sends(
             0,
             CONTROL,
@@ -189,17 +180,12 @@ fn each_sender_gets_its_own_replies(rt: HostRuntime) -> Result<(), Fail> {
         Line::Sends(0, CONTROL, Datagram::Text("STA-FIRST")),
         Line::Gets(0, CONTROL, Datagram::Text("")),
     ];
-    expect(
-        &rt,
-        serve_talk(&rt, rt.alloc(), &lines, NEVER)?,
-        (Ok(2), 10),
-    );
-    Ok(())
+    serves_talk(&rt, rt.alloc(), LINES, NEVER, 2);
 }
 
 #[test]
-fn datagrams_of_any_length(rt: HostRuntime) -> Result<(), Fail> {
-    let lines = [
+fn datagrams_of_any_length(rt: HostRuntime) {
+    const LINES: &[Line] = &[
         Line::Sends(0, CONTROL, Datagram::Bytes(b'P', 4_097)),
         Line::Gets(0, CONTROL, Datagram::Text("FAIL\n")),
         Line::Sends(0, CONTROL, Datagram::Text("")),
@@ -209,13 +195,12 @@ fn datagrams_of_any_length(rt: HostRuntime) -> Result<(), Fail> {
         Line::Gets(0, RADIO, Datagram::Hex(AUTHENTICATED)),
         Line::GetsNothing(0),
     ];
-    expect(&rt, serve_talk(&rt, rt.alloc(), &lines, NEVER)?, (Ok(1), 8));
-    Ok(())
+    serves_talk(&rt, rt.alloc(), LINES, NEVER, 1);
 }
 
 #[test]
-fn an_answer_waits_for_its_commit_and_the_start_for_nothing(rt: HostRuntime) -> Result<(), Fail> {
-    let lines = [
+fn an_answer_waits_for_its_commit_and_the_start_for_nothing(rt: HostRuntime) {
+    const LINES: &[Line] = &[
         Line::Sends(0, RADIO, Datagram::Hex(AUTHENTICATION)),
         Line::Sends(
             1,
@@ -238,35 +223,35 @@ fn an_answer_waits_for_its_commit_and_the_start_for_nothing(rt: HostRuntime) -> 
         stage: &stage,
     };
     let scene = Scene {
-        lines: &lines,
+        lines: LINES,
         after: &[],
         calls: NEVER,
     };
-    let told = serve_scene(&rt, rt.alloc(), scene, &stage, SystemClock::new(&rt), &gate)?;
-    expect(&rt, told, (Ok(2), 11));
-    Ok(())
+    let clock = SystemClock::new(&rt);
+    serves_scene(&rt, rt.alloc(), scene, &stage, clock, &gate, 2);
 }
 
-/// What is told in a scene by the stage's clock.
-pub(crate) fn serve_on_stage<R: Net + Wait + Threads + time::Clock + Log + Sync>(
+/// The same in a scene by the stage's clock.
+pub(crate) fn serves_on_stage<R: Net + Wait + Threads + time::Clock + Log + Sync + Abort>(
     rt: &R,
     alloc: Global,
     scene: Scene<'_>,
     held: bool,
-) -> Result<(Result<u64, ServeFault>, usize), Fail>
+    entries: u64,
+)
 where
     R::Stream: Send + Sync,
     R::Listener: Send + Sync,
 {
     let stage = Stage::new(held);
     let clock = StageClock { rt, stage: &stage };
-    serve_scene(rt, alloc, scene, &stage, clock, &NoGate)
+    serves_scene(rt, alloc, scene, &stage, clock, &NoGate, entries);
 }
 
 #[test]
-fn a_silent_station_goes(rt: HostRuntime) -> Result<(), Fail> {
+fn a_silent_station_goes(rt: HostRuntime) {
     // Two moments are those of the frames; with the fourth the worker of ticks has its first one.
-    let scene = Scene {
+    const SCENE: Scene<'static> = Scene {
         lines: &[
             Line::Sends(0, RADIO, Datagram::Hex(AUTHENTICATION)),
             Line::Gets(0, RADIO, Datagram::Hex(AUTHENTICATED)),
@@ -279,18 +264,13 @@ fn a_silent_station_goes(rt: HostRuntime) -> Result<(), Fail> {
         after: &[],
         calls: NEVER,
     };
-    expect(
-        &rt,
-        serve_on_stage(&rt, rt.alloc(), scene, false)?,
-        (Ok(3), 7),
-    );
-    Ok(())
+    serves_on_stage(&rt, rt.alloc(), SCENE, false, 3);
 }
 
 #[test]
-fn a_station_that_was_heard_stays(rt: HostRuntime) -> Result<(), Fail> {
+fn a_station_that_was_heard_stays(rt: HostRuntime) {
     // Once the other station is answered, what came before it was heard, at 200 s.
-    let scene = Scene {
+    const SCENE: Scene<'static> = Scene {
         lines: &[
             Line::Sends(0, RADIO, Datagram::Hex(AUTHENTICATION)),
             Line::Gets(0, RADIO, Datagram::Hex(AUTHENTICATED)),
@@ -308,34 +288,23 @@ fn a_station_that_was_heard_stays(rt: HostRuntime) -> Result<(), Fail> {
         after: &[],
         calls: NEVER,
     };
-    expect(
-        &rt,
-        serve_on_stage(&rt, rt.alloc(), scene, false)?,
-        (Ok(3), 12),
-    );
-    Ok(())
+    serves_on_stage(&rt, rt.alloc(), SCENE, false, 3);
 }
 
 #[test]
-fn a_device_fault_is_told_once(rt: HostRuntime) -> Result<(), Fail> {
-    let lines = [
+fn a_device_fault_is_told_once(rt: HostRuntime) {
+    const LINES: &[Line] = &[
         Line::Sends(0, RADIO, Datagram::Hex(AUTHENTICATION)),
         Line::GetsNothing(0),
     ];
     let hearing = Hearing::new(rt, rt.alloc());
-    expect(
-        &rt,
-        serve_talk(&hearing, rt.alloc(), &lines, STARTED)?,
-        (Ok(1), 2),
-    );
-    let told = hearing.heard()?;
-    expect(&rt, told.as_str(), FAILED);
-    Ok(())
+    serves_talk(&hearing, rt.alloc(), LINES, STARTED, 1);
+    hearing.expect_heard(FAILED);
 }
 
 #[test]
-fn after_a_device_fault_nothing_is_told_but_what_was_settled(rt: HostRuntime) -> Result<(), Fail> {
-    let lines = [
+fn after_a_device_fault_nothing_is_told_but_what_was_settled(rt: HostRuntime) {
+    const LINES: &[Line] = &[
         Line::Sends(0, RADIO, Datagram::Hex(AUTHENTICATION)),
         Line::GetsNothing(0),
         Line::Sends(
@@ -349,23 +318,18 @@ fn after_a_device_fault_nothing_is_told_but_what_was_settled(rt: HostRuntime) ->
         Line::Sends(1, CONTROL, Datagram::Text("STA-FIRST")),
         Line::Gets(1, CONTROL, Datagram::Text("")),
     ];
-    expect(
-        &rt,
-        serve_talk(&rt, rt.alloc(), &lines, STARTED)?,
-        (Ok(1), 8),
-    );
-    Ok(())
+    serves_talk(&rt, rt.alloc(), LINES, STARTED, 1);
 }
 
 #[test]
-fn faults_have_these_texts(rt: HostRuntime) -> Result<(), Fail> {
+fn faults_have_these_texts(rt: HostRuntime) {
     let alloc = rt.alloc();
     for (fault, text) in [
         (ServeFault::Thread, "no thread"),
         (ServeFault::Store(StoreFault::Worn), "store is worn out"),
         (ServeFault::NoMemory, "out of memory"),
     ] {
-        expect(&rt, format!(in alloc; "{fault}")?.as_str(), text);
+        let told = format!(in alloc; "{fault}").expect(&rt, "memory");
+        expect(&rt, told.as_str(), text);
     }
-    Ok(())
 }

@@ -3,7 +3,7 @@ use crate::stage::Stage;
 use std::alloc::Global;
 use std::io::{self, ErrorKind, Read};
 use std::net::{Ipv4Addr, Net, UdpSocket};
-use std::test::Fail;
+use std::process::Abort;
 use std::thread::yield_now;
 use std::time::Duration;
 
@@ -73,6 +73,14 @@ impl Datagram {
             Datagram::Bytes(byte, count) => Ok(vec![in alloc; *byte; *count]?),
         }
     }
+
+    // Whether it holds these bytes.
+    fn is(&self, alloc: Global, bytes: &[u8]) -> bool {
+        match self.bytes(alloc) {
+            Ok(held) => held.as_slice() == bytes,
+            Err(_) => false,
+        }
+    }
 }
 
 /// What one of two senders does.
@@ -110,41 +118,54 @@ pub(crate) fn sender(rt: &impl Net) -> io::Result<UdpSocket> {
     UdpSocket::bind(rt, (Ipv4Addr::LOCALHOST, 0))
 }
 
-/// A port such that it and so many above it were free a moment ago.
-pub(crate) fn free_ports(rt: &impl Net, above: u16) -> Result<u16, Fail> {
-    for _ in 0..100 {
-        let first = sender(rt)?;
-        let port = first.local_addr()?.port();
-        if port < 65_000
-            && (0..above).all(|i| UdpSocket::bind(
-                rt,
-                (Ipv4Addr::LOCALHOST, port.wrapping_add(1).wrapping_add(i)),
-            )
-            .is_ok())
-        {
-            return Ok(port);
+// A port that was free a moment ago.
+fn free_port(rt: &(impl Net + Abort)) -> u16 {
+    let socket = sender(rt).expect(rt, "a socket");
+    let addr = socket.local_addr();
+    drop(socket);
+    addr.expect(rt, "the address of a socket").port()
+}
+
+// Whether so many ports from this one on are free.
+fn are_free(rt: &impl Net, first: u16, count: u16) -> bool {
+    for i in 0..count {
+        if UdpSocket::bind(rt, (Ipv4Addr::LOCALHOST, first.wrapping_add(i))).is_err() {
+            return false;
         }
     }
-    Err(Fail::new("no ports in a row are free"))
+    true
+}
+
+/// A port such that it and so many above it were free a moment ago.
+pub(crate) fn free_ports(rt: &(impl Net + Abort), above: u16) -> u16 {
+    for _ in 0..100 {
+        let port = free_port(rt);
+        if port < 65_000 && are_free(rt, port.wrapping_add(1), above) {
+            return port;
+        }
+    }
+    rt.panic("no ports in a row are free")
 }
 
 impl<'a> Talk<'a> {
     pub(crate) fn new(
-        rt: &impl Net,
+        rt: &(impl Net + Abort),
         alloc: Global,
         port: u16,
         lines: &'a [Line],
         stage: &'a Stage,
-    ) -> Result<Talk<'a>, Fail> {
-        Ok(Talk {
+    ) -> Talk<'a> {
+        let first = sender(rt).expect(rt, "a socket");
+        let second = sender(rt).expect(rt, "a socket");
+        Talk {
             alloc,
-            senders: [sender(rt)?, sender(rt)?],
+            senders: [first, second],
             port,
             lines,
             stage,
             said: 0,
             asked: false,
-        })
+        }
     }
 
     /// How many lines were said as they are written; the talk ends at the first that isn't.
@@ -154,11 +175,11 @@ impl<'a> Talk<'a> {
 
     // What a sender gets in this time, in milliseconds, from a port of the access point.
     fn receive(&self, sender: usize, time: u64) -> io::Result<Option<(u16, Vec<u8>)>> {
-        let mut room = vec![in self.alloc; 0u8; 65_536]?;
         let Some(socket) = self.senders.get(sender) else {
             return Err(ErrorKind::InvalidInput.into());
         };
         socket.set_read_timeout(Some(Duration::from_millis(time)))?;
+        let mut room = vec![in self.alloc; 0u8; 65_536]?;
         let Ok((count, from)) = socket.recv_from(room.as_mut_slice()) else {
             return Ok(None);
         };
@@ -166,21 +187,35 @@ impl<'a> Talk<'a> {
         Ok(Some((from.port().wrapping_sub(self.port), room)))
     }
 
+    // Whether a sender sent this to a port.
+    fn sends(&self, sender: usize, port: u16, datagram: &Datagram) -> io::Result<bool> {
+        let Some(socket) = self.senders.get(sender) else {
+            return Ok(false);
+        };
+        let port = self.port.wrapping_add(port);
+        let bytes = datagram.bytes(self.alloc)?;
+        let sent = socket.send_to(&bytes, (Ipv4Addr::LOCALHOST, port));
+        drop(bytes);
+        Ok(sent.is_ok())
+    }
+
+    // Whether what a sender gets next is this, from a port.
+    fn gets(&self, sender: usize, port: u16, datagram: &Datagram) -> io::Result<bool> {
+        match self.receive(sender, PATIENCE)? {
+            Some((from, bytes)) => {
+                let is_wanted = datagram.is(self.alloc, &bytes);
+                drop(bytes);
+                Ok(from == port && is_wanted)
+            }
+            None => Ok(false),
+        }
+    }
+
     // Whether a line is said as it is written.
     fn says(&self, line: &Line) -> io::Result<bool> {
         match line {
-            Line::Sends(sender, port, datagram) => {
-                let Some(socket) = self.senders.get(*sender) else {
-                    return Ok(false);
-                };
-                let port = self.port.wrapping_add(*port);
-                socket.send_to(&datagram.bytes(self.alloc)?, (Ipv4Addr::LOCALHOST, port))?;
-                Ok(true)
-            }
-            Line::Gets(sender, port, datagram) => match self.receive(*sender, PATIENCE)? {
-                Some((from, bytes)) => Ok(from == *port && bytes == datagram.bytes(self.alloc)?),
-                None => Ok(false),
-            },
+            Line::Sends(sender, port, datagram) => self.sends(*sender, *port, datagram),
+            Line::Gets(sender, port, datagram) => self.gets(*sender, *port, datagram),
             Line::GetsNothing(sender) => Ok(self.receive(*sender, SILENCE)?.is_none()),
             Line::LetsGo => {
                 self.stage.let_go();

@@ -1,26 +1,27 @@
 use crate::expect::expect;
+use crate::files::{new_store, remove_all};
 use crate::hearing::Hearing;
-use crate::running_tests::{confs, new_store, run_at, run_with};
+use crate::running_tests::{confs, run_at, runs_with};
 use crate::talk::{CONTROL, Datagram, Line, free_ports};
 use apd_base::{Addr, Bssid};
 use apd_conf::{Conf, Confs, InterfaceName};
+use log::Log;
 use std::alloc::Global;
 use std::fs::{self, File};
 use std::io::{self, Read};
+use std::net::Net;
+use std::process::Abort;
 use std::rt::Files;
-use std::test::Fail;
-use std::thread::sleep;
+use std::sync::Wait;
+use std::thread::{Threads, sleep};
 use std::time::{Clock, Duration};
 
 /// How long the store's name is watched in a test, in milliseconds.
 const WATCHED: u64 = 2_500;
 
 #[test]
-fn the_start_and_the_entries_are_told(rt: HostRuntime) -> Result<(), Fail> {
-    let name = "told_store";
-    new_store(&rt, name)?;
-    let hearing = Hearing::new(rt, rt.alloc());
-    let lines = [
+fn the_start_and_the_entries_are_told(rt: HostRuntime) {
+    const LINES: &[Line] = &[
         Line::Sends(
             0,
             CONTROL,
@@ -28,60 +29,56 @@ fn the_start_and_the_entries_are_told(rt: HostRuntime) -> Result<(), Fail> {
         ),
         Line::Gets(0, CONTROL, Datagram::Text("OK\n")),
     ];
-    let (answer, said, port) = run_with(&hearing, name, confs(&rt, 2)?, None, &lines)?;
-    expect(&rt, (answer.as_str(), said), ("1", 2));
+    let name = "told_store";
+    new_store(&rt, name);
+    let hearing = Hearing::new(rt, rt.alloc());
+    let port = runs_with(&hearing, name, confs(&rt, 2), None, LINES, "1");
     let wanted = format!(in rt.alloc();
         "[INFO  apd] serves commands on port {port}, wlan0 on port {}, wlan1 on port {}; stations recovered: 0\n[INFO  apd] entries 1\n",
         port.wrapping_add(1),
         port.wrapping_add(2)
-    )?;
-    expect(&rt, hearing.heard()?, wanted);
-    fs::remove_file(&rt, name)?;
-    Ok(())
+    );
+    hearing.expect_heard(wanted.expect(&rt, "memory").as_str());
+    remove_all(&rt, &[name]);
 }
 
 /// A configuration whose interface has this name, and whose BSSID ends in this number.
-fn conf(alloc: Global, interface: &str, number: u8) -> Result<Conf, Fail> {
-    let mut conf = Conf::built_in(alloc)?;
-    if !InterfaceName::is_name(interface.as_bytes()) {
-        return Err(Fail::new("no name of an interface"));
-    }
-    conf.interface = InterfaceName::new(interface, alloc)?;
+fn conf(rt: &impl Abort, alloc: Global, interface: &str, number: u8) -> Conf {
+    assert!(rt; InterfaceName::is_name(interface.as_bytes()));
+    let name = InterfaceName::new(interface, alloc).expect(rt, "memory");
+    let mut conf = Conf::built_in(alloc).expect(rt, "memory");
+    conf.interface = name;
     conf.bssid = Bssid(Addr([2, 0, 0, 0, 0, number]));
-    Ok(conf)
+    conf
 }
 
 /// The configurations of these interfaces, whose BSSIDs end in their places from this number on.
-fn numbered_confs(alloc: Global, interfaces: &[&str], first: u8) -> Result<Confs, Fail> {
+fn numbered_confs(rt: &impl Abort, alloc: Global, interfaces: &[&str], first: u8) -> Confs {
     let mut list = Vec::new(alloc);
     let mut number = first;
     for interface in interfaces {
-        list.push(conf(alloc, interface, number)?)?;
+        list.push(conf(rt, alloc, interface, number))
+            .expect(rt, "memory");
         number = number.wrapping_add(1);
     }
-    match Confs::new(list) {
-        Ok(confs) => Ok(confs),
-        Err(_) => Err(Fail::new("no configurations")),
-    }
+    Confs::new(list).expect(rt, "configurations")
 }
 
 #[test]
-fn a_ninth_bssid_of_a_store_is_told(rt: HostRuntime) -> Result<(), Fail> {
+fn a_ninth_bssid_of_a_store_is_told(rt: HostRuntime) {
     let alloc = rt.alloc();
     let name = "full_store";
-    new_store(&rt, name)?;
-    let eight = numbered_confs(alloc, &["a", "b", "c", "d", "e", "f", "g", "h"], 1)?;
-    let (answer, _, _) = run_with(&rt, name, eight, None, &[])?;
-    expect(&rt, answer.as_str(), "0");
-    let hearing = Hearing::new(rt, rt.alloc());
-    let (answer, _, port) = run_with(&hearing, name, numbered_confs(alloc, &["i"], 9)?, None, &[])?;
-    expect(&rt, answer.as_str(), "0");
+    new_store(&rt, name);
+    let eight = numbered_confs(&rt, alloc, &["a", "b", "c", "d", "e", "f", "g", "h"], 1);
+    let _port = runs_with(&rt, name, eight, None, &[], "0");
+    let ninth = numbered_confs(&rt, alloc, &["i"], 9);
+    let hearing = Hearing::new(rt, alloc);
+    let port = runs_with(&hearing, name, ninth, None, &[], "0");
     let wanted = format!(in alloc;
         "[WARN  apd] i is not served: the store has as many other BSSIDs as it can have\n[INFO  apd] serves commands on port {port}; stations recovered: 0\n[INFO  apd] entries 0\n"
-    )?;
-    expect(&rt, hearing.heard()?, wanted);
-    fs::remove_file(&rt, name)?;
-    Ok(())
+    );
+    hearing.expect_heard(wanted.expect(&rt, "memory").as_str());
+    remove_all(&rt, &[name]);
 }
 
 /// An input during which a store's file loses its name, and goes on for a while.
@@ -109,35 +106,46 @@ impl<R> Renaming<R> {
     }
 }
 
-#[test]
-fn a_store_that_is_removed_is_told(rt: HostRuntime) -> Result<(), Fail> {
-    let name = "removed_store";
-    new_store(&rt, name)?;
-    let hearing = Hearing::new(rt, rt.alloc());
-    let port = free_ports(&rt, 1)?;
-    let confs = confs(&rt, 1)?;
-    let reader = Renaming::new(rt, name, None);
-    let answer = run_at(&hearing, name, None, confs, port, &[], reader);
-    assert!(rt; answer.is_ok());
-    let line =
-        "[ERROR apd] removed_store was removed: what the store holds, and what is told from now on, is lost when this ends\n";
-    expect(&rt, hearing.heard()?.as_str().matches(line).count(), 1);
-    Ok(())
+/// Ends the test where `run` of a store doesn't end well while this input is read.
+fn runs_renaming<
+    R: Files<File = File> + Net + Wait + Threads + Clock + AllocGlobal + Log + Sync + Abort,
+    B: Read + Drop,
+>(rt: &R, store: &str, reader: B)
+where
+    R::Dir: Send + Sync,
+    R::Stream: Send + Sync,
+    R::Listener: Send + Sync,
+{
+    let port = free_ports(rt, 1);
+    let answer = run_at(rt, store, None, confs(rt, 1), port, &[], reader);
+    let is_well = answer.is_ok();
+    drop(answer);
+    expect(rt, is_well, true);
 }
 
 #[test]
-fn a_store_that_gets_another_name_is_told(rt: HostRuntime) -> Result<(), Fail> {
-    let name = "moved_store";
-    new_store(&rt, name)?;
+fn a_store_that_is_removed_is_told(rt: HostRuntime) {
+    let line =
+        "[ERROR apd] removed_store was removed: what the store holds, and what is told from now on, is lost when this ends\n";
+    let name = "removed_store";
+    new_store(&rt, name);
     let hearing = Hearing::new(rt, rt.alloc());
-    let port = free_ports(&rt, 1)?;
-    let confs = confs(&rt, 1)?;
-    let reader = Renaming::new(rt, name, Some("store_elsewhere"));
-    let answer = run_at(&hearing, name, None, confs, port, &[], reader);
-    assert!(rt; answer.is_ok());
+    runs_renaming(&hearing, name, Renaming::new(rt, name, None));
+    hearing.expect_heard_once(line);
+}
+
+#[test]
+fn a_store_that_gets_another_name_is_told(rt: HostRuntime) {
     let line =
         "[ERROR apd] moved_store is not the store that is served any more: a start from moved_store knows nothing of what is told from now on\n";
-    expect(&rt, hearing.heard()?.as_str().matches(line).count(), 1);
-    fs::remove_file(&rt, "store_elsewhere")?;
-    Ok(())
+    let name = "moved_store";
+    new_store(&rt, name);
+    let hearing = Hearing::new(rt, rt.alloc());
+    runs_renaming(
+        &hearing,
+        name,
+        Renaming::new(rt, name, Some("store_elsewhere")),
+    );
+    hearing.expect_heard_once(line);
+    remove_all(&rt, &["store_elsewhere"]);
 }
