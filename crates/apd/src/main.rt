@@ -94,22 +94,17 @@ fn format_command<'a>(alloc: Global) -> Result<Command<'a>, AllocError> {
 
 /// The command line.
 fn command<'a>(alloc: Global) -> Result<Command<'a>, AllocError> {
-    let check = check_command(alloc)?;
-    let format = format_command(alloc)?;
-    let run = run_command(alloc)?;
-    let script = script_command(alloc)?;
-    let upgrade = upgrade_command(alloc)?;
     Command::new(alloc, "apd")
         .bin_name("apd")?
         .version("0.1.0")
         .about("An access point daemon whose promises are proved")
         .after_help(HELP)
         .subcommand_required(true)
-        .subcommand(check)?
-        .subcommand(format)?
-        .subcommand(run)?
-        .subcommand(script)?
-        .subcommand(upgrade)
+        .subcommand(check_command(alloc)?)?
+        .subcommand(format_command(alloc)?)?
+        .subcommand(run_command(alloc)?)?
+        .subcommand(script_command(alloc)?)?
+        .subcommand(upgrade_command(alloc)?)
 }
 
 /// What ends the program with status 1.
@@ -177,18 +172,19 @@ fn work_on_files(
 ) -> Result<(), ProgramFault> {
     if let Some(check) = matches.subcommand_matches("check") {
         let store = check.get_str("STORE").unwrap_or("");
-        check_and_print(rt, store, &mut io::writer(rt))?;
+        check_and_print(rt, store, &mut io::writer(rt))
     } else if let Some(format) = matches.subcommand_matches("format") {
-        format_and_print(rt, format.get_str("STORE").unwrap_or(""))?;
+        format_and_print(rt, format.get_str("STORE").unwrap_or(""))
     } else if let Some(upgrade) = matches.subcommand_matches("upgrade") {
         let old = upgrade.get_str("OLD").unwrap_or("");
         let new = upgrade.get_str("NEW").unwrap_or("");
-        upgrade_and_print(rt, old, new, &mut io::writer(rt))?;
+        upgrade_and_print(rt, old, new, &mut io::writer(rt))
     } else if let Some(script) = matches.subcommand_matches("script") {
         let names = script.get_strs("CONF").unwrap_or(&[]);
-        run_script_of_input(rt, script.get_str("store"), names)?;
+        run_script_of_input(rt, script.get_str("store"), names)
+    } else {
+        Ok(())
     }
-    Ok(())
 }
 
 /// Does what a subcommand says.

@@ -92,10 +92,12 @@ fn site_of<'a>(
 /// Does what the subcommand's words say.
 pub fn run_and_log<R: Host>(rt: &R, matches: &ArgMatches<'_>) -> Result<(), RunningFault> {
     let names = matches.get_strs("CONF").unwrap_or(&[]);
-    let confs = read_configurations(rt, names).map_err(RunningFault::Configuration)?;
     let store = matches.get_str("store").unwrap_or("");
     let port = matches.get_one("port").unwrap_or(0);
     let site = site_of(store, port, matches.get_str("record"), names);
-    run(rt, confs, &site, rt.reader()).map_err(RunningFault::Run)?;
-    Ok(())
+    let confs = read_configurations(rt, names).map_err(RunningFault::Configuration)?;
+    match run(rt, confs, &site, rt.reader()).err() {
+        None => Ok(()),
+        Some(fault) => Err(RunningFault::Run(fault)),
+    }
 }

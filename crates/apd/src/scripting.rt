@@ -1,11 +1,13 @@
 //! The subcommand that runs a script.
 use crate::ProgramFault;
+use apd_conf::Confs;
+use apd_disk::Disk;
 use apd_script::{new_store, read_configurations, run_on_store};
 use apd_serve::{Access, open_disk};
 use clap::{Arg, ArgAction, Command};
 use std::alloc::{AllocError, Global};
 use std::fs::File;
-use std::io::{self, BufReader};
+use std::io::{self, BufRead, BufReader};
 use std::rt::Files;
 
 /// What the help for `script` says beside its arguments.
@@ -52,6 +54,39 @@ pub fn script_command<'a>(alloc: Global) -> Result<Command<'a>, AllocError> {
         .arg(files)
 }
 
+// Runs a script on the store of a device, and prints what it tells.
+fn run_and_print(
+    rt: &(impl Print + AllocGlobal),
+    disk: impl Disk + Drop,
+    confs: Confs,
+    reader: impl BufRead + Drop,
+) -> Result<(), ProgramFault> {
+    let ended = run_on_store(rt.alloc(), disk, confs, reader, &mut io::writer(rt)).err();
+    match ended {
+        None => Ok(()),
+        Some(fault) => Err(ProgramFault::Script(fault)),
+    }
+}
+
+// On the store of the file of this name, or on a new one in memory.
+fn run_script(
+    rt: &(impl Print + Files<File = File> + AllocGlobal),
+    store: Option<&str>,
+    confs: Confs,
+    reader: impl BufRead + Drop,
+) -> Result<(), ProgramFault> {
+    match store {
+        Some(name) => match open_disk(rt, name, Access::Write) {
+            Ok(disk) => run_and_print(rt, disk, confs, reader),
+            Err(fault) => Err(ProgramFault::Open(fault)),
+        },
+        None => match new_store(rt.alloc()) {
+            Ok(disk) => run_and_print(rt, disk, confs, reader),
+            Err(fault) => Err(ProgramFault::Script(fault)),
+        },
+    }
+}
+
 /// Runs the script on standard input, with the configurations of these files, on the store of the file of
 /// this name, or on a new one in memory.
 pub fn run_script_of_input(
@@ -59,24 +94,9 @@ pub fn run_script_of_input(
     store: Option<&str>,
     names: &[&str],
 ) -> Result<(), ProgramFault> {
-    let alloc = rt.alloc();
     let confs = read_configurations(rt, names).map_err(ProgramFault::Configuration)?;
-    let Ok(reader) = BufReader::new(alloc, rt.reader()) else {
-        return Err(ProgramFault::NoMemory);
-    };
-    let mut writer = io::writer(rt);
-    let ended = match store {
-        Some(name) => {
-            let disk = open_disk(rt, name, Access::Write).map_err(ProgramFault::Open)?;
-            run_on_store(alloc, disk, confs, reader, &mut writer).err()
-        }
-        None => {
-            let disk = new_store(alloc).map_err(ProgramFault::Script)?;
-            run_on_store(alloc, disk, confs, reader, &mut writer).err()
-        }
-    };
-    match ended {
-        None => Ok(()),
-        Some(fault) => Err(ProgramFault::Script(fault)),
+    match BufReader::new(rt.alloc(), rt.reader()) {
+        Ok(reader) => run_script(rt, store, confs, reader),
+        Err(_) => Err(ProgramFault::NoMemory),
     }
 }
