@@ -64,8 +64,7 @@ fn replies_meanwhile<L: Ledger + Send + Sync, W: Host>(
     shared: &Shared<L>,
     turnstile: &Turnstile,
 ) -> Option<bool> {
-    let seat = shared.seat(rt)?;
-    let flusher = holding_flusher(alloc, turnstile)?;
+    let (seat, flusher) = shared.seat(rt).zip(holding_flusher(alloc, turnstile))?;
     turnstile.arm();
     Some(commit_and_serve(rt, alloc, shared, seat, flusher, turnstile))
 }

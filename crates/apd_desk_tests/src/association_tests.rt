@@ -78,8 +78,7 @@ fn tells_new_seat<L: Ledger + Send + Sync, W: Host>(
     alloc: Global,
     shared: &Shared<L>,
 ) -> Option<bool> {
-    let seat = shared.seat(rt)?;
-    let flusher = memory_flusher(alloc)?;
+    let (seat, flusher) = shared.seat(rt).zip(memory_flusher(alloc))?;
     Some(commit_and_associate(rt, shared, flusher, seat))
 }
 

@@ -15,8 +15,7 @@ use std::time::Clock;
 
 // A committer over a new store that has the batch of a core under way.
 fn busy_committer(alloc: Global, core: &mut Core) -> Option<Committer<MemDisk>> {
-    let flusher = memory_flusher(alloc)?;
-    let batch = core.take().ok()?;
+    let (flusher, batch) = memory_flusher(alloc).zip(core.take().ok())?;
     let mut committer = Committer::new(flusher);
     let loads = matches!(committer.load(batch), Some(Ok(())));
     loads.then_some(committer)
@@ -39,12 +38,13 @@ fn tells<L: Ledger, W: Wait>(rt: &W, shared: &Shared<L>) -> Option<bool> {
     Some(told)
 }
 
-// Whether a station is there once the committer has ended.
+// Whether a station is there once the committer, where there is one, has ended.
 fn tells_once_settled<L: Ledger, W: Wait + Clock>(
     rt: &W,
     shared: &Shared<L>,
-    mut committer: Committer<MemDisk>,
+    committer: Option<Committer<MemDisk>>,
 ) -> Option<bool> {
+    let mut committer = committer?;
     shared.stop(rt);
     work(rt, shared, &mut committer);
     drop(committer);
@@ -62,7 +62,7 @@ fn settles_held_batch<L: Ledger, W: Wait + Clock>(
     requires all { blank.parts ≡ 65536 }
 {
     let mut core = asked_core(alloc)?;
-    let committer = busy_committer(alloc, &mut core)?;
+    let committer = busy_committer(alloc, &mut core);
     let shared: Shared<L> = Shared::new(core, blank);
     let told = tells_once_settled(rt, &shared, committer);
     drop(shared);
@@ -91,16 +91,26 @@ fn receipt_waits<D: Disk + Drop>(committer: Committer<D>) -> bool {
 }
 
 // Whether the receipt of another core's batch waits in the committer when the commits have ended.
+fn waits_behind<L: Ledger, W: Wait + Clock>(
+    rt: &W,
+    alloc: Global,
+    shared: &Shared<L>,
+) -> Option<bool> {
+    let mut committer = committer_of_another(alloc)?;
+    work(rt, shared, &mut committer);
+    Some(receipt_waits(committer))
+}
+
+// The same, of a new shared core.
 fn waits<L: Ledger, W: Wait + Clock>(rt: &W, alloc: Global, blank: Blank) -> Option<bool>
     requires name { blank.name ≡ L.name }
     requires parts { blank.parts ≡ L.parts }
     requires all { blank.parts ≡ 65536 }
 {
     let shared: Shared<L> = share(started_core(alloc), blank)?;
-    let mut committer = committer_of_another(alloc)?;
-    work(rt, &shared, &mut committer);
+    let waits = waits_behind(rt, alloc, &shared);
     drop(shared);
-    Some(receipt_waits(committer))
+    waits
 }
 
 #[test]

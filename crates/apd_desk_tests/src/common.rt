@@ -111,17 +111,25 @@ pub(crate) fn started_core(alloc: Global) -> Option<Core> {
 }
 
 fn wlan1(alloc: Global) -> Option<Conf> {
-    let mut conf = Conf::built_in(alloc).ok()?;
-    conf.interface = InterfaceName::new("wlan1", alloc).ok()?;
+    let name = InterfaceName::new("wlan1", alloc).ok();
+    let (mut conf, interface) = Conf::built_in(alloc).ok().zip(name)?;
+    conf.interface = interface;
     conf.bssid = WLAN1;
     Some(conf)
 }
 
+// Adds a configuration, where there is one.
+fn adds(list: &mut Vec<Conf>, conf: Option<Conf>) -> bool {
+    match conf {
+        Some(conf) => list.push(conf).is_ok(),
+        None => false,
+    }
+}
+
 fn two_confs(alloc: Global) -> Option<Confs> {
     let mut list = Vec::new(alloc);
-    list.push(Conf::built_in(alloc).ok()?).ok()?;
-    list.push(wlan1(alloc)?).ok()?;
-    Confs::new(list).ok()
+    let both = adds(&mut list, Conf::built_in(alloc).ok()) && adds(&mut list, wlan1(alloc));
+    Confs::new(both.then_some(list)?).ok()
 }
 
 fn starts_both(alloc: Global, core: &mut Core) -> bool {

@@ -103,9 +103,8 @@ fn serve_ticks<L: Ledger, W: Wait + Clock>(rt: &W, shared: &Shared<L>) -> Option
 
 // Both in one list.
 fn list_of_both<X: Drop>(one: Option<Vec<X>>, other: Option<X>) -> Option<Vec<X>> {
-    let mut all = one?;
-    all.push(other?).ok()?;
-    Some(all)
+    let (mut all, other) = one.zip(other)?;
+    all.push(other).is_ok().then_some(all)
 }
 
 fn serve_both<L: Ledger + Send + Sync, W: Host>(
@@ -171,13 +170,17 @@ fn fails<L: Ledger + Send + Sync, W: Host>(
     requires all { blank.parts ≡ 65536 }
 {
     let shared: Shared<L> = share(started_core(alloc), blank)?;
-    let seats = fail(rt, alloc, &shared, calls)?;
+    let seats = fail(rt, alloc, &shared, calls);
     close_and_count(shared, seats)
 }
 
-fn close_and_count<L: Ledger>(shared: Shared<L>, seats: Vec<Seat<L>>) -> Option<(usize, u64)>
+fn close_and_count<L: Ledger>(
+    shared: Shared<L>,
+    seats: Option<Vec<Seat<L>>>,
+) -> Option<(usize, u64)>
     requires { L.parts ≡ 65536 }
 {
+    let (shared, seats) = Some(shared).zip(seats)?;
     let back = seats.len();
     let (core, number) = shared.close(seats).ok()?;
     drop(core);

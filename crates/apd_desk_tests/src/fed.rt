@@ -88,16 +88,20 @@ impl Frame {
     // The frame to the BSSID that ends by this byte.
     fn bytes(&self, alloc: Global, bssid: u8) -> Result<Vec<u8>, AllocError> {
         let mut bytes = match self.0 {
-            Asks::Authentication => Vec::from_slice(alloc, &authentication(self.1))?,
-            Asks::Association => Vec::from_slice(alloc, &ASSOCIATION)?,
-            Asks::Leave => Vec::from_slice(alloc, &DEAUTHENTICATION)?,
-        };
+            Asks::Authentication => Vec::from_slice(alloc, &authentication(self.1)),
+            Asks::Association => Vec::from_slice(alloc, &ASSOCIATION),
+            Asks::Leave => Vec::from_slice(alloc, &DEAUTHENTICATION),
+        }?;
+        self.address(&mut bytes, bssid);
+        Ok(bytes)
+    }
+
+    fn address(&self, bytes: &mut [u8], bssid: u8) {
         for (at, byte) in [(9, bssid), (15, self.1), (21, bssid)] {
             if let Some(place) = bytes.get_mut(at) {
                 *place = byte;
             }
         }
-        Ok(bytes)
     }
 }
 

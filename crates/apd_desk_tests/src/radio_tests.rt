@@ -29,12 +29,25 @@ fn serve<L: Ledger, W: Wait + time::Clock + Net, R: Radio, C: Clock, G: Gate>(
     clock: &C,
     gate: &G,
 ) -> Option<Seat<L>> {
-    let seat = shared.seat(rt)?;
+    let (seat, inner) = shared.seat(rt).zip(Some(inner))?;
     let radio = Staged::new(rt, alloc, shared, inner, frames);
+    Some(serve_staged(rt, alloc, shared, seat, radio, clock, gate))
+}
+
+// Serves such a radio. Gives the seat back.
+fn serve_staged<L: Ledger, W: Wait + time::Clock + Net, R: Radio, C: Clock, G: Gate>(
+    rt: &W,
+    alloc: Global,
+    shared: &Shared<L>,
+    seat: Seat<L>,
+    radio: R,
+    clock: &C,
+    gate: &G,
+) -> Seat<L> {
     let slot = Slot::new(alloc, radio, WLAN0);
     let (seat, slot) = serve_radio(rt, alloc, shared, seat, slot, clock, Vec::new(alloc), gate);
     drop(slot);
-    Some(seat)
+    seat
 }
 
 // What a radio is told that meets want of memory so many times, at the first of the outs that wait. All are told to stop
@@ -121,10 +134,14 @@ fn departures_at<L: Ledger, W: Wait + time::Clock + Net>(
     let frame = authentication(0xaa);
     let radio = Sim::new(alloc);
     let mut seat = serve(rt, alloc, shared, radio, &[&frame], &At(200_000), &NoGate)?;
-    Some([
-        lets_go(rt, shared, &mut seat, 400_000),
-        lets_go(rt, shared, &mut seat, 500_000),
-    ])
+    Some(departures_by(rt, shared, &mut seat))
+}
+
+fn departures_by<L: Ledger, W: Wait>(rt: &W, shared: &Shared<L>, seat: &mut Seat<L>) -> [bool; 2] {
+    [
+        lets_go(rt, shared, seat, 400_000),
+        lets_go(rt, shared, seat, 500_000),
+    ]
 }
 
 #[test]
@@ -201,6 +218,17 @@ fn gate_log<L: Ledger, W: Wait + time::Clock + Net>(
     logged
 }
 
+// Whether both frames are received.
+fn receives_both<L: Ledger, W: Wait + time::Clock + Net>(
+    rt: &W,
+    alloc: Global,
+    shared: &Shared<L>,
+    log: &Log,
+) -> bool {
+    let frames: [&[u8]; 2] = [&authentication(0xaa), &ASSOCIATION];
+    serve(rt, alloc, shared, Sim::new(alloc), &frames, &Still, log).is_some()
+}
+
 // Whether both frames are received and committed.
 fn commits_both<L: Ledger, W: Wait + time::Clock + Net>(
     rt: &W,
@@ -208,8 +236,7 @@ fn commits_both<L: Ledger, W: Wait + time::Clock + Net>(
     shared: &Shared<L>,
     log: &Log,
 ) -> Option<()> {
-    let frames: [&[u8]; 2] = [&authentication(0xaa), &ASSOCIATION];
-    serve(rt, alloc, shared, Sim::new(alloc), &frames, &Still, log)?;
+    receives_both(rt, alloc, shared, log).then_some(())?;
     commit(rt, shared, memory_flusher(alloc)?, log);
     Some(())
 }

@@ -61,15 +61,16 @@ fn eight_stations<L: Ledger + Send + Sync, W: Host>(
     requires all { blank.parts ≡ 65536 }
 {
     let shared: Shared<L> = share(started_core(alloc), blank)?;
-    let seats = eight_seats(rt, alloc, &shared)?;
+    let seats = eight_seats(rt, alloc, &shared);
     commit_all(rt, alloc, &shared);
     close_and_show(shared, seats)
 }
 
 // What the core shows of the stations, and how many entries it accepted.
-fn close_and_show<L: Ledger>(shared: Shared<L>, seats: Vec<Seat<L>>) -> Option<(bool, u64)>
+fn close_and_show<L: Ledger>(shared: Shared<L>, seats: Option<Vec<Seat<L>>>) -> Option<(bool, u64)>
     requires { L.parts ≡ 65536 }
 {
+    let (shared, seats) = Some(shared).zip(seats)?;
     let (core, number) = shared.close(seats).ok()?;
     let shown = shows_eight(&core);
     drop(core);
@@ -126,24 +127,35 @@ fn there_are_65536_seats(rt: HostRuntime) {
     expect(&rt, given, Some(65_536));
 }
 
-// The seat of the station 0 in a list, and that of the station 1.
+// A list with one more seat.
+fn with<L: Ledger>(seats: Vec<Seat<L>>, seat: Seat<L>) -> Option<Vec<Seat<L>>> {
+    let mut seats = seats;
+    seats.push(seat).is_ok().then_some(seats)
+}
+
+// The seat of the station 0 in a list.
+fn first_seat<L: Ledger, W: Wait>(
+    rt: &W,
+    alloc: Global,
+    shared: &Shared<L>,
+) -> Option<Vec<Seat<L>>> {
+    with(Vec::new(alloc), seat_of(rt, shared, 0)?)
+}
+
+// The same, and that of the station 1.
 fn two_seats<L: Ledger, W: Wait>(
     rt: &W,
     alloc: Global,
     shared: &Shared<L>,
 ) -> Option<(Vec<Seat<L>>, Seat<L>)> {
-    let mut seats = Vec::new(alloc);
-    seats.push(seat_of(rt, shared, 0)?).ok()?;
-    let late = seat_of(rt, shared, 1)?;
-    Some((seats, late))
+    first_seat(rt, alloc, shared).zip(seat_of(rt, shared, 1))
 }
 
-// Closes with one more seat. How many entries there were.
-fn close_with<L: Ledger>(shared: Shared<L>, seats: Vec<Seat<L>>, seat: Seat<L>) -> Option<u64>
+// Closes with these seats. How many entries there were.
+fn close_with<L: Ledger>(shared: Shared<L>, seats: Option<Vec<Seat<L>>>) -> Option<u64>
     requires { L.parts ≡ 65536 }
 {
-    let mut seats = seats;
-    seats.push(seat).ok()?;
+    let (shared, seats) = Some(shared).zip(seats)?;
     let (core, number) = shared.close(seats).ok()?;
     drop(core);
     Some(number)
@@ -157,9 +169,10 @@ fn close_late<L: Ledger>(
 ) -> Option<(usize, u64)>
     requires { L.parts ≡ 65536 }
 {
-    let (shared, seats) = shared.close(seats).err()?;
+    let ((shared, seats), late) = shared.close(seats).err().zip(Some(late))?;
     let back = seats.len();
-    Some((back, close_with(shared, seats, late)?))
+    let number = close_with(shared, with(seats, late))?;
+    Some((back, number))
 }
 
 fn close_twice<L: Ledger, W: Wait>(rt: &W, alloc: Global, blank: Blank) -> Option<(usize, u64)>
@@ -168,7 +181,8 @@ fn close_twice<L: Ledger, W: Wait>(rt: &W, alloc: Global, blank: Blank) -> Optio
     requires all { blank.parts ≡ 65536 }
 {
     let shared: Shared<L> = share(started_core(alloc), blank)?;
-    let (seats, late) = two_seats(rt, alloc, &shared)?;
+    let two = two_seats(rt, alloc, &shared);
+    let (shared, (seats, late)) = Some(shared).zip(two)?;
     close_late(shared, seats, late)
 }
 

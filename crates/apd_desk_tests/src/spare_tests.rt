@@ -242,16 +242,16 @@ fn serve<'a, L: Ledger, W: Wait + Clock + Net>(
     rt: &W,
     alloc: Global,
     shared: &Shared<L>,
+    seat: Seat<L>,
     slot: Slot<Driver<'a>>,
     spares: Vec<Driver<'a>>,
     stations: [Addr; 2],
-) -> Option<Seen> {
-    let seat = shared.seat(rt)?;
+) -> Seen {
     let (seat, slot) = serve_radio(rt, alloc, shared, seat, slot, &Still, spares, &NoGate);
     drop(seat);
     let seen = see(&slot, stations);
     drop(slot);
-    Some(seen)
+    seen
 }
 
 // A radio at the BSSID that ends by this byte, which passes so many calls on, and fails then.
@@ -288,10 +288,10 @@ fn serve_first<L: Ledger, W: Wait + Clock + Net>(
     stage: &Stage,
     scene: Scene,
 ) -> Option<Seen> {
-    let spares = spares(alloc, stage, scene)?;
+    let (seat, spares) = shared.seat(rt).zip(spares(alloc, stage, scene))?;
     let slot = Slot::new(alloc, driver(alloc, 1, 1, stage, scene.frames), WLAN0);
     let stations = [station(0xaa), station(0xbb)];
-    serve(rt, alloc, shared, slot, spares, stations)
+    Some(serve(rt, alloc, shared, seat, slot, spares, stations))
 }
 
 fn serve_other<L: Ledger, W: Wait + Clock + Net>(
@@ -300,9 +300,10 @@ fn serve_other<L: Ledger, W: Wait + Clock + Net>(
     shared: &Shared<L>,
     stage: &Stage,
 ) -> Option<Seen> {
+    let seat = shared.seat(rt)?;
     let slot = Slot::new(alloc, driver(alloc, MANY, 2, stage, BESIDE), WLAN1);
-    let stations = [station(0xdd), station(0xe2)];
-    serve(rt, alloc, shared, slot, Vec::new(alloc), stations)
+    let (none, stations) = (Vec::new(alloc), [station(0xdd), station(0xe2)]);
+    Some(serve(rt, alloc, shared, seat, slot, none, stations))
 }
 
 // What is seen of both radios.

@@ -4,7 +4,7 @@ ghost use Rattle.std.specs.Prelude.{◌≡◌};
 
 use crate::asking::{Asker, Commands, Question, free_port, rest};
 use crate::common::{
-    Host, Still, WLAN0, asked_core, authentication, commit, memory_flusher, serve_radio,
+    Host, Still, WLAN0, asked_core, authentication, commit, memory_flusher, serve_radio, share,
     started_core,
 };
 use crate::expect::expect;
@@ -63,7 +63,7 @@ fn serve_slot<L: Ledger, W: Wait + Clock + Net, R: Radio>(
     radio: R,
     spares: Vec<R>,
 ) {
-    if let Some(seat) = shared.seat(rt) {
+    if let Some((seat, (radio, spares))) = shared.seat(rt).zip(Some((radio, spares))) {
         let slot = Slot::new(alloc, radio, WLAN0);
         drop(serve_radio(rt, alloc, shared, seat, slot, &Still, spares, &NoGate));
     }
@@ -75,7 +75,7 @@ fn serve_port<L: Ledger, W: Wait + Clock + Net>(
     shared: &Shared<L>,
     port: Commands,
 ) {
-    if let Some(seat) = shared.seat(rt) {
+    if let Some((seat, port)) = shared.seat(rt).zip(Some(port)) {
         drop(control_worker(rt, alloc, shared, seat, port, &Still, &NoGate));
     }
 }
@@ -172,23 +172,24 @@ fn commands_at(rt: &impl Net, alloc: Global, port: u16) -> Option<Commands> {
     Some(Commands::new(Datagrams::bind(rt, alloc, port).ok()?))
 }
 
-// The same, of a new shared core.
+// The same, of a new shared core, where neither that nor the crew is missing.
 fn are_answered<L: Ledger + Send + Sync, W: Host, R: Radio + Send>(
     rt: &W,
     alloc: Global,
     blank: Blank,
-    core: Core,
-    crew: Crew<R>,
+    core: Option<Core>,
+    crew: Option<Crew<R>>,
     questions: &[Question<'_>],
 ) -> bool
     requires name { blank.name ≡ L.name }
     requires parts { blank.parts ≡ L.parts }
     requires all { blank.parts ≡ 65536 }
 {
-    let shared: Shared<L> = Shared::new(core, blank);
-    let answered = is_answered(rt, alloc, &shared, crew, questions);
-    drop(shared);
-    answered
+    let shared: Option<Shared<L>> = share(core, blank);
+    match shared.zip(crew) {
+        Some((shared, crew)) => is_answered(rt, alloc, &shared, crew, questions),
+        None => false,
+    }
 }
 
 fn crew_with<R: Radio>(
@@ -201,9 +202,14 @@ fn crew_with<R: Radio>(
     crew_of(memory_flusher(alloc), radio, Some(Vec::new(alloc)), port)
 }
 
+// Two ports that were free a moment ago.
+fn two_free_ports(rt: &impl Net) -> Option<(u16, u16)> {
+    free_port(rt).zip(free_port(rt))
+}
+
 // How frames, and more of them than a turn takes, a command and an order are answered.
 fn answers_of_each_kind<W: Host>(rt: &W, alloc: Global) -> Option<bool> {
-    let (radio_port, port) = (free_port(rt)?, free_port(rt)?);
+    let (radio_port, port) = two_free_ports(rt)?;
     let frame = authentication(0xaa);
     let questions = [
         Question::new(radio_port, &frame, &AUTHENTICATED, 1),
@@ -212,8 +218,8 @@ fn answers_of_each_kind<W: Host>(rt: &W, alloc: Global) -> Option<bool> {
         Question::new(radio_port, &frame, &AUTHENTICATED, 150),
         Question::new(port, b"PING", b"PONG\n", 150),
     ];
-    let core = started_core(alloc)?;
-    let crew = crew_with(rt, alloc, UdpSim::new(rt, alloc, radio_port).ok(), port)?;
+    let core = started_core(alloc);
+    let crew = crew_with(rt, alloc, UdpSim::new(rt, alloc, radio_port).ok(), port);
     let blank = Blank::new(65_536);
     Some(are_answered::<Brand, _, _>(rt, alloc, blank, core, crew, &questions))
 }
@@ -249,11 +255,11 @@ fn crew_with_spare(rt: &impl Net, alloc: Global, ports: [u16; 3]) -> Option<Crew
 // How frames at another radio are answered, which takes the place of one that fails as a station is installed. At the
 // second one its worker waits there.
 fn answers_at_a_spare<W: Host>(rt: &W, alloc: Global) -> Option<bool> {
-    let (first, last, port) = (free_port(rt)?, free_port(rt)?, free_port(rt)?);
+    let ((first, last), port) = two_free_ports(rt).zip(free_port(rt))?;
     let frame = authentication(0xbb);
     let questions = [Question::new(last, &frame, &OTHER_AUTHENTICATED, 1); 2];
-    let core = asked_core(alloc)?;
-    let crew = crew_with_spare(rt, alloc, [first, last, port])?;
+    let core = asked_core(alloc);
+    let crew = crew_with_spare(rt, alloc, [first, last, port]);
     let blank = Blank::new(65_536);
     Some(are_answered::<Brand, _, _>(rt, alloc, blank, core, crew, &questions))
 }
@@ -271,11 +277,11 @@ fn short_radio(rt: &impl Net, alloc: Global, port: u16) -> Option<Short<UdpSim>>
 
 // How a frame is answered by a radio that lacks memory for the answer.
 fn answers_where_memory_lacks<W: Host>(rt: &W, alloc: Global) -> Option<bool> {
-    let (radio_port, port) = (free_port(rt)?, free_port(rt)?);
+    let (radio_port, port) = two_free_ports(rt)?;
     let frame = authentication(0xaa);
     let questions = [Question::new(radio_port, &frame, &AUTHENTICATED, 1)];
-    let core = started_core(alloc)?;
-    let crew = crew_with(rt, alloc, short_radio(rt, alloc, radio_port), port)?;
+    let core = started_core(alloc);
+    let crew = crew_with(rt, alloc, short_radio(rt, alloc, radio_port), port);
     let blank = Blank::new(65_536);
     Some(are_answered::<Brand, _, _>(rt, alloc, blank, core, crew, &questions))
 }
