@@ -1,55 +1,45 @@
 //! What lies between a core and a device: whatever is refused there waits, and is not lost.
-use crate::common::{LENGTH, Seen, batch_of, blank_disk, look, policy, put};
+use crate::common::{LENGTH, Seen, batch_of, blank_disk, format_store, look, policy, put};
 use crate::expect::expect;
 use apd_base::Station;
 use apd_disk::{Disk, FuseDisk, MemDisk};
 use apd_flusher::{Committer, Flusher, Phase};
 use apd_journal::Batch;
-use apd_record::Change;
-use apd_store::{Receipt, Store, StoreFault, format, recover};
+use apd_store::{Receipt, Store, StoreFault, recover};
 use apd_table::Table;
-use std::alloc::{AllocError, Global};
-use std::test::Fail;
-
-/// The device, formatted.
-fn format_device<D: Disk>(alloc: Global, disk: D) -> Option<D>
-where
-    D: Drop,
-{
-    Some(format(alloc, disk).ok()?.into_device())
-}
+use std::alloc::Global;
+use std::process::Abort;
 
 /// The store of a device, and its table.
-fn recover_store<D: Disk>(alloc: Global, disk: D) -> Option<(Store<D>, Table)>
+fn recover_store<D: Disk>(rt: &impl Abort, alloc: Global, disk: D) -> (Store<D>, Table)
 where
     D: Drop,
 {
-    recover(alloc, disk).ok()
-}
-
-/// A flusher of a store and its table.
-fn flusher<D: Disk>(alloc: Global, store: Store<D>, table: Table) -> Option<Flusher<D>>
-where
-    D: Drop,
-{
-    Flusher::new(alloc, store, table).ok()
+    recover(alloc, disk).ok().expect(rt, "a recovery")
 }
 
 /// A committer of the store that a device holds.
-fn committer<D: Disk>(alloc: Global, disk: D) -> Option<Committer<D>>
+fn committer<D: Disk>(rt: &impl Abort, alloc: Global, disk: D) -> Committer<D>
 where
     D: Drop,
 {
-    let (store, table) = recover_store(alloc, disk)?;
-    Some(Committer::new(flusher(alloc, store, table)?))
+    let (store, table) = recover_store(rt, alloc, disk);
+    let flusher = Flusher::new(alloc, store, table).ok();
+    Committer::new(flusher.expect(rt, "memory"))
 }
 
-/// A committer of a new store.
-fn new_committer(alloc: Global) -> Option<Committer<MemDisk>> {
-    committer(
-        alloc,
-        format_device(alloc, blank_disk(alloc, LENGTH).ok()?)?,
-    )
+/// A committer of a new store on a device.
+fn new_committer<D: Disk>(rt: &impl Abort, alloc: Global, disk: D) -> Committer<D>
+where
+    D: Drop,
+{
+    let device = format_store(rt, alloc, disk).into_device();
+    committer(rt, alloc, device)
+}
+
+/// The same in memory.
+fn committer_in_memory(rt: &impl Abort, alloc: Global) -> Committer<MemDisk> {
+    new_committer(rt, alloc, blank_disk(rt, alloc, LENGTH))
 }
 
 /// What is answered to a load.
@@ -63,14 +53,20 @@ fn hand_in<D: Disk>(committer: &mut Committer<D>, batch: Batch) -> Loaded {
     committer.load(Some(batch))
 }
 
-/// The same of a batch of this number, with one change.
-fn hand_in_change<D: Disk>(
+/// The same of a policy's batch, of the number 1.
+fn hand_in_policy<D: Disk>(rt: &impl Abort, alloc: Global, committer: &mut Committer<D>) -> Loaded {
+    hand_in(committer, batch_of(rt, alloc, 1, policy(rt)))
+}
+
+/// The same of a station's batch of this number.
+fn hand_in_station<D: Disk>(
+    rt: &impl Abort,
     alloc: Global,
     committer: &mut Committer<D>,
     number: u64,
-    change: Change,
 ) -> Loaded {
-    hand_in(committer, batch_of(alloc, number, change).ok()?)
+    let change = put(Station::Authenticated);
+    hand_in(committer, batch_of(rt, alloc, number, change))
 }
 
 /// Loads the batch that waits.
@@ -78,12 +74,16 @@ fn load<D: Disk>(committer: &mut Committer<D>) -> Loaded {
     committer.load(None)
 }
 
+/// Makes a turn.
+fn turn<D: Disk>(committer: &mut Committer<D>) -> Result<(), StoreFault> {
+    committer.turn()
+}
+
 /// Makes four turns.
-fn four_turns<D: Disk>(committer: &mut Committer<D>) -> Result<(), StoreFault> {
+fn four_turns<D: Disk>(rt: &impl Abort, committer: &mut Committer<D>) {
     for _turn in 0..4 {
-        committer.turn()?;
+        turn(committer).expect(rt, "a turn");
     }
-    Ok(())
 }
 
 /// The number of the batch whose receipt is given.
@@ -116,40 +116,41 @@ where
     (number_of(&batch), number_in(&receipt))
 }
 
-/// What is answered to a batch that is refused, whether it waits then, what is answered to the next load, and what waits
-/// at the end.
-type Refused = (Loaded, bool, Loaded, (Option<u64>, Option<u64>));
-
-/// The same of a station's batch, of this number.
-fn refusal_of<D: Disk>(alloc: Global, committer: Committer<D>, number: u64) -> Refused
+/// Expects that a station's batch of this number is refused for this fault and waits, that the next load is answered
+/// so, and that the batch waits at the end.
+fn expect_waits<D: Disk>(
+    rt: &impl Abort,
+    alloc: Global,
+    committer: Committer<D>,
+    number: u64,
+    fault: StoreFault,
+)
 where
     D: Drop,
 {
     let mut committer = committer;
-    let first = hand_in_change(alloc, &mut committer, number, put(Station::Authenticated));
+    let first = hand_in_station(rt, alloc, &mut committer, number);
     let waits = committer.has_batch();
     let next = load(&mut committer);
-    (first, waits, next, rest_of(committer))
-}
-
-/// What is to be found where it is refused for this fault, and waits.
-fn waits(fault: StoreFault, number: u64) -> Refused {
+    let found = (first, waits, next, rest_of(committer));
     let refusal = Some(Err(fault));
-    (refusal, true, refusal, (Some(number), None))
+    expect(rt, found, (refusal, true, refusal, (Some(number), None)));
 }
 
 // The station's BSSID has no policy.
 #[test]
-fn a_bad_batch_waits(rt: HostRuntime) -> Result<(), Fail> {
-    let committer = new_committer(rt.alloc()).ok_or("memory")?;
-    let found = refusal_of(rt.alloc(), committer, 5);
-    expect(&rt, found, waits(StoreFault::BadBatch, 5));
-    Ok(())
+fn a_bad_batch_waits(rt: HostRuntime) {
+    let committer = committer_in_memory(&rt, rt.alloc());
+    expect_waits(&rt, rt.alloc(), committer, 5, StoreFault::BadBatch);
 }
 
 /// Adds zeros up to a length, which no proof meets here.
-fn pad(bytes: &mut Vec<u8>, length: usize) -> Result<(), AllocError> {
-    bytes.resize(length, 0)
+fn pad(rt: &impl Abort, bytes: &mut Vec<u8>, length: usize) {
+    bytes.resize(length, 0).expect(rt, "memory");
+}
+
+fn add(rt: &impl Abort, bytes: &mut Vec<u8>, more: &[u8]) {
+    bytes.extend_from_slice(more).expect(rt, "memory");
 }
 
 /// The record of a policy of the BSSID.
@@ -159,83 +160,71 @@ const POLICY: &[u8] = &[6, 2, 0, 0, 0, 0, 1, 0, 0xd7, 7];
 const POLICIES: u32 = 104_855;
 
 /// The bytes of a device whose half A is full, and of the greatest epoch.
-fn worn_bytes(alloc: Global) -> Result<Vec<u8>, AllocError> {
-    let mut bytes = Vec::from_slice(alloc, b"RAPSTOR2")?;
-    pad(&mut bytes, 64)?;
-    bytes.push(1)?;
-    bytes.extend_from_slice(&u64::MAX.to_le_bytes())?;
-    bytes.extend_from_slice(&1_048_550_u32.to_le_bytes())?;
+fn worn_bytes(rt: &impl Abort, alloc: Global) -> Vec<u8> {
+    let mut bytes = Vec::new(alloc);
+    add(rt, &mut bytes, b"RAPSTOR2");
+    pad(rt, &mut bytes, 64);
+    add(rt, &mut bytes, &[1]);
+    add(rt, &mut bytes, &u64::MAX.to_le_bytes());
+    add(rt, &mut bytes, &1_048_550_u32.to_le_bytes());
     for _record in 0..POLICIES {
-        bytes.extend_from_slice(POLICY)?;
+        add(rt, &mut bytes, POLICY);
     }
-    pad(&mut bytes, LENGTH)?;
-    Ok(bytes)
+    pad(rt, &mut bytes, LENGTH);
+    bytes
 }
 
-fn worn_committer(alloc: Global) -> Option<Committer<MemDisk>> {
-    committer(alloc, MemDisk::new(alloc, worn_bytes(alloc).ok()?).ok()?)
+fn worn_committer(rt: &impl Abort, alloc: Global) -> Committer<MemDisk> {
+    let disk = MemDisk::new(alloc, worn_bytes(rt, alloc));
+    committer(rt, alloc, disk.expect(rt, "memory"))
 }
 
 #[test]
-fn a_batch_for_which_a_worn_store_has_no_room_waits(rt: HostRuntime) -> Result<(), Fail> {
-    let committer = worn_committer(rt.alloc()).ok_or("memory")?;
-    let found = refusal_of(rt.alloc(), committer, 5);
-    expect(&rt, found, waits(StoreFault::Worn, 5));
-    Ok(())
-}
-
-/// Loads a policy as the batch 1, and makes a turn; what is answered to both.
-fn begins<D: Disk>(
-    alloc: Global,
-    committer: &mut Committer<D>,
-) -> Result<(Loaded, Result<(), StoreFault>), Fail> {
-    let loaded = hand_in_change(alloc, committer, 1, policy()?);
-    Ok((loaded, committer.turn()))
+fn a_batch_for_which_a_worn_store_has_no_room_waits(rt: HostRuntime) {
+    let committer = worn_committer(&rt, rt.alloc());
+    expect_waits(&rt, rt.alloc(), committer, 5, StoreFault::Worn);
 }
 
 /// A committer over a device that fails at its first call behind the seven of the format and the two of the recovery.
-fn committer_on_fuse(alloc: Global) -> Option<Committer<FuseDisk<MemDisk>>> {
-    let fuse = FuseDisk::new(blank_disk(alloc, LENGTH).ok()?, 9);
-    committer(alloc, format_device(alloc, fuse)?)
+fn committer_on_fuse(rt: &impl Abort, alloc: Global) -> Committer<FuseDisk<MemDisk>> {
+    let fuse = FuseDisk::new(blank_disk(rt, alloc, LENGTH), 9);
+    new_committer(rt, alloc, fuse)
 }
 
-/// A committer that has failed.
-fn committer_behind_fault(alloc: Global) -> Result<Committer<FuseDisk<MemDisk>>, Fail> {
-    let mut committer = committer_on_fuse(alloc).ok_or("memory")?;
-    if begins(alloc, &mut committer)? != (Some(Ok(())), Err(StoreFault::Device)) {
-        return Err(Fail::from("no fault"));
-    }
-    Ok(committer)
+/// Loads a policy as the batch 1, and makes a turn, which fails.
+fn expect_fault<D: Disk>(rt: &impl Abort, alloc: Global, committer: &mut Committer<D>) {
+    let loaded = hand_in_policy(rt, alloc, committer);
+    let begun = (loaded, turn(committer));
+    expect(rt, begun, (Some(Ok(())), Err(StoreFault::Device)));
 }
 
 #[test]
-fn a_batch_waits_where_the_device_has_failed(rt: HostRuntime) -> Result<(), Fail> {
-    let committer = committer_behind_fault(rt.alloc())?;
-    let found = refusal_of(rt.alloc(), committer, 2);
-    expect(&rt, found, waits(StoreFault::Failed, 2));
-    Ok(())
+fn a_batch_waits_where_the_device_has_failed(rt: HostRuntime) {
+    let mut committer = committer_on_fuse(&rt, rt.alloc());
+    expect_fault(&rt, rt.alloc(), &mut committer);
+    expect_waits(&rt, rt.alloc(), committer, 2, StoreFault::Failed);
 }
 
 /// Loads a policy, and makes its four turns.
-fn commit_policy<D: Disk>(alloc: Global, committer: &mut Committer<D>) -> Result<Loaded, Fail> {
-    let loaded = hand_in_change(alloc, committer, 1, policy()?);
-    four_turns(committer)?;
-    Ok(loaded)
+fn commit_policy<D: Disk>(rt: &impl Abort, alloc: Global, committer: &mut Committer<D>) {
+    let _loaded = hand_in_policy(rt, alloc, committer);
+    four_turns(rt, committer);
 }
 
 /// What is answered to the station's batch in a policy's first turn, to the load behind its last one, and to that behind
 /// its receipt; and the numbers of both receipts.
 type Both = ([Loaded; 3], [Option<u64>; 2]);
 
-fn commit_both<D: Disk>(alloc: Global, committer: &mut Committer<D>) -> Result<Both, Fail> {
-    let _begun = begins(alloc, committer)?;
-    let busy = hand_in_change(alloc, committer, 2, put(Station::Authenticated));
-    four_turns(committer)?;
+fn commit_both<D: Disk>(rt: &impl Abort, alloc: Global, committer: &mut Committer<D>) -> Both {
+    let _loaded = hand_in_policy(rt, alloc, committer);
+    let _begun = turn(committer);
+    let busy = hand_in_station(rt, alloc, committer, 2);
+    four_turns(rt, committer);
     let done = load(committer);
     let first = receipt(committer);
     let idle = load(committer);
-    four_turns(committer)?;
-    Ok(([busy, done, idle], [first, receipt(committer)]))
+    four_turns(rt, committer);
+    ([busy, done, idle], [first, receipt(committer)])
 }
 
 fn device<D: Disk>(committer: Committer<D>) -> D
@@ -247,82 +236,64 @@ where
 }
 
 /// The same, and what the device shows.
-fn both_committed(alloc: Global) -> Result<(Both, Seen), Fail> {
-    let mut committer = new_committer(alloc).ok_or("memory")?;
-    let both = commit_both(alloc, &mut committer);
-    let seen = look(alloc, device(committer));
-    Ok((both?, seen))
+fn both_committed(rt: &impl Abort, alloc: Global) -> (Both, Seen) {
+    let mut committer = committer_in_memory(rt, alloc);
+    let both = commit_both(rt, alloc, &mut committer);
+    (both, look(alloc, device(committer)))
 }
 
 #[test]
-fn a_batch_waits_until_the_one_in_flight_is_published(rt: HostRuntime) -> Result<(), Fail> {
-    let (both, seen) = both_committed(rt.alloc())?;
+fn a_batch_waits_until_the_one_in_flight_is_published(rt: HostRuntime) {
+    let (both, seen) = both_committed(&rt, rt.alloc());
     let busy = Some(Err(StoreFault::NotIdle));
     expect(&rt, both, ([busy, busy, Some(Ok(()))], [Some(1), Some(2)]));
-    expect(
-        &rt,
-        seen,
-        Ok((Some((0, 2007)), Some(Station::Authenticated))),
-    );
-    Ok(())
+    let there = Ok((Some((0, 2007)), Some(Station::Authenticated)));
+    expect(&rt, seen, there);
 }
 
 /// The number of each receipt that is given: of a policy's, which is taken back twice; and once the station is committed
 /// behind it, of each.
 fn receipts<D: Disk>(
+    rt: &impl Abort,
     alloc: Global,
     committer: &mut Committer<D>,
-) -> Result<[Option<u64>; 5], Fail> {
-    let _loaded = commit_policy(alloc, committer)?;
+) -> [Option<u64>; 5] {
+    commit_policy(rt, alloc, committer);
     let once = receipt_taken_back(committer);
     let twice = receipt_taken_back(committer);
-    let _loaded = hand_in_change(alloc, committer, 2, put(Station::Authenticated));
-    four_turns(committer)?;
+    let _loaded = hand_in_station(rt, alloc, committer, 2);
+    four_turns(rt, committer);
     let first = receipt(committer);
     let second = receipt(committer);
-    Ok([once, twice, first, second, receipt(committer)])
+    [once, twice, first, second, receipt(committer)]
 }
 
 #[test]
-fn a_receipt_that_is_taken_back_is_given_again(rt: HostRuntime) -> Result<(), Fail> {
-    let mut committer = new_committer(rt.alloc()).ok_or("memory")?;
-    let found = receipts(rt.alloc(), &mut committer);
-    drop(committer);
-    expect(&rt, found?, [Some(1), Some(1), Some(1), Some(2), None]);
-    Ok(())
+fn a_receipt_that_is_taken_back_is_given_again(rt: HostRuntime) {
+    let mut committer = committer_in_memory(&rt, rt.alloc());
+    let found = receipts(&rt, rt.alloc(), &mut committer);
+    expect(&rt, found, [Some(1), Some(1), Some(1), Some(2), None]);
 }
 
-/// What waits at the end where the receipt of a policy was taken back.
-fn rest_behind_policy(alloc: Global) -> Result<(Option<u64>, Option<u64>), Fail> {
-    let mut committer = new_committer(alloc).ok_or("memory")?;
-    let loaded = commit_policy(alloc, &mut committer);
+#[test]
+fn a_receipt_that_waits_is_left_at_the_end(rt: HostRuntime) {
+    let mut committer = committer_in_memory(&rt, rt.alloc());
+    commit_policy(&rt, rt.alloc(), &mut committer);
     let _number = receipt_taken_back(&mut committer);
-    let rest = rest_of(committer);
-    let _loaded = loaded?;
-    Ok(rest)
+    expect(&rt, rest_of(committer), (None, Some(1)));
 }
 
-#[test]
-fn a_receipt_that_waits_is_left_at_the_end(rt: HostRuntime) -> Result<(), Fail> {
-    expect(&rt, rest_behind_policy(rt.alloc())?, (None, Some(1)));
-    Ok(())
-}
-
-/// What is answered to a load, to a turn and to who asks for a receipt.
-fn nothing<D: Disk>(
-    committer: &mut Committer<D>,
-) -> (Loaded, Result<(), StoreFault>, Option<u64>, Phase) {
+/// There is nothing to load, and no receipt.
+fn expect_nothing<D: Disk>(rt: &impl Abort, committer: &mut Committer<D>) {
     let loaded = load(committer);
-    let turn = committer.turn();
+    let made = turn(committer);
     let number = receipt(committer);
-    (loaded, turn, number, committer.phase())
+    let found = (loaded, made, number, committer.phase());
+    expect(rt, found, (None, Ok(()), None, Phase::Idle));
 }
 
 #[test]
-fn there_is_nothing_to_load_and_no_receipt_at_first(rt: HostRuntime) -> Result<(), Fail> {
-    let mut committer = new_committer(rt.alloc()).ok_or("memory")?;
-    let found = nothing(&mut committer);
-    drop(committer);
-    expect(&rt, found, (None, Ok(()), None, Phase::Idle));
-    Ok(())
+fn there_is_nothing_to_load_and_no_receipt_at_first(rt: HostRuntime) {
+    let mut committer = committer_in_memory(&rt, rt.alloc());
+    expect_nothing(&rt, &mut committer);
 }

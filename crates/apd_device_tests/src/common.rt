@@ -1,11 +1,13 @@
-//! What several tests of stores and of what stands on them use.
+//! What several tests of stores and of what stands on them use. What a test builds on has to be made: where it isn't,
+//! the test ends there.
 use apd_base::{AclMode, Addr, Aid, Association, Bssid, Policy, Sequence, Station, StationNumber};
 use apd_disk::{Call, Disk, MemDisk};
 use apd_journal::Batch;
 use apd_record::Change;
-use apd_store::{StoreFault, recover};
-use std::alloc::{AllocError, Global};
-use std::test::Fail;
+use apd_store::{Store, StoreFault, format, recover};
+use apd_table::Table;
+use std::alloc::Global;
+use std::process::Abort;
 
 pub(crate) const BSSID: Bssid = Bssid(Addr([2, 0, 0, 0, 0, 1]));
 
@@ -14,7 +16,7 @@ pub(crate) const STATION: Addr = Addr([2, 0, 0, 0, 0, 0xaa]);
 pub(crate) const LENGTH: usize = 2_097_216;
 
 // Half A from its first byte on, after a policy and an authenticated station.
-pub(crate) const TWO_GROUPS: [u8; 54] = [
+pub(crate) const TWO_GROUPS: &[u8] = &[
     1, 1, 0, 0, 0, 0, 0, 0, 0, 0, 0, 0, 0, // the gate, the epoch and the snapshot
     1, 10, 0, 0, 0, 6, 2, 0, 0, 0, 0, 1, 0, 0xd7, 7, // at 77
     1, 20, 0, 0, 0, 1, 2, 0, 0, 0, 0, 1, 2, 0, 0, 0, 0, 0xaa, 1, 0, 0, 0, 0, 0, 0, // at 92
@@ -22,32 +24,44 @@ pub(crate) const TWO_GROUPS: [u8; 54] = [
 ];
 
 // A disk whose bytes are all this one. No clause says what it holds: a proof would go through two million bytes.
-pub(crate) fn disk_of_byte(alloc: Global, byte: u8, size: usize) -> Result<MemDisk, AllocError> {
-    MemDisk::new(alloc, vec![in alloc; byte; size]?)
+pub(crate) fn disk_of_byte(rt: &impl Abort, alloc: Global, byte: u8, size: usize) -> MemDisk {
+    let bytes = vec![in alloc; byte; size].expect(rt, "memory");
+    MemDisk::new(alloc, bytes).expect(rt, "memory")
 }
 
-pub(crate) fn blank_disk(alloc: Global, size: usize) -> Result<MemDisk, AllocError> {
-    disk_of_byte(alloc, 0, size)
+pub(crate) fn blank_disk(rt: &impl Abort, alloc: Global, size: usize) -> MemDisk {
+    disk_of_byte(rt, alloc, 0, size)
 }
 
-// Writes bytes where they lie inside the disk, and syncs them.
-pub(crate) fn write_bytes<D: Disk>(disk: &mut D, at: usize, bytes: &[u8]) -> Result<(), Fail> {
-    if at > disk.len() || bytes.len() > disk.len() - at {
-        return Err(Fail::from("outside the disk"));
-    }
-    disk.write_at(at, bytes)?;
-    disk.sync()?;
-    Ok(())
+// Writes bytes, which have to lie inside the disk.
+pub(crate) fn write_inside<D: Disk>(rt: &impl Abort, disk: &mut D, at: usize, bytes: &[u8]) {
+    let length = disk.len();
+    assert!(rt; at <= length);
+    assert!(rt; bytes.len() <= length - at);
+    disk.write_at(at, bytes).expect(rt, "a write");
 }
 
-pub(crate) fn policy() -> Result<Change, Fail> {
-    Ok(Change::Policy {
+// The same, and syncs them.
+pub(crate) fn write_bytes<D: Disk>(rt: &impl Abort, disk: &mut D, at: usize, bytes: &[u8]) {
+    write_inside(rt, disk, at, bytes);
+    disk.sync().expect(rt, "a sync");
+}
+
+// The store of a device that is formatted.
+pub(crate) fn format_store<D: Disk>(rt: &impl Abort, alloc: Global, disk: D) -> Store<D>
+where
+    D: Drop,
+{
+    format(alloc, disk).ok().expect(rt, "a format")
+}
+
+pub(crate) fn policy(rt: &impl Abort) -> Change {
+    let max = StationNumber::new(2007).expect(rt, "a limit");
+    let mode = AclMode::AcceptUnlessDenied;
+    Change::Policy {
         bssid: BSSID,
-        policy: Policy {
-            mode: AclMode::AcceptUnlessDenied,
-            max: StationNumber::new(2007).ok_or("2007 is a limit")?,
-        },
-    })
+        policy: Policy { mode, max },
+    }
 }
 
 pub(crate) fn put(station: Station) -> Change {
@@ -58,30 +72,23 @@ pub(crate) fn put(station: Station) -> Change {
     }
 }
 
-pub(crate) fn associated_row() -> Result<Change, Fail> {
-    Ok(put(Station::Associated(Association {
-        aid: Aid::new(1).ok_or("1 is an identifier")?,
+// The station's association, under the identifier 1.
+pub(crate) fn association(rt: &impl Abort) -> Station {
+    Station::Associated(Association {
+        aid: Aid::new(1).expect(rt, "an identifier"),
         capability: 0x0431,
         listen_interval: 10,
-    })))
-}
-
-// The identifier that the BSSID gave last.
-pub(crate) fn cursor(number: u16) -> Result<Change, Fail> {
-    Ok(Change::Cursor {
-        bssid: BSSID,
-        last: StationNumber::new(number).ok_or("it is a number of stations")?,
     })
 }
 
-pub(crate) fn batch_of(alloc: Global, number: u64, change: Change) -> Result<Batch, AllocError> {
+pub(crate) fn batch_of(rt: &impl Abort, alloc: Global, number: u64, change: Change) -> Batch {
     let mut changes = Sequence::new(alloc);
-    changes.push(change)?;
-    Ok(Batch {
+    changes.push(change).expect(rt, "memory");
+    Batch {
         first: number,
         last: number,
         changes,
-    })
+    }
 }
 
 // A call by its place and how many bytes it reads or writes.
@@ -92,29 +99,40 @@ pub(crate) enum Made {
     Sync,
 }
 
+fn shape_of(call: &Call) -> Made {
+    match call {
+        Call::Read(at, length) => Made::Read(*at, *length),
+        Call::Write(at, bytes) => Made::Write(*at, bytes.len()),
+        Call::Sync => Made::Sync,
+    }
+}
+
 // The calls that a disk has served behind this many.
 pub(crate) fn calls_after(
+    rt: &impl Abort,
     alloc: Global,
     disk: &MemDisk,
     calls: usize,
-) -> Result<Vec<Made>, AllocError> {
-    let mut made = Vec::new(alloc);
+) -> Vec<Made> {
+    let mut all = Vec::new(alloc);
     for call in disk.calls().iter().skip(calls) {
-        made.push(match call {
-            Call::Read(at, length) => Made::Read(*at, *length),
-            Call::Write(at, bytes) => Made::Write(*at, bytes.len()),
-            Call::Sync => Made::Sync,
-        })?;
+        all.push(shape_of(call)).expect(rt, "memory");
     }
-    Ok(made)
+    all
+}
+
+// The table that a device shows, or why there is none.
+pub(crate) fn table_of(alloc: Global, disk: MemDisk) -> Result<Table, StoreFault> {
+    match recover(alloc, disk) {
+        Ok((_store, table)) => Ok(table),
+        Err((_disk, fault)) => Err(fault),
+    }
 }
 
 // What the table of a device says of the station's BSSID and of the station, or why there is none.
 pub(crate) type Seen = Result<(Option<(u8, u16)>, Option<Station>), StoreFault>;
 
 pub(crate) fn look(alloc: Global, disk: MemDisk) -> Seen {
-    match recover(alloc, disk) {
-        Ok((_store, table)) => Ok((table.policy(BSSID), table.get(BSSID, STATION))),
-        Err((_disk, fault)) => Err(fault),
-    }
+    let table = table_of(alloc, disk)?;
+    Ok((table.policy(BSSID), table.get(BSSID, STATION)))
 }

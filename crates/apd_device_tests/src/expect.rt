@@ -2,7 +2,6 @@
 use std::alloc::Global;
 use std::fmt::{Debug, Display};
 use std::process::Abort;
-use std::test::Fail;
 
 /// Ends the test where what was found isn't what was wanted, and prints both.
 pub(crate) fn expect<T: PartialEq + Debug + Drop>(rt: &impl Abort, found: T, wanted: T) {
@@ -10,13 +9,7 @@ pub(crate) fn expect<T: PartialEq + Debug + Drop>(rt: &impl Abort, found: T, wan
 }
 
 /// Ends the test where a value prints another text.
-pub(crate) fn expect_text(
-    rt: &impl Abort,
-    alloc: Global,
-    value: &impl Display,
-    text: &str,
-) -> Result<(), Fail> {
-    let printed = format!(in alloc; "{value}")?;
+pub(crate) fn expect_text(rt: &impl Abort, alloc: Global, value: &impl Display, text: &str) {
+    let printed = format!(in alloc; "{value}").expect(rt, "memory");
     expect(rt, printed.as_str(), text);
-    Ok(())
 }

@@ -3,27 +3,28 @@
 use crate::common::{LENGTH, blank_disk, write_bytes};
 use apd_disk::MemDisk;
 use std::alloc::Global;
-use std::test::Fail;
+use std::process::Abort;
 
 /// Bytes, and where they stand.
 pub(crate) type Part = (usize, &'static [u8]);
 
 // A device on which these parts stand.
-pub(crate) fn device_of(alloc: Global, parts: &[Part]) -> Result<MemDisk, Fail> {
-    device_of_length(alloc, LENGTH, parts)
+pub(crate) fn device_of(rt: &impl Abort, alloc: Global, parts: &[Part]) -> MemDisk {
+    device_of_length(rt, alloc, LENGTH, parts)
 }
 
 // The same of another length.
 pub(crate) fn device_of_length(
+    rt: &impl Abort,
     alloc: Global,
     length: usize,
     parts: &[Part],
-) -> Result<MemDisk, Fail> {
-    let mut disk = blank_disk(alloc, length)?;
+) -> MemDisk {
+    let mut disk = blank_disk(rt, alloc, length);
     for (place, bytes) in parts {
-        write_bytes(&mut disk, *place, bytes)?;
+        write_bytes(rt, &mut disk, *place, bytes);
     }
-    Ok(disk)
+    disk
 }
 
 /// A new store.

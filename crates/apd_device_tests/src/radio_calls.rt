@@ -64,8 +64,7 @@ pub(crate) fn goes_through<R: Radio>(rt: &impl Abort, radio: &mut R, rows: &[Row
 }
 
 /// Polls, and expects this frame, or none.
-pub(crate) fn receives<R: Radio>(rt: &impl Abort, radio: &mut R, frame: Option<&[u8]>) -> Answer {
-    let received = poll(radio)?;
+pub(crate) fn receives<R: Radio>(rt: &impl Abort, radio: &mut R, frame: Option<&[u8]>) {
+    let received = poll(radio).expect(rt, "a poll");
     expect(rt, received.as_deref(), frame);
-    Ok(())
 }

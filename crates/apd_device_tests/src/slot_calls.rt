@@ -2,7 +2,7 @@
 //! needn't carry them.
 use crate::expect::expect;
 use apd_mlme::Out;
-use apd_radio::{Radio, RadioFault};
+use apd_radio::Radio;
 use apd_record::Change;
 use apd_slot::{Slot, SlotFault};
 use apd_table::{Table, TableFault};
@@ -18,27 +18,28 @@ pub(crate) fn make_room<R: Radio>(slot: &mut Slot<R>, count: usize) -> Result<()
 }
 
 /// Polls, and expects this frame, or none.
-pub(crate) fn gives<R: Radio>(
-    rt: &impl Abort,
-    slot: &mut Slot<R>,
-    frame: Option<&[u8]>,
-) -> Result<(), RadioFault> {
-    let received = slot.poll()?;
+pub(crate) fn gives<R: Radio>(rt: &impl Abort, slot: &mut Slot<R>, frame: Option<&[u8]>) {
+    let received = slot.poll().expect(rt, "a poll");
     expect(rt, received.as_deref(), frame);
-    Ok(())
 }
 
 /// Makes room for outs, and puts them behind those that wait.
-pub(crate) fn queue<R: Radio>(slot: &mut Slot<R>, outs: Vec<Out>) -> Result<(), AllocError> {
-    slot.make_room(outs.len())?;
+pub(crate) fn queue<R: Radio>(rt: &impl Abort, slot: &mut Slot<R>, outs: Vec<Out>) {
+    slot.make_room(outs.len()).expect(rt, "memory");
     slot.queue(outs);
-    Ok(())
 }
 
 pub(crate) fn apply_next<R: Radio>(
     slot: &mut Slot<R>,
 ) -> Option<Result<(Out, Result<(), SlotFault>), AllocError>> {
     slot.apply_next()
+}
+
+/// The answer of a slot to the first of the outs that wait.
+pub(crate) fn answer<R: Radio>(rt: &impl Abort, slot: &mut Slot<R>) -> Result<(), SlotFault> {
+    let applied = apply_next(slot).expect(rt, "an out that waits");
+    let (_out, answer) = applied.expect(rt, "memory");
+    answer
 }
 
 pub(crate) fn resume<R: Radio>(

@@ -2,12 +2,12 @@
 use crate::slot_calls::{change, replace};
 use apd_base::{AclMode, Addr, Aid, Association, Bssid, Policy, Sequence, Station, StationNumber};
 use apd_mlme::Out;
-use apd_radio::Radio;
+use apd_radio::{Radio, Replaying};
 use apd_record::Change;
 use apd_slot::Slot;
-use apd_table::{Table, TableFault};
+use apd_table::Table;
 use std::alloc::Global;
-use std::test::Fail;
+use std::process::Abort;
 
 pub(crate) const WLAN0: Bssid = Bssid(Addr([2, 0, 0, 0, 0, 1]));
 
@@ -23,50 +23,72 @@ pub(crate) const ASSOCIATED: [u8; 36] = [
     0xc0, 1, 4, 0x82, 0x84, 0x8b, 0x96,
 ];
 
-pub(crate) fn replace_radio<R: Radio>(slot: &mut Slot<R>, radio: R) -> Result<R, Fail> {
-    match replace(slot, radio) {
-        Ok(old) => Ok(old),
-        Err(_) => Err(Fail::new("a radio is not replaced")),
+pub(crate) fn replace_radio<R: Radio>(rt: &impl Abort, slot: &mut Slot<R>, radio: R) -> R
+where
+    R: Drop,
+{
+    replace(slot, radio)
+        .ok()
+        .expect(rt, "a radio that is replaced")
+}
+
+/// A radio that replays these lines.
+pub(crate) fn replaying(rt: &impl Abort, alloc: Global, lines: &[u8]) -> Replaying {
+    Replaying::new(alloc, lines).expect(rt, "a recording")
+}
+
+pub(crate) fn frame(rt: &impl Abort, alloc: Global, bytes: &[u8]) -> Out {
+    let bytes = Vec::from_slice(alloc, bytes).expect(rt, "memory");
+    Out::Frame(Sequence::from_vec(bytes))
+}
+
+fn identifier(rt: &impl Abort, number: u16) -> Aid {
+    Aid::new(number).expect(rt, "an identifier")
+}
+
+/// What installs a station under this identifier.
+pub(crate) fn install(rt: &impl Abort, addr: Addr, number: u16) -> Out {
+    Out::Install(addr, identifier(rt, number))
+}
+
+fn make(rt: &impl Abort, table: &mut Table, to: &Change) {
+    change(table, to).expect(rt, "a change that is made");
+}
+
+fn put(rt: &impl Abort, table: &mut Table, bssid: Bssid, addr: Addr, station: Station) {
+    let row = Change::Put {
+        bssid,
+        addr,
+        station,
+    };
+    make(rt, table, &row);
+}
+
+/// Gives a table both policies.
+fn open(rt: &impl Abort, table: &mut Table) {
+    let mode = AclMode::AcceptUnlessDenied;
+    let max = StationNumber::new(2007).expect(rt, "a limit");
+    let policy = Policy { mode, max };
+    for bssid in [WLAN0, WLAN1] {
+        make(rt, table, &Change::Policy { bssid, policy });
     }
 }
 
-pub(crate) fn frame(alloc: Global, bytes: &[u8]) -> Result<Out, Fail> {
-    let bytes = Vec::from_slice(alloc, bytes)?;
-    Ok(Out::Frame(Sequence::from_vec(bytes)))
-}
-
-pub(crate) fn identifier(number: u16) -> Result<Aid, Fail> {
-    Ok(Aid::new(number).ok_or("identifier")?)
-}
-
-fn put(table: &mut Table, bssid: Bssid, addr: Addr, station: Station) -> Result<(), TableFault> {
-    change(
-        table,
-        &Change::Put {
-            bssid,
-            addr,
-            station,
-        },
-    )
+/// What a station is that is associated under this identifier.
+fn associated(rt: &impl Abort, number: u16) -> Station {
+    Station::Associated(Association {
+        aid: identifier(rt, number),
+        capability: 1,
+        listen_interval: 5,
+    })
 }
 
 /// A table in which the first station is authenticated at wlan0, and both are associated at wlan1.
-pub(crate) fn table(alloc: Global) -> Result<Table, Fail> {
+pub(crate) fn table(rt: &impl Abort, alloc: Global) -> Table {
     let mut table = Table::new(alloc);
-    let mode = AclMode::AcceptUnlessDenied;
-    let max = StationNumber::new(2007).ok_or("limit")?;
-    let policy = Policy { mode, max };
-    for bssid in [WLAN0, WLAN1] {
-        change(&mut table, &Change::Policy { bssid, policy })?;
-    }
-    put(&mut table, WLAN0, FIRST, Station::Authenticated)?;
-    for (addr, number) in [(SECOND, 2), (FIRST, 1)] {
-        let station = Station::Associated(Association {
-            aid: identifier(number)?,
-            capability: 1,
-            listen_interval: 5,
-        });
-        put(&mut table, WLAN1, addr, station)?;
-    }
-    Ok(table)
+    open(rt, &mut table);
+    put(rt, &mut table, WLAN0, FIRST, Station::Authenticated);
+    put(rt, &mut table, WLAN1, SECOND, associated(rt, 2));
+    put(rt, &mut table, WLAN1, FIRST, associated(rt, 1));
+    table
 }

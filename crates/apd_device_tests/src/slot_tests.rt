@@ -1,31 +1,38 @@
 use crate::expect::{expect, expect_text};
 use crate::slot_calls::{apply, gives, resume};
 use crate::slot_samples::{
-    ASSOCIATED, FIRST, SECOND, WLAN0, WLAN1, frame, identifier, replace_radio, table,
+    ASSOCIATED, FIRST, SECOND, WLAN0, WLAN1, frame, install, replace_radio, replaying, table,
 };
 use apd_base::{Bssid, Sequence};
 use apd_mlme::Out;
-use apd_radio::{Radio, Recording, Replaying, Sim};
+use apd_radio::{Radio, Recording, Sim};
 use apd_slot::{Slot, SlotFault};
 use apd_table::Table;
 use std::alloc::Global;
 use std::process::Abort;
-use std::test::Fail;
 
 /// The response of wlan0 to an authentication of the first station.
 const AUTHENTICATED: [u8; 30] = [
     0xb0, 0, 0, 0, 2, 0, 0, 0, 0, 0xaa, 2, 0, 0, 0, 0, 1, 2, 0, 0, 0, 0, 1, 0, 0, 0, 0, 2, 0, 0, 0,
 ];
 
+/// Expects this answer to an out.
+fn expect_answer<R: Radio>(
+    rt: &impl Abort,
+    slot: &mut Slot<R>,
+    out: &Out,
+    wanted: Result<(), SlotFault>,
+) {
+    expect(rt, apply(slot, out), wanted);
+}
+
 /// The outs of an association, and one that is not for a radio.
-fn apply_each<R: Radio>(rt: &impl Abort, alloc: Global, slot: &mut Slot<R>) -> Result<(), Fail> {
-    let install = Out::Install(FIRST, identifier(1)?);
-    expect(rt, apply(slot, &frame(alloc, &AUTHENTICATED)?), Ok(()));
-    expect(rt, apply(slot, &install), Ok(()));
-    expect(rt, apply(slot, &frame(alloc, &ASSOCIATED)?), Ok(()));
+fn apply_each<R: Radio>(rt: &impl Abort, alloc: Global, slot: &mut Slot<R>) {
+    expect_answer(rt, slot, &frame(rt, alloc, &AUTHENTICATED), Ok(()));
+    expect_answer(rt, slot, &install(rt, FIRST, 1), Ok(()));
+    expect_answer(rt, slot, &frame(rt, alloc, &ASSOCIATED), Ok(()));
     let text = Out::Text(1, Sequence::new(alloc));
-    expect(rt, apply(slot, &text), Err(SlotFault::NotMine));
-    Ok(())
+    expect_answer(rt, slot, &text, Err(SlotFault::NotMine));
 }
 
 /// A slot that records in these bytes what its radio is asked.
@@ -39,23 +46,21 @@ fn recording_slot<'a>(
 }
 
 #[test]
-fn what_a_slot_applies_is_recorded(rt: HostRuntime) -> Result<(), Fail> {
+fn what_a_slot_applies_is_recorded(rt: HostRuntime) {
     let alloc = rt.alloc();
     let mut written: Vec<u8> = Vec::new(alloc);
-    apply_each(&rt, alloc, &mut recording_slot(alloc, &mut written, WLAN0))?;
+    apply_each(&rt, alloc, &mut recording_slot(alloc, &mut written, WLAN0));
     let lines =
         "down\ntx b00000000200000000aa0200000000010200000000010000000002000000\ninstall 02:00:00:00:00:aa 1\ntx 100000000200000000aa02000000000102000000000100000100000001c0010482848b96\ndown\n";
     expect(&rt, written.as_slice(), lines.as_bytes());
-    Ok(())
 }
 
 #[test]
-fn a_slot_gives_what_its_radio_received(rt: HostRuntime) -> Result<(), Fail> {
+fn a_slot_gives_what_its_radio_received(rt: HostRuntime) {
     let alloc = rt.alloc();
-    let mut slot = Slot::new(alloc, Replaying::new(alloc, b"rx 00")?, WLAN0);
-    gives(&rt, &mut slot, Some(b"\x00"))?;
-    gives(&rt, &mut slot, None)?;
-    Ok(())
+    let mut slot = Slot::new(alloc, replaying(&rt, alloc, b"rx 00"), WLAN0);
+    gives(&rt, &mut slot, Some(b"\x00"));
+    gives(&rt, &mut slot, None);
 }
 
 /// A radio in a box takes the place of another one.
@@ -64,30 +69,45 @@ fn is_replaced(
     alloc: Global,
     radio: Box<dyn Radio + Send>,
     other: Box<dyn Radio + Send>,
-) -> Result<(), Fail> {
+) {
     let mut slot = Slot::new(alloc, radio, WLAN0);
-    let install = Out::Install(SECOND, identifier(7)?);
-    expect(rt, apply(&mut slot, &install), Ok(()));
-    let old = replace_radio(&mut slot, other)?;
+    expect_answer(rt, &mut slot, &install(rt, SECOND, 7), Ok(()));
+    let old = replace_radio(rt, &mut slot, other);
     expect(rt, old.installed(SECOND), None);
     expect(rt, (slot.is_up(), slot.installed(SECOND)), (true, Some(7)));
-    Ok(())
 }
 
-/// A radio that records nowhere.
-fn recording(alloc: Global) -> Recording<Sim, Vec<u8>> {
-    Recording::new(alloc, Sim::new(alloc), Vec::new(alloc))
+/// A radio that records nowhere, in a box.
+pub(crate) fn boxed_recording(rt: &impl Abort, alloc: Global) -> Box<dyn Radio + Send> {
+    let radio = Recording::new(alloc, Sim::new(alloc), Vec::<u8>::new(alloc));
+    Box::new(alloc, radio).ok().expect(rt, "memory")
+}
+
+/// A radio that replays these lines, in a box.
+pub(crate) fn boxed_replaying(
+    rt: &impl Abort,
+    alloc: Global,
+    lines: &[u8],
+) -> Box<dyn Radio + Send> {
+    let radio = replaying(rt, alloc, lines);
+    Box::new(alloc, radio).ok().expect(rt, "memory")
+}
+
+/// A radio in memory, in a box.
+pub(crate) fn boxed_sim(rt: &impl Abort, alloc: Global) -> Box<dyn Radio + Send> {
+    let boxed = Box::new(alloc, Sim::new(alloc));
+    boxed.ok().expect(rt, "memory")
 }
 
 #[test]
-fn each_kind_is_replaced_by_another(rt: HostRuntime) -> Result<(), Fail> {
+fn each_kind_is_replaced_by_another(rt: HostRuntime) {
     let alloc = rt.alloc();
-    let sim: Box<dyn Radio + Send> = Box::new(alloc, Sim::new(alloc))?;
-    is_replaced(&rt, alloc, sim, Box::new(alloc, recording(alloc))?)?;
-    let replaying: Box<dyn Radio + Send> = Box::new(alloc, Replaying::new(alloc, b"")?)?;
-    is_replaced(&rt, alloc, Box::new(alloc, recording(alloc))?, replaying)?;
-    let replaying: Box<dyn Radio + Send> = Box::new(alloc, Replaying::new(alloc, b"rx 00")?)?;
-    is_replaced(&rt, alloc, replaying, Box::new(alloc, Sim::new(alloc))?)
+    let sim = boxed_sim(&rt, alloc);
+    is_replaced(&rt, alloc, sim, boxed_recording(&rt, alloc));
+    let recording = boxed_recording(&rt, alloc);
+    is_replaced(&rt, alloc, recording, boxed_replaying(&rt, alloc, b""));
+    let replaying = boxed_replaying(&rt, alloc, b"rx 00");
+    is_replaced(&rt, alloc, replaying, boxed_sim(&rt, alloc));
 }
 
 /// Resumes a slot from the table, by which it may want the first station.
@@ -103,9 +123,9 @@ fn resumes<R: Radio>(
 }
 
 #[test]
-fn a_slot_resumes_its_own_rows_in_order(rt: HostRuntime) -> Result<(), Fail> {
+fn a_slot_resumes_its_own_rows_in_order(rt: HostRuntime) {
     let alloc = rt.alloc();
-    let table = table(alloc)?;
+    let table = table(&rt, alloc);
     let mut written: Vec<u8> = Vec::new(alloc);
     for bssid in [WLAN0, WLAN1] {
         let mut slot = recording_slot(alloc, &mut written, bssid);
@@ -114,19 +134,18 @@ fn a_slot_resumes_its_own_rows_in_order(rt: HostRuntime) -> Result<(), Fail> {
     let lines =
         "down\ndown\ndown\ndown\ndown\ninstall 02:00:00:00:00:aa 1\ninstall 02:00:00:00:00:bb 2\ndown\n";
     expect(&rt, written.as_slice(), lines.as_bytes());
-    Ok(())
 }
 
+const TEXTS: [(SlotFault, &str); 4] = [
+    (SlotFault::WentDown, "driver fault"),
+    (SlotFault::Lost, "frame lost"),
+    (SlotFault::NotMine, "not for a radio"),
+    (SlotFault::NoMemory, "out of memory"),
+];
+
 #[test]
-fn faults_of_slots_have_texts(rt: HostRuntime) -> Result<(), Fail> {
-    let alloc = rt.alloc();
-    for (fault, text) in [
-        (SlotFault::WentDown, "driver fault"),
-        (SlotFault::Lost, "frame lost"),
-        (SlotFault::NotMine, "not for a radio"),
-        (SlotFault::NoMemory, "out of memory"),
-    ] {
-        expect_text(&rt, alloc, &fault, text)?;
+fn faults_of_slots_have_texts(rt: HostRuntime) {
+    for (fault, text) in TEXTS {
+        expect_text(&rt, rt.alloc(), &fault, text);
     }
-    Ok(())
 }

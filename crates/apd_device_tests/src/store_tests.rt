@@ -1,311 +1,297 @@
 // What no clause says: that calls succeed where memory is ample, the bytes of a store, and printed text.
 use crate::common::{
-    BSSID, LENGTH, Made, Seen, TWO_GROUPS, associated_row, batch_of, blank_disk, calls_after,
-    cursor, disk_of_byte, look, policy, put, write_bytes,
+    BSSID, LENGTH, Made, Seen, TWO_GROUPS, association, batch_of, blank_disk, calls_after,
+    disk_of_byte, format_store, look, policy, put, table_of, write_bytes,
 };
 use crate::expect::{expect, expect_text};
-use apd_base::{Aid, Association, Station};
+use apd_base::{Station, StationNumber};
 use apd_disk::{Disk, FuseDisk, MemDisk, Torn};
+use apd_journal::Batch;
 use apd_record::{Change, write};
 use apd_store::{Store, StoreFault, format, recover};
 use apd_table::Table;
 use std::alloc::Global;
 use std::process::Abort;
-use std::test::Fail;
 
-// Begins a batch of one change.
-fn begin<D: Disk>(
+// Begins a batch, which is handed back where it is refused.
+fn begin_batch<D: Disk>(
     alloc: Global,
     store: &mut Store<D>,
-    number: u64,
-    change: Change,
-) -> Result<(), Fail> {
-    let batch = batch_of(alloc, number, change)?;
-    match store.begin(batch, &Table::new(alloc)) {
-        Ok(()) => Ok(()),
-        Err((_, fault)) => Err(Fail::from(fault)),
-    }
+    batch: Batch,
+) -> Result<(), (Batch, StoreFault)> {
+    store.begin(batch, &Table::new(alloc))
+}
+
+// Begins a batch that is not refused.
+fn begin<D: Disk>(rt: &impl Abort, alloc: Global, store: &mut Store<D>, batch: Batch) {
+    let begun = begin_batch(alloc, store, batch).ok();
+    begun.expect(rt, "a batch that begins");
 }
 
 // Why a batch of one change is refused. It is handed back.
 fn refusal<D: Disk>(
+    rt: &impl Abort,
     alloc: Global,
     store: &mut Store<D>,
     change: Change,
-) -> Result<StoreFault, Fail> {
-    match store.begin(batch_of(alloc, 9, change)?, &Table::new(alloc)) {
-        Ok(()) => Err(Fail::from("begun")),
-        Err((batch, fault)) if batch.first == 9 && batch.changes.len() == 1 => Ok(fault),
-        Err(_) => Err(Fail::from("another batch")),
-    }
+) -> StoreFault {
+    let batch = batch_of(rt, alloc, 9, change);
+    let refused = begin_batch(alloc, store, batch).err();
+    let (batch, fault) = refused.expect(rt, "a refusal");
+    expect(rt, (batch.first, batch.changes.len()), (9, 1));
+    fault
 }
 
-// Makes the two calls that lay the group down.
-fn lay_down<D: Disk>(store: &mut Store<D>) -> Result<bool, StoreFault> {
-    store.next_call()?;
+// Makes a call of the device at most; whether one is left.
+fn next_call<D: Disk>(store: &mut Store<D>) -> Result<bool, StoreFault> {
     store.next_call()
-}
-
-// Begins a batch of a station's association, and of the identifier that it was given.
-fn begin_association<D: Disk>(
-    alloc: Global,
-    store: &mut Store<D>,
-    number: u64,
-) -> Result<(), Fail> {
-    let mut batch = batch_of(alloc, number, associated_row()?)?;
-    batch.changes.push(cursor(1)?)?;
-    match store.begin(batch, &Table::new(alloc)) {
-        Ok(()) => Ok(()),
-        Err((_, fault)) => Err(Fail::from(fault)),
-    }
-}
-
-// Makes the four calls of a batch that was begun.
-fn commit_begun<D: Disk>(store: &mut Store<D>, number: u64) -> Result<(), Fail> {
-    lay_down(store)?;
-    store.next_call()?;
-    if store.next_call()? {
-        return Err(Fail::from("a fifth call"));
-    }
-    match store.finish() {
-        Some(receipt) if receipt.batch().first == number => Ok(()),
-        Some(_) => Err(Fail::from("another batch")),
-        None => Err(Fail::from("no receipt")),
-    }
-}
-
-// Commits a batch of one change.
-fn commit<D: Disk>(
-    alloc: Global,
-    store: &mut Store<D>,
-    number: u64,
-    change: Change,
-) -> Result<(), Fail> {
-    begin(alloc, store, number, change)?;
-    commit_begun(store, number)
-}
-
-fn format_store<D: Disk>(alloc: Global, disk: D) -> Result<Store<D>, Fail>
-where
-    D: Drop,
-{
-    match format(alloc, disk) {
-        Ok(store) => Ok(store),
-        Err((_, fault)) => Err(Fail::from(fault)),
-    }
 }
 
 // Makes as many calls.
 fn advance<D: Disk>(store: &mut Store<D>, calls: u64) -> Result<(), StoreFault> {
     for _call in 0..calls {
-        store.next_call()?;
+        next_call(store)?;
     }
     Ok(())
 }
 
+// Makes the four calls of a batch that was begun.
+fn commit<D: Disk>(rt: &impl Abort, store: &mut Store<D>, number: u64) {
+    expect(rt, advance(store, 3), Ok(()));
+    expect(rt, next_call(store), Ok(false));
+    let receipt = store.finish().expect(rt, "a receipt");
+    expect(rt, receipt.batch().first, number);
+}
+
+// Begins a policy as the batch 1.
+fn begin_policy<D: Disk>(rt: &impl Abort, alloc: Global, store: &mut Store<D>) {
+    begin(rt, alloc, store, batch_of(rt, alloc, 1, policy(rt)));
+}
+
+// Begins an authenticated station as the batch 2.
+fn begin_station<D: Disk>(rt: &impl Abort, alloc: Global, store: &mut Store<D>) {
+    let change = put(Station::Authenticated);
+    begin(rt, alloc, store, batch_of(rt, alloc, 2, change));
+}
+
+// Begins a station's association, and the identifier that it was given, as the batch 3.
+fn begin_association<D: Disk>(rt: &impl Abort, alloc: Global, store: &mut Store<D>) {
+    let mut batch = batch_of(rt, alloc, 3, put(association(rt)));
+    let cursor = Change::Cursor {
+        bssid: BSSID,
+        last: StationNumber::new(1).expect(rt, "a number of stations"),
+    };
+    batch.changes.push(cursor).expect(rt, "memory");
+    begin(rt, alloc, store, batch);
+}
+
 // A policy, an authenticated station and its association, as far as they are wanted.
-fn make_commits<D: Disk>(alloc: Global, store: &mut Store<D>, commits: u64) -> Result<(), Fail> {
+fn make_commits<D: Disk>(rt: &impl Abort, alloc: Global, store: &mut Store<D>, commits: u64) {
     if commits > 0 {
-        commit(alloc, store, 1, policy()?)?;
+        begin_policy(rt, alloc, store);
+        commit(rt, store, 1);
     }
     if commits > 1 {
-        commit(alloc, store, 2, put(Station::Authenticated))?;
+        begin_station(rt, alloc, store);
+        commit(rt, store, 2);
     }
     if commits > 2 {
-        begin_association(alloc, store, 3)?;
-        commit_begun(store, 3)?;
+        begin_association(rt, alloc, store);
+        commit(rt, store, 3);
     }
-    Ok(())
 }
 
 // The device, formatted, after so many of them.
 // Generic, as all that asks for room in the device: no proof then meets its length.
-fn with_commits<D: Disk>(alloc: Global, disk: D, commits: u64) -> Result<D, Fail>
+fn with_commits<D: Disk>(rt: &impl Abort, alloc: Global, disk: D, commits: u64) -> D
 where
     D: Drop,
 {
-    let mut store = format_store(alloc, disk)?;
-    let made = make_commits(alloc, &mut store, commits);
-    let device = store.into_device();
-    made?;
-    Ok(device)
+    let mut store = format_store(rt, alloc, disk);
+    make_commits(rt, alloc, &mut store, commits);
+    store.into_device()
 }
 
-// A policy, and as many calls of a station's commit.
-fn begin_station<D: Disk>(alloc: Global, store: &mut Store<D>, calls: u64) -> Result<(), Fail> {
-    commit(alloc, store, 1, policy()?)?;
-    begin(alloc, store, 2, put(Station::Authenticated))?;
-    advance(store, calls)?;
-    Ok(())
-}
-
-// The device, formatted, after these.
-fn committing<D: Disk>(alloc: Global, disk: D, calls: u64) -> Result<D, Fail>
+// The device, formatted, after a policy and as many calls of a station's commit.
+fn committing<D: Disk>(rt: &impl Abort, alloc: Global, disk: D, calls: u64) -> D
 where
     D: Drop,
 {
-    let mut store = format_store(alloc, disk)?;
-    let begun = begin_station(alloc, &mut store, calls);
-    let device = store.into_device();
-    begun?;
-    Ok(device)
+    let mut store = format_store(rt, alloc, disk);
+    make_commits(rt, alloc, &mut store, 1);
+    begin_station(rt, alloc, &mut store);
+    expect(rt, advance(&mut store, calls), Ok(()));
+    store.into_device()
 }
 
 // The device, formatted once more.
-fn format_again<D: Disk>(alloc: Global, disk: D) -> Result<D, Fail>
+fn format_again<D: Disk>(rt: &impl Abort, alloc: Global, disk: D) -> D
 where
     D: Drop,
 {
-    Ok(format_store(alloc, disk)?.into_device())
+    format_store(rt, alloc, disk).into_device()
 }
 
 // The device, recovered.
-fn recover_device<D: Disk>(alloc: Global, disk: D) -> Result<D, Fail>
+fn recover_device<D: Disk>(rt: &impl Abort, alloc: Global, disk: D) -> D
 where
     D: Drop,
 {
-    match recover(alloc, disk) {
-        Ok((store, _table)) => Ok(store.into_device()),
-        Err((_disk, fault)) => Err(Fail::from(fault)),
-    }
+    let recovered = recover(alloc, disk).ok();
+    let (store, _table) = recovered.expect(rt, "a recovery");
+    store.into_device()
 }
 
 // What is told where a call of a commit has failed.
-fn fault_of_commit<D: Disk>(alloc: Global, store: &mut Store<D>) -> Result<StoreFault, Fail> {
-    begin(alloc, store, 2, put(Station::Authenticated))?;
-    if advance(store, 4) != Err(StoreFault::Device) || !store.failed() {
-        return Err(Fail::from("no fault"));
-    }
-    refusal(alloc, store, policy()?)
+fn fault_of_commit<D: Disk>(rt: &impl Abort, alloc: Global, store: &mut Store<D>) -> StoreFault {
+    begin_station(rt, alloc, store);
+    let advanced = advance(store, 4);
+    expect(
+        rt,
+        (advanced, store.failed()),
+        (Err(StoreFault::Device), true),
+    );
+    refusal(rt, alloc, store, policy(rt))
 }
 
 // What is told where a call of a recovery or of the commit behind it fails, and the device.
-fn fault_of<D: Disk>(alloc: Global, disk: D) -> Result<(StoreFault, D), Fail>
+fn fault_of<D: Disk>(rt: &impl Abort, alloc: Global, disk: D) -> (StoreFault, D)
 where
     D: Drop,
 {
     match recover(alloc, disk) {
         Ok((store, _table)) => {
             let mut store = store;
-            let fault = fault_of_commit(alloc, &mut store);
-            let device = store.into_device();
-            Ok((fault?, device))
+            let fault = fault_of_commit(rt, alloc, &mut store);
+            (fault, store.into_device())
         }
-        Err((disk, fault)) => Ok((fault, disk)),
+        Err((disk, fault)) => (fault, disk),
     }
 }
 
-// Why a second batch is refused while one is under way.
-fn busy<D: Disk>(alloc: Global, store: &mut Store<D>) -> Result<StoreFault, Fail> {
-    begin(alloc, store, 1, policy()?)?;
-    refusal(alloc, store, policy()?)
-}
-
-fn device(alloc: Global, commits: u64) -> Result<MemDisk, Fail> {
-    with_commits(alloc, blank_disk(alloc, LENGTH)?, commits)
+fn device(rt: &impl Abort, alloc: Global, commits: u64) -> MemDisk {
+    with_commits(rt, alloc, blank_disk(rt, alloc, LENGTH), commits)
 }
 
 // What is seen after a stop in the commit of a station, once as many of its calls were made.
-fn stop(alloc: Global, calls: u64, torn: Torn) -> Result<Seen, Fail> {
-    let disk = committing(alloc, blank_disk(alloc, LENGTH)?, calls)?;
-    Ok(look(alloc, disk.crash(torn)))
+fn stop(rt: &impl Abort, alloc: Global, calls: u64, torn: Torn) -> Seen {
+    let disk = committing(rt, alloc, blank_disk(rt, alloc, LENGTH), calls);
+    look(alloc, disk.crash(torn))
+}
+
+// A disk with the bytes of another.
+fn copy_of(rt: &impl Abort, alloc: Global, disk: &MemDisk) -> MemDisk {
+    let bytes = Vec::from_slice(alloc, disk.bytes()).expect(rt, "memory");
+    MemDisk::new(alloc, bytes).expect(rt, "memory")
 }
 
 // What is seen where these bytes stand at this place.
-fn look_with(alloc: Global, disk: &MemDisk, place: usize, bytes: &[u8]) -> Result<Seen, Fail> {
-    let mut changed = MemDisk::new(alloc, Vec::from_slice(alloc, disk.bytes())?)?;
-    write_bytes(&mut changed, place, bytes)?;
-    Ok(look(alloc, changed))
+fn look_with(rt: &impl Abort, alloc: Global, disk: &MemDisk, place: usize, bytes: &[u8]) -> Seen {
+    let mut changed = copy_of(rt, alloc, disk);
+    write_bytes(rt, &mut changed, place, bytes);
+    look(alloc, changed)
 }
 
 // The record of a policy of the BSSID.
 const POLICY: &[u8] = &[6, 2, 0, 0, 0, 0, 1, 0, 0xd7, 7];
 
-// Half A from its first byte on, with a group of each of these records.
-fn half_of(alloc: Global, records: &[&[u8]]) -> Result<Vec<u8>, Fail> {
-    let mut half = Vec::from_slice(alloc, &[1, 1, 0, 0, 0, 0, 0, 0, 0, 0, 0, 0, 0])?;
-    for record in records {
-        let length = u8::try_from(record.len())?;
-        half.extend_from_slice(&[1, length, 0, 0, 0])?;
-        half.extend_from_slice(record)?;
-    }
-    Ok(half)
+// The first bytes of half A: the gate, the epoch and the snapshot.
+const HEAD: &[u8] = &[1, 1, 0, 0, 0, 0, 0, 0, 0, 0, 0, 0, 0];
+
+fn add(rt: &impl Abort, half: &mut Vec<u8>, bytes: &[u8]) {
+    half.extend_from_slice(bytes).expect(rt, "memory");
 }
 
-// The identifier that the BSSID of a recovered table gives next, and the records of its snapshot.
+// Half A from its first byte on, with a group of each of these records.
+fn half_of(rt: &impl Abort, alloc: Global, records: &[&[u8]]) -> Vec<u8> {
+    let mut half = Vec::new(alloc);
+    add(rt, &mut half, HEAD);
+    for record in records {
+        let length = u8::try_from(record.len()).expect(rt, "a short record");
+        add(rt, &mut half, &[1, length, 0, 0, 0]);
+        add(rt, &mut half, record);
+    }
+    half
+}
+
+// A device whose groups have these records.
+fn device_with(rt: &impl Abort, alloc: Global, records: &[&[u8]]) -> MemDisk {
+    let half = half_of(rt, alloc, records);
+    let mut disk = blank_disk(rt, alloc, LENGTH);
+    write_bytes(rt, &mut disk, 0, b"RAPSTOR2");
+    write_bytes(rt, &mut disk, 64, &half);
+    disk
+}
+
+// The identifier that the BSSID of a table gives next, and the records of its snapshot.
+fn given_by(rt: &impl Abort, alloc: Global, table: &Table) -> (Option<u16>, Vec<u8>) {
+    let snapshot = table.snapshot(alloc).expect(rt, "memory");
+    let records = write(alloc, &snapshot).expect(rt, "memory");
+    (table.next_free(BSSID), records)
+}
+
+// The same of the table that is recovered of groups with these records.
 type Given = Result<(Option<u16>, Vec<u8>), StoreFault>;
 
-// What a store is recovered with whose groups have these records.
-fn recovery_of(alloc: Global, records: &[&[u8]]) -> Result<Given, Fail> {
-    let mut disk = blank_disk(alloc, LENGTH)?;
-    write_bytes(&mut disk, 0, b"RAPSTOR2")?;
-    write_bytes(&mut disk, 64, &half_of(alloc, records)?)?;
-    match recover(alloc, disk) {
-        Ok((_store, table)) => {
-            let snapshot = write(alloc, &table.snapshot(alloc)?)?;
-            Ok(Ok((table.next_free(BSSID), snapshot)))
-        }
-        Err((_disk, fault)) => Ok(Err(fault)),
-    }
+fn recovery_of(rt: &impl Abort, alloc: Global, records: &[&[u8]]) -> Given {
+    let table = table_of(alloc, device_with(rt, alloc, records))?;
+    Ok(given_by(rt, alloc, &table))
 }
 
 // Why no store is recovered whose groups have these records.
-fn refusal_of(alloc: Global, records: &[&[u8]]) -> Result<Option<StoreFault>, Fail> {
-    match recovery_of(alloc, records)? {
-        Ok(_given) => Ok(None),
-        Err(fault) => Ok(Some(fault)),
-    }
+fn refusal_of(rt: &impl Abort, alloc: Global, records: &[&[u8]]) -> Option<StoreFault> {
+    recovery_of(rt, alloc, records).err()
 }
 
 // What is seen of a half A with a policy and a station, and a half B of this epoch with another policy.
-fn two_halves(alloc: Global, epoch: u8) -> Result<Seen, Fail> {
-    let mut disk = blank_disk(alloc, LENGTH)?;
-    write_bytes(&mut disk, 0, b"RAPSTOR2")?;
-    write_bytes(&mut disk, 64, &TWO_GROUPS)?;
-    write_bytes(
-        &mut disk,
-        1_048_640,
-        &[1, epoch, 0, 0, 0, 0, 0, 0, 0, 10, 0, 0, 0],
-    )?;
-    write_bytes(&mut disk, 1_048_653, &[6, 2, 0, 0, 0, 0, 1, 1, 9, 0, 0])?;
-    Ok(look(alloc, disk))
+fn two_halves(rt: &impl Abort, alloc: Global, epoch: u8) -> Seen {
+    let head = [1, epoch, 0, 0, 0, 0, 0, 0, 0, 10, 0, 0, 0];
+    let mut disk = blank_disk(rt, alloc, LENGTH);
+    write_bytes(rt, &mut disk, 0, b"RAPSTOR2");
+    write_bytes(rt, &mut disk, 64, TWO_GROUPS);
+    write_bytes(rt, &mut disk, 1_048_640, &head);
+    write_bytes(rt, &mut disk, 1_048_653, OTHER_POLICY);
+    look(alloc, disk)
+}
+
+// The record of another policy, and the closed gate.
+const OTHER_POLICY: &[u8] = &[6, 2, 0, 0, 0, 0, 1, 1, 9, 0, 0];
+
+fn add_place(rt: &impl Abort, places: &mut Vec<(usize, u8)>, place: usize, byte: u8) {
+    places.push((place, byte)).expect(rt, "memory");
 }
 
 // The places of a newly made store that don't hold this byte, which each byte of the device was before, and what they hold.
-fn writes_over(alloc: Global, byte: u8) -> Result<Vec<(usize, u8)>, Fail> {
-    let made = format_again(alloc, disk_of_byte(alloc, byte, LENGTH)?)?;
+fn writes_over(rt: &impl Abort, alloc: Global, byte: u8) -> Vec<(usize, u8)> {
+    let made = format_again(rt, alloc, disk_of_byte(rt, alloc, byte, LENGTH));
     let mut written = Vec::new(alloc);
     for (place, now) in made.bytes().iter().enumerate() {
         if *now != byte {
-            written.push((place, *now))?;
+            add_place(rt, &mut written, place, *now);
         }
     }
-    Ok(written)
+    written
 }
 
 // What is seen of a store of a policy after this many calls of another format; none where it was not stopped.
-fn stop_format(alloc: Global, passes: u64) -> Result<Option<Seen>, Fail> {
-    match format(alloc, FuseDisk::new(device(alloc, 1)?, passes)) {
-        Ok(_store) => Ok(None),
-        Err((fuse, StoreFault::Device)) => Ok(Some(look(alloc, fuse.into_inner()))),
-        Err((_fuse, fault)) => Err(Fail::from(fault)),
-    }
+fn stop_format(rt: &impl Abort, alloc: Global, passes: u64) -> Option<Seen> {
+    let (fuse, fault) = format(alloc, FuseDisk::new(device(rt, alloc, 1), passes)).err()?;
+    expect(rt, fault, StoreFault::Device);
+    Some(look(alloc, fuse.into_inner()))
 }
 
 // What is told and seen where the call after as many others fails, of a recovery and then a commit.
-fn fault_after(alloc: Global, passes: u64) -> Result<(StoreFault, Seen), Fail> {
-    let (fault, fuse) = fault_of(alloc, FuseDisk::new(device(alloc, 1)?, passes))?;
-    Ok((fault, look(alloc, fuse.into_inner())))
+fn fault_after(rt: &impl Abort, alloc: Global, passes: u64) -> (StoreFault, Seen) {
+    let (fault, fuse) = fault_of(rt, alloc, FuseDisk::new(device(rt, alloc, 1), passes));
+    (fault, look(alloc, fuse.into_inner()))
 }
 
 #[test]
-fn the_first_bytes(rt: HostRuntime) -> Result<(), Fail> {
-    let disk = device(rt.alloc(), 2)?;
+fn the_first_bytes(rt: HostRuntime) {
+    let disk = device(&rt, rt.alloc(), 2);
     let bytes = disk.bytes();
-    let groups = TWO_GROUPS;
     expect(&rt, bytes.get(..8), Some(b"RAPSTOR2".as_slice()));
-    expect(&rt, bytes.get(64..118), Some(groups.as_slice()));
-    Ok(())
+    expect(&rt, bytes.get(64..118), Some(TWO_GROUPS));
 }
 
 // The group of an association: the station's row, and behind it the identifier that its BSSID gave last.
@@ -317,163 +303,188 @@ const ASSOCIATION: &[u8] = &[
 ];
 
 #[test]
-fn the_bytes_of_an_association(rt: HostRuntime) -> Result<(), Fail> {
-    let disk = device(rt.alloc(), 3)?;
+fn the_bytes_of_an_association(rt: HostRuntime) {
+    let disk = device(&rt, rt.alloc(), 3);
     let bytes = disk.bytes();
     expect(&rt, bytes.get(64..117), TWO_GROUPS.get(..53));
     expect(&rt, bytes.get(117..152), Some(ASSOCIATION));
-    Ok(())
+}
+
+// The calls of the device that a station's commit makes.
+const COMMIT: &[Made] = &[
+    Made::Write(93, 25),
+    Made::Sync,
+    Made::Write(92, 1),
+    Made::Sync,
+];
+
+// Expects the first so many of them where as many calls were made of it.
+fn expect_calls(rt: &impl Abort, alloc: Global, calls: u64, many: usize) {
+    let disk = committing(rt, alloc, blank_disk(rt, alloc, LENGTH), calls);
+    // Behind seven calls of the format and four of the policy's commit.
+    let made = calls_after(rt, alloc, &disk, 11);
+    let found = (calls, Some(made.as_slice()));
+    expect(rt, found, (calls, COMMIT.get(..many)));
 }
 
 // Each `next_call` is one call of the device at most, and none is left after the fourth.
 #[test]
-fn the_calls_of_a_commit(rt: HostRuntime) -> Result<(), Fail> {
-    let alloc = rt.alloc();
-    let all = [
-        Made::Write(93, 25),
-        Made::Sync,
-        Made::Write(92, 1),
-        Made::Sync,
-    ];
+fn the_calls_of_a_commit(rt: HostRuntime) {
     for (calls, many) in [(0, 0), (1, 1), (2, 2), (3, 3), (4, 4), (5, 4)] {
-        let disk = committing(alloc, blank_disk(alloc, LENGTH)?, calls)?;
-        // Behind seven calls of the format and four of the policy's commit.
-        let made = calls_after(alloc, &disk, 11)?;
-        let found = (calls, Some(made.as_slice()));
-        expect(&rt, found, (calls, all.get(..many)));
+        expect_calls(&rt, rt.alloc(), calls, many);
     }
-    Ok(())
+}
+
+// The calls by which a device is formatted that is no store, and by which one that is.
+const FORMAT: &[Made] = &[
+    Made::Sync,
+    Made::Read(0, 8),
+    Made::Write(64, 14),
+    Made::Write(1_048_640, 13),
+    Made::Sync,
+    Made::Write(0, 8),
+    Made::Sync,
+];
+
+const FORMAT_AGAIN: &[Made] = &[
+    Made::Sync,
+    Made::Read(0, 8),
+    Made::Write(0, 8),
+    Made::Sync,
+    Made::Write(64, 14),
+    Made::Write(1_048_640, 13),
+    Made::Sync,
+    Made::Write(0, 8),
+    Made::Sync,
+];
+
+// Expects that a device has served these calls behind so many.
+fn expect_made(rt: &impl Abort, alloc: Global, disk: &MemDisk, calls: usize, wanted: &[Made]) {
+    let made = calls_after(rt, alloc, disk, calls);
+    expect(rt, made.as_slice(), wanted);
 }
 
 // Nothing is written but the heads and the magic, which is overwritten first where it stands.
 #[test]
-fn the_calls_of_a_format(rt: HostRuntime) -> Result<(), Fail> {
+fn the_calls_of_a_format(rt: HostRuntime) {
     let alloc = rt.alloc();
-    let first = [Made::Sync, Made::Read(0, 8)];
-    let unmarking = [Made::Write(0, 8), Made::Sync];
-    let last = [
-        Made::Write(64, 14),
-        Made::Write(1_048_640, 13),
-        Made::Sync,
-        Made::Write(0, 8),
-        Made::Sync,
-    ];
-    let new = calls_after(alloc, &device(alloc, 0)?, 0)?;
-    expect(&rt, new.get(..2), Some(first.as_slice()));
-    expect(&rt, new.get(2..), Some(last.as_slice()));
-    let again = calls_after(alloc, &format_again(alloc, device(alloc, 0)?)?, 7)?;
-    expect(&rt, again.get(..2), Some(first.as_slice()));
-    expect(&rt, again.get(2..4), Some(unmarking.as_slice()));
-    expect(&rt, again.get(4..), Some(last.as_slice()));
-    Ok(())
+    expect_made(&rt, alloc, &device(&rt, alloc, 0), 0, FORMAT);
+    let again = format_again(&rt, alloc, device(&rt, alloc, 0));
+    expect_made(&rt, alloc, &again, 7, FORMAT_AGAIN);
 }
+
+// Adds zeros at the places of a head that a new store doesn't set otherwise.
+fn add_zeros(rt: &impl Abort, places: &mut Vec<(usize, u8)>) {
+    for place in 66..78 {
+        add_place(rt, places, place, 0);
+    }
+    for place in 1_048_640..1_048_653 {
+        add_place(rt, places, place, 0);
+    }
+}
+
+// The places of the magic, and of the gate and the epoch of half A, and what they hold.
+const SET: [(usize, u8); 10] = [
+    (0, b'R'),
+    (1, b'A'),
+    (2, b'P'),
+    (3, b'S'),
+    (4, b'T'),
+    (5, b'O'),
+    (6, b'R'),
+    (7, b'2'),
+    (64, 1),
+    (65, 1),
+];
 
 // The whole device: the magic and the heads of both halves stand on it, and no other byte is written.
 #[test]
-fn all_bytes_of_a_new_store(rt: HostRuntime) -> Result<(), Fail> {
+fn all_bytes_of_a_new_store(rt: HostRuntime) {
     let alloc = rt.alloc();
-    let mut want = Vec::new(alloc);
-    for (place, byte) in b"RAPSTOR2".iter().enumerate() {
-        want.push((place, *byte))?;
-    }
-    want.push((64, 1))?;
-    want.push((65, 1))?;
-    expect(&rt, writes_over(alloc, 0)? == want, true);
-    for place in 66..78 {
-        want.push((place, 0))?;
-    }
-    for place in 1_048_640..1_048_653 {
-        want.push((place, 0))?;
-    }
-    expect(&rt, writes_over(alloc, 7)? == want, true);
-    Ok(())
+    let mut want = Vec::from_slice(alloc, &SET).expect(&rt, "memory");
+    expect(&rt, writes_over(&rt, alloc, 0) == want, true);
+    add_zeros(&rt, &mut want);
+    expect(&rt, writes_over(&rt, alloc, 7) == want, true);
 }
+
+// The calls of a recovery behind its sync: each byte is read once.
+const RECOVERY: &[Made] = &[Made::Sync, Made::Read(0, LENGTH)];
 
 // It begins with a sync, reads each byte once, and writes nothing.
 #[test]
-fn the_calls_of_a_recovery(rt: HostRuntime) -> Result<(), Fail> {
+fn the_calls_of_a_recovery(rt: HostRuntime) {
     let alloc = rt.alloc();
-    let disk = recover_device(alloc, device(alloc, 0)?)?;
-    let made = calls_after(alloc, &disk, 7)?;
-    let all = [Made::Sync, Made::Read(0, LENGTH)];
-    expect(&rt, made.as_slice(), all.as_slice());
-    Ok(())
+    let disk = recover_device(&rt, alloc, device(&rt, alloc, 0));
+    expect_made(&rt, alloc, &disk, 7, RECOVERY);
 }
 
+// Stops in the commit of a station, and what each shows of the station.
+const STOPS: [(u64, Torn, Option<Station>); 8] = [
+    (0, Torn::Byte(1), None),
+    (1, Torn::Byte(1), None),
+    (2, Torn::Old, None),
+    (2, Torn::New, None),
+    (3, Torn::Old, None),
+    (3, Torn::Byte(0x7f), None),
+    (3, Torn::Byte(1), Some(Station::Authenticated)),
+    (4, Torn::Old, Some(Station::Authenticated)),
+];
+
 #[test]
-fn a_stop_at_each_call_of_a_commit(rt: HostRuntime) -> Result<(), Fail> {
-    for (calls, torn, station) in [
-        (0, Torn::Byte(1), None),
-        (1, Torn::Byte(1), None),
-        (2, Torn::Old, None),
-        (2, Torn::New, None),
-        (3, Torn::Old, None),
-        (3, Torn::Byte(0x7f), None),
-        (3, Torn::Byte(1), Some(Station::Authenticated)),
-        (4, Torn::Old, Some(Station::Authenticated)),
-    ] {
-        let found = stop(rt.alloc(), calls, torn)?;
+fn a_stop_at_each_call_of_a_commit(rt: HostRuntime) {
+    for (calls, torn, station) in STOPS {
+        let found = stop(&rt, rt.alloc(), calls, torn);
         let wanted = Ok((Some((0, 2007)), station));
         expect(&rt, (calls, torn, found), (calls, torn, wanted));
     }
-    Ok(())
 }
 
 // How a short device is refused, by a format and then by a recovery.
-fn refusals_of_short(alloc: Global) -> Result<(Option<StoreFault>, Seen), Fail> {
-    let mut short = blank_disk(alloc, 2_097_215)?;
-    write_bytes(&mut short, 0, b"RAPSTOR1")?;
+fn refusals_of_short(rt: &impl Abort, alloc: Global) -> (Option<StoreFault>, Seen) {
+    let mut short = blank_disk(rt, alloc, 2_097_215);
+    write_bytes(rt, &mut short, 0, b"RAPSTOR1");
     match format(alloc, short) {
-        Ok(store) => Ok((None, look(alloc, store.into_device()))),
-        Err((short, fault)) => Ok((Some(fault), look(alloc, short))),
+        Ok(store) => (None, look(alloc, store.into_device())),
+        Err((short, fault)) => (Some(fault), look(alloc, short)),
     }
 }
 
 #[test]
-fn devices_that_are_no_stores(rt: HostRuntime) -> Result<(), Fail> {
+fn devices_that_are_no_stores(rt: HostRuntime) {
     let alloc = rt.alloc();
     for length in [0, 2_097_215, 2_097_216, 2_097_217] {
-        let found = look(alloc, blank_disk(alloc, length)?);
+        let found = look(alloc, blank_disk(&rt, alloc, length));
         expect(&rt, (length, found), (length, Err(StoreFault::NotAStore)));
     }
     // The length is looked at before the magic.
     let none = StoreFault::NotAStore;
-    expect(&rt, refusals_of_short(alloc)?, (Some(none), Err(none)));
-    Ok(())
+    let found = refusals_of_short(&rt, alloc);
+    expect(&rt, found, (Some(none), Err(none)));
 }
 
 #[test]
-fn two_open_halves(rt: HostRuntime) -> Result<(), Fail> {
+fn two_open_halves(rt: HostRuntime) {
     let alloc = rt.alloc();
     let older = Ok((Some((0, 2007)), Some(Station::Authenticated)));
-    expect(&rt, two_halves(alloc, 0)?, older);
-    expect(&rt, two_halves(alloc, 1)?, Err(StoreFault::Damaged));
-    expect(&rt, two_halves(alloc, 2)?, Ok((Some((1, 9)), None)));
-    Ok(())
+    for (epoch, wanted) in [
+        (0, older),
+        (1, Err(StoreFault::Damaged)),
+        (2, Ok((Some((1, 9)), None))),
+    ] {
+        expect(&rt, two_halves(&rt, alloc, epoch), wanted);
+    }
 }
 
 #[test]
-fn each_byte_in_front_of_the_halves(rt: HostRuntime) -> Result<(), Fail> {
+fn each_byte_in_front_of_the_halves(rt: HostRuntime) {
     let alloc = rt.alloc();
     let none = Err(StoreFault::NotAStore);
     let same = Ok((Some((0, 2007)), Some(Station::Authenticated)));
-    let disk = device(alloc, 2)?;
+    let disk = device(&rt, alloc, 2);
     for place in 0..64 {
-        let found = look_with(alloc, &disk, place, &[7])?;
         let wanted = if place < 8 { none } else { same };
-        expect(&rt, (place, found), (place, wanted));
+        expect_with(&rt, alloc, &disk, (place, &[7]), wanted);
     }
-    Ok(())
-}
-
-// What is seen of a store with an association.
-fn associated() -> Result<Seen, Fail> {
-    let row = Association {
-        aid: Aid::new(1).ok_or("1 is an identifier")?,
-        capability: 0x0431,
-        listen_interval: 10,
-    };
-    Ok(Ok((Some((0, 2007)), Some(Station::Associated(row)))))
 }
 
 // Bytes at a place, and what is seen of a store with an association where they stand there.
@@ -509,53 +520,42 @@ fn expect_with(
     disk: &MemDisk,
     (place, bytes): (usize, &[u8]),
     wanted: Seen,
-) -> Result<(), Fail> {
-    let found = look_with(alloc, disk, place, bytes)?;
+) {
+    let found = look_with(rt, alloc, disk, place, bytes);
     expect(rt, (place, bytes, found), (place, bytes, wanted));
-    Ok(())
 }
 
-fn expect_others(rt: &impl Abort, alloc: Global, disk: &MemDisk) -> Result<(), Fail> {
+fn expect_others(rt: &impl Abort, alloc: Global, disk: &MemDisk) {
     for (place, bytes, found) in OTHERS {
-        expect_with(rt, alloc, disk, (place, bytes), found)?;
+        expect_with(rt, alloc, disk, (place, bytes), found);
     }
-    Ok(())
 }
 
-fn expect_no_others(rt: &impl Abort, alloc: Global, disk: &MemDisk) -> Result<(), Fail> {
-    let same = associated()?;
+fn expect_no_others(rt: &impl Abort, alloc: Global, disk: &MemDisk, same: Seen) {
     for (place, byte) in NO_OTHERS {
-        expect_with(rt, alloc, disk, (*place, &[*byte]), same)?;
+        expect_with(rt, alloc, disk, (*place, &[*byte]), same);
     }
-    Ok(())
 }
 
 #[test]
-fn other_bytes_in_a_store(rt: HostRuntime) -> Result<(), Fail> {
+fn other_bytes_in_a_store(rt: HostRuntime) {
     let alloc = rt.alloc();
-    let disk = device(alloc, 3)?;
-    expect_others(&rt, alloc, &disk)?;
-    expect_no_others(&rt, alloc, &disk)?;
-    expect(&rt, look(alloc, disk), associated()?);
-    Ok(())
+    let same = Ok((Some((0, 2007)), Some(association(&rt))));
+    let disk = device(&rt, alloc, 3);
+    expect_others(&rt, alloc, &disk);
+    expect_no_others(&rt, alloc, &disk, same);
+    expect(&rt, look(alloc, disk), same);
 }
 
 // Expects these records in the snapshot of a table, and the identifier that it gives next.
-fn expect_recovery(
-    rt: &impl Abort,
-    alloc: Global,
-    groups: &[&[u8]],
-    next: u16,
-    records: &[&[u8]],
-) -> Result<(), Fail> {
-    let wanted = records.concat(alloc)?;
-    let found = recovery_of(alloc, groups)?;
+fn expect_recovery(rt: &impl Abort, alloc: Global, groups: &[&[u8]], next: u16, records: &[&[u8]]) {
+    let wanted = records.concat(alloc).expect(rt, "memory");
+    let found = recovery_of(rt, alloc, groups);
     expect(rt, found, Ok((Some(next), wanted)));
-    Ok(())
 }
 
 #[test]
-fn a_cursor_in_a_group(rt: HostRuntime) -> Result<(), Fail> {
+fn a_cursor_in_a_group(rt: HostRuntime) {
     let alloc = rt.alloc();
     // The least free identifier above the one given last, and the first one behind the greatest.
     for (cursor, next) in [
@@ -563,100 +563,110 @@ fn a_cursor_in_a_group(rt: HostRuntime) -> Result<(), Fail> {
         ([7, 2, 0, 0, 0, 0, 1, 0xd7, 7], 1),
     ] {
         let records = [POLICY, cursor.as_slice()];
-        expect_recovery(&rt, alloc, &records, next, &records)?;
+        expect_recovery(&rt, alloc, &records, next, &records);
     }
     // Where none was given yet it has no record.
     let none = [7, 2, 0, 0, 0, 0, 1, 0, 0];
-    expect_recovery(&rt, alloc, &[POLICY, &none], 1, &[POLICY])
+    expect_recovery(&rt, alloc, &[POLICY, &none], 1, &[POLICY]);
+}
+
+fn expect_damage(rt: &impl Abort, alloc: Global, records: &[&[u8]]) {
+    let fault = refusal_of(rt, alloc, records);
+    expect(rt, fault, Some(StoreFault::Damaged));
 }
 
 #[test]
-fn a_cursor_that_is_refused(rt: HostRuntime) -> Result<(), Fail> {
+fn a_cursor_that_is_refused(rt: HostRuntime) {
     let alloc = rt.alloc();
     // Its BSSID has no policy, and 2008 is no identifier.
-    for cursor in [[7, 2, 0, 0, 0, 0, 1, 5, 0], [7, 2, 0, 0, 0, 0, 1, 0, 0]] {
-        expect(
-            &rt,
-            refusal_of(alloc, &[&cursor])?,
-            Some(StoreFault::Damaged),
-        );
-    }
-    let cursor = [7, 2, 0, 0, 0, 0, 1, 0xd8, 7];
-    let fault = refusal_of(alloc, &[POLICY, &cursor])?;
-    expect(&rt, fault, Some(StoreFault::Damaged));
-    Ok(())
+    expect_damage(&rt, alloc, &[&[7, 2, 0, 0, 0, 0, 1, 5, 0]]);
+    expect_damage(&rt, alloc, &[&[7, 2, 0, 0, 0, 0, 1, 0, 0]]);
+    expect_damage(&rt, alloc, &[POLICY, &[7, 2, 0, 0, 0, 0, 1, 0xd8, 7]]);
 }
 
+const BEFORE: Seen = Ok((Some((0, 2007)), None));
+
+const AFTER: Seen = Ok((Some((0, 2007)), Some(Station::Authenticated)));
+
+// Calls of which the next one fails, what is told, and what is seen.
+const FAULTS: [(u64, StoreFault, Seen); 6] = [
+    (0, StoreFault::Device, BEFORE),
+    (1, StoreFault::Device, BEFORE),
+    (2, StoreFault::Failed, BEFORE),
+    (3, StoreFault::Failed, BEFORE),
+    (4, StoreFault::Failed, AFTER),
+    (5, StoreFault::Failed, AFTER),
+];
+
 #[test]
-fn each_call_that_fails(rt: HostRuntime) -> Result<(), Fail> {
-    let before = Ok((Some((0, 2007)), None));
-    let after = Ok((Some((0, 2007)), Some(Station::Authenticated)));
-    for (passes, fault, found) in [
-        (0, StoreFault::Device, before),
-        (1, StoreFault::Device, before),
-        (2, StoreFault::Failed, before),
-        (3, StoreFault::Failed, before),
-        (4, StoreFault::Failed, after),
-        (5, StoreFault::Failed, after),
-    ] {
-        let is = fault_after(rt.alloc(), passes)?;
+fn each_call_that_fails(rt: HostRuntime) {
+    for (passes, fault, found) in FAULTS {
+        let is = fault_after(&rt, rt.alloc(), passes);
         expect(&rt, (passes, is), (passes, (fault, found)));
     }
-    Ok(())
 }
 
+// Calls of a format of which the next one fails, and what is seen.
+const FORMAT_FAULTS: [(u64, Option<Seen>); 7] = [
+    (0, Some(BEFORE)),
+    (1, Some(BEFORE)),
+    (2, Some(Err(StoreFault::NotAStore))),
+    (6, Some(Err(StoreFault::NotAStore))),
+    (7, Some(Ok((None, None)))),
+    (8, Some(Ok((None, None)))),
+    (9, None),
+];
+
 #[test]
-fn each_call_of_a_format_that_fails(rt: HostRuntime) -> Result<(), Fail> {
-    let before = Ok((Some((0, 2007)), None));
-    for (passes, found) in [
-        (0, Some(before)),
-        (1, Some(before)),
-        (2, Some(Err(StoreFault::NotAStore))),
-        (6, Some(Err(StoreFault::NotAStore))),
-        (7, Some(Ok((None, None)))),
-        (8, Some(Ok((None, None)))),
-        (9, None),
-    ] {
-        let is = stop_format(rt.alloc(), passes)?;
+fn each_call_of_a_format_that_fails(rt: HostRuntime) {
+    for (passes, found) in FORMAT_FAULTS {
+        let is = stop_format(&rt, rt.alloc(), passes);
         expect(&rt, (passes, is), (passes, found));
     }
-    Ok(())
+}
+
+// A second batch is refused while one is under way.
+fn expect_busy<D: Disk>(rt: &impl Abort, alloc: Global, store: &mut Store<D>) {
+    begin_policy(rt, alloc, store);
+    let fault = refusal(rt, alloc, store, policy(rt));
+    expect(rt, fault, StoreFault::NotIdle);
 }
 
 #[test]
-fn a_store_that_is_busy(rt: HostRuntime) -> Result<(), Fail> {
-    let mut store = format_store(rt.alloc(), blank_disk(rt.alloc(), LENGTH)?)?;
-    let fault = busy(rt.alloc(), &mut store);
-    drop(store);
-    expect(&rt, fault?, StoreFault::NotIdle);
-    Ok(())
+fn a_store_that_is_busy(rt: HostRuntime) {
+    let alloc = rt.alloc();
+    let mut store = format_store(&rt, alloc, blank_disk(&rt, alloc, LENGTH));
+    expect_busy(&rt, alloc, &mut store);
 }
 
+const TEXTS: [(StoreFault, &str); 10] = [
+    (StoreFault::NotAStore, "not a store"),
+    (StoreFault::Damaged, "damaged store"),
+    (StoreFault::Device, "device fault"),
+    (StoreFault::Failed, "store has failed"),
+    (StoreFault::Worn, "store is worn out"),
+    (StoreFault::NotIdle, "a batch is in flight"),
+    (StoreFault::BadBatch, "batch does not fit"),
+    (StoreFault::OldVersion, "store of version 1"),
+    (StoreFault::NewVersion, "store of version 2"),
+    (StoreFault::NoMemory, "out of memory"),
+];
+
+const NUMBERS: [(StoreFault, u8); 6] = [
+    (StoreFault::NotAStore, 1),
+    (StoreFault::Failed, 4),
+    (StoreFault::Worn, 6),
+    (StoreFault::BadBatch, 8),
+    (StoreFault::OldVersion, 9),
+    (StoreFault::NewVersion, 10),
+];
+
 #[test]
-fn texts(rt: HostRuntime) -> Result<(), Fail> {
-    for (fault, text) in [
-        (StoreFault::NotAStore, "not a store"),
-        (StoreFault::Damaged, "damaged store"),
-        (StoreFault::Device, "device fault"),
-        (StoreFault::Failed, "store has failed"),
-        (StoreFault::Worn, "store is worn out"),
-        (StoreFault::NotIdle, "a batch is in flight"),
-        (StoreFault::BadBatch, "batch does not fit"),
-        (StoreFault::OldVersion, "store of version 1"),
-        (StoreFault::NewVersion, "store of version 2"),
-        (StoreFault::NoMemory, "out of memory"),
-    ] {
-        expect_text(&rt, rt.alloc(), &fault, text)?;
+fn texts(rt: HostRuntime) {
+    for (fault, text) in TEXTS {
+        expect_text(&rt, rt.alloc(), &fault, text);
     }
-    for (fault, number) in [
-        (StoreFault::NotAStore, 1u8),
-        (StoreFault::Failed, 4),
-        (StoreFault::Worn, 6),
-        (StoreFault::BadBatch, 8),
-        (StoreFault::OldVersion, 9),
-        (StoreFault::NewVersion, 10),
-    ] {
+    for (fault, number) in NUMBERS {
         expect(&rt, fault as u8, number);
     }
-    Ok(())
 }

@@ -1,13 +1,13 @@
 // Stores of version 1: they are told apart, and what a format leaves of them.
-use crate::common::write_bytes;
+use crate::common::{table_of, write_bytes};
 use crate::expect::expect;
 use crate::old_images::{EMPTY, JOINED, Part, SWITCHED, device_of};
 use apd_base::{Addr, Bssid, Station};
-use apd_disk::{FuseDisk, MemDisk, Torn};
+use apd_disk::{Disk, FuseDisk, MemDisk, Torn};
 use apd_record::write;
 use apd_store::{StoreFault, format, recover};
 use std::alloc::Global;
-use std::test::Fail;
+use std::process::Abort;
 
 pub(crate) const FIRST: Bssid = Bssid(Addr([2, 0, 0, 0, 0, 1]));
 
@@ -17,120 +17,140 @@ pub(crate) const SECOND: Bssid = Bssid(Addr([2, 0, 0, 0, 0, 2]));
 pub(crate) type Rows = Result<(usize, Option<Station>, Option<Station>), StoreFault>;
 
 pub(crate) fn rows(alloc: Global, disk: MemDisk) -> Rows {
-    match recover(alloc, disk) {
-        Ok((_store, table)) => Ok((
-            table.rows(),
-            table.get(FIRST, Addr([2, 0, 0, 0, 0, 0xaa])),
-            table.get(SECOND, Addr([2, 0, 0, 0, 0, 0xbb])),
-        )),
-        Err((_disk, fault)) => Err(fault),
+    let table = table_of(alloc, disk)?;
+    Ok((
+        table.rows(),
+        table.get(FIRST, Addr([2, 0, 0, 0, 0, 0xaa])),
+        table.get(SECOND, Addr([2, 0, 0, 0, 0, 0xbb])),
+    ))
+}
+
+pub(crate) const TORN: [Torn; 4] = [Torn::Old, Torn::New, Torn::Byte(1), Torn::Byte(0x7f)];
+
+// The device that a format leaves, whether or not it fails.
+fn format_device<D: Disk>(alloc: Global, disk: D) -> D
+where
+    D: Drop,
+{
+    match format(alloc, disk) {
+        Ok(store) => store.into_device(),
+        Err((disk, _fault)) => disk,
     }
 }
 
 // What is found of a store of version 1 after a stop at the call of a format behind this many others.
-fn stop_format(alloc: Global, passes: u64, torn: Torn) -> Result<Rows, Fail> {
-    let disk = match format(alloc, FuseDisk::new(device_of(alloc, JOINED)?, passes)) {
-        Ok(store) => store.into_device().into_inner(),
-        Err((fuse, _fault)) => fuse.into_inner(),
-    };
-    Ok(rows(alloc, disk.crash(torn)))
+fn stop_format(rt: &impl Abort, alloc: Global, passes: u64, torn: Torn) -> Rows {
+    let fuse = FuseDisk::new(device_of(rt, alloc, JOINED), passes);
+    let disk = format_device(alloc, fuse).into_inner();
+    rows(alloc, disk.crash(torn))
+}
+
+// How a recovery ends, and the device.
+fn recover_device<D: Disk>(alloc: Global, disk: D) -> (Option<StoreFault>, D)
+where
+    D: Drop,
+{
+    match recover(alloc, disk) {
+        Ok((store, _table)) => (None, store.into_device()),
+        Err((disk, fault)) => (Some(fault), disk),
+    }
 }
 
 // How a recovery of a store of version 1 ends whose call behind this many others fails, and what is found after a stop.
 fn stop_recovery(
+    rt: &impl Abort,
     alloc: Global,
     passes: u64,
     torn: Torn,
-) -> Result<(Option<StoreFault>, Rows), Fail> {
-    let (fault, fuse) = match recover(alloc, FuseDisk::new(device_of(alloc, SWITCHED)?, passes)) {
-        Ok((store, _table)) => (None, store.into_device()),
-        Err((fuse, fault)) => (Some(fault), fuse),
-    };
-    Ok((fault, rows(alloc, fuse.into_inner().crash(torn))))
+) -> (Option<StoreFault>, Rows) {
+    let fuse = FuseDisk::new(device_of(rt, alloc, SWITCHED), passes);
+    let (fault, fuse) = recover_device(alloc, fuse);
+    (fault, rows(alloc, fuse.into_inner().crash(torn)))
 }
 
-#[test]
-fn a_stop_at_each_call_of_a_recovery(rt: HostRuntime) -> Result<(), Fail> {
-    for torn in [Torn::Old, Torn::New, Torn::Byte(1), Torn::Byte(0x7f)] {
-        for (passes, fault) in [
-            (0, StoreFault::Device),
-            (1, StoreFault::Device),
-            (2, StoreFault::OldVersion),
-        ] {
-            let found = stop_recovery(rt.alloc(), passes, torn)?;
-            let want = (Some(fault), Err(StoreFault::OldVersion));
-            expect(&rt, (torn, passes, found), (torn, passes, want));
-        }
+// Stops at each call of a recovery.
+fn stop_recoveries(rt: &impl Abort, alloc: Global, torn: Torn) {
+    for (passes, fault) in [
+        (0, StoreFault::Device),
+        (1, StoreFault::Device),
+        (2, StoreFault::OldVersion),
+    ] {
+        let found = stop_recovery(rt, alloc, passes, torn);
+        let want = (Some(fault), Err(StoreFault::OldVersion));
+        expect(rt, (torn, passes, found), (torn, passes, want));
     }
-    Ok(())
 }
 
 #[test]
-fn each_store_of_version_1_is_told_apart(rt: HostRuntime) -> Result<(), Fail> {
+fn a_stop_at_each_call_of_a_recovery(rt: HostRuntime) {
+    for torn in TORN {
+        stop_recoveries(&rt, rt.alloc(), torn);
+    }
+}
+
+#[test]
+fn each_store_of_version_1_is_told_apart(rt: HostRuntime) {
     for parts in [EMPTY, JOINED, SWITCHED] {
-        let found = rows(rt.alloc(), device_of(rt.alloc(), parts)?);
+        let found = rows(rt.alloc(), device_of(&rt, rt.alloc(), parts));
         expect(&rt, found, Err(StoreFault::OldVersion));
     }
-    Ok(())
 }
 
 // A device on which these parts stand, its mark that of version 2.
-fn remarked(alloc: Global, parts: &[Part]) -> Result<MemDisk, Fail> {
-    let mut disk = device_of(alloc, parts)?;
-    write_bytes(&mut disk, 7, b"2")?;
-    Ok(disk)
+fn remarked(rt: &impl Abort, alloc: Global, parts: &[Part]) -> MemDisk {
+    let mut disk = device_of(rt, alloc, parts);
+    write_bytes(rt, &mut disk, 7, b"2");
+    disk
 }
 
 // By the last byte of its mark alone a store is of one version or of the other.
 #[test]
-fn the_last_byte_of_the_mark(rt: HostRuntime) -> Result<(), Fail> {
+fn the_last_byte_of_the_mark(rt: HostRuntime) {
     let alloc = rt.alloc();
     for (parts, count, is_joined, second) in [
         (EMPTY, 0, false, None),
         (JOINED, 1, true, None),
         (SWITCHED, 2, true, Some(Station::Authenticated)),
     ] {
-        let (rows, aa, bb) = rows(alloc, remarked(alloc, parts)?)?;
+        let found = rows(alloc, remarked(&rt, alloc, parts));
+        let (rows, aa, bb) = found.expect(&rt, "a table");
         let joined = matches!(aa, Some(Station::Associated(_)));
         expect(&rt, (rows, joined, bb), (count, is_joined, second));
     }
-    Ok(())
 }
 
 // The records of the table that these parts show once their mark is that of version 2.
-fn mark_anew(alloc: Global, parts: &[Part]) -> Result<Vec<u8>, Fail> {
-    match recover(alloc, remarked(alloc, parts)?) {
-        Ok((_store, table)) => Ok(write(alloc, &table.snapshot(alloc)?)?),
-        Err((_disk, fault)) => Err(Fail::from(fault)),
-    }
+fn mark_anew(rt: &impl Abort, alloc: Global, parts: &[Part]) -> Vec<u8> {
+    let table = table_of(alloc, remarked(rt, alloc, parts));
+    let table = table.ok().expect(rt, "a table");
+    let snapshot = table.snapshot(alloc).expect(rt, "memory");
+    write(alloc, &snapshot).expect(rt, "memory")
 }
 
 // All of it is in the snapshot with which the second half began: the group behind it sets what was set.
 #[test]
-fn a_store_of_version_1_has_the_same_state_in_version_2(rt: HostRuntime) -> Result<(), Fail> {
-    let (_place, half) = SWITCHED.last().ok_or("no half")?;
-    let records = mark_anew(rt.alloc(), SWITCHED)?;
+fn a_store_of_version_1_has_the_same_state_in_version_2(rt: HostRuntime) {
+    let (_place, half) = SWITCHED.last().expect(&rt, "a half");
+    let records = mark_anew(&rt, rt.alloc(), SWITCHED);
     expect(&rt, Some(records.as_slice()), half.get(13..129));
-    Ok(())
 }
 
 // The mark of version 1 stands until the write of zeros, which is the third call, and the new one from the eighth on.
-#[test]
-fn a_stop_at_each_call_of_a_format(rt: HostRuntime) -> Result<(), Fail> {
+fn stop_formats(rt: &impl Abort, alloc: Global, torn: Torn) {
     let old = Err(StoreFault::OldVersion);
     let none = Err(StoreFault::NotAStore);
     let empty = Ok((0, None, None));
-    for torn in [Torn::Old, Torn::New, Torn::Byte(1), Torn::Byte(0x7f)] {
-        let zeros = if torn == Torn::Old { old } else { none };
-        let mark = if torn == Torn::New { empty } else { none };
-        for (place, found) in [old, old, zeros, none, none, none, none, mark, empty]
-            .iter()
-            .enumerate()
-        {
-            let passes = u64::try_from(place)?;
-            let rows = stop_format(rt.alloc(), passes, torn)?;
-            expect(&rt, (torn, place, rows), (torn, place, *found));
-        }
+    let zeros = if torn == Torn::Old { old } else { none };
+    let mark = if torn == Torn::New { empty } else { none };
+    for (passes, wanted) in (0..).zip([old, old, zeros, none, none, none, none, mark, empty]) {
+        let found = stop_format(rt, alloc, passes, torn);
+        expect(rt, (torn, passes, found), (torn, passes, wanted));
     }
-    Ok(())
+}
+
+#[test]
+fn a_stop_at_each_call_of_a_format(rt: HostRuntime) {
+    for torn in TORN {
+        stop_formats(&rt, rt.alloc(), torn);
+    }
 }
