@@ -1,17 +1,18 @@
 //! Calls that take memory and that no other test makes, where memory is ample.
 use crate::calls::{begin_world, commit_world, confs, new_slots, recover_store, tell};
-use crate::devices::{device_of, new_image, place_of};
+use crate::devices::{new_device, place_of};
+use crate::expect::expect;
 use crate::sessions::{AUTHENTICATES, starts, world};
 use apd_base::{Addr, Bssid};
 use apd_conf::Confs;
 use apd_disk::Disk;
-use apd_journal::plan_half;
+use apd_journal::{Plan, plan_half};
 use apd_radio::{Identifiers, Sim};
 use apd_record::{Change, Changes};
 use apd_slot::Slot;
 use apd_world::{Commit, World};
-use std::alloc::{AllocError, Global};
-use std::test::Fail;
+use std::alloc::Global;
+use std::process::Abort;
 
 const WLAN1: Bssid = Bssid(Addr([2, 0, 0, 0, 0, 2]));
 
@@ -26,16 +27,18 @@ fn confs_and_slots(alloc: Global) -> Option<(Confs, Vec<Slot<Sim>>)> {
 
 /// A store is recovered, and its world begun with a slot for its interface; how many slots there were, and its table.
 fn recover_and_begin(alloc: Global) -> Option<(usize, Option<u64>)> {
-    let recovered = recover_store(alloc, device_of(alloc, &new_image(alloc)?)?).ok();
+    let recovered = recover_store(alloc, new_device(alloc)?).ok();
     let ((store, table), (confs, slots)) = recovered.zip(confs_and_slots(alloc))?;
     let count = slots.len();
-    let world = begin_world(alloc, store, table, confs, slots);
-    Some((count, place_of(alloc, world?.table())))
+    let world = begin_world(alloc, store, table, confs, slots)?;
+    let place = place_of(alloc, world.table());
+    drop(world);
+    Some((count, place))
 }
 
 #[test]
 fn a_world_is_begun_anew(rt: HostRuntime) {
-    assert_eq!(rt; recover_and_begin(rt.alloc()), Some((1, Some(0))));
+    expect(&rt, recover_and_begin(rt.alloc()), Some((1, Some(0))));
 }
 
 /// What two commits come to, of a world in which a radio starts and a station is to be authenticated, and its table.
@@ -50,52 +53,61 @@ fn commits<D: Disk>(
 }
 
 fn commits_of_two(alloc: Global) -> Option<([Commit; 2], Option<u64>)> {
-    let device = device_of(alloc, &new_image(alloc)?)?;
-    commits(alloc, &mut world(alloc, device)?)
+    let mut world = world(alloc, new_device(alloc)?)?;
+    let commits = commits(alloc, &mut world);
+    drop(world);
+    commits
 }
 
 #[test]
 fn a_commit_settles_all_that_waits(rt: HostRuntime) {
-    assert_eq!(rt;
-        commits_of_two(rt.alloc()),
-        Some(([Commit::Settled, Commit::Nothing], Some(2)))
-    );
+    let wanted = ([Commit::Settled, Commit::Nothing], Some(2));
+    expect(&rt, commits_of_two(rt.alloc()), Some(wanted));
 }
 
-/// The changes that are collected, in the order in which they came.
-fn collect(alloc: Global) -> Result<Vec<Change>, AllocError> {
+/// Collects that the station is dropped of this BSSID.
+fn collect(rt: &impl Abort, changes: &mut Changes, bssid: Bssid) {
+    let change = Change::Drop {
+        bssid,
+        addr: STATION,
+    };
+    changes.push(change).expect(rt, "memory");
+}
+
+/// The plan of a half of the changes that are collected, in the order in which they came.
+fn plan(rt: &impl Abort, alloc: Global) -> Plan {
     let mut changes = Changes::new(alloc);
-    for bssid in [WLAN1, Bssid(STATION)] {
-        changes.push(Change::Drop {
-            bssid,
-            addr: STATION,
-        })?;
-    }
-    Ok(changes.into_vec())
+    collect(rt, &mut changes, WLAN1);
+    collect(rt, &mut changes, Bssid(STATION));
+    plan_half(alloc, 258, changes.into_vec().as_slice()).expect(rt, "memory")
+}
+
+const PLANNED: &[u8] = &[
+    2, 1, 0, 0, 0, 0, 0, 0, 26, 0, 0, 0, 2, 2, 0, 0, 0, 0, 2, 2, 0, 0, 0, 0, 0xaa, 2, 2, 0, 0, 0,
+    0, 0xaa, 2, 0, 0, 0, 0, 0xaa, 0,
+];
+
+#[test]
+fn a_half_is_planned_of_changes_that_are_collected(rt: HostRuntime) {
+    let plan = plan(&rt, rt.alloc());
+    expect(&rt, plan.place, 1);
+    expect(&rt, plan.bytes.as_slice(), PLANNED);
+}
+
+/// Keeps an identifier.
+fn insert(rt: &impl Abort, identifiers: &mut Identifiers, addr: Addr, aid: u16) {
+    identifiers.insert(addr, aid).expect(rt, "memory");
 }
 
 #[test]
-fn a_half_is_planned_of_changes_that_are_collected(rt: HostRuntime) -> Result<(), Fail> {
-    let changes = collect(rt.alloc())?;
-    let plan = plan_half(rt.alloc(), 258, changes.as_slice())?;
-    assert_eq!(rt; plan.place, 1);
-    assert_eq!(rt;
-        plan.bytes.as_slice(),
-        [
-            2, 1, 0, 0, 0, 0, 0, 0, 26, 0, 0, 0, 2, 2, 0, 0, 0, 0, 2, 2, 0, 0, 0, 0, 0xaa, 2, 2, 0,
-            0, 0, 0, 0xaa, 2, 0, 0, 0, 0, 0xaa, 0
-        ]
-        .as_slice()
-    );
-    Ok(())
-}
-
-#[test]
-fn identifiers_are_kept_by_address(rt: HostRuntime) -> Result<(), Fail> {
+fn identifiers_are_kept_by_address(rt: HostRuntime) {
     let mut identifiers = Identifiers::new(rt.alloc());
-    identifiers.insert(STATION, 2)?;
-    identifiers.insert(WLAN1.0, 7)?;
-    identifiers.insert(STATION, 3)?;
-    assert_eq!(rt; identifiers.rows(), [(WLAN1.0, 7), (STATION, 3)].as_slice());
-    Ok(())
+    insert(&rt, &mut identifiers, STATION, 2);
+    insert(&rt, &mut identifiers, WLAN1.0, 7);
+    insert(&rt, &mut identifiers, STATION, 3);
+    expect(
+        &rt,
+        identifiers.rows(),
+        [(WLAN1.0, 7), (STATION, 3)].as_slice(),
+    );
 }

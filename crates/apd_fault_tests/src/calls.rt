@@ -30,8 +30,9 @@ pub(crate) fn recover_store<D: Disk + Drop>(
 
 /// The built-in configuration alone.
 pub(crate) fn confs(alloc: Global) -> Option<Confs> {
+    let conf = Conf::built_in(alloc).ok()?;
     let mut list = Vec::new(alloc);
-    list.push(Conf::built_in(alloc).ok()?).ok()?;
+    list.push(conf).ok()?;
     Confs::new(list).ok()
 }
 

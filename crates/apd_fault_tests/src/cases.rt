@@ -151,8 +151,8 @@ fn hand_back(alloc: Global, session: Session, device: MemDisk, calls: u64) -> Op
 
 /// What comes of a session on these bytes in which the call behind so many fails.
 fn end_of(alloc: Global, session: Session, way: Way, image: &[u8], calls: u64) -> Option<Ended> {
-    let device = device_of(alloc, image)?;
     let calls = RECOVERY.checked_add(calls)?;
+    let device = device_of(alloc, image)?;
     match way {
         Way::Fuse(torn) => run_on_fuse(alloc, session, device, calls, torn),
         Way::Once(torn) => once(alloc, session, device, calls, torn),
@@ -177,8 +177,22 @@ pub(crate) fn otherwise(
     let Some(image) = image_of(alloc, session) else {
         return Some((0, None));
     };
+    let found = otherwise_on(alloc, image.as_slice(), session, way, rows, column);
+    drop(image);
+    found
+}
+
+/// The same of sessions on these bytes.
+fn otherwise_on(
+    alloc: Global,
+    image: &[u8],
+    session: Session,
+    way: Way,
+    rows: &[Row],
+    column: usize,
+) -> Option<(u64, Option<Ended>)> {
     for row in rows {
-        let ended = end_of(alloc, session, way, &image, row.0);
+        let ended = end_of(alloc, session, way, image, row.0);
         if !holds(ended, expectation(session, way, *row, column)) {
             return Some((row.0, ended));
         }

@@ -59,18 +59,33 @@ fn add_half(bytes: &mut Vec<u8>, epoch: u64, rows: u32) -> Option<()> {
 /// this epoch, with its station too, and no room for one more group of it.
 pub(crate) fn full_image(alloc: Global, epoch: u64) -> Option<Vec<u8>> {
     let mut bytes = Vec::new(alloc);
+    let filled = add_store(&mut bytes, epoch);
+    filled.is_some().then_some(bytes)
+}
+
+/// Adds those bytes.
+fn add_store(bytes: &mut Vec<u8>, epoch: u64) -> Option<()> {
     bytes.extend_from_slice(b"RAPSTOR2").ok()?;
-    pad(&mut bytes, HALF_A)?;
-    add_half(&mut bytes, 1, 0)?;
-    pad(&mut bytes, HALF_B)?;
-    add_half(&mut bytes, epoch, ROWS)?;
-    pad(&mut bytes, LENGTH)?;
-    Some(bytes)
+    pad(bytes, HALF_A)?;
+    add_half(bytes, 1, 0)?;
+    pad(bytes, HALF_B)?;
+    add_half(bytes, epoch, ROWS)?;
+    pad(bytes, LENGTH)
 }
 
 /// A device that holds these bytes, and has served no call.
 pub(crate) fn device_of(alloc: Global, image: &[u8]) -> Option<MemDisk> {
-    MemDisk::new(alloc, image.to_vec(alloc).ok()?).ok()
+    device_with(alloc, image.to_vec(alloc).ok()?)
+}
+
+/// The same that takes the bytes.
+pub(crate) fn device_with(alloc: Global, image: Vec<u8>) -> Option<MemDisk> {
+    MemDisk::new(alloc, image).ok()
+}
+
+/// A device that holds a new store, and has served no call.
+pub(crate) fn new_device(alloc: Global) -> Option<MemDisk> {
+    device_with(alloc, new_image(alloc)?)
 }
 
 /// The tables of a session, as the records that make them: the empty one, that of the radio's policy, and those with

@@ -1,9 +1,10 @@
 //! Each device call of a session is the last one, in turn: it is passed on, and answered as failed. Then the device
 //! stops, and each byte that no sync has made durable is as it was, as it was written, or another one.
-use crate::cases::{Ended, Row, Way, otherwise};
+use crate::cases::{Row, Way, otherwise};
+use crate::expect::expect;
 use crate::sessions::Session;
 use apd_disk::Torn;
-use std::alloc::Global;
+use std::process::Abort;
 
 /// Three commits of four calls: of the radio's policy, of the station's authentication, and of its association. By each
 /// fourth call a batch is durable. The third one writes its gate, which is open as 1 alone, and which no sync has made
@@ -42,89 +43,99 @@ const IN_A_SWITCH: [Row; 11] = [
     (10, 1, 2, &[3, 3, 3, 3, 3]),
 ];
 
-/// The row that does not hold in this column.
-fn in_commits(alloc: Global, torn: Torn, column: usize) -> Option<(u64, Option<Ended>)> {
-    let session = Session::ThreeCommits;
-    otherwise(alloc, session, Way::Fuse(torn), &IN_COMMITS, column)
+/// Ends the test where a row does not hold in this column.
+fn in_commits(rt: &(impl Abort + AllocGlobal), torn: Torn, column: usize) {
+    let (session, way) = (Session::ThreeCommits, Way::Fuse(torn));
+    expect(
+        rt,
+        otherwise(rt.alloc(), session, way, &IN_COMMITS, column),
+        None,
+    );
 }
 
-/// That of the first six rows, and that of the others.
-fn in_a_switch(alloc: Global, torn: Torn, column: usize) -> Option<(u64, Option<Ended>)> {
+/// The same of these rows of the other session.
+fn in_rows(rt: &(impl Abort + AllocGlobal), rows: &[Row], torn: Torn, column: usize) {
+    let (session, way) = (Session::OneSwitch, Way::Fuse(torn));
+    expect(rt, otherwise(rt.alloc(), session, way, rows, column), None);
+}
+
+/// The same of the first six rows, and of the others.
+fn in_a_switch(rt: &(impl Abort + AllocGlobal), torn: Torn, column: usize) {
     let (rows, _) = IN_A_SWITCH.split_at(6);
-    otherwise(alloc, Session::OneSwitch, Way::Fuse(torn), rows, column)
+    in_rows(rt, rows, torn, column);
 }
 
-fn behind_a_switch(alloc: Global, torn: Torn, column: usize) -> Option<(u64, Option<Ended>)> {
+fn behind_a_switch(rt: &(impl Abort + AllocGlobal), torn: Torn, column: usize) {
     let (_, rows) = IN_A_SWITCH.split_at(6);
-    otherwise(alloc, Session::OneSwitch, Way::Fuse(torn), rows, column)
+    in_rows(rt, rows, torn, column);
 }
 
 #[test]
 fn in_commits_bytes_are_as_they_were(rt: HostRuntime) {
-    assert_eq!(rt; in_commits(rt.alloc(), Torn::Old, 0), None);
+    in_commits(&rt, Torn::Old, 0);
 }
 
 #[test]
 fn in_commits_bytes_are_as_written(rt: HostRuntime) {
-    assert_eq!(rt; in_commits(rt.alloc(), Torn::New, 1), None);
+    in_commits(&rt, Torn::New, 1);
 }
 
 #[test]
 fn in_commits_bytes_are_01(rt: HostRuntime) {
-    assert_eq!(rt; in_commits(rt.alloc(), Torn::Byte(0x01), 2), None);
+    in_commits(&rt, Torn::Byte(0x01), 2);
 }
 
 #[test]
 fn in_commits_bytes_are_7f(rt: HostRuntime) {
-    assert_eq!(rt; in_commits(rt.alloc(), Torn::Byte(0x7f), 3), None);
+    in_commits(&rt, Torn::Byte(0x7f), 3);
 }
 
 #[test]
 fn in_a_switch_bytes_are_as_they_were(rt: HostRuntime) {
-    assert_eq!(rt; in_a_switch(rt.alloc(), Torn::Old, 0), None);
+    in_a_switch(&rt, Torn::Old, 0);
 }
 
 #[test]
 fn in_a_switch_bytes_are_as_written(rt: HostRuntime) {
-    assert_eq!(rt; in_a_switch(rt.alloc(), Torn::New, 1), None);
+    in_a_switch(&rt, Torn::New, 1);
 }
 
 #[test]
 fn in_a_switch_bytes_are_01(rt: HostRuntime) {
-    assert_eq!(rt; in_a_switch(rt.alloc(), Torn::Byte(0x01), 2), None);
+    in_a_switch(&rt, Torn::Byte(0x01), 2);
 }
 
 #[test]
 fn in_a_switch_bytes_are_7f(rt: HostRuntime) {
-    assert_eq!(rt; in_a_switch(rt.alloc(), Torn::Byte(0x7f), 3), None);
+    in_a_switch(&rt, Torn::Byte(0x7f), 3);
 }
 
 #[test]
 fn in_a_switch_bytes_are_ff(rt: HostRuntime) {
-    assert_eq!(rt; in_a_switch(rt.alloc(), Torn::Byte(0xff), 4), None);
+    in_a_switch(&rt, Torn::Byte(0xff), 4);
 }
 
 #[test]
 fn behind_a_switch_bytes_are_as_they_were(rt: HostRuntime) {
-    assert_eq!(rt; behind_a_switch(rt.alloc(), Torn::Old, 0), None);
+    behind_a_switch(&rt, Torn::Old, 0);
 }
 
 #[test]
 fn behind_a_switch_bytes_are_as_written(rt: HostRuntime) {
-    assert_eq!(rt; behind_a_switch(rt.alloc(), Torn::New, 1), None);
+    behind_a_switch(&rt, Torn::New, 1);
 }
 
 #[test]
 fn behind_a_switch_bytes_are_01(rt: HostRuntime) {
-    assert_eq!(rt; behind_a_switch(rt.alloc(), Torn::Byte(0x01), 2), None);
+    behind_a_switch(&rt, Torn::Byte(0x01), 2);
 }
 
 #[test]
 fn behind_a_switch_bytes_are_7f(rt: HostRuntime) {
-    assert_eq!(rt; behind_a_switch(rt.alloc(), Torn::Byte(0x7f), 3), None);
+    behind_a_switch(&rt, Torn::Byte(0x7f), 3);
 }
 
 #[test]
 fn behind_a_switch_bytes_are_ff(rt: HostRuntime) {
-    assert_eq!(rt; behind_a_switch(rt.alloc(), Torn::Byte(0xff), 4), None);
+    behind_a_switch(&rt, Torn::Byte(0xff), 4);
 }

@@ -90,6 +90,8 @@ mod cases;
 #[cfg(test)]
 mod devices;
 #[cfg(test)]
+mod expect;
+#[cfg(test)]
 mod expected;
 #[cfg(test)]
 mod fuse_each_call;

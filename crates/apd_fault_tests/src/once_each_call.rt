@@ -1,9 +1,10 @@
 //! Each device call of a session fails once, in turn: it is not passed on, and the device is good again behind it. The
 //! flusher stays failed all the same. Then the very device is recovered; or it stops before that.
-use crate::cases::{Ended, Row, Way, otherwise};
+use crate::cases::{Row, Way, otherwise};
+use crate::expect::expect;
 use crate::sessions::Session;
 use apd_disk::Torn;
-use std::alloc::Global;
+use std::process::Abort;
 
 /// The three commits. Where the fourth call of one fails its gate is written, and not synced.
 const IN_COMMITS: [Row; 13] = [
@@ -41,127 +42,113 @@ const IN_A_SWITCH: [Row; 11] = [
     (10, 1, 2, &[3, 3, 3, 3, 3, 3]),
 ];
 
-/// The row that does not hold in this column.
-fn in_commits(alloc: Global, way: Way, column: usize) -> Option<(u64, Option<Ended>)> {
-    otherwise(alloc, Session::ThreeCommits, way, &IN_COMMITS, column)
+/// Ends the test where a row does not hold in this column.
+fn in_commits(rt: &(impl Abort + AllocGlobal), way: Way, column: usize) {
+    let found = otherwise(rt.alloc(), Session::ThreeCommits, way, &IN_COMMITS, column);
+    expect(rt, found, None);
 }
 
-/// That of the first six rows, and that of the others.
-fn in_a_switch(alloc: Global, way: Way, column: usize) -> Option<(u64, Option<Ended>)> {
+/// The same of these rows of the other session.
+fn in_rows(rt: &(impl Abort + AllocGlobal), rows: &[Row], way: Way, column: usize) {
+    expect(
+        rt,
+        otherwise(rt.alloc(), Session::OneSwitch, way, rows, column),
+        None,
+    );
+}
+
+/// The same of the first six rows, and of the others.
+fn in_a_switch(rt: &(impl Abort + AllocGlobal), way: Way, column: usize) {
     let (rows, _) = IN_A_SWITCH.split_at(6);
-    otherwise(alloc, Session::OneSwitch, way, rows, column)
+    in_rows(rt, rows, way, column);
 }
 
-fn behind_a_switch(alloc: Global, way: Way, column: usize) -> Option<(u64, Option<Ended>)> {
+fn behind_a_switch(rt: &(impl Abort + AllocGlobal), way: Way, column: usize) {
     let (_, rows) = IN_A_SWITCH.split_at(6);
-    otherwise(alloc, Session::OneSwitch, way, rows, column)
+    in_rows(rt, rows, way, column);
 }
 
 #[test]
 fn in_commits_it_is_handed_back(rt: HostRuntime) {
-    assert_eq!(rt; in_commits(rt.alloc(), Way::HandedBack, 0), None);
+    in_commits(&rt, Way::HandedBack, 0);
 }
 
 #[test]
 fn in_commits_bytes_are_as_they_were(rt: HostRuntime) {
-    assert_eq!(rt; in_commits(rt.alloc(), Way::Once(Torn::Old), 1), None);
+    in_commits(&rt, Way::Once(Torn::Old), 1);
 }
 
 #[test]
 fn in_commits_bytes_are_as_written(rt: HostRuntime) {
-    assert_eq!(rt; in_commits(rt.alloc(), Way::Once(Torn::New), 2), None);
+    in_commits(&rt, Way::Once(Torn::New), 2);
 }
 
 #[test]
 fn in_commits_bytes_are_01(rt: HostRuntime) {
-    assert_eq!(rt;
-        in_commits(rt.alloc(), Way::Once(Torn::Byte(0x01)), 3),
-        None
-    );
+    in_commits(&rt, Way::Once(Torn::Byte(0x01)), 3);
 }
 
 #[test]
 fn in_commits_bytes_are_7f(rt: HostRuntime) {
-    assert_eq!(rt;
-        in_commits(rt.alloc(), Way::Once(Torn::Byte(0x7f)), 4),
-        None
-    );
+    in_commits(&rt, Way::Once(Torn::Byte(0x7f)), 4);
 }
 
 #[test]
 fn in_a_switch_it_is_handed_back(rt: HostRuntime) {
-    assert_eq!(rt; in_a_switch(rt.alloc(), Way::HandedBack, 0), None);
+    in_a_switch(&rt, Way::HandedBack, 0);
 }
 
 #[test]
 fn in_a_switch_bytes_are_as_they_were(rt: HostRuntime) {
-    assert_eq!(rt; in_a_switch(rt.alloc(), Way::Once(Torn::Old), 1), None);
+    in_a_switch(&rt, Way::Once(Torn::Old), 1);
 }
 
 #[test]
 fn in_a_switch_bytes_are_as_written(rt: HostRuntime) {
-    assert_eq!(rt; in_a_switch(rt.alloc(), Way::Once(Torn::New), 2), None);
+    in_a_switch(&rt, Way::Once(Torn::New), 2);
 }
 
 #[test]
 fn in_a_switch_bytes_are_01(rt: HostRuntime) {
-    assert_eq!(rt;
-        in_a_switch(rt.alloc(), Way::Once(Torn::Byte(0x01)), 3),
-        None
-    );
+    in_a_switch(&rt, Way::Once(Torn::Byte(0x01)), 3);
 }
 
 #[test]
 fn in_a_switch_bytes_are_7f(rt: HostRuntime) {
-    assert_eq!(rt;
-        in_a_switch(rt.alloc(), Way::Once(Torn::Byte(0x7f)), 4),
-        None
-    );
+    in_a_switch(&rt, Way::Once(Torn::Byte(0x7f)), 4);
 }
 
 #[test]
 fn in_a_switch_bytes_are_ff(rt: HostRuntime) {
-    assert_eq!(rt;
-        in_a_switch(rt.alloc(), Way::Once(Torn::Byte(0xff)), 5),
-        None
-    );
+    in_a_switch(&rt, Way::Once(Torn::Byte(0xff)), 5);
 }
 
 #[test]
 fn behind_a_switch_it_is_handed_back(rt: HostRuntime) {
-    assert_eq!(rt; behind_a_switch(rt.alloc(), Way::HandedBack, 0), None);
+    behind_a_switch(&rt, Way::HandedBack, 0);
 }
 
 #[test]
 fn behind_a_switch_bytes_are_as_they_were(rt: HostRuntime) {
-    assert_eq!(rt; behind_a_switch(rt.alloc(), Way::Once(Torn::Old), 1), None);
+    behind_a_switch(&rt, Way::Once(Torn::Old), 1);
 }
 
 #[test]
 fn behind_a_switch_bytes_are_as_written(rt: HostRuntime) {
-    assert_eq!(rt; behind_a_switch(rt.alloc(), Way::Once(Torn::New), 2), None);
+    behind_a_switch(&rt, Way::Once(Torn::New), 2);
 }
 
 #[test]
 fn behind_a_switch_bytes_are_01(rt: HostRuntime) {
-    assert_eq!(rt;
-        behind_a_switch(rt.alloc(), Way::Once(Torn::Byte(0x01)), 3),
-        None
-    );
+    behind_a_switch(&rt, Way::Once(Torn::Byte(0x01)), 3);
 }
 
 #[test]
 fn behind_a_switch_bytes_are_7f(rt: HostRuntime) {
-    assert_eq!(rt;
-        behind_a_switch(rt.alloc(), Way::Once(Torn::Byte(0x7f)), 4),
-        None
-    );
+    behind_a_switch(&rt, Way::Once(Torn::Byte(0x7f)), 4);
 }
 
 #[test]
 fn behind_a_switch_bytes_are_ff(rt: HostRuntime) {
-    assert_eq!(rt;
-        behind_a_switch(rt.alloc(), Way::Once(Torn::Byte(0xff)), 5),
-        None
-    );
+    behind_a_switch(&rt, Way::Once(Torn::Byte(0xff)), 5);
 }

@@ -1,7 +1,8 @@
 //! Recoveries of which a call fails, and how many calls there are.
 use crate::calls::{confs, flusher, restart_world};
 use crate::cases::{RECOVERY, image_of};
-use crate::devices::{device_of, full_image, place_of, recover_device};
+use crate::devices::{device_of, device_with, full_image, place_of, recover_device};
+use crate::expect::expect;
 use crate::expected::{Made, RECOVERS, behind};
 use crate::sessions::{Session, run, slots};
 use apd_disk::{FuseDisk, MemDisk, OnceDisk, Torn};
@@ -10,12 +11,11 @@ use apd_slot::Slot;
 use apd_store::StoreFault;
 use apd_world::{World, WorldFault};
 use std::alloc::Global;
-use std::test::Fail;
 
 /// The device behind a session in which nothing fails.
 fn device_behind(alloc: Global, session: Session) -> Option<MemDisk> {
-    let image = image_of(alloc, session)?;
-    let (_seen, _behind, device) = run(alloc, session, device_of(alloc, &image)?)?;
+    let device = device_with(alloc, image_of(alloc, session)?)?;
+    let (_seen, _behind, device) = run(alloc, session, device)?;
     Some(device)
 }
 
@@ -27,8 +27,12 @@ fn calls_of(alloc: Global, session: Session) -> Option<usize> {
 // Two are of the recovery.
 #[test]
 fn the_calls_of_a_session(rt: HostRuntime) {
-    assert_eq!(rt; calls_of(rt.alloc(), Session::ThreeCommits), Some(2 + 12));
-    assert_eq!(rt; calls_of(rt.alloc(), Session::OneSwitch), Some(2 + 10));
+    expect(
+        &rt,
+        calls_of(rt.alloc(), Session::ThreeCommits),
+        Some(2 + 12),
+    );
+    expect(&rt, calls_of(rt.alloc(), Session::OneSwitch), Some(2 + 10));
 }
 
 /// Whether a recovery of it is not refused where the device fails for good behind so many calls.
@@ -50,7 +54,8 @@ fn least(alloc: Global, session: Session) -> Option<u64> {
 #[test]
 fn a_recovery_makes_two_calls(rt: HostRuntime) {
     for session in [Session::ThreeCommits, Session::OneSwitch] {
-        assert_eq!(rt; least(rt.alloc(), session), Some(RECOVERY), "{session:?}");
+        let found = (session, least(rt.alloc(), session));
+        expect(&rt, found, (session, Some(RECOVERY)));
     }
 }
 
@@ -70,10 +75,18 @@ fn has_served(device: &MemDisk, before: usize, made: &[Made]) -> bool {
 type Recovery = (Option<StoreFault>, Option<u64>, MemDisk);
 
 fn recovery(alloc: Global, device: OnceDisk<MemDisk>) -> Option<Recovery> {
-    let (device, fault) = match recover_device(alloc, device) {
-        Ok((device, table)) => return Some((None, table, device.into_inner())),
-        Err(refused) => refused,
-    };
+    match recover_device(alloc, device) {
+        Ok((device, table)) => Some((None, table, device.into_inner())),
+        Err((device, fault)) => recovery_behind(alloc, device, fault),
+    }
+}
+
+/// One behind another that was refused for this.
+fn recovery_behind(
+    alloc: Global,
+    device: OnceDisk<MemDisk>,
+    fault: StoreFault,
+) -> Option<Recovery> {
     let (device, table) = recover_device(alloc, device).ok()?;
     Some((Some(fault), table, device.into_inner()))
 }
@@ -102,7 +115,7 @@ fn once_each_call_of_a_recovery(rt: HostRuntime) {
         ] {
             let found = recovery_of(rt.alloc(), session, calls, made);
             let wanted = Some((refusal, Some(3), true));
-            assert_eq!(rt; found, wanted, "{calls} of {session:?}");
+            expect(&rt, (calls, session, found), (calls, session, wanted));
         }
     }
 }
@@ -123,20 +136,32 @@ fn restart_again(
     device: OnceDisk<MemDisk>,
     slots: Vec<Slot<Sim>>,
 ) -> Option<(Option<u64>, MemDisk)> {
-    let (confs, slots) = confs(alloc).zip(Some(slots))?;
+    let (confs, (device, slots)) = confs(alloc).zip(Some((device, slots)))?;
     let world = restart_world(alloc, device, confs, slots).ok()?;
     Some(table_and_device(alloc, world))
 }
 
 fn restart(alloc: Global, device: OnceDisk<MemDisk>) -> Option<Restart> {
-    let (confs, slots) = confs(alloc).zip(slots(alloc))?;
-    let (device, slots, fault) = match restart_world(alloc, device, confs, slots) {
-        Ok(world) => {
-            let (table, device) = table_and_device(alloc, world);
-            return Some((None, 0, table, device));
-        }
-        Err(refused) => refused,
-    };
+    let ((confs, slots), device) = confs(alloc).zip(slots(alloc)).zip(Some(device))?;
+    match restart_world(alloc, device, confs, slots) {
+        Ok(world) => Some(restart_in_one(alloc, world)),
+        Err((device, slots, fault)) => restart_behind(alloc, device, slots, fault),
+    }
+}
+
+/// One that was not refused.
+fn restart_in_one(alloc: Global, world: World<OnceDisk<MemDisk>, Sim>) -> Restart {
+    let (table, device) = table_and_device(alloc, world);
+    (None, 0, table, device)
+}
+
+/// One behind another that was refused for this.
+fn restart_behind(
+    alloc: Global,
+    device: OnceDisk<MemDisk>,
+    slots: Vec<Slot<Sim>>,
+    fault: WorldFault,
+) -> Option<Restart> {
     let count = slots.len();
     let (table, device) = restart_again(alloc, device, slots)?;
     Some((Some(fault), count, table, device))
@@ -163,7 +188,8 @@ fn once_each_call_of_a_restart(rt: HostRuntime) {
         (2, None, 0, ONE),
     ] {
         let found = restart_of(rt.alloc(), calls, made);
-        assert_eq!(rt; found, Some((refusal, slots, Some(3), true)), "{calls}");
+        let wanted = Some((refusal, slots, Some(3), true));
+        expect(&rt, (calls, found), (calls, wanted));
     }
 }
 
@@ -180,13 +206,20 @@ type OldRestart = (WorldFault, usize, bool);
 /// The same where the call behind so many others fails for good, and a stop leaves such bytes.
 fn old_restart(alloc: Global, calls: u64, torn: Torn) -> Option<OldRestart> {
     let image = old_image(alloc)?;
-    let fuse = FuseDisk::new(device_of(alloc, &image)?, calls);
-    let (confs, slots) = confs(alloc).zip(slots(alloc))?;
+    let found = restart_on(alloc, image.as_slice(), calls, torn);
+    drop(image);
+    found
+}
+
+/// The same of the store of these bytes.
+fn restart_on(alloc: Global, image: &[u8], calls: u64, torn: Torn) -> Option<OldRestart> {
+    let (device, (confs, slots)) = device_of(alloc, image).zip(confs(alloc).zip(slots(alloc)))?;
+    let fuse = FuseDisk::new(device, calls);
     let (fuse, slots, fault) = restart_world(alloc, fuse, confs, slots).err()?;
     let count = slots.len();
     drop(slots);
     let left = fuse.into_inner().crash(torn);
-    Some((fault, count, left.bytes() == image.as_slice()))
+    Some((fault, count, left.bytes() == image))
 }
 
 #[test]
@@ -199,7 +232,7 @@ fn fuse_each_call_of_a_restart_of_a_store_of_version_1(rt: HostRuntime) {
         for torn in [Torn::Old, Torn::New, Torn::Byte(1), Torn::Byte(0x7f)] {
             let found = old_restart(rt.alloc(), calls, torn);
             let refused = (WorldFault::Store(fault), 1, true);
-            assert_eq!(rt; found, Some(refused), "{torn:?} at {calls}");
+            expect(&rt, (torn, calls, found), (torn, calls, Some(refused)));
         }
     }
 }

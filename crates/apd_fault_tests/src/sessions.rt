@@ -212,6 +212,12 @@ pub(crate) const REFUSED: Behind = (
 fn answers_behind<D: Disk>(world: &mut World<D, Sim>) -> Option<[Said; 4]> {
     let steps = [AUTHENTICATES, Step::Take, Step::Call, Step::Publish];
     let tolds = tell(world, &steps)?;
+    let said = four_in_short(tolds.as_slice());
+    drop(tolds);
+    said
+}
+
+fn four_in_short(tolds: &[Told]) -> Option<[Said; 4]> {
     Some([
         in_short(tolds.first()?),
         in_short(tolds.get(1)?),
@@ -226,8 +232,8 @@ fn end_world<D: Disk + Drop>(alloc: Global, world: World<D, Sim>) -> Option<(Beh
     let told = answers_behind(&mut world);
     let mut flusher = flusher(world);
     let refusal = load_refusal(alloc, &mut flusher);
-    let device = flusher.into_device();
-    Some(((told?, refusal), device))
+    let (told, device) = told.zip(Some(flusher.into_device()))?;
+    Some(((told, refusal), device))
 }
 
 /// What was seen of a session, what was told behind it where the device failed in it, and the device.

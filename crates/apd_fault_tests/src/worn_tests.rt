@@ -1,16 +1,16 @@
 //! A full store of the greatest epoch: it refuses each batch, which waits, and nothing else has failed.
 use crate::calls::{flush_refusal, flusher, tell};
-use crate::devices::{device_of, full_image, table_of};
+use crate::devices::{device_with, full_image, table_of};
+use crate::expect::expect;
 use crate::sessions::{ASSOCIATES, Said, in_short, world};
 use apd_disk::{Disk, MemDisk};
 use apd_radio::Sim;
 use apd_store::StoreFault;
 use apd_world::{Reception, Step, World, WorldFault};
 use std::alloc::Global;
-use std::test::Fail;
 
 fn worn_world(alloc: Global) -> Option<World<MemDisk, Sim>> {
-    world(alloc, device_of(alloc, &full_image(alloc, u64::MAX)?)?)
+    world(alloc, device_with(alloc, full_image(alloc, u64::MAX)?)?)
 }
 
 /// What is told of a step.
@@ -45,11 +45,11 @@ fn otherwise<D: Disk>(world: &mut World<D, Sim>) -> Option<(usize, Option<Said>)
 }
 
 #[test]
-fn a_batch_that_is_refused_waits(rt: HostRuntime) -> Result<(), Fail> {
-    let mut world = worn_world(rt.alloc()).ok_or("memory")?;
-    assert_eq!(rt; otherwise(&mut world), None);
+fn a_batch_that_is_refused_waits(rt: HostRuntime) {
+    let mut world = worn_world(rt.alloc()).expect(&rt, "memory");
+    let told = otherwise(&mut world);
     drop(world);
-    Ok(())
+    expect(&rt, told, None);
 }
 
 /// Why two flushes are refused behind a request.
@@ -59,12 +59,12 @@ fn refusals<D: Disk>(world: &mut World<D, Sim>) -> Option<[Option<WorldFault>; 2
 }
 
 #[test]
-fn a_flush_tells_that_the_store_is_worn(rt: HostRuntime) -> Result<(), Fail> {
-    let mut world = worn_world(rt.alloc()).ok_or("memory")?;
-    let worn = Some(WorldFault::Store(StoreFault::Worn));
-    assert_eq!(rt; refusals(&mut world), Some([worn, worn]));
+fn a_flush_tells_that_the_store_is_worn(rt: HostRuntime) {
+    let mut world = worn_world(rt.alloc()).expect(&rt, "memory");
+    let refusals = refusals(&mut world);
     drop(world);
-    Ok(())
+    let worn = Some(WorldFault::Store(StoreFault::Worn));
+    expect(&rt, refusals, Some([worn, worn]));
 }
 
 /// How many calls the device of such a world has served, and the table that it shows.
@@ -79,5 +79,5 @@ fn outcome(alloc: Global) -> Option<(usize, Option<u64>)> {
 // The recovery makes two calls.
 #[test]
 fn no_call_is_made_for_it(rt: HostRuntime) {
-    assert_eq!(rt; outcome(rt.alloc()), Some((2, Some(2))));
+    expect(&rt, outcome(rt.alloc()), Some((2, Some(2))));
 }
