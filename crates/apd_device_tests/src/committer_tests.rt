@@ -99,12 +99,12 @@ fn receipt_taken_back<D: Disk>(committer: &mut Committer<D>) -> Option<u64> {
     Some(number)
 }
 
-fn number_of(batch: &Option<Batch>) -> Option<u64> {
-    Some(batch.as_ref()?.first)
+fn number_of(batch: Option<Batch>) -> Option<u64> {
+    Some(batch?.first)
 }
 
-fn number_in(receipt: &Option<Receipt>) -> Option<u64> {
-    Some(receipt.as_ref()?.batch().first)
+fn number_in(receipt: Option<Receipt>) -> Option<u64> {
+    Some(receipt?.batch().first)
 }
 
 /// The numbers of the batch and of the receipt that wait at the end.
@@ -112,8 +112,10 @@ fn rest_of<D: Disk>(committer: Committer<D>) -> (Option<u64>, Option<u64>)
 where
     D: Drop,
 {
-    let (_flusher, batch, receipt) = committer.into_parts();
-    (number_of(&batch), number_in(&receipt))
+    let (flusher, batch, receipt) = committer.into_parts();
+    drop(flusher);
+    let number = number_of(batch);
+    (number, number_in(receipt))
 }
 
 /// Expects that a station's batch of this number is refused for this fault and waits, that the next load is answered
@@ -198,11 +200,20 @@ fn expect_fault<D: Disk>(rt: &impl Abort, alloc: Global, committer: &mut Committ
     expect(rt, begun, (Some(Ok(())), Err(StoreFault::Device)));
 }
 
+/// The same, behind which a station's batch waits.
+fn expect_fault_and_waits<D: Disk>(rt: &impl Abort, alloc: Global, committer: Committer<D>)
+where
+    D: Drop,
+{
+    let mut committer = committer;
+    expect_fault(rt, alloc, &mut committer);
+    expect_waits(rt, alloc, committer, 2, StoreFault::Failed);
+}
+
 #[test]
 fn a_batch_waits_where_the_device_has_failed(rt: HostRuntime) {
-    let mut committer = committer_on_fuse(&rt, rt.alloc());
-    expect_fault(&rt, rt.alloc(), &mut committer);
-    expect_waits(&rt, rt.alloc(), committer, 2, StoreFault::Failed);
+    let committer = committer_on_fuse(&rt, rt.alloc());
+    expect_fault_and_waits(&rt, rt.alloc(), committer);
 }
 
 /// Loads a policy, and makes its four turns.
@@ -235,20 +246,25 @@ where
     flusher.into_device()
 }
 
-/// The same, and what the device shows.
-fn both_committed(rt: &impl Abort, alloc: Global) -> (Both, Seen) {
-    let mut committer = committer_in_memory(rt, alloc);
+/// The same, and the device.
+fn both_committed<D: Disk>(rt: &impl Abort, alloc: Global, committer: Committer<D>) -> (Both, D)
+where
+    D: Drop,
+{
+    let mut committer = committer;
     let both = commit_both(rt, alloc, &mut committer);
-    (both, look(alloc, device(committer)))
+    (both, device(committer))
 }
+
+const THERE: Seen = Ok((Some((0, 2007)), Some(Station::Authenticated)));
 
 #[test]
 fn a_batch_waits_until_the_one_in_flight_is_published(rt: HostRuntime) {
-    let (both, seen) = both_committed(&rt, rt.alloc());
+    let alloc = rt.alloc();
+    let (both, disk) = both_committed(&rt, alloc, committer_in_memory(&rt, alloc));
+    expect(&rt, look(alloc, disk), THERE);
     let busy = Some(Err(StoreFault::NotIdle));
     expect(&rt, both, ([busy, busy, Some(Ok(()))], [Some(1), Some(2)]));
-    let there = Ok((Some((0, 2007)), Some(Station::Authenticated)));
-    expect(&rt, seen, there);
 }
 
 /// The number of each receipt that is given: of a policy's, which is taken back twice; and once the station is committed
@@ -268,32 +284,59 @@ fn receipts<D: Disk>(
     [once, twice, first, second, receipt(committer)]
 }
 
+fn expect_receipts<D: Disk>(rt: &impl Abort, alloc: Global, committer: Committer<D>)
+where
+    D: Drop,
+{
+    let mut committer = committer;
+    let found = receipts(rt, alloc, &mut committer);
+    expect(rt, found, [Some(1), Some(1), Some(1), Some(2), None]);
+}
+
 #[test]
 fn a_receipt_that_is_taken_back_is_given_again(rt: HostRuntime) {
-    let mut committer = committer_in_memory(&rt, rt.alloc());
-    let found = receipts(&rt, rt.alloc(), &mut committer);
-    expect(&rt, found, [Some(1), Some(1), Some(1), Some(2), None]);
+    let committer = committer_in_memory(&rt, rt.alloc());
+    expect_receipts(&rt, rt.alloc(), committer);
+}
+
+/// Expects that the receipt of a policy waits at the end where it was taken back.
+fn expect_rest<D: Disk>(rt: &impl Abort, alloc: Global, committer: Committer<D>)
+where
+    D: Drop,
+{
+    let mut committer = committer;
+    commit_policy(rt, alloc, &mut committer);
+    let _number = receipt_taken_back(&mut committer);
+    expect(rt, rest_of(committer), (None, Some(1)));
 }
 
 #[test]
 fn a_receipt_that_waits_is_left_at_the_end(rt: HostRuntime) {
-    let mut committer = committer_in_memory(&rt, rt.alloc());
-    commit_policy(&rt, rt.alloc(), &mut committer);
-    let _number = receipt_taken_back(&mut committer);
-    expect(&rt, rest_of(committer), (None, Some(1)));
+    let committer = committer_in_memory(&rt, rt.alloc());
+    expect_rest(&rt, rt.alloc(), committer);
 }
 
-/// There is nothing to load, and no receipt.
-fn expect_nothing<D: Disk>(rt: &impl Abort, committer: &mut Committer<D>) {
+/// What is answered to a load, to a turn and to who asks for a receipt.
+fn answers<D: Disk>(
+    committer: &mut Committer<D>,
+) -> (Loaded, Result<(), StoreFault>, Option<u64>, Phase) {
     let loaded = load(committer);
     let made = turn(committer);
     let number = receipt(committer);
-    let found = (loaded, made, number, committer.phase());
+    (loaded, made, number, committer.phase())
+}
+
+/// There is nothing to load, and no receipt.
+fn expect_nothing<D: Disk>(rt: &impl Abort, committer: Committer<D>)
+where
+    D: Drop,
+{
+    let mut committer = committer;
+    let found = answers(&mut committer);
     expect(rt, found, (None, Ok(()), None, Phase::Idle));
 }
 
 #[test]
 fn there_is_nothing_to_load_and_no_receipt_at_first(rt: HostRuntime) {
-    let mut committer = committer_in_memory(&rt, rt.alloc());
-    expect_nothing(&rt, &mut committer);
+    expect_nothing(&rt, committer_in_memory(&rt, rt.alloc()));
 }

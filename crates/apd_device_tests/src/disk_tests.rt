@@ -46,7 +46,7 @@ fn expect_crash(rt: &impl Abort, alloc: Global, torn: Torn, want: &[u8]) {
     expect(rt, found, (torn, want, 0));
 }
 
-const CRASHES: [(Torn, &[u8]); 3] = [
+const CRASHES: &[(Torn, &[u8])] = &[
     (Torn::Old, &[10, 21, 22, 13, 14, 15, 16, 17]),
     (Torn::New, &[10, 21, 32, 43, 44, 15, 16, 17]),
     (Torn::Byte(0x7f), &[10, 21, 0x7f, 0x7f, 0x7f, 15, 16, 17]),
@@ -55,7 +55,7 @@ const CRASHES: [(Torn, &[u8]); 3] = [
 #[test]
 fn a_crash_of_each_kind(rt: HostRuntime) {
     for (torn, want) in CRASHES {
-        expect_crash(&rt, rt.alloc(), torn, want);
+        expect_crash(&rt, rt.alloc(), *torn, want);
     }
 }
 
@@ -262,6 +262,14 @@ fn expect_file(rt: &(impl Abort + Files<File = File> + AllocGlobal), path: &str,
     expect(rt, bytes.as_slice(), want);
 }
 
+// Reads bytes, which have to lie inside the disk.
+fn read_inside<D: Disk>(rt: &impl Abort, disk: &mut D, at: usize, bytes: &mut [u8]) {
+    let length = disk.len();
+    assert!(rt; at <= length);
+    assert!(rt; bytes.len() <= length - at);
+    disk.read_at(at, bytes).expect(rt, "a read");
+}
+
 // Expects these bytes at a place of a disk that has so many in all.
 fn expect_bytes<D: Disk>(
     rt: &(impl Abort + AllocGlobal),
@@ -269,11 +277,9 @@ fn expect_bytes<D: Disk>(
     (length, at): (usize, usize),
     want: &[u8],
 ) {
+    expect(rt, disk.len(), length);
     let mut bytes = vec![in rt.alloc(); 0u8; want.len()].expect(rt, "memory");
-    assert!(rt; disk.len() == length);
-    assert!(rt; at <= length);
-    assert!(rt; want.len() <= length - at);
-    disk.read_at(at, &mut bytes).expect(rt, "a read");
+    read_inside(rt, disk, at, &mut bytes);
     expect(rt, bytes.as_slice(), want);
 }
 
@@ -438,12 +444,14 @@ fn a_new_file_is_its_owners_alone_and_another_keeps_its_mode(rt: HostRuntime) {
 
 // Writes a byte, syncs it, and reads it among its neighbours, three times.
 fn read_behind_syncs<D: Disk>(rt: &(impl Abort + AllocGlobal), disk: &mut D) {
-    for (new, want) in [(b"a", b"2a45"), (b"b", b"2b45"), (b"c", b"2c45")] {
+    for (new, want) in NEIGHBOURS {
         write_bytes(rt, disk, 3, new);
         expect_bytes(rt, disk, (10, 2), want);
     }
     expect(rt, disk.failures(), 0);
 }
+
+const NEIGHBOURS: &[(&[u8], &[u8])] = &[(b"a", b"2a45"), (b"b", b"2b45"), (b"c", b"2c45")];
 
 // The first sync drops the file's pages, and the second doesn't. What a read gives stays.
 #[test]
@@ -505,7 +513,7 @@ fn a_file_that_cannot_be_synced_is_read_all_the_same(rt: HostRuntime) {
     expect(&rt, (answer, disk.failures()), (Ok(()), 0));
 }
 
-const IRREGULAR: [(&str, ErrorKind); 3] = [
+const IRREGULAR: &[(&str, ErrorKind)] = &[
     ("disk_regular/store", ErrorKind::NotFound),
     ("disk_regular", ErrorKind::InvalidInput),
     ("/dev/null", ErrorKind::InvalidInput),
@@ -516,7 +524,8 @@ fn only_a_regular_file_is_opened_to_read(rt: HostRuntime) {
     let folder = "disk_regular";
     make_folder(&rt, folder);
     for (path, fault) in IRREGULAR {
-        expect(&rt, (path, read_refusal(&rt, path)), (path, Some(fault)));
+        let found = read_refusal(&rt, path);
+        expect(&rt, (*path, found), (*path, Some(*fault)));
     }
     expect_count(&rt, folder, 0);
     remove_folder(&rt, folder);

@@ -35,14 +35,15 @@ fn a_removal_is_a_call(rt: HostRuntime) {
     goes_through(&rt, &mut radio, &rows);
 }
 
+const TWO_SENT: &[Row] = &[
+    (Asked::Transmit(b""), Ok(()), None, 0),
+    (Asked::Transmit(b""), DEVICE, None, 1),
+];
+
 /// Polls before, between and behind two transmissions, of which the second fails.
 fn receives_all_the_same<R: Radio>(rt: &impl Abort, radio: &mut R) {
     receives(rt, radio, Some(b"\x01"));
-    let rows = [
-        (Asked::Transmit(b""), Ok(()), None, 0),
-        (Asked::Transmit(b""), DEVICE, None, 1),
-    ];
-    goes_through(rt, radio, &rows);
+    goes_through(rt, radio, TWO_SENT);
     receives(rt, radio, Some(b"\x02"));
     receives(rt, radio, None);
     expect(rt, radio.failures(), 1);

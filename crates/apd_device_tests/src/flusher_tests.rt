@@ -274,12 +274,20 @@ where
     flusher.into_device()
 }
 
+// The same on a device that holds nothing yet.
+fn expect_stuck_on<D: Disk>(rt: &impl Abort, alloc: Global, disk: D, calls: u64)
+where
+    D: Drop,
+{
+    let mut flusher = with_policy(rt, alloc, disk);
+    expect_stuck(rt, alloc, &mut flusher, calls);
+}
+
 // Over a device that fails behind seven calls of the format, four of the policy's commit and as many turns.
 fn expect_stuck_over_fuse(rt: &impl Abort, alloc: Global, calls: u64) {
     let passes = calls.saturating_add(11);
     let fuse = FuseDisk::new(blank_disk(rt, alloc, LENGTH), passes);
-    let mut flusher = with_policy(rt, alloc, fuse);
-    expect_stuck(rt, alloc, &mut flusher, calls);
+    expect_stuck_on(rt, alloc, fuse, calls);
 }
 
 #[test]
@@ -290,18 +298,26 @@ fn the_bytes_of_two_commits(rt: HostRuntime) {
 
 const THERE: Seen = Ok((Some((0, 2007)), Some(Station::Authenticated)));
 
+// Stops behind so many turns of a station's commit, and whether each shows the station.
+const STOPS: &[(u64, Torn, bool)] = &[
+    (0, Torn::Byte(1), false),
+    (2, Torn::Byte(1), false),
+    (3, Torn::Byte(1), true),
+    (3, Torn::Byte(0x7f), false),
+    (4, Torn::Byte(0x7f), true),
+];
+
+fn expect_stop(rt: &impl Abort, alloc: Global, calls: u64, torn: Torn, found: Seen) {
+    let is = stop(rt, alloc, calls, torn);
+    expect(rt, (torn, calls, is), (torn, calls, found));
+}
+
 #[test]
 fn a_stop_at_each_turn(rt: HostRuntime) {
-    let none = Ok((Some((0, 2007)), None));
-    for (calls, torn, found) in [
-        (0, Torn::Byte(1), none),
-        (2, Torn::Byte(1), none),
-        (3, Torn::Byte(1), THERE),
-        (3, Torn::Byte(0x7f), none),
-        (4, Torn::Byte(0x7f), THERE),
-    ] {
-        let is = stop(&rt, rt.alloc(), calls, torn);
-        expect(&rt, (torn, calls, is), (torn, calls, found));
+    for (calls, torn, there) in STOPS {
+        let none = Ok((Some((0, 2007)), None));
+        let found = if *there { THERE } else { none };
+        expect_stop(&rt, rt.alloc(), *calls, *torn, found);
     }
 }
 
@@ -322,11 +338,19 @@ fn the_calls_of_a_long_batch(rt: HostRuntime) {
     expect(&rt, made.as_slice(), LONG);
 }
 
+// The same of a new flusher on a device.
+fn expect_phases_on<D: Disk>(rt: &impl Abort, alloc: Global, disk: D)
+where
+    D: Drop,
+{
+    let mut flusher = new_flusher(rt, alloc, disk);
+    expect_phases(rt, alloc, &mut flusher);
+}
+
 #[test]
 fn the_phases_of_a_batch(rt: HostRuntime) {
     let alloc = rt.alloc();
-    let mut flusher = new_flusher(&rt, alloc, blank_disk(&rt, alloc, LENGTH));
-    expect_phases(&rt, alloc, &mut flusher);
+    expect_phases_on(&rt, alloc, blank_disk(&rt, alloc, LENGTH));
 }
 
 #[test]

@@ -83,11 +83,12 @@ fn queue_twice<R: Radio>(rt: &impl Abort, alloc: Global, slot: &mut Slot<R>) {
     queue_two(rt, alloc, slot, text, Out::Remove(FIRST));
 }
 
+const OF_THREE: &[(Answer, usize)] = &[(Ok(()), 2), (Err(SlotFault::NotMine), 1), (Ok(()), 0)];
+
 /// Has all that was queued twice applied.
 fn apply_queue<R: Radio>(rt: &impl Abort, alloc: Global, slot: &mut Slot<R>) {
     queue_twice(rt, alloc, slot);
-    let wanted = [(Ok(()), 2), (Err(SlotFault::NotMine), 1), (Ok(()), 0)];
-    answers(rt, slot, &wanted);
+    answers(rt, slot, OF_THREE);
 }
 
 /// The same by a radio that records it.
@@ -111,16 +112,17 @@ fn failing_slot(alloc: Global, calls: u64) -> Slot<Failing<Sim>> {
     Slot::new(alloc, Failing::new(Sim::new(alloc), calls), WLAN0)
 }
 
+const BEHIND_FAULT: &[(Answer, usize)] = &[
+    (Ok(()), 2),
+    (Err(SlotFault::WentDown), 1),
+    (Err(SlotFault::Lost), 0),
+];
+
 /// Queues three outs at a slot whose radio fails behind the first one, and applies them.
 fn apply_behind_fault<R: Radio>(rt: &impl Abort, alloc: Global, slot: &mut Slot<R>) {
     queue_both(rt, alloc, slot);
     queue_one(rt, alloc, slot, frame(rt, alloc, &ASSOCIATED));
-    let wanted = [
-        (Ok(()), 2),
-        (Err(SlotFault::WentDown), 1),
-        (Err(SlotFault::Lost), 0),
-    ];
-    answers(rt, slot, &wanted);
+    answers(rt, slot, BEHIND_FAULT);
     expect(rt, (slot.is_up(), slot.wanted(SECOND)), (false, Some(2)));
 }
 
@@ -186,12 +188,14 @@ fn what_waits_stays_though_a_radio_is_polled_driven_and_replaced(rt: HostRuntime
     stays_and_is_applied(&rt, alloc, &mut slot, other);
 }
 
+const OF_BOTH: &[(Answer, usize)] = &[(Ok(()), 1), (Ok(()), 0)];
+
 /// Queues two outs at a slot, which doesn't resume. It is down: what it applies is wanted alone.
 fn stays_though_down<R: Radio>(rt: &impl Abort, alloc: Global, slot: &mut Slot<R>, table: &Table) {
     queue_both(rt, alloc, slot);
     expect(rt, resume(slot, alloc, table), Err(SlotFault::WentDown));
     expect(rt, (slot.waiting_count(), slot.wanted(FIRST)), (2, None));
-    answers(rt, slot, &[(Ok(()), 1), (Ok(()), 0)]);
+    answers(rt, slot, OF_BOTH);
     let wanted = [slot.wanted(FIRST), slot.wanted(SECOND)];
     expect(rt, (slot.is_up(), wanted), (false, [Some(1), Some(2)]));
 }

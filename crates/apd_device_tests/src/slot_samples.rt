@@ -64,14 +64,12 @@ fn put(rt: &impl Abort, table: &mut Table, bssid: Bssid, addr: Addr, station: St
     make(rt, table, &row);
 }
 
-/// Gives a table both policies.
-fn open(rt: &impl Abort, table: &mut Table) {
+/// Gives a table the policy of a BSSID.
+fn open(rt: &impl Abort, table: &mut Table, bssid: Bssid) {
     let mode = AclMode::AcceptUnlessDenied;
     let max = StationNumber::new(2007).expect(rt, "a limit");
     let policy = Policy { mode, max };
-    for bssid in [WLAN0, WLAN1] {
-        make(rt, table, &Change::Policy { bssid, policy });
-    }
+    make(rt, table, &Change::Policy { bssid, policy });
 }
 
 /// What a station is that is associated under this identifier.
@@ -83,12 +81,18 @@ fn associated(rt: &impl Abort, number: u16) -> Station {
     })
 }
 
-/// A table in which the first station is authenticated at wlan0, and both are associated at wlan1.
+/// Makes the first station authenticated at wlan0, and both associated at wlan1.
+fn fill(rt: &impl Abort, table: &mut Table) {
+    open(rt, table, WLAN0);
+    open(rt, table, WLAN1);
+    put(rt, table, WLAN0, FIRST, Station::Authenticated);
+    put(rt, table, WLAN1, SECOND, associated(rt, 2));
+    put(rt, table, WLAN1, FIRST, associated(rt, 1));
+}
+
+/// A table in which they are.
 pub(crate) fn table(rt: &impl Abort, alloc: Global) -> Table {
     let mut table = Table::new(alloc);
-    open(rt, &mut table);
-    put(rt, &mut table, WLAN0, FIRST, Station::Authenticated);
-    put(rt, &mut table, WLAN1, SECOND, associated(rt, 2));
-    put(rt, &mut table, WLAN1, FIRST, associated(rt, 1));
+    fill(rt, &mut table);
     table
 }

@@ -5,7 +5,7 @@ use crate::slot_samples::{
 };
 use apd_base::{Bssid, Sequence};
 use apd_mlme::Out;
-use apd_radio::{Radio, Recording, Sim};
+use apd_radio::{Radio, Recording, Replaying, Sim};
 use apd_slot::{Slot, SlotFault};
 use apd_table::Table;
 use std::alloc::Global;
@@ -78,23 +78,19 @@ fn is_replaced(
 }
 
 /// A radio that records nowhere, in a box.
-pub(crate) fn boxed_recording(rt: &impl Abort, alloc: Global) -> Box<dyn Radio + Send> {
+pub(crate) fn boxed_recording(rt: &impl Abort, alloc: Global) -> Box<Recording<Sim, Vec<u8>>> {
     let radio = Recording::new(alloc, Sim::new(alloc), Vec::<u8>::new(alloc));
     Box::new(alloc, radio).ok().expect(rt, "memory")
 }
 
 /// A radio that replays these lines, in a box.
-pub(crate) fn boxed_replaying(
-    rt: &impl Abort,
-    alloc: Global,
-    lines: &[u8],
-) -> Box<dyn Radio + Send> {
+pub(crate) fn boxed_replaying(rt: &impl Abort, alloc: Global, lines: &[u8]) -> Box<Replaying> {
     let radio = replaying(rt, alloc, lines);
     Box::new(alloc, radio).ok().expect(rt, "memory")
 }
 
 /// A radio in memory, in a box.
-pub(crate) fn boxed_sim(rt: &impl Abort, alloc: Global) -> Box<dyn Radio + Send> {
+pub(crate) fn boxed_sim(rt: &impl Abort, alloc: Global) -> Box<Sim> {
     let boxed = Box::new(alloc, Sim::new(alloc));
     boxed.ok().expect(rt, "memory")
 }
@@ -122,21 +118,26 @@ fn resumes<R: Radio>(
     expect(rt, slot.wanted(FIRST).is_some(), wants_first);
 }
 
+/// The same of both slots, one after the other.
+fn record_both(rt: &impl Abort, alloc: Global, written: &mut Vec<u8>, table: &Table) {
+    let mut slot = recording_slot(alloc, written, WLAN0);
+    resumes(rt, alloc, &mut slot, table, false);
+    drop(slot);
+    let mut slot = recording_slot(alloc, written, WLAN1);
+    resumes(rt, alloc, &mut slot, table, true);
+}
+
 #[test]
 fn a_slot_resumes_its_own_rows_in_order(rt: HostRuntime) {
     let alloc = rt.alloc();
-    let table = table(&rt, alloc);
     let mut written: Vec<u8> = Vec::new(alloc);
-    for bssid in [WLAN0, WLAN1] {
-        let mut slot = recording_slot(alloc, &mut written, bssid);
-        resumes(&rt, alloc, &mut slot, &table, bssid == WLAN1);
-    }
+    record_both(&rt, alloc, &mut written, &table(&rt, alloc));
     let lines =
         "down\ndown\ndown\ndown\ndown\ninstall 02:00:00:00:00:aa 1\ninstall 02:00:00:00:00:bb 2\ndown\n";
     expect(&rt, written.as_slice(), lines.as_bytes());
 }
 
-const TEXTS: [(SlotFault, &str); 4] = [
+const TEXTS: &[(SlotFault, &str)] = &[
     (SlotFault::WentDown, "driver fault"),
     (SlotFault::Lost, "frame lost"),
     (SlotFault::NotMine, "not for a radio"),
@@ -146,6 +147,6 @@ const TEXTS: [(SlotFault, &str); 4] = [
 #[test]
 fn faults_of_slots_have_texts(rt: HostRuntime) {
     for (fault, text) in TEXTS {
-        expect_text(&rt, rt.alloc(), &fault, text);
+        expect_text(&rt, rt.alloc(), fault, text);
     }
 }

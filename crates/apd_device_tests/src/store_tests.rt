@@ -318,6 +318,9 @@ const COMMIT: &[Made] = &[
     Made::Sync,
 ];
 
+// How many of them are made behind so many `next_call`.
+const MADE: &[(u64, usize)] = &[(0, 0), (1, 1), (2, 2), (3, 3), (4, 4), (5, 4)];
+
 // Expects the first so many of them where as many calls were made of it.
 fn expect_calls(rt: &impl Abort, alloc: Global, calls: u64, many: usize) {
     let disk = committing(rt, alloc, blank_disk(rt, alloc, LENGTH), calls);
@@ -330,8 +333,8 @@ fn expect_calls(rt: &impl Abort, alloc: Global, calls: u64, many: usize) {
 // Each `next_call` is one call of the device at most, and none is left after the fourth.
 #[test]
 fn the_calls_of_a_commit(rt: HostRuntime) {
-    for (calls, many) in [(0, 0), (1, 1), (2, 2), (3, 3), (4, 4), (5, 4)] {
-        expect_calls(&rt, rt.alloc(), calls, many);
+    for (calls, many) in MADE {
+        expect_calls(&rt, rt.alloc(), *calls, *many);
     }
 }
 
@@ -418,24 +421,33 @@ fn the_calls_of_a_recovery(rt: HostRuntime) {
     expect_made(&rt, alloc, &disk, 7, RECOVERY);
 }
 
-// Stops in the commit of a station, and what each shows of the station.
-const STOPS: [(u64, Torn, Option<Station>); 8] = [
-    (0, Torn::Byte(1), None),
-    (1, Torn::Byte(1), None),
-    (2, Torn::Old, None),
-    (2, Torn::New, None),
-    (3, Torn::Old, None),
-    (3, Torn::Byte(0x7f), None),
-    (3, Torn::Byte(1), Some(Station::Authenticated)),
-    (4, Torn::Old, Some(Station::Authenticated)),
+const BEFORE: Seen = Ok((Some((0, 2007)), None));
+
+const AFTER: Seen = Ok((Some((0, 2007)), Some(Station::Authenticated)));
+
+// What is seen of a store of a policy, with the station or without it.
+fn seen(there: bool) -> Seen {
+    if there { AFTER } else { BEFORE }
+}
+
+// Stops in the commit of a station, and whether each shows the station.
+const STOPS: &[(u64, Torn, bool)] = &[
+    (0, Torn::Byte(1), false),
+    (1, Torn::Byte(1), false),
+    (2, Torn::Old, false),
+    (2, Torn::New, false),
+    (3, Torn::Old, false),
+    (3, Torn::Byte(0x7f), false),
+    (3, Torn::Byte(1), true),
+    (4, Torn::Old, true),
 ];
 
 #[test]
 fn a_stop_at_each_call_of_a_commit(rt: HostRuntime) {
-    for (calls, torn, station) in STOPS {
-        let found = stop(&rt, rt.alloc(), calls, torn);
-        let wanted = Ok((Some((0, 2007)), station));
-        expect(&rt, (calls, torn, found), (calls, torn, wanted));
+    for (calls, torn, there) in STOPS {
+        let found = stop(&rt, rt.alloc(), *calls, *torn);
+        let wanted = (*calls, *torn, seen(*there));
+        expect(&rt, (*calls, *torn, found), wanted);
     }
 }
 
@@ -465,49 +477,39 @@ fn devices_that_are_no_stores(rt: HostRuntime) {
 #[test]
 fn two_open_halves(rt: HostRuntime) {
     let alloc = rt.alloc();
-    let older = Ok((Some((0, 2007)), Some(Station::Authenticated)));
-    for (epoch, wanted) in [
-        (0, older),
-        (1, Err(StoreFault::Damaged)),
-        (2, Ok((Some((1, 9)), None))),
-    ] {
-        expect(&rt, two_halves(&rt, alloc, epoch), wanted);
+    expect(&rt, two_halves(&rt, alloc, 0), AFTER);
+    let damaged = Err(StoreFault::Damaged);
+    expect(&rt, two_halves(&rt, alloc, 1), damaged);
+    let other = Ok((Some((1, 9)), None));
+    expect(&rt, two_halves(&rt, alloc, 2), other);
+}
+
+// What is seen of a store of a policy and a station where a byte in front of its halves is another one.
+fn expect_front(rt: &impl Abort, alloc: Global, disk: &MemDisk) {
+    for place in 0..64 {
+        let none = Err(StoreFault::NotAStore);
+        let wanted = if place < 8 { none } else { AFTER };
+        expect_with(rt, alloc, disk, (place, &[7]), wanted);
     }
 }
 
 #[test]
 fn each_byte_in_front_of_the_halves(rt: HostRuntime) {
-    let alloc = rt.alloc();
-    let none = Err(StoreFault::NotAStore);
-    let same = Ok((Some((0, 2007)), Some(Station::Authenticated)));
-    let disk = device(&rt, alloc, 2);
-    for place in 0..64 {
-        let wanted = if place < 8 { none } else { same };
-        expect_with(&rt, alloc, &disk, (place, &[7]), wanted);
-    }
+    expect_front(&rt, rt.alloc(), &device(&rt, rt.alloc(), 2));
 }
 
-// Bytes at a place, and what is seen of a store with an association where they stand there.
-const OTHERS: [(usize, &[u8], Seen); 12] = [
-    (7, b"1", Err(StoreFault::OldVersion)),
-    (7, b"3", Err(StoreFault::NotAStore)),
-    (64, &[0], Err(StoreFault::Damaged)),
-    (77, &[0], Ok((None, None))),
+// Bytes at a place by which a store with an association is damaged.
+const DAMAGES: &[(usize, &[u8])] = &[
+    (64, &[0]),
     // The policy's BSSID becomes another one: the station has none.
-    (87, &[9], Err(StoreFault::Damaged)),
-    (92, &[2], Ok((Some((0, 2007)), None))),
-    (110, &[3], Err(StoreFault::Damaged)),
-    (
-        117,
-        &[0],
-        Ok((Some((0, 2007)), Some(Station::Authenticated))),
-    ),
+    (87, &[9]),
+    (110, &[3]),
     // No record begins with 8, the cursor's BSSID becomes another one, and 2049 is no identifier.
-    (142, &[8], Err(StoreFault::Damaged)),
-    (148, &[9], Err(StoreFault::Damaged)),
-    (150, &[8], Err(StoreFault::Damaged)),
+    (142, &[8]),
+    (148, &[9]),
+    (150, &[8]),
     // A group that is too long.
-    (151, &[1, 1, 0, 1, 0], Err(StoreFault::Damaged)),
+    (151, &[1, 1, 0, 1, 0]),
 ];
 
 // A byte at a place where it makes no difference: a group of no records, and what is not looked at, behind the closed
@@ -525,10 +527,22 @@ fn expect_with(
     expect(rt, (place, bytes, found), (place, bytes, wanted));
 }
 
-fn expect_others(rt: &impl Abort, alloc: Global, disk: &MemDisk) {
-    for (place, bytes, found) in OTHERS {
-        expect_with(rt, alloc, disk, (place, bytes), found);
+fn expect_damages(rt: &impl Abort, alloc: Global, disk: &MemDisk) {
+    for part in DAMAGES {
+        let damaged = Err(StoreFault::Damaged);
+        expect_with(rt, alloc, disk, *part, damaged);
     }
+}
+
+fn expect_others(rt: &impl Abort, alloc: Global, disk: &MemDisk) {
+    let old = Err(StoreFault::OldVersion);
+    expect_with(rt, alloc, disk, (7, b"1"), old);
+    let none = Err(StoreFault::NotAStore);
+    expect_with(rt, alloc, disk, (7, b"3"), none);
+    let empty = Ok((None, None));
+    expect_with(rt, alloc, disk, (77, &[0]), empty);
+    expect_with(rt, alloc, disk, (92, &[2]), BEFORE);
+    expect_with(rt, alloc, disk, (117, &[0]), AFTER);
 }
 
 fn expect_no_others(rt: &impl Abort, alloc: Global, disk: &MemDisk, same: Seen) {
@@ -542,6 +556,7 @@ fn other_bytes_in_a_store(rt: HostRuntime) {
     let alloc = rt.alloc();
     let same = Ok((Some((0, 2007)), Some(association(&rt))));
     let disk = device(&rt, alloc, 3);
+    expect_damages(&rt, alloc, &disk);
     expect_others(&rt, alloc, &disk);
     expect_no_others(&rt, alloc, &disk, same);
     expect(&rt, look(alloc, disk), same);
@@ -584,62 +599,62 @@ fn a_cursor_that_is_refused(rt: HostRuntime) {
     expect_damage(&rt, alloc, &[POLICY, &[7, 2, 0, 0, 0, 0, 1, 0xd8, 7]]);
 }
 
-const BEFORE: Seen = Ok((Some((0, 2007)), None));
-
-const AFTER: Seen = Ok((Some((0, 2007)), Some(Station::Authenticated)));
-
-// Calls of which the next one fails, what is told, and what is seen.
-const FAULTS: [(u64, StoreFault, Seen); 6] = [
-    (0, StoreFault::Device, BEFORE),
-    (1, StoreFault::Device, BEFORE),
-    (2, StoreFault::Failed, BEFORE),
-    (3, StoreFault::Failed, BEFORE),
-    (4, StoreFault::Failed, AFTER),
-    (5, StoreFault::Failed, AFTER),
+// Calls of which the next one fails, what is told, and whether the station is seen.
+const FAULTS: &[(u64, StoreFault, bool)] = &[
+    (0, StoreFault::Device, false),
+    (1, StoreFault::Device, false),
+    (2, StoreFault::Failed, false),
+    (3, StoreFault::Failed, false),
+    (4, StoreFault::Failed, true),
+    (5, StoreFault::Failed, true),
 ];
 
 #[test]
 fn each_call_that_fails(rt: HostRuntime) {
-    for (passes, fault, found) in FAULTS {
-        let is = fault_after(&rt, rt.alloc(), passes);
-        expect(&rt, (passes, is), (passes, (fault, found)));
+    for (passes, fault, there) in FAULTS {
+        let is = fault_after(&rt, rt.alloc(), *passes);
+        let wanted = (*fault, seen(*there));
+        expect(&rt, (*passes, is), (*passes, wanted));
     }
 }
 
-// Calls of a format of which the next one fails, and what is seen.
-const FORMAT_FAULTS: [(u64, Option<Seen>); 7] = [
-    (0, Some(BEFORE)),
-    (1, Some(BEFORE)),
-    (2, Some(Err(StoreFault::NotAStore))),
-    (6, Some(Err(StoreFault::NotAStore))),
-    (7, Some(Ok((None, None)))),
-    (8, Some(Ok((None, None)))),
-    (9, None),
-];
+fn expect_stop(rt: &impl Abort, alloc: Global, passes: u64, wanted: Option<Seen>) {
+    let found = stop_format(rt, alloc, passes);
+    expect(rt, (passes, found), (passes, wanted));
+}
 
 #[test]
 fn each_call_of_a_format_that_fails(rt: HostRuntime) {
-    for (passes, found) in FORMAT_FAULTS {
-        let is = stop_format(&rt, rt.alloc(), passes);
-        expect(&rt, (passes, is), (passes, found));
-    }
+    let alloc = rt.alloc();
+    expect_stop(&rt, alloc, 0, Some(BEFORE));
+    expect_stop(&rt, alloc, 1, Some(BEFORE));
+    let none = Some(Err(StoreFault::NotAStore));
+    expect_stop(&rt, alloc, 2, none);
+    expect_stop(&rt, alloc, 6, none);
+    let empty = Some(Ok((None, None)));
+    expect_stop(&rt, alloc, 7, empty);
+    expect_stop(&rt, alloc, 8, empty);
+    expect_stop(&rt, alloc, 9, None);
 }
 
 // A second batch is refused while one is under way.
-fn expect_busy<D: Disk>(rt: &impl Abort, alloc: Global, store: &mut Store<D>) {
-    begin_policy(rt, alloc, store);
-    let fault = refusal(rt, alloc, store, policy(rt));
+fn expect_busy<D: Disk>(rt: &impl Abort, alloc: Global, disk: D)
+where
+    D: Drop,
+{
+    let mut store = format_store(rt, alloc, disk);
+    begin_policy(rt, alloc, &mut store);
+    let fault = refusal(rt, alloc, &mut store, policy(rt));
     expect(rt, fault, StoreFault::NotIdle);
 }
 
 #[test]
 fn a_store_that_is_busy(rt: HostRuntime) {
     let alloc = rt.alloc();
-    let mut store = format_store(&rt, alloc, blank_disk(&rt, alloc, LENGTH));
-    expect_busy(&rt, alloc, &mut store);
+    expect_busy(&rt, alloc, blank_disk(&rt, alloc, LENGTH));
 }
 
-const TEXTS: [(StoreFault, &str); 10] = [
+const TEXTS: &[(StoreFault, &str)] = &[
     (StoreFault::NotAStore, "not a store"),
     (StoreFault::Damaged, "damaged store"),
     (StoreFault::Device, "device fault"),
@@ -652,7 +667,7 @@ const TEXTS: [(StoreFault, &str); 10] = [
     (StoreFault::NoMemory, "out of memory"),
 ];
 
-const NUMBERS: [(StoreFault, u8); 6] = [
+const NUMBERS: &[(StoreFault, u8)] = &[
     (StoreFault::NotAStore, 1),
     (StoreFault::Failed, 4),
     (StoreFault::Worn, 6),
@@ -664,9 +679,9 @@ const NUMBERS: [(StoreFault, u8); 6] = [
 #[test]
 fn texts(rt: HostRuntime) {
     for (fault, text) in TEXTS {
-        expect_text(&rt, rt.alloc(), &fault, text);
+        expect_text(&rt, rt.alloc(), fault, text);
     }
     for (fault, number) in NUMBERS {
-        expect(&rt, fault as u8, number);
+        expect(&rt, *fault as u8, *number);
     }
 }

@@ -79,6 +79,9 @@ fn send_too_much<R: Radio>(rt: &impl Abort, radio: &mut R, long: &[u8]) {
     expect(rt, (answer, radio.failures()), (Ok(()), 1));
 }
 
+/// Lengths of frames, up to the greatest.
+const LENGTHS: &[usize] = &[0, 1, 2_304, 2_305, 65_507];
+
 /// Sends frames of every length to and fro, and then all bytes, which are one too many.
 fn exchange<R: Radio>(
     rt: &impl Abort,
@@ -89,8 +92,8 @@ fn exchange<R: Radio>(
 ) {
     succeeds(rt, radio, &[Asked::Transmit(b"nobody was heard")]);
     receives(rt, radio, None);
-    for length in [0, 1, 2_304, 2_305, 65_507] {
-        let frame = frames.get(..length).expect(rt, "so many bytes");
+    for length in LENGTHS {
+        let frame = frames.get(..*length).expect(rt, "so many bytes");
         send_and_answer(rt, radio, (other, port), room, frame);
     }
     expect_silence(rt, other, room);

@@ -4,7 +4,7 @@ use crate::common::{
 };
 use crate::expect::expect;
 use crate::old_images::{EMPTY, JOINED, Part, SWITCHED, device_of, device_of_length};
-use crate::version_tests::{FIRST, Rows, SECOND, TORN, rows};
+use crate::version_tests::{FIRST, Rows, SECOND, TORN, left_behind, rows};
 use apd_base::Station;
 use apd_disk::{Call, Disk, FuseDisk, MemDisk, OnceDisk, Torn};
 use apd_store::{StoreFault, upgrade};
@@ -163,24 +163,27 @@ fn stop_on_old(
     (fault, left, is_store)
 }
 
+// Calls of the old device behind which it stops, and how the copying ends.
+const OLD_STOPS: &[(u64, Option<StoreFault>)] = &[
+    (0, Some(StoreFault::Device)),
+    (1, Some(StoreFault::Device)),
+    (2, None),
+];
+
 // Stops at each call on the old device.
 fn stop_old(rt: &impl Abort, alloc: Global, torn: Torn) {
     let left = switch_rows(rt);
-    for (passes, fault) in [
-        (0, Some(StoreFault::Device)),
-        (1, Some(StoreFault::Device)),
-        (2, None),
-    ] {
-        let found = stop_on_old(rt, alloc, passes, torn);
-        let wanted = (fault, left, fault.is_none());
-        expect(rt, (torn, passes, found), (torn, passes, wanted));
+    for (passes, fault) in OLD_STOPS {
+        let found = stop_on_old(rt, alloc, *passes, torn);
+        let wanted = (*fault, left, fault.is_none());
+        expect(rt, (torn, *passes, found), (torn, *passes, wanted));
     }
 }
 
 #[test]
 fn a_stop_at_each_call_on_the_old_device(rt: HostRuntime) {
     for torn in TORN {
-        stop_old(&rt, rt.alloc(), torn);
+        stop_old(&rt, rt.alloc(), *torn);
     }
 }
 
@@ -194,18 +197,12 @@ fn stop_on_new(rt: &impl Abort, alloc: Global, passes: u64, torn: Torn) -> (bool
     (fault.is_none(), found, left)
 }
 
-// What is found of both devices after a stop at each call on the new one. That was a store of version 1: its mark stands
-// until the write of zeros, which is the third call, and the new one from the eighth on.
+// What is found of both devices after a stop at each call on the new one.
 fn stop_at_each_call(rt: &impl Abort, alloc: Global, torn: Torn) {
-    let before = Err(StoreFault::OldVersion);
-    let none = Err(StoreFault::NotAStore);
     let copy = switch_rows(rt);
-    let zeros = if torn == Torn::Old { before } else { none };
-    let mark = if torn == Torn::New { copy } else { none };
-    for (passes, wanted) in (0..).zip([
-        before, before, zeros, none, none, none, none, mark, copy, copy,
-    ]) {
+    for passes in 0..10 {
         let found = stop_on_new(rt, alloc, passes, torn);
+        let wanted = left_behind(passes, torn, copy);
         expect(rt, (passes, found), (passes, (passes == 9, wanted, copy)));
     }
 }
@@ -252,18 +249,27 @@ fn fail_on_new(
     (fault, copy_and_look(alloc, old, new.into_inner()))
 }
 
+fn expect_fail_on_old(rt: &impl Abort, alloc: Global, call: u64) {
+    let found = fail_on_old(rt, alloc, call);
+    let failed = Some(StoreFault::Device);
+    expect(rt, (call, found), (call, (failed, 0, switch_rows(rt))));
+}
+
+fn expect_fail_on_new(rt: &impl Abort, alloc: Global, call: u64) {
+    let found = fail_on_new(rt, alloc, call);
+    let failed = Some(StoreFault::Device);
+    let copy = (None, switch_rows(rt));
+    expect(rt, (call, found), (call, (failed, copy)));
+}
+
 // A call fails once on either device: both are handed back, and copied from and to again.
 #[test]
 fn a_fault_at_each_call(rt: HostRuntime) {
-    let failed = Some(StoreFault::Device);
-    let copy = switch_rows(&rt);
     for call in 0..2 {
-        let found = fail_on_old(&rt, rt.alloc(), call);
-        expect(&rt, (call, found), (call, (failed, 0, copy)));
+        expect_fail_on_old(&rt, rt.alloc(), call);
     }
     for call in 0..9 {
-        let found = fail_on_new(&rt, rt.alloc(), call);
-        expect(&rt, (call, found), (call, (failed, (None, copy))));
+        expect_fail_on_new(&rt, rt.alloc(), call);
     }
 }
 
@@ -295,13 +301,19 @@ const REFUSED: &[(usize, &[Part], StoreFault)] = &[
 ];
 
 // What stands on an old device over `JOINED`, which is then damaged: a station of no kind, and a cursor's record, of 0.
-const DAMAGES: [Part; 2] = [(110, &[3]), (142, &[1, 9, 0, 0, 0, 7, 2, 0, 0, 0, 0, 1])];
+const DAMAGES: &[Part] = &[(110, &[3]), (142, &[1, 9, 0, 0, 0, 7, 2, 0, 0, 0, 0, 1])];
 
 // Expects that the copying of `JOINED` with this part over it is refused.
 fn expect_damage(rt: &impl Abort, alloc: Global, (place, bytes): Part) {
     let mut old = device_of(rt, alloc, JOINED);
     write_bytes(rt, &mut old, place, bytes);
     expect_refusal(rt, alloc, old, LENGTH - 1, StoreFault::Damaged);
+}
+
+// Expects that `JOINED` is not copied onto a device of this length.
+fn expect_no_room(rt: &impl Abort, alloc: Global, length: usize) {
+    let old = device_of(rt, alloc, JOINED);
+    expect_refusal(rt, alloc, old, length, StoreFault::NotAStore);
 }
 
 #[test]
@@ -312,11 +324,10 @@ fn what_is_refused(rt: HostRuntime) {
         expect_refusal(&rt, alloc, old, LENGTH - 1, *fault);
     }
     for part in DAMAGES {
-        expect_damage(&rt, alloc, part);
+        expect_damage(&rt, alloc, *part);
     }
     for length in [0, 64, LENGTH - 1, LENGTH + 1] {
-        let old = device_of(&rt, alloc, JOINED);
-        expect_refusal(&rt, alloc, old, length, StoreFault::NotAStore);
+        expect_no_room(&rt, alloc, length);
     }
 }
 
@@ -325,15 +336,19 @@ fn empty_store(rt: &impl Abort, alloc: Global) -> MemDisk {
     format_store(rt, alloc, blank_disk(rt, alloc, LENGTH)).into_device()
 }
 
+// Expects that the copying of `SWITCHED` ends well onto a device on which these parts stand.
+fn expect_copy_onto(rt: &impl Abort, alloc: Global, parts: &[Part]) {
+    let old = device_of(rt, alloc, SWITCHED);
+    let found = copy_and_look(alloc, old, device_of(rt, alloc, parts));
+    expect(rt, found, (None, switch_rows(rt)));
+}
+
 #[test]
 fn onto_what_held_a_store(rt: HostRuntime) {
     let alloc = rt.alloc();
-    let copy = (None, switch_rows(&rt));
-    for parts in [EMPTY, SWITCHED, COPY] {
-        let old = device_of(&rt, alloc, SWITCHED);
-        let found = copy_and_look(alloc, old, device_of(&rt, alloc, parts));
-        expect(&rt, found, copy);
-    }
+    expect_copy_onto(&rt, alloc, EMPTY);
+    expect_copy_onto(&rt, alloc, SWITCHED);
+    expect_copy_onto(&rt, alloc, COPY);
     let old = device_of(&rt, alloc, EMPTY);
     let found = copy_and_look(alloc, old, empty_store(&rt, alloc));
     expect(&rt, found, (None, Ok((0, None, None))));

@@ -25,7 +25,7 @@ pub(crate) fn rows(alloc: Global, disk: MemDisk) -> Rows {
     ))
 }
 
-pub(crate) const TORN: [Torn; 4] = [Torn::Old, Torn::New, Torn::Byte(1), Torn::Byte(0x7f)];
+pub(crate) const TORN: &[Torn] = &[Torn::Old, Torn::New, Torn::Byte(1), Torn::Byte(0x7f)];
 
 // The device that a format leaves, whether or not it fails.
 fn format_device<D: Disk>(alloc: Global, disk: D) -> D
@@ -68,32 +68,39 @@ fn stop_recovery(
     (fault, rows(alloc, fuse.into_inner().crash(torn)))
 }
 
+// Calls of a recovery of which the next one fails, where there is one, and how it ends.
+const RECOVERIES: &[(u64, StoreFault)] = &[
+    (0, StoreFault::Device),
+    (1, StoreFault::Device),
+    (2, StoreFault::OldVersion),
+];
+
 // Stops at each call of a recovery.
 fn stop_recoveries(rt: &impl Abort, alloc: Global, torn: Torn) {
-    for (passes, fault) in [
-        (0, StoreFault::Device),
-        (1, StoreFault::Device),
-        (2, StoreFault::OldVersion),
-    ] {
-        let found = stop_recovery(rt, alloc, passes, torn);
-        let want = (Some(fault), Err(StoreFault::OldVersion));
-        expect(rt, (torn, passes, found), (torn, passes, want));
+    for (passes, fault) in RECOVERIES {
+        let found = stop_recovery(rt, alloc, *passes, torn);
+        let want = (Some(*fault), Err(StoreFault::OldVersion));
+        expect(rt, (torn, *passes, found), (torn, *passes, want));
     }
 }
 
 #[test]
 fn a_stop_at_each_call_of_a_recovery(rt: HostRuntime) {
     for torn in TORN {
-        stop_recoveries(&rt, rt.alloc(), torn);
+        stop_recoveries(&rt, rt.alloc(), *torn);
     }
+}
+
+fn expect_old(rt: &impl Abort, alloc: Global, parts: &[Part]) {
+    let found = rows(alloc, device_of(rt, alloc, parts));
+    expect(rt, found, Err(StoreFault::OldVersion));
 }
 
 #[test]
 fn each_store_of_version_1_is_told_apart(rt: HostRuntime) {
-    for parts in [EMPTY, JOINED, SWITCHED] {
-        let found = rows(rt.alloc(), device_of(&rt, rt.alloc(), parts));
-        expect(&rt, found, Err(StoreFault::OldVersion));
-    }
+    expect_old(&rt, rt.alloc(), EMPTY);
+    expect_old(&rt, rt.alloc(), JOINED);
+    expect_old(&rt, rt.alloc(), SWITCHED);
 }
 
 // A device on which these parts stand, its mark that of version 2.
@@ -103,20 +110,28 @@ fn remarked(rt: &impl Abort, alloc: Global, parts: &[Part]) -> MemDisk {
     disk
 }
 
+// Expects what these parts show once their mark is that of version 2: so many rows, whether the first station is
+// associated, and what the second one is.
+fn expect_remarked(
+    rt: &impl Abort,
+    alloc: Global,
+    parts: &[Part],
+    wanted: (usize, bool, Option<Station>),
+) {
+    let found = rows(alloc, remarked(rt, alloc, parts));
+    let (rows, aa, bb) = found.expect(rt, "a table");
+    let joined = matches!(aa, Some(Station::Associated(_)));
+    expect(rt, (rows, joined, bb), wanted);
+}
+
 // By the last byte of its mark alone a store is of one version or of the other.
 #[test]
 fn the_last_byte_of_the_mark(rt: HostRuntime) {
     let alloc = rt.alloc();
-    for (parts, count, is_joined, second) in [
-        (EMPTY, 0, false, None),
-        (JOINED, 1, true, None),
-        (SWITCHED, 2, true, Some(Station::Authenticated)),
-    ] {
-        let found = rows(alloc, remarked(&rt, alloc, parts));
-        let (rows, aa, bb) = found.expect(&rt, "a table");
-        let joined = matches!(aa, Some(Station::Associated(_)));
-        expect(&rt, (rows, joined, bb), (count, is_joined, second));
-    }
+    let second = Some(Station::Authenticated);
+    expect_remarked(&rt, alloc, EMPTY, (0, false, None));
+    expect_remarked(&rt, alloc, JOINED, (1, true, None));
+    expect_remarked(&rt, alloc, SWITCHED, (2, true, second));
 }
 
 // The records of the table that these parts show once their mark is that of version 2.
@@ -135,15 +150,22 @@ fn a_store_of_version_1_has_the_same_state_in_version_2(rt: HostRuntime) {
     expect(&rt, Some(records.as_slice()), half.get(13..129));
 }
 
-// The mark of version 1 stands until the write of zeros, which is the third call, and the new one from the eighth on.
+// What a device of version 1 shows that is made a new store where that stops behind so many calls. The mark of version 1
+// stands until the write of zeros, which is the third call, and the new one from the eighth on.
+pub(crate) fn left_behind(passes: u64, torn: Torn, made: Rows) -> Rows {
+    if passes < 2 || passes == 2 && torn == Torn::Old {
+        Err(StoreFault::OldVersion)
+    } else if passes > 7 || passes == 7 && torn == Torn::New {
+        made
+    } else {
+        Err(StoreFault::NotAStore)
+    }
+}
+
 fn stop_formats(rt: &impl Abort, alloc: Global, torn: Torn) {
-    let old = Err(StoreFault::OldVersion);
-    let none = Err(StoreFault::NotAStore);
-    let empty = Ok((0, None, None));
-    let zeros = if torn == Torn::Old { old } else { none };
-    let mark = if torn == Torn::New { empty } else { none };
-    for (passes, wanted) in (0..).zip([old, old, zeros, none, none, none, none, mark, empty]) {
+    for passes in 0..9 {
         let found = stop_format(rt, alloc, passes, torn);
+        let wanted = left_behind(passes, torn, Ok((0, None, None)));
         expect(rt, (torn, passes, found), (torn, passes, wanted));
     }
 }
@@ -151,6 +173,6 @@ fn stop_formats(rt: &impl Abort, alloc: Global, torn: Torn) {
 #[test]
 fn a_stop_at_each_call_of_a_format(rt: HostRuntime) {
     for torn in TORN {
-        stop_formats(&rt, rt.alloc(), torn);
+        stop_formats(&rt, rt.alloc(), *torn);
     }
 }
