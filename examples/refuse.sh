@@ -12,8 +12,8 @@
 set -eu
 here=$(dirname "$(readlink -f "$0")")
 crate=$here/../crates/apd_sessions
-program=$(readlink -f "${SESSIONS:-$crate/out/apd_sessions}")
 [ -n "${SESSIONS:-}" ] || (cd "$crate" && rt run >/dev/null)
+program=$(readlink -f "${SESSIONS:-$crate/out/apd_sessions}")
 folder=$(mktemp -d)
 trap 'rm -rf "$folder"' EXIT
 ${CC:-cc} -O2 -shared -fPIC -o "$folder/refuse.so" "$here/refuse.c" -ldl
