@@ -105,8 +105,8 @@ fn places_of(change: &Change) -> (Bssid, Option<Addr>) {
 
 // Makes the change where the state after it is sound, and else leaves all as it was.
 fn apply_plainly(rt: &impl Abort, alloc: Global, plain: &mut PlainTable, change: &Change) -> bool {
-    let mut next = plain.copy(alloc).expect(rt, "a copy");
-    next.make(change).expect(rt, "memory");
+    let mut next = plain.copy(rt, alloc);
+    next.make(rt, change);
     let is_sound = next.is_sound_at(places_of(change).0);
     if is_sound {
         *plain = next;
@@ -217,7 +217,7 @@ fn same_words(rt: &impl Abort, table: &Table, plain: &PlainTable, bssid: Bssid) 
 fn plain_table_of(rt: &impl Abort, alloc: Global, changes: &[Change]) -> PlainTable {
     let mut made = PlainTable::new(alloc);
     for change in changes {
-        made.make(change).expect(rt, "memory");
+        made.make(rt, change);
     }
     made
 }
@@ -225,7 +225,7 @@ fn plain_table_of(rt: &impl Abort, alloc: Global, changes: &[Change]) -> PlainTa
 // The changes of the snapshot are the same, in their order.
 fn snapshot(rt: &impl Abort, alloc: Global, table: &Table, plain: &PlainTable) -> Vec<Change> {
     let changes = table.snapshot(alloc).expect(rt, "memory");
-    let plain_changes = plain.snapshot(alloc).expect(rt, "memory");
+    let plain_changes = plain.snapshot(rt, alloc);
     expect(rt, changes.as_slice(), plain_changes.as_slice());
     changes
 }

@@ -2,7 +2,8 @@
 //! `apd_table`.
 use apd_base::{AclMode, Addr, Bssid, Policy, Station, StationNumber, Which};
 use apd_record::Change;
-use std::alloc::{AllocError, Global};
+use std::alloc::Global;
+use std::process::Abort;
 
 /// Rows by (BSSID, address), addresses of lists, policies, and the identifiers that were given last.
 #[derive(Drop)]
@@ -57,12 +58,16 @@ fn place_key(change: &Change) -> (u8, Bssid, u8, Addr) {
     }
 }
 
-fn insert_in_order(changes: &mut Vec<Change>, change: Change) -> Result<(), AllocError> {
+fn insert_in_order(rt: &impl Abort, changes: &mut Vec<Change>, change: Change) {
     let key = place_key(&change);
     let behind = changes.iter().position(|other| key < place_key(other));
     let place = behind.unwrap_or(changes.len());
-    changes.insert(place, change)?;
-    Ok(())
+    changes.insert(place, change).expect(rt, "memory");
+}
+
+// A copy of rows.
+fn copy_of<T: Copy>(rt: &impl Abort, alloc: Global, rows: &[T]) -> Vec<T> {
+    Vec::from_slice(alloc, rows).expect(rt, "memory")
 }
 
 impl PlainTable {
@@ -75,17 +80,22 @@ impl PlainTable {
         }
     }
 
-    pub fn copy(&self, alloc: Global) -> Result<PlainTable, AllocError> {
-        Ok(PlainTable {
-            stations: Vec::from_slice(alloc, &self.stations)?,
-            lists: Vec::from_slice(alloc, &self.lists)?,
-            policies: Vec::from_slice(alloc, &self.policies)?,
-            cursors: Vec::from_slice(alloc, &self.cursors)?,
-        })
+    pub fn copy(&self, rt: &impl Abort, alloc: Global) -> PlainTable {
+        PlainTable {
+            stations: copy_of(rt, alloc, &self.stations),
+            lists: copy_of(rt, alloc, &self.lists),
+            policies: copy_of(rt, alloc, &self.policies),
+            cursors: copy_of(rt, alloc, &self.cursors),
+        }
     }
 
     fn remove_station(&mut self, bssid: Bssid, addr: Addr) {
         self.stations.retain(|row| row.0 != bssid || row.1 != addr);
+    }
+
+    fn put_station(&mut self, rt: &impl Abort, row: (Bssid, Addr, Station)) {
+        self.remove_station(row.0, row.1);
+        self.stations.push(row).expect(rt, "memory");
     }
 
     fn remove_listed(&mut self, bssid: Bssid, which: Which, addr: Addr) {
@@ -93,46 +103,44 @@ impl PlainTable {
             .retain(|row| row.0 != bssid || row.1 != which || row.2 != addr);
     }
 
-    // Sets a policy. The first of a BSSID comes with no identifier given.
-    fn set_policy(&mut self, bssid: Bssid, policy: Policy) -> Result<(), AllocError> {
-        if self.mode(bssid).is_none() {
-            self.set_cursor(bssid, StationNumber { number: 0 })?;
-        }
-        self.policies.retain(|row| row.0 != bssid);
-        self.policies.push((bssid, policy))?;
-        Ok(())
+    fn put_listed(&mut self, rt: &impl Abort, row: (Bssid, Which, Addr)) {
+        self.remove_listed(row.0, row.1, row.2);
+        self.lists.push(row).expect(rt, "memory");
     }
 
-    fn set_cursor(&mut self, bssid: Bssid, last: StationNumber) -> Result<(), AllocError> {
+    fn clear_list(&mut self, bssid: Bssid, which: Which) {
+        self.lists.retain(|row| row.0 != bssid || row.1 != which);
+    }
+
+    // Sets a policy. The first of a BSSID comes with no identifier given.
+    fn set_policy(&mut self, rt: &impl Abort, bssid: Bssid, policy: Policy) {
+        if self.mode(bssid).is_none() {
+            self.set_cursor(rt, bssid, StationNumber { number: 0 });
+        }
+        self.policies.retain(|row| row.0 != bssid);
+        self.policies.push((bssid, policy)).expect(rt, "memory");
+    }
+
+    fn set_cursor(&mut self, rt: &impl Abort, bssid: Bssid, last: StationNumber) {
         self.cursors.retain(|row| row.0 != bssid);
-        self.cursors.push((bssid, last))?;
-        Ok(())
+        self.cursors.push((bssid, last)).expect(rt, "memory");
     }
 
     /// Makes a change, whatever state it leaves.
-    pub fn make(&mut self, change: &Change) -> Result<(), AllocError> {
+    pub fn make(&mut self, rt: &impl Abort, change: &Change) {
         match *change {
             Change::Put {
                 bssid,
                 addr,
                 station,
-            } => {
-                self.remove_station(bssid, addr);
-                self.stations.push((bssid, addr, station))?;
-            }
+            } => self.put_station(rt, (bssid, addr, station)),
             Change::Drop { bssid, addr } => self.remove_station(bssid, addr),
-            Change::ListAdd { bssid, which, addr } => {
-                self.remove_listed(bssid, which, addr);
-                self.lists.push((bssid, which, addr))?;
-            }
+            Change::ListAdd { bssid, which, addr } => self.put_listed(rt, (bssid, which, addr)),
             Change::ListDel { bssid, which, addr } => self.remove_listed(bssid, which, addr),
-            Change::ListClear { bssid, which } => {
-                self.lists.retain(|row| row.0 != bssid || row.1 != which);
-            }
-            Change::Policy { bssid, policy } => self.set_policy(bssid, policy)?,
-            Change::Cursor { bssid, last } => self.set_cursor(bssid, last)?,
+            Change::ListClear { bssid, which } => self.clear_list(bssid, which),
+            Change::Policy { bssid, policy } => self.set_policy(rt, bssid, policy),
+            Change::Cursor { bssid, last } => self.set_cursor(rt, bssid, last),
         }
-        Ok(())
     }
 
     pub fn mode(&self, bssid: Bssid) -> Option<AclMode> {
@@ -243,9 +251,7 @@ impl PlainTable {
         }
     }
 
-    /// The changes that make the rows: policies, cursors other than 0, lists and stations, each by its key.
-    pub fn snapshot(&self, alloc: Global) -> Result<Vec<Change>, AllocError> {
-        let mut changes = Vec::new(alloc);
+    fn add_stations(&self, rt: &impl Abort, changes: &mut Vec<Change>) {
         for row in &self.stations {
             let (bssid, addr, station) = *row;
             let put = Change::Put {
@@ -253,22 +259,40 @@ impl PlainTable {
                 addr,
                 station,
             };
-            insert_in_order(&mut changes, put)?;
+            insert_in_order(rt, changes, put);
         }
+    }
+
+    fn add_lists(&self, rt: &impl Abort, changes: &mut Vec<Change>) {
         for row in &self.lists {
             let (bssid, which, addr) = *row;
-            insert_in_order(&mut changes, Change::ListAdd { bssid, which, addr })?;
+            insert_in_order(rt, changes, Change::ListAdd { bssid, which, addr });
         }
+    }
+
+    fn add_cursors(&self, rt: &impl Abort, changes: &mut Vec<Change>) {
         for row in &self.cursors {
             let (bssid, last) = *row;
             if last.number != 0 {
-                insert_in_order(&mut changes, Change::Cursor { bssid, last })?;
+                insert_in_order(rt, changes, Change::Cursor { bssid, last });
             }
         }
+    }
+
+    fn add_policies(&self, rt: &impl Abort, changes: &mut Vec<Change>) {
         for row in &self.policies {
             let (bssid, policy) = *row;
-            insert_in_order(&mut changes, Change::Policy { bssid, policy })?;
+            insert_in_order(rt, changes, Change::Policy { bssid, policy });
         }
-        Ok(changes)
+    }
+
+    /// The changes that make the rows: policies, cursors other than 0, lists and stations, each by its key.
+    pub fn snapshot(&self, rt: &impl Abort, alloc: Global) -> Vec<Change> {
+        let mut changes = Vec::new(alloc);
+        self.add_stations(rt, &mut changes);
+        self.add_lists(rt, &mut changes);
+        self.add_cursors(rt, &mut changes);
+        self.add_policies(rt, &mut changes);
+        changes
     }
 }
