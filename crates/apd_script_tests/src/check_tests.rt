@@ -2,63 +2,59 @@
 use crate::calls::{addresses_of, confs_of_two, new_conf, one_radio, second};
 use crate::expect::expect;
 use crate::scripts::{JOINS, join};
-use crate::worlds::{fresh_store, run_on};
+use crate::worlds::{fresh_store, store_after};
 use apd_base::AclMode;
-use apd_conf::Confs;
+use apd_conf::{Conf, Confs};
 use apd_disk::{Call, FuseDisk, MemDisk};
 use apd_script::{CheckFault, run_check};
 use apd_store::StoreFault;
 use std::alloc::Global;
 use std::io::{self, Write};
 use std::process::Abort;
-use std::test::Fail;
 
-/// What a check ends with, and what it printed.
-type Check = (Option<CheckFault>, Vec<u8>);
-
-/// Checks a device.
-fn check(alloc: Global, disk: MemDisk) -> Check {
+/// Expects that a check of a device ends so, and prints this.
+fn expect_check(
+    rt: &impl Abort,
+    alloc: Global,
+    disk: MemDisk,
+    (fault, text): (Option<CheckFault>, &str),
+) {
     let mut out = Vec::new(alloc);
-    let fault = run_check(alloc, disk, &mut out).err();
-    (fault, out)
-}
-
-/// Expects that a check ends so, and printed this.
-fn expect_check(rt: &impl Abort, check: Check, fault: Option<CheckFault>, text: &str) {
-    let (found, out) = check;
-    expect(rt, found, fault);
+    expect(rt, run_check(alloc, disk, &mut out).err(), fault);
     expect(rt, out.as_slice(), text.as_bytes());
 }
 
-/// A store on which a script was run.
-fn store_after(alloc: Global, confs: Confs, script: &[u8]) -> Result<MemDisk, Fail> {
-    let mut out = Vec::new(alloc);
-    let disk = run_on(alloc, fresh_store(alloc)?, confs, script, &mut out).ok();
-    Ok(disk.ok_or("a script has a fault")?)
-}
-
 /// A store of one radio on which a script was run.
-fn small_store(alloc: Global, script: &str) -> Result<MemDisk, Fail> {
-    store_after(alloc, one_radio(alloc)?, script.as_bytes())
+fn small_store(rt: &impl Abort, alloc: Global, script: &str) -> MemDisk {
+    store_after(rt, alloc, one_radio(rt, alloc), script.as_bytes())
 }
 
-/// wlan0 with one address on its accept list and two on its deny list, and wlan1, which lets in who is accepted.
-fn with_lists(alloc: Global) -> Result<Confs, Fail> {
-    let mut first = new_conf(alloc)?;
-    first.set_lists(
-        addresses_of(alloc, b"02:00:00:00:00:cc")?,
-        addresses_of(alloc, b"02:00:00:00:00:dd\n02:00:00:00:00:ee")?,
-    );
-    let mut second = second(alloc)?;
-    second.macaddr_acl = AclMode::DenyUnlessAccepted;
-    second.set_lists(
-        addresses_of(
-            alloc,
-            b"02:00:00:00:00:ab\n02:00:00:00:00:ac\n02:00:00:00:00:ad",
-        )?,
-        addresses_of(alloc, b"")?,
-    );
-    confs_of_two(alloc, second, first)
+/// A configuration with the addresses of these files.
+fn listing(rt: &impl Abort, alloc: Global, conf: Conf, accept: &[u8], deny: &[u8]) -> Conf {
+    let mut conf = conf;
+    let accept = addresses_of(rt, alloc, accept);
+    let deny = addresses_of(rt, alloc, deny);
+    conf.set_lists(accept, deny);
+    conf
+}
+
+/// wlan0 with one address on its accept list and two on its deny list.
+fn open_radio(rt: &impl Abort, alloc: Global) -> Conf {
+    let deny = b"02:00:00:00:00:dd\n02:00:00:00:00:ee";
+    listing(rt, alloc, new_conf(rt, alloc), b"02:00:00:00:00:cc", deny)
+}
+
+/// wlan1, which lets in who is accepted.
+fn closed_radio(rt: &impl Abort, alloc: Global) -> Conf {
+    let accept = b"02:00:00:00:00:ab\n02:00:00:00:00:ac\n02:00:00:00:00:ad";
+    let mut conf = listing(rt, alloc, second(rt, alloc), accept, b"");
+    conf.macaddr_acl = AclMode::DenyUnlessAccepted;
+    conf
+}
+
+/// Both of them, the greater BSSID first.
+fn with_lists(rt: &impl Abort, alloc: Global) -> Confs {
+    confs_of_two(rt, alloc, closed_radio(rt, alloc), open_radio(rt, alloc))
 }
 
 /// The station 02:00:00:00:00:ab is authenticated at wlan1.
@@ -73,24 +69,19 @@ const TWO_LINES: &str =
     "bss 02:00:00:00:00:01 mode 0 max 2007 stations 1 accept 1 deny 2\nbss 02:00:00:00:00:02 mode 1 max 2007 stations 1 accept 3 deny 0\n";
 
 /// A store with both lists and a station at each radio.
-fn large_store(alloc: Global) -> Result<MemDisk, Fail> {
-    let script = join(alloc, &[JOINS, AUTHENTICATES])?;
-    store_after(alloc, with_lists(alloc)?, script.as_slice())
+fn large_store(rt: &impl Abort, alloc: Global) -> MemDisk {
+    let script = join(rt, alloc, &[JOINS, AUTHENTICATES]);
+    store_after(rt, alloc, with_lists(rt, alloc), script.as_slice())
 }
 
 #[test]
-fn a_check_prints_a_line_for_each_bssid_rising(rt: HostRuntime) -> Result<(), Fail> {
+fn a_check_prints_a_line_for_each_bssid_rising(rt: HostRuntime) {
     let alloc = rt.alloc();
-    expect_check(&rt, check(alloc, fresh_store(alloc)?), None, "");
-    expect_check(&rt, check(alloc, small_store(alloc, "")?), None, NO_STATION);
-    expect_check(
-        &rt,
-        check(alloc, small_store(alloc, JOINS)?),
-        None,
-        ONE_STATION,
-    );
-    expect_check(&rt, check(alloc, large_store(alloc)?), None, TWO_LINES);
-    Ok(())
+    expect_check(&rt, alloc, fresh_store(&rt, alloc), (None, ""));
+    for (script, text) in [("", NO_STATION), (JOINS, ONE_STATION)] {
+        expect_check(&rt, alloc, small_store(&rt, alloc, script), (None, text));
+    }
+    expect_check(&rt, alloc, large_store(&rt, alloc), (None, TWO_LINES));
 }
 
 const NO_STORE: Option<CheckFault> = Some(CheckFault::Store(StoreFault::NotAStore));
@@ -99,47 +90,62 @@ const DAMAGED: Option<CheckFault> = Some(CheckFault::Store(StoreFault::Damaged))
 
 const OLD: Option<CheckFault> = Some(CheckFault::Store(StoreFault::OldVersion));
 
-/// Checks a device of so many zeros.
-fn check_zeros(alloc: Global, length: usize) -> Result<Check, Fail> {
-    let disk = MemDisk::new(alloc, vec![in alloc; 0u8; length]?)?;
-    Ok(check(alloc, disk))
+/// A device with these bytes.
+fn device(rt: &impl Abort, alloc: Global, bytes: Vec<u8>) -> MemDisk {
+    MemDisk::new(alloc, bytes).expect(rt, "memory")
+}
+
+/// A device of so many zeros.
+fn zeros(rt: &impl Abort, alloc: Global, length: usize) -> MemDisk {
+    let bytes = vec![in alloc; 0u8; length];
+    device(rt, alloc, bytes.expect(rt, "memory"))
 }
 
 #[test]
-fn zeros_of_another_length_are_no_store(rt: HostRuntime) -> Result<(), Fail> {
+fn zeros_of_another_length_are_no_store(rt: HostRuntime) {
+    let alloc = rt.alloc();
     for length in [0, 2_097_215, 2_097_216, 2_097_217] {
-        expect_check(&rt, check_zeros(rt.alloc(), length)?, NO_STORE, "");
+        expect_check(&rt, alloc, zeros(&rt, alloc, length), (NO_STORE, ""));
     }
-    Ok(())
 }
 
-/// A store with these bytes at a place.
-fn change(alloc: Global, disk: &MemDisk, place: usize, bytes: &[u8]) -> Result<MemDisk, Fail> {
-    let mut image = Vec::from_slice(alloc, disk.bytes())?;
+/// The bytes of a device.
+fn image_of(rt: &impl Abort, alloc: Global, disk: &MemDisk) -> Vec<u8> {
+    Vec::from_slice(alloc, disk.bytes()).expect(rt, "memory")
+}
+
+/// Puts bytes at a place.
+fn put(image: &mut [u8], place: usize, bytes: &[u8]) {
     for (behind, byte) in bytes.iter().enumerate() {
         if let Some(old) = image.get_mut(place.saturating_add(behind)) {
             *old = *byte;
         }
     }
-    Ok(MemDisk::new(alloc, image)?)
+}
+
+/// Expects what a check tells of a store with these bytes at a place.
+fn expect_check_with(
+    rt: &impl Abort,
+    alloc: Global,
+    disk: &MemDisk,
+    (place, bytes): (usize, &[u8]),
+    wanted: (Option<CheckFault>, &str),
+) {
+    let mut image = image_of(rt, alloc, disk);
+    put(&mut image, place, bytes);
+    expect_check(rt, alloc, device(rt, alloc, image), wanted);
 }
 
 /// Expects what a check tells of a store with each byte of its front changed in turn.
-fn check_front(rt: &impl Abort, alloc: Global, disk: &MemDisk) -> Result<(), Fail> {
+fn check_front(rt: &impl Abort, alloc: Global, disk: &MemDisk) {
     for place in 0..64 {
-        let (fault, text) = if place < 8 {
+        let wanted = if place < 8 {
             (NO_STORE, "")
         } else {
             (None, ONE_STATION)
         };
-        expect_check(
-            rt,
-            check(alloc, change(alloc, disk, place, &[7])?),
-            fault,
-            text,
-        );
+        expect_check_with(rt, alloc, disk, (place, &[7]), wanted);
     }
-    Ok(())
 }
 
 /// Bytes that stand at a place of the store of one station, how a check then ends, and what it prints.
@@ -167,30 +173,18 @@ fn changes() -> &'static [Changed] {
 }
 
 /// Expects what a check tells of a store with these changes, one at a time.
-fn check_changes(rt: &impl Abort, alloc: Global, disk: &MemDisk) -> Result<(), Fail> {
+fn check_changes(rt: &impl Abort, alloc: Global, disk: &MemDisk) {
     for (place, bytes, fault, text) in changes() {
-        expect_check(
-            rt,
-            check(alloc, change(alloc, disk, *place, bytes)?),
-            *fault,
-            text,
-        );
+        expect_check_with(rt, alloc, disk, (*place, *bytes), (*fault, *text));
     }
-    Ok(())
-}
-
-fn check_all(rt: &impl Abort, alloc: Global, disk: &MemDisk) -> Result<(), Fail> {
-    check_front(rt, alloc, disk)?;
-    check_changes(rt, alloc, disk)
 }
 
 #[test]
-fn a_store_with_changed_bytes_is_checked(rt: HostRuntime) -> Result<(), Fail> {
+fn a_store_with_changed_bytes_is_checked(rt: HostRuntime) {
     let alloc = rt.alloc();
-    let disk = small_store(alloc, JOINS)?;
-    let checked = check_all(&rt, alloc, &disk);
-    drop(disk);
-    checked
+    let disk = small_store(&rt, alloc, JOINS);
+    check_front(&rt, alloc, &disk);
+    check_changes(&rt, alloc, &disk);
 }
 
 /// A writer that takes nothing.
@@ -207,32 +201,36 @@ impl Write for Closed {
     }
 }
 
-/// How a check ends whose device passes so many calls, and whose writer takes nothing.
-fn check_over_fuse(alloc: Global, passes: u64) -> Result<Option<CheckFault>, Fail> {
-    let disk = FuseDisk::new(small_store(alloc, "")?, passes);
-    Ok(run_check(alloc, disk, &mut Closed).err())
+/// How a check of a new store ends whose device passes so many calls, and whose writer takes nothing.
+fn check_over_fuse(rt: &impl Abort, alloc: Global, passes: u64) -> Option<CheckFault> {
+    let disk = FuseDisk::new(small_store(rt, alloc, ""), passes);
+    run_check(alloc, disk, &mut Closed).err()
+}
+
+/// Expects how a fault is printed.
+fn expect_text(rt: &impl Abort, alloc: Global, fault: CheckFault, wanted: &str) {
+    let text = format!(in alloc; "{fault}").expect(rt, "memory");
+    expect(rt, text.as_str(), wanted);
 }
 
 #[test]
-fn a_check_tells_which_side_failed(rt: HostRuntime) -> Result<(), Fail> {
+fn a_check_tells_which_side_failed(rt: HostRuntime) {
+    let alloc = rt.alloc();
     for (passes, fault) in [
         (0, CheckFault::Store(StoreFault::Device)),
         (1, CheckFault::Store(StoreFault::Device)),
         (2, CheckFault::Writer),
     ] {
-        expect(&rt, check_over_fuse(rt.alloc(), passes)?, Some(fault));
+        expect(&rt, check_over_fuse(&rt, alloc, passes), Some(fault));
     }
-    let text = format!(in rt.alloc(); "{}", CheckFault::Writer)?;
-    expect(&rt, text.as_str(), "writer fault");
-    Ok(())
+    expect_text(&rt, alloc, CheckFault::Writer, "writer fault");
 }
 
 /// A copy of a device, behind a check of it.
-fn copy_behind_check(alloc: Global, disk: &MemDisk) -> Result<MemDisk, Fail> {
-    let image = MemDisk::new(alloc, Vec::from_slice(alloc, disk.bytes())?)?;
-    let mut out = Vec::new(alloc);
-    let left = run_check(alloc, image, &mut out).ok();
-    Ok(left.ok_or("a store is refused")?)
+fn copy_behind_check(rt: &impl Abort, alloc: Global, disk: &MemDisk) -> MemDisk {
+    let image = device(rt, alloc, image_of(rt, alloc, disk));
+    let left = run_check(alloc, image, &mut Vec::new(alloc)).ok();
+    left.expect(rt, "a store")
 }
 
 /// Whether some call of a device was a write.
@@ -241,19 +239,11 @@ fn was_written(disk: &MemDisk) -> bool {
     !disk.calls().iter().all(is_no_write)
 }
 
-/// Whether a check leaves the bytes of a device, and writes to it.
-fn look_behind_check(alloc: Global, disk: &MemDisk) -> Result<(bool, bool), Fail> {
-    let left = copy_behind_check(alloc, disk)?;
-    let seen = (left.bytes() == disk.bytes(), was_written(&left));
-    drop(left);
-    Ok(seen)
-}
-
 #[test]
-fn a_check_writes_nothing(rt: HostRuntime) -> Result<(), Fail> {
-    let disk = small_store(rt.alloc(), JOINS)?;
-    let seen = look_behind_check(rt.alloc(), &disk);
-    drop(disk);
-    expect(&rt, seen?, (true, false));
-    Ok(())
+fn a_check_writes_nothing(rt: HostRuntime) {
+    let alloc = rt.alloc();
+    let disk = small_store(&rt, alloc, JOINS);
+    let left = copy_behind_check(&rt, alloc, &disk);
+    let seen = (left.bytes() == disk.bytes(), was_written(&left));
+    expect(&rt, seen, (true, false));
 }

@@ -8,7 +8,6 @@ use apd_mlme::Event;
 use apd_radio::Radio;
 use apd_world::{Reception, Step, Told, World};
 use std::process::Abort;
-use std::test::Fail;
 
 /// The radio of the built-in configuration.
 const RADIO: Bssid = Bssid(Addr([2, 0, 0, 0, 0, 1]));
@@ -30,24 +29,32 @@ fn kick(bssid: Bssid) -> Event<'static> {
 }
 
 /// What a world answers to a command.
-fn answer_to<D: Disk, R: Radio>(
+fn answer_to<D: Disk, R: Radio>(world: &mut World<D, R>, event: Event<'_>) -> Option<Reception> {
+    match world.step(&Step::Accept(Input::Order(event), Moment(0))) {
+        Told::Accepted(answer) => Some(answer),
+        _ => None,
+    }
+}
+
+/// Expects the answer to a command.
+fn expect_answer<D: Disk, R: Radio>(
+    rt: &impl Abort,
     world: &mut World<D, R>,
     event: Event<'_>,
-) -> Result<Reception, Fail> {
-    match world.step(&Step::Accept(Input::Order(event), Moment(0))) {
-        Told::Accepted(answer) => Ok(answer),
-        _ => Err(Fail::new("a command is not answered")),
-    }
+    answer: Reception,
+) {
+    expect(rt, answer_to(world, event), Some(answer));
 }
 
-fn start<D: Disk, R: Radio>(world: &mut World<D, R>) -> Result<(), Fail> {
-    match world.start() {
-        Ok(_) => Ok(()),
-        Err(_) => Err(Fail::new("a world is not started")),
-    }
+/// Starts a world.
+fn start<D: Disk, R: Radio>(rt: &impl Abort, world: &mut World<D, R>) {
+    let started = world.start().ok();
+    drop(started.expect(rt, "a world that is started"));
 }
 
-fn asks<D: Disk, R: Radio>(rt: &impl Abort, world: &mut World<D, R>) -> Result<(), Fail> {
+#[test]
+fn a_command_needs_a_radio_that_was_started(rt: HostRuntime) {
+    let mut world = new_world(&rt, rt.alloc());
     let silence = Event::Expire {
         bssid: RADIO,
         addr: STATION,
@@ -57,17 +64,8 @@ fn asks<D: Disk, R: Radio>(rt: &impl Abort, world: &mut World<D, R>) -> Result<(
         (kick(RADIO), QuietReason::NoPolicy),
         (silence, QuietReason::Nothing),
     ] {
-        expect(rt, answer_to(world, event)?, Reception::Quiet(reason));
+        expect_answer(&rt, &mut world, event, Reception::Quiet(reason));
     }
-    start(world)?;
-    expect(rt, answer_to(world, kick(RADIO))?, Reception::Entry(2));
-    Ok(())
-}
-
-#[test]
-fn a_command_needs_a_radio_that_was_started(rt: HostRuntime) -> Result<(), Fail> {
-    let mut world = new_world(rt.alloc())?;
-    let asked = asks(&rt, &mut world);
-    drop(world);
-    asked
+    start(&rt, &mut world);
+    expect_answer(&rt, &mut world, kick(RADIO), Reception::Entry(2));
 }

@@ -4,22 +4,23 @@ use apd_conf::{Conf, ConfFault, ConfigurationFault, Confs, ConfsFault, ListFault
 use apd_script::read_configurations;
 use std::alloc::Global;
 use std::fs;
+use std::process::Abort;
 use std::rt::Files;
-use std::test::Fail;
 
 /// Where the tests' files stand.
 const FOLDER: &str = "configuration_files_of_a_test";
 
-/// A fault as it is printed.
-fn text_of(alloc: Global, fault: ConfigurationFault) -> Result<String, Fail> {
-    Ok(format!(in alloc; "{fault}")?)
+/// Expects how a fault is printed.
+fn expect_text(rt: &impl Abort, alloc: Global, fault: ConfigurationFault, wanted: &str) {
+    let text = format!(in alloc; "{fault}").expect(rt, "memory");
+    expect(rt, text.as_str(), wanted);
 }
 
-/// Why files are no configurations, as it is printed.
-fn fault_text<R: Files + AllocGlobal>(rt: &R, names: &[&str]) -> Result<String, Fail> {
-    match read_configurations(rt, names) {
-        Ok(_) => Ok(String::new(rt.alloc())),
-        Err(fault) => text_of(rt.alloc(), fault),
+/// Expects why files are no configurations, as it is printed, or no text where they are.
+fn expect_reading<R: Abort + Files + AllocGlobal>(rt: &R, names: &[&str], wanted: &str) {
+    match read_configurations(rt, names).err() {
+        Some(fault) => expect_text(rt, rt.alloc(), fault, wanted),
+        None => expect(rt, "", wanted),
     }
 }
 
@@ -55,15 +56,19 @@ fn files() -> &'static [(&'static str, &'static str)] {
     &FILES
 }
 
+/// Makes a file of the folder.
+fn make_file<R: Abort + Files + AllocGlobal>(rt: &R, name: &str, text: &str) {
+    let path = format!(in rt.alloc(); "{FOLDER}/{name}").expect(rt, "memory");
+    fs::write(rt, path.as_str(), text).expect(rt, "a file");
+}
+
 /// Makes the folder of the tests' files anew.
-fn make_files<R: Files + AllocGlobal>(rt: &R) -> Result<(), Fail> {
+fn make_files<R: Abort + Files + AllocGlobal>(rt: &R) {
     let _ = fs::remove_dir_all(rt, FOLDER);
-    fs::create_dir(rt, FOLDER)?;
+    fs::create_dir(rt, FOLDER).expect(rt, "a folder");
     for (name, text) in files() {
-        let path = format!(in rt.alloc(); "{FOLDER}/{name}")?;
-        fs::write(rt, path.as_str(), *text)?;
+        make_file(rt, name, text);
     }
-    Ok(())
 }
 
 const GOOD: &str = "configuration_files_of_a_test/good";
@@ -118,29 +123,27 @@ fn have_lists(confs: &Confs) -> Option<[bool; 2]> {
     }
 }
 
-/// What is found of the lists of the good files.
-fn read_good<R: Files + AllocGlobal>(rt: &R) -> Result<Option<[bool; 2]>, Fail> {
-    match read_configurations(rt, &[OTHER, GOOD]) {
-        Ok(confs) => Ok(have_lists(&confs)),
-        Err(_) => Err(Fail::new("good files are refused")),
-    }
+/// Expects the lists of the good files.
+fn expect_lists<R: Abort + Files + AllocGlobal>(rt: &R) {
+    let confs = read_configurations(rt, &[OTHER, GOOD]).ok();
+    let confs = confs.expect(rt, "good files");
+    expect(rt, have_lists(&confs), Some([true, true]));
 }
 
 #[test]
-fn files_are_read_in_turn_and_the_first_fault_is_told(rt: HostRuntime) -> Result<(), Fail> {
-    make_files(&rt)?;
-    for (names, want) in readings() {
-        expect(&rt, fault_text(&rt, names)?.as_str(), *want);
+fn files_are_read_in_turn_and_the_first_fault_is_told(rt: HostRuntime) {
+    make_files(&rt);
+    for (names, wanted) in readings() {
+        expect_reading(&rt, names, wanted);
     }
-    expect(&rt, read_good(&rt)?, Some([true, true]));
-    fs::remove_dir_all(&rt, FOLDER)?;
-    Ok(())
+    expect_lists(&rt);
+    fs::remove_dir_all(&rt, FOLDER).expect(&rt, "the folder");
 }
 
 #[test]
-fn faults_of_configurations_are_printed_in_these_words(rt: HostRuntime) -> Result<(), Fail> {
+fn faults_of_configurations_are_printed_in_these_words(rt: HostRuntime) {
     let alloc = rt.alloc();
-    for (fault, want) in [
+    for (fault, wanted) in [
         (
             ConfigurationFault::Conf(ConfFault::Security(2)),
             "line 2: security is not supported",
@@ -155,7 +158,6 @@ fn faults_of_configurations_are_printed_in_these_words(rt: HostRuntime) -> Resul
         ),
         (ConfigurationFault::NoMemory, "out of memory"),
     ] {
-        expect(&rt, text_of(alloc, fault)?.as_str(), want);
+        expect_text(&rt, alloc, fault, wanted);
     }
-    Ok(())
 }

@@ -8,7 +8,6 @@ use apd_record::Change;
 use apd_table::Table;
 use std::alloc::Global;
 use std::process::Abort;
-use std::test::Fail;
 
 const RADIO: Bssid = Bssid(Addr([2, 0, 0, 0, 0, 1]));
 
@@ -20,32 +19,23 @@ const DEAUTHENTICATION: [u8; 26] = [
 ];
 
 /// Makes a change that is taken.
-fn change(table: &mut Table, change: &Change) -> Result<(), Fail> {
-    match table.apply(change) {
-        Ok(()) => Ok(()),
-        Err(_) => Err(Fail::new("a change is refused")),
-    }
-}
-
-/// Makes changes in turn; none where one is refused.
-fn make_all(table: &mut Table, changes: &[Change]) -> Option<()> {
-    for each in changes {
-        table.apply(each).ok()?;
-    }
-    Some(())
+fn change(rt: &impl Abort, table: &mut Table, change: &Change) {
+    table.apply(change).expect(rt, "a change that is taken");
 }
 
 /// Makes the changes of what was decided, and gives that back.
-fn make_changes(decision: Decision, table: &mut Table) -> Result<Decision, Fail> {
-    let made = make_all(table, decision.changes.as_slice());
-    Ok(made.and(Some(decision)).ok_or("a change is refused")?)
+fn make_changes(rt: &impl Abort, decision: Decision, table: &mut Table) -> Decision {
+    for each in decision.changes.as_slice() {
+        change(rt, table, each);
+    }
+    decision
 }
 
 /// The built-in configuration, in another mode.
-fn confs(alloc: Global, mode: AclMode) -> Result<Confs, Fail> {
-    let mut conf = new_conf(alloc)?;
+fn confs(rt: &impl Abort, alloc: Global, mode: AclMode) -> Confs {
+    let mut conf = new_conf(rt, alloc);
     conf.macaddr_acl = mode;
-    confs_with(alloc, conf)
+    confs_with(rt, alloc, conf)
 }
 
 /// Decides the start of the radio with these list files, and makes its changes.
@@ -55,9 +45,9 @@ fn start_with(
     table: &mut Table,
     confs: &Confs,
     [accept_file, deny_file]: [&[u8]; 2],
-) -> Result<Decision, Fail> {
-    let accept = addresses_of(alloc, accept_file)?;
-    let deny = addresses_of(alloc, deny_file)?;
+) -> Decision {
+    let accept = addresses_of(rt, alloc, accept_file);
+    let deny = addresses_of(rt, alloc, deny_file);
     assert!(rt; confs.with_bssid(RADIO).is_some());
     assert!(rt; table.bss_count() < 8);
     let event = Event::Configure {
@@ -65,34 +55,32 @@ fn start_with(
         accept: accept.as_slice(),
         deny: deny.as_slice(),
     };
-    make_changes(decide(alloc, table, confs, event)?, table)
+    let decision = decide(alloc, table, confs, event).expect(rt, "memory");
+    make_changes(rt, decision, table)
 }
 
 /// The same without list files.
-fn start(
-    rt: &impl Abort,
-    alloc: Global,
-    table: &mut Table,
-    confs: &Confs,
-) -> Result<Decision, Fail> {
+fn start(rt: &impl Abort, alloc: Global, table: &mut Table, confs: &Confs) -> Decision {
     start_with(rt, alloc, table, confs, [b"", b""])
 }
 
 /// The same of a configuration in mode 1.
-fn start_closed(rt: &impl Abort, alloc: Global, table: &mut Table) -> Result<Decision, Fail> {
-    let closed = confs(alloc, AclMode::DenyUnlessAccepted)?;
-    let decision = start(rt, alloc, table, &closed);
-    drop(closed);
-    decision
+fn start_closed(rt: &impl Abort, alloc: Global, table: &mut Table) -> Decision {
+    let closed = confs(rt, alloc, AclMode::DenyUnlessAccepted);
+    start(rt, alloc, table, &closed)
 }
 
-/// A table, and the configuration of its radio.
-type Open = (Table, Confs);
-
 /// A table of no radio, and a configuration in mode 0.
-fn new_open(alloc: Global) -> Result<Open, Fail> {
-    let open = confs(alloc, AclMode::AcceptUnlessDenied)?;
-    Ok((Table::new(alloc), open))
+fn new_open(rt: &impl Abort, alloc: Global) -> (Table, Confs) {
+    let open = confs(rt, alloc, AclMode::AcceptUnlessDenied);
+    (Table::new(alloc), open)
+}
+
+/// The same once the radio was started.
+fn started(rt: &impl Abort, alloc: Global) -> (Table, Confs) {
+    let (mut table, open) = new_open(rt, alloc);
+    drop(start(rt, alloc, &mut table, &open));
+    (table, open)
 }
 
 /// Decides a frame of the station, and makes its changes.
@@ -102,22 +90,15 @@ fn hear(
     table: &mut Table,
     confs: &Confs,
     frame: Frame<'_>,
-) -> Result<Decision, Fail> {
+) -> Decision {
     assert!(rt; confs.with_bssid(RADIO).is_some());
     assert!(rt; table.policy(RADIO).is_some());
-    make_changes(
-        decide(alloc, table, confs, Event::Heard(RADIO, frame))?,
-        table,
-    )
+    let decision = decide(alloc, table, confs, Event::Heard(RADIO, frame));
+    make_changes(rt, decision.expect(rt, "memory"), table)
 }
 
 /// Decides an authentication request of the station, and makes its changes.
-fn authenticate(
-    rt: &impl Abort,
-    alloc: Global,
-    table: &mut Table,
-    confs: &Confs,
-) -> Result<Decision, Fail> {
+fn authenticate(rt: &impl Abort, alloc: Global, table: &mut Table, confs: &Confs) -> Decision {
     let request = Authentication {
         sender: STATION,
         algorithm: 0,
@@ -128,12 +109,7 @@ fn authenticate(
 }
 
 /// Decides an association request of the station, and makes its changes.
-fn associate(
-    rt: &impl Abort,
-    alloc: Global,
-    table: &mut Table,
-    confs: &Confs,
-) -> Result<Decision, Fail> {
+fn associate(rt: &impl Abort, alloc: Global, table: &mut Table, confs: &Confs) -> Decision {
     let request = apd_frame::Association {
         sender: STATION,
         capability: 0x431,
@@ -157,16 +133,9 @@ fn expect_station(rt: &impl Abort, table: &Table, station: Option<Station>) {
 }
 
 /// The station is let in where it asks for authentication, or else is not there.
-fn ask(
-    rt: &impl Abort,
-    alloc: Global,
-    radio: &mut Open,
-    station: Option<Station>,
-) -> Result<(), Fail> {
-    let (table, open) = radio;
-    authenticate(rt, alloc, table, open)?;
+fn ask(rt: &impl Abort, alloc: Global, table: &mut Table, open: &Confs, station: Option<Station>) {
+    drop(authenticate(rt, alloc, table, open));
     expect_station(rt, table, station);
-    Ok(())
 }
 
 /// What a start in mode 1 decides, where it ends the station.
@@ -180,22 +149,19 @@ fn expect_ending(rt: &impl Abort, decision: &Decision) {
     expect(rt, only_frame(decision), Some(&DEAUTHENTICATION));
 }
 
-/// Mode 0 lets the station in, and a start in mode 1 ends it.
-fn ends_in_mode_1(rt: &impl Abort, alloc: Global, radio: &mut Open) -> Result<(), Fail> {
-    start(rt, alloc, &mut radio.0, &radio.1)?;
-    ask(rt, alloc, radio, Some(Station::Authenticated))?;
-    let decision = start_closed(rt, alloc, &mut radio.0)?;
+/// A start in mode 1 ends the station.
+fn close(rt: &impl Abort, alloc: Global, table: &mut Table) {
+    let decision = start_closed(rt, alloc, table);
     expect_ending(rt, &decision);
-    expect_station(rt, &radio.0, None);
-    Ok(())
+    expect_station(rt, table, None);
 }
 
 #[test]
-fn a_start_in_mode_1_ends_a_station_that_mode_0_let_in(rt: HostRuntime) -> Result<(), Fail> {
-    let mut radio = new_open(rt.alloc())?;
-    let found = ends_in_mode_1(&rt, rt.alloc(), &mut radio);
-    drop(radio);
-    found
+fn a_start_in_mode_1_ends_a_station_that_mode_0_let_in(rt: HostRuntime) {
+    let alloc = rt.alloc();
+    let (mut table, open) = started(&rt, alloc);
+    ask(&rt, alloc, &mut table, &open, Some(Station::Authenticated));
+    close(&rt, alloc, &mut table);
 }
 
 /// The station on a list of the radio.
@@ -208,23 +174,16 @@ fn list_station(which: Which) -> Change {
 }
 
 /// A deny list keeps the station out, and an accept list lets it in, in both modes.
-fn follows_lists(rt: &impl Abort, alloc: Global, radio: &mut Open) -> Result<(), Fail> {
-    start(rt, alloc, &mut radio.0, &radio.1)?;
-    change(&mut radio.0, &list_station(Which::Deny))?;
-    ask(rt, alloc, radio, None)?;
-    change(&mut radio.0, &list_station(Which::Accept))?;
-    ask(rt, alloc, radio, Some(Station::Authenticated))?;
-    start_closed(rt, alloc, &mut radio.0)?;
-    expect_station(rt, &radio.0, Some(Station::Authenticated));
-    Ok(())
-}
-
 #[test]
-fn lists_say_who_is_let_in(rt: HostRuntime) -> Result<(), Fail> {
-    let mut radio = new_open(rt.alloc())?;
-    let found = follows_lists(&rt, rt.alloc(), &mut radio);
-    drop(radio);
-    found
+fn lists_say_who_is_let_in(rt: HostRuntime) {
+    let alloc = rt.alloc();
+    let (mut table, open) = started(&rt, alloc);
+    change(&rt, &mut table, &list_station(Which::Deny));
+    ask(&rt, alloc, &mut table, &open, None);
+    change(&rt, &mut table, &list_station(Which::Accept));
+    ask(&rt, alloc, &mut table, &open, Some(Station::Authenticated));
+    drop(start_closed(&rt, alloc, &mut table));
+    expect_station(&rt, &table, Some(Station::Authenticated));
 }
 
 /// An address in a list of the radio.
@@ -256,27 +215,41 @@ fn rows() -> [Change; 3] {
     ]
 }
 
-/// Two starts in mode 0, the second with the list files the other way round.
-fn starts_twice(rt: &impl Abort, alloc: Global, radio: &mut Open) -> Result<(), Fail> {
-    let (table, open) = radio;
-    let accept = b"02:00:00:00:00:bb\n02:00:00:00:00:aa\n".as_slice();
-    let deny = b"02:00:00:00:00:cc\n".as_slice();
-    let began = start_with(rt, alloc, table, open, [accept, deny])?;
+/// A start in mode 0 with these list files takes them over, and gives its first change, the policy.
+fn expect_taken_over(
+    rt: &impl Abort,
+    alloc: Global,
+    table: &mut Table,
+    open: &Confs,
+    files: [&[u8]; 2],
+) -> Option<Change> {
+    let began = start_with(rt, alloc, table, open, files);
     expect(rt, began.changes.as_slice().get(1..), Some(&rows()));
-    let policy = first(&began.changes);
-    drop(began);
-    let later = start_with(rt, alloc, table, open, [deny, accept])?;
-    let changes = &later.changes;
-    expect(rt, (changes.len(), first(changes)), (1, policy));
-    Ok(())
+    first(&began.changes)
 }
 
+/// A later start with these list files makes this change alone.
+fn expect_one_change(
+    rt: &impl Abort,
+    alloc: Global,
+    table: &mut Table,
+    open: &Confs,
+    (files, change): ([&[u8]; 2], Option<Change>),
+) {
+    let later = start_with(rt, alloc, table, open, files);
+    let changes = &later.changes;
+    expect(rt, (changes.len(), first(changes)), (1, change));
+}
+
+/// Two starts in mode 0, the second with the list files the other way round.
 #[test]
-fn lists_come_with_the_first_start_alone(rt: HostRuntime) -> Result<(), Fail> {
-    let mut radio = new_open(rt.alloc())?;
-    let found = starts_twice(&rt, rt.alloc(), &mut radio);
-    drop(radio);
-    found
+fn lists_come_with_the_first_start_alone(rt: HostRuntime) {
+    let alloc = rt.alloc();
+    let accept = b"02:00:00:00:00:bb\n02:00:00:00:00:aa\n".as_slice();
+    let deny = b"02:00:00:00:00:cc\n".as_slice();
+    let (mut table, open) = new_open(&rt, alloc);
+    let policy = expect_taken_over(&rt, alloc, &mut table, &open, [accept, deny]);
+    expect_one_change(&rt, alloc, &mut table, &open, ([deny, accept], policy));
 }
 
 /// An authentication response to the station: Open System, transaction number 2, status 17.
@@ -305,62 +278,64 @@ fn the_most_records_of_an_event(rt: HostRuntime) {
     expect(&rt, MAX_RECORDS, 28_682);
 }
 
-/// Others get these identifiers.
-fn others_come(table: &mut Table, last: u16) -> Result<(), Fail> {
-    for number in 1..=last {
-        if let Some(aid) = Aid::new(number) {
-            change(table, &member(aid))?;
-        }
-    }
-    Ok(())
+/// The identifier of a number.
+fn aid(rt: &impl Abort, number: u16) -> Aid {
+    Aid::new(number).expect(rt, "an identifier")
 }
 
-/// 2,007 others come, and then the station.
-fn has_no_room(rt: &impl Abort, alloc: Global, radio: &mut Open) -> Result<(), Fail> {
-    let (table, open) = radio;
-    start(rt, alloc, table, open)?;
-    others_come(table, 2006)?;
-    expect(rt, table.least_free(RADIO), Some(2007));
-    change(table, &member(Aid::new(2007).ok_or("it is an identifier")?))?;
+/// Others get these identifiers.
+fn others_come(rt: &impl Abort, table: &mut Table, last: u16) {
+    for number in 1..=last {
+        change(rt, table, &member(aid(rt, number)));
+    }
+}
+
+/// What is expected of the number of stations, and of the least identifier that is free.
+fn expect_room(rt: &impl Abort, table: &Table, count: usize, free: Option<u16>) {
     expect(
         rt,
         (table.count(RADIO), table.least_free(RADIO)),
-        (2007, None),
+        (count, free),
     );
-    let decision = authenticate(rt, alloc, table, open)?;
-    expect(rt, decision.changes.len(), 0);
-    expect(rt, only_frame(&decision), Some(&NO_MORE_STATIONS));
-    expect(rt, table.count(RADIO), 2007);
-    Ok(())
 }
 
+/// The station is refused, and nothing changes.
+fn expect_no_room(rt: &impl Abort, alloc: Global, table: &mut Table, open: &Confs) {
+    let decision = authenticate(rt, alloc, table, open);
+    expect(rt, decision.changes.len(), 0);
+    expect(rt, only_frame(&decision), Some(&NO_MORE_STATIONS));
+}
+
+/// 2,007 others come, and then the station.
 #[test]
-fn the_2008th_station_finds_no_room(rt: HostRuntime) -> Result<(), Fail> {
-    let mut radio = new_open(rt.alloc())?;
-    let found = has_no_room(&rt, rt.alloc(), &mut radio);
-    drop(radio);
-    found
+fn the_2008th_station_finds_no_room(rt: HostRuntime) {
+    let alloc = rt.alloc();
+    let (mut table, open) = started(&rt, alloc);
+    others_come(&rt, &mut table, 2006);
+    expect_room(&rt, &table, 2006, Some(2007));
+    change(&rt, &mut table, &member(aid(&rt, 2007)));
+    expect_room(&rt, &table, 2007, None);
+    expect_no_room(&rt, alloc, &mut table, &open);
+    expect_room(&rt, &table, 2007, None);
 }
 
 /// The station is associated under an identifier.
-fn put_station(number: u16) -> Result<Change, Fail> {
-    Ok(Change::Put {
+fn put_station(rt: &impl Abort, number: u16) -> Change {
+    Change::Put {
         bssid: RADIO,
         addr: STATION,
         station: Station::Associated(Association {
-            aid: Aid::new(number).ok_or("it is an identifier")?,
+            aid: aid(rt, number),
             capability: 0x431,
             listen_interval: 10,
         }),
-    })
+    }
 }
 
 /// The radio gave this identifier last.
-fn cursor(number: u16) -> Result<Change, Fail> {
-    Ok(Change::Cursor {
-        bssid: RADIO,
-        last: StationNumber::new(number).ok_or("it is a number of stations")?,
-    })
+fn cursor(rt: &impl Abort, number: u16) -> Change {
+    let last = StationNumber::new(number).expect(rt, "a number of stations");
+    Change::Cursor { bssid: RADIO, last }
 }
 
 /// The station is authenticated alone.
@@ -371,67 +346,51 @@ const BACK: Change = Change::Put {
 };
 
 /// The station associates, by these changes.
-fn associates(
-    rt: &impl Abort,
-    alloc: Global,
-    radio: &mut Open,
-    changes: &[Change],
-) -> Result<(), Fail> {
-    let (table, open) = radio;
-    let decision = associate(rt, alloc, table, open)?;
+fn associates(rt: &impl Abort, alloc: Global, table: &mut Table, open: &Confs, changes: &[Change]) {
+    let decision = associate(rt, alloc, table, open);
     expect(rt, decision.changes.as_slice(), changes);
-    Ok(())
+}
+
+/// The station, which was authenticated alone, gets an identifier, and keeps it.
+fn gets_and_keeps(rt: &impl Abort, alloc: Global, table: &mut Table, open: &Confs, number: u16) {
+    change(rt, table, &BACK);
+    let changes = [put_station(rt, number), cursor(rt, number)];
+    associates(rt, alloc, table, open, &changes);
+    associates(rt, alloc, table, open, &[put_station(rt, number)]);
 }
 
 /// The station gets the identifiers behind 2006 in turn, and each is kept once.
-fn gets_and_keeps(rt: &impl Abort, alloc: Global, radio: &mut Open) -> Result<(), Fail> {
-    start(rt, alloc, &mut radio.0, &radio.1)?;
-    change(&mut radio.0, &cursor(2006)?)?;
+#[test]
+fn an_identifier_comes_with_a_cursor_and_is_kept_without(rt: HostRuntime) {
+    let alloc = rt.alloc();
+    let (mut table, open) = started(&rt, alloc);
+    change(&rt, &mut table, &cursor(&rt, 2006));
     // Behind 2007 comes 1.
     for number in [2007, 1, 2] {
-        change(&mut radio.0, &BACK)?;
-        associates(rt, alloc, radio, &[put_station(number)?, cursor(number)?])?;
-        associates(rt, alloc, radio, &[put_station(number)?])?;
+        gets_and_keeps(&rt, alloc, &mut table, &open, number);
     }
-    Ok(())
-}
-
-#[test]
-fn an_identifier_comes_with_a_cursor_and_is_kept_without(rt: HostRuntime) -> Result<(), Fail> {
-    let mut radio = new_open(rt.alloc())?;
-    let found = gets_and_keeps(&rt, rt.alloc(), &mut radio);
-    drop(radio);
-    found
 }
 
 /// Others get all identifiers but this one, which was given last, and the station is authenticated.
-fn give_all_but(table: &mut Table, number: u16) -> Result<(), Fail> {
+fn give_all_but(rt: &impl Abort, table: &mut Table, number: u16) {
     for other in 1..=2007 {
-        if let Some(aid) = Aid::new(other) {
-            if other != number {
-                change(table, &member(aid))?;
-            }
+        if other != number {
+            change(rt, table, &member(aid(rt, other)));
         }
     }
-    change(table, &cursor(number)?)?;
-    change(table, &BACK)
+    change(rt, table, &cursor(rt, number));
+    change(rt, table, &BACK);
 }
 
 /// The station gets the last identifier again.
-fn gets_the_last(rt: &impl Abort, alloc: Global, radio: &mut Open) -> Result<(), Fail> {
-    start(rt, alloc, &mut radio.0, &radio.1)?;
-    give_all_but(&mut radio.0, 7)?;
-    associates(rt, alloc, radio, &[put_station(7)?, cursor(7)?])?;
-    expect(rt, radio.0.next_free(RADIO), None);
-    Ok(())
-}
-
 #[test]
-fn where_no_other_is_free_the_last_one_is_given_again(rt: HostRuntime) -> Result<(), Fail> {
-    let mut radio = new_open(rt.alloc())?;
-    let found = gets_the_last(&rt, rt.alloc(), &mut radio);
-    drop(radio);
-    found
+fn where_no_other_is_free_the_last_one_is_given_again(rt: HostRuntime) {
+    let alloc = rt.alloc();
+    let (mut table, open) = started(&rt, alloc);
+    give_all_but(&rt, &mut table, 7);
+    let changes = [put_station(&rt, 7), cursor(&rt, 7)];
+    associates(&rt, alloc, &mut table, &open, &changes);
+    expect(&rt, table.next_free(RADIO), None);
 }
 
 /// The frame of an out, if it is one.
@@ -454,19 +413,15 @@ fn frame_behind_removal(decision: &Decision) -> Option<&[u8]> {
 }
 
 /// Decides the silence of the station, and makes its changes.
-fn expire(
-    rt: &impl Abort,
-    alloc: Global,
-    table: &mut Table,
-    confs: &Confs,
-) -> Result<Decision, Fail> {
+fn expire(rt: &impl Abort, alloc: Global, table: &mut Table, confs: &Confs) -> Decision {
     assert!(rt; confs.with_bssid(RADIO).is_some());
     assert!(rt; table.policy(RADIO).is_some());
     let event = Event::Expire {
         bssid: RADIO,
         addr: STATION,
     };
-    make_changes(decide(alloc, table, confs, event)?, table)
+    let decision = decide(alloc, table, confs, event).expect(rt, "memory");
+    make_changes(rt, decision, table)
 }
 
 /// A disassociation of the station with reason 4, and a deauthentication with reason 2.
@@ -479,38 +434,32 @@ const NO_LONGER_AUTHENTICATED: [u8; 26] = [
 ];
 
 /// The station, which is associated, is silent.
-fn ends_association(rt: &impl Abort, alloc: Global, radio: &mut Open) -> Result<(), Fail> {
-    let (table, open) = radio;
-    let decision = expire(rt, alloc, table, open)?;
+fn ends_association(rt: &impl Abort, alloc: Global, table: &mut Table, open: &Confs) {
+    let decision = expire(rt, alloc, table, open);
     expect(rt, frame_behind_removal(&decision), Some(&INACTIVE));
     expect_station(rt, table, Some(Station::Authenticated));
-    Ok(())
 }
 
 /// It is silent once more.
-fn ends_authentication(rt: &impl Abort, alloc: Global, radio: &mut Open) -> Result<(), Fail> {
-    let (table, open) = radio;
-    let decision = expire(rt, alloc, table, open)?;
+fn ends_authentication(rt: &impl Abort, alloc: Global, table: &mut Table, open: &Confs) {
+    let decision = expire(rt, alloc, table, open);
     expect(rt, only_frame(&decision), Some(&NO_LONGER_AUTHENTICATED));
     expect_station(rt, table, None);
-    Ok(())
+}
+
+/// It is gone: nothing is decided.
+fn ends_nothing(rt: &impl Abort, alloc: Global, table: &mut Table, open: &Confs) {
+    let decision = expire(rt, alloc, table, open);
+    expect(rt, decision.is_nothing(), true);
 }
 
 /// The station is silent three times.
-fn is_silent(rt: &impl Abort, alloc: Global, radio: &mut Open) -> Result<(), Fail> {
-    start(rt, alloc, &mut radio.0, &radio.1)?;
-    change(&mut radio.0, &put_station(1)?)?;
-    ends_association(rt, alloc, radio)?;
-    ends_authentication(rt, alloc, radio)?;
-    let third = expire(rt, alloc, &mut radio.0, &radio.1)?;
-    expect(rt, third.is_nothing(), true);
-    Ok(())
-}
-
 #[test]
-fn silence_ends_an_association_and_then_an_authentication(rt: HostRuntime) -> Result<(), Fail> {
-    let mut radio = new_open(rt.alloc())?;
-    let found = is_silent(&rt, rt.alloc(), &mut radio);
-    drop(radio);
-    found
+fn silence_ends_an_association_and_then_an_authentication(rt: HostRuntime) {
+    let alloc = rt.alloc();
+    let (mut table, open) = started(&rt, alloc);
+    change(&rt, &mut table, &put_station(&rt, 1));
+    ends_association(&rt, alloc, &mut table, &open);
+    ends_authentication(&rt, alloc, &mut table, &open);
+    ends_nothing(&rt, alloc, &mut table, &open);
 }

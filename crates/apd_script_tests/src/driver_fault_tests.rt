@@ -8,7 +8,6 @@ use apd_radio::{Failing, Sim};
 use apd_world::World;
 use std::alloc::Global;
 use std::process::Abort;
-use std::test::Fail;
 
 const WLAN0: Bssid = Bssid(Addr([2, 0, 0, 0, 0, 1]));
 
@@ -36,77 +35,70 @@ const UP: &str =
 type Failed = World<MemDisk, Boxed>;
 
 /// A world of one interface, whose radio passes so many calls on, and fails then.
-fn failing_world(alloc: Global, calls: u64) -> Result<Failed, Fail> {
-    let radio: Boxed = Box::new(alloc, Failing::new(Sim::new(alloc), calls))?;
-    world_with(alloc, radio)
+fn failing_world(rt: &impl Abort, alloc: Global, calls: u64) -> Failed {
+    let radio = Box::new(alloc, Failing::new(Sim::new(alloc), calls)).ok();
+    world_with(rt, alloc, radio.expect(rt, "memory"))
 }
 
 /// The world that a script leaves, which is expected to print these texts.
-fn run(
-    rt: &impl Abort,
-    alloc: Global,
-    world: Failed,
-    script: &[&str],
-    texts: &[&str],
-) -> Result<Failed, Fail> {
-    let script = join(alloc, script)?;
-    let text = join(alloc, texts)?;
-    let (world, out) = run_in_world(alloc, world, script.as_slice())?;
-    expect(rt, out.as_slice(), text.as_slice());
-    Ok(world)
+fn run(rt: &impl Abort, alloc: Global, world: Failed, script: &[&str], texts: &[&str]) -> Failed {
+    let script = join(rt, alloc, script);
+    let text = join(rt, alloc, texts);
+    run_in_world(rt, alloc, world, &script, &text)
 }
 
-/// A world whose radio was replaced by one that doesn't fail, once it is seen that the station was not in it.
-fn replace(rt: &impl Abort, alloc: Global, world: Failed) -> Result<Failed, Fail> {
-    let other: Boxed = Box::new(alloc, Sim::new(alloc))?;
-    let (own, world) = replace_radio(world, WLAN0, other)?;
+/// Replaces the radio by one that doesn't fail, once it is seen that the station was not in it.
+fn replace(rt: &impl Abort, alloc: Global, world: &mut Failed) {
+    let other = Box::new(alloc, Sim::new(alloc)).ok();
+    let own = replace_radio(rt, world, WLAN0, other.expect(rt, "memory"));
     expect(rt, own.installed(STATION), None);
-    Ok(world)
 }
 
-/// Whether the slot of a world is up, and the identifier under which the station is wanted, and installed.
-fn look(world: Failed) -> Option<(bool, Option<u16>, Option<u16>)> {
+/// Expects whether the slot of a world is up, and the identifier under which the station is wanted, and installed.
+fn expect_slot(rt: &impl Abort, world: Failed, wanted: (bool, Option<u16>, Option<u16>)) {
     let slots = slots_of(world);
-    let slot = slots.first()?;
-    Some((slot.is_up(), slot.wanted(STATION), slot.installed(STATION)))
+    let slot = slots.first().expect(rt, "a slot");
+    let found = (slot.is_up(), slot.wanted(STATION), slot.installed(STATION));
+    expect(rt, found, wanted);
 }
 
 #[test]
-fn a_radio_that_fails_is_replaced(rt: HostRuntime) -> Result<(), Fail> {
+fn a_radio_that_fails_is_replaced(rt: HostRuntime) {
     let alloc = rt.alloc();
     let lost = "entry 3\nwlan0 down\nwlan0 lost\n";
     let script = [JOINS, "cmd STATUS\n"];
     let texts = [AUTHENTICATED, lost, DOWN];
-    let world = run(&rt, alloc, failing_world(alloc, 1)?, &script, &texts)?;
-    let world = replace(&rt, alloc, world)?;
-    let world = run(&rt, alloc, world, &["cmd STATUS\n"], &[UP])?;
-    expect(&rt, look(world), Some((true, Some(1), Some(1))));
-    Ok(())
+    let mut world = run(&rt, alloc, failing_world(&rt, alloc, 1), &script, &texts);
+    replace(&rt, alloc, &mut world);
+    let world = run(&rt, alloc, world, &["cmd STATUS\n"], &[UP]);
+    expect_slot(&rt, world, (true, Some(1), Some(1)));
+}
+
+/// Expects what a script prints over a radio that fails behind so many calls, and the slot that it leaves.
+fn expect_left(
+    rt: &impl Abort,
+    alloc: Global,
+    calls: u64,
+    [script, texts]: [&[&str]; 2],
+    wanted: (bool, Option<u16>, Option<u16>),
+) {
+    let world = failing_world(rt, alloc, calls);
+    expect_slot(rt, run(rt, alloc, world, script, texts), wanted);
 }
 
 #[test]
-fn a_frame_that_is_lost_leaves_its_radio_up(rt: HostRuntime) -> Result<(), Fail> {
-    let alloc = rt.alloc();
+fn a_frame_that_is_lost_leaves_its_radio_up(rt: HostRuntime) {
     let lost = "entry 3\nwlan0 install 02:00:00:00:00:aa 1\nwlan0 lost\n";
     let texts = [AUTHENTICATED, lost];
-    let world = run(&rt, alloc, failing_world(alloc, 2)?, &[JOINS], &texts)?;
-    expect(&rt, look(world), Some((true, Some(1), Some(1))));
-    Ok(())
+    let wanted = (true, Some(1), Some(1));
+    expect_left(&rt, rt.alloc(), 2, [&[JOINS], &texts], wanted);
 }
 
 #[test]
-fn a_removal_that_fails_takes_its_radio_down(rt: HostRuntime) -> Result<(), Fail> {
-    let alloc = rt.alloc();
+fn a_removal_that_fails_takes_its_radio_down(rt: HostRuntime) {
     let leaves = "cmd DEAUTHENTICATE 02:00:00:00:00:aa\nflush\n";
     let lost = "entry 4\nwlan0 down\nwlan0 lost\nctrl 5 OK\\n\n";
     let texts = [AUTHENTICATED, ASSOCIATED, lost];
-    let world = run(
-        &rt,
-        alloc,
-        failing_world(alloc, 3)?,
-        &[JOINS, leaves],
-        &texts,
-    )?;
-    expect(&rt, look(world), Some((false, None, Some(1))));
-    Ok(())
+    let wanted = (false, None, Some(1));
+    expect_left(&rt, rt.alloc(), 3, [&[JOINS, leaves], &texts], wanted);
 }

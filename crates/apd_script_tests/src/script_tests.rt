@@ -1,6 +1,6 @@
-use crate::calls::one_radio;
 use crate::expect::expect;
-use crate::worlds::{expect_run, fresh_store, run_on, run_with};
+use crate::scripts::add;
+use crate::worlds::{expect_run, fault_on, fresh_store};
 use apd_base::limits::MAX_SCRIPT;
 use apd_base::{Addr, Aid};
 use apd_conf::InterfaceName;
@@ -9,10 +9,10 @@ use apd_script::{QuietReason, ScriptFault, write_out, write_reception};
 use apd_world::Reception;
 use std::alloc::Global;
 use std::io::{self, BufRead, BufReader, Read, Write};
-use std::test::Fail;
+use std::process::Abort;
 
 #[test]
-fn lines_end_at_a_newline_alone_and_the_last_needs_none(rt: HostRuntime) -> Result<(), Fail> {
+fn lines_end_at_a_newline_alone_and_the_last_needs_none(rt: HostRuntime) {
     for (script, want) in [
         (
             b"rx wlan0 b000 0000 020000000001 0200000000AA 020000000001 1000 0000 0100 00 0 0\nflush".as_slice(),
@@ -20,9 +20,8 @@ fn lines_end_at_a_newline_alone_and_the_last_needs_none(rt: HostRuntime) -> Resu
         ),
         (b"cmd PING\r\n", b"ctrl 1 UNKNOWN COMMAND\\n\n"),
     ] {
-        expect_run(&rt, rt.alloc(), script, None, want)?;
+        expect_run(&rt, rt.alloc(), script, None, want);
     }
-    Ok(())
 }
 
 /// Scripts, and the first bad line of each.
@@ -55,47 +54,44 @@ fn bad_scripts() -> &'static [(&'static [u8], u64)] {
     &BAD_SCRIPTS
 }
 
-/// How a script ends on one radio and a new store.
-fn end_of(alloc: Global, script: &[u8]) -> Result<Option<ScriptFault>, Fail> {
-    let (fault, _out) = run_with(alloc, one_radio(alloc)?, script)?;
-    Ok(fault)
+/// How a script ends on one radio and a new store, whatever it prints.
+fn end_of(rt: &impl Abort, alloc: Global, script: &[u8]) -> Option<ScriptFault> {
+    let mut out = Vec::new(alloc);
+    fault_on(rt, alloc, fresh_store(rt, alloc), script, &mut out)
 }
 
 #[test]
-fn the_first_bad_line_ends_a_script(rt: HostRuntime) -> Result<(), Fail> {
+fn the_first_bad_line_ends_a_script(rt: HostRuntime) {
     let alloc = rt.alloc();
     for (script, line) in bad_scripts() {
-        expect(
-            &rt,
-            end_of(alloc, script)?,
-            Some(ScriptFault::BadLine(*line)),
-        );
+        let fault = Some(ScriptFault::BadLine(*line));
+        expect(&rt, end_of(&rt, alloc, script), fault);
     }
     let fault = Some(ScriptFault::BadLine(2));
-    expect_run(&rt, alloc, b"rx wlan0\nx\n", fault, b"quiet short\n")
+    expect_run(&rt, alloc, b"rx wlan0\nx\n", fault, b"quiet short\n");
 }
 
 /// A frame of so many bytes is received.
-fn receive_long(alloc: Global, bytes: usize) -> Result<Vec<u8>, Fail> {
+fn receive_long(rt: &impl Abort, alloc: Global, bytes: usize) -> Vec<u8> {
     let mut script = Vec::new(alloc);
-    script.extend_from_slice(b"rx wlan0 d00000000200000000010200000000aa0200000000011000")?;
+    let head = b"rx wlan0 d00000000200000000010200000000aa0200000000011000";
+    add(rt, &mut script, head);
     for _ in 24..bytes {
-        script.extend_from_slice(b"00")?;
+        add(rt, &mut script, b"00");
     }
-    Ok(script)
+    script
 }
 
 #[test]
-fn frames_of_2305_bytes_are_too_long(rt: HostRuntime) -> Result<(), Fail> {
+fn frames_of_2305_bytes_are_too_long(rt: HostRuntime) {
     let alloc = rt.alloc();
     for (bytes, want) in [
         (2304, b"quiet subtype\n".as_slice()),
         (2305, b"quiet long\n"),
     ] {
-        let script = receive_long(alloc, bytes)?;
-        expect_run(&rt, alloc, script.as_slice(), None, want)?;
+        let script = receive_long(&rt, alloc, bytes);
+        expect_run(&rt, alloc, &script, None, want);
     }
-    Ok(())
 }
 
 /// A writer that takes a number of lines, and then fails in this way.
@@ -150,138 +146,132 @@ impl Read for Broken {
     }
 }
 
-/// How a script ends on the built-in configuration.
+/// How a script ends on one radio and a new store.
 fn fault_of<R: BufRead + Drop>(
+    rt: &impl Abort,
     alloc: Global,
     reader: R,
     mut writer: Narrow,
-) -> Result<Option<ScriptFault>, Fail> {
-    let disk = fresh_store(alloc)?;
-    Ok(run_on(alloc, disk, one_radio(alloc)?, reader, &mut writer).err())
+) -> Option<ScriptFault> {
+    fault_on(rt, alloc, fresh_store(rt, alloc), reader, &mut writer)
 }
 
 /// How a script ends behind an empty line, where the reader fails in this way.
-fn reader_fault(alloc: Global, kind: io::ErrorKind) -> Result<Option<ScriptFault>, Fail> {
-    let reader = BufReader::new(alloc, Broken { left: 1, kind })?;
-    fault_of(alloc, reader, Narrow { left: 0, kind })
+fn reader_fault(rt: &impl Abort, alloc: Global, kind: io::ErrorKind) -> Option<ScriptFault> {
+    let reader = BufReader::new(alloc, Broken { left: 1, kind });
+    let writer = Narrow { left: 0, kind };
+    fault_of(rt, alloc, reader.expect(rt, "memory"), writer)
 }
 
 /// How a script ends that prints two lines, where the writer fails in this way at the second.
-fn writer_fault(alloc: Global, kind: io::ErrorKind) -> Result<Option<ScriptFault>, Fail> {
+fn writer_fault(rt: &impl Abort, alloc: Global, kind: io::ErrorKind) -> Option<ScriptFault> {
     let script = b"rx wlan0\nrx wlan0\nflush\n".as_slice();
-    fault_of(alloc, script, Narrow { left: 1, kind })
+    fault_of(rt, alloc, script, Narrow { left: 1, kind })
 }
 
 #[test]
-fn faults_of_the_reader_and_the_writer_end_a_script(rt: HostRuntime) -> Result<(), Fail> {
+fn faults_of_the_reader_and_the_writer_end_a_script(rt: HostRuntime) {
     let alloc = rt.alloc();
-    let broken = io::ErrorKind::BrokenPipe;
-    expect(&rt, reader_fault(alloc, broken)?, Some(ScriptFault::Reader));
-    expect(&rt, writer_fault(alloc, broken)?, Some(ScriptFault::Writer));
-    let short = io::ErrorKind::OutOfMemory;
-    expect(
-        &rt,
-        reader_fault(alloc, short)?,
-        Some(ScriptFault::NoMemory),
-    );
-    expect(
-        &rt,
-        writer_fault(alloc, short)?,
-        Some(ScriptFault::NoMemory),
-    );
-    Ok(())
+    for (kind, reader, writer) in [
+        (
+            io::ErrorKind::BrokenPipe,
+            ScriptFault::Reader,
+            ScriptFault::Writer,
+        ),
+        (
+            io::ErrorKind::OutOfMemory,
+            ScriptFault::NoMemory,
+            ScriptFault::NoMemory,
+        ),
+    ] {
+        expect(&rt, reader_fault(&rt, alloc, kind), Some(reader));
+        expect(&rt, writer_fault(&rt, alloc, kind), Some(writer));
+    }
 }
 
 /// How a script of one line of so many bytes ends.
-fn fault_of_long_line(alloc: Global, bytes: u64) -> Result<Option<ScriptFault>, Fail> {
-    let reader = BufReader::new(alloc, io::repeat(b'x').take(bytes))?;
-    fault_of(alloc, reader, dead_writer())
+fn fault_of_long_line(rt: &impl Abort, alloc: Global, bytes: u64) -> Option<ScriptFault> {
+    let reader = BufReader::new(alloc, io::repeat(b'x').take(bytes));
+    fault_of(rt, alloc, reader.expect(rt, "memory"), dead_writer())
 }
 
 #[test]
-fn a_script_has_at_most_16_mib(rt: HostRuntime) -> Result<(), Fail> {
+fn a_script_has_at_most_16_mib(rt: HostRuntime) {
     let most = MAX_SCRIPT as u64;
     for (bytes, fault) in [
         (most, ScriptFault::BadLine(1)),
         (most + 1, ScriptFault::Reader),
     ] {
-        expect(&rt, fault_of_long_line(rt.alloc(), bytes)?, Some(fault));
+        let found = fault_of_long_line(&rt, rt.alloc(), bytes);
+        expect(&rt, found, Some(fault));
     }
-    Ok(())
 }
 
 /// How a script ends where want of memory is told once more than 16,777,217 bytes are asked for.
-fn fault_behind_all(alloc: Global) -> Result<Option<ScriptFault>, Fail> {
+fn fault_behind_all(rt: &impl Abort, alloc: Global) -> Option<ScriptFault> {
     let asked_for_more = Broken {
         left: 0,
         kind: io::ErrorKind::OutOfMemory,
     };
     let script = io::repeat(b'x').take(16_777_217).chain(asked_for_more);
-    fault_of(alloc, BufReader::new(alloc, script)?, dead_writer())
+    let reader = BufReader::new(alloc, script).expect(rt, "memory");
+    fault_of(rt, alloc, reader, dead_writer())
 }
 
 #[test]
-fn of_a_script_16_777_217_bytes_are_read_at_most(rt: HostRuntime) -> Result<(), Fail> {
-    let fault = fault_behind_all(rt.alloc())?;
+fn of_a_script_16_777_217_bytes_are_read_at_most(rt: HostRuntime) {
+    let fault = fault_behind_all(&rt, rt.alloc());
     expect(&rt, fault, Some(ScriptFault::Reader));
-    Ok(())
 }
 
-/// What is printed of an out at wlan0.
-fn out_text(alloc: Global, out: &Out) -> Result<Vec<u8>, Fail> {
-    let name = InterfaceName::new("wlan0", alloc)?;
+/// Expects what is printed of an out at wlan0.
+fn expect_out(rt: &impl Abort, alloc: Global, out: &Out, want: &[u8]) {
+    let name = InterfaceName::new("wlan0", alloc).expect(rt, "memory");
     let mut text = Vec::new(alloc);
-    match write_out(alloc, &mut text, &name, out) {
-        Ok(()) => Ok(text),
-        Err(_) => Err(Fail::new("an out isn't printed")),
-    }
+    let written = write_out(alloc, &mut text, &name, out);
+    written.expect(rt, "memory");
+    expect(rt, text.as_slice(), want);
 }
 
 #[test]
-fn driver_calls_are_printed_in_these_words(rt: HostRuntime) -> Result<(), Fail> {
+fn driver_calls_are_printed_in_these_words(rt: HostRuntime) {
     let alloc = rt.alloc();
     let station = Addr([2, 0, 0, 0, 0, 0xaa]);
-    let aid = Aid::new(7).ok_or("it is an identifier")?;
-    let installed = out_text(alloc, &Out::Install(station, aid))?;
-    expect(
-        &rt,
-        installed.as_slice(),
-        b"wlan0 install 02:00:00:00:00:aa 7\n",
-    );
-    let removed = out_text(alloc, &Out::Remove(station))?;
-    expect(&rt, removed.as_slice(), b"wlan0 remove 02:00:00:00:00:aa\n");
-    Ok(())
+    let aid = Aid::new(7).expect(&rt, "an identifier");
+    let installed = b"wlan0 install 02:00:00:00:00:aa 7\n";
+    expect_out(&rt, alloc, &Out::Install(station, aid), installed);
+    let removed = b"wlan0 remove 02:00:00:00:00:aa\n";
+    expect_out(&rt, alloc, &Out::Remove(station), removed);
 }
 
-/// A fault as it is printed.
-fn fault_text(alloc: Global, fault: ScriptFault) -> Result<String, Fail> {
-    Ok(format!(in alloc; "{fault}")?)
+/// Expects how a fault is printed.
+fn expect_fault(rt: &impl Abort, alloc: Global, fault: ScriptFault, want: &str) {
+    let text = format!(in alloc; "{fault}").expect(rt, "memory");
+    expect(rt, text.as_str(), want);
 }
 
 #[test]
-fn faults_have_these_texts(rt: HostRuntime) -> Result<(), Fail> {
+fn faults_have_these_texts(rt: HostRuntime) {
     for (fault, want) in [
         (ScriptFault::BadLine(12), "bad line 12"),
         (ScriptFault::Reader, "reader fault"),
         (ScriptFault::Writer, "writer fault"),
         (ScriptFault::NoMemory, "out of memory"),
     ] {
-        expect(&rt, fault_text(rt.alloc(), fault)?.as_str(), want);
+        expect_fault(&rt, rt.alloc(), fault, want);
     }
-    Ok(())
 }
 
-/// What is printed of an answer.
-fn answer_text(alloc: Global, answer: Reception) -> Result<Vec<u8>, Fail> {
+/// Expects what is printed of an answer.
+fn expect_answer(rt: &impl Abort, alloc: Global, answer: Reception, want: &[u8]) {
     let mut out = Vec::new(alloc);
-    match write_reception(alloc, &mut out, answer) {
-        Ok(()) => Ok(out),
-        Err(_) => Err(Fail::new("an answer isn't printed")),
-    }
+    let written = write_reception(alloc, &mut out, answer);
+    written.expect(rt, "memory");
+    expect(rt, out.as_slice(), want);
 }
 
 #[test]
-fn answers_are_printed_in_these_words(rt: HostRuntime) -> Result<(), Fail> {
+fn answers_are_printed_in_these_words(rt: HostRuntime) {
     for (answer, want) in [
         (Reception::Stopped, b"stopped\n".as_slice()),
         (Reception::Busy, b"busy\n"),
@@ -297,7 +287,6 @@ fn answers_are_printed_in_these_words(rt: HostRuntime) -> Result<(), Fail> {
         ),
         (Reception::Quiet(QuietReason::Nothing), b"quiet nothing\n"),
     ] {
-        expect(&rt, answer_text(rt.alloc(), answer)?.as_slice(), want);
+        expect_answer(&rt, rt.alloc(), answer, want);
     }
-    Ok(())
 }

@@ -12,14 +12,18 @@ use apd_world::{World, restart};
 use std::alloc::Global;
 use std::io::{BufRead, Write};
 use std::process::Abort;
-use std::test::Fail;
 
 /// A store of the empty table.
-pub fn fresh_store(alloc: Global) -> Result<MemDisk, Fail> {
-    match new_store(alloc) {
-        Ok(disk) => Ok(disk),
-        Err(_) => Err(Fail::new("a store is not made")),
-    }
+pub fn fresh_store(rt: &impl Abort, alloc: Global) -> MemDisk {
+    new_store(alloc).expect(rt, "a store")
+}
+
+/// The device of a world.
+fn device_of<D: Disk + Drop>(world: World<D, Sim>) -> D {
+    let (flusher, core, slots) = world.into_parts();
+    drop(core);
+    drop(slots);
+    flusher.into_device()
 }
 
 /// Runs a script on the store that a device holds, and hands the device back.
@@ -30,102 +34,128 @@ pub fn run_on<D: Disk + Drop, I: BufRead + Drop, W: Write>(
     script: I,
     writer: &mut W,
 ) -> Result<D, ScriptFault> {
-    let world = run_on_store(alloc, disk, confs, script, writer)?;
-    let (flusher, core, slots) = world.into_parts();
-    drop(core);
-    drop(slots);
-    Ok(flusher.into_device())
+    match run_on_store(alloc, disk, confs, script, writer) {
+        Ok(world) => Ok(device_of(world)),
+        Err(fault) => Err(fault),
+    }
 }
 
-/// Runs a script on a new store, and gives how it ended and what it printed.
-pub fn run_with(
+/// How a script on one radio ends.
+pub fn fault_on<D: Disk + Drop, I: BufRead + Drop, W: Write>(
+    rt: &impl Abort,
     alloc: Global,
-    confs: Confs,
-    script: &[u8],
-) -> Result<(Option<ScriptFault>, Vec<u8>), Fail> {
-    let mut out = Vec::new(alloc);
-    let fault = run_on(alloc, fresh_store(alloc)?, confs, script, &mut out).err();
-    Ok((fault, out))
+    disk: D,
+    script: I,
+    writer: &mut W,
+) -> Option<ScriptFault> {
+    run_on(alloc, disk, one_radio(rt, alloc), script, writer).err()
 }
 
-/// Expects how a script ends on one radio and a new store, and what it prints.
+/// Expects how a script ends on one radio and a store, and what it prints.
+pub fn expect_run_on<D: Disk + Drop>(
+    rt: &impl Abort,
+    alloc: Global,
+    disk: D,
+    script: &[u8],
+    (fault, text): (Option<ScriptFault>, &[u8]),
+) {
+    let mut out = Vec::new(alloc);
+    expect(rt, fault_on(rt, alloc, disk, script, &mut out), fault);
+    expect(rt, out.as_slice(), text);
+}
+
+/// The same on a new store.
 pub fn expect_run(
     rt: &impl Abort,
     alloc: Global,
     script: &[u8],
     fault: Option<ScriptFault>,
     text: &[u8],
-) -> Result<(), Fail> {
-    let (found, out) = run_with(alloc, one_radio(alloc)?, script)?;
-    expect(rt, found, fault);
-    expect(rt, out.as_slice(), text);
-    Ok(())
+) {
+    let disk = fresh_store(rt, alloc);
+    expect_run_on(rt, alloc, disk, script, (fault, text));
 }
 
 /// A world of a store, which is not started yet.
 fn begin_world<R: Radio>(
+    rt: &impl Abort,
     alloc: Global,
-    disk: MemDisk,
     confs: Confs,
     slots: Vec<Slot<R>>,
-) -> Result<World<MemDisk, R>, Fail> {
+) -> World<MemDisk, R> {
+    let disk = fresh_store(rt, alloc);
     let world = restart(alloc, disk, confs, slots, Moment(0)).ok();
-    Ok(world.ok_or("a world is not begun")?)
+    world.expect(rt, "a world")
+}
+
+/// Adds a slot.
+fn add_slot<R: Radio>(
+    rt: &impl Abort,
+    alloc: Global,
+    slots: &mut Vec<Slot<R>>,
+    radio: R,
+    bssid: Bssid,
+) {
+    let pushed = slots.push(Slot::new(alloc, radio, bssid));
+    pushed.ok().expect(rt, "memory");
 }
 
 /// A slot for each configuration, with a radio that does nothing.
-fn new_slots(alloc: Global, confs: &Confs) -> Result<Vec<Slot<Sim>>, Fail> {
+fn new_slots(rt: &impl Abort, alloc: Global, confs: &Confs) -> Vec<Slot<Sim>> {
     let mut slots = Vec::new(alloc);
     for conf in confs.list() {
-        slots.push(Slot::new(alloc, Sim::new(alloc), conf.bssid))?;
+        add_slot(rt, alloc, &mut slots, Sim::new(alloc), conf.bssid);
     }
-    Ok(slots)
+    slots
 }
 
 /// A world of a new store and of one radio, which is not started yet.
-pub fn new_world(alloc: Global) -> Result<World<MemDisk, Sim>, Fail> {
-    let disk = fresh_store(alloc)?;
-    let confs = one_radio(alloc)?;
-    let slots = new_slots(alloc, &confs)?;
-    begin_world(alloc, disk, confs, slots)
+pub fn new_world(rt: &impl Abort, alloc: Global) -> World<MemDisk, Sim> {
+    let confs = one_radio(rt, alloc);
+    let slots = new_slots(rt, alloc, &confs);
+    begin_world(rt, alloc, confs, slots)
 }
 
 /// A radio that receives the frames of a recording.
-fn replaying(alloc: Global, recording: &str) -> Result<Replaying, Fail> {
-    match Replaying::new(alloc, recording.as_bytes()) {
-        Ok(radio) => Ok(radio),
-        Err(_) => Err(Fail::new("a recording is refused")),
-    }
+fn replaying(rt: &impl Abort, alloc: Global, recording: &str) -> Replaying {
+    let radio = Replaying::new(alloc, recording.as_bytes());
+    radio.expect(rt, "a recording")
 }
 
 /// Slots with these radios, one for each configuration.
 fn slots_with(
+    rt: &impl Abort,
     alloc: Global,
     confs: &Confs,
     recordings: &[&str],
-) -> Result<Vec<Slot<Replaying>>, Fail> {
+) -> Vec<Slot<Replaying>> {
     let mut slots = Vec::new(alloc);
     for (conf, recording) in confs.list().iter().zip(recordings) {
-        slots.push(Slot::new(alloc, replaying(alloc, recording)?, conf.bssid))?;
+        let radio = replaying(rt, alloc, recording);
+        add_slot(rt, alloc, &mut slots, radio, conf.bssid);
     }
-    Ok(slots)
+    slots
 }
 
 /// A world of a new store and of two radios, which receive the frames of these recordings. It is not started yet.
-fn replaying_world(alloc: Global, recordings: &[&str]) -> Result<World<MemDisk, Replaying>, Fail> {
-    let disk = fresh_store(alloc)?;
-    let confs = two_radios(alloc)?;
-    let slots = slots_with(alloc, &confs, recordings)?;
-    begin_world(alloc, disk, confs, slots)
+fn replaying_world(
+    rt: &impl Abort,
+    alloc: Global,
+    recordings: &[&str],
+) -> World<MemDisk, Replaying> {
+    let confs = two_radios(rt, alloc);
+    let slots = slots_with(rt, alloc, &confs, recordings);
+    begin_world(rt, alloc, confs, slots)
 }
 
 /// Radios that receive the frames of these recordings.
-fn all_replaying(alloc: Global, recordings: &[&str]) -> Result<Vec<Replaying>, Fail> {
+fn all_replaying(rt: &impl Abort, alloc: Global, recordings: &[&str]) -> Vec<Replaying> {
     let mut radios = Vec::new(alloc);
     for recording in recordings {
-        radios.push(replaying(alloc, recording)?)?;
+        let pushed = radios.push(replaying(rt, alloc, recording));
+        pushed.ok().expect(rt, "memory");
     }
-    Ok(radios)
+    radios
 }
 
 /// The slots of a world.
@@ -136,82 +166,78 @@ pub fn slots_of<R: Radio>(world: World<MemDisk, R>) -> Vec<Slot<R>> {
     slots
 }
 
-/// The slots of the world that a script left.
-fn slots_left(
-    ended: Result<World<MemDisk, Replaying>, ScriptFault>,
-) -> Result<Vec<Slot<Replaying>>, Fail> {
-    match ended {
-        Ok(world) => Ok(slots_of(world)),
-        Err(_) => Err(Fail::new("the script has a fault")),
-    }
+/// The world that a script leaves, which takes these other radios at its stops.
+fn run_in<R: Radio>(
+    rt: &impl Abort,
+    alloc: Global,
+    world: World<MemDisk, R>,
+    script: &[u8],
+    spares: Vec<R>,
+    out: &mut Vec<u8>,
+) -> World<MemDisk, R> {
+    let left = run_script(alloc, world, script, out, spares).ok();
+    left.expect(rt, "a script without a fault")
 }
 
 /// The slots of a world of two radios once a script was run on it, whose stops take these other ones.
 pub fn slots_after(
+    rt: &impl Abort,
     alloc: Global,
     script: &[u8],
     radios: &[&str],
     spares: &[&str],
-) -> Result<Vec<Slot<Replaying>>, Fail> {
-    let left = all_replaying(alloc, spares)?;
-    let world = replaying_world(alloc, radios)?;
+) -> Vec<Slot<Replaying>> {
+    let left = all_replaying(rt, alloc, spares);
+    let world = replaying_world(rt, alloc, radios);
     let mut out = Vec::new(alloc);
-    slots_left(run_script(alloc, world, script, &mut out, left))
+    slots_of(run_in(rt, alloc, world, script, left, &mut out))
 }
 
 /// A radio of any kind.
 pub type Boxed = Box<dyn Radio + Send>;
 
-/// A slot with this radio at the first configuration's BSSID.
-fn slot_with(alloc: Global, confs: &Confs, radio: Boxed) -> Result<Vec<Slot<Boxed>>, Fail> {
-    let first = confs.list().first().ok_or("an interface")?;
-    let mut slots = Vec::new(alloc);
-    slots.push(Slot::new(alloc, radio, first.bssid))?;
-    Ok(slots)
-}
-
 /// A world of a new store and of this radio, which is not started yet.
-pub fn world_with(alloc: Global, radio: Boxed) -> Result<World<MemDisk, Boxed>, Fail> {
-    let disk = fresh_store(alloc)?;
-    let confs = one_radio(alloc)?;
-    let slots = slot_with(alloc, &confs, radio)?;
-    begin_world(alloc, disk, confs, slots)
+pub fn world_with(rt: &impl Abort, alloc: Global, radio: Boxed) -> World<MemDisk, Boxed> {
+    let confs = one_radio(rt, alloc);
+    let bssid = confs.list().first().expect(rt, "an interface").bssid;
+    let mut slots = Vec::new(alloc);
+    add_slot(rt, alloc, &mut slots, radio, bssid);
+    begin_world(rt, alloc, confs, slots)
 }
 
-/// Runs a script on a world, and gives the world back, and what was printed.
+/// Runs a script on a world, which is expected to print this, and gives the world back.
 pub fn run_in_world(
+    rt: &impl Abort,
     alloc: Global,
     world: World<MemDisk, Boxed>,
     script: &[u8],
-) -> Result<(World<MemDisk, Boxed>, Vec<u8>), Fail> {
+    text: &[u8],
+) -> World<MemDisk, Boxed> {
     let mut out = Vec::new(alloc);
-    match run_script(alloc, world, script, &mut out, Vec::new(alloc)) {
-        Ok(world) => Ok((world, out)),
-        Err(_) => Err(Fail::new("the script has a fault")),
-    }
+    let world = run_in(rt, alloc, world, script, Vec::new(alloc), &mut out);
+    expect(rt, out.as_slice(), text);
+    world
 }
 
-/// Puts another radio in the place of a BSSID's, and gives that one back beside the world.
+/// Puts another radio in the place of a BSSID's, and gives that one back.
 pub fn replace_radio(
-    world: World<MemDisk, Boxed>,
+    rt: &impl Abort,
+    world: &mut World<MemDisk, Boxed>,
     bssid: Bssid,
     radio: Boxed,
-) -> Result<(Boxed, World<MemDisk, Boxed>), Fail> {
-    let mut world = world;
+) -> Boxed {
     let own = world.replace(bssid, radio).ok();
-    Ok(own.zip(Some(world)).ok_or("a radio is not replaced")?)
+    own.expect(rt, "a radio that is replaced")
 }
 
 /// The device behind a script on one radio.
-pub fn device_after(alloc: Global, script: &[u8]) -> Result<MemDisk, Fail> {
+pub fn device_after(rt: &impl Abort, alloc: Global, script: &[u8]) -> MemDisk {
+    store_after(rt, alloc, one_radio(rt, alloc), script)
+}
+
+/// The device behind a script on these radios.
+pub fn store_after(rt: &impl Abort, alloc: Global, confs: Confs, script: &[u8]) -> MemDisk {
     let mut out = Vec::new(alloc);
-    let disk = run_on(
-        alloc,
-        fresh_store(alloc)?,
-        one_radio(alloc)?,
-        script,
-        &mut out,
-    )
-    .ok();
-    Ok(disk.ok_or("a script has a fault")?)
+    let disk = run_on(alloc, fresh_store(rt, alloc), confs, script, &mut out);
+    disk.expect(rt, "a script without a fault")
 }
