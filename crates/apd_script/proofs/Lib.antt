@@ -1,7 +1,6 @@
 pub mod Doing
 pub mod OnStore
 pub mod Parts
-pub mod Printing
 pub mod Running
 pub mod Saying
 pub mod ScriptLines

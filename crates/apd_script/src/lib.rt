@@ -2,20 +2,14 @@
 //! is given.
 #![tactic(auto)]
 
-mod checking;
 mod configuration_files;
-mod formatting;
 pub mod laws;
 mod on_store;
 mod script;
-mod upgrading;
 
 pub use apd_core::QuietReason;
-pub use checking::{CheckFault, run_check};
 pub use configuration_files::read_configurations;
-pub use formatting::{FormatFault, run_format};
 pub use on_store::{STOPS, new_store, run_on_store};
 pub use script::{
     ScriptFault, exactly_one_line, run_script, write_applied, write_out, write_reception,
 };
-pub use upgrading::{UpgradeFault, run_upgrade};

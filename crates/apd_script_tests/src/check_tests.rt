@@ -6,7 +6,7 @@ use crate::worlds::{fresh_store, store_after};
 use apd_base::AclMode;
 use apd_conf::{Conf, Confs};
 use apd_disk::{Call, FuseDisk, MemDisk};
-use apd_script::{CheckFault, run_check};
+use apd_maintenance::{CheckFault, run_check};
 use apd_store::StoreFault;
 use std::alloc::Global;
 use std::io::{self, Write};

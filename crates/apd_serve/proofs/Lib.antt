@@ -1,3 +1,2 @@
 mod Giving
-mod Waiting
 mod Working

@@ -1,4 +1,2 @@
-pub mod Commands
 pub mod Entries
-pub mod Tags
 pub mod Worked

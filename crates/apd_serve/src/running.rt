@@ -3,7 +3,6 @@ ghost use Rattle.std.specs.Prelude.{◌≡◌};
 ghost use Rattle.apd_serve.specs.declared.running.RunFault.TheVariants.{NoMemory, Open};
 
 use crate::clock::SystemClock;
-use crate::control_port::ControlPort;
 use crate::crew::run_beside;
 use crate::fault::ServeFault;
 use crate::identity::Identity;
@@ -14,6 +13,7 @@ use crate::serving::{serve_started, start};
 use crate::store_watch::{Ending, StoreWatch, watch};
 use apd_base::Moment;
 use apd_conf::Confs;
+use apd_control_port::ControlPort;
 use apd_desk::NoGate;
 use apd_disk::FileDisk;
 use apd_radio::{Radio, Recording, SocketFault, UdpSim};

@@ -2,9 +2,10 @@
 use crate::expect::expect;
 use crate::serving_tests::{NEVER, disk, world};
 use crate::talk::{AUTHENTICATED, AUTHENTICATION, RADIO, free_ports};
+use apd_control_port::ControlPort;
 use apd_desk::NoGate;
 use apd_radio::{Datagrams, UdpSim};
-use apd_serve::{ControlPort, SystemClock, serve};
+use apd_serve::{SystemClock, serve};
 use libc::net::{SO_RCVBUF, SOL_SOCKET, getsockopt};
 use log::Log;
 use std::alloc::Global;

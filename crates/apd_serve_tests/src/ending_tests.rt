@@ -9,11 +9,12 @@ use crate::talk::{
     free_ports,
 };
 use apd_base::{Addr, Bssid, Moment};
+use apd_control_port::ControlPort;
 use apd_core::Input;
 use apd_desk::NoGate;
 use apd_disk::{MemDisk, OnceDisk};
 use apd_radio::{Radio, UdpSim};
-use apd_serve::{ControlPort, serve};
+use apd_serve::serve;
 use apd_world::{Step, World};
 use log::Log;
 use std::alloc::Global;

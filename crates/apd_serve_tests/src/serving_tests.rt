@@ -7,10 +7,11 @@ use crate::talk::{
 };
 use apd_base::Moment;
 use apd_conf::{AddressList, Conf, Confs, read_list};
+use apd_control_port::ControlPort;
 use apd_desk::{Clock, Gate, NoGate};
 use apd_disk::{MemDisk, OnceDisk};
 use apd_radio::{Radio, UdpSim};
-use apd_serve::{ControlPort, ServeFault, SystemClock, serve};
+use apd_serve::{ServeFault, SystemClock, serve};
 use apd_slot::Slot;
 use apd_store::{StoreFault, format};
 use apd_world::{World, restart};

@@ -1,5 +1,5 @@
 //! How a session begins: a device, its configurations, and the world of its store.
-use crate::ending::{say_left, say_slots};
+use crate::ending::{say_left, say_left_behind, say_slots};
 use crate::images::{blank_disk, disk_with_stations, old_disk};
 use crate::saying::{say, say_again, say_refusal};
 use crate::world::{Memory, is_short};
@@ -135,12 +135,32 @@ fn try_again(
     try_once(rt, alloc, disk, confs, slots)
 }
 
-/// Says why a restart is refused, what the slots have that came back, and what its device shows.
+/// Says why a restart is refused, and what the slots have that came back.
+fn say_fault(rt: &impl Print, fault: WorldFault, slots: &[Slot<Sim>]) -> io::Result<()> {
+    writeln!(io::writer(rt), "{fault}")?;
+    say_slots(rt, slots)
+}
+
+/// The same, and what its device shows.
 fn say_refused(rt: &impl Print, alloc: Global, refused: Refused) -> io::Result<()> {
     let (disk, slots, fault) = refused;
-    writeln!(io::writer(rt), "{fault}")?;
-    say_slots(rt, &slots)?;
-    say_left(rt, alloc, disk)
+    let said = say_fault(rt, fault, &slots);
+    drop(slots);
+    say_left_behind(rt, alloc, said, disk)
+}
+
+/// With new slots, once more where it lacked memory.
+fn try_or_retry(
+    rt: &impl Print,
+    alloc: Global,
+    disk: MemDisk,
+    confs: &Confs,
+) -> io::Result<Result<Memory, Refused>> {
+    let slots = slots(rt, alloc, confs)?;
+    match try_once(rt, alloc, disk, confs, slots)? {
+        Err(refused) => try_again(rt, alloc, confs, refused),
+        begun => Ok(begun),
+    }
 }
 
 /// The world of the store that a device holds; none where it is refused, as where a call of it failed, and the session
@@ -151,12 +171,7 @@ pub fn begin(
     disk: MemDisk,
     confs: &Confs,
 ) -> io::Result<Option<Memory>> {
-    let slots = slots(rt, alloc, confs)?;
-    let begun = match try_once(rt, alloc, disk, confs, slots)? {
-        Err(refused) => try_again(rt, alloc, confs, refused)?,
-        begun => begun,
-    };
-    match begun {
+    match try_or_retry(rt, alloc, disk, confs)? {
         Ok(world) => Ok(Some(world)),
         Err(refused) => {
             say_refused(rt, alloc, refused)?;

@@ -36,23 +36,37 @@ pub fn say_calls(rt: &impl Print, calls: &[Call]) -> io::Result<()> {
     Ok(())
 }
 
-/// Says what a device shows, and which calls it has served, the recovery's too. Where it fails in the recovery, or that
-/// lacks memory, it is recovered once more.
-pub fn say_left(rt: &impl Print, alloc: Global, disk: MemDisk) -> io::Result<()> {
-    let (disk, found) = match recover_table(alloc, disk) {
+/// The same, once more where the device fails in it, or it lacks memory.
+fn recover_or_retry(
+    rt: &impl Print,
+    alloc: Global,
+    disk: MemDisk,
+) -> io::Result<(MemDisk, Result<Table, StoreFault>)> {
+    match recover_table(alloc, disk) {
         (disk, Err(StoreFault::NoMemory)) => {
             say_again(rt, "recover")?;
-            recover_table(alloc, disk)
+            Ok(recover_table(alloc, disk))
         }
         (disk, Err(StoreFault::Device)) => {
             say_refusal(rt, StoreFault::Device)?;
-            recover_table(alloc, disk)
+            Ok(recover_table(alloc, disk))
         }
-        recovered => recovered,
-    };
+        recovered => Ok(recovered),
+    }
+}
+
+/// Says what a recovery found, and these calls.
+fn say_found(rt: &impl Print, found: &Result<Table, StoreFault>, calls: &[Call]) -> io::Result<()> {
     say(rt, "left:")?;
-    say_shown(rt, &found)?;
-    say_calls(rt, disk.calls())
+    say_shown(rt, found)?;
+    say_calls(rt, calls)
+}
+
+/// Says what a device shows, and which calls it has served, the recovery's too. Where it fails in the recovery, or that
+/// lacks memory, it is recovered once more.
+pub fn say_left(rt: &impl Print, alloc: Global, disk: MemDisk) -> io::Result<()> {
+    let (disk, found) = recover_or_retry(rt, alloc, disk)?;
+    say_found(rt, &found, disk.calls())
 }
 
 /// Says whether a slot wants a station, and whether its radio has it: the identifiers.
@@ -87,13 +101,34 @@ fn parts(world: Memory) -> (MemDisk, u64, bool, Vec<Slot<Sim>>) {
     )
 }
 
+/// Says how many entries are settled and what the slots have.
+fn say_settled(rt: &impl Print, number: u64, all: bool, slots: &[Slot<Sim>]) -> io::Result<()> {
+    writeln!(io::writer(rt), "settled: {number}, all {all}")?;
+    say_slots(rt, slots)
+}
+
+/// Says what a device shows behind what was said before, if that could be printed.
+pub fn say_left_behind(
+    rt: &impl Print,
+    alloc: Global,
+    said: io::Result<()>,
+    disk: MemDisk,
+) -> io::Result<()> {
+    match said {
+        Ok(()) => say_left(rt, alloc, disk),
+        Err(error) => Err(error),
+    }
+}
+
 /// Ends a session: says how many entries are settled and what the slots have, but where a call of the device failed;
 /// what the device shows, and which calls it has served.
 pub fn end(rt: &impl Print, alloc: Global, world: Memory, calls: Calls) -> io::Result<()> {
     let (disk, number, all, slots) = parts(world);
-    if !calls.failed {
-        writeln!(io::writer(rt), "settled: {number}, all {all}")?;
-        say_slots(rt, &slots)?;
-    }
-    say_left(rt, alloc, disk)
+    let said = if calls.failed {
+        Ok(())
+    } else {
+        say_settled(rt, number, all, &slots)
+    };
+    drop(slots);
+    say_left_behind(rt, alloc, said, disk)
 }

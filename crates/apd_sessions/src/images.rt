@@ -45,6 +45,23 @@ fn pad(bytes: &mut Vec<u8>, length: usize) -> Result<(), AllocError> {
     bytes.resize(length, 0)
 }
 
+/// Adds what a device has that begins so.
+fn add_store(
+    bytes: &mut Vec<u8>,
+    mark: &[u8],
+    snapshot: &[u8],
+    groups: &[u8],
+) -> Result<(), AllocError> {
+    bytes.extend_from_slice(mark)?;
+    pad(bytes, HALF_A)?;
+    bytes.extend_from_slice(&[1, 1, 0, 0, 0, 0, 0, 0, 0])?;
+    let length = u32::try_from(snapshot.len()).unwrap_or(0);
+    bytes.extend_from_slice(&length.to_le_bytes())?;
+    bytes.extend_from_slice(snapshot)?;
+    bytes.extend_from_slice(groups)?;
+    pad(bytes, DEVICE_LENGTH as usize)
+}
+
 /// A device that begins with a mark, and whose half A, open and of epoch 1, has a snapshot of these records, and these
 /// groups behind it.
 fn disk_of(
@@ -54,15 +71,10 @@ fn disk_of(
     groups: &[u8],
 ) -> Result<MemDisk, AllocError> {
     let mut bytes = Vec::with_capacity(alloc, DEVICE_LENGTH as usize)?;
-    bytes.extend_from_slice(mark)?;
-    pad(&mut bytes, HALF_A)?;
-    bytes.extend_from_slice(&[1, 1, 0, 0, 0, 0, 0, 0, 0])?;
-    let length = u32::try_from(snapshot.len()).unwrap_or(0);
-    bytes.extend_from_slice(&length.to_le_bytes())?;
-    bytes.extend_from_slice(snapshot)?;
-    bytes.extend_from_slice(groups)?;
-    pad(&mut bytes, DEVICE_LENGTH as usize)?;
-    MemDisk::new(alloc, bytes)
+    match add_store(&mut bytes, mark, snapshot, groups) {
+        Ok(()) => MemDisk::new(alloc, bytes),
+        Err(error) => Err(error),
+    }
 }
 
 /// A device of a store with stations at two radios.

@@ -132,14 +132,20 @@ fn of_two_radios<R: Print + Files<File = File> + AllocGlobal>(rt: &R) -> io::Res
     }
 }
 
+/// Each interface is started by one call.
+fn start_all(rt: &impl Print, world: &mut Memory) -> io::Result<Calls> {
+    let mut calls = NONE;
+    say_table(rt, world.table())?;
+    start(rt, world, &mut calls)?;
+    Ok(calls)
+}
+
 /// The world of the store that a device holds is started by one call.
 fn start_on(rt: &impl Print, alloc: Global, disk: MemDisk, confs: &Confs) -> io::Result<()> {
     let Some(mut world) = begin(rt, alloc, disk, confs)? else {
         return Ok(());
     };
-    let mut calls = NONE;
-    say_table(rt, world.table())?;
-    start(rt, &mut world, &mut calls)?;
+    let calls = start_all(rt, &mut world)?;
     end(rt, alloc, world, calls)
 }
 

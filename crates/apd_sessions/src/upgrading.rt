@@ -3,7 +3,7 @@ use crate::beginning::{blank_device, old_store};
 use crate::ending::{say_calls, say_left};
 use crate::saying::{say, say_again};
 use apd_disk::{Call, MemDisk};
-use apd_script::{UpgradeFault, run_upgrade};
+use apd_maintenance::{UpgradeFault, run_upgrade};
 use apd_store::StoreFault;
 use std::alloc::Global;
 use std::io::{self, Write};
@@ -64,21 +64,39 @@ fn say_write(rt: &impl Print, device: &MemDisk) -> io::Result<()> {
     Ok(())
 }
 
+/// Says what a copy came to, and which calls it took of the old device.
+fn say_copied(
+    rt: &impl Print,
+    old: &MemDisk,
+    fault: Option<UpgradeFault>,
+    text: &[u8],
+) -> io::Result<()> {
+    say_write(rt, old)?;
+    match fault {
+        Some(fault) => writeln!(io::writer(rt), "{fault}")?,
+        None => io::writer(rt).write_all(text)?,
+    }
+    say(rt, "old:")?;
+    say_calls(rt, old.calls())
+}
+
+/// Copies, says what that came to, and gives the new device.
+fn copy_and_say(rt: &impl Print, alloc: Global, old: MemDisk, new: MemDisk) -> io::Result<MemDisk> {
+    let mut text = Vec::new(alloc);
+    let first = copy_store(alloc, old, new, &mut text);
+    let (old, new, fault) = copy_store_again(rt, alloc, &mut text, first)?;
+    match say_copied(rt, &old, fault, text.as_slice()) {
+        Ok(()) => Ok(new),
+        Err(error) => Err(error),
+    }
+}
+
 /// Copies a store of version 1, and says which calls that takes of it, what the new device shows, and which calls that
 /// has served, also where a call of a device failed.
 pub fn upgrade(rt: &impl Print, alloc: Global) -> io::Result<()> {
     let old = old_store(rt, alloc)?;
     let new = blank_device(rt, alloc)?;
     say(rt, "no store")?;
-    let mut text = Vec::new(alloc);
-    let first = copy_store(alloc, old, new, &mut text);
-    let (old, new, fault) = copy_store_again(rt, alloc, &mut text, first)?;
-    say_write(rt, &old)?;
-    match fault {
-        Some(fault) => writeln!(io::writer(rt), "{fault}")?,
-        None => io::writer(rt).write_all(text.as_slice())?,
-    }
-    say(rt, "old:")?;
-    say_calls(rt, old.calls())?;
+    let new = copy_and_say(rt, alloc, old, new)?;
     say_left(rt, alloc, new)
 }

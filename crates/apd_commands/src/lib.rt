@@ -1,0 +1,26 @@
+//! The command line of `apd`: its subcommands, what each does, and what is told at its end. The program is
+//! `run_program`; what else is public is what it is made of, for tests.
+#![tactic(auto)]
+
+mod checking;
+mod command_line;
+mod fault;
+mod formatting;
+mod host;
+mod program;
+mod running;
+mod scripting;
+mod streams;
+mod telling;
+mod upgrading;
+
+pub use checking::check_and_print;
+pub use command_line::{command, no_text};
+pub use fault::ProgramFault;
+pub use host::Host;
+pub use program::run_program;
+pub use running::{RunningFault, run_and_log};
+pub use scripting::run_script_of_input;
+pub use streams::hold_closed_streams;
+pub use telling::tell;
+pub use upgrading::upgrade_and_print;

@@ -1,0 +1,47 @@
+//! A device that is made a store: `apd format STORE`.
+ghost use Rattle.std.specs.Prelude.{IfErr, IfOk};
+ghost use Rattle.apd_maintenance.specs.Formatting.{IsHonestlyNewStore, IsHonestlyNotTold, IsNewStore, IsNotTold};
+
+use apd_disk::Disk;
+use apd_store::{StoreFault, format};
+use std::alloc::Global;
+use std::io::Write;
+use thiserror::Error;
+
+/// Why no new store is told of.
+#[derive(Clone, Copy, Debug, PartialEq, Eq, Error)]
+pub enum FormatFault {
+    /// The device is refused, or it failed.
+    #[error("{0}")]
+    Store(StoreFault),
+    /// It is a store of the empty table, and this can't be printed.
+    #[error("writer fault")]
+    Writer,
+}
+
+/// Makes a device a store of the empty table, whatever it held, and prints `formatted`. A stop within it leaves an
+/// image that `apd_store::format` may leave.
+///
+/// # Errors
+///
+/// With the device: `Store` as `apd_store::format` refuses, where nothing is printed; `Writer`, where it was
+/// made the store.
+pub fn run_format<D: Disk, W: Write>(
+    alloc: Global,
+    device: D,
+    writer: &mut W,
+) -> Result<D, (D, FormatFault)>
+    ensures made { IfOk result (λ made. IsNewStore D.model device made) }
+    ensures made_honest { D.model.honest device → IfOk result (λ made. IsHonestlyNewStore D.model device made) }
+    ensures refused { IfErr result (λ e. IsNotTold D.model device e.0 e.1) }
+    ensures refused_honest { D.model.honest device → IfErr result (λ e. IsHonestlyNotTold D.model device e.0 e.1) }
+{
+    let device = match format(alloc, device) {
+        Ok(store) => store.into_device(),
+        Err((device, fault)) => return Err((device, FormatFault::Store(fault))),
+    };
+    match writer.write_all(b"formatted\n") {
+        Ok(()) => Ok(device),
+        Err(_) => Err((device, FormatFault::Writer)),
+    }
+}

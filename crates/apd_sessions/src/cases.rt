@@ -1,0 +1,99 @@
+//! Cases are run, and what each prints is compared.
+use crate::case::Case;
+use apd_conf::Confs;
+use apd_disk::MemDisk;
+use apd_script::{ScriptFault, new_store, read_configurations, run_on_store};
+use std::alloc::Global;
+use std::fs::{self, File};
+use std::io::{self, Write};
+use std::rt::Files;
+
+/// Runs a script on a store, and tells why it ended where it didn't end well.
+fn fault_of(
+    alloc: Global,
+    disk: MemDisk,
+    confs: Confs,
+    script: &[u8],
+    out: &mut Vec<u8>,
+) -> Option<ScriptFault> {
+    match run_on_store(alloc, disk, confs, script, out) {
+        Ok(_world) => None,
+        Err(fault) => Some(fault),
+    }
+}
+
+/// What a script prints on a new store, and why it ended where it didn't end well.
+fn run(alloc: Global, confs: Confs, script: &[u8]) -> io::Result<Vec<u8>> {
+    let mut out = Vec::new(alloc);
+    let fault = match new_store(alloc) {
+        Ok(disk) => fault_of(alloc, disk, confs, script, &mut out),
+        Err(fault) => Some(fault),
+    };
+    if let Some(fault) = fault {
+        writeln!(out, "! {fault}")?;
+    }
+    Ok(out)
+}
+
+/// What a case prints.
+fn output_of<R: Files<File = File> + AllocGlobal>(rt: &R, case: &Case<'_>) -> io::Result<Vec<u8>> {
+    match read_configurations(rt, case.files.as_slice()) {
+        Ok(confs) => run(rt.alloc(), confs, case.script.as_bytes()),
+        Err(fault) => {
+            let text = format!(in rt.alloc(); "! {fault}\n")?;
+            Ok(text.into_bytes())
+        }
+    }
+}
+
+/// Runs a case, prints its title and whether it printed what it should, and else what it did; and tells whether.
+fn print_case<R: Print + Files<File = File> + AllocGlobal>(
+    rt: &R,
+    case: &Case<'_>,
+) -> io::Result<bool> {
+    let told = output_of(rt, case)?;
+    let holds = told.as_slice() == case.wanted.as_bytes();
+    if holds {
+        writeln!(io::writer(rt), "  {}", case.title)?;
+    } else {
+        writeln!(io::writer(rt), "  DIFFERS: {}", case.title)?;
+        io::writer(rt).write_all(told.as_slice())?;
+    }
+    Ok(holds)
+}
+
+/// Runs a case if there is one, and tells whether it printed what it should.
+fn run_case<R: Print + Files<File = File> + AllocGlobal>(
+    rt: &R,
+    case: Option<Case<'_>>,
+) -> io::Result<bool> {
+    match case {
+        Some(case) => print_case(rt, &case),
+        None => Ok(true),
+    }
+}
+
+/// Runs the cases of a text, and tells whether each printed what it should.
+fn all_hold<R: Print + Files<File = File> + AllocGlobal>(rt: &R, text: &str) -> io::Result<bool> {
+    let mut all = true;
+    let mut case = None;
+    for line in text.lines() {
+        if let Some(title) = line.strip_prefix("= ") {
+            let before = case.replace(Case::new(rt.alloc(), title));
+            all &= run_case(rt, before)?;
+        } else if let Some(case) = &mut case {
+            case.read(line)?;
+        }
+    }
+    Ok(run_case(rt, case)? && all)
+}
+
+/// Runs the cases of the file of this name, and tells whether each printed what it should.
+pub fn run_cases<R: Print + Files<File = File> + AllocGlobal>(
+    rt: &R,
+    name: &str,
+) -> io::Result<bool> {
+    let text = fs::read_to_string(rt, name)?;
+    writeln!(io::writer(rt), "{name}:")?;
+    all_hold(rt, text.as_str())
+}
