@@ -1,5 +1,5 @@
-//! Tests of the core by its public calls alone: here they are proved once, and the core is not proved twice for
-//! them.
+//! Tests of the core, and of a store below it that goes on in its other half, by public calls alone: here they are
+//! proved once, and no other crate is proved twice for them.
 #![tactic(auto)]
 
 #[cfg(test)]
@@ -9,8 +9,18 @@ mod crowd;
 #[cfg(test)]
 mod entry_tests;
 #[cfg(test)]
+mod fault_tests;
+#[cfg(test)]
+mod half_tests;
+#[cfg(test)]
+mod halves;
+#[cfg(test)]
 mod plain_tests;
 #[cfg(test)]
 mod silence_tests;
 #[cfg(test)]
+mod snapshot_tests;
+#[cfg(test)]
 mod steps;
+#[cfg(test)]
+mod stop_tests;

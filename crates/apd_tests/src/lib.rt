@@ -1,5 +1,5 @@
-//! Tests of the other crates by their public calls alone, a module a subject: here they are proved once, and
-//! no other crate is proved twice for them.
+//! Tests of the other crates by their public calls alone, a module a subject, and with bytes that mean harm: here they
+//! are proved once, and no other crate is proved twice for them.
 #![tactic(auto)]
 
 #[cfg(test)]
@@ -15,9 +15,17 @@ mod control_tests;
 #[cfg(test)]
 mod cursor_tests;
 #[cfg(test)]
+mod cut_frame_tests;
+#[cfg(test)]
+mod drawn_tests;
+#[cfg(test)]
 mod expect;
 #[cfg(test)]
 mod frame_tests;
+#[cfg(test)]
+mod generator;
+#[cfg(test)]
+mod good;
 #[cfg(test)]
 mod indexed_tests;
 #[cfg(test)]

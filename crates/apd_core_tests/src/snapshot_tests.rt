@@ -1,5 +1,5 @@
 //! Snapshots: the greatest, and one of changes in another order.
-use crate::common::{
+use crate::halves::{
     HALF, HALF_B, RADIO, add_group, device, flusher_of, front_of, full, load_and_turn, pad,
     recover_store,
 };

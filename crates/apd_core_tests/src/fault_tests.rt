@@ -1,5 +1,5 @@
 //! Calls of a switch that fail, and an epoch that has no next one.
-use crate::common::{AUTHENTICATED, POLICY, both_open, device, flusher, full, load_and_turn, show};
+use crate::halves::{AUTHENTICATED, POLICY, both_open, device, flusher, full, load_and_turn, show};
 use apd_disk::{Disk, MemDisk, OnceDisk, Torn};
 use apd_flusher::Flusher;
 use apd_journal::Batch;

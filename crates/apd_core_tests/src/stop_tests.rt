@@ -1,5 +1,5 @@
 //! A switch that is stopped.
-use crate::common::{both_open, one_open, show, switching};
+use crate::halves::{both_open, one_open, show, switching};
 use apd_disk::{MemDisk, Torn};
 use std::alloc::Global;
 

@@ -1,5 +1,5 @@
 //! The bytes of a switch, and what is shown where one of them is another.
-use crate::common::{HALF_A, HALF_B, both_open, show, switching};
+use crate::halves::{HALF_A, HALF_B, both_open, show, switching};
 use apd_disk::{Call, MemDisk};
 use std::alloc::Global;
 
