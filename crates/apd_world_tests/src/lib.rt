@@ -1,5 +1,6 @@
 //! Tests of the world by its public calls alone, over a device of memory: what no clause says of a run by an example.
-//! A test is a list of steps, what is left of the device, and what is found by who comes next.
+//! A test is a list of steps, what is left of the device, and what is found by who comes next. In `faults` each device
+//! call of whole sessions is stopped, and fails.
 #![tactic(auto)]
 
 #[cfg(test)]
@@ -12,6 +13,8 @@ mod driver_tests;
 mod expect;
 #[cfg(test)]
 mod failing_tests;
+#[cfg(test)]
+mod faults;
 #[cfg(test)]
 mod flush_tests;
 #[cfg(test)]

@@ -1,10 +1,10 @@
 //! Recoveries of which a call fails, and how many calls there are.
-use crate::calls::{confs, flusher, restart_world};
-use crate::cases::{RECOVERY, image_of};
-use crate::devices::{device_of, device_with, full_image, place_of, recover_device};
 use crate::expect::expect;
-use crate::expected::{Made, RECOVERS, behind};
-use crate::sessions::{Session, run, slots};
+use crate::faults::calls::{confs, flusher, restart_world};
+use crate::faults::cases::{RECOVERY, image_of};
+use crate::faults::devices::{device_of, device_with, full_image, place_of, recover_device};
+use crate::faults::expected::{Made, RECOVERS, behind};
+use crate::faults::sessions::{Session, run, slots};
 use apd_disk::{FuseDisk, MemDisk, OnceDisk, Torn};
 use apd_radio::Sim;
 use apd_slot::Slot;

@@ -1,8 +1,8 @@
 //! Calls that take memory and that no other test makes, where memory is ample.
-use crate::calls::{begin_world, commit_world, confs, new_slots, recover_store, tell};
-use crate::devices::{new_device, place_of};
 use crate::expect::expect;
-use crate::sessions::{AUTHENTICATES, starts, world};
+use crate::faults::calls::{begin_world, commit_world, confs, new_slots, recover_store, tell};
+use crate::faults::devices::{new_device, place_of};
+use crate::faults::sessions::{AUTHENTICATES, starts, world};
 use apd_base::{Addr, Bssid};
 use apd_conf::Confs;
 use apd_disk::Disk;

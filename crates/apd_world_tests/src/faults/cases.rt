@@ -1,8 +1,8 @@
 //! Sessions in which the call behind so many others fails, in rows: what is told, which calls are made of the device,
 //! and what is then found on it.
-use crate::devices::{device_of, full_image, new_image, recover_device, table_of};
-use crate::expected::{count_before_recovery, count_calls};
-use crate::sessions::{Behind, REFUSED, Seen, Session, run};
+use crate::faults::devices::{device_of, full_image, new_image, recover_device, table_of};
+use crate::faults::expected::{count_before_recovery, count_calls};
+use crate::faults::sessions::{Behind, REFUSED, Seen, Session, run};
 use apd_disk::{Disk, FuseDisk, MemDisk, OnceDisk, Torn};
 use std::alloc::Global;
 

@@ -1,8 +1,8 @@
 //! A full store of the greatest epoch: it refuses each batch, which waits, and nothing else has failed.
-use crate::calls::{flush_refusal, flusher, tell};
-use crate::devices::{device_with, full_image, table_of};
 use crate::expect::expect;
-use crate::sessions::{ASSOCIATES, Said, in_short, world};
+use crate::faults::calls::{flush_refusal, flusher, tell};
+use crate::faults::devices::{device_with, full_image, table_of};
+use crate::faults::sessions::{ASSOCIATES, Said, in_short, world};
 use apd_disk::{Disk, MemDisk};
 use apd_radio::Sim;
 use apd_store::StoreFault;

@@ -79,27 +79,14 @@
 //! | `write_reception` | `answers_are_printed_in_these_words`, `apd_script_tests` |
 //!
 //! `format`, `run_format` and all other calls of a store and of a flusher take none.
-#![tactic(auto)]
 
-#[cfg(test)]
 mod ample_tests;
-#[cfg(test)]
 mod calls;
-#[cfg(test)]
 mod cases;
-#[cfg(test)]
 mod devices;
-#[cfg(test)]
-mod expect;
-#[cfg(test)]
 mod expected;
-#[cfg(test)]
 mod fuse_each_call;
-#[cfg(test)]
 mod once_each_call;
-#[cfg(test)]
 mod recovery_tests;
-#[cfg(test)]
 mod sessions;
-#[cfg(test)]
 mod worn_tests;

@@ -1,8 +1,8 @@
 //! Each device call of a session fails once, in turn: it is not passed on, and the device is good again behind it. The
 //! flusher stays failed all the same. Then the very device is recovered; or it stops before that.
-use crate::cases::{Row, Way, otherwise};
 use crate::expect::expect;
-use crate::sessions::Session;
+use crate::faults::cases::{Row, Way, otherwise};
+use crate::faults::sessions::Session;
 use apd_disk::Torn;
 use std::process::Abort;
 

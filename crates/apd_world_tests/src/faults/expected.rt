@@ -1,6 +1,6 @@
 //! What is to be seen of a session, from the pages and the standard: what the radio is given, and each call of the
 //! device.
-use crate::sessions::{STATION, Session};
+use crate::faults::sessions::{STATION, Session};
 use apd_base::Addr;
 use apd_disk::Call;
 use apd_mlme::Out;

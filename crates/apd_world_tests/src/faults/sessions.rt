@@ -1,6 +1,6 @@
 //! Sessions of a world with one radio: requests, each of which is committed and handed out before the next.
-use crate::calls::{confs, flusher, load_refusal, restart_world, tell};
-use crate::expected::{is_given, out_at};
+use crate::faults::calls::{confs, flusher, load_refusal, restart_world, tell};
+use crate::faults::expected::{is_given, out_at};
 use apd_base::{Addr, Bssid, Moment};
 use apd_conf::AddressList;
 use apd_core::Input;

@@ -1,8 +1,8 @@
 //! Each device call of a session is the last one, in turn: it is passed on, and answered as failed. Then the device
 //! stops, and each byte that no sync has made durable is as it was, as it was written, or another one.
-use crate::cases::{Row, Way, otherwise};
 use crate::expect::expect;
-use crate::sessions::Session;
+use crate::faults::cases::{Row, Way, otherwise};
+use crate::faults::sessions::Session;
 use apd_disk::Torn;
 use std::process::Abort;
 

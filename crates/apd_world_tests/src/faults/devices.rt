@@ -1,5 +1,5 @@
 //! Devices of memory, and what they show.
-use crate::calls::{format_device, recover_store};
+use crate::faults::calls::{format_device, recover_store};
 use apd_disk::{Disk, MemDisk};
 use apd_record::write;
 use apd_store::StoreFault;
