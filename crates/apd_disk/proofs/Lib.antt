@@ -1,4 +1,5 @@
 pub mod Calls
 pub mod Crash
+pub mod FileCall
 pub mod Moments
 pub mod Parts

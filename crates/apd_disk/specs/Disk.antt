@@ -82,11 +82,11 @@ pub record LeavesOnly {D : Type 0} (disk : DiskModel D) (old new : D)
 
 -- ---- What one call does, on a disk of this kind: all of it but the length is said of an honest disk alone.
 module _ {D T E : Type 0} (disk : DiskModel D) (old new : D) (result : Result T E) where
-  -- a buffer that held something is filled with the bytes from a place on
+  -- A buffer that held something is filled with the bytes from a place on. A read alone may show that a disk isn't honest.
   pub record IsRead (at : ℕ) (before after : List ℕ) : Type 0 where
     pub length_stays : disk.size new ≡ disk.size old
-    pub stays_honest : disk.honest old ↔ disk.honest new
-    pub bytes : disk.honest old → OnOk result (after ≡ take (length before) (drop at (disk.reads old)))
+    pub was_honest : disk.honest new → disk.honest old
+    pub bytes : disk.honest new → OnOk result (after ≡ take (length before) (drop at (disk.reads old)))
     pub stays : disk.honest old → OnOk result (disk.reads new ≡ disk.reads old)
     pub stop : disk.honest old → Within (disk.left_since new (disk.moment old)) (disk.may_leave old)
     pub time : disk.honest old → Elapses (disk.moment old) (disk.moment new) (disk.left_since old) (disk.left_since new)

@@ -1,4 +1,9 @@
+pub mod DeviceFile
 pub mod Disk
 pub mod Faults
+pub mod FileCalls
+pub mod FileLaws
+pub mod FileModel
 pub mod Mem
 pub mod MemLaws
+pub mod SystemFile

@@ -74,7 +74,7 @@ impl<D: Disk> Disk for FuseDisk<D> {
             (sum_of (D.model.failed self.new.inner) self.new.failures) result }
         ensures call { IsRead D.model self.old.inner self.new.inner result at buf.old buf.new }
         ensures passed { FuseCall D.model self.old.inner self.new.inner self.old.passes self.new.passes result }
-        ensures passed_on { D.model.honest self.old.inner → self.old.passes ≡ Some 0
+        ensures passed_on { D.model.honest self.new.inner → self.old.passes ≡ Some 0
             → (buf.new ≡ take (length buf.old) (drop at (D.model.reads self.old.inner)))
             ⊎ HasRisen (D.model.failed self.old.inner) (D.model.failed self.new.inner) }
     {
