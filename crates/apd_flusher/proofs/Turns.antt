@@ -1,12 +1,15 @@
 -- What a stop shows of a flusher, and within one turn.
-use Rattle.std.proofs.Common.{◌≡◌, ◌≤◌, ◌+◌, ◌⊎◌, inl, inr, ⊎_elim, ℕ, List, refl, sym, ◌∙◌, ap, subst, arith}
+use Rattle.std.proofs.Common.{◌≡◌, ◌≢◌, ◌≤◌, ◌+◌, ◌⊎◌, inl, inr, ⊎_elim, ℕ, List, [], ◌∷◌, refl, sym, ◌∙◌, ap, subst, arith}
 use Rattle.std.specs.Prelude.{◌↔◌, Result, Ok, Err, OnOk, OnErr, Option, Some, None, IsSome, OnSome}
 use Rattle.std.proofs.lemmas.Bool.{false≢true}
 use Rattle.apd_base.specs.State.{State}
+use Rattle.apd_journal.specs.declared.batch.Batch.{Batch}
+use Rattle.apd_record.specs.Meaning.{meaning_of}
 use Rattle.apd_record.specs.declared.change.Change.{Change}
 use Rattle.apd_disk.specs.Disk.{LeavesOnly, DiskModel}
 use Rattle.apd_disk.proofs.Moments.{started}
 use Rattle.apd_table.specs.Staged.{StagedTables, alone}
+use Rattle.apd_store.specs.Beginning.{IsBegun}
 use Rattle.apd_store.specs.Image.{Shows}
 use Rattle.apd_store.specs.Commit.{AtPhase, IsIdle, IsCommitting, HasFailed, MayShow}
 use Rattle.apd_store.specs.Layout.{opposite}
@@ -17,8 +20,9 @@ use Rattle.apd_store.specs.declared.half.Half.{Half}
 use Rattle.apd_store.specs.declared.phase.Phase.{Phase as StorePhase}
 use Rattle.apd_store.specs.declared.phase.Phase.TheVariants.{Idle as StoreIdle, CloseOther, SyncClosed, WriteHalf, SyncHalf, OpenHalf, SyncOpened, WriteGroup, SyncGroup, OpenGate, SyncGate, Done as StoreDone, Failed as StoreFailed}
 use Rattle.apd_store.specs.declared.store.Store.{Store}
-use Rattle.apd_flusher.specs.Flushing.{IsSteady, IsFlushing, Stands, StopShows}
-use Rattle.apd_flusher.specs.Outside.{phase_of}
+use Rattle.apd_flusher.specs.Flushing.{IsSteady, IsFlushing, IsGood, Stands, StopShows}
+use Rattle.apd_flusher.specs.Loading.{IsLoaded}
+use Rattle.apd_flusher.specs.Outside.{flusher_device, next_of, phase_of, table_of}
 use Rattle.apd_flusher.specs.Phases.{phase_from}
 use Rattle.apd_flusher.specs.declared.flusher.Flusher.{Flusher}
 use Rattle.apd_flusher.specs.declared.phase.Phase.{Phase}
@@ -39,6 +43,37 @@ quiet_or_busy OpenGate = inr refl
 quiet_or_busy SyncGate = inr refl
 quiet_or_busy StoreDone = inl refl
 quiet_or_busy StoreFailed = inl refl
+
+-- it is busy where a call is left
+busy_of : (phase : StorePhase) → 1 ≤ calls_from phase → phase_from phase ≡ Busy
+busy_of phase some = ⊎_elim (λ none. absurd (omega (arith, some, none))) (λ busy. busy) (quiet_or_busy phase)
+
+-- a batch has no changes, or some
+pub empty_or_some : (changes : List Change) → (changes ≡ []) ⊎ (changes ≢ [])
+empty_or_some [] = inl refl
+empty_or_some (x ∷ changes) = inr (λ is. cc)
+
+-- the store began a batch, over the flusher's table
+pub loads : {D : Type 0} (disk : DiskModel D) (batch : Batch) (table : State) (old new : Flusher D) → IsBegun disk batch table old.store new.store
+    → IsGood batch.changes (table_of old) → table_of new ≡ table_of old → next_of new ≡ meaning_of batch.changes (table_of old)
+    → flusher_device new ≡ flusher_device old → IsLoaded batch old new
+loads disk batch table old new begun good stays next device = record {
+  was_idle = ap phase_from begun.was_idle;
+  done = λ empty. ap phase_from (begun.no_calls empty);
+  busy = λ some. busy_of new.store.phase (let calls = begun.some_calls some in omega (arith, calls.0));
+  some_calls = begun.some_calls;
+  four_calls = begun.four_calls;
+  batch_is = begun.batch_is;
+  device = device;
+  good = good;
+  lasts = begun.lasts;
+  table = stays;
+  next = next;
+}
+
+pub on_ok_as : {T E : Type 0} (r : Result T E) (A B : Type 0) → OnOk r A → (A → B) → OnOk r B
+on_ok_as (Ok t) A B a go = go a
+on_ok_as (Err e) A B a go = tt
 
 -- a switch is under way in one phase alone
 busy_at : (phase : StorePhase) (side : Half) (reserved half current bytes : List ℕ) (reads : List ℕ) (images : List ℕ → Type 0)
@@ -81,7 +116,9 @@ module _ {D : Type 0} (disk : DiskModel D) (flusher : Flusher D) (state after : 
   pub under_way : IsCommitting disk flusher.store state after → (phase_from flusher.store.phase ≡ Busy) ⊎ (flusher.store.phase ≡ StoreDone)
   under_way s = ⊎_elim
       (λ switching. inl (busy_at store.phase (opposite store.half) switching.reserved switching.other switching.half store.fresh.bytes (disk.reads store.device) (disk.may_leave store.device) switching.at))
-      (λ writing. busy_or_done store.phase store.half writing.reserved writing.half writing.other store.gate store.batch.changes (disk.reads store.device) (disk.may_leave store.device) writing.at) s
+      (⊎_elim
+      (λ writing. busy_or_done store.phase store.half writing.reserved writing.half writing.other store.gate store.batch.changes (disk.reads store.device) (disk.may_leave store.device) writing.at)
+      (λ none. inr none.phase)) s
 
   -- what the store tells of one image, as the flusher tells it
   pub shows : (c : List ℕ) → (IsIdle disk flusher.store state → Shows c state) → (IsCommitting disk flusher.store state after → MayShow (calls_from flusher.store.phase) state after c)
@@ -145,17 +182,19 @@ pub record Turned {D : Type 0} (disk : DiskModel D) (old now : Flusher D) : Type
   pub calls : disk.honest old.store.device → disk.moment now.store.device + calls_from now.store.phase ≤ disk.moment old.store.device + calls_from old.store.phase
   pub count : disk.failed now.store.device ≡ disk.failed old.store.device
   pub phase : (phase_of now ≡ Busy) ⊎ (phase_of now ≡ Done)
+  pub rest : phase_of old ≡ Done → now ≡ old
 
-pub turned_none : {D : Type 0} (disk : DiskModel D) (now : Flusher D) → phase_of now ≡ Busy
+pub turned_none : {D : Type 0} (disk : DiskModel D) (now : Flusher D) → (phase_of now ≡ Busy) ⊎ (phase_of now ≡ Done)
     → Turned disk now now
-turned_none disk now busy = record {
+turned_none disk now phase = record {
   flushing = λ state after h s. s;
   batch = refl;
   inside = λ i. i;
   stays = (λ h. h, λ h. h);
   calls = λ h. omega arith;
   count = refl;
-  phase = inl busy;
+  phase = phase;
+  rest = λ done. refl;
 }
 
 -- and one more
@@ -173,4 +212,5 @@ turned_more disk old now next turned busy on batch inside stays one step count p
   calls = λ h. omega (arith, turned.calls h, one (turned.stays.0 h), step);
   count = count ∙ turned.count;
   phase = phase;
+  rest = λ done. let no : Busy ≡ Done = sym busy ∙ ap phase_of (turned.rest done) ∙ done in absurd (cc);
 }

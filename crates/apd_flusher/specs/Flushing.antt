@@ -50,7 +50,7 @@ StopShows Failed calls state after image = Shows image state ⊎ Shows image aft
 abbrev pub IsGood : List Change → State → Type 0
 IsGood changes state = IsGroup changes × StaySound changes state
 
--- the group of these changes fits behind what is committed
+-- there are no changes, or their group fits behind what is committed
 abbrev pub HasRoom : {D : Type 0} → Flusher D → List Change → Type 0
 HasRoom flusher changes = StoreHasRoom flusher.store changes
 
@@ -69,7 +69,7 @@ pub record MayCommit {D : Type 0} (disk : DiskModel D) (flusher : Flusher D) (ch
 abbrev pub IsRefused : {D : Type 0} → DiskModel D → StoreFault → List Change → Flusher D → Flusher D → Type 0
 IsRefused disk store_fault.NotIdle changes old new = (phase_of old ≡ Busy) ⊎ (phase_of old ≡ Done)
 IsRefused disk store_fault.BadBatch changes old new = ¬ IsGood changes (table_of old)
--- its group doesn't fit, and no half can begin anew
+-- there is no room, and no half can begin anew
 IsRefused disk store_fault.Worn changes old new = (¬ HasRoom old changes) × (2 ^ 64 ≤ epoch_of old + 1)
 -- the device failed before
 IsRefused disk store_fault.Failed changes old new = IsInside disk old → phase_of old ≡ Failed

@@ -1,21 +1,24 @@
 -- A batch that a flusher takes, or refuses.
-use Rattle.std.specs.Prelude.{◌≡◌, ◌≤◌, ◌<◌, ◌+◌, ◌^◌, ◌⊎◌, ◌↔◌}
+use Rattle.std.specs.Prelude.{◌≡◌, ◌≢◌, ◌≤◌, ◌<◌, ◌+◌, ◌^◌, ◌⊎◌, ◌↔◌, []}
 use Rattle.apd_record.specs.Meaning.{meaning_of}
 use Rattle.apd_journal.specs.declared.batch.Batch.{Batch}
 use Rattle.apd_store.specs.declared.fault.StoreFault.{StoreFault}
 use Rattle.apd_store.specs.declared.fault.StoreFault.TheVariants as store_fault
 use Rattle.apd_flusher.specs.Flushing.{HasRoom, IsGood}
-use Rattle.apd_flusher.specs.Outside.{flusher_batch, calls_left, epoch_of, next_of, phase_of, store_of, table_of}
+use Rattle.apd_flusher.specs.Outside.{flusher_batch, flusher_device, calls_left, epoch_of, next_of, phase_of, store_of, table_of}
 use Rattle.apd_flusher.specs.declared.flusher.Flusher.{Flusher}
 use Rattle.apd_flusher.specs.declared.phase.Phase.TheVariants.{Busy, Done, Failed, Idle}
 
--- the flusher took the batch
+-- the flusher took the batch, without a device call
 pub record IsLoaded {D : Type 0} (batch : Batch) (old new : Flusher D) : Type 0 where
   pub was_idle : phase_of old ≡ Idle
-  pub busy : phase_of new ≡ Busy
-  pub some_calls : (4 ≤ calls_left new) × (calls_left new ≤ 10)
-  pub four_calls : HasRoom old batch.changes → calls_left new ≡ 4
+  -- a batch of no changes has no call: its receipt is there
+  pub done : batch.changes ≡ [] → phase_of new ≡ Done
+  pub busy : batch.changes ≢ [] → phase_of new ≡ Busy
+  pub some_calls : batch.changes ≢ [] → (4 ≤ calls_left new) × (calls_left new ≤ 10)
+  pub four_calls : batch.changes ≢ [] → HasRoom old batch.changes → calls_left new ≡ 4
   pub batch_is : flusher_batch new ≡ batch
+  pub device : flusher_device new ≡ flusher_device old
   pub good : IsGood batch.changes (table_of old)
   pub lasts : ¬ HasRoom old batch.changes → epoch_of old + 1 < 2 ^ 64
   pub table : table_of new ≡ table_of old

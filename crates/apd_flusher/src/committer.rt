@@ -143,8 +143,8 @@ impl<D: Disk> Committer<D> {
     }
 
     /// Tells a caller's proof what a stop now shows: the settled state, or that after the batch in flight; from the
-    /// last call of a batch on, if that succeeded, until its receipt is handed out, that after the batch. It does
-    /// nothing.
+    /// last call of a batch on, if that succeeded, until its receipt is handed out, that after the batch. (One of no
+    /// changes has no call: that after it, from its load on.) It does nothing.
     pub fn show_images(&self)
         ensures now { (s : State) (flight : Option Batch) (failed : Bool) → IsWhole D.model self.now s flight failed
             → IsImaged D.model self.now → (image : List ℕ)

@@ -1,6 +1,6 @@
 //! A store and the table of what it has committed: a batch is loaded, brought to the device call by call,
 //! and taken out as its receipt.
-ghost use Rattle.std.specs.Prelude.{◌≡◌, ◌≢◌, ◌↔◌, ◌≤◌, ◌<◌, ◌+◌, ◌^◌, ◌⊎◌, ℕ, List, IfOk, OnOk, IfErr, OnErr, IfSome, OnSome, IsSome, IsOk, IsErrOf, Err};
+ghost use Rattle.std.specs.Prelude.{◌≡◌, ◌≢◌, ◌↔◌, ◌≤◌, ◌<◌, ◌+◌, ◌^◌, ◌⊎◌, ℕ, List, [], IfOk, OnOk, IfErr, OnErr, IfSome, OnSome, IsSome, IsOk, IsErrOf, Err};
 ghost use Rattle.apd_base.specs.Failures.{HasRisen};
 ghost use Rattle.apd_base.specs.State.{State};
 ghost use Rattle.apd_record.specs.Meaning.{meaning_of};
@@ -85,12 +85,13 @@ impl<D: Disk> Flusher<D> {
     }
 
     /// Takes a batch, and makes its table and all bytes of its group; where the group does not fit, also those
-    /// of the other half, with a snapshot of the table before the batch. It makes no call of the device.
+    /// of the other half, with a snapshot of the table before the batch. It makes no call of the device. A batch
+    /// of no changes has no call, and the flusher is done at once.
     ///
     /// Errors, with the very batch, in this order: `Failed` in that phase; `NotIdle` in `Busy` and `Done`;
     /// `BadBatch` exactly where the records of the batch exceed 65,536 bytes, or a change leaves the table
-    /// unsound; `Worn` exactly where the group does not fit and the epoch is the greatest. `NoMemory` may come
-    /// in the place of the last two. A refusal leaves phase, table and device.
+    /// unsound; `Worn` exactly where there is no room for the group and the epoch is the greatest. `NoMemory` may
+    /// come in the place of the last two. A refusal leaves phase, table and device.
     pub fn load(&mut self, batch: Batch) -> Result<(), (Batch, StoreFault)>
         ensures flushing { (state : State) → IsSteady D.model self.old state
             → OnOk result (IsFlushing D.model self.new state (meaning_of batch.changes state)) }
@@ -153,8 +154,8 @@ impl<D: Disk> Flusher<D> {
         }
     }
 
-    /// The receipt of the batch whose last call succeeded, once; the flusher is then idle, and its table the
-    /// one after the batch. In another phase there is none, and nothing is done. It takes no memory.
+    /// The receipt of the batch whose last call succeeded, or which had none, once; the flusher is then idle, and
+    /// its table the one after the batch. In another phase there is none, and nothing is done. It takes no memory.
     pub fn unload(&mut self) -> Option<Receipt>
         ensures exactly { IsSome result ↔ (phase_of self.old ≡ Phase.Done) }
         ensures receipt { IfSome result (λ receipt. held_batch receipt ≡ flusher_batch self.old) }
@@ -193,7 +194,9 @@ impl<D: Disk> Flusher<D> {
         ensures honest { D.model.honest (flusher_device self.old) ↔ D.model.honest (flusher_device self.new) }
         ensures inside { IsInside D.model self.old → IsInside D.model self.new }
 
-        // Each turn is one call of the device at most: four where the group fits, and ten at most.
+        // Each turn is one call of the device at most: none of a batch of no changes, four where the group fits, and
+        // ten at most.
+        ensures no_calls { batch.changes ≡ [] → flusher_device self.new ≡ flusher_device self.old }
         ensures ten { D.model.honest (flusher_device self.old)
             → D.model.moment (flusher_device self.new) ≤ D.model.moment (flusher_device self.old) + 10 }
         ensures four { D.model.honest (flusher_device self.old) → HasRoom self.old batch.changes
@@ -208,7 +211,8 @@ impl<D: Disk> Flusher<D> {
 
     // Makes the calls that are left of a batch, one after another.
     fn make_calls(&mut self) -> Result<(), StoreFault>
-        requires { phase_of self.old ≡ Phase.Busy }
+        requires { (phase_of self.old ≡ Phase.Busy) ⊎ (phase_of self.old ≡ Phase.Done) }
+        ensures rest { phase_of self.old ≡ Phase.Done → self.new ≡ self.old }
         ensures on { (state after : State) → D.model.honest (flusher_device self.old)
             → IsFlushing D.model self.old state after
             → OnOk result (IsFlushing D.model self.new state after) }

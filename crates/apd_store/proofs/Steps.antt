@@ -1,11 +1,59 @@
 -- What a stop within each call of a batch shows.
-use Rattle.std.proofs.Common.{◌≡◌, ◌≤◌, ◌+◌, ◌-◌, inl, inr, ⊎_elim, ℕ, Bool, List, [], ◌∷◌, length, get_or, refl, sym, ◌∙◌, ap, subst, arith}
-use Rattle.apd_store.proofs.Words.{AreParts, AreTorn, AtPhase, Change, CloseOther, DiskModel, Done, Failed, Follows, HALF_LENGTH, Half, Idle, IsCurrent, IsFound, IsIdle, IsWriting, MayShow, Only, OpenGate, OpenHalf, Phase, Shows, State, Store, SyncClosed, SyncGate, SyncGroup, SyncHalf, SyncOpened, TornWithin, WriteGroup, WriteHalf, calls_from, cases_eq, image_of, length-planned, magic, planned_bytes, records_of, start_of, with_bytes, with_group, with_open_group}
+use Rattle.std.proofs.Common.{◌≡◌, ◌≤◌, ◌<◌, ◌+◌, ◌-◌, inl, inr, ⊎_elim, ℕ, Bool, List, [], ◌∷◌, length, get_or, refl, sym, ◌∙◌, ap, subst, arith}
+use Rattle.apd_store.proofs.Words.{AreParts, AreTorn, AtPhase, Change, CloseOther, DiskModel, Done, Failed, Follows, HALF_LENGTH, Half, Idle, IsCurrent, IsFound, IsIdle, IsWithoutCalls, IsWriting, MayShow, Only, OpenGate, OpenHalf, Phase, Shows, State, Store, SyncClosed, SyncGate, SyncGroup, SyncHalf, SyncOpened, TornWithin, WriteGroup, WriteHalf, calls_from, cases_eq, image_of, length-planned, magic, meaning_of, planned_bytes, records_of, start_of, with_bytes, with_group, with_open_group}
 use Rattle.apd_store.proofs.Parts.{written_in_half, torn_in_half}
 use Rattle.apd_store.proofs.Current.{image_shows, found_shows, same_parts, current_behind, laid_fits, laid_length, laid_current, opened_length, opened_current, opened_epoch, torn_gate, gate_before_end}
 
 pub idle_shows : {D : Type 0} (disk : DiskModel D) (store : Store D) (state : State) → IsIdle disk store state → (c : List ℕ) → disk.may_leave store.device c → Shows c state
 idle_shows disk store state s c left = subst (λ (l : List ℕ). Shows l state) (sym (s.durable c left)) (found_shows (disk.reads store.device) store.half store.epoch store.gate store.other_open state s.found)
+
+-- ---- a batch of no changes
+
+-- the place of the closed gate lies inside the half
+pub gate_inside : {image : List ℕ} {side : Half} {epoch gate : ℕ} {other_open : Bool} {state : State} → IsFound image side epoch gate other_open state → gate < HALF_LENGTH
+gate_inside {gate = gate} {state = state} f = omega (arith, gate_before_end f.half f.other gate state f.current, f.parts.half_length)
+
+pub none_begins : {D : Type 0} (disk : DiskModel D) (store : Store D) (now : Store D) (state : State) → IsIdle disk store state → now.batch.changes ≡ []
+    → now.device ≡ store.device → now.half ≡ store.half → now.epoch ≡ store.epoch → now.gate ≡ store.gate → now.other_open ≡ store.other_open → now.phase ≡ Done
+    → (store.gate < HALF_LENGTH → now.plan.place ≡ store.gate + 1) → now.plan.bytes ≡ [] → IsWithoutCalls disk now state (meaning_of now.batch.changes state)
+none_begins {D = D} disk store now state idle none device half epoch gate other phase place bytes = record {
+  found = subst (λ (d : D). IsFound (disk.reads d) now.half now.epoch now.gate now.other_open state) (sym device)
+      (subst (λ (h : Half). IsFound (disk.reads store.device) h now.epoch now.gate now.other_open state) (sym half)
+      (subst (λ (e : ℕ). IsFound (disk.reads store.device) store.half e now.gate now.other_open state) (sym epoch)
+      (subst (λ (p : ℕ). IsFound (disk.reads store.device) store.half store.epoch p now.other_open state) (sym gate)
+      (subst (λ (b : Bool). IsFound (disk.reads store.device) store.half store.epoch store.gate b state) (sym other) idle.found))));
+  durable = subst (λ (d : D). Only (disk.reads d) (disk.may_leave d)) (sym device) idle.durable;
+  phase = phase;
+  none = none;
+  after_is = sym (ap (λ (l : List Change). meaning_of l state) none);
+  place = omega (arith, place (gate_inside idle.found), gate);
+  bytes = bytes;
+}
+
+module _ {D : Type 0} (disk : DiskModel D) (store : Store D) (state after : State) (s : IsWithoutCalls disk store state after) where
+  pub at_rest_shows : (c : List ℕ) → disk.may_leave store.device c → Shows c state
+  at_rest_shows c left = subst (λ (l : List ℕ). Shows l state) (sym (s.durable c left)) (found_shows (disk.reads store.device) store.half store.epoch store.gate store.other_open state s.found)
+
+  pub at_rest_shows_after : (c : List ℕ) → disk.may_leave store.device c → Shows c after
+  at_rest_shows_after c left = subst (Shows c) s.after_is (at_rest_shows c left)
+
+  -- its receipt is taken
+  pub rests : (now : Store D) → now.device ≡ store.device → now.half ≡ store.half → now.epoch ≡ store.epoch → now.other_open ≡ store.other_open
+      → (store.plan.place + length store.plan.bytes ≤ HALF_LENGTH → now.gate ≡ store.plan.place + length store.plan.bytes - 1) → now.phase ≡ Idle → IsIdle disk now after
+  rests now device half epoch other gate phase =
+      let empty : length store.plan.bytes ≡ 0 = ap length s.bytes in
+      let reaches : store.plan.place + length store.plan.bytes ≤ HALF_LENGTH = omega (arith, s.place, empty, gate_inside s.found) in
+      let stays : now.gate ≡ store.gate = omega (arith, gate reaches, s.place, empty) in
+      record {
+        found = subst (λ (d : D). IsFound (disk.reads d) now.half now.epoch now.gate now.other_open after) (sym device)
+            (subst (λ (h : Half). IsFound (disk.reads store.device) h now.epoch now.gate now.other_open after) (sym half)
+            (subst (λ (e : ℕ). IsFound (disk.reads store.device) store.half e now.gate now.other_open after) (sym epoch)
+            (subst (λ (p : ℕ). IsFound (disk.reads store.device) store.half store.epoch p now.other_open after) (sym stays)
+            (subst (λ (b : Bool). IsFound (disk.reads store.device) store.half store.epoch store.gate b after) (sym other)
+            (subst (λ (z : State). IsFound (disk.reads store.device) store.half store.epoch store.gate store.other_open z) s.after_is s.found)))));
+        durable = subst (λ (d : D). Only (disk.reads d) (disk.may_leave d)) (sym device) s.durable;
+        phase = phase;
+      }
 
 module _ {D : Type 0} (disk : DiskModel D) (store : Store D) (state after : State) (s : IsWriting disk store state after) where
   abbrev group : List Change

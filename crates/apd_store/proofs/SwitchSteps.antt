@@ -1,12 +1,12 @@
 -- What a stop within each call of a switch shows, and how a switch goes on.
 use Rattle.std.proofs.Common.{◌≡◌, ◌≢◌, ◌≤◌, ◌<◌, ◌+◌, ◌-◌, ◌^◌, ◌⊎◌, inl, inr, ⊎_elim, ℕ, Bool, true, false, IsTrue, ◌↔◌, List, [], ◌∷◌, ◌++◌, length, get_or, take, refl, sym, ◌∙◌, ap, subst, arith, take-append-drop}
-use Rattle.apd_store.proofs.Words.{A, AreParts, AreTorn, AtPhase, AtSwitch, B, Change, CloseOther, DiskModel, Done, Failed, Follows, HALF_LENGTH, Half, HalfHolds, HasOpenGate, Idle, IsBehind, IsCommitting, IsCurrent, IsFound, IsGroup, IsIdle, IsOpen, IsSnapshot, IsSwitching, IsWriting, MayShow, Only, OpenGate, OpenHalf, Phase, Shows, State, StaySound, Store, SyncClosed, SyncGate, SyncGroup, SyncHalf, SyncOpened, TornWithin, WriteGroup, WriteHalf, begun_bytes, calls_from, canonical, cases_eq, false≢true, image_of, length-begun, length-with_bytes, magic, meaning_of, opposite, planned_bytes, records_of, start_of, torn_overwritten, with_bytes, with_closed_gate, with_open_snapshot, with_snapshot}
+use Rattle.apd_store.proofs.Words.{A, AreParts, AreTorn, AtPhase, AtSwitch, B, Change, CloseOther, DiskModel, Done, Failed, Follows, HALF_LENGTH, Half, HalfHolds, HasOpenGate, Idle, IsBehind, IsCommitting, IsCurrent, IsFound, IsGroup, IsIdle, IsOpen, IsSnapshot, IsSwitching, IsWithoutCalls, IsWriting, MayShow, Only, OpenGate, OpenHalf, Phase, Shows, State, StaySound, Store, SyncClosed, SyncGate, SyncGroup, SyncHalf, SyncOpened, TornWithin, WriteGroup, WriteHalf, begun_bytes, calls_from, canonical, cases_eq, false≢true, image_of, length-begun, length-with_bytes, magic, meaning_of, opposite, planned_bytes, records_of, start_of, torn_overwritten, with_bytes, with_closed_gate, with_open_snapshot, with_snapshot}
 use Rattle.apd_journal.specs.declared.batch.Batch.{Batch}
 use Rattle.apd_journal.specs.declared.batch.Plan.{Plan}
 use Rattle.apd_journal.proofs.Growth.{begun as begun_holds}
 use Rattle.apd_store.proofs.Current.{image_shows}
 use Rattle.apd_store.proofs.Parts.{written_in_half, torn_in_half}
-use Rattle.apd_store.proofs.Steps.{now_shows}
+use Rattle.apd_store.proofs.Steps.{at_rest_shows, now_shows}
 use Rattle.apd_store.proofs.Unique.{holds_open, open_once}
 
 -- ---- gates
@@ -383,33 +383,41 @@ group_calls SyncOpened side reserved half other gate group reads images at = abs
 group_calls Failed side reserved half other gate group reads images at = absurd at
 
 module _ {D : Type 0} (disk : DiskModel D) (store : Store D) (state after : State) where
-  -- a batch with four calls left or fewer writes its group, and one with more is switching
-  pub writes : calls_from store.phase ≤ 4 → IsCommitting disk store state after → IsWriting disk store state after
-  writes few s = ⊎_elim
+  -- a batch with no call left wrote its group or has no changes, one with up to four writes it, and one with more is switching
+  pub ends : calls_from store.phase ≤ 4 → IsCommitting disk store state after → IsWriting disk store state after ⊎ IsWithoutCalls disk store state after
+  ends few s = ⊎_elim
       (λ switching. absurd (omega (arith, few, switch_calls store.phase (opposite store.half) switching.reserved switching.other switching.half store.fresh.bytes (disk.reads store.device) (disk.may_leave store.device) switching.at)))
-      (λ writing. writing) s
+      (λ rest. rest) s
+
+  pub no_calls : IsWithoutCalls disk store state after → calls_from store.phase ≡ 0
+  no_calls none = ap calls_from none.phase
+
+  pub writes : 1 ≤ calls_from store.phase → calls_from store.phase ≤ 4 → IsCommitting disk store state after → IsWriting disk store state after
+  writes some few s = ⊎_elim (λ writing. writing) (λ none. absurd (omega (arith, some, no_calls none))) (ends few s)
 
   pub switches : 4 < calls_from store.phase → IsCommitting disk store state after → IsSwitching disk store state after
   switches many s = ⊎_elim
       (λ switching. switching)
-      (λ writing. absurd (omega (arith, many, group_calls store.phase store.half writing.reserved writing.half writing.other store.gate store.batch.changes (disk.reads store.device) (disk.may_leave store.device) writing.at))) s
+      (⊎_elim
+      (λ writing. absurd (omega (arith, many, group_calls store.phase store.half writing.reserved writing.half writing.other store.gate store.batch.changes (disk.reads store.device) (disk.may_leave store.device) writing.at)))
+      (λ none. absurd (omega (arith, many, no_calls none)))) s
 
   -- what a stop now shows
   pub committing_shows : IsCommitting disk store state after → (c : List ℕ) → disk.may_leave store.device c → MayShow (calls_from store.phase) state after c
   committing_shows s c left = ⊎_elim
       (λ switching. inl (switch_shows disk store state after switching c left))
-      (λ writing. now_shows disk store state after writing c left) s
+      (⊎_elim (λ writing. now_shows disk store state after writing c left) (λ none. inl (at_rest_shows disk store state after none c left))) s
 
 -- the calls of a switch, and those of a group
 many_at : (phase at : Phase) → 4 < calls_from at → phase ≡ at → 4 < calls_from phase
 many_at phase at many is = subst (λ (p : Phase). 4 < calls_from p) (sym is) many
 
-few_at : (phase at : Phase) → calls_from at ≤ 4 → phase ≡ at → calls_from phase ≤ 4
-few_at phase at few is = subst (λ (p : Phase). calls_from p ≤ 4) (sym is) few
+few_at : (phase at : Phase) → (1 ≤ calls_from at) × (calls_from at ≤ 4) → phase ≡ at → (1 ≤ calls_from phase) × (calls_from phase ≤ 4)
+few_at phase at few is = subst (λ (p : Phase). (1 ≤ calls_from p) × (calls_from p ≤ 4)) (sym is) few
 
 pub of_switch : (phase : Phase) → (phase ≡ CloseOther) ⊎ (phase ≡ SyncClosed) ⊎ (phase ≡ WriteHalf) ⊎ (phase ≡ SyncHalf) ⊎ (phase ≡ OpenHalf) ⊎ (phase ≡ SyncOpened) → 4 < calls_from phase
 of_switch phase is = ⊎_elim (many_at phase CloseOther (omega arith)) (⊎_elim (many_at phase SyncClosed (omega arith)) (⊎_elim (many_at phase WriteHalf (omega arith))
     (⊎_elim (many_at phase SyncHalf (omega arith)) (⊎_elim (many_at phase OpenHalf (omega arith)) (many_at phase SyncOpened (omega arith)))))) is
 
-pub of_group : (phase : Phase) → (phase ≡ WriteGroup) ⊎ (phase ≡ SyncGroup) ⊎ (phase ≡ OpenGate) ⊎ (phase ≡ SyncGate) → calls_from phase ≤ 4
-of_group phase is = ⊎_elim (few_at phase WriteGroup (omega arith)) (⊎_elim (few_at phase SyncGroup (omega arith)) (⊎_elim (few_at phase OpenGate (omega arith)) (few_at phase SyncGate (omega arith)))) is
+pub of_group : (phase : Phase) → (phase ≡ WriteGroup) ⊎ (phase ≡ SyncGroup) ⊎ (phase ≡ OpenGate) ⊎ (phase ≡ SyncGate) → (1 ≤ calls_from phase) × (calls_from phase ≤ 4)
+of_group phase is = ⊎_elim (few_at phase WriteGroup (omega arith, omega arith)) (⊎_elim (few_at phase SyncGroup (omega arith, omega arith)) (⊎_elim (few_at phase OpenGate (omega arith, omega arith)) (few_at phase SyncGate (omega arith, omega arith)))) is

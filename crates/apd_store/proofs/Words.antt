@@ -13,7 +13,7 @@ pub use Rattle.apd_record.specs.Ranges.{AreChanges}
 pub use Rattle.apd_record.specs.Record.{records_of}
 pub use Rattle.apd_record.specs.declared.change.Change.{Change}
 pub use Rattle.apd_record.specs.declared.change.Change.TheVariants.{Cursor, Drop, ListAdd, ListClear, ListDel, Policy, Put}
-pub use Rattle.apd_store.specs.Commit.{AtPhase, HasFailed, IsCommitting, IsIdle, IsWriting, MayShow, with_group, with_open_group}
+pub use Rattle.apd_store.specs.Commit.{AtPhase, HasFailed, IsCommitting, IsIdle, IsWithoutCalls, IsWriting, MayShow, with_group, with_open_group}
 pub use Rattle.apd_store.specs.Image.{HalfShows, HasNoCursor, HasOpenGate, IsBehind, IsCurrent, IsMarked, IsMarkedBy, IsMarkedOld, IsNoCursor, IsOpen, IsOverMark, IsStoreBy, MayBeMade, Shows, ShowsBy, ShowsNone, ShowsOld, current_changes, magic, marks, old_magic}
 pub use Rattle.apd_store.specs.Layout.{AreParts, AreTorn, BeginsBy, HalfShowsPlainly, HasZeroGate, IsFound, IsFoundBy, IsLaidOut, blank_mark, head_a, image_by, image_of, opposite, start_of}
 pub use Rattle.apd_store.specs.Phases.{calls_from}

@@ -72,10 +72,21 @@ pub record IsWriting {D : Type 0} (disk : DiskModel D) (store : Store D)
   pub at : AtPhase store.phase store.half reserved half other store.gate store.batch.changes (disk.reads store.device)
       (disk.may_leave store.device)
 
--- a batch is on its way from one state to the next: its switch, and then its group
+-- A batch of no changes is begun. It has no call and leaves the state, and the next group's gate is the closed one.
+pub record IsWithoutCalls {D : Type 0} (disk : DiskModel D) (store : Store D)
+    (state after : State) : Type 0 where
+  pub found : IsFound (disk.reads store.device) store.half store.epoch store.gate store.other_open state
+  pub durable : Only (disk.reads store.device) (disk.may_leave store.device)
+  pub phase : store.phase ≡ Done
+  pub none : store.batch.changes ≡ []
+  pub after_is : state ≡ after
+  pub place : store.plan.place ≡ store.gate + 1
+  pub bytes : store.plan.bytes ≡ []
+
+-- a batch is on its way from one state to the next: its switch, and then its group; or it has no changes
 abbrev pub IsCommitting : {D : Type 0} → DiskModel D → Store D → State → State → Type 0
 IsCommitting disk store state after =
-    IsSwitching disk store state after ⊎ IsWriting disk store state after
+    IsSwitching disk store state after ⊎ IsWriting disk store state after ⊎ IsWithoutCalls disk store state after
 
 -- what a stop may show within a call where as many calls of the batch are left, itself among them
 abbrev pub MayShow : ℕ → State → State → List ℕ → Type 0
@@ -88,5 +99,9 @@ pub record HasFailed {D : Type 0} (disk : DiskModel D) (store : Store D)
   pub shows : (c : List ℕ) → disk.may_leave store.device c → Shows c state ⊎ Shows c after
 
 -- the group of these changes fits behind the closed gate, with the next gate inside the half
+abbrev pub Fits : {D : Type 0} → Store D → List Change → Type 0
+Fits store changes = store.gate + length (records_of changes) + 6 ≤ HALF_LENGTH
+
+-- there is room for these changes: there are none, or their group fits
 abbrev pub HasRoom : {D : Type 0} → Store D → List Change → Type 0
-HasRoom store changes = store.gate + length (records_of changes) + 6 ≤ HALF_LENGTH
+HasRoom store changes = (changes ≡ []) ⊎ Fits store changes

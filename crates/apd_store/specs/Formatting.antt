@@ -19,7 +19,7 @@ pub record IsFormatted {D : Type 0} (disk : DiskModel D) (device : D)
   pub inside : IsInside disk store
   pub ready : phase_of store ≡ Idle
   pub count : disk.failed (store_device store) ≡ disk.failed device
-  pub stays_honest : disk.honest device ↔ disk.honest (store_device store)
+  pub was_honest : disk.honest (store_device store) → disk.honest device
 
 -- of the empty table, which alone a stop leaves from now on
 pub record IsHonestlyFormatted {D : Type 0} (disk : DiskModel D) (device : D) (store : Store D) : Type 0 where
@@ -36,7 +36,7 @@ pub record IsNotFormatted {D : Type 0} (disk : DiskModel D) (device left : D)
   pub untouched : fault ≡ NotAStore → left ≡ device
   pub device_failed : fault ≡ Device → HasRisen (disk.failed device) (disk.failed left)
   pub count : disk.failed device ≤ disk.failed left
-  pub stays_honest : disk.honest device ↔ disk.honest left
+  pub was_honest : disk.honest left → disk.honest device
 
 pub record IsHonestlyNotFormatted {D : Type 0} (disk : DiskModel D) (device left : D) : Type 0 where
   pub any_moment : LeavesOnly disk device left (MayBeMade empty_state (disk.may_leave device))

@@ -1,10 +1,11 @@
 -- What a recovery finds on a device, and what it leaves of it. What is so of an honest device alone stands in records
 -- of its own.
-use Rattle.std.specs.Prelude.{◌≡◌, ◌≢◌, ◌≤◌, ◌+◌, ◌↔◌, ◌⊎◌, ℕ, List}
+use Rattle.std.specs.Prelude.{◌≡◌, ◌≢◌, ◌≤◌, ◌+◌, ◌⊎◌, ℕ, List, Result, Err}
 use Rattle.apd_base.specs.declared.limits.TheConstants.{DEVICE_LENGTH}
 use Rattle.apd_base.specs.Failures.{HasRisen}
 use Rattle.apd_base.specs.State.{State}
-use Rattle.apd_disk.specs.Disk.{Only, LeavesOnly, DiskModel}
+use Rattle.apd_disk.specs.Disk.{Only, IsSynced, LeavesOnly, DiskModel}
+use Rattle.apd_disk.specs.declared.fault.DiskFault.{DiskFault}
 use Rattle.apd_store.specs.Commit.{IsIdle}
 use Rattle.apd_store.specs.Image.{IsMarked, IsMarkedOld, Shows, ShowsNone}
 use Rattle.apd_store.specs.Outside.{store_device, phase_of, IsInside}
@@ -20,7 +21,7 @@ pub record IsRecovered {D : Type 0} (disk : DiskModel D) (device : D)
   pub inside : IsInside disk store
   pub ready : phase_of store ≡ Idle
   pub count : disk.failed (store_device store) ≡ disk.failed device
-  pub stays_honest : disk.honest device ↔ disk.honest (store_device store)
+  pub was_honest : disk.honest (store_device store) → disk.honest device
 
 -- and its bytes show this state, which they did before
 pub record IsHonestlyRecovered {D : Type 0} (disk : DiskModel D) (device : D) (store : Store D) (state : State) : Type 0 where
@@ -30,6 +31,13 @@ pub record IsHonestlyRecovered {D : Type 0} (disk : DiskModel D) (device : D) (s
   pub any_moment : LeavesOnly disk device (store_device store) (disk.may_leave device)
   pub calls : disk.moment (store_device store) ≤ disk.moment device + 2
 
+-- the device was asked for one sync, which failed, and for nothing else
+pub record HasFailedToSync {D : Type 0} (disk : DiskModel D) (device left : D) : Type 0 where
+  pub fault : DiskFault
+  pub answer : Result (Unit {0}) DiskFault
+  pub failed : answer ≡ Err fault
+  pub asked : IsSynced disk device left answer
+
 -- the device is handed back, with this fault
 pub record IsNotRecovered {D : Type 0} (disk : DiskModel D) (device left : D)
     (fault : StoreFault) : Type 0 where
@@ -38,14 +46,15 @@ pub record IsNotRecovered {D : Type 0} (disk : DiskModel D) (device left : D)
   pub device_failed : fault ≡ Device → HasRisen (disk.failed device) (disk.failed left)
   pub no_fault : fault ≢ Device → disk.failed left ≡ disk.failed device
   pub count : disk.failed device ≤ disk.failed left
-  pub stays_honest : disk.honest device ↔ disk.honest left
+  pub was_honest : disk.honest left → disk.honest device
 
 -- and its bytes show why
 pub record IsHonestlyNotRecovered {D : Type 0} (disk : DiskModel D) (device left : D) (fault : StoreFault) : Type 0 where
   pub not_a_store : fault ≡ NotAStore → (¬ IsMarked (disk.reads device)) × (¬ IsMarkedOld (disk.reads device))
   pub old_version : fault ≡ OldVersion → IsMarkedOld (disk.reads device)
   pub damaged : fault ≡ Damaged → IsMarked (disk.reads device) × ShowsNone (disk.reads device)
-  pub durable : fault ≢ Device → Only (disk.reads device) (disk.may_leave left)
+  -- a stop leaves what was shown, also where the read failed: it came behind a sync that succeeded
+  pub durable : Only (disk.reads device) (disk.may_leave left) ⊎ ((fault ≡ Device) × HasFailedToSync disk device left)
   pub stays : fault ≢ Device → disk.reads left ≡ disk.reads device
   -- where a stop left one image before, as after a sync, it leaves that one
   pub still : (image : List ℕ) → Only image (disk.may_leave device) → Only image (disk.may_leave left) × (disk.reads left ≡ image)

@@ -1,6 +1,6 @@
 -- What the copying of a store of version 1 leaves of the device that is read, the old one, and of the one that is made,
 -- the new one. What is so of honest devices alone stands in records of its own.
-use Rattle.std.specs.Prelude.{◌≡◌, ◌≢◌, ◌≤◌, ◌+◌, ◌↔◌, ◌⊎◌, ℕ, List, Some}
+use Rattle.std.specs.Prelude.{◌≡◌, ◌≢◌, ◌≤◌, ◌+◌, ◌⊎◌, ℕ, List, Some}
 use Rattle.apd_base.specs.declared.address.Bssid.{Bssid}
 use Rattle.apd_base.specs.declared.limits.TheConstants.{DEVICE_LENGTH}
 use Rattle.apd_base.specs.declared.station.StationNumber.{StationNumber}
@@ -10,6 +10,7 @@ use Rattle.apd_disk.specs.Disk.{Only, LeavesOnly, DiskModel}
 use Rattle.apd_store.specs.Commit.{IsIdle}
 use Rattle.apd_store.specs.Image.{IsMarked, IsMarkedOld, MayBeMade, Shows, ShowsNoneOld, ShowsOld}
 use Rattle.apd_store.specs.Outside.{store_device, phase_of, IsInside}
+use Rattle.apd_store.specs.Recovery.{HasFailedToSync}
 use Rattle.apd_store.specs.declared.fault.StoreFault.{StoreFault}
 use Rattle.apd_store.specs.declared.fault.StoreFault.TheVariants.{NotAStore, Damaged, Device, NewVersion, NoMemory}
 use Rattle.apd_store.specs.declared.phase.Phase.TheVariants.{Idle}
@@ -42,8 +43,8 @@ pub record IsUpgraded {O N : Type 0} (from : DiskModel O) (to : DiskModel N) (ol
   pub ready : phase_of store ≡ Idle
   pub old_count : from.failed left ≡ from.failed old
   pub count : to.failed (store_device store) ≡ to.failed new
-  pub old_stays_honest : from.honest old ↔ from.honest left
-  pub stays_honest : to.honest new ↔ to.honest (store_device store)
+  pub old_was_honest : from.honest left → from.honest old
+  pub was_honest : to.honest (store_device store) → to.honest new
 
 -- of the state that the old device shows by its version, which alone a stop leaves from now on
 pub record IsHonestlyUpgraded {O N : Type 0} (from : DiskModel O) (to : DiskModel N) (old left : O) (new : N)
@@ -53,6 +54,8 @@ pub record IsHonestlyUpgraded {O N : Type 0} (from : DiskModel O) (to : DiskMode
   pub idle : IsIdle to store made.state
   pub shown : (c : List ℕ) → to.may_leave (store_device store) c → Shows c made.state
   pub old_stays : from.reads left ≡ from.reads old
+  -- the old one was synced before it was read
+  pub old_durable : Only (from.reads old) (from.may_leave left)
 
 -- both devices are handed back, with this fault
 pub record IsNotUpgraded {O N : Type 0} (from : DiskModel O) (to : DiskModel N) (old left : O) (new new_left : N)
@@ -65,8 +68,8 @@ pub record IsNotUpgraded {O N : Type 0} (from : DiskModel O) (to : DiskModel N) 
   pub new_length : to.size new ≢ DEVICE_LENGTH → new_left ≡ new
   pub old_count : from.failed old ≤ from.failed left
   pub count : to.failed new ≤ to.failed new_left
-  pub old_stays_honest : from.honest old ↔ from.honest left
-  pub stays_honest : to.honest new ↔ to.honest new_left
+  pub old_was_honest : from.honest left → from.honest old
+  pub was_honest : to.honest new_left → to.honest new
 
 -- and the old one's bytes show why
 pub record IsHonestlyNotUpgraded {O N : Type 0} (from : DiskModel O) (to : DiskModel N) (old left : O) (new new_left : N)
@@ -77,4 +80,6 @@ pub record IsHonestlyNotUpgraded {O N : Type 0} (from : DiskModel O) (to : DiskM
   pub new_version : fault ≡ NewVersion → IsMarked (from.reads old)
   pub damaged : fault ≡ Damaged → IsMarkedOld (from.reads old) × ShowsNoneOld (from.reads old)
   pub stays : fault ≢ Device → from.reads left ≡ from.reads old
+  -- the old one was synced before it was read, also where that read failed
+  pub old_durable : Only (from.reads old) (from.may_leave left) ⊎ ((fault ≡ Device) × HasFailedToSync from old left)
   pub made : (new_left ≡ new) ⊎ IsBeingMade from to old new new_left

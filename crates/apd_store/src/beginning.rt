@@ -1,5 +1,5 @@
 //! A batch begun: the bytes of all its calls are laid down.
-ghost use Rattle.std.specs.Prelude.{◌≡◌, ◌<◌, ◌+◌, ◌-◌, ◌^◌, true, false, min, IfOk, OnOk, IfErr};
+ghost use Rattle.std.specs.Prelude.{◌≡◌, ◌≢◌, ◌<◌, ◌+◌, ◌-◌, ◌^◌, true, false, [], min, IfOk, OnOk, IfErr};
 ghost use Rattle.apd_base.specs.State.{State};
 ghost use Rattle.apd_table.specs.Snapshot.{canonical};
 ghost use Rattle.apd_journal.specs.Half.{begun_bytes};
@@ -7,6 +7,7 @@ ghost use Rattle.apd_journal.specs.Half.{begun_bytes};
 use crate::fault::StoreFault;
 use crate::phase::Phase;
 use crate::store::Store;
+use apd_base::Sequence;
 use apd_disk::Disk;
 use apd_journal::{Batch, Plan, fits, plan, plan_half};
 use apd_record::total_length;
@@ -27,7 +28,7 @@ fn first_of_a_switch(other_open: bool) -> Phase
 
 impl<D: Disk> Store<D> {
     ghost use Rattle.apd_store.specs.Beginning.{IsBegun, IsNotBegun};
-    ghost use Rattle.apd_store.specs.Commit.{HasRoom};
+    ghost use Rattle.apd_store.specs.Commit.{Fits, HasRoom};
     ghost use Rattle.apd_store.specs.Switch.{IsSnapshot};
     ghost use Rattle.apd_store.specs.Outside.{store_device, phase_of, epoch_of, IsInside};
 
@@ -36,7 +37,8 @@ impl<D: Disk> Store<D> {
     /// committed, and the batch's records are at most 65,536 bytes and each front of its changes leaves the
     /// table sound. A refusal hands the batch back, and changes nothing.
     ///
-    /// Four calls are then left; with a switch eight, or ten where the other half's gate is open.
+    /// Four calls are then left; with a switch eight, or ten where the other half's gate is open. A batch of no
+    /// changes lays down nothing and has no call: its receipt is there, and `Failed` and `NotIdle` alone refuse it.
     ///
     /// Errors, in this order: `Failed`, `NotIdle`; where the group does not fit behind the closed gate,
     /// `BadBatch` exactly where it does not fit behind the snapshot either (its records are then longer than
@@ -54,15 +56,36 @@ impl<D: Disk> Store<D> {
             Phase::Failed => return Err((batch, StoreFault::Failed)),
             _ => return Err((batch, StoreFault::NotIdle)),
         }
+        if batch.changes.is_empty() {
+            self.begin_none(batch);
+            return Ok(());
+        }
         if fits(self.gate, total_length(batch.changes.as_slice())) {
             return self.begin_group(batch);
         }
         self.begin_switch(batch, table)
     }
 
+    // A batch of no changes has no call: the closed gate stays the next group's.
+    fn begin_none(&mut self, batch: Batch)
+        requires none { batch.changes ≡ [] }
+        requires idle { phase_of self.old ≡ Phase.Idle }
+        ensures inside { IsInside D.model self.old → IsInside D.model self.new }
+        ensures begun { (state : State) → IsBegun D.model batch state self.old self.new }
+        ensures device { store_device self.new ≡ store_device self.old }
+    {
+        self.plan = Plan {
+            place: self.gate.saturating_add(1),
+            bytes: Sequence::new(self.alloc),
+        };
+        self.batch = batch;
+        self.phase = Phase::Done;
+    }
+
     // Plans the four calls of a group that fits behind the closed gate.
     fn begin_group(&mut self, batch: Batch) -> Result<(), (Batch, StoreFault)>
-        requires room { HasRoom self.old batch.changes }
+        requires some { batch.changes ≢ [] }
+        requires room { Fits self.old batch.changes }
         requires idle { phase_of self.old ≡ Phase.Idle }
         ensures inside { IsInside D.model self.old → IsInside D.model self.new }
         ensures begun { (state : State) → OnOk result (IsBegun D.model batch state self.old self.new) }

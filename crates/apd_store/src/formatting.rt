@@ -7,6 +7,7 @@ ghost use Rattle.apd_disk.specs.Disk.{Only, Counts, LeavesOnly};
 ghost use Rattle.apd_journal.specs.declared.writer.TheConstants.{HALF_LENGTH};
 ghost use Rattle.apd_store.specs.Formatting.{IsFormatted, IsHonestlyFormatted, IsHonestlyNotFormatted, IsNotFormatted};
 ghost use Rattle.apd_store.specs.Image.{IsOverMark, MayBeMade};
+ghost use Rattle.apd_store.specs.Outside.{store_device};
 ghost use Rattle.apd_store.specs.Layout.{blank_mark, BeginsBy, HasZeroGate, IsLaidOut, IsFound};
 ghost use Rattle.apd_store.specs.declared.half.Half.TheVariants.{A};
 
@@ -41,12 +42,12 @@ fn unmark<D: Disk>(device: &mut D, marks: &[[u8; 8]]) -> Result<(), DiskFault>
     requires marks { ¬ Contains marks.now blank_mark }
     ensures size { D.model.size device.new ≡ D.model.size device.old }
     ensures count { Counts (D.model.failed device.old) (D.model.failed device.new) result }
-    ensures honest { D.model.honest device.old ↔ D.model.honest device.new }
-    ensures calls { D.model.honest device.old → D.model.moment device.new ≤ D.model.moment device.old + 4 }
-    ensures any_moment { D.model.honest device.old
+    ensures was_honest { D.model.honest device.new → D.model.honest device.old }
+    ensures calls { D.model.honest device.new → D.model.moment device.new ≤ D.model.moment device.old + 4 }
+    ensures any_moment { D.model.honest device.new
         → LeavesOnly D.model device.old device.new (λ c. D.model.may_leave device.old c
         ⊎ IsOverMark marks.now (D.model.may_leave device.old) c) }
-    ensures unmarked { D.model.honest device.old
+    ensures unmarked { D.model.honest device.new
         → OnOk result ((¬ Contains marks.now (take 8 (D.model.reads device.new)))
         × Only (D.model.reads device.new) (D.model.may_leave device.new)) }
 {
@@ -108,12 +109,12 @@ pub(crate) fn lay_out<D: Disk>(device: &mut D, a: &[u8], b: &[u8]) -> Result<(),
     requires fits { (length a.now ≤ HALF_LENGTH) × (length b.now ≤ HALF_LENGTH) }
     ensures size { D.model.size device.new ≡ D.model.size device.old }
     ensures count { Counts (D.model.failed device.old) (D.model.failed device.new) result }
-    ensures honest { D.model.honest device.old ↔ D.model.honest device.new }
-    ensures calls { D.model.honest device.old → D.model.moment device.new ≤ D.model.moment device.old + 9 }
-    ensures any_moment { (epoch gate : ℕ) (state : State) → D.model.honest device.old → BeginsBy a.now epoch gate state
+    ensures was_honest { D.model.honest device.new → D.model.honest device.old }
+    ensures calls { D.model.honest device.new → D.model.moment device.new ≤ D.model.moment device.old + 9 }
+    ensures any_moment { (epoch gate : ℕ) (state : State) → D.model.honest device.new → BeginsBy a.now epoch gate state
         → HasZeroGate b.now
         → LeavesOnly D.model device.old device.new (MayBeMade state (D.model.may_leave device.old)) }
-    ensures found { (epoch gate : ℕ) (state : State) → D.model.honest device.old → BeginsBy a.now epoch gate state
+    ensures found { (epoch gate : ℕ) (state : State) → D.model.honest device.new → BeginsBy a.now epoch gate state
         → HasZeroGate b.now
         → OnOk result (IsFound (D.model.reads device.new) A epoch gate false state
         × Only (D.model.reads device.new) (D.model.may_leave device.new)) }
@@ -128,11 +129,11 @@ fn lay_out_empty<D: Disk>(device: &mut D) -> Result<(), DiskFault>
     requires { D.model.size device.old ≡ DEVICE_LENGTH }
     ensures size { D.model.size device.new ≡ D.model.size device.old }
     ensures count { Counts (D.model.failed device.old) (D.model.failed device.new) result }
-    ensures honest { D.model.honest device.old ↔ D.model.honest device.new }
-    ensures calls { D.model.honest device.old → D.model.moment device.new ≤ D.model.moment device.old + 9 }
-    ensures any_moment { D.model.honest device.old
+    ensures was_honest { D.model.honest device.new → D.model.honest device.old }
+    ensures calls { D.model.honest device.new → D.model.moment device.new ≤ D.model.moment device.old + 9 }
+    ensures any_moment { D.model.honest device.new
         → LeavesOnly D.model device.old device.new (MayBeMade empty_state (D.model.may_leave device.old)) }
-    ensures found { D.model.honest device.old
+    ensures found { D.model.honest device.new
         → OnOk result (IsFound (D.model.reads device.new) A 1 13 false empty_state
         × Only (D.model.reads device.new) (D.model.may_leave device.new)) }
 {
@@ -149,11 +150,11 @@ fn lay_out_empty<D: Disk>(device: &mut D) -> Result<(), DiskFault>
 /// right and no call of the device failed: the count of failures is then as it was.
 pub fn format<D: Disk>(alloc: Global, device: D) -> Result<Store<D>, (D, StoreFault)>
     ensures made { IfOk result (λ store. IsFormatted D.model device store) }
-    ensures made_honest { D.model.honest device
-        → IfOk result (λ store. IsHonestlyFormatted D.model device store) }
+    ensures made_honest { IfOk result
+        (λ store. D.model.honest (store_device store) → IsHonestlyFormatted D.model device store) }
     ensures none { IfErr result (λ e. IsNotFormatted D.model device e.0 e.1) }
-    ensures none_honest { D.model.honest device
-        → IfErr result (λ e. IsHonestlyNotFormatted D.model device e.0) }
+    ensures none_honest { IfErr result
+        (λ e. D.model.honest e.0 → IsHonestlyNotFormatted D.model device e.0) }
 {
     let mut device = device;
     if device.len() != DEVICE_LENGTH as usize {

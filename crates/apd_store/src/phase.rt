@@ -25,7 +25,7 @@ pub enum Phase {
     OpenGate,
     /// It makes the open gate durable.
     SyncGate,
-    /// It hands out the receipt: the batch is durable.
+    /// It hands out the receipt: the batch is durable, or has no changes.
     Done,
     /// It refuses all: the device has failed.
     Failed,

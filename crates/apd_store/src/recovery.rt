@@ -1,9 +1,10 @@
 //! Recovery: from a device to a store and its table.
-ghost use Rattle.std.specs.Prelude.{◌≡◌, ◌≢◌, ◌≤◌, ◌+◌, ◌↔◌, ◌⊎◌, length, OnOk, IfOk, IfErr, OnErr, IsErrOf, Err};
+ghost use Rattle.std.specs.Prelude.{◌≡◌, ◌≢◌, ◌≤◌, ◌+◌, ◌⊎◌, length, OnOk, IfOk, IfErr, OnErr, IsErrOf, Err};
 ghost use Rattle.apd_base.specs.declared.limits.TheConstants.{DEVICE_LENGTH};
 ghost use Rattle.apd_base.specs.Failures.{HasRisen};
 ghost use Rattle.apd_disk.specs.Disk.{Only, LeavesOnly};
-ghost use Rattle.apd_store.specs.Recovery.{IsHonestlyNotRecovered, IsHonestlyRecovered, IsNotRecovered, IsRecovered};
+ghost use Rattle.apd_store.specs.Outside.{store_device};
+ghost use Rattle.apd_store.specs.Recovery.{HasFailedToSync, IsHonestlyNotRecovered, IsHonestlyRecovered, IsNotRecovered, IsRecovered};
 
 use crate::fault::StoreFault;
 use crate::phase::Phase;
@@ -24,13 +25,16 @@ fn zero_bytes(alloc: Global, size: usize) -> Result<Vec<u8>, AllocError>
 /// All bytes of a store's device, after a sync.
 pub(crate) fn read_device<D: Disk>(alloc: Global, device: &mut D) -> Result<Vec<u8>, StoreFault>
     ensures size { D.model.size device.new ≡ D.model.size device.old }
-    ensures honest { D.model.honest device.old ↔ D.model.honest device.new }
+    ensures was_honest { D.model.honest device.new → D.model.honest device.old }
     ensures length { IfOk result (λ bytes. length bytes.items ≡ DEVICE_LENGTH) }
     ensures right_length { OnOk result (D.model.size device.old ≡ DEVICE_LENGTH) }
-    ensures bytes { D.model.honest device.old → IfOk result (λ bytes. bytes.items ≡ D.model.reads device.old) }
+    ensures bytes { D.model.honest device.new → IfOk result (λ bytes. bytes.items ≡ D.model.reads device.old) }
     ensures reads { D.model.honest device.old → OnOk result (D.model.reads device.new ≡ D.model.reads device.old) }
-    ensures durable { D.model.honest device.old → result ≢ Err StoreFault.Device
+    ensures durable { D.model.honest device.new → result ≢ Err StoreFault.Device
         → Only (D.model.reads device.old) (D.model.may_leave device.new) }
+    ensures durable_first { D.model.honest device.new → result ≡ Err StoreFault.Device
+        → Only (D.model.reads device.old) (D.model.may_leave device.new)
+        ⊎ HasFailedToSync D.model device.old device.new }
     ensures calls { D.model.honest device.old → D.model.moment device.new ≤ D.model.moment device.old + 2 }
     ensures any_moment { D.model.honest device.old
         → LeavesOnly D.model device.old device.new (D.model.may_leave device.old) }
@@ -65,15 +69,15 @@ pub(crate) fn read_device<D: Disk>(alloc: Global, device: &mut D) -> Result<Vec<
 /// Errors, with the device handed back: `NotAStore` where the length differs, or the magic is that of no version;
 /// `OldVersion` where it is that of version 1; else `Damaged` where the bytes show no state; `Device` where the
 /// device failed in this call; `NoMemory`. Where a stop left one image before the call, as after a sync, it leaves
-/// that one after any of them.
+/// that one after any of them; and so it does where the sync with which this call began succeeded, also where the
+/// read behind it failed.
 pub fn recover<D: Disk>(alloc: Global, device: D) -> Result<(Store<D>, Table), (D, StoreFault)>
     ensures found { IfOk result (λ found. IsRecovered D.model device found.0) }
-    ensures found_honest { D.model.honest device
-        → IfOk result
-        (λ found. IsHonestlyRecovered D.model device found.0 found.1) }
+    ensures found_honest { IfOk result
+        (λ found. D.model.honest (store_device found.0) → IsHonestlyRecovered D.model device found.0 found.1) }
     ensures none { IfErr result (λ e. IsNotRecovered D.model device e.0 e.1) }
-    ensures none_honest { D.model.honest device
-        → IfErr result (λ e. IsHonestlyNotRecovered D.model device e.0 e.1) }
+    ensures none_honest { IfErr result
+        (λ e. D.model.honest e.0 → IsHonestlyNotRecovered D.model device e.0 e.1) }
 {
     let mut device = device;
     let bytes = match read_device(alloc, &mut device) {

@@ -139,7 +139,8 @@ impl<D: Disk> Store<D> {
         device
     }
 
-    /// The receipt of a batch whose last call succeeded, once. The store is then idle. It takes no memory.
+    /// The receipt of a batch whose last call succeeded, or which had none, once. The store is then idle. It takes no
+    /// memory.
     pub fn finish(&mut self) -> Option<Receipt>
         ensures inside { IsInside D.model self.old → IsInside D.model self.new }
         ensures exactly { IsSome result ↔ (phase_of self.old ≡ Phase.Done) }
@@ -161,8 +162,8 @@ impl<D: Disk> Store<D> {
     }
 
     /// Tells a caller's proof what a stop now shows: of an idle store its state; of a batch under way the
-    /// state before it, and where one call is left that state or the one after; once its last call succeeded
-    /// the state after alone; where a call failed one of the two. It does nothing.
+    /// state before it, and where one call is left that state or the one after; once its last call succeeded,
+    /// or where it has none, the state after alone; where a call failed one of the two. It does nothing.
     pub fn show_images(&self)
         ensures idle { (state : State) → IsIdle D.model self.now state → (c : List ℕ)
             → D.model.may_leave (store_device self.now) c → Shows c state }

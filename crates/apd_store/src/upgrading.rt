@@ -1,11 +1,13 @@
 //! From a store of version 1 to one of this version, on another device.
-ghost use Rattle.std.specs.Prelude.{◌≡◌, ◌≢◌, ◌≤◌, ◌<◌, ◌+◌, ◌-◌, ◌↔◌, ◌⊎◌, false, length, OnOk, IfOk, IfErr, OnErr, IsErrOf, Err, MatchResult};
+ghost use Rattle.std.specs.Prelude.{◌≡◌, ◌≢◌, ◌≤◌, ◌<◌, ◌+◌, ◌-◌, ◌⊎◌, false, length, OnOk, IfOk, IfErr, OnErr, IsErrOf, Err, MatchResult};
 ghost use Rattle.apd_base.specs.declared.limits.TheConstants.{DEVICE_LENGTH};
 ghost use Rattle.apd_base.specs.Failures.{HasRisen};
 ghost use Rattle.apd_disk.specs.Disk.{Only, LeavesOnly};
 ghost use Rattle.apd_journal.specs.declared.writer.TheConstants.{HALF_LENGTH};
 ghost use Rattle.apd_store.specs.Image.{IsMarked, IsMarkedOld, MayBeMade, ShowsNoneOld, ShowsOld};
 ghost use Rattle.apd_store.specs.Layout.{BeginsBy, IsFound};
+ghost use Rattle.apd_store.specs.Outside.{store_device};
+ghost use Rattle.apd_store.specs.Recovery.{HasFailedToSync};
 ghost use Rattle.apd_store.specs.Upgrading.{HasNoneGiven, IsHonestlyNotUpgraded, IsHonestlyUpgraded, IsNotUpgraded, IsOnlyRead, IsUpgraded};
 ghost use Rattle.apd_store.specs.declared.half.Half.TheVariants.{A};
 
@@ -24,20 +26,25 @@ use std::alloc::{AllocError, Global};
 
 /// The table that a device shows to the program of version 1, after a sync.
 fn read_old<D: Disk>(alloc: Global, device: &mut D) -> Result<Table, StoreFault>
-    ensures honest { D.model.honest device.old ↔ D.model.honest device.new }
-    ensures only_read { D.model.honest device.old → IsOnlyRead D.model device.old device.new }
-    ensures stays { D.model.honest device.old → result ≢ Err StoreFault.Device
+    ensures was_honest { D.model.honest device.new → D.model.honest device.old }
+    ensures only_read { D.model.honest device.new → IsOnlyRead D.model device.old device.new }
+    ensures stays { D.model.honest device.new → result ≢ Err StoreFault.Device
         → D.model.reads device.new ≡ D.model.reads device.old }
-    ensures ok { D.model.honest device.old → IfOk result (λ table. ShowsOld (D.model.reads device.old) table) }
+    ensures durable { D.model.honest device.new → result ≢ Err StoreFault.Device
+        → Only (D.model.reads device.old) (D.model.may_leave device.new) }
+    ensures durable_first { D.model.honest device.new → result ≡ Err StoreFault.Device
+        → Only (D.model.reads device.old) (D.model.may_leave device.new)
+        ⊎ HasFailedToSync D.model device.old device.new }
+    ensures ok { D.model.honest device.new → IfOk result (λ table. ShowsOld (D.model.reads device.old) table) }
     ensures none_given { IfOk result (λ table. HasNoneGiven table) }
     ensures right_length { OnOk result (D.model.size device.old ≡ DEVICE_LENGTH) }
     ensures other_length { D.model.size device.old ≢ DEVICE_LENGTH
         → OnErr result ((result ≡ Err StoreFault.NotAStore) ⊎ (result ≡ Err StoreFault.Device)) }
-    ensures not_a_store { D.model.honest device.old → result ≡ Err StoreFault.NotAStore
+    ensures not_a_store { D.model.honest device.new → result ≡ Err StoreFault.NotAStore
         → (¬ IsMarked (D.model.reads device.old)) × (¬ IsMarkedOld (D.model.reads device.old)) }
-    ensures new_version { D.model.honest device.old → result ≡ Err StoreFault.NewVersion
+    ensures new_version { D.model.honest device.new → result ≡ Err StoreFault.NewVersion
         → IsMarked (D.model.reads device.old) }
-    ensures damaged { D.model.honest device.old → result ≡ Err StoreFault.Damaged
+    ensures damaged { D.model.honest device.new → result ≡ Err StoreFault.Damaged
         → IsMarkedOld (D.model.reads device.old) × ShowsNoneOld (D.model.reads device.old) }
     ensures count { D.model.failed device.old ≤ D.model.failed device.new }
     ensures no_fault { result ≢ Err StoreFault.Device → D.model.failed device.new ≡ D.model.failed device.old }
@@ -66,7 +73,7 @@ fn head_of(alloc: Global, table: &Table) -> Result<Vec<u8>, AllocError>
 
 /// Lays out a store of this table, and answers the place of its closed gate. All memory is taken before the first call.
 fn lay_out_copy<D: Disk>(alloc: Global, device: &mut D, table: &Table) -> Result<usize, StoreFault>
-    ensures honest { D.model.honest device.old ↔ D.model.honest device.new }
+    ensures was_honest { D.model.honest device.new → D.model.honest device.old }
     ensures size { D.model.size device.new ≡ D.model.size device.old }
     ensures right_length { OnOk result (D.model.size device.old ≡ DEVICE_LENGTH) }
     ensures not_a_store { result ≡ Err StoreFault.NotAStore → D.model.size device.old ≢ DEVICE_LENGTH }
@@ -78,10 +85,10 @@ fn lay_out_copy<D: Disk>(alloc: Global, device: &mut D, table: &Table) -> Result
     ensures device { IsErrOf result StoreFault.Device → HasRisen (D.model.failed device.old) (D.model.failed device.new) }
     ensures only { OnErr result ((result ≡ Err StoreFault.NotAStore) ⊎ (result ≡ Err StoreFault.Device)
         ⊎ (result ≡ Err StoreFault.NoMemory)) }
-    ensures any_moment { D.model.honest device.old → HasNoneGiven table.now
+    ensures any_moment { D.model.honest device.new → HasNoneGiven table.now
         → LeavesOnly D.model device.old device.new (MayBeMade table.now (D.model.may_leave device.old)) }
-    ensures calls { D.model.honest device.old → D.model.moment device.new ≤ D.model.moment device.old + 9 }
-    ensures found { D.model.honest device.old → HasNoneGiven table.now
+    ensures calls { D.model.honest device.new → D.model.moment device.new ≤ D.model.moment device.old + 9 }
+    ensures found { D.model.honest device.new → HasNoneGiven table.now
         → IfOk result (λ gate. IsFound (D.model.reads device.new) A 1 gate false table.now
         × Only (D.model.reads device.new) (D.model.may_leave device.new)) }
 {
@@ -109,13 +116,13 @@ pub fn upgrade<O: Disk, N: Disk>(
     new: N,
 ) -> Result<(O, Store<N>), (O, N, StoreFault)>
     ensures made { IfOk result (λ made. IsUpgraded O.model N.model old made.0 new made.1) }
-    ensures made_honest { O.model.honest old → N.model.honest new
-        → IfOk result (λ made. IsHonestlyUpgraded O.model N.model old made.0 new made.1) }
+    ensures made_honest { IfOk result (λ made. O.model.honest made.0 → N.model.honest (store_device made.1)
+        → IsHonestlyUpgraded O.model N.model old made.0 new made.1) }
     ensures none { IfErr result (λ e. IsNotUpgraded O.model N.model old e.0 new e.1 e.2) }
-    ensures none_honest { O.model.honest old → N.model.honest new
-        → IfErr result (λ e. IsHonestlyNotUpgraded O.model N.model old e.0 new e.1 e.2) }
-    ensures only_read { O.model.honest old
-        → MatchResult result (λ made. IsOnlyRead O.model old made.0) (λ e. IsOnlyRead O.model old e.0) }
+    ensures none_honest { IfErr result (λ e. O.model.honest e.0 → N.model.honest e.1
+        → IsHonestlyNotUpgraded O.model N.model old e.0 new e.1 e.2) }
+    ensures only_read { MatchResult result (λ made. O.model.honest made.0 → IsOnlyRead O.model old made.0)
+        (λ e. O.model.honest e.0 → IsOnlyRead O.model old e.0) }
 {
     let mut old = old;
     let mut new = new;

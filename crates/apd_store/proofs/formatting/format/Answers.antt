@@ -4,8 +4,9 @@ use Rattle.apd_store.proofs.Current.{found_shows}
 use Rattle.apd_store.proofs.formatting.format.Goals as goal
 
 pub returns-clause-made_honest : goal.returns-clause-made_honest
-returns-clause-made_honest g c = λ h.
+returns-clause-made_honest g c = λ there.
     let device = c.lay_out_empty.new.device in
+    let h : g.D.Disk.model.honest device = subst g.D.Disk.model.honest c.new.ensures.device there in
     let found = c.in-Ok.ensures.found h in
     record {
       empty = search rules;

@@ -21,8 +21,9 @@ returns-clause-begun g c =
       committing = λ idle group sound. inl (switch_begins g.D.Disk.model store c.args.batch c.in-Ok-plan.plan c.in-Ok.fresh c.first_of_a_switch-self.result c.args.table.now idle group sound
           fits (search rules) c.in-Ok.ensures.place (c.in-Ok.ensures.bytes ∙ ap (λ (n : ℕ). begun_bytes n (canonical c.args.table.now)) next) (omega (arith, c.in-Ok-plan.ensures.place, c.len-gate.ensures)) c.in-Ok-plan.ensures.bytes
           first.closed first.open);
-      some_calls = switch_calls store.other_open c.first_of_a_switch-self.result first.closed first.open;
-      four_calls = λ room. absurd (c.requires.room room);
+      no_calls = λ empty. absurd (c.requires.room (inl empty));
+      some_calls = λ some. switch_calls store.other_open c.first_of_a_switch-self.result first.closed first.open;
+      four_calls = λ some room. absurd (c.requires.room room);
       eight_calls = λ none closed. ap calls_from (first.closed closed);
       ten_calls = λ none gate. ap calls_from (first.open gate);
       anew = λ none. search rules;
