@@ -7,6 +7,7 @@ impl Radio for Box<dyn Radio + Send> {
     ghost model = { record {
       stations = λ b. (Radio-box b).model.stations b.value;
       faults = λ b. (Radio-box b).model.faults b.value;
+      sent = λ b. (Radio-box b).model.sent b.value;
     } };
 
     ghost frames = { λ b. (Radio-box b).frames b.value };

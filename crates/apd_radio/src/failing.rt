@@ -4,7 +4,7 @@ ghost use Rattle.std.specs.Option.{option_map};
 ghost use Rattle.std.specs.FinMap as map;
 ghost use Rattle.apd_base.specs.Failures.{HasRisen};
 ghost use Rattle.apd_radio.specs.Faults.{Counts, FailingCall};
-ghost use Rattle.apd_radio.specs.Frames.{Polls};
+ghost use Rattle.apd_radio.specs.Frames.{and_then, Polls};
 
 use crate::counting::count_fault;
 use crate::radio::{Radio, RadioFault};
@@ -66,7 +66,11 @@ impl<R: Radio> Drop for Failing<R> {
 // A method with an `ensures` of its own has its clauses in place of the trait's. So each one here repeats
 // the trait's, of the radio inside and of the count here, beside those that are its own (`calls`, `passed`).
 impl<R: Radio> Radio for Failing<R> {
-    ghost model = { record { stations = λ radio. R.model.stations radio.inner; faults = λ radio. radio.failures } };
+    ghost model = { record {
+      stations = λ radio. R.model.stations radio.inner;
+      faults = λ radio. radio.failures;
+      sent = λ radio. R.model.sent radio.inner;
+    } };
 
     ghost frames = { λ radio. R.frames radio.inner };
 
@@ -80,6 +84,7 @@ impl<R: Radio> Radio for Failing<R> {
         ensures memory { result ≡ Err RadioFault.NoMemory → self.new.failures ≡ self.old.failures }
         ensures device { result ≡ Err RadioFault.Device → HasRisen self.old.failures self.new.failures }
         ensures count { self.old.failures ≤ self.new.failures }
+        ensures sent { R.model.sent self.new.inner ≡ R.model.sent self.old.inner }
         ensures calls { self.new.passes ≡ self.old.passes }
         ensures passed { Counts (R.model.faults self.old.inner) (R.model.faults self.new.inner) result }
     {
@@ -99,6 +104,7 @@ impl<R: Radio> Radio for Failing<R> {
         ensures memory { result ≡ Err RadioFault.NoMemory → self.new.failures ≡ self.old.failures }
         ensures device { result ≡ Err RadioFault.Device → HasRisen self.old.failures self.new.failures }
         ensures count { self.old.failures ≤ self.new.failures }
+        ensures sent { R.model.sent self.new.inner ≡ R.model.sent self.old.inner }
         ensures passed { FailingCall R.model self.old.inner self.new.inner self.old.passes self.new.passes result }
     {
         self.pass()?;
@@ -114,6 +120,7 @@ impl<R: Radio> Radio for Failing<R> {
         ensures stays { OnOk result (self.new.failures ≡ self.old.failures) }
         ensures device { result ≡ Err RadioFault.Device → HasRisen self.old.failures self.new.failures }
         ensures count { self.old.failures ≤ self.new.failures }
+        ensures sent { R.model.sent self.new.inner ≡ R.model.sent self.old.inner }
         ensures passed { FailingCall R.model self.old.inner self.new.inner self.old.passes self.new.passes result }
     {
         self.pass()?;
@@ -128,6 +135,8 @@ impl<R: Radio> Radio for Failing<R> {
         ensures memory { result ≡ Err RadioFault.NoMemory → self.new.failures ≡ self.old.failures }
         ensures device { result ≡ Err RadioFault.Device → HasRisen self.old.failures self.new.failures }
         ensures count { self.old.failures ≤ self.new.failures }
+        ensures sent { OnOk result (R.model.sent self.new.inner ≡ and_then (R.model.sent self.old.inner) frame.now) }
+        ensures unsent { OnErr result (R.model.sent self.new.inner ≡ R.model.sent self.old.inner) }
         ensures passed { FailingCall R.model self.old.inner self.new.inner self.old.passes self.new.passes result }
     {
         self.pass()?;
@@ -139,6 +148,7 @@ impl<R: Radio> Radio for Failing<R> {
         ensures empty { R.model.stations self.new.inner ≡ map.empty }
         ensures kept { R.frames self.new.inner ≡ R.frames self.old.inner }
         ensures stays { self.new.failures ≡ self.old.failures }
+        ensures sent { R.model.sent self.new.inner ≡ R.model.sent self.old.inner }
         ensures calls { self.new.passes ≡ self.old.passes }
     {
         self.inner.take_down();

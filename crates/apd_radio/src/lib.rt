@@ -13,6 +13,7 @@ mod log;
 mod radio;
 mod recording;
 mod replaying;
+mod sent;
 mod sim;
 mod udp_sim;
 

@@ -3,7 +3,7 @@ ghost use Rattle.std.specs.Prelude.{◌≡◌, IfOk, OnOk, OnErr, ℕ, ◌≤◌
 ghost use Rattle.std.specs.Option.{option_map};
 ghost use Rattle.std.specs.FinMap as map;
 ghost use Rattle.apd_base.specs.Failures.{HasRisen};
-ghost use Rattle.apd_radio.specs.Frames.{Polls};
+ghost use Rattle.apd_radio.specs.Frames.{and_then, Polls};
 ghost use Rattle.apd_radio.specs.Model.{RadioModel};
 
 use apd_base::Addr;
@@ -39,7 +39,8 @@ impl From<AllocError> for RadioFault {
 /// count of failures, and `Device` is told only where the count rose in that call, or stood at its greatest
 /// value.
 pub trait Radio: Drop {
-    /// Its meaning: the installed addresses with their identifiers, and how many calls failed in the device.
+    /// Its meaning: the installed addresses with their identifiers, how many calls failed in the device, and the frames
+    /// that it was handed and took.
     ghost model: { RadioModel Self };
 
     /// The frames that it is going to give, where they are known.
@@ -56,7 +57,8 @@ pub trait Radio: Drop {
         ensures stays { OnOk result (model.faults self.new ≡ model.faults self.old) }
         ensures memory { result ≡ Err RadioFault.NoMemory → model.faults self.new ≡ model.faults self.old }
         ensures device { result ≡ Err RadioFault.Device → HasRisen (model.faults self.old) (model.faults self.new) }
-        ensures count { model.faults self.old ≤ model.faults self.new };
+        ensures count { model.faults self.old ≤ model.faults self.new }
+        ensures sent { model.sent self.new ≡ model.sent self.old };
 
     /// A descriptor that can be read whenever a frame waits in the system, if there is one: who waits for a frame
     /// waits for it. One that takes another's place may have its number. Nothing is promised of it.
@@ -74,7 +76,8 @@ pub trait Radio: Drop {
         ensures stays { OnOk result (model.faults self.new ≡ model.faults self.old) }
         ensures memory { result ≡ Err RadioFault.NoMemory → model.faults self.new ≡ model.faults self.old }
         ensures device { result ≡ Err RadioFault.Device → HasRisen (model.faults self.old) (model.faults self.new) }
-        ensures count { model.faults self.old ≤ model.faults self.new };
+        ensures count { model.faults self.old ≤ model.faults self.new }
+        ensures sent { model.sent self.new ≡ model.sent self.old };
 
     /// Takes a station out, if it is installed. It takes no memory.
     ///
@@ -86,9 +89,10 @@ pub trait Radio: Drop {
         ensures only_device { OnErr result (result ≡ Err RadioFault.Device) }
         ensures stays { OnOk result (model.faults self.new ≡ model.faults self.old) }
         ensures device { result ≡ Err RadioFault.Device → HasRisen (model.faults self.old) (model.faults self.new) }
-        ensures count { model.faults self.old ≤ model.faults self.new };
+        ensures count { model.faults self.old ≤ model.faults self.new }
+        ensures sent { model.sent self.new ≡ model.sent self.old };
 
-    /// Sends a frame, without its frame check sequence.
+    /// Sends a frame, without its frame check sequence. No other call adds to the frames that it took.
     ///
     /// Errors: `Device`, and the frame is lost; `NoMemory`, and it was not sent: the call can be made again.
     fn transmit(&mut self, frame: &[u8]) -> Result<(), RadioFault>
@@ -97,13 +101,16 @@ pub trait Radio: Drop {
         ensures stays { OnOk result (model.faults self.new ≡ model.faults self.old) }
         ensures memory { result ≡ Err RadioFault.NoMemory → model.faults self.new ≡ model.faults self.old }
         ensures device { result ≡ Err RadioFault.Device → HasRisen (model.faults self.old) (model.faults self.new) }
-        ensures count { model.faults self.old ≤ model.faults self.new };
+        ensures count { model.faults self.old ≤ model.faults self.new }
+        ensures sent { OnOk result (model.sent self.new ≡ and_then (model.sent self.old) frame.now) }
+        ensures unsent { OnErr result (model.sent self.new ≡ model.sent self.old) };
 
     /// Takes all stations out. It takes no memory and can't fail, so it leaves the count of failures.
     fn take_down(&mut self)
         ensures empty { model.stations self.new ≡ map.empty }
         ensures kept { frames self.new ≡ frames self.old }
-        ensures stays { model.faults self.new ≡ model.faults self.old };
+        ensures stays { model.faults self.new ≡ model.faults self.old }
+        ensures sent { model.sent self.new ≡ model.sent self.old };
 
     /// The identifier of an installed station. It takes no memory.
     fn installed(&self, addr: Addr) -> Option<u16>

@@ -3,7 +3,7 @@ ghost use Rattle.std.specs.Prelude.{◌≡◌, ◌≤◌, false, None, IfOk, IfS
 ghost use Rattle.std.specs.Option.{option_map};
 ghost use Rattle.std.specs.FinMap as map;
 ghost use Rattle.apd_base.specs.Failures.{HasRisen};
-ghost use Rattle.apd_radio.specs.Frames.{Polls};
+ghost use Rattle.apd_radio.specs.Frames.{and_then, Polls};
 ghost use Rattle.apd_radio.specs.Model.{inside};
 ghost use Rattle.apd_radio.specs.Recordings.{Records};
 ghost use Rattle.apd_radio.specs.declared.call.Call.TheVariants as calls;
@@ -59,6 +59,7 @@ impl<R: Radio, W: Write + Drop> Radio for Recording<R, W> {
         ensures memory { result ≡ Err RadioFault.NoMemory → R.model.faults self.new.inner ≡ R.model.faults self.old.inner }
         ensures device { result ≡ Err RadioFault.Device → HasRisen (R.model.faults self.old.inner) (R.model.faults self.new.inner) }
         ensures count { R.model.faults self.old.inner ≤ R.model.faults self.new.inner }
+        ensures sent { R.model.sent self.new.inner ≡ R.model.sent self.old.inner }
         ensures written { IfOk result
             (λ got. IfSome got
             (λ frame. Records self.old.log.ended (W.contents self.old.log.writer)
@@ -85,6 +86,7 @@ impl<R: Radio, W: Write + Drop> Radio for Recording<R, W> {
         ensures memory { result ≡ Err RadioFault.NoMemory → R.model.faults self.new.inner ≡ R.model.faults self.old.inner }
         ensures device { result ≡ Err RadioFault.Device → HasRisen (R.model.faults self.old.inner) (R.model.faults self.new.inner) }
         ensures count { R.model.faults self.old.inner ≤ R.model.faults self.new.inner }
+        ensures sent { R.model.sent self.new.inner ≡ R.model.sent self.old.inner }
         ensures written { OnOk result
             (Records self.old.log.ended (W.contents self.old.log.writer)
             (calls.Installed addr aid) self.new.log.ended (W.contents self.new.log.writer)) }
@@ -103,6 +105,7 @@ impl<R: Radio, W: Write + Drop> Radio for Recording<R, W> {
         ensures stays { OnOk result (R.model.faults self.new.inner ≡ R.model.faults self.old.inner) }
         ensures device { result ≡ Err RadioFault.Device → HasRisen (R.model.faults self.old.inner) (R.model.faults self.new.inner) }
         ensures count { R.model.faults self.old.inner ≤ R.model.faults self.new.inner }
+        ensures sent { R.model.sent self.new.inner ≡ R.model.sent self.old.inner }
         ensures written { OnOk result
             (Records self.old.log.ended (W.contents self.old.log.writer) (calls.Removed addr) self.new.log.ended
             (W.contents self.new.log.writer)) }
@@ -120,6 +123,8 @@ impl<R: Radio, W: Write + Drop> Radio for Recording<R, W> {
         ensures memory { result ≡ Err RadioFault.NoMemory → R.model.faults self.new.inner ≡ R.model.faults self.old.inner }
         ensures device { result ≡ Err RadioFault.Device → HasRisen (R.model.faults self.old.inner) (R.model.faults self.new.inner) }
         ensures count { R.model.faults self.old.inner ≤ R.model.faults self.new.inner }
+        ensures sent { OnOk result (R.model.sent self.new.inner ≡ and_then (R.model.sent self.old.inner) frame.now) }
+        ensures unsent { OnErr result (R.model.sent self.new.inner ≡ R.model.sent self.old.inner) }
         ensures written { OnOk result
             (Records self.old.log.ended (W.contents self.old.log.writer) (calls.Sent frame.now) self.new.log.ended
             (W.contents self.new.log.writer)) }
@@ -134,6 +139,7 @@ impl<R: Radio, W: Write + Drop> Radio for Recording<R, W> {
         ensures empty { R.model.stations self.new.inner ≡ map.empty }
         ensures kept { R.frames self.new.inner ≡ R.frames self.old.inner }
         ensures stays { R.model.faults self.new.inner ≡ R.model.faults self.old.inner }
+        ensures sent { R.model.sent self.new.inner ≡ R.model.sent self.old.inner }
         ensures written { Records self.old.log.ended (W.contents self.old.log.writer) calls.Down self.new.log.ended
             (W.contents self.new.log.writer) }
     {

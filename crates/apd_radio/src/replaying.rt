@@ -7,6 +7,7 @@ ghost use Rattle.apd_radio.specs.Recordings.{Replays, IsFault, frames_in};
 use crate::call::Call;
 use crate::identifiers::Identifiers;
 use crate::radio::{Radio, RadioFault};
+use crate::sent::SentFrames;
 use apd_base::{Addr, Sequence};
 use std::alloc::{AllocError, Global};
 use std::collections::VecDeque;
@@ -37,6 +38,7 @@ impl From<AllocError> for ReplayFault {
 pub struct Replaying {
     frames: VecDeque<Sequence<u8>>,
     stations: Identifiers,
+    sent: SentFrames,
 }
 
 fn end_of_line(text: &[u8]) -> Option<usize>
@@ -78,6 +80,7 @@ impl Replaying {
     pub fn new(alloc: Global, recording: &[u8]) -> Result<Replaying, ReplayFault>
         ensures frames { IfOk result (λ radio. Replays recording.now radio.frames.items) }
         ensures stations { IfOk result (λ radio. radio.stations ≡ map.empty) }
+        ensures sent { IfOk result (λ radio. radio.sent.frames ≡ []) }
         ensures fault { IfErr result (λ fault. IsFault fault (lines recording.now)) }
     {
         let mut frames = VecDeque::new(alloc);
@@ -94,6 +97,7 @@ impl Replaying {
         Ok(Replaying {
             frames,
             stations: Identifiers::new(alloc),
+            sent: SentFrames::new(),
         })
     }
 }
@@ -103,6 +107,7 @@ impl Drop for Replaying {
         let Replaying {
             frames: _,
             mut stations,
+            sent: _,
         } = self;
         stations.clear();
     }
@@ -111,7 +116,11 @@ impl Drop for Replaying {
 impl Radio for Replaying {
     ghost use Rattle.std.specs.Prelude.{Some};
 
-    ghost model = { record { stations = λ radio. radio.stations; faults = λ _. 0 } };
+    ghost model = { record {
+      stations = λ radio. radio.stations;
+      faults = λ _. 0;
+      sent = λ radio. Some radio.sent.frames;
+    } };
 
     ghost frames = { λ radio. Some radio.frames.items };
 
@@ -131,7 +140,8 @@ impl Radio for Replaying {
         Ok(())
     }
 
-    fn transmit(&mut self, _frame: &[u8]) -> Result<(), RadioFault> {
+    fn transmit(&mut self, frame: &[u8]) -> Result<(), RadioFault> {
+        self.sent.note(frame);
         Ok(())
     }
 

@@ -1,39 +1,50 @@
 //! A radio in memory alone.
-ghost use Rattle.std.specs.Prelude.{◌≡◌};
+ghost use Rattle.std.specs.Prelude.{◌≡◌, []};
 ghost use Rattle.std.specs.FinMap as map;
 
 use crate::identifiers::Identifiers;
 use crate::radio::{Radio, RadioFault};
+use crate::sent::SentFrames;
 use apd_base::Addr;
 use std::alloc::Global;
 
 /// A radio that receives nothing and sends nothing.
 pub struct Sim {
     stations: Identifiers,
+    sent: SentFrames,
 }
 
 impl Sim {
     /// A radio without stations. It takes no memory.
     pub fn new(alloc: Global) -> Sim
-        ensures { result.stations ≡ map.empty }
+        ensures stations { result.stations ≡ map.empty }
+        ensures sent { result.sent.frames ≡ [] }
     {
         Sim {
             stations: Identifiers::new(alloc),
+            sent: SentFrames::new(),
         }
     }
 }
 
 impl Drop for Sim {
     fn drop(self) {
-        let Sim { mut stations } = self;
+        let Sim {
+            mut stations,
+            sent: _,
+        } = self;
         stations.clear();
     }
 }
 
 impl Radio for Sim {
-    ghost use Rattle.std.specs.Prelude.{Some, []};
+    ghost use Rattle.std.specs.Prelude.{Some};
 
-    ghost model = { record { stations = λ radio. radio.stations; faults = λ _. 0 } };
+    ghost model = { record {
+      stations = λ radio. radio.stations;
+      faults = λ _. 0;
+      sent = λ radio. Some radio.sent.frames;
+    } };
 
     ghost frames = { λ _. Some [] };
 
@@ -50,7 +61,8 @@ impl Radio for Sim {
         Ok(())
     }
 
-    fn transmit(&mut self, _frame: &[u8]) -> Result<(), RadioFault> {
+    fn transmit(&mut self, frame: &[u8]) -> Result<(), RadioFault> {
+        self.sent.note(frame);
         Ok(())
     }
 

@@ -1,11 +1,12 @@
 //! A radio whose frames are datagrams.
-ghost use Rattle.std.specs.Prelude.{◌≡◌, IfOk};
+ghost use Rattle.std.specs.Prelude.{◌≡◌, [], IfOk};
 ghost use Rattle.std.specs.FinMap as map;
 
 use crate::counting::count_fault;
 use crate::datagrams::{Datagrams, SocketFault};
 use crate::identifiers::Identifiers;
 use crate::radio::{Radio, RadioFault};
+use crate::sent::SentFrames;
 use apd_base::Addr;
 use std::alloc::Global;
 use std::net::{Net, SocketAddr};
@@ -27,6 +28,7 @@ pub struct UdpSim {
     peer: Option<SocketAddr>,
     stations: Identifiers,
     failures: u64,
+    sent: SentFrames,
 }
 
 impl UdpSim {
@@ -36,12 +38,14 @@ impl UdpSim {
     pub fn new<R: Net>(rt: &R, alloc: Global, port: u16) -> Result<UdpSim, SocketFault>
         ensures stations { IfOk result (λ radio. radio.stations ≡ map.empty) }
         ensures failures { IfOk result (λ radio. radio.failures ≡ 0) }
+        ensures sent { IfOk result (λ radio. radio.sent.frames ≡ []) }
     {
         Ok(UdpSim {
             datagrams: Datagrams::bind(rt, alloc, port)?,
             peer: None,
             stations: Identifiers::new(alloc),
             failures: 0,
+            sent: SentFrames::new(),
         })
     }
 }
@@ -53,13 +57,20 @@ impl Drop for UdpSim {
             peer: _,
             mut stations,
             failures: _,
+            sent: _,
         } = self;
         stations.clear();
     }
 }
 
 impl Radio for UdpSim {
-    ghost model = { record { stations = λ radio. radio.stations; faults = λ radio. radio.failures } };
+    ghost use Rattle.std.specs.Prelude.{Some};
+
+    ghost model = { record {
+      stations = λ radio. radio.stations;
+      faults = λ radio. radio.failures;
+      sent = λ radio. Some radio.sent.frames;
+    } };
 
     fn poll(&mut self) -> Result<Option<Vec<u8>>, RadioFault> {
         let answer = self.datagrams.receive();
@@ -84,11 +95,12 @@ impl Radio for UdpSim {
     }
 
     fn transmit(&mut self, frame: &[u8]) -> Result<(), RadioFault> {
-        let Some(peer) = self.peer else {
-            return Ok(());
-        };
-        let answer = self.datagrams.send(peer, frame);
-        count_fault(&mut self.failures, answer)
+        if let Some(peer) = self.peer {
+            let answer = self.datagrams.send(peer, frame);
+            count_fault(&mut self.failures, answer)?;
+        }
+        self.sent.note(frame);
+        Ok(())
     }
 
     fn take_down(&mut self) {

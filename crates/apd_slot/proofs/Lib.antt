@@ -1,5 +1,6 @@
 mod Back
 pub mod Driven
+pub mod MendingLemmas
 mod Pushed
 pub mod RowsLemmas
 mod Waiting

@@ -5,7 +5,7 @@ use Rattle.apd_base.specs.Failures.{HasRisen}
 use Rattle.apd_mlme.specs.declared.decision.Out.{Out}
 use Rattle.apd_radio.specs.Model.{RadioModel}
 use Rattle.apd_slot.specs.Slots.{bssid_of, is_up_of, queue_of, radio_of, wanted_of, IsExact}
-use Rattle.apd_slot.specs.Wanted.{wanted_by, installed_by, up_by, IsFrame, IsText, IsRemoval}
+use Rattle.apd_slot.specs.Wanted.{wanted_by, installed_by, sent_by, up_by, IsFrame, IsText, IsRemoval}
 use Rattle.apd_slot.specs.declared.slot.Slot.{Slot}
 use Rattle.apd_slot.specs.declared.slot.SlotFault.{SlotFault}
 use Rattle.apd_slot.specs.declared.slot.SlotFault.TheVariants.{WentDown, Lost, NotMine, NoMemory}
@@ -31,6 +31,7 @@ pub record IsGivenOut {R : Type 0} (radio : RadioModel R) (out : Out)
   pub stays : OnOk answer (radio.faults (radio_of new) ≡ radio.faults (radio_of old))
   pub short : answer ≡ Err NoMemory → radio.faults (radio_of new) ≡ radio.faults (radio_of old)
   pub count : radio.faults (radio_of old) ≤ radio.faults (radio_of new)
+  pub sent : radio.sent (radio_of new) ≡ sent_by out answer (radio.sent (radio_of old))
 
 -- memory ran out at the first of the outs that wait: it stays first
 pub record IsShort {R : Type 0} (radio : RadioModel R) (old new : Slot R) : Type 0 where

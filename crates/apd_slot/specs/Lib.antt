@@ -1,4 +1,5 @@
 pub mod Applying
+pub mod Mending
 pub mod Resuming
 pub mod Rows
 pub mod Slots

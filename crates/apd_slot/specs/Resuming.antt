@@ -22,6 +22,7 @@ pub record IsGivenRows {R : Type 0} (radio : RadioModel R) (rows : Stations)
   pub down : answer ≡ Err WentDown → HasRisen (radio.faults (radio_of old)) (radio.faults (radio_of new))
   pub stays : OnOk answer (radio.faults (radio_of new) ≡ radio.faults (radio_of old))
   pub short : answer ≡ Err NoMemory → radio.faults (radio_of new) ≡ radio.faults (radio_of old)
+  pub sent : radio.sent (radio_of new) ≡ radio.sent (radio_of old)
 
 -- the slot's own radio was given anew the stations that are wanted, and the slot answered so
 pub record IsGivenAnew {R : Type 0} (radio : RadioModel R)
@@ -36,6 +37,7 @@ pub record IsGivenAnew {R : Type 0} (radio : RadioModel R)
   pub down : answer ≡ Err WentDown → HasRisen (radio.faults (radio_of old)) (radio.faults (radio_of new))
   pub stays : OnOk answer (radio.faults (radio_of new) ≡ radio.faults (radio_of old))
   pub short : answer ≡ Err NoMemory → radio.faults (radio_of new) ≡ radio.faults (radio_of old)
+  pub sent : radio.sent (radio_of new) ≡ radio.sent (radio_of old)
 
 -- a radio comes back without stations, since it could not be given those that are wanted
 pub record IsRefused {R : Type 0} (radio : RadioModel R) (before : R) (fault : SlotFault) (after : R) : Type 0 where
@@ -43,6 +45,7 @@ pub record IsRefused {R : Type 0} (radio : RadioModel R) (before : R) (fault : S
   pub errors : (fault ≡ WentDown) ⊎ (fault ≡ NoMemory)
   pub down : fault ≡ WentDown → HasRisen (radio.faults before) (radio.faults after)
   pub short : fault ≡ NoMemory → radio.faults after ≡ radio.faults before
+  pub sent : radio.sent after ≡ radio.sent before
 
 -- the slot was given another radio in place of its own, and answered so
 pub record IsGivenRadio {R : Type 0} (radio : RadioModel R) (other : R)
@@ -55,5 +58,7 @@ pub record IsGivenRadio {R : Type 0} (radio : RadioModel R) (other : R)
   pub installed : OnOk answer (radio.stations (radio_of new) ≡ wanted_of old)
   pub faults : OnOk answer (radio.faults (radio_of new) ≡ radio.faults other)
   pub own : IfOk answer (λ own. (radio.stations own ≡ map.empty) × (radio.faults own ≡ radio.faults (radio_of old)))
+  pub sent : OnOk answer (radio.sent (radio_of new) ≡ radio.sent other)
+  pub own_sent : IfOk answer (λ own. radio.sent own ≡ radio.sent (radio_of old))
   pub kept : OnErr answer (radio_of new ≡ radio_of old)
   pub back : IfErr answer (λ failed. IsRefused radio other failed.1 failed.0)

@@ -1,9 +1,11 @@
--- The stations that a radio should have, and those that it has, after the outs that it was given (own).
-use Rattle.std.specs.Prelude.{ℕ, Bool, true, false, List, [], ◌∷◌, Result, Ok, Err}
+-- The stations that a radio should have, those that it has, and the frames that it was handed, after the outs that it was
+-- given (own).
+use Rattle.std.specs.Prelude.{ℕ, Bool, true, false, List, [], ◌∷◌, Option, Result, Ok, Err}
 use Rattle.std.specs.FinMap as map
 use Rattle.apd_base.specs.Addr.{addr_cmp}
 use Rattle.apd_mlme.specs.declared.decision.Out.{Out}
 use Rattle.apd_mlme.specs.declared.decision.Out.TheVariants.{Install, Remove, Frame, Text}
+use Rattle.apd_radio.specs.Frames.{and_then}
 use Rattle.apd_slot.specs.declared.slot.SlotFault.{SlotFault}
 use Rattle.apd_slot.specs.declared.slot.SlotFault.TheVariants.{WentDown, Lost, NotMine, NoMemory}
 
@@ -36,6 +38,14 @@ abbrev pub installed_by : Out → Result (Unit {0}) SlotFault → Bool → Stati
 installed_by out (Ok done) true installed = wanted_after out installed
 installed_by out (Ok done) false installed = installed
 installed_by out (Err fault) is_up installed = installed
+
+-- the frames that the radio was handed and took, once an out was answered: a frame that is answered well is one more
+abbrev pub sent_by : Out → Result (Unit {0}) SlotFault → Option (List (List ℕ)) → Option (List (List ℕ))
+sent_by (Frame bytes) (Ok done) sent = and_then sent bytes
+sent_by (Frame bytes) (Err fault) sent = sent
+sent_by (Install a aid) answer sent = sent
+sent_by (Remove a) answer sent = sent
+sent_by (Text tag text) answer sent = sent
 
 -- whether the slot is up once an out was answered
 abbrev pub up_by : Result (Unit {0}) SlotFault → Bool → Bool

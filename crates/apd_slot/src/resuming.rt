@@ -33,6 +33,7 @@ pub fn associated_stations(
 pub fn install_all<R: Radio>(radio: &mut R, stations: &Identifiers) -> Result<(), SlotFault>
     ensures ok { OnOk result (R.model.stations radio.new ≡ stations.now) }
     ensures kept { R.frames radio.new ≡ R.frames radio.old }
+    ensures sent { R.model.sent radio.new ≡ R.model.sent radio.old }
     ensures errors { IfErr result (λ fault. (fault ≡ SlotFault.WentDown) ⊎ (fault ≡ SlotFault.NoMemory)) }
     ensures stays { OnOk result (R.model.faults radio.new ≡ R.model.faults radio.old) }
     ensures memory { result ≡ Err SlotFault.NoMemory → R.model.faults radio.new ≡ R.model.faults radio.old }

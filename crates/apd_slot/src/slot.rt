@@ -62,6 +62,7 @@ impl<R: Radio> Slot<R> {
         ensures queue { queue_of result ≡ [] }
         ensures frames { R.frames (radio_of result) ≡ R.frames radio }
         ensures failures { R.model.faults (radio_of result) ≡ R.model.faults radio }
+        ensures sent { R.model.sent (radio_of result) ≡ R.model.sent radio }
         ensures bssid { bssid_of result ≡ bssid }
     {
         let mut radio = radio;
@@ -126,6 +127,7 @@ impl<R: Radio> Slot<R> {
         ensures device { result ≡ Err RadioFault.Device
             → HasRisen (R.model.faults (radio_of self.old)) (R.model.faults (radio_of self.new)) }
         ensures count { R.model.faults (radio_of self.old) ≤ R.model.faults (radio_of self.new) }
+        ensures sent { R.model.sent (radio_of self.new) ≡ R.model.sent (radio_of self.old) }
         ensures same { SameButRadio self.old self.new }
         ensures wanted_then { wanted_then self.new ≡ wanted_then self.old }
     {

@@ -10,6 +10,7 @@ loop-addr-preserved g c =
       installed = installs c.args.stations.now c.rows-addr-items.result.now before.rows c.loop-addr.addr-index _ c.loop-addr-test.true _ _ before.installed c.in-Ok.ensures.ok;
       frames = c.in-Ok.ensures.kept ∙ before.frames;
       faults = c.in-Ok.ensures.stays ∙ before.faults;
+      sent = c.in-Ok.ensures.sent ∙ before.sent;
     }
 
 pub returns-clause-ok : goal.returns-clause-ok

@@ -9,4 +9,5 @@ invariant-loop-addr g l = record {
   installed : g.R.Radio.model.stations l.radio ≡ map.from_entries (take l.addr-index l.addr-items);
   frames : g.R.Radio.frames l.radio ≡ g.R.Radio.frames l.initial.radio;
   faults : g.R.Radio.model.faults l.radio ≡ g.R.Radio.model.faults l.initial.radio;
+  sent : g.R.Radio.model.sent l.radio ≡ g.R.Radio.model.sent l.initial.radio;
 }

@@ -27,4 +27,8 @@ returns-clause-device g c =
 
 pub returns-clause-count : goal.returns-clause-count
 returns-clause-count g c =
-    subst (λ p. (g.dyn-1.0.entry p.0).1.model.faults p.1 ≤ (g.dyn-1.0.entry c.deref_box_mut-1.result.now.0).1.model.faults c.remove.new.self) c.deref_box_mut-1.ensures.value.1 c.remove.ensures.1.1.1.1.1.1
+    subst (λ p. (g.dyn-1.0.entry p.0).1.model.faults p.1 ≤ (g.dyn-1.0.entry c.deref_box_mut-1.result.now.0).1.model.faults c.remove.new.self) c.deref_box_mut-1.ensures.value.1 c.remove.ensures.1.1.1.1.1.1.0
+
+pub returns-clause-sent : goal.returns-clause-sent
+returns-clause-sent g c =
+    subst (λ p. (g.dyn-1.0.entry c.deref_box_mut-1.result.now.0).1.model.sent c.remove.new.self ≡ (g.dyn-1.0.entry p.0).1.model.sent p.1) c.deref_box_mut-1.ensures.value.1 c.remove.ensures.1.1.1.1.1.1.1

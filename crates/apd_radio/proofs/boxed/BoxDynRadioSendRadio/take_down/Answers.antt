@@ -8,4 +8,8 @@ returns-clause-kept g c =
 
 pub returns-clause-stays : goal.returns-clause-stays
 returns-clause-stays g c =
-    subst (λ p. (g.dyn-1.0.entry c.deref_box_mut-1.result.now.0).1.model.faults c.take_down.new.self ≡ (g.dyn-1.0.entry p.0).1.model.faults p.1) c.deref_box_mut-1.ensures.value.1 c.take_down.ensures.1.1
+    subst (λ p. (g.dyn-1.0.entry c.deref_box_mut-1.result.now.0).1.model.faults c.take_down.new.self ≡ (g.dyn-1.0.entry p.0).1.model.faults p.1) c.deref_box_mut-1.ensures.value.1 c.take_down.ensures.1.1.0
+
+pub returns-clause-sent : goal.returns-clause-sent
+returns-clause-sent g c =
+    subst (λ p. (g.dyn-1.0.entry c.deref_box_mut-1.result.now.0).1.model.sent c.take_down.new.self ≡ (g.dyn-1.0.entry p.0).1.model.sent p.1) c.deref_box_mut-1.ensures.value.1 c.take_down.ensures.1.1.1

@@ -1,6 +1,7 @@
 use Rattle.std.proofs.Common.{subst}
-use Rattle.std.specs.Prelude.{◌≡◌, ◌≤◌, OnOk, Err}
+use Rattle.std.specs.Prelude.{◌≡◌, ◌≤◌, OnOk, OnErr, Err}
 use Rattle.apd_base.specs.Failures.{HasRisen}
+use Rattle.apd_radio.specs.Frames.{and_then}
 use Rattle.apd_radio.specs.declared.radio.RadioFault.TheVariants.{Device, NoMemory}
 use Rattle.apd_radio.proofs.boxed.BoxDynRadioSendRadio.transmit.Goals as goal
 
@@ -26,4 +27,12 @@ returns-clause-device g c =
 
 pub returns-clause-count : goal.returns-clause-count
 returns-clause-count g c =
-    subst (λ p. (g.dyn-1.0.entry p.0).1.model.faults p.1 ≤ (g.dyn-1.0.entry c.deref_box_mut-1.result.now.0).1.model.faults c.transmit.new.self) c.deref_box_mut-1.ensures.value.1 c.transmit.ensures.1.1.1.1.1
+    subst (λ p. (g.dyn-1.0.entry p.0).1.model.faults p.1 ≤ (g.dyn-1.0.entry c.deref_box_mut-1.result.now.0).1.model.faults c.transmit.new.self) c.deref_box_mut-1.ensures.value.1 c.transmit.ensures.1.1.1.1.1.0
+
+pub returns-clause-sent : goal.returns-clause-sent
+returns-clause-sent g c =
+    subst (λ p. OnOk c.transmit.result ((g.dyn-1.0.entry c.deref_box_mut-1.result.now.0).1.model.sent c.transmit.new.self ≡ and_then ((g.dyn-1.0.entry p.0).1.model.sent p.1) c.args.frame.now)) c.deref_box_mut-1.ensures.value.1 c.transmit.ensures.1.1.1.1.1.1.0
+
+pub returns-clause-unsent : goal.returns-clause-unsent
+returns-clause-unsent g c =
+    subst (λ p. OnErr c.transmit.result ((g.dyn-1.0.entry c.deref_box_mut-1.result.now.0).1.model.sent c.transmit.new.self ≡ (g.dyn-1.0.entry p.0).1.model.sent p.1)) c.deref_box_mut-1.ensures.value.1 c.transmit.ensures.1.1.1.1.1.1.1
