@@ -109,12 +109,3 @@ module _ {D : Type 0} (disk : DiskModel D) where
       → IsCommitter disk c (state_after_flight old.core.settled (flight_of old.core)) None old.core.failed → IsWhole disk (record old { core = core; committer = c })
   settled_whole receipt old core c flight is h =
       subst (λ (s : CoreState). IsWhole disk (record old { core = s; committer = c })) (sym is) (rw (in_flight old.core flight.0) at h)
-
-  -- the receipt is refused, and is taken back
-  pub refused_whole : (receipt kept : Receipt) (old : DurableCore D) (core : CoreState) (mid c : Committer D) → kept ≡ receipt → core ≡ old.core → flight_of old.core ≡ Some (held_batch receipt)
-      → IsCommitter disk mid (state_after_flight old.core.settled (flight_of old.core)) None old.core.failed
-      → (IsCommitter disk mid (state_after_flight old.core.settled (Some (held_batch kept))) None old.core.failed → IsCommitter disk c old.core.settled (Some (held_batch kept)) old.core.failed)
-      → IsWhole disk (record old { core = core; committer = c })
-  refused_whole receipt kept old core mid c own same flight h back =
-      let is : flight_of old.core ≡ Some (held_batch kept) = flight ∙ ap (λ (r : Receipt). Some (held_batch r)) (sym own) in
-      subst (λ (s : CoreState). IsWhole disk (record old { core = s; committer = c })) (sym same) (rw is (back (rw is at h)))

@@ -51,7 +51,7 @@ module _ {D R : Type 0} (disk : DiskModel D) (radio : RadioModel R) where
   publish_short (Published (Ok x)) d e h way = inl tt
   publish_short (Published (Err publish_fault.NoMemory)) d e h way = inr refl
   publish_short (Published (Err publish_fault.Foreign)) d e h way = ⊎_elim
-      (λ none. ⊎_elim (λ waits. none_some (waiting_receipt d.committer) h.receipt none.1.0 waits.0) (λ given. absurd (none.1.1 given.1.done)) h.next)
+      (λ none. ⊎_elim (λ waits. none_some (waiting_receipt d.committer) h.0 none.1.0 waits.0) (λ given. absurd (none.1.1 given.1.done)) h.1.next)
       (λ is. absurd (let no : commit.Foreign ≡ commit.NoMemory = is in cc)) way
   publish_short Nothing d e h way = inl tt
   publish_short t d e h way = absurd h

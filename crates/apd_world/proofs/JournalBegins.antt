@@ -2,16 +2,18 @@
 use Rattle.std.proofs.Common.{◌≡◌, ℕ, List, [], ◌++◌, Option, Result, refl, sym, ap, subst, ◌∙◌, arith}
 use Rattle.std.specs.Prelude.{map}
 use Rattle.std.proofs.lemmas.List.{append-nil}
-use Rattle.apd_world.proofs.Words.{Bssid, Conf, Control, CoreState, DiskModel, IsCore, IsReplaced, Out, Radio, RadioModel, Recipient, Sound, State, World, WorldFault, durable_of, new_core, queue_of, ready_for, slot_at, slots_of, up_to}
+use Rattle.apd_slot.specs.Mending.{IsMended}
+use Rattle.apd_world.proofs.Words.{Bssid, Conf, Control, CoreState, DiskModel, IsCore, IsReplaced, IsSafe, Out, Radio, RadioModel, Recipient, Slot, Sound, State, World, WorldFault, durable_of, new_core, queue_of, ready_for, slot_at, slots_of, up_to}
 use Rattle.apd_core.specs.Held.{Queue, queue_of as held_queue}
 use Rattle.apd_core.specs.Invariant.{AreDecided}
 use Rattle.apd_core.proofs.HeldLemmas.{queue_of-no_outs}
 use Rattle.apd_core.proofs.Settling.{decided_fit}
 use Rattle.apd_world.specs.Journal.{Journal}
+use Rattle.apd_world.specs.Mending.{IsMendedAt}
 use Rattle.apd_world.specs.StandsFor.{BeginsAt, IsJournalOf, LeadsSafely, StandsFor, waiting_outs}
 use Rattle.apd_world.proofs.JournalLemmas.{still_leads}
-use Rattle.apd_world.proofs.Moving.{moved_flows}
-use Rattle.apd_world.proofs.ReplaceLemmas.{replaced_moved, same_durable}
+use Rattle.apd_world.proofs.Moving.{MovedAt, moved_flows}
+use Rattle.apd_world.proofs.ReplaceLemmas.{mended_moved, replaced_moved, same_durable}
 
 module _ {D R : Type 0} (w : World D R) where
   abbrev core : CoreState
@@ -77,20 +79,27 @@ module _ {D R : Type 0} (w : World D R) where
       waiting = λ r. sym (λ i. none_waits r i ++ none_ready r i);
     }
 
--- a replaced radio leaves the journal
-module _ {D R : Type 0} (disk : DiskModel D) (radio : RadioModel R) (frames : R → Option (List (List ℕ))) (b : Bssid) (other : R) (answer : Result R (R × WorldFault)) (old new : World D R)
-    (h : IsReplaced disk radio frames b other answer old new) (j : Journal) (stands : StandsFor old j) where
-  abbrev same : durable_of new ≡ durable_of old
-  same = same_durable disk radio frames b other old new answer h
-
+-- a call that moves no out leaves the journal
+module _ {D R : Type 0} (disk : DiskModel D) (radio : RadioModel R) (old new : World D R) (same : durable_of new ≡ durable_of old) (moved : (c : Bssid) → MovedAt radio old new c [] [])
+    (safe : IsSafe disk (durable_of old) (durable_of new)) (j : Journal) (stands : StandsFor old j) where
   still_waits : (r : Recipient) → waiting_outs r new ≡ waiting_outs r old
   still_waits (Radio c) =
-      moved_flows [] [] (slot_at (slots_of old) c) (slot_at (slots_of new) c) (replaced_moved disk radio frames b other old new answer h c)
+      moved_flows [] [] (slot_at (slots_of old) c) (slot_at (slots_of new) c) (moved c)
       ∙ append-nil (queue_of old c)
   still_waits Control = refl
 
-  replaced_stands : StandsFor new j
-  replaced_stands = subst (λ X. X) (λ i. IsJournalOf (sym same i).core (λ r. sym (still_waits r) i) j) stands
+  still_stands : StandsFor new j
+  still_stands = subst (λ X. X) (λ i. IsJournalOf (sym same i).core (λ r. sym (still_waits r) i) j) stands
 
-  pub replaced_leads : LeadsSafely disk [] [] old new j j
-  replaced_leads = still_leads disk old new j h.safe stands replaced_stands
+  pub unmoved_leads : LeadsSafely disk [] [] old new j j
+  unmoved_leads = still_leads disk old new j safe stands still_stands
+
+module _ {D R : Type 0} (disk : DiskModel D) (radio : RadioModel R) (frames : R → Option (List (List ℕ))) (b : Bssid) (old new : World D R) where
+  pub replaced_leads : (other : R) (answer : Result R (R × WorldFault)) → IsReplaced disk radio frames b other answer old new → (j : Journal) → StandsFor old j → LeadsSafely disk [] [] old new j j
+  replaced_leads other answer h =
+      unmoved_leads disk radio old new (same_durable disk radio frames b other old new answer h) (replaced_moved disk radio frames b other old new answer h) h.safe
+
+  pub mended_leads : (spares : List R) (So : Slot R → Slot R → Type 0) (is : (was now : Slot R) → So was now → IsMended radio frames spares was now) (Idle : Type 0)
+      → IsMendedAt disk b So Idle old new → (j : Journal) → StandsFor old j → LeadsSafely disk [] [] old new j j
+  mended_leads spares So is Idle h =
+      unmoved_leads disk radio old new (ap durable_of h.only) (mended_moved disk radio frames b spares old new So is Idle h) h.safe

@@ -1,24 +1,31 @@
 -- What an image that a journal keeps says of the stations.
-use Rattle.std.proofs.Common.{Bool, true, false, cond, ◌≡◌, ◌≢◌, ◌⊎◌, inl, inr, ⊎_elim, ℕ, zero, suc, ◌+◌, ◌-◌, ◌≤◌, ◌<◌, List, [], ◌∷◌, ◌++◌, length, take, Option, Some, None, refl, sym, ap, subst, ◌∙◌, arith}
+use Rattle.std.proofs.Common.{Bool, true, false, add-one, cond, ◌≡◌, ◌⊎◌, inl, inr, ⊎_elim, ℕ, zero, suc, ◌+◌, ◌-◌, ◌≤◌, ◌<◌, List, [], ◌∷◌, ◌++◌, length, take, Option, Some, None, refl, sym, ap, subst, ◌∙◌, arith}
 use Rattle.std.proofs.lemmas.Bool.{cases_eq}
 use Rattle.std.proofs.lemmas.List.{length-take-le, take-append-le, take-take}
-use Rattle.std.specs.List.{AllByRecursion, Contains}
-use Rattle.std.specs.Prelude.{IsSomeAnd, filter, map}
-use Rattle.apd_base.specs.declared.station.Aid.{Aid}
+use Rattle.std.specs.List.{AllByRecursion, Contains, slice_get}
+use Rattle.std.specs.Prelude.{◌↔◌, IsSome, IsSomeAnd, IsTrue, filter, map}
+use Rattle.apd_base.specs.declared.station.Which.{Which}
 use Rattle.apd_frame.specs.declared.replies.ReplyBody.{ReplyBody}
-use Rattle.apd_frame.specs.declared.replies.ReplyBody.TheVariants.{Assoc, Reassoc}
-use Rattle.apd_mlme.specs.declared.decision.Out.TheVariants.{Install, Frame}
+use Rattle.apd_frame.specs.declared.replies.ReplyBody.TheVariants.{Auth, Assoc, Reassoc}
+use Rattle.apd_mlme.specs.declared.decision.Out.TheVariants.{Install, Frame, Text}
 use Rattle.apd_world.proofs.Words.{Addr, Answer, AreFit, Bssid, Conf, Happening, LastHeard, Out, Radio, Recipient, Shows, Sound, State, aid_at, outs_run, outs_to, run, verdict}
 use Rattle.apd_core.proofs.Queues.{all_weaker}
+use Rattle.apd_mlme.specs.Happening.{ListEdit}
 use Rattle.apd_mlme.specs.Outs.{is_same}
+use Rattle.apd_mlme.specs.declared.command_answer.Answer.TheVariants.{Done, Refused}
+use Rattle.apd_mlme.specs.declared.event.Edit.{Edit}
+use Rattle.apd_mlme.specs.laws.Command.{IsAnsweredTo, IsOnAfter}
+use Rattle.apd_mlme.specs.rules.{IsFit}
+use Rattle.apd_mlme.specs.rules.Commands.{text}
 use Rattle.apd_mlme.specs.laws.Outs.{AreSo, IsSaidSo, IsSo}
 use Rattle.apd_mlme.proofs.TrueOutsLemmas.{all_both, verdict_so}
 use Rattle.apd_mlme.proofs.VerdictLemmas.{run_sound, stay_end}
-use Rattle.apd_base.specs.State.{empty_state}
+use Rattle.apd_base.specs.Sets.{contains}
+use Rattle.apd_base.specs.State.{empty_state, station_at, IsListed}
 use Rattle.apd_store.specs.Image.{IsCurrent}
 use Rattle.apd_world.specs.Journal.{GoesOn, IsJournal, Journal, Keeps, after}
-use Rattle.apd_world.specs.Lasting.{BodyLasts, Lasts, OutLasts, SaysOtherwise, WasSo}
-use Rattle.apd_world.proofs.Goings.{is_or_not}
+use Rattle.apd_world.specs.Lasting.{BodyLasts, Fact, HasAid, HasRow, Holds, IsOff, IsOn, Lasts, OutLasts, SaysOtherwise, WasEdited, WasSo}
+use Rattle.apd_world.proofs.Goings.{is_or_not, run-append}
 
 -- a state that an image shows is sound
 current_sound : (half other : List ℕ) (gate : ℕ) (s : State) → IsCurrent half other gate s → Sound s
@@ -28,23 +35,39 @@ pub shown_sound : (image : List ℕ) (s : State) → Shows image s → Sound s
 shown_sound image s h = ⊎_elim (current_sound h.a h.b h.gate s) (current_sound h.b h.a h.gate s) h.current
 
 -- ---- it stays until something says otherwise
-same_or_not : (o : Option ℕ) (n : ℕ) → (o ≡ Some n) ⊎ (o ≢ Some n)
+same_or_not : (o : Option ℕ) (n : ℕ) → (o ≡ Some n) ⊎ (¬ (o ≡ Some n))
 same_or_not None n = inr (λ is. cc)
 same_or_not (Some m) n = ⊎_elim (λ same. inl (ap Some same)) (λ apart. inr (λ is. apart (let both : Some m ≡ Some n = is in cc))) (cases_eq m n)
 
-module _ (j : Journal) (b : Bssid) (a : Addr) (aid : ℕ) where
-  abbrev IsSoAt : ℕ → Type 0
-  IsSoAt n = aid_at (after j n) b a ≡ Some aid
+some_or_not : {T : Type 0} (o : Option T) → IsSome o ⊎ ¬ IsSome o
+some_or_not None = inr (λ is. let no : false ≡ true = is in cc)
+some_or_not (Some x) = inl refl
 
-  stays : (more n : ℕ) → IsSoAt n → n + more ≤ length j.happened → IsSoAt (n + more) ⊎ SaysOtherwise j n b a aid
-  stays zero n so within = inl (subst IsSoAt (let same : n ≡ n + 0 = omega arith in same) so)
-  stays (suc more) n so within = ⊎_elim
+on_or_off : (on : Bool) → IsTrue on ⊎ ¬ IsTrue on
+on_or_off true = inl refl
+on_or_off false = inr (λ is. let no : false ≡ true = is in cc)
+
+off_or_on : (on : Bool) → (¬ IsTrue on) ⊎ ¬ (¬ IsTrue on)
+off_or_on true = inr (λ off. off refl)
+off_or_on false = inl (λ is. let no : false ≡ true = is in cc)
+
+-- whether it holds
+holds_or_not : (fact : Fact) (s : State) → Holds fact s ⊎ ¬ Holds fact s
+holds_or_not (HasAid b a aid) s = same_or_not (aid_at s b a) aid
+holds_or_not (HasRow b a) s = some_or_not (station_at s b a)
+holds_or_not (IsOn b w a) s = on_or_off (contains s.lists (b, w, a))
+holds_or_not (IsOff b w a) s = off_or_on (contains s.lists (b, w, a))
+
+module _ (j : Journal) (fact : Fact) where
+  stays : (more n : ℕ) → Holds fact (after j n) → Holds fact (after j (n + more)) ⊎ SaysOtherwise j n (n + more) fact
+  stays zero n so = inl (subst (λ m. Holds fact (after j m)) (let same : n ≡ n + 0 = omega arith in same) so)
+  stays (suc more) n so = ⊎_elim
       (λ still. ⊎_elim
-      (λ end. inl (subst IsSoAt (let same : n + 1 + more ≡ n + suc more = omega arith in same) end))
-      (λ o. inr (record { place = o.place; later = (let l = o.later in omega (arith, l)); there = o.there; was = o.was; ended = o.ended }))
-      (stays more (n + 1) still (omega (arith, within))))
-      (λ ended. inr (record { place = n; later = omega arith; there = omega (arith, within); was = so; ended = ended }))
-      (same_or_not (aid_at (after j (n + 1)) b a) aid)
+      (λ end. inl (subst (λ m. Holds fact (after j m)) (let same : n + 1 + more ≡ n + suc more = omega arith in same) end))
+      (λ o. inr (record { place = o.place; later = (let l = o.later in omega (arith, l)); within = (let w = o.within in omega (arith, w)); was = o.was; ended = o.ended }))
+      (stays more (n + 1) still))
+      (λ ended. inr (record { place = n; later = omega arith; within = omega arith; was = so; ended = ended }))
+      (holds_or_not fact (after j (n + 1)))
 
 module _ (es : List Happening) (m : LastHeard) (g : Recipient → List Out) (answers : List Answer) (old new : Journal) (goes : GoesOn es m g answers old new) where
   -- the state after some of what had happened
@@ -52,21 +75,18 @@ module _ (es : List Happening) (m : LastHeard) (g : Recipient → List Out) (ans
   after_same n within =
       ap (λ (z : Journal). after z n) goes.only ∙ ap (run old.first old.confs) (take-append-le n old.happened es within)
 
-  pub lasts : (image : List ℕ) (n : ℕ) (b : Bssid) (a : Addr) (aid : ℕ) → IsJournal old → Keeps old new image → n ≤ old.durable → aid_at (after old n) b a ≡ Some aid
-      → Lasts new image n b a aid
-  lasts image n b a aid journal keeps durable so =
+  pub lasts : (image : List ℕ) (n : ℕ) (fact : Fact) → IsJournal old → (keeps : Keeps old new image) → n ≤ old.durable → Holds fact (after old n)
+      → Lasts new image keeps.front n fact
+  lasts image n fact journal keeps durable so =
       let d = journal.durable in
       let k = keeps.all_durable in
-      let w = keeps.within in
       let more = keeps.front - n in
       let reach : n + more ≡ keeps.front = omega (arith, durable, k) in
-      let start = ap (λ (s : State). aid_at s b a) (after_same n (omega (arith, durable, d))) ∙ so in
+      let start = subst (Holds fact) (sym (after_same n (omega (arith, durable, d)))) so in
       record {
         was = start;
-        still = ⊎_elim
-            (λ so. inl (after new keeps.front, keeps.shows, subst (λ m. aid_at (after new m) b a ≡ Some aid) reach so))
-            (λ o. inr o)
-            (stays new b a aid more n start (omega (arith, reach, w)));
+        shows = keeps.shows;
+        still = subst (λ front. Holds fact (after new front) ⊎ SaysOtherwise new n front fact) reach (stays new fact more n start);
       }
 
 -- ---- what an out says is so
@@ -144,20 +164,67 @@ some_weaker None P Q f h = h
 module _ (es : List Happening) (m : LastHeard) (g : Recipient → List Out) (answers : List Answer) (old new : Journal) (goes : GoesOn es m g answers old new) (image : List ℕ) (journal : IsJournal old)
     (keeps : Keeps old new image) (b : Bssid) where
   module _ (n : ℕ) (le : n ≤ old.durable) where
-    lasts_at : (a : Addr) (aid : Aid) → aid_at (after old n) b a ≡ Some aid.number → Lasts new image n b a aid.number
-    lasts_at a aid so = lasts es m g answers old new goes image n b a aid.number journal keeps le so
+    lasts_at : (fact : Fact) → Holds fact (after old n) → Lasts new image keeps.front n fact
+    lasts_at fact so = lasts es m g answers old new goes image n fact journal keeps le so
 
-    body_lasts : (a : Addr) (body : ReplyBody) → IsSaidSo (after old n) b a body → BodyLasts new image n b a body
-    body_lasts a (Assoc response) so = λ success. some_weaker response.aid _ _ (lasts_at a) (so success)
-    body_lasts a (Reassoc response) so = λ success. some_weaker response.aid _ _ (lasts_at a) (so success)
+    body_lasts : (a : Addr) (body : ReplyBody) → IsSaidSo (after old n) b a body → BodyLasts new image keeps.front n b a body
+    body_lasts a (Auth algorithm transaction status) so = λ success. lasts_at (HasRow b a) (so success)
+    body_lasts a (Assoc response) so = λ success. some_weaker response.aid _ _ (λ aid. lasts_at (HasAid b a aid.number)) (so success)
+    body_lasts a (Reassoc response) so = λ success. some_weaker response.aid _ _ (λ aid. lasts_at (HasAid b a aid.number)) (so success)
     body_lasts a body so = tt
 
-    out_lasts : (out : Out) → IsSo (after old n) (Radio b, out) → OutLasts new image n b out
-    out_lasts (Install a aid) so = lasts_at a aid so
+    out_lasts : (out : Out) → IsSo (after old n) (Radio b, out) → OutLasts new image keeps.front n b out
+    out_lasts (Install a aid) so = lasts_at (HasAid b a aid.number) so
     out_lasts (Frame bytes) so = (so.0, so.1, so.2, body_lasts so.0.to so.0.body so.3)
     out_lasts out so = tt
 
-  pub given_lasts : AllByRecursion (λ out. Contains (old.owed (Radio b)) out ⊎ ((n : ℕ) × (n ≤ old.durable) × OutLasts new image n b out)) (old.given (Radio b))
+  pub given_lasts : AllByRecursion (λ out. Contains (old.owed (Radio b)) out ⊎ ((n : ℕ) × (n ≤ old.durable) × OutLasts new image keeps.front n b out)) (old.given (Radio b))
   given_lasts = all_weaker _ _
       (λ out so. ⊎_elim (λ owed. inl owed) (λ was. let lt = was.durable in let le : was.place + 1 ≤ old.durable = omega (arith, lt) in inr (was.place + 1, le, out_lasts (was.place + 1) le out was.so)) so)
       (old.given (Radio b)) (told_so old (Radio b) journal)
+
+-- ---- a list that was edited
+at_place : {A : Type 0} (xs : List A) (n : ℕ) (x : A) → slice_get xs n ≡ Some x → (n < length xs) × (take (suc n) xs ≡ take n xs ++ x ∷ [])
+at_place [] n x is = cc
+at_place (y ∷ xs) zero x is = (omega arith, (let both : Some y ≡ Some x = is in cc))
+at_place (y ∷ xs) (suc n) x is = let more = at_place xs n x is in (let lt = more.0 in omega (arith, lt), ap (λ zs. y ∷ zs) more.1)
+
+fit_at : (confs : List Conf) (hs : List Happening) (n : ℕ) (h : Happening) (s : State) → AreFit s confs hs → slice_get hs n ≡ Some h → IsFit (run s confs (take n hs)) confs h
+fit_at confs [] n h s fit is = cc
+fit_at confs (x ∷ hs) zero h s fit is = let both : Some x ≡ Some h = is in subst (IsFit s confs) (cc) fit.0
+fit_at confs (x ∷ hs) (suc n) h s fit is = fit_at confs hs n h (verdict s confs x).state fit.1 is
+
+-- OK is not FAIL
+abbrev first_byte : Out → ℕ
+first_byte (Text tag (byte ∷ bytes)) = byte
+first_byte out = 0
+
+refused_alone : (tag : ℕ) → Contains (text tag Refused ∷ []) (text tag Done) → ⊥
+refused_alone tag (zero, lt, is) = let no = ap (λ (x : Recipient × Out). first_byte x.1) is in absurd (omega (arith, no))
+refused_alone tag (suc n, lt, is) = absurd (omega (arith, lt))
+
+not_refused : (tag : ℕ) (outs : List (Recipient × Out)) → outs ≡ text tag Refused ∷ [] → Contains outs (text tag Done) → ⊥
+not_refused tag outs only has = refused_alone tag (subst (λ os. Contains os (text tag Done)) only has)
+
+-- that each command is answered, as the law on commands says
+abbrev pub AreAnswered : Type 0
+AreAnswered = (s : State) (confs : List Conf) (h : Happening) → IsFit s confs h → Sound s → IsAnsweredTo s h (verdict s confs h)
+
+module _ (all_answered : AreAnswered) (j : Journal) (place : ℕ) (b : Bssid) (w : Which) (edit : Edit) (journal : IsJournal j) (was : WasEdited j place b w edit) where
+  abbrev h : Happening
+  h = ListEdit b w edit was.tag
+
+  next_is : after j (place + 1) ≡ (verdict (after j place) j.confs h).state
+  next_is = ap (λ n. run j.first j.confs (take n j.happened)) (add-one place) ∙ ap (run j.first j.confs) (at_place j.happened place h was.happened).1 ∙ run-append j.confs (take place j.happened) (h ∷ []) j.first
+
+  before_sound : Sound (after j place)
+  before_sound = run_sound j.confs (take place j.happened) j.first (fit_front j.confs place j.happened j.first journal.fit) journal.sound
+
+  answered : IsAnsweredTo (after j place) h (verdict (after j place) j.confs h)
+  answered = all_answered (after j place) j.confs h (fit_at j.confs j.happened place h j.first journal.fit was.happened) before_sound
+
+  pub listed_as_edited : (d : Addr) → IsListed (after j (place + 1)) b w d ↔ IsOnAfter (after j place) b w edit d
+  listed_as_edited d = ⊎_elim
+      (λ done. subst (λ (s : State). IsListed s b w d ↔ IsOnAfter (after j place) b w edit d) (sym next_is) (done.1.list d))
+      (λ refused. absurd (not_refused was.tag (verdict (after j place) j.confs h).outs refused.1.outs was.answered))
+      answered

@@ -1,7 +1,11 @@
 mod Accounts
 pub mod EndLemmas
+mod FailLemmas
 mod FollowLemmas
+mod FromSteps
 mod Moving
+mod CutShort
+mod Order
 mod Goings
 mod JournalBegins
 mod JournalLemmas
@@ -15,5 +19,6 @@ pub mod RunLemmas
 mod DurableSteps
 mod Speaking
 mod StepLemmas
+mod Replies
 mod ReplaceLemmas
 mod Words

@@ -1,8 +1,11 @@
 -- A slot whose radio was replaced, in its world.
-use Rattle.std.proofs.Common.{◌≡◌, ℕ, List, [], Option, Some, Result, Ok, Err, refl, sym, ap, subst, ◌∙◌, get_or, set}
+use Rattle.std.proofs.Common.{◌≡◌, ℕ, List, [], Option, Some, Result, Ok, Err, ⊎_elim, refl, sym, ap, subst, ◌∙◌, get_or, set}
 use Rattle.std.proofs.lemmas.List.{append-nil}
 use Rattle.apd_world.proofs.Words.{AreFollowing, Bssid, DiskModel, DurableCore, Goes, IsReplaced, IsReplacedAt, RadioModel, RefusesRadio, Replaces, Slot, SlotFault, SlotGoes, World, WorldFault, durable_of, slot_place, slots_of}
+use Rattle.apd_slot.specs.Mending.{IsMended}
 use Rattle.apd_slot.specs.Slots.{queue_of as slot_queue}
+use Rattle.apd_slot.specs.Wanted.{wanted_after_all}
+use Rattle.apd_world.specs.Mending.{IsMendedAt}
 use Rattle.apd_world.specs.declared.fault.WorldFault.TheVariants as world_fault
 use Rattle.apd_world.proofs.FollowLemmas.{follow_on}
 use Rattle.apd_world.proofs.Goings.{goes_unchanged}
@@ -46,3 +49,22 @@ module _ {D R : Type 0} (disk : DiskModel D) (radio : RadioModel R) (frames : R 
       pub replaced_following : AreFollowing old → AreFollowing new
       replaced_following = follow_on radio old new [] (λ r. []) (λ c. [])
           (subst (λ (d : DurableCore D). Goes [] (λ r. []) (durable_of old).core d.core) (sym same_durable) (goes_unchanged (durable_of old).core)) replaced_moved
+
+-- ---- a slot that was mended
+module _ {D R : Type 0} (disk : DiskModel D) (radio : RadioModel R) (frames : R → Option (List (List ℕ))) (b : Bssid) (spares : List R) (old new : World D R) where
+  still_then : (was now : Slot R) → IsMended radio frames spares was now → IsMoved [] [] was now
+  still_then was now h = record {
+    queue = h.queue ∙ sym (append-nil (slot_queue was));
+    wanted = λ i. wanted_after_all (h.queue i) (h.wanted i);
+  }
+
+  module _ (So : Slot R → Slot R → Type 0) (is : (was now : Slot R) → So was now → IsMended radio frames spares was now) (Idle : Type 0)
+      (h : IsMendedAt disk b So Idle old new) where
+    pub mended_moved : (c : Bssid) → MovedAt radio old new c [] []
+    mended_moved c =
+        ⊎_elim (λ goes. goes_moved radio old new c b So (λ t. []) (λ t. []) refl refl (λ was now so. still_then was now (is was now so)) goes)
+        (λ none. rest_moved radio old new c (ap slots_of none.2)) h.mended
+
+    pub mended_following : AreFollowing old → AreFollowing new
+    mended_following = follow_on radio old new [] (λ r. []) (λ c. [])
+        (subst (λ (d : DurableCore D). Goes [] (λ r. []) (durable_of old).core d.core) (sym (ap durable_of h.only)) (goes_unchanged (durable_of old).core)) mended_moved

@@ -1,10 +1,9 @@
 -- Slots that resume, and a world begun anew with them.
 use Rattle.std.proofs.Common.{◌≡◌, ◌⊎◌, inl, inr, true, ℕ, ◌<◌, List, [], length, map, Option, Some, None, Err, take, refl, sym, ap, subst, ◌∙◌, arith, get_or, set, length-set}
 use Rattle.std.specs.FinMap as maps
-use Rattle.std.specs.Prelude.{◌↔◌}
 use Rattle.std.proofs.lemmas.List.{get_or-set_same, take-set}
 use Rattle.std.proofs.lemmas.Option.{slice_get-get_or}
-use Rattle.apd_world.proofs.Words.{Addr, AreExact, AreHandedBack, AreHeardAt, AreLeft, AreResumed, Bssid, Conf, CoreState, DiskModel, DurableCore, EndsAtSlot, HasNotResumed, IsExact, IsResumed, LastHeard, LeavesOnly, Moment, Radio, RadioModel, Shows, Slot, SlotFault, Sound, State, Store, StoreFault, WorldFault, aid_at, bssid_of, driver_after_all, front_of, held_for, installed_rows, new_core, queue_if, radio_of, slot_at, slot_in, slot_place, wanted_after_all, wanted_then}
+use Rattle.apd_world.proofs.Words.{Addr, AreExact, AreHandedBack, AreHeardAt, AreLeft, AreResumed, Bssid, Conf, CoreState, DiskModel, DurableCore, EndsAtSlot, HasNotResumed, IsExact, IsResumed, LastHeard, LeavesOnly, Moment, Radio, RadioModel, Shows, Slot, SlotFault, Sound, State, Store, StoreFault, WorldFault, aid_at, bssid_of, device_of, driver_after_all, front_of, held_for, installed_rows, new_core, queue_if, radio_of, slot_at, slot_in, slot_place, wanted_after_all, wanted_then}
 use Rattle.apd_core.proofs.HeldLemmas.{queue_of-no_outs}
 use Rattle.apd_core.proofs.Queues.{all_weaker}
 use Rattle.apd_disk.specs.Disk.{Only}
@@ -96,6 +95,9 @@ module _ {D : Type 0} (disk : DiskModel D) (device : D) (store : Store D) (table
       same_table : new.core.settled ≡ table
       same_table = ap (λ (s : CoreState). s.settled) begun.core
 
+      made_honest : disk.honest (device_of new) → disk.honest (store_device store)
+      made_honest = subst (λ (s : Store D). disk.honest (store_device s)) begun.over
+
       pub begun_from : IsBegunAnew disk device confs m new
       begun_from = record {
         length = found.length;
@@ -104,19 +106,25 @@ module _ {D : Type 0} (disk : DiskModel D) (device : D) (store : Store D) (table
         sound = subst Sound (sym same_table) begun.sound;
         whole = begun.whole found.inside found.ready;
         count = ap (λ (s : Store D). disk.failed (store_device s)) begun.over ∙ found.count;
+        was_honest = λ honest. found.was_honest (made_honest honest);
       }
 
-      pub honestly_begun_from : disk.honest device → IsHonestlyRecovered disk device store table
-          → ((s : State) → Shows (disk.reads device) s → table ≡ s) → IsHonestlyBegunAnew disk device new
-      honestly_begun_from honest held one = record {
-        shown = subst (Shows (disk.reads device)) (sym same_table) held.shown;
-        recovered = λ old last kept. same_table ∙ one (after last kept.front) kept.shows;
-        proper = begun.proper (found.stays_honest.0 honest) found.inside held.idle;
-        images = subst (λ (s : Store D). Only (disk.reads device) (disk.may_leave (store_device s))) (sym begun.over)
-            (images held);
-        any_moment = subst (λ (s : Store D). LeavesOnly disk device (store_device s) (disk.may_leave device))
-            (sym begun.over) held.any_moment;
-      }
+      pub honestly_begun_from : disk.honest (device_of new)
+          → (disk.honest (store_device store) → IsHonestlyRecovered disk device store table)
+          → ((s : State) → Shows (disk.reads device) table → Shows (disk.reads device) s → table ≡ s)
+          → IsHonestlyBegunAnew disk device new
+      honestly_begun_from honest recovered one =
+          let made = made_honest honest in
+          let held = recovered made in
+          record {
+            shown = subst (Shows (disk.reads device)) (sym same_table) held.shown;
+            recovered = λ old last kept. same_table ∙ one (after last kept.front) held.shown kept.shows;
+            proper = begun.proper made found.inside held.idle;
+            images = subst (λ (s : Store D). Only (disk.reads device) (disk.may_leave (store_device s))) (sym begun.over)
+                (images held);
+            any_moment = subst (λ (s : Store D). LeavesOnly disk device (store_device s) (disk.may_leave device))
+                (sym begun.over) held.any_moment;
+          }
 
   -- none was
   module _ {R : Type 0} (radio : RadioModel R) (slots left : List (Slot R)) (back : D) (fault : WorldFault)
@@ -128,7 +136,7 @@ module _ {D : Type 0} (disk : DiskModel D) (device : D) (store : Store D) (table
     not_begun_from = record {
       device_failed = λ is. no_refusal store_fault.Device is;
       no_fault = λ other. ap disk.failed h.device_is ∙ found.count;
-      stays_honest = subst (λ d. disk.honest device ↔ disk.honest d) (sym h.device_is) found.stays_honest;
+      was_honest = λ honest. found.was_honest (subst disk.honest h.device_is honest);
     }
 
     pub honestly_not_begun_from : IsHonestlyRecovered disk device store table
@@ -137,7 +145,7 @@ module _ {D : Type 0} (disk : DiskModel D) (device : D) (store : Store D) (table
       not_a_store = λ is. no_refusal store_fault.NotAStore is;
       old_version = λ is. no_refusal store_fault.OldVersion is;
       damaged = λ is. no_refusal store_fault.Damaged is;
-      durable = λ other. subst (λ d. Only (disk.reads device) (disk.may_leave d)) (sym h.device_is) (images held);
+      durable = inl (subst (λ d. Only (disk.reads device) (disk.may_leave d)) (sym h.device_is) (images held));
       still = λ image only.
           let same = only (disk.reads device) may in (
             (λ other left. images held other (subst (λ d. disk.may_leave d other) h.device_is left) ∙ same),
@@ -148,15 +156,15 @@ module _ {D : Type 0} (disk : DiskModel D) (device : D) (store : Store D) (table
     }
 
   -- for want of memory, or at a slot
-  pub ends_so : {R : Type 0} (radio : RadioModel R) (slots left : List (Slot R)) (fault : WorldFault)
-      → (disk.honest device → Shows (disk.reads device) table) → AreLeft radio table fault slots left
+  pub ends_so : {R : Type 0} (radio : RadioModel R) (back : D) (slots left : List (Slot R)) (fault : WorldFault)
+      → (disk.honest back → Shows (disk.reads device) table) → AreLeft radio table fault slots left
       → (fault ≡ world_fault.NoMemory) ⊎ ((b : Bssid) × (f : SlotFault) × (fault ≡ world_fault.Slot b f)
-      × EndsAtSlot disk radio device b f slots left)
-  ends_so radio slots left (world_fault.Slot b f) shown h =
+      × EndsAtSlot disk radio device back b f slots left)
+  ends_so radio back slots left (world_fault.Slot b f) shown h =
       inr (b, f, refl, record { table = table; shown = shown; not_resumed = h })
-  ends_so radio slots left world_fault.NoMemory shown h = inl refl
-  ends_so radio slots left (world_fault.Store e) shown h = absurd h
-  ends_so radio slots left world_fault.NoSlot shown h = absurd h
+  ends_so radio back slots left world_fault.NoMemory shown h = inl refl
+  ends_so radio back slots left (world_fault.Store e) shown h = absurd h
+  ends_so radio back slots left world_fault.NoSlot shown h = absurd h
 
 -- before any slot they are as they were
 pub still_left : {R : Type 0} (radio : RadioModel R) (table : State) (slots left : List (Slot R)) (fault : WorldFault)

@@ -4,13 +4,14 @@ use Rattle.std.proofs.lemmas.Bool.{false≢true, lt-leb, ne_eqb}
 use Rattle.std.specs.Prelude.{⊤, ◌≢◌, IsTrue, is_some, not, replicate, nat_le, ◌||◌, ◌==◌}
 use Rattle.std.specs.Option.{option_or, unwrap_or}
 use Rattle.std.proofs.lemmas.List.{replicate_more}
-use Rattle.apd_world.proofs.Words.{AreMadeInTurn, AreSafelyMade, Batch, Busy, Call, Called, Change, ComesTo, Commit, Commits, Committer, CoreState, DiskModel, Done, DurableCore, Failed, Flusher, GoesQuietly, HasNoBatch, HasNoCall, HasNoReceipt, HasRisen, HasRoomForNext, Idle, IsCalled, IsDurable, IsFlight, IsGood, IsInStep, IsNext, IsPublished, IsRound, IsSafeAtBoth, IsStepMade, IsTakenUp, IsUnderWay, IsWaiting, IsWhole, IsWorldStep, Loaded, NoMemory, Nothing, Phase, Publish, Published, RadioModel, Receipt, RestStays, State, Step, Store, StoreFault, Take, Tells, Told, World, after_call, answer_of, calls_left, device_of, durable_of, flight_of, flusher_of, held_batch, phase_of, round, commit_of, waiting_batch, waiting_receipt}
+use Rattle.apd_world.proofs.Words.{AreMadeInTurn, AreSafelyMade, Batch, Busy, Call, Called, Change, ComesTo, Commit, Commits, Committer, CoreState, DiskModel, Done, DurableCore, Failed, Flusher, GoesQuietly, HasNoBatch, HasNoCall, HasNoChangesNext, HasNoReceipt, HasRisen, HasRoomForNext, Idle, IsCalled, IsDurable, IsFlight, IsGood, IsInStep, IsNext, IsPublished, IsRound, IsSafeAtBoth, IsStepMade, IsTakenUp, IsUnderWay, IsWaiting, IsWhole, IsWorldStep, Loaded, NoMemory, Nothing, Phase, Publish, Published, RadioModel, Receipt, RestStays, State, Step, Store, StoreFault, Take, Tells, Told, World, answer_of, calls_left, device_of, durable_of, flight_of, flusher_of, held_batch, phase_of, round, commit_of, waiting_batch, waiting_receipt}
+use Rattle.apd_store.specs.Outside.{store_device}
 use Rattle.apd_store.specs.Phases.{calls_from}
 use Rattle.apd_store.specs.declared.fault.StoreFault.TheVariants as store_fault
 use Rattle.apd_store.specs.declared.phase.Phase.{Phase as StorePhase}
 use Rattle.apd_store.specs.declared.phase.Phase.TheVariants as store_phase
 use Rattle.apd_core.specs.declared.publish_fault.PublishFault.TheVariants as publish_fault
-use Rattle.apd_flusher.proofs.Turns.{quiet_or_busy}
+use Rattle.apd_flusher.proofs.Turns.{empty_or_some, quiet_or_busy}
 use Rattle.apd_flusher.specs.Handing.{HasNoReceipt as HasNone, IsNextReceipt}
 use Rattle.apd_flusher.specs.Loading.{IsNotLoaded}
 use Rattle.apd_flusher.specs.Outside.{flusher_of as flusher_in, table_of}
@@ -19,7 +20,7 @@ use Rattle.apd_world.specs.declared.step.Commit.TheVariants as commit
 use Rattle.apd_world.proofs.Goings.{quiet_then}
 use Rattle.apd_world.proofs.RunLemmas.{made_then, one_made, risen_since}
 use Rattle.apd_world.proofs.DurableSteps.{is_flight, none_flies, none_some}
-use Rattle.apd_world.proofs.Speaking.{next_core}
+use Rattle.apd_world.proofs.Speaking.{after_call, called_core, next_core, taken_next}
 
 -- ---- what is said
 -- each in turn
@@ -157,7 +158,7 @@ module _ {D : Type 0} (disk : DiskModel D) where
         let one = h.tells.0 in
         let l = made.left in
         record {
-          core = ap (λ (w : DurableCore D). w.core) h.only ∙ made.core;
+          core = called_core (Ok x) mid new h ∙ made.core;
           left = omega (arith, one, l);
           way = inr (was_busy busy, h.tells.2);
         }
@@ -176,7 +177,7 @@ module _ {D : Type 0} (disk : DiskModel D) where
               (λ was. absurd (busy_not_failed (phase_in start) began (sym (ap (λ (w : DurableCore D). phase_in w) (was_failed was)) ∙ was))) some;
           kind = h.tells.2;
           risen = λ is first. risen_since (disk.failed (device_of old)) (disk.failed (device_of mid)) (disk.failed (device_of new)) (rises is) count later first;
-          same = λ is. ap (λ (w : DurableCore D). w.core) h.only ∙ ap (λ (e : StoreFault). after_call (Err e) mid.core) is ∙ made.core;
+          same = λ is. called_core (Err fault) mid new h ∙ ap (λ (e : StoreFault). after_call (Err e) mid.core) is ∙ made.core;
           phase = h.tells.0;
         }
 
@@ -191,15 +192,15 @@ module _ {D : Type 0} (disk : DiskModel D) where
   -- a batch is refused
   refused_comes : (fault : StoreFault) (old start new : DurableCore D) → IsTakenUp (Err fault) old start → Whole start → ComesTo disk (commit.Refused fault) old new
   refused_comes fault old start new h q =
-      let batch = h.load.batch in
-      let t = h.load.tells in
-      let w = waits_for start.committer start.core.settled start.core.failed (flight_of start.core) batch h.load.waits q.in_step in
+      let batch = h.1.load.batch in
+      let t = h.1.load.tells in
+      let w = waits_for start.committer start.core.settled start.core.failed (flight_of start.core) batch h.1.load.waits q.in_step in
       let idle : phase_in old ≡ Idle = ap (λ (s : Store D). phase_from s.phase) (sym t.stays) ∙ w.idle in
       let good : IsGood batch.changes (table_of (flusher_of old)) = subst (λ (s : State). IsGood batch.changes s) (sym w.table ∙ t.table) w.good in
       ⊎_elim (λ is. busy_or_failed_not_idle (phase_in old) idle (inr (t.failed.0 is)))
       (⊎_elim (λ is. absurd (⊎_elim (λ busy. busy_or_failed_not_idle (phase_in old) idle (inl busy)) (λ was. (let no : Idle ≡ Done = sym idle ∙ was in cc)) (t.not_idle.0 is)))
       (⊎_elim (λ is. absurd (t.bad is good))
-      (⊎_elim (λ is. subst (λ (e : StoreFault). ComesTo disk (commit.Refused e) old new) (sym is) (λ lasts. ⊎_elim (t.worn is).1 (λ left. let over = (t.worn is).2 in omega (arith, left, over)) (lasts batch start.core h.next)))
+      (⊎_elim (λ is. subst (λ (e : StoreFault). ComesTo disk (commit.Refused e) old new) (sym is) (λ lasts. ⊎_elim (t.worn is).1 (λ left. let over = (t.worn is).2 in omega (arith, left, over)) (lasts batch start.core (taken_next (Err fault) old start h))))
       (λ is. subst (λ (e : StoreFault). ComesTo disk (commit.Refused e) old new) (sym is) tt))))
       t.few
 
@@ -207,15 +208,19 @@ module _ {D : Type 0} (disk : DiskModel D) where
   record IsBegun (old start : DurableCore D) : Type 0 where
     pub number : start.core.number ≡ old.core.number
     pub fails : start.core.failed ≡ old.core.failed
-    pub way : (phase_in start ≡ Busy) ⊎ (HasNoBatch old × (start ≡ old))
+    pub way : (phase_in start ≡ Busy) ⊎ (phase_in start ≡ Done) ⊎ (HasNoBatch old × (start ≡ old))
 
   begun_loaded : (x : Unit {0}) (old start : DurableCore D) → IsTakenUp (Ok x) old start → IsBegun old start
   begun_loaded x old start h =
-      let core = next_core h.load.batch old start.core h.next in
-      record { number = ap (λ (s : CoreState). s.number) core; fails = ap (λ (s : CoreState). s.failed) core; way = inl h.load.tells.busy }
+      let core = next_core h.1.load.batch old start.core (taken_next (Ok x) old start h) in
+      record {
+        number = ap (λ (s : CoreState). s.number) core;
+        fails = ap (λ (s : CoreState). s.failed) core;
+        way = ⊎_elim (λ empty. inr (inl (h.1.load.tells.done empty))) (λ some. inl (h.1.load.tells.busy some)) (empty_or_some h.1.load.batch.changes);
+      }
 
   begun_none : (old start : DurableCore D) → HasNoBatch old × (start ≡ old) → IsBegun old start
-  begun_none old start h = record { number = ap (λ (w : DurableCore D). w.core.number) h.1; fails = ap (λ (w : DurableCore D). w.core.failed) h.1; way = inr h }
+  begun_none old start h = record { number = ap (λ (w : DurableCore D). w.core.number) h.1; fails = ap (λ (w : DurableCore D). w.core.failed) h.1; way = inr (inr h) }
 
   -- ---- a round, as it was made
   pub record IsMade (first last : Told) (called : Option Commit) (calls : ℕ) (old start now new : DurableCore D) : Type 0 where
@@ -235,25 +240,28 @@ module _ {D : Type 0} (disk : DiskModel D) where
     nothing_published begun made none h = ⊎_elim
         (λ same. ⊎_elim
         (λ busy. no_call_left (phase_in start) (subst (λ (w : DurableCore D). HasNoCall w) same none) (inl busy))
+        (λ late. ⊎_elim
+        (λ done. absurd (h.0.1 (ap (λ (w : DurableCore D). phase_in w) same ∙ done)))
         (λ was.
         let all = same ∙ was.1 in
         (was.0, subst (λ (w : DurableCore D). HasNoCall w) all none, subst (λ (w : DurableCore D). HasNoReceipt w) all h.0, h.1 ∙ all))
+        late)
         begun.way)
         (λ way. ⊎_elim (λ busy. no_call_left (phase_in now) none (inl busy)) (λ is. absurd (h.0.1 is)) way.1)
         made.way
 
     settled_published : (x : Unit {0}) → IsBegun old start → AreMade calls start now → IsPublished (Ok x) now new → (old.core.number < new.core.number) × (new.core.flight ≡ 0)
     settled_published x begun made h =
-        let some = h.tells.0.0 in
-        let number = ap (λ (s : CoreState). s.number) h.tells.1 in
+        let some = h.1.tells.1.0.0 in
+        let number = ap (λ (s : CoreState). s.number) h.1.tells.1.1 in
         let before = ap (λ (s : CoreState). s.number) made.core in
         let first = begun.number in
-        (omega (arith, some, number, before, first), ap (λ (s : CoreState). s.flight) h.tells.1)
+        (omega (arith, some, number, before, first), ap (λ (s : CoreState). s.flight) h.1.tells.1.1)
 
     not_foreign : IsPublished (Err publish_fault.Foreign) now new → Whole new → ⊥
     not_foreign h q =
-        let is = receipt_of_flight new.committer new.core.settled new.core.failed (flight_of new.core) h.receipt h.kept q.in_step in
-        h.tells.0.0 refl (subst (λ (s : CoreState). IsFlight (held_batch h.receipt) s) h.tells.1 (is_flight new.core (held_batch h.receipt) is))
+        let is = receipt_of_flight new.committer new.core.settled new.core.failed (flight_of new.core) h.0 h.1.kept q.in_step in
+        h.1.tells.1.0.0 refl (subst (λ (s : CoreState). IsFlight (held_batch h.0) s) h.1.tells.1.1 (is_flight new.core (held_batch h.0) is))
 
     published_comes : (last : Told) → IsBegun old start → AreMade calls start now → HasNoCall now → Tells Publish last now new → (Whole old → Whole new) → Outcome (unwrap_or (commit_of last) commit.Nothing) old new
     published_comes (Published (Ok x)) begun made none h whole = settled_published x begun made h
@@ -296,7 +304,7 @@ module _ {D : Type 0} (disk : DiskModel D) where
     no_receipt receipt none next = ⊎_elim (λ waits. none_some (waiting_receipt now.committer) receipt none.0 waits.0) (λ given. absurd (none.1 given.1.done)) next
 
     rests_published : (last : Told) → HasNoReceipt now → Tells Publish last now new → unwrap_or (commit_of last) commit.Nothing ≡ commit.Nothing
-    rests_published (Published r) none h = no_receipt h.receipt none h.next
+    rests_published (Published r) none h = no_receipt h.0 none h.1.next
     rests_published Nothing none h = refl
     rests_published told none h = absurd h
 
@@ -311,8 +319,8 @@ module _ {D : Type 0} (disk : DiskModel D) where
 
     pub rests : (first last : Told) (called : Option Commit) → IsMade first last called calls old start now new → HasNoBatch old → HasNoCall old → HasNoReceipt old
         → unwrap_or (commit_of first) (unwrap_or called (unwrap_or (commit_of last) commit.Nothing)) ≡ commit.Nothing
-    rests (Loaded (Ok x)) last called m none still free = no_next m.takes.load.batch start.core none m.takes.next
-    rests (Loaded (Err fault)) last called m none still free = no_next m.takes.load.batch start.core none m.takes.next
+    rests (Loaded (Ok x)) last called m none still free = no_next m.takes.1.load.batch start.core none (taken_next (Ok x) old start m.takes)
+    rests (Loaded (Err fault)) last called m none still free = no_next m.takes.1.load.batch start.core none (taken_next (Err fault) old start m.takes)
     rests Nothing last called m none still free = rests_called last called m.takes.1 still free m.made m.ended m.publishes
     rests NoMemory last called m none still free = absurd (m.takes.0.1 none.1)
     rests told last called m none still free = absurd m.takes
@@ -338,7 +346,7 @@ module _ {D : Type 0} (disk : DiskModel D) where
     pub risen : (first last : Told) (called : Option Commit) → IsMade first last called calls old start now new
         → unwrap_or (commit_of first) (unwrap_or called (unwrap_or (commit_of last) commit.Nothing)) ≡ commit.Refused store_fault.Device → HasRisen (disk.failed (device_of old)) (disk.failed (device_of new))
     risen (Loaded (Ok x)) last called m is = calls_risen last called m.ended m.publishes m.count_last is
-    risen (Loaded (Err fault)) last called m is = absurd (never_device fault m.takes.load.batch (flusher_of old) (flusher_of start) m.takes.load.tells (let both : commit.Refused fault ≡ commit.Refused store_fault.Device = is in cc))
+    risen (Loaded (Err fault)) last called m is = absurd (never_device fault m.takes.1.load.batch (flusher_of old) (flusher_of start) m.takes.1.load.tells (let both : commit.Refused fault ≡ commit.Refused store_fault.Device = is in cc))
     risen Nothing last called m is = calls_risen last called m.ended m.publishes m.count_last is
     risen NoMemory last called m is = absurd (let no : commit.NoMemory ≡ commit.Refused store_fault.Device = is in cc)
     risen told last called m is = absurd m.takes
@@ -348,22 +356,59 @@ module _ {D : Type 0} (disk : DiskModel D) where
     few_calls None made ended = let l = (made refl).left in let limit = few_from (flusher_of start).store.phase in omega (arith, l, limit)
     few_calls (Some answer) made ended = (ended answer refl).refused.few
 
-    none_called : (called : Option Commit) → phase_in start ≡ Idle → (called ≡ None → AreMade calls start now) → ((answer : Commit) → called ≡ Some answer → IsRefusedCall answer calls old start now) → calls ≤ 4
-    none_called None idle made ended = ⊎_elim
+    none_called : (called : Option Commit) → (phase_in start ≡ Idle) ⊎ (phase_in start ≡ Done) → (called ≡ None → AreMade calls start now) → ((answer : Commit) → called ≡ Some answer → IsRefusedCall answer calls old start now) → calls ≡ 0
+    none_called None still made ended = ⊎_elim
         (λ same. let l = (made refl).left in let at_once = ap (λ (w : DurableCore D). calls_left (flusher_of w)) same in omega (arith, l, at_once))
-        (λ way. busy_or_failed_not_idle (phase_in start) idle (inl way.0)) (made refl).way
-    none_called (Some answer) idle made ended = busy_or_failed_not_idle (phase_in start) idle (ended answer refl).refused.some
+        (λ way. no_call_left (phase_in start) still (inl way.0)) (made refl).way
+    none_called (Some answer) still made ended = no_call_left (phase_in start) still (ended answer refl).refused.some
 
     loaded_called : (called : Option Commit) → phase_in start ≡ Busy → calls_left (flusher_of start) ≡ 4 → (called ≡ None → AreMade calls start now)
         → ((answer : Commit) → called ≡ Some answer → IsRefusedCall answer calls old start now) → calls ≤ 4
     loaded_called None busy four made ended = let l = (made refl).left in omega (arith, l, four)
     loaded_called (Some answer) busy four made ended = let l = (ended answer refl).refused.within busy in omega (arith, l, four)
 
+    none_moved : (called : Option Commit) → (phase_in start ≡ Idle) ⊎ (phase_in start ≡ Done) → (called ≡ None → AreMade calls start now) → ((answer : Commit) → called ≡ Some answer → IsRefusedCall answer calls old start now) → now ≡ start
+    none_moved None still made ended = ⊎_elim (λ same. same) (λ way. no_call_left (phase_in start) still (inl way.0)) (made refl).way
+    none_moved (Some answer) still made ended = no_call_left (phase_in start) still (ended answer refl).refused.some
+
+    -- neither taking nor publishing calls the device
+    taken_stays : (first : Told) → Tells Take first old start → device_of start ≡ device_of old
+    taken_stays (Loaded (Ok x)) h = h.1.load.tells.device
+    taken_stays (Loaded (Err fault)) h = ap (λ (s : Store D). store_device s) h.1.load.tells.stays
+    taken_stays Nothing h = ap (λ (w : DurableCore D). device_of w) h.1
+    taken_stays NoMemory h = ap (λ (w : DurableCore D). device_of w) h.1
+    taken_stays told h = absurd h
+
+    published_stays : (last : Told) → Tells Publish last now new → device_of new ≡ device_of now
+    published_stays (Published result) h = h.1.device
+    published_stays Nothing h = ap (λ (w : DurableCore D). device_of w) h.1
+    published_stays told h = absurd h
+
+    -- no batch is under way that has changes
+    taken_still : (first : Told) → Tells Take first old start → phase_in old ≡ Idle → HasNoChangesNext old → (phase_in start ≡ Idle) ⊎ (phase_in start ≡ Done)
+    taken_still (Loaded (Ok x)) h idle empty = inr (h.1.load.tells.done (empty h.1.load.batch start.core (taken_next (Ok x) old start h)))
+    taken_still (Loaded (Err fault)) h idle empty = inl (ap (λ (s : Store D). phase_from s.phase) h.1.load.tells.stays ∙ idle)
+    taken_still Nothing h idle empty = inl (ap (λ (w : DurableCore D). phase_in w) h.1 ∙ idle)
+    taken_still NoMemory h idle empty = inl (ap (λ (w : DurableCore D). phase_in w) h.1 ∙ idle)
+    taken_still told h idle empty = absurd h
+
+    pub no_calls : (first last : Told) (called : Option Commit) → IsMade first last called calls old start now new → phase_in old ≡ Idle → HasNoChangesNext old
+        → (calls ≡ 0) × (device_of new ≡ device_of old)
+    no_calls first last called m idle empty =
+        let still = taken_still first m.takes idle empty in
+        (none_called called still m.made m.ended, published_stays last m.publishes ∙ ap (λ (w : DurableCore D). device_of w) (none_moved called still m.made m.ended) ∙ taken_stays first m.takes)
+
+    few_none : calls ≡ 0 → calls ≤ 4
+    few_none none = omega (arith, none)
+
     pub four_calls : (first last : Told) (called : Option Commit) → IsMade first last called calls old start now new → phase_in old ≡ Idle → HasRoomForNext old → calls ≤ 4
-    four_calls (Loaded (Ok x)) last called m idle room = loaded_called called m.takes.load.tells.busy (m.takes.load.tells.four_calls (room m.takes.load.batch start.core m.takes.next)) m.made m.ended
-    four_calls (Loaded (Err fault)) last called m idle room = none_called called (ap (λ (s : Store D). phase_from s.phase) m.takes.load.tells.stays ∙ idle) m.made m.ended
-    four_calls Nothing last called m idle room = none_called called (ap (λ (w : DurableCore D). phase_in w) m.takes.1 ∙ idle) m.made m.ended
-    four_calls NoMemory last called m idle room = none_called called (ap (λ (w : DurableCore D). phase_in w) m.takes.1 ∙ idle) m.made m.ended
+    four_calls (Loaded (Ok x)) last called m idle room = ⊎_elim
+        (λ empty. few_none (none_called called (inr (m.takes.1.load.tells.done empty)) m.made m.ended))
+        (λ some. loaded_called called (m.takes.1.load.tells.busy some) (m.takes.1.load.tells.four_calls some (room m.takes.1.load.batch start.core (taken_next (Ok x) old start m.takes))) m.made m.ended)
+        (empty_or_some m.takes.1.load.batch.changes)
+    four_calls (Loaded (Err fault)) last called m idle room = few_none (none_called called (inl (ap (λ (s : Store D). phase_from s.phase) m.takes.1.load.tells.stays ∙ idle)) m.made m.ended)
+    four_calls Nothing last called m idle room = few_none (none_called called (inl (ap (λ (w : DurableCore D). phase_in w) m.takes.1 ∙ idle)) m.made m.ended)
+    four_calls NoMemory last called m idle room = few_none (none_called called (inl (ap (λ (w : DurableCore D). phase_in w) m.takes.1 ∙ idle)) m.made m.ended)
     four_calls told last called m idle room = absurd m.takes
 
   -- ---- from a whole durable core
@@ -530,6 +575,7 @@ module _ {D R : Type 0} (disk : DiskModel D) (radio : RadioModel R) where
           round = record {
             calls = k.calls;
             few = few_calls disk k.calls before k.start mid after called k.made k.ended;
+            none = no_calls disk k.calls before k.start mid after k.first last called made_all;
             four = four_calls disk k.calls before k.start mid after k.first last called made_all;
             tolds = tolds;
             made = steps;

@@ -8,8 +8,9 @@ use Rattle.std.proofs.lemmas.List.{append-nil, map-append, replicate_more}
 use Rattle.std.proofs.lemmas.List.Elements.{All-append, All-cons, All-head, All-map, All-nil, All-push, All-tail, All-weaker}
 use Rattle.std.proofs.lemmas.Grind.{flat_map-append}
 use Rattle.std.proofs.Math.Seq.{take-append_seam, take-suc}
-use Rattle.apd_world.proofs.Words.{Accept, Accepted, Applied, Apply, AreAccepted, AreAllApplied, AreAnswered, AreExact, AreFollowing, AreMadeInTurn, AreSafelyMade, Ask, Bssid, Call, Called, Commit, Conf, Configure, Control, CoreState, Device, DiskModel, DurableCore, GoesQuietly, Hand, Handed, Happening, HasGoneOn, HasGoneUnrefused, HasRisen, IsAtRest, IsFlushed, IsGiven, IsHandedOut, IsHanding, IsNoRefusal, IsProper, IsRound, IsSafe, IsSafeAtBoth, IsStepMade, IsWhole, IsWorldStep, Joins, Loaded, NoMemory, Nothing, OnlyHands, Out, Publish, Published, Queued, QuietReason, Radio, RadioModel, Recipient, Step, Take, Tells, Told, World, answer_of, applied_outs, applies, device_of, durable_of, after_handing_out, hands, last_of, queue_of, radio_hands, ready_for, recipient_of, round, rounds, commit_of, slots_of, up_to}
+use Rattle.apd_world.proofs.Words.{Accept, Accepted, Applied, Apply, AreAccepted, AreAllApplied, AreAnswered, AreExact, AreFollowing, AreMadeInTurn, AreSafelyMade, Ask, Bssid, Call, Called, Commit, Conf, Configure, Control, CoreState, Device, DiskModel, DurableCore, GoesQuietly, Hand, Handed, Happening, HasGoneOn, HasGoneUnrefused, HasRisen, HoldsReplies, IsAtRest, IsFlushed, IsForRadio, IsGiven, IsHandedOut, IsHanding, IsNoRefusal, IsProper, IsRound, IsSafe, IsSafeAtBoth, IsStepMade, IsWhole, IsWorldStep, Joins, Loaded, NoMemory, Nothing, OnlyHands, Out, Publish, Published, Queued, QuietReason, Radio, RadioModel, Recipient, Step, Take, Tells, Told, World, after_handing_out, answer_of, applied_outs, applies, commit_of, device_of, durable_of, hands, held_for, last_of, queue_if, queue_of, radio_hands, ready_for, recipient_of, round, rounds, slot_at, slots_of, up_to}
 use Rattle.apd_core.specs.Held.{HeldOuts}
+use Rattle.apd_core.proofs.CoreLemmas.{hand_others}
 use Rattle.apd_core.proofs.HeldLemmas.{queue_of-after_hand_other}
 use Rattle.apd_core.specs.declared.publish_fault.PublishFault.{PublishFault}
 use Rattle.apd_core.specs.declared.publish_fault.PublishFault.TheVariants as publish_fault
@@ -257,6 +258,34 @@ module _ {D R : Type 0} (radio : RadioModel R) where
   pub only_hands : (x : Step) (t : Told) (a b : World D R) → IsHanding x → IsWorldStep radio x t a b → OnlyHands (durable_of a) (durable_of b)
   only_hands x t a b hands step = tells_only x step.inside (durable_of a) (durable_of b) hands step.durable.tells
 
+-- what goes to a radio leaves the replies
+abbrev replies_in : {D : Type 0} → DurableCore D → List Out
+replies_in w = held_for Control w.core
+
+tells_replies : {D : Type 0} (x : Step) (i : Told) (d e : DurableCore D) → IsForRadio x → Tells x i d e → HoldsReplies d e
+tells_replies (Hand (Radio b)) (Handed outs) d e radio h = ap replies_in h.only ∙ hand_others d.core (Radio b) Control refl
+tells_replies (Hand (Radio b)) NoMemory d e radio h = ap replies_in h.1
+tells_replies (Hand (Radio b)) Nothing d e radio h = ap replies_in h
+tells_replies (Hand (Radio b)) told d e radio h = absurd h
+tells_replies (Apply b) Nothing d e radio h = ap replies_in h
+tells_replies (Apply b) told d e radio h = absurd h
+tells_replies x told d e radio h = absurd radio
+
+module _ {D R : Type 0} (radio : RadioModel R) where
+  pub holds_replies : (x : Step) (t : Told) (a b : World D R) → IsForRadio x → IsWorldStep radio x t a b → HoldsReplies (durable_of a) (durable_of b)
+  holds_replies x t a b for_radio step = tells_replies x step.inside (durable_of a) (durable_of b) for_radio step.durable.tells
+
+  -- and so does what meets want of memory
+  pub none_handed : (x : Step) (a b : World D R) → IsHanding x → IsWorldStep radio x NoMemory a b → HoldsReplies (durable_of a) (durable_of b)
+  none_handed (Hand (Radio r)) a b hands step = holds_replies (Hand (Radio r)) NoMemory a b tt step
+  none_handed (Apply r) a b hands step = holds_replies (Apply r) NoMemory a b tt step
+  none_handed (Hand Control) a b hands step = ap replies_in (subst (λ (i : Told). Tells (Hand Control) i (durable_of a) (durable_of b)) (sym step.joins.0) step.durable.tells).1
+  none_handed x a b hands step = absurd hands
+
+-- and where nothing happens and nothing is given, control's stay
+pub quiet_replies : {D : Type 0} (d e : DurableCore D) → GoesQuietly d.core e.core → HoldsReplies d e
+quiet_replies d e quiet = quiet.goes.outs Control ∙ append-nil (held_for Control d.core)
+
 -- no out comes to an empty queue by applying
 module _ {D R : Type 0} (disk : DiskModel D) (radio : RadioModel R) where
   pub all_stay_empty : (b : Bssid) (ts : List Told) (a c : World D R) → AreMadeInTurn disk radio (Apply b ∷ []) ts a c → (r : Bssid) → queue_of a r ≡ [] → queue_of c r ≡ []
@@ -313,22 +342,34 @@ module _ {D R : Type 0} (disk : DiskModel D) (radio : RadioModel R) where
   stays_given (Radio r) q i t a b h joins (inr none) = inr (keeps_ready (Radio r) q i (durable_of a) (durable_of b) h none)
   stays_given Control q i t a b h joins none = keeps_ready Control q i (durable_of a) (durable_of b) h none
 
-  all_stay_given : (r : Recipient) (confs : List Conf) (ts : List Told) (a b : World D R) → AreMadeInTurn disk radio (hands confs) ts a b → IsGiven r a → IsGiven r b
-  all_stay_given r [] (t ∷ []) a b h g = subst (IsGiven r) (sym h.3.0) (stays_given r Control h.1.inside t a h.0 h.1.durable.tells h.1.joins g)
+  all_stay_given : (r : Recipient) (confs : List Conf) (ts : List Told) (a b : World D R) → AreMadeInTurn disk radio (radio_hands confs) ts a b → IsGiven r a → IsGiven r b
+  all_stay_given r [] [] a b h g = subst (IsGiven r) (sym h.0) g
   all_stay_given r (c ∷ confs) (t ∷ ts) a b h g = all_stay_given r confs ts h.0 b h.3 (stays_given r (Radio c.bssid) h.1.inside t a h.0 h.1.durable.tells h.1.joins g)
-  all_stay_given r [] (t ∷ ts) a b h g = absurd h.3
   all_stay_given r confs ts a b h g = absurd h
 
-  hands_give : (confs : List Conf) (ts : List Told) (a b : World D R) → AreMadeInTurn disk radio (hands confs) ts a b → All (λ told. told ≢ NoMemory) ts
-      → All (λ conf. IsGiven (Radio conf.bssid) b) confs × IsGiven Control b
-  hands_give [] (t ∷ []) a b h told =
-      (All-nil (λ conf. IsGiven (Radio conf.bssid) b), subst (IsGiven Control) (sym h.3.0) (gives Control h.1.inside t a h.0 h.1.durable.tells h.1.joins (All-head (λ told. told ≢ NoMemory) t [] told)))
+  hands_give : (confs : List Conf) (ts : List Told) (a b : World D R) → AreMadeInTurn disk radio (radio_hands confs) ts a b → All (λ told. told ≢ NoMemory) ts
+      → All (λ conf. IsGiven (Radio conf.bssid) b) confs
+  hands_give [] [] a b h told = All-nil (λ conf. IsGiven (Radio conf.bssid) b)
   hands_give (c ∷ confs) (t ∷ ts) a b h told =
       let more = hands_give confs ts h.0 b h.3 (All-tail (λ told. told ≢ NoMemory) t ts told) in
       let one : IsGiven (Radio c.bssid) b = all_stay_given (Radio c.bssid) confs ts h.0 b h.3 (gives (Radio c.bssid) h.1.inside t a h.0 h.1.durable.tells h.1.joins (All-head (λ told. told ≢ NoMemory) t ts told)) in
-      (All-cons (λ conf. IsGiven (Radio conf.bssid) b) c confs one more.0, more.1)
-  hands_give [] (t ∷ ts) a b h told = absurd h.3
+      All-cons (λ conf. IsGiven (Radio conf.bssid) b) c confs one more
   hands_give confs ts a b h told = absurd h
+
+  -- and then control is
+  pub record IsControlGiven (a b : World D R) : Type 0 where
+    pub control : IsGiven Control b
+    pub others : (r : Recipient) → IsGiven r a → IsGiven r b
+    pub queues : (c : Bssid) → queue_of b c ≡ queue_of a c
+
+  control_given : (ts : List Told) (a b : World D R) → AreMadeInTurn disk radio (Hand Control ∷ []) ts a b → All (λ told. told ≢ NoMemory) ts → IsControlGiven a b
+  control_given (t ∷ []) a b h told = subst (IsControlGiven a) (sym h.3.0) (record {
+    control = gives Control h.1.inside t a h.0 h.1.durable.tells h.1.joins (All-head (λ told. told ≢ NoMemory) t [] told);
+    others = λ r. stays_given r Control h.1.inside t a h.0 h.1.durable.tells h.1.joins;
+    queues = λ c. ap (λ slots. queue_if (slot_at slots c)) h.1.joins.1;
+  })
+  control_given (t ∷ ts) a b h told = absurd h.3
+  control_given ts a b h told = absurd h
 
   -- applying leaves what was given
   apply_core : (c : Bssid) (i : Told) (a b : World D R) → Tells (Apply c) i (durable_of a) (durable_of b) → durable_of b ≡ durable_of a
@@ -352,7 +393,7 @@ pub radio_hands_more : (confs : List Conf) (i : ℕ) (d : Conf) → i < length c
 radio_hands_more confs i d lt =
     ap (λ n. radio_hands (take n confs)) (add-one i) ∙ ap radio_hands (take-suc confs i d lt) ∙ map-append (λ (conf : Conf). Hand (Radio conf.bssid)) (take i confs) (get_or confs i d ∷ [])
 
-applies_push : (confs : List Conf) (counts : List ℕ) (conf : Conf) (n : ℕ) → length counts ≡ length confs → applies (confs ++ conf ∷ []) (counts ++ n ∷ []) ≡ applies confs counts ++ replicate n (Apply conf.bssid)
+pub applies_push : (confs : List Conf) (counts : List ℕ) (conf : Conf) (n : ℕ) → length counts ≡ length confs → applies (confs ++ conf ∷ []) (counts ++ n ∷ []) ≡ applies confs counts ++ replicate n (Apply conf.bssid)
 applies_push [] [] conf n e = append-nil (replicate n (Apply conf.bssid))
 applies_push (c ∷ confs) (k ∷ counts) conf n e =
     ap (λ xs. replicate k (Apply c.bssid) ++ xs) (applies_push confs counts conf n (omega (arith, e))) ∙ sym (append_assoc (replicate k (Apply c.bssid)) (applies confs counts) (replicate n (Apply conf.bssid)))
@@ -412,26 +453,28 @@ module _ {D R : Type 0} (disk : DiskModel D) (radio : RadioModel R) where
       })
 
   -- ---- the whole of it
-  pub handed_out : (mid after : List (Recipient × Told)) (a b c : World D R) → AreAnswered disk radio (hands (durable_of a).core.confs) [] mid a b → Applied_at (durable_of b).core.confs mid after b c
-      → IsHandedOut disk radio [] after a c
-  handed_out mid after a b c first applied =
+  pub handed_out : (mid next after : List (Recipient × Told)) (a b c d : World D R) → AreAnswered disk radio (radio_hands (durable_of a).core.confs) [] mid a b
+      → Applied_at (durable_of b).core.confs mid next b c → AreAnswered disk radio (Hand Control ∷ []) next after c d → IsHandedOut disk radio [] after a d
+  handed_out mid next after a b c d first applied last =
       let confs = (durable_of a).core.confs in
-      let second = subst (λ (cs : List Conf). Applied_at cs mid after b c) (same_confs disk radio (hands confs) (map (λ x. x.1) first.more) a b first.made.in_turn) applied in
-      let both = answered_then disk radio (hands confs) (applies confs second.counts) [] mid after a b c first second.answered in
+      let second = subst (λ (cs : List Conf). Applied_at cs mid next b c) (same_confs disk radio (radio_hands confs) (map (λ x. x.1) first.more) a b first.made.in_turn) applied in
+      let both = answered_then disk radio (radio_hands confs) (applies confs second.counts) [] mid next a b c first second.answered in
+      let all = answered_then disk radio (radio_hands confs ++ applies confs second.counts) (Hand Control ∷ []) [] next after a c d both last in
       let given = hands_give disk radio confs (map (λ x. x.1) first.more) a b first.made.in_turn (All-map (λ told. told ≢ NoMemory) (λ (x : Recipient × Told). x.1) first.more first.told) in
-      let later : (r : Recipient) → IsGiven r b → IsGiven r c =
-      λ r. applies_given disk radio r (applies confs second.counts) (map (λ x. x.1) second.answered.more) b c (applies_of_slot confs second.counts) second.answered.made.in_turn in
-      subst (λ (xs : List (Recipient × Told)). IsHandedOut disk radio [] xs a c) (sym both.all)
+      let control = control_given disk radio (map (λ x. x.1) last.more) c d last.made.in_turn (All-map (λ told. told ≢ NoMemory) (λ (x : Recipient × Told). x.1) last.more last.told) in
+      let later : (r : Recipient) → IsGiven r b → IsGiven r d =
+      λ r g. control.others r (applies_given disk radio r (applies confs second.counts) (map (λ x. x.1) second.answered.more) b c (applies_of_slot confs second.counts) second.answered.made.in_turn g) in
+      subst (λ (xs : List (Recipient × Told)). IsHandedOut disk radio [] xs a d) (sym all.all)
       (record {
         counts = second.counts;
         tolds = [];
-        made = both.made;
-        recipients = both.recipients;
-        told = both.told;
+        made = all.made;
+        recipients = all.recipients;
+        told = all.told;
         each = second.each;
-        empty = second.empty;
-        radios = All-weaker (λ conf. IsGiven (Radio conf.bssid) b) (λ conf. IsGiven (Radio conf.bssid) c) (λ conf. later (Radio conf.bssid)) confs given.0;
-        control = later Control given.1;
+        empty = All-weaker (λ conf. queue_of c conf.bssid ≡ []) (λ conf. queue_of d conf.bssid ≡ []) (λ conf none. control.queues conf.bssid ∙ none) confs second.empty;
+        radios = All-weaker (λ conf. IsGiven (Radio conf.bssid) b) (λ conf. IsGiven (Radio conf.bssid) d) (λ conf. later (Radio conf.bssid)) confs given;
+        control = control.control;
       })
 
 -- ---- from one call to the next
@@ -445,7 +488,7 @@ module _ {D R : Type 0} (disk : DiskModel D) (radio : RadioModel R) where
   pub handed_after : (xs fs : List Step) (ts : List Told) (answers : List (Recipient × Told)) (a b c : World D R) → Made xs ts a b → Handed_out fs answers b c → Handed_out (xs ++ fs) answers a c
   handed_after xs fs ts answers a b c past h =
       let confs : (durable_of b).core.confs ≡ (durable_of a).core.confs = same_confs disk radio xs ts a b past.in_turn in
-      let last = λ (cs : List Conf). hands cs ++ applies cs h.counts in
+      let last = λ (cs : List Conf). hands cs h.counts in
       let both = made_then disk radio xs (fs ++ last (durable_of b).core.confs) ts (h.tolds ++ map (λ x. x.1) answers) a b c past h.made in
       record {
         counts = h.counts;
@@ -464,14 +507,14 @@ module _ {D R : Type 0} (disk : DiskModel D) (radio : RadioModel R) where
 
   pub gone_by_handing : (answers : List (Recipient × Told)) (a b : World D R) → Handed_out [] answers a b → HasGoneOn disk radio a b
   gone_by_handing answers a b h = record {
-    steps = hands (durable_of a).core.confs ++ applies (durable_of a).core.confs h.counts;
+    steps = hands (durable_of a).core.confs h.counts;
     tolds = h.tolds ++ map (λ x. x.1) answers;
     made = h.made;
   }
 
   pub gone_by_flushing : (answers : List (Recipient × Told)) (a b : World D R) → IsFlushed disk radio [] answers a b → HasGoneOn disk radio a b
   gone_by_flushing answers a b h = record {
-    steps = rounds h.calls ++ (hands (durable_of a).core.confs ++ applies (durable_of a).core.confs h.handed.counts);
+    steps = rounds h.calls ++ hands (durable_of a).core.confs h.handed.counts;
     tolds = h.handed.tolds ++ map (λ x. x.1) answers;
     made = h.handed.made;
   }
@@ -517,9 +560,10 @@ module _ {D R : Type 0} (disk : DiskModel D) (radio : RadioModel R) where
     pub none : All IsNoRefusal tolds
     pub made : AreSafelyMade disk radio (rounds calls) tolds old new
     pub last : last_of (durable_of new).core ≡ last_of (durable_of old).core
+    pub replies : HoldsReplies (durable_of old) (durable_of new)
 
   pub no_round : (w : World D R) → AreSafelyMade disk radio [] [] w w → AreRounds w w
-  no_round w made = record { calls = []; tolds = []; none = All-nil IsNoRefusal; made = made; last = refl }
+  no_round w made = record { calls = []; tolds = []; none = All-nil IsNoRefusal; made = made; last = refl; replies = refl }
 
   pub last_more : (s : CoreState) (a b : World D R) → last_of (durable_of a).core ≡ last_of s → GoesQuietly (durable_of a).core (durable_of b).core → last_of (durable_of b).core ≡ last_of s
   last_more s a b same quiet = let last = quiet.goes.last in omega (arith, same, last)
@@ -533,6 +577,7 @@ module _ {D R : Type 0} (disk : DiskModel D) (radio : RadioModel R) where
     made = subst (λ (xs : List Step). AreSafelyMade disk radio xs (past.tolds ++ one.tolds) a c) (sym (rounds_more past.calls one.calls))
         (made_then disk radio (rounds past.calls) (round one.calls) past.tolds one.tolds a b c past.made one.made);
     last = last_more (durable_of a).core b c past.last quiet;
+    replies = quiet_replies (durable_of b) (durable_of c) quiet ∙ past.replies;
   }
 
   pub gone_rounds : (a b : World D R) → AreRounds a b → HasGoneUnrefused disk radio a b
@@ -542,7 +587,7 @@ module _ {D R : Type 0} (disk : DiskModel D) (radio : RadioModel R) where
 abbrev pub asked_of : Conf → Option (Option (Result Happening QuietReason))
 asked_of conf = Some (Some (Ok (Configure conf.bssid conf.accept conf.deny)))
 
-configuring_more : (confs : List Conf) (i : ℕ) (d : Conf) (steps : List Step) (x : Step) → i < length confs → AreConfiguring (take i confs) steps → request_of x ≡ asked_of (get_or confs i d)
+pub configuring_more : (confs : List Conf) (i : ℕ) (d : Conf) (steps : List Step) (x : Step) → i < length confs → AreConfiguring (take i confs) steps → request_of x ≡ asked_of (get_or confs i d)
     → AreConfiguring (take (i + 1) confs) (steps ++ x ∷ [])
 configuring_more confs i d steps x lt past is =
     map-append request_of steps (x ∷ []) ∙ (λ j. past j ++ is j ∷ []) ∙ sym (map-append asked_of (take i confs) (get_or confs i d ∷ []))

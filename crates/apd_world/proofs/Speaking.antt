@@ -1,7 +1,7 @@
 -- A core that has failed stays so; and no frame is from the broadcast address, so no row ever has it.
-use Rattle.std.proofs.Common.{Bool, true, ⊎_elim, ◌≡◌, ℕ, List, [], Option, Some, None, Result, Ok, Err, refl, sym, ap, subst, ◌∙◌}
+use Rattle.std.proofs.Common.{Bool, true, inl, inr, ⊎_elim, ◌≡◌, ℕ, List, [], Option, Some, None, Result, Ok, Err, refl, sym, ap, subst, ◌∙◌}
 use Rattle.std.proofs.lemmas.List.Elements.{All-nil, All-cons}
-use Rattle.apd_world.proofs.Words.{Accept, Accepted, Addr, Answered, Apply, Ask, Batch, Bssid, Call, Called, Conf, Configure, CoreState, DurableCore, Hand, Handed, Happening, Input, IsNext, IsWorldStep, LastHeard, Loaded, Moment, NoMemory, Nothing, Publish, Published, QuietReason, Radio, RadioModel, Reception, Sound, Step, StoreFault, Take, Tells, Told, World, after_request, due_row, durable_of, step_happenings, reception_happenings, has_failed_after, front_of, after_handing_out, happening_of, state_after, verdict}
+use Rattle.apd_world.proofs.Words.{Accept, Accepted, Addr, Answered, Apply, Ask, Batch, Bssid, Call, Called, Conf, Configure, CoreState, DurableCore, Hand, Handed, Happening, Input, IsCalled, IsNext, IsTakenUp, IsWorldStep, LastHeard, Loaded, Moment, NoMemory, Nothing, Publish, Published, QuietReason, Radio, RadioModel, Reception, Sound, Step, StoreFault, Take, Tells, Told, World, after_request, due_row, durable_of, step_happenings, reception_happenings, has_failed_after, front_of, after_handing_out, happening_of, state_after, verdict, waiting_batch}
 use Rattle.apd_frame.specs.Contents.{Contents}
 use Rattle.apd_frame.specs.Outcome.{outcome}
 use Rattle.apd_frame.specs.declared.ignored.Ignored.{Ignored}
@@ -17,9 +17,40 @@ use Rattle.apd_core.specs.declared.input.Input.TheVariants as input
 use Rattle.apd_core.specs.declared.ticket.Accepted.{Accepted as CoreAccepted}
 use Rattle.apd_core.specs.declared.ticket.Accepted.TheVariants as core_accepted
 use Rattle.apd_store.specs.declared.fault.StoreFault.TheVariants as store_fault
+use Rattle.apd_steps.specs.Calls.{TakeTells, exactly}
+use Rattle.apd_steps.specs.Committing.{CoreGoes}
 use Rattle.apd_world.specs.declared.step.Reception.TheVariants as reception
+use Rattle.apd_world.proofs.DurableSteps.{none_some}
 
--- ---- what a batch taken does to a core
+-- ---- what a batch taken does to a core, and a call
+pub taken_next : {D : Type 0} (answer : Result (Unit {0}) StoreFault) (old new : DurableCore D) → (h : IsTakenUp answer old new)
+    → IsNext h.1.load.batch old new.core
+taken_next answer old new h =
+    let batch = h.1.load.batch in
+    ⊎_elim
+    (λ waits. ⊎_elim (λ next. inl (next, waits.2)) (λ next. none_some h.0 batch waits.1 next.1) h.1.load.next)
+    (λ gives. ⊎_elim
+    (λ next. none_some (waiting_batch old.committer) batch gives.0 next)
+    (λ next.
+    let tells = subst (λ (given : Option Batch). exactly (TakeTells (Ok given)) old.core new.core) next.1 gives.1 in
+    inr (gives.0, tells.1.0, tells.1.1))
+    h.1.load.next)
+    h.1.from
+
+-- the core fails with the device
+abbrev pub after_call : Result (Unit {0}) StoreFault → CoreState → CoreState
+after_call result s = record s { failed = has_failed_after result s.failed }
+
+core_goes : (answer : Result (Unit {0}) StoreFault) (core after : CoreState) → CoreGoes exactly answer core after
+    → after ≡ after_call answer core
+core_goes (Ok x) core after same = same
+core_goes (Err store_fault.Device) core after is = is.1
+core_goes (Err fault) core after same = same
+
+pub called_core : {D : Type 0} (answer : Result (Unit {0}) StoreFault) (old new : DurableCore D) → IsCalled answer old new
+    → new.core ≡ after_call answer old.core
+called_core answer old new h = core_goes answer old.core new.core h.core_goes
+
 pub next_core : {D : Type 0} (batch : Batch) (old : DurableCore D) (core : CoreState) → IsNext batch old core → core ≡ record old.core { flight = core.flight }
 next_core batch old core next = ⊎_elim (λ waits. let same : old.core ≡ core = sym waits.1 in waits.1 ∙ (λ i. record old.core { flight = (same i).flight })) (λ taken. taken.2.only) next
 
@@ -44,13 +75,13 @@ module _ {D : Type 0} (old new : DurableCore D) where
 
   pub stays_failed : (step : Step) (told : Told) → Tells step told old new → old.core.failed ≡ true → new.core.failed ≡ true
   stays_failed (Accept i m) (Accepted answer) h = core_failed (after_request old.core m i) h.only (request_fails_none old.core m (happening_of old.core.confs old.core.heard m i) _)
-  stays_failed Take (Loaded result) h = λ was. ap (λ (s : CoreState). s.failed) (next_core h.load.batch old new.core h.next) ∙ was
+  stays_failed Take (Loaded result) h = λ was. ap (λ (s : CoreState). s.failed) (next_core h.1.load.batch old new.core (taken_next result old new h)) ∙ was
   stays_failed Take Nothing h = same_failed h.1
   stays_failed Take NoMemory h = same_failed h.1
-  stays_failed Call (Called r) h = λ was. ap (λ (w : DurableCore D). w.core.failed) h.only ∙ still_failed r old.core.failed was
+  stays_failed Call (Called r) h = λ was. ap (λ (s : CoreState). s.failed) (called_core r old new h) ∙ still_failed r old.core.failed was
   stays_failed Call Nothing h = same_failed h.1
-  stays_failed Publish (Published (Ok x)) h = λ was. ap (λ (s : CoreState). s.failed) h.tells.1 ∙ was
-  stays_failed Publish (Published (Err fault)) h = λ was. ap (λ (s : CoreState). s.failed) h.tells.1 ∙ was
+  stays_failed Publish (Published (Ok x)) h = λ was. ap (λ (s : CoreState). s.failed) h.1.tells.1.1 ∙ was
+  stays_failed Publish (Published (Err fault)) h = λ was. ap (λ (s : CoreState). s.failed) h.1.tells.1.1 ∙ was
   stays_failed Publish Nothing h = same_failed h.1
   stays_failed (Hand r) (Handed outs) h = core_failed (after_handing_out r old.core) h.only refl
   stays_failed (Hand r) NoMemory h = same_failed h.1

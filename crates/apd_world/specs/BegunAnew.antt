@@ -1,10 +1,11 @@
 -- A durable core begun anew from what a device holds. What is so of an honest device alone stands in records of its own.
-use Rattle.std.specs.Prelude.{◌≡◌, ◌≢◌, ◌↔◌, ℕ, List}
+use Rattle.std.specs.Prelude.{◌≡◌, ◌≢◌, ◌⊎◌, ℕ, List}
 use Rattle.apd_base.specs.declared.limits.TheConstants.{DEVICE_LENGTH}
 use Rattle.apd_world.specs.Words.{AreHeardAt, Conf, DiskModel, DurableCore, HasRisen, LeavesOnly, Moment, Only, Shows, Sound, State, Store, WorldFault, new_core}
 use Rattle.apd_store.specs.Commit.{IsIdle}
 use Rattle.apd_store.specs.Image.{IsMarked, IsMarkedOld, ShowsNone}
 use Rattle.apd_store.specs.Outside.{IsInside, store_device, phase_of}
+use Rattle.apd_store.specs.Recovery.{HasFailedToSync}
 use Rattle.apd_store.specs.declared.fault.StoreFault.TheVariants as store_fault
 use Rattle.apd_store.specs.declared.phase.Phase.TheVariants.{Idle}
 use Rattle.apd_flusher.specs.Outside.{store_of}
@@ -32,6 +33,7 @@ pub record IsBegunAnew {D : Type 0} (disk : DiskModel D) (device : D) (confs : L
   pub sound : Sound new.core.settled
   pub whole : IsWhole disk new
   pub count : disk.failed (device_of new) ≡ disk.failed device
+  pub was_honest : disk.honest (device_of new) → disk.honest device
 
 -- its table is the state that the device's bytes show: after a stop, the one that a journal kept
 pub record IsHonestlyBegunAnew {D : Type 0} (disk : DiskModel D) (device : D) (new : DurableCore D) : Type 0 where
@@ -46,7 +48,7 @@ pub record IsHonestlyBegunAnew {D : Type 0} (disk : DiskModel D) (device : D) (n
 pub record IsNotBegunAnew {D : Type 0} (disk : DiskModel D) (device left : D) (fault : WorldFault) : Type 0 where
   pub device_failed : fault ≡ world_fault.Store store_fault.Device → HasRisen (disk.failed device) (disk.failed left)
   pub no_fault : fault ≢ world_fault.Store store_fault.Device → disk.failed left ≡ disk.failed device
-  pub stays_honest : disk.honest device ↔ disk.honest left
+  pub was_honest : disk.honest left → disk.honest device
 
 pub record IsHonestlyNotBegunAnew {D : Type 0} (disk : DiskModel D) (device left : D) (fault : WorldFault) : Type 0 where
   pub not_a_store : fault ≡ world_fault.Store store_fault.NotAStore
@@ -54,7 +56,9 @@ pub record IsHonestlyNotBegunAnew {D : Type 0} (disk : DiskModel D) (device left
   pub old_version : fault ≡ world_fault.Store store_fault.OldVersion → IsMarkedOld (disk.reads device)
   pub damaged : fault ≡ world_fault.Store store_fault.Damaged
       → IsMarked (disk.reads device) × ShowsNone (disk.reads device)
-  pub durable : fault ≢ world_fault.Store store_fault.Device → Only (disk.reads device) (disk.may_leave left)
+  -- a stop leaves what was shown, also where the read failed: it came behind a sync that succeeded
+  pub durable : Only (disk.reads device) (disk.may_leave left)
+      ⊎ ((fault ≡ world_fault.Store store_fault.Device) × HasFailedToSync disk device left)
   -- where a stop left one image before, as after a sync, it leaves that one
   pub still : (image : List ℕ) → Only image (disk.may_leave device)
       → Only image (disk.may_leave left) × (disk.reads left ≡ image)

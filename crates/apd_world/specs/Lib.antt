@@ -1,8 +1,12 @@
 pub mod Applying
 pub mod BegunAnew
+pub mod Failing
 pub mod Following
 pub mod CoreRun
+pub mod CutShort
 pub mod StepsMade
+pub mod Mending
+pub mod Order
 pub mod Outside
 pub mod Proper
 pub mod Queueing
@@ -22,4 +26,5 @@ pub mod Ending
 pub mod Steps
 pub mod Telling
 pub mod WorldRun
+pub mod WorkerRun
 pub mod Words

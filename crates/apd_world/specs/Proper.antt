@@ -17,7 +17,7 @@ pub record IsProper {D : Type 0} (disk : DiskModel D) (w : DurableCore D) : Type
   pub imaged : committer.IsImaged disk w.committer
 
 -- Between two steps: a stop leaves images of the settled state, or of that after the batch in flight; from the batch's last call on, if
--- that succeeded, until it is published, of that after the batch.
+-- that succeeded, or from its load on where it has no changes and so no call, until it is published, of that after the batch.
 pub record IsShown {D : Type 0} (disk : DiskModel D) (w : DurableCore D) : Type 0 where
   pub now : AreOfFlight w.core (disk.may_leave (device_of w))
   pub durable : (phase_of (flusher_of w) ≡ phase.Done) ⊎ IsSome (waiting_receipt w.committer)

@@ -1,15 +1,9 @@
 -- What is handed to a slot (own).
-use Rattle.std.specs.Prelude.{◌≡◌, List, ◌++◌, length}
-use Rattle.apd_world.specs.Words.{Bssid, DurableCore, Hand, Handed, NoMemory, Out, Queued, Radio, SameButRoom, Slot, Told, wanted_after_all, wanted_then}
-use Rattle.apd_slot.specs.Slots.{queue_of, SameButQueue}
+use Rattle.std.specs.Prelude.{◌≡◌, List, length}
+use Rattle.apd_world.specs.Words.{Bssid, DurableCore, Hand, Handed, NoMemory, Out, Queued, Radio, SameButRoom, Slot, Told}
+pub use Rattle.apd_steps.specs.Handing.{AreQueued}
 use Rattle.apd_world.specs.Run.{IsStep}
 use Rattle.apd_world.specs.Telling.{HasReady}
-
--- outs go behind those that wait
-pub record AreQueued {R : Type 0} (outs : List Out) (old new : Slot R) : Type 0 where
-  pub queue : queue_of new ≡ queue_of old ++ outs
-  pub wanted_then : wanted_then new ≡ wanted_after_all outs (wanted_then old)
-  pub same : SameButQueue old new
 
 -- what is ready for a radio goes to its slot, and its count is told; or memory is lacking, and some is ready
 abbrev pub QueuesReady : {D R : Type 0} → Bssid → Told → DurableCore D → DurableCore D → Slot R → Slot R → Type 0

@@ -43,11 +43,11 @@ pub record HasNotResumed {R : Type 0} (radio : RadioModel R) (s : State) (b : Bs
   pub resumed : AreResumed radio s (take place new)
   pub rest : drop (place + 1) new ≡ drop (place + 1) old
 
--- a device was the store of a table by which the slot of a BSSID has not resumed
-pub record EndsAtSlot {D R : Type 0} (disk : DiskModel D) (radio : RadioModel R) (device : D)
+-- a device, which is left so, was the store of a table by which the slot of a BSSID has not resumed
+pub record EndsAtSlot {D R : Type 0} (disk : DiskModel D) (radio : RadioModel R) (device device_left : D)
     (b : Bssid) (fault : SlotFault) (old new : List (Slot R)) : Type 0 where
   pub table : State
-  pub shown : disk.honest device → Shows (disk.reads device) table
+  pub shown : disk.honest device_left → Shows (disk.reads device) table
   pub not_resumed : HasNotResumed radio table b fault old new
 
 -- what a fault leaves of the slots: memory ran out before any, or one has not resumed

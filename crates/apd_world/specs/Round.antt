@@ -33,22 +33,28 @@ abbrev pub answer_of : List Told → Commit
 answer_of [] = Nothing
 answer_of (told ∷ tolds) = unwrap_or (commit_of told) (answer_of tolds)
 
--- the batch that is taken next fits
+-- there is room for the batch that is taken next
 abbrev pub HasRoomForNext : {D : Type 0} → DurableCore D → Type 0
 HasRoomForNext w = (batch : Batch) (core : CoreState) → IsNext batch w core → HasRoom (flusher_of w) batch.changes
 
--- it fits, or the other half can begin anew: there is an epoch left for it
+-- it has no changes
+abbrev pub HasNoChangesNext : {D : Type 0} → DurableCore D → Type 0
+HasNoChangesNext w = (batch : Batch) (core : CoreState) → IsNext batch w core → batch.changes ≡ []
+
+-- there is room for it, or the other half can begin anew: there is an epoch left
 abbrev pub LastsForNext : {D : Type 0} → DurableCore D → Type 0
 LastsForNext w = (batch : Batch) (core : CoreState) → IsNext batch w core
     → HasRoom (flusher_of w) batch.changes ⊎ (epoch_of (flusher_of w) + 1 < 2 ^ 64)
 
--- One round of steps, with ten calls at most: four, where the batch is new and fits. It tells that the device failed
--- only where that is so.
+-- One round of steps, with ten calls at most: four, where the batch is new and there is room for it; none, where it is
+-- new and has no changes, and the device is then as it was. It tells that the device failed only where that is so.
 pub record IsRound {D R : Type 0} (disk : DiskModel D) (radio : RadioModel R) (answer : Commit)
     (old new : World D R) : Type 0 where
   pub calls : ℕ
   pub few : calls ≤ 10
   pub four : phase_of (flusher_of (durable_of old)) ≡ phase.Idle → HasRoomForNext (durable_of old) → calls ≤ 4
+  pub none : phase_of (flusher_of (durable_of old)) ≡ phase.Idle → HasNoChangesNext (durable_of old)
+      → (calls ≡ 0) × (device_of (durable_of new) ≡ device_of (durable_of old))
   pub tolds : List Told
   pub made : AreSafelyMade disk radio (round calls) tolds old new
   pub answer_is : answer ≡ answer_of tolds
@@ -71,15 +77,15 @@ ComesTo disk Nothing old new = (new ≡ old) × ((old.core.failed ≡ true) ⊎ 
 ComesTo disk (Refused store_fault.Device) old new = HasRisen (disk.failed (device_of old)) (disk.failed (device_of new))
 -- or before
 ComesTo disk (Refused store_fault.Failed) old new = old.core.failed ≡ true
--- the next batch doesn't fit, and no half can begin anew
+-- there is no room for the next batch, and no half can begin anew
 ComesTo disk (Refused store_fault.Worn) old new = ¬ LastsForNext old
 ComesTo disk (Refused store_fault.NoMemory) old new = Unit {0}
 ComesTo disk NoMemory old new = Unit {0}
 -- nothing else is answered
 ComesTo disk answer old new = ⊥
 
--- One in which the device didn't fail, no memory was refused and the batch fits, or the other half can begin anew,
--- settles one entry or more, where the core has not failed and any is unsettled.
+-- One in which the device didn't fail, no memory was refused and there is room for the batch, or the other half can begin
+-- anew, settles one entry or more, where the core has not failed and any is unsettled.
 abbrev pub Commits : {D : Type 0} → DiskModel D → Commit → DurableCore D → DurableCore D → Type 0
 Commits disk answer old new =
     old.core.failed ≡ false → disk.failed (device_of new) ≡ disk.failed (device_of old)

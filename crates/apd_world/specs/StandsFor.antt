@@ -58,6 +58,16 @@ pub record IsJournalOf (core : CoreState) (waits : Recipient → List Out) (j : 
 abbrev pub StandsFor : {D R : Type 0} → World D R → Journal → Type 0
 StandsFor w j = IsJournalOf (durable_of w).core (λ r. waiting_outs r w) j
 
+-- The journal begins here: nothing of what is not settled is durable, and nothing was said. Each recipient is owed what
+-- waits for it, at its slot and then in the core.
+pub record BeginsHere {D R : Type 0} (w : World D R) (j : Journal) : Type 0 where
+  pub stands : StandsFor w j
+  pub first : j.first ≡ (durable_of w).core.settled
+  pub durable : j.durable ≡ 0
+  pub owed : (r : Recipient) → j.owed r ≡ waiting_outs r w ++ ready_for r (durable_of w).core
+  pub given : (r : Recipient) → j.given r ≡ []
+  pub read : j.read ≡ []
+
 -- of these configurations and from this table on, where nothing has happened yet
 abbrev pub BeginsAt : {D R : Type 0} → List Conf → State → World D R → Type 0
 BeginsAt confs table w = StandsFor w (blank confs table (durable_of w).core.heard)

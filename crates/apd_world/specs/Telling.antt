@@ -1,16 +1,13 @@
 -- What each step does, and what it tells.
-use Rattle.std.specs.Prelude.{◌≡◌, ◌⊎◌, ◌↔◌, ◌≤◌, ◌+◌, List, length, Option, Some, None, Result, Ok, Err, IsTrue}
-use Rattle.apd_world.specs.Words.{Accept, Accepted, Answer, Answered, Apply, AreFit, Ask, Batch, Call, Called, CoreState, DurableCore, Flusher, Hand, Handed, Input, IsFlight, IsTaken, Loaded, Moment, NoMemory, Nothing, Out, Publish, PublishFault, Published, Query, Radio, Receipt, Reception, Recipient, Step, StoreFault, Take, Told, answer_at, after_request, calls_left, cannot_take, has_failed_after, front_of, after_handing_out, happening_of, held_batch, phase_of, after_publish, ready_for, table_of, waiting_batch, waiting_receipt}
-use Rattle.apd_store.specs.declared.fault.StoreFault.TheVariants as store_fault
+use Rattle.std.specs.Prelude.{◌≡◌, ◌⊎◌, ◌≤◌, List, length, Option, Some, None, Result, IsTrue}
+use Rattle.apd_world.specs.Words.{Accept, Accepted, Answer, Answered, Apply, AreFit, Ask, Batch, Call, Called, CoreState, DurableCore, Hand, Handed, Input, IsTaken, Loaded, Moment, NoMemory, Nothing, Out, Publish, PublishFault, Published, Query, Radio, Receipt, Reception, Recipient, Step, StoreFault, Take, Told, answer_at, after_request, cannot_take, front_of, after_handing_out, happening_of, ready_for, waiting_batch}
 use Rattle.apd_core.specs.Core.{answer_to_query, IsDecided}
-use Rattle.apd_core.specs.declared.publish_fault.PublishFault.TheVariants as publish_fault
 use Rattle.apd_core.specs.declared.ticket.Accepted.{Accepted as CoreAccepted}
 use Rattle.apd_core.specs.declared.ticket.Accepted.TheVariants as core_accepted
 use Rattle.apd_flusher.specs.Handing as committer
-use Rattle.apd_flusher.specs.Outside.{flusher_batch, next_of}
-use Rattle.apd_flusher.specs.declared.phase.Phase.TheVariants as phase
+use Rattle.apd_steps.specs.Calls.{exactly}
+use Rattle.apd_steps.specs.Committing as steps
 use Rattle.apd_world.specs.Steps.{reception_happenings}
-use Rattle.apd_world.specs.Outside.{device_of, flusher_of}
 use Rattle.apd_world.specs.declared.step.Reception.TheVariants as reception
 
 -- an answer with the number of its entry in place of the ticket
@@ -36,11 +33,9 @@ IsNext batch old core =
     ⊎ ((waiting_batch old.committer ≡ None) × (¬ IsTrue (cannot_take old.core)) × IsTaken batch old.core core)
 
 -- the committer loaded it, or it was refused and waits
-pub record IsTakenUp {D : Type 0} (result : Result (Unit {0}) StoreFault) (old new : DurableCore D) : Type 0 where
-  pub given : Option Batch
-  pub load : committer.IsLoadGiven result given old.committer new.committer
-  pub next : IsNext load.batch old new.core
-  pub only : new ≡ record old { core = new.core; committer = new.committer }
+abbrev pub IsTakenUp : {D : Type 0} → Result (Unit {0}) StoreFault → DurableCore D → DurableCore D → Type 0
+IsTakenUp answer old new = (given : Option Batch)
+    × steps.IsTakenUp exactly given answer old.core new.core old.committer new.committer
 
 -- nothing waits, and the core has a batch to give
 abbrev pub CanTake : {D : Type 0} → DurableCore D → Type 0
@@ -51,49 +46,17 @@ abbrev pub HasNoBatch : {D : Type 0} → DurableCore D → Type 0
 HasNoBatch w = (waiting_batch w.committer ≡ None) × IsTrue (cannot_take w.core)
 
 -- ---- calling
--- the core fails with the device
-abbrev pub after_call : Result (Unit {0}) StoreFault → CoreState → CoreState
-after_call result s = record s { failed = has_failed_after result s.failed }
-
-abbrev pub CallTells : {D : Type 0} → Result (Unit {0}) StoreFault → Flusher D → Flusher D → Type 0
-CallTells (Ok _) old new = (calls_left new + 1 ≡ calls_left old) × ((phase_of new ≡ phase.Done) ↔ (calls_left old ≡ 1))
-    × ((phase_of new ≡ phase.Busy) ⊎ (phase_of new ≡ phase.Done))
-CallTells (Err fault) old new =
-    (phase_of new ≡ phase.Failed) × (phase_of old ≡ phase.Failed → fault ≡ store_fault.Failed)
-    × ((fault ≡ store_fault.Device) ⊎ (fault ≡ store_fault.Failed))
-
-pub record IsCalled {D : Type 0} (result : Result (Unit {0}) StoreFault) (old new : DurableCore D) : Type 0 where
-  pub some_call : (phase_of (flusher_of old) ≡ phase.Busy) ⊎ (phase_of (flusher_of old) ≡ phase.Failed)
-  pub tells : CallTells result (flusher_of old) (flusher_of new)
-  pub batch_is : flusher_batch (flusher_of new) ≡ flusher_batch (flusher_of old)
-  pub table : table_of (flusher_of new) ≡ table_of (flusher_of old)
-  pub next : next_of (flusher_of new) ≡ next_of (flusher_of old)
-  pub batch : waiting_batch new.committer ≡ waiting_batch old.committer
-  pub receipt : waiting_receipt new.committer ≡ waiting_receipt old.committer
-  pub only : new ≡ record old { core = after_call result old.core; committer = new.committer }
+abbrev pub IsCalled : {D : Type 0} → Result (Unit {0}) StoreFault → DurableCore D → DurableCore D → Type 0
+IsCalled answer old new = steps.IsCalled exactly answer old.core new.core old.committer new.committer
 
 abbrev pub HasNoCall : {D : Type 0} → DurableCore D → Type 0
-HasNoCall w = (phase_of (flusher_of w) ≡ phase.Idle) ⊎ (phase_of (flusher_of w) ≡ phase.Done)
+HasNoCall w = steps.HasNoCall w.committer
 
 -- ---- publishing
-abbrev pub PublishTells : Result (Unit {0}) PublishFault → Receipt → CoreState → CoreState → Type 0
-PublishTells (Ok _) receipt old new = IsFlight (held_batch receipt) old × (new ≡ after_publish old)
-PublishTells (Err fault) receipt old new = ((fault ≡ publish_fault.Foreign) ↔ ¬ IsFlight (held_batch receipt) old)
-    × (new ≡ old)
-
--- a receipt that is refused waits
-abbrev pub kept_receipt : Result (Unit {0}) PublishFault → Receipt → Option Receipt
-kept_receipt (Ok _) receipt = None
-kept_receipt (Err fault) receipt = Some receipt
-
-pub record IsPublished {D : Type 0} (result : Result (Unit {0}) PublishFault) (old new : DurableCore D) : Type 0 where
-  pub receipt : Receipt
-  pub next : committer.IsNextReceipt receipt old.committer new.committer
-  pub tells : PublishTells result receipt old.core new.core
-  pub device : device_of new ≡ device_of old
-  pub batch : waiting_batch new.committer ≡ waiting_batch old.committer
-  pub kept : waiting_receipt new.committer ≡ kept_receipt result receipt
-  pub only : new ≡ record old { core = new.core; committer = new.committer }
+-- the next receipt was published, or was refused and waits
+abbrev pub IsPublished : {D : Type 0} → Result (Unit {0}) PublishFault → DurableCore D → DurableCore D → Type 0
+IsPublished answer old new = (receipt : Receipt)
+    × steps.IsPublished exactly receipt answer old.core new.core old.committer new.committer
 
 abbrev pub HasNoReceipt : {D : Type 0} → DurableCore D → Type 0
 HasNoReceipt w = committer.HasNoReceipt w.committer

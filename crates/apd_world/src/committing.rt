@@ -56,9 +56,11 @@ impl<D: Disk, R: Radio> World<D, R> {
     /// publishes the receipt. It answers what the steps say first: that one was refused, or that a batch is
     /// settled; else there was nothing. The slots stay.
     ///
+    /// A new batch of no changes has no call, and leaves the device as it was.
+    ///
     /// From a whole world on that has not failed, also with a batch or a receipt under way, a round in which the device
-    /// didn't fail, no memory was refused and the batch fits, or the other half can begin anew, settles one entry or
-    /// more, where any is unsettled. It leads from journal to journal, as all steps do.
+    /// didn't fail, no memory was refused and there is room for the batch, or the other half can begin anew, settles one
+    /// entry or more, where any is unsettled. It leads from journal to journal, as all steps do.
     pub fn commit(&mut self) -> Commit
         ensures round { IsRound D.model R.model result self.old self.new }
         ensures comes_to { IsWhole D.model (durable_of self.old)

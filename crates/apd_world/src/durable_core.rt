@@ -1,6 +1,5 @@
 //! A durable core: a core and the committer of its batches.
 ghost use Rattle.std.specs.Prelude.{◌≡◌, ◌==◌, ◌&&◌, not, None, length};
-ghost use Rattle.apd_core.specs.Core.{ready_for};
 ghost use Rattle.apd_flusher.specs.Flushing.{IsInside, IsSteady};
 ghost use Rattle.apd_flusher.specs.Outside.{flusher_device, phase_of, table_of, waiting_batch, waiting_receipt};
 
@@ -8,7 +7,6 @@ use apd_conf::Confs;
 use apd_core::Core;
 use apd_disk::Disk;
 use apd_flusher::{Committer, Flusher, Phase};
-use apd_mlme::Recipient;
 use apd_table::Table;
 
 /// A core, and the committer that brings its batches to the device.
@@ -52,13 +50,6 @@ impl<D: Disk> DurableCore<D> {
         ensures { result.now ≡ self.now.core.confs }
     {
         self.core.confs()
-    }
-
-    /// How many outs a hand to this recipient gives now. It takes no memory.
-    pub(crate) fn ready_count(&self, to: Recipient) -> usize
-        ensures { result ≡ length (ready_for to self.now.core) }
-    {
-        self.core.ready_count(to)
     }
 
     /// Whether every entry is settled, and the core has not failed.

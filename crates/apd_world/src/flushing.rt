@@ -1,5 +1,5 @@
 //! A world flushed: what is unsettled is committed, and what is settled is handed out and applied.
-ghost use Rattle.std.specs.Prelude.{◌≡◌, IfErr, IfOk, OnOk, []};
+ghost use Rattle.std.specs.Prelude.{◌≡◌, IfErr, IfOk, OnErr, OnOk, []};
 ghost use Rattle.apd_core.specs.Core.{last_of};
 
 use crate::durable_core::DurableCore;
@@ -32,7 +32,9 @@ impl<D: Disk, R: Radio> World<D, R> {
     ghost use Rattle.apd_world.specs.StepsMade.{AreSettled};
     ghost use Rattle.apd_world.specs.Proper.{IsWhole};
     ghost use Rattle.apd_world.specs.WorldParts.{durable_of};
+    ghost use Rattle.apd_world.specs.CutShort.{AreOfFlush, AreRoundsOf, WereMade};
     ghost use Rattle.apd_world.specs.Ending.{HasEnded, HasFailedCore};
+    ghost use Rattle.apd_world.specs.HandingOut.{HoldsReplies};
     ghost use Rattle.apd_world.specs.Starting.{IsFlushed};
 
     // Commits until nothing is unsettled.
@@ -42,6 +44,8 @@ impl<D: Disk, R: Radio> World<D, R> {
         ensures failed { IsWhole D.model (durable_of self.old)
             → IfErr result (λ fault. HasFailedCore fault self.new) }
         ensures none_entered { last_of (durable_of self.new).core ≡ last_of (durable_of self.old).core }
+        ensures cut { OnErr result (WereMade D.model R.model AreRoundsOf self.old self.new) }
+        ensures replies { HoldsReplies (durable_of self.old) (durable_of self.new) }
     {
         self.durable.stops();
         loop {
@@ -56,7 +60,8 @@ impl<D: Disk, R: Radio> World<D, R> {
     /// gone on with. It answers as `hand_out` does.
     ///
     /// Errors: `Store` where the store refuses, with the fault that a step told, and with `Failed` where the core has
-    /// failed or a round settled nothing; `NoMemory`. The steps that were made stand.
+    /// failed or a round settled nothing; `NoMemory`. The steps that were made stand: rounds, and the front of a hand-out.
+    /// Control was given nothing, so that no reply is lost.
     #[tactic(auto, using(crate::proofs::EndLemmas::if_residual, crate::proofs::EndLemmas::memory_fails_none))]
     pub fn flush(&mut self) -> Result<Vec<(Recipient, Told)>, WorldFault>
         ensures flushed { IfOk result (λ answers. IsFlushed D.model R.model [] answers.items self.old self.new) }
@@ -64,6 +69,9 @@ impl<D: Disk, R: Radio> World<D, R> {
         ensures failed { IsWhole D.model (durable_of self.old)
             → IfErr result (λ fault. HasFailedCore fault self.new) }
         ensures none_entered { last_of (durable_of self.new).core ≡ last_of (durable_of self.old).core }
+        ensures cut { OnErr result
+            (WereMade D.model R.model (AreOfFlush (durable_of self.old).core.confs) self.old self.new) }
+        ensures none { OnErr result (HoldsReplies (durable_of self.old) (durable_of self.new)) }
     {
         self.settle()?;
         self.hand_out()

@@ -1,5 +1,5 @@
-//! What is settled is handed out: to each radio into the queue of its slot, and to control; and each out that waits
-//! at a slot is applied.
+//! What is settled is handed out: to each radio into the queue of its slot, where each out is applied; and then to
+//! control.
 ghost use Rattle.std.specs.Prelude.{◌≡◌, ◌≢◌, ◌≤◌, IfErr, IfOk, IsTrue, OnErr, OnOk, [], ◌∷◌, false, length};
 
 use crate::fault::WorldFault;
@@ -17,11 +17,12 @@ pub(crate) type Answers = Vec<(Recipient, Told)>;
 impl<D: Disk, R: Radio> World<D, R> {
     ghost use Rattle.apd_world.specs.StepsMade.{AreAllApplied, AreAnswered};
     ghost use Rattle.apd_world.specs.WorldParts.{durable_of, queue_of};
+    ghost use Rattle.apd_world.specs.CutShort.{AreAtRadios, AreOfHanding, AreToRadios, IsAtMost, WereMade};
     ghost use Rattle.apd_world.specs.Ending.{HasGoneUnrefused};
-    ghost use Rattle.apd_world.specs.HandingOut.{IsHandedOut, IsHanding, OnlyHands, hands, recipient_of};
+    ghost use Rattle.apd_world.specs.HandingOut.{HoldsReplies, IsForRadio, IsHandedOut, IsHanding, OnlyHands, radio_hands, recipient_of};
     ghost use Rattle.apd_world.specs.WorldRun.{IsWorldStep};
 
-    #[tactic(auto, using(crate::proofs::RunLemmas::only_hands))]
+    #[tactic(auto, using(crate::proofs::RunLemmas::only_hands, crate::proofs::RunLemmas::holds_replies, crate::proofs::RunLemmas::none_handed))]
     // Makes a step, and adds what it told, for a recipient. Room is made before.
     fn answer(
         &mut self,
@@ -36,6 +37,10 @@ impl<D: Disk, R: Radio> World<D, R> {
         ensures err { OnErr result (IsHanding step.now → HasGoneUnrefused D.model R.model self.old self.new) }
         ensures fault { IfErr result (λ fault. fault ≡ WorldFault.NoMemory) }
         ensures only { IsHanding step.now → OnlyHands (durable_of self.old) (durable_of self.new) }
+        ensures replies { IsForRadio step.now → HoldsReplies (durable_of self.old) (durable_of self.new) }
+        ensures none { OnErr result (IsHanding step.now → HoldsReplies (durable_of self.old) (durable_of self.new)) }
+        ensures cut { OnErr result (IsHanding step.now
+            → WereMade D.model R.model (IsAtMost step.now) self.old self.new) }
     {
         self.durable.stops();
         if answers.reserve(1).is_err() {
@@ -51,20 +56,23 @@ impl<D: Disk, R: Radio> World<D, R> {
     }
 
     #[tactic(auto, using(crate::proofs::RunLemmas::hands_then))]
-    // Hands out to each radio, in the order of the configurations, and then to control.
-    fn hand_all(&mut self, answers: &mut Answers) -> Result<(), WorldFault>
+    // Hands out to each radio, in the order of the configurations.
+    fn hand_to_radios(&mut self, answers: &mut Answers) -> Result<(), WorldFault>
         ensures ok { OnOk result (AreAnswered D.model R.model
-            (hands (durable_of self.old).core.confs) answers.old.items answers.new.items self.old self.new) }
+            (radio_hands (durable_of self.old).core.confs) answers.old.items answers.new.items self.old self.new) }
         ensures err { OnErr result (HasGoneUnrefused D.model R.model self.old self.new) }
+        ensures cut { OnErr result
+            (WereMade D.model R.model (AreToRadios (durable_of self.old).core.confs) self.old self.new) }
         ensures fault { IfErr result (λ fault. fault ≡ WorldFault.NoMemory) }
         ensures only { OnlyHands (durable_of self.old) (durable_of self.new) }
+        ensures replies { HoldsReplies (durable_of self.old) (durable_of self.new) }
     {
         self.durable.stops();
         for place in 0..self.confs().list().len() {
             let to = Recipient::Radio(self.confs().list()[place].bssid);
             self.answer(to, &Step::Hand(to), answers)?;
         }
-        self.answer(Recipient::Control, &Step::Hand(Recipient::Control), answers)
+        Ok(())
     }
 
     // Whether an out waits at a BSSID's slot.
@@ -84,8 +92,11 @@ impl<D: Disk, R: Radio> World<D, R> {
         ensures ok { OnOk result (AreAllApplied D.model R.model
             (durable_of self.old).core.confs answers.old.items answers.new.items self.old self.new) }
         ensures err { OnErr result (HasGoneUnrefused D.model R.model self.old self.new) }
+        ensures cut { OnErr result
+            (WereMade D.model R.model (AreAtRadios (durable_of self.old).core.confs) self.old self.new) }
         ensures fault { IfErr result (λ fault. fault ≡ WorldFault.NoMemory) }
         ensures only { OnlyHands (durable_of self.old) (durable_of self.new) }
+        ensures replies { HoldsReplies (durable_of self.old) (durable_of self.new) }
     {
         self.durable.stops();
         for place in 0..self.confs().list().len() {
@@ -97,21 +108,29 @@ impl<D: Disk, R: Radio> World<D, R> {
         Ok(())
     }
 
-    /// Hands out what is settled: to each radio, in the order of the configurations, into the queue of its slot, and
-    /// to control; and then applies each out that waits at a slot, in that order. It answers what these steps told,
-    /// each with its recipient; a slot that went down, or a frame that was lost, is told so.
+    /// Hands out what is settled: to each radio, in the order of the configurations, into the queue of its slot; then
+    /// applies each out that waits at a slot, in that order; and last of all hands out to control. It answers what these
+    /// steps told, each with its recipient; a slot that went down, or a frame that was lost, is told so.
     ///
-    /// Errors: `NoMemory`. The steps that were made stand.
+    /// Errors: `NoMemory`. The steps that were made stand: the front of that list. Control was given nothing, so that no reply is lost.
     pub fn hand_out(&mut self) -> Result<Vec<(Recipient, Told)>, WorldFault>
         ensures handed { IfOk result (λ answers. IsHandedOut D.model R.model [] answers.items self.old self.new) }
         ensures err { OnErr result (HasGoneUnrefused D.model R.model self.old self.new) }
         ensures fault { IfErr result (λ fault. fault ≡ WorldFault.NoMemory) }
         ensures only { OnlyHands (durable_of self.old) (durable_of self.new) }
+        ensures none { OnErr result (HoldsReplies (durable_of self.old) (durable_of self.new)) }
+        ensures cut { OnErr result
+            (WereMade D.model R.model (AreOfHanding (durable_of self.old).core.confs) self.old self.new) }
     {
         self.durable.stops();
         let mut answers = Vec::new(self.alloc);
-        self.hand_all(&mut answers)?;
+        self.hand_to_radios(&mut answers)?;
         self.apply_all(&mut answers)?;
+        self.answer(
+            Recipient::Control,
+            &Step::Hand(Recipient::Control),
+            &mut answers,
+        )?;
         Ok(answers)
     }
 }

@@ -3,6 +3,7 @@ ghost use Rattle.std.specs.Prelude.{◌≡◌, ◌≢◌, ◌⊎◌, IfOk, IfErr
 ghost use Rattle.apd_base.specs.declared.address.Bssid.{Bssid as Address};
 ghost use Rattle.apd_slot.specs.declared.slot.SlotFault.{SlotFault as Fault};
 ghost use Rattle.apd_world.specs.BegunAnew.{IsBegunAnew, IsBegunWith, IsHonestlyBegunAnew, IsHonestlyNotBegunAnew, IsNotBegunAnew};
+ghost use Rattle.apd_world.specs.Outside.{device_of};
 ghost use Rattle.apd_world.specs.Resumed.{AreHandedBack, AreOfSame, AreResumed, EndsAtSlot, HasNotResumed, HasResumed};
 ghost use Rattle.apd_world.specs.StandsFor.{BeginsAt};
 ghost use Rattle.apd_world.specs.WorldParts.{durable_of};
@@ -87,7 +88,8 @@ pub fn begin_anew<D: Disk, R: Radio>(
 /// Errors, with the device and the slots handed back: `Store` with `NotAStore` where its length differs, or its magic
 /// is that of no version; with `OldVersion` where that is version 1's; else with `Damaged` where the bytes show no
 /// state; with `Device` where the device failed in this call; with `NoMemory`; then those of `begin_anew`. Where a stop
-/// left one image before the call, as after a sync, it leaves that one after any of them.
+/// left one image before the call, as after a sync, it leaves that one after any of them; and so it does where the sync
+/// with which the recovery began succeeded, also where the read behind it failed.
 pub fn restart<D: Disk, R: Radio>(
     alloc: Global,
     device: D,
@@ -96,18 +98,18 @@ pub fn restart<D: Disk, R: Radio>(
     moment: Moment,
 ) -> Result<World<D, R>, (D, Vec<Slot<R>>, WorldFault)>
     ensures begun { IfOk result (λ world. IsBegunAnew D.model device confs moment (durable_of world)) }
-    ensures begun_honest { D.model.honest device → IfOk result (λ world. IsHonestlyBegunAnew D.model
-        device (durable_of world)) }
+    ensures begun_honest { IfOk result (λ world. D.model.honest (device_of (durable_of world))
+        → IsHonestlyBegunAnew D.model device (durable_of world)) }
     ensures resumed { IfOk result (HasResumed R.model slots.items) }
     ensures begins { IfOk result (λ world. BeginsAt confs (durable_of world).core.settled world) }
     ensures none { IfErr result (λ e. IsNotBegunAnew D.model device e.0 e.2) }
-    ensures none_honest { D.model.honest device → IfErr result (λ e. IsHonestlyNotBegunAnew D.model device e.0 e.2) }
+    ensures none_honest { IfErr result (λ e. D.model.honest e.0 → IsHonestlyNotBegunAnew D.model device e.0 e.2) }
     ensures only { IfErr result
         (λ e. (e.2 ≡ WorldFault.Store StoreFault.NotAStore) ⊎ (e.2 ≡ WorldFault.Store StoreFault.OldVersion)
         ⊎ (e.2 ≡ WorldFault.Store StoreFault.Damaged) ⊎ (e.2 ≡ WorldFault.Store StoreFault.Device)
         ⊎ (e.2 ≡ WorldFault.Store StoreFault.NoMemory)
         ⊎ (e.2 ≡ WorldFault.NoMemory) ⊎ ((b : Address) × (fault : Fault) × (e.2 ≡ WorldFault.Slot b fault)
-        × EndsAtSlot D.model R.model device b fault slots.items e.1.items)) }
+        × EndsAtSlot D.model R.model device e.0 b fault slots.items e.1.items)) }
     ensures still_slots { IfErr result (λ e. ((b : Address) (fault : Fault) → e.2 ≢ WorldFault.Slot b fault)
         → e.1.items ≡ slots.items) }
     ensures slots_err { IfErr result (λ e. AreOfSame slots.items e.1.items) }

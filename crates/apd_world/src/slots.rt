@@ -12,7 +12,6 @@ use crate::step::Told;
 use apd_base::Bssid;
 use apd_conf::Confs;
 use apd_disk::Disk;
-use apd_mlme::Recipient;
 use apd_radio::Radio;
 use apd_slot::Slot;
 use std::alloc::{AllocError, Global};
@@ -70,16 +69,9 @@ pub(crate) fn hand_to<D: Disk, R: Radio>(
     ensures made { IsStepMade D.model result durable.old durable.new }
 {
     durable.stops();
-    let to = Recipient::Radio(bssid);
-    if slot.make_room(durable.ready_count(to)).is_err() {
-        return Told::NoMemory;
-    }
-    match durable.hand(to) {
-        Ok(outs) => {
-            let count = outs.len();
-            slot.queue(outs.into_vec());
-            Told::Queued(count)
-        }
+    durable.core.sound();
+    match apd_steps::hand_to(&mut durable.core, slot, bssid) {
+        Ok(count) => Told::Queued(count),
         Err(_) => Told::NoMemory,
     }
 }

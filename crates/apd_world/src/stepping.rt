@@ -18,7 +18,6 @@ use apd_ctrl::Query;
 use apd_disk::Disk;
 use apd_flusher::Phase;
 use apd_mlme::{Out, Recipient};
-use apd_store::StoreFault;
 use std::alloc::AllocError;
 
 fn reception(answer: Accepted<'_>) -> Reception
@@ -55,7 +54,8 @@ impl<D: Disk> DurableCore<D> {
 
     /// Tells a caller's proof what a stop now leaves of a proper durable core: an image of the table after none of
     /// what is not settled, or after the batch in flight; from the last call of a batch on, if that
-    /// succeeded, until it is published, after that batch. It does nothing.
+    /// succeeded, until it is published, after that batch. (One of no changes has no call: after it, from its load on.)
+    /// It does nothing.
     pub fn show_images(&self)
         ensures now { IsProper D.model self.now → (hs : List Happening)
             → AreUnsettled hs self.now.core → (image : List ℕ) → D.model.may_leave (device_of self.now) image
@@ -87,19 +87,10 @@ impl<D: Disk> DurableCore<D> {
         ensures safe { IsSafe D.model self.old self.new }
         ensures device { device_of self.new ≡ device_of self.old }
     {
-        self.stops();
-        self.core.sound();
-        let given = if self.committer.has_batch() {
-            None
-        } else {
-            match self.core.take() {
-                Ok(given) => given,
-                Err(_) => return Told::NoMemory,
-            }
-        };
-        match self.committer.load(given) {
-            Some(result) => Told::Loaded(result),
-            None => Told::Nothing,
+        match apd_steps::take(&mut self.core, &mut self.committer) {
+            Ok(Some(result)) => Told::Loaded(result),
+            Ok(None) => Told::Nothing,
+            Err(_) => Told::NoMemory,
         }
     }
 
@@ -108,19 +99,9 @@ impl<D: Disk> DurableCore<D> {
         ensures step { IsStep Call result self.old self.new }
         ensures made { IsStepMade D.model result self.old self.new }
     {
-        self.stops();
-        match self.committer.phase() {
-            Phase::Idle | Phase::Done => return Told::Nothing,
-            Phase::Busy | Phase::Failed => {}
-        }
-        match self.committer.turn() {
-            Ok(()) => Told::Called(Ok(())),
-            Err(fault) => {
-                if fault == StoreFault::Device {
-                    self.core.fail();
-                }
-                Told::Called(Err(fault))
-            }
+        match apd_steps::call(&mut self.core, &mut self.committer) {
+            Some(result) => Told::Called(result),
+            None => Told::Nothing,
         }
     }
 
@@ -129,17 +110,9 @@ impl<D: Disk> DurableCore<D> {
         ensures safe { IsSafe D.model self.old self.new }
         ensures device { device_of self.new ≡ device_of self.old }
     {
-        self.stops();
-        self.core.sound();
-        let Some(receipt) = self.committer.receipt() else {
-            return Told::Nothing;
-        };
-        match self.core.publish(receipt) {
-            Ok(()) => Told::Published(Ok(())),
-            Err((receipt, fault)) => {
-                self.committer.take_back(receipt);
-                Told::Published(Err(fault))
-            }
+        match apd_steps::publish(&mut self.core, &mut self.committer) {
+            Some(result) => Told::Published(result),
+            None => Told::Nothing,
         }
     }
 

@@ -34,7 +34,7 @@ impl<D: Disk, R: Radio> World<D, R> {
     ghost use Rattle.apd_world.specs.Outside.{device_of, flusher_of};
     ghost use Rattle.apd_world.specs.Proper.{IsProper, IsSafe, IsShown, IsUnused, IsWhole};
     ghost use Rattle.apd_world.specs.Resumed.{AreResumed};
-    ghost use Rattle.apd_world.specs.StandsFor.{BeginsAt, StandsFor};
+    ghost use Rattle.apd_world.specs.StandsFor.{BeginsAt, BeginsHere, StandsFor};
     ghost use Rattle.apd_world.specs.WorldParts.{durable_of, is_up_if, queue_of, slot_at, slots_of};
 
     /// A flusher, a core and slots, which keep the outs that wait there; no batch and no receipt waits. It takes no
@@ -79,7 +79,8 @@ impl<D: Disk, R: Radio> World<D, R> {
 
     /// Tells a caller's proof what a stop now leaves, between two steps: an image of the table after none of what is
     /// not settled, or after the batch in flight; from the last call of a batch on, if that succeeded, until it is
-    /// published, after that batch. So whatever journal the world stands for keeps it. It does nothing.
+    /// published, after that batch. (One of no changes has no call: after it, from its load on.) So whatever journal
+    /// the world stands for keeps it. It does nothing.
     pub fn show_images(&self)
         ensures images { IsProper D.model (durable_of self.now) → IsShown D.model (durable_of self.now) }
         ensures kept { IsProper D.model (durable_of self.now) → (j : Journal) → StandsFor self.now j
@@ -91,8 +92,7 @@ impl<D: Disk, R: Radio> World<D, R> {
     /// Tells a caller's proof that the world stands for a journal: for the one that begins at its settled table, with
     /// what is not settled. It does nothing.
     pub fn journal(&self)
-        ensures { (j : Journal) × StandsFor self.now j × (j.first ≡ (durable_of self.now).core.settled)
-            × (j.durable ≡ 0) }
+        ensures { (j : Journal) × BeginsHere self.now j }
     {
         self.durable.sound();
     }

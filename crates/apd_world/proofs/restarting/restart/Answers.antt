@@ -1,4 +1,4 @@
-use Rattle.std.proofs.Common.{inr, sym, ap, subst}
+use Rattle.std.proofs.Common.{inl, inr, ⊎_elim, sym, ap, subst}
 use Rattle.std.proofs.lemmas.Result.{IfErr-weaker, IfOk-weaker}
 use Rattle.apd_world.proofs.ResumeLemmas.{begun_from, ends_so, honestly_begun_from, honestly_not_begun_from, not_begun_from, still_left}
 use Rattle.apd_world.proofs.Words.{State}
@@ -14,13 +14,12 @@ returns-in-Ok-clause-begun g c =
     c.args.moment w.durable h) c.begin_anew.ensures.begun
 
 pub returns-in-Ok-clause-begun_honest : goal.returns-in-Ok-clause-begun_honest
-returns-in-Ok-clause-begun_honest g c = λ honest.
-    let held = c.in-Ok.ensures.found_honest honest in
+returns-in-Ok-clause-begun_honest g c =
     IfOk-weaker c.begin_anew.result _ _
-    (λ w h. honestly_begun_from g.D.Disk.model c.args.device c.in-Ok.store c.in-Ok.table c.in-Ok.ensures.found
-    c.args.confs c.args.moment w.durable h honest held
-    (λ s shown. c.an_image_shows_one_state.ensures (g.D.Disk.model.reads c.args.device) c.in-Ok.table s held.shown
-    shown)) c.begin_anew.ensures.begun
+    (λ w h honest. honestly_begun_from g.D.Disk.model c.args.device c.in-Ok.store c.in-Ok.table c.in-Ok.ensures.found
+    c.args.confs c.args.moment w.durable h honest c.in-Ok.ensures.found_honest
+    (c.an_image_shows_one_state.ensures (g.D.Disk.model.reads c.args.device) c.in-Ok.table))
+    c.begin_anew.ensures.begun
 
 pub returns-in-Ok-clause-begins : goal.returns-in-Ok-clause-begins
 returns-in-Ok-clause-begins g c =
@@ -33,19 +32,21 @@ returns-in-Ok-clause-none g c =
     g.R.Radio.model c.args.slots.items e.1.items e.0 e.2 h) c.begin_anew.ensures.none
 
 pub returns-in-Ok-clause-none_honest : goal.returns-in-Ok-clause-none_honest
-returns-in-Ok-clause-none_honest g c = λ honest.
+returns-in-Ok-clause-none_honest g c =
     IfErr-weaker c.begin_anew.result _ _
-    (λ e h. honestly_not_begun_from g.D.Disk.model c.args.device c.in-Ok.store c.in-Ok.table c.in-Ok.ensures.found
+    (λ e h left.
+    let honest = subst g.D.Disk.model.honest h.device_is left in
+    honestly_not_begun_from g.D.Disk.model c.args.device c.in-Ok.store c.in-Ok.table c.in-Ok.ensures.found
     g.R.Radio.model c.args.slots.items e.1.items e.0 e.2 h
-    (c.in-Ok.ensures.found_honest honest) (g.met.D.Disk.reads_may_be_left c.args.device honest))
+    (c.in-Ok.ensures.found_honest honest) (g.met.D.Disk.reads_may_be_left c.args.device (c.in-Ok.ensures.found.was_honest honest)))
     c.begin_anew.ensures.none
 
 pub returns-in-Ok-clause-only : goal.returns-in-Ok-clause-only
 returns-in-Ok-clause-only g c =
     IfErr-weaker c.begin_anew.result _ _
     (λ e h. inr (inr (inr (inr (inr (ends_so g.D.Disk.model c.args.device c.in-Ok.store c.in-Ok.table c.in-Ok.ensures.found
-    g.R.Radio.model c.args.slots.items e.1.items e.2
-    (λ honest. (c.in-Ok.ensures.found_honest honest).shown) h.slots_are)))))) c.begin_anew.ensures.none
+    g.R.Radio.model e.0 c.args.slots.items e.1.items e.2
+    (λ left. (c.in-Ok.ensures.found_honest (subst g.D.Disk.model.honest h.device_is left)).shown) h.slots_are)))))) c.begin_anew.ensures.none
 
 pub returns-in-Ok-clause-still_slots : goal.returns-in-Ok-clause-still_slots
 returns-in-Ok-clause-still_slots g c =
@@ -62,7 +63,7 @@ returns-in-Err-clause-none_honest g c = λ honest.
       not_a_store = λ told. e.not_a_store (same_fault _ _ told);
       old_version = λ told. e.old_version (same_fault _ _ told);
       damaged = λ told. e.damaged (same_fault _ _ told);
-      durable = λ other. e.durable (λ is. other (ap world_fault.Store is));
+      durable = ⊎_elim (λ only. inl only) (λ synced. inr (ap world_fault.Store synced.0, synced.1)) e.durable;
       still = e.still;
       any_moment = e.any_moment;
     }

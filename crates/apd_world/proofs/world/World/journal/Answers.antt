@@ -5,5 +5,7 @@ use Rattle.apd_world.proofs.world.World.journal.Goals as goal
 pub returns : goal.returns
 returns g c =
     let w = c.args.self.now in
-    let is = c.sound.ensures in
-    (begun w is, begun_stands w is, refl, refl)
+    let is = c.sound.ensures in (
+      begun w is,
+      record { stands = begun_stands w is; first = refl; durable = refl; owed = λ r. refl; given = λ r. refl; read = refl },
+    )

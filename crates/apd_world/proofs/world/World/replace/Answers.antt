@@ -29,7 +29,7 @@ pub returns-in-Ok-clause-following : goal.returns-in-Ok-clause-following
 returns-in-Ok-clause-following g c = replaced_following g.D.Disk.model g.R.Radio.model g.R.Radio.frames c.args.bssid c.args.radio c.args.self.now _ _ (returns-in-Ok-clause-replaced g c)
 
 pub returns-in-Ok-clause-leads : goal.returns-in-Ok-clause-leads
-returns-in-Ok-clause-leads g c = replaced_leads g.D.Disk.model g.R.Radio.model g.R.Radio.frames c.args.bssid c.args.radio _ c.args.self.now _ (returns-in-Ok-clause-replaced g c)
+returns-in-Ok-clause-leads g c = replaced_leads g.D.Disk.model g.R.Radio.model g.R.Radio.frames c.args.bssid c.args.self.now _ c.args.radio _ (returns-in-Ok-clause-replaced g c)
 
 pub returns-in-Err-clause-replaced : goal.returns-in-Err-clause-replaced
 returns-in-Err-clause-replaced g c =
@@ -53,4 +53,4 @@ pub returns-in-Err-clause-following : goal.returns-in-Err-clause-following
 returns-in-Err-clause-following g c = replaced_following g.D.Disk.model g.R.Radio.model g.R.Radio.frames c.args.bssid c.args.radio c.args.self.now _ _ (returns-in-Err-clause-replaced g c)
 
 pub returns-in-Err-clause-leads : goal.returns-in-Err-clause-leads
-returns-in-Err-clause-leads g c = replaced_leads g.D.Disk.model g.R.Radio.model g.R.Radio.frames c.args.bssid c.args.radio _ c.args.self.now _ (returns-in-Err-clause-replaced g c)
+returns-in-Err-clause-leads g c = replaced_leads g.D.Disk.model g.R.Radio.model g.R.Radio.frames c.args.bssid c.args.self.now _ c.args.radio _ (returns-in-Err-clause-replaced g c)

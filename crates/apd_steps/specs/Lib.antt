@@ -1,0 +1,4 @@
+pub mod Calls
+pub mod Committing
+pub mod Handing
+pub mod Run

@@ -1,0 +1,95 @@
+-- A world whose core was told to fail; and the committing worker's run, as a world makes it.
+use Rattle.std.proofs.Common.{◌≡◌, true, List, [], ◌∷◌, ◌++◌, Option, Some, None, Result, Ok, Err, refl, sym, ap, subst, ◌∙◌}
+use Rattle.std.specs.Prelude.{map}
+use Rattle.std.specs.declared.alloc.AllocError.{AllocError}
+use Rattle.apd_core.specs.declared.publish_fault.PublishFault.{PublishFault}
+use Rattle.apd_steps.specs.Calls.{exactly}
+use Rattle.apd_steps.specs.Run as steps
+use Rattle.apd_world.specs.Journal.{Journal}
+use Rattle.apd_world.specs.StandsFor.{LeadsSafely, StandsFor, waiting_outs}
+use Rattle.apd_world.specs.WorkerRun.{AreParts, IsPart, part_of, told_called, told_published, told_taken}
+use Rattle.apd_world.proofs.Words.{AreFollowing, Call, Called, Committer, Control, CoreState, Device, DiskModel, DurableCore, IsFailed, IsSafe, Out, Publish, Radio, RadioModel, Recipient, StoreFault, Take, World, durable_of, flight_of, ready_for}
+use Rattle.apd_world.proofs.DurableSteps.{made_beside}
+use Rattle.apd_world.proofs.FromSteps.{calls, fails, publishes, same_published, same_taken, takes}
+use Rattle.apd_world.proofs.JournalLemmas.{still_leads}
+use Rattle.apd_world.proofs.RunLemmas.{one_made}
+
+module _ {D R : Type 0} (disk : DiskModel D) (old new : World D R) (h : IsFailed disk old new) where
+  pub failed_follows : AreFollowing old → AreFollowing new
+  failed_follows follows = subst (λ (w : World D R). AreFollowing w) (sym h.only) follows
+
+  waits_so : (d : DurableCore D) (r : Recipient) → waiting_outs r (record old { durable = d }) ≡ waiting_outs r old
+  waits_so d (Radio b) = refl
+  waits_so d Control = refl
+
+  pub failed_leads : (j : Journal) → StandsFor old j → LeadsSafely disk [] [] old new j j
+  failed_leads j stands = still_leads disk old new j h.safe stands
+      (subst (λ (w : World D R). StandsFor w j) (sym h.only)
+      (record {
+        journal = stands.journal;
+        confs = stands.confs;
+        number = stands.number;
+        settled = stands.settled;
+        unsettled = stands.unsettled;
+        held = stands.held;
+        heard_so = stands.heard_so;
+        waiting = λ r. stands.waiting r ∙ ap (λ (outs : List Out). outs ++ ready_for r (durable_of old).core) (sym (waits_so (record (durable_of old) { core = record (durable_of old).core { failed = true } }) r));
+      }))
+
+-- ---- the worker's run
+taken_not_called : (told : Result (Option (Result (Unit {0}) StoreFault)) AllocError) → told_taken told ≡ Called (Err Device) → ⊥
+taken_not_called (Ok (Some answer)) is = cc
+taken_not_called (Ok None) is = cc
+taken_not_called (Err short) is = cc
+
+published_not_called : (told : Option (Result (Unit {0}) PublishFault)) → told_published told ≡ Called (Err Device) → ⊥
+published_not_called (Some answer) is = cc
+published_not_called None is = cc
+
+module _ {D R : Type 0} (disk : DiskModel D) (radio : RadioModel R) (w : World D R) where
+  abbrev with_both : CoreState → Committer D → DurableCore D
+  with_both core committer = record { core = core; committer = committer }
+
+  abbrev at : DurableCore D → World D R
+  at d = record w { durable = d }
+
+  part_made : (step : steps.Step) (core after : CoreState) (c e : Committer D) → steps.IsStep disk exactly step core after c e
+      → IsSafe disk (with_both core c) (with_both core c) → IsSafe disk (with_both after e) (with_both after e)
+      → IsPart disk radio (part_of step) (at (with_both core c)) (at (with_both after e))
+  part_made (steps.Take given told) core after c e is first last =
+      let d = with_both core c in
+      let f = with_both after e in
+      let both = takes disk d f given told is in
+      one_made disk radio Take (told_taken told) (at d) (at f) (record { inside = told_taken told; durable = both.0; joins = (refl, refl) })
+      (made_beside disk (told_taken told) d f (same_taken disk d f given told is) (taken_not_called told) both.1) (first, last)
+  part_made (steps.Call told) core after c e is first last =
+      let d = with_both core c in
+      let f = with_both after e in
+      let both = calls disk d f told is in
+      one_made disk radio Call (told_called told) (at d) (at f) (record { inside = told_called told; durable = both.0; joins = (refl, refl) }) both.1 (first, last)
+  part_made (steps.Publish receipt told) core after c e is first last =
+      let d = with_both core c in
+      let f = with_both after e in
+      let both = publishes disk d f receipt told is in
+      one_made disk radio Publish (told_published told) (at d) (at f) (record { inside = told_published told; durable = both.0; joins = (refl, refl) })
+      (made_beside disk (told_published told) d f (same_published disk d f receipt told is) (published_not_called told) both.1) (first, last)
+  part_made steps.Fail core after c e is first last =
+      let both = fails disk (with_both core c) (with_both after e) is in
+      record { only = λ i. at (both.0 i); safe = both.1 }
+
+  -- a stop before a step is safe
+  safe_before : (step : steps.Step) (core after : CoreState) (c e : Committer D) → steps.IsStep disk exactly step core after c e
+      → IsSafe disk (with_both core c) (with_both core c)
+  safe_before step core after c e is =
+      record { whole = λ h. h; proper = λ p. p; inside = λ p. is.before core.settled (flight_of core) core.failed p.whole p.imaged }
+
+  pub parts_made : (all : List steps.Step) (core after : CoreState) (c e : Committer D) → steps.AreSteps disk exactly all core after c e
+      → IsSafe disk (with_both after e) (with_both after e)
+      → AreParts disk radio (map part_of all) (at (with_both core c)) (at (with_both after e))
+  parts_made [] core after c e are last = λ i. at (with_both (are.0 i) (are.1 i))
+  parts_made (step ∷ before) core after c e are last =
+      let here = safe_before step are.0 after are.1 e are.3 in (
+        at (with_both are.0 are.1),
+        parts_made before core are.0 c are.1 are.2 here,
+        part_made step are.0 after are.1 e are.3 here last,
+      )
