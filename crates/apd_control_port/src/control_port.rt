@@ -1,7 +1,8 @@
 //! Control commands as datagrams.
-ghost use Rattle.std.specs.Prelude.{◌≡◌, ◌≢◌, Some, Err, IfOk, IfSome, OnOk, OnErr, IsSome, IsNone};
+ghost use Rattle.std.specs.Prelude.{◌≡◌, ◌≢◌, [], Some, Err, IfOk, IfSome, OnOk, OnErr, IsSome, IsNone};
 ghost use Rattle.std.specs.Option.{ForSome, option_map};
 
+use crate::replies::GivenReplies;
 use crate::senders::Senders;
 use apd_desk::{Port, PortFault};
 use apd_radio::{Datagrams, RadioFault, SocketFault};
@@ -31,6 +32,7 @@ pub struct ControlPort {
     received: Option<(SocketAddr, Vec<u8>)>,
     // Where its own datagrams come from.
     own: SocketAddr,
+    replies: GivenReplies,
     ghost one: { IsSome received → IsNone datagrams },
     ghost foreign: { ForSome received (λ command. command.0 ≢ own) },
 }
@@ -44,12 +46,14 @@ impl ControlPort {
     /// Errors: `NoSocket` where the port can't be had, `NoMemory` where memory runs out.
     pub fn open<R: Net>(rt: &R, alloc: Global, port: u16) -> Result<ControlPort, SocketFault>
         ensures own { IfOk result (λ opened. IsLocal opened.own port) }
+        ensures replies { IfOk result (λ opened. opened.replies.replies ≡ []) }
     {
         Ok(ControlPort {
             datagrams: Datagrams::bind(rt, alloc, port)?,
             senders: Senders::new(alloc),
             received: None,
             own: SocketAddr::new(IpAddr::V4(Ipv4Addr::new(127, 0, 0, 1)), port),
+            replies: GivenReplies::new(),
         })
     }
 
@@ -57,6 +61,7 @@ impl ControlPort {
     fn receive(&mut self) -> Result<(), PortFault>
         ensures senders { self.new.senders ≡ self.old.senders }
         ensures own { self.new.own ≡ self.old.own }
+        ensures replies { self.new.replies ≡ self.old.replies }
         ensures given { OnOk result (IsNone self.new.datagrams) }
         ensures foreign { IfSome (waiting_datagram self.old)
             (λ waited. waited.0 ≢ self.old.own → OnOk result (waiting_datagram self.new ≡ Some waited)) }
@@ -94,10 +99,12 @@ fn next_command(
 }
 
 impl Port for ControlPort {
-    ghost use Rattle.std.specs.Prelude.{◌⊎◌, ◌-◌, ◌^◌, MatchOption, IsSomeAnd};
+    ghost use Rattle.std.specs.Prelude.{◌⊎◌, ◌-◌, ◌^◌, ◌++◌, ◌∷◌, MatchOption, IsSomeAnd};
     ghost use Rattle.std.specs.declared.net.socket_addr.SocketAddr.{SocketAddr};
     ghost use Rattle.apd_control_port.specs.Commands.{waiting_datagram};
     ghost use Rattle.apd_control_port.specs.Tags.{Adds, AreSame, Forgets};
+
+    ghost replied = { λ port. Some port.replies.replies };
 
     /// A command that was received and meets want of memory stays: a later call gives it.
     fn poll(&mut self) -> Result<Option<(u64, Vec<u8>)>, PortFault>
@@ -116,6 +123,7 @@ impl Port for ControlPort {
         ensures short { IsSome (waiting_datagram self.old)
             → OnErr result ((result ≡ Err PortFault.NoMemory) ⊎ (self.old.senders.given ≡ 2 ^ 64 - 1)) }
         ensures err { OnErr result (AreSame self.old.senders self.new.senders) }
+        ensures replied { self.new.replies ≡ self.old.replies }
     {
         self.receive()?;
         let Some((sender, _)) = &self.received else {
@@ -136,10 +144,14 @@ impl Port for ControlPort {
     fn reply(&mut self, tag: u64, text: &[u8]) -> Result<(), PortFault>
         ensures forgotten { Forgets self.old.senders tag self.new.senders }
         ensures waits { waiting_datagram self.new ≡ waiting_datagram self.old }
+        ensures replied { OnOk result
+            (self.new.replies.replies ≡ self.old.replies.replies ++ (tag, text.now) ∷ []) }
+        ensures lost { OnErr result (self.new.replies ≡ self.old.replies) }
     {
-        let Some(sender) = self.senders.take(tag) else {
-            return Ok(());
-        };
-        self.datagrams.send(sender, text).map_err(of_socket)
+        if let Some(sender) = self.senders.take(tag) {
+            self.datagrams.send(sender, text).map_err(of_socket)?;
+        }
+        self.replies.note(&[tag], text);
+        Ok(())
     }
 }

@@ -2,6 +2,7 @@
 #![tactic(auto)]
 
 mod control_port;
+mod replies;
 mod senders;
 
 pub use control_port::ControlPort;

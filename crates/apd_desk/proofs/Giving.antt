@@ -1,15 +1,20 @@
 -- One gift of outs after another.
-use Rattle.std.proofs.Common.{◌≡◌, ◌≢◌, List, [], ◌∷◌, ◌++◌, Option, Some, None, Result, Ok, Err, refl, sym, ap, subst, ◌∙◌, append_assoc}
+use Rattle.std.proofs.Common.{◌≡◌, ◌≢◌, ℕ, List, [], ◌∷◌, ◌++◌, Option, Some, None, Result, Ok, Err, refl, sym, ap, subst, ◌∙◌, append_assoc}
 use Rattle.std.specs.declared.alloc.AllocError.{AllocError}
 use Rattle.std.proofs.lemmas.List.{append-nil}
+use Rattle.apd_base.specs.declared.address.Bssid.{Bssid}
+use Rattle.apd_core.specs.Core.{CoreState, ready_for}
 use Rattle.apd_mlme.specs.declared.decision.Out.{Out}
+use Rattle.apd_mlme.specs.declared.decision.Recipient.TheVariants.{Radio as ToRadio}
 use Rattle.apd_radio.specs.Model.{RadioModel}
 use Rattle.apd_slot.specs.Applying.{AppliesNext}
+use Rattle.apd_slot.specs.Mending.{IsMended}
 use Rattle.apd_slot.specs.Slots.{bssid_of, queue_of, wanted_of, IsExact}
 use Rattle.apd_slot.specs.Wanted.{Stations, wanted_after, wanted_after_all, wanted_by}
 use Rattle.apd_slot.specs.declared.slot.Slot.{Slot}
 use Rattle.apd_slot.specs.declared.slot.SlotFault.{SlotFault}
 use Rattle.apd_slot.specs.declared.slot.SlotFault.TheVariants.{WentDown, Lost, NotMine, NoMemory}
+use Rattle.apd_steps.specs.Handing.{HandsTo}
 use Rattle.apd_desk.specs.Giving.{IsServed, IsGivenOn}
 
 wanted_on : (outs more : List Out) (wanted : Stations)
@@ -61,9 +66,11 @@ module _ {R : Type 0} (radio : RadioModel R) where
   pub unserved : (a : Slot R) → IsServed radio [] a a
   unserved a = served [] [] a a refl (λ is. is) (append-nil (queue_of a)) refl
 
-  -- nothing was applied, and an up slot has what is wanted
-  pub none_served : (a b : Slot R) → bssid_of b ≡ bssid_of a → IsExact radio b → wanted_of b ≡ wanted_of a → queue_of b ≡ queue_of a → IsServed radio [] a b
-  none_served a b bssid exact wanted queue = served [] [] a b bssid (λ is. exact) (append-nil (queue_of a) ∙ sym queue) wanted
+  -- a slot that is mended was given nothing
+  pub mended_served : (frames : R → Option (List (List ℕ))) (spares : List R) (a b : Slot R) → IsMended radio frames spares a b
+      → IsServed radio [] a b
+  mended_served frames spares a b h =
+      served [] [] a b h.bssid h.exact (append-nil (queue_of a) ∙ sym h.queue) h.wanted
 
   -- the next out was applied, or meets want of memory and stays
   pub next_served : (next : Option (Result (Out × Result (Unit {0}) SlotFault) AllocError)) (a b : Slot R)
@@ -74,3 +81,21 @@ module _ {R : Type 0} (radio : RadioModel R) where
   next_served (Some (Err short)) a b h =
       served [] [] a b h.given.bssid h.given.exact (append-nil (queue_of a) ∙ sym h.queue) h.given.wanted
   next_served None a b h = subst (λ (z : Slot R). IsServed radio [] a z) (sym h.1) (unserved a)
+
+  -- what is ready was handed to a slot, or stays where memory lacks
+  pub hands_given : (b : Bssid) (answer : Result ℕ AllocError) (core after : CoreState) (a z : Slot R) → HandsTo b answer core after a z
+      → IsGivenOn radio a z
+  hands_given b (Ok count) core after a z h =
+      let same = h.2.same in (
+        ready_for (ToRadio b) core,
+        served (ready_for (ToRadio b) core) [] a z same.bssid
+            (λ exact up. ap radio.stations same.radio ∙ exact (sym same.up ∙ up) ∙ sym same.wanted)
+            (sym h.2.queue) same.wanted,
+      )
+  hands_given b (Err short) core after a z h =
+      let same = h.2 in (
+        [],
+        served [] [] a z same.bssid
+            (λ exact up. ap radio.stations same.radio ∙ exact (sym same.up ∙ up) ∙ sym same.wanted)
+            (append-nil (queue_of a) ∙ sym same.queue) same.wanted,
+      )

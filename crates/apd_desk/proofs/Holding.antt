@@ -1,5 +1,5 @@
 -- Each step of the committing worker keeps what it took and did not publish.
-use Rattle.std.proofs.Common.{◌≡◌, ◌⊎◌, ⊎_elim, List, [], ◌∷◌, ◌++◌, Option, Some, None, Result, Ok, Err, refl, sym, ap, subst, ◌∙◌, append_assoc}
+use Rattle.std.proofs.Common.{◌≡◌, ◌⊎◌, inl, inr, ⊎_elim, List, [], ◌∷◌, ◌++◌, Option, Some, None, Result, Ok, Err, refl, sym, ap, ◌∙◌, append_assoc}
 use Rattle.std.proofs.lemmas.List.{append-nil}
 use Rattle.apd_disk.specs.Disk.{DiskModel}
 use Rattle.apd_journal.specs.declared.batch.Batch.{Batch}
@@ -7,7 +7,8 @@ use Rattle.apd_store.specs.Outside.{held_batch, store_batch, phase_of as store_p
 use Rattle.apd_store.specs.declared.fault.StoreFault.{StoreFault}
 use Rattle.apd_store.specs.declared.store.Receipt.{Receipt}
 use Rattle.apd_store.specs.declared.store.Store.{Store}
-use Rattle.apd_flusher.specs.Handing.{IsLoadGiven, IsTurnMade, Keeps, TurnTells}
+use Rattle.apd_flusher.proofs.Turns.{empty_or_some}
+use Rattle.apd_flusher.specs.Handing.{IsLoadGiven, IsTurnMade, TurnTells}
 use Rattle.apd_flusher.specs.Outside.{flusher_batch, flusher_of, phase_of, waiting_batch, waiting_receipt}
 use Rattle.apd_flusher.specs.Phases.{phase_from}
 use Rattle.apd_flusher.specs.Turning.{IsTurn}
@@ -16,10 +17,11 @@ use Rattle.apd_flusher.specs.declared.flusher.Flusher.{Flusher}
 use Rattle.apd_flusher.specs.declared.phase.Phase.{Phase}
 use Rattle.apd_flusher.specs.declared.phase.Phase.TheVariants.{Idle, Busy, Done, Failed}
 use Rattle.apd_core.specs.declared.publish_fault.PublishFault.{PublishFault}
-use Rattle.apd_desk.proofs.Stepping.{keeps_on}
+use Rattle.apd_steps.specs.Calls.{Made, of_some_core}
+use Rattle.apd_steps.specs.Committing.{IsPublished}
+use Rattle.apd_steps.specs.Run.{AreSteps, Call, Fail, IsRun, IsStep, Publish, Step, Take}
+use Rattle.apd_steps.proofs.RunLemmas.{steps_somewhere}
 use Rattle.apd_desk.specs.Holding.{IsLed, held_batches, in_flusher, in_receipt, in_waiting, published_batch, published_batches, taken_batch, taken_batches}
-use Rattle.apd_desk.specs.Steps.{AreSteps, IsReceiptHanded, IsStep, IsStepped, Load, Publish, Step, Turn}
-use Rattle.apd_desk.specs.declared.published.Published.{Published}
 
 -- more behind the last of three
 behind : (r f w more : List Batch) → (r ++ (f ++ w)) ++ more ≡ r ++ (f ++ (w ++ more))
@@ -60,7 +62,10 @@ module _ {D : Type 0} where
       behind r (in_flusher (phase_of f) (flusher_batch f)) (in_waiting (waiting_batch a)) (in_waiting given)
       ∙ ap (λ (z : List Batch). r ++ (in_flusher (phase_of f) (flusher_batch f) ++ z)) (next_batch is.batch given (waiting_batch a) alone is.next)
       ∙ ap (λ (z : Phase). r ++ (in_flusher z (flusher_batch f) ++ (is.batch ∷ []))) is.tells.was_idle
-      ∙ sym (held_as b (waiting_receipt a) Busy is.batch None is.receipt is.tells.busy is.tells.batch_is is.waits)
+      ∙ ⊎_elim
+      (λ empty. sym (held_as b (waiting_receipt a) Done is.batch None is.receipt (is.tells.done empty) is.tells.batch_is is.waits))
+      (λ some. sym (held_as b (waiting_receipt a) Busy is.batch None is.receipt (is.tells.busy some) is.tells.batch_is is.waits))
+      (empty_or_some is.batch.changes)
   loaded (Err fault) given a b alone is =
       let r = in_receipt (waiting_receipt a) in
       let f = flusher_of a in
@@ -103,60 +108,68 @@ module _ {D : Type 0} where
       ∙ ap (λ (z : List Batch). in_receipt (waiting_receipt a) ++ (z ++ in_waiting (waiting_batch a))) (turned_list disk answer f g is.turn is.tells))
 
   -- ---- a receipt
-  handed : (answer : Result (Unit {0}) PublishFault) (receipt : Receipt) (a b : Committer D)
-      → IsReceiptHanded answer receipt a b
-      → held_batches a ++ [] ≡ published_batch (Publish receipt answer) ++ held_batches b
-  handed (Ok _) receipt a b is =
+  handed : {A : Type 0} (made : Made A) (receipt : Receipt) (answer : Result (Unit {0}) PublishFault) (core after : A) (a b : Committer D)
+      → IsPublished made receipt answer core after a b
+      → held_batches a ++ [] ≡ published_batch (Publish (Some receipt) (Some answer)) ++ held_batches b
+  handed made receipt (Ok _) core after a b is =
       let f = flusher_of a in
       let own = λ (z : List Batch). held_batch receipt ∷ z in
       append-nil (held_batches a)
       ∙ ⊎_elim
       (λ waits. held_as a (Some receipt) (phase_of f) (flusher_batch f) (waiting_batch a) waits.0 refl refl refl
-      ∙ sym (ap own (held_as b None (phase_of f) (flusher_batch f) (waiting_batch a) is.waits (ap phase_of waits.1) (ap flusher_batch waits.1) is.batch)))
+      ∙ sym (ap own (held_as b None (phase_of f) (flusher_batch f) (waiting_batch a) is.kept (ap phase_of waits.1) (ap flusher_batch waits.1) is.batch)))
       (λ given. held_as a None Done (flusher_batch f) (waiting_batch a) given.0 given.1.done refl refl
       ∙ ap (λ (z : Batch). z ∷ in_waiting (waiting_batch a)) (sym given.1.batch_is)
-      ∙ sym (ap own (held_as b None Idle (flusher_batch (flusher_of b)) (waiting_batch a) is.waits given.1.idle refl is.batch)))
+      ∙ sym (ap own (held_as b None Idle (flusher_batch (flusher_of b)) (waiting_batch a) is.kept given.1.idle refl is.batch)))
       is.next
-  handed (Err fault) receipt a b is =
+  handed made receipt (Err fault) core after a b is =
       let f = flusher_of a in
       append-nil (held_batches a)
       ∙ ⊎_elim
       (λ waits. held_as a (Some receipt) (phase_of f) (flusher_batch f) (waiting_batch a) waits.0 refl refl refl
-      ∙ sym (held_as b (Some receipt) (phase_of f) (flusher_batch f) (waiting_batch a) is.waits (ap phase_of waits.1) (ap flusher_batch waits.1) is.batch))
+      ∙ sym (held_as b (Some receipt) (phase_of f) (flusher_batch f) (waiting_batch a) is.kept (ap phase_of waits.1) (ap flusher_batch waits.1) is.batch))
       (λ given. held_as a None Done (flusher_batch f) (waiting_batch a) given.0 given.1.done refl refl
       ∙ ap (λ (z : Batch). z ∷ in_waiting (waiting_batch a)) (sym given.1.batch_is)
-      ∙ sym (held_as b (Some receipt) Idle (flusher_batch (flusher_of b)) (waiting_batch a) is.waits given.1.idle refl is.batch))
+      ∙ sym (held_as b (Some receipt) Idle (flusher_batch (flusher_of b)) (waiting_batch a) is.kept given.1.idle refl is.batch))
       is.next
 
-  step_keeps : (disk : DiskModel D) (step : Step) (a b : Committer D) → IsStep disk step a b
-      → held_batches a ++ taken_batch step ≡ published_batch step ++ held_batches b
-  step_keeps disk (Load given answer) a b is = loaded answer given a b is.0 is.1
-  step_keeps disk (Turn answer) a b is = turned disk answer a b is
-  step_keeps disk (Publish receipt answer) a b is = handed answer receipt a b is
+  -- ---- any step
+  rests : (a b : Committer D) → b ≡ a → held_batches a ++ [] ≡ held_batches b
+  rests a b same = append-nil (held_batches a) ∙ ap held_batches (sym same)
 
-  steps_keep : (disk : DiskModel D) (steps : List Step) (a c : Committer D) → AreSteps disk steps a c
-      → held_batches a ++ taken_batches steps ≡ published_batches steps ++ held_batches c
-  steps_keep disk [] a c is = append-nil (held_batches a) ∙ ap held_batches (sym is)
-  steps_keep disk (step ∷ before) a c is =
-      let b = is.0 in
-      sym (append_assoc (held_batches a) (taken_batches before) (taken_batch step))
-      ∙ ap (λ (z : List Batch). z ++ taken_batch step) (steps_keep disk before a b is.1)
-      ∙ append_assoc (published_batches before) (held_batches b) (taken_batch step)
-      ∙ ap (λ (z : List Batch). published_batches before ++ z) (step_keeps disk step b c is.2)
-      ∙ sym (append_assoc (published_batches before) (published_batch step) (held_batches c))
+  module _ {A : Type 0} (disk : DiskModel D) (made : Made A) where
+    step_keeps : (step : Step) (core after : A) (a b : Committer D) → IsStep disk made step core after a b
+        → held_batches a ++ taken_batch step ≡ published_batch step ++ held_batches b
+    step_keeps (Take given (Ok (Some answer))) core after a b is =
+        loaded answer given a b (⊎_elim (λ waits. inr waits.1) (λ gives. inl gives.0) is.does.from) is.does.load
+    step_keeps (Take given (Ok None)) core after a b is =
+        ap (λ (z : Option Batch). held_batches a ++ in_waiting z) is.does.0 ∙ rests a b is.does.3
+    step_keeps (Take given (Err short)) core after a b is =
+        ap (λ (z : Option Batch). held_batches a ++ in_waiting z) is.does.0 ∙ rests a b is.does.3
+    step_keeps (Call (Some answer)) core after a b is = turned disk answer a b is.whole.turn
+    step_keeps (Call None) core after a b is = rests a b is.does.2
+    step_keeps (Publish (Some receipt) (Some answer)) core after a b is = handed made receipt answer core after a b is.does
+    step_keeps (Publish None None) core after a b is = rests a b is.does.2
+    step_keeps (Publish (Some receipt) None) core after a b is = absurd is.does
+    step_keeps (Publish None (Some answer)) core after a b is = absurd is.does
+    step_keeps Fail core after a b is = rests a b is.does.1
 
-  led : (disk : DiskModel D) (steps : List Step) (a b : Committer D) → AreSteps disk steps a b → IsLed disk a b
-  led disk steps a b are = record { steps = steps; are = are; held = steps_keep disk steps a b are }
+    pub steps_keep : (steps : List Step) (core after : A) (a c : Committer D) → AreSteps disk made steps core after a c
+        → held_batches a ++ taken_batches steps ≡ published_batches steps ++ held_batches c
+    steps_keep [] core after a c is = rests a c is.1
+    steps_keep (step ∷ before) core after a c is =
+        let b = is.1 in
+        sym (append_assoc (held_batches a) (taken_batches before) (taken_batch step))
+        ∙ ap (λ (z : List Batch). z ++ taken_batch step) (steps_keep before core is.0 a b is.2)
+        ∙ append_assoc (published_batches before) (held_batches b) (taken_batch step)
+        ∙ ap (λ (z : List Batch). published_batches before ++ z) (step_keeps step is.0 after b c is.3)
+        ∙ sym (append_assoc (published_batches before) (published_batch step) (held_batches c))
 
-  led_on : (disk : DiskModel D) (told : Option Published) (a b c : Committer D) → IsLed disk a b
-      → IsStepped disk told b c → IsLed disk a c
-  led_on disk told a b c is stepped =
-      ⊎_elim
-      (λ same. subst (λ (z : Committer D). IsLed disk a z) (sym same.0) is)
-      (λ step. led disk (step.0 ∷ is.steps) a c (b, is.are, step.1))
-      stepped
-
-  pub both_on : (disk : DiskModel D) (told : Option Published) (a b c : Committer D) → IsLed disk a b × Keeps disk a b
-      → IsStepped disk told b c × Keeps disk b c
-      → IsLed disk a c × Keeps disk a c
-  both_on disk told a b c first next = (led_on disk told a b c first.0 next.0, keeps_on disk a b c first.1 next.1)
+  abbrev pub led : {A : Type 0} (disk : DiskModel D) (core after : A) (old new : Committer D)
+      → IsRun disk of_some_core core after old new → IsLed disk old new
+  led disk core after old new run = record {
+    steps = run.steps;
+    are = steps_somewhere disk run.steps core after old new run.are;
+    fails = run.fails;
+    held = steps_keep disk of_some_core run.steps core after old new run.are;
+  }

@@ -1,6 +1,6 @@
 mod Counting
+mod EndLemmas
 pub mod Giving
 mod Holding
 mod Noting
-mod Stepping
-pub mod Tries
+mod Replies

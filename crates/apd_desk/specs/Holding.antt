@@ -1,5 +1,5 @@
 -- The batches that a committer holds (own).
-use Rattle.std.specs.Prelude.{◌≡◌, ◌++◌, List, [], ◌∷◌, Option, Some, None, Ok, Err}
+use Rattle.std.specs.Prelude.{◌≡◌, ◌++◌, List, [], ◌∷◌, Option, Some, None, Ok}
 use Rattle.apd_disk.specs.Disk.{DiskModel}
 use Rattle.apd_journal.specs.declared.batch.Batch.{Batch}
 use Rattle.apd_store.specs.Outside.{held_batch}
@@ -8,7 +8,8 @@ use Rattle.apd_flusher.specs.Outside.{flusher_batch, flusher_of, phase_of, waiti
 use Rattle.apd_flusher.specs.declared.committer.Committer.{Committer}
 use Rattle.apd_flusher.specs.declared.phase.Phase.{Phase}
 use Rattle.apd_flusher.specs.declared.phase.Phase.TheVariants.{Idle, Busy, Done, Failed}
-use Rattle.apd_desk.specs.Steps.{AreSteps, Step, Load, Turn, Publish}
+use Rattle.apd_steps.specs.Calls.{of_some_core}
+use Rattle.apd_steps.specs.Run.{AreSteps, FailsBehindRefusals, Publish, Step, Take}
 
 abbrev pub in_receipt : Option Receipt → List Batch
 in_receipt None = []
@@ -31,16 +32,13 @@ held_batches c = in_receipt (waiting_receipt c)
 
 -- what a step took from the core
 abbrev pub taken_batch : Step → List Batch
-taken_batch (Load given answer) = in_waiting given
-taken_batch (Turn answer) = []
-taken_batch (Publish receipt answer) = []
+taken_batch (Take given told) = in_waiting given
+taken_batch step = []
 
 -- what it published
 abbrev pub published_batch : Step → List Batch
-published_batch (Load given answer) = []
-published_batch (Turn answer) = []
-published_batch (Publish receipt (Ok _)) = held_batch receipt ∷ []
-published_batch (Publish receipt (Err fault)) = []
+published_batch (Publish (Some receipt) (Some (Ok _))) = held_batch receipt ∷ []
+published_batch step = []
 
 -- of steps, the last of which stands first
 abbrev pub taken_batches : List Step → List Batch
@@ -51,10 +49,13 @@ abbrev pub published_batches : List Step → List Batch
 published_batches [] = []
 published_batches (step ∷ before) = published_batches before ++ published_batch step
 
--- steps lead from one to the other, and nothing else happened
+-- Steps lead from one to the other, and nothing else happened; for each call of the core that a step made, there was a
+-- core that went so.
 pub record IsLed {D : Type 0} (disk : DiskModel D) (old new : Committer D) : Type 0 where
   pub steps : List Step
-  pub are : AreSteps disk steps old new
+  pub are : AreSteps disk (of_some_core {A = Unit {0}}) steps tt tt old new
+  -- and the core was told to fail behind a refusal alone, which was none for want of memory
+  pub fails : FailsBehindRefusals steps
   -- no batch is lost, and no receipt: what was held and what was taken since is, in order, what was published and
   -- what is held
   pub held : held_batches old ++ taken_batches steps ≡ published_batches steps ++ held_batches new

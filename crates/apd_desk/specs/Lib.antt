@@ -1,8 +1,10 @@
 pub mod Counted
+pub mod Ends
 pub mod Giving
+pub mod Going
 pub mod Holding
 pub mod RadioNotes
+pub mod Replied
+pub mod Replying
 pub mod TicketOwner
 pub mod SeatProgress
-pub mod Steps
-pub mod Tries

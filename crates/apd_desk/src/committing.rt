@@ -1,29 +1,87 @@
 //! Committing the entries of a shared core, step by step.
-ghost use Rattle.std.specs.Prelude.{None};
+ghost use Rattle.std.specs.Prelude.{◌≡◌, ◌≢◌, Option, None, Some, Ok};
 ghost use Rattle.apd_flusher.specs.Handing.{Keeps};
+ghost use Rattle.apd_journal.specs.declared.batch.Batch.{Batch as GivenBatch};
+ghost use Rattle.apd_store.specs.declared.store.Receipt.{Receipt as GivenReceipt};
+ghost use Rattle.apd_steps.specs.Calls.{of_some_core};
+ghost use Rattle.apd_steps.specs.Run.{Call, IsRefusal, IsRun, Publish, Take};
+ghost use Rattle.apd_desk.specs.Ends.{EndsAs};
+ghost use Rattle.apd_desk.specs.Going.{HasGone};
 ghost use Rattle.apd_desk.specs.Holding.{IsLed};
-ghost use Rattle.apd_desk.specs.Steps.{settlement_of, IsStepped, PublishesNext};
 
+use crate::ending::Ending;
 use crate::gate::{Gate, Place};
 use crate::idle::{Idle, Progress};
 use crate::locked::Look;
 use crate::news::News;
-use crate::published::Published;
 use crate::shared::Shared;
 use apd_core::PublishFault;
 use apd_disk::Disk;
 use apd_flusher::{Committer, Phase};
-use apd_store::StoreFault;
+use apd_journal::Batch;
+use apd_steps::Settles;
+use apd_store::{Receipt, StoreFault};
+use std::alloc::AllocError;
 use std::sync::Wait;
 use std::sync::ledger::Ledger;
 use std::time::Clock;
 
+/// A core that gives batches away and settles them, and for whose news one can wait.
+pub(crate) trait Rests: Settles {
+    /// What was there at one moment.
+    fn look(&self) -> Look;
+
+    /// Waits until there are entries since a look, or a stop.
+    fn wait(&self, seen: Look);
+
+    /// The same, for the pause before something is tried again.
+    fn pause(&self, seen: Look);
+}
+
+/// A shared core, for the worker that commits.
+#[derive(Drop)]
+pub(crate) struct Committed<'a, L: Ledger, W> {
+    rt: &'a W,
+    shared: &'a Shared<L>,
+}
+
+// Others may call before and after: what is known is that there was a core that went so.
+impl<L: Ledger, W: Wait> Settles for Committed<'_, L, W> {
+    ghost made = { of_some_core };
+
+    fn take(&mut self) -> Result<Option<Batch>, AllocError> {
+        self.shared.take(self.rt)
+    }
+
+    fn publish(&mut self, receipt: Receipt) -> Result<(), (Receipt, PublishFault)> {
+        self.shared.publish(self.rt, receipt)
+    }
+
+    fn fail(&mut self) {
+        self.shared.fail(self.rt);
+    }
+}
+
+impl<L: Ledger, W: Wait + Clock> Rests for Committed<'_, L, W> {
+    fn look(&self) -> Look {
+        self.shared.look(self.rt)
+    }
+
+    fn wait(&self, seen: Look) {
+        self.shared.wait(self.rt, News::Entry, seen);
+    }
+
+    fn pause(&self, seen: Look) {
+        self.shared.pause(self.rt, News::Entry, seen);
+    }
+}
+
 // How a step went.
-#[derive(Debug, Drop)]
+#[derive(Clone, Copy, Debug, PartialEq, Eq)]
 enum Went {
     On,
     // The core settled the batch of the receipt that it was handed.
-    Settled(Published),
+    Settled,
     // There was nothing to do.
     Nothing,
     // Memory ran out: the step is to be tried again.
@@ -31,142 +89,125 @@ enum Went {
     Refused,
 }
 
-// Loads the batch that waits, or else one that the core gives away. None where there is neither.
-fn load<L: Ledger, W: Wait, D: Disk>(
-    rt: &W,
-    shared: &Shared<L>,
-    committer: &mut Committer<D>,
-) -> Option<Result<(), StoreFault>>
-    ensures stepped { IsStepped D.model None committer.old committer.new }
-    ensures keeps { Keeps D.model committer.old committer.new }
+// How a load went.
+fn went_loaded(told: Result<Option<Result<(), StoreFault>>, AllocError>) -> Went
+    ensures refused { result ≡ Went.Refused → (given : Option GivenBatch) → IsRefusal (Take given told) }
+    ensures nothing { result ≡ Went.Nothing → told ≡ Ok None }
 {
-    if committer.has_batch() {
-        return committer.load(None);
-    }
-    match shared.take(rt) {
-        Ok(Some(taken)) => Some(taken.load_into(committer)),
-        Ok(None) => None,
-        Err(_) => Some(Err(StoreFault::NoMemory)),
+    match told {
+        Ok(Some(Ok(()))) => Went::On,
+        Ok(None) => Went::Nothing,
+        Ok(Some(Err(StoreFault::NoMemory))) | Err(_) => Went::Short,
+        Ok(Some(Err(_))) => Went::Refused,
     }
 }
 
-// Publishes the next receipt, and takes one back that the core refuses. None where there is none.
-fn publish<L: Ledger, W: Wait, D: Disk>(
-    rt: &W,
-    shared: &Shared<L>,
-    committer: &mut Committer<D>,
-) -> Result<Option<Published>, PublishFault>
-    ensures publishes { PublishesNext result committer.old committer.new }
-    ensures keeps { Keeps D.model committer.old committer.new }
+// How a call of the device went.
+fn went_called(told: Option<Result<(), StoreFault>>) -> Went
+    ensures refused { result ≡ Went.Refused → IsRefusal (Call told) }
+    ensures some { result ≢ Went.Nothing }
 {
-    let Some(receipt) = committer.receipt() else {
-        return Ok(None);
-    };
-    match shared.publish(rt, receipt) {
-        Ok(published) => Ok(Some(published)),
-        Err((receipt, fault)) => {
-            committer.take_back(receipt);
-            Err(fault)
-        }
+    match told {
+        Some(Err(_)) => Went::Refused,
+        Some(Ok(())) | None => Went::On,
+    }
+}
+
+// How a receipt went.
+fn went_published(told: Result<(), PublishFault>) -> Went
+    ensures refused { result ≡ Went.Refused → (receipt : Option GivenReceipt)
+        → IsRefusal (Publish receipt (Some told)) }
+    ensures some { result ≢ Went.Nothing }
+{
+    match told {
+        Ok(()) => Went::Settled,
+        Err(PublishFault::NoMemory) => Went::Short,
+        Err(PublishFault::Foreign) => Went::Refused,
     }
 }
 
 // Publishes the next receipt, and where there is none loads the next batch.
-fn hand_on<L: Ledger, W: Wait, D: Disk>(
-    rt: &W,
-    shared: &Shared<L>,
-    committer: &mut Committer<D>,
-) -> Went
-    ensures stepped { IsStepped D.model (settlement_of result) committer.old committer.new }
-    ensures keeps { Keeps D.model committer.old committer.new }
+fn hand_on<A: Settles, D: Disk>(core: &mut A, committer: &mut Committer<D>) -> Went
+    ensures { HasGone D.model A.made result core.old core.new committer.old committer.new }
 {
-    match publish(rt, shared, committer) {
-        Ok(Some(published)) => Went::Settled(published),
-        Err(PublishFault::NoMemory) => Went::Short,
-        Err(PublishFault::Foreign) => Went::Refused,
-        Ok(None) => match load(rt, shared, committer) {
-            Some(Ok(())) => Went::On,
-            Some(Err(StoreFault::NoMemory)) => Went::Short,
-            Some(Err(_)) => Went::Refused,
-            None => Went::Nothing,
-        },
+    match apd_steps::publish(core, committer) {
+        Some(told) => went_published(told),
+        None => went_loaded(apd_steps::take(core, committer)),
     }
 }
 
-// Passes the gate before and after a turn of the flusher.
-fn turn<D: Disk, G: Gate>(committer: &mut Committer<D>, gate: &G) -> Went
-    ensures stepped { IsStepped D.model (settlement_of result) committer.old committer.new }
-    ensures keeps { Keeps D.model committer.old committer.new }
+// Passes the gate before and after the next call of the device.
+fn call<A: Settles, D: Disk, G: Gate>(core: &mut A, committer: &mut Committer<D>, gate: &G) -> Went
+    ensures { HasGone D.model A.made result core.old core.new committer.old committer.new }
 {
     gate.pass(Place::BeforeCall);
-    let answer = committer.turn();
+    let told = apd_steps::call(core, committer);
     gate.pass(Place::AfterCall);
-    match answer {
-        Ok(()) => Went::On,
-        Err(_) => Went::Refused,
-    }
+    went_called(told)
 }
 
-fn step<L: Ledger, W: Wait, D: Disk, G: Gate>(
-    rt: &W,
-    shared: &Shared<L>,
-    committer: &mut Committer<D>,
-    gate: &G,
-) -> Went
-    ensures stepped { IsStepped D.model (settlement_of result) committer.old committer.new }
-    ensures keeps { Keeps D.model committer.old committer.new }
+fn step<A: Settles, D: Disk, G: Gate>(core: &mut A, committer: &mut Committer<D>, gate: &G) -> Went
+    ensures { HasGone D.model A.made result core.old core.new committer.old committer.new }
 {
     match committer.phase() {
-        Phase::Busy => turn(committer, gate),
-        Phase::Failed => Went::Refused,
-        Phase::Idle | Phase::Done => hand_on(rt, shared, committer),
+        Phase::Busy | Phase::Failed => call(core, committer, gate),
+        Phase::Idle | Phase::Done => hand_on(core, committer),
     }
 }
 
 // Behind a step that went so rests, until there is an entry or a stop where there was nothing to do, and looks again.
-fn look_again<L: Ledger, W: Wait + Clock>(
-    rt: &W,
-    shared: &Shared<L>,
-    idle: &mut Idle,
-    progress: Progress,
-    seen: Look,
-) -> Look {
+fn look_again<A: Rests>(core: &A, idle: &mut Idle, progress: Progress, seen: Look) -> Look {
     if idle.is_over(progress) {
         match progress {
-            Progress::Nothing => shared.wait(rt, News::Entry, seen),
-            Progress::Short | Progress::Made => shared.pause(rt, News::Entry, seen),
+            Progress::Nothing => core.wait(seen),
+            Progress::Short | Progress::Made => core.pause(seen),
         }
     }
-    shared.look(rt)
+    core.look()
+}
+
+// Commits the entries of a core, batch after batch, by steps alone; the core is told to fail where one is refused, which
+// ends it.
+fn commit_by_steps<W: Wait, A: Rests, D: Disk, G: Gate>(
+    rt: &W,
+    core: &mut A,
+    committer: &mut Committer<D>,
+    gate: &G,
+) -> Ending
+    ensures { (run : IsRun D.model A.made core.old core.new committer.old committer.new) × EndsAs result run.steps }
+{
+    let mut idle = Idle::new();
+    let mut seen = core.look();
+    for _ in rt.forever() {
+        match step(core, committer, gate) {
+            Went::On => {}
+            Went::Settled => seen = look_again(core, &mut idle, Progress::Made, seen),
+            Went::Nothing if seen.stopped => return Ending::Stopped,
+            Went::Nothing => seen = look_again(core, &mut idle, Progress::Nothing, seen),
+            Went::Short => seen = look_again(core, &mut idle, Progress::Short, seen),
+            Went::Refused => {
+                apd_steps::fail(core, committer);
+                return Ending::Refused;
+            }
+        }
+    }
+    unreachable!()
 }
 
 /// Commits the entries of a shared core, batch after batch. After a stop it ends once nothing is unsettled. What met
-/// want of memory is tried again; on any other refusal the core is told to fail, and it ends. Whatever ends it, a batch
-/// or a receipt that was refused waits in the committer. It passes the gate before and after each turn of the flusher,
-/// and holds the lock for none; it looks at the core's counts once a group. Where there is nothing to commit it waits
-/// for an entry, or a stop.
+/// want of memory is tried again; on any other refusal the core is told to fail, and it ends. It tells which of both
+/// ended it. A batch or a receipt that was refused waits in the committer. It passes the gate before and after each turn
+/// of the flusher, and holds the lock for none; it looks at the core's counts once a group. Where there is nothing to
+/// commit it waits for an entry, or a stop.
 pub fn commit_all<L: Ledger, W: Wait + Clock, D: Disk, G: Gate>(
     rt: &W,
     shared: &Shared<L>,
     committer: &mut Committer<D>,
     gate: &G,
-)
-    ensures led { IsLed D.model committer.old committer.new }
+) -> Ending
+    ensures led { (led : IsLed D.model committer.old committer.new) × EndsAs result led.steps }
     ensures keeps { Keeps D.model committer.old committer.new }
 {
-    let mut idle = Idle::new();
-    let mut seen = shared.look(rt);
-    for _ in rt.forever() {
-        match step(rt, shared, committer, gate) {
-            Went::On => {}
-            Went::Settled(_) => seen = look_again(rt, shared, &mut idle, Progress::Made, seen),
-            Went::Nothing if seen.stopped => break,
-            Went::Nothing => seen = look_again(rt, shared, &mut idle, Progress::Nothing, seen),
-            Went::Short => seen = look_again(rt, shared, &mut idle, Progress::Short, seen),
-            Went::Refused => {
-                shared.fail(rt);
-                break;
-            }
-        }
-    }
+    let mut core = Committed { rt, shared };
+    commit_by_steps(rt, &mut core, committer, gate)
 }

@@ -1,4 +1,6 @@
 //! The worker of the control port.
+ghost use Rattle.std.specs.Prelude.{◌≡◌, ◌∷◌, [], IfOk, IfSome};
+ghost use Rattle.apd_desk.specs.Replying.{AreReplied, AreSettled, HasReplied, IsAnswerOfSome, IsAtOnce, IsEither, text_of};
 ghost use Rattle.apd_desk.specs.SeatProgress.{IsLater};
 
 use crate::clock::Clock;
@@ -11,7 +13,7 @@ use crate::shared::Shared;
 use crate::submitting::submit_passing;
 use crate::waking::Waiter;
 use apd_core::{Answer, Input};
-use apd_ctrl::{FAIL, Parsed, Placed, UNKNOWN_COMMAND, parse_command};
+use apd_ctrl::{FAIL, Parsed, Placed, Refusal, UNKNOWN_COMMAND, parse_command};
 use apd_mlme::{Out, Recipient};
 use std::alloc::Global;
 use std::net::Net;
@@ -22,7 +24,7 @@ use std::time::Clock as SystemClock;
 // Carries a command out. A query is answered at once; where an order became an entry, its reply comes when that is
 // settled.
 //
-// Errors: the text of the reply to what is refused.
+// Errors: why it is refused.
 fn carry_out<L: Ledger, W: Wait, C: Clock, G: Gate>(
     rt: &W,
     shared: &Shared<L>,
@@ -31,34 +33,36 @@ fn carry_out<L: Ledger, W: Wait, C: Clock, G: Gate>(
     bytes: &[u8],
     clock: &C,
     gate: &G,
-) -> Result<Option<Answer>, &'static [u8]>
-    ensures { IsLater seat.old seat.new }
+) -> Result<Option<Answer>, Refusal>
+    ensures later { IsLater seat.old seat.new }
+    ensures answered { IfOk result (λ got. IfSome got IsAnswerOfSome) }
 {
     let (interface, command) = match parse_command(bytes) {
         Parsed::Command { interface, command } => (interface, command),
-        Parsed::Unknown => return Err(UNKNOWN_COMMAND),
-        Parsed::Fail => return Err(FAIL),
+        Parsed::Unknown => return Err(Refusal::Unknown),
+        Parsed::Fail => return Err(Refusal::Fail),
     };
     let Some((bssid, up)) = shared.interface(rt, interface) else {
-        return Err(FAIL);
+        return Err(Refusal::Fail);
     };
     match command.at(bssid, up, tag) {
         Placed::Ask(query) => match shared.ask(rt, seat, query) {
             Ok(answer) => Ok(Some(answer)),
-            Err(_) => Err(FAIL),
+            Err(_) => Err(Refusal::Fail),
         },
         Placed::Do(event) => {
             let order = Input::Order(event);
             if submit_passing(rt, shared, seat, order, clock.now(), gate) {
                 Ok(None)
             } else {
-                Err(FAIL)
+                Err(Refusal::Fail)
             }
         }
     }
 }
 
-// Serves the next command, if one waits. A reply that the port loses is lost.
+// Serves the next command, if one waits. Only what is refused and a query are replied to here: the reply to an order
+// comes when its entry is settled. A reply that the port loses is lost.
 fn serve_command<L: Ledger, W: Wait, P: Port, C: Clock, G: Gate>(
     rt: &W,
     shared: &Shared<L>,
@@ -67,19 +71,44 @@ fn serve_command<L: Ledger, W: Wait, P: Port, C: Clock, G: Gate>(
     clock: &C,
     gate: &G,
 ) -> Progress
-    ensures { IsLater seat.old seat.new }
+    ensures later { IsLater seat.old seat.new }
+    ensures replied { HasReplied IsAtOnce (P.replied port.old) (P.replied port.new) }
 {
     let (tag, bytes) = match port.poll() {
         Ok(Some(command)) => command,
         Ok(None) => return Progress::Nothing,
         Err(_) => return Progress::Short,
     };
-    let _sent = match carry_out(rt, shared, seat, tag, bytes.as_slice(), clock, gate) {
-        Ok(Some(answer)) => port.reply(tag, answer.text()),
-        Ok(None) => Ok(()),
-        Err(text) => port.reply(tag, text),
-    };
+    match carry_out(rt, shared, seat, tag, bytes.as_slice(), clock, gate) {
+        Ok(Some(answer)) => answer_query(port, tag, &answer),
+        Ok(None) => {}
+        Err(refusal) => refuse(port, tag, refusal),
+    }
     Progress::Made
+}
+
+// Replies to a query.
+fn answer_query<P: Port>(port: &mut P, tag: u64, answer: &Answer)
+    ensures { IsAnswerOfSome answer.now → HasReplied IsAtOnce (P.replied port.old) (P.replied port.new) }
+{
+    let _sent = port.reply(tag, answer.text());
+}
+
+// The reply to what is refused.
+fn text_of(refusal: Refusal) -> &'static [u8]
+    ensures { result.now ≡ text_of refusal }
+{
+    match refusal {
+        Refusal::Unknown => UNKNOWN_COMMAND,
+        Refusal::Fail => FAIL,
+    }
+}
+
+// Replies that a command is refused.
+fn refuse<P: Port>(port: &mut P, tag: u64, refusal: Refusal)
+    ensures { HasReplied IsAtOnce (P.replied port.old) (P.replied port.new) }
+{
+    let _sent = port.reply(tag, text_of(refusal));
 }
 
 // Serves the commands that wait, up to as many as may be at once.
@@ -91,7 +120,8 @@ fn serve_commands<L: Ledger, W: Wait, P: Port, C: Clock, G: Gate>(
     clock: &C,
     gate: &G,
 ) -> Progress
-    ensures { IsLater seat.old seat.new }
+    ensures later { IsLater seat.old seat.new }
+    ensures replied { HasReplied IsAtOnce (P.replied port.old) (P.replied port.new) }
 {
     let mut progress = Progress::Nothing;
     for _ in 0..AT_ONCE {
@@ -104,12 +134,21 @@ fn serve_commands<L: Ledger, W: Wait, P: Port, C: Clock, G: Gate>(
     progress
 }
 
-// Sends these replies.
-fn reply_all<P: Port>(port: &mut P, outs: Vec<Out>) {
+// Sends the reply that an out is, if it is one.
+fn reply_out<P: Port>(port: &mut P, out: &Out)
+    ensures { AreReplied (out.now ∷ []) (P.replied port.old) (P.replied port.new) }
+{
+    if let Out::Text(tag, text) = out {
+        let _sent = port.reply(*tag, text.as_slice());
+    }
+}
+
+// Sends the replies among these outs.
+fn reply_all<P: Port>(port: &mut P, outs: Vec<Out>)
+    ensures { AreReplied outs.items (P.replied port.old) (P.replied port.new) }
+{
     for out in outs {
-        if let Out::Text(tag, text) = out {
-            let _sent = port.reply(tag, text.as_slice());
-        }
+        reply_out(port, &out);
     }
 }
 
@@ -123,7 +162,8 @@ fn reply_settled<L: Ledger, W: Wait, P: Port>(
     collected: &mut Option<u64>,
     seen: Look,
 ) -> Progress
-    ensures { IsLater seat.old seat.new }
+    ensures later { IsLater seat.old seat.new }
+    ensures replied { HasReplied AreSettled (P.replied port.old) (P.replied port.new) }
 {
     if *collected == Some(seen.settled) {
         return Progress::Nothing;
@@ -140,8 +180,8 @@ fn reply_settled<L: Ledger, W: Wait, P: Port>(
 }
 
 /// Serves a control port until a stop, and gives its seat and the port back: carries out the commands that come, and
-/// replies to each. An order that is no entry, and a query that is not answered, get `FAIL`. It holds the lock for
-/// no call of the port. Where there is nothing to do it waits for a command, by the port's descriptor, for a reply, or
+/// replies to each. An order that is no entry, and a query that is not answered, get `FAIL`; one that is an entry is
+/// replied to once that is settled. It holds the lock for no call of the port. Where there is nothing to do it waits for a command, by the port's descriptor, for a reply, or
 /// for a stop.
 pub fn control_worker<L: Ledger, W: Wait + SystemClock + Net, P: Port, C: Clock, G: Gate>(
     rt: &W,
@@ -152,7 +192,8 @@ pub fn control_worker<L: Ledger, W: Wait + SystemClock + Net, P: Port, C: Clock,
     clock: &C,
     gate: &G,
 ) -> (Seat<L>, P)
-    ensures { IsLater seat result.0 }
+    ensures later { IsLater seat result.0 }
+    ensures replied { HasReplied IsEither (P.replied port) (P.replied result.1) }
 {
     let mut seat = seat;
     let mut port = port;

@@ -27,7 +27,7 @@ pub fn flush_worker<L: Ledger, W: Wait + Clock, D: Disk, G: Gate>(
         → Stands D.model result (table_of result) (next_of result) }
 {
     let mut committer = Committer::new(flusher);
-    commit_all(rt, shared, &mut committer, gate);
+    let _ending = commit_all(rt, shared, &mut committer, gate);
     let (flusher, _batch, _receipt) = committer.into_parts();
     flusher
 }

@@ -12,7 +12,7 @@ pub(crate) const AT_ONCE: u32 = 64;
 
 /// How a turn of a worker went; the greater of two is how both went.
 #[derive(Clone, Copy, Debug, PartialEq, Eq, PartialOrd, Ord)]
-pub(crate) enum Progress {
+pub enum Progress {
     /// There was nothing to do.
     Nothing,
     /// Something met want of memory, or a fault, and is to be tried again.

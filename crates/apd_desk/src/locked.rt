@@ -5,22 +5,27 @@ ghost use Rattle.std.specs.Option.{option_copied, option_map};
 ghost use Rattle.apd_base.specs.declared.address.Bssid.{Bssid as Address};
 ghost use Rattle.apd_conf.specs.Confs.{conf_meant};
 ghost use Rattle.apd_core.specs.Core.{answer_at, after_request, answer_to_query, cannot_take, after_handing_out, last_of, after_publish, ready_for, IsFlight, IsTaken};
+ghost use Rattle.apd_core.specs.Invariant.{IsCore};
 ghost use Rattle.apd_journal.specs.Half.{IsGroup};
 ghost use Rattle.apd_store.specs.Outside.{held_batch};
+ghost use Rattle.apd_slot.specs.Slots.{bssid_of};
+ghost use Rattle.apd_steps.specs.Handing.{HandsTo};
+ghost use Rattle.apd_steps.specs.Calls.{FailTells, PublishTells, TakeTells, exactly, refused_by};
 ghost use Rattle.apd_desk.specs.Counted.{entries_in, entries_of_seats};
 ghost use Rattle.apd_desk.specs.RadioNotes.{is_for, is_noted_up};
-ghost use Rattle.apd_desk.specs.Steps.{IsOf};
 ghost use Rattle.apd_desk.specs.TicketOwner.{IsOwn};
 ghost use Rattle.apd_desk.specs.SeatProgress.{seen_number_after, IsBehind};
 
-use crate::handed::Taken;
 use crate::notes::Notes;
-use crate::published::Published;
 use crate::seat::{AskFault, SEATS, Seat};
 use apd_base::{Bssid, Moment};
 use apd_core::{Accepted, Answer, Core, Input, PublishFault};
 use apd_ctrl::Query;
+use apd_journal::Batch;
 use apd_mlme::{Out, Recipient};
+use apd_radio::Radio;
+use apd_slot::Slot;
+use apd_steps::Settles;
 use apd_store::Receipt;
 use std::alloc::AllocError;
 use std::sync::ledger::{Blank, Book, Ledger, Share};
@@ -158,6 +163,7 @@ impl<L: Ledger> Locked<L> {
     /// Hands out what of settled entries a recipient was not given yet. The seat then saw what is settled.
     pub(crate) fn hand(&mut self, seat: &mut Seat<L>, to: Recipient) -> Result<Vec<Out>, AllocError>
         ensures outs { IfOk result (λ outs. outs.items ≡ ready_for to self.old.core) }
+        ensures sound { IsCore self.old.core }
         ensures core { OnOk result (self.new.core ≡ after_handing_out to self.old.core) }
         ensures seen { OnOk result (seat.new.seen ≡ seen_number_after self.old.core.number seat.old.seen) }
         ensures count { seat.new.count ≡ seat.old.count }
@@ -166,10 +172,37 @@ impl<L: Ledger> Locked<L> {
         ensures err { OnErr result ((self.new.core ≡ self.old.core) × (seat.new.seen ≡ seat.old.seen)) }
     {
         let Locked { core, .. } = self;
+        core.sound();
         let settled = core.number();
         let outs = core.hand(to)?;
         seat.seen = seat.seen.max(settled);
         Ok(outs)
+    }
+
+    /// Hands what of settled entries the radio of a slot was not given yet to the slot, behind what waits there. The
+    /// seat then saw what is settled.
+    pub(crate) fn hand_to<R: Radio>(
+        &mut self,
+        seat: &mut Seat<L>,
+        slot: &mut Slot<R>,
+    ) -> Result<usize, AllocError>
+        ensures hands { HandsTo (bssid_of slot.old) result self.old.core self.new.core slot.old slot.new }
+        ensures seen { OnOk result (seat.new.seen ≡ seen_number_after self.old.core.number seat.old.seen) }
+        ensures count { seat.new.count ≡ seat.old.count }
+        ensures accepted { self.new.accepted ≡ self.old.accepted }
+        ensures given { self.new.given ≡ self.old.given }
+        ensures err { OnErr result (seat.new.seen ≡ seat.old.seen) }
+    {
+        let Locked { core, .. } = self;
+        let settled = core.number();
+        let bssid = slot.bssid();
+        match apd_steps::hand_to(core, slot, bssid) {
+            Ok(count) => {
+                seat.seen = seat.seen.max(settled);
+                Ok(count)
+            }
+            Err(short) => Err(short),
+        }
     }
 
     /// Whether settled entries have outs that a recipient was not given yet.
@@ -180,47 +213,35 @@ impl<L: Ledger> Locked<L> {
     }
 
     /// The core's `take`.
-    pub(crate) fn take(&mut self) -> Result<Option<Taken>, AllocError>
-        ensures none { IfOk result (λ taken. IsNone taken ↔ IsTrue (cannot_take self.old.core)) }
-        ensures stays { IfOk result (λ taken. IfNone taken (self.new.core ≡ self.old.core)) }
-        ensures taken { IfOk result (λ taken. IfSome taken (λ t. IsTaken t.batch self.old.core self.new.core)) }
-        ensures group { IfOk result (λ taken. IfSome taken (λ t. IsGroup t.batch.changes)) }
+    pub(crate) fn take(&mut self) -> Result<Option<Batch>, AllocError>
+        ensures tells { exactly (TakeTells result) self.old.core self.new.core }
         ensures accepted { self.new.accepted ≡ self.old.accepted }
         ensures given { self.new.given ≡ self.old.given }
-        ensures err { OnErr result (self.new.core ≡ self.old.core) }
     {
         let Locked { core, .. } = self;
-        match core.take()? {
-            Some(batch) => Ok(Some(Taken::new(batch))),
-            None => Ok(None),
-        }
+        Settles::take(core)
     }
 
     /// The core's `publish`.
-    pub(crate) fn publish(&mut self, receipt: Receipt) -> Result<Published, (Receipt, PublishFault)>
-        ensures own { IfOk result (λ published. IsOf published receipt) }
-        ensures flight { OnOk result (IsFlight (held_batch receipt) self.old.core) }
-        ensures core { OnOk result (self.new.core ≡ after_publish self.old.core) }
-        ensures foreign { IfErr result
-            (λ e. (e.1 ≡ PublishFault.Foreign) ↔ ¬ IsFlight (held_batch receipt) self.old.core) }
-        ensures err { IfErr result (λ e. (e.0 ≡ receipt) × (self.new.core ≡ self.old.core)) }
-        ensures lacks { IfErr result
-            (λ e. e.1 ≡ PublishFault.NoMemory → IsFlight (held_batch receipt) self.old.core) }
+    pub(crate) fn publish(&mut self, receipt: Receipt) -> Result<(), (Receipt, PublishFault)>
+        ensures tells { exactly (PublishTells (refused_by result) receipt) self.old.core self.new.core }
+        ensures back { IfErr result (λ back. back.0 ≡ receipt) }
         ensures accepted { self.new.accepted ≡ self.old.accepted }
         ensures given { self.new.given ≡ self.old.given }
     {
         let Locked { core, .. } = self;
-        Published::by(core, receipt)
+        core.sound();
+        Settles::publish(core, receipt)
     }
 
     /// The core's `fail`.
     pub(crate) fn fail(&mut self)
-        ensures core { self.new.core ≡ record self.old.core { failed = true } }
+        ensures tells { exactly FailTells self.old.core self.new.core }
         ensures accepted { self.new.accepted ≡ self.old.accepted }
         ensures given { self.new.given ≡ self.old.given }
     {
         let Locked { core, .. } = self;
-        core.fail();
+        Settles::fail(core);
     }
 
     /// What a worker sees now.

@@ -1,24 +1,23 @@
 //! The worker of a radio.
-ghost use Rattle.std.specs.Prelude.{◌≡◌, ◌≢◌, ◌<◌, [], true, false, length, Err};
-ghost use Rattle.apd_slot.specs.Slots.{bssid_of, is_up_of, queue_of, IsExact};
+ghost use Rattle.std.specs.Prelude.{◌≡◌, ◌<◌, [], length};
+ghost use Rattle.apd_slot.specs.Slots.{bssid_of, queue_of, IsExact};
 ghost use Rattle.apd_desk.specs.Giving.{IsGivenOn, IsServed};
-ghost use Rattle.apd_desk.specs.Tries.{HasOwnTries};
 ghost use Rattle.apd_desk.specs.SeatProgress.{IsLater};
 
 use crate::clock::Clock;
 use crate::gate::Gate;
 use crate::idle::{AT_ONCE, Idle, Progress};
 use crate::locked::Look;
-use crate::mending::Mending;
 use crate::news::News;
 use crate::seat::Seat;
 use crate::shared::Shared;
 use crate::submitting::submit_passing;
+use crate::tending::{mend_first, tend};
 use crate::waking::Waiter;
 use apd_core::Input;
 use apd_mlme::Recipient;
 use apd_radio::Radio;
-use apd_slot::{Slot, SlotFault};
+use apd_slot::{Mending, Slot};
 use std::alloc::Global;
 use std::net::Net;
 use std::sync::Wait;
@@ -94,12 +93,13 @@ impl<L: Ledger, R: Radio> Parts<L, R> {
         if self.slot.waiting_count() > 0 || self.collected == settled {
             return Progress::Nothing;
         }
-        let Ok(outs) = shared.hand(rt, &mut self.seat, self.slot.bssid()) else {
-            return Progress::Short;
-        };
-        outs.queue_in(&mut self.slot);
-        self.collected = settled;
-        Progress::Nothing
+        match shared.hand_to(rt, &mut self.seat, &mut self.slot) {
+            Ok(_count) => {
+                self.collected = settled;
+                Progress::Nothing
+            }
+            Err(_) => Progress::Short,
+        }
     }
 
     // Notes whether the slot is up, where that changed.
@@ -109,77 +109,30 @@ impl<L: Ledger, R: Radio> Parts<L, R> {
         }
     }
 
-    // Applies the first of the outs that wait; where the slot goes down at it, it is mended before the next one. One
-    // that meets want of memory stays first.
-    fn apply_first<W: Wait>(&mut self, rt: &W, shared: &Shared<L>) -> Progress
+    // Goes on mending the slot, and applies the first of the outs that wait. It rests where the slot is still to be mended.
+    fn advance<W: Wait + SystemClock>(&mut self, rt: &W, shared: &Shared<L>) -> Progress
         ensures seat { self.new.seat ≡ self.old.seat }
         ensures served { IsServed R.model [] self.old.slot self.new.slot }
         ensures fewer { result ≡ Progress.Made → length (queue_of self.new.slot) < length (queue_of self.old.slot) }
     {
         let was_up = self.slot.is_up();
-        match self.slot.apply_next() {
-            Some(Ok((_out, answer))) => {
-                self.mend_after(answer);
-                self.note_change(rt, shared, was_up);
-                Progress::Made
-            }
-            Some(Err(_)) => Progress::Short,
-            None => Progress::Nothing,
-        }
-    }
-
-    // Begins to mend a slot that went down at an out.
-    fn mend_after(&mut self, answer: Result<(), SlotFault>)
-        ensures seat { self.new.seat ≡ self.old.seat }
-        ensures served { IsServed R.model [] self.old.slot self.new.slot }
-        ensures queue { queue_of self.new.slot ≡ queue_of self.old.slot }
-        ensures same { answer ≢ Err SlotFault.WentDown → self.new ≡ self.old }
-        ensures begun { answer ≡ Err SlotFault.WentDown → is_up_of self.new.slot ≡ false
-            → HasOwnTries self.new.mending }
-    {
-        if answer == Err(SlotFault::WentDown) {
-            self.mending.begin(&mut self.slot);
-        }
-    }
-
-    // Begins to mend a slot that is down at first.
-    fn mend_first(&mut self)
-        ensures seat { self.new.seat ≡ self.old.seat }
-        ensures served { IsServed R.model [] self.old.slot self.new.slot }
-        ensures same { is_up_of self.old.slot ≡ true → self.new ≡ self.old }
-        ensures begun { is_up_of self.new.slot ≡ false → HasOwnTries self.new.mending }
-    {
-        if !self.slot.is_up() {
-            self.mending.begin(&mut self.slot);
-        }
-    }
-
-    // Goes on mending the slot, and rests where it isn't up then.
-    fn mend<W: Wait + SystemClock>(&mut self, rt: &W, shared: &Shared<L>, seen: Look) -> Progress
-        ensures seat { self.new.seat ≡ self.old.seat }
-        ensures served { IsServed R.model [] self.old.slot self.new.slot }
-    {
-        let was_up = self.slot.is_up();
-        if !self.mending.go_on(&mut self.slot) {
-            return Progress::Nothing;
-        }
+        let progress = tend(&mut self.slot, &mut self.mending);
         self.note_change(rt, shared, was_up);
-        if self.slot.is_up() {
-            return Progress::Made;
+        if progress == Progress::Short && !self.slot.is_up() {
+            shared.pause(rt, News::Settled, shared.look(rt));
         }
-        shared.pause(rt, News::Settled, seen);
-        Progress::Short
+        progress
     }
 
     // Gives the slot what of settled entries it was not given yet, behind what waits, up to as many outs as may be at
     // once.
-    fn apply_settled<W: Wait>(&mut self, rt: &W, shared: &Shared<L>) -> Progress
+    fn apply_settled<W: Wait + SystemClock>(&mut self, rt: &W, shared: &Shared<L>) -> Progress
         ensures seat { IsLater self.old.seat self.new.seat }
         ensures given { IsGivenOn R.model self.old.slot self.new.slot }
     {
         let mut progress = self.collect(rt, shared);
         for _ in 0..AT_ONCE {
-            let next = self.apply_first(rt, shared);
+            let next = self.advance(rt, shared);
             progress = progress.max(next);
             if next != Progress::Made {
                 break;
@@ -188,7 +141,7 @@ impl<L: Ledger, R: Radio> Parts<L, R> {
         progress
     }
 
-    // Goes on mending the slot, receives, and gives the slot what is settled by then.
+    // Receives, and gives the slot what is settled by then.
     fn turn<W: Wait + SystemClock, C: Clock, G: Gate>(
         &mut self,
         rt: &W,
@@ -200,10 +153,9 @@ impl<L: Ledger, R: Radio> Parts<L, R> {
         ensures seat { IsLater self.old.seat self.new.seat }
         ensures given { IsGivenOn R.model self.old.slot self.new.slot }
     {
-        let mended = self.mend(rt, shared, seen);
         let received = self.receive_all(rt, shared, seen, clock, gate);
         let applied = self.apply_settled(rt, shared);
-        mended.max(received).max(applied)
+        received.max(applied)
     }
 }
 
@@ -243,7 +195,7 @@ pub fn radio_worker<L: Ledger, W: Wait + SystemClock + Net, R: Radio, C: Clock, 
     let to = Recipient::Radio(parts.slot.bssid());
     let mut waiter = Waiter::new(rt, alloc, shared, to);
     let mut idle = Idle::new();
-    parts.mend_first();
+    mend_first(&mut parts.slot, &mut parts.mending);
     shared.note(rt, parts.slot.bssid(), parts.slot.is_up());
     for _ in rt.forever() {
         let seen = shared.look(rt);

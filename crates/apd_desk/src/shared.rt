@@ -1,21 +1,25 @@
 //! A core that threads share.
 ghost use Rattle.std.specs.Prelude.{◌≡◌, ◌+◌, ◌≤◌, ℕ, IfOk, IfErr, IfSome, OnErr};
-ghost use Rattle.apd_journal.specs.Half.{IsGroup};
+ghost use Rattle.apd_core.specs.Core.{CoreState};
+ghost use Rattle.apd_slot.specs.Slots.{bssid_of};
+ghost use Rattle.apd_steps.specs.Handing.{HandsTo};
+ghost use Rattle.apd_steps.specs.Calls.{FailTells, PublishTells, TakeTells, exactly, refused_by};
 ghost use Rattle.apd_desk.specs.Counted.{entries_in, entries_of_seats};
+ghost use Rattle.apd_desk.specs.Replying.{AreReadyOfSome, IsAnswerOfSome};
 ghost use Rattle.apd_desk.specs.TicketOwner.{IsOwn};
 ghost use Rattle.apd_desk.specs.SeatProgress.{IsBehind, IsLater};
-ghost use Rattle.apd_desk.specs.Steps.{IsOf};
 
-use crate::handed::{Handed, Taken};
 use crate::locked::{Locked, Look};
 use crate::news::{Conditions, News};
-use crate::published::Published;
 use crate::seat::{AskFault, SEATS, Seat};
 use crate::waking::Bells;
 use apd_base::{Bssid, Moment};
 use apd_core::{Accepted, Answer, Core, Input, PublishFault};
 use apd_ctrl::Query;
+use apd_journal::Batch;
 use apd_mlme::{Out, Recipient};
+use apd_radio::Radio;
+use apd_slot::Slot;
 use apd_store::Receipt;
 use mio::Waker;
 use std::alloc::AllocError;
@@ -89,6 +93,7 @@ impl<L: Ledger> Shared<L> {
     /// `NoMemory`.
     pub fn ask(&self, rt: &impl Wait, seat: &mut Seat<L>, query: Query) -> Result<Answer, AskFault>
         ensures own { IfOk result (λ answer. answer.query ≡ query) }
+        ensures told { IfOk result IsAnswerOfSome }
         ensures seen { IfOk result (λ answer. (answer.number ≡ seat.new.seen) × (seat.old.seen ≤ seat.new.seen)) }
         ensures behind { (number : ℕ) → result ≡ Err (AskFault.Behind number) → IsBehind number seat.old.seen }
         ensures err { OnErr result (seat.new.seen ≡ seat.old.seen) }
@@ -105,6 +110,7 @@ impl<L: Ledger> Shared<L> {
         seat: &mut Seat<L>,
         to: Recipient,
     ) -> Result<Vec<Out>, AllocError>
+        ensures outs { IfOk result (λ outs. AreReadyOfSome to outs.items) }
         ensures never_back { seat.old.seen ≤ seat.new.seen }
         ensures err { OnErr result (seat.new.seen ≡ seat.old.seen) }
         ensures count { seat.new.count ≡ seat.old.count }
@@ -112,18 +118,20 @@ impl<L: Ledger> Shared<L> {
         self.locked.lock(rt).hand(seat, to)
     }
 
-    /// The same of the radio of a BSSID, to be put into its slot's queue.
-    pub fn hand(
+    /// The same of the radio of a slot, into the slot's queue, behind what waits there; it tells how many outs. No
+    /// out is lost: where memory lacks, none has left the core.
+    pub fn hand_to<R: Radio>(
         &self,
         rt: &impl Wait,
         seat: &mut Seat<L>,
-        bssid: Bssid,
-    ) -> Result<Handed, AllocError>
+        slot: &mut Slot<R>,
+    ) -> Result<usize, AllocError>
+        ensures hands { (core : CoreState) × (after : CoreState)
+            × HandsTo (bssid_of slot.old) result core after slot.old slot.new }
         ensures later { IsLater seat.old seat.new }
         ensures count { seat.new.count ≡ seat.old.count }
     {
-        let outs = self.collect(rt, seat, Recipient::Radio(bssid))?;
-        Ok(Handed::new(outs))
+        self.locked.lock(rt).hand_to(seat, slot)
     }
 
     /// The core, and how many entries it accepted since it was shared: the sum of the seats' counts. It waits for
@@ -179,20 +187,22 @@ impl<L: Ledger> Shared<L> {
         Some((bssid, locked.is_noted_up(bssid)))
     }
 
-    // A batch for which a group has room. Of which entries it is, is said where the lock is held.
-    pub(crate) fn take(&self, rt: &impl Wait) -> Result<Option<Taken>, AllocError>
-        ensures { IfOk result (λ taken. IfSome taken (λ t. IsGroup t.batch.changes)) }
+    // The core's `take`, of some core.
+    pub(crate) fn take(&self, rt: &impl Wait) -> Result<Option<Batch>, AllocError>
+        ensures { (core : CoreState) × (after : CoreState) × exactly (TakeTells result) core after }
     {
         self.locked.lock(rt).take()
     }
 
-    // It wakes who waits for what is settled, and at their sockets those for whom outs are ready.
+    // The core's `publish`, of some core. It wakes who waits for what is settled, and at their sockets those for whom
+    // outs are ready.
     pub(crate) fn publish(
         &self,
         rt: &impl Wait,
         receipt: Receipt,
-    ) -> Result<Published, (Receipt, PublishFault)>
-        ensures own { IfOk result (λ published. IsOf published receipt) }
+    ) -> Result<(), (Receipt, PublishFault)>
+        ensures tells { (core : CoreState) × (after : CoreState)
+            × exactly (PublishTells (refused_by result) receipt) core after }
         ensures back { IfErr result (λ back. back.0 ≡ receipt) }
     {
         let mut locked = self.locked.lock(rt);
@@ -211,8 +221,10 @@ impl<L: Ledger> Shared<L> {
         self.bells.keep(to, waker)
     }
 
-    // The core's `fail`, which is said where the lock is held.
-    pub(crate) fn fail(&self, rt: &impl Wait) {
+    // The core's `fail`, of some core.
+    pub(crate) fn fail(&self, rt: &impl Wait)
+        ensures { (core : CoreState) × (after : CoreState) × exactly FailTells core after }
+    {
         self.locked.lock(rt).fail();
     }
 

@@ -4,6 +4,4 @@ use Rattle.apd_desk.proofs.receiving.Parts.turn.Goals as goal
 
 pub returns-clause-given : goal.returns-clause-given
 returns-clause-given g c =
-    given_on g.R.Radio.model _ _ _
-    (given_on g.R.Radio.model _ _ _ ([], c.mend-mended.ensures.served) ([], c.receive_all-received.ensures.served))
-    c.apply_settled-applied.ensures.given
+    given_on g.R.Radio.model _ _ _ ([], c.receive_all-received.ensures.served) c.apply_settled-applied.ensures.given
