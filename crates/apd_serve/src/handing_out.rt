@@ -5,11 +5,12 @@ ghost use Rattle.apd_desk.specs.Giving.{IsGivenOn, IsServed};
 ghost use Rattle.apd_desk.specs.SeatProgress.{IsLater};
 
 use crate::notices::tell_not_handed_out;
-use apd_desk::{Port, Seat, Shared};
+use apd_desk::{Port, Progress, Seat, Shared, mend_first, tend};
 use apd_mlme::{Out, Recipient};
 use apd_radio::Radio;
-use apd_slot::Slot;
+use apd_slot::{Mending, Slot};
 use log::Log;
+use std::alloc::Global;
 use std::sync::Wait;
 use std::sync::ledger::Ledger;
 use std::thread::sleep;
@@ -40,50 +41,48 @@ fn collect<L: Ledger, W: Wait + Clock>(
     None
 }
 
-// Applies the first of the outs that wait, and tries again where memory lacks. Tells whether one was taken: none is
-// where none waits, or where memory lacks in the end. What meets a fault of the device is lost.
-fn takes_next<W: Clock, R: Radio>(rt: &W, slot: &mut Slot<R>) -> bool
+// Applies the first of the outs that wait. Where the slot is still to be mended, or memory lacks, it rests and tries
+// again. Tells whether one was taken: none is where none waits, or where memory lacks in the end.
+fn take_next<W: Clock, R: Radio>(rt: &W, slot: &mut Slot<R>, mending: &mut Mending<R>) -> bool
     ensures { IsServed R.model [] slot.old slot.new }
 {
     for _ in 0..TRIES {
-        match slot.apply_next() {
-            None => return false,
-            Some(Ok(_applied)) => return true,
-            Some(Err(_short)) => sleep(rt, Duration::from_millis(PAUSE)),
+        match tend(slot, mending) {
+            Progress::Nothing => return false,
+            Progress::Made => return true,
+            Progress::Short => sleep(rt, Duration::from_millis(PAUSE)),
         }
     }
     false
 }
 
 // Applies the outs that wait, in order, and nothing behind one that was not taken. Tells whether none waits then.
-fn is_emptied<W: Clock, R: Radio>(rt: &W, slot: &mut Slot<R>) -> bool
+fn empty<W: Clock, R: Radio>(rt: &W, slot: &mut Slot<R>, mending: &mut Mending<R>) -> bool
     ensures served { IsServed R.model [] slot.old slot.new }
     ensures none_waits { IsTrue result → queue_of slot.new ≡ [] }
 {
     for _ in 0..slot.waiting_count() {
-        if !takes_next(rt, slot) {
+        if !take_next(rt, slot, mending) {
             return false;
         }
     }
     slot.waiting_count() == 0
 }
 
-// Puts into a slot's queue, where none waits, what of settled entries it was not given yet, and tries again where
+// Puts into a slot's queue what of settled entries it was not given yet, and tries again where
 // memory lacks. Tells whether it did.
-fn is_handed<L: Ledger, W: Wait + Clock, R: Radio>(
+fn hand<L: Ledger, W: Wait + Clock, R: Radio>(
     rt: &W,
     shared: &Shared<L>,
     seat: &mut Seat<L>,
     slot: &mut Slot<R>,
 ) -> bool
-    requires { queue_of slot.old ≡ [] }
     ensures count { seat.new.count ≡ seat.old.count }
     ensures later { IsLater seat.old seat.new }
     ensures given { IsGivenOn R.model slot.old slot.new }
 {
     for _ in 0..TRIES {
-        if let Ok(outs) = shared.hand(rt, seat, slot.bssid()) {
-            outs.queue_in(slot);
+        if shared.hand_to(rt, seat, slot).is_ok() {
             return true;
         }
         sleep(rt, Duration::from_millis(PAUSE));
@@ -92,30 +91,34 @@ fn is_handed<L: Ledger, W: Wait + Clock, R: Radio>(
 }
 
 // Gives a slot what waits there, and then what of settled entries it was not given yet. Tells whether it was given all.
-fn is_given_all<L: Ledger, W: Wait + Clock, R: Radio>(
+fn give_all<L: Ledger, W: Wait + Clock, R: Radio>(
     rt: &W,
     shared: &Shared<L>,
     seat: &mut Seat<L>,
     slot: &mut Slot<R>,
+    mending: &mut Mending<R>,
 ) -> bool
     ensures count { seat.new.count ≡ seat.old.count }
     ensures later { IsLater seat.old seat.new }
     ensures given { IsGivenOn R.model slot.old slot.new }
+    ensures none_waits { IsTrue result → queue_of slot.new ≡ [] }
 {
-    if !is_emptied(rt, slot) {
+    if !empty(rt, slot, mending) {
         return false;
     }
-    if !is_handed(rt, shared, seat, slot) {
+    if !hand(rt, shared, seat, slot) {
         return false;
     }
-    is_emptied(rt, slot)
+    empty(rt, slot, mending)
 }
 
 /// Gives a slot what waits there, and then what of settled entries it was not given yet, in order, and nothing behind
-/// an out that was not taken. Where memory lacks it tries again; what it lacks for in the end waits on, which is
-/// logged.
+/// an out that was not taken. Where the slot is down, or goes down at an out, its own radio is given anew what is
+/// wanted before the next out, three times at most, with a rest between. Where memory lacks it tries again; what it
+/// lacks for in the end waits on, which is logged.
 pub(crate) fn hand_out<L: Ledger, W: Wait + Clock + Log, R: Radio>(
     rt: &W,
+    alloc: Global,
     shared: &Shared<L>,
     seat: &mut Seat<L>,
     slot: &mut Slot<R>,
@@ -124,7 +127,9 @@ pub(crate) fn hand_out<L: Ledger, W: Wait + Clock + Log, R: Radio>(
     ensures later { IsLater seat.old seat.new }
     ensures given { IsGivenOn R.model slot.old slot.new }
 {
-    if !is_given_all(rt, shared, seat, slot) {
+    let mut mending = Mending::new(Vec::new(alloc));
+    mend_first(slot, &mut mending);
+    if !give_all(rt, shared, seat, slot, &mut mending) {
         tell_not_handed_out(rt);
     }
 }

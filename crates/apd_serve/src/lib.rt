@@ -2,12 +2,14 @@
 //! over a file, datagrams and recordings.
 #![tactic(auto)]
 
+mod beginning;
 mod clock;
 mod crew;
 mod fault;
 mod handing_out;
 mod identity;
 mod input;
+pub mod laws;
 mod notices;
 mod opening;
 mod recordings;
@@ -16,6 +18,7 @@ mod serving;
 mod store_watch;
 mod worker;
 
+pub use beginning::{OpenStore, begin_world, open_store};
 pub use clock::SystemClock;
 pub use fault::ServeFault;
 pub use opening::{Access, OpenFault, file_or_fault, open_disk};

@@ -56,6 +56,11 @@ pub(crate) fn tell_device_fault<R: Log>(rt: &R) {
     error!(rt; target: "apd", "device fault: nothing more is made durable, and what would change the table is refused; end it, see to the disk, and start it again");
 }
 
+/// Logs that the store is worn out, at the level error.
+pub(crate) fn tell_worn_out<R: Log>(rt: &R) {
+    error!(rt; target: "apd", "the store is worn out: nothing more is made durable, and what would change the table is refused; end it, and start it on a new store");
+}
+
 /// Logs what became of the store's file, at the level error; nothing where it has its name.
 pub(crate) fn tell_fate<R: Log>(rt: &R, name: &str, fate: Fate) {
     match fate {

@@ -1,5 +1,5 @@
 //! Opening files, a store's among them.
-ghost use Rattle.std.specs.Prelude.{◌≡◌};
+ghost use Rattle.std.specs.Prelude.{◌≡◌, [], IfOk, Ok};
 ghost use Rattle.apd_serve.specs.declared.opening.OpenFault.TheVariants.{NoMemory};
 
 use apd_disk::FileDisk;
@@ -34,7 +34,9 @@ pub fn file_or_fault<T: Drop>(
     rt: &impl AllocGlobal,
     name: &str,
     file: io::Result<T>,
-) -> Result<T, OpenFault> {
+) -> Result<T, OpenFault>
+    ensures { IfOk result (λ had. file ≡ Ok had) }
+{
     match file {
         Ok(file) => Ok(file),
         Err(error) if error.kind() == ErrorKind::OutOfMemory => Err(OpenFault::NoMemory),
@@ -54,10 +56,9 @@ pub enum Access {
 }
 
 // The file of this name, which is made where there is none.
-fn open_or_create(
-    rt: &(impl Files<File = File> + AllocGlobal),
-    name: &str,
-) -> io::Result<FileDisk> {
+fn open_or_create(rt: &(impl Files<File = File> + AllocGlobal), name: &str) -> io::Result<FileDisk>
+    ensures { IfOk result (λ disk. disk.known.calls ≡ []) }
+{
     match FileDisk::open(rt, name) {
         Err(error) if error.kind() == ErrorKind::NotFound => FileDisk::create(rt, name),
         opened => opened,
@@ -69,7 +70,9 @@ pub fn open_disk(
     rt: &(impl Files<File = File> + AllocGlobal),
     name: &str,
     access: Access,
-) -> Result<FileDisk, OpenFault> {
+) -> Result<FileDisk, OpenFault>
+    ensures { IfOk result (λ disk. disk.known.calls ≡ []) }
+{
     let disk = match access {
         Access::Read => FileDisk::open_to_read(rt, name),
         Access::Write => FileDisk::open(rt, name),

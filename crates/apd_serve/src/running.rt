@@ -2,24 +2,22 @@
 ghost use Rattle.std.specs.Prelude.{◌≡◌};
 ghost use Rattle.apd_serve.specs.declared.running.RunFault.TheVariants.{NoMemory, Open};
 
+use crate::beginning::{OpenStore, begin_world, open_store};
 use crate::clock::SystemClock;
 use crate::crew::run_beside;
 use crate::fault::ServeFault;
 use crate::identity::Identity;
 use crate::notices::{tell_entries, tell_start};
-use crate::opening::{Access, OpenFault, file_or_fault, open_disk};
+use crate::opening::{OpenFault, file_or_fault};
 use crate::recordings::{RecordingFile, empty_files, open_recordings};
 use crate::serving::{serve_started, start};
 use crate::store_watch::{Ending, StoreWatch, watch};
-use apd_base::Moment;
 use apd_conf::Confs;
 use apd_control_port::ControlPort;
 use apd_desk::NoGate;
-use apd_disk::FileDisk;
+use apd_disk::{FileDisk, FileRecord};
 use apd_radio::{Radio, Recording, SocketFault, UdpSim};
-use apd_store::{Store, recover};
-use apd_table::Table;
-use apd_world::{World, WorldFault, begin_anew, slots_for};
+use apd_world::{World, WorldFault};
 use log::Log;
 use std::alloc::{AllocError, Global};
 use std::fs::File;
@@ -79,18 +77,6 @@ impl From<OpenFault> for RunFault {
 
     fn from(fault: OpenFault) -> RunFault {
         RunFault::Open(fault)
-    }
-}
-
-// The store of a file, and its table. Nothing of it is changed.
-fn open_store(
-    rt: &(impl Files<File = File> + AllocGlobal),
-    name: &str,
-) -> Result<(Store<FileDisk>, Table), RunFault> {
-    let disk = open_disk(rt, name, Access::Write)?;
-    match recover(rt.alloc(), disk) {
-        Ok(found) => Ok(found),
-        Err((_disk, fault)) => Err(RunFault::World(WorldFault::Store(fault))),
     }
 }
 
@@ -187,8 +173,7 @@ fn record_radios(
 // A store that was opened, and what watches its file.
 #[derive(Drop)]
 struct Opened<'a> {
-    store: Store<FileDisk>,
-    table: Table,
+    store: OpenStore,
     watched: StoreWatch<'a>,
 }
 
@@ -202,14 +187,11 @@ struct Ports {
 fn open_watched<'a>(
     rt: &(impl Files<File = File> + AllocGlobal),
     name: &'a str,
+    known: FileRecord,
 ) -> Result<Opened<'a>, RunFault> {
-    let (store, table) = open_store(rt, name)?;
+    let store = open_store(rt, name, known)?;
     let watched = open_watch(rt, name)?;
-    Ok(Opened {
-        store,
-        table,
-        watched,
-    })
+    Ok(Opened { store, watched })
 }
 
 // Opens the files of a site: its store, and those of its recordings, where there are to be any.
@@ -217,8 +199,9 @@ fn open_files<'a>(
     rt: &(impl Files<File = File> + AllocGlobal),
     confs: &Confs,
     site: &Site<'a>,
+    known: FileRecord,
 ) -> Result<(Opened<'a>, Option<Vec<RecordingFile>>), RunFault> {
-    let opened = open_watched(rt, site.store)?;
+    let opened = open_watched(rt, site.store, known)?;
     let recordings = open_all_recordings(rt, confs, site)?;
     Ok((opened, recordings))
 }
@@ -234,8 +217,9 @@ fn open_site<'a>(
     rt: &(impl Files<File = File> + Net + AllocGlobal),
     confs: &Confs,
     site: &Site<'a>,
+    known: FileRecord,
 ) -> Result<(Opened<'a>, Option<Vec<RecordingFile>>, Ports), RunFault> {
-    let (opened, recordings) = open_files(rt, confs, site)?;
+    let (opened, recordings) = open_files(rt, confs, site, known)?;
     let ports = open_ports(rt, site.port, confs.list().len())?;
     Ok((opened, recordings, ports))
 }
@@ -250,31 +234,14 @@ fn begin_recordings(
     Ok(record_radios(rt.alloc(), radios, files)?)
 }
 
-// The world of a store and its table, with these radios, one for each configuration, in their order. Each station of
-// the table was heard at the moment 0.
-fn begin_world<R: Radio>(
-    alloc: Global,
-    store: Store<FileDisk>,
-    table: Table,
-    confs: Confs,
-    radios: Vec<R>,
-) -> Result<World<FileDisk, R>, RunFault> {
-    let slots = slots_for(alloc, &confs, radios)?;
-    match begin_anew(alloc, store, table, confs, slots, Moment(0)) {
-        Ok(world) => Ok(world),
-        Err((_disk, _slots, fault)) => Err(RunFault::World(fault)),
-    }
-}
-
 // As `begin_world`, started; and how many stations the table had.
 fn start_world<R: Radio>(
     alloc: Global,
-    store: Store<FileDisk>,
-    table: Table,
+    opened: OpenStore,
     confs: Confs,
     radios: Vec<R>,
 ) -> Result<(World<FileDisk, R>, usize), RunFault> {
-    let world = begin_world(alloc, store, table, confs, radios)?;
+    let world = begin_world(alloc, opened, confs, radios)?;
     let recovered = world.table().rows();
     match start(world) {
         Ok(world) => Ok((world, recovered)),
@@ -354,13 +321,9 @@ where
     W::Stream: Send + Sync,
     W::Listener: Send + Sync,
 {
-    let Opened {
-        store,
-        table,
-        watched,
-    } = opened;
+    let Opened { store, watched } = opened;
     let clock = SystemClock::new(rt);
-    let (world, recovered) = start_world(rt.alloc(), store, table, confs, radios)?;
+    let (world, recovered) = start_world(rt.alloc(), store, confs, radios)?;
     tell_start(rt, port, world.confs(), world.table(), recovered);
     let service = Service {
         world,
@@ -376,6 +339,9 @@ where
 /// started; at the level warn an interface that isn't; and at the level error, when it comes, that the store's device
 /// failed, or that the store's name is not that of the file that is served any more.
 ///
+/// It opens the store by `open_store`, with a record that no clause names, and begins the world by `begin_world`: what
+/// these say of each record is so of the one that fits the file.
+///
 /// Errors, looked for in this order: the store's file can't be opened, or the store is refused; a recording can't
 /// be made; a port can't be had; a recording can't be emptied; a slot doesn't resume; `Serve`. Before
 /// `Serve` nothing is sent, and the store is as it was; with it the start may have been committed and handed out.
@@ -389,7 +355,7 @@ where
     W::Stream: Send + Sync,
     W::Listener: Send + Sync,
 {
-    let (opened, recordings, ports) = open_site(rt, &confs, site)?;
+    let (opened, recordings, ports) = open_site(rt, &confs, site, FileRecord::new())?;
     let Ports { commands, radios } = ports;
     let entries = match recordings {
         None => run_with(rt, confs, opened, site.port, commands, radios, reader)?,

@@ -103,6 +103,7 @@ fn dismiss<
     G: Gate,
 >(
     rt: &W,
+    alloc: Global,
     shared: &Shared<L>,
     workers: Vec<Worker<L, D, R, P>>,
     gate: &G,
@@ -112,7 +113,7 @@ fn dismiss<
         (entries_of_seats seats.new.items ≡ entries_of_seats seats.old.items + entries_of_all workers.items) }
 {
     for worker in workers {
-        keep(seats, worker.leave(rt, shared, gate))?;
+        keep(seats, worker.leave(rt, alloc, shared, gate))?;
     }
     Ok(())
 }
@@ -123,6 +124,7 @@ fn dismiss<
 // Errors: `Thread` where a seat is missing; `NoMemory`, which can't come where the seats have room for all.
 fn close<L: Ledger, W: Wait + time::Clock + Log, D: Disk + Drop, R: Radio, P: Port + Drop, G: Gate>(
     rt: &W,
+    alloc: Global,
     shared: Shared<L>,
     workers: Vec<Worker<L, D, R, P>>,
     gate: &G,
@@ -133,7 +135,7 @@ fn close<L: Ledger, W: Wait + time::Clock + Log, D: Disk + Drop, R: Radio, P: Po
     ensures { IfOk result (λ entries. entries ≡ entries_of_all workers.items) }
 {
     let mut seats = seats;
-    dismiss(rt, &shared, workers, gate, &mut seats)?;
+    dismiss(rt, alloc, &shared, workers, gate, &mut seats)?;
     match shared.close(seats) {
         Ok((_core, entries)) => Ok(entries),
         Err(_missing) => Err(ServeFault::Thread),
@@ -205,7 +207,7 @@ where
     };
     let (workers, seats) = work(&environment, workers, reader)?;
     drop(environment);
-    close(rt, shared, workers, gate, seats)
+    close(rt, alloc, shared, workers, gate, seats)
 }
 
 /// A world, started: each interface is configured, which is committed and handed out. Then nothing waits in it that would

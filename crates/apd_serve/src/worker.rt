@@ -7,9 +7,9 @@ ghost use Rattle.apd_serve.specs.Worked.{HasWorked};
 
 use crate::crew::{Job, Stops};
 use crate::handing_out::{hand_out, reply_settled};
-use crate::notices::tell_device_fault;
+use crate::notices::{tell_device_fault, tell_worn_out};
 use apd_desk::{
-    Clock, Gate, Port, Seat, Shared, commit_all, control_worker, radio_worker, tick_worker,
+    Clock, Ending, Gate, Port, Seat, Shared, commit_all, control_worker, radio_worker, tick_worker,
 };
 use apd_disk::Disk;
 use apd_flusher::{Committer, Phase};
@@ -92,8 +92,23 @@ impl<
     }
 }
 
+// Whether the commits have ended before by a refusal: no batch waits behind a stop.
+fn has_refused<D: Disk>(committer: &Committer<D>) -> bool {
+    committer.phase() == Phase::Failed || committer.has_batch()
+}
+
+// Tells why the commits ended, by what the flusher does next. Beside a fault of the device it is that the store is worn
+// out: nothing else is refused to a core that one committer settles.
+fn tell_refusal<W: Log>(rt: &W, phase: Phase) {
+    if phase == Phase::Failed {
+        tell_device_fault(rt);
+    } else {
+        tell_worn_out(rt);
+    }
+}
+
 // Commits until a stop, or until the store refuses, and gives back what is left: a batch or a receipt that was refused
-// waits there. That the device failed is told when it comes.
+// waits there. That the device failed, or the store is worn out, is told when it comes.
 fn commit<L: Ledger, W: Wait + time::Clock + Log, D: Disk, G: Gate>(
     rt: &W,
     shared: &Shared<L>,
@@ -104,10 +119,10 @@ fn commit<L: Ledger, W: Wait + time::Clock + Log, D: Disk, G: Gate>(
     ensures keeps { Keeps D.model committer result }
 {
     let mut committer = committer;
-    let had_failed = committer.phase() == Phase::Failed;
-    commit_all(rt, shared, &mut committer, gate);
-    if !had_failed && committer.phase() == Phase::Failed {
-        tell_device_fault(rt);
+    let had_refused = has_refused(&committer);
+    let ending = commit_all(rt, shared, &mut committer, gate);
+    if ending == Ending::Refused && !had_refused {
+        tell_refusal(rt, committer.phase());
     }
     committer
 }
@@ -117,6 +132,7 @@ impl<L: Ledger, D: Disk + Drop, R: Radio, P: Port + Drop> Worker<L, D, R, P> {
     fn finish<W: Wait + time::Clock + Log, G: Gate>(
         self,
         rt: &W,
+        alloc: Global,
         shared: &Shared<L>,
         gate: &G,
     ) -> Worker<L, D, R, P>
@@ -129,7 +145,7 @@ impl<L: Ledger, D: Disk + Drop, R: Radio, P: Port + Drop> Worker<L, D, R, P> {
             }
             Worker::Radio(seat, slot) => {
                 let (mut seat, mut slot) = (seat, slot);
-                hand_out(rt, shared, &mut seat, &mut slot);
+                hand_out(rt, alloc, shared, &mut seat, &mut slot);
                 Worker::Radio(seat, slot)
             }
             Worker::Control(seat, port) => {
@@ -157,11 +173,12 @@ impl<L: Ledger, D: Disk + Drop, R: Radio, P: Port + Drop> Worker<L, D, R, P> {
     pub(crate) fn leave<W: Wait + time::Clock + Log, G: Gate>(
         self,
         rt: &W,
+        alloc: Global,
         shared: &Shared<L>,
         gate: &G,
     ) -> Option<Seat<L>>
         ensures { entries_of_seat result ≡ entries_of self }
     {
-        self.finish(rt, shared, gate).into_seat()
+        self.finish(rt, alloc, shared, gate).into_seat()
     }
 }

@@ -18,7 +18,7 @@ returns-in-Radio-clause-worked g c =
 pub returns-in-Control-clause-worked : goal.returns-in-Control-clause-worked
 returns-in-Control-clause-worked g c =
     subst (λ (old : Worker g.row.L.Denot g.row.D.Denot g.row.R.Denot g.row.P.Denot). HasWorked g.D.Disk.model g.R.Radio.model old (Control c.control_worker-seat.result.0 c.control_worker-seat.result.1)) (sym c.in-Control.is)
-    (has_replied g.D.Disk.model g.R.Radio.model c.in-Control.seat c.control_worker-seat.result.0 c.in-Control.port c.control_worker-seat.result.1 c.control_worker-seat.ensures)
+    (has_replied g.D.Disk.model g.R.Radio.model c.in-Control.seat c.control_worker-seat.result.0 c.in-Control.port c.control_worker-seat.result.1 c.control_worker-seat.ensures.later)
 
 pub returns-in-Ticks-clause-worked : goal.returns-in-Ticks-clause-worked
 returns-in-Ticks-clause-worked g c =

@@ -1,0 +1,21 @@
+use Rattle.std.proofs.Common.{subst}
+use Rattle.apd_disk.specs.FileCalls.{file_reads}
+use Rattle.apd_disk.specs.FileModel.{file_model}
+use Rattle.apd_disk.specs.SystemFile.{FileDisk}
+use Rattle.apd_disk.specs.declared.record.FileRecord.{FileRecord}
+use Rattle.apd_store.specs.Image.{Shows}
+use Rattle.apd_store.specs.Outside.{store_device}
+use Rattle.apd_store.specs.declared.store.Store.{Store}
+use Rattle.apd_serve.proofs.beginning.begin_world.Goals as goal
+
+pub returns-in-Ok : goal.returns-in-Ok
+returns-in-Ok g c = λ known recovered honest.
+    let begun = c.in-Ok.ensures.begun in
+    let answered = subst (λ (store : Store FileDisk). file_model.honest (store_device store)) begun.over honest in
+    let from = recovered.honestly answered in
+    record {
+      table = c.args.opened.table;
+      shows = subst (λ (k : FileRecord). Shows (file_reads k.held k.calls) c.args.opened.table) recovered.knows from.shown;
+      begins = c.in-Ok.ensures.begins;
+      proper = begun.proper answered recovered.recovered.inside from.idle;
+    }

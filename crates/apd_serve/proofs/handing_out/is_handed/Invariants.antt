@@ -1,6 +1,0 @@
-use Rattle.std.proofs.Common.{◌≡◌}
-use Rattle.apd_desk.specs.SeatProgress.{IsLater}
-use Rattle.apd_serve.proofs.handing_out.is_handed.Given as goal
-
-abbrev pub invariant-loop : goal.invariant-loop
-invariant-loop g l = (l.seat.count ≡ l.fn.seat.count) × IsLater l.fn.seat l.seat × (l.slot ≡ l.fn.slot)

@@ -1,0 +1,65 @@
+-- A world over the file of a store, whatever the file held, and whatever calls were made of it.
+use Rattle.apd_base.specs.State.{State}
+use Rattle.apd_conf.specs.declared.conf.Conf.{Conf}
+use Rattle.std.specs.Prelude.{◌≡◌, ℕ, List, length}
+use Rattle.apd_disk.specs.FileCalls.{FileLeaves, FileLeftSince, file_reads}
+use Rattle.apd_disk.specs.FileModel.{file_model}
+use Rattle.apd_disk.specs.SystemFile.{FileDisk}
+use Rattle.apd_disk.specs.declared.record.FileRecord.{FileRecord}
+use Rattle.apd_radio.specs.Model.{RadioModel}
+use Rattle.apd_store.specs.Image.{Shows}
+use Rattle.apd_store.specs.Outside.{store_device}
+use Rattle.apd_store.specs.Recovery.{IsHonestlyRecovered, IsRecovered}
+use Rattle.apd_world.specs.Journal.{Journal, Keeps, blank}
+use Rattle.apd_world.specs.Outside.{device_of}
+use Rattle.apd_world.specs.Proper.{IsProper}
+use Rattle.apd_world.specs.SafelyMade.{LeadsSince}
+use Rattle.apd_world.specs.StandsFor.{BeginsAt, LeadsTo}
+use Rattle.apd_world.specs.WorldParts.{durable_of}
+use Rattle.apd_world.specs.declared.step.Step.{Step}
+use Rattle.apd_world.specs.declared.step.Told.{Told}
+use Rattle.apd_world.specs.declared.world.World.{World}
+use Rattle.apd_serve.specs.declared.beginning.OpenStore.{OpenStore}
+
+-- A store and its table were recovered from a file of which this was known. What is so of an honest file alone is so
+-- where the file has answered, also in the recovery, as one that held what was known.
+pub record IsRecoveredFrom (known : FileRecord) (opened : OpenStore) : Type 0 where
+  pub file : FileDisk
+  pub knows : file.known ≡ known
+  pub recovered : IsRecovered file_model file opened.store
+  pub honestly : file_model.honest (store_device opened.store)
+      → IsHonestlyRecovered file_model file opened.store opened.table
+
+-- the file of a world's store
+abbrev pub file_of : {R : Type 0} → World FileDisk R → FileDisk
+file_of world = device_of (durable_of world)
+
+-- A world over a file of which this was known stands for the journal that begins at the state that the file's bytes
+-- show; and it is proper, so that from here on a stop is spoken of.
+pub record IsBegunOver {R : Type 0} (known : FileRecord) (confs : List Conf) (world : World FileDisk R) : Type 0 where
+  pub table : State
+  pub shows : Shows (file_reads known.held known.calls) table
+  pub begins : BeginsAt confs table world
+  pub proper : IsProper file_model (durable_of world)
+
+-- the journal that begins there
+abbrev pub first_journal : {R : Type 0} {known : FileRecord} {confs : List Conf} {world : World FileDisk R}
+    → IsBegunOver known confs world → Journal
+first_journal {R} {known} {confs} {world} over = blank confs over.table (durable_of world).core.heard
+
+-- Steps that told so lead to a journal, and each image that a stop now may leave of the file's calls keeps it.
+pub record IsKept {R : Type 0} (steps : List Step) (tolds : List Told) (old new : World FileDisk R)
+    (j : Journal) : Type 0 where
+  pub journal : Journal
+  pub leads : LeadsTo steps tolds old new j journal
+  pub keeps : (image : List ℕ) → FileLeaves (file_of new).known.held (file_of new).known.calls image
+      → Keeps journal journal image
+
+-- So many of the steps had been made, and the others lead on: each image of a stop at any moment since then keeps what
+-- was journalled by then.
+pub record IsKeptSince {R : Type 0} (radio : RadioModel R) (count : ℕ) (steps : List Step) (tolds : List Told)
+    (old new : World FileDisk R) (j : Journal) : Type 0 where
+  pub since : LeadsSince file_model radio count steps tolds old new j
+  pub keeps : (image : List ℕ)
+      → FileLeftSince (file_of new).known.held (file_of new).known.calls (length (file_of since.mid).known.calls) image
+      → Keeps since.between since.later image

@@ -1,0 +1,67 @@
+//! A world over the file of a store, as a run begins it.
+ghost use Rattle.std.specs.Prelude.{IfOk};
+ghost use Rattle.apd_disk.specs.FileModel.{file_model};
+ghost use Rattle.apd_disk.specs.declared.record.FileRecord.{FileRecord as Known};
+ghost use Rattle.apd_serve.specs.FileWorld.{IsBegunOver, IsRecoveredFrom, file_of};
+
+use crate::opening::{Access, open_disk};
+use crate::running::RunFault;
+use apd_base::Moment;
+use apd_conf::Confs;
+use apd_disk::{FileDisk, FileRecord};
+use apd_radio::Radio;
+use apd_store::{Store, recover};
+use apd_table::Table;
+use apd_world::{World, WorldFault, begin_anew, slots_for};
+use std::alloc::Global;
+use std::fs::File;
+use std::rt::Files;
+
+/// A store that was opened, and its table.
+#[derive(Drop)]
+pub struct OpenStore {
+    store: Store<FileDisk>,
+    table: Table,
+}
+
+/// Opens the file of a store, of which this is known, and recovers the store and its table. Nothing that the file holds
+/// is changed. Where the file has answered, also in this call, as one that held that, the table is the state that its
+/// bytes show.
+///
+/// Errors: `Open` where the file can't be opened, as where another process holds it; `World` with `Store` where the
+/// store is refused; `NoMemory`.
+pub fn open_store(
+    rt: &(impl Files<File = File> + AllocGlobal),
+    name: &str,
+    known: FileRecord,
+) -> Result<OpenStore, RunFault>
+    ensures { IfOk result (IsRecoveredFrom known) }
+{
+    let disk = open_disk(rt, name, Access::Write)?.knowing(known);
+    match recover(rt.alloc(), disk) {
+        Ok((store, table)) => Ok(OpenStore { store, table }),
+        Err((_disk, fault)) => Err(RunFault::World(WorldFault::Store(fault))),
+    }
+}
+
+/// The world of a store that was opened, with these radios, one for each configuration, in their order. Each station of
+/// the table was heard at the moment 0. Whatever was known of the file: where it has answered as one that held that, the
+/// world stands for the journal that begins at the state that its bytes show, and is proper.
+///
+/// Errors: `World` with `Slot` where a slot doesn't resume; `NoMemory`.
+pub fn begin_world<R: Radio>(
+    alloc: Global,
+    opened: OpenStore,
+    confs: Confs,
+    radios: Vec<R>,
+) -> Result<World<FileDisk, R>, RunFault>
+    ensures { IfOk result (λ world. (known : Known) → IsRecoveredFrom known opened
+        → file_model.honest (file_of world) → IsBegunOver known confs world) }
+{
+    let OpenStore { store, table } = opened;
+    let slots = slots_for(alloc, &confs, radios)?;
+    match begin_anew(alloc, store, table, confs, slots, Moment(0)) {
+        Ok(world) => Ok(world),
+        Err((_disk, _slots, fault)) => Err(RunFault::World(fault)),
+    }
+}
