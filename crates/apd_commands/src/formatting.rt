@@ -1,38 +1,139 @@
 //! The subcommand that makes a store.
+ghost use Rattle.std.specs.Prelude.{◌≡◌, [], IfOk, OnOk, codes};
+ghost use Rattle.std.specs.Io.KnownBytes.{Appends};
+ghost use Rattle.apd_commands.specs.Files.{OfFile};
+ghost use Rattle.apd_disk.specs.FileModel.{file_model};
+ghost use Rattle.apd_maintenance.specs.Checking.{IsChecked};
+ghost use Rattle.apd_maintenance.specs.Formatting.{IsHonestlyNewStore, IsNewStore};
+ghost use Rattle.apd_maintenance.specs.Missing.{IsThere};
+
 use crate::fault::ProgramFault;
-use apd_maintenance::run_format;
-use apd_serve::{Access, open_disk};
-use clap::{Arg, Command};
+use crate::naming::{create_beside, give_name};
+use apd_disk::{FileDisk, FileRecord};
+use apd_maintenance::{FormatFault, run_format, run_format_missing};
+use apd_serve::{Access, file_or_fault, open_disk};
+use clap::{Arg, ArgAction, ArgMatches, Command};
 use std::alloc::{AllocError, Global};
-use std::fs::File;
-use std::io;
+use std::fs::{self, File};
+use std::io::{ErrorKind, Write};
 use std::rt::Files;
 
-/// What the help for `format` says beside its argument.
+/// What the help for `format` says beside its arguments.
 const FORMAT_HELP: &str =
-    "Warning: the whole content of an existing store is emptied, without a question asked.
-Any file of a store's length, 2097216 bytes, is made a store, whatever it held; a file
-of another length is left as it was.";
+    "Warning: without --missing the whole content of an existing store is emptied, without a
+question asked. Any file of a store's length, 2097216 bytes, is made a store, whatever it held;
+a file of another length is left as it was.
+
+With --missing it prints 'kept' where a store is there, of whatever version and also a damaged
+one, and changes nothing. A file of a store's length with zeros alone is made a store. Any other
+file is left as it was.";
 
 /// The subcommand.
 pub(crate) fn format_command<'a>(alloc: Global) -> Result<Command<'a>, AllocError> {
+    let missing = Arg::new(alloc, "missing")
+        .long("missing")
+        .action(ArgAction::SetTrue)
+        .help("Makes a store only where there is none, and keeps one that is there");
     let store = Arg::new(alloc, "STORE")
         .required(true)
         .help("The store's file, which is made where there is none");
     Command::new(alloc, "format")
         .about("Makes a file a store of the empty table; all that a store held is lost")
         .after_help(FORMAT_HELP)
+        .arg(missing)?
         .arg(store)
 }
 
-/// Makes the file of this name a new store, and says so.
-pub(crate) fn format_and_print(
-    rt: &(impl Print + Files<File = File> + AllocGlobal),
+/// Makes the file of this name, of which this is known, a new store, and says so. Where what it answered is what it held
+/// by that, it is then a store of the empty table, and so is all that a loss of power leaves of it.
+pub fn format_file<W: Write>(
+    rt: &(impl Files<File = File> + AllocGlobal),
     name: &str,
-) -> Result<(), ProgramFault> {
+    known: FileRecord,
+    writer: &mut W,
+) -> Result<FileDisk, ProgramFault>
+    ensures made { IfOk result (λ made. OfFile known (λ file. IsNewStore file_model file made
+        × (file_model.honest made → IsHonestlyNewStore file_model file made))) }
+    ensures printed { OnOk result (Appends (W.contents writer.old) (W.contents writer.new) (codes "formatted\n")) }
+{
     let disk = open_disk(rt, name, Access::Make).map_err(ProgramFault::Open)?;
-    match run_format(rt.alloc(), disk, &mut io::writer(rt)) {
-        Ok(_) => Ok(()),
+    match run_format(rt.alloc(), disk.knowing(known), writer) {
+        Ok(made) => Ok(made),
         Err((_, fault)) => Err(ProgramFault::Format(fault)),
+    }
+}
+
+// Makes a new store beside the path, gives it the name once it is one, and then says so.
+fn make_and_print(
+    rt: &(impl Files<File = File> + AllocGlobal),
+    name: &str,
+    writer: &mut impl Write,
+) -> Result<(), ProgramFault> {
+    let created = create_beside(rt, name);
+    let (disk, beside) = file_or_fault(rt, name, created).map_err(ProgramFault::Open)?;
+    let mut told = Vec::new(rt.alloc());
+    let made = run_format(rt.alloc(), disk, &mut told);
+    let named = match &made {
+        Ok(_) => give_name(rt, &beside, name),
+        Err(_) => Ok(()),
+    };
+    let _ = fs::remove_file(rt, beside.as_str());
+    if let Err((_, fault)) = made {
+        return Err(ProgramFault::Format(fault));
+    }
+    file_or_fault(rt, name, named).map_err(ProgramFault::Open)?;
+    match writer.write_all(&told) {
+        Ok(()) => Ok(()),
+        Err(_) => Err(ProgramFault::Format(FormatFault::Writer)),
+    }
+}
+
+/// Keeps the store of a file that is there, of which this is known, or makes it one where it holds zeros alone.
+pub fn keep_or_format<W: Write>(
+    rt: &impl AllocGlobal,
+    disk: FileDisk,
+    known: FileRecord,
+    writer: &mut W,
+) -> Result<FileDisk, ProgramFault>
+    requires { disk.known.calls ≡ [] }
+    ensures { IfOk result (λ left. OfFile known (λ file. IsChecked file_model file left
+        × (file_model.honest left → IsThere file_model (W.contents writer.old) (W.contents writer.new) file left))) }
+{
+    match run_format_missing(rt.alloc(), disk.knowing(known), writer) {
+        Ok(left) => Ok(left),
+        Err((_, fault)) => Err(ProgramFault::Format(fault)),
+    }
+}
+
+/// Makes the file of this name a new store where there is none, or where it holds zeros alone; a store that is there
+/// stays. It says which.
+fn format_missing_and_print(
+    rt: &(impl Files<File = File> + AllocGlobal),
+    name: &str,
+    writer: &mut impl Write,
+) -> Result<(), ProgramFault> {
+    let opened = match FileDisk::open(rt, name) {
+        Err(error) if error.kind() == ErrorKind::NotFound => {
+            return make_and_print(rt, name, writer);
+        }
+        opened => opened,
+    };
+    let disk = file_or_fault(rt, name, opened).map_err(ProgramFault::Open)?;
+    keep_or_format(rt, disk, FileRecord::new(), writer)?;
+    Ok(())
+}
+
+/// Does what the subcommand's words say.
+pub fn run_format_command(
+    rt: &(impl Files<File = File> + AllocGlobal),
+    matches: &ArgMatches<'_>,
+    writer: &mut impl Write,
+) -> Result<(), ProgramFault> {
+    let name = matches.get_str("STORE").unwrap_or("");
+    if matches.get_flag("missing") {
+        format_missing_and_print(rt, name, writer)
+    } else {
+        format_file(rt, name, FileRecord::new(), writer)?;
+        Ok(())
     }
 }

@@ -3,6 +3,7 @@ ghost use Rattle.std.specs.Prelude.{◌≡◌};
 ghost use Rattle.apd_commands.specs.declared.running.RunningFault.TheVariants.{NoMemory};
 
 use crate::host::Host;
+use crate::warnings::warn_of_ssids;
 use apd_conf::ConfigurationFault;
 use apd_script::read_configurations;
 use apd_serve::{RunFault, Site, run};
@@ -96,6 +97,7 @@ pub fn run_and_log<R: Host>(rt: &R, matches: &ArgMatches<'_>) -> Result<(), Runn
     let port = matches.get_one("port").unwrap_or(0);
     let site = site_of(store, port, matches.get_str("record"), names);
     let confs = read_configurations(rt, names).map_err(RunningFault::Configuration)?;
+    warn_of_ssids(rt, &confs);
     match run(rt, confs, &site, rt.reader()).err() {
         None => Ok(()),
         Some(fault) => Err(RunningFault::Run(fault)),

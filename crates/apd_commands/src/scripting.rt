@@ -1,10 +1,12 @@
 //! The subcommand that runs a script.
 use crate::fault::ProgramFault;
+use crate::warnings::warn_of_ssids;
 use apd_conf::Confs;
 use apd_disk::Disk;
 use apd_script::{new_store, read_configurations, run_on_store};
 use apd_serve::{Access, open_disk};
-use clap::{Arg, ArgAction, Command};
+use clap::{Arg, ArgAction, ArgMatches, Command};
+use log::Log;
 use std::alloc::{AllocError, Global};
 use std::fs::File;
 use std::io::{self, BufRead, BufReader};
@@ -87,6 +89,18 @@ fn run_script(
     }
 }
 
+// Runs the script on standard input with these configurations.
+fn run_script_with(
+    rt: &(impl Input + Print + Files<File = File> + AllocGlobal),
+    store: Option<&str>,
+    confs: Confs,
+) -> Result<(), ProgramFault> {
+    match BufReader::new(rt.alloc(), rt.reader()) {
+        Ok(reader) => run_script(rt, store, confs, reader),
+        Err(_) => Err(ProgramFault::NoMemory),
+    }
+}
+
 /// Runs the script on standard input, with the configurations of these files, on the store of the file of
 /// this name, or on a new one in memory.
 pub fn run_script_of_input(
@@ -95,8 +109,16 @@ pub fn run_script_of_input(
     names: &[&str],
 ) -> Result<(), ProgramFault> {
     let confs = read_configurations(rt, names).map_err(ProgramFault::Configuration)?;
-    match BufReader::new(rt.alloc(), rt.reader()) {
-        Ok(reader) => run_script(rt, store, confs, reader),
-        Err(_) => Err(ProgramFault::NoMemory),
-    }
+    run_script_with(rt, store, confs)
+}
+
+/// Does what the subcommand's words say. What is odd about the configurations is logged.
+pub(crate) fn run_script_command(
+    rt: &(impl Input + Print + Files<File = File> + AllocGlobal + Log),
+    matches: &ArgMatches<'_>,
+) -> Result<(), ProgramFault> {
+    let names = matches.get_strs("CONF").unwrap_or(&[]);
+    let confs = read_configurations(rt, names).map_err(ProgramFault::Configuration)?;
+    warn_of_ssids(rt, &confs);
+    run_script_with(rt, matches.get_str("store"), confs)
 }

@@ -1,5 +1,5 @@
 -- What a check of a store prints (own format), and what it finds of the device and leaves of it.
-use Rattle.std.specs.Prelude.{◌≡◌, ◌≤◌, ◌+◌, ◌↔◌, ℕ, List, [], ◌++◌, codes, Option, Some, None}
+use Rattle.std.specs.Prelude.{◌≡◌, ◌≤◌, ◌+◌, ℕ, List, [], ◌++◌, codes, Option, Some, None}
 use Rattle.std.specs.Fmt.{decimal}
 use Rattle.std.specs.FinMap as map
 use Rattle.std.specs.Io.KnownBytes.{Appends}
@@ -14,6 +14,9 @@ use Rattle.apd_disk.specs.Disk.{LeavesOnly, Only, DiskModel}
 use Rattle.apd_store.specs.Image.{Shows}
 use Rattle.apd_store.specs.Recovery.{IsHonestlyNotRecovered, IsNotRecovered}
 use Rattle.apd_table.specs.Allowed.{mode_and_max}
+use Rattle.apd_maintenance.specs.Listing.{rows_text}
+use Rattle.apd_maintenance.specs.declared.checking.Detail.{Detail}
+use Rattle.apd_maintenance.specs.declared.checking.Detail.TheVariants.{Counts, Rows}
 use Rattle.apd_maintenance.specs.declared.checking.CheckFault.{CheckFault}
 use Rattle.apd_maintenance.specs.declared.checking.CheckFault.TheVariants as fault
 
@@ -39,16 +42,21 @@ line_by s b (Some policy) = line_with b policy (count s b) (list_count s b Accep
 abbrev pub line_of : State → Bssid → List ℕ
 line_of s b = line_by s b (option_map mode_and_max (policy_at s b))
 
--- a line for each BSSID with a policy; they rise
-abbrev pub table_text : State → List ℕ
-table_text s = flat_map (line_of s) (map.keys s.policies)
+-- its line, and behind it those of its stations and lists where these are asked for
+abbrev pub bss_text : Detail → State → Bssid → List ℕ
+bss_text Counts s b = line_of s b
+bss_text Rows s b = line_of s b ++ rows_text s b
+
+-- that of each BSSID with a policy; they rise
+abbrev pub table_text : Detail → State → List ℕ
+table_text detail s = flat_map (bss_text detail s) (map.keys s.policies)
 
 -- ---- what is found of the device, and left of it
 -- it holds a store; the count of its failures stays
 pub record IsChecked {D : Type 0} (disk : DiskModel D) (device left : D) : Type 0 where
   pub length : disk.size device ≡ DEVICE_LENGTH
   pub count : disk.failed left ≡ disk.failed device
-  pub stays_honest : disk.honest device ↔ disk.honest left
+  pub was_honest : disk.honest left → disk.honest device
 
 -- an honest one shows this table, reads as it did, and leaves no image that could not be left before
 pub record IsHonestlyChecked {D : Type 0} (disk : DiskModel D) (device left : D) (table : State) : Type 0 where
@@ -58,11 +66,11 @@ pub record IsHonestlyChecked {D : Type 0} (disk : DiskModel D) (device left : D)
   pub any_moment : LeavesOnly disk device left (disk.may_leave device)
   pub calls : disk.moment left ≤ disk.moment device + 2
 
--- its table was printed behind what a writer held
-pub record IsPrinted {D : Type 0} (disk : DiskModel D) (held holds : Option (List ℕ)) (device left : D) : Type 0 where
+-- its table was printed in this detail behind what a writer held
+pub record IsPrinted {D : Type 0} (disk : DiskModel D) (detail : Detail) (held holds : Option (List ℕ)) (device left : D) : Type 0 where
   pub table : State
   pub read : IsHonestlyChecked disk device left table
-  pub printed : Appends held holds (table_text table)
+  pub printed : Appends held holds (table_text detail table)
 
 -- it was refused as a recovery refuses it; or it is a store, whose table could not be printed
 abbrev pub IsRefused : {D : Type 0} → DiskModel D → D → D → CheckFault → Type 0
@@ -83,4 +91,4 @@ pub record IsGivenUp {D : Type 0} (disk : DiskModel D) (device : D) (fault : Che
     : Type 0 where
   pub left : D
   pub refused : IsRefused disk device left fault
-  pub refused_honest : disk.honest device → IsHonestlyRefused disk device left fault
+  pub refused_honest : disk.honest left → IsHonestlyRefused disk device left fault

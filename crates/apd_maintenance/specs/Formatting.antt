@@ -1,5 +1,5 @@
 -- What `apd format` leaves of a device: a store that is told of, one that could not be told of, or a device that was refused.
-use Rattle.std.specs.Prelude.{◌≡◌, ◌≤◌, ◌+◌, ◌↔◌, ℕ, List}
+use Rattle.std.specs.Prelude.{◌≡◌, ◌≤◌, ◌+◌, ℕ, List}
 use Rattle.apd_base.specs.State.{empty_state}
 use Rattle.apd_base.specs.declared.limits.TheConstants.{DEVICE_LENGTH}
 use Rattle.apd_disk.specs.Disk.{LeavesOnly, DiskModel}
@@ -12,7 +12,7 @@ use Rattle.apd_maintenance.specs.declared.formatting.FormatFault.TheVariants as 
 pub record IsNewStore {D : Type 0} (disk : DiskModel D) (device made : D) : Type 0 where
   pub length : disk.size device ≡ DEVICE_LENGTH
   pub count : disk.failed made ≡ disk.failed device
-  pub stays_honest : disk.honest device ↔ disk.honest made
+  pub was_honest : disk.honest made → disk.honest device
 
 -- an honest one is a store of the empty table, which alone a stop leaves from now on
 pub record IsHonestlyNewStore {D : Type 0} (disk : DiskModel D) (device made : D) : Type 0 where

@@ -1,6 +1,6 @@
 -- What `apd upgrade` leaves of two devices: a copy that is told of, one that could not be told of, or devices that were
 -- refused.
-use Rattle.std.specs.Prelude.{◌≡◌, ◌↔◌, List, ℕ}
+use Rattle.std.specs.Prelude.{◌≡◌, List, ℕ}
 use Rattle.apd_base.specs.declared.limits.TheConstants.{DEVICE_LENGTH}
 use Rattle.apd_disk.specs.Disk.{DiskModel}
 use Rattle.apd_store.specs.Image.{Shows}
@@ -14,8 +14,8 @@ pub record IsCopied {O N : Type 0} (from : DiskModel O) (to : DiskModel N) (old 
   pub length : to.size new ≡ DEVICE_LENGTH
   pub old_count : from.failed left ≡ from.failed old
   pub count : to.failed made ≡ to.failed new
-  pub old_stays_honest : from.honest old ↔ from.honest left
-  pub stays_honest : to.honest new ↔ to.honest made
+  pub old_was_honest : from.honest left → from.honest old
+  pub was_honest : to.honest made → to.honest new
 
 -- honest ones: the new one is a store of the state that the old one shows by its version, which alone a stop leaves of it
 -- from now on

@@ -1,13 +1,15 @@
 //! What a store holds, printed, with nothing started: `apd check STORE`.
-ghost use Rattle.std.specs.Prelude.{◌≡◌, ◌⊎◌, IfErr, IfOk, OnOk};
-ghost use Rattle.std.specs.Io.KnownBytes.{Appends};
+ghost use Rattle.std.specs.Prelude.{◌≡◌, ◌≢◌, ◌⊎◌, IfErr, IfOk, OnOk};
+ghost use Rattle.std.specs.Io.KnownBytes.{Appends, Keeps};
 ghost use Rattle.std.specs.String.{string_bytes};
 ghost use Rattle.std.specs.FinMap.{len};
 ghost use Rattle.apd_acl.specs.Lists.{list_of};
 ghost use Rattle.apd_base.specs.declared.station.Which.TheVariants.{Accept, Deny};
-ghost use Rattle.apd_maintenance.specs.Checking.{IsGivenUp, IsHonestlyRefused, IsPrinted, IsChecked, IsRefused, counts_text, line_of, line_with, table_text};
+ghost use Rattle.apd_maintenance.specs.Checking.{IsGivenUp, IsHonestlyRefused, IsPrinted, IsChecked, IsRefused, counts_text, line_of, line_with, bss_text, table_text};
+ghost use Rattle.apd_maintenance.specs.declared.checking.Detail.TheVariants.{Counts};
 ghost use Rattle.apd_maintenance.specs.declared.checking.CheckFault.TheVariants.{NoMemory, Writer};
 
+use crate::listing::rows_text;
 use apd_acl::Lists;
 use apd_base::{Bssid, Which};
 use apd_disk::Disk;
@@ -16,6 +18,16 @@ use apd_table::Table;
 use std::alloc::{AllocError, Global};
 use std::io::Write;
 use thiserror::Error;
+
+/// What is printed of a table.
+#[derive(Clone, Copy, Debug, PartialEq, Eq)]
+pub enum Detail {
+    /// A line for each BSSID, with counts.
+    Counts,
+    /// And behind each line those of the BSSID's stations, rising by address, of the addresses of its accept list, and
+    /// of those of its deny list.
+    Rows,
+}
 
 /// Why the table of a device is not printed.
 #[derive(Clone, Copy, Debug, PartialEq, Eq, Error)]
@@ -88,25 +100,48 @@ fn line_of(alloc: Global, table: &Table, bssid: Bssid) -> Result<Vec<u8>, AllocE
     line_with(alloc, bssid, policy, table.count(bssid), lists)
 }
 
-/// The lines of all BSSIDs with a policy, rising.
-fn table_text(alloc: Global, table: &Table) -> Result<Vec<u8>, AllocError>
-    ensures { IfOk result (λ text. text.items ≡ table_text table.now) }
+/// What is printed of a BSSID.
+fn bss_text(
+    alloc: Global,
+    table: &Table,
+    bssid: Bssid,
+    detail: Detail,
+) -> Result<Vec<u8>, AllocError>
+    ensures { IfOk result (λ text. text.items ≡ bss_text detail table.now bssid) }
 {
-    let mut text = Vec::new(alloc);
-    for place in 0..table.bss_count() {
-        let bssid = table.bss(place).unwrap();
-        let line = line_of(alloc, table, bssid)?;
-        text.extend_from_slice(line.as_slice())?;
+    let mut text = line_of(alloc, table, bssid)?;
+    if detail == Detail::Rows {
+        let rows = rows_text(alloc, table, bssid)?;
+        text.extend_from_slice(rows.as_slice())?;
     }
     Ok(text)
 }
 
-fn print_table<W: Write>(alloc: Global, table: &Table, writer: &mut W) -> Result<(), CheckFault>
-    ensures printed { OnOk result
-        (Appends (W.contents writer.old) (W.contents writer.new) (table_text table.now)) }
-    ensures only { IfErr result (λ fault. (fault ≡ Writer) ⊎ (fault ≡ NoMemory)) }
+/// What is printed of all BSSIDs with a policy, rising.
+fn table_text(alloc: Global, table: &Table, detail: Detail) -> Result<Vec<u8>, AllocError>
+    ensures { IfOk result (λ text. text.items ≡ table_text detail table.now) }
 {
-    let text = table_text(alloc, table)?;
+    let mut text = Vec::new(alloc);
+    for place in 0..table.bss_count() {
+        let bssid = table.bss(place).unwrap();
+        let lines = bss_text(alloc, table, bssid, detail)?;
+        text.extend_from_slice(lines.as_slice())?;
+    }
+    Ok(text)
+}
+
+fn print_table<W: Write>(
+    alloc: Global,
+    table: &Table,
+    detail: Detail,
+    writer: &mut W,
+) -> Result<(), CheckFault>
+    ensures printed { OnOk result
+        (Appends (W.contents writer.old) (W.contents writer.new) (table_text detail table.now)) }
+    ensures only { IfErr result (λ fault. (fault ≡ Writer) ⊎ (fault ≡ NoMemory)) }
+    ensures nothing_printed { IfErr result (λ fault. fault ≢ Writer → Keeps (W.contents writer.old) (W.contents writer.new)) }
+{
+    let text = table_text(alloc, table, detail)?;
     match writer.write_all(text.as_slice()) {
         Ok(()) => Ok(()),
         Err(_) => Err(CheckFault::Writer),
@@ -117,22 +152,22 @@ fn print_table<W: Write>(alloc: Global, table: &Table, writer: &mut W) -> Result
 fn check_device<D: Disk, W: Write>(
     alloc: Global,
     device: D,
+    detail: Detail,
     writer: &mut W,
 ) -> Result<D, (D, CheckFault)>
     ensures read { IfOk result (λ left. IsChecked D.model device left) }
-    ensures printed { D.model.honest device
-        → IfOk result (λ left. IsPrinted D.model
+    ensures printed { IfOk result (λ left. D.model.honest left → IsPrinted D.model detail
         (W.contents writer.old) (W.contents writer.new) device left) }
     ensures refused { IfErr result (λ e. IsRefused D.model device e.0 e.1) }
-    ensures refused_honest { D.model.honest device
-        → IfErr result (λ e. IsHonestlyRefused D.model device e.0 e.1) }
+    ensures refused_honest { IfErr result (λ e. D.model.honest e.0 → IsHonestlyRefused D.model device e.0 e.1) }
+    ensures nothing_printed { IfErr result (λ e. e.1 ≢ Writer → Keeps (W.contents writer.old) (W.contents writer.new)) }
 {
     let (store, table) = match recover(alloc, device) {
         Ok(found) => found,
         Err((device, fault)) => return Err((device, CheckFault::Store(fault))),
     };
     let device = store.into_device();
-    match print_table(alloc, &table, writer) {
+    match print_table(alloc, &table, detail, writer) {
         Ok(()) => Ok(device),
         Err(fault) => Err((device, fault)),
     }
@@ -154,13 +189,34 @@ pub fn run_check<D: Disk + Drop, W: Write>(
     writer: &mut W,
 ) -> Result<D, CheckFault>
     ensures read { IfOk result (λ left. IsChecked D.model device left) }
-    ensures printed { D.model.honest device
-        → IfOk result (λ left. IsPrinted D.model
+    ensures printed { IfOk result (λ left. D.model.honest left → IsPrinted D.model Counts
         (W.contents writer.old) (W.contents writer.new) device left) }
-    ensures refused { IfErr result
-        (IsGivenUp D.model device) }
+    ensures refused { IfErr result (IsGivenUp D.model device) }
+    ensures nothing_printed { IfErr result (λ fault. fault ≢ Writer
+        → Keeps (W.contents writer.old) (W.contents writer.new)) }
 {
-    match check_device(alloc, device, writer) {
+    run_check_with(alloc, device, Detail::Counts, writer)
+}
+
+/// As `run_check`, in this detail.
+///
+/// # Errors
+///
+/// Those of `run_check`.
+pub fn run_check_with<D: Disk + Drop, W: Write>(
+    alloc: Global,
+    device: D,
+    detail: Detail,
+    writer: &mut W,
+) -> Result<D, CheckFault>
+    ensures read { IfOk result (λ left. IsChecked D.model device left) }
+    ensures printed { IfOk result (λ left. D.model.honest left → IsPrinted D.model detail
+        (W.contents writer.old) (W.contents writer.new) device left) }
+    ensures refused { IfErr result (IsGivenUp D.model device) }
+    ensures nothing_printed { IfErr result (λ fault. fault ≢ Writer
+        → Keeps (W.contents writer.old) (W.contents writer.new)) }
+{
+    match check_device(alloc, device, detail, writer) {
         Ok(device) => Ok(device),
         Err((_device, fault)) => Err(fault),
     }

@@ -1,5 +1,6 @@
 //! A store of version 1 that is copied into a new one: `apd upgrade OLD NEW`.
-ghost use Rattle.std.specs.Prelude.{IfErr, IfOk, MatchResult};
+ghost use Rattle.std.specs.Prelude.{◌≢◌, IfErr, IfOk, MatchResult, OnOk, codes};
+ghost use Rattle.std.specs.Io.KnownBytes.{Appends, Keeps};
 ghost use Rattle.apd_maintenance.specs.Upgrading.{IsCopied, IsHonestlyCopied, IsHonestlyNotCopied, IsNotCopied};
 ghost use Rattle.apd_store.specs.Upgrading.{IsOnlyRead};
 
@@ -34,13 +35,16 @@ pub fn run_upgrade<O: Disk, N: Disk, W: Write>(
     writer: &mut W,
 ) -> Result<(O, N), (O, N, UpgradeFault)>
     ensures made { IfOk result (λ made. IsCopied O.model N.model old made.0 new made.1) }
-    ensures made_honest { O.model.honest old → N.model.honest new
-        → IfOk result (λ made. IsHonestlyCopied O.model N.model old made.0 new made.1) }
+    ensures made_honest { IfOk result (λ made. O.model.honest made.0 → N.model.honest made.1
+        → IsHonestlyCopied O.model N.model old made.0 new made.1) }
+    ensures printed { OnOk result (Appends (W.contents writer.old) (W.contents writer.new) (codes "copied\n")) }
     ensures refused { IfErr result (λ e. IsNotCopied O.model N.model old e.0 new e.1 e.2) }
-    ensures refused_honest { O.model.honest old → N.model.honest new
-        → IfErr result (λ e. IsHonestlyNotCopied O.model N.model old e.0 new e.1 e.2) }
-    ensures only_read { O.model.honest old
-        → MatchResult result (λ made. IsOnlyRead O.model old made.0) (λ e. IsOnlyRead O.model old e.0) }
+    ensures refused_honest { IfErr result (λ e. O.model.honest e.0 → N.model.honest e.1
+        → IsHonestlyNotCopied O.model N.model old e.0 new e.1 e.2) }
+    ensures nothing_printed { IfErr result (λ e. e.2 ≢ UpgradeFault.Writer
+        → Keeps (W.contents writer.old) (W.contents writer.new)) }
+    ensures only_read { MatchResult result (λ made. O.model.honest made.0 → IsOnlyRead O.model old made.0)
+        (λ e. O.model.honest e.0 → IsOnlyRead O.model old e.0) }
 {
     let (old, new) = match upgrade(alloc, old, new) {
         Ok((old, store)) => (old, store.into_device()),

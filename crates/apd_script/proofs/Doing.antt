@@ -1,7 +1,7 @@
 -- What the lines of a script do, from what the steps do that they ask for.
 use Rattle.std.proofs.Common.{◌≡◌, ℕ, List, [], Option, Some, None, Result, Ok, Err, IfOk, IfErr, Bool, ap, refl, subst, sym, ◌∙◌}
 use Rattle.std.specs.Option.{option_or}
-use Rattle.std.specs.Prelude.{length, OnOk}
+use Rattle.std.specs.Prelude.{length, OnErr, OnOk}
 use Rattle.apd_conf.specs.declared.conf.Conf.{Conf}
 use Rattle.apd_conf.specs.Confs.{conf_named}
 use Rattle.apd_disk.specs.Disk.{DiskModel}
@@ -15,43 +15,92 @@ use Rattle.apd_frame.specs.Outcome.{outcome}
 use Rattle.apd_mlme.specs.Happening.{Happening}
 use Rattle.apd_radio.specs.Model.{RadioModel}
 use Rattle.apd_store.specs.declared.fault.StoreFault.{StoreFault}
-use Rattle.apd_world.specs.Proper.{IsSafe}
+use Rattle.apd_world.specs.Ending.{HasEnded, HasFailedCore, HasGoneUnrefused}
+use Rattle.apd_world.specs.Proper.{IsSafe, IsWhole}
 use Rattle.apd_world.specs.WorldParts.{durable_of}
 use Rattle.apd_world.specs.declared.step.Step.{Step}
 use Rattle.apd_world.specs.declared.step.Told.{Told}
 use Rattle.apd_world.proofs.RunLemmas.{none_made}
+use Rattle.apd_world.specs.declared.fault.WorldFault.{WorldFault}
+use Rattle.apd_world.specs.declared.fault.WorldFault.TheVariants as world_fault
+use Rattle.apd_world.specs.declared.world.World.{World}
+use Rattle.apd_script.specs.Faults.{IsDoneToPrint, IsEndedBy, IsLineFault, IsNoRefusal, IsRefused, IsSaidFault, IsShort, IsStartFault, IsUndone, IsUnwritten}
 use Rattle.apd_script.specs.Lines.{Said, Says, IsNotPossible}
 use Rattle.apd_script.specs.Refused.{refusal_of}
-use Rattle.apd_script.specs.Script.{acceptance_of, confs_of, is_up_at, IsCarriedOut, IsLineFault, IsMade, IsMeant, IsNoBadLine, IsPlaced, IsReceived, IsRequested, IsRun, IsSaidFault, IsTried, Makes, SaysAndIsRun}
+use Rattle.apd_script.specs.Script.{acceptance_of, confs_of, is_up_at, IsCarriedOut, IsMade, IsMeant, IsPlaced, IsReceived, IsRequested, IsRun, IsTried, Makes, SaysAndIsRun, Starts}
 use Rattle.apd_script.specs.declared.script.fault.ScriptFault.{ScriptFault}
 use Rattle.apd_script.specs.declared.script.fault.ScriptFault.TheVariants as fault
 use Rattle.apd_script.specs.declared.script.runner.Runner.{Runner}
 use Rattle.apd_script.proofs.Parts.{by_line}
 
-module _ {D R : Type 0} where
-  -- what is no bad line tells nothing of what was said
-  pub said_elsewhere : (n : ℕ) (what : Said) (s : Runner D R) (why : ScriptFault) → IsNoBadLine why → IsSaidFault n what s why
-  said_elsewhere n what s (fault.BadLine k) h = absurd h
-  said_elsewhere n what s why h = tt
+-- ---- why it was not done, or not printed
+-- it was done
+pub unprinted : {A : Type 0} (This : Type 0) (refused : WorldFault → Type 0) (r : Result A ScriptFault) → This → IfErr r IsUnwritten → IfErr r (IsUndone This refused)
+unprinted This refused (Ok x) this h = tt
+unprinted This refused (Err fault.Writer) this h = this
+unprinted This refused (Err fault.NoMemory) this h = tt
+unprinted This refused (Err why) this h = absurd h
 
-  pub all_elsewhere : {A : Type 0} (r : Result A ScriptFault) (n : ℕ) (what : Said) (s : Runner D R) → IfErr r IsNoBadLine → IfErr r (IsSaidFault n what s)
-  all_elsewhere (Ok x) n what s h = tt
-  all_elsewhere (Err why) n what s h = said_elsewhere n what s why h
+-- what is not done is not done by another name
+pub undone_as : {A : Type 0} (This That : Type 0) (refused also : WorldFault → Type 0) (r : Result A ScriptFault) → (This → That) → ((why : WorldFault) → refused why → also why)
+    → IfErr r (IsUndone This refused) → IfErr r (IsUndone That also)
+undone_as This That refused also (Ok x) that so h = tt
+undone_as This That refused also (Err fault.Writer) that so h = that h
+undone_as This That refused also (Err (fault.World why)) that so h = so why h
+undone_as This That refused also (Err fault.NoMemory) that so h = tt
+undone_as This That refused also (Err fault.Reader) that so h = absurd h
+undone_as This That refused also (Err (fault.BadLine n)) that so h = absurd h
 
-  pub lines_elsewhere : (n : ℕ) (text : List ℕ) (s : Runner D R) (why : ScriptFault) → IsNoBadLine why → IsLineFault n text s why
-  lines_elsewhere n text s (fault.BadLine k) h = absurd h
-  lines_elsewhere n text s why h = tt
+pub still_undone : {A : Type 0} (This That : Type 0) (r : Result A ScriptFault) → (This → That) → IfErr r (IsUndone This IsNoRefusal) → IfErr r (IsUndone That IsNoRefusal)
+still_undone This That r that h = undone_as This That IsNoRefusal IsNoRefusal r that (λ why none. none) h
+
+module _ {D R : Type 0} (disk : DiskModel D) (radio : RadioModel R) where
+  -- what a call of the world ended with
+  pub short : {A : Type 0} (r : Result A WorldFault) (old new : World D R) → OnErr r (HasGoneUnrefused disk radio old new) → IfErr r (λ why. why ≡ world_fault.NoMemory)
+      → IfErr r (λ why. IsShort disk radio why old new)
+  short (Ok x) old new gone memory = tt
+  short (Err why) old new gone memory = record { memory = memory; gone = gone }
+
+  pub ended : {A : Type 0} (r : Result A WorldFault) (old new : World D R) → IfErr r (λ why. HasEnded disk radio why old new)
+      → (IsWhole disk (durable_of old) → IfErr r (λ why. HasFailedCore why new)) → IfErr r (λ why. IsEndedBy disk radio why old new)
+  ended (Ok x) old new end failed = tt
+  ended (Err why) old new end failed = record { ended = end; core = failed }
+
+  -- what a line says
+  pub unsaid : {A : Type 0} (This : Type 0) (refused : WorldFault → Type 0) (n : ℕ) (what : Said) (s : Runner D R) (r : Result A ScriptFault) → (This → IsDoneToPrint disk radio n what s)
+      → ((why : WorldFault) → refused why → IsRefused disk radio what why s) → IfErr r (IsUndone This refused) → IfErr r (IsSaidFault disk radio n what s)
+  unsaid This refused n what s (Ok x) done so h = tt
+  unsaid This refused n what s (Err fault.Writer) done so h = done h
+  unsaid This refused n what s (Err (fault.World why)) done so h = so why h
+  unsaid This refused n what s (Err fault.NoMemory) done so h = tt
+  unsaid This refused n what s (Err fault.Reader) done so h = absurd h
+  unsaid This refused n what s (Err (fault.BadLine k)) done so h = absurd h
+
+  pub unsaid_alone : {A : Type 0} (This : Type 0) (n : ℕ) (what : Said) (s : Runner D R) (r : Result A ScriptFault) → (This → IsDoneToPrint disk radio n what s)
+      → IfErr r (IsUndone This IsNoRefusal) → IfErr r (IsSaidFault disk radio n what s)
+  unsaid_alone This n what s r done h = unsaid This IsNoRefusal n what s r done (λ why none. absurd none) h
 
   -- what can't be carried out is bad, since a text says one thing alone
   said_fault : (one : (text : List ℕ) (a b : Said) → Says text a → Says text b → a ≡ b) (n : ℕ) (text : List ℕ) (what : Said) (s : Runner D R) (why : ScriptFault)
-      → Says text what → IsSaidFault n what s why → IsLineFault n text s why
+      → Says text what → IsSaidFault disk radio n what s why → IsLineFault disk radio n text s why
   said_fault one n text what s (fault.BadLine k) says (same, impossible) = (same, λ other says_other. subst (λ w. IsNotPossible (confs_of s) (length s.spares.items) w) (one text what other says says_other) impossible)
-  said_fault one n text what s why says h = tt
+  said_fault one n text what s fault.NoMemory says h = tt
+  said_fault one n text what s why says h = (what, says, h)
 
   pub line_fault : {A : Type 0} (one : (text : List ℕ) (a b : Said) → Says text a → Says text b → a ≡ b) (r : Result A ScriptFault) (n : ℕ) (text : List ℕ) (what : Said) (s : Runner D R)
-      → Says text what → IfErr r (IsSaidFault n what s) → IfErr r (IsLineFault n text s)
+      → Says text what → IfErr r (IsSaidFault disk radio n what s) → IfErr r (IsLineFault disk radio n text s)
   line_fault one (Ok x) n text what s says h = tt
   line_fault one (Err why) n text what s says h = said_fault one n text what s why says h
+
+  -- what the interfaces' start was kept from
+  pub kept_unstarted : (done : Result (Unit {0}) ScriptFault) (r : Result (Runner D R) ScriptFault) (s mid : Runner D R) → OnOk done (r ≡ Ok mid) → IfErr done (λ why. r ≡ Err why)
+      → IfErr done (IsUndone (Starts disk radio s mid) (λ why. IsEndedBy disk radio why s.world mid.world)) → IfErr r (IsStartFault disk radio s)
+  kept_unstarted (Ok u) r s mid is none h = subst (λ x. IfErr x (IsStartFault disk radio s)) (sym is) tt
+  kept_unstarted (Err fault.Writer) r s mid none is h = subst (λ x. IfErr x (IsStartFault disk radio s)) (sym is) (mid, h)
+  kept_unstarted (Err (fault.World why)) r s mid none is h = subst (λ x. IfErr x (IsStartFault disk radio s)) (sym is) (mid.world, h)
+  kept_unstarted (Err fault.NoMemory) r s mid none is h = subst (λ x. IfErr x (IsStartFault disk radio s)) (sym is) tt
+  kept_unstarted (Err fault.Reader) r s mid none is h = absurd h
+  kept_unstarted (Err (fault.BadLine n)) r s mid none is h = absurd h
 
 -- what holds is so whatever else went well
 pub on_ok : {A E : Type 0} (P : Type 0) (r : Result A E) → P → OnOk r P

@@ -1,4 +1,6 @@
+pub mod Counting
 pub mod Doing
+pub mod OnFile
 pub mod OnStore
 pub mod Parts
 pub mod Running

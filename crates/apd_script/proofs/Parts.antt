@@ -14,13 +14,13 @@ use Rattle.apd_radio.specs.Model.{RadioModel}
 use Rattle.apd_world.specs.Proper.{IsProper, IsSafe}
 use Rattle.apd_world.specs.Ending.{HasGoneOn}
 use Rattle.apd_world.specs.Starting.{rounds}
-use Rattle.apd_world.specs.HandingOut.{applies, hands}
+use Rattle.apd_world.specs.HandingOut.{hands}
 use Rattle.apd_world.specs.WorldParts.{durable_of}
 use Rattle.apd_world.specs.declared.step.Step.{Step}
 use Rattle.apd_world.specs.declared.world.World.{World}
 use Rattle.apd_world.proofs.RunLemmas.{gone_by_flushing, gone_by_handing, gone_then, none_made}
 use Rattle.apd_script.specs.Lines.{Said, Empty, Received, Tick, Command, Take, Call, Publish, Hand, Flush, Stop, Says, HaveNoStop}
-use Rattle.apd_script.specs.Script.{AreRun, confs_of, IsCarriedOut, IsMade, IsMeant, IsPlaced, IsProperAt, IsRequested, IsRun, IsScriptRun, IsTried, SaysAndIsRun, Starts}
+use Rattle.apd_script.specs.Script.{AreFoundHonest, AreRun, confs_of, IsCarriedOut, IsFoundHonest, IsMade, IsMeant, IsPlaced, IsProperAt, IsRequested, IsRun, IsScriptRun, IsTried, SaysAndIsRun, Starts}
 use Rattle.apd_script.specs.declared.script.runner.Runner.{Runner}
 
 module _ {D R : Type 0} (disk : DiskModel D) (radio : RadioModel R) where
@@ -49,7 +49,7 @@ module _ {D R : Type 0} (disk : DiskModel D) (radio : RadioModel R) where
       let confs = (durable_of old.world).core.confs in
       let handed = h.started.flushed.handed in
       record {
-        steps = (h.started.first ++ rounds h.started.flushed.calls) ++ (hands confs ++ applies confs handed.counts);
+        steps = (h.started.first ++ rounds h.started.flushed.calls) ++ hands confs handed.counts;
         tolds = handed.tolds ++ map (λ a. a.1) h.answers;
         made = handed.made;
       }
@@ -101,16 +101,19 @@ module _ {D R : Type 0} (disk : DiskModel D) (radio : RadioModel R) where
   abbrev At : Runner D R → Type 0
   At s = IsProperAt disk radio s
 
-  line_proper : (n : ℕ) (what : Said) (old new : Runner D R) → IsRun disk radio n what old new → (what ≢ Stop → Goes old new) → At old → At new
-  line_proper n Stop old new h goes p = h.starts.started.flushed.handed.made.proper (h.restarts.restarted.begun.proper p.imaged.honest)
-  line_proper n what old new h goes p = (goes (λ stop. cc)).made.proper p
+  line_proper : (n : ℕ) (what : Said) (old new : Runner D R) (h : IsRun disk radio n what old new) → (what ≢ Stop → Goes old new)
+      → IsFoundHonest disk radio n what old new h → At old → At new
+  line_proper n Stop old new h goes found p = h.starts.started.flushed.handed.made.proper (h.restarts.restarted.begun.proper found)
+  line_proper n what old new h goes found p = (goes (λ stop. cc)).made.proper p
 
-  lines_proper : (n : ℕ) (texts : List (List ℕ)) (old new : Runner D R) → AreRun disk radio n texts old new → At old → At new
-  lines_proper n [] old new same p = subst At (sym same) p
-  lines_proper n (text ∷ texts) old new (mid, one, rest) p = lines_proper (n + 1) texts mid new rest (line_proper n one.what old mid one.run one.safely p)
+  lines_proper : (n : ℕ) (texts : List (List ℕ)) (old new : Runner D R) (run : AreRun disk radio n texts old new)
+      → AreFoundHonest disk radio n texts old new run → At old → At new
+  lines_proper n [] old new same found p = subst At (sym same) p
+  lines_proper n (text ∷ texts) old new (mid, one, rest) found p =
+      lines_proper (n + 1) texts mid new rest found.1 (line_proper n one.what old mid one.run one.safely found.0 p)
 
-  pub stays_proper : (texts : List (List ℕ)) (w : World D R) (radios : List R) (last : Runner D R) → IsScriptRun disk radio texts w radios last
-      → IsProper disk (durable_of w) → At last
-  stays_proper texts w radios last h p =
+  pub stays_proper : (texts : List (List ℕ)) (w : World D R) (radios : List R) (last : Runner D R) (h : IsScriptRun disk radio texts w radios last)
+      → AreFoundHonest disk radio 1 texts h.started last h.run → IsProper disk (durable_of w) → At last
+  stays_proper texts w radios last h found p =
       let begun : At h.first = subst (λ (v : World D R). IsProper disk (durable_of v)) (sym h.begun.world) p in
-      lines_proper 1 texts h.started last h.run (h.starts.started.flushed.handed.made.proper begun)
+      lines_proper 1 texts h.started last h.run found (h.starts.started.flushed.handed.made.proper begun)

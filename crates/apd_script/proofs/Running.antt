@@ -1,5 +1,5 @@
 -- What running a script does, line by line.
-use Rattle.std.proofs.Common.{◌≡◌, ℕ, suc, ◌+◌, ◌≤◌, ◌<◌, take, drop, length-take, take-append-drop, List, [], ◌∷◌, ◌++◌, length, Option, Some, None, refl, sym, ap, subst, ◌∙◌, append_assoc, arith, length-append}
+use Rattle.std.proofs.Common.{◌≡◌, ℕ, suc, ◌+◌, ◌≤◌, ◌<◌, take, drop, length-take, take-append-drop, List, [], ◌∷◌, ◌++◌, length, Option, Some, None, inl, inr, refl, sym, ap, subst, ◌∙◌, append_assoc, arith, length-append}
 use Rattle.std.proofs.lemmas.List.{append-nil, drop_all}
 use Rattle.std.proofs.BufReadLemmas.{IsAtEnd-of_take_through}
 use Rattle.std.specs.Io.KnownBytes.{IsAtEnd}
@@ -13,10 +13,12 @@ use Rattle.apd_ctrl.specs.Reading.{line_of}
 use Rattle.apd_radio.specs.Model.{RadioModel}
 use Rattle.apd_world.specs.declared.world.World.{World}
 use Rattle.apd_script.specs.Lines.{IsLineRead}
-use Rattle.apd_script.specs.Script.{AreRun, Ends, IsBegun, IsFault, IsLineFault, IsNoBadLine, IsScriptRun, SaysAndIsRun, Starts}
+use Rattle.apd_script.specs.Faults.{IsAt, IsBadAt, IsEndedBy, IsFault, IsLineFault, IsRunTo, IsStartFault, IsUnread}
+use Rattle.apd_script.specs.Script.{AreRun, Ends, IsBegun, IsScriptRun, SaysAndIsRun, Starts}
 use Rattle.apd_script.specs.declared.script.fault.ScriptFault.{ScriptFault}
 use Rattle.apd_script.specs.declared.script.fault.ScriptFault.TheVariants as fault
 use Rattle.apd_script.specs.declared.script.runner.Runner.{Runner}
+use Rattle.apd_script.proofs.Counting.{counted}
 use Rattle.apd_script.proofs.ScriptLines.{line_read, whole_length}
 
 -- ---- the lines that are read
@@ -151,16 +153,43 @@ module _ {D R : Type 0} (disk : DiskModel D) (radio : RadioModel R) where
     world = refl;
   }
 
+  -- some lines are run
+  pub run_so_far : (known left : Option (List ℕ)) (number n : ℕ) (radios : List R) (old : World D R) (new : Runner D R) → IsSoFar known left number n radios old new
+      → (front : List (List ℕ)) × IsRunTo disk radio known radios old front
+  run_so_far known left number n radios old new past =
+      let (behind, whole) = rest_unread known left past.texts n past.read in
+      (past.texts, record { behind = behind; whole = whole; last = new; run = past.run })
+
+  pub unread_so_far : (why : ScriptFault) (known left : Option (List ℕ)) (number n : ℕ) (radios : List R) (old : World D R) (new : Runner D R) → IsSoFar known left number n radios old new
+      → IsUnread why → IsFault disk radio known radios old why
+  unread_so_far fault.Reader known left number n radios old new past h = run_so_far known left number n radios old new past
+  unread_so_far fault.NoMemory known left number n radios old new past h = tt
+  unread_so_far why known left number n radios old new past h = absurd h
+
+  -- a line is not
+  fails_at : (why : ScriptFault) (known : Option (List ℕ)) (number : ℕ) (radios : List R) (old : World D R) (at : IsAt disk radio number known radios old)
+      → IsLineFault disk radio number at.text at.last why → IsFault disk radio known radios old why
+  fails_at (fault.BadLine j) known number radios old at (same, bad) =
+      subst (λ (k : ℕ). IsBadAt disk radio k known radios old) (sym same) (record { line = at; is_bad = bad })
+  fails_at fault.Reader known number radios old at (what, says, none) = absurd none
+  fails_at fault.Writer known number radios old at (what, says, done) = inr (number, record { line = at; what = what; says = says; done = done })
+  fails_at (fault.World why) known number radios old at (what, says, refused) =
+      inr (number, record { line = at; what = what; says = says; refused = refused; risen = (counted disk radio at.front old radios at.last at.run).risen })
+  fails_at fault.NoMemory known number radios old at h = tt
+
   pub fails_so_far : (why : ScriptFault) (known left next : Option (List ℕ)) (number n k sum : ℕ) (radios : List R) (old : World D R) (new : Runner D R) (bytes : List ℕ)
       → IsSoFar known left number n radios old new → IsLineRead left next bytes → length bytes ≡ k → 0 < k → (sum ≡ n + k) × (sum ≤ MAX_SCRIPT)
-      → IsLineFault number (line_of bytes) new why → IsFault disk radio known radios old why
-  fails_so_far (fault.BadLine j) known left next number n k sum radios old new bytes past piece long some within (same, bad) =
+      → IsLineFault disk radio number (line_of bytes) new why → IsFault disk radio known radios old why
+  fails_so_far why known left next number n k sum radios old new bytes past piece long some within h =
       let fits : n + k ≤ MAX_SCRIPT = omega (arith, within.0, within.1) in
       let (behind, text) = bad_read known left next past.texts n k bytes past.read piece long some fits in
-      record { front = past.texts; bad = line_of bytes; behind = behind; text = text; number = same ∙ past.counted; last = new; run = past.run; is_bad = bad }
-  fails_so_far why known left next number n k sum radios old new bytes past piece long some within h = tt
+      fails_at why known number radios old (record { front = past.texts; text = line_of bytes; behind = behind; whole = text; number = past.counted; last = new; run = past.run }) h
 
-  -- what is no bad line tells nothing of the script
-  pub fails_elsewhere : (why : ScriptFault) (known : Option (List ℕ)) (radios : List R) (old : World D R) → IsNoBadLine why → IsFault disk radio known radios old why
-  fails_elsewhere (fault.BadLine j) known radios old h = absurd h
-  fails_elsewhere why known radios old h = tt
+  -- the interfaces are not started
+  pub unstarted : (why : ScriptFault) (known : Option (List ℕ)) (radios : List R) (old : World D R) (first : Runner D R) → IsBegun old radios first
+      → IsStartFault disk radio first why → IsFault disk radio known radios old why
+  unstarted fault.Writer known radios old first begun (started, starts) = inl (record { first = first; begun = begun; started = started; starts = starts })
+  unstarted (fault.World why) known radios old first begun (new, ended) = inl (new, subst (λ (w : World D R). IsEndedBy disk radio why w new) begun.world ended)
+  unstarted fault.NoMemory known radios old first begun h = tt
+  unstarted fault.Reader known radios old first begun h = absurd h
+  unstarted (fault.BadLine n) known radios old first begun h = absurd h

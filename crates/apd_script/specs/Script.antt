@@ -1,5 +1,5 @@
 -- What running a script does, in the words of its world. What it prints is not spoken of.
-use Rattle.std.specs.Prelude.{◌≡◌, ◌≢◌, ℕ, Bool, ◌+◌, ◌*◌, ◌≤◌, ◌⊎◌, List, [], ◌∷◌, ◌++◌, map, length, take, drop, Option, None, Some, Result, Ok, Err, IfSome}
+use Rattle.std.specs.Prelude.{◌≡◌, ◌≢◌, ℕ, Bool, ◌+◌, ◌*◌, ◌≤◌, ◌⊎◌, List, [], ◌∷◌, map, length, take, drop, Option, None, Some, Result, Ok, Err, IfSome}
 use Rattle.std.specs.Option.{option_or}
 use Rattle.apd_base.specs.State.{State}
 use Rattle.apd_base.specs.Text.{lines}
@@ -42,10 +42,8 @@ use Rattle.apd_world.specs.declared.step.Step.TheVariants as step
 use Rattle.apd_world.specs.declared.step.Told.{Told}
 use Rattle.apd_world.specs.declared.step.Told.TheVariants.{NoMemory}
 use Rattle.apd_world.specs.declared.world.World.{World}
-use Rattle.apd_script.specs.Lines.{Said, Empty, Received, Tick, Command, Take, Call, Publish, Hand, Flush, Stop, Says, IsBad, IsNotPossible}
+use Rattle.apd_script.specs.Lines.{Said, Empty, Received, Tick, Command, Take, Call, Publish, Hand, Flush, Stop, Says}
 use Rattle.apd_script.specs.Refused.{refusal_of}
-use Rattle.apd_script.specs.declared.script.fault.ScriptFault.{ScriptFault}
-use Rattle.apd_script.specs.declared.script.fault.ScriptFault.TheVariants as fault
 use Rattle.apd_script.specs.declared.script.runner.Runner.{Runner}
 
 -- ---- a script that runs
@@ -160,16 +158,18 @@ module _ {D R : Type 0} (disk : DiskModel D) (radio : RadioModel R) where
   -- stands for the journal that begins there; its slots, one for each interface, have resumed by that table. It is proper, and a stop until
   -- it is begun leaves what it could leave before.
   pub record IsBegunFrom (m : Moment) (device : D) (confs : List Conf) (new : World D R) : Type 0 where
-    pub shown : disk.honest device → Shows (disk.reads device) (durable_of new).core.settled
+    pub shown : disk.honest (device_of (durable_of new)) → Shows (disk.reads device) (durable_of new).core.settled
     pub core : (durable_of new).core ≡ new_core (durable_of new).core.settled confs (durable_of new).core.heard
     pub heard : AreHeardAt m (durable_of new).core.settled (durable_of new).core.heard
     pub sound : Sound (durable_of new).core.settled
     pub begins : BeginsAt confs (durable_of new).core.settled new
+    pub count : disk.failed (device_of (durable_of new)) ≡ disk.failed device
     pub slots : map bssid_of (slots_of new) ≡ map (λ conf. conf.bssid) confs
     pub resumed : AreResumed radio (durable_of new).core.settled (slots_of new)
     pub following : AreFollowing new
-    pub proper : disk.honest device → IsProper disk (durable_of new)
-    pub any_moment : disk.honest device
+    pub was_honest : disk.honest (device_of (durable_of new)) → disk.honest device
+    pub proper : disk.honest (device_of (durable_of new)) → IsProper disk (durable_of new)
+    pub any_moment : disk.honest (device_of (durable_of new))
         → LeavesOnly disk device (device_of (durable_of new)) (disk.may_leave device)
 
   -- A world begun anew at a moment from what the device of another reads, with its configurations. Where that one was proper, the table is
@@ -177,9 +177,9 @@ module _ {D R : Type 0} (disk : DiskModel D) (radio : RadioModel R) where
   -- what happened, from the front, with all that is durable.
   pub record IsRestarted (m : Moment) (old new : World D R) : Type 0 where
     pub begun : IsBegunFrom m (device_of (durable_of old)) (durable_of old).core.confs new
-    pub recovered : IsProper disk (durable_of old) → (hs : List Happening)
+    pub recovered : IsProper disk (durable_of old) → disk.honest (device_of (durable_of new)) → (hs : List Happening)
         → AreUnsettled hs (durable_of old).core → IsAfterFlight (durable_of old).core hs (durable_of new).core.settled
-    pub kept : IsProper disk (durable_of old) → (j : Journal) → StandsFor old j
+    pub kept : IsProper disk (durable_of old) → disk.honest (device_of (durable_of new)) → (j : Journal) → StandsFor old j
         → (kept : Keeps j j (disk.reads (device_of (durable_of old)))) × ((durable_of new).core.settled ≡ after j kept.front)
 
   -- the world is begun anew, with a radio from the front for each interface, and no refusal is known
@@ -220,6 +220,17 @@ module _ {D R : Type 0} (disk : DiskModel D) (radio : RadioModel R) where
   AreRun n [] old new = new ≡ old
   AreRun n (text ∷ texts) old new = (mid : Runner D R) × SaysAndIsRun n text old mid × AreRun (n + 1) texts mid new
 
+  -- a stop found the device honest, where the line is one
+  abbrev pub IsFoundHonest : (n : ℕ) (what : Said) (old new : Runner D R) → IsRun n what old new → Type 0
+  IsFoundHonest n Stop old new h = disk.honest (device_of (durable_of h.mid.world))
+  IsFoundHonest n what old new h = Unit {0}
+
+  -- each stop did
+  abbrev pub AreFoundHonest : (n : ℕ) (texts : List (List ℕ)) (old new : Runner D R) → AreRun n texts old new → Type 0
+  AreFoundHonest n [] old new same = Unit {0}
+  AreFoundHonest n (text ∷ texts) old new (mid, one, rest) =
+      IsFoundHonest n one.what old mid one.run × AreFoundHonest (n + 1) texts mid new rest
+
   -- the interfaces are started, and then the lines of a script are run
   pub record IsScriptRun (texts : List (List ℕ)) (w : World D R) (radios : List R) (last : Runner D R) : Type 0 where
     pub first : Runner D R
@@ -236,22 +247,6 @@ module _ {D R : Type 0} (disk : DiskModel D) (radio : RadioModel R) where
     pub run : IsScriptRun texts old radios last
     pub world : new ≡ last.world
 
-  -- all lines in front of line n are run, and this one is bad
-  pub record IsBadAt (n : ℕ) (known : Option (List ℕ)) (radios : List R) (old : World D R) : Type 0 where
-    pub front : List (List ℕ)
-    pub bad : List ℕ
-    pub behind : List (List ℕ)
-    pub text : IfSome known (λ script. lines script ≡ front ++ bad ∷ behind)
-    pub number : n ≡ length front + 1
-    pub last : Runner D R
-    pub run : IsScriptRun front old radios last
-    pub is_bad : IsBad (confs_of last) (length last.spares.items) bad
-
-  -- why a script did not end: of a bad line it is told which
-  abbrev pub IsFault : Option (List ℕ) → List R → World D R → ScriptFault → Type 0
-  IsFault known radios old (fault.BadLine n) = IsBadAt n known radios old
-  IsFault known radios old why = Unit {0}
-
   -- ---- on the store of a device
   -- A script is run to its end on the store of a device: a world of these configurations is begun from it at moment 0, with as many radios
   -- besides as so many stops of each interface take, and from there the script ends so.
@@ -262,30 +257,3 @@ module _ {D R : Type 0} (disk : DiskModel D) (radio : RadioModel R) where
     pub radios : List R
     pub enough : length radios ≡ stops * length confs
     pub ends : Ends known radios first new
-
-  -- or from there line n is bad
-  pub record IsBadOn (stops : ℕ) (device : D) (confs : List Conf) (known : Option (List ℕ)) (n : ℕ) : Type 0 where
-    pub first : World D R
-    pub begun : IsBegunFrom (record { 0 = 0 }) device confs first
-    pub radios : List R
-    pub enough : length radios ≡ stops * length confs
-    pub is_bad : IsBadAt n known radios first
-
-  abbrev pub IsFaultOn : ℕ → D → List Conf → Option (List ℕ) → ScriptFault → Type 0
-  IsFaultOn stops device confs known (fault.BadLine n) = IsBadOn stops device confs known n
-  IsFaultOn stops device confs known why = Unit {0}
-
--- no line is bad
-abbrev pub IsNoBadLine : ScriptFault → Type 0
-IsNoBadLine (fault.BadLine n) = ⊥
-IsNoBadLine why = Unit {0}
-
--- why a line was not run: it is bad
-abbrev pub IsLineFault : {D R : Type 0} → ℕ → List ℕ → Runner D R → ScriptFault → Type 0
-IsLineFault n text s (fault.BadLine k) = (k ≡ n) × IsBad (confs_of s) (length s.spares.items) text
-IsLineFault n text s why = Unit {0}
-
--- the same of what it says
-abbrev pub IsSaidFault : {D R : Type 0} → ℕ → Said → Runner D R → ScriptFault → Type 0
-IsSaidFault n what s (fault.BadLine k) = (k ≡ n) × IsNotPossible (confs_of s) (length s.spares.items) what
-IsSaidFault n what s why = Unit {0}

@@ -2,7 +2,7 @@
 //! nothing.
 ghost use Rattle.std.specs.Prelude.{◌≡◌, List, ℕ, []};
 ghost use Rattle.apd_script.specs.Lines.{HaveNoStop};
-ghost use Rattle.apd_script.specs.Script.{AreRun, IsProperAt, IsScriptRun, Starts};
+ghost use Rattle.apd_script.specs.Script.{AreFoundHonest, AreRun, IsProperAt, IsScriptRun, Starts};
 ghost use Rattle.apd_script.specs.declared.script.runner.Runner.{Runner};
 ghost use Rattle.apd_world.specs.Journal.{Journal};
 ghost use Rattle.apd_world.specs.Proper.{IsProper, IsSafe};
@@ -43,10 +43,11 @@ pub fn a_stop_within_a_script_loses_nothing_told<D: Disk, R: Radio>()
         → LeadsSince D.model R.model count steps tolds old.world new.world j) }
 {}
 
-/// Whatever lines a script has, a `stop` among them: where its world was proper, as of an honest device, the one
-/// after them is. So what is proved of the steps from a proper world holds at each line.
+/// Whatever lines a script has, a `stop` among them: where its world was proper, as of an honest device, and each stop
+/// found the device honest, the one after them is. So what is proved of the steps from a proper world holds at each line.
 pub fn a_script_leaves_a_proper_world_proper<D: Disk, R: Radio>()
     ensures { (texts : List (List ℕ)) (w : AnyWorld D R) (radios : List R) (last : Runner D R)
-        → IsScriptRun D.model R.model texts w radios last → IsProper D.model (durable_of w)
+        → (h : IsScriptRun D.model R.model texts w radios last)
+        → AreFoundHonest D.model R.model 1 texts h.started last h.run → IsProper D.model (durable_of w)
         → IsProperAt D.model R.model last }
 {}

@@ -1,7 +1,8 @@
 //! A script on the store of a device: radios in memory, a world begun from the store, and its lines.
 ghost use Rattle.std.specs.Prelude.{◌≡◌, ◌*◌, ℕ, List, IfErr, IfOk, length, map};
 ghost use Rattle.apd_base.specs.State.{empty_state};
-ghost use Rattle.apd_script.specs.Script.{Ends, IsFault, IsFaultOn, IsRunOn};
+ghost use Rattle.apd_script.specs.Faults.{IsFaultOn};
+ghost use Rattle.apd_script.specs.Script.{IsRunOn};
 ghost use Rattle.apd_slot.specs.Slots.{bssid_of};
 ghost use Rattle.apd_store.specs.Image.{Shows};
 

@@ -18,7 +18,8 @@ ghost use Rattle.std.specs.Prelude.{◌≡◌, ◌≤◌, ◌<◌, ◌+◌, leng
 ghost use Rattle.apd_base.specs.declared.limits.TheConstants.{MAX_SCRIPT as MOST};
 ghost use Rattle.apd_ctrl.specs.Reading.{line_of};
 ghost use Rattle.apd_script.specs.Lines.{IsLineRead};
-ghost use Rattle.apd_script.specs.Script.{Ends, IsFault, IsNoBadLine};
+ghost use Rattle.apd_script.specs.Faults.{IsFault, IsUnread};
+ghost use Rattle.apd_script.specs.Script.{Ends};
 
 mod beginning;
 mod calling;
@@ -49,7 +50,7 @@ use std::io::{BufRead, Read, Write};
 fn read_line<I: BufRead>(reader: &mut I, text: &mut Vec<u8>) -> Result<usize, ScriptFault>
     ensures read { OnOk result (IsLineRead (I.remaining reader.old) (I.remaining reader.new) text.new.items) }
     ensures length { IfOk result (λ read. length text.new.items ≡ read) }
-    ensures err { IfErr result IsNoBadLine }
+    ensures err { IfErr result IsUnread }
 {
     text.clear();
     reader.read_until(b'\n', text).map_err(reader_fault)
@@ -82,7 +83,7 @@ fn next_line<I: BufRead>(
     ensures read { OnOk result (IsLineRead (I.remaining reader.old) (I.remaining reader.new) text.new.items) }
     ensures length { IfOk result (λ read. length text.new.items ≡ read) }
     ensures count { IfOk result (λ read. (count.new ≡ count.old + read) × (count.new ≤ MOST)) }
-    ensures err { IfErr result IsNoBadLine }
+    ensures err { IfErr result IsUnread }
 {
     let read = read_line(reader, text)?;
     let Some(sum) = within(*count, read) else {

@@ -1,7 +1,8 @@
 //! A world begun from the store of a device: at first, and after a stop.
 ghost use Rattle.std.specs.Prelude.{◌≡◌, IfErr, IfOk, map};
 ghost use Rattle.apd_slot.specs.Slots.{bssid_of};
-ghost use Rattle.apd_script.specs.Script.{IsBegunFrom, IsNoBadLine};
+ghost use Rattle.apd_script.specs.Faults.{IsBeginFault};
+ghost use Rattle.apd_script.specs.Script.{IsBegunFrom};
 
 use super::fault::ScriptFault;
 use apd_base::Moment;
@@ -26,7 +27,8 @@ pub fn begin_world<D: Disk + Drop, R: Radio>(
 ) -> Result<World<D, R>, ScriptFault>
     ensures ok { IfOk result (λ world. map bssid_of slots.items ≡ map (λ conf. conf.bssid) confs
         → IsBegunFrom D.model R.model moment device confs world) }
-    ensures err { IfErr result IsNoBadLine }
+    ensures err { IfErr result (λ why. map bssid_of slots.items ≡ map (λ conf. conf.bssid) confs
+        → IsBeginFault D.model R.model device confs why) }
 {
     match restart(alloc, device, confs, slots, moment) {
         Ok(world) => Ok(world),

@@ -1,6 +1,6 @@
 //! The calls of the world that a script makes. Each says of it what a script's line does there, and no more, so that a
 //! caller's proof carries no long contract.
-ghost use Rattle.std.specs.Prelude.{◌≡◌, None, OnOk};
+ghost use Rattle.std.specs.Prelude.{◌≡◌, IfErr, None, OnOk};
 
 use super::runner::Runner;
 use apd_disk::Disk;
@@ -12,6 +12,7 @@ use apd_world::{Step, Told, WorldFault};
 pub type Answers = Vec<(Recipient, Told)>;
 
 impl<D: Disk + Drop, R: Radio> Runner<D, R> {
+    ghost use Rattle.apd_script.specs.Faults.{IsEndedBy, IsShort};
     ghost use Rattle.apd_script.specs.Script.{Flushes, HandsOut, Makes, Starts};
 
     /// Makes a step.
@@ -23,21 +24,24 @@ impl<D: Disk + Drop, R: Radio> Runner<D, R> {
 
     /// Hands out what is settled.
     pub fn hand_out(&mut self) -> Result<Answers, WorldFault>
-        ensures { OnOk result (HandsOut D.model R.model self.old self.new) }
+        ensures ok { OnOk result (HandsOut D.model R.model self.old self.new) }
+        ensures err { IfErr result (λ why. IsShort D.model R.model why self.old.world self.new.world) }
     {
         self.world.hand_out()
     }
 
     /// Commits until nothing is unsettled, and hands out: where no refusal was met.
     pub fn flush(&mut self) -> Result<Answers, WorldFault>
-        ensures { self.old.refusal ≡ None → OnOk result (Flushes D.model R.model self.old self.new) }
+        ensures ok { self.old.refusal ≡ None → OnOk result (Flushes D.model R.model self.old self.new) }
+        ensures err { IfErr result (λ why. IsEndedBy D.model R.model why self.old.world self.new.world) }
     {
         self.world.flush()
     }
 
     /// Starts the interfaces.
     pub fn start(&mut self) -> Result<Answers, WorldFault>
-        ensures { OnOk result (Starts D.model R.model self.old self.new) }
+        ensures ok { OnOk result (Starts D.model R.model self.old self.new) }
+        ensures err { IfErr result (λ why. IsEndedBy D.model R.model why self.old.world self.new.world) }
     {
         self.world.start()
     }

@@ -2,7 +2,7 @@
 ghost use Rattle.std.specs.IoError.{error_kind};
 ghost use Rattle.std.specs.Prelude.{◌≡◌, ◌≢◌};
 ghost use Rattle.apd_script.specs.declared.script.fault.ScriptFault.TheVariants.{NoMemory, Reader, World, Writer};
-ghost use Rattle.apd_script.specs.Script.{IsNoBadLine};
+ghost use Rattle.apd_script.specs.Faults.{IsUnread, IsUnwritten};
 
 use apd_world::WorldFault;
 use std::alloc::AllocError;
@@ -49,7 +49,7 @@ impl From<WorldFault> for ScriptFault {
 pub fn reader_fault(error: io::Error) -> ScriptFault
     ensures memory { error_kind error ≡ ErrorKind.OutOfMemory → result ≡ NoMemory }
     ensures other { error_kind error ≢ ErrorKind.OutOfMemory → result ≡ Reader }
-    ensures one { IsNoBadLine result }
+    ensures one { IsUnread result }
 {
     match error.kind() {
         ErrorKind::OutOfMemory => ScriptFault::NoMemory,
@@ -61,7 +61,7 @@ pub fn reader_fault(error: io::Error) -> ScriptFault
 pub fn writer_fault(error: io::Error) -> ScriptFault
     ensures memory { error_kind error ≡ ErrorKind.OutOfMemory → result ≡ NoMemory }
     ensures other { error_kind error ≢ ErrorKind.OutOfMemory → result ≡ Writer }
-    ensures one { IsNoBadLine result }
+    ensures one { IsUnwritten result }
 {
     match error.kind() {
         ErrorKind::OutOfMemory => ScriptFault::NoMemory,

@@ -6,6 +6,7 @@ ghost use Rattle.apd_ctrl.specs.Reading.{outcome as command_outcome};
 ghost use Rattle.apd_script.specs.Lines.{Received, Says, saying_of};
 ghost use Rattle.apd_conf.specs.Confs.{conf_meant};
 ghost use Rattle.apd_script.specs.Refused.{refusal_of};
+ghost use Rattle.apd_script.specs.declared.script.fault.ScriptFault.TheVariants.{NoMemory};
 ghost use Rattle.apd_world.specs.declared.step.Step.TheVariants.{Accept};
 
 use super::fault::{ScriptFault, writer_fault};
@@ -44,7 +45,8 @@ fn refusal_of(told: &Told) -> Option<StoreFault>
 }
 
 impl<D: Disk + Drop, R: Radio> Runner<D, R> {
-    ghost use Rattle.apd_script.specs.Script.{HandsOut, Flushes, IsBegun, IsCarriedOut, IsLineFault, IsMade, IsMeant, IsNoBadLine, IsPlaced, IsReceived, IsRequested, IsRun, IsSaidFault, IsTried, SaysAndIsRun, Starts, confs_of};
+    ghost use Rattle.apd_script.specs.Script.{HandsOut, Flushes, IsBegun, IsCarriedOut, IsMade, IsMeant, IsPlaced, IsReceived, IsRequested, IsRun, IsTried, SaysAndIsRun, Starts, confs_of};
+    ghost use Rattle.apd_script.specs.Faults.{IsEndedBy, IsFlushRefused, IsLineFault, IsNoRefusal, IsSaidFault, IsShort, IsStartFault, IsUndone, IsUnwritten};
 
     /// A script at moment 0, whose world is not started yet. It takes no memory.
     pub fn begin(alloc: Global, world: World<D, R>, spares: Vec<R>) -> Runner<D, R>
@@ -88,7 +90,7 @@ impl<D: Disk + Drop, R: Radio> Runner<D, R> {
     /// Makes a step, which may not lack memory.
     fn make_or_fault(&mut self, step: &Step<'_>) -> Result<Told, ScriptFault>
         ensures ok { OnOk result (IsMade D.model R.model step.now self.old self.new) }
-        ensures err { IfErr result IsNoBadLine }
+        ensures err { IfErr result (λ why. why ≡ NoMemory) }
     {
         match self.make(step) {
             Told::NoMemory => Err(ScriptFault::NoMemory),
@@ -110,7 +112,7 @@ impl<D: Disk + Drop, R: Radio> Runner<D, R> {
         writer: &mut W,
         answers: &[(Recipient, Told)],
     ) -> Result<(), ScriptFault>
-        ensures { IfErr result IsNoBadLine }
+        ensures { IfErr result IsUnwritten }
     {
         write_answers(self.alloc, writer, self.world.confs(), answers).map_err(writer_fault)
     }
@@ -118,7 +120,8 @@ impl<D: Disk + Drop, R: Radio> Runner<D, R> {
     /// Starts the interfaces, and prints what was handed out.
     fn start_and_print<W: Write>(&mut self, writer: &mut W) -> Result<(), ScriptFault>
         ensures ok { OnOk result (Starts D.model R.model self.old self.new) }
-        ensures err { IfErr result IsNoBadLine }
+        ensures err { IfErr result (IsUndone (Starts D.model R.model self.old self.new)
+            (λ why. IsEndedBy D.model R.model why self.old.world self.new.world)) }
     {
         let answers = self.start()?;
         self.print_answers(writer, &answers)
@@ -127,7 +130,7 @@ impl<D: Disk + Drop, R: Radio> Runner<D, R> {
     /// Starts the interfaces of a script, or gives it up.
     pub fn start_or_give_up<W: Write>(self, writer: &mut W) -> Result<Runner<D, R>, ScriptFault>
         ensures ok { IfOk result (λ new. Starts D.model R.model self new) }
-        ensures err { IfErr result IsNoBadLine }
+        ensures err { IfErr result (IsStartFault D.model R.model self) }
     {
         let mut runner = self;
         let done = runner.start_and_print(writer);
@@ -137,7 +140,8 @@ impl<D: Disk + Drop, R: Radio> Runner<D, R> {
     /// Hands out what is settled, and prints it.
     fn hand_out_and_print<W: Write>(&mut self, writer: &mut W) -> Result<(), ScriptFault>
         ensures ok { OnOk result (HandsOut D.model R.model self.old self.new) }
-        ensures err { IfErr result IsNoBadLine }
+        ensures err { IfErr result (IsUndone (HandsOut D.model R.model self.old self.new)
+            (λ why. IsShort D.model R.model why self.old.world self.new.world)) }
     {
         let answers = self.hand_out()?;
         self.print_answers(writer, &answers)
@@ -147,7 +151,8 @@ impl<D: Disk + Drop, R: Radio> Runner<D, R> {
     fn flush_and_print<W: Write>(&mut self, writer: &mut W) -> Result<(), ScriptFault>
         ensures ok { OnOk result (Flushes D.model R.model self.old self.new) }
         ensures refused { IfSome self.old.refusal (λ fault. result ≡ Err (ScriptFault.World (WorldFault.Store fault))) }
-        ensures err { IfErr result IsNoBadLine }
+        ensures err { IfErr result (IsUndone (Flushes D.model R.model self.old self.new)
+            (λ why. IsFlushRefused D.model R.model why self.old self.new.world)) }
     {
         if let Some(fault) = self.refusal {
             return Err(ScriptFault::World(WorldFault::Store(fault)));
@@ -158,7 +163,7 @@ impl<D: Disk + Drop, R: Radio> Runner<D, R> {
 
     /// Prints what the step of a request told.
     fn print_told<W: Write>(&self, writer: &mut W, told: &Told) -> Result<(), ScriptFault>
-        ensures { IfErr result IsNoBadLine }
+        ensures { IfErr result IsUnwritten }
     {
         write_told(self.alloc, writer, told).map_err(writer_fault)
     }
@@ -166,7 +171,8 @@ impl<D: Disk + Drop, R: Radio> Runner<D, R> {
     /// Accepts a request at the moment, and prints the answer.
     fn accept<W: Write>(&mut self, writer: &mut W, input: Input<'_>) -> Result<(), ScriptFault>
         ensures ok { OnOk result (IsMade D.model R.model (Accept input.entry self.old.moment) self.old self.new) }
-        ensures err { IfErr result IsNoBadLine }
+        ensures err { IfErr result (IsUndone (IsMade D.model R.model (Accept input.entry self.old.moment) self.old self.new)
+            IsNoRefusal) }
     {
         let step = Step::Accept(input, self.moment);
         let told = self.make_or_fault(&step)?;
@@ -182,7 +188,7 @@ impl<D: Disk + Drop, R: Radio> Runner<D, R> {
         frame: &[u8],
     ) -> Result<(), ScriptFault>
         ensures ok { OnOk result (IsReceived D.model R.model interface.now frame.now self.old self.new) }
-        ensures err { IfErr result (IsSaidFault number (Received interface.now frame.now) self.old) }
+        ensures err { IfErr result (IsSaidFault D.model R.model number (Received interface.now frame.now) self.old) }
     {
         let Some(conf) = self.world.confs().with_interface(interface) else {
             return Err(ScriptFault::BadLine(number));
@@ -198,7 +204,7 @@ impl<D: Disk + Drop, R: Radio> Runner<D, R> {
         tag: u64,
         told: &Told,
     ) -> Result<(), ScriptFault>
-        ensures { IfErr result IsNoBadLine }
+        ensures { IfErr result IsUnwritten }
     {
         write_command_told(self.alloc, writer, tag, told).map_err(writer_fault)
     }
@@ -211,7 +217,7 @@ impl<D: Disk + Drop, R: Radio> Runner<D, R> {
         step: &Step<'_>,
     ) -> Result<(), ScriptFault>
         ensures ok { OnOk result (IsMade D.model R.model step.now self.old self.new) }
-        ensures err { IfErr result IsNoBadLine }
+        ensures err { IfErr result (IsUndone (IsMade D.model R.model step.now self.old self.new) IsNoRefusal) }
     {
         let told = self.make_or_fault(step)?;
         self.print_command_told(writer, tag, &told)
@@ -224,7 +230,7 @@ impl<D: Disk + Drop, R: Radio> Runner<D, R> {
         tag: u64,
         text: &[u8],
     ) -> Result<(), ScriptFault>
-        ensures { IfErr result IsNoBadLine }
+        ensures { IfErr result IsUnwritten }
     {
         write_reply(self.alloc, writer, tag, text).map_err(writer_fault)
     }
@@ -237,7 +243,7 @@ impl<D: Disk + Drop, R: Radio> Runner<D, R> {
         what: Placed,
     ) -> Result<(), ScriptFault>
         ensures ok { OnOk result (IsPlaced D.model R.model (placing what) self.old self.new) }
-        ensures err { IfErr result IsNoBadLine }
+        ensures err { IfErr result (IsUndone (IsPlaced D.model R.model (placing what) self.old self.new) IsNoRefusal) }
     {
         match what {
             Placed::Ask(query) => {
@@ -261,7 +267,8 @@ impl<D: Disk + Drop, R: Radio> Runner<D, R> {
     ) -> Result<(), ScriptFault>
         ensures ok { OnOk result (IsMeant D.model R.model tag command
             (conf_meant (confs_of self.old) (option_copied interface.entry)) self.old self.new) }
-        ensures err { IfErr result IsNoBadLine }
+        ensures err { IfErr result (IsUndone (IsMeant D.model R.model tag command
+            (conf_meant (confs_of self.old) (option_copied interface.entry)) self.old self.new) IsNoRefusal) }
     {
         let Some(conf) = self.world.confs().for_command(interface) else {
             return self.print_reply(writer, tag, FAIL);
@@ -279,7 +286,8 @@ impl<D: Disk + Drop, R: Radio> Runner<D, R> {
         text: &[u8],
     ) -> Result<(), ScriptFault>
         ensures ok { OnOk result (IsCarriedOut D.model R.model tag (command_outcome text.now) self.old self.new) }
-        ensures err { IfErr result IsNoBadLine }
+        ensures err { IfErr result (IsUndone
+            (IsCarriedOut D.model R.model tag (command_outcome text.now) self.old self.new) IsNoRefusal) }
     {
         match parse_command(text) {
             Parsed::Command { interface, command } => self.carry_out_at(
@@ -293,7 +301,8 @@ impl<D: Disk + Drop, R: Radio> Runner<D, R> {
     /// It is this moment from now on.
     fn tick<W: Write>(&mut self, writer: &mut W, moment: Moment) -> Result<(), ScriptFault>
         ensures ok { OnOk result (IsRequested D.model R.model None (record self.old { moment = moment }) self.new) }
-        ensures err { IfErr result IsNoBadLine }
+        ensures err { IfErr result (IsUndone
+            (IsRequested D.model R.model None (record self.old { moment = moment }) self.new) IsNoRefusal) }
     {
         self.moment = moment;
         self.accept(writer, Input::Tick)
@@ -308,7 +317,7 @@ impl<D: Disk + Drop, R: Radio> Runner<D, R> {
     ) -> Result<(), ScriptFault>
         ensures ok { line.now ≢ Line.Stop → OnOk result (IsRun D.model R.model number
             (saying_of line.now) self.old self.new) }
-        ensures err { IfErr result (IsSaidFault number (saying_of line.now) self.old) }
+        ensures err { IfErr result (IsSaidFault D.model R.model number (saying_of line.now) self.old) }
     {
         match line {
             Line::Received { interface, frame } => {
@@ -334,7 +343,7 @@ impl<D: Disk + Drop, R: Radio> Runner<D, R> {
         line: &Line<'_>,
     ) -> Result<Runner<D, R>, ScriptFault>
         ensures ok { IfOk result (λ new. IsRun D.model R.model number (saying_of line.now) self new) }
-        ensures err { IfErr result (IsSaidFault number (saying_of line.now) self) }
+        ensures err { IfErr result (IsSaidFault D.model R.model number (saying_of line.now) self) }
     {
         match line {
             Line::Stop => self.stop(writer, number),
@@ -349,7 +358,7 @@ impl<D: Disk + Drop, R: Radio> Runner<D, R> {
     /// What a text says as a line.
     fn parse_text<'a>(&self, number: u64, text: &'a [u8]) -> Result<Line<'a>, ScriptFault>
         ensures ok { IfOk result (λ line. Says text.now (saying_of line)) }
-        ensures err { IfErr result (IsLineFault number text.now self.now) }
+        ensures err { IfErr result (IsLineFault D.model R.model number text.now self.now) }
     {
         match parse_line(self.alloc, text)? {
             Some(line) => Ok(line),
@@ -365,7 +374,7 @@ impl<D: Disk + Drop, R: Radio> Runner<D, R> {
         text: &[u8],
     ) -> Result<Runner<D, R>, ScriptFault>
         ensures ok { IfOk result (λ new. SaysAndIsRun D.model R.model number text.now self new) }
-        ensures err { IfErr result (IsLineFault number text.now self) }
+        ensures err { IfErr result (IsLineFault D.model R.model number text.now self) }
     {
         exactly_one_line();
         self.world.stops();

@@ -49,7 +49,8 @@ fn device_of<D: Disk, R: Radio>(world: World<D, R>) -> D
 }
 
 impl<D: Disk + Drop, R: Radio> Runner<D, R> {
-    ghost use Rattle.apd_script.specs.Script.{AreRenewed, IsNoBadLine, IsRestarted, IsSaidFault, Restarts, Stops, confs_of};
+    ghost use Rattle.apd_script.specs.Faults.{IsBeginFault, IsSaidFault, IsUnwritten};
+    ghost use Rattle.apd_script.specs.Script.{AreRenewed, IsRestarted, Restarts, Stops, confs_of};
 
     /// Gives up the world, and begins one of these configurations from what its device reads, with these
     /// slots, at the moment.
@@ -58,7 +59,8 @@ impl<D: Disk + Drop, R: Radio> Runner<D, R> {
             (λ new. confs ≡ confs_of self → map bssid_of slots.items ≡ map (λ conf. conf.bssid) confs
             → IsRestarted D.model R.model self.moment self.world new.world) }
         ensures only { IfOk result (λ new. new ≡ record self { world = new.world; refusal = None }) }
-        ensures err { IfErr result IsNoBadLine }
+        ensures err { IfErr result (λ why. map bssid_of slots.items ≡ map (λ conf. conf.bssid) confs
+            → IsBeginFault D.model R.model (device_of (durable_of self.world)) confs why) }
     {
         an_image_shows_one_state();
         self.world.show_images();
@@ -82,7 +84,7 @@ impl<D: Disk + Drop, R: Radio> Runner<D, R> {
     /// The configurations, and a slot for each with a radio from the front.
     fn fresh_parts(&mut self, number: u64) -> Result<(Confs, Vec<Slot<R>>), ScriptFault>
         ensures ok { IfOk result (λ parts. AreRenewed parts.0 parts.1.items self.old self.new) }
-        ensures err { IfErr result (IsSaidFault number Stop self.old) }
+        ensures err { IfErr result (IsSaidFault D.model R.model number Stop self.old) }
     {
         let confs = self.world.confs().copy(self.alloc)?;
         match fresh_slots(self.alloc, &confs, &mut self.spares)? {
@@ -94,7 +96,7 @@ impl<D: Disk + Drop, R: Radio> Runner<D, R> {
     /// Gives up the world, and begins it anew with a radio from the front for each interface.
     fn begin_anew(self, number: u64) -> Result<Runner<D, R>, ScriptFault>
         ensures ok { IfOk result (λ new. Restarts D.model R.model self new) }
-        ensures err { IfErr result (IsSaidFault number Stop self) }
+        ensures err { IfErr result (IsSaidFault D.model R.model number Stop self) }
     {
         let mut runner = self;
         match runner.fresh_parts(number) {
@@ -105,7 +107,7 @@ impl<D: Disk + Drop, R: Radio> Runner<D, R> {
 
     /// Prints how many station rows the device held.
     fn print_rows<W: Write>(&self, writer: &mut W) -> Result<(), ScriptFault>
-        ensures { IfErr result IsNoBadLine }
+        ensures { IfErr result IsUnwritten }
     {
         write_recovered(self.alloc, writer, self.world.table().rows()).map_err(writer_fault)
     }
@@ -113,7 +115,7 @@ impl<D: Disk + Drop, R: Radio> Runner<D, R> {
     /// The same, with the script handed back. A fault gives it up.
     fn print_rows_or_give_up<W: Write>(self, writer: &mut W) -> Result<Runner<D, R>, ScriptFault>
         ensures ok { IfOk result (λ new. new ≡ self) }
-        ensures err { IfErr result IsNoBadLine }
+        ensures err { IfErr result IsUnwritten }
     {
         let printed = self.print_rows(writer);
         self.keep_if(printed)
@@ -122,7 +124,7 @@ impl<D: Disk + Drop, R: Radio> Runner<D, R> {
     /// Stops and restarts, prints how many station rows the device held, and starts the interfaces.
     pub fn stop<W: Write>(self, writer: &mut W, number: u64) -> Result<Runner<D, R>, ScriptFault>
         ensures ok { IfOk result (λ new. Stops D.model R.model self new) }
-        ensures err { IfErr result (IsSaidFault number Stop self) }
+        ensures err { IfErr result (IsSaidFault D.model R.model number Stop self) }
     {
         let runner = self.begin_anew(number)?.print_rows_or_give_up(writer)?;
         runner.start_or_give_up(writer)

@@ -5,7 +5,7 @@ use Rattle.std.specs.List.{flat_map}
 use Rattle.std.specs.Option.{is_some}
 use Rattle.std.proofs.lemmas.List.{take_all}
 use Rattle.apd_ctrl.proofs.Addresses.{get_some, told_more}
-use Rattle.apd_maintenance.specs.Checking.{line_of}
+use Rattle.apd_maintenance.specs.Checking.{bss_text}
 use Rattle.apd_maintenance.proofs.Printing.{all_bss}
 use Rattle.apd_maintenance.proofs.checking.table_text.Goals as goal
 
@@ -19,11 +19,11 @@ pub loop-place-preserved : goal.loop-place-preserved
 loop-place-preserved c =
     let keys = map.keys c.args.table.now.policies in
     let here : slice_get keys c.loop-place.place ≡ Some c.unwrap-bssid.result = sym c.bss.ensures ∙ c.unwrap-bssid.ensures in
-    c.in_ok-extend_from_slice.ensures.items ∙ ap (λ line. c.loop-place.text.items ++ line) (c.as_slice.ensures.value ∙ c.in_ok-line.ensures) ∙ ap (λ front. front ++ line_of c.args.table.now c.unwrap-bssid.result) c.loop-place.invariant
-    ∙ told_more (line_of c.args.table.now) keys c.loop-place.place c.unwrap-bssid.result here
+    c.in_ok-extend_from_slice.ensures.items ∙ ap (λ lines. c.loop-place.text.items ++ lines) (c.as_slice.ensures.value ∙ c.in_ok-lines.ensures) ∙ ap (λ front. front ++ bss_text c.args.detail c.args.table.now c.unwrap-bssid.result) c.loop-place.invariant
+    ∙ told_more (bss_text c.args.detail c.args.table.now) keys c.loop-place.place c.unwrap-bssid.result here
 
 pub returns : goal.returns
 returns c =
     let keys = map.keys c.args.table.now.policies in
     let done : c.bss_count-place-end.result ≤ c.loop-place.place = c.loop-place-test.false in
-    c.loop-place.invariant ∙ ap (flat_map (line_of c.args.table.now)) (take_all c.loop-place.place keys (omega (arith, all_bss c.args.table.now)))
+    c.loop-place.invariant ∙ ap (flat_map (bss_text c.args.detail c.args.table.now)) (take_all c.loop-place.place keys (omega (arith, all_bss c.args.table.now)))

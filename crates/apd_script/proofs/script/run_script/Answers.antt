@@ -2,8 +2,8 @@ use Rattle.std.proofs.Common.{◌<◌, IfErr, Err, take, sym, ap, subst, ◌∙�
 use Rattle.std.specs.Option.{option_map}
 use Rattle.std.proofs.lemmas.Result.{err_from_is_err_and}
 use Rattle.std.specs.Io.Take.{take_remaining}
-use Rattle.apd_script.specs.Script.{IsFault}
-use Rattle.apd_script.proofs.Running.{begins_so_far, ends_so_far, fails_elsewhere, fails_so_far, further_so_far}
+use Rattle.apd_script.specs.Faults.{IsFault}
+use Rattle.apd_script.proofs.Running.{begins_so_far, ends_so_far, fails_so_far, further_so_far, unread_so_far, unstarted}
 use Rattle.apd_script.proofs.script.run_script.Goals as goal
 use Rattle.apd_script.proofs.script.run_script.Goals.{else-loop-number-test, then-loop-number-test+in-Ok+then-read-eq0}
 
@@ -35,7 +35,7 @@ returns-in-Err-clause-ends g c = rw c.give_up.ensures tt
 
 pub returns-in-Err-clause-fault : goal.returns-in-Err-clause-fault
 returns-in-Err-clause-fault g c =
-    rw c.give_up.ensures (fails_elsewhere g.D.Disk.model g.R.Radio.model c.in-Err.fault (g.I.Read.remaining c.args.reader) c.args.spares.items c.args.world c.in-Err.ensures.err)
+    rw c.give_up.ensures (unread_so_far g.D.Disk.model g.R.Radio.model c.in-Err.fault (g.I.Read.remaining c.args.reader) (take_remaining g.I.Read.remaining c.loop-number.reader) c.loop-number.number c.loop-number.length c.args.spares.items c.args.world c.loop-number.runner c.loop-number.invariant c.in-Err.ensures.err)
 
 pub returns-clause-ends : goal.returns-clause-ends
 returns-clause-ends g c =
@@ -47,3 +47,9 @@ returns-clause-ends g c =
           c.loop-number.number c.loop-number.length c.args.spares.items c.args.world c.loop-number.runner w.next_line.new.text.items
           so_far w.in-Ok.ensures.read (w.in-Ok.ensures.length ∙ w.if-read-eq0.true)
     ])
+
+pub returns-in_err-runner-clause-fault : goal.returns-in_err-runner-clause-fault
+returns-in_err-runner-clause-fault g c =
+    let told = err_from_is_err_and c.from_residual.result c.from_residual.ensures.1 in
+    subst (λ r. IfErr r (IsFault g.D.Disk.model g.R.Radio.model (g.I.Read.remaining c.args.reader) c.args.spares.items c.args.world)) (sym (told.1 ∙ ap Err told.2))
+    (unstarted g.D.Disk.model g.R.Radio.model c.in_err-runner.field-0.0 (g.I.Read.remaining c.args.reader) c.args.spares.items c.args.world c.begin.result c.begin.ensures c.in_err-runner.ensures.err)

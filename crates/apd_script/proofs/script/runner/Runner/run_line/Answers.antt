@@ -9,7 +9,7 @@ returns-in-Ok-clause-ok g c =
 
 pub returns-in-Ok-clause-err : goal.returns-in-Ok-clause-err
 returns-in-Ok-clause-err g c =
-    line_fault c.exactly_one_line.ensures c.do_line.result c.args.number c.args.text.now (saying_of c.in-Ok.line) c.args.self c.in-Ok.ensures.ok c.do_line.ensures.err
+    line_fault g.D.Disk.model g.R.Radio.model c.exactly_one_line.ensures c.do_line.result c.args.number c.args.text.now (saying_of c.in-Ok.line) c.args.self c.in-Ok.ensures.ok c.do_line.ensures.err
 
 pub returns-in-Err-clause-ok : goal.returns-in-Err-clause-ok
 returns-in-Err-clause-ok g c = rw c.give_up.ensures tt

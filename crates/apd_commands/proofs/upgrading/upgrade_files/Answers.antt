@@ -1,0 +1,14 @@
+use Rattle.std.proofs.Common.{ap}
+use Rattle.apd_disk.specs.SystemFile.{FileDisk}
+use Rattle.apd_commands.proofs.upgrading.upgrade_files.Goals as goal
+
+pub returns-in-Ok-clause-made : goal.returns-in-Ok-clause-made
+returns-in-Ok-clause-made g c = (
+  c.knowing.result,
+  ap (λ (d : FileDisk). d.known) c.knowing.ensures,
+  (
+    c.knowing-2.result,
+    ap (λ (d : FileDisk). d.known) c.knowing-2.ensures,
+    (c.in-Ok.ensures.made, c.in-Ok.ensures.made_honest),
+  ),
+)

@@ -1,0 +1,64 @@
+-- A script on the store of a file, from what its world's steps do.
+use Rattle.std.proofs.Common.{◌≡◌, ℕ, List, sym, subst}
+use Rattle.std.specs.Prelude.{Option}
+use Rattle.apd_conf.specs.declared.conf.Conf.{Conf}
+use Rattle.apd_disk.specs.FileCalls.{file_reads}
+use Rattle.apd_disk.specs.FileModel.{file_model}
+use Rattle.apd_disk.specs.SystemFile.{FileDisk}
+use Rattle.apd_disk.specs.declared.record.FileRecord.{FileRecord}
+use Rattle.apd_radio.specs.Model.{RadioModel}
+use Rattle.apd_store.specs.Image.{Shows}
+use Rattle.apd_world.specs.Journal.{Journal, Keeps}
+use Rattle.apd_world.specs.Outside.{device_of}
+use Rattle.apd_world.specs.Proper.{IsProper}
+use Rattle.apd_world.specs.SafelyMade.{LeadsSince}
+use Rattle.apd_world.specs.StandsFor.{StandsFor}
+use Rattle.apd_world.specs.WorldParts.{durable_of}
+use Rattle.apd_world.specs.declared.step.Step.{Step}
+use Rattle.apd_world.specs.declared.step.Told.{Told}
+use Rattle.apd_world.specs.declared.world.World.{World}
+use Rattle.apd_script.specs.Lines.{HaveNoStop}
+use Rattle.apd_script.specs.OnFile.{first_journal, IsFoundInFile, IsRunOnFile}
+use Rattle.apd_script.specs.Script.{IsBegunFrom, IsProperAt, IsRunOn, IsScriptRun}
+use Rattle.apd_script.specs.declared.script.runner.Runner.{Runner}
+use Rattle.apd_script.proofs.Parts.{by_part, stays_proper}
+
+module _ {R : Type 0} (radio : RadioModel R) (known : FileRecord) (confs : List Conf) where
+  -- whatever is run from where a world was begun
+  since : (first : World FileDisk R) → StandsFor first (first_journal radio confs first)
+      → (front : List (List ℕ)) (radios : List R) (last : Runner FileDisk R) → IsScriptRun file_model radio front first radios last → HaveNoStop front
+      → (steps : List Step) × (tolds : List Told) × ((count : ℕ) → LeadsSince file_model radio count steps tolds first last.world (first_journal radio confs first))
+  since first begins front radios last h none =
+      let goes = by_part file_model radio 1 front h.first h.started last h.starts none h.run in
+      let same : h.first.world ≡ first = h.begun.world in
+      let stands : StandsFor h.first.world (first_journal radio confs first) = subst (λ (w : World FileDisk R). StandsFor w (first_journal radio confs first)) (sym same) begins in (
+        goes.steps,
+        goes.tolds,
+        subst (λ (w : World FileDisk R). (count : ℕ) → LeadsSince file_model radio count goes.steps goes.tolds w last.world (first_journal radio confs first)) same
+            (goes.made.leads (first_journal radio confs first) stands),
+      )
+
+  found : (file : FileDisk) (first : World FileDisk R) → file.known ≡ known → IsBegunFrom file_model radio (record { 0 = 0 }) file confs first
+      → file_model.honest (device_of (durable_of first)) → IsFoundInFile radio known confs first
+  found file first is begun honest = record {
+    shown = subst (λ (k : FileRecord). Shows (file_reads k.held k.calls) (durable_of first).core.settled) is (begun.shown honest);
+    proper = begun.proper honest;
+    begins = begun.begins;
+    kept = since first begun.begins;
+  }
+
+  pub runs_on_file : (stops : ℕ) (file : FileDisk) (script : Option (List ℕ)) (new : World FileDisk R) → file.known ≡ known → IsRunOn file_model radio stops file confs script new
+      → (IsProper file_model (durable_of new)
+      → (j : Journal) → StandsFor new j → (image : List ℕ) → file_model.may_leave (device_of (durable_of new)) image → Keeps j j image)
+      → IsRunOnFile radio stops known confs script new
+  runs_on_file stops file script new is run keeps = record {
+    file = file;
+    of_record = is;
+    run = run;
+    found = found file run.first is run.begun;
+    last = λ honest each.
+        let ends = run.ends in
+        let there : IsProperAt file_model radio ends.last = stays_proper file_model radio ends.texts run.first run.radios ends.last ends.run each (run.begun.proper honest) in
+        let proper : IsProper file_model (durable_of new) = subst (λ (w : World FileDisk R). IsProper file_model (durable_of w)) (sym ends.world) there in
+        record { proper = proper; kept = keeps proper };
+  }
