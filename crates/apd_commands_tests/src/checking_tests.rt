@@ -1,8 +1,8 @@
 use crate::expect::{expect, expect_file, hold, protect, read, remove, write};
 use crate::scripting_tests::{
-    JOINS, add_fault, expect_script, make_old_store, make_store, make_store_behind,
+    JOINS, add_fault, expect_script, make_old_store, make_store, make_store_behind, put,
 };
-use apd_commands::check_and_print;
+use apd_commands::{ProgramFault, check_and_print, command, run_check_command};
 use apd_conf::Confs;
 use apd_script::{read_configurations, run_on_store};
 use apd_serve::{Access, open_disk};
@@ -20,8 +20,12 @@ pub fn check_output(rt: &(impl Abort + Files<File = File> + AllocGlobal), name: 
     out
 }
 
-// Expects that it prints this.
-fn expect_check(rt: &(impl Abort + Files<File = File> + AllocGlobal), name: &str, wanted: &[u8]) {
+/// Expects that it prints this.
+pub fn expect_check(
+    rt: &(impl Abort + Files<File = File> + AllocGlobal),
+    name: &str,
+    wanted: &[u8],
+) {
     let out = check_output(rt, name);
     expect(rt, out.as_slice(), wanted);
 }
@@ -71,16 +75,89 @@ const LISTS: &[u8] =
 const TWO_LINES: &[u8] =
     b"bss 02:00:00:00:00:01 mode 0 max 2007 stations 0 accept 1 deny 2\nbss 02:00:00:00:00:02 mode 0 max 2007 stations 1 accept 0 deny 1\n";
 
+/// Makes the file of a name a store with these.
+fn make_store_of_two(rt: &(impl Abort + Files<File = File> + AllocGlobal), name: &str) {
+    let alloc = rt.alloc();
+    make_store(rt, name);
+    let confs = two_interfaces(rt);
+    let disk = open_disk(rt, name, Access::Write).expect(rt, "a store that can be opened");
+    let has_run = run_on_store(alloc, disk, confs, LISTS, &mut Vec::new(alloc)).is_ok();
+    hold(rt, has_run);
+}
+
 #[test]
 fn each_interface_has_a_line_in_order(rt: HostRuntime) {
-    let alloc = rt.alloc();
     let name = "store_of_two_of_a_check_test";
-    make_store(&rt, name);
-    let confs = two_interfaces(&rt);
-    let disk = open_disk(&rt, name, Access::Write).expect(&rt, "a store that can be opened");
-    let has_run = run_on_store(alloc, disk, confs, LISTS, &mut Vec::new(alloc)).is_ok();
-    hold(&rt, has_run);
+    make_store_of_two(&rt, name);
     expect_check(&rt, name, TWO_LINES);
+    remove(&rt, name);
+}
+
+/// Why `apd check --stations` of the file of a name fails, if it does.
+fn stations_fault_of(
+    rt: &(impl Abort + Files<File = File> + AllocGlobal),
+    name: &str,
+    out: &mut Vec<u8>,
+) -> Option<ProgramFault> {
+    let command = command(rt.alloc()).expect(rt, "memory");
+    let words = ["apd", "check", "--stations", name];
+    let matches = command.try_get_matches_from(&words).ok();
+    let matches = matches.expect(rt, "words that are right");
+    let check = matches.subcommand_matches("check");
+    let told = run_check_command(rt, check.expect(rt, "the words of a check"), out);
+    drop(matches);
+    told.err()
+}
+
+/// Expects that it prints this, with its fault as the program prints it.
+fn expect_stations(
+    rt: &(impl Abort + Files<File = File> + AllocGlobal),
+    name: &str,
+    wanted: &[u8],
+) {
+    let mut out = Vec::new(rt.alloc());
+    if let Some(fault) = stations_fault_of(rt, name, &mut out) {
+        add_fault(rt, &fault, &mut out);
+    }
+    expect(rt, out.as_slice(), wanted);
+}
+
+const ONE_ASSOCIATED: &[u8] =
+    b"bss 02:00:00:00:00:01 mode 0 max 2007 stations 1 accept 0 deny 0\nstation 02:00:00:00:00:aa associated 1\n";
+
+const TWO_WITH_ROWS: &[u8] =
+    b"bss 02:00:00:00:00:01 mode 0 max 2007 stations 0 accept 1 deny 2\naccept 02:00:00:00:00:cc\ndeny 02:00:00:00:00:dd\ndeny 02:00:00:00:00:ee\nbss 02:00:00:00:00:02 mode 0 max 2007 stations 1 accept 0 deny 1\nstation 02:00:00:00:00:bb authenticated\ndeny 02:00:00:00:00:dd\n";
+
+#[test]
+fn stations_and_addresses_of_lists_are_told_besides(rt: HostRuntime) {
+    let name = "store_of_a_stations_test";
+    make_store(&rt, name);
+    expect_stations(&rt, name, b"");
+    make_store_behind(&rt, name, JOINS);
+    let made = read(&rt, name);
+    expect_stations(&rt, name, ONE_ASSOCIATED);
+    expect_file(&rt, name, made.as_slice());
+    make_store_of_two(&rt, name);
+    expect_stations(&rt, name, TWO_WITH_ROWS);
+    remove(&rt, name);
+}
+
+#[test]
+fn no_station_of_what_is_refused_is_told(rt: HostRuntime) {
+    let name = "refused_store_of_a_stations_test";
+    let refused: &[u8] = b"apd: cannot read refused_store_of_a_stations_test\n";
+    let _ = fs::remove_file(&rt, name);
+    expect_stations(&rt, name, refused);
+    write(&rt, name, b"");
+    expect_stations(&rt, name, NOT_A_STORE);
+    make_store_behind(&rt, name, JOINS);
+    let mut bytes = read(&rt, name);
+    put(&mut bytes, 64, &[0]);
+    write(&rt, name, bytes.as_slice());
+    expect_stations(&rt, name, DAMAGED);
+    let serving = open_disk(&rt, name, Access::Write).expect(&rt, "a store that can be opened");
+    expect_stations(&rt, name, refused);
+    drop(serving);
     remove(&rt, name);
 }
 

@@ -8,6 +8,8 @@ mod expect;
 #[cfg(test)]
 mod formatting_tests;
 #[cfg(test)]
+mod missing_tests;
+#[cfg(test)]
 mod running_tests;
 #[cfg(test)]
 mod scripting_tests;

@@ -92,7 +92,7 @@ pub fn expect_script(
 pub const JOINS: &[u8] =
     b"rx wlan0 b00000000200000000010200000000aa0200000000011000000001000000\nflush\nrx wlan0 000000000200000000010200000000aa020000000001200031040a0000036e6574010482848b96\nflush\n";
 
-const JOINED: &[u8] =
+pub const JOINED: &[u8] =
     b"entry 2\nwlan0 tx b00000000200000000aa0200000000010200000000010000000002000000\nentry 3\nwlan0 install 02:00:00:00:00:aa 1\nwlan0 tx 100000000200000000aa02000000000102000000000100000100000001c0010482848b96\n";
 
 const SHOWN: &[u8] =
@@ -125,7 +125,7 @@ fn a_store_keeps_the_station_for_the_next_run(rt: HostRuntime) {
 
 /// What neither gives nor takes a byte.
 #[derive(Drop)]
-struct Closed;
+pub struct Closed;
 
 impl Read for Closed {
     fn read(&mut self, _buf: &mut [u8]) -> io::Result<usize> {
@@ -193,8 +193,9 @@ fn a_script_that_is_given_up_leaves_the_station(rt: HostRuntime) {
     let name = "store_given_up_of_a_script_test";
     make_store_behind(&rt, name, JOINS);
     give_up_streams(&rt, name);
-    // Two calls of the recovery, four of the start, and the first two of a commit; and the first of the recovery.
-    give_up_device(&rt, name, 8);
+    // Two calls of the recovery, none of the start, which has nothing to store, and the first two of a commit; and the
+    // first of the recovery.
+    give_up_device(&rt, name, 4);
     give_up_device(&rt, name, 0);
     remove(&rt, name);
 }

@@ -27,7 +27,7 @@ fn work<L: Ledger, W: Wait + Clock, D: Disk>(
     shared: &Shared<L>,
     committer: &mut Committer<D>,
 ) {
-    commit_all(rt, shared, committer, &NoGate);
+    let _ending = commit_all(rt, shared, committer, &NoGate);
 }
 
 // Whether a station is there, as a new seat is told.

@@ -7,7 +7,9 @@ use crate::common::{
 use crate::expect::expect;
 use apd_base::Moment;
 use apd_core::{Accepted, Input};
-use apd_desk::{NoGate, Port, PortFault, Seat, Shared, control_worker, flush_worker, tick_worker};
+use apd_desk::{
+    Gate, NoGate, Place, Port, PortFault, Seat, Shared, control_worker, flush_worker, tick_worker,
+};
 use apd_disk::{Disk, FuseDisk, MemDisk};
 use apd_flusher::{Flusher, Phase};
 use apd_radio::Sim;
@@ -16,6 +18,7 @@ use std::alloc::Global;
 use std::marker::Brand;
 use std::net::Net;
 use std::sync::Wait;
+use std::sync::atomic::{AtomicU64, Ordering};
 use std::sync::ledger::{Blank, Ledger};
 use std::thread::join;
 use std::time::Clock;
@@ -200,4 +203,64 @@ fn a_device_that_fails(rt: HostRuntime) {
         let closed = fails::<Brand, _>(&rt, rt.alloc(), calls, Blank::new(65_536));
         expect(&rt, (calls, closed), (calls, Some((4, 0))));
     }
+}
+
+/// A gate at which an entry is asked for behind each turn of the flusher.
+#[derive(Drop)]
+struct Asking<'a, L: Ledger, W> {
+    rt: &'a W,
+    shared: &'a Shared<L>,
+    // How often it was told as stopped.
+    stopped: AtomicU64,
+}
+
+impl<L: Ledger, W: Wait> Asking<'_, L, W> {
+    fn ask(&self) {
+        if let Some(seat) = stopped_seat(self.rt, self.shared) {
+            drop(seat);
+            self.stopped.fetch_add(1, Ordering::SeqCst);
+        }
+    }
+}
+
+impl<L: Ledger, W: Wait> Gate for Asking<'_, L, W> {
+    fn pass(&self, at: Place) {
+        if at == Place::AfterCall {
+            self.ask();
+        }
+    }
+}
+
+// How many requests are stopped at the gate behind the call at which a device fails.
+fn stops_at_the_gate<L: Ledger, W: Wait + Clock>(
+    rt: &W,
+    alloc: Global,
+    shared: &Shared<L>,
+) -> Option<u64> {
+    let gate = Asking {
+        rt,
+        shared,
+        stopped: AtomicU64::new(0),
+    };
+    let flusher = flush_worker(rt, shared, failing_flusher(alloc, 0)?, &gate);
+    drop(flusher);
+    Some(gate.stopped.load(Ordering::SeqCst))
+}
+
+// The same, of a new shared core.
+fn stops<L: Ledger, W: Wait + Clock>(rt: &W, alloc: Global, blank: Blank) -> Option<u64>
+    requires name { blank.name ≡ L.name }
+    requires parts { blank.parts ≡ L.parts }
+    requires all { blank.parts ≡ 65536 }
+{
+    let shared: Shared<L> = share(started_core(alloc), blank)?;
+    let stopped = stops_at_the_gate(rt, alloc, &shared);
+    drop(shared);
+    stopped
+}
+
+#[test]
+fn nothing_is_accepted_behind_the_fault(rt: HostRuntime) {
+    let stopped = stops::<Brand, _>(&rt, rt.alloc(), Blank::new(65_536));
+    expect(&rt, stopped, Some(1));
 }

@@ -20,6 +20,8 @@ mod fault_tests;
 #[cfg(test)]
 mod fed;
 #[cfg(test)]
+mod flaky;
+#[cfg(test)]
 mod hold;
 #[cfg(test)]
 mod memory_tests;
@@ -27,6 +29,8 @@ mod memory_tests;
 mod operator;
 #[cfg(test)]
 mod radio_tests;
+#[cfg(test)]
+mod resting_tests;
 #[cfg(test)]
 mod seat_tests;
 #[cfg(test)]

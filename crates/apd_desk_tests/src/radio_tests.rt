@@ -3,13 +3,14 @@ ghost use Rattle.std.specs.Prelude.{◌≡◌};
 
 use crate::common::{
     ASSOCIATION, Still, WLAN0, associated_core, authentication, commit, memory_flusher,
-    serve_radio, share, started_core,
+    serve_radio, settle, share, started_core,
 };
 use crate::expect::expect;
 use crate::staged::{At, Log, Short, Staged};
 use apd_base::Moment;
 use apd_core::{Accepted, Core, Input};
 use apd_desk::{Clock, Gate, NoGate, Seat, Shared};
+use apd_mlme::{Out, Recipient};
 use apd_radio::{Failing, Radio, Recording, Sim};
 use apd_slot::Slot;
 use std::alloc::Global;
@@ -256,4 +257,60 @@ fn log_both<L: Ledger, W: Wait + time::Clock + Net>(
 fn a_gate_is_passed_at_each_entry_and_each_turn(rt: HostRuntime) {
     let logged = gate_log::<Brand, _>(&rt, rt.alloc(), Blank::new(65_536));
     expect(&rt, logged, Some(0x23_baba_baba));
+}
+
+/// The frame by which a station asks which networks are there, whatever their names.
+const PROBE: [u8; 32] = [
+    0x40, 0, 0, 0, 2, 0, 0, 0, 0, 1, 2, 0, 0, 0, 0, 0xaa, 2, 0, 0, 0, 0, 1, 0x10, 0, 0, 0, 1, 4,
+    0x82, 0x84, 0x8b, 0x96,
+];
+
+/// The first byte of a Probe Response (9.2.4.1.3).
+const PROBE_RESPONSE: u8 = 0x50;
+
+// Whether these outs are one frame, a Probe Response.
+fn is_probe_answer(outs: &[Out]) -> bool {
+    match outs {
+        [Out::Frame(frame)] => frame.as_slice().first() == Some(&PROBE_RESPONSE),
+        _ => false,
+    }
+}
+
+// Whether the answer to that frame is handed out once it is committed.
+fn commits_probe<L: Ledger, W: Wait + time::Clock + Net>(
+    rt: &W,
+    alloc: Global,
+    shared: &Shared<L>,
+    log: &Log,
+) -> Option<bool> {
+    let flusher = memory_flusher(alloc)?;
+    let mut seat = serve(rt, alloc, shared, Sim::new(alloc), &[&PROBE], &Still, log)?;
+    commit(rt, shared, flusher, log);
+    let outs = shared.collect(rt, &mut seat, Recipient::Radio(WLAN0)).ok()?;
+    Some(is_probe_answer(&outs))
+}
+
+// The same, and what passed the gate.
+fn log_probe<L: Ledger, W: Wait + time::Clock + Net>(
+    rt: &W,
+    alloc: Global,
+    blank: Blank,
+) -> Option<(bool, u64)>
+    requires name { blank.name ≡ L.name }
+    requires parts { blank.parts ≡ L.parts }
+    requires all { blank.parts ≡ 65536 }
+{
+    let core = settle(alloc, started_core(alloc)?);
+    let shared: Shared<L> = share(core, blank)?;
+    let log = Log::new();
+    let answered = commits_probe(rt, alloc, &shared, &log);
+    drop(shared);
+    Some((answered?, log.digits()))
+}
+
+// The entry 2 alone: no call of the device.
+#[test]
+fn what_changes_nothing_makes_no_call(rt: HostRuntime) {
+    let found = log_probe::<Brand, _>(&rt, rt.alloc(), Blank::new(65_536));
+    expect(&rt, found, Some((true, 2)));
 }

@@ -7,13 +7,15 @@ use crate::common::{
 };
 use crate::expect::expect;
 use crate::fed::{Asks, Fed, Frame, Stage, When};
+use crate::flaky::{Calls, Flaky};
 use crate::operator::replies_to;
 use apd_base::{Addr, Bssid};
 use apd_ctrl::Query;
 use apd_desk::{NoGate, Seat, Shared};
 use apd_disk::MemDisk;
 use apd_flusher::Flusher;
-use apd_radio::{Failing, Sim};
+use apd_mlme::Out;
+use apd_radio::Sim;
 use apd_slot::Slot;
 use std::alloc::Global;
 use std::marker::Brand;
@@ -29,7 +31,7 @@ const LOOKS: u64 = 20_000;
 /// As many calls as no test makes.
 const MANY: u64 = 1_000;
 
-type Driver<'a> = Fed<'a, Failing<Sim>>;
+type Driver<'a> = Fed<'a, Flaky<Sim>>;
 
 /// What the radio receives that fails, where it has a spare.
 const BEFORE: &[Frame] = &[
@@ -64,16 +66,47 @@ const BESIDE: &[Frame] = &[
     Frame(Asks::Authentication, 0xe2, When::Told),
 ];
 
+/// What a radio receives that serves all.
+const ALL: &[Frame] = &[
+    Frame(Asks::Authentication, 0xaa, When::AtOnce),
+    Frame(Asks::Association, 0xaa, When::AtOnce),
+    Frame(Asks::Authentication, 0xbb, When::AtOnce),
+    Frame(Asks::Association, 0xbb, When::AtOnce),
+    Frame(Asks::Authentication, 0xc1, When::Told),
+    Frame(Asks::Authentication, 0xc2, When::Told),
+];
+
+/// What one receives that fails behind a second station's authentication, and what its spare receives.
+const BETWEEN: &[Frame] = &[
+    Frame(Asks::Authentication, 0xbb, When::AtOnce),
+    Frame(Asks::Association, 0xbb, When::AtOnce),
+];
+
+const LAST: &[Frame] = &[
+    Frame(Asks::Authentication, 0xc1, When::Told),
+    Frame(Asks::Authentication, 0xc2, When::Told),
+];
+
 /// What is asked once all that has come.
 const ASKED: &[&[u8]] = &[b"IFNAME=wlan0 STATUS", b"IFNAME=wlan1 STATUS", b"PING"];
 
-/// A spare radio: how many calls it passes on before it fails, and what it receives.
+/// A spare radio: how many calls it passes on before it fails for good, and what it receives.
 #[derive(Clone, Copy)]
 struct Spare(u64, &'static [Frame]);
 
-/// What the first radio receives, its spares, and how the replies begin.
+/// How the first radio is when it is handed to its worker, and how often its driver fails then.
+#[derive(Clone, Copy)]
+enum Begins {
+    /// Up; it sends its first answer, and fails when the station is installed.
+    Up(u64),
+    /// Down; it fails at once.
+    Down(u64),
+}
+
+/// How the first radio begins, what it receives, its spares, and how the replies begin.
 #[derive(Clone, Copy)]
 struct Scene {
+    begins: Begins,
     frames: &'static [Frame],
     spares: &'static [Spare],
     replies: &'static [&'static [u8]],
@@ -254,17 +287,17 @@ fn serve<'a, L: Ledger, W: Wait + Clock + Net>(
     seen
 }
 
-// A radio at the BSSID that ends by this byte, which passes so many calls on, and fails then.
+// A radio at the BSSID that ends by this byte, by such a driver.
 fn driver<'a>(
     alloc: Global,
-    calls: u64,
+    calls: Calls,
     bssid: u8,
     stage: &'a Stage,
     frames: &'static [Frame],
 ) -> Driver<'a> {
     Fed::new(
         alloc,
-        Failing::new(Sim::new(alloc), calls),
+        Flaky::new(Sim::new(alloc), calls),
         bssid,
         stage,
         frames,
@@ -274,13 +307,40 @@ fn driver<'a>(
 // The spares of the first radio.
 fn spares<'a>(alloc: Global, stage: &'a Stage, scene: Scene) -> Option<Vec<Driver<'a>>> {
     let mut spares = Vec::new(alloc);
-    for Spare(calls, frames) in scene.spares {
-        spares.push(driver(alloc, *calls, 1, stage, frames)).ok()?;
+    for Spare(passes, frames) in scene.spares {
+        let calls = Calls {
+            passes: *passes,
+            faults: MANY,
+        };
+        spares.push(driver(alloc, calls, 1, stage, frames)).ok()?;
     }
     Some(spares)
 }
 
-// It sends its first answer, and fails when the station is installed.
+// A slot at which the device fails so often, and which is up then.
+fn slot_up<'a>(alloc: Global, faults: u64, stage: &'a Stage, scene: Scene) -> Slot<Driver<'a>> {
+    let calls = Calls { passes: 1, faults };
+    Slot::new(alloc, driver(alloc, calls, 1, stage, scene.frames), WLAN0)
+}
+
+// One at which the device failed once more before, when a station was removed that isn't there.
+fn slot_down<'a>(alloc: Global, faults: u64, stage: &'a Stage, scene: Scene) -> Slot<Driver<'a>> {
+    let calls = Calls {
+        passes: 0,
+        faults: faults.saturating_add(1),
+    };
+    let mut slot = Slot::new(alloc, driver(alloc, calls, 1, stage, scene.frames), WLAN0);
+    let _down = slot.apply(&Out::Remove(station(0xaa)));
+    slot
+}
+
+fn first_slot<'a>(alloc: Global, stage: &'a Stage, scene: Scene) -> Slot<Driver<'a>> {
+    match scene.begins {
+        Begins::Up(faults) => slot_up(alloc, faults, stage, scene),
+        Begins::Down(faults) => slot_down(alloc, faults, stage, scene),
+    }
+}
+
 fn serve_first<L: Ledger, W: Wait + Clock + Net>(
     rt: &W,
     alloc: Global,
@@ -289,7 +349,7 @@ fn serve_first<L: Ledger, W: Wait + Clock + Net>(
     scene: Scene,
 ) -> Option<Seen> {
     let (seat, spares) = shared.seat(rt).zip(spares(alloc, stage, scene))?;
-    let slot = Slot::new(alloc, driver(alloc, 1, 1, stage, scene.frames), WLAN0);
+    let slot = first_slot(alloc, stage, scene);
     let stations = [station(0xaa), station(0xbb)];
     Some(serve(rt, alloc, shared, seat, slot, spares, stations))
 }
@@ -301,7 +361,11 @@ fn serve_other<L: Ledger, W: Wait + Clock + Net>(
     stage: &Stage,
 ) -> Option<Seen> {
     let seat = shared.seat(rt)?;
-    let slot = Slot::new(alloc, driver(alloc, MANY, 2, stage, BESIDE), WLAN1);
+    let calls = Calls {
+        passes: MANY,
+        faults: 0,
+    };
+    let slot = Slot::new(alloc, driver(alloc, calls, 2, stage, BESIDE), WLAN1);
     let (none, stations) = (Vec::new(alloc), [station(0xdd), station(0xe2)]);
     Some(serve(rt, alloc, shared, seat, slot, none, stations))
 }
@@ -411,6 +475,7 @@ const MENDED: Found = Found {
 
 fn with_spares(spares: &'static [Spare]) -> Scene {
     Scene {
+        begins: Begins::Up(MANY),
         frames: BEFORE,
         spares,
         replies: &[b"state=ENABLED\n", b"state=ENABLED\n", b"PONG\n"],
@@ -443,6 +508,7 @@ fn spares_are_tried_in_order(rt: HostRuntime) {
 #[test]
 fn a_slot_without_a_spare_stays_down_after_three_tries(rt: HostRuntime) {
     let scene = Scene {
+        begins: Begins::Up(MANY),
         frames: ALONE,
         spares: &[],
         replies: &[b"state=DISABLED\n", b"state=ENABLED\n", b"PONG\n"],
@@ -462,4 +528,53 @@ fn a_slot_without_a_spare_stays_down_after_three_tries(rt: HostRuntime) {
         associations: [0, 1],
     };
     expect(&rt, found, Some(wanted));
+}
+
+// The spare that takes its place sends three frames and answers, and fails when the second station is installed. Taken
+// down are the radio that fails, as its slot is made and as it comes back, the spare as it is tried and as it comes
+// back, and the one that takes its place.
+#[test]
+fn a_spare_that_fails_has_a_spare(rt: HostRuntime) {
+    let scene = with_spares(&[Spare(3, BETWEEN), Spare(MANY, LAST)]);
+    let found = find::<Brand, _>(&rt, rt.alloc(), Blank::new(65_536), scene);
+    let wanted = Found {
+        downs: 3 + 2,
+        ..MENDED
+    };
+    expect(&rt, found, Some(wanted));
+}
+
+// What is found without a spare where the radio serves again at the try of this number.
+fn served_again(tries: usize) -> Found {
+    Found {
+        downs: tries.saturating_add(1),
+        ..MENDED
+    }
+}
+
+fn alone(begins: Begins) -> Scene {
+    Scene {
+        begins,
+        frames: ALL,
+        spares: &[],
+        replies: &[b"state=ENABLED\n", b"state=ENABLED\n", b"PONG\n"],
+    }
+}
+
+// What stands behind the out at which it failed is sent.
+#[test]
+fn a_slot_that_is_given_anew_what_is_wanted_is_up(rt: HostRuntime) {
+    for (faults, tries) in [(1, 1), (3, 3)] {
+        let scene = alone(Begins::Up(faults));
+        let found = find::<Brand, _>(&rt, rt.alloc(), Blank::new(65_536), scene);
+        expect(&rt, (faults, found), (faults, Some(served_again(tries))));
+    }
+}
+
+// What the radio is given anew there is nothing: its try fails at no station.
+#[test]
+fn a_slot_that_is_down_at_first_is_mended(rt: HostRuntime) {
+    let scene = alone(Begins::Down(0));
+    let found = find::<Brand, _>(&rt, rt.alloc(), Blank::new(65_536), scene);
+    expect(&rt, found, Some(served_again(1)));
 }

@@ -122,7 +122,10 @@ pub(crate) fn calls_after(
 }
 
 // The table that a device shows, or why there is none.
-pub(crate) fn table_of(alloc: Global, disk: MemDisk) -> Result<Table, StoreFault> {
+pub(crate) fn table_of<D: Disk>(alloc: Global, disk: D) -> Result<Table, StoreFault>
+where
+    D: Drop,
+{
     match recover(alloc, disk) {
         Ok((_store, table)) => Ok(table),
         Err((_disk, fault)) => Err(fault),
@@ -132,7 +135,10 @@ pub(crate) fn table_of(alloc: Global, disk: MemDisk) -> Result<Table, StoreFault
 // What the table of a device says of the station's BSSID and of the station, or why there is none.
 pub(crate) type Seen = Result<(Option<(u8, u16)>, Option<Station>), StoreFault>;
 
-pub(crate) fn look(alloc: Global, disk: MemDisk) -> Seen {
+pub(crate) fn look<D: Disk>(alloc: Global, disk: D) -> Seen
+where
+    D: Drop,
+{
     let table = table_of(alloc, disk)?;
     Ok((table.policy(BSSID), table.get(BSSID, STATION)))
 }

@@ -271,7 +271,7 @@ fn read_inside<D: Disk>(rt: &impl Abort, disk: &mut D, at: usize, bytes: &mut [u
 }
 
 // Expects these bytes at a place of a disk that has so many in all.
-fn expect_bytes<D: Disk>(
+pub(crate) fn expect_bytes<D: Disk>(
     rt: &(impl Abort + AllocGlobal),
     disk: &mut D,
     (length, at): (usize, usize),

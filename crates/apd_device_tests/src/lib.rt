@@ -13,6 +13,8 @@ mod expect;
 #[cfg(test)]
 mod failing_tests;
 #[cfg(test)]
+mod file_tests;
+#[cfg(test)]
 mod flusher_tests;
 #[cfg(test)]
 mod journal_tests;
@@ -34,6 +36,8 @@ mod slot_memory_tests;
 mod slot_samples;
 #[cfg(test)]
 mod slot_tests;
+#[cfg(test)]
+mod store_none_tests;
 #[cfg(test)]
 mod store_tests;
 #[cfg(test)]

@@ -4,7 +4,7 @@ use crate::expect::expect;
 use apd_mlme::Out;
 use apd_radio::Radio;
 use apd_record::Change;
-use apd_slot::{Slot, SlotFault};
+use apd_slot::{Mending, Slot, SlotFault};
 use apd_table::{Table, TableFault};
 use std::alloc::{AllocError, Global};
 use std::process::Abort;
@@ -56,6 +56,14 @@ pub(crate) fn resync<R: Radio>(slot: &mut Slot<R>) -> Result<(), SlotFault> {
 
 pub(crate) fn replace<R: Radio>(slot: &mut Slot<R>, radio: R) -> Result<R, (R, SlotFault)> {
     slot.replace(radio)
+}
+
+pub(crate) fn begin_mending<R: Radio>(mending: &mut Mending<R>, slot: &mut Slot<R>) {
+    mending.begin(slot);
+}
+
+pub(crate) fn go_on_mending<R: Radio>(mending: &mut Mending<R>, slot: &mut Slot<R>) -> bool {
+    mending.go_on(slot)
 }
 
 pub(crate) fn change(table: &mut Table, change: &Change) -> Result<(), TableFault> {

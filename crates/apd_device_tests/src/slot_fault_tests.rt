@@ -1,9 +1,10 @@
 //! Slots whose driver fails: the stations that are wanted go on to the same radio, or to another one.
 use crate::expect::expect;
-use crate::slot_calls::{apply, replace, resync};
+use crate::slot_calls::{apply, begin_mending, go_on_mending, replace, resync};
 use crate::slot_samples::{FIRST, SECOND, WLAN0, install, replace_radio};
+use apd_mlme::Out;
 use apd_radio::{Failing, Radio, Sim};
-use apd_slot::{Slot, SlotFault};
+use apd_slot::{Mending, Slot, SlotFault};
 use std::alloc::Global;
 use std::process::Abort;
 
@@ -101,4 +102,54 @@ fn a_radio_that_fails_at_its_second_station_is_handed_back(rt: HostRuntime) {
     install_both(&rt, &mut slot, WENT_DOWN);
     refuse_radio(&rt, &mut slot, failing_radio(alloc, 1));
     take_radio(&rt, &mut slot, failing_radio(alloc, 2));
+}
+
+/// Spares that pass so many calls on.
+fn mending(rt: &impl Abort, alloc: Global, calls: &[u64]) -> Mending<Failing<Sim>> {
+    let mut spares = Vec::new(alloc);
+    for count in calls {
+        spares
+            .push(failing_radio(alloc, *count))
+            .expect(rt, "memory");
+    }
+    Mending::new(spares)
+}
+
+/// Has a slot's second station go, at which its radio fails.
+fn fail_at_removal<R: Radio>(rt: &impl Abort, slot: &mut Slot<R>) {
+    expect(rt, apply(slot, &Out::Remove(SECOND)), WENT_DOWN);
+    let station = (slot.is_up(), slot.wanted(FIRST), slot.wanted(SECOND));
+    expect(rt, station, (false, Some(1), None));
+}
+
+/// At the first fault the second of three spares serves, for its two stations; it fails at its third call, and then the
+/// third serves. No try is left to a radio that serves.
+#[test]
+fn each_fault_takes_the_next_spare(rt: HostRuntime) {
+    let alloc = rt.alloc();
+    let mut slot = failing_slot(alloc, 1);
+    let mut mending = mending(&rt, alloc, &[0, 2, 1]);
+    install_both(&rt, &mut slot, WENT_DOWN);
+    begin_mending(&mut mending, &mut slot);
+    expect_both(&rt, &slot);
+    expect(&rt, go_on_mending(&mut mending, &mut slot), false);
+    fail_at_removal(&rt, &mut slot);
+    begin_mending(&mut mending, &mut slot);
+    let station = (slot.is_up(), slot.installed(FIRST), slot.installed(SECOND));
+    expect(&rt, station, (true, Some(1), None));
+    expect(&rt, go_on_mending(&mut mending, &mut slot), false);
+}
+
+/// A radio that fails for good is given anew three times what is wanted.
+#[test]
+fn a_slot_without_a_spare_has_three_tries(rt: HostRuntime) {
+    let alloc = rt.alloc();
+    let mut slot = failing_slot(alloc, 1);
+    let mut mending = mending(&rt, alloc, &[]);
+    install_both(&rt, &mut slot, WENT_DOWN);
+    begin_mending(&mut mending, &mut slot);
+    for left in [true, true, true, false] {
+        expect(&rt, go_on_mending(&mut mending, &mut slot), left);
+        expect_down(&rt, &slot);
+    }
 }

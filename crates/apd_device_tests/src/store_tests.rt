@@ -48,7 +48,7 @@ fn next_call<D: Disk>(store: &mut Store<D>) -> Result<bool, StoreFault> {
 }
 
 // Makes as many calls.
-fn advance<D: Disk>(store: &mut Store<D>, calls: u64) -> Result<(), StoreFault> {
+pub(crate) fn advance<D: Disk>(store: &mut Store<D>, calls: u64) -> Result<(), StoreFault> {
     for _call in 0..calls {
         next_call(store)?;
     }
@@ -69,7 +69,7 @@ fn begin_policy<D: Disk>(rt: &impl Abort, alloc: Global, store: &mut Store<D>) {
 }
 
 // Begins an authenticated station as the batch 2.
-fn begin_station<D: Disk>(rt: &impl Abort, alloc: Global, store: &mut Store<D>) {
+pub(crate) fn begin_station<D: Disk>(rt: &impl Abort, alloc: Global, store: &mut Store<D>) {
     let change = put(Station::Authenticated);
     begin(rt, alloc, store, batch_of(rt, alloc, 2, change));
 }
@@ -103,7 +103,7 @@ fn make_commits<D: Disk>(rt: &impl Abort, alloc: Global, store: &mut Store<D>, c
 
 // The device, formatted, after so many of them.
 // Generic, as all that asks for room in the device: no proof then meets its length.
-fn with_commits<D: Disk>(rt: &impl Abort, alloc: Global, disk: D, commits: u64) -> D
+pub(crate) fn with_commits<D: Disk>(rt: &impl Abort, alloc: Global, disk: D, commits: u64) -> D
 where
     D: Drop,
 {
@@ -113,7 +113,7 @@ where
 }
 
 // The device, formatted, after a policy and as many calls of a station's commit.
-fn committing<D: Disk>(rt: &impl Abort, alloc: Global, disk: D, calls: u64) -> D
+pub(crate) fn committing<D: Disk>(rt: &impl Abort, alloc: Global, disk: D, calls: u64) -> D
 where
     D: Drop,
 {
@@ -155,7 +155,7 @@ fn fault_of_commit<D: Disk>(rt: &impl Abort, alloc: Global, store: &mut Store<D>
 }
 
 // What is told where a call of a recovery or of the commit behind it fails, and the device.
-fn fault_of<D: Disk>(rt: &impl Abort, alloc: Global, disk: D) -> (StoreFault, D)
+pub(crate) fn fault_of<D: Disk>(rt: &impl Abort, alloc: Global, disk: D) -> (StoreFault, D)
 where
     D: Drop,
 {
@@ -421,17 +421,17 @@ fn the_calls_of_a_recovery(rt: HostRuntime) {
     expect_made(&rt, alloc, &disk, 7, RECOVERY);
 }
 
-const BEFORE: Seen = Ok((Some((0, 2007)), None));
+pub(crate) const BEFORE: Seen = Ok((Some((0, 2007)), None));
 
 const AFTER: Seen = Ok((Some((0, 2007)), Some(Station::Authenticated)));
 
 // What is seen of a store of a policy, with the station or without it.
-fn seen(there: bool) -> Seen {
+pub(crate) fn seen(there: bool) -> Seen {
     if there { AFTER } else { BEFORE }
 }
 
 // Stops in the commit of a station, and whether each shows the station.
-const STOPS: &[(u64, Torn, bool)] = &[
+pub(crate) const STOPS: &[(u64, Torn, bool)] = &[
     (0, Torn::Byte(1), false),
     (1, Torn::Byte(1), false),
     (2, Torn::Old, false),

@@ -17,6 +17,8 @@ mod driver_fault_tests;
 #[cfg(test)]
 mod expect;
 #[cfg(test)]
+mod file_tests;
+#[cfg(test)]
 mod identifier_tests;
 #[cfg(test)]
 mod script_tests;

@@ -1,5 +1,6 @@
 //! What is left when the input ends: it is committed, and handed out once more.
 use crate::expect::expect;
+use crate::faulty_radio::Faulty;
 use crate::hearing::Hearing;
 use crate::serving_tests::{NEVER, Scene, disk, serves_on_stage, world};
 use crate::short_radio::Short;
@@ -78,10 +79,13 @@ fn authenticate<R: Radio>(rt: &impl Abort, alloc: Global, world: &mut World<Once
 
 /// Ends the test where `serve` answers anything else than one entry, while the worker of the radio submits this frame
 /// when the one that commits has ended. Tells how many lines were said, of which the last is said afterwards.
-fn serve_to_the_end<R: Net + Wait + Threads + time::Clock + AllocGlobal + Log + Sync + Abort>(
+fn serve_to_the_end<
+    R: Net + Wait + Threads + time::Clock + AllocGlobal + Log + Sync + Abort,
+    S: Radio + Send,
+>(
     rt: &R,
     port: u16,
-    world: World<OnceDisk<MemDisk>, Short<'_, UdpSim>>,
+    world: World<OnceDisk<MemDisk>, S>,
     stage: &Stage,
     frame: &'static str,
     after: Line,
@@ -137,4 +141,45 @@ fn nothing_is_sent_behind_a_station_that_lacks_memory(rt: HostRuntime) {
     // A worker that is still there to give it tries until it is installed.
     let wanted = if said == 3 { NOT_HANDED_OUT } else { "" };
     hearing.expect_heard(wanted);
+}
+
+/// The world of a radio whose driver fails at so many installations.
+fn faulty_world(
+    rt: &(impl Net + AllocGlobal + Abort),
+    port: u16,
+    faults: u32,
+) -> World<OnceDisk<MemDisk>, Faulty<UdpSim>> {
+    let alloc = rt.alloc();
+    let radio = UdpSim::new(rt, alloc, port.wrapping_add(RADIO)).expect(rt, "a radio");
+    world(
+        rt,
+        alloc,
+        disk(rt, alloc, NEVER),
+        Faulty::new(radio, faults),
+    )
+}
+
+#[test]
+fn what_waits_behind_a_driver_fault_is_sent_at_the_end(rt: HostRuntime) {
+    // The out itself, and two of the three tries.
+    for faults in [1, 3] {
+        let stage = Stage::new(true);
+        let port = free_ports(&rt, 1);
+        let mut world = faulty_world(&rt, port, faults);
+        authenticate(&rt, rt.alloc(), &mut world);
+        let after = Line::Gets(0, RADIO, Datagram::Hex(ASSOCIATED));
+        let said = serve_to_the_end(&rt, port, world, &stage, ASSOCIATION, after);
+        expect(&rt, (faults, said), (faults, 3));
+    }
+}
+
+#[test]
+fn a_driver_that_fails_on_is_given_up_at_the_end(rt: HostRuntime) {
+    // The out itself, and all three tries.
+    let stage = Stage::new(true);
+    let port = free_ports(&rt, 1);
+    let mut world = faulty_world(&rt, port, 4);
+    authenticate(&rt, rt.alloc(), &mut world);
+    let said = serve_to_the_end(&rt, port, world, &stage, ASSOCIATION, Line::GetsNothing(0));
+    expect(&rt, said, 3);
 }

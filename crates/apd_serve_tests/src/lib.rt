@@ -11,6 +11,10 @@ mod ending_tests;
 #[cfg(test)]
 mod expect;
 #[cfg(test)]
+mod faulty_radio;
+#[cfg(test)]
+mod file_tests;
+#[cfg(test)]
 mod files;
 #[cfg(test)]
 mod hearing;
@@ -28,3 +32,5 @@ mod stage;
 mod talk;
 #[cfg(test)]
 mod telling_tests;
+#[cfg(test)]
+mod worn_tests;

@@ -9,7 +9,7 @@ use apd_base::Moment;
 use apd_conf::{AddressList, Conf, Confs, read_list};
 use apd_control_port::ControlPort;
 use apd_desk::{Clock, Gate, NoGate};
-use apd_disk::{MemDisk, OnceDisk};
+use apd_disk::{Disk, MemDisk, OnceDisk};
 use apd_radio::{Radio, UdpSim};
 use apd_serve::{ServeFault, SystemClock, serve};
 use apd_slot::Slot;
@@ -23,7 +23,8 @@ use std::sync::Wait;
 use std::thread::Threads;
 use std::time;
 
-const LENGTH: usize = 2_097_216;
+/// The number of a device's bytes.
+pub(crate) const LENGTH: usize = 2_097_216;
 
 const STATUS: &str =
     "state=ENABLED\nchannel=6\nbeacon_int=100\nbss[0]=wlan0\nbssid[0]=02:00:00:00:00:01\nssid[0]=net\nnum_sta[0]=1\n";
@@ -64,12 +65,12 @@ pub(crate) fn disk(rt: &impl Abort, alloc: Global, calls: u64) -> OnceDisk<MemDi
 }
 
 /// The world of the one configuration over this disk, with this radio.
-pub(crate) fn world<R: Radio>(
+pub(crate) fn world<D: Disk + Drop, R: Radio>(
     rt: &impl Abort,
     alloc: Global,
-    disk: OnceDisk<MemDisk>,
+    disk: D,
     radio: R,
-) -> World<OnceDisk<MemDisk>, R> {
+) -> World<D, R> {
     let conf = conf(rt, alloc);
     let mut slots = Vec::new(alloc);
     slots

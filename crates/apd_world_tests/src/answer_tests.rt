@@ -35,36 +35,37 @@ const DOWN: Said = Said::Refused(SlotFault::WentDown);
 
 const LOST: Said = Said::Refused(SlotFault::Lost);
 
-/// The answer that so many outs wait for the radio, and the one that none does for control.
-fn queued(count: usize) -> [Answer; 2] {
-    [
-        (RADIO, Said::Queued(count)),
-        (Recipient::Control, Said::Handed(0)),
-    ]
+/// The answer that so many outs wait for the radio.
+fn queued(count: usize) -> Answer {
+    (RADIO, Said::Queued(count))
 }
 
-/// The answers to a hand-out to the radio, and none to control, where this is told of each out that is applied.
+/// The last answer: that none was for control.
+const NONE: Answer = (Recipient::Control, Said::Handed(0));
+
+/// The answers to a hand-out where this is told of each out that the radio is given; control is given its own last.
 fn answers_of_three(applied: [Said; 3]) -> [Answer; 5] {
-    let [queued, none] = queued(3);
     let [first, second, third] = applied;
     [
-        queued,
-        none,
+        queued(3),
         (RADIO, first),
         (RADIO, second),
         (RADIO, third),
+        NONE,
     ]
 }
 
 fn answers_of_two(applied: [Said; 2]) -> [Answer; 4] {
-    let [queued, none] = queued(2);
     let [first, second] = applied;
-    [queued, none, (RADIO, first), (RADIO, second)]
+    [queued(2), (RADIO, first), (RADIO, second), NONE]
 }
 
 fn answers_of_one(said: Said) -> [Answer; 3] {
-    let [queued, none] = queued(1);
-    [queued, none, (RADIO, said)]
+    [queued(1), (RADIO, said), NONE]
+}
+
+fn answers_of_none() -> [Answer; 2] {
+    [queued(0), NONE]
 }
 
 /// What a flush answers behind these steps.
@@ -141,7 +142,7 @@ fn all_tell(alloc: Global, world: &mut Failed) -> [bool; 4] {
         tells(alloc, world, AUTHENTICATES, &answers_of_one(Said::Sent)),
         tells(alloc, world, ASSOCIATES, &answers_of_two([DOWN, LOST])),
         tells(alloc, world, ASSOCIATES, &answers_of_one(LOST)),
-        tells(alloc, world, Step::Take, &queued(0)),
+        tells(alloc, world, Step::Take, &answers_of_none()),
     ]
 }
 

@@ -7,7 +7,7 @@ use apd_disk::{Disk, MemDisk};
 use apd_flusher::Flusher;
 use apd_mlme::{Out, Recipient};
 use apd_radio::{Radio, Sim};
-use apd_slot::Slot;
+use apd_slot::{Mending, Slot};
 use apd_store::{Store, format};
 use apd_table::Table;
 use apd_world::{Step, Told, World, WorldFault, drive, restart};
@@ -121,6 +121,24 @@ pub(crate) fn replace_radio<D: Disk, R: Radio>(
     world.replace(bssid, radio)
 }
 
+/// Begins to mend the slot of a BSSID.
+pub(crate) fn begins_mending<D: Disk, R: Radio>(
+    world: &mut World<D, R>,
+    bssid: Bssid,
+    mending: &mut Mending<R>,
+) {
+    world.begin_mending(bssid, mending);
+}
+
+/// Goes on mending it. Tells whether a try was left.
+pub(crate) fn mends<D: Disk, R: Radio>(
+    world: &mut World<D, R>,
+    bssid: Bssid,
+    mending: &mut Mending<R>,
+) -> bool {
+    world.mend(bssid, mending)
+}
+
 /// What a world is made of.
 pub(crate) fn parts_of<D: Disk, R: Radio>(world: World<D, R>) -> (Flusher<D>, Core, Vec<Slot<R>>) {
     world.into_parts()
@@ -152,4 +170,16 @@ pub(crate) fn slots_of<R: Radio>(world: World<MemDisk, R>) -> Vec<Slot<R>> {
     drop(flusher);
     drop(core);
     slots
+}
+
+/// The first byte of the next frame that a radio received.
+pub(crate) fn receive<R: Radio>(radio: &mut R) -> Option<u8> {
+    let frame = radio.poll().ok()??;
+    frame.first().copied()
+}
+
+/// The same of a slot's.
+pub(crate) fn receive_at<R: Radio>(slot: &mut Slot<R>) -> Option<u8> {
+    let frame = slot.poll().ok()??;
+    frame.first().copied()
 }

@@ -86,6 +86,7 @@ mod cases;
 mod devices;
 mod expected;
 mod fuse_each_call;
+mod no_changes_tests;
 mod once_each_call;
 mod recovery_tests;
 mod sessions;

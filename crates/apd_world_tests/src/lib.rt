@@ -18,6 +18,8 @@ mod faults;
 #[cfg(test)]
 mod flush_tests;
 #[cfg(test)]
+mod kinds_tests;
+#[cfg(test)]
 mod memory_tests;
 #[cfg(test)]
 mod parts_tests;

@@ -111,9 +111,9 @@ fn start(alloc: Global) -> Option<Vec<Answer>> {
 fn a_start_applies_what_waits_at_a_slot(rt: HostRuntime) {
     let all = [
         (RADIO, Said::Queued(0)),
-        (Recipient::Control, Said::Handed(0)),
         (RADIO, Said::Installed(9)),
         (RADIO, Said::Installed(8)),
+        (Recipient::Control, Said::Handed(0)),
     ];
     expect(&rt, start(rt.alloc()).as_deref(), Some(&all));
 }

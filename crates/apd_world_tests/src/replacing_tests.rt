@@ -1,12 +1,12 @@
 //! Radios whose driver fails, and others in their place.
-use crate::calls::{join_parts, parts_of, replace_radio, tell};
+use crate::calls::{begins_mending, join_parts, mends, parts_of, replace_radio, tell};
 use crate::expect::expect;
 use crate::steps::{ROAMS, STATION, WLAN0, WLAN1};
 use crate::worlds::{start_with, start_world};
-use apd_base::{Bssid, Station};
+use apd_base::{Addr, Bssid, Station};
 use apd_disk::MemDisk;
 use apd_radio::{Failing, Radio, Sim};
-use apd_slot::{Slot, SlotFault};
+use apd_slot::{Mending, Slot, SlotFault};
 use apd_table::Table;
 use apd_world::{World, WorldFault};
 use std::alloc::{AllocError, Global};
@@ -160,4 +160,70 @@ fn a_radio_that_fails_takes_its_slot_down_alone(rt: HostRuntime) {
         outcome_at_once(rt.alloc()),
         Some((fault, [true, false])),
     );
+}
+
+/// A world whose station went to a radio that fails as it is given it.
+fn roam_to_failing(alloc: Global) -> Option<World<MemDisk, Boxed>> {
+    let first: Boxed = Box::new(alloc, Sim::new(alloc)).ok()?;
+    let second: Boxed = Box::new(alloc, failing_radio(alloc, 1)).ok()?;
+    roam(alloc, (first, second))
+}
+
+/// A spare that fails at once, and one that does not.
+fn two_spares(alloc: Global) -> Option<Mending<Boxed>> {
+    let first: Boxed = Box::new(alloc, failing_radio(alloc, 0)).ok()?;
+    let second: Boxed = Box::new(alloc, Sim::new(alloc)).ok()?;
+    let mut spares = Vec::new(alloc);
+    spares.push(first).ok()?;
+    spares.push(second).ok()?;
+    Some(Mending::new(spares))
+}
+
+/// Whether the slot of that radio is up before it is mended by those, whether it has a try then, and whether the slots
+/// have the table's stations.
+fn mended(alloc: Global) -> Option<[bool; 3]> {
+    let mut world = roam_to_failing(alloc)?;
+    let mut mending = two_spares(alloc)?;
+    let up = world.is_up(WLAN1);
+    begins_mending(&mut world, WLAN1, &mut mending);
+    let tried = mends(&mut world, WLAN1, &mut mending);
+    drop(mending);
+    let (flusher, core, slots) = parts_of(world);
+    drop(flusher);
+    let has_rows = has_rows(core.table(), &slots);
+    drop(slots);
+    drop(core);
+    Some([up, tried, has_rows])
+}
+
+#[test]
+fn a_slot_of_a_world_is_mended_by_a_spare(rt: HostRuntime) {
+    expect(&rt, mended(rt.alloc()), Some([false, false, true]));
+}
+
+const NOBODY: Bssid = Bssid(Addr([2, 0, 0, 0, 0, 9]));
+
+/// What is told of tries, of a BSSID without a slot and then of the one whose slot fails, by no spare.
+fn tries(alloc: Global) -> Option<([bool; 5], bool)> {
+    let mut world = roam_to_failing(alloc)?;
+    let mut mending = Mending::new(Vec::new(alloc));
+    begins_mending(&mut world, NOBODY, &mut mending);
+    begins_mending(&mut world, WLAN1, &mut mending);
+    let told = [
+        mends(&mut world, NOBODY, &mut mending),
+        mends(&mut world, WLAN1, &mut mending),
+        mends(&mut world, WLAN1, &mut mending),
+        mends(&mut world, WLAN1, &mut mending),
+        mends(&mut world, WLAN1, &mut mending),
+    ];
+    let up = world.is_up(WLAN1);
+    drop(mending);
+    drop(world);
+    Some((told, up))
+}
+
+#[test]
+fn a_slot_of_a_world_has_three_tries(rt: HostRuntime) {
+    let told = [false, true, true, true, false];
+    expect(&rt, tries(rt.alloc()), Some((told, false)));
 }

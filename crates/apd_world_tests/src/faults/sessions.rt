@@ -3,7 +3,7 @@ use crate::faults::calls::{confs, flusher, load_refusal, restart_world, tell};
 use crate::faults::expected::{is_given, out_at};
 use apd_base::{Addr, Bssid, Moment};
 use apd_conf::AddressList;
-use apd_core::Input;
+use apd_core::{Input, PublishFault};
 use apd_ctrl::Query;
 use apd_disk::Disk;
 use apd_mlme::{Out, Recipient};
@@ -180,6 +180,9 @@ pub(crate) enum Said {
     Loaded(Option<StoreFault>),
     /// Why a call was; none where it was not.
     Called(Option<StoreFault>),
+    /// Why a receipt was; none where it was not.
+    Published(Option<PublishFault>),
+    Queued(usize),
     Nothing,
     Other,
 }
@@ -189,6 +192,8 @@ pub(crate) fn in_short(told: &Told) -> Said {
         Told::Accepted(reception) => Said::Accepted(*reception),
         Told::Loaded(answer) => Said::Loaded(answer.err()),
         Told::Called(answer) => Said::Called(answer.err()),
+        Told::Published(answer) => Said::Published(answer.err()),
+        Told::Queued(count) => Said::Queued(*count),
         Told::Nothing => Said::Nothing,
         _ => Said::Other,
     }

@@ -1,0 +1,216 @@
+//! Three kinds of radios in one list of slots, each in a box.
+use crate::calls::{parts_of, receive, receive_at, replace_radio, restart_world, slots_of, tell};
+use crate::expect::expect;
+use crate::said::{Said, in_short};
+use crate::seen::{Seen, look_at};
+use crate::steps::{
+    ASSOCIATES, AT_WLAN0, AT_WLAN1, AUTHENTICATES, OTHER, OTHER_ASSOCIATES, OTHER_AUTHENTICATES,
+    STATION, TO_WLAN0, TO_WLAN1, WLAN0, WLAN1,
+};
+use crate::worlds::{confs, start_with};
+use apd_base::{Addr, Bssid, Moment};
+use apd_core::Input;
+use apd_disk::MemDisk;
+use apd_mlme::Recipient;
+use apd_radio::{Radio, Recording, Replaying, Sim};
+use apd_slot::Slot;
+use apd_world::{Step, Told, World};
+use std::alloc::Global;
+
+type Boxed = Box<dyn Radio + Send>;
+
+/// One for each slot.
+type Three = (Boxed, Boxed, Boxed);
+
+const WLAN2: Bssid = Bssid(Addr([2, 0, 0, 0, 0, 3]));
+
+const THIRD: Addr = Addr([2, 0, 0, 0, 0, 0xcc]);
+
+const THIRD_AUTHENTICATION_FRAME: &[u8] = &[
+    0xb0, 0, 0, 0, 2, 0, 0, 0, 0, 3, 2, 0, 0, 0, 0, 0xcc, 2, 0, 0, 0, 0, 3, 0x10, 0, 0, 0, 1, 0, 0,
+    0,
+];
+
+const THIRD_ASSOCIATION_FRAME: &[u8] = &[
+    0, 0, 0, 0, 2, 0, 0, 0, 0, 3, 2, 0, 0, 0, 0, 0xcc, 2, 0, 0, 0, 0, 3, 0x20, 0, 0x31, 4, 0x0a, 0,
+    0, 3, 0x6e, 0x65, 0x74, 1, 4, 0x82, 0x84, 0x8b, 0x96,
+];
+
+/// A station associates at each, all that is committed, and each is given what is for it.
+const SERVES: [Step<'static>; 24] = [
+    AUTHENTICATES,
+    ASSOCIATES,
+    OTHER_AUTHENTICATES,
+    OTHER_ASSOCIATES,
+    Step::Accept(
+        Input::Received(WLAN2, THIRD_AUTHENTICATION_FRAME),
+        Moment(0),
+    ),
+    Step::Accept(Input::Received(WLAN2, THIRD_ASSOCIATION_FRAME), Moment(0)),
+    Step::Take,
+    Step::Call,
+    Step::Call,
+    Step::Call,
+    Step::Call,
+    Step::Publish,
+    TO_WLAN0,
+    AT_WLAN0,
+    AT_WLAN0,
+    AT_WLAN0,
+    TO_WLAN1,
+    AT_WLAN1,
+    AT_WLAN1,
+    AT_WLAN1,
+    Step::Hand(Recipient::Radio(WLAN2)),
+    Step::Apply(WLAN2),
+    Step::Apply(WLAN2),
+    Step::Apply(WLAN2),
+];
+
+/// What is told of the last twelve: to each radio its answers, and between them the station under its first identifier.
+const SERVED: [Said; 12] = [
+    Said::Queued(3),
+    Said::Sent,
+    Said::Installed(1),
+    Said::Sent,
+    Said::Queued(3),
+    Said::Sent,
+    Said::Installed(1),
+    Said::Sent,
+    Said::Queued(3),
+    Said::Sent,
+    Said::Installed(1),
+    Said::Sent,
+];
+
+/// One in memory receives nothing.
+fn in_memory(alloc: Global) -> Option<Box<Sim>> {
+    Box::new(alloc, Sim::new(alloc)).ok()
+}
+
+/// One that is recorded receives a frame of one byte, 1.
+fn recording(alloc: Global) -> Option<Box<Recording<Replaying, Vec<u8>>>> {
+    let inner = Replaying::new(alloc, b"rx 01\n").ok()?;
+    let radio = Recording::new(alloc, inner, Vec::<u8>::new(alloc));
+    Box::new(alloc, radio).ok()
+}
+
+/// One that replays receives a frame of one byte, 2.
+fn replaying(alloc: Global) -> Option<Box<Replaying>> {
+    let radio = Replaying::new(alloc, b"rx 02\n").ok()?;
+    Box::new(alloc, radio).ok()
+}
+
+fn slots(alloc: Global, radios: Three) -> Option<Vec<Slot<Boxed>>> {
+    let (first, second, third) = radios;
+    let mut slots = Vec::new(alloc);
+    slots.push(Slot::new(alloc, first, WLAN0)).ok()?;
+    slots.push(Slot::new(alloc, second, WLAN1)).ok()?;
+    slots.push(Slot::new(alloc, third, WLAN2)).ok()?;
+    Some(slots)
+}
+
+fn all_said(alloc: Global, tolds: &[Told]) -> Option<Vec<Said>> {
+    let mut all = Vec::new(alloc);
+    for told in tolds {
+        all.push(in_short(told)).ok()?;
+    }
+    Some(all)
+}
+
+/// What is seen of a slot, and the first byte that its radio receives: by it a radio is known.
+type Kept = (Seen, Option<u8>);
+
+fn look_and_receive(slot: &mut Slot<Boxed>, station: Addr) -> Kept {
+    (look_at(slot, station), receive_at(slot))
+}
+
+/// The same of each slot.
+type AllKept = (Kept, Kept, Kept);
+
+fn look_at_three(slots: &mut [Slot<Boxed>]) -> Option<AllKept> {
+    Some((
+        look_and_receive(slots.get_mut(0)?, STATION),
+        look_and_receive(slots.get_mut(1)?, OTHER),
+        look_and_receive(slots.get_mut(2)?, THIRD),
+    ))
+}
+
+/// A slot that is up and has its station, and whose radio receives this.
+fn serving(received: Option<u8>) -> Kept {
+    ((true, Some(1), Some(1)), received)
+}
+
+/// What three radios are told while they serve, what is seen of their slots at the stop, and the device.
+type Served = (Vec<Said>, AllKept, MemDisk);
+
+fn serve(alloc: Global, radios: Three) -> Option<Served> {
+    let mut world = start_with(alloc, &[1, 2, 3], slots(alloc, radios)?)?;
+    let tolds = tell(&mut world, &SERVES);
+    let (flusher, core, mut slots) = parts_of(world);
+    drop(core);
+    let kept = look_at_three(&mut slots);
+    drop(slots);
+    let said = all_said(alloc, tolds?.get(12..)?)?;
+    Some((said, kept?, flusher.into_device()))
+}
+
+/// The world that the device holds, with these radios.
+fn restarted(alloc: Global, device: MemDisk, radios: Three) -> Option<World<MemDisk, Boxed>> {
+    let confs = confs(alloc, &[1, 2, 3])?;
+    restart_world(alloc, device, confs, slots(alloc, radios)?).ok()
+}
+
+/// What the other station has at a radio that is given back, and the first byte that it receives.
+type Back = (Option<u16>, Option<u8>);
+
+fn replace_second(world: &mut World<MemDisk, Boxed>, other: Boxed) -> Option<Back> {
+    let mut back = replace_radio(world, WLAN1, other).ok()?;
+    let found = (back.installed(OTHER), receive(&mut back));
+    drop(back);
+    Some(found)
+}
+
+/// What is found at the second radio, once another took its place, and what is seen of each slot then.
+fn found(world: World<MemDisk, Boxed>, other: Boxed) -> Option<(Back, AllKept)> {
+    let mut world = world;
+    let back = replace_second(&mut world, other);
+    let mut slots = slots_of(world);
+    let kept = look_at_three(&mut slots);
+    drop(slots);
+    back.zip(kept)
+}
+
+/// The first run, with one of each kind.
+fn first_run(alloc: Global) -> Option<Served> {
+    let (first, second, third) = (in_memory(alloc)?, recording(alloc)?, replaying(alloc)?);
+    serve(alloc, (first, second, third))
+}
+
+/// What is found by the next, in which each slot has another kind, once the second has a third.
+fn next_run(alloc: Global, device: MemDisk) -> Option<(Back, AllKept)> {
+    let (first, second, third) = (recording(alloc)?, replaying(alloc)?, in_memory(alloc)?);
+    let world = restarted(alloc, device, (first, second, third))?;
+    found(world, in_memory(alloc)?)
+}
+
+/// What is told of both, and what is seen of the slots.
+type Runs = (Vec<Said>, AllKept, (Back, AllKept));
+
+fn runs(alloc: Global) -> Option<Runs> {
+    let (said, kept, device) = first_run(alloc)?;
+    Some((said, kept, next_run(alloc, device)?))
+}
+
+#[test]
+fn three_kinds_serve_one_world(rt: HostRuntime) {
+    let (said, kept, next) = match runs(rt.alloc()) {
+        Some((said, kept, next)) => (Some(said), Some(kept), Some(next)),
+        None => (None, None, None),
+    };
+    expect(&rt, said.as_deref(), Some(&SERVED[..]));
+    let first = (serving(None), serving(Some(1)), serving(Some(2)));
+    expect(&rt, kept, Some(first));
+    let last = (serving(Some(1)), serving(None), serving(None));
+    expect(&rt, next, Some(((None, Some(2)), last)));
+}
