@@ -1,16 +1,13 @@
 #!/bin/sh
 # Runs the program with a standard stream closed: each of the three, and then all of them, for each subcommand. It must
-# end as it does where the stream is open on /dev/null, and leave in its files what it leaves there: a file that gets the
-# descriptor of a stream that is closed would have what is printed written into it.
-# Use: examples/closed.sh, from anywhere. It ends with status 1 at the first run that shows anything else.
-set -eu
+# end as it does where the stream is open on /dev/null, and leave in its files what it leaves there: a file that gets
+# the descriptor of a stream that is closed would have what is printed written into it.
+# Use: examples/closed.sh, from anywhere. APD names the program. It ends with status 1 at the first run that shows
+# anything else.
 here=$(dirname "$(readlink -f "$0")")
-"$here/../apd" --version >/dev/null
-program=${APD:-$here/../crates/apd/out/apd}
-folder=$(mktemp -d)
-trap 'rm -rf "$folder"' EXIT
-cd "$folder"
-port=$((20000 + $$ % 20000))
+. "$here/testing"
+needs python3
+port=$("$here/free-ports" 2)
 printf 'interface=wlan0\nbssid=02:00:00:00:00:01\nssid=net\n' >conf
 printf 'interface=wlan0\nnothing\n' >faulty
 printf 'no store' >short
@@ -22,8 +19,8 @@ flush
 END
 timeout 20 "$program" format empty >/dev/null
 
-# Runs the words behind the first one, which says how: with the stream of this number closed, with all closed (3), with none
-# (open), or with none and nothing to read (0open). A script reads the lines above, and the others nothing.
+# Runs the words behind the first one, which says how: with the stream of this number closed, with all closed (3), with
+# none (open), or with none and nothing to read (0open). A script reads the lines above, and the others nothing.
 with_closed() {
     how=$1
     shift

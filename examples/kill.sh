@@ -1,13 +1,12 @@
 #!/bin/sh
 # Kills a script on a store at a random moment, twenty times. Each time the next run recovers the store, and each
 # station to whom an association response was printed as sent is associated there. A kill shows nothing of syncs, since
-# the system has what was written: so first, where there is strace, it looks at the calls that a run makes of the system.
-# Use: examples/kill.sh, from anywhere. It ends with status 1 at the first run that shows anything else.
-set -eu
+# the system has what was written: so first, by strace, it looks at the calls that a run makes of the system.
+# Use: examples/kill.sh, from anywhere. APD names the program. It ends with status 1 at the first run that shows
+# anything else, and where strace is missing or may not trace.
 here=$(dirname "$(readlink -f "$0")")
-apd=$here/../apd
-folder=$(mktemp -d)
-trap 'rm -rf "$folder"' EXIT
+. "$here/testing"
+needs strace
 store=$folder/store
 
 # Stations join, one after the other, each flushed before the next one comes.
@@ -23,11 +22,11 @@ joins() {
     done
 }
 
-# The calls of ten stations that join, a letter each: W a write of the store, S a sync, D a word that the system may drop what
-# it holds of the file, E a request that became an entry, T a frame that is told of. Recovery syncs once and drops; a commit
-# writes, syncs, writes its gate and syncs, and is then told of. The first commit is that of the start.
+# The calls of ten stations that join, a letter each: W a write of the store, S a sync, D a word that the system may
+# drop what it holds of the file, E a request that became an entry, T a frame that is told of. Recovery syncs once and
+# drops; a commit writes, syncs, writes its gate and syncs, and is then told of. The first commit is that of the start.
 calls() {
-    "$apd" format "$store" >/dev/null
+    "$program" format "$store" >/dev/null
     joins | head -n 40 >"$folder/script"
     strace -f -qq -e trace=pwrite64,fdatasync,fadvise64,write -e signal=none -o "$folder/calls" \
         "$program" script --store "$store" <"$folder/script" >/dev/null
@@ -36,27 +35,25 @@ calls() {
         -e 's/.* write(1, "wlan0 tx.*/T/p' "$folder/calls" | tr -d '\n'
 }
 
-"$apd" --version >/dev/null
-program=$here/../crates/apd/out/apd
-if strace -o /dev/null true 2>/dev/null; then
-    found=$(calls)
-    wanted=SDWSWS$(printf 'EWSWST%.0s' 1 2 3 4 5 6 7 8 9 10 11 12 13 14 15 16 17 18 19 20)
-    echo "calls: $(printf %s "$found" | tr -cd S | wc -c) syncs"
-    [ "$found" = "$wanted" ] || {
-        echo "wanted $wanted, found $found"
-        exit 1
-    }
-else
-    echo "calls: not looked at, since strace is missing or may not trace"
-fi
+strace -o /dev/null true || {
+    echo "kill.sh: strace may not trace here, so what a run syncs can't be looked at" >&2
+    exit 1
+}
+found=$(calls)
+wanted=SDWSWS$(printf 'EWSWST%.0s' 1 2 3 4 5 6 7 8 9 10 11 12 13 14 15 16 17 18 19 20)
+echo "calls: $(printf %s "$found" | tr -cd S | wc -c) syncs"
+[ "$found" = "$wanted" ] || {
+    echo "wanted $wanted, found $found"
+    exit 1
+}
 
 joins >"$folder/script"
 run=1
 while [ "$run" -le 20 ]; do
     rm -f "$store"
-    "$apd" format "$store" >/dev/null
+    "$program" format "$store" >/dev/null
     : >"$folder/sent"
-    "$apd" script --store "$store" <"$folder/script" >"$folder/sent" &
+    "$program" script --store "$store" <"$folder/script" >"$folder/sent" &
     process=$!
     # Up to two seconds.
     sleep "$(awk -v seed="$run$$" 'BEGIN { srand(seed); printf "%.3f", rand() * 2 }')"
@@ -66,7 +63,7 @@ while [ "$run" -le 20 ]; do
     sed -n 's/^wlan0 tx 10000000\(.\{12\}\).\{24\}000001000000.*$/\1/p' "$folder/sent" |
         sed 's/\(..\)\(..\)\(..\)\(..\)\(..\)\(..\)/cmd STA \1:\2:\3:\4:\5:\6/' >"$folder/queries"
     count=$(wc -l <"$folder/queries")
-    "$apd" script --store "$store" <"$folder/queries" >"$folder/found"
+    "$program" script --store "$store" <"$folder/queries" >"$folder/found"
     found=$(grep -c 'flags=\[AUTH\]\[ASSOC\]\[AUTHORIZED\]' "$folder/found" || true)
     echo "run $run: $count sent, $found found"
     [ "$count" -eq "$found" ] || exit 1

@@ -6,18 +6,29 @@
 # device in memory met it, that is a device fault, at which the session ends: its device must then have served as many
 # of the calls as are below and a recovery's alone, and show the table before or after the commit that was under way;
 # and slots that a restart hands back are as they were. A check that fails keeps its device, of which nothing is seen.
-# Use: examples/refuse.sh [SESSION..], from anywhere; it needs a C compiler. It ends with status 1 at the first run
-# that shows anything else, and prints for each session how many allocations there are, and who met them; with status 1
-# too where these aren't as many as it has below. SESSIONS is the program, else it is proved and built first.
+# Use: examples/refuse.sh [SESSION..], from anywhere; it needs a C compiler. SESSIONS names the program, else it is the
+# one that `rt run` in crates/apd_sessions leaves. Sessions are run side by side, and each ends at the first run that
+# shows anything else: the status is 1 then. It prints for each session, in order, how many allocations there are, and
+# who met them, with the sum of all last.
 set -eu
 here=$(dirname "$(readlink -f "$0")")
-crate=$here/../crates/apd_sessions
-[ -n "${SESSIONS:-}" ] || (cd "$crate" && rt run >/dev/null)
-program=$(readlink -f "${SESSIONS:-$crate/out/apd_sessions}")
+crate=$(readlink -f "$here/../crates/apd_sessions")
+program=${SESSIONS:-$crate/out/apd_sessions}
+if [ ! -x "$program" ]; then
+    echo "refuse.sh: there is no program $program: rt run in $crate builds it, or SESSIONS names another" >&2
+    exit 1
+fi
+program=$(readlink -f "$program")
+command -v "${CC:-cc}" >/dev/null || {
+    echo "refuse.sh: it needs a C compiler: see .ci/packages" >&2
+    exit 1
+}
 folder=$(mktemp -d)
-trap 'rm -rf "$folder"' EXIT
+runs=
+trap '[ -z "$runs" ] || kill $runs 2>/dev/null || :; wait; rm -rf "$folder"' EXIT
+trap 'exit 130' INT
+trap 'exit 143' TERM
 ${CC:-cc} -O2 -shared -fPIC -o "$folder/refuse.so" "$here/refuse.c" -ldl
-cp -r "$crate"/data/. "$folder"
 cd "$folder"
 
 # Whether what was found is what is wanted. A line "again: .." is taken out; without one the library made up for what
@@ -140,9 +151,9 @@ print_started() {
 }
 
 # What is wanted where a start was made again. The first may have come to nothing; to the first radio's start; to both,
-# uncommitted; or to both, in a batch of its own, which was taken, or published too. The second, made behind it, hands
-# out the same frames in each case, and tells so: behind that no memory is taken. Use: print_starts PLACE FIRST BEHIND
-# BOTH BEHIND, the place of the closed gate and the records of each.
+# uncommitted; or to both, in a batch of its own, which was taken, or published too. In each of these cases it handed no
+# out to a radio, so the second, made behind it, hands out the same frames, and tells so. Use: print_starts PLACE FIRST
+# BEHIND BOTH BEHIND, the place of the closed gate and the records of each.
 print_starts() {
     print_commit "$1" "$4" | print_started 1 2 >start.1
     print_commit "$1" "$2, $3" | print_started 1 3 >start.2
@@ -174,11 +185,18 @@ print_new_starts() {
 }
 
 # On a store with stations both get their policies, and the second one's stations, which it then denies, leave. The
-# first may also have come to the first of the three outs, with no memory to tell of the second one.
+# first may also have made as many steps of its hand-out as a list first has room for, four: it handed to both radios,
+# and applied two of the three outs. The third waits then, and to control, which comes last, nothing was handed. The
+# second hands nothing more to either radio, applies the third out, and hands to control.
 print_late_starts() {
     both="$(policy 1 0), $(left 2 170), $(left 2 187), $(policy 2 1)"
     print_starts 209 "$(policy 1 0)" "$both" "$both" "$(policy 1 0), $(policy 2 1)"
-    awk '/: Applied\(/ && !told++ { next } { sub(/Queued\(3\)/, "Queued(0)"); print }' start.5 >start.6
+    awk -v room=4 '
+        /^(Radio|Control)/ && ++answers <= room {
+            if (/: Applied\(/) next
+            sub(/Queued\([0-9]+\)/, "Queued(0)")
+        }
+        { print }' start.5 >start.6
 }
 
 # What is wanted where an upgrade was made again: behind the sync of the old device, and behind its read; or behind all
@@ -222,7 +240,7 @@ judge() {
     : >whys
     call=$(sed -n 's/^again: //p' found)
     [ -e "$call.1" ] || { compare wanted; return; }
-    least=$(grep "^$call[.]" met | tail -n 1)
+    least=$(grep "^${call}[.]" met | tail -n 1)
     for each in "$call".?; do
         [ "${each##*.}" -ge "${least##*.}" ] 2>/dev/null || [ -z "$least" ] || continue
         ! compare "$each" >why || { echo "$each" >>met; return 0; }
@@ -232,22 +250,17 @@ judge() {
     return 1
 }
 
-# How many runs are as each of what is wanted where a call was made again.
+# Each of what is wanted where a call was made again has to be met: a run was so.
 print_met() {
     case $1 in
-        stations) echo "recover.1 1, recover.2 6, restart.1 1, restart.2 1" ;;
-        commands) echo "recover.1 1, recover.2 14, restart.1 1, restart.2 1" ;;
-        radios) echo "recover.1 1, recover.2 13, restart.1 1, restart.2 1" ;;
-        start)
-            echo "recover.1 1, recover.2 6, restart.1 1, restart.2 1, start.1 14, start.2 6, start.3 3, start.4 10," \
-                "start.5 1"
-            ;;
+        stations | commands | radios) echo "recover.1 recover.2 restart.1 restart.2" ;;
+        start) echo "recover.1 recover.2 restart.1 restart.2 start.1 start.2 start.3 start.4 start.5" ;;
         restart)
-            echo "recover.1 1, recover.2 7, restart.1 1, restart.2 32, restart.3 2, restart.4 2," \
-                "start.1 12, start.2 11, start.3 2, start.4 4, start.5 2, start.6 1"
+            echo "recover.1 recover.2 restart.1 restart.2 restart.3 restart.4 start.1 start.2 start.3 start.4 start.5" \
+                "start.6"
             ;;
-        check) echo "recover.1 1, recover.2 6" ;;
-        upgrade) echo "recover.1 1, recover.2 3, upgrade.1 1, upgrade.2 10, upgrade.3 1" ;;
+        check) echo "recover.1 recover.2" ;;
+        upgrade) echo "recover.1 recover.2 upgrade.1 upgrade.2 upgrade.3" ;;
     esac
 }
 
@@ -269,21 +282,8 @@ is_told_at_once() {
     esac
 }
 
-# How many allocations a session has: those met by a call that is made again, by a device, and made up for.
-print_counts() {
-    case $1 in
-        stations) echo 62 13 0 ;;
-        commands) echo 158 24 2 ;;
-        radios) echo 141 20 0 ;;
-        start) echo 78 8 0 ;;
-        restart) echo 112 4 10 ;;
-        files) echo 22 0 0 ;;
-        check) echo 33 1 0 ;;
-        upgrade) echo 20 7 0 ;;
-    esac
-}
-
-# How many calls the device had served at each device fault; of an upgrade, the new one and the old one.
+# How many calls the device had served at each device fault, which pins their sequence; of an upgrade, the new one and
+# the old one.
 print_served() {
     case $1 in
         stations) echo 0 2 3 4 5 8 9 11 13 15 16 17 19 ;;
@@ -299,7 +299,9 @@ print_served() {
 words=0
 while is_refused nothing "$((words + 1))"; do words=$((words + 1)); done
 
-for session in ${*:-stations commands radios start restart files check upgrade}; do
+# Runs a session with each of its allocations refused, in a folder of its own.
+try_each() {
+    session=$1
     "$program" "$session" >wanted
     awk -v head="= $session" '/^= |^cases\// { is_its = $0 == head } is_its' "$crate/stdout" | cmp -s - wanted ||
         { echo "$session: with ample memory otherwise than $crate/stdout"; exit 1; }
@@ -318,15 +320,50 @@ for session in ${*:-stations commands radios start restart files check upgrade};
         ! grep -q -x "device fault" found || device=$((device + 1))
         ! grep -q "^again: " found || again=$((again + 1))
     done
-    [ "$status" = 0 ] && cmp -s wanted found || { echo "$session: another run, status $status"; exit 1; }
-    met=$(sort met | uniq -c | awk '{ printf "%s%s %d", separator, $2, $1; separator = ", " }')
+    [ "$count" -gt 0 ] || { echo "$session: no allocation was refused"; exit 1; }
+    if [ "$status" != 0 ] || ! cmp -s wanted found; then
+        echo "$session: another run, status $status"
+        exit 1
+    fi
+    # Only these two collect what they can have in less room.
+    case $session in
+        commands | restart) ;;
+        *) [ "$((again + device))" = "$count" ] || { echo "$session: some are made up for"; exit 1; } ;;
+    esac
+    met=$(sort -u met | paste -s -d " ")
     [ "$met" = "$(print_met "$session")" ] ||
         { echo "$session: made again as: $met, not as: $(print_met "$session")"; exit 1; }
     served=$(paste -s -d " " served)
     [ "$served" = "$(print_served "$session")" ] ||
         { echo "$session: device faults behind calls: $served, not: $(print_served "$session")"; exit 1; }
+    echo "$session $count $again $device $((count - again - device))" >counts
     echo "$session: $count allocations: $again by calls that were made again, $device by a device," \
         "$((count - again - device)) made up for"
-    [ "$again $device $((count - again - device))" = "$(print_counts "$session")" ] ||
-        { echo "$session: otherwise than the counts in $0: $(print_counts "$session")"; exit 1; }
+}
+
+[ $# -gt 0 ] || set -- stations commands radios start restart files check upgrade
+place=0
+for session in "$@"; do
+    place=$((place + 1))
+    cp -r "$crate/data" "$place"
+    (
+        cd "$place"
+        try_each "$session"
+    ) >"$place.said" 2>&1 &
+    runs="$runs $!"
 done
+place=0
+status=0
+for run in $runs; do
+    place=$((place + 1))
+    wait "$run" || status=1
+    runs=${runs#" $run"}
+    cat "$place.said"
+done
+[ "$status" = 0 ] || exit 1
+awk '
+    { for (i = 2; i <= 5; i++) sum[i] += $i }
+    END {
+        printf "%d sessions, %d allocations: %d by calls that were made again, ", NR, sum[2], sum[3]
+        printf "%d by a device, %d made up for\n", sum[4], sum[5]
+    }' ./*/counts

@@ -2,12 +2,17 @@
 
        serving storm PORT RADIOS STATIONS ROUNDS STORE FOLDER NAME WINDOW..
        serving single PORT RADIOS
+       serving probes PORT ROUNDS STORE NAME WINDOW..
 
    Radio i has the port PORT + 1 + i, the BSSID 02:00:00:00:00:01 + i and the network "net"; station s, counted over all
    radios, is at radio s modulo RADIOS. storm lets each station associate; then, at each window, it has them ask for
    reassociation in turn, so many requests being out at a time. It asks the same of a bare loop, a process for each
    radio that receives and sends, and in FOLDER makes bare pairs of a write and a sync, as long as a commit's. Commits
-   are counted in the file STORE; where that is "-" there are none. A line has the best of so many ROUNDS of each. */
+   are counted in the file STORE; where that is "-" there are none. A line has the best of so many ROUNDS of each.
+
+   probes asks radio 0 a thousand times, one at a time with a rest of 5 ms before each: one station for reassociation,
+   and then as many passers-by for any network, who then ask at each window. It asks the same of a bare loop. A line has
+   the median, the least and the most of so many ROUNDS. */
 #define _GNU_SOURCE
 #include <arpa/inet.h>
 #include <errno.h>
@@ -24,15 +29,17 @@
 #include <unistd.h>
 
 enum {
-    RADIOS = 8, STATIONS = 8 * 2007, WINDOW = 4096,
+    RADIOS = 8, STATIONS = 8 * 2007, WINDOW = 4096, PROBES = 1000, ROUNDS = 99,
     REQUESTS = 1 << 20, /* of a round, at most */
     RING = 1 << 16,     /* requests behind the oldest one that waits, at most */
     TRIES = 50,         /* of a request */
     ALARM = 120,        /* seconds until all ends, whatever happens */
     STORE_BYTES = 2097216, HALF = 64, HALF_BYTES = 1048576, ROW_BYTES = 20
 };
-/* Nanoseconds: of a round, of the joining of all stations, and without an answer until a frame is sent again. */
-static const int64_t SECOND = 1000000000, ROUND = 1000000000, JOINING = 60000000000, PATIENCE = 200000000;
+/* Nanoseconds: of a round, and of the joining of all stations. */
+static const int64_t SECOND = 1000000000, ROUND = 1000000000, JOINING = 60000000000;
+/* And without an answer until a frame is sent again; the variable PATIENCE has other milliseconds. */
+static int64_t patience = 200000000;
 
 #define FAIL(...) (fprintf(stderr, "serving: " __VA_ARGS__), fputc('\n', stderr), exit(1))
 
@@ -51,12 +58,14 @@ static int64_t now(void)
 
 /* Frames. */
 
-enum kind { AUTHENTICATION, ASSOCIATION, REASSOCIATION };
+enum kind { AUTHENTICATION, ASSOCIATION, REASSOCIATION, PROBE };
 
 /* Spells a station's request; its length. */
 static int spell(uint8_t *frame, enum kind kind, int station, int radio)
 {
-    static const uint8_t types[] = {0xb0, 0x00, 0x20}, elements[] = {0, 3, 'n', 'e', 't', 1, 4, 0x82, 0x84, 0x8b, 0x96};
+    static const uint8_t types[] = {0xb0, 0x00, 0x20, 0x40},
+                         elements[] = {0, 3, 'n', 'e', 't', 1, 4, 0x82, 0x84, 0x8b, 0x96},
+                         scan[] = {0, 0, 1, 4, 0x82, 0x84, 0x8b, 0x96};
     const uint8_t bssid[] = {2, 0, 0, 0, 0, 1 + radio}, sender[] = {2, 0, 1, 0, station >> 8, station};
     uint8_t *at = frame + 24;
     memset(frame, 0, 24);
@@ -64,6 +73,11 @@ static int spell(uint8_t *frame, enum kind kind, int station, int radio)
     memcpy(frame + 4, bssid, 6);
     memcpy(frame + 10, sender, 6);
     memcpy(frame + 16, bssid, 6);
+    if (kind == PROBE) {
+        memset(frame + 4, 0xff, 6);
+        memset(frame + 16, 0xff, 6);
+        return (uint8_t *)mempcpy(at, scan, sizeof scan) - frame;
+    }
     if (kind == AUTHENTICATION)
         return (uint8_t *)mempcpy(at, "\0\0\1\0\0\0", 6) - frame;
     at = mempcpy(at, "\x31\4\12\0", 4);
@@ -72,13 +86,13 @@ static int spell(uint8_t *frame, enum kind kind, int station, int radio)
     return (uint8_t *)mempcpy(at, elements, sizeof elements) - frame;
 }
 
-/* The station that a frame answers, with status 0; -1 of a frame that is no answer. */
+/* The station that a frame answers, with status 0 where it has one; -1 of a frame that is no answer. */
 static int answered(const uint8_t *frame, ssize_t length)
 {
-    if (length < 30 || (frame[0] != 0xb0 && frame[0] != 0x10 && frame[0] != 0x30))
+    if (length < 30 || (frame[0] != 0xb0 && frame[0] != 0x10 && frame[0] != 0x30 && frame[0] != 0x50))
         return -1;
     int station = frame[8] << 8 | frame[9], status = frame[0] == 0xb0 ? 28 : 26;
-    if (frame[status] || frame[status + 1])
+    if (frame[0] != 0x50 && (frame[status] || frame[status + 1]))
         FAIL("station %d is refused with status %d", station, frame[status] | frame[status + 1] << 8);
     return station;
 }
@@ -201,7 +215,7 @@ static void send_again(struct storm *storm)
     while (storm->oldest < storm->next && ring[storm->oldest % RING].is_answered)
         storm->oldest++;
     for (long k = storm->oldest; k < storm->next; k++)
-        if (!ring[k % RING].is_answered && now() - ring[k % RING].last > PATIENCE) {
+        if (!ring[k % RING].is_answered && now() - ring[k % RING].last > patience) {
             send_request(storm, k);
             storm->again++;
         }
@@ -229,7 +243,7 @@ static struct numbers drive(struct storm storm)
         for (int i = 0; i < storm.radios; i++)
             if (wait[i].revents)
                 take_answers(&storm, i);
-        if (now() - looked > PATIENCE / 20) {
+        if (now() - looked > SECOND / 100) {
             send_again(&storm);
             looked = now();
         }
@@ -356,40 +370,147 @@ static void print_single(struct storm storm, const int *loops)
     print_load();
 }
 
+static int rising_numbers(const void *a, const void *b)
+{
+    double x = *(const double *)a, y = *(const double *)b;
+    return (x > y) - (x < y);
+}
+
+/* Prints the median of so many numbers, the least of them and the most. */
+static void print_spread(double *numbers, int count, int decimals)
+{
+    qsort(numbers, count, sizeof *numbers, rising_numbers);
+    printf(" %8.*f %7.*f %7.*f", decimals, numbers[count / 2], decimals, numbers[0], decimals, numbers[count - 1]);
+}
+
+static void print_rounds(struct storm storm, const int *loops, int turns, const char *name)
+{
+    static const char *const words[] = {"authenticate", "associate", "reassociate", "probe"};
+    double rates[ROUNDS], medians[ROUNDS], lates[ROUNDS], loop_medians[ROUNDS], loop_lates[ROUNDS], commits[ROUNDS];
+    struct storm bare = storm;
+    bare.sockets = loops;
+    bare.time = storm.time / 5;
+    bare.most = storm.most / 5;
+    storm.look = look_at_store;
+    for (int i = 0; i < turns; i++) {
+        look_at_store();
+        long groups = found.groups;
+        struct numbers one = drive(storm);
+        look_at_store();
+        struct numbers loop = drive(bare);
+        rates[i] = one.rate;
+        medians[i] = one.median;
+        lates[i] = one.late;
+        loop_medians[i] = loop.median;
+        loop_lates[i] = loop.late;
+        commits[i] = found.is_lost ? -1 : (found.groups - groups) * 1e3 / one.count;
+    }
+    qsort(loop_medians, turns, sizeof *loop_medians, rising_numbers);
+    qsort(loop_lates, turns, sizeof *loop_lates, rising_numbers);
+    qsort(commits, turns, sizeof *commits, rising_numbers);
+    printf("%-7s %-11s ", name, words[storm.kind]);
+    printf(storm.pause ? "  idle" : "%6d", storm.window);
+    print_spread(rates, turns, 0);
+    print_spread(medians, turns, 3);
+    print_spread(lates, turns, 3);
+    printf(" %7.3f %7.3f", loop_medians[turns / 2], loop_lates[turns / 2]);
+    if (store && commits[0] >= 0)
+        printf(" %7.0f", commits[turns / 2]);
+    else
+        printf(" %7s", "-");
+    print_load();
+}
+
+/* What each mode does, once there are sockets for the radios and for as many bare loops. */
+
+static int number_of(const char *word, int least, int most, const char *what)
+{
+    int value = atoi(word);
+    if (value < least || value > most)
+        FAIL("%s is from %d to %d", what, least, most);
+    return value;
+}
+
+static void join(struct storm storm)
+{
+    storm.most = storm.stations;
+    storm.time = JOINING;
+    for (storm.window = 64; storm.kind < REASSOCIATION; storm.kind++)
+        if (drive(storm).count < storm.stations)
+            FAIL("not all stations were answered within a minute");
+}
+
+static void rejoin(struct storm storm, const int *loops, int count, char **words)
+{
+    int turns = number_of(words[5], 1, ROUNDS, "ROUNDS");
+    join(storm);
+    if (strcmp(words[6], "-"))
+        open_store(words[6]);
+    storm.kind = REASSOCIATION;
+    storm.time = ROUND;
+    storm.most = REQUESTS;
+    for (int i = 9; i < count; i++) {
+        storm.window = number_of(words[i], 1, WINDOW, "WINDOW");
+        print_storm(storm, loops, turns, words[7], words[8]);
+    }
+}
+
+static void ask_singly(struct storm storm, const int *loops)
+{
+    join(storm);
+    storm.kind = REASSOCIATION;
+    storm.time = JOINING;
+    print_single(storm, loops);
+}
+
+static void scan(struct storm storm, const int *loops, int count, char **words)
+{
+    int turns = number_of(words[3], 1, ROUNDS, "ROUNDS");
+    join(storm);
+    if (strcmp(words[4], "-"))
+        open_store(words[4]);
+    storm.time = JOINING;
+    storm.window = 1;
+    storm.most = PROBES;
+    storm.pause = SECOND / 200;
+    storm.kind = REASSOCIATION;
+    print_rounds(storm, loops, turns, words[5]);
+    storm.kind = PROBE;
+    storm.stations = PROBES;
+    print_rounds(storm, loops, turns, words[5]);
+    storm.pause = 0;
+    storm.time = ROUND;
+    storm.most = REQUESTS;
+    for (int i = 6; i < count; i++) {
+        storm.window = number_of(words[i], 1, WINDOW, "WINDOW");
+        print_rounds(storm, loops, turns, words[5]);
+    }
+}
+
 int main(int count, char **words)
 {
-    int sockets[RADIOS], loops[RADIOS], is_single = count == 4 && !strcmp(words[1], "single");
-    struct storm storm = {.sockets = sockets, .time = JOINING};
+    int sockets[RADIOS], loops[RADIOS], is_storm = count > 9 && !strcmp(words[1], "storm"),
+        is_single = count == 4 && !strcmp(words[1], "single"), is_scan = count > 5 && !strcmp(words[1], "probes");
+    struct storm storm = {.sockets = sockets};
     signal(SIGALRM, end_late);
     alarm(ALARM);
-    if (!is_single && !(count > 9 && !strcmp(words[1], "storm")))
-        FAIL("storm PORT RADIOS STATIONS ROUNDS STORE FOLDER NAME WINDOW.., or single PORT RADIOS");
-    int port = atoi(words[2]);
-    storm.radios = atoi(words[3]);
-    storm.stations = storm.most = is_single ? storm.radios : atoi(words[4]);
-    if (port < 1024 || port > 65000 || storm.radios < 1 || storm.radios > RADIOS || storm.stations < storm.radios ||
-        storm.stations > STATIONS)
-        FAIL("PORT is from 1024 to 65000, RADIOS from 1 to 8, STATIONS from RADIOS to 16056");
+    if (getenv("PATIENCE"))
+        patience = number_of(getenv("PATIENCE"), 20, 60000, "PATIENCE") * (SECOND / 1000);
+    if (!is_storm && !is_single && !is_scan)
+        FAIL("storm PORT RADIOS STATIONS ROUNDS STORE FOLDER NAME WINDOW.., single PORT RADIOS, or "
+             "probes PORT ROUNDS STORE NAME WINDOW..");
+    int port = number_of(words[2], 1024, 65000, "PORT");
+    storm.radios = is_scan ? 1 : number_of(words[3], 1, RADIOS, "RADIOS");
+    storm.stations = is_storm ? number_of(words[4], storm.radios, STATIONS, "STATIONS") : storm.radios;
     for (int i = 0; i < storm.radios; i++) {
         sockets[i] = connected(port + 1 + i);
         loops[i] = connected(begin_loop());
     }
-    for (storm.window = 64; storm.kind < REASSOCIATION; storm.kind++)
-        if (drive(storm).count < storm.stations)
-            FAIL("not all stations were answered within a minute");
-    if (is_single) {
-        print_single(storm, loops);
-        return 0;
-    }
-    if (strcmp(words[6], "-"))
-        open_store(words[6]);
-    storm.time = ROUND;
-    storm.most = REQUESTS;
-    for (int i = 9; i < count; i++) {
-        storm.window = atoi(words[i]);
-        if (storm.window < 1 || storm.window > WINDOW)
-            FAIL("WINDOW is from 1 to %d", WINDOW);
-        print_storm(storm, loops, atoi(words[5]), words[7], words[8]);
-    }
+    if (is_storm)
+        rejoin(storm, loops, count, words);
+    else if (is_single)
+        ask_singly(storm, loops);
+    else
+        scan(storm, loops, count, words);
     return 0;
 }

@@ -1,12 +1,13 @@
 #!/bin/sh
 # Measures what apd run does with a storm of reassociations, as after a power cut, over the loopback: on a store in
 # memory and on one on disk, with few stations and many, beside a bare loop of receive and send and bare pairs of syncs
-# of the same minute; then what it costs idle, and how long a single frame waits. docs/BENCHMARK.md, "Serving", has the
-# columns.
-# Use: examples/serving.sh, from anywhere; it needs a C compiler, and takes some four minutes. It ends with status 1
+# of the same minute; then what it costs idle, and how long a single frame waits; then what scans get, from the probe
+# request to its response. docs/BENCHMARK.md, "Serving" and "Scans", has the columns.
+# Use: examples/serving.sh, from anywhere; it needs a C compiler, and takes some five minutes. It ends with status 1
 # where something is missing, or a station gets no answer. Variables: APD, the program (else that of ./apd, which is
-# built first); MEMORY and DISK, the folders of the stores; CASES, the radios and the stations of each; WINDOWS; ROUNDS,
-# of which the best is printed.
+# built first); PARTS, what is measured: storm, quiet and scans, or some of them; MEMORY and DISK, the folders of the
+# stores; CASES, the radios and the stations of each; WINDOWS; ROUNDS, of which the best is printed, and of scans the
+# median; PATIENCE, the milliseconds until a frame is sent again.
 set -eu
 here=$(dirname "$(readlink -f "$0")")
 program=${APD:-$here/../crates/apd/out/apd}
@@ -83,27 +84,53 @@ ${CC:-cc} -O2 -o "$tools/serving" "$here/serving.c"
 [ -n "${APD:-}" ] || "$here/../apd" --version >/dev/null
 "$program" --version
 echo "$(nproc) processors; sockets may ask for $(cat /proc/sys/net/core/rmem_max) bytes to receive"
-cat <<'END'
 
-store   stations window    asks/s      p50      p99  again    loop/s  ratio   rows commits/s  pairs/s  ratio  load
-END
+# Whether this part is to be measured.
+has_part() {
+    case " ${PARTS:-storm quiet scans} " in *" $1 "*) ;; *) return 1 ;; esac
+}
+
+# The folder in which a store of this name is to be.
+place_of() {
+    if [ "$1" = memory ]; then echo "${MEMORY:-/dev/shm}"; else echo "${DISK:-/var/tmp}"; fi
+}
+
+# Prints the lines of a store of this name: of storms, and of what is quiet. With so many radios, and stations of each.
+serve() {
+    stations=$(($2 * $3))
+    begin "$(place_of "$1")" "$2"
+    ! has_part storm || "$tools/serving" storm "$port" "$2" "$stations" "${ROUNDS:-3}" "$folder/store" "$folder" "$1" \
+        ${WINDOWS:-1 16 256}
+    if has_part quiet && [ "$1" = memory ]; then
+        idle=$(idle)
+        single=$("$tools/serving" single "$port" "$2")
+        printf '%8d %6d %s %s\n' "$stations" "$2" "$idle" "$single" >>"$tools/quiet"
+    fi
+    end
+}
+
+if has_part storm; then
+    echo
+    echo "store   stations window    asks/s      p50      p99  again    loop/s  ratio   rows commits/s  pairs/s" \
+        " ratio  load"
+fi
 for store in memory disk; do
-    place=${MEMORY:-/dev/shm}
-    [ "$store" = memory ] || place=${DISK:-/var/tmp}
     for case in ${CASES:-1x100 1x2007 8x2007}; do
-        radios=${case%x*}
-        stations=$((radios * ${case#*x}))
-        begin "$place" "$radios"
-        "$tools/serving" storm "$port" "$radios" "$stations" "${ROUNDS:-3}" "$folder/store" "$folder" "$store" \
-            ${WINDOWS:-1 16 256}
-        if [ "$store" = memory ]; then
-            idle=$(idle)
-            single=$("$tools/serving" single "$port" "$radios")
-            printf '%8d %6d %s %s\n' "$stations" "$radios" "$idle" "$single" >>"$tools/quiet"
-        fi
-        end
+        if has_part storm || has_part quiet; then serve "$store" "${case%x*}" "${case#*x}"; fi
     done
 done
-echo
-echo "stations radios     idle %  sleeps/s      one      p99     loop      p99  load"
-cat "$tools/quiet"
+if has_part quiet; then
+    echo
+    echo "stations radios     idle %  sleeps/s      one      p99     loop      p99  load"
+    cat "$tools/quiet"
+fi
+if has_part scans; then
+    echo
+    echo "store   request     window   asks/s   least    most      p50   least    most      p99   least    most" \
+        "   loop     p99 commits  load"
+    for store in memory disk; do
+        begin "$(place_of "$store")" 1
+        "$tools/serving" probes "$port" "${ROUNDS:-3}" "$folder/store" "$store" ${WINDOWS:-1 16 256}
+        end
+    done
+fi

@@ -1,0 +1,51 @@
+#!/bin/sh
+# Installs the program into a folder, and looks at what is there: the program and apd-service run; the manual has no fault,
+# and has each subcommand and option that the program's help names; the unit is hardened, where systemd can tell.
+# Use: examples/install.sh, from anywhere. APD names the program, MANUAL another manual, UNIT another unit. It ends with
+# status 1 at the first thing that is amiss.
+here=$(dirname "$(readlink -f "$0")")
+. "$here/testing"
+needs man
+APD=$program "$here/install" there >out
+"$folder/there/sbin/apd" --version >version
+(unset APD && "$folder/there/sbin/apd-service" --version >found)
+cmp version found
+timeout 20 "$folder/there/sbin/apdctl" help | grep -q "^use: "
+manual=${MANUAL:-$folder/there/share/man/man8/apd.8}
+unit=${UNIT:-$folder/there/lib/systemd/system/apd.service}
+grep -q "^ExecStart=$folder/there/sbin/apd-service run " "$folder/there/lib/systemd/system/apd.service"
+
+LC_ALL=C.UTF-8 MANWIDTH=100 man --warnings -l "$manual" >page 2>faults </dev/null
+if [ -s faults ]; then
+    cat faults
+    exit 1
+fi
+# (which the program prints with status 2)
+"$program" --help >help 2>&1 || :
+subcommands=$(sed -n '/^Commands:/,/^$/s/^  \([a-z]*\) .*/\1/p' help)
+[ -n "$subcommands" ]
+for subcommand in $subcommands; do
+    grep -q "^  *apd $subcommand\b" page || {
+        echo "install.sh: the manual lacks the subcommand $subcommand"
+        exit 1
+    }
+    [ "$subcommand" = help ] || "$program" "$subcommand" --help >>help 2>&1 || :
+done
+options=$(grep -oE '^ +(-[a-zA-Z], )?--[a-z-]+' help | grep -oE -e '--[a-z-]+' | sort -u)
+[ -n "$options" ]
+for option in $options; do
+    grep -q -e "^ .*$option\b" page || {
+        echo "install.sh: the manual lacks the option $option"
+        exit 1
+    }
+done
+echo "the manual has $(echo "$subcommands" | wc -l) subcommands and all options"
+
+if command -v systemd-analyze >/dev/null && systemd-analyze security --help | grep -q -e --offline; then
+    systemd-analyze security --offline=yes --threshold=30 --no-pager "$unit" >score 2>&1 || {
+        tail -n 3 score
+        echo "install.sh: the unit is open to more than 3.0"
+        exit 1
+    }
+    tail -n 1 score
+fi
