@@ -110,8 +110,12 @@ outcome_of p.Unknown = Err Unknown
 outcome_of p.Fail = Err Fail
 outcome_of (p.Command interface command) = Ok (option_copied interface, command)
 
+-- the reply to what is refused
+abbrev pub text_of_refusal : Refusal → List ℕ
+text_of_refusal Unknown = codes "UNKNOWN COMMAND\n"
+text_of_refusal Fail = codes "FAIL\n"
+
 -- the reply to what is no command
 abbrev pub refusal_text : Result (Option (List ℕ) × Command) Refusal → Option (List ℕ)
 refusal_text (Ok read) = None
-refusal_text (Err Unknown) = Some (codes "UNKNOWN COMMAND\n")
-refusal_text (Err Fail) = Some (codes "FAIL\n")
+refusal_text (Err why) = Some (text_of_refusal why)

@@ -5,10 +5,12 @@
 mod command;
 mod escapes;
 mod parser;
+mod placing;
 mod replies;
 mod word;
 
 pub use command::{Command, Placed, Query};
 pub use escapes::escape;
 pub use parser::{FAIL, Parsed, Refusal, UNKNOWN_COMMAND, exactly_one_outcome, parse_command};
+pub use placing::{Interfaces, place};
 pub use replies::{addresses_law, reply};

@@ -3,7 +3,7 @@ ghost use Rattle.std.specs.Prelude.{◌≡◌, ◌↔◌, ℕ, List, Option, Res
 ghost use Rattle.std.specs.Option.{option_copied};
 ghost use Rattle.apd_ctrl.specs.declared.command.Command.{Command as Order};
 ghost use Rattle.apd_ctrl.specs.declared.parser.Refusal.{Refusal as Refused};
-ghost use Rattle.apd_ctrl.specs.Grammar.{outcome_of, refusal_text, IsOutcome};
+ghost use Rattle.apd_ctrl.specs.Grammar.{outcome_of, refusal_text, text_of_refusal, IsOutcome};
 ghost use Rattle.apd_ctrl.specs.Reading.{behind, command_of, command_with, dismissal_of, line_of, list_command, outcome, reason_of, split_prefix, word};
 
 use crate::command::Command;
@@ -35,7 +35,7 @@ pub enum Parsed<'a> {
     },
 }
 
-/// Why bytes are no command.
+/// Why bytes become neither a query nor an event.
 #[derive(Clone, Copy, Debug, PartialEq, Eq)]
 pub enum Refusal {
     Unknown,
@@ -169,14 +169,26 @@ pub fn parse_command(bytes: &[u8]) -> Parsed<'_>
     }
 }
 
+impl Refusal {
+    /// The reply to what is refused so. It takes no memory.
+    pub fn text(self) -> &'static [u8]
+        ensures { result.now ≡ text_of_refusal self }
+    {
+        match self {
+            Refusal::Unknown => UNKNOWN_COMMAND,
+            Refusal::Fail => FAIL,
+        }
+    }
+}
+
 impl Parsed<'_> {
     /// The reply to bytes that are no command; `None` for a command. It takes no memory.
     pub fn refusal(&self) -> Option<&'static [u8]>
         ensures { option_copied result ≡ refusal_text (outcome_of self.now) }
     {
         match self {
-            Parsed::Unknown => Some(UNKNOWN_COMMAND),
-            Parsed::Fail => Some(FAIL),
+            Parsed::Unknown => Some(Refusal::Unknown.text()),
+            Parsed::Fail => Some(Refusal::Fail.text()),
             Parsed::Command { .. } => None,
         }
     }
