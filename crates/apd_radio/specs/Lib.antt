@@ -1,4 +1,5 @@
 pub mod Calls
+pub mod Drivers
 pub mod Faults
 pub mod Frames
 pub mod Model

@@ -1,8 +1,10 @@
-//! What holds of recordings.
+//! What holds of recordings, and of what a driver is told.
 ghost use Rattle.std.specs.Prelude.{◌≡◌, ℕ, List, ◌++◌, Bool, true, false, Option, Some};
 ghost use Rattle.std.specs.List.{AllByRecursion};
 ghost use Rattle.apd_radio.specs.declared.call.Call.{Call as AnyCall};
 ghost use Rattle.apd_radio.specs.Calls.{IsCall, IsLineOf};
+ghost use Rattle.apd_base.specs.declared.address.Addr.{Addr as Address};
+ghost use Rattle.apd_radio.specs.Drivers.{is_word, install_text, remove_text, map_text, IsUp, IsFaultAt};
 ghost use Rattle.apd_radio.specs.Recordings.{RecordsAll, Replays, recording_of, frames_of};
 
 /// A line stands for one call at most.
@@ -25,4 +27,13 @@ pub fn round_trip()
         → Replays (recording_of calls) (frames_of calls) }
     ensures only { (calls : List AnyCall) → AllByRecursion IsCall calls → (frames : List (List ℕ))
         → Replays (recording_of calls) frames → frames ≡ frames_of calls }
+{}
+
+/// Whatever a driver is told of stations, and whatever it says that is heeded, is a word and no frame.
+pub fn words_law()
+    ensures install { (number aid : ℕ) (addr : Address) → is_word (install_text number addr aid) ≡ true }
+    ensures remove { (number : ℕ) (addr : Address) → is_word (remove_text number addr) ≡ true }
+    ensures all { (number : ℕ) (stations : List (Address × ℕ)) → is_word (map_text number stations) ≡ true }
+    ensures up { (text : List ℕ) → IsUp text → is_word text ≡ true }
+    ensures fault { (number : ℕ) (text : List ℕ) → IsFaultAt number text → is_word text ≡ true }
 {}

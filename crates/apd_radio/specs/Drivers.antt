@@ -1,0 +1,86 @@
+-- What the driver of a radio is told, and what it says: words, each a datagram (own format).
+use Rattle.std.specs.Prelude.{◌≡◌, ◌≢◌, ℕ, ◌+◌, ◌%◌, ◌^◌, Bool, true, false, ◌⊎◌, ◌&&◌, nat_le, List, [], ◌∷◌, ◌++◌, flat_map, Option, Some, None, codes}
+use Rattle.std.specs.FinMap as map
+use Rattle.std.specs.Fmt.{decimal}
+use Rattle.std.specs.declared.net.socket_addr.SocketAddr.{SocketAddr}
+use Rattle.apd_base.specs.declared.address.Addr.{Addr}
+use Rattle.apd_base.specs.Addr.{addr_cmp, text_of}
+use Rattle.apd_base.specs.Text.{blank, newline, decimal_number}
+use Rattle.apd_radio.specs.declared.datagrams.Heard.{Heard}
+use Rattle.apd_radio.specs.declared.datagrams.Heard.TheVariants.{Nothing, Stranger, Datagram}
+
+-- a datagram that begins with a lower-case letter is a word; any other is a frame
+abbrev pub is_word : List ℕ → Bool
+is_word [] = false
+is_word (b ∷ bs) = nat_le 97 b && nat_le b 122
+
+-- the number behind this one; behind the greatest comes 0
+abbrev pub next_number : ℕ → ℕ
+next_number n = (n + 1) % 2 ^ 64
+
+-- a station: its address, a blank and its identifier
+abbrev pub station_text : Addr → ℕ → List ℕ
+station_text addr aid = text_of addr ++ blank ∷ decimal aid
+
+-- the words by their numbers: a station comes in, or over what was at its address
+abbrev pub install_text : ℕ → Addr → ℕ → List ℕ
+install_text number addr aid = codes "install " ++ decimal number ++ blank ∷ station_text addr aid
+
+-- a station goes
+abbrev pub remove_text : ℕ → Addr → List ℕ
+remove_text number addr = codes "remove " ++ decimal number ++ blank ∷ text_of addr
+
+-- a line of its own for each station
+abbrev pub station_line : Addr × ℕ → List ℕ
+station_line row = newline ∷ station_text row.0 row.1
+
+-- all stations go, and these are there
+abbrev pub map_text : ℕ → List (Addr × ℕ) → List ℕ
+map_text number rows = (codes "map " ++ decimal number ++ codes " down") ++ flat_map station_line rows
+
+-- what a driver says: it wants the whole map
+abbrev pub IsUp : List ℕ → Type 0
+IsUp text = text ≡ codes "up"
+
+-- it did not do what the word of this number told, 1 to 20 digits below 2^64
+abbrev pub IsFaultAt : ℕ → List ℕ → Type 0
+IsFaultAt number text = (digits : List ℕ) × (text ≡ codes "fault " ++ digits) × (decimal_number 20 18446744073709551615 digits ≡ Some number)
+
+-- what is heard of a peer where this datagram, by its sender and its bytes, is the next one: its bytes if the peer sent
+-- it, and none of what others sent
+abbrev pub IsHeard : SocketAddr → Option (SocketAddr × List ℕ) → Heard → Type 0
+IsHeard peer None heard = heard ≡ Nothing
+IsHeard peer (Some next) Nothing = ⊥
+IsHeard peer (Some next) Stranger = next.0 ≢ peer
+IsHeard peer (Some next) (Datagram bytes) = (next.0 ≡ peer) × (next.1 ≡ bytes.items)
+
+-- the datagrams of the peer that were heard by it
+abbrev pub datagrams_in : Heard → List (List ℕ)
+datagrams_in Nothing = []
+datagrams_in Stranger = []
+datagrams_in (Datagram bytes) = bytes.items ∷ []
+
+-- behind what a driver was sent before, it was sent this word, and the next word has the next number
+pub record IsSaid (word : List ℕ) (number : ℕ) (sent : List (List ℕ)) (number_then : ℕ) (sent_then : List (List ℕ)) : Type 0 where
+  pub said : sent_then ≡ sent ++ word ∷ []
+  pub next : number_then ≡ next_number number
+
+-- the last of the datagrams that were heard of the driver, and no word
+abbrev pub IsHeardLast : List ℕ → List (List ℕ) → Type 0
+IsHeardLast frame heard = (is_word frame ≡ false) × ((before : List (List ℕ)) × (heard ≡ before ++ frame ∷ []))
+
+-- what is told of a map before anything else: where it is due, all of it
+abbrev pub words_due : Bool → map.FinMap addr_cmp ℕ → ℕ → List (List ℕ)
+words_due true stations number = map_text number (map.entries stations) ∷ []
+words_due false stations number = []
+
+-- behind what was told before, a call is told by its word, unless the map is due then, which has what the call changed
+abbrev pub IsTold : List ℕ → List (List ℕ) → Bool → List (List ℕ) → Type 0
+IsTold word told true told_then = told_then ≡ told
+IsTold word told false told_then = told_then ≡ told ++ word ∷ []
+
+-- behind what was told before, the map is told, if it was due or was asked for, unless it is due still
+abbrev pub IsToldMap : Bool → List ℕ → List (List ℕ) → Bool → List (List ℕ) → Type 0
+IsToldMap due word told true told_then = told_then ≡ told
+IsToldMap true word told false told_then = told_then ≡ told ++ word ∷ []
+IsToldMap false word told false told_then = (told_then ≡ told) ⊎ (told_then ≡ told ++ word ∷ [])
