@@ -1,9 +1,9 @@
 -- One call more in a record of calls.
 use Rattle.std.proofs.Common.{◌≡◌, ◌≤◌, ◌+◌, ◌⊎◌, inl, inr, ⊎_elim, ℕ, IsTrue, List, [], ◌∷◌, ◌++◌, length, refl, sym, ◌∙◌, ap, subst, arith}
-use Rattle.std.proofs.lemmas.List.{take_all, take-append-le, length_push}
+use Rattle.std.proofs.lemmas.List.{append-nil, take_all, take-append-le, length_push}
 use Rattle.std.proofs.lemmas.Bool.{and_parts, and_from, le-leb, cases_lt}
 use Rattle.apd_disk.specs.Disk.{with_bytes, TornWithin, Elapses}
-use Rattle.apd_disk.specs.Mem.{reads_after, all_fit, Leaves, LeftAfter, LeftBetween, TornFrom}
+use Rattle.apd_disk.specs.Mem.{reads_after, all_fit, Leaves, LeftAfter, LeftBetween, TornFrom, HasMore}
 use Rattle.apd_disk.specs.MemLaws.{reads_left, only_last}
 use Rattle.apd_disk.specs.declared.call.Call.{Call}
 use Rattle.apd_disk.specs.declared.call.Call.TheVariants.{Read, Write, Sync}
@@ -101,6 +101,14 @@ module _ (initial : List ℕ) (calls after : List Call) (call : Call) (is : afte
       (λ before. inl (only_last initial calls c before))
       (λ last. inr last)
       (between_push initial calls call (length calls) c (subst (λ (l : List Call). LeftBetween initial l (length calls) c) is left))
+
+-- one call more, or none
+module _ (initial : List ℕ) (calls after : List Call) where
+  pub has_pushed : (call : Call) → after ≡ calls ++ call ∷ [] → HasMore initial calls initial after
+  has_pushed call is = record { same = refl; since = call ∷ []; all = is }
+
+  pub has_none : after ≡ calls → HasMore initial calls initial after
+  has_none is = record { same = refl; since = []; all = is ∙ sym (append-nil calls) }
 
 torn_same : (at n : ℕ) (c : List ℕ) → TornWithin at n c c
 torn_same at n c = record { before = refl; after = refl; same_length = refl }

@@ -1,10 +1,11 @@
 -- One call of a file, with its note.
 use Rattle.std.proofs.Common.{◌≡◌, ◌≤◌, ◌+◌, ⊎_elim, ℕ, List, length, take, drop, Result, Ok, Err, refl, sym, ◌∙◌, ap, subst}
-use Rattle.std.specs.Prelude.{IsErr, [], get_or}
+use Rattle.std.specs.Prelude.{IsErr, [], ◌∷◌, get_or}
 use Rattle.apd_disk.specs.Disk.{IsRead, IsSynced, IsWritten}
-use Rattle.apd_disk.specs.FileCalls.{gave, wrote, tore, synced, missed, lost, file_reads, FileLeaves}
+use Rattle.apd_disk.specs.FileCalls.{FileCall, gave, wrote, tore, synced, missed, lost, file_reads, FileLeaves}
 use Rattle.apd_disk.specs.FileLaws.{torn_same, reads_left, only_now, elapses_by, elapses_not, during}
 use Rattle.apd_disk.specs.FileModel.{file_model, noting, noting_tore, noting_lost, next_left}
+use Rattle.apd_disk.specs.FileMore.{HasMore, has_same}
 use Rattle.apd_disk.specs.declared.file.FileDisk.{FileDisk}
 use Rattle.apd_disk.specs.declared.record.FileRecord.{FileRecord}
 
@@ -16,6 +17,9 @@ module _ {F : Type 0} (old new : FileDisk F) (len : new.len ≡ old.len) where
   is_after known is =
       sym (ap (λ (n : ℕ). record new { len = n }) len ∙ ap (λ (k : FileRecord). record new { len = old.len; known = k }) is)
 
+  has_one : (call : FileCall) → HasMore old.known (noting call old.known)
+  has_one call = record { held = refl; left = refl; since = call ∷ []; calls = refl }
+
   module _ {T E : Type 0} where
     -- a read that gave these bytes
     pub gave_is_read : (at : ℕ) (before bytes : List ℕ) (value : T) → length bytes ≡ length before
@@ -25,6 +29,7 @@ module _ {F : Type 0} (old new : FileDisk F) (len : new.len ≡ old.len) where
         let calls = old.known.calls in
         subst (λ (d : FileDisk F). IsRead {E = E} file_model old d (Ok value) at before bytes) (is_after (noting (gave at bytes) old.known) is)
         (record {
+          goes_on = has_one (gave at bytes);
           length_stays = refl;
           was_honest = λ h. h.0;
           bytes = λ h. h.1 ∙ ap (λ (n : ℕ). take n (drop at (file_reads held calls))) size;
@@ -41,6 +46,7 @@ module _ {F : Type 0} (old new : FileDisk F) (len : new.len ≡ old.len) where
         let calls = old.known.calls in
         subst (λ (d : FileDisk F). IsRead {T = T} file_model old d (Err why) at before bytes) (is_after (noting missed old.known) is)
         (record {
+          goes_on = has_one missed;
           length_stays = refl;
           was_honest = λ h. h;
           bytes = λ h. tt;
@@ -56,6 +62,7 @@ module _ {F : Type 0} (old new : FileDisk F) (len : new.len ≡ old.len) where
         let calls = old.known.calls in
         subst (λ (d : FileDisk F). IsWritten {E = E} file_model old d (Ok value) at bytes) (is_after (noting (wrote at bytes) old.known) is)
         (record {
+          goes_on = has_one (wrote at bytes);
           length_stays = refl;
           stays_honest = (λ h. (h, fits), λ h. h.0);
           written = λ h. refl;
@@ -72,6 +79,7 @@ module _ {F : Type 0} (old new : FileDisk F) (len : new.len ≡ old.len) where
         let torn = get_or (next_left old.known) 0 [] in
         subst (λ (d : FileDisk F). IsWritten {T = T} file_model old d (Err why) at bytes) (is_after (noting_tore at (length bytes) old.known) is)
         (record {
+          goes_on = has_one (tore at (length bytes) torn);
           length_stays = refl;
           stays_honest = (λ h. (h, fits), λ h. h.0);
           written = λ h. tt;
@@ -87,6 +95,7 @@ module _ {F : Type 0} (old new : FileDisk F) (len : new.len ≡ old.len) where
         let calls = old.known.calls in
         subst (λ (d : FileDisk F). IsWritten {T = T} file_model old d (Err why) at bytes) (is_after old.known is)
         (record {
+          goes_on = has_same old.known;
           length_stays = refl;
           stays_honest = (λ h. h, λ h. h);
           written = λ h. tt;
@@ -100,6 +109,7 @@ module _ {F : Type 0} (old new : FileDisk F) (len : new.len ≡ old.len) where
         let calls = old.known.calls in
         subst (λ (d : FileDisk F). IsSynced {E = E} file_model old d (Ok value)) (is_after (noting synced old.known) is)
         (record {
+          goes_on = has_one synced;
           length_stays = refl;
           stays_honest = (λ h. h, λ h. h);
           durable = λ h c left. left;
@@ -118,6 +128,7 @@ module _ {F : Type 0} (old new : FileDisk F) (len : new.len ≡ old.len) where
         let calls = old.known.calls in
         subst (λ (d : FileDisk F). IsSynced {T = T} file_model old d (Err why)) (is_after (noting_lost old.known) is)
         (record {
+          goes_on = has_one (lost (next_left old.known));
           length_stays = refl;
           stays_honest = (λ h. h, λ h. h);
           durable = λ h. tt;
@@ -133,6 +144,7 @@ module _ {F : Type 0} (old new : FileDisk F) (len : new.len ≡ old.len) where
         let calls = old.known.calls in
         subst (λ (d : FileDisk F). IsSynced {T = T} file_model old d (Err why)) (is_after old.known is)
         (record {
+          goes_on = has_same old.known;
           length_stays = refl;
           stays_honest = (λ h. h, λ h. h);
           durable = λ h. tt;

@@ -2,7 +2,8 @@
 use Rattle.std.specs.Prelude.{◌≡◌, ◌⊎◌, ◌↔◌, ℕ, ◌+◌, ◌≤◌, List, ◌++◌, length, take, drop, Result, OnErr, OnOk}
 use Rattle.apd_base.specs.Failures.{HasRisen}
 
--- What is meant by a disk of this type. All of it but the size and the count of failures is said of an honest disk alone.
+-- What is meant by a disk of this type. All of it but the size, the count of failures and what becomes of it is said of an
+-- honest disk alone.
 pub record DiskModel (D : Type 0) : Type 1 where
   -- whether the disk keeps what is said of it
   pub honest : D → Type 0
@@ -18,6 +19,11 @@ pub record DiskModel (D : Type 0) : Type 1 where
   pub size : D → ℕ
   -- how often the device has failed, up to 2^64 - 1
   pub failed : D → ℕ
+  -- The second is what became of the first by calls: it held the same at first, and has the same calls and maybe more.
+  pub goes_on : D → D → Type 0
+  -- none is made, or some behind others
+  pub stays : (d : D) → goes_on d d
+  pub goes_further : (d e f : D) → goes_on d e → goes_on e f → goes_on d f
 
 -- the model of a disk that lies inside another value
 abbrev pub inside : {D E : Type 0} → DiskModel D → (E → D) → DiskModel E
@@ -29,6 +35,9 @@ inside disk inner = record {
   left_since = λ e. disk.left_since (inner e);
   size = λ e. disk.size (inner e);
   failed = λ e. disk.failed (inner e);
+  goes_on = λ e f. disk.goes_on (inner e) (inner f);
+  stays = λ e. disk.stays (inner e);
+  goes_further = λ e f g. disk.goes_further (inner e) (inner f) (inner g);
 }
 
 -- the same model, but for the count of failures
@@ -71,19 +80,22 @@ pub record Counts {T E : Type 0} (before now : ℕ) (result : Result T E) : Type
   pub stays : OnOk result (now ≡ before)
   pub rises : OnErr result (HasRisen before now)
 
--- A stop at any moment since old leaves an image that has P. It is for the contracts of those who make several calls,
--- as a store; the lemmas on how such runs go on are in proofs/Moments.
+-- Calls lead from the old disk to the new, and a stop at any moment since old leaves an image that has P. It is for the
+-- contracts of those who make several calls, as a store; the lemmas on how such runs go on are in proofs/Moments.
 pub record LeavesOnly {D : Type 0} (disk : DiskModel D) (old new : D)
     (P : List ℕ → Type 0) : Type 0 where
+  pub goes_on : disk.goes_on old new
   pub later : disk.moment old ≤ disk.moment new
   pub each : (c : List ℕ) → disk.left_since new (disk.moment old) c → P c
   -- for a run that began earlier
   pub before : (t : ℕ) (c : List ℕ) → t ≤ disk.moment old → disk.left_since new t c → disk.left_since old t c ⊎ P c
 
--- ---- What one call does, on a disk of this kind: all of it but the length is said of an honest disk alone.
+-- ---- What one call does, on a disk of this kind: all of it but the length, and that the disk goes on, is said of an honest
+-- disk alone.
 module _ {D T E : Type 0} (disk : DiskModel D) (old new : D) (result : Result T E) where
   -- A buffer that held something is filled with the bytes from a place on. A read alone may show that a disk isn't honest.
   pub record IsRead (at : ℕ) (before after : List ℕ) : Type 0 where
+    pub goes_on : disk.goes_on old new
     pub length_stays : disk.size new ≡ disk.size old
     pub was_honest : disk.honest new → disk.honest old
     pub bytes : disk.honest new → OnOk result (after ≡ take (length before) (drop at (disk.reads old)))
@@ -93,6 +105,7 @@ module _ {D T E : Type 0} (disk : DiskModel D) (old new : D) (result : Result T 
 
   -- the bytes are written from a place on
   pub record IsWritten (at : ℕ) (bytes : List ℕ) : Type 0 where
+    pub goes_on : disk.goes_on old new
     pub length_stays : disk.size new ≡ disk.size old
     pub stays_honest : disk.honest old ↔ disk.honest new
     pub written : disk.honest old → OnOk result (disk.reads new ≡ with_bytes (disk.reads old) at bytes)
@@ -101,6 +114,7 @@ module _ {D T E : Type 0} (disk : DiskModel D) (old new : D) (result : Result T 
 
   -- what was written is made durable
   pub record IsSynced : Type 0 where
+    pub goes_on : disk.goes_on old new
     pub length_stays : disk.size new ≡ disk.size old
     pub stays_honest : disk.honest old ↔ disk.honest new
     pub durable : disk.honest old → OnOk result (Only (disk.reads old) (disk.may_leave new))

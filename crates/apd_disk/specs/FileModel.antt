@@ -2,6 +2,7 @@
 use Rattle.std.specs.Prelude.{◌≡◌, ℕ, List, [], ◌∷◌, length, get_or}
 use Rattle.apd_disk.specs.Disk.{DiskModel}
 use Rattle.apd_disk.specs.FileCalls.{FileCall, tore, lost, file_reads, FileLeaves, FileLeftSince, IsHonestFile}
+use Rattle.apd_disk.specs.FileMore.{HasMore, has_same, has_more}
 use Rattle.apd_disk.specs.declared.file.FileDisk.{FileDisk}
 use Rattle.apd_disk.specs.declared.record.FileRecord.{FileRecord}
 
@@ -30,6 +31,9 @@ file_model = record {
   left_since = λ d. FileLeftSince d.known.held d.known.calls;
   size = λ d. d.len;
   failed = λ d. d.failures;
+  goes_on = λ d e. HasMore d.known e.known;
+  stays = λ d. has_same d.known;
+  goes_further = λ d e f. has_more d.known e.known f.known;
 }
 
 -- The second is the file of the next process, after a loss of power at some moment of the first since t: it holds what

@@ -4,6 +4,7 @@ pub mod Faults
 pub mod FileCalls
 pub mod FileLaws
 pub mod FileModel
+pub mod FileMore
 pub mod Mem
 pub mod MemLaws
 pub mod SystemFile

@@ -39,6 +39,12 @@ LeftAfter initial calls = Leaves (λ d. d ≡ initial) initial calls
 abbrev pub LeftBetween : List ℕ → List Call → ℕ → List ℕ → Type 0
 LeftBetween initial calls t c = (k : ℕ) × (t ≤ k) × (k ≤ length calls) × LeftAfter initial (take k calls) c
 
+-- the same first image, and the same calls with others behind them
+pub record HasMore (initial : List ℕ) (calls : List Call) (initial_now : List ℕ) (calls_now : List Call) : Type 0 where
+  pub same : initial_now ≡ initial
+  pub since : List Call
+  pub all : calls_now ≡ calls ++ since
+
 -- what a read gave at the last sync, where one gave that at the last before the calls, and gives this now
 abbrev pub synced_after : List ℕ → List ℕ → List Call → List ℕ
 synced_after synced reads [] = synced

@@ -1,11 +1,22 @@
 -- Proofs of the laws of a disk in memory. They stand here since an impl may cite nothing of its own crate's proofs/.
 use Rattle.std.proofs.Common.{◌≡◌, ◌≤◌, ◌+◌, zero, suc, ℕ, nat_le, IsTrue, List, [], ◌∷◌, ◌++◌, length, take, drop, refl, sym, ◌∙◌, ap, subst, arith, length-append, length-take, length-drop}
-use Rattle.std.proofs.lemmas.List.{take_at, drop_at, take_all, append_assoc, length-take-le}
+use Rattle.std.proofs.lemmas.List.{append-nil, take_at, drop_at, take_all, append_assoc, length-take-le}
 use Rattle.std.proofs.lemmas.Bool.{and_parts, and_from, leb-true}
 use Rattle.apd_disk.specs.Disk.{with_bytes, TornWithin}
-use Rattle.apd_disk.specs.Mem.{reads_after, all_fit, TornFrom, Leaves, LeftAfter, LeftBetween}
+use Rattle.apd_disk.specs.Mem.{reads_after, all_fit, TornFrom, Leaves, LeftAfter, LeftBetween, HasMore}
 use Rattle.apd_disk.specs.declared.call.Call.{Call}
 use Rattle.apd_disk.specs.declared.call.Call.TheVariants.{Read, Write, Sync}
+
+pub has_same : (initial : List ℕ) (calls : List Call) → HasMore initial calls initial calls
+has_same initial calls = record { same = refl; since = []; all = sym (append-nil calls) }
+
+pub has_more : (a : List ℕ) (x : List Call) (b : List ℕ) (y : List Call) (c : List ℕ) (z : List Call)
+    → HasMore a x b y → HasMore b y c z → HasMore a x c z
+has_more a x b y c z first next = record {
+  same = next.same ∙ first.same;
+  since = first.since ++ next.since;
+  all = next.all ∙ ap (λ (calls : List Call). calls ++ next.since) first.all ∙ append_assoc x first.since next.since;
+}
 
 pub length-with_bytes : (image : List ℕ) (at : ℕ) (bytes : List ℕ) → at + length bytes ≤ length image
     → length (with_bytes image at bytes) ≡ length image

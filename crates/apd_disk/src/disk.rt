@@ -1,5 +1,5 @@
-//! A disk by what a read gives and what a stop may leave. All of it but the length and the count of failures
-//! is said of an honest disk alone.
+//! A disk by what a read gives and what a stop may leave. All of it but the length, the count of failures and what
+//! becomes of the disk is said of an honest disk alone.
 ghost use Rattle.std.specs.Prelude.{◌≡◌, ◌≤◌, ◌+◌, List, ℕ, length};
 ghost use Rattle.apd_disk.specs.Disk.{Counts, DiskModel, IsRead, IsSynced, IsWritten};
 
@@ -8,7 +8,7 @@ use crate::DiskFault;
 /// A device of a fixed number of bytes. An image is the list of all its bytes.
 pub trait Disk {
     /// What is meant by such a disk: whether it keeps what is said below, what a read gives, what a stop may
-    /// leave, its moment, its size and how often it has failed.
+    /// leave, its moment, its size, how often it has failed, and what becomes of it by calls.
     ghost model: { DiskModel Self };
 
     /// The number of bytes, which no call changes.

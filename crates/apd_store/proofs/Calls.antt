@@ -41,11 +41,11 @@ made_or_refused (Err e) only = ⊎_elim (λ d. inl (λ f. let x : Err Device ≡
 
 module _ {D : Type 0} (disk : DiskModel D) where
   -- a write to a half, which is refused where it lies outside
-  pub write_run : (made : Result (Unit {0}) StoreFault) (old new : D) (P : List ℕ → Type 0) → OnErr made ((made ≡ Err Device) ⊎ (made ≡ Err Refused)) → (made ≡ Err Refused → new ≡ old)
+  pub write_run : (made : Result (Unit {0}) StoreFault) (old new : D) (P : List ℕ → Type 0) → OnErr made ((made ≡ Err Device) ⊎ (made ≡ Err Refused)) → (made ≡ Err Refused → new ≡ old) → disk.goes_on old new
       → (made ≢ Err Refused → Elapses (disk.moment old) (disk.moment new) (disk.left_since old) (disk.left_since new))
       → (made ≢ Err Refused → (c : List ℕ) → disk.left_since new (disk.moment old) c → P c) → ((c : List ℕ) → disk.left_since old (disk.moment old) c → P c) → LeavesOnly disk old new P
-  write_run made old new P only same time during here = ⊎_elim
-      (λ was. one_call disk old new P (time was) (during was))
+  write_run made old new P only same on time during here = ⊎_elim
+      (λ was. one_call disk old new P on (time was) (during was))
       (λ was. subst (λ (d : D). LeavesOnly disk old d P) (sym (same was)) (started disk old P here))
       (made_or_refused made only)
 

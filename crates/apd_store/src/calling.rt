@@ -21,6 +21,7 @@ pub(crate) fn write_in_half<D: Disk>(
     bytes: &[u8],
 ) -> Result<(), StoreFault>
     ensures size { D.model.size device.new ≡ D.model.size device.old }
+    ensures goes_on { D.model.goes_on device.old device.new }
     ensures honest { D.model.honest device.old ↔ D.model.honest device.new }
     ensures written { D.model.honest device.old
         → OnOk result

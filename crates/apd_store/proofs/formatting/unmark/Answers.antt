@@ -16,9 +16,9 @@ module _ {D T E : Type 0} (disk : DiskModel D) (counts : (d : D) (t : ℕ) (i : 
       let P = IsLeft marks (disk.may_leave old) in
       let h1 = is_read.was_honest h2 in
       let h = synced.stays_honest.1 h1 in
-      let first = one_call disk old one P (synced.time h) (λ i during. inl (synced.stop h i during)) in
-      let second = quiet_call disk old one two P (λ t i le left. counts one t i h1 le left) first (is_read.time h1) (is_read.stop h1) in
-      then_run disk old two three P second (one_call disk two three P (written.time h2) (λ i during.
+      let first = one_call disk old one P synced.goes_on (synced.time h) (λ i during. inl (synced.stop h i during)) in
+      let second = quiet_call disk old one two P (λ t i le left. counts one t i h1 le left) first is_read.goes_on (is_read.time h1) (is_read.stop h1) in
+      then_run disk old two three P second (one_call disk two three P written.goes_on (written.time h2) (λ i during.
       let from = written.stop h2 i during in
       let in_one = is_read.stop h1 from.0 (counts two (disk.moment one) from.0 h2 (is_read.time h1).later from.1) in
       let in_old = synced.stop h from.0 (counts one (disk.moment old) from.0 h1 (synced.time h).later in_one) in
@@ -27,7 +27,7 @@ module _ {D T E : Type 0} (disk : DiskModel D) (counts : (d : D) (t : ℕ) (i : 
   then_synced : {new : D} {u : Result T E} → IsSynced disk three new u → LeavesOnly disk old new (IsLeft marks (disk.may_leave old))
   then_synced {new} again =
       let h3 = written.stays_honest.0 h2 in
-      quiet_call disk old three new (IsLeft marks (disk.may_leave old)) (λ t i le left. counts three t i h3 le left) over_mark (again.time h3) (again.stop h3)
+      quiet_call disk old three new (IsLeft marks (disk.may_leave old)) (λ t i le left. counts three t i h3 le left) over_mark again.goes_on (again.time h3) (again.stop h3)
 
 pub returns-in_err-write_at-clause-any_moment : goal.returns-in_err-write_at-clause-any_moment
 returns-in_err-write_at-clause-any_moment g c = λ new_honest.

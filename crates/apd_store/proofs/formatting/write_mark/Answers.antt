@@ -6,7 +6,7 @@ use Rattle.apd_store.proofs.formatting.write_mark.Goals as goal
 pub returns-in_err-write_at-clause-any_moment : goal.returns-in_err-write_at-clause-any_moment
 returns-in_err-write_at-clause-any_moment g c = λ epoch gate state h laid only.
     let d = g.D.Disk in
-    one_call d.model c.args.device.now c.write_at.new.self (λ i. IsLaidOut i epoch gate state) (c.write_at.ensures.call.time h)
+    one_call d.model c.args.device.now c.write_at.new.self (λ i. IsLaidOut i epoch gate state) c.write_at.ensures.call.goes_on (c.write_at.ensures.call.time h)
     (mark_images (d.model.reads c.args.device.now) (d.model.may_leave c.args.device.now) (d.model.left_since c.write_at.new.self (d.model.moment c.args.device.now)) epoch gate state laid only (c.write_at.ensures.call.stop h))
 
 pub returns-clause-any_moment : goal.returns-clause-any_moment
@@ -15,9 +15,9 @@ returns-clause-any_moment g c = λ epoch gate state h laid only.
     let P = λ (i : List ℕ). IsLaidOut i epoch gate state in
     let mid = c.write_at.new.self in
     let here = c.write_at.ensures.call.stays_honest.0 h in
-    let first = one_call d.model c.args.device.now mid P (c.write_at.ensures.call.time h)
+    let first = one_call d.model c.args.device.now mid P c.write_at.ensures.call.goes_on (c.write_at.ensures.call.time h)
     (mark_images (d.model.reads c.args.device.now) (d.model.may_leave c.args.device.now) (d.model.left_since mid (d.model.moment c.args.device.now)) epoch gate state laid only (c.write_at.ensures.call.stop h)) in
-    quiet_call d.model c.args.device.now mid c.sync.new.self P (λ t i le left. g.met.D.Disk.counts_now mid t i here le left) first (c.sync.ensures.call.time here) (c.sync.ensures.call.stop here)
+    quiet_call d.model c.args.device.now mid c.sync.new.self P (λ t i le left. g.met.D.Disk.counts_now mid t i here le left) first c.sync.ensures.call.goes_on (c.sync.ensures.call.time here) (c.sync.ensures.call.stop here)
 
 pub returns-clause-found : goal.returns-clause-found
 returns-clause-found g c = λ epoch gate state h laid only.

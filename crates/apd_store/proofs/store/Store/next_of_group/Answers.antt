@@ -8,7 +8,7 @@ pub returns-in-WriteGroup-clause-any_moment : goal.returns-in-WriteGroup-clause-
 returns-in-WriteGroup-clause-any_moment g c = λ state after h s.
     let store = c.args.self.now in
     let device = c.write_in_half-made.new.device in
-    write_run g.D.Disk.model c.write_in_half-made.result store.device device (MayShow (calls_from store.phase) state after) c.write_in_half-made.ensures.only c.write_in_half-made.ensures.outside (c.write_in_half-made.ensures.time h)
+    write_run g.D.Disk.model c.write_in_half-made.result store.device device (MayShow (calls_from store.phase) state after) c.write_in_half-made.ensures.only c.write_in_half-made.ensures.outside c.write_in_half-made.ensures.goes_on (c.write_in_half-made.ensures.time h)
     (λ made. during_write g.D.Disk.model store state after s (start_of store.half + store.plan.place) c.as_slice-bytes.result.now refl c.as_slice-bytes.ensures
     c.in-WriteGroup.is (g.D.Disk.model.left_since device (g.D.Disk.model.moment store.device)) (c.write_in_half-made.ensures.stop h made))
     (λ i left. now_shows g.D.Disk.model store state after s i (g.met.D.Disk.only_now store.device i h left))
@@ -46,7 +46,7 @@ returns-in-WriteGroup-clause-stuck_early g c = λ state after h s early.
 pub returns-in-SyncGroup-clause-any_moment : goal.returns-in-SyncGroup-clause-any_moment
 returns-in-SyncGroup-clause-any_moment g c = λ state after h s.
     let store = c.args.self.now in
-    one_call g.D.Disk.model store.device c.sync.new.self (MayShow (calls_from store.phase) state after) (c.sync.ensures.call.time h)
+    one_call g.D.Disk.model store.device c.sync.new.self (MayShow (calls_from store.phase) state after) c.sync.ensures.call.goes_on (c.sync.ensures.call.time h)
     (λ i during. now_shows g.D.Disk.model store state after s i (c.sync.ensures.call.stop h i during))
 
 pub returns-in-SyncGroup-clause-stuck : goal.returns-in-SyncGroup-clause-stuck
@@ -69,7 +69,7 @@ pub returns-in-OpenGate-clause-any_moment : goal.returns-in-OpenGate-clause-any_
 returns-in-OpenGate-clause-any_moment g c = λ state after h s.
     let store = c.args.self.now in
     let device = c.write_in_half-made-in-OpenGate.new.device in
-    write_run g.D.Disk.model c.write_in_half-made-in-OpenGate.result store.device device (MayShow (calls_from store.phase) state after) c.write_in_half-made-in-OpenGate.ensures.only c.write_in_half-made-in-OpenGate.ensures.outside (c.write_in_half-made-in-OpenGate.ensures.time h)
+    write_run g.D.Disk.model c.write_in_half-made-in-OpenGate.result store.device device (MayShow (calls_from store.phase) state after) c.write_in_half-made-in-OpenGate.ensures.only c.write_in_half-made-in-OpenGate.ensures.outside c.write_in_half-made-in-OpenGate.ensures.goes_on (c.write_in_half-made-in-OpenGate.ensures.time h)
     (λ made. during_gate g.D.Disk.model store state after s (start_of store.half + store.gate) refl
     c.in-OpenGate.is (g.D.Disk.model.left_since device (g.D.Disk.model.moment store.device)) (c.write_in_half-made-in-OpenGate.ensures.stop h made))
     (λ i left. now_shows g.D.Disk.model store state after s i (g.met.D.Disk.only_now store.device i h left))
@@ -99,7 +99,7 @@ returns-in-OpenGate-clause-stuck g c = λ state after h s.
 pub returns-in-SyncGate-clause-any_moment : goal.returns-in-SyncGate-clause-any_moment
 returns-in-SyncGate-clause-any_moment g c = λ state after h s.
     let store = c.args.self.now in
-    one_call g.D.Disk.model store.device c.sync-in-SyncGate.new.self (MayShow (calls_from store.phase) state after) (c.sync-in-SyncGate.ensures.call.time h)
+    one_call g.D.Disk.model store.device c.sync-in-SyncGate.new.self (MayShow (calls_from store.phase) state after) c.sync-in-SyncGate.ensures.call.goes_on (c.sync-in-SyncGate.ensures.call.time h)
     (λ i during. now_shows g.D.Disk.model store state after s i (c.sync-in-SyncGate.ensures.call.stop h i during))
 
 pub returns-in-SyncGate-clause-stuck : goal.returns-in-SyncGate-clause-stuck

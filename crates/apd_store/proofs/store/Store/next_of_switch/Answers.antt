@@ -9,7 +9,7 @@ returns-in-CloseOther-clause-any_moment g c = λ state after h s.
     let store = c.args.self.now in
     let device = c.write_in_half-made.new.device in
     let during = g.D.Disk.model.left_since device (g.D.Disk.model.moment store.device) in
-    write_run g.D.Disk.model c.write_in_half-made.result store.device device (λ i. Shows i state) c.write_in_half-made.ensures.only c.write_in_half-made.ensures.outside (c.write_in_half-made.ensures.time h)
+    write_run g.D.Disk.model c.write_in_half-made.result store.device device (λ i. Shows i state) c.write_in_half-made.ensures.only c.write_in_half-made.ensures.outside c.write_in_half-made.ensures.goes_on (c.write_in_half-made.ensures.time h)
     (λ made. during_closing g.D.Disk.model store state after s c.in-CloseOther.is during (closing_images g.D.Disk.model store state after s c.other-side.result c.other-side.ensures c.in-CloseOther.is during (c.write_in_half-made.ensures.stop h made)))
     (λ i left. switch_shows g.D.Disk.model store state after s i (g.met.D.Disk.only_now store.device i h left))
 
@@ -40,7 +40,7 @@ returns-in-WriteHalf-clause-any_moment g c = λ state after h s.
     let store = c.args.self.now in
     let device = c.write_in_half-made-in-WriteHalf.new.device in
     let during = g.D.Disk.model.left_since device (g.D.Disk.model.moment store.device) in
-    write_run g.D.Disk.model c.write_in_half-made-in-WriteHalf.result store.device device (λ i. Shows i state) c.write_in_half-made-in-WriteHalf.ensures.only c.write_in_half-made-in-WriteHalf.ensures.outside (c.write_in_half-made-in-WriteHalf.ensures.time h)
+    write_run g.D.Disk.model c.write_in_half-made-in-WriteHalf.result store.device device (λ i. Shows i state) c.write_in_half-made-in-WriteHalf.ensures.only c.write_in_half-made-in-WriteHalf.ensures.outside c.write_in_half-made-in-WriteHalf.ensures.goes_on (c.write_in_half-made-in-WriteHalf.ensures.time h)
     (λ made. during_writing g.D.Disk.model store state after s c.in-WriteHalf.is during (writing_images g.D.Disk.model store state after s c.other-side.result c.other-side.ensures c.as_slice-bytes.result.now c.as_slice-bytes.ensures c.in-WriteHalf.is during (c.write_in_half-made-in-WriteHalf.ensures.stop h made)))
     (λ i left. switch_shows g.D.Disk.model store state after s i (g.met.D.Disk.only_now store.device i h left))
 
@@ -71,7 +71,7 @@ returns-in-OpenHalf-clause-any_moment g c = λ state after h s.
     let store = c.args.self.now in
     let device = c.write_in_half-made-in-OpenHalf.new.device in
     let during = g.D.Disk.model.left_since device (g.D.Disk.model.moment store.device) in
-    write_run g.D.Disk.model c.write_in_half-made-in-OpenHalf.result store.device device (λ i. Shows i state) c.write_in_half-made-in-OpenHalf.ensures.only c.write_in_half-made-in-OpenHalf.ensures.outside (c.write_in_half-made-in-OpenHalf.ensures.time h)
+    write_run g.D.Disk.model c.write_in_half-made-in-OpenHalf.result store.device device (λ i. Shows i state) c.write_in_half-made-in-OpenHalf.ensures.only c.write_in_half-made-in-OpenHalf.ensures.outside c.write_in_half-made-in-OpenHalf.ensures.goes_on (c.write_in_half-made-in-OpenHalf.ensures.time h)
     (λ made. during_opening g.D.Disk.model store state after s during (opening_images g.D.Disk.model store state after s c.other-side.result c.other-side.ensures c.in-OpenHalf.is during (c.write_in_half-made-in-OpenHalf.ensures.stop h made)))
     (λ i left. switch_shows g.D.Disk.model store state after s i (g.met.D.Disk.only_now store.device i h left))
 
@@ -100,7 +100,7 @@ returns-in-OpenHalf-clause-stuck g c = λ state after h s.
 pub returns-in-SyncClosed-clause-any_moment : goal.returns-in-SyncClosed-clause-any_moment
 returns-in-SyncClosed-clause-any_moment g c = λ state after h s.
     let store = c.args.self.now in
-    one_call g.D.Disk.model store.device c.sync.new.self (λ i. Shows i state) (c.sync.ensures.call.time h)
+    one_call g.D.Disk.model store.device c.sync.new.self (λ i. Shows i state) c.sync.ensures.call.goes_on (c.sync.ensures.call.time h)
     (λ i during. switch_shows g.D.Disk.model store state after s i (c.sync.ensures.call.stop h i during))
 
 pub returns-in-SyncClosed-clause-on : goal.returns-in-SyncClosed-clause-on
@@ -123,7 +123,7 @@ returns-in-SyncClosed-clause-stuck g c = λ state after h s.
 pub returns-in-SyncHalf-clause-any_moment : goal.returns-in-SyncHalf-clause-any_moment
 returns-in-SyncHalf-clause-any_moment g c = λ state after h s.
     let store = c.args.self.now in
-    one_call g.D.Disk.model store.device c.sync-in-SyncHalf.new.self (λ i. Shows i state) (c.sync-in-SyncHalf.ensures.call.time h)
+    one_call g.D.Disk.model store.device c.sync-in-SyncHalf.new.self (λ i. Shows i state) c.sync-in-SyncHalf.ensures.call.goes_on (c.sync-in-SyncHalf.ensures.call.time h)
     (λ i during. switch_shows g.D.Disk.model store state after s i (c.sync-in-SyncHalf.ensures.call.stop h i during))
 
 pub returns-in-SyncHalf-clause-on : goal.returns-in-SyncHalf-clause-on
@@ -146,7 +146,7 @@ returns-in-SyncHalf-clause-stuck g c = λ state after h s.
 pub returns-in_default-sync-clause-any_moment : goal.returns-in_default-sync-clause-any_moment
 returns-in_default-sync-clause-any_moment g c = λ state after h s.
     let store = c.args.self.now in
-    one_call g.D.Disk.model store.device c.sync-in-SyncOpened.new.self (λ i. Shows i state) (c.sync-in-SyncOpened.ensures.call.time h)
+    one_call g.D.Disk.model store.device c.sync-in-SyncOpened.new.self (λ i. Shows i state) c.sync-in-SyncOpened.ensures.call.goes_on (c.sync-in-SyncOpened.ensures.call.time h)
     (λ i during. switch_shows g.D.Disk.model store state after s i (c.sync-in-SyncOpened.ensures.call.stop h i during))
 
 pub returns-in_default-sync-clause-stuck : goal.returns-in_default-sync-clause-stuck
@@ -160,7 +160,7 @@ pub returns-in-Ok-clause-any_moment : goal.returns-in-Ok-clause-any_moment
 returns-in-Ok-clause-any_moment g c = λ state after h s.
     let store = c.args.self.now in
     subst (λ d. LeavesOnly g.D.Disk.model store.device d (λ i. Shows i state)) (sym c.turn_over.ensures.device)
-    (one_call g.D.Disk.model store.device c.sync-in-SyncOpened.new.self (λ i. Shows i state) (c.sync-in-SyncOpened.ensures.call.time h)
+    (one_call g.D.Disk.model store.device c.sync-in-SyncOpened.new.self (λ i. Shows i state) c.sync-in-SyncOpened.ensures.call.goes_on (c.sync-in-SyncOpened.ensures.call.time h)
     (λ i during. switch_shows g.D.Disk.model store state after s i (c.sync-in-SyncOpened.ensures.call.stop h i during)))
 
 pub returns-in-Ok-clause-on : goal.returns-in-Ok-clause-on
