@@ -1,3 +1,4 @@
 pub mod CallLemmas
 pub mod RunLemmas
+pub mod ServingLemmas
 pub mod StepLemmas

@@ -2,3 +2,4 @@ pub mod Calls
 pub mod Committing
 pub mod Handing
 pub mod Run
+pub mod Serving

@@ -2,10 +2,12 @@
 //! one that others call in between.
 #![tactic(auto)]
 
+mod asks;
 mod committing;
 mod handing;
 mod settles;
 
+pub use asks::Asks;
 pub use committing::{call, fail, publish, take};
 pub use handing::hand_to;
 pub use settles::Settles;
