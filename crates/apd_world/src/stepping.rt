@@ -18,6 +18,7 @@ use apd_ctrl::Query;
 use apd_disk::Disk;
 use apd_flusher::Phase;
 use apd_mlme::{Out, Recipient};
+use apd_steps::Asks;
 use std::alloc::AllocError;
 
 fn reception(answer: Accepted<'_>) -> Reception
@@ -75,8 +76,7 @@ impl<D: Disk> DurableCore<D> {
         ensures device { device_of self.new ≡ device_of self.old }
     {
         self.stops();
-        self.core.sound();
-        match self.core.accept(input, moment) {
+        match self.core.submit(input, moment) {
             Ok(answer) => Told::Accepted(reception(answer)),
             Err(_) => Told::NoMemory,
         }
@@ -124,8 +124,7 @@ impl<D: Disk> DurableCore<D> {
         ensures made { IsStepMade D.model NoMemory self.old self.new }
     {
         self.stops();
-        self.core.sound();
-        match self.core.hand(to) {
+        match self.core.collect(to) {
             Ok(outs) => Ok(Sequence::from_vec(outs)),
             Err(short) => Err(short),
         }
@@ -137,7 +136,7 @@ impl<D: Disk> DurableCore<D> {
         ensures device { device_of self.new ≡ device_of self.old }
     {
         self.stops();
-        match self.core.read(query) {
+        match self.core.ask(query) {
             Ok(answer) => Told::Answered(answer),
             Err(_) => Told::NoMemory,
         }
