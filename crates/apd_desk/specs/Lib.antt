@@ -1,5 +1,6 @@
 pub mod Counted
 pub mod Ends
+pub mod Finding
 pub mod Giving
 pub mod Going
 pub mod Holding

@@ -1,6 +1,7 @@
 //! The worker of the control port.
 ghost use Rattle.std.specs.Prelude.{◌≡◌, ◌∷◌, [], IfOk, IfSome};
-ghost use Rattle.apd_desk.specs.Replying.{AreReplied, AreSettled, HasReplied, IsAnswerOfSome, IsAtOnce, IsEither, text_of};
+ghost use Rattle.apd_desk.specs.Replying.{AreReplied, AreSettled, HasReplied, IsAnswerOfSome, IsAtOnce, IsEither};
+ghost use Rattle.apd_desk.specs.Finding.{IsAnswerTo, IsFoundBySome};
 ghost use Rattle.apd_desk.specs.SeatProgress.{IsLater};
 
 use crate::clock::Clock;
@@ -12,14 +13,31 @@ use crate::seat::Seat;
 use crate::shared::Shared;
 use crate::submitting::submit_passing;
 use crate::waking::Waiter;
+use apd_base::Bssid;
 use apd_core::{Answer, Input};
-use apd_ctrl::{FAIL, Parsed, Placed, Refusal, UNKNOWN_COMMAND, parse_command};
+use apd_ctrl::{Interfaces, Placed, Refusal, place};
 use apd_mlme::{Out, Recipient};
 use std::alloc::Global;
 use std::net::Net;
 use std::sync::Wait;
 use std::sync::ledger::Ledger;
 use std::time::Clock as SystemClock;
+
+/// The interfaces of a shared core, each with what is noted of its radio.
+#[derive(Drop)]
+struct SharedInterfaces<'a, L: Ledger, W> {
+    rt: &'a W,
+    shared: &'a Shared<L>,
+}
+
+// Others may call before and after: what is known is that there was a core by whose configurations one is found.
+impl<L: Ledger, W: Wait> Interfaces for SharedInterfaces<'_, L, W> {
+    ghost finds = { λ _ name found. IsFoundBySome name found };
+
+    fn interface(&self, name: Option<&[u8]>) -> Option<(Bssid, bool)> {
+        self.shared.interface(self.rt, name)
+    }
+}
 
 // Carries a command out. A query is answered at once; where an order became an entry, its reply comes when that is
 // settled.
@@ -36,21 +54,14 @@ fn carry_out<L: Ledger, W: Wait, C: Clock, G: Gate>(
 ) -> Result<Option<Answer>, Refusal>
     ensures later { IsLater seat.old seat.new }
     ensures answered { IfOk result (λ got. IfSome got IsAnswerOfSome) }
+    ensures placed { IsAnswerTo tag bytes.now result }
 {
-    let (interface, command) = match parse_command(bytes) {
-        Parsed::Command { interface, command } => (interface, command),
-        Parsed::Unknown => return Err(Refusal::Unknown),
-        Parsed::Fail => return Err(Refusal::Fail),
-    };
-    let Some((bssid, up)) = shared.interface(rt, interface) else {
-        return Err(Refusal::Fail);
-    };
-    match command.at(bssid, up, tag) {
-        Placed::Ask(query) => match shared.ask(rt, seat, query) {
+    match place(&SharedInterfaces { rt, shared }, tag, bytes) {
+        Ok(Placed::Ask(query)) => match shared.ask(rt, seat, query) {
             Ok(answer) => Ok(Some(answer)),
             Err(_) => Err(Refusal::Fail),
         },
-        Placed::Do(event) => {
+        Ok(Placed::Do(event)) => {
             let order = Input::Order(event);
             if submit_passing(rt, shared, seat, order, clock.now(), gate) {
                 Ok(None)
@@ -58,6 +69,7 @@ fn carry_out<L: Ledger, W: Wait, C: Clock, G: Gate>(
                 Err(Refusal::Fail)
             }
         }
+        Err(refusal) => Err(refusal),
     }
 }
 
@@ -94,21 +106,11 @@ fn answer_query<P: Port>(port: &mut P, tag: u64, answer: &Answer)
     let _sent = port.reply(tag, answer.text());
 }
 
-// The reply to what is refused.
-fn text_of(refusal: Refusal) -> &'static [u8]
-    ensures { result.now ≡ text_of refusal }
-{
-    match refusal {
-        Refusal::Unknown => UNKNOWN_COMMAND,
-        Refusal::Fail => FAIL,
-    }
-}
-
 // Replies that a command is refused.
 fn refuse<P: Port>(port: &mut P, tag: u64, refusal: Refusal)
     ensures { HasReplied IsAtOnce (P.replied port.old) (P.replied port.new) }
 {
-    let _sent = port.reply(tag, text_of(refusal));
+    let _sent = port.reply(tag, refusal.text());
 }
 
 // Serves the commands that wait, up to as many as may be at once.
@@ -181,8 +183,8 @@ fn reply_settled<L: Ledger, W: Wait, P: Port>(
 
 /// Serves a control port until a stop, and gives its seat and the port back: carries out the commands that come, and
 /// replies to each. An order that is no entry, and a query that is not answered, get `FAIL`; one that is an entry is
-/// replied to once that is settled. It holds the lock for no call of the port. Where there is nothing to do it waits for a command, by the port's descriptor, for a reply, or
-/// for a stop.
+/// replied to once that is settled. It holds the lock for no call of the port. Where there is nothing to do it waits for
+/// a command, by the port's descriptor, for a reply, or for a stop.
 pub fn control_worker<L: Ledger, W: Wait + SystemClock + Net, P: Port, C: Clock, G: Gate>(
     rt: &W,
     alloc: Global,

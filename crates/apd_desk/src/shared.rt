@@ -1,10 +1,12 @@
 //! A core that threads share.
 ghost use Rattle.std.specs.Prelude.{◌≡◌, ◌+◌, ◌≤◌, ℕ, IfOk, IfErr, IfSome, OnErr};
+ghost use Rattle.std.specs.Option.{option_copied};
 ghost use Rattle.apd_core.specs.Core.{CoreState};
 ghost use Rattle.apd_slot.specs.Slots.{bssid_of};
 ghost use Rattle.apd_steps.specs.Handing.{HandsTo};
 ghost use Rattle.apd_steps.specs.Calls.{FailTells, PublishTells, TakeTells, exactly, refused_by};
 ghost use Rattle.apd_desk.specs.Counted.{entries_in, entries_of_seats};
+ghost use Rattle.apd_desk.specs.Finding.{IsFoundBySome};
 ghost use Rattle.apd_desk.specs.Replying.{AreReadyOfSome, IsAnswerOfSome};
 ghost use Rattle.apd_desk.specs.TicketOwner.{IsOwn};
 ghost use Rattle.apd_desk.specs.SeatProgress.{IsBehind, IsLater};
@@ -179,9 +181,11 @@ impl<L: Ledger> Shared<L> {
         self.locked.lock(rt).is_noted_up(bssid)
     }
 
-    // The BSSID of the interface that a command names, or else of the first one, and whether its radio is up. Which one
-    // it is, is said where the lock is held.
-    pub(crate) fn interface(&self, rt: &impl Wait, name: Option<&[u8]>) -> Option<(Bssid, bool)> {
+    // The BSSID of the interface that a command names, or else of the first one, by the configurations of some core,
+    // and whether its radio is up. What is noted of that is said where the lock is held.
+    pub(crate) fn interface(&self, rt: &impl Wait, name: Option<&[u8]>) -> Option<(Bssid, bool)>
+        ensures { IsFoundBySome (option_copied name.entry) result }
+    {
         let locked = self.locked.lock(rt);
         let bssid = locked.interface(name)?;
         Some((bssid, locked.is_noted_up(bssid)))

@@ -1,13 +1,14 @@
 -- What the lines of a script do, from what the steps do that they ask for.
 use Rattle.std.proofs.Common.{◌≡◌, ℕ, List, [], Option, Some, None, Result, Ok, Err, IfOk, IfErr, Bool, ap, refl, subst, sym, ◌∙◌}
-use Rattle.std.specs.Option.{option_or}
+use Rattle.std.specs.Option.{option_map, option_or}
 use Rattle.std.specs.Prelude.{length, OnErr, OnOk}
 use Rattle.apd_conf.specs.declared.conf.Conf.{Conf}
-use Rattle.apd_conf.specs.Confs.{conf_named}
+use Rattle.apd_conf.specs.Confs.{conf_meant, conf_named}
 use Rattle.apd_disk.specs.Disk.{DiskModel}
 use Rattle.apd_core.specs.Requests.{frame_happening}
 use Rattle.apd_core.specs.declared.input.QuietReason.{QuietReason}
-use Rattle.apd_ctrl.specs.Placing.{Placing, command_placing}
+use Rattle.apd_ctrl.proofs.OutcomeLemmas.{only}
+use Rattle.apd_ctrl.specs.Placing.{Becomes, Placing, command_placing, placed_at, IsPlaced as IsPlacedCommand}
 use Rattle.apd_ctrl.specs.Reading.{outcome as command_outcome}
 use Rattle.apd_ctrl.specs.declared.command.Command.{Command as Order}
 use Rattle.apd_ctrl.specs.declared.parser.Refusal.{Refusal}
@@ -27,7 +28,7 @@ use Rattle.apd_world.specs.declared.world.World.{World}
 use Rattle.apd_script.specs.Faults.{IsDoneToPrint, IsEndedBy, IsLineFault, IsNoRefusal, IsRefused, IsSaidFault, IsShort, IsStartFault, IsUndone, IsUnwritten}
 use Rattle.apd_script.specs.Lines.{Said, Says, IsNotPossible}
 use Rattle.apd_script.specs.Refused.{refusal_of}
-use Rattle.apd_script.specs.Script.{acceptance_of, confs_of, is_up_at, IsCarriedOut, IsMade, IsMeant, IsPlaced, IsReceived, IsRequested, IsRun, IsTried, Makes, SaysAndIsRun, Starts}
+use Rattle.apd_script.specs.Script.{acceptance_of, confs_of, found_by, is_up_at, IsCarriedOut, IsMade, IsMeant, IsPlaced, IsReceived, IsRequested, IsRun, IsTried, Makes, SaysAndIsRun, Starts}
 use Rattle.apd_script.specs.declared.script.fault.ScriptFault.{ScriptFault}
 use Rattle.apd_script.specs.declared.script.fault.ScriptFault.TheVariants as fault
 use Rattle.apd_script.specs.declared.script.runner.Runner.{Runner}
@@ -107,6 +108,11 @@ pub on_ok : {A E : Type 0} (P : Type 0) (r : Result A E) → P → OnOk r P
 on_ok P (Ok x) p = p
 on_ok P (Err why) p = tt
 
+-- what went well did what follows from it
+pub then_ok : {A E : Type 0} (P Q : Type 0) (r : Result A E) → (P → Q) → OnOk r P → OnOk r Q
+then_ok P Q (Ok x) follows p = follows p
+then_ok P Q (Err why) follows p = tt
+
 -- what is kept where what was done on it went well
 pub kept_ok : {U S E : Type 0} (P : S → Type 0) (done : Result U E) (r : Result S E) (s : S) → OnOk done (r ≡ Ok s) → IfErr done (λ why. r ≡ Err why) → OnOk done (P s) → IfOk r P
 kept_ok P (Ok u) r s is none p = subst (λ x. IfOk x P) (sym is) p
@@ -145,22 +151,34 @@ module _ {D R : Type 0} (disk : DiskModel D) (radio : RadioModel R) where
   placed_ok r p q old new same h = subst (λ x. OnOk r (IsPlaced disk radio x old new)) (sym same) h
 
   -- at the interface that is meant, or at none
-  pub meant_ok : {A : Type 0} (r : Result A ScriptFault) (tag : ℕ) (order : Order) (found : Option Conf) (conf : Conf) (p : Placing) (up : Bool) (old new : Runner D R)
-      → found ≡ Some conf → p ≡ command_placing order conf.bssid up tag → up ≡ is_up_at old conf
-      → OnOk r (IsPlaced disk radio p old new) → OnOk r (IsMeant disk radio tag order found old new)
-  meant_ok r tag order found conf p up old new is at up_is h =
-      let here : OnOk r (IsMeant disk radio tag order (Some conf) old new) =
-      placed_ok r (command_placing order conf.bssid (is_up_at old conf) tag) p old new (ap (λ u. command_placing order conf.bssid u tag) (sym up_is) ∙ sym at) h in
-      subst (λ f. OnOk r (IsMeant disk radio tag order f old new)) (sym is) here
+  meant_placed : (order : Order) (tag : ℕ) (meant : Option Conf) (p : Placing) (old new : Runner D R) → Ok p ≡ placed_at order tag (option_map (λ conf. (conf.bssid, is_up_at old conf)) meant)
+      → IsPlaced disk radio p old new → IsMeant disk radio tag order meant old new
+  meant_placed order tag None p old new is h = cc
+  meant_placed order tag (Some conf) p old new is h =
+      let same : p ≡ command_placing order conf.bssid (is_up_at old conf) tag = cc in
+      subst (λ q. IsPlaced disk radio q old new) same h
 
-  pub unmeant_ok : {A : Type 0} (r : Result A ScriptFault) (tag : ℕ) (order : Order) (found : Option Conf) (old : Runner D R) → found ≡ None
-      → OnOk r (IsMeant disk radio tag order found old old)
-  unmeant_ok r tag order found old is = subst (λ f. OnOk r (IsMeant disk radio tag order f old old)) (sym is) (on_ok (old ≡ old) r refl)
+  none_meant : (order : Order) (tag : ℕ) (meant : Option Conf) (why : Refusal) (old : Runner D R) → Err why ≡ placed_at order tag (option_map (λ conf. (conf.bssid, is_up_at old conf)) meant)
+      → IsMeant disk radio tag order meant old old
+  none_meant order tag None why old is = refl
+  none_meant order tag (Some conf) why old is = cc
 
-  -- by what a text is as a command
-  pub command_ok : {A : Type 0} (r : Result A ScriptFault) (tag : ℕ) (text : List ℕ) (read : Result (Option (List ℕ) × Order) Refusal) (old new : Runner D R) → read ≡ command_outcome text
-      → OnOk r (IsCarriedOut disk radio tag read old new) → OnOk r (IsCarriedOut disk radio tag (command_outcome text) old new)
-  command_ok r tag text read old new is h = subst (λ o. OnOk r (IsCarriedOut disk radio tag o old new)) is h
+  -- what became of a text as a command is carried out, or it makes no step
+  pub carried_out : (tag : ℕ) (text : List ℕ) (p : Placing) (old new : Runner D R) → IsPlacedCommand (λ name found. found ≡ found_by old name) tag text (Ok p) → IsPlaced disk radio p old new
+      → IsCarriedOut disk radio tag (command_outcome text) old new
+  carried_out tag text p old new placed h = subst (λ o. IsCarriedOut disk radio tag o old new) (only text placed.outcome placed.is) (go placed.outcome placed.becomes)
+    where
+      go : (x : Result (Option (List ℕ) × Order) Refusal) → Becomes (λ name found. found ≡ found_by old name) tag x (Ok p) → IsCarriedOut disk radio tag x old new
+      go (Err why) is = cc
+      go (Ok read) (found, is_found, is) = meant_placed read.1 tag (conf_meant (confs_of old) read.0) p old new (is ∙ ap (placed_at read.1 tag) is_found) h
+
+  pub not_carried_out : (tag : ℕ) (text : List ℕ) (why : Refusal) (old : Runner D R) → IsPlacedCommand (λ name found. found ≡ found_by old name) tag text (Err why)
+      → IsCarriedOut disk radio tag (command_outcome text) old old
+  not_carried_out tag text why old placed = subst (λ o. IsCarriedOut disk radio tag o old old) (only text placed.outcome placed.is) (go placed.outcome placed.becomes)
+    where
+      go : (x : Result (Option (List ℕ) × Order) Refusal) → Becomes (λ name found. found ≡ found_by old name) tag x (Err why) → IsCarriedOut disk radio tag x old old
+      go (Err other) is = refl
+      go (Ok read) (found, is_found, is) = none_meant read.1 tag (conf_meant (confs_of old) read.0) why old (is ∙ ap (placed_at read.1 tag) is_found)
 
   -- a text says what is run
   pub says_ok : (r : Result (Runner D R) ScriptFault) (n : ℕ) (text : List ℕ) (what : Said) (old : Runner D R) → Says text what

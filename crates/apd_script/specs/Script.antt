@@ -1,8 +1,9 @@
 -- What running a script does, in the words of its world. What it prints is not spoken of.
 use Rattle.std.specs.Prelude.{◌≡◌, ◌≢◌, ℕ, Bool, ◌+◌, ◌*◌, ◌≤◌, ◌⊎◌, List, [], ◌∷◌, map, length, take, drop, Option, None, Some, Result, Ok, Err, IfSome}
-use Rattle.std.specs.Option.{option_or}
+use Rattle.std.specs.Option.{option_map, option_or}
 use Rattle.apd_base.specs.State.{State}
 use Rattle.apd_base.specs.Text.{lines}
+use Rattle.apd_base.specs.declared.address.Bssid.{Bssid}
 use Rattle.apd_base.specs.declared.limits.TheConstants.{MAX_SCRIPT}
 use Rattle.apd_base.specs.declared.moment.Moment.{Moment}
 use Rattle.apd_conf.specs.Confs.{conf_meant, conf_named}
@@ -54,6 +55,10 @@ confs_of s = (durable_of s.world).core.confs
 -- its radio is up: a command that asks for its status tells so
 abbrev pub is_up_at : {D R : Type 0} → Runner D R → Conf → Bool
 is_up_at s conf = is_up_if (slot_at (slots_of s.world) conf.bssid)
+
+-- what a name finds, or where none is given: the BSSID of its interface, and whether its radio is up; or none
+abbrev pub found_by : {D R : Type 0} → Runner D R → Option (List ℕ) → Option (Bssid × Bool)
+found_by s name = option_map (λ conf. (conf.bssid, is_up_at s conf)) (conf_meant (confs_of s) name)
 
 -- at first: at moment 0, with all radios, and without a refusal
 pub record IsBegun {D R : Type 0} (w : World D R) (radios : List R) (s : Runner D R) : Type 0 where

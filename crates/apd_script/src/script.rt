@@ -24,6 +24,7 @@ ghost use Rattle.apd_script.specs.Script.{Ends};
 mod beginning;
 mod calling;
 mod fault;
+mod interfaces;
 mod line;
 mod output;
 mod runner;

@@ -3,7 +3,8 @@ use crate::expect::expect;
 use apd_base::{AclMode, Addr, Bssid, Station, Which};
 use apd_conf::{Confs, Ssid};
 use apd_ctrl::{
-    Command, FAIL, Parsed, Placed, Query, UNKNOWN_COMMAND, escape, parse_command, reply,
+    Command, FAIL, Interfaces, Parsed, Placed, Query, Refusal, UNKNOWN_COMMAND, escape,
+    parse_command, place, reply,
 };
 use apd_frame::Reason;
 use apd_mlme::{Edit, Event};
@@ -234,6 +235,54 @@ fn commands_are_placed(rt: HostRuntime) {
     expect(&rt, Command::Status.at(BSSID, false, tag), status);
     expect(&rt, Query::Next(BSSID, A).bssid(), Some(BSSID));
     expect(&rt, Query::Ping.bssid(), None);
+}
+
+/// Two interfaces: the radio of the first one, `wlan0`, is up, that of `wlan1` is down.
+struct TwoInterfaces;
+
+impl Interfaces for TwoInterfaces {
+    ghost finds = { λ _ _ _. Unit {0} };
+
+    fn interface(&self, name: Option<&[u8]>) -> Option<(Bssid, bool)> {
+        match name.unwrap_or(b"wlan0".as_slice()) {
+            b"wlan0" => Some((BSSID, true)),
+            b"wlan1" => Some((OTHER, false)),
+            _ => None,
+        }
+    }
+}
+
+// What becomes of a text, with the tag 9.
+fn becomes(rt: &impl Abort, text: &[u8], wanted: Result<Placed, Refusal>) {
+    expect(rt, (text, place(&TwoInterfaces, 9, text)), (text, wanted));
+}
+
+#[test]
+fn texts_are_placed_at_the_interface_that_they_mean(rt: HostRuntime) {
+    let kick = Event::Kick {
+        bssid: OTHER,
+        to: A,
+        reason: Reason(7),
+        deauth: true,
+        tag: 9,
+    };
+    let first = Query::Status(BSSID, true);
+    let second = Query::Status(OTHER, false);
+    becomes(&rt, b"PING", Ok(Placed::Ask(Query::Ping)));
+    becomes(&rt, b"STATUS\n", Ok(Placed::Ask(first)));
+    becomes(&rt, b"IFNAME=wlan0 STATUS", Ok(Placed::Ask(first)));
+    becomes(&rt, b"IFNAME=wlan1 STATUS", Ok(Placed::Ask(second)));
+    becomes(
+        &rt,
+        b"IFNAME=wlan1 DEAUTHENTICATE 02:00:00:00:00:aa reason=7",
+        Ok(Placed::Do(kick)),
+    );
+    becomes(&rt, b"IFNAME=wlan2 STATUS", Err(Refusal::Fail));
+    becomes(&rt, b"IFNAME=wlan1 STATUS now", Err(Refusal::Fail));
+    becomes(&rt, b"IFNAME=wlan2 FOO", Err(Refusal::Unknown));
+    becomes(&rt, b"IFNAME=wlan1", Err(Refusal::Unknown));
+    expect(&rt, Refusal::Unknown.text(), UNKNOWN_COMMAND);
+    expect(&rt, Refusal::Fail.text(), FAIL);
 }
 
 // The built-in configuration alone, with another name of the network.

@@ -1,10 +1,8 @@
 //! A script that runs, and what each of its lines does.
 ghost use Rattle.std.specs.Prelude.{◌≡◌, ◌≢◌, None, IfErr, IfOk, IfSome, OnOk, Err, Ok};
-ghost use Rattle.std.specs.Option.{option_copied};
 ghost use Rattle.apd_ctrl.specs.Placing.{placing};
 ghost use Rattle.apd_ctrl.specs.Reading.{outcome as command_outcome};
 ghost use Rattle.apd_script.specs.Lines.{Received, Says, saying_of};
-ghost use Rattle.apd_conf.specs.Confs.{conf_meant};
 ghost use Rattle.apd_script.specs.Refused.{refusal_of};
 ghost use Rattle.apd_script.specs.declared.script.fault.ScriptFault.TheVariants.{NoMemory};
 ghost use Rattle.apd_world.specs.declared.step.Step.TheVariants.{Accept};
@@ -14,7 +12,7 @@ use super::line::{Line, exactly_one_line, parse_line};
 use super::output::{write_answers, write_command_told, write_reply, write_told};
 use apd_base::Moment;
 use apd_core::Input;
-use apd_ctrl::{Command, FAIL, Parsed, Placed, UNKNOWN_COMMAND, parse_command};
+use apd_ctrl::{Placed, place};
 use apd_disk::Disk;
 use apd_mlme::Recipient;
 use apd_radio::Radio;
@@ -45,7 +43,7 @@ fn refusal_of(told: &Told) -> Option<StoreFault>
 }
 
 impl<D: Disk + Drop, R: Radio> Runner<D, R> {
-    ghost use Rattle.apd_script.specs.Script.{HandsOut, Flushes, IsBegun, IsCarriedOut, IsMade, IsMeant, IsPlaced, IsReceived, IsRequested, IsRun, IsTried, SaysAndIsRun, Starts, confs_of};
+    ghost use Rattle.apd_script.specs.Script.{HandsOut, Flushes, IsBegun, IsCarriedOut, IsMade, IsPlaced, IsReceived, IsRequested, IsRun, IsTried, SaysAndIsRun, Starts};
     ghost use Rattle.apd_script.specs.Faults.{IsEndedBy, IsFlushRefused, IsLineFault, IsNoRefusal, IsSaidFault, IsShort, IsStartFault, IsUndone, IsUnwritten};
 
     /// A script at moment 0, whose world is not started yet. It takes no memory.
@@ -257,27 +255,6 @@ impl<D: Disk + Drop, R: Radio> Runner<D, R> {
         }
     }
 
-    /// Carries out a control command at the interface that it means, if it is configured.
-    fn carry_out_at<W: Write>(
-        &mut self,
-        writer: &mut W,
-        tag: u64,
-        interface: Option<&[u8]>,
-        command: Command,
-    ) -> Result<(), ScriptFault>
-        ensures ok { OnOk result (IsMeant D.model R.model tag command
-            (conf_meant (confs_of self.old) (option_copied interface.entry)) self.old self.new) }
-        ensures err { IfErr result (IsUndone (IsMeant D.model R.model tag command
-            (conf_meant (confs_of self.old) (option_copied interface.entry)) self.old self.new) IsNoRefusal) }
-    {
-        let Some(conf) = self.world.confs().for_command(interface) else {
-            return self.print_reply(writer, tag, FAIL);
-        };
-        let bssid = conf.bssid;
-        let is_up = self.world.is_up(bssid);
-        self.ask_or_do(writer, tag, command.at(bssid, is_up, tag))
-    }
-
     /// Carries out a text as a control command.
     fn carry_out<W: Write>(
         &mut self,
@@ -289,12 +266,9 @@ impl<D: Disk + Drop, R: Radio> Runner<D, R> {
         ensures err { IfErr result (IsUndone
             (IsCarriedOut D.model R.model tag (command_outcome text.now) self.old self.new) IsNoRefusal) }
     {
-        match parse_command(text) {
-            Parsed::Command { interface, command } => self.carry_out_at(
-                writer, tag, interface, command,
-            ),
-            Parsed::Unknown => self.print_reply(writer, tag, UNKNOWN_COMMAND),
-            Parsed::Fail => self.print_reply(writer, tag, FAIL),
+        match place(self, tag, text) {
+            Ok(what) => self.ask_or_do(writer, tag, what),
+            Err(refusal) => self.print_reply(writer, tag, refusal.text()),
         }
     }
 

@@ -1,0 +1,28 @@
+-- What became of the bytes of a command, at the interface that they mean (own).
+use Rattle.std.specs.Prelude.{◌≡◌, ℕ, Bool, List, Option, Some, None, Result, Ok, Err}
+use Rattle.std.specs.Option.{option_map}
+use Rattle.apd_base.specs.declared.address.Bssid.{Bssid}
+use Rattle.apd_conf.specs.Confs.{conf_meant}
+use Rattle.apd_core.specs.Core.{CoreState}
+use Rattle.apd_core.specs.declared.query_answer.Answer.{Answer}
+use Rattle.apd_ctrl.specs.Placing.{Asks, Does, IsPlaced, Placing}
+use Rattle.apd_ctrl.specs.declared.parser.Refusal.{Refusal}
+use Rattle.apd_ctrl.specs.declared.parser.Refusal.TheVariants.{Unknown, Fail}
+use Rattle.apd_mlme.specs.Happening.{Happening}
+
+-- there was a core by whose configurations a name, or none, finds the interface of this BSSID, or finds none
+abbrev pub IsFoundBySome : Option (List ℕ) → Option (Bssid × Bool) → Type 0
+IsFoundBySome name found =
+    (core : CoreState) × (option_map (λ it. it.0) found ≡ option_map (λ conf. conf.bssid) (conf_meant core.confs name))
+
+-- bytes become this there, with their tag
+abbrev pub IsPlacedAtSome : ℕ → List ℕ → Result Placing Refusal → Type 0
+IsPlacedAtSome tag bytes placed = IsPlaced IsFoundBySome tag bytes placed
+
+-- a query is answered; an order has no answer yet; and bytes whose word is not known are refused so. Any other failure
+-- may have other reasons besides
+abbrev pub IsAnswerTo : ℕ → List ℕ → Result (Option Answer) Refusal → Type 0
+IsAnswerTo tag bytes (Ok (Some answer)) = IsPlacedAtSome tag bytes (Ok (Asks answer.query))
+IsAnswerTo tag bytes (Ok None) = (order : Happening) × IsPlacedAtSome tag bytes (Ok (Does order))
+IsAnswerTo tag bytes (Err Unknown) = IsPlacedAtSome tag bytes (Err Unknown)
+IsAnswerTo tag bytes (Err Fail) = Unit {0}
