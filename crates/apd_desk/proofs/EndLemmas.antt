@@ -1,5 +1,5 @@
 -- How steps end that go on from others.
-use Rattle.std.proofs.Common.{List, [], ◌∷◌, ◌++◌, None, Some, Result, Ok, Err}
+use Rattle.std.proofs.Common.{List, [], ◌∷◌, ◌++◌, None, Some, Ok, Err}
 use Rattle.apd_steps.specs.Run.{Call, Fail, Publish, Step, Take}
 use Rattle.apd_desk.specs.Ends.{EndsIdle}
 

@@ -32,7 +32,7 @@ out_taken out (Err NotMine) wanted not = refl
 out_taken out (Err NoMemory) wanted not = absurd (not refl)
 
 module _ {R : Type 0} (radio : RadioModel R) where
-  served : (collected applied : List Out) (a b : Slot R) → bssid_of b ≡ bssid_of a → (IsExact radio a → IsExact radio b)
+  pub served : (collected applied : List Out) (a b : Slot R) → bssid_of b ≡ bssid_of a → (IsExact radio a → IsExact radio b)
       → queue_of a ++ collected ≡ applied ++ queue_of b → wanted_of b ≡ wanted_after_all applied (wanted_of a) → IsServed radio collected a b
   served collected applied a b bssid exact in_order wanted =
       record {

@@ -1,6 +1,9 @@
+mod Asking
 mod Counting
 mod EndLemmas
 pub mod Giving
 mod Holding
 mod Noting
 mod Replies
+pub mod Serving
+mod TendLemmas

@@ -1,5 +1,5 @@
 -- How the steps of the committing worker end (own).
-use Rattle.std.specs.Prelude.{List, [], ◌∷◌, None, Ok}
+use Rattle.std.specs.Prelude.{List, ◌∷◌, None, Ok}
 use Rattle.apd_steps.specs.Run.{EndsRefused, Fail, Step, Take}
 use Rattle.apd_desk.specs.declared.ending.Ending.{Ending}
 use Rattle.apd_desk.specs.declared.ending.Ending.TheVariants.{Stopped, Refused}

@@ -1,3 +1,4 @@
+pub mod Asking
 pub mod Counted
 pub mod Ends
 pub mod Finding
@@ -7,5 +8,7 @@ pub mod Holding
 pub mod RadioNotes
 pub mod Replied
 pub mod Replying
+pub mod Serving
+pub mod Tending
 pub mod TicketOwner
 pub mod SeatProgress

@@ -1,6 +1,7 @@
 //! A core that threads share: one lock, a seat for each that asks, and the workers round it.
 #![tactic(auto)]
 
+mod asked;
 mod clock;
 mod committing;
 mod controlling;

@@ -10,11 +10,11 @@ ghost use Rattle.apd_journal.specs.Half.{IsGroup};
 ghost use Rattle.apd_store.specs.Outside.{held_batch};
 ghost use Rattle.apd_slot.specs.Slots.{bssid_of};
 ghost use Rattle.apd_steps.specs.Handing.{HandsTo};
-ghost use Rattle.apd_steps.specs.Calls.{FailTells, PublishTells, TakeTells, exactly, refused_by};
+ghost use Rattle.apd_steps.specs.Calls.{AskTells, CollectTells, FailTells, PublishTells, SubmitTells, TakeTells, exactly, outs_in, refused_by};
 ghost use Rattle.apd_desk.specs.Counted.{entries_in, entries_of_seats};
 ghost use Rattle.apd_desk.specs.RadioNotes.{is_for, is_noted_up};
 ghost use Rattle.apd_desk.specs.TicketOwner.{IsOwn};
-ghost use Rattle.apd_desk.specs.SeatProgress.{seen_number_after, IsBehind};
+ghost use Rattle.apd_desk.specs.SeatProgress.{seen_number_after, IsBehind, IsLater};
 
 use crate::notes::Notes;
 use crate::seat::{AskFault, SEATS, Seat};
@@ -25,7 +25,7 @@ use apd_journal::Batch;
 use apd_mlme::{Out, Recipient};
 use apd_radio::Radio;
 use apd_slot::Slot;
-use apd_steps::Settles;
+use apd_steps::{Asks, Settles};
 use apd_store::Receipt;
 use std::alloc::AllocError;
 use std::sync::ledger::{Blank, Book, Ledger, Share};
@@ -107,6 +107,7 @@ impl<L: Ledger> Locked<L> {
         input: Input<'a>,
         moment: Moment,
     ) -> Result<Accepted<'a>, AllocError>
+        ensures tells { exactly (SubmitTells input.entry moment result) self.old.core self.new.core }
         ensures answer { IfOk result (λ answer. answer ≡ answer_at self.old.core moment input.entry) }
         ensures core { OnOk result (self.new.core ≡ after_request self.old.core moment input.entry) }
         ensures own { IfOk result (IsOwn input.entry moment) }
@@ -125,13 +126,12 @@ impl<L: Ledger> Locked<L> {
         } = self;
         let Seat { count, share, .. } = seat;
         book.audit(share);
-        let answer = core.accept(input, moment)?;
+        let answer = core.submit(input, moment)?;
         core.sound();
-        if let Accepted::Entry(_) = &answer {
-            book.add(share, 1);
-            *accepted += 1;
-            *count += 1;
-        }
+        let entries = entry_count(&answer);
+        book.add(share, entries);
+        *accepted += entries;
+        *count += entries;
         Ok(answer)
     }
 
@@ -140,6 +140,7 @@ impl<L: Ledger> Locked<L> {
     /// Errors: `Behind` exactly there, with the number of the last settled entry; `NoMemory`. The seat is then as
     /// it was.
     pub(crate) fn ask(&self, seat: &mut Seat<L>, query: Query) -> Result<Answer, AskFault>
+        ensures tells { exactly (AskTells query result) self.now.core self.now.core }
         ensures answer { IfOk result (λ answer. answer ≡ answer_to_query self.now.core query) }
         ensures behind { (number : ℕ)
             → (result ≡ Err (AskFault.Behind number))
@@ -149,6 +150,7 @@ impl<L: Ledger> Locked<L> {
         ensures count { seat.new.count ≡ seat.old.count }
         ensures err { OnErr result (seat.new.seen ≡ seat.old.seen) }
     {
+        self.core.sound();
         let settled = self.core.number();
         if settled < seat.seen {
             return Err(AskFault::Behind(settled));
@@ -162,9 +164,11 @@ impl<L: Ledger> Locked<L> {
 
     /// Hands out what of settled entries a recipient was not given yet. The seat then saw what is settled.
     pub(crate) fn hand(&mut self, seat: &mut Seat<L>, to: Recipient) -> Result<Vec<Out>, AllocError>
+        ensures tells { exactly (CollectTells to (outs_in (λ outs. outs.items) result)) self.old.core self.new.core }
         ensures outs { IfOk result (λ outs. outs.items ≡ ready_for to self.old.core) }
         ensures sound { IsCore self.old.core }
         ensures core { OnOk result (self.new.core ≡ after_handing_out to self.old.core) }
+        ensures later { IsLater seat.old seat.new }
         ensures seen { OnOk result (seat.new.seen ≡ seen_number_after self.old.core.number seat.old.seen) }
         ensures count { seat.new.count ≡ seat.old.count }
         ensures accepted { self.new.accepted ≡ self.old.accepted }
@@ -174,7 +178,7 @@ impl<L: Ledger> Locked<L> {
         let Locked { core, .. } = self;
         core.sound();
         let settled = core.number();
-        let outs = core.hand(to)?;
+        let outs = core.collect(to)?;
         seat.seen = seat.seen.max(settled);
         Ok(outs)
     }
@@ -186,7 +190,9 @@ impl<L: Ledger> Locked<L> {
         seat: &mut Seat<L>,
         slot: &mut Slot<R>,
     ) -> Result<usize, AllocError>
-        ensures hands { HandsTo (bssid_of slot.old) result self.old.core self.new.core slot.old slot.new }
+        ensures hands { exactly (λ old new. HandsTo (bssid_of slot.old) result old new slot.old slot.new)
+            self.old.core self.new.core }
+        ensures later { IsLater seat.old seat.new }
         ensures seen { OnOk result (seat.new.seen ≡ seen_number_after self.old.core.number seat.old.seen) }
         ensures count { seat.new.count ≡ seat.old.count }
         ensures accepted { self.new.accepted ≡ self.old.accepted }
@@ -195,8 +201,7 @@ impl<L: Ledger> Locked<L> {
     {
         let Locked { core, .. } = self;
         let settled = core.number();
-        let bssid = slot.bssid();
-        match apd_steps::hand_to(core, slot, bssid) {
+        match core.hand_to(slot) {
             Ok(count) => {
                 seat.seen = seat.seen.max(settled);
                 Ok(count)
@@ -320,6 +325,16 @@ impl<L: Ledger> Locked<L> {
         let mut all = merge_shares(spare, seats);
         book.audit(&mut all);
         Ok((core, accepted))
+    }
+}
+
+// How many entries an answer made.
+fn entry_count(answer: &Accepted<'_>) -> u64
+    ensures { result ≡ entries_in answer.now }
+{
+    match answer {
+        Accepted::Entry(_) => 1,
+        Accepted::Stopped | Accepted::Busy | Accepted::Quiet(_) => 0,
     }
 }
 

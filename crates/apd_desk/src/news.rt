@@ -12,7 +12,7 @@ pub(crate) enum News {
     Entry,
     /// That entries were settled.
     Settled,
-    /// Nothing.
+    /// Nothing else.
     Stop,
 }
 

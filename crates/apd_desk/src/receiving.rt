@@ -1,55 +1,52 @@
 //! The worker of a radio.
 ghost use Rattle.std.specs.Prelude.{◌≡◌, ◌<◌, [], length};
 ghost use Rattle.apd_slot.specs.Slots.{bssid_of, queue_of, IsExact};
-ghost use Rattle.apd_desk.specs.Giving.{IsGivenOn, IsServed};
+ghost use Rattle.apd_steps.specs.Serving.{IsRadioRun, IsTended};
+ghost use Rattle.apd_desk.specs.Giving.{IsGivenOn};
 ghost use Rattle.apd_desk.specs.SeatProgress.{IsLater};
+ghost use Rattle.apd_desk.specs.Serving.{HasServed};
 
+use crate::asked::{Asked, Serves};
 use crate::clock::Clock;
 use crate::gate::Gate;
 use crate::idle::{AT_ONCE, Idle, Progress};
 use crate::locked::Look;
-use crate::news::News;
 use crate::seat::Seat;
 use crate::shared::Shared;
-use crate::submitting::submit_passing;
+use crate::submitting::pass_entry;
 use crate::tending::{mend_first, tend};
 use crate::waking::Waiter;
 use apd_core::Input;
 use apd_mlme::Recipient;
 use apd_radio::Radio;
 use apd_slot::{Mending, Slot};
+use apd_steps::Asks;
 use std::alloc::Global;
 use std::net::Net;
 use std::sync::Wait;
 use std::sync::ledger::Ledger;
 use std::time::Clock as SystemClock;
 
-// What the worker of a radio has.
+// What the worker of a radio has, beside the core that it asks.
 #[derive(Drop)]
-struct Parts<L: Ledger, R: Radio> {
-    seat: Seat<L>,
+struct Parts<R: Radio> {
     slot: Slot<R>,
     mending: Mending<R>,
     // The last settled entry of the look after which it collected last.
     collected: Option<u64>,
 }
 
-impl<L: Ledger, R: Radio> Parts<L, R> {
+impl<R: Radio> Parts<R> {
     // Submits the next frame of the radio, if one waits. A frame that is no entry is dropped, as on the air.
-    fn receive<W: Wait, C: Clock, G: Gate>(
-        &mut self,
-        rt: &W,
-        shared: &Shared<L>,
-        clock: &C,
-        gate: &G,
-    ) -> Progress
-        ensures seat { IsLater self.old.seat self.new.seat }
-        ensures served { IsServed R.model [] self.old.slot self.new.slot }
+    fn receive<A: Asks, C: Clock, G: Gate>(&mut self, core: &mut A, clock: &C, gate: &G) -> Progress
+        ensures { IsRadioRun R.model R.frames A.made core.old core.new
+            self.old.slot self.new.slot self.old.mending self.new.mending }
     {
         match self.slot.poll() {
             Ok(Some(frame)) => {
                 let input = Input::Received(self.slot.bssid(), frame.as_slice());
-                submit_passing(rt, shared, &mut self.seat, input, clock.now(), gate);
+                let answer = core.submit(input, clock.now());
+                pass_entry(answer, gate);
                 Progress::Made
             }
             Ok(None) => Progress::Nothing,
@@ -58,23 +55,22 @@ impl<L: Ledger, R: Radio> Parts<L, R> {
     }
 
     // Submits the frames that wait, up to as many as may be at once, unless all are to stop.
-    fn receive_all<W: Wait, C: Clock, G: Gate>(
+    fn receive_all<A: Asks, C: Clock, G: Gate>(
         &mut self,
-        rt: &W,
-        shared: &Shared<L>,
+        core: &mut A,
         seen: Look,
         clock: &C,
         gate: &G,
     ) -> Progress
-        ensures seat { IsLater self.old.seat self.new.seat }
-        ensures served { IsServed R.model [] self.old.slot self.new.slot }
+        ensures { IsRadioRun R.model R.frames A.made core.old core.new
+            self.old.slot self.new.slot self.old.mending self.new.mending }
     {
         let mut progress = Progress::Nothing;
         if seen.stopped {
             return progress;
         }
         for _ in 0..AT_ONCE {
-            let next = self.receive(rt, shared, clock, gate);
+            let next = self.receive(core, clock, gate);
             progress = progress.max(next);
             if next != Progress::Made {
                 break;
@@ -85,15 +81,15 @@ impl<L: Ledger, R: Radio> Parts<L, R> {
 
     // Puts into the slot's queue, if none waits there and entries were settled since, what of settled entries it was
     // not given yet.
-    fn collect<W: Wait>(&mut self, rt: &W, shared: &Shared<L>) -> Progress
-        ensures seat { IsLater self.old.seat self.new.seat }
-        ensures given { IsGivenOn R.model self.old.slot self.new.slot }
+    fn collect<A: Serves>(&mut self, core: &mut A) -> Progress
+        ensures { IsRadioRun R.model R.frames A.made core.old core.new
+            self.old.slot self.new.slot self.old.mending self.new.mending }
     {
-        let settled = Some(shared.look(rt).settled);
+        let settled = Some(core.look().settled);
         if self.slot.waiting_count() > 0 || self.collected == settled {
             return Progress::Nothing;
         }
-        match shared.hand_to(rt, &mut self.seat, &mut self.slot) {
+        match core.hand_to(&mut self.slot) {
             Ok(_count) => {
                 self.collected = settled;
                 Progress::Nothing
@@ -103,36 +99,36 @@ impl<L: Ledger, R: Radio> Parts<L, R> {
     }
 
     // Notes whether the slot is up, where that changed.
-    fn note_change<W: Wait>(&self, rt: &W, shared: &Shared<L>, was_up: bool) {
+    fn note_change<A: Serves>(&self, core: &A, was_up: bool) {
         if self.slot.is_up() != was_up {
-            shared.note(rt, self.slot.bssid(), self.slot.is_up());
+            core.note(self.slot.bssid(), self.slot.is_up());
         }
     }
 
     // Goes on mending the slot, and applies the first of the outs that wait. It rests where the slot is still to be mended.
-    fn advance<W: Wait + SystemClock>(&mut self, rt: &W, shared: &Shared<L>) -> Progress
-        ensures seat { self.new.seat ≡ self.old.seat }
-        ensures served { IsServed R.model [] self.old.slot self.new.slot }
+    fn advance<A: Serves>(&mut self, core: &A) -> Progress
+        ensures tends { IsTended R.model R.frames
+            self.old.slot self.new.slot self.old.mending self.new.mending }
         ensures fewer { result ≡ Progress.Made → length (queue_of self.new.slot) < length (queue_of self.old.slot) }
     {
         let was_up = self.slot.is_up();
         let progress = tend(&mut self.slot, &mut self.mending);
-        self.note_change(rt, shared, was_up);
+        self.note_change(core, was_up);
         if progress == Progress::Short && !self.slot.is_up() {
-            shared.pause(rt, News::Settled, shared.look(rt));
+            core.pause(core.look());
         }
         progress
     }
 
     // Gives the slot what of settled entries it was not given yet, behind what waits, up to as many outs as may be at
     // once.
-    fn apply_settled<W: Wait + SystemClock>(&mut self, rt: &W, shared: &Shared<L>) -> Progress
-        ensures seat { IsLater self.old.seat self.new.seat }
-        ensures given { IsGivenOn R.model self.old.slot self.new.slot }
+    fn apply_settled<A: Serves>(&mut self, core: &mut A) -> Progress
+        ensures { IsRadioRun R.model R.frames A.made core.old core.new
+            self.old.slot self.new.slot self.old.mending self.new.mending }
     {
-        let mut progress = self.collect(rt, shared);
+        let mut progress = self.collect(core);
         for _ in 0..AT_ONCE {
-            let next = self.advance(rt, shared);
+            let next = self.advance(core);
             progress = progress.max(next);
             if next != Progress::Made {
                 break;
@@ -142,21 +138,49 @@ impl<L: Ledger, R: Radio> Parts<L, R> {
     }
 
     // Receives, and gives the slot what is settled by then.
-    fn turn<W: Wait + SystemClock, C: Clock, G: Gate>(
+    fn turn<A: Serves, C: Clock, G: Gate>(
         &mut self,
-        rt: &W,
-        shared: &Shared<L>,
+        core: &mut A,
         seen: Look,
         clock: &C,
         gate: &G,
     ) -> Progress
-        ensures seat { IsLater self.old.seat self.new.seat }
-        ensures given { IsGivenOn R.model self.old.slot self.new.slot }
+        ensures { IsRadioRun R.model R.frames A.made core.old core.new
+            self.old.slot self.new.slot self.old.mending self.new.mending }
     {
-        let received = self.receive_all(rt, shared, seen, clock, gate);
-        let applied = self.apply_settled(rt, shared);
+        let received = self.receive_all(core, seen, clock, gate);
+        let applied = self.apply_settled(core);
         received.max(applied)
     }
+}
+
+// Serves a radio until a stop, by steps alone.
+fn serve_by_steps<W: Wait, A: Serves, R: Radio, C: Clock, G: Gate>(
+    rt: &W,
+    core: &mut A,
+    parts: &mut Parts<R>,
+    waiter: &mut Waiter,
+    clock: &C,
+    gate: &G,
+)
+    ensures run { IsRadioRun R.model R.frames A.made core.old core.new
+        parts.old.slot parts.new.slot parts.old.mending parts.new.mending }
+    ensures none_waits { queue_of parts.new.slot ≡ [] }
+{
+    let mut idle = Idle::new();
+    mend_first(&mut parts.slot, &mut parts.mending);
+    core.note(parts.slot.bssid(), parts.slot.is_up());
+    for _ in rt.forever() {
+        let seen = core.look();
+        if seen.stopped && parts.slot.waiting_count() == 0 {
+            return;
+        }
+        let progress = parts.turn(core, seen, clock, gate);
+        if idle.is_over(progress) {
+            core.wait(waiter, progress, parts.slot.descriptor(), seen);
+        }
+    }
+    unreachable!()
 }
 
 /// Serves a radio until a stop, and gives its seat and its slot back: submits the frames that it receives, gives
@@ -180,33 +204,22 @@ pub fn radio_worker<L: Ledger, W: Wait + SystemClock + Net, R: Radio, C: Clock, 
     spares: Vec<R>,
     gate: &G,
 ) -> (Seat<L>, Slot<R>)
+    ensures served { HasServed R.model R.frames spares.items seat result.0 slot result.1 }
     ensures seat { IsLater seat result.0 }
     ensures exact { IsExact R.model slot → IsExact R.model result.1 }
     ensures bssid { bssid_of result.1 ≡ bssid_of slot }
     ensures given { IsGivenOn R.model slot result.1 }
     ensures none_waits { queue_of result.1 ≡ [] }
 {
+    let to = Recipient::Radio(slot.bssid());
+    let mut waiter = Waiter::new(rt, alloc, shared, to);
+    let mut core = Asked::new(rt, shared, seat);
     let mut parts = Parts {
-        seat,
         slot,
         mending: Mending::new(spares),
         collected: None,
     };
-    let to = Recipient::Radio(parts.slot.bssid());
-    let mut waiter = Waiter::new(rt, alloc, shared, to);
-    let mut idle = Idle::new();
-    mend_first(&mut parts.slot, &mut parts.mending);
-    shared.note(rt, parts.slot.bssid(), parts.slot.is_up());
-    for _ in rt.forever() {
-        let seen = shared.look(rt);
-        if seen.stopped && parts.slot.waiting_count() == 0 {
-            break;
-        }
-        let progress = parts.turn(rt, shared, seen, clock, gate);
-        if idle.is_over(progress) {
-            waiter.wait(rt, shared, progress, parts.slot.descriptor(), seen);
-        }
-    }
-    let Parts { seat, slot, .. } = parts;
-    (seat, slot)
+    serve_by_steps(rt, &mut core, &mut parts, &mut waiter, clock, gate);
+    let Parts { slot, .. } = parts;
+    (core.into_seat(), slot)
 }

@@ -4,7 +4,8 @@ ghost use Rattle.std.specs.Option.{option_copied};
 ghost use Rattle.apd_core.specs.Core.{CoreState};
 ghost use Rattle.apd_slot.specs.Slots.{bssid_of};
 ghost use Rattle.apd_steps.specs.Handing.{HandsTo};
-ghost use Rattle.apd_steps.specs.Calls.{FailTells, PublishTells, TakeTells, exactly, refused_by};
+ghost use Rattle.apd_steps.specs.Calls.{AskTells, CollectTells, FailTells, PublishTells, SubmitTells, TakeTells, exactly, outs_in, refused_by};
+ghost use Rattle.apd_desk.specs.Asking.{by_seat};
 ghost use Rattle.apd_desk.specs.Counted.{entries_in, entries_of_seats};
 ghost use Rattle.apd_desk.specs.Finding.{IsFoundBySome};
 ghost use Rattle.apd_desk.specs.Replying.{AreReadyOfSome, IsAnswerOfSome};
@@ -76,6 +77,7 @@ impl<L: Ledger> Shared<L> {
         input: Input<'a>,
         moment: Moment,
     ) -> Result<Accepted<'a>, AllocError>
+        ensures tells { by_seat (SubmitTells input.entry moment result) seat.old seat.new }
         ensures own { IfOk result (IsOwn input.entry moment) }
         ensures count { IfOk result (λ answer. seat.new.count ≡ seat.old.count + entries_in answer) }
         ensures err { OnErr result (seat.new.count ≡ seat.old.count) }
@@ -94,6 +96,7 @@ impl<L: Ledger> Shared<L> {
     /// Errors: `Behind` exactly where the last settled entry, whose number it tells, comes before what the seat saw;
     /// `NoMemory`.
     pub fn ask(&self, rt: &impl Wait, seat: &mut Seat<L>, query: Query) -> Result<Answer, AskFault>
+        ensures tells { by_seat (AskTells query result) seat.old seat.new }
         ensures own { IfOk result (λ answer. answer.query ≡ query) }
         ensures told { IfOk result IsAnswerOfSome }
         ensures seen { IfOk result (λ answer. (answer.number ≡ seat.new.seen) × (seat.old.seen ≤ seat.new.seen)) }
@@ -112,6 +115,7 @@ impl<L: Ledger> Shared<L> {
         seat: &mut Seat<L>,
         to: Recipient,
     ) -> Result<Vec<Out>, AllocError>
+        ensures tells { by_seat (CollectTells to (outs_in (λ outs. outs.items) result)) seat.old seat.new }
         ensures outs { IfOk result (λ outs. AreReadyOfSome to outs.items) }
         ensures never_back { seat.old.seen ≤ seat.new.seen }
         ensures err { OnErr result (seat.new.seen ≡ seat.old.seen) }
@@ -128,8 +132,8 @@ impl<L: Ledger> Shared<L> {
         seat: &mut Seat<L>,
         slot: &mut Slot<R>,
     ) -> Result<usize, AllocError>
-        ensures hands { (core : CoreState) × (after : CoreState)
-            × HandsTo (bssid_of slot.old) result core after slot.old slot.new }
+        ensures hands { by_seat (λ core after. HandsTo (bssid_of slot.old) result core after slot.old slot.new)
+            seat.old seat.new }
         ensures later { IsLater seat.old seat.new }
         ensures count { seat.new.count ≡ seat.old.count }
     {

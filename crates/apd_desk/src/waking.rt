@@ -106,14 +106,13 @@ impl Watch {
     }
 
     // Waits until the descriptor can be read, or its bell rings. Tells whether it could wait for that.
-    fn has_waited(&mut self, descriptor: RawFd) -> bool {
-        is_told_of(self.poll.registry(), descriptor)
-            && self.poll.poll(&mut self.events, None).is_ok()
+    fn wait(&mut self, descriptor: RawFd) -> bool {
+        ask_for(self.poll.registry(), descriptor) && self.poll.poll(&mut self.events, None).is_ok()
     }
 }
 
 // Has the system tell that a descriptor can be read, of one that can be already too. One that is new is registered.
-fn is_told_of(registry: &Registry, descriptor: RawFd) -> bool {
+fn ask_for(registry: &Registry, descriptor: RawFd) -> bool {
     let mut source = SourceFd(&descriptor);
     registry
         .reregister(&mut source, READABLE, Interest::READABLE)
@@ -143,9 +142,9 @@ impl Waiter {
     }
 
     // Waits at this descriptor, if there is one. Tells whether it could.
-    fn has_waited(&mut self, descriptor: Option<RawFd>) -> bool {
+    fn wait_at(&mut self, descriptor: Option<RawFd>) -> bool {
         match (&mut self.watch, descriptor) {
-            (Some(watch), Some(descriptor)) => watch.has_waited(descriptor),
+            (Some(watch), Some(descriptor)) => watch.wait(descriptor),
             _ => false,
         }
     }
@@ -161,7 +160,7 @@ impl Waiter {
         descriptor: Option<RawFd>,
         seen: Look,
     ) {
-        if progress != Progress::Nothing || !self.has_waited(descriptor) {
+        if progress != Progress::Nothing || !self.wait_at(descriptor) {
             shared.pause(rt, News::Settled, seen);
         }
     }

@@ -1,3 +1,4 @@
 pub mod Entries
 pub mod FileWorld
+pub mod HandedOut
 pub mod Worked

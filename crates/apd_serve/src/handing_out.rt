@@ -1,8 +1,12 @@
 //! The last hand-out, when the workers have ended: what is settled by then and was not handed out.
 ghost use Rattle.std.specs.Prelude.{◌≡◌, [], IsTrue};
 ghost use Rattle.apd_slot.specs.Slots.{queue_of};
-ghost use Rattle.apd_desk.specs.Giving.{IsGivenOn, IsServed};
+ghost use Rattle.apd_steps.specs.Serving.{IsRadioRun, IsTended};
+ghost use Rattle.apd_desk.specs.Asking.{by_seat};
+ghost use Rattle.apd_desk.specs.Giving.{IsGivenOn};
 ghost use Rattle.apd_desk.specs.SeatProgress.{IsLater};
+ghost use Rattle.apd_desk.specs.Serving.{HasServed};
+ghost use Rattle.apd_serve.specs.HandedOut.{IsHandedBy};
 
 use crate::notices::tell_not_handed_out;
 use apd_desk::{Port, Progress, Seat, Shared, mend_first, tend};
@@ -44,7 +48,7 @@ fn collect<L: Ledger, W: Wait + Clock>(
 // Applies the first of the outs that wait. Where the slot is still to be mended, or memory lacks, it rests and tries
 // again. Tells whether one was taken: none is where none waits, or where memory lacks in the end.
 fn take_next<W: Clock, R: Radio>(rt: &W, slot: &mut Slot<R>, mending: &mut Mending<R>) -> bool
-    ensures { IsServed R.model [] slot.old slot.new }
+    ensures { IsTended R.model R.frames slot.old slot.new mending.old mending.new }
 {
     for _ in 0..TRIES {
         match tend(slot, mending) {
@@ -58,7 +62,7 @@ fn take_next<W: Clock, R: Radio>(rt: &W, slot: &mut Slot<R>, mending: &mut Mendi
 
 // Applies the outs that wait, in order, and nothing behind one that was not taken. Tells whether none waits then.
 fn empty<W: Clock, R: Radio>(rt: &W, slot: &mut Slot<R>, mending: &mut Mending<R>) -> bool
-    ensures served { IsServed R.model [] slot.old slot.new }
+    ensures tends { IsTended R.model R.frames slot.old slot.new mending.old mending.new }
     ensures none_waits { IsTrue result → queue_of slot.new ≡ [] }
 {
     for _ in 0..slot.waiting_count() {
@@ -78,8 +82,7 @@ fn hand<L: Ledger, W: Wait + Clock, R: Radio>(
     slot: &mut Slot<R>,
 ) -> bool
     ensures count { seat.new.count ≡ seat.old.count }
-    ensures later { IsLater seat.old seat.new }
-    ensures given { IsGivenOn R.model slot.old slot.new }
+    ensures hands { IsHandedBy R.model R.frames seat.old seat.new slot.old slot.new }
 {
     for _ in 0..TRIES {
         if shared.hand_to(rt, seat, slot).is_ok() {
@@ -99,8 +102,8 @@ fn give_all<L: Ledger, W: Wait + Clock, R: Radio>(
     mending: &mut Mending<R>,
 ) -> bool
     ensures count { seat.new.count ≡ seat.old.count }
-    ensures later { IsLater seat.old seat.new }
-    ensures given { IsGivenOn R.model slot.old slot.new }
+    ensures run { IsRadioRun R.model R.frames by_seat seat.old seat.new
+        slot.old slot.new mending.old mending.new }
     ensures none_waits { IsTrue result → queue_of slot.new ≡ [] }
 {
     if !empty(rt, slot, mending) {
@@ -123,6 +126,7 @@ pub(crate) fn hand_out<L: Ledger, W: Wait + Clock + Log, R: Radio>(
     seat: &mut Seat<L>,
     slot: &mut Slot<R>,
 )
+    ensures served { HasServed R.model R.frames [] seat.old seat.new slot.old slot.new }
     ensures count { seat.new.count ≡ seat.old.count }
     ensures later { IsLater seat.old seat.new }
     ensures given { IsGivenOn R.model slot.old slot.new }

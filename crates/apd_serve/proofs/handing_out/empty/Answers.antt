@@ -1,11 +1,8 @@
-use Rattle.std.proofs.Common.{[]}
-use Rattle.apd_serve.proofs.Giving.{served_then}
+use Rattle.apd_serve.proofs.Giving.{tended_on}
 use Rattle.apd_serve.proofs.handing_out.empty.Goals as goal
 
 pub loop-preserved : goal.loop-preserved
-loop-preserved g c =
-    served_then g.R.Radio.model [] c.args.slot.now c.loop.slot c.take_next.new.slot c.loop.invariant c.take_next.ensures
+loop-preserved g c = tended_on g.R.Radio.model g.R.Radio.frames _ _ _ _ _ _ c.loop.invariant c.take_next.ensures
 
-pub returns-then-not-take_next-clause-served : goal.returns-then-not-take_next-clause-served
-returns-then-not-take_next-clause-served g c =
-    served_then g.R.Radio.model [] c.args.slot.now c.loop.slot c.take_next.new.slot c.loop.invariant c.take_next.ensures
+pub returns-then-not-take_next-clause-tends : goal.returns-then-not-take_next-clause-tends
+returns-then-not-take_next-clause-tends g c = tended_on g.R.Radio.model g.R.Radio.frames _ _ _ _ _ _ c.loop.invariant c.take_next.ensures

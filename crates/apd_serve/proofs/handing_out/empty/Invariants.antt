@@ -1,6 +1,5 @@
-use Rattle.std.proofs.Common.{[]}
-use Rattle.apd_desk.specs.Giving.{IsServed}
+use Rattle.apd_steps.specs.Serving.{IsTended}
 use Rattle.apd_serve.proofs.handing_out.empty.Given as goal
 
 abbrev pub invariant-loop : goal.invariant-loop
-invariant-loop g l = IsServed g.R.Radio.model [] l.fn.slot l.slot
+invariant-loop g l = IsTended g.R.Radio.model g.R.Radio.frames l.fn.slot l.slot l.fn.mending l.mending

@@ -1,8 +1,16 @@
-use Rattle.apd_desk.proofs.Giving.{given_on, hands_given}
+use Rattle.std.proofs.Common.{refl, ◌∙◌}
+use Rattle.apd_serve.proofs.Giving.{handed_none, handed_on}
 use Rattle.apd_serve.proofs.handing_out.hand.Goals as goal
 
-pub returns-then-is_ok-clause-given : goal.returns-then-is_ok-clause-given
-returns-then-is_ok-clause-given g c =
-    let radio = g.R.Radio.model in
-    let h = c.hand_to.ensures.hands in
-    given_on radio _ _ _ c.loop.invariant.2 (hands_given radio _ _ h.0 h.1 _ _ h.2)
+pub loop-init : goal.loop-init
+loop-init g c = (refl, handed_none g.R.Radio.model g.R.Radio.frames _ _)
+
+pub loop-preserved : goal.loop-preserved
+loop-preserved g c = (
+  c.hand_to.ensures.count ∙ c.loop.invariant.0,
+  handed_on g.R.Radio.model g.R.Radio.frames c.hand_to.result _ _ _ _ _ _ c.loop.invariant.1 c.hand_to.ensures.hands,
+)
+
+pub returns-then-is_ok-clause-hands : goal.returns-then-is_ok-clause-hands
+returns-then-is_ok-clause-hands g c =
+    handed_on g.R.Radio.model g.R.Radio.frames c.hand_to.result _ _ _ _ _ _ c.loop.invariant.1 c.hand_to.ensures.hands

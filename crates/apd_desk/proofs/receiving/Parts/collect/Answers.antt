@@ -1,12 +1,8 @@
-use Rattle.apd_desk.proofs.Giving.{hands_given}
+use Rattle.apd_desk.proofs.Serving.{handed}
 use Rattle.apd_desk.proofs.receiving.Parts.collect.Goals as goal
 
-pub returns-in-Ok-clause-given : goal.returns-in-Ok-clause-given
-returns-in-Ok-clause-given g c =
-    let h = c.hand_to.ensures.hands in
-    hands_given g.R.Radio.model _ _ h.0 h.1 _ _ h.2
+pub returns-in-Ok : goal.returns-in-Ok
+returns-in-Ok g c = handed g.R.Radio.model g.R.Radio.frames g.A.Asks.made c.hand_to.result _ _ _ _ _ c.hand_to.ensures
 
-pub returns-in-Err-clause-given : goal.returns-in-Err-clause-given
-returns-in-Err-clause-given g c =
-    let h = c.hand_to.ensures.hands in
-    hands_given g.R.Radio.model _ _ h.0 h.1 _ _ h.2
+pub returns-in-Err : goal.returns-in-Err
+returns-in-Err g c = handed g.R.Radio.model g.R.Radio.frames g.A.Asks.made c.hand_to.result _ _ _ _ _ c.hand_to.ensures

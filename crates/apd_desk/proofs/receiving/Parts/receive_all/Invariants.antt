@@ -1,7 +1,6 @@
-use Rattle.std.proofs.Common.{[]}
-use Rattle.apd_desk.specs.Giving.{IsServed}
-use Rattle.apd_desk.specs.SeatProgress.{IsLater}
+use Rattle.apd_steps.specs.Serving.{IsRadioRun}
 use Rattle.apd_desk.proofs.receiving.Parts.receive_all.Given as goal
 
 abbrev pub invariant-loop : goal.invariant-loop
-invariant-loop g l = IsLater l.fn.self.seat l.self.seat × IsServed g.R.Radio.model [] l.fn.self.slot l.self.slot
+invariant-loop g l =
+    IsRadioRun g.R.Radio.model g.R.Radio.frames g.A.Asks.made l.fn.core l.core l.fn.self.slot l.self.slot l.fn.self.mending l.self.mending

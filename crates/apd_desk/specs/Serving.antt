@@ -1,0 +1,18 @@
+-- What a radio's worker does to its slot, by its seat (own).
+use Rattle.std.specs.Prelude.{◌≡◌, ℕ, List, Option}
+use Rattle.apd_radio.specs.Model.{RadioModel}
+use Rattle.apd_slot.specs.declared.mending.Mending.{Mending}
+use Rattle.apd_slot.specs.declared.slot.Slot.{Slot}
+use Rattle.apd_steps.specs.Serving.{IsRadioRun}
+use Rattle.apd_desk.specs.Asking.{by_seat}
+use Rattle.apd_desk.specs.declared.seat.Seat.{Seat}
+
+-- Steps lead there, from mending by these spares that has not begun, and nothing else happened; for each call of the core
+-- that a step made, there was a core that went so.
+pub record HasServed {L R : Type 0} (radio : RadioModel R) (frames : R → Option (List (List ℕ))) (spares : List R)
+    (seat later : Seat L) (old new : Slot R) : Type 0 where
+  pub mending : Mending R
+  pub unused : mending.spares.items ≡ spares
+  pub begun : mending.tries ≡ 0
+  pub left : Mending R
+  pub run : IsRadioRun radio frames by_seat seat later old new mending left
