@@ -9,6 +9,8 @@ mod common;
 #[cfg(test)]
 mod disk_tests;
 #[cfg(test)]
+mod driver_tests;
+#[cfg(test)]
 mod expect;
 #[cfg(test)]
 mod failing_tests;
@@ -36,6 +38,8 @@ mod slot_memory_tests;
 mod slot_samples;
 #[cfg(test)]
 mod slot_tests;
+#[cfg(test)]
+mod sockets;
 #[cfg(test)]
 mod store_none_tests;
 #[cfg(test)]

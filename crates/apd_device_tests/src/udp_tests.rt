@@ -1,12 +1,12 @@
 use crate::expect::expect;
 use crate::radio_calls::{Asked, ask, receives, succeeds};
+use crate::sockets::{bytes, expect_datagram, expect_silence, free_port, send, station};
 use apd_base::{Addr, Bssid};
 use apd_radio::{Failing, Radio, RadioFault, Recording, Sim, SocketFault, UdpSim};
 use apd_slot::Slot;
 use libc::net::{SO_RCVBUF, SOL_SOCKET, getsockopt};
 use std::alloc::Global;
-use std::io::ErrorKind;
-use std::net::{Ipv4Addr, Net, UdpSocket};
+use std::net::{Net, UdpSocket};
 use std::os::fd::RawFd;
 use std::process::Abort;
 
@@ -17,43 +17,11 @@ const GRANTED: i32 = 8_388_608;
 /// How many frames come at once.
 const BURST: u32 = 2_000;
 
-/// The socket of someone at the other end.
-fn station(rt: &(impl Abort + Net)) -> UdpSocket {
-    let socket = UdpSocket::bind(rt, (Ipv4Addr::LOCALHOST, 0)).expect(rt, "a socket");
-    socket.set_nonblocking(true).expect(rt, "no waiting");
-    socket
-}
-
-/// A port that was free a moment ago.
-fn free_port(rt: &(impl Abort + Net)) -> u16 {
-    let address = station(rt).local_addr();
-    address.expect(rt, "an address").port()
-}
-
 /// A radio on such a port, and the port.
 fn radio(rt: &(impl Abort + Net), alloc: Global) -> (UdpSim, u16) {
     let port = free_port(rt);
     let radio = UdpSim::new(rt, alloc, port);
     (radio.expect(rt, "a radio"), port)
-}
-
-/// Expects that no datagram waits at a socket.
-fn expect_silence(rt: &impl Abort, socket: &UdpSocket, room: &mut [u8]) {
-    let fault = socket.recv_from(room).err().expect(rt, "silence");
-    expect(rt, fault.kind(), ErrorKind::WouldBlock);
-}
-
-/// Expects this datagram at a socket; who sent it.
-fn expect_datagram(rt: &impl Abort, socket: &UdpSocket, room: &mut [u8], bytes: &[u8]) -> u16 {
-    let (got, from) = socket.recv_from(room).expect(rt, "a datagram");
-    expect(rt, room.get(..got), Some(bytes));
-    from.port()
-}
-
-/// Sends a datagram to a port.
-fn send(rt: &impl Abort, socket: &UdpSocket, port: u16, bytes: &[u8]) {
-    let sent = socket.send_to(bytes, (Ipv4Addr::LOCALHOST, port));
-    sent.expect(rt, "a datagram that is sent");
 }
 
 /// Sends a radio a frame of this length, which it gives once, and has the radio send it back.
@@ -98,10 +66,6 @@ fn exchange<R: Radio>(
     }
     expect_silence(rt, other, room);
     send_too_much(rt, radio, frames);
-}
-
-fn bytes(rt: &impl Abort, alloc: Global, byte: u8, count: usize) -> Vec<u8> {
-    vec![in alloc; byte; count].expect(rt, "memory")
 }
 
 #[test]
