@@ -393,6 +393,30 @@ fn as_many_stations_as_may_be_are_one_map(rt: HostRuntime) {
     tell_many(&rt, alloc, &mut radio, &driver);
 }
 
+/// More stations than fit a datagram, under identifiers of five digits.
+const TOO_MANY: u16 = 3_000;
+
+/// Where the map fits no datagram, no frame is sent before it, and it stays due.
+fn hold_frames_back<R: Radio>(rt: &impl Abort, radio: &mut R, driver: &UdpSocket, ports: Ports) {
+    for number in 1..=TOO_MANY {
+        installs(rt, radio, station_of(number), 65_535);
+    }
+    expect(rt, radio.transmit(b"\xb0"), Err(RadioFault::Device));
+    receives(rt, radio, None);
+    expect(rt, radio.transmit(b"\xb0"), Err(RadioFault::Device));
+    expect(rt, radio.failures(), 2);
+    told(rt, driver, ports, &[]);
+    radio.take_down();
+    transmits(rt, radio, b"\xb0");
+    told(rt, driver, ports, &[b"map 4 down", b"\xb0"]);
+}
+
+#[test]
+fn no_frame_is_sent_before_a_map_that_is_due(rt: HostRuntime) {
+    let (mut radio, driver, ports) = pair(&rt, rt.alloc());
+    hold_frames_back(&rt, &mut radio, &driver, ports);
+}
+
 /// Why there is no radio on a port.
 fn refusal(rt: &(impl Net + AllocGlobal), ports: Ports) -> Option<SocketFault> {
     DriverRadio::new(rt, rt.alloc(), ports.radio, ports.driver).err()
