@@ -1,5 +1,5 @@
 -- What the lines of a script do, from what the steps do that they ask for.
-use Rattle.std.proofs.Common.{◌≡◌, ℕ, List, [], Option, Some, None, Result, Ok, Err, IfOk, IfErr, Bool, ap, refl, subst, sym, ◌∙◌}
+use Rattle.std.proofs.Common.{◌≡◌, ℕ, List, [], Option, Some, None, Result, Ok, Err, IfOk, IfErr, ap, refl, subst, sym, ◌∙◌}
 use Rattle.std.specs.Option.{option_map, option_or}
 use Rattle.std.specs.Prelude.{length, OnErr, OnOk}
 use Rattle.apd_conf.specs.declared.conf.Conf.{Conf}

@@ -2,7 +2,7 @@
 use apd_base::{Addr, Bssid, Moment};
 use apd_conf::Conf;
 use apd_core::Input;
-use apd_ctrl::{Parsed, Placed, parse_command};
+use apd_ctrl::{Interfaces, Placed, place};
 use apd_mlme::Recipient;
 use apd_world::Step;
 
@@ -131,12 +131,20 @@ pub fn start_of(conf: &Conf) -> Step<'_> {
     )
 }
 
+/// The first radio alone, which is up.
+struct FirstRadio;
+
+impl Interfaces for FirstRadio {
+    ghost finds = { λ _ _ _. Unit {0} };
+
+    fn interface(&self, _name: Option<&[u8]>) -> Option<(Bssid, bool)> {
+        Some((WLAN0, true))
+    }
+}
+
 /// The step of a command at the first radio; none where the bytes are none.
 pub fn command(bytes: &[u8]) -> Option<Step<'static>> {
-    let Parsed::Command { command, .. } = parse_command(bytes) else {
-        return None;
-    };
-    match command.at(WLAN0, true, 7) {
+    match place(&FirstRadio, 7, bytes).ok()? {
         Placed::Ask(query) => Some(Step::Ask(query)),
         Placed::Do(event) => Some(Step::Accept(Input::Order(event), Moment(0))),
     }
