@@ -51,3 +51,9 @@ wait "$process"
 wants store "$line" 0
 wants "--stations store" "$line
 station 02:00:00:00:00:aa associated 1" 0
+printf 'cmd ACCEPT_ACL ADD_MAC 02:00:00:00:00:cc\ncmd DENY_ACL ADD_MAC 02:00:00:00:00:dd\nflush\n' |
+    "$program" script --store store >/dev/null
+wants "--stations store" "bss 02:00:00:00:00:01 mode 0 max 2007 stations 1 accept 1 deny 1
+station 02:00:00:00:00:aa associated 1
+accept 02:00:00:00:00:cc
+deny 02:00:00:00:00:dd" 0
