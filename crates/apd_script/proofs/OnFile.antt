@@ -1,13 +1,13 @@
 -- A script on the store of a file, from what its world's steps do.
-use Rattle.std.proofs.Common.{◌≡◌, ℕ, List, sym, subst}
+use Rattle.std.proofs.Common.{◌≡◌, ◌++◌, ℕ, List, sym, subst}
 use Rattle.std.specs.Prelude.{Option}
 use Rattle.apd_conf.specs.declared.conf.Conf.{Conf}
-use Rattle.apd_disk.specs.FileCalls.{file_reads}
+use Rattle.apd_disk.specs.FileCalls.{FileCall, FileLeaves}
 use Rattle.apd_disk.specs.FileModel.{file_model}
+use Rattle.apd_disk.specs.FileMore.{HasMore, has_more}
 use Rattle.apd_disk.specs.SystemFile.{FileDisk}
 use Rattle.apd_disk.specs.declared.record.FileRecord.{FileRecord}
 use Rattle.apd_radio.specs.Model.{RadioModel}
-use Rattle.apd_store.specs.Image.{Shows}
 use Rattle.apd_world.specs.Journal.{Journal, Keeps}
 use Rattle.apd_world.specs.Outside.{device_of}
 use Rattle.apd_world.specs.Proper.{IsProper}
@@ -21,7 +21,7 @@ use Rattle.apd_script.specs.Lines.{HaveNoStop}
 use Rattle.apd_script.specs.OnFile.{first_journal, IsFoundInFile, IsRunOnFile}
 use Rattle.apd_script.specs.Script.{IsBegunFrom, IsProperAt, IsRunOn, IsScriptRun}
 use Rattle.apd_script.specs.declared.script.runner.Runner.{Runner}
-use Rattle.apd_script.proofs.Parts.{by_part, stays_proper}
+use Rattle.apd_script.proofs.Parts.{by_part, script_goes_on, stays_proper}
 
 module _ {R : Type 0} (radio : RadioModel R) (known : FileRecord) (confs : List Conf) where
   -- whatever is run from where a world was begun
@@ -38,27 +38,46 @@ module _ {R : Type 0} (radio : RadioModel R) (known : FileRecord) (confs : List 
             (goes.made.leads (first_journal radio confs first) stands),
       )
 
-  found : (file : FileDisk) (first : World FileDisk R) → file.known ≡ known → IsBegunFrom file_model radio (record { 0 = 0 }) file confs first
+  found : (file : FileDisk) (first : World FileDisk R) → IsBegunFrom file_model radio (record { 0 = 0 }) (record file { known = known }) confs first
       → file_model.honest (device_of (durable_of first)) → IsFoundInFile radio known confs first
-  found file first is begun honest = record {
-    shown = subst (λ (k : FileRecord). Shows (file_reads k.held k.calls) (durable_of first).core.settled) is (begun.shown honest);
+  found file first begun honest = record {
+    file = (begun.any_moment honest).goes_on;
+    shown = begun.shown honest;
     proper = begun.proper honest;
     begins = begun.begins;
     kept = since first begun.begins;
   }
 
-  pub runs_on_file : (stops : ℕ) (file : FileDisk) (script : Option (List ℕ)) (new : World FileDisk R) → file.known ≡ known → IsRunOn file_model radio stops file confs script new
+  -- what a record says, by the one with more calls
+  leaves_of : (new : FileRecord) (more : HasMore known new) (image : List ℕ) → FileLeaves known.held (more.since ++ known.calls) image
+      → FileLeaves new.held new.calls image
+  leaves_of new more image left =
+      subst (λ (held : List ℕ). FileLeaves held new.calls image) (sym more.held)
+      (subst (λ (calls : List FileCall). FileLeaves known.held calls image) (sym more.calls) left)
+
+  pub runs_on_file : (stops : ℕ) (file given : FileDisk) (script : Option (List ℕ)) (new : World FileDisk R) → given ≡ record file { known = known }
+      → IsRunOn file_model radio stops given confs script new
       → (IsProper file_model (durable_of new)
       → (j : Journal) → StandsFor new j → (image : List ℕ) → file_model.may_leave (device_of (durable_of new)) image → Keeps j j image)
-      → IsRunOnFile radio stops known confs script new
-  runs_on_file stops file script new is run keeps = record {
-    file = file;
-    of_record = is;
-    run = run;
-    found = found file run.first is run.begun;
-    last = λ honest each.
-        let ends = run.ends in
-        let there : IsProperAt file_model radio ends.last = stays_proper file_model radio ends.texts run.first run.radios ends.last ends.run each (run.begun.proper honest) in
-        let proper : IsProper file_model (durable_of new) = subst (λ (w : World FileDisk R). IsProper file_model (durable_of w)) (sym ends.world) there in
-        record { proper = proper; kept = keeps proper };
-  }
+      → IsRunOnFile radio stops file known confs script new
+  runs_on_file stops file given script new is run_of keeps =
+      let run : IsRunOn file_model radio stops (record file { known = known }) confs script new =
+      subst (λ (d : FileDisk). IsRunOn file_model radio stops d confs script new) is run_of in
+      record {
+        run = run;
+        found = found file run.first run.begun;
+        last = λ honest each.
+            let ends = run.ends in
+            let begun = run.begun.proper honest in
+            let there : IsProperAt file_model radio ends.last = stays_proper file_model radio ends.texts run.first run.radios ends.last ends.run each begun in
+            let proper : IsProper file_model (durable_of new) = subst (λ (w : World FileDisk R). IsProper file_model (durable_of w)) (sym ends.world) there in
+            let on : HasMore (device_of (durable_of run.first)).known (device_of (durable_of new)).known =
+            subst (λ (w : World FileDisk R). HasMore (device_of (durable_of run.first)).known (device_of (durable_of w)).known) (sym ends.world)
+            (script_goes_on file_model radio ends.texts run.first run.radios ends.last ends.run each begun) in
+            let all = has_more known (device_of (durable_of run.first)).known (device_of (durable_of new)).known (run.begun.any_moment honest).goes_on on in
+            record {
+              proper = proper;
+              file = all;
+              kept = λ j stands image left. keeps proper j stands image (leaves_of (device_of (durable_of new)).known all image left);
+            };
+      }

@@ -11,12 +11,15 @@ use Rattle.apd_ctrl.specs.declared.parser.Refusal.{Refusal}
 use Rattle.apd_core.specs.declared.input.QuietReason.{QuietReason}
 use Rattle.apd_mlme.specs.Happening.{Happening}
 use Rattle.apd_radio.specs.Model.{RadioModel}
+use Rattle.apd_world.specs.Outside.{device_of}
 use Rattle.apd_world.specs.Proper.{IsProper, IsSafe}
+use Rattle.apd_world.specs.SafelyMade.{AreMadeInTurn}
 use Rattle.apd_world.specs.Ending.{HasGoneOn}
 use Rattle.apd_world.specs.Starting.{rounds}
 use Rattle.apd_world.specs.HandingOut.{hands}
 use Rattle.apd_world.specs.WorldParts.{durable_of}
 use Rattle.apd_world.specs.declared.step.Step.{Step}
+use Rattle.apd_world.specs.declared.step.Told.{Told}
 use Rattle.apd_world.specs.declared.world.World.{World}
 use Rattle.apd_world.proofs.RunLemmas.{gone_by_flushing, gone_by_handing, gone_then, none_made}
 use Rattle.apd_script.specs.Lines.{Said, Empty, Received, Tick, Command, Take, Call, Publish, Hand, Flush, Stop, Says, HaveNoStop}
@@ -111,6 +114,49 @@ module _ {D R : Type 0} (disk : DiskModel D) (radio : RadioModel R) where
   lines_proper n [] old new same found p = subst At (sym same) p
   lines_proper n (text ∷ texts) old new (mid, one, rest) found p =
       lines_proper (n + 1) texts mid new rest found.1 (line_proper n one.what old mid one.run one.safely found.0 p)
+
+  -- ---- a device goes on
+  steps_go_on : (steps : List Step) (tolds : List Told) (old new : World D R) → AreMadeInTurn disk radio steps tolds old new
+      → IsProper disk (durable_of old) → disk.goes_on (device_of (durable_of old)) (device_of (durable_of new))
+  steps_go_on [] [] old new h p =
+      subst (λ (w : World D R). disk.goes_on (device_of (durable_of old)) (device_of (durable_of w))) (sym h.0) (disk.stays (device_of (durable_of old)))
+  steps_go_on (step ∷ steps) (told ∷ tolds) old new h p =
+      disk.goes_further (device_of (durable_of old)) (device_of (durable_of h.0)) (device_of (durable_of new))
+      ((h.2.safe.inside p).goes_on) (steps_go_on steps tolds h.0 new h.3 (h.2.safe.proper p))
+  steps_go_on steps tolds old new h p = absurd h
+
+  abbrev On : Runner D R → Runner D R → Type 0
+  On old new = disk.goes_on (device_of (durable_of old.world)) (device_of (durable_of new.world))
+
+  on_further : (old mid new : Runner D R) → On old mid → On mid new → On old new
+  on_further old mid new first next =
+      disk.goes_further (device_of (durable_of old.world)) (device_of (durable_of mid.world)) (device_of (durable_of new.world)) first next
+
+  by_goes : (old new : Runner D R) → Goes old new → At old → On old new
+  by_goes old new goes p = steps_go_on goes.steps goes.tolds old.world new.world goes.made.in_turn p
+
+  line_on : (n : ℕ) (what : Said) (old new : Runner D R) (h : IsRun disk radio n what old new) → (what ≢ Stop → Goes old new)
+      → IsFoundHonest disk radio n what old new h → At old → On old new
+  line_on n Stop old new h goes found p =
+      on_further old h.mid new ((h.restarts.restarted.begun.any_moment found).goes_on)
+      (by_goes h.mid new (by_start h.mid new h.starts) (h.restarts.restarted.begun.proper found))
+  line_on n what old new h goes found p = by_goes old new (goes (λ stop. cc)) p
+
+  lines_on : (n : ℕ) (texts : List (List ℕ)) (old new : Runner D R) (run : AreRun disk radio n texts old new)
+      → AreFoundHonest disk radio n texts old new run → At old → On old new
+  lines_on n [] old new same found p = subst (λ (s : Runner D R). On old s) (sym same) (disk.stays (device_of (durable_of old.world)))
+  lines_on n (text ∷ texts) old new (mid, one, rest) found p =
+      on_further old mid new (line_on n one.what old mid one.run one.safely found.0 p)
+      (lines_on (n + 1) texts mid new rest found.1 (line_proper n one.what old mid one.run one.safely found.0 p))
+
+  pub script_goes_on : (texts : List (List ℕ)) (w : World D R) (radios : List R) (last : Runner D R) (h : IsScriptRun disk radio texts w radios last)
+      → AreFoundHonest disk radio 1 texts h.started last h.run → IsProper disk (durable_of w)
+      → disk.goes_on (device_of (durable_of w)) (device_of (durable_of last.world))
+  script_goes_on texts w radios last h found p =
+      let begun : At h.first = subst (λ (v : World D R). IsProper disk (durable_of v)) (sym h.begun.world) p in
+      subst (λ (v : World D R). disk.goes_on (device_of (durable_of v)) (device_of (durable_of last.world))) h.begun.world
+      (on_further h.first h.started last (by_goes h.first h.started (by_start h.first h.started h.starts) begun)
+      (lines_on 1 texts h.started last h.run found (h.starts.started.flushed.handed.made.proper begun)))
 
   pub stays_proper : (texts : List (List ℕ)) (w : World D R) (radios : List R) (last : Runner D R) (h : IsScriptRun disk radio texts w radios last)
       → AreFoundHonest disk radio 1 texts h.started last h.run → IsProper disk (durable_of w) → At last

@@ -18,8 +18,8 @@ use std::io::{BufRead, Write};
 /// durable, when power last came on, and each call of it since. Where what it answered until the world was begun is
 /// what a file answers that held that, the world is proper, and stands for the journal that begins at the state which
 /// those bytes show; what a stop leaves of it, until the first `stop` line, keeps that journal. Each `stop` line reads
-/// the file again: where each found it so as well, what a stop leaves at the end keeps the journal of the world at the
-/// end.
+/// the file again: where each found it so as well, what a stop leaves at the end, of what the file held at first, by all
+/// calls since, keeps the journal of the world at the end.
 ///
 /// # Errors
 ///
@@ -33,7 +33,8 @@ pub fn run_on_file<I: BufRead + Drop, W: Write>(
     writer: &mut W,
 ) -> Result<World<FileDisk, Sim>, ScriptFault>
     requires { file.known.calls ≡ [] }
-    ensures ok { IfOk result (IsRunOnFile ⟦<Sim as Radio>⟧.model STOPS known confs (I.remaining reader)) }
+    ensures ok { IfOk result (IsRunOnFile ⟦<Sim as Radio>⟧.model STOPS file known confs
+        (I.remaining reader)) }
     ensures err { IfErr result (IsFaultOn file_model ⟦<Sim as Radio>⟧.model
         STOPS (record file { known = known }) confs (I.remaining reader)) }
 {

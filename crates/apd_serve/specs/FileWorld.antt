@@ -1,9 +1,10 @@
 -- A world over the file of a store, whatever the file held, and whatever calls were made of it.
 use Rattle.apd_base.specs.State.{State}
 use Rattle.apd_conf.specs.declared.conf.Conf.{Conf}
-use Rattle.std.specs.Prelude.{◌≡◌, ℕ, List, length}
+use Rattle.std.specs.Prelude.{◌≡◌, ℕ, List, ◌++◌, length}
 use Rattle.apd_disk.specs.FileCalls.{FileLeaves, FileLeftSince, file_reads}
 use Rattle.apd_disk.specs.FileModel.{file_model}
+use Rattle.apd_disk.specs.FileMore.{HasMore}
 use Rattle.apd_disk.specs.SystemFile.{FileDisk}
 use Rattle.apd_disk.specs.declared.record.FileRecord.{FileRecord}
 use Rattle.apd_radio.specs.Model.{RadioModel}
@@ -34,9 +35,10 @@ pub record IsRecoveredFrom (known : FileRecord) (opened : OpenStore) : Type 0 wh
 abbrev pub file_of : {R : Type 0} → World FileDisk R → FileDisk
 file_of world = device_of (durable_of world)
 
--- A world over a file of which this was known stands for the journal that begins at the state that the file's bytes
--- show; and it is proper, so that from here on a stop is spoken of.
+-- A world over a file of which this was known: that file has been called since, and the world stands for the journal that
+-- begins at the state that its bytes show; and it is proper, so that from here on a stop is spoken of.
 pub record IsBegunOver {R : Type 0} (known : FileRecord) (confs : List Conf) (world : World FileDisk R) : Type 0 where
+  pub file : HasMore known (file_of world).known
   pub table : State
   pub shows : Shows (file_reads known.held known.calls) table
   pub begins : BeginsAt confs table world
@@ -47,19 +49,22 @@ abbrev pub first_journal : {R : Type 0} {known : FileRecord} {confs : List Conf}
     → IsBegunOver known confs world → Journal
 first_journal {R} {known} {confs} {world} over = blank confs over.table (durable_of world).core.heard
 
--- Steps that told so lead to a journal, and each image that a stop now may leave of the file's calls keeps it.
-pub record IsKept {R : Type 0} (steps : List Step) (tolds : List Told) (old new : World FileDisk R)
-    (j : Journal) : Type 0 where
+-- Steps that told so lead to a journal. The file is the one of which this was known, and was called since: each image that
+-- a stop now may leave of what it held then, by the calls that were known and those since, keeps the journal.
+pub record IsKept {R : Type 0} (known : FileRecord) (steps : List Step) (tolds : List Told)
+    (old new : World FileDisk R) (j : Journal) : Type 0 where
   pub journal : Journal
   pub leads : LeadsTo steps tolds old new j journal
-  pub keeps : (image : List ℕ) → FileLeaves (file_of new).known.held (file_of new).known.calls image
-      → Keeps journal journal image
+  pub file : HasMore known (file_of new).known
+  pub keeps : (image : List ℕ) → FileLeaves known.held (file.since ++ known.calls) image → Keeps journal journal image
 
--- So many of the steps had been made, and the others lead on: each image of a stop at any moment since then keeps what
--- was journalled by then.
-pub record IsKeptSince {R : Type 0} (radio : RadioModel R) (count : ℕ) (steps : List Step) (tolds : List Told)
-    (old new : World FileDisk R) (j : Journal) : Type 0 where
+-- So many of the steps had been made, and the others lead on. The file was called until then, and was called after it: each
+-- image of a stop at any moment since then keeps what was journalled by then.
+pub record IsKeptSince {R : Type 0} (radio : RadioModel R) (known : FileRecord) (count : ℕ) (steps : List Step)
+    (tolds : List Told) (old new : World FileDisk R) (j : Journal) : Type 0 where
   pub since : LeadsSince file_model radio count steps tolds old new j
+  pub before : HasMore known (file_of since.mid).known
+  pub behind : HasMore (file_of since.mid).known (file_of new).known
   pub keeps : (image : List ℕ)
-      → FileLeftSince (file_of new).known.held (file_of new).known.calls (length (file_of since.mid).known.calls) image
+      → FileLeftSince known.held (behind.since ++ (before.since ++ known.calls)) (length (before.since ++ known.calls)) image
       → Keeps since.between since.later image

@@ -25,11 +25,11 @@ pub fn a_stop_leaves_a_file_that_keeps_the_journal<R: Radio>()
     ensures now { (known : FileRecord) (confs : List Conf) (steps : List Step) (tolds : List Told)
         (begun new : World FileDisk R) (over : IsBegunOver known confs begun)
         → AreSafelyMade file_model R.model steps tolds begun new
-        → IsKept steps tolds begun new (first_journal over) }
+        → IsKept known steps tolds begun new (first_journal over) }
     ensures since { (known : FileRecord) (confs : List Conf) (steps : List Step) (tolds : List Told)
         (begun new : World FileDisk R) (over : IsBegunOver known confs begun)
         → AreSafelyMade file_model R.model steps tolds begun new → (count : ℕ)
-        → IsKeptSince R.model count steps tolds begun new (first_journal over) }
+        → IsKeptSince R.model known count steps tolds begun new (first_journal over) }
     ensures next { (known : FileRecord) (confs : List Conf) (world : World FileDisk R)
         (over : IsBegunOver known confs world) (old last : Journal)
         (kept : Keeps old last (file_reads known.held known.calls)) → over.table ≡ after last kept.front }

@@ -1,6 +1,7 @@
-use Rattle.std.proofs.Common.{subst}
+use Rattle.std.proofs.Common.{subst, sym}
 use Rattle.apd_disk.specs.FileCalls.{file_reads}
 use Rattle.apd_disk.specs.FileModel.{file_model}
+use Rattle.apd_disk.specs.FileMore.{HasMore}
 use Rattle.apd_disk.specs.SystemFile.{FileDisk}
 use Rattle.apd_disk.specs.declared.record.FileRecord.{FileRecord}
 use Rattle.apd_store.specs.Image.{Shows}
@@ -14,6 +15,9 @@ returns-in-Ok g c = λ known recovered honest.
     let answered = subst (λ (store : Store FileDisk). file_model.honest (store_device store)) begun.over honest in
     let from = recovered.honestly answered in
     record {
+      file = subst (λ (store : Store FileDisk). HasMore known (store_device store).known) (sym begun.over)
+          (subst (λ (k : FileRecord). HasMore k (store_device c.args.opened.store).known) recovered.knows
+          from.any_moment.goes_on);
       table = c.args.opened.table;
       shows = subst (λ (k : FileRecord). Shows (file_reads k.held k.calls) c.args.opened.table) recovered.knows from.shown;
       begins = c.in-Ok.ensures.begins;
