@@ -10,6 +10,7 @@ use std::time::Clock;
 /// What the program runs on, but for the words of its command line.
 pub trait Host: Input
     + Print
+    + Eprint
     + Files<File = File, Dir: Send + Sync>
     + Net<Stream: Send + Sync, Listener: Send + Sync>
     + Wait
@@ -22,6 +23,7 @@ pub trait Host: Input
 impl<
     T: Input
         + Print
+        + Eprint
         + Files<File = File, Dir: Send + Sync>
         + Net<Stream: Send + Sync, Listener: Send + Sync>
         + Wait

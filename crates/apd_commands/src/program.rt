@@ -4,7 +4,7 @@ use crate::command_line::{command, no_text, words};
 use crate::fault::ProgramFault;
 use crate::formatting::run_format_command;
 use crate::host::Host;
-use crate::running::run_and_log;
+use crate::running::{refuse_ports, run_and_log};
 use crate::scripting::run_script_command;
 use crate::streams::hold_closed_streams;
 use crate::telling::tell;
@@ -55,6 +55,11 @@ fn run_words<R: Host>(
 ) -> Result<Option<clap::Error>, ProgramFault> {
     match command(rt.alloc())?.try_get_matches_from(words) {
         Ok(matches) => {
+            if let Some(run) = matches.subcommand_matches("run")
+                && let Some(error) = refuse_ports(rt.alloc(), run)?
+            {
+                return Ok(Some(error));
+            }
             if let Err(fault) = carry_out(rt, &matches) {
                 let _ = tell_more(rt, more, &matches, &fault);
                 return Err(fault);
@@ -87,7 +92,7 @@ fn tell_all(
 
 /// Does what the program's command line says, prints what that came to, and gives the exit status, as `tell` does. Behind
 /// a fault's line it prints what more is known of it. No standard stream is left closed meanwhile.
-pub fn run_program<R: Env + Eprint + Host>(rt: &R) -> io::Result<ExitCode> {
+pub fn run_program<R: Env + Host>(rt: &R) -> io::Result<ExitCode> {
     let mut more = More::new(rt.alloc());
     let streams = match hold_closed_streams(rt) {
         Ok(streams) => streams,

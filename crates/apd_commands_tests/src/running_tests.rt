@@ -1,6 +1,8 @@
 use crate::expect::{expect, expect_file, hold, read, remove, write};
 use crate::scripting_tests::make_old_store;
-use apd_commands::{Host, ProgramFault, RunningFault, command, no_text, run_and_log, tell};
+use apd_commands::{
+    Host, ProgramFault, RunningFault, command, no_text, refuse_ports, run_and_log, tell,
+};
 use apd_disk::FileDisk;
 use apd_store::format;
 use std::alloc::{AllocError, Global};
@@ -15,7 +17,7 @@ use std::rt::Files;
 const CONF: &str = "interface=wlan0\nbssid=02:00:00:00:00:01\nssid=net\n";
 
 /// Command lines, the status that they end with, and how what is printed begins.
-const WORDS: [(&[&str], u8, &str); 9] = [
+const WORDS: [(&[&str], u8, &str); 11] = [
     (
         &["apd", "run", "--store", "s", "--port", "1023", "c"],
         2,
@@ -25,6 +27,35 @@ const WORDS: [(&[&str], u8, &str); 9] = [
         &["apd", "run", "--store", "s", "--port", "65001", "c"],
         2,
         "2error: invalid value '65001' for '--port <N>': 65001 is not in 1024..=65000\n",
+    ),
+    (
+        &[
+            "apd",
+            "run",
+            "--end-at-fault=no",
+            "--store",
+            "s",
+            "--port",
+            "1024",
+            "c",
+        ],
+        2,
+        "2error: unexpected value 'no' for '--end-at-fault' found; no more were expected\n",
+    ),
+    (
+        &[
+            "apd",
+            "run",
+            "--drivers",
+            "0",
+            "--store",
+            "s",
+            "--port",
+            "1024",
+            "c",
+        ],
+        2,
+        "2error: invalid value '0' for '--drivers <BASE>': 0 is not in 1..=65528\n",
     ),
     (
         &["apd", "run", "--port", "1024", "c"],
@@ -153,6 +184,44 @@ fn wrong_words_are_told(rt: HostRuntime) {
     }
 }
 
+/// What is wrong with a run at a port, whose radios' drivers have the ports from this one on.
+fn refusal_of(rt: &(impl AllocGlobal + Abort), port: &str, drivers: &str) -> Option<clap::Error> {
+    let command = command(rt.alloc()).expect(rt, "memory");
+    let words = [
+        "apd",
+        "run",
+        "--store",
+        "s",
+        "--port",
+        port,
+        "--drivers",
+        drivers,
+        "c",
+    ];
+    let matches = command.try_get_matches_from(&words).ok();
+    let matches = matches.expect(rt, "words that are right");
+    let run = matches.subcommand_matches("run");
+    let error = refuse_ports(rt.alloc(), run.expect(rt, "the words of a run"));
+    drop(matches);
+    error.expect(rt, "memory")
+}
+
+#[test]
+fn ports_of_drivers_are_no_ports_of_the_daemon(rt: HostRuntime) {
+    let alloc = rt.alloc();
+    for (drivers, last) in [("6993", "7000"), ("7000", "7007"), ("7008", "7015")] {
+        let text = format!(in alloc;
+            "2error: invalid value '{drivers}' for '--drivers <BASE>': the ports {drivers} to {last} meet 7000 to 7008, those of '--port 7000'\n"
+        );
+        let text = text.expect(&rt, "memory");
+        expect_error(&rt, refusal_of(&rt, "7000", drivers), 2, text.as_str());
+        drop(text);
+    }
+    for drivers in ["1", "6992", "7009", "65528"] {
+        hold(&rt, refusal_of(&rt, "7000", drivers).is_none());
+    }
+}
+
 #[test]
 fn words_that_are_no_text_are_wrong(rt: HostRuntime) {
     let error = no_text(rt.alloc()).expect(&rt, "memory");
@@ -218,6 +287,28 @@ fn faults_of_a_run_are_told_in_their_order(rt: HostRuntime) {
     expect_faults(&rt, port.as_str());
     drop(port);
     drop(taken);
+}
+
+#[test]
+fn a_run_with_options_has_the_same_faults(rt: HostRuntime) {
+    let conf = "run_test_conf_with_options";
+    write(&rt, conf, CONF.as_bytes());
+    let words = [
+        "apd",
+        "run",
+        "--end-at-fault",
+        "--log-stations",
+        "--log-time",
+        "--store",
+        "run_test_no_store",
+        "--port",
+        "1024",
+        conf,
+    ];
+    let fault = fault_of(&rt, &words);
+    let wanted = "2apd: cannot read run_test_no_store\n";
+    expect_page(&rt, Err(ProgramFault::Running(fault)), 1, wanted);
+    remove(&rt, conf);
 }
 
 #[test]

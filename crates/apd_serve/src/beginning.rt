@@ -24,6 +24,13 @@ pub struct OpenStore {
     table: Table,
 }
 
+impl OpenStore {
+    /// The table that was recovered.
+    pub(crate) fn table(&self) -> &Table {
+        &self.table
+    }
+}
+
 /// Opens the file of a store, of which this is known, and recovers the store and its table. Nothing that the file holds
 /// is changed. Where the file has answered, also in this call, as one that held that, the table is the state that its
 /// bytes show.

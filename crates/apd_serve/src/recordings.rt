@@ -14,8 +14,8 @@ const MODE: u32 = 0o600;
 /// A file that a recording is going to be written into, and its name. It holds an advisory lock on it (flock(2)).
 #[derive(Drop)]
 pub(crate) struct RecordingFile {
-    name: String,
-    file: File,
+    pub(crate) name: String,
+    pub(crate) file: File,
 }
 
 // Whether a file begins as a store of either version does. No such file becomes a recording.
@@ -78,18 +78,16 @@ pub(crate) fn open_recordings(
     Ok(recordings)
 }
 
-/// Empties the files, and gives them, in their order.
+/// Empties the files.
 ///
 /// Errors: `CannotRead` where one can't be emptied.
 pub(crate) fn empty_files(
     rt: &impl AllocGlobal,
-    recordings: Vec<RecordingFile>,
-) -> Result<Vec<File>, OpenFault> {
-    let mut files = Vec::with_capacity(rt.alloc(), recordings.len())?;
+    recordings: &[RecordingFile],
+) -> Result<(), OpenFault> {
     for recording in recordings {
-        let RecordingFile { name, file } = recording;
-        file_or_fault(rt, name.as_str(), file.set_len(0))?;
-        files.push(file).map_err(AllocError::from)?;
+        let emptied = recording.file.set_len(0);
+        file_or_fault(rt, recording.name.as_str(), emptied)?;
     }
-    Ok(files)
+    Ok(())
 }

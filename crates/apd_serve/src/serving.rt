@@ -3,6 +3,7 @@ ghost use Rattle.std.specs.Prelude.{◌≡◌, ◌+◌, [], IfOk, OnOk};
 ghost use Rattle.apd_desk.specs.Counted.{entries_of_seats};
 ghost use Rattle.apd_serve.specs.Entries.{entries_of_all, entries_of_seat};
 
+use crate::alarm::Alarm;
 use crate::crew::work_until_end;
 use crate::fault::{ServeFault, of_start};
 use crate::worker::{Environment, Worker};
@@ -107,13 +108,14 @@ fn dismiss<
     shared: &Shared<L>,
     workers: Vec<Worker<L, D, R, P>>,
     gate: &G,
+    alarm: &Alarm,
     seats: &mut Vec<Seat<L>>,
 ) -> Result<(), AllocError>
     ensures { OnOk result
         (entries_of_seats seats.new.items ≡ entries_of_seats seats.old.items + entries_of_all workers.items) }
 {
     for worker in workers {
-        keep(seats, worker.leave(rt, alloc, shared, gate))?;
+        keep(seats, worker.leave(rt, alloc, shared, gate, alarm))?;
     }
     Ok(())
 }
@@ -128,6 +130,7 @@ fn close<L: Ledger, W: Wait + time::Clock + Log, D: Disk + Drop, R: Radio, P: Po
     shared: Shared<L>,
     workers: Vec<Worker<L, D, R, P>>,
     gate: &G,
+    alarm: &Alarm,
     seats: Vec<Seat<L>>,
 ) -> Result<u64, ServeFault>
     requires parts { L.parts ≡ SEATS }
@@ -135,7 +138,7 @@ fn close<L: Ledger, W: Wait + time::Clock + Log, D: Disk + Drop, R: Radio, P: Po
     ensures { IfOk result (λ entries. entries ≡ entries_of_all workers.items) }
 {
     let mut seats = seats;
-    dismiss(rt, alloc, &shared, workers, gate, &mut seats)?;
+    dismiss(rt, alloc, &shared, workers, gate, alarm, &mut seats)?;
     match shared.close(seats) {
         Ok((_core, entries)) => Ok(entries),
         Err(_missing) => Err(ServeFault::Thread),
@@ -186,6 +189,7 @@ fn serve_over_ledger<
     port: P,
     clock: &C,
     gate: &G,
+    alarm: &Alarm,
     reader: &mut B,
 ) -> Result<u64, ServeFault>
 where
@@ -204,10 +208,11 @@ where
         shared: &shared,
         clock,
         gate,
+        alarm,
     };
     let (workers, seats) = work(&environment, workers, reader)?;
     drop(environment);
-    close(rt, alloc, shared, workers, gate, seats)
+    close(rt, alloc, shared, workers, gate, alarm, seats)
 }
 
 /// A world, started: each interface is configured, which is committed and handed out. Then nothing waits in it that would
@@ -222,7 +227,7 @@ pub(crate) fn start<D: Disk + Drop, R: Radio>(
     }
 }
 
-/// As `serve`, with the world started.
+/// As `serve`, with the world started. The alarm rings where the device fails.
 pub(crate) fn serve_started<
     W: Wait + Threads + time::Clock + Log + Net + Sync,
     D: Disk + Drop + Send,
@@ -238,6 +243,7 @@ pub(crate) fn serve_started<
     port: P,
     clock: C,
     gate: &G,
+    alarm: &Alarm,
     reader: B,
 ) -> Result<u64, ServeFault>
 where
@@ -254,6 +260,7 @@ where
         port,
         &clock,
         gate,
+        alarm,
         &mut reader,
     )
 }
@@ -292,5 +299,31 @@ where
     W::Stream: Send + Sync,
     W::Listener: Send + Sync,
 {
-    serve_started(rt, alloc, start(world)?, port, clock, gate, reader)
+    serve_and_ring(rt, alloc, world, port, clock, gate, &Alarm::new(), reader)
+}
+
+/// As `serve`; the alarm rings where the device fails, when that comes.
+pub fn serve_and_ring<
+    W: Wait + Threads + time::Clock + Log + Net + Sync,
+    D: Disk + Drop + Send,
+    R: Radio + Send,
+    P: Port + Drop + Send,
+    C: Clock + Drop + Sync,
+    G: Gate + Sync,
+    B: Read + Drop,
+>(
+    rt: &W,
+    alloc: Global,
+    world: World<D, R>,
+    port: P,
+    clock: C,
+    gate: &G,
+    alarm: &Alarm,
+    reader: B,
+) -> Result<u64, ServeFault>
+where
+    W::Stream: Send + Sync,
+    W::Listener: Send + Sync,
+{
+    serve_started(rt, alloc, start(world)?, port, clock, gate, alarm, reader)
 }

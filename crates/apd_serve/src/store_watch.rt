@@ -1,8 +1,11 @@
-//! Whether the name of a store is still that of the file that is served.
-ghost use Rattle.std.specs.Prelude.{◌≡◌, ◌≢◌, ◌↔◌, Some};
+//! Whether the name of a store is still that of the file that is served, and whether that has a store's length.
+ghost use Rattle.std.specs.Prelude.{◌≡◌, ◌≢◌, ◌↔◌, Some, None};
+ghost use Rattle.apd_base.specs.declared.limits.TheConstants.{DEVICE_LENGTH};
 
+use crate::elsewhere::Elsewhere;
 use crate::identity::Identity;
-use crate::notices::tell_fate;
+use crate::notices::{tell_fate, tell_length};
+use apd_base::limits::DEVICE_LENGTH;
 use log::Log;
 use std::fs::{File, TryLockError, metadata};
 use std::io::{self, ErrorKind};
@@ -39,16 +42,40 @@ fn fate_of(served: Identity, names: u64, named: Option<Identity>) -> Fate
     }
 }
 
+/// A length, in bytes, that is no store's.
+#[derive(Clone, Copy, Debug, PartialEq, Eq)]
+pub(crate) enum Misfit {
+    /// It is less.
+    Cut(u64),
+    /// It is more.
+    Grown(u64),
+}
+
+// How a file of this length misfits as a store.
+fn misfit_of(length: u64) -> Option<Misfit>
+    ensures { (result ≡ None) ↔ (length ≡ DEVICE_LENGTH) }
+{
+    if length < DEVICE_LENGTH {
+        Some(Misfit::Cut(length))
+    } else if length > DEVICE_LENGTH {
+        Some(Misfit::Grown(length))
+    } else {
+        None
+    }
+}
+
 // Whether such a fault says that a name is no file's.
 fn is_none_there(kind: ErrorKind) -> bool {
     kind == ErrorKind::NotFound || kind == ErrorKind::NotADirectory
 }
 
-/// The file of a store, and the name under which it was opened.
+/// The file of a store, the name under which it was opened, and what was told of it.
 #[derive(Drop)]
 pub(crate) struct StoreWatch<'a> {
     name: &'a str,
     file: File,
+    fate_told: bool,
+    misfit_told: bool,
 }
 
 impl<'a> StoreWatch<'a> {
@@ -62,7 +89,12 @@ impl<'a> StoreWatch<'a> {
     ) -> io::Result<StoreWatch<'a>> {
         let file = File::open(files, name)?;
         match file.try_lock_shared() {
-            Err(TryLockError::WouldBlock) => Ok(StoreWatch { name, file }),
+            Err(TryLockError::WouldBlock) => Ok(StoreWatch {
+                name,
+                file,
+                fate_told: false,
+                misfit_told: false,
+            }),
             Err(TryLockError::Error(error)) => Err(error),
             Ok(()) => Err(ErrorKind::NotFound.into()),
         }
@@ -77,6 +109,30 @@ impl<'a> StoreWatch<'a> {
             Err(error) => return Err(error),
         };
         Ok(fate_of(Identity::of(&open), open.nlink(), named))
+    }
+
+    // How its length misfits, as far as the system tells.
+    fn misfit(&self) -> Option<Misfit> {
+        let open = self.file.metadata().ok()?;
+        misfit_of(open.len())
+    }
+
+    // Looks at its name and its length. What is otherwise than at first is told once; what the system doesn't tell is
+    // asked again.
+    fn look<W: Files<File = File> + Log>(&mut self, rt: &W) {
+        if !self.fate_told
+            && let Ok(fate) = self.fate(rt)
+            && fate != Fate::Named
+        {
+            tell_fate(rt, self.name, fate);
+            self.fate_told = true;
+        }
+        if !self.misfit_told
+            && let Some(misfit) = self.misfit()
+        {
+            tell_length(rt, self.name, misfit);
+            self.misfit_told = true;
+        }
     }
 }
 
@@ -111,22 +167,18 @@ impl Ending {
     }
 }
 
-/// Looks about once a second at the name of a store, until it ends, and tells once where the file that is served lost
-/// it. What the system doesn't tell is asked again.
+/// Looks about once a second at the file of a store, and at what came from elsewhere, until it ends.
 pub(crate) fn watch<W: Files<File = File> + Wait + Clock + Log>(
     rt: &W,
-    store: &StoreWatch<'_>,
+    store: &mut StoreWatch<'_>,
+    elsewhere: &mut Elsewhere,
     ending: &Ending,
 ) {
     for _ in rt.forever() {
         if ending.ends_within(rt, Duration::from_millis(PAUSE)) {
             return;
         }
-        if let Ok(fate) = store.fate(rt)
-            && fate != Fate::Named
-        {
-            tell_fate(rt, store.name, fate);
-            return;
-        }
+        store.look(rt);
+        elsewhere.look(rt);
     }
 }

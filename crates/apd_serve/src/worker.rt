@@ -5,6 +5,7 @@ ghost use Rattle.apd_desk.specs.Holding.{IsLed};
 ghost use Rattle.apd_serve.specs.Entries.{entries_of, entries_of_seat};
 ghost use Rattle.apd_serve.specs.Worked.{HasWorked};
 
+use crate::alarm::Alarm;
 use crate::crew::{Job, Stops};
 use crate::handing_out::{hand_out, reply_settled};
 use crate::notices::{tell_device_fault, tell_worn_out};
@@ -30,6 +31,7 @@ pub(crate) struct Environment<'a, L: Ledger, W, C, G> {
     pub(crate) shared: &'a Shared<L>,
     pub(crate) clock: &'a C,
     pub(crate) gate: &'a G,
+    pub(crate) alarm: &'a Alarm,
 }
 
 impl<L: Ledger, W: Wait, C, G> Stops for Environment<'_, L, W, C, G> {
@@ -71,10 +73,11 @@ impl<
             shared,
             clock,
             gate,
+            alarm,
         } = environment;
         match self {
             Worker::Committing(committer) => {
-                Worker::Committing(commit(*rt, *shared, committer, *gate))
+                Worker::Committing(commit(*rt, *shared, committer, *gate, *alarm))
             }
             Worker::Radio(seat, slot) => {
                 let none = Vec::new(*alloc);
@@ -97,11 +100,12 @@ fn has_refused<D: Disk>(committer: &Committer<D>) -> bool {
     committer.phase() == Phase::Failed || committer.has_batch()
 }
 
-// Tells why the commits ended, by what the flusher does next. Beside a fault of the device it is that the store is worn
-// out: nothing else is refused to a core that one committer settles.
-fn tell_refusal<W: Log>(rt: &W, phase: Phase) {
+// Tells why the commits ended, by what the flusher does next, and rings where the device failed. Beside a fault of the
+// device it is that the store is worn out: nothing else is refused to a core that one committer settles.
+fn tell_refusal<W: Log>(rt: &W, phase: Phase, alarm: &Alarm) {
     if phase == Phase::Failed {
         tell_device_fault(rt);
+        alarm.ring();
     } else {
         tell_worn_out(rt);
     }
@@ -114,6 +118,7 @@ fn commit<L: Ledger, W: Wait + time::Clock + Log, D: Disk, G: Gate>(
     shared: &Shared<L>,
     committer: Committer<D>,
     gate: &G,
+    alarm: &Alarm,
 ) -> Committer<D>
     ensures led { IsLed D.model committer result }
     ensures keeps { Keeps D.model committer result }
@@ -122,7 +127,7 @@ fn commit<L: Ledger, W: Wait + time::Clock + Log, D: Disk, G: Gate>(
     let had_refused = has_refused(&committer);
     let ending = commit_all(rt, shared, &mut committer, gate);
     if ending == Ending::Refused && !had_refused {
-        tell_refusal(rt, committer.phase());
+        tell_refusal(rt, committer.phase(), alarm);
     }
     committer
 }
@@ -135,13 +140,14 @@ impl<L: Ledger, D: Disk + Drop, R: Radio, P: Port + Drop> Worker<L, D, R, P> {
         alloc: Global,
         shared: &Shared<L>,
         gate: &G,
+        alarm: &Alarm,
     ) -> Worker<L, D, R, P>
         ensures entries { entries_of result ≡ entries_of self }
         ensures worked { HasWorked D.model R.model self result }
     {
         match self {
             Worker::Committing(committer) => {
-                Worker::Committing(commit(rt, shared, committer, gate))
+                Worker::Committing(commit(rt, shared, committer, gate, alarm))
             }
             Worker::Radio(seat, slot) => {
                 let (mut seat, mut slot) = (seat, slot);
@@ -176,9 +182,10 @@ impl<L: Ledger, D: Disk + Drop, R: Radio, P: Port + Drop> Worker<L, D, R, P> {
         alloc: Global,
         shared: &Shared<L>,
         gate: &G,
+        alarm: &Alarm,
     ) -> Option<Seat<L>>
         ensures { entries_of_seat result ≡ entries_of self }
     {
-        self.finish(rt, alloc, shared, gate).into_seat()
+        self.finish(rt, alloc, shared, gate, alarm).into_seat()
     }
 }

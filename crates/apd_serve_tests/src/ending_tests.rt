@@ -68,7 +68,11 @@ fn short_world<'a>(
 }
 
 /// Starts a world, and authenticates the first station.
-fn authenticate<R: Radio>(rt: &impl Abort, alloc: Global, world: &mut World<OnceDisk<MemDisk>, R>) {
+pub(crate) fn authenticate<R: Radio>(
+    rt: &impl Abort,
+    alloc: Global,
+    world: &mut World<OnceDisk<MemDisk>, R>,
+) {
     let frame = hex::decode(alloc, AUTHENTICATION).expect(rt, "a frame");
     let input = Input::Received(Bssid(Addr([2, 0, 0, 0, 0, 1])), frame.as_slice());
     let started = world.start().is_ok();
@@ -79,7 +83,7 @@ fn authenticate<R: Radio>(rt: &impl Abort, alloc: Global, world: &mut World<Once
 
 /// Ends the test where `serve` answers anything else than one entry, while the worker of the radio submits this frame
 /// when the one that commits has ended. Tells how many lines were said, of which the last is said afterwards.
-fn serve_to_the_end<
+pub(crate) fn serve_to_the_end<
     R: Net + Wait + Threads + time::Clock + AllocGlobal + Log + Sync + Abort,
     S: Radio + Send,
 >(

@@ -7,9 +7,13 @@ mod burst_tests;
 #[cfg(test)]
 mod clock_tests;
 #[cfg(test)]
+mod driver_tests;
+#[cfg(test)]
 mod ending_tests;
 #[cfg(test)]
 mod expect;
+#[cfg(test)]
+mod fault_tests;
 #[cfg(test)]
 mod faulty_radio;
 #[cfg(test)]
@@ -28,6 +32,8 @@ mod serving_tests;
 mod short_radio;
 #[cfg(test)]
 mod stage;
+#[cfg(test)]
+mod station_tests;
 #[cfg(test)]
 mod talk;
 #[cfg(test)]

@@ -81,14 +81,65 @@ where
     let site = Site {
         store,
         port,
+        drivers: None,
         recordings,
         configurations,
+        ends_at_fault: None,
+        logs_stations: false,
+    };
+    run(rt, confs, &site, reader)
+}
+
+/// The same where it is logged what becomes of stations and lists, and nothing is recorded.
+pub(crate) fn run_telling<
+    R: Files<File = File> + Net + Wait + Threads + Clock + AllocGlobal + Log + Sync,
+    B: Read + Drop,
+>(rt: &R, store: &str, confs: Confs, port: u16, reader: B) -> Result<u64, RunFault>
+where
+    R::Dir: Send + Sync,
+    R::Stream: Send + Sync,
+    R::Listener: Send + Sync,
+{
+    let site = Site {
+        store,
+        port,
+        drivers: None,
+        recordings: None,
+        configurations: &[],
+        ends_at_fault: None,
+        logs_stations: true,
+    };
+    run(rt, confs, &site, reader)
+}
+
+/// The same where the radios' drivers have the ports from this one on, and nothing is logged beside.
+pub(crate) fn run_driven<
+    R: Files<File = File> + Net + Wait + Threads + Clock + AllocGlobal + Log + Sync,
+    B: Read + Drop,
+>(rt: &R, store: &str, confs: Confs, port: u16, drivers: u16, reader: B) -> Result<u64, RunFault>
+where
+    R::Dir: Send + Sync,
+    R::Stream: Send + Sync,
+    R::Listener: Send + Sync,
+{
+    let site = Site {
+        store,
+        port,
+        drivers: Some(drivers),
+        recordings: None,
+        configurations: &[],
+        ends_at_fault: None,
+        logs_stations: false,
     };
     run(rt, confs, &site, reader)
 }
 
 /// Ends the test where `run` answers anything else: the number of entries, or the fault, as text.
-fn expect_answer(rt: &(impl AllocGlobal + Abort), answer: Result<u64, RunFault>, wanted: &str) {
+pub(crate) fn expect_answer(
+    rt: &(impl AllocGlobal + Abort),
+    answer: Result<u64, RunFault>,
+    wanted: &str,
+) {
     let text = match answer {
         Ok(entries) => format!(in rt.alloc(); "{entries}"),
         Err(fault) => format!(in rt.alloc(); "{fault}"),

@@ -39,14 +39,14 @@ const HEARD: &str =
     "02:00:00:00:00:aa\nflags=[AUTH][ASSOC][AUTHORIZED]\naid=1\ncapability=0x431\nlisten_interval=10\n";
 
 /// What is told of a device that failed.
-const FAILED: &str =
+pub(crate) const FAILED: &str =
     "[ERROR apd] device fault: nothing more is made durable, and what would change the table is refused; end it, see to the disk, and start it again\n";
 
 /// A device call that doesn't come.
 pub(crate) const NEVER: u64 = u64::MAX;
 
 /// How many calls come before the first of the first request's commit: a recovery has two, and the commit of the start four.
-const STARTED: u64 = 6;
+pub(crate) const STARTED: u64 = 6;
 
 /// The built-in configuration, with a station that is denied.
 fn conf(rt: &impl Abort, alloc: Global) -> Conf {

@@ -57,7 +57,7 @@ impl Stage {
     }
 
     // Waits for as long as it is held. Tells whether it was.
-    fn has_waited<R: Wait + time::Clock>(&self, rt: &R) -> bool {
+    fn wait<R: Wait + time::Clock>(&self, rt: &R) -> bool {
         let mut waited = false;
         for _ in rt.forever() {
             if !self.held.load(SeqCst) {
@@ -80,7 +80,7 @@ pub(crate) struct HeldGate<'a, R> {
 impl<R: Wait + time::Clock> Gate for HeldGate<'_, R> {
     fn pass(&self, at: Place) {
         if at == Place::BeforeCall {
-            self.stage.has_waited(self.rt);
+            self.stage.wait(self.rt);
         }
     }
 }
@@ -95,7 +95,7 @@ pub(crate) struct StageClock<'a, R> {
 impl<R: Wait + time::Clock> Clock for StageClock<'_, R> {
     fn now(&self) -> Moment {
         self.stage.asked.fetch_add(1, SeqCst);
-        if self.stage.has_waited(self.rt) {
+        if self.stage.wait(self.rt) {
             sleep(self.rt, Duration::from_millis(LATER));
         }
         Moment(self.stage.moment.load(SeqCst))

@@ -168,6 +168,15 @@ impl<'a> Talk<'a> {
         }
     }
 
+    /// The port of a sender.
+    pub(crate) fn port_of(&self, rt: &impl Abort, sender: usize) -> u16 {
+        let socket = self.senders.get(sender).expect(rt, "a sender");
+        socket
+            .local_addr()
+            .expect(rt, "the address of a socket")
+            .port()
+    }
+
     /// How many lines were said as they are written; the talk ends at the first that isn't.
     pub(crate) fn said_count(&self) -> usize {
         self.said

@@ -4,7 +4,7 @@ use crate::hearing::Hearing;
 use crate::running_tests::{confs, run_at, runs_with};
 use crate::talk::{CONTROL, Datagram, Line, free_ports};
 use apd_base::{Addr, Bssid};
-use apd_conf::{Conf, Confs, InterfaceName};
+use apd_conf::{Conf, Confs, FileName, InterfaceName};
 use log::Log;
 use std::alloc::Global;
 use std::fs::{self, File};
@@ -79,6 +79,97 @@ fn a_ninth_bssid_of_a_store_is_told(rt: HostRuntime) {
     );
     hearing.expect_heard(wanted.expect(&rt, "memory").as_str());
     remove_all(&rt, &[name]);
+}
+
+/// The built-in configuration with the list file of this name.
+fn confs_with_list(rt: &impl Abort, alloc: Global, name: &str) -> Confs {
+    assert!(rt; FileName::is_name(name));
+    let file = FileName::new(name, alloc).expect(rt, "memory");
+    let mut conf = Conf::built_in(alloc).expect(rt, "memory");
+    conf.accept_mac_file = Some(file);
+    let mut list = Vec::new(alloc);
+    list.push(conf).expect(rt, "memory");
+    Confs::new(list).expect(rt, "a configuration")
+}
+
+/// Ends the test where anything else is told of the list file of a configuration, over the store of a file: this, and
+/// then what is served.
+fn tells_of_lists<
+    R: Files<File = File> + Net + Wait + Threads + Clock + AllocGlobal + Sync + Abort + Copy + Drop,
+>(rt: R, name: &str, wanted: &str)
+where
+    R::Dir: Send + Sync,
+    R::Stream: Send + Sync,
+    R::Listener: Send + Sync,
+{
+    let alloc = rt.alloc();
+    let hearing = Hearing::new(rt, alloc);
+    let confs = confs_with_list(&rt, alloc, "list_of_a_telling_test");
+    let port = runs_with(&hearing, name, confs, None, &[], "0");
+    let wanted = format!(in alloc;
+        "{wanted}[INFO  apd] serves commands on port {port}, wlan0 on port {}; stations recovered: 0\n[INFO  apd] entries 0\n",
+        port.wrapping_add(1)
+    );
+    hearing.expect_heard(wanted.expect(&rt, "memory").as_str());
+}
+
+#[test]
+fn a_list_file_that_does_not_count_is_told(rt: HostRuntime) {
+    let line =
+        "[WARN  apd] wlan0: list_of_a_telling_test does not count, since the store has the lists of its BSSID: commands change them\n";
+    let name = "listing_store";
+    new_store(&rt, name);
+    tells_of_lists(rt, name, "");
+    tells_of_lists(rt, name, line);
+    remove_all(&rt, &[name]);
+}
+
+/// An input during which a store's file gets another length, and goes on for a while.
+#[derive(Drop)]
+struct Resizing<R> {
+    rt: R,
+    name: &'static str,
+    length: u64,
+}
+
+impl<R: Files<File = File> + Clock> Read for Resizing<R> {
+    fn read(&mut self, _buf: &mut [u8]) -> io::Result<usize> {
+        let file = File::options().write(true).open(&self.rt, self.name)?;
+        file.set_len(self.length)?;
+        drop(file);
+        sleep(&self.rt, Duration::from_millis(WATCHED));
+        Ok(0)
+    }
+}
+
+/// Ends the test where it isn't told so, once, that the store of a file has another length.
+fn tells_of_length<
+    R: Files<File = File> + Net + Wait + Threads + Clock + AllocGlobal + Sync + Abort + Copy + Drop,
+>(rt: R, name: &'static str, length: u64, line: &str)
+where
+    R::Dir: Send + Sync,
+    R::Stream: Send + Sync,
+    R::Listener: Send + Sync,
+{
+    new_store(&rt, name);
+    let hearing = Hearing::new(rt, rt.alloc());
+    runs_renaming(&hearing, name, Resizing { rt, name, length });
+    hearing.expect_heard_once(line);
+    remove_all(&rt, &[name]);
+}
+
+#[test]
+fn a_store_that_is_cut_is_told(rt: HostRuntime) {
+    let line =
+        "[ERROR apd] cut_store was cut to 4096 bytes, of 2097216: what the store holds, and what is told from now on, may be lost when this ends\n";
+    tells_of_length(rt, "cut_store", 4_096, line);
+}
+
+#[test]
+fn a_store_that_grows_is_told(rt: HostRuntime) {
+    let line =
+        "[ERROR apd] grown_store grew to 2097217 bytes, from 2097216: a start from it is refused until it is cut to these\n";
+    tells_of_length(rt, "grown_store", 2_097_217, line);
 }
 
 /// An input during which a store's file loses its name, and goes on for a while.
