@@ -1,19 +1,22 @@
 #!/bin/sh
-# Installs the program into a folder, and looks at what is there: the program and apd-service run; the manual has no fault,
-# and has each subcommand and option that the program's help names; the unit is hardened, where systemd can tell.
+# Installs the program into a folder, and looks at what is there: the program and the scripts run; the manual has no fault,
+# and has each subcommand and option that the program's help names; the units are hardened, where systemd can tell.
 # Use: examples/install.sh, from anywhere. APD names the program, MANUAL another manual, UNIT another unit. It ends with
 # status 1 at the first thing that is amiss.
 here=$(dirname "$(readlink -f "$0")")
 . "$here/testing"
-needs man
+needs man python3
 APD=$program "$here/install" there >out
 "$folder/there/sbin/apd" --version >version
 (unset APD && "$folder/there/sbin/apd-service" --version >found)
 cmp version found
 timeout 20 "$folder/there/sbin/apdctl" help | grep -q "^use: "
+("$folder/there/sbin/apd-ctrl" 2>&1 || :) | grep -q "^usage: "
 manual=${MANUAL:-$folder/there/share/man/man8/apd.8}
-unit=${UNIT:-$folder/there/lib/systemd/system/apd.service}
-grep -q "^ExecStart=$folder/there/sbin/apd-service run " "$folder/there/lib/systemd/system/apd.service"
+units=$folder/there/lib/systemd/system
+grep -q "^ExecStart=$folder/there/sbin/apd-service run " "$units/apd.service"
+grep -q "^ExecStart=$folder/there/sbin/apd-ctrl 7000 /run/apd " "$units/apd-ctrl.service"
+grep -q -x PrivateNetwork=yes "$folder/there/share/doc/apd/private.conf"
 
 LC_ALL=C.UTF-8 MANWIDTH=100 man --warnings -l "$manual" >page 2>faults </dev/null
 if [ -s faults ]; then
@@ -42,10 +45,12 @@ done
 echo "the manual has $(echo "$subcommands" | wc -l) subcommands and all options"
 
 if command -v systemd-analyze >/dev/null && systemd-analyze security --help | grep -q -e --offline; then
-    systemd-analyze security --offline=yes --threshold=30 --no-pager "$unit" >score 2>&1 || {
-        tail -n 3 score
-        echo "install.sh: the unit is open to more than 3.0"
-        exit 1
-    }
-    tail -n 1 score
+    for unit in "${UNIT:-$units/apd.service}" "$units/apd-ctrl.service"; do
+        systemd-analyze security --offline=yes --threshold=30 --no-pager "$unit" >score 2>&1 || {
+            tail -n 3 score
+            echo "install.sh: the unit is open to more than 3.0"
+            exit 1
+        }
+        tail -n 1 score
+    done
 fi
