@@ -5,6 +5,7 @@ import functools
 import os
 import pathlib
 import pickle
+import re
 import shutil
 import socket
 import stat
@@ -383,13 +384,15 @@ def drive():
     table = rows()
     want("rows", [row(A), ""], table)
 
+    begun = time.monotonic()
     frames = [authentication("wlan0", f"02:00:02:00:00:{it:02x}") for it in range(100)]
-    frames += [frame(DEAUTHENTICATION, "wlan0", A, bytes([3, 0])), b"", bytes(64), b"\xff" * 2400]
+    frames += [frame(DEAUTHENTICATION, "wlan0", A, bytes([3, 0])), b"", bytes(64), b"\xff" * 2400, b"up", b"fault 1"]
     for number in range(100_000):
         other.sendto(frames[number % len(frames)], radio)
     for each in frames:
         elsewhere.sendto(each, radio)
     want("rows behind others' frames", table, rows())
+    count_in_log(begun)
     # (The peer's own frame may be lost meanwhile, as on the air.)
     peer.settimeout(0.5)
     for _ in range(60):
@@ -410,9 +413,22 @@ def drive():
 
 
 def read_head(peer):
-    """The kind of the next frame, and for whom it is."""
-    data = peer.recv(4096)
+    """The kind of the next frame, and for whom it is. (A word to the driver begins with a letter.)"""
+    while (data := peer.recv(65536))[:1].islower():
+        pass
     return data[0], data[4:10]
+
+
+def count_in_log(begun):
+    """Looks for the line that counts others' datagrams. It comes once a minute at most."""
+    line = r"\[WARN  apd\] wlan0: datagrams from elsewhere than its driver, passed over: ([0-9]+)\n"
+    for _ in range(200):
+        counts = re.findall(line, LOG.read_text())
+        if counts:
+            break
+        time.sleep(0.1)
+    if not counts or "0" in counts or len(counts) > 1 + (time.monotonic() - begun) / 60:
+        raise Amiss(f"others' datagrams are counted so in the log: {counts}")
 
 
 def rows():
