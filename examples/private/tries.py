@@ -147,6 +147,14 @@ class Client:
 
 
 def ask(interface, command):
+    """The reply. Where another socket took the interface's name meanwhile, it asks once more."""
+    try:
+        return ask_once(interface, command)
+    except (ConnectionRefusedError, TimeoutError):
+        return ask_once(interface, command)
+
+
+def ask_once(interface, command):
     with Client(interface) as it:
         it.send(command.encode())
         return it.recv(65536).decode()
@@ -278,7 +286,8 @@ def leave_unread():
     """Asks by many sockets for more text than one of apd-ctrl has room for, and reads nothing."""
     kept.extend(Client("wlan0") for _ in range(20))
     for it in kept:
-        it.socket.send(b"DENY_ACL SHOW")
+        with contextlib.suppress(ConnectionRefusedError):
+            it.socket.send(b"DENY_ACL SHOW")
 
 
 def send_much():
