@@ -107,7 +107,7 @@ def begin(*options):
     env = {**os.environ, "NETNS": SPACE, "APD": os.path.abspath("bin/apd")}
     with open(LOG, "w") as it:
         services.append(subprocess.Popen([str(it) for it in words], env=env, stdout=it, stderr=it))
-    for _ in range(200):
+    for _ in range(600):
         if "serves commands" in LOG.read_text() and all((SOCKETS / it).exists() for it in BSSID):
             return
         time.sleep(0.05)
