@@ -4,14 +4,14 @@
 # that is installed; and clients that mean harm keep nobody from it. Then, over --drivers, 100,000 datagrams from a port
 # that is not the radio's peer change nothing, and get nothing.
 # Use, as root: examples/private.sh, from anywhere. APD names the program, and PRIVATE another folder of examples/. It
-# ends with status 1 at the first thing that is amiss.
+# ends with status 1 at the first thing that is amiss, and with 77 where no namespace can be made.
 here=$(dirname "$(readlink -f "$0")")
 . "$here/testing"
 needs ip setpriv python3
-[ "$(id -u)" = 0 ] || {
-    echo "private.sh: it needs root, to make a network namespace" >&2
-    exit 1
-}
+if [ "$(id -u)" != 0 ] || ! unshare --net true; then
+    echo "private.sh: it needs root, and that a network namespace can be made" >&2
+    exit 77
+fi
 # What other users run, where they can reach it.
 chmod 755 "$folder"
 mkdir bin
