@@ -324,7 +324,14 @@ static void hear_frame(const uint8_t *frame, size_t length)
         tell_frame(frame, length);
 }
 
-/* Sends a frame of the daemon's, or obeys a word, which begins with a lower case letter, as no such frame does. */
+/* Whether a frame tells a station that it is associated, which the kernel doesn't have. */
+static bool is_untrue(const uint8_t *frame, size_t length)
+{
+    bool is_response = frame[0] == ASSOCIATION_RESPONSE || frame[0] == REASSOCIATION_RESPONSE;
+    return is_response && length >= HEADER + 6 && number_at(frame, HEADER + 2) == 0 && !identifier_of(frame + 4);
+}
+
+/* Sends a frame of the daemon's, or obeys a word, which begins with a lower-case letter, as no such frame does. */
 static void hear_datagram(uint8_t *datagram, size_t length)
 {
     int asker;
@@ -335,6 +342,8 @@ static void hear_datagram(uint8_t *datagram, size_t length)
         say("a frame of %zu bytes is too short", length);
     } else if (datagram[0] == PROBE_RESPONSE && (asker = asker_of(datagram)) >= 0) {
         take_response(datagram, length, asker);
+    } else if (is_untrue(datagram, length)) {
+        say("%s is not told that it is associated", spell_address(datagram + 4));
     } else {
         int error = send_frame(datagram, length);
         if (error)
@@ -358,6 +367,7 @@ static void serve(void)
     static uint8_t datagram[DATAGRAM + 1];
     struct pollfd waiting[] = {{.fd = kernel_descriptor(), .events = POLLIN},
                                {.fd = daemon_descriptor(), .events = POLLIN}};
+    struct timespec now;
     time_t last = 0;
     for (;;) {
         poll(waiting, 2, 200);
@@ -366,8 +376,9 @@ static void serve(void)
         ssize_t length = waiting[1].revents ? hear_daemon(datagram, DATAGRAM) : -1;
         if (length > 0)
             hear_datagram(datagram, length);
-        if (time(NULL) != last)
-            look_around(last = time(NULL));
+        clock_gettime(CLOCK_MONOTONIC, &now);
+        if (now.tv_sec != last)
+            look_around(last = now.tv_sec);
     }
 }
 

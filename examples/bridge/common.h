@@ -25,7 +25,9 @@ struct terms {
 /* Subtypes of management frames, as the first byte of a frame has them. */
 enum frame_kind {
     ASSOCIATION_REQUEST = 0x00,
+    ASSOCIATION_RESPONSE = 0x10,
     REASSOCIATION_REQUEST = 0x20,
+    REASSOCIATION_RESPONSE = 0x30,
     PROBE_REQUEST = 0x40,
     PROBE_RESPONSE = 0x50,
     BEACON = 0x80,

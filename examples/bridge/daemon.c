@@ -79,11 +79,11 @@ static bool skip_text(const char **at, const char *text)
     return true;
 }
 
-/* Reads a blank and a decimal number up to the greatest. */
+/* Reads a decimal number up to the greatest. */
 static bool skip_number(const char **at, uint64_t greatest, uint64_t *number)
 {
     char *end;
-    if (!skip_text(at, " ") || **at < '0' || **at > '9')
+    if (**at < '0' || **at > '9')
         return false;
     errno = 0;
     *number = strtoull(*at, &end, 10);
@@ -91,41 +91,50 @@ static bool skip_number(const char **at, uint64_t greatest, uint64_t *number)
     return errno == 0 && *number <= greatest;
 }
 
-/* Reads a blank and an address. */
 static bool skip_address(const char **at, uint8_t *address)
 {
     int length = 0;
-    sscanf(*at, " %2hhx:%2hhx:%2hhx:%2hhx:%2hhx:%2hhx%n", &address[0], &address[1], &address[2], &address[3],
+    sscanf(*at, "%2hhx:%2hhx:%2hhx:%2hhx:%2hhx:%2hhx%n", &address[0], &address[1], &address[2], &address[3],
            &address[4], &address[5], &length);
     *at += length;
-    return length == sizeof " 00:00:00:00:00:00" - 1;
+    return length == sizeof "00:00:00:00:00:00" - 1;
 }
 
-bool next_of_map(const char **rest, uint8_t *station, unsigned *identifier)
+/* Reads an address and an identifier. */
+static bool skip_station(const char **at, uint8_t *station, unsigned *identifier)
 {
     uint64_t number;
-    if (!skip_address(rest, station) || !skip_number(rest, IDENTIFIERS, &number) || number == 0)
+    if (!skip_address(at, station) || !skip_text(at, " ") || !skip_number(at, IDENTIFIERS, &number) || number == 0)
         return false;
     *identifier = number;
     return true;
 }
 
+bool next_of_map(const char **rest, uint8_t *station, unsigned *identifier)
+{
+    return skip_text(rest, "\n") && skip_station(rest, station, identifier);
+}
+
 bool read_word(const char *text, struct word *word)
 {
-    if (skip_text(&text, "install"))
+    if (skip_text(&text, "install "))
         word->kind = INSTALL;
-    else if (skip_text(&text, "remove"))
+    else if (skip_text(&text, "remove "))
         word->kind = REMOVE;
-    else if (skip_text(&text, "map"))
+    else if (skip_text(&text, "map "))
         word->kind = MAP;
     else
         return false;
-    if (!skip_number(&text, UINT64_MAX, &word->number))
+    if (!skip_number(&text, UINT64_MAX, &word->number) || !skip_text(&text, " "))
         return false;
-    word->rest = text;
-    if (word->kind == INSTALL)
-        return next_of_map(&text, word->station, &word->identifier) && *text == 0;
-    return word->kind == MAP || (skip_address(&text, word->station) && *text == 0);
+    if (word->kind == MAP) {
+        bool is_map = skip_text(&text, "down");
+        word->rest = text;
+        return is_map;
+    }
+    return (word->kind == INSTALL ? skip_station(&text, word->station, &word->identifier)
+                                  : skip_address(&text, word->station)) &&
+           *text == 0;
 }
 
 /* Commands. */

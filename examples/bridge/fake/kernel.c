@@ -1,0 +1,92 @@
+/* In the place of kernel.c, for daemon.py: what the bridge asks of the kernel is printed, and the kernel's news come as
+   datagrams on standard input: a frame as it is, the address of a stranger that was heard, or a text: "refuse" and
+   "take" (what stations are added from then on), "fall" (the interface goes down and comes up). */
+#include "../kernel.h"
+
+#include <errno.h>
+#include <stdio.h>
+#include <sys/socket.h>
+
+static const uint8_t address[ADDRESS] = {2, 0, 0, 0, 0, 1};
+static uint8_t stations[IDENTIFIERS][ADDRESS] = {{2, 0, 0, 0, 0, 0x99}}; /* one is there before, as of another run */
+static size_t count = 1;
+static bool is_refusing, is_beaconing;
+
+void open_kernel(const char *name)
+{
+    setvbuf(stdout, NULL, _IOLBF, 0);
+    printf("open %s\n", name);
+}
+
+const uint8_t *own_address(void)
+{
+    return address;
+}
+
+int kernel_descriptor(void)
+{
+    return 0;
+}
+
+void hear_kernel(const struct listener *listener)
+{
+    uint8_t news[DATAGRAM];
+    ssize_t length = recv(0, news, sizeof news - 1, 0);
+    if (length <= 0)
+        give_up("the end", 0);
+    news[length] = 0;
+    if (length >= HEADER) {
+        listener->hear(news, length);
+    } else if (length == ADDRESS && news[0] == 2) {
+        listener->meet(news);
+    } else if (news[0] == 'f') {
+        is_beaconing = false;
+        count = 0;
+    } else {
+        is_refusing = news[0] == 'r';
+    }
+}
+
+int set_beacon(const struct beacon *beacon, bool *is_new)
+{
+    *is_new = !is_beaconing;
+    is_beaconing = true;
+    if (*is_new)
+        printf("beacon %.*s %s %u %u %zu\n", (int)beacon->name_length, beacon->name,
+               beacon->is_hidden ? "hidden" : "open", beacon->channel, beacon->interval, beacon->length);
+    return 0;
+}
+
+int add_station(const uint8_t *station, unsigned identifier, const struct terms *terms)
+{
+    if (is_refusing)
+        return ENOSPC;
+    memcpy(stations[count++], station, ADDRESS);
+    printf("add %s %u %x %u %zu\n", spell_address(station), identifier, terms->capability, terms->listen_interval,
+           terms->rate_count);
+    return 0;
+}
+
+int remove_station(const uint8_t *station)
+{
+    for (size_t i = 0; i < count; i++)
+        if (is_same(stations[i], station)) {
+            memmove(stations[i], stations[--count], ADDRESS);
+            printf("remove %s\n", spell_address(station));
+            return 0;
+        }
+    return ENOENT;
+}
+
+int send_frame(const uint8_t *frame, size_t length)
+{
+    printf("send %02x %s %zu\n", frame[0], spell_address(frame + 4), length);
+    return 0;
+}
+
+int list_stations(void (*tell)(const uint8_t *station, unsigned silence))
+{
+    for (size_t i = 0; i < count; i++)
+        tell(stations[i], i ? 60000 : 0);
+    return 0;
+}
