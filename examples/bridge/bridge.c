@@ -276,7 +276,7 @@ static void take_response(uint8_t *frame, size_t length, int asker)
     static bool is_open; /* the response before was to any name */
     const uint8_t *name = find_element(frame, HEADER + 12, length, 0);
     const uint8_t *rates = find_element(frame, HEADER + 12, length, 1);
-    bool is_hidden = asker == OWN_NAME && !is_open, is_told = asker == OWN_NAME && is_open;
+    bool is_hidden = asker == OWN_NAME, is_told = is_hidden && is_open;
     is_open = asker == ANY_NAME;
     if (!name || !rates || rates[1] > RATES || is_told)
         return;

@@ -91,8 +91,9 @@ def read_lines():
             lines.append(line.strip())
 
 
-def expect(what, *wanted, said=()):
-    """Waits until the bridge asked this of the kernel, in order, and said this to the daemon, and no more."""
+def expect(what, *wanted, said=(), unsaid=None):
+    """Waits until the bridge asked just this of the kernel, in order, and said this to the daemon, too, but no frame of
+    the sender `unsaid`."""
     lines.clear()
     until = time.monotonic() + 8
     while time.monotonic() < until:
@@ -102,6 +103,8 @@ def expect(what, *wanted, said=()):
             break
     if lines != list(wanted) or not all(it in heard for it in said):
         sys.exit(f"{what}: wanted {list(wanted)} and {list(said)}, found {lines} and {heard}")
+    if any(it[10:16] == unsaid for it in heard):
+        sys.exit(f"{what}: a frame came from {unsaid}")
     print(f"{what}: {'; '.join(lines) or 'nothing'}")
     heard.clear()
 
@@ -110,10 +113,10 @@ def tell(text):
     radio.send(text.encode())
 
 
-request = frame(0x00, OWN, bytes_of("cc"), bytes.fromhex("31040a00") + BASIC + bytes.fromhex("32040c121824"))
+request = frame(0x00, OWN, bytes_of("cc"), bytes.fromhex("31040a00") + BASIC + bytes.fromhex("32050c12182430"))
 accepted = bytes.fromhex("0100000003c0") + BASIC
 a, b, c, d, other = (address(it) for it in ("aa", "bb", "cc", "dd", "99"))
-by_request, by_daemon = "431 10 8", "421 7 4"
+by_request, by_daemon = "431 10 9", "421 7 4"
 is_good = False
 try:
     expect("it starts", "open wlan0", 'beacon n\\"\xff open 6 100 51', said=[b"up"])
@@ -142,7 +145,7 @@ try:
     kernel.send(b"take")
     tell(f"map 15 down\n{a} 2\n{c} 3")
     expect("the map after a fault", f"add {c} 3 {by_request}")
-    for text in "install 16", "install 16 x 1", f"install 16 {d} 2008", f"install 16 {d} 0", "map", "no word":
+    for text in "install 16", "install 16 x 1", f"install 16 {d} 2008", f"install 16 {d} 0", f"install 16 {d} 5 ", "map", "no word":
         tell(text)
     tell(f"install 16 {d} 4")
     expect("what is no word", f"add {d} 4 {by_daemon}")
@@ -150,7 +153,7 @@ try:
     expect("data of a stranger", said=[null_of("ee")])
     kernel.send(frame(0xb0, OWN, bytes(6), bytes(6)))
     kernel.send(frame(0xb0, OWN, bytes_of("ff"), bytes(6)))
-    expect("a sender without an address", said=[frame(0xb0, OWN, bytes_of("ff"), bytes(6))])
+    expect("a sender without an address", said=[frame(0xb0, OWN, bytes_of("ff"), bytes(6))], unsaid=bytes(6))
     kernel.send(b"fall")
     expect("the interface fell", 'beacon n\\"\xff open 6 100 51', said=[b"up"])
     tell(f"map 17 down\n{a} 2")

@@ -49,9 +49,12 @@ void hear_kernel(const struct listener *listener)
 
 int set_beacon(const struct beacon *beacon, bool *is_new)
 {
+    static bool was_hidden;
+    bool is_told = is_beaconing && was_hidden == beacon->is_hidden;
     *is_new = !is_beaconing;
     is_beaconing = true;
-    if (*is_new)
+    was_hidden = beacon->is_hidden;
+    if (!is_told)
         printf("beacon %.*s %s %u %u %zu\n", (int)beacon->name_length, beacon->name,
                beacon->is_hidden ? "hidden" : "open", beacon->channel, beacon->interval, beacon->length);
     return 0;
