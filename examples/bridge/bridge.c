@@ -208,7 +208,8 @@ static void obey(const char *text)
 static const uint8_t asker_marks[] = {0x40, 0x80}; /* by which the askers' addresses differ from the own one */
 enum { ANY_NAME, OWN_NAME };
 
-static void probe(int asker, const uint8_t *name, size_t length)
+/* Asks for a network by the name's first so many bytes: all, or none. */
+static void probe(int asker, size_t length)
 {
     static const uint8_t rates[] = {1, 8, 0x82, 0x84, 0x8b, 0x96, 0x8c, 0x98, 0xb0, 0x6c};
     uint8_t frame[HEADER + 2 + sizeof network.name + sizeof rates] = {PROBE_REQUEST}, *at = frame + HEADER;
@@ -217,7 +218,7 @@ static void probe(int asker, const uint8_t *name, size_t length)
     frame[15] ^= asker_marks[asker];
     *at++ = 0;
     *at++ = length;
-    at = (uint8_t *)memcpy(at, name, length) + length;
+    at = (uint8_t *)memcpy(at, network.name, length) + length;
     memcpy(at, rates, sizeof rates);
     tell_frame(frame, at + sizeof rates - frame);
 }
@@ -226,8 +227,8 @@ static void ask_beacon(void)
 {
     if (!ask_network(&network))
         return;
-    probe(ANY_NAME, NULL, 0);
-    probe(OWN_NAME, network.name, network.name_length);
+    probe(ANY_NAME, 0);
+    probe(OWN_NAME, network.name_length);
 }
 
 /* Which asker a probe response is for; -1 if none. */
