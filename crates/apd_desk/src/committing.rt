@@ -157,7 +157,7 @@ fn step<A: Settles, D: Disk, G: Gate>(core: &mut A, committer: &mut Committer<D>
 
 // Behind a step that went so rests, until there is an entry or a stop where there was nothing to do, and looks again.
 fn look_again<A: Rests>(core: &A, idle: &mut Idle, progress: Progress, seen: Look) -> Look {
-    if idle.is_over(progress) {
+    if idle.rest(progress) {
         match progress {
             Progress::Nothing => core.wait(seen),
             Progress::Short | Progress::Made => core.pause(seen),

@@ -210,7 +210,7 @@ pub fn control_worker<L: Ledger, W: Wait + SystemClock + Net, P: Port, C: Clock,
         let served = serve_commands(rt, shared, &mut seat, &mut port, clock, gate);
         let replied = reply_settled(rt, shared, &mut seat, &mut port, &mut collected, seen);
         let progress = served.max(replied);
-        if idle.is_over(progress) {
+        if idle.rest(progress) {
             waiter.wait(rt, shared, progress, port.descriptor(), seen);
         }
     }

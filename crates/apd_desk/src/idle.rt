@@ -36,7 +36,7 @@ impl Idle {
 
     /// A turn went so. After one without progress it lets others run. Tells whether it is time to wait, since there
     /// were as many in a row.
-    pub(crate) fn is_over(&mut self, progress: Progress) -> bool
+    pub(crate) fn rest(&mut self, progress: Progress) -> bool
         ensures made { progress ≡ Progress.Made → (result ≡ false) × (self.new.looks ≡ 0) }
         ensures over { progress ≢ Progress.Made → self.old.looks ≤ LOOKS → (IsTrue result ↔ (self.old.looks ≡ LOOKS)) }
         ensures looks { progress ≢ Progress.Made → self.old.looks ≤ LOOKS

@@ -176,7 +176,7 @@ fn serve_by_steps<W: Wait, A: Serves, R: Radio, C: Clock, G: Gate>(
             return;
         }
         let progress = parts.turn(core, seen, clock, gate);
-        if idle.is_over(progress) {
+        if idle.rest(progress) {
             core.wait(waiter, progress, parts.slot.descriptor(), seen);
         }
     }

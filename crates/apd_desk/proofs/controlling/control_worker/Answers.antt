@@ -2,8 +2,8 @@ use Rattle.std.proofs.Common.{arith}
 use Rattle.apd_desk.proofs.Replies.{at_once_on, settled_on}
 use Rattle.apd_desk.proofs.controlling.control_worker.Goals as goal
 
-pub loop-preserved-then-is_over : goal.loop-preserved-then-is_over
-loop-preserved-then-is_over g c =
+pub loop-preserved-then-rest : goal.loop-preserved-then-rest
+loop-preserved-then-rest g c =
     let before = c.loop.invariant.0 in
     let served = c.serve_commands-served.ensures.later in
     let later = c.reply_settled-replied.ensures.later in (
