@@ -118,7 +118,7 @@ module _ {R : Type 0} (radio : RadioModel R) (frames : R → Option (List (List 
         serve_one radio frames made (Silence (Some fault)) core core old new mending mending (λ no. no) (λ no. no)
         (subst (λ (z : Result (Option _) RadioFault). IsPolled radio frames (frame_got bytes z) old new) err is, refl, refl)
 
-    pub handed : (told : Result ℕ AllocError) (core after : A) (old new : Slot R) (mending : Mending R)
+    abbrev pub handed : (told : Result ℕ AllocError) (core after : A) (old new : Slot R) (mending : Mending R)
         → made (λ c d. HandsTo (bssid_of old) told c d old new) core after → IsRadioRun radio frames made core after old new mending mending
     handed told core after old new mending hands =
         serve_one radio frames made (Hand told) core after old new mending mending (λ no. no) (λ no. no) (hands, refl)

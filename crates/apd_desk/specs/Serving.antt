@@ -1,9 +1,9 @@
 -- What a radio's worker does to its slot, by its seat (own).
-use Rattle.std.specs.Prelude.{◌≡◌, ℕ, List, Option}
+use Rattle.std.specs.Prelude.{◌≡◌, ℕ, List, ◌∷◌, Option, Ok}
 use Rattle.apd_radio.specs.Model.{RadioModel}
 use Rattle.apd_slot.specs.declared.mending.Mending.{Mending}
 use Rattle.apd_slot.specs.declared.slot.Slot.{Slot}
-use Rattle.apd_steps.specs.Serving.{IsRadioRun}
+use Rattle.apd_steps.specs.Serving.{Hand, IsRadioRun, RadioStep}
 use Rattle.apd_desk.specs.Asking.{by_seat}
 use Rattle.apd_desk.specs.declared.seat.Seat.{Seat}
 
@@ -16,3 +16,8 @@ pub record HasServed {L R : Type 0} (radio : RadioModel R) (frames : R → Optio
   pub begun : mending.tries ≡ 0
   pub left : Mending R
   pub run : IsRadioRun radio frames by_seat seat later old new mending left
+
+-- Which entry had settled when the slot was given what is ready is noted anew right behind a hand that succeeded alone.
+abbrev pub NotesHands : List RadioStep → Option ℕ → Option ℕ → Type 0
+NotesHands (Hand (Ok count) ∷ before) old new = Unit {0}
+NotesHands steps old new = new ≡ old

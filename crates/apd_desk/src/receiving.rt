@@ -4,7 +4,7 @@ ghost use Rattle.apd_slot.specs.Slots.{bssid_of, queue_of, IsExact};
 ghost use Rattle.apd_steps.specs.Serving.{IsRadioRun, IsTended};
 ghost use Rattle.apd_desk.specs.Giving.{IsGivenOn};
 ghost use Rattle.apd_desk.specs.SeatProgress.{IsLater};
-ghost use Rattle.apd_desk.specs.Serving.{HasServed};
+ghost use Rattle.apd_desk.specs.Serving.{HasServed, NotesHands};
 
 use crate::asked::{Asked, Serves};
 use crate::clock::Clock;
@@ -82,8 +82,9 @@ impl<R: Radio> Parts<R> {
     // Puts into the slot's queue, if none waits there and entries were settled since, what of settled entries it was
     // not given yet.
     fn collect<A: Serves>(&mut self, core: &mut A) -> Progress
-        ensures { IsRadioRun R.model R.frames A.made core.old core.new
-            self.old.slot self.new.slot self.old.mending self.new.mending }
+        ensures { (run : IsRadioRun R.model R.frames A.made core.old core.new
+            self.old.slot self.new.slot self.old.mending self.new.mending)
+            × NotesHands run.steps self.old.collected self.new.collected }
     {
         let settled = Some(core.look().settled);
         if self.slot.waiting_count() > 0 || self.collected == settled {
