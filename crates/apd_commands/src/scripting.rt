@@ -2,8 +2,8 @@
 use crate::fault::ProgramFault;
 use crate::warnings::warn_of_ssids;
 use apd_conf::Confs;
-use apd_disk::Disk;
-use apd_script::{new_store, read_configurations, run_on_store};
+use apd_disk::FileRecord;
+use apd_script::{new_store, read_configurations, run_on_file, run_on_store};
 use apd_serve::{Access, open_disk};
 use clap::{Arg, ArgAction, ArgMatches, Command};
 use log::Log;
@@ -56,13 +56,32 @@ pub(crate) fn script_command<'a>(alloc: Global) -> Result<Command<'a>, AllocErro
         .arg(files)
 }
 
-// Runs a script on the store of a device, and prints what it tells.
-fn run_and_print(
-    rt: &(impl Print + AllocGlobal),
-    disk: impl Disk + Drop,
+// Runs a script on the store of the file of this name, and prints what it tells.
+fn run_script_on_file(
+    rt: &(impl Print + Files<File = File> + AllocGlobal),
+    name: &str,
     confs: Confs,
     reader: impl BufRead + Drop,
 ) -> Result<(), ProgramFault> {
+    let file = match open_disk(rt, name, Access::Write) {
+        Ok(file) => file,
+        Err(fault) => return Err(ProgramFault::Open(fault)),
+    };
+    let known = FileRecord::new();
+    let ended = run_on_file(rt.alloc(), file, known, confs, reader, &mut io::writer(rt)).err();
+    match ended {
+        None => Ok(()),
+        Some(fault) => Err(ProgramFault::Script(fault)),
+    }
+}
+
+// On a new store in memory.
+fn run_script_in_memory(
+    rt: &(impl Print + AllocGlobal),
+    confs: Confs,
+    reader: impl BufRead + Drop,
+) -> Result<(), ProgramFault> {
+    let disk = new_store(rt.alloc()).map_err(ProgramFault::Script)?;
     let ended = run_on_store(rt.alloc(), disk, confs, reader, &mut io::writer(rt)).err();
     match ended {
         None => Ok(()),
@@ -70,7 +89,6 @@ fn run_and_print(
     }
 }
 
-// On the store of the file of this name, or on a new one in memory.
 fn run_script(
     rt: &(impl Print + Files<File = File> + AllocGlobal),
     store: Option<&str>,
@@ -78,14 +96,8 @@ fn run_script(
     reader: impl BufRead + Drop,
 ) -> Result<(), ProgramFault> {
     match store {
-        Some(name) => match open_disk(rt, name, Access::Write) {
-            Ok(disk) => run_and_print(rt, disk, confs, reader),
-            Err(fault) => Err(ProgramFault::Open(fault)),
-        },
-        None => match new_store(rt.alloc()) {
-            Ok(disk) => run_and_print(rt, disk, confs, reader),
-            Err(fault) => Err(ProgramFault::Script(fault)),
-        },
+        Some(name) => run_script_on_file(rt, name, confs, reader),
+        None => run_script_in_memory(rt, confs, reader),
     }
 }
 
