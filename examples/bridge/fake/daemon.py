@@ -57,7 +57,8 @@ def null_of(last):
 def answer_command():
     text, sender = control.recvfrom(9999)
     if text == b"IFNAME=wlan0 STATUS":
-        reply = b'state=ENABLED\nchannel=6\nbeacon_int=100\nbss[0]=wlan0\nbssid[0]=x\nssid[0]=n\\\\\\"\\xff\nnum_sta[0]=0\n'
+        reply = b'state=ENABLED\nchannel=6\nbeacon_int=100\nbss[0]=wlan0\nbssid[0]=x\n'
+        reply += b'ssid[0]=n\\\\\\"\\xff\nnum_sta[0]=0\n'
     else:
         reply = text.split()[-1] + b"\nflags=[AUTH][ASSOC][AUTHORIZED]\naid=1\ncapability=0x421\nlisten_interval=7\n"
     control.sendto(reply, sender)
@@ -145,8 +146,10 @@ try:
     kernel.send(b"take")
     tell(f"map 15 down\n{a} 2\n{c} 3")
     expect("the map after a fault", f"add {c} 3 {by_request}")
-    for text in "install 16", "install 16 x 1", f"install 16 {d} 2008", f"install 16 {d} 0", f"install 16 {d} 5 ", "map", "no word":
+    for text in "map", "no word", "install 16", "install 16 x 1":
         tell(text)
+    for identifier in "2008", "0", "5 ":
+        tell(f"install 16 {d} {identifier}")
     tell(f"install 16 {d} 4")
     expect("what is no word", f"add {d} 4 {by_daemon}")
     kernel.send(bytes_of("ee"))
