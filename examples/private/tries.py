@@ -387,9 +387,9 @@ def drive():
     elsewhere.bind(("127.0.0.2", BASE))
     radio = ("127.0.0.1", PORT + 1)
     want("a command before all frames", b"OK\n", ask_port(PORT, b"DEAUTHENTICATE " + A.encode()))
-    want("its frame", (DEAUTHENTICATION, bytes_of(A)), read_head(peer))
+    want_frame("the frame of a command before all frames", DEAUTHENTICATION, A, peer)
     peer.sendto(authentication("wlan0", A), radio)
-    want("the answer to the peer", (AUTHENTICATION, bytes_of(A)), read_head(peer))
+    want_frame("the answer to the peer", AUTHENTICATION, A, peer)
     table = rows()
     want("rows", [row(A), ""], table)
 
@@ -419,6 +419,14 @@ def drive():
         it.setblocking(False)
         with contextlib.suppress(BlockingIOError):
             raise Amiss(f"a frame went elsewhere: {it.recv(4096)}")
+
+
+def want_frame(what, kind, station, peer):
+    try:
+        found = read_head(peer)
+    except TimeoutError:
+        found = "none"
+    want(what, (kind, bytes_of(station)), found)
 
 
 def read_head(peer):
