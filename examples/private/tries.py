@@ -192,7 +192,7 @@ def authentication(interface, station):
 def authenticate(interface, *stations):
     radio = socket.socket(socket.AF_INET, socket.SOCK_DGRAM)
     radio.connect(("127.0.0.1", PORT + 1 + [*BSSID].index(interface)))
-    radio.settimeout(10)
+    radio.settimeout(30)
     for station in stations:
         radio.send(authentication(interface, station))
         answer = radio.recv(4096)
