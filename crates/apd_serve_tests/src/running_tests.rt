@@ -60,6 +60,26 @@ pub(crate) fn confs(rt: &(impl AllocGlobal + Abort), radios: u16) -> Confs {
     Confs::new(list).expect(rt, "configurations")
 }
 
+// A site in which no device fault ends a run.
+fn site<'a>(
+    store: &'a str,
+    port: u16,
+    drivers: Option<u16>,
+    recordings: Option<&'a str>,
+    configurations: &'a [&'a str],
+    logs_stations: bool,
+) -> Site<'a> {
+    Site {
+        store,
+        port,
+        drivers,
+        recordings,
+        configurations,
+        ends_at_fault: None,
+        logs_stations,
+    }
+}
+
 /// What `run` of a store at this port answers, where the configurations are of files of these names.
 pub(crate) fn run_at<
     R: Files<File = File> + Net + Wait + Threads + Clock + AllocGlobal + Log + Sync,
@@ -78,15 +98,7 @@ where
     R::Stream: Send + Sync,
     R::Listener: Send + Sync,
 {
-    let site = Site {
-        store,
-        port,
-        drivers: None,
-        recordings,
-        configurations,
-        ends_at_fault: None,
-        logs_stations: false,
-    };
+    let site = site(store, port, None, recordings, configurations, false);
     run(rt, confs, &site, reader)
 }
 
@@ -100,15 +112,7 @@ where
     R::Stream: Send + Sync,
     R::Listener: Send + Sync,
 {
-    let site = Site {
-        store,
-        port,
-        drivers: None,
-        recordings: None,
-        configurations: &[],
-        ends_at_fault: None,
-        logs_stations: true,
-    };
+    let site = site(store, port, None, None, &[], true);
     run(rt, confs, &site, reader)
 }
 
@@ -122,15 +126,7 @@ where
     R::Stream: Send + Sync,
     R::Listener: Send + Sync,
 {
-    let site = Site {
-        store,
-        port,
-        drivers: Some(drivers),
-        recordings: None,
-        configurations: &[],
-        ends_at_fault: None,
-        logs_stations: false,
-    };
+    let site = site(store, port, Some(drivers), None, &[], false);
     run(rt, confs, &site, reader)
 }
 

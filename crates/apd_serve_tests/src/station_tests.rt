@@ -42,13 +42,14 @@ where
     new_store(&rt, name);
     let hearing = Hearing::new(rt, alloc);
     let stage = Stage::new(false);
+    let written = lines.len();
     let port = free_ports(&rt, 2);
     let mut talk = Talk::new(&rt, alloc, port, lines, &stage);
     let answer = run_telling(&hearing, name, confs(&rt, 2), port, &mut talk);
     let said = talk.said_count();
     drop(talk);
     expect_answer(&rt, answer, entries);
-    expect(&rt, said, lines.len());
+    expect(&rt, said, written);
     let wanted = format!(in alloc;
         "[INFO  apd] serves commands on port {port}, wlan0 on port {}, wlan1 on port {}; stations recovered: 0\n{wanted}[INFO  apd] entries {entries}\n",
         port.wrapping_add(1),
