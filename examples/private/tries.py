@@ -20,7 +20,7 @@ BASE = 700
 USER, GROUP, MEMBER, OTHER = 61001, 61002, 61003, 61004
 SPACE = f"apd-{os.getpid()}"
 SPACE_FILE = pathlib.Path("/run/netns", SPACE)
-LOG, SOCKETS = pathlib.Path("log"), pathlib.Path("sockets").absolute()
+LOG, SOCKETS, CLIENTS = pathlib.Path("log"), pathlib.Path("sockets").absolute(), pathlib.Path("clients").absolute()
 STATIONS = A, B = "02:00:00:00:00:0a", "02:00:00:00:00:0b"
 BSSID = {"wlan0": "02:00:00:00:00:01", "wlan1": "02:00:00:00:00:02"}
 AUTHENTICATION, DEAUTHENTICATION = 0xB0, 0xC0
@@ -131,9 +131,9 @@ class Client:
 
     count = 0
 
-    def __init__(self, interface, name=None):
+    def __init__(self, interface):
         Client.count += 1
-        self.name = name or f"/tmp/apd-private-{os.getpid()}-{Client.count}"
+        self.name = str(CLIENTS / f"{os.getpid()}-{Client.count}")
         self.socket = socket.socket(socket.AF_UNIX, socket.SOCK_DGRAM)
         self.socket.settimeout(10)
         self.socket.connect(str(SOCKETS / interface))
@@ -467,6 +467,8 @@ def try_drivers():
 
 
 def main():
+    CLIENTS.mkdir()
+    CLIENTS.chmod(0o777)
     begin()
     try_others()
     try_commands()
