@@ -78,30 +78,12 @@ pub fn list_edit(
     ensures changes { IfOk result (λ d. d.changes ≡ (list_edit_verdict table.now bssid which edit tag).changes) }
     ensures outs { IfOk result (λ d. d.outs ≡ (list_edit_verdict table.now bssid which edit tag).outs) }
 {
+    let nothing = Draft::nothing(alloc);
     let (answer, decision) = match edit {
-        Edit::Add(addr) => {
-            if is_listed(table, bssid, which, addr) {
-                (Answer::Done, Draft::nothing(alloc))
-            } else if is_full(table, bssid, which) {
-                (Answer::Refused, Draft::nothing(alloc))
-            } else {
-                (
-                    Answer::Done,
-                    unanswered_edit(alloc, table, bssid, which, edit)?,
-                )
-            }
-        }
-        Edit::Remove(addr) => {
-            if is_listed(table, bssid, which, addr) {
-                (
-                    Answer::Done,
-                    unanswered_edit(alloc, table, bssid, which, edit)?,
-                )
-            } else {
-                (Answer::Done, Draft::nothing(alloc))
-            }
-        }
-        Edit::Clear => (
+        Edit::Add(addr) if is_listed(table, bssid, which, addr) => (Answer::Done, nothing),
+        Edit::Add(_) if is_full(table, bssid, which) => (Answer::Refused, nothing),
+        Edit::Remove(addr) if !is_listed(table, bssid, which, addr) => (Answer::Done, nothing),
+        edit => (
             Answer::Done,
             unanswered_edit(alloc, table, bssid, which, edit)?,
         ),
