@@ -15,3 +15,8 @@ row_of a (Some aid) = (a, aid) ∷ []
 -- the associated stations of a BSSID, with their identifiers
 abbrev pub installed_rows : State → Bssid → Stations
 installed_rows s b = map.from_entries (flat_map (λ a. row_of a (aid_at s b a)) (addresses_at s b))
+
+-- stations with one more, if it has an identifier
+abbrev pub with_station : Addr → Option ℕ → Stations → Stations
+with_station a None stations = stations
+with_station a (Some aid) stations = map.insert stations a aid

@@ -1,15 +1,36 @@
 //! The stations of a table, and installing them.
 ghost use Rattle.std.specs.Prelude.{◌≡◌, ◌⊎◌, OnOk, IfOk, IfErr};
 ghost use Rattle.apd_base.specs.Failures.{HasRisen};
-ghost use Rattle.apd_slot.specs.Rows.{installed_rows};
+ghost use Rattle.apd_base.specs.State.{aid_at};
+ghost use Rattle.apd_slot.specs.Rows.{installed_rows, with_station};
 
 use crate::slot::SlotFault;
-use apd_base::{Bssid, Station};
+use apd_base::{Addr, Bssid, Station};
 use apd_radio::{Identifiers, Radio, RadioFault};
 use apd_table::Table;
 use std::alloc::{AllocError, Global};
 
-/// The associated stations of a BSSID.
+// The identifier of a station, if it is associated at the BSSID.
+fn identifier_of(table: &Table, bssid: Bssid, addr: Addr) -> Option<u16>
+    ensures { result ≡ aid_at table.now bssid addr }
+{
+    match table.get(bssid, addr) {
+        Some(Station::Associated(association)) => Some(association.aid.number),
+        Some(Station::Authenticated) | None => None,
+    }
+}
+
+// Puts a station in under its identifier, if it has one.
+fn put_station(stations: &mut Identifiers, addr: Addr, aid: Option<u16>) -> Result<(), AllocError>
+    ensures { OnOk result (stations.new ≡ with_station addr aid stations.old) }
+{
+    match aid {
+        Some(number) => stations.insert(addr, number),
+        None => Ok(()),
+    }
+}
+
+/// The associated stations of a BSSID. They are put in as they rise, each behind those before it: none is moved.
 pub fn associated_stations(
     alloc: Global,
     table: &Table,
@@ -18,11 +39,8 @@ pub fn associated_stations(
     ensures { IfOk result (λ stations. stations ≡ installed_rows table.now bssid) }
 {
     let mut stations = Identifiers::new(alloc);
-    let mut addresses = table.addresses(alloc, bssid)?;
-    while let Some(addr) = addresses.pop() {
-        if let Some(Station::Associated(association)) = table.get(bssid, addr) {
-            stations.insert(addr, association.aid.number)?;
-        }
+    for addr in &table.addresses(alloc, bssid)? {
+        put_station(&mut stations, *addr, identifier_of(table, bssid, *addr))?;
     }
     Ok(stations)
 }
