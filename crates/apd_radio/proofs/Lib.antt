@@ -1,3 +1,4 @@
+mod Heeding
 mod Lines
 mod Parts
 mod Reading

@@ -1,13 +1,13 @@
 -- What the driver of a radio is told, and what it says: words, each a datagram (own format).
-use Rattle.std.specs.Prelude.{◌≡◌, ◌≢◌, ℕ, ◌+◌, ◌%◌, ◌^◌, Bool, true, false, ◌⊎◌, ◌&&◌, nat_le, List, [], ◌∷◌, ◌++◌, flat_map, Option, Some, None, codes}
+use Rattle.std.specs.Prelude.{◌≡◌, ◌≢◌, ℕ, ◌+◌, ◌%◌, ◌^◌, Bool, true, false, ◌⊎◌, ◌&&◌, nat_le, List, [], ◌∷◌, ◌++◌, flat_map, Option, Some, None, ◌↔◌, codes}
 use Rattle.std.specs.FinMap as map
 use Rattle.std.specs.Fmt.{decimal}
 use Rattle.std.specs.declared.net.socket_addr.SocketAddr.{SocketAddr}
 use Rattle.apd_base.specs.declared.address.Addr.{Addr}
 use Rattle.apd_base.specs.Addr.{addr_cmp, text_of}
 use Rattle.apd_base.specs.Text.{blank, newline, decimal_number}
-use Rattle.apd_radio.specs.declared.datagrams.Heard.{Heard}
-use Rattle.apd_radio.specs.declared.datagrams.Heard.TheVariants.{Nothing, Stranger, Datagram}
+use Rattle.apd_radio.specs.declared.heard.Heard.{Heard}
+use Rattle.apd_radio.specs.declared.heard.Heard.TheVariants.{Nothing, Stranger, Datagram}
 
 -- a datagram that begins with a lower-case letter is a word; any other is a frame
 abbrev pub is_word : List ℕ → Bool
@@ -46,28 +46,54 @@ IsUp text = text ≡ codes "up"
 abbrev pub IsFaultAt : ℕ → List ℕ → Type 0
 IsFaultAt number text = (digits : List ℕ) × (text ≡ codes "fault " ++ digits) × (decimal_number 20 18446744073709551615 digits ≡ Some number)
 
--- what is heard of a peer where this datagram, by its sender and its bytes, is the next one: its bytes if the peer sent
--- it, and none of what others sent
-abbrev pub IsHeard : SocketAddr → Option (SocketAddr × List ℕ) → Heard → Type 0
-IsHeard peer None heard = heard ≡ Nothing
-IsHeard peer (Some next) Nothing = ⊥
-IsHeard peer (Some next) Stranger = next.0 ≢ peer
-IsHeard peer (Some next) (Datagram bytes) = (next.0 ≡ peer) × (next.1 ≡ bytes.items)
+abbrev pub IsFault : List ℕ → Type 0
+IsFault text = (number : ℕ) × IsFaultAt number text
 
--- the datagrams of the peer that were heard by it
-abbrev pub datagrams_in : Heard → List (List ℕ)
-datagrams_in Nothing = []
-datagrams_in Stranger = []
-datagrams_in (Datagram bytes) = bytes.items ∷ []
+-- a datagram that came in at a port: its sender and its bytes
+abbrev pub Received : Type 0
+Received = SocketAddr × List ℕ
+
+-- what is heard of a peer where these datagrams came in, one at most: its bytes if the peer sent it, and none of what
+-- others sent
+abbrev pub IsHeard : SocketAddr → List Received → Heard → Type 0
+IsHeard peer came Nothing = came ≡ []
+IsHeard peer came Stranger = (sender : SocketAddr) × (bytes : List ℕ) × (came ≡ (sender, bytes) ∷ []) × (sender ≢ peer)
+IsHeard peer came (Datagram bytes) = came ≡ (peer, bytes.items) ∷ []
+
+-- behind what came in at a port before, this is heard of a peer next
+abbrev pub HearsNext : SocketAddr → List Received → Heard → List Received → Type 0
+HearsNext peer before heard now = (came : List Received) × (now ≡ before ++ came) × IsHeard peer came heard
+
+-- the peer said such a word among these datagrams
+abbrev pub HasSaid : SocketAddr → (List ℕ → Type 0) → List Received → Type 0
+HasSaid peer Word [] = ⊥
+HasSaid peer Word (next ∷ more) = ((next.0 ≡ peer) × Word next.1) ⊎ HasSaid peer Word more
+
+abbrev pub IsFrame : List ℕ → Type 0
+IsFrame text = is_word text ≡ false
+
+-- behind what came in at a port before, more came in, and no frame of the peer's among it
+abbrev pub PassesOver : SocketAddr → List Received → List Received → Type 0
+PassesOver peer before now = (came : List Received) × (now ≡ before ++ came) × (HasSaid peer IsFrame came → ⊥)
+
+-- the peer's next frame is given, which came in last, if one came in; what came in before it is passed over
+abbrev pub Gives : SocketAddr → List Received → Option (List ℕ) → List Received → Type 0
+Gives peer before None now = PassesOver peer before now
+Gives peer before (Some frame) now =
+    IsFrame frame × ((passed : List Received) × PassesOver peer before passed × (now ≡ passed ++ (peer, frame) ∷ []))
+
+-- behind what came in at a port before, more came in: the map is due then, and the driver's failure is to be answered, if
+-- it was before, or the driver said so
+pub record Heeds (driver : SocketAddr) (before now : List Received) (due failed due_then failed_then : Bool) : Type 0 where
+  pub came : List Received
+  pub received : now ≡ before ++ came
+  pub map : (due_then ≡ true) ↔ ((due ≡ true) ⊎ HasSaid driver IsUp came)
+  pub fault : (failed_then ≡ true) ↔ ((failed ≡ true) ⊎ HasSaid driver IsFault came)
 
 -- behind what a driver was sent before, it was sent this word, and the next word has the next number
 pub record IsSaid (word : List ℕ) (number : ℕ) (sent : List (List ℕ)) (number_then : ℕ) (sent_then : List (List ℕ)) : Type 0 where
   pub said : sent_then ≡ sent ++ word ∷ []
   pub next : number_then ≡ next_number number
-
--- the last of the datagrams that were heard of the driver, and no word
-abbrev pub IsHeardLast : List ℕ → List (List ℕ) → Type 0
-IsHeardLast frame heard = (is_word frame ≡ false) × ((before : List (List ℕ)) × (heard ≡ before ++ frame ∷ []))
 
 -- what is told of a map before anything else: where it is due, all of it
 abbrev pub words_due : Bool → map.FinMap addr_cmp ℕ → ℕ → List (List ℕ)
@@ -79,8 +105,9 @@ abbrev pub IsTold : List ℕ → List (List ℕ) → Bool → List (List ℕ) �
 IsTold word told true told_then = told_then ≡ told
 IsTold word told false told_then = told_then ≡ told ++ word ∷ []
 
--- behind what was told before, the map is told, if it was due or was asked for, unless it is due still
+-- behind what was told before, the map is told where it is due, unless it stays due
 abbrev pub IsToldMap : Bool → List ℕ → List (List ℕ) → Bool → List (List ℕ) → Type 0
-IsToldMap due word told true told_then = told_then ≡ told
+IsToldMap true word told true told_then = told_then ≡ told
 IsToldMap true word told false told_then = told_then ≡ told ++ word ∷ []
-IsToldMap false word told false told_then = (told_then ≡ told) ⊎ (told_then ≡ told ++ word ∷ [])
+IsToldMap false word told true told_then = ⊥
+IsToldMap false word told false told_then = told_then ≡ told

@@ -39,17 +39,6 @@ impl From<AllocError> for SocketFault {
     }
 }
 
-/// What is heard of one peer at a port.
-#[derive(Drop)]
-pub enum Heard {
-    /// No datagram waits.
-    Nothing,
-    /// The next datagram came from elsewhere, and was dropped.
-    Stranger,
-    /// The next datagram is the peer's: its bytes.
-    Datagram(Vec<u8>),
-}
-
 // Asks the system for room for datagrams that wait. Where it gives less, it stays at that.
 fn ask_for_room(socket: &UdpSocket) {
     let mut room = [0u8; 16];
@@ -112,8 +101,6 @@ impl Model for Datagrams {
 }
 
 impl Datagrams {
-    ghost use Rattle.apd_radio.specs.Drivers.{IsHeard};
-
     /// Opens the port, with room for 4 MiB of datagrams that wait, or as much as the system gives. Port 0 is for
     /// tests: the system chooses one that is free.
     ///
@@ -179,27 +166,6 @@ impl Datagrams {
         let bytes = Vec::from_slice(self.alloc, &self.buffer[..len])?;
         self.waiting = None;
         Ok(Some((sender, bytes)))
-    }
-
-    /// Gives the next datagram that was received, if one waits and this peer sent it; one that came from elsewhere is
-    /// dropped. It doesn't wait for one. (The socket isn't connected to the peer: else a peer that is gone would be a
-    /// fault of the device.)
-    ///
-    /// Errors: those of `receive`.
-    pub fn receive_of(&mut self, peer: SocketAddr) -> Result<Heard, RadioFault>
-        ensures first { IsSome self.old → IfOk result (λ heard. IsHeard peer self.old heard) }
-        ensures given { OnOk result (self.new ≡ None) }
-        ensures kept { IsSome self.old → OnErr result ((result ≡ Err RadioFault.NoMemory) × (self.new ≡ self.old)) }
-        ensures memory { result ≡ Err RadioFault.NoMemory → IsSome self.new }
-        ensures device { result ≡ Err RadioFault.Device → (self.old ≡ None) × (self.new ≡ None) }
-    {
-        let Some((sender, bytes)) = self.receive()? else {
-            return Ok(Heard::Nothing);
-        };
-        if sender != peer {
-            return Ok(Heard::Stranger);
-        }
-        Ok(Heard::Datagram(bytes))
     }
 
     /// Sends a datagram to a peer.

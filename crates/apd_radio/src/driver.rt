@@ -1,13 +1,15 @@
 //! A radio's driver in another process of this host.
-ghost use Rattle.std.specs.Prelude.{◌≡◌, [], ◌∷◌, ◌++◌, IfOk, OnOk, OnErr, IsSome};
+ghost use Rattle.std.specs.Prelude.{◌≡◌, [], ◌∷◌, ◌++◌, IfOk, IfSome, OnOk, OnErr};
 ghost use Rattle.std.specs.Net.Socket.{socket_port};
 ghost use Rattle.std.specs.FinMap as map;
-ghost use Rattle.apd_radio.specs.Drivers.{install_text, remove_text, map_text, next_number, datagrams_in, IsHeard, IsSaid};
+ghost use Rattle.apd_radio.specs.Drivers.{install_text, remove_text, map_text, next_number, HearsNext, IsSaid};
 
-use crate::datagrams::{Datagrams, Heard, SocketFault};
+use crate::datagrams::{Datagrams, SocketFault};
 use crate::driver_words::{install_text, map_text, remove_text};
+use crate::heard::Heard;
 use crate::identifiers::Identifiers;
 use crate::radio::RadioFault;
+use crate::received::ReceivedDatagrams;
 use crate::sent::SentFrames;
 use crate::strangers::Strangers;
 use apd_base::Addr;
@@ -28,8 +30,8 @@ pub(crate) struct Driver {
     number: u64,
     // The datagrams that the system took for it, in order: frames and words.
     told: SentFrames,
-    // Its datagrams, in order.
-    heard: SentFrames,
+    // What came in at the radio's port, of it and of others.
+    received: ReceivedDatagrams,
     alloc: Global,
 }
 
@@ -45,7 +47,7 @@ impl Driver {
     ) -> Result<Driver, SocketFault>
         ensures at { IfOk result (λ made. socket_port made.address ≡ driver) }
         ensures told { IfOk result (λ made. made.told.frames ≡ []) }
-        ensures heard { IfOk result (λ made. made.heard.frames ≡ []) }
+        ensures received { IfOk result (λ made. made.received.datagrams ≡ []) }
         ensures first { IfOk result (λ made. made.number ≡ FIRST) }
     {
         Ok(Driver {
@@ -54,7 +56,7 @@ impl Driver {
             strangers: Strangers::new(alloc)?,
             number: FIRST,
             told: SentFrames::new(),
-            heard: SentFrames::new(),
+            received: ReceivedDatagrams::new(),
             alloc,
         })
     }
@@ -69,21 +71,27 @@ impl Driver {
         &self.strangers
     }
 
-    /// What of the driver is heard next. A datagram from elsewhere is dropped, and counted.
+    /// What of the driver is heard next. A datagram from elsewhere is dropped, and counted. (The socket isn't connected to
+    /// the driver: else one that is gone would be a fault of the device.)
     ///
     /// Errors: `Device`, and nothing was received; `NoMemory`, and the datagram stays.
     pub(crate) fn receive(&mut self) -> Result<Heard, RadioFault>
-        ensures first { IsSome self.old.datagrams
-            → IfOk result (λ heard. IsHeard self.old.address self.old.datagrams heard) }
-        ensures heard { IfOk result (λ heard. self.new.heard.frames ≡ self.old.heard.frames ++ datagrams_in heard) }
-        ensures unheard { OnErr result (self.new.heard ≡ self.old.heard) }
-        ensures same { self.new ≡ record self.old { datagrams = self.new.datagrams; heard = self.new.heard } }
+        ensures first { IfSome self.old.datagrams
+            (λ waited. OnOk result
+            (self.new.received.datagrams ≡ self.old.received.datagrams ++ waited ∷ [])) }
+        ensures heard { IfOk result
+            (λ heard. HearsNext self.old.address self.old.received.datagrams heard self.new.received.datagrams) }
+        ensures unheard { OnErr result (self.new.received ≡ self.old.received) }
+        ensures same { self.new
+            ≡ record self.old { datagrams = self.new.datagrams; received = self.new.received } }
     {
-        let heard = self.datagrams.receive_of(self.address)?;
-        match &heard {
-            Heard::Nothing => {}
-            Heard::Stranger => self.strangers.pass_over(),
-            Heard::Datagram(bytes) => self.heard.note(bytes.as_slice()),
+        let Some((sender, bytes)) = self.datagrams.receive()? else {
+            return Ok(Heard::Nothing);
+        };
+        self.received.note(&[sender], bytes.as_slice());
+        let heard = Heard::of(self.address, sender, bytes);
+        if let Heard::Stranger = heard {
+            self.strangers.pass_over();
         }
         Ok(heard)
     }

@@ -1,15 +1,17 @@
 //! A radio whose driver is another process of this host.
-ghost use Rattle.std.specs.Prelude.{◌≡◌, ◌≤◌, [], ◌∷◌, ◌++◌, ℕ, Some, true, false, IfOk, IfSome, OnOk, OnErr};
+ghost use Rattle.std.specs.Prelude.{◌≡◌, ◌≤◌, [], ◌∷◌, ◌++◌, ◌↔◌, ◌⊎◌, Bool, Some, true, false, IfOk, OnOk, OnErr};
+ghost use Rattle.std.specs.Option.{option_map};
 ghost use Rattle.std.specs.FinMap as map;
 ghost use Rattle.apd_base.specs.Failures.{HasRisen};
-ghost use Rattle.apd_radio.specs.Drivers.{install_text, remove_text, map_text, words_due, IsUp, IsFaultAt, IsHeardLast, IsTold, IsToldMap};
+ghost use Rattle.apd_radio.specs.Drivers.{install_text, remove_text, map_text, words_due, Gives, HearsNext, Heeds, IsFault, IsTold, IsToldMap, IsUp, PassesOver};
 ghost use Rattle.apd_radio.specs.Faults.{Counts};
 ghost use Rattle.apd_radio.specs.Frames.{and_then};
 
 use crate::counting::count_fault;
-use crate::datagrams::{Heard, SocketFault};
+use crate::datagrams::SocketFault;
 use crate::driver::Driver;
 use crate::driver_words::{fault_number, is_up, is_word};
+use crate::heard::Heard;
 use crate::identifiers::Identifiers;
 use crate::radio::{Radio, RadioFault};
 use crate::sent::SentFrames;
@@ -79,10 +81,8 @@ impl DriverRadio {
 
     // Does what a word of the driver's asks for. One that says nothing known is passed over.
     fn heed(&mut self, word: &[u8])
-        ensures up { IsUp word.now → self.new.due ≡ true }
-        ensures fault { (number : ℕ) → IsFaultAt number word.now → self.new.failed ≡ true }
-        ensures due { self.old.due ≡ true → self.new.due ≡ true }
-        ensures failed { self.old.failed ≡ true → self.new.failed ≡ true }
+        ensures up { (self.new.due ≡ true) ↔ ((self.old.due ≡ true) ⊎ IsUp word.now) }
+        ensures fault { (self.new.failed ≡ true) ↔ ((self.old.failed ≡ true) ⊎ IsFault word.now) }
         ensures same { self.new ≡ record self.old { due = self.new.due; failed = self.new.failed } }
     {
         if is_up(word) {
@@ -96,25 +96,50 @@ impl DriverRadio {
 
 // What is heard, and what is told before anything else.
 impl DriverRadio {
+    // What of the driver is heard next; a word is heeded.
+    fn hear(&mut self) -> Result<Heard, RadioFault>
+        ensures heard { IfOk result (λ heard. HearsNext self.old.driver.address self.old.driver.received.datagrams heard
+            self.new.driver.received.datagrams) }
+        ensures unheard { OnErr result (self.new.driver.received ≡ self.old.driver.received) }
+        ensures heeds { Heeds self.old.driver.address self.old.driver.received.datagrams
+            self.new.driver.received.datagrams self.old.due self.old.failed self.new.due self.new.failed }
+        ensures driver { self.new.driver ≡ record self.old.driver {
+          datagrams = self.new.driver.datagrams;
+          received = self.new.driver.received;
+        } }
+        ensures same { self.new
+            ≡ record self.old { driver = self.new.driver; due = self.new.due; failed = self.new.failed } }
+    {
+        let heard = self.driver.receive()?;
+        if let Heard::Datagram(bytes) = &heard {
+            self.heed(bytes.as_slice());
+        }
+        Ok(heard)
+    }
+
     // The driver's next frame, if one waits; its words in front are heeded. Without one the driver's port may have more.
     fn listen(&mut self) -> Result<Option<Vec<u8>>, RadioFault>
-        ensures frame { IfOk result (λ got. IfSome got (λ frame. IsHeardLast frame.items self.new.driver.heard.frames)) }
-        ensures due { self.old.due ≡ true → self.new.due ≡ true }
-        ensures failed { self.old.failed ≡ true → self.new.failed ≡ true }
-        ensures told { self.new.driver.told ≡ self.old.driver.told }
-        ensures number { self.new.driver.number ≡ self.old.driver.number }
+        ensures gives { IfOk result (λ got. Gives self.old.driver.address self.old.driver.received.datagrams
+            (option_map (λ frame. frame.items) got) self.new.driver.received.datagrams) }
+        ensures passes { OnErr result (PassesOver self.old.driver.address self.old.driver.received.datagrams
+            self.new.driver.received.datagrams) }
+        ensures heeds { Heeds self.old.driver.address self.old.driver.received.datagrams
+            self.new.driver.received.datagrams self.old.due self.old.failed self.new.due self.new.failed }
+        ensures driver { self.new.driver ≡ record self.old.driver {
+          datagrams = self.new.driver.datagrams;
+          received = self.new.driver.received;
+        } }
         ensures same { self.new
             ≡ record self.old { driver = self.new.driver; due = self.new.due; failed = self.new.failed } }
     {
         for _ in 0..AT_ONCE {
-            match self.driver.receive()? {
+            match self.hear()? {
                 Heard::Nothing => return Ok(None),
                 Heard::Stranger => {}
                 Heard::Datagram(bytes) => {
                     if !is_word(bytes.as_slice()) {
                         return Ok(Some(bytes));
                     }
-                    self.heed(bytes.as_slice());
                 }
             }
         }
@@ -128,8 +153,11 @@ impl DriverRadio {
         ensures told { OnOk result (self.new.driver.told.frames
             ≡ self.old.driver.told.frames ++ words_due self.old.due self.old.stations self.old.driver.number) }
         ensures done { OnOk result (self.new.due ≡ false) }
-        ensures untold { OnErr result ((self.new.due ≡ true) × (self.new.driver.told ≡ self.old.driver.told)) }
-        ensures heard { self.new.driver.heard ≡ self.old.driver.heard }
+        ensures due { OnErr result (self.new.due ≡ true) }
+        ensures map { IsToldMap self.old.due (map_text self.old.driver.number (map.entries self.old.stations))
+            self.old.driver.told.frames self.new.due self.new.driver.told.frames }
+        ensures received { self.new.driver.received ≡ self.old.driver.received }
+        ensures address { self.new.driver.address ≡ self.old.driver.address }
         ensures same { self.new ≡ record self.old { driver = self.new.driver; due = self.new.due } }
     {
         if self.due {
@@ -156,8 +184,8 @@ impl DriverRadio {
 }
 
 // A method with an `ensures` of its own has its clauses in place of the trait's. So each one here repeats the trait's
-// beside those that are its own: what is heard (`heard`), what the driver is told (`told`, `due`), and what it said
-// (`failed`).
+// beside those that are its own: what is given of what came in (`gives`, `passes`), what of it is heeded (`heeds`), what
+// the driver is told (`told`, `map`, `done`, `due`), what it said (`failed`), and which one it is (`driver`).
 impl Radio for DriverRadio {
     ghost model = { record {
       stations = λ radio. radio.stations;
@@ -172,10 +200,16 @@ impl Radio for DriverRadio {
         ensures device { result ≡ Err RadioFault.Device → HasRisen self.old.failures self.new.failures }
         ensures count { self.old.failures ≤ self.new.failures }
         ensures sent { self.new.sent ≡ self.old.sent }
-        ensures heard { IfOk result (λ got. IfSome got (λ frame. IsHeardLast frame.items self.new.driver.heard.frames)) }
-        ensures told { IsToldMap self.old.due (map_text self.old.driver.number (map.entries self.old.stations))
+        ensures gives { IfOk result (λ got. Gives self.old.driver.address self.old.driver.received.datagrams
+            (option_map (λ frame. frame.items) got) self.new.driver.received.datagrams) }
+        ensures passes { OnErr result (PassesOver self.old.driver.address self.old.driver.received.datagrams
+            self.new.driver.received.datagrams) }
+        ensures heeds { (due : Bool)
+            × Heeds self.old.driver.address self.old.driver.received.datagrams self.new.driver.received.datagrams
+            self.old.due self.old.failed due self.new.failed
+            × IsToldMap due (map_text self.old.driver.number (map.entries self.old.stations))
             self.old.driver.told.frames self.new.due self.new.driver.told.frames }
-        ensures failed { self.old.failed ≡ true → self.new.failed ≡ true }
+        ensures driver { self.new.driver.address ≡ self.old.driver.address }
     {
         let answer = self.listen();
         let _told = self.tell_due();
@@ -198,6 +232,7 @@ impl Radio for DriverRadio {
             self.new.due self.new.driver.told.frames) }
         ensures due { self.old.due ≡ true → self.new.due ≡ true }
         ensures failed { self.old.failed ≡ true → result ≡ Err RadioFault.Device }
+        ensures driver { self.new.driver.address ≡ self.old.driver.address }
     {
         self.answer_failure()?;
         self.stations.insert(addr, aid)?;
@@ -219,6 +254,7 @@ impl Radio for DriverRadio {
             self.new.due self.new.driver.told.frames) }
         ensures due { self.old.due ≡ true → self.new.due ≡ true }
         ensures failed { self.old.failed ≡ true → result ≡ Err RadioFault.Device }
+        ensures driver { self.new.driver.address ≡ self.old.driver.address }
     {
         self.answer_failure()?;
         self.stations.remove(addr);
@@ -238,7 +274,12 @@ impl Radio for DriverRadio {
         ensures unsent { OnErr result (self.new.sent ≡ self.old.sent) }
         ensures told { OnOk result (self.new.driver.told.frames ≡ (self.old.driver.told.frames
             ++ words_due self.old.due self.old.stations self.old.driver.number) ++ frame.now ∷ []) }
+        ensures map { OnErr result (IsToldMap self.old.due
+            (map_text self.old.driver.number (map.entries self.old.stations)) self.old.driver.told.frames
+            self.new.due self.new.driver.told.frames) }
+        ensures done { OnOk result (self.new.due ≡ false) }
         ensures failed { self.new.failed ≡ self.old.failed }
+        ensures driver { self.new.driver.address ≡ self.old.driver.address }
     {
         let told = self.tell_due();
         count_fault(&mut self.failures, told)?;
@@ -254,6 +295,7 @@ impl Radio for DriverRadio {
         ensures sent { self.new.sent ≡ self.old.sent }
         ensures due { self.new.due ≡ true }
         ensures failed { self.new.failed ≡ self.old.failed }
+        ensures driver { self.new.driver.address ≡ self.old.driver.address }
     {
         self.stations.clear();
         self.due = true;

@@ -1,12 +1,12 @@
-use Rattle.std.proofs.Common.{◌≡◌, true}
+use Rattle.std.proofs.Common.{◌≡◌}
+use Rattle.apd_radio.specs.Drivers.{Heeds, PassesOver}
 use Rattle.apd_radio.proofs.driver_radio.DriverRadio.listen.Given as goal
 
--- what the words so far may have changed
+-- what came in so far holds no frame of the driver's, and is heeded
 abbrev pub invariant-loop : goal.invariant-loop
 invariant-loop l = record {
-  due : l.fn.self.due ≡ true → l.self.due ≡ true;
-  failed : l.fn.self.failed ≡ true → l.self.failed ≡ true;
-  told : l.self.driver.told ≡ l.fn.self.driver.told;
-  number : l.self.driver.number ≡ l.fn.self.driver.number;
+  passes : PassesOver l.fn.self.driver.address l.fn.self.driver.received.datagrams l.self.driver.received.datagrams;
+  heeds : Heeds l.fn.self.driver.address l.fn.self.driver.received.datagrams l.self.driver.received.datagrams l.fn.self.due l.fn.self.failed l.self.due l.self.failed;
+  driver : l.self.driver ≡ record l.fn.self.driver { datagrams = l.self.driver.datagrams; received = l.self.driver.received };
   same : l.self ≡ record l.fn.self { driver = l.self.driver; due = l.self.due; failed = l.self.failed };
 }
