@@ -77,7 +77,7 @@ def fail(run, why):
 counts = {True: 0, False: 0}
 for number in range(100):
     began.unlink(missing_ok=True)
-    delay = random.uniform(0, (0.002, 0.02, 0.02, 0.3)[number % 4])
+    delay = random.uniform(0, (0.0005, 0.02, 0.02, 0.3)[number % 4])
     sent = random.sample(SIGNALS, random.choice([1, 1, 2]))
     to_all = random.random() < 0.3
     what = f"run {number}, {delay * 1000:.1f} ms, {[it.name for it in sent]}{' to all' if to_all else ''}"
@@ -92,6 +92,8 @@ for number in range(100):
         fail(run, f"{what}: status {status}, wanted {wanted}")
     counts[began.exists()] += 1
 print(f"100 runs: the program had begun in {counts[True]}, not yet in {counts[False]}")
+if not all(counts.values()):
+    fail(None, "no signal met the wrapper before the program began, or none behind it")
 
 for number, sent in enumerate([*SIGNALS, signal.SIGTERM]):
     run = begin(program, "run", "--store", f"{here}/store", "--port", port, f"{here}/conf")
