@@ -1,4 +1,4 @@
--- What the making of a store leaves of a device. What is so of an honest device alone stands in records of its own.
+-- What the making of a store leaves of a device.
 use Rattle.std.specs.Prelude.{◌≡◌, ◌≢◌, ◌≤◌, ◌+◌, ◌↔◌, ◌⊎◌, ℕ, List}
 use Rattle.apd_base.specs.declared.limits.TheConstants.{DEVICE_LENGTH}
 use Rattle.apd_base.specs.Failures.{HasRisen}
@@ -12,7 +12,7 @@ use Rattle.apd_store.specs.declared.fault.StoreFault.TheVariants.{NotAStore, Dev
 use Rattle.apd_store.specs.declared.phase.Phase.TheVariants.{Idle}
 use Rattle.apd_store.specs.declared.store.Store.{Store}
 
--- the device became this store
+-- the device became this store: an honest one's is of the empty table, which alone a stop leaves from now on
 pub record IsFormatted {D : Type 0} (disk : DiskModel D) (device : D)
     (store : Store D) : Type 0 where
   pub length : disk.size device ≡ DEVICE_LENGTH
@@ -20,13 +20,12 @@ pub record IsFormatted {D : Type 0} (disk : DiskModel D) (device : D)
   pub ready : phase_of store ≡ Idle
   pub count : disk.failed (store_device store) ≡ disk.failed device
   pub was_honest : disk.honest (store_device store) → disk.honest device
-
--- of the empty table, which alone a stop leaves from now on
-pub record IsHonestlyFormatted {D : Type 0} (disk : DiskModel D) (device : D) (store : Store D) : Type 0 where
-  pub empty : IsIdle disk store empty_state
-  pub shown : (c : List ℕ) → disk.may_leave (store_device store) c → Shows c empty_state
-  pub any_moment : LeavesOnly disk device (store_device store) (MayBeMade empty_state (disk.may_leave device))
-  pub calls : disk.moment (store_device store) ≤ disk.moment device + 9
+  pub empty : disk.honest (store_device store) → IsIdle disk store empty_state
+  pub shown : disk.honest (store_device store)
+      → (c : List ℕ) → disk.may_leave (store_device store) c → Shows c empty_state
+  pub any_moment : disk.honest (store_device store)
+      → LeavesOnly disk device (store_device store) (MayBeMade empty_state (disk.may_leave device))
+  pub calls : disk.honest (store_device store) → disk.moment (store_device store) ≤ disk.moment device + 9
 
 -- the device is handed back, with this fault
 pub record IsNotFormatted {D : Type 0} (disk : DiskModel D) (device left : D)
@@ -37,7 +36,5 @@ pub record IsNotFormatted {D : Type 0} (disk : DiskModel D) (device left : D)
   pub device_failed : fault ≡ Device → HasRisen (disk.failed device) (disk.failed left)
   pub count : disk.failed device ≤ disk.failed left
   pub was_honest : disk.honest left → disk.honest device
-
-pub record IsHonestlyNotFormatted {D : Type 0} (disk : DiskModel D) (device left : D) : Type 0 where
-  pub any_moment : LeavesOnly disk device left (MayBeMade empty_state (disk.may_leave device))
-  pub calls : disk.moment left ≤ disk.moment device + 9
+  pub any_moment : disk.honest left → LeavesOnly disk device left (MayBeMade empty_state (disk.may_leave device))
+  pub calls : disk.honest left → disk.moment left ≤ disk.moment device + 9

@@ -1,5 +1,4 @@
--- What a recovery finds on a device, and what it leaves of it. What is so of an honest device alone stands in records
--- of its own.
+-- What a recovery finds on a device, and what it leaves of it.
 use Rattle.std.specs.Prelude.{◌≡◌, ◌≢◌, ◌≤◌, ◌+◌, ◌⊎◌, ℕ, List, Result, Err}
 use Rattle.apd_base.specs.declared.limits.TheConstants.{DEVICE_LENGTH}
 use Rattle.apd_base.specs.Failures.{HasRisen}
@@ -14,22 +13,19 @@ use Rattle.apd_store.specs.declared.fault.StoreFault.TheVariants.{NotAStore, Old
 use Rattle.apd_store.specs.declared.phase.Phase.TheVariants.{Idle}
 use Rattle.apd_store.specs.declared.store.Store.{Store}
 
--- the device became this store
-pub record IsRecovered {D : Type 0} (disk : DiskModel D) (device : D)
-    (store : Store D) : Type 0 where
+-- the device became this store; the bytes of an honest one show this state, which they did before
+pub record IsRecovered {D : Type 0} (disk : DiskModel D) (device : D) (store : Store D) (state : State) : Type 0 where
   pub length : disk.size device ≡ DEVICE_LENGTH
   pub inside : IsInside disk store
   pub ready : phase_of store ≡ Idle
   pub count : disk.failed (store_device store) ≡ disk.failed device
   pub was_honest : disk.honest (store_device store) → disk.honest device
-
--- and its bytes show this state, which they did before
-pub record IsHonestlyRecovered {D : Type 0} (disk : DiskModel D) (device : D) (store : Store D) (state : State) : Type 0 where
-  pub shown : Shows (disk.reads device) state
-  pub idle : IsIdle disk store state
-  pub stays : disk.reads (store_device store) ≡ disk.reads device
-  pub any_moment : LeavesOnly disk device (store_device store) (disk.may_leave device)
-  pub calls : disk.moment (store_device store) ≤ disk.moment device + 2
+  pub shown : disk.honest (store_device store) → Shows (disk.reads device) state
+  pub idle : disk.honest (store_device store) → IsIdle disk store state
+  pub stays : disk.honest (store_device store) → disk.reads (store_device store) ≡ disk.reads device
+  pub any_moment : disk.honest (store_device store)
+      → LeavesOnly disk device (store_device store) (disk.may_leave device)
+  pub calls : disk.honest (store_device store) → disk.moment (store_device store) ≤ disk.moment device + 2
 
 -- the device was asked for one sync, which failed, and for nothing else
 pub record HasFailedToSync {D : Type 0} (disk : DiskModel D) (device left : D) : Type 0 where
@@ -38,7 +34,7 @@ pub record HasFailedToSync {D : Type 0} (disk : DiskModel D) (device left : D) :
   pub failed : answer ≡ Err fault
   pub asked : IsSynced disk device left answer
 
--- the device is handed back, with this fault
+-- the device is handed back, with this fault; the bytes of an honest one show why
 pub record IsNotRecovered {D : Type 0} (disk : DiskModel D) (device left : D)
     (fault : StoreFault) : Type 0 where
   pub few : (fault ≡ NotAStore) ⊎ (fault ≡ OldVersion) ⊎ (fault ≡ Damaged) ⊎ (fault ≡ Device) ⊎ (fault ≡ NoMemory)
@@ -47,16 +43,16 @@ pub record IsNotRecovered {D : Type 0} (disk : DiskModel D) (device left : D)
   pub no_fault : fault ≢ Device → disk.failed left ≡ disk.failed device
   pub count : disk.failed device ≤ disk.failed left
   pub was_honest : disk.honest left → disk.honest device
-
--- and its bytes show why
-pub record IsHonestlyNotRecovered {D : Type 0} (disk : DiskModel D) (device left : D) (fault : StoreFault) : Type 0 where
-  pub not_a_store : fault ≡ NotAStore → (¬ IsMarked (disk.reads device)) × (¬ IsMarkedOld (disk.reads device))
-  pub old_version : fault ≡ OldVersion → IsMarkedOld (disk.reads device)
-  pub damaged : fault ≡ Damaged → IsMarked (disk.reads device) × ShowsNone (disk.reads device)
+  pub not_a_store : disk.honest left → fault ≡ NotAStore
+      → (¬ IsMarked (disk.reads device)) × (¬ IsMarkedOld (disk.reads device))
+  pub old_version : disk.honest left → fault ≡ OldVersion → IsMarkedOld (disk.reads device)
+  pub damaged : disk.honest left → fault ≡ Damaged → IsMarked (disk.reads device) × ShowsNone (disk.reads device)
   -- a stop leaves what was shown, also where the read failed: it came behind a sync that succeeded
-  pub durable : Only (disk.reads device) (disk.may_leave left) ⊎ ((fault ≡ Device) × HasFailedToSync disk device left)
-  pub stays : fault ≢ Device → disk.reads left ≡ disk.reads device
+  pub durable : disk.honest left
+      → Only (disk.reads device) (disk.may_leave left) ⊎ ((fault ≡ Device) × HasFailedToSync disk device left)
+  pub stays : disk.honest left → fault ≢ Device → disk.reads left ≡ disk.reads device
   -- where a stop left one image before, as after a sync, it leaves that one
-  pub still : (image : List ℕ) → Only image (disk.may_leave device) → Only image (disk.may_leave left) × (disk.reads left ≡ image)
-  pub any_moment : LeavesOnly disk device left (disk.may_leave device)
-  pub calls : disk.moment left ≤ disk.moment device + 2
+  pub still : disk.honest left → (image : List ℕ) → Only image (disk.may_leave device)
+      → Only image (disk.may_leave left) × (disk.reads left ≡ image)
+  pub any_moment : disk.honest left → LeavesOnly disk device left (disk.may_leave device)
+  pub calls : disk.honest left → disk.moment left ≤ disk.moment device + 2

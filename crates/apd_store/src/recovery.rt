@@ -3,8 +3,7 @@ ghost use Rattle.std.specs.Prelude.{◌≡◌, ◌≢◌, ◌≤◌, ◌+◌, �
 ghost use Rattle.apd_base.specs.declared.limits.TheConstants.{DEVICE_LENGTH};
 ghost use Rattle.apd_base.specs.Failures.{HasRisen};
 ghost use Rattle.apd_disk.specs.Disk.{Only, LeavesOnly};
-ghost use Rattle.apd_store.specs.Outside.{store_device};
-ghost use Rattle.apd_store.specs.Recovery.{HasFailedToSync, IsHonestlyNotRecovered, IsHonestlyRecovered, IsNotRecovered, IsRecovered};
+ghost use Rattle.apd_store.specs.Recovery.{HasFailedToSync, IsNotRecovered, IsRecovered};
 
 use crate::fault::StoreFault;
 use crate::phase::Phase;
@@ -72,12 +71,8 @@ pub(crate) fn read_device<D: Disk>(alloc: Global, device: &mut D) -> Result<Vec<
 /// that one after any of them; and so it does where the sync with which this call began succeeded, also where the
 /// read behind it failed.
 pub fn recover<D: Disk>(alloc: Global, device: D) -> Result<(Store<D>, Table), (D, StoreFault)>
-    ensures found { IfOk result (λ found. IsRecovered D.model device found.0) }
-    ensures found_honest { IfOk result
-        (λ found. D.model.honest (store_device found.0) → IsHonestlyRecovered D.model device found.0 found.1) }
+    ensures found { IfOk result (λ found. IsRecovered D.model device found.0 found.1) }
     ensures none { IfErr result (λ e. IsNotRecovered D.model device e.0 e.1) }
-    ensures none_honest { IfErr result
-        (λ e. D.model.honest e.0 → IsHonestlyNotRecovered D.model device e.0 e.1) }
 {
     let mut device = device;
     let bytes = match read_device(alloc, &mut device) {

@@ -6,9 +6,8 @@ ghost use Rattle.apd_disk.specs.Disk.{Only, LeavesOnly};
 ghost use Rattle.apd_journal.specs.declared.writer.TheConstants.{HALF_LENGTH};
 ghost use Rattle.apd_store.specs.Image.{IsMarked, IsMarkedOld, MayBeMade, ShowsNoneOld, ShowsOld};
 ghost use Rattle.apd_store.specs.Layout.{BeginsBy, IsFound};
-ghost use Rattle.apd_store.specs.Outside.{store_device};
 ghost use Rattle.apd_store.specs.Recovery.{HasFailedToSync};
-ghost use Rattle.apd_store.specs.Upgrading.{HasNoneGiven, IsHonestlyNotUpgraded, IsHonestlyUpgraded, IsNotUpgraded, IsOnlyRead, IsUpgraded};
+ghost use Rattle.apd_store.specs.Upgrading.{HasNoneGiven, IsNotUpgraded, IsOnlyRead, IsUpgraded};
 ghost use Rattle.apd_store.specs.declared.half.Half.TheVariants.{A};
 
 use crate::fault::StoreFault;
@@ -116,11 +115,7 @@ pub fn upgrade<O: Disk, N: Disk>(
     new: N,
 ) -> Result<(O, Store<N>), (O, N, StoreFault)>
     ensures made { IfOk result (λ made. IsUpgraded O.model N.model old made.0 new made.1) }
-    ensures made_honest { IfOk result (λ made. O.model.honest made.0 → N.model.honest (store_device made.1)
-        → IsHonestlyUpgraded O.model N.model old made.0 new made.1) }
     ensures none { IfErr result (λ e. IsNotUpgraded O.model N.model old e.0 new e.1 e.2) }
-    ensures none_honest { IfErr result (λ e. O.model.honest e.0 → N.model.honest e.1
-        → IsHonestlyNotUpgraded O.model N.model old e.0 new e.1 e.2) }
     ensures only_read { MatchResult result (λ made. O.model.honest made.0 → IsOnlyRead O.model old made.0)
         (λ e. O.model.honest e.0 → IsOnlyRead O.model old e.0) }
 {
