@@ -17,7 +17,7 @@ use Rattle.apd_flusher.specs.Handing.{Keeps}
 use Rattle.apd_flusher.specs.Loading.{IsLoaded, IsNotLoaded}
 use Rattle.apd_flusher.specs.Outside.{calls_left, flusher_device, flusher_of, next_of, phase_of, table_of, waiting_receipt}
 use Rattle.apd_flusher.specs.Phases.{phase_from}
-use Rattle.apd_flusher.specs.Turning.{IsHonestTurn, IsTurn}
+use Rattle.apd_flusher.specs.Turning.{IsTurnBetween, IsTurn}
 use Rattle.apd_flusher.specs.declared.committer.Committer.{Committer}
 use Rattle.apd_flusher.specs.declared.flusher.Flusher.{Flusher}
 use Rattle.apd_flusher.specs.declared.phase.Phase.{Phase}
@@ -108,31 +108,33 @@ module _ {D : Type 0} (disk : DiskModel D) where
       (λ other. there_same f g (rest other) stands) (idle_or_not f stands))
 
   -- ---- a turn
-  turned_there : (r : Result (Unit {0}) StoreFault) (f g : Flusher D) → IsTurn disk f g → IsHonestTurn disk r f g (table_of f) (next_of f) → IsFlushing disk f (table_of f) (next_of f) → StandsThere g
-  turned_there (Ok _) f g turn honest flushing =
-      inr (inl (subst (λ (z : State). IsFlushing disk g z (next_of g)) (sym turn.table) (subst (λ (z : State). IsFlushing disk g (table_of f) z) (sym turn.next) (honest.on flushing))))
-  turned_there (Err fault) f g turn honest flushing =
-      inr (inr (subst (λ (z : State). IsStuck disk g z (next_of g)) (sym turn.table) (subst (λ (z : State). IsStuck disk g (table_of f) z) (sym turn.next) (honest.stuck flushing))))
+  turned_there : (r : Result (Unit {0}) StoreFault) (f g : Flusher D) → disk.honest (flusher_device f) → IsTurn disk f g
+      → IsTurnBetween disk (table_of f) (next_of f) r f g → IsFlushing disk f (table_of f) (next_of f) → StandsThere g
+  turned_there (Ok _) f g honest turn between flushing =
+      inr (inl (subst (λ (z : State). IsFlushing disk g z (next_of g)) (sym turn.table) (subst (λ (z : State). IsFlushing disk g (table_of f) z) (sym turn.next) (between.on honest flushing))))
+  turned_there (Err fault) f g honest turn between flushing =
+      inr (inr (subst (λ (z : State). IsStuck disk g z (next_of g)) (sym turn.table) (subst (λ (z : State). IsStuck disk g (table_of f) z) (sym turn.next) (between.stuck honest flushing))))
 
-  turn_stands : (r : Result (Unit {0}) StoreFault) (f g : Flusher D) → IsTurn disk f g → IsHonestTurn disk r f g (table_of f) (next_of f) → StandsThere f → StandsThere g
-  turn_stands r f g turn honest stands =
+  turn_stands : (r : Result (Unit {0}) StoreFault) (f g : Flusher D) → disk.honest (flusher_device f) → IsTurn disk f g
+      → IsTurnBetween disk (table_of f) (next_of f) r f g → StandsThere f → StandsThere g
+  turn_stands r f g honest turn between stands =
       ⊎_elim
       (λ steady. there_same f g (turn.rest (λ busy. idle_busy (phase_of f) (ap phase_from steady.idle.phase) busy)) stands)
       (⊎_elim
-      (λ flushing. turned_there r f g turn honest flushing)
+      (λ flushing. turned_there r f g honest turn between flushing)
       (λ stuck. there_same f g (turn.rest (λ busy. failed_busy (phase_of f) (ap phase_from stuck.phase) busy)) stands))
       stands
 
   pub turn_keeps : (r : Result (Unit {0}) StoreFault) (old new : Committer D) → IsTurn disk (flusher_of old) (flusher_of new)
-      → (disk.honest (flusher_device (flusher_of old)) → (s t : State) → IsHonestTurn disk r (flusher_of old) (flusher_of new) s t) → Keeps disk old new
-  turn_keeps r old new turn honest =
+      → ((s t : State) → IsTurnBetween disk s t r (flusher_of old) (flusher_of new)) → Keeps disk old new
+  turn_keeps r old new turn between =
       let f = flusher_of old in
       record {
         inside = turn.inside;
         honest = turn.stays_honest;
         imaged = λ imaged. record {
           honest = turn.stays_honest.0 imaged.honest;
-          stands = turn_stands r f (flusher_of new) turn (honest imaged.honest (table_of f) (next_of f)) imaged.stands;
+          stands = turn_stands r f (flusher_of new) imaged.honest turn (between (table_of f) (next_of f)) imaged.stands;
         };
       }
 

@@ -39,14 +39,16 @@ pub record IsNotTurned {D : Type 0} (disk : DiskModel D) (old new : Flusher D) (
   pub device_failed : fault ≡ store_fault.Device
       → HasRisen (disk.failed (flusher_device old)) (disk.failed (flusher_device new))
 
--- on an honest device, from one state on its way to the next
-pub record IsHonestTurn {D : Type 0} (disk : DiskModel D) (result : Result (Unit {0}) StoreFault) (old new : Flusher D)
-    (state after : State) : Type 0 where
+-- on its way from one state to the next: of an honest device
+pub record IsTurnBetween {D : Type 0} (disk : DiskModel D) (state after : State) (result : Result (Unit {0}) StoreFault)
+    (old new : Flusher D) : Type 0 where
   -- a stop at some moment since it began shows what the phase before it says
-  pub any_moment : Stands disk old state after
+  pub any_moment : disk.honest (flusher_device old) → Stands disk old state after
       → LeavesOnly disk (flusher_device old) (flusher_device new)
       (StopShows (phase_of old) (calls_left old) state after)
-  pub on : IsFlushing disk old state after → OnOk result (IsFlushing disk new state after)
-  pub stuck : IsFlushing disk old state after → OnErr result (IsStuck disk new state after)
-  pub stuck_early : IsFlushing disk old state after → 2 < calls_left old
+  pub on : disk.honest (flusher_device old) → IsFlushing disk old state after
+      → OnOk result (IsFlushing disk new state after)
+  pub stuck : disk.honest (flusher_device old) → IsFlushing disk old state after
+      → OnErr result (IsStuck disk new state after)
+  pub stuck_early : disk.honest (flusher_device old) → IsFlushing disk old state after → 2 < calls_left old
       → OnErr result (IsStuck disk new state state)

@@ -27,7 +27,7 @@ impl<D: Disk> Committer<D> {
     ghost use Rattle.apd_flusher.specs.Flushing.{IsGood, IsInside, IsSteady};
     ghost use Rattle.apd_flusher.specs.Handing.{HasNoneToLoad, HasNoReceipt, IsLoadGiven, IsReceiptGiven, IsTurnMade, Keeps};
     ghost use Rattle.apd_flusher.specs.Outside.{calls_left, flusher_device, flusher_of, phase_of, table_of, waiting_batch, waiting_receipt};
-    ghost use Rattle.apd_flusher.specs.Turning.{IsHonestTurn};
+    ghost use Rattle.apd_flusher.specs.Turning.{IsTurnBetween};
 
     /// A committer of a flusher, with nothing that waits.
     pub fn new(flusher: Flusher<D>) -> Committer<D>
@@ -98,8 +98,8 @@ impl<D: Disk> Committer<D> {
     /// Errors: those of the flusher's `turn`.
     pub fn turn(&mut self) -> Result<(), StoreFault>
         ensures made { IsTurnMade D.model result self.old self.new }
-        ensures honest { D.model.honest (flusher_device (flusher_of self.old)) → (state after : State)
-            → IsHonestTurn D.model result (flusher_of self.old) (flusher_of self.new) state after }
+        ensures between { (state after : State)
+            → IsTurnBetween D.model state after result (flusher_of self.old) (flusher_of self.new) }
         ensures keeps { Keeps D.model self.old self.new }
         ensures whole { (s : State) (flight : Option Batch) (failed : Bool) → IsWhole D.model self.old s flight failed
             → IsWhole D.model self.new s flight (has_failed_after result failed) }

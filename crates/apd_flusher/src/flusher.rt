@@ -29,7 +29,7 @@ pub struct Flusher<D: Disk> {
 impl<D: Disk> Flusher<D> {
     ghost use Rattle.apd_flusher.specs.Flushing.{IsSteady, IsFlushing, IsStuck, Stands, StopShows, IsGood, HasRoom, IsInside, IsRefused, MayCommit};
     ghost use Rattle.apd_flusher.specs.Loading.{IsLoaded, IsNotLoaded};
-    ghost use Rattle.apd_flusher.specs.Turning.{IsTurn, IsTurned, IsHonestTurn, IsNotTurned};
+    ghost use Rattle.apd_flusher.specs.Turning.{IsTurn, IsTurned, IsTurnBetween, IsNotTurned};
     ghost use Rattle.apd_flusher.specs.Outside.{store_of, flusher_device, phase_of, calls_left, flusher_batch, table_of, next_of};
 
     /// A flusher of a store and the table of everything that it has committed, as `format` and `recover` of
@@ -142,8 +142,7 @@ impl<D: Disk> Flusher<D> {
         ensures turn { IsTurn D.model self.old self.new }
         ensures turned { OnOk result (IsTurned D.model self.old self.new) }
         ensures fault { IfErr result (IsNotTurned D.model self.old self.new) }
-        ensures honest { D.model.honest (flusher_device self.old) → (state after : State)
-            → IsHonestTurn D.model result self.old self.new state after }
+        ensures between { (state after : State) → IsTurnBetween D.model state after result self.old self.new }
         ensures quiet { (phase_of self.old ≡ Phase.Idle) ⊎ (phase_of self.old ≡ Phase.Done) → IsOk result }
         ensures failed { phase_of self.old ≡ Phase.Failed → result ≡ Err StoreFault.Failed }
     {
@@ -173,7 +172,8 @@ impl<D: Disk> Flusher<D> {
     }
 
     /// Loads a batch and makes all calls of it, one a turn, to its receipt: what `load`, `turn` and `unload` do
-    /// where nothing else is asked of the flusher in between.
+    /// where nothing else is asked of the flusher in between. The workers make each call by itself, so this is for
+    /// who has a flusher and no core, as tests do; and its clauses are the promise that a batch comes to its receipt.
     ///
     /// Errors: those of `load`, each for its reason, where the batch is let go; those of `turn`.
     pub fn commit(&mut self, batch: Batch) -> Result<Receipt, StoreFault>

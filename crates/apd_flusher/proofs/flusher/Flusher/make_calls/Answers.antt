@@ -13,12 +13,12 @@ loop-self-preserved g c =
     let t = c.turn.ensures.turn in
     let turned = c.in_ok-turn.ensures.turned in
     turned_more g.D.Disk.model c.args.self.now c.loop-self.self c.turn.new.self c.loop-self.invariant busy
-    (λ state after h. (c.in_ok-turn.ensures.honest h state after).on) t.batch_is t.inside t.stays_honest t.one_call (turned.step busy) turned.no_fault (turned.busy busy)
+    (λ state after h. (c.in_ok-turn.ensures.between state after).on h) t.batch_is t.inside t.stays_honest t.one_call (turned.step busy) turned.no_fault (turned.busy busy)
 
 pub returns-in_err-turn-clause-stuck : goal.returns-in_err-turn-clause-stuck
 returns-in_err-turn-clause-stuck g c = λ state after h flushing.
     let kept = c.loop-self.invariant in
-    on_fault c.from_residual.result _ ((c.in_err-turn.ensures.honest (kept.stays.0 h) state after).stuck (kept.flushing state after h flushing))
+    on_fault c.from_residual.result _ ((c.in_err-turn.ensures.between state after).stuck (kept.stays.0 h) (kept.flushing state after h flushing))
 
 pub returns-in_err-turn-clause-honest : goal.returns-in_err-turn-clause-honest
 returns-in_err-turn-clause-honest g c =
