@@ -1,7 +1,7 @@
 #!/usr/bin/env python3
 """Prints what must be read to believe a definition: itself and all that it names, and so on.
 
-usage: examples/closure.py CRATE MODULE.NAME ..    as in: examples/closure.py apd_world Journal.Keeps Journal.IsJournal
+usage: examples/closure.py CRATE MODULE.NAME ..    as in: examples/closure.py apd_world History.Keeps History.IsHistory
        --beside MODULE.NAME  (may come again) leaves out that definition and what it alone names
        --modules             prints the modules alone
 

@@ -8,7 +8,7 @@ use Rattle.apd_disk.specs.FileMore.{HasMore, has_more}
 use Rattle.apd_disk.specs.SystemFile.{FileDisk}
 use Rattle.apd_disk.specs.declared.record.FileRecord.{FileRecord}
 use Rattle.apd_radio.specs.Model.{RadioModel}
-use Rattle.apd_world.specs.Journal.{Journal, Keeps}
+use Rattle.apd_world.specs.History.{History, Keeps}
 use Rattle.apd_world.specs.Outside.{device_of}
 use Rattle.apd_world.specs.Proper.{IsProper}
 use Rattle.apd_world.specs.SafelyMade.{LeadsSince}
@@ -18,24 +18,24 @@ use Rattle.apd_world.specs.declared.step.Step.{Step}
 use Rattle.apd_world.specs.declared.step.Told.{Told}
 use Rattle.apd_world.specs.declared.world.World.{World}
 use Rattle.apd_script.specs.Lines.{HaveNoStop}
-use Rattle.apd_script.specs.OnFile.{first_journal, IsFoundInFile, IsRunOnFile}
+use Rattle.apd_script.specs.OnFile.{first_history, IsFoundInFile, IsRunOnFile}
 use Rattle.apd_script.specs.Script.{IsBegunFrom, IsProperAt, IsRunOn, IsScriptRun}
 use Rattle.apd_script.specs.declared.script.runner.Runner.{Runner}
 use Rattle.apd_script.proofs.Parts.{by_part, script_goes_on, stays_proper}
 
 module _ {R : Type 0} (radio : RadioModel R) (known : FileRecord) (confs : List Conf) where
   -- whatever is run from where a world was begun
-  since : (first : World FileDisk R) → StandsFor first (first_journal radio confs first)
+  since : (first : World FileDisk R) → StandsFor first (first_history radio confs first)
       → (front : List (List ℕ)) (radios : List R) (last : Runner FileDisk R) → IsScriptRun file_model radio front first radios last → HaveNoStop front
-      → (steps : List Step) × (tolds : List Told) × ((count : ℕ) → LeadsSince file_model radio count steps tolds first last.world (first_journal radio confs first))
+      → (steps : List Step) × (tolds : List Told) × ((count : ℕ) → LeadsSince file_model radio count steps tolds first last.world (first_history radio confs first))
   since first begins front radios last h none =
       let goes = by_part file_model radio 1 front h.first h.started last h.starts none h.run in
       let same : h.first.world ≡ first = h.begun.world in
-      let stands : StandsFor h.first.world (first_journal radio confs first) = subst (λ (w : World FileDisk R). StandsFor w (first_journal radio confs first)) (sym same) begins in (
+      let stands : StandsFor h.first.world (first_history radio confs first) = subst (λ (w : World FileDisk R). StandsFor w (first_history radio confs first)) (sym same) begins in (
         goes.steps,
         goes.tolds,
-        subst (λ (w : World FileDisk R). (count : ℕ) → LeadsSince file_model radio count goes.steps goes.tolds w last.world (first_journal radio confs first)) same
-            (goes.made.leads (first_journal radio confs first) stands),
+        subst (λ (w : World FileDisk R). (count : ℕ) → LeadsSince file_model radio count goes.steps goes.tolds w last.world (first_history radio confs first)) same
+            (goes.made.leads (first_history radio confs first) stands),
       )
 
   found : (file : FileDisk) (first : World FileDisk R) → IsBegunFrom file_model radio (record { 0 = 0 }) (record file { known = known }) confs first
@@ -58,7 +58,7 @@ module _ {R : Type 0} (radio : RadioModel R) (known : FileRecord) (confs : List 
   pub runs_on_file : (stops : ℕ) (file given : FileDisk) (script : Option (List ℕ)) (new : World FileDisk R) → given ≡ record file { known = known }
       → IsRunOn file_model radio stops given confs script new
       → (IsProper file_model (durable_of new)
-      → (j : Journal) → StandsFor new j → (image : List ℕ) → file_model.may_leave (device_of (durable_of new)) image → Keeps j j image)
+      → (j : History) → StandsFor new j → (image : List ℕ) → file_model.may_leave (device_of (durable_of new)) image → Keeps j j image)
       → IsRunOnFile radio stops file known confs script new
   runs_on_file stops file given script new is run_of keeps =
       let run : IsRunOn file_model radio stops (record file { known = known }) confs script new =

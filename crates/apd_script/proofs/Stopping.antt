@@ -13,7 +13,7 @@ use Rattle.apd_slot.specs.declared.slot.Slot.{Slot}
 use Rattle.apd_slot.specs.declared.slot.SlotFault.{SlotFault}
 use Rattle.apd_store.specs.declared.fault.StoreFault.TheVariants as store_fault
 use Rattle.apd_store.specs.Image.{Shows}
-use Rattle.apd_world.specs.Journal.{Journal, Keeps, after}
+use Rattle.apd_world.specs.History.{History, Keeps, after}
 use Rattle.apd_world.specs.Outside.{device_of}
 use Rattle.apd_world.specs.Proper.{IsProper, IsShown}
 use Rattle.apd_world.specs.Resumed.{EndsAtSlot}
@@ -33,7 +33,7 @@ module _ {D R : Type 0} (disk : DiskModel D) (radio : RadioModel R) where
   -- a world is begun anew from the device of another
   pub anew : (m : Moment) (device : D) (old new : World D R) (confs : List Conf) → device ≡ device_of (durable_of old)
       → (IsProper disk (durable_of old) → IsShown disk (durable_of old))
-      → (IsProper disk (durable_of old) → (j : Journal) → StandsFor old j → (image : List ℕ) → disk.may_leave (device_of (durable_of old)) image → Keeps j j image)
+      → (IsProper disk (durable_of old) → (j : History) → StandsFor old j → (image : List ℕ) → disk.may_leave (device_of (durable_of old)) image → Keeps j j image)
       → (disk.honest (device_of (durable_of old)) → disk.may_leave (device_of (durable_of old)) (disk.reads (device_of (durable_of old))))
       → ((image : List ℕ) (s t : State) → Shows image s → Shows image t → s ≡ t)
       → confs ≡ (durable_of old).core.confs

@@ -28,7 +28,7 @@ use Rattle.apd_store.specs.Image.{Shows}
 use Rattle.apd_table.specs.Sound.{Sound}
 use Rattle.apd_world.specs.Following.{AreFollowing}
 use Rattle.apd_world.specs.CoreRun.{AreUnsettled}
-use Rattle.apd_world.specs.Journal.{Journal, Keeps, after}
+use Rattle.apd_world.specs.History.{History, Keeps, after}
 use Rattle.apd_world.specs.Outside.{device_of}
 use Rattle.apd_world.specs.Proper.{IsProper}
 use Rattle.apd_world.specs.Resumed.{AreResumed}
@@ -160,7 +160,7 @@ module _ {D R : Type 0} (disk : DiskModel D) (radio : RadioModel R) where
     pub only : OnlyWorld old new
 
   -- A world begun at a moment from what a device reads, of these configurations: its table is the state that the device shows, and it
-  -- stands for the journal that begins there; its slots, one for each interface, have resumed by that table. It is proper, and a stop until
+  -- stands for the history that begins there; its slots, one for each interface, have resumed by that table. It is proper, and a stop until
   -- it is begun leaves what it could leave before.
   pub record IsBegunFrom (m : Moment) (device : D) (confs : List Conf) (new : World D R) : Type 0 where
     pub shown : disk.honest (device_of (durable_of new)) → Shows (disk.reads device) (durable_of new).core.settled
@@ -178,14 +178,14 @@ module _ {D R : Type 0} (disk : DiskModel D) (radio : RadioModel R) where
         → LeavesOnly disk device (device_of (durable_of new)) (disk.may_leave device)
 
   -- A world begun anew at a moment from what the device of another reads, with its configurations. Where that one was proper, the table is
-  -- its settled one, or that after its batch in flight; so it is what each journal keeps that the other stood for: the state after some of
+  -- its settled one, or that after its batch in flight; so it is what each history keeps that the other stood for: the state after some of
   -- what happened, from the front, with all that is durable.
   pub record IsRestarted (m : Moment) (old new : World D R) : Type 0 where
     pub begun : IsBegunFrom m (device_of (durable_of old)) (durable_of old).core.confs new
     pub recovered : IsProper disk (durable_of old) → disk.honest (device_of (durable_of new)) → (hs : List Happening)
         → AreUnsettled hs (durable_of old).core → IsAfterFlight (durable_of old).core hs (durable_of new).core.settled
-    pub kept : IsProper disk (durable_of old) → disk.honest (device_of (durable_of new)) → (j : Journal) → StandsFor old j
-        → (kept : Keeps j j (disk.reads (device_of (durable_of old)))) × ((durable_of new).core.settled ≡ after j kept.front)
+    pub kept : IsProper disk (durable_of old) → disk.honest (device_of (durable_of new)) → (h : History) → StandsFor old h
+        → (kept : Keeps h h (disk.reads (device_of (durable_of old)))) × ((durable_of new).core.settled ≡ after h kept.front)
 
   -- the world is begun anew, with a radio from the front for each interface, and no refusal is known
   pub record Restarts (old new : Runner D R) : Type 0 where

@@ -4,7 +4,7 @@ ghost use Rattle.std.specs.Prelude.{◌≡◌, List, ℕ, []};
 ghost use Rattle.apd_script.specs.Lines.{HaveNoStop};
 ghost use Rattle.apd_script.specs.Script.{AreFoundHonest, AreRun, IsProperAt, IsScriptRun, Starts};
 ghost use Rattle.apd_script.specs.declared.script.runner.Runner.{Runner};
-ghost use Rattle.apd_world.specs.Journal.{Journal};
+ghost use Rattle.apd_world.specs.History.{History};
 ghost use Rattle.apd_world.specs.Proper.{IsProper, IsSafe};
 ghost use Rattle.apd_world.specs.SafelyMade.{AreMadeInTurn, LeadsSince};
 ghost use Rattle.apd_world.specs.StandsFor.{StandsFor};
@@ -31,7 +31,7 @@ pub fn lines_without_a_stop_are_one_run<D: Disk, R: Radio>()
         → HasGoneOn D.model R.model old.world new.world }
 {}
 
-/// Whatever journal the world stands for at which such a part begins: it stands for a later one after the part, and
+/// Whatever history the world stands for at which such a part begins: it stands for a later one after the part, and
 /// however many of the steps had been made, in the midst of a line too, as of a `flush` that hands out, a stop at any
 /// moment since then leaves the table after some of what happened, from the front, with all of which anything had been
 /// said by then. At a `stop` itself, what it begins anew from is said where it is run.
@@ -39,8 +39,8 @@ pub fn a_stop_within_a_script_loses_nothing_told<D: Disk, R: Radio>()
     ensures { (n : ℕ) (texts : List (List ℕ)) (old started new : Runner D R)
         → Starts D.model R.model old started → HaveNoStop texts → AreRun D.model R.model n texts started new
         → (steps : List Step) × (tolds : List Told) × AreMadeInTurn D.model R.model steps tolds old.world new.world
-        × ((j : Journal) → StandsFor old.world j → (count : ℕ)
-        → LeadsSince D.model R.model count steps tolds old.world new.world j) }
+        × ((h : History) → StandsFor old.world h → (count : ℕ)
+        → LeadsSince D.model R.model count steps tolds old.world new.world h) }
 {}
 
 /// Whatever lines a script has, a `stop` among them: where its world was proper, as of an honest device, and each stop

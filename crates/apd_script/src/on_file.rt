@@ -16,10 +16,10 @@ use std::io::{BufRead, Write};
 
 /// Runs a script on the store of a file as `run_on_store` does. The record is any: what the file held, all of it
 /// durable, when power last came on, and each call of it since. Where what it answered until the world was begun is
-/// what a file answers that held that, the world is proper, and stands for the journal that begins at the state which
-/// those bytes show; what a stop leaves of it, until the first `stop` line, keeps that journal. Each `stop` line reads
+/// what a file answers that held that, the world is proper, and stands for the history that begins at the state which
+/// those bytes show; what a stop leaves of it, until the first `stop` line, keeps that history. Each `stop` line reads
 /// the file again: where each found it so as well, what a stop leaves at the end, of what the file held at first, by all
-/// calls since, keeps the journal of the world at the end.
+/// calls since, keeps the history of the world at the end.
 ///
 /// # Errors
 ///

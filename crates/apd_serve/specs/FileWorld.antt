@@ -11,7 +11,7 @@ use Rattle.apd_radio.specs.Model.{RadioModel}
 use Rattle.apd_store.specs.Image.{Shows}
 use Rattle.apd_store.specs.Outside.{store_device}
 use Rattle.apd_store.specs.Recovery.{IsHonestlyRecovered, IsRecovered}
-use Rattle.apd_world.specs.Journal.{Journal, Keeps, blank}
+use Rattle.apd_world.specs.History.{History, Keeps, blank}
 use Rattle.apd_world.specs.Outside.{device_of}
 use Rattle.apd_world.specs.Proper.{IsProper}
 use Rattle.apd_world.specs.SafelyMade.{LeadsSince}
@@ -35,7 +35,7 @@ pub record IsRecoveredFrom (known : FileRecord) (opened : OpenStore) : Type 0 wh
 abbrev pub file_of : {R : Type 0} → World FileDisk R → FileDisk
 file_of world = device_of (durable_of world)
 
--- A world over a file of which this was known: that file has been called since, and the world stands for the journal that
+-- A world over a file of which this was known: that file has been called since, and the world stands for the history that
 -- begins at the state that its bytes show; and it is proper, so that from here on a stop is spoken of.
 pub record IsBegunOver {R : Type 0} (known : FileRecord) (confs : List Conf) (world : World FileDisk R) : Type 0 where
   pub file : HasMore known (file_of world).known
@@ -44,25 +44,25 @@ pub record IsBegunOver {R : Type 0} (known : FileRecord) (confs : List Conf) (wo
   pub begins : BeginsAt confs table world
   pub proper : IsProper file_model (durable_of world)
 
--- the journal that begins there
-abbrev pub first_journal : {R : Type 0} {known : FileRecord} {confs : List Conf} {world : World FileDisk R}
-    → IsBegunOver known confs world → Journal
-first_journal {R} {known} {confs} {world} over = blank confs over.table (durable_of world).core.heard
+-- the history that begins there
+abbrev pub first_history : {R : Type 0} {known : FileRecord} {confs : List Conf} {world : World FileDisk R}
+    → IsBegunOver known confs world → History
+first_history {R} {known} {confs} {world} over = blank confs over.table (durable_of world).core.heard
 
--- Steps that told so lead to a journal. The file is the one of which this was known, and was called since: each image that
--- a stop now may leave of what it held then, by the calls that were known and those since, keeps the journal.
+-- Steps that told so lead to a history. The file is the one of which this was known, and was called since: each image that
+-- a stop now may leave of what it held then, by the calls that were known and those since, keeps the history.
 pub record IsKept {R : Type 0} (known : FileRecord) (steps : List Step) (tolds : List Told)
-    (old new : World FileDisk R) (j : Journal) : Type 0 where
-  pub journal : Journal
-  pub leads : LeadsTo steps tolds old new j journal
+    (old new : World FileDisk R) (h : History) : Type 0 where
+  pub history : History
+  pub leads : LeadsTo steps tolds old new h history
   pub file : HasMore known (file_of new).known
-  pub keeps : (image : List ℕ) → FileLeaves known.held (file.since ++ known.calls) image → Keeps journal journal image
+  pub keeps : (image : List ℕ) → FileLeaves known.held (file.since ++ known.calls) image → Keeps history history image
 
 -- So many of the steps had been made, and the others lead on. The file was called until then, and was called after it: each
--- image of a stop at any moment since then keeps what was journalled by then.
+-- image of a stop at any moment since then keeps what the history had by then.
 pub record IsKeptSince {R : Type 0} (radio : RadioModel R) (known : FileRecord) (count : ℕ) (steps : List Step)
-    (tolds : List Told) (old new : World FileDisk R) (j : Journal) : Type 0 where
-  pub since : LeadsSince file_model radio count steps tolds old new j
+    (tolds : List Told) (old new : World FileDisk R) (h : History) : Type 0 where
+  pub since : LeadsSince file_model radio count steps tolds old new h
   pub before : HasMore known (file_of since.mid).known
   pub behind : HasMore (file_of since.mid).known (file_of new).known
   pub keeps : (image : List ℕ)

@@ -53,7 +53,7 @@ pub fn open_store(
 
 /// The world of a store that was opened, with these radios, one for each configuration, in their order. Each station of
 /// the table was heard at the moment 0. Whatever was known of the file: where it has answered as one that held that, the
-/// world stands for the journal that begins at the state that its bytes show, and is proper.
+/// world stands for the history that begins at the state that its bytes show, and is proper.
 ///
 /// Errors: `World` with `Slot` where a slot doesn't resume; `NoMemory`.
 pub fn begin_world<R: Radio>(

@@ -5,13 +5,13 @@ use Rattle.std.specs.declared.alloc.AllocError.{AllocError}
 use Rattle.apd_core.specs.declared.publish_fault.PublishFault.{PublishFault}
 use Rattle.apd_steps.specs.Calls.{exactly}
 use Rattle.apd_steps.specs.Run as steps
-use Rattle.apd_world.specs.Journal.{Journal}
+use Rattle.apd_world.specs.History.{History}
 use Rattle.apd_world.specs.StandsFor.{LeadsSafely, StandsFor, waiting_outs}
 use Rattle.apd_world.specs.WorkerRun.{AreParts, IsPart, part_of, told_called, told_published, told_taken}
 use Rattle.apd_world.proofs.Words.{AreFollowing, Call, Called, Committer, Control, CoreState, Device, DiskModel, DurableCore, IsFailed, IsSafe, Out, Publish, Radio, RadioModel, Recipient, StoreFault, Take, World, durable_of, flight_of, ready_for}
 use Rattle.apd_world.proofs.DurableSteps.{made_beside}
 use Rattle.apd_world.proofs.FromSteps.{calls, fails, publishes, same_published, same_taken, takes}
-use Rattle.apd_world.proofs.JournalLemmas.{still_leads}
+use Rattle.apd_world.proofs.HistoryLemmas.{still_leads}
 use Rattle.apd_world.proofs.RunLemmas.{one_made}
 
 module _ {D R : Type 0} (disk : DiskModel D) (old new : World D R) (h : IsFailed disk old new) where
@@ -22,11 +22,11 @@ module _ {D R : Type 0} (disk : DiskModel D) (old new : World D R) (h : IsFailed
   waits_so d (Radio b) = refl
   waits_so d Control = refl
 
-  pub failed_leads : (j : Journal) → StandsFor old j → LeadsSafely disk [] [] old new j j
+  pub failed_leads : (j : History) → StandsFor old j → LeadsSafely disk [] [] old new j j
   failed_leads j stands = still_leads disk old new j h.safe stands
       (subst (λ (w : World D R). StandsFor w j) (sym h.only)
       (record {
-        journal = stands.journal;
+        history = stands.history;
         confs = stands.confs;
         number = stands.number;
         settled = stands.settled;

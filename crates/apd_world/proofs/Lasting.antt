@@ -1,4 +1,4 @@
--- What an image that a journal keeps says of the stations.
+-- What an image that a history keeps says of the stations.
 use Rattle.std.proofs.Common.{Bool, true, false, add-one, cond, ◌≡◌, ◌⊎◌, inl, inr, ⊎_elim, ℕ, zero, suc, ◌+◌, ◌-◌, ◌≤◌, ◌<◌, List, [], ◌∷◌, ◌++◌, length, take, Option, Some, None, refl, sym, ap, subst, ◌∙◌, arith}
 use Rattle.std.proofs.lemmas.Bool.{cases_eq}
 use Rattle.std.proofs.lemmas.List.{length-take-le, take-append-le, take-take}
@@ -23,7 +23,7 @@ use Rattle.apd_mlme.proofs.VerdictLemmas.{run_sound, stay_end}
 use Rattle.apd_base.specs.Sets.{contains}
 use Rattle.apd_base.specs.State.{empty_state, station_at, IsListed}
 use Rattle.apd_store.specs.Image.{IsCurrent}
-use Rattle.apd_world.specs.Journal.{GoesOn, IsJournal, Journal, Keeps, after}
+use Rattle.apd_world.specs.History.{GoesOn, IsHistory, History, Keeps, after}
 use Rattle.apd_world.specs.Lasting.{BodyLasts, Fact, HasAid, HasRow, Holds, IsOff, IsOn, Lasts, OutLasts, SaysOtherwise, WasEdited, WasSo}
 use Rattle.apd_world.proofs.Goings.{is_or_not, run-append}
 
@@ -58,7 +58,7 @@ holds_or_not (HasRow b a) s = some_or_not (station_at s b a)
 holds_or_not (IsOn b w a) s = on_or_off (contains s.lists (b, w, a))
 holds_or_not (IsOff b w a) s = off_or_on (contains s.lists (b, w, a))
 
-module _ (j : Journal) (fact : Fact) where
+module _ (j : History) (fact : Fact) where
   stays : (more n : ℕ) → Holds fact (after j n) → Holds fact (after j (n + more)) ⊎ SaysOtherwise j n (n + more) fact
   stays zero n so = inl (subst (λ m. Holds fact (after j m)) (let same : n ≡ n + 0 = omega arith in same) so)
   stays (suc more) n so = ⊎_elim
@@ -69,16 +69,16 @@ module _ (j : Journal) (fact : Fact) where
       (λ ended. inr (record { place = n; later = omega arith; within = omega arith; was = so; ended = ended }))
       (holds_or_not fact (after j (n + 1)))
 
-module _ (es : List Happening) (m : LastHeard) (g : Recipient → List Out) (answers : List Answer) (old new : Journal) (goes : GoesOn es m g answers old new) where
+module _ (es : List Happening) (m : LastHeard) (g : Recipient → List Out) (answers : List Answer) (old new : History) (goes : GoesOn es m g answers old new) where
   -- the state after some of what had happened
   after_same : (n : ℕ) → n ≤ length old.happened → after new n ≡ after old n
   after_same n within =
-      ap (λ (z : Journal). after z n) goes.only ∙ ap (run old.first old.confs) (take-append-le n old.happened es within)
+      ap (λ (z : History). after z n) goes.only ∙ ap (run old.first old.confs) (take-append-le n old.happened es within)
 
-  pub lasts : (image : List ℕ) (n : ℕ) (fact : Fact) → IsJournal old → (keeps : Keeps old new image) → n ≤ old.durable → Holds fact (after old n)
+  pub lasts : (image : List ℕ) (n : ℕ) (fact : Fact) → IsHistory old → (keeps : Keeps old new image) → n ≤ old.durable → Holds fact (after old n)
       → Lasts new image keeps.front n fact
-  lasts image n fact journal keeps durable so =
-      let d = journal.durable in
+  lasts image n fact history keeps durable so =
+      let d = history.durable in
       let k = keeps.all_durable in
       let more = keeps.front - n in
       let reach : n + more ≡ keeps.front = omega (arith, durable, k) in
@@ -125,7 +125,7 @@ module _ (confs : List Conf) (r : Recipient) where
       (λ out t. (let lt = t.1 in (suc t.0, omega (arith, lt), subst (λ m. IsSo (run s confs (take m (h ∷ hs))) (r, out)) (let e : suc (t.0 + 1) ≡ suc t.0 + 1 = omega arith in e) t.2)))
       (outs_run r v.state confs hs) (run_so hs v.state fit.1 after_one))
 
-module _ (j : Journal) (r : Recipient) (journal : IsJournal j) where
+module _ (j : History) (r : Recipient) (history : IsHistory j) where
   abbrev IsTrueOf : Out → Type 0
   IsTrueOf out = Contains (j.owed r) out ⊎ WasSo j r out
 
@@ -138,7 +138,7 @@ module _ (j : Journal) (r : Recipient) (journal : IsJournal j) where
 
   so_of : (out : Out) → SoIn j.confs r j.first durable out → WasSo j r out
   so_of out t =
-      let many = length-take-le j.durable j.happened journal.durable in
+      let many = length-take-le j.durable j.happened history.durable in
       let lt = t.1 in
       record {
         place = t.0;
@@ -148,24 +148,24 @@ module _ (j : Journal) (r : Recipient) (journal : IsJournal j) where
 
   pub told_so : AllByRecursion IsTrueOf (j.given r)
   told_so =
-      let front = journal.given r in
+      let front = history.given r in
       let outs = outs_run r j.first j.confs durable in
       all_front IsTrueOf (j.given r) front.0
       (subst (AllByRecursion IsTrueOf) front.1
       (all_both IsTrueOf (j.owed r) outs
       (all_weaker (Contains (j.owed r)) IsTrueOf (λ out has. inl has) (j.owed r) (owed_in (j.owed r) (j.owed r) (λ o has. has)))
-      (all_weaker (SoIn j.confs r j.first durable) IsTrueOf (λ out t. inr (so_of out t)) outs (run_so j.confs r durable j.first (fit_front j.confs j.durable j.happened j.first journal.fit) journal.sound))))
+      (all_weaker (SoIn j.confs r j.first durable) IsTrueOf (λ out t. inr (so_of out t)) outs (run_so j.confs r durable j.first (fit_front j.confs j.durable j.happened j.first history.fit) history.sound))))
 
 -- ---- what a radio was given lasts
 some_weaker : {T : Type 0} (o : Option T) (P Q : T → Type 0) → ((x : T) → P x → Q x) → IsSomeAnd o P → IsSomeAnd o Q
 some_weaker (Some x) P Q f h = f x h
 some_weaker None P Q f h = h
 
-module _ (es : List Happening) (m : LastHeard) (g : Recipient → List Out) (answers : List Answer) (old new : Journal) (goes : GoesOn es m g answers old new) (image : List ℕ) (journal : IsJournal old)
+module _ (es : List Happening) (m : LastHeard) (g : Recipient → List Out) (answers : List Answer) (old new : History) (goes : GoesOn es m g answers old new) (image : List ℕ) (history : IsHistory old)
     (keeps : Keeps old new image) (b : Bssid) where
   module _ (n : ℕ) (le : n ≤ old.durable) where
     lasts_at : (fact : Fact) → Holds fact (after old n) → Lasts new image keeps.front n fact
-    lasts_at fact so = lasts es m g answers old new goes image n fact journal keeps le so
+    lasts_at fact so = lasts es m g answers old new goes image n fact history keeps le so
 
     body_lasts : (a : Addr) (body : ReplyBody) → IsSaidSo (after old n) b a body → BodyLasts new image keeps.front n b a body
     body_lasts a (Auth algorithm transaction status) so = λ success. lasts_at (HasRow b a) (so success)
@@ -181,7 +181,7 @@ module _ (es : List Happening) (m : LastHeard) (g : Recipient → List Out) (ans
   pub given_lasts : AllByRecursion (λ out. Contains (old.owed (Radio b)) out ⊎ ((n : ℕ) × (n ≤ old.durable) × OutLasts new image keeps.front n b out)) (old.given (Radio b))
   given_lasts = all_weaker _ _
       (λ out so. ⊎_elim (λ owed. inl owed) (λ was. let lt = was.durable in let le : was.place + 1 ≤ old.durable = omega (arith, lt) in inr (was.place + 1, le, out_lasts (was.place + 1) le out was.so)) so)
-      (old.given (Radio b)) (told_so old (Radio b) journal)
+      (old.given (Radio b)) (told_so old (Radio b) history)
 
 -- ---- a list that was edited
 at_place : {A : Type 0} (xs : List A) (n : ℕ) (x : A) → slice_get xs n ≡ Some x → (n < length xs) × (take (suc n) xs ≡ take n xs ++ x ∷ [])
@@ -210,7 +210,7 @@ not_refused tag outs only has = refused_alone tag (subst (λ os. Contains os (te
 abbrev pub AreAnswered : Type 0
 AreAnswered = (s : State) (confs : List Conf) (h : Happening) → IsFit s confs h → Sound s → IsAnsweredTo s h (verdict s confs h)
 
-module _ (all_answered : AreAnswered) (j : Journal) (place : ℕ) (b : Bssid) (w : Which) (edit : Edit) (journal : IsJournal j) (was : WasEdited j place b w edit) where
+module _ (all_answered : AreAnswered) (j : History) (place : ℕ) (b : Bssid) (w : Which) (edit : Edit) (history : IsHistory j) (was : WasEdited j place b w edit) where
   abbrev h : Happening
   h = ListEdit b w edit was.tag
 
@@ -218,10 +218,10 @@ module _ (all_answered : AreAnswered) (j : Journal) (place : ℕ) (b : Bssid) (w
   next_is = ap (λ n. run j.first j.confs (take n j.happened)) (add-one place) ∙ ap (run j.first j.confs) (at_place j.happened place h was.happened).1 ∙ run-append j.confs (take place j.happened) (h ∷ []) j.first
 
   before_sound : Sound (after j place)
-  before_sound = run_sound j.confs (take place j.happened) j.first (fit_front j.confs place j.happened j.first journal.fit) journal.sound
+  before_sound = run_sound j.confs (take place j.happened) j.first (fit_front j.confs place j.happened j.first history.fit) history.sound
 
   answered : IsAnsweredTo (after j place) h (verdict (after j place) j.confs h)
-  answered = all_answered (after j place) j.confs h (fit_at j.confs j.happened place h j.first journal.fit was.happened) before_sound
+  answered = all_answered (after j place) j.confs h (fit_at j.confs j.happened place h j.first history.fit was.happened) before_sound
 
   pub listed_as_edited : (d : Addr) → IsListed (after j (place + 1)) b w d ↔ IsOnAfter (after j place) b w edit d
   listed_as_edited d = ⊎_elim

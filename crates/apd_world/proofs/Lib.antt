@@ -7,8 +7,8 @@ mod Moving
 mod CutShort
 mod Order
 mod Goings
-mod JournalBegins
-mod JournalLemmas
+mod HistoryBegins
+mod HistoryLemmas
 mod Lasting
 mod Joining
 mod ResumeLemmas

@@ -6,7 +6,7 @@ use Rattle.apd_world.specs.Order.{KeepsOrder, account_here, happened_by, outs_to
 use Rattle.apd_world.specs.StandsFor.{outs_in_step, outs_in_steps, waiting_outs}
 use Rattle.apd_world.proofs.Accounts.{account_behind}
 use Rattle.apd_world.proofs.Goings.{outs_run-append}
-use Rattle.apd_world.proofs.JournalLemmas.{happens_alike, said_alike}
+use Rattle.apd_world.proofs.HistoryLemmas.{happens_alike, said_alike}
 use Rattle.apd_world.proofs.Moving.{flows}
 
 -- what was given, what waits and what is held; and the same, of the steps behind these

@@ -15,7 +15,7 @@ use Rattle.apd_store.specs.Outside.{store_device}
 use Rattle.apd_store.specs.Recovery.{IsHonestlyRecovered, IsRecovered}
 use Rattle.apd_store.specs.declared.fault.StoreFault.TheVariants as store_fault
 use Rattle.apd_world.specs.BegunAnew.{IsBegunAnew, IsBegunWith, IsHonestlyBegunAnew, IsHonestlyNotBegunAnew, IsNotBegunAnew}
-use Rattle.apd_world.specs.Journal.{after}
+use Rattle.apd_world.specs.History.{after}
 use Rattle.apd_world.specs.declared.fault.WorldFault.TheVariants as world_fault
 use Rattle.apd_world.proofs.SlotLemmas.{all_at, place_of_own, slot_is}
 use Rattle.apd_world.proofs.SoFar.{first_is, rest_is, zip_all, AreSoFar}

@@ -19,7 +19,7 @@ use Rattle.apd_world.specs.declared.step.Commit.TheVariants as commit
 use Rattle.apd_world.specs.declared.step.Told.TheVariants.{Answered as Read}
 use Rattle.apd_world.proofs.FollowLemmas.{following}
 use Rattle.apd_world.proofs.Goings.{is_or_not, ready_none, turned}
-use Rattle.apd_world.proofs.JournalLemmas.{lead_since}
+use Rattle.apd_world.proofs.HistoryLemmas.{lead_since}
 use Rattle.apd_world.proofs.Moving.{exact, flows, no_slot}
 use Rattle.apd_world.proofs.DurableSteps.{none_some}
 

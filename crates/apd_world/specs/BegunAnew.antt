@@ -11,7 +11,7 @@ use Rattle.apd_store.specs.declared.phase.Phase.TheVariants.{Idle}
 use Rattle.apd_flusher.specs.Outside.{store_of}
 use Rattle.apd_world.specs.Outside.{device_of, flusher_of}
 use Rattle.apd_world.specs.Proper.{IsProper, IsWhole}
-use Rattle.apd_world.specs.Journal.{Journal, Keeps, after}
+use Rattle.apd_world.specs.History.{History, Keeps, after}
 use Rattle.apd_world.specs.declared.fault.WorldFault.TheVariants as world_fault
 
 -- of a store and its table: nothing is unsettled, and every station was heard at this moment
@@ -35,10 +35,10 @@ pub record IsBegunAnew {D : Type 0} (disk : DiskModel D) (device : D) (confs : L
   pub count : disk.failed (device_of new) ≡ disk.failed device
   pub was_honest : disk.honest (device_of new) → disk.honest device
 
--- its table is the state that the device's bytes show: after a stop, the one that a journal kept
+-- its table is the state that the device's bytes show: after a stop, the one that a history kept
 pub record IsHonestlyBegunAnew {D : Type 0} (disk : DiskModel D) (device : D) (new : DurableCore D) : Type 0 where
   pub shown : Shows (disk.reads device) new.core.settled
-  pub recovered : (old last : Journal) (kept : Keeps old last (disk.reads device))
+  pub recovered : (old last : History) (kept : Keeps old last (disk.reads device))
       → new.core.settled ≡ after last kept.front
   pub proper : IsProper disk new
   pub images : Only (disk.reads device) (disk.may_leave (device_of new))

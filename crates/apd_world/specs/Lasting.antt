@@ -1,4 +1,4 @@
--- What of a journal's was so, and how long it stays so.
+-- What of a history's was so, and how long it stays so.
 use Rattle.std.specs.Prelude.{◌≡◌, ◌⊎◌, ◌≤◌, ◌<◌, ◌+◌, ℕ, List, Some, IsSome, IsSomeAnd}
 use Rattle.std.specs.List.{Contains, slice_get}
 use Rattle.apd_base.specs.declared.station.Which.{Which}
@@ -17,20 +17,20 @@ use Rattle.apd_mlme.specs.declared.event.Edit.{Edit}
 use Rattle.apd_mlme.specs.laws.Outs.{IsSo}
 use Rattle.apd_mlme.specs.rules.Commands.{text}
 use Rattle.apd_world.specs.Words.{Addr, Bssid, Out, Recipient, Shows, State, aid_at, verdict}
-use Rattle.apd_world.specs.Journal.{Journal, after}
+use Rattle.apd_world.specs.History.{History, after}
 
 -- what an out says is so after one of the durable happenings
-pub record WasSo (j : Journal) (r : Recipient) (out : Out) : Type 0 where
+pub record WasSo (h : History) (r : Recipient) (out : Out) : Type 0 where
   pub place : ℕ
-  pub durable : place < j.durable
-  pub so : IsSo (after j (place + 1)) (r, out)
+  pub durable : place < h.durable
+  pub so : IsSo (after h (place + 1)) (r, out)
 
 -- a control command that edits a list is one of the durable happenings, and was answered OK
-pub record WasEdited (j : Journal) (place : ℕ) (b : Bssid) (w : Which) (edit : Edit) : Type 0 where
+pub record WasEdited (h : History) (place : ℕ) (b : Bssid) (w : Which) (edit : Edit) : Type 0 where
   pub tag : ℕ
-  pub durable : place < j.durable
-  pub happened : slice_get j.happened place ≡ Some (ListEdit b w edit tag)
-  pub answered : Contains (verdict (after j place) j.confs (ListEdit b w edit tag)).outs (text tag Done)
+  pub durable : place < h.durable
+  pub happened : slice_get h.happened place ≡ Some (ListEdit b w edit tag)
+  pub answered : Contains (verdict (after h place) h.confs (ListEdit b w edit tag)).outs (text tag Done)
 
 -- ---- how long it stays so
 -- what is said of a state
@@ -51,30 +51,30 @@ Holds (IsOn b w a) s = IsListed s b w a
 Holds (IsOff b w a) s = ¬ IsListed s b w a
 
 -- Of the first so many happenings, one behind so many says otherwise: it holds before that one, and not after it.
-pub record SaysOtherwise (j : Journal) (behind front : ℕ) (fact : Fact) : Type 0 where
+pub record SaysOtherwise (h : History) (behind front : ℕ) (fact : Fact) : Type 0 where
   pub place : ℕ
   pub later : behind ≤ place
   pub within : place < front
-  pub was : Holds fact (after j place)
-  pub ended : ¬ Holds fact (after j (place + 1))
+  pub was : Holds fact (after h place)
+  pub ended : ¬ Holds fact (after h (place + 1))
 
 -- It held behind that many. A stop left the state after the first so many; it holds there, or one of these says
 -- otherwise.
-pub record Lasts (j : Journal) (image : List ℕ) (front behind : ℕ) (fact : Fact) : Type 0 where
-  pub was : Holds fact (after j behind)
-  pub shows : Shows image (after j front)
-  pub still : Holds fact (after j front) ⊎ SaysOtherwise j behind front fact
+pub record Lasts (h : History) (image : List ℕ) (front behind : ℕ) (fact : Fact) : Type 0 where
+  pub was : Holds fact (after h behind)
+  pub shows : Shows image (after h front)
+  pub still : Holds fact (after h front) ⊎ SaysOtherwise h behind front fact
 
 -- ---- what was told
-module _ (j : Journal) (image : List ℕ) (front behind : ℕ) (b : Bssid) where
+module _ (h : History) (image : List ℕ) (front behind : ℕ) (b : Bssid) where
   -- where a response tells a station that it is authenticated, that lasts
   abbrev pub RowLastsAsTold : Addr → Status → Type 0
-  RowLastsAsTold a status = status ≡ Success → Lasts j image front behind (HasRow b a)
+  RowLastsAsTold a status = status ≡ Success → Lasts h image front behind (HasRow b a)
 
   -- and that it is associated, with the identifier that the response carries
   abbrev pub AidLastsAsTold : Addr → AssociationResponse → Type 0
   AidLastsAsTold a response = response.status ≡ Success
-      → IsSomeAnd response.aid (λ aid. Lasts j image front behind (HasAid b a aid.number))
+      → IsSomeAnd response.aid (λ aid. Lasts h image front behind (HasAid b a aid.number))
 
   -- the same of the frame of a reply
   abbrev pub BodyLasts : Addr → ReplyBody → Type 0
@@ -85,6 +85,6 @@ module _ (j : Journal) (image : List ℕ) (front behind : ℕ) (b : Bssid) where
 
   -- and of what a radio was given: a driver, that it takes a station in
   abbrev pub OutLasts : Out → Type 0
-  OutLasts (Install a aid) = Lasts j image front behind (HasAid b a aid.number)
+  OutLasts (Install a aid) = Lasts h image front behind (HasAid b a aid.number)
   OutLasts (Frame bytes) = (reply : Reply) × (reply.bssid ≡ b) × (bytes ≡ wire reply) × BodyLasts reply.to reply.body
   OutLasts out = Unit {0}

@@ -20,7 +20,7 @@ pub mod Shown
 pub mod StandsFor
 pub mod Starting
 pub mod HandingOut
-pub mod Journal
+pub mod History
 pub mod Lasting
 pub mod Ending
 pub mod Steps

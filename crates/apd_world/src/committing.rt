@@ -60,7 +60,7 @@ impl<D: Disk, R: Radio> World<D, R> {
     ///
     /// From a whole world on that has not failed, also with a batch or a receipt under way, a round in which the device
     /// didn't fail, no memory was refused and there is room for the batch, or the other half can begin anew, settles one
-    /// entry or more, where any is unsettled. It leads from journal to journal, as all steps do.
+    /// entry or more, where any is unsettled. It leads from history to history, as all steps do.
     pub fn commit(&mut self) -> Commit
         ensures round { IsRound D.model R.model result self.old self.new }
         ensures comes_to { IsWhole D.model (durable_of self.old)

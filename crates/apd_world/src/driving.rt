@@ -10,7 +10,7 @@ use apd_disk::Disk;
 use apd_radio::Radio;
 use std::alloc::AllocError;
 
-/// Makes the steps in order, and answers what each told. Whatever journal the world stands for, it stands for a later
+/// Makes the steps in order, and answers what each told. Whatever history the world stands for, it stands for a later
 /// one after them, in which what is new is what they told. However many of the steps had been made, a stop at any
 /// moment since then, inside a step or between two, leaves an image of the table after some of what happened, from the
 /// front, with all of which anything had been said by then. At its end, between two steps, a stop leaves the settled

@@ -21,18 +21,18 @@ impl<D: Disk> DurableCore<D> {
 impl<D: Disk, R: Radio> World<D, R> {
     ghost use Rattle.apd_world.specs.Failing.{IsFailed};
     ghost use Rattle.apd_world.specs.Following.{AreExact, AreFollowing};
-    ghost use Rattle.apd_world.specs.Journal.{Journal};
+    ghost use Rattle.apd_world.specs.History.{History};
     ghost use Rattle.apd_world.specs.StandsFor.{LeadsSafely, StandsFor};
     ghost use Rattle.apd_world.specs.WorldParts.{slots_of};
 
     /// Tells the core to fail: from now on no request is accepted and no batch is taken; what is in flight may still be
     /// settled. All else of the world stays, and a stop leaves what it left. It is no step, and is called between lists
-    /// of steps: the world stands for the journal that it stood for.
+    /// of steps: the world stands for the history that it stood for.
     pub fn fail(&mut self)
         ensures failed { IsFailed D.model self.old self.new }
         ensures exact { AreExact R.model (slots_of self.old) → AreExact R.model (slots_of self.new) }
         ensures following { AreFollowing self.old → AreFollowing self.new }
-        ensures leads { (j : Journal) → StandsFor self.old j → LeadsSafely D.model [] [] self.old self.new j j }
+        ensures leads { (h : History) → StandsFor self.old h → LeadsSafely D.model [] [] self.old self.new h h }
     {
         self.durable.fail();
     }

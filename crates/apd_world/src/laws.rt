@@ -26,7 +26,7 @@ ghost use Rattle.apd_core.specs.declared.input.Input.{Input};
 ghost use Rattle.apd_steps.specs.Calls.{exactly};
 ghost use Rattle.apd_steps.specs.Run.{AreSteps, Step as WorkersStep};
 ghost use Rattle.apd_world.specs.CoreRun.{AreUnsettled};
-ghost use Rattle.apd_world.specs.Journal.{GoesOn, IsJournal, Journal, Keeps, after};
+ghost use Rattle.apd_world.specs.History.{GoesOn, IsHistory, History, Keeps, after};
 ghost use Rattle.apd_world.specs.Lasting.{Fact, Holds, Lasts, OutLasts, WasEdited, WasSo};
 ghost use Rattle.apd_world.specs.Order.{KeepsOrder};
 ghost use Rattle.apd_world.specs.Outside.{device_of};
@@ -79,19 +79,19 @@ pub fn outs_keep_their_order<D: Disk, R: Radio>()
         → AreSafelyMade D.model R.model steps tolds old new → KeepsOrder steps tolds old new }
 {}
 
-/// Any list of steps that was made leads so from whatever journal the world stood for; a replacement leads from each to
-/// itself, by `World::replace`; and what leads from one journal to another, and what leads on from there, lead from the
+/// Any list of steps that was made leads so from whatever history the world stood for; a replacement leads from each to
+/// itself, by `World::replace`; and what leads from one history to another, and what leads on from there, lead from the
 /// first to the last. So do lists of steps between which radios are replaced, in any number; and since the midst of the
 /// first of them, of which `LeadsSince` says that the others lead so.
-pub fn journals_join<D: Disk, R: Radio>()
-    ensures made { (steps : List Step) (tolds : List Told) (old new : World D R) (j : Journal)
-        → AreSafelyMade D.model R.model steps tolds old new → StandsFor old j
-        → LeadsOn D.model steps tolds old new j }
-    ensures leads { (xs ys : List Step) (ts us : List Told) (old mid new : World D R) (j k l : Journal)
-        → LeadsTo xs ts old mid j k → LeadsTo ys us mid new k l → LeadsTo (xs ++ ys) (ts ++ us) old new j l }
-    ensures safely { (xs ys : List Step) (ts us : List Told) (old mid new : World D R) (j k l : Journal)
-        → LeadsSafely D.model xs ts old mid j k → LeadsSafely D.model ys us mid new k l
-        → LeadsSafely D.model (xs ++ ys) (ts ++ us) old new j l }
+pub fn histories_join<D: Disk, R: Radio>()
+    ensures made { (steps : List Step) (tolds : List Told) (old new : World D R) (h : History)
+        → AreSafelyMade D.model R.model steps tolds old new → StandsFor old h
+        → LeadsOn D.model steps tolds old new h }
+    ensures leads { (xs ys : List Step) (ts us : List Told) (old mid new : World D R) (h k l : History)
+        → LeadsTo xs ts old mid h k → LeadsTo ys us mid new k l → LeadsTo (xs ++ ys) (ts ++ us) old new h l }
+    ensures safely { (xs ys : List Step) (ts us : List Told) (old mid new : World D R) (h k l : History)
+        → LeadsSafely D.model xs ts old mid h k → LeadsSafely D.model ys us mid new k l
+        → LeadsSafely D.model (xs ++ ys) (ts ++ us) old new h l }
 {}
 
 /// What the committing worker of threads does to a core that no other calls meanwhile, and to its committer, is what a
@@ -115,8 +115,8 @@ pub fn a_stop_within_a_step_leaves_all_of_a_batch_or_none<D: Disk>()
         → AreUnsettled hs old.core → LeavesOnly D.model (device_of old) (device_of new) (ShowsFlight old.core hs) }
 {}
 
-/// What leaves is so. An out that was given since a journal began is so after one of what happened that is durable. An
-/// image that a journal keeps shows a sound state, in which identifiers are distinct.
+/// What leaves is so. An out that was given since a history began is so after one of what happened that is durable. An
+/// image that a history keeps shows a sound state, in which identifiers are distinct.
 ///
 /// Whatever held of the state after some of what was durable holds in what a stop left, unless one of those that the
 /// stop left says otherwise (`lasting`). So it is with whom a response told that it is authenticated, or associated
@@ -124,22 +124,22 @@ pub fn a_stop_within_a_step_leaves_all_of_a_batch_or_none<D: Disk>()
 /// command was answered `OK` (`edits`, and then `lasting` behind that edit). Where a world is begun anew, `given` begins
 /// empty: what the first stop left lasts over a further one by `lasting`, after none.
 pub fn what_was_said_is_so_in_what_is_kept()
-    ensures said { (j : Journal) (r : Recipient) → IsJournal j
-        → AllByRecursion (λ out. Contains (j.owed r) out ⊎ WasSo j r out) (j.given r) }
-    ensures sound { (old new : Journal) (image : List ℕ) → Keeps old new image
+    ensures said { (h : History) (r : Recipient) → IsHistory h
+        → AllByRecursion (λ out. Contains (h.owed r) out ⊎ WasSo h r out) (h.given r) }
+    ensures sound { (old new : History) (image : List ℕ) → Keeps old new image
         → (s : State) × Shows image s × Sound s }
     ensures lasting { (hs : List Happening) (heard : LastHeard) (given : Recipient → List Out) (read : List Answer)
-        (old new : Journal) (image : List ℕ) (count : ℕ) (fact : Fact)
-        → IsJournal old → GoesOn hs heard given read old new → (keeps : Keeps old new image) → count ≤ old.durable
+        (old new : History) (image : List ℕ) (count : ℕ) (fact : Fact)
+        → IsHistory old → GoesOn hs heard given read old new → (keeps : Keeps old new image) → count ≤ old.durable
         → Holds fact (after old count)
         → Lasts new image keeps.front count fact }
     ensures promise { (hs : List Happening) (heard : LastHeard) (given : Recipient → List Out) (read : List Answer)
-        (old new : Journal) → GoesOn hs heard given read old new → (image : List ℕ) → IsJournal old
+        (old new : History) → GoesOn hs heard given read old new → (image : List ℕ) → IsHistory old
         → (keeps : Keeps old new image) → (b : Bssid) → AllByRecursion (λ out. Contains (old.owed (Of b)) out
         ⊎ ((behind : ℕ) × (behind ≤ old.durable) × OutLasts new image keeps.front behind b out)) (old.given (Of b)) }
-    ensures edits { (j : Journal) (place : ℕ) (b : Bssid) (w : Which) (edit : Edit) → IsJournal j
-        → WasEdited j place b w edit → (d : Addr)
-        → IsListed (after j (place + 1)) b w d ↔ IsOnAfter (after j place) b w edit d }
+    ensures edits { (h : History) (place : ℕ) (b : Bssid) (w : Which) (edit : Edit) → IsHistory h
+        → WasEdited h place b w edit → (d : Addr)
+        → IsListed (after h (place + 1)) b w d ↔ IsOnAfter (after h place) b w edit d }
 {
     a_command_is_answered_truly();
 }

@@ -10,19 +10,19 @@ use apd_slot::Mending;
 
 impl<D: Disk, R: Radio> World<D, R> {
     ghost use Rattle.apd_world.specs.Following.{AreExact, AreFollowing};
-    ghost use Rattle.apd_world.specs.Journal.{Journal};
+    ghost use Rattle.apd_world.specs.History.{History};
     ghost use Rattle.apd_world.specs.Mending.{BeginsAtSlot, GoesOnAtSlot};
     ghost use Rattle.apd_world.specs.StandsFor.{LeadsSafely, StandsFor};
     ghost use Rattle.apd_world.specs.WorldParts.{slots_of};
 
     /// Begins to mend the slot of a BSSID, which met a fault, as `Mending::begin` does. The outs that wait there stay,
     /// and so does all else of the world; where no slot has the BSSID nothing is done. It is no step, and is called
-    /// between lists of steps: the world stands for the journal that it stood for.
+    /// between lists of steps: the world stands for the history that it stood for.
     pub fn begin_mending(&mut self, bssid: Bssid, mending: &mut Mending<R>)
         ensures mended { BeginsAtSlot D.model R.model R.frames bssid mending.old mending.new self.old self.new }
         ensures exact { AreExact R.model (slots_of self.old) → AreExact R.model (slots_of self.new) }
         ensures following { AreFollowing self.old → AreFollowing self.new }
-        ensures leads { (j : Journal) → StandsFor self.old j → LeadsSafely D.model [] [] self.old self.new j j }
+        ensures leads { (h : History) → StandsFor self.old h → LeadsSafely D.model [] [] self.old self.new h h }
     {
         self.durable.stops();
         let Some(place) = place_of(&self.slots, bssid) else {
@@ -37,7 +37,7 @@ impl<D: Disk, R: Radio> World<D, R> {
         ensures mended { GoesOnAtSlot D.model R.model R.frames bssid result mending.old mending.new self.old self.new }
         ensures exact { AreExact R.model (slots_of self.old) → AreExact R.model (slots_of self.new) }
         ensures following { AreFollowing self.old → AreFollowing self.new }
-        ensures leads { (j : Journal) → StandsFor self.old j → LeadsSafely D.model [] [] self.old self.new j j }
+        ensures leads { (h : History) → StandsFor self.old h → LeadsSafely D.model [] [] self.old self.new h h }
     {
         self.durable.stops();
         let Some(place) = place_of(&self.slots, bssid) else {

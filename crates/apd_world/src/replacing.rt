@@ -10,14 +10,14 @@ use apd_radio::Radio;
 
 impl<D: Disk, R: Radio> World<D, R> {
     ghost use Rattle.apd_world.specs.Following.{AreExact, AreFollowing};
-    ghost use Rattle.apd_world.specs.Journal.{Journal};
+    ghost use Rattle.apd_world.specs.History.{History};
     ghost use Rattle.apd_world.specs.Replacing.{IsReplaced};
     ghost use Rattle.apd_world.specs.StandsFor.{LeadsSafely, StandsFor};
     ghost use Rattle.apd_world.specs.WorldParts.{slots_of};
 
     /// Puts another radio in the place of that of a BSSID's slot, with the stations that are wanted there and no
     /// others, and gives that one back, taken down; the slot is up then. The outs that wait there stay, and so does all
-    /// else of the world. It is no step, and is called between lists of steps: the world stands for the journal that it
+    /// else of the world. It is no step, and is called between lists of steps: the world stands for the history that it
     /// stood for.
     ///
     /// Errors, beside the other radio: `NoSlot` exactly where no slot has the BSSID, and that radio is as it was;
@@ -27,7 +27,7 @@ impl<D: Disk, R: Radio> World<D, R> {
         ensures replaced { IsReplaced D.model R.model R.frames bssid radio result self.old self.new }
         ensures exact { AreExact R.model (slots_of self.old) → AreExact R.model (slots_of self.new) }
         ensures following { AreFollowing self.old → AreFollowing self.new }
-        ensures leads { (j : Journal) → StandsFor self.old j → LeadsSafely D.model [] [] self.old self.new j j }
+        ensures leads { (h : History) → StandsFor self.old h → LeadsSafely D.model [] [] self.old self.new h h }
     {
         self.durable.stops();
         let Some(place) = place_of(&self.slots, bssid) else {

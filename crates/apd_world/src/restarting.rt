@@ -80,8 +80,8 @@ pub fn begin_anew<D: Disk, R: Radio>(
 }
 
 /// The world of the store that a device holds, and of these slots: its table is the state that the device's bytes
-/// show, nothing is unsettled, and every station was heard at this moment: the world stands for the journal that begins
-/// there. Where the bytes show what a journal keeps, as a stop leaves them, the table is the state that it keeps. Each
+/// show, nothing is unsettled, and every station was heard at this moment: the world stands for the history that begins
+/// there. Where the bytes show what a history keeps, as a stop leaves them, the table is the state that it keeps. Each
 /// slot is up, and its radio has the associated stations of its BSSID in that table; no out waits. A stop within it
 /// leaves what could be left before.
 ///

@@ -30,7 +30,7 @@ pub struct World<D: Disk, R: Radio> {
 
 impl<D: Disk, R: Radio> World<D, R> {
     ghost use Rattle.apd_world.specs.Following.{AreFollowing};
-    ghost use Rattle.apd_world.specs.Journal.{Journal, Keeps};
+    ghost use Rattle.apd_world.specs.History.{History, Keeps};
     ghost use Rattle.apd_world.specs.Outside.{device_of, flusher_of};
     ghost use Rattle.apd_world.specs.Proper.{IsProper, IsSafe, IsShown, IsUnused, IsWhole};
     ghost use Rattle.apd_world.specs.Resumed.{AreResumed};
@@ -40,7 +40,7 @@ impl<D: Disk, R: Radio> World<D, R> {
     /// A flusher, a core and slots, which keep the outs that wait there; no batch and no receipt waits. It takes no
     /// memory. Over the flusher of a device that shows the table of a core that accepted nothing yet, what is said of a
     /// stop is so from here on; and where the slots have resumed by that table, they follow it. Where no out waits
-    /// there it stands for the journal in which nothing has happened.
+    /// there it stands for the history in which nothing has happened.
     pub fn new(alloc: Global, flusher: Flusher<D>, core: Core, slots: Vec<Slot<R>>) -> World<D, R>
         ensures core { (durable_of result).core ≡ core }
         ensures flusher { flusher_of (durable_of result) ≡ flusher }
@@ -79,20 +79,20 @@ impl<D: Disk, R: Radio> World<D, R> {
 
     /// Tells a caller's proof what a stop now leaves, between two steps: an image of the table after none of what is
     /// not settled, or after the batch in flight; from the last call of a batch on, if that succeeded, until it is
-    /// published, after that batch. (One of no changes has no call: after it, from its load on.) So whatever journal
+    /// published, after that batch. (One of no changes has no call: after it, from its load on.) So whatever history
     /// the world stands for keeps it. It does nothing.
     pub fn show_images(&self)
         ensures images { IsProper D.model (durable_of self.now) → IsShown D.model (durable_of self.now) }
-        ensures kept { IsProper D.model (durable_of self.now) → (j : Journal) → StandsFor self.now j
-            → (image : List ℕ) → D.model.may_leave (device_of (durable_of self.now)) image → Keeps j j image }
+        ensures kept { IsProper D.model (durable_of self.now) → (h : History) → StandsFor self.now h
+            → (image : List ℕ) → D.model.may_leave (device_of (durable_of self.now)) image → Keeps h h image }
     {
         self.durable.show_images();
     }
 
-    /// Tells a caller's proof that the world stands for a journal: for the one that begins at its settled table, with
+    /// Tells a caller's proof that the world stands for a history: for the one that begins at its settled table, with
     /// what is not settled. It does nothing.
-    pub fn journal(&self)
-        ensures { (j : Journal) × BeginsHere self.now j }
+    pub fn history(&self)
+        ensures { (h : History) × BeginsHere self.now h }
     {
         self.durable.sound();
     }

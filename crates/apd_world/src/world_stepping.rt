@@ -13,7 +13,7 @@ use apd_radio::Radio;
 
 impl<D: Disk, R: Radio> World<D, R> {
     ghost use Rattle.apd_world.specs.Following.{AreExact, AreFollowing};
-    ghost use Rattle.apd_world.specs.Journal.{Journal};
+    ghost use Rattle.apd_world.specs.History.{History};
     ghost use Rattle.apd_world.specs.Proper.{IsSafeAtBoth, IsStepMade};
     ghost use Rattle.apd_world.specs.StandsFor.{LeadsOn, StandsFor};
     ghost use Rattle.apd_world.specs.WorldParts.{durable_of, slots_of};
@@ -69,7 +69,7 @@ impl<D: Disk, R: Radio> World<D, R> {
     /// Makes one step, and tells its answer. What a stop leaves is as of the durable core's step; a step that applies
     /// an out leaves the durable core, and any other the slots. A stop before it, and one after it, is safe.
     ///
-    /// Whatever journal the world stands for, it stands for a later one after the step, in which what is new is what
+    /// Whatever history the world stands for, it stands for a later one after the step, in which what is new is what
     /// the step told; and what a stop leaves until then is the table after some of what happened, from the front, with
     /// all of which anything had been said.
     #[tactic(auto, using(crate::proofs::Moving::exact))]
@@ -79,8 +79,8 @@ impl<D: Disk, R: Radio> World<D, R> {
         ensures stops { IsSafeAtBoth D.model (durable_of self.old) (durable_of self.new) }
         ensures exact { AreExact R.model (slots_of self.old) → AreExact R.model (slots_of self.new) }
         ensures following { AreFollowing self.old → AreFollowing self.new }
-        ensures leads { (j : Journal) → StandsFor self.old j
-            → LeadsOn D.model (step.now ∷ []) (result ∷ []) self.old self.new j }
+        ensures leads { (h : History) → StandsFor self.old h
+            → LeadsOn D.model (step.now ∷ []) (result ∷ []) self.old self.new h }
     {
         self.durable.stops();
         let told = self.make(step);

@@ -1,4 +1,4 @@
-use Rattle.apd_world.specs.Journal.{after}
+use Rattle.apd_world.specs.History.{after}
 use Rattle.apd_world.proofs.Lasting.{given_lasts, lasts, listed_as_edited, shown_sound, told_so}
 use Rattle.apd_world.proofs.laws.what_was_said_is_so_in_what_is_kept.Goals as goal
 
@@ -9,7 +9,7 @@ pub returns-clause-sound : goal.returns-clause-sound
 returns-clause-sound c = λ old new image keeps. (after new keeps.front, keeps.shows, shown_sound image (after new keeps.front) keeps.shows)
 
 pub returns-clause-lasting : goal.returns-clause-lasting
-returns-clause-lasting c = λ hs heard given read old new image count fact journal goes keeps durable so. lasts hs heard given read old new goes image count fact journal keeps durable so
+returns-clause-lasting c = λ hs heard given read old new image count fact history goes keeps durable so. lasts hs heard given read old new goes image count fact history keeps durable so
 
 pub returns-clause-promise : goal.returns-clause-promise
 returns-clause-promise c = given_lasts

@@ -3,7 +3,7 @@ use Rattle.apd_core.proofs.Queues.{whole}
 use Rattle.apd_world.proofs.Words.{AreExact, AreOfSame, AreResumed, CoreState, HasNotResumed}
 use Rattle.apd_flusher.specs.Outside as flusher
 use Rattle.apd_store.specs.Outside.{store_device}
-use Rattle.apd_world.proofs.JournalBegins.{begins_at}
+use Rattle.apd_world.proofs.HistoryBegins.{begins_at}
 use Rattle.apd_world.proofs.ResumeLemmas.{begun_following, no_out_waits, resumed_exact}
 use Rattle.apd_world.proofs.restarting.begin_anew.Goals as goal
 

@@ -2,8 +2,8 @@ use Rattle.std.proofs.Common.{◌≡◌, Some, inl, refl}
 use Rattle.std.specs.Vec.{with_item}
 use Rattle.apd_slot.specs.Mending.{Begins}
 use Rattle.apd_world.proofs.Words.{slot_place, slots_of}
-use Rattle.apd_world.proofs.JournalBegins.{mended_leads}
-use Rattle.apd_world.proofs.JournalLemmas.{still_leads}
+use Rattle.apd_world.proofs.HistoryBegins.{mended_leads}
+use Rattle.apd_world.proofs.HistoryLemmas.{still_leads}
 use Rattle.apd_world.proofs.ReplaceLemmas.{mended_following}
 use Rattle.apd_world.proofs.SlotLemmas.{place_seen, slot_goes}
 use Rattle.apd_world.proofs.world.World.begin_mending.Goals as goal

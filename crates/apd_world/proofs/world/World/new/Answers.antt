@@ -1,6 +1,6 @@
 use Rattle.std.proofs.Common.{sym, ◌∙◌}
 use Rattle.apd_world.proofs.Words.{new_core}
-use Rattle.apd_world.proofs.JournalBegins.{begins_at}
+use Rattle.apd_world.proofs.HistoryBegins.{begins_at}
 use Rattle.apd_world.proofs.ResumeLemmas.{begun_following}
 use Rattle.apd_world.proofs.world.World.new.Goals as goal
 

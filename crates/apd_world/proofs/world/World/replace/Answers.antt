@@ -1,8 +1,8 @@
 use Rattle.std.proofs.Common.{◌≡◌, Some, Ok, Err, refl}
 use Rattle.std.specs.Vec.{with_item}
 use Rattle.apd_world.proofs.Words.{slot_place, slots_of}
-use Rattle.apd_world.proofs.JournalBegins.{replaced_leads}
-use Rattle.apd_world.proofs.JournalLemmas.{still_leads}
+use Rattle.apd_world.proofs.HistoryBegins.{replaced_leads}
+use Rattle.apd_world.proofs.HistoryLemmas.{still_leads}
 use Rattle.apd_world.proofs.ReplaceLemmas.{placed, replaced_following}
 use Rattle.apd_world.proofs.SlotLemmas.{place_seen}
 use Rattle.apd_world.proofs.world.World.replace.Goals as goal

@@ -1,6 +1,6 @@
 use Rattle.std.proofs.Common.{[], drop, refl, sym}
 use Rattle.std.proofs.lemmas.List.{append-nil}
-use Rattle.apd_world.proofs.JournalLemmas.{flight_kept}
+use Rattle.apd_world.proofs.HistoryLemmas.{flight_kept}
 use Rattle.apd_world.proofs.world.World.show_images.Goals as goal
 
 pub returns-clause-images : goal.returns-clause-images

@@ -1,5 +1,5 @@
 use Rattle.apd_world.proofs.FollowLemmas.{following}
-use Rattle.apd_world.proofs.JournalLemmas.{one_leads}
+use Rattle.apd_world.proofs.HistoryLemmas.{one_leads}
 use Rattle.apd_world.proofs.world.World.step.Goals as goal
 
 pub returns-clause-stops : goal.returns-clause-stops

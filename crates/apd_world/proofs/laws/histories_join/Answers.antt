@@ -1,5 +1,5 @@
-use Rattle.apd_world.proofs.JournalLemmas.{all_lead, then_leads, then_safely}
-use Rattle.apd_world.proofs.laws.journals_join.Goals as goal
+use Rattle.apd_world.proofs.HistoryLemmas.{all_lead, then_leads, then_safely}
+use Rattle.apd_world.proofs.laws.histories_join.Goals as goal
 
 pub returns-clause-made : goal.returns-clause-made
 returns-clause-made g c = λ steps tolds old new j made. all_lead g.D.Disk.model g.R.Radio.model steps tolds old new j made.in_turn

@@ -1,6 +1,6 @@
 use Rattle.std.proofs.Common.{refl}
-use Rattle.apd_world.proofs.JournalBegins.{begun, begun_stands}
-use Rattle.apd_world.proofs.world.World.journal.Goals as goal
+use Rattle.apd_world.proofs.HistoryBegins.{begun, begun_stands}
+use Rattle.apd_world.proofs.world.World.history.Goals as goal
 
 pub returns : goal.returns
 returns g c =

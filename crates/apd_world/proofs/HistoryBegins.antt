@@ -1,4 +1,4 @@
--- Worlds that stand for a journal: any, one that has just begun, and one whose radio was replaced.
+-- Worlds that stand for a history: any, one that has just begun, and one whose radio was replaced.
 use Rattle.std.proofs.Common.{◌≡◌, ℕ, List, [], ◌++◌, Option, Result, refl, sym, ap, subst, ◌∙◌, arith}
 use Rattle.std.specs.Prelude.{map}
 use Rattle.std.proofs.lemmas.List.{append-nil}
@@ -8,10 +8,10 @@ use Rattle.apd_core.specs.Held.{Queue, queue_of as held_queue}
 use Rattle.apd_core.specs.Invariant.{AreDecided}
 use Rattle.apd_core.proofs.HeldLemmas.{queue_of-no_outs}
 use Rattle.apd_core.proofs.Settling.{decided_fit}
-use Rattle.apd_world.specs.Journal.{Journal}
+use Rattle.apd_world.specs.History.{History}
 use Rattle.apd_world.specs.Mending.{IsMendedAt}
-use Rattle.apd_world.specs.StandsFor.{BeginsAt, IsJournalOf, LeadsSafely, StandsFor, waiting_outs}
-use Rattle.apd_world.proofs.JournalLemmas.{still_leads}
+use Rattle.apd_world.specs.StandsFor.{BeginsAt, IsHistoryOf, LeadsSafely, StandsFor, waiting_outs}
+use Rattle.apd_world.proofs.HistoryLemmas.{still_leads}
 use Rattle.apd_world.proofs.Moving.{MovedAt, moved_flows}
 use Rattle.apd_world.proofs.ReplaceLemmas.{mended_moved, replaced_moved, same_durable}
 
@@ -19,12 +19,12 @@ module _ {D R : Type 0} (w : World D R) where
   abbrev core : CoreState
   core = (durable_of w).core
 
-  -- the journal that begins at the settled table, with what is not settled
+  -- the history that begins at the settled table, with what is not settled
   module _ (is : IsCore core) where
     abbrev to_give : Recipient → List Out
     to_give r = waiting_outs r w ++ ready_for r core
 
-    abbrev pub begun : Journal
+    abbrev pub begun : History
     begun = record {
       confs = core.confs;
       first = core.settled;
@@ -39,7 +39,7 @@ module _ {D R : Type 0} (w : World D R) where
 
     pub begun_stands : StandsFor w begun
     begun_stands = record {
-      journal = record {
+      history = record {
         sound = is.sound;
         fit = decided_fit core.confs is.unsettled.happened core.unsettled core.settled is.unsettled.decided;
         durable = omega arith;
@@ -69,7 +69,7 @@ module _ {D R : Type 0} (w : World D R) where
 
     pub begins_at : BeginsAt confs table w
     begins_at = record {
-      journal = record { sound = sound; fit = tt; durable = omega arith; given = λ r. ([], refl); read = tt };
+      history = record { sound = sound; fit = tt; durable = omega arith; given = λ r. ([], refl); read = tt };
       confs = ap (λ (s : CoreState). s.confs) is;
       number = ap (λ (s : CoreState). s.number) is;
       settled = ap (λ (s : CoreState). s.settled) is;
@@ -79,9 +79,9 @@ module _ {D R : Type 0} (w : World D R) where
       waiting = λ r. sym (λ i. none_waits r i ++ none_ready r i);
     }
 
--- a call that moves no out leaves the journal
+-- a call that moves no out leaves the history
 module _ {D R : Type 0} (disk : DiskModel D) (radio : RadioModel R) (old new : World D R) (same : durable_of new ≡ durable_of old) (moved : (c : Bssid) → MovedAt radio old new c [] [])
-    (safe : IsSafe disk (durable_of old) (durable_of new)) (j : Journal) (stands : StandsFor old j) where
+    (safe : IsSafe disk (durable_of old) (durable_of new)) (j : History) (stands : StandsFor old j) where
   still_waits : (r : Recipient) → waiting_outs r new ≡ waiting_outs r old
   still_waits (Radio c) =
       moved_flows [] [] (slot_at (slots_of old) c) (slot_at (slots_of new) c) (moved c)
@@ -89,17 +89,17 @@ module _ {D R : Type 0} (disk : DiskModel D) (radio : RadioModel R) (old new : W
   still_waits Control = refl
 
   still_stands : StandsFor new j
-  still_stands = subst (λ X. X) (λ i. IsJournalOf (sym same i).core (λ r. sym (still_waits r) i) j) stands
+  still_stands = subst (λ X. X) (λ i. IsHistoryOf (sym same i).core (λ r. sym (still_waits r) i) j) stands
 
   pub unmoved_leads : LeadsSafely disk [] [] old new j j
   unmoved_leads = still_leads disk old new j safe stands still_stands
 
 module _ {D R : Type 0} (disk : DiskModel D) (radio : RadioModel R) (frames : R → Option (List (List ℕ))) (b : Bssid) (old new : World D R) where
-  pub replaced_leads : (other : R) (answer : Result R (R × WorldFault)) → IsReplaced disk radio frames b other answer old new → (j : Journal) → StandsFor old j → LeadsSafely disk [] [] old new j j
+  pub replaced_leads : (other : R) (answer : Result R (R × WorldFault)) → IsReplaced disk radio frames b other answer old new → (j : History) → StandsFor old j → LeadsSafely disk [] [] old new j j
   replaced_leads other answer h =
       unmoved_leads disk radio old new (same_durable disk radio frames b other old new answer h) (replaced_moved disk radio frames b other old new answer h) h.safe
 
   pub mended_leads : (spares : List R) (So : Slot R → Slot R → Type 0) (is : (was now : Slot R) → So was now → IsMended radio frames spares was now) (Idle : Type 0)
-      → IsMendedAt disk b So Idle old new → (j : Journal) → StandsFor old j → LeadsSafely disk [] [] old new j j
+      → IsMendedAt disk b So Idle old new → (j : History) → StandsFor old j → LeadsSafely disk [] [] old new j j
   mended_leads spares So is Idle h =
       unmoved_leads disk radio old new (ap durable_of h.only) (mended_moved disk radio frames b spares old new So is Idle h) h.safe

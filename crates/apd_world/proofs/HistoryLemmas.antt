@@ -1,4 +1,4 @@
--- A world goes on, and so does the journal that it stands for.
+-- A world goes on, and so does the history that it stands for.
 use Rattle.std.proofs.Common.{◌≡◌, ℕ, zero, suc, ◌+◌, ◌≤◌, List, [], ◌∷◌, ◌++◌, length, take, drop, refl, sym, ap, subst, ◌∙◌, arith, append_assoc, length-append}
 use Rattle.std.specs.List.{AllByRecursion}
 use Rattle.std.proofs.lemmas.List.{append-nil, length-take-le, take-append-drop, take-append-le}
@@ -10,7 +10,7 @@ use Rattle.apd_core.proofs.Queues.{all_weaker}
 use Rattle.apd_ctrl.specs.Texts.{text}
 use Rattle.apd_disk.proofs.Moments.{then_run, weaker}
 use Rattle.apd_mlme.proofs.TrueOutsLemmas.{all_both}
-use Rattle.apd_world.specs.Journal.{GoesOn, IsJournal, Journal, Keeps, SpeaksOf, after}
+use Rattle.apd_world.specs.History.{GoesOn, IsHistory, History, Keeps, SpeaksOf, after}
 use Rattle.apd_world.specs.StandsFor.{LeadsOn, LeadsSafely, LeadsTo, StandsFor, all_answers, answers_in, outs_in_steps, account_of, account_after, waiting_outs}
 use Rattle.apd_world.specs.declared.step.Told.TheVariants.{Answered as Read}
 use Rattle.apd_world.proofs.Accounts.{account_append, account_behind, account_state, answered_append, behind, said_append}
@@ -58,8 +58,8 @@ module _ {A : Type 0} (d : ℕ) (hs es front rest : List A) (le : d ≤ length h
   pub taken_within : d + length front ≤ length (hs ++ es)
   taken_within = let all = ap length whole ∙ length-append (take d hs ++ front) rest in let l = long in omega (arith, all, l)
 
--- ---- journals that go on
-then_goes : (es fs : List Happening) (m n : LastHeard) (g h : Recipient → List Out) (us vs : List Answer) (j k l : Journal) → GoesOn es m g us j k → GoesOn fs n h vs k l
+-- ---- histories that go on
+then_goes : (es fs : List Happening) (m n : LastHeard) (g h : Recipient → List Out) (us vs : List Answer) (j k l : History) → GoesOn es m g us j k → GoesOn fs n h vs k l
     → GoesOn (es ++ fs) n (λ r. g r ++ h r) (us ++ vs) j l
 then_goes es fs m n g h us vs j k l past more = record {
   only = more.only
@@ -69,7 +69,7 @@ then_goes es fs m n g h us vs j k l past more = record {
 }
 
 -- what is kept by one is kept by a later one
-kept_later : (es : List Happening) (m : LastHeard) (g : Recipient → List Out) (us : List Answer) (j k l : Journal) (image : List ℕ) → GoesOn es m g us k l → Keeps j k image → Keeps j l image
+kept_later : (es : List Happening) (m : LastHeard) (g : Recipient → List Out) (us : List Answer) (j k l : History) (image : List ℕ) → GoesOn es m g us k l → Keeps j k image → Keeps j l image
 kept_later es m g us j k l image goes keeps =
     let long = length-append k.happened es in
     let within = keeps.within in
@@ -81,7 +81,7 @@ kept_later es m g us j k l image goes keeps =
     })
 
 -- and since an earlier one
-kept_since : (es : List Happening) (m : LastHeard) (g : Recipient → List Out) (us : List Answer) (j k l : Journal) (image : List ℕ) → GoesOn es m g us j k → Keeps k l image → Keeps j l image
+kept_since : (es : List Happening) (m : LastHeard) (g : Recipient → List Out) (us : List Answer) (j k l : History) (image : List ℕ) → GoesOn es m g us j k → Keeps k l image → Keeps j l image
 kept_since es m g us j k l image goes keeps =
     record { front = keeps.front; all_durable = (let a = goes.durable in let b = keeps.all_durable in omega (arith, a, b)); within = keeps.within; shows = keeps.shows }
 
@@ -95,8 +95,8 @@ reads (Ask q) (Read answer) old new tells = ((q, tells.answer_is), tt)
 reads x (Read answer) old new tells = absurd tells
 reads x t old new tells = tt
 
--- ---- what a core's going on does to a journal
-module _ {D R : Type 0} (j : Journal) (old : World D R) (stands : StandsFor old j) where
+-- ---- what a core's going on does to a history
+module _ {D R : Type 0} (j : History) (old : World D R) (stands : StandsFor old j) where
   abbrev core : CoreState
   core = (durable_of old).core
 
@@ -113,12 +113,12 @@ module _ {D R : Type 0} (j : Journal) (old : World D R) (stands : StandsFor old 
       ∙ ap (run j.first j.confs) (take-append-drop j.durable j.happened)
 
   -- an image of the settled table, or of that after the batch in flight
-  pub flight_kept : (es : List Happening) (later : Journal) (image : List ℕ) → later.confs ≡ j.confs → later.first ≡ j.first → later.happened ≡ j.happened ++ es → ShowsFlight core left image → Keeps j later image
+  pub flight_kept : (es : List Happening) (later : History) (image : List ℕ) → later.confs ≡ j.confs → later.first ≡ j.first → later.happened ≡ j.happened ++ es → ShowsFlight core left image → Keeps j later image
   flight_kept es later image confs first happened shown =
       let front = take shown.count left in
       let rest = drop shown.count left ++ es in
       let split : left ++ es ≡ front ++ rest = ap (λ xs. xs ++ es) (sym (take-append-drop shown.count left)) ∙ append_assoc front (drop shown.count left) es in
-      let le = stands.journal.durable in
+      let le = stands.history.durable in
       let count = j.durable + length front in
       let within = taken_within j.durable j.happened es front rest le split in
       let long = ap length happened in
@@ -135,14 +135,14 @@ module _ {D R : Type 0} (j : Journal) (old : World D R) (stands : StandsFor old 
     pub settles : Settles left es g core after_core
     settles = goes.settles left stands.unsettled
 
-    abbrev pub later : Journal
+    abbrev pub later : History
     later = record j { happened = j.happened ++ es; durable = j.durable + length settles.settled; heard = m; given = λ r. j.given r ++ said r; read = j.read ++ answers }
 
     now_durable : take later.durable later.happened ≡ take j.durable j.happened ++ settles.settled
-    now_durable = taken j.durable j.happened es settles.settled settles.left stands.journal.durable settles.split
+    now_durable = taken j.durable j.happened es settles.settled settles.left stands.history.durable settles.split
 
     now_left : drop later.durable later.happened ≡ settles.left
-    now_left = dropped j.durable j.happened es settles.settled settles.left stands.journal.durable settles.split
+    now_left = dropped j.durable j.happened es settles.settled settles.left stands.history.durable settles.split
 
     now_outs : (r : Recipient) → outs_run r j.first j.confs (take later.durable later.happened)
         ≡ outs_run r j.first j.confs (take j.durable j.happened) ++ outs_run r core.settled core.confs settles.settled
@@ -153,7 +153,7 @@ module _ {D R : Type 0} (j : Journal) (old : World D R) (stands : StandsFor old 
     given_so : (r : Recipient) → j.owed r ++ outs_run r j.first j.confs (take later.durable later.happened)
         ≡ (j.given r ++ said r) ++ (waiting_outs r new ++ ready_for r after_core)
     given_so r =
-        let front = stands.journal.given r in
+        let front = stands.history.given r in
         let outs = outs_run r j.first j.confs (take j.durable j.happened) in
         let more = outs_run r core.settled core.confs settles.settled in
         let wait = waiting_outs r old in
@@ -170,7 +170,7 @@ module _ {D R : Type 0} (j : Journal) (old : World D R) (stands : StandsFor old 
     still_read : (answer : Answer) → SpeaksOf j answer → SpeaksOf later answer
     still_read answer s =
         let le = s.durable in
-        let all = stands.journal.durable in
+        let all = stands.history.durable in
         let within : s.count ≤ length j.happened = omega (arith, le, all) in
         record {
           count = s.count;
@@ -187,19 +187,19 @@ module _ {D R : Type 0} (j : Journal) (old : World D R) (stands : StandsFor old 
       is = ap (λ (a : Answer). a.text) asked.1 ∙ (λ i. text (stands.settled i) (stands.confs i) (ap (λ (a : Answer). a.query) (sym asked.1) i));
     })
 
-    later_journal : IsJournal later
-    later_journal = record {
-      sound = stands.journal.sound;
-      fit = fit-append j.confs j.happened es j.first stands.journal.fit (subst (λ cs. AreFit (run j.first j.confs j.happened) cs es) stands.confs (subst (λ (s : State). AreFit s core.confs es) front_is goes.fit));
-      durable = taken_within j.durable j.happened es settles.settled settles.left stands.journal.durable settles.split;
+    later_history : IsHistory later
+    later_history = record {
+      sound = stands.history.sound;
+      fit = fit-append j.confs j.happened es j.first stands.history.fit (subst (λ cs. AreFit (run j.first j.confs j.happened) cs es) stands.confs (subst (λ (s : State). AreFit s core.confs es) front_is goes.fit));
+      durable = taken_within j.durable j.happened es settles.settled settles.left stands.history.durable settles.split;
       given = λ r. (waiting_outs r new ++ ready_for r after_core, given_so r);
-      read = all_both (SpeaksOf later) j.read answers (all_weaker (SpeaksOf j) (SpeaksOf later) still_read j.read stands.journal.read) (all_weaker (IsOf core) (SpeaksOf later) now_read answers of);
+      read = all_both (SpeaksOf later) j.read answers (all_weaker (SpeaksOf j) (SpeaksOf later) still_read j.read stands.history.read) (all_weaker (IsOf core) (SpeaksOf later) now_read answers of);
     }
 
     pub stands_later : StandsFor new later
-    unfolding later_journal
+    unfolding later_history
     stands_later = record {
-      journal = later_journal;
+      history = later_history;
       confs = goes.confs ∙ stands.confs;
       number = settles.number ∙ ap (λ n. n + length settles.settled) stands.number ∙ omega arith;
       settled = settles.state ∙ settled_then settles.settled ∙ ap (run j.first j.confs) (sym now_durable);
@@ -211,7 +211,7 @@ module _ {D R : Type 0} (j : Journal) (old : World D R) (stands : StandsFor old 
 
 -- ---- steps of a world
 -- none
-pub none_leads : {D R : Type 0} (old new : World D R) (j : Journal) → StandsFor new j → LeadsTo [] [] old new j j
+pub none_leads : {D R : Type 0} (old new : World D R) (j : History) → StandsFor new j → LeadsTo [] [] old new j j
 none_leads old new j stands = record {
   each = refl;
   stands = stands;
@@ -222,7 +222,7 @@ none_leads old new j stands = record {
 }
 
 -- some, and then others
-pub then_leads : {D R : Type 0} (xs ys : List Step) (ts us : List Told) (a mid b : World D R) (j k l : Journal) → LeadsTo xs ts a mid j k → LeadsTo ys us mid b k l → LeadsTo (xs ++ ys) (ts ++ us) a b j l
+pub then_leads : {D R : Type 0} (xs ys : List Step) (ts us : List Told) (a mid b : World D R) (j k l : History) → LeadsTo xs ts a mid j k → LeadsTo ys us mid b k l → LeadsTo (xs ++ ys) (ts ++ us) a b j l
 then_leads xs ys ts us a mid b j k l past more = record {
   each = length-append ts us ∙ (λ i. past.each i + more.each i) ∙ sym (length-append xs ys);
   stands = more.stands;
@@ -244,25 +244,25 @@ then_leads xs ys ts us a mid b j k l past more = record {
 }
 
 module _ {D R : Type 0} (disk : DiskModel D) where
-  abbrev Safely : List Step → List Told → World D R → World D R → Journal → Journal → Type 0
+  abbrev Safely : List Step → List Told → World D R → World D R → History → History → Type 0
   Safely xs ts a b j k = LeadsSafely disk xs ts a b j k
 
   -- what a safe change leaves is kept
-  pub safe_keeps : (es : List Happening) (a b : World D R) (j later : Journal) → IsSafe disk (durable_of a) (durable_of b) → StandsFor a j → later.confs ≡ j.confs → later.first ≡ j.first → later.happened ≡ j.happened ++ es
+  pub safe_keeps : (es : List Happening) (a b : World D R) (j later : History) → IsSafe disk (durable_of a) (durable_of b) → StandsFor a j → later.confs ≡ j.confs → later.first ≡ j.first → later.happened ≡ j.happened ++ es
       → IsProper disk (durable_of a) → LeavesOnly disk (device_of (durable_of a)) (device_of (durable_of b)) (Keeps j later)
   safe_keeps es a b j later safe stands confs first happened proper =
       weaker disk (device_of (durable_of a)) (device_of (durable_of b)) (ShowsEither (durable_of a).core) (Keeps j later)
       (λ image either. flight_kept j a stands es later image confs first happened (shows_flight (durable_of a).core (drop j.durable j.happened) stands.unsettled image either)) (safe.inside proper)
 
-  -- nothing is made: the journal stays
-  pub still_leads : (a b : World D R) (j : Journal) → IsSafe disk (durable_of a) (durable_of b) → StandsFor a j → StandsFor b j → Safely [] [] a b j j
+  -- nothing is made: the history stays
+  pub still_leads : (a b : World D R) (j : History) → IsSafe disk (durable_of a) (durable_of b) → StandsFor a j → StandsFor b j → Safely [] [] a b j j
   still_leads a b j safe before after = record {
     leads = none_leads a b j after;
     proper = safe.proper;
     keeps = safe_keeps [] a b j j safe before refl refl (sym (append-nil j.happened));
   }
 
-  pub then_safely : (xs ys : List Step) (ts us : List Told) (a mid b : World D R) (j k l : Journal) → Safely xs ts a mid j k → Safely ys us mid b k l → Safely (xs ++ ys) (ts ++ us) a b j l
+  pub then_safely : (xs ys : List Step) (ts us : List Told) (a mid b : World D R) (j k l : History) → Safely xs ts a mid j k → Safely ys us mid b k l → Safely (xs ++ ys) (ts ++ us) a b j l
   then_safely xs ys ts us a mid b j k l past more =
       let d = device_of (durable_of a) in
       let e = device_of (durable_of mid) in
@@ -277,11 +277,11 @@ module _ {D R : Type 0} (disk : DiskModel D) where
 
 module _ {D R : Type 0} (disk : DiskModel D) (radio : RadioModel R) where
   -- one
-  module _ (x : Step) (t : Told) (a b : World D R) (step : IsWorldStep radio x t a b) (made : IsStepMade disk t (durable_of a) (durable_of b)) (j : Journal) (stands : StandsFor a j) where
+  module _ (x : Step) (t : Told) (a b : World D R) (step : IsWorldStep radio x t a b) (made : IsStepMade disk t (durable_of a) (durable_of b)) (j : History) (stands : StandsFor a j) where
     abbrev before : CoreState
     before = (durable_of a).core
 
-    -- what happens by what is told inside happens by what is told, from where the journal stands
+    -- what happens by what is told inside happens by what is told, from where the history stands
     one_happens : one_more before.confs x step.inside (record { happened = []; state = front_of before; heard = before.heard }) ≡ one_more j.confs x t (account_of j)
     one_happens =
         happens_alike radio a b before.confs x step.inside t (record { happened = []; state = front_of before; heard = before.heard }) step.joins
@@ -309,7 +309,7 @@ module _ {D R : Type 0} (disk : DiskModel D) (radio : RadioModel R) where
     one_read : AllByRecursion (IsOf before) (all_answers (t ∷ []))
     one_read = all_both (IsOf before) (answers_in t) [] (subst (AllByRecursion (IsOf before)) (said_alike radio a b x step.inside t step.joins).1 (reads x step.inside (durable_of a) (durable_of b) step.durable.tells)) tt
 
-    abbrev next : Journal
+    abbrev next : History
     next = later j a stands es heard gives b one_goes one_heard (λ r. outs_in_steps r (x ∷ []) (t ∷ [])) one_flows (all_answers (t ∷ [])) one_read
 
     pub one_leads : LeadsOn disk (x ∷ []) (t ∷ []) a b j
@@ -327,7 +327,7 @@ module _ {D R : Type 0} (disk : DiskModel D) (radio : RadioModel R) where
     }
 
   -- all
-  pub all_lead : (xs : List Step) (ts : List Told) (a b : World D R) (j : Journal) → AreMadeInTurn disk radio xs ts a b → StandsFor a j → LeadsOn disk xs ts a b j
+  pub all_lead : (xs : List Step) (ts : List Told) (a b : World D R) (j : History) → AreMadeInTurn disk radio xs ts a b → StandsFor a j → LeadsOn disk xs ts a b j
   all_lead [] [] a b j h stands = record { later = j; safely = subst (λ w. LeadsSafely disk [] [] a w j j) (sym h.0) (still_leads disk a a j h.1 stands stands) }
   all_lead (x ∷ xs) (t ∷ ts) a b j h stands =
       let first = one_leads x t a h.0 h.1 h.2 j stands in
@@ -342,7 +342,7 @@ module _ {D R : Type 0} (disk : DiskModel D) (radio : RadioModel R) where
   safe_first xs ts a b h = absurd h
 
   -- since so many of them
-  pub lead_since : (n : ℕ) (xs : List Step) (ts : List Told) (a b : World D R) (j : Journal) → AreMadeInTurn disk radio xs ts a b → StandsFor a j → LeadsSince disk radio n xs ts a b j
+  pub lead_since : (n : ℕ) (xs : List Step) (ts : List Told) (a b : World D R) (j : History) → AreMadeInTurn disk radio xs ts a b → StandsFor a j → LeadsSince disk radio n xs ts a b j
   lead_since zero xs ts a b j h stands =
       let all = all_lead xs ts a b j h stands in
       let safe = safe_first xs ts a b h in

@@ -7,15 +7,15 @@ use Rattle.apd_disk.specs.FileMore.{HasMore, has_more}
 use Rattle.apd_disk.specs.SystemFile.{FileDisk}
 use Rattle.apd_disk.specs.declared.record.FileRecord.{FileRecord}
 use Rattle.apd_radio.specs.Model.{RadioModel}
-use Rattle.apd_world.specs.Journal.{Journal}
+use Rattle.apd_world.specs.History.{History}
 use Rattle.apd_world.specs.SafelyMade.{AreMadeInTurn}
 use Rattle.apd_world.specs.StandsFor.{LeadsTo, StandsFor}
 use Rattle.apd_world.specs.WorldParts.{durable_of}
 use Rattle.apd_world.specs.declared.step.Step.{Step}
 use Rattle.apd_world.specs.declared.step.Told.{Told}
 use Rattle.apd_world.specs.declared.world.World.{World}
-use Rattle.apd_serve.specs.FileWorld.{file_of, first_journal}
-use Rattle.apd_serve.proofs.laws.a_stop_leaves_a_file_that_keeps_the_journal.Goals as goal
+use Rattle.apd_serve.specs.FileWorld.{file_of, first_history}
+use Rattle.apd_serve.proofs.laws.a_stop_leaves_a_file_that_keeps_the_history.Goals as goal
 
 -- what a record says, by the one with more calls
 leaves_of : (known new : FileRecord) (more : HasMore known new) (image : List ℕ)
@@ -41,8 +41,8 @@ module _ {R : Type 0} (mid new : World FileDisk R) where
       (subst (λ (ts : List Told). AreMadeInTurn file_model radio [] ts mid new) no_told
       (subst (λ (xs : List Step). AreMadeInTurn file_model radio xs tolds mid new) no_step made)).0
 
-  -- and no more of its journal is durable
-  as_durable : (between later : Journal) → new ≡ mid → StandsFor mid between → StandsFor new later
+  -- and no more of its history is durable
+  as_durable : (between later : History) → new ≡ mid → StandsFor mid between → StandsFor new later
       → later.before ≡ between.before → later.durable ≤ between.durable
   as_durable between later same was is before =
       omega (arith, was.number, is.number, before, ap (λ (w : World FileDisk R). (durable_of w).core.number) same)
@@ -50,9 +50,9 @@ module _ {R : Type 0} (mid new : World FileDisk R) where
 pub returns-clause-now : goal.returns-clause-now
 returns-clause-now g c = λ known confs steps tolds begun new over made.
     let n = length steps in
-    let j = first_journal over in
+    let j = first_history over in
     let since = made.leads j over.begins n in
-    let joined = c.journals_join.ensures.leads (take n steps) (drop n steps) (take n tolds) (drop n tolds) begun
+    let joined = c.histories_join.ensures.leads (take n steps) (drop n steps) (take n tolds) (drop n tolds) begun
     since.mid new j since.between since.later since.first.leads since.rest.leads in
     let leads : LeadsTo steps tolds begun new j since.later =
     subst (λ (ts : List Told). LeadsTo steps ts begun new j since.later) (take-append-drop n tolds)
@@ -61,13 +61,13 @@ returns-clause-now g c = λ known confs steps tolds begun new over made.
     let same = none_made since.mid new g.R.Radio.model (drop n steps) (drop n tolds)
     (drop_all n steps (omega arith)) (drop_all n tolds (omega (arith, leads.each))) since.others in
     let no_more = as_durable since.mid new since.between since.later same since.first.leads.stands since.rest.leads.stands
-    (ap (λ (k : Journal). k.before) since.rest.leads.goes_on.only) in
+    (ap (λ (k : History). k.before) since.rest.leads.goes_on.only) in
     let first = since.first.keeps over.proper in
     let rest = since.rest.keeps (since.first.proper over.proper) in
     let file = has_more known (file_of since.mid).known (file_of new).known
     (has_more known (file_of begun).known (file_of since.mid).known over.file first.goes_on) rest.goes_on in
     record {
-      journal = since.later;
+      history = since.later;
       leads = leads;
       file = file;
       keeps = λ image left.
@@ -82,7 +82,7 @@ returns-clause-now g c = λ known confs steps tolds begun new over made.
 
 pub returns-clause-since : goal.returns-clause-since
 returns-clause-since g c = λ known confs steps tolds begun new over made count.
-    let since = made.leads (first_journal over) over.begins count in
+    let since = made.leads (first_history over) over.begins count in
     let first = since.first.keeps over.proper in
     let rest = since.rest.keeps (since.first.proper over.proper) in
     let before = has_more known (file_of begun).known (file_of since.mid).known over.file first.goes_on in
