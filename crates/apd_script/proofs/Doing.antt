@@ -16,7 +16,7 @@ use Rattle.apd_frame.specs.Outcome.{outcome}
 use Rattle.apd_mlme.specs.Happening.{Happening}
 use Rattle.apd_radio.specs.Model.{RadioModel}
 use Rattle.apd_store.specs.declared.fault.StoreFault.{StoreFault}
-use Rattle.apd_world.specs.Ending.{HasEnded, HasFailedCore, HasGoneUnrefused}
+use Rattle.apd_world.specs.Ending.{HasEnded, HasFailedCore, HasMetNoRefusal}
 use Rattle.apd_world.specs.Proper.{IsSafe, IsWhole}
 use Rattle.apd_world.specs.WorldParts.{durable_of}
 use Rattle.apd_world.specs.declared.step.Step.{Step}
@@ -57,7 +57,7 @@ still_undone This That r that h = undone_as This That IsNoRefusal IsNoRefusal r 
 
 module _ {D R : Type 0} (disk : DiskModel D) (radio : RadioModel R) where
   -- what a call of the world ended with
-  pub short : {A : Type 0} (r : Result A WorldFault) (old new : World D R) → OnErr r (HasGoneUnrefused disk radio old new) → IfErr r (λ why. why ≡ world_fault.NoMemory)
+  pub short : {A : Type 0} (r : Result A WorldFault) (old new : World D R) → OnErr r (HasMetNoRefusal disk radio old new) → IfErr r (λ why. why ≡ world_fault.NoMemory)
       → IfErr r (λ why. IsShort disk radio why old new)
   short (Ok x) old new gone memory = tt
   short (Err why) old new gone memory = record { memory = memory; gone = gone }

@@ -9,7 +9,7 @@ use Rattle.apd_slot.specs.Slots.{bssid_of}
 use Rattle.apd_slot.specs.declared.slot.Slot.{Slot}
 use Rattle.apd_store.specs.declared.fault.StoreFault.TheVariants as store_fault
 use Rattle.apd_world.specs.BegunAnew.{IsHonestlyNotBegunAnew, IsNotBegunAnew}
-use Rattle.apd_world.specs.Ending.{HasEnded, HasFailedCore, HasGoneUnrefused}
+use Rattle.apd_world.specs.Ending.{HasEnded, HasFailedCore, HasMetNoRefusal}
 use Rattle.apd_world.specs.Outside.{device_of}
 use Rattle.apd_world.specs.Proper.{IsWhole}
 use Rattle.apd_world.specs.Resumed.{EndsAtSlot}
@@ -58,7 +58,7 @@ module _ {D R : Type 0} (disk : DiskModel D) (radio : RadioModel R) where
   -- a hand of a world ended, for want of memory
   pub record IsShort (why : WorldFault) (old new : World D R) : Type 0 where
     pub memory : why ≡ world_fault.NoMemory
-    pub gone : HasGoneUnrefused disk radio old new
+    pub gone : HasMetNoRefusal disk radio old new
 
   -- what a device holds is no store, or not read, or a slot of these interfaces did not resume by it, or memory ran out
   abbrev pub IsBeginningFault : WorldFault → D → D → List Conf → Type 0

@@ -6,7 +6,7 @@ ghost use Rattle.apd_script.specs.Script.{IsRunOn};
 ghost use Rattle.apd_slot.specs.Slots.{bssid_of};
 ghost use Rattle.apd_store.specs.Image.{Shows};
 
-use crate::script::{ScriptFault, begin_world, run_script};
+use crate::script::{ScriptFault, begin_from, run_script};
 use apd_base::Moment;
 use apd_base::limits::DEVICE_LENGTH;
 use apd_conf::Confs;
@@ -77,7 +77,7 @@ fn run_from<D: Disk + Drop, R: Radio, I: BufRead + Drop, W: Write>(
         → length spares.items ≡ STOPS * length confs → IsFaultOn D.model R.model
         STOPS disk confs (I.remaining reader) why) }
 {
-    let world = begin_world(alloc, disk, confs, slots, Moment(0))?;
+    let world = begin_from(alloc, disk, confs, slots, Moment(0))?;
     run_script(alloc, world, reader, writer, spares)
 }
 

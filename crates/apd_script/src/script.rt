@@ -34,7 +34,7 @@ use apd_base::limits::MAX_SCRIPT;
 use apd_disk::Disk;
 use apd_radio::Radio;
 use apd_world::World;
-pub(crate) use beginning::begin_world;
+pub(crate) use beginning::begin_from;
 pub use fault::ScriptFault;
 use fault::reader_fault;
 pub use line::exactly_one_line;

@@ -5,7 +5,7 @@ use Rattle.std.specs.Option.{unwrap_or}
 use Rattle.std.specs.Prelude.{IfErr, IsErrAnd, OnErr, OnOk, replicate}
 use Rattle.std.proofs.lemmas.List.Elements.{All-cons, All-nil}
 use Rattle.std.proofs.lemmas.Result.{IfErr-weaker}
-use Rattle.apd_world.proofs.Words.{AreMadeInTurn, AreSafelyMade, AreSettled, Call, Called, ComesTo, Commit, DiskModel, Done, DurableCore, Ends, GoesQuietly, HasEnded, HasFailedCore, HasGoneUnrefused, HasNoBatch, HasNoCall, HasNoReceipt, Idle, IsAtRest, IsEnd, IsInStep, IsNoOtherRefusal, IsNoRefusal, IsRound, IsWhole, Loaded, NoMemory, Nothing, Publish, Published, RadioModel, Step, StoreFault, Take, Tells, Told, World, WorldFault, answer_of, durable_of, flusher_of, phase_of, round, commit_of, waiting_receipt}
+use Rattle.apd_world.proofs.Words.{AreMadeInTurn, AreSafelyMade, AreSettled, Call, Called, IsRoundAnswer, Commit, DiskModel, Done, DurableCore, Ends, GoesQuietly, HasEnded, HasFailedCore, HasMetNoRefusal, HasNoBatch, HasNoCall, HasNoReceipt, Idle, IsAtRest, IsEnd, IsInStep, IsAtWorstShort, IsNoRefusal, IsRound, IsWhole, Loaded, NoMemory, Nothing, Publish, Published, RadioModel, Step, StoreFault, Take, Tells, Told, World, WorldFault, answer_of, durable_of, flusher_of, phase_of, round, commit_of, waiting_receipt}
 use Rattle.apd_store.specs.declared.fault.StoreFault.TheVariants as store_fault
 use Rattle.apd_core.specs.declared.publish_fault.PublishFault.TheVariants as publish_fault
 use Rattle.apd_world.specs.declared.fault.WorldFault.TheVariants as world_fault
@@ -34,8 +34,8 @@ device_told commit.Nothing fault w ends is = absurd (let no : store_fault.Failed
 device_told commit.Foreign fault w ends is = absurd (let no : store_fault.Failed ≡ store_fault.Device = sym ends ∙ is in cc)
 device_told answer fault w ends is = absurd ends
 
-failed_core : {D : Type 0} (disk : DiskModel D) (old new : DurableCore D) (answer : Commit) → Ends answer store_fault.Failed new → ComesTo disk answer old new → (old.core.failed ≡ true → new.core.failed ≡ true) → new.core.failed ≡ true
-failed_core disk old new (commit.Refused told) ends comes still = still (subst (λ (e : StoreFault). ComesTo disk (commit.Refused e) old new) (sym ends) comes)
+failed_core : {D : Type 0} (disk : DiskModel D) (old new : DurableCore D) (answer : Commit) → Ends answer store_fault.Failed new → IsRoundAnswer disk answer old new → (old.core.failed ≡ true → new.core.failed ≡ true) → new.core.failed ≡ true
+failed_core disk old new (commit.Refused told) ends comes still = still (subst (λ (e : StoreFault). IsRoundAnswer disk (commit.Refused e) old new) (sym ends) comes)
 failed_core disk old new commit.Nothing ends comes still =
     ⊎_elim still (λ none. ⊎_elim (λ fails. fails) (λ some. absurd (some (ap (λ (w : DurableCore _). w.core.unsettled) comes.0 ∙ none))) ends.1) comes.1
 failed_core disk old new commit.Foreign ends comes still = absurd comes
@@ -47,7 +47,7 @@ module _ {D R : Type 0} (disk : DiskModel D) (radio : RadioModel R) where
   abbrev IsShort : DurableCore D → Commit → Type 0
   IsShort w answer = (HasNoCall w × HasNoReceipt w) ⊎ (answer ≡ commit.NoMemory)
 
-  publish_short : (t : Told) (d e : DurableCore D) → Tells Publish t d e → IsShort d (unwrap_or (commit_of t) commit.Nothing) → IsNoOtherRefusal t
+  publish_short : (t : Told) (d e : DurableCore D) → Tells Publish t d e → IsShort d (unwrap_or (commit_of t) commit.Nothing) → IsAtWorstShort t
   publish_short (Published (Ok x)) d e h way = inl tt
   publish_short (Published (Err publish_fault.NoMemory)) d e h way = inr refl
   publish_short (Published (Err publish_fault.Foreign)) d e h way = ⊎_elim
@@ -56,24 +56,24 @@ module _ {D R : Type 0} (disk : DiskModel D) (radio : RadioModel R) where
   publish_short Nothing d e h way = inl tt
   publish_short t d e h way = absurd h
 
-  call_short : (t : Told) (rest : Commit) (d e : DurableCore D) → Tells Call t d e → IsShort d (unwrap_or (commit_of t) rest) → IsNoOtherRefusal t × IsShort e rest
+  call_short : (t : Told) (rest : Commit) (d e : DurableCore D) → Tells Call t d e → IsShort d (unwrap_or (commit_of t) rest) → IsAtWorstShort t × IsShort e rest
   call_short (Called (Ok x)) rest d e h way = (inl tt, ⊎_elim (λ none. no_call_left (phase_of (flusher_of d)) none.0 h.some_call) (λ is. inr is) way)
   call_short (Called (Err fault)) rest d e h way =
       ⊎_elim (λ none. no_call_left (phase_of (flusher_of d)) none.0 h.some_call) (λ is. absurd (let no : commit.Refused fault ≡ commit.NoMemory = is in cc)) way
   call_short Nothing rest d e h way = (inl tt, subst (λ w. IsShort w rest) (sym h.1) way)
   call_short t rest d e h way = absurd h
 
-  calls_short : (n : ℕ) (ts : List Told) (a b : World D R) → AreMadeInTurn disk radio (replicate n Call ++ Publish ∷ []) ts a b → IsShort (durable_of a) (answer_of ts) → All IsNoOtherRefusal ts
+  calls_short : (n : ℕ) (ts : List Told) (a b : World D R) → AreMadeInTurn disk radio (replicate n Call ++ Publish ∷ []) ts a b → IsShort (durable_of a) (answer_of ts) → All IsAtWorstShort ts
   calls_short zero (t ∷ []) a b h way =
-      All-cons IsNoOtherRefusal t [] (publish_short t (durable_of a) (durable_of h.0) (subst (λ z. Tells Publish z (durable_of a) (durable_of h.0)) (sym h.1.joins.0) h.1.durable.tells) way) (All-nil IsNoOtherRefusal)
+      All-cons IsAtWorstShort t [] (publish_short t (durable_of a) (durable_of h.0) (subst (λ z. Tells Publish z (durable_of a) (durable_of h.0)) (sym h.1.joins.0) h.1.durable.tells) way) (All-nil IsAtWorstShort)
   calls_short (suc n) (t ∷ ts) a b h way =
       let one = call_short t (answer_of ts) (durable_of a) (durable_of h.0) (subst (λ z. Tells Call z (durable_of a) (durable_of h.0)) (sym h.1.joins.0) h.1.durable.tells) way in
-      All-cons IsNoOtherRefusal t ts one.0 (calls_short n ts h.0 b h.3 one.1)
+      All-cons IsAtWorstShort t ts one.0 (calls_short n ts h.0 b h.3 one.1)
   calls_short zero (t ∷ ts) a b h way = absurd h.3
   calls_short n ts a b h way = absurd h
 
   -- a core that can give a batch has none in flight, so no call and no receipt is left
-  take_short : (t : Told) (rest : Commit) (d e : DurableCore D) → Tells Take t d e → IsWhole disk d → unwrap_or (commit_of t) rest ≡ commit.NoMemory → IsNoOtherRefusal t × IsShort e rest
+  take_short : (t : Told) (rest : Commit) (d e : DurableCore D) → Tells Take t d e → IsWhole disk d → unwrap_or (commit_of t) rest ≡ commit.NoMemory → IsAtWorstShort t × IsShort e rest
   take_short (Loaded (Ok x)) rest d e h whole is = (inl tt, inr is)
   take_short (Loaded (Err fault)) rest d e h whole is = absurd (let no : commit.Refused fault ≡ commit.NoMemory = is in cc)
   take_short Nothing rest d e h whole is = (inl tt, inr is)
@@ -82,10 +82,10 @@ module _ {D R : Type 0} (disk : DiskModel D) (radio : RadioModel R) where
       (inl tt, subst (λ w. IsShort w rest) (sym h.1) (inl (inl between.idle, (between.receipt, λ done. let no : Idle ≡ Done = sym between.idle ∙ done in cc))))
   take_short t rest d e h whole is = absurd h
 
-  round_short : (n : ℕ) (ts : List Told) (a b : World D R) → AreMadeInTurn disk radio (round n) ts a b → IsWhole disk (durable_of a) → commit.NoMemory ≡ answer_of ts → All IsNoOtherRefusal ts
+  round_short : (n : ℕ) (ts : List Told) (a b : World D R) → AreMadeInTurn disk radio (round n) ts a b → IsWhole disk (durable_of a) → commit.NoMemory ≡ answer_of ts → All IsAtWorstShort ts
   round_short n (t ∷ ts) a b h whole is_short =
       let one = take_short t (answer_of ts) (durable_of a) (durable_of h.0) (subst (λ z. Tells Take z (durable_of a) (durable_of h.0)) (sym h.1.joins.0) h.1.durable.tells) whole (sym is_short) in
-      All-cons IsNoOtherRefusal t ts one.0 (calls_short n ts h.0 b h.3 one.1)
+      All-cons IsAtWorstShort t ts one.0 (calls_short n ts h.0 b h.3 one.1)
   round_short n ts a b h whole is_short = absurd h
 
 module _ {D R : Type 0} (disk : DiskModel D) (radio : RadioModel R) where
@@ -123,7 +123,7 @@ module _ {D R : Type 0} (disk : DiskModel D) (radio : RadioModel R) where
     still_fails : (durable_of b).core.failed ≡ true → (durable_of c).core.failed ≡ true
     still_fails = kept disk radio (λ w. (durable_of w).core.failed ≡ true) (λ x t v w step made. stays_failed (durable_of v) (durable_of w) x step.inside step.durable.tells) (round one.calls) one.tolds b c one.made.in_turn
 
-    pub ends_failed : (r : Result (Unit {0}) WorldFault) → IsEnd answer (durable_of c) (Some r) → ComesTo disk answer (durable_of b) (durable_of c) → IfErr r (λ fault. HasFailedCore fault c)
+    pub ends_failed : (r : Result (Unit {0}) WorldFault) → IsEnd answer (durable_of c) (Some r) → IsRoundAnswer disk answer (durable_of b) (durable_of c) → IfErr r (λ fault. HasFailedCore fault c)
     ends_failed (Err (world_fault.Store store_fault.Failed)) end comes = failed_core disk (durable_of b) (durable_of c) answer end comes still_fails
     ends_failed r end comes = tt
 
@@ -139,9 +139,9 @@ module _ {D R : Type 0} (disk : DiskModel D) (radio : RadioModel R) where
   if_ended_then r xs ts a b c past none = IfErr-weaker r _ _ (λ fault. ended_then fault xs ts a b c past none)
 
   -- for want of memory after some steps
-  pub memory_end : (fault : WorldFault) (a b : World D R) → fault ≡ world_fault.NoMemory → HasGoneUnrefused disk radio a b → HasEnded disk radio fault a b
+  pub memory_end : (fault : WorldFault) (a b : World D R) → fault ≡ world_fault.NoMemory → HasMetNoRefusal disk radio a b → HasEnded disk radio fault a b
   memory_end fault a b is gone = subst (λ (e : WorldFault). HasEnded disk radio e a b) (sym is) (record { last = b; before = gone; way = inl refl })
 
-  pub memory_ends : {A : Type 0} (r : Result A WorldFault) (a b : World D R) → IfErr r (λ fault. fault ≡ world_fault.NoMemory) → OnErr r (HasGoneUnrefused disk radio a b) → IfErr r (λ fault. HasEnded disk radio fault a b)
+  pub memory_ends : {A : Type 0} (r : Result A WorldFault) (a b : World D R) → IfErr r (λ fault. fault ≡ world_fault.NoMemory) → OnErr r (HasMetNoRefusal disk radio a b) → IfErr r (λ fault. HasEnded disk radio fault a b)
   memory_ends (Ok x) a b is gone = tt
   memory_ends (Err fault) a b is gone = memory_end fault a b is gone

@@ -4,7 +4,7 @@ use Rattle.std.proofs.lemmas.Bool.{false≢true, lt-leb, ne_eqb}
 use Rattle.std.specs.Prelude.{⊤, ◌≢◌, IsTrue, is_some, not, replicate, nat_le, ◌||◌, ◌==◌}
 use Rattle.std.specs.Option.{option_or, unwrap_or}
 use Rattle.std.proofs.lemmas.List.{replicate_more}
-use Rattle.apd_world.proofs.Words.{AreMadeInTurn, AreSafelyMade, Batch, Busy, Call, Called, Change, ComesTo, Commit, Commits, Committer, CoreState, DiskModel, Done, DurableCore, Failed, Flusher, GoesQuietly, HasNoBatch, HasNoCall, HasNoChangesNext, HasNoReceipt, HasRisen, HasRoomForNext, Idle, IsCalled, IsDurable, IsFlight, IsGood, IsInStep, IsNext, IsPublished, IsRound, IsSafeAtBoth, IsStepMade, IsTakenUp, IsUnderWay, IsWaiting, IsWhole, IsWorldStep, Loaded, NoMemory, Nothing, Phase, Publish, Published, RadioModel, Receipt, RestStays, State, Step, Store, StoreFault, Take, Tells, Told, World, answer_of, calls_left, device_of, durable_of, flight_of, flusher_of, held_batch, phase_of, round, commit_of, waiting_batch, waiting_receipt}
+use Rattle.apd_world.proofs.Words.{AreMadeInTurn, AreSafelyMade, Batch, Busy, Call, Called, Change, IsRoundAnswer, Commit, Commits, Committer, CoreState, DiskModel, Done, DurableCore, Failed, Flusher, GoesQuietly, HasNoBatch, HasNoCall, HasNoChangesNext, HasNoReceipt, HasRisen, HasRoomForNext, Idle, IsCalled, IsDurable, IsFlight, IsGood, IsInStep, IsNext, IsPublished, IsRound, IsSafeAtBoth, IsStepMade, IsTakenUp, IsUnderWay, IsWaiting, IsWhole, IsWorldStep, Loaded, NoMemory, Nothing, Phase, Publish, Published, RadioModel, Receipt, RestStays, State, Step, Store, StoreFault, Take, Tells, Told, World, answer_of, calls_left, device_of, durable_of, flight_of, flusher_of, held_batch, phase_of, round, commit_of, waiting_batch, waiting_receipt}
 use Rattle.apd_store.specs.Outside.{store_device}
 use Rattle.apd_store.specs.Phases.{calls_from}
 use Rattle.apd_store.specs.declared.fault.StoreFault.TheVariants as store_fault
@@ -185,12 +185,12 @@ module _ {D : Type 0} (disk : DiskModel D) where
   abbrev pub Outcome : Commit → DurableCore D → DurableCore D → Type 0
   Outcome commit.Settled old new = (old.core.number < new.core.number) × (new.core.flight ≡ 0)
   Outcome commit.Nothing old new = HasNoBatch old × HasNoCall old × HasNoReceipt old × (new ≡ old)
-  Outcome (commit.Refused fault) old new = Whole old → ComesTo disk (commit.Refused fault) old new
+  Outcome (commit.Refused fault) old new = Whole old → IsRoundAnswer disk (commit.Refused fault) old new
   Outcome commit.Foreign old new = Whole old → ⊥
   Outcome commit.NoMemory old new = Unit {0}
 
   -- a batch is refused
-  refused_comes : (fault : StoreFault) (old start new : DurableCore D) → IsTakenUp (Err fault) old start → Whole start → ComesTo disk (commit.Refused fault) old new
+  refused_comes : (fault : StoreFault) (old start new : DurableCore D) → IsTakenUp (Err fault) old start → Whole start → IsRoundAnswer disk (commit.Refused fault) old new
   refused_comes fault old start new h q =
       let batch = h.1.load.batch in
       let t = h.1.load.tells in
@@ -200,8 +200,8 @@ module _ {D : Type 0} (disk : DiskModel D) where
       ⊎_elim (λ is. busy_or_failed_not_idle (phase_in old) idle (inr (t.failed.0 is)))
       (⊎_elim (λ is. absurd (⊎_elim (λ busy. busy_or_failed_not_idle (phase_in old) idle (inl busy)) (λ was. (let no : Idle ≡ Done = sym idle ∙ was in cc)) (t.not_idle.0 is)))
       (⊎_elim (λ is. absurd (t.bad is good))
-      (⊎_elim (λ is. subst (λ (e : StoreFault). ComesTo disk (commit.Refused e) old new) (sym is) (λ lasts. ⊎_elim (t.worn is).1 (λ left. let over = (t.worn is).2 in omega (arith, left, over)) (lasts batch start.core (taken_next (Err fault) old start h))))
-      (λ is. subst (λ (e : StoreFault). ComesTo disk (commit.Refused e) old new) (sym is) tt))))
+      (⊎_elim (λ is. subst (λ (e : StoreFault). IsRoundAnswer disk (commit.Refused e) old new) (sym is) (λ lasts. ⊎_elim (t.worn is).1 (λ left. let over = (t.worn is).2 in omega (arith, left, over)) (lasts batch start.core (taken_next (Err fault) old start h))))
+      (λ is. subst (λ (e : StoreFault). IsRoundAnswer disk (commit.Refused e) old new) (sym is) tt))))
       t.few
 
   -- ---- the batch is taken, or there is none
@@ -272,12 +272,12 @@ module _ {D : Type 0} (disk : DiskModel D) where
 
     -- a call was refused
     call_comes : (fault : StoreFault) → IsBegun old start → IsRefusedFor fault calls old start now → disk.failed (device_of now) ≤ disk.failed (device_of new) → (Whole old → Whole now) → Whole old
-        → ComesTo disk (commit.Refused fault) old new
+        → IsRoundAnswer disk (commit.Refused fault) old new
     call_comes fault begun h count whole p = ⊎_elim
-        (λ is. subst (λ (e : StoreFault). ComesTo disk (commit.Refused e) old new) (sym is) (λ first. let r = h.risen is first in omega (arith, r, count)))
+        (λ is. subst (λ (e : StoreFault). IsRoundAnswer disk (commit.Refused e) old new) (sym is) (λ first. let r = h.risen is first in omega (arith, r, count)))
         (λ is.
         let fails : now.core.failed ≡ true = failed_too now.committer now.core.settled now.core.failed (flight_of now.core) h.phase (whole p).in_step in
-        subst (λ (e : StoreFault). ComesTo disk (commit.Refused e) old new) (sym is) (sym begun.fails ∙ sym (ap (λ (s : CoreState). s.failed) (h.same is)) ∙ fails))
+        subst (λ (e : StoreFault). IsRoundAnswer disk (commit.Refused e) old new) (sym is) (sym begun.fails ∙ sym (ap (λ (s : CoreState). s.failed) (h.same is)) ∙ fails))
         h.kind
 
     calls_come : (last : Told) (called : Option Commit) → IsBegun old start → (called ≡ None → AreMade calls start now) → ((answer : Commit) → called ≡ Some answer → IsRefusedCall answer calls old start now)
@@ -412,14 +412,14 @@ module _ {D : Type 0} (disk : DiskModel D) where
     four_calls told last called m idle room = absurd m.takes
 
   -- ---- from a whole durable core
-  pub whole_comes : (answer : Commit) (old new : DurableCore D) → Outcome answer old new → Whole old → ComesTo disk answer old new
+  pub whole_comes : (answer : Commit) (old new : DurableCore D) → Outcome answer old new → Whole old → IsRoundAnswer disk answer old new
   whole_comes commit.Settled old new o p = o
   whole_comes commit.Nothing old new o p = (o.3, none_taken old.core.failed old.core.flight old.core.unsettled (none_flies old.core (none_in_flight old.committer old.core.settled old.core.failed (flight_of old.core) o.0.0 o.1 o.2 p.in_step)) o.0.1)
   whole_comes (commit.Refused fault) old new o p = o p
   whole_comes commit.Foreign old new o p = absurd (o p)
   whole_comes commit.NoMemory old new o p = tt
 
-  pub commits : (answer : Commit) (old new : DurableCore D) → ComesTo disk answer old new → Commits disk answer old new
+  pub commits : (answer : Commit) (old new : DurableCore D) → IsRoundAnswer disk answer old new → Commits disk answer old new
   commits commit.Settled old new c ok same below memory room some = (refl, c.0)
   commits commit.Nothing old new c ok same below memory room some =
       absurd (⊎_elim (λ fails. false≢true (sym ok ∙ fails)) (λ none. let l = ap length none in absurd (omega (arith, l, some))) c.1)

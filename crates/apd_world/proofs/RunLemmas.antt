@@ -8,7 +8,7 @@ use Rattle.std.proofs.lemmas.List.{append-nil, map-append, replicate_more}
 use Rattle.std.proofs.lemmas.List.Elements.{All-append, All-cons, All-head, All-map, All-nil, All-push, All-tail, All-weaker}
 use Rattle.std.proofs.lemmas.Grind.{flat_map-append}
 use Rattle.std.proofs.Math.Seq.{take-append_seam, take-suc}
-use Rattle.apd_world.proofs.Words.{Accept, Accepted, Applied, Apply, AreAccepted, AreAllApplied, AreAnswered, AreExact, AreFollowing, AreMadeInTurn, AreSafelyMade, Ask, Bssid, Call, Called, Commit, Conf, Configure, Control, CoreState, Device, DiskModel, DurableCore, GoesQuietly, Hand, Handed, Happening, HasGoneOn, HasGoneUnrefused, HasRisen, HoldsReplies, IsAtRest, IsFlushed, IsForRadio, IsGiven, IsHandedOut, IsHanding, IsNoRefusal, IsProper, IsRound, IsSafe, IsSafeAtBoth, IsStepMade, IsWhole, IsWorldStep, Joins, Loaded, NoMemory, Nothing, OnlyHands, Out, Publish, Published, Queued, QuietReason, Radio, RadioModel, Recipient, Step, Take, Tells, Told, World, after_handing_out, answer_of, applied_outs, applies, commit_of, device_of, durable_of, hands, held_for, last_of, queue_if, queue_of, radio_hands, ready_for, recipient_of, round, rounds, slot_at, slots_of, up_to}
+use Rattle.apd_world.proofs.Words.{Accept, Accepted, Applied, Apply, AreAccepted, AreAllApplied, AreAnswered, AreExact, AreFollowing, AreMadeInTurn, AreSafelyMade, Ask, Bssid, Call, Called, Commit, Conf, Configure, Control, CoreState, Device, DiskModel, DurableCore, GoesQuietly, Hand, Handed, Happening, HasGoneOn, HasMetNoRefusal, HasRisen, HoldsReplies, IsAtRest, IsFlushed, IsForRadio, IsGiven, IsHandedOut, IsHanding, IsNoRefusal, IsProper, IsRound, IsSafe, IsSafeAtBoth, IsStepMade, IsWhole, IsWorldStep, Joins, Loaded, NoMemory, Nothing, OnlyHands, Out, Publish, Published, Queued, QuietReason, Radio, RadioModel, Recipient, Step, Take, Tells, Told, World, after_handing_out, answer_of, applied_outs, applies, commit_of, device_of, durable_of, hands, held_for, last_of, queue_if, queue_of, radio_hands, ready_for, recipient_of, round, rounds, slot_at, slots_of, up_to}
 use Rattle.apd_core.specs.Held.{HeldOuts}
 use Rattle.apd_core.proofs.CoreLemmas.{hand_others}
 use Rattle.apd_core.proofs.HeldLemmas.{queue_of-after_hand_other}
@@ -190,7 +190,7 @@ module _ {D R : Type 0} (disk : DiskModel D) (radio : RadioModel R) where
 
   -- some are, and none told a refusal
   abbrev Unrefused : World D R → World D R → Type 0
-  Unrefused a b = HasGoneUnrefused disk radio a b
+  Unrefused a b = HasMetNoRefusal disk radio a b
 
   pub none_gone : (w : World D R) → Safe [] [] w w → Unrefused w w
   none_gone w made = record { gone_on = record { steps = []; tolds = []; made = made }; none = All-nil IsNoRefusal }
@@ -580,7 +580,7 @@ module _ {D R : Type 0} (disk : DiskModel D) (radio : RadioModel R) where
     replies = quiet_replies (durable_of b) (durable_of c) quiet ∙ past.replies;
   }
 
-  pub gone_rounds : (a b : World D R) → AreRounds a b → HasGoneUnrefused disk radio a b
+  pub gone_rounds : (a b : World D R) → AreRounds a b → HasMetNoRefusal disk radio a b
   gone_rounds a b k = record { gone_on = record { steps = rounds k.calls; tolds = k.tolds; made = k.made }; none = k.none }
 
 -- ---- the next interface is configured

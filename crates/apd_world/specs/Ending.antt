@@ -21,8 +21,8 @@ IsNoRefusal (Published (Err fault)) = ⊥
 IsNoRefusal told = Unit {0}
 
 -- but maybe a receipt, for want of memory
-abbrev pub IsNoOtherRefusal : Told → Type 0
-IsNoOtherRefusal told = IsNoRefusal told ⊎ (told ≡ Published (Err publish_fault.NoMemory))
+abbrev pub IsAtWorstShort : Told → Type 0
+IsAtWorstShort told = IsNoRefusal told ⊎ (told ≡ Published (Err publish_fault.NoMemory))
 
 module _ {D R : Type 0} (disk : DiskModel D) (radio : RadioModel R) where
   -- Some steps were made.
@@ -32,7 +32,7 @@ module _ {D R : Type 0} (disk : DiskModel D) (radio : RadioModel R) where
     pub made : AreSafelyMade disk radio steps tolds old new
 
   -- Some steps were made, and none told a refusal.
-  pub record HasGoneUnrefused (old new : World D R) : Type 0 where
+  pub record HasMetNoRefusal (old new : World D R) : Type 0 where
     pub gone_on : HasGoneOn old new
     pub none : All IsNoRefusal gone_on.tolds
 
@@ -74,12 +74,12 @@ module _ {D R : Type 0} (disk : DiskModel D) (radio : RadioModel R) where
   -- of memory.
   pub record IsShortRound (last new : World D R) : Type 0 where
     pub round_is : IsRound disk radio commit.NoMemory last new
-    pub none : IsWhole disk (durable_of last) → All IsNoOtherRefusal round_is.tolds
+    pub none : IsWhole disk (durable_of last) → All IsAtWorstShort round_is.tolds
 
   -- Memory ran out: some steps were made, and none told a refusal; then maybe a last round, which came to that.
   pub record HasRunShort (old new : World D R) : Type 0 where
     pub last : World D R
-    pub before : HasGoneUnrefused disk radio old last
+    pub before : HasMetNoRefusal disk radio old last
     pub way : (new ≡ last) ⊎ IsShortRound last new
 
   -- A start or a flush ends early by a round that the store ends, or where memory is refused. No slot ends it.

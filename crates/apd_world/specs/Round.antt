@@ -68,21 +68,21 @@ LacksMemory NoMemory = Unit {0}
 LacksMemory answer = ⊥
 
 -- What a round of a whole durable core comes to, by its answer.
-abbrev pub ComesTo : {D : Type 0} → DiskModel D → Commit → DurableCore D → DurableCore D → Type 0
+abbrev pub IsRoundAnswer : {D : Type 0} → DiskModel D → Commit → DurableCore D → DurableCore D → Type 0
 -- one entry or more is settled, and none is in flight
-ComesTo disk Settled old new = (old.core.number < new.core.number) × (new.core.flight ≡ 0)
+IsRoundAnswer disk Settled old new = (old.core.number < new.core.number) × (new.core.flight ≡ 0)
 -- the core has failed, or every entry was settled
-ComesTo disk Nothing old new = (new ≡ old) × ((old.core.failed ≡ true) ⊎ (old.core.unsettled ≡ []))
+IsRoundAnswer disk Nothing old new = (new ≡ old) × ((old.core.failed ≡ true) ⊎ (old.core.unsettled ≡ []))
 -- the device failed in this round
-ComesTo disk (Refused store_fault.Device) old new = HasRisen (disk.failed (device_of old)) (disk.failed (device_of new))
+IsRoundAnswer disk (Refused store_fault.Device) old new = HasRisen (disk.failed (device_of old)) (disk.failed (device_of new))
 -- or before
-ComesTo disk (Refused store_fault.Failed) old new = old.core.failed ≡ true
+IsRoundAnswer disk (Refused store_fault.Failed) old new = old.core.failed ≡ true
 -- there is no room for the next batch, and no half can begin anew
-ComesTo disk (Refused store_fault.Worn) old new = ¬ LastsForNext old
-ComesTo disk (Refused store_fault.NoMemory) old new = Unit {0}
-ComesTo disk NoMemory old new = Unit {0}
+IsRoundAnswer disk (Refused store_fault.Worn) old new = ¬ LastsForNext old
+IsRoundAnswer disk (Refused store_fault.NoMemory) old new = Unit {0}
+IsRoundAnswer disk NoMemory old new = Unit {0}
 -- nothing else is answered
-ComesTo disk answer old new = ⊥
+IsRoundAnswer disk answer old new = ⊥
 
 -- One in which the device didn't fail, no memory was refused and there is room for the batch, or the other half can begin
 -- anew, settles one entry or more, where the core has not failed and any is unsettled.

@@ -47,7 +47,7 @@ impl<D: Disk> DurableCore<D> {
 
 impl<D: Disk, R: Radio> World<D, R> {
     ghost use Rattle.apd_world.specs.Proper.{IsWhole};
-    ghost use Rattle.apd_world.specs.Round.{ComesTo, Commits, IsRound};
+    ghost use Rattle.apd_world.specs.Round.{IsRoundAnswer, Commits, IsRound};
     ghost use Rattle.apd_world.specs.Telling.{HasNoBatch, HasNoCall, HasNoReceipt};
     ghost use Rattle.apd_world.specs.WorldParts.{durable_of};
     ghost use Rattle.apd_world.specs.WorldRun.{RestStays};
@@ -64,7 +64,7 @@ impl<D: Disk, R: Radio> World<D, R> {
     pub fn commit(&mut self) -> Commit
         ensures round { IsRound D.model R.model result self.old self.new }
         ensures comes_to { IsWhole D.model (durable_of self.old)
-            → ComesTo D.model result (durable_of self.old) (durable_of self.new) }
+            → IsRoundAnswer D.model result (durable_of self.old) (durable_of self.new) }
         ensures commits { IsWhole D.model (durable_of self.old)
             → Commits D.model result (durable_of self.old) (durable_of self.new) }
         ensures rest_stays { RestStays self.old self.new }

@@ -18,7 +18,7 @@ impl<D: Disk, R: Radio> World<D, R> {
     ghost use Rattle.apd_world.specs.StepsMade.{AreAllApplied, AreAnswered};
     ghost use Rattle.apd_world.specs.WorldParts.{durable_of, queue_of};
     ghost use Rattle.apd_world.specs.CutShort.{AreAtRadios, AreOfHanding, AreToRadios, IsAtMost, WereMade};
-    ghost use Rattle.apd_world.specs.Ending.{HasGoneUnrefused};
+    ghost use Rattle.apd_world.specs.Ending.{HasMetNoRefusal};
     ghost use Rattle.apd_world.specs.HandingOut.{HoldsReplies, IsForRadio, IsHandedOut, IsHanding, OnlyHands, radio_hands, recipient_of};
     ghost use Rattle.apd_world.specs.WorldRun.{IsWorldStep};
 
@@ -34,7 +34,7 @@ impl<D: Disk, R: Radio> World<D, R> {
             ((told : Told) × (told ≢ Told.NoMemory) × IsWorldStep R.model step.now told self.old self.new) }
         ensures ok { OnOk result (IsHanding step.now → to ≡ recipient_of step.now
             → AreAnswered D.model R.model (step.now ∷ []) answers.old.items answers.new.items self.old self.new) }
-        ensures err { OnErr result (IsHanding step.now → HasGoneUnrefused D.model R.model self.old self.new) }
+        ensures err { OnErr result (IsHanding step.now → HasMetNoRefusal D.model R.model self.old self.new) }
         ensures fault { IfErr result (λ fault. fault ≡ WorldFault.NoMemory) }
         ensures only { IsHanding step.now → OnlyHands (durable_of self.old) (durable_of self.new) }
         ensures replies { IsForRadio step.now → HoldsReplies (durable_of self.old) (durable_of self.new) }
@@ -60,7 +60,7 @@ impl<D: Disk, R: Radio> World<D, R> {
     fn hand_to_radios(&mut self, answers: &mut Answers) -> Result<(), WorldFault>
         ensures ok { OnOk result (AreAnswered D.model R.model
             (radio_hands (durable_of self.old).core.confs) answers.old.items answers.new.items self.old self.new) }
-        ensures err { OnErr result (HasGoneUnrefused D.model R.model self.old self.new) }
+        ensures err { OnErr result (HasMetNoRefusal D.model R.model self.old self.new) }
         ensures cut { OnErr result
             (WereMade D.model R.model (AreToRadios (durable_of self.old).core.confs) self.old self.new) }
         ensures fault { IfErr result (λ fault. fault ≡ WorldFault.NoMemory) }
@@ -91,7 +91,7 @@ impl<D: Disk, R: Radio> World<D, R> {
     fn apply_all(&mut self, answers: &mut Answers) -> Result<(), WorldFault>
         ensures ok { OnOk result (AreAllApplied D.model R.model
             (durable_of self.old).core.confs answers.old.items answers.new.items self.old self.new) }
-        ensures err { OnErr result (HasGoneUnrefused D.model R.model self.old self.new) }
+        ensures err { OnErr result (HasMetNoRefusal D.model R.model self.old self.new) }
         ensures cut { OnErr result
             (WereMade D.model R.model (AreAtRadios (durable_of self.old).core.confs) self.old self.new) }
         ensures fault { IfErr result (λ fault. fault ≡ WorldFault.NoMemory) }
@@ -115,7 +115,7 @@ impl<D: Disk, R: Radio> World<D, R> {
     /// Errors: `NoMemory`. The steps that were made stand: the front of that list. Control was given nothing, so that no reply is lost.
     pub fn hand_out(&mut self) -> Result<Vec<(Recipient, Told)>, WorldFault>
         ensures handed { IfOk result (λ answers. IsHandedOut D.model R.model [] answers.items self.old self.new) }
-        ensures err { OnErr result (HasGoneUnrefused D.model R.model self.old self.new) }
+        ensures err { OnErr result (HasMetNoRefusal D.model R.model self.old self.new) }
         ensures fault { IfErr result (λ fault. fault ≡ WorldFault.NoMemory) }
         ensures only { OnlyHands (durable_of self.old) (durable_of self.new) }
         ensures none { OnErr result (HoldsReplies (durable_of self.old) (durable_of self.new)) }

@@ -16,14 +16,14 @@ impl<D: Disk, R: Radio> World<D, R> {
     ghost use Rattle.apd_world.specs.Proper.{IsWhole};
     ghost use Rattle.apd_world.specs.WorldParts.{durable_of};
     ghost use Rattle.apd_world.specs.CutShort.{AreFirstConfigured, AreOfStart, WereMade};
-    ghost use Rattle.apd_world.specs.Ending.{HasEnded, HasFailedCore, HasGoneUnrefused};
+    ghost use Rattle.apd_world.specs.Ending.{HasEnded, HasFailedCore, HasMetNoRefusal};
     ghost use Rattle.apd_world.specs.HandingOut.{HoldsReplies};
     ghost use Rattle.apd_world.specs.Starting.{IsStarted};
 
     // Accepts each interface's configuration, with its lists, in order. One that is no entry is passed over.
     fn configure(&mut self) -> Result<(), WorldFault>
         ensures ok { OnOk result (AreAccepted D.model R.model (durable_of self.old).core.confs self.old self.new) }
-        ensures err { OnErr result (HasGoneUnrefused D.model R.model self.old self.new) }
+        ensures err { OnErr result (HasMetNoRefusal D.model R.model self.old self.new) }
         ensures fault { IfErr result (λ fault. fault ≡ WorldFault.NoMemory) }
         ensures cut { OnErr result
             (WereMade D.model R.model (AreFirstConfigured (durable_of self.old).core.confs) self.old self.new) }

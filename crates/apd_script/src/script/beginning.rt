@@ -18,7 +18,7 @@ use std::alloc::Global;
 /// # Errors
 ///
 /// `World`, where the store is refused or a slot does not resume.
-pub fn begin_world<D: Disk + Drop, R: Radio>(
+pub fn begin_from<D: Disk + Drop, R: Radio>(
     alloc: Global,
     device: D,
     confs: Confs,

@@ -5,7 +5,7 @@ ghost use Rattle.apd_script.specs.Lines.{Stop};
 ghost use Rattle.apd_world.specs.Outside.{device_of};
 ghost use Rattle.apd_world.specs.WorldParts.{durable_of};
 
-use super::beginning::begin_world;
+use super::beginning::begin_from;
 use super::fault::{ScriptFault, writer_fault};
 use super::output::write_recovered;
 use super::runner::Runner;
@@ -71,7 +71,7 @@ impl<D: Disk + Drop, R: Radio> Runner<D, R> {
             spares,
             ..
         } = self;
-        let world = begin_world(alloc, device_of(world), confs, slots, moment)?;
+        let world = begin_from(alloc, device_of(world), confs, slots, moment)?;
         Ok(Runner {
             alloc,
             world,

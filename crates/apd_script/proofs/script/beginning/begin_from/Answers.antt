@@ -1,6 +1,6 @@
 use Rattle.std.proofs.Common.{◌∙◌}
 use Rattle.apd_script.proofs.Stopping.{beginning}
-use Rattle.apd_script.proofs.script.beginning.begin_world.Goals as goal
+use Rattle.apd_script.proofs.script.beginning.begin_from.Goals as goal
 
 pub returns-in-Ok-clause-ok : goal.returns-in-Ok-clause-ok
 returns-in-Ok-clause-ok g c = λ each. record {
