@@ -2,7 +2,7 @@
 ghost use Rattle.std.specs.Prelude.{IfOk};
 ghost use Rattle.apd_commands.specs.Files.{OfFile};
 ghost use Rattle.apd_disk.specs.FileModel.{file_model};
-ghost use Rattle.apd_maintenance.specs.Checking.{IsChecked, IsPrinted};
+ghost use Rattle.apd_maintenance.specs.Checking.{IsPrinted};
 
 use crate::fault::ProgramFault;
 use apd_disk::{FileDisk, FileRecord};
@@ -52,9 +52,8 @@ pub fn check_file<W: Write>(
     detail: Detail,
     writer: &mut W,
 ) -> Result<FileDisk, ProgramFault>
-    ensures { IfOk result (λ left. OfFile known (λ file. IsChecked file_model file left
-        × (file_model.honest left
-        → IsPrinted file_model detail (W.contents writer.old) (W.contents writer.new) file left))) }
+    ensures { IfOk result (λ left. OfFile known
+        (λ file. IsPrinted file_model detail (W.contents writer.old) (W.contents writer.new) file left)) }
 {
     let disk = open_disk(rt, name, Access::Read).map_err(ProgramFault::Open)?;
     match run_check_with(rt.alloc(), disk.knowing(known), detail, writer) {

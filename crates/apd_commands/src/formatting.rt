@@ -3,8 +3,7 @@ ghost use Rattle.std.specs.Prelude.{◌≡◌, [], IfOk, OnOk, codes};
 ghost use Rattle.std.specs.Io.KnownBytes.{Appends};
 ghost use Rattle.apd_commands.specs.Files.{OfFile};
 ghost use Rattle.apd_disk.specs.FileModel.{file_model};
-ghost use Rattle.apd_maintenance.specs.Checking.{IsChecked};
-ghost use Rattle.apd_maintenance.specs.Formatting.{IsHonestlyNewStore, IsNewStore};
+ghost use Rattle.apd_maintenance.specs.Formatting.{IsNewStore};
 ghost use Rattle.apd_maintenance.specs.Missing.{IsThere};
 
 use crate::fault::ProgramFault;
@@ -52,8 +51,7 @@ pub fn format_file<W: Write>(
     known: FileRecord,
     writer: &mut W,
 ) -> Result<FileDisk, ProgramFault>
-    ensures made { IfOk result (λ made. OfFile known (λ file. IsNewStore file_model file made
-        × (file_model.honest made → IsHonestlyNewStore file_model file made))) }
+    ensures made { IfOk result (λ made. OfFile known (λ file. IsNewStore file_model file made)) }
     ensures printed { OnOk result (Appends (W.contents writer.old) (W.contents writer.new) (codes "formatted\n")) }
 {
     let disk = open_disk(rt, name, Access::Make).map_err(ProgramFault::Open)?;
@@ -96,8 +94,8 @@ pub fn keep_or_format<W: Write>(
     writer: &mut W,
 ) -> Result<FileDisk, ProgramFault>
     requires { disk.known.calls ≡ [] }
-    ensures { IfOk result (λ left. OfFile known (λ file. IsChecked file_model file left
-        × (file_model.honest left → IsThere file_model (W.contents writer.old) (W.contents writer.new) file left))) }
+    ensures { IfOk result (λ left. OfFile known
+        (λ file. IsThere file_model (W.contents writer.old) (W.contents writer.new) file left)) }
 {
     match run_format_missing(rt.alloc(), disk.knowing(known), writer) {
         Ok(left) => Ok(left),

@@ -3,7 +3,7 @@ ghost use Rattle.std.specs.Prelude.{IfOk, OnOk, codes};
 ghost use Rattle.std.specs.Io.KnownBytes.{Appends};
 ghost use Rattle.apd_commands.specs.Files.{OfFile};
 ghost use Rattle.apd_disk.specs.FileModel.{file_model};
-ghost use Rattle.apd_maintenance.specs.Upgrading.{IsCopied, IsHonestlyCopied};
+ghost use Rattle.apd_maintenance.specs.Upgrading.{IsCopied};
 
 use crate::fault::ProgramFault;
 use apd_disk::{FileDisk, FileRecord};
@@ -48,9 +48,7 @@ pub fn upgrade_files<W: Write>(
     writer: &mut W,
 ) -> Result<(FileDisk, FileDisk), ProgramFault>
     ensures made { IfOk result (λ left. OfFile known.0 (λ old. OfFile known.1
-        (λ new. IsCopied file_model file_model old left.0 new left.1
-        × (file_model.honest left.0 → file_model.honest left.1
-        → IsHonestlyCopied file_model file_model old left.0 new left.1)))) }
+        (λ new. IsCopied file_model file_model old left.0 new left.1))) }
     ensures printed { OnOk result (Appends (W.contents writer.old) (W.contents writer.new) (codes "copied\n")) }
 {
     let (known_old, known_new) = known;

@@ -9,10 +9,10 @@ use Rattle.apd_base.specs.declared.station.Policy.{Policy}
 use Rattle.apd_base.specs.declared.station.Which.TheVariants.{Accept, Deny}
 use Rattle.apd_disk.specs.Disk.{Only, DiskModel}
 use Rattle.apd_store.specs.Outside.{store_device}
-use Rattle.apd_store.specs.Recovery.{IsHonestlyRecovered}
+use Rattle.apd_store.specs.Recovery.{IsRecovered}
 use Rattle.apd_store.specs.declared.store.Store.{Store}
 use Rattle.apd_table.specs.Allowed.{mode_and_max}
-use Rattle.apd_maintenance.specs.Checking.{IsHonestlyChecked, IsHonestlyRefused, line_of, line_by, line_with}
+use Rattle.apd_maintenance.specs.Checking.{IsChecked, IsRefused, line_of, line_by, line_with}
 use Rattle.apd_maintenance.specs.declared.checking.CheckFault.{CheckFault}
 use Rattle.apd_maintenance.specs.declared.checking.CheckFault.TheVariants as fault
 
@@ -32,19 +32,22 @@ all_bss s = map.len-entries s.policies ∙ sym (length-map (map.entries s.polici
 module _ {D : Type 0} (disk : DiskModel D) (device : D) where
   -- a device was read where its store was recovered
   pub was_read : (left : D) (store : Store D) (table : State) → left ≡ store_device store
-      → IsHonestlyRecovered disk device store table → IsHonestlyChecked disk device left table
+      → IsRecovered disk device store table → IsChecked disk device left table
   was_read left store table same h =
-      let inside : IsHonestlyChecked disk device (store_device store) table = record {
+      let inside : IsChecked disk device (store_device store) table = record {
+        length = h.length;
+        count = h.count;
+        was_honest = h.was_honest;
         shown = h.shown;
         stays = h.stays;
-        durable = subst (λ (image : List ℕ). Only image (disk.may_leave (store_device store))) h.stays h.idle.durable;
+        durable = λ honest. subst (λ (image : List ℕ). Only image (disk.may_leave (store_device store))) (h.stays honest) (h.idle honest).durable;
         any_moment = h.any_moment;
         calls = h.calls;
       } in
-      subst (λ (d : D). IsHonestlyChecked disk device d table) (sym same) inside
+      subst (λ (d : D). IsChecked disk device d table) (sym same) inside
 
   -- and so it was where its table could not be printed
   pub not_printed : (left : D) (table : State) (why : CheckFault) → (why ≡ fault.Writer) ⊎ (why ≡ fault.NoMemory)
-      → IsHonestlyChecked disk device left table → IsHonestlyRefused disk device left why
-  not_printed left table why (inl is) h = subst (IsHonestlyRefused disk device left) (sym is) (table, h)
-  not_printed left table why (inr is) h = subst (IsHonestlyRefused disk device left) (sym is) (table, h)
+      → IsChecked disk device left table → IsRefused disk device left why
+  not_printed left table why (inl is) h = subst (IsRefused disk device left) (sym is) (table, h)
+  not_printed left table why (inr is) h = subst (IsRefused disk device left) (sym is) (table, h)

@@ -12,7 +12,7 @@ use Rattle.apd_base.specs.declared.limits.TheConstants.{DEVICE_LENGTH}
 use Rattle.apd_base.specs.declared.station.Which.TheVariants.{Accept, Deny}
 use Rattle.apd_disk.specs.Disk.{LeavesOnly, Only, DiskModel}
 use Rattle.apd_store.specs.Image.{Shows}
-use Rattle.apd_store.specs.Recovery.{IsHonestlyNotRecovered, IsNotRecovered}
+use Rattle.apd_store.specs.Recovery.{IsNotRecovered}
 use Rattle.apd_table.specs.Allowed.{mode_and_max}
 use Rattle.apd_maintenance.specs.Listing.{rows_text}
 use Rattle.apd_maintenance.specs.declared.checking.Detail.{Detail}
@@ -52,43 +52,30 @@ abbrev pub table_text : Detail → State → List ℕ
 table_text detail s = flat_map (bss_text detail s) (map.keys s.policies)
 
 -- ---- what is found of the device, and left of it
--- it holds a store; the count of its failures stays
-pub record IsChecked {D : Type 0} (disk : DiskModel D) (device left : D) : Type 0 where
+-- It has a store's length, and the count of its failures stays. An honest one shows this table, reads as it did, and leaves
+-- no image that could not be left before.
+pub record IsChecked {D : Type 0} (disk : DiskModel D) (device left : D) (table : State) : Type 0 where
   pub length : disk.size device ≡ DEVICE_LENGTH
   pub count : disk.failed left ≡ disk.failed device
   pub was_honest : disk.honest left → disk.honest device
-
--- an honest one shows this table, reads as it did, and leaves no image that could not be left before
-pub record IsHonestlyChecked {D : Type 0} (disk : DiskModel D) (device left : D) (table : State) : Type 0 where
-  pub shown : Shows (disk.reads device) table
-  pub stays : disk.reads left ≡ disk.reads device
-  pub durable : Only (disk.reads device) (disk.may_leave left)
-  pub any_moment : LeavesOnly disk device left (disk.may_leave device)
-  pub calls : disk.moment left ≤ disk.moment device + 2
+  pub shown : disk.honest left → Shows (disk.reads device) table
+  pub stays : disk.honest left → disk.reads left ≡ disk.reads device
+  pub durable : disk.honest left → Only (disk.reads device) (disk.may_leave left)
+  pub any_moment : disk.honest left → LeavesOnly disk device left (disk.may_leave device)
+  pub calls : disk.honest left → disk.moment left ≤ disk.moment device + 2
 
 -- its table was printed in this detail behind what a writer held
 pub record IsPrinted {D : Type 0} (disk : DiskModel D) (detail : Detail) (held holds : Option (List ℕ)) (device left : D) : Type 0 where
   pub table : State
-  pub read : IsHonestlyChecked disk device left table
+  pub read : IsChecked disk device left table
   pub printed : Appends held holds (table_text detail table)
 
 -- it was refused as a recovery refuses it; or it is a store, whose table could not be printed
 abbrev pub IsRefused : {D : Type 0} → DiskModel D → D → D → CheckFault → Type 0
 IsRefused disk device left (fault.Store why) = IsNotRecovered disk device left why
-IsRefused disk device left fault.Writer = IsChecked disk device left
-IsRefused disk device left fault.NoMemory = IsChecked disk device left
-
-abbrev pub IsHonestlyRefused : {D : Type 0} → DiskModel D → D → D → CheckFault → Type 0
-IsHonestlyRefused disk device left (fault.Store why) =
-    IsHonestlyNotRecovered disk device left why
-IsHonestlyRefused disk device left fault.Writer =
-    (table : State) × IsHonestlyChecked disk device left table
-IsHonestlyRefused disk device left fault.NoMemory =
-    (table : State) × IsHonestlyChecked disk device left table
+IsRefused disk device left fault.Writer = (table : State) × IsChecked disk device left table
+IsRefused disk device left fault.NoMemory = (table : State) × IsChecked disk device left table
 
 -- a device was given up so
-pub record IsGivenUp {D : Type 0} (disk : DiskModel D) (device : D) (fault : CheckFault)
-    : Type 0 where
-  pub left : D
-  pub refused : IsRefused disk device left fault
-  pub refused_honest : disk.honest left → IsHonestlyRefused disk device left fault
+abbrev pub IsGivenUp : {D : Type 0} → DiskModel D → D → CheckFault → Type 0
+IsGivenUp {D} disk device fault = (left : D) × IsRefused disk device left fault

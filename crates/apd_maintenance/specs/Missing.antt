@@ -3,6 +3,7 @@ use Rattle.std.specs.Prelude.{◌≡◌, ◌≤◌, ◌+◌, ◌⊎◌, ℕ, Lis
 use Rattle.std.specs.Io.KnownBytes.{Appends}
 use Rattle.std.specs.List.{AllByRecursion}
 use Rattle.apd_base.specs.State.{empty_state}
+use Rattle.apd_base.specs.declared.limits.TheConstants.{DEVICE_LENGTH}
 use Rattle.apd_disk.specs.Disk.{LeavesOnly, DiskModel}
 use Rattle.apd_store.specs.Image.{IsMarked, IsMarkedOld, MayBeMade, Shows}
 use Rattle.apd_maintenance.specs.declared.missing.Content.{Content}
@@ -21,19 +22,25 @@ IsContent Store bytes = AreAStore bytes
 IsContent Zeros bytes = AreZeros bytes
 IsContent Other bytes = (¬ (AreAStore bytes)) × (¬ (AreZeros bytes))
 
--- an honest device is a store, and was only read
+-- the device has a store's length, and none of its calls failed; an honest one is a store, and was only read
 pub record IsKept {D : Type 0} (disk : DiskModel D) (device left : D) : Type 0 where
-  pub is_there : AreAStore (disk.reads device)
-  pub stays : disk.reads left ≡ disk.reads device
-  pub any_moment : LeavesOnly disk device left (disk.may_leave device)
-  pub calls : disk.moment left ≤ disk.moment device + 1
+  pub length : disk.size device ≡ DEVICE_LENGTH
+  pub count : disk.failed left ≡ disk.failed device
+  pub was_honest : disk.honest left → disk.honest device
+  pub is_there : disk.honest left → AreAStore (disk.reads device)
+  pub stays : disk.honest left → disk.reads left ≡ disk.reads device
+  pub any_moment : disk.honest left → LeavesOnly disk device left (disk.may_leave device)
+  pub calls : disk.honest left → disk.moment left ≤ disk.moment device + 1
 
--- one of zeros became a store of the empty table, which alone a stop leaves from now on
+-- the same length and count; an honest one of zeros became a store of the empty table, which alone a stop leaves from now on
 pub record IsMadeOfZeros {D : Type 0} (disk : DiskModel D) (device made : D) : Type 0 where
-  pub zeros : AreZeros (disk.reads device)
-  pub empty : (image : List ℕ) → disk.may_leave made image → Shows image empty_state
-  pub any_moment : LeavesOnly disk device made (MayBeMade empty_state (disk.may_leave device))
-  pub calls : disk.moment made ≤ disk.moment device + 10
+  pub length : disk.size device ≡ DEVICE_LENGTH
+  pub count : disk.failed made ≡ disk.failed device
+  pub was_honest : disk.honest made → disk.honest device
+  pub zeros : disk.honest made → AreZeros (disk.reads device)
+  pub empty : disk.honest made → (image : List ℕ) → disk.may_leave made image → Shows image empty_state
+  pub any_moment : disk.honest made → LeavesOnly disk device made (MayBeMade empty_state (disk.may_leave device))
+  pub calls : disk.honest made → disk.moment made ≤ disk.moment device + 10
 
 -- which of the two it was, a writer that held something is told
 abbrev pub IsThere : {D : Type 0} → DiskModel D → Option (List ℕ) → Option (List ℕ) → D → D → Type 0

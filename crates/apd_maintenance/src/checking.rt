@@ -5,7 +5,7 @@ ghost use Rattle.std.specs.String.{string_bytes};
 ghost use Rattle.std.specs.FinMap.{len};
 ghost use Rattle.apd_acl.specs.Lists.{list_of};
 ghost use Rattle.apd_base.specs.declared.station.Which.TheVariants.{Accept, Deny};
-ghost use Rattle.apd_maintenance.specs.Checking.{IsGivenUp, IsHonestlyRefused, IsPrinted, IsChecked, IsRefused, counts_text, line_of, line_with, bss_text, table_text};
+ghost use Rattle.apd_maintenance.specs.Checking.{IsGivenUp, IsPrinted, IsRefused, counts_text, line_of, line_with, bss_text, table_text};
 ghost use Rattle.apd_maintenance.specs.declared.checking.Detail.TheVariants.{Counts};
 ghost use Rattle.apd_maintenance.specs.declared.checking.CheckFault.TheVariants.{NoMemory, Writer};
 
@@ -155,11 +155,8 @@ fn check_device<D: Disk, W: Write>(
     detail: Detail,
     writer: &mut W,
 ) -> Result<D, (D, CheckFault)>
-    ensures read { IfOk result (λ left. IsChecked D.model device left) }
-    ensures printed { IfOk result (λ left. D.model.honest left → IsPrinted D.model detail
-        (W.contents writer.old) (W.contents writer.new) device left) }
+    ensures printed { IfOk result (IsPrinted D.model detail (W.contents writer.old) (W.contents writer.new) device) }
     ensures refused { IfErr result (λ e. IsRefused D.model device e.0 e.1) }
-    ensures refused_honest { IfErr result (λ e. D.model.honest e.0 → IsHonestlyRefused D.model device e.0 e.1) }
     ensures nothing_printed { IfErr result (λ e. e.1 ≢ Writer → Keeps (W.contents writer.old) (W.contents writer.new)) }
 {
     let (store, table) = match recover(alloc, device) {
@@ -188,9 +185,7 @@ pub fn run_check<D: Disk + Drop, W: Write>(
     device: D,
     writer: &mut W,
 ) -> Result<D, CheckFault>
-    ensures read { IfOk result (λ left. IsChecked D.model device left) }
-    ensures printed { IfOk result (λ left. D.model.honest left → IsPrinted D.model Counts
-        (W.contents writer.old) (W.contents writer.new) device left) }
+    ensures printed { IfOk result (IsPrinted D.model Counts (W.contents writer.old) (W.contents writer.new) device) }
     ensures refused { IfErr result (IsGivenUp D.model device) }
     ensures nothing_printed { IfErr result (λ fault. fault ≢ Writer
         → Keeps (W.contents writer.old) (W.contents writer.new)) }
@@ -209,9 +204,7 @@ pub fn run_check_with<D: Disk + Drop, W: Write>(
     detail: Detail,
     writer: &mut W,
 ) -> Result<D, CheckFault>
-    ensures read { IfOk result (λ left. IsChecked D.model device left) }
-    ensures printed { IfOk result (λ left. D.model.honest left → IsPrinted D.model detail
-        (W.contents writer.old) (W.contents writer.new) device left) }
+    ensures printed { IfOk result (IsPrinted D.model detail (W.contents writer.old) (W.contents writer.new) device) }
     ensures refused { IfErr result (IsGivenUp D.model device) }
     ensures nothing_printed { IfErr result (λ fault. fault ≢ Writer
         → Keeps (W.contents writer.old) (W.contents writer.new)) }

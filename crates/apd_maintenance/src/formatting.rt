@@ -1,7 +1,7 @@
 //! A device that is made a store: `apd format STORE`.
 ghost use Rattle.std.specs.Prelude.{◌≢◌, IfErr, IfOk, OnOk, codes};
 ghost use Rattle.std.specs.Io.KnownBytes.{Appends, Keeps};
-ghost use Rattle.apd_maintenance.specs.Formatting.{IsHonestlyNewStore, IsHonestlyNotTold, IsNewStore, IsNotTold};
+ghost use Rattle.apd_maintenance.specs.Formatting.{IsNewStore, IsNotTold};
 
 use apd_disk::Disk;
 use apd_store::{StoreFault, format};
@@ -33,10 +33,8 @@ pub fn run_format<D: Disk, W: Write>(
     writer: &mut W,
 ) -> Result<D, (D, FormatFault)>
     ensures made { IfOk result (λ made. IsNewStore D.model device made) }
-    ensures made_honest { IfOk result (λ made. D.model.honest made → IsHonestlyNewStore D.model device made) }
     ensures printed { OnOk result (Appends (W.contents writer.old) (W.contents writer.new) (codes "formatted\n")) }
     ensures refused { IfErr result (λ e. IsNotTold D.model device e.0 e.1) }
-    ensures refused_honest { IfErr result (λ e. D.model.honest e.0 → IsHonestlyNotTold D.model device e.0 e.1) }
     ensures nothing_printed { IfErr result (λ e. e.1 ≢ FormatFault.Writer
         → Keeps (W.contents writer.old) (W.contents writer.new)) }
 {

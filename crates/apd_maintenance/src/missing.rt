@@ -4,7 +4,6 @@ ghost use Rattle.std.specs.Io.KnownBytes.{Keeps};
 ghost use Rattle.apd_base.specs.Failures.{HasRisen};
 ghost use Rattle.apd_base.specs.declared.limits.TheConstants.{DEVICE_LENGTH};
 ghost use Rattle.apd_disk.specs.Disk.{LeavesOnly};
-ghost use Rattle.apd_maintenance.specs.Checking.{IsChecked};
 ghost use Rattle.apd_maintenance.specs.Missing.{AreZeros, IsContent, IsThere, IsWrittenOverZerosAlone};
 
 use crate::formatting::{FormatFault, run_format};
@@ -96,9 +95,7 @@ pub fn run_format_missing<D: Disk, W: Write>(
     device: D,
     writer: &mut W,
 ) -> Result<D, (D, FormatFault)>
-    ensures is_there { IfOk result (λ left. IsChecked D.model device left) }
-    ensures which { IfOk result (λ left. D.model.honest left → IsThere D.model
-        (W.contents writer.old) (W.contents writer.new) device left) }
+    ensures is_there { IfOk result (IsThere D.model (W.contents writer.old) (W.contents writer.new) device) }
     ensures zeros { MatchResult result (IsWrittenOverZerosAlone D.model device)
         (λ e. IsWrittenOverZerosAlone D.model device e.0) }
     ensures nothing_printed { IfErr result (λ e. e.1 ≢ FormatFault.Writer

@@ -1,7 +1,7 @@
 //! A store of version 1 that is copied into a new one: `apd upgrade OLD NEW`.
 ghost use Rattle.std.specs.Prelude.{◌≢◌, IfErr, IfOk, MatchResult, OnOk, codes};
 ghost use Rattle.std.specs.Io.KnownBytes.{Appends, Keeps};
-ghost use Rattle.apd_maintenance.specs.Upgrading.{IsCopied, IsHonestlyCopied, IsHonestlyNotCopied, IsNotCopied};
+ghost use Rattle.apd_maintenance.specs.Upgrading.{IsCopied, IsNotCopied};
 ghost use Rattle.apd_store.specs.Upgrading.{IsOnlyRead};
 
 use apd_disk::Disk;
@@ -35,12 +35,8 @@ pub fn run_upgrade<O: Disk, N: Disk, W: Write>(
     writer: &mut W,
 ) -> Result<(O, N), (O, N, UpgradeFault)>
     ensures made { IfOk result (λ made. IsCopied O.model N.model old made.0 new made.1) }
-    ensures made_honest { IfOk result (λ made. O.model.honest made.0 → N.model.honest made.1
-        → IsHonestlyCopied O.model N.model old made.0 new made.1) }
     ensures printed { OnOk result (Appends (W.contents writer.old) (W.contents writer.new) (codes "copied\n")) }
     ensures refused { IfErr result (λ e. IsNotCopied O.model N.model old e.0 new e.1 e.2) }
-    ensures refused_honest { IfErr result (λ e. O.model.honest e.0 → N.model.honest e.1
-        → IsHonestlyNotCopied O.model N.model old e.0 new e.1 e.2) }
     ensures nothing_printed { IfErr result (λ e. e.2 ≢ UpgradeFault.Writer
         → Keeps (W.contents writer.old) (W.contents writer.new)) }
     ensures only_read { MatchResult result (λ made. O.model.honest made.0 → IsOnlyRead O.model old made.0)

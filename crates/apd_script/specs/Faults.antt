@@ -8,7 +8,7 @@ use Rattle.apd_radio.specs.Model.{RadioModel}
 use Rattle.apd_slot.specs.Slots.{bssid_of}
 use Rattle.apd_slot.specs.declared.slot.Slot.{Slot}
 use Rattle.apd_store.specs.declared.fault.StoreFault.TheVariants as store_fault
-use Rattle.apd_world.specs.BegunAnew.{IsHonestlyNotBegunAnew, IsNotBegunAnew}
+use Rattle.apd_world.specs.BegunAnew.{IsNotBegunAnew}
 use Rattle.apd_world.specs.Ending.{HasEnded, HasFailedCore, HasMetNoRefusal}
 use Rattle.apd_world.specs.Outside.{device_of}
 use Rattle.apd_world.specs.Proper.{IsWhole}
@@ -75,7 +75,6 @@ module _ {D R : Type 0} (disk : DiskModel D) (radio : RadioModel R) where
   pub record IsNotBegunFrom (why : WorldFault) (device : D) (confs : List Conf) : Type 0 where
     pub left : D
     pub refused : IsNotBegunAnew disk device left why
-    pub refused_honest : disk.honest left → IsHonestlyNotBegunAnew disk device left why
     pub one : IsBeginningFault why device left confs
 
   -- which the world alone tells

@@ -9,8 +9,7 @@ use Rattle.apd_disk.specs.SystemFile.{FileDisk}
 use Rattle.apd_disk.specs.declared.record.FileRecord.{FileRecord}
 use Rattle.apd_radio.specs.Model.{RadioModel}
 use Rattle.apd_store.specs.Image.{Shows}
-use Rattle.apd_store.specs.Outside.{store_device}
-use Rattle.apd_store.specs.Recovery.{IsHonestlyRecovered, IsRecovered}
+use Rattle.apd_store.specs.Recovery.{IsRecovered}
 use Rattle.apd_world.specs.History.{History, Keeps, blank}
 use Rattle.apd_world.specs.Outside.{device_of}
 use Rattle.apd_world.specs.Proper.{IsProper}
@@ -27,9 +26,7 @@ use Rattle.apd_serve.specs.declared.beginning.OpenStore.{OpenStore}
 pub record IsRecoveredFrom (known : FileRecord) (opened : OpenStore) : Type 0 where
   pub file : FileDisk
   pub knows : file.known ≡ known
-  pub recovered : IsRecovered file_model file opened.store
-  pub honestly : file_model.honest (store_device opened.store)
-      → IsHonestlyRecovered file_model file opened.store opened.table
+  pub recovered : IsRecovered file_model file opened.store opened.table
 
 -- the file of a world's store
 abbrev pub file_of : {R : Type 0} → World FileDisk R → FileDisk

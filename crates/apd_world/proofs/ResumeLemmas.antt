@@ -12,9 +12,9 @@ use Rattle.apd_slot.specs.Slots.{is_up_of, queue_of as slot_queue, wanted_of}
 use Rattle.apd_slot.specs.Wanted.{Stations}
 use Rattle.apd_slot.proofs.RowsLemmas.{installed_are, installed_at}
 use Rattle.apd_store.specs.Outside.{store_device}
-use Rattle.apd_store.specs.Recovery.{IsHonestlyRecovered, IsRecovered}
+use Rattle.apd_store.specs.Recovery.{IsRecovered}
 use Rattle.apd_store.specs.declared.fault.StoreFault.TheVariants as store_fault
-use Rattle.apd_world.specs.BegunAnew.{IsBegunAnew, IsBegunWith, IsHonestlyBegunAnew, IsHonestlyNotBegunAnew, IsNotBegunAnew}
+use Rattle.apd_world.specs.BegunAnew.{IsBegunAnew, IsBegunWith, IsNotBegunAnew}
 use Rattle.apd_world.specs.History.{after}
 use Rattle.apd_world.specs.declared.fault.WorldFault.TheVariants as world_fault
 use Rattle.apd_world.proofs.SlotLemmas.{all_at, place_of_own, slot_is}
@@ -85,9 +85,9 @@ module _ {R : Type 0} (radio : RadioModel R) (slots : List (Slot R)) (table : St
 
 -- ---- over the store that a device holds
 module _ {D : Type 0} (disk : DiskModel D) (device : D) (store : Store D) (table : State)
-    (found : IsRecovered disk device store) where
-  images : IsHonestlyRecovered disk device store table → Only (disk.reads device) (disk.may_leave (store_device store))
-  images held image left = held.idle.durable image left ∙ held.stays
+    (found : IsRecovered disk device store table) where
+  images : disk.honest (store_device store) → Only (disk.reads device) (disk.may_leave (store_device store))
+  images honest image left = (found.idle honest).durable image left ∙ found.stays honest
 
   -- a world was begun
   module _ (confs : List Conf) (m : Moment) (new : DurableCore D) (begun : IsBegunWith disk store table confs m new)
@@ -98,8 +98,9 @@ module _ {D : Type 0} (disk : DiskModel D) (device : D) (store : Store D) (table
       made_honest : disk.honest (device_of new) → disk.honest (store_device store)
       made_honest = subst (λ (s : Store D). disk.honest (store_device s)) begun.over
 
-      pub begun_from : IsBegunAnew disk device confs m new
-      begun_from = record {
+      pub begun_from : ((s : State) → Shows (disk.reads device) table → Shows (disk.reads device) s → table ≡ s)
+          → IsBegunAnew disk device confs m new
+      begun_from one = record {
         length = found.length;
         core = begun.core ∙ ap (λ s. new_core s confs new.core.heard) (sym same_table);
         heard = subst (λ s. AreHeardAt m s new.core.heard) (sym same_table) begun.heard;
@@ -107,24 +108,14 @@ module _ {D : Type 0} (disk : DiskModel D) (device : D) (store : Store D) (table
         whole = begun.whole found.inside found.ready;
         count = ap (λ (s : Store D). disk.failed (store_device s)) begun.over ∙ found.count;
         was_honest = λ honest. found.was_honest (made_honest honest);
+        shown = λ honest. subst (Shows (disk.reads device)) (sym same_table) (found.shown (made_honest honest));
+        recovered = λ honest old last kept. same_table ∙ one (after last kept.front) (found.shown (made_honest honest)) kept.shows;
+        proper = λ honest. begun.proper (made_honest honest) found.inside (found.idle (made_honest honest));
+        images = λ honest. subst (λ (s : Store D). Only (disk.reads device) (disk.may_leave (store_device s))) (sym begun.over)
+            (images (made_honest honest));
+        any_moment = λ honest. subst (λ (s : Store D). LeavesOnly disk device (store_device s) (disk.may_leave device))
+            (sym begun.over) (found.any_moment (made_honest honest));
       }
-
-      pub honestly_begun_from : disk.honest (device_of new)
-          → (disk.honest (store_device store) → IsHonestlyRecovered disk device store table)
-          → ((s : State) → Shows (disk.reads device) table → Shows (disk.reads device) s → table ≡ s)
-          → IsHonestlyBegunAnew disk device new
-      honestly_begun_from honest recovered one =
-          let made = made_honest honest in
-          let held = recovered made in
-          record {
-            shown = subst (Shows (disk.reads device)) (sym same_table) held.shown;
-            recovered = λ old last kept. same_table ∙ one (after last kept.front) held.shown kept.shows;
-            proper = begun.proper made found.inside held.idle;
-            images = subst (λ (s : Store D). Only (disk.reads device) (disk.may_leave (store_device s))) (sym begun.over)
-                (images held);
-            any_moment = subst (λ (s : Store D). LeavesOnly disk device (store_device s) (disk.may_leave device))
-                (sym begun.over) held.any_moment;
-          }
 
   -- none was
   module _ {R : Type 0} (radio : RadioModel R) (slots left : List (Slot R)) (back : D) (fault : WorldFault)
@@ -132,27 +123,25 @@ module _ {D : Type 0} (disk : DiskModel D) (device : D) (store : Store D) (table
     no_refusal : {A : Type 0} (e : StoreFault) → fault ≡ world_fault.Store e → A
     no_refusal e is = absurd (subst (λ f. AreLeft radio table f slots left) is h.slots_are)
 
-    pub not_begun_from : IsNotBegunAnew disk device back fault
-    not_begun_from = record {
+    held : disk.honest back → disk.honest (store_device store)
+    held = subst disk.honest h.device_is
+
+    pub not_begun_from : (disk.honest device → disk.may_leave device (disk.reads device)) → IsNotBegunAnew disk device back fault
+    not_begun_from may = record {
       device_failed = λ is. no_refusal store_fault.Device is;
       no_fault = λ other. ap disk.failed h.device_is ∙ found.count;
-      was_honest = λ honest. found.was_honest (subst disk.honest h.device_is honest);
-    }
-
-    pub honestly_not_begun_from : IsHonestlyRecovered disk device store table
-        → disk.may_leave device (disk.reads device) → IsHonestlyNotBegunAnew disk device back fault
-    honestly_not_begun_from held may = record {
-      not_a_store = λ is. no_refusal store_fault.NotAStore is;
-      old_version = λ is. no_refusal store_fault.OldVersion is;
-      damaged = λ is. no_refusal store_fault.Damaged is;
-      durable = inl (subst (λ d. Only (disk.reads device) (disk.may_leave d)) (sym h.device_is) (images held));
-      still = λ image only.
-          let same = only (disk.reads device) may in (
-            (λ other left. images held other (subst (λ d. disk.may_leave d other) h.device_is left) ∙ same),
-            ap
-                disk.reads h.device_is ∙ held.stays ∙ same,
+      was_honest = λ honest. found.was_honest (held honest);
+      not_a_store = λ honest is. no_refusal store_fault.NotAStore is;
+      old_version = λ honest is. no_refusal store_fault.OldVersion is;
+      damaged = λ honest is. no_refusal store_fault.Damaged is;
+      durable = λ honest. inl (subst (λ d. Only (disk.reads device) (disk.may_leave d)) (sym h.device_is) (images (held honest)));
+      still = λ honest image only.
+          let same = only (disk.reads device) (may (found.was_honest (held honest))) in (
+            (λ other left. images (held honest) other (subst (λ d. disk.may_leave d other) h.device_is left) ∙ same),
+            ap disk.reads h.device_is ∙ found.stays (held honest) ∙ same,
           );
-      any_moment = subst (λ d. LeavesOnly disk device d (disk.may_leave device)) (sym h.device_is) held.any_moment;
+      any_moment = λ honest. subst (λ d. LeavesOnly disk device d (disk.may_leave device)) (sym h.device_is)
+          (found.any_moment (held honest));
     }
 
   -- for want of memory, or at a slot

@@ -2,8 +2,7 @@
 ghost use Rattle.std.specs.Prelude.{◌≡◌, ◌≢◌, ◌⊎◌, IfOk, IfErr, OnOk};
 ghost use Rattle.apd_base.specs.declared.address.Bssid.{Bssid as Address};
 ghost use Rattle.apd_slot.specs.declared.slot.SlotFault.{SlotFault as Fault};
-ghost use Rattle.apd_world.specs.BegunAnew.{IsBegunAnew, IsBegunWith, IsHonestlyBegunAnew, IsHonestlyNotBegunAnew, IsNotBegunAnew};
-ghost use Rattle.apd_world.specs.Outside.{device_of};
+ghost use Rattle.apd_world.specs.BegunAnew.{IsBegunAnew, IsBegunWith, IsNotBegunAnew};
 ghost use Rattle.apd_world.specs.Resumed.{AreHandedBack, AreOfSame, AreResumed, EndsAtSlot, HasNotResumed, HasResumed};
 ghost use Rattle.apd_world.specs.StandsFor.{BeginsAt};
 ghost use Rattle.apd_world.specs.WorldParts.{durable_of};
@@ -98,12 +97,9 @@ pub fn restart<D: Disk, R: Radio>(
     moment: Moment,
 ) -> Result<World<D, R>, (D, Vec<Slot<R>>, WorldFault)>
     ensures begun { IfOk result (λ world. IsBegunAnew D.model device confs moment (durable_of world)) }
-    ensures begun_honest { IfOk result (λ world. D.model.honest (device_of (durable_of world))
-        → IsHonestlyBegunAnew D.model device (durable_of world)) }
     ensures resumed { IfOk result (HasResumed R.model slots.items) }
     ensures begins { IfOk result (λ world. BeginsAt confs (durable_of world).core.settled world) }
     ensures none { IfErr result (λ e. IsNotBegunAnew D.model device e.0 e.2) }
-    ensures none_honest { IfErr result (λ e. D.model.honest e.0 → IsHonestlyNotBegunAnew D.model device e.0 e.2) }
     ensures only { IfErr result
         (λ e. (e.2 ≡ WorldFault.Store StoreFault.NotAStore) ⊎ (e.2 ≡ WorldFault.Store StoreFault.OldVersion)
         ⊎ (e.2 ≡ WorldFault.Store StoreFault.Damaged) ⊎ (e.2 ≡ WorldFault.Store StoreFault.Device)

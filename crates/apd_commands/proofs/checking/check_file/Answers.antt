@@ -6,5 +6,5 @@ pub returns-in-Ok : goal.returns-in-Ok
 returns-in-Ok g c = (
   c.knowing.result,
   ap (λ (d : FileDisk). d.known) c.knowing.ensures,
-  (c.in-Ok.ensures.read, c.in-Ok.ensures.printed),
+  c.in-Ok.ensures.printed,
 )

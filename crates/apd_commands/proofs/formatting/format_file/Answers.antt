@@ -6,5 +6,5 @@ pub returns-in-Ok-clause-made : goal.returns-in-Ok-clause-made
 returns-in-Ok-clause-made g c = (
   c.knowing.result,
   ap (λ (d : FileDisk). d.known) c.knowing.ensures,
-  (c.in-Ok.ensures.made, c.in-Ok.ensures.made_honest),
+  c.in-Ok.ensures.made,
 )

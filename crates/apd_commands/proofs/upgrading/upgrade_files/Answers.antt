@@ -9,6 +9,6 @@ returns-in-Ok-clause-made g c = (
   (
     c.knowing-2.result,
     ap (λ (d : FileDisk). d.known) c.knowing-2.ensures,
-    (c.in-Ok.ensures.made, c.in-Ok.ensures.made_honest),
+    c.in-Ok.ensures.made,
   ),
 )

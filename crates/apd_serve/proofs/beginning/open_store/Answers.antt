@@ -7,5 +7,4 @@ returns-in-Ok g c = record {
   file = c.knowing-disk.result;
   knows = ap (λ (d : FileDisk). d.known) c.knowing-disk.ensures;
   recovered = c.in-Ok.ensures.found;
-  honestly = c.in-Ok.ensures.found_honest;
 }

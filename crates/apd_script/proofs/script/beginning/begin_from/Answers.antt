@@ -4,7 +4,7 @@ use Rattle.apd_script.proofs.script.beginning.begin_from.Goals as goal
 
 pub returns-in-Ok-clause-ok : goal.returns-in-Ok-clause-ok
 returns-in-Ok-clause-ok g c = λ each. record {
-  shown = λ honest. (c.in-Ok.ensures.begun_honest honest).shown;
+  shown = c.in-Ok.ensures.begun.shown;
   core = c.in-Ok.ensures.begun.core;
   heard = c.in-Ok.ensures.begun.heard;
   sound = c.in-Ok.ensures.begun.sound;
@@ -14,14 +14,13 @@ returns-in-Ok-clause-ok g c = λ each. record {
   resumed = c.in-Ok.ensures.resumed.resumed;
   following = c.in-Ok.ensures.resumed.following;
   was_honest = c.in-Ok.ensures.begun.was_honest;
-  proper = λ honest. (c.in-Ok.ensures.begun_honest honest).proper;
-  any_moment = λ honest. (c.in-Ok.ensures.begun_honest honest).any_moment;
+  proper = c.in-Ok.ensures.begun.proper;
+  any_moment = c.in-Ok.ensures.begun.any_moment;
 }
 
 pub returns-in-Err-clause-err : goal.returns-in-Err-clause-err
 returns-in-Err-clause-err g c = λ each. record {
   left = _;
   refused = c.in-Err.ensures.none;
-  refused_honest = c.in-Err.ensures.none_honest;
   one = beginning g.D.Disk.model g.R.Radio.model _ _ _ c.args.confs c.args.slots.items _ each c.in-Err.ensures.only;
 }
