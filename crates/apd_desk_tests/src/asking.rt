@@ -57,7 +57,7 @@ impl Asker {
         Some(Asker { socket })
     }
 
-    fn is_next(&self, answer: &[u8]) -> bool {
+    fn receives(&self, answer: &[u8]) -> bool {
         let mut room = [0u8; 64];
         match self.socket.recv_from(&mut room) {
             Ok((count, _from)) => room.get(..count) == Some(answer),
@@ -66,11 +66,11 @@ impl Asker {
     }
 
     /// Whether a question is answered, which is asked while workers wait.
-    pub(crate) fn is_answered(&self, clock: &impl Clock, question: &Question<'_>) -> bool {
+    pub(crate) fn gets_answer(&self, clock: &impl Clock, question: &Question<'_>) -> bool {
         rest(clock);
         let to = (Ipv4Addr::LOCALHOST, question.port);
         (0..question.times).all(|_time| self.socket.send_to(question.asked, to).is_ok())
-            && (0..question.times).all(|_time| self.is_next(question.answer))
+            && (0..question.times).all(|_time| self.receives(question.answer))
     }
 }
 

@@ -2,7 +2,7 @@
 ghost use Rattle.std.specs.Prelude.{◌≡◌};
 
 use crate::common::{
-    ASSOCIATION, Host, WLAN0, authentication, commit, commit_all, enters_both, is_told,
+    ASSOCIATION, Host, WLAN0, authentication, commit, commit_all, enters_both, finds_station,
     memory_flusher, settles_in_memory, share, started_core, submits,
 };
 use crate::expect::expect;
@@ -53,7 +53,7 @@ fn associates<L: Ledger, W: Wait>(rt: &W, shared: &Shared<L>, seat: Seat<L>) -> 
     let mut seat = seat;
     let told = submits_both(rt, shared, &mut seat)
         && collects_install(rt, shared, &mut seat)
-        && is_told(rt, shared, &mut seat);
+        && finds_station(rt, shared, &mut seat);
     shared.stop(rt);
     told
 }

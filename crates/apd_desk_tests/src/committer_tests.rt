@@ -1,7 +1,7 @@
 // What a committer holds when the commits begin, and what waits in it when they end.
 ghost use Rattle.std.specs.Prelude.{◌≡◌};
 
-use crate::common::{asked_core, is_told, memory_flusher, share, started_core};
+use crate::common::{asked_core, finds_station, memory_flusher, share, started_core};
 use crate::expect::expect;
 use apd_core::Core;
 use apd_desk::{NoGate, Shared, commit_all};
@@ -33,7 +33,7 @@ fn work<L: Ledger, W: Wait + Clock, D: Disk>(
 // Whether a station is there, as a new seat is told.
 fn tells<L: Ledger, W: Wait>(rt: &W, shared: &Shared<L>) -> Option<bool> {
     let mut seat = shared.seat(rt)?;
-    let told = is_told(rt, shared, &mut seat);
+    let told = finds_station(rt, shared, &mut seat);
     drop(seat);
     Some(told)
 }

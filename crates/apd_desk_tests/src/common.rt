@@ -234,7 +234,11 @@ pub(crate) fn submits<L: Ledger, W: Wait>(
 }
 
 /// Whether that station is there, as a seat is told.
-pub(crate) fn is_told<L: Ledger, W: Wait>(rt: &W, shared: &Shared<L>, seat: &mut Seat<L>) -> bool {
+pub(crate) fn finds_station<L: Ledger, W: Wait>(
+    rt: &W,
+    shared: &Shared<L>,
+    seat: &mut Seat<L>,
+) -> bool {
     match shared.ask(rt, seat, Query::First(WLAN0)) {
         Ok(answer) => answer.text() == FIRST,
         Err(_) => false,

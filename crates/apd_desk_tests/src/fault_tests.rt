@@ -40,7 +40,7 @@ impl Port for Silent {
     }
 }
 
-fn is_stopped<L: Ledger, W: Wait>(rt: &W, shared: &Shared<L>, seat: &mut Seat<L>) -> bool {
+fn finds_stopped<L: Ledger, W: Wait>(rt: &W, shared: &Shared<L>, seat: &mut Seat<L>) -> bool {
     let frame = authentication(0);
     let answer = shared.submit(rt, seat, Input::Received(WLAN0, &frame), Moment(0));
     matches!(answer, Ok(Accepted::Stopped))
@@ -73,7 +73,7 @@ fn commit_to_the_fault<L: Ledger, W: Wait + Clock, D: Disk + Drop>(
 
 fn stopped_seat<L: Ledger, W: Wait>(rt: &W, shared: &Shared<L>) -> Option<Seat<L>> {
     let mut seat = shared.seat(rt)?;
-    is_stopped(rt, shared, &mut seat).then_some(seat)
+    finds_stopped(rt, shared, &mut seat).then_some(seat)
 }
 
 fn serve_sim<L: Ledger, W: Wait + Clock + Net>(

@@ -1,7 +1,7 @@
 // A commit that is refused memory. Where memory is ample nothing is refused; by hand each allocation is refused in turn.
 ghost use Rattle.std.specs.Prelude.{◌≡◌};
 
-use crate::common::{asked_core, commit, is_told, memory_flusher, share};
+use crate::common::{asked_core, commit, finds_station, memory_flusher, share};
 use crate::expect::expect;
 use apd_core::Core;
 use apd_desk::{NoGate, Seat, Shared};
@@ -28,14 +28,18 @@ fn new_flusher(alloc: Global) -> Option<Flusher<MemDisk>> {
     }
 }
 
-fn is_told_at_last<L: Ledger, W: Wait>(rt: &W, shared: &Shared<L>, seat: &mut Seat<L>) -> bool {
-    is_told(rt, shared, seat) || is_told(rt, shared, seat)
+fn finds_station_at_last<L: Ledger, W: Wait>(
+    rt: &W,
+    shared: &Shared<L>,
+    seat: &mut Seat<L>,
+) -> bool {
+    finds_station(rt, shared, seat) || finds_station(rt, shared, seat)
 }
 
 // Whether the station is there, as a new seat is told.
 fn tells<L: Ledger, W: Wait>(rt: &W, shared: &Shared<L>) -> Option<bool> {
     let mut seat = shared.seat(rt)?;
-    let told = is_told_at_last(rt, shared, &mut seat);
+    let told = finds_station_at_last(rt, shared, &mut seat);
     drop(seat);
     Some(told)
 }

@@ -152,7 +152,7 @@ fn a_frame_is_heard_at_its_moment(rt: HostRuntime) {
 }
 
 // Whether a radio that passes so many calls is noted as up, by the worker that served it.
-fn is_noted_up<L: Ledger, W: Wait + time::Clock + Net>(
+fn noted_up_when_served<L: Ledger, W: Wait + time::Clock + Net>(
     rt: &W,
     alloc: Global,
     shared: &Shared<L>,
@@ -173,7 +173,7 @@ fn core_to_serve(alloc: Global, installs: bool) -> Option<Core> {
 }
 
 // The same of a core at which a station is to be installed, or none.
-fn is_up<L: Ledger, W: Wait + time::Clock + Net>(
+fn up_when_served<L: Ledger, W: Wait + time::Clock + Net>(
     rt: &W,
     alloc: Global,
     blank: Blank,
@@ -185,7 +185,7 @@ fn is_up<L: Ledger, W: Wait + time::Clock + Net>(
     requires all { blank.parts ≡ 65536 }
 {
     let shared: Shared<L> = share(core_to_serve(alloc, installs), blank)?;
-    let up = is_noted_up(rt, alloc, &shared, calls);
+    let up = noted_up_when_served(rt, alloc, &shared, calls);
     drop(shared);
     up
 }
@@ -198,7 +198,13 @@ fn whether_a_radio_is_up_is_noted(rt: HostRuntime) {
         (true, 1, false),
         (true, 2, true),
     ] {
-        let is_up = is_up::<Brand, _>(&rt, rt.alloc(), Blank::new(65_536), installs, calls);
+        let is_up = up_when_served::<Brand, _>(
+            &rt,
+            rt.alloc(),
+            Blank::new(65_536),
+            installs,
+            calls,
+        );
         expect(&rt, (calls, is_up), (calls, Some(up)));
     }
 }

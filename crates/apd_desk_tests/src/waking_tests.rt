@@ -91,7 +91,7 @@ fn are_all_answered(rt: &(impl Clock + Net), questions: &[Question<'_>]) -> bool
     match Asker::new(rt) {
         Some(asker) => questions
             .iter()
-            .all(|question| asker.is_answered(rt, question)),
+            .all(|question| asker.gets_answer(rt, question)),
         None => false,
     }
 }
@@ -116,7 +116,7 @@ fn beside<W: Threads, F: FnOnce() + Send, G: FnOnce() -> bool>(rt: &W, work: F, 
 }
 
 // Whether each question is answered by workers in threads of their own, which then end.
-fn is_answered<L: Ledger + Send + Sync, W: Host, R: Radio + Send>(
+fn serve_and_ask<L: Ledger + Send + Sync, W: Host, R: Radio + Send>(
     rt: &W,
     alloc: Global,
     shared: &Shared<L>,
@@ -187,7 +187,7 @@ fn are_answered<L: Ledger + Send + Sync, W: Host, R: Radio + Send>(
 {
     let shared: Option<Shared<L>> = share(core, blank);
     match shared.zip(crew) {
-        Some((shared, crew)) => is_answered(rt, alloc, &shared, crew, questions),
+        Some((shared, crew)) => serve_and_ask(rt, alloc, &shared, crew, questions),
         None => false,
     }
 }

@@ -64,7 +64,7 @@ fn a_slot_gives_what_its_radio_received(rt: HostRuntime) {
 }
 
 /// A radio in a box takes the place of another one.
-fn is_replaced(
+fn replaces(
     rt: &impl Abort,
     alloc: Global,
     radio: Box<dyn Radio + Send>,
@@ -99,11 +99,11 @@ pub(crate) fn boxed_sim(rt: &impl Abort, alloc: Global) -> Box<Sim> {
 fn each_kind_is_replaced_by_another(rt: HostRuntime) {
     let alloc = rt.alloc();
     let sim = boxed_sim(&rt, alloc);
-    is_replaced(&rt, alloc, sim, boxed_recording(&rt, alloc));
+    replaces(&rt, alloc, sim, boxed_recording(&rt, alloc));
     let recording = boxed_recording(&rt, alloc);
-    is_replaced(&rt, alloc, recording, boxed_replaying(&rt, alloc, b""));
+    replaces(&rt, alloc, recording, boxed_replaying(&rt, alloc, b""));
     let replaying = boxed_replaying(&rt, alloc, b"rx 00");
-    is_replaced(&rt, alloc, replaying, boxed_sim(&rt, alloc));
+    replaces(&rt, alloc, replaying, boxed_sim(&rt, alloc));
 }
 
 /// Resumes a slot from the table, by which it may want the first station.

@@ -38,7 +38,7 @@ struct Storm {
 
 impl Storm {
     // Whether the next answer came.
-    fn is_answered(&mut self) -> bool {
+    fn receives_answer(&mut self) -> bool {
         for _look in 0..LOOKS {
             if let Ok(Some((_, bytes))) = self.datagrams.receive() {
                 return bytes == self.answer;
@@ -57,7 +57,7 @@ impl Read for Storm {
             }
         }
         for _frame in 0..self.frames {
-            if !self.is_answered() {
+            if !self.receives_answer() {
                 return Ok(0);
             }
             self.answers = self.answers.saturating_add(1);

@@ -6,7 +6,7 @@ use std::process::Abort;
 const STATION: Addr = Addr([2, 0, 0, 0, 0, 0xaa]);
 
 // It is written so into bytes, and printed so.
-fn is_written(rt: &impl Abort, alloc: Global, addr: Addr, wanted: &str) {
+fn expect_written(rt: &impl Abort, alloc: Global, addr: Addr, wanted: &str) {
     let mut text = Vec::new(alloc);
     addr.write_text(&mut text).expect(rt, "memory");
     expect(rt, text.as_slice(), wanted.as_bytes());
@@ -16,7 +16,7 @@ fn is_written(rt: &impl Abort, alloc: Global, addr: Addr, wanted: &str) {
 
 #[test]
 fn an_address_is_written_in_lower_case_and_read_in_either(rt: HostRuntime) {
-    is_written(&rt, rt.alloc(), STATION, "02:00:00:00:00:aa");
+    expect_written(&rt, rt.alloc(), STATION, "02:00:00:00:00:aa");
     for (text, addr) in [
         (b"02:00:00:00:00:aa".as_slice(), Some(STATION)),
         (b"02:00:00:00:00:AA", Some(STATION)),

@@ -51,7 +51,7 @@ fn the_example_is_the_built_in_configuration(rt: HostRuntime) {
 }
 
 // What a configuration has where its file gives no more than the interface, the BSSID and the SSID.
-fn has_defaults(rt: &impl Abort, conf: &Conf) {
+fn expect_defaults(rt: &impl Abort, conf: &Conf) {
     expect(rt, conf.hw_mode, HwMode::B);
     expect(rt, (conf.channel, conf.beacon_int), (0, 100));
     expect(rt, conf.max_num_sta.number, 2007);
@@ -68,11 +68,11 @@ fn has_defaults(rt: &impl Abort, conf: &Conf) {
 fn names_that_no_line_gives_have_their_defaults(rt: HostRuntime) {
     let file = b"interface=wlan0\nbssid=02:00:00:00:00:01\nssid=net";
     let conf = conf_of(&rt, rt.alloc(), file);
-    has_defaults(&rt, &conf);
+    expect_defaults(&rt, &conf);
 }
 
 // What a configuration has whose file gives some names twice, and values with blanks.
-fn has_last_values(rt: &impl Abort, conf: &Conf) {
+fn expect_last_values(rt: &impl Abort, conf: &Conf) {
     expect(rt, conf.interface.as_str(), "wlan0");
     expect(rt, (conf.bssid.0.0[5], conf.channel), (0xaa, 7));
     expect(rt, conf.ssid.as_bytes(), b"net \r".as_slice());
@@ -86,7 +86,7 @@ fn a_value_is_that_of_the_last_line_and_keeps_its_blanks(rt: HostRuntime) {
     let file =
         b"ssid=a\ninterface=wlan0\r\nbssid=02:00:00:00:00:aA\nchannel=0000000007\nssid=a=b \naccept_mac_file=/etc/accept\nssid=net \r";
     let conf = conf_of(&rt, rt.alloc(), file);
-    has_last_values(&rt, &conf);
+    expect_last_values(&rt, &conf);
 }
 
 // Files that are refused, and why.

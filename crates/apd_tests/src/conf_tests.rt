@@ -27,7 +27,7 @@ fn file_name(rt: &impl Abort, alloc: Global, name: &str) -> Option<FileName> {
 }
 
 // The name that is given, in each of its forms.
-fn is_named(rt: &impl Abort, alloc: Global, name: &Option<FileName>, wanted: &str) {
+fn expect_named(rt: &impl Abort, alloc: Global, name: &Option<FileName>, wanted: &str) {
     let name = name.as_ref().expect(rt, "a name");
     expect(rt, name.as_str(), wanted);
     expect(rt, name.as_bytes(), wanted.as_bytes());
@@ -47,8 +47,8 @@ fn named_conf(rt: &impl Abort, alloc: Global) -> Conf {
 fn a_copy_has_the_names_of_both_list_files(rt: HostRuntime) {
     let alloc = rt.alloc();
     let copy = copy_of(&rt, alloc, named_conf(&rt, alloc));
-    is_named(&rt, alloc, &copy.accept_mac_file, "a/accept");
-    is_named(&rt, alloc, &copy.deny_mac_file, "deny");
+    expect_named(&rt, alloc, &copy.accept_mac_file, "a/accept");
+    expect_named(&rt, alloc, &copy.deny_mac_file, "deny");
     expect(&rt, FileName::is_name(""), false);
 }
 
@@ -62,7 +62,7 @@ fn listed_conf(rt: &impl Abort, alloc: Global) -> Conf {
 }
 
 // A list has the address of this last byte alone.
-fn has_one(rt: &impl Abort, list: &AddressList, last: u8) {
+fn expect_one(rt: &impl Abort, list: &AddressList, last: u8) {
     let wanted = [Addr([2, 0, 0, 0, 0, last])];
     expect(rt, list.as_slice(), wanted.as_slice());
 }
@@ -71,8 +71,8 @@ fn has_one(rt: &impl Abort, list: &AddressList, last: u8) {
 fn a_copy_has_both_lists(rt: HostRuntime) {
     let alloc = rt.alloc();
     let copy = copy_of(&rt, alloc, listed_conf(&rt, alloc));
-    has_one(&rt, &copy.accept, 0xaa);
-    has_one(&rt, &copy.deny, 0xbb);
+    expect_one(&rt, &copy.accept, 0xaa);
+    expect_one(&rt, &copy.deny, 0xbb);
 }
 
 /// Why a list is refused.
@@ -122,7 +122,7 @@ fn eight_are_taken(rt: HostRuntime) {
 }
 
 // A fault is printed in these words.
-fn is_printed<F: Display + Drop>(rt: &impl Abort, alloc: Global, fault: F, wanted: &str) {
+fn expect_printed<F: Display + Drop>(rt: &impl Abort, alloc: Global, fault: F, wanted: &str) {
     let text = format!(in alloc; "{fault}").expect(rt, "memory");
     expect(rt, text.as_str(), wanted);
 }
@@ -139,7 +139,7 @@ fn a_fault_of_a_configuration_file_is_printed_in_these_words(rt: HostRuntime) {
         (ConfFault::Missing(Required::Ssid), "missing ssid"),
         (ConfFault::NoMemory, "out of memory"),
     ] {
-        is_printed(&rt, rt.alloc(), fault, want);
+        expect_printed(&rt, rt.alloc(), fault, want);
     }
 }
 
@@ -150,7 +150,7 @@ fn a_fault_of_a_list_file_is_printed_in_these_words(rt: HostRuntime) {
         (ListFault::TooMany, "too many addresses"),
         (ListFault::NoMemory, "out of memory"),
     ] {
-        is_printed(&rt, rt.alloc(), fault, want);
+        expect_printed(&rt, rt.alloc(), fault, want);
     }
 }
 
@@ -162,6 +162,6 @@ fn a_fault_of_a_list_of_configurations_is_printed_in_these_words(rt: HostRuntime
         (ConfsFault::SameInterface(1), "interface given twice"),
         (ConfsFault::SameBssid(1), "bssid given twice"),
     ] {
-        is_printed(&rt, rt.alloc(), fault, want);
+        expect_printed(&rt, rt.alloc(), fault, want);
     }
 }

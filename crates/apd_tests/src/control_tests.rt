@@ -27,7 +27,7 @@ fn parse(text: &[u8]) -> Parsed<'_> {
 }
 
 /// A text is this command, with no interface named.
-fn is_command(rt: &impl Abort, text: &[u8], command: Command) {
+fn expect_command(rt: &impl Abort, text: &[u8], command: Command) {
     let interface = None;
     expect(rt, parse(text), Parsed::Command { interface, command });
 }
@@ -44,7 +44,7 @@ fn queries_are_read(rt: HostRuntime) {
         (b"ACCEPT_ACL SHOW", Command::Show(Which::Accept)),
         (b"DENY_ACL SHOW", Command::Show(Which::Deny)),
     ] {
-        is_command(&rt, text, command);
+        expect_command(&rt, text, command);
     }
 }
 
@@ -58,11 +58,11 @@ fn dismissals_are_read(rt: HostRuntime) {
         (b"DISASSOCIATE 02:00:00:00:00:aa reason=65535", 65535),
     ] {
         let reason = Reason(reason);
-        is_command(&rt, text, Command::Disassociate { to, reason });
+        expect_command(&rt, text, Command::Disassociate { to, reason });
     }
     let text = b"DEAUTHENTICATE 02:00:00:00:00:aa";
     let reason = Reason(2);
-    is_command(&rt, text, Command::Deauthenticate { to, reason });
+    expect_command(&rt, text, Command::Deauthenticate { to, reason });
 }
 
 #[test]
@@ -80,7 +80,7 @@ fn list_edits_are_read(rt: HostRuntime) {
         ),
         (b"DENY_ACL CLEAR", Which::Deny, Edit::Clear),
     ] {
-        is_command(&rt, text, Command::ListEdit { which, edit });
+        expect_command(&rt, text, Command::ListEdit { which, edit });
     }
 }
 

@@ -146,7 +146,7 @@ fn a_cursor_needs_a_policy(rt: HostRuntime) {
 }
 
 // A snapshot of the table has these changes.
-fn has_snapshot(rt: &impl Abort, alloc: Global, table: &Table, wanted: &[Change]) {
+fn expect_snapshot(rt: &impl Abort, alloc: Global, table: &Table, wanted: &[Change]) {
     let snapshot = table.snapshot(alloc).expect(rt, "memory");
     expect(rt, snapshot.as_slice(), wanted);
 }
@@ -159,7 +159,7 @@ fn a_second_policy_leaves_the_cursor(rt: HostRuntime) {
     takes(&rt, &mut table, &[closed]);
     expect(&rt, next_free(&table, BSSID), Some(41));
     let wanted = [closed, cursor_of(&rt, BSSID, 40)];
-    has_snapshot(&rt, rt.alloc(), &table, &wanted);
+    expect_snapshot(&rt, rt.alloc(), &table, &wanted);
 }
 
 #[test]
@@ -167,5 +167,5 @@ fn a_snapshot_has_no_cursor_of_0(rt: HostRuntime) {
     let mut table = open(&rt, rt.alloc());
     goes_on(&rt, &mut table, &[(40, 41), (0, 1)]);
     let open = policy_of(BSSID, AclMode::AcceptUnlessDenied);
-    has_snapshot(&rt, rt.alloc(), &table, &[open]);
+    expect_snapshot(&rt, rt.alloc(), &table, &[open]);
 }

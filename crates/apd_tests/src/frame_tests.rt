@@ -149,7 +149,7 @@ fn tells_the_first_reason(rt: HostRuntime) {
 }
 
 // The authentication frame is decoded as ever with another value at a place.
-fn is_not_looked_at(rt: &impl Abort, place: usize, value: u8) {
+fn expect_not_looked_at(rt: &impl Abort, place: usize, value: u8) {
     let frame = changed(&[(place, value)]);
     let wanted = decode_heard(&AUTHENTICATION);
     let found = decode_heard(&frame);
@@ -159,7 +159,7 @@ fn is_not_looked_at(rt: &impl Abort, place: usize, value: u8) {
 #[test]
 fn looks_at_no_other_bit(rt: HostRuntime) {
     for (place, value) in [(1, 0x3b), (2, 0xff), (3, 0x7f), (22, 0xf0), (23, 0xff)] {
-        is_not_looked_at(&rt, place, value);
+        expect_not_looked_at(&rt, place, value);
     }
     let data = changed(&[(0, 0xf8), (1, 0xf9), (16, 0xff), (21, 0x02)]);
     let uplink = Frame::Uplink { sender: STATION };
@@ -374,7 +374,7 @@ fn encodes_a_probe_response(rt: HostRuntime) {
 }
 
 // What a reason is printed as.
-fn is_printed(rt: &impl Abort, alloc: Global, reason: Ignored, wanted: &str) {
+fn expect_printed(rt: &impl Abort, alloc: Global, reason: Ignored, wanted: &str) {
     let text = format!(in alloc; "{reason}").expect(rt, "memory");
     expect(rt, text.as_str(), wanted);
 }
@@ -395,7 +395,7 @@ fn prints_words(rt: &impl Abort, alloc: Global) {
         (Ignored::Subtype, "subtype"),
         (Ignored::Body, "body"),
     ] {
-        is_printed(rt, alloc, reason, word);
+        expect_printed(rt, alloc, reason, word);
     }
 }
 

@@ -171,7 +171,7 @@ fn behind_199_lines(rt: &impl Abort, alloc: Global, line: &[u8]) -> Vec<u8> {
 }
 
 // A line is faulty behind those.
-fn has_fault(rt: &impl Abort, alloc: Global, line: &[u8], wanted: ConfFault) {
+fn expect_fault(rt: &impl Abort, alloc: Global, line: &[u8], wanted: ConfFault) {
     let file = behind_199_lines(rt, alloc, line);
     let answer = read_conf(alloc, &file);
     expect(rt, answer.err(), Some(wanted));
@@ -186,7 +186,7 @@ fn a_fault_in_line_200_of_a_configuration(rt: HostRuntime) {
         (b"wpa=2", ConfFault::Security(200)),
         (b"interface=wlan0", ConfFault::Missing(Required::Bssid)),
     ] {
-        has_fault(&rt, rt.alloc(), line, fault);
+        expect_fault(&rt, rt.alloc(), line, fault);
     }
 }
 
@@ -199,7 +199,7 @@ fn full_list_file(rt: &impl Abort, alloc: Global) -> Vec<u8> {
 }
 
 // It is taken with all of them.
-fn is_full(rt: &impl Abort, alloc: Global, file: &[u8]) {
+fn expect_full(rt: &impl Abort, alloc: Global, file: &[u8]) {
     let list = addresses_of(rt, alloc, file);
     let addresses = list.as_slice();
     expect(rt, addresses.len(), 1024);
@@ -209,7 +209,7 @@ fn is_full(rt: &impl Abort, alloc: Global, file: &[u8]) {
 #[test]
 fn a_list_file_with_1025_addresses(rt: HostRuntime) {
     let mut file = full_list_file(&rt, rt.alloc());
-    is_full(&rt, rt.alloc(), &file);
+    expect_full(&rt, rt.alloc(), &file);
     let more = b"02:00:00:00:00:07\nx";
     file.extend_from_slice(more).expect(&rt, "memory");
     let answer = read_list(rt.alloc(), &file);

@@ -15,7 +15,7 @@ fn fault_of(alloc: Global, file: &[u8]) -> Option<ListFault> {
 }
 
 // The addresses of a file.
-fn is_list(rt: &impl Abort, alloc: Global, file: &str, wanted: &[Addr]) {
+fn expect_list(rt: &impl Abort, alloc: Global, file: &str, wanted: &[Addr]) {
     let list = addresses_of(rt, alloc, file.as_bytes());
     expect(rt, (file, list.as_slice()), (file, wanted));
 }
@@ -35,7 +35,7 @@ fn addresses_are_added_and_taken_away(rt: HostRuntime) {
             [B].as_slice(),
         ),
     ] {
-        is_list(&rt, rt.alloc(), file, wanted);
+        expect_list(&rt, rt.alloc(), file, wanted);
     }
 }
 

@@ -97,7 +97,7 @@ fn drop_row() -> Change {
 }
 
 // A change has this record, of this length, and is read from it.
-fn is_record(rt: &impl Abort, alloc: Global, change: Change, record: &[u8]) {
+fn expect_record(rt: &impl Abort, alloc: Global, change: Change, record: &[u8]) {
     let bytes = write(alloc, &[change]).expect(rt, "memory");
     expect(rt, bytes.as_slice(), record);
     expect(rt, change.record_length(), record.len());
@@ -125,7 +125,7 @@ fn the_table_of_records(rt: HostRuntime) {
         (cursor(2007), &CURSOR),
     ] {
         let change = change.expect(&rt, "an identifier, a limit and a number");
-        is_record(&rt, rt.alloc(), change, record);
+        expect_record(&rt, rt.alloc(), change, record);
     }
     expect(&rt, is_list(&rt, rt.alloc(), &CURSOR[..8]), false);
 }
@@ -140,7 +140,7 @@ fn nothing_is_no_change(rt: HostRuntime) {
 }
 
 // The bytes are no list of records with this value at this place.
-fn is_no_value(rt: &impl Abort, alloc: Global, record: &[u8], place: usize, value: u8) {
+fn expect_no_value(rt: &impl Abort, alloc: Global, record: &[u8], place: usize, value: u8) {
     let mut bytes = Vec::from_slice(alloc, record).expect(rt, "memory");
     if let Some(byte) = bytes.get_mut(place) {
         *byte = value;
@@ -152,7 +152,7 @@ fn is_no_value(rt: &impl Abort, alloc: Global, record: &[u8], place: usize, valu
 #[test]
 fn each_unknown_tag(rt: HostRuntime) {
     for tag in [0].into_iter().chain(8..=255) {
-        is_no_value(&rt, rt.alloc(), &AUTHENTICATED, 0, tag);
+        expect_no_value(&rt, rt.alloc(), &AUTHENTICATED, 0, tag);
     }
 }
 
@@ -179,7 +179,7 @@ fn values_out_of_range(rt: HostRuntime) {
         (CURSOR.as_slice(), 7, 0xd8),
         (CURSOR.as_slice(), 8, 8),
     ] {
-        is_no_value(&rt, rt.alloc(), record, place, value);
+        expect_no_value(&rt, rt.alloc(), record, place, value);
     }
 }
 

@@ -168,15 +168,15 @@ fn addresses_are_told(rt: HostRuntime) {
 }
 
 // What a fault is printed as.
-fn is_printed(rt: &impl Abort, alloc: Global, fault: TableFault, wanted: &str) {
+fn expect_printed(rt: &impl Abort, alloc: Global, fault: TableFault, wanted: &str) {
     let text = format!(in alloc; "{fault}").expect(rt, "memory");
     expect(rt, text.as_str(), wanted);
 }
 
 #[test]
 fn faults_say_what_they_are(rt: HostRuntime) {
-    is_printed(&rt, rt.alloc(), TableFault::Invalid, "invalid change");
-    is_printed(&rt, rt.alloc(), TableFault::NoMemory, "out of memory");
+    expect_printed(&rt, rt.alloc(), TableFault::Invalid, "invalid change");
+    expect_printed(&rt, rt.alloc(), TableFault::NoMemory, "out of memory");
 }
 
 // A station of its own for each number.
@@ -271,7 +271,7 @@ fn takes_full_start(rt: &impl Abort, alloc: Global, table: &mut Table) {
 }
 
 // One more is refused by a full list, and one that is listed is taken.
-fn is_full(rt: &impl Abort, table: &mut Table, which: Which) {
+fn expect_full(rt: &impl Abort, table: &mut Table, which: Which) {
     refuses(rt, table, &[add(which, 1024)]);
     takes(rt, table, &[add(which, 0)]);
 }
@@ -282,8 +282,8 @@ fn a_first_start_has_1024_addresses_on_each_list_and_no_more(rt: HostRuntime) {
     refuses_start(&rt, rt.alloc(), &mut table, 1025, 0);
     refuses_start(&rt, rt.alloc(), &mut table, 1024, 1025);
     takes_full_start(&rt, rt.alloc(), &mut table);
-    is_full(&rt, &mut table, Which::Accept);
-    is_full(&rt, &mut table, Which::Deny);
+    expect_full(&rt, &mut table, Which::Accept);
+    expect_full(&rt, &mut table, Which::Deny);
     let take = take_off(Which::Deny, address(1023));
     takes(&rt, &mut table, &[take, add(Which::Deny, 1024)]);
     expect(&rt, list_lengths(&table), Some((1024, 1024)));

@@ -67,7 +67,7 @@ fn record_bytes(rt: &impl Abort, alloc: Global, changes: &[Change]) -> usize {
 }
 
 // One policy of 10 bytes and 2,048 addresses of 14.
-fn has_full_lists(rt: &impl Abort, alloc: Global, decision: &Decision) {
+fn expect_full_lists(rt: &impl Abort, alloc: Global, decision: &Decision) {
     let changes = decision.changes.as_slice();
     expect(rt, (changes.len(), decision.outs.len()), (2_049, 0));
     expect(rt, record_bytes(rt, alloc, changes), 28_682);
@@ -77,7 +77,7 @@ fn has_full_lists(rt: &impl Abort, alloc: Global, decision: &Decision) {
 fn a_first_start_with_two_full_lists(rt: HostRuntime) {
     let mut table = Table::new(rt.alloc());
     let decision = full_start(&rt, rt.alloc(), &table);
-    has_full_lists(&rt, rt.alloc(), &decision);
+    expect_full_lists(&rt, rt.alloc(), &decision);
     takes(&rt, &mut table, decision.changes.as_slice());
     expect(&rt, list_lengths(&table), Some([1024, 1024]));
 }

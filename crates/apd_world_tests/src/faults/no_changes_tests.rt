@@ -23,7 +23,7 @@ const PROBES: Step<'static> = Step::Accept(Input::Received(WLAN0, PROBE_FRAME), 
 const HANDS: Step<'static> = Step::Hand(Recipient::Radio(WLAN0));
 
 /// Whether the radio starts, and that is committed, by four calls.
-fn has_started<D: Disk>(alloc: Global, world: &mut World<D, Sim>) -> bool {
+fn starts_and_commits<D: Disk>(alloc: Global, world: &mut World<D, Sim>) -> bool {
     starts(alloc, world).is_some() && commit_world(world) == Commit::Settled
 }
 
@@ -31,7 +31,7 @@ fn has_started<D: Disk>(alloc: Global, world: &mut World<D, Sim>) -> bool {
 fn started(alloc: Global, passes: u64) -> Option<World<FuseDisk<MemDisk>, Sim>> {
     let disk = FuseDisk::new(new_device(alloc)?, passes);
     let mut world = world(alloc, disk)?;
-    has_started(alloc, &mut world).then_some(world)
+    starts_and_commits(alloc, &mut world).then_some(world)
 }
 
 /// A step, and what is told of it.
