@@ -1,5 +1,6 @@
 pub mod Applying
 pub mod Mending
+pub mod Resumed
 pub mod Resuming
 pub mod Rows
 pub mod Slots

@@ -1,9 +1,7 @@
 -- The theorem, in the words of one who sees a world from outside: what happened, what was said, what a stop leaves.
-use Rattle.std.specs.Prelude.{◌≡◌, ◌+◌, ◌≤◌, ℕ, true, List, [], ◌++◌, length, take}
+use Rattle.std.specs.Prelude.{◌≡◌, ◌+◌, ◌≤◌, ℕ, List, [], ◌++◌, length, take}
 use Rattle.std.specs.List.{AllByRecursion}
-use Rattle.std.specs.FinMap as maps
-use Rattle.apd_world.specs.Words.{Addr, Answer, AreFit, Conf, Happening, LastHeard, Out, RadioModel, Recipient, Shows, Slot, Sound, State, aid_at, bssid_of, is_up_of, outs_run, radio_of, run, text}
-use Rattle.apd_slot.specs.Slots.{queue_of}
+use Rattle.apd_world.specs.Words.{Answer, AreFit, Conf, Happening, LastHeard, Out, Recipient, Shows, Sound, State, outs_run, run, text}
 
 -- What is known from outside since some moment: the configurations; the state then, the last entry's number, and the
 -- outs that each recipient was owed; what happened since, in order, how many of these, from the front, are durable, and
@@ -72,9 +70,3 @@ pub record Keeps (old new : History) (image : List ℕ) : Type 0 where
   pub all_durable : old.durable ≤ front
   pub within : front ≤ length new.happened
   pub shows : Shows image (after new front)
-
--- A slot resumed at a state: it is up, its radio has exactly the associated stations, and no out waits.
-pub record Resumed {R : Type 0} (radio : RadioModel R) (s : State) (slot : Slot R) : Type 0 where
-  pub up : is_up_of slot ≡ true
-  pub driver : (a : Addr) → maps.get (radio.stations (radio_of slot)) a ≡ aid_at s (bssid_of slot) a
-  pub queue : queue_of slot ≡ []

@@ -2,9 +2,9 @@
 use Rattle.std.specs.Prelude.{◌≡◌, ◌+◌, ℕ, List, [], drop, map, take, Some, Err, slice_get}
 use Rattle.std.specs.List.{AllByRecursion}
 use Rattle.apd_world.specs.Words.{Bssid, DiskModel, IsGivenRows, RadioModel, Shows, Slot, SlotFault, State, Store, World, WorldFault, bssid_of, installed_rows, radio_of, wanted_of}
+use Rattle.apd_slot.specs.Resumed.{Resumed}
 use Rattle.apd_store.specs.Outside.{store_device}
 use Rattle.apd_world.specs.Following.{AreExact, AreFollowing}
-use Rattle.apd_world.specs.History.{Resumed}
 use Rattle.apd_world.specs.WorldParts.{durable_of, queue_of, slots_of}
 use Rattle.apd_world.specs.declared.fault.WorldFault.TheVariants as world_fault
 

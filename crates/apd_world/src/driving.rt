@@ -14,7 +14,7 @@ use std::alloc::AllocError;
 /// one after them, in which what is new is what they told. However many of the steps had been made, a stop at any
 /// moment since then, inside a step or between two, leaves an image of the table after some of what happened, from the
 /// front, with all of which anything had been said by then. At its end, between two steps, a stop leaves the settled
-/// table, or that after the batch in flight.
+/// table, or that after the batch in flight. It is for who has a list of steps; served, workers make them in threads.
 ///
 /// Errors, before the first step: `AllocError`, and the world is as it was.
 pub fn drive<D: Disk, R: Radio>(

@@ -27,7 +27,8 @@ impl<D: Disk, R: Radio> World<D, R> {
 
     /// Tells the core to fail: from now on no request is accepted and no batch is taken; what is in flight may still be
     /// settled. All else of the world stays, and a stop leaves what it left. It is no step, and is called between lists
-    /// of steps: the world stands for the history that it stood for.
+    /// of steps: the world stands for the history that it stood for. It is for who makes a world's steps in one thread;
+    /// served, the committing worker does so.
     pub fn fail(&mut self)
         ensures failed { IsFailed D.model self.old self.new }
         ensures exact { AreExact R.model (slots_of self.old) → AreExact R.model (slots_of self.new) }

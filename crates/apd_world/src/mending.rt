@@ -17,7 +17,8 @@ impl<D: Disk, R: Radio> World<D, R> {
 
     /// Begins to mend the slot of a BSSID, which met a fault, as `Mending::begin` does. The outs that wait there stay,
     /// and so does all else of the world; where no slot has the BSSID nothing is done. It is no step, and is called
-    /// between lists of steps: the world stands for the history that it stood for.
+    /// between lists of steps: the world stands for the history that it stood for. It is for who makes a world's steps
+    /// in one thread; served, a radio's worker mends its slot.
     pub fn begin_mending(&mut self, bssid: Bssid, mending: &mut Mending<R>)
         ensures mended { BeginsAtSlot D.model R.model R.frames bssid mending.old mending.new self.old self.new }
         ensures exact { AreExact R.model (slots_of self.old) → AreExact R.model (slots_of self.new) }

@@ -18,7 +18,7 @@ impl<D: Disk, R: Radio> World<D, R> {
     /// Puts another radio in the place of that of a BSSID's slot, with the stations that are wanted there and no
     /// others, and gives that one back, taken down; the slot is up then. The outs that wait there stay, and so does all
     /// else of the world. It is no step, and is called between lists of steps: the world stands for the history that it
-    /// stood for.
+    /// stood for. It is for who makes a world's steps in one thread; served, a radio's worker does so.
     ///
     /// Errors, beside the other radio: `NoSlot` exactly where no slot has the BSSID, and that radio is as it was;
     /// `Slot` with the BSSID and the slot's refusal, `WentDown` or `NoMemory`: the other radio is taken down, and the
