@@ -1,11 +1,11 @@
 -- What came in at a port, and what the driver said there.
-use Rattle.std.proofs.Common.{Some, Result, Ok, Err, OnErr, append_assoc, ◌≡◌, ◌≢◌, ◌↔◌, ◌⊎◌, inl, inr, ℕ, Bool, true, false, List, [], ◌∷◌, ◌++◌, refl, sym, ap, subst, ◌∙◌}
+use Rattle.std.proofs.Common.{IfSome, IsSome, None, Option, Some, Result, Ok, Err, OnErr, append_assoc, ◌≡◌, ◌≢◌, ◌↔◌, ◌⊎◌, inl, inr, ℕ, Bool, true, false, List, [], ◌∷◌, ◌++◌, refl, sym, ap, subst, ◌∙◌}
 use Rattle.std.proofs.lemmas.List.{append-nil}
 use Rattle.std.specs.declared.net.socket_addr.SocketAddr.{SocketAddr}
 use Rattle.apd_base.proofs.Cases.{differ}
 use Rattle.apd_radio.specs.declared.heard.Heard.{Heard}
 use Rattle.apd_radio.specs.declared.heard.Heard.TheVariants.{Nothing, Stranger, Datagram}
-use Rattle.apd_radio.specs.Drivers.{Received, Gives, HasSaid, Heeds, HearsNext, IsFault, IsFrame, IsUp, PassesOver, is_word}
+use Rattle.apd_radio.specs.Drivers.{Received, Gives, HasSaid, Heeds, HearsNext, IsFault, IsFrame, IsUp, PassesOver, WaitsOrCame, is_word}
 
 -- what holds is so of an error
 pub on_err : {T E : Type 0} {P : Type 0} → (result : Result T E) → P → OnErr result P
@@ -118,3 +118,26 @@ module _ (driver : SocketAddr) where
   gives_next before passed now heard bytes is over h frame =
       let (came, e, one) : HearsNext driver passed (Datagram bytes) now = subst (λ d. HearsNext driver passed d now) is h in
       (frame, (passed, over, e ∙ ap (λ c. passed ++ c) one))
+
+-- the datagram that waited
+pub waits_none : (waiting : Option Received) (before : List Received) → WaitsOrCame waiting before waiting before
+waits_none None before = tt
+waits_none (Some first) before = inl (refl, refl)
+
+pub came_first : (waiting then : Option Received) (before now : List Received) → IfSome waiting (λ first. now ≡ before ++ first ∷ [])
+    → WaitsOrCame waiting before then now
+came_first None then before now h = tt
+came_first (Some first) then before now h = inr ([], h)
+
+pub waits_on : (waiting then : Option Received) (before now : List Received) → (IsSome waiting → then ≡ waiting) → now ≡ before
+    → WaitsOrCame waiting before then now
+waits_on None then before now kept same = tt
+waits_on (Some first) then before now kept same = inl (kept refl, same)
+
+pub waits_both : (first waiting then : Option Received) (a b c came : List Received) → WaitsOrCame first a waiting b → WaitsOrCame waiting b then c
+    → c ≡ b ++ came → WaitsOrCame first a then c
+waits_both None waiting then a b c came p q e = tt
+waits_both (Some first) waiting then a b c came (inl (is, same)) q e =
+    subst (λ w. WaitsOrCame w a then c) is (subst (λ l. WaitsOrCame waiting l then c) same q)
+waits_both (Some first) waiting then a b c came (inr (more, f)) q e =
+    inr (more ++ came, e ∙ ap (λ l. l ++ came) f ∙ append_assoc a (first ∷ more) came)

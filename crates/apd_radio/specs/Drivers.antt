@@ -2,7 +2,10 @@
 use Rattle.std.specs.Prelude.{◌≡◌, ◌≢◌, ℕ, ◌+◌, ◌%◌, ◌^◌, Bool, true, false, ◌⊎◌, ◌&&◌, nat_le, List, [], ◌∷◌, ◌++◌, flat_map, Option, Some, None, ◌↔◌, codes}
 use Rattle.std.specs.FinMap as map
 use Rattle.std.specs.Fmt.{decimal}
+use Rattle.std.specs.Net.Addr.{ipv4_octets}
+use Rattle.std.specs.Net.Socket.{v4_ip, v4_port}
 use Rattle.std.specs.declared.net.socket_addr.SocketAddr.{SocketAddr}
+use Rattle.std.specs.declared.net.socket_addr.SocketAddr.TheVariants.{V4, V6}
 use Rattle.apd_base.specs.declared.address.Addr.{Addr}
 use Rattle.apd_base.specs.Addr.{addr_cmp, text_of}
 use Rattle.apd_base.specs.Text.{blank, newline, decimal_number}
@@ -53,6 +56,11 @@ IsFault text = (number : ℕ) × IsFaultAt number text
 abbrev pub Received : Type 0
 Received = SocketAddr × List ℕ
 
+-- this port of 127.0.0.1
+abbrev pub IsLocal : SocketAddr → ℕ → Type 0
+IsLocal (V4 address) port = (ipv4_octets (v4_ip address) ≡ 127 ∷ 0 ∷ 0 ∷ 1 ∷ []) × (v4_port address ≡ port)
+IsLocal (V6 address) port = ⊥
+
 -- what is heard of a peer where these datagrams came in, one at most: its bytes if the peer sent it, and none of what
 -- others sent
 abbrev pub IsHeard : SocketAddr → List Received → Heard → Type 0
@@ -81,6 +89,12 @@ abbrev pub Gives : SocketAddr → List Received → Option (List ℕ) → List R
 Gives peer before None now = PassesOver peer before now
 Gives peer before (Some frame) now =
     IsFrame frame × ((passed : List Received) × PassesOver peer before passed × (now ≡ passed ++ (peer, frame) ∷ []))
+
+-- behind what came in at a port before: the datagram that waited for memory waits on, and none came in, or it came in first
+abbrev pub WaitsOrCame : Option Received → List Received → Option Received → List Received → Type 0
+WaitsOrCame None before waiting now = Unit {0}
+WaitsOrCame (Some waited) before waiting now =
+    ((waiting ≡ Some waited) × (now ≡ before)) ⊎ ((more : List Received) × (now ≡ before ++ waited ∷ more))
 
 -- behind what came in at a port before, more came in: the map is due then, and the driver's failure is to be answered, if
 -- it was before, or the driver said so

@@ -1,8 +1,7 @@
 //! A radio's driver in another process of this host.
-ghost use Rattle.std.specs.Prelude.{◌≡◌, [], ◌∷◌, ◌++◌, IfOk, IfSome, OnOk, OnErr};
-ghost use Rattle.std.specs.Net.Socket.{socket_port};
+ghost use Rattle.std.specs.Prelude.{◌≡◌, [], ◌∷◌, ◌++◌, Err, IfOk, IfSome, IsSome, OnOk, OnErr};
 ghost use Rattle.std.specs.FinMap as map;
-ghost use Rattle.apd_radio.specs.Drivers.{install_text, remove_text, map_text, next_number, HearsNext, IsSaid};
+ghost use Rattle.apd_radio.specs.Drivers.{install_text, remove_text, map_text, next_number, HearsNext, IsLocal, IsSaid};
 
 use crate::datagrams::{Datagrams, SocketFault};
 use crate::driver_words::{install_text, map_text, remove_text};
@@ -45,7 +44,7 @@ impl Driver {
         port: u16,
         driver: u16,
     ) -> Result<Driver, SocketFault>
-        ensures at { IfOk result (λ made. socket_port made.address ≡ driver) }
+        ensures at { IfOk result (λ made. IsLocal made.address driver) }
         ensures told { IfOk result (λ made. made.told.frames ≡ []) }
         ensures received { IfOk result (λ made. made.received.datagrams ≡ []) }
         ensures first { IfOk result (λ made. made.number ≡ FIRST) }
@@ -75,6 +74,8 @@ impl Driver {
     /// the driver: else one that is gone would be a fault of the device.)
     ///
     /// Errors: `Device`, and nothing was received; `NoMemory`, and the datagram stays.
+    //
+    // The clause `first` is what holds the list to what came in: no body sees whether a datagram waited.
     pub(crate) fn receive(&mut self) -> Result<Heard, RadioFault>
         ensures first { IfSome self.old.datagrams
             (λ waited. OnOk result
@@ -82,6 +83,8 @@ impl Driver {
         ensures heard { IfOk result
             (λ heard. HearsNext self.old.address self.old.received.datagrams heard self.new.received.datagrams) }
         ensures unheard { OnErr result (self.new.received ≡ self.old.received) }
+        ensures kept { IsSome self.old.datagrams → OnErr result (self.new.datagrams ≡ self.old.datagrams) }
+        ensures memory { result ≡ Err RadioFault.NoMemory → IsSome self.new.datagrams }
         ensures same { self.new
             ≡ record self.old { datagrams = self.new.datagrams; received = self.new.received } }
     {

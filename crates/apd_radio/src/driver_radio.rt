@@ -1,9 +1,9 @@
 //! A radio whose driver is another process of this host.
-ghost use Rattle.std.specs.Prelude.{◌≡◌, ◌≤◌, [], ◌∷◌, ◌++◌, ◌↔◌, ◌⊎◌, Bool, Some, true, false, IfOk, OnOk, OnErr};
+ghost use Rattle.std.specs.Prelude.{◌≡◌, ◌≤◌, [], ◌∷◌, ◌++◌, ◌↔◌, ◌⊎◌, Bool, Some, true, false, IfOk, IfSome, IsSome, OnOk, OnErr};
 ghost use Rattle.std.specs.Option.{option_map};
 ghost use Rattle.std.specs.FinMap as map;
 ghost use Rattle.apd_base.specs.Failures.{HasRisen};
-ghost use Rattle.apd_radio.specs.Drivers.{install_text, remove_text, map_text, words_due, Gives, HearsNext, Heeds, IsFault, IsTold, IsToldMap, IsUp, PassesOver};
+ghost use Rattle.apd_radio.specs.Drivers.{install_text, remove_text, map_text, words_due, next_number, Gives, HearsNext, Heeds, IsFault, IsLocal, IsTold, IsToldMap, IsUp, PassesOver, WaitsOrCame};
 ghost use Rattle.apd_radio.specs.Faults.{Counts};
 ghost use Rattle.apd_radio.specs.Frames.{and_then};
 
@@ -63,6 +63,10 @@ impl DriverRadio {
         ensures sent { IfOk result (λ radio. radio.sent.frames ≡ []) }
         ensures told { IfOk result (λ radio. radio.driver.told.frames ≡ []) }
         ensures due { IfOk result (λ radio. radio.due ≡ true) }
+        ensures failed { IfOk result (λ radio. radio.failed ≡ false) }
+        ensures at { IfOk result (λ radio. IsLocal radio.driver.address driver) }
+        ensures received { IfOk result (λ radio. radio.driver.received.datagrams ≡ []) }
+        ensures first { IfOk result (λ radio. radio.driver.number ≡ 1) }
     {
         Ok(DriverRadio {
             driver: Driver::new(rt, alloc, port, driver)?,
@@ -100,7 +104,13 @@ impl DriverRadio {
     fn hear(&mut self) -> Result<Heard, RadioFault>
         ensures heard { IfOk result (λ heard. HearsNext self.old.driver.address self.old.driver.received.datagrams heard
             self.new.driver.received.datagrams) }
+        ensures first { IfSome self.old.driver.datagrams
+            (λ waited. OnOk result
+            (self.new.driver.received.datagrams ≡ self.old.driver.received.datagrams ++ waited ∷ [])) }
         ensures unheard { OnErr result (self.new.driver.received ≡ self.old.driver.received) }
+        ensures kept { IsSome self.old.driver.datagrams
+            → OnErr result (self.new.driver.datagrams ≡ self.old.driver.datagrams) }
+        ensures memory { result ≡ Err RadioFault.NoMemory → IsSome self.new.driver.datagrams }
         ensures heeds { Heeds self.old.driver.address self.old.driver.received.datagrams
             self.new.driver.received.datagrams self.old.due self.old.failed self.new.due self.new.failed }
         ensures driver { self.new.driver ≡ record self.old.driver {
@@ -123,6 +133,9 @@ impl DriverRadio {
             (option_map (λ frame. frame.items) got) self.new.driver.received.datagrams) }
         ensures passes { OnErr result (PassesOver self.old.driver.address self.old.driver.received.datagrams
             self.new.driver.received.datagrams) }
+        ensures waits { WaitsOrCame self.old.driver.datagrams self.old.driver.received.datagrams
+            self.new.driver.datagrams self.new.driver.received.datagrams }
+        ensures memory { result ≡ Err RadioFault.NoMemory → IsSome self.new.driver.datagrams }
         ensures heeds { Heeds self.old.driver.address self.old.driver.received.datagrams
             self.new.driver.received.datagrams self.old.due self.old.failed self.new.due self.new.failed }
         ensures driver { self.new.driver ≡ record self.old.driver {
@@ -156,8 +169,8 @@ impl DriverRadio {
         ensures due { OnErr result (self.new.due ≡ true) }
         ensures map { IsToldMap self.old.due (map_text self.old.driver.number (map.entries self.old.stations))
             self.old.driver.told.frames self.new.due self.new.driver.told.frames }
-        ensures received { self.new.driver.received ≡ self.old.driver.received }
-        ensures address { self.new.driver.address ≡ self.old.driver.address }
+        ensures driver { self.new.driver
+            ≡ record self.old.driver { told = self.new.driver.told; number = self.new.driver.number } }
         ensures same { self.new ≡ record self.old { driver = self.new.driver; due = self.new.due } }
     {
         if self.due {
@@ -169,7 +182,7 @@ impl DriverRadio {
 
     // Answers that the driver failed, once.
     fn answer_failure(&mut self) -> Result<(), RadioFault>
-        ensures failed { self.old.failed ≡ true → result ≡ Err RadioFault.Device }
+        ensures failed { (result ≡ Err RadioFault.Device) ↔ (self.old.failed ≡ true) }
         ensures answered { self.new.failed ≡ false }
         ensures only { OnErr result (result ≡ Err RadioFault.Device) }
         ensures count { Counts self.old.failures self.new.failures result }
@@ -204,6 +217,9 @@ impl Radio for DriverRadio {
             (option_map (λ frame. frame.items) got) self.new.driver.received.datagrams) }
         ensures passes { OnErr result (PassesOver self.old.driver.address self.old.driver.received.datagrams
             self.new.driver.received.datagrams) }
+        ensures waits { WaitsOrCame self.old.driver.datagrams self.old.driver.received.datagrams
+            self.new.driver.datagrams self.new.driver.received.datagrams }
+        ensures waiting { result ≡ Err RadioFault.NoMemory → IsSome self.new.driver.datagrams }
         ensures heeds { (due : Bool)
             × Heeds self.old.driver.address self.old.driver.received.datagrams self.new.driver.received.datagrams
             self.old.due self.old.failed due self.new.failed
@@ -231,7 +247,12 @@ impl Radio for DriverRadio {
         ensures told { OnOk result (IsTold (install_text self.old.driver.number addr aid) self.old.driver.told.frames
             self.new.due self.new.driver.told.frames) }
         ensures due { self.old.due ≡ true → self.new.due ≡ true }
-        ensures failed { self.old.failed ≡ true → result ≡ Err RadioFault.Device }
+        ensures failed { (result ≡ Err RadioFault.Device) ↔ (self.old.failed ≡ true) }
+        ensures answered { self.new.failed ≡ false }
+        ensures untold { OnErr result (self.new.driver.told ≡ self.old.driver.told) }
+        ensures number { self.new.due ≡ false → OnOk result (self.new.driver.number ≡ next_number self.old.driver.number) }
+        ensures unheard { (self.new.driver.received ≡ self.old.driver.received)
+            × (self.new.driver.datagrams ≡ self.old.driver.datagrams) }
         ensures driver { self.new.driver.address ≡ self.old.driver.address }
     {
         self.answer_failure()?;
@@ -253,7 +274,12 @@ impl Radio for DriverRadio {
         ensures told { OnOk result (IsTold (remove_text self.old.driver.number addr) self.old.driver.told.frames
             self.new.due self.new.driver.told.frames) }
         ensures due { self.old.due ≡ true → self.new.due ≡ true }
-        ensures failed { self.old.failed ≡ true → result ≡ Err RadioFault.Device }
+        ensures failed { (result ≡ Err RadioFault.Device) ↔ (self.old.failed ≡ true) }
+        ensures answered { self.new.failed ≡ false }
+        ensures untold { OnErr result (self.new.driver.told ≡ self.old.driver.told) }
+        ensures number { self.new.due ≡ false → OnOk result (self.new.driver.number ≡ next_number self.old.driver.number) }
+        ensures unheard { (self.new.driver.received ≡ self.old.driver.received)
+            × (self.new.driver.datagrams ≡ self.old.driver.datagrams) }
         ensures driver { self.new.driver.address ≡ self.old.driver.address }
     {
         self.answer_failure()?;
@@ -279,6 +305,8 @@ impl Radio for DriverRadio {
             self.new.due self.new.driver.told.frames) }
         ensures done { OnOk result (self.new.due ≡ false) }
         ensures failed { self.new.failed ≡ self.old.failed }
+        ensures unheard { (self.new.driver.received ≡ self.old.driver.received)
+            × (self.new.driver.datagrams ≡ self.old.driver.datagrams) }
         ensures driver { self.new.driver.address ≡ self.old.driver.address }
     {
         let told = self.tell_due();
@@ -295,6 +323,9 @@ impl Radio for DriverRadio {
         ensures sent { self.new.sent ≡ self.old.sent }
         ensures due { self.new.due ≡ true }
         ensures failed { self.new.failed ≡ self.old.failed }
+        ensures untold { self.new.driver.told ≡ self.old.driver.told }
+        ensures unheard { (self.new.driver.received ≡ self.old.driver.received)
+            × (self.new.driver.datagrams ≡ self.old.driver.datagrams) }
         ensures driver { self.new.driver.address ≡ self.old.driver.address }
     {
         self.stations.clear();

@@ -31,10 +31,11 @@ impl ReceivedDatagrams {
         }
     }
 
-    /// One datagram more, of the one sender.
-    pub(crate) fn note(&mut self, _sender: &[SocketAddr], _bytes: &[u8])
+    /// One datagram more for each of these senders: of one, where a datagram is noted. (It is a slice since the proof
+    /// by hand is of slices.)
+    pub(crate) fn note(&mut self, _senders: &[SocketAddr], _bytes: &[u8])
         ensures { self.new ≡ record self.old {
-          datagrams = self.old.datagrams ++ map (λ sender. (sender, _bytes.now)) _sender.now;
+          datagrams = self.old.datagrams ++ map (λ sender. (sender, _bytes.now)) _senders.now;
         } }
     {}
 }

@@ -2,7 +2,7 @@ use Rattle.std.proofs.Common.{◌≡◌, ap, sym, subst, ◌∙◌}
 use Rattle.apd_radio.specs.declared.driver.Driver.{Driver}
 use Rattle.apd_radio.specs.declared.driver_radio.DriverRadio.{DriverRadio}
 use Rattle.apd_radio.specs.Drivers.{Heeds, HearsNext, is_word}
-use Rattle.apd_radio.proofs.Heeding.{heeds_both, on_err, passes_both, passes_next}
+use Rattle.apd_radio.proofs.Heeding.{came_first, heeds_both, on_err, passes_both, passes_next, waits_both, waits_on}
 use Rattle.apd_radio.proofs.driver_radio.DriverRadio.listen.Goals as goal
 use Rattle.apd_radio.proofs.driver_radio.DriverRadio.listen.Goals.{in-Stranger, in-Datagram+else-not-is_word}
 
@@ -39,6 +39,21 @@ loop-preserved c =
       ]));
       heeds = heeds_both c.args.self.now.driver.address _ _ _ _ _ _ _ _ _ c.loop.invariant.heeds
           (subst (λ d. Heeds d c.loop.self.driver.received.datagrams c.hear.new.self.driver.received.datagrams c.loop.self.due c.loop.self.failed c.hear.new.self.due c.hear.new.self.failed) at c.hear.ensures.heeds);
+      waits = waits_both _ _ _ _ _ _ _ c.loop.invariant.waits (came_first c.loop.self.driver.datagrams _ _ _ c.in_ok-hear.ensures.first) c.hear.ensures.heeds.received;
       driver = c.hear.ensures.driver ∙ ap {A = Driver} {B = Driver} (λ d. record d { datagrams = c.hear.new.self.driver.datagrams; received = c.hear.new.self.driver.received }) c.loop.invariant.driver;
       same = c.hear.ensures.same ∙ ap {A = DriverRadio} {B = DriverRadio} (λ r. record r { driver = c.hear.new.self.driver; due = c.hear.new.self.due; failed = c.hear.new.self.failed }) c.loop.invariant.same;
     }
+
+pub returns-in_err-hear-clause-waits : goal.returns-in_err-hear-clause-waits
+returns-in_err-hear-clause-waits c =
+    waits_both _ _ _ _ _ _ _ c.loop.invariant.waits
+    (waits_on c.loop.self.driver.datagrams _ _ _ c.in_err-hear.ensures.kept (ap (λ r. r.datagrams) c.in_err-hear.ensures.unheard))
+    c.hear.ensures.heeds.received
+
+pub returns-in-Nothing-clause-waits : goal.returns-in-Nothing-clause-waits
+returns-in-Nothing-clause-waits c =
+    waits_both _ _ _ _ _ _ _ c.loop.invariant.waits (came_first c.loop.self.driver.datagrams _ _ _ c.in_ok-hear.ensures.first) c.hear.ensures.heeds.received
+
+pub returns-then-not-is_word-clause-waits : goal.returns-then-not-is_word-clause-waits
+returns-then-not-is_word-clause-waits c =
+    waits_both _ _ _ _ _ _ _ c.loop.invariant.waits (came_first c.loop.self.driver.datagrams _ _ _ c.in_ok-hear.ensures.first) c.hear.ensures.heeds.received

@@ -9,7 +9,7 @@ returns-clause-heeds c =
     let heard = c.listen-answer.new.self in
     let now = c.tell_due-told.new.self in (
       heard.due,
-      rw c.tell_due-told.ensures.received (rw (ap (λ r. r.failed) c.tell_due-told.ensures.same) c.listen-answer.ensures.heeds),
+      rw (ap (λ d. d.received) c.tell_due-told.ensures.driver) (rw (ap (λ r. r.failed) c.tell_due-told.ensures.same) c.listen-answer.ensures.heeds),
       subst (λ told. IsToldMap heard.due (map_text first.driver.number (map.entries first.stations)) told now.due now.driver.told.frames) (ap (λ d. d.told.frames) c.listen-answer.ensures.driver)
           (subst (λ stations. IsToldMap heard.due (map_text first.driver.number (map.entries stations)) heard.driver.told.frames now.due now.driver.told.frames) (ap (λ r. r.stations) c.listen-answer.ensures.same)
           (subst (λ number. IsToldMap heard.due (map_text number (map.entries heard.stations)) heard.driver.told.frames now.due now.driver.told.frames) (ap (λ d. d.number) c.listen-answer.ensures.driver)
