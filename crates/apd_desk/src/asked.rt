@@ -50,7 +50,8 @@ impl<L: Ledger, W: Wait> Asks for Asked<'_, L, W> {
     ghost made = { λ call old new. by_seat call old.seat new.seat };
 
     fn submit<'a>(&mut self, input: Input<'a>, moment: Moment) -> Result<Accepted<'a>, AllocError> {
-        self.shared.submit(self.rt, &mut self.seat, input, moment)
+        self.shared
+            .submit_in_burst(self.rt, &mut self.seat, input, moment)
     }
 
     fn ask(&mut self, query: Query) -> Result<Answer, AskFault> {
@@ -71,6 +72,9 @@ pub(crate) trait Serves: Asks {
     /// What was there at one moment.
     fn look(&self) -> Look;
 
+    /// A burst of requests ended: who waits for entries is woken where one was an entry.
+    fn end_burst(&self);
+
     /// Notes whether the radio of a BSSID is up.
     fn note(&self, bssid: Bssid, up: bool);
 
@@ -83,7 +87,11 @@ pub(crate) trait Serves: Asks {
 
 impl<L: Ledger, W: Wait + Clock> Serves for Asked<'_, L, W> {
     fn look(&self) -> Look {
-        self.shared.look(self.rt)
+        self.shared.look()
+    }
+
+    fn end_burst(&self) {
+        self.shared.end_burst(self.rt);
     }
 
     fn note(&self, bssid: Bssid, up: bool) {

@@ -11,7 +11,7 @@ ghost use Rattle.apd_desk.specs.Holding.{IsLed};
 
 use crate::ending::Ending;
 use crate::gate::{Gate, Place};
-use crate::idle::{Idle, Progress};
+use crate::idle::{Idle, LOOKS, Progress};
 use crate::locked::Look;
 use crate::news::News;
 use crate::shared::Shared;
@@ -24,6 +24,7 @@ use apd_store::{Receipt, StoreFault};
 use std::alloc::AllocError;
 use std::sync::Wait;
 use std::sync::ledger::Ledger;
+use std::thread::yield_now;
 use std::time::Clock;
 
 /// A core that gives batches away and settles them, and for whose news one can wait.
@@ -64,10 +65,16 @@ impl<L: Ledger, W: Wait> Settles for Committed<'_, L, W> {
 
 impl<L: Ledger, W: Wait + Clock> Rests for Committed<'_, L, W> {
     fn look(&self) -> Look {
-        self.shared.look(self.rt)
+        self.shared.look()
     }
 
     fn wait(&self, seen: Look) {
+        for _ in 0..LOOKS {
+            if News::Entry.has_come(seen, self.shared.look()) {
+                return;
+            }
+            yield_now();
+        }
         self.shared.wait(self.rt, News::Entry, seen);
     }
 
@@ -157,10 +164,12 @@ fn step<A: Settles, D: Disk, G: Gate>(core: &mut A, committer: &mut Committer<D>
 
 // Behind a step that went so rests, until there is an entry or a stop where there was nothing to do, and looks again.
 fn look_again<A: Rests>(core: &A, idle: &mut Idle, progress: Progress, seen: Look) -> Look {
-    if idle.rest(progress) {
-        match progress {
-            Progress::Nothing => core.wait(seen),
-            Progress::Short | Progress::Made => core.pause(seen),
+    match progress {
+        Progress::Nothing => core.wait(seen),
+        Progress::Short | Progress::Made => {
+            if idle.rest(progress) {
+                core.pause(seen);
+            }
         }
     }
     core.look()

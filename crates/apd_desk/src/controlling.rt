@@ -203,7 +203,7 @@ pub fn control_worker<L: Ledger, W: Wait + SystemClock + Net, P: Port, C: Clock,
     let mut waiter = Waiter::new(rt, alloc, shared, Recipient::Control);
     let mut idle = Idle::new();
     for _ in rt.forever() {
-        let seen = shared.look(rt);
+        let seen = shared.look();
         if seen.stopped {
             break;
         }

@@ -5,7 +5,7 @@ ghost use Rattle.apd_desk.specs.declared.idle.TheConstants.{LOOKS};
 use std::thread::yield_now;
 
 /// How often in a row an idle worker looks again before it waits.
-const LOOKS: u32 = 200;
+pub(crate) const LOOKS: u32 = 200;
 
 /// How many frames, outs or commands a worker takes in a turn at most, before it looks at anything else.
 pub(crate) const AT_ONCE: u32 = 64;

@@ -2,6 +2,7 @@
 #![tactic(auto)]
 
 mod asked;
+mod board;
 mod clock;
 mod committing;
 mod controlling;

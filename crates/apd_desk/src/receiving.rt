@@ -54,8 +54,29 @@ impl<R: Radio> Parts<R> {
         }
     }
 
-    // Submits the frames that wait, up to as many as may be at once, unless all are to stop.
-    fn receive_all<A: Asks, C: Clock, G: Gate>(
+    // Submits the frames that wait, up to as many as may be at once.
+    fn receive_burst<A: Asks, C: Clock, G: Gate>(
+        &mut self,
+        core: &mut A,
+        clock: &C,
+        gate: &G,
+    ) -> Progress
+        ensures { IsRadioRun R.model R.frames A.made core.old core.new
+            self.old.slot self.new.slot self.old.mending self.new.mending }
+    {
+        let mut progress = Progress::Nothing;
+        for _ in 0..AT_ONCE {
+            let next = self.receive(core, clock, gate);
+            progress = progress.max(next);
+            if next != Progress::Made {
+                break;
+            }
+        }
+        progress
+    }
+
+    // The same, unless all are to stop, and tells the core that the burst ended: whatever its last frame was.
+    fn receive_all<A: Serves, C: Clock, G: Gate>(
         &mut self,
         core: &mut A,
         seen: Look,
@@ -65,16 +86,12 @@ impl<R: Radio> Parts<R> {
         ensures { IsRadioRun R.model R.frames A.made core.old core.new
             self.old.slot self.new.slot self.old.mending self.new.mending }
     {
-        let mut progress = Progress::Nothing;
         if seen.stopped {
-            return progress;
+            return Progress::Nothing;
         }
-        for _ in 0..AT_ONCE {
-            let next = self.receive(core, clock, gate);
-            progress = progress.max(next);
-            if next != Progress::Made {
-                break;
-            }
+        let progress = self.receive_burst(core, clock, gate);
+        if progress == Progress::Made {
+            core.end_burst();
         }
         progress
     }

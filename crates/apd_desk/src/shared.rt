@@ -12,6 +12,7 @@ ghost use Rattle.apd_desk.specs.Replying.{AreReadyOfSome, IsAnswerOfSome};
 ghost use Rattle.apd_desk.specs.TicketOwner.{IsOwn};
 ghost use Rattle.apd_desk.specs.SeatProgress.{IsBehind, IsLater};
 
+use crate::board::Board;
 use crate::locked::{Locked, Look};
 use crate::news::{Conditions, News};
 use crate::seat::{AskFault, SEATS, Seat};
@@ -34,7 +35,8 @@ use std::time::{Clock, Duration};
 const PAUSE: u64 = 1;
 
 /// A core under a lock, and what wakes those that wait for news of it. Each call but `new` and `close` takes the lock,
-/// may wait for it, and holds it for one call of the core at most, beside a look at what it has.
+/// may wait for it, and holds it for one call of the core at most, beside a look at what it has. Who only looks takes
+/// no lock.
 ///
 /// No clause says what the core is at the moment of a call, since others may call before and after it: of each
 /// call that is said, by the same definitions as of the core's own, where it has the lock. No clause speaks of
@@ -42,6 +44,7 @@ const PAUSE: u64 = 1;
 #[derive(Drop)]
 pub struct Shared<L: Ledger> {
     locked: Mutex<Locked<L>>,
+    board: Board,
     conditions: Conditions,
     bells: Bells,
 }
@@ -54,8 +57,10 @@ impl<L: Ledger> Shared<L> {
         requires parts { blank.parts ≡ L.parts }
         requires all { blank.parts ≡ SEATS }
     {
+        let locked = Locked::new(core, blank);
         Shared {
-            locked: Mutex::new(Locked::new(core, blank)),
+            board: Board::new(locked.look()),
+            locked: Mutex::new(locked),
             conditions: Conditions::new(),
             bells: Bells::new(),
         }
@@ -83,11 +88,40 @@ impl<L: Ledger> Shared<L> {
         ensures err { OnErr result (seat.new.count ≡ seat.old.count) }
         ensures seen { seat.new.seen ≡ seat.old.seen }
     {
-        let answer = self.locked.lock(rt).submit(seat, input, moment);
+        let answer = self.submit_in_burst(rt, seat, input, moment);
         if let Ok(Accepted::Entry(_)) = &answer {
-            self.conditions.tell(News::Entry);
+            self.end_burst(rt);
         }
         answer
+    }
+
+    // The same in a burst of requests, behind whose last one `end_burst` is called.
+    pub(crate) fn submit_in_burst<'a>(
+        &self,
+        rt: &impl Wait,
+        seat: &mut Seat<L>,
+        input: Input<'a>,
+        moment: Moment,
+    ) -> Result<Accepted<'a>, AllocError>
+        ensures tells { by_seat (SubmitTells input.entry moment result) seat.old seat.new }
+        ensures own { IfOk result (IsOwn input.entry moment) }
+        ensures count { IfOk result (λ answer. seat.new.count ≡ seat.old.count + entries_in answer) }
+        ensures err { OnErr result (seat.new.count ≡ seat.old.count) }
+        ensures seen { seat.new.seen ≡ seat.old.seen }
+    {
+        self.locked.lock(rt).submit(seat, input, moment)
+    }
+
+    // Posts how many entries were accepted by now. Who waits for entries is woken where there are more than were posted.
+    pub(crate) fn end_burst(&self, rt: &impl Wait) {
+        let locked = self.locked.lock(rt);
+        let now = locked.look();
+        let has_come = News::Entry.has_come(self.look(), now);
+        self.board.post_accepted(now);
+        drop(locked);
+        if has_come {
+            self.conditions.tell(News::Entry);
+        }
     }
 
     /// Answers a query from the table after all settled entries: the core's `read`. The seat has then seen what is
@@ -149,6 +183,7 @@ impl<L: Ledger> Shared<L> {
     {
         let Shared {
             locked,
+            board,
             conditions,
             bells,
         } = self;
@@ -157,6 +192,7 @@ impl<L: Ledger> Shared<L> {
             Err((locked, seats)) => {
                 let shared = Shared {
                     locked: Mutex::new(locked),
+                    board,
                     conditions,
                     bells,
                 };
@@ -168,7 +204,10 @@ impl<L: Ledger> Shared<L> {
     /// Tells the workers to end, and wakes them. It takes no memory. What a look at the flag tells afterwards is a
     /// matter of the moment, and said where the lock is held.
     pub fn stop(&self, rt: &impl Wait) {
-        self.locked.lock(rt).stop();
+        let mut locked = self.locked.lock(rt);
+        locked.stop();
+        self.board.post_stop();
+        drop(locked);
         self.conditions.tell(News::Stop);
         self.bells.ring_all();
     }
@@ -215,6 +254,7 @@ impl<L: Ledger> Shared<L> {
     {
         let mut locked = self.locked.lock(rt);
         let answer = locked.publish(receipt);
+        self.board.post_settled(locked.look());
         let ready = self.bells.ready_places(&locked);
         drop(locked);
         if answer.is_ok() {
@@ -224,9 +264,25 @@ impl<L: Ledger> Shared<L> {
         answer
     }
 
-    // Keeps what wakes the worker of a recipient at its socket. Tells whether there was a place.
-    pub(crate) fn keep_bell(&self, to: Recipient, waker: Waker) -> bool {
+    // Keeps what wakes the worker of a recipient at its socket. Tells at which place, if there was one.
+    pub(crate) fn keep_bell(&self, to: Recipient, waker: Waker) -> Option<usize> {
         self.bells.keep(to, waker)
+    }
+
+    // Whoever has this bell sleeps from now on, unless something was settled since a look, or all are to stop. Tells
+    // whether it is to sleep.
+    pub(crate) fn fall_asleep(&self, place: usize, seen: Look) -> bool {
+        self.bells.note_asleep(place, true);
+        let is_quiet = !News::Settled.has_come(seen, self.look());
+        if !is_quiet {
+            self.bells.note_asleep(place, false);
+        }
+        is_quiet
+    }
+
+    // It no longer sleeps.
+    pub(crate) fn wake_up(&self, place: usize) {
+        self.bells.note_asleep(place, false);
     }
 
     // The core's `fail`, of some core.
@@ -236,9 +292,9 @@ impl<L: Ledger> Shared<L> {
         self.locked.lock(rt).fail();
     }
 
-    // What was there at one moment. It says nothing of the next.
-    pub(crate) fn look(&self, rt: &impl Wait) -> Look {
-        self.locked.lock(rt).look()
+    // What was there at one moment. It says nothing of the next. It takes no lock.
+    pub(crate) fn look(&self) -> Look {
+        self.board.look()
     }
 
     // Waits until there are such news since a look, or a stop. No clause speaks of waiting.

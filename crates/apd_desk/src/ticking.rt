@@ -28,7 +28,7 @@ pub fn tick_worker<L: Ledger, W: Wait + SystemClock, C: Clock, G: Gate>(
     let mut seat = seat;
     let mut last = clock.now();
     for _ in rt.forever() {
-        let seen = shared.look(rt);
+        let seen = shared.look();
         if seen.stopped {
             break;
         }

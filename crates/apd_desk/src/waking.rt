@@ -11,6 +11,7 @@ use std::alloc::Global;
 use std::array;
 use std::net::Net;
 use std::os::fd::RawFd;
+use std::sync::atomic::{AtomicBool, Ordering};
 use std::sync::ledger::Ledger;
 use std::sync::{OnceLock, Wait};
 use std::time::Clock;
@@ -25,10 +26,12 @@ const WOKEN: Token = Token(0);
 const READABLE: Token = Token(1);
 
 // What wakes the worker of a recipient.
-#[derive(Debug, Drop)]
+#[derive(Drop)]
 struct Bell {
     to: Recipient,
     waker: Waker,
+    // Whether that worker waits at its socket, or is about to.
+    asleep: AtomicBool,
 }
 
 /// What wakes the workers that wait at their sockets. A place is taken once.
@@ -44,23 +47,32 @@ impl Bells {
         }
     }
 
-    /// Keeps what wakes the worker of a recipient. Tells whether there was a place.
-    pub(crate) fn keep(&self, to: Recipient, waker: Waker) -> bool {
-        let mut bell = Bell { to, waker };
-        for place in &self.places {
+    /// Keeps what wakes the worker of a recipient. Tells at which place, if there was one.
+    pub(crate) fn keep(&self, to: Recipient, waker: Waker) -> Option<usize> {
+        let asleep = AtomicBool::new(false);
+        let mut bell = Bell { to, waker, asleep };
+        for (at, place) in self.places.iter().enumerate() {
             match place.try_set(bell) {
-                Ok(_token) => return true,
+                Ok(_token) => return Some(at),
                 Err(back) => bell = back,
             }
         }
-        false
+        None
     }
 
-    /// At which places are those for whom outs are ready.
+    /// Notes whether the worker at a place waits at its socket.
+    pub(crate) fn note_asleep(&self, at: usize, asleep: bool) {
+        if let Some(bell) = self.places.get(at).and_then(|place| place.get()) {
+            bell.asleep.store(asleep, Ordering::SeqCst);
+        }
+    }
+
+    /// At which places are those that wait at their sockets, and for whom outs are ready.
     pub(crate) fn ready_places<L: Ledger>(&self, locked: &Locked<L>) -> [bool; RECIPIENTS] {
         let mut ready = [false; RECIPIENTS];
         for (place, ready) in self.places.iter().zip(&mut ready) {
-            *ready = place.get().is_some_and(|bell| locked.is_ready(bell.to));
+            *ready = place.get().is_some_and(|bell| bell.asleep.load(Ordering::SeqCst)
+                && locked.is_ready(bell.to));
         }
         ready
     }
@@ -83,6 +95,8 @@ impl Bells {
 // What the system tells of.
 #[derive(Drop)]
 struct Watch {
+    // Where its bell is.
+    place: usize,
     poll: Poll,
     events: Events,
 }
@@ -98,16 +112,26 @@ impl Watch {
         let events = Events::with_capacity(alloc, 2).ok()?;
         let poll = Poll::new(net).ok()?;
         let waker = Waker::new(poll.registry(), WOKEN).ok()?;
-        if shared.keep_bell(to, waker) {
-            Some(Watch { poll, events })
-        } else {
-            None
-        }
+        let place = shared.keep_bell(to, waker)?;
+        Some(Watch {
+            place,
+            poll,
+            events,
+        })
     }
 
-    // Waits until the descriptor can be read, or its bell rings. Tells whether it could wait for that.
-    fn wait(&mut self, descriptor: RawFd) -> bool {
-        ask_for(self.poll.registry(), descriptor) && self.poll.poll(&mut self.events, None).is_ok()
+    // Waits until the descriptor can be read, or its bell rings, if since a look nothing was settled. Tells whether it
+    // could wait for that.
+    fn wait<L: Ledger>(&mut self, shared: &Shared<L>, descriptor: RawFd, seen: Look) -> bool {
+        if !ask_for(self.poll.registry(), descriptor) {
+            return false;
+        }
+        if !shared.fall_asleep(self.place, seen) {
+            return true;
+        }
+        let could = self.poll.poll(&mut self.events, None).is_ok();
+        shared.wake_up(self.place);
+        could
     }
 }
 
@@ -142,9 +166,14 @@ impl Waiter {
     }
 
     // Waits at this descriptor, if there is one. Tells whether it could.
-    fn wait_at(&mut self, descriptor: Option<RawFd>) -> bool {
+    fn wait_at<L: Ledger>(
+        &mut self,
+        shared: &Shared<L>,
+        descriptor: Option<RawFd>,
+        seen: Look,
+    ) -> bool {
         match (&mut self.watch, descriptor) {
-            (Some(watch), Some(descriptor)) => watch.wait(descriptor),
+            (Some(watch), Some(descriptor)) => watch.wait(shared, descriptor, seen),
             _ => false,
         }
     }
@@ -160,7 +189,7 @@ impl Waiter {
         descriptor: Option<RawFd>,
         seen: Look,
     ) {
-        if progress != Progress::Nothing || !self.wait_at(descriptor) {
+        if progress != Progress::Nothing || !self.wait_at(shared, descriptor, seen) {
             shared.pause(rt, News::Settled, seen);
         }
     }

@@ -203,3 +203,67 @@ impl<R: Radio> Radio for Short<R> {
         self.inner.failures()
     }
 }
+
+/// What a radio's poll gives behind each frame.
+#[derive(Clone, Copy, PartialEq, Eq)]
+pub(crate) enum Trail {
+    /// A frame of one byte, which is no request.
+    Noise,
+    /// Want of memory.
+    Fault,
+}
+
+/// The radio inside, behind each frame of which its next poll gives something that becomes no entry.
+#[derive(Drop)]
+pub(crate) struct Trailed<R: Radio> {
+    pub(crate) alloc: Global,
+    pub(crate) inner: R,
+    pub(crate) trail: Trail,
+    /// Whether that is to come.
+    pub(crate) comes: bool,
+}
+
+impl<R: Radio> Radio for Trailed<R> {
+    ghost model = { inside R.model (λ radio. radio.inner) };
+
+    fn poll(&mut self) -> Result<Option<Vec<u8>>, RadioFault> {
+        if self.comes {
+            self.comes = false;
+            if self.trail == Trail::Fault {
+                return Err(RadioFault::NoMemory);
+            }
+            return Ok(Some(Vec::from_slice(self.alloc, &[0])?));
+        }
+        let frame = self.inner.poll()?;
+        self.comes = frame.is_some();
+        Ok(frame)
+    }
+
+    fn descriptor(&self) -> Option<RawFd> {
+        self.inner.descriptor()
+    }
+
+    fn install(&mut self, addr: Addr, aid: u16) -> Result<(), RadioFault> {
+        self.inner.install(addr, aid)
+    }
+
+    fn remove(&mut self, addr: Addr) -> Result<(), RadioFault> {
+        self.inner.remove(addr)
+    }
+
+    fn transmit(&mut self, frame: &[u8]) -> Result<(), RadioFault> {
+        self.inner.transmit(frame)
+    }
+
+    fn take_down(&mut self) {
+        self.inner.take_down();
+    }
+
+    fn installed(&self, addr: Addr) -> Option<u16> {
+        self.inner.installed(addr)
+    }
+
+    fn failures(&self) -> u64 {
+        self.inner.failures()
+    }
+}

@@ -8,7 +8,7 @@ use crate::common::{
     started_core,
 };
 use crate::expect::expect;
-use crate::staged::Short;
+use crate::staged::{Short, Trail, Trailed};
 use apd_core::Core;
 use apd_desk::{Gate, NoGate, Place, Shared, control_worker, tick_worker};
 use apd_disk::MemDisk;
@@ -289,4 +289,50 @@ fn answers_where_memory_lacks<W: Host>(rt: &W, alloc: Global) -> Option<bool> {
 #[test]
 fn what_lacks_memory_is_not_waited_for_at_the_socket(rt: HostRuntime) {
     expect(&rt, answers_where_memory_lacks(&rt, rt.alloc()), Some(true));
+}
+
+// How frames are answered behind each of which comes what becomes no entry, within the same turn.
+fn answers_before_a_trail<W: Host>(rt: &W, alloc: Global, trail: Trail) -> Option<bool> {
+    let (radio_port, port) = two_free_ports(rt)?;
+    let frame = authentication(0xaa);
+    let one = Question::new(radio_port, &frame, &AUTHENTICATED, 1);
+    let questions = [
+        one,
+        one,
+        one,
+        Question::new(radio_port, &frame, &AUTHENTICATED, 150),
+    ];
+    let core = started_core(alloc);
+    let crew = crew_with(rt, alloc, trailed_radio(rt, alloc, radio_port, trail), port);
+    let blank = Blank::new(65_536);
+    Some(are_answered::<Brand, _, _>(rt, alloc, blank, core, crew, &questions))
+}
+
+// A radio at this port with such a trail.
+fn trailed_radio(rt: &impl Net, alloc: Global, port: u16, trail: Trail) -> Option<Trailed<UdpSim>> {
+    let inner = UdpSim::new(rt, alloc, port).ok()?;
+    Some(Trailed {
+        alloc,
+        inner,
+        trail,
+        comes: false,
+    })
+}
+
+#[test]
+fn a_burst_is_committed_whose_last_frame_is_no_entry(rt: HostRuntime) {
+    expect(
+        &rt,
+        answers_before_a_trail(&rt, rt.alloc(), Trail::Noise),
+        Some(true),
+    );
+}
+
+#[test]
+fn a_burst_is_committed_behind_which_the_poll_fails(rt: HostRuntime) {
+    expect(
+        &rt,
+        answers_before_a_trail(&rt, rt.alloc(), Trail::Fault),
+        Some(true),
+    );
 }

@@ -1,5 +1,5 @@
 use Rattle.apd_steps.specs.Serving.{IsRadioRun}
-use Rattle.apd_desk.proofs.receiving.Parts.receive_all.Given as goal
+use Rattle.apd_desk.proofs.receiving.Parts.receive_burst.Given as goal
 
 abbrev pub invariant-loop : goal.invariant-loop
 invariant-loop g l =

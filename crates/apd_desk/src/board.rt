@@ -1,0 +1,47 @@
+//! What can be seen without the lock.
+use crate::locked::Look;
+use std::sync::atomic::{AtomicBool, AtomicU64, Ordering};
+
+/// What was posted of the shared core, for those who look while others hold the lock. Each piece is posted under the
+/// lock: who takes that after a look finds at least what was seen.
+#[derive(Drop)]
+pub(crate) struct Board {
+    stopped: AtomicBool,
+    accepted: AtomicU64,
+    settled: AtomicU64,
+}
+
+impl Board {
+    /// Of a core of which this is seen.
+    pub(crate) fn new(look: Look) -> Board {
+        Board {
+            stopped: AtomicBool::new(look.stopped),
+            accepted: AtomicU64::new(look.accepted),
+            settled: AtomicU64::new(look.settled),
+        }
+    }
+
+    /// Posts how many entries were accepted.
+    pub(crate) fn post_accepted(&self, look: Look) {
+        self.accepted.store(look.accepted, Ordering::SeqCst);
+    }
+
+    /// Posts the number of the last settled one.
+    pub(crate) fn post_settled(&self, look: Look) {
+        self.settled.store(look.settled, Ordering::SeqCst);
+    }
+
+    /// Posts that all are to stop.
+    pub(crate) fn post_stop(&self) {
+        self.stopped.store(true, Ordering::SeqCst);
+    }
+
+    /// What was posted last.
+    pub(crate) fn look(&self) -> Look {
+        Look {
+            stopped: self.stopped.load(Ordering::SeqCst),
+            accepted: self.accepted.load(Ordering::SeqCst),
+            settled: self.settled.load(Ordering::SeqCst),
+        }
+    }
+}
