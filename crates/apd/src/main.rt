@@ -2,7 +2,7 @@
 //! into them, and copies those of version 1.
 #![tactic(auto)]
 
-use apd_commands::run_program;
+use apd_program::run_program;
 use std::io;
 use std::process::ExitCode;
 

@@ -1,18 +1,17 @@
-//! What ends the program with status 1.
+//! Why a subcommand that serves nobody didn't do what it was asked for.
 ghost use Rattle.std.specs.Prelude.{◌≡◌};
-ghost use Rattle.apd_commands.specs.declared.fault.ProgramFault.TheVariants.{NoMemory};
+ghost use Rattle.apd_commands.specs.declared.fault.CommandFault.TheVariants.{NoMemory};
 
-use crate::running::RunningFault;
 use apd_conf::ConfigurationFault;
 use apd_maintenance::{CheckFault, FormatFault, UpgradeFault};
 use apd_script::ScriptFault;
-use apd_serve::OpenFault;
+use apd_site::OpenFault;
 use std::alloc::AllocError;
 use thiserror::Error;
 
-/// What ends the program with status 1. It is printed in the words of the fault inside.
+/// Why a subcommand that serves nobody didn't do what it was asked for. It is shown in the words of the fault inside.
 #[derive(Debug, Drop, Error)]
-pub enum ProgramFault {
+pub enum CommandFault {
     /// A configuration that `script` is given is refused.
     #[error("{0}")]
     Configuration(ConfigurationFault),
@@ -31,18 +30,15 @@ pub enum ProgramFault {
     /// A store of version 1 isn't copied.
     #[error("{0}")]
     Upgrade(UpgradeFault),
-    /// `run` didn't serve to its end.
-    #[error("{0}")]
-    Running(RunningFault),
     /// Memory ran out.
     #[error("out of memory")]
     NoMemory,
 }
 
-impl From<AllocError> for ProgramFault {
+impl From<AllocError> for CommandFault {
     ghost from_gives = { λ _ fault. fault ≡ NoMemory };
 
-    fn from(_: AllocError) -> ProgramFault {
-        ProgramFault::NoMemory
+    fn from(_: AllocError) -> CommandFault {
+        CommandFault::NoMemory
     }
 }

@@ -6,42 +6,15 @@ ghost use Rattle.apd_disk.specs.FileModel.{file_model};
 ghost use Rattle.apd_maintenance.specs.Formatting.{IsNewStore};
 ghost use Rattle.apd_maintenance.specs.Missing.{IsThere};
 
-use crate::fault::ProgramFault;
+use crate::fault::CommandFault;
 use crate::naming::{create_beside, give_name};
 use apd_disk::{FileDisk, FileRecord};
 use apd_maintenance::{FormatFault, run_format, run_format_missing};
-use apd_serve::{Access, file_or_fault, open_disk};
-use clap::{Arg, ArgAction, ArgMatches, Command};
-use std::alloc::{AllocError, Global};
+use apd_site::{Access, file_or_fault, open_disk};
+use clap::ArgMatches;
 use std::fs::{self, File};
 use std::io::{ErrorKind, Write};
 use std::rt::Files;
-
-/// What the help for `format` says beside its arguments.
-const FORMAT_HELP: &str =
-    "Warning: without --missing the whole content of an existing store is emptied, without a
-question asked. Any file of a store's length, 2097216 bytes, is made a store, whatever it held;
-a file of another length is left as it was.
-
-With --missing it prints 'kept' where a store is there, of whatever version and also a damaged
-one, and changes nothing. A file of a store's length with zeros alone is made a store. Any other
-file is left as it was.";
-
-/// The subcommand.
-pub(crate) fn format_command<'a>(alloc: Global) -> Result<Command<'a>, AllocError> {
-    let missing = Arg::new(alloc, "missing")
-        .long("missing")
-        .action(ArgAction::SetTrue)
-        .help("Makes a store only where there is none, and keeps one that is there");
-    let store = Arg::new(alloc, "STORE")
-        .required(true)
-        .help("The store's file, which is made where there is none");
-    Command::new(alloc, "format")
-        .about("Makes a file a store of the empty table; all that a store held is lost")
-        .after_help(FORMAT_HELP)
-        .arg(missing)?
-        .arg(store)
-}
 
 /// Makes the file of this name, of which this is known, a new store, and says so. Where what it answered is what it held
 /// by that, it is then a store of the empty table, and so is all that a loss of power leaves of it.
@@ -50,14 +23,14 @@ pub fn format_file<W: Write>(
     name: &str,
     known: FileRecord,
     writer: &mut W,
-) -> Result<FileDisk, ProgramFault>
+) -> Result<FileDisk, CommandFault>
     ensures made { IfOk result (λ made. OfFile known (λ file. IsNewStore file_model file made)) }
     ensures printed { OnOk result (Appends (W.contents writer.old) (W.contents writer.new) (codes "formatted\n")) }
 {
-    let disk = open_disk(rt, name, Access::Make).map_err(ProgramFault::Open)?;
+    let disk = open_disk(rt, name, Access::Make).map_err(CommandFault::Open)?;
     match run_format(rt.alloc(), disk.knowing(known), writer) {
         Ok(made) => Ok(made),
-        Err((_, fault)) => Err(ProgramFault::Format(fault)),
+        Err((_, fault)) => Err(CommandFault::Format(fault)),
     }
 }
 
@@ -66,9 +39,9 @@ fn make_and_print(
     rt: &(impl Files<File = File> + AllocGlobal),
     name: &str,
     writer: &mut impl Write,
-) -> Result<(), ProgramFault> {
+) -> Result<(), CommandFault> {
     let created = create_beside(rt, name);
-    let (disk, beside) = file_or_fault(rt, name, created).map_err(ProgramFault::Open)?;
+    let (disk, beside) = file_or_fault(rt, name, created).map_err(CommandFault::Open)?;
     let mut told = Vec::new(rt.alloc());
     let made = run_format(rt.alloc(), disk, &mut told);
     let named = match &made {
@@ -77,12 +50,12 @@ fn make_and_print(
     };
     let _ = fs::remove_file(rt, beside.as_str());
     if let Err((_, fault)) = made {
-        return Err(ProgramFault::Format(fault));
+        return Err(CommandFault::Format(fault));
     }
-    file_or_fault(rt, name, named).map_err(ProgramFault::Open)?;
+    file_or_fault(rt, name, named).map_err(CommandFault::Open)?;
     match writer.write_all(&told) {
         Ok(()) => Ok(()),
-        Err(_) => Err(ProgramFault::Format(FormatFault::Writer)),
+        Err(_) => Err(CommandFault::Format(FormatFault::Writer)),
     }
 }
 
@@ -92,14 +65,14 @@ pub fn keep_or_format<W: Write>(
     disk: FileDisk,
     known: FileRecord,
     writer: &mut W,
-) -> Result<FileDisk, ProgramFault>
+) -> Result<FileDisk, CommandFault>
     requires { disk.known.calls ≡ [] }
     ensures { IfOk result (λ left. OfFile known
         (λ file. IsThere file_model (W.contents writer.old) (W.contents writer.new) file left)) }
 {
     match run_format_missing(rt.alloc(), disk.knowing(known), writer) {
         Ok(left) => Ok(left),
-        Err((_, fault)) => Err(ProgramFault::Format(fault)),
+        Err((_, fault)) => Err(CommandFault::Format(fault)),
     }
 }
 
@@ -109,14 +82,14 @@ fn format_missing_and_print(
     rt: &(impl Files<File = File> + AllocGlobal),
     name: &str,
     writer: &mut impl Write,
-) -> Result<(), ProgramFault> {
+) -> Result<(), CommandFault> {
     let opened = match FileDisk::open(rt, name) {
         Err(error) if error.kind() == ErrorKind::NotFound => {
             return make_and_print(rt, name, writer);
         }
         opened => opened,
     };
-    let disk = file_or_fault(rt, name, opened).map_err(ProgramFault::Open)?;
+    let disk = file_or_fault(rt, name, opened).map_err(CommandFault::Open)?;
     keep_or_format(rt, disk, FileRecord::new(), writer)?;
     Ok(())
 }
@@ -126,7 +99,7 @@ pub fn run_format_command(
     rt: &(impl Files<File = File> + AllocGlobal),
     matches: &ArgMatches<'_>,
     writer: &mut impl Write,
-) -> Result<(), ProgramFault> {
+) -> Result<(), CommandFault> {
     let name = matches.get_str("STORE").unwrap_or("");
     if matches.get_flag("missing") {
         format_missing_and_print(rt, name, writer)

@@ -1,33 +1,24 @@
-//! The command line of `apd`: its subcommands, what each does, and what is told at its end. The program is
-//! `run_program`; what else is public is what it is made of, for tests.
+//! The subcommands of `apd` that serve nobody: what each does, and what is told behind its faults. The program goes by
+//! `work_on_files`; what else is public is what that is made of, for tests, or what `run` needs too.
 #![tactic(auto)]
 
 mod checking;
-mod command_line;
+mod dispatch;
 mod fault;
 mod formatting;
-mod host;
 mod naming;
-mod program;
-mod running;
 mod scripting;
 mod streams;
-mod telling;
 mod telling_more;
-mod timed;
 mod upgrading;
 mod warnings;
 
 pub use checking::{check_and_print, check_file, run_check_command};
-pub use command_line::{command, no_text};
-pub use fault::ProgramFault;
+pub use dispatch::work_on_files;
+pub use fault::CommandFault;
 pub use formatting::{format_file, keep_or_format, run_format_command};
-pub use host::Host;
-pub use program::run_program;
-pub use running::{RunningFault, refuse_ports, run_and_log};
 pub use scripting::run_script_of_input;
 pub use streams::hold_closed_streams;
-pub use telling::tell;
-pub use telling_more::tell_more;
-pub use timed::Timed;
+pub use telling_more::{names_of, tell_configurations, tell_more_of_command, tell_stream};
 pub use upgrading::{upgrade_and_print, upgrade_files};
+pub use warnings::warn_of_ssids;

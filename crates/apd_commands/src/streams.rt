@@ -1,6 +1,6 @@
 //! Standard streams that are closed. The next file that is opened would get the descriptor of one of them, and what
 //! is printed would be written into it: so none is left closed.
-use apd_serve::{OpenFault, file_or_fault};
+use apd_site::{OpenFault, file_or_fault};
 use std::fs::File;
 use std::os::fd::AsRawFd;
 use std::rt::Files;

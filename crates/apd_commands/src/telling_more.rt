@@ -1,26 +1,20 @@
-//! What is told behind a fault's line: why a file or a port was not had, and what is wrong with configurations.
-use crate::fault::ProgramFault;
-use crate::running::RunningFault;
-use apd_conf::{Conf, ConfigurationFault, Confs};
-use apd_reasons::{More, PortUse, Purpose, tell_conf_file, tell_file, tell_ports, tell_repeats};
-use apd_script::read_configurations;
-use apd_serve::{Access, OpenFault, RunFault, open_disk};
+//! What is told behind a fault's line: why a file was not had, and what is wrong with configurations.
+use crate::fault::CommandFault;
+use apd_conf::ConfigurationFault;
+use apd_reasons::{More, Purpose, tell_conf_file, tell_file, tell_repeats};
+use apd_site::{Access, OpenFault, open_disk};
 use clap::ArgMatches;
 use std::alloc::AllocError;
 use std::fs::File;
-use std::net::Net;
 use std::rt::Files;
 
-// The store's file, and the one that watches it, are open while recordings are opened.
-const OPEN_OF_STORE: usize = 2;
-
-// The files of configurations that a subcommand is given.
-fn names_of<'a>(words: &'a ArgMatches<'_>) -> &'a [&'a str] {
+/// The files of configurations that a subcommand is given.
+pub fn names_of<'a>(words: &'a ArgMatches<'_>) -> &'a [&'a str] {
     words.get_strs("CONF").unwrap_or(&[])
 }
 
-// Tells of each file of configurations that were refused.
-fn tell_configurations(
+/// Tells of each file of configurations that were refused.
+pub fn tell_configurations(
     rt: &(impl Files<File = File> + AllocGlobal),
     more: &mut More,
     fault: &ConfigurationFault,
@@ -78,114 +72,20 @@ fn tell_store(
     tell_file(rt, more, name, purpose, 0)
 }
 
-// Adds the list files that a configuration names.
-fn add_lists<'a>(names: &mut Vec<&'a str>, conf: &'a Conf) -> Result<(), AllocError> {
-    for list in [&conf.accept_mac_file, &conf.deny_mac_file] {
-        if let Some(list) = list {
-            names.push(list.as_str())?;
-        }
-    }
-    Ok(())
-}
-
-// Tells why the recording of this name was not had, which none of the run's other files may be.
-fn tell_recording(
+/// Tells more of a fault that the subcommand of these words met: why a file was not had, by asking the system once more,
+/// and each faulty line of the files of configurations. Of other faults nothing.
+pub fn tell_more_of_command(
     rt: &(impl Files<File = File> + AllocGlobal),
-    more: &mut More,
-    run: &ArgMatches<'_>,
-    name: &str,
-) -> Result<(), AllocError> {
-    let confs = read_configurations(rt, names_of(run)).ok();
-    let mut kept = Vec::from_slice(rt.alloc(), names_of(run))?;
-    kept.push(run.get_str("store").unwrap_or(""))?;
-    if let Some(confs) = &confs {
-        for conf in confs.list() {
-            add_lists(&mut kept, conf)?;
-        }
-    }
-    let place = name.rsplit('.').next().and_then(|place| place.parse().ok());
-    let others = OPEN_OF_STORE.saturating_add(place.unwrap_or(0));
-    tell_file(rt, more, name, Purpose::Recording(&kept), others)?;
-    drop(kept);
-    Ok(())
-}
-
-// Tells why a file of a run was not had. Where the store can be had now, it was a recording.
-fn tell_run_file(
-    rt: &(impl Files<File = File> + AllocGlobal),
-    more: &mut More,
-    run: &ArgMatches<'_>,
-    name: &str,
-) -> Result<(), AllocError> {
-    let store = run.get_str("store").unwrap_or("");
-    let is_store = open_disk(rt, store, Access::Write).is_err();
-    if is_store {
-        tell_file(rt, more, store, Purpose::Store, 0)
-    } else {
-        tell_recording(rt, more, run, name)
-    }
-}
-
-// Tells which port of a run was not had.
-fn tell_run_ports(
-    rt: &(impl Files<File = File> + Net + AllocGlobal),
-    more: &mut More,
-    run: &ArgMatches<'_>,
-) -> Result<(), AllocError> {
-    let Ok(confs) = read_configurations(rt, names_of(run)) else {
-        return Ok(());
-    };
-    let mut uses = Vec::new(rt.alloc());
-    uses.push(PortUse::Control)?;
-    for conf in confs.list() {
-        uses.push(PortUse::Radio(conf.interface.as_str()))?;
-    }
-    let recorded = match run.get_str("record") {
-        Some(_) => confs.list().len(),
-        None => 0,
-    };
-    let others = OPEN_OF_STORE.saturating_add(recorded);
-    let port = run.get_one("port").unwrap_or(0);
-    tell_ports(rt, more, port, &uses, others)?;
-    drop(uses);
-    Ok(())
-}
-
-// Tells more of why a run doesn't serve.
-fn tell_run(
-    rt: &(impl Files<File = File> + Net + AllocGlobal),
-    more: &mut More,
-    run: &ArgMatches<'_>,
-    fault: &RunningFault,
-) -> Result<(), AllocError> {
-    match fault {
-        RunningFault::Configuration(fault) => tell_configurations(rt, more, fault, names_of(run)),
-        RunningFault::Run(RunFault::Open(OpenFault::CannotRead(name))) => {
-            tell_run_file(rt, more, run, name.as_str())
-        }
-        RunningFault::Run(RunFault::Socket(_)) => tell_run_ports(rt, more, run),
-        _ => Ok(()),
-    }
-}
-
-/// Tells more of a fault that the subcommand of these words met: why a file or a port was not had, by asking the system
-/// once more, and each faulty line of the files of configurations. Of other faults nothing.
-pub fn tell_more(
-    rt: &(impl Files<File = File> + Net + AllocGlobal),
     more: &mut More,
     words: &ArgMatches<'_>,
-    fault: &ProgramFault,
+    fault: &CommandFault,
 ) -> Result<(), AllocError> {
     match fault {
-        ProgramFault::Open(OpenFault::CannotRead(name)) => {
+        CommandFault::Open(OpenFault::CannotRead(name)) => {
             tell_store(rt, more, words, name.as_str())
         }
-        ProgramFault::Configuration(fault) => match words.subcommand_matches("script") {
+        CommandFault::Configuration(fault) => match words.subcommand_matches("script") {
             Some(script) => tell_configurations(rt, more, fault, names_of(script)),
-            None => Ok(()),
-        },
-        ProgramFault::Running(fault) => match words.subcommand_matches("run") {
-            Some(run) => tell_run(rt, more, run, fault),
             None => Ok(()),
         },
         _ => Ok(()),
@@ -193,7 +93,7 @@ pub fn tell_more(
 }
 
 /// Tells why a stream was not had.
-pub(crate) fn tell_stream(
+pub fn tell_stream(
     rt: &(impl Files<File = File> + AllocGlobal),
     more: &mut More,
     fault: &OpenFault,

@@ -5,38 +5,13 @@ ghost use Rattle.apd_commands.specs.Files.{OfFile};
 ghost use Rattle.apd_disk.specs.FileModel.{file_model};
 ghost use Rattle.apd_maintenance.specs.Upgrading.{IsCopied};
 
-use crate::fault::ProgramFault;
+use crate::fault::CommandFault;
 use apd_disk::{FileDisk, FileRecord};
 use apd_maintenance::run_upgrade;
-use apd_serve::{Access, open_disk};
-use clap::{Arg, Command};
-use std::alloc::{AllocError, Global};
+use apd_site::{Access, open_disk};
 use std::fs::File;
 use std::io::Write;
 use std::rt::Files;
-
-/// What the help for `upgrade` says beside its arguments.
-const UPGRADE_HELP: &str =
-    "Warning: the whole content of NEW, a store's too, is overwritten, without a question asked.
-NEW gets the table of OLD, and 'copied' is printed. OLD is only read, so the earlier version
-can go on with it. Where OLD is refused, or NEW has another length than 2097216 bytes, nothing
-is written; but a NEW that was not there has been made by then, of zeros, and may be removed.
-docs/UPGRADE.md has each step, and the way back.";
-
-/// The subcommand.
-pub(crate) fn upgrade_command<'a>(alloc: Global) -> Result<Command<'a>, AllocError> {
-    let old = Arg::new(alloc, "OLD")
-        .required(true)
-        .help("The file of a store of version 1, which is only read");
-    let new = Arg::new(alloc, "NEW")
-        .required(true)
-        .help("The new store's file, which is made where there is none");
-    Command::new(alloc, "upgrade")
-        .about("Copies a store of version 1 into a new one; all that the new one held is lost")
-        .after_help(UPGRADE_HELP)
-        .arg(old)?
-        .arg(new)
-}
 
 /// Copies the store of the file of one name into that of another, of which this is known, and says so. Where what both
 /// answered is what they held by that, the new one is a store of the table that the old one shows by its version, and so
@@ -46,14 +21,14 @@ pub fn upgrade_files<W: Write>(
     names: (&str, &str),
     known: (FileRecord, FileRecord),
     writer: &mut W,
-) -> Result<(FileDisk, FileDisk), ProgramFault>
+) -> Result<(FileDisk, FileDisk), CommandFault>
     ensures made { IfOk result (λ left. OfFile known.0 (λ old. OfFile known.1
         (λ new. IsCopied file_model file_model old left.0 new left.1))) }
     ensures printed { OnOk result (Appends (W.contents writer.old) (W.contents writer.new) (codes "copied\n")) }
 {
     let (known_old, known_new) = known;
-    let old = open_disk(rt, names.0, Access::Read).map_err(ProgramFault::Open)?;
-    let new = open_disk(rt, names.1, Access::Make).map_err(ProgramFault::Open)?;
+    let old = open_disk(rt, names.0, Access::Read).map_err(CommandFault::Open)?;
+    let new = open_disk(rt, names.1, Access::Make).map_err(CommandFault::Open)?;
     match run_upgrade(
         rt.alloc(),
         old.knowing(known_old),
@@ -61,7 +36,7 @@ pub fn upgrade_files<W: Write>(
         writer,
     ) {
         Ok(left) => Ok(left),
-        Err((_, _, fault)) => Err(ProgramFault::Upgrade(fault)),
+        Err((_, _, fault)) => Err(CommandFault::Upgrade(fault)),
     }
 }
 
@@ -71,7 +46,7 @@ pub fn upgrade_and_print(
     old: &str,
     new: &str,
     writer: &mut impl Write,
-) -> Result<(), ProgramFault> {
+) -> Result<(), CommandFault> {
     let known = (FileRecord::new(), FileRecord::new());
     upgrade_files(rt, (old, new), known, writer)?;
     Ok(())

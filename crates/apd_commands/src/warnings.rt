@@ -4,7 +4,7 @@ use apd_reasons::warning_of;
 use log::{Log, warn};
 
 /// Logs, at the level warn, what is odd about the names of networks.
-pub(crate) fn warn_of_ssids(rt: &impl Log, confs: &Confs) {
+pub fn warn_of_ssids(rt: &impl Log, confs: &Confs) {
     for conf in confs.list() {
         if let Some(warning) = warning_of(conf) {
             let interface = conf.interface.as_str();

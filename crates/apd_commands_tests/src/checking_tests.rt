@@ -2,10 +2,11 @@ use crate::expect::{expect, expect_file, hold, protect, read, remove, write};
 use crate::scripting_tests::{
     JOINS, add_fault, expect_script, make_old_store, make_store, make_store_behind, put,
 };
-use apd_commands::{ProgramFault, check_and_print, command, run_check_command};
+use apd_command_line::command;
+use apd_commands::{CommandFault, check_and_print, run_check_command};
 use apd_conf::Confs;
 use apd_script::{read_configurations, run_on_store};
-use apd_serve::{Access, open_disk};
+use apd_site::{Access, open_disk};
 use std::fs::{self, File};
 use std::os::unix::fs::FileExt;
 use std::process::Abort;
@@ -98,7 +99,7 @@ fn stations_fault_of(
     rt: &(impl Abort + Files<File = File> + AllocGlobal),
     name: &str,
     out: &mut Vec<u8>,
-) -> Option<ProgramFault> {
+) -> Option<CommandFault> {
     let command = command(rt.alloc()).expect(rt, "memory");
     let words = ["apd", "check", "--stations", name];
     let matches = command.try_get_matches_from(&words).ok();

@@ -1,9 +1,9 @@
 use crate::expect::{expect, read, remove, write};
 use crate::scripting_tests::make_old_store;
-use apd_commands::ProgramFault;
+use apd_commands::CommandFault;
 use apd_disk::FileDisk;
 use apd_maintenance::{FormatFault, run_format};
-use apd_serve::{Access, open_disk};
+use apd_site::{Access, open_disk};
 use apd_store::{StoreFault, recover};
 use std::fs::{self, File};
 use std::process::Abort;
@@ -75,7 +75,7 @@ fn a_store_of_version_1_becomes_an_empty_store(rt: HostRuntime) {
 }
 
 /// Expects that a fault is printed in these words.
-pub fn expect_text(rt: &(impl Abort + AllocGlobal), told: &ProgramFault, wanted: &str) {
+pub fn expect_text(rt: &(impl Abort + AllocGlobal), told: &CommandFault, wanted: &str) {
     let text = format!(in rt.alloc(); "{told}").expect(rt, "memory");
     expect(rt, text.as_str(), wanted);
 }
@@ -83,7 +83,7 @@ pub fn expect_text(rt: &(impl Abort + AllocGlobal), told: &ProgramFault, wanted:
 /// Expects the fault of a store in a folder that isn't there.
 fn expect_no_folder(rt: &(impl Abort + Files<File = File> + AllocGlobal)) {
     let opened = open_disk(rt, "no_folder_of_a_test/store", Access::Make).err();
-    let told = ProgramFault::Open(opened.expect(rt, "a fault"));
+    let told = CommandFault::Open(opened.expect(rt, "a fault"));
     expect_text(rt, &told, "cannot read no_folder_of_a_test/store");
 }
 
@@ -102,7 +102,7 @@ fn faults_of_a_store_s_file_are_printed_in_these_words(rt: HostRuntime) {
     expect(&rt, read(&rt, name).len(), 8);
     remove(&rt, name);
     for (fault, text) in TEXTS {
-        expect_text(&rt, &ProgramFault::Format(fault), text);
+        expect_text(&rt, &CommandFault::Format(fault), text);
     }
     expect_no_folder(&rt);
 }

@@ -4,8 +4,9 @@ use crate::formatting_tests::expect_text;
 use crate::scripting_tests::{
     Closed, JOINED, JOINS, add_fault, expect_script, make_old_store, make_store, put,
 };
-use apd_commands::{ProgramFault, command, run_format_command};
-use apd_serve::{Access, open_disk};
+use apd_command_line::command;
+use apd_commands::{CommandFault, run_format_command};
+use apd_site::{Access, open_disk};
 use std::fs::{self, File};
 use std::io::Write;
 use std::os::unix::fs::symlink;
@@ -17,7 +18,7 @@ fn fault_of(
     rt: &(impl Abort + Files<File = File> + AllocGlobal),
     name: &str,
     writer: &mut impl Write,
-) -> Option<ProgramFault> {
+) -> Option<CommandFault> {
     let command = command(rt.alloc()).expect(rt, "memory");
     let words = ["apd", "format", "--missing", name];
     let matches = command.try_get_matches_from(&words).ok();

@@ -1,9 +1,8 @@
 use crate::expect::{expect, expect_file, hold, read, remove, write};
 use crate::scripting_tests::make_old_store;
-use apd_commands::{
-    Host, ProgramFault, RunningFault, command, no_text, refuse_ports, run_and_log, tell,
-};
+use apd_command_line::{command, no_text, refuse_ports};
 use apd_disk::FileDisk;
+use apd_program::{Host, ProgramFault, RunningFault, run_and_log, tell};
 use apd_store::format;
 use std::alloc::{AllocError, Global};
 use std::cell::Cell;

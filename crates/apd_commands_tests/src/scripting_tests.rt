@@ -1,10 +1,10 @@
 use crate::expect::{expect, expect_file, hold, read, remove, write};
-use apd_commands::{ProgramFault, run_script_of_input};
+use apd_commands::{CommandFault, run_script_of_input};
 use apd_conf::{Conf, Confs};
 use apd_disk::FuseDisk;
 use apd_maintenance::run_format;
 use apd_script::{ScriptFault, run_on_store};
-use apd_serve::{Access, open_disk};
+use apd_site::{Access, open_disk};
 use std::alloc::Global;
 use std::fs::{self, File};
 use std::io::{self, BufRead, BufReader, Read, Write};
@@ -48,19 +48,19 @@ fn fault_of(
     name: &str,
     script: &[u8],
     out: &mut Vec<u8>,
-) -> Option<ProgramFault> {
+) -> Option<CommandFault> {
     match open_disk(rt, name, Access::Write) {
         Ok(disk) => {
             let confs = new_confs(rt, rt.alloc());
             let ran = run_on_store(rt.alloc(), disk, confs, script, out);
-            ran.err().map(ProgramFault::Script)
+            ran.err().map(CommandFault::Script)
         }
-        Err(fault) => Some(ProgramFault::Open(fault)),
+        Err(fault) => Some(CommandFault::Open(fault)),
     }
 }
 
 /// Adds a fault as the program prints it.
-pub fn add_fault(rt: &(impl Abort + AllocGlobal), fault: &ProgramFault, out: &mut Vec<u8>) {
+pub fn add_fault(rt: &(impl Abort + AllocGlobal), fault: &CommandFault, out: &mut Vec<u8>) {
     let text = format!(in rt.alloc(); "apd: {fault}\n").expect(rt, "memory");
     out.extend_from_slice(text.as_bytes()).expect(rt, "memory");
 }

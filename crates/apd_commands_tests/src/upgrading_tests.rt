@@ -2,7 +2,7 @@ use crate::checking_tests::check_output;
 use crate::expect::{expect, expect_file, hold, protect, read, remove, write};
 use crate::formatting_tests::expect_text;
 use crate::scripting_tests::{add_fault, expect_script, make_old_store, put};
-use apd_commands::{ProgramFault, upgrade_and_print};
+use apd_commands::{CommandFault, upgrade_and_print};
 use apd_maintenance::UpgradeFault;
 use apd_store::StoreFault;
 use std::fs::{self, File};
@@ -139,6 +139,6 @@ const TEXTS: [(UpgradeFault, &str); 5] = [
 #[test]
 fn faults_of_an_upgrade_are_printed_in_these_words(rt: HostRuntime) {
     for (fault, wanted) in TEXTS {
-        expect_text(&rt, &ProgramFault::Upgrade(fault), wanted);
+        expect_text(&rt, &CommandFault::Upgrade(fault), wanted);
     }
 }

@@ -4,12 +4,12 @@ ghost use Rattle.apd_disk.specs.FileModel.{file_model};
 ghost use Rattle.apd_disk.specs.declared.record.FileRecord.{FileRecord as Known};
 ghost use Rattle.apd_serve.specs.FileWorld.{IsBegunOver, IsRecoveredFrom, file_of};
 
-use crate::opening::{Access, open_disk};
 use crate::running::RunFault;
 use apd_base::Moment;
 use apd_conf::Confs;
 use apd_disk::{FileDisk, FileRecord};
 use apd_radio::Radio;
+use apd_site::{Access, open_disk};
 use apd_store::{Store, recover};
 use apd_table::Table;
 use apd_world::{World, WorldFault, begin_anew, slots_for};

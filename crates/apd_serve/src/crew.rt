@@ -1,6 +1,6 @@
 //! Threads that work side by side until the input ends.
 use crate::fault::ServeFault;
-use crate::input::read_to_its_end;
+use apd_site::read_to_its_end;
 use std::alloc::Global;
 use std::io::Read;
 use std::sync::Wait;

@@ -8,10 +8,10 @@ ghost use Rattle.apd_desk.specs.SeatProgress.{IsLater};
 ghost use Rattle.apd_desk.specs.Serving.{HasServed};
 ghost use Rattle.apd_serve.specs.HandedOut.{IsHandedBy};
 
-use crate::notices::tell_not_handed_out;
 use apd_desk::{Port, Progress, Seat, Shared, mend_first, tend};
 use apd_mlme::{Out, Recipient};
 use apd_radio::Radio;
+use apd_site::tell_not_handed_out;
 use apd_slot::{Mending, Slot};
 use log::Log;
 use std::alloc::Global;

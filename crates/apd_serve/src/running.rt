@@ -2,28 +2,22 @@
 ghost use Rattle.std.specs.Prelude.{◌≡◌};
 ghost use Rattle.apd_serve.specs.declared.running.RunFault.TheVariants.{NoMemory, Open};
 
-use crate::alarm::Alarm;
 use crate::beginning::{OpenStore, begin_world, open_store};
 use crate::clock::SystemClock;
 use crate::crew::run_beside;
-use crate::edits::{Edits, TellingPort};
-use crate::elsewhere::Elsewhere;
 use crate::fault::ServeFault;
-use crate::identity::Identity;
-use crate::notices::{tell_entries, tell_lists, tell_start};
-use crate::opening::{OpenFault, file_or_fault};
-use crate::recordings::{RecordingFile, empty_files, open_recordings};
 use crate::serving::{serve_started, start};
-use crate::station_notes::StationNotes;
-use crate::store_watch::{Ending, StoreWatch, watch};
-use crate::telling_file::TellingFile;
-use crate::telling_radio::TellingRadio;
-use crate::until_fault::UntilFault;
-use apd_conf::{Conf, Confs};
+use crate::telling_port::TellingPort;
+use apd_conf::Confs;
 use apd_control_port::ControlPort;
 use apd_desk::NoGate;
 use apd_disk::{FileDisk, FileRecord};
-use apd_radio::{DriverRadio, Radio, Recording, SocketFault, UdpSim};
+use apd_radio::SocketFault;
+use apd_site::{
+    Alarm, Driven, Edits, Elsewhere, Ending, OpenFault, RecordingFile, Site, SiteFault, SiteRadio,
+    StoreWatch, UntilFault, elsewhere_of, open_radios, open_recordings_of, open_watch, site_radios,
+    tell_entries, tell_lists, tell_start, watch,
+};
 use apd_store::StoreFault;
 use apd_world::{World, WorldFault};
 use log::Log;
@@ -37,27 +31,6 @@ use std::sync::Wait;
 use std::thread::Threads;
 use std::time::Clock;
 use thiserror::Error;
-
-/// Where an access point runs.
-#[derive(Clone, Copy, Debug)]
-pub struct Site<'a> {
-    /// The name of the store's file.
-    pub store: &'a str,
-    /// The port of control commands. The radio at place i has the port i + 1 above it.
-    pub port: u16,
-    /// Where the radios' drivers are other processes: the port of that at place 0. That at place i has the port i above.
-    pub drivers: Option<u16>,
-    /// What the names of the recordings begin with, where the radios are recorded: that of the radio at place i ends
-    /// in `.` and i in decimal.
-    pub recordings: Option<&'a str>,
-    /// The names of the files that the configurations were read from: none of them, nor of the list files that they
-    /// name, becomes a recording.
-    pub configurations: &'a [&'a str],
-    /// Where a fault of the store's device ends it: the descriptor that can be read whenever the input can.
-    pub ends_at_fault: Option<RawFd>,
-    /// Whether it is logged which stations associate, leave and are let go, and which list edits are carried out.
-    pub logs_stations: bool,
-}
 
 /// Why an access point didn't run to the end of its input.
 #[derive(Debug, Drop, Error)]
@@ -98,285 +71,117 @@ impl From<OpenFault> for RunFault {
     }
 }
 
-// Opens the store's file once more, to look at it alone. The disk holds the lock of its own: a file that can be locked
-// is another one, which was given the name meanwhile.
-fn open_watch<'a>(
-    rt: &(impl Files<File = File> + AllocGlobal),
-    name: &'a str,
-) -> Result<StoreWatch<'a>, OpenFault> {
-    file_or_fault(rt, name, StoreWatch::open(rt, name))
-}
-
-// The files that no recording may be made over: the store, those of the configurations, and the list files that
-// these name. A name of no file is passed over.
-fn kept_files(
-    rt: &(impl Files<File = File> + AllocGlobal),
-    confs: &Confs,
-    site: &Site<'_>,
-) -> Result<Vec<Identity>, AllocError> {
-    let mut kept = Vec::new(rt.alloc());
-    keep(rt, &mut kept, site.store)?;
-    for name in site.configurations {
-        keep(rt, &mut kept, name)?;
-    }
-    for conf in confs.list() {
-        for list in [&conf.accept_mac_file, &conf.deny_mac_file] {
-            if let Some(list) = list {
-                keep(rt, &mut kept, list.as_str())?;
-            }
+impl From<SiteFault> for RunFault {
+    fn from(fault: SiteFault) -> RunFault {
+        match fault {
+            SiteFault::Open(fault) => RunFault::Open(fault),
+            SiteFault::Socket(fault) => RunFault::Socket(fault),
+            SiteFault::NoMemory => RunFault::NoMemory,
         }
     }
-    Ok(kept)
 }
 
-// Adds the file of a name, if there is one.
-fn keep(
-    files: &impl Files<File = File>,
-    kept: &mut Vec<Identity>,
-    name: &str,
-) -> Result<(), AllocError> {
-    if let Some(found) = Identity::of_name(files, name) {
-        kept.push(found)?;
-    }
-    Ok(())
-}
-
-// Opens the files of a site's recordings, where there are to be any.
-fn open_all_recordings(
-    rt: &(impl Files<File = File> + AllocGlobal),
-    confs: &Confs,
-    site: &Site<'_>,
-) -> Result<Option<Vec<RecordingFile>>, RunFault> {
-    let Some(prefix) = site.recordings else {
-        return Ok(None);
-    };
-    let kept = kept_files(rt, confs, site)?;
-    Ok(Some(open_recordings(rt, prefix, confs.list().len(), &kept)?))
-}
-
-// The port at a place above this one.
-fn port_above(port: u16, place: usize) -> Result<u16, RunFault> {
-    let place = u16::try_from(place).ok();
-    match place.and_then(|place| port.checked_add(place)) {
-        Some(port) => Ok(port),
-        None => Err(RunFault::Socket(SocketFault::NoSocket)),
-    }
-}
-
-// Opens so many ports, one after the other above this one.
-fn open_radios(
-    rt: &(impl Net + AllocGlobal),
-    port: u16,
-    count: usize,
-) -> Result<Vec<UdpSim>, RunFault> {
-    let first = port_above(port, 1)?;
-    let mut radios = Vec::with_capacity(rt.alloc(), count)?;
-    for place in 0..count {
-        match UdpSim::new(rt, rt.alloc(), port_above(first, place)?) {
-            Ok(radio) => radios.push(radio).map_err(AllocError::from)?,
-            Err(fault) => return Err(RunFault::Socket(fault)),
-        }
-    }
-    Ok(radios)
-}
-
-// The same, of radios whose drivers have the ports from another one on.
-fn open_driver_radios(
-    rt: &(impl Net + AllocGlobal),
-    port: u16,
-    drivers: u16,
-    count: usize,
-) -> Result<Vec<DriverRadio>, RunFault> {
-    let first = port_above(port, 1)?;
-    let mut radios = Vec::with_capacity(rt.alloc(), count)?;
-    for place in 0..count {
-        let (own, driver) = (port_above(first, place)?, port_above(drivers, place)?);
-        match DriverRadio::new(rt, rt.alloc(), own, driver) {
-            Ok(radio) => radios.push(radio).map_err(AllocError::from)?,
-            Err(fault) => return Err(RunFault::Socket(fault)),
-        }
-    }
-    Ok(radios)
-}
-
-// What counts the datagrams that come to radios from elsewhere: the one at a place has the interface of the configuration
-// at that place.
-fn elsewhere_of(
-    alloc: Global,
-    confs: &Confs,
-    radios: &[DriverRadio],
-) -> Result<Elsewhere, AllocError> {
-    let mut elsewhere = Elsewhere::new(alloc);
-    for (radio, conf) in radios.iter().zip(confs.list()) {
-        let interface = String::from_str(alloc, conf.interface.as_str())?;
-        elsewhere.add(interface, radio.strangers().clone()?)?;
-    }
-    Ok(elsewhere)
-}
-
-// Has each radio recorded, the one at a place into the file at that place. Why a recording ends is logged.
-fn record_radios<'a, L: Log, R: Radio>(
-    log: &'a L,
-    alloc: Global,
-    radios: Vec<R>,
-    files: Vec<RecordingFile>,
-) -> Result<Vec<Recording<R, TellingFile<'a, L, File>>>, AllocError> {
-    let mut recorded = Vec::with_capacity(alloc, radios.len())?;
-    for (radio, recording) in radios.into_iter().zip(files) {
-        let RecordingFile { name, file } = recording;
-        let file = TellingFile::new(log, name, file);
-        recorded.push(Recording::new(alloc, radio, file))?;
-    }
-    Ok(recorded)
-}
-
-// What is noted of an interface's stations, where they are to be told of.
-fn station_notes(alloc: Global, conf: &Conf, are_told: bool) -> Option<StationNotes> {
-    if are_told {
-        Some(StationNotes::new(alloc, conf.bssid))
-    } else {
-        None
-    }
-}
-
-// Has each radio tell of its driver's faults, and of its stations where that is asked for: the one at a place has the
-// interface of the configuration at that place.
-fn tell_of_radios<'a, L: Log, R: Radio>(
-    log: &'a L,
-    alloc: Global,
-    confs: &Confs,
-    radios: Vec<R>,
-    of_stations: bool,
-) -> Result<Vec<TellingRadio<'a, L, R>>, AllocError> {
-    let mut telling = Vec::with_capacity(alloc, radios.len())?;
-    for (radio, conf) in radios.into_iter().zip(confs.list()) {
-        let interface = String::from_str(alloc, conf.interface.as_str())?;
-        let notes = station_notes(alloc, conf, of_stations);
-        telling.push(TellingRadio::new(log, interface, radio, notes))?;
-    }
-    Ok(telling)
-}
-
-// A port that tells of list edits, where that is asked for.
-fn tell_of_edits<'a, L: Log>(
-    log: &'a L,
-    alloc: Global,
-    confs: &Confs,
-    port: ControlPort,
-    are_told: bool,
-) -> Result<TellingPort<'a, L, ControlPort>, AllocError> {
-    let edits = if are_told {
-        Some(Edits::new(alloc, confs)?)
-    } else {
-        None
-    };
-    Ok(TellingPort::new(log, port, edits))
-}
-
-// A store that was opened, and what watches its file.
+// The files of a site: its store, what watches that, and those of its recordings, where there are to be any.
 #[derive(Drop)]
-struct Opened<'a> {
+struct SiteFiles<'a> {
     store: OpenStore,
     watched: StoreWatch<'a>,
+    recordings: Option<Vec<RecordingFile>>,
 }
 
-fn open_watched<'a>(
-    rt: &(impl Files<File = File> + AllocGlobal),
-    name: &'a str,
-    known: FileRecord,
-) -> Result<Opened<'a>, RunFault> {
-    let store = open_store(rt, name, known)?;
-    let watched = open_watch(rt, name)?;
-    Ok(Opened { store, watched })
-}
-
-// Opens the files of a site: its store, and those of its recordings, where there are to be any.
 fn open_files<'a>(
     rt: &(impl Files<File = File> + AllocGlobal),
     confs: &Confs,
     site: &Site<'a>,
-    known: FileRecord,
-) -> Result<(Opened<'a>, Option<Vec<RecordingFile>>), RunFault> {
-    let opened = open_watched(rt, site.store, known)?;
-    let recordings = open_all_recordings(rt, confs, site)?;
-    Ok((opened, recordings))
+) -> Result<SiteFiles<'a>, RunFault> {
+    let store = open_store(rt, site.store, FileRecord::new())?;
+    let watched = open_watch(rt, site.store)?;
+    let recordings = open_recordings_of(rt, confs, site)?;
+    Ok(SiteFiles {
+        store,
+        watched,
+        recordings,
+    })
 }
 
-// Empties the files of recordings, and has each radio recorded into its own.
-fn begin_recordings<'a, W: Files<File = File> + AllocGlobal + Log, R: Radio>(
+// The ports of a site: that of commands, those of its radios, and what counts who else sends to these.
+#[derive(Drop)]
+struct SitePorts<'a, L: Log> {
+    commands: TellingPort<'a, L, ControlPort>,
+    radios: Vec<Driven>,
+    elsewhere: Elsewhere,
+}
+
+// The port of commands, which tells of list edits where that is asked for.
+fn open_commands<'a, W: Net + AllocGlobal + Log>(
     rt: &'a W,
-    radios: Vec<R>,
-    recordings: Vec<RecordingFile>,
-) -> Result<Vec<Recording<R, TellingFile<'a, W, File>>>, RunFault> {
-    empty_files(rt, &recordings)?;
-    Ok(record_radios(rt, rt.alloc(), radios, recordings)?)
+    confs: &Confs,
+    site: &Site<'_>,
+) -> Result<TellingPort<'a, W, ControlPort>, RunFault> {
+    let edits = if site.logs_stations {
+        Some(Edits::new(rt.alloc(), confs)?)
+    } else {
+        None
+    };
+    match ControlPort::open(rt, rt.alloc(), site.port) {
+        Ok(port) => Ok(TellingPort::new(rt, port, edits)),
+        Err(fault) => Err(RunFault::Socket(fault)),
+    }
 }
 
-// As `begin_world`, started; and how many stations the table had.
-fn start_world<R: Radio>(
-    alloc: Global,
-    opened: OpenStore,
+fn open_ports<'a, W: Net + AllocGlobal + Log>(
+    rt: &'a W,
+    confs: &Confs,
+    site: &Site<'_>,
+) -> Result<SitePorts<'a, W>, RunFault> {
+    let commands = open_commands(rt, confs, site)?;
+    let radios = open_radios(rt, site, confs.list().len())?;
+    let elsewhere = elsewhere_of(rt.alloc(), confs, &radios)?;
+    Ok(SitePorts {
+        commands,
+        radios,
+        elsewhere,
+    })
+}
+
+// The world of a store that was opened, started. What doesn't count is told before, and what is served behind it.
+fn start_world<'a, W: AllocGlobal + Log>(
+    rt: &'a W,
+    store: OpenStore,
     confs: Confs,
-    radios: Vec<R>,
-) -> Result<(World<FileDisk, R>, usize), RunFault> {
-    let world = begin_world(alloc, opened, confs, radios)?;
-    let recovered = world.table().rows();
+    port: u16,
+    radios: Vec<SiteRadio<'a, W>>,
+) -> Result<World<FileDisk, SiteRadio<'a, W>>, RunFault> {
+    tell_lists(rt, &confs, store.table());
+    let recovered = store.table().rows();
+    let world = begin_world(rt.alloc(), store, confs, radios)?;
     match start(world) {
-        Ok(world) => Ok((world, recovered)),
+        Ok(world) => {
+            tell_start(rt, port, world.confs(), world.table(), recovered);
+            Ok(world)
+        }
         Err(fault) => Err(RunFault::Serve(fault)),
     }
 }
 
-// What is served, and by what.
+// What is served: a world that is started, and its port of commands.
 #[derive(Drop)]
-struct Service<'a, W: Clock + Log, R: Radio, B: Read + Drop> {
-    world: World<FileDisk, R>,
+struct Service<'a, W: Log> {
+    world: World<FileDisk, SiteRadio<'a, W>>,
     commands: TellingPort<'a, W, ControlPort>,
-    clock: SystemClock<&'a W>,
-    alarm: &'a Alarm,
-    reader: B,
 }
 
-// Serves a world that is started.
-fn serve_world<
+// Serves until the input ends, and watches the store's file, and who else sends to the radios, meanwhile.
+fn serve_beside_watch<
     W: Files<File = File> + Net + Wait + Threads + Clock + AllocGlobal + Log + Sync,
-    R: Radio + Send,
-    B: Read + Drop,
->(rt: &W, service: Service<'_, W, R, B>) -> Result<u64, ServeFault>
-where
-    W::Dir: Send + Sync,
-    W::Stream: Send + Sync,
-    W::Listener: Send + Sync,
-{
-    let Service {
-        world,
-        commands,
-        clock,
-        alarm,
-        reader,
-    } = service;
-    serve_started(
-        rt,
-        rt.alloc(),
-        world,
-        commands,
-        clock,
-        &NoGate,
-        alarm,
-        reader,
-    )
-}
-
-// As `serve_world`, and watches the store's file meanwhile.
-fn serve_watched<
-    W: Files<File = File> + Net + Wait + Threads + Clock + AllocGlobal + Log + Sync,
-    R: Radio + Send,
-    B: Read + Drop,
+    B: Read,
 >(
     rt: &W,
     watched: &mut StoreWatch<'_>,
     elsewhere: &mut Elsewhere,
-    service: Service<'_, W, R, B>,
+    service: Service<'_, W>,
+    alarm: &Alarm,
+    reader: &mut B,
 ) -> Result<u64, ServeFault>
 where
     W::Dir: Send + Sync,
@@ -388,7 +193,18 @@ where
         rt,
         || watch(rt, watched, elsewhere, &ending),
         || {
-            let answer = serve_world(rt, service);
+            let Service { world, commands } = service;
+            let clock = SystemClock::new(rt);
+            let answer = serve_started(
+                rt,
+                rt.alloc(),
+                world,
+                commands,
+                &clock,
+                &NoGate,
+                alarm,
+                reader,
+            );
             ending.end(rt);
             answer
         },
@@ -396,122 +212,56 @@ where
     answer.unwrap_or(Err(ServeFault::Thread))
 }
 
-// What was had of a site, but for its radios.
-#[derive(Drop)]
-struct Means<'a> {
-    opened: Opened<'a>,
-    recordings: Option<Vec<RecordingFile>>,
-    commands: ControlPort,
-}
-
-// Starts a world with these radios, tells what is served, and serves it.
-fn run_with<
+// Starts a world over what a site has, tells what is served, and serves it.
+fn serve_site<
     W: Files<File = File> + Net + Wait + Threads + Clock + AllocGlobal + Log + Sync,
-    R: Radio + Send,
-    B: Read + Drop,
+    B: Read,
 >(
     rt: &W,
     confs: Confs,
     site: &Site<'_>,
-    opened: Opened<'_>,
-    commands: ControlPort,
-    radios: Vec<R>,
-    elsewhere: Elsewhere,
+    files: SiteFiles<'_>,
+    ports: SitePorts<'_, W>,
     alarm: &Alarm,
-    reader: B,
+    reader: &mut B,
 ) -> Result<u64, RunFault>
 where
     W::Dir: Send + Sync,
     W::Stream: Send + Sync,
     W::Listener: Send + Sync,
 {
-    let Opened { store, mut watched } = opened;
-    let mut elsewhere = elsewhere;
-    let clock = SystemClock::new(rt);
-    let radios = tell_of_radios(rt, rt.alloc(), &confs, radios, site.logs_stations)?;
-    let commands = tell_of_edits(rt, rt.alloc(), &confs, commands, site.logs_stations)?;
-    tell_lists(rt, &confs, store.table());
-    let (world, recovered) = start_world(rt.alloc(), store, confs, radios)?;
-    tell_start(rt, site.port, world.confs(), world.table(), recovered);
-    let service = Service {
-        world,
-        commands,
-        clock,
-        alarm,
-        reader,
-    };
-    serve_watched(rt, &mut watched, &mut elsewhere, service).map_err(RunFault::Serve)
-}
-
-// The same, with each radio recorded, where that is asked for.
-fn run_over<
-    W: Files<File = File> + Net + Wait + Threads + Clock + AllocGlobal + Log + Sync,
-    R: Radio + Send,
-    B: Read + Drop,
->(
-    rt: &W,
-    confs: Confs,
-    site: &Site<'_>,
-    means: Means<'_>,
-    radios: Vec<R>,
-    elsewhere: Elsewhere,
-    alarm: &Alarm,
-    reader: B,
-) -> Result<u64, RunFault>
-where
-    W::Dir: Send + Sync,
-    W::Stream: Send + Sync,
-    W::Listener: Send + Sync,
-{
-    let Means {
-        opened,
+    let SiteFiles {
+        store,
+        mut watched,
         recordings,
+    } = files;
+    let SitePorts {
         commands,
-    } = means;
-    match recordings {
-        None => run_with(
-            rt, confs, site, opened, commands, radios, elsewhere, alarm, reader,
-        ),
-        Some(recordings) => {
-            let radios = begin_recordings(rt, radios, recordings)?;
-            run_with(
-                rt, confs, site, opened, commands, radios, elsewhere, alarm, reader,
-            )
-        }
-    }
+        radios,
+        mut elsewhere,
+    } = ports;
+    let radios = site_radios(rt, &confs, site, radios, recordings)?;
+    let world = start_world(rt, store, confs, site.port, radios)?;
+    let service = Service { world, commands };
+    serve_beside_watch(rt, &mut watched, &mut elsewhere, service, alarm, reader).map_err(
+        RunFault::Serve,
+    )
 }
 
 // Opens a site and serves it. The alarm rings where the store's device fails. Nothing that is there is changed before the
 // ports are had.
 fn run_site<
     W: Files<File = File> + Net + Wait + Threads + Clock + AllocGlobal + Log + Sync,
-    B: Read + Drop,
->(rt: &W, confs: Confs, site: &Site<'_>, alarm: &Alarm, reader: B) -> Result<u64, RunFault>
+    B: Read,
+>(rt: &W, confs: Confs, site: &Site<'_>, alarm: &Alarm, reader: &mut B) -> Result<u64, RunFault>
 where
     W::Dir: Send + Sync,
     W::Stream: Send + Sync,
     W::Listener: Send + Sync,
 {
-    let count = confs.list().len();
-    let (opened, recordings) = open_files(rt, &confs, site, FileRecord::new())?;
-    let commands = ControlPort::open(rt, rt.alloc(), site.port).map_err(RunFault::Socket)?;
-    let means = Means {
-        opened,
-        recordings,
-        commands,
-    };
-    match site.drivers {
-        None => {
-            let radios = open_radios(rt, site.port, count)?;
-            let nowhere = Elsewhere::new(rt.alloc());
-            run_over(rt, confs, site, means, radios, nowhere, alarm, reader)
-        }
-        Some(drivers) => {
-            let radios = open_driver_radios(rt, site.port, drivers, count)?;
-            let elsewhere = elsewhere_of(rt.alloc(), &confs, &radios)?;
-            run_over(rt, confs, site, means, radios, elsewhere, alarm, reader)
-        }
-    }
+    let files = open_files(rt, &confs, site)?;
+    let ports = open_ports(rt, &confs, site)?;
+    serve_site(rt, confs, site, files, ports, alarm, reader)
 }
 
 // An input that ends, too, once the alarm has rung.
@@ -553,10 +303,13 @@ where
 {
     let alarm = Alarm::new();
     let entries = match site.ends_at_fault {
-        None => run_site(rt, confs, site, &alarm, reader)?,
+        None => {
+            let mut reader = reader;
+            run_site(rt, confs, site, &alarm, &mut reader)?
+        }
         Some(descriptor) => {
-            let reader = end_at_fault(rt, reader, descriptor, &alarm)?;
-            run_site(rt, confs, site, &alarm, reader)?
+            let mut reader = end_at_fault(rt, reader, descriptor, &alarm)?;
+            run_site(rt, confs, site, &alarm, &mut reader)?
         }
     };
     tell_entries(rt, entries);

@@ -3,7 +3,6 @@ ghost use Rattle.std.specs.Prelude.{◌≡◌, ◌+◌, [], IfOk, OnOk};
 ghost use Rattle.apd_desk.specs.Counted.{entries_of_seats};
 ghost use Rattle.apd_serve.specs.Entries.{entries_of_all, entries_of_seat};
 
-use crate::alarm::Alarm;
 use crate::crew::work_until_end;
 use crate::fault::{ServeFault, of_start};
 use crate::worker::{Environment, Worker};
@@ -12,6 +11,7 @@ use apd_desk::{Clock, Gate, Port, SEATS, Seat, Shared};
 use apd_disk::Disk;
 use apd_flusher::Committer;
 use apd_radio::Radio;
+use apd_site::Alarm;
 use apd_slot::Slot;
 use apd_world::World;
 use log::Log;
@@ -171,8 +171,8 @@ where
     Ok((workers, seats))
 }
 
-// As `serve`, with the world started, over one ledger.
-fn serve_over_ledger<
+// Takes a started world apart, has its crew work until the input ends, and closes what is left, over one ledger.
+fn run_crew<
     L: Ledger + Send + Sync,
     W: Wait + Threads + time::Clock + Log + Net + Sync,
     D: Disk + Drop + Send,
@@ -227,41 +227,32 @@ pub(crate) fn start<D: Disk + Drop, R: Radio>(
     }
 }
 
-/// As `serve`, with the world started. The alarm rings where the device fails.
+/// As `serve`, of a world that is started. The alarm rings where the device fails.
 pub(crate) fn serve_started<
     W: Wait + Threads + time::Clock + Log + Net + Sync,
     D: Disk + Drop + Send,
     R: Radio + Send,
     P: Port + Drop + Send,
-    C: Clock + Drop + Sync,
+    C: Clock + Sync,
     G: Gate + Sync,
-    B: Read + Drop,
+    B: Read,
 >(
     rt: &W,
     alloc: Global,
     world: World<D, R>,
     port: P,
-    clock: C,
+    clock: &C,
     gate: &G,
     alarm: &Alarm,
-    reader: B,
+    reader: &mut B,
 ) -> Result<u64, ServeFault>
 where
     W::Stream: Send + Sync,
     W::Listener: Send + Sync,
 {
-    let mut reader = reader;
     let blank = Blank::new(u64::from(SEATS));
-    serve_over_ledger::<Brand, W, D, R, P, C, G, B>(
-        rt,
-        alloc,
-        blank,
-        world,
-        port,
-        &clock,
-        gate,
-        alarm,
-        &mut reader,
+    run_crew::<Brand, W, D, R, P, C, G, B>(
+        rt, alloc, blank, world, port, clock, gate, alarm, reader,
     )
 }
 
@@ -325,5 +316,7 @@ where
     W::Stream: Send + Sync,
     W::Listener: Send + Sync,
 {
-    serve_started(rt, alloc, start(world)?, port, clock, gate, alarm, reader)
+    let mut reader = reader;
+    let world = start(world)?;
+    serve_started(rt, alloc, world, port, &clock, gate, alarm, &mut reader)
 }

@@ -5,16 +5,15 @@ ghost use Rattle.apd_desk.specs.Holding.{IsLed};
 ghost use Rattle.apd_serve.specs.Entries.{entries_of, entries_of_seat};
 ghost use Rattle.apd_serve.specs.Worked.{HasWorked};
 
-use crate::alarm::Alarm;
 use crate::crew::{Job, Stops};
 use crate::handing_out::{hand_out, reply_settled};
-use crate::notices::{tell_device_fault, tell_worn_out};
 use apd_desk::{
     Clock, Ending, Gate, Port, Seat, Shared, commit_all, control_worker, radio_worker, tick_worker,
 };
 use apd_disk::Disk;
 use apd_flusher::{Committer, Phase};
 use apd_radio::Radio;
+use apd_site::{Alarm, tell_device_fault, tell_worn_out};
 use apd_slot::Slot;
 use log::Log;
 use std::alloc::Global;

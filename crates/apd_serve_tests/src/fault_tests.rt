@@ -11,7 +11,8 @@ use crate::talk::{
 use apd_control_port::ControlPort;
 use apd_desk::NoGate;
 use apd_radio::UdpSim;
-use apd_serve::{Alarm, ServeFault, SystemClock, TellingRadio, UntilFault, serve_and_ring};
+use apd_serve::{ServeFault, SystemClock, serve_and_ring};
+use apd_site::{Alarm, TellingRadio, UntilFault};
 use std::io::{self, ErrorKind, Read};
 use std::net::{Ipv4Addr, Net, UdpSocket};
 use std::os::fd::AsRawFd;

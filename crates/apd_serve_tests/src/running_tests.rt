@@ -8,7 +8,8 @@ use crate::talk::{
 use apd_base::{Addr, Bssid};
 use apd_conf::{Conf, Confs, InterfaceName};
 use apd_disk::FileDisk;
-use apd_serve::{RunFault, Site, run};
+use apd_serve::{RunFault, run};
+use apd_site::Site;
 use apd_store::recover;
 use log::Log;
 use std::fs::{self, File};

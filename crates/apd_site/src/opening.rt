@@ -1,6 +1,6 @@
 //! Opening files, a store's among them.
 ghost use Rattle.std.specs.Prelude.{◌≡◌, [], IfOk, Ok};
-ghost use Rattle.apd_serve.specs.declared.opening.OpenFault.TheVariants.{NoMemory};
+ghost use Rattle.apd_site.specs.declared.opening.OpenFault.TheVariants.{NoMemory};
 
 use apd_disk::FileDisk;
 use std::alloc::AllocError;

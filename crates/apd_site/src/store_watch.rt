@@ -71,7 +71,7 @@ fn is_none_there(kind: ErrorKind) -> bool {
 
 /// The file of a store, the name under which it was opened, and what was told of it.
 #[derive(Drop)]
-pub(crate) struct StoreWatch<'a> {
+pub struct StoreWatch<'a> {
     name: &'a str,
     file: File,
     fate_told: bool,
@@ -138,14 +138,14 @@ impl<'a> StoreWatch<'a> {
 
 /// Whether what is watched has ended, and what wakes the one who watches it.
 #[derive(Drop)]
-pub(crate) struct Ending {
+pub struct Ending {
     ended: Mutex<bool>,
     changed: Condvar,
 }
 
 impl Ending {
     /// It goes on.
-    pub(crate) fn new() -> Ending {
+    pub fn new() -> Ending {
         Ending {
             ended: Mutex::new(false),
             changed: Condvar::new(),
@@ -153,7 +153,7 @@ impl Ending {
     }
 
     /// It has ended.
-    pub(crate) fn end(&self, rt: &impl Wait) {
+    pub fn end(&self, rt: &impl Wait) {
         *self.ended.lock(rt) = true;
         self.changed.notify_all();
     }
@@ -168,7 +168,7 @@ impl Ending {
 }
 
 /// Looks about once a second at the file of a store, and at what came from elsewhere, until it ends.
-pub(crate) fn watch<W: Files<File = File> + Wait + Clock + Log>(
+pub fn watch<W: Files<File = File> + Wait + Clock + Log>(
     rt: &W,
     store: &mut StoreWatch<'_>,
     elsewhere: &mut Elsewhere,

@@ -1,9 +1,9 @@
 //! The command line.
-use crate::checking::check_command;
-use crate::formatting::format_command;
-use crate::running::run_command;
-use crate::scripting::script_command;
-use crate::upgrading::upgrade_command;
+use crate::check::check_command;
+use crate::format::format_command;
+use crate::run::run_command;
+use crate::script::script_command;
+use crate::upgrade::upgrade_command;
 use clap::Command;
 use clap::error::ErrorKind;
 use std::alloc::{AllocError, Global};
@@ -29,7 +29,7 @@ pub fn command<'a>(alloc: Global) -> Result<Command<'a>, AllocError> {
 }
 
 /// The words of the command line, and none where one of them is no text.
-pub(crate) fn words(rt: &(impl Env + AllocGlobal)) -> Result<Option<Vec<String>>, AllocError> {
+pub fn words(rt: &(impl Env + AllocGlobal)) -> Result<Option<Vec<String>>, AllocError> {
     match std::env::args(rt) {
         Ok(words) => Ok(Some(words.collect(rt.alloc())?)),
         Err(error) if error.kind() == io::ErrorKind::OutOfMemory => Err(AllocError),

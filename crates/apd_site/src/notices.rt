@@ -11,7 +11,7 @@ use std::fmt::{self, Display, Formatter};
 use std::io;
 
 /// Logs how many requests became entries, at the level info.
-pub(crate) fn tell_entries<R: Log>(rt: &R, entries: u64) {
+pub fn tell_entries<R: Log>(rt: &R, entries: u64) {
     info!(rt; target: "apd", "entries {entries}");
 }
 
@@ -39,13 +39,7 @@ impl Display for Served<'_> {
 
 /// Logs what is served after a start, at the level info: the ports, the interfaces, and how many stations were
 /// recovered. Before it, at the level warn, each interface that isn't served, and why.
-pub(crate) fn tell_start<R: Log>(
-    rt: &R,
-    port: u16,
-    confs: &Confs,
-    table: &Table,
-    recovered: usize,
-) {
+pub fn tell_start<R: Log>(rt: &R, port: u16, confs: &Confs, table: &Table, recovered: usize) {
     for conf in confs.list() {
         if table.policy(conf.bssid).is_none() {
             let interface = conf.interface.as_str();
@@ -58,7 +52,7 @@ pub(crate) fn tell_start<R: Log>(
 
 /// Logs, at the level warn, each list file that does not count, since the store has the lists of its BSSID already: the
 /// table is as it was recovered.
-pub(crate) fn tell_lists<R: Log>(rt: &R, confs: &Confs, table: &Table) {
+pub fn tell_lists<R: Log>(rt: &R, confs: &Confs, table: &Table) {
     for conf in confs.list() {
         if table.policy(conf.bssid).is_some() {
             tell_list_files(rt, conf);
@@ -77,12 +71,12 @@ fn tell_list_files<R: Log>(rt: &R, conf: &Conf) {
 }
 
 /// Logs that the store's device failed, at the level error.
-pub(crate) fn tell_device_fault<R: Log>(rt: &R) {
+pub fn tell_device_fault<R: Log>(rt: &R) {
     error!(rt; target: "apd", "device fault: nothing more is made durable, and what would change the table is refused; end it, see to the disk, and start it again");
 }
 
 /// Logs that the store is worn out, at the level error.
-pub(crate) fn tell_worn_out<R: Log>(rt: &R) {
+pub fn tell_worn_out<R: Log>(rt: &R) {
     error!(rt; target: "apd", "the store is worn out: nothing more is made durable, and what would change the table is refused; end it, and start it on a new store");
 }
 
@@ -163,6 +157,6 @@ pub(crate) fn tell_edit<R: Log>(rt: &R, interface: &str, edit: ListEdit) {
 }
 
 /// Logs, at the level error, that memory lacked for handing out all that was settled.
-pub(crate) fn tell_not_handed_out<R: Log>(rt: &R) {
+pub fn tell_not_handed_out<R: Log>(rt: &R) {
     error!(rt; target: "apd", "out of memory: not all that is durable was answered");
 }

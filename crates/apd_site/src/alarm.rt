@@ -26,7 +26,7 @@ impl Alarm {
     }
 
     /// The device failed.
-    pub(crate) fn ring(&self) {
+    pub fn ring(&self) {
         self.rung.store(true, SeqCst);
         if let Some(waker) = self.waker.get() {
             let _woken = waker.wake();

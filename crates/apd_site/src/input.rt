@@ -11,7 +11,7 @@ const PAUSE: u64 = 20;
 
 /// Reads to the end, or to a fault; what is read is dropped. A read that a signal interrupted is made again, and so is
 /// one that had nothing to give yet.
-pub(crate) fn read_to_its_end<B: Read>(clock: &impl Clock, reader: &mut B) {
+pub fn read_to_its_end<B: Read>(clock: &impl Clock, reader: &mut B) {
     let mut piece = [0u8; PIECE];
     for _ in 0..u64::MAX {
         match reader.read(&mut piece) {

@@ -13,7 +13,7 @@ const MODE: u32 = 0o600;
 
 /// A file that a recording is going to be written into, and its name. It holds an advisory lock on it (flock(2)).
 #[derive(Drop)]
-pub(crate) struct RecordingFile {
+pub struct RecordingFile {
     pub(crate) name: String,
     pub(crate) file: File,
 }

@@ -1,21 +1,19 @@
-//! A port of commands that tells of the list edits that were carried out.
+//! The list edits that have no reply yet, and are told of where they were carried out.
 use crate::notices::tell_edit;
 use apd_base::Which;
 use apd_conf::{Confs, InterfaceName};
 use apd_ctrl::{Command, Parsed, parse_command};
-use apd_desk::{Port, PortFault};
 use apd_mlme::Edit;
 use log::Log;
 use std::alloc::{AllocError, Global};
 use std::fmt::{self, Display, Formatter};
-use std::os::fd::RawFd;
 
 /// The reply to an edit that was carried out.
 const DONE: &[u8] = b"OK\n";
 
 /// An edit of a list, which is shown as its command.
 #[derive(Clone, Copy, Debug)]
-pub(crate) struct ListEdit {
+pub struct ListEdit {
     which: Which,
     edit: Edit,
 }
@@ -44,14 +42,14 @@ struct Waiting {
 
 /// The names of the interfaces, and the list edits that have no reply yet.
 #[derive(Drop)]
-pub(crate) struct Edits {
+pub struct Edits {
     interfaces: Vec<InterfaceName>,
     waiting: Vec<Waiting>,
 }
 
 impl Edits {
     /// No edit waits.
-    pub(crate) fn new(alloc: Global, confs: &Confs) -> Result<Edits, AllocError> {
+    pub fn new(alloc: Global, confs: &Confs) -> Result<Edits, AllocError> {
         let mut interfaces = Vec::with_capacity(alloc, confs.list().len())?;
         for conf in confs.list() {
             interfaces.push(conf.interface.copy(alloc)?)?;
@@ -73,8 +71,8 @@ impl Edits {
         }
     }
 
-    // A command came. Where memory lacks, nothing is told of it.
-    fn note(&mut self, tag: u64, bytes: &[u8]) {
+    /// A command came. Where memory lacks, nothing is told of it.
+    pub fn note(&mut self, tag: u64, bytes: &[u8]) {
         if let Parsed::Command {
             interface,
             command: Command::ListEdit { which, edit },
@@ -92,54 +90,13 @@ impl Edits {
         Some(self.waiting.swap_remove(place))
     }
 
-    // A command has its reply. An edit that was carried out is told.
-    fn settle<L: Log>(&mut self, log: &L, tag: u64, text: &[u8]) {
+    /// A command has its reply. An edit that was carried out is told.
+    pub fn settle<L: Log>(&mut self, log: &L, tag: u64, text: &[u8]) {
         if let Some(Waiting { place, edit, .. }) = self.take(tag)
             && text == DONE
             && let Some(interface) = self.interfaces.get(place)
         {
             tell_edit(log, interface.as_str(), edit);
         }
-    }
-}
-
-/// A port over another one, which logs the list edits that were carried out, where that is asked for: each as it is
-/// replied to, which is once its entry is durable.
-#[derive(Drop)]
-pub(crate) struct TellingPort<'a, L: Log, P: Port + Drop> {
-    log: &'a L,
-    inner: P,
-    edits: Option<Edits>,
-}
-
-impl<'a, L: Log, P: Port + Drop> TellingPort<'a, L, P> {
-    pub(crate) fn new(log: &'a L, inner: P, edits: Option<Edits>) -> TellingPort<'a, L, P> {
-        TellingPort { log, inner, edits }
-    }
-}
-
-impl<L: Log, P: Port + Drop> Port for TellingPort<'_, L, P> {
-    ghost replied = { λ port. P.replied port.inner };
-
-    fn poll(&mut self) -> Result<Option<(u64, Vec<u8>)>, PortFault> {
-        let got = self.inner.poll()?;
-        if let Some(edits) = &mut self.edits
-            && let Some((tag, bytes)) = &got
-        {
-            edits.note(*tag, bytes.as_slice());
-        }
-        Ok(got)
-    }
-
-    fn descriptor(&self) -> Option<RawFd> {
-        self.inner.descriptor()
-    }
-
-    fn reply(&mut self, tag: u64, text: &[u8]) -> Result<(), PortFault> {
-        let answer = self.inner.reply(tag, text);
-        if let Some(edits) = &mut self.edits {
-            edits.settle(self.log, tag, text);
-        }
-        answer
     }
 }

@@ -1,48 +1,22 @@
 //! What the program does, from the words of its command line to its exit status.
-use crate::checking::run_check_command;
-use crate::command_line::{command, no_text, words};
 use crate::fault::ProgramFault;
-use crate::formatting::run_format_command;
 use crate::host::Host;
-use crate::running::{refuse_ports, run_and_log};
-use crate::scripting::run_script_command;
-use crate::streams::hold_closed_streams;
+use crate::running::run_and_log;
 use crate::telling::tell;
-use crate::telling_more::{tell_more, tell_stream};
-use crate::upgrading::upgrade_and_print;
+use crate::telling_more::tell_more;
+use apd_command_line::{command, no_text, refuse_ports, words};
+use apd_commands::{hold_closed_streams, tell_stream, work_on_files};
 use apd_reasons::More;
 use clap::ArgMatches;
-use log::Log;
-use std::fs::File;
 use std::io;
 use std::process::ExitCode;
-use std::rt::{Env, Files};
-
-// Does what a subcommand that serves nobody says.
-fn work_on_files(
-    rt: &(impl Input + Print + Files<File = File> + AllocGlobal + Log),
-    matches: &ArgMatches<'_>,
-) -> Result<(), ProgramFault> {
-    if let Some(check) = matches.subcommand_matches("check") {
-        run_check_command(rt, check, &mut io::writer(rt))
-    } else if let Some(format) = matches.subcommand_matches("format") {
-        run_format_command(rt, format, &mut io::writer(rt))
-    } else if let Some(upgrade) = matches.subcommand_matches("upgrade") {
-        let old = upgrade.get_str("OLD").unwrap_or("");
-        let new = upgrade.get_str("NEW").unwrap_or("");
-        upgrade_and_print(rt, old, new, &mut io::writer(rt))
-    } else if let Some(script) = matches.subcommand_matches("script") {
-        run_script_command(rt, script)
-    } else {
-        Ok(())
-    }
-}
+use std::rt::Env;
 
 // Does what a subcommand says.
 fn carry_out<R: Host>(rt: &R, matches: &ArgMatches<'_>) -> Result<(), ProgramFault> {
     match matches.subcommand_matches("run") {
         Some(run) => run_and_log(rt, run).map_err(ProgramFault::Running),
-        None => work_on_files(rt, matches),
+        None => work_on_files(rt, matches).map_err(ProgramFault::Command),
     }
 }
 
@@ -98,7 +72,7 @@ pub fn run_program<R: Env + Host>(rt: &R) -> io::Result<ExitCode> {
         Ok(streams) => streams,
         Err(fault) => {
             let _ = tell_stream(rt, &mut more, &fault);
-            return tell_all(rt, Err(ProgramFault::Open(fault)), &more);
+            return tell_all(rt, Err(ProgramFault::Stream(fault)), &more);
         }
     };
     let done = run(rt, &mut more);

@@ -31,14 +31,14 @@ impl Counted {
 
 /// How many datagrams came to radios from elsewhere, and were passed over.
 #[derive(Drop)]
-pub(crate) struct Elsewhere {
+pub struct Elsewhere {
     radios: Vec<Counted>,
     rest: u32,
 }
 
 impl Elsewhere {
     /// No radio counts.
-    pub(crate) fn new(alloc: Global) -> Elsewhere {
+    pub fn new(alloc: Global) -> Elsewhere {
         Elsewhere {
             radios: Vec::new(alloc),
             rest: 0,
@@ -46,11 +46,7 @@ impl Elsewhere {
     }
 
     /// The radio of an interface has this count.
-    pub(crate) fn add(
-        &mut self,
-        interface: String,
-        strangers: Strangers,
-    ) -> Result<(), AllocError> {
+    pub fn add(&mut self, interface: String, strangers: Strangers) -> Result<(), AllocError> {
         self.radios.push(Counted {
             interface,
             strangers,
@@ -60,7 +56,7 @@ impl Elsewhere {
     }
 
     /// Looks once, and tells what came since: once in sixty looks at most.
-    pub(crate) fn look<L: Log>(&mut self, log: &L) {
+    pub fn look<L: Log>(&mut self, log: &L) {
         if self.rest > 0 {
             self.rest -= 1;
             return;

@@ -5,7 +5,7 @@ use std::io::{self, ErrorKind, Write};
 
 /// A writer over another one, which logs the fault of a write, by which a recording ends.
 #[derive(Drop)]
-pub(crate) struct TellingFile<'a, L: Log, W: Write + Drop> {
+pub struct TellingFile<'a, L: Log, W: Write + Drop> {
     log: &'a L,
     name: String,
     inner: W,

@@ -13,17 +13,18 @@ use std::sync::Wait;
 use std::thread::Threads;
 use std::time::{Clock, Duration};
 
-/// A runtime over another one. In front of each line of its log stands the moment of it, in UTC and to the millisecond, as
-/// RFC 3339 has it; where the clock can't be read, the line stands alone.
+/// A runtime over another one. Where that is asked for, in front of each line of its log stands the moment of it, in UTC
+/// and to the millisecond, as RFC 3339 has it; where the clock can't be read, the line stands alone.
 #[derive(Drop)]
 pub struct Timed<'a, R> {
     rt: &'a R,
+    shows_time: bool,
 }
 
 impl<'a, R> Timed<'a, R> {
     /// What it passes on, it passes on to this runtime.
-    pub fn new(rt: &'a R) -> Timed<'a, R> {
-        Timed { rt }
+    pub fn new(rt: &'a R, shows_time: bool) -> Timed<'a, R> {
+        Timed { rt, shows_time }
     }
 }
 
@@ -33,6 +34,9 @@ impl<R: Log + Eprint + Clock> Log for Timed<'_, R> {
     }
 
     fn log<D: Display, K: Source, S: Spans>(&self, record: &Record<'_, D, K, S>) {
+        if !self.shows_time {
+            return self.rt.log(record);
+        }
         if !self.rt.enabled(record.metadata()) {
             return;
         }

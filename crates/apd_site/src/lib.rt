@@ -1,0 +1,40 @@
+//! Where an access point runs: its store's file, its recordings, its radios' ports, its log, and its input.
+#![tactic(auto)]
+
+mod alarm;
+mod driver_notes;
+mod edits;
+mod either;
+mod elsewhere;
+mod files;
+mod identity;
+mod input;
+mod notices;
+mod opening;
+mod radios;
+mod recordings;
+mod site;
+mod station_notes;
+mod store_watch;
+mod telling_file;
+mod telling_radio;
+mod until_fault;
+
+pub use alarm::Alarm;
+pub use edits::{Edits, ListEdit};
+pub use either::Either;
+pub use elsewhere::Elsewhere;
+pub use files::{open_recordings_of, open_watch};
+pub use input::read_to_its_end;
+pub use notices::{
+    tell_device_fault, tell_entries, tell_lists, tell_not_handed_out, tell_start, tell_worn_out,
+};
+pub use opening::{Access, OpenFault, file_or_fault, open_disk};
+pub use radios::{Driven, Recorded, SiteRadio, elsewhere_of, open_radios, site_radios};
+pub use recordings::RecordingFile;
+pub use site::{Site, SiteFault};
+pub use station_notes::StationNotes;
+pub use store_watch::{Ending, StoreWatch, watch};
+pub use telling_file::TellingFile;
+pub use telling_radio::TellingRadio;
+pub use until_fault::UntilFault;
