@@ -4,7 +4,7 @@ ghost use Rattle.apd_program.specs.declared.running.RunningFault.TheVariants.{No
 
 use crate::host::Host;
 use crate::timed::Timed;
-use apd_commands::{names_of, warn_of_ssids};
+use apd_commands::warn_of_ssids;
 use apd_conf::ConfigurationFault;
 use apd_script::read_configurations;
 use apd_serve::{RunFault, run};
@@ -97,7 +97,8 @@ where
     W::Stream: Send + Sync,
     W::Listener: Send + Sync,
 {
-    let names = names_of(matches);
+    // (As `names_of`, whose answer would stand at another lifetime than the store's name.)
+    let names = matches.get_strs("CONF").unwrap_or(&[]);
     let store = matches.get_str("store").unwrap_or("");
     let recordings = matches.get_str("record");
     let site = site_of(store, recordings, names, options_of(matches));
