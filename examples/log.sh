@@ -13,6 +13,7 @@ strace -o /dev/null true || {
 port=$("$here/free-ports" 3)
 printf 'interface=wlan0\nbssid=02:00:00:00:00:01\nssid=net\n' >conf
 printf 'interface=wlan1\nbssid=02:00:00:00:00:02\nssid=net\naccept_mac_file=accept\ndeny_mac_file=deny\n' >listed
+printf 'interface=wlan1\nbssid=02:00:00:00:00:02\nssid=net\n' >second
 printf '02:00:00:00:00:ac\n' >accept
 : >deny
 
@@ -201,26 +202,39 @@ run.wants("a recording", [
     "[INFO  apd] entries 1",
 ])
 
-# A radio's driver: nobody else is heard, and it says that it failed at a word.
+# The radios' drivers: each at its own port, nobody else is heard, and the first says that it failed at a word.
+def take_ports():
+    """Two sockets at ports that follow each other."""
+    while True:
+        found = [socket.socket(socket.AF_INET, socket.SOCK_DGRAM) for _ in range(2)]
+        found[0].bind(("127.0.0.1", 0))
+        try:
+            found[1].bind(("127.0.0.1", found[0].getsockname()[1] + 1))
+        except OSError:
+            continue
+        for it in found:
+            it.settimeout(20)
+        return found
+
+
 new_store()
-driver = socket.socket(socket.AF_INET, socket.SOCK_DGRAM)
-driver.settimeout(20)
-driver.bind(("127.0.0.1", 0))
-base = driver.getsockname()[1]
-run = Run("--drivers", str(base), "conf")
+drivers = take_ports()
+run = Run("--drivers", str(drivers[0].getsockname()[1]), "conf", "second")
 
 
-def drives(*wanted, says=None):
-    """Ends the test where the driver is told anything else, behind what it says."""
+def drives(*wanted, says=None, radio=0):
+    """Ends the test where a radio's driver is told anything else, behind what it says."""
     if says is not None:
-        driver.sendto(says, ("127.0.0.1", port + 1))
+        drivers[radio].sendto(says, ("127.0.0.1", port + 1 + radio))
     for start in wanted:
-        told, sender = driver.recvfrom(65536)
-        if not told.startswith(start) or sender[1] != port + 1:
-            die(f"--drivers: {told} of {sender}, and not {start}")
+        told, sender = drivers[radio].recvfrom(65536)
+        if not told.startswith(start) or sender[1] != port + 1 + radio:
+            die(f"--drivers: radio {radio}: {told} of {sender}, and not {start}")
 
 
 drives(b"map 1 down")
+drives(b"map 1 down", radio=1)
+drives(b"map 2 down", says=b"up", radio=1)
 run.send(frame(AUTHENTICATION, "ab"), 1)
 run.wait_for("passed over: ")
 drives(b"\xb0", says=frame(AUTHENTICATION, "aa"))
@@ -231,7 +245,7 @@ if run.ask(b"STA 02:00:00:00:00:ab", 0) != b"FAIL\n":
     die("--drivers: a stranger was heard")
 run.end()
 run.wants("--drivers", [
-    SERVES + "0",
+    SERVES.replace(";", f", wlan1 on port {port + 2};") + "0",
     "[WARN  apd] wlan0: datagrams from elsewhere than its driver, passed over: 1",
     "[ERROR apd] wlan0: driver fault as 02:00:00:00:00:aa was to be removed",
     "[WARN  apd] wlan0: the driver is given its stations anew: try 1 of 3",
