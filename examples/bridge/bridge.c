@@ -9,10 +9,12 @@
 #include "kernel.h"
 
 #include <errno.h>
+#include <inttypes.h>
 #include <net/if.h>
 #include <poll.h>
 #include <stdio.h>
 #include <stdlib.h>
+#include <sys/socket.h>
 #include <time.h>
 
 enum {
@@ -30,6 +32,8 @@ static struct {
     struct terms terms;
 } asked[REQUESTS];
 
+static int kernel, radio;      /* descriptors */
+static uint8_t own[ADDRESS]; /* the interface's address */
 static struct network network;
 static uint8_t basic_rates[RATES];
 static size_t basic_rate_count;
@@ -107,7 +111,7 @@ static void put_in(uint64_t number, const uint8_t *station, unsigned identifier)
     int error = add_station(station, identifier, &terms);
     if (error) {
         say("fault: %s %u is not added: %s", spell_address(station), identifier, strerror(error));
-        tell_word("fault %llu", (unsigned long long)number);
+        dprintf(radio, "fault %" PRIu64, number);
         return;
     }
     say("added %s %u", spell_address(station), identifier);
@@ -126,32 +130,10 @@ static void install(uint64_t number, const uint8_t *station, unsigned identifier
     put_in(number, station, identifier);
 }
 
-/* The whole map. */
-
-static uint8_t strangers[IDENTIFIERS][ADDRESS];
-static size_t stranger_count;
-
-static void note_stranger(const uint8_t *station, unsigned silence)
-{
-    (void)silence;
-    if (!identifier_of(station) && stranger_count < IDENTIFIERS)
-        memcpy(strangers[stranger_count++], station, ADDRESS);
-}
-
-/* Removes whom the kernel has from elsewhere, as from a run of this before. */
-static void remove_strangers(void)
-{
-    stranger_count = 0;
-    list_stations(note_stranger);
-    for (size_t i = 0; i < stranger_count; i++) {
-        say("removed %s, which is not known here", spell_address(strangers[i]));
-        remove_station(strangers[i]);
-    }
-}
-
 /* Makes the kernel's stations those of a map. */
 static void level(const struct word *word)
 {
+    static bool is_clean; /* the kernel has none of a run of this before */
     static uint8_t wanted[IDENTIFIERS + 1][ADDRESS];
     uint8_t station[ADDRESS];
     const char *rest = word->rest;
@@ -166,11 +148,13 @@ static void level(const struct word *word)
     for (identifier = 1; identifier <= IDENTIFIERS; identifier++)
         if (is_address(stations[identifier]) && !is_same(stations[identifier], wanted[identifier]))
             take_out(identifier);
-    remove_strangers();
+    if (!is_clean)
+        remove_all_stations();
+    is_clean = true;
     for (identifier = 1; identifier <= IDENTIFIERS; identifier++)
         if (is_address(wanted[identifier]) && !is_address(stations[identifier]))
             put_in(word->number, wanted[identifier], identifier);
-    say("level with the map %llu of %u stations", (unsigned long long)word->number, count);
+    say("level with the map %" PRIu64 " of %u stations", word->number, count);
     is_level = true;
     next_number = word->number + 1;
 }
@@ -189,9 +173,9 @@ static void obey(const char *text)
         return;
     }
     if (is_level && word.number != next_number) {
-        say("missed the words before %llu", (unsigned long long)word.number);
+        say("missed the words before %" PRIu64, word.number);
         is_level = false;
-        tell_word("up");
+        dprintf(radio, "up");
     }
     if (!is_level)
         return;
@@ -214,13 +198,13 @@ static void probe(int asker, size_t length)
     static const uint8_t rates[] = {1, 8, 0x82, 0x84, 0x8b, 0x96, 0x8c, 0x98, 0xb0, 0x6c};
     uint8_t frame[HEADER + 2 + sizeof network.name + sizeof rates] = {PROBE_REQUEST}, *at = frame + HEADER;
     for (size_t field = 4; field < HEADER - 2; field += ADDRESS)
-        memcpy(frame + field, own_address(), ADDRESS);
+        memcpy(frame + field, own, ADDRESS);
     frame[15] ^= asker_marks[asker];
     *at++ = 0;
     *at++ = length;
     at = (uint8_t *)memcpy(at, network.name, length) + length;
     memcpy(at, rates, sizeof rates);
-    tell_frame(frame, at + sizeof rates - frame);
+    send(radio, frame, at + sizeof rates - frame, 0);
 }
 
 static void ask_beacon(void)
@@ -235,22 +219,22 @@ static void ask_beacon(void)
 static int asker_of(const uint8_t *frame)
 {
     for (int asker = ANY_NAME; asker <= OWN_NAME; asker++)
-        if (memcmp(frame + 4, own_address(), ADDRESS - 1) == 0 &&
-            frame[9] == (own_address()[5] ^ asker_marks[asker]))
+        if (memcmp(frame + 4, own, ADDRESS - 1) == 0 &&
+            frame[9] == (own[5] ^ asker_marks[asker]))
             return asker;
     return -1;
 }
 
 /* Sends the beacon, or the changed one. Where it is sent anew, as after the interface was down, the kernel has no
    station; and as long as the stations may differ from the daemon's, the map is asked for. */
-static void refresh_beacon(const struct beacon *beacon)
+static void refresh_beacon(const uint8_t *frame, size_t length, bool is_hidden)
 {
     static int last_error = -1;
     bool is_new;
-    int error = set_beacon(beacon, &is_new);
+    int error = set_beacon(frame, length, &network, is_hidden, &is_new);
     if (error != last_error)
-        say("%s %s %.*s on channel %u", spell_address(own_address()), error ? strerror(error) : "beacons for",
-            (int)beacon->name_length, (const char *)beacon->name, beacon->channel);
+        say("%s %s %.*s on channel %u", spell_address(own), error ? strerror(error) : "beacons for",
+            (int)network.name_length, (const char *)network.name, network.channel);
     last_error = error;
     is_beaconing = !error;
     if (error || is_new) {
@@ -258,7 +242,7 @@ static void refresh_beacon(const struct beacon *beacon)
         memset(stations, 0, sizeof stations);
     }
     if (is_beaconing && !is_level)
-        tell_word("up");
+        dprintf(radio, "up");
 }
 
 /* Takes a name out of a frame's element; the frame's length then. */
@@ -287,15 +271,7 @@ static void take_response(uint8_t *frame, size_t length, int asker)
     memset(frame + 4, 0xff, ADDRESS);
     if (is_hidden)
         length = hide_name(frame, length, name - frame);
-    refresh_beacon(&(struct beacon){
-        .frame = frame,
-        .length = length,
-        .name = network.name,
-        .name_length = network.name_length,
-        .is_hidden = is_hidden,
-        .interval = number_at(frame, HEADER + 8),
-        .channel = network.channel,
-    });
+    refresh_beacon(frame, length, is_hidden);
 }
 
 /* Frames. */
@@ -304,10 +280,10 @@ static void take_response(uint8_t *frame, size_t length, int asker)
 static void tell_heard(const uint8_t *station)
 {
     uint8_t frame[HEADER] = {0x48, 0x01}; /* a null frame, to the access point */
-    memcpy(frame + 4, own_address(), ADDRESS);
+    memcpy(frame + 4, own, ADDRESS);
     memcpy(frame + 10, station, ADDRESS);
-    memcpy(frame + 16, own_address(), ADDRESS);
-    tell_frame(frame, sizeof frame);
+    memcpy(frame + 16, own, ADDRESS);
+    send(radio, frame, sizeof frame, 0);
 }
 
 static void tell_if_heard(const uint8_t *station, unsigned silence)
@@ -322,7 +298,7 @@ static void hear_frame(const uint8_t *frame, size_t length)
     if (frame[0] == ASSOCIATION_REQUEST || frame[0] == REASSOCIATION_REQUEST)
         note_request(frame, length);
     if (is_address(frame + 10))
-        tell_frame(frame, length);
+        send(radio, frame, length, 0);
 }
 
 /* Whether a frame tells a station that it is associated, which the kernel doesn't have. */
@@ -364,17 +340,15 @@ static void look_around(time_t second)
 
 static void serve(void)
 {
-    static const struct listener listener = {.hear = hear_frame, .meet = tell_heard};
     static uint8_t datagram[DATAGRAM + 1];
-    struct pollfd waiting[] = {{.fd = kernel_descriptor(), .events = POLLIN},
-                               {.fd = daemon_descriptor(), .events = POLLIN}};
+    struct pollfd waiting[] = {{.fd = kernel, .events = POLLIN}, {.fd = radio, .events = POLLIN}};
     struct timespec now;
     time_t last = 0;
     for (;;) {
         poll(waiting, 2, 200);
         if (waiting[0].revents)
-            hear_kernel(&listener);
-        ssize_t length = waiting[1].revents ? hear_daemon(datagram, DATAGRAM) : -1;
+            hear_kernel(hear_frame, tell_heard);
+        ssize_t length = waiting[1].revents ? recv(radio, datagram, DATAGRAM, MSG_DONTWAIT) : -1;
         if (length > 0)
             hear_datagram(datagram, length);
         clock_gettime(CLOCK_MONOTONIC, &now);
@@ -399,8 +373,7 @@ int main(int count, char **words)
         fprintf(stderr, "use: apd-bridge INTERFACE CONTROL RADIO OWN\n");
         return 2;
     }
-    struct ports ports = {.control = read_port(words[2]), .radio = read_port(words[3]), .own = read_port(words[4])};
-    open_kernel(words[1]);
-    open_daemon(words[1], &ports);
+    radio = open_daemon(words[1], read_port(words[2]), read_port(words[3]), read_port(words[4]));
+    kernel = open_kernel(words[1], own);
     serve();
 }

@@ -22,6 +22,13 @@ struct terms {
     size_t rate_count;
 };
 
+/* What the daemon tells of its network. */
+struct network {
+    uint8_t name[32];
+    size_t name_length;
+    unsigned channel;
+};
+
 /* Subtypes of management frames, as the first byte of a frame has them. */
 enum frame_kind {
     ASSOCIATION_REQUEST = 0x00,

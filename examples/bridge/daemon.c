@@ -2,8 +2,8 @@
 
 #include <arpa/inet.h>
 #include <errno.h>
+#include <inttypes.h>
 #include <poll.h>
-#include <stdarg.h>
 #include <stdio.h>
 #include <stdlib.h>
 #include <sys/socket.h>
@@ -12,22 +12,16 @@ enum {
     PATIENCE = 500 /* milliseconds that a command's reply may take */
 };
 
-static int control, radio;
+static int control;
 static const char *interface;
-
-/* The ports. */
-
-static struct sockaddr_in local(uint16_t port)
-{
-    return (struct sockaddr_in){
-        .sin_family = AF_INET, .sin_port = htons(port), .sin_addr.s_addr = htonl(INADDR_LOOPBACK)};
-}
 
 /* A socket of that port, or any for 0, that speaks with the other port alone. */
 static int open_port(uint16_t own_port, uint16_t other_port)
 {
-    struct sockaddr_in own = local(own_port), other = local(other_port);
+    struct sockaddr_in own = {.sin_family = AF_INET, .sin_port = htons(own_port)}, other = own;
     int room = 4 << 20, descriptor = socket(AF_INET, SOCK_DGRAM | SOCK_CLOEXEC, 0);
+    own.sin_addr.s_addr = other.sin_addr.s_addr = htonl(INADDR_LOOPBACK);
+    other.sin_port = htons(other_port);
     if (descriptor < 0 || bind(descriptor, (struct sockaddr *)&own, sizeof own) < 0 ||
         connect(descriptor, (struct sockaddr *)&other, sizeof other) < 0 ||
         setsockopt(descriptor, SOL_SOCKET, SO_RCVBUFFORCE, &room, sizeof room) < 0)
@@ -35,106 +29,47 @@ static int open_port(uint16_t own_port, uint16_t other_port)
     return descriptor;
 }
 
-void open_daemon(const char *name, const struct ports *ports)
+int open_daemon(const char *name, uint16_t control_port, uint16_t radio_port, uint16_t own_port)
 {
     interface = name;
-    control = open_port(0, ports->control);
-    radio = open_port(ports->own, ports->radio);
+    control = open_port(0, control_port);
+    return open_port(own_port, radio_port);
 }
 
-int daemon_descriptor(void)
-{
-    return radio;
-}
+/* Words. An address of a text is read into six places. */
+#define ADDRESS_FORM "%2hhx:%2hhx:%2hhx:%2hhx:%2hhx:%2hhx"
+#define PLACES(address) address, address + 1, address + 2, address + 3, address + 4, address + 5
 
-ssize_t hear_daemon(uint8_t *datagram, size_t room)
+static bool is_identifier(unsigned number)
 {
-    return recv(radio, datagram, room, MSG_DONTWAIT);
-}
-
-void tell_frame(const uint8_t *frame, size_t length)
-{
-    send(radio, frame, length, 0);
-}
-
-void tell_word(const char *form, ...)
-{
-    char text[64];
-    va_list rest;
-    va_start(rest, form);
-    int length = vsnprintf(text, sizeof text, form, rest);
-    va_end(rest);
-    send(radio, text, length, 0);
-}
-
-/* Words. */
-
-/* Reads a text where it stands next. */
-static bool skip_text(const char **at, const char *text)
-{
-    size_t length = strlen(text);
-    if (strncmp(*at, text, length) != 0)
-        return false;
-    *at += length;
-    return true;
-}
-
-/* Reads a decimal number up to the greatest. */
-static bool skip_number(const char **at, uint64_t greatest, uint64_t *number)
-{
-    char *end;
-    if (**at < '0' || **at > '9')
-        return false;
-    errno = 0;
-    *number = strtoull(*at, &end, 10);
-    *at = end;
-    return errno == 0 && *number <= greatest;
-}
-
-static bool skip_address(const char **at, uint8_t *address)
-{
-    int length = 0;
-    sscanf(*at, "%2hhx:%2hhx:%2hhx:%2hhx:%2hhx:%2hhx%n", &address[0], &address[1], &address[2], &address[3],
-           &address[4], &address[5], &length);
-    *at += length;
-    return length == sizeof "00:00:00:00:00:00" - 1;
-}
-
-/* Reads an address and an identifier. */
-static bool skip_station(const char **at, uint8_t *station, unsigned *identifier)
-{
-    uint64_t number;
-    if (!skip_address(at, station) || !skip_text(at, " ") || !skip_number(at, IDENTIFIERS, &number) || number == 0)
-        return false;
-    *identifier = number;
-    return true;
-}
-
-bool next_of_map(const char **rest, uint8_t *station, unsigned *identifier)
-{
-    return skip_text(rest, "\n") && skip_station(rest, station, identifier);
+    return number > 0 && number <= IDENTIFIERS;
 }
 
 bool read_word(const char *text, struct word *word)
 {
-    if (skip_text(&text, "install "))
-        word->kind = INSTALL;
-    else if (skip_text(&text, "remove "))
-        word->kind = REMOVE;
-    else if (skip_text(&text, "map "))
-        word->kind = MAP;
-    else
+    int end = 0;
+    *word = (struct word){.kind = INSTALL};
+    if (sscanf(text, "install %20" SCNu64 " " ADDRESS_FORM " %5u%n", &word->number, PLACES(word->station),
+               &word->identifier, &end) == 2 + ADDRESS)
+        return is_identifier(word->identifier) && !text[end];
+    word->kind = REMOVE;
+    if (sscanf(text, "remove %20" SCNu64 " " ADDRESS_FORM "%n", &word->number, PLACES(word->station), &end) ==
+        1 + ADDRESS)
+        return !text[end];
+    word->kind = MAP;
+    sscanf(text, "map %20" SCNu64 " down%n", &word->number, &end);
+    word->rest = text + end;
+    return end > 0;
+}
+
+bool next_of_map(const char **rest, uint8_t *station, unsigned *identifier)
+{
+    int end = 0;
+    if (sscanf(*rest, "\n" ADDRESS_FORM " %5u%n", PLACES(station), identifier, &end) != ADDRESS + 1 ||
+        !is_identifier(*identifier))
         return false;
-    if (!skip_number(&text, UINT64_MAX, &word->number) || !skip_text(&text, " "))
-        return false;
-    if (word->kind == MAP) {
-        bool is_map = skip_text(&text, "down");
-        word->rest = text;
-        return is_map;
-    }
-    return (word->kind == INSTALL ? skip_station(&text, word->station, &word->identifier)
-                                  : skip_address(&text, word->station)) &&
-           *text == 0;
+    *rest += end;
+    return true;
 }
 
 /* Commands. */

@@ -1,120 +1,21 @@
 #include "kernel.h"
+#include "netlink.h"
 
 #include <errno.h>
-#include <linux/genetlink.h>
-#include <linux/netlink.h>
 #include <linux/nl80211.h>
 #include <net/if.h>
 #include <sys/ioctl.h>
 #include <sys/socket.h>
-#include <unistd.h>
 
-/* A request, as it is made; requests and answers go by one socket, what the kernel tells by another. */
-static struct {
-    struct nlmsghdr head;
-    struct genlmsghdr generic;
-    uint8_t attributes[8192];
-} request;
+/* Requests and their answers go by one socket, what the kernel tells by the other. */
 static int requests, events;
 static uint32_t interface;
 static uint16_t family; /* the number of nl80211 */
-static uint8_t address[ADDRESS];
-
-/* Requests. */
-
-static void begin_message(uint16_t type, uint8_t command, uint16_t flags)
-{
-    static uint32_t sequence;
-    request.head = (struct nlmsghdr){
-        .nlmsg_len = NLMSG_LENGTH(GENL_HDRLEN),
-        .nlmsg_type = type,
-        .nlmsg_flags = NLM_F_REQUEST | flags,
-        .nlmsg_seq = ++sequence,
-    };
-    request.generic = (struct genlmsghdr){.cmd = command, .version = 1};
-}
-
-static void put_bytes(uint16_t type, const void *value, size_t length)
-{
-    uint8_t *at = (uint8_t *)&request + NLMSG_ALIGN(request.head.nlmsg_len);
-    struct nlattr head = {.nla_type = type, .nla_len = NLA_HDRLEN + length};
-    if (at + NLA_ALIGN(head.nla_len) > (uint8_t *)(&request + 1))
-        give_up("a frame", EMSGSIZE);
-    memcpy(at, &head, sizeof head);
-    memcpy(at + NLA_HDRLEN, value, length);
-    request.head.nlmsg_len = NLMSG_ALIGN(request.head.nlmsg_len) + NLA_ALIGN(head.nla_len);
-}
-
-static void put_16(uint16_t type, uint16_t value)
-{
-    put_bytes(type, &value, sizeof value);
-}
-
-static void put_32(uint16_t type, uint32_t value)
-{
-    put_bytes(type, &value, sizeof value);
-}
 
 static void begin_request(uint8_t command, uint16_t flags)
 {
     begin_message(family, command, flags);
     put_32(NL80211_ATTR_IFINDEX, interface);
-}
-
-/* Answers. */
-
-/* The value of an attribute; NULL where there is none of at least so many bytes. */
-static const uint8_t *find_attribute(const void *from, size_t bytes, int type, size_t least, size_t *length)
-{
-    const struct nlattr *attribute = from;
-    while (bytes >= NLA_HDRLEN && attribute->nla_len >= NLA_HDRLEN && attribute->nla_len <= bytes) {
-        size_t step = NLA_ALIGN(attribute->nla_len);
-        if ((attribute->nla_type & NLA_TYPE_MASK) == type) {
-            *length = attribute->nla_len - NLA_HDRLEN;
-            return *length < least ? NULL : (const uint8_t *)attribute + NLA_HDRLEN;
-        }
-        bytes -= step < bytes ? step : bytes;
-        attribute = (const struct nlattr *)((const uint8_t *)attribute + step);
-    }
-    return NULL;
-}
-
-static const uint8_t *attribute_of(const struct nlmsghdr *message, int type, size_t least, size_t *length)
-{
-    const uint8_t *from = (const uint8_t *)NLMSG_DATA(message) + GENL_HDRLEN;
-    return find_attribute(from, NLMSG_PAYLOAD(message, GENL_HDRLEN), type, least, length);
-}
-
-/* Whether the message ends the answers to the request; then also the error. */
-static bool is_last(const struct nlmsghdr *message, int *error)
-{
-    *error = 0;
-    if (message->nlmsg_type == NLMSG_ERROR)
-        *error = -((const struct nlmsgerr *)NLMSG_DATA(message))->error;
-    return message->nlmsg_type == NLMSG_ERROR || message->nlmsg_type == NLMSG_DONE;
-}
-
-/* Sends the request, hands out each answer, and returns 0 or the kernel's error. */
-static int ask_by(int descriptor, void (*take)(const struct nlmsghdr *answer))
-{
-    static uint8_t answers[DATAGRAM] __attribute__((aligned(NLMSG_ALIGNTO)));
-    int error;
-    if (send(descriptor, &request, request.head.nlmsg_len, 0) < 0)
-        return errno;
-    for (;;) {
-        ssize_t got = recv(descriptor, answers, sizeof answers, 0);
-        if (got < 0)
-            return errno;
-        unsigned left = got;
-        for (struct nlmsghdr *at = (void *)answers; NLMSG_OK(at, left); at = NLMSG_NEXT(at, left)) {
-            if (at->nlmsg_seq != request.head.nlmsg_seq) /* (it tells of a frame that was sent) */
-                continue;
-            if (is_last(at, &error))
-                return error;
-            if (take)
-                take(at);
-        }
-    }
 }
 
 static int ask(void)
@@ -123,24 +24,6 @@ static int ask(void)
 }
 
 /* The interface. */
-
-static int open_netlink(void)
-{
-    struct sockaddr_nl any = {.nl_family = AF_NETLINK};
-    int room = 4 << 20, descriptor = socket(AF_NETLINK, SOCK_RAW | SOCK_CLOEXEC, NETLINK_GENERIC);
-    if (descriptor < 0 || bind(descriptor, (struct sockaddr *)&any, sizeof any) < 0 ||
-        setsockopt(descriptor, SOL_SOCKET, SO_RCVBUFFORCE, &room, sizeof room) < 0)
-        give_up("netlink", errno);
-    return descriptor;
-}
-
-static void take_family(const struct nlmsghdr *answer)
-{
-    size_t length;
-    const uint8_t *number = attribute_of(answer, CTRL_ATTR_FAMILY_ID, sizeof family, &length);
-    if (number)
-        memcpy(&family, number, sizeof family);
-}
 
 /* Has management frames, and the news of data from strangers, come to `events`, as long as this process lives. */
 static void subscribe(void)
@@ -160,7 +43,7 @@ static void subscribe(void)
         give_up("data of strangers", error);
 }
 
-void open_kernel(const char *name)
+int open_kernel(const char *name, uint8_t *address)
 {
     struct ifreq query = {0};
     requests = open_netlink();
@@ -170,46 +53,26 @@ void open_kernel(const char *name)
     if (!interface || ioctl(requests, SIOCGIFHWADDR, &query) < 0)
         give_up(name, errno);
     memcpy(address, query.ifr_hwaddr.sa_data, ADDRESS);
-    begin_message(GENL_ID_CTRL, CTRL_CMD_GETFAMILY, NLM_F_ACK);
-    put_bytes(CTRL_ATTR_FAMILY_NAME, "nl80211", sizeof "nl80211");
-    if (ask_by(requests, take_family) || !family)
-        give_up("nl80211", ENOENT);
+    family = find_family(requests, "nl80211");
     subscribe();
-}
-
-const uint8_t *own_address(void)
-{
-    return address;
-}
-
-int kernel_descriptor(void)
-{
     return events;
 }
 
-static void hear_message(const struct nlmsghdr *message, const struct listener *listener)
-{
-    const struct genlmsghdr *generic = NLMSG_DATA(message);
-    const uint8_t *found;
-    size_t length;
-    if (message->nlmsg_type != family)
-        return;
-    if (generic->cmd == NL80211_CMD_FRAME) {
-        if ((found = attribute_of(message, NL80211_ATTR_FRAME, HEADER, &length)))
-            listener->hear(found, length);
-    } else if (generic->cmd == NL80211_CMD_UNEXPECTED_FRAME) {
-        if ((found = attribute_of(message, NL80211_ATTR_MAC, ADDRESS, &length)))
-            listener->meet(found);
-    }
-}
-
-void hear_kernel(const struct listener *listener)
+void hear_kernel(void (*hear)(const uint8_t *frame, size_t length), void (*meet)(const uint8_t *station))
 {
     static uint8_t messages[DATAGRAM] __attribute__((aligned(NLMSG_ALIGNTO)));
     ssize_t got = recv(events, messages, sizeof messages, MSG_DONTWAIT);
     unsigned left = got < 0 ? 0 : got;
-    for (struct nlmsghdr *at = (void *)messages; NLMSG_OK(at, left); at = NLMSG_NEXT(at, left))
-        hear_message(at, listener);
+    for (struct nlmsghdr *at = (void *)messages; NLMSG_OK(at, left); at = NLMSG_NEXT(at, left)) {
+        uint8_t command = ((const struct genlmsghdr *)NLMSG_DATA(at))->cmd;
+        size_t length;
+        const uint8_t *frame = attribute_of(at, NL80211_ATTR_FRAME, HEADER, &length), *station;
+        if (at->nlmsg_type == family && command == NL80211_CMD_FRAME && frame)
+            hear(frame, length);
+        station = attribute_of(at, NL80211_ATTR_MAC, ADDRESS, &length);
+        if (at->nlmsg_type == family && command == NL80211_CMD_UNEXPECTED_FRAME && station)
+            meet(station);
+    }
 }
 
 /* What it is asked to do. */
@@ -219,24 +82,23 @@ static uint32_t frequency_of(unsigned channel)
     return channel == 14 ? 2484 : channel < 14 ? 2407 + 5 * channel : 5000 + 5 * channel;
 }
 
-int set_beacon(const struct beacon *beacon, bool *is_new)
+int set_beacon(const uint8_t *frame, size_t length, const struct network *network, bool is_hidden, bool *is_new)
 {
     begin_request(NL80211_CMD_START_AP, NLM_F_ACK);
-    put_bytes(NL80211_ATTR_BEACON_HEAD, beacon->frame, beacon->length);
-    put_32(NL80211_ATTR_BEACON_INTERVAL, beacon->interval);
+    put_bytes(NL80211_ATTR_BEACON_HEAD, frame, length);
+    put_32(NL80211_ATTR_BEACON_INTERVAL, number_at(frame, HEADER + 8));
     put_32(NL80211_ATTR_DTIM_PERIOD, 2);
-    put_bytes(NL80211_ATTR_SSID, beacon->name, beacon->name_length);
-    put_32(NL80211_ATTR_HIDDEN_SSID,
-           beacon->is_hidden ? NL80211_HIDDEN_SSID_ZERO_LEN : NL80211_HIDDEN_SSID_NOT_IN_USE);
+    put_bytes(NL80211_ATTR_SSID, network->name, network->name_length);
+    put_32(NL80211_ATTR_HIDDEN_SSID, is_hidden ? NL80211_HIDDEN_SSID_ZERO_LEN : NL80211_HIDDEN_SSID_NOT_IN_USE);
     put_32(NL80211_ATTR_AUTH_TYPE, NL80211_AUTHTYPE_OPEN_SYSTEM);
-    put_32(NL80211_ATTR_WIPHY_FREQ, frequency_of(beacon->channel));
+    put_32(NL80211_ATTR_WIPHY_FREQ, frequency_of(network->channel));
     put_32(NL80211_ATTR_CHANNEL_WIDTH, NL80211_CHAN_WIDTH_20_NOHT);
     int error = ask();
     *is_new = error == 0;
     if (error != EALREADY)
         return error;
     begin_request(NL80211_CMD_SET_BEACON, NLM_F_ACK);
-    put_bytes(NL80211_ATTR_BEACON_HEAD, beacon->frame, beacon->length);
+    put_bytes(NL80211_ATTR_BEACON_HEAD, frame, length);
     return ask();
 }
 
@@ -259,6 +121,12 @@ int remove_station(const uint8_t *station)
 {
     begin_request(NL80211_CMD_DEL_STATION, NLM_F_ACK);
     put_bytes(NL80211_ATTR_MAC, station, ADDRESS);
+    return ask();
+}
+
+int remove_all_stations(void)
+{
+    begin_request(NL80211_CMD_DEL_STATION, NLM_F_ACK);
     return ask();
 }
 

@@ -116,13 +116,13 @@ def tell(text):
 
 request = frame(0x00, OWN, bytes_of("cc"), bytes.fromhex("31040a00") + BASIC + bytes.fromhex("32050c12182430"))
 accepted = bytes.fromhex("0100000003c0") + BASIC
-a, b, c, d, other = (address(it) for it in ("aa", "bb", "cc", "dd", "99"))
+a, b, c, d = (address(it) for it in ("aa", "bb", "cc", "dd"))
 by_request, by_daemon = "431 10 9", "421 7 4"
 is_good = False
 try:
     expect("it starts", "open wlan0", 'beacon n\\"\xff open 6 100 51', said=[b"up"])
     tell(f"map 5 down\n{a} 1\n{b} 2007")
-    expect("a map", f"remove {other}", f"add {a} 1 {by_daemon}", f"add {b} 2007 {by_daemon}")
+    expect("a map", "remove all", f"add {a} 1 {by_daemon}", f"add {b} 2007 {by_daemon}")
     expect("who was heard of late", said=[null_of("aa")])
     kernel.send(request)
     expect("a request", said=[request])

@@ -7,28 +7,19 @@
 #include <stdio.h>
 #include <sys/socket.h>
 
-static const uint8_t address[ADDRESS] = {2, 0, 0, 0, 0, 1};
-static uint8_t stations[IDENTIFIERS][ADDRESS] = {{2, 0, 0, 0, 0, 0x99}}; /* one is there before, as of another run */
-static size_t count = 1;
+static uint8_t stations[IDENTIFIERS][ADDRESS];
+static size_t count;
 static bool is_refusing, is_beaconing;
 
-void open_kernel(const char *name)
+int open_kernel(const char *name, uint8_t *address)
 {
+    memcpy(address, "\2\0\0\0\0\1", ADDRESS);
     setvbuf(stdout, NULL, _IOLBF, 0);
     printf("open %s\n", name);
-}
-
-const uint8_t *own_address(void)
-{
-    return address;
-}
-
-int kernel_descriptor(void)
-{
     return 0;
 }
 
-void hear_kernel(const struct listener *listener)
+void hear_kernel(void (*hear)(const uint8_t *frame, size_t length), void (*meet)(const uint8_t *station))
 {
     uint8_t news[DATAGRAM];
     ssize_t length = recv(0, news, sizeof news - 1, 0);
@@ -36,9 +27,9 @@ void hear_kernel(const struct listener *listener)
         give_up("the end", 0);
     news[length] = 0;
     if (length >= HEADER) {
-        listener->hear(news, length);
+        hear(news, length);
     } else if (length == ADDRESS && news[0] == 2) {
-        listener->meet(news);
+        meet(news);
     } else if (news[0] == 'f') {
         is_beaconing = false;
         count = 0;
@@ -47,16 +38,16 @@ void hear_kernel(const struct listener *listener)
     }
 }
 
-int set_beacon(const struct beacon *beacon, bool *is_new)
+int set_beacon(const uint8_t *frame, size_t length, const struct network *network, bool is_hidden, bool *is_new)
 {
     static bool was_hidden;
-    bool is_told = is_beaconing && was_hidden == beacon->is_hidden;
+    bool is_told = is_beaconing && was_hidden == is_hidden;
     *is_new = !is_beaconing;
     is_beaconing = true;
-    was_hidden = beacon->is_hidden;
+    was_hidden = is_hidden;
     if (!is_told)
-        printf("beacon %.*s %s %u %u %zu\n", (int)beacon->name_length, beacon->name,
-               beacon->is_hidden ? "hidden" : "open", beacon->channel, beacon->interval, beacon->length);
+        printf("beacon %.*s %s %u %u %zu\n", (int)network->name_length, network->name, is_hidden ? "hidden" : "open",
+               network->channel, number_at(frame, HEADER + 8), length);
     return 0;
 }
 
@@ -79,6 +70,13 @@ int remove_station(const uint8_t *station)
             return 0;
         }
     return ENOENT;
+}
+
+int remove_all_stations(void)
+{
+    count = 0;
+    puts("remove all");
+    return 0;
 }
 
 int send_frame(const uint8_t *frame, size_t length)
