@@ -9,8 +9,11 @@ use apd_radio::{Radio, RadioFault};
 use std::alloc::Global;
 use std::os::fd::RawFd;
 use std::sync::Wait;
-use std::sync::atomic::{AtomicU64, AtomicUsize, Ordering};
+use std::sync::atomic::{AtomicBool, AtomicU64, AtomicUsize, Ordering};
 use std::sync::ledger::Ledger;
+use std::thread::sleep;
+use std::time;
+use std::time::Duration;
 
 /// Tells its moments one after another, and with the last one tells all to stop.
 #[derive(Drop)]
@@ -240,6 +243,63 @@ impl<R: Radio> Radio for Trailed<R> {
     }
 
     fn descriptor(&self) -> Option<RawFd> {
+        self.inner.descriptor()
+    }
+
+    fn install(&mut self, addr: Addr, aid: u16) -> Result<(), RadioFault> {
+        self.inner.install(addr, aid)
+    }
+
+    fn remove(&mut self, addr: Addr) -> Result<(), RadioFault> {
+        self.inner.remove(addr)
+    }
+
+    fn transmit(&mut self, frame: &[u8]) -> Result<(), RadioFault> {
+        self.inner.transmit(frame)
+    }
+
+    fn take_down(&mut self) {
+        self.inner.take_down();
+    }
+
+    fn installed(&self, addr: Addr) -> Option<u16> {
+        self.inner.installed(addr)
+    }
+
+    fn failures(&self) -> u64 {
+        self.inner.failures()
+    }
+}
+
+/// The radio inside, whose descriptor is told only after a rest behind each frame: as if its worker was held up between
+/// its last look and its sleep.
+#[derive(Drop)]
+pub(crate) struct Resting<'a, R: Radio, W: time::Clock> {
+    pub(crate) clock: &'a W,
+    pub(crate) inner: R,
+    /// Whether a frame was given since the last rest.
+    pub(crate) heard: AtomicBool,
+}
+
+/// How long that rest is, in milliseconds: what the frame asks for is settled by then.
+const REST: u64 = 400;
+
+impl<R: Radio, W: time::Clock> Radio for Resting<'_, R, W> {
+    ghost model = { inside R.model (λ radio. radio.inner) };
+
+    fn poll(&mut self) -> Result<Option<Vec<u8>>, RadioFault> {
+        let frame = self.inner.poll()?;
+        if frame.is_some() {
+            self.heard.store(true, Ordering::SeqCst);
+        }
+        Ok(frame)
+    }
+
+    fn descriptor(&self) -> Option<RawFd> {
+        if self.heard.load(Ordering::SeqCst) {
+            self.heard.store(false, Ordering::SeqCst);
+            sleep(self.clock, Duration::from_millis(REST));
+        }
         self.inner.descriptor()
     }
 

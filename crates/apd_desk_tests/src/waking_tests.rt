@@ -8,7 +8,7 @@ use crate::common::{
     started_core,
 };
 use crate::expect::expect;
-use crate::staged::{Short, Trail, Trailed};
+use crate::staged::{Resting, Short, Trail, Trailed};
 use apd_core::Core;
 use apd_desk::{Gate, NoGate, Place, Shared, control_worker, tick_worker};
 use apd_disk::MemDisk;
@@ -19,6 +19,7 @@ use std::alloc::Global;
 use std::marker::Brand;
 use std::net::Net;
 use std::sync::Wait;
+use std::sync::atomic::AtomicBool;
 use std::sync::ledger::{Blank, Ledger};
 use std::thread::{Threads, join, sleep};
 use std::time::{Clock, Duration};
@@ -335,4 +336,34 @@ fn a_burst_is_committed_behind_which_the_poll_fails(rt: HostRuntime) {
         answers_before_a_trail(&rt, rt.alloc(), Trail::Fault),
         Some(true),
     );
+}
+
+// A radio at this port whose worker is held up before it sleeps.
+fn resting_radio<'a, W: Host>(
+    rt: &'a W,
+    alloc: Global,
+    port: u16,
+) -> Option<Resting<'a, UdpSim, W>> {
+    let inner = UdpSim::new(rt, alloc, port).ok()?;
+    Some(Resting {
+        clock: rt,
+        inner,
+        heard: AtomicBool::new(false),
+    })
+}
+
+// How a frame is answered whose answer is ready between a worker's last look and its sleep.
+fn answers_before_a_sleep<W: Host>(rt: &W, alloc: Global) -> Option<bool> {
+    let (radio_port, port) = two_free_ports(rt)?;
+    let frame = authentication(0xaa);
+    let questions = [Question::new(radio_port, &frame, &AUTHENTICATED, 1); 3];
+    let core = started_core(alloc);
+    let crew = crew_with(rt, alloc, resting_radio(rt, alloc, radio_port), port);
+    let blank = Blank::new(65_536);
+    Some(are_answered::<Brand, _, _>(rt, alloc, blank, core, crew, &questions))
+}
+
+#[test]
+fn no_worker_sleeps_beside_what_was_settled_meanwhile(rt: HostRuntime) {
+    expect(&rt, answers_before_a_sleep(&rt, rt.alloc()), Some(true));
 }
