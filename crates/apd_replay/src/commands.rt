@@ -1,0 +1,204 @@
+//! What the port was asked, and what it told.
+use crate::digest::digest;
+use crate::fault::Fault;
+use crate::history::{Answered, History};
+use crate::notes::{Note, Seen};
+use crate::plan::Plan;
+use apd_ctrl::{FAIL, Parsed, Placed, Query, UNKNOWN_COMMAND, parse_command};
+use std::alloc::{AllocError, Global};
+
+// What the port was asked, and told.
+#[derive(Drop)]
+struct PortReading<'a> {
+    plan: &'a Plan,
+    failed: bool,
+    // The last number that its own seat was told of.
+    told: u64,
+    // What it saw last of the radio that a command is about.
+    seen: Option<Seen>,
+    // Of each command that was given: what was told and seen when it was, and whether it became an entry and was replied
+    // to.
+    commands: Vec<Command>,
+}
+
+#[derive(Clone, Copy)]
+struct Command {
+    from: u64,
+    seen: Option<Seen>,
+    is_entry: bool,
+    is_replied: bool,
+}
+
+impl PortReading<'_> {
+    fn give(&mut self) -> Result<(), AllocError> {
+        let from = self.told;
+        let seen = self.seen.take();
+        self.commands.push(Command {
+            from,
+            seen,
+            is_entry: false,
+            is_replied: false,
+        })?;
+        Ok(())
+    }
+
+    fn accept(&mut self) {
+        if let Some(command) = self.commands.last_mut() {
+            command.is_entry = true;
+        }
+    }
+
+    fn tell(&mut self, query: Query, number: u64, text: u64) -> Result<Answered, Fault> {
+        if number < self.told {
+            return Err(Fault::ToldBack(number));
+        }
+        self.told = number;
+        Ok(Answered {
+            command: None,
+            queries: [query, query],
+            from: number,
+            to: number,
+            text,
+        })
+    }
+
+    // The command of a tag, which was not replied to before.
+    fn reply_to(&mut self, tag: u64) -> Result<(Command, &[u8]), Fault> {
+        let twice = Fault::ReplyTwice(tag);
+        let place = usize::try_from(tag).map_err(|_| twice)?;
+        let command = self.commands.get_mut(place).ok_or(twice)?;
+        if command.is_replied {
+            return Err(twice);
+        }
+        command.is_replied = true;
+        let bytes = self.plan.commands.get(place).ok_or(twice)?;
+        Ok((*command, bytes.as_slice()))
+    }
+
+    // Whether each command was replied to that has to be by now: but orders that became entries, and are told of by the
+    // replay.
+    fn check_replies(&self) -> Result<(), Fault> {
+        for (place, command) in self.commands.iter().enumerate() {
+            if !command.is_replied && !command.is_entry {
+                return Err(Fault::NoReply(place as u64));
+            }
+        }
+        Ok(())
+    }
+}
+
+/// What has to be replied to a command.
+#[derive(Clone, Copy, Debug, PartialEq, Eq)]
+enum Wanted {
+    /// This text, at once.
+    Text(&'static [u8]),
+    /// The answer to one of these queries.
+    Answer([Query; 2]),
+    /// What its entry says, or `FAIL` where it became none.
+    Order,
+}
+
+// Whether a radio was noted up from one look to another, where it can't have changed between: to be noted otherwise and
+// back, its drivers would have failed, or would have been taken down.
+fn steadily_up(from: Option<Seen>, to: Option<Seen>) -> Option<bool> {
+    let (Some(from), Some(to)) = (from, to) else {
+        return None;
+    };
+    if from.up == to.up && from.before == to.behind {
+        Some(from.up)
+    } else {
+        None
+    }
+}
+
+// What has to be replied to a command, where its radio was up, or down, if that is known.
+fn wanted_reply(plan: &Plan, bytes: &[u8], up: Option<bool>) -> Wanted {
+    let (interface, command) = match parse_command(bytes) {
+        Parsed::Command { interface, command } => (interface, command),
+        Parsed::Unknown => return Wanted::Text(UNKNOWN_COMMAND),
+        Parsed::Fail => return Wanted::Text(FAIL),
+    };
+    let Some(conf) = plan.confs.for_command(interface) else {
+        return Wanted::Text(FAIL);
+    };
+    let one = command.at(conf.bssid, up.unwrap_or(true), 0);
+    let other = command.at(conf.bssid, up.unwrap_or(false), 0);
+    match (one, other) {
+        (Placed::Ask(one), Placed::Ask(other)) => Wanted::Answer([one, other]),
+        _ => Wanted::Order,
+    }
+}
+
+impl History {
+    // Adds a reply.
+    fn add_reply(&mut self, port: &mut PortReading<'_>, tag: u64, text: u64) -> Result<(), Fault> {
+        let (plan, to, failed) = (port.plan, port.told, port.failed);
+        let seen = port.seen.take();
+        let (command, bytes) = port.reply_to(tag)?;
+        match wanted_reply(plan, bytes, steadily_up(command.seen, seen)) {
+            Wanted::Text(wanted) => is_same(tag, text, digest(wanted)),
+            Wanted::Order if command.is_entry => Ok(self.replies.push((tag, text))?),
+            Wanted::Order if failed => is_same(tag, text, digest(FAIL)),
+            Wanted::Order => Err(Fault::OtherReply(tag)),
+            Wanted::Answer(queries) => {
+                let answer = Answered {
+                    command: Some(tag),
+                    queries,
+                    from: command.from,
+                    to,
+                    text,
+                };
+                Ok(self.answers.push(answer)?)
+            }
+        }
+    }
+
+    fn read_port(&mut self, port: &mut PortReading<'_>, note: Note) -> Result<(), Fault> {
+        match note {
+            Note::Given(..) => Ok(port.give()?),
+            Note::Accepted(_) => {
+                port.accept();
+                Ok(())
+            }
+            Note::Told(query, number, text) => {
+                let answer = port.tell(query, number, text)?;
+                Ok(self.answers.push(answer)?)
+            }
+            Note::Replied(tag, text) => self.add_reply(port, tag, text),
+            Note::Seen(seen) => {
+                port.seen = Some(seen);
+                Ok(())
+            }
+            _ => Ok(()),
+        }
+    }
+
+    /// Adds what the port's notes say.
+    pub(crate) fn add_port(
+        &mut self,
+        alloc: Global,
+        plan: &Plan,
+        failed: bool,
+        notes: &[Note],
+    ) -> Result<(), Fault> {
+        let mut port = PortReading {
+            plan,
+            failed,
+            told: 0,
+            seen: None,
+            commands: Vec::new(alloc),
+        };
+        for note in notes {
+            self.read_port(&mut port, *note)?;
+        }
+        port.check_replies()
+    }
+}
+
+fn is_same(tag: u64, text: u64, wanted: u64) -> Result<(), Fault> {
+    if text == wanted {
+        Ok(())
+    } else {
+        Err(Fault::OtherReply(tag))
+    }
+}

@@ -1,0 +1,430 @@
+//! A run: a world is started and taken apart, its workers work in threads, and what they leave is kept.
+ghost use Rattle.std.specs.Prelude.{◌≡◌};
+
+use crate::calls::{restart_world, start_world, take_apart};
+use crate::crew::work_all;
+use crate::device::{Device, device};
+use crate::digest::digest_of;
+use crate::ending::{Left, SlotEnd, end_all};
+use crate::fault::Fault;
+use crate::frames::{FIRST_STATION, STATIONS};
+use crate::gate::{NotedClock, NotedGate, TickClock};
+use crate::generator::{Generator, Shaker};
+use crate::notes::Lane;
+use crate::plan::{End, Plan, RadioPlan, station};
+use crate::port::NotedPort;
+use crate::radio::{Feed, Noted, NotedRadio};
+use crate::stage::Stage;
+use crate::working::{Environment, Host, PortPart, RadioPart, Worker};
+use apd_base::{Addr, Bssid, Station};
+use apd_core::Core;
+use apd_desk::{Seat, Shared};
+use apd_disk::{Disk, MemDisk};
+use apd_flusher::{Committer, Flusher};
+use apd_radio::{Radio, Sim};
+use apd_slot::Slot;
+use apd_table::Table;
+use apd_world::{World, slots_for};
+use std::alloc::{AllocError, Global};
+use std::marker::Brand;
+use std::sync::Wait;
+use std::sync::atomic::AtomicU64;
+use std::sync::ledger::{Blank, Ledger};
+
+/// What is kept of a run, beside what its doubles noted.
+#[derive(Drop)]
+pub(crate) struct Record {
+    /// The last entry of the start.
+    pub(crate) begin: u64,
+    /// How many entries the seats counted.
+    pub(crate) entries: u64,
+    /// The last settled entry, and the sum of the table after it.
+    pub(crate) number: u64,
+    pub(crate) table: u64,
+    pub(crate) failed: bool,
+    pub(crate) slots: Vec<SlotEnd>,
+    /// The stations of each radio that are associated in that table.
+    pub(crate) associated: Vec<Vec<Option<u16>>>,
+}
+
+/// What the doubles of a run share.
+#[derive(Clone, Copy)]
+pub(crate) struct Scene<'a> {
+    pub(crate) plan: &'a Plan,
+    pub(crate) stage: &'a Stage,
+    /// The logs of the radios, in the order of the plan, and then of the port, of the ticks and of the commits.
+    pub(crate) lanes: &'a [Lane],
+}
+
+/// The logs of a run.
+pub(crate) fn lanes(alloc: Global, plan: &Plan) -> Result<Vec<Lane>, AllocError> {
+    let mut lanes = Vec::new(alloc);
+    for _ in 0..plan.radios.len().saturating_add(3) {
+        lanes.push(Lane::new(alloc))?;
+    }
+    Ok(lanes)
+}
+
+/// The store that a device begins with.
+pub(crate) fn disk(alloc: Global, image: &[u8]) -> Result<MemDisk, AllocError> {
+    MemDisk::new(alloc, Vec::from_slice(alloc, image)?)
+}
+
+/// The radio of each slot, with what it receives; in a replay nothing.
+pub(crate) fn radios<'a, W: Wait>(
+    rt: &'a W,
+    alloc: Global,
+    scene: Scene<'a>,
+    seeds: &mut Generator,
+    replays: bool,
+) -> Result<Vec<NotedRadio<'a, W>>, AllocError> {
+    let mut radios = Vec::new(alloc);
+    for (radio, lane) in scene.plan.radios.iter().zip(scene.lanes) {
+        let feed = feed(scene.stage, radio, replays);
+        radios.push(Noted::new(
+            rt,
+            alloc,
+            Sim::new(alloc),
+            lane,
+            seeds.number(),
+            0,
+            radio.own,
+            feed,
+        ))?;
+    }
+    Ok(radios)
+}
+
+fn feed<'a>(stage: &'a Stage, radio: &'a RadioPlan, replays: bool) -> Option<Feed<'a>> {
+    if replays {
+        return None;
+    }
+    Some(Feed {
+        stage,
+        frames: radio.frames.as_slice(),
+    })
+}
+
+/// The radios that stand by at a slot.
+pub(crate) fn spares<'a, W: Wait>(
+    rt: &'a W,
+    alloc: Global,
+    stage: &'a Stage,
+    radio: &'a RadioPlan,
+    lane: &'a Lane,
+    seeds: &mut Generator,
+    replays: bool,
+) -> Result<Vec<NotedRadio<'a, W>>, AllocError> {
+    let mut spares = Vec::new(alloc);
+    for (place, faults) in radio.spares.iter().enumerate() {
+        let number = place.wrapping_add(1);
+        let feed = feed(stage, radio, replays);
+        spares.push(Noted::new(
+            rt,
+            alloc,
+            Sim::new(alloc),
+            lane,
+            seeds.number(),
+            number,
+            *faults,
+            feed,
+        ))?;
+    }
+    Ok(spares)
+}
+
+// A world, started.
+fn started<D: Disk + Drop, R: Radio>(world: World<D, R>) -> Result<World<D, R>, Fault> {
+    let mut world = world;
+    if start_world(&mut world) {
+        Ok(world)
+    } else {
+        Err(Fault::NoStart)
+    }
+}
+
+/// The world of a store, with these radios, started.
+pub(crate) fn world<'a, D: Disk + Drop, W: Wait>(
+    alloc: Global,
+    disk: D,
+    plan: &Plan,
+    radios: Vec<NotedRadio<'a, W>>,
+) -> Result<World<D, NotedRadio<'a, W>>, Fault> {
+    let confs = plan.confs.copy(alloc)?;
+    let slots = slots_for(alloc, &confs, radios)?;
+    match restart_world(alloc, disk, confs, slots) {
+        Some(world) => started(world),
+        None => Err(Fault::NoStore),
+    }
+}
+
+// A gate of the worker of this log.
+fn gate<'a, L: Ledger, W: Wait>(
+    rt: &'a W,
+    shared: &'a Shared<L>,
+    scene: Scene<'a>,
+    lane: &'a Lane,
+    seeds: &mut Generator,
+) -> NotedGate<'a, L, W> {
+    let stop_at = match scene.plan.end {
+        End::AtEntry(entry) => Some(entry),
+        End::AllGiven | End::AllSettled | End::AtPoll(_) => None,
+    };
+    NotedGate {
+        rt,
+        shared,
+        stage: scene.stage,
+        lane,
+        shaker: Shaker::new(seeds.number()),
+        stop_at,
+    }
+}
+
+fn clock<'a, W: Wait>(
+    rt: &'a W,
+    scene: Scene<'a>,
+    lane: &'a Lane,
+    seeds: &mut Generator,
+) -> NotedClock<'a, W> {
+    NotedClock {
+        rt,
+        stage: scene.stage,
+        lane,
+        shaker: Shaker::new(seeds.number()),
+    }
+}
+
+fn seat<L: Ledger, W: Wait>(rt: &W, shared: &Shared<L>) -> Result<Seat<L>, Fault> {
+    shared.seat(rt).ok_or(Fault::NoSeat)
+}
+
+// The worker of a radio.
+fn radio_part<'a, L: Ledger, W: Wait>(
+    rt: &'a W,
+    alloc: Global,
+    shared: &'a Shared<L>,
+    scene: Scene<'a>,
+    radio: &'a RadioPlan,
+    lane: &'a Lane,
+    slot: Slot<NotedRadio<'a, W>>,
+    seeds: &mut Generator,
+) -> Result<Worker<'a, L, W>, Fault> {
+    shared.note(rt, slot.bssid(), slot.is_up());
+    let part = RadioPart {
+        seat: seat(rt, shared)?,
+        slot,
+        spares: spares(rt, alloc, scene.stage, radio, lane, seeds, false)?,
+        clock: clock(rt, scene, lane, seeds),
+        gate: gate(rt, shared, scene, lane, seeds),
+    };
+    Ok(Worker::Radio(part))
+}
+
+fn control_part<'a, L: Ledger, W: Wait>(
+    rt: &'a W,
+    alloc: Global,
+    shared: &'a Shared<L>,
+    scene: Scene<'a>,
+    lane: &'a Lane,
+    seeds: &mut Generator,
+) -> Result<Worker<'a, L, W>, Fault> {
+    let port = NotedPort {
+        rt,
+        alloc,
+        shared,
+        seat: seat(rt, shared)?,
+        stage: scene.stage,
+        lane,
+        lanes: scene.lanes,
+        shaker: Shaker::new(seeds.number()),
+        plan: scene.plan,
+        polls: 0,
+        last_polls: 0,
+        told: None,
+    };
+    Ok(Worker::Control(PortPart {
+        seat: seat(rt, shared)?,
+        port,
+        clock: clock(rt, scene, lane, seeds),
+        gate: gate(rt, shared, scene, lane, seeds),
+    }))
+}
+
+fn tick_part<'a, L: Ledger, W: Wait>(
+    rt: &'a W,
+    shared: &'a Shared<L>,
+    scene: Scene<'a>,
+    lane: &'a Lane,
+    seeds: &mut Generator,
+) -> Result<Worker<'a, L, W>, Fault> {
+    let clock = TickClock {
+        rt,
+        stage: scene.stage,
+        lane,
+        shaker: Shaker::new(seeds.number()),
+        ticks: scene.plan.ticks,
+        radios: scene.plan.radios.len(),
+        asked: AtomicU64::new(0),
+    };
+    let gate = gate(rt, shared, scene, lane, seeds);
+    Ok(Worker::Ticks(seat(rt, shared)?, clock, gate))
+}
+
+// Adds the workers of the port, of ticks and of the radios.
+fn add_others<'a, L: Ledger, W: Wait>(
+    rt: &'a W,
+    alloc: Global,
+    shared: &'a Shared<L>,
+    scene: Scene<'a>,
+    slots: Vec<Slot<NotedRadio<'a, W>>>,
+    seeds: &mut Generator,
+    workers: &mut Vec<Worker<'a, L, W>>,
+) -> Result<(), Fault> {
+    let mut lanes = scene.lanes.iter();
+    for (slot, radio) in slots.into_iter().zip(scene.plan.radios.iter()) {
+        let lane = lanes.next().ok_or(Fault::NoThread)?;
+        let part = radio_part(rt, alloc, shared, scene, radio, lane, slot, seeds)?;
+        workers.push(part)?;
+    }
+    let lane = lanes.next().ok_or(Fault::NoThread)?;
+    workers.push(control_part(rt, alloc, shared, scene, lane, seeds)?)?;
+    let lane = lanes.next().ok_or(Fault::NoThread)?;
+    workers.push(tick_part(rt, shared, scene, lane, seeds)?)?;
+    Ok(())
+}
+
+// The workers: the first one commits.
+fn crew<'a, L: Ledger, W: Wait>(
+    rt: &'a W,
+    alloc: Global,
+    shared: &'a Shared<L>,
+    scene: Scene<'a>,
+    flusher: Flusher<Device<'a, W>>,
+    slots: Vec<Slot<NotedRadio<'a, W>>>,
+    seeds: &mut Generator,
+) -> Result<Vec<Worker<'a, L, W>>, Fault> {
+    let mut workers = Vec::new(alloc);
+    let lane = scene.lanes.last().ok_or(Fault::NoThread)?;
+    let gate = gate(rt, shared, scene, lane, seeds);
+    workers.push(Worker::Committing(Committer::new(flusher), gate))?;
+    add_others(rt, alloc, shared, scene, slots, seeds, &mut workers)?;
+    Ok(workers)
+}
+
+// The threads work until a stop, and what they leave is committed and handed out.
+fn work<'a, L: Ledger + Send + Sync, W: Host>(
+    rt: &'a W,
+    alloc: Global,
+    shared: &'a Shared<L>,
+    scene: Scene<'a>,
+    flusher: Flusher<Device<'a, W>>,
+    slots: Vec<Slot<NotedRadio<'a, W>>>,
+    seeds: &mut Generator,
+) -> Result<Left<L>, Fault> {
+    let workers = crew(rt, alloc, shared, scene, flusher, slots, seeds)?;
+    let environment = Environment { rt, alloc, shared };
+    match work_all(rt, alloc, &environment, workers) {
+        Some(workers) => end_all(rt, alloc, shared, workers),
+        None => Err(Fault::NoThread),
+    }
+}
+
+// The identifier under which a station is associated.
+fn association(table: &Table, bssid: Bssid, addr: Addr) -> Option<u16> {
+    match table.get(bssid, addr) {
+        Some(Station::Associated(association)) => Some(association.aid.number),
+        Some(Station::Authenticated) | None => None,
+    }
+}
+
+fn associations(
+    alloc: Global,
+    table: &Table,
+    bssid: Bssid,
+) -> Result<Vec<Option<u16>>, AllocError> {
+    let mut all = Vec::new(alloc);
+    for place in 0..STATIONS {
+        let addr = station(FIRST_STATION.wrapping_add(place));
+        all.push(association(table, bssid, addr))?;
+    }
+    Ok(all)
+}
+
+fn all_associations(alloc: Global, core: &Core) -> Result<Vec<Vec<Option<u16>>>, AllocError> {
+    let mut all = Vec::new(alloc);
+    for conf in core.confs().list() {
+        all.push(associations(alloc, core.table(), conf.bssid)?)?;
+    }
+    Ok(all)
+}
+
+// What is kept of a core and of what was left.
+fn keep(
+    alloc: Global,
+    begin: u64,
+    core: &Core,
+    entries: u64,
+    slots: Vec<SlotEnd>,
+) -> Result<Record, Fault> {
+    Ok(Record {
+        begin,
+        entries,
+        number: core.number(),
+        table: digest_of(alloc, core.table())?,
+        failed: core.has_failed(),
+        slots,
+        associated: all_associations(alloc, core)?,
+    })
+}
+
+fn close<L: Ledger>(
+    alloc: Global,
+    begin: u64,
+    shared: Shared<L>,
+    left: Left<L>,
+) -> Result<(Record, Option<MemDisk>), Fault>
+    requires { L.parts ≡ 65536 }
+{
+    let Left { seats, slots, disk } = left;
+    match shared.close(seats) {
+        Ok((core, entries)) => Ok((keep(alloc, begin, &core, entries, slots)?, disk)),
+        Err(_missing) => Err(Fault::NoSeat),
+    }
+}
+
+// As `run`, over one ledger.
+fn run_over_ledger<'a, L: Ledger + Send + Sync, W: Host>(
+    rt: &'a W,
+    alloc: Global,
+    blank: Blank,
+    scene: Scene<'a>,
+    world: World<Device<'a, W>, NotedRadio<'a, W>>,
+    seeds: &mut Generator,
+) -> Result<(Record, Option<MemDisk>), Fault>
+    requires name { blank.name ≡ L.name }
+    requires parts { blank.parts ≡ L.parts }
+    requires all { blank.parts ≡ 65536 }
+{
+    let (flusher, core, slots) = take_apart(world);
+    let begin = core.number();
+    let shared = Shared::<L>::new(core, blank);
+    let left = work(rt, alloc, &shared, scene, flusher, slots, seeds)?;
+    close(alloc, begin, shared, left)
+}
+
+/// Runs a plan on a store: its workers work in threads until a stop, and what they leave is committed and handed out.
+/// What the device holds then is beside what is kept.
+pub(crate) fn run<W: Host>(
+    rt: &W,
+    alloc: Global,
+    scene: Scene<'_>,
+    image: &[u8],
+) -> Result<(Record, Option<MemDisk>), Fault> {
+    let mut seeds = Generator::new(scene.plan.seed.wrapping_add(1));
+    let lane = scene.lanes.last().ok_or(Fault::NoThread)?;
+    let disk = disk(alloc, image)?;
+    let device = device(rt, lane, disk, scene.plan.device, seeds.number());
+    let radios = radios(rt, alloc, scene, &mut seeds, false)?;
+    let world = world(alloc, device, scene.plan, radios)?;
+    run_over_ledger::<Brand, W>(rt, alloc, Blank::new(65_536), scene, world, &mut seeds)
+}
