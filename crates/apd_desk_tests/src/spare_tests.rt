@@ -90,6 +90,9 @@ const LAST: &[Frame] = &[
 /// What is asked once all that has come.
 const ASKED: &[&[u8]] = &[b"IFNAME=wlan0 STATUS", b"IFNAME=wlan1 STATUS", b"PING"];
 
+/// How the reply to the first of these begins where the radio is up.
+const UP: &[u8] = b"state=ENABLED\n";
+
 /// A spare radio: how many calls it passes on before it fails for good, and what it receives.
 #[derive(Clone, Copy)]
 struct Spare(u64, &'static [Frame]);
@@ -231,7 +234,19 @@ fn replies<'a, L: Ledger, W: Wait + Clock + Net>(
     begin(replies.as_slice(), texts)
 }
 
-// Waits until all have come, asks then, and tells all to stop. Whether all came, and the replies begin so.
+// Waits until it is noted of the first radio that it is up, or that it is down: it may be tried again still.
+fn is_noted<L: Ledger, W: Wait + Clock>(rt: &W, shared: &Shared<L>, up: bool) -> bool {
+    for _look in 0..LOOKS {
+        if shared.is_noted_up(rt, WLAN0) == up {
+            return true;
+        }
+        sleep(rt, Duration::from_millis(1));
+    }
+    false
+}
+
+// Waits until all have come, and the first radio is as it is told to be; asks then, and tells all to stop. Whether all
+// came so, and the replies begin so.
 fn ask<L: Ledger, W: Wait + Clock + Net>(
     rt: &W,
     alloc: Global,
@@ -240,7 +255,8 @@ fn ask<L: Ledger, W: Wait + Clock + Net>(
     scene: Scene,
 ) -> Option<bool> {
     let mut seat = shared.seat(rt)?;
-    let come = all_come(rt, shared, &mut seat, stages);
+    let up = scene.replies.first() == Some(&UP);
+    let come = all_come(rt, shared, &mut seat, stages) && is_noted(rt, shared, up);
     Some(replies(rt, alloc, shared, seat, scene.replies) && come)
 }
 
@@ -478,7 +494,7 @@ fn with_spares(spares: &'static [Spare]) -> Scene {
         begins: Begins::Up(MANY),
         frames: BEFORE,
         spares,
-        replies: &[b"state=ENABLED\n", b"state=ENABLED\n", b"PONG\n"],
+        replies: &[UP, UP, b"PONG\n"],
     }
 }
 
@@ -511,7 +527,7 @@ fn a_slot_without_a_spare_stays_down_after_three_tries(rt: HostRuntime) {
         begins: Begins::Up(MANY),
         frames: ALONE,
         spares: &[],
-        replies: &[b"state=DISABLED\n", b"state=ENABLED\n", b"PONG\n"],
+        replies: &[b"state=DISABLED\n", UP, b"PONG\n"],
     };
     let first = Seen {
         up: false,
@@ -557,7 +573,7 @@ fn alone(begins: Begins) -> Scene {
         begins,
         frames: ALL,
         spares: &[],
-        replies: &[b"state=ENABLED\n", b"state=ENABLED\n", b"PONG\n"],
+        replies: &[UP, UP, b"PONG\n"],
     }
 }
 
