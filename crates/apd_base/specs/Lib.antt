@@ -1,5 +1,4 @@
 pub mod Addr
-pub mod Codes
 pub mod Failures
 pub mod Mode
 pub mod Number
@@ -7,3 +6,4 @@ pub mod Rows
 pub mod Sets
 pub mod State
 pub mod Text
+pub mod for_proofs

@@ -5,7 +5,7 @@ use Rattle.std.proofs.lemmas.Bool.{cases_order}
 use Rattle.apd_base.specs.declared.address.Addr.{Addr}
 use Rattle.apd_base.specs.declared.station.AclMode.{AclMode}
 use Rattle.apd_base.specs.Mode.{mode_number}
-use Rattle.apd_base.specs.Codes.{mode_from, mode_from-mode_number}
+use Rattle.apd_base.specs.for_proofs.Codes.{mode_from, mode_from-mode_number}
 use Rattle.apd_conf.specs.declared.conf.Conf.{Conf}
 use Rattle.apd_conf.specs.declared.hw_mode.HwMode.{HwMode}
 use Rattle.apd_conf.specs.declared.hw_mode.HwMode.TheVariants.{A, B, G}
@@ -18,7 +18,7 @@ use Rattle.apd_conf.specs.declared.conf_fault.Required.TheVariants as required
 use Rattle.apd_conf.specs.declared.list_fault.ListFault.{ListFault}
 use Rattle.apd_conf.specs.declared.list_fault.ListFault.TheVariants as list_faults
 use Rattle.apd_conf.specs.Auth.{algs_number}
-use Rattle.apd_conf.specs.Codes.{algs_from, algs_from-algs_number, quiet_number, quiet_from, quiet_from-quiet_number}
+use Rattle.apd_conf.specs.for_proofs.Codes.{algs_from, algs_from-algs_number, quiet_number, quiet_from, quiet_from-quiet_number}
 use Rattle.apd_conf.specs.Faults.{IsFirstFault, IsFaultless}
 use Rattle.apd_conf.specs.ListFile as lists
 use Rattle.apd_base.specs.Addr.{address_of}

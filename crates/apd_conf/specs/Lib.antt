@@ -1,6 +1,5 @@
 pub mod Auth
 pub mod BuiltIn
-pub mod Codes
 pub mod Conf
 pub mod ConfFile
 pub mod Confs
@@ -11,3 +10,4 @@ pub mod ListFile
 pub mod Names
 pub mod Table
 pub mod Values
+pub mod for_proofs

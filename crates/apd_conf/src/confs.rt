@@ -22,7 +22,7 @@ pub struct Confs {
 impl Model for Confs {
     ghost use Rattle.std.specs.Prelude.{List};
     ghost use Rattle.apd_conf.specs.declared.conf.Conf.{Conf};
-    ghost use Rattle.apd_conf.specs.Codes.{coded_confs};
+    ghost use Rattle.apd_conf.specs.for_proofs.Codes.{coded_confs};
 
     ghost Value = { List Conf };
 

@@ -25,10 +25,10 @@ pub use Rattle.apd_core.specs.declared.input.QuietReason.{QuietReason}
 pub use Rattle.apd_core.specs.declared.request_core.Core.TheInside.{Inside}
 pub use Rattle.apd_core.specs.declared.ticket.Accepted.{Accepted}
 pub use Rattle.apd_core.specs.declared.ticket.Accepted.TheVariants.{Busy, Quiet, Stopped}
-pub use Rattle.apd_core.specs.fields.ChangedRows.{is_of, is_put_of, puts_row, touches_row}
-pub use Rattle.apd_core.specs.fields.Core.{IsKept, IsMeasured, core_of, entries_of}
-pub use Rattle.apd_core.specs.fields.LaidDown.{AreLaidDown, heard_at, moment_left}
-pub use Rattle.apd_core.specs.fields.TakingBack.{MayFollow, before, without}
+pub use Rattle.apd_core.specs.for_proofs.ChangedRows.{is_of, is_put_of, puts_row, touches_row}
+pub use Rattle.apd_core.specs.for_proofs.Core.{IsKept, IsMeasured, core_of, entries_of}
+pub use Rattle.apd_core.specs.for_proofs.LaidDown.{AreLaidDown, heard_at, moment_left}
+pub use Rattle.apd_core.specs.for_proofs.TakingBack.{MayFollow, before, without}
 pub use Rattle.apd_frame.specs.Contents.{sender_of}
 pub use Rattle.apd_journal.specs.Half.{changes_of}
 pub use Rattle.apd_mlme.proofs.TrueOutsLemmas.{all_both, verdict_there}

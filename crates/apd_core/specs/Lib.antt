@@ -5,4 +5,4 @@ pub mod Invariant
 pub mod Requests
 pub mod RowMoments
 pub mod Silent
-pub mod fields
+pub mod for_proofs

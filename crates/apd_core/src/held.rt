@@ -7,7 +7,7 @@ ghost use Rattle.apd_base.specs.Addr.{bssid_cmp};
 ghost use Rattle.apd_base.specs.declared.limits.TheConstants.{MAX_BSS};
 ghost use Rattle.apd_mlme.specs.laws.Outs.{AreThere};
 ghost use Rattle.apd_core.specs.Held.{queue_place, queue_of, no_queues, no_outs, queues_with_outs, with_outs, up_to, beyond, after_given, greatest_number, after_hand, after_settled, IsInOrder, AreHeld};
-ghost use Rattle.apd_core.specs.fields.TakingBack.{before, without, MayFollow};
+ghost use Rattle.apd_core.specs.for_proofs.TakingBack.{before, without, MayFollow};
 
 use crate::queue::Queue;
 use crate::remaining::Remaining;
@@ -27,7 +27,7 @@ pub(crate) struct Held {
 
 impl Model for Held {
     ghost use Rattle.apd_core.specs.Held.{HeldOuts, AreHeld};
-    ghost use Rattle.apd_core.specs.fields.HeldCodes.{coded_held};
+    ghost use Rattle.apd_core.specs.for_proofs.HeldCodes.{coded_held};
 
     ghost Value = { HeldOuts };
 

@@ -12,8 +12,8 @@ ghost use Rattle.apd_base.specs.declared.address.Bssid.{Bssid};
 ghost use Rattle.apd_mlme.specs.Happening.{happening};
 ghost use Rattle.apd_record.specs.Meaning.{meaning_of};
 ghost use Rattle.apd_core.specs.Heard.{due_row, heard_by, heard_by_changes, heard_from, is_due, is_too_long, AreHeardAt, AreMomentsOf, LastHeard};
-ghost use Rattle.apd_core.specs.fields.ChangedRows.{is_of, is_put_of, puts_row, touches_row};
-ghost use Rattle.apd_core.specs.fields.LaidDown.{heard_at, moment_left, AreLaidDown, HaveRoomFor};
+ghost use Rattle.apd_core.specs.for_proofs.ChangedRows.{is_of, is_put_of, puts_row, touches_row};
+ghost use Rattle.apd_core.specs.for_proofs.LaidDown.{heard_at, moment_left, AreLaidDown, HaveRoomFor};
 
 use apd_base::{Addr, Bssid, Moment};
 use apd_conf::{Conf, Confs};
@@ -34,7 +34,7 @@ impl Model for Moments {
     ghost use Rattle.std.specs.Prelude.{T};
     ghost use Rattle.std.specs.FinMap as map;
     ghost use Rattle.apd_base.specs.Addr.{station_cmp};
-    ghost use Rattle.apd_core.specs.fields.CoreCodes.{coded_last_heard};
+    ghost use Rattle.apd_core.specs.for_proofs.CoreCodes.{coded_last_heard};
     ghost use Rattle.apd_core.specs.Heard.{LastHeard};
 
     ghost Value = { LastHeard };

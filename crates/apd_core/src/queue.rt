@@ -3,7 +3,7 @@ ghost use Rattle.std.specs.Prelude.{◌≡◌, ◌≤◌, ℕ, ◌∷◌, ◌++�
 ghost use Rattle.std.specs.List.{take_while};
 ghost use Rattle.std.specs.Option.{option_map};
 ghost use Rattle.apd_core.specs.Held.{up_to, IsInOrder};
-ghost use Rattle.apd_core.specs.fields.TakingBack.{before};
+ghost use Rattle.apd_core.specs.for_proofs.TakingBack.{before};
 
 use apd_mlme::Out;
 use std::alloc::{AllocError, Global};

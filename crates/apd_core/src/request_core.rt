@@ -16,7 +16,7 @@ ghost use Rattle.apd_mlme.specs.declared.decision.TheConstants.{MAX_RECORDS};
 ghost use Rattle.apd_mlme.specs.Run.{AreFit};
 ghost use Rattle.apd_core.specs.Requests.{event_happening, happening_of, HasLists};
 ghost use Rattle.apd_core.specs.Core.{after_all_settled, IsLongestFront};
-ghost use Rattle.apd_core.specs.fields.Core.{entries_of, IsMeasured};
+ghost use Rattle.apd_core.specs.for_proofs.Core.{entries_of, IsMeasured};
 ghost use Rattle.apd_journal.specs.Half.{IsGroup, changes_of};
 ghost use Rattle.apd_store.specs.Outside.{held_batch};
 
@@ -64,12 +64,12 @@ pub struct Core {
 
 impl Model for Core {
     ghost use Rattle.std.specs.Coded.{codes};
-    ghost use Rattle.apd_base.specs.Codes.{coded_state};
-    ghost use Rattle.apd_conf.specs.Codes.{coded_confs};
+    ghost use Rattle.apd_base.specs.for_proofs.Codes.{coded_state};
+    ghost use Rattle.apd_conf.specs.for_proofs.Codes.{coded_confs};
     ghost use Rattle.apd_core.specs.Core.{CoreState};
-    ghost use Rattle.apd_core.specs.fields.CoreCodes.{coded_last_heard};
-    ghost use Rattle.apd_core.specs.fields.Core.{core_of, IsKept};
-    ghost use Rattle.apd_core.specs.fields.HeldCodes.{coded_held};
+    ghost use Rattle.apd_core.specs.for_proofs.CoreCodes.{coded_last_heard};
+    ghost use Rattle.apd_core.specs.for_proofs.Core.{core_of, IsKept};
+    ghost use Rattle.apd_core.specs.for_proofs.HeldCodes.{coded_held};
 
     ghost Value = { CoreState };
 

@@ -4,7 +4,7 @@ use Rattle.std.proofs.lemmas.List.{append-nil, take_all, take-append-le, length_
 use Rattle.std.proofs.lemmas.Bool.{and_parts, and_from, le-leb, cases_lt}
 use Rattle.apd_disk.specs.Disk.{with_bytes, TornWithin, Elapses}
 use Rattle.apd_disk.specs.Mem.{reads_after, all_fit, Leaves, LeftAfter, LeftBetween, TornFrom, HasMore}
-use Rattle.apd_disk.specs.MemLaws.{reads_left, only_last}
+use Rattle.apd_disk.specs.for_proofs.MemLaws.{reads_left, only_last}
 use Rattle.apd_disk.specs.declared.call.Call.{Call}
 use Rattle.apd_disk.specs.declared.call.Call.TheVariants.{Read, Write, Sync}
 

@@ -5,7 +5,7 @@ use Rattle.std.proofs.Math.Bool.{or-true, or-false}
 use Rattle.std.proofs.lemmas.Bool.{false≢true, and_from, and_left, and_right, le-leb, le-ltb, lt-leb, lt-ltb, cases_lt}
 use Rattle.apd_disk.specs.Disk.{with_bytes, TornWithin}
 use Rattle.apd_disk.specs.Mem.{reads_after, all_fit, Leaves, LeftAfter, TornFrom, synced_after, is_unsynced, torn_byte, torn_write, torn_writes, covers, has_no_sync, EndsWithTheLastSync, IsCrashImage}
-use Rattle.apd_disk.specs.MemLaws.{first_fits, length-with_bytes, torn_overwritten, leaves_length}
+use Rattle.apd_disk.specs.for_proofs.MemLaws.{first_fits, length-with_bytes, torn_overwritten, leaves_length}
 use Rattle.apd_disk.specs.declared.call.Call.{Call}
 use Rattle.apd_disk.specs.declared.call.Call.TheVariants.{Read, Write, Sync}
 use Rattle.apd_disk.specs.declared.torn.Torn.{Torn}

@@ -3,7 +3,7 @@ use Rattle.std.proofs.Common.{◌≡◌, ◌≤◌, ◌+◌, ⊎_elim, ℕ, List
 use Rattle.std.specs.Prelude.{IsErr, [], ◌∷◌, get_or}
 use Rattle.apd_disk.specs.Disk.{IsRead, IsSynced, IsWritten}
 use Rattle.apd_disk.specs.FileCalls.{FileCall, gave, wrote, tore, synced, missed, lost, file_reads, FileLeaves}
-use Rattle.apd_disk.specs.FileLaws.{torn_same, reads_left, only_now, elapses_by, elapses_not, during}
+use Rattle.apd_disk.specs.for_proofs.FileLaws.{torn_same, reads_left, only_now, elapses_by, elapses_not, during}
 use Rattle.apd_disk.specs.FileModel.{file_model, noting, noting_tore, noting_lost, next_left}
 use Rattle.apd_disk.specs.FileMore.{HasMore, has_same}
 use Rattle.apd_disk.specs.declared.file.FileDisk.{FileDisk}

@@ -2,9 +2,8 @@ pub mod DeviceFile
 pub mod Disk
 pub mod Faults
 pub mod FileCalls
-pub mod FileLaws
 pub mod FileModel
 pub mod FileMore
 pub mod Mem
-pub mod MemLaws
 pub mod SystemFile
+pub mod for_proofs

@@ -3,7 +3,7 @@
 ghost use Rattle.std.specs.Prelude.{◌≡◌, ◌≤◌, ◌+◌, [], length, true, false, IsErr, IfOk, OnOk, OnErr};
 ghost use Rattle.apd_disk.specs.Disk.{Counts, IsRead, IsSynced, IsWritten};
 ghost use Rattle.apd_disk.specs.FileCalls.{synced};
-ghost use Rattle.apd_disk.specs.FileLaws.{reads_left, now_since, only_now, since_earlier, since_length};
+ghost use Rattle.apd_disk.specs.for_proofs.FileLaws.{reads_left, now_since, only_now, since_earlier, since_length};
 
 use crate::fault::fail;
 use crate::{DeviceFile, Disk, DiskFault, FileRecord};

@@ -2,7 +2,7 @@
 ghost use Rattle.std.specs.Prelude.{◌≡◌, ◌≤◌, ◌+◌, ◌↔◌, ◌++◌, ◌∷◌, [], ℕ, List, length, take, drop, replicate, IsTrue, OnErr, OnOk, IfOk};
 ghost use Rattle.apd_disk.specs.Disk.{with_bytes, TornWithin, Only, Within, Follows, Elapses, Counts};
 ghost use Rattle.apd_disk.specs.Mem.{reads_after, all_fit, LeftAfter, LeftBetween, HasMore, IsCrashImage, EndsWithTheLastSync, torn_write, torn_writes};
-ghost use Rattle.apd_disk.specs.MemLaws.{has_same, has_more, reads_left, now_left, only_last, earlier_left, left_length};
+ghost use Rattle.apd_disk.specs.for_proofs.MemLaws.{has_same, has_more, reads_left, now_left, only_last, earlier_left, left_length};
 ghost use Rattle.apd_disk.specs.declared.call.Call.TheVariants.{Read, Write, Sync};
 
 use crate::fault::fail;

@@ -3,7 +3,7 @@ pub use Rattle.apd_base.specs.State.{State, empty_state, policy_at}
 pub use Rattle.apd_base.specs.declared.limits.TheConstants.{DEVICE_LENGTH}
 pub use Rattle.apd_disk.proofs.Moments.{one_call, quiet_call, started, then_run, weaker}
 pub use Rattle.apd_disk.specs.Disk.{DiskModel, Elapses, Follows, IsRead, IsSynced, IsWritten, LeavesOnly, Only, TornWithin, with_bytes}
-pub use Rattle.apd_disk.specs.MemLaws.{length-with_bytes, torn_overwritten}
+pub use Rattle.apd_disk.specs.for_proofs.MemLaws.{length-with_bytes, torn_overwritten}
 pub use Rattle.apd_journal.proofs.Growth.{behind_unread, front_holds, length-begun, length-planned, new_front}
 pub use Rattle.apd_journal.proofs.Once.{half_once}
 pub use Rattle.apd_journal.specs.Half.{HalfHolds, IsGroup, begun_bytes, block_of, groups_of, planned_bytes}

@@ -4,7 +4,7 @@ use Rattle.apd_table.proofs.Words.{Addr, AllByRecursion, Bssid, Change, FinMap, 
 use Rattle.std.specs.FinMap as map
 use Rattle.std.specs.FinMap.{find, entries}
 use Rattle.apd_base.proofs.Cases.{value_of}
-use Rattle.apd_table.specs.fields.Standing.{Lead}
+use Rattle.apd_table.specs.for_proofs.Standing.{Lead}
 use Rattle.apd_table.proofs.Cursors.{sound_cursor}
 use Rattle.apd_table.proofs.Parts.{IsPart, part_more, part_some, empty_part, sound_part}
 

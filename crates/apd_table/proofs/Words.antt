@@ -40,10 +40,10 @@ pub use Rattle.apd_table.specs.Snapshot.{canonical, cursor_change, cursor_change
 pub use Rattle.apd_table.specs.Sound.{Sound, StaySound}
 pub use Rattle.apd_table.specs.declared.bss_rows.Bss.{Bss}
 pub use Rattle.apd_table.specs.declared.members.Members.{Members}
-pub use Rattle.apd_table.specs.fields.BssRows.{add_rows, at_row, cursor_of, is_listed_in, list_rows, members_of, members_under, no_bss, parts_of, policy_of, policy_rows, state_of_rows, with_added, with_bss, with_cleared, with_cursor, with_policy, with_removed, with_row}
-pub use Rattle.apd_table.specs.fields.BssState.{BssState}
-pub use Rattle.apd_table.specs.fields.Members.{AreMembers, IsFirstClear, IsMembers, after_row, count_after, is_set, members_after, no_members, put_after, with_aid, with_place, without_aid, without_place}
-pub use Rattle.apd_table.specs.fields.Table.{state_of}
+pub use Rattle.apd_table.specs.for_proofs.BssRows.{add_rows, at_row, cursor_of, is_listed_in, list_rows, members_of, members_under, no_bss, parts_of, policy_of, policy_rows, state_of_rows, with_added, with_bss, with_cleared, with_cursor, with_policy, with_removed, with_row}
+pub use Rattle.apd_table.specs.for_proofs.BssState.{BssState}
+pub use Rattle.apd_table.specs.for_proofs.Members.{AreMembers, IsFirstClear, IsMembers, after_row, count_after, is_set, members_after, no_members, put_after, with_aid, with_place, without_aid, without_place}
+pub use Rattle.apd_table.specs.for_proofs.Table.{state_of}
 pub use Rattle.std.proofs.lemmas.Bool.{and_parts, cases_eq, cases_lt, eqb-true, false_from_ne_true, false≢true, true_from_ne_false}
 pub use Rattle.std.proofs.lemmas.List.{append-nil, drop_all, get_or-replicate, get_or-set_other, get_or-set_same, length-map, length-set, map-append, nil_from_length, take-append-drop}
 pub use Rattle.std.proofs.lemmas.List.Folds.{Any-from_list_any}

@@ -9,4 +9,4 @@ pub mod Snapshot
 pub mod Sound
 pub mod Staged
 pub mod Words
-pub mod fields
+pub mod for_proofs

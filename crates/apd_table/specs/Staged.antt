@@ -1,7 +1,7 @@
 -- A table, and beside it the same table with a list of changes more.
 use Rattle.std.specs.Prelude.{refl}
 use Rattle.std.specs.Coded.{Coded, code_by, coded×}
-use Rattle.apd_base.specs.Codes.{coded_state}
+use Rattle.apd_base.specs.for_proofs.Codes.{coded_state}
 use Rattle.apd_base.specs.State.{State}
 
 pub record StagedTables : Type 0 where

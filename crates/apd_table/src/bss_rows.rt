@@ -9,8 +9,8 @@ ghost use Rattle.apd_base.specs.State.{is_row_of};
 ghost use Rattle.apd_base.specs.declared.address.Addr.{Addr};
 ghost use Rattle.apd_base.specs.declared.limits.TheConstants.{MAX_STATIONS};
 ghost use Rattle.apd_base.specs.declared.station.Which.{Which};
-ghost use Rattle.apd_table.specs.fields.BssRows.{no_bss, policy_of, cursor_of, members_of, with_bss, is_listed_in};
-ghost use Rattle.apd_table.specs.fields.Members.{after_row};
+ghost use Rattle.apd_table.specs.for_proofs.BssRows.{no_bss, policy_of, cursor_of, members_of, with_bss, is_listed_in};
+ghost use Rattle.apd_table.specs.for_proofs.Members.{after_row};
 ghost use Rattle.apd_table.specs.Snapshot.{cursor_changes, list_changes, policy_changes};
 ghost use Rattle.apd_table.specs.declared.bss_rows.Bss.{Bss};
 
@@ -44,13 +44,13 @@ impl Model for BssRows {
     ghost use Rattle.std.specs.Prelude.{T};
     ghost use Rattle.std.specs.FinMap as map;
     ghost use Rattle.apd_base.specs.Addr.{bssid_cmp};
-    ghost use Rattle.apd_table.specs.fields.BssState.{BssState, coded_bss_state};
+    ghost use Rattle.apd_table.specs.for_proofs.BssState.{BssState, coded_bss_state};
 
     ghost Value = { BssState };
 
     ghost coded = { coded_bss_state };
 
-    ghost use Rattle.apd_table.specs.fields.BssRows.{state_of_rows};
+    ghost use Rattle.apd_table.specs.for_proofs.BssRows.{state_of_rows};
 
     ghost view = { λ a. state_of_rows a.rows.items };
 

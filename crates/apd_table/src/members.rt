@@ -4,7 +4,7 @@ ghost use Rattle.std.specs.Int.{bit_at};
 ghost use Rattle.std.specs.Option.{is_some};
 ghost use Rattle.apd_base.specs.State.{aid_of};
 ghost use Rattle.apd_base.specs.declared.limits.TheConstants.{MAX_STATIONS};
-ghost use Rattle.apd_table.specs.fields.Members.{AreSet, IsFirstClear, count_after, is_set, members_after, no_members, with_aid, with_place, without_aid, without_place};
+ghost use Rattle.apd_table.specs.for_proofs.Members.{AreSet, IsFirstClear, count_after, is_set, members_after, no_members, with_aid, with_place, without_aid, without_place};
 ghost use Rattle.apd_table.specs.Rows.{AreMarkedAbove, IsLeastUnmarked};
 
 use apd_base::Station;

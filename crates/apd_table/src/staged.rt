@@ -3,7 +3,7 @@ ghost use Rattle.std.specs.Prelude.{◌≡◌, ◌≢◌, OnOk, OnErr, IfOk, IfE
 ghost use Rattle.apd_record.specs.Meaning.{meaning_of};
 ghost use Rattle.apd_table.specs.Sound.{Sound, StaySound};
 ghost use Rattle.apd_table.specs.Staged.{alone};
-ghost use Rattle.apd_table.specs.fields.Standing.{Stand};
+ghost use Rattle.apd_table.specs.for_proofs.Standing.{Stand};
 ghost use Rattle.apd_table.specs.declared.table.TableFault.{TableFault};
 
 use crate::table::{Table, TableFault};
@@ -42,7 +42,7 @@ impl Model for Staged {
 
     ghost coded = { coded_staged_tables };
 
-    ghost use Rattle.apd_table.specs.fields.Standing.{tables_of, IsStaged};
+    ghost use Rattle.apd_table.specs.for_proofs.Standing.{tables_of, IsStaged};
 
     ghost view = { tables_of };
 

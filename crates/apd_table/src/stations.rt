@@ -33,7 +33,7 @@ impl Model for Stations {
     ghost use Rattle.std.specs.FinMap as map;
     ghost use Rattle.std.specs.Coded.{coded×};
     ghost use Rattle.apd_base.specs.Addr.{station_cmp, coded_addr, coded_bssid};
-    ghost use Rattle.apd_base.specs.Codes.{coded_station};
+    ghost use Rattle.apd_base.specs.for_proofs.Codes.{coded_station};
     ghost use Rattle.apd_base.specs.declared.station.Station.{Station};
     ghost use Rattle.apd_table.specs.Rows.{AreRows};
 

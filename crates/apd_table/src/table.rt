@@ -22,8 +22,8 @@ ghost use Rattle.apd_table.specs.Can.{CanPut, CanSet, CanAdd, IsAlone, MayHave, 
 ghost use Rattle.apd_table.specs.LeastFree.{AreTakenAbove, IsLeastFree, IsNextFree};
 ghost use Rattle.apd_table.specs.NewRow.{IsNewRow, IsOldRow};
 ghost use Rattle.apd_table.specs.Rows.{AreMarkedAbove, IsLeastUnmarked, is_associated_apart};
-ghost use Rattle.apd_table.specs.fields.BssRows.{is_listed_in, policy_of};
-ghost use Rattle.apd_table.specs.fields.Members.{IsMembers, is_set};
+ghost use Rattle.apd_table.specs.for_proofs.BssRows.{is_listed_in, policy_of};
+ghost use Rattle.apd_table.specs.for_proofs.Members.{IsMembers, is_set};
 ghost use Rattle.apd_table.specs.Snapshot.{canonical};
 ghost use Rattle.apd_table.specs.Sound.{Sound, StaySound};
 ghost use Rattle.apd_table.specs.Words.{AreWords};
@@ -72,13 +72,13 @@ pub struct Table {
 
 impl Model for Table {
     ghost use Rattle.apd_base.specs.State.{State};
-    ghost use Rattle.apd_base.specs.Codes.{coded_state};
+    ghost use Rattle.apd_base.specs.for_proofs.Codes.{coded_state};
 
     ghost Value = { State };
 
     ghost coded = { coded_state };
 
-    ghost use Rattle.apd_table.specs.fields.Table.{state_of, IsTable};
+    ghost use Rattle.apd_table.specs.for_proofs.Table.{state_of, IsTable};
 
     ghost view = { state_of };
 

@@ -3,7 +3,7 @@ ghost use Rattle.std.specs.Prelude.{◌≡◌, ◌<◌, ◌≤◌, OnOk, OnErr, 
 ghost use Rattle.apd_acl.specs.Lists.{has};
 ghost use Rattle.apd_base.specs.declared.address.Bssid.{Bssid};
 ghost use Rattle.apd_base.specs.declared.limits.TheConstants.{MAX_STATIONS};
-ghost use Rattle.apd_table.specs.fields.BssRows.{at_row, with_policy, with_cursor, with_added, with_removed, with_cleared, with_row};
+ghost use Rattle.apd_table.specs.for_proofs.BssRows.{at_row, with_policy, with_cursor, with_added, with_removed, with_cleared, with_row};
 ghost use Rattle.apd_table.specs.declared.bss_rows.Bss.{Bss};
 
 use crate::bss_rows::Bss;

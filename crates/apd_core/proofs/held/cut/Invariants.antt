@@ -1,5 +1,5 @@
 use Rattle.std.proofs.Common.{◌≡◌, ◌++◌, map, take, drop}
-use Rattle.apd_core.specs.fields.TakingBack.{before}
+use Rattle.apd_core.specs.for_proofs.TakingBack.{before}
 use Rattle.apd_core.proofs.held.cut.Given as goal
 
 abbrev pub invariant-loop-queue : goal.invariant-loop-queue

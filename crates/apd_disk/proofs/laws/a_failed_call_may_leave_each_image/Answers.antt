@@ -1,4 +1,4 @@
-use Rattle.apd_disk.specs.FileLaws.{any_torn, any_lost}
+use Rattle.apd_disk.specs.for_proofs.FileLaws.{any_torn, any_lost}
 use Rattle.apd_disk.proofs.laws.a_failed_call_may_leave_each_image.Goals as goal
 
 pub returns-clause-write : goal.returns-clause-write

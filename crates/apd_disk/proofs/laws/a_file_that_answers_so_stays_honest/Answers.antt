@@ -1,5 +1,5 @@
 use Rattle.std.proofs.Common.{refl}
-use Rattle.apd_disk.specs.FileLaws.{honest_read}
+use Rattle.apd_disk.specs.for_proofs.FileLaws.{honest_read}
 use Rattle.apd_disk.proofs.laws.a_file_that_answers_so_stays_honest.Goals as goal
 
 pub returns-clause-opened : goal.returns-clause-opened

@@ -1,6 +1,6 @@
 use Rattle.std.proofs.Common.{List, sym, ◌∙◌, ap, subst}
 use Rattle.apd_disk.specs.FileCalls.{FileCall, file_reads, FileLeaves, FileLeftSince, IsHonestFile}
-use Rattle.apd_disk.specs.FileLaws.{since_length}
+use Rattle.apd_disk.specs.for_proofs.FileLaws.{since_length}
 use Rattle.apd_disk.proofs.laws.what_a_stop_left_is_held_next.Goals as goal
 
 pub returns-clause-honest : goal.returns-clause-honest

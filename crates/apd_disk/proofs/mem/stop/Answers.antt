@@ -1,6 +1,6 @@
 use Rattle.std.proofs.Common.{List, ℕ, IsTrue, length, sym, subst}
 use Rattle.apd_disk.specs.Mem.{all_fit, LeftAfter, IsCrashImage}
-use Rattle.apd_disk.specs.MemLaws.{fit_front}
+use Rattle.apd_disk.specs.for_proofs.MemLaws.{fit_front}
 use Rattle.apd_disk.proofs.Crash.{stopped, crash_left, crash_image, fit_back}
 use Rattle.apd_disk.proofs.mem.stop.Goals as goal
 use Rattle.apd_disk.specs.declared.call.Call.{Call}

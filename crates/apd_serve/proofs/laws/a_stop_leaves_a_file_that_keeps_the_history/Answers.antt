@@ -1,7 +1,7 @@
 use Rattle.std.proofs.Common.{◌≡◌, ◌≤◌, ◌++◌, ◌∙◌, ℕ, List, [], length, take, drop, ap, sym, subst, arith}
 use Rattle.std.proofs.lemmas.List.{drop_all, take-append-drop}
 use Rattle.apd_disk.specs.FileCalls.{FileCall, FileLeaves, FileLeftSince}
-use Rattle.apd_disk.specs.FileLaws.{now_since}
+use Rattle.apd_disk.specs.for_proofs.FileLaws.{now_since}
 use Rattle.apd_disk.specs.FileModel.{file_model}
 use Rattle.apd_disk.specs.FileMore.{HasMore, has_more}
 use Rattle.apd_disk.specs.SystemFile.{FileDisk}

@@ -1,5 +1,5 @@
 use Rattle.std.proofs.Common.{◌≡◌, drop}
-use Rattle.apd_core.specs.fields.LaidDown.{heard_at}
+use Rattle.apd_core.specs.for_proofs.LaidDown.{heard_at}
 use Rattle.apd_core.proofs.moments.Moments.put_all.Given as goal
 
 -- what is left leads where all of it leads

@@ -1,6 +1,6 @@
 use Rattle.std.proofs.Common.{arith}
 use Rattle.std.proofs.lemmas.Grind.{common_steps}
-use Rattle.apd_disk.specs.MemLaws.{length-reads}
+use Rattle.apd_disk.specs.for_proofs.MemLaws.{length-reads}
 use Rattle.apd_disk.proofs.mem.MemDisk.crash.Goals as goal
 
 pub copy_from_slice-requires : goal.copy_from_slice-requires

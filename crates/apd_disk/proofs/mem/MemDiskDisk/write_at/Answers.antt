@@ -1,5 +1,5 @@
 use Rattle.std.proofs.Common.{◌∙◌, arith}
-use Rattle.apd_disk.specs.MemLaws.{length-reads}
+use Rattle.apd_disk.specs.for_proofs.MemLaws.{length-reads}
 use Rattle.apd_disk.proofs.Calls.{elapses_push, has_pushed, has_none, write_stands, write_fits, write_stop}
 use Rattle.apd_disk.proofs.mem.MemDiskDisk.write_at.Goals as goal
 use Rattle.apd_disk.specs.declared.call.Call.TheVariants.{Write}

@@ -1,5 +1,5 @@
 use Rattle.std.proofs.Common.{ap, ◌∙◌}
-use Rattle.apd_table.specs.fields.BssRows.{state_of_rows}
+use Rattle.apd_table.specs.for_proofs.BssRows.{state_of_rows}
 use Rattle.apd_table.proofs.BssLemmas.{no_rows}
 use Rattle.apd_table.proofs.bss_rows.BssRows.new.Goals as goal
 

@@ -1,5 +1,5 @@
 use Rattle.std.proofs.Common.{◌≡◌, ℕ, ◌*◌, ◌<◌, true}
-use Rattle.apd_table.specs.fields.Members.{is_set}
+use Rattle.apd_table.specs.for_proofs.Members.{is_set}
 use Rattle.apd_table.proofs.members.Members.free_above.Given as goal
 
 -- the places of the words so far are set

@@ -1,5 +1,5 @@
 use Rattle.std.proofs.Common.{sym}
-use Rattle.apd_table.specs.fields.Table.{state_of}
+use Rattle.apd_table.specs.for_proofs.Table.{state_of}
 use Rattle.apd_table.proofs.Identifiers.{least_is, all_taken, first_is_free}
 use Rattle.apd_table.proofs.MembersLemmas.{without_policy}
 use Rattle.apd_table.proofs.Places.{ArePlaces, places_of}

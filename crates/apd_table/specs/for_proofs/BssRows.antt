@@ -14,8 +14,8 @@ use Rattle.apd_base.specs.declared.station.Station.{Station}
 use Rattle.apd_base.specs.Addr.{bssid_cmp}
 use Rattle.apd_base.specs.State.{list_cmp}
 use Rattle.apd_acl.specs.Lists.{list_of, has, with_address, without_address, without_addresses}
-use Rattle.apd_table.specs.fields.BssState.{BssState}
-use Rattle.apd_table.specs.fields.Members.{members_after, no_members}
+use Rattle.apd_table.specs.for_proofs.BssState.{BssState}
+use Rattle.apd_table.specs.for_proofs.Members.{members_after, no_members}
 use Rattle.apd_table.specs.declared.bss_rows.Bss.{Bss}
 use Rattle.apd_table.specs.declared.members.Members.{Members}
 

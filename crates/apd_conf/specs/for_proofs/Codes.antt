@@ -6,7 +6,7 @@ use Rattle.apd_base.specs.declared.station.AclMode.{AclMode}
 use Rattle.apd_base.specs.declared.station.StationNumber.{StationNumber}
 use Rattle.apd_base.specs.declared.address.Addr.{Addr}
 use Rattle.apd_base.specs.Addr.{coded_addr, coded_bssid}
-use Rattle.apd_base.specs.Codes.{coded_station_number, coded_mode}
+use Rattle.apd_base.specs.for_proofs.Codes.{coded_station_number, coded_mode}
 use Rattle.apd_conf.specs.Auth.{algs_number}
 use Rattle.apd_conf.specs.declared.conf.Conf.{Conf}
 use Rattle.apd_conf.specs.declared.hw_mode.HwMode.{HwMode}

@@ -5,7 +5,7 @@ use Rattle.apd_base.specs.declared.address.Addr.{Addr}
 use Rattle.apd_base.specs.declared.address.Bssid.{Bssid}
 use Rattle.apd_base.specs.declared.moment.Moment.{Moment}
 use Rattle.apd_record.specs.declared.change.Change.{Change}
-use Rattle.apd_core.specs.fields.ChangedRows.{puts_row}
+use Rattle.apd_core.specs.for_proofs.ChangedRows.{puts_row}
 use Rattle.apd_core.specs.Heard.{LastHeard}
 
 -- rows of a BSSID are given a moment, one after another

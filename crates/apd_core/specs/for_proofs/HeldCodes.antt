@@ -6,7 +6,7 @@ use Rattle.std.specs.Ordering.{nat_cmp}
 use Rattle.std.specs.FinMap as maps
 use Rattle.std.specs.FinMap.{FinMap}
 use Rattle.apd_base.specs.Addr.{coded_addr}
-use Rattle.apd_base.specs.Codes.{coded_aid}
+use Rattle.apd_base.specs.for_proofs.Codes.{coded_aid}
 use Rattle.apd_base.specs.declared.address.Addr.{Addr}
 use Rattle.apd_base.specs.declared.station.Aid.{Aid}
 use Rattle.apd_mlme.specs.declared.decision.Out.{Out}

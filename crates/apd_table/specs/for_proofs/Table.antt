@@ -1,6 +1,6 @@
 -- A table's fields as a state.
 use Rattle.apd_base.specs.State.{State}
-use Rattle.apd_table.specs.fields.Members.{AreMembers}
+use Rattle.apd_table.specs.for_proofs.Members.{AreMembers}
 use Rattle.apd_table.specs.Sound.{Sound}
 use Rattle.apd_table.specs.declared.table.Table.TheInside.{Inside}
 

@@ -5,11 +5,11 @@ use Rattle.std.specs.FinMap.{FinMap}
 use Rattle.std.specs.Coded.{Coded, code_by, coded×}
 use Rattle.apd_base.specs.Sets.{SetOf, coded_set}
 use Rattle.apd_base.specs.Addr.{bssid_cmp, coded_bssid}
-use Rattle.apd_base.specs.Codes.{coded_list_row, coded_policy, coded_station_number}
+use Rattle.apd_base.specs.for_proofs.Codes.{coded_list_row, coded_policy, coded_station_number}
 use Rattle.apd_base.specs.State.{list_cmp}
 use Rattle.apd_base.specs.declared.station.Policy.{Policy}
 use Rattle.apd_base.specs.declared.station.StationNumber.{StationNumber}
-use Rattle.apd_table.specs.fields.Members.{coded_members}
+use Rattle.apd_table.specs.for_proofs.Members.{coded_members}
 use Rattle.apd_table.specs.declared.members.Members.{Members}
 
 pub record BssState : Type 0 where

@@ -2,7 +2,7 @@
 use Rattle.std.proofs.Common.{◌≡◌, ◌≤◌, ◌+◌, ◌-◌, ◌⊎◌, inl, inr, ⊎_elim, ℕ, List, [], ◌∷◌, ◌++◌, length, take, drop, get_or, refl, sym, ◌∙◌, ap, arith, length-take, length-drop, take-append-drop}
 use Rattle.std.proofs.lemmas.List.{append_assoc, length-take-le, drop-drop}
 use Rattle.apd_disk.specs.Disk.{with_bytes, TornWithin, Elapses}
-use Rattle.apd_disk.specs.MemLaws.{length-with_bytes, torn_overwritten}
+use Rattle.apd_disk.specs.for_proofs.MemLaws.{length-with_bytes, torn_overwritten}
 use Rattle.apd_disk.specs.FileCalls.{FileCall, gave, wrote, tore, synced, missed, lost, file_reads, file_lost, FileLeaves, FileLeftSince, IsHonestFile}
 
 pub torn_same : (at n : ℕ) (c : List ℕ) → TornWithin at n c c
