@@ -68,8 +68,8 @@ stations_of s b = map.retain_keys s.stations (λ k. eq_by_cmp bssid_cmp b k.0)
 abbrev pub count : State → Bssid → ℕ
 count s b = map.len (stations_of s b)
 
-abbrev pub is_row_of : Bssid → Which → Bssid × Which × Addr → Bool
-is_row_of b w row = eq_by_cmp bssid_cmp b row.0 && eq_by_cmp which_cmp w row.1
+abbrev pub is_list_row_of : Bssid → Which → Bssid × Which × Addr → Bool
+is_list_row_of b w row = eq_by_cmp bssid_cmp b row.0 && eq_by_cmp which_cmp w row.1
 
 abbrev pub list_count : State → Bssid → Which → ℕ
-list_count s b w = map.len (map.retain_keys s.lists (is_row_of b w))
+list_count s b w = map.len (map.retain_keys s.lists (is_list_row_of b w))

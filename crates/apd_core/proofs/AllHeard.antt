@@ -62,8 +62,8 @@ module _ (m : Moment) where
     -- an address among those of a BSSID has a row there
     has_row : (b : Bssid) (a : Addr) → is_among a (addresses_at s b) ≡ true → is_some (station_at s b a) ≡ true
     has_row b a among =
-        let found = any_passes station_total station_exact (λ row. rows.is_row_of b row && eq_by_cmp addr_cmp a row.0.1) s.stations
-        (sym (any_mapped (eq_by_cmp addr_cmp a) (λ row. row.0.1) (rows.is_row_of b) (maps.entries s.stations)) ∙ among) in
+        let found = any_passes station_total station_exact (λ row. rows.is_station_row_of b row && eq_by_cmp addr_cmp a row.0.1) s.stations
+        (sym (any_mapped (eq_by_cmp addr_cmp a) (λ row. row.0.1) (rows.is_station_row_of b) (maps.entries s.stations)) ∙ among) in
         let test = and_parts (eq_by_cmp bssid_cmp b (found.0).0) (eq_by_cmp addr_cmp a (found.0).1) found.3 in
         let bssid : b ≡ (found.0).0 = same_bssid (found.0).0 b test.0 in
         let addr : a ≡ (found.0).1 = same_addr (found.0).1 a test.1 in

@@ -15,7 +15,7 @@ use Rattle.std.proofs.lemmas.List.{append-nil, length-map}
 use Rattle.std.proofs.lemmas.Option.{same_Some}
 use Rattle.apd_base.specs.Addr.{is_among, addr_cmp, bssid_cmp}
 use Rattle.apd_base.specs.Sets.{contains}
-use Rattle.apd_base.specs.State.{State, station_at, is_row_of, list_cmp, which_cmp, list_count}
+use Rattle.apd_base.specs.State.{State, station_at, is_list_row_of, list_cmp, which_cmp, list_count}
 use Rattle.apd_base.specs.declared.address.Addr.{Addr}
 use Rattle.apd_base.specs.declared.address.Bssid.{Bssid}
 use Rattle.apd_base.specs.declared.station.Station.{Station}
@@ -108,10 +108,10 @@ module _ (s : State) (b : Bssid) where
 
 -- a list of a BSSID
 module _ (s : State) (b : Bssid) (w : Which) where
-  key_of : (a : Addr) → is_row_of b w (b, w, a) ≡ true
+  key_of : (a : Addr) → is_list_row_of b w (b, w, a) ≡ true
   key_of a = (λ i. tied bssid_total bssid_exact b i && tied which_total which_exact w i)
 
-  key_back : (k : Bssid × Which × Addr) → is_row_of b w k ≡ true → (b, w, k.2) ≡ k
+  key_back : (k : Bssid × Which × Addr) → is_list_row_of b w k ≡ true → (b, w, k.2) ≡ k
   key_back k e =
       let parts = and_parts (eq_by_cmp bssid_cmp b k.0) (eq_by_cmp which_cmp w k.1) e in
       (λ i. (same_key bssid_total bssid_exact b k.0 parts.0 i, same_key which_total which_exact w k.1 parts.1 i, k.2))
@@ -121,17 +121,17 @@ module _ (s : State) (b : Bssid) (w : Which) where
 
   pub listed_rise : Rising (listed_addresses s b w)
   unfolding listed_addresses
-  listed_rise = rising list_total list_exact (is_row_of b w) (λ k. k.2) (λ a. (b, w, a)) key_of key_back key_order (map.entries s.lists) (entries_sorted s.lists)
+  listed_rise = rising list_total list_exact (is_list_row_of b w) (λ k. k.2) (λ a. (b, w, a)) key_of key_back key_order (map.entries s.lists) (entries_sorted s.lists)
 
   pub listed_are : (a : Addr) → is_among a (listed_addresses s b w) ≡ contains s.lists (b, w, a)
   unfolding listed_addresses
-  listed_are a = among list_total list_exact (is_row_of b w) (λ k. k.2) (λ a. (b, w, a)) key_of key_back key_order (map.entries s.lists) a ∙ ap is_some (sym (get-entries s.lists (b, w, a)))
+  listed_are a = among list_total list_exact (is_list_row_of b w) (λ k. k.2) (λ a. (b, w, a)) key_of key_back key_order (map.entries s.lists) a ∙ ap is_some (sym (get-entries s.lists (b, w, a)))
 
   pub listed_count : length (listed_addresses s b w) ≡ list_count s b w
   unfolding listed_addresses
   listed_count =
-      length-map (filter (λ row. is_row_of b w row.0) (map.entries s.lists)) (λ (row : (Bssid × Which × Addr) × Unit {0}). row.0.2)
-      ∙ sym (len-entries (map.retain_keys s.lists (is_row_of b w)) ∙ ap length (entries-retain_keys list_total list_exact (is_row_of b w) s.lists))
+      length-map (filter (λ row. is_list_row_of b w row.0) (map.entries s.lists)) (λ (row : (Bssid × Which × Addr) × Unit {0}). row.0.2)
+      ∙ sym (len-entries (map.retain_keys s.lists (is_list_row_of b w)) ∙ ap length (entries-retain_keys list_total list_exact (is_list_row_of b w) s.lists))
 
   -- none is listed
   pub none_listed : ((a : Addr) → ¬ (IsTrue (contains s.lists (b, w, a)))) → listed_addresses s b w ≡ []

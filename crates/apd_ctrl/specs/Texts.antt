@@ -5,7 +5,7 @@ use Rattle.std.specs.List.{find, flat_map}
 use Rattle.std.specs.Ordering.{is_lt}
 use Rattle.std.specs.FinMap as map
 use Rattle.apd_base.specs.Addr.{addr_cmp, text_of}
-use Rattle.apd_base.specs.State.{State, station_at, count, is_row_of}
+use Rattle.apd_base.specs.State.{State, station_at, count, is_list_row_of}
 use Rattle.apd_base.specs.declared.address.Addr.{Addr}
 use Rattle.apd_base.specs.declared.address.Bssid.{Bssid}
 use Rattle.apd_base.specs.declared.station.Station.{Station}
@@ -23,7 +23,7 @@ fail = codes "FAIL\n"
 
 -- the addresses of a list of a BSSID, rising
 unfoldable pub listed_addresses : State → Bssid → Which → List Addr
-listed_addresses s b w = list_map (λ row. row.0.2) (filter (λ row. is_row_of b w row.0) (map.entries s.lists))
+listed_addresses s b w = list_map (λ row. row.0.2) (filter (λ row. is_list_row_of b w row.0) (map.entries s.lists))
 
 -- the lines of a station behind its address
 abbrev pub station_lines : List ℕ → ℕ → ℕ → ℕ → List ℕ

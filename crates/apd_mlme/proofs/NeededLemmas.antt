@@ -17,9 +17,9 @@ use Rattle.apd_table.specs.Rows as rows
 -- an address of a BSSID's rows has one
 address_has_row : (s : State) (b : Bssid) (d : Addr) → is_among d (addresses_at s b) ≡ true → IsSome (station_at s b d)
 address_has_row s b d among =
-    let test = λ (row : (Bssid × Addr) × Station). rows.is_row_of b row && eq_by_cmp addr_cmp d row.0.1 in
-    let found = any_passes station_total station_exact test s.stations (sym (any_mapped (eq_by_cmp addr_cmp d) (λ (row : (Bssid × Addr) × Station). row.0.1) (rows.is_row_of b) (map.entries s.stations)) ∙ among) in
-    let parts = and_parts (rows.is_row_of b (found.0, found.1)) (eq_by_cmp addr_cmp d (found.0).1) found.3 in
+    let test = λ (row : (Bssid × Addr) × Station). rows.is_station_row_of b row && eq_by_cmp addr_cmp d row.0.1 in
+    let found = any_passes station_total station_exact test s.stations (sym (any_mapped (eq_by_cmp addr_cmp d) (λ (row : (Bssid × Addr) × Station). row.0.1) (rows.is_station_row_of b) (map.entries s.stations)) ∙ among) in
+    let parts = and_parts (rows.is_station_row_of b (found.0, found.1)) (eq_by_cmp addr_cmp d (found.0).1) found.3 in
     let bssid : b ≡ (found.0).0 = same_bssid (found.0).0 b parts.0 in
     let addr : d ≡ (found.0).1 = same_addr (found.0).1 d parts.1 in
     ap is_some ((λ i. station_at s (bssid i) (addr i)) ∙ found.2)

@@ -46,7 +46,7 @@ module _ (b : Bssid) (test : Row → Bool) (here : (row : Row) → test row ≡ 
       ] refl
 
 pub addresses_rise : (s : State) (b : Bssid) → Rise (addresses_at s b)
-addresses_rise s b = addresses_rise_in b (rows.is_row_of b) (λ row e. e) (entries s.stations) (entries_sorted s.stations)
+addresses_rise s b = addresses_rise_in b (rows.is_station_row_of b) (λ row e. e) (entries s.stations) (entries_sorted s.stations)
 
 pub denied_rise : (s : State) (b : Bssid) (mode : AclMode) → Rise (denials_by s b mode)
 denied_rise s b mode = addresses_rise_in b (is_denied_row s b mode) (λ row e. (and_parts _ _ e).0) (entries s.stations) (entries_sorted s.stations)

@@ -1,6 +1,6 @@
 -- What the first start of a BSSID leaves, and a later one.
 use Rattle.std.proofs.Common.{◌≡◌, ◌≢◌, ℕ, ◌+◌, ◌≤◌, ◌<◌, Bool, true, false, cond, ◌&&◌, ◌||◌, List, [], ◌∷◌, ◌++◌, None, inr, length, refl, sym, ap, subst, ◌∙◌, IsSome, arith, append-nil, Some, inl, Option}
-use Rattle.apd_mlme.proofs.Words.{Accept, Addr, Bssid, Change, Conf, Contains, Contains-from_any, Deny, FinMap, IsList, IsListed, SetOf, Sound, State, StationNumber, StaySound, Which, add_to_list, additions, addr_cmp, addr_total, allowed, apart, bssid_cmp, bssid_exact, bssid_total, configure_verdict, contains, contains-insert, count_in, cursors_with, differ, either, eq_by_cmp, eq_by_cmp_equiv, false_from_ne_true, first_start, get-empty, get-entries, get-from_entries, get_insert_other, get_inserted, is_allowed_under, is_among, is_row_of, is_some, later_start, len-empty, list_any-from_Contains, list_cmp, list_count, list_exact, list_total, meaning_of, meaning_of-append, mine_is, no_value, none_given, none_is, policy_at, policy_of, retain_keys-insert_out, same_addr, same_row, same_set, set_policy, sound_add, station_at, tied, which_cmp, with_additions}
+use Rattle.apd_mlme.proofs.Words.{Accept, Addr, Bssid, Change, Conf, Contains, Contains-from_any, Deny, FinMap, IsList, IsListed, SetOf, Sound, State, StationNumber, StaySound, Which, add_to_list, additions, addr_cmp, addr_total, allowed, apart, bssid_cmp, bssid_exact, bssid_total, configure_verdict, contains, contains-insert, count_in, cursors_with, differ, either, eq_by_cmp, eq_by_cmp_equiv, false_from_ne_true, first_start, get-empty, get-entries, get-from_entries, get_insert_other, get_inserted, is_allowed_under, is_among, is_list_row_of, is_some, later_start, len-empty, list_any-from_Contains, list_cmp, list_count, list_exact, list_total, meaning_of, meaning_of-append, mine_is, no_value, none_given, none_is, policy_at, policy_of, retain_keys-insert_out, same_addr, same_row, same_set, set_policy, sound_add, station_at, tied, which_cmp, with_additions}
 use Rattle.std.specs.Prelude.{◌↔◌}
 use Rattle.std.specs.FinMap as map
 use Rattle.apd_base.specs.declared.station.Policy.{Policy as BssPolicy}
@@ -99,8 +99,8 @@ module _ (b : Bssid) where
   deny_stays : (as' : List Addr) (s : State) → list_count (meaning_of (additions b Accept as') s) b Deny ≡ list_count s b Deny
   deny_stays [] s = refl
   deny_stays (a ∷ as') s =
-      let other : is_row_of b Deny (b, Accept, a) ≡ false = ap (λ t. t && eq_by_cmp which_cmp Deny Accept) (tied bssid_total bssid_exact b) in
-      deny_stays as' (add_to_list b Accept a s) ∙ ap map.len (retain_keys-insert_out list_total list_exact (is_row_of b Deny) s.lists (b, Accept, a) tt other)
+      let other : is_list_row_of b Deny (b, Accept, a) ≡ false = ap (λ t. t && eq_by_cmp which_cmp Deny Accept) (tied bssid_total bssid_exact b) in
+      deny_stays as' (add_to_list b Accept a s) ∙ ap map.len (retain_keys-insert_out list_total list_exact (is_list_row_of b Deny) s.lists (b, Accept, a) tt other)
 
   -- where a sound state has no policy row for the BSSID, it has no other row of it
   module _ (s : State) (new : is_some (policy_at s b) ≡ false) (sound : Sound s) where

@@ -6,7 +6,7 @@ pub use Rattle.apd_base.proofs.StateLemmas.{list_exact, list_total, station_of_a
 pub use Rattle.apd_base.proofs.StationLemmas.{same_aid}
 pub use Rattle.apd_base.specs.Addr.{addr_cmp, bssid_cmp, is_among, station_cmp}
 pub use Rattle.apd_base.specs.Sets.{SetOf, contains}
-pub use Rattle.apd_base.specs.State.{IsListed, State, aid_at, aid_of, count, cursor_at, is_row_of, list_cmp, list_count, policy_at, station_at, stations_of, which_cmp, which_number}
+pub use Rattle.apd_base.specs.State.{IsListed, State, aid_at, aid_of, count, cursor_at, is_list_row_of, list_cmp, list_count, policy_at, station_at, stations_of, which_cmp, which_number}
 pub use Rattle.apd_base.specs.declared.address.Addr.{Addr}
 pub use Rattle.apd_base.specs.declared.address.Bssid.{Bssid}
 pub use Rattle.apd_base.specs.declared.address.TheConstants.{BROADCAST}

@@ -3,7 +3,7 @@ use Rattle.std.specs.Prelude.{not, List, [], ◌∷◌, Option, None, Some}
 use Rattle.std.proofs.Common.{lit≤}
 use Rattle.std.specs.FinMap as map
 use Rattle.std.specs.FinMap.{FinMap}
-use Rattle.apd_base.specs.State.{State, is_row_of, policy_at}
+use Rattle.apd_base.specs.State.{State, is_list_row_of, policy_at}
 use Rattle.apd_base.specs.declared.address.Addr.{Addr}
 use Rattle.apd_base.specs.declared.address.Bssid.{Bssid}
 use Rattle.apd_base.specs.declared.station.Station.{Station}
@@ -27,7 +27,7 @@ abbrev pub take_from_list : Bssid → Which → Addr → State → State
 take_from_list b w a s = record s { lists = map.remove s.lists (b, w, a) }
 
 abbrev pub clear_list : Bssid → Which → State → State
-clear_list b w s = record s { lists = map.retain_keys s.lists (λ row. not (is_row_of b w row)) }
+clear_list b w s = record s { lists = map.retain_keys s.lists (λ row. not (is_list_row_of b w row)) }
 
 -- no identifier was given yet
 abbrev pub none_given : StationNumber

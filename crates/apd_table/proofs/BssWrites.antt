@@ -1,6 +1,6 @@
 -- What a write into the row of a BSSID makes of the list rows and the policy rows.
 use Rattle.std.proofs.Common.{◌≡◌, ℕ, suc, ◌+◌, Bool, true, false, cond, not, ◌&&◌, ◌||◌, List, [], ◌∷◌, Option, Some, None, Result, Ok, Err, OnOk, OnErr, IsSome, IfSome, inl, inr, refl, sym, ap, subst, ◌∙◌, T, arith, slice_index_or, slice_set}
-use Rattle.apd_table.proofs.Words.{Accept, Addr, Bss, BssState, Bssid, Deny, Equal, FinMap, Greater, IsAntisymmetric, IsTotalOrder, Less, Members, Ordering, Policy, SetOf, Station, StationNumber, Which, addr_cmp, after_row, at_row, bssid_cmp, bssid_exact, bssid_total, contains, cursor_of, cursors_with, eq_by_cmp, find-place, find-put, from_sorted, get-empty, get-insert, has, is_eq, is_listed_in, is_row_of, is_some, is_sorted, list_cmp, list_exact, list_rows, list_total, members_of, members_under, no_lists, no_members, none_given, none_is, offset, one_or_apart, option_map, parts_of, place, policy_of, policy_rows, put-place, put_after, put_at, same_map, same_station_number, slice_get, sorted_put_at, state_of_rows, tied, value_at, which_cmp, with_added, with_bss, with_cleared, with_cursor, with_policy, with_removed, with_row}
+use Rattle.apd_table.proofs.Words.{Accept, Addr, Bss, BssState, Bssid, Deny, Equal, FinMap, Greater, IsAntisymmetric, IsTotalOrder, Less, Members, Ordering, Policy, SetOf, Station, StationNumber, Which, addr_cmp, after_row, at_row, bssid_cmp, bssid_exact, bssid_total, contains, cursor_of, cursors_with, eq_by_cmp, find-place, find-put, from_sorted, get-empty, get-insert, has, is_eq, is_list_row_of, is_listed_in, is_some, is_sorted, list_cmp, list_exact, list_rows, list_total, members_of, members_under, no_lists, no_members, none_given, none_is, offset, one_or_apart, option_map, parts_of, place, policy_of, policy_rows, put-place, put_after, put_at, same_map, same_station_number, slice_get, sorted_put_at, state_of_rows, tied, value_at, which_cmp, with_added, with_bss, with_cleared, with_cursor, with_policy, with_removed, with_row}
 use Rattle.std.specs.FinMap as map
 use Rattle.std.specs.FinMap.{find}
 use Rattle.std.proofs.lemmas.Option.{get_or_from_slice_get}
@@ -131,7 +131,7 @@ module _ (xs : List Row) (sorted : T (is_sorted bssid_cmp xs)) (b : Bssid) where
     pub nothing_removed : (w : Which) (a : Addr) → list_rows xs ≡ map.remove (list_rows xs) (b, w, a)
     nothing_removed w a = same_lists _ (λ v d. remove_here (list_rows xs) b w a v d ∙ and-false _ _ (not_listed v d)) (λ c apart v d. remove_elsewhere (list_rows xs) b w c apart v d a)
 
-    pub nothing_cleared : (w : Which) → list_rows xs ≡ map.retain_keys (list_rows xs) (λ row. not (is_row_of b w row))
+    pub nothing_cleared : (w : Which) → list_rows xs ≡ map.retain_keys (list_rows xs) (λ row. not (is_list_row_of b w row))
     nothing_cleared w = same_lists _ (λ v d. clear_here (list_rows xs) b w v d ∙ and-false _ _ (not_listed v d)) (λ c apart v d. clear_elsewhere (list_rows xs) b w c apart v d)
 
   -- the row there was
@@ -170,7 +170,7 @@ abbrev pub lists_without : Bssid → Which → Addr → BssState → BssState
 lists_without b w a s = record s { lists = map.remove s.lists (b, w, a) }
 
 abbrev pub lists_clear : Bssid → Which → BssState → BssState
-lists_clear b w s = record s { lists = map.retain_keys s.lists (λ row. not (is_row_of b w row)) }
+lists_clear b w s = record s { lists = map.retain_keys s.lists (λ row. not (is_list_row_of b w row)) }
 
 module _ (xs : List Row) (sorted : T (is_sorted bssid_cmp xs)) (b : Bssid) where
   abbrev policies : FinMap bssid_cmp Policy
@@ -249,7 +249,7 @@ module _ (xs : List Row) (sorted : T (is_sorted bssid_cmp xs)) (b : Bssid) where
         (λ c apart v d. remove_elsewhere (list_rows xs) b w c apart v d a)
 
     pub state_cleared : (w : Which) → state_of_rows (put_at xs b (with_cleared w x) (place bssid_cmp b xs)) ≡ lists_clear b w (state_of_rows xs)
-    state_cleared w = state_listed (with_cleared w x) refl refl refl (map.retain_keys (list_rows xs) (λ row. not (is_row_of b w row)))
+    state_cleared w = state_listed (with_cleared w x) refl refl refl (map.retain_keys (list_rows xs) (λ row. not (is_list_row_of b w row)))
         (λ v d. clear_here (list_rows xs) b w v d ∙ ap (λ t. not (eq_by_cmp which_cmp w v) && t) (listed v d) ∙ sym (has_cleared x.lists w v d))
         (λ c apart v d. clear_elsewhere (list_rows xs) b w c apart v d)
 

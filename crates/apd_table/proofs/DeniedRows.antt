@@ -2,12 +2,12 @@
 use Rattle.std.proofs.Common.{◌≡◌, ◌↔◌, Bool, true, false, cond, not, ◌&&◌, ◌||◌, List, [], ◌∷◌, map as list_map, filter, None, IsSome, refl, sym, ap, ◌∙◌}
 use Rattle.apd_table.proofs.Words.{AclMode, Addr, Bssid, Sound, State, Station, and_parts, any_passes, bssid_cmp, bssid_exact, bssid_total, denials_by, differ, eq_by_cmp, false_from_ne_true, is_denied_row, is_some_of, list_any, none_is, not_yes, passes_any, policy_at, same_bssid, station_at, station_exact, station_total, tied, true_from_ne_false}
 use Rattle.std.specs.FinMap as map
-use Rattle.apd_table.specs.Rows.{is_row_of}
+use Rattle.apd_table.specs.Rows.{is_station_row_of}
 use Rattle.apd_base.proofs.Cases.{value_of}
 
 module _ (s : State) (b : Bssid) (g : Addr → Bool) where
   abbrev fails : (Bssid × Addr) × Station → Bool
-  fails row = is_row_of b row && not (g row.0.1)
+  fails row = is_station_row_of b row && not (g row.0.1)
 
   none_fails : list_any fails (map.entries s.stations) ≡ false → (a : Addr) → IsSome (station_at s b a) → g a ≡ true
   none_fails none a h =

@@ -1,6 +1,6 @@
 -- The state without rows is sound.
 use Rattle.std.proofs.Common.{◌≡◌, ℕ, ◌≤◌, Bool, false, None, sym, ap, ◌∙◌, arith}
-use Rattle.apd_table.proofs.Words.{Addr, Bssid, IsAntisymmetric, IsTotalOrder, Ordering, Policy, Sound, Station, StationNumber, Which, aid_at, aid_of, bssid_cmp, differ, empty_state, eq_by_cmp, get-empty, is_row_of, is_some, len-empty, list_cmp, list_exact, list_total, none_is, none_is_some, station_at, station_cmp, station_exact, station_total}
+use Rattle.apd_table.proofs.Words.{Addr, Bssid, IsAntisymmetric, IsTotalOrder, Ordering, Policy, Sound, Station, StationNumber, Which, aid_at, aid_of, bssid_cmp, differ, empty_state, eq_by_cmp, get-empty, is_list_row_of, is_some, len-empty, list_cmp, list_exact, list_total, none_is, none_is_some, station_at, station_cmp, station_exact, station_total}
 use Rattle.std.specs.FinMap as map
 use Rattle.apd_base.specs.Sets as set
 use Rattle.apd_table.proofs.Parts.{part_kept, part_len}
@@ -32,5 +32,5 @@ sound_empty = record {
   none_denied = λ b a h. none_is (station_at empty_state b a) (no_station b a) h;
   few_bss = few _ 8 (len-empty bssid_cmp Policy);
   few_stations = λ b. few _ 2007 (no_part Station station_total station_exact (λ k. eq_by_cmp bssid_cmp b k.0));
-  few_listed = λ b w. few _ 1024 (no_part (Unit {0}) list_total list_exact (is_row_of b w));
+  few_listed = λ b w. few _ 1024 (no_part (Unit {0}) list_total list_exact (is_list_row_of b w));
 }

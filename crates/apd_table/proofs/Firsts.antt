@@ -5,7 +5,7 @@ use Rattle.apd_table.proofs.Words.{Addr, Bssid, Equal, Greater, IsAbove, IsLeast
 use Rattle.std.specs.FinMap as map
 use Rattle.std.specs.FinMap.{find}
 use Rattle.apd_acl.specs.Least.{IsLeastAbove}
-use Rattle.apd_table.specs.Rows.{is_row_of}
+use Rattle.apd_table.specs.Rows.{is_station_row_of}
 use Rattle.apd_base.proofs.Cases.{value_of}
 
 abbrev pub Row : Type 0
@@ -13,7 +13,7 @@ Row = (Bssid × Addr) × Station
 
 -- the first row of a BSSID
 abbrev pub first_of : Bssid → List Row → Option (Addr × Station)
-first_of b rows = option_map address_and_station (slice_get (filter (is_row_of b) rows) 0)
+first_of b rows = option_map address_and_station (slice_get (filter (is_station_row_of b) rows) 0)
 
 is_eq-then : (r o : Ordering) → is_eq r ≡ false → is_eq (ordering_then r o) ≡ false
 is_eq-then Less o e = refl
@@ -32,7 +32,7 @@ at_bss b a c = ap (λ r. ordering_then r (addr_cmp a c)) (tied_itself bssid_tota
 abbrev Least : Bssid → Addr → Station → List Row → Type 0
 Least b a v rows = (find station_cmp (b, a) rows ≡ Some v) × ((c : Addr) (w : Station) → find station_cmp (b, c) rows ≡ Some w → addr_cmp a c ≢ Greater)
 
-kept : (b : Bssid) (row : Row) (rows : List Row) → is_row_of b row ≡ false → (r : Option (Addr × Station)) → MatchOption r ((c : Addr) → find station_cmp (b, c) rows ≡ None) (λ x. Least b x.0 x.1 rows)
+kept : (b : Bssid) (row : Row) (rows : List Row) → is_station_row_of b row ≡ false → (r : Option (Addr × Station)) → MatchOption r ((c : Addr) → find station_cmp (b, c) rows ≡ None) (λ x. Least b x.0 x.1 rows)
     → MatchOption r ((c : Addr) → find station_cmp (b, c) (row ∷ rows) ≡ None) (λ x. Least b x.0 x.1 (row ∷ rows))
 kept b row rows ne None none = λ c. skip b c row rows ne ∙ none c
 kept b row rows ne (Some x) least = (skip b x.0 row rows ne ∙ least.0, λ c w f. least.1 c w (sym (skip b c row rows ne) ∙ f))
@@ -41,7 +41,7 @@ first_least : (b : Bssid) (rows : List Row) → T (is_sorted station_cmp rows) �
 first_least b [] h = λ c. refl
 first_least b (row ∷ rows) h =
     let rest = first_least b rows (is_sorted_tail station_total row rows h) in
-    elim (is_row_of b row) as (λ t. is_row_of b row ≡ t → MatchOption (option_map address_and_station (slice_get (cond t (row ∷ filter (is_row_of b) rows) (filter (is_row_of b) rows)) 0)) ((c : Addr) → find station_cmp (b, c) (row ∷ rows) ≡ None) (λ x. Least b x.0 x.1 (row ∷ rows))) [
+    elim (is_station_row_of b row) as (λ t. is_station_row_of b row ≡ t → MatchOption (option_map address_and_station (slice_get (cond t (row ∷ filter (is_station_row_of b) rows) (filter (is_station_row_of b) rows)) 0)) ((c : Addr) → find station_cmp (b, c) (row ∷ rows) ≡ None) (λ x. Least b x.0 x.1 (row ∷ rows))) [
       | true ↦ λ t.
           let key : ◌≡◌ {A = Bssid × Addr} (b, row.0.1) row.0 = λ i. (same_bssid row.0.0 b t i, row.0.1) in (
             ap (λ k. find station_cmp k (row ∷ rows)) key ∙ found_head station_total station_exact row rows,
@@ -110,14 +110,14 @@ module _ (b : Bssid) (a : Addr) (rows : List Row) (h : T (is_sorted station_cmp 
   NoNext = (c : Addr) → IsSome (at b rows h c) → addr_cmp a c ≢ Less
 
   -- a row of another BSSID above the station stands behind all of this BSSID
-  beyond : (e : Row) → is_row_of b e ≡ false → IsAbove station_total station_exact (b, a) rows e → NoNext
+  beyond : (e : Row) → is_station_row_of b e ≡ false → IsAbove station_total station_exact (b, a) rows e → NoNext
   beyond e other is c s l =
       let v = found b rows h c s in
       let above : bssid_cmp b e.0.0 ≡ Less = less_then (bssid_cmp b e.0.0) (addr_cmp a e.0.1) is.above other in
       let below : bssid_cmp e.0.0 b ≡ Greater = bssid_total.antisymm e.0.0 b ∙ ap ordering_reverse above in
       is.least (b, c) v.0 v.1 (at_bss b a c ∙ l) (greater_then (bssid_cmp e.0.0 b) (addr_cmp e.0.1 c) below)
 
-  next_row : (e : Row) → is_row_of b e ≡ true → IsAbove station_total station_exact (b, a) rows e → Next (e.0.1, e.1)
+  next_row : (e : Row) → is_station_row_of b e ≡ true → IsAbove station_total station_exact (b, a) rows e → Next (e.0.1, e.1)
   next_row e mine is =
       let key : ◌≡◌ {A = Bssid × Addr} e.0 (b, e.0.1) = λ i. (sym (same_bssid e.0.0 b mine) i, e.0.1) in
       let row : find station_cmp (b, e.0.1) rows ≡ Some e.1 = ap (λ k. find station_cmp k rows) (sym key) ∙ is.entry in (
@@ -131,7 +131,7 @@ module _ (b : Bssid) (a : Addr) (rows : List Row) (h : T (is_sorted station_cmp 
   next_of : (r : Option Row) → Above r → MatchOption (if_row_of b r) NoNext Next
   next_of None none = λ c s l. (let v = found b rows h c s in none (b, c) v.0 v.1 (at_bss b a c ∙ l))
   next_of (Some e) is =
-      elim (is_row_of b e) as (λ t. is_row_of b e ≡ t → MatchOption (cond t (Some (e.0.1, e.1)) None) NoNext Next) [ true ↦ λ t. next_row e t is | false ↦ λ t. beyond e t is ] refl
+      elim (is_station_row_of b e) as (λ t. is_station_row_of b e ≡ t → MatchOption (cond t (Some (e.0.1, e.1)) None) NoNext Next) [ true ↦ λ t. next_row e t is | false ↦ λ t. beyond e t is ] refl
 
   module _ (found : Option Row) (above : Above found) (r : Option (Addr × Station)) (gives : r ≡ if_row_of b found) where
     next_is : MatchOption r NoNext Next

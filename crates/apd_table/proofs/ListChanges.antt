@@ -1,6 +1,6 @@
 -- When a state stays sound as its lists change.
 use Rattle.std.proofs.Common.{◌≡◌, ◌+◌, ◌≤◌, ◌<◌, true, false, cond, not, ◌&&◌, ◌||◌, ◌⊎◌, IsSome, IsTrue, inl, inr, refl, sym, ap, subst, ◌∙◌}
-use Rattle.apd_table.proofs.Words.{Accept, Addr, Bssid, CanAdd, Deny, IsListed, ListClear, ListDel, NoneDeniedAfter, SetOf, Sound, State, Which, add_to_list, allowed, bssid_cmp, bssid_exact, bssid_total, clear_list, contains, eq_by_cmp, is_allowed_by, is_row_of, len-insert, list_cmp, list_count, list_exact, list_total, one_or_apart, policy_at, retain_keys-insert_in, retain_keys-insert_out, station_at, take_from_list, tied, which_exact, which_total}
+use Rattle.apd_table.proofs.Words.{Accept, Addr, Bssid, CanAdd, Deny, IsListed, ListClear, ListDel, NoneDeniedAfter, SetOf, Sound, State, Which, add_to_list, allowed, bssid_cmp, bssid_exact, bssid_total, clear_list, contains, eq_by_cmp, is_allowed_by, is_list_row_of, len-insert, list_cmp, list_count, list_exact, list_total, one_or_apart, policy_at, retain_keys-insert_in, retain_keys-insert_out, station_at, take_from_list, tied, which_exact, which_total}
 use Rattle.std.specs.FinMap as map
 use Rattle.apd_table.proofs.ListCounts.{row_is_of}
 use Rattle.apd_table.proofs.ListSets.{contains-insert, contains-retain_keys, insert_elsewhere, remove_elsewhere, clear_elsewhere}
@@ -34,15 +34,15 @@ module _ (s : State) (b : Bssid) (w : Which) (a : Addr) where
   abbrev key : Bssid × Which × Addr
   key = (b, w, a)
 
-  pub count_in : (c : Bssid) (v : Which) → is_row_of c v key ≡ true → list_count (add_to_list b w a s) c v ≡ cond (contains s.lists key) (list_count s c v) (list_count s c v + 1)
+  pub count_in : (c : Bssid) (v : Which) → is_list_row_of c v key ≡ true → list_count (add_to_list b w a s) c v ≡ cond (contains s.lists key) (list_count s c v) (list_count s c v + 1)
   count_in c v mine =
-      ap map.len (retain_keys-insert_in list_total list_exact (is_row_of c v) s.lists key tt mine) ∙ len-insert list_total (map.retain_keys s.lists (is_row_of c v)) key tt
-      ∙ ap (λ t. cond t (list_count s c v) (list_count s c v + 1)) (contains-retain_keys list_total list_exact s.lists (is_row_of c v) key ∙ ap (λ t. t && contains s.lists key) mine)
+      ap map.len (retain_keys-insert_in list_total list_exact (is_list_row_of c v) s.lists key tt mine) ∙ len-insert list_total (map.retain_keys s.lists (is_list_row_of c v)) key tt
+      ∙ ap (λ t. cond t (list_count s c v) (list_count s c v + 1)) (contains-retain_keys list_total list_exact s.lists (is_list_row_of c v) key ∙ ap (λ t. t && contains s.lists key) mine)
 
-  pub mine_is : is_row_of b w key ≡ true
+  pub mine_is : is_list_row_of b w key ≡ true
   mine_is = λ i. tied bssid_total bssid_exact b i && tied which_total which_exact w i
 
-  room_at : (c : Bssid) (v : Which) → is_row_of c v key ≡ true → IsListed s b w a ⊎ (list_count s b w < 1024) → (contains s.lists key ≡ true) ⊎ (list_count s c v < 1024)
+  room_at : (c : Bssid) (v : Which) → is_list_row_of c v key ≡ true → IsListed s b w a ⊎ (list_count s b w < 1024) → (contains s.lists key ≡ true) ⊎ (list_count s c v < 1024)
   room_at c v mine room =
       let of = row_is_of c v key mine in
       subst (λ (p : Bssid × Which). (contains s.lists key ≡ true) ⊎ (list_count s p.0 p.1 < 1024)) (λ i. (of.0 i, of.1 i)) room
@@ -64,9 +64,9 @@ module _ (s : State) (b : Bssid) (w : Which) (a : Addr) where
         none_denied = none_denied s l b sound elsewhere can.allowed;
         few_bss = sound.few_bss;
         few_stations = sound.few_stations;
-        few_listed = λ c v. elim (is_row_of c v key) as (λ t. is_row_of c v key ≡ t → list_count (add_to_list b w a s) c v ≤ 1024) [
+        few_listed = λ c v. elim (is_list_row_of c v key) as (λ t. is_list_row_of c v key ≡ t → list_count (add_to_list b w a s) c v ≤ 1024) [
           | true ↦ λ mine. rw (count_in c v mine) (room_after (contains s.lists key) (list_count s c v) 1024 (room_at c v mine can.room) (sound.few_listed c v))
-          | false ↦ λ other. rw (ap map.len (retain_keys-insert_out list_total list_exact (is_row_of c v) s.lists key tt other)) (sound.few_listed c v)
+          | false ↦ λ other. rw (ap map.len (retain_keys-insert_out list_total list_exact (is_list_row_of c v) s.lists key tt other)) (sound.few_listed c v)
         ] refl;
       }
 
@@ -84,5 +84,5 @@ module _ (s : State) (b : Bssid) (w : Which) (a : Addr) where
 
 pub sound_clear : (s : State) (b : Bssid) (w : Which) → Sound s → NoneDeniedAfter s b (ListClear b w) → Sound (clear_list b w s)
 sound_clear s b w sound none =
-    let other = λ (row : Bssid × Which × Addr). not (is_row_of b w row) in
+    let other = λ (row : Bssid × Which × Addr). not (is_list_row_of b w row) in
     sound_less s (map.retain_keys s.lists other) b sound (part_kept list_total list_exact s.lists other) (λ c apart v d. clear_elsewhere s.lists b w c apart v d) none

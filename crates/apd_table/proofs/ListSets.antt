@@ -1,6 +1,6 @@
 -- List rows as a set: what an address more, an address less and an empty list make of it.
 use Rattle.std.proofs.Common.{◌≡◌, Bool, true, false, cond, not, ◌&&◌, ◌||◌, Option, Some, None, refl, sym, ap, ◌∙◌}
-use Rattle.apd_table.proofs.Words.{Accept, Addr, Bssid, Deny, FinMap, IsAntisymmetric, IsTotalOrder, Lists, Ordering, SetOf, Which, addr_cmp, addr_exact, addr_total, bssid_cmp, bssid_exact, bssid_total, contains, eq_by_cmp, eq_by_cmp_equiv, get-empty, get-insert, get-remove, get-retain_keys, has, is_row_of, is_some, list_cmp, list_exact, list_total, same_map, tied, which_cmp, with_address, without_address, without_addresses}
+use Rattle.apd_table.proofs.Words.{Accept, Addr, Bssid, Deny, FinMap, IsAntisymmetric, IsTotalOrder, Lists, Ordering, SetOf, Which, addr_cmp, addr_exact, addr_total, bssid_cmp, bssid_exact, bssid_total, contains, eq_by_cmp, eq_by_cmp_equiv, get-empty, get-insert, get-remove, get-retain_keys, has, is_list_row_of, is_some, list_cmp, list_exact, list_total, same_map, tied, which_cmp, with_address, without_address, without_addresses}
 use Rattle.std.specs.FinMap as map
 use Rattle.apd_table.proofs.Denied.{one_key}
 
@@ -51,7 +51,7 @@ module _ (s : SetOf list_cmp) (b : Bssid) (w : Which) where
   without_row a = map.remove s (b, w, a)
 
   abbrev without_rows : SetOf list_cmp
-  without_rows = map.retain_keys s (λ row. not (is_row_of b w row))
+  without_rows = map.retain_keys s (λ row. not (is_list_row_of b w row))
 
   -- at the BSSID
   pub insert_here : (a : Addr) (v : Which) (d : Addr) → contains (with_row a) (b, v, d) ≡ ((eq_by_cmp which_cmp v w && eq_by_cmp addr_cmp d a) || contains s (b, v, d))
@@ -66,7 +66,7 @@ module _ (s : SetOf list_cmp) (b : Bssid) (w : Which) where
 
   pub clear_here : (v : Which) (d : Addr) → contains without_rows (b, v, d) ≡ (not (eq_by_cmp which_cmp w v) && contains s (b, v, d))
   clear_here v d =
-      contains-retain_keys list_total list_exact s (λ row. not (is_row_of b w row)) (b, v, d)
+      contains-retain_keys list_total list_exact s (λ row. not (is_list_row_of b w row)) (b, v, d)
       ∙ ap (λ t. not (t && eq_by_cmp which_cmp w v) && contains s (b, v, d)) (tied bssid_total bssid_exact b)
 
   -- and at each other one
@@ -83,7 +83,7 @@ module _ (s : SetOf list_cmp) (b : Bssid) (w : Which) where
 
     pub clear_elsewhere : contains without_rows (c, v, d) ≡ contains s (c, v, d)
     clear_elsewhere =
-        contains-retain_keys list_total list_exact s (λ row. not (is_row_of b w row)) (c, v, d)
+        contains-retain_keys list_total list_exact s (λ row. not (is_list_row_of b w row)) (c, v, d)
         ∙ ap (λ t. not (t && eq_by_cmp which_cmp w v) && contains s (c, v, d)) ((eq_by_cmp_equiv bssid_total).symm b c ∙ apart)
 
 -- the same of a BSSID's own lists

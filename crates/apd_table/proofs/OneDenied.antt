@@ -4,7 +4,7 @@ use Rattle.apd_table.proofs.Words.{Accept, Addr, Bssid, Change, Cursor, Deny, Dr
 use Rattle.std.specs.FinMap as map
 use Rattle.std.specs.FinMap.{find}
 use Rattle.apd_record.specs.declared.change.Change.TheVariants.{Policy as SetPolicy}
-use Rattle.apd_table.specs.Rows.{is_row_of}
+use Rattle.apd_table.specs.Rows.{is_station_row_of}
 use Rattle.apd_table.proofs.AllRows.{allowed_after}
 use Rattle.apd_table.proofs.DeniedRows.{all_pass_iff, none_passes}
 use Rattle.apd_table.proofs.StationRows.{Row}
@@ -131,4 +131,4 @@ module _ (s : State) (b : Bssid) (sound : Sound s) (policy : Policy) (at_b : Som
 pub none_denied_iff : (s : State) (b : Bssid) (policy : Policy) (at_b : Some policy ≡ policy_at s b) (lists : Lists) (same : (w : Which) (a : Addr) → has lists w a ≡ contains s.lists (b, w, a)) (change : Change) (t : Bool)
     → t ≡ list_any (is_denied_after lists (policy_after policy b change).mode b change) (map.entries s.stations) → (not t ≡ true) ↔ NoneDeniedAfter s b change
 none_denied_iff s b policy at_b lists same change t e =
-    all_pass_iff s b (allowed (meaning change s) b) t (e ∙ (λ i. list_any (λ (row : Row). is_row_of b row && not (allowed_after s b lists same policy at_b change row.0.1 i)) (map.entries s.stations)))
+    all_pass_iff s b (allowed (meaning change s) b) t (e ∙ (λ i. list_any (λ (row : Row). is_station_row_of b row && not (allowed_after s b lists same policy at_b change row.0.1 i)) (map.entries s.stations)))

@@ -1,6 +1,6 @@
 -- A part of a sound state is sound, where each of its rows has what it needs.
 use Rattle.std.proofs.Common.{◌≡◌, ℕ, ◌-◌, ◌≤◌, Bool, true, false, cond, List, [], ◌∷◌, length, Option, Some, None, IsSome, IsTrue, inl, inr, refl, sym, ap, subst, ◌∙◌, T, arith}
-use Rattle.apd_table.proofs.Words.{Addr, Bssid, FinMap, IsAntisymmetric, IsListed, IsTotalOrder, Ordering, Sound, State, Which, aid_at, aid_of, allowed, bssid_cmp, bssid_exact, bssid_total, cursor_at, drop_station, entries_sorted, eq_by_cmp, get-empty, get-entries, get-remove, get-retain_keys, get_insert_other, get_inserted, get_remove_other, is_row_of, is_some, is_some_of, is_sorted, is_sorted_tail, len-entries, len-remove, list_exact, list_total, none_is, none_is_some, one_or_apart, policy_at, station_at, station_exact, station_of_aid, station_total, tied, tied_not_below}
+use Rattle.apd_table.proofs.Words.{Addr, Bssid, FinMap, IsAntisymmetric, IsListed, IsTotalOrder, Ordering, Sound, State, Which, aid_at, aid_of, allowed, bssid_cmp, bssid_exact, bssid_total, cursor_at, drop_station, entries_sorted, eq_by_cmp, get-empty, get-entries, get-remove, get-retain_keys, get_insert_other, get_inserted, get_remove_other, is_list_row_of, is_some, is_some_of, is_sorted, is_sorted_tail, len-entries, len-remove, list_exact, list_total, none_is, none_is_some, one_or_apart, policy_at, station_at, station_exact, station_of_aid, station_total, tied, tied_not_below}
 use Rattle.std.specs.FinMap as map
 use Rattle.std.specs.FinMap.{find, entries}
 use Rattle.apd_base.proofs.Cases.{value_of}
@@ -98,7 +98,7 @@ module _ (s : State) (sound : Sound s) (t : State)
     none_denied = λ b a h. (of_stations b a h).1;
     few_bss = omega (arith, part_len bssid_total bssid_exact t.policies s.policies policies, sound.few_bss);
     few_stations = λ b. omega (arith, part_len station_total station_exact _ _ (part_retained station_total station_exact (λ k. eq_by_cmp bssid_cmp b k.0) t.stations s.stations stations), sound.few_stations b);
-    few_listed = λ b w. omega (arith, part_len list_total list_exact _ _ (part_retained list_total list_exact (is_row_of b w) t.lists s.lists lists), sound.few_listed b w);
+    few_listed = λ b w. omega (arith, part_len list_total list_exact _ _ (part_retained list_total list_exact (is_list_row_of b w) t.lists s.lists lists), sound.few_listed b w);
   }
 
 -- so is the state without a station's row

@@ -1,7 +1,7 @@
 -- How many bytes the records of a snapshot have at most.
 use Rattle.std.proofs.Common.{◌≡◌, ℕ, ◌*◌, ◌≤◌, Bool, true, false, cond, not, ◌&&◌, ◌||◌, Some, List, [], ◌∷◌, ◌++◌, length, map as list_map, filter, IsSome, refl, sym, ap, subst, ◌∙◌, arith, length-append}
 use Rattle.std.proofs.Math.Nat.{mul-suc}
-use Rattle.apd_table.proofs.Words.{Accept, Addr, AllByRecursion, AreChanges, Bssid, Change, Cursor, Deny, IsAddr, IsBssid, IsChange, ListAdd, Policy, Put, Sound, State, Station, StationNumber, Which, bssid_cmp, bssid_exact, bssid_total, canonical, contains_key-keys, cursor_change, cursor_changes, entries-retain_keys, eq_by_cmp, eq_by_cmp_equiv, is_row_of, is_some_of, len-entries, length-map, list_any, list_change, list_changes, list_exact, list_total, policy_at, policy_change, policy_changes, record_of, records_of, station_bytes, station_change, station_changes, station_exact, station_total, to_le_bytes, w16, which_cmp, which_number}
+use Rattle.apd_table.proofs.Words.{Accept, Addr, AllByRecursion, AreChanges, Bssid, Change, Cursor, Deny, IsAddr, IsBssid, IsChange, ListAdd, Policy, Put, Sound, State, Station, StationNumber, Which, bssid_cmp, bssid_exact, bssid_total, canonical, contains_key-keys, cursor_change, cursor_changes, entries-retain_keys, eq_by_cmp, eq_by_cmp_equiv, is_list_row_of, is_some_of, len-entries, length-map, list_any, list_change, list_changes, list_exact, list_total, policy_at, policy_change, policy_changes, record_of, records_of, station_bytes, station_change, station_changes, station_exact, station_total, to_le_bytes, w16, which_cmp, which_number}
 use Rattle.std.proofs.lemmas.List.Filters.{length-filter_both}
 use Rattle.std.specs.FinMap as map
 use Rattle.std.specs.FinMap.{entries}
@@ -108,7 +108,7 @@ module _ (s : State) (sound : Sound s) where
   all_listed (e ∷ es) are = (known e.0.0 (sound.lists_have_policy e.0.0 e.0.1 e.0.2 (is_some_of _ e.1 are.0)), all_listed es are.1)
 
   abbrev of_list : Bssid → Which → ListRow → Bool
-  of_list b w row = is_row_of b w row.0
+  of_list b w row = is_list_row_of b w row.0
 
   one_of_both : (b : Bssid) (row : ListRow) (w : Which) → listed_at b row ≡ true → row.0.1 ≡ w → list_any (λ v. of_list b v row) (Accept ∷ Deny ∷ []) ≡ true
   one_of_both b row Accept h e = (λ i. (h i && eq_by_cmp which_cmp Accept (e i)) || ((h i && eq_by_cmp which_cmp Deny (e i)) || false))
@@ -123,7 +123,7 @@ module _ (s : State) (sound : Sound s) where
       ] refl
 
   few_list : (b : Bssid) (w : Which) → length (filter (of_list b w) (entries s.lists)) ≤ 1024
-  few_list b w = subst (λ n. n ≤ 1024) (len-entries _ ∙ ap length (entries-retain_keys list_total list_exact (is_row_of b w) s.lists)) (sound.few_listed b w)
+  few_list b w = subst (λ n. n ≤ 1024) (len-entries _ ∙ ap length (entries-retain_keys list_total list_exact (is_list_row_of b w) s.lists)) (sound.few_listed b w)
 
   few_at : (b : Bssid) → length (filter (listed_at b) (entries s.lists)) ≤ 2048
   few_at b = at_most (of_list b) 1024 (Accept ∷ Deny ∷ []) (filter (listed_at b) (entries s.lists)) (in_both b (entries s.lists))

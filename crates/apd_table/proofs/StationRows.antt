@@ -7,7 +7,7 @@ use Rattle.std.specs.Cmp.Lexicographic.{slice_cmp}
 use Rattle.std.proofs.lemmas.Map.Keys.{IsDistinct-from_sorted, le_from_is_le}
 use Rattle.std.proofs.lemmas.Map.Lookups.{btree_map_from_get}
 use Rattle.std.proofs.lemmas.Map.Made.{update_all_none}
-use Rattle.apd_table.specs.Rows.{is_row_of}
+use Rattle.apd_table.specs.Rows.{is_station_row_of}
 
 abbrev pub Row : Type 0
 Row = (Bssid × Addr) × Station
@@ -100,7 +100,7 @@ module _ (b : Bssid) (low high : Addr) (zeros : low.0 ≡ 0 ∷ 0 ∷ 0 ∷ 0 �
   abbrev is_between : Row → Bool
   is_between row = is_le (station_cmp (b, low) row.0) && not (is_lt (station_cmp (b, high) row.0))
 
-  one_between : (row : Row) → IsAddr row.0.1 → is_between row ≡ is_row_of b row
+  one_between : (row : Row) → IsAddr row.0.1 → is_between row ≡ is_station_row_of b row
   one_between row is =
       elim (bssid_cmp b row.0.0) as (λ r. (is_le (ordering_then r (addr_cmp low row.0.1)) && not (is_lt (ordering_then r (addr_cmp high row.0.1)))) ≡ is_eq r) [
         | Less ↦ refl
@@ -108,7 +108,7 @@ module _ (b : Bssid) (low high : Addr) (zeros : low.0 ≡ 0 ∷ 0 ∷ 0 ∷ 0 �
         | Greater ↦ refl
       ]
 
-  pub between_is : (rows : List Row) → AreValid rows → filter is_between rows ≡ filter (is_row_of b) rows
+  pub between_is : (rows : List Row) → AreValid rows → filter is_between rows ≡ filter (is_station_row_of b) rows
   between_is [] h = refl
   between_is (row ∷ rows) h = λ i. cond (one_between row h.0 i) (row ∷ between_is rows h.1 i) (between_is rows h.1 i)
 

@@ -15,7 +15,7 @@ pub use Rattle.apd_base.proofs.Trees.{find-lookup, get_lookup, in_order, inserte
 pub use Rattle.apd_base.specs.Addr.{IsAddr, addr_cmp, bssid_cmp, is_among, station_cmp}
 pub use Rattle.apd_base.specs.Rows.{offset, place, put_at, value_at}
 pub use Rattle.apd_base.specs.Sets.{SetOf, contains}
-pub use Rattle.apd_base.specs.State.{IsListed, State, aid_at, aid_of, count, cursor_at, empty_state, is_row_of, list_cmp, list_count, policy_at, station_at, stations_of, which_cmp, which_number}
+pub use Rattle.apd_base.specs.State.{IsListed, State, aid_at, aid_of, count, cursor_at, empty_state, is_list_row_of, list_cmp, list_count, policy_at, station_at, stations_of, which_cmp, which_number}
 pub use Rattle.apd_base.specs.declared.address.Addr.{Addr}
 pub use Rattle.apd_base.specs.declared.address.Bssid.{Bssid}
 pub use Rattle.apd_base.specs.declared.station.AclMode.{AclMode}

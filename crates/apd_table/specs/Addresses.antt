@@ -18,11 +18,11 @@ use Rattle.apd_record.specs.Meaning.{meaning}
 use Rattle.apd_record.specs.declared.change.Change.{Change}
 use Rattle.apd_record.specs.declared.change.Change.TheVariants.{ListAdd, ListDel, ListClear, Policy as SetPolicy}
 use Rattle.apd_table.specs.Allowed.{denials_by}
-use Rattle.apd_table.specs.Rows.{is_row_of}
+use Rattle.apd_table.specs.Rows.{is_station_row_of}
 
 -- the addresses of all its rows, rising
 abbrev pub addresses_at : State → Bssid → List Addr
-addresses_at s b = list_map (λ row. row.0.1) (filter (is_row_of b) (map.entries s.stations))
+addresses_at s b = list_map (λ row. row.0.1) (filter (is_station_row_of b) (map.entries s.stations))
 
 -- the stations as they are, with the lists that a change leaves
 abbrev pub with_lists_after : Change → State → State
@@ -65,4 +65,4 @@ is_address_denied_after lists mode b change a =
     not (is_allowed mode (has_after lists b change Accept a) (has_after lists b change Deny a))
 
 abbrev pub is_denied_after : Lists → AclMode → Bssid → Change → (Bssid × Addr) × Station → Bool
-is_denied_after lists mode b change row = is_row_of b row && is_address_denied_after lists mode b change row.0.1
+is_denied_after lists mode b change row = is_station_row_of b row && is_address_denied_after lists mode b change row.0.1

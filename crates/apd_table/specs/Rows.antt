@@ -15,8 +15,8 @@ use Rattle.apd_base.specs.State.{aid_of}
 abbrev pub AreRows : List ((Bssid × Addr) × Station) → Type 0
 AreRows rows = T (map.is_sorted station_cmp rows) × AllByRecursion (λ row. IsAddr row.0.1) rows
 
-abbrev pub is_row_of : Bssid → (Bssid × Addr) × Station → Bool
-is_row_of b row = eq_by_cmp bssid_cmp b row.0.0
+abbrev pub is_station_row_of : Bssid → (Bssid × Addr) × Station → Bool
+is_station_row_of b row = eq_by_cmp bssid_cmp b row.0.0
 
 -- whether a station is associated at c, where this is what c has of it, and c is not b
 abbrev pub is_associated_apart : Bssid → Bssid → Option Station → Bool
@@ -40,4 +40,4 @@ address_and_station row = (row.0.1, row.1)
 -- a row, if it is one of the BSSID
 abbrev pub if_row_of : Bssid → Option ((Bssid × Addr) × Station) → Option (Addr × Station)
 if_row_of b None = None
-if_row_of b (Some row) = cond (is_row_of b row) (Some (address_and_station row)) None
+if_row_of b (Some row) = cond (is_station_row_of b row) (Some (address_and_station row)) None

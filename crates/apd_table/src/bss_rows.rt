@@ -5,7 +5,7 @@ ghost use Rattle.std.specs.Option.{option_copied, option_map};
 ghost use Rattle.std.specs.FinMap as map;
 ghost use Rattle.apd_base.specs.Addr.{bssid_cmp};
 ghost use Rattle.apd_base.specs.Sets.{contains};
-ghost use Rattle.apd_base.specs.State.{is_row_of};
+ghost use Rattle.apd_base.specs.State.{is_list_row_of};
 ghost use Rattle.apd_base.specs.declared.address.Addr.{Addr};
 ghost use Rattle.apd_base.specs.declared.limits.TheConstants.{MAX_STATIONS};
 ghost use Rattle.apd_base.specs.declared.station.Which.{Which};
@@ -185,7 +185,7 @@ impl BssRows {
     /// Takes each address out of a list.
     pub fn clear(&mut self, bssid: Bssid, which: Which)
         ensures { self.new
-            ≡ record self.old { lists = map.retain_keys self.old.lists (λ row. not (is_row_of bssid which row)) } }
+            ≡ record self.old { lists = map.retain_keys self.old.lists (λ row. not (is_list_row_of bssid which row)) } }
     {
         if let Ok(at) = rows::place(&self.rows, &bssid) {
             clear_at(&mut self.rows, at, which);

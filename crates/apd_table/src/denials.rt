@@ -5,7 +5,7 @@ ghost use Rattle.std.specs.List.{list_any};
 ghost use Rattle.std.specs.Ordering.{eq_by_cmp};
 ghost use Rattle.apd_base.specs.State.{which_cmp};
 ghost use Rattle.apd_table.specs.Addresses.{has_after, listed_address, policy_after, is_denied_after, is_address_denied_after};
-ghost use Rattle.apd_table.specs.Rows.{is_row_of};
+ghost use Rattle.apd_table.specs.Rows.{is_station_row_of};
 
 use crate::stations::Stations;
 use apd_acl::{Lists, policy};
@@ -17,7 +17,7 @@ use std::collections::btree_map::Range;
 /// The addresses of all rows of the BSSID.
 pub fn addresses(alloc: Global, stations: &Stations, bssid: Bssid) -> Result<Vec<Addr>, AllocError>
     ensures { IfOk result
-        (λ v. v.items ≡ list_map (λ row. row.0.1) (filter (is_row_of bssid) (map.entries stations.now))) }
+        (λ v. v.items ≡ list_map (λ row. row.0.1) (filter (is_station_row_of bssid) (map.entries stations.now))) }
 {
     stations.of(bssid).map(|row| row.0.1).collect(alloc)
 }

@@ -8,7 +8,7 @@ ghost use Rattle.std.specs.FinMap as map;
 ghost use Rattle.apd_acl.specs.Least.{IsLeast, IsLeastAbove};
 ghost use Rattle.apd_base.specs.Addr.{IsAddr, addr_cmp, station_cmp};
 ghost use Rattle.apd_base.specs.declared.address.Addr.{Addr};
-ghost use Rattle.apd_table.specs.Rows.{is_row_of, if_row_of, address_and_station};
+ghost use Rattle.apd_table.specs.Rows.{is_station_row_of, if_row_of, address_and_station};
 ghost use Rattle.apd_table.specs.Snapshot.{station_changes};
 
 use crate::snapshot::add_stations;
@@ -131,7 +131,7 @@ impl Stations {
 
     /// The rows of a BSSID, in order.
     pub fn of(&self, bssid: Bssid) -> Range<'_, (Bssid, Addr), Station>
-        ensures rows { result ≡ filter (is_row_of bssid) (map.entries self.now) }
+        ensures rows { result ≡ filter (is_station_row_of bssid) (map.entries self.now) }
         ensures fits { length result < 2 ^ 63 }
     {
         let first = Bound::Included((bssid, LEAST));
