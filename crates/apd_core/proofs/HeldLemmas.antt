@@ -1,7 +1,7 @@
 -- What is held: each recipient's queue, the entries that are kept, and the greatest number given, after each change.
 use Rattle.std.proofs.Common.{◌≡◌, ℕ, ◌+◌, ◌-◌, ◌<◌, ◌≤◌, zero, suc, Bool, true, false, cond, List, [], ◌∷◌, ◌++◌, length, map, Option, Some, None, IsSome, Result, Ok, Err, OnOk, OnErr, inl, inr, refl, sym, ap, subst, ◌∙◌, arith, get_or, set}
 use Rattle.std.specs.Prelude.{nat_le, nat_lt, ◌==◌, filter}
-use Rattle.apd_core.proofs.Words.{AllByRecursion, AreHeld, AreThere, Conf, FinMap, HeldOuts, IsInOrder, IsThere, MayFollow, Out, Queue, Recipient, after_given, after_hand, after_settled, append-nil, append_assoc, before, beyond, cases_eq, cases_lt, eq-eqb, eq_by_cmp, get-empty, greatest_number, is_same, le-leb, le-ltb, leb-true, left_after_settled, less_one, lt-leb, lt-ltb, nat_cmp, nat_cmp-IsAntisymmetric, nat_cmp_total, ne_eqb, no_outs, no_queues, outs_in, outs_of, outs_to, queue_at, queue_of, queue_place, queues_after_hand, queues_with_out, queues_with_outs, up_to, with_outs, without}
+use Rattle.apd_core.proofs.Words.{AllByRecursion, AreHeld, Conf, FinMap, HeldOuts, IsInOrder, MayFollow, Out, Queue, Recipient, RecipientIsThere, RecipientsAreThere, after_given, after_hand, after_settled, append-nil, append_assoc, before, beyond, cases_eq, cases_lt, eq-eqb, eq_by_cmp, get-empty, greatest_number, is_same, le-leb, le-ltb, leb-true, left_after_settled, less_one, lt-leb, lt-ltb, nat_cmp, nat_cmp-IsAntisymmetric, nat_cmp_total, ne_eqb, no_outs, no_queues, outs_in, outs_of, outs_to, queue_at, queue_of, queue_place, queues_after_hand, queues_with_out, queues_with_outs, up_to, with_outs, without}
 use Rattle.std.specs.FinMap as maps
 use Rattle.apd_base.proofs.MapLemmas as at
 use Rattle.apd_core.proofs.Places.{there, same_recipient, apart, some_is}
@@ -21,7 +21,7 @@ length-no_queues [] = refl
 length-no_queues (c ∷ cs) = omega (arith, length-no_queues cs)
 
 -- a recipient's queue after an entry more is kept
-added : (confs : List Conf) (k : ℕ) (x : Recipient × Out) (qs : List Queue) (r : Recipient) → IsThere confs x → length qs ≡ length confs + 1
+added : (confs : List Conf) (k : ℕ) (x : Recipient × Out) (qs : List Queue) (r : Recipient) → RecipientIsThere confs x → length qs ≡ length confs + 1
     → queue_at (queues_with_out qs (queue_place confs x.0) (k, x.1)) (queue_place confs r) ≡ cond (is_same r x.0) (queue_at qs (queue_place confs r) ++ (k, x.1) ∷ []) (queue_at qs (queue_place confs r))
 added confs k x qs r h n =
     let at = there confs x h in
@@ -35,7 +35,7 @@ joined : (t : Bool) (q : Queue) (k : ℕ) (x : Recipient × Out) (f : List (Reci
 joined true q k x f = append_assoc q ((k, x.1) ∷ []) _
 joined false q k x f = refl
 
-queued_of : (confs : List Conf) (k : ℕ) (outs : List (Recipient × Out)) (qs : List Queue) (r : Recipient) → AreThere confs outs → length qs ≡ length confs + 1
+queued_of : (confs : List Conf) (k : ℕ) (outs : List (Recipient × Out)) (qs : List Queue) (r : Recipient) → RecipientsAreThere confs outs → length qs ≡ length confs + 1
     → queue_at (queues_with_outs confs k outs qs) (queue_place confs r) ≡ queue_at qs (queue_place confs r) ++ map (λ o. (k, o)) (outs_to r outs)
 queued_of confs k [] qs r all n = sym (append-nil _)
 queued_of confs k (x ∷ xs) qs r all n =
@@ -43,7 +43,7 @@ queued_of confs k (x ∷ xs) qs r all n =
     ∙ ap (λ (q : Queue). q ++ map (λ (o : Out). (k, o)) (outs_to r xs)) (added confs k x qs r all.0 n)
     ∙ joined (is_same r x.0) (queue_at qs (queue_place confs r)) k x (filter (λ y. is_same r y.0) xs)
 
-pub queue_of-with_outs : (confs : List Conf) (k : ℕ) (outs : List (Recipient × Out)) (h : HeldOuts) (r : Recipient) → AreThere confs outs → length h.queues ≡ length confs + 1
+pub queue_of-with_outs : (confs : List Conf) (k : ℕ) (outs : List (Recipient × Out)) (h : HeldOuts) (r : Recipient) → RecipientsAreThere confs outs → length h.queues ≡ length confs + 1
     → queue_of confs (with_outs confs k outs h) r ≡ queue_of confs h r ++ map (λ o. (k, o)) (outs_to r outs)
 queue_of-with_outs confs k outs h r all n = queued_of confs k outs h.queues r all n
 
@@ -273,7 +273,7 @@ nothing_more : (t : Bool) (a : ℕ) → a ≡ a + cond t 0 0
 nothing_more true a = omega arith
 nothing_more false a = omega arith
 
-outs_of-queues_with_outs : (confs : List Conf) (n k : ℕ) (outs : List (Recipient × Out)) (qs : List Queue) → AreThere confs outs → length qs ≡ length confs + 1
+outs_of-queues_with_outs : (confs : List Conf) (n k : ℕ) (outs : List (Recipient × Out)) (qs : List Queue) → RecipientsAreThere confs outs → length qs ≡ length confs + 1
     → outs_of k (queues_with_outs confs n outs qs) ≡ outs_of k qs + cond (n == k) (length outs) 0
 outs_of-queues_with_outs confs n k [] qs all size = nothing_more (n == k) _
 outs_of-queues_with_outs confs n k (x ∷ xs) qs all size =
@@ -331,7 +331,7 @@ held_after_hand confs n r h held =
           subst (λ (v : Option ℕ). IsSome v) (sym (get-after_hand confs n r h k ∙ ap (less_by (outs_in k (up_to n (queue_at h.queues p)))) some.1 ∙ less_by_fewer (outs_in k (up_to n (queue_at h.queues p))) some.0 l)) refl;
     }
 
-pub held_with_outs : (confs : List Conf) (n : ℕ) (outs : List (Recipient × Out)) (h : HeldOuts) → AreHeld h → AreThere confs outs → length h.queues ≡ length confs + 1 → ((k : ℕ) → IsSome (maps.get h.left k) → k < n)
+pub held_with_outs : (confs : List Conf) (n : ℕ) (outs : List (Recipient × Out)) (h : HeldOuts) → AreHeld h → RecipientsAreThere confs outs → length h.queues ≡ length confs + 1 → ((k : ℕ) → IsSome (maps.get h.left k) → k < n)
     → AreHeld (with_outs confs n outs h)
 held_with_outs confs n outs h held all size later =
     let more = λ (k : ℕ). outs_of-queues_with_outs confs n k outs h.queues all size in

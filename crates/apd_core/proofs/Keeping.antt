@@ -1,7 +1,7 @@
 -- What every core is, each call keeps.
 use Rattle.std.proofs.Common.{◌≡◌, ◌≢◌, ℕ, suc, ◌+◌, ◌<◌, ◌≤◌, ◌^◌, false, cond, List, [], ◌∷◌, ◌++◌, length, Option, Some, None, IsSome, is_some, inl, inr, refl, sym, ap, subst, ◌∙◌, arith, append_assoc, length-append}
 use Rattle.std.specs.Prelude.{map, nat_le}
-use Rattle.apd_core.proofs.Words.{AreConfs, AreDecided, AreMomentsOf, AreThere, Change, Conf, CoreState, Happening, IsCore, IsFit, LastHeard, Moment, Out, Queue, Recipient, Sound, State, Unsettled, append-nil, cases_eq, changes_of, filter-append, front_of, is_busy, kept_count, last_of, leb-false, lt-leb, meaning_in, meaning_of, meaning_of-append, nat_cmp, nat_cmp-IsAntisymmetric, nat_cmp_total, new_core, numbered_outs, outs_to, queue_of, run, up_to, verdict, with_entry, with_sender}
+use Rattle.apd_core.proofs.Words.{AreConfs, AreDecided, AreMomentsOf, Change, Conf, CoreState, Happening, IsCore, IsFit, LastHeard, Moment, Out, Queue, Recipient, RecipientsAreThere, Sound, State, Unsettled, append-nil, cases_eq, changes_of, filter-append, front_of, is_busy, kept_count, last_of, leb-false, lt-leb, meaning_in, meaning_of, meaning_of-append, nat_cmp, nat_cmp-IsAntisymmetric, nat_cmp_total, new_core, numbered_outs, outs_to, queue_of, run, up_to, verdict, with_entry, with_sender}
 use Rattle.std.specs.FinMap as maps
 use Rattle.apd_base.specs.declared.limits.TheConstants.{MAX_KEPT}
 use Rattle.apd_base.proofs.MapLemmas as at
@@ -78,7 +78,7 @@ not_some None h = refl
 not_some (Some x) h = absurd (h refl)
 
 -- ---- an entry more
-module _ (s : CoreState) (m : Moment) (h : Happening) (core : IsCore s) (there : AreThere s.confs (verdict (front_of s) s.confs h).outs) (free : is_busy s ≡ false) where
+module _ (s : CoreState) (m : Moment) (h : Happening) (core : IsCore s) (there : RecipientsAreThere s.confs (verdict (front_of s) s.confs h).outs) (free : is_busy s ≡ false) where
   abbrev more : CoreState
   more = with_entry s m h
 

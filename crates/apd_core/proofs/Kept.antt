@@ -3,7 +3,7 @@ use Rattle.std.proofs.Common.{◌≡◌, ℕ, ◌+◌, ◌<◌, ◌≤◌, ◌^�
 use Rattle.std.specs.Prelude.{min, ◌-◌}
 use Rattle.apd_core.proofs.Words.{AllByRecursion, AreChanges, AreConfs, AreMomentsOf, Conf, CoreState, Entry, Happening, HeldOuts, Inside, IsCore, IsFit, IsKept, IsMeasured, Moment, Out, Recipient, Sound, State, after_hand, after_handing_out, changes_of, core_of, entries_of, front_of, heard_by_changes, is_busy, last_of, map-append, meaning_of, new_core, no_outs, records_of, take-append-le, verdict, verdict_there, with_entry, with_outs, with_sender, without}
 use Rattle.std.specs.FinMap as maps
-use Rattle.apd_mlme.specs.declared.decision.TheConstants.{MAX_RECORDS}
+use Rattle.apd_mlme.specs.declared.decision.TheConstants.{MAX_RECORD_BYTES}
 use Rattle.apd_core.proofs.HeldLemmas.{last_kept, without-with_outs}
 use Rattle.apd_core.proofs.Keeping.{entry_core, new_is_core, sender_core, meaning-push, one_more}
 use Rattle.apd_core.proofs.Settling.{handed_core}
@@ -133,7 +133,7 @@ new_kept c table confs is_confs settled number items flight held failed front la
     (subst (AllByRecursion IsMeasured) (sym items) tt)
 
 -- ---- an entry is measured
-pub measured_entry : (x : Entry) → AreChanges x.changes → x.length ≡ min (length (records_of x.changes)) (2 ^ 64 - 1) → length (records_of x.changes) ≤ MAX_RECORDS → IsMeasured x
+pub measured_entry : (x : Entry) → AreChanges x.changes → x.length ≡ min (length (records_of x.changes)) (2 ^ 64 - 1) → length (records_of x.changes) ≤ MAX_RECORD_BYTES → IsMeasured x
 measured_entry x are is few =
     let small : min (length (records_of x.changes)) (2 ^ 64 - 1) ≡ length (records_of x.changes) = omega arith in
     let same = is ∙ small in

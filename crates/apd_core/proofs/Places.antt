@@ -1,7 +1,7 @@
 -- The place of a recipient's queue.
 use Rattle.std.proofs.Common.{◌≡◌, ℕ, ◌+◌, ◌<◌, ◌≤◌, suc, true, false, cond, not, List, [], ◌∷◌, length, Option, Some, None, IsSome, IfSome, inl, inr, refl, sym, ap, subst, ◌∙◌, arith}
 use Rattle.std.specs.Prelude.{nat_lt}
-use Rattle.apd_core.proofs.Words.{Bssid, Conf, Control, IsThere, Out, Radio, Recipient, bssid_cmp, bssid_exact, bssid_total, cases_lt, conf_at, eq_by_cmp, is_same, le-ltb, lt-ltb, option_map, position_or_len, queue_place, radio_place, same_bssid, tied}
+use Rattle.apd_core.proofs.Words.{Bssid, Conf, Control, Out, Radio, Recipient, RecipientIsThere, bssid_cmp, bssid_exact, bssid_total, cases_lt, conf_at, eq_by_cmp, is_same, le-ltb, lt-ltb, option_map, position_or_len, queue_place, radio_place, same_bssid, tied}
 use Rattle.std.specs.List.{position}
 
 abbrev pub next : Option ℕ → Option ℕ
@@ -62,7 +62,7 @@ some_is None h = cc
 some_is (Some a) h = (a, refl)
 
 -- a recipient that is there has a queue
-pub there : (confs : List Conf) (x : Recipient × Out) → IsThere confs x → (i : ℕ) × (queue_place confs x.0 ≡ Some i) × (i < length confs + 1)
+pub there : (confs : List Conf) (x : Recipient × Out) → RecipientIsThere confs x → (i : ℕ) × (queue_place confs x.0 ≡ Some i) × (i < length confs + 1)
 there confs (Radio b, out) h =
     let at = some_is (radio_place confs b) (place_there confs b h) in
     let l : at.0 < length confs = place_below confs b at.0 at.1 in

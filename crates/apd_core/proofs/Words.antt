@@ -40,7 +40,7 @@ pub use Rattle.apd_mlme.specs.Verdict.{is_nothing}
 pub use Rattle.apd_mlme.specs.declared.decision.Out.{Out}
 pub use Rattle.apd_mlme.specs.declared.decision.Recipient.{Recipient}
 pub use Rattle.apd_mlme.specs.declared.decision.Recipient.TheVariants.{Control, Radio}
-pub use Rattle.apd_mlme.specs.laws.Outs.{AreThere, IsThere}
+pub use Rattle.apd_mlme.specs.laws.Outs.{RecipientIsThere, RecipientsAreThere}
 pub use Rattle.apd_mlme.specs.rules.{IsFit, verdict, verdict_under}
 pub use Rattle.apd_record.proofs.Lengths.{records_length-append}
 pub use Rattle.apd_record.specs.Meaning.{meaning, meaning_of}

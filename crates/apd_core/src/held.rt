@@ -5,7 +5,7 @@ ghost use Rattle.std.specs.List.{AllByRecursion, position};
 ghost use Rattle.std.specs.Ordering.{eq_by_cmp};
 ghost use Rattle.apd_base.specs.Addr.{bssid_cmp};
 ghost use Rattle.apd_base.specs.declared.limits.TheConstants.{MAX_BSS};
-ghost use Rattle.apd_mlme.specs.laws.Outs.{AreThere};
+ghost use Rattle.apd_mlme.specs.laws.Outs.{RecipientsAreThere};
 ghost use Rattle.apd_core.specs.Held.{queue_place, queue_of, no_queues, no_outs, queues_with_outs, with_outs, up_to, beyond, after_given, greatest_number, after_hand, after_settled, IsInOrder, AreHeld};
 ghost use Rattle.apd_core.specs.for_proofs.TakingBack.{before, without, MayFollow};
 
@@ -161,7 +161,7 @@ impl Held {
         number: u64,
         outs: Sequence<(Recipient, Out)>,
     ) -> Result<(), AllocError>
-        requires there { AreThere confs.now outs }
+        requires there { RecipientsAreThere confs.now outs }
         requires queues { length self.old.queues ≡ length confs.now + 1 }
         requires later { (k : ℕ) → IsSome (maps.get self.old.left k) → k < number }
         ensures ok { OnOk result (self.new ≡ with_outs confs.now number outs self.old) }

@@ -6,13 +6,13 @@ ghost use Rattle.apd_record.specs.Record.{records_of};
 ghost use Rattle.apd_table.specs.Sound.{Sound, StaySound};
 ghost use Rattle.apd_mlme.specs.Happening.{happening};
 ghost use Rattle.apd_mlme.specs.rules.{verdict, IsFit};
-ghost use Rattle.apd_mlme.specs.laws.Outs.{AreThere};
+ghost use Rattle.apd_mlme.specs.laws.Outs.{RecipientsAreThere};
 ghost use Rattle.apd_mlme.specs.Verdict.{is_nothing};
 ghost use Rattle.std.specs.List.{AllByRecursion};
 ghost use Rattle.std.specs.FinMap as map;
 ghost use Rattle.std.specs.Option.{option_map};
 ghost use Rattle.apd_base.specs.State.{State};
-ghost use Rattle.apd_mlme.specs.declared.decision.TheConstants.{MAX_RECORDS};
+ghost use Rattle.apd_mlme.specs.declared.decision.TheConstants.{MAX_RECORD_BYTES};
 ghost use Rattle.apd_mlme.specs.Run.{AreFit};
 ghost use Rattle.apd_core.specs.Requests.{event_happening, happening_of, HasLists};
 ghost use Rattle.apd_core.specs.Core.{after_all_settled, IsLongestFront};
@@ -242,7 +242,7 @@ impl Core {
         requires changes { decision.changes ≡ (verdict (front_of self.old) self.old.confs (happening event)).changes }
         requires outs { decision.outs ≡ (verdict (front_of self.old) self.old.confs (happening event)).outs }
         requires sound { StaySound decision.changes (front_of self.old) }
-        requires records { length (records_of decision.changes) ≤ MAX_RECORDS }
+        requires records { length (records_of decision.changes) ≤ MAX_RECORD_BYTES }
         requires room { last_of self.old + 1 < 2 ^ 64 }
         requires free { is_busy self.old ≡ false }
         ensures ok { OnOk result (self.new ≡ with_entry self.old moment (happening event.entry)) }

@@ -6,7 +6,7 @@ use Rattle.std.proofs.lemmas.List.Sums.{length-filter, count_by-le-length}
 use Rattle.apd_base.specs.declared.station.Policy.{Policy as BssPolicy}
 use Rattle.apd_record.specs.declared.change.Change.TheVariants.{Policy}
 use Rattle.apd_record.proofs.Lengths.{records_length-append, records_length-push}
-use Rattle.apd_mlme.specs.declared.decision.TheConstants.{MAX_RECORDS}
+use Rattle.apd_mlme.specs.declared.decision.TheConstants.{MAX_RECORD_BYTES}
 use Rattle.apd_mlme.specs.rules.Association as rule
 use Rattle.apd_mlme.specs.rules.Identifiers.{number_of}
 use Rattle.apd_mlme.proofs.EnforcementLemmas.{new, denied, v}
@@ -28,18 +28,18 @@ additions_length : (b : Bssid) (w : Which) (as' : List Addr) → AreChanges (add
 additions_length b w as' known = each_length (λ a. ListAdd b w a) 14 (λ a is. list_length b w a is.0 is.1) as' known
 
 -- ---- what a verdict has
-none_long : length (records_of []) ≤ MAX_RECORDS
+none_long : length (records_of []) ≤ MAX_RECORD_BYTES
 none_long = omega arith
 
-one_put : (b : Bssid) (a : Addr) (station : Station) → AreChanges (Put b a station ∷ []) → length (records_of (Put b a station ∷ [])) ≤ MAX_RECORDS
+one_put : (b : Bssid) (a : Addr) (station : Station) → AreChanges (Put b a station ∷ []) → length (records_of (Put b a station ∷ [])) ≤ MAX_RECORD_BYTES
 one_put b a station known = omega (arith, put_length b a station known.0.0 known.0.1, length-append (record_of (Put b a station)) [])
 
-one_drop : (b : Bssid) (a : Addr) → AreChanges (Drop b a ∷ []) → length (records_of (Drop b a ∷ [])) ≤ MAX_RECORDS
+one_drop : (b : Bssid) (a : Addr) → AreChanges (Drop b a ∷ []) → length (records_of (Drop b a ∷ [])) ≤ MAX_RECORD_BYTES
 one_drop b a known = omega (arith, drop_length b a known.0, length-append (record_of (Drop b a)) [])
 
 -- a verdict whose changes have few enough bytes, where they can be written
 abbrev pub IsShort : Verdict → Type 0
-IsShort v = AreChanges v.changes → length (records_of v.changes) ≤ MAX_RECORDS
+IsShort v = AreChanges v.changes → length (records_of v.changes) ≤ MAX_RECORD_BYTES
 
 module _ (s : State) where
   enforced_length : (b : Bssid) (p : BssPolicy) (change : Change) (l : SetOf list_cmp) (q : FinMap bssid_cmp BssPolicy) → (IsChange change → length (record_of change) ≤ 14) → Sound s → IsShort (v s b p change l q)
@@ -48,7 +48,7 @@ module _ (s : State) where
       let parts = fronts (drops b denied) (change ∷ []) known in
       omega (arith, records_length-push (drops b denied) change, drops_length b denied parts.0, short parts.1.0, denied_few (new s b p change l q) b p.mode, sound.few_stations b)
 
-  first_length : (conf : Conf) (b : Bssid) (accept deny : List Addr) → IsList accept → IsList deny → AreChanges (first_changes conf b accept deny) → length (records_of (first_changes conf b accept deny)) ≤ MAX_RECORDS
+  first_length : (conf : Conf) (b : Bssid) (accept deny : List Addr) → IsList accept → IsList deny → AreChanges (first_changes conf b accept deny) → length (records_of (first_changes conf b accept deny)) ≤ MAX_RECORD_BYTES
   first_length conf b accept deny accept_list deny_list known =
       let policy = Policy b (policy_of conf) in
       let accepts = additions b Accept accept in
@@ -93,6 +93,6 @@ module _ (s : State) where
   shape_length confs h fit sound _ (shape.enforced b p change l q there makes keep short others needed) known = enforced_length b p change l q short sound known
   shape_length confs h fit sound _ (shape.started conf b accept deny is first) known = let fits = subst (IsFit s confs) is fit in first_length conf b accept deny fits.2 fits.3 known
 
-pub decided_length : {E : Type 0} (s : State) (confs : List Conf) (h : Happening) (r : Result Decision E) → IsFit s confs h → Sound s → IfOk r (λ d. d.changes ≡ (verdict s confs h).changes) → IfOk r (λ d. AreChanges d.changes) → IfOk r (λ d. length (records_of d.changes) ≤ MAX_RECORDS)
+pub decided_length : {E : Type 0} (s : State) (confs : List Conf) (h : Happening) (r : Result Decision E) → IsFit s confs h → Sound s → IfOk r (λ d. d.changes ≡ (verdict s confs h).changes) → IfOk r (λ d. AreChanges d.changes) → IfOk r (λ d. length (records_of d.changes) ≤ MAX_RECORD_BYTES)
 decided_length s confs h (Ok d) fit sound same known = rw same (by_shape s confs IsShort (λ tag answer v short. short) h (shape_length s confs h fit sound) (subst AreChanges same known))
 decided_length s confs h (Err lack) fit sound same known = tt

@@ -1,6 +1,6 @@
 -- The shapes that a verdict has, taken apart once: what is so of each of them is so of every verdict.
 use Rattle.std.proofs.Common.{◌≡◌, ◌≢◌, ◌≤◌, arith, length, ℕ, Bool, true, false, cond, [], ◌∷◌, List, Option, Some, None, ◌⊎◌, inl, inr, refl, sym, ap, subst, ◌∙◌, IsSome, IsSomeAnd}
-use Rattle.apd_mlme.proofs.Words.{Add, Addr, Aid, Answer, Associated, Associates, Association, AssociationRequest, Authenticated, Authentication, BROADCAST, Bssid, Change, Clear, Conf, Configure, Contents, Done, Edit, Expire, FinMap, Happening, HasLeft, Heard, INACTIVITY, INVALID_AUTHENTICATION, INVALID_CLASS2_FRAME, INVALID_CLASS3_FRAME, IsAlwaysMade, IsChange, IsDeparture, IsDeserved, IsSaidSo, IsToAll, Kick, Kind, ListEdit, Names, NoneIsBroadcast, ProbeRequest, Put, Radio, Reason, Reassociation, Refused, Remove, Reply, SetOf, Sound, State, Station, StationRow, StaySound, Success, Verdict, Which, Writes, acceptance_of, addr_cmp, addr_exact, addr_total, aid_at, aid_of, association_of, association_request, association_response, association_status, auth_response, auth_status, auth_verdict, authentication, bssid_cmp, bssid_of, change_of, conf_at, configure_verdict, contains, data_of, deauthentication_of, differ, disassociation_of, eq_by_cmp, first_start, get_inserted, get_removed, heard_verdict, identifier_for, inactivity_of, is_admitted, is_answered, is_some, is_success, kick_by_deauthentication_of, kick_by_disassociation_of, kick_of_all, later_start, list_cmp, list_exact, list_total, meaning, nothing, only_reply, outs_of_drop, outs_of_end, policy_at, policy_length, policy_of, probe_request, probe_response, probe_verdict, put_back, put_station, reassociation_request, record_of, removal, reply_out, sender_of, station_at, station_cmp, tied, unanswered_edit_under, unanswered_kick, uplink, verdict, verdict_under, with_answer, without_current_ap}
+use Rattle.apd_mlme.proofs.Words.{Add, Addr, Aid, Answer, Associated, Associates, Association, AssociationRequest, Authenticated, Authentication, BROADCAST, BodyIsTrue, Bssid, Change, Clear, Conf, Configure, Contents, Done, Edit, Expire, FinMap, Happening, HasLeft, Heard, INACTIVITY, INVALID_AUTHENTICATION, INVALID_CLASS2_FRAME, INVALID_CLASS3_FRAME, IsAlwaysMade, IsChange, IsDeparture, IsDeserved, IsToAll, Kick, Kind, ListEdit, Names, NoneIsBroadcast, ProbeRequest, Put, Radio, Reason, Reassociation, Refused, Remove, Reply, SetOf, Sound, State, Station, StationRow, StaySound, Success, Verdict, Which, Writes, acceptance_of, addr_cmp, addr_exact, addr_total, aid_at, aid_of, association_of, association_request, association_response, association_status, auth_response, auth_status, auth_verdict, authentication, bssid_cmp, bssid_of, change_of, conf_at, configure_verdict, contains, data_of, deauthentication_of, differ, disassociation_of, eq_by_cmp, first_start, get_inserted, get_removed, heard_verdict, identifier_for, inactivity_of, is_admitted, is_answered, is_some, is_success, kick_by_deauthentication_of, kick_by_disassociation_of, kick_of_all, later_start, list_cmp, list_exact, list_total, meaning, nothing, only_reply, outs_of_drop, outs_of_end, policy_at, policy_length, policy_of, probe_request, probe_response, probe_verdict, put_back, put_station, reassociation_request, record_of, removal, reply_out, sender_of, station_at, station_cmp, tied, unanswered_edit_under, unanswered_kick, uplink, verdict, verdict_under, with_answer, without_current_ap}
 use Rattle.std.specs.FinMap as map
 use Rattle.apd_base.specs.declared.station.Policy.{Policy as BssPolicy}
 use Rattle.apd_frame.specs.Contents.{disassociation, deauthentication}
@@ -34,7 +34,7 @@ IsNeeded s confs h change =
 pub data Shape (s : State) (confs : List Conf) (h : Happening) : Verdict → Type 0 where
   silent : Shape s confs h (nothing s)
   -- one frame, which is so
-  told : (reply : Reply) → IsSome (conf_at confs reply.bssid) → IsSaidSo s reply.bssid reply.to reply.body → (NoneIsBroadcast s h → reply.to ≢ BROADCAST) → Names h reply.bssid reply.to → Shape s confs h (only_reply s reply)
+  told : (reply : Reply) → IsSome (conf_at confs reply.bssid) → BodyIsTrue s reply.bssid reply.to reply.body → (NoneIsBroadcast s h → reply.to ≢ BROADCAST) → Names h reply.bssid reply.to → Shape s confs h (only_reply s reply)
   -- a new station
   admitted : (conf : Conf) (b : Bssid) (request : Authentication) → IsSome (conf_at confs b) → h ≡ Heard b (authentication request) → is_admitted s conf b request ≡ true
       → Shape s confs h (record { state = put_station b request.sender Authenticated s; changes = Put b request.sender Authenticated ∷ []; outs = reply_out (auth_response b request (auth_status s conf b request)) ∷ [] })
@@ -104,7 +104,7 @@ module _ (s : State) (confs : List Conf) (b : Bssid) (there : IsSome (conf_at co
       named : Names h b request.sender
       named = subst (λ x. Names x b request.sender) (sym asked.1) (refl, asked.2)
 
-      refused_so : (k : Kind) → is_success (association_status conf request) ≡ false → let reply = association_response conf b k request.sender (association_status conf request) None in IsSaidSo s b request.sender reply.body
+      refused_so : (k : Kind) → is_success (association_status conf request) ≡ false → let reply = association_response conf b k request.sender (association_status conf request) None in BodyIsTrue s b request.sender reply.body
       refused_so Association bad = λ good. absurd (refuses (association_status conf request) bad good)
       refused_so Reassociation bad = λ good. absurd (refuses (association_status conf request) bad good)
 

@@ -1,7 +1,7 @@
 -- What leaves is so in the state after, and goes to a radio that is there.
 use Rattle.std.proofs.Common.{◌≡◌, ◌≢◌, inl, inr, Bool, true, false, cond, not, ◌&&◌, ◌||◌, List, [], ◌∷◌, ◌++◌, Some, None, refl, sym, ap, subst, ◌∙◌, IsSome}
 use Rattle.std.specs.Prelude.{filter}
-use Rattle.apd_mlme.proofs.Words.{AclMode, Addr, Aid, AllByRecursion, AreSo, AreSoToAll, AreThere, Association, AssociationRequest, Authenticated, BROADCAST, Bssid, Change, Conf, Control, FinMap, Happening, Install, IsFromStation, IsMeant, IsSaidSo, IsSo, IsSoToAll, IsThere, Kind, NoBroadcastRow, NoneIsBroadcast, Out, Policy, Radio, Reason, Reassociation, Recipient, Remove, Reply, SetOf, Sound, State, Success, UNSPECIFIED, Verdict, addr_cmp, addr_exact, addr_total, addresses_at, aid_at, aid_of, and_parts, association_response, auth_response, auth_status, bssid_cmp, bssids_elsewhere, conf_at, denials_by, denied_among, eq_by_cmp, farewell, identifier_for, installation, is_among, is_some, kick_of_all, list_cmp, none_is, other_way, outs_elsewhere, outs_of_drop, outs_of_end, outs_to, put_station, removal, reply_out, second_true, station_at, station_of_aid, text, tied, verdict}
+use Rattle.apd_mlme.proofs.Words.{AclMode, Addr, Aid, AllByRecursion, Association, AssociationRequest, Authenticated, BROADCAST, BodyIsTrue, Bssid, Change, Conf, Control, FinMap, Happening, Install, IsFromStation, IsMeant, Kind, NoBroadcastRow, NoneIsBroadcast, Out, OutIsTrue, OutIsTrueForAll, OutsAreTrue, OutsAreTrueForAll, Policy, Radio, Reason, Reassociation, Recipient, RecipientIsThere, RecipientsAreThere, Remove, Reply, SetOf, Sound, State, Success, UNSPECIFIED, Verdict, addr_cmp, addr_exact, addr_total, addresses_at, aid_at, aid_of, and_parts, association_response, auth_response, auth_status, bssid_cmp, bssids_elsewhere, conf_at, denials_by, denied_among, eq_by_cmp, farewell, identifier_for, installation, is_among, is_some, kick_of_all, list_cmp, none_is, other_way, outs_elsewhere, outs_of_drop, outs_of_end, outs_to, put_station, removal, reply_out, second_true, station_at, station_of_aid, text, tied, verdict}
 use Rattle.std.specs.List.{flat_map}
 use Rattle.apd_mlme.specs.rules.Association as rule
 use Rattle.apd_mlme.specs.rules.Leaving as leaving
@@ -46,7 +46,7 @@ radios_only confs ((Control, what) ∷ outs) h = absurd h.0
 -- that it is meant for; and it goes to a radio
 module _ (s : State) (E : Type 0) (confs : List Conf) where
   abbrev pub IsRight : State → Recipient × Out → Type 0
-  IsRight new x = (Sound s → IsSo new x) × (Sound s → E → IsSoToAll new x) × IsRadio confs x
+  IsRight new x = (Sound s → OutIsTrue new x) × (Sound s → E → OutIsTrueForAll new x) × IsRadio confs x
 
   abbrev AreRight : State → List (Recipient × Out) → Type 0
   AreRight new outs = AllByRecursion (IsRight new) outs
@@ -56,15 +56,15 @@ module _ (s : State) (E : Type 0) (confs : List Conf) where
   IsOne a = E → a ≢ BROADCAST
 
   -- a frame whose body says what is so
-  said : (new : State) (reply : Reply) → IsSome (conf_at confs reply.bssid) → (Sound s → IsSaidSo new reply.bssid reply.to reply.body) → IsOne reply.to → IsRight new (reply_out reply)
+  said : (new : State) (reply : Reply) → IsSome (conf_at confs reply.bssid) → (Sound s → BodyIsTrue new reply.bssid reply.to reply.body) → IsOne reply.to → IsRight new (reply_out reply)
   said new reply there h one = (
     λ sound. (reply, refl, refl, h sound),
-    λ sound e. (reply, refl, refl, λ a meant. subst (λ x. IsSaidSo new reply.bssid x reply.body) (meant_one reply.to a (one e) meant) (h sound)),
+    λ sound e. (reply, refl, refl, λ a meant. subst (λ x. BodyIsTrue new reply.bssid x reply.body) (meant_one reply.to a (one e) meant) (h sound)),
     there,
   )
 
   -- and one whose body says what is so of everyone
-  said_to_all : (new : State) (reply : Reply) → IsSome (conf_at confs reply.bssid) → ((a : Addr) → IsSaidSo new reply.bssid a reply.body) → IsRight new (reply_out reply)
+  said_to_all : (new : State) (reply : Reply) → IsSome (conf_at confs reply.bssid) → ((a : Addr) → BodyIsTrue new reply.bssid a reply.body) → IsRight new (reply_out reply)
   said_to_all t reply there h = (λ _. (reply, refl, refl, h reply.to), λ _ _. (reply, refl, refl, λ a _. h a), there)
 
   all_right : (new : State) (xs ys : List (Recipient × Out)) → AreRight new xs → AreRight new ys → AreRight new (xs ++ ys)
@@ -190,9 +190,9 @@ module _ (s : State) (confs : List Conf) (h : Happening) where
 
   -- an answer to a command says nothing of a station, and whoever gave it is there
   abbrev Is : State → Recipient × Out → Type 0
-  Is new x = (Sound s → IsSo new x) × (Sound s → E → IsSoToAll new x) × IsThere confs x
+  Is new x = (Sound s → OutIsTrue new x) × (Sound s → E → OutIsTrueForAll new x) × RecipientIsThere confs x
 
-  radio_there : (x : Recipient × Out) → IsRadio confs x → IsThere confs x
+  radio_there : (x : Recipient × Out) → IsRadio confs x → RecipientIsThere confs x
   radio_there (Radio b, what) there = there
   radio_there (Control, what) there = absurd there
 
@@ -202,12 +202,12 @@ module _ (s : State) (confs : List Conf) (h : Happening) where
       (λ tag answer v is. all_both (Is v.state) v.outs (text tag answer ∷ []) is ((λ _. tt, λ _ _. tt, tt), tt)) h
       (λ v shape. each (IsRight s E confs v.state) (Is v.state) (λ x right. (right.0, right.1, radio_there x right.2)) v.outs (shape_right v shape))
 
-  pub verdict_there : AreThere confs (verdict s confs h).outs
-  verdict_there = each (Is (verdict s confs h).state) (IsThere confs) (λ x is. is.2) (verdict s confs h).outs verdict_is
+  pub verdict_there : RecipientsAreThere confs (verdict s confs h).outs
+  verdict_there = each (Is (verdict s confs h).state) (RecipientIsThere confs) (λ x is. is.2) (verdict s confs h).outs verdict_is
 
 module _ (s : State) (confs : List Conf) (sound : Sound s) (h : Happening) where
-  pub verdict_so : AreSo (verdict s confs h).state (verdict s confs h).outs
-  verdict_so = each (Is s confs h (verdict s confs h).state) (IsSo (verdict s confs h).state) (λ x is. is.0 sound) (verdict s confs h).outs (verdict_is s confs h)
+  pub verdict_is_true : OutsAreTrue (verdict s confs h).state (verdict s confs h).outs
+  verdict_is_true = each (Is s confs h (verdict s confs h).state) (OutIsTrue (verdict s confs h).state) (λ x is. is.0 sound) (verdict s confs h).outs (verdict_is s confs h)
 
-  pub verdict_so_to_all : NoneIsBroadcast s h → AreSoToAll (verdict s confs h).state (verdict s confs h).outs
-  verdict_so_to_all nobody = each (Is s confs h (verdict s confs h).state) (IsSoToAll (verdict s confs h).state) (λ x is. is.1 sound nobody) (verdict s confs h).outs (verdict_is s confs h)
+  pub verdict_is_true_for_all : NoneIsBroadcast s h → OutsAreTrueForAll (verdict s confs h).state (verdict s confs h).outs
+  verdict_is_true_for_all nobody = each (Is s confs h (verdict s confs h).state) (OutIsTrueForAll (verdict s confs h).state) (λ x is. is.1 sound nobody) (verdict s confs h).outs (verdict_is s confs h)

@@ -56,7 +56,7 @@ pub use Rattle.apd_mlme.specs.laws.Departure.{IsAlone, IsDeauthenticated, IsDisa
 pub use Rattle.apd_mlme.specs.laws.Driver.{DriverMap, FollowsDrivers, driver_after, driver_after_all}
 pub use Rattle.apd_mlme.specs.laws.ManagementFrame.{channel_octets, code_of, deauthentication_frame, disassociation_frame, management_frame, rates_octets}
 pub use Rattle.apd_mlme.specs.laws.NothingElse.{AreApart, AreFramesDue, AreLetGo, AreNeeded, AreNotices, AreTakenIn, Associates, HasBegun, HasCeased, HasLost, IsAlwaysMade, IsToAll, Names, Rise, Row, StationRow, Writes, frames, stations_let_go, stations_taken_in}
-pub use Rattle.apd_mlme.specs.laws.Outs.{AreSo, AreSoToAll, AreThere, IsSaidSo, IsSo, IsSoToAll, IsThere}
+pub use Rattle.apd_mlme.specs.laws.Outs.{BodyIsTrue, OutIsTrue, OutIsTrueForAll, OutsAreTrue, OutsAreTrueForAll, RecipientIsThere, RecipientsAreThere}
 pub use Rattle.apd_mlme.specs.laws.Probe.{AsksFor, IsProbeFor, IsProbed, response_frame}
 pub use Rattle.apd_mlme.specs.laws.Responses.{IsAssociationAnswered, IsAuthenticationAnswered, authentication_response}
 pub use Rattle.apd_mlme.specs.rules.{IsFit, heard_verdict, verdict, verdict_under}

@@ -9,7 +9,7 @@ use std::alloc::{AllocError, Global};
 
 /// The most bytes that the records of one event's changes have: those of a first start with two full
 /// lists, one policy and 2,048 addresses.
-pub const MAX_RECORDS: usize = 28_682;
+pub const MAX_RECORD_BYTES: usize = 28_682;
 
 /// Who an out is for.
 #[derive(Clone, Copy, Debug, PartialEq, Eq)]

@@ -40,8 +40,8 @@ ghost use Rattle.apd_mlme.specs.Run.{run, AreFit};
 ghost use Rattle.apd_mlme.specs.laws.Start.{AreDroppedTold, IsStarted};
 ghost use Rattle.apd_mlme.specs.laws.Turns.{AreGivenInTurn, IsGiven, WasTaken};
 ghost use Rattle.apd_mlme.specs.declared.association.Kind.TheVariants.{Association, Reassociation};
-ghost use Rattle.apd_mlme.specs.declared.decision.TheConstants.{MAX_RECORDS};
-ghost use Rattle.apd_mlme.specs.laws.Outs.{AreSo, AreSoToAll, AreThere};
+ghost use Rattle.apd_mlme.specs.declared.decision.TheConstants.{MAX_RECORD_BYTES};
+ghost use Rattle.apd_mlme.specs.laws.Outs.{OutsAreTrue, OutsAreTrueForAll, RecipientsAreThere};
 
 /// Making the changes of an event in turn leads to the state that its rule says, and each of them
 /// leaves a sound state. An event without changes leaves every row as it was.
@@ -127,10 +127,11 @@ pub fn a_probe_is_answered_where_it_asks()
 /// not configured.
 pub fn what_leaves_is_so()
     ensures so { (s : State) (confs : List Conf) (h : Happening) → Sound s
-        → AreSo (verdict s confs h).state (verdict s confs h).outs }
+        → OutsAreTrue (verdict s confs h).state (verdict s confs h).outs }
     ensures everyone { (s : State) (confs : List Conf) (h : Happening) → Sound s → NoneIsBroadcast s h
-        → AreSoToAll (verdict s confs h).state (verdict s confs h).outs }
-    ensures there { (s : State) (confs : List Conf) (h : Happening) → AreThere confs (verdict s confs h).outs }
+        → OutsAreTrueForAll (verdict s confs h).state (verdict s confs h).outs }
+    ensures there { (s : State) (confs : List Conf) (h : Happening)
+        → RecipientsAreThere confs (verdict s confs h).outs }
 {}
 
 /// A station comes into the table of a BSSID by an authentication request of its own, and by nothing else.
@@ -329,5 +330,5 @@ pub fn no_change_is_idle()
 /// A value that other contracts cite by name: the records of one event's changes have at most 28,682
 /// bytes (own).
 pub fn values_law()
-    ensures { MAX_RECORDS ≡ 28682 }
+    ensures { MAX_RECORD_BYTES ≡ 28682 }
 {}

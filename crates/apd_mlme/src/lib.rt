@@ -9,7 +9,7 @@ ghost use Rattle.apd_record.specs.Ranges.{AreChanges};
 ghost use Rattle.apd_record.specs.Record.{records_of};
 ghost use Rattle.apd_table.specs.Sound.{StaySound};
 ghost use Rattle.apd_mlme.specs.laws.Driver.{FollowsDrivers};
-ghost use Rattle.apd_mlme.specs.declared.decision.TheConstants.{MAX_RECORDS};
+ghost use Rattle.apd_mlme.specs.declared.decision.TheConstants.{MAX_RECORD_BYTES};
 ghost use Rattle.apd_mlme.specs.Happening.{happening};
 ghost use Rattle.apd_mlme.specs.rules.{verdict, heard_verdict, IsFit};
 ghost use Rattle.apd_mlme.specs.Verdict.{is_nothing};
@@ -36,7 +36,7 @@ use apd_frame::Frame;
 use apd_table::Table;
 use association::Kind;
 pub use command_answer::Answer;
-pub use decision::{Decision, MAX_RECORDS, Out, Recipient};
+pub use decision::{Decision, MAX_RECORD_BYTES, Out, Recipient};
 use draft::Draft;
 pub use event::{Edit, Event};
 use std::alloc::{AllocError, Global};
@@ -61,7 +61,7 @@ pub fn decide(
     ensures sound { IfOk result (λ d. StaySound d.changes table.now) }
 
     // The records of its changes have at most 28,682 bytes.
-    ensures records { IfOk result (λ d. length (records_of d.changes) ≤ MAX_RECORDS) }
+    ensures records { IfOk result (λ d. length (records_of d.changes) ≤ MAX_RECORD_BYTES) }
 
     // What leaves keeps the driver of each configured BSSID at its associated stations.
     ensures driver { IfOk result

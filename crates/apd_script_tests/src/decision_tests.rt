@@ -3,7 +3,7 @@ use crate::expect::expect;
 use apd_base::{AclMode, Addr, Aid, Association, Bssid, Sequence, Station, StationNumber, Which};
 use apd_conf::Confs;
 use apd_frame::{Authentication, Frame};
-use apd_mlme::{Decision, Event, MAX_RECORDS, Out, decide};
+use apd_mlme::{Decision, Event, MAX_RECORD_BYTES, Out, decide};
 use apd_record::Change;
 use apd_table::Table;
 use std::alloc::Global;
@@ -275,7 +275,7 @@ fn member(aid: Aid) -> Change {
 /// A first start with two full lists: a policy of 10 bytes, and 2,048 addresses of 14.
 #[test]
 fn the_most_records_of_an_event(rt: HostRuntime) {
-    expect(&rt, MAX_RECORDS, 28_682);
+    expect(&rt, MAX_RECORD_BYTES, 28_682);
 }
 
 /// The identifier of a number.

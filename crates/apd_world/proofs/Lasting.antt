@@ -17,14 +17,14 @@ use Rattle.apd_mlme.specs.declared.event.Edit.{Edit}
 use Rattle.apd_mlme.specs.laws.Command.{IsAnsweredTo, IsOnAfter}
 use Rattle.apd_mlme.specs.rules.{IsFit}
 use Rattle.apd_mlme.specs.rules.Commands.{text}
-use Rattle.apd_mlme.specs.laws.Outs.{AreSo, IsSaidSo, IsSo}
-use Rattle.apd_mlme.proofs.TrueOutsLemmas.{all_both, verdict_so}
+use Rattle.apd_mlme.specs.laws.Outs.{BodyIsTrue, OutIsTrue, OutsAreTrue}
+use Rattle.apd_mlme.proofs.TrueOutsLemmas.{all_both, verdict_is_true}
 use Rattle.apd_mlme.proofs.VerdictLemmas.{run_sound, stay_end}
 use Rattle.apd_base.specs.Sets.{contains}
 use Rattle.apd_base.specs.State.{empty_state, station_at, IsListed}
 use Rattle.apd_store.specs.Image.{IsCurrent}
 use Rattle.apd_world.specs.History.{GoesOn, IsHistory, History, Keeps, after}
-use Rattle.apd_world.specs.Lasting.{BodyLasts, Fact, HasAid, HasRow, Holds, IsOff, IsOn, Lasts, OutLasts, SaysOtherwise, WasEdited, WasSo}
+use Rattle.apd_world.specs.Lasting.{BodyLasts, Fact, HasAid, HasRow, Holds, IsOff, IsOn, Lasts, OutLasts, OutWasTrue, SaysOtherwise, WasEdited}
 use Rattle.apd_world.proofs.Goings.{is_or_not, run-append}
 
 -- a state that an image shows is sound
@@ -91,13 +91,13 @@ module _ (es : List Happening) (m : LastHeard) (g : Recipient → List Out) (ans
 
 -- ---- what an out says is so
 -- those of a list to one recipient
-outs_so : (r : Recipient) (s : State) (outs : List (Recipient × Out)) → AreSo s outs → AllByRecursion (λ out. IsSo s (r, out)) (outs_to r outs)
+outs_so : (r : Recipient) (s : State) (outs : List (Recipient × Out)) → OutsAreTrue s outs → AllByRecursion (λ out. OutIsTrue s (r, out)) (outs_to r outs)
 outs_so r s [] all = tt
 outs_so r s (x ∷ outs) all =
     let rest = outs_so r s outs all.1 in
-    let P = λ (t : Bool). AllByRecursion (λ out. IsSo s (r, out)) (map (λ (y : Recipient × Out). y.1) (cond t (x ∷ filter (λ y. is_same r y.0) outs) (filter (λ y. is_same r y.0) outs))) in
+    let P = λ (t : Bool). AllByRecursion (λ out. OutIsTrue s (r, out)) (map (λ (y : Recipient × Out). y.1) (cond t (x ∷ filter (λ y. is_same r y.0) outs) (filter (λ y. is_same r y.0) outs))) in
     elim (is_or_not r x.0) [
-      | inl same ↦ elim (is_same r x.0) as P [ true ↦ (subst (λ (q : Recipient). IsSo s (q, x.1)) (sym same) all.0, rest) | false ↦ rest ]
+      | inl same ↦ elim (is_same r x.0) as P [ true ↦ (subst (λ (q : Recipient). OutIsTrue s (q, x.1)) (sym same) all.0, rest) | false ↦ rest ]
       | inr apart ↦ subst P (sym apart) rest
     ]
 
@@ -112,7 +112,7 @@ fit_front confs (suc n) (h ∷ hs) s fit = (fit.0, fit_front confs n hs (verdict
 
 module _ (confs : List Conf) (r : Recipient) where
   abbrev SoIn : State → List Happening → Out → Type 0
-  SoIn s hs out = (n : ℕ) × (n < length hs) × IsSo (run s confs (take (n + 1) hs)) (r, out)
+  SoIn s hs out = (n : ℕ) × (n < length hs) × OutIsTrue (run s confs (take (n + 1) hs)) (r, out)
 
   run_so : (hs : List Happening) (s : State) → AreFit s confs hs → Sound s → AllByRecursion (SoIn s hs) (outs_run r s confs hs)
   run_so [] s fit sound = tt
@@ -120,14 +120,14 @@ module _ (confs : List Conf) (r : Recipient) where
       let v = verdict s confs h in
       let after_one = run_sound confs (h ∷ []) s (fit.0, tt) sound in
       all_both (SoIn s (h ∷ hs)) (outs_to r v.outs) (outs_run r v.state confs hs)
-      (all_weaker (λ out. IsSo v.state (r, out)) (SoIn s (h ∷ hs)) (λ out so. (0, omega arith, so)) (outs_to r v.outs) (outs_so r v.state v.outs (verdict_so s confs sound h)))
+      (all_weaker (λ out. OutIsTrue v.state (r, out)) (SoIn s (h ∷ hs)) (λ out so. (0, omega arith, so)) (outs_to r v.outs) (outs_so r v.state v.outs (verdict_is_true s confs sound h)))
       (all_weaker (SoIn v.state hs) (SoIn s (h ∷ hs))
-      (λ out t. (let lt = t.1 in (suc t.0, omega (arith, lt), subst (λ m. IsSo (run s confs (take m (h ∷ hs))) (r, out)) (let e : suc (t.0 + 1) ≡ suc t.0 + 1 = omega arith in e) t.2)))
+      (λ out t. (let lt = t.1 in (suc t.0, omega (arith, lt), subst (λ m. OutIsTrue (run s confs (take m (h ∷ hs))) (r, out)) (let e : suc (t.0 + 1) ≡ suc t.0 + 1 = omega arith in e) t.2)))
       (outs_run r v.state confs hs) (run_so hs v.state fit.1 after_one))
 
 module _ (j : History) (r : Recipient) (history : IsHistory j) where
   abbrev IsTrueOf : Out → Type 0
-  IsTrueOf out = Contains (j.owed r) out ⊎ WasSo j r out
+  IsTrueOf out = Contains (j.owed r) out ⊎ OutWasTrue j r out
 
   abbrev durable : List Happening
   durable = take j.durable j.happened
@@ -136,14 +136,14 @@ module _ (j : History) (r : Recipient) (history : IsHistory j) where
   owed_in all [] within = tt
   owed_in all (out ∷ rest) within = (within out (0, omega arith, refl), owed_in all rest (λ o has. within o (suc has.0, (let lt = has.1 in omega (arith, lt)), has.2)))
 
-  so_of : (out : Out) → SoIn j.confs r j.first durable out → WasSo j r out
+  so_of : (out : Out) → SoIn j.confs r j.first durable out → OutWasTrue j r out
   so_of out t =
       let many = length-take-le j.durable j.happened history.durable in
       let lt = t.1 in
       record {
         place = t.0;
         durable = omega (arith, lt, many);
-        so = subst (λ hs. IsSo (run j.first j.confs hs) (r, out)) (take-take (t.0 + 1) j.durable j.happened (omega (arith, lt, many))) t.2;
+        so = subst (λ hs. OutIsTrue (run j.first j.confs hs) (r, out)) (take-take (t.0 + 1) j.durable j.happened (omega (arith, lt, many))) t.2;
       }
 
   pub told_so : AllByRecursion IsTrueOf (j.given r)
@@ -167,13 +167,13 @@ module _ (es : List Happening) (m : LastHeard) (g : Recipient → List Out) (ans
     lasts_at : (fact : Fact) → Holds fact (after old n) → Lasts new image keeps.front n fact
     lasts_at fact so = lasts es m g answers old new goes image n fact history keeps le so
 
-    body_lasts : (a : Addr) (body : ReplyBody) → IsSaidSo (after old n) b a body → BodyLasts new image keeps.front n b a body
+    body_lasts : (a : Addr) (body : ReplyBody) → BodyIsTrue (after old n) b a body → BodyLasts new image keeps.front n b a body
     body_lasts a (Auth algorithm transaction status) so = λ success. lasts_at (HasRow b a) (so success)
     body_lasts a (Assoc response) so = λ success. some_weaker response.aid _ _ (λ aid. lasts_at (HasAid b a aid.number)) (so success)
     body_lasts a (Reassoc response) so = λ success. some_weaker response.aid _ _ (λ aid. lasts_at (HasAid b a aid.number)) (so success)
     body_lasts a body so = tt
 
-    out_lasts : (out : Out) → IsSo (after old n) (Radio b, out) → OutLasts new image keeps.front n b out
+    out_lasts : (out : Out) → OutIsTrue (after old n) (Radio b, out) → OutLasts new image keeps.front n b out
     out_lasts (Install a aid) so = lasts_at (HasAid b a aid.number) so
     out_lasts (Frame bytes) so = (so.0, so.1, so.2, body_lasts so.0.to so.0.body so.3)
     out_lasts out so = tt

@@ -8,9 +8,9 @@ use Rattle.apd_frame.specs.declared.ignored.Ignored.{Ignored}
 use Rattle.apd_frame.proofs.Senders.{sender_not_broadcast}
 use Rattle.apd_mlme.specs.laws.Broadcast.{AreFromStations, IsFromStation, NoBroadcastRow}
 use Rattle.apd_mlme.specs.Happening.{Heard, Kick, ListEdit, Expire, happening}
-use Rattle.apd_mlme.specs.laws.Outs.{AreSoToAll}
+use Rattle.apd_mlme.specs.laws.Outs.{OutsAreTrueForAll}
 use Rattle.apd_mlme.proofs.AdmissionLemmas.{run_broadcast}
-use Rattle.apd_mlme.proofs.TrueOutsLemmas.{verdict_so_to_all}
+use Rattle.apd_mlme.proofs.TrueOutsLemmas.{verdict_is_true_for_all}
 use Rattle.apd_mlme.proofs.VerdictLemmas.{run_sound}
 use Rattle.apd_core.specs.Requests.{expiry, order_happening, frame_happening}
 use Rattle.apd_core.specs.declared.input.Input.TheVariants as input
@@ -139,5 +139,5 @@ module _ {D R : Type 0} (radio : RadioModel R) (step : Step) (told : Told) (old 
   sound_then sound = subst Sound (sym made.durable.goes.front) (run_sound before.confs happened (front_of before) made.durable.goes.fit sound)
 
 pub so_to_all : (s : CoreState) (m : Moment) (i : Input) (h : Happening) → Sound (front_of s) → NoBroadcastRow (front_of s) → happening_of s.confs s.heard m i ≡ Ok h
-    → AreSoToAll (verdict (front_of s) s.confs h).state (verdict (front_of s) s.confs h).outs
-so_to_all s m i h sound none is = verdict_so_to_all (front_of s) s.confs sound h (record { rows = none; sender = from_station s.confs s.heard m i h is })
+    → OutsAreTrueForAll (verdict (front_of s) s.confs h).state (verdict (front_of s) s.confs h).outs
+so_to_all s m i h sound none is = verdict_is_true_for_all (front_of s) s.confs sound h (record { rows = none; sender = from_station s.confs s.heard m i h is })

@@ -14,16 +14,16 @@ use Rattle.apd_mlme.specs.Happening.{ListEdit}
 use Rattle.apd_mlme.specs.declared.command_answer.Answer.TheVariants.{Done}
 use Rattle.apd_mlme.specs.declared.decision.Out.TheVariants.{Install, Frame}
 use Rattle.apd_mlme.specs.declared.event.Edit.{Edit}
-use Rattle.apd_mlme.specs.laws.Outs.{IsSo}
+use Rattle.apd_mlme.specs.laws.Outs.{OutIsTrue}
 use Rattle.apd_mlme.specs.rules.Commands.{text}
 use Rattle.apd_world.specs.Words.{Addr, Bssid, Out, Recipient, Shows, State, aid_at, verdict}
 use Rattle.apd_world.specs.History.{History, after}
 
 -- what an out says is so after one of the durable happenings
-pub record WasSo (h : History) (r : Recipient) (out : Out) : Type 0 where
+pub record OutWasTrue (h : History) (r : Recipient) (out : Out) : Type 0 where
   pub place : ℕ
   pub durable : place < h.durable
-  pub so : IsSo (after h (place + 1)) (r, out)
+  pub so : OutIsTrue (after h (place + 1)) (r, out)
 
 -- a control command that edits a list is one of the durable happenings, and was answered OK
 pub record WasEdited (h : History) (place : ℕ) (b : Bssid) (w : Which) (edit : Edit) : Type 0 where

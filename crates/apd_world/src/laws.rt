@@ -15,7 +15,7 @@ ghost use Rattle.apd_mlme.specs.declared.decision.Recipient.TheVariants.{Radio a
 ghost use Rattle.apd_mlme.specs.declared.event.Edit.{Edit};
 ghost use Rattle.apd_mlme.specs.laws.Broadcast.{IsFromStation, NoBroadcastRow};
 ghost use Rattle.apd_mlme.specs.laws.Command.{IsOnAfter};
-ghost use Rattle.apd_mlme.specs.laws.Outs.{AreSoToAll};
+ghost use Rattle.apd_mlme.specs.laws.Outs.{OutsAreTrueForAll};
 ghost use Rattle.apd_store.specs.Image.{Shows};
 ghost use Rattle.apd_table.specs.Sound.{Sound};
 ghost use Rattle.apd_core.specs.Core.{CoreState, front_of};
@@ -27,7 +27,7 @@ ghost use Rattle.apd_steps.specs.Calls.{exactly};
 ghost use Rattle.apd_steps.specs.Run.{AreSteps, Step as WorkersStep};
 ghost use Rattle.apd_world.specs.CoreRun.{AreUnsettled};
 ghost use Rattle.apd_world.specs.History.{GoesOn, IsHistory, History, Keeps, after};
-ghost use Rattle.apd_world.specs.Lasting.{Fact, Holds, Lasts, OutLasts, WasEdited, WasSo};
+ghost use Rattle.apd_world.specs.Lasting.{Fact, Holds, Lasts, OutLasts, OutWasTrue, WasEdited};
 ghost use Rattle.apd_world.specs.Order.{KeepsOrder};
 ghost use Rattle.apd_world.specs.Outside.{device_of};
 ghost use Rattle.apd_world.specs.Proper.{IsProper, IsSafe};
@@ -59,7 +59,7 @@ pub fn what_leaves_is_so_of_everyone<D: Disk, R: Radio>()
         → AreSafelyMade D.model R.model steps tolds old new → Sound (front_of (durable_of old).core)
         → NoBroadcastRow (front_of (durable_of old).core)
         → happening_of (durable_of new).core.confs (durable_of new).core.heard m i ≡ Ok h
-        → AreSoToAll (verdict (front_of (durable_of new).core) (durable_of new).core.confs h).state
+        → OutsAreTrueForAll (verdict (front_of (durable_of new).core) (durable_of new).core.confs h).state
         (verdict (front_of (durable_of new).core) (durable_of new).core.confs h).outs }
 {}
 
@@ -125,7 +125,7 @@ pub fn a_stop_within_a_step_leaves_all_of_a_batch_or_none<D: Disk>()
 /// empty: what the first stop left lasts over a further one by `lasting`, after none.
 pub fn what_was_said_is_so_in_what_is_kept()
     ensures said { (h : History) (r : Recipient) → IsHistory h
-        → AllByRecursion (λ out. Contains (h.owed r) out ⊎ WasSo h r out) (h.given r) }
+        → AllByRecursion (λ out. Contains (h.owed r) out ⊎ OutWasTrue h r out) (h.given r) }
     ensures sound { (old new : History) (image : List ℕ) → Keeps old new image
         → (s : State) × Shows image s × Sound s }
     ensures lasting { (hs : List Happening) (heard : LastHeard) (given : Recipient → List Out) (read : List Answer)

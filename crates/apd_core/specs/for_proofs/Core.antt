@@ -1,7 +1,7 @@
 -- A core's fields, as callers see them, and what they keep.
 use Rattle.std.specs.Prelude.{◌≡◌, ◌≤◌, List, length, take, map}
 use Rattle.std.specs.List.{AllByRecursion}
-use Rattle.apd_mlme.specs.declared.decision.TheConstants.{MAX_RECORDS}
+use Rattle.apd_mlme.specs.declared.decision.TheConstants.{MAX_RECORD_BYTES}
 use Rattle.apd_record.specs.Ranges.{AreChanges}
 use Rattle.apd_record.specs.Record.{records_of}
 use Rattle.apd_record.specs.declared.change.Change.{Change}
@@ -31,7 +31,7 @@ core_of c =
 pub record IsMeasured (entry : Entry) : Type 0 where
   pub changes_are : AreChanges entry.changes
   pub length_is : entry.length ≡ length (records_of entry.changes)
-  pub short : entry.length ≤ MAX_RECORDS
+  pub short : entry.length ≤ MAX_RECORD_BYTES
 
 pub record IsKept (c : Inside) : Type 0 where
   pub core : IsCore (core_of c)

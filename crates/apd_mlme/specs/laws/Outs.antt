@@ -20,58 +20,58 @@ use Rattle.apd_mlme.specs.declared.decision.Out.TheVariants.{Install, Remove, Fr
 use Rattle.apd_mlme.specs.laws.AssociationEnd.{IsMeant}
 
 -- success says that the station is associated, with the identifier that the response carries
-abbrev pub IsAssociatedSo : State → Bssid → Addr → AssociationResponse → Type 0
-IsAssociatedSo s b a response = response.status ≡ Success
+abbrev pub AssociationIsTrue : State → Bssid → Addr → AssociationResponse → Type 0
+AssociationIsTrue s b a response = response.status ≡ Success
     → IsSomeAnd response.aid (λ aid. aid_at s b a ≡ Some aid.number)
 
 -- what a frame's body says of the station that it is for
-abbrev pub IsSaidSo : State → Bssid → Addr → ReplyBody → Type 0
+abbrev pub BodyIsTrue : State → Bssid → Addr → ReplyBody → Type 0
 -- success says that the station has a row
-IsSaidSo s b a (Auth algorithm transaction status) = status ≡ Success → IsSome (station_at s b a)
-IsSaidSo s b a (Assoc response) = IsAssociatedSo s b a response
-IsSaidSo s b a (Reassoc response) = IsAssociatedSo s b a response
+BodyIsTrue s b a (Auth algorithm transaction status) = status ≡ Success → IsSome (station_at s b a)
+BodyIsTrue s b a (Assoc response) = AssociationIsTrue s b a response
+BodyIsTrue s b a (Reassoc response) = AssociationIsTrue s b a response
 -- nothing
-IsSaidSo s b a (Probe beacon_interval ssid rates channel) = Unit {0}
+BodyIsTrue s b a (Probe beacon_interval ssid rates channel) = Unit {0}
 -- that it is not associated
-IsSaidSo s b a (Disassoc reason) = aid_at s b a ≡ None
+BodyIsTrue s b a (Disassoc reason) = aid_at s b a ≡ None
 -- that it has no row
-IsSaidSo s b a (Deauth reason) = station_at s b a ≡ None
+BodyIsTrue s b a (Deauth reason) = station_at s b a ≡ None
 
-abbrev pub IsSo : State → Recipient × Out → Type 0
-IsSo s (Radio b, Install a aid) = aid_at s b a ≡ Some aid.number
-IsSo s (Radio b, Remove a) = aid_at s b a ≡ None
-IsSo s (Radio b, Frame bytes) = (reply : Reply) × (reply.bssid ≡ b) × (bytes ≡ wire reply)
-    × IsSaidSo s b reply.to reply.body
+abbrev pub OutIsTrue : State → Recipient × Out → Type 0
+OutIsTrue s (Radio b, Install a aid) = aid_at s b a ≡ Some aid.number
+OutIsTrue s (Radio b, Remove a) = aid_at s b a ≡ None
+OutIsTrue s (Radio b, Frame bytes) = (reply : Reply) × (reply.bssid ≡ b) × (bytes ≡ wire reply)
+    × BodyIsTrue s b reply.to reply.body
 -- a radio has no command to answer, and whoever gave one has no driver
-IsSo s (Radio b, Text tag bytes) = ⊥
-IsSo s (Control, Install a aid) = ⊥
-IsSo s (Control, Remove a) = ⊥
-IsSo s (Control, Frame bytes) = ⊥
+OutIsTrue s (Radio b, Text tag bytes) = ⊥
+OutIsTrue s (Control, Install a aid) = ⊥
+OutIsTrue s (Control, Remove a) = ⊥
+OutIsTrue s (Control, Frame bytes) = ⊥
 -- what an answer says is a law of its own
-IsSo s (Control, Text tag bytes) = Unit {0}
+OutIsTrue s (Control, Text tag bytes) = Unit {0}
 
-abbrev pub AreSo : State → List (Recipient × Out) → Type 0
-AreSo s outs = AllByRecursion (IsSo s) outs
+abbrev pub OutsAreTrue : State → List (Recipient × Out) → Type 0
+OutsAreTrue s outs = AllByRecursion (OutIsTrue s) outs
 
 -- the same of everyone whom a frame is meant for: one to the broadcast address is meant for every station (9.2.4.3.3)
-abbrev pub IsSoToAll : State → Recipient × Out → Type 0
-IsSoToAll s (Radio b, Frame bytes) =
+abbrev pub OutIsTrueForAll : State → Recipient × Out → Type 0
+OutIsTrueForAll s (Radio b, Frame bytes) =
     (reply : Reply) × (reply.bssid ≡ b) × (bytes ≡ wire reply)
-    × ((a : Addr) → IsMeant reply.to a → IsSaidSo s b a reply.body)
+    × ((a : Addr) → IsMeant reply.to a → BodyIsTrue s b a reply.body)
 -- nothing else is a frame
-IsSoToAll s (Radio b, Install a aid) = Unit {0}
-IsSoToAll s (Radio b, Remove a) = Unit {0}
-IsSoToAll s (Radio b, Text tag bytes) = Unit {0}
-IsSoToAll s (Control, out) = Unit {0}
+OutIsTrueForAll s (Radio b, Install a aid) = Unit {0}
+OutIsTrueForAll s (Radio b, Remove a) = Unit {0}
+OutIsTrueForAll s (Radio b, Text tag bytes) = Unit {0}
+OutIsTrueForAll s (Control, out) = Unit {0}
 
-abbrev pub AreSoToAll : State → List (Recipient × Out) → Type 0
-AreSoToAll s outs = AllByRecursion (IsSoToAll s) outs
+abbrev pub OutsAreTrueForAll : State → List (Recipient × Out) → Type 0
+OutsAreTrueForAll s outs = AllByRecursion (OutIsTrueForAll s) outs
 
 -- to a radio that is there: the one of a configured BSSID
-abbrev pub IsThere : List Conf → Recipient × Out → Type 0
-IsThere confs (Radio b, out) = IsSome (conf_at confs b)
+abbrev pub RecipientIsThere : List Conf → Recipient × Out → Type 0
+RecipientIsThere confs (Radio b, out) = IsSome (conf_at confs b)
 -- whoever gave a command is there
-IsThere confs (Control, out) = Unit {0}
+RecipientIsThere confs (Control, out) = Unit {0}
 
-abbrev pub AreThere : List Conf → List (Recipient × Out) → Type 0
-AreThere confs outs = AllByRecursion (IsThere confs) outs
+abbrev pub RecipientsAreThere : List Conf → List (Recipient × Out) → Type 0
+RecipientsAreThere confs outs = AllByRecursion (RecipientIsThere confs) outs

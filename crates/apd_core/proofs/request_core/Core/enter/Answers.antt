@@ -1,6 +1,6 @@
 use Rattle.std.proofs.Common.{◌≡◌, ◌+◌, ◌-◌, ◌^◌, ◌<◌, ◌++◌, ◌∷◌, [], List, Err, false, length, refl, sym, ap, subst, ◌∙◌}
 use Rattle.std.specs.Prelude.{min}
-use Rattle.apd_core.proofs.Words.{AreChanges, AreMomentsOf, AreThere, Change, CoreState, Entry, IsFit, State, StaySound, front_of, happening, heard_by_changes, is_busy, last_of, meaning_of, records_of, verdict, verdict_there, with_outs}
+use Rattle.apd_core.proofs.Words.{AreChanges, AreMomentsOf, Change, CoreState, Entry, IsFit, RecipientsAreThere, State, StaySound, front_of, happening, heard_by_changes, is_busy, last_of, meaning_of, records_of, verdict, verdict_there, with_outs}
 use Rattle.apd_core.proofs.Kept.{entered_kept, front_moments, last_there, measured_entry, refused_kept, refused_view}
 use Rattle.apd_core.proofs.request_core.Core.enter.Goals as goal
 
@@ -8,8 +8,8 @@ pub keep-requires-clause-there : goal.keep-requires-clause-there
 keep-requires-clause-there c =
     let s = c.args.self.now in
     let h = happening c.args.event in
-    subst (λ (t : CoreState). AreThere t.confs c.args.decision.outs) (sym c.self.view_is)
-    (subst (AreThere s.confs) (sym c.requires.outs) (verdict_there (front_of s) s.confs h))
+    subst (λ (t : CoreState). RecipientsAreThere t.confs c.args.decision.outs) (sym c.self.view_is)
+    (subst (RecipientsAreThere s.confs) (sym c.requires.outs) (verdict_there (front_of s) s.confs h))
 
 pub unreachable-requires : goal.unreachable-requires
 unreachable-requires c =
