@@ -3,7 +3,7 @@ use Rattle.std.proofs.Common.{◌≡◌, ◌≤◌, ◌+◌, ◌⊎◌, inl, inr
 use Rattle.std.proofs.lemmas.List.{append-nil, take_all, take-append-le, length_push}
 use Rattle.std.proofs.lemmas.Bool.{and_parts, and_from, le-leb, cases_lt}
 use Rattle.apd_disk.specs.Disk.{with_bytes, TornWithin, Elapses}
-use Rattle.apd_disk.specs.Mem.{reads_after, all_fit, Leaves, LeftAfter, LeftBetween, TornFrom, HasMore}
+use Rattle.apd_disk.specs.Mem.{reads_after, all_fit, Leaves, LeftAfter, LeftBetween, TornFrom, CallsGoOn}
 use Rattle.apd_disk.specs.for_proofs.MemLaws.{reads_left, only_last}
 use Rattle.apd_disk.specs.declared.call.Call.{Call}
 use Rattle.apd_disk.specs.declared.call.Call.TheVariants.{Read, Write, Sync}
@@ -104,11 +104,11 @@ module _ (initial : List ℕ) (calls after : List Call) (call : Call) (is : afte
 
 -- one call more, or none
 module _ (initial : List ℕ) (calls after : List Call) where
-  pub has_pushed : (call : Call) → after ≡ calls ++ call ∷ [] → HasMore initial calls initial after
-  has_pushed call is = record { same = refl; since = call ∷ []; all = is }
+  pub goes_on_by_one : (call : Call) → after ≡ calls ++ call ∷ [] → CallsGoOn initial calls initial after
+  goes_on_by_one call is = record { same = refl; since = call ∷ []; all = is }
 
-  pub has_none : after ≡ calls → HasMore initial calls initial after
-  has_none is = record { same = refl; since = []; all = is ∙ sym (append-nil calls) }
+  pub goes_on_by_none : after ≡ calls → CallsGoOn initial calls initial after
+  goes_on_by_none is = record { same = refl; since = []; all = is ∙ sym (append-nil calls) }
 
 torn_same : (at n : ℕ) (c : List ℕ) → TornWithin at n c c
 torn_same at n c = record { before = refl; after = refl; same_length = refl }

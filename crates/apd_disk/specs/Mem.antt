@@ -40,7 +40,8 @@ abbrev pub LeftBetween : List ℕ → List Call → ℕ → List ℕ → Type 0
 LeftBetween initial calls t c = (k : ℕ) × (t ≤ k) × (k ≤ length calls) × LeftAfter initial (take k calls) c
 
 -- the same first image, and the same calls with others behind them
-pub record HasMore (initial : List ℕ) (calls : List Call) (initial_now : List ℕ) (calls_now : List Call) : Type 0 where
+pub record CallsGoOn (initial : List ℕ) (calls : List Call) (initial_now : List ℕ) (calls_now : List Call)
+    : Type 0 where
   pub same : initial_now ≡ initial
   pub since : List Call
   pub all : calls_now ≡ calls ++ since

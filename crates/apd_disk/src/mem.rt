@@ -1,8 +1,8 @@
 //! A disk in memory, which keeps what it held at first and each call that it has served.
 ghost use Rattle.std.specs.Prelude.{◌≡◌, ◌≤◌, ◌+◌, ◌↔◌, ◌++◌, ◌∷◌, [], ℕ, List, length, take, drop, replicate, IsTrue, OnErr, OnOk, IfOk};
 ghost use Rattle.apd_disk.specs.Disk.{with_bytes, TornWithin, Only, Within, Follows, Elapses, Counts};
-ghost use Rattle.apd_disk.specs.Mem.{reads_after, all_fit, LeftAfter, LeftBetween, HasMore, IsCrashImage, EndsWithTheLastSync, torn_write, torn_writes};
-ghost use Rattle.apd_disk.specs.for_proofs.MemLaws.{has_same, has_more, reads_left, now_left, only_last, earlier_left, left_length};
+ghost use Rattle.apd_disk.specs.Mem.{reads_after, all_fit, LeftAfter, LeftBetween, CallsGoOn, IsCrashImage, EndsWithTheLastSync, torn_write, torn_writes};
+ghost use Rattle.apd_disk.specs.for_proofs.MemLaws.{calls_stay, calls_go_further, reads_left, now_left, only_last, earlier_left, left_length};
 ghost use Rattle.apd_disk.specs.declared.call.Call.TheVariants.{Read, Write, Sync};
 
 use crate::fault::fail;
@@ -185,10 +185,10 @@ impl Disk for MemDisk {
       left_since = λ d. LeftBetween d.initial.items d.calls.items;
       size = λ d. length d.bytes.items;
       failed = λ d. d.failures;
-      goes_on = λ d e. HasMore d.initial.items d.calls.items e.initial.items e.calls.items;
-      stays = λ d. has_same d.initial.items d.calls.items;
-      goes_further = λ d e f. has_more d.initial.items d.calls.items e.initial.items e.calls.items f.initial.items
-          f.calls.items;
+      goes_on = λ d e. CallsGoOn d.initial.items d.calls.items e.initial.items e.calls.items;
+      stays = λ d. calls_stay d.initial.items d.calls.items;
+      goes_further = λ d e f. calls_go_further d.initial.items d.calls.items e.initial.items e.calls.items
+          f.initial.items f.calls.items;
     } };
 
     ghost reads_may_be_left = { λ d h. reads_left d.initial.items d.calls.items d.bytes.items d.stands d.fit };
@@ -215,7 +215,7 @@ impl Disk for MemDisk {
         ensures recorded { OnOk result (self.new.calls.items ≡ self.old.calls.items ++ Read at (length buf.old) ∷ []) }
         ensures unrecorded { OnErr result (self.new.calls.items ≡ self.old.calls.items) }
         ensures initial { self.new.initial.items ≡ self.old.initial.items }
-        ensures goes_on { HasMore self.old.initial.items self.old.calls.items self.new.initial.items
+        ensures goes_on { CallsGoOn self.old.initial.items self.old.calls.items self.new.initial.items
             self.new.calls.items }
         ensures kept { self.new.bytes.items ≡ self.old.bytes.items }
         ensures bytes { OnOk result (buf.new ≡ take (length buf.old) (drop at self.old.bytes.items)) }
@@ -243,7 +243,7 @@ impl Disk for MemDisk {
         ensures recorded { OnOk result (self.new.calls.items ≡ self.old.calls.items ++ Write at bytes.now ∷ []) }
         ensures unrecorded { OnErr result (self.new.calls.items ≡ self.old.calls.items) }
         ensures initial { self.new.initial.items ≡ self.old.initial.items }
-        ensures goes_on { HasMore self.old.initial.items self.old.calls.items self.new.initial.items
+        ensures goes_on { CallsGoOn self.old.initial.items self.old.calls.items self.new.initial.items
             self.new.calls.items }
         ensures written { OnOk result (self.new.bytes.items ≡ with_bytes self.old.bytes.items at bytes.now) }
         ensures unwritten { OnErr result (self.new.bytes.items ≡ self.old.bytes.items) }
@@ -268,7 +268,7 @@ impl Disk for MemDisk {
         ensures recorded { OnOk result (self.new.calls.items ≡ self.old.calls.items ++ Sync ∷ []) }
         ensures unrecorded { OnErr result (self.new.calls.items ≡ self.old.calls.items) }
         ensures initial { self.new.initial.items ≡ self.old.initial.items }
-        ensures goes_on { HasMore self.old.initial.items self.old.calls.items self.new.initial.items
+        ensures goes_on { CallsGoOn self.old.initial.items self.old.calls.items self.new.initial.items
             self.new.calls.items }
         ensures kept { self.new.bytes.items ≡ self.old.bytes.items }
         ensures durable { OnOk result

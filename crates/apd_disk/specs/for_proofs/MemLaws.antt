@@ -3,16 +3,16 @@ use Rattle.std.proofs.Common.{◌≡◌, ◌≤◌, ◌+◌, zero, suc, ℕ, nat
 use Rattle.std.proofs.lemmas.List.{append-nil, take_at, drop_at, take_all, append_assoc, length-take-le}
 use Rattle.std.proofs.lemmas.Bool.{and_parts, and_from, leb-true}
 use Rattle.apd_disk.specs.Disk.{with_bytes, TornWithin}
-use Rattle.apd_disk.specs.Mem.{reads_after, all_fit, TornFrom, Leaves, LeftAfter, LeftBetween, HasMore}
+use Rattle.apd_disk.specs.Mem.{reads_after, all_fit, TornFrom, Leaves, LeftAfter, LeftBetween, CallsGoOn}
 use Rattle.apd_disk.specs.declared.call.Call.{Call}
 use Rattle.apd_disk.specs.declared.call.Call.TheVariants.{Read, Write, Sync}
 
-pub has_same : (initial : List ℕ) (calls : List Call) → HasMore initial calls initial calls
-has_same initial calls = record { same = refl; since = []; all = sym (append-nil calls) }
+pub calls_stay : (initial : List ℕ) (calls : List Call) → CallsGoOn initial calls initial calls
+calls_stay initial calls = record { same = refl; since = []; all = sym (append-nil calls) }
 
-pub has_more : (a : List ℕ) (x : List Call) (b : List ℕ) (y : List Call) (c : List ℕ) (z : List Call)
-    → HasMore a x b y → HasMore b y c z → HasMore a x c z
-has_more a x b y c z first next = record {
+pub calls_go_further : (a : List ℕ) (x : List Call) (b : List ℕ) (y : List Call) (c : List ℕ) (z : List Call)
+    → CallsGoOn a x b y → CallsGoOn b y c z → CallsGoOn a x c z
+calls_go_further a x b y c z first next = record {
   same = next.same ∙ first.same;
   since = first.since ++ next.since;
   all = next.all ∙ ap (λ (calls : List Call). calls ++ next.since) first.all ∙ append_assoc x first.since next.since;

@@ -1,5 +1,5 @@
 use Rattle.std.proofs.Common.{length}
-use Rattle.apd_disk.proofs.Calls.{elapses_push, has_pushed, has_none, read_stands, read_fits, read_stop}
+use Rattle.apd_disk.proofs.Calls.{elapses_push, goes_on_by_one, goes_on_by_none, read_stands, read_fits, read_stop}
 use Rattle.apd_disk.proofs.mem.MemDiskDisk.read_at.Goals as goal
 use Rattle.apd_disk.specs.declared.call.Call.TheVariants.{Read}
 
@@ -24,9 +24,9 @@ returns-in-Ok-clause-time c =
 pub returns-in-Ok-clause-goes_on : goal.returns-in-Ok-clause-goes_on
 returns-in-Ok-clause-goes_on c =
     let d = c.args.self.now in
-    has_pushed d.initial.items d.calls.items c.record.new.calls.items (Read c.args.at (length c.args.buf.now)) c.in-Ok.ensures.ok
+    goes_on_by_one d.initial.items d.calls.items c.record.new.calls.items (Read c.args.at (length c.args.buf.now)) c.in-Ok.ensures.ok
 
 pub returns-in-Err-clause-goes_on : goal.returns-in-Err-clause-goes_on
 returns-in-Err-clause-goes_on c =
     let d = c.args.self.now in
-    has_none d.initial.items d.calls.items c.record.new.calls.items c.in-Err.ensures.err
+    goes_on_by_none d.initial.items d.calls.items c.record.new.calls.items c.in-Err.ensures.err

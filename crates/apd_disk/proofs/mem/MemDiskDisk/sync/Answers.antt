@@ -1,4 +1,4 @@
-use Rattle.apd_disk.proofs.Calls.{elapses_push, has_pushed, has_none, sync_stands, sync_fits, sync_only, sync_stop}
+use Rattle.apd_disk.proofs.Calls.{elapses_push, goes_on_by_one, goes_on_by_none, sync_stands, sync_fits, sync_only, sync_stop}
 use Rattle.apd_disk.proofs.mem.MemDiskDisk.sync.Goals as goal
 use Rattle.apd_disk.specs.declared.call.Call.TheVariants.{Sync}
 
@@ -28,9 +28,9 @@ returns-in-Ok-clause-time c =
 pub returns-in-Ok-clause-goes_on : goal.returns-in-Ok-clause-goes_on
 returns-in-Ok-clause-goes_on c =
     let d = c.args.self.now in
-    has_pushed d.initial.items d.calls.items c.record.new.calls.items Sync c.in-Ok.ensures.ok
+    goes_on_by_one d.initial.items d.calls.items c.record.new.calls.items Sync c.in-Ok.ensures.ok
 
 pub returns-in-Err-clause-goes_on : goal.returns-in-Err-clause-goes_on
 returns-in-Err-clause-goes_on c =
     let d = c.args.self.now in
-    has_none d.initial.items d.calls.items c.record.new.calls.items c.in-Err.ensures.err
+    goes_on_by_none d.initial.items d.calls.items c.record.new.calls.items c.in-Err.ensures.err

@@ -1,6 +1,6 @@
 use Rattle.std.proofs.Common.{◌∙◌, arith}
 use Rattle.apd_disk.specs.for_proofs.MemLaws.{length-reads}
-use Rattle.apd_disk.proofs.Calls.{elapses_push, has_pushed, has_none, write_stands, write_fits, write_stop}
+use Rattle.apd_disk.proofs.Calls.{elapses_push, goes_on_by_one, goes_on_by_none, write_stands, write_fits, write_stop}
 use Rattle.apd_disk.proofs.mem.MemDiskDisk.write_at.Goals as goal
 use Rattle.apd_disk.specs.declared.call.Call.TheVariants.{Write}
 
@@ -25,9 +25,9 @@ returns-in-Ok-clause-time c =
 pub returns-in-Ok-clause-goes_on : goal.returns-in-Ok-clause-goes_on
 returns-in-Ok-clause-goes_on c =
     let d = c.args.self.now in
-    has_pushed d.initial.items d.calls.items c.record_write.new.calls.items (Write c.args.at c.args.bytes.now) c.in-Ok.ensures.ok
+    goes_on_by_one d.initial.items d.calls.items c.record_write.new.calls.items (Write c.args.at c.args.bytes.now) c.in-Ok.ensures.ok
 
 pub returns-in-Err-clause-goes_on : goal.returns-in-Err-clause-goes_on
 returns-in-Err-clause-goes_on c =
     let d = c.args.self.now in
-    has_none d.initial.items d.calls.items c.record_write.new.calls.items c.in-Err.ensures.err
+    goes_on_by_none d.initial.items d.calls.items c.record_write.new.calls.items c.in-Err.ensures.err
