@@ -73,7 +73,7 @@ impl<W: Write + Drop> Log<W> {
         }
     }
 
-    pub fn receive(&mut self, frame: &[u8])
+    pub fn write_received(&mut self, frame: &[u8])
         ensures { Records self.old.ended (W.contents self.old.writer) (calls.Received frame.now) self.new.ended
             (W.contents self.new.writer) }
     {
@@ -82,7 +82,7 @@ impl<W: Write + Drop> Log<W> {
         }
     }
 
-    pub fn install(&mut self, addr: Addr, aid: u16)
+    pub fn write_installed(&mut self, addr: Addr, aid: u16)
         ensures { Records self.old.ended (W.contents self.old.writer) (calls.Installed addr aid) self.new.ended
             (W.contents self.new.writer) }
     {
@@ -91,7 +91,7 @@ impl<W: Write + Drop> Log<W> {
         }
     }
 
-    pub fn remove(&mut self, addr: Addr)
+    pub fn write_removed(&mut self, addr: Addr)
         ensures { Records self.old.ended (W.contents self.old.writer) (calls.Removed addr) self.new.ended
             (W.contents self.new.writer) }
     {
@@ -100,7 +100,7 @@ impl<W: Write + Drop> Log<W> {
         }
     }
 
-    pub fn transmit(&mut self, frame: &[u8])
+    pub fn write_sent(&mut self, frame: &[u8])
         ensures { Records self.old.ended (W.contents self.old.writer) (calls.Sent frame.now) self.new.ended
             (W.contents self.new.writer) }
     {
@@ -109,7 +109,7 @@ impl<W: Write + Drop> Log<W> {
         }
     }
 
-    pub fn take_down(&mut self)
+    pub fn write_down(&mut self)
         ensures { Records self.old.ended (W.contents self.old.writer) (calls.Down) self.new.ended
             (W.contents self.new.writer) }
     {

@@ -40,7 +40,7 @@ impl<R: Radio, W: Write + Drop> Drop for Recording<R, W> {
     fn drop(self) {
         let Recording { mut inner, mut log } = self;
         inner.take_down();
-        log.take_down();
+        log.write_down();
     }
 }
 
@@ -69,7 +69,7 @@ impl<R: Radio, W: Write + Drop> Radio for Recording<R, W> {
     {
         let got = self.inner.poll()?;
         if let Some(frame) = &got {
-            self.log.receive(frame);
+            self.log.write_received(frame);
         }
         Ok(got)
     }
@@ -93,7 +93,7 @@ impl<R: Radio, W: Write + Drop> Radio for Recording<R, W> {
         ensures failed { OnErr result (self.new.log ≡ self.old.log) }
     {
         self.inner.install(addr, aid)?;
-        self.log.install(addr, aid);
+        self.log.write_installed(addr, aid);
         Ok(())
     }
 
@@ -112,7 +112,7 @@ impl<R: Radio, W: Write + Drop> Radio for Recording<R, W> {
         ensures failed { OnErr result (self.new.log ≡ self.old.log) }
     {
         self.inner.remove(addr)?;
-        self.log.remove(addr);
+        self.log.write_removed(addr);
         Ok(())
     }
 
@@ -131,7 +131,7 @@ impl<R: Radio, W: Write + Drop> Radio for Recording<R, W> {
         ensures failed { OnErr result (self.new.log ≡ self.old.log) }
     {
         self.inner.transmit(frame)?;
-        self.log.transmit(frame);
+        self.log.write_sent(frame);
         Ok(())
     }
 
@@ -144,7 +144,7 @@ impl<R: Radio, W: Write + Drop> Radio for Recording<R, W> {
             (W.contents self.new.log.writer) }
     {
         self.inner.take_down();
-        self.log.take_down();
+        self.log.write_down();
     }
 
     fn installed(&self, addr: Addr) -> Option<u16> {
