@@ -88,12 +88,12 @@ fn four_turns<D: Disk>(rt: &impl Abort, committer: &mut Committer<D>) {
 
 /// The number of the batch whose receipt is given.
 fn receipt<D: Disk>(committer: &mut Committer<D>) -> Option<u64> {
-    Some(committer.receipt()?.batch().first)
+    Some(committer.take_receipt()?.batch().first)
 }
 
 /// The number of the batch whose receipt is given. It is taken back.
 fn receipt_taken_back<D: Disk>(committer: &mut Committer<D>) -> Option<u64> {
-    let receipt = committer.receipt()?;
+    let receipt = committer.take_receipt()?;
     let number = receipt.batch().first;
     committer.take_back(receipt);
     Some(number)

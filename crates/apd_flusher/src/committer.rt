@@ -113,7 +113,7 @@ impl<D: Disk> Committer<D> {
 
     /// The receipt that waits, or else the one that the flusher gives. The core is to settle its batch, or the receipt
     /// is to be taken back.
-    pub fn receipt(&mut self) -> Option<Receipt>
+    pub fn take_receipt(&mut self) -> Option<Receipt>
         ensures given { IfSome result (λ receipt. IsReceiptGiven receipt self.old self.new) }
         ensures none { IsNone result → HasNoReceipt self.old × (self.new ≡ self.old) }
         ensures device { flusher_device (flusher_of self.new) ≡ flusher_device (flusher_of self.old) }

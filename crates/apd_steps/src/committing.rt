@@ -66,7 +66,7 @@ pub fn publish<A: Settles, D: Disk>(
         × IsStep D.model A.made (Publish receipt result) core.old core.new committer.old committer.new }
 {
     committer.show_images();
-    let Some(receipt) = committer.receipt() else {
+    let Some(receipt) = committer.take_receipt() else {
         return None;
     };
     match core.publish(receipt) {

@@ -1,5 +1,5 @@
 use Rattle.apd_flusher.proofs.CommitterCalls.{unload_keeps}
-use Rattle.apd_flusher.proofs.committer.Committer.receipt.Goals as goal
+use Rattle.apd_flusher.proofs.committer.Committer.take_receipt.Goals as goal
 
 pub returns-in-None-clause-keeps : goal.returns-in-None-clause-keeps
 returns-in-None-clause-keeps g c =
