@@ -1,12 +1,12 @@
 -- What is due is the first silent row.
 use Rattle.std.proofs.Common.{◌≡◌, ◌≤◌, ℕ, ◌*◌, true, List, Option, Some, None, ◌↔◌, refl, sym, ap, subst, ◌∙◌}
-use Rattle.apd_core.proofs.Words.{Addr, Bssid, Conf, Equal, Greater, LastHeard, Less, Moment, conf_at, due_row, is_due, is_too_long, le-leb, leb-true, option_map, ordering_reverse, silence, station_cmp, station_exact, station_total}
+use Rattle.apd_core.proofs.Words.{Addr, Bssid, Conf, Equal, Greater, LastHeard, Less, Moment, conf_at, due_row, is_due, is_silent_too_long, le-leb, leb-true, option_map, ordering_reverse, silence, station_cmp, station_exact, station_total}
 use Rattle.std.specs.List.{find}
 use Rattle.std.specs.FinMap as maps
 use Rattle.apd_core.specs.Silent.{IsFirstSilent, IsSilent}
 use Rattle.apd_core.proofs.Found.{Row, found_entry, none_passes, none_before}
 
-of_configured : (o : Option Conf) (ms : ℕ) → is_too_long o ms ≡ true → (conf : Conf) × (o ≡ Some conf) × (conf.ap_max_inactivity * 1000 ≤ ms)
+of_configured : (o : Option Conf) (ms : ℕ) → is_silent_too_long o ms ≡ true → (conf : Conf) × (o ≡ Some conf) × (conf.ap_max_inactivity * 1000 ≤ ms)
 of_configured None ms h = cc
 of_configured (Some conf) ms h = (conf, refl, leb-true (conf.ap_max_inactivity * 1000) ms h)
 
@@ -21,7 +21,7 @@ module _ (confs : List Conf) (now : Moment) (heard : LastHeard) where
       record { last = last; heard_last = at; conf = limit.0; configured = limit.1; long = limit.2 }
 
   passes : (k : Bssid × Addr) → (silent : IsSilent confs now heard k) → is_due confs now (k, silent.last) ≡ true
-  passes k silent = ap (λ o. is_too_long o (silence now silent.last)) silent.configured ∙ le-leb (silent.conf.ap_max_inactivity * 1000) (silence now silent.last) silent.long
+  passes k silent = ap (λ o. is_silent_too_long o (silence now silent.last)) silent.configured ∙ le-leb (silent.conf.ap_max_inactivity * 1000) (silence now silent.last) silent.long
 
   entry : (k : Bssid × Addr) → (silent : IsSilent confs now heard k) → maps.find station_cmp k (maps.entries heard) ≡ Some silent.last
   entry k silent = sym (maps.get-entries heard k) ∙ silent.heard_last

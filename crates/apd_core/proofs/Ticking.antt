@@ -1,7 +1,7 @@
 -- The row that a tick takes.
 use Rattle.std.proofs.Common.{◌≡◌, ℕ, ◌+◌, Bool, true, false, cond, List, Option, Some, None, is_some, is_none, Ok, IsSome, refl, sym, ap, ◌∙◌}
 use Rattle.std.specs.List.{find}
-use Rattle.apd_core.proofs.Words.{Accepted, Addr, AreMomentsOf, Bssid, Busy, Conf, CoreState, Expire, Moment, Quiet, QuietReason, Sound, State, Station, Stopped, answer_at, answer_to, answer_to_fit, conf_at, due_row, expiry, front_of, is_busy, is_due, is_nothing, is_stopped, is_too_long, last_of, option_map, policy_at, silence, station_at, ticket, unfitness, verdict_under}
+use Rattle.apd_core.proofs.Words.{Accepted, Addr, AreMomentsOf, Bssid, Busy, Conf, CoreState, Expire, Moment, Quiet, QuietReason, Sound, State, Station, Stopped, answer_at, answer_to, answer_to_fit, conf_at, due_row, expiry, front_of, is_busy, is_due, is_nothing, is_silent_too_long, is_stopped, last_of, option_map, policy_at, silence, station_at, ticket, unfitness, verdict_under}
 use Rattle.std.specs.FinMap as maps
 use Rattle.apd_base.specs.declared.station.Station.TheVariants.{Authenticated, Associated}
 use Rattle.apd_mlme.specs.rules.Inactivity.{inactivity_of}
@@ -12,7 +12,7 @@ use Rattle.apd_core.specs.declared.ticket.Ticket.{Ticket}
 use Rattle.apd_core.proofs.Found.{Row, found_entry}
 
 -- it is of a configured BSSID
-configured : (o : Option Conf) (ms : ℕ) → is_too_long o ms ≡ true → is_none o ≡ false
+configured : (o : Option Conf) (ms : ℕ) → is_silent_too_long o ms ≡ true → is_none o ≡ false
 configured None ms h = cc
 configured (Some conf) ms h = refl
 

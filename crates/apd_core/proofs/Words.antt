@@ -14,7 +14,7 @@ pub use Rattle.apd_base.specs.declared.station.Station.{Station}
 pub use Rattle.apd_conf.specs.Confs.{AreConfs, AreDistinct, bssids, conf_at}
 pub use Rattle.apd_conf.specs.declared.conf.Conf.{Conf}
 pub use Rattle.apd_core.specs.Core.{CoreState, IsFlight, IsLongestFront, IsOwed, IsUnsettled, after_all_settled, after_handing_out, after_publish, after_request, answer_at, answer_happenings, answer_to, answer_to_fit, entered_state, front_of, held_for, is_busy, is_kept, is_stopped, kept_count, last_of, new_core, ready_for, state_after, ticket, with_entry, with_sender}
-pub use Rattle.apd_core.specs.Heard.{AreHeardAt, AreMomentsOf, LastHeard, due_row, heard_by, heard_by_change, heard_by_changes, heard_from, is_due, is_too_long, silence}
+pub use Rattle.apd_core.specs.Heard.{AreHeardAt, AreMomentsOf, LastHeard, due_row, heard_by, heard_by_change, heard_by_changes, heard_from, is_due, is_silent_too_long, silence}
 pub use Rattle.apd_core.specs.Held.{AreHeld, HeldOuts, IsInOrder, Queue, after_given, after_hand, after_settled, beyond, greatest_number, left_after_settled, less_one, no_outs, no_queues, outs_in, outs_of, queue_at, queue_of, queue_place, queues_after_hand, queues_with_out, queues_with_outs, radio_place, up_to, with_outs}
 pub use Rattle.apd_core.specs.Invariant.{AreDecided, IsCore, Unsettled, numbered_outs}
 pub use Rattle.apd_core.specs.Requests.{event_happening, expiry, happening_of, unfitness}

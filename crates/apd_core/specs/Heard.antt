@@ -50,12 +50,12 @@ silence now heard = now.0 - heard.0
 
 -- whether that is as long as its BSSID's configuration says, in seconds, or longer; a BSSID that is not configured has
 -- no limit
-abbrev pub is_too_long : Option Conf → ℕ → Bool
-is_too_long None milliseconds = false
-is_too_long (Some conf) milliseconds = nat_le (conf.ap_max_inactivity * 1000) milliseconds
+abbrev pub is_silent_too_long : Option Conf → ℕ → Bool
+is_silent_too_long None milliseconds = false
+is_silent_too_long (Some conf) milliseconds = nat_le (conf.ap_max_inactivity * 1000) milliseconds
 
 abbrev pub is_due : List Conf → Moment → (Bssid × Addr) × Moment → Bool
-is_due confs now row = is_too_long (conf_at confs row.0.0) (silence now row.1)
+is_due confs now row = is_silent_too_long (conf_at confs row.0.0) (silence now row.1)
 
 -- the first row by (BSSID, address) of a configured BSSID that is silent for too long
 abbrev pub due_row : List Conf → Moment → LastHeard → Option (Bssid × Addr)

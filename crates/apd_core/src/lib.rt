@@ -4,8 +4,8 @@
 mod entry;
 mod held;
 mod input;
+mod last_heard;
 pub mod laws;
-mod moments;
 mod publish_fault;
 mod query_answer;
 mod queue;

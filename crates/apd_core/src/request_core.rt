@@ -23,7 +23,7 @@ ghost use Rattle.apd_store.specs.Outside.{held_batch};
 use crate::entry::Entry;
 use crate::held::Held;
 use crate::input::{Input, QuietReason, event_said, expiry, unfitness};
-use crate::moments::Moments;
+use crate::last_heard::LastHeard;
 use crate::publish_fault::PublishFault;
 use crate::query_answer::Answer;
 use crate::ticket::{Accepted, Ticket};
@@ -58,7 +58,7 @@ pub struct Core {
     flight: usize,
     batch: Sequence<Change>,
     held: Held,
-    heard: Moments,
+    heard: LastHeard,
     failed: bool,
 }
 
@@ -99,7 +99,7 @@ impl Core {
     {
         table.sound();
         let front = table.copy(alloc)?;
-        let heard = Moments::of_rows(alloc, &table, moment)?;
+        let heard = LastHeard::of_rows(alloc, &table, moment)?;
         let held = Held::new(alloc, confs.list())?;
         let Ok(settled) = Staged::new(alloc, table) else {
             return Err(AllocError);
