@@ -8,7 +8,7 @@ use Rattle.std.proofs.lemmas.List.Quantifiers.{position-Some}
 use Rattle.apd_base.specs.declared.address.Bssid.{Bssid}
 use Rattle.apd_base.specs.Addr.{bssid_cmp}
 use Rattle.apd_base.proofs.AddrLemmas.{bssid_total, same_bssid}
-use Rattle.apd_desk.specs.RadioNotes.{Noting, is_for, is_of, is_noted_up, says_up}
+use Rattle.apd_desk.specs.RadioNotes.{Noting, is_for, is_note_of, is_noted_up, says_up}
 
 -- a write of an element that passes, behind elements that fail
 finds_set : {X : Type 0} (p : X → Bool) (xs : List X) (i : ℕ) (y d : X) → i < length xs → ((k : ℕ) → k < i → p (get_or xs k d) ≡ false) → p y ≡ true → find p (set xs i y) ≡ Some y
@@ -17,7 +17,7 @@ finds_set p (x ∷ xs) zero y d lt fails passes = ap (λ t. cond t (Some y) (fin
 finds_set p (x ∷ xs) (suc i) y d lt fails passes =
     ap (λ t. cond t (Some x) (find p (set xs i y))) (fails zero (omega arith)) ∙ finds_set p xs i y d (omega arith) (λ k h. fails (suc k) (omega arith)) passes
 
-not_of : (b : Bssid) (place : Noting) → is_for b place ≡ false → is_of b place ≡ false
+not_of : (b : Bssid) (place : Noting) → is_for b place ≡ false → is_note_of b place ≡ false
 not_of b None fails = refl
 not_of b (Some note) fails = fails
 
@@ -29,16 +29,16 @@ apart b o other = by (eq_by_cmp bssid_cmp o b) refl
     by false is = refl
 
 -- a place for one BSSID has no note of another
-not_of_other : (b o : Bssid) → o ≢ b → (place : Noting) → is_for b place ≡ true → is_of o place ≡ false
+not_of_other : (b o : Bssid) → o ≢ b → (place : Noting) → is_for b place ≡ true → is_note_of o place ≡ false
 not_of_other b o other None may = refl
 not_of_other b o other (Some note) may = apart note.0 o (λ same. other (same ∙ sym (same_bssid note.0 b may)))
 
 pub own_noted : (b : Bssid) (up : Bool) (places : List Noting) (i : ℕ) → position (is_for b) places ≡ Some i → is_noted_up (set places i (Some (b, up))) b ≡ up
 own_noted b up places i at =
     let found = position-Some (is_for b) places i None at in
-    ap says_up (finds_set (is_of b) places i (Some (b, up)) None found.0 (λ k h. not_of b (get_or places k None) (found.2 k h)) ((eq_by_cmp_equiv bssid_total).refl b))
+    ap says_up (finds_set (is_note_of b) places i (Some (b, up)) None found.0 (λ k h. not_of b (get_or places k None) (found.2 k h)) ((eq_by_cmp_equiv bssid_total).refl b))
 
 pub other_noted : (b o : Bssid) (up : Bool) (places : List Noting) (i : ℕ) → o ≢ b → position (is_for b) places ≡ Some i → is_noted_up (set places i (Some (b, up))) o ≡ is_noted_up places o
 other_noted b o up places i other at =
     let found = position-Some (is_for b) places i None at in
-    ap says_up (find_past (is_of o) places i (Some (b, up)) None (not_of_other b o other (get_or places i None) found.1) (apart b o other))
+    ap says_up (find_past (is_note_of o) places i (Some (b, up)) None (not_of_other b o other (get_or places i None) found.1) (apart b o other))

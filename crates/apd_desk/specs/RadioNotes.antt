@@ -10,9 +10,9 @@ abbrev pub Noting : Type 0
 Noting = Option (Bssid × Bool)
 
 -- whether a place's note is of this BSSID
-abbrev pub is_of : Bssid → Noting → Bool
-is_of bssid None = false
-is_of bssid (Some note) = eq_by_cmp bssid_cmp bssid note.0
+abbrev pub is_note_of : Bssid → Noting → Bool
+is_note_of bssid None = false
+is_note_of bssid (Some note) = eq_by_cmp bssid_cmp bssid note.0
 
 -- whether this BSSID may be noted at a place: it is free, or has a note of it
 abbrev pub is_for : Bssid → Noting → Bool
@@ -26,4 +26,4 @@ says_up (Some (Some note)) = note.1
 
 -- whether the radio of a BSSID is up, by the first note of it; one that has none is not
 abbrev pub is_noted_up : List Noting → Bssid → Bool
-is_noted_up places bssid = says_up (find (is_of bssid) places)
+is_noted_up places bssid = says_up (find (is_note_of bssid) places)

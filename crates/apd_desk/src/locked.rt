@@ -79,7 +79,7 @@ impl<L: Ledger> Locked<L> {
     }
 
     /// A seat that was not given yet; none exactly where all were given.
-    pub(crate) fn seat(&mut self) -> Option<Seat<L>>
+    pub(crate) fn give_seat(&mut self) -> Option<Seat<L>>
         ensures none { IsNone result ↔ (self.old.given ≡ SEATS) }
         ensures new { IfSome result (λ seat. (seat.count ≡ 0) × (seat.seen ≡ 0)) }
         ensures given { IfSome result (λ seat. self.new.given ≡ self.old.given + 1) }

@@ -3,14 +3,14 @@ ghost use Rattle.std.specs.Prelude.{◌≡◌, ◌≢◌, ◌⊎◌, None, false
 ghost use Rattle.std.specs.List.{find, position};
 ghost use Rattle.std.specs.Option.{option_copied};
 ghost use Rattle.apd_base.specs.declared.address.Bssid.{Bssid as Address};
-ghost use Rattle.apd_desk.specs.RadioNotes.{is_for, is_of, is_noted_up};
+ghost use Rattle.apd_desk.specs.RadioNotes.{is_for, is_note_of, is_noted_up};
 
 use apd_base::Bssid;
 use apd_base::limits::MAX_BSS;
 
 // Whether a place's note is of a BSSID.
-fn is_of(place: &Option<(Bssid, bool)>, bssid: Bssid) -> bool
-    ensures { result ≡ is_of bssid place.now }
+fn is_note_of(place: &Option<(Bssid, bool)>, bssid: Bssid) -> bool
+    ensures { result ≡ is_note_of bssid place.now }
 {
     match place {
         Some((other, _)) => bssid.cmp(other).is_eq(),
@@ -37,9 +37,9 @@ fn place_for(noted: &[Option<(Bssid, bool)>], bssid: Bssid) -> Option<usize>
 
 // The first note of a BSSID.
 fn note_of(noted: &[Option<(Bssid, bool)>], bssid: Bssid) -> Option<&Option<(Bssid, bool)>>
-    ensures { option_copied result ≡ find (is_of bssid) noted.now }
+    ensures { option_copied result ≡ find (is_note_of bssid) noted.now }
 {
-    noted.iter().find(|place| is_of(place, bssid))
+    noted.iter().find(|place| is_note_of(place, bssid))
 }
 
 /// Whether the radio of a BSSID is up, for as many BSSIDs as there may be. Further ones are not noted.

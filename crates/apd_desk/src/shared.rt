@@ -70,7 +70,7 @@ impl<L: Ledger> Shared<L> {
     pub fn seat(&self, rt: &impl Wait) -> Option<Seat<L>>
         ensures { IfSome result (λ seat. (seat.count ≡ 0) × (seat.seen ≡ 0)) }
     {
-        self.locked.lock(rt).seat()
+        self.locked.lock(rt).give_seat()
     }
 
     /// Accepts a request at a moment: the core's `accept`. The seat counts it exactly where it is an entry, and
@@ -271,7 +271,7 @@ impl<L: Ledger> Shared<L> {
 
     // Whoever has this bell sleeps from now on, unless something was settled since a look, or all are to stop. Tells
     // whether it is to sleep.
-    pub(crate) fn fall_asleep(&self, place: usize, seen: Look) -> bool {
+    pub(crate) fn mark_asleep(&self, place: usize, seen: Look) -> bool {
         self.bells.note_asleep(place, true);
         let is_quiet = !News::Settled.has_come(seen, self.look());
         if !is_quiet {
@@ -281,7 +281,7 @@ impl<L: Ledger> Shared<L> {
     }
 
     // It no longer sleeps.
-    pub(crate) fn wake_up(&self, place: usize) {
+    pub(crate) fn mark_awake(&self, place: usize) {
         self.bells.note_asleep(place, false);
     }
 

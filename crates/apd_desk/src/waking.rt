@@ -126,11 +126,11 @@ impl Watch {
         if !ask_for(self.poll.registry(), descriptor) {
             return false;
         }
-        if !shared.fall_asleep(self.place, seen) {
+        if !shared.mark_asleep(self.place, seen) {
             return true;
         }
         let could = self.poll.poll(&mut self.events, None).is_ok();
-        shared.wake_up(self.place);
+        shared.mark_awake(self.place);
         could
     }
 }
