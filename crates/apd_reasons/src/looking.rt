@@ -134,7 +134,7 @@ fn look_at_new_store(
 }
 
 // Whether a name is that of a file.
-fn is_of(rt: &impl Files<File = File>, name: &str, file: &Metadata) -> bool {
+fn is_name_of(rt: &impl Files<File = File>, name: &str, file: &Metadata) -> bool {
     match fs::metadata(rt, name) {
         Ok(named) => named.dev() == file.dev() && named.ino() == file.ino(),
         Err(_) => false,
@@ -158,7 +158,7 @@ fn look_at_recorded(
 ) -> Result<(), FileReason> {
     let metadata = regular_file(rt, name)?;
     for other in kept {
-        if is_of(rt, other, &metadata) {
+        if is_name_of(rt, other, &metadata) {
             return Err(FileReason::IsKept);
         }
     }

@@ -136,9 +136,9 @@ impl History {
         let seen = port.seen.take();
         let (command, bytes) = port.reply_to(tag)?;
         match wanted_reply(plan, bytes, steadily_up(command.seen, seen)) {
-            Wanted::Text(wanted) => is_same(tag, text, digest(wanted)),
+            Wanted::Text(wanted) => check_same(tag, text, digest(wanted)),
             Wanted::Order if command.is_entry => Ok(self.replies.push((tag, text))?),
-            Wanted::Order if failed => is_same(tag, text, digest(FAIL)),
+            Wanted::Order if failed => check_same(tag, text, digest(FAIL)),
             Wanted::Order => Err(Fault::OtherReply(tag)),
             Wanted::Answer(queries) => {
                 let answer = Answered {
@@ -195,7 +195,7 @@ impl History {
     }
 }
 
-fn is_same(tag: u64, text: u64, wanted: u64) -> Result<(), Fault> {
+fn check_same(tag: u64, text: u64, wanted: u64) -> Result<(), Fault> {
     if text == wanted {
         Ok(())
     } else {

@@ -42,12 +42,12 @@ impl DriverNotes {
     }
 
     /// It was asked for what no slot asks that resumes.
-    pub(crate) fn serve(&mut self) {
+    pub(crate) fn note_serving(&mut self) {
         self.serves = true;
     }
 
     /// A station was to be installed. Gives who is associated by that: after a fault its station, once all are there.
-    pub(crate) fn install<L: Log>(
+    pub(crate) fn note_install<L: Log>(
         &mut self,
         log: &L,
         interface: &str,
@@ -70,7 +70,7 @@ impl DriverNotes {
     }
 
     /// A station was to be removed.
-    pub(crate) fn remove<L: Log>(
+    pub(crate) fn note_remove<L: Log>(
         &mut self,
         log: &L,
         interface: &str,
@@ -90,7 +90,7 @@ impl DriverNotes {
     }
 
     /// All stations were taken out. A driver that failed is given them anew then.
-    pub(crate) fn take_down<L: Log>(&mut self, log: &L, interface: &str) {
+    pub(crate) fn note_take_down<L: Log>(&mut self, log: &L, interface: &str) {
         self.installed = 0;
         if let Some(failed) = &mut self.failed {
             failed.tries = if failed.tries < TRIES {

@@ -27,7 +27,7 @@ impl Identity {
     }
 
     /// Whether it is the same file.
-    pub(crate) fn is(&self, other: Identity) -> bool
+    pub(crate) fn is_same(&self, other: Identity) -> bool
         ensures { IsTrue result ↔ (self.now ≡ other) }
     {
         self.device == other.device && self.node == other.node

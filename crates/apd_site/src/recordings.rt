@@ -35,7 +35,7 @@ fn begins_as_a_store(file: &File) -> io::Result<bool> {
 fn claim(file: &File, taken: &[Identity]) -> io::Result<()> {
     let metadata = file.metadata()?;
     let own = Identity::of(&metadata);
-    if !metadata.is_file() || taken.iter().any(|other| own.is(*other)) {
+    if !metadata.is_file() || taken.iter().any(|other| own.is_same(*other)) {
         return Err(ErrorKind::InvalidInput.into());
     }
     file.try_lock()?;

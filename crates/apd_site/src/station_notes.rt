@@ -100,7 +100,7 @@ impl StationNotes {
     }
 
     /// A station was associated, if one was.
-    pub(crate) fn install<L: Log>(
+    pub(crate) fn note_associated<L: Log>(
         &mut self,
         log: &L,
         interface: &str,
@@ -112,7 +112,7 @@ impl StationNotes {
     }
 
     /// A station was removed.
-    pub(crate) fn remove<L: Log>(&mut self, log: &L, interface: &str, addr: Addr) {
+    pub(crate) fn note_removed<L: Log>(&mut self, log: &L, interface: &str, addr: Addr) {
         if self.take_leaver(addr) {
             tell_left(log, interface, addr);
         } else {
@@ -129,7 +129,7 @@ impl StationNotes {
     }
 
     /// A frame was sent.
-    pub(crate) fn send<L: Log>(&mut self, log: &L, interface: &str, frame: &[u8]) {
+    pub(crate) fn note_sent<L: Log>(&mut self, log: &L, interface: &str, frame: &[u8]) {
         if let Some((to, reason)) = farewell(frame) {
             if self.has_removed(to) || !refuses(reason) {
                 tell_let_go(log, interface, to, reason);

@@ -37,7 +37,7 @@ fn fate_of(served: Identity, names: u64, named: Option<Identity>) -> Fate
         return Fate::Removed;
     }
     match named {
-        Some(named) if named.is(served) => Fate::Named,
+        Some(named) if named.is_same(served) => Fate::Named,
         _ => Fate::Replaced,
     }
 }
@@ -159,7 +159,7 @@ impl Ending {
     }
 
     // Whether it ends before this time is over.
-    fn ends_within<W: Wait + Clock>(&self, rt: &W, time: Duration) -> bool {
+    fn wait_for_end<W: Wait + Clock>(&self, rt: &W, time: Duration) -> bool {
         let (ended, _timed_out) = self
             .changed
             .wait_timeout_while(rt, self.ended.lock(rt), time, |ended| !*ended);
@@ -175,7 +175,7 @@ pub fn watch<W: Files<File = File> + Wait + Clock + Log>(
     ending: &Ending,
 ) {
     for _ in rt.forever() {
-        if ending.ends_within(rt, Duration::from_millis(PAUSE)) {
+        if ending.wait_for_end(rt, Duration::from_millis(PAUSE)) {
             return;
         }
         store.look(rt);

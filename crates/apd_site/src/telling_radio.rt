@@ -46,7 +46,7 @@ impl<L: Log, R: Radio> Radio for TellingRadio<'_, L, R> {
 
     fn poll(&mut self) -> Result<Option<Vec<u8>>, RadioFault> {
         let got = self.inner.poll()?;
-        self.driver.serve();
+        self.driver.note_serving();
         if let Some(notes) = &mut self.stations
             && let Some(frame) = &got
             && let Some(addr) = notes.leaver(frame)
@@ -67,9 +67,9 @@ impl<L: Log, R: Radio> Radio for TellingRadio<'_, L, R> {
         let interface = self.interface.as_str();
         let associated = self
             .driver
-            .install(self.log, interface, addr, aid, was_there, answer);
+            .note_install(self.log, interface, addr, aid, was_there, answer);
         if let Some(notes) = &mut self.stations {
-            notes.install(self.log, interface, associated);
+            notes.note_associated(self.log, interface, associated);
         }
         answer
     }
@@ -79,27 +79,28 @@ impl<L: Log, R: Radio> Radio for TellingRadio<'_, L, R> {
         let answer = self.inner.remove(addr);
         let interface = self.interface.as_str();
         self.driver
-            .remove(self.log, interface, addr, was_there, answer);
+            .note_remove(self.log, interface, addr, was_there, answer);
         if let Some(notes) = &mut self.stations {
-            notes.remove(self.log, interface, addr);
+            notes.note_removed(self.log, interface, addr);
         }
         answer
     }
 
     fn transmit(&mut self, frame: &[u8]) -> Result<(), RadioFault> {
         let answer = self.inner.transmit(frame);
-        self.driver.serve();
+        self.driver.note_serving();
         if let Some(notes) = &mut self.stations
             && answer != Err(RadioFault::NoMemory)
         {
-            notes.send(self.log, self.interface.as_str(), frame);
+            notes.note_sent(self.log, self.interface.as_str(), frame);
         }
         answer
     }
 
     fn take_down(&mut self) {
         self.inner.take_down();
-        self.driver.take_down(self.log, self.interface.as_str());
+        self.driver
+            .note_take_down(self.log, self.interface.as_str());
     }
 
     fn installed(&self, addr: Addr) -> Option<u16> {
