@@ -11,8 +11,6 @@ mod entry_tests;
 #[cfg(test)]
 mod fault_tests;
 #[cfg(test)]
-mod half_tests;
-#[cfg(test)]
 mod halves;
 #[cfg(test)]
 mod plain_tests;
@@ -23,4 +21,6 @@ mod snapshot_tests;
 #[cfg(test)]
 mod steps;
 #[cfg(test)]
-mod stop_tests;
+mod stopped_switch_tests;
+#[cfg(test)]
+mod store_switch_tests;

@@ -198,7 +198,7 @@ fn failing_flusher(alloc: Global, calls: u64) -> Option<Flusher<FuseDisk<MemDisk
 }
 
 #[test]
-fn a_device_that_fails(rt: HostRuntime) {
+fn each_worker_gives_its_seat_back_where_a_device_fails(rt: HostRuntime) {
     for calls in 0..4 {
         let closed = fails::<Brand, _>(&rt, rt.alloc(), calls, Blank::new(65_536));
         expect(&rt, (calls, closed), (calls, Some((4, 0))));

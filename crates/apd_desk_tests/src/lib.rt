@@ -6,7 +6,7 @@ mod accepting_tests;
 #[cfg(test)]
 mod asking;
 #[cfg(test)]
-mod association_tests;
+mod collecting_tests;
 #[cfg(test)]
 mod committer_tests;
 #[cfg(test)]

@@ -127,7 +127,7 @@ fn expect_plan(
 }
 
 #[test]
-fn plans(rt: HostRuntime) {
+fn a_plan_has_the_bytes_behind_its_gate(rt: HostRuntime) {
     let mut batch = empty_batch(rt.alloc());
     expect_plan(&rt, rt.alloc(), &batch, 78, (79, &[0, 0, 0, 0, 0]));
     batch.changes.push(policy(&rt)).expect(&rt, "memory");

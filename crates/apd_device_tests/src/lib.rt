@@ -13,7 +13,7 @@ mod driver_tests;
 #[cfg(test)]
 mod expect;
 #[cfg(test)]
-mod failing_tests;
+mod failing_radio_tests;
 #[cfg(test)]
 mod file_tests;
 #[cfg(test)]

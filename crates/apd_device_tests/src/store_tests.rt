@@ -475,7 +475,7 @@ fn devices_that_are_no_stores(rt: HostRuntime) {
 }
 
 #[test]
-fn two_open_halves(rt: HostRuntime) {
+fn of_two_open_halves_the_later_is_read_and_equal_ones_are_damaged(rt: HostRuntime) {
     let alloc = rt.alloc();
     expect(&rt, two_halves(&rt, alloc, 0), AFTER);
     let damaged = Err(StoreFault::Damaged);
@@ -677,7 +677,7 @@ const NUMBERS: &[(StoreFault, u8)] = &[
 ];
 
 #[test]
-fn texts(rt: HostRuntime) {
+fn each_fault_of_a_store_has_its_text_and_number(rt: HostRuntime) {
     for (fault, text) in TEXTS {
         expect_text(&rt, rt.alloc(), fault, text);
     }

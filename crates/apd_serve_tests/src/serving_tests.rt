@@ -137,7 +137,7 @@ where
 }
 
 #[test]
-fn serve_loopback(rt: HostRuntime) {
+fn a_ping_and_a_frame_are_answered_over_loopback(rt: HostRuntime) {
     const LINES: &[Line] = &[
         Line::Sends(0, CONTROL, Datagram::Text("PING")),
         Line::Gets(0, CONTROL, Datagram::Text("PONG\n")),

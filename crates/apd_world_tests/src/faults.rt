@@ -32,9 +32,9 @@
 //! | `escape`, `reply` | `stations_are_told`, `lists_are_told_in_order`, `the_status_is_told`, `apd_tests` |
 //! | `MemDisk::new`, and its calls | `a_crash_of_each_kind`, `apd_device_tests` |
 //! | `FileDisk::create` | `a_file_is_made_closed_opened_and_read`, `apd_device_tests` |
-//! | `read_groups`, `plan` | `three_groups`, `plans`, `apd_device_tests` |
+//! | `read_groups`, `plan` | `three_groups`, `a_plan_has_the_bytes_behind_its_gate`, `apd_device_tests` |
 //! | `Store::begin` | `the_calls_of_a_commit`, `apd_device_tests` |
-//! | `recover` | `two_open_halves`, `apd_device_tests` |
+//! | `recover` | `of_two_open_halves_the_later_is_read_and_equal_ones_are_damaged`, `apd_device_tests` |
 //! | `upgrade` | `the_bytes_of_a_copy`, `apd_device_tests` |
 //! | `Flusher::{new, load, commit}` | `the_bytes_of_two_commits`, `apd_device_tests` |
 //! | `Committer::load` | `a_batch_waits_until_the_one_in_flight_is_published`, `apd_device_tests` |
@@ -84,10 +84,10 @@ mod ample_tests;
 mod calls;
 mod cases;
 mod devices;
+mod each_call_fails_once_tests;
+mod each_call_is_the_last_tests;
 mod expected;
-mod fuse_each_call;
 mod no_changes_tests;
-mod once_each_call;
 mod recovery_tests;
 mod sessions;
 mod worn_tests;

@@ -12,7 +12,7 @@ mod driver_tests;
 #[cfg(test)]
 mod expect;
 #[cfg(test)]
-mod failing_tests;
+mod failing_radio_tests;
 #[cfg(test)]
 mod faults;
 #[cfg(test)]

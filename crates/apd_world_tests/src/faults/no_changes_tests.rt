@@ -101,7 +101,7 @@ fn a_probe_is_answered_without_a_call(rt: HostRuntime) {
 }
 
 #[test]
-fn behind_a_change_it_waits_for_four(rt: HostRuntime) {
+fn a_probe_behind_a_change_waits_for_the_four_calls_of_its_batch(rt: HostRuntime) {
     expect(&rt, found_behind(rt.alloc(), &behind()), Some((None, 10)));
 }
 
@@ -125,7 +125,7 @@ fn settled_of<D: Disk>(world: &mut World<D, Sim>, probes: u64) -> u64 {
 }
 
 #[test]
-fn a_round_of_one_makes_no_call(rt: HostRuntime) {
+fn a_commit_of_a_probe_alone_makes_no_call(rt: HostRuntime) {
     expect(&rt, commits(rt.alloc(), 100), Some((100, 6)));
 }
 
@@ -148,7 +148,7 @@ fn refusals_of<D: Disk>(world: &mut World<D, Sim>) -> Option<Refusals> {
 
 // The device fails behind the calls of the recovery, the start and the first station, or one call earlier.
 #[test]
-fn a_station_that_is_authenticated_once_more_is_told_so_without_one(rt: HostRuntime) {
+fn a_station_that_is_authenticated_once_more_is_told_so_without_a_call(rt: HostRuntime) {
     expect(&rt, refusals(rt.alloc(), 10), Some([None, None]));
     let device = Some(WorldFault::Store(StoreFault::Device));
     let failed = Some(WorldFault::Store(StoreFault::Failed));

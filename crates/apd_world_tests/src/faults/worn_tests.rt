@@ -78,6 +78,6 @@ fn outcome(alloc: Global) -> Option<(usize, Option<u64>)> {
 
 // The recovery makes two calls.
 #[test]
-fn no_call_is_made_for_it(rt: HostRuntime) {
+fn no_call_is_made_for_a_batch_that_a_worn_store_refuses(rt: HostRuntime) {
     expect(&rt, outcome(rt.alloc()), Some((2, Some(2))));
 }

@@ -50,7 +50,7 @@ fn run(alloc: Global, calls: u64) -> Option<([Option<SlotFault>; 3], Option<Seen
 }
 
 #[test]
-fn a_device_that_fails_in_a_run(rt: HostRuntime) {
+fn a_radio_that_fails_loses_a_frame_or_goes_down(rt: HostRuntime) {
     let (lost, down) = (Some(SlotFault::Lost), Some(SlotFault::WentDown));
     for (calls, answers, seen) in [
         (0, [lost, down, lost], (false, Some(1), None)),
