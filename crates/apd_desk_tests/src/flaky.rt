@@ -25,7 +25,7 @@ impl<R: Radio> Flaky<R> {
     }
 
     // Takes a call off. Tells whether it is passed on.
-    fn passes(&mut self) -> bool
+    fn take_call(&mut self) -> bool
         ensures { self.new.inner ≡ self.old.inner }
     {
         if self.calls.passes > 0 {
@@ -52,21 +52,21 @@ impl<R: Radio> Radio for Flaky<R> {
     }
 
     fn install(&mut self, addr: Addr, aid: u16) -> Result<(), RadioFault> {
-        if !self.passes() {
+        if !self.take_call() {
             return Err(RadioFault::Device);
         }
         self.inner.install(addr, aid)
     }
 
     fn remove(&mut self, addr: Addr) -> Result<(), RadioFault> {
-        if !self.passes() {
+        if !self.take_call() {
             return Err(RadioFault::Device);
         }
         self.inner.remove(addr)
     }
 
     fn transmit(&mut self, frame: &[u8]) -> Result<(), RadioFault> {
-        if !self.passes() {
+        if !self.take_call() {
             return Err(RadioFault::Device);
         }
         self.inner.transmit(frame)

@@ -87,8 +87,8 @@ fn serve_ticks<L: Ledger, W: Wait + Clock>(rt: &W, shared: &Shared<L>) {
     }
 }
 
-// Whether each question is answered, which a new asker asks.
-fn are_all_answered(rt: &(impl Clock + Net), questions: &[Question<'_>]) -> bool {
+// Has a new asker ask each question, until one gets no answer. Whether each is answered.
+fn ask_each(rt: &(impl Clock + Net), questions: &[Question<'_>]) -> bool {
     match Asker::new(rt) {
         Some(asker) => questions
             .iter()
@@ -103,7 +103,7 @@ fn ask<L: Ledger, W: Wait + Clock + Net>(
     shared: &Shared<L>,
     questions: &[Question<'_>],
 ) -> bool {
-    let answered = are_all_answered(rt, questions);
+    let answered = ask_each(rt, questions);
     rest(rt);
     shared.stop(rt);
     answered
@@ -173,8 +173,8 @@ fn commands_at(rt: &impl Net, alloc: Global, port: u16) -> Option<Commands> {
     Some(Commands::new(Datagrams::bind(rt, alloc, port).ok()?))
 }
 
-// The same, of a new shared core, where neither that nor the crew is missing.
-fn are_answered<L: Ledger + Send + Sync, W: Host, R: Radio + Send>(
+// Shares this core, and whether each question is answered by workers round it. None is where core or crew is missing.
+fn share_and_ask<L: Ledger + Send + Sync, W: Host, R: Radio + Send>(
     rt: &W,
     alloc: Global,
     blank: Blank,
@@ -222,7 +222,7 @@ fn answers_of_each_kind<W: Host>(rt: &W, alloc: Global) -> Option<bool> {
     let core = started_core(alloc);
     let crew = crew_with(rt, alloc, UdpSim::new(rt, alloc, radio_port).ok(), port);
     let blank = Blank::new(65_536);
-    Some(are_answered::<Brand, _, _>(rt, alloc, blank, core, crew, &questions))
+    Some(share_and_ask::<Brand, _, _>(rt, alloc, blank, core, crew, &questions))
 }
 
 #[test]
@@ -262,7 +262,7 @@ fn answers_at_a_spare<W: Host>(rt: &W, alloc: Global) -> Option<bool> {
     let core = asked_core(alloc);
     let crew = crew_with_spare(rt, alloc, [first, last, port]);
     let blank = Blank::new(65_536);
-    Some(are_answered::<Brand, _, _>(rt, alloc, blank, core, crew, &questions))
+    Some(share_and_ask::<Brand, _, _>(rt, alloc, blank, core, crew, &questions))
 }
 
 #[test]
@@ -284,7 +284,7 @@ fn answers_where_memory_lacks<W: Host>(rt: &W, alloc: Global) -> Option<bool> {
     let core = started_core(alloc);
     let crew = crew_with(rt, alloc, short_radio(rt, alloc, radio_port), port);
     let blank = Blank::new(65_536);
-    Some(are_answered::<Brand, _, _>(rt, alloc, blank, core, crew, &questions))
+    Some(share_and_ask::<Brand, _, _>(rt, alloc, blank, core, crew, &questions))
 }
 
 #[test]
@@ -306,7 +306,7 @@ fn answers_before_a_trail<W: Host>(rt: &W, alloc: Global, trail: Trail) -> Optio
     let core = started_core(alloc);
     let crew = crew_with(rt, alloc, trailed_radio(rt, alloc, radio_port, trail), port);
     let blank = Blank::new(65_536);
-    Some(are_answered::<Brand, _, _>(rt, alloc, blank, core, crew, &questions))
+    Some(share_and_ask::<Brand, _, _>(rt, alloc, blank, core, crew, &questions))
 }
 
 // A radio at this port with such a trail.
@@ -360,7 +360,7 @@ fn answers_before_a_sleep<W: Host>(rt: &W, alloc: Global) -> Option<bool> {
     let core = started_core(alloc);
     let crew = crew_with(rt, alloc, resting_radio(rt, alloc, radio_port), port);
     let blank = Blank::new(65_536);
-    Some(are_answered::<Brand, _, _>(rt, alloc, blank, core, crew, &questions))
+    Some(share_and_ask::<Brand, _, _>(rt, alloc, blank, core, crew, &questions))
 }
 
 #[test]

@@ -31,7 +31,7 @@ impl<'a, R: Radio> Short<'a, R> {
 }
 
 /// Takes one off, if there is one. Tells whether there was.
-fn lacks(count: &mut u32) -> bool {
+fn take_one(count: &mut u32) -> bool {
     match count.checked_sub(1) {
         Some(rest) => {
             *count = rest;
@@ -55,7 +55,7 @@ impl<R: Radio> Radio for Short<'_, R> {
     }
 
     fn install(&mut self, addr: Addr, aid: u16) -> Result<(), RadioFault> {
-        self.waits = lacks(&mut self.stations);
+        self.waits = take_one(&mut self.stations);
         if self.waits {
             return Err(RadioFault::NoMemory);
         }
@@ -70,7 +70,7 @@ impl<R: Radio> Radio for Short<'_, R> {
         if self.waits {
             self.stage.note_hole();
         }
-        if lacks(&mut self.frames) {
+        if take_one(&mut self.frames) {
             return Err(RadioFault::NoMemory);
         }
         self.inner.transmit(frame)

@@ -126,8 +126,8 @@ fn free_port(rt: &(impl Net + Abort)) -> u16 {
     addr.expect(rt, "the address of a socket").port()
 }
 
-// Whether so many ports from this one on are free.
-fn are_free(rt: &impl Net, first: u16, count: u16) -> bool {
+// Takes so many ports from this one on, each for a moment. Whether all are free.
+fn try_ports(rt: &impl Net, first: u16, count: u16) -> bool {
     for i in 0..count {
         if UdpSocket::bind(rt, (Ipv4Addr::LOCALHOST, first.wrapping_add(i))).is_err() {
             return false;
@@ -140,7 +140,7 @@ fn are_free(rt: &impl Net, first: u16, count: u16) -> bool {
 pub(crate) fn free_ports(rt: &(impl Net + Abort), above: u16) -> u16 {
     for _ in 0..100 {
         let port = free_port(rt);
-        if port < 65_000 && are_free(rt, port.wrapping_add(1), above) {
+        if port < 65_000 && try_ports(rt, port.wrapping_add(1), above) {
             return port;
         }
     }

@@ -116,8 +116,8 @@ const FAULTY: [(&str, ConfFault); 20] = [
     ("channel=x\nwpa=1\nfoo", ConfFault::BadValue(1)),
 ];
 
-// Each file is refused for what is told.
-fn are_faulty(rt: &impl Abort, alloc: Global, rows: &[(&str, ConfFault)]) {
+// Expects each file to be refused for what is told.
+fn expect_faults(rt: &impl Abort, alloc: Global, rows: &[(&str, ConfFault)]) {
     for (file, fault) in rows {
         let found = fault_of(alloc, file.as_bytes());
         expect(rt, (*file, found), (*file, Some(*fault)));
@@ -126,7 +126,7 @@ fn are_faulty(rt: &impl Abort, alloc: Global, rows: &[(&str, ConfFault)]) {
 
 #[test]
 fn the_first_faulty_line_is_told(rt: HostRuntime) {
-    are_faulty(&rt, rt.alloc(), &FAULTY);
+    expect_faults(&rt, rt.alloc(), &FAULTY);
 }
 
 // A line that is taken leaves the interface missing.

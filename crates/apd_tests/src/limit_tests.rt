@@ -140,8 +140,8 @@ const RADIOS: [(&str, u8); 8] = [
     ("z", 8),
 ];
 
-// Each radio is found by the name of its interface.
-fn are_found(rt: &impl Abort, confs: &Confs, radios: &[(&str, u8)]) {
+// Expects each radio to be found by the name of its interface.
+fn expect_found(rt: &impl Abort, confs: &Confs, radios: &[(&str, u8)]) {
     for (name, _) in radios {
         let found = confs.with_interface(name.as_bytes());
         let conf = found.expect(rt, "a configuration");
@@ -153,7 +153,7 @@ fn are_found(rt: &impl Abort, confs: &Confs, radios: &[(&str, u8)]) {
 fn eight_configurations_are_copied(rt: HostRuntime) {
     let copy = copied_radios(&rt, rt.alloc(), &RADIOS);
     expect(&rt, copy.list().len(), 8);
-    are_found(&rt, &copy, &RADIOS);
+    expect_found(&rt, &copy, &RADIOS);
 }
 
 // 199 lines without a fault, and then this.

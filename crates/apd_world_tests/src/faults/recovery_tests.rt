@@ -35,8 +35,8 @@ fn the_calls_of_a_session(rt: HostRuntime) {
     expect(&rt, calls_of(rt.alloc(), Session::OneSwitch), Some(2 + 10));
 }
 
-/// Whether a recovery of it is not refused where the device fails for good behind so many calls.
-fn passes(alloc: Global, session: Session, calls: u64) -> Option<bool> {
+/// Recovers it from a device that fails for good behind so many calls. Whether that is not refused.
+fn try_recovery(alloc: Global, session: Session, calls: u64) -> Option<bool> {
     let fuse = FuseDisk::new(device_behind(alloc, session)?, calls);
     Some(recover_device(alloc, fuse).is_ok())
 }
@@ -44,7 +44,7 @@ fn passes(alloc: Global, session: Session, calls: u64) -> Option<bool> {
 /// The least number of calls behind which it is not refused.
 fn least(alloc: Global, session: Session) -> Option<u64> {
     for calls in 0..9 {
-        if passes(alloc, session, calls)? {
+        if try_recovery(alloc, session, calls)? {
             return Some(calls);
         }
     }

@@ -1,4 +1,4 @@
 use Rattle.apd_desk_tests.proofs.waking_tests.answers_where_memory_lacks.Given as goal
 
-abbrev pub ghosts-are_answered : goal.ghosts-are_answered
-ghosts-are_answered g a = record { name = a.blank.name; parts = a.blank.parts }
+abbrev pub ghosts-share_and_ask : goal.ghosts-share_and_ask
+ghosts-share_and_ask g a = record { name = a.blank.name; parts = a.blank.parts }
