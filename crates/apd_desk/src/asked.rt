@@ -69,7 +69,7 @@ impl<L: Ledger, W: Wait> Asks for Asked<'_, L, W> {
 
 /// A core that is asked, for whose news one can wait, and beside which it is noted whether a radio is up.
 pub(crate) trait Serves: Asks {
-    /// What was there at one moment.
+    /// What was posted last of it, without the lock: each word is read for itself.
     fn look(&self) -> Look;
 
     /// A burst of requests ended: who waits for entries is woken where one was an entry.

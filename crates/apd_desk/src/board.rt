@@ -36,7 +36,7 @@ impl Board {
         self.stopped.store(true, Ordering::SeqCst);
     }
 
-    /// What was posted last.
+    /// What was posted last. The words are read one after the other, and posts may come in between.
     pub(crate) fn look(&self) -> Look {
         Look {
             stopped: self.stopped.load(Ordering::SeqCst),

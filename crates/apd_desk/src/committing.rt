@@ -29,7 +29,7 @@ use std::time::Clock;
 
 /// A core that gives batches away and settles them, and for whose news one can wait.
 pub(crate) trait Rests: Settles {
-    /// What was there at one moment.
+    /// What was posted last of it, without the lock: each word is read for itself.
     fn look(&self) -> Look;
 
     /// Waits until there are entries since a look, or a stop.
@@ -206,7 +206,7 @@ fn commit_by_steps<W: Wait, A: Rests, D: Disk, G: Gate>(
 /// Commits the entries of a shared core, batch after batch. After a stop it ends once nothing is unsettled. What met
 /// want of memory is tried again; on any other refusal the core is told to fail, and it ends. It tells which of both
 /// ended it. A batch or a receipt that was refused waits in the committer. It passes the gate before and after each turn
-/// of the flusher, and holds the lock for none; it looks at the core's counts once a group. Where there is nothing to
+/// of the flusher, and holds the lock for none; it looks at what is posted once a group. Where there is nothing to
 /// commit it waits for an entry, or a stop.
 pub fn commit_all<L: Ledger, W: Wait + Clock, D: Disk, G: Gate>(
     rt: &W,

@@ -1,4 +1,4 @@
-//! The committing worker.
+//! The committing worker for who has a flusher, and lends no committer.
 ghost use Rattle.std.specs.Prelude.{◌↔◌};
 ghost use Rattle.apd_base.specs.State.{State};
 ghost use Rattle.apd_flusher.specs.Flushing.{IsInside, IsSteady, Stands};

@@ -31,7 +31,8 @@ use std::alloc::AllocError;
 use std::sync::ledger::{Blank, Book, Ledger, Share};
 
 /// What a worker sees at a look: whether it is to stop, how many entries were accepted, and the number of
-/// the last settled one. Where nothing was accepted or settled since, another look sees the same.
+/// the last settled one. Under the lock all three are of one moment. Without it they are what was posted last, of which
+/// each was read for itself.
 #[derive(Clone, Copy, Debug, PartialEq, Eq)]
 pub(crate) struct Look {
     pub(crate) stopped: bool,

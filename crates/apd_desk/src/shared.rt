@@ -269,8 +269,8 @@ impl<L: Ledger> Shared<L> {
         self.bells.keep(to, waker)
     }
 
-    // Whoever has this bell sleeps from now on, unless something was settled since a look, or all are to stop. Tells
-    // whether it is to sleep.
+    // Whoever has this bell sleeps from now on, unless since a look it was posted that something was settled, or that
+    // all are to stop. Tells whether it is to sleep.
     pub(crate) fn mark_asleep(&self, place: usize, seen: Look) -> bool {
         self.bells.note_asleep(place, true);
         let is_quiet = !News::Settled.has_come(seen, self.look());
@@ -292,7 +292,8 @@ impl<L: Ledger> Shared<L> {
         self.locked.lock(rt).fail();
     }
 
-    // What was there at one moment. It says nothing of the next. It takes no lock.
+    // What was posted last. Each word is read for itself, so there need not have been a moment at which all were so. It
+    // says nothing of the next moment. It takes no lock.
     pub(crate) fn look(&self) -> Look {
         self.board.look()
     }
