@@ -1,5 +1,5 @@
-//! Tests of what stands on `apd_script` and on `apd_mlme`, by their public calls alone, a module a subject: here
-//! they are proved once, and no other crate is proved twice for them.
+//! Tests of `apd_script` and `apd_maintenance`, by their public calls alone, a module a subject: here they are proved
+//! once, and no other crate is proved twice for them.
 #![tactic(auto)]
 
 #[cfg(test)]
@@ -10,8 +10,6 @@ mod check_tests;
 mod command_tests;
 #[cfg(test)]
 mod configuration_tests;
-#[cfg(test)]
-mod decision_tests;
 #[cfg(test)]
 mod driver_fault_tests;
 #[cfg(test)]

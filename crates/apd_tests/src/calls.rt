@@ -19,6 +19,13 @@ pub fn confs_of(rt: &impl Abort, alloc: Global, conf: Conf) -> Confs {
     Confs::new(list).expect(rt, "a list of one configuration")
 }
 
+/// The built-in configuration, in another mode.
+pub fn confs_in_mode(rt: &impl Abort, alloc: Global, mode: AclMode) -> Confs {
+    let mut conf = built_in_conf(rt, alloc);
+    conf.macaddr_acl = mode;
+    confs_of(rt, alloc, conf)
+}
+
 // The built-in radio with this interface, and this last byte of its BSSID.
 fn radio(rt: &impl Abort, alloc: Global, name: &str, last: u8) -> Conf {
     assert!(rt; InterfaceName::is_name(name.as_bytes()));

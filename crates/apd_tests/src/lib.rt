@@ -17,6 +17,8 @@ mod cursor_tests;
 #[cfg(test)]
 mod cut_frame_tests;
 #[cfg(test)]
+mod decision_tests;
+#[cfg(test)]
 mod drawn_tests;
 #[cfg(test)]
 mod expect;

@@ -1,7 +1,7 @@
 //! The largest events, each once: a contract can't say that memory and time are left for them.
 use crate::calls::{
-    address, addresses_of, associated, built_in_conf, confs_of, lines_of_addresses, policy_of,
-    table_of, takes,
+    address, addresses_of, associated, confs_in_mode, lines_of_addresses, policy_of, table_of,
+    takes,
 };
 use crate::expect::expect;
 use apd_base::{AclMode, Addr, Bssid, Station, Which};
@@ -13,13 +13,6 @@ use std::alloc::Global;
 use std::process::Abort;
 
 const RADIO: Bssid = Bssid(Addr([2, 0, 0, 0, 0, 1]));
-
-// The built-in configuration, in another mode.
-fn confs(rt: &impl Abort, alloc: Global, mode: AclMode) -> Confs {
-    let mut conf = built_in_conf(rt, alloc);
-    conf.macaddr_acl = mode;
-    confs_of(rt, alloc, conf)
-}
 
 // What the start of the radio with these list files brings about.
 fn start(
@@ -49,7 +42,7 @@ fn list_lengths(table: &Table) -> Option<[usize; 2]> {
 
 // What a first start with two full lists brings about.
 fn full_start(rt: &impl Abort, alloc: Global, table: &Table) -> Decision {
-    let confs = confs(rt, alloc, AclMode::AcceptUnlessDenied);
+    let confs = confs_in_mode(rt, alloc, AclMode::AcceptUnlessDenied);
     let accept = lines_of_addresses(rt, alloc, 1, 1024);
     let deny = lines_of_addresses(rt, alloc, 2, 1024);
     start(
@@ -130,7 +123,7 @@ fn count_deauthentications(decision: &Decision) -> u16 {
 
 // What the start of the radio with two empty lists brings about, where it denies whom it doesn't accept.
 fn closed_start(rt: &impl Abort, alloc: Global, table: &Table) -> Decision {
-    let confs = confs(rt, alloc, AclMode::DenyUnlessAccepted);
+    let confs = confs_in_mode(rt, alloc, AclMode::DenyUnlessAccepted);
     start(rt, alloc, table, &confs, [b"", b""])
 }
 

@@ -1,4 +1,5 @@
-use crate::calls::{addresses_of, confs_with, new_conf};
+//! What is decided, and what becomes of the table: who is let in, which identifier is given, what silence ends.
+use crate::calls::{addresses_of, confs_in_mode};
 use crate::expect::expect;
 use apd_base::{AclMode, Addr, Aid, Association, Bssid, Sequence, Station, StationNumber, Which};
 use apd_conf::Confs;
@@ -31,13 +32,6 @@ fn make_changes(rt: &impl Abort, decision: Decision, table: &mut Table) -> Decis
     decision
 }
 
-/// The built-in configuration, in another mode.
-fn confs(rt: &impl Abort, alloc: Global, mode: AclMode) -> Confs {
-    let mut conf = new_conf(rt, alloc);
-    conf.macaddr_acl = mode;
-    confs_with(rt, alloc, conf)
-}
-
 /// Decides the start of the radio with these list files, and makes its changes.
 fn start_with(
     rt: &impl Abort,
@@ -66,13 +60,13 @@ fn start(rt: &impl Abort, alloc: Global, table: &mut Table, confs: &Confs) -> De
 
 /// The same of a configuration in mode 1.
 fn start_closed(rt: &impl Abort, alloc: Global, table: &mut Table) -> Decision {
-    let closed = confs(rt, alloc, AclMode::DenyUnlessAccepted);
+    let closed = confs_in_mode(rt, alloc, AclMode::DenyUnlessAccepted);
     start(rt, alloc, table, &closed)
 }
 
 /// A table of no radio, and a configuration in mode 0.
 fn new_open(rt: &impl Abort, alloc: Global) -> (Table, Confs) {
-    let open = confs(rt, alloc, AclMode::AcceptUnlessDenied);
+    let open = confs_in_mode(rt, alloc, AclMode::AcceptUnlessDenied);
     (Table::new(alloc), open)
 }
 
