@@ -76,8 +76,8 @@ pub fn expect_run(
     expect_run_on(rt, alloc, disk, script, (fault, text));
 }
 
-/// A world of a store, which is not started yet.
-fn begin_world<R: Radio>(
+/// A world of a new store and of these slots, which is not started yet.
+fn world_of_slots<R: Radio>(
     rt: &impl Abort,
     alloc: Global,
     confs: Confs,
@@ -113,7 +113,7 @@ fn new_slots(rt: &impl Abort, alloc: Global, confs: &Confs) -> Vec<Slot<Sim>> {
 pub fn new_world(rt: &impl Abort, alloc: Global) -> World<MemDisk, Sim> {
     let confs = one_radio(rt, alloc);
     let slots = new_slots(rt, alloc, &confs);
-    begin_world(rt, alloc, confs, slots)
+    world_of_slots(rt, alloc, confs, slots)
 }
 
 /// A radio that receives the frames of a recording.
@@ -145,7 +145,7 @@ fn replaying_world(
 ) -> World<MemDisk, Replaying> {
     let confs = two_radios(rt, alloc);
     let slots = slots_with(rt, alloc, &confs, recordings);
-    begin_world(rt, alloc, confs, slots)
+    world_of_slots(rt, alloc, confs, slots)
 }
 
 /// Radios that receive the frames of these recordings.
@@ -202,7 +202,7 @@ pub fn world_with(rt: &impl Abort, alloc: Global, radio: Boxed) -> World<MemDisk
     let bssid = confs.list().first().expect(rt, "an interface").bssid;
     let mut slots = Vec::new(alloc);
     add_slot(rt, alloc, &mut slots, radio, bssid);
-    begin_world(rt, alloc, confs, slots)
+    world_of_slots(rt, alloc, confs, slots)
 }
 
 /// Runs a script on a world, which is expected to print this, and gives the world back.

@@ -1,6 +1,6 @@
 //! Calls that take memory and that no other test makes, where memory is ample.
 use crate::expect::expect;
-use crate::faults::calls::{begin_world, commit_world, confs, new_slots, recover_store, tell};
+use crate::faults::calls::{commit_world, confs, new_slots, recover_store, tell, world_of_store};
 use crate::faults::devices::{new_device, place_of};
 use crate::faults::sessions::{AUTHENTICATES, starts, world};
 use apd_base::{Addr, Bssid};
@@ -30,7 +30,7 @@ fn recover_and_begin(alloc: Global) -> Option<(usize, Option<u64>)> {
     let recovered = recover_store(alloc, new_device(alloc)?).ok();
     let ((store, table), (confs, slots)) = recovered.zip(confs_and_slots(alloc))?;
     let count = slots.len();
-    let world = begin_world(alloc, store, table, confs, slots)?;
+    let world = world_of_store(alloc, store, table, confs, slots)?;
     let place = place_of(alloc, world.table());
     drop(world);
     Some((count, place))

@@ -56,7 +56,7 @@ pub(crate) fn new_slots(alloc: Global, confs: &Confs) -> Option<Vec<Slot<Sim>>> 
 }
 
 /// The world of a store that is recovered.
-pub(crate) fn begin_world<D: Disk + Drop>(
+pub(crate) fn world_of_store<D: Disk + Drop>(
     alloc: Global,
     store: Store<D>,
     table: Table,
